@@ -1,0 +1,5 @@
+use Rattle.serial_model.proofs.Turning.{each_run_once}
+use Rattle.serial_model.proofs.laws.law_each_run_once.Goals as goal
+
+pub returns : goal.returns
+returns c = each_run_once

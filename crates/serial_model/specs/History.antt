@@ -1,0 +1,92 @@
+-- What a history says. A past is a list of entries, the newest first; entries are numbered from 1.
+use Rattle.std.specs.Prelude.{◌≡◌, ◌+◌, ◌-◌, ◌≤◌, ◌&&◌, ◌==◌, ℕ, List, [], ◌∷◌, ◌++◌, Bool, true, false, if◌then◌else◌, nat_lt, nat_le, codes, length, min, take, drop, Ok, Err, Result}
+use Rattle.std.specs.List.{flat_map}
+use Rattle.std.specs.FinMap.{empty}
+use Rattle.resp_value.specs.declared.value.Value.{Value}
+use Rattle.resp_value.specs.declared.value.Value.TheVariants.{Error}
+use Rattle.resp_value.specs.Spelling.{spelling}
+use Rattle.command_words.specs.declared.command.Command.{Command}
+use Rattle.command_words.specs.declared.command.WordFault.{WordFault}
+use Rattle.command_words.specs.declared.command.Signalled.TheVariants.{Keys}
+use Rattle.command_words.specs.Words.{reading}
+use Rattle.command_words.specs.Effects.{Space, Effect, effect}
+use Rattle.serial_model.specs.declared.history.Entry.{Entry}
+use Rattle.serial_model.specs.declared.history.Entry.TheVariants.{Admit, Run, Take}
+use Rattle.serial_model.specs.declared.history.Post.{Post}
+
+-- how many connections were admitted; their ids are 1 to that number
+abbrev pub admitted : List Entry → ℕ
+admitted [] = 0
+admitted (Admit id ∷ past) = admitted past + 1
+admitted (Run id words moment ∷ past) = admitted past
+admitted (Take id max ∷ past) = admitted past
+
+abbrev pub is_connected : List Entry → ℕ → Bool
+is_connected past id = nat_lt 0 id && nat_le id (admitted past)
+
+-- the greatest moment so far
+abbrev pub latest : List Entry → ℕ
+latest [] = 0
+latest (Admit id ∷ past) = latest past
+latest (Run id words moment ∷ past) = moment
+latest (Take id max ∷ past) = latest past
+
+-- what words do, a command or not
+abbrev pub ran_as : Result Command WordFault → Space → Effect
+ran_as (Ok command) space = effect command space
+ran_as (Err fault) space = record { space = space; reply = Error (codes "ERR unknown command"); signalled = Keys [] }
+
+unfoldable pub ran : List (List ℕ) → Space → Effect
+ran words space = ran_as (reading words) space
+
+-- the keyspace after all entries
+abbrev pub keyspace : List Entry → Space
+keyspace [] = empty
+keyspace (Admit id ∷ past) = keyspace past
+keyspace (Run id words moment ∷ past) = (ran words (keyspace past)).space
+keyspace (Take id max ∷ past) = keyspace past
+
+-- what was sent to a connection, in order: the number of an entry, and a message
+abbrev pub sent : ℕ → List Entry → List (ℕ × Value)
+sent c [] = []
+sent c (Admit id ∷ past) = sent c past
+sent c (Run id words moment ∷ past) = if id == c then sent c past ++ (length past + 1, (ran words (keyspace past)).reply) ∷ [] else sent c past
+sent c (Take id max ∷ past) = sent c past
+
+-- the bytes of it
+unfoldable pub stream : ℕ → List Entry → List ℕ
+stream c past = flat_map (λ p. spelling p.1) (sent c past)
+
+-- how many of them were taken
+abbrev pub taken : ℕ → List Entry → ℕ
+taken c [] = 0
+taken c (Admit id ∷ past) = taken c past
+taken c (Run id words moment ∷ past) = taken c past
+taken c (Take id max ∷ past) = if id == c then taken c past + min max (length (stream c past) - taken c past) else taken c past
+
+-- those that were not
+unfoldable pub unsent : ℕ → List Entry → List ℕ
+unsent c past = drop (taken c past) (stream c past)
+
+-- the requests of a connection that ran, in order
+abbrev pub runs_of : ℕ → List Entry → List (List (List ℕ))
+runs_of c [] = []
+runs_of c (Admit id ∷ past) = runs_of c past
+runs_of c (Run id words moment ∷ past) = if id == c then runs_of c past ++ words ∷ [] else runs_of c past
+runs_of c (Take id max ∷ past) = runs_of c past
+
+-- the messages that the newest entry sent
+unfoldable pub posted : List Entry → List Post
+posted [] = []
+posted (Admit id ∷ past) = []
+posted (Run id words moment ∷ past) =
+  record { entry = length past + 1; id = id; length = length (spelling (ran words (keyspace past)).reply); last = false } ∷ []
+posted (Take id max ∷ past) = []
+
+-- each entry is one that a turn adds there: an Admit has the next id, a Run and a Take are of a connection that was
+-- admitted, moments never fall, and a Take takes something
+abbrev pub IsLegal : List Entry → Type 0
+IsLegal [] = Unit {0}
+IsLegal (Admit id ∷ past) = (id ≡ admitted past + 1) × IsLegal past
+IsLegal (Run id words moment ∷ past) = (is_connected past id ≡ true) × (latest past ≤ moment) × IsLegal past
+IsLegal (Take id max ∷ past) = (is_connected past id ≡ true) × (take max (unsent id past) ≡ [] → ⊥) × IsLegal past

@@ -1,0 +1,70 @@
+//! The entries of a history, the calls that make them and the answers to these calls.
+use resp_value::{Octets, Words};
+
+/// The limits of a server. Each is at least 1.
+#[derive(Clone, Copy, Debug, PartialEq, Eq)]
+pub struct Limits {
+    /// How many keys the tracking table remembers.
+    pub table_max: u64,
+    /// How many bytes a connection may leave untaken.
+    pub out_max: u64,
+    /// How many entries a history may have.
+    pub history_max: u64,
+}
+
+/// One entry of the server's history. Entries are numbered from 1, and so are connections.
+#[derive(Debug, Drop)]
+pub enum Entry {
+    /// A connection was admitted.
+    Admit { id: u64 },
+    /// A connection's request ran, at a moment in milliseconds.
+    Run { id: u64, words: Words, moment: u64 },
+    /// A connection took its next bytes, at most so many.
+    Take { id: u64, max: u64 },
+}
+
+/// What the server can be asked to do in one turn.
+#[derive(Debug, Drop)]
+pub enum BookCall {
+    Admit,
+    /// `words` is the request, `now` the clock's value in milliseconds.
+    Run {
+        id: u64,
+        words: Words,
+        now: u64,
+    },
+    /// `max` is at least 1.
+    Take {
+        id: u64,
+        max: u64,
+    },
+}
+
+/// Why a turn was not played.
+#[derive(Clone, Copy, Debug, PartialEq, Eq)]
+pub enum BookRefusal {
+    /// No connection of this id was admitted.
+    Gone { id: u64 },
+    NoMemory,
+}
+
+/// The answer to a turn. `entry` is the number of the entry that the turn added.
+#[derive(Debug, Drop)]
+pub enum BookReply {
+    Admitted { entry: u64, id: u64 },
+    Ran { entry: u64 },
+    /// There is nothing to take, and no entry was added.
+    Quiet,
+    Bytes { entry: u64, bytes: Octets },
+    Refused(BookRefusal),
+}
+
+/// A message that a turn put into a connection's queue: the number of its entry, the connection,
+/// and how many bytes it has. `last` marks the end of a connection, with no bytes.
+#[derive(Clone, Copy, Debug, PartialEq, Eq)]
+pub struct Post {
+    pub entry: u64,
+    pub id: u64,
+    pub length: u64,
+    pub last: bool,
+}
