@@ -26,9 +26,9 @@ pub unsent_fresh : (past : List Entry) (c : ℕ) → IsLegal past → admitted p
 unfolding unsent stream
 unsent_fresh past c h lt = ap (λ s. drop (taken c past) (flat_map (λ p. spelling p.1) s)) (sent_fresh past c h lt) ∙ drop-nil (taken c past)
 
-pub unsent_none : (c : ℕ) → unsent c [] ≡ []
+pub unsent_admit : (past : List Entry) (c id : ℕ) → unsent c (Admit id ∷ past) ≡ unsent c past
 unfolding unsent stream
-unsent_none c = refl
+unsent_admit past c id = refl
 
 pub stream_own : (past : List Entry) (c id moment : ℕ) (words : List (List ℕ)) → (id == c) ≡ true
   → stream c (Run id words moment ∷ past) ≡ stream c past ++ spelling (ran words (keyspace past)).reply

@@ -1,0 +1,62 @@
+//! What a request will do: its reply, and the pair that it writes.
+ghost use Rattle.std.specs.Prelude.{◌≡◌, IfOk, OnOk, OnErr};
+ghost use Rattle.serial_model.specs.History.{ran};
+ghost use Rattle.server_book.specs.Written.{written};
+
+use super::keyspace::Keyspace;
+use command_words::{Command, WordFault, read_command};
+use resp_value::{NoMemory, Octets, Value, Words};
+use std::alloc::Global;
+
+#[derive(Drop)]
+pub struct Pair {
+    key: Vec<u8>,
+    value: Octets,
+}
+
+#[derive(Drop)]
+pub struct Plan {
+    pub reply: Value,
+    pub write: Option<Pair>,
+}
+
+/// The plan of a request over a keyspace, which stays as it is.
+#[tactic(auto, unfolding(serial_model::specs::History::ran))]
+pub fn plan_of(alloc: Global, space: &Keyspace, words: &Words) -> Result<Plan, NoMemory>
+    ensures reply { IfOk result (λ p. p.reply ≡ (ran words.now space.now).reply) }
+    ensures space { IfOk result (λ p. written p.write space.now ≡ (ran words.now space.now).space) }
+{
+    match read_command(words) {
+        Ok(Command::Get(key)) => {
+            let reply = match space.get(key.as_slice()) {
+                Some(value) => Value::Blob(value.copy()?),
+                None => Value::Null,
+            };
+            Ok(Plan { reply, write: None })
+        }
+        Ok(Command::Set(key, value)) => {
+            let reply = Value::Simple(Octets::from_slice(alloc, b"OK")?);
+            let key = Vec::from_slice(alloc, key.as_slice())?;
+            Ok(Plan {
+                reply,
+                write: Some(Pair { key, value }),
+            })
+        }
+        Err(WordFault::Unknown) => {
+            let reply = Value::Error(Octets::from_slice(alloc, b"ERR unknown command")?);
+            Ok(Plan { reply, write: None })
+        }
+        Err(WordFault::NoMemory) => Err(NoMemory),
+    }
+}
+
+/// Writes the pair of a plan, where there is one.
+pub fn put_written(space: &mut Keyspace, write: Option<Pair>) -> Result<(), NoMemory>
+    ensures ok { OnOk result (space.new ≡ written write space.old) }
+    ensures err { OnErr result (space.new ≡ space.old) }
+{
+    match write {
+        Some(Pair { key, value }) => space.put(key, value),
+        None => Ok(()),
+    }
+}
