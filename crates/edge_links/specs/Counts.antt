@@ -1,6 +1,6 @@
 -- Counts that never fall.
 use Rattle.std.specs.Prelude.{◌≡◌, ◌≤◌, ◌+◌, ◌-◌, ◌^◌, ℕ, min}
-use Rattle.edge_links.specs.declared.counts.Counts.{Counts}
+pub use Rattle.edge_links.specs.declared.counts.Counts.{Counts}
 
 -- the count has risen, or stands at its type's end
 pub record Rose (before now : ℕ) : Type 0 where

@@ -25,8 +25,8 @@ pub struct ReaderSource<R: Read + Drop> {
 
 impl<R: Read + Drop> ReaderSource<R> {
     pub fn new(alloc: Global, reader: R) -> Result<Self, NoMemory>
-        ensures bytes { IfOk result (λ s. reader_remaining R.remaining s.reader ≡ R.remaining reader) }
-        ensures counts { IfOk result (λ s. s.counts ≡ nought) }
+        ensures bytes { IfOk result (λ s. ⟦<ReaderSource<R> as Source>⟧.left s ≡ R.remaining reader) }
+        ensures counts { IfOk result (λ s. ⟦<ReaderSource<R> as Source>⟧.counts s ≡ nought) }
     {
         match BufReader::with_capacity(alloc, PIECE, reader) {
             Ok(reader) => Ok(ReaderSource {
@@ -68,8 +68,8 @@ pub struct WriterSink<W: Write + Drop> {
 
 impl<W: Write + Drop> WriterSink<W> {
     pub fn new(writer: W) -> Self
-        ensures bytes { W.contents result.writer ≡ W.contents writer }
-        ensures counts { result.counts ≡ nought }
+        ensures bytes { ⟦<WriterSink<W> as Sink>⟧.contents result ≡ W.contents writer }
+        ensures counts { ⟦<WriterSink<W> as Sink>⟧.counts result ≡ nought }
     {
         WriterSink {
             writer,

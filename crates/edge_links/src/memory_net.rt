@@ -16,7 +16,7 @@ pub struct EndedLink {
 
 impl EndedLink {
     pub fn new() -> Self
-        ensures { result.counts ≡ nought }
+        ensures { ⟦<EndedLink as Link>⟧.counts result ≡ nought }
     {
         EndedLink {
             counts: Counts::new(),
@@ -50,7 +50,7 @@ pub struct ClosedAcceptor {
 
 impl ClosedAcceptor {
     pub fn new() -> Self
-        ensures { result.counts ≡ nought }
+        ensures { ⟦<ClosedAcceptor as Acceptor>⟧.counts result ≡ nought }
     {
         ClosedAcceptor {
             counts: Counts::new(),
@@ -79,7 +79,7 @@ pub struct MemoryNet {
 
 impl MemoryNet {
     pub fn new() -> Self
-        ensures { result.counts ≡ nought }
+        ensures { ⟦<MemoryNet as Net>⟧.counts result ≡ nought }
     {
         MemoryNet {
             counts: Counts::new(),
