@@ -1,0 +1,28 @@
+//! The outside as traits: where bytes come from and go to, who connects, and what time it is.
+//!
+//! Each object but a clock counts its faults, its idle answers and its ends. An answer that is no
+//! success comes only in a call in which its count rose, so what went wrong can be read off the
+//! object afterwards. Content is known where the object tells it, as the objects in memory do.
+#![tactic(auto)]
+
+mod adapters;
+mod clock;
+mod counts;
+mod links;
+mod memory;
+mod memory_net;
+mod streams;
+#[cfg(test)]
+mod tests;
+
+pub use adapters::{ReaderSource, WriterSink};
+pub use clock::{Clock, FixedClock, SystemClock};
+pub use counts::Counts;
+pub use links::{Accepted, Acceptor, Link, LinkRead, Net, NetFailed};
+pub use memory::{MemorySink, MemorySource};
+pub use memory_net::{ClosedAcceptor, EndedLink, MemoryNet};
+pub use streams::{Sink, Source, SourceRead, Wrote};
+
+/// Memory ran out.
+#[derive(Clone, Copy, Debug, PartialEq, Eq)]
+pub struct NoMemory;

@@ -1,0 +1,171 @@
+use super::*;
+use std::alloc::{AllocError, Global};
+use std::io;
+use std::io::{Read, Write};
+use std::test::Fail;
+
+/// What each of so many reads of three bytes gave.
+fn read_out<S: Source>(alloc: Global, source: &mut S, reads: usize) -> Result<String, AllocError> {
+    let mut said = String::new(alloc);
+    let mut buf = [0u8; 3];
+    for _ in 0..reads {
+        match source.read(&mut buf) {
+            SourceRead::Bytes(n) => {
+                for byte in &buf[..n] {
+                    said.push(char::from(*byte))?;
+                }
+                said.push(' ')?;
+            }
+            SourceRead::End => said.push_str("end ")?,
+            SourceRead::Failed => said.push_str("failed ")?,
+        }
+    }
+    Ok(said)
+}
+
+#[test]
+fn a_memory_source_fails_at_the_named_reads_and_loses_nothing(rt: HostRuntime) -> Result<(), Fail> {
+    for (fails, want) in [
+        ([0, 0], "abc def g end end "),
+        ([1, 0], "failed abc def g end "),
+        ([2, 4], "abc failed def failed g "),
+        ([4, 5], "abc def g failed failed "),
+    ] {
+        let bytes = Vec::from_array(rt.alloc(), *b"abcdefg")?;
+        let fails = Vec::from_array(rt.alloc(), fails)?;
+        let said = read_out(rt.alloc(), &mut MemorySource::new(bytes, fails), 5)?;
+        assert_eq!(rt; said.as_str(), want);
+    }
+    Ok(())
+}
+
+#[test]
+fn a_memory_sink_takes_what_fits_and_fails_at_the_named_writes(
+    rt: HostRuntime,
+) -> Result<(), Fail> {
+    for (room, fails, want, kept) in [
+        (0, 0, [Wrote::Failed; 3], "".as_bytes()),
+        (
+            5,
+            0,
+            [Wrote::Took(3), Wrote::Took(2), Wrote::Failed],
+            b"abcab",
+        ),
+        (
+            9,
+            2,
+            [Wrote::Took(3), Wrote::Failed, Wrote::Took(3)],
+            b"abcabc",
+        ),
+        (9, 0, [Wrote::Took(3); 3], b"abcabcabc"),
+    ] {
+        let fails = Vec::from_array(rt.alloc(), [fails])?;
+        let mut sink = MemorySink::new(rt.alloc(), room, fails)?;
+        for answer in want {
+            assert!(rt; sink.write(b"abc") == answer, "room {room}");
+        }
+        assert!(rt; sink.bytes() == kept, "room {room}");
+    }
+    Ok(())
+}
+
+/// Gives `ab`, fails, gives `c`, and then nothing; takes two bytes, fails, and then takes nothing.
+#[derive(Debug, Drop)]
+struct Halting {
+    calls: u8,
+}
+
+impl Read for Halting {
+    fn read(&mut self, buf: &mut [u8]) -> io::Result<usize> {
+        self.calls = self.calls.saturating_add(1);
+        let piece = match self.calls {
+            1 => "ab".as_bytes(),
+            2 => return Err(io::Error::from(io::ErrorKind::WouldBlock)),
+            3 => b"c",
+            _ => b"",
+        };
+        let n = piece.len().min(buf.len());
+        buf[..n].copy_from_slice(&piece[..n]);
+        Ok(n)
+    }
+}
+
+impl Write for Halting {
+    fn write(&mut self, buf: &[u8]) -> io::Result<usize> {
+        self.calls = self.calls.saturating_add(1);
+        match self.calls {
+            1 => Ok(buf.len().min(2)),
+            2 => Err(io::Error::from(io::ErrorKind::WouldBlock)),
+            _ => Ok(0),
+        }
+    }
+
+    fn flush(&mut self) -> io::Result<()> {
+        Ok(())
+    }
+}
+
+#[test]
+fn a_reader_source_passes_a_short_piece_on_and_goes_on_after_a_fault(
+    rt: HostRuntime,
+) -> Result<(), Fail> {
+    let mut source = ReaderSource::new(rt.alloc(), Halting { calls: 0 })?;
+    let said = read_out(rt.alloc(), &mut source, 5)?;
+    assert_eq!(rt; said.as_str(), "ab failed c end end ");
+
+    let mut source = ReaderSource::new(rt.alloc(), Halting { calls: 0 })?;
+    let mut byte = [0u8; 1];
+    for (answer, want) in [
+        (SourceRead::Bytes(1), b'a'),
+        (SourceRead::Bytes(1), b'b'),
+        (SourceRead::Failed, b'b'),
+        (SourceRead::Bytes(1), b'c'),
+        (SourceRead::End, b'c'),
+    ] {
+        assert!(rt; source.read(&mut byte) == answer);
+        assert_eq!(rt; byte[0], want);
+    }
+    Ok(())
+}
+
+#[test]
+fn standard_input_is_a_source(rt: HostRuntime) -> Result<(), Fail> {
+    let mut source = ReaderSource::new(rt.alloc(), rt.stdin())?;
+    assert!(rt; source.read(&mut [0]) == SourceRead::End);
+    Ok(())
+}
+
+#[test]
+fn a_writer_sink_fails_where_nothing_is_taken(rt: HostRuntime) {
+    let mut sink = WriterSink::new(Halting { calls: 0 });
+    for answer in [Wrote::Took(2), Wrote::Failed, Wrote::Failed] {
+        assert!(rt; sink.write(b"abc") == answer);
+    }
+}
+
+#[test]
+fn standard_output_is_a_sink_that_takes_a_line_whole(rt: HostRuntime) {
+    let mut sink = WriterSink::new(rt.stdout());
+    assert!(rt; sink.write(b"a line\n") == Wrote::Took(7));
+}
+
+#[test]
+fn the_system_clock_is_past_2024_and_a_fixed_clock_stands(rt: HostRuntime) {
+    fn shared<C: Clock + Sync>(clock: &C) -> u64 {
+        clock.now_ms()
+    }
+    let moment = shared(&SystemClock::new(rt));
+    assert!(rt; moment > 1_704_067_200_000 && moment < 10_000_000_000_000);
+    assert_eq!(rt; shared(&FixedClock { ms: 7 }), 7);
+}
+
+#[test]
+fn nobody_is_on_the_net_in_memory(rt: HostRuntime) {
+    let mut net = MemoryNet::new();
+    assert!(rt; net.listen(6379).is_err());
+    assert!(rt; net.dial("localhost", 6379).is_err());
+    assert!(rt; matches!(ClosedAcceptor::new().accept(), Accepted::Closed));
+    let mut link = EndedLink::new();
+    assert!(rt; link.read(&mut [0]) == LinkRead::End);
+    assert!(rt; link.write(b"a") == Wrote::Failed);
+}
