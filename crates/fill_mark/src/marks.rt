@@ -1,5 +1,5 @@
 // The marks, the oldest first.
-ghost use Rattle.std.specs.Prelude.{◌≡◌, ◌==◌, ◌++◌, ◌∷◌, [], OnOk, OnErr, MatchOption, true, is_some};
+ghost use Rattle.std.specs.Prelude.{◌≡◌, ◌==◌, ◌++◌, ◌∷◌, [], OnOk, OnErr, IfNone, MatchOption, option_copied};
 ghost use Rattle.fill_mark.specs.Marks.{begun, IsMarkAt, query_marked, without_key, without_number};
 
 use command_words::Query;
@@ -76,11 +76,13 @@ impl Marks {
         self.items.clear();
     }
 
-    /// Whether the mark of that number stands.
-    pub fn stands(&self, number: u64) -> bool
-        ensures { result ≡ is_some (query_marked number self.now) }
+    /// The query of that number, where its mark stands.
+    pub fn query_of(&self, number: u64) -> Option<&Query>
+        ensures query { option_copied result ≡ query_marked number self.now }
+        ensures none { IfNone result (self.now ≡ without_number number self.now) }
     {
-        place_of(&self.items, number).is_some()
+        let place = place_of(&self.items, number)?;
+        Some(&self.items[place].query)
     }
 
     /// The query of that number, exactly where its mark stands; the mark goes.

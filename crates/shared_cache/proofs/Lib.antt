@@ -1,0 +1,10 @@
+pub mod Cached
+pub mod Desked
+pub mod Fetches
+pub mod Keeping
+pub mod Slots
+pub mod Marked
+pub mod Logged
+pub mod Stepping
+pub mod Asking
+pub mod Getting
