@@ -7,10 +7,9 @@ use Rattle.std.proofs.lemmas.List.{drop-drop, drop-append-le, drop_all, length-d
 use Rattle.std.proofs.Math.Seq.{drop-nil}
 use Rattle.std.proofs.lemmas.Bool.{cases_lt}
 use Rattle.std.proofs.lemmas.Bool.Decides.{nat_tests}
-use Rattle.resp_value.specs.Spelling.{spelling}
 use Rattle.serial_model.specs.declared.history.Entry.{Entry}
 use Rattle.serial_model.specs.declared.history.Entry.TheVariants.{Admit, Run, Take}
-use Rattle.serial_model.specs.History.{admitted, is_connected, latest, ran, keyspace, sent, stream, taken, unsent, IsLegal}
+use Rattle.serial_model.specs.History.{admitted, is_connected, latest, ran, keyspace, sent, spelled, stream, taken, unsent, IsLegal}
 
 pub connected : (past : List Entry) (id : ℕ) → is_connected past id ≡ true → (0 < id) × (id ≤ admitted past)
 connected past id h = (grind (arith, nat_tests), grind (arith, nat_tests))
@@ -24,27 +23,27 @@ sent_fresh (Take id max ∷ past) c h lt = sent_fresh past c h.2 lt
 
 pub unsent_fresh : (past : List Entry) (c : ℕ) → IsLegal past → admitted past < c → unsent c past ≡ []
 unfolding unsent stream
-unsent_fresh past c h lt = ap (λ s. drop (taken c past) (flat_map (λ p. spelling p.1) s)) (sent_fresh past c h lt) ∙ drop-nil (taken c past)
+unsent_fresh past c h lt = ap (λ s. drop (taken c past) (flat_map (λ p. spelled p.1) s)) (sent_fresh past c h lt) ∙ drop-nil (taken c past)
 
 pub unsent_admit : (past : List Entry) (c id : ℕ) → unsent c (Admit id ∷ past) ≡ unsent c past
 unfolding unsent stream
 unsent_admit past c id = refl
 
 pub stream_own : (past : List Entry) (c id moment : ℕ) (words : List (List ℕ)) → (id == c) ≡ true
-  → stream c (Run id words moment ∷ past) ≡ stream c past ++ spelling (ran words (keyspace past)).reply
+  → stream c (Run id words moment ∷ past) ≡ stream c past ++ spelled (ran words (keyspace past)).reply
 unfolding stream
 stream_own past c id moment words h =
   let reply = (ran words (keyspace past)).reply in
-  ap (λ b. flat_map (λ p. spelling p.1) (cond b (sent c past ++ (length past + 1, reply) ∷ []) (sent c past))) h
-  ∙ flat_map-append (λ p. spelling p.1) (sent c past) ((length past + 1, reply) ∷ [])
-  ∙ ap (λ l. stream c past ++ l) (append-nil (spelling reply))
+  ap (λ b. flat_map (λ p. spelled p.1) (cond b (sent c past ++ (length past + 1, reply) ∷ []) (sent c past))) h
+  ∙ flat_map-append (λ p. spelled p.1) (sent c past) ((length past + 1, reply) ∷ [])
+  ∙ ap (λ l. stream c past ++ l) (append-nil (spelled reply))
 
 pub stream_other : (past : List Entry) (c id moment : ℕ) (words : List (List ℕ)) → (id == c) ≡ false
   → stream c (Run id words moment ∷ past) ≡ stream c past
 unfolding stream
 stream_other past c id moment words h =
   let reply = (ran words (keyspace past)).reply in
-  ap (λ b. flat_map (λ p. spelling p.1) (cond b (sent c past ++ (length past + 1, reply) ∷ []) (sent c past))) h
+  ap (λ b. flat_map (λ p. spelled p.1) (cond b (sent c past ++ (length past + 1, reply) ∷ []) (sent c past))) h
 
 -- no more was taken than was sent
 pub taken_le : (past : List Entry) (c : ℕ) → taken c past ≤ length (stream c past)
@@ -54,7 +53,7 @@ taken_le (Admit id ∷ past) c = taken_le past c
 taken_le (Run id words moment ∷ past) c =
   let r = taken_le past c in
   elim (id == c) as (λ b. (id == c) ≡ b → taken c past ≤ length (stream c (Run id words moment ∷ past))) [
-    | true ↦ λ h. rw (stream_own past c id moment words h) (omega (arith, length-append (stream c past) (spelling (ran words (keyspace past)).reply)))
+    | true ↦ λ h. rw (stream_own past c id moment words h) (omega (arith, length-append (stream c past) (spelled (ran words (keyspace past)).reply)))
     | false ↦ λ h. rw (stream_other past c id moment words h) r
   ] refl
 taken_le (Take id max ∷ past) c = let r = taken_le past c in
@@ -64,7 +63,7 @@ taken_le (Take id max ∷ past) c = let r = taken_le past c in
   ]
 
 pub unsent_run_own : (past : List Entry) (c id moment : ℕ) (words : List (List ℕ)) → (id == c) ≡ true
-  → unsent c (Run id words moment ∷ past) ≡ unsent c past ++ spelling (ran words (keyspace past)).reply
+  → unsent c (Run id words moment ∷ past) ≡ unsent c past ++ spelled (ran words (keyspace past)).reply
 unfolding unsent
 unsent_run_own past c id moment words h =
   ap (drop (taken c past)) (stream_own past c id moment words h) ∙ drop-append-le (taken c past) (stream c past) _ (taken_le past c)

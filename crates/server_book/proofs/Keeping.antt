@@ -3,12 +3,11 @@ use Rattle.std.proofs.Common.{◌≡◌, ◌+◌, ◌-◌, ◌<◌, ◌≤◌, �
 use Rattle.std.specs.Prelude.{◌==◌}
 use Rattle.std.proofs.lemmas.List.{reverse-append, length-reverse, get_or_push, get_or_append_left, get_or-set_same, get_or-set_other}
 use Rattle.std.proofs.lemmas.Bool.{cases_eq}
-use Rattle.resp_value.specs.Spelling.{spelling}
 use Rattle.command_words.specs.Effects.{Space}
 use Rattle.serial_model.specs.declared.history.Entry.{Entry}
 use Rattle.serial_model.specs.declared.history.Entry.TheVariants.{Admit, Run, Take}
 use Rattle.serial_model.specs.declared.history.Post.{Post}
-use Rattle.serial_model.specs.History.{admitted, is_connected, latest, ran, keyspace, unsent, posted}
+use Rattle.serial_model.specs.History.{admitted, is_connected, latest, ran, keyspace, spelled, unsent, posted}
 use Rattle.serial_model.specs.declared.history.BookCall.TheVariants as call
 use Rattle.serial_model.specs.declared.history.BookReply.TheVariants.{Ran, Bytes}
 use Rattle.serial_model.specs.Steps.{Turn, book_step, taking, gone, running}
@@ -46,7 +45,7 @@ abbrev pub message_post : ℕ → ℕ → ℕ → Post
 message_post entry id size = record { entry = entry; id = id; length = size; last = false }
 
 -- what a Run sends
-pub posted_run : (past : List Entry) (id moment n size : ℕ) (words : List (List ℕ)) → n ≡ length past → size ≡ length (spelling (ran words (keyspace past)).reply)
+pub posted_run : (past : List Entry) (id moment n size : ℕ) (words : List (List ℕ)) → n ≡ length past → size ≡ length (spelled (ran words (keyspace past)).reply)
   → message_post (n + 1) id size ∷ [] ≡ posted (Run id words moment ∷ past)
 unfolding posted
 posted_run past id moment n size words h k = ap (λ m. message_post (m + 1) id size ∷ []) h ∙ ap (λ s. message_post (length past + 1) id s ∷ []) k
@@ -89,11 +88,11 @@ module _ (past : List Entry) (space : Space) (queues : List (List ℕ)) (moment 
   ]
 
   pub keeps_run : (id m : ℕ) (words : List (List ℕ)) (message : List ℕ) (after : Space) → is_connected past id ≡ true → latest past ≤ m
-    → after ≡ (ran words (keyspace past)).space → message ≡ spelling (ran words (keyspace past)).reply
+    → after ≡ (ran words (keyspace past)).space → message ≡ spelled (ran words (keyspace past)).reply
     → Keeps (Run id words m ∷ past) after (slice_set queues (id - 1) (slice_index_or queues (id - 1) [] ++ message)) m
   keeps_run id m words message after on later s e =
     let q = slice_index_or queues (id - 1) [] ++ message in
-    let is : q ≡ unsent id past ++ spelling (ran words (keyspace past)).reply = ap (λ l. l ++ message) (queue_at id on) ∙ ap (λ l. unsent id past ++ l) e in
+    let is : q ≡ unsent id past ++ spelled (ran words (keyspace past)).reply = ap (λ l. l ++ message) (queue_at id on) ∙ ap (λ l. unsent id past ++ l) e in
     record {
       legal = (on, later, k.legal);
       space_is = s;

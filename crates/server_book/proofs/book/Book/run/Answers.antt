@@ -1,5 +1,5 @@
 use Rattle.std.proofs.Common.{◌≡◌, max, ◌+◌, ◌-◌, ◌++◌, ◌∷◌, [], List, ℕ, reverse, length, true, sym, ap, subst, ◌∙◌, arith}
-use Rattle.resp_value.specs.Spelling.{spelling}
+use Rattle.serial_model.specs.History.{spelled}
 use Rattle.serial_model.specs.declared.history.Entry.TheVariants.{Run}
 use Rattle.serial_model.specs.declared.history.BookCall.TheVariants as call
 use Rattle.serial_model.specs.declared.history.BookReply.TheVariants.{Ran}
@@ -18,8 +18,7 @@ invariant_of-self-2 c =
   let plan = c.in_ok-reply.ensures in
   let entry = Run c.args.id c.args.words c.max-moment.result in
   let grown = pushed i.entries.items entry c.push_reserved.new.self.items (c.push_reserved.ensures.items ∙ ap (λ l. l ++ entry ∷ []) c.reserve.ensures.items) in
-  let message = c.as_slice.ensures.value ∙ c.in_ok-put_value.ensures ∙ ap (λ l. l ++ spelling c.in_ok-reply.field-0.reply) c.new-message.ensures.items
-    ∙ ap spelling (plan.reply ∙ ap (λ s. (ran c.args.words s).reply) k.space_is) in
+  let message = c.as_slice.ensures.value ∙ c.in_ok-message.ensures ∙ ap spelled (plan.reply ∙ ap (λ s. (ran c.args.words s).reply) k.space_is) in
   subst (λ p. Keeps p c.put_written.new.space c.add.new.self c.max-moment.result) (sym grown)
     (subst (λ q. Keeps (entry ∷ past) c.put_written.new.space q c.max-moment.result) (sym c.in_ok-add.ensures.ok)
       (keeps_run past i.space i.queues i.moment k c.args.id c.max-moment.result c.args.words c.as_slice.result.now c.put_written.new.space on
@@ -37,8 +36,7 @@ returns-clause-ok c =
   let entry = Run c.args.id c.args.words c.max-moment.result in
   let grown = pushed i.entries.items entry c.push_reserved.new.self.items (c.push_reserved.ensures.items ∙ ap (λ l. l ++ entry ∷ []) c.reserve.ensures.items) in
   let count = count_reverse i.entries.items c.len.result (omega (arith, c.len.ensures, ap length c.reserve.ensures.items)) in
-  let message = c.in_ok-put_value.ensures ∙ ap (λ l. l ++ spelling c.in_ok-reply.field-0.reply) c.new-message.ensures.items
-    ∙ ap spelling (plan.reply ∙ ap (λ s. (ran c.args.words s).reply) k.space_is) in
+  let message = c.in_ok-message.ensures ∙ ap spelled (plan.reply ∙ ap (λ s. (ran c.args.words s).reply) k.space_is) in
   record {
     limits = ap (λ s. s.limits) c.self.view_is;
     step = ap (λ s. book_step s.past (call.Run c.args.id c.args.words c.args.now)) (sym c.self.view_is)
