@@ -13,12 +13,12 @@ hex_digit n = if nat_lt n 10 then 48 + n else 87 + n
 -- CR, LF, space and the backslash have a letter, every other byte that is not visible its number
 abbrev pub printed_byte : ℕ → List ℕ
 printed_byte b =
-  if b == 13 then codes "\\r" else
-  if b == 10 then codes "\\n" else
-  if b == 32 then codes "\\s" else
-  if b == 92 then codes "\\\\" else
-  if is_visible b then b ∷ [] else
-  92 ∷ 120 ∷ hex_digit (b / 16) ∷ hex_digit (b % 16) ∷ []
+    if b == 13 then codes "\\r" else
+    if b == 10 then codes "\\n" else
+    if b == 32 then codes "\\s" else
+    if b == 92 then codes "\\\\" else
+    if is_visible b then b ∷ [] else
+    92 ∷ 120 ∷ hex_digit (b / 16) ∷ hex_digit (b % 16) ∷ []
 
 unfoldable pub printed_bytes : List ℕ → List ℕ
 printed_bytes bytes = flat_map printed_byte bytes

@@ -8,7 +8,11 @@ fn hex(digit: u8) -> u8
     requires { digit < 16 }
     ensures { result ≡ hex_digit digit }
 {
-    if digit < 10 { b'0' + digit } else { b'a' - 10 + digit }
+    if digit < 10 {
+        b'0' + digit
+    } else {
+        b'a' - 10 + digit
+    }
 }
 
 fn put_byte(byte: u8, out: &mut Vec<u8>) -> Result<(), NoMemory>

@@ -86,7 +86,7 @@ unfoldable pub posted : List Entry → List Post
 posted [] = []
 posted (Admit id ∷ past) = []
 posted (Run id words moment ∷ past) =
-  record { entry = length past + 1; id = id; length = length (spelled (ran words (keyspace past)).reply); last = false } ∷ []
+    record { entry = length past + 1; id = id; length = length (spelled (ran words (keyspace past)).reply); last = false } ∷ []
 posted (Take id max ∷ past) = []
 
 -- each entry is one that a turn adds there: an Admit has the next id, a Run and a Take are of a connection that was
