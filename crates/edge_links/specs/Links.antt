@@ -5,13 +5,12 @@ use Rattle.std.specs.Option.{option_map}
 use Rattle.std.specs.declared.result.Result.{Result}
 use Rattle.std.specs.declared.result.Result.TheVariants.{Ok, Err}
 use Rattle.std.specs.Io.KnownBytes.{Consumes, Keeps, IsAtEnd}
-use Rattle.edge_links.specs.declared.counts.Counts.{Counts}
 use Rattle.edge_links.specs.declared.links.LinkRead.{LinkRead}
 use Rattle.edge_links.specs.declared.links.LinkRead.TheVariants as read
 use Rattle.edge_links.specs.declared.links.Accepted.{Accepted}
 use Rattle.edge_links.specs.declared.links.Accepted.TheVariants as accepted
 use Rattle.edge_links.specs.declared.links.NetFailed.{NetFailed}
-use Rattle.edge_links.specs.Counts.{FaultsRose, IdlesRose, EndsRose, nought}
+use Rattle.edge_links.specs.Counts.{Counts, FaultsRose, IdlesRose, EndsRose, nought}
 
 -- known bytes are given in order, and End comes only where none is left
 abbrev pub LinkGives : LinkRead → Option (List ℕ) → Option (List ℕ) → List ℕ → Type 0

@@ -2,12 +2,11 @@
 use Rattle.std.specs.Prelude.{◌≡◌, ◌≤◌, ◌<◌, ℕ, List, length, take}
 use Rattle.std.specs.declared.option.Option.{Option}
 use Rattle.std.specs.Io.KnownBytes.{Appends, Consumes, Keeps, IsAtEnd}
-use Rattle.edge_links.specs.declared.counts.Counts.{Counts}
 use Rattle.edge_links.specs.declared.streams.SourceRead.{SourceRead}
 use Rattle.edge_links.specs.declared.streams.SourceRead.TheVariants.{Bytes, End, Failed}
 use Rattle.edge_links.specs.declared.streams.Wrote.{Wrote}
 use Rattle.edge_links.specs.declared.streams.Wrote.TheVariants as wrote
-use Rattle.edge_links.specs.Counts.{FaultsRose, EndsRose}
+use Rattle.edge_links.specs.Counts.{Counts, FaultsRose, EndsRose}
 
 -- known bytes are given in order, and End comes only where none is left
 abbrev pub ReadGives : SourceRead → Option (List ℕ) → Option (List ℕ) → List ℕ → Type 0

@@ -1,7 +1,6 @@
 // std's readers and writers, standard input and output among them, as a source and a sink.
-ghost use Rattle.std.specs.Prelude.{◌≡◌, ◌<◌, ℕ, List, IfOk, IfSome};
-ghost use Rattle.std.specs.declared.option.Option.{Option};
-ghost use Rattle.std.specs.Io.Buffered.{reader_remaining, reader_capacity};
+ghost use Rattle.std.specs.Prelude.{◌≡◌, IfOk};
+ghost use Rattle.std.specs.Io.Buffered.{reader_remaining};
 ghost use Rattle.edge_links.specs.Counts.{nought};
 
 use super::NoMemory;

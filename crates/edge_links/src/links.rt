@@ -2,7 +2,7 @@
 ghost use Rattle.std.specs.Prelude.{◌≡◌, ◌<◌, ℕ, List, length};
 ghost use Rattle.std.specs.declared.option.Option.{Option};
 ghost use Rattle.std.specs.Io.KnownBytes.{Keeps};
-ghost use Rattle.edge_links.specs.declared.counts.Counts.{Counts};
+ghost use Rattle.edge_links.specs.Counts.{Counts};
 ghost use Rattle.edge_links.specs.Streams.{WriteTakes, WriteCounts};
 ghost use Rattle.edge_links.specs.Links.{LinkGives, LinkCounts, AcceptGives, AcceptCounts, NetCounts};
 

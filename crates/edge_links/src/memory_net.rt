@@ -1,8 +1,7 @@
 // A net in memory that has nobody on it.
-ghost use Rattle.std.specs.Prelude.{◌≡◌, ℕ, List, []};
-ghost use Rattle.std.specs.declared.option.Option.{Option};
+ghost use Rattle.std.specs.Prelude.{◌≡◌, []};
 ghost use Rattle.std.specs.declared.option.Option.TheVariants.{Some};
-ghost use Rattle.edge_links.specs.Counts.{nought};
+ghost use Rattle.edge_links.specs.Counts.{FaultsRose, EndsRose, nought};
 
 use super::counts::Counts;
 use super::links::{Accepted, Acceptor, Link, LinkRead, Net, NetFailed};
@@ -31,12 +30,18 @@ impl Link for EndedLink {
 
     ghost counts = { λ l. l.counts };
 
-    fn read(&mut self, _buf: &mut [u8]) -> LinkRead {
+    fn read(&mut self, _buf: &mut [u8]) -> LinkRead
+        ensures answer { result ≡ LinkRead.End }
+        ensures counts { EndsRose self.old.counts self.new.counts }
+    {
         self.counts.end();
         LinkRead::End
     }
 
-    fn write(&mut self, _bytes: &[u8]) -> Wrote {
+    fn write(&mut self, _bytes: &[u8]) -> Wrote
+        ensures answer { result ≡ Wrote.Failed }
+        ensures counts { FaultsRose self.old.counts self.new.counts }
+    {
         self.counts.fault();
         Wrote::Failed
     }
@@ -65,7 +70,10 @@ impl Acceptor for ClosedAcceptor {
 
     ghost counts = { λ a. a.counts };
 
-    fn accept(&mut self) -> Accepted<EndedLink> {
+    fn accept(&mut self) -> Accepted<EndedLink>
+        ensures answer { result ≡ Accepted.Closed }
+        ensures counts { EndsRose self.old.counts self.new.counts }
+    {
         self.counts.end();
         Accepted::Closed
     }
@@ -94,12 +102,18 @@ impl Net for MemoryNet {
 
     ghost counts = { λ n. n.counts };
 
-    fn listen(&mut self, _port: u16) -> Result<ClosedAcceptor, NetFailed> {
+    fn listen(&mut self, _port: u16) -> Result<ClosedAcceptor, NetFailed>
+        ensures answer { result ≡ Err (record {}) }
+        ensures counts { FaultsRose self.old.counts self.new.counts }
+    {
         self.counts.fault();
         Err(NetFailed)
     }
 
-    fn dial(&mut self, _host: &str, _port: u16) -> Result<EndedLink, NetFailed> {
+    fn dial(&mut self, _host: &str, _port: u16) -> Result<EndedLink, NetFailed>
+        ensures answer { result ≡ Err (record {}) }
+        ensures counts { FaultsRose self.old.counts self.new.counts }
+    {
         self.counts.fault();
         Err(NetFailed)
     }

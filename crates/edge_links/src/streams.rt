@@ -1,7 +1,7 @@
 // A source and a sink of bytes.
 ghost use Rattle.std.specs.Prelude.{◌≡◌, ◌<◌, ℕ, List, length};
 ghost use Rattle.std.specs.declared.option.Option.{Option};
-ghost use Rattle.edge_links.specs.declared.counts.Counts.{Counts};
+ghost use Rattle.edge_links.specs.Counts.{Counts};
 ghost use Rattle.edge_links.specs.Streams.{ReadGives, ReadCounts, WriteTakes, WriteCounts};
 
 /// What a read of a source gave. `Bytes(n)` filled the first n bytes of the buffer, at least one.

@@ -5,7 +5,6 @@ use Rattle.std.proofs.lemmas.List.{take-append-le, length-drop}
 use Rattle.std.proofs.Math.Seq.{take-add, take-length}
 use Rattle.std.proofs.lemmas.List.{take_all}
 use Rattle.std.proofs.lemmas.Bool.{cases_lt, eqb-true}
-use Rattle.resp_value.specs.Spelling.{spelling}
 use Rattle.serial_model.specs.declared.history.Entry.{Entry}
 use Rattle.serial_model.specs.declared.history.Entry.TheVariants as entry
 use Rattle.serial_model.specs.declared.history.BookCall.{BookCall}
@@ -13,13 +12,13 @@ use Rattle.serial_model.specs.declared.history.BookCall.TheVariants.{Admit, Run,
 use Rattle.serial_model.specs.declared.history.BookReply.{BookReply}
 use Rattle.serial_model.specs.declared.history.BookReply.TheVariants.{Admitted, Ran, Quiet, Bytes, Refused}
 use Rattle.serial_model.specs.declared.history.BookRefusal.TheVariants.{Gone, NoMemory}
-use Rattle.serial_model.specs.History.{admitted, is_connected, latest, ran, keyspace, stream, taken, unsent, runs_of}
+use Rattle.serial_model.specs.History.{admitted, is_connected, latest, ran, keyspace, stream, taken, unsent, runs_of, IsLegal}
 use Rattle.serial_model.specs.Steps.{Turn, taking, gone, running, book_step, BookStep, Turns, given_by, given, ran_by, answered}
 use Rattle.serial_model.proofs.Streams.{stream_own, stream_other, taken_le}
 
 -- what holds of the step, and of a turn that memory refused, holds of the turn
 pub by_step : (P : BookReply → List Entry → Type 0) (past new : List Entry) (call : BookCall) (reply : BookReply)
-  → P (book_step past call).reply (book_step past call).past → P (Refused NoMemory) past → BookStep past call reply new → P reply new
+    → P (book_step past call).reply (book_step past call).past → P (Refused NoMemory) past → BookStep past call reply new → P reply new
 by_step P past new call (Admitted e id) does none h = subst (λ (t : Turn). P t.reply t.past) h does
 by_step P past new call (Ran e) does none h = subst (λ (t : Turn). P t.reply t.past) h does
 by_step P past new call Quiet does none h = subst (λ (t : Turn). P t.reply t.past) h does
@@ -34,29 +33,29 @@ first c past = take (taken c past) (stream c past)
 first_run : (c id m : ℕ) (words : List (List ℕ)) (past : List Entry) → first c past ++ [] ≡ first c (entry.Run id words m ∷ past)
 unfolding first
 first_run c id m words past = append-nil (take (taken c past) (stream c past)) ∙
-  elim (id == c) as (λ b. (id == c) ≡ b → take (taken c past) (stream c past) ≡ take (taken c past) (stream c (entry.Run id words m ∷ past))) [
-    | true ↦ λ h. sym (ap (take (taken c past)) (stream_own past c id m words h) ∙ take-append-le (taken c past) (stream c past) _ (taken_le past c))
-    | false ↦ λ h. sym (ap (take (taken c past)) (stream_other past c id m words h))
-  ] refl
+    elim (id == c) as (λ b. (id == c) ≡ b → take (taken c past) (stream c past) ≡ take (taken c past) (stream c (entry.Run id words m ∷ past))) [
+      | true ↦ λ h. sym (ap (take (taken c past)) (stream_own past c id m words h) ∙ take-append-le (taken c past) (stream c past) _ (taken_le past c))
+      | false ↦ λ h. sym (ap (take (taken c past)) (stream_other past c id m words h))
+    ] refl
 
 take_min : (m : ℕ) (q : List ℕ) → take (min m (length q)) q ≡ take m q
 take_min m q = elim (cases_lt (length q) m) [
-    | inl h ↦ take_all (min m (length q)) q (omega arith) ∙ sym (take_all m q (omega arith))
-    | inr h ↦ ap (λ k. take k q) (omega arith)
-  ]
+  | inl h ↦ take_all (min m (length q)) q (omega arith) ∙ sym (take_all m q (omega arith))
+  | inr h ↦ ap (λ k. take k q) (omega arith)
+]
 
 first_take : (c id most : ℕ) (past : List Entry) (bytes : List ℕ) → take most (unsent id past) ≡ bytes
-  → first c past ++ (cond (id == c) bytes []) ≡ first c (entry.Take id most ∷ past)
+    → first c past ++ (cond (id == c) bytes []) ≡ first c (entry.Take id most ∷ past)
 unfolding first unsent stream
 first_take c id most past bytes h = elim (id == c) as (λ b. (id == c) ≡ b
     → take (taken c past) (stream c past) ++ (cond b bytes []) ≡ take (cond b (taken c past + min most (length (stream c past) - taken c past)) (taken c past)) (stream c past)) [
-    | true ↦ λ e. sym (take-add (taken c past) (min most (length (stream c past) - taken c past)) (stream c past)
-        ∙ ap (λ l. take (taken c past) (stream c past) ++ l)
+      | true ↦ λ e. sym (take-add (taken c past) (min most (length (stream c past) - taken c past)) (stream c past)
+          ∙ ap (λ l. take (taken c past) (stream c past) ++ l)
           (ap (λ n. take (min most n) (drop (taken c past) (stream c past))) (sym (length-drop (taken c past) (stream c past)))
-            ∙ take_min most (drop (taken c past) (stream c past))
-            ∙ ap (λ i. take most (unsent i past)) (sym (eqb-true id c e)) ∙ h))
-    | false ↦ λ e. append-nil (take (taken c past) (stream c past))
-  ] refl
+          ∙ take_min most (drop (taken c past) (stream c past))
+          ∙ ap (λ i. take most (unsent i past)) (sym (eqb-true id c e)) ∙ h))
+      | false ↦ λ e. append-nil (take (taken c past) (stream c past))
+    ] refl
 
 first_admit : (c id : ℕ) (past : List Entry) → first c past ++ [] ≡ first c (entry.Admit id ∷ past)
 unfolding first stream
@@ -66,7 +65,7 @@ Gives : ℕ → List Entry → BookCall → BookReply → List Entry → Type 0
 Gives c past call reply new = first c past ++ given_by c call reply ≡ first c new
 
 gives_take : (c id most : ℕ) (past : List Entry) (bytes : List ℕ) → take most (unsent id past) ≡ bytes
-  → Gives c past (Take id most) (taking past id most bytes).reply (taking past id most bytes).past
+    → Gives c past (Take id most) (taking past id most bytes).reply (taking past id most bytes).past
 unfolding Gives
 gives_take c id most past [] h = append-nil _
 gives_take c id most past (b ∷ bytes) h = first_take c id most past (b ∷ bytes) h
@@ -75,13 +74,13 @@ step_gives : (c : ℕ) (past : List Entry) (call : BookCall) → Gives c past ca
 unfolding Gives book_step
 step_gives c past Admit = first_admit c (admitted past + 1) past
 step_gives c past (Run id words now) = elim (is_connected past id) as (λ b. let t : Turn = cond b (running past id words now) (gone past id) in first c past ++ given_by c (Run id words now) t.reply ≡ first c t.past) [
-    | true ↦ first_run c id (max now (latest past)) words past
-    | false ↦ append-nil _
-  ]
+  | true ↦ first_run c id (max now (latest past)) words past
+  | false ↦ append-nil _
+]
 step_gives c past (Take id most) = elim (is_connected past id) as (λ b. let t : Turn = cond b (taking past id most (take most (unsent id past))) (gone past id) in first c past ++ given_by c (Take id most) t.reply ≡ first c t.past) [
-    | true ↦ gives_take c id most past (take most (unsent id past)) refl
-    | false ↦ append-nil _
-  ]
+  | true ↦ gives_take c id most past (take most (unsent id past)) refl
+  | false ↦ append-nil _
+]
 
 step_gives_open : (c : ℕ) (past : List Entry) (call : BookCall) → first c past ++ given_by c call (book_step past call).reply ≡ first c (book_step past call).past
 unfolding Gives
@@ -94,31 +93,37 @@ none_given c past (Run id words now) = append-nil _
 none_given c past (Take id most) = append-nil _
 
 turns_give : (c : ℕ) (calls : List BookCall) (replies : List BookReply) (old new : List Entry) → Turns old calls replies new
-  → first c old ++ given c calls replies ≡ first c new
+    → first c old ++ given c calls replies ≡ first c new
 turns_give c [] [] old new h = append-nil _ ∙ sym (ap (first c) h)
 turns_give c [] (reply ∷ replies) old new h = absurd h
 turns_give c (call ∷ calls) [] old new h = absurd h
 turns_give c (call ∷ calls) (reply ∷ replies) old new h =
-  sym (append_assoc (first c old) (given_by c call reply) (given c calls replies))
-  ∙ ap (λ l. l ++ given c calls replies) (by_step (λ r p. first c old ++ given_by c call r ≡ first c p) old h.0 call reply (step_gives_open c old call) (none_given c old call) h.1)
-  ∙ turns_give c calls replies h.0 new h.2
+    sym (append_assoc (first c old) (given_by c call reply) (given c calls replies))
+    ∙ ap (λ l. l ++ given c calls replies) (by_step (λ r p. first c old ++ given_by c call r ≡ first c p) old h.0 call reply (step_gives_open c old call) (none_given c old call) h.1)
+    ∙ turns_give c calls replies h.0 new h.2
 
 pub given_is_stream : (c : ℕ) (calls : List BookCall) (replies : List BookReply) (past : List Entry) → Turns [] calls replies past
-  → given c calls replies ≡ take (taken c past) (stream c past)
+    → given c calls replies ≡ take (taken c past) (stream c past)
 unfolding first stream
 given_is_stream c calls replies past h = turns_give c calls replies [] past h
 
-step_runs : (c : ℕ) (past : List Entry) (call : BookCall) → runs_of c past ++ ran_by c call (book_step past call).reply ≡ runs_of c (book_step past call).past
+-- a turn's reply gives what it takes of the stream
+pub step_gave : (c : ℕ) (past : List Entry) (call : BookCall)
+    → take (taken c past) (stream c past) ++ given_by c call (book_step past call).reply ≡ take (taken c (book_step past call).past) (stream c (book_step past call).past)
+unfolding first
+step_gave c past call = step_gives_open c past call
+
+pub step_runs : (c : ℕ) (past : List Entry) (call : BookCall) → runs_of c past ++ ran_by c call (book_step past call).reply ≡ runs_of c (book_step past call).past
 unfolding book_step
 step_runs c past Admit = append-nil _
 step_runs c past (Run id words now) = elim (is_connected past id) as (λ b. let t : Turn = cond b (running past id words now) (gone past id) in runs_of c past ++ ran_by c (Run id words now) t.reply ≡ runs_of c t.past) [
-    | true ↦ elim (id == c) as (λ b. runs_of c past ++ (cond b (words ∷ []) []) ≡ cond b (runs_of c past ++ words ∷ []) (runs_of c past)) [ true ↦ refl | false ↦ append-nil _ ]
-    | false ↦ append-nil _
-  ]
+  | true ↦ elim (id == c) as (λ b. runs_of c past ++ (cond b (words ∷ []) []) ≡ cond b (runs_of c past ++ words ∷ []) (runs_of c past)) [ true ↦ refl | false ↦ append-nil _ ]
+  | false ↦ append-nil _
+]
 step_runs c past (Take id most) = elim (is_connected past id) as (λ b. let t : Turn = cond b (taking past id most (take most (unsent id past))) (gone past id) in runs_of c past ++ ran_by c (Take id most) t.reply ≡ runs_of c t.past) [
-    | true ↦ elim (take most (unsent id past)) as (λ l. runs_of c past ++ ran_by c (Take id most) (taking past id most l).reply ≡ runs_of c (taking past id most l).past) [ [] ↦ append-nil _ | ◌∷◌ b bytes ↦ append-nil _ ]
-    | false ↦ append-nil _
-  ]
+  | true ↦ elim (take most (unsent id past)) as (λ l. runs_of c past ++ ran_by c (Take id most) (taking past id most l).reply ≡ runs_of c (taking past id most l).past) [ [] ↦ append-nil _ | ◌∷◌ b bytes ↦ append-nil _ ]
+  | false ↦ append-nil _
+]
 
 none_ran : (c : ℕ) (past : List Entry) (call : BookCall) → runs_of c past ++ ran_by c call (Refused NoMemory) ≡ runs_of c past
 none_ran c past Admit = append-nil _
@@ -126,31 +131,54 @@ none_ran c past (Run id words now) = append-nil _
 none_ran c past (Take id most) = append-nil _
 
 turns_run : (c : ℕ) (calls : List BookCall) (replies : List BookReply) (old new : List Entry) → Turns old calls replies new
-  → runs_of c old ++ answered c calls replies ≡ runs_of c new
+    → runs_of c old ++ answered c calls replies ≡ runs_of c new
 turns_run c [] [] old new h = append-nil _ ∙ sym (ap (runs_of c) h)
 turns_run c [] (reply ∷ replies) old new h = absurd h
 turns_run c (call ∷ calls) [] old new h = absurd h
 turns_run c (call ∷ calls) (reply ∷ replies) old new h =
-  sym (append_assoc (runs_of c old) (ran_by c call reply) (answered c calls replies))
-  ∙ ap (λ l. l ++ answered c calls replies) (by_step (λ r p. runs_of c old ++ ran_by c call r ≡ runs_of c p) old h.0 call reply (step_runs c old call) (none_ran c old call) h.1)
-  ∙ turns_run c calls replies h.0 new h.2
+    sym (append_assoc (runs_of c old) (ran_by c call reply) (answered c calls replies))
+    ∙ ap (λ l. l ++ answered c calls replies) (by_step (λ r p. runs_of c old ++ ran_by c call r ≡ runs_of c p) old h.0 call reply (step_runs c old call) (none_ran c old call) h.1)
+    ∙ turns_run c calls replies h.0 new h.2
 
 pub each_run_once : (c : ℕ) (calls : List BookCall) (replies : List BookReply) (past : List Entry) → Turns [] calls replies past
-  → runs_of c past ≡ answered c calls replies
+    → runs_of c past ≡ answered c calls replies
 each_run_once c calls replies past h = sym (turns_run c calls replies [] past h)
+
+-- a turn on a legal history leaves a legal one
+take_legal : (past : List Entry) (id most : ℕ) (bytes : List ℕ) → IsLegal past → is_connected past id ≡ true → take most (unsent id past) ≡ bytes → IsLegal (taking past id most bytes).past
+take_legal past id most [] h on e = h
+take_legal past id most (b ∷ bytes) h on e = (on, (λ n. absurd (let no : ⊥ = cc in no)), h)
+
+pub step_legal : (past : List Entry) (call : BookCall) → IsLegal past → IsLegal (book_step past call).past
+unfolding book_step
+step_legal past Admit h = (refl, h)
+step_legal past (Run id words now) h = elim (is_connected past id) as (λ b. is_connected past id ≡ b → IsLegal (cond b (running past id words now) (gone past id)).past) [
+  | true ↦ λ on. (on, omega arith, h)
+  | false ↦ λ off. h
+] refl
+step_legal past (Take id most) h = elim (is_connected past id) as (λ b. is_connected past id ≡ b → IsLegal (cond b (taking past id most (take most (unsent id past))) (gone past id)).past) [
+  | true ↦ λ on. take_legal past id most (take most (unsent id past)) h on refl
+  | false ↦ λ off. h
+] refl
+
+-- a Run of a connection that was admitted is run
+pub run_step : (past : List Entry) (id now : ℕ) (words : List (List ℕ)) → is_connected past id ≡ true → book_step past (Run id words now) ≡ running past id words now
+unfolding book_step
+run_step past id now words on = ap (λ v. cond v (running past id words now) (gone past id)) on
 
 -- a turn that is no Admit leaves the number of connections
 pub run_admitted : (past new : List Entry) (id now : ℕ) (words : List (List ℕ)) (reply : BookReply) → BookStep past (Run id words now) reply new → admitted new ≡ admitted past
 unfolding book_step
 run_admitted past new id now words reply = by_step (λ r p. admitted p ≡ admitted past) past new (Run id words now) reply
-  (elim (is_connected past id) as (λ b. let t : Turn = cond b (running past id words now) (gone past id) in admitted t.past ≡ admitted past) [ true ↦ refl | false ↦ refl ])
-  refl
+    (elim (is_connected past id) as (λ b. let t : Turn = cond b (running past id words now) (gone past id) in admitted t.past ≡ admitted past) [ true ↦ refl | false ↦ refl ])
+    refl
+
+pub take_count : (past : List Entry) (id most : ℕ) → admitted (book_step past (Take id most)).past ≡ admitted past
+unfolding book_step
+take_count past id most = elim (is_connected past id) as (λ b. let t : Turn = cond b (taking past id most (take most (unsent id past))) (gone past id) in admitted t.past ≡ admitted past) [
+  | true ↦ elim (take most (unsent id past)) as (λ l. admitted (taking past id most l).past ≡ admitted past) [ [] ↦ refl | ◌∷◌ b bytes ↦ refl ]
+  | false ↦ refl
+]
 
 pub take_admitted : (past new : List Entry) (id most : ℕ) (reply : BookReply) → BookStep past (Take id most) reply new → admitted new ≡ admitted past
-unfolding book_step
-take_admitted past new id most reply = by_step (λ r p. admitted p ≡ admitted past) past new (Take id most) reply
-  (elim (is_connected past id) as (λ b. let t : Turn = cond b (taking past id most (take most (unsent id past))) (gone past id) in admitted t.past ≡ admitted past) [
-    | true ↦ elim (take most (unsent id past)) as (λ l. admitted (taking past id most l).past ≡ admitted past) [ [] ↦ refl | ◌∷◌ b bytes ↦ refl ]
-    | false ↦ refl
-  ])
-  refl
+take_admitted past new id most reply = by_step (λ r p. admitted p ≡ admitted past) past new (Take id most) reply (take_count past id most) refl

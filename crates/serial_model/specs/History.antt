@@ -4,6 +4,8 @@ use Rattle.std.specs.List.{flat_map}
 use Rattle.std.specs.FinMap.{empty}
 use Rattle.resp_value.specs.declared.value.Value.{Value}
 use Rattle.resp_value.specs.declared.value.Value.TheVariants.{Error}
+use Rattle.resp_value.specs.declared.value.Proto.TheVariants.{Two}
+use Rattle.resp_value.specs.Of.{tree_of}
 use Rattle.resp_value.specs.Spelling.{spelling}
 use Rattle.command_words.specs.declared.command.Command.{Command}
 use Rattle.command_words.specs.declared.command.WordFault.{WordFault}
@@ -53,9 +55,13 @@ sent c (Admit id ∷ past) = sent c past
 sent c (Run id words moment ∷ past) = if id == c then sent c past ++ (length past + 1, (ran words (keyspace past)).reply) ∷ [] else sent c past
 sent c (Take id max ∷ past) = sent c past
 
--- the bytes of it
+-- the bytes of a message; each connection is on the second protocol
+unfoldable pub spelled : Value → List ℕ
+spelled value = spelling Two (tree_of value)
+
+-- the bytes of all that was sent
 unfoldable pub stream : ℕ → List Entry → List ℕ
-stream c past = flat_map (λ p. spelling p.1) (sent c past)
+stream c past = flat_map (λ p. spelled p.1) (sent c past)
 
 -- how many of them were taken
 abbrev pub taken : ℕ → List Entry → ℕ
@@ -80,7 +86,7 @@ unfoldable pub posted : List Entry → List Post
 posted [] = []
 posted (Admit id ∷ past) = []
 posted (Run id words moment ∷ past) =
-  record { entry = length past + 1; id = id; length = length (spelling (ran words (keyspace past)).reply); last = false } ∷ []
+    record { entry = length past + 1; id = id; length = length (spelled (ran words (keyspace past)).reply); last = false } ∷ []
 posted (Take id max ∷ past) = []
 
 -- each entry is one that a turn adds there: an Admit has the next id, a Run and a Take are of a connection that was

@@ -70,9 +70,9 @@ answered c (call ∷ calls) (reply ∷ replies) = ran_by c call reply ++ answere
 -- The bytes that a connection was given are the first bytes of what was sent to it.
 abbrev pub GivenIsStream : Type 0
 GivenIsStream = (c : ℕ) (calls : List BookCall) (replies : List BookReply) (past : List Entry) → Turns [] calls replies past
-  → given c calls replies ≡ take (taken c past) (stream c past)
+    → given c calls replies ≡ take (taken c past) (stream c past)
 
 -- Each request that was answered as run stands in the history once, in the order of its connection, and no other does.
 abbrev pub EachRunOnce : Type 0
 EachRunOnce = (c : ℕ) (calls : List BookCall) (replies : List BookReply) (past : List Entry) → Turns [] calls replies past
-  → runs_of c past ≡ answered c calls replies
+    → runs_of c past ≡ answered c calls replies

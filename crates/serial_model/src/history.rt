@@ -28,16 +28,9 @@ pub enum Entry {
 pub enum BookCall {
     Admit,
     /// `words` is the request, `now` the clock's value in milliseconds.
-    Run {
-        id: u64,
-        words: Words,
-        now: u64,
-    },
+    Run { id: u64, words: Words, now: u64 },
     /// `max` is at least 1.
-    Take {
-        id: u64,
-        max: u64,
-    },
+    Take { id: u64, max: u64 },
 }
 
 /// Why a turn was not played.

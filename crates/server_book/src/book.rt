@@ -6,9 +6,9 @@ ghost use Rattle.serial_model.specs.Steps.{BookStep, IsCallable};
 ghost use Rattle.server_book.specs.Standing.{IsTurn, posts_after};
 
 use super::keyspace::Keyspace;
-use super::plan::{Plan, plan_of, put_written};
+use super::plan::{Plan, message_of, plan_of, put_written};
 use super::queue::Queues;
-use resp_value::{NoMemory, Words, put_value};
+use resp_value::{NoMemory, Words};
 use serial_model::{BookCall, BookRefusal, BookReply, Entry, Limits, Post};
 use std::alloc::Global;
 use std::marker::Model;
@@ -109,8 +109,7 @@ impl Book {
     {
         let at = (id - 1) as usize;
         let Plan { reply, write } = plan_of(self.alloc, &self.space, &words)?;
-        let mut message = Vec::new(self.alloc);
-        put_value(&reply, &mut message)?;
+        let message = message_of(self.alloc, &reply)?;
         self.entries.reserve(1)?;
         self.posts.reserve(1)?;
         let size = self.queues.size(at);

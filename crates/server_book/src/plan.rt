@@ -1,11 +1,11 @@
 //! What a request will do: its reply, and the pair that it writes.
 ghost use Rattle.std.specs.Prelude.{◌≡◌, IfOk, OnOk, OnErr};
-ghost use Rattle.serial_model.specs.History.{ran};
+ghost use Rattle.serial_model.specs.History.{ran, spelled};
 ghost use Rattle.server_book.specs.Written.{written};
 
 use super::keyspace::Keyspace;
 use command_words::{Command, WordFault, read_command};
-use resp_value::{NoMemory, Octets, Value, Words};
+use resp_value::{NoMemory, Octets, Proto, Value, Words, put_value};
 use std::alloc::Global;
 
 #[derive(Drop)]
@@ -48,6 +48,16 @@ pub fn plan_of(alloc: Global, space: &Keyspace, words: &Words) -> Result<Plan, N
         }
         Err(WordFault::NoMemory) => Err(NoMemory),
     }
+}
+
+/// The bytes of a reply, as its connection is sent them.
+#[tactic(auto, unfolding(serial_model::specs::History::spelled))]
+pub fn message_of(alloc: Global, reply: &Value) -> Result<Vec<u8>, NoMemory>
+    ensures { IfOk result (λ m. m.items ≡ spelled reply.now) }
+{
+    let mut message = Vec::new(alloc);
+    put_value(Proto::Two, reply, &mut message)?;
+    Ok(message)
 }
 
 /// Writes the pair of a plan, where there is one.

@@ -1,5 +1,5 @@
 use Rattle.std.proofs.Common.{◌≡◌, max, ◌+◌, ◌-◌, ◌++◌, ◌∷◌, [], List, ℕ, reverse, length, true, sym, ap, subst, ◌∙◌, arith}
-use Rattle.resp_value.specs.Spelling.{spelling}
+use Rattle.serial_model.specs.History.{spelled}
 use Rattle.serial_model.specs.declared.history.Entry.TheVariants.{Run}
 use Rattle.serial_model.specs.declared.history.BookCall.TheVariants as call
 use Rattle.serial_model.specs.declared.history.BookReply.TheVariants.{Ran}
@@ -11,41 +11,39 @@ use Rattle.server_book.proofs.book.Book.run.Goals as goal
 
 pub invariant_of-self-2 : goal.invariant_of-self-2
 invariant_of-self-2 c =
-  let i = c.self.inside in
-  let k = c.self.invariant in
-  let past = reverse i.entries.items in
-  let on : is_connected past c.args.id ≡ true = ap (λ s. is_connected s.past c.args.id) c.self.view_is ∙ c.requires.connected in
-  let plan = c.in_ok-reply.ensures in
-  let entry = Run c.args.id c.args.words c.max-moment.result in
-  let grown = pushed i.entries.items entry c.push_reserved.new.self.items (c.push_reserved.ensures.items ∙ ap (λ l. l ++ entry ∷ []) c.reserve.ensures.items) in
-  let message = c.as_slice.ensures.value ∙ c.in_ok-put_value.ensures ∙ ap (λ l. l ++ spelling c.in_ok-reply.field-0.reply) c.new-message.ensures.items
-    ∙ ap spelling (plan.reply ∙ ap (λ s. (ran c.args.words s).reply) k.space_is) in
-  subst (λ p. Keeps p c.put_written.new.space c.add.new.self c.max-moment.result) (sym grown)
+    let i = c.self.inside in
+    let k = c.self.invariant in
+    let past = reverse i.entries.items in
+    let on : is_connected past c.args.id ≡ true = ap (λ s. is_connected s.past c.args.id) c.self.view_is ∙ c.requires.connected in
+    let plan = c.in_ok-reply.ensures in
+    let entry = Run c.args.id c.args.words c.max-moment.result in
+    let grown = pushed i.entries.items entry c.push_reserved.new.self.items (c.push_reserved.ensures.items ∙ ap (λ l. l ++ entry ∷ []) c.reserve.ensures.items) in
+    let message = c.as_slice.ensures.value ∙ c.in_ok-message.ensures ∙ ap spelled (plan.reply ∙ ap (λ s. (ran c.args.words s).reply) k.space_is) in
+    subst (λ p. Keeps p c.put_written.new.space c.add.new.self c.max-moment.result) (sym grown)
     (subst (λ q. Keeps (entry ∷ past) c.put_written.new.space q c.max-moment.result) (sym c.in_ok-add.ensures.ok)
-      (keeps_run past i.space i.queues i.moment k c.args.id c.max-moment.result c.args.words c.as_slice.result.now c.put_written.new.space on
-        (omega (arith, k.moment_is, c.max-moment.ensures))
-        (c.in-Ok.ensures.ok ∙ plan.space ∙ ap (λ s. (ran c.args.words s).space) k.space_is)
-        message))
+    (keeps_run past i.space i.queues i.moment k c.args.id c.max-moment.result c.args.words c.as_slice.result.now c.put_written.new.space on
+    (omega (arith, k.moment_is, c.max-moment.ensures))
+    (c.in-Ok.ensures.ok ∙ plan.space ∙ ap (λ s. (ran c.args.words s).space) k.space_is)
+    message))
 
 pub returns-clause-ok : goal.returns-clause-ok
 returns-clause-ok c =
-  let i = c.self.inside in
-  let k = c.self.invariant in
-  let past = reverse i.entries.items in
-  let on : is_connected past c.args.id ≡ true = ap (λ s. is_connected s.past c.args.id) c.self.view_is ∙ c.requires.connected in
-  let plan = c.in_ok-reply.ensures in
-  let entry = Run c.args.id c.args.words c.max-moment.result in
-  let grown = pushed i.entries.items entry c.push_reserved.new.self.items (c.push_reserved.ensures.items ∙ ap (λ l. l ++ entry ∷ []) c.reserve.ensures.items) in
-  let count = count_reverse i.entries.items c.len.result (omega (arith, c.len.ensures, ap length c.reserve.ensures.items)) in
-  let message = c.in_ok-put_value.ensures ∙ ap (λ l. l ++ spelling c.in_ok-reply.field-0.reply) c.new-message.ensures.items
-    ∙ ap spelling (plan.reply ∙ ap (λ s. (ran c.args.words s).reply) k.space_is) in
-  record {
-    limits = ap (λ s. s.limits) c.self.view_is;
-    step = ap (λ s. book_step s.past (call.Run c.args.id c.args.words c.args.now)) (sym c.self.view_is)
-      ∙ step_run past c.args.id c.args.now c.max-moment.result c.len.result c.args.words on count (c.max-moment.ensures ∙ ap (max c.args.now) k.moment_is)
-      ∙ ap (λ p. record { reply = Ran (c.len.result + 1); past = p }) (sym grown);
-    posts = c.push_reserved-2.ensures.items
-      ∙ ap (λ l. l ++ message_post (c.len.result + 1) c.args.id c.len-2.result ∷ []) (c.reserve-2.ensures.items ∙ ap (λ s. s.posts) c.self.view_is ∙ c.requires.quiet)
-      ∙ posted_run past c.args.id c.max-moment.result c.len.result c.len-2.result c.args.words count (omega (arith, c.len-2.ensures, ap length message))
-      ∙ sym (ap posted grown);
-  }
+    let i = c.self.inside in
+    let k = c.self.invariant in
+    let past = reverse i.entries.items in
+    let on : is_connected past c.args.id ≡ true = ap (λ s. is_connected s.past c.args.id) c.self.view_is ∙ c.requires.connected in
+    let plan = c.in_ok-reply.ensures in
+    let entry = Run c.args.id c.args.words c.max-moment.result in
+    let grown = pushed i.entries.items entry c.push_reserved.new.self.items (c.push_reserved.ensures.items ∙ ap (λ l. l ++ entry ∷ []) c.reserve.ensures.items) in
+    let count = count_reverse i.entries.items c.len.result (omega (arith, c.len.ensures, ap length c.reserve.ensures.items)) in
+    let message = c.in_ok-message.ensures ∙ ap spelled (plan.reply ∙ ap (λ s. (ran c.args.words s).reply) k.space_is) in
+    record {
+      limits = ap (λ s. s.limits) c.self.view_is;
+      step = ap (λ s. book_step s.past (call.Run c.args.id c.args.words c.args.now)) (sym c.self.view_is)
+          ∙ step_run past c.args.id c.args.now c.max-moment.result c.len.result c.args.words on count (c.max-moment.ensures ∙ ap (max c.args.now) k.moment_is)
+          ∙ ap (λ p. record { reply = Ran (c.len.result + 1); past = p }) (sym grown);
+      posts = c.push_reserved-2.ensures.items
+          ∙ ap (λ l. l ++ message_post (c.len.result + 1) c.args.id c.len-2.result ∷ []) (c.reserve-2.ensures.items ∙ ap (λ s. s.posts) c.self.view_is ∙ c.requires.quiet)
+          ∙ posted_run past c.args.id c.max-moment.result c.len.result c.len-2.result c.args.words count (omega (arith, c.len-2.ensures, ap length message))
+          ∙ sym (ap posted grown);
+    }

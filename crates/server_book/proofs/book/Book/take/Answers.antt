@@ -11,28 +11,28 @@ use Rattle.server_book.proofs.book.Book.take.Goals as goal
 
 pub invariant_of-self-2 : goal.invariant_of-self-2
 invariant_of-self-2 c =
-  let i = c.self.inside in
-  let k = c.self.invariant in
-  let on : is_connected (reverse i.entries.items) c.args.id ≡ true = ap (λ s. is_connected s.past c.args.id) c.self.view_is ∙ c.requires.connected in
-  let front = c.in_ok-bytes.ensures ∙ ap (take c.args.most) (queue_at _ _ _ _ k c.args.id on) in
-  let full = not_empty _ (ap (λ l. length l == 0) (sym c.as_slice.ensures) ∙ sym c.is_empty.ensures ∙ c.if-is_empty.false) in
-  rw (pushed i.entries.items _ _ c.in_ok-push.ensures.items, c.advance.ensures)
+    let i = c.self.inside in
+    let k = c.self.invariant in
+    let on : is_connected (reverse i.entries.items) c.args.id ≡ true = ap (λ s. is_connected s.past c.args.id) c.self.view_is ∙ c.requires.connected in
+    let front = c.in_ok-bytes.ensures ∙ ap (take c.args.most) (queue_at _ _ _ _ k c.args.id on) in
+    let full = not_empty _ (ap (λ l. length l == 0) (sym c.as_slice.ensures) ∙ sym c.is_empty.ensures ∙ c.if-is_empty.false) in
+    rw (pushed i.entries.items _ _ c.in_ok-push.ensures.items, c.advance.ensures)
     (keeps_take _ _ _ _ k c.args.id c.args.most on (λ e. full (front ∙ e)))
 
 pub returns-clause-ok : goal.returns-clause-ok
 returns-clause-ok c =
-  let i = c.self.inside in
-  let k = c.self.invariant in
-  let past = reverse i.entries.items in
-  let on : is_connected past c.args.id ≡ true = ap (λ s. is_connected s.past c.args.id) c.self.view_is ∙ c.requires.connected in
-  let grown = pushed i.entries.items (Take c.args.id c.args.most) _ c.in_ok-push.ensures.items in
-  record {
-    limits = ap (λ s. s.limits) c.self.view_is;
-    step = ap (λ s. book_step s.past (call.Take c.args.id c.args.most)) (sym c.self.view_is)
-      ∙ step_take past c.args.id c.args.most c.len.result c.in_ok-bytes.bytes on
+    let i = c.self.inside in
+    let k = c.self.invariant in
+    let past = reverse i.entries.items in
+    let on : is_connected past c.args.id ≡ true = ap (λ s. is_connected s.past c.args.id) c.self.view_is ∙ c.requires.connected in
+    let grown = pushed i.entries.items (Take c.args.id c.args.most) _ c.in_ok-push.ensures.items in
+    record {
+      limits = ap (λ s. s.limits) c.self.view_is;
+      step = ap (λ s. book_step s.past (call.Take c.args.id c.args.most)) (sym c.self.view_is)
+          ∙ step_take past c.args.id c.args.most c.len.result c.in_ok-bytes.bytes on
           (c.in_ok-bytes.ensures ∙ ap (take c.args.most) (queue_at _ _ _ _ k c.args.id on))
           (not_empty _ (ap (λ l. length l == 0) (sym c.as_slice.ensures) ∙ sym c.is_empty.ensures ∙ c.if-is_empty.false))
           (count_reverse i.entries.items c.len.result (omega (arith, c.len.ensures)))
-      ∙ ap (λ p. record { reply = Bytes (c.len.result + 1) c.in_ok-bytes.bytes; past = p }) (sym grown);
-    posts = ap (λ s. s.posts) c.self.view_is ∙ c.requires.quiet ∙ sym (posted_take past c.args.id c.args.most) ∙ sym (ap posted grown);
-  }
+          ∙ ap (λ p. record { reply = Bytes (c.len.result + 1) c.in_ok-bytes.bytes; past = p }) (sym grown);
+      posts = ap (λ s. s.posts) c.self.view_is ∙ c.requires.quiet ∙ sym (posted_take past c.args.id c.args.most) ∙ sym (ap posted grown);
+    }

@@ -1,0 +1,5 @@
+use Rattle.world_run.proofs.Serial.{one_history}
+use Rattle.world_run.proofs.laws.law_one_history.Goals as goal
+
+pub returns : goal.returns
+returns c = one_history

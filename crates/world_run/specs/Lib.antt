@@ -1,0 +1,5 @@
+pub mod Faults
+pub mod WorldState
+pub mod World
+pub mod Transcript
+pub mod Serial

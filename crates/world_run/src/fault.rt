@@ -1,0 +1,50 @@
+//! Why an event was not played.
+ghost use Rattle.std.specs.Prelude.{◌≡◌};
+ghost use Rattle.world_run.specs.Faults.{number_of};
+
+use resp_value::NoMemory;
+use std::alloc::AllocFailed;
+
+/// Why an event was not played.
+#[derive(Clone, Copy, Debug, PartialEq, Eq)]
+pub enum WorldFault {
+    /// No link has this name.
+    NoName,
+    /// A link has this name already.
+    NameTaken,
+    /// Memory ran out; some of the event's lines may have been appended.
+    NoMemory,
+}
+
+impl WorldFault {
+    /// The number that stands in the last line of a refused schedule.
+    pub fn number(self) -> u64
+        ensures { result ≡ number_of self }
+    {
+        match self {
+            WorldFault::NoName => 1,
+            WorldFault::NameTaken => 2,
+            WorldFault::NoMemory => 4,
+        }
+    }
+}
+
+impl From<NoMemory> for WorldFault {
+    ghost use Rattle.world_run.specs.declared.fault.WorldFault.TheVariants.{NoMemory};
+
+    ghost from_gives = { λ _ e. e ≡ NoMemory };
+
+    fn from(_: NoMemory) -> Self {
+        WorldFault::NoMemory
+    }
+}
+
+impl<T: Drop> From<AllocFailed<T>> for WorldFault {
+    ghost use Rattle.world_run.specs.declared.fault.WorldFault.TheVariants.{NoMemory};
+
+    ghost from_gives = { λ _ e. e ≡ NoMemory };
+
+    fn from(_: AllocFailed<T>) -> Self {
+        WorldFault::NoMemory
+    }
+}

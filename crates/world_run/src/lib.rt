@@ -1,0 +1,11 @@
+//! A schedule played on the server's state and its links.
+#![tactic(auto)]
+
+mod fault;
+mod laws;
+mod way;
+mod world;
+
+pub use fault::WorldFault;
+pub use laws::law_one_history;
+pub use world::World;
