@@ -1,5 +1,5 @@
 // Cacheable queries.
-ghost use Rattle.std.specs.Prelude.{◌≡◌, ◌<◌, List, ℕ, IfOk, length, slice_index_or};
+ghost use Rattle.std.specs.Prelude.{◌≡◌, IfOk, Some};
 ghost use Rattle.std.specs.Cmp.Lexicographic.{pointwise};
 ghost use Rattle.std.specs.Str.{bytes_eq};
 ghost use Rattle.command_words.specs.Queries.{query_of, key_of, same_query};
@@ -18,13 +18,14 @@ pub struct Query {
 }
 
 impl Model for Query {
-    ghost use Rattle.std.specs.Prelude.{◌<◌, List, ℕ, length};
+    ghost use Rattle.std.specs.Prelude.{◌≡◌, List, ℕ, Some};
+    ghost use Rattle.command_words.specs.Queries.{query_of};
 
     ghost Value = { List (List ℕ) };
 
     ghost view = { λ q. q.words };
 
-    ghost invariant = { λ q. 1 < length q.words };
+    ghost invariant = { λ q. query_of q.words ≡ Some q.words };
 }
 
 fn are_same(left: &[Octets], right: &[Octets]) -> bool
@@ -70,7 +71,8 @@ impl Query {
 
     /// Its words, with the name in upper case.
     pub fn words(&self) -> &Words
-        ensures { result.now ≡ self.now }
+        ensures words { result.now ≡ self.now }
+        ensures query { query_of self.now ≡ Some self.now }
     {
         &self.words
     }

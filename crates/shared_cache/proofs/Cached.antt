@@ -5,7 +5,7 @@ use Rattle.std.proofs.lemmas.Option.{same_Some}
 use Rattle.resp_value.specs.declared.value.Value.{Value}
 use Rattle.command_words.specs.Queries.{key_of}
 use Rattle.shared_cache.specs.declared.holding.Holding.{Holding}
-use Rattle.shared_cache.specs.Held.{Key, Words, leaving}
+use Rattle.shared_cache.specs.Held.{Key, Words, shown_words, leaving}
 use Rattle.shared_cache.specs.Standing.{touched, is_gone, refilled}
 use Rattle.std.specs.List.{filter, list_any}
 use Rattle.std.specs.Str.{bytes_eq}
@@ -63,14 +63,14 @@ map_more f xs ys i x lt e is =
     ∙ ap (λ l. l ++ drop (i + 1) xs) (sym (map-append f (take i xs) (y ∷ [])) ∙ ap (map f) (sym (take_more xs i x lt)))
 
 -- the steps of a fill are a fill
-pub refilled_by : (capacity n now : ℕ) (v u : Value) (hs mid used_ last : List Holding) (o : Option Words) (q p : Words) (k : Key) (gone : Option Key)
+pub refilled_by : (capacity n now : ℕ) (v u : Value) (hs mid used_ last : List Holding) (o : Option Words) (q p : Words) (k : Key) (gone : Option Key) (line : List ℕ)
     → Some q ≡ o → Some p ≡ o → gone ≡ leaving capacity (Some p) hs → mid ≡ filter (λ h. not (is_gone gone (key_of h.query))) hs
-    → k ≡ key_of q → used_ ≡ map (touched k now) mid → u ≡ v → last ≡ used_ ++ record { query = q; value = u; number = n; used = now } ∷ []
+    → k ≡ key_of q → used_ ≡ map (touched k now) mid → u ≡ v → line ≡ shown_words p → last ≡ used_ ++ record { query = q; value = u; number = n; used = now; shown = line } ∷ []
     → last ≡ refilled capacity o n now v hs
-refilled_by capacity n now v u hs mid used_ last o q p k gone is_q is_p is_gone_ is_mid is_k is_used is_v is_last =
+refilled_by capacity n now v u hs mid used_ last o q p k gone line is_q is_p is_gone_ is_mid is_k is_used is_v is_line is_last =
     let same : p ≡ q = same_Some p q (is_p ∙ sym is_q) in
     let kept : mid ≡ filter (λ h. not (is_gone (leaving capacity (Some q) hs) (key_of h.query))) hs =
     is_mid ∙ ap (λ g. filter (λ (h : Holding). not (is_gone g (key_of h.query))) hs) (is_gone_ ∙ ap (λ x. leaving capacity (Some x) hs) same) in
     is_last
-    ∙ (λ i. (is_used ∙ (λ j. map (touched (is_k j) now) (kept j))) i ++ record { query = q; value = is_v i; number = n; used = now } ∷ [])
+    ∙ (λ i. (is_used ∙ (λ j. map (touched (is_k j) now) (kept j))) i ++ record { query = q; value = is_v i; number = n; used = now; shown = (is_line ∙ ap shown_words same) i } ∷ [])
     ∙ ap (λ x. refilled capacity x n now v hs) is_q

@@ -20,7 +20,7 @@ use Rattle.shared_cache.specs.declared.notices.Notice.{Notice}
 use Rattle.shared_cache.specs.declared.notices.Notice.TheVariants.{Reply, Keys, All, Broken, Other, Malformed}
 use Rattle.shared_cache.specs.Notices.{kind_of, named_keys, spoils, spoils_as, IsPush}
 use Rattle.shared_cache.specs.Log.{handshake, replies, reply_in, with_reply, is_accepted, is_ok_text, is_ready, is_broken, is_broken_notice}
-use Rattle.shared_cache.specs.Held.{Setup, Key, Words, numbers, unless, filled_by, used, leaving, is_key, hold, held_by, sent, open_fetch, left, last_use, held}
+use Rattle.shared_cache.specs.Held.{Setup, Key, Words, shown_words, numbers, unless, filled_by, used, leaving, is_key, hold, held_by, sent, open_fetch, left, last_use, held}
 use Rattle.shared_cache.specs.Out.{is_polled}
 use Rattle.shared_cache.specs.Steps.{is_welcome}
 use Rattle.shared_cache.specs.Standing.{Keeps, desk_at, there, owed_in, touched, is_gone, refilled, marks_by, settled}
@@ -90,7 +90,7 @@ hold_leaves l None gone u n use_of = refl
 hold_leaves l (Some p) true u n use_of = refl
 hold_leaves None (Some p) false u n use_of = refl
 hold_leaves (Some j) (Some p) false u n use_of =
-    let h : Holding = record { query = p; value = u; number = n; used = use_of (key_of p) } in
+    let h : Holding = record { query = p; value = u; number = n; used = use_of (key_of p); shown = shown_words p } in
     elim (bytes_eq (key_of p) j) as (λ b. cond b [] (h ∷ []) ≡ cond (not b) (h ∷ []) []) [ true ↦ refl | false ↦ refl ]
 
 module _ (s : Setup) (log : List LogEntry) (v : Value) (e : kind_of v ≡ Reply) where
@@ -150,7 +150,7 @@ module _ (s : Setup) (log : List LogEntry) (v : Value) (e : kind_of v ≡ Reply)
         ap (held_by (open_fetch s (Got Main v ∷ log)) (left s (Got Main v ∷ log)) (last_use s (Got Main v ∷ log))) replies_reply
         ∙ (λ i. held_others i ++ hold ((open_reply (length (replies s.mode log) + 1) ∙ some) i) (left_next i) v (length (replies s.mode log) + 1) (last_use s (Got Main v ∷ log)))
         ∙ ap (λ u. map (touched (key_of q) (length log + 1)) (filter (λ (h : Holding). not (is_gone (leaving s.capacity (Some q) (held s log)) (key_of h.query))) (held s log))
-        ++ record { query = q; value = v; number = length (replies s.mode log) + 1; used = u } ∷ []) use_next
+        ++ record { query = q; value = v; number = length (replies s.mode log) + 1; used = u; shown = shown_words q } ∷ []) use_next
 
   held_reply : (o : Option Words) → open_fetch s log (length (replies s.mode log) + 1) ≡ o
       → held s (Got Main v ∷ log) ≡ refilled s.capacity o (length (replies s.mode log) + 1) (length log + 1) v (held s log)

@@ -8,3 +8,4 @@ pub mod Logged
 pub mod Stepping
 pub mod Asking
 pub mod Getting
+pub mod Lawful

@@ -7,7 +7,7 @@ use Rattle.std.proofs.lemmas.List.{map-append}
 use Rattle.resp_value.specs.declared.value.Value.{Value}
 use Rattle.command_words.specs.Queries.{key_of, same_query}
 use Rattle.shared_cache.specs.declared.holding.Holding.{Holding}
-use Rattle.shared_cache.specs.Held.{Key, Words, held_of, unless, other_than, hold, held_by, used}
+use Rattle.shared_cache.specs.Held.{Key, Words, shown_words, held_of, unless, other_than, hold, held_by, used}
 use Rattle.shared_cache.specs.Standing.{touched}
 
 -- some of what is held stays
@@ -47,7 +47,7 @@ pub hold_unless : (t : Key → Bool) (o : Option Words) (gone : Bool) (v : Value
 hold_unless t None gone v n use_of = refl
 hold_unless t (Some q) true v n use_of = elim (t (key_of q)) as (λ b. hold (cond b None (Some q)) true v n use_of ≡ []) [ true ↦ refl | false ↦ refl ]
 hold_unless t (Some q) false v n use_of =
-    let h : Holding = record { query = q; value = v; number = n; used = use_of (key_of q) } in
+    let h : Holding = record { query = q; value = v; number = n; used = use_of (key_of q); shown = shown_words q } in
     elim (t (key_of q)) as (λ b. hold (cond b None (Some q)) false v n use_of ≡ cond (not b) (h ∷ []) []) [ true ↦ refl | false ↦ refl ]
 
 -- of another query nothing goes
@@ -56,7 +56,7 @@ pub hold_other : (q : Words) (o : Option Words) (gone : Bool) (v : Value) (n : �
 hold_other q None gone v n use_of = refl
 hold_other q (Some p) true v n use_of = elim (same_query p q) as (λ b. hold (cond b None (Some p)) true v n use_of ≡ []) [ true ↦ refl | false ↦ refl ]
 hold_other q (Some p) false v n use_of =
-    let h : Holding = record { query = p; value = v; number = n; used = use_of (key_of p) } in
+    let h : Holding = record { query = p; value = v; number = n; used = use_of (key_of p); shown = shown_words p } in
     elim (same_query p q) as (λ b. hold (cond b None (Some p)) false v n use_of ≡ cond (not b) (h ∷ []) []) [ true ↦ refl | false ↦ refl ]
 
 -- what is not held does not go

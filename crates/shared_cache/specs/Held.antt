@@ -1,8 +1,11 @@
 -- Which fetches may fill the cache, and what the cache holds, as read off the log.
 use Rattle.std.specs.Prelude.{◌≡◌, ◌==◌, ◌+◌, ◌&&◌, ◌||◌, ◌++◌, ℕ, List, [], ◌∷◌, length, Bool, true, false, not, Option, Some, None, if◌then◌else◌, nat_lt, nat_le}
-use Rattle.std.specs.List.{list_any}
+use Rattle.std.specs.List.{list_any, flat_map}
 use Rattle.std.specs.Str.{bytes_eq}
+use Rattle.std.specs.Ordering.{nat_cmp, is_lt}
+use Rattle.std.specs.Cmp.Lexicographic.{slice_cmp}
 use Rattle.resp_value.specs.declared.value.Value.{Value}
+use Rattle.command_words.specs.Printed.{printed}
 use Rattle.command_words.specs.Queries.{key_of, same_query, writes}
 use Rattle.shared_cache.specs.declared.log.Wire.{Wire}
 use Rattle.shared_cache.specs.declared.log.Wire.TheVariants.{Main, Side}
@@ -30,6 +33,11 @@ pub record Setup : Type 0 where
 -- how many commands have a number, where these went behind the handshake
 abbrev pub numbered : Setup → List Words → ℕ
 numbered s sent = length (handshake s.mode) + length sent
+
+-- words as they are printed
+abbrev pub shown_words : Words → List ℕ
+shown_words [] = []
+shown_words (w ∷ ws) = printed w ++ flat_map (λ x. 32 ∷ printed x) ws
 
 -- ---- of what is held, each with its last use
 
@@ -110,7 +118,7 @@ used (Some q) k now before = if bytes_eq k (key_of q) then now else before
 
 abbrev pub hold : Option Words → Bool → Value → ℕ → (Key → ℕ) → List Holding
 hold None gone v n use_of = []
-hold (Some q) gone v n use_of = if gone then [] else record { query = q; value = v; number = n; used = use_of (key_of q) } ∷ []
+hold (Some q) gone v n use_of = if gone then [] else record { query = q; value = v; number = n; used = use_of (key_of q); shown = shown_words q } ∷ []
 
 -- the fetches that are open, have their reply, and whose key has not left since
 abbrev pub held_by : (ℕ → Option Words) → (ℕ → Bool) → (Key → ℕ) → List Value → List Holding
@@ -184,3 +192,25 @@ numbers s log = numbered s (sent s log)
 abbrev pub commands : Setup → Wire → List LogEntry → List Words
 commands s Main log = handshake s.mode ++ sent s log
 commands s Side log = []
+
+-- ---- what is held, in byte order of the printed words
+
+abbrev pub is_before : Holding → Holding → Bool
+is_before o h = is_lt (slice_cmp nat_cmp o.shown h.shown)
+
+-- how many come before it
+abbrev pub rank : Holding → List Holding → ℕ
+rank h [] = 0
+rank h (o ∷ os) = if is_before o h then rank h os + 1 else rank h os
+
+abbrev pub ranked : ℕ → List Holding → List Holding → Option Holding
+ranked place all [] = None
+ranked place all (h ∷ hs) = if rank h all == place then Some h else ranked place all hs
+
+-- the one that so many come before
+abbrev pub held_at : ℕ → List Holding → Option Holding
+held_at place hs = ranked place hs hs
+
+abbrev pub told : Option Holding → Option (Words × Value × ℕ)
+told None = None
+told (Some h) = Some (h.query, h.value, h.number)

@@ -5,3 +5,4 @@ pub mod Out
 pub mod Steps
 pub mod Standing
 pub mod Desks
+pub mod Laws

@@ -19,7 +19,7 @@ use Rattle.shared_cache.specs.declared.holding.Holding.{Holding}
 use Rattle.shared_cache.specs.declared.holding.Desk.{Desk}
 use Rattle.shared_cache.specs.declared.holding.Desk.TheVariants.{Waiting, There, Gone}
 use Rattle.shared_cache.specs.Log.{replies, reply_in, is_ready, is_ended, is_broken}
-use Rattle.shared_cache.specs.Held.{Setup, Key, Words, sent, open_fetch, held, numbers, leaving}
+use Rattle.shared_cache.specs.Held.{Setup, Key, Words, shown_words, sent, open_fetch, held, numbers, leaving}
 use Rattle.shared_cache.specs.Out.{out, taken, is_polled}
 
 -- what a client's state stands for: its setup, and its log with the newest entry first
@@ -88,7 +88,7 @@ marks_by open_of replied (suc n) = marks_by open_of replied n ++ (if nat_lt repl
 -- ---- the cache at a fill
 
 abbrev pub touched : Key → ℕ → Holding → Holding
-touched k now h = record { query = h.query; value = h.value; number = h.number; used = if bytes_eq (key_of h.query) k then now else h.used }
+touched k now h = record { query = h.query; value = h.value; number = h.number; used = if bytes_eq (key_of h.query) k then now else h.used; shown = h.shown }
 
 abbrev pub is_gone : Option Key → Key → Bool
 is_gone None k = false
@@ -98,7 +98,7 @@ abbrev pub refilled : ℕ → Option Words → ℕ → ℕ → Value → List Ho
 refilled capacity None n now v hs = hs
 refilled capacity (Some q) n now v hs =
     map (touched (key_of q) now) (filter (λ h. not (is_gone (leaving capacity (Some q) hs) (key_of h.query))) hs)
-    ++ record { query = q; value = v; number = n; used = now } ∷ []
+    ++ record { query = q; value = v; number = n; used = now; shown = shown_words q } ∷ []
 
 -- the fields are what the log says
 pub record Keeps (s : Setup) (log : List LogEntry) (queued : List ℕ) (took replied : ℕ) (desk : List Desk) (owed : ℕ)

@@ -1,14 +1,15 @@
 // The cache as a list, in order of the fetches.
 ghost use Rattle.std.specs.Prelude.{◌≡◌, ◌+◌, ◌≤◌, ◌++◌, ◌∷◌, [], List, ℕ, IfOk, OnOk, OnErr, map, not, if◌then◌else◌, Some, option_copied, vec_len, vec_capacity};
-ghost use Rattle.std.specs.List.{filter, list_any};
+ghost use Rattle.std.specs.List.{filter, flat_map, list_any};
+ghost use Rattle.command_words.specs.Printed.{printed};
 ghost use Rattle.std.specs.Str.{bytes_eq};
 ghost use Rattle.command_words.specs.Queries.{key_of, names, same_query};
 ghost use Rattle.fill_mark.specs.Marks.{begun, query_marked, without_number};
-ghost use Rattle.shared_cache.specs.Held.{held_of, has_key, keys_held, earliest, leaving};
+ghost use Rattle.shared_cache.specs.Held.{held_of, has_key, keys_held, earliest, leaving, shown_words, is_before, rank, held_at};
 ghost use Rattle.shared_cache.specs.Standing.{touched, is_gone, refilled};
 
 use super::holding::Holding;
-use command_words::{Query, Written};
+use command_words::{Query, Written, put_printed};
 use fill_mark::Marks;
 use resp_value::{NoMemory, Octets, Value};
 use std::alloc::Global;
@@ -123,6 +124,78 @@ pub fn spoil(marks: &mut Marks, slots: &mut Vec<Holding>, written: &Written)
     }
 }
 
+fn put_behind(words: &[Octets], line: &mut Vec<u8>) -> Result<(), NoMemory>
+    ensures { OnOk result (line.new.items ≡ line.old.items ++ flat_map (λ w. 32 ∷ printed w) words.now) }
+{
+    for word in words {
+        line.push(b' ')?;
+        put_printed(word.as_slice(), line)?;
+    }
+    Ok(())
+}
+
+fn shown_words(alloc: Global, query: &Query) -> Result<Octets, NoMemory>
+    ensures { IfOk result (λ o. o ≡ shown_words query.now) }
+{
+    let mut line = Vec::new(alloc);
+    match query.words().as_slice() {
+        [first, rest @ ..] => {
+            put_printed(first.as_slice(), &mut line)?;
+            put_behind(rest, &mut line)?;
+        }
+        [] => {}
+    }
+    Ok(Octets::from_vec(line))
+}
+
+fn is_before(left: &Holding, right: &Holding) -> bool
+    ensures { result ≡ is_before left.now right.now }
+{
+    left.shown.as_slice().cmp(right.shown.as_slice()).is_lt()
+}
+
+fn rank(slot: &Holding, slots: &[Holding]) -> usize
+    ensures { result ≡ rank slot.now slots.now }
+{
+    let mut count = 0;
+    let mut rest = slots;
+    while let [other, after @ ..] = rest {
+        if is_before(other, slot) {
+            count += 1;
+        }
+        rest = after;
+    }
+    count
+}
+
+/// The one that so many come before, in byte order of the printed words.
+pub fn held_at(slots: &[Holding], place: usize) -> Option<&Holding>
+    ensures { option_copied result ≡ held_at place slots.now }
+{
+    for slot in slots {
+        if rank(slot, slots) == place {
+            return Some(slot);
+        }
+    }
+    None
+}
+
+// What a fill needs: the key that leaves, and the printed words.
+#[derive(Drop)]
+struct Plan {
+    leaving: Option<Octets>,
+    shown: Octets,
+}
+
+fn plan_of(alloc: Global, capacity: u64, query: &Query, slots: &[Holding]) -> Result<Plan, NoMemory>
+    ensures leaving { IfOk result (λ p. p.leaving ≡ leaving capacity (Some query.now) slots.now) }
+    ensures shown { IfOk result (λ p. p.shown ≡ shown_words query.now) }
+{
+    let leaving = leaving(alloc, capacity, query, slots)?;
+    let shown = shown_words(alloc, query)?;
+    Ok(Plan { leaving, shown })
+}
+
 /// A reply came: where the mark of its number stands, it fills the cache.
 pub fn refill(
     alloc: Global,
@@ -137,21 +210,22 @@ pub fn refill(
     ensures slots { OnOk result (slots.new.items ≡ refilled capacity (query_marked number marks.old) number now value.now slots.old.items) }
     ensures err { OnErr result ((marks.new ≡ marks.old) × (slots.new.items ≡ slots.old.items)) }
 {
-    let leaving = match marks.query_of(number) {
-        Some(query) => leaving(alloc, capacity, query, slots)?,
+    let plan = match marks.query_of(number) {
+        Some(query) => plan_of(alloc, capacity, query, slots)?,
         None => return Ok(()),
     };
     let value = value.copy()?;
     slots.reserve(1)?;
     match marks.settle(number) {
         Some(query) => {
-            make_room(slots, &leaving);
+            make_room(slots, &plan.leaving);
             touch(slots, query.key(), now);
             slots.push_reserved(Holding {
                 query,
                 value,
                 number,
                 used: now,
+                shown: plan.shown,
             });
             Ok(())
         }

@@ -1,7 +1,7 @@
 // The client's state: one turn at a time.
 ghost use Rattle.std.specs.Prelude.{◌≡◌, ◌+◌, ◌<◌, ◌≤◌, ◌∷◌, [], ℕ, IfOk, OnOk, OnErr, reverse, length};
 
-use super::cache::{held_of, mark, refill, spoil, touch};
+use super::cache::{held_at, held_of, mark, refill, spoil, touch};
 use super::desk::{Handed, hand_over, put_reply};
 use super::handshake::{enqueue, greeting, is_welcome};
 use super::holding::{Desk, Holding};
@@ -59,17 +59,18 @@ impl Model for ClientState {
 }
 
 impl ClientState {
-    ghost use Rattle.std.specs.Prelude.{◌==◌, true, false, not, is_some, take, nat_le};
+    ghost use Rattle.std.specs.Prelude.{◌==◌, true, false, not, is_some, option_map, take, nat_le};
     ghost use Rattle.shared_cache.specs.declared.log.LogEntry.TheVariants as entry;
     ghost use Rattle.shared_cache.specs.declared.notices.Notice.TheVariants.{Reply};
     ghost use Rattle.shared_cache.specs.declared.log.ClientCall.TheVariants as call;
     ghost use Rattle.shared_cache.specs.declared.log.Wire.TheVariants.{Main};
     ghost use Rattle.shared_cache.specs.Notices.{kind_of, IsPush};
     ghost use Rattle.shared_cache.specs.Log.{is_ready, is_ended, replies};
-    ghost use Rattle.shared_cache.specs.Held.{numbers, held, held_of};
+    ghost use Rattle.shared_cache.specs.Held.{numbers, held, held_of, held_at, told};
     ghost use Rattle.shared_cache.specs.Out.{untaken};
     ghost use Rattle.shared_cache.specs.Steps.{ClientStep, answer_ask, is_full, is_welcome, fault_of};
     ghost use Rattle.shared_cache.specs.Standing.{IsCallable, IsLast, IsServed, added};
+    ghost use Rattle.shared_cache.specs.Laws.{LegalLog};
 
     /// A client with an empty log, whose handshake is queued.
     pub fn new(
@@ -107,6 +108,15 @@ impl ClientState {
         ensures { result.now ≡ reverse self.now.past }
     {
         self.log.as_slice()
+    }
+
+    /// What is held, in byte order of the query's printed words: the query, the value, and the
+    /// number of the fetch. None past the last.
+    pub fn held(&self, place: usize) -> Option<(&Query, &Value, u64)>
+        ensures { option_map (λ r. (r.0.now, r.1.now, r.2)) result ≡ told (held_at place (held self.now.setup self.now.past)) }
+    {
+        let slot = held_at(&self.slots, place)?;
+        Some((&slot.query, &slot.value, slot.number))
     }
 
     fn is_over(&self) -> bool
@@ -466,9 +476,14 @@ impl ClientState {
         requires { IsCallable call }
         ensures setup { self.new.setup ≡ self.old.setup }
         ensures step { ClientStep self.old.setup self.old.past call result self.new.past }
+        ensures legal { LegalLog self.old.setup self.old.past → LegalLog self.new.setup self.new.past }
     {
         match call {
-            ClientCall::Ask(query) => self.ask(query),
+            ClientCall::Ask(query) => {
+                // legal logs hold queries alone, and its words read as the query
+                let _words = query.words();
+                self.ask(query)
+            }
             ClientCall::Send(words) => self.send(words),
             ClientCall::Poll(number) => self.hand_out(number),
             ClientCall::TakeOut(_, most) => self.take_out(most),

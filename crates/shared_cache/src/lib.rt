@@ -6,6 +6,7 @@ mod client;
 mod desk;
 mod handshake;
 mod holding;
+pub mod laws;
 mod log;
 mod notices;
 

@@ -11,8 +11,8 @@ pub returns-in-Some-settle-clause-slots : goal.returns-in-Some-settle-clause-slo
 returns-in-Some-settle-clause-slots c =
     refilled_by c.args.capacity c.args.number c.args.now c.args.value.now c.in_ok-value.value c.args.slots.now.items
     c.make_room.new.slots.items c.touch.new.slots.items c.push_reserved.new.self.items
-    _ c.in-Some-settle.query c.in-Some.query.now c.key.result.now c.in_ok-leaving-in-Some.leaving
+    _ c.in-Some-settle.query c.in-Some.query.now c.key.result.now c.in_ok-plan-in-Some.plan.leaving c.in_ok-plan-in-Some.plan.shown
     c.in-Some-settle.ensures.query c.in-Some.ensures.query
-    (c.in_ok-leaving-in-Some.ensures ∙ ap (leaving c.args.capacity (Some c.in-Some.query.now)) c.deref.ensures.value)
-    (c.make_room.ensures.items ∙ ap (filter (λ (h : Holding). not (is_gone c.in_ok-leaving-in-Some.leaving (key_of h.query)))) c.in_ok-reserve.ensures.items)
-    c.key.ensures c.touch.ensures.items c.in_ok-value.ensures c.push_reserved.ensures.items
+    (c.in_ok-plan-in-Some.ensures.leaving ∙ ap (leaving c.args.capacity (Some c.in-Some.query.now)) c.deref.ensures.value)
+    (c.make_room.ensures.items ∙ ap (filter (λ (h : Holding). not (is_gone c.in_ok-plan-in-Some.plan.leaving (key_of h.query)))) c.in_ok-reserve.ensures.items)
+    c.key.ensures c.touch.ensures.items c.in_ok-value.ensures c.in_ok-plan-in-Some.ensures.shown c.push_reserved.ensures.items

@@ -19,6 +19,6 @@ loop-slot-preserved c =
       | then-eq w ↦ w.slot-is ∙ ap (λ b. cond b c.args.now x.used) (sym (test ∙ w.if-eq.true))
       | else-eq w ↦ w.slot-is ∙ ap (λ (h : Holding). h.used) (sym c.slot-item.is) ∙ ap (λ b. cond b c.args.now x.used) (sym (test ∙ w.if-eq.false))
     ] in
-    ap (λ (z : Holding). set slots i (record { query = z.query; value = z.value; number = z.number; used = c.if-eq.slot })) (sym c.slot-item.is)
-    ∙ ap (λ u. set slots i (record { query = x.query; value = x.value; number = x.number; used = u })) used_is
+    ap (λ (z : Holding). set slots i (record { query = z.query; value = z.value; number = z.number; used = c.if-eq.slot; shown = z.shown })) (sym c.slot-item.is)
+    ∙ ap (λ u. set slots i (record { query = x.query; value = x.value; number = x.number; used = u; shown = x.shown })) used_is
     ∙ map_more (touched key c.args.now) c.args.slots.now slots i x c.loop-slot-test.true c.loop-slot.invariant c.slot-item.is

@@ -28,7 +28,7 @@ invariant_of-self-2 c =
     record {
       keeps = rw (pushed i.log.items _ _ (c.push_reserved.ensures.items ∙ ap (λ l. l ++ entry.Ask c.args.query ∷ []) c.in_ok-reserve.ensures.items), c.in_ok-enqueue.ensures.desk)
           (keeps_fetch_as _ _ _ _ _ _ _ _ _ _ _ k c.args.query (2 + c.len.result + 1) c.enqueue.new.queued.items c.mark.new.marks miss (omega (arith, c.len.ensures)) ready open_
-          (c.in_ok-enqueue.ensures.queued ∙ ap (λ q. i.queued.items ++ request_spelling q) c.words.ensures)
+          (c.in_ok-enqueue.ensures.queued ∙ ap (λ q. i.queued.items ++ request_spelling q) c.words.ensures.words)
           (c.in-Ok.ensures.ok ∙ ap (λ q. cond i.broken i.marks (begun (2 + c.len.result + 1) q i.marks)) c.in_ok-marked.ensures));
       room = omega (arith, at_most_one i.ended, c.in_ok-reserve.ensures.ok);
     }
