@@ -4,3 +4,6 @@
 mod marks;
 
 pub use marks::{Mark, Marks};
+
+#[cfg(test)]
+mod tests;

@@ -108,6 +108,15 @@ fn make_room(slots: &mut Vec<Holding>, leaving: &Option<Octets>)
     }
 }
 
+/// Nothing is marked and nothing is held any more.
+pub fn forget_all(marks: &mut Marks, slots: &mut Vec<Holding>)
+    ensures marks { marks.new ≡ [] }
+    ensures slots { slots.new.items ≡ [] }
+{
+    marks.void_all();
+    slots.clear();
+}
+
 /// What is written goes, from marks and cache.
 pub fn spoil(marks: &mut Marks, slots: &mut Vec<Holding>, written: &Written)
     ensures marks { marks.new ≡ filter (λ m. not (names written.now (key_of m.query))) marks.old }

@@ -1,7 +1,7 @@
 // The client's state: one turn at a time.
 ghost use Rattle.std.specs.Prelude.{◌≡◌, ◌+◌, ◌<◌, ◌≤◌, ◌∷◌, [], ℕ, IfOk, OnOk, OnErr, reverse, length};
 
-use super::cache::{held_at, held_of, mark, refill, spoil, touch};
+use super::cache::{forget_all, held_at, held_of, mark, refill, spoil, touch};
 use super::desk::{Handed, hand_over, put_reply};
 use super::handshake::{enqueue, greeting, is_welcome};
 use super::holding::{Desk, Holding};
@@ -149,8 +149,7 @@ impl ClientState {
         requires last { IsLast entry }
         ensures { self.new ≡ added entry self.old }
     {
-        self.marks.void_all();
-        self.slots.clear();
+        forget_all(&mut self.marks, &mut self.slots);
         self.ended = true;
         self.log.push_reserved(entry);
     }

@@ -11,7 +11,7 @@ invariant_of-self c =
     let k = c.self.invariant.keeps in
     let open_ : c.self.inside.ended ≡ false = k.over_is ∙ ap (λ (st : Standing). is_ended st.setup.mode Main st.past) c.self.view_is ∙ c.requires.open in
     record {
-      keeps = rw (pushed c.self.inside.log.items _ _ c.push_reserved.ensures.items, c.void_all.ensures, c.clear.ensures.items)
+      keeps = rw (pushed c.self.inside.log.items _ _ c.push_reserved.ensures.items, c.forget_all.ensures.marks, c.forget_all.ensures.slots)
           (keeps_last _ _ _ _ _ _ _ _ _ _ _ k c.args.entry c.requires.last);
       room = let r = room_left _ _ _ c.self.invariant.room open_ in omega arith;
     }

@@ -1,0 +1,34 @@
+//! Marks over ample memory.
+use super::Marks;
+use command_words::Query;
+use resp_value::{Octets, Words};
+use std::alloc::Global;
+use std::test::Fail;
+
+fn get(alloc: Global, key: &[u8]) -> Result<Query, Fail> {
+    let mut words = Words::new(alloc);
+    words.push(Octets::from_slice(alloc, b"get".as_slice())?)?;
+    words.push(Octets::from_slice(alloc, key)?)?;
+    Ok(Query::read(alloc, &words)?.ok_or("no query")?)
+}
+
+#[test]
+fn a_mark_stands_until_it_is_settled_or_voided(rt: HostRuntime) -> Result<(), Fail> {
+    let alloc = rt.alloc();
+    let mut marks = Marks::new(alloc);
+    marks.begin(3, get(alloc, b"a".as_slice())?)?;
+    marks.begin(4, get(alloc, b"b".as_slice())?)?;
+    marks.begin(5, get(alloc, b"a".as_slice())?)?;
+    assert!(rt; marks.query_of(3).is_none(), "a later fetch ends the older");
+    let query = marks.settle(4).ok_or("the mark of 4 stands")?;
+    assert_eq!(rt; query.key(), b"b".as_slice());
+    assert!(rt; marks.settle(4).is_none(), "a settled mark is gone");
+    marks.void_key(b"b".as_slice());
+    assert!(rt; marks.query_of(5).is_some());
+    marks.void_key(b"a".as_slice());
+    assert!(rt; marks.settle(5).is_none());
+    marks.begin(6, get(alloc, b"a".as_slice())?)?;
+    marks.void_all();
+    assert!(rt; marks.settle(6).is_none());
+    Ok(())
+}
