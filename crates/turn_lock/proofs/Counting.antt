@@ -1,9 +1,11 @@
 -- Counts, sums, and beginnings of a history.
-use Rattle.std.proofs.Common.{◌≡◌, ◌≢◌, ℕ, zero, suc, ◌+◌, ◌<◌, ◌≤◌, Bool, true, false, cond, eqb, List, [], ◌∷◌, ◌++◌, length, set, sym, refl, ap, ◌∙◌, subst, arith, ne_eqb, length-append}
+use Rattle.std.proofs.Common.{◌≡◌, ◌≢◌, ℕ, zero, suc, ◌+◌, ◌<◌, ◌≤◌, Bool, true, false, cond, eqb, List, [], ◌∷◌, ◌++◌, length, set, sym, refl, ap, ◌∙◌, subst, arith, eq-eqb, ne_eqb, length-append}
 use Rattle.std.specs.Prelude.{Option, Some, None, nat_lt, ◌==◌}
 use Rattle.std.proofs.lemmas.Bool.Decides.{nat_tests}
 use mathlib.Core.Option.{some, some-injective, some-ne-none}
 use mathlib.Core.List.{tail-eq_of_cons-eq, suffix_refl}
+use mathlib.Core.Logic.{dite}
+use native.Mathlib.Decide.{ℕ_discrete}
 use lib.ListN.{get_elem?}
 use Rattle.turn_lock.specs.Counts.{times, total}
 use Rattle.turn_lock.specs.History.{entries, Begins, history_after, own_after, Legal, made_by, Owns}
@@ -31,6 +33,23 @@ module _ {A : Type 0} (f : A → ℕ) where
   total_two (x ∷ xs) (suc i) zero v u ne e e' = let same : f x ≡ f u = ap f (some-injective x u e') in let h = total_at xs i v e in omega arith
   total_two (x ∷ xs) (suc i) (suc j) v u ne e e' = let h = total_two xs i j v u (λ same. ne (ap suc same)) e e' in omega arith
 
+  pub total_same : (l : List A) (i : ℕ) (v w : A) → get_elem? l i ≡ some v → f w ≡ f v → total f (set l i w) ≡ total f l
+  total_same l i v w at same = let s = total_set l i v w at in omega arith
+
+  -- where all others have none, the sum is that of one
+  pub total_alone : (l : List A) (i : ℕ) (v : A) → get_elem? l i ≡ some v → ((j : ℕ) (u : A) → j ≢ i → get_elem? l j ≡ some u → f u ≡ 0) → total f l ≡ f v
+  total_alone [] i v at none = absurd (some-ne-none v (sym at))
+  total_alone (x ∷ xs) zero v at none = let same : f x ≡ f v = ap f (some-injective x v at) in let z = no_others xs (λ j u e. none (suc j) u (λ is. omega arith) e) in omega arith
+    where
+      no_others : (l : List A) → ((j : ℕ) (u : A) → get_elem? l j ≡ some u → f u ≡ 0) → total f l ≡ 0
+      no_others [] none = refl
+      no_others (x ∷ xs) none = let a = none 0 x refl in let r = no_others xs (λ j u e. none (suc j) u e) in omega arith
+  total_alone (x ∷ xs) (suc i) v at none = let a = none 0 x (λ is. omega arith) refl in let r = total_alone xs i v at (λ j u ne e. none (suc j) u (λ is. ne (omega arith)) e) in omega arith
+
+pub total_le : {A : Type 0} (f g : A → ℕ) → ((x : A) → f x ≤ g x) → (l : List A) → total f l ≤ total g l
+total_le f g le [] = omega arith
+total_le f g le (x ∷ xs) = let a = le x in let r = total_le f g le xs in omega arith
+
 cond_add : (b : Bool) (x y : ℕ) → cond b (x + y) 0 ≡ cond b x 0 + cond b y 0
 cond_add true x y = refl
 cond_add false x y = refl
@@ -38,6 +57,10 @@ cond_add false x y = refl
 cond_zero : (b : Bool) (x : ℕ) → x ≡ 0 → cond b x 0 ≡ 0
 cond_zero true x e = e
 cond_zero false x e = refl
+
+cond_le : (b : Bool) (x : ℕ) → cond b x 0 ≤ x
+cond_le true x = omega arith
+cond_le false x = omega arith
 
 pub times-append : (n : ℕ) (xs ys : List ℕ) → times n (xs ++ ys) ≡ times n xs + times n ys
 times-append n [] ys = omega arith
@@ -70,6 +93,24 @@ module _ {E : Type 0} where
 
   pub made_by_another : (ns : List ℕ) (n : ℕ) (e : E) (h : List (ℕ × E)) (p : ℕ) → times n ns ≡ 0 → made_by ns ((n, e) ∷ h) p ≡ made_by ns h p
   made_by_another ns n e h p none = let z = cond_zero (p == length h) (times n ns) none in omega arith
+
+  made_by_beyond : (ns : List ℕ) (h : List (ℕ × E)) (p : ℕ) → length h ≤ p → made_by ns h p ≡ 0
+  made_by_beyond ns [] p le = refl
+  made_by_beyond ns (e ∷ h) p le = let r = made_by_beyond ns h p (omega arith) in let c : cond (p == length h) (times e.0 ns) 0 ≡ 0 = ap (λ b. cond b (times e.0 ns) 0) (ne_eqb p (length h) (λ is. omega arith)) in omega arith
+
+  -- where no number stands twice, no place does
+  pub made_by_once : (ns : List ℕ) (h : List (ℕ × E)) (p : ℕ) → ((n : ℕ) → times n ns ≤ 1) → made_by ns h p ≤ 1
+  made_by_once ns [] p one = omega arith
+  made_by_once ns (e ∷ h) p one = dite (ℕ_discrete p (length h))
+      (λ is. let z = made_by_beyond ns h p (omega arith) in let o = one e.0 in let c = cond_le (p == length h) (times e.0 ns) in omega arith)
+      (λ ne. let r = made_by_once ns h p one in let c : cond (p == length h) (times e.0 ns) 0 ≡ 0 = ap (λ b. cond b (times e.0 ns) 0) (ne_eqb p (length h) ne) in omega arith)
+
+  -- the entry that was added last
+  pub made_by_last : (ns : List ℕ) (n : ℕ) (e : E) (h : List (ℕ × E)) → times n ns ≡ 1 → 1 ≤ made_by ns ((n, e) ∷ h) (length h)
+  made_by_last ns n e h one = let c : cond (length h == length h) (times n ns) 0 ≡ times n ns = ap (λ b. cond b (times n ns) 0) (eq-eqb (length h) (length h) refl) in omega arith
+
+  pub made_by_less : (ns : List ℕ) (x : ℕ × E) (h : List (ℕ × E)) (p : ℕ) → made_by ns h p ≤ made_by ns (x ∷ h) p
+  made_by_less ns x h p = omega arith
 
   -- an entry of one's own
   pub owns_one_more : (ns own : List ℕ) (n : ℕ) (h : List (ℕ × E)) (e : Option E) → times n ns ≡ 1 → Owns ns h own → Owns ns (history_after n h e) (own_after own (length h) e)

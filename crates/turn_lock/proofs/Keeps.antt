@@ -14,10 +14,10 @@ use Rattle.turn_lock.specs.declared.rule.View.{View}
 use Rattle.turn_lock.specs.declared.rule.Stage.{Stage}
 use Rattle.turn_lock.specs.declared.rule.Stage.TheVariants.{New, Idle, Waits, Out, Spent}
 use Rattle.turn_lock.specs.Counts.{times, total}
-use Rattle.turn_lock.specs.History.{entries, past_after, history_after, own_after, Begins, Legal}
+use Rattle.turn_lock.specs.History.{entries, past_after, history_after, own_after, Begins, Legal, made_by}
 use Rattle.turn_lock.specs.Seats.{IsSoundView}
 use Rattle.turn_lock.specs.Rule.{HasTicket, tickets_of, Live, Seated, newcomer, kept_of, given_of, both_of, spent_view, Roster, Queue, IsOut, AtHome, Kept, looked_at, drew, entered, left_by, begun, learned}
-use Rattle.turn_lock.proofs.Counting.{total_at, total_two, legal_begins, legal_after}
+use Rattle.turn_lock.proofs.Counting.{total_at, total_two, total_alone, made_by-nil, made_by_once, legal_begins, legal_after}
 use Rattle.turn_lock.proofs.Rosters.{live_of, set_there, same_at, fits_stage, fits_whole, fits_entry, roster_set, roster_entry, roster_begin, roster_split, roster_join, roster_opening}
 use Rattle.turn_lock.proofs.Queues.{number_of, queue_set, queue_draw, queue_leave, queue_more, out_set}
 
@@ -29,6 +29,10 @@ set_again_or (x ∷ xs) (suc i) = ap (λ ys. x ∷ ys) (set_again_or xs i)
 abbrev pub slot_of : {S : Type 0} → List (ℕ × Option S) → Option S
 slot_of [] = None
 slot_of (x ∷ xs) = x.1
+
+-- the slot that was held is held again, with another value
+pub held_again : {X V : Type 0} (m m' m'' : V × List (ℕ × X)) (x a b : X) → m.1 ≡ (0, x) ∷ [] → m' ≡ (m.0, (0, a) ∷ rest m.1) → m'' ≡ (m'.0, (0, b) ∷ rest m'.1) → m'' ≡ (m.0, (0, b) ∷ [])
+held_again m m' m'' x a b held one two = two ∙ (ap (λ z. (z.0, (0, b) ∷ rest z.1)) one ∙ ap (λ z. (m.0, (0, b) ∷ rest z)) held)
 
 entries-after : {E : Type 0} (n : ℕ) (h : List (ℕ × E)) (e : Option E) → past_after (entries h) e ≡ entries (history_after n h e)
 entries-after n h None = refl
@@ -76,7 +80,7 @@ module _ {S U E C R : Type 0} (setup : S → U) (stands : S → List E → Type 
       let drawn : ℕ = get_or s.words 0 0 in
       let seated = seated_at v.stage Idle idle tt in
       moves s k id n v w at
-      (roster_set about drawn n k.history s.views id v w k.roster at (omega arith) refl refl seated (fits_stage about drawn n n k.history v.stage v (k.roster.fits id v at) seated (omega arith)) (λ e. e))
+      (roster_set about drawn n k.history s.views id v w k.roster at (omega arith) refl refl refl seated (fits_stage about drawn n n k.history v.stage v (k.roster.fits id v at) seated (omega arith)) (λ e. e))
       (subst (λ z. Queue z (get_or s.words 1 0) k.history (set s.views id w)) (sym is) (queue_set drawn (get_or s.words 1 0) k.history s.views id v w k.queue at refl (λ t h. h) (λ t. k.queue.outs id v t at)))
       (λ t o. o)
 
@@ -98,7 +102,7 @@ module _ {S U E C R : Type 0} (setup : S → U) (stands : S → List E → Type 
         keeps,
         tt,
         moves s k id (old + 1) me.0 w at
-            (roster_set about n (old + 1) k.history s.views id me.0 w k.roster at (omega arith) refl refl tt (fits_stage about n (old + 1) n k.history (Waits n) me.0 (k.roster.fits id me.0 at) seated (omega arith)) (λ e. e))
+            (roster_set about n (old + 1) k.history s.views id me.0 w k.roster at (omega arith) refl refl refl tt (fits_stage about n (old + 1) n k.history (Waits n) me.0 (k.roster.fits id me.0 at) seated (omega arith)) (λ e. e))
             (subst (λ z. Queue (z + 1) (get_or s.words 1 0) k.history (set s.views id w)) hit (queue_draw n (get_or s.words 1 0) k.history s.views id me.0 w k.queue at idle refl))
             (λ t o. let bad : Idle ≡ Out t = sym idle ∙ o in absurd cc),
         (seen, (λ _. refl), (λ miss. absurd (miss hit))),
@@ -126,7 +130,7 @@ module _ {S U E C R : Type 0} (setup : S → U) (stands : S → List E → Type 
         legal = k.legal;
         wide = length-set s.words 1 n ∙ k.wide;
         slot = length-set s.homes 0 none ∙ k.slot;
-        roster = rw first (roster_set about drawn drawn k.history s.views id v w k.roster at (omega arith) refl refl tt (fits_whole about drawn k.history (Out n) v (k.roster.fits id v at) (seated_at v.stage (Waits n) waits tt)) (λ _. refl));
+        roster = rw first (roster_set about drawn drawn k.history s.views id v w k.roster at (omega arith) refl refl refl tt (fits_whole about drawn k.history (Out n) v (k.roster.fits id v at) (seated_at v.stage (Waits n) waits tt)) (λ _. refl));
         queue = rw (first, second) (queue_set drawn n k.history s.views id v w k.queue at (sym (ap tickets_of waits)) (λ t e. subst (λ z. HasTicket z t) (sym waits) e) (λ t o. (sym (ap number_of o), refl)));
         place = inr (id, w, set_there s.views id w v at, ap Out (sym second));
       }
@@ -178,7 +182,7 @@ module _ {S U E C R : Type 0} (setup : S → U) (stands : S → List E → Type 
         legal = legal_after step_of about v.number v.seen e c r legal is;
         wide = length-set s.words 1 (t + 1) ∙ k.wide;
         slot = length-set s.homes 0 (some (Some y)) ∙ k.slot;
-        roster = rw first (roster_entry about drawn e v.seen s.views id v w roster at seated refl refl tt (fits_entry about drawn v.seen e v (roster.fits id v at) seated refl) refl);
+        roster = rw first (roster_entry about drawn e v.seen s.views id v w roster at seated refl refl refl tt (fits_entry about drawn v.seen e v (roster.fits id v at) seated refl) refl);
         queue = rw (first, second) (queue_leave drawn t v.seen (history_after v.number v.seen e) s.views id v w queue at out refl);
         place = inl (y, set_here s.homes 0 (some (Some y)) (omega arith), its, subst (stands y) (entries-after v.number v.seen e) st);
       }
@@ -288,27 +292,48 @@ module _ {S U E C R : Type 0} (setup : S → U) (stands : S → List E → Type 
 
   -- where one seat has all parts and no ticket, the state is home and stands for all that the seat has seen
   pub closes : (id : ℕ) (v : View U E) (ws : List ℕ) (xs : List (Option S)) → v.parts ≡ 18446744073709551615 → v.stage ≡ Idle → Final (Seen Rule id v) ws xs
-      → (y : S) × (get_elem? xs 0 ≡ some (Some y)) × (v.setup ≡ Some (setup y)) × stands y (entries v.seen) × (v.tickets ≤ get_or ws 0 0)
+      → ((y : S) × (get_elem? xs 0 ≡ some (Some y)) × (v.setup ≡ Some (setup y)) × stands y (entries v.seen) × (v.tickets ≤ get_or ws 0 0))
+      × ((place : ℕ) → place < length v.seen → times place v.own ≡ 1) × (length v.own ≡ length v.seen)
   closes id v ws xs whole idle (s, (k, at), words, long, same) =
       let f = k.roster.fits id v at in
       let seated = seated_at v.stage Idle idle tt in
+      let none_left : (j : ℕ) (u : View U E) → j ≢ id → get_elem? s.views j ≡ some u → u.parts ≡ 0
+          = λ j u ne e. let t = total_two (λ (z : View U E). z.parts) s.views j id u v ne e at in let p = k.roster.parts in omega arith in
       let spent : (j : ℕ) (u : View U E) → get_elem? s.views j ≡ some u → Live u.stage → j ≡ id
-      = λ j u e live. dite (ℕ_discrete j id) (λ is. is)
-      (λ ne. let t = total_two (λ (z : View U E). z.parts) s.views j id u v ne e at in let p = k.roster.parts in let one = (k.roster.fits j u e).part live in absurd (omega arith)) in
+          = λ j u e live. dite (ℕ_discrete j id) (λ is. is) (λ ne. let z = none_left j u ne e in let one = (k.roster.fits j u e).part live in absurd (omega arith)) in
       let w = k.roster.whole in
       let all : v.seen ≡ k.history = ap (λ (z : View U E). z.seen) (same_at s.views id w.0 v w.1 (sym (spent w.0 w.1 w.2 w.3)) at w.2) ∙ w.4 in
-      ⊎_elim
-      (λ (home : AtHome setup stands step_of about k.history s.homes). (
-        home.0,
-        same 0 (Some home.0) home.1,
-        f.about (live_of v.stage seated) ∙ ap Some (sym home.2),
-        subst (λ h. stands home.0 (entries h)) (sym all) home.3,
-        subst (λ z. v.tickets ≤ get_or z 0 0) words f.looked,
-      ))
-      (λ (out : IsOut (get_or s.words 1 0) s.views).
-      let who = spent out.0 out.1 out.2 (subst Live (sym out.3) tt) in
-      let bad : Out (get_or s.words 1 0) ≡ Idle = sym out.3 ∙ (ap (λ (z : View U E). z.stage) (same_at s.views out.0 id out.1 v who out.2 at) ∙ idle) in absurd cc)
-      k.place
+      let covered : (p : ℕ) → p < length k.history → times p v.own ≡ 1
+          = λ p some.
+              let g = λ (u : View U E). made_by u.numbers k.history p in
+              let alone = total_alone g s.views id v at (λ j u ne e. ap (λ ns. made_by ns k.history p) ((k.roster.fits j u e).gone (none_left j u ne e)).0 ∙ made_by-nil k.history p) in
+              let old = k.roster.covered p some in
+              let most = made_by_once v.numbers k.history p (λ n. let t = total_at (λ (u : View U E). times n u.numbers) s.views id v at in let o = k.roster.once n in omega arith) in
+              let is = f.owns p in omega arith in
+      let shared : length v.own ≡ length k.history
+          = sym (total_alone (λ (u : View U E). length u.own) s.views id v at (λ j u ne e. ap length ((k.roster.fits j u e).gone (none_left j u ne e)).1)) ∙ k.roster.shared in (
+        ⊎_elim
+            (λ (home : AtHome setup stands step_of about k.history s.homes). (
+              home.0,
+              same 0 (Some home.0) home.1,
+              f.about (live_of v.stage seated) ∙ ap Some (sym home.2),
+              subst (λ h. stands home.0 (entries h)) (sym all) home.3,
+              subst (λ z. v.tickets ≤ get_or z 0 0) words f.looked,
+            ))
+            (λ (out : IsOut (get_or s.words 1 0) s.views).
+                let who = spent out.0 out.1 out.2 (subst Live (sym out.3) tt) in
+                let bad : Out (get_or s.words 1 0) ≡ Idle = sym out.3 ∙ (ap (λ (z : View U E). z.stage) (same_at s.views out.0 id out.1 v who out.2 at) ∙ idle) in absurd cc)
+            k.place,
+        subst (λ h. (p : ℕ) → p < length h → times p v.own ≡ 1) (sym all) covered,
+        shared ∙ ap length (sym all),
+      )
+
+-- what the turn did, said of the seat that has the state
+pub turn_done : {S U E C R : Type 0} (setup : S → U) (stands : S → List E → Type 0) (step_of : U → List E → C → R → Option E → Type 0) (m m' : Me (Option S) (View U E)) (y : S) (e : Option E) (c : C) (r : R) → m' ≡ (m.0, (0, Some y) ∷ [])
+    → m.0.setup ≡ Some (setup y) → step_of (setup y) (entries m.0.seen) c r e → stands y (past_after (entries m.0.seen) e)
+    → (m'.1 ≡ (0, Some y) ∷ []) × (m'.0.setup ≡ Some (setup y)) × step_of (setup y) (entries m'.0.seen) c r e × stands y (past_after (entries m'.0.seen) e)
+turn_done {S = S} {U = U} {E = E} setup stands step_of m m' y e c r is has step st =
+    subst (λ (z : Me (Option S) (View U E)). (z.1 ≡ (0, Some y) ∷ []) × (z.0.setup ≡ Some (setup y)) × step_of (setup y) (entries z.0.seen) c r e × stands y (past_after (entries z.0.seen) e)) (sym is) (refl, has, step, st)
 
 pub first_of : (ws : List ℕ) (n : ℕ) → get_elem? ws 0 ≡ some n → get_or ws 0 0 ≡ n
 first_of [] n e = absurd (some-ne-none n (sym e))

@@ -14,7 +14,7 @@ use Rattle.turn_lock.specs.Counts.{times, total}
 use Rattle.turn_lock.specs.History.{Begins, history_after, own_after, made_by, Owns}
 use Rattle.turn_lock.specs.Seats.{longer, shorter}
 use Rattle.turn_lock.specs.Rule.{Live, Seated, newcomer, kept_of, given_of, both_of, spent_view, Fits, Unused, Roster}
-use Rattle.turn_lock.proofs.Counting.{total_set, total_snoc, total_at, total_two, times-append, times_other, times_self, made_by-nil, made_by-begins, made_by_another, owns_one_more, owns-append, owns_between, begins_after, shorter_begins, longer_begins, begin_longer, longer_whole, longer_whole_right}
+use Rattle.turn_lock.proofs.Counting.{total_set, total_snoc, total_at, total_two, total_same, total_le, times-append, times_other, times_self, made_by-nil, made_by-append, made_by_last, made_by_less, made_by-begins, made_by_another, owns_one_more, owns-append, owns_between, begins_after, shorter_begins, longer_begins, begin_longer, longer_whole, longer_whole_right}
 
 pub live_of : (s : Stage) → Seated s → Live s
 live_of New h = absurd h
@@ -63,6 +63,7 @@ module _ {U E : Type 0} (setup : U) where
     about = λ _. f.about (live_of v.stage seated);
     part = λ _. f.part (live_of v.stage seated);
     named = λ _. f.named seated;
+    gone = f.gone;
   }
 
   -- the seat sees the whole history
@@ -76,6 +77,7 @@ module _ {U E : Type 0} (setup : U) where
     about = λ _. f.about (live_of v.stage seated);
     part = λ _. f.part (live_of v.stage seated);
     named = λ _. f.named seated;
+    gone = f.gone;
   }
 
   -- the seat that has seen all makes an entry, or none
@@ -92,6 +94,7 @@ module _ {U E : Type 0} (setup : U) where
         about = λ _. f.about (live_of v.stage seated);
         part = λ _. f.part (live_of v.stage seated);
         named = λ _. f.named seated;
+        gone = λ z. absurd (let p = f.part (live_of v.stage seated) in omega arith);
       }
 
   fits_later : (drawn drawn' : ℕ) (h : List (ℕ × E)) (v : View U E) → drawn ≤ drawn' → Fits setup drawn h v → Fits setup drawn' h v
@@ -104,6 +107,7 @@ module _ {U E : Type 0} (setup : U) where
     about = f.about;
     part = f.part;
     named = f.named;
+    gone = f.gone;
   }
 
   -- another seat makes an entry
@@ -117,6 +121,7 @@ module _ {U E : Type 0} (setup : U) where
     about = f.about;
     part = f.part;
     named = f.named;
+    gone = f.gone;
   }
 
   abbrev Whole : List (ℕ × E) → List (View U E) → Type 0
@@ -129,8 +134,8 @@ module _ {U E : Type 0} (setup : U) where
 
   -- one view changes, and keeps its numbers and its parts
   pub roster_set : (drawn drawn' : ℕ) (h : List (ℕ × E)) (vs : List (View U E)) (id : ℕ) (v w : View U E) → Roster setup drawn h vs → get_elem? vs id ≡ some v → drawn ≤ drawn'
-      → w.parts ≡ v.parts → w.numbers ≡ v.numbers → Seated w.stage → Fits setup drawn' h w → (v.seen ≡ h → w.seen ≡ h) → Roster setup drawn' h (set vs id w)
-  roster_set drawn drawn' h vs id v w r at le parts numbers seated fw seen =
+      → w.parts ≡ v.parts → w.numbers ≡ v.numbers → w.own ≡ v.own → Seated w.stage → Fits setup drawn' h w → (v.seen ≡ h → w.seen ≡ h) → Roster setup drawn' h (set vs id w)
+  roster_set drawn drawn' h vs id v w r at le parts numbers own seated fw seen =
       let named : (n : ℕ) → total (λ (u : View U E). times n u.numbers) (set vs id w) ≡ total (λ (u : View U E). times n u.numbers) vs
       = λ n. let s = total_set (λ (u : View U E). times n u.numbers) vs id v w at in let same : times n w.numbers ≡ times n v.numbers = ap (times n) numbers in omega arith in
       let unused : (n : ℕ) → Unused n h vs → Unused n h (set vs id w) = λ n u. (named n ∙ u.0, u.1) in
@@ -141,13 +146,15 @@ module _ {U E : Type 0} (setup : U) where
         unused = λ n out. unused n (r.unused n (let l : length (set vs id w) ≡ length vs = length-set vs id w in omega arith));
         unnamed = each_set (λ j u. u.stage ≡ New → Unused j h (set vs id w) × (times j u.others ≡ 0) × (u.numbers ≡ [])) vs id w (λ is. absurd (not_new w.stage seated is))
             (λ j u ne e is. let old = r.unnamed j u e is in (unused j old.0, old.1, old.2));
+        covered = λ p some. subst (λ t. 1 ≤ t) (sym (total_same (λ (u : View U E). made_by u.numbers h p) vs id v w at (ap (λ ns. made_by ns h p) numbers))) (r.covered p some);
+        shared = total_same (λ (u : View U E). length u.own) vs id v w at (ap length own) ∙ r.shared;
         whole = whole_set h vs id v w at (live_of w.stage seated) seen r.whole;
       }
 
   -- the seat that has seen all makes an entry
   roster_grown : (drawn : ℕ) (e : E) (h : List (ℕ × E)) (vs : List (View U E)) (id : ℕ) (v w : View U E) → Roster setup drawn h vs → get_elem? vs id ≡ some v → Seated v.stage
-      → w.parts ≡ v.parts → w.numbers ≡ v.numbers → Seated w.stage → Fits setup drawn ((v.number, e) ∷ h) w → w.seen ≡ (v.number, e) ∷ h → Roster setup drawn ((v.number, e) ∷ h) (set vs id w)
-  roster_grown drawn e h vs id v w r at was parts numbers seated fw all =
+      → w.parts ≡ v.parts → w.numbers ≡ v.numbers → w.own ≡ length h ∷ v.own → Seated w.stage → Fits setup drawn ((v.number, e) ∷ h) w → w.seen ≡ (v.number, e) ∷ h → Roster setup drawn ((v.number, e) ∷ h) (set vs id w)
+  roster_grown drawn e h vs id v w r at was parts numbers own seated fw all =
       let f = λ (n : ℕ) (u : View U E). times n u.numbers in
       let one : times v.number v.numbers ≡ 1 = (r.fits id v at).named was in
       let named : (n : ℕ) → total (f n) (set vs id w) ≡ total (f n) vs
@@ -164,13 +171,21 @@ module _ {U E : Type 0} (setup : U) where
         unused = λ n out. unused n (r.unused n (let l : length (set vs id w) ≡ length vs = length-set vs id w in omega arith));
         unnamed = each_set (λ j u. u.stage ≡ New → Unused j ((v.number, e) ∷ h) (set vs id w) × (times j u.others ≡ 0) × (u.numbers ≡ [])) vs id w (λ is. absurd (not_new w.stage seated is))
             (λ j u ne at' is. let old = r.unnamed j u at' is in (unused j old.0, old.1, old.2));
+        covered = λ p some.
+            let more : List (ℕ × E) = (v.number, e) ∷ h in
+            let g = λ (u : View U E). made_by u.numbers more p in
+            subst (λ t. 1 ≤ t) (sym (total_same g vs id v w at (ap (λ ns. made_by ns more p) numbers)))
+                (dite (ℕ_discrete p (length h))
+                (λ is. let last = made_by_last v.numbers v.number e h one in let t = total_at g vs id v at in let here : made_by v.numbers more p ≡ made_by v.numbers more (length h) = ap (made_by v.numbers more) is in omega arith)
+                (λ ne. let old = r.covered p (omega arith) in let le = total_le (λ (u : View U E). made_by u.numbers h p) g (λ u. made_by_less u.numbers (v.number, e) h p) vs in omega arith));
+        shared = let s = total_set (λ (u : View U E). length u.own) vs id v w at in let l = r.shared in let o : length w.own ≡ suc (length v.own) = ap length own in omega arith;
         whole = (id, w, set_there vs id w v at, live_of w.stage seated, all);
       }
 
   pub roster_entry : (drawn : ℕ) (e : Option E) (h : List (ℕ × E)) (vs : List (View U E)) (id : ℕ) (v w : View U E) → Roster setup drawn h vs → get_elem? vs id ≡ some v → Seated v.stage
-      → w.parts ≡ v.parts → w.numbers ≡ v.numbers → Seated w.stage → Fits setup drawn (history_after v.number h e) w → w.seen ≡ history_after v.number h e → Roster setup drawn (history_after v.number h e) (set vs id w)
-  roster_entry drawn None h vs id v w r at was parts numbers seated fw all = roster_set drawn drawn h vs id v w r at (omega arith) parts numbers seated fw (λ _. all)
-  roster_entry drawn (Some e) h vs id v w r at was parts numbers seated fw all = roster_grown drawn e h vs id v w r at was parts numbers seated fw all
+      → w.parts ≡ v.parts → w.numbers ≡ v.numbers → w.own ≡ own_after v.own (length h) e → Seated w.stage → Fits setup drawn (history_after v.number h e) w → w.seen ≡ history_after v.number h e → Roster setup drawn (history_after v.number h e) (set vs id w)
+  roster_entry drawn None h vs id v w r at was parts numbers own seated fw all = roster_set drawn drawn h vs id v w r at (omega arith) parts numbers own seated fw (λ _. all)
+  roster_entry drawn (Some e) h vs id v w r at was parts numbers own seated fw all = roster_grown drawn e h vs id v w r at was parts numbers own seated fw all
 
   -- a seat that was split off finds its number
   pub roster_begin : (drawn : ℕ) (h : List (ℕ × E)) (vs : List (View U E)) (id : ℕ) (v : View U E) → Roster setup drawn h vs → get_elem? vs id ≡ some v → v.stage ≡ New
@@ -195,6 +210,7 @@ module _ {U E : Type 0} (setup : U) where
               about = λ _. fv.about live;
               part = λ _. fv.part live;
               named = λ _. times_self id;
+              gone = λ z. absurd (let p = fv.part live in omega arith);
             }
             (λ j u ne e. r.fits j u e);
         parts = let t = total_set (λ (u : View U E). u.parts) vs id v w at in let p = r.parts in omega arith;
@@ -204,6 +220,8 @@ module _ {U E : Type 0} (setup : U) where
         unused = λ n out. let l : length (set vs id w) ≡ length vs = length-set vs id w in let i = within vs id v at in unused n (λ is. omega arith) (r.unused n (omega arith));
         unnamed = each_set (λ j u. u.stage ≡ New → Unused j h (set vs id w) × (times j u.others ≡ 0) × (u.numbers ≡ [])) vs id w (λ is. absurd (not_new Idle tt is))
             (λ j u ne e is. let old = r.unnamed j u e is in (unused j ne old.0, old.1, old.2));
+        covered = λ p some. let t = total_set (λ (u : View U E). made_by u.numbers h p) vs id v w at in let old = r.covered p some in let z : made_by v.numbers h p ≡ 0 = ap (λ ns. made_by ns h p) mine.2 ∙ made_by-nil h p in omega arith;
+        shared = total_same (λ (u : View U E). length u.own) vs id v w at refl ∙ r.shared;
         whole = whole_set h vs id v w at tt (λ e. e) r.whole;
       }
 
@@ -234,6 +252,7 @@ module _ {U E : Type 0} (setup : U) where
               about = fv.about;
               part = λ _. omega arith;
               named = fv.named;
+              gone = λ z. absurd (omega arith);
             }
             record {
               looked = fv.looked;
@@ -244,6 +263,7 @@ module _ {U E : Type 0} (setup : U) where
               about = λ _. fv.about live;
               part = λ _. some_part;
               named = λ bad. absurd bad;
+              gone = λ _. (refl, refl);
             }
             r.fits;
         parts = let a = total_snoc (λ (u : View U E). u.parts) (set vs id left) right in let s = total_set (λ (u : View U E). u.parts) vs id v left at in let p = r.parts in omega arith;
@@ -253,6 +273,8 @@ module _ {U E : Type 0} (setup : U) where
             (λ is. absurd (not_new v.stage seated is))
             (λ _. let last = r.unused (length vs) (omega arith) in (unused (length vs) last, (let t = total_at (f (length vs)) vs id v at in let z = last.0 in omega arith), refl))
             (λ j u e is. let old = r.unnamed j u e is in (unused j old.0, old.1, old.2));
+        covered = λ p some. let g = λ (u : View U E). made_by u.numbers h p in let a = total_snoc g (set vs id left) right in let s = total_set g vs id v left at in let old = r.covered p some in omega arith;
+        shared = let g = λ (u : View U E). length u.own in let a = total_snoc g (set vs id left) right in let s = total_set g vs id v left at in let old = r.shared in omega arith;
         whole = let w = whole_set h vs id v left at live (λ e. e) r.whole in (w.0, w.1, at_longer (set vs id left) (right ∷ []) w.0 w.1 w.2, w.3, w.4);
       }
 
@@ -272,6 +294,7 @@ module _ {U E : Type 0} (setup : U) where
         about = λ _. fv.about live;
         part = λ _. let p = fv.part live in omega arith;
         named = λ _. let a = times-append v.number v.numbers w.numbers in let o = fv.named seated in omega arith;
+        gone = λ z. absurd (let p = fv.part live in omega arith);
       }
     where
       both_in : (a b h : List (ℕ × E)) → Begins a h → Begins b h → Begins a (longer a b) × Begins b (longer a b)
@@ -287,6 +310,7 @@ module _ {U E : Type 0} (setup : U) where
     about = λ bad. absurd bad;
     part = λ bad. absurd bad;
     named = λ bad. absurd bad;
+    gone = λ _. (refl, refl);
   }
 
   -- one seat is joined into another
@@ -317,6 +341,8 @@ module _ {U E : Type 0} (setup : U) where
         unused = λ m out. unused m (r.unused m (let a = length-set mid other spent in let b = length-set vs id both in omega arith));
         unnamed = each (λ j u. u.stage ≡ New → Unused j h all × (times j u.others ≡ 0) × (u.numbers ≡ []))
             (λ is. absurd (not_new v.stage seated is)) (λ is. let bad : Spent ≡ New = is in absurd cc) (λ j u e is. let old = r.unnamed j u e is in (unused j old.0, old.1, old.2));
+        covered = λ p some. let t = moved (λ (u : View U E). made_by u.numbers h p) in let a = made_by-append v.numbers w.numbers h p in let z = made_by-nil h p in let old = r.covered p some in omega arith;
+        shared = let t = moved (λ (u : View U E). length u.own) in let a : length (v.own ++ w.own) ≡ length v.own + length w.own = length-append v.own w.own in let old = r.shared in omega arith;
         whole = whole_join r.whole at_id;
       }
     where
@@ -339,11 +365,14 @@ module _ {U E : Type 0} (setup : U) where
       about = λ _. refl;
       part = λ _. omega arith;
       named = λ _. times_self 0;
+      gone = λ z. absurd (omega arith);
     };
     parts = refl;
     once = λ n. dite (ℕ_discrete n 0) (λ is. subst (λ m. times m (0 ∷ []) + 0 ≤ 1) (sym is) (omega (arith, times_self 0))) (λ ne. omega (arith, times_other n 0 ne));
     unused = λ n out. ((let z = times_other n 0 (λ is. let o : 1 ≤ n = out in omega arith) in omega arith), (λ p. refl));
     unnamed = λ j u e is. let bad : Idle ≡ New = ap (λ (z : View U E). z.stage) (only j u e).1 ∙ is in absurd cc;
+    covered = λ p some. absurd (omega arith);
+    shared = refl;
     whole = (0, newcomer setup, refl, tt, refl);
   }
     where

@@ -68,6 +68,7 @@ module _ {U E : Type 0} where
     pub about : Live v.stage → v.setup ≡ Some setup
     pub part : Live v.stage → 1 ≤ v.parts
     pub named : Seated v.stage → times v.number v.numbers ≡ 1
+    pub gone : v.parts ≡ 0 → (v.numbers ≡ []) × (v.own ≡ [])
 
   -- no seat has this number, and no entry
   abbrev pub Unused : ℕ → List (ℕ × E) → List (View U E) → Type 0
@@ -80,6 +81,8 @@ module _ {U E : Type 0} where
     pub once : (n : ℕ) → total (λ v. times n v.numbers) views ≤ 1
     pub unused : (n : ℕ) → length views ≤ n → Unused n history views
     pub unnamed : (j : ℕ) (v : View U E) → get_elem? views j ≡ some v → v.stage ≡ New → Unused j history views × (times j v.others ≡ 0) × (v.numbers ≡ [])
+    pub covered : (place : ℕ) → place < length history → 1 ≤ total (λ v. made_by v.numbers history place) views
+    pub shared : total (λ v. length v.own) views ≡ length history
     pub whole : (j : ℕ) × (v : View U E) × (get_elem? views j ≡ some v) × Live v.stage × (v.seen ≡ history)
 
   -- the tickets drawn are those served and those of the views; no two have one, and who is out has the one that is served and has seen all

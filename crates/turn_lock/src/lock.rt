@@ -1,5 +1,5 @@
 //! The lock, its seats and its calls.
-ghost use Rattle.std.specs.Prelude.{◌≡◌, ℕ, ◌+◌, ◌-◌, ◌<◌, ◌≤◌, List, [], ◌∷◌, Some, IfOk, IfErr, OnOk};
+ghost use Rattle.std.specs.Prelude.{◌≡◌, ℕ, ◌+◌, ◌-◌, ◌<◌, ◌≤◌, List, [], ◌∷◌, length, Some, IfOk, IfErr, OnOk};
 ghost use Rattle.turn_lock.specs.Counts.{times};
 ghost use Rattle.turn_lock.specs.History.{entries, Begins};
 ghost use Rattle.turn_lock.specs.Seats.{first_seat, split_seat, joined_seat, IsSound, Turned};
@@ -209,6 +209,7 @@ impl<S: Logged> TurnLock<S> {
     pub fn close(self, seat: Seat<S>) -> Result<Closed<S>, (TurnLock<S>, Seat<S>)>
         requires seat { seat.lock ≡ self }
         ensures ok { IfOk result (λ c. (seat.parts ≡ 18446744073709551615) × S.stands c.state (entries seat.seen) × (seat.setup ≡ Some (S.setup c.state)) × (seat.tickets ≤ c.tickets)) }
+        ensures all { OnOk result (((place : ℕ) → place < length seat.seen → times place seat.own ≡ 1) × (length seat.own ≡ length seat.seen)) }
         ensures err { IfErr result (λ r. (seat.parts < 18446744073709551615) × (r.0 ≡ self) × (r.1 ≡ seat)) }
         ensures sound { IsSound S.step seat }
     {
