@@ -1,20 +1,19 @@
 -- Each step of the lock keeps the rule, and tells what it says.
-use Rattle.std.proofs.Common.{◌≡◌, ◌≢◌, ℕ, zero, suc, ◌+◌, ◌<◌, ◌≤◌, ◌⊎◌, inl, inr, eqb, List, [], ◌∷◌, ◌++◌, length, get_or, set, sym, refl, ap, ◌∙◌, subst, arith, ⊎_elim, length-set, get_or-set_same, get_or-set_other}
+use Rattle.std.proofs.Common.{◌≡◌, ◌≢◌, ℕ, zero, suc, ◌+◌, ◌<◌, ◌≤◌, inl, inr, eqb, List, [], ◌∷◌, length, get_or, set, sym, refl, ap, ◌∙◌, subst, arith, ⊎_elim, length-set, get_or-set_same, get_or-set_other}
 use Rattle.std.specs.Prelude.{Option, Some, None}
 use Rattle.std.proofs.lemmas.Option.{same_Some}
 use mathlib.Core.Option.{some, none, some-injective, some-ne-none}
-use mathlib.Core.List.{suffix_refl}
 use mathlib.Core.Logic.{dite}
 use native.Mathlib.Decide.{ℕ_discrete}
 use lib.ListN.{get_elem?}
 use prog.Atomic.{either}
-use Rattle.atomic_table.specs.Table.{State, Me, Step, step, stepped, keeps, takes, gives, put_back, rest, Valid, Allows, Splits, Joins, Final, Seen, carried_after, opening}
+use Rattle.atomic_table.specs.Table.{State, Me, step, stepped, keeps, takes, gives, put_back, rest, Valid, Allows, Splits, Joins, Final, Seen, carried_after, opening}
 use Rattle.atomic_table.proofs.Lists.{set_here, set_else, set_again, exchanged, at_longer}
 use Rattle.turn_lock.specs.declared.rule.View.{View}
 use Rattle.turn_lock.specs.declared.rule.Stage.{Stage}
 use Rattle.turn_lock.specs.declared.rule.Stage.TheVariants.{New, Idle, Waits, Out, Spent}
-use Rattle.turn_lock.specs.Counts.{times, total}
-use Rattle.turn_lock.specs.History.{entries, past_after, history_after, own_after, Begins, Legal, made_by}
+use Rattle.turn_lock.specs.Counts.{times}
+use Rattle.turn_lock.specs.History.{entries, past_after, history_after, own_after, Legal, made_by}
 use Rattle.turn_lock.specs.Seats.{IsSoundView}
 use Rattle.turn_lock.specs.Rule.{HasTicket, tickets_of, Live, Seated, newcomer, kept_of, given_of, both_of, spent_view, Roster, Queue, IsOut, AtHome, Kept, looked_at, drew, entered, left_by, begun, learned}
 use Rattle.turn_lock.proofs.Counting.{total_at, total_two, total_alone, made_by-nil, made_by_once, legal_begins, legal_after}
@@ -298,20 +297,20 @@ module _ {S U E C R : Type 0} (setup : S → U) (stands : S → List E → Type 
       let f = k.roster.fits id v at in
       let seated = seated_at v.stage Idle idle tt in
       let none_left : (j : ℕ) (u : View U E) → j ≢ id → get_elem? s.views j ≡ some u → u.parts ≡ 0
-          = λ j u ne e. let t = total_two (λ (z : View U E). z.parts) s.views j id u v ne e at in let p = k.roster.parts in omega arith in
+      = λ j u ne e. let t = total_two (λ (z : View U E). z.parts) s.views j id u v ne e at in let p = k.roster.parts in omega arith in
       let spent : (j : ℕ) (u : View U E) → get_elem? s.views j ≡ some u → Live u.stage → j ≡ id
-          = λ j u e live. dite (ℕ_discrete j id) (λ is. is) (λ ne. let z = none_left j u ne e in let one = (k.roster.fits j u e).part live in absurd (omega arith)) in
+      = λ j u e live. dite (ℕ_discrete j id) (λ is. is) (λ ne. let z = none_left j u ne e in let one = (k.roster.fits j u e).part live in absurd (omega arith)) in
       let w = k.roster.whole in
       let all : v.seen ≡ k.history = ap (λ (z : View U E). z.seen) (same_at s.views id w.0 v w.1 (sym (spent w.0 w.1 w.2 w.3)) at w.2) ∙ w.4 in
       let covered : (p : ℕ) → p < length k.history → times p v.own ≡ 1
-          = λ p some.
-              let g = λ (u : View U E). made_by u.numbers k.history p in
-              let alone = total_alone g s.views id v at (λ j u ne e. ap (λ ns. made_by ns k.history p) ((k.roster.fits j u e).gone (none_left j u ne e)).0 ∙ made_by-nil k.history p) in
-              let old = k.roster.covered p some in
-              let most = made_by_once v.numbers k.history p (λ n. let t = total_at (λ (u : View U E). times n u.numbers) s.views id v at in let o = k.roster.once n in omega arith) in
-              let is = f.owns p in omega arith in
+      = λ p some.
+      let g = λ (u : View U E). made_by u.numbers k.history p in
+      let alone = total_alone g s.views id v at (λ j u ne e. ap (λ ns. made_by ns k.history p) ((k.roster.fits j u e).gone (none_left j u ne e)).0 ∙ made_by-nil k.history p) in
+      let old = k.roster.covered p some in
+      let most = made_by_once v.numbers k.history p (λ n. let t = total_at (λ (u : View U E). times n u.numbers) s.views id v at in let o = k.roster.once n in omega arith) in
+      let is = f.owns p in omega arith in
       let shared : length v.own ≡ length k.history
-          = sym (total_alone (λ (u : View U E). length u.own) s.views id v at (λ j u ne e. ap length ((k.roster.fits j u e).gone (none_left j u ne e)).1)) ∙ k.roster.shared in (
+      = sym (total_alone (λ (u : View U E). length u.own) s.views id v at (λ j u ne e. ap length ((k.roster.fits j u e).gone (none_left j u ne e)).1)) ∙ k.roster.shared in (
         ⊎_elim
             (λ (home : AtHome setup stands step_of about k.history s.homes). (
               home.0,
@@ -321,8 +320,8 @@ module _ {S U E C R : Type 0} (setup : S → U) (stands : S → List E → Type 
               subst (λ z. v.tickets ≤ get_or z 0 0) words f.looked,
             ))
             (λ (out : IsOut (get_or s.words 1 0) s.views).
-                let who = spent out.0 out.1 out.2 (subst Live (sym out.3) tt) in
-                let bad : Out (get_or s.words 1 0) ≡ Idle = sym out.3 ∙ (ap (λ (z : View U E). z.stage) (same_at s.views out.0 id out.1 v who out.2 at) ∙ idle) in absurd cc)
+            let who = spent out.0 out.1 out.2 (subst Live (sym out.3) tt) in
+            let bad : Out (get_or s.words 1 0) ≡ Idle = sym out.3 ∙ (ap (λ (z : View U E). z.stage) (same_at s.views out.0 id out.1 v who out.2 at) ∙ idle) in absurd cc)
             k.place,
         subst (λ h. (p : ℕ) → p < length h → times p v.own ≡ 1) (sym all) covered,
         shared ∙ ap length (sym all),

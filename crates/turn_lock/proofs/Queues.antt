@@ -8,8 +8,7 @@ use Rattle.atomic_table.proofs.Lists.{at_set, set_else, at_snoc}
 use Rattle.turn_lock.specs.declared.rule.View.{View}
 use Rattle.turn_lock.specs.declared.rule.Stage.{Stage}
 use Rattle.turn_lock.specs.declared.rule.Stage.TheVariants.{New, Idle, Waits, Out, Spent}
-use Rattle.turn_lock.specs.Counts.{total}
-use Rattle.turn_lock.specs.Rule.{HasTicket, tickets_of, newcomer, Queue, IsOut}
+use Rattle.turn_lock.specs.Rule.{HasTicket, tickets_of, Queue, IsOut}
 use Rattle.turn_lock.proofs.Counting.{total_set, total_snoc}
 use Rattle.turn_lock.proofs.Rosters.{each_set, set_there, same_at}
 

@@ -1,6 +1,6 @@
 -- The steps keep what is true of the seats' numbers, parts and what they have seen.
-use Rattle.std.proofs.Common.{◌≡◌, ◌≢◌, ℕ, zero, suc, ◌+◌, ◌-◌, ◌<◌, ◌≤◌, ◌⊎◌, inl, inr, List, [], ◌∷◌, ◌++◌, length, set, sym, refl, ap, ◌∙◌, subst, arith, ⊎_elim, length-set, length-append}
-use Rattle.std.specs.Prelude.{Option, Some, None, ⊤}
+use Rattle.std.proofs.Common.{◌≡◌, ◌≢◌, ℕ, zero, suc, ◌+◌, ◌<◌, ◌≤◌, ◌⊎◌, inl, inr, List, [], ◌∷◌, ◌++◌, length, set, sym, refl, ap, ◌∙◌, subst, arith, ⊎_elim, length-set, length-append}
+use Rattle.std.specs.Prelude.{Option, Some, None}
 use mathlib.Core.Option.{some, some-injective, some-ne-none}
 use mathlib.Core.List.{suffix_refl, nil-suffix, IsSuffix-trans}
 use mathlib.Core.Logic.{dite}
@@ -11,8 +11,8 @@ use Rattle.turn_lock.specs.declared.rule.View.{View}
 use Rattle.turn_lock.specs.declared.rule.Stage.{Stage}
 use Rattle.turn_lock.specs.declared.rule.Stage.TheVariants.{New, Idle, Waits, Out, Spent}
 use Rattle.turn_lock.specs.Counts.{times, total}
-use Rattle.turn_lock.specs.History.{Begins, history_after, own_after, made_by, Owns}
-use Rattle.turn_lock.specs.Seats.{longer, shorter}
+use Rattle.turn_lock.specs.History.{Begins, history_after, own_after, made_by}
+use Rattle.turn_lock.specs.Seats.{longer}
 use Rattle.turn_lock.specs.Rule.{Live, Seated, newcomer, kept_of, given_of, both_of, spent_view, Fits, Unused, Roster}
 use Rattle.turn_lock.proofs.Counting.{total_set, total_snoc, total_at, total_two, total_same, total_le, times-append, times_other, times_self, made_by-nil, made_by-append, made_by_last, made_by_less, made_by-begins, made_by_another, owns_one_more, owns-append, owns_between, begins_after, shorter_begins, longer_begins, begin_longer, longer_whole, longer_whole_right}
 
@@ -175,9 +175,9 @@ module _ {U E : Type 0} (setup : U) where
             let more : List (ℕ × E) = (v.number, e) ∷ h in
             let g = λ (u : View U E). made_by u.numbers more p in
             subst (λ t. 1 ≤ t) (sym (total_same g vs id v w at (ap (λ ns. made_by ns more p) numbers)))
-                (dite (ℕ_discrete p (length h))
-                (λ is. let last = made_by_last v.numbers v.number e h one in let t = total_at g vs id v at in let here : made_by v.numbers more p ≡ made_by v.numbers more (length h) = ap (made_by v.numbers more) is in omega arith)
-                (λ ne. let old = r.covered p (omega arith) in let le = total_le (λ (u : View U E). made_by u.numbers h p) g (λ u. made_by_less u.numbers (v.number, e) h p) vs in omega arith));
+            (dite (ℕ_discrete p (length h))
+            (λ is. let last = made_by_last v.numbers v.number e h one in let t = total_at g vs id v at in let here : made_by v.numbers more p ≡ made_by v.numbers more (length h) = ap (made_by v.numbers more) is in omega arith)
+            (λ ne. let old = r.covered p (omega arith) in let le = total_le (λ (u : View U E). made_by u.numbers h p) g (λ u. made_by_less u.numbers (v.number, e) h p) vs in omega arith));
         shared = let s = total_set (λ (u : View U E). length u.own) vs id v w at in let l = r.shared in let o : length w.own ≡ suc (length v.own) = ap length own in omega arith;
         whole = (id, w, set_there vs id w v at, live_of w.stage seated, all);
       }

@@ -10,6 +10,7 @@ use crate::lock::Worn;
 use crate::logged::Logged;
 use crate::rule::{Amount, Begin, Both, Cut, Draw, Enter, InTurn, Learn, Leave, Look, Said, View};
 use atomic_table::Shared;
+use std::hint::spin_loop;
 use std::marker::Brand;
 use std::snapshot::Snapshot;
 use std::sync::Wait;
@@ -29,6 +30,11 @@ pub type Place<S> = atomic_table::Seat<Option<S>, View<<S as Logged>::Setup, <S 
 const NEXT: usize = 0;
 
 const SERVED: usize = 1;
+
+/// How often a seat that waits looks again at once, and how often it then lets others run, before it sleeps.
+const SPINS: u32 = 40;
+
+const YIELDS: u32 = 40;
 
 /// Looks at the ticket word.
 fn look_at_tickets<S: Logged>(board: &Board<S>, place: &mut Place<S>) -> u64
@@ -109,18 +115,18 @@ pub fn wait_turn<S: Logged, R: Wait>(rt: &R, board: &Board<S>, place: &mut Place
     unreachable!()
 }
 
-/// Lets others run for the first looks, and then sleeps until the word of the ticket served has changed.
+/// Looks again at once at first, then lets others run, and then sleeps until the word of the ticket served has changed.
 fn rest_a_while<S: Logged, R: Wait>(rt: &R, board: &Board<S>, served: u64, looks: u32)
     requires { board.now.table_id.words ≡ 2 }
 {
-    if looks < LOOKS {
+    if looks < SPINS {
+        spin_loop();
+    } else if looks < SPINS + YIELDS {
         thread::yield_now();
     } else {
         board.park(rt, SERVED, (served % (1 << 32)) as u32);
     }
 }
-
-const LOOKS: u32 = 100;
 
 /// Serves the next: the state goes home, and the turn's entry goes behind all that the seat saw.
 fn serve_next<S: Logged, W: Said<S::Call>, X: Said<S::Reply>>(

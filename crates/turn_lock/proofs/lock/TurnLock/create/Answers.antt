@@ -1,4 +1,4 @@
-use Rattle.std.proofs.Common.{rules, ◌≡◌, [], ◌∷◌, Some, subst, sym, refl, ap}
+use Rattle.std.proofs.Common.{rules, ◌≡◌, [], ◌∷◌, Some, subst, sym, ap}
 use Rattle.atomic_table.specs.Table.{opening}
 use Rattle.turn_lock.specs.Rule.{Kept, newcomer}
 use Rattle.turn_lock.proofs.Keeps.{opens}
