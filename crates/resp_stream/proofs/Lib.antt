@@ -1,0 +1,11 @@
+pub mod Begun
+pub mod Behind
+pub mod Capped
+pub mod Compose
+pub mod Fitting
+pub mod Line
+pub mod Places
+pub mod Readers
+pub mod RequestLaws
+pub mod Telling
+pub mod Words
