@@ -18,7 +18,7 @@ use Rattle.resp_stream.proofs.Behind.{behind_bad}
 pub fresh : (before : ℕ) (rest : List ℕ) (p : Progress) (broken : Option StreamFault) → p ≡ Line 0 → Kept before rest broken → Ready before rest p broken
 fresh before rest p broken e k = record { stands = subst (λ (q : Progress). Stands rest q) (sym e) (omega arith, passed_none true line_limit rest); kept = k }
 
-not_memory : (g : Fault) (o : ℕ) → NotMemory (stream_fault g o)
+pub not_memory : (g : Fault) (o : ℕ) → NotMemory (stream_fault g o)
 not_memory fault.BadByte o = tt
 not_memory (fault.TooLong n) o = tt
 not_memory fault.TooDeep o = tt

@@ -4,5 +4,8 @@ pub mod Laws
 pub mod Parts
 pub mod Request
 pub mod Requests
+pub mod Stack
 pub mod Steps
 pub mod Stream
+pub mod Value
+pub mod Values

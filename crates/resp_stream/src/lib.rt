@@ -2,10 +2,15 @@
 #![tactic(auto)]
 
 mod fault;
+mod leaf;
 mod parts;
 mod request;
 mod request_reader;
 mod rest;
+mod stack;
+mod value;
+mod value_reader;
 
 pub use fault::StreamFault;
 pub use request_reader::RequestReader;
+pub use value_reader::ValueReader;

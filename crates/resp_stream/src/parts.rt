@@ -1,7 +1,7 @@
 // The parts of values and requests: ends, lengths, counted bytes.
 ghost use Rattle.std.specs.Prelude.{◌≡◌, ℕ, ◌≤◌, ◌<◌, ◌^◌, length, take, List, ◌∷◌, [], IfNone, IfSome};
 ghost use Rattle.resp_stream.specs.declared.parts.LengthRule.{LengthRule};
-ghost use Rattle.resp_stream.specs.Gives.{Gives};
+ghost use Rattle.resp_stream.specs.Gives.{Gives, IfLength};
 ghost use Rattle.resp_stream.specs.Parts.{only_byte, line_feed, ending, digits_at, length_at, counted_at, minus_one, IsRule, ends_line, refused, line_at, Passed};
 
 use super::fault::{Broken, Fault};
@@ -78,7 +78,8 @@ fn digits_of(
 ) -> Result<Option<(Option<u64>, &[u8])>, Broken>
     requires rule { IsRule rule }
     requires first { first ≤ rule.limit }
-    ensures { Gives (λ x. (x.0, x.1.now)) result (digits_at rule first bytes.now) }
+    ensures gives { Gives (λ x. (x.0, x.1.now)) result (digits_at rule first bytes.now) }
+    ensures limit { IfLength result rule.limit }
 {
     let mut number = first;
     let mut rest = bytes;
@@ -117,7 +118,8 @@ pub(crate) fn length_of(
     bytes: &[u8],
 ) -> Result<Option<(Option<u64>, &[u8])>, Broken>
     requires { IsRule rule }
-    ensures { Gives (λ x. (x.0, x.1.now)) result (length_at rule bytes.now) }
+    ensures gives { Gives (λ x. (x.0, x.1.now)) result (length_at rule bytes.now) }
+    ensures limit { IfLength result rule.limit }
 {
     let [c, rest @ ..] = bytes else {
         return Ok(None);
