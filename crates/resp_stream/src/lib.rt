@@ -14,3 +14,6 @@ mod value_reader;
 pub use fault::StreamFault;
 pub use request_reader::RequestReader;
 pub use value_reader::ValueReader;
+
+#[cfg(test)]
+mod tests;
