@@ -6,3 +6,6 @@ mod printed;
 
 pub use command::{Command, Done, Signalled, WordFault, read_command};
 pub use printed::put_printed;
+
+#[cfg(test)]
+mod tests;
