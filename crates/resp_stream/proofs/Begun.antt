@@ -1,10 +1,9 @@
 -- A request by its first byte.
-use Rattle.std.proofs.Common.{◌≡◌, ◌≢◌, ℕ, zero, suc, ◌+◌, ◌-◌, ◌<◌, ◌≤◌, List, [], ◌∷◌, ◌++◌, refl, sym, ap, subst, ◌∙◌, Bool, true, false, cond, length, take, drop, arith, Option, Some, None}
-use Rattle.std.specs.Prelude.{nat_eq}
-use Rattle.std.proofs.lemmas.Bool.{ne_eqb, eq-eqb}
+use Rattle.std.proofs.Common.{◌≡◌, ◌≢◌, ℕ, ◌-◌, List, [], ◌∷◌, ◌++◌, refl, sym, ap, ◌∙◌, true, cond, length, arith, Option, Some, None}
+use Rattle.std.proofs.lemmas.Bool.{ne_eqb}
 use Rattle.resp_stream.specs.declared.fault.Fault.{Fault}
 use Rattle.resp_stream.specs.Answer.{Answer, Whole, More, Bad, ◌>>=◌}
-use Rattle.resp_stream.specs.Parts.{line_at, length_at, many, Passed}
+use Rattle.resp_stream.specs.Parts.{line_at, length_at, many}
 use Rattle.resp_stream.specs.Request.{line_limit, words_rule, words_behind, word_at, listed, inline_at, array_at, request_begun}
 use Rattle.resp_stream.specs.Steps.{with_more, Within}
 use Rattle.resp_stream.proofs.Readers.{reader_line, reader_length}

@@ -1,12 +1,11 @@
 -- What stands behind empty requests.
-use Rattle.std.proofs.Common.{◌≡◌, ℕ, zero, suc, ◌+◌, ◌-◌, ◌<◌, ◌≤◌, List, [], ◌∷◌, ◌++◌, refl, sym, ap, subst, ◌∙◌, length, take, drop, arith}
+use Rattle.std.proofs.Common.{◌≡◌, ℕ, zero, suc, ◌-◌, ◌<◌, ◌≤◌, List, [], ◌∷◌, refl, sym, ap, ◌∙◌, length, arith}
 use Rattle.resp_stream.specs.declared.fault.Fault.{Fault}
 use Rattle.resp_stream.specs.Answer.{Answer, Whole, More, Bad}
-use Rattle.resp_stream.specs.Parts.{capped}
 use Rattle.resp_stream.specs.Request.{whole_limit, request_begun, request_at, after_empty, behind_in, behind}
 use Rattle.resp_stream.proofs.RequestLaws.{reader_request}
 use Rattle.resp_stream.proofs.Capped.{capped_whole}
-use Rattle.resp_stream.proofs.Places.{Goes, reads_on}
+use Rattle.resp_stream.proofs.Places.{reads_on}
 
 begun_none : request_begun [] ≡ More
 unfolding request_begun

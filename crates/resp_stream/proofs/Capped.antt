@@ -1,9 +1,9 @@
 -- Reading under the limit of the whole.
-use Rattle.std.proofs.Common.{◌≡◌, ℕ, zero, suc, ◌+◌, ◌-◌, ◌<◌, ◌≤◌, List, [], ◌∷◌, ◌++◌, refl, sym, ap, subst, ◌∙◌, Bool, true, false, cond, length, take, drop, arith}
+use Rattle.std.proofs.Common.{◌≡◌, ℕ, ◌+◌, ◌-◌, ◌<◌, ◌≤◌, List, refl, ap, ◌∙◌, Bool, true, false, cond, length, drop, arith}
 use Rattle.std.specs.Prelude.{nat_lt}
-use Rattle.std.proofs.lemmas.Bool.{lt-ltb, le-ltb, ltb-false, ltb-true}
+use Rattle.std.proofs.lemmas.Bool.{lt-ltb, le-ltb, ltb-false}
 use Rattle.resp_stream.specs.declared.fault.Fault.{Fault}
-use Rattle.resp_stream.specs.declared.fault.Fault.TheVariants.{BadByte, TooLong, TooDeep, NotServed}
+use Rattle.resp_stream.specs.declared.fault.Fault.TheVariants.{TooLong}
 use Rattle.resp_stream.specs.Answer.{Answer, Whole, More, Bad}
 use Rattle.resp_stream.specs.Parts.{capped, limited}
 

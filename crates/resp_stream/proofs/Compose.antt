@@ -1,7 +1,5 @@
 -- Readers put together are readers.
-use Rattle.std.proofs.Common.{◌≡◌, ℕ, List, [], ◌∷◌, ◌++◌, refl, sym, ap, subst, ◌∙◌, append_assoc, ◌⊎◌, inl, inr, Bool, true, false, cond, zero, suc, ◌+◌, ◌<◌, ◌≤◌, length, take, drop, arith}
-use Rattle.std.proofs.lemmas.List.{take-append-drop, take-append-le, drop-append-le, length-append, length-take-le, length-drop}
-use Rattle.std.proofs.lemmas.Bool.{ltb-false, le-ltb, eq-eqb}
+use Rattle.std.proofs.Common.{◌≡◌, ℕ, List, [], ◌∷◌, ◌++◌, refl, sym, ap, ◌∙◌, append_assoc, ◌⊎◌, inl, inr, Bool, true, false, cond}
 use Rattle.resp_stream.specs.declared.fault.Fault.{Fault}
 use Rattle.resp_stream.specs.Answer.{Answer, Whole, More, Bad, Choice, Go, Stop, Move, On, Out, taken, moved, scan, first, ◌>>=◌}
 use Rattle.resp_stream.specs.Laws.{Took, Met, Completes, IsReader}

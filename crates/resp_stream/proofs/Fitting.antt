@@ -1,13 +1,13 @@
 -- A request under the limit of the whole, and behind empty ones.
-use Rattle.std.proofs.Common.{◌≡◌, ℕ, zero, suc, ◌+◌, ◌-◌, ◌<◌, ◌≤◌, List, [], ◌∷◌, ◌++◌, refl, sym, ap, subst, ◌∙◌, Bool, true, false, cond, length, take, drop, arith, Result, Ok, Err}
+use Rattle.std.proofs.Common.{◌≡◌, ℕ, ◌+◌, ◌-◌, ◌<◌, ◌≤◌, List, [], ◌∷◌, refl, sym, ap, subst, ◌∙◌, Bool, true, false, cond, length, drop, arith, Ok}
 use Rattle.std.specs.Prelude.{nat_lt}
 use Rattle.std.proofs.lemmas.List.{length-drop, drop-drop}
-use Rattle.std.proofs.lemmas.Bool.{ltb-true, ltb-false}
+use Rattle.std.proofs.lemmas.Bool.{ltb-true}
 use Rattle.resp_stream.specs.declared.fault.Fault.{Fault}
 use Rattle.resp_stream.specs.declared.fault.Fault.TheVariants.{TooLong}
 use Rattle.resp_stream.specs.declared.request.Reading.{Reading}
 use Rattle.resp_stream.specs.declared.request.Reading.TheVariants as reading
-use Rattle.resp_stream.specs.Answer.{Answer, Whole, More, Bad}
+use Rattle.resp_stream.specs.Answer.{Whole, More, Bad}
 use Rattle.resp_stream.specs.Parts.{limited, at_limit}
 use Rattle.resp_stream.specs.Request.{whole_limit, request_begun, request_at, behind}
 use Rattle.resp_stream.specs.Steps.{ReadingGives, Behind}

@@ -1,12 +1,11 @@
 -- A line byte by byte.
-use Rattle.std.proofs.Common.{◌≡◌, ℕ, zero, suc, ◌+◌, ◌<◌, ◌≤◌, ◌≢◌, List, [], ◌∷◌, ◌++◌, refl, sym, ap, subst, ◌∙◌, append_assoc, Bool, true, false, cond, length, get_or, take, drop, drop-cons, add-one, arith}
+use Rattle.std.proofs.Common.{◌≡◌, ℕ, ◌+◌, ◌<◌, ◌≤◌, ◌≢◌, List, [], ◌∷◌, ◌++◌, refl, sym, ap, subst, ◌∙◌, append_assoc, Bool, true, false, cond, length, get_or, take, drop, drop-cons, add-one, arith}
 use Rattle.std.specs.Prelude.{nat_eq, nat_lt}
 use Rattle.std.proofs.lemmas.Bool.{ne_eqb, eq-eqb, lt-ltb, le-ltb}
 use Rattle.std.proofs.lemmas.List.{take-append-drop, length-take-le, length-drop, take_all, take-append-le}
 use Rattle.std.proofs.Math.Seq.{take-suc}
-use Rattle.resp_stream.specs.declared.fault.Fault.{Fault}
 use Rattle.resp_stream.specs.declared.fault.Fault.TheVariants.{BadByte, TooLong}
-use Rattle.resp_stream.specs.Answer.{Answer, Whole, More, Bad, Choice, Go, Stop, Move, On, Out, moved, scan}
+use Rattle.resp_stream.specs.Answer.{Whole, More, Bad, Go, Stop, Move, On, Out, moved, scan}
 use Rattle.resp_stream.specs.Parts.{line_feed, ends_line, refused, line_move, line_at, Passed}
 use Rattle.resp_stream.proofs.Compose.{append_nil}
 

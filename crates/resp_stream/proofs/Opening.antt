@@ -1,5 +1,5 @@
 -- An aggregate by its head.
-use Rattle.std.proofs.Common.{◌≡◌, ◌≢◌, ℕ, zero, suc, ◌+◌, ◌-◌, ◌<◌, ◌≤◌, List, [], ◌∷◌, ◌++◌, refl, sym, ap, subst, ◌∙◌, Bool, true, false, cond, length, arith, Option, Some, None}
+use Rattle.std.proofs.Common.{◌≡◌, ◌≢◌, ℕ, zero, suc, ◌-◌, ◌<◌, List, [], ◌∷◌, ◌++◌, refl, sym, ap, subst, ◌∙◌, Bool, true, false, cond, arith, Some, None}
 use Rattle.std.specs.Prelude.{nat_eq}
 use Rattle.resp_stream.specs.declared.fault.Fault.{Fault}
 use Rattle.resp_stream.specs.declared.fault.Fault.TheVariants.{BadByte}
@@ -8,7 +8,7 @@ use Rattle.resp_stream.specs.declared.value.Kind.TheVariants.{Array, Map, Set, P
 use Rattle.resp_stream.specs.declared.value.Mark.{Mark}
 use Rattle.resp_stream.specs.declared.value.Mark.TheVariants as mark
 use Rattle.resp_value.specs.Tree.{Tree, null_array}
-use Rattle.resp_stream.specs.Answer.{Answer, Whole, More, Bad, Choice, Go, Stop, taken, ◌>>=◌}
+use Rattle.resp_stream.specs.Answer.{Whole, More, Bad, Go, Stop, taken, ◌>>=◌}
 use Rattle.resp_stream.specs.Parts.{length_at, many}
 use Rattle.resp_stream.specs.Value.{rule_of, elements, build, elements_at, aggregate_at, may_stand, mark_of, choice_of, too_deep, deeper, opening, value_in}
 use Rattle.resp_stream.specs.Stack.{Opened}

@@ -4,7 +4,7 @@ use Rattle.std.proofs.lemmas.List.{length-append, length-drop, take-append-drop}
 use Rattle.std.proofs.Math.Seq.{drop-append_seam}
 use Rattle.resp_stream.specs.declared.fault.Fault.{Fault}
 use Rattle.resp_stream.specs.Answer.{Answer, Whole, More, Bad}
-use Rattle.resp_stream.specs.Laws.{Took, Met, IsReader}
+use Rattle.resp_stream.specs.Laws.{IsReader}
 
 -- what was read whole is read the same with more behind it
 pub steady : {A : Type 0} (f : List ℕ → Answer A) → IsReader f → (b r : List ℕ) (x : A) → f b ≡ Whole x r → (m : List ℕ) → f (b ++ m) ≡ Whole x (r ++ m)

@@ -1,16 +1,16 @@
 -- Each part of the format is a reader.
-use Rattle.std.proofs.Common.{◌≡◌, ℕ, zero, suc, ◌+◌, ◌-◌, ◌*◌, ◌<◌, ◌≤◌, List, [], ◌∷◌, ◌++◌, refl, sym, ap, subst, ◌∙◌, Bool, true, false, cond, length, take, drop, arith, Option, Some, None}
+use Rattle.std.proofs.Common.{◌≡◌, ℕ, zero, suc, ◌+◌, ◌-◌, ◌*◌, ◌<◌, ◌≤◌, List, [], ◌∷◌, ◌++◌, refl, sym, ap, ◌∙◌, Bool, true, false, cond, length, take, drop, arith, Some, None}
 use Rattle.std.proofs.lemmas.List.{take-append-drop, length-append, length-take-le}
 use Rattle.std.proofs.Math.Seq.{take-append_seam, drop-append_seam}
 use Rattle.std.proofs.lemmas.Bool.{ltb-false, ltb-true, le-ltb, eq-eqb}
 use Rattle.std.specs.Prelude.{nat_lt, nat_eq}
 use Rattle.resp_stream.specs.declared.fault.Fault.{Fault}
-use Rattle.resp_stream.specs.declared.fault.Fault.TheVariants.{BadByte, TooLong, TooDeep, NotServed}
+use Rattle.resp_stream.specs.declared.fault.Fault.TheVariants.{BadByte, TooLong}
 use Rattle.resp_stream.specs.declared.parts.LengthRule.{LengthRule}
-use Rattle.resp_stream.specs.Answer.{Answer, Whole, More, Bad, Choice, Go, Stop, Move, On, Out, taken, moved, scan, first, ◌>>=◌}
-use Rattle.resp_stream.specs.Laws.{Took, Met, Completes, IsReader}
-use Rattle.resp_stream.specs.Parts.{IsRule, only_byte, line_feed, ending, length_end, digit_move, digits_at, minus_one, length_by, length_at, ends_line, refused, line_move, line_at, bytes_at, counted_at, many}
-use Rattle.resp_stream.proofs.Compose.{reader_then, reader_whole, reader_scan, reader_first, IsChoice, IsMove, choice_if, move_if, append_nil}
+use Rattle.resp_stream.specs.Answer.{Answer, Whole, More, Bad, Go, Stop, On, Out, taken, moved, scan, ◌>>=◌}
+use Rattle.resp_stream.specs.Laws.{Took, Completes, IsReader}
+use Rattle.resp_stream.specs.Parts.{IsRule, only_byte, line_feed, ending, digit_move, digits_at, minus_one, length_by, length_at, ends_line, refused, line_move, line_at, bytes_at, counted_at, many}
+use Rattle.resp_stream.proofs.Compose.{reader_then, reader_whole, reader_scan, reader_first, IsMove, choice_if, move_if, append_nil}
 
 pub reader_only : (b : ℕ) → IsReader (only_byte b)
 unfolding only_byte

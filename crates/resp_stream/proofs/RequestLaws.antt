@@ -1,10 +1,9 @@
 -- A request is read by a reader.
-use Rattle.std.proofs.Common.{◌≡◌, ℕ, zero, suc, ◌+◌, ◌-◌, ◌<◌, ◌≤◌, List, [], ◌∷◌, ◌++◌, refl, sym, ap, subst, ◌∙◌, Bool, true, false, cond, length, take, drop, arith, Option, Some, None, lit<, lit≤}
-use Rattle.std.specs.Prelude.{nat_lt, nat_eq}
-use Rattle.resp_stream.specs.declared.fault.Fault.{Fault}
-use Rattle.resp_stream.specs.Answer.{Answer, Whole, More, Bad, Choice, Go, Stop, Move, On, Out, taken, moved, scan, first, ◌>>=◌}
-use Rattle.resp_stream.specs.Laws.{Took, Met, Completes, IsReader}
-use Rattle.resp_stream.specs.Parts.{IsRule, only_byte, length_at, counted_at, many, line_move, line_at}
+use Rattle.std.proofs.Common.{◌≡◌, ℕ, List, [], ◌∷◌, ◌++◌, refl, sym, ◌∙◌, Bool, true, false, cond, Option, Some, None, lit<, lit≤}
+use Rattle.std.specs.Prelude.{nat_eq}
+use Rattle.resp_stream.specs.Answer.{Answer, Whole, Choice, Go, Stop, Move, On, Out, taken, moved, scan, first, ◌>>=◌}
+use Rattle.resp_stream.specs.Laws.{IsReader}
+use Rattle.resp_stream.specs.Parts.{IsRule, only_byte, length_at, line_move, line_at}
 use Rattle.resp_stream.specs.Request.{line_limit, words_rule, word_rule, words_behind, inline_at, sized, word_at, listed, array_at, request_begun}
 use Rattle.resp_stream.proofs.Compose.{reader_then, reader_whole, reader_first, IsChoice, IsMove, choice_if}
 use Rattle.resp_stream.proofs.Readers.{reader_only, reader_length, reader_counted, reader_many, reader_text, line_choices}

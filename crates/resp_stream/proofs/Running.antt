@@ -1,7 +1,7 @@
 -- A step over the whole text.
-use Rattle.std.proofs.Common.{◌≡◌, ℕ, zero, suc, ◌+◌, ◌-◌, ◌<◌, ◌≤◌, List, [], ◌∷◌, ◌++◌, refl, sym, ap, subst, ◌∙◌, append_assoc, length, take, drop, reverse, add-one, arith, Result, Ok, Err}
+use Rattle.std.proofs.Common.{◌≡◌, ℕ, suc, ◌-◌, ◌<◌, List, [], ◌∷◌, ◌++◌, sym, ap, subst, ◌∙◌, length, drop, reverse, arith}
 use Rattle.resp_stream.specs.declared.stack.Frame.{Frame}
-use Rattle.resp_stream.specs.Answer.{Answer, Whole, More, Bad, ◌>>=◌}
+use Rattle.resp_stream.specs.Answer.{Whole, More, Bad, ◌>>=◌}
 use Rattle.resp_stream.specs.Gives.{StopGives}
 use Rattle.resp_stream.specs.declared.fault.ReadStop.{ReadStop}
 use Rattle.resp_stream.specs.declared.fault.ReadStop.TheVariants as stop
@@ -14,7 +14,7 @@ use Rattle.resp_value.specs.Tree.{Tree}
 use Rattle.resp_value.specs.Of.{tree_of}
 use Rattle.resp_stream.specs.Parts.{many}
 use Rattle.resp_stream.specs.Value.{build, value_in}
-use Rattle.resp_stream.specs.Stack.{Stands, Has, Seen, Opened, IsStep}
+use Rattle.resp_stream.specs.Stack.{Stands, Has, Opened, IsStep}
 use Rattle.resp_stream.proofs.ValueLaws.{reader_value, no_value}
 use Rattle.resp_stream.proofs.StackSteps.{has_leaf, opens, needs_more, is_bad}
 use Rattle.resp_stream.proofs.Closing.{pushed}

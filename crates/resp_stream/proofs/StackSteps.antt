@@ -1,15 +1,15 @@
 -- The steps of a reader with a stack.
-use Rattle.std.proofs.Common.{◌≡◌, ℕ, zero, suc, ◌+◌, ◌≤◌, List, [], ◌∷◌, ◌++◌, refl, sym, ap, subst, ◌∙◌, append_assoc, length, take, drop, reverse, false, arith}
+use Rattle.std.proofs.Common.{◌≡◌, ℕ, suc, ◌≤◌, List, [], ◌∷◌, ◌++◌, refl, sym, ap, subst, ◌∙◌, append_assoc, length, drop, false, arith}
 use Rattle.std.proofs.lemmas.List.{length-append, drop-append-le}
 use Rattle.resp_value.specs.Tree.{Tree}
 use Rattle.resp_stream.specs.declared.fault.Fault.{Fault}
 use Rattle.resp_stream.specs.declared.stack.Frame.{Frame}
 use Rattle.resp_stream.specs.declared.value.Kind.{Kind}
 use Rattle.resp_stream.specs.Answer.{Answer, Whole, More, Bad, ◌>>=◌}
-use Rattle.resp_stream.specs.Parts.{many, Passed}
+use Rattle.resp_stream.specs.Parts.{many}
 use Rattle.resp_stream.specs.Request.{line_limit}
 use Rattle.resp_stream.specs.Value.{build, value_in}
-use Rattle.resp_stream.specs.Stack.{rest_of, resume, Stands, Has, Seen, Opened}
+use Rattle.resp_stream.specs.Stack.{rest_of, resume, Stands, Has, Seen}
 use Rattle.resp_stream.proofs.Compose.{append_nil}
 use Rattle.resp_stream.proofs.Line.{passed_none, passed_grows}
 use Rattle.resp_stream.proofs.ValueLaws.{reader_value}

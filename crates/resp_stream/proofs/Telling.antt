@@ -1,5 +1,5 @@
 -- What a reader of requests keeps of a fault, and tells.
-use Rattle.std.proofs.Common.{◌≡◌, ℕ, ◌+◌, ◌-◌, ◌<◌, ◌≤◌, List, [], refl, sym, ap, subst, ◌∙◌, Bool, true, false, length, take, drop, arith, Option, Some, None}
+use Rattle.std.proofs.Common.{◌≡◌, ℕ, ◌-◌, ◌≤◌, List, sym, ap, subst, ◌∙◌, Bool, true, length, drop, arith, Option, Some}
 use Rattle.std.proofs.lemmas.List.{length-drop}
 use Rattle.resp_stream.specs.declared.fault.Fault.{Fault}
 use Rattle.resp_stream.specs.declared.fault.Fault.TheVariants as fault
@@ -7,11 +7,11 @@ use Rattle.resp_stream.specs.declared.fault.StreamFault.{StreamFault}
 use Rattle.resp_stream.specs.declared.fault.StreamFault.TheVariants.{BadByte, TooLong, TooDeep, NotServed, NoMemory}
 use Rattle.resp_stream.specs.declared.request.Progress.{Progress}
 use Rattle.resp_stream.specs.declared.request.Progress.TheVariants.{Line}
-use Rattle.resp_stream.specs.Answer.{Answer, Whole, More, Bad}
+use Rattle.resp_stream.specs.Answer.{Bad}
 use Rattle.resp_stream.specs.Request.{line_limit, request_at, behind}
 use Rattle.resp_stream.specs.Steps.{Behind, Stands}
-use Rattle.resp_stream.specs.Stream.{Stream, offset_by, moved_on, stream_fault}
-use Rattle.resp_stream.specs.Requests.{skipped, Faulty, FaultGives, NotMemory, IsTold, Kept, Ready}
+use Rattle.resp_stream.specs.Stream.{Stream, offset_by, stream_fault}
+use Rattle.resp_stream.specs.Requests.{skipped, Faulty, FaultGives, NotMemory, Kept, Ready}
 use Rattle.resp_stream.proofs.Line.{passed_none}
 use Rattle.resp_stream.proofs.Behind.{behind_bad}
 

@@ -1,12 +1,12 @@
 -- A value under the limit of the whole.
-use Rattle.std.proofs.Common.{◌≡◌, ℕ, ◌+◌, ◌-◌, ◌<◌, ◌≤◌, List, refl, sym, ap, subst, ◌∙◌, length, drop, arith, Result, Ok, Err}
+use Rattle.std.proofs.Common.{◌≡◌, ℕ, ◌+◌, ◌-◌, ◌<◌, ◌≤◌, List, sym, ap, subst, ◌∙◌, length, drop, arith, Ok}
 use Rattle.std.proofs.lemmas.List.{length-drop}
 use Rattle.resp_value.specs.Tree.{Tree}
 use Rattle.resp_stream.specs.declared.fault.Fault.{Fault}
 use Rattle.resp_stream.specs.declared.fault.Fault.TheVariants.{TooLong}
 use Rattle.resp_stream.specs.declared.stack.ValueReading.{ValueReading}
 use Rattle.resp_stream.specs.declared.stack.ValueReading.TheVariants as reading
-use Rattle.resp_stream.specs.Answer.{Answer, Whole, More, Bad}
+use Rattle.resp_stream.specs.Answer.{Whole, More, Bad}
 use Rattle.resp_stream.specs.Parts.{limited}
 use Rattle.resp_stream.specs.Request.{whole_limit}
 use Rattle.resp_stream.specs.Value.{value_in, value_at}

@@ -1,15 +1,14 @@
 -- Values are read by readers.
-use Rattle.std.proofs.Common.{◌≡◌, ℕ, zero, suc, ◌+◌, ◌-◌, ◌*◌, ◌<◌, ◌≤◌, ℤ, pos, List, [], ◌∷◌, ◌++◌, refl, sym, ap, subst, ◌∙◌, Bool, true, false, cond, length, arith, Option, Some, None, lit<, lit≤}
+use Rattle.std.proofs.Common.{◌≡◌, ℕ, zero, suc, ◌+◌, ◌-◌, ◌*◌, List, [], ◌∷◌, refl, Bool, true, false, cond, Option, Some, None, lit<, lit≤}
 use Rattle.std.specs.Prelude.{nat_lt, nat_eq}
-use Rattle.resp_stream.specs.declared.fault.Fault.{Fault}
-use Rattle.resp_stream.specs.declared.fault.Fault.TheVariants.{BadByte, TooDeep}
+use Rattle.resp_stream.specs.declared.fault.Fault.TheVariants.{BadByte}
 use Rattle.resp_stream.specs.declared.value.Kind.{Kind}
 use Rattle.resp_stream.specs.declared.value.Kind.TheVariants.{Array, Map, Set, Push}
 use Rattle.resp_stream.specs.declared.value.Mark.{Mark}
 use Rattle.resp_stream.specs.declared.value.Mark.TheVariants as mark
 use Rattle.resp_value.specs.Tree.{Tree, simple, error, number, blob, verbatim, blob_error, boolean, null, null_array}
-use Rattle.resp_stream.specs.Answer.{Answer, Whole, More, Bad, Choice, Go, Stop, Move, On, Out, taken, moved, scan, first, ◌>>=◌}
-use Rattle.resp_stream.specs.Laws.{Took, Met, Completes, IsReader}
+use Rattle.resp_stream.specs.Answer.{Answer, Whole, More, Choice, Go, Stop, scan, first, ◌>>=◌}
+use Rattle.resp_stream.specs.Laws.{Completes, IsReader}
 use Rattle.resp_stream.specs.Parts.{IsRule, only_byte, line_feed, ending, length_at, counted_at, many, line_at}
 use Rattle.resp_stream.specs.Request.{line_limit}
 use Rattle.resp_stream.specs.Value.{blob_rule, verbatim_rule, blob_error_rule, rule_of, Digits, number_move, digits_of_at, signed, greatest, signed_at, number_by, number_at, sized_blob, blob_at, sized_error, blob_error_at, format_at, formatted_at, sized_text, verbatim_at, truth_at, text_at, whole_number_at, elements, build, elements_at, aggregate_at, may_stand, mark_of, choice_of, too_deep, deeper, value_in}

@@ -1,17 +1,16 @@
 -- What a reader of values keeps of a fault, and tells.
-use Rattle.std.proofs.Common.{◌≡◌, ℕ, ◌+◌, ◌-◌, ◌<◌, ◌≤◌, List, [], ◌++◌, refl, sym, ap, subst, ◌∙◌, Bool, true, false, length, take, drop, reverse, arith, Option, Some, None}
+use Rattle.std.proofs.Common.{◌≡◌, ℕ, ◌-◌, ◌≤◌, List, [], ◌++◌, refl, sym, ap, subst, ◌∙◌, Bool, true, false, length, drop, reverse, arith, Option, Some, None}
 use Rattle.std.specs.Prelude.{is_some}
 use Rattle.std.proofs.lemmas.List.{length-drop}
 use Rattle.resp_stream.specs.declared.fault.Fault.{Fault}
 use Rattle.resp_stream.specs.declared.fault.StreamFault.{StreamFault}
 use Rattle.resp_stream.specs.declared.fault.StreamFault.TheVariants.{BadByte, TooLong, TooDeep, NotServed, NoMemory}
 use Rattle.resp_stream.specs.declared.stack.Frame.{Frame}
-use Rattle.resp_stream.specs.Answer.{Answer, Whole, More, Bad}
+use Rattle.resp_stream.specs.Answer.{Bad}
 use Rattle.resp_stream.specs.Value.{value_at}
-use Rattle.resp_stream.specs.Stack.{Stands, Seen}
 use Rattle.resp_stream.specs.Stream.{Stream, offset_by, stream_fault}
 use Rattle.resp_stream.specs.Requests.{NotMemory}
-use Rattle.resp_stream.specs.Values.{Faulty, FaultGives, IsTold, Kept, Ready}
+use Rattle.resp_stream.specs.Values.{Faulty, FaultGives, Kept, Ready}
 use Rattle.resp_stream.proofs.StackSteps.{begin, grow, seen_none, seen_grows}
 use Rattle.resp_stream.proofs.Telling.{not_memory}
 

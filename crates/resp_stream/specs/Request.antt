@@ -1,5 +1,5 @@
 -- A request: an array of blobs, or a line of words (RESP specification 2, "Inline commands").
-use Rattle.std.specs.Prelude.{◌≡◌, ◌≤◌, ◌<◌, ℕ, zero, suc, ◌+◌, ◌-◌, nat_lt, nat_eq, min, Bool, true, false, ◌||◌, cond, List, [], ◌∷◌, ◌++◌, length, take, drop, Option, Some, None}
+use Rattle.std.specs.Prelude.{ℕ, zero, suc, nat_eq, Bool, true, false, ◌||◌, cond, List, [], ◌∷◌, ◌++◌, length, Option, Some, None}
 use Rattle.resp_stream.specs.declared.parts.LengthRule.{LengthRule}
 use Rattle.resp_stream.specs.Answer.{Answer, Whole, More, Bad, ◌>>=◌}
 use Rattle.resp_stream.specs.Parts.{only_byte, length_at, counted_at, many, line_at, capped}

@@ -1,11 +1,11 @@
 -- What a reader of requests answers of a stream.
-use Rattle.std.specs.Prelude.{◌≡◌, ◌<◌, ◌≤◌, ◌+◌, ◌-◌, ℕ, List, length, true, false, Option, Some, None, Result, Ok, Err}
+use Rattle.std.specs.Prelude.{◌≡◌, ◌<◌, ◌-◌, ℕ, List, length, true, Option, Some, None, Result, Ok, Err}
 use Rattle.resp_stream.specs.declared.fault.Fault.{Fault}
 use Rattle.resp_stream.specs.declared.fault.StreamFault.{StreamFault}
-use Rattle.resp_stream.specs.declared.fault.StreamFault.TheVariants.{BadByte, TooLong, TooDeep, NotServed, NoMemory}
+use Rattle.resp_stream.specs.declared.fault.StreamFault.TheVariants.{NoMemory}
 use Rattle.resp_stream.specs.declared.request.Progress.{Progress}
 use Rattle.resp_value.specs.declared.octets.Words.{Words}
-use Rattle.resp_stream.specs.Answer.{Answer, Whole, More, Bad}
+use Rattle.resp_stream.specs.Answer.{Whole, More, Bad}
 use Rattle.resp_stream.specs.Request.{request_at, behind}
 use Rattle.resp_stream.specs.Steps.{Stands}
 use Rattle.resp_stream.specs.Stream.{Stream, offset_by, moved_on, stream_fault}

@@ -1,5 +1,5 @@
 -- Where a reader with a stack of open aggregates stands in a text.
-use Rattle.std.specs.Prelude.{◌≡◌, ◌≤◌, ◌<◌, ◌+◌, ◌-◌, ℕ, zero, suc, List, [], ◌∷◌, ◌++◌, length, take, drop, reverse, false, Option, Some, None, Result, Ok, Err}
+use Rattle.std.specs.Prelude.{◌≡◌, ◌≤◌, ◌<◌, ℕ, suc, List, [], ◌∷◌, ◌++◌, length, take, drop, reverse, false, Option, Some, None, Result, Ok, Err}
 use Rattle.resp_value.specs.Tree.{Tree}
 use Rattle.resp_value.specs.Of.{tree_of}
 use Rattle.resp_value.specs.declared.value.Value.{Value}
@@ -9,7 +9,6 @@ use Rattle.resp_stream.specs.declared.stack.Step.{Step}
 use Rattle.resp_stream.specs.declared.stack.Step.TheVariants.{Leaf, Open}
 use Rattle.resp_stream.specs.declared.value.Kind.{Kind}
 use Rattle.resp_stream.specs.declared.fault.ReadStop.{ReadStop}
-use Rattle.resp_stream.specs.declared.fault.ReadStop.TheVariants as stop
 use Rattle.resp_stream.specs.Answer.{Answer, Whole, More, Bad, ◌>>=◌}
 use Rattle.resp_stream.specs.Parts.{many, Passed}
 use Rattle.resp_stream.specs.Request.{line_limit}

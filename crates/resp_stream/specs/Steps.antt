@@ -1,5 +1,5 @@
 -- How far a request was read: the text reads as its rest does behind what is kept.
-use Rattle.std.specs.Prelude.{◌≡◌, ◌≤◌, ◌<◌, ℕ, List, [], ◌∷◌, ◌++◌, length, take, drop, true, Result, Ok, Err}
+use Rattle.std.specs.Prelude.{◌≡◌, ◌≤◌, ◌<◌, ℕ, List, ◌++◌, length, take, drop, true, Result, Ok, Err}
 use Rattle.resp_stream.specs.Answer.{Answer, Whole, More, Bad, ◌>>=◌}
 use Rattle.resp_stream.specs.Parts.{many, Passed}
 use Rattle.resp_stream.specs.Request.{word_at, request_begun, request_at, behind, line_limit}

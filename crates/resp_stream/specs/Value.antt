@@ -1,6 +1,5 @@
 -- A value by its type byte (RESP specifications 2 and 3).
-use Rattle.std.specs.Prelude.{◌≡◌, ◌≤◌, ◌<◌, ℕ, zero, suc, ◌+◌, ◌-◌, ◌*◌, ℤ, pos, negsuc, nat_lt, nat_eq, Bool, true, false, ◌||◌, cond, List, [], ◌∷◌, ◌++◌, Option, Some, None}
-use Rattle.resp_stream.specs.declared.fault.Fault.{Fault}
+use Rattle.std.specs.Prelude.{ℕ, zero, suc, ◌+◌, ◌-◌, ◌*◌, ℤ, pos, negsuc, nat_lt, nat_eq, Bool, true, false, ◌||◌, cond, List, [], ◌∷◌, Option, Some, None}
 use Rattle.resp_stream.specs.declared.fault.Fault.TheVariants.{BadByte, TooLong, TooDeep}
 use Rattle.resp_stream.specs.declared.fault.Fault.TheVariants as fault
 use Rattle.resp_stream.specs.declared.parts.LengthRule.{LengthRule}
@@ -9,7 +8,7 @@ use Rattle.resp_stream.specs.declared.value.Kind.TheVariants.{Array, Map, Set, P
 use Rattle.resp_stream.specs.declared.value.Mark.{Mark}
 use Rattle.resp_stream.specs.declared.value.Mark.TheVariants as mark
 use Rattle.resp_value.specs.Tree.{Tree, simple, error, number, blob, verbatim, blob_error, boolean, null, null_array, array, mapping, set, push, trees_of, rows_of, in_turn}
-use Rattle.resp_stream.specs.Answer.{Answer, Whole, More, Bad, Choice, Go, Stop, Move, On, Out, scan, first, ◌>>=◌}
+use Rattle.resp_stream.specs.Answer.{Answer, Whole, Choice, Go, Stop, Move, On, Out, scan, first, ◌>>=◌}
 use Rattle.resp_stream.specs.Parts.{only_byte, line_feed, ending, length_at, counted_at, many, line_at, capped}
 use Rattle.resp_stream.specs.Request.{line_limit, whole_limit}
 

@@ -1,12 +1,12 @@
 -- What a reader of values answers of a stream.
-use Rattle.std.specs.Prelude.{◌≡◌, ◌≤◌, ◌+◌, ◌-◌, ℕ, List, length, drop, reverse, true, Option, Some, None, Result, Ok, Err}
+use Rattle.std.specs.Prelude.{◌≡◌, ◌+◌, ◌-◌, ℕ, List, length, drop, reverse, true, Option, Some, None, Result, Ok, Err}
 use Rattle.resp_value.specs.Of.{tree_of}
 use Rattle.resp_value.specs.declared.value.Value.{Value}
 use Rattle.resp_stream.specs.declared.fault.Fault.{Fault}
 use Rattle.resp_stream.specs.declared.fault.StreamFault.{StreamFault}
-use Rattle.resp_stream.specs.declared.fault.StreamFault.TheVariants.{BadByte, TooLong, TooDeep, NotServed, NoMemory}
+use Rattle.resp_stream.specs.declared.fault.StreamFault.TheVariants.{NoMemory}
 use Rattle.resp_stream.specs.declared.stack.Frame.{Frame}
-use Rattle.resp_stream.specs.Answer.{Answer, Whole, More, Bad}
+use Rattle.resp_stream.specs.Answer.{Whole, More, Bad}
 use Rattle.resp_stream.specs.Value.{value_at}
 use Rattle.resp_stream.specs.Stack.{Stands, Seen}
 use Rattle.resp_stream.specs.Requests.{NotMemory}

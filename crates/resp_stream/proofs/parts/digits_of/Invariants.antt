@@ -1,4 +1,4 @@
-use Rattle.std.proofs.Common.{◌≡◌, ℕ, ◌≤◌, length}
+use Rattle.std.proofs.Common.{◌≡◌, ◌≤◌, length}
 use Rattle.resp_stream.specs.Parts.{digits_at}
 use Rattle.resp_stream.proofs.parts.digits_of.Given as goal
 

@@ -1,4 +1,4 @@
-use Rattle.std.proofs.Common.{◌≡◌, ℕ, ◌-◌, ◌≤◌, length, take}
+use Rattle.std.proofs.Common.{◌-◌, ◌≤◌, length, take}
 use Rattle.resp_stream.specs.Parts.{Passed}
 use Rattle.resp_stream.proofs.parts.line_of.Given as goal
 

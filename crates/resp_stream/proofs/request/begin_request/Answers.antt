@@ -1,5 +1,5 @@
-use Rattle.std.proofs.Common.{◌≡◌, List, ℕ, [], sym, ap, ◌∙◌, arith, length, ◌-◌, take, subst, Option, Some, None}
-use Rattle.resp_stream.specs.Answer.{Answer, Whole}
+use Rattle.std.proofs.Common.{List, ℕ, sym, ap, ◌∙◌, arith, length, ◌-◌, subst, Option, None}
+use Rattle.resp_stream.specs.Answer.{Whole}
 use Rattle.resp_stream.specs.Steps.{Within}
 use Rattle.std.specs.Prelude.{true}
 use Rattle.resp_stream.specs.Request.{line_limit}

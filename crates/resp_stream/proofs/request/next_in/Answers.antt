@@ -1,7 +1,6 @@
-use Rattle.std.proofs.Common.{◌≡◌, ◌<◌, ◌≢◌, ℕ, List, [], sym, ap, ◌∙◌, arith, length, drop, ◌+◌}
+use Rattle.std.proofs.Common.{◌≡◌, ◌≢◌, [], sym, ap, ◌∙◌, arith, length, drop, ◌+◌}
 use Rattle.std.specs.Prelude.{true}
 use Rattle.std.proofs.lemmas.Bool.{eqb-false, eqb-true}
-use Rattle.resp_stream.specs.Steps.{Stands}
 use Rattle.resp_stream.specs.Request.{line_limit}
 use Rattle.resp_stream.proofs.Line.{passed_none}
 use Rattle.resp_stream.proofs.Fitting.{faulty_here, more_here, whole_here, place_here, further, empty_here, no_words}

@@ -1,4 +1,4 @@
-use Rattle.std.proofs.Common.{◌≡◌, ℕ, ◌-◌, ◌≤◌, length, drop}
+use Rattle.std.proofs.Common.{◌≡◌, ◌-◌, ◌≤◌, length, drop}
 use Rattle.resp_stream.specs.Request.{behind}
 use Rattle.resp_stream.specs.Steps.{Stands}
 use Rattle.resp_stream.proofs.request.next_in.Given as goal

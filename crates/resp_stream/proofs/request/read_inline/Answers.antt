@@ -1,6 +1,5 @@
-use Rattle.std.proofs.Common.{◌≡◌, List, ℕ, sym, ap, ◌∙◌, arith, length, ◌-◌}
-use Rattle.resp_stream.specs.Answer.{Answer, Whole}
-use Rattle.resp_stream.specs.Request.{words_behind}
+use Rattle.std.proofs.Common.{sym, ◌∙◌, arith}
+use Rattle.resp_stream.specs.Answer.{Whole}
 use Rattle.resp_stream.proofs.Begun.{inline_whole, inline_more, inline_bad, line_goes}
 use Rattle.resp_stream.proofs.request.read_inline.Goals as goal
 

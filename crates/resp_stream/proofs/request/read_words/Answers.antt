@@ -1,4 +1,4 @@
-use Rattle.std.proofs.Common.{◌≡◌, ◌++◌, ◌∷◌, [], List, ℕ, ap, ◌∙◌, arith}
+use Rattle.std.proofs.Common.{◌++◌, ◌∷◌, [], List, ℕ, ap, ◌∙◌, arith}
 use Rattle.resp_stream.proofs.Words.{word_goes, word_on, word_more, word_bad, words_all}
 use Rattle.resp_stream.proofs.request.read_words.Goals as goal
 

@@ -1,4 +1,3 @@
-use Rattle.std.proofs.Common.{ℕ}
 use Rattle.resp_stream.specs.Steps.{Within}
 use Rattle.resp_stream.proofs.request.read_words.Given as goal
 

@@ -1,6 +1,5 @@
-use Rattle.std.proofs.Common.{◌≡◌, ℕ, ◌+◌, ◌-◌, ◌<◌, List, [], ◌∷◌, ◌++◌, length, reverse, arith, refl, sym, ap, ◌∙◌}
+use Rattle.std.proofs.Common.{◌≡◌, ◌-◌, List, [], ◌∷◌, ◌++◌, length, arith, refl, ap, ◌∙◌}
 use Rattle.std.proofs.lemmas.List.{length-append}
-use Rattle.resp_stream.specs.Stack.{Stands, Has, Closes}
 use Rattle.resp_stream.specs.declared.stack.Frame.{Frame}
 use Rattle.resp_value.specs.Of.{tree_of}
 use Rattle.resp_stream.proofs.Closing.{close_up, close_next, close_all, no_length}

@@ -1,11 +1,8 @@
-use Rattle.std.proofs.Common.{◌≡◌, ◌++◌, ◌∷◌, [], ℕ, List, length, refl, sym, ap, subst, ◌∙◌, Option, Some, None, true, false}
-use Rattle.std.specs.Prelude.{nat_eq}
-use Rattle.resp_value.specs.Tree.{Tree}
-use Rattle.resp_stream.specs.declared.fault.Fault.TheVariants.{BadByte}
+use Rattle.std.proofs.Common.{ℕ, sym, ap, ◌∙◌, Option}
 use Rattle.resp_stream.specs.declared.fault.Broken.{Broken}
-use Rattle.resp_stream.specs.Answer.{Answer, Whole, More, Bad}
+use Rattle.resp_stream.specs.Answer.{Whole, Bad}
 use Rattle.resp_stream.specs.Parts.{length_at}
-use Rattle.resp_stream.specs.Value.{rule_of, may_stand, build, value_in}
+use Rattle.resp_stream.specs.Value.{build}
 use Rattle.resp_stream.proofs.Opening.{may_not, head_more, head_bad, head_null, head_empty, head_some}
 use Rattle.resp_stream.proofs.stack.open_of.Goals as goal
 

@@ -1,10 +1,7 @@
-use Rattle.std.proofs.Common.{◌≡◌, ℕ, ◌+◌, ◌-◌, ◌<◌, List, [], ◌∷◌, ◌++◌, length, take, drop, reverse, arith, refl, sym, ap, ◌∙◌}
+use Rattle.std.proofs.Common.{◌-◌, [], ◌∷◌, length, drop, reverse, arith, refl, ap, ◌∙◌}
 use Rattle.std.proofs.lemmas.List.{length-append}
-use Rattle.resp_stream.specs.Stack.{Stands, Has, Seen}
-use Rattle.resp_stream.specs.declared.stack.Frame.{Frame}
 use Rattle.resp_value.specs.Of.{tree_of}
 use Rattle.resp_stream.proofs.StackSteps.{has_all, seen_none}
-use Rattle.resp_stream.proofs.Places.{Goes}
 use Rattle.resp_stream.proofs.Running.{step_on, step_leaf, step_counts, step_open, none_gives, err_gives}
 use Rattle.resp_stream.proofs.stack.run.Goals as goal
 

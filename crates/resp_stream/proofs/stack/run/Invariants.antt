@@ -1,4 +1,4 @@
-use Rattle.std.proofs.Common.{◌≡◌, ℕ, ◌+◌, ◌-◌, length, drop, reverse}
+use Rattle.std.proofs.Common.{◌≡◌, ◌+◌, ◌-◌, length, drop, reverse}
 use Rattle.resp_stream.specs.Stack.{Stands, Seen}
 use Rattle.resp_stream.proofs.stack.run.Given as goal
 

@@ -1,9 +1,9 @@
-use Rattle.std.proofs.Common.{◌≡◌, ◌∷◌, [], ℕ, List, sym, ap, subst, ◌∙◌, Option, None}
+use Rattle.std.proofs.Common.{◌≡◌, sym, ap, subst, ◌∙◌}
 use Rattle.resp_value.specs.Tree.{Tree}
 use Rattle.resp_stream.specs.declared.value.Mark.{Mark}
 use Rattle.resp_stream.specs.Answer.{Answer, taken}
 use Rattle.resp_stream.specs.Gives.{StopGives}
-use Rattle.resp_stream.specs.Value.{mark_of, opening, choice_of, too_deep, value_in}
+use Rattle.resp_stream.specs.Value.{opening, choice_of, too_deep, value_in}
 use Rattle.resp_stream.proofs.ValueLaws.{no_value}
 use Rattle.resp_stream.proofs.Opening.{leaf_here, opens_here}
 use Rattle.resp_stream.proofs.stack.step_of.Goals as goal

@@ -1,4 +1,4 @@
-use Rattle.std.proofs.Common.{◌≡◌, ℕ, ◌≤◌, length, Some}
+use Rattle.std.proofs.Common.{◌≡◌, ◌≤◌, length, Some}
 use Rattle.resp_stream.specs.Value.{digits_of_at}
 use Rattle.resp_stream.proofs.value.digits_on.Given as goal
 

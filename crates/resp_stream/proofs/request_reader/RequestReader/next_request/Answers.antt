@@ -1,4 +1,4 @@
-use Rattle.std.proofs.Common.{◌≡◌, ℕ, List, sym, ap, subst, ◌∙◌, Option, Some, None, true}
+use Rattle.std.proofs.Common.{sym, subst, Option, true}
 use Rattle.std.specs.Prelude.{is_some}
 use Rattle.resp_stream.specs.declared.fault.StreamFault.{StreamFault}
 use Rattle.resp_stream.specs.Stream.{Stream}

@@ -1,6 +1,4 @@
-use Rattle.std.proofs.Common.{◌≡◌, ℕ, List, sym, ap, subst, ◌∙◌, Option, None, false}
-use Rattle.std.specs.Prelude.{is_some}
-use Rattle.resp_stream.specs.declared.fault.StreamFault.{StreamFault}
+use Rattle.std.proofs.Common.{sym, ◌∙◌}
 use Rattle.resp_stream.proofs.ValueTelling.{more_fed, none_is, same_fed}
 use Rattle.resp_stream.proofs.value_reader.ValueReader.feed.Goals as goal
 use Rattle.resp_stream.proofs.value_reader.ValueReader.feed.Goals.{in-Ok, in-Err}
