@@ -1,0 +1,94 @@
+// Cacheable queries.
+ghost use Rattle.std.specs.Prelude.{◌≡◌, IfOk, Some};
+ghost use Rattle.std.specs.Cmp.Lexicographic.{pointwise};
+ghost use Rattle.std.specs.Str.{bytes_eq};
+ghost use Rattle.command_words.specs.Queries.{query_of, key_of, same_query};
+
+use super::command::{Command, WordFault, read_command};
+use resp_value::{NoMemory, Octets, Words};
+use std::alloc::Global;
+use std::marker::Model;
+
+/// A read whose reply may be held by a client: its words, with the name in upper case.
+///
+/// The reply depends on the content of one key alone (the Redis client-side caching reference).
+#[derive(Debug, Drop)]
+pub struct Query {
+    words: Words,
+}
+
+impl Model for Query {
+    ghost use Rattle.std.specs.Prelude.{◌≡◌, List, ℕ, Some};
+    ghost use Rattle.command_words.specs.Queries.{query_of};
+
+    ghost Value = { List (List ℕ) };
+
+    ghost view = { λ q. q.words };
+
+    ghost invariant = { λ q. query_of q.words ≡ Some q.words };
+}
+
+fn are_same(left: &[Octets], right: &[Octets]) -> bool
+    ensures { result ≡ pointwise bytes_eq left.now right.now }
+{
+    match (left, right) {
+        ([], []) => true,
+        ([x, left @ ..], [y, right @ ..]) => {
+            if x.as_slice() == y.as_slice() {
+                are_same(left, right)
+            } else {
+                false
+            }
+        }
+        _ => false,
+    }
+}
+
+impl Query {
+    /// The query that the words are, where they are one: names are read without regard to case.
+    pub fn read(alloc: Global, words: &Words) -> Result<Option<Query>, NoMemory>
+        ensures { IfOk result (λ q. q ≡ query_of words.now) }
+    {
+        match read_command(words) {
+            Ok(Command::Get(key)) => {
+                let mut words = Words::new(alloc);
+                words.push(Octets::from_slice(alloc, b"GET")?)?;
+                words.push(key)?;
+                Ok(Some(Query { words }))
+            }
+            Ok(Command::Set(_, _)) => Ok(None),
+            Err(WordFault::NoMemory) => Err(NoMemory),
+            Err(WordFault::Unknown) => Ok(None),
+        }
+    }
+
+    /// The key that it reads.
+    pub fn key(&self) -> &[u8]
+        ensures { result.now ≡ key_of self.now }
+    {
+        self.words.as_slice()[1].as_slice()
+    }
+
+    /// Its words, with the name in upper case.
+    pub fn words(&self) -> &Words
+        ensures words { result.now ≡ self.now }
+        ensures query { query_of self.now ≡ Some self.now }
+    {
+        &self.words
+    }
+
+    /// Whether both have the same words.
+    pub fn is_same(&self, other: &Query) -> bool
+        ensures { result ≡ same_query self.now other.now }
+    {
+        are_same(self.words.as_slice(), other.words.as_slice())
+    }
+
+    /// An equal query.
+    pub fn copy(&self) -> Result<Query, NoMemory>
+        ensures { IfOk result (λ q. q ≡ self.now) }
+    {
+        let words = self.words.copy()?;
+        Ok(Query { words })
+    }
+}

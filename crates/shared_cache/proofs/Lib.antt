@@ -1,0 +1,11 @@
+pub mod Cached
+pub mod Desked
+pub mod Fetches
+pub mod Keeping
+pub mod Slots
+pub mod Marked
+pub mod Logged
+pub mod Stepping
+pub mod Asking
+pub mod Getting
+pub mod Lawful

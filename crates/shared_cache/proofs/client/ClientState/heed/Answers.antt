@@ -1,0 +1,22 @@
+use Rattle.std.proofs.Common.{◌≡◌, ◌+◌, ◌-◌, ◌<◌, ◌≤◌, ◌++◌, ◌∷◌, [], ℕ, List, true, false, cond, not, length, min, take, drop, reverse, arith, ap, sym, ◌∙◌, refl, subst, Some, None}
+use Rattle.std.specs.Prelude.{is_some, nat_le}
+use Rattle.shared_cache.specs.declared.log.Wire.TheVariants.{Main, Side}
+use Rattle.shared_cache.specs.declared.log.LogEntry.TheVariants as entry
+use Rattle.shared_cache.specs.Log.{is_ended, is_ready, replies}
+use Rattle.shared_cache.specs.Held.{held, held_of, numbers}
+use Rattle.shared_cache.specs.Out.{untaken, is_wanted}
+use Rattle.shared_cache.specs.Steps.{fault_of}
+use Rattle.shared_cache.specs.Standing.{Standing}
+use Rattle.shared_cache.proofs.Logged.{pushed, count_reverse, room_left, at_most_one}
+use Rattle.shared_cache.proofs.Getting.{keeps_push}
+use Rattle.shared_cache.proofs.client.ClientState.heed.Goals as goal
+
+pub invariant_of-self-2 : goal.invariant_of-self-2
+invariant_of-self-2 c =
+    let i = c.self.inside in
+    let k = c.self.invariant.keeps in
+    record {
+      keeps = rw (pushed i.log.items _ _ (c.push_reserved.ensures.items ∙ ap (λ l. l ++ entry.Got Main c.args.value ∷ []) c.in_ok-reserve.ensures.items), c.spoil.ensures.marks, c.spoil.ensures.slots, c.is_broken_by-self-inside.ensures)
+          (keeps_push _ _ _ _ _ _ _ _ _ _ _ k c.args.value c.args.notice c.in_ok-written.written c.requires.notice c.requires.push c.in_ok-written.ensures);
+      room = omega (arith, at_most_one i.ended, c.in_ok-reserve.ensures.ok);
+    }

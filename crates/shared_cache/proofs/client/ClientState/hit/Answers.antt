@@ -1,0 +1,25 @@
+use Rattle.std.proofs.Common.{◌≡◌, ◌+◌, ◌-◌, ◌<◌, ◌≤◌, ◌++◌, ◌∷◌, [], ℕ, List, true, false, cond, not, length, min, take, drop, reverse, arith, ap, sym, ◌∙◌, refl, subst, Some, None}
+use Rattle.std.specs.Prelude.{is_some, nat_le}
+use Rattle.shared_cache.specs.declared.log.Wire.TheVariants.{Main, Side}
+use Rattle.shared_cache.specs.declared.log.LogEntry.TheVariants as entry
+use Rattle.shared_cache.specs.Log.{is_ended, is_ready, replies}
+use Rattle.shared_cache.specs.Held.{held, held_of, numbers}
+use Rattle.shared_cache.specs.Out.{untaken, is_wanted}
+use Rattle.shared_cache.specs.Steps.{fault_of}
+use Rattle.shared_cache.specs.Standing.{Standing}
+use Rattle.shared_cache.proofs.Logged.{pushed, count_reverse, room_left, at_most_one}
+use Rattle.shared_cache.proofs.Asking.{keeps_hit}
+use Rattle.shared_cache.proofs.client.ClientState.hit.Goals as goal
+
+pub invariant_of-self-2 : goal.invariant_of-self-2
+invariant_of-self-2 c =
+    let i = c.self.inside in
+    let k = c.self.invariant.keeps in
+    let held_is : is_some (held_of c.args.query (held (record { mode = i.mode; capacity = i.capacity; log_max = i.log_max }) (reverse i.log.items))) ≡ true =
+    ap (λ (st : Standing). is_some (held_of c.args.query (held st.setup st.past))) c.self.view_is ∙ c.requires in
+    let now_is : c.len.result + 1 ≡ length (reverse i.log.items) + 1 = ap (λ n. n + 1) (count_reverse i.log.items c.len.result (omega (arith, c.len.ensures, c.in_ok-reserve.ensures.len))) in
+    record {
+      keeps = rw (pushed i.log.items _ _ (c.push_reserved.ensures.items ∙ ap (λ l. l ++ entry.Ask c.args.query ∷ []) c.in_ok-reserve.ensures.items), c.touch.ensures.items, c.key.ensures)
+          (keeps_hit _ _ _ _ _ _ _ _ _ _ _ k c.args.query (c.len.result + 1) held_is now_is);
+      room = omega (arith, at_most_one i.ended, c.in_ok-reserve.ensures.ok);
+    }

@@ -1,0 +1,5 @@
+use Rattle.shared_cache.proofs.Lawful.{commands_grow}
+use Rattle.shared_cache.proofs.laws.law_commands_grow.Goals as goal
+
+pub returns : goal.returns
+returns c = commands_grow

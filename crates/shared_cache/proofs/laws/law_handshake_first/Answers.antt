@@ -1,0 +1,5 @@
+use Rattle.shared_cache.proofs.Lawful.{handshake_first}
+use Rattle.shared_cache.proofs.laws.law_handshake_first.Goals as goal
+
+pub returns : goal.returns
+returns c = handshake_first

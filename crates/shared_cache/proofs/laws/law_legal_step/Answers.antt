@@ -1,0 +1,5 @@
+use Rattle.shared_cache.proofs.Lawful.{legal_step}
+use Rattle.shared_cache.proofs.laws.law_legal_step.Goals as goal
+
+pub returns : goal.returns
+returns c = legal_step

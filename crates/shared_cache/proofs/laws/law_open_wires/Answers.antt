@@ -1,0 +1,5 @@
+use Rattle.shared_cache.proofs.Lawful.{open_wires}
+use Rattle.shared_cache.proofs.laws.law_open_wires.Goals as goal
+
+pub returns : goal.returns
+returns c = open_wires

@@ -1,0 +1,5 @@
+use Rattle.shared_cache.proofs.Lawful.{sent_ready}
+use Rattle.shared_cache.proofs.laws.law_sent_ready.Goals as goal
+
+pub returns : goal.returns
+returns c = sent_ready

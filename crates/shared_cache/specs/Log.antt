@@ -1,0 +1,101 @@
+-- What a client's log says of its handshake, its replies and its links. A log is a list of entries, the newest first.
+use Rattle.std.specs.Prelude.{◌≡◌, ◌==◌, ◌+◌, ◌&&◌, ◌||◌, ℕ, List, [], ◌∷◌, length, Bool, true, false, not, Option, Some, None, if◌then◌else◌, codes}
+use Rattle.std.specs.Str.{bytes_eq}
+use Rattle.resp_value.specs.declared.value.Value.{Value}
+use Rattle.resp_value.specs.declared.value.Value.TheVariants.{Simple}
+use Rattle.shared_cache.specs.declared.log.Wire.{Wire}
+use Rattle.shared_cache.specs.declared.log.Wire.TheVariants.{Main, Side}
+use Rattle.shared_cache.specs.declared.log.ClientMode.{ClientMode}
+use Rattle.shared_cache.specs.declared.log.LogEntry.{LogEntry}
+use Rattle.shared_cache.specs.declared.log.LogEntry.TheVariants.{Ask, Send, Poll, TakeOut, Got, End, Bad}
+use Rattle.shared_cache.specs.declared.notices.Notice.{Notice}
+use Rattle.shared_cache.specs.declared.notices.Notice.TheVariants.{Reply, Keys, All, Broken, Other, Malformed}
+use Rattle.shared_cache.specs.Notices.{notice_of}
+
+-- what a client on one link sends first, in default mode over the third protocol
+abbrev pub greetings : List (List (List ℕ))
+greetings = (codes "HELLO" ∷ codes "3" ∷ []) ∷ (codes "CLIENT" ∷ codes "TRACKING" ∷ codes "ON" ∷ []) ∷ []
+
+-- what a client of this mode sends first
+abbrev pub handshake : ClientMode → List (List (List ℕ))
+handshake m = greetings
+
+abbrev pub is_wire : Wire → Wire → Bool
+is_wire Main Main = true
+is_wire Main Side = false
+is_wire Side Main = false
+is_wire Side Side = true
+
+abbrev pub with_reply : Wire → Notice → Value → List Value → List Value
+with_reply Main Reply v vs = v ∷ vs
+with_reply Main _ v vs = vs
+with_reply Side n v vs = vs
+
+-- the replies to the commands on Main, the newest first
+abbrev pub replies : ClientMode → List LogEntry → List Value
+replies m [] = []
+replies m (Ask q ∷ log) = replies m log
+replies m (Send ws ∷ log) = replies m log
+replies m (Poll n ∷ log) = replies m log
+replies m (TakeOut w n ∷ log) = replies m log
+replies m (Got w v ∷ log) = with_reply w (notice_of m w v) v (replies m log)
+replies m (End w ∷ log) = replies m log
+replies m (Bad w v ∷ log) = replies m log
+
+-- the reply of that number; the oldest has number 1
+abbrev pub reply_in : ℕ → List Value → Option Value
+reply_in n [] = None
+reply_in n (v ∷ vs) = if n == length vs + 1 then Some v else reply_in n vs
+
+abbrev pub reply : ClientMode → List LogEntry → ℕ → Option Value
+reply m log n = reply_in n (replies m log)
+
+abbrev pub is_ok_text : Value → Bool
+is_ok_text (Simple t) = bytes_eq t (codes "OK")
+is_ok_text v = false
+
+abbrev pub is_accepted : Option Value → Bool
+is_accepted None = false
+is_accepted (Some v) = is_ok_text v
+
+-- the tracking command, the last of the handshake, was accepted
+abbrev pub is_ready : ClientMode → List LogEntry → Bool
+is_ready m log = is_accepted (reply m log (length (handshake m)))
+
+-- the link has ended
+abbrev pub is_ended : ClientMode → Wire → List LogEntry → Bool
+is_ended m w [] = false
+is_ended m w (Ask q ∷ log) = is_ended m w log
+is_ended m w (Send ws ∷ log) = is_ended m w log
+is_ended m w (Poll n ∷ log) = is_ended m w log
+is_ended m w (TakeOut u n ∷ log) = is_ended m w log
+is_ended m w (Got u v ∷ log) = is_ended m w log
+is_ended m w (End u ∷ log) = is_wire u w || is_ended m w log
+is_ended m w (Bad u v ∷ log) = is_wire u w || is_ended m w log
+
+abbrev pub is_broken_notice : Notice → Bool
+is_broken_notice Broken = true
+is_broken_notice Reply = false
+is_broken_notice Keys = false
+is_broken_notice All = false
+is_broken_notice Other = false
+is_broken_notice Malformed = false
+
+-- the redirection was told to be broken
+abbrev pub is_broken : ClientMode → List LogEntry → Bool
+is_broken m [] = false
+is_broken m (Ask q ∷ log) = is_broken m log
+is_broken m (Send ws ∷ log) = is_broken m log
+is_broken m (Poll n ∷ log) = is_broken m log
+is_broken m (TakeOut w n ∷ log) = is_broken m log
+is_broken m (Got w v ∷ log) = is_broken_notice (notice_of m w v) || is_broken m log
+is_broken m (End w ∷ log) = is_broken m log
+is_broken m (Bad w v ∷ log) = is_broken m log
+
+-- the server is to tell of what is read: from ready until a link ends or the redirection is broken
+abbrev pub caching_on : ClientMode → List LogEntry → Bool
+caching_on m log = is_ready m log && (not (is_ended m Main log || is_ended m Side log) && not (is_broken m log))
+
+-- and of a read of this key
+abbrev pub caching_on_for : ClientMode → List LogEntry → List ℕ → Bool
+caching_on_for m log key = caching_on m log

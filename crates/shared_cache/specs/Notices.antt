@@ -1,0 +1,79 @@
+-- What a value that was read is to a client: a reply, or a push of some kind (the Redis client-side caching reference).
+use Rattle.std.specs.Prelude.{◌≡◌, ◌||◌, ℕ, List, [], ◌∷◌, Bool, true, false, Option, Some, None, if◌then◌else◌, codes}
+use Rattle.std.specs.List.{list_any}
+use Rattle.std.specs.Str.{bytes_eq}
+use Rattle.resp_value.specs.Tree.{Tree, Trees, blob, null, null_array, array, end, more}
+use Rattle.resp_value.specs.declared.value.Value.{Value}
+use Rattle.resp_value.specs.declared.value.Value.TheVariants.{Push}
+use Rattle.shared_cache.specs.declared.log.Wire.{Wire}
+use Rattle.shared_cache.specs.declared.log.ClientMode.{ClientMode}
+use Rattle.shared_cache.specs.declared.notices.Notice.{Notice}
+use Rattle.shared_cache.specs.declared.notices.Notice.TheVariants.{Reply, Keys, All, Broken, Other, Malformed}
+
+abbrev pub all_blobs : Trees → Bool
+all_blobs end = true
+all_blobs (more (blob b) ts) = all_blobs ts
+all_blobs (more _ ts) = false
+
+-- the keys of an invalidation, or a null for all
+abbrev pub payload : Tree → Notice
+payload (array ts) = if all_blobs ts then Keys else Malformed
+payload null = All
+payload null_array = All
+payload _ = Malformed
+
+abbrev pub invalidation : List Tree → Notice
+invalidation (t ∷ []) = payload t
+invalidation _ = Malformed
+
+abbrev pub named_push : List ℕ → List Tree → Notice
+named_push name rest =
+    if bytes_eq name (codes "invalidate") then invalidation rest else
+    if bytes_eq name (codes "tracking-redir-broken") then Broken else Other
+
+abbrev pub push : List Tree → Notice
+push (blob name ∷ rest) = named_push name rest
+push _ = Other
+
+abbrev pub kind_of : Value → Notice
+kind_of (Push ts) = push ts
+kind_of v = Reply
+
+-- what a value is, on this link of a client of this mode
+abbrev pub notice_of : ClientMode → Wire → Value → Notice
+notice_of m w v = kind_of v
+
+abbrev pub blobs_in : Trees → List (List ℕ)
+blobs_in end = []
+blobs_in (more (blob b) ts) = b ∷ blobs_in ts
+blobs_in (more _ ts) = blobs_in ts
+
+abbrev pub keys_in : List Tree → List (List ℕ)
+keys_in (name ∷ array ts ∷ []) = blobs_in ts
+keys_in _ = []
+
+-- the keys that an invalidation names
+abbrev pub named_keys : Value → List (List ℕ)
+named_keys (Push ts) = keys_in ts
+named_keys v = []
+
+abbrev pub spoils_as : Notice → List (List ℕ) → List ℕ → Bool
+spoils_as Reply keys key = false
+spoils_as Keys keys key = list_any (bytes_eq key) keys
+spoils_as All keys key = true
+spoils_as Broken keys key = true
+spoils_as Other keys key = false
+spoils_as Malformed keys key = false
+
+-- the value tells that what was read of the key is not to be kept
+abbrev pub spoils : ClientMode → Wire → Value → List ℕ → Bool
+spoils m w v key = spoils_as (notice_of m w v) (named_keys v) key
+
+-- a well-formed push
+abbrev pub IsPush : Notice → Type 0
+IsPush Reply = ⊥
+IsPush Malformed = ⊥
+IsPush Keys = Unit {0}
+IsPush All = Unit {0}
+IsPush Broken = Unit {0}
+IsPush Other = Unit {0}

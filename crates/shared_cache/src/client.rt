@@ -1,0 +1,494 @@
+// The client's state: one turn at a time.
+ghost use Rattle.std.specs.Prelude.{◌≡◌, ◌+◌, ◌<◌, ◌≤◌, ◌∷◌, [], ℕ, IfOk, OnOk, OnErr, reverse, length};
+
+use super::cache::{held_at, held_of, mark, refill, spoil, touch};
+use super::desk::{Handed, hand_over, put_reply};
+use super::handshake::{enqueue, greeting, is_welcome};
+use super::holding::{Desk, Holding};
+use super::log::{ClientCall, ClientMode, ClientRefusal, ClientReply, LogEntry, Wire};
+use super::notices::{Notice, is_broken_by, kind_of, told};
+use command_words::{Query, is_control, written_by};
+use fill_mark::Marks;
+use resp_value::{NoMemory, Octets, Value, Words};
+use std::alloc::Global;
+use std::marker::Model;
+
+// How many commands the handshake has.
+const HANDSHAKE: u64 = 2;
+
+/// A client of one link: its log, the bytes for its link, the replies for its callers, the marks
+/// of its fetches and its cache.
+#[derive(Drop)]
+pub struct ClientState {
+    alloc: Global,
+    mode: ClientMode,
+    capacity: u64,
+    log_max: u64,
+    // it has room for an end, and for a Poll of each number that is owed
+    log: Vec<LogEntry>,
+    // all bytes for the link, of which the first were taken
+    queued: Vec<u8>,
+    taken: usize,
+    replied: u64,
+    // by number, behind the handshake's
+    desk: Vec<Desk>,
+    owed: usize,
+    marks: Marks,
+    slots: Vec<Holding>,
+    ended: bool,
+    broken: bool,
+}
+
+impl Model for ClientState {
+    ghost use Rattle.std.specs.Prelude.{◌+◌, ◌≤◌, reverse, cond, vec_len, vec_capacity};
+    ghost use Rattle.shared_cache.specs.Standing.{Standing, Keeps};
+    ghost use Rattle.std.specs.Coded.{codes};
+    ghost use Rattle.resp_value.specs.Code.{tree_code};
+
+    ghost Value = { Standing };
+
+    ghost coded = { Prim.hlevel (codes, tree_code) };
+
+    ghost view = { λ c. record { setup = record { mode = c.mode; capacity = c.capacity; log_max = c.log_max }; past = reverse c.log.items } };
+
+    ghost invariant = { λ c. record {
+      keeps : Keeps (record { mode = c.mode; capacity = c.capacity; log_max = c.log_max }) (reverse c.log.items)
+          c.queued.items c.taken c.replied c.desk.items c.owed c.marks c.slots.items c.ended c.broken;
+      room : vec_len c.log + c.owed + cond c.ended 0 1 ≤ vec_capacity c.log;
+    } };
+}
+
+impl ClientState {
+    ghost use Rattle.std.specs.Prelude.{◌==◌, true, false, not, is_some, option_map, take, nat_le};
+    ghost use Rattle.shared_cache.specs.declared.log.LogEntry.TheVariants as entry;
+    ghost use Rattle.shared_cache.specs.declared.notices.Notice.TheVariants.{Reply};
+    ghost use Rattle.shared_cache.specs.declared.log.ClientCall.TheVariants as call;
+    ghost use Rattle.shared_cache.specs.declared.log.Wire.TheVariants.{Main};
+    ghost use Rattle.shared_cache.specs.Notices.{kind_of, IsPush};
+    ghost use Rattle.shared_cache.specs.Log.{is_ready, is_ended, replies};
+    ghost use Rattle.shared_cache.specs.Held.{numbers, held, held_of, held_at, told};
+    ghost use Rattle.shared_cache.specs.Out.{untaken};
+    ghost use Rattle.shared_cache.specs.Steps.{ClientStep, answer_ask, is_full, is_welcome, fault_of};
+    ghost use Rattle.shared_cache.specs.Standing.{IsCallable, IsLast, IsServed, added};
+    ghost use Rattle.shared_cache.specs.Laws.{LegalLog};
+
+    /// A client with an empty log, whose handshake is queued.
+    pub fn new(
+        alloc: Global,
+        mode: ClientMode,
+        capacity: u64,
+        log_max: u64,
+    ) -> Result<ClientState, NoMemory>
+        requires mode { IsServed mode }
+        requires capacity { (0 < capacity) × (capacity ≤ 1000000) }
+        requires log_max { 0 < log_max }
+        ensures { IfOk result (λ c. c ≡ record { setup = record { mode = mode; capacity = capacity; log_max = log_max }; past = [] }) }
+    {
+        let queued = greeting(alloc)?;
+        Ok(ClientState {
+            alloc,
+            mode,
+            capacity,
+            log_max,
+            log: Vec::with_capacity(alloc, 1)?,
+            queued,
+            taken: 0,
+            replied: 0,
+            desk: Vec::new(alloc),
+            owed: 0,
+            marks: Marks::new(alloc),
+            slots: Vec::new(alloc),
+            ended: false,
+            broken: false,
+        })
+    }
+
+    /// The entries so far, the oldest first.
+    pub fn log(&self) -> &[LogEntry]
+        ensures { result.now ≡ reverse self.now.past }
+    {
+        self.log.as_slice()
+    }
+
+    /// What is held, in byte order of the query's printed words: the query, the value, and the
+    /// number of the fetch. None past the last.
+    pub fn held(&self, place: usize) -> Option<(&Query, &Value, u64)>
+        ensures { option_map (λ r. (r.0.now, r.1.now, r.2)) result ≡ told (held_at place (held self.now.setup self.now.past)) }
+    {
+        let slot = held_at(&self.slots, place)?;
+        Some((&slot.query, &slot.value, slot.number))
+    }
+
+    fn is_over(&self) -> bool
+        ensures { result ≡ is_ended self.now.setup.mode Main self.now.past }
+    {
+        self.ended
+    }
+
+    fn is_ready(&self) -> bool
+        ensures { result ≡ is_ready self.now.setup.mode self.now.past }
+    {
+        self.replied >= HANDSHAKE
+    }
+
+    fn entries(&self) -> u64
+        ensures { result ≡ length self.now.past }
+    {
+        self.log.len() as u64
+    }
+
+    fn is_full(&self) -> bool
+        ensures { result ≡ is_full self.now.setup self.now.past }
+    {
+        self.log.len() as u64 >= self.log_max
+    }
+
+    // The link ends by this entry.
+    fn finish(&mut self, entry: LogEntry)
+        requires open { is_ended self.old.setup.mode Main self.old.past ≡ false }
+        requires last { IsLast entry }
+        ensures { self.new ≡ added entry self.old }
+    {
+        self.marks.void_all();
+        self.slots.clear();
+        self.ended = true;
+        self.log.push_reserved(entry);
+    }
+
+    fn end(&mut self) -> ClientReply
+        ensures setup { self.new.setup ≡ self.old.setup }
+        ensures step { ClientStep self.old.setup self.old.past (call.End Main) result self.new.past }
+    {
+        if self.is_over() {
+            return ClientReply::Noted;
+        }
+        self.finish(LogEntry::End(Wire::Main));
+        ClientReply::Noted
+    }
+
+    fn hand_out(&mut self, number: u64) -> ClientReply
+        ensures setup { self.new.setup ≡ self.old.setup }
+        ensures step { ClientStep self.old.setup self.old.past (call.Poll number) result self.new.past }
+    {
+        if number <= HANDSHAKE {
+            return ClientReply::Refused(ClientRefusal::NoNumber { number });
+        }
+        if number - HANDSHAKE > self.desk.len() as u64 {
+            return ClientReply::Refused(ClientRefusal::NoNumber { number });
+        }
+        let place = (number - HANDSHAKE - 1) as usize;
+        match hand_over(&mut self.desk, place) {
+            Handed::Gone => ClientReply::Refused(ClientRefusal::NoNumber { number }),
+            Handed::Waiting => {
+                if self.ended {
+                    return ClientReply::Refused(ClientRefusal::Down { wire: Wire::Main });
+                }
+                ClientReply::NotYet
+            }
+            Handed::There(value) => {
+                self.owed -= 1;
+                self.log.push_reserved(LogEntry::Poll(number));
+                ClientReply::Answer { value }
+            }
+        }
+    }
+
+    fn is_drained(&self) -> bool
+        ensures { result ≡ (length (untaken self.now.setup Main self.now.past) == 0) }
+    {
+        self.taken == self.queued.len()
+    }
+
+    fn give(&mut self, most: u64) -> Result<Octets, NoMemory>
+        requires { is_ended self.old.setup.mode Main self.old.past ≡ false }
+        ensures bytes { IfOk result (λ b. b ≡ take most (untaken self.old.setup Main self.old.past)) }
+        ensures ok { OnOk result (self.new ≡ added (entry.TakeOut Main most) self.old) }
+        ensures err { OnErr result (self.new ≡ self.old) }
+    {
+        let rest = self.queued.split_at(self.taken).1;
+        let count = rest.len().min(most as usize);
+        let bytes = Octets::from_slice(self.alloc, rest.split_at(count).0)?;
+        self.log.reserve(self.owed + 2)?;
+        self.taken += count;
+        self.log.push_reserved(LogEntry::TakeOut(Wire::Main, most));
+        Ok(bytes)
+    }
+
+    fn take_out(&mut self, most: u64) -> ClientReply
+        ensures setup { self.new.setup ≡ self.old.setup }
+        ensures step { ClientStep self.old.setup self.old.past (call.TakeOut Main most) result self.new.past }
+    {
+        if self.is_over() {
+            return ClientReply::Refused(ClientRefusal::Down { wire: Wire::Main });
+        }
+        if self.is_drained() {
+            return ClientReply::Quiet;
+        }
+        if self.is_full() {
+            return ClientReply::Refused(ClientRefusal::LogFull {
+                entries: self.entries(),
+            });
+        }
+        match self.give(most) {
+            Ok(bytes) => ClientReply::Bytes(bytes),
+            Err(_) => ClientReply::Refused(ClientRefusal::NoMemory),
+        }
+    }
+
+    // The words go out, and what they write goes.
+    fn pass_on(&mut self, words: Words) -> Result<u64, NoMemory>
+        requires { is_ended self.old.setup.mode Main self.old.past ≡ false }
+        ensures number { IfOk result (λ n. n ≡ numbers self.old.setup self.old.past + 1) }
+        ensures ok { OnOk result (self.new ≡ added (entry.Send words) self.old) }
+        ensures err { OnErr result (self.new ≡ self.old) }
+    {
+        let written = written_by(self.alloc, &words)?;
+        self.log.reserve(self.owed + 3)?;
+        enqueue(&words, &mut self.queued, &mut self.desk)?;
+        spoil(&mut self.marks, &mut self.slots, &written);
+        self.owed += 1;
+        self.log.push_reserved(LogEntry::Send(words));
+        Ok(HANDSHAKE + self.desk.len() as u64)
+    }
+
+    fn send(&mut self, words: Words) -> ClientReply
+        ensures setup { self.new.setup ≡ self.old.setup }
+        ensures step { ClientStep self.old.setup self.old.past (call.Send words) result self.new.past }
+    {
+        if self.is_over() {
+            return ClientReply::Refused(ClientRefusal::Down { wire: Wire::Main });
+        }
+        if !self.is_ready() {
+            return ClientReply::Refused(ClientRefusal::NotReady);
+        }
+        if is_control(&words) {
+            return ClientReply::Refused(ClientRefusal::Control);
+        }
+        if self.is_full() {
+            return ClientReply::Refused(ClientRefusal::LogFull {
+                entries: self.entries(),
+            });
+        }
+        match self.pass_on(words) {
+            Ok(number) => ClientReply::Sent { number },
+            Err(_) => ClientReply::Refused(ClientRefusal::NoMemory),
+        }
+    }
+
+    // A hit: the key was used.
+    fn hit(&mut self, query: Query) -> Result<(), NoMemory>
+        requires { is_some (held_of query (held self.old.setup self.old.past)) ≡ true }
+        ensures ok { OnOk result (self.new ≡ added (entry.Ask query) self.old) }
+        ensures err { OnErr result (self.new ≡ self.old) }
+    {
+        self.log.reserve(self.owed + 2)?;
+        let now = self.log.len() as u64 + 1;
+        touch(&mut self.slots, query.key(), now);
+        self.log.push_reserved(LogEntry::Ask(query));
+        Ok(())
+    }
+
+    // A miss: the query goes out, and its mark stands while caching is on.
+    fn fetch(&mut self, query: Query) -> Result<u64, NoMemory>
+        requires open { is_ended self.old.setup.mode Main self.old.past ≡ false }
+        requires ready { is_ready self.old.setup.mode self.old.past ≡ true }
+        requires miss { held_of query (held self.old.setup self.old.past) ≡ None }
+        ensures number { IfOk result (λ n. n ≡ numbers self.old.setup self.old.past + 1) }
+        ensures ok { OnOk result (self.new ≡ added (entry.Ask query) self.old) }
+        ensures err { OnErr result (self.new ≡ self.old) }
+    {
+        let marked = query.copy()?;
+        let number = HANDSHAKE + self.desk.len() as u64 + 1;
+        let before = self.queued.len();
+        self.log.reserve(self.owed + 3)?;
+        enqueue(query.words(), &mut self.queued, &mut self.desk)?;
+        match mark(&mut self.marks, self.broken, number, marked) {
+            Ok(()) => {}
+            Err(_) => {
+                self.queued.truncate(before);
+                let _ = self.desk.pop();
+                return Err(NoMemory);
+            }
+        }
+        self.owed += 1;
+        self.log.push_reserved(LogEntry::Ask(query));
+        Ok(number)
+    }
+
+    fn answer(&mut self, query: Query) -> Result<ClientReply, NoMemory>
+        requires open { is_ended self.old.setup.mode Main self.old.past ≡ false }
+        requires ready { is_ready self.old.setup.mode self.old.past ≡ true }
+        ensures reply { IfOk result (λ r. r ≡ answer_ask (held_of query (held self.old.setup self.old.past)) (numbers self.old.setup self.old.past + 1)) }
+        ensures ok { OnOk result (self.new ≡ added (entry.Ask query) self.old) }
+        ensures err { OnErr result (self.new ≡ self.old) }
+    {
+        match held_of(&self.slots, &query) {
+            Some(slot) => {
+                let value = slot.value.copy()?;
+                let number = slot.number;
+                self.hit(query)?;
+                Ok(ClientReply::Hit { value, number })
+            }
+            None => Ok(ClientReply::Sent {
+                number: self.fetch(query)?,
+            }),
+        }
+    }
+
+    fn ask(&mut self, query: Query) -> ClientReply
+        ensures setup { self.new.setup ≡ self.old.setup }
+        ensures step { ClientStep self.old.setup self.old.past (call.Ask query) result self.new.past }
+    {
+        if self.is_over() {
+            return ClientReply::Refused(ClientRefusal::Down { wire: Wire::Main });
+        }
+        if !self.is_ready() {
+            return ClientReply::Refused(ClientRefusal::NotReady);
+        }
+        if self.is_full() {
+            return ClientReply::Refused(ClientRefusal::LogFull {
+                entries: self.entries(),
+            });
+        }
+        match self.answer(query) {
+            Ok(reply) => reply,
+            Err(_) => ClientReply::Refused(ClientRefusal::NoMemory),
+        }
+    }
+
+    // A push that is no end.
+    fn heed(&mut self, notice: Notice, value: Value) -> Result<(), NoMemory>
+        requires open { is_ended self.old.setup.mode Main self.old.past ≡ false }
+        requires notice { notice ≡ kind_of value }
+        requires push { IsPush notice }
+        ensures ok { OnOk result (self.new ≡ added (entry.Got Main value) self.old) }
+        ensures err { OnErr result (self.new ≡ self.old) }
+    {
+        let written = told(self.alloc, notice, &value)?;
+        self.log.reserve(self.owed + 2)?;
+        spoil(&mut self.marks, &mut self.slots, &written);
+        self.broken = is_broken_by(notice, self.broken);
+        self.log.push_reserved(LogEntry::Got(Wire::Main, value));
+        Ok(())
+    }
+
+    // The reply to the oldest number without one.
+    fn settle(&mut self, value: Value) -> Result<(), NoMemory>
+        requires open { is_ended self.old.setup.mode Main self.old.past ≡ false }
+        requires reply { kind_of value ≡ Reply }
+        requires awaited { fault_of self.old.setup self.old.past Main value ≡ None }
+        ensures ok { OnOk result (self.new ≡ added (entry.Got Main value) self.old) }
+        ensures err { OnErr result (self.new ≡ self.old) }
+    {
+        let number = self.replied + 1;
+        let logged = value.copy()?;
+        self.log.reserve(self.owed + 2)?;
+        let now = self.log.len() as u64 + 1;
+        refill(
+            self.alloc,
+            self.capacity,
+            &mut self.marks,
+            &mut self.slots,
+            number,
+            now,
+            &logged,
+        )?;
+        put_reply(&mut self.desk, number, value);
+        self.replied = number;
+        self.log.push_reserved(LogEntry::Got(Wire::Main, logged));
+        Ok(())
+    }
+
+    fn is_awaiting(&self) -> bool
+        ensures { result ≡ not (nat_le (numbers self.now.setup self.now.past) (length (replies self.now.setup.mode self.now.past))) }
+    {
+        self.replied < HANDSHAKE + self.desk.len() as u64
+    }
+
+    fn welcomes(&self, value: &Value) -> bool
+        ensures { result ≡ is_welcome (length (replies self.now.setup.mode self.now.past) + 1) value.now }
+    {
+        self.replied > 1 || is_welcome(self.replied + 1, value)
+    }
+
+    fn got(&mut self, value: Value) -> ClientReply
+        ensures setup { self.new.setup ≡ self.old.setup }
+        ensures step { ClientStep self.old.setup self.old.past (call.Got Main value) result self.new.past }
+    {
+        if self.is_over() {
+            return ClientReply::Refused(ClientRefusal::Down { wire: Wire::Main });
+        }
+        match kind_of(&value) {
+            Notice::Reply => self.got_reply(value),
+            Notice::Malformed => {
+                self.finish(LogEntry::Bad(Wire::Main, value));
+                ClientReply::Refused(ClientRefusal::BadPush { wire: Wire::Main })
+            }
+            notice => self.got_push(notice, value),
+        }
+    }
+
+    fn got_push(&mut self, notice: Notice, value: Value) -> ClientReply
+        requires open { is_ended self.old.setup.mode Main self.old.past ≡ false }
+        requires notice { notice ≡ kind_of value }
+        requires push { IsPush notice }
+        ensures setup { self.new.setup ≡ self.old.setup }
+        ensures step { ClientStep self.old.setup self.old.past (call.Got Main value) result self.new.past }
+    {
+        if self.is_full() {
+            return ClientReply::Refused(ClientRefusal::LogFull {
+                entries: self.entries(),
+            });
+        }
+        match self.heed(notice, value) {
+            Ok(()) => ClientReply::Noted,
+            Err(_) => ClientReply::Refused(ClientRefusal::NoMemory),
+        }
+    }
+
+    fn got_reply(&mut self, value: Value) -> ClientReply
+        requires open { is_ended self.old.setup.mode Main self.old.past ≡ false }
+        requires reply { kind_of value ≡ Reply }
+        ensures setup { self.new.setup ≡ self.old.setup }
+        ensures step { ClientStep self.old.setup self.old.past (call.Got Main value) result self.new.past }
+    {
+        if !self.is_awaiting() {
+            self.finish(LogEntry::Bad(Wire::Main, value));
+            return ClientReply::Refused(ClientRefusal::Unexpected { wire: Wire::Main });
+        }
+        if !self.welcomes(&value) {
+            self.finish(LogEntry::Bad(Wire::Main, value));
+            return ClientReply::Refused(ClientRefusal::SetupRefused { wire: Wire::Main });
+        }
+        if self.is_full() {
+            return ClientReply::Refused(ClientRefusal::LogFull {
+                entries: self.entries(),
+            });
+        }
+        match self.settle(value) {
+            Ok(()) => ClientReply::Noted,
+            Err(_) => ClientReply::Refused(ClientRefusal::NoMemory),
+        }
+    }
+
+    /// One turn: its answer, and one more entry in the log, or none, are those of the definition.
+    pub fn turn(&mut self, call: ClientCall) -> ClientReply
+        requires { IsCallable call }
+        ensures setup { self.new.setup ≡ self.old.setup }
+        ensures step { ClientStep self.old.setup self.old.past call result self.new.past }
+        ensures legal { LegalLog self.old.setup self.old.past → LegalLog self.new.setup self.new.past }
+    {
+        match call {
+            ClientCall::Ask(query) => {
+                // legal logs hold queries alone, and its words read as the query
+                let _words = query.words();
+                self.ask(query)
+            }
+            ClientCall::Send(words) => self.send(words),
+            ClientCall::Poll(number) => self.hand_out(number),
+            ClientCall::TakeOut(_, most) => self.take_out(most),
+            ClientCall::Got(_, value) => self.got(value),
+            ClientCall::End(_) => self.end(),
+        }
+    }
+}

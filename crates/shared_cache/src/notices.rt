@@ -1,0 +1,137 @@
+// What a value that was read is to a client.
+ghost use Rattle.std.specs.Prelude.{◌≡◌, ◌||◌, ◌∷◌, List, ℕ, IfOk, map};
+ghost use Rattle.resp_value.specs.Of.{tree_of};
+ghost use Rattle.resp_value.specs.Tree.{trees_of};
+ghost use Rattle.shared_cache.specs.Notices.{all_blobs, payload, named_push, push, kind_of, blobs_in, named_keys, spoils_as};
+ghost use Rattle.shared_cache.specs.Log.{is_broken_notice};
+ghost use Rattle.command_words.specs.Queries.{names};
+
+use command_words::Written;
+use resp_value::{NoMemory, Value, Words};
+use std::alloc::Global;
+
+/// What a value on a client's link is.
+#[derive(Clone, Copy, Debug, PartialEq, Eq)]
+pub enum Notice {
+    /// No push: the reply to a command.
+    Reply,
+    /// An invalidation of keys.
+    Keys,
+    /// An invalidation of every key.
+    All,
+    /// A redirection is broken.
+    Broken,
+    /// A push of another kind.
+    Other,
+    /// An invalidation that is none of the forms.
+    Malformed,
+}
+
+fn are_blobs(values: &[Value]) -> bool
+    ensures { result ≡ all_blobs (trees_of (map tree_of values.now)) }
+{
+    match values {
+        [] => true,
+        [Value::Blob(_), rest @ ..] => are_blobs(rest),
+        _ => false,
+    }
+}
+
+fn payload(value: &Value) -> Notice
+    ensures { result ≡ payload (tree_of value.now) }
+{
+    match value {
+        Value::Array(keys) => {
+            if are_blobs(keys.as_slice()) {
+                Notice::Keys
+            } else {
+                Notice::Malformed
+            }
+        }
+        Value::Null => Notice::All,
+        Value::NullArray => Notice::All,
+        _ => Notice::Malformed,
+    }
+}
+
+fn named(name: &[u8], rest: &[Value]) -> Notice
+    ensures { result ≡ named_push name.now (map tree_of rest.now) }
+{
+    if name == b"invalidate".as_slice() {
+        match rest {
+            [value] => payload(value),
+            _ => Notice::Malformed,
+        }
+    } else if name == b"tracking-redir-broken".as_slice() {
+        Notice::Broken
+    } else {
+        Notice::Other
+    }
+}
+
+fn push(values: &[Value]) -> Notice
+    ensures { result ≡ push (map tree_of values.now) }
+{
+    match values {
+        [Value::Blob(name), rest @ ..] => named(name.as_slice(), rest),
+        _ => Notice::Other,
+    }
+}
+
+/// What a value is to a client that is served on one link.
+pub fn kind_of(value: &Value) -> Notice
+    ensures { result ≡ kind_of value.now }
+{
+    match value {
+        Value::Push(values) => push(values.as_slice()),
+        _ => Notice::Reply,
+    }
+}
+
+fn blobs(alloc: Global, values: &[Value]) -> Result<Words, NoMemory>
+    ensures { IfOk result (λ w. w ≡ blobs_in (trees_of (map tree_of values.now))) }
+{
+    let mut words = Words::new(alloc);
+    for value in values {
+        match value {
+            Value::Blob(bytes) => words.push(bytes.copy()?)?,
+            _ => {}
+        }
+    }
+    Ok(words)
+}
+
+// The keys that an invalidation names.
+fn named_keys(alloc: Global, value: &Value) -> Result<Words, NoMemory>
+    ensures { IfOk result (λ w. w ≡ named_keys value.now) }
+{
+    match value {
+        Value::Push(values) => match values.as_slice() {
+            [_, Value::Array(keys)] => blobs(alloc, keys.as_slice()),
+            _ => Ok(Words::new(alloc)),
+        },
+        _ => Ok(Words::new(alloc)),
+    }
+}
+
+/// What a value of this kind tells to be written: nothing, where it tells of no write.
+pub fn told(alloc: Global, notice: Notice, value: &Value) -> Result<Written, NoMemory>
+    ensures { IfOk result (λ w. (key : List ℕ) → names w key ≡ spoils_as notice (named_keys value.now) key) }
+{
+    match notice {
+        Notice::Keys => Ok(Written::Keys(named_keys(alloc, value)?)),
+        Notice::All => Ok(Written::All),
+        Notice::Broken => Ok(Written::All),
+        _ => Ok(Written::Keys(Words::new(alloc))),
+    }
+}
+
+/// Whether a redirection was or is told to be broken.
+pub fn is_broken_by(notice: Notice, before: bool) -> bool
+    ensures { result ≡ (is_broken_notice notice || before) }
+{
+    match notice {
+        Notice::Broken => true,
+        _ => before,
+    }
+}
