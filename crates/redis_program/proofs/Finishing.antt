@@ -180,3 +180,19 @@ last_not_done ending result out1 out2 k1 k2 n last e = elim last [
   | inr (inr (inl h)) ↦ let clash : status.WriteFault ≡ status.Done = sym h.0 ∙ e in (let no : ⊥ = cc in no)
   | inr (inr (inr h)) ↦ let clash : status.WriteFault ≡ status.Done = sym h.0 ∙ e in (let no : ⊥ = cc in no)
 ]
+
+no_usage : (ending : Ending) → status_of ending ≡ status.Usage → ⊥
+no_usage Done e = cc
+no_usage (BadLine k) e = cc
+no_usage ReadFault e = cc
+no_usage WriteFault e = cc
+no_usage (Refused k f) e = cc
+no_usage NoMemory e = cc
+
+pub last_not_usage : (ending : Ending) (result : Status) (out1 out2 : Option (List ℕ)) (k1 k2 : Counts) → LastGives ending result out1 out2 k1 k2 → result ≡ status.Usage → ⊥
+last_not_usage ending result out1 out2 k1 k2 last e = elim last [
+  | inl h ↦ no_usage ending (sym h.0 ∙ e)
+  | inr (inl h) ↦ let clash : status.NoMemory ≡ status.Usage = sym h.0 ∙ e in (let no : ⊥ = cc in no)
+  | inr (inr (inl h)) ↦ let clash : status.WriteFault ≡ status.Usage = sym h.0 ∙ e in (let no : ⊥ = cc in no)
+  | inr (inr (inr h)) ↦ let clash : status.WriteFault ≡ status.Usage = sym h.0 ∙ e in (let no : ⊥ = cc in no)
+]

@@ -59,6 +59,7 @@ pub fn run<R: Threads + Wait + Sync, S: Source, K: Sink, N: Net, C: Clock + Sync
     _clock: &C,
 ) -> Outcome
     ensures usage { command_of (map string_bytes words.now) ≡ None → UsageGives result.status (K.contents output.old) (K.contents output.new) }
+    ensures usage_only { result.status ≡ status.Usage → command_of (map string_bytes words.now) ≡ None }
     ensures unread { command_of (map string_bytes words.now) ≡ None → input.new ≡ input.old }
     ensures world { command_of (map string_bytes words.now) ≡ Some command.World
         → Writes (Comes (S.left input.old) (S.left input.new)) result.status (K.contents output.old) (K.contents output.new) }

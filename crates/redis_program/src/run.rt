@@ -32,6 +32,7 @@ pub fn run_world<S: Source, K: Sink>(
     ensures exact { IfSome (S.left input.old) (λ text. Writes (EndsAs (text_lines text)) result (K.contents output.old) (K.contents output.new)) }
     ensures complete { ¬ Rose (S.counts input.old).faults (S.counts input.new).faults → ¬ Rose (K.counts output.old).faults (K.counts output.new).faults
         → IfSome (S.left input.old) (λ text. IsVerdict (text_lines text) result) }
+    ensures understood { ¬ (result ≡ status.Usage) }
     ensures done { result ≡ status.Done → Rose (S.counts input.old).ends (S.counts input.new).ends }
     ensures read { result ≡ status.ReadFault → Rose (S.counts input.old).faults (S.counts input.new).faults }
     ensures write { result ≡ status.WriteFault → Rose (K.counts output.old).faults (K.counts output.new).faults }

@@ -1,5 +1,5 @@
 use Rattle.redis_program.specs.declared.status.Status.TheVariants as status
-use Rattle.redis_program.proofs.Finishing.{done_writes, cut_writes, finishes, writes_known, complete_known, last_read, last_wrote, last_not_done}
+use Rattle.redis_program.proofs.Finishing.{done_writes, cut_writes, finishes, writes_known, complete_known, last_read, last_wrote, last_not_done, last_not_usage}
 use Rattle.redis_program.proofs.run.run_world.Goals as goal
 
 pub returns-in-Done-clause-gives : goal.returns-in-Done-clause-gives
@@ -44,3 +44,6 @@ returns-in_default-clause-read g c = λ e. last_read c.play_schedule.result c.wr
 
 pub returns-in_default-clause-write : goal.returns-in_default-clause-write
 returns-in_default-clause-write g c = λ e. last_wrote c.play_schedule.result c.write_last.result _ _ _ _ _ c.in_default.not-WriteFault c.write_last.ensures c.play_schedule.ensures.wrote e
+
+pub returns-in_default-clause-understood : goal.returns-in_default-clause-understood
+returns-in_default-clause-understood g c = λ e. last_not_usage c.play_schedule.result c.write_last.result _ _ _ _ c.write_last.ensures e
