@@ -14,3 +14,6 @@ pub use client::ClientState;
 pub use holding::{Desk, Holding};
 pub use log::{Caching, ClientCall, ClientMode, ClientRefusal, ClientReply, LogEntry, Shape, Wire};
 pub use notices::Notice;
+
+#[cfg(test)]
+mod tests;
