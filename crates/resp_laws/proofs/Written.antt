@@ -18,12 +18,12 @@ use Rattle.resp_laws.specs.Streams.{EachFits, RequestFits}
 -- ---- the digits of a number
 
 -- digits that lead from m to n
-abbrev Digits : ℕ → List ℕ → ℕ → Type 0
+abbrev pub Digits : ℕ → List ℕ → ℕ → Type 0
 Digits m [] n = m ≡ n
 Digits m (c ∷ ds) n = (48 ≤ c) × (c ≤ 57) × Digits (m * 10 + (c - 48)) ds n
 
 -- `0`, or digits that begin with 1 to 9
-abbrev IsLength : ℕ → List ℕ → Type 0
+abbrev pub IsLength : ℕ → List ℕ → Type 0
 IsLength n [] = ⊥
 IsLength n (c ∷ ds) = ((c ≡ 48) × (ds ≡ []) × (n ≡ 0)) ⊎ ((49 ≤ c) × (c ≤ 57) × Digits (c - 48) ds n)
 
@@ -43,10 +43,10 @@ next_digit n (c ∷ ds) le h =
       | inr z ↦ inr (z.0, z.1, digit_more ds (c - 48) (n / 10) (48 + n % 10) n (omega arith) (omega arith) (omega arith) z.2)
     ]
 
-is_length : (n : ℕ) → n < 2 ^ 64 → IsLength n (decimal n)
+pub is_length : (n : ℕ) → n < 2 ^ 64 → IsLength n (decimal n)
 is_length n lt = decimal_by_steps IsLength one_digit next_digit n lt
 
-grows : (ds : List ℕ) (m n : ℕ) → Digits m ds n → m ≤ n
+pub grows : (ds : List ℕ) (m n : ℕ) → Digits m ds n → m ≤ n
 grows [] m n h = omega arith
 grows (c ∷ ds) m n h = omega (arith, grows ds (m * 10 + (c - 48)) n h.2)
 
@@ -88,7 +88,7 @@ module _ (rule : LengthRule) where
   unfolding length_at digits_at
   some_only n c ds r le lo a b h = ap (λ q. taken q c (ds ++ 13 ∷ 10 ∷ r)) (lead_step c a b (omega (arith, grows ds (c - 48) n h))) ∙ digits_rest n ds r (c - 48) le lo h
 
-  length_only : (n : ℕ) (ds r : List ℕ) → n ≤ rule.limit → rule.least ≤ n → IsLength n ds → length_at rule (ds ++ 13 ∷ 10 ∷ r) ≡ Whole (Some n) r
+  pub length_only : (n : ℕ) (ds r : List ℕ) → n ≤ rule.limit → rule.least ≤ n → IsLength n ds → length_at rule (ds ++ 13 ∷ 10 ∷ r) ≡ Whole (Some n) r
   length_only n [] r le lo h = absurd h
   length_only n (c ∷ ds) r le lo h =
       elim h [
@@ -98,19 +98,19 @@ module _ (rule : LengthRule) where
 
 -- ---- a word is read
 
-end_only : (t r : List ℕ) → ending t (13 ∷ 10 ∷ r) ≡ Whole t r
+pub end_only : (t r : List ℕ) → ending t (13 ∷ 10 ∷ r) ≡ Whole t r
 unfolding ending line_feed only_byte
 end_only t r = refl
 
-counted_only : (w r : List ℕ) → counted_at (length w) (w ++ 13 ∷ 10 ∷ r) ≡ Whole w r
+pub counted_only : (w r : List ℕ) → counted_at (length w) (w ++ 13 ∷ 10 ∷ r) ≡ Whole w r
 unfolding counted_at
 counted_only w r = ap (λ q. q >>= λ t s. ending t s) (bytes_exact w (13 ∷ 10 ∷ r)) ∙ end_only w r
 
-head_parts : (mark n : ℕ) (r : List ℕ) → head mark n ++ r ≡ mark ∷ (decimal n ++ 13 ∷ 10 ∷ r)
+pub head_parts : (mark n : ℕ) (r : List ℕ) → head mark n ++ r ≡ mark ∷ (decimal n ++ 13 ∷ 10 ∷ r)
 unfolding head line
 head_parts mark n r = ap (λ (q : List ℕ). mark ∷ q) (append_assoc (decimal n) (13 ∷ 10 ∷ []) r)
 
-counted_parts : (mark : ℕ) (w r : List ℕ) → counted mark w ++ r ≡ mark ∷ (decimal (length w) ++ 13 ∷ 10 ∷ (w ++ 13 ∷ 10 ∷ r))
+pub counted_parts : (mark : ℕ) (w r : List ℕ) → counted mark w ++ r ≡ mark ∷ (decimal (length w) ++ 13 ∷ 10 ∷ (w ++ 13 ∷ 10 ∷ r))
 unfolding counted
 counted_parts mark w r =
     append_assoc (head mark (length w) ++ w) (13 ∷ 10 ∷ []) r ∙ append_assoc (head mark (length w)) w (13 ∷ 10 ∷ r) ∙ head_parts mark (length w) (w ++ 13 ∷ 10 ∷ r)

@@ -12,10 +12,6 @@ pub record Steady {A : Type 0} (read : List ℕ → Answer A) : Type 0 where
   pub whole : (b r : List ℕ) (x : A) → read b ≡ Whole x r → (m : List ℕ) → read (b ++ m) ≡ Whole x (r ++ m)
   pub bad : (b r : List ℕ) (g : Fault) → read b ≡ Bad g r → (m : List ℕ) → read (b ++ m) ≡ Bad g (r ++ m)
 
--- what is whole under the limit of the whole stays so
-abbrev pub KeepsWhole : {A : Type 0} → (List ℕ → Answer A) → Type 0
-KeepsWhole {A} read = (b r : List ℕ) (x : A) → read b ≡ Whole x r → (m : List ℕ) → read (b ++ m) ≡ Whole x (r ++ m)
-
 abbrev pub NoPrefix : Type 0
 NoPrefix = (x y : List ℕ) (t u : Tree) → value_at x ≡ Whole t [] → value_at (x ++ y) ≡ Whole u [] → (t ≡ u) × (y ≡ [])
 

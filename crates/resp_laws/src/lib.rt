@@ -1,20 +1,21 @@
 //! Laws of the definitions that the readers of streams meet: each function below is a law, and does nothing.
 #![tactic(auto)]
 
-ghost use Rattle.resp_laws.specs.Streams.{Steady, KeepsWhole, FirstFault, Unfinished, WrittenRequests, NoPrefix};
+ghost use Rattle.resp_laws.specs.Streams.{Steady, FirstFault, Unfinished, WrittenRequests, NoPrefix};
+ghost use Rattle.resp_laws.specs.Values.{WrittenValues};
 ghost use Rattle.resp_stream.specs.Request.{request_begun, request_at};
 ghost use Rattle.resp_stream.specs.Value.{value_in, value_at};
 
-/// What was read of a stream is read the same, whatever is fed behind it; and so is a fault, the limit on the whole left aside.
+/// What was read of a stream is read the same, whatever is fed behind it; and so is a fault: with the limit on the whole left aside, and under it.
 pub fn pieces_of_requests_do_not_matter()
     ensures begun { Steady request_begun }
-    ensures whole { KeepsWhole request_at }
+    ensures under_the_limit { Steady request_at }
 {}
 
 /// The same of values.
 pub fn pieces_of_values_do_not_matter()
     ensures begun { Steady (value_in 8) }
-    ensures whole { KeepsWhole value_at }
+    ensures under_the_limit { Steady value_at }
 {}
 
 /// No whole value's bytes are a proper prefix of another's.
@@ -37,4 +38,9 @@ pub fn a_fault_is_the_first_byte_past_mending()
 /// A request that passes no limit is read as the words that were written, whatever follows it.
 pub fn what_is_written_of_a_request_is_read()
     ensures { WrittenRequests }
+{}
+
+/// A value that passes no limit is read as what its spelling carries, whatever follows it.
+pub fn what_is_written_of_a_value_is_read()
+    ensures { WrittenValues }
 {}
