@@ -44,3 +44,6 @@ pub fn what_is_written_of_a_request_is_read()
 pub fn what_is_written_of_a_value_is_read()
     ensures { WrittenValues }
 {}
+
+#[cfg(test)]
+mod tests;
