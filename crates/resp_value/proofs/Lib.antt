@@ -1,3 +1,4 @@
 pub mod Growing
 pub mod OneToOne
 pub mod Spelled
+pub mod Turns

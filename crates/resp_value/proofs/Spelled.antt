@@ -50,7 +50,7 @@ take_map f zero xs = refl
 take_map f (suc i) [] = refl
 take_map f (suc i) (x ∷ xs) = ap (λ r. f x ∷ r) (take_map f i xs)
 
-map_snoc : {A B : Type 0} (f : A → B) (xs : List A) (x : A) → map f (xs ++ x ∷ []) ≡ map f xs ++ f x ∷ []
+pub map_snoc : {A B : Type 0} (f : A → B) (xs : List A) (x : A) → map f (xs ++ x ∷ []) ≡ map f xs ++ f x ∷ []
 map_snoc f [] x = refl
 map_snoc f (y ∷ xs) x = ap (λ r. f y ∷ r) (map_snoc f xs x)
 

@@ -1,5 +1,5 @@
 -- What one more entry does to the stream of a connection, and to what was taken of it.
-use Rattle.std.proofs.Common.{◌≡◌, ◌+◌, ◌-◌, ◌<◌, ◌≤◌, ℕ, List, [], ◌∷◌, ◌++◌, length, take, drop, min, sym, ap, ◌∙◌, refl, arith, true, false, cond, append-nil, length-append, inl, inr}
+use Rattle.std.proofs.Common.{◌≡◌, ◌+◌, ◌-◌, ◌<◌, ◌≤◌, ℕ, List, [], ◌∷◌, ◌++◌, length, drop, min, sym, ap, ◌∙◌, refl, arith, true, false, cond, append-nil, length-append, inl, inr}
 use Rattle.std.specs.Prelude.{◌==◌}
 use Rattle.std.specs.List.{flat_map}
 use Rattle.std.proofs.lemmas.Grind.{flat_map-append}
@@ -9,7 +9,7 @@ use Rattle.std.proofs.lemmas.Bool.{cases_lt}
 use Rattle.std.proofs.lemmas.Bool.Decides.{nat_tests}
 use Rattle.serial_model.specs.declared.history.Entry.{Entry}
 use Rattle.serial_model.specs.declared.history.Entry.TheVariants.{Admit, Run, Take}
-use Rattle.serial_model.specs.History.{admitted, is_connected, latest, ran, keyspace, sent, spelled, stream, taken, unsent, runs_of, IsLegal}
+use Rattle.serial_model.specs.History.{admitted, is_connected, ran, keyspace, sent, spelled, stream, taken, unsent, runs_of, IsLegal}
 
 pub connected : (past : List Entry) (id : ℕ) → is_connected past id ≡ true → (0 < id) × (id ≤ admitted past)
 connected past id h = (grind (arith, nat_tests), grind (arith, nat_tests))

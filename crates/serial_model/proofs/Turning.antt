@@ -1,8 +1,8 @@
 -- What one turn, and then any list of turns, does to what was given and to what ran.
-use Rattle.std.proofs.Common.{◌≡◌, ◌+◌, ◌-◌, ◌<◌, ◌≤◌, ℕ, List, [], ◌∷◌, ◌++◌, length, take, drop, min, max, sym, ap, subst, ◌∙◌, refl, arith, Bool, true, false, cond, append-nil, append_assoc, length-append, inl, inr}
+use Rattle.std.proofs.Common.{◌≡◌, ◌+◌, ◌-◌, ℕ, List, [], ◌∷◌, ◌++◌, length, take, drop, min, max, sym, ap, subst, ◌∙◌, refl, arith, true, false, cond, append-nil, append_assoc, inl, inr}
 use Rattle.std.specs.Prelude.{◌==◌}
 use Rattle.std.proofs.lemmas.List.{take-append-le, length-drop}
-use Rattle.std.proofs.Math.Seq.{take-add, take-length}
+use Rattle.std.proofs.Math.Seq.{take-add}
 use Rattle.std.proofs.lemmas.List.{take_all}
 use Rattle.std.proofs.lemmas.Bool.{cases_lt, eqb-true}
 use Rattle.serial_model.specs.declared.history.Entry.{Entry}
@@ -12,7 +12,7 @@ use Rattle.serial_model.specs.declared.history.BookCall.TheVariants.{Admit, Run,
 use Rattle.serial_model.specs.declared.history.BookReply.{BookReply}
 use Rattle.serial_model.specs.declared.history.BookReply.TheVariants.{Admitted, Ran, Quiet, Bytes, Refused}
 use Rattle.serial_model.specs.declared.history.BookRefusal.TheVariants.{Gone, NoMemory}
-use Rattle.serial_model.specs.History.{admitted, is_connected, latest, ran, keyspace, stream, taken, unsent, runs_of, IsLegal}
+use Rattle.serial_model.specs.History.{admitted, is_connected, latest, stream, taken, unsent, runs_of, IsLegal}
 use Rattle.serial_model.specs.Steps.{Turn, taking, gone, running, book_step, BookStep, Turns, given_by, given, ran_by, answered}
 use Rattle.serial_model.proofs.Streams.{stream_own, stream_other, taken_le}
 

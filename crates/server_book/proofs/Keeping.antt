@@ -7,10 +7,10 @@ use Rattle.command_words.specs.Effects.{Space}
 use Rattle.serial_model.specs.declared.history.Entry.{Entry}
 use Rattle.serial_model.specs.declared.history.Entry.TheVariants.{Admit, Run, Take}
 use Rattle.serial_model.specs.declared.history.Post.{Post}
-use Rattle.serial_model.specs.History.{admitted, is_connected, latest, ran, keyspace, spelled, unsent, posted}
+use Rattle.serial_model.specs.History.{is_connected, latest, ran, keyspace, spelled, unsent, posted}
 use Rattle.serial_model.specs.declared.history.BookCall.TheVariants as call
 use Rattle.serial_model.specs.declared.history.BookReply.TheVariants.{Ran, Bytes}
-use Rattle.serial_model.specs.Steps.{Turn, book_step, taking, gone, running}
+use Rattle.serial_model.specs.Steps.{book_step, taking, gone, running}
 use Rattle.serial_model.proofs.Streams.{connected, unsent_fresh, unsent_admit, unsent_run_own, unsent_run_other, unsent_take_own, unsent_take_other}
 use Rattle.server_book.specs.Standing.{Keeps}
 

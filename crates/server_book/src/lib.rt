@@ -8,3 +8,6 @@ mod queue;
 
 pub use book::Book;
 pub use serial_model::{BookCall, BookRefusal, BookReply, Entry, Limits, Post};
+
+#[cfg(test)]
+mod tests;

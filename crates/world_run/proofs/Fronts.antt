@@ -1,5 +1,5 @@
 -- Lines that were appended from the front of a list of lines.
-use Rattle.std.proofs.Common.{◌≡◌, ℕ, List, [], ◌∷◌, ◌++◌, Result, Ok, Err, refl, sym, ap, ◌∙◌, append_assoc, append-nil}
+use Rattle.std.proofs.Common.{◌≡◌, List, [], ◌++◌, Result, Ok, Err, refl, sym, ap, ◌∙◌, append_assoc, append-nil}
 use Rattle.script_text.specs.declared.event.Event.{Event}
 use Rattle.script_text.specs.declared.line.Line.{Line}
 use Rattle.world_run.specs.declared.fault.WorldFault.{WorldFault}

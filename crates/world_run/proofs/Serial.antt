@@ -1,7 +1,6 @@
 -- One history serves all links, event by event.
-use Rattle.std.proofs.Common.{◌≡◌, ◌+◌, ◌<◌, ◌≤◌, ℕ, List, [], ◌∷◌, ◌++◌, Bool, true, false, cond, Some, None, Ok, Err, Result, length, take, slice_index_or, slice_set, refl, sym, ap, subst, ◌∙◌, arith, append_assoc, append-nil, length-append, length-set}
-use Rattle.std.specs.Prelude.{◌==◌, nat_lt, position}
-use Rattle.std.specs.List.{position_or_len}
+use Rattle.std.proofs.Common.{◌≡◌, ◌+◌, ◌<◌, ℕ, List, [], ◌∷◌, ◌++◌, Bool, true, false, cond, Some, None, Ok, Err, Result, length, take, slice_index_or, slice_set, refl, sym, ap, subst, ◌∙◌, arith, append_assoc, append-nil, length-append, length-set}
+use Rattle.std.specs.Prelude.{◌==◌}
 use Rattle.std.specs.declared.option.Option.{Option}
 use Rattle.std.specs.Str.{bytes_eq}
 use Rattle.std.proofs.lemmas.Bool.{eqb-true}
@@ -14,8 +13,8 @@ use Rattle.serial_model.specs.declared.history.Entry.TheVariants as entry
 use Rattle.serial_model.specs.declared.history.BookCall.TheVariants as call
 use Rattle.serial_model.specs.declared.history.BookReply.{BookReply}
 use Rattle.serial_model.specs.declared.history.BookReply.TheVariants.{Admitted, Ran, Quiet, Bytes, Refused}
-use Rattle.serial_model.specs.History.{admitted, is_connected, latest, stream, taken, runs_of, IsLegal}
-use Rattle.serial_model.specs.Steps.{Turn, book_step, running, given_by, ran_by}
+use Rattle.serial_model.specs.History.{admitted, is_connected, stream, taken, runs_of, IsLegal}
+use Rattle.serial_model.specs.Steps.{Turn, book_step, given_by, ran_by}
 use Rattle.serial_model.proofs.Streams.{stream_fresh, stream_admit, runs_fresh}
 use Rattle.serial_model.proofs.Turning.{step_gave, step_runs, step_legal, run_step, take_count}
 use Rattle.script_text.specs.declared.event.Event.{Event}
@@ -24,7 +23,7 @@ use Rattle.script_text.specs.declared.line.Line.{Line}
 use Rattle.script_text.specs.declared.line.Line.TheVariants.{Admit, Run, Take, Read}
 use Rattle.world_run.specs.declared.fault.WorldFault.{WorldFault}
 use Rattle.world_run.specs.WorldState.{WorldState, Fits}
-use Rattle.world_run.specs.World.{Stepped, start, step, place_of, reply_lines, served, served_lines, sent_lines, raw_step, say_step, flow_step, all_bytes}
+use Rattle.world_run.specs.World.{Stepped, start, step, place_of, reply_lines, served, served_lines, raw_step, say_step, flow_step, all_bytes}
 use Rattle.world_run.specs.Transcript.{on_step, transcript, after}
 use Rattle.world_run.specs.Serial.{said, read_on, Serves, OneHistory}
 use Rattle.world_run.proofs.Places.{placed, same_place, other_place, unplaced, or_else, place_push}

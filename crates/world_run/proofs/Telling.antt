@@ -1,13 +1,13 @@
 -- What turns of a connection that was admitted can answer.
-use Rattle.std.proofs.Common.{◌≡◌, ℕ, List, [], ◌∷◌, true, false, cond, sym, refl, subst, take, length, ◌+◌, max}
+use Rattle.std.proofs.Common.{◌≡◌, ℕ, List, [], ◌∷◌, true, cond, sym, refl, subst, take}
 use Rattle.serial_model.specs.declared.history.Entry.{Entry}
 use Rattle.serial_model.specs.declared.history.BookCall.TheVariants as call
 use Rattle.serial_model.specs.declared.history.BookReply.{BookReply}
 use Rattle.serial_model.specs.declared.history.BookReply.TheVariants.{Admitted, Ran, Quiet, Bytes, Refused}
 use Rattle.serial_model.specs.declared.history.BookRefusal.{BookRefusal}
-use Rattle.serial_model.specs.declared.history.BookRefusal.TheVariants.{Gone, NoMemory}
-use Rattle.serial_model.specs.History.{is_connected, latest, unsent}
-use Rattle.serial_model.specs.Steps.{Turn, book_step, BookStep, taking, running, gone}
+use Rattle.serial_model.specs.declared.history.BookRefusal.TheVariants.{NoMemory}
+use Rattle.serial_model.specs.History.{is_connected, unsent}
+use Rattle.serial_model.specs.Steps.{book_step, BookStep, taking, running, gone}
 use Rattle.serial_model.proofs.Turning.{by_step}
 
 abbrev pub IsRan : BookReply → Type 0

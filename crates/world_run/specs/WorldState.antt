@@ -1,7 +1,7 @@
 -- What a world is seen as.
 use Rattle.std.specs.Prelude.{◌≡◌, ℕ, List, length}
 use Rattle.serial_model.specs.declared.history.Entry.{Entry}
-use Rattle.serial_model.specs.History.{admitted, IsLegal}
+use Rattle.serial_model.specs.History.{admitted}
 
 -- the history, the newest entry first; the names of the links, in order of their connections' ids; what stands on each way up
 pub record WorldState : Type 0 where

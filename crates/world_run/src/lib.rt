@@ -9,3 +9,8 @@ mod world;
 pub use fault::WorldFault;
 pub use laws::law_one_history;
 pub use world::World;
+
+#[cfg(test)]
+mod plain;
+#[cfg(test)]
+mod tests;

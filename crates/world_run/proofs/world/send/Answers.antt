@@ -1,4 +1,4 @@
-use Rattle.std.proofs.Common.{◌≡◌, [], ◌∷◌, refl, sym, ap, subst, ◌∙◌, append-nil, length}
+use Rattle.std.proofs.Common.{[], ◌∷◌, ap, ◌∙◌, length}
 use Rattle.std.proofs.lemmas.Result.{on_err_weaker}
 use Rattle.serial_model.proofs.Turning.{take_admitted}
 use Rattle.script_text.specs.declared.line.Line.TheVariants.{Take, Read}

@@ -1,4 +1,4 @@
-use Rattle.std.proofs.Common.{◌∙◌, ap, sym}
+use Rattle.std.proofs.Common.{◌∙◌}
 use Rattle.serial_model.proofs.Turning.{run_admitted}
 use Rattle.world_run.proofs.Serving.{serves_more}
 use Rattle.world_run.proofs.Telling.{run_answers, ran_or_refused}

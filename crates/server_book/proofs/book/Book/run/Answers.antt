@@ -1,9 +1,9 @@
-use Rattle.std.proofs.Common.{◌≡◌, max, ◌+◌, ◌-◌, ◌++◌, ◌∷◌, [], List, ℕ, reverse, length, true, sym, ap, subst, ◌∙◌, arith}
+use Rattle.std.proofs.Common.{◌≡◌, max, ◌+◌, ◌++◌, ◌∷◌, [], reverse, length, true, sym, ap, subst, ◌∙◌, arith}
 use Rattle.serial_model.specs.History.{spelled}
 use Rattle.serial_model.specs.declared.history.Entry.TheVariants.{Run}
 use Rattle.serial_model.specs.declared.history.BookCall.TheVariants as call
 use Rattle.serial_model.specs.declared.history.BookReply.TheVariants.{Ran}
-use Rattle.serial_model.specs.History.{is_connected, latest, ran, keyspace, posted}
+use Rattle.serial_model.specs.History.{is_connected, ran, posted}
 use Rattle.serial_model.specs.Steps.{book_step}
 use Rattle.server_book.proofs.Keeping.{pushed, count_reverse, step_run, posted_run, message_post, keeps_run}
 use Rattle.server_book.specs.Standing.{Keeps}

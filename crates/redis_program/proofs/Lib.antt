@@ -1,0 +1,7 @@
+pub mod Bytes
+pub mod Splitting
+pub mod Scheduling
+pub mod Fronts
+pub mod Playing
+pub mod Judging
+pub mod Finishing

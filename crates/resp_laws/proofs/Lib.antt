@@ -1,0 +1,4 @@
+pub mod Pieces
+pub mod Scalars
+pub mod Trees
+pub mod Written

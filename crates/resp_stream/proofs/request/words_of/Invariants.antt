@@ -1,0 +1,6 @@
+use Rattle.std.proofs.Common.{◌≡◌, ◌++◌, [], drop}
+use Rattle.resp_stream.specs.Request.{words_behind}
+use Rattle.resp_stream.proofs.request.words_of.Given as goal
+
+abbrev pub invariant-bytes : goal.invariant-bytes
+invariant-bytes l = words_behind [] l.line ≡ l.words ++ words_behind l.word.items (drop l.c-index l.line)

@@ -1,0 +1,6 @@
+use Rattle.std.proofs.Common.{None}
+use Rattle.resp_stream.proofs.ValueTelling.{fresh}
+use Rattle.resp_stream.proofs.value_reader.ValueReader.new.Goals as goal
+
+pub invariant_of-result : goal.invariant_of-result
+invariant_of-result c = fresh 0 c.new.result c.new-2.result.items None c.new-2.ensures.items tt

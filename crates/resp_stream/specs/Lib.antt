@@ -1,0 +1,11 @@
+pub mod Answer
+pub mod Gives
+pub mod Laws
+pub mod Parts
+pub mod Request
+pub mod Requests
+pub mod Stack
+pub mod Steps
+pub mod Stream
+pub mod Value
+pub mod Values

@@ -1,0 +1,19 @@
+//! Values and requests of the RESP protocol, read from a stream of bytes, however it is cut.
+#![tactic(auto)]
+
+mod fault;
+mod leaf;
+mod parts;
+mod request;
+mod request_reader;
+mod rest;
+mod stack;
+mod value;
+mod value_reader;
+
+pub use fault::StreamFault;
+pub use request_reader::RequestReader;
+pub use value_reader::ValueReader;
+
+#[cfg(test)]
+mod tests;

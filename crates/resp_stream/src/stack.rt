@@ -1,0 +1,271 @@
+// Values with elements, read without recursion.
+ghost use Rattle.std.specs.Prelude.{◌≡◌, ◌≤◌, ◌<◌, ◌^◌, ◌+◌, ◌∷◌, [], ℕ, List, length, take, drop, reverse, OnOk};
+ghost use Rattle.resp_value.specs.Of.{tree_of};
+ghost use Rattle.resp_stream.specs.Gives.{ValueGives};
+ghost use Rattle.resp_stream.specs.Value.{mark_of, opening};
+ghost use Rattle.resp_stream.specs.Stack.{Seen, StepGives, Has, Closes, Stands, RunGives, OnNone, ReadingGives, OnMore};
+ghost use Rattle.resp_stream.specs.declared.value.Mark.TheVariants.{Aggregate};
+
+use super::fault::{Fault, ReadStop, WHOLE_LIMIT, limited};
+use super::leaf::leaf_of;
+use super::parts::{bad_byte, head_of, length_of};
+use super::value::{Kind, Mark, build, elements, mark_of, may_stand, rule_of};
+use resp_value::{NoMemory, Value, Values};
+use std::alloc::Global;
+
+/// An open aggregate: how many values come behind the one that stands next, and those before it.
+#[derive(Drop)]
+pub struct Frame {
+    kind: Kind,
+    left: u64,
+    done: Values,
+}
+
+/// A whole value, or the head of an aggregate that has some.
+#[derive(Drop)]
+pub enum Step {
+    Leaf(Value),
+    Open(Kind, u64),
+}
+
+/// What a text begins with, by the limit of the whole; `at` is where the faulty byte is.
+#[derive(Drop)]
+pub enum ValueReading {
+    Whole { value: Value, taken: usize },
+    More,
+    Faulty { fault: Fault, at: usize },
+}
+
+/// The kind of an aggregate, where there is room for it.
+fn opening(room: u64, mark: Mark) -> Option<Kind>
+    ensures { result ≡ opening room mark }
+{
+    if room == 0 {
+        return None;
+    }
+    match mark {
+        Mark::Aggregate(kind) => Some(kind),
+        _ => None,
+    }
+}
+
+/// An aggregate of `bytes` behind its type byte.
+fn open_of<'a>(
+    alloc: Global,
+    c: u8,
+    kind: Kind,
+    room: u64,
+    bytes: &'a [u8],
+    rest: &'a [u8],
+) -> Result<Option<(Step, &'a [u8])>, ReadStop>
+    requires head { bytes.now ≡ c ∷ rest.now }
+    requires mark { mark_of c ≡ Aggregate kind }
+    requires room { 0 < room }
+    ensures { StepGives room bytes.now (λ x. (x.0, x.1.now)) result }
+{
+    if !may_stand(room == 8, kind) {
+        return Err(ReadStop::Faulty(bad_byte(bytes)));
+    }
+    match length_of(rule_of(kind), rest) {
+        Ok(None) => Ok(None),
+        Err(e) => Err(ReadStop::Faulty(e)),
+        Ok(Some((None, rest))) => Ok(Some((Step::Leaf(Value::NullArray), rest))),
+        Ok(Some((Some(count), rest))) => {
+            if count == 0 {
+                return match build(alloc, kind, Values::new(alloc)) {
+                    Ok(value) => Ok(Some((Step::Leaf(value), rest))),
+                    Err(_) => Err(ReadStop::NoMemory),
+                };
+            }
+            Ok(Some((Step::Open(kind, elements(kind, count)), rest)))
+        }
+    }
+}
+
+/// The value or the head that stands next; `seen` bytes of its line were passed before.
+fn step_of<'a>(
+    alloc: Global,
+    room: u64,
+    seen: &mut usize,
+    bytes: &'a [u8],
+) -> Result<Option<(Step, &'a [u8])>, ReadStop>
+    requires { Seen bytes.now seen.old }
+    ensures gives { StepGives room bytes.now (λ x. (x.0, x.1.now)) result }
+    ensures seen { Seen bytes.now seen.new }
+{
+    let Some((c, rest)) = head_of(bytes) else {
+        return Ok(None);
+    };
+    let mark = mark_of(c);
+    match opening(room, mark) {
+        Some(kind) => open_of(alloc, c, kind, room, bytes, rest),
+        None => match leaf_of(alloc, mark, c, bytes.len(), seen, rest) {
+            Ok(None) => Ok(None),
+            Ok(Some((value, rest))) => Ok(Some((Step::Leaf(value), rest))),
+            Err(e) => Err(e),
+        },
+    }
+}
+
+/// Puts a value into the newest open aggregate. One that is full with it is a value in turn.
+#[tactic(auto, using(crate::proofs::Closing::closing))]
+fn close(
+    alloc: Global,
+    stack: &mut Vec<Frame>,
+    room: &mut u64,
+    value: Value,
+) -> Result<Option<Value>, NoMemory>
+    requires { room.old + length stack.old.items < 2 ^ 32 }
+    ensures room { OnOk result (room.new + length stack.new.items ≡ room.old + length stack.old.items) }
+    ensures closes { (whole : ℕ) (text : List ℕ) (at : ℕ) →
+        Has whole text at room.old (reverse stack.old.items) (tree_of value) →
+        Closes whole text at room.new stack.new.items result }
+{
+    let mut value = value;
+    'open: while let Some(frame) = stack.pop() {
+        let Frame { kind, left, done } = frame;
+        let mut done = done;
+        match done.push(value) {
+            Ok(()) => {}
+            Err(e) => {
+                return Err(e);
+            }
+        }
+        if left > 0 {
+            match stack.push(Frame {
+                kind,
+                left: left - 1,
+                done,
+            }) {
+                Ok(()) => {
+                    return Ok(None);
+                }
+                Err(_) => {
+                    return Err(NoMemory);
+                }
+            }
+        }
+        match build(alloc, kind, done) {
+            Ok(built) => {
+                value = built;
+            }
+            Err(e) => {
+                return Err(e);
+            }
+        }
+        *room += 1;
+    }
+    Ok(Some(value))
+}
+
+/// Reads on from `at`, until a value is whole, more is needed, or a byte is at fault.
+fn run(
+    alloc: Global,
+    text: &[u8],
+    at: &mut usize,
+    room: &mut u64,
+    seen: &mut usize,
+    stack: &mut Vec<Frame>,
+) -> Result<Option<Value>, ReadStop>
+    requires room { room.old + length stack.old.items ≡ 8 }
+    requires stands { Stands 8 text.now at.old room.old (reverse stack.old.items) }
+    requires seen { Seen (drop at.old text.now) seen.old }
+    ensures gives { RunGives text.now at.new result }
+    ensures none { OnNone result (Stands 8 text.now at.new room.new (reverse stack.new.items)) }
+    ensures room { OnNone result (room.new + length stack.new.items ≡ 8) }
+    ensures seen { OnNone result (Seen (drop at.new text.now) seen.new) }
+{
+    'steps: loop {
+        let (_, rest) = text.split_at(*at);
+        match step_of(alloc, *room, seen, rest) {
+            Ok(None) => {
+                return Ok(None);
+            }
+            Err(e) => {
+                return Err(e);
+            }
+            Ok(Some((step, behind))) => {
+                let next = text.len() - behind.len();
+                *seen = 0;
+                match step {
+                    Step::Open(kind, count) => {
+                        match stack.push(Frame {
+                            kind,
+                            left: count - 1,
+                            done: Values::new(alloc),
+                        }) {
+                            Ok(()) => {}
+                            Err(_) => {
+                                return Err(ReadStop::NoMemory);
+                            }
+                        }
+                        *room -= 1;
+                        *at = next;
+                    }
+                    Step::Leaf(value) => {
+                        match close(alloc, stack, room, value) {
+                            Ok(None) => {}
+                            Ok(Some(value)) => {
+                                *at = next;
+                                return Ok(Some(value));
+                            }
+                            Err(_) => {
+                                return Err(ReadStop::NoMemory);
+                            }
+                        }
+                        *at = next;
+                    }
+                }
+            }
+        }
+    }
+}
+
+/// The byte that passes the limit.
+fn too_long() -> ValueReading
+    ensures { result ≡ ValueReading.Faulty (Fault.TooLong (WHOLE_LIMIT + 1)) WHOLE_LIMIT }
+{
+    ValueReading::Faulty {
+        fault: Fault::TooLong(WHOLE_LIMIT as u64 + 1),
+        at: WHOLE_LIMIT,
+    }
+}
+
+/// A value with more bytes than `WHOLE_LIMIT` is a fault at the first byte too many.
+pub(crate) fn read_value(
+    alloc: Global,
+    text: &[u8],
+    at: &mut usize,
+    room: &mut u64,
+    seen: &mut usize,
+    stack: &mut Vec<Frame>,
+) -> Result<ValueReading, NoMemory>
+    requires room { room.old + length stack.old.items ≡ 8 }
+    requires stands { Stands 8 text.now at.old room.old (reverse stack.old.items) }
+    requires seen { Seen (drop at.old text.now) seen.old }
+    ensures gives { ReadingGives text.now result }
+    ensures more { OnMore result (Stands 8 text.now at.new room.new (reverse stack.new.items)) }
+    ensures room { OnMore result (room.new + length stack.new.items ≡ 8) }
+    ensures seen { OnMore result (Seen (drop at.new text.now) seen.new) }
+{
+    match run(alloc, text, at, room, seen, stack) {
+        Err(ReadStop::NoMemory) => Err(NoMemory),
+        Err(ReadStop::Faulty(e)) => {
+            let (fault, at) = limited(e.fault, text.len() - e.left);
+            Ok(ValueReading::Faulty { fault, at })
+        }
+        Ok(Some(value)) => {
+            let taken = *at;
+            if WHOLE_LIMIT < taken {
+                return Ok(too_long());
+            }
+            Ok(ValueReading::Whole { value, taken })
+        }
+        Ok(None) => {
+            if WHOLE_LIMIT < text.len() {
+                return Ok(too_long());
+            }
+            Ok(ValueReading::More)
+        }
+    }
+}

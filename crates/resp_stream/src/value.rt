@@ -1,0 +1,240 @@
+// Values without elements, read from the front of a text.
+ghost use Rattle.std.specs.Prelude.{◌≡◌, ◌≤◌, ◌<◌, ◌^◌, ℕ, ◌+◌, ◌-◌, List, length, take, drop, ◌∷◌, [], true, false, Some, None, IfOk, IfSome, IfNone};
+ghost use Rattle.resp_value.specs.Of.{tree_of};
+ghost use Rattle.resp_stream.specs.Answer.{Answer, Whole, More};
+ghost use Rattle.resp_stream.specs.Gives.{Gives, IfNumber};
+ghost use Rattle.resp_stream.specs.Parts.{Passed, ending};
+ghost use Rattle.resp_stream.specs.Request.{line_limit};
+ghost use Rattle.resp_stream.specs.Value.{rule_of, digits_of_at, number_at, signed_at, signed, greatest, blob_at, format_at, formatted_at, mark_of, elements, build, may_stand};
+
+use super::fault::Broken;
+use super::parts::{LengthRule, bad_byte, byte_of, head_of};
+use resp_value::{NoMemory, Pairs, Value, Values};
+use std::alloc::Global;
+
+/// The kinds of aggregates.
+#[derive(Clone, Copy, Debug, Drop)]
+pub enum Kind {
+    Array,
+    Map,
+    Set,
+    Push,
+}
+
+/// What a type byte says.
+#[derive(Clone, Copy, Debug, Drop)]
+pub enum Mark {
+    Simple,
+    Error,
+    Number,
+    Blob,
+    Verbatim,
+    BlobError,
+    Truth,
+    Null,
+    Aggregate(Kind),
+    /// Doubles, big numbers and attributes.
+    NotServed,
+    Wrong,
+}
+
+pub(crate) fn mark_of(c: u8) -> Mark
+    ensures { result ≡ mark_of c }
+{
+    match c {
+        b'+' => Mark::Simple,
+        b'-' => Mark::Error,
+        b':' => Mark::Number,
+        b'$' => Mark::Blob,
+        b'*' => Mark::Aggregate(Kind::Array),
+        b'=' => Mark::Verbatim,
+        b'!' => Mark::BlobError,
+        b'#' => Mark::Truth,
+        b'_' => Mark::Null,
+        b'%' => Mark::Aggregate(Kind::Map),
+        b'~' => Mark::Aggregate(Kind::Set),
+        b'>' => Mark::Aggregate(Kind::Push),
+        b',' | b'(' | b'|' => Mark::NotServed,
+        _ => Mark::Wrong,
+    }
+}
+
+pub(crate) fn rule_of(kind: Kind) -> LengthRule
+    ensures { result ≡ rule_of kind }
+{
+    match kind {
+        Kind::Array => LengthRule {
+            streamed: true,
+            null: true,
+            least: 0,
+            limit: 65536,
+        },
+        Kind::Map => LengthRule {
+            streamed: true,
+            null: false,
+            least: 0,
+            limit: 32768,
+        },
+        Kind::Set | Kind::Push => LengthRule {
+            streamed: true,
+            null: false,
+            least: 0,
+            limit: 65536,
+        },
+    }
+}
+
+/// A push stands at the top alone.
+pub(crate) fn may_stand(top: bool, kind: Kind) -> bool
+    ensures { result ≡ may_stand top kind }
+{
+    match kind {
+        Kind::Push => top,
+        Kind::Array | Kind::Map | Kind::Set => true,
+    }
+}
+
+/// How many values an aggregate of this length has.
+pub(crate) fn elements(kind: Kind, count: u64) -> u64
+    requires { count < 2 ^ 32 }
+    ensures { result ≡ elements kind count }
+{
+    match kind {
+        Kind::Map => count + count,
+        Kind::Array | Kind::Set | Kind::Push => count,
+    }
+}
+
+pub(crate) fn build(alloc: Global, kind: Kind, values: Values) -> Result<Value, NoMemory>
+    ensures { IfOk result (λ v. tree_of v ≡ build kind values) }
+{
+    match kind {
+        Kind::Array => Ok(Value::Array(values)),
+        Kind::Map => Ok(Value::Map(Pairs::in_turn(alloc, values)?)),
+        Kind::Set => Ok(Value::Set(values)),
+        Kind::Push => Ok(Value::Push(values)),
+    }
+}
+
+/// The rest of a number with this many digits so far.
+#[tactic(auto, unfolding(crate::specs::Value::digits_of_at, crate::specs::Parts::line_feed))]
+fn digits_on(
+    most: u64,
+    digits: u64,
+    first: u64,
+    bytes: &[u8],
+) -> Result<Option<(u64, &[u8])>, Broken>
+    requires digits { digits ≤ 19 }
+    requires first { first ≤ most }
+    requires most { most < 2 ^ 63 + 1 }
+    ensures gives { Gives (λ x. (x.0, x.1.now)) result (digits_of_at most (Some (record { count = digits; made = first })) bytes.now) }
+    ensures most { IfNumber result most }
+{
+    let mut count = digits;
+    let mut number = first;
+    let mut rest = bytes;
+    'digits: while let [c, after @ ..] = rest {
+        let c = *c;
+        if c == 13 {
+            return match byte_of(10, after) {
+                Ok(None) => Ok(None),
+                Ok(Some(behind)) => Ok(Some((number, behind))),
+                Err(e) => Err(e),
+            };
+        }
+        if c < 48 || 57 < c {
+            return Err(bad_byte(rest));
+        }
+        if 19 <= count {
+            return Err(bad_byte(rest));
+        }
+        if most / 10 < number {
+            return Err(bad_byte(rest));
+        }
+        let longer = number * 10 + u64::from(c - 48);
+        if most < longer {
+            return Err(bad_byte(rest));
+        }
+        count += 1;
+        number = longer;
+        rest = after;
+    }
+    Ok(None)
+}
+
+/// The digits behind a sign.
+#[tactic(auto, unfolding(crate::specs::Value::digits_of_at))]
+fn digits_behind(most: u64, bytes: &[u8]) -> Result<Option<(u64, &[u8])>, Broken>
+    requires least { 9 ≤ most }
+    requires most { most < 2 ^ 63 + 1 }
+    ensures gives { Gives (λ x. (x.0, x.1.now)) result (digits_of_at most None bytes.now) }
+    ensures most { IfNumber result most }
+{
+    let [c, rest @ ..] = bytes else {
+        return Ok(None);
+    };
+    let c = *c;
+    if c < 48 || 57 < c {
+        return Err(bad_byte(bytes));
+    }
+    digits_on(most, 1, u64::from(c - 48), rest)
+}
+
+/// The number with this sign.
+fn signed(minus: bool, number: u64) -> i64
+    requires { number ≤ greatest minus }
+    ensures { result ≡ signed minus number }
+{
+    if !minus {
+        return number as i64;
+    }
+    if number == 0 {
+        return 0;
+    }
+    -((number - 1) as i64) - 1
+}
+
+/// A number behind its type byte.
+#[tactic(auto, unfolding(crate::specs::Value::number_at, crate::specs::Value::signed_at))]
+pub(crate) fn number_of(bytes: &[u8]) -> Result<Option<(i64, &[u8])>, Broken>
+    ensures { Gives (λ x. (x.0, x.1.now)) result (number_at bytes.now) }
+{
+    let [c, rest @ ..] = bytes else {
+        return Ok(None);
+    };
+    let c = *c;
+    if c == b'+' {
+        return match digits_behind(9223372036854775807, rest) {
+            Ok(None) => Ok(None),
+            Ok(Some((number, rest))) => Ok(Some((signed(false, number), rest))),
+            Err(e) => Err(e),
+        };
+    }
+    if c == b'-' {
+        return match digits_behind(9223372036854775808, rest) {
+            Ok(None) => Ok(None),
+            Ok(Some((number, rest))) => Ok(Some((signed(true, number), rest))),
+            Err(e) => Err(e),
+        };
+    }
+    if c < 48 || 57 < c {
+        return Err(bad_byte(bytes));
+    }
+    match digits_on(9223372036854775807, 1, u64::from(c - 48), rest) {
+        Ok(None) => Ok(None),
+        Ok(Some((number, rest))) => Ok(Some((signed(false, number), rest))),
+        Err(e) => Err(e),
+    }
+}
+
+/// The three bytes of a format.
+#[tactic(auto, unfolding(crate::specs::Value::format_at))]
+pub(crate) fn format_of(bytes: &[u8]) -> Option<(u8, u8, u8, &[u8])>
+    ensures some { IfSome result (λ x. format_at bytes.now ≡ Whole (x.0 ∷ x.1 ∷ x.2 ∷ []) x.3.now) }
+    ensures none { IfNone result (format_at bytes.now ≡ More) }
+{
+    let (x, rest) = head_of(bytes)?;
+    let (y, rest) = head_of(rest)?;
+    let (z, rest) = head_of(rest)?;
+    Some((x, y, z, rest))
+}

@@ -1,0 +1,101 @@
+// Turns against a worked example.
+ghost use Rattle.std.specs.Prelude.{IfOk};
+ghost use Rattle.serial_model.specs.Steps.{IsCallable};
+
+use super::{Book, BookCall, BookRefusal, BookReply, Entry, Limits, Post};
+use resp_value::{NoMemory, Octets, Words};
+use std::alloc::Global;
+use std::test::Fail;
+
+fn words_of(alloc: Global, text: &str) -> Result<Words, NoMemory> {
+    let mut words = Words::new(alloc);
+    for part in text.split(' ') {
+        words.push(Octets::from_slice(alloc, part.as_bytes())?)?;
+    }
+    Ok(words)
+}
+
+// The turn that `what` names: an admit, a take of at most `number` bytes, or a request at that moment.
+fn call_of(alloc: Global, what: &str, id: u64, number: u64) -> Result<BookCall, NoMemory>
+    ensures { IfOk result (λ call. IsCallable call) }
+{
+    if what == "admit" {
+        Ok(BookCall::Admit)
+    } else if what == "take" {
+        let max = number.max(1);
+        Ok(BookCall::Take { id, max })
+    } else {
+        let words = words_of(alloc, what)?;
+        Ok(BookCall::Run {
+            id,
+            words,
+            now: number,
+        })
+    }
+}
+
+// The number of the entry that a turn added, and the bytes that it gave.
+fn told(reply: &BookReply) -> (u64, &[u8]) {
+    match reply {
+        BookReply::Admitted { entry, .. } => (*entry, b""),
+        BookReply::Ran { entry } => (*entry, b""),
+        BookReply::Bytes { entry, bytes } => (*entry, bytes.as_slice()),
+        BookReply::Quiet => (0, b"quiet"),
+        BookReply::Refused(BookRefusal::Gone { .. }) => (0, b"gone"),
+        BookReply::Refused(BookRefusal::NoMemory) => (0, b"no memory"),
+    }
+}
+
+#[test]
+fn a_book_answers_its_turns_and_keeps_their_entries(rt: HostRuntime) -> Result<(), Fail> {
+    let alloc = rt.alloc();
+    let limits = Limits {
+        table_max: 1,
+        out_max: 1,
+        history_max: 1,
+    };
+    let mut book = Book::new(alloc, limits)?;
+    for (what, id, number, entry, bytes, sent) in [
+        ("take", 1, 9, 0, "gone", 0),
+        ("GET foo", 1, 0, 0, "gone", 0),
+        ("admit", 0, 0, 1, "", 0),
+        ("take", 1, 9, 0, "quiet", 0),
+        ("SET foo bar", 1, 7, 2, "", 5),
+        ("GET foo", 1, 3, 3, "", 9),
+        ("GET nope", 1, 3, 4, "", 5),
+        ("take", 2, 9, 0, "gone", 0),
+        ("take", 1, 5, 5, "+OK\r\n", 0),
+        ("admit", 0, 0, 6, "", 0),
+        ("get foo", 2, 8, 7, "", 9),
+        ("take", 1, 99, 8, "$3\r\nbar\r\n$-1\r\n", 0),
+        ("take", 2, 99, 9, "$3\r\nbar\r\n", 0),
+        ("take", 2, 99, 0, "quiet", 0),
+    ] {
+        let reply = book.turn(call_of(alloc, what, id, number)?);
+        let (number, gave) = told(&reply);
+        assert_eq!(rt; number, entry, "{what}");
+        assert_eq!(rt; gave, bytes.as_bytes(), "{what}");
+        match book.last_posts() {
+            [] => assert_eq!(rt; sent, 0, "{what}"),
+            [post, ..] => assert_eq!(rt;
+                *post,
+                Post {
+                    entry,
+                    id,
+                    length: sent,
+                    last: false
+                },
+                "{what}"
+            ),
+        }
+    }
+    assert_eq!(rt; book.entries(), 9);
+    let mut moments = Vec::new(alloc);
+    for entry in book.history() {
+        if let Entry::Run { moment, .. } = entry {
+            moments.push(*moment)?;
+        }
+    }
+    assert_eq!(rt; moments.as_slice(), [7, 7, 7, 8].as_slice());
+    Ok(())
+}

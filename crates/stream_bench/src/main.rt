@@ -1,0 +1,152 @@
+//! Reads pipelined requests, pipelined replies and large blobs through both readers, and prints how many it read.
+//!
+//! `stream_bench gets 64` reads 64 MiB of requests; also `gets`, `replies`, `request_blobs`, `reply_blobs`. `all` reads each, and so does no word.
+#![tactic(auto)]
+
+use resp_stream::{RequestReader, StreamFault, ValueReader};
+use std::alloc::Global;
+use std::{env, io};
+
+/// How many bytes are fed at once, as a socket gives them.
+const PIECE: usize = 65536;
+
+/// The bytes, again and again, as often as they fit into a piece.
+fn repeated(alloc: Global, bytes: &[u8]) -> Result<Vec<u8>, StreamFault> {
+    let mut piece = Vec::new(alloc);
+    for _ in 0..PIECE / 32 {
+        let Ok(()) = piece.extend_from_slice(bytes) else {
+            return Err(StreamFault::NoMemory);
+        };
+    }
+    Ok(piece)
+}
+
+fn feed_requests(reader: &mut RequestReader, piece: &[u8]) -> Result<u64, StreamFault> {
+    let Ok(()) = reader.feed(piece) else {
+        return Err(StreamFault::NoMemory);
+    };
+    let mut count = 0u64;
+    for _ in 0..PIECE {
+        match reader.next_request()? {
+            Some(_) => {
+                count = count.saturating_add(1);
+            }
+            None => {
+                return Ok(count);
+            }
+        }
+    }
+    Ok(count)
+}
+
+fn feed_values(reader: &mut ValueReader, piece: &[u8]) -> Result<u64, StreamFault> {
+    let Ok(()) = reader.feed(piece) else {
+        return Err(StreamFault::NoMemory);
+    };
+    let mut count = 0u64;
+    for _ in 0..PIECE {
+        match reader.next_value()? {
+            Some(_) => {
+                count = count.saturating_add(1);
+            }
+            None => {
+                return Ok(count);
+            }
+        }
+    }
+    Ok(count)
+}
+
+/// So many MiB of one request or reply, pipelined.
+fn pipelined(alloc: Global, requests: bool, bytes: &[u8], size: u64) -> Result<u64, StreamFault> {
+    let piece = repeated(alloc, bytes)?;
+    let mut count = 0u64;
+    let mut reader = RequestReader::new(alloc);
+    let mut values = ValueReader::new(alloc);
+    for _ in 0..size {
+        for _ in 0..16 {
+            let more = if requests {
+                feed_requests(&mut reader, piece.as_slice())?
+            } else {
+                feed_values(&mut values, piece.as_slice())?
+            };
+            count = count.saturating_add(more);
+        }
+    }
+    Ok(count)
+}
+
+/// So many blobs of 16 MiB, fed a piece at a time.
+fn blobs(alloc: Global, requests: bool, size: u64) -> Result<u64, StreamFault> {
+    let piece = repeated(alloc, b"0123456789abcdef0123456789abcdef")?;
+    let mut count = 0u64;
+    let mut reader = RequestReader::new(alloc);
+    let mut values = ValueReader::new(alloc);
+    for _ in 0..size {
+        if requests {
+            feed_requests(&mut reader, b"*1\r\n$16777216\r\n")?;
+        } else {
+            feed_values(&mut values, b"$16777216\r\n")?;
+        }
+        for _ in 0..256 {
+            if requests {
+                feed_requests(&mut reader, piece.as_slice())?;
+            } else {
+                feed_values(&mut values, piece.as_slice())?;
+            }
+        }
+        let more = if requests {
+            feed_requests(&mut reader, b"\r\n")?
+        } else {
+            feed_values(&mut values, b"\r\n")?
+        };
+        count = count.saturating_add(more);
+    }
+    Ok(count)
+}
+
+/// 32 bytes each.
+const GET: &[u8] = b"*2\r\n$3\r\nGET\r\n$12\r\nuser:0000017\r\n";
+
+const REPLY: &[u8] = b"$25\r\nthe value of the key 1234\r\n";
+
+/// Reads `size` MiB in this way; nothing for another word.
+fn run(alloc: Global, word: &str, size: u64) -> Option<Result<u64, StreamFault>> {
+    match word {
+        "gets" => Some(pipelined(alloc, true, GET, size)),
+        "replies" => Some(pipelined(alloc, false, REPLY, size)),
+        "request_blobs" => Some(blobs(alloc, true, size / 16)),
+        "reply_blobs" => Some(blobs(alloc, false, size / 16)),
+        _ => None,
+    }
+}
+
+fn main(rt: HostRuntime) -> io::Result<()> {
+    let alloc = rt.alloc();
+    let mut word = None;
+    let mut size = None;
+    for (place, given) in env::args(&rt)?.enumerate() {
+        if place == 1 {
+            word = Some(given);
+        } else if place == 2 {
+            size = given.parse::<u64>().ok();
+        }
+    }
+    let size = size.unwrap_or(1);
+    let all = ["gets", "replies", "request_blobs", "reply_blobs"];
+    for name in all {
+        let is_asked = match &word {
+            Some(word) => word.as_str() == name || word.as_str() == "all",
+            None => true,
+        };
+        if !is_asked {
+            continue;
+        }
+        match run(alloc, name, size) {
+            Some(Ok(count)) => println!(rt; "{name} {count}")?,
+            Some(Err(_)) => println!(rt; "{name} failed")?,
+            None => println!(rt; "{name} is unknown")?,
+        }
+    }
+    Ok(())
+}

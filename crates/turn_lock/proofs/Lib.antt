@@ -1,0 +1,4 @@
+pub mod Counting
+pub mod Rosters
+pub mod Queues
+pub mod Keeps

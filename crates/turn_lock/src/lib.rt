@@ -1,0 +1,10 @@
+//! A lock that serves its callers in turn. The turns that any threads take under it are one legal history.
+#![tactic(auto)]
+
+mod lock;
+mod logged;
+mod rule;
+mod steps;
+
+pub use lock::{Closed, NoMemory, Seat, TurnLock, Worn};
+pub use logged::Logged;

@@ -1,0 +1,246 @@
+//! The lock, its seats and its calls.
+ghost use Rattle.std.specs.Prelude.{◌≡◌, ℕ, ◌+◌, ◌-◌, ◌<◌, ◌≤◌, List, [], ◌∷◌, length, Some, IfOk, IfErr, OnOk};
+ghost use Rattle.turn_lock.specs.Counts.{times};
+ghost use Rattle.turn_lock.specs.History.{entries, Begins};
+ghost use Rattle.turn_lock.specs.Seats.{first_seat, split_seat, joined_seat, IsSound, Turned};
+
+use crate::logged::Logged;
+use crate::rule::{InTurn, View};
+use crate::steps::{Place, cut, find_number, merge, next_ticket, take_turn, wait_turn};
+use atomic_table::Table;
+use std::alloc::Global;
+use std::marker::{Brand, Model};
+use std::snapshot::Snapshot;
+use std::sync::Wait;
+
+/// There was no memory.
+#[derive(Debug, Drop)]
+pub struct NoMemory;
+
+/// No ticket is left: the ticket word stands at its last value.
+#[derive(Debug, Drop)]
+pub struct Worn {
+    pub tickets: u64,
+}
+
+/// One of those who take turns. Contracts see which lock it is of, and what it knows.
+#[derive(Drop)]
+pub struct Seat<S: Logged> {
+    place: Place<S>,
+    parts: u64,
+    tickets: u64,
+}
+
+impl<S: Logged> Model for Seat<S> {
+    ghost use Rattle.turn_lock.specs.Seats.{Known, known, IsSoundView};
+    ghost use Rattle.std.specs.Prelude.{◌≡◌, []};
+    ghost use Rattle.turn_lock.specs.declared.rule.Stage.{Stage};
+
+    ghost Value = { Known S.Setup S.Entry };
+
+    ghost view = { λ s. known s.place.table_id s.place.me.0 };
+
+    ghost invariant = { λ s. (s.parts ≡ s.place.me.0.parts) × (s.tickets ≡ s.place.me.0.tickets) × (s.place.me.0.stage ≡ Stage.Idle) × (s.place.me.1 ≡ []) × IsSoundView S.step s.place.me.0 };
+}
+
+impl<S: Logged> Seat<S> {
+    /// How many of the lock's 18,446,744,073,709,551,615 parts the seat has.
+    pub fn parts(&self) -> u64
+        ensures value { result ≡ self.now.parts }
+        ensures sound { IsSound S.step self.now }
+    {
+        self.parts
+    }
+
+    /// The greatest value at which the seat, or one joined into it, looked at the ticket word. It is 0 at first.
+    pub fn tickets(&self) -> u64
+        ensures { result ≡ self.now.tickets }
+    {
+        self.tickets
+    }
+}
+
+/// A lock with a state. Contracts see which lock it is.
+#[derive(Drop)]
+pub struct TurnLock<S: Logged> {
+    table: Table<Option<S>, View<S::Setup, S::Entry>, Snapshot<S>, InTurn<S>, Global>,
+}
+
+impl<S: Logged> Model for TurnLock<S> {
+    ghost use Rattle.std.specs.Prelude.{◌≡◌};
+    ghost use Rattle.atomic_table.specs.Seated.{TableId};
+
+    ghost Value = { TableId };
+
+    ghost view = { λ l. l.table.shared.table_id };
+
+    ghost invariant = { λ l. (l.table.shared.table_id.words ≡ 2) × (l.table.shared.table_id.slots ≡ 1) };
+}
+
+/// What a lock that was closed hands back.
+#[derive(Drop)]
+pub struct Closed<S> {
+    state: S,
+    tickets: u64,
+}
+
+impl<S> Model for Closed<S> {
+    ghost use Rattle.turn_lock.specs.Seats.{Ended};
+
+    ghost Value = { Ended S };
+
+    ghost view = { λ c. record { state = c.state; tickets = c.tickets } };
+}
+
+impl<S> Closed<S> {
+    pub fn state(&self) -> &S
+        ensures { result.now ≡ self.now.state }
+    {
+        &self.state
+    }
+
+    pub fn into_state(self) -> S
+        ensures { result ≡ self.state }
+    {
+        let Closed { state, tickets: _ } = self;
+        state
+    }
+
+    /// The ticket word as it stood at the close.
+    pub fn tickets(&self) -> u64
+        ensures { result ≡ self.now.tickets }
+    {
+        self.tickets
+    }
+}
+
+impl<S: Logged + Drop> TurnLock<S> {
+    /// A free lock, and its first seat, which has all parts.
+    pub fn create(alloc: Global, state: S) -> Result<(TurnLock<S>, Seat<S>), NoMemory>
+        requires { S.stands state [] }
+        ensures { IfOk result (λ r. r.1 ≡ first_seat r.0 (S.setup state)) }
+    {
+        let about = Snapshot::of(&state);
+        let mut slots = Vec::new(alloc);
+        if slots.push(Some(state)).is_err() {
+            return Err(NoMemory);
+        }
+        match Table::new(alloc, &[0, 0], slots, &about) {
+            Ok((table, place)) => Ok((
+                TurnLock { table },
+                Seat {
+                    place,
+                    parts: u64::MAX,
+                    tickets: 0,
+                },
+            )),
+            Err(_) => Err(NoMemory),
+        }
+    }
+}
+
+impl<S: Logged> TurnLock<S> {
+    /// A new seat, with a number of its own, that has seen what the other has and takes over some of its parts.
+    pub fn split(&self, seat: &mut Seat<S>, parts: u64) -> Seat<S>
+        requires seat { seat.old.lock ≡ self.now }
+        requires parts { (1 ≤ parts) × (parts < seat.old.parts) }
+        ensures old { seat.new ≡ record seat.old { parts = seat.old.parts - parts } }
+        ensures new { result ≡ split_seat seat.old result.number parts }
+        ensures number { times result.number seat.new.numbers ≡ 0 }
+        ensures sound { IsSound S.step result }
+    {
+        let mut place = cut::<S, Brand>(&self.table.shared, &mut seat.place, parts);
+        find_number(&self.table.shared, &mut place);
+        seat.parts -= parts;
+        Seat {
+            place,
+            parts,
+            tickets: seat.tickets,
+        }
+    }
+
+    /// Joins the other seat into this one, which keeps what both have done and seen, and has the parts of both.
+    pub fn join(&self, seat: &mut Seat<S>, other: Seat<S>)
+        requires seat { (seat.old.lock ≡ self.now) × (other.lock ≡ self.now) }
+        ensures both { seat.new ≡ joined_seat seat.old other }
+        ensures seen { Begins seat.old.seen seat.new.seen × Begins other.seen seat.new.seen }
+        ensures sound { IsSound S.step seat.new }
+    {
+        let Seat {
+            place,
+            parts,
+            tickets,
+        } = other;
+        merge(&self.table.shared, &mut seat.place, place);
+        seat.parts += parts;
+        seat.tickets = seat.tickets.max(tickets);
+    }
+
+    /// One turn on the state. It waits until it is served, in the order of the tickets.
+    pub fn play<R: Wait>(&self, rt: &R, seat: &mut Seat<S>, call: S::Call) -> Result<S::Reply, Worn>
+        requires seat { seat.old.lock ≡ self.now }
+        requires call { S.fits call }
+        ensures same { (seat.new.lock ≡ seat.old.lock) × (seat.new.setup ≡ seat.old.setup) × (seat.new.number ≡ seat.old.number) × (seat.new.numbers ≡ seat.old.numbers) × (seat.new.parts ≡ seat.old.parts) }
+        ensures turn { IfOk result (λ reply. Turned S.step call reply seat.old seat.new) }
+        ensures tickets { OnOk result ((seat.old.tickets ≤ seat.new.tickets) × (seat.new.tickets < 18446744073709551615)) }
+        ensures worn { IfErr result (λ w. (w.tickets ≡ 18446744073709551615) × (seat.new ≡ record seat.old { tickets = 18446744073709551615 }) × (seat.old.tickets ≤ 18446744073709551615)) }
+        ensures sound { IsSound S.step seat.new }
+    {
+        let board = &self.table.shared;
+        let Seat {
+            place,
+            parts: _,
+            tickets,
+        } = seat;
+        match next_ticket(rt, board, place) {
+            Ok(at) => {
+                *tickets = at;
+                wait_turn(rt, board, place, at);
+                Ok(take_turn::<S, Brand>(board, place, at, call))
+            }
+            Err(worn) => {
+                *tickets = worn.tickets;
+                Err(worn)
+            }
+        }
+    }
+
+    /// Ends the lock and hands back its state. While another seat is not joined, the lock and the seat come back.
+    pub fn close(self, seat: Seat<S>) -> Result<Closed<S>, (TurnLock<S>, Seat<S>)>
+        requires seat { seat.lock ≡ self }
+        ensures ok { IfOk result (λ c. (seat.parts ≡ 18446744073709551615) × S.stands c.state (entries seat.seen) × (seat.setup ≡ Some (S.setup c.state)) × (seat.tickets ≤ c.tickets)) }
+        ensures all { OnOk result (((place : ℕ) → place < length seat.seen → times place seat.own ≡ 1) × (length seat.own ≡ length seat.seen)) }
+        ensures err { IfErr result (λ r. (seat.parts < 18446744073709551615) × (r.0 ≡ self) × (r.1 ≡ seat)) }
+        ensures sound { IsSound S.step seat }
+    {
+        if seat.parts != u64::MAX {
+            return Err((self, seat));
+        }
+        let TurnLock { table } = self;
+        let Seat {
+            place,
+            parts: _,
+            tickets: _,
+        } = seat;
+        let mut closed = table.close_with(place);
+        let tickets = closed.word(0);
+        match closed.take(0) {
+            Some(state) => {
+                closed.free();
+                Ok(Closed { state, tickets })
+            }
+            None => unreachable!(),
+        }
+    }
+}
+
+fn is_send<T: Send>(_it: &T) {}
+
+fn is_sync<T: Sync>(_it: &T) {}
+
+/// A lock may be shared between threads, and a seat moved to one, where the state may.
+pub fn may_cross<S: Logged + Send>(lock: &TurnLock<S>, seat: &Seat<S>) {
+    is_send(seat);
+    is_send(lock);
+    is_sync(lock);
+}
