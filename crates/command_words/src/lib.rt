@@ -10,6 +10,10 @@ mod written;
 pub use command::{Command, Done, Signalled, WordFault, read_command};
 pub use control::is_control;
 pub use printed::put_printed;
+pub use query::Query;
+pub use written::{Written, keys_written, written_by};
 
+#[cfg(test)]
+mod query_tests;
 #[cfg(test)]
 mod tests;
