@@ -1,3 +1,4 @@
+pub mod Parse
 pub mod Pieces
 pub mod Scalars
 pub mod Trees

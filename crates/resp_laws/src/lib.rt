@@ -1,6 +1,7 @@
 //! Laws of the definitions that the readers of streams meet: each function below is a law, and does nothing.
 #![tactic(auto)]
 
+ghost use Rattle.resp_laws.specs.Parse.{PiecesJoin};
 ghost use Rattle.resp_laws.specs.Streams.{Steady, FirstFault, Unfinished, WrittenRequests, NoPrefix};
 ghost use Rattle.resp_laws.specs.Values.{WrittenValues};
 ghost use Rattle.resp_stream.specs.Request.{request_begun, request_at};
@@ -10,6 +11,11 @@ ghost use Rattle.resp_stream.specs.Value.{value_in, value_at};
 pub fn pieces_of_requests_do_not_matter()
     ensures begun { Steady request_begun }
     ensures under_the_limit { Steady request_at }
+{}
+
+/// However a stream is cut in two, the requests of the pieces are those of the whole, where the first piece has no fault.
+pub fn pieces_give_the_requests_of_the_whole()
+    ensures { PiecesJoin }
 {}
 
 /// The same of values.
