@@ -5,12 +5,14 @@ mod command;
 mod control;
 mod printed;
 mod query;
+mod refused;
 mod written;
 
 pub use command::{Command, Done, Signalled, WordFault, read_command};
 pub use control::is_control;
 pub use printed::put_printed;
 pub use query::Query;
+pub use refused::fault_text;
 pub use written::{Written, keys_written, written_by};
 
 #[cfg(test)]

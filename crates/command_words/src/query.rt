@@ -58,7 +58,7 @@ impl Query {
             }
             Ok(Command::Set(_, _)) => Ok(None),
             Err(WordFault::NoMemory) => Err(NoMemory),
-            Err(WordFault::Unknown) => Ok(None),
+            Err(WordFault::Unknown | WordFault::Arity | WordFault::Syntax) => Ok(None),
         }
     }
 

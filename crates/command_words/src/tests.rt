@@ -26,6 +26,8 @@ fn show(alloc: Global, read: Result<Command, WordFault>) -> Result<Vec<u8>, NoMe
             out.extend_from_slice(value.as_slice())?;
         }
         Err(WordFault::Unknown) => out.extend_from_slice(b"unknown")?,
+        Err(WordFault::Arity) => out.extend_from_slice(b"arity")?,
+        Err(WordFault::Syntax) => out.extend_from_slice(b"syntax")?,
         Err(WordFault::NoMemory) => out.extend_from_slice(b"no memory")?,
     }
     Ok(out)
@@ -40,10 +42,10 @@ fn words_are_read_as_their_command(rt: HostRuntime) -> Result<(), Fail> {
         ("SET foo bar", "set foo to bar"),
         ("set k1 x.y", "set k1 to x.y"),
         ("NOPE k1", "unknown"),
-        ("GET", "unknown"),
-        ("GET a b", "unknown"),
-        ("SET a", "unknown"),
-        ("SET a b c", "unknown"),
+        ("GET", "arity"),
+        ("GET a b", "arity"),
+        ("SET a", "arity"),
+        ("SET a b c", "syntax"),
         ("GETS a", "unknown"),
     ] {
         let read = read_command(&words_of(rt.alloc(), text)?);

@@ -35,7 +35,9 @@ pub fn written_by(alloc: Global, words: &Words) -> Result<Written, NoMemory>
     match read_command(words) {
         Ok(command) => keys_written(alloc, &command),
         Err(WordFault::NoMemory) => Err(NoMemory),
-        Err(WordFault::Unknown) => Ok(Written::Keys(Words::new(alloc))),
+        Err(WordFault::Unknown | WordFault::Arity | WordFault::Syntax) => Ok(Written::Keys(
+            Words::new(alloc),
+        )),
     }
 }
 

@@ -95,6 +95,42 @@ fn a_run_writes_the_transcript_and_the_last_line_of_its_status(
             Status::Refused,
             "#1 admit r 1\nrefused 3 1\n",
         ),
+        (
+            "world",
+            "raw r\nserve r 1\n",
+            Status::Refused,
+            "#1 admit r 1\nrefused 2 3\n",
+        ),
+        (
+            "world",
+            "raw r\nbytes r GET\\sa\\r\\n\nflow r\ncut r\nrecv r\nserve r\n",
+            Status::Done,
+            "#1 admit r 1\n#2 run r GET a\n#3 take r 5\nr < $-1\\r\\n\nr end\n#4 close r\n",
+        ),
+        (
+            "world",
+            "raw r\nbytes r *2\\r\\n$3\\r\\nGET\\r\\n$3\\r\\nfoo\\r\\n\nserve r 21\nserve r 1\nsend r\nrecv r\n",
+            Status::Done,
+            "#1 admit r 1\n#2 run r GET foo\n#3 take r 5\nr < $-1\\r\\n\n",
+        ),
+        (
+            "world",
+            "raw r\nbytes r *1\\r\\n$007\nserve r\n",
+            Status::Done,
+            "#1 admit r 1\nr bad 1 6\n#2 close r\n",
+        ),
+        (
+            "world",
+            "raw r\nbytes r *1\\r\\n$16777217\nserve r\n",
+            Status::Done,
+            "#1 admit r 1\nr bad 2 12\n#2 close r\n",
+        ),
+        (
+            "world",
+            "raw r\nbytes r \\x0D\n",
+            Status::BadLine,
+            "#1 admit r 1\nbad-line 2\n",
+        ),
     ] {
         let words = words_of(rt.alloc(), words)?;
         let input = text_bytes(rt.alloc(), input)?;

@@ -1,3 +1,5 @@
 pub mod Words
+pub mod Escapes
 pub mod Events
 pub mod Printed
+pub mod Grammar

@@ -1,9 +1,12 @@
--- The names and words that stand in a line of a schedule.
-use Rattle.std.specs.Prelude.{◌&&◌, ◌||◌, ◌==◌, ℕ, List, [], ◌∷◌, Bool, not, if◌then◌else◌, nat_lt, nat_le, length}
+-- The names, words and numbers that stand in a line of a schedule.
+use Rattle.std.specs.Prelude.{◌≡◌, ◌↔◌, true, ◌+◌, ◌-◌, ◌*◌, ◌^◌, ◌&&◌, ◌||◌, ◌==◌, ℕ, List, [], ◌∷◌, ◌++◌, Bool, if◌then◌else◌, nat_lt, nat_le, length}
 use Rattle.std.specs.declared.option.Option.{Option}
 use Rattle.std.specs.declared.option.Option.TheVariants.{None, Some}
+use Rattle.std.specs.Fmt.{decimal}
 use Rattle.std.specs.List.{list_all}
-use Rattle.command_words.specs.Printed.{is_visible}
+use Rattle.std.specs.Str.{bytes_eq}
+use Rattle.std.specs.Str.Parse.{digits_value}
+use Rattle.command_words.specs.Printed.{printed}
 
 -- 0 to 9 and a to z
 abbrev pub is_name_byte : ℕ → Bool
@@ -16,16 +19,42 @@ is_name text = nat_lt 0 (length text) && nat_le (length text) 16 && list_all is_
 abbrev pub name_of : List ℕ → Option (List ℕ)
 name_of text = if is_name text then Some text else None
 
--- a visible byte other than the backslash stands for itself
-abbrev pub is_plain_byte : ℕ → Bool
-is_plain_byte b = is_visible b && not (b == 92)
+-- the digits 0 to 9 and a to f
+abbrev pub hex_value : ℕ → ℕ
+hex_value b =
+    if nat_le 48 b && nat_le b 57 then b - 48 else
+    if nat_le 97 b && nat_le b 102 then b - 87 else
+    0
 
-abbrev pub is_plain : List ℕ → Bool
-is_plain text = nat_lt 0 (length text) && list_all is_plain_byte text
+abbrev pub escaped : ℕ → List ℕ
+escaped b =
+    if b == 114 then 13 ∷ [] else
+    if b == 110 then 10 ∷ [] else
+    if b == 115 then 32 ∷ [] else
+    if b == 92 then 92 ∷ [] else
+    []
 
--- the word that a text spells, where it spells one
-abbrev pub word_of : List ℕ → Option (List ℕ)
-word_of text = if is_plain text then Some text else None
+-- what the escapes of a text stand for, read without care: whether the text is a spelling is judged below
+abbrev mutual
+  pub unescaped : List ℕ → List ℕ
+  unescaped [] = []
+  unescaped (b ∷ text) = if b == 92 then behind_backslash text else b ∷ unescaped text
+
+  pub behind_backslash : List ℕ → List ℕ
+  behind_backslash [] = []
+  behind_backslash (b ∷ text) = if b == 120 then behind_x text else escaped b ++ unescaped text
+
+  pub behind_x : List ℕ → List ℕ
+  behind_x [] = []
+  behind_x (high ∷ text) = behind_digit text high
+
+  pub behind_digit : List ℕ → ℕ → List ℕ
+  behind_digit [] high = []
+  behind_digit (low ∷ text) high = (16 * hex_value high + hex_value low) ∷ unescaped text
+
+-- the word that a text spells: the one whose printed form it is
+unfoldable pub word_of : List ℕ → Option (List ℕ)
+word_of text = if bytes_eq (printed (unescaped text)) text then Some (unescaped text) else None
 
 abbrev pub first_and_rest : Option (List ℕ) → Option (List (List ℕ)) → Option (List (List ℕ))
 first_and_rest (Some word) (Some words) = Some (word ∷ words)
@@ -36,3 +65,16 @@ first_and_rest None _ = None
 abbrev pub words_of : List (List ℕ) → Option (List (List ℕ))
 words_of [] = Some []
 words_of (text ∷ texts) = first_and_rest (word_of text) (words_of texts)
+
+-- the number of 1 to 64 bits that a text spells: the one whose decimal form it is; a count is at least 1
+unfoldable pub count_of : List ℕ → Option ℕ
+count_of text =
+    let count = digits_value 10 text in
+    if nat_lt 0 count && nat_lt count (2 ^ 64) && bytes_eq (decimal count) text then Some count else None
+
+abbrev pub is_byte : ℕ → Bool
+is_byte b = nat_lt b 256
+
+-- a text is read as a word exactly where it is that word's printed form: so each word comes back, and has one spelling
+abbrev pub WordsComeBack : Type 0
+WordsComeBack = (word text : List ℕ) → list_all is_byte word ≡ true → (word_of text ≡ Some word) ↔ (printed word ≡ text)

@@ -8,17 +8,24 @@ use resp_value::{NoMemory, Octets, Words};
 use std::alloc::Global;
 use std::marker::Model;
 
-/// A printed line. An entry's number stands first, then the name of the link.
+/// A printed line. The fields stand in the order of the line: `#E` is the number of an entry of the
+/// history, `L` the name of the link.
 #[derive(Debug, Drop)]
 pub enum Line {
     /// `#E admit L ID`: a link was admitted, as the connection ID.
     Admit(u64, Octets, u64),
     /// `#E run L WORD..`: a request ran.
     Run(u64, Octets, Words),
+    /// `L bad F O`: the bytes at the server's end broke the protocol, by the fault F at the offset O.
+    Bad(Octets, u64, u64),
+    /// `#E close L`: the server closed the connection.
+    Close(u64, Octets),
     /// `#E take L N`: N bytes were taken for the link.
     Take(u64, Octets, u64),
     /// `L < TEXT`: the bytes that the client's end read.
     Read(Octets, Octets),
+    /// `L end`: the client's end read an end.
+    End(Octets),
 }
 
 /// A list of lines.
@@ -109,6 +116,14 @@ fn put_text(line: &Line, out: &mut Vec<u8>) -> Result<(), NoMemory>
             put_entry(*entry, b" run ", link, out)?;
             put_words(words, out)
         }
+        Line::Bad(link, fault, offset) => {
+            append(out, link.as_slice())?;
+            append(out, b" bad ")?;
+            put_number(*fault, out)?;
+            append(out, b" ")?;
+            put_number(*offset, out)
+        }
+        Line::Close(entry, link) => put_entry(*entry, b" close ", link, out),
         Line::Take(entry, link, count) => {
             put_entry(*entry, b" take ", link, out)?;
             append(out, b" ")?;
@@ -118,6 +133,10 @@ fn put_text(line: &Line, out: &mut Vec<u8>) -> Result<(), NoMemory>
             append(out, link.as_slice())?;
             append(out, b" < ")?;
             put_printed(bytes.as_slice(), out)
+        }
+        Line::End(link) => {
+            append(out, link.as_slice())?;
+            append(out, b" end")
         }
     }
 }

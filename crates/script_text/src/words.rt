@@ -1,8 +1,10 @@
 // The parts of a line: names and words.
-ghost use Rattle.std.specs.Prelude.{◌≡◌, ◌==◌, List, ℕ, IfOk, map};
+ghost use Rattle.std.specs.Prelude.{◌≡◌, ◌==◌, ◌<◌, ◌++◌, ◌∷◌, List, ℕ, IfOk, OnOk, map};
 ghost use Rattle.std.specs.List.{list_all, slice_split};
-ghost use Rattle.script_text.specs.Words.{is_name, is_name_byte, is_plain, is_plain_byte, name_of, word_of, words_of};
+ghost use Rattle.script_text.specs.Words.{count_of, escaped, hex_value, is_name, is_name_byte, name_of, unescaped, word_of, words_of};
+ghost use Rattle.script_text.specs.Escapes.{unescaped_from};
 
+use command_words::put_printed;
 use resp_value::{NoMemory, Octets, Words};
 use std::alloc::Global;
 
@@ -36,24 +38,85 @@ pub fn read_name(alloc: Global, text: &[u8]) -> Result<Option<Octets>, NoMemory>
     }
 }
 
-fn has_plain_bytes(text: &[u8]) -> bool
-    ensures { result ≡ list_all is_plain_byte text.now }
-{
-    text.iter()
-        .all(|b| matches!(*b, 0x21..=0x7e) && *b != b'\\')
+/// Where a reader stands in an escape.
+#[derive(Clone, Copy)]
+enum Escape {
+    Outside,
+    Backslash,
+    Number,
+    Digit(u8),
 }
 
-fn is_plain(text: &[u8]) -> bool
-    ensures { result ≡ is_plain text.now }
+fn hex_value(digit: u8) -> u8
+    ensures value { result ≡ hex_value digit }
+    ensures small { result < 16 }
 {
-    !text.is_empty() && has_plain_bytes(text)
+    match digit {
+        b'0'..=b'9' => digit - b'0',
+        b'a'..=b'f' => digit - b'a' + 10,
+        _ => 0,
+    }
 }
 
-fn read_word(alloc: Global, text: &[u8]) -> Result<Option<Octets>, NoMemory>
+fn put_escaped(letter: u8, out: &mut Vec<u8>) -> Result<(), NoMemory>
+    ensures { OnOk result (out.new.items ≡ out.old.items ++ escaped letter) }
+{
+    match letter {
+        b'r' => out.push(b'\r')?,
+        b'n' => out.push(b'\n')?,
+        b's' => out.push(b' ')?,
+        b'\\' => out.push(b'\\')?,
+        _ => {}
+    }
+    Ok(())
+}
+
+fn take_byte(escape: Escape, byte: u8, out: &mut Vec<u8>) -> Result<Escape, NoMemory>
+    ensures { IfOk result (λ next. (rest : List ℕ) → out.old.items ++ unescaped_from escape (byte ∷ rest) ≡ out.new.items ++ unescaped_from next rest) }
+{
+    match escape {
+        Escape::Outside => {
+            if byte == b'\\' {
+                return Ok(Escape::Backslash);
+            }
+            out.push(byte)?;
+            Ok(Escape::Outside)
+        }
+        Escape::Backslash => {
+            if byte == b'x' {
+                return Ok(Escape::Number);
+            }
+            put_escaped(byte, out)?;
+            Ok(Escape::Outside)
+        }
+        Escape::Number => Ok(Escape::Digit(byte)),
+        Escape::Digit(high) => {
+            out.push(16 * hex_value(high) + hex_value(byte))?;
+            Ok(Escape::Outside)
+        }
+    }
+}
+
+fn unescape(alloc: Global, text: &[u8]) -> Result<Vec<u8>, NoMemory>
+    ensures { IfOk result (λ word. word.items ≡ unescaped text.now) }
+{
+    let mut word = Vec::new(alloc);
+    let mut escape = Escape::Outside;
+    for byte in text {
+        escape = take_byte(escape, *byte, &mut word)?;
+    }
+    Ok(word)
+}
+
+#[tactic(auto, unfolding(crate::specs::Words::word_of))]
+pub fn read_word(alloc: Global, text: &[u8]) -> Result<Option<Octets>, NoMemory>
     ensures { IfOk result (λ o. o ≡ word_of text.now) }
 {
-    if is_plain(text) {
-        Ok(Some(Octets::from_slice(alloc, text)?))
+    let word = unescape(alloc, text)?;
+    let mut spelling = Vec::new(alloc);
+    put_printed(word.as_slice(), &mut spelling)?;
+    if spelling.as_slice() == text {
+        Ok(Some(Octets::from_vec(word)))
     } else {
         Ok(None)
     }
@@ -70,4 +133,22 @@ pub fn read_words(alloc: Global, texts: &[&[u8]]) -> Result<Option<Words>, NoMem
         }
     }
     Ok(Some(words))
+}
+
+#[tactic(auto, unfolding(crate::specs::Words::count_of))]
+pub fn read_count(alloc: Global, text: &[u8]) -> Result<Option<u64>, NoMemory>
+    ensures { IfOk result (λ o. o ≡ count_of text.now) }
+{
+    let Ok(digits) = str::from_utf8(text) else {
+        return Ok(None);
+    };
+    let Ok(count) = digits.parse::<u64>() else {
+        return Ok(None);
+    };
+    let spelling = count.to_string(alloc)?;
+    if count > 0 && spelling.as_bytes() == text {
+        Ok(Some(count))
+    } else {
+        Ok(None)
+    }
 }

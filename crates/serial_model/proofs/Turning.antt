@@ -1,20 +1,20 @@
 -- What one turn, and then any list of turns, does to what was given and to what ran.
-use Rattle.std.proofs.Common.{◌≡◌, ◌+◌, ◌-◌, ℕ, List, [], ◌∷◌, ◌++◌, length, take, drop, min, max, sym, ap, subst, ◌∙◌, refl, arith, true, false, cond, append-nil, append_assoc, inl, inr}
+use Rattle.std.proofs.Common.{◌≡◌, ◌+◌, ◌-◌, ◌<◌, ◌≤◌, ℕ, List, [], ◌∷◌, ◌++◌, length, take, drop, min, max, sym, ap, subst, ◌∙◌, refl, arith, Bool, true, false, cond, append-nil, append_assoc, length-append, inl, inr}
 use Rattle.std.specs.Prelude.{◌==◌}
 use Rattle.std.proofs.lemmas.List.{take-append-le, length-drop}
-use Rattle.std.proofs.Math.Seq.{take-add}
+use Rattle.std.proofs.Math.Seq.{take-add, take-length}
 use Rattle.std.proofs.lemmas.List.{take_all}
 use Rattle.std.proofs.lemmas.Bool.{cases_lt, eqb-true}
 use Rattle.serial_model.specs.declared.history.Entry.{Entry}
 use Rattle.serial_model.specs.declared.history.Entry.TheVariants as entry
 use Rattle.serial_model.specs.declared.history.BookCall.{BookCall}
-use Rattle.serial_model.specs.declared.history.BookCall.TheVariants.{Admit, Run, Take}
+use Rattle.serial_model.specs.declared.history.BookCall.TheVariants.{Admit, Run, Take, Close}
 use Rattle.serial_model.specs.declared.history.BookReply.{BookReply}
-use Rattle.serial_model.specs.declared.history.BookReply.TheVariants.{Admitted, Ran, Quiet, Bytes, Refused}
+use Rattle.serial_model.specs.declared.history.BookReply.TheVariants.{Admitted, Ran, Quiet, Bytes, Closed, Refused}
 use Rattle.serial_model.specs.declared.history.BookRefusal.TheVariants.{Gone, NoMemory}
-use Rattle.serial_model.specs.History.{admitted, is_connected, latest, stream, taken, unsent, runs_of, IsLegal}
-use Rattle.serial_model.specs.Steps.{Turn, taking, gone, running, book_step, BookStep, Turns, given_by, given, ran_by, answered}
-use Rattle.serial_model.proofs.Streams.{stream_own, stream_other, taken_le}
+use Rattle.serial_model.specs.History.{admitted, is_connected, has_ended, latest, ran, keyspace, stream, taken, unsent, runs_of, IsLegal}
+use Rattle.serial_model.specs.Steps.{Turn, taking, gone, running, closing, book_step, BookStep, Turns, given_by, given, ran_by, answered}
+use Rattle.serial_model.proofs.Streams.{stream_own, stream_other, stream_close, taken_le, not_ended, unsent_live}
 
 -- what holds of the step, and of a turn that memory refused, holds of the turn
 pub by_step : (P : BookReply → List Entry → Type 0) (past new : List Entry) (call : BookCall) (reply : BookReply)
@@ -24,7 +24,8 @@ by_step P past new call (Ran e) does none h = subst (λ (t : Turn). P t.reply t.
 by_step P past new call Quiet does none h = subst (λ (t : Turn). P t.reply t.past) h does
 by_step P past new call (Bytes e bytes) does none h = subst (λ (t : Turn). P t.reply t.past) h does
 by_step P past new call (Refused (Gone id)) does none h = subst (λ (t : Turn). P t.reply t.past) h does
-by_step P past new call (Refused NoMemory) does none h = subst (P (Refused NoMemory)) (sym h) none
+by_step P past new call (Closed e) does none h = subst (λ (t : Turn). P t.reply t.past) h does
+by_step P past new call (Refused NoMemory) does none h = subst (P (Refused NoMemory)) (sym h.0) none
 
 -- the first bytes of the stream, those that were taken
 first : ℕ → List Entry → List ℕ
@@ -44,16 +45,17 @@ take_min m q = elim (cases_lt (length q) m) [
   | inr h ↦ ap (λ k. take k q) (omega arith)
 ]
 
-first_take : (c id most : ℕ) (past : List Entry) (bytes : List ℕ) → take most (unsent id past) ≡ bytes
+first_take : (c id most : ℕ) (past : List Entry) (bytes : List ℕ) → has_ended id past ≡ false → take most (unsent id past) ≡ bytes
     → first c past ++ (cond (id == c) bytes []) ≡ first c (entry.Take id most ∷ past)
-unfolding first unsent stream
-first_take c id most past bytes h = elim (id == c) as (λ b. (id == c) ≡ b
+unfolding first stream
+first_take c id most past bytes live h = elim (id == c) as (λ b. (id == c) ≡ b
     → take (taken c past) (stream c past) ++ (cond b bytes []) ≡ take (cond b (taken c past + min most (length (stream c past) - taken c past)) (taken c past)) (stream c past)) [
       | true ↦ λ e. sym (take-add (taken c past) (min most (length (stream c past) - taken c past)) (stream c past)
           ∙ ap (λ l. take (taken c past) (stream c past) ++ l)
           (ap (λ n. take (min most n) (drop (taken c past) (stream c past))) (sym (length-drop (taken c past) (stream c past)))
           ∙ take_min most (drop (taken c past) (stream c past))
-          ∙ ap (λ i. take most (unsent i past)) (sym (eqb-true id c e)) ∙ h))
+          ∙ ap (λ i. take most (drop (taken i past) (stream i past))) (sym (eqb-true id c e))
+          ∙ ap (take most) (sym (unsent_live past id live)) ∙ h))
       | false ↦ λ e. append-nil (take (taken c past) (stream c past))
     ] refl
 
@@ -61,14 +63,18 @@ first_admit : (c id : ℕ) (past : List Entry) → first c past ++ [] ≡ first 
 unfolding first stream
 first_admit c id past = append-nil _
 
+first_close : (c id : ℕ) (past : List Entry) → first c past ++ [] ≡ first c (entry.Close id ∷ past)
+unfolding first
+first_close c id past = append-nil _ ∙ ap (take (taken c past)) (sym (stream_close past c id))
+
 Gives : ℕ → List Entry → BookCall → BookReply → List Entry → Type 0
 Gives c past call reply new = first c past ++ given_by c call reply ≡ first c new
 
-gives_take : (c id most : ℕ) (past : List Entry) (bytes : List ℕ) → take most (unsent id past) ≡ bytes
+gives_take : (c id most : ℕ) (past : List Entry) (bytes : List ℕ) → has_ended id past ≡ false → take most (unsent id past) ≡ bytes
     → Gives c past (Take id most) (taking past id most bytes).reply (taking past id most bytes).past
 unfolding Gives
-gives_take c id most past [] h = append-nil _
-gives_take c id most past (b ∷ bytes) h = first_take c id most past (b ∷ bytes) h
+gives_take c id most past [] live h = append-nil _
+gives_take c id most past (b ∷ bytes) live h = first_take c id most past (b ∷ bytes) live h
 
 step_gives : (c : ℕ) (past : List Entry) (call : BookCall) → Gives c past call (book_step past call).reply (book_step past call).past
 unfolding Gives book_step
@@ -77,8 +83,12 @@ step_gives c past (Run id words now) = elim (is_connected past id) as (λ b. let
   | true ↦ first_run c id (max now (latest past)) words past
   | false ↦ append-nil _
 ]
-step_gives c past (Take id most) = elim (is_connected past id) as (λ b. let t : Turn = cond b (taking past id most (take most (unsent id past))) (gone past id) in first c past ++ given_by c (Take id most) t.reply ≡ first c t.past) [
-  | true ↦ gives_take c id most past (take most (unsent id past)) refl
+step_gives c past (Take id most) = elim (is_connected past id) as (λ b. is_connected past id ≡ b → (let t : Turn = cond b (taking past id most (take most (unsent id past))) (gone past id) in first c past ++ given_by c (Take id most) t.reply ≡ first c t.past)) [
+  | true ↦ λ on. gives_take c id most past (take most (unsent id past)) (not_ended past id on) refl
+  | false ↦ λ off. append-nil _
+] refl
+step_gives c past (Close id) = elim (is_connected past id) as (λ b. let t : Turn = cond b (closing past id) (gone past id) in first c past ++ given_by c (Close id) t.reply ≡ first c t.past) [
+  | true ↦ first_close c id past
   | false ↦ append-nil _
 ]
 
@@ -91,6 +101,7 @@ none_given : (c : ℕ) (past : List Entry) (call : BookCall) → first c past ++
 none_given c past Admit = append-nil _
 none_given c past (Run id words now) = append-nil _
 none_given c past (Take id most) = append-nil _
+none_given c past (Close id) = append-nil _
 
 turns_give : (c : ℕ) (calls : List BookCall) (replies : List BookReply) (old new : List Entry) → Turns old calls replies new
     → first c old ++ given c calls replies ≡ first c new
@@ -124,11 +135,13 @@ step_runs c past (Take id most) = elim (is_connected past id) as (λ b. let t : 
   | true ↦ elim (take most (unsent id past)) as (λ l. runs_of c past ++ ran_by c (Take id most) (taking past id most l).reply ≡ runs_of c (taking past id most l).past) [ [] ↦ append-nil _ | ◌∷◌ b bytes ↦ append-nil _ ]
   | false ↦ append-nil _
 ]
+step_runs c past (Close id) = elim (is_connected past id) as (λ b. let t : Turn = cond b (closing past id) (gone past id) in runs_of c past ++ ran_by c (Close id) t.reply ≡ runs_of c t.past) [ true ↦ append-nil _ | false ↦ append-nil _ ]
 
 none_ran : (c : ℕ) (past : List Entry) (call : BookCall) → runs_of c past ++ ran_by c call (Refused NoMemory) ≡ runs_of c past
 none_ran c past Admit = append-nil _
 none_ran c past (Run id words now) = append-nil _
 none_ran c past (Take id most) = append-nil _
+none_ran c past (Close id) = append-nil _
 
 turns_run : (c : ℕ) (calls : List BookCall) (replies : List BookReply) (old new : List Entry) → Turns old calls replies new
     → runs_of c old ++ answered c calls replies ≡ runs_of c new
@@ -158,6 +171,10 @@ step_legal past (Run id words now) h = elim (is_connected past id) as (λ b. is_
 ] refl
 step_legal past (Take id most) h = elim (is_connected past id) as (λ b. is_connected past id ≡ b → IsLegal (cond b (taking past id most (take most (unsent id past))) (gone past id)).past) [
   | true ↦ λ on. take_legal past id most (take most (unsent id past)) h on refl
+  | false ↦ λ off. h
+] refl
+step_legal past (Close id) h = elim (is_connected past id) as (λ b. is_connected past id ≡ b → IsLegal (cond b (closing past id) (gone past id)).past) [
+  | true ↦ λ on. (on, h)
   | false ↦ λ off. h
 ] refl
 

@@ -3,9 +3,9 @@ use Rattle.std.specs.Prelude.{◌≡◌, ◌+◌, ◌<◌, ◌==◌, ℕ, List, 
 use Rattle.serial_model.specs.declared.history.Entry.{Entry}
 use Rattle.serial_model.specs.declared.history.Entry.TheVariants as entry
 use Rattle.serial_model.specs.declared.history.BookCall.{BookCall}
-use Rattle.serial_model.specs.declared.history.BookCall.TheVariants.{Admit, Run, Take}
+use Rattle.serial_model.specs.declared.history.BookCall.TheVariants.{Admit, Run, Take, Close}
 use Rattle.serial_model.specs.declared.history.BookReply.{BookReply}
-use Rattle.serial_model.specs.declared.history.BookReply.TheVariants.{Admitted, Ran, Quiet, Bytes, Refused}
+use Rattle.serial_model.specs.declared.history.BookReply.TheVariants.{Admitted, Ran, Quiet, Bytes, Closed, Refused}
 use Rattle.serial_model.specs.declared.history.BookRefusal.TheVariants.{Gone, NoMemory}
 use Rattle.serial_model.specs.History.{admitted, is_connected, latest, unsent, stream, taken, runs_of}
 
@@ -24,14 +24,25 @@ gone past id = record { reply = Refused (Gone id); past = past }
 abbrev pub running : List Entry → ℕ → List (List ℕ) → ℕ → Turn
 running past id words now = record { reply = Ran (length past + 1); past = entry.Run id words (max now (latest past)) ∷ past }
 
+abbrev pub closing : List Entry → ℕ → Turn
+closing past id = record { reply = Closed (length past + 1); past = entry.Close id ∷ past }
+
 unfoldable pub book_step : List Entry → BookCall → Turn
 book_step past Admit = record { reply = Admitted (length past + 1) (admitted past + 1); past = entry.Admit (admitted past + 1) ∷ past }
 book_step past (Run id words now) = if is_connected past id then running past id words now else gone past id
 book_step past (Take id most) = if is_connected past id then taking past id most (take most (unsent id past)) else gone past id
+book_step past (Close id) = if is_connected past id then closing past id else gone past id
+
+-- a Close takes no memory
+abbrev pub TakesMemory : BookCall → Type 0
+TakesMemory Admit = Unit {0}
+TakesMemory (Run id words now) = Unit {0}
+TakesMemory (Take id most) = Unit {0}
+TakesMemory (Close id) = ⊥
 
 -- the turn is the step, or memory ran out and nothing changed
 abbrev pub BookStep : List Entry → BookCall → BookReply → List Entry → Type 0
-BookStep past call (Refused NoMemory) new = new ≡ past
+BookStep past call (Refused NoMemory) new = (new ≡ past) × TakesMemory call
 BookStep past call reply new = book_step past call ≡ record { reply = reply; past = new }
 
 -- a Take takes some bytes
@@ -39,6 +50,7 @@ abbrev pub IsCallable : BookCall → Type 0
 IsCallable Admit = Unit {0}
 IsCallable (Run id words now) = Unit {0}
 IsCallable (Take id most) = 0 < most
+IsCallable (Close id) = Unit {0}
 
 -- calls are played one after another
 abbrev pub Turns : List Entry → List BookCall → List BookReply → List Entry → Type 0

@@ -21,6 +21,8 @@ pub enum Entry {
     Run { id: u64, words: Words, moment: u64 },
     /// A connection took its next bytes, at most so many.
     Take { id: u64, max: u64 },
+    /// A connection ended; what it had not taken is given up.
+    Close { id: u64 },
 }
 
 /// What the server can be asked to do in one turn.
@@ -31,12 +33,14 @@ pub enum BookCall {
     Run { id: u64, words: Words, now: u64 },
     /// `max` is at least 1.
     Take { id: u64, max: u64 },
+    /// It takes no memory.
+    Close { id: u64 },
 }
 
 /// Why a turn was not played.
 #[derive(Clone, Copy, Debug, PartialEq, Eq)]
 pub enum BookRefusal {
-    /// No connection of this id was admitted.
+    /// No connection of this id was admitted, or it has ended.
     Gone { id: u64 },
     NoMemory,
 }
@@ -49,6 +53,7 @@ pub enum BookReply {
     /// There is nothing to take, and no entry was added.
     Quiet,
     Bytes { entry: u64, bytes: Octets },
+    Closed { entry: u64 },
     Refused(BookRefusal),
 }
 

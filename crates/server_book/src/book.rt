@@ -1,7 +1,7 @@
 //! The server's state. A turn answers and adds what the definition of a step gives on the history.
 ghost use Rattle.std.specs.Prelude.{◌≡◌, ◌<◌, [], true, IfOk, OnErr, length, reverse};
 ghost use Rattle.serial_model.specs.declared.history.BookCall.TheVariants as call;
-ghost use Rattle.serial_model.specs.History.{is_connected, IsLegal};
+ghost use Rattle.serial_model.specs.History.{is_connected, unsent, IsLegal};
 ghost use Rattle.serial_model.specs.Steps.{BookStep, IsCallable};
 ghost use Rattle.server_book.specs.Standing.{IsTurn, posts_after};
 
@@ -22,19 +22,20 @@ pub struct Book {
     entries: Vec<Entry>,
     space: Keyspace,
     queues: Queues,
+    ended: Vec<bool>,
     moment: u64,
     posts: Vec<Post>,
 }
 
 impl Model for Book {
-    ghost use Rattle.std.specs.Prelude.{reverse};
-    ghost use Rattle.server_book.specs.Standing.{Standing, Keeps};
+    ghost use Rattle.std.specs.Prelude.{reverse, vec_len, vec_capacity};
+    ghost use Rattle.server_book.specs.Standing.{Standing, Holds};
 
     ghost Value = { Standing };
 
     ghost view = { λ b. record { limits = b.limits; past = reverse b.entries.items; posts = b.posts.items } };
 
-    ghost invariant = { λ b. Keeps (reverse b.entries.items) b.space b.queues b.moment };
+    ghost invariant = { λ b. Holds (reverse b.entries.items) b.space b.queues b.ended.items b.moment (vec_len b.entries) (vec_capacity b.entries) (vec_capacity b.posts) };
 }
 
 impl Book {
@@ -48,6 +49,7 @@ impl Book {
             entries: Vec::new(alloc),
             space: Keyspace::new(alloc),
             queues: Queues::new(alloc),
+            ended: Vec::new(alloc),
             moment: 0,
             posts: Vec::with_capacity(alloc, 1)?,
         })
@@ -75,10 +77,22 @@ impl Book {
         self.posts.as_slice()
     }
 
-    fn is_connected(&self, id: u64) -> bool
+    /// Whether a connection of this id was admitted and has not ended.
+    pub fn is_connected(&self, id: u64) -> bool
         ensures { result ≡ is_connected self.now.past id }
     {
-        id > 0 && id <= self.queues.len() as u64
+        if id == 0 || id > self.ended.len() as u64 {
+            return false;
+        }
+        !self.ended[(id - 1) as usize]
+    }
+
+    /// How many bytes a connection can take now.
+    pub fn waiting(&self, id: u64) -> u64
+        requires { is_connected self.now.past id ≡ true }
+        ensures { result ≡ length (unsent id self.now.past) }
+    {
+        self.queues.size((id - 1) as usize) as u64
     }
 
     #[tactic(auto, unfolding(serial_model::specs::Steps::book_step, serial_model::specs::History::posted))]
@@ -87,16 +101,15 @@ impl Book {
         ensures ok { IfOk result (λ reply. IsTurn self.old call.Admit reply self.new) }
         ensures err { OnErr result (self.new ≡ self.old) }
     {
-        let id = self.queues.len() as u64 + 1;
+        let id = self.ended.len() as u64 + 1;
         let entry = self.entries.len() as u64 + 1;
-        self.entries.push(Entry::Admit { id })?;
-        match self.queues.push_empty(self.alloc) {
-            Ok(()) => Ok(BookReply::Admitted { entry, id }),
-            Err(_) => {
-                let _ = self.entries.pop();
-                Err(NoMemory)
-            }
-        }
+        // Room for this entry, and for the Close of each connection with the new one.
+        self.entries.reserve(self.ended.len() + 2)?;
+        self.ended.reserve(1)?;
+        self.queues.push_empty(self.alloc)?;
+        self.ended.push_reserved(false);
+        self.entries.push_reserved(Entry::Admit { id });
+        Ok(BookReply::Admitted { entry, id })
     }
 
     // All room is made first. The keyspace grows last, and the queue can be taken back.
@@ -110,7 +123,7 @@ impl Book {
         let at = (id - 1) as usize;
         let Plan { reply, write } = plan_of(self.alloc, &self.space, &words)?;
         let message = message_of(self.alloc, &reply)?;
-        self.entries.reserve(1)?;
+        self.entries.reserve(self.ended.len() + 1)?;
         self.posts.reserve(1)?;
         let size = self.queues.size(at);
         self.queues.add(at, message.as_slice())?;
@@ -143,14 +156,36 @@ impl Book {
         ensures err { OnErr result (self.new ≡ self.old) }
     {
         let at = (id - 1) as usize;
-        let bytes = self.queues.front(self.alloc, at, most as usize)?;
+        let bytes = self.queues.front(at, most as usize)?;
         if bytes.as_slice().is_empty() {
             return Ok(BookReply::Quiet);
         }
         let entry = self.entries.len() as u64 + 1;
-        self.entries.push(Entry::Take { id, max: most })?;
+        self.entries.reserve(self.ended.len() + 1)?;
+        self.entries.push_reserved(Entry::Take { id, max: most });
         self.queues.advance(at, most as usize);
         Ok(BookReply::Bytes { entry, bytes })
+    }
+
+    // The room for the entry and for its message was kept.
+    #[tactic(auto, unfolding(serial_model::specs::Steps::book_step))]
+    fn close(&mut self, id: u64) -> BookReply
+        requires connected { is_connected self.old.past id ≡ true }
+        requires quiet { self.old.posts ≡ [] }
+        ensures { IsTurn self.old (call.Close id) result self.new }
+    {
+        let at = (id - 1) as usize;
+        let entry = self.entries.len() as u64 + 1;
+        self.entries.push_reserved(Entry::Close { id });
+        self.posts.push_reserved(Post {
+            entry,
+            id,
+            length: 0,
+            last: true,
+        });
+        self.queues.drop_all(at);
+        self.ended[at] = true;
+        BookReply::Closed { entry }
     }
 
     /// Plays one turn. Want of memory leaves the history as it was.
@@ -177,6 +212,13 @@ impl Book {
                 } else {
                     Ok(BookReply::Refused(BookRefusal::Gone { id }))
                 }
+            }
+            BookCall::Close { id } => {
+                return if self.is_connected(id) {
+                    self.close(id)
+                } else {
+                    BookReply::Refused(BookRefusal::Gone { id })
+                };
             }
         };
         match turned {

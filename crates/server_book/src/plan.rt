@@ -4,7 +4,7 @@ ghost use Rattle.serial_model.specs.History.{ran, spelled};
 ghost use Rattle.server_book.specs.Written.{written};
 
 use super::keyspace::Keyspace;
-use command_words::{Command, WordFault, read_command};
+use command_words::{Command, WordFault, fault_text, read_command};
 use resp_value::{NoMemory, Octets, Proto, Value, Words, put_value};
 use std::alloc::Global;
 
@@ -42,11 +42,11 @@ pub fn plan_of(alloc: Global, space: &Keyspace, words: &Words) -> Result<Plan, N
                 write: Some(Pair { key, value }),
             })
         }
-        Err(WordFault::Unknown) => {
-            let reply = Value::Error(Octets::from_slice(alloc, b"ERR unknown command")?);
+        Err(WordFault::NoMemory) => Err(NoMemory),
+        Err(fault) => {
+            let reply = Value::Error(fault_text(alloc, words, fault)?);
             Ok(Plan { reply, write: None })
         }
-        Err(WordFault::NoMemory) => Err(NoMemory),
     }
 }
 

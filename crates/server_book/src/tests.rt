@@ -15,12 +15,15 @@ fn words_of(alloc: Global, text: &str) -> Result<Words, NoMemory> {
     Ok(words)
 }
 
-// The turn that `what` names: an admit, a take of at most `number` bytes, or a request at that moment.
+// The turn that `what` names: an admit, a close, a take of at most `number` bytes, or a request at
+// that moment.
 fn call_of(alloc: Global, what: &str, id: u64, number: u64) -> Result<BookCall, NoMemory>
     ensures { IfOk result (λ call. IsCallable call) }
 {
     if what == "admit" {
         Ok(BookCall::Admit)
+    } else if what == "close" {
+        Ok(BookCall::Close { id })
     } else if what == "take" {
         let max = number.max(1);
         Ok(BookCall::Take { id, max })
@@ -40,6 +43,7 @@ fn told(reply: &BookReply) -> (u64, &[u8]) {
         BookReply::Admitted { entry, .. } => (*entry, b""),
         BookReply::Ran { entry } => (*entry, b""),
         BookReply::Bytes { entry, bytes } => (*entry, bytes.as_slice()),
+        BookReply::Closed { entry } => (*entry, b""),
         BookReply::Quiet => (0, b"quiet"),
         BookReply::Refused(BookRefusal::Gone { .. }) => (0, b"gone"),
         BookReply::Refused(BookRefusal::NoMemory) => (0, b"no memory"),
@@ -70,6 +74,8 @@ fn a_book_answers_its_turns_and_keeps_their_entries(rt: HostRuntime) -> Result<(
         ("take", 1, 99, 8, "$3\r\nbar\r\n$-1\r\n", 0),
         ("take", 2, 99, 9, "$3\r\nbar\r\n", 0),
         ("take", 2, 99, 0, "quiet", 0),
+        ("close", 2, 0, 10, "", 0),
+        ("GET foo", 2, 8, 0, "gone", 0),
     ] {
         let reply = book.turn(call_of(alloc, what, id, number)?);
         let (number, gave) = told(&reply);
@@ -83,13 +89,13 @@ fn a_book_answers_its_turns_and_keeps_their_entries(rt: HostRuntime) -> Result<(
                     entry,
                     id,
                     length: sent,
-                    last: false
+                    last: matches!(reply, BookReply::Closed { .. })
                 },
                 "{what}"
             ),
         }
     }
-    assert_eq!(rt; book.entries(), 9);
+    assert_eq!(rt; book.entries(), 10);
     let mut moments = Vec::new(alloc);
     for entry in book.history() {
         if let Entry::Run { moment, .. } = entry {

@@ -5,7 +5,7 @@ use Rattle.script_text.specs.declared.line.Line.{Line}
 use Rattle.world_run.specs.declared.fault.WorldFault.{WorldFault}
 use Rattle.world_run.specs.declared.fault.WorldFault.TheVariants.{NoName, NameTaken, NoMemory}
 use Rattle.world_run.specs.WorldState.{WorldState}
-use Rattle.world_run.specs.World.{step, lines_of, AppendsFront, StepGives, SilentGives}
+use Rattle.world_run.specs.World.{AppendsFront}
 
 pub no_lines : (lines all : List Line) → AppendsFront lines lines all
 no_lines lines all = ([], all, refl, sym (append-nil lines))
@@ -17,9 +17,3 @@ front_of old new xs ys f = (f.0, f.1 ++ ys, ap (λ l. l ++ ys) f.2 ∙ append_as
 -- all of one list, and then the front of another
 pub behind : (old mid new xs ys : List Line) → mid ≡ old ++ xs → AppendsFront mid new ys → AppendsFront old new (xs ++ ys)
 behind old mid new xs ys m f = (xs ++ f.0, f.1, ap (λ l. xs ++ l) f.2 ∙ sym (append_assoc xs f.0 f.1), f.3 ∙ ap (λ l. l ++ f.0) m ∙ append_assoc old xs f.0)
-
-pub silent : (old new : WorldState) (event : Event) (result : Result (Unit {0}) WorldFault) (lines : List Line) → SilentGives old event result new → StepGives old event lines result new lines
-silent old new event (Ok done) lines h = ([], h, sym (append-nil lines))
-silent old new event (Err NoMemory) lines h = no_lines lines (lines_of (step old event))
-silent old new event (Err NoName) lines h = (h.0, h.1, refl)
-silent old new event (Err NameTaken) lines h = (h.0, h.1, refl)

@@ -1,6 +1,13 @@
+pub mod Telling
+pub mod Linking
+pub mod Stepping
+pub mod Flowing
+pub mod Sending
+pub mod Feeding
+pub mod Serving
+pub mod Stopping
 pub mod Fronts
 pub mod Places
-pub mod Serving
-pub mod Flowing
-pub mod Telling
 pub mod Serial
+pub mod Hearing
+pub mod Carrying

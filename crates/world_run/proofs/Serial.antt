@@ -1,344 +1,573 @@
 -- One history serves all links, event by event.
-use Rattle.std.proofs.Common.{◌≡◌, ◌+◌, ◌<◌, ℕ, List, [], ◌∷◌, ◌++◌, Bool, true, false, cond, Some, None, Ok, Err, Result, length, take, slice_index_or, slice_set, refl, sym, ap, subst, ◌∙◌, arith, append_assoc, append-nil, length-append, length-set}
-use Rattle.std.specs.Prelude.{◌==◌}
-use Rattle.std.specs.declared.option.Option.{Option}
+use Rattle.std.proofs.Common.{◌≡◌, ◌+◌, ◌-◌, ◌<◌, ◌≤◌, ℕ, List, [], ◌∷◌, ◌++◌, Bool, true, false, cond, Some, None, Ok, Err, Result, Option, length, take, slice_index_or, slice_set, refl, sym, ap, subst, ◌∙◌, arith, append_assoc, append-nil, length-append, length-set, inl, inr}
+use Rattle.std.proofs.Common.{eq-eqb, ne_eqb, zero, suc}
+use Rattle.std.specs.Prelude.{◌==◌, ◌&&◌, not, nat_lt, nat_le, position}
 use Rattle.std.specs.Str.{bytes_eq}
 use Rattle.std.proofs.lemmas.Bool.{eqb-true}
 use Rattle.std.proofs.lemmas.Bool.Decides.{nat_tests}
-use Rattle.std.proofs.Common.{eq-eqb, ne_eqb}
 use Rattle.std.proofs.lemmas.List.{get_or-set_same, get_or-set_other, get_or_push, get_or_append_left}
-use Rattle.std.proofs.Math.Seq.{take-nil}
 use Rattle.serial_model.specs.declared.history.Entry.{Entry}
 use Rattle.serial_model.specs.declared.history.Entry.TheVariants as entry
 use Rattle.serial_model.specs.declared.history.BookCall.TheVariants as call
-use Rattle.serial_model.specs.declared.history.BookReply.{BookReply}
-use Rattle.serial_model.specs.declared.history.BookReply.TheVariants.{Admitted, Ran, Quiet, Bytes, Refused}
-use Rattle.serial_model.specs.History.{admitted, is_connected, stream, taken, runs_of, IsLegal}
-use Rattle.serial_model.specs.Steps.{Turn, book_step, given_by, ran_by}
-use Rattle.serial_model.proofs.Streams.{stream_fresh, stream_admit, runs_fresh}
-use Rattle.serial_model.proofs.Turning.{step_gave, step_runs, step_legal, run_step, take_count}
+use Rattle.serial_model.proofs.Streams.{connected, stream_admit, stream_fresh, runs_fresh}
+use Rattle.script_text.specs.declared.line.Line.TheVariants as line
+use Rattle.resp_stream.specs.Stream.{Stream, fed, begun}
+use Rattle.resp_stream.specs.Request.{behind, behind_in, request_at, request_begun}
+use Rattle.resp_stream.specs.Answer.{More}
+use Rattle.resp_laws.specs.Parse.{Parsed, parse, requests_of}
+use Rattle.resp_laws.proofs.Parse.{parse_more}
+use Rattle.std.proofs.Math.Seq.{take-nil}
+use Rattle.world_run.specs.declared.way.Way.{Way}
+use Rattle.std.proofs.lemmas.Bool.{cases_lt}
+use Rattle.serial_model.specs.History.{admitted, is_admitted, has_ended, is_connected, stream, taken, unsent, runs_of, IsLegal}
+use Rattle.serial_model.specs.Steps.{book_step}
+use Rattle.serial_model.proofs.Frames.{Same, same_none, same_more, same_connected}
 use Rattle.script_text.specs.declared.event.Event.{Event}
-use Rattle.script_text.specs.declared.event.Event.TheVariants.{Raw, Say, Flow}
+use Rattle.script_text.specs.declared.event.Event.TheVariants.{Raw, Say, Bytes, Out, Serve, Send, Recv, Flow, FlowAll, Cut}
 use Rattle.script_text.specs.declared.line.Line.{Line}
-use Rattle.script_text.specs.declared.line.Line.TheVariants.{Admit, Run, Take, Read}
 use Rattle.world_run.specs.declared.fault.WorldFault.{WorldFault}
-use Rattle.world_run.specs.WorldState.{WorldState, Fits}
-use Rattle.world_run.specs.World.{Stepped, start, step, place_of, reply_lines, served, served_lines, raw_step, say_step, flow_step, all_bytes}
+use Rattle.world_run.specs.declared.link.Link.{Link}
+use Rattle.world_run.specs.WorldState.{WorldState, fresh_link}
+use Rattle.world_run.specs.declared.fault.WorldFault.TheVariants.{NothingThere, NameTaken, NoName}
+use Rattle.resp_value.specs.Spelling.{request_spelling}
+use Rattle.world_run.specs.Ways.{is_open, put, without, cut}
+use Rattle.world_run.specs.Moves.{Moved, flow, serve, send, receive, out, ran_fed, with_fed, taken_down, with_down, read_lines}
+use Rattle.world_run.specs.World.{Stepped, start, step, place_of, link_at, flows, move_of, moving, stepped, raw_step}
 use Rattle.world_run.specs.Transcript.{on_step, transcript, after}
-use Rattle.world_run.specs.Serial.{said, read_on, Serves, OneHistory}
-use Rattle.world_run.proofs.Places.{placed, same_place, other_place, unplaced, or_else, place_push}
+use Rattle.world_run.specs.Serial.{read_on, up_to, reads, is_place, heard_at, heard, Serves, OneHistory}
+use Rattle.world_run.proofs.Hearing.{Account, account_same, gave}
+use Rattle.world_run.proofs.Carrying.{Carries, carries_flow, carries_stays, carries_up, carries_cut, carries_serve_all, carries_ran, carries_send_all, carries_taken, carries_receive_all, carries_receive, read_more}
+use Rattle.world_run.proofs.Places.{placed, unplaced, same_name, names_itself}
 
-said_more : (link : List ℕ) (es ds : List Event) → said link (es ++ ds) ≡ said link es ++ said link ds
-said_more link [] ds = refl
-said_more link (Raw name ∷ es) ds = said_more link es ds
-said_more link (Say name words ∷ es) ds =
-    let r = said_more link es ds in
-    elim (bytes_eq name link) as (λ b. cond b (words ∷ said link (es ++ ds)) (said link (es ++ ds)) ≡ cond b (words ∷ said link es) (said link es) ++ said link ds) [
-      | true ↦ ap (λ l. words ∷ l) r
-      | false ↦ r
-    ]
-said_more link (Flow name ∷ es) ds = said_more link es ds
+at_place : List Link → ℕ → Link
+at_place links i = slice_index_or links i (fresh_link [])
 
-read_more : (link : List ℕ) (xs ys : List Line) → read_on link (xs ++ ys) ≡ read_on link xs ++ read_on link ys
-read_more link [] ys = refl
-read_more link (Admit e name id ∷ xs) ys = read_more link xs ys
-read_more link (Run e name words ∷ xs) ys = read_more link xs ys
-read_more link (Take e name n ∷ xs) ys = read_more link xs ys
-read_more link (Read name bytes ∷ xs) ys =
-    let r = read_more link xs ys in
-    elim (bytes_eq name link) as (λ b. cond b (bytes ++ read_on link (xs ++ ys)) (read_on link (xs ++ ys)) ≡ cond b (bytes ++ read_on link xs) (read_on link xs) ++ read_on link ys) [
-      | true ↦ ap (λ l. bytes ++ l) r ∙ sym (append_assoc bytes (read_on link xs) (read_on link ys))
-      | false ↦ r
-    ]
+-- ---- all links flow
 
--- the first bytes of a stream, those that were taken
-gave : ℕ → List Entry → List ℕ
-gave c past = take (taken c past) (stream c past)
+-- what the flow of all these links does; the first is the connection of this id
+record FlowsAll (id : ℕ) (links : List Link) (past : List Entry) (s : Stepped) : Type 0 where
+  legal : IsLegal past → IsLegal s.world.past
+  count : admitted s.world.past ≡ admitted past
+  size : length s.world.links ≡ length links
+  names : (i : ℕ) → (at_place s.world.links i).name ≡ (at_place links i).name
+  others : (c : ℕ) → ((i : ℕ) → i < length links → id + i ≡ c → ⊥) → Same c past s.world.past
+  own : (i c : ℕ) → id + i ≡ c → i < length links → ((j : ℕ) → j < length links → (at_place links j).name ≡ (at_place links i).name → j ≡ i) → (heard read : List ℕ)
+      → Account c heard read past (at_place links i).reader (at_place links i).down
+      → Account c (heard ++ cond (is_connected past c) (at_place links i).up.bytes []) (read ++ read_on (at_place links i).name s.lines) s.world.past (at_place s.world.links i).reader (at_place s.world.links i).down
+  mute : (name : List ℕ) → ((i : ℕ) → i < length links → (at_place links i).name ≡ name → ⊥) → read_on name s.lines ≡ []
 
--- what Runs of a connection do to a link's account
-record RanAll (c id : ℕ) (link name : List ℕ) (requests : List (List (List ℕ))) (past : List Entry) : Type 0 where
-  legal : IsLegal (served id requests past)
-  count : admitted (served id requests past) ≡ admitted past
-  gives : gave c (served id requests past) ≡ gave c past
-  runs : runs_of c (served id requests past) ≡ runs_of c past ++ cond (id == c) requests []
-  reads : read_on link (served_lines id name requests past) ≡ []
+not_equal : (a b : List ℕ) → (a ≡ b → ⊥) → bytes_eq a b ≡ false
+not_equal a b n = elim (bytes_eq a b) as (λ v. bytes_eq a b ≡ v → v ≡ false) [ true ↦ λ e. absurd (n (same_name a b e)) | false ↦ λ e. refl ] refl
 
-run_gave : (c id : ℕ) (words : List (List ℕ)) (past : List Entry) → is_connected past id ≡ true → gave c (book_step past (call.Run id words 0)).past ≡ gave c past
-unfolding gave
-run_gave c id words past on =
-    let g = step_gave c past (call.Run id words 0) in
-    let t = run_step past id 0 words on in
-    sym (subst (λ (x : Turn). take (taken c past) (stream c past) ++ given_by c (call.Run id words 0) x.reply ≡ take (taken c (book_step past (call.Run id words 0)).past) (stream c (book_step past (call.Run id words 0)).past)) t g)
-    ∙ append-nil (take (taken c past) (stream c past))
-
-split : (b : Bool) (words : List (List ℕ)) (requests : List (List (List ℕ))) → cond b (words ∷ []) [] ++ cond b requests [] ≡ cond b (words ∷ requests) []
-split true words requests = refl
-split false words requests = refl
-
-ran_all : (c id : ℕ) (link name : List ℕ) (requests : List (List (List ℕ))) (past : List Entry) → is_connected past id ≡ true → IsLegal past → RanAll c id link name requests past
-ran_all c id link name [] past on h = record {
-  legal = h;
+flows_none : (id : ℕ) (past : List Entry) → FlowsAll id [] past (flows id [] past)
+flows_none id past = record {
+  legal = λ h. h;
   count = refl;
-  gives = refl;
-  runs = sym (ap (λ l. runs_of c past ++ l) (elim (id == c) as (λ b. cond {A = List (List (List ℕ))} b [] [] ≡ []) [ true ↦ refl | false ↦ refl ]) ∙ append-nil (runs_of c past));
-  reads = refl;
+  size = refl;
+  names = λ i. refl;
+  others = λ c n. same_none c past;
+  own = λ i c e lt. absurd (omega (arith, lt));
+  mute = λ name n. refl;
 }
-ran_all c id link name (words ∷ requests) past on h =
-    let t = run_step past id 0 words on in
-    let next = (book_step past (call.Run id words 0)).past in
-    let same : admitted next ≡ admitted past = ap (λ (x : Turn). admitted x.past) t in
-    let still : is_connected next id ≡ true = ap (λ (x : Turn). is_connected x.past id) t ∙ on in
-    let r = ran_all c id link name requests next still (step_legal past (call.Run id words 0) h) in
-    record {
-      legal = r.legal;
-      count = r.count ∙ same;
-      gives = r.gives ∙ run_gave c id words past on;
-      runs = r.runs
-          ∙ ap (λ l. l ++ cond (id == c) requests []) (sym (step_runs c past (call.Run id words 0)) ∙ ap (λ (x : Turn). runs_of c past ++ ran_by c (call.Run id words 0) x.reply) t)
-          ∙ append_assoc (runs_of c past) (cond (id == c) (words ∷ []) []) (cond (id == c) requests [])
-          ∙ ap (λ l. runs_of c past ++ l) (split (id == c) words requests);
-      reads = ap (λ (x : Turn). read_on link (reply_lines name words x.reply ++ served_lines id name requests next)) t ∙ r.reads;
-    }
 
--- what the law keeps from event to event
-record Stands (events : List Event) (lines : List Line) (w : WorldState) : Type 0 where
+module _ (id : ℕ) (link : Link) (links : List Link) (past : List Entry) (f : Carries id past link (cond (is_connected past id) link.up.bytes []) (flow id past link))
+    (g : FlowsAll (id + 1) links (flow id past link).past (flows (id + 1) links (flow id past link).past)) where
+  first_move : Moved
+  first_move = flow id past link
+
+  rest_moves : Stepped
+  rest_moves = flows (id + 1) links first_move.past
+
+  all_moves : Stepped
+  all_moves = flows id (link ∷ links) past
+
+  flows_names : (i : ℕ) → (at_place all_moves.world.links i).name ≡ (at_place (link ∷ links) i).name
+  unfolding all_moves rest_moves first_move at_place
+  flows_names zero = f.named
+  flows_names (suc i) = g.names i
+
+  flows_others : (c : ℕ) → ((i : ℕ) → i < length (link ∷ links) → id + i ≡ c → ⊥) → Same c past all_moves.world.past
+  unfolding all_moves rest_moves first_move
+  flows_others c n = same_more c past first_move.past rest_moves.world.past
+      (f.others c (ne_eqb id c (λ e. n 0 (omega arith) (omega (arith, e)))))
+      (g.others c (λ i lt e. n (i + 1) (omega (arith, lt)) (omega (arith, e))))
+
+  flows_mute : (name : List ℕ) → ((i : ℕ) → i < length (link ∷ links) → (at_place (link ∷ links) i).name ≡ name → ⊥) → read_on name all_moves.lines ≡ []
+  unfolding all_moves rest_moves first_move at_place
+  flows_mute name n =
+      read_more name first_move.lines rest_moves.lines ∙ ap (λ r. r ++ read_on name rest_moves.lines) (f.mute name (not_equal link.name name (n 0 (omega arith))))
+      ∙ g.mute name (λ i lt e. n (suc i) (omega (arith, lt)) e)
+
+  flows_first : ((j : ℕ) → j < length (link ∷ links) → (at_place (link ∷ links) j).name ≡ link.name → j ≡ 0) → (heard read : List ℕ)
+      → Account id heard read past link.reader link.down
+      → Account id (heard ++ cond (is_connected past id) link.up.bytes []) (read ++ read_on link.name all_moves.lines) all_moves.world.past first_move.link.reader first_move.link.down
+  unfolding all_moves rest_moves first_move at_place
+  flows_first unique heard read a =
+      let piece = cond (is_connected past id) link.up.bytes [] in
+      let mine = f.own heard read a in
+      let silent : read_on link.name rest_moves.lines ≡ [] = g.mute link.name (λ i lt e. absurd (let z : suc i ≡ 0 = unique (suc i) (omega (arith, lt)) e in omega (arith, z))) in
+      let whole : read_on link.name first_move.lines ≡ read_on link.name (first_move.lines ++ rest_moves.lines) =
+      sym (read_more link.name first_move.lines rest_moves.lines ∙ ap (λ r. read_on link.name first_move.lines ++ r) silent ∙ append-nil (read_on link.name first_move.lines)) in
+      subst (λ r. Account id (heard ++ piece) (read ++ r) rest_moves.world.past first_move.link.reader first_move.link.down) whole
+      (account_same id (heard ++ piece) (read ++ read_on link.name first_move.lines) first_move.past rest_moves.world.past first_move.link.reader first_move.link.down
+      (g.others id (λ i lt e. omega (arith, e))) mine)
+
+  flows_later : (i c : ℕ) → (id + 1) + i ≡ c → i < length links → ((j : ℕ) → j < length (link ∷ links) → (at_place (link ∷ links) j).name ≡ (at_place links i).name → j ≡ suc i) → (heard read : List ℕ)
+      → Account c heard read past (at_place links i).reader (at_place links i).down
+      → Account c (heard ++ cond (is_connected past c) (at_place links i).up.bytes []) (read ++ read_on (at_place links i).name all_moves.lines) all_moves.world.past (at_place rest_moves.world.links i).reader (at_place rest_moves.world.links i).down
+  unfolding all_moves rest_moves first_move at_place
+  flows_later i c e lt unique heard read a =
+      let l = at_place links i in
+      let apart : (id == c) ≡ false = ne_eqb id c (λ q. omega (arith, q, e)) in
+      let same : Same c past first_move.past = f.others c apart in
+      let still : is_connected first_move.past c ≡ is_connected past c = same_connected c past first_move.past same in
+      let theirs = g.own i c e lt (λ j jt n. let q : suc j ≡ suc i = unique (suc j) (omega (arith, jt)) n in omega (arith, q)) heard read (account_same c heard read past first_move.past l.reader l.down same a) in
+      let silent : read_on l.name first_move.lines ≡ [] = f.mute l.name (not_equal link.name l.name (λ n. let z : 0 ≡ suc i = unique 0 (omega arith) n in omega (arith, z))) in
+      let whole : read_on l.name rest_moves.lines ≡ read_on l.name (first_move.lines ++ rest_moves.lines) =
+      sym (read_more l.name first_move.lines rest_moves.lines ∙ ap (λ r. r ++ read_on l.name rest_moves.lines) silent) in
+      subst (λ r. Account c (heard ++ cond (is_connected past c) l.up.bytes []) (read ++ r) rest_moves.world.past (at_place rest_moves.world.links i).reader (at_place rest_moves.world.links i).down) whole
+      (subst (λ b. Account c (heard ++ cond b l.up.bytes []) (read ++ read_on l.name rest_moves.lines) rest_moves.world.past (at_place rest_moves.world.links i).reader (at_place rest_moves.world.links i).down) still theirs)
+
+  flows_own : (i c : ℕ) → id + i ≡ c → i < length (link ∷ links) → ((j : ℕ) → j < length (link ∷ links) → (at_place (link ∷ links) j).name ≡ (at_place (link ∷ links) i).name → j ≡ i) → (heard read : List ℕ)
+      → Account c heard read past (at_place (link ∷ links) i).reader (at_place (link ∷ links) i).down
+      → Account c (heard ++ cond (is_connected past c) (at_place (link ∷ links) i).up.bytes []) (read ++ read_on (at_place (link ∷ links) i).name all_moves.lines) all_moves.world.past (at_place all_moves.world.links i).reader (at_place all_moves.world.links i).down
+  unfolding all_moves rest_moves first_move at_place
+  flows_own zero c e lt unique heard read =
+      subst (λ k. Account k heard read past link.reader link.down
+      → Account k (heard ++ cond (is_connected past k) link.up.bytes []) (read ++ read_on link.name all_moves.lines) all_moves.world.past first_move.link.reader first_move.link.down) (let same : id ≡ c = omega (arith, e) in same) (flows_first unique heard read)
+  flows_own (suc i) c e lt unique heard read = flows_later i c (omega (arith, e)) (omega (arith, lt)) unique heard read
+
+  flows_more : FlowsAll id (link ∷ links) past (flows id (link ∷ links) past)
+  unfolding all_moves rest_moves first_move
+  flows_more = record {
+    legal = λ h. g.legal (f.legal h);
+    count = g.count ∙ f.count;
+    size = ap suc g.size;
+    names = flows_names;
+    others = flows_others;
+    own = flows_own;
+    mute = flows_mute;
+  }
+
+flows_all : (id : ℕ) (links : List Link) (past : List Entry) → FlowsAll id links past (flows id links past)
+flows_all id [] past = flows_none id past
+flows_all id (link ∷ links) past = flows_more id link links past (carries_flow id past link) (flows_all (id + 1) links (flow id past link).past)
+
+-- ---- what the law keeps from event to event
+
+record Stands (heard : ℕ → List ℕ) (lines : List Line) (w : WorldState) : Type 0 where
   legal : IsLegal w.past
-  fits : Fits w.past w.names w.ups
-  serves : (link : List ℕ) → Serves link events lines w (place_of link w)
+  fits : length w.links ≡ admitted w.past
+  unique : (i j : ℕ) → i < length w.links → j < length w.links → (at_place w.links j).name ≡ (at_place w.links i).name → j ≡ i
+  accounts : (i : ℕ) → i < length w.links → Account (i + 1) (heard i) (read_on (at_place w.links i).name lines) w.past (at_place w.links i).reader (at_place w.links i).down
+  unread : (name : List ℕ) → ((i : ℕ) → i < length w.links → (at_place w.links i).name ≡ name → ⊥) → read_on name lines ≡ []
+  unheard : (i : ℕ) → length w.links ≤ i → heard i ≡ []
 
-stands_start : Stands [] [] start
-unfolding stream
-stands_start = record { legal = tt; fits = record { names_fit = refl; ups_fit = refl }; serves = λ link. (refl, refl) }
+stands_heard : (heard more : ℕ → List ℕ) (lines : List Line) (w : WorldState) → ((i : ℕ) → heard i ≡ more i) → Stands heard lines w → Stands more lines w
+stands_heard heard more lines w same s = record {
+  legal = s.legal;
+  fits = s.fits;
+  unique = s.unique;
+  accounts = λ i lt. subst (λ h. Account (i + 1) h (read_on (at_place w.links i).name lines) w.past (at_place w.links i).reader (at_place w.links i).down) (same i) (s.accounts i lt);
+  unread = s.unread;
+  unheard = λ i le. sym (same i) ∙ s.unheard i le;
+}
+
+-- one more connection leaves the others' accounts
+admitted_account : (c : ℕ) (h r : List ℕ) (past : List Entry) (id : ℕ) (reader : Stream) (down : Way) → is_connected (entry.Admit id ∷ past) c ≡ is_connected past c → Account c h r past reader down → Account c h r (entry.Admit id ∷ past) reader down
+unfolding gave
+admitted_account c h r past id reader down still a = record {
+  runs = a.runs;
+  untold = λ on. a.untold (sym still ∙ on);
+  further = λ on. a.further (sym still ∙ on);
+  lost = a.lost;
+  given = a.given ∙ sym (ap (take (taken c past)) (stream_admit past c id));
+  none_lost = a.none_lost;
+}
+
+nothing_yet : request_at (behind []) ≡ More
+unfolding behind behind_in request_at request_begun
+nothing_yet = refl
+
+no_requests : requests_of [] ≡ []
+no_requests = ap (λ (p : Parsed). p.requests) (parse_more (fed begun []) nothing_yet)
+
+-- and has an account of nothing
+fresh_account : (c : ℕ) (name : List ℕ) (past : List Entry) (id : ℕ) → IsLegal past → admitted past < c → Account c [] [] (entry.Admit id ∷ past) (fresh_link name).reader (fresh_link name).down
+unfolding gave
+fresh_account c name past id legal above =
+    let none : runs_of c past ≡ [] = runs_fresh past c legal above in
+    record {
+      runs = none ∙ sym no_requests;
+      untold = λ on. refl;
+      further = λ on m. sym (ap (λ l. l ++ (parse (fed begun m)).requests) none);
+      lost = [];
+      given = sym (ap (take (taken c past)) (stream_admit past c id ∙ stream_fresh past c legal above) ∙ take-nil (taken c past));
+      none_lost = λ h. refl;
+    }
 
 not_true : (b : Bool) → (b ≡ true → ⊥) → b ≡ false
 not_true true n = absurd (n refl)
 not_true false n = refl
 
-module _ (events : List Event) (lines : List Line) (w : WorldState) (h : Stands events lines w) (name : List ℕ) where
-  module _ (at : ℕ) (place : place_of name w ≡ Some at) where
-    at_below : at < length w.ups
-    at_below = omega (arith, (placed name w at place).0, h.fits.ups_fit)
+module _ (heard : ℕ → List ℕ) (lines : List Line) (w : WorldState) (s : Stands heard lines w) where
+  -- an event of one link
+  module _ (at : ℕ) (below : at < length w.links) (piece : ℕ → List ℕ) (m : Moved) (f : Carries (at + 1) w.past (at_place w.links at) (piece at) m) where
+    moved_links : List Link
+    moved_links = slice_set w.links at m.link
 
-    at_connected : is_connected w.past (at + 1) ≡ true
-    at_connected = let b = (placed name w at place).0 in let f = h.fits.names_fit in grind (arith, nat_tests)
+    same_size : length moved_links ≡ length w.links
+    unfolding moved_links
+    same_size = length-set w.links at m.link
 
-    module _ (words : List (List ℕ)) where
-      said_up : List (List (List ℕ))
-      said_up = slice_index_or w.ups at [] ++ words ∷ []
+    mine_there : at_place moved_links at ≡ m.link
+    unfolding moved_links at_place
+    mine_there = get_or-set_same w.links at m.link (fresh_link []) below
 
-      say_up : (link : List ℕ) (i : ℕ) → place_of link w ≡ Some i → (b : Bool) → bytes_eq name link ≡ b
-          → (runs_of (i + 1) w.past ++ slice_index_or w.ups i []) ++ cond b (words ∷ []) [] ≡ runs_of (i + 1) w.past ++ slice_index_or (slice_set w.ups at said_up) i []
-      unfolding said_up
-      say_up link i k true e =
-          let same = same_place name link w at i place k e in
-          append_assoc (runs_of (i + 1) w.past) (slice_index_or w.ups i []) (words ∷ [])
-          ∙ ap (λ l. runs_of (i + 1) w.past ++ l) (ap (λ j. slice_index_or w.ups j [] ++ words ∷ []) same
-          ∙ sym (ap (λ j. slice_index_or (slice_set w.ups at said_up) j []) same ∙ get_or-set_same w.ups at said_up [] at_below))
-      say_up link i k false e =
-          append-nil (runs_of (i + 1) w.past ++ slice_index_or w.ups i [])
-          ∙ ap (λ l. runs_of (i + 1) w.past ++ l) (sym (get_or-set_other w.ups at i said_up [] (other_place name link w at i place k e)))
+    theirs_there : (i : ℕ) → (at ≡ i → ⊥) → at_place moved_links i ≡ at_place w.links i
+    unfolding moved_links at_place
+    theirs_there i n = get_or-set_other w.links at i m.link (fresh_link []) (λ e. n (sym e))
 
-      say_none : (link : List ℕ) → place_of link w ≡ None → (b : Bool) → bytes_eq name link ≡ b → cond b (words ∷ []) [] ≡ []
-      say_none link k true e = absurd (unplaced name link w at place k e)
-      say_none link k false e = refl
+    either : (P : ℕ → Type 0) (i : ℕ) → P at → ((at ≡ i → ⊥) → P i) → P i
+    either P i is other = elim (at == i) as (λ b. (at == i) ≡ b → P i) [
+      | true ↦ λ e. subst P (eqb-true at i e) is
+      | false ↦ λ e. other (λ q. let t : (at == i) ≡ true = eq-eqb at i q in cc)
+    ] refl
 
-      say_serves : (link : List ℕ) (p : Option ℕ) → place_of link w ≡ p → Serves link events lines w p
-          → Serves link (events ++ Say name words ∷ []) (lines ++ []) (record w { ups = slice_set w.ups at said_up }) p
-      say_serves link None k s = (
-        said_more link events (Say name words ∷ []) ∙ ap (λ l. l ++ cond (bytes_eq name link) (words ∷ []) []) s.0 ∙ say_none link k (bytes_eq name link) refl,
-        ap (read_on link) (append-nil lines) ∙ s.1,
-      )
-      say_serves link (Some i) k s = (
-        ap (read_on link) (append-nil lines) ∙ s.0,
-        said_more link events (Say name words ∷ []) ∙ ap (λ l. l ++ cond (bytes_eq name link) (words ∷ []) []) s.1 ∙ say_up link i k (bytes_eq name link) refl,
-      )
+    name_kept : (i : ℕ) → (at_place moved_links i).name ≡ (at_place w.links i).name
+    name_kept i = either (λ k. (at_place moved_links k).name ≡ (at_place w.links k).name) i (ap (λ (l : Link). l.name) mine_there ∙ f.named) (λ n. ap (λ (l : Link). l.name) (theirs_there i n))
 
-      stands_say : Stands (events ++ Say name words ∷ []) (lines ++ []) (record w { ups = slice_set w.ups at said_up })
-      stands_say = record {
-        legal = h.legal;
-        fits = record { names_fit = h.fits.names_fit; ups_fit = length-set w.ups at said_up ∙ h.fits.ups_fit };
-        serves = λ link. say_serves link (place_of link w) refl (h.serves link);
+    moved_heard : ℕ → List ℕ
+    moved_heard i = heard i ++ cond (at == i) (piece i) []
+
+    mine_account : Account (at + 1) (moved_heard at) (read_on (at_place moved_links at).name (lines ++ m.lines)) m.past (at_place moved_links at).reader (at_place moved_links at).down
+    unfolding moved_heard
+    mine_account =
+        let l = at_place w.links at in
+        let a = f.own (heard at) (read_on l.name lines) (s.accounts at below) in
+        subst (λ (x : Link). Account (at + 1) (heard at ++ cond (at == at) (piece at) []) (read_on x.name (lines ++ m.lines)) m.past x.reader x.down) (sym mine_there)
+        (subst (λ n. Account (at + 1) (heard at ++ cond (at == at) (piece at) []) (read_on n (lines ++ m.lines)) m.past m.link.reader m.link.down) (sym f.named)
+        (subst (λ b. Account (at + 1) (heard at ++ cond b (piece at) []) (read_on l.name (lines ++ m.lines)) m.past m.link.reader m.link.down) (sym (eq-eqb at at refl))
+        (subst (λ r. Account (at + 1) (heard at ++ piece at) r m.past m.link.reader m.link.down) (sym (read_more l.name lines m.lines)) a)))
+
+    their_account : (i : ℕ) → i < length w.links → (at ≡ i → ⊥) → Account (i + 1) (moved_heard i) (read_on (at_place moved_links i).name (lines ++ m.lines)) m.past (at_place moved_links i).reader (at_place moved_links i).down
+    unfolding moved_heard
+    their_account i lt n =
+        let l = at_place w.links i in
+        let a = account_same (i + 1) (heard i) (read_on l.name lines) w.past m.past l.reader l.down (f.others (i + 1) (ne_eqb (at + 1) (i + 1) (λ e. n (omega (arith, e))))) (s.accounts i lt) in
+        let silent : read_on l.name m.lines ≡ [] = f.mute l.name (not_equal (at_place w.links at).name l.name (λ e. n (s.unique i at lt below e))) in
+        subst (λ (x : Link). Account (i + 1) (heard i ++ cond (at == i) (piece i) []) (read_on x.name (lines ++ m.lines)) m.past x.reader x.down) (sym (theirs_there i n))
+        (subst (λ b. Account (i + 1) (heard i ++ cond b (piece i) []) (read_on l.name (lines ++ m.lines)) m.past l.reader l.down) (sym (ne_eqb at i n))
+        (subst (λ h. Account (i + 1) h (read_on l.name (lines ++ m.lines)) m.past l.reader l.down) (sym (append-nil (heard i)))
+        (subst (λ r. Account (i + 1) (heard i) r m.past l.reader l.down) (sym (read_more l.name lines m.lines ∙ ap (λ r. read_on l.name lines ++ r) silent ∙ append-nil (read_on l.name lines))) a)))
+
+    stands_move : Stands moved_heard (lines ++ m.lines) (record { past = m.past; links = moved_links })
+    unfolding moved_heard
+    stands_move = record {
+      legal = f.legal s.legal;
+      fits = same_size ∙ s.fits ∙ sym f.count;
+      unique = λ i j li lj e. s.unique i j (omega (arith, li, same_size)) (omega (arith, lj, same_size)) (sym (name_kept j) ∙ e ∙ name_kept i);
+      accounts = λ i lt. either (λ k. Account (k + 1) (moved_heard k) (read_on (at_place moved_links k).name (lines ++ m.lines)) m.past (at_place moved_links k).reader (at_place moved_links k).down) i
+          mine_account (their_account i (omega (arith, lt, same_size)));
+      unread = λ name n.
+          let other : (i : ℕ) → i < length w.links → (at_place w.links i).name ≡ name → ⊥ = λ i lt e. n i (omega (arith, lt, same_size)) (name_kept i ∙ e) in
+          read_more name lines m.lines ∙ ap (λ r. r ++ read_on name m.lines) (s.unread name other) ∙ f.mute name (not_equal (at_place w.links at).name name (other at below));
+      unheard = λ i le. ap (λ b. heard i ++ cond b (piece i) []) (ne_eqb at i (λ e. omega (arith, le, below, same_size, e))) ∙ append-nil (heard i) ∙ s.unheard i (omega (arith, le, same_size));
+    }
+
+    -- the same where nothing is heard
+    stands_unheard : ((i : ℕ) → piece i ≡ []) → Stands (λ i. heard i ++ []) (lines ++ m.lines) (record { past = m.past; links = moved_links })
+    unfolding moved_heard
+    stands_unheard none = stands_heard moved_heard (λ i. heard i ++ []) (lines ++ m.lines) (record { past = m.past; links = moved_links })
+        (λ i. ap (λ l. heard i ++ cond (at == i) l []) (none i) ∙ elim (at == i) as (λ b. heard i ++ cond b [] [] ≡ heard i ++ []) [ true ↦ refl | false ↦ refl ]) stands_move
+
+    -- where the first names this place
+    at_event : (name : List ℕ) → place_of name w ≡ Some at → (i : ℕ) → cond (is_place (place_of name w) i) (piece i) [] ≡ cond (at == i) (piece i) []
+    at_event name place i = ap (λ p. cond (is_place p i) (piece i) []) place
+
+  -- all of them flow
+  all_flowed : FlowsAll 1 w.links w.past (flows 1 w.links w.past) → Stands (λ i. heard i ++ reads w i None) (lines ++ (flows 1 w.links w.past).lines) (flows 1 w.links w.past).world
+  unfolding at_place
+  all_flowed f =
+      let t = flows 1 w.links w.past in
+      record {
+        legal = f.legal s.legal;
+        fits = f.size ∙ s.fits ∙ sym f.count;
+        unique = λ i j li lj e. s.unique i j (omega (arith, li, f.size)) (omega (arith, lj, f.size)) (sym (f.names j) ∙ e ∙ f.names i);
+        accounts = λ i lt.
+            let below : i < length w.links = omega (arith, lt, f.size) in
+            let l = at_place w.links i in
+            let new = at_place t.world.links i in
+            let a = f.own i (i + 1) (omega arith) below (λ j lj e. s.unique i j below lj e) (heard i) (read_on l.name lines) (s.accounts i below) in
+            subst (λ n. Account (i + 1) (heard i ++ reads w i None) (read_on n (lines ++ t.lines)) t.world.past new.reader new.down) (sym (f.names i))
+            (subst (λ r. Account (i + 1) (heard i ++ reads w i None) r t.world.past new.reader new.down) (sym (read_more l.name lines t.lines)) a);
+        unread = λ name n.
+            let other : (i : ℕ) → i < length w.links → (at_place w.links i).name ≡ name → ⊥ = λ i lt e. n i (omega (arith, lt, f.size)) (f.names i ∙ e) in
+            read_more name lines t.lines ∙ ap (λ r. r ++ read_on name t.lines) (s.unread name other) ∙ f.mute name other;
+        unheard = λ i le.
+            let off : is_connected w.past (i + 1) ≡ false = not_true (is_connected w.past (i + 1)) (λ on. (let k = connected w.past (i + 1) on in omega (arith, k.1, le, f.size, s.fits))) in
+            ap (λ b. heard i ++ cond b (link_at w i).up.bytes []) off ∙ append-nil (heard i) ∙ s.unheard i (omega (arith, le, f.size));
       }
 
-    -- what a Take of all gives is what the link reads of it
-    read_reply : (link : List ℕ) (c : ℕ) (reply : BookReply) → bytes_eq name link ≡ (at + 1 == c) → read_on link (reply_lines name [] reply) ≡ given_by c (call.Take (at + 1) all_bytes) reply
-    read_reply link c (Admitted e id) same = refl
-    read_reply link c (Ran e) same = refl
-    read_reply link c Quiet same = refl
-    read_reply link c (Bytes e bytes) same =
-        ap (λ b. cond b (bytes ++ []) []) same ∙ ap (λ l. cond (at + 1 == c) l []) (append-nil bytes)
-    read_reply link c (Refused r) same = refl
-
-    read_none : (link : List ℕ) (reply : BookReply) → bytes_eq name link ≡ false → read_on link (reply_lines name [] reply) ≡ []
-    read_none link (Admitted e id) other = refl
-    read_none link (Ran e) other = refl
-    read_none link Quiet other = refl
-    read_none link (Bytes e bytes) other = ap (λ b. cond b (bytes ++ []) []) other
-    read_none link (Refused r) other = refl
-
-    queue : List (List (List ℕ))
-    queue = slice_index_or w.ups at []
-
-    served_past : List Entry
-    served_past = served (at + 1) queue w.past
-
-    taken_turn : Turn
-    taken_turn = book_step served_past (call.Take (at + 1) all_bytes)
-
-    flow_lines : List Line
-    flow_lines = served_lines (at + 1) name queue w.past ++ reply_lines name [] taken_turn.reply
-
-    flowed : WorldState
-    flowed = record { past = taken_turn.past; names = w.names; ups = slice_set w.ups at [] }
-
-    account : (c : ℕ) (link : List ℕ) → RanAll c (at + 1) link name queue w.past
-    unfolding queue
-    account c link = ran_all c (at + 1) link name queue w.past at_connected h.legal
-
-    same_test : (link : List ℕ) (i : ℕ) → place_of link w ≡ Some i → (b : Bool) → bytes_eq name link ≡ b → b ≡ (at + 1 == i + 1)
-    same_test link i k true e = sym (eq-eqb (at + 1) (i + 1) (ap (λ j. j + 1) (sym (same_place name link w at i place k e))))
-    same_test link i k false e = sym (ne_eqb (at + 1) (i + 1) (λ n. other_place name link w at i place k e (omega (arith, n))))
-
-    flow_read : (link : List ℕ) (i : ℕ) → place_of link w ≡ Some i → read_on link flow_lines ≡ given_by (i + 1) (call.Take (at + 1) all_bytes) taken_turn.reply
-    unfolding flow_lines
-    flow_read link i k =
-        read_more link (served_lines (at + 1) name queue w.past) (reply_lines name [] taken_turn.reply)
-        ∙ ap (λ l. l ++ read_on link (reply_lines name [] taken_turn.reply)) (account (i + 1) link).reads
-        ∙ read_reply link (i + 1) taken_turn.reply (same_test link i k (bytes_eq name link) refl)
-
-    flow_none : (link : List ℕ) → place_of link w ≡ None → read_on link flow_lines ≡ []
-    unfolding flow_lines
-    flow_none link k =
-        read_more link (served_lines (at + 1) name queue w.past) (reply_lines name [] taken_turn.reply)
-        ∙ ap (λ l. l ++ read_on link (reply_lines name [] taken_turn.reply)) (account 0 link).reads
-        ∙ read_none link taken_turn.reply (not_true (bytes_eq name link) (unplaced name link w at place k))
-
-    -- the requests that stood there are those that ran, on that link alone
-    flow_up : (i : ℕ) (b : Bool) → (at + 1 == i + 1) ≡ b
-        → (runs_of (i + 1) w.past ++ slice_index_or w.ups i []) ++ [] ≡ (runs_of (i + 1) w.past ++ cond b queue []) ++ slice_index_or (slice_set w.ups at []) i []
-    unfolding queue
-    flow_up i true e =
-        let same : i ≡ at = let n = eqb-true (at + 1) (i + 1) e in omega arith in
-        ap (λ l. (runs_of (i + 1) w.past ++ l) ++ []) (ap (λ j. slice_index_or w.ups j []) same)
-        ∙ ap (λ l. (runs_of (i + 1) w.past ++ slice_index_or w.ups at []) ++ l) (sym (ap (λ j. slice_index_or (slice_set w.ups at []) j []) same ∙ get_or-set_same w.ups at [] [] at_below))
-    flow_up i false e =
-        let other : i ≡ at → ⊥ = λ n. (let t : (at + 1 == i + 1) ≡ true = eq-eqb (at + 1) (i + 1) (ap (λ j. j + 1) (sym n)) in cc) in
-        append-nil (runs_of (i + 1) w.past ++ slice_index_or w.ups i [])
-        ∙ ap (λ l. runs_of (i + 1) w.past ++ l) (sym (get_or-set_other w.ups at i [] [] other))
-        ∙ ap (λ l. l ++ slice_index_or (slice_set w.ups at []) i []) (sym (append-nil (runs_of (i + 1) w.past)))
-
-    flow_gave : (c : ℕ) (link : List ℕ) → gave c w.past ++ given_by c (call.Take (at + 1) all_bytes) taken_turn.reply ≡ take (taken c taken_turn.past) (stream c taken_turn.past)
-    unfolding gave taken_turn served_past
-    flow_gave c link = ap (λ l. l ++ given_by c (call.Take (at + 1) all_bytes) taken_turn.reply) (sym (account c link).gives) ∙ step_gave c served_past (call.Take (at + 1) all_bytes)
-
-    flow_runs : (c : ℕ) (link : List ℕ) → runs_of c taken_turn.past ≡ runs_of c w.past ++ cond (at + 1 == c) queue []
-    unfolding taken_turn served_past
-    flow_runs c link = sym (step_runs c served_past (call.Take (at + 1) all_bytes)) ∙ append-nil (runs_of c served_past) ∙ (account c link).runs
-
-    flow_serves : (link : List ℕ) (p : Option ℕ) → place_of link w ≡ p → Serves link events lines w p
-        → Serves link (events ++ Flow name ∷ []) (lines ++ flow_lines) flowed p
-    unfolding flowed gave
-    flow_serves link None k s = (
-      said_more link events (Flow name ∷ []) ∙ append-nil (said link events) ∙ s.0,
-      read_more link lines flow_lines ∙ ap (λ l. l ++ read_on link flow_lines) s.1 ∙ flow_none link k,
-    )
-    flow_serves link (Some i) k s = (
-      read_more link lines flow_lines ∙ ap (λ l. l ++ read_on link flow_lines) s.0 ∙ ap (λ l. gave (i + 1) w.past ++ l) (flow_read link i k) ∙ flow_gave (i + 1) link,
-      said_more link events (Flow name ∷ []) ∙ ap (λ l. l ++ []) s.1 ∙ flow_up i (at + 1 == i + 1) refl
-          ∙ ap (λ l. l ++ slice_index_or (slice_set w.ups at []) i []) (sym (flow_runs (i + 1) link)),
-    )
-
-    stands_flow : Stands (events ++ Flow name ∷ []) (lines ++ flow_lines) flowed
-    unfolding flowed taken_turn served_past
-    stands_flow = record {
-      legal = step_legal served_past (call.Take (at + 1) all_bytes) (account 0 name).legal;
-      fits = record {
-        names_fit = h.fits.names_fit ∙ sym (take_count served_past (at + 1) all_bytes ∙ (account 0 name).count);
-        ups_fit = length-set w.ups at [] ∙ h.fits.ups_fit;
-      };
-      serves = λ link. flow_serves link (place_of link w) refl (h.serves link);
-    }
-
-  module _ (free : place_of name w ≡ None) where
+  -- a link is made
+  module _ (name : List ℕ) (free : place_of name w ≡ None) where
     made : WorldState
-    made = record { past = entry.Admit (admitted w.past + 1) ∷ w.past; names = w.names ++ name ∷ []; ups = w.ups ++ [] ∷ [] }
+    made = record { past = entry.Admit (admitted w.past + 1) ∷ w.past; links = w.links ++ fresh_link name ∷ [] }
 
     admit_line : List Line
-    admit_line = Admit (length w.past + 1) name (admitted w.past + 1) ∷ []
+    admit_line = line.Admit (length w.past + 1) name (admitted w.past + 1) ∷ []
 
-    raw_old : (link : List ℕ) (i : ℕ) → place_of link w ≡ Some i → Serves link events lines w (Some i) → Serves link (events ++ Raw name ∷ []) (lines ++ admit_line) made (Some i)
-    unfolding made admit_line stream
-    raw_old link i k s = (
-      read_more link lines admit_line ∙ append-nil (read_on link lines) ∙ s.0,
-      said_more link events (Raw name ∷ []) ∙ append-nil (said link events) ∙ s.1
-          ∙ ap (λ l. runs_of (i + 1) w.past ++ l) (sym (get_or_append_left w.ups ([] ∷ []) [] i (omega (arith, (placed link w i k).0, h.fits.ups_fit)))),
-    )
+    nowhere : (i : ℕ) → i < length w.links → (at_place w.links i).name ≡ name → ⊥
+    unfolding at_place
+    nowhere = unplaced name w free
 
-    raw_new : (link : List ℕ) (p : Option ℕ) → Serves link events lines w None → (b : Bool) → Serves link (events ++ Raw name ∷ []) (lines ++ admit_line) made (or_else None (cond b (Some (length w.names)) None))
-    unfolding made admit_line
-    raw_new link p s true =
-        let n = length w.names in
-        let none = read_more link lines admit_line ∙ append-nil (read_on link lines) ∙ s.1 in
-        let mute = said_more link events (Raw name ∷ []) ∙ append-nil (said link events) ∙ s.0 in
-        let above : admitted w.past < n + 1 = omega (arith, h.fits.names_fit) in (
-          none ∙ sym (ap (take (taken (n + 1) w.past)) (stream_admit w.past (n + 1) (admitted w.past + 1) ∙ stream_fresh w.past (n + 1) h.legal above) ∙ take-nil (taken (n + 1) w.past)),
-          mute ∙ sym (ap (λ l. l ++ slice_index_or (w.ups ++ [] ∷ []) n []) (runs_fresh w.past (n + 1) h.legal above) ∙ get_or_push w.ups [] [] n h.fits.ups_fit),
-        )
-    raw_new link p s false =
-        (said_more link events (Raw name ∷ []) ∙ append-nil (said link events) ∙ s.0, read_more link lines admit_line ∙ append-nil (read_on link lines) ∙ s.1)
-
-    raw_serves : (link : List ℕ) (p : Option ℕ) → place_of link w ≡ p → Serves link events lines w p
-        → Serves link (events ++ Raw name ∷ []) (lines ++ admit_line) made (or_else p (cond (bytes_eq name link) (Some (length w.names)) None))
-    raw_serves link None k s = raw_new link None s (bytes_eq name link)
-    raw_serves link (Some i) k s = raw_old link i k s
-
-    made_place : (link : List ℕ) → or_else (place_of link w) (cond (bytes_eq name link) (Some (length w.names)) None) ≡ place_of link made
+    made_size : length made.links ≡ length w.links + 1
     unfolding made
-    made_place link = sym (place_push (λ n. bytes_eq n link) w.names name)
+    made_size = length-append w.links (fresh_link name ∷ [])
 
-    stands_raw : Stands (events ++ Raw name ∷ []) (lines ++ admit_line) made
+    old_there : (i : ℕ) → i < length w.links → at_place made.links i ≡ at_place w.links i
+    unfolding made at_place
+    old_there i lt = get_or_append_left w.links (fresh_link name ∷ []) (fresh_link []) i lt
+
+    new_there : (i : ℕ) → i ≡ length w.links → at_place made.links i ≡ fresh_link name
+    unfolding made at_place
+    new_there i e = get_or_push w.links (fresh_link name) (fresh_link []) i (sym e)
+
+    which : (P : ℕ → Type 0) (i : ℕ) → i < length made.links → ((k : ℕ) → k < length w.links → P k) → ((k : ℕ) → k ≡ length w.links → P k) → P i
+    which P i lt old new = elim (cases_lt i (length w.links)) [ inl below ↦ old i below | inr over ↦ new i (omega (arith, over, lt, made_size)) ]
+
+    same_lines : (n : List ℕ) → read_on n (lines ++ admit_line) ≡ read_on n lines
+    unfolding admit_line
+    same_lines n = read_more n lines admit_line ∙ append-nil (read_on n lines)
+
+    still_there : (c : ℕ) → 0 < c → c ≤ admitted w.past → is_connected made.past c ≡ is_connected w.past c
     unfolding made
-    stands_raw = record {
-      legal = (refl, h.legal);
-      fits = record {
-        names_fit = omega (arith, h.fits.names_fit, length-append w.names (name ∷ []));
-        ups_fit = omega (arith, h.fits.ups_fit, length-append w.names (name ∷ []), length-append w.ups ([] ∷ []));
-      };
-      serves = λ link. subst (Serves link (events ++ Raw name ∷ []) (lines ++ admit_line) made) (made_place link) (raw_serves link (place_of link w) refl (h.serves link));
+    still_there c more le =
+        let a : nat_le c (admitted w.past + 1) ≡ true = grind (arith, nat_tests) in
+        let b : nat_le c (admitted w.past) ≡ true = grind (arith, nat_tests) in
+        ap (λ v. (nat_lt 0 c && v) && not (has_ended c w.past)) (a ∙ sym b)
+
+    old_account : (i : ℕ) → i < length w.links → Account (i + 1) (heard i ++ []) (read_on (at_place made.links i).name (lines ++ admit_line)) made.past (at_place made.links i).reader (at_place made.links i).down
+    unfolding gave made
+    old_account i lt =
+        let l = at_place w.links i in
+        let a = s.accounts i lt in
+        let still = still_there (i + 1) (omega arith) (omega (arith, lt, s.fits)) in
+        subst (λ (x : Link). Account (i + 1) (heard i ++ []) (read_on x.name (lines ++ admit_line)) made.past x.reader x.down) (sym (old_there i lt))
+        (subst (λ r. Account (i + 1) (heard i ++ []) r made.past l.reader l.down) (sym (same_lines l.name))
+        (subst (λ h. Account (i + 1) h (read_on l.name lines) made.past l.reader l.down) (sym (append-nil (heard i))) (admitted_account (i + 1) (heard i) (read_on l.name lines) w.past (admitted w.past + 1) l.reader l.down still a)))
+
+    new_account : (i : ℕ) → i ≡ length w.links → Account (i + 1) (heard i ++ []) (read_on (at_place made.links i).name (lines ++ admit_line)) made.past (at_place made.links i).reader (at_place made.links i).down
+    unfolding made
+    new_account i e =
+        let quiet : heard i ++ [] ≡ [] = append-nil (heard i) ∙ s.unheard i (omega (arith, e)) in
+        let silent : read_on name (lines ++ admit_line) ≡ [] = same_lines name ∙ s.unread name nowhere in
+        subst (λ (x : Link). Account (i + 1) (heard i ++ []) (read_on x.name (lines ++ admit_line)) made.past x.reader x.down) (sym (new_there i e))
+        (subst (λ h. Account (i + 1) h (read_on name (lines ++ admit_line)) made.past (fresh_link name).reader (fresh_link name).down) (sym quiet)
+        (subst (λ r. Account (i + 1) [] r made.past (fresh_link name).reader (fresh_link name).down) (sym silent)
+        (fresh_account (i + 1) name w.past (admitted w.past + 1) s.legal (omega (arith, e, s.fits)))))
+
+    old_name : (i : ℕ) → i < length w.links → (at_place made.links i).name ≡ (at_place w.links i).name
+    old_name i lt = ap (λ (l : Link). l.name) (old_there i lt)
+
+    new_name : (i : ℕ) → i ≡ length w.links → (at_place made.links i).name ≡ name
+    new_name i e = ap (λ (l : Link). l.name) (new_there i e)
+
+    made_unique : (i j : ℕ) → i < length made.links → j < length made.links → (at_place made.links j).name ≡ (at_place made.links i).name → j ≡ i
+    made_unique i j li lj =
+        which (λ k. (at_place made.links j).name ≡ (at_place made.links k).name → j ≡ k) i li
+        (λ k lk. which (λ m. (at_place made.links m).name ≡ (at_place made.links k).name → m ≡ k) j lj
+        (λ m lm e. s.unique k m lk lm (sym (old_name m lm) ∙ e ∙ old_name k lk))
+        (λ m em e. absurd (nowhere k lk (sym (old_name k lk) ∙ sym e ∙ new_name m em))))
+        (λ k ek. which (λ m. (at_place made.links m).name ≡ (at_place made.links k).name → m ≡ k) j lj
+        (λ m lm e. absurd (nowhere m lm (sym (old_name m lm) ∙ e ∙ new_name k ek)))
+        (λ m em e. em ∙ sym ek))
+
+    stands_made : Stands (λ i. heard i ++ []) (lines ++ admit_line) made
+    unfolding made
+    stands_made = record {
+      legal = made_legal;
+      fits = made_size ∙ ap (λ n. n + 1) s.fits;
+      unique = made_unique;
+      accounts = λ i lt. which (λ k. Account (k + 1) (heard k ++ []) (read_on (at_place made.links k).name (lines ++ admit_line)) made.past (at_place made.links k).reader (at_place made.links k).down) i lt old_account new_account;
+      unread = λ n none. same_lines n ∙ s.unread n (λ i lt e. none i (omega (arith, lt, made_size)) (old_name i lt ∙ e));
+      unheard = λ i le. append-nil (heard i) ∙ s.unheard i (omega (arith, le, made_size));
     }
+      where
+        made_legal : IsLegal made.past
+        made_legal = (refl, s.legal)
 
-module _ (events : List Event) (lines : List Line) (w : WorldState) (h : Stands events lines w) (s : Stepped) where
-  becomes : (e : Event) (t : Stepped) → ◌≡◌ {A = Result Stepped WorldFault} (Ok t) (Ok s) → Stands (events ++ e ∷ []) (lines ++ t.lines) t.world → Stands (events ++ e ∷ []) (lines ++ s.lines) s.world
-  becomes e t same = subst (λ (x : Stepped). Stands (events ++ e ∷ []) (lines ++ x.lines) x.world) (let one : t ≡ s = cc in one)
+-- ---- an event
 
-  stands_step : (e : Event) → step w e ≡ Ok s → Stands (events ++ e ∷ []) (lines ++ s.lines) s.world
-  unfolding step book_step flowed flow_lines taken_turn served_past queue made admit_line said_up
-  stands_step (Raw name) = elim (place_of name w) as (λ p. place_of name w ≡ p → raw_step w name p ≡ Ok s → Stands (events ++ Raw name ∷ []) (lines ++ s.lines) s.world) [
-    | Some at ↦ λ k same. absurd (let no : ⊥ = cc in no)
-    | None ↦ λ k same. becomes (Raw name) _ same (stands_raw events lines w h name k)
-  ] refl
-  stands_step (Say name words) = elim (place_of name w) as (λ p. place_of name w ≡ p → say_step w words p ≡ Ok s → Stands (events ++ Say name words ∷ []) (lines ++ s.lines) s.world) [
-    | Some at ↦ λ k same. becomes (Say name words) _ same (stands_say events lines w h name at k words)
-    | None ↦ λ k same. absurd (let no : ⊥ = cc in no)
-  ] refl
-  stands_step (Flow name) = elim (place_of name w) as (λ p. place_of name w ≡ p → flow_step w name p ≡ Ok s → Stands (events ++ Flow name ∷ []) (lines ++ s.lines) s.world) [
-    | Some at ↦ λ k same. becomes (Flow name) _ same (stands_flow events lines w h name at k)
-    | None ↦ λ k same. absurd (let no : ⊥ = cc in no)
-  ] refl
+-- what the server's end of a link hears at an event of that link
+piece_of : WorldState → Event → ℕ → List ℕ
+piece_of w (Raw name) i = []
+piece_of w (Say name words) i = []
+piece_of w (Bytes name bytes) i = []
+piece_of w (Out name count) i = []
+piece_of w (Serve name count) i = reads w i count
+piece_of w (Send name count) i = []
+piece_of w (Recv name count) i = []
+piece_of w (Flow name) i = reads w i None
+piece_of w FlowAll i = []
+piece_of w (Cut name) i = []
 
-stands_after : (events more : List Event) (lines : List Line) (v w : WorldState) → Stands events lines v → after v more ≡ Some w → Stands (events ++ more) (lines ++ transcript v more) w
-stands_after events [] lines v w h e =
+same_ok : {A : Type 0} (P : A → Type 0) (x y : A) → ◌≡◌ {A = Result A WorldFault} (Ok x) (Ok y) → P x → P y
+same_ok P x y e = subst P (let same : x ≡ y = cc in same)
+
+no_ok : {A : Type 0} (f : WorldFault) (y : A) → ◌≡◌ {A = Result A WorldFault} (Err f) (Ok y) → ⊥
+no_ok f y e = cc
+
+both : (a b : Bool) → (a && b) ≡ true → (a ≡ true) × (b ≡ true)
+both true true e = (refl, refl)
+both true false e = absurd cc
+both false b e = absurd cc
+
+module _ (w : WorldState) (at : ℕ) (m : Moved) where
+  here : Link
+  here = link_at w at
+
+  C : List ℕ → Moved → Type 0
+  C piece n = Carries (at + 1) w.past (link_at w at) piece n
+
+  serve_carries : (count : Option ℕ) → serve (at + 1) w.past (link_at w at) count ≡ Ok m → C (reads w at count) m
+  unfolding C
+  serve_carries None e = same_ok (C (reads w at None)) _ m e (carries_serve_all (at + 1) w.past (link_at w at))
+  serve_carries (Some n) e =
+      let l = link_at w at in
+      let does = ran_fed (at + 1) w.past (with_fed l (take n l.up.bytes) (without n l.up)) false in
+      let can = is_connected w.past (at + 1) && nat_le n (length l.up.bytes) in
+      elim can as (λ b. can ≡ b → cond b (Ok does) (Err NothingThere) ≡ Ok m → C (reads w at (Some n)) m) [
+        | true ↦ λ t q.
+            let on = (both (is_connected w.past (at + 1)) (nat_le n (length l.up.bytes)) t).0 in
+            same_ok (C (reads w at (Some n))) does m q (subst (λ b. C (cond b (take n l.up.bytes) []) does) (sym on) (carries_ran (at + 1) w.past l (take n l.up.bytes) (without n l.up) false on))
+        | false ↦ λ t q. absurd (no_ok NothingThere m q)
+      ] refl e
+
+  send_carries : (count : Option ℕ) → send (at + 1) w.past (link_at w at) count ≡ Ok m → C [] m
+  unfolding C
+  send_carries None e = same_ok (C []) _ m e (carries_send_all (at + 1) w.past (link_at w at))
+  send_carries (Some n) e =
+      let l = link_at w at in
+      let can = is_open l.down.ending && is_connected w.past (at + 1) && nat_le n (length (unsent (at + 1) w.past)) in
+      elim can as (λ b. can ≡ b → cond b (Ok (taken_down (at + 1) w.past l n)) (Err NothingThere) ≡ Ok m → C [] m) [
+        | true ↦ λ t q. same_ok (C []) _ m q (carries_taken (at + 1) w.past l n (opened t))
+        | false ↦ λ t q. absurd (no_ok NothingThere m q)
+      ] refl e
+    where
+      opened : (is_open (link_at w at).down.ending && is_connected w.past (at + 1) && nat_le n (length (unsent (at + 1) w.past))) ≡ true → is_open (link_at w at).down.ending ≡ true
+      opened t = grind (arith, nat_tests)
+
+  receive_carries : (count : Option ℕ) → receive w.past (link_at w at) count ≡ Ok m → C [] m
+  unfolding C
+  receive_carries None e = same_ok (C []) _ m e (carries_receive_all (at + 1) w.past (link_at w at))
+  receive_carries (Some n) e =
+      let l = link_at w at in
+      let does : Moved = record { past = w.past; link = with_down l (without n l.down); lines = read_lines l.name (take n l.down.bytes) } in
+      elim (nat_le n (length l.down.bytes)) as (λ b. cond b (Ok does) (Err NothingThere) ≡ Ok m → C [] m) [
+        | true ↦ λ q. same_ok (C []) does m q (carries_receive (at + 1) w.past l n)
+        | false ↦ λ q. absurd (no_ok NothingThere m q)
+      ] e
+
+  out_carries : (count : Option ℕ) → out w.past (link_at w at) count ≡ Ok m → C [] m
+  unfolding C
+  out_carries None e = same_ok (C []) _ m e (carries_stays (at + 1) w.past (link_at w at))
+  out_carries (Some n) e = absurd (no_ok NothingThere m e)
+
+  move_carries : (event : Event) → move_of w.past event (at + 1) (link_at w at) ≡ Ok m → C (piece_of w event at) m
+  unfolding C piece_of
+  move_carries (Raw name) e = same_ok (C []) _ m e (carries_stays (at + 1) w.past (link_at w at))
+  move_carries (Say name words) e = same_ok (C []) _ m e (carries_up (at + 1) w.past (link_at w at) (put (request_spelling words) (link_at w at).up))
+  move_carries (Bytes name bytes) e = same_ok (C []) _ m e (carries_up (at + 1) w.past (link_at w at) (put bytes (link_at w at).up))
+  move_carries (Out name count) e = out_carries count e
+  move_carries (Serve name count) e = serve_carries count e
+  move_carries (Send name count) e = send_carries count e
+  move_carries (Recv name count) e = receive_carries count e
+  move_carries (Flow name) e = same_ok (C (reads w at None)) _ m e (carries_flow (at + 1) w.past (link_at w at))
+  move_carries FlowAll e = same_ok (C []) _ m e (carries_stays (at + 1) w.past (link_at w at))
+  move_carries (Cut name) e = same_ok (C []) _ m e (carries_cut (at + 1) w.past (link_at w at) (cut (link_at w at).up))
+
+nothing : (b : Bool) → [] ≡ cond {A = List ℕ} b [] []
+nothing true = refl
+nothing false = refl
+
+module _ (heard : ℕ → List ℕ) (lines : List Line) (w : WorldState) (s : Stands heard lines w) (t : Stepped) where
+  After : Event → Stepped → Type 0
+  After event x = Stands (λ i. heard i ++ heard_at w i event) (lines ++ x.lines) x.world
+
+  moved_stands : (name : List ℕ) (event : Event) → ((i : ℕ) → heard_at w i event ≡ cond (is_place (place_of name w) i) (piece_of w event i) [])
+      → moving w (place_of name w) (move_of w.past event) ≡ Ok t → After event t
+  unfolding After moved_heard moved_links at_place C
+  moved_stands name event hears e =
+      elim (place_of name w) as (λ p. place_of name w ≡ p → moving w p (move_of w.past event) ≡ Ok t → After event t) [
+        | None ↦ λ place q. absurd (no_ok NoName t q)
+        | Some at ↦ λ place q.
+            elim (move_of w.past event (at + 1) (link_at w at)) as (λ r. move_of w.past event (at + 1) (link_at w at) ≡ r → stepped w at r ≡ Ok t → After event t) [
+              | Err f ↦ λ is z. absurd (no_ok f t z)
+              | Ok m ↦ λ is z.
+                  same_ok (After event) _ t z
+                  (stands_heard (λ i. heard i ++ cond (at == i) (piece_of w event i) []) (λ i. heard i ++ heard_at w i event) (lines ++ m.lines) (record { past = m.past; links = slice_set w.links at m.link })
+                  (λ i. ap (λ l. heard i ++ l) (sym (hears i ∙ ap (λ p. cond (is_place p i) (piece_of w event i) []) place)))
+                  (stands_move heard lines w s at (placed name w at place).0 (piece_of w event) m (move_carries w at m event is)))
+            ] refl q
+      ] refl e
+
+  stands_step : (event : Event) → step w event ≡ Ok t → After event t
+  unfolding After step book_step made admit_line piece_of
+  stands_step (Raw name) e = elim (place_of name w) as (λ p. place_of name w ≡ p → raw_step w name p ≡ Ok t → After (Raw name) t) [
+    | Some at ↦ λ place q. absurd (no_ok NameTaken t q)
+    | None ↦ λ free q. same_ok (After (Raw name)) _ t q (stands_made heard lines w s name free)
+  ] refl e
+  stands_step (Say name words) e = moved_stands name (Say name words) (λ i. nothing (is_place (place_of name w) i)) e
+  stands_step (Bytes name bytes) e = moved_stands name (Bytes name bytes) (λ i. nothing (is_place (place_of name w) i)) e
+  stands_step (Out name count) e = moved_stands name (Out name count) (λ i. nothing (is_place (place_of name w) i)) e
+  stands_step (Serve name count) e = moved_stands name (Serve name count) (λ i. refl) e
+  stands_step (Send name count) e = moved_stands name (Send name count) (λ i. nothing (is_place (place_of name w) i)) e
+  stands_step (Recv name count) e = moved_stands name (Recv name count) (λ i. nothing (is_place (place_of name w) i)) e
+  stands_step (Flow name) e = moved_stands name (Flow name) (λ i. refl) e
+  stands_step FlowAll e = same_ok (After FlowAll) _ t e (all_flowed heard lines w s (flows_all 1 w.links w.past))
+  stands_step (Cut name) e = moved_stands name (Cut name) (λ i. nothing (is_place (place_of name w) i)) e
+
+stands_start : Stands (λ i. []) [] start
+stands_start = record {
+  legal = tt;
+  fits = refl;
+  unique = λ i j li. absurd (omega (arith, li));
+  accounts = λ i li. absurd (omega (arith, li));
+  unread = λ name n. refl;
+  unheard = λ i le. refl;
+}
+
+stands_after : (events : List Event) (before : ℕ → List ℕ) (lines : List Line) (v w : WorldState) → Stands before lines v → after v events ≡ Some w → Stands (λ i. before i ++ heard v i events) (lines ++ transcript v events) w
+unfolding After
+stands_after [] before lines v w h e =
     let same : v ≡ w = cc in
-    subst (λ x. Stands (events ++ []) (lines ++ []) x) same (subst (λ l. Stands l (lines ++ []) v) (sym (append-nil events)) (subst (λ l. Stands events l v) (sym (append-nil lines)) h))
-stands_after events (d ∷ more) lines v w h e =
+    subst (λ x. Stands (λ i. before i ++ []) (lines ++ []) x) same
+    (subst (λ l. Stands (λ i. before i ++ []) l v) (sym (append-nil lines)) (stands_heard before (λ i. before i ++ []) lines v (λ i. sym (append-nil (before i))) h))
+stands_after (d ∷ more) before lines v w h e =
     elim (step v d) as (λ r. step v d ≡ r → on_step r None (λ t. after t.world more) ≡ Some w
-    → Stands (events ++ d ∷ more) (lines ++ on_step r [] (λ t. t.lines ++ transcript t.world more)) w) [
+    → Stands (λ i. before i ++ on_step r [] (λ t. heard_at v i d ++ heard t.world i more)) (lines ++ on_step r [] (λ t. t.lines ++ transcript t.world more)) w) [
       | Err f ↦ λ is q. absurd (let no : ⊥ = cc in no)
       | Ok t ↦ λ is q.
-          subst (λ l. Stands l (lines ++ (t.lines ++ transcript t.world more)) w) (append_assoc events (d ∷ []) more)
-          (subst (λ l. Stands ((events ++ d ∷ []) ++ more) l w) (append_assoc lines t.lines (transcript t.world more))
-          (stands_after (events ++ d ∷ []) more (lines ++ t.lines) t.world w (stands_step events lines v h t d is) q))
+          subst (λ l. Stands (λ i. before i ++ (heard_at v i d ++ heard t.world i more)) l w) (append_assoc lines t.lines (transcript t.world more))
+          (stands_heard (λ i. (before i ++ heard_at v i d) ++ heard t.world i more) (λ i. before i ++ (heard_at v i d ++ heard t.world i more)) ((lines ++ t.lines) ++ transcript t.world more) w
+          (λ i. append_assoc (before i) (heard_at v i d) (heard t.world i more))
+          (stands_after more (λ i. before i ++ heard_at v i d) (lines ++ t.lines) t.world w (stands_step before lines v h t d is) q))
     ] refl e
 
 pub one_history : (events : List Event) (w : WorldState) → after start events ≡ Some w → OneHistory events (transcript start events) w
-one_history events w e = let s = stands_after [] events [] start w stands_start e in record { legal = s.legal; serves = s.serves }
+unfolding gave at_place
+one_history events w e =
+    let s = stands_after events (λ i. []) [] start w stands_start e in
+    let lines = transcript start events in
+    record {
+      legal = s.legal;
+      serves = λ link. elim (place_of link w) as (λ p. place_of link w ≡ p → Serves link events lines w p) [
+        | None ↦ λ none. s.unread link (unplaced link w none)
+        | Some at ↦ λ place.
+            let found = placed link w at place in
+            let a = s.accounts at found.0 in
+            let l = link_at w at in
+            ((l.down.bytes ++ a.lost, ap (λ n. read_on n lines ++ (l.down.bytes ++ a.lost)) (sym found.1) ∙ sym (append_assoc (read_on l.name lines) l.down.bytes a.lost) ∙ a.given), a.runs)
+      ] refl;
+    }

@@ -1,41 +1,98 @@
--- Requests that are run one after another.
-use Rattle.std.proofs.Common.{◌≡◌, ℕ, List, [], ◌∷◌, ◌++◌, true, refl, sym, ap, ◌∙◌, append_assoc, append-nil}
-use Rattle.std.specs.Prelude.{◌&&◌, nat_lt, nat_le}
+-- Requests that are read and run one after another.
+use Rattle.std.proofs.Common.{◌≡◌, ◌<◌, ℕ, List, [], ◌∷◌, ◌++◌, true, length, Option, Some, None, refl, sym, ap, subst, ◌∙◌, append_assoc, append-nil}
+use Rattle.resp_stream.specs.declared.fault.StreamFault.{StreamFault}
+use Rattle.resp_stream.specs.declared.fault.StreamFault.TheVariants.{BadByte, TooLong, TooDeep, NotServed, NoMemory}
+use Rattle.resp_stream.specs.Answer.{Whole, More}
+use Rattle.resp_stream.specs.Request.{request_at, behind}
+use Rattle.resp_stream.specs.Requests.{skipped, Faulty, FaultGives, NotMemory}
+use Rattle.resp_stream.specs.Stream.{Stream, moved_on, stream_fault, offset_by}
+use Rattle.resp_laws.specs.Parse.{Parsed, parse}
+use Rattle.resp_laws.proofs.Parse.{parse_whole, parse_more, parse_bad, shorter}
 use Rattle.serial_model.specs.declared.history.Entry.{Entry}
 use Rattle.serial_model.specs.declared.history.BookCall.TheVariants as call
-use Rattle.serial_model.specs.declared.history.BookReply.TheVariants.{Ran}
 use Rattle.serial_model.specs.History.{admitted, is_connected}
-use Rattle.serial_model.specs.Steps.{Turn, book_step}
-use Rattle.serial_model.proofs.Turning.{run_admitted}
+use Rattle.serial_model.specs.Steps.{book_step}
 use Rattle.script_text.specs.declared.line.Line.{Line}
-use Rattle.script_text.specs.declared.line.Line.TheVariants.{Run}
-use Rattle.world_run.specs.World.{served, served_lines, reply_lines}
+use Rattle.world_run.specs.Played.{served, served_lines, reply_lines, Runs}
+use Rattle.world_run.specs.World.{AppendsFront}
 
--- what is left to do is the rest of what there was to do
-pub record Serves (id : ℕ) (name : List ℕ) (old : List Entry) (requests : List (List (List ℕ))) (past : List Entry) (rest : List (List (List ℕ))) (lines lines' : List Line) : Type 0 where
-  pub ends : served id rest past ≡ served id requests old
-  pub front : List Line
-  pub told : served_lines id name requests old ≡ front ++ served_lines id name rest past
-  pub added : lines' ≡ lines ++ front
+pub served_more : (id : ℕ) (xs ys : List (List (List ℕ))) (past : List Entry) → served id (xs ++ ys) past ≡ served id ys (served id xs past)
+served_more id [] ys past = refl
+served_more id (x ∷ xs) ys past = served_more id xs ys (book_step past (call.Run id x 0)).past
+
+pub served_lines_more : (id : ℕ) (link : List ℕ) (xs ys : List (List (List ℕ))) (past : List Entry)
+    → served_lines id link (xs ++ ys) past ≡ served_lines id link xs past ++ served_lines id link ys (served id xs past)
+served_lines_more id link [] ys past = refl
+served_lines_more id link (x ∷ xs) ys past =
+    ap (λ l. reply_lines link x (book_step past (call.Run id x 0)).reply ++ l) (served_lines_more id link xs ys (book_step past (call.Run id x 0)).past)
+    ∙ sym (append_assoc (reply_lines link x (book_step past (call.Run id x 0)).reply) (served_lines id link xs (book_step past (call.Run id x 0)).past) _)
+
+-- what was read and run so far, and what is left of it
+pub record Reads (id : ℕ) (link : List ℕ) (old now : Stream) (past0 past : List Entry) (lines lines' : List Line) : Type 0 where
+  pub done : List (List (List ℕ))
+  pub requests : (parse old).requests ≡ done ++ (parse now).requests
+  pub stream : (parse now).stream ≡ (parse old).stream
+  pub fault : (parse now).fault ≡ (parse old).fault
+  pub ran : past ≡ served id done past0
+  pub told : lines' ≡ lines ++ served_lines id link done past0
   pub connected : is_connected past id ≡ true
-  pub count : admitted past ≡ admitted old
+  pub count : admitted past ≡ admitted past0
 
-pub serves_none : (id : ℕ) (name : List ℕ) (past : List Entry) (requests : List (List (List ℕ))) (lines : List Line) → is_connected past id ≡ true → Serves id name past requests past requests lines lines
-serves_none id name past requests lines on = record { ends = refl; front = []; told = refl; added = sym (append-nil lines); connected = on; count = refl }
+pub reads_none : (id : ℕ) (link : List ℕ) (s : Stream) (past : List Entry) (lines : List Line) → is_connected past id ≡ true → Reads id link s s past past lines lines
+reads_none id link s past lines on = record { done = []; requests = refl; stream = refl; fault = refl; ran = refl; told = sym (append-nil lines); connected = on; count = refl }
 
-pub serves_more : (id : ℕ) (name : List ℕ) (old past new : List Entry) (requests all rest : List (List (List ℕ))) (words : List (List ℕ)) (lines lines' lines'' : List Line) (e : ℕ)
-    → Serves id name old requests past all lines lines' → all ≡ words ∷ rest → book_step past (call.Run id words 0) ≡ record { reply = Ran e; past = new }
-    → lines'' ≡ lines' ++ Run e name words ∷ [] → Serves id name old requests new rest lines lines''
-serves_more id name old past new requests all rest words lines lines' lines'' e s a t l =
-    let same : new ≡ (book_step past (call.Run id words 0)).past = sym (ap (λ (x : Turn). x.past) t) in
-    let counted : admitted new ≡ admitted past = run_admitted past new id 0 words (Ran e) t in
-    record {
-      ends = ap (served id rest) same ∙ ap (λ r. served id r past) (sym a) ∙ s.ends;
-      front = s.front ++ Run e name words ∷ [];
-      told = s.told ∙ ap (λ r. s.front ++ served_lines id name r past) a
-          ∙ ap (λ (x : Turn). s.front ++ (reply_lines name words x.reply ++ served_lines id name rest x.past)) t
-          ∙ sym (append_assoc s.front (Run e name words ∷ []) (served_lines id name rest new));
-      added = l ∙ ap (λ x. x ++ Run e name words ∷ []) s.added ∙ append_assoc lines s.front (Run e name words ∷ []);
-      connected = ap (λ n. nat_lt 0 id && nat_le id n) counted ∙ s.connected;
-      count = counted ∙ s.count;
-    }
+module _ (id : ℕ) (link : List ℕ) (old now : Stream) (past0 past : List Entry) (lines lines' : List Line) (h : Reads id link old now past0 past lines lines') where
+  pub reads_more : (new : Stream) (words : List (List ℕ)) (past' : List Entry) (lines'' : List Line) → request_at (behind now.rest) ≡ Whole words new.rest → new ≡ moved_on now new.rest
+      → Runs id link words past past' lines' lines'' → is_connected past' id ≡ true → admitted past' ≡ admitted past → Reads id link old new past0 past' lines lines''
+  reads_more new words past' lines'' is moved run on same =
+      let next = parse_whole now words new.rest is in
+      let at : parse (moved_on now new.rest) ≡ parse new = ap parse (sym moved) in
+      record {
+        done = h.done ++ words ∷ [];
+        requests = h.requests ∙ ap (λ (p : Parsed). h.done ++ p.requests) next ∙ ap (λ (p : Parsed). h.done ++ words ∷ p.requests) at ∙ sym (append_assoc h.done (words ∷ []) (parse new).requests);
+        stream = sym (ap (λ (p : Parsed). p.stream) next ∙ ap (λ (p : Parsed). p.stream) at) ∙ h.stream;
+        fault = sym (ap (λ (p : Parsed). p.fault) next ∙ ap (λ (p : Parsed). p.fault) at) ∙ h.fault;
+        ran = run.0 ∙ ap (λ p. (book_step p (call.Run id words 0)).past) h.ran ∙ sym (served_more id h.done (words ∷ []) past0);
+        told = run.1 ∙ ap (λ l. l ++ reply_lines link words (book_step past (call.Run id words 0)).reply) h.told
+            ∙ append_assoc lines (served_lines id link h.done past0) (reply_lines link words (book_step past (call.Run id words 0)).reply)
+            ∙ ap (λ p. lines ++ (served_lines id link h.done past0 ++ reply_lines link words (book_step p (call.Run id words 0)).reply)) h.ran
+            ∙ ap (λ l. lines ++ (served_lines id link h.done past0 ++ l)) (sym (append-nil (reply_lines link words (book_step (served id h.done past0) (call.Run id words 0)).reply)))
+            ∙ ap (λ l. lines ++ l) (sym (served_lines_more id link h.done (words ∷ []) past0));
+        connected = on;
+        count = same ∙ h.count;
+      }
+
+  pub reads_front : (lines'' : List Line) → lines'' ≡ lines' → AppendsFront lines lines'' (served_lines id link (parse old).requests past0)
+  reads_front lines'' same = (
+    served_lines id link h.done past0,
+    served_lines id link (parse now).requests (served id h.done past0),
+    ap (λ r. served_lines id link r past0) h.requests ∙ served_lines_more id link h.done (parse now).requests past0,
+    same ∙ h.told,
+  )
+
+  -- where nothing whole is left, all was run
+  pub reads_all : (parse now).requests ≡ [] → (past ≡ served id (parse old).requests past0) × (lines' ≡ lines ++ served_lines id link (parse old).requests past0)
+  reads_all none =
+      let all : (parse old).requests ≡ h.done = h.requests ∙ ap (λ l. h.done ++ l) none ∙ append-nil h.done in
+      (h.ran ∙ ap (λ r. served id r past0) (sym all), h.told ∙ ap (λ r. lines ++ served_lines id link r past0) (sym all))
+
+  pub ends_more : (new : Stream) → (request_at (behind now.rest) ≡ More) × (new ≡ skipped now) → (None ≡ (parse old).fault) × (new ≡ (parse old).stream) × ((parse now).requests ≡ [])
+  ends_more new more =
+      let last = parse_more now more.0 in
+      (sym (ap (λ (p : Parsed). p.fault) last) ∙ h.fault, more.1 ∙ sym (ap (λ (p : Parsed). p.stream) last) ∙ h.stream, ap (λ (p : Parsed). p.requests) last)
+
+  faulty : (new : Stream) (f : StreamFault) → Faulty (skipped now) f → new ≡ record { before = (skipped now).before; rest = (skipped now).rest; told = true }
+      → (Some f ≡ (parse old).fault) × (new ≡ (parse old).stream) × ((parse now).requests ≡ [])
+  faulty new f bad is =
+      let last = parse_bad now bad.fault bad.behind_it bad.is in
+      (ap Some bad.told ∙ sym (ap (λ (p : Parsed). p.fault) last) ∙ h.fault, is ∙ sym (ap (λ (p : Parsed). p.stream) last) ∙ h.stream, ap (λ (p : Parsed). p.requests) last)
+
+  pub ends_bad : (new : Stream) (f : StreamFault) → FaultGives now new f → NotMemory f → (Some f ≡ (parse old).fault) × (new ≡ (parse old).stream) × ((parse now).requests ≡ [])
+  ends_bad new (BadByte o) g n = faulty new (BadByte o) g.0 g.1
+  ends_bad new (TooLong o m) g n = faulty new (TooLong o m) g.0 g.1
+  ends_bad new (TooDeep o) g n = faulty new (TooDeep o) g.0 g.1
+  ends_bad new (NotServed o b) g n = faulty new (NotServed o b) g.0 g.1
+  ends_bad new NoMemory g n = absurd n
+
+pub reads_less : (now new : Stream) (words : List (List ℕ)) → request_at (behind now.rest) ≡ Whole words new.rest → length new.rest < length now.rest
+reads_less now new words is = shorter now.rest new.rest words is

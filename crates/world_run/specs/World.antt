@@ -1,91 +1,110 @@
 -- What an event does to a world, and what it prints.
-use Rattle.std.specs.Prelude.{◌≡◌, ◌+◌, ◌-◌, ◌^◌, ℕ, List, [], ◌∷◌, ◌++◌, length, position, Result, Ok, Err, slice_index_or, slice_set}
+use Rattle.std.specs.Prelude.{◌≡◌, ◌+◌, ℕ, List, [], ◌∷◌, ◌++◌, position, Result, Ok, Err, slice_index_or, slice_set}
 use Rattle.std.specs.declared.option.Option.{Option}
 use Rattle.std.specs.declared.option.Option.TheVariants.{None, Some}
 use Rattle.std.specs.Str.{bytes_eq}
+use Rattle.resp_value.specs.Spelling.{request_spelling}
 use Rattle.serial_model.specs.declared.history.Entry.{Entry}
 use Rattle.serial_model.specs.declared.history.BookCall.TheVariants as call
-use Rattle.serial_model.specs.declared.history.BookReply.{BookReply}
-use Rattle.serial_model.specs.declared.history.BookReply.TheVariants.{Admitted, Ran, Quiet, Bytes, Refused}
 use Rattle.serial_model.specs.Steps.{book_step}
 use Rattle.script_text.specs.declared.event.Event.{Event}
-use Rattle.script_text.specs.declared.event.Event.TheVariants.{Raw, Say, Flow}
+use Rattle.script_text.specs.declared.event.Event.TheVariants.{Raw, Say, Bytes, Out, Serve, Send, Recv, Flow, FlowAll, Cut}
 use Rattle.script_text.specs.declared.line.Line.{Line}
-use Rattle.script_text.specs.declared.line.Line.TheVariants.{Admit, Run, Take, Read}
 use Rattle.world_run.specs.declared.fault.WorldFault.{WorldFault}
-use Rattle.world_run.specs.declared.fault.WorldFault.TheVariants.{NoName, NameTaken, NoMemory}
-use Rattle.world_run.specs.WorldState.{WorldState}
+use Rattle.world_run.specs.declared.fault.WorldFault.TheVariants.{NoName, NameTaken, NothingThere, NoMemory}
+use Rattle.world_run.specs.declared.link.Link.{Link}
+use Rattle.world_run.specs.WorldState.{WorldState, fresh_link}
+use Rattle.world_run.specs.Ways.{put, cut}
+use Rattle.world_run.specs.Played.{reply_lines}
+use Rattle.world_run.specs.Moves.{Moved, stays, serve, send, receive, out, flow}
 
 pub record Stepped : Type 0 where
   pub world : WorldState
   pub lines : List Line
 
 abbrev pub start : WorldState
-start = record { past = []; names = []; ups = [] }
+start = record { past = []; links = [] }
 
 -- the place of a link; its connection's id is one more
 abbrev pub place_of : List ℕ → WorldState → Option ℕ
-place_of name w = position (λ n. bytes_eq n name) w.names
+place_of name w = position (λ (l : Link). bytes_eq l.name name) w.links
 
--- what a turn of the server prints; what it gave is on its way down, and read there
-abbrev pub reply_lines : List ℕ → List (List ℕ) → BookReply → List Line
-reply_lines name words (Admitted e id) = Admit e name id ∷ []
-reply_lines name words (Ran e) = Run e name words ∷ []
-reply_lines name words Quiet = []
-reply_lines name words (Bytes e bytes) = Take e name (length bytes) ∷ Read name bytes ∷ []
-reply_lines name words (Refused r) = []
+abbrev pub link_at : WorldState → ℕ → Link
+link_at w at = slice_index_or w.links at (fresh_link [])
 
--- each request that stands on the way up is one Run
-abbrev pub served : ℕ → List (List (List ℕ)) → List Entry → List Entry
-served id [] past = past
-served id (words ∷ requests) past = served id requests (book_step past (call.Run id words 0)).past
+abbrev pub stepped : WorldState → ℕ → Result Moved WorldFault → Result Stepped WorldFault
+stepped w at (Err fault) = Err fault
+stepped w at (Ok m) = Ok (record { world = record { past = m.past; links = slice_set w.links at m.link }; lines = m.lines })
 
-abbrev pub served_lines : ℕ → List ℕ → List (List (List ℕ)) → List Entry → List Line
-served_lines id name [] past = []
-served_lines id name (words ∷ requests) past =
-    let turn = book_step past (call.Run id words 0) in
-    reply_lines name words turn.reply ++ served_lines id name requests turn.past
+-- a move over the link at this place, by the id of its connection
+abbrev pub moving : WorldState → Option ℕ → (ℕ → Link → Result Moved WorldFault) → Result Stepped WorldFault
+moving w None move = Err NoName
+moving w (Some at) move = stepped w at (move (at + 1) (link_at w at))
 
--- no bound on what is taken
-abbrev pub all_bytes : ℕ
-all_bytes = 2 ^ 64 - 1
+-- what the client says goes onto the way up
+abbrev pub said : List Entry → Link → List ℕ → Moved
+said past link bytes = record { past = past; link = record { name = link.name; up = put bytes link.up; down = link.down; reader = link.reader }; lines = [] }
 
--- what a Take of all prints
-abbrev pub sent_lines : List Entry → ℕ → List ℕ → List Line
-sent_lines past id name = reply_lines name [] (book_step past (call.Take id all_bytes)).reply
+-- both ways lose what stands on them, and end
+abbrev pub cut_off : List Entry → Link → Moved
+cut_off past link = record { past = past; link = record { name = link.name; up = cut link.up; down = cut link.down; reader = link.reader }; lines = [] }
 
 abbrev pub raw_step : WorldState → List ℕ → Option ℕ → Result Stepped WorldFault
 raw_step w name (Some at) = Err NameTaken
 raw_step w name None =
     let turn = book_step w.past call.Admit in
-    Ok (record { world = record { past = turn.past; names = w.names ++ name ∷ []; ups = w.ups ++ [] ∷ [] }; lines = reply_lines name [] turn.reply })
+    Ok (record { world = record { past = turn.past; links = w.links ++ fresh_link name ∷ [] }; lines = reply_lines name [] turn.reply })
 
-abbrev pub say_step : WorldState → List (List ℕ) → Option ℕ → Result Stepped WorldFault
-say_step w words None = Err NoName
-say_step w words (Some at) = Ok (record { world = record w { ups = slice_set w.ups at (slice_index_or w.ups at [] ++ words ∷ []) }; lines = [] })
+-- each link flows, in order of making; the first has this id
+abbrev pub flows : ℕ → List Link → List Entry → Stepped
+flows id [] past = record { world = record { past = past; links = [] }; lines = [] }
+flows id (link ∷ links) past =
+    let first = flow id past link in
+    let others = flows (id + 1) links first.past in
+    record { world = record { past = others.world.past; links = first.link ∷ others.world.links }; lines = first.lines ++ others.lines }
 
-abbrev pub flow_step : WorldState → List ℕ → Option ℕ → Result Stepped WorldFault
-flow_step w name None = Err NoName
-flow_step w name (Some at) =
-    let requests = slice_index_or w.ups at [] in
-    let past = served (at + 1) requests w.past in
-    Ok (record {
-      world = record { past = (book_step past (call.Take (at + 1) all_bytes)).past; names = w.names; ups = slice_set w.ups at [] };
-      lines = served_lines (at + 1) name requests w.past ++ sent_lines past (at + 1) name;
-    })
+-- the link that an event names, where it is an event of one link that there is
+abbrev pub link_named : Event → Option (List ℕ)
+link_named (Raw name) = None
+link_named (Say name words) = Some name
+link_named (Bytes name bytes) = Some name
+link_named (Out name count) = Some name
+link_named (Serve name count) = Some name
+link_named (Send name count) = Some name
+link_named (Recv name count) = Some name
+link_named (Flow name) = Some name
+link_named FlowAll = None
+link_named (Cut name) = Some name
+
+-- what such an event moves; the others move nothing of one link
+abbrev pub move_of : List Entry → Event → ℕ → Link → Result Moved WorldFault
+move_of past (Raw name) id link = Ok (stays past link)
+move_of past (Say name words) id link = Ok (said past link (request_spelling words))
+move_of past (Bytes name bytes) id link = Ok (said past link bytes)
+move_of past (Out name count) id link = out past link count
+move_of past (Serve name count) id link = serve id past link count
+move_of past (Send name count) id link = send id past link count
+move_of past (Recv name count) id link = receive past link count
+move_of past (Flow name) id link = Ok (flow id past link)
+move_of past FlowAll id link = Ok (stays past link)
+move_of past (Cut name) id link = Ok (cut_off past link)
 
 unfoldable pub step : WorldState → Event → Result Stepped WorldFault
 step w (Raw name) = raw_step w name (place_of name w)
-step w (Say name words) = say_step w words (place_of name w)
-step w (Flow name) = flow_step w name (place_of name w)
+step w (Say name words) = moving w (place_of name w) (move_of w.past (Say name words))
+step w (Bytes name bytes) = moving w (place_of name w) (move_of w.past (Bytes name bytes))
+step w (Out name count) = moving w (place_of name w) (move_of w.past (Out name count))
+step w (Serve name count) = moving w (place_of name w) (move_of w.past (Serve name count))
+step w (Send name count) = moving w (place_of name w) (move_of w.past (Send name count))
+step w (Recv name count) = moving w (place_of name w) (move_of w.past (Recv name count))
+step w (Flow name) = moving w (place_of name w) (move_of w.past (Flow name))
+step w FlowAll = Ok (flows 1 w.links w.past)
+step w (Cut name) = moving w (place_of name w) (move_of w.past (Cut name))
 
 -- the lines of an event, none where it meets a fault
 abbrev pub lines_of : Result Stepped WorldFault → List Line
 lines_of (Ok s) = s.lines
 lines_of (Err fault) = []
-
-abbrev pub Sends : List Entry → ℕ → List ℕ → List Entry → List Line → List Line → Type 0
-Sends past id name past' lines lines' = (past' ≡ (book_step past (call.Take id all_bytes)).past) × (lines' ≡ lines ++ sent_lines past id name)
 
 -- some of the lines were appended, from the front
 abbrev pub AppendsFront : List Line → List Line → List Line → Type 0
@@ -95,12 +114,14 @@ AppendsFront old new all = (front rest : List Line) × (all ≡ front ++ rest) �
 abbrev pub StepGives : WorldState → Event → List Line → Result (Unit {0}) WorldFault → WorldState → List Line → Type 0
 StepGives old event lines (Ok done) new lines' = (more : List Line) × (step old event ≡ Ok (record { world = new; lines = more })) × (lines' ≡ lines ++ more)
 StepGives old event lines (Err NoMemory) new lines' = AppendsFront lines lines' (lines_of (step old event))
-StepGives old event lines (Err NoName) new lines' = (step old event ≡ Err NoName) × (new ≡ old) × (lines' ≡ lines)
-StepGives old event lines (Err NameTaken) new lines' = (step old event ≡ Err NameTaken) × (new ≡ old) × (lines' ≡ lines)
+StepGives old event lines (Err fault) new lines' = (step old event ≡ Err fault) × (new ≡ old) × (lines' ≡ lines)
 
--- the same of an event that prints nothing
-abbrev pub SilentGives : WorldState → Event → Result (Unit {0}) WorldFault → WorldState → Type 0
-SilentGives old event (Ok done) new = step old event ≡ Ok (record { world = new; lines = [] })
-SilentGives old event (Err NoMemory) new = Unit {0}
-SilentGives old event (Err NoName) new = (step old event ≡ Err NoName) × (new ≡ old)
-SilentGives old event (Err NameTaken) new = (step old event ≡ Err NameTaken) × (new ≡ old)
+-- the same of one link
+abbrev pub moved_lines : Result Moved WorldFault → List Line
+moved_lines (Ok m) = m.lines
+moved_lines (Err fault) = []
+
+abbrev pub MoveGives : Result Moved WorldFault → List Entry → Link → List Line → Result (Unit {0}) WorldFault → List Entry → Link → List Line → Type 0
+MoveGives move past link lines (Ok done) past' link' lines' = (more : List Line) × (move ≡ Ok (record { past = past'; link = link'; lines = more })) × (lines' ≡ lines ++ more)
+MoveGives move past link lines (Err NoMemory) past' link' lines' = AppendsFront lines lines' (moved_lines move)
+MoveGives move past link lines (Err fault) past' link' lines' = (move ≡ Err fault) × (past' ≡ past) × (link' ≡ link) × (lines' ≡ lines)

@@ -12,6 +12,8 @@ pub enum WorldFault {
     NoName,
     /// A link has this name already.
     NameTaken,
+    /// Fewer bytes were there than the event moves.
+    NothingThere,
     /// Memory ran out; some of the event's lines may have been appended.
     NoMemory,
 }
@@ -24,6 +26,7 @@ impl WorldFault {
         match self {
             WorldFault::NoName => 1,
             WorldFault::NameTaken => 2,
+            WorldFault::NothingThere => 3,
             WorldFault::NoMemory => 4,
         }
     }

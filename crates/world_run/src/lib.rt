@@ -1,8 +1,12 @@
 //! A schedule played on the server's state and its links.
 #![tactic(auto)]
 
+mod carry;
 mod fault;
 mod laws;
+mod link;
+mod play;
+mod serve;
 mod way;
 mod world;
 

@@ -1,25 +1,49 @@
-//! A slow and plain player of schedules, for tests. It keeps what was said and the list of entries,
-//! and works out all else anew at each event, as the definitions read it off the past.
-use resp_value::{NoMemory, Octets, Words};
+//! A slow and plain player of schedules, for tests. It keeps the list of entries, what stands on each
+//! way and what each server's end has heard, and works out all else anew at each event, as the
+//! definitions read it off the past.
+use resp_stream::{RequestReader, StreamFault};
+use resp_value::{NoMemory, Octets, Words, put_request};
 use script_text::{Event, Line, put_line};
 use serial_model::Entry;
 use std::alloc::Global;
 
-/// A request that was said on the link at a place.
+/// Whether a way has an end, and whether it was read.
+#[derive(Clone, Copy, PartialEq, Eq)]
+enum End {
+    None,
+    Standing,
+    Passed,
+}
+
+/// One way of a link.
 #[derive(Drop)]
-struct Said {
-    place: usize,
-    words: Words,
+struct Side {
+    bytes: Vec<u8>,
+    end: End,
+}
+
+#[derive(Drop)]
+struct Wire {
+    id: u64,
+    name: Octets,
+    up: Side,
+    down: Side,
+    /// All that the server's end has read.
+    heard: Vec<u8>,
+}
+
+/// The entries, the oldest first, and what was printed.
+#[derive(Drop)]
+struct Past {
+    alloc: Global,
+    entries: Vec<Entry>,
+    text: Vec<u8>,
 }
 
 #[derive(Drop)]
 pub struct Plain {
-    alloc: Global,
-    names: Vec<Octets>,
-    said: Vec<Said>,
-    entries: Vec<Entry>,
-    /// The lines that were printed so far.
-    pub text: Vec<u8>,
+    past: Past,
+    wires: Vec<Wire>,
 }
 
 // The value that the last SET of the key wrote, where there is one.
@@ -53,15 +77,20 @@ fn put_get(key: &[u8], past: &[Entry], out: &mut Vec<u8>) -> Result<(), NoMemory
 
 // The bytes of the reply to a request after those entries.
 fn put_reply(words: &Words, past: &[Entry], out: &mut Vec<u8>) -> Result<(), NoMemory> {
-    match words.as_slice() {
-        [name, key] if name.as_slice().eq_ignore_ascii_case(b"get") => {
-            put_get(key.as_slice(), past, out)?;
-        }
-        [name, _, _] if name.as_slice().eq_ignore_ascii_case(b"set") => {
-            out.extend_from_slice(b"+OK\r\n")?;
-        }
-        _ => out.extend_from_slice(b"-ERR unknown command\r\n")?,
-    }
+    let [name, rest @ ..] = words.as_slice() else {
+        return Ok(());
+    };
+    let is_get = name.as_slice().eq_ignore_ascii_case(b"get");
+    let is_set = name.as_slice().eq_ignore_ascii_case(b"set");
+    let text: &[u8] = match rest {
+        [key] if is_get => return put_get(key.as_slice(), past, out),
+        _ if is_get => b"-ERR wrong number of arguments for 'get' command\r\n",
+        [_, _] if is_set => b"+OK\r\n",
+        [_, _, _, ..] if is_set => b"-ERR syntax error\r\n",
+        _ if is_set => b"-ERR wrong number of arguments for 'set' command\r\n",
+        _ => b"-ERR unknown command\r\n",
+    };
+    out.extend_from_slice(text)?;
     Ok(())
 }
 
@@ -92,6 +121,12 @@ fn taken(alloc: Global, id: u64, past: &[Entry]) -> Result<usize, NoMemory> {
     Ok(taken)
 }
 
+// What was sent and not taken.
+fn unsent(alloc: Global, id: u64, past: &[Entry]) -> Result<Vec<u8>, NoMemory> {
+    let sent = stream(alloc, id, past)?;
+    behind(alloc, sent.as_slice(), taken(alloc, id, past)?)
+}
+
 // How many requests of a connection ran.
 fn ran(id: u64, past: &[Entry]) -> usize {
     past.iter()
@@ -99,22 +134,78 @@ fn ran(id: u64, past: &[Entry]) -> usize {
         .count()
 }
 
-impl Plain {
-    pub fn new(alloc: Global) -> Plain {
-        Plain {
-            alloc,
-            names: Vec::new(alloc),
-            said: Vec::new(alloc),
-            entries: Vec::new(alloc),
-            text: Vec::new(alloc),
+// Whether a connection, that was admitted, has no Close.
+fn is_connected(id: u64, past: &[Entry]) -> bool {
+    !past.iter().any(|entry| matches!(entry, Entry::Close { id: of } if *of == id))
+}
+
+// The bytes but the first so many.
+fn behind(alloc: Global, bytes: &[u8], count: usize) -> Result<Vec<u8>, NoMemory> {
+    let mut out = Vec::new(alloc);
+    for place in count..bytes.len() {
+        out.push(bytes[place])?;
+    }
+    Ok(out)
+}
+
+// The first so many bytes.
+fn front(alloc: Global, bytes: &[u8], count: usize) -> Result<Vec<u8>, NoMemory> {
+    let mut out = Vec::new(alloc);
+    for place in 0..count.min(bytes.len()) {
+        out.push(bytes[place])?;
+    }
+    Ok(out)
+}
+
+// The number and the offset of a fault as a line tells it.
+fn told(fault: StreamFault) -> Result<(u64, u64), NoMemory> {
+    match fault {
+        StreamFault::BadByte { offset } => Ok((1, offset)),
+        StreamFault::TooLong { offset, .. } => Ok((2, offset)),
+        StreamFault::TooDeep { offset } => Ok((3, offset)),
+        StreamFault::NotServed { offset, .. } => Ok((4, offset)),
+        StreamFault::NoMemory => Err(NoMemory),
+    }
+}
+
+impl Side {
+    fn new(alloc: Global) -> Side {
+        Side {
+            bytes: Vec::new(alloc),
+            end: End::None,
         }
     }
 
-    fn place(&self, name: &Octets) -> Option<usize> {
-        let name = name.as_slice();
-        self.names.iter().position(|n| n.as_slice() == name)
+    fn put(&mut self, bytes: &[u8]) -> Result<(), NoMemory> {
+        if self.end == End::None {
+            self.bytes.extend_from_slice(bytes)?;
+        }
+        Ok(())
     }
 
+    fn finish(&mut self) {
+        if self.end == End::None {
+            self.end = End::Standing;
+        }
+    }
+
+    fn cut(&mut self) {
+        self.bytes.clear();
+        self.finish();
+    }
+
+    // All that stands there was read; whether an end did.
+    fn pass(&mut self) -> bool {
+        self.bytes.clear();
+        let ended = self.end == End::Standing;
+        if ended {
+            self.end = End::Passed;
+        }
+        ended
+    }
+}
+
+impl Past {
     // Adds an entry, and answers its number.
     fn add(&mut self, entry: Entry) -> Result<u64, NoMemory> {
         self.entries.push(entry)?;
@@ -125,75 +216,236 @@ impl Plain {
         put_line(&line, &mut self.text)
     }
 
-    fn raw(&mut self, name: &Octets) -> Result<(), NoMemory> {
-        self.names.push(name.copy()?)?;
-        let id = self.names.len() as u64;
-        let entry = self.add(Entry::Admit { id })?;
-        self.print(Line::Admit(entry, name.copy()?, id))
+    fn is_connected(&self, id: u64) -> bool {
+        is_connected(id, self.entries.as_slice())
     }
 
-    // The first request of the link that did not run, where there is one.
-    fn next(&self, place: usize, id: u64) -> Result<Option<Words>, NoMemory> {
-        let mut left = ran(id, self.entries.as_slice());
-        for said in self.said.iter() {
-            if said.place == place {
-                if left == 0 {
-                    return Ok(Some(said.words.copy()?));
+    fn close(&mut self, wire: &Wire) -> Result<(), NoMemory> {
+        let entry = self.add(Entry::Close { id: wire.id })?;
+        self.print(Line::Close(entry, wire.name.copy()?))
+    }
+
+    fn run(&mut self, wire: &Wire, words: Words) -> Result<(), NoMemory> {
+        let shown = words.copy()?;
+        let id = wire.id;
+        let moment = 0;
+        let entry = self.add(Entry::Run { id, words, moment })?;
+        self.print(Line::Run(entry, wire.name.copy()?, shown))
+    }
+
+    // Reads all that was heard from its first byte, and runs the requests that did not run.
+    fn hear(&mut self, wire: &Wire, ended: bool) -> Result<(), NoMemory> {
+        let mut reader = RequestReader::new(self.alloc);
+        reader.feed(wire.heard.as_slice())?;
+        let mut before = ran(wire.id, self.entries.as_slice());
+        for _ in 0..wire.heard.len().saturating_add(1) {
+            match reader.next_request() {
+                Ok(Some(words)) => {
+                    if before == 0 {
+                        self.run(wire, words)?;
+                    } else {
+                        before -= 1;
+                    }
                 }
-                left -= 1;
+                Ok(None) => break,
+                Err(fault) => {
+                    let (number, offset) = told(fault)?;
+                    self.print(Line::Bad(wire.name.copy()?, number, offset))?;
+                    return self.close(wire);
+                }
             }
         }
-        Ok(None)
+        if ended {
+            self.close(wire)?;
+        }
+        Ok(())
     }
 
-    fn flow(&mut self, name: &Octets, place: usize) -> Result<(), NoMemory> {
-        let id = (place as u64).saturating_add(1);
-        for _ in 0..self.said.len() {
-            if let Some(words) = self.next(place, id)? {
-                let shown = words.copy()?;
-                let entry = self.add(Entry::Run {
-                    id,
-                    words,
-                    moment: 0,
-                })?;
-                self.print(Line::Run(entry, name.copy()?, shown))?;
-            }
+    fn serve(&mut self, wire: &mut Wire) -> Result<(), NoMemory> {
+        if !self.is_connected(wire.id) {
+            return Ok(());
         }
-        let past = self.entries.as_slice();
-        let given = taken(self.alloc, id, past)?;
-        let sent = stream(self.alloc, id, past)?;
-        let mut bytes = Vec::new(self.alloc);
-        for place in given..sent.len() {
-            bytes.push(sent[place])?;
+        wire.heard.extend_from_slice(wire.up.bytes.as_slice())?;
+        let ended = wire.up.pass();
+        self.hear(wire, ended)
+    }
+
+    fn serve_some(&mut self, wire: &mut Wire, count: u64) -> Result<u64, NoMemory> {
+        if !self.is_connected(wire.id) || count > wire.up.bytes.len() as u64 {
+            return Ok(3);
         }
+        let bytes = front(self.alloc, wire.up.bytes.as_slice(), count as usize)?;
+        wire.heard.extend_from_slice(bytes.as_slice())?;
+        wire.up.bytes = behind(self.alloc, wire.up.bytes.as_slice(), count as usize)?;
+        self.hear(wire, false)?;
+        Ok(0)
+    }
+
+    fn take(&mut self, wire: &mut Wire, max: u64) -> Result<(), NoMemory> {
+        let waiting = unsent(self.alloc, wire.id, self.entries.as_slice())?;
+        let bytes = front(self.alloc, waiting.as_slice(), max as usize)?;
         if bytes.is_empty() {
             return Ok(());
         }
-        let count = bytes.len() as u64;
-        let entry = self.add(Entry::Take { id, max: u64::MAX })?;
-        self.print(Line::Take(entry, name.copy()?, count))?;
-        self.print(Line::Read(name.copy()?, Octets::from_vec(bytes)))
+        let entry = self.add(Entry::Take { id: wire.id, max })?;
+        self.print(Line::Take(entry, wire.name.copy()?, bytes.len() as u64))?;
+        wire.down.put(bytes.as_slice())
+    }
+
+    fn send(&mut self, wire: &mut Wire) -> Result<(), NoMemory> {
+        if wire.down.end != End::None {
+            return Ok(());
+        }
+        if !self.is_connected(wire.id) {
+            wire.down.finish();
+            return Ok(());
+        }
+        self.take(wire, u64::MAX)
+    }
+
+    fn send_some(&mut self, wire: &mut Wire, count: u64) -> Result<u64, NoMemory> {
+        let waiting = unsent(self.alloc, wire.id, self.entries.as_slice())?.len() as u64;
+        if wire.down.end != End::None || !self.is_connected(wire.id) || count > waiting {
+            return Ok(3);
+        }
+        self.take(wire, count)?;
+        Ok(0)
+    }
+
+    fn read(&mut self, wire: &Wire, bytes: Vec<u8>) -> Result<(), NoMemory> {
+        if bytes.is_empty() {
+            return Ok(());
+        }
+        self.print(Line::Read(wire.name.copy()?, Octets::from_vec(bytes)))
+    }
+
+    fn receive(&mut self, wire: &mut Wire) -> Result<(), NoMemory> {
+        let bytes = behind(self.alloc, wire.down.bytes.as_slice(), 0)?;
+        self.read(wire, bytes)?;
+        if wire.down.pass() {
+            self.print(Line::End(wire.name.copy()?))?;
+        }
+        Ok(())
+    }
+
+    fn receive_some(&mut self, wire: &mut Wire, count: u64) -> Result<u64, NoMemory> {
+        if count > wire.down.bytes.len() as u64 {
+            return Ok(3);
+        }
+        let bytes = front(self.alloc, wire.down.bytes.as_slice(), count as usize)?;
+        self.read(wire, bytes)?;
+        wire.down.bytes = behind(self.alloc, wire.down.bytes.as_slice(), count as usize)?;
+        Ok(0)
+    }
+
+    fn flow(&mut self, wire: &mut Wire) -> Result<(), NoMemory> {
+        self.serve(wire)?;
+        self.send(wire)?;
+        self.receive(wire)
+    }
+
+    // Plays an event of this link, and answers the number of its fault, 0 for none.
+    fn play(&mut self, wire: &mut Wire, event: &Event) -> Result<u64, NoMemory> {
+        match event {
+            Event::Say(_, words) => {
+                let mut bytes = Vec::new(self.alloc);
+                put_request(words, &mut bytes)?;
+                wire.up.put(bytes.as_slice())?;
+            }
+            Event::Bytes(_, bytes) => wire.up.put(bytes.as_slice())?,
+            Event::Out(_, count) => return Ok(if count.is_some() { 3 } else { 0 }),
+            Event::Serve(_, None) => self.serve(wire)?,
+            Event::Serve(_, Some(count)) => return self.serve_some(wire, *count),
+            Event::Send(_, None) => self.send(wire)?,
+            Event::Send(_, Some(count)) => return self.send_some(wire, *count),
+            Event::Recv(_, None) => self.receive(wire)?,
+            Event::Recv(_, Some(count)) => return self.receive_some(wire, *count),
+            Event::Flow(_) => self.flow(wire)?,
+            Event::Cut(_) => {
+                wire.up.cut();
+                wire.down.cut();
+            }
+            Event::Raw(_) | Event::FlowAll => {}
+        }
+        Ok(0)
+    }
+}
+
+impl Plain {
+    pub fn new(alloc: Global) -> Plain {
+        Plain {
+            past: Past {
+                alloc,
+                entries: Vec::new(alloc),
+                text: Vec::new(alloc),
+            },
+            wires: Vec::new(alloc),
+        }
+    }
+
+    /// The lines that were printed so far.
+    pub fn text(&self) -> &[u8] {
+        self.past.text.as_slice()
+    }
+
+    fn raw(&mut self, name: &Octets) -> Result<(), NoMemory> {
+        let alloc = self.past.alloc;
+        let id = (self.wires.len() as u64).saturating_add(1);
+        self.wires.push(Wire {
+            id,
+            name: name.copy()?,
+            up: Side::new(alloc),
+            down: Side::new(alloc),
+            heard: Vec::new(alloc),
+        })?;
+        let entry = self.past.add(Entry::Admit { id })?;
+        self.past.print(Line::Admit(entry, name.copy()?, id))
+    }
+
+    fn is_there(&self, name: &Octets) -> bool {
+        let name = name.as_slice();
+        self.wires.iter().any(|wire| wire.name.as_slice() == name)
+    }
+
+    // Plays an event of one link.
+    fn play_named(&mut self, name: &Octets, event: &Event) -> Result<u64, NoMemory> {
+        for wire in self.wires.iter_mut() {
+            if wire.name.as_slice() == name.as_slice() {
+                return self.past.play(wire, event);
+            }
+        }
+        Ok(1)
+    }
+
+    fn flow_all(&mut self) -> Result<(), NoMemory> {
+        for wire in self.wires.iter_mut() {
+            self.past.flow(wire)?;
+        }
+        Ok(())
     }
 
     /// Plays an event, and answers the number of its fault, 0 for none.
     pub fn play(&mut self, event: &Event) -> Result<u64, NoMemory> {
         match event {
-            Event::Raw(name) => match self.place(name) {
-                Some(_) => return Ok(2),
-                None => self.raw(name)?,
-            },
-            Event::Say(name, words) => match self.place(name) {
-                Some(place) => {
-                    let words = words.copy()?;
-                    self.said.push(Said { place, words })?;
+            Event::Raw(name) => {
+                if self.is_there(name) {
+                    return Ok(2);
                 }
-                None => return Ok(1),
-            },
-            Event::Flow(name) => match self.place(name) {
-                Some(place) => self.flow(name, place)?,
-                None => return Ok(1),
-            },
+                self.raw(name)?;
+                Ok(0)
+            }
+            Event::FlowAll => {
+                self.flow_all()?;
+                Ok(0)
+            }
+            Event::Say(name, _)
+            | Event::Bytes(name, _)
+            | Event::Out(name, _)
+            | Event::Serve(name, _)
+            | Event::Send(name, _)
+            | Event::Recv(name, _)
+            | Event::Flow(name)
+            | Event::Cut(name) => self.play_named(name, event),
         }
-        Ok(0)
     }
 }

@@ -1,26 +1,26 @@
 //! The world of a schedule: the server and the links to it.
-ghost use Rattle.std.specs.Prelude.{◌≡◌, ◌++◌, [], ◌∷◌, true, OnOk, OnErr, IfOk};
-ghost use Rattle.serial_model.specs.History.{admitted, is_connected};
+ghost use Rattle.std.specs.Prelude.{◌≡◌, ◌++◌, ◌∷◌, [], Some, OnOk, OnErr, IfOk, length};
 ghost use Rattle.script_text.specs.declared.event.Event.TheVariants as event;
-ghost use Rattle.world_run.specs.World.{StepGives, SilentGives, AppendsFront, start, place_of, served, served_lines, Sends, sent_lines};
+ghost use Rattle.serial_model.specs.History.{admitted};
+ghost use Rattle.world_run.specs.World.{AppendsFront, StepGives, flows, link_named, place_of, start};
 
+use super::carry::flow;
 use super::fault::WorldFault;
-use super::way::Requests;
-use resp_value::{NoMemory, Octets, Words};
+use super::link::Link;
+use super::play::play;
+use resp_value::{NoMemory, Octets};
 use script_text::{Event, Line, Lines};
 use server_book::{Book, BookCall, BookReply, Limits};
 use std::alloc::Global;
 use std::marker::Model;
-use std::mem;
 
-/// The server and its links. Contracts see the history, the names of the links and what stands on
-/// the ways up.
+/// The server and its links. Contracts see the history and the links, each with its two ways and
+/// what its server's end has read.
 #[derive(Drop)]
 pub struct World {
     alloc: Global,
     book: Book,
-    names: Vec<Octets>,
-    ups: Vec<Requests>,
+    links: Vec<Link>,
 }
 
 impl Model for World {
@@ -28,9 +28,9 @@ impl Model for World {
 
     ghost Value = { WorldState };
 
-    ghost view = { λ w. record { past = w.book.past; names = w.names.items; ups = w.ups.items } };
+    ghost view = { λ w. record { past = w.book.past; links = w.links.items } };
 
-    ghost invariant = { λ w. Fits w.book.past w.names.items w.ups.items };
+    ghost invariant = { λ w. Fits w.book.past w.links.items };
 }
 
 impl World {
@@ -41,20 +41,25 @@ impl World {
         Ok(World {
             alloc,
             book: Book::new(alloc, limits)?,
-            names: Vec::new(alloc),
-            ups: Vec::new(alloc),
+            links: Vec::new(alloc),
         })
     }
 
     /// Plays an event, and appends its lines.
-    #[tactic(auto, unfolding(crate::specs::World::step))]
     pub fn step(&mut self, event: &Event, lines: &mut Lines) -> Result<(), WorldFault>
         ensures { StepGives self.old event.now lines.old result self.new lines.new }
     {
         match event {
             Event::Raw(name) => self.raw(name, lines),
-            Event::Say(name, words) => self.say(name, words),
-            Event::Flow(name) => self.flow(name, lines),
+            Event::FlowAll => self.flow_all(lines),
+            Event::Say(name, _) => self.play(name, event, lines),
+            Event::Bytes(name, _) => self.play(name, event, lines),
+            Event::Out(name, _) => self.play(name, event, lines),
+            Event::Serve(name, _) => self.play(name, event, lines),
+            Event::Send(name, _) => self.play(name, event, lines),
+            Event::Recv(name, _) => self.play(name, event, lines),
+            Event::Flow(name) => self.play(name, event, lines),
+            Event::Cut(name) => self.play(name, event, lines),
         }
     }
 
@@ -62,7 +67,9 @@ impl World {
         ensures { result ≡ place_of name.now self.now }
     {
         let name = name.as_slice();
-        self.names.iter().position(|n| n.as_slice() == name)
+        self.links
+            .iter()
+            .position(|link| link.name.as_slice() == name)
     }
 
     #[tactic(auto, unfolding(crate::specs::World::step, serial_model::specs::Steps::book_step))]
@@ -73,96 +80,59 @@ impl World {
             return Err(WorldFault::NameTaken);
         }
         let shown = name.copy()?;
-        self.names.push(name.copy()?)?;
-        match self.ups.push(Requests::new(self.alloc)) {
-            Ok(()) => {}
-            Err(_) => {
-                let _ = self.names.pop();
-                return Err(WorldFault::NoMemory);
-            }
-        }
+        self.links.push(Link::new(self.alloc, name.copy()?))?;
         match self.book.turn(BookCall::Admit) {
             BookReply::Admitted { entry, id } => Ok(lines.push(Line::Admit(entry, shown, id))?),
             BookReply::Refused(_) => {
-                let _ = self.ups.pop();
-                let _ = self.names.pop();
+                let _ = self.links.pop();
                 Err(WorldFault::NoMemory)
             }
             _ => unreachable!(),
         }
     }
 
-    #[tactic(auto, unfolding(crate::specs::World::step))]
-    fn say(&mut self, name: &Octets, words: &Words) -> Result<(), WorldFault>
-        ensures { SilentGives self.old (event.Say name.now words.now) result self.new }
+    /// Plays an event over the one link that it names.
+    fn play(&mut self, name: &Octets, event: &Event, lines: &mut Lines) -> Result<(), WorldFault>
+        requires { link_named event.now ≡ Some name.now }
+        ensures { StepGives self.old event.now lines.old result self.new lines.new }
     {
         let Some(at) = self.place(name) else {
             return Err(WorldFault::NoName);
         };
-        let words = words.copy()?;
-        let up = &mut self.ups[at];
-        up.push(words)?;
-        Ok(())
+        play(
+            self.alloc,
+            &mut self.book,
+            at as u64 + 1,
+            &mut self.links[at],
+            event,
+            lines,
+        )
     }
 
     #[tactic(auto, unfolding(crate::specs::World::step))]
-    fn flow(&mut self, name: &Octets, lines: &mut Lines) -> Result<(), WorldFault>
-        ensures { StepGives self.old (event.Flow name.now) lines.old result self.new lines.new }
+    fn flow_all(&mut self, lines: &mut Lines) -> Result<(), WorldFault>
+        ensures { StepGives self.old event.FlowAll lines.old result self.new lines.new }
     {
-        let Some(at) = self.place(name) else {
-            return Err(WorldFault::NoName);
-        };
-        let id = at as u64 + 1;
-        let requests = mem::replace(&mut self.ups[at], Requests::new(self.alloc));
-        serve(&mut self.book, id, name, requests, lines)?;
-        send(&mut self.book, id, name, lines)?;
-        Ok(())
+        Ok(flow_links(self.alloc, &mut self.book, &mut self.links, lines)?)
     }
 }
 
-/// Plays each request that stands there as one Run.
-fn serve(
+/// Each link flows, in order of making.
+fn flow_links(
+    alloc: Global,
     book: &mut Book,
-    id: u64,
-    name: &Octets,
-    mut requests: Requests,
+    links: &mut Vec<Link>,
     lines: &mut Lines,
 ) -> Result<(), NoMemory>
-    requires { is_connected book.old.past id ≡ true }
-    ensures ok { OnOk result ((book.new.past ≡ served id requests book.old.past)
-        × (lines.new ≡ lines.old ++ served_lines id name.now requests book.old.past)) }
-    ensures err { OnErr result (AppendsFront lines.old lines.new (served_lines id name.now requests book.old.past)) }
+    ensures ok { OnOk result ((book.new.past ≡ (flows 1 links.old.items book.old.past).world.past)
+        × (links.new.items ≡ (flows 1 links.old.items book.old.past).world.links)
+        × (lines.new ≡ lines.old ++ (flows 1 links.old.items book.old.past).lines)) }
+    ensures err { OnErr result (AppendsFront lines.old lines.new (flows 1 links.old.items book.old.past).lines) }
     ensures same { admitted book.new.past ≡ admitted book.old.past }
+    ensures length { length links.new.items ≡ length links.old.items }
 {
-    'requests: while let Some(words) = requests.pop() {
-        let shown = words.copy()?;
-        let name = name.copy()?;
-        match book.turn(BookCall::Run { id, words, now: 0 }) {
-            BookReply::Ran { entry } => lines.push(Line::Run(entry, name, shown))?,
-            BookReply::Refused(_) => return Err(NoMemory),
-            _ => unreachable!(),
-        }
+    for at in 0..links.len() {
+        flow(alloc, book, at as u64 + 1, &mut links[at], lines)?;
     }
     Ok(())
-}
-
-/// Takes all that a connection was sent, onto the way down, and reads it there.
-fn send(book: &mut Book, id: u64, name: &Octets, lines: &mut Lines) -> Result<(), NoMemory>
-    requires { is_connected book.old.past id ≡ true }
-    ensures ok { OnOk result (Sends book.old.past id name.now book.new.past lines.old lines.new) }
-    ensures err { OnErr result (AppendsFront lines.old lines.new (sent_lines book.old.past id name.now)) }
-    ensures same { admitted book.new.past ≡ admitted book.old.past }
-{
-    let link = name.copy()?;
-    let reader = name.copy()?;
-    match book.turn(BookCall::Take { id, max: u64::MAX }) {
-        BookReply::Quiet => Ok(()),
-        BookReply::Bytes { entry, bytes } => {
-            let count = bytes.as_slice().len() as u64;
-            lines.push(Line::Take(entry, link, count))?;
-            lines.push(Line::Read(reader, bytes))
-        }
-        BookReply::Refused(_) => Err(NoMemory),
-        _ => unreachable!(),
-    }
 }

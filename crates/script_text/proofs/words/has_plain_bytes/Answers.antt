@@ -1,8 +1,0 @@
-use Rattle.std.proofs.Common.{rules, tests}
-use Rattle.std.proofs.lemmas.Iterator.{YieldsList-from_slice}
-use Rattle.std.proofs.lemmas.Iterator.Search.{all_from_yields_List}
-use Rattle.script_text.specs.Words.{is_plain_byte}
-use Rattle.script_text.proofs.words.has_plain_bytes.Goals as goal
-
-pub returns : goal.returns
-returns c = all_from_yields_List is_plain_byte _ _ _ c.all.ensures.ran (YieldsList-from_slice c.args.text.now cc) (λ x b q k. search (rules, tests))

@@ -1,0 +1,15 @@
+// Laws of the definitions, which hold of all texts.
+ghost use Rattle.script_text.specs.Grammar.{LinesComeBack};
+ghost use Rattle.script_text.specs.Words.{WordsComeBack};
+
+/// A text is read as a word exactly where it is what is printed of that word: each word comes
+/// back, and has one spelling.
+pub fn law_words_come_back()
+    ensures { WordsComeBack }
+{}
+
+/// A line is read as an event exactly where the event is valid and the line is that event's: its
+/// parts joined by single spaces. So each valid event has one line, and no other line has an event.
+pub fn law_lines_come_back()
+    ensures { LinesComeBack }
+{}
