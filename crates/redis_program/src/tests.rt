@@ -3,7 +3,9 @@ use super::program::run;
 use super::status::Status;
 use edge_links::{FixedClock, MemoryNet, MemorySink, MemorySource};
 use std::alloc::{AllocError, Global};
+use std::sync::Wait;
 use std::test::Fail;
+use std::thread::Threads;
 
 fn text_bytes(alloc: Global, text: &str) -> Result<Vec<u8>, AllocError> {
     let mut bytes = Vec::new(alloc);
@@ -22,6 +24,18 @@ fn words_of(alloc: Global, line: &str) -> Result<Vec<String>, AllocError> {
         }
     }
     Ok(words)
+}
+
+fn status_of<R: Threads + Wait + Sync>(
+    rt: &R,
+    alloc: Global,
+    words: &[String],
+    source: &mut MemorySource,
+    sink: &mut MemorySink,
+) -> Status {
+    let clock = FixedClock { ms: 0 };
+    let net = &mut MemoryNet::new();
+    run(rt, alloc, words, source, sink, net, &clock).status
 }
 
 const SET_AND_GET: &str = "raw r\nsay r SET foo bar\nsay r GET foo\nsay r GET nope\nflow r\n";
@@ -136,19 +150,30 @@ fn a_run_writes_the_transcript_and_the_last_line_of_its_status(
         let input = text_bytes(rt.alloc(), input)?;
         let mut source = MemorySource::new(input, Vec::new(rt.alloc()));
         let mut sink = MemorySink::new(rt.alloc(), 1000, Vec::new(rt.alloc()))?;
-        let clock = FixedClock { ms: 0 };
-        let net = &mut MemoryNet::new();
-        let outcome = run(
-            &rt,
-            rt.alloc(),
-            words.as_slice(),
-            &mut source,
-            &mut sink,
-            net,
-            &clock,
-        );
-        assert!(rt; outcome.status == status, "{written}");
+        let reached = status_of(&rt, rt.alloc(), words.as_slice(), &mut source, &mut sink);
+        assert!(rt; reached == status, "{written}");
         assert!(rt; sink.bytes() == written.as_bytes(), "{written}");
+    }
+    Ok(())
+}
+
+const ONE_GET: &str = "#1 admit r 1\n#2 run r GET foo\n#3 take r 5\nr < $-1\\r\\n\n";
+
+#[test]
+fn a_request_is_run_once_wherever_its_bytes_are_cut(rt: HostRuntime) -> Result<(), Fail> {
+    let words = words_of(rt.alloc(), "world")?;
+    for cut in 1..22 {
+        let input = format!(in rt.alloc();
+            "raw r\nbytes r *2\\r\\n$3\\r\\nGET\\r\\n$3\\r\\nfoo\\r\\n\nserve r {}\nserve r {}\nsend r\nrecv r\n",
+            cut,
+            22_u64.saturating_sub(cut)
+        )?;
+        let input = text_bytes(rt.alloc(), input.as_str())?;
+        let mut source = MemorySource::new(input, Vec::new(rt.alloc()));
+        let mut sink = MemorySink::new(rt.alloc(), 1000, Vec::new(rt.alloc()))?;
+        let reached = status_of(&rt, rt.alloc(), words.as_slice(), &mut source, &mut sink);
+        assert!(rt; reached == Status::Done, "{cut}");
+        assert!(rt; sink.bytes() == ONE_GET.as_bytes(), "{cut}");
     }
     Ok(())
 }
@@ -175,19 +200,9 @@ fn a_fault_of_a_stream_ends_the_run_where_it_comes(rt: HostRuntime) -> Result<()
         let input = text_bytes(rt.alloc(), SET_AND_GET)?;
         let mut source = MemorySource::new(input, Vec::from_array(rt.alloc(), [read])?);
         let mut sink = MemorySink::new(rt.alloc(), room, Vec::from_array(rt.alloc(), [write])?)?;
-        let clock = FixedClock { ms: 0 };
-        let net = &mut MemoryNet::new();
-        let outcome = run(
-            &rt,
-            rt.alloc(),
-            words.as_slice(),
-            &mut source,
-            &mut sink,
-            net,
-            &clock,
-        );
+        let reached = status_of(&rt, rt.alloc(), words.as_slice(), &mut source, &mut sink);
         assert!(rt;
-            outcome.status == status,
+            reached == status,
             "read {read}, write {write}, room {room}"
         );
         assert!(rt;
