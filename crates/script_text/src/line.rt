@@ -1,5 +1,5 @@
 // The lines of a transcript, and how they are printed.
-ghost use Rattle.std.specs.Prelude.{◌≡◌, ◌++◌, ◌∷◌, [], List, ℕ, OnOk, OnErr};
+ghost use Rattle.std.specs.Prelude.{◌≡◌, ◌<◌, ◌↔◌, ◌++◌, ◌∷◌, [], List, ℕ, length, option_to_list, IsSome, OnOk, OnErr};
 ghost use Rattle.std.specs.Fmt.{decimal};
 ghost use Rattle.script_text.specs.Printed.{entry_text, line_text, unended_text, words_text};
 
@@ -60,6 +60,14 @@ impl Lines {
     {
         self.items.push(line)?;
         Ok(())
+    }
+
+    /// Takes the last line back.
+    pub fn pop(&mut self) -> Option<Line>
+        ensures items { self.old ≡ self.new ++ option_to_list result }
+        ensures some { IsSome result ↔ (0 < length self.old) }
+    {
+        self.items.pop()
     }
 
     /// The lines in order.

@@ -231,6 +231,8 @@ fn lines_are_printed_one_after_the_other(rt: HostRuntime) -> Result<(), Fail> {
     lines.push(Line::Close(11, link(b"r")?))?;
     lines.push(Line::End(link(b"r")?))?;
     lines.push(Line::Take(u64::MAX, link(b"n1")?, 0))?;
+    lines.push(Line::End(link(b"n1")?))?;
+    assert!(rt; matches!(lines.pop(), Some(Line::End(_))));
     let mut out = Vec::from_slice(alloc, b"#0 ..\n")?;
     for line in lines.as_slice() {
         put_line(line, &mut out)?;

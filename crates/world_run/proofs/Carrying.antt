@@ -1,6 +1,6 @@
 -- What each move carries over one link.
-use Rattle.std.proofs.Common.{◌≡◌, ◌+◌, ◌-◌, ℕ, List, [], ◌∷◌, ◌++◌, Bool, true, false, cond, Some, None, Option, Ok, Err, Result, take, drop, length, refl, sym, ap, subst, ◌∙◌, append_assoc, append-nil, arith}
-use Rattle.std.specs.Prelude.{◌==◌, ◌&&◌, not, nat_le}
+use Rattle.std.proofs.Common.{◌≡◌, ◌+◌, ℕ, List, [], ◌∷◌, ◌++◌, Bool, true, false, cond, Some, None, Option, take, drop, refl, sym, ap, subst, ◌∙◌, append_assoc, append-nil, arith}
+use Rattle.std.specs.Prelude.{◌==◌}
 use Rattle.std.proofs.Common.{ne_eqb}
 use Rattle.std.specs.Str.{bytes_eq}
 use Rattle.std.proofs.lemmas.Slice.Eq.{bytes_eq-Decides}
@@ -13,21 +13,19 @@ use Rattle.serial_model.specs.declared.history.BookCall.TheVariants as call
 use Rattle.serial_model.specs.declared.history.BookReply.{BookReply}
 use Rattle.serial_model.specs.declared.history.BookReply.TheVariants.{Admitted, Ran, Quiet, Bytes, Closed, Refused}
 use Rattle.serial_model.specs.History.{admitted, is_connected, stream, taken, unsent, runs_of, IsLegal}
-use Rattle.serial_model.specs.Steps.{Turn, book_step, given_by, taking, gone, closing, running}
-use Rattle.serial_model.proofs.Frames.{Same, same_none, same_more, run_same, take_same, close_same}
+use Rattle.serial_model.specs.Steps.{book_step, given_by, taking, gone}
+use Rattle.serial_model.proofs.Frames.{Same, same_none, same_more, take_same, close_same}
 use Rattle.serial_model.proofs.Turning.{step_gave, step_runs, step_legal, take_count}
 use Rattle.script_text.specs.declared.line.Line.{Line}
-use Rattle.script_text.specs.declared.line.Line.TheVariants as line
-use Rattle.world_run.specs.declared.fault.WorldFault.{WorldFault}
 use Rattle.world_run.specs.declared.link.Link.{Link}
 use Rattle.world_run.specs.declared.way.Ending.{Ending}
 use Rattle.world_run.specs.declared.way.Ending.TheVariants.{Open, Standing, Passed}
 use Rattle.world_run.specs.declared.way.Way.{Way}
 use Rattle.world_run.specs.Ways.{is_open, is_finished, put_by, put, ended, finished, passed, emptied, without, cut}
 use Rattle.world_run.specs.Played.{reply_lines, served, served_lines, stopped, closed}
-use Rattle.world_run.specs.Moves.{Moved, stays, ran_fed, with_fed, serve_all, taken_down, given_bytes, with_down, send_all, all_bytes, read_lines, end_lines, received_lines, receive_all, flow}
+use Rattle.world_run.specs.Moves.{Moved, stays, ran_fed, with_fed, serve_all, taken_down, given_bytes, with_down, send_all, all_bytes, read_lines, end_lines, receive_all, flow}
 use Rattle.world_run.specs.Serial.{read_by, read_on}
-use Rattle.world_run.proofs.Hearing.{Account, gave, account_same, ran_account, served_same, same_id}
+use Rattle.world_run.proofs.Hearing.{Account, gave, ran_account, served_same, same_id}
 
 pub read_more : (link : List ℕ) (xs ys : List Line) → read_on link (xs ++ ys) ≡ read_on link xs ++ read_on link ys
 read_more link [] ys = refl

@@ -1,31 +1,38 @@
 -- What was fed, run and stopped, put together.
-use Rattle.std.proofs.Common.{◌≡◌, ℕ, List, [], ◌∷◌, ◌++◌, Bool, true, false, cond, Option, Some, Result, Ok, Err, refl, sym, ap, subst, ◌∙◌, append_assoc}
+use Rattle.std.proofs.Common.{◌≡◌, ℕ, List, ◌++◌, Bool, Option, Result, Ok, Err, sym, ap, subst, ◌∙◌, append_assoc}
 use Rattle.resp_stream.specs.declared.fault.StreamFault.{StreamFault}
 use Rattle.resp_stream.specs.Stream.{Stream}
 use Rattle.resp_laws.specs.Parse.{parse}
 use Rattle.serial_model.specs.declared.history.Entry.{Entry}
-use Rattle.serial_model.specs.History.{is_connected}
 use Rattle.script_text.specs.declared.line.Line.{Line}
 use Rattle.world_run.specs.declared.fault.WorldFault.{WorldFault}
-use Rattle.world_run.specs.declared.fault.WorldFault.TheVariants.{NothingThere, NoMemory}
+use Rattle.world_run.specs.declared.fault.WorldFault.TheVariants.{NoMemory}
 use Rattle.world_run.specs.declared.link.Link.{Link}
-use Rattle.world_run.specs.Played.{served, served_lines, stopped}
-use Rattle.world_run.specs.Moves.{Moved, Moves, ran_fed}
-use Rattle.world_run.specs.World.{AppendsFront, MoveGives, moved_lines}
-use Rattle.world_run.proofs.Fronts.{front_of, behind}
+use Rattle.world_run.specs.Played.{StopsShort, served, served_lines, stopped}
+use Rattle.world_run.specs.Moves.{Moved, Moves, MovesShort, ran_fed}
+use Rattle.world_run.specs.World.{MoveGives, moved_lines, moved_past}
+use Rattle.world_run.proofs.Short.{served_grows, stopped_grows, short_first, short_then}
 
 module _ (id : ℕ) (past : List Entry) (link : Link) (ended : Bool) (lines lines1 : List Line) where
-  pub fed_first : (new : List Line) → AppendsFront lines new (served_lines id link.name (parse link.reader).requests past) → AppendsFront lines new (ran_fed id past link ended).lines
+  pub fed_first : (past' : List Entry) (new : List Line)
+      → StopsShort past lines (served id (parse link.reader).requests past) (served_lines id link.name (parse link.reader).requests past) past' new
+      → MovesShort (ran_fed id past link ended) past lines past' new
   unfolding ran_fed
-  fed_first new f = front_of lines new _ _ f
+  fed_first past' new s = short_first past _ _ past' lines _ _ new s (stopped_grows id link.name (parse link.reader).fault ended (served id (parse link.reader).requests past))
 
   module _ (fault : Option StreamFault) (past1 : List Entry) (is : fault ≡ (parse link.reader).fault)
       (ran : (past1 ≡ served id (parse link.reader).requests past) × (lines1 ≡ lines ++ served_lines id link.name (parse link.reader).requests past)) where
-    pub fed_second : (new : List Line) → AppendsFront lines1 new (stopped id link.name fault ended past1).lines → AppendsFront lines new (ran_fed id past link ended).lines
-    unfolding ran_fed
-    fed_second new f = behind lines lines1 new _ _ ran.1
-        (subst (λ p. AppendsFront lines1 new (stopped id link.name (parse link.reader).fault ended p).lines) ran.0
-        (subst (λ x. AppendsFront lines1 new (stopped id link.name x ended past1).lines) is f))
+    -- short of what stopped it
+    Last : Option StreamFault → List Entry → List Entry → List Line → Type 0
+    Last f p past' new = StopsShort p lines1 (stopped id link.name f ended p).past (stopped id link.name f ended p).lines past' new
+
+    pub fed_second : (past' : List Entry) (new : List Line) → StopsShort past1 lines1 (stopped id link.name fault ended past1).past (stopped id link.name fault ended past1).lines past' new
+        → MovesShort (ran_fed id past link ended) past lines past' new
+    unfolding ran_fed Last
+    fed_second past' new s =
+        let last : Last (parse link.reader).fault (served id (parse link.reader).requests past) past' new =
+        subst (λ p. Last (parse link.reader).fault p past' new) ran.0 (subst (λ x. Last x past1 past' new) is s) in
+        short_then past _ _ past' lines lines1 _ _ new (served_grows id link.name (parse link.reader).requests past) ran.1 last
 
     pub fed_moves : (past2 : List Entry) (reader : Stream) (lines2 : List Line) → reader ≡ (parse link.reader).stream
         → (past2 ≡ (stopped id link.name fault ended past1).past) × (lines2 ≡ lines1 ++ (stopped id link.name fault ended past1).lines)
@@ -51,5 +58,5 @@ module _ (move : Result Moved WorldFault) (m : Moved) (is : move ≡ Ok m) (past
     h.2,
   )
 
-  pub front_gives : AppendsFront lines lines' m.lines → MoveGives move past link lines (Err NoMemory) past' link' lines'
-  front_gives f = subst (AppendsFront lines lines') (sym (ap moved_lines is)) f
+  pub short_gives : MovesShort m past lines past' lines' → MoveGives move past link lines (Err NoMemory) past' link' lines'
+  short_gives s = subst (λ r. StopsShort past lines (moved_past past r) (moved_lines r) past' lines') (sym is) s

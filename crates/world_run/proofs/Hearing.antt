@@ -1,20 +1,17 @@
 -- What a move over a link does to its account: the bytes that the server's end read, and those that the client's end read.
-use Rattle.std.proofs.Common.{◌≡◌, ◌+◌, ℕ, List, [], ◌∷◌, ◌++◌, Bool, true, false, cond, Some, None, Option, take, refl, sym, ap, subst, ◌∙◌, append_assoc, append-nil}
+use Rattle.std.proofs.Common.{◌≡◌, ℕ, List, [], ◌∷◌, ◌++◌, Bool, true, false, cond, Some, None, Option, take, refl, sym, ap, subst, ◌∙◌, append_assoc, append-nil}
 use Rattle.std.specs.Prelude.{◌==◌, ◌&&◌, not}
 use Rattle.std.proofs.Common.{eq-eqb}
 use Rattle.resp_stream.specs.declared.fault.StreamFault.{StreamFault}
-use Rattle.resp_stream.specs.Stream.{Stream, fed, begun}
+use Rattle.resp_stream.specs.Stream.{Stream, fed}
 use Rattle.resp_laws.specs.Parse.{Parsed, parse, requests_of}
 use Rattle.resp_laws.proofs.Parse.{parse_joined, parse_rest, parse_untold}
 use Rattle.serial_model.specs.declared.history.Entry.{Entry}
-use Rattle.serial_model.specs.declared.history.Entry.TheVariants as entry
 use Rattle.serial_model.specs.declared.history.BookCall.TheVariants as call
-use Rattle.serial_model.specs.declared.history.BookReply.{BookReply}
 use Rattle.serial_model.specs.History.{is_admitted, is_connected, has_ended, stream, taken, runs_of}
-use Rattle.serial_model.specs.Steps.{Turn, book_step, given_by, ran_by, closing, gone, running}
-use Rattle.serial_model.proofs.Frames.{Same, same_none, same_more, same_connected, run_same, take_same, close_same}
+use Rattle.serial_model.specs.Steps.{Turn, book_step, given_by, ran_by, closing, gone}
+use Rattle.serial_model.proofs.Frames.{Same, same_none, same_more, same_connected, run_same}
 use Rattle.serial_model.proofs.Turning.{step_gave, step_runs, run_step}
-use Rattle.world_run.specs.declared.link.Link.{Link}
 use Rattle.world_run.specs.declared.way.Way.{Way}
 use Rattle.world_run.specs.Ways.{is_open}
 use Rattle.world_run.specs.Played.{served, stopped, closed}

@@ -6,7 +6,7 @@ pub mod Sending
 pub mod Feeding
 pub mod Serving
 pub mod Stopping
-pub mod Fronts
+pub mod Short
 pub mod Places
 pub mod Serial
 pub mod Hearing

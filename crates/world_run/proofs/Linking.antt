@@ -1,5 +1,5 @@
 -- Links that flow one after the other.
-use Rattle.std.proofs.Common.{◌≡◌, ◌+◌, ◌<◌, ◌≤◌, ℕ, List, [], ◌∷◌, ◌++◌, length, take, drop, slice_index_or, slice_set, refl, sym, ap, subst, ◌∙◌, append_assoc, append-nil, arith, length-append, length-drop, drop-cons}
+use Rattle.std.proofs.Common.{◌≡◌, ◌+◌, ◌<◌, ◌≤◌, ℕ, List, [], ◌∷◌, ◌++◌, length, drop, slice_index_or, slice_set, refl, sym, ap, subst, ◌∙◌, append_assoc, append-nil, arith, length-append, length-drop, drop-cons}
 use Rattle.std.proofs.lemmas.List.{get_or_read, get_or-append_right, get_or-drop, drop_all}
 use Rattle.std.proofs.Math.Numerals.{suc-eq-add-one}
 use Prim.Native.Nat.{suc}
@@ -8,9 +8,10 @@ use Rattle.serial_model.specs.declared.history.Entry.{Entry}
 use Rattle.serial_model.specs.History.{admitted}
 use Rattle.script_text.specs.declared.line.Line.{Line}
 use Rattle.world_run.specs.declared.link.Link.{Link}
-use Rattle.world_run.specs.Moves.{Moved, Moves, flow}
-use Rattle.world_run.specs.World.{Stepped, flows, AppendsFront}
-use Rattle.world_run.proofs.Fronts.{front_of, behind}
+use Rattle.world_run.specs.Played.{StopsShort}
+use Rattle.world_run.specs.Moves.{Moves, MovesShort, flow}
+use Rattle.world_run.specs.World.{flows}
+use Rattle.world_run.proofs.Short.{Grows, grows_none, grows_then, flow_grows, flows_grows, short_first, short_then}
 
 set_seam : (xs : List Link) (y z : Link) (ys : List Link) (at : ℕ) → length xs ≡ at → slice_set (xs ++ y ∷ ys) at z ≡ xs ++ z ∷ ys
 set_seam xs y z ys at h = ap (λ n. slice_set (xs ++ y ∷ ys) n z) (sym h) ∙ at_seam xs
@@ -30,10 +31,11 @@ pub record Flowed (at : ℕ) (links0 links : List Link) (past0 past : List Entry
   pub all_links : (flows 1 links0 past0).world.links ≡ done ++ (flows (at + 1) (drop at links0) past).world.links
   pub all_lines : (flows 1 links0 past0).lines ≡ told ++ (flows (at + 1) (drop at links0) past).lines
   pub added : lines' ≡ lines ++ told
+  pub grown : Grows past0 past told
   pub count : admitted past ≡ admitted past0
 
 pub flowed_none : (links : List Link) (past : List Entry) (lines : List Line) → Flowed 0 links links past past lines lines
-flowed_none links past lines = record { within = omega arith; done = []; told = []; size = refl; links_are = refl; past_is = refl; all_links = refl; all_lines = refl; added = sym (append-nil lines); count = refl }
+flowed_none links past lines = record { within = omega arith; done = []; told = []; size = refl; links_are = refl; past_is = refl; all_links = refl; all_lines = refl; added = sym (append-nil lines); grown = grows_none past; count = refl }
 
 module _ (at : ℕ) (links0 links : List Link) (past0 past : List Entry) (lines lines' : List Line) (h : Flowed at links0 links past0 past lines lines') where
   -- the link that flows next is as it was
@@ -49,10 +51,16 @@ module _ (at : ℕ) (links0 links : List Link) (past0 past : List Entry) (lines 
   flows_next : (link : Link) → at < length links0 → link ≡ slice_index_or links0 at link → drop at links0 ≡ link ∷ drop (at + 1) links0
   flows_next link below is = drop-cons links0 at link below ∙ ap (λ l. l ∷ drop (suc at) links0) (sym is) ∙ ap (λ i. link ∷ drop i links0) (suc-eq-add-one at)
 
-  pub flowed_front : (link : Link) (new : List Line) → at < length links0 → link ≡ slice_index_or links0 at link → AppendsFront lines' new (flow (at + 1) past link).lines → AppendsFront lines new (flows 1 links0 past0).lines
-  flowed_front link new below is f =
-      subst (AppendsFront lines new) (sym (h.all_lines ∙ ap (λ l. h.told ++ (flows (at + 1) l past).lines) (flows_next link below is)))
-      (behind lines lines' new h.told _ h.added (front_of lines' new (flow (at + 1) past link).lines _ f))
+  pub flowed_short : (link : Link) (past' : List Entry) (new : List Line) → at < length links0 → link ≡ slice_index_or links0 at link → MovesShort (flow (at + 1) past link) past lines' past' new
+      → StopsShort past0 lines (flows 1 links0 past0).world.past (flows 1 links0 past0).lines past' new
+  flowed_short link past' new below is s =
+      let here = flows_next link below is in
+      let m = flow (at + 1) past link in
+      let rest = drop (at + 1) links0 in
+      subst (λ p. StopsShort past0 lines p (flows 1 links0 past0).lines past' new) (sym (h.past_is ∙ ap (λ l. (flows (at + 1) l past).world.past) here))
+      (subst (λ l. StopsShort past0 lines (flows (at + 1 + 1) rest m.past).world.past l past' new) (sym (h.all_lines ∙ ap (λ l. h.told ++ (flows (at + 1) l past).lines) here))
+      (short_then past0 past _ past' lines lines' h.told _ new h.grown h.added
+      (short_first past m.past _ past' lines' m.lines _ new s (flows_grows (at + 1 + 1) rest m.past))))
 
   pub flowed_more : (link link' : Link) (past' : List Entry) (lines'' : List Line) → at < length links0 → link ≡ slice_index_or links0 at link
       → Moves (flow (at + 1) past link) past' link' lines' lines'' → admitted past' ≡ admitted past → Flowed (at + 1) links0 (slice_set links at link') past0 past' lines lines''
@@ -74,6 +82,7 @@ module _ (at : ℕ) (links0 links : List Link) (past0 past : List Entry) (lines 
         all_lines = h.all_lines ∙ ap (λ l. h.told ++ (flows (at + 1) l past).lines) here
             ∙ ap (λ p. h.told ++ (m.lines ++ (flows (at + 1 + 1) rest p).lines)) (sym moved.0)
             ∙ sym (append_assoc h.told m.lines (flows (at + 1 + 1) rest past').lines);
+        grown = subst (λ p. Grows past0 p (h.told ++ m.lines)) (sym moved.0) (grows_then past0 past m.past h.told m.lines h.grown (flow_grows (at + 1) past link));
         added = moved.2 ∙ ap (λ l. l ++ m.lines) h.added ∙ append_assoc lines h.told m.lines;
         count = same ∙ h.count;
       }

@@ -1,8 +1,7 @@
 -- What a Take puts onto a way down.
-use Rattle.std.proofs.Common.{◌≡◌, ◌<◌, ℕ, List, [], ◌∷◌, ◌++◌, Bool, true, false, cond, Result, Ok, Err, length, take, refl, sym, ap, subst, ◌∙◌, append-nil}
+use Rattle.std.proofs.Common.{◌≡◌, ℕ, List, [], ◌∷◌, ◌++◌, true, cond, length, take, refl, sym, ap, ◌∙◌, append-nil}
 use Rattle.serial_model.specs.declared.history.Entry.{Entry}
 use Rattle.serial_model.specs.declared.history.BookCall.TheVariants as call
-use Rattle.serial_model.specs.declared.history.BookReply.{BookReply}
 use Rattle.serial_model.specs.declared.history.BookReply.TheVariants.{Quiet, Bytes}
 use Rattle.serial_model.specs.History.{is_connected, unsent}
 use Rattle.serial_model.specs.Steps.{Turn, book_step, taking, gone}
@@ -13,8 +12,8 @@ use Rattle.world_run.specs.declared.way.Way.{Way}
 use Rattle.world_run.specs.declared.link.Link.{Link}
 use Rattle.world_run.specs.Ways.{put, put_by}
 use Rattle.world_run.specs.Played.{reply_lines}
-use Rattle.world_run.specs.Moves.{Moved, Moves, taken_down, given_bytes, with_down, stays}
-use Rattle.world_run.specs.World.{AppendsFront}
+use Rattle.world_run.specs.Moves.{Moves, MovesShort, taken_down, given_bytes, with_down, stays}
+use Rattle.world_run.proofs.Short.{down_grows}
 
 put_none : (w : Way) → put [] w ≡ w
 put_none w = elim w.ending as (λ e. w.ending ≡ e → put [] w ≡ w) [
@@ -42,12 +41,26 @@ down_bytes id most e bytes past new link link' lines lines' h l t = (
   t ∙ sym (ap (λ (x : Turn). lines ++ reply_lines link.name [] x.reply) h),
 )
 
--- the line was appended, and the bytes are still to be put on
-pub down_front : (id most e : ℕ) (bytes : List ℕ) (past new : List Entry) (link : Link) (lines lines' : List Line) → book_step past (call.Take id most) ≡ record { reply = Bytes e bytes; past = new }
-    → lines' ≡ lines ++ Take e link.name (length bytes) ∷ [] → AppendsFront lines lines' (taken_down id past link most).lines
+-- the Take was played and its line appended, and the bytes are still to be put on
+pub down_short : (id most e : ℕ) (bytes : List ℕ) (past new : List Entry) (link : Link) (lines lines' : List Line) → book_step past (call.Take id most) ≡ record { reply = Bytes e bytes; past = new }
+    → lines' ≡ lines ++ Take e link.name (length bytes) ∷ [] → MovesShort (taken_down id past link most) past lines new lines'
 unfolding taken_down
-down_front id most e bytes past new link lines lines' h t =
-    (Take e link.name (length bytes) ∷ [], [], ap (λ (x : Turn). reply_lines link.name [] x.reply) h, t)
+down_short id most e bytes past new link lines lines' h t =
+    let m = taken_down id past link most in
+    let g = down_grows id past link most in
+    let p : m.past ≡ new = ap (λ (x : Turn). x.past) h in
+    let l : m.lines ≡ Take e link.name (length bytes) ∷ [] = ap (λ (x : Turn). reply_lines link.name [] x.reply) h in
+    record {
+      played = g.0;
+      left = [];
+      front = m.lines;
+      rest = [];
+      stands = sym p ∙ g.1;
+      towards = p;
+      begins = sym (append-nil m.lines);
+      appended = t ∙ ap (λ z. lines ++ z) (sym l);
+      told = g.2;
+    }
 
 -- a Take of no byte takes nothing
 pub down_nothing : (id : ℕ) (past : List Entry) (link : Link) → is_connected past id ≡ true → taken_down id past link 0 ≡ stays past link

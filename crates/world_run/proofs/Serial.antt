@@ -1,14 +1,13 @@
 -- One history serves all links, event by event.
-use Rattle.std.proofs.Common.{◌≡◌, ◌+◌, ◌-◌, ◌<◌, ◌≤◌, ℕ, List, [], ◌∷◌, ◌++◌, Bool, true, false, cond, Some, None, Ok, Err, Result, Option, length, take, slice_index_or, slice_set, refl, sym, ap, subst, ◌∙◌, arith, append_assoc, append-nil, length-append, length-set, inl, inr}
+use Rattle.std.proofs.Common.{◌≡◌, ◌+◌, ◌<◌, ◌≤◌, ℕ, List, [], ◌∷◌, ◌++◌, Bool, true, false, cond, Some, None, Ok, Err, Result, Option, length, take, slice_index_or, slice_set, refl, sym, ap, subst, ◌∙◌, arith, append_assoc, append-nil, length-append, length-set, inl, inr}
 use Rattle.std.proofs.Common.{eq-eqb, ne_eqb, zero, suc}
-use Rattle.std.specs.Prelude.{◌==◌, ◌&&◌, not, nat_lt, nat_le, position}
+use Rattle.std.specs.Prelude.{◌==◌, ◌&&◌, not, nat_lt, nat_le}
 use Rattle.std.specs.Str.{bytes_eq}
 use Rattle.std.proofs.lemmas.Bool.{eqb-true}
 use Rattle.std.proofs.lemmas.Bool.Decides.{nat_tests}
 use Rattle.std.proofs.lemmas.List.{get_or-set_same, get_or-set_other, get_or_push, get_or_append_left}
 use Rattle.serial_model.specs.declared.history.Entry.{Entry}
 use Rattle.serial_model.specs.declared.history.Entry.TheVariants as entry
-use Rattle.serial_model.specs.declared.history.BookCall.TheVariants as call
 use Rattle.serial_model.proofs.Streams.{connected, stream_admit, stream_fresh, runs_fresh}
 use Rattle.script_text.specs.declared.line.Line.TheVariants as line
 use Rattle.resp_stream.specs.Stream.{Stream, fed, begun}
@@ -19,7 +18,7 @@ use Rattle.resp_laws.proofs.Parse.{parse_more}
 use Rattle.std.proofs.Math.Seq.{take-nil}
 use Rattle.world_run.specs.declared.way.Way.{Way}
 use Rattle.std.proofs.lemmas.Bool.{cases_lt}
-use Rattle.serial_model.specs.History.{admitted, is_admitted, has_ended, is_connected, stream, taken, unsent, runs_of, IsLegal}
+use Rattle.serial_model.specs.History.{admitted, has_ended, is_connected, taken, unsent, runs_of, IsLegal}
 use Rattle.serial_model.specs.Steps.{book_step}
 use Rattle.serial_model.proofs.Frames.{Same, same_none, same_more, same_connected}
 use Rattle.script_text.specs.declared.event.Event.{Event}
@@ -34,10 +33,10 @@ use Rattle.world_run.specs.Ways.{is_open, put, without, cut}
 use Rattle.world_run.specs.Moves.{Moved, flow, serve, send, receive, out, ran_fed, with_fed, taken_down, with_down, read_lines}
 use Rattle.world_run.specs.World.{Stepped, start, step, place_of, link_at, flows, move_of, moving, stepped, raw_step}
 use Rattle.world_run.specs.Transcript.{on_step, transcript, after}
-use Rattle.world_run.specs.Serial.{read_on, up_to, reads, is_place, heard_at, heard, Serves, OneHistory}
+use Rattle.world_run.specs.Serial.{read_on, reads, is_place, heard_at, heard, Serves, OneHistory}
 use Rattle.world_run.proofs.Hearing.{Account, account_same, gave}
 use Rattle.world_run.proofs.Carrying.{Carries, carries_flow, carries_stays, carries_up, carries_cut, carries_serve_all, carries_ran, carries_send_all, carries_taken, carries_receive_all, carries_receive, read_more}
-use Rattle.world_run.proofs.Places.{placed, unplaced, same_name, names_itself}
+use Rattle.world_run.proofs.Places.{placed, unplaced, same_name}
 
 at_place : List Link → ℕ → Link
 at_place links i = slice_index_or links i (fresh_link [])

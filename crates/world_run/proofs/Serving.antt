@@ -1,11 +1,11 @@
 -- Requests that are read and run one after another.
-use Rattle.std.proofs.Common.{◌≡◌, ◌<◌, ℕ, List, [], ◌∷◌, ◌++◌, true, length, Option, Some, None, refl, sym, ap, subst, ◌∙◌, append_assoc, append-nil}
+use Rattle.std.proofs.Common.{◌≡◌, ◌<◌, ℕ, List, [], ◌∷◌, ◌++◌, true, length, Some, None, refl, sym, ap, subst, ◌∙◌, append_assoc, append-nil}
 use Rattle.resp_stream.specs.declared.fault.StreamFault.{StreamFault}
 use Rattle.resp_stream.specs.declared.fault.StreamFault.TheVariants.{BadByte, TooLong, TooDeep, NotServed, NoMemory}
 use Rattle.resp_stream.specs.Answer.{Whole, More}
 use Rattle.resp_stream.specs.Request.{request_at, behind}
 use Rattle.resp_stream.specs.Requests.{skipped, Faulty, FaultGives, NotMemory}
-use Rattle.resp_stream.specs.Stream.{Stream, moved_on, stream_fault, offset_by}
+use Rattle.resp_stream.specs.Stream.{Stream, moved_on}
 use Rattle.resp_laws.specs.Parse.{Parsed, parse}
 use Rattle.resp_laws.proofs.Parse.{parse_whole, parse_more, parse_bad, shorter}
 use Rattle.serial_model.specs.declared.history.Entry.{Entry}
@@ -13,8 +13,8 @@ use Rattle.serial_model.specs.declared.history.BookCall.TheVariants as call
 use Rattle.serial_model.specs.History.{admitted, is_connected}
 use Rattle.serial_model.specs.Steps.{book_step}
 use Rattle.script_text.specs.declared.line.Line.{Line}
-use Rattle.world_run.specs.Played.{served, served_lines, reply_lines, Runs}
-use Rattle.world_run.specs.World.{AppendsFront}
+use Rattle.world_run.specs.Played.{StopsShort, served, served_lines, reply_lines, Runs}
+use Rattle.world_run.proofs.Short.{served_grows, short_at_once, short_then}
 
 pub served_more : (id : ℕ) (xs ys : List (List (List ℕ))) (past : List Entry) → served id (xs ++ ys) past ≡ served id ys (served id xs past)
 served_more id [] ys past = refl
@@ -62,13 +62,20 @@ module _ (id : ℕ) (link : List ℕ) (old now : Stream) (past0 past : List Entr
         count = same ∙ h.count;
       }
 
-  pub reads_front : (lines'' : List Line) → lines'' ≡ lines' → AppendsFront lines lines'' (served_lines id link (parse old).requests past0)
-  reads_front lines'' same = (
-    served_lines id link h.done past0,
-    served_lines id link (parse now).requests (served id h.done past0),
-    ap (λ r. served_lines id link r past0) h.requests ∙ served_lines_more id link h.done (parse now).requests past0,
-    same ∙ h.told,
-  )
+  pub reads_short : (past' : List Entry) (lines'' : List Line) → past' ≡ past → lines'' ≡ lines'
+      → StopsShort past0 lines (served id (parse old).requests past0) (served_lines id link (parse old).requests past0) past' lines''
+  reads_short past' lines'' stands same =
+      let left = (parse now).requests in
+      let mid = served id h.done past0 in
+      let whole : served id (parse old).requests past0 ≡ served id left mid = ap (λ r. served id r past0) h.requests ∙ served_more id h.done left past0 in
+      let all : served_lines id link (parse old).requests past0 ≡ served_lines id link h.done past0 ++ served_lines id link left mid =
+      ap (λ r. served_lines id link r past0) h.requests ∙ served_lines_more id link h.done left past0 in
+      let s : StopsShort past0 lines (served id left mid) (served_lines id link h.done past0 ++ served_lines id link left mid) mid lines' =
+      short_then past0 mid _ mid lines lines' _ _ lines' (served_grows id link h.done past0) h.told (short_at_once mid _ lines' _ (served_grows id link left mid)) in
+      subst (λ p. StopsShort past0 lines p (served_lines id link (parse old).requests past0) past' lines'') (sym whole)
+      (subst (λ l. StopsShort past0 lines (served id left mid) l past' lines'') (sym all)
+      (subst (λ p. StopsShort past0 lines (served id left mid) (served_lines id link h.done past0 ++ served_lines id link left mid) p lines'') (sym (stands ∙ h.ran))
+      (subst (λ l. StopsShort past0 lines (served id left mid) (served_lines id link h.done past0 ++ served_lines id link left mid) mid l) (sym same) s)))
 
   -- where nothing whole is left, all was run
   pub reads_all : (parse now).requests ≡ [] → (past ≡ served id (parse old).requests past0) × (lines' ≡ lines ++ served_lines id link (parse old).requests past0)

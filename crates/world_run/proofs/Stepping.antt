@@ -1,17 +1,46 @@
 -- A step of the world, from what was moved over one link.
-use Rattle.std.proofs.Common.{◌≡◌, ◌+◌, ◌<◌, ℕ, List, [], ◌∷◌, ◌++◌, Some, None, Result, Ok, Err, length, slice_index_or, slice_set, refl, sym, ap, subst, ◌∙◌, length-set}
+use Rattle.std.proofs.Common.{◌≡◌, ◌+◌, ℕ, List, [], ◌∷◌, ◌++◌, Some, None, Result, Ok, Err, length, slice_set, refl, sym, ap, subst, ◌∙◌}
 use Rattle.std.specs.declared.option.Option.{Option}
 use Rattle.std.proofs.lemmas.List.{set-get_or}
 use Rattle.serial_model.specs.declared.history.Entry.{Entry}
 use Rattle.script_text.specs.declared.event.Event.{Event}
 use Rattle.script_text.specs.declared.event.Event.TheVariants.{Raw, Say, Bytes, Out, Serve, Send, Recv, Flow, FlowAll, Cut}
+use Rattle.serial_model.specs.declared.history.BookReply.{BookReply}
+use Rattle.serial_model.specs.declared.history.BookCall.TheVariants as call
+use Rattle.serial_model.specs.History.{admitted}
+use Rattle.serial_model.specs.Steps.{Turn, book_step}
 use Rattle.script_text.specs.declared.line.Line.{Line}
+use Rattle.script_text.specs.declared.line.Line.TheVariants.{Admit}
 use Rattle.world_run.specs.declared.fault.WorldFault.{WorldFault}
 use Rattle.world_run.specs.declared.fault.WorldFault.TheVariants.{NoName, NameTaken, NothingThere, NoMemory}
 use Rattle.world_run.specs.declared.link.Link.{Link}
 use Rattle.world_run.specs.WorldState.{WorldState, fresh_link}
+use Rattle.world_run.specs.Played.{StopsShort}
 use Rattle.world_run.specs.Moves.{Moved}
-use Rattle.world_run.specs.World.{Stepped, step, moving, stepped, move_of, link_named, link_at, place_of, lines_of, moved_lines, AppendsFront, StepGives, MoveGives}
+use Rattle.world_run.proofs.Short.{short_none, grows_none, turn_grows}
+use Rattle.world_run.specs.World.{Stepped, step, raw_step, moving, stepped, move_of, link_named, link_at, place_of, lines_of, past_of, moved_lines, moved_past, StepGives, MoveGives}
+
+-- an Admit of which nothing was played
+pub raw_short : (w : WorldState) (name : List ℕ) (past' : List Entry) (lines lines' : List Line) → past' ≡ w.past → lines' ≡ lines
+    → StopsShort w.past lines (past_of w.past (step w (Raw name))) (lines_of (step w (Raw name))) past' lines'
+unfolding step
+raw_short w name past' lines lines' stands same =
+    elim (place_of name w) as (λ p. (λ (r : Result Stepped WorldFault). StopsShort w.past lines (past_of w.past r) (lines_of r) past' lines') (raw_step w name p)) [
+      | Some at ↦ short_none w.past w.past past' lines [] lines' stands same (grows_none w.past)
+      | None ↦ short_none w.past _ past' lines _ lines' stands same (turn_grows name [] w.past call.Admit)
+    ]
+
+pub raw_gives : (w : WorldState) (name : List ℕ) (past' : List Entry) (reply : BookReply) (lines lines' : List Line) (e id : ℕ) → place_of name w ≡ None
+    → book_step w.past call.Admit ≡ record { reply = reply; past = past' } → e ≡ length w.past + 1 → id ≡ admitted w.past + 1 → lines' ≡ lines ++ Admit e name id ∷ []
+    → StepGives w (Raw name) lines (Ok tt) (record { past = past'; links = w.links ++ fresh_link name ∷ [] }) lines'
+unfolding step book_step
+raw_gives w name past' reply lines lines' e id none turn is is_id told =
+    let links = w.links ++ fresh_link name ∷ [] in
+    let more = Admit (length w.past + 1) name (admitted w.past + 1) ∷ [] in (
+      more,
+      ap (raw_step w name) none ∙ ap (λ (t : Turn). Ok (record { world = record { past = t.past; links = links }; lines = more })) turn,
+      told ∙ ap (λ n. lines ++ Admit n name id ∷ []) is ∙ ap (λ n. lines ++ Admit (length w.past + 1) name n ∷ []) is_id,
+    )
 
 no_name : (a : List ℕ) → ◌≡◌ {A = Option (List ℕ)} None (Some a) → ⊥
 no_name a h = absurd (let no : ⊥ = cc in no)
@@ -36,6 +65,10 @@ lines_moved : (w : WorldState) (at : ℕ) (move : Result Moved WorldFault) → l
 lines_moved w at (Ok m) = refl
 lines_moved w at (Err f) = refl
 
+past_moved : (w : WorldState) (at : ℕ) (past : List Entry) (move : Result Moved WorldFault) → past_of past (stepped w at move) ≡ moved_past past move
+past_moved w at past (Ok m) = refl
+past_moved w at past (Err f) = refl
+
 module _ (w : WorldState) (name : List ℕ) (event : Event) (names : link_named event ≡ Some name) where
   pub no_such_link : place_of name w ≡ None → step w event ≡ Err NoName
   no_such_link none = step_is w name event names ∙ ap (λ p. moving w p (move_of w.past event)) none
@@ -57,7 +90,11 @@ module _ (w : WorldState) (name : List ℕ) (event : Event) (names : link_named 
         → StepGives w event lines result (record { past = past'; links = slice_set w.links at link' }) lines'
     unfolding after
     step_gives (Ok done) g = (g.0, moved_is ∙ ap (stepped w at) g.1, g.2)
-    step_gives (Err NoMemory) g = subst (AppendsFront lines lines') (sym (ap lines_of moved_is ∙ lines_moved w at (move_of w.past event (at + 1) (link_at w at)))) g
+    step_gives (Err NoMemory) g =
+        let move = move_of w.past event (at + 1) (link_at w at) in
+        subst (λ r. StopsShort w.past lines (past_of w.past r) (lines_of r) past' lines') (sym moved_is)
+        (subst (λ p. StopsShort w.past lines p (lines_of (stepped w at move)) past' lines') (sym (past_moved w at w.past move))
+        (subst (λ l. StopsShort w.past lines (moved_past w.past move) l past' lines') (sym (lines_moved w at move)) g))
     step_gives (Err NoName) g = (moved_is ∙ ap (stepped w at) g.0, unmoved g.1 g.2, g.3)
     step_gives (Err NameTaken) g = (moved_is ∙ ap (stepped w at) g.0, unmoved g.1 g.2, g.3)
     step_gives (Err NothingThere) g = (moved_is ∙ ap (stepped w at) g.0, unmoved g.1 g.2, g.3)

@@ -1,92 +1,132 @@
--- What turns of a connection that was admitted can answer.
-use Rattle.std.proofs.Common.{◌≡◌, ℕ, List, [], ◌∷◌, true, false, cond, sym, refl, ap, ◌∙◌, subst, take, length, ◌+◌, max}
+-- What the turns of a connection answer, and the lines of these.
+use Rattle.std.proofs.Common.{◌≡◌, ◌<◌, ℕ, List, [], ◌∷◌, ◌++◌, true, false, cond, sym, refl, ap, ◌∙◌, subst, take, length, length-take, ◌+◌, min, arith}
 use Rattle.serial_model.specs.declared.history.Entry.{Entry}
+use Rattle.serial_model.specs.declared.history.BookCall.{BookCall}
 use Rattle.serial_model.specs.declared.history.BookCall.TheVariants as call
 use Rattle.serial_model.specs.declared.history.BookReply.{BookReply}
 use Rattle.serial_model.specs.declared.history.BookReply.TheVariants.{Admitted, Ran, Quiet, Bytes, Closed, Refused}
-use Rattle.serial_model.specs.declared.history.BookRefusal.{BookRefusal}
 use Rattle.serial_model.specs.declared.history.BookRefusal.TheVariants.{Gone, NoMemory}
-use Rattle.serial_model.specs.History.{admitted, is_connected, latest, unsent}
+use Rattle.serial_model.specs.History.{admitted, is_connected, unsent}
 use Rattle.serial_model.specs.Steps.{Turn, book_step, BookStep, taking, running, gone, closing}
-use Rattle.serial_model.proofs.Turning.{by_step}
+use Rattle.script_text.specs.declared.line.Line.{Line}
+use Rattle.script_text.specs.declared.line.Line.TheVariants.{Run, Close}
+use Rattle.world_run.specs.Played.{reply_lines, closed, Runs, Closes}
 
-abbrev pub IsRan : BookReply → Type 0
-IsRan (Ran e) = Unit {0}
-IsRan (Refused NoMemory) = Unit {0}
-IsRan reply = ⊥
+-- what holds of the step holds of a turn that is the step
+by_turn : (P : BookReply → List Entry → Type 0) (past new : List Entry) (c : BookCall) (reply : BookReply) → P (book_step past c).reply (book_step past c).past
+    → book_step past c ≡ record { reply = reply; past = new } → P reply new
+by_turn P past new c reply p h = subst (λ (t : Turn). P t.reply t.past) h p
 
-abbrev pub IsTaken : BookReply → Type 0
-IsTaken Quiet = Unit {0}
-IsTaken (Bytes e bytes) = Unit {0}
-IsTaken (Refused NoMemory) = Unit {0}
-IsTaken reply = ⊥
+-- a turn that memory did not stop is the step
+pub as_step : (past new : List Entry) (c : BookCall) (reply : BookReply) → (reply ≡ Refused NoMemory → ⊥) → BookStep past c reply new → book_step past c ≡ record { reply = reply; past = new }
+as_step past new c (Refused NoMemory) not h = absurd (not refl)
+as_step past new c (Refused (Gone i)) not h = h
+as_step past new c (Closed e) not h = h
+as_step past new c (Admitted e i) not h = h
+as_step past new c (Ran e) not h = h
+as_step past new c Quiet not h = h
+as_step past new c (Bytes e bytes) not h = h
 
-pub ran_or_refused : (reply : BookReply) → IsRan reply → ((e : ℕ) → reply ≡ Ran e → ⊥) → ((f : BookRefusal) → reply ≡ Refused f → ⊥) → ⊥
-ran_or_refused (Admitted e id) is ran refused = is
-ran_or_refused (Ran e) is ran refused = ran e refl
-ran_or_refused Quiet is ran refused = is
-ran_or_refused (Bytes e bytes) is ran refused = is
-ran_or_refused (Closed e) is ran refused = is
-ran_or_refused (Refused f) is ran refused = refused f refl
+-- ---- a Run
 
-pub taken_or_refused : (reply : BookReply) → IsTaken reply → (reply ≡ Quiet → ⊥) → ((e : ℕ) (bytes : List ℕ) → reply ≡ Bytes e bytes → ⊥) → ((f : BookRefusal) → reply ≡ Refused f → ⊥) → ⊥
-taken_or_refused (Admitted e id) is quiet gave refused = is
-taken_or_refused (Ran e) is quiet gave refused = is
-taken_or_refused Quiet is quiet gave refused = quiet refl
-taken_or_refused (Bytes e bytes) is quiet gave refused = gave e bytes refl
-taken_or_refused (Closed e) is quiet gave refused = is
-taken_or_refused (Refused f) is quiet gave refused = refused f refl
+module _ (past new : List Entry) (id : ℕ) (words : List (List ℕ)) (reply : BookReply) (on : is_connected past id ≡ true)
+    (h : book_step past (call.Run id words 0) ≡ record { reply = reply; past = new }) where
+  ran_lines : (link : List ℕ) (e : ℕ) → e ≡ length past + 1 → reply_lines link words (book_step past (call.Run id words 0)).reply ≡ Run e link words ∷ []
+  unfolding book_step
+  ran_lines link e is = ap (λ b. reply_lines link words (cond b (running past id words 0) (gone past id)).reply) on ∙ ap (λ n. Run n link words ∷ []) (sym is)
 
-pub run_answers : (past new : List Entry) (id now : ℕ) (words : List (List ℕ)) (reply : BookReply) → is_connected past id ≡ true → BookStep past (call.Run id words now) reply new → IsRan reply
-unfolding book_step
-run_answers past new id now words reply on = by_step (λ r p. IsRan r) past new (call.Run id words now) reply
-    (subst (λ b. IsRan (cond b (running past id words now) (gone past id)).reply) (sym on) tt) tt
+  pub runs : (link : List ℕ) (e : ℕ) (lines lines' : List Line) → e ≡ length past + 1 → lines' ≡ lines ++ Run e link words ∷ [] → Runs id link words past new lines lines'
+  runs link e lines lines' is told = (sym (ap (λ (t : Turn). t.past) h), told ∙ ap (λ l. lines ++ l) (sym (ran_lines link e is)))
 
-taking_answers : (past : List Entry) (id most : ℕ) (bytes : List ℕ) → IsTaken (taking past id most bytes).reply
-taking_answers past id most [] = tt
-taking_answers past id most (b ∷ bytes) = tt
+  -- its connection stays
+  pub run_connected : is_connected new id ≡ true
+  unfolding book_step
+  run_connected = by_turn (λ r p. is_connected p id ≡ true) past new (call.Run id words 0) reply
+      (elim (is_connected past id) as (λ b. is_connected (cond b (running past id words 0) (gone past id)).past id ≡ true) [ true ↦ on | false ↦ on ])
+      h
 
-pub take_answers : (past new : List Entry) (id most : ℕ) (reply : BookReply) → is_connected past id ≡ true → BookStep past (call.Take id most) reply new → IsTaken reply
-unfolding book_step
-take_answers past new id most reply on = by_step (λ r p. IsTaken r) past new (call.Take id most) reply
-    (subst (λ b. IsTaken (cond b (taking past id most (take most (unsent id past))) (gone past id)).reply) (sym on) (taking_answers past id most (take most (unsent id past)))) tt
+  pub run_admitted : admitted new ≡ admitted past
+  unfolding book_step
+  run_admitted = by_turn (λ r p. admitted p ≡ admitted past) past new (call.Run id words 0) reply
+      (elim (is_connected past id) as (λ b. admitted (cond b (running past id words 0) (gone past id)).past ≡ admitted past) [ true ↦ refl | false ↦ refl ])
+      h
 
-abbrev pub IsClosed : BookReply → Type 0
-IsClosed (Closed e) = Unit {0}
-IsClosed reply = ⊥
+-- ---- a Close
 
-pub only_closed : (reply : BookReply) → IsClosed reply → ((e : ℕ) → reply ≡ Closed e → ⊥) → ⊥
-only_closed (Admitted e id) is closed = is
-only_closed (Ran e) is closed = is
-only_closed Quiet is closed = is
-only_closed (Bytes e bytes) is closed = is
-only_closed (Closed e) is closed = closed e refl
-only_closed (Refused f) is closed = is
+module _ (past new : List Entry) (id : ℕ) (reply : BookReply) (on : is_connected past id ≡ true)
+    (h : book_step past (call.Close id) ≡ record { reply = reply; past = new }) where
+  closed_lines : (link : List ℕ) (e : ℕ) → e ≡ length past + 1 → (closed id link past).lines ≡ Close e link ∷ []
+  unfolding book_step closed
+  closed_lines link e is = ap (λ b. reply_lines link [] (cond b (closing past id) (gone past id)).reply) on ∙ ap (λ n. Close n link ∷ []) (sym is)
 
-closed_told : (past new : List Entry) (id : ℕ) (reply : BookReply) → is_connected past id ≡ true → book_step past (call.Close id) ≡ record { reply = reply; past = new } → IsClosed reply
-unfolding book_step
-closed_told past new id reply on h = subst (λ (t : Turn). IsClosed t.reply) (sym (ap (λ v. cond v (closing past id) (gone past id)) on) ∙ h) tt
+  pub closes : (link : List ℕ) (e : ℕ) (lines lines' : List Line) → e ≡ length past + 1 → lines' ≡ lines ++ Close e link ∷ [] → Closes id link past new lines lines'
+  unfolding closed
+  closes link e lines lines' is told = (sym (ap (λ (t : Turn). t.past) h), told ∙ ap (λ l. lines ++ l) (sym (closed_lines link e is)))
 
--- a Close of a connection that has not ended is never refused
-pub close_answers : (past new : List Entry) (id : ℕ) (reply : BookReply) → is_connected past id ≡ true → BookStep past (call.Close id) reply new → IsClosed reply
-close_answers past new id (Refused NoMemory) on h = absurd h.1
-close_answers past new id (Refused (Gone i)) on h = closed_told past new id _ on h
-close_answers past new id (Closed e) on h = closed_told past new id _ on h
-close_answers past new id (Admitted e i) on h = closed_told past new id _ on h
-close_answers past new id (Ran e) on h = closed_told past new id _ on h
-close_answers past new id Quiet on h = closed_told past new id _ on h
-close_answers past new id (Bytes e bytes) on h = closed_told past new id _ on h
+  pub close_admitted : admitted new ≡ admitted past
+  unfolding book_step
+  close_admitted = by_turn (λ r p. admitted p ≡ admitted past) past new (call.Close id) reply
+      (elim (is_connected past id) as (λ b. admitted (cond b (closing past id) (gone past id)).past ≡ admitted past) [ true ↦ refl | false ↦ refl ])
+      h
 
--- a Run leaves its connection
-pub run_connected : (past new : List Entry) (id now : ℕ) (words : List (List ℕ)) (reply : BookReply) → is_connected past id ≡ true → BookStep past (call.Run id words now) reply new → is_connected new id ≡ true
-unfolding book_step
-run_connected past new id now words reply on = by_step (λ r p. is_connected p id ≡ true) past new (call.Run id words now) reply
-    (elim (is_connected past id) as (λ b. is_connected (cond b (running past id words now) (gone past id)).past id ≡ true) [ true ↦ on | false ↦ on ])
-    on
+-- ---- a Take
 
--- a Close leaves the number of connections
-pub close_admitted : (past new : List Entry) (id : ℕ) (reply : BookReply) → BookStep past (call.Close id) reply new → admitted new ≡ admitted past
-unfolding book_step
-close_admitted past new id reply = by_step (λ r p. admitted p ≡ admitted past) past new (call.Close id) reply
-    (elim (is_connected past id) as (λ b. admitted (cond b (closing past id) (gone past id)).past ≡ admitted past) [ true ↦ refl | false ↦ refl ])
-    refl
+pub taken_size : (bytes : List ℕ) (most waiting count : ℕ) → waiting ≡ length bytes → count ≡ min waiting most → length (take most bytes) ≡ count
+taken_size bytes most waiting count w n = let l = length-take most bytes in grind (arith, l, w, n)
+
+pub no_bytes : (bytes : List ℕ) → length bytes ≡ 0 → bytes ≡ []
+no_bytes [] none = refl
+no_bytes (b ∷ bytes) none = absurd (let no : ⊥ = omega (arith, none) in no)
+
+abbrev pub IsGiven : BookReply → Type 0
+IsGiven (Bytes e bytes) = Unit {0}
+IsGiven reply = ⊥
+
+pub only_given : (reply : BookReply) → IsGiven reply → ((e : ℕ) (bytes : List ℕ) → reply ≡ Bytes e bytes → ⊥) → ⊥
+only_given (Admitted e id) is gave = is
+only_given (Ran e) is gave = is
+only_given Quiet is gave = is
+only_given (Bytes e bytes) is gave = gave e bytes refl
+only_given (Closed e) is gave = is
+only_given (Refused f) is gave = is
+
+-- the entry and the bytes of an answer that gives some
+abbrev Gives : ℕ → ℕ → BookReply → Type 0
+Gives next size (Bytes e bytes) = (e ≡ next) × (length bytes ≡ size)
+Gives next size reply = Unit {0}
+
+taking_gives : (past : List Entry) (id most : ℕ) (bytes : List ℕ) → Gives (length past + 1) (length bytes) (taking past id most bytes).reply
+taking_gives past id most [] = tt
+taking_gives past id most (b ∷ bytes) = (refl, refl)
+
+taking_given : (past : List Entry) (id most : ℕ) (bytes : List ℕ) → 0 < length bytes → IsGiven (taking past id most bytes).reply
+taking_given past id most [] some = absurd (let no : ⊥ = omega (arith, some) in no)
+taking_given past id most (b ∷ bytes) some = tt
+
+module _ (past : List Entry) (id most : ℕ) (on : is_connected past id ≡ true) where
+  take_is : book_step past (call.Take id most) ≡ taking past id most (take most (unsent id past))
+  unfolding book_step
+  take_is = ap (λ b. cond b (taking past id most (take most (unsent id past))) (gone past id)) on
+
+  module _ (new : List Entry) (reply : BookReply) (h : book_step past (call.Take id most) ≡ record { reply = reply; past = new }) where
+    pub take_admitted : admitted new ≡ admitted past
+    take_admitted = subst (λ (t : Turn). admitted t.past ≡ admitted past) (sym take_is ∙ h) (same (take most (unsent id past)))
+      where
+        same : (bytes : List ℕ) → admitted (taking past id most bytes).past ≡ admitted past
+        same [] = refl
+        same (b ∷ bytes) = refl
+
+    pub take_given : 0 < length (take most (unsent id past)) → IsGiven reply
+    take_given some = subst (λ (t : Turn). IsGiven t.reply) (sym take_is ∙ h) (taking_given past id most (take most (unsent id past)) some)
+
+  pub take_gives : (new : List Entry) (e : ℕ) (bytes : List ℕ) → book_step past (call.Take id most) ≡ record { reply = Bytes e bytes; past = new }
+      → (e ≡ length past + 1) × (length bytes ≡ length (take most (unsent id past)))
+  take_gives new e bytes h = subst (λ (t : Turn). Gives (length past + 1) (length (take most (unsent id past))) t.reply) (sym take_is ∙ h) (taking_gives past id most (take most (unsent id past)))
+
+  -- where nothing is there
+  pub take_quiet : take most (unsent id past) ≡ [] → book_step past (call.Take id most) ≡ record { reply = Quiet; past = past }
+  take_quiet none = take_is ∙ ap (taking past id most) none
+
+  pub take_told : (new : List Entry) (reply : BookReply) (e : ℕ) (bytes : List ℕ) → book_step past (call.Take id most) ≡ record { reply = reply; past = new } → reply ≡ Bytes e bytes
+      → book_step past (call.Take id most) ≡ record { reply = Bytes e bytes; past = new }
+  take_told new reply e bytes h is = subst (λ r. book_step past (call.Take id most) ≡ record { reply = r; past = new }) is h

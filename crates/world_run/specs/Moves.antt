@@ -17,7 +17,7 @@ use Rattle.world_run.specs.declared.fault.WorldFault.TheVariants.{NothingThere}
 use Rattle.world_run.specs.declared.link.Link.{Link}
 use Rattle.world_run.specs.declared.way.Way.{Way}
 use Rattle.world_run.specs.Ways.{is_open, is_finished, put, finished, emptied, without}
-use Rattle.world_run.specs.Played.{reply_lines, served, served_lines, stopped}
+use Rattle.world_run.specs.Played.{StopsShort, reply_lines, served, served_lines, stopped}
 
 pub record Moved : Type 0 where
   pub past : List Entry
@@ -126,6 +126,10 @@ flow id past link =
     let second = send_all id first.past first.link in
     let third = receive_all second.past second.link in
     record { past = third.past; link = third.link; lines = first.lines ++ (second.lines ++ third.lines) }
+
+-- memory ran out on the way
+abbrev pub MovesShort : Moved → List Entry → List Line → List Entry → List Line → Type 0
+MovesShort m past lines past' lines' = StopsShort past lines m.past m.lines past' lines'
 
 -- what was done is this move, and its lines were appended
 abbrev pub Moves : Moved → List Entry → Link → List Line → List Line → Type 0

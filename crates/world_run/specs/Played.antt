@@ -1,5 +1,5 @@
 -- What turns of the server print.
-use Rattle.std.specs.Prelude.{◌≡◌, ℕ, List, [], ◌∷◌, ◌++◌, Bool, true, false, length}
+use Rattle.std.specs.Prelude.{◌≡◌, ◌+◌, ℕ, List, [], ◌∷◌, ◌++◌, Bool, true, false, length}
 use Rattle.std.specs.declared.option.Option.{Option}
 use Rattle.std.specs.declared.option.Option.TheVariants.{None, Some}
 use Rattle.resp_stream.specs.declared.fault.StreamFault.{StreamFault}
@@ -10,7 +10,7 @@ use Rattle.serial_model.specs.declared.history.BookReply.{BookReply}
 use Rattle.serial_model.specs.declared.history.BookReply.TheVariants.{Admitted, Ran, Quiet, Bytes, Closed, Refused}
 use Rattle.serial_model.specs.Steps.{book_step}
 use Rattle.script_text.specs.declared.line.Line.{Line}
-use Rattle.script_text.specs.declared.line.Line.TheVariants.{Admit, Run, Bad, Close, Take}
+use Rattle.script_text.specs.declared.line.Line.TheVariants.{Admit, Run, Bad, Close, Take, Read, End}
 
 -- a history, and what was printed on the way to it
 pub record Played : Type 0 where
@@ -70,3 +70,26 @@ Runs id link words past past' lines lines' =
 -- one Close
 abbrev pub Closes : ℕ → List ℕ → List Entry → List Entry → List Line → List Line → Type 0
 Closes id link past past' lines lines' = (past' ≡ (closed id link past).past) × (lines' ≡ lines ++ (closed id link past).lines)
+
+-- how many entries lines tell of
+abbrev pub entries_told : List Line → ℕ
+entries_told [] = 0
+entries_told (Admit e link id ∷ lines) = entries_told lines + 1
+entries_told (Run e link words ∷ lines) = entries_told lines + 1
+entries_told (Bad link fault offset ∷ lines) = entries_told lines
+entries_told (Close e link ∷ lines) = entries_told lines + 1
+entries_told (Take e link count ∷ lines) = entries_told lines + 1
+entries_told (Read link bytes ∷ lines) = entries_told lines
+entries_told (End link ∷ lines) = entries_told lines
+
+-- Memory ran out on the way to a whole past and all its lines: the turns that were played stand, and their lines were appended, from the front.
+pub record StopsShort (past : List Entry) (lines : List Line) (whole : List Entry) (all : List Line) (past' : List Entry) (lines' : List Line) : Type 0 where
+  pub played : List Entry
+  pub left : List Entry
+  pub front : List Line
+  pub rest : List Line
+  pub stands : past' ≡ played ++ past
+  pub towards : whole ≡ left ++ past'
+  pub begins : all ≡ front ++ rest
+  pub appended : lines' ≡ lines ++ front
+  pub told : entries_told front ≡ length played

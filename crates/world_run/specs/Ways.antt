@@ -1,5 +1,5 @@
 -- One way of a link.
-use Rattle.std.specs.Prelude.{◌≡◌, ℕ, List, [], ◌∷◌, ◌++◌, Bool, true, false, if◌then◌else◌, drop}
+use Rattle.std.specs.Prelude.{ℕ, List, [], ◌++◌, Bool, true, false, drop}
 use Rattle.world_run.specs.declared.way.Ending.{Ending}
 use Rattle.world_run.specs.declared.way.Ending.TheVariants.{Open, Standing, Passed}
 use Rattle.world_run.specs.declared.way.Way.{Way}

@@ -11,11 +11,11 @@ use Rattle.script_text.specs.declared.event.Event.{Event}
 use Rattle.script_text.specs.declared.event.Event.TheVariants.{Raw, Say, Bytes, Out, Serve, Send, Recv, Flow, FlowAll, Cut}
 use Rattle.script_text.specs.declared.line.Line.{Line}
 use Rattle.world_run.specs.declared.fault.WorldFault.{WorldFault}
-use Rattle.world_run.specs.declared.fault.WorldFault.TheVariants.{NoName, NameTaken, NothingThere, NoMemory}
+use Rattle.world_run.specs.declared.fault.WorldFault.TheVariants.{NoName, NameTaken, NoMemory}
 use Rattle.world_run.specs.declared.link.Link.{Link}
 use Rattle.world_run.specs.WorldState.{WorldState, fresh_link}
 use Rattle.world_run.specs.Ways.{put, cut}
-use Rattle.world_run.specs.Played.{reply_lines}
+use Rattle.world_run.specs.Played.{StopsShort, reply_lines}
 use Rattle.world_run.specs.Moves.{Moved, stays, serve, send, receive, out, flow}
 
 pub record Stepped : Type 0 where
@@ -106,14 +106,15 @@ abbrev pub lines_of : Result Stepped WorldFault → List Line
 lines_of (Ok s) = s.lines
 lines_of (Err fault) = []
 
--- some of the lines were appended, from the front
-abbrev pub AppendsFront : List Line → List Line → List Line → Type 0
-AppendsFront old new all = (front rest : List Line) × (all ≡ front ++ rest) × (new ≡ old ++ front)
+-- the past after an event, the same where it meets a fault
+abbrev pub past_of : List Entry → Result Stepped WorldFault → List Entry
+past_of past (Ok s) = s.world.past
+past_of past (Err fault) = past
 
--- what was done is the step, unless memory ran out; then some of the lines were appended, from the front
+-- what was done is the step, unless memory ran out on the way
 abbrev pub StepGives : WorldState → Event → List Line → Result (Unit {0}) WorldFault → WorldState → List Line → Type 0
 StepGives old event lines (Ok done) new lines' = (more : List Line) × (step old event ≡ Ok (record { world = new; lines = more })) × (lines' ≡ lines ++ more)
-StepGives old event lines (Err NoMemory) new lines' = AppendsFront lines lines' (lines_of (step old event))
+StepGives old event lines (Err NoMemory) new lines' = StopsShort old.past lines (past_of old.past (step old event)) (lines_of (step old event)) new.past lines'
 StepGives old event lines (Err fault) new lines' = (step old event ≡ Err fault) × (new ≡ old) × (lines' ≡ lines)
 
 -- the same of one link
@@ -121,7 +122,11 @@ abbrev pub moved_lines : Result Moved WorldFault → List Line
 moved_lines (Ok m) = m.lines
 moved_lines (Err fault) = []
 
+abbrev pub moved_past : List Entry → Result Moved WorldFault → List Entry
+moved_past past (Ok m) = m.past
+moved_past past (Err fault) = past
+
 abbrev pub MoveGives : Result Moved WorldFault → List Entry → Link → List Line → Result (Unit {0}) WorldFault → List Entry → Link → List Line → Type 0
 MoveGives move past link lines (Ok done) past' link' lines' = (more : List Line) × (move ≡ Ok (record { past = past'; link = link'; lines = more })) × (lines' ≡ lines ++ more)
-MoveGives move past link lines (Err NoMemory) past' link' lines' = AppendsFront lines lines' (moved_lines move)
+MoveGives move past link lines (Err NoMemory) past' link' lines' = StopsShort past lines (moved_past past move) (moved_lines move) past' lines'
 MoveGives move past link lines (Err fault) past' link' lines' = (move ≡ Err fault) × (past' ≡ past) × (link' ≡ link) × (lines' ≡ lines)

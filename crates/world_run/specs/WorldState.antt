@@ -1,5 +1,5 @@
 -- What a world is seen as.
-use Rattle.std.specs.Prelude.{◌≡◌, ℕ, List, [], length}
+use Rattle.std.specs.Prelude.{◌≡◌, ℕ, List, length}
 use Rattle.resp_stream.specs.Stream.{begun}
 use Rattle.serial_model.specs.declared.history.Entry.{Entry}
 use Rattle.serial_model.specs.History.{admitted}

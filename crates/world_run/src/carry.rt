@@ -3,12 +3,13 @@ ghost use Rattle.std.specs.Prelude.{◌≡◌, ◌<◌, ◌++◌, true, List, On
 ghost use Rattle.serial_model.specs.declared.history.Entry.{Entry};
 ghost use Rattle.serial_model.specs.History.{admitted, is_connected};
 ghost use Rattle.world_run.specs.Ways.{emptied};
-ghost use Rattle.world_run.specs.Moves.{Moves, end_lines, flow, read_lines, receive, received_lines, send, send_all, taken_down, with_down};
-ghost use Rattle.world_run.specs.World.{AppendsFront, MoveGives};
+ghost use Rattle.world_run.specs.Moves.{Moves, MovesShort, end_lines, flow, read_lines, receive, receive_all, received_lines, send, send_all, taken_down, with_down};
+ghost use Rattle.world_run.specs.World.{MoveGives};
 
 use super::fault::WorldFault;
 use super::link::Link;
 use super::serve::serve_all;
+use super::tell::{next_entry, play_turn};
 use resp_value::{NoMemory, Octets};
 use script_text::{Line, Lines};
 use server_book::{Book, BookCall, BookReply};
@@ -25,18 +26,16 @@ fn take_down(
     requires most { 0 < most }
     requires connected { is_connected book.old.past id ≡ true }
     ensures ok { OnOk result (Moves (taken_down id book.old.past link.old most) book.new.past link.new lines.old lines.new) }
-    ensures err { OnErr result (AppendsFront lines.old lines.new (taken_down id book.old.past link.old most).lines) }
+    ensures err { OnErr result (MovesShort (taken_down id book.old.past link.old most) book.old.past lines.old book.new.past lines.new) }
     ensures same { admitted book.new.past ≡ admitted book.old.past }
 {
-    let name = link.name.copy()?;
-    match book.turn(BookCall::Take { id, max: most }) {
-        BookReply::Quiet => Ok(()),
-        BookReply::Bytes { entry, bytes } => {
-            let count = bytes.as_slice().len() as u64;
-            lines.push(Line::Take(entry, name, count))?;
-            link.down.put(bytes.as_slice())
-        }
-        BookReply::Refused(_) => Err(NoMemory),
+    let count = book.waiting(id).min(most);
+    if count == 0 {
+        return Ok(());
+    }
+    let line = Line::Take(next_entry(book)?, link.name.copy()?, count);
+    match play_turn(book, BookCall::Take { id, max: most }, line, lines)? {
+        BookReply::Bytes { bytes, .. } => link.down.put(bytes.as_slice()),
         _ => unreachable!(),
     }
 }
@@ -50,7 +49,7 @@ pub fn send_all(
     lines: &mut Lines,
 ) -> Result<(), NoMemory>
     ensures ok { OnOk result (Moves (send_all id book.old.past link.old) book.new.past link.new lines.old lines.new) }
-    ensures err { OnErr result (AppendsFront lines.old lines.new (send_all id book.old.past link.old).lines) }
+    ensures err { OnErr result (MovesShort (send_all id book.old.past link.old) book.old.past lines.old book.new.past lines.new) }
     ensures same { admitted book.new.past ≡ admitted book.old.past }
 {
     if !link.down.is_open() {
@@ -112,7 +111,7 @@ fn tell_end(link: &Octets, ended: bool, lines: &mut Lines) -> Result<(), NoMemor
 /// The client's end reads all that is there, and an end behind it.
 pub fn receive_all(alloc: Global, link: &mut Link, lines: &mut Lines) -> Result<(), NoMemory>
     ensures ok { OnOk result ((link.new ≡ with_down link.old (emptied link.old.down)) × (lines.new ≡ lines.old ++ received_lines link.old)) }
-    ensures err { OnErr result (AppendsFront lines.old lines.new (received_lines link.old)) }
+    ensures err { OnErr result ((past : List Entry) → MovesShort (receive_all past link.old) past lines.old past lines.new) }
 {
     tell_read(alloc, &link.name, link.down.bytes.as_slice(), lines)?;
     tell_end(&link.name, link.down.is_finished(), lines)?;
@@ -155,7 +154,7 @@ pub fn flow(
     lines: &mut Lines,
 ) -> Result<(), NoMemory>
     ensures ok { OnOk result (Moves (flow id book.old.past link.old) book.new.past link.new lines.old lines.new) }
-    ensures err { OnErr result (AppendsFront lines.old lines.new (flow id book.old.past link.old).lines) }
+    ensures err { OnErr result (MovesShort (flow id book.old.past link.old) book.old.past lines.old book.new.past lines.new) }
     ensures same { admitted book.new.past ≡ admitted book.old.past }
 {
     serve_all(book, id, link, lines)?;

@@ -14,7 +14,8 @@ pub enum WorldFault {
     NameTaken,
     /// Fewer bytes were there than the event moves.
     NothingThere,
-    /// Memory ran out; some of the event's lines may have been appended.
+    /// Memory ran out. The turns that were played stand, and their lines were appended; what was to be
+    /// put onto a way may be lost.
     NoMemory,
 }
 

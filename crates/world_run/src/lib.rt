@@ -7,6 +7,7 @@ mod laws;
 mod link;
 mod play;
 mod serve;
+mod tell;
 mod way;
 mod world;
 

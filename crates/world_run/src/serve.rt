@@ -5,16 +5,17 @@ ghost use Rattle.resp_laws.specs.Parse.{parse};
 ghost use Rattle.resp_stream.specs.Requests.{NotMemory};
 ghost use Rattle.resp_stream.specs.Stream.{fed};
 ghost use Rattle.serial_model.specs.History.{admitted, is_connected};
-ghost use Rattle.world_run.specs.Played.{Closes, Runs, fault_number, fault_offset, served, served_lines, stopped};
-ghost use Rattle.world_run.specs.Moves.{Moves, ran_fed, serve, serve_all};
-ghost use Rattle.world_run.specs.World.{AppendsFront, MoveGives};
+ghost use Rattle.world_run.specs.Played.{Closes, Runs, StopsShort, fault_number, fault_offset, served, served_lines, stopped};
+ghost use Rattle.world_run.specs.Moves.{MovesShort, Moves, ran_fed, serve, serve_all};
+ghost use Rattle.world_run.specs.World.{MoveGives};
 
 use super::fault::WorldFault;
 use super::link::Link;
+use super::tell::{next_entry, play_turn};
 use resp_stream::{RequestReader, StreamFault};
 use resp_value::{NoMemory, Octets, Words};
 use script_text::{Line, Lines};
-use server_book::{Book, BookCall, BookReply};
+use server_book::{Book, BookCall};
 
 /// The number of a fault in the printed line, by its kind.
 fn fault_number(fault: StreamFault) -> u64
@@ -68,7 +69,7 @@ fn run_requests(
     ensures read { OnOk result (reader.new ≡ (parse reader.old).stream) }
     ensures ok { OnOk result ((book.new.past ≡ served id (parse reader.old).requests book.old.past)
         × (lines.new ≡ lines.old ++ served_lines id name.now (parse reader.old).requests book.old.past)) }
-    ensures err { OnErr result (AppendsFront lines.old lines.new (served_lines id name.now (parse reader.old).requests book.old.past)) }
+    ensures err { OnErr result (StopsShort book.old.past lines.old (served id (parse reader.old).requests book.old.past) (served_lines id name.now (parse reader.old).requests book.old.past) book.new.past lines.new) }
     ensures still { is_connected book.new.past id ≡ true }
     ensures same { admitted book.new.past ≡ admitted book.old.past }
 {
@@ -91,31 +92,25 @@ fn run_one(
 ) -> Result<(), NoMemory>
     requires { is_connected book.old.past id ≡ true }
     ensures ok { OnOk result (Runs id name.now words book.old.past book.new.past lines.old lines.new) }
-    ensures err { OnErr result (lines.new ≡ lines.old) }
+    ensures err { OnErr result ((book.new.past ≡ book.old.past) × (lines.new ≡ lines.old)) }
     ensures still { is_connected book.new.past id ≡ true }
     ensures same { admitted book.new.past ≡ admitted book.old.past }
 {
-    let shown = words.copy()?;
-    let name = name.copy()?;
-    match book.turn(BookCall::Run { id, words, now: 0 }) {
-        BookReply::Ran { entry } => lines.push(Line::Run(entry, name, shown)),
-        BookReply::Refused(_) => Err(NoMemory),
-        _ => unreachable!(),
-    }
+    let line = Line::Run(next_entry(book)?, name.copy()?, words.copy()?);
+    play_turn(book, BookCall::Run { id, words, now: 0 }, line, lines)?;
+    Ok(())
 }
 
 /// Closes a connection, and appends the line.
 fn close(book: &mut Book, id: u64, name: &Octets, lines: &mut Lines) -> Result<(), NoMemory>
     requires { is_connected book.old.past id ≡ true }
     ensures ok { OnOk result (Closes id name.now book.old.past book.new.past lines.old lines.new) }
-    ensures err { OnErr result (lines.new ≡ lines.old) }
+    ensures err { OnErr result ((book.new.past ≡ book.old.past) × (lines.new ≡ lines.old)) }
     ensures same { admitted book.new.past ≡ admitted book.old.past }
 {
-    let name = name.copy()?;
-    match book.turn(BookCall::Close { id }) {
-        BookReply::Closed { entry } => lines.push(Line::Close(entry, name)),
-        _ => unreachable!(),
-    }
+    let line = Line::Close(next_entry(book)?, name.copy()?);
+    play_turn(book, BookCall::Close { id }, line, lines)?;
+    Ok(())
 }
 
 /// What stops the reading: a fault of the stream, or an end that was read.
@@ -130,7 +125,7 @@ fn stop(
     requires { is_connected book.old.past id ≡ true }
     ensures ok { OnOk result ((book.new.past ≡ (stopped id name.now fault ended book.old.past).past)
         × (lines.new ≡ lines.old ++ (stopped id name.now fault ended book.old.past).lines)) }
-    ensures err { OnErr result (AppendsFront lines.old lines.new (stopped id name.now fault ended book.old.past).lines) }
+    ensures err { OnErr result (StopsShort book.old.past lines.old (stopped id name.now fault ended book.old.past).past (stopped id name.now fault ended book.old.past).lines book.new.past lines.new) }
     ensures same { admitted book.new.past ≡ admitted book.old.past }
 {
     match fault {
@@ -154,7 +149,7 @@ fn run_fed(
 ) -> Result<(), NoMemory>
     requires { is_connected book.old.past id ≡ true }
     ensures ok { OnOk result (Moves (ran_fed id book.old.past link.old ended) book.new.past link.new lines.old lines.new) }
-    ensures err { OnErr result (AppendsFront lines.old lines.new (ran_fed id book.old.past link.old ended).lines) }
+    ensures err { OnErr result (MovesShort (ran_fed id book.old.past link.old ended) book.old.past lines.old book.new.past lines.new) }
     ensures same { admitted book.new.past ≡ admitted book.old.past }
 {
     let fault = run_requests(book, id, &link.name, &mut link.reader, lines)?;
@@ -170,7 +165,7 @@ pub fn serve_all(
     lines: &mut Lines,
 ) -> Result<(), NoMemory>
     ensures ok { OnOk result (Moves (serve_all id book.old.past link.old) book.new.past link.new lines.old lines.new) }
-    ensures err { OnErr result (AppendsFront lines.old lines.new (serve_all id book.old.past link.old).lines) }
+    ensures err { OnErr result (MovesShort (serve_all id book.old.past link.old) book.old.past lines.old book.new.past lines.new) }
     ensures same { admitted book.new.past ≡ admitted book.old.past }
 {
     if !book.is_connected(id) {

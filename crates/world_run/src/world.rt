@@ -2,15 +2,17 @@
 ghost use Rattle.std.specs.Prelude.{◌≡◌, ◌++◌, ◌∷◌, [], Some, OnOk, OnErr, IfOk, length};
 ghost use Rattle.script_text.specs.declared.event.Event.TheVariants as event;
 ghost use Rattle.serial_model.specs.History.{admitted};
-ghost use Rattle.world_run.specs.World.{AppendsFront, StepGives, flows, link_named, place_of, start};
+ghost use Rattle.world_run.specs.Played.{StopsShort};
+ghost use Rattle.world_run.specs.World.{StepGives, flows, link_named, place_of, start};
 
 use super::carry::flow;
 use super::fault::WorldFault;
 use super::link::Link;
 use super::play::play;
+use super::tell::{next_entry, play_turn};
 use resp_value::{NoMemory, Octets};
 use script_text::{Event, Line, Lines};
-use server_book::{Book, BookCall, BookReply, Limits};
+use server_book::{Book, BookCall, Limits};
 use std::alloc::Global;
 use std::marker::Model;
 
@@ -79,16 +81,15 @@ impl World {
         if self.place(name).is_some() {
             return Err(WorldFault::NameTaken);
         }
+        let entry = next_entry(&self.book)?;
         let shown = name.copy()?;
         self.links.push(Link::new(self.alloc, name.copy()?))?;
-        match self.book.turn(BookCall::Admit) {
-            BookReply::Admitted { entry, id } => Ok(lines.push(Line::Admit(entry, shown, id))?),
-            BookReply::Refused(_) => {
-                let _ = self.links.pop();
-                Err(WorldFault::NoMemory)
-            }
-            _ => unreachable!(),
+        let line = Line::Admit(entry, shown, self.links.len() as u64);
+        if play_turn(&mut self.book, BookCall::Admit, line, lines).is_err() {
+            let _ = self.links.pop();
+            return Err(WorldFault::NoMemory);
         }
+        Ok(())
     }
 
     /// Plays an event over the one link that it names.
@@ -127,7 +128,7 @@ fn flow_links(
     ensures ok { OnOk result ((book.new.past ≡ (flows 1 links.old.items book.old.past).world.past)
         × (links.new.items ≡ (flows 1 links.old.items book.old.past).world.links)
         × (lines.new ≡ lines.old ++ (flows 1 links.old.items book.old.past).lines)) }
-    ensures err { OnErr result (AppendsFront lines.old lines.new (flows 1 links.old.items book.old.past).lines) }
+    ensures err { OnErr result (StopsShort book.old.past lines.old (flows 1 links.old.items book.old.past).world.past (flows 1 links.old.items book.old.past).lines book.new.past lines.new) }
     ensures same { admitted book.new.past ≡ admitted book.old.past }
     ensures length { length links.new.items ≡ length links.old.items }
 {

@@ -1,4 +1,3 @@
-use Rattle.std.proofs.Common.{◌≡◌}
 use Rattle.std.proofs.lemmas.Result.{err_from_is_err_and, on_ok_weaker, on_err_weaker}
 use Rattle.world_run.proofs.Flowing.{flow_first, flow_second, flow_third, flow_moves}
 use Rattle.world_run.proofs.carry.flow.Goals as goal
@@ -6,12 +5,12 @@ use Rattle.world_run.proofs.carry.flow.Goals as goal
 pub returns-in_err-serve_all-clause-err : goal.returns-in_err-serve_all-clause-err
 returns-in_err-serve_all-clause-err c =
     let p = err_from_is_err_and c.from_residual.result c.from_residual.ensures.1 in
-    rw p.1 (flow_first c.args.id c.args.book.now.past c.args.link.now c.args.lines.now c.serve_all.new.lines c.in_err-serve_all.ensures.err)
+    rw p.1 (flow_first c.args.id c.args.book.now.past c.args.link.now c.args.lines.now c.serve_all.new.book.past c.serve_all.new.lines c.in_err-serve_all.ensures.err)
 
 pub returns-in_err-send_all-clause-err : goal.returns-in_err-send_all-clause-err
 returns-in_err-send_all-clause-err c =
     let p = err_from_is_err_and c.from_residual-in_err-send_all.result c.from_residual-in_err-send_all.ensures.1 in
-    rw p.1 (flow_second c.args.id c.args.book.now.past c.args.link.now c.args.lines.now _ _ _ c.in_ok-serve_all.ensures.ok c.send_all.new.lines c.in_err-send_all.ensures.err)
+    rw p.1 (flow_second c.args.id c.args.book.now.past c.args.link.now c.args.lines.now _ _ _ c.in_ok-serve_all.ensures.ok c.send_all.new.book.past c.send_all.new.lines c.in_err-send_all.ensures.err)
 
 pub returns-clause-ok : goal.returns-clause-ok
 returns-clause-ok c =
@@ -22,5 +21,5 @@ returns-clause-ok c =
 pub returns-clause-err : goal.returns-clause-err
 returns-clause-err c =
     on_err_weaker c.receive_all.result
-    (flow_third c.args.id c.args.book.now.past c.args.link.now c.args.lines.now _ _ _ c.in_ok-serve_all.ensures.ok _ _ _ c.in_ok-send_all.ensures.ok _)
+    (λ short. flow_third c.args.id c.args.book.now.past c.args.link.now c.args.lines.now _ _ _ c.in_ok-serve_all.ensures.ok _ _ _ c.in_ok-send_all.ensures.ok _ _ (short _))
     c.receive_all.ensures.err

@@ -1,4 +1,4 @@
-use Rattle.std.proofs.Common.{◌≡◌, ◌++◌, [], true, false, sym, ap, ◌∙◌, append-nil}
+use Rattle.std.proofs.Common.{[], sym, ◌∙◌, append-nil}
 use Rattle.world_run.proofs.Flowing.{send_none}
 use Rattle.world_run.proofs.carry.send.Goals as goal
 

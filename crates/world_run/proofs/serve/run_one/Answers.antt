@@ -1,19 +1,15 @@
-use Rattle.std.proofs.Common.{◌≡◌, sym, ap, ◌∙◌}
-use Rattle.serial_model.proofs.Turning.{run_admitted}
-use Rattle.world_run.proofs.Telling.{run_answers, ran_or_refused, run_connected}
+use Rattle.std.proofs.Common.{◌≡◌, ◌++◌, ◌∷◌, []}
+use Rattle.script_text.specs.declared.line.Line.TheVariants.{Run}
+use Rattle.world_run.proofs.Telling.{runs, run_admitted, run_connected}
 use Rattle.world_run.proofs.serve.run_one.Goals as goal
 
-pub unreachable-requires : goal.unreachable-requires
-unreachable-requires c = ran_or_refused _ (run_answers _ _ _ _ _ _ c.requires c.turn.ensures.step) c.in_default.not-Ran c.in_default.not-Refused
+pub returns-clause-ok : goal.returns-clause-ok
+returns-clause-ok c =
+    let told : c.play_turn.new.lines ≡ c.args.lines.now ++ Run c.in_ok-next_entry.field-0 c.args.name.now c.args.words ∷ [] = cc (c.in_ok-play_turn.ensures.told, c.in_ok-copy.ensures, c.in_ok-copy-2.ensures) in
+    runs _ _ _ _ _ c.requires c.in_ok-play_turn.ensures.step c.args.name.now c.in_ok-next_entry.field-0 c.args.lines.now _ c.in_ok-next_entry.ensures told
 
-pub returns-in-Ran-clause-still : goal.returns-in-Ran-clause-still
-returns-in-Ran-clause-still c = run_connected _ _ _ _ _ _ c.requires c.turn.ensures.step
+pub returns-clause-still : goal.returns-clause-still
+returns-clause-still c = run_connected _ _ _ _ _ c.requires c.in_ok-play_turn.ensures.step
 
-pub returns-in-Ran-clause-same : goal.returns-in-Ran-clause-same
-returns-in-Ran-clause-same c = run_admitted _ _ _ _ _ _ c.turn.ensures.step
-
-pub returns-in-Refused-clause-still : goal.returns-in-Refused-clause-still
-returns-in-Refused-clause-still c = run_connected _ _ _ _ _ _ c.requires c.turn.ensures.step
-
-pub returns-in-Refused-clause-same : goal.returns-in-Refused-clause-same
-returns-in-Refused-clause-same c = run_admitted _ _ _ _ _ _ c.turn.ensures.step
+pub returns-clause-same : goal.returns-clause-same
+returns-clause-same c = run_admitted _ _ _ _ _ c.requires c.in_ok-play_turn.ensures.step

@@ -1,10 +1,10 @@
-use Rattle.std.proofs.Common.{◌≡◌, ◌∙◌, ◌<◌, List, ℕ, length, Option, Some, None, Result, Ok, Err, ap, sym, refl, subst, IfOk, OnOk, OnErr}
+use Rattle.std.proofs.Common.{◌≡◌, ◌∙◌, List, ℕ, Option, Some, Result, Ok, Err, refl, subst, IfOk, OnOk, OnErr}
 use Rattle.std.proofs.lemmas.Result.{err_from_is_err_and, on_ok_weaker}
 use Rattle.resp_value.specs.declared.octets.NoMemory.{NoMemory}
 use Rattle.resp_stream.specs.declared.fault.StreamFault.{StreamFault}
 use Rattle.resp_stream.specs.Stream.{Stream}
 use Rattle.resp_stream.specs.Requests.{RequestGives, NotMemory}
-use Rattle.world_run.proofs.Serving.{Reads, reads_more, reads_front, reads_all, ends_more, ends_bad, reads_less}
+use Rattle.world_run.proofs.Serving.{reads_more, reads_short, reads_all, ends_more, ends_bad, reads_less}
 use Rattle.world_run.proofs.serve.run_requests.Goals as goal
 
 gives_at : (old new : Stream) (r s : Option (List (List ℕ))) → RequestGives old new (Ok r) → r ≡ s → RequestGives old new (Ok s)
@@ -23,7 +23,7 @@ pub returns-in_err-run_one-in-Ok-Some-clause-err :
     goal.returns-in_err-run_one-in-Ok-Some-clause-err
 returns-in_err-run_one-in-Ok-Some-clause-err c =
     let p = err_from_is_err_and c.from_residual.result c.from_residual.ensures.1 in
-    rw p.1 (reads_front _ _ _ _ _ _ _ _ c.requests.invariant c.run_one.new.lines c.in_err-run_one-in-Ok-Some.ensures.err)
+    rw p.1 (reads_short _ _ _ _ _ _ _ _ c.requests.invariant _ _ c.in_err-run_one-in-Ok-Some.ensures.err.0 c.in_err-run_one-in-Ok-Some.ensures.err.1)
 
 pub returns-in-Ok-None-clause-fault : goal.returns-in-Ok-None-clause-fault
 returns-in-Ok-None-clause-fault c = (ends_more _ _ _ _ _ _ _ _ c.requests.invariant c.next_request.new.self (gives_at _ _ _ _ c.in-Ok-None.ensures.gives c.in-Ok-None.field-0-is)).0
@@ -58,4 +58,4 @@ returns-in-Err-clause-ok c =
     c.told.ensures.bytes
 
 pub returns-in-Err-clause-err : goal.returns-in-Err-clause-err
-returns-in-Err-clause-err c = at_err c.told.result (reads_front _ _ _ _ _ _ _ _ c.requests.invariant c.requests.lines refl)
+returns-in-Err-clause-err c = at_err c.told.result (reads_short _ _ _ _ _ _ _ _ c.requests.invariant _ _ refl refl)

@@ -1,10 +1,10 @@
-use Rattle.std.proofs.Common.{◌≡◌, ◌+◌, ◌<◌, [], Some, None, List, length, slice_index_or, slice_set, refl, sym, ap, subst, ◌∙◌}
+use Rattle.std.proofs.Common.{◌≡◌, ◌+◌, ◌<◌, [], Some, length, slice_set, refl, sym, ap, subst, ◌∙◌}
 use Rattle.std.proofs.lemmas.List.{get_or_read}
 use Rattle.std.proofs.lemmas.List.Quantifiers.{position-Some}
 use Rattle.std.specs.Str.{bytes_eq}
 use Rattle.world_run.specs.declared.link.Link.{Link}
 use Rattle.world_run.specs.WorldState.{WorldState, fresh_link}
-use Rattle.world_run.specs.World.{step, place_of, link_at, move_of, MoveGives, StepGives}
+use Rattle.world_run.specs.World.{place_of, link_at, move_of, MoveGives, StepGives}
 use Rattle.world_run.proofs.Stepping.{no_such_link, step_gives}
 use Rattle.world_run.proofs.world.World.play.Goals as goal
 
