@@ -1,25 +1,23 @@
 -- How an Ask keeps what a client's fields are by its log.
-use Rattle.std.proofs.Common.{◌≡◌, ◌==◌, ◌+◌, ◌-◌, ◌<◌, ◌≤◌, ◌++◌, ◌&&◌, ◌||◌, ℕ, zero, suc, List, [], ◌∷◌, length, map, Bool, true, false, cond, not, Option, Some, None, sym, ap, ◌∙◌, refl, arith, rules, append-nil, length-append, ne_eqb, eq-eqb, subst, inl, inr}
-use Rattle.std.specs.Prelude.{nat_lt, is_some}
-use Rattle.std.specs.List.{filter}
+use Rattle.std.proofs.Common.{◌≡◌, ◌==◌, ◌+◌, ◌≤◌, ◌++◌, ◌&&◌, ◌||◌, ℕ, suc, List, [], ◌∷◌, length, map, Bool, true, false, cond, not, Option, Some, None, sym, ap, ◌∙◌, refl, arith, length-append, ne_eqb, eq-eqb, subst, inl, inr}
+use Rattle.std.specs.Prelude.{is_some}
 use Rattle.std.proofs.lemmas.Bool.{and_right, or_cases, lt-ltb, cases_Bool}
 use Rattle.resp_value.specs.Spelling.{request_spelling}
-use Rattle.resp_value.specs.declared.value.Value.{Value}
 use Rattle.command_words.specs.Queries.{key_of, same_query, writes}
 use Rattle.fill_mark.specs.declared.marks.Mark.{Mark}
-use Rattle.fill_mark.specs.Marks.{begun, without_query}
+use Rattle.fill_mark.specs.Marks.{begun}
 use Rattle.shared_cache.specs.declared.log.Wire.TheVariants.{Main, Side}
 use Rattle.shared_cache.specs.declared.log.ClientMode.{ClientMode}
 use Rattle.shared_cache.specs.declared.log.LogEntry.{LogEntry}
 use Rattle.shared_cache.specs.declared.log.LogEntry.TheVariants.{Ask, Send, Poll, TakeOut, Got, End, Bad}
 use Rattle.shared_cache.specs.declared.holding.Holding.{Holding}
 use Rattle.shared_cache.specs.declared.holding.Desk.{Desk}
-use Rattle.shared_cache.specs.declared.holding.Desk.TheVariants.{Waiting, There, Gone}
+use Rattle.shared_cache.specs.declared.holding.Desk.TheVariants.{Waiting}
 use Rattle.shared_cache.specs.declared.notices.Notice.{Notice}
 use Rattle.shared_cache.specs.declared.notices.Notice.TheVariants.{Reply, Keys, All, Broken, Other, Malformed}
 use Rattle.shared_cache.specs.Notices.{kind_of, named_keys, spoils, spoils_as}
-use Rattle.shared_cache.specs.Log.{handshake, replies, is_ended, is_ready, is_broken, is_broken_notice, caching_on, caching_on_for}
-use Rattle.shared_cache.specs.Held.{Setup, Key, Words, numbered, numbers, held_of, hit_of, used, unless, other_than, fetched, asked, sent_unless, hold, held_by, sent, open_fetch, left, last_use, held}
+use Rattle.shared_cache.specs.Log.{replies, is_ended, is_ready, is_broken, is_broken_notice, caching_on, caching_on_for}
+use Rattle.shared_cache.specs.Held.{Setup, Key, Words, numbered, numbers, held_of, hit_of, used, unless, other_than, fetched, asked, sent_unless, hold, sent, open_fetch, left, last_use, held}
 use Rattle.shared_cache.specs.Standing.{Keeps, touched, marks_by, mark_of}
 use Rattle.shared_cache.proofs.Fetches.{unless_none}
 use Rattle.shared_cache.proofs.Slots.{held_filter, held_map, hold_other, hold_used, none_held}

@@ -1,5 +1,5 @@
 -- Filters and maps in place, for the code of the cache.
-use Rattle.std.proofs.Common.{◌≡◌, ◌+◌, ◌<◌, ◌++◌, ◌&&◌, ◌||◌, ℕ, suc, List, [], ◌∷◌, length, map, take, drop, set, get_or, Bool, true, false, cond, not, sym, ap, ◌∙◌, refl, arith, append_assoc, append-nil, length-take}
+use Rattle.std.proofs.Common.{◌≡◌, ◌+◌, ◌<◌, ◌++◌, ◌&&◌, ◌||◌, ℕ, List, [], ◌∷◌, length, map, take, drop, set, get_or, Bool, true, false, cond, not, sym, ap, ◌∙◌, refl, arith, append_assoc}
 use Rattle.std.proofs.Common.{Option, Some}
 use Rattle.std.proofs.lemmas.Option.{same_Some}
 use Rattle.resp_value.specs.declared.value.Value.{Value}

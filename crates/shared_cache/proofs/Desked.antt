@@ -1,14 +1,13 @@
 -- The replies for callers, and the bytes of the link, by the log.
-use Rattle.std.proofs.Common.{◌≡◌, ◌==◌, ◌+◌, ◌-◌, ◌<◌, ◌≤◌, ◌++◌, ◌&&◌, ◌||◌, ℕ, zero, suc, List, [], ◌∷◌, length, set, get_or, Bool, true, false, cond, not, Option, Some, None, sym, ap, ◌∙◌, refl, arith, rules, append-nil, append_assoc, ne_eqb, eq-eqb, subst, inl, inr}
+use Rattle.std.proofs.Common.{◌≡◌, ◌+◌, ◌<◌, ◌≤◌, ◌++◌, ◌&&◌, ℕ, zero, suc, List, [], ◌∷◌, length, set, get_or, Bool, true, false, cond, Option, Some, None, sym, ap, ◌∙◌, refl, arith, append-nil, append_assoc, ne_eqb, eq-eqb, inl, inr}
 use Rattle.std.proofs.lemmas.Bool.{cases_eq}
 use Rattle.std.specs.List.{flat_map}
 use Rattle.std.specs.Str.{bytes_eq}
 use Rattle.std.proofs.lemmas.Grind.{flat_map-append}
 use Rattle.resp_value.specs.Spelling.{request_spelling}
 use Rattle.resp_value.specs.declared.value.Value.{Value}
-use Rattle.shared_cache.specs.declared.log.Wire.TheVariants.{Main, Side}
+use Rattle.shared_cache.specs.declared.log.Wire.TheVariants.{Main}
 use Rattle.shared_cache.specs.declared.log.LogEntry.{LogEntry}
-use Rattle.shared_cache.specs.declared.log.LogEntry.TheVariants.{Ask, Send, Poll, TakeOut, Got, End, Bad}
 use Rattle.shared_cache.specs.declared.holding.Desk.{Desk}
 use Rattle.shared_cache.specs.declared.holding.Desk.TheVariants.{Waiting, There, Gone}
 use Rattle.shared_cache.specs.Log.{handshake, reply_in}

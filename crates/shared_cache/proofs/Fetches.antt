@@ -1,10 +1,8 @@
 -- What holds of the fetches of any log.
-use Rattle.std.proofs.Common.{◌≡◌, ◌==◌, ◌+◌, ◌<◌, ◌≤◌, ◌++◌, ◌&&◌, ◌||◌, ℕ, List, [], ◌∷◌, length, Bool, true, false, cond, not, Option, Some, None, sym, ap, ◌∙◌, refl, arith, rules, ne_eqb, length-append, subst}
-use Rattle.std.specs.Prelude.{nat_le, nat_lt}
+use Rattle.std.proofs.Common.{◌≡◌, ◌+◌, ◌<◌, ◌≤◌, ℕ, List, [], ◌∷◌, length, Bool, false, cond, Option, Some, None, ap, ◌∙◌, refl, arith, ne_eqb, length-append}
 use Rattle.std.proofs.lemmas.Bool.{lt-leb, or_from, and_left}
-use Rattle.std.proofs.lemmas.Bool.Decides.{nat_tests}
 use Rattle.resp_value.specs.declared.value.Value.{Value}
-use Rattle.command_words.specs.Queries.{key_of, same_query, writes}
+use Rattle.command_words.specs.Queries.{writes}
 use Rattle.shared_cache.specs.declared.log.Wire.{Wire}
 use Rattle.shared_cache.specs.declared.log.Wire.TheVariants.{Main, Side}
 use Rattle.shared_cache.specs.declared.log.LogEntry.{LogEntry}
@@ -13,8 +11,8 @@ use Rattle.shared_cache.specs.declared.holding.Holding.{Holding}
 use Rattle.shared_cache.specs.declared.notices.Notice.{Notice}
 use Rattle.shared_cache.specs.declared.notices.Notice.TheVariants.{Reply, Keys, All, Broken, Other, Malformed}
 use Rattle.shared_cache.specs.Notices.{notice_of, spoils}
-use Rattle.shared_cache.specs.Log.{handshake, replies, with_reply, caching_on_for, is_broken, is_broken_notice}
-use Rattle.shared_cache.specs.Held.{Setup, Key, Words, numbered, numbers, held_of, held, unless, other_than, fetched, asked, sent_unless, sent, open_fetch, left, last_use, leaving, filled_by, is_key}
+use Rattle.shared_cache.specs.Log.{replies, with_reply}
+use Rattle.shared_cache.specs.Held.{Setup, Key, Words, numbered, numbers, held_of, held, unless, other_than, fetched, asked, sent_unless, sent, open_fetch, left}
 
 pub unless_none : (t : Key → Bool) (o : Option Words) → o ≡ None → unless t o ≡ None
 unless_none t o e = ap (unless t) e

@@ -1,5 +1,5 @@
 -- How a value that was read keeps what a client's fields are by its log.
-use Rattle.std.proofs.Common.{◌≡◌, ◌==◌, ◌+◌, ◌-◌, ◌<◌, ◌≤◌, ◌++◌, ◌&&◌, ◌||◌, ℕ, zero, suc, List, [], ◌∷◌, length, map, set, get_or, Bool, true, false, cond, not, Option, Some, None, sym, ap, ◌∙◌, refl, arith, rules, append-nil, ne_eqb, eq-eqb, subst, inl, inr, length-set}
+use Rattle.std.proofs.Common.{◌≡◌, ◌+◌, ◌-◌, ◌<◌, ◌≤◌, ◌++◌, ◌&&◌, ◌||◌, ℕ, suc, List, [], ◌∷◌, length, map, set, get_or, Bool, true, false, cond, not, Option, Some, None, sym, ap, ◌∙◌, refl, arith, append-nil, ne_eqb, eq-eqb, inl, inr, length-set}
 use Rattle.std.specs.Prelude.{nat_lt, nat_le}
 use Rattle.std.specs.List.{filter}
 use Rattle.std.specs.Str.{bytes_eq}
@@ -10,17 +10,17 @@ use Rattle.command_words.specs.Queries.{key_of, names}
 use Rattle.command_words.specs.declared.written.Written.{Written}
 use Rattle.fill_mark.specs.declared.marks.Mark.{Mark}
 use Rattle.fill_mark.specs.Marks.{query_marked, without_number}
-use Rattle.shared_cache.specs.declared.log.Wire.TheVariants.{Main, Side}
+use Rattle.shared_cache.specs.declared.log.Wire.TheVariants.{Main}
 use Rattle.shared_cache.specs.declared.log.LogEntry.{LogEntry}
-use Rattle.shared_cache.specs.declared.log.LogEntry.TheVariants.{Ask, Send, Poll, TakeOut, Got, End, Bad}
+use Rattle.shared_cache.specs.declared.log.LogEntry.TheVariants.{Got}
 use Rattle.shared_cache.specs.declared.holding.Holding.{Holding}
 use Rattle.shared_cache.specs.declared.holding.Desk.{Desk}
 use Rattle.shared_cache.specs.declared.holding.Desk.TheVariants.{Waiting, There, Gone}
 use Rattle.shared_cache.specs.declared.notices.Notice.{Notice}
 use Rattle.shared_cache.specs.declared.notices.Notice.TheVariants.{Reply, Keys, All, Broken, Other, Malformed}
 use Rattle.shared_cache.specs.Notices.{kind_of, named_keys, spoils, spoils_as, IsPush}
-use Rattle.shared_cache.specs.Log.{handshake, replies, reply_in, with_reply, is_accepted, is_ok_text, is_ready, is_broken, is_broken_notice}
-use Rattle.shared_cache.specs.Held.{Setup, Key, Words, shown_words, numbers, unless, filled_by, used, leaving, is_key, hold, held_by, sent, open_fetch, left, last_use, held}
+use Rattle.shared_cache.specs.Log.{replies, reply_in, with_reply, is_accepted, is_broken, is_broken_notice}
+use Rattle.shared_cache.specs.Held.{Setup, Key, Words, shown_words, numbers, unless, filled_by, used, leaving, is_key, hold, held_by, open_fetch, left, last_use, held}
 use Rattle.shared_cache.specs.Out.{is_polled}
 use Rattle.shared_cache.specs.Steps.{is_welcome}
 use Rattle.shared_cache.specs.Standing.{Keeps, desk_at, there, owed_in, touched, is_gone, refilled, marks_by, settled}

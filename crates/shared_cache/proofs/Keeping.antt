@@ -1,5 +1,5 @@
 -- How the turns that neither ask nor get keep what a client's fields are by its log.
-use Rattle.std.proofs.Common.{◌≡◌, ◌==◌, ◌+◌, ◌-◌, ◌<◌, ◌≤◌, ◌++◌, ◌&&◌, ◌||◌, ℕ, zero, suc, List, [], ◌∷◌, length, set, get_or, min, drop, Bool, true, false, cond, not, Option, Some, None, sym, ap, ◌∙◌, refl, arith, rules, append-nil, length-append, ne_eqb, eq-eqb, subst, inl, inr, below_more, add-one, length-set}
+use Rattle.std.proofs.Common.{◌≡◌, ◌==◌, ◌+◌, ◌-◌, ◌<◌, ◌≤◌, ◌++◌, ◌||◌, ℕ, suc, List, [], ◌∷◌, length, set, get_or, min, drop, Bool, true, false, cond, not, Option, None, sym, ap, ◌∙◌, refl, arith, append-nil, length-append, ne_eqb, eq-eqb, inl, inr, below_more, add-one, length-set}
 use Rattle.std.specs.Prelude.{nat_lt}
 use Rattle.std.specs.List.{filter, flat_map}
 use Rattle.std.proofs.lemmas.List.{length-drop}
@@ -17,10 +17,10 @@ use Rattle.shared_cache.specs.declared.log.LogEntry.TheVariants.{Ask, Send, Poll
 use Rattle.shared_cache.specs.declared.holding.Holding.{Holding}
 use Rattle.shared_cache.specs.declared.holding.Desk.{Desk}
 use Rattle.shared_cache.specs.declared.holding.Desk.TheVariants.{Waiting, There, Gone}
-use Rattle.shared_cache.specs.Log.{handshake, greetings, replies, reply_in, is_wire, is_ended, is_ready, is_broken}
-use Rattle.shared_cache.specs.Held.{Setup, Key, Words, sent, open_fetch, left, last_use, held, held_by, hold, unless, numbers}
-use Rattle.shared_cache.specs.Out.{out, taken, untaken, is_polled}
-use Rattle.shared_cache.specs.Standing.{Keeps, IsLast, desk_at, there, owed_in, marks_by, mark_of}
+use Rattle.shared_cache.specs.Log.{greetings, replies, reply_in, is_wire, is_ended}
+use Rattle.shared_cache.specs.Held.{Setup, Words, sent, open_fetch, left, last_use, numbers}
+use Rattle.shared_cache.specs.Out.{out, untaken, is_polled}
+use Rattle.shared_cache.specs.Standing.{Keeps, IsLast, desk_at, there, marks_by, mark_of}
 use Rattle.shared_cache.proofs.Fetches.{beyond, unless_none}
 use Rattle.shared_cache.proofs.Slots.{held_none, held_filter, hold_unless}
 use Rattle.shared_cache.proofs.Marked.{marks_none, marks_filter, mark_unless}

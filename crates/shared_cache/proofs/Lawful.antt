@@ -1,5 +1,5 @@
 -- The laws of a client's log, by induction along the entries.
-use Rattle.std.proofs.Common.{◌≡◌, ◌==◌, ◌+◌, ◌<◌, ◌≤◌, ◌++◌, ◌&&◌, ◌||◌, ◌⊎◌, ℕ, suc, List, [], ◌∷◌, length, drop, Bool, true, false, cond, not, Option, Some, None, Ok, Err, Result, sym, ap, ◌∙◌, refl, subst, inl, inr, arith, rules, append-nil, append_assoc, length-append, eq-eqb, ne_eqb}
+use Rattle.std.proofs.Common.{◌≡◌, ◌+◌, ◌≤◌, ◌++◌, ◌&&◌, ◌||◌, ◌⊎◌, ℕ, List, [], ◌∷◌, length, drop, Bool, true, false, cond, not, Option, Some, None, Ok, Err, Result, sym, ap, ◌∙◌, refl, subst, inl, inr, arith, append-nil, append_assoc, length-append, eq-eqb, ne_eqb}
 use Rattle.std.specs.Prelude.{codes}
 use Rattle.std.proofs.lemmas.Bool.{cases_eq, cases_lt, cases_Bool, and_parts, or_parts, not-true}
 use Rattle.std.proofs.lemmas.List.{drop-append-le, drop_all}
@@ -10,7 +10,7 @@ use Rattle.command_words.specs.declared.command.Command.TheVariants as command
 use Rattle.command_words.specs.declared.command.WordFault.{WordFault}
 use Rattle.command_words.specs.Words.{reading}
 use Rattle.command_words.specs.Control.{is_control}
-use Rattle.command_words.specs.Queries.{query_as, query_of, key_of, same_query, written_as, written_by, names, writes}
+use Rattle.command_words.specs.Queries.{query_as, key_of, same_query, written_as, written_by, names, writes}
 use Rattle.shared_cache.specs.declared.log.Wire.{Wire}
 use Rattle.shared_cache.specs.declared.log.Wire.TheVariants.{Main, Side}
 use Rattle.shared_cache.specs.declared.log.ClientCall.{ClientCall}
@@ -25,19 +25,19 @@ use Rattle.shared_cache.specs.declared.holding.Holding.{Holding}
 use Rattle.shared_cache.specs.declared.notices.Notice.{Notice}
 use Rattle.shared_cache.specs.declared.notices.Notice.TheVariants.{Reply, Keys, All, Broken, Other, Malformed}
 use Rattle.shared_cache.specs.Notices.{notice_of, spoils}
-use Rattle.shared_cache.specs.Log.{handshake, replies, reply_in, with_reply, is_wire, is_ended, is_ready, is_accepted, is_broken, caching_on, caching_on_for, reply}
-use Rattle.shared_cache.specs.Held.{Setup, Key, Words, held_of, unless, other_than, fetched, asked, sent_unless, hold, held_by, numbers, sent, open_fetch, left, last_use, held, commands}
+use Rattle.shared_cache.specs.Log.{handshake, replies, reply_in, with_reply, is_wire, is_ended, is_ready, is_accepted, is_broken, caching_on_for, reply}
+use Rattle.shared_cache.specs.Held.{Setup, Key, Words, held_of, unless, other_than, fetched, asked, sent_unless, hold, held_by, numbers, sent, open_fetch, left, last_use, held}
 use Rattle.shared_cache.specs.Out.{untaken, is_wanted}
 use Rattle.shared_cache.specs.Steps.{Turn, refused, is_full, polling, taking, getting, fault_of, client_step}
 use Rattle.shared_cache.specs.Laws.{Prefix, Every, IsQuery, IsCall, LegalLog, gots, Spares, WasSent, IsFetch, CommandsGrow, GotsGrow, HandshakeFirst, NoControl, OpenWasSent, SentReady, OpenWires, NoLaterWrite, HeldIsFetch, LegalStep}
 use Rattle.shared_cache.proofs.Fetches.{beyond}
 use Rattle.shared_cache.proofs.Stepping.{ask_down, ask_unready, ask_full, ask_ok, send_down, send_unready, send_control, send_full, send_ok}
 
-every_append : {A : Type 0} → (P : A → Type 0) (xs ys : List A) → Every P xs → Every P ys → Every P (xs ++ ys)
+pub every_append : {A : Type 0} → (P : A → Type 0) (xs ys : List A) → Every P xs → Every P ys → Every P (xs ++ ys)
 every_append P [] ys a b = b
 every_append P (x ∷ xs) ys a b = (a.0, every_append P xs ys a.1 b)
 
-every_weaker : {A : Type 0} → (P Q : A → Type 0) (xs : List A) → ((x : A) → P x → Q x) → Every P xs → Every Q xs
+pub every_weaker : {A : Type 0} → (P Q : A → Type 0) (xs : List A) → ((x : A) → P x → Q x) → Every P xs → Every Q xs
 every_weaker P Q [] f a = tt
 every_weaker P Q (x ∷ xs) f a = (f x a.0, every_weaker P Q xs f a.1)
 

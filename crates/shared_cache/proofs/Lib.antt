@@ -9,3 +9,4 @@ pub mod Stepping
 pub mod Asking
 pub mod Getting
 pub mod Lawful
+pub mod Ranked

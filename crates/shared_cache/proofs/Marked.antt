@@ -1,12 +1,12 @@
 -- How the marks change with the fetches.
-use Rattle.std.proofs.Common.{◌≡◌, ◌==◌, ◌+◌, ◌<◌, ◌≤◌, ◌++◌, ℕ, zero, suc, List, [], ◌∷◌, length, Bool, true, false, cond, not, Option, Some, None, sym, ap, ◌∙◌, refl, arith, rules, append-nil, eq-eqb, ne_eqb, inl, inr, subst}
+use Rattle.std.proofs.Common.{◌≡◌, ◌==◌, ◌<◌, ◌≤◌, ◌++◌, ℕ, zero, suc, List, [], ◌∷◌, Bool, true, false, cond, not, Option, Some, None, sym, ap, ◌∙◌, refl, arith, eq-eqb, ne_eqb, inl, inr, subst}
 use Rattle.std.specs.Prelude.{nat_lt}
 use Rattle.std.specs.List.{filter}
 use Rattle.std.proofs.lemmas.List.Elements.{filter-append}
 use Rattle.std.proofs.lemmas.Bool.{cases_lt, cases_eq, lt-ltb, le-ltb}
 use Rattle.command_words.specs.Queries.{key_of, same_query}
 use Rattle.fill_mark.specs.declared.marks.Mark.{Mark}
-use Rattle.fill_mark.specs.Marks.{query_marked, without_number, without_query, without_key}
+use Rattle.fill_mark.specs.Marks.{query_marked, without_number, without_query}
 use Rattle.shared_cache.specs.Held.{Key, Words, unless, other_than}
 use Rattle.shared_cache.specs.Standing.{mark_of, marks_by}
 

@@ -1,7 +1,6 @@
 -- How what is held changes with its fetches.
-use Rattle.std.proofs.Common.{◌≡◌, ◌==◌, ◌+◌, ◌<◌, ◌≤◌, ◌++◌, ◌&&◌, ◌||◌, ℕ, List, [], ◌∷◌, length, map, Bool, true, false, cond, not, Option, Some, None, sym, ap, ◌∙◌, refl, arith, rules, append-nil}
+use Rattle.std.proofs.Common.{◌≡◌, ◌+◌, ◌≤◌, ◌++◌, ℕ, List, [], ◌∷◌, length, map, Bool, true, false, cond, not, Option, Some, None, sym, ap, ◌∙◌, refl, arith, append-nil}
 use Rattle.std.specs.List.{filter}
-use Rattle.std.specs.Str.{bytes_eq}
 use Rattle.std.proofs.lemmas.List.Elements.{filter-append}
 use Rattle.std.proofs.lemmas.List.{map-append}
 use Rattle.resp_value.specs.declared.value.Value.{Value}

@@ -4,13 +4,13 @@ use Rattle.std.specs.Prelude.{nat_le, nat_lt}
 use Rattle.std.proofs.lemmas.Bool.{eqb-true, and_left, and_right, and_from, le-ltb, lt-ltb, lt-leb, le-leb}
 use Rattle.resp_value.specs.declared.value.Value.{Value}
 use Rattle.command_words.specs.Control.{is_control}
-use Rattle.shared_cache.specs.declared.log.Wire.TheVariants.{Main, Side}
+use Rattle.shared_cache.specs.declared.log.Wire.TheVariants.{Main}
 use Rattle.shared_cache.specs.declared.log.LogEntry.{LogEntry}
 use Rattle.shared_cache.specs.declared.log.LogEntry.TheVariants as entry
 use Rattle.shared_cache.specs.declared.log.ClientCall.{ClientCall}
 use Rattle.shared_cache.specs.declared.log.ClientCall.TheVariants.{Ask, Send, Poll, TakeOut, Got, End}
 use Rattle.shared_cache.specs.declared.log.ClientReply.{ClientReply}
-use Rattle.shared_cache.specs.declared.log.ClientReply.TheVariants.{Hit, Sent, NotYet, Answer, Bytes, Quiet, Noted, Refused}
+use Rattle.shared_cache.specs.declared.log.ClientReply.TheVariants.{Sent, Bytes, Quiet, Noted, Refused}
 use Rattle.shared_cache.specs.declared.log.ClientRefusal.{ClientRefusal}
 use Rattle.shared_cache.specs.declared.log.ClientRefusal.TheVariants.{Down, Unexpected, BadPush, LogFull, SetupRefused, NotReady, Control, NoNumber}
 use Rattle.shared_cache.specs.declared.holding.Holding.{Holding}
@@ -20,7 +20,7 @@ use Rattle.shared_cache.specs.Notices.{kind_of, IsPush}
 use Rattle.shared_cache.specs.Log.{replies, reply, is_ended, is_ready}
 use Rattle.shared_cache.specs.Held.{Setup, Words, held, held_of, numbers}
 use Rattle.shared_cache.specs.Out.{untaken, is_polled, is_wanted}
-use Rattle.shared_cache.specs.Steps.{Turn, refused, is_full, answer_ask, polling, taking, is_welcome, judged, judged_reply, fault_of, getting, client_step, ClientStep}
+use Rattle.shared_cache.specs.Steps.{refused, is_full, answer_ask, polling, taking, is_welcome, judged, fault_of, getting, client_step, ClientStep}
 
 -- an answer to an Ask is the step's
 pub stepped : (s : Setup) (log new : List LogEntry) (call : ClientCall) (o : Option Holding) (n : ℕ) (r : ClientReply)

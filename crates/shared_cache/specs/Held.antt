@@ -1,8 +1,9 @@
 -- Which fetches may fill the cache, and what the cache holds, as read off the log.
-use Rattle.std.specs.Prelude.{◌≡◌, ◌==◌, ◌+◌, ◌&&◌, ◌||◌, ◌++◌, ℕ, List, [], ◌∷◌, length, Bool, true, false, not, Option, Some, None, if◌then◌else◌, nat_lt, nat_le}
+use Rattle.std.specs.Prelude.{◌==◌, ◌+◌, ◌&&◌, ◌||◌, ◌++◌, ℕ, List, [], ◌∷◌, length, Bool, true, false, Option, Some, None, if◌then◌else◌, nat_lt, nat_le}
 use Rattle.std.specs.List.{list_any, flat_map}
 use Rattle.std.specs.Str.{bytes_eq}
-use Rattle.std.specs.Ordering.{nat_cmp, is_lt}
+use Rattle.std.specs.declared.cmp.Ordering.{Ordering}
+use Rattle.std.specs.Ordering.{nat_cmp, is_lt, ordering_then}
 use Rattle.std.specs.Cmp.Lexicographic.{slice_cmp}
 use Rattle.resp_value.specs.declared.value.Value.{Value}
 use Rattle.command_words.specs.Printed.{printed}
@@ -195,8 +196,12 @@ commands s Side log = []
 
 -- ---- what is held, in byte order of the printed words
 
+-- by the printed words, and were these the same, by the number of the fetch
+abbrev pub order : Holding → Holding → Ordering
+order o h = ordering_then (slice_cmp nat_cmp o.shown h.shown) (nat_cmp o.number h.number)
+
 abbrev pub is_before : Holding → Holding → Bool
-is_before o h = is_lt (slice_cmp nat_cmp o.shown h.shown)
+is_before o h = is_lt (order o h)
 
 -- how many come before it
 abbrev pub rank : Holding → List Holding → ℕ

@@ -1,5 +1,5 @@
 -- What holds of every legal log: the laws of a client's log.
-use Rattle.std.specs.Prelude.{◌≡◌, ◌+◌, ◌<◌, ◌++◌, ◌⊎◌, ℕ, List, [], ◌∷◌, length, drop, Bool, true, false, if◌then◌else◌, Option, Some, None}
+use Rattle.std.specs.Prelude.{◌≡◌, ◌+◌, ◌<◌, ◌≤◌, ◌++◌, ◌⊎◌, ℕ, List, [], ◌∷◌, length, drop, true, false, if◌then◌else◌, Some, None}
 use Rattle.resp_value.specs.declared.value.Value.{Value}
 use Rattle.command_words.specs.Control.{is_control}
 use Rattle.command_words.specs.Queries.{query_of, key_of, writes}
@@ -13,7 +13,7 @@ use Rattle.shared_cache.specs.declared.log.LogEntry.TheVariants.{Ask, Send, Poll
 use Rattle.shared_cache.specs.declared.holding.Holding.{Holding}
 use Rattle.shared_cache.specs.Notices.{spoils}
 use Rattle.shared_cache.specs.Log.{handshake, is_wire, is_ended, is_ready, caching_on_for, reply}
-use Rattle.shared_cache.specs.Held.{Setup, Key, Words, held, held_of, open_fetch, numbers, sent, commands}
+use Rattle.shared_cache.specs.Held.{Setup, Key, Words, held, held_of, held_at, rank, is_before, open_fetch, numbers, sent, commands}
 use Rattle.shared_cache.specs.declared.log.ClientReply.{ClientReply}
 use Rattle.shared_cache.specs.Steps.{client_step, ClientStep}
 
@@ -113,6 +113,16 @@ NoLaterWrite = (s : Setup) (log : List LogEntry) (n : ℕ) (q : Words) → Legal
 -- what is held is the reply to an open fetch
 abbrev pub HeldIsFetch : Type 0
 HeldIsFetch = (s : Setup) (log : List LogEntry) → Every (IsFetch s log) (held s log)
+
+-- each place below their number has one, and no other place; none is left out, and those at lower places come before
+pub record InOrder (hs : List Holding) : Type 0 where
+  pub filled : (place : ℕ) → place < length hs → (h : Holding) × (held_at place hs ≡ Some h)
+  pub beyond : (place : ℕ) → length hs ≤ place → held_at place hs ≡ None
+  pub listed : Every (λ h. held_at (rank h hs) hs ≡ Some h) hs
+  pub sorted : (p q : ℕ) (g h : Holding) → p < q → held_at p hs ≡ Some g → held_at q hs ≡ Some h → is_before g h ≡ true
+
+abbrev pub HeldInOrder : Type 0
+HeldInOrder = (s : Setup) (log : List LogEntry) → InOrder (held s log)
 
 -- a turn leaves a legal log legal
 abbrev pub LegalStep : Type 0

@@ -1,5 +1,5 @@
 -- What a value that was read is to a client: a reply, or a push of some kind (the Redis client-side caching reference).
-use Rattle.std.specs.Prelude.{◌≡◌, ◌||◌, ℕ, List, [], ◌∷◌, Bool, true, false, Option, Some, None, if◌then◌else◌, codes}
+use Rattle.std.specs.Prelude.{ℕ, List, [], ◌∷◌, Bool, true, false, if◌then◌else◌, codes}
 use Rattle.std.specs.List.{list_any}
 use Rattle.std.specs.Str.{bytes_eq}
 use Rattle.resp_value.specs.Tree.{Tree, Trees, blob, null, null_array, array, end, more}

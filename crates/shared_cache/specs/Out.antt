@@ -1,5 +1,5 @@
 -- The bytes for a client's links, and the replies for its callers, as read off the log.
-use Rattle.std.specs.Prelude.{◌≡◌, ◌==◌, ◌+◌, ◌-◌, ◌&&◌, ◌||◌, ℕ, List, [], ◌∷◌, length, drop, min, Bool, true, false, not, Option, Some, None, if◌then◌else◌, nat_lt, nat_le}
+use Rattle.std.specs.Prelude.{◌==◌, ◌+◌, ◌-◌, ◌&&◌, ◌||◌, ℕ, List, [], ◌∷◌, length, drop, min, Bool, false, not, if◌then◌else◌, nat_lt, nat_le}
 use Rattle.std.specs.List.{flat_map}
 use Rattle.resp_value.specs.Spelling.{request_spelling}
 use Rattle.shared_cache.specs.declared.log.Wire.{Wire}

@@ -1,11 +1,10 @@
 -- What a turn of a client answers, and the entry that it adds to the log.
-use Rattle.std.specs.Prelude.{◌≡◌, ◌==◌, ◌+◌, ◌&&◌, ◌||◌, ℕ, List, [], ◌∷◌, length, take, Bool, true, false, not, Option, Some, None, if◌then◌else◌, nat_lt, nat_le}
+use Rattle.std.specs.Prelude.{◌≡◌, ◌==◌, ◌+◌, ℕ, List, [], ◌∷◌, length, take, Bool, true, false, not, Option, Some, None, if◌then◌else◌, nat_le}
 use Rattle.resp_value.specs.declared.value.Value.{Value}
 use Rattle.resp_value.specs.declared.value.Value.TheVariants.{Map}
 use Rattle.command_words.specs.Control.{is_control}
 use Rattle.shared_cache.specs.declared.log.Wire.{Wire}
-use Rattle.shared_cache.specs.declared.log.Wire.TheVariants.{Main, Side}
-use Rattle.shared_cache.specs.declared.log.ClientMode.{ClientMode}
+use Rattle.shared_cache.specs.declared.log.Wire.TheVariants.{Main}
 use Rattle.shared_cache.specs.declared.log.LogEntry.{LogEntry}
 use Rattle.shared_cache.specs.declared.log.LogEntry.TheVariants as entry
 use Rattle.shared_cache.specs.declared.log.ClientCall.{ClientCall}
@@ -18,7 +17,7 @@ use Rattle.shared_cache.specs.declared.holding.Holding.{Holding}
 use Rattle.shared_cache.specs.declared.notices.Notice.{Notice}
 use Rattle.shared_cache.specs.declared.notices.Notice.TheVariants.{Reply, Keys, All, Broken, Other, Malformed}
 use Rattle.shared_cache.specs.Notices.{notice_of}
-use Rattle.shared_cache.specs.Log.{handshake, replies, reply, is_ok_text, is_ready, is_ended}
+use Rattle.shared_cache.specs.Log.{replies, reply, is_ok_text, is_ready, is_ended}
 use Rattle.shared_cache.specs.Held.{Setup, held_of, held, numbers}
 use Rattle.shared_cache.specs.Out.{untaken, is_wanted}
 

@@ -160,7 +160,11 @@ fn shown_words(alloc: Global, query: &Query) -> Result<Octets, NoMemory>
 fn is_before(left: &Holding, right: &Holding) -> bool
     ensures { result ≡ is_before left.now right.now }
 {
-    left.shown.as_slice().cmp(right.shown.as_slice()).is_lt()
+    left.shown
+        .as_slice()
+        .cmp(right.shown.as_slice())
+        .then(left.number.cmp(&right.number))
+        .is_lt()
 }
 
 fn rank(slot: &Holding, slots: &[Holding]) -> usize

@@ -1,5 +1,5 @@
 //! What holds of a client's log. Each function's contract is the law; none has work to do.
-ghost use Rattle.shared_cache.specs.Laws.{CommandsGrow, GotsGrow, HandshakeFirst, NoControl, OpenWasSent, SentReady, OpenWires, NoLaterWrite, HeldIsFetch, LegalStep};
+ghost use Rattle.shared_cache.specs.Laws.{CommandsGrow, GotsGrow, HandshakeFirst, NoControl, OpenWasSent, SentReady, OpenWires, NoLaterWrite, HeldIsFetch, HeldInOrder, LegalStep};
 
 /// A turn leaves a legal log legal.
 pub fn law_legal_step()
@@ -50,4 +50,10 @@ pub fn law_no_later_write()
 /// What is held is the reply to an open fetch.
 pub fn law_held_is_fetch()
     ensures { HeldIsFetch }
+{}
+
+/// What is held is listed by its places: each below the number of what is held has its own, in
+/// order, and no other place has any.
+pub fn law_held_in_order()
+    ensures { HeldInOrder }
 {}

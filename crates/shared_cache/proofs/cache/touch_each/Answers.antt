@@ -1,4 +1,4 @@
-use Rattle.std.proofs.Common.{◌≡◌, rules, ap, sym, ◌∙◌, cond, set, refl}
+use Rattle.std.proofs.Common.{◌≡◌, ap, sym, ◌∙◌, cond, set}
 use Rattle.std.specs.Str.{bytes_eq}
 use Rattle.command_words.specs.Queries.{key_of}
 use Rattle.shared_cache.specs.declared.holding.Holding.{Holding}

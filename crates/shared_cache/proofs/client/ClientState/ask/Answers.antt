@@ -1,8 +1,8 @@
-use Rattle.std.proofs.Common.{ap, sym, ◌∙◌, ◌≡◌, ◌+◌}
+use Rattle.std.proofs.Common.{ap, sym, ◌∙◌, ◌+◌}
 use Rattle.shared_cache.specs.declared.log.ClientRefusal.TheVariants.{LogFull}
 use Rattle.shared_cache.specs.Held.{held, held_of, numbers}
 use Rattle.shared_cache.specs.Standing.{Standing}
-use Rattle.shared_cache.specs.Steps.{Turn, refused, answer_ask}
+use Rattle.shared_cache.specs.Steps.{refused, answer_ask}
 use Rattle.shared_cache.proofs.Stepping.{stepped, ask_down, ask_unready, ask_full, ask_ok}
 use Rattle.shared_cache.proofs.client.ClientState.ask.Goals as goal
 

@@ -1,7 +1,6 @@
 use Rattle.std.proofs.Common.{ap, sym, ◌∙◌}
 use Rattle.shared_cache.specs.declared.log.ClientReply.TheVariants.{Noted}
 use Rattle.shared_cache.specs.Standing.{Standing}
-use Rattle.shared_cache.specs.Steps.{Turn}
 use Rattle.shared_cache.proofs.Stepping.{end_over, end_ok}
 use Rattle.shared_cache.proofs.client.ClientState.end.Goals as goal
 

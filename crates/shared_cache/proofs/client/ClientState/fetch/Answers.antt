@@ -1,19 +1,12 @@
-use Rattle.std.proofs.Common.{◌≡◌, ◌+◌, ◌-◌, ◌<◌, ◌≤◌, ◌++◌, ◌∷◌, [], ℕ, List, true, false, cond, not, length, min, take, drop, reverse, arith, ap, sym, ◌∙◌, refl, subst, Some, None}
-use Rattle.std.specs.Prelude.{is_some, nat_le}
-use Rattle.shared_cache.specs.declared.log.Wire.TheVariants.{Main, Side}
+use Rattle.std.proofs.Common.{◌≡◌, ◌+◌, ◌++◌, ◌∷◌, [], true, false, cond, reverse, arith, ap, ◌∙◌, None}
+use Rattle.shared_cache.specs.declared.log.Wire.TheVariants.{Main}
 use Rattle.shared_cache.specs.declared.log.LogEntry.TheVariants as entry
-use Rattle.shared_cache.specs.Log.{is_ended, is_ready, replies}
-use Rattle.shared_cache.specs.Held.{held, held_of, numbers}
-use Rattle.shared_cache.specs.Out.{untaken, is_wanted}
-use Rattle.shared_cache.specs.Steps.{fault_of}
+use Rattle.shared_cache.specs.Log.{is_ended, is_ready}
+use Rattle.shared_cache.specs.Held.{held, held_of}
 use Rattle.shared_cache.specs.Standing.{Standing}
-use Rattle.shared_cache.proofs.Logged.{pushed, count_reverse, room_left, at_most_one}
-use Rattle.std.proofs.lemmas.Bool.{cases_Bool}
-use Rattle.std.proofs.Common.{inl, inr}
+use Rattle.shared_cache.proofs.Logged.{pushed, at_most_one}
 use Rattle.resp_value.specs.Spelling.{request_spelling}
 use Rattle.fill_mark.specs.Marks.{begun}
-use Rattle.shared_cache.specs.declared.holding.Desk.TheVariants.{Waiting}
-use Rattle.shared_cache.specs.Standing.{Keeps}
 use Rattle.shared_cache.proofs.Asking.{keeps_fetch_as}
 use Rattle.shared_cache.proofs.client.ClientState.fetch.Goals as goal
 

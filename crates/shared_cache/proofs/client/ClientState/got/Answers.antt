@@ -3,7 +3,6 @@ use Rattle.shared_cache.specs.declared.log.ClientReply.TheVariants.{Refused}
 use Rattle.shared_cache.specs.declared.log.ClientRefusal.TheVariants.{BadPush}
 use Rattle.shared_cache.specs.declared.log.Wire.TheVariants.{Main}
 use Rattle.shared_cache.specs.Standing.{Standing}
-use Rattle.shared_cache.specs.Steps.{Turn}
 use Rattle.shared_cache.proofs.Stepping.{got_down, got_bad, fault_malformed}
 use Rattle.shared_cache.proofs.client.ClientState.got.Goals as goal
 

@@ -2,7 +2,7 @@ use Rattle.std.proofs.Common.{ap, sym, ◌∙◌}
 use Rattle.shared_cache.specs.declared.log.ClientReply.TheVariants.{Noted}
 use Rattle.shared_cache.specs.declared.log.ClientRefusal.TheVariants.{LogFull}
 use Rattle.shared_cache.specs.Standing.{Standing}
-use Rattle.shared_cache.specs.Steps.{Turn, refused}
+use Rattle.shared_cache.specs.Steps.{refused}
 use Rattle.shared_cache.proofs.Stepping.{got_full, got_ok, fault_push}
 use Rattle.shared_cache.proofs.client.ClientState.got_push.Goals as goal
 

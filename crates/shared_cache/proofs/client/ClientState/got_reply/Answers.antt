@@ -4,7 +4,7 @@ use Rattle.shared_cache.specs.declared.log.Wire.TheVariants.{Main}
 use Rattle.shared_cache.specs.declared.log.ClientReply.TheVariants.{Noted, Refused}
 use Rattle.shared_cache.specs.declared.log.ClientRefusal.TheVariants.{LogFull, Unexpected, SetupRefused}
 use Rattle.shared_cache.specs.Standing.{Standing}
-use Rattle.shared_cache.specs.Steps.{Turn, refused}
+use Rattle.shared_cache.specs.Steps.{refused}
 use Rattle.shared_cache.proofs.Stepping.{got_bad, got_full, got_ok, fault_unexpected, fault_refused, fault_none}
 use Rattle.shared_cache.proofs.client.ClientState.got_reply.Goals as goal
 

@@ -1,23 +1,14 @@
-use Rattle.std.proofs.Common.{◌≡◌, ◌+◌, ◌-◌, ◌<◌, ◌≤◌, ◌++◌, ◌∷◌, [], ℕ, List, true, false, cond, not, length, min, take, drop, reverse, arith, ap, sym, ◌∙◌, refl, subst, Some, None}
-use Rattle.std.specs.Prelude.{is_some, nat_le}
-use Rattle.shared_cache.specs.declared.log.Wire.TheVariants.{Main, Side}
-use Rattle.shared_cache.specs.declared.log.LogEntry.TheVariants as entry
-use Rattle.shared_cache.specs.Log.{is_ended, is_ready, replies}
-use Rattle.shared_cache.specs.Held.{held, held_of, numbers}
-use Rattle.shared_cache.specs.Out.{untaken, is_wanted}
-use Rattle.shared_cache.specs.Steps.{fault_of}
+use Rattle.std.proofs.Common.{◌≡◌, ◌+◌, ◌-◌, true, false, reverse, arith, ap, sym, ◌∙◌, refl, Some, None}
+use Rattle.shared_cache.specs.declared.log.Wire.TheVariants.{Main}
+use Rattle.shared_cache.specs.Log.{is_ended, replies}
 use Rattle.shared_cache.specs.Standing.{Standing}
-use Rattle.shared_cache.proofs.Logged.{pushed, count_reverse, room_left, at_most_one}
-use Rattle.std.proofs.Common.{get_or, set}
-use Rattle.std.specs.Prelude.{slice_index_or}
-use Rattle.resp_value.specs.declared.value.Value.{Value}
+use Rattle.shared_cache.proofs.Logged.{pushed}
 use Rattle.shared_cache.specs.declared.log.ClientCall.TheVariants as call
 use Rattle.shared_cache.specs.declared.log.ClientReply.TheVariants.{Answer}
 use Rattle.shared_cache.specs.declared.log.ClientRefusal.TheVariants.{NoNumber}
-use Rattle.shared_cache.specs.declared.holding.Desk.TheVariants.{Gone, Waiting, There}
 use Rattle.shared_cache.specs.Log.{reply_in}
 use Rattle.shared_cache.specs.Out.{is_polled}
-use Rattle.shared_cache.specs.Steps.{Turn, client_step, refused}
+use Rattle.shared_cache.specs.Steps.{client_step, refused}
 use Rattle.shared_cache.proofs.Desked.{gone_is, waits_is, there_is, owed_gone}
 use Rattle.shared_cache.proofs.Keeping.{keeps_poll}
 use Rattle.shared_cache.proofs.Stepping.{poll_unwanted, poll_wanted, low, high, handed, wanted}

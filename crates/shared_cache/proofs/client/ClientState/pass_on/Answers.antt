@@ -1,14 +1,6 @@
-use Rattle.std.proofs.Common.{◌≡◌, ◌+◌, ◌-◌, ◌<◌, ◌≤◌, ◌++◌, ◌∷◌, [], ℕ, List, true, false, cond, not, length, min, take, drop, reverse, arith, ap, sym, ◌∙◌, refl, subst, Some, None}
-use Rattle.std.specs.Prelude.{is_some, nat_le}
-use Rattle.shared_cache.specs.declared.log.Wire.TheVariants.{Main, Side}
+use Rattle.std.proofs.Common.{◌++◌, ◌∷◌, [], not, arith, ap, ◌∙◌}
 use Rattle.shared_cache.specs.declared.log.LogEntry.TheVariants as entry
-use Rattle.shared_cache.specs.Log.{is_ended, is_ready, replies}
-use Rattle.shared_cache.specs.Held.{held, held_of, numbers}
-use Rattle.shared_cache.specs.Out.{untaken, is_wanted}
-use Rattle.shared_cache.specs.Steps.{fault_of}
-use Rattle.shared_cache.specs.Standing.{Standing}
-use Rattle.shared_cache.proofs.Logged.{pushed, count_reverse, room_left, at_most_one}
-use Rattle.resp_value.specs.Spelling.{request_spelling}
+use Rattle.shared_cache.proofs.Logged.{pushed, at_most_one}
 use Rattle.std.specs.List.{filter}
 use Rattle.command_words.specs.Queries.{key_of, names}
 use Rattle.fill_mark.specs.declared.marks.Mark.{Mark}

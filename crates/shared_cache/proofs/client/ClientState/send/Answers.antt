@@ -1,7 +1,7 @@
-use Rattle.std.proofs.Common.{ap, sym, ◌∙◌, ◌≡◌}
+use Rattle.std.proofs.Common.{ap, sym, ◌∙◌}
 use Rattle.shared_cache.specs.declared.log.ClientReply.TheVariants.{Sent}
 use Rattle.shared_cache.specs.declared.log.ClientRefusal.TheVariants.{LogFull}
-use Rattle.shared_cache.specs.Steps.{Turn, refused}
+use Rattle.shared_cache.specs.Steps.{refused}
 use Rattle.shared_cache.proofs.Stepping.{send_down, send_unready, send_control, send_full, send_ok}
 use Rattle.shared_cache.proofs.client.ClientState.send.Goals as goal
 

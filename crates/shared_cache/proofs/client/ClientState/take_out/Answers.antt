@@ -1,8 +1,7 @@
-use Rattle.std.proofs.Common.{ap, sym, ◌∙◌, ◌≡◌}
-use Rattle.shared_cache.specs.declared.log.ClientReply.TheVariants.{Bytes, Refused}
+use Rattle.std.proofs.Common.{ap, sym, ◌∙◌}
+use Rattle.shared_cache.specs.declared.log.ClientReply.TheVariants.{Bytes}
 use Rattle.shared_cache.specs.declared.log.ClientRefusal.TheVariants.{LogFull}
-use Rattle.shared_cache.specs.Standing.{Standing}
-use Rattle.shared_cache.specs.Steps.{Turn, refused}
+use Rattle.shared_cache.specs.Steps.{refused}
 use Rattle.shared_cache.proofs.Stepping.{take_down, take_quiet, take_full, take_ok}
 use Rattle.shared_cache.proofs.client.ClientState.take_out.Goals as goal
 
