@@ -33,12 +33,6 @@ consumes_more (Some x) None c bs cs p q = absurd p
 consumes_more (Some x) (Some y) None bs cs p q = absurd q
 consumes_more (Some x) (Some y) (Some z) bs cs p q = p ∙ ap (λ l. bs ++ l) q ∙ sym (append_assoc bs cs z)
 
-pub consumes_kept : (a b c : Option (List ℕ)) (bs : List ℕ) → Consumes a b bs → Keeps b c → Consumes a c bs
-consumes_kept None b c bs p q = tt
-consumes_kept (Some x) None c bs p q = absurd p
-consumes_kept (Some x) (Some y) None bs p q = absurd q
-consumes_kept (Some x) (Some y) (Some z) bs p q = p ∙ ap (λ l. bs ++ l) (sym q)
-
 -- behind a byte that was read
 pub consumes_byte : (a b c : Option (List ℕ)) (bs : List ℕ) (y : ℕ) (cs : List ℕ) → Consumes a b bs → Consumes b c cs → cs ≡ y ∷ [] → Consumes a c (bs ++ y ∷ [])
 consumes_byte a b c bs y cs p q e = subst (λ l. Consumes a c (bs ++ l)) e (consumes_more a b c bs cs p q)
@@ -60,18 +54,9 @@ pub something : (xs : List ℕ) (n : ℕ) → n ≡ length xs → (n == 0) ≡ f
 something [] n h f e = eqb-false n 0 f h
 something (x ∷ xs) n h f e = cc
 
-pub consumes_nothing : (a b : Option (List ℕ)) (bs : List ℕ) → Consumes a b bs → bs ≡ [] → Consumes a b []
-consumes_nothing a b bs p e = subst (λ l. Consumes a b l) e p
-
 -- a front was written
 pub moved : (bytes done rest more : List ℕ) (n : ℕ) → bytes ≡ done ++ rest → more ≡ drop n rest → bytes ≡ (done ++ take n rest) ++ more
 moved bytes done rest more n p q = p ∙ ap (λ l. done ++ l) (sym (take-append-drop n rest)) ∙ sym (append_assoc done (take n rest) (drop n rest)) ∙ ap (λ l. (done ++ take n rest) ++ l) (sym q)
-
-pub front_kept : (a b c : Option (List ℕ)) (bytes done rest : List ℕ) → bytes ≡ done ++ rest → Appends a b done → Keeps b c → AppendsFront a c bytes
-front_kept a b c bytes done rest e p q = (done, rest, e, appends_kept a b c done p q)
-
-pub all_written : (a b : Option (List ℕ)) (bytes done rest : List ℕ) → bytes ≡ done ++ rest → rest ≡ [] → Appends a b done → Appends a b bytes
-all_written a b bytes done rest e none p = subst (λ l. Appends a b l) (sym (e ∙ ap (λ l. done ++ l) none ∙ append-nil done)) p
 
 pub appends_as : (a b : Option (List ℕ)) (xs ys : List ℕ) → xs ≡ ys → Appends a b xs → Appends a b ys
 appends_as a b xs ys e p = subst (λ l. Appends a b l) e p

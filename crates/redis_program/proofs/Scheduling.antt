@@ -10,7 +10,7 @@ use Rattle.script_text.specs.declared.line.Line.{Line}
 use Rattle.script_text.specs.Printed.{text_of, line_text}
 use Rattle.world_run.specs.declared.fault.WorldFault.{WorldFault}
 use Rattle.world_run.specs.WorldState.{WorldState}
-use Rattle.world_run.specs.World.{Stepped, step, lines_of}
+use Rattle.world_run.specs.World.{Stepped, step}
 use Rattle.world_run.specs.Transcript.{on_step, transcript, after}
 use Rattle.redis_program.specs.Schedule.{most_lines, event_at, AreLinesOf, events_of, on_fault, stop}
 
@@ -80,9 +80,6 @@ transcript_refused w e ds f h = ap (λ r. on_step r [] (λ t. t.lines ++ transcr
 
 pub stop_refused : (w : WorldState) (n : ℕ) (e : Event) (ds : List Event) (f : WorldFault) → step w e ≡ Err f → stop w n (e ∷ ds) ≡ Some (n, f)
 stop_refused w n e ds f h = ap (λ r. on_fault r (λ f. Some (n, f)) (λ t. stop t.world (n + 1) ds)) h
-
-pub transcript_one : (w : WorldState) (e : Event) → transcript w (e ∷ []) ≡ lines_of (step w e)
-transcript_one w e = elim (step w e) as (λ r. on_step r [] (λ t. t.lines ++ []) ≡ lines_of r) [ Err f ↦ refl | Ok t ↦ append-nil t.lines ]
 
 -- what one event prints is the front of what it prints with others behind it
 pub transcript_begins : (w : WorldState) (e : Event) (ds : List Event) → (rest : List Line) × (transcript w (e ∷ ds) ≡ transcript w (e ∷ []) ++ rest)

@@ -1,14 +1,12 @@
 -- A turn of one connection leaves what the history says of the others.
-use Rattle.std.proofs.Common.{◌≡◌, ◌+◌, ◌-◌, ℕ, List, [], ◌∷◌, ◌++◌, Bool, true, false, cond, length, take, min, max, refl, sym, ap, ◌∙◌}
+use Rattle.std.proofs.Common.{◌≡◌, ◌+◌, ◌-◌, ℕ, List, [], ◌∷◌, ◌++◌, true, false, cond, length, take, min, max, refl, ap, ◌∙◌}
 use Rattle.std.specs.Prelude.{◌==◌, ◌&&◌, not, nat_lt, nat_le}
 use Rattle.serial_model.specs.declared.history.Entry.{Entry}
 use Rattle.serial_model.specs.declared.history.Entry.TheVariants as entry
-use Rattle.serial_model.specs.declared.history.BookCall.{BookCall}
 use Rattle.serial_model.specs.declared.history.BookCall.TheVariants.{Run, Take, Close}
-use Rattle.serial_model.specs.History.{admitted, is_admitted, is_connected, has_ended, latest, stream, taken, unsent, runs_of, IsLegal}
-use Rattle.serial_model.specs.Steps.{Turn, book_step, taking, gone, running, closing}
+use Rattle.serial_model.specs.History.{admitted, is_admitted, is_connected, has_ended, latest, stream, taken, unsent, runs_of}
+use Rattle.serial_model.specs.Steps.{book_step, taking, gone, running, closing}
 use Rattle.serial_model.proofs.Streams.{stream_other, stream_close}
-use Rattle.serial_model.proofs.Turning.{step_legal}
 
 -- what is the same of a connection in two histories, of as many connections
 pub record Same (c : ℕ) (past new : List Entry) : Type 0 where

@@ -1,5 +1,5 @@
 -- What one more entry does to the stream of a connection, and to what was taken of it.
-use Rattle.std.proofs.Common.{◌≡◌, ◌+◌, ◌-◌, ◌<◌, ◌≤◌, ℕ, List, [], ◌∷◌, ◌++◌, length, take, drop, min, sym, ap, ◌∙◌, refl, arith, Bool, true, false, cond, append-nil, length-append, inl, inr}
+use Rattle.std.proofs.Common.{◌≡◌, ◌+◌, ◌-◌, ◌<◌, ◌≤◌, ℕ, List, [], ◌∷◌, ◌++◌, length, drop, min, sym, ap, ◌∙◌, refl, arith, Bool, true, false, cond, append-nil, length-append, inl, inr}
 use Rattle.std.specs.Prelude.{◌==◌, ◌&&◌, not}
 use Rattle.std.specs.List.{flat_map}
 use Rattle.std.proofs.lemmas.Grind.{flat_map-append}
@@ -9,7 +9,7 @@ use Rattle.std.proofs.lemmas.Bool.{cases_lt}
 use Rattle.std.proofs.lemmas.Bool.Decides.{nat_tests}
 use Rattle.serial_model.specs.declared.history.Entry.{Entry}
 use Rattle.serial_model.specs.declared.history.Entry.TheVariants.{Admit, Run, Take, Close}
-use Rattle.serial_model.specs.History.{admitted, is_admitted, is_connected, has_ended, latest, ran, keyspace, Sending, Message, End, sent, spelled, sending_bytes, stream, taken, unsent, runs_of, IsLegal}
+use Rattle.serial_model.specs.History.{admitted, is_admitted, is_connected, has_ended, ran, keyspace, Message, End, sent, spelled, sending_bytes, stream, taken, unsent, runs_of, IsLegal}
 
 both_true : (a b : Bool) → (a && not b) ≡ true → (a ≡ true) × (b ≡ false)
 both_true true true h = absurd (let no : ⊥ = cc in no)

@@ -1,8 +1,8 @@
 -- What one turn, and then any list of turns, does to what was given and to what ran.
-use Rattle.std.proofs.Common.{◌≡◌, ◌+◌, ◌-◌, ◌<◌, ◌≤◌, ℕ, List, [], ◌∷◌, ◌++◌, length, take, drop, min, max, sym, ap, subst, ◌∙◌, refl, arith, Bool, true, false, cond, append-nil, append_assoc, length-append, inl, inr}
+use Rattle.std.proofs.Common.{◌≡◌, ◌+◌, ◌-◌, ℕ, List, [], ◌∷◌, ◌++◌, length, take, drop, min, max, sym, ap, subst, ◌∙◌, refl, arith, true, false, cond, append-nil, append_assoc, inl, inr}
 use Rattle.std.specs.Prelude.{◌==◌}
 use Rattle.std.proofs.lemmas.List.{take-append-le, length-drop}
-use Rattle.std.proofs.Math.Seq.{take-add, take-length}
+use Rattle.std.proofs.Math.Seq.{take-add}
 use Rattle.std.proofs.lemmas.List.{take_all}
 use Rattle.std.proofs.lemmas.Bool.{cases_lt, eqb-true}
 use Rattle.serial_model.specs.declared.history.Entry.{Entry}
@@ -12,7 +12,7 @@ use Rattle.serial_model.specs.declared.history.BookCall.TheVariants.{Admit, Run,
 use Rattle.serial_model.specs.declared.history.BookReply.{BookReply}
 use Rattle.serial_model.specs.declared.history.BookReply.TheVariants.{Admitted, Ran, Quiet, Bytes, Closed, Refused}
 use Rattle.serial_model.specs.declared.history.BookRefusal.TheVariants.{Gone, NoMemory}
-use Rattle.serial_model.specs.History.{admitted, is_connected, has_ended, latest, ran, keyspace, stream, taken, unsent, runs_of, IsLegal}
+use Rattle.serial_model.specs.History.{admitted, is_connected, has_ended, latest, stream, taken, unsent, runs_of, IsLegal}
 use Rattle.serial_model.specs.Steps.{Turn, taking, gone, running, closing, book_step, BookStep, Turns, given_by, given, ran_by, answered}
 use Rattle.serial_model.proofs.Streams.{stream_own, stream_other, stream_close, taken_le, not_ended, unsent_live}
 
@@ -183,19 +183,9 @@ pub run_step : (past : List Entry) (id now : ℕ) (words : List (List ℕ)) → 
 unfolding book_step
 run_step past id now words on = ap (λ v. cond v (running past id words now) (gone past id)) on
 
--- a turn that is no Admit leaves the number of connections
-pub run_admitted : (past new : List Entry) (id now : ℕ) (words : List (List ℕ)) (reply : BookReply) → BookStep past (Run id words now) reply new → admitted new ≡ admitted past
-unfolding book_step
-run_admitted past new id now words reply = by_step (λ r p. admitted p ≡ admitted past) past new (Run id words now) reply
-    (elim (is_connected past id) as (λ b. let t : Turn = cond b (running past id words now) (gone past id) in admitted t.past ≡ admitted past) [ true ↦ refl | false ↦ refl ])
-    refl
-
 pub take_count : (past : List Entry) (id most : ℕ) → admitted (book_step past (Take id most)).past ≡ admitted past
 unfolding book_step
 take_count past id most = elim (is_connected past id) as (λ b. let t : Turn = cond b (taking past id most (take most (unsent id past))) (gone past id) in admitted t.past ≡ admitted past) [
   | true ↦ elim (take most (unsent id past)) as (λ l. admitted (taking past id most l).past ≡ admitted past) [ [] ↦ refl | ◌∷◌ b bytes ↦ refl ]
   | false ↦ refl
 ]
-
-pub take_admitted : (past new : List Entry) (id most : ℕ) (reply : BookReply) → BookStep past (Take id most) reply new → admitted new ≡ admitted past
-take_admitted past new id most reply = by_step (λ r p. admitted p ≡ admitted past) past new (Take id most) reply (take_count past id most) refl

@@ -1,5 +1,5 @@
 -- What a history says. A past is a list of entries, the newest first; entries are numbered from 1.
-use Rattle.std.specs.Prelude.{◌≡◌, ◌+◌, ◌-◌, ◌≤◌, ◌&&◌, ◌==◌, ℕ, List, [], ◌∷◌, ◌++◌, Bool, true, false, not, if◌then◌else◌, nat_lt, nat_le, codes, length, min, take, drop, Ok, Err, Result}
+use Rattle.std.specs.Prelude.{◌≡◌, ◌+◌, ◌-◌, ◌≤◌, ◌&&◌, ◌==◌, ℕ, List, [], ◌∷◌, ◌++◌, Bool, true, false, not, if◌then◌else◌, nat_lt, nat_le, length, min, take, drop, Ok, Err, Result}
 use Rattle.std.specs.List.{flat_map}
 use Rattle.std.specs.FinMap.{empty}
 use Rattle.resp_value.specs.declared.value.Value.{Value}

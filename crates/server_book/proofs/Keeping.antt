@@ -1,9 +1,8 @@
 -- How each turn keeps what a book stands for.
 use Rattle.std.proofs.Common.{◌≡◌, ◌+◌, ◌-◌, ◌<◌, ◌≤◌, ℕ, List, [], ◌∷◌, ◌++◌, length, take, drop, max, sym, ap, ◌∙◌, refl, arith, Bool, true, false, cond, length-append, below_more, reverse, inl, inr, slice_index_or, slice_set, eq-eqb, ne_eqb, length-set}
-use Rattle.std.specs.Prelude.{◌==◌, ◌&&◌, ◌⊎◌, not}
+use Rattle.std.specs.Prelude.{◌==◌, not}
 use Rattle.std.specs.List.{count_by}
 use Rattle.std.proofs.lemmas.List.Sums.{sum_by-set, sum_by_push, get_or-le-sum_by, count_by-le-length}
-use Rattle.std.proofs.lemmas.Bool.Decides.{nat_tests}
 use Rattle.std.proofs.lemmas.List.{reverse-append, length-reverse, get_or_push, get_or_append_left, get_or-set_same, get_or-set_other, set-get_or}
 use Rattle.std.proofs.Math.Seq.{take-append_seam}
 use Prim.Native.Nat.{zero, suc}
@@ -12,10 +11,10 @@ use Rattle.command_words.specs.Effects.{Space}
 use Rattle.serial_model.specs.declared.history.Entry.{Entry}
 use Rattle.serial_model.specs.declared.history.Entry.TheVariants.{Admit, Run, Take, Close}
 use Rattle.serial_model.specs.declared.history.Post.{Post}
-use Rattle.serial_model.specs.History.{admitted, is_admitted, is_connected, has_ended, latest, ran, keyspace, spelled, unsent, posted}
+use Rattle.serial_model.specs.History.{is_connected, has_ended, latest, ran, keyspace, spelled, unsent, posted}
 use Rattle.serial_model.specs.declared.history.BookCall.TheVariants as call
 use Rattle.serial_model.specs.declared.history.BookReply.TheVariants.{Ran, Bytes, Closed}
-use Rattle.serial_model.specs.Steps.{Turn, book_step, taking, gone, running, closing}
+use Rattle.serial_model.specs.Steps.{book_step, taking, gone, running, closing}
 use Rattle.serial_model.proofs.Streams.{connected, not_ended, ended_fresh, unsent_close_own, unsent_close_other, unsent_fresh, unsent_admit, unsent_run_own, unsent_run_other, unsent_take_own, unsent_take_other}
 use Rattle.server_book.specs.Standing.{Keeps, HasRoom}
 
@@ -189,21 +188,6 @@ module _ (past : List Entry) (space : Space) (queues : List (List ℕ)) (ended :
   flag_at id on =
       let both = place_below id on in
       k.ended_is (id - 1) (omega (arith, k.ended_fit, both.1)) ∙ ap (λ c. has_ended c past) (omega (arith, both.0)) ∙ not_ended past id on
-
-  -- what the flags tell of any id
-  pub tells_connected : (id : ℕ) → 0 < id → id ≤ length ended → is_connected past id ≡ not (slice_index_or ended (id - 1) false)
-  tells_connected id pos most =
-      let inside : is_admitted past id ≡ true = let a : id ≤ admitted past = omega (arith, k.count, k.ended_fit) in grind (arith, nat_tests) in
-      ap (λ b. b && not (has_ended id past)) inside
-      ∙ ap (λ c. not (has_ended c past)) (let e : id ≡ (id - 1) + 1 = omega arith in e) ∙ ap not (sym (k.ended_is (id - 1) (omega arith)))
-
-  pub tells_outside : (id : ℕ) → (id ≡ 0) ⊎ (length ended < id) → is_connected past id ≡ false
-  tells_outside id h =
-      let outside : is_admitted past id ≡ false = elim h [
-        | inl z ↦ grind (arith, nat_tests)
-        | inr m ↦ let a : admitted past < id = omega (arith, k.count, k.ended_fit) in grind (arith, nat_tests)
-      ] in
-      ap (λ b. b && not (has_ended id past)) outside
 
   pub keeps_close : (id : ℕ) → is_connected past id ≡ true → Keeps (Close id ∷ past) space (slice_set queues (id - 1) []) (slice_set ended (id - 1) true) moment
   keeps_close id on =

@@ -1,16 +1,13 @@
 -- What was fed, run and stopped, put together.
-use Rattle.std.proofs.Common.{◌≡◌, ℕ, List, ◌++◌, Bool, Option, Result, Ok, Err, sym, ap, subst, ◌∙◌, append_assoc}
+use Rattle.std.proofs.Common.{◌≡◌, ℕ, List, ◌++◌, Bool, Option, ap, subst, ◌∙◌, append_assoc}
 use Rattle.resp_stream.specs.declared.fault.StreamFault.{StreamFault}
 use Rattle.resp_stream.specs.Stream.{Stream}
 use Rattle.resp_laws.specs.Parse.{parse}
 use Rattle.serial_model.specs.declared.history.Entry.{Entry}
 use Rattle.script_text.specs.declared.line.Line.{Line}
-use Rattle.world_run.specs.declared.fault.WorldFault.{WorldFault}
-use Rattle.world_run.specs.declared.fault.WorldFault.TheVariants.{NoMemory}
 use Rattle.world_run.specs.declared.link.Link.{Link}
 use Rattle.world_run.specs.Played.{StopsShort, served, served_lines, stopped}
-use Rattle.world_run.specs.Moves.{Moved, Moves, MovesShort, ran_fed}
-use Rattle.world_run.specs.World.{MoveGives, moved_lines, moved_past}
+use Rattle.world_run.specs.Moves.{Moves, MovesShort, ran_fed}
 use Rattle.world_run.proofs.Short.{served_grows, stopped_grows, short_first, short_then}
 
 module _ (id : ℕ) (past : List Entry) (link : Link) (ended : Bool) (lines lines1 : List Line) where
@@ -47,16 +44,3 @@ module _ (id : ℕ) (past : List Entry) (link : Link) (ended : Bool) (lines line
           ∙ ap (λ l. l ++ (stopped id link.name (parse link.reader).fault ended (served id (parse link.reader).requests past)).lines) ran.1
           ∙ append_assoc lines (served_lines id link.name (parse link.reader).requests past) _,
     )
-
--- ---- a move that was made is what its definition gives
-
-module _ (move : Result Moved WorldFault) (m : Moved) (is : move ≡ Ok m) (past past' : List Entry) (link link' : Link) (lines lines' : List Line) where
-  pub moves_give : Moves m past' link' lines lines' → MoveGives move past link lines (Ok tt) past' link' lines'
-  moves_give h = (
-    m.lines,
-    is ∙ ap (λ p. Ok (record { past = p; link = m.link; lines = m.lines })) (sym h.0) ∙ ap (λ l. Ok (record { past = past'; link = l; lines = m.lines })) (sym h.1),
-    h.2,
-  )
-
-  pub short_gives : MovesShort m past lines past' lines' → MoveGives move past link lines (Err NoMemory) past' link' lines'
-  short_gives s = subst (λ r. StopsShort past lines (moved_past past r) (moved_lines r) past' lines') (sym is) s

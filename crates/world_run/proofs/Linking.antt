@@ -1,6 +1,6 @@
 -- Links that flow one after the other.
 use Rattle.std.proofs.Common.{◌≡◌, ◌+◌, ◌<◌, ◌≤◌, ℕ, List, [], ◌∷◌, ◌++◌, length, drop, slice_index_or, slice_set, refl, sym, ap, subst, ◌∙◌, append_assoc, append-nil, arith, length-append, length-drop, drop-cons}
-use Rattle.std.proofs.lemmas.List.{get_or_read, get_or-append_right, get_or-drop, drop_all}
+use Rattle.std.proofs.lemmas.List.{get_or_read, get_or-append_right, get_or-drop}
 use Rattle.std.proofs.Math.Numerals.{suc-eq-add-one}
 use Prim.Native.Nat.{suc}
 use Rattle.std.specs.Prelude.{◌-◌}
@@ -86,12 +86,3 @@ module _ (at : ℕ) (links0 links : List Link) (past0 past : List Entry) (lines 
         added = moved.2 ∙ ap (λ l. l ++ m.lines) h.added ∙ append_assoc lines h.told m.lines;
         count = same ∙ h.count;
       }
-
-  -- where all have flowed
-  pub flowed_all : length links0 ≤ at → (past ≡ (flows 1 links0 past0).world.past) × (links ≡ (flows 1 links0 past0).world.links) × (lines' ≡ lines ++ (flows 1 links0 past0).lines)
-  flowed_all all =
-      let none : drop at links0 ≡ [] = drop_all at links0 all in (
-        sym (h.past_is ∙ ap (λ l. (flows (at + 1) l past).world.past) none),
-        h.links_are ∙ ap (λ l. h.done ++ l) none ∙ sym (h.all_links ∙ ap (λ l. h.done ++ (flows (at + 1) l past).world.links) none),
-        h.added ∙ sym (ap (λ l. lines ++ l) (h.all_lines ∙ ap (λ l. h.told ++ (flows (at + 1) l past).lines) none ∙ append-nil h.told)),
-      )

@@ -1,13 +1,12 @@
 -- Where the names of links stand.
-use Rattle.std.proofs.Common.{◌≡◌, ◌+◌, ◌<◌, ◌≤◌, ℕ, List, [], ◌∷◌, ◌++◌, Bool, true, false, cond, Some, None, length, refl, sym, ap, ◌∙◌, arith, length-append}
-use Rattle.std.specs.Prelude.{◌==◌, nat_lt, position}
+use Rattle.std.proofs.Common.{◌≡◌, ◌+◌, ◌<◌, ◌≤◌, ℕ, List, [], Bool, true, false, cond, Some, None, length, refl, sym, ap, ◌∙◌, arith}
+use Rattle.std.specs.Prelude.{◌==◌, nat_lt}
 use Rattle.std.specs.List.{position_or_len}
 use Rattle.std.specs.declared.option.Option.{Option}
 use Rattle.std.specs.Str.{bytes_eq}
 use Rattle.std.proofs.lemmas.Bool.{eqb-true}
 use Rattle.std.proofs.lemmas.Bool.Decides.{nat_tests}
-use Rattle.std.proofs.lemmas.List.Folds.{position_or_len_push}
-use Rattle.std.proofs.lemmas.List.Sums.{prefix_len-le-length, prefix_len_passes}
+use Rattle.std.proofs.lemmas.List.Sums.{prefix_len_passes}
 use Rattle.std.specs.Prelude.{not}
 use Rattle.std.proofs.lemmas.List.Quantifiers.{position-Some}
 use Rattle.std.proofs.lemmas.Slice.Eq.{bytes_eq-Decides}
@@ -26,15 +25,6 @@ push_cases l n true true e le = let same : l ≡ n = eqb-true l n e in grind (ar
 push_cases l n false true e le = let same : l ≡ n = eqb-true l n e in grind (arith, nat_tests)
 push_cases l n true false e le = grind (arith, nat_tests)
 push_cases l n false false e le = grind (arith, nat_tests)
-
--- one more link at the end
-pub place_push : (p : Link → Bool) (xs : List Link) (y : Link) → position p (xs ++ y ∷ []) ≡ or_else (position p xs) (cond (p y) (Some (length xs)) None)
-place_push p xs y =
-    let l = position_or_len p xs in
-    let n = length xs in
-    ap (λ k. cond (nat_lt k (length (xs ++ y ∷ []))) (Some k) None) (position_or_len_push p xs y)
-    ∙ ap (λ m. cond (nat_lt (cond (l == n) (n + cond (p y) 0 1) l) m) (Some (cond (l == n) (n + cond (p y) 0 1) l)) None) (length-append xs (y ∷ []))
-    ∙ push_cases l n (p y) (l == n) refl (prefix_len-le-length (λ x. not (p x)) xs)
 
 pub same_name : (a b : List ℕ) → bytes_eq a b ≡ true → a ≡ b
 same_name a b = (bytes_eq-Decides a b).0

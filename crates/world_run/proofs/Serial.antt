@@ -274,16 +274,6 @@ module _ (heard : ℕ → List ℕ) (lines : List Line) (w : WorldState) (s : St
       unheard = λ i le. ap (λ b. heard i ++ cond b (piece i) []) (ne_eqb at i (λ e. omega (arith, le, below, same_size, e))) ∙ append-nil (heard i) ∙ s.unheard i (omega (arith, le, same_size));
     }
 
-    -- the same where nothing is heard
-    stands_unheard : ((i : ℕ) → piece i ≡ []) → Stands (λ i. heard i ++ []) (lines ++ m.lines) (record { past = m.past; links = moved_links })
-    unfolding moved_heard
-    stands_unheard none = stands_heard moved_heard (λ i. heard i ++ []) (lines ++ m.lines) (record { past = m.past; links = moved_links })
-        (λ i. ap (λ l. heard i ++ cond (at == i) l []) (none i) ∙ elim (at == i) as (λ b. heard i ++ cond b [] [] ≡ heard i ++ []) [ true ↦ refl | false ↦ refl ]) stands_move
-
-    -- where the first names this place
-    at_event : (name : List ℕ) → place_of name w ≡ Some at → (i : ℕ) → cond (is_place (place_of name w) i) (piece i) [] ≡ cond (at == i) (piece i) []
-    at_event name place i = ap (λ p. cond (is_place p i) (piece i) []) place
-
   -- all of them flow
   all_flowed : FlowsAll 1 w.links w.past (flows 1 w.links w.past) → Stands (λ i. heard i ++ reads w i None) (lines ++ (flows 1 w.links w.past).lines) (flows 1 w.links w.past).world
   unfolding at_place

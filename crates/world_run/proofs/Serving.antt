@@ -38,9 +38,6 @@ pub record Reads (id : ℕ) (link : List ℕ) (old now : Stream) (past0 past : L
   pub connected : is_connected past id ≡ true
   pub count : admitted past ≡ admitted past0
 
-pub reads_none : (id : ℕ) (link : List ℕ) (s : Stream) (past : List Entry) (lines : List Line) → is_connected past id ≡ true → Reads id link s s past past lines lines
-reads_none id link s past lines on = record { done = []; requests = refl; stream = refl; fault = refl; ran = refl; told = sym (append-nil lines); connected = on; count = refl }
-
 module _ (id : ℕ) (link : List ℕ) (old now : Stream) (past0 past : List Entry) (lines lines' : List Line) (h : Reads id link old now past0 past lines lines') where
   pub reads_more : (new : Stream) (words : List (List ℕ)) (past' : List Entry) (lines'' : List Line) → request_at (behind now.rest) ≡ Whole words new.rest → new ≡ moved_on now new.rest
       → Runs id link words past past' lines' lines'' → is_connected past' id ≡ true → admitted past' ≡ admitted past → Reads id link old new past0 past' lines lines''

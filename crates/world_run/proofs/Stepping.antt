@@ -1,16 +1,12 @@
 -- A step of the world, from what was moved over one link.
-use Rattle.std.proofs.Common.{◌≡◌, ◌+◌, ℕ, List, [], ◌∷◌, ◌++◌, Some, None, Result, Ok, Err, length, slice_set, refl, sym, ap, subst, ◌∙◌}
+use Rattle.std.proofs.Common.{◌≡◌, ◌+◌, ℕ, List, [], Some, None, Result, Ok, Err, slice_set, refl, sym, ap, subst, ◌∙◌}
 use Rattle.std.specs.declared.option.Option.{Option}
 use Rattle.std.proofs.lemmas.List.{set-get_or}
 use Rattle.serial_model.specs.declared.history.Entry.{Entry}
 use Rattle.script_text.specs.declared.event.Event.{Event}
 use Rattle.script_text.specs.declared.event.Event.TheVariants.{Raw, Say, Bytes, Out, Serve, Send, Recv, Flow, FlowAll, Cut}
-use Rattle.serial_model.specs.declared.history.BookReply.{BookReply}
 use Rattle.serial_model.specs.declared.history.BookCall.TheVariants as call
-use Rattle.serial_model.specs.History.{admitted}
-use Rattle.serial_model.specs.Steps.{Turn, book_step}
 use Rattle.script_text.specs.declared.line.Line.{Line}
-use Rattle.script_text.specs.declared.line.Line.TheVariants.{Admit}
 use Rattle.world_run.specs.declared.fault.WorldFault.{WorldFault}
 use Rattle.world_run.specs.declared.fault.WorldFault.TheVariants.{NoName, NameTaken, NothingThere, NoMemory}
 use Rattle.world_run.specs.declared.link.Link.{Link}
@@ -29,18 +25,6 @@ raw_short w name past' lines lines' stands same =
       | Some at ↦ short_none w.past w.past past' lines [] lines' stands same (grows_none w.past)
       | None ↦ short_none w.past _ past' lines _ lines' stands same (turn_grows name [] w.past call.Admit)
     ]
-
-pub raw_gives : (w : WorldState) (name : List ℕ) (past' : List Entry) (reply : BookReply) (lines lines' : List Line) (e id : ℕ) → place_of name w ≡ None
-    → book_step w.past call.Admit ≡ record { reply = reply; past = past' } → e ≡ length w.past + 1 → id ≡ admitted w.past + 1 → lines' ≡ lines ++ Admit e name id ∷ []
-    → StepGives w (Raw name) lines (Ok tt) (record { past = past'; links = w.links ++ fresh_link name ∷ [] }) lines'
-unfolding step book_step
-raw_gives w name past' reply lines lines' e id none turn is is_id told =
-    let links = w.links ++ fresh_link name ∷ [] in
-    let more = Admit (length w.past + 1) name (admitted w.past + 1) ∷ [] in (
-      more,
-      ap (raw_step w name) none ∙ ap (λ (t : Turn). Ok (record { world = record { past = t.past; links = links }; lines = more })) turn,
-      told ∙ ap (λ n. lines ++ Admit n name id ∷ []) is ∙ ap (λ n. lines ++ Admit (length w.past + 1) name n ∷ []) is_id,
-    )
 
 no_name : (a : List ℕ) → ◌≡◌ {A = Option (List ℕ)} None (Some a) → ⊥
 no_name a h = absurd (let no : ⊥ = cc in no)

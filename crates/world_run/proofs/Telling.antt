@@ -5,9 +5,8 @@ use Rattle.serial_model.specs.declared.history.BookCall.{BookCall}
 use Rattle.serial_model.specs.declared.history.BookCall.TheVariants as call
 use Rattle.serial_model.specs.declared.history.BookReply.{BookReply}
 use Rattle.serial_model.specs.declared.history.BookReply.TheVariants.{Admitted, Ran, Quiet, Bytes, Closed, Refused}
-use Rattle.serial_model.specs.declared.history.BookRefusal.TheVariants.{Gone, NoMemory}
 use Rattle.serial_model.specs.History.{admitted, is_connected, unsent}
-use Rattle.serial_model.specs.Steps.{Turn, book_step, BookStep, taking, running, gone, closing}
+use Rattle.serial_model.specs.Steps.{Turn, book_step, taking, running, gone, closing}
 use Rattle.script_text.specs.declared.line.Line.{Line}
 use Rattle.script_text.specs.declared.line.Line.TheVariants.{Run, Close}
 use Rattle.world_run.specs.Played.{reply_lines, closed, Runs, Closes}
@@ -16,16 +15,6 @@ use Rattle.world_run.specs.Played.{reply_lines, closed, Runs, Closes}
 by_turn : (P : BookReply → List Entry → Type 0) (past new : List Entry) (c : BookCall) (reply : BookReply) → P (book_step past c).reply (book_step past c).past
     → book_step past c ≡ record { reply = reply; past = new } → P reply new
 by_turn P past new c reply p h = subst (λ (t : Turn). P t.reply t.past) h p
-
--- a turn that memory did not stop is the step
-pub as_step : (past new : List Entry) (c : BookCall) (reply : BookReply) → (reply ≡ Refused NoMemory → ⊥) → BookStep past c reply new → book_step past c ≡ record { reply = reply; past = new }
-as_step past new c (Refused NoMemory) not h = absurd (not refl)
-as_step past new c (Refused (Gone i)) not h = h
-as_step past new c (Closed e) not h = h
-as_step past new c (Admitted e i) not h = h
-as_step past new c (Ran e) not h = h
-as_step past new c Quiet not h = h
-as_step past new c (Bytes e bytes) not h = h
 
 -- ---- a Run
 

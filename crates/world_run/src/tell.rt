@@ -6,7 +6,7 @@ use resp_value::NoMemory;
 use script_text::{Line, Lines};
 use server_book::{Book, BookCall, BookRefusal, BookReply};
 
-/// The number of the next entry.
+/// The number of the next entry. Memory runs out before the numbers do.
 pub fn next_entry(book: &Book) -> Result<u64, NoMemory>
     ensures { IfOk result (λ entry. entry ≡ length book.now.past + 1) }
 {

@@ -1,7 +1,7 @@
-use Rattle.std.proofs.Common.{◌≡◌, ◌+◌, ◌++◌, ◌∷◌, [], false, reverse, subst, sym, ap, ◌∙◌, arith}
-use Rattle.std.specs.Prelude.{vec_len, vec_capacity}
+use Rattle.std.proofs.Common.{◌+◌, ◌++◌, ◌∷◌, [], false, reverse, subst, sym, ap, ◌∙◌, arith}
+use Rattle.std.specs.Prelude.{vec_len}
 use Rattle.serial_model.specs.declared.history.Entry.TheVariants.{Admit}
-use Rattle.server_book.specs.Standing.{Keeps, HasRoom}
+use Rattle.server_book.specs.Standing.{Keeps}
 use Rattle.server_book.proofs.Keeping.{pushed, keeps_admit, room_admit}
 use Rattle.server_book.proofs.book.Book.admit.Goals as goal
 

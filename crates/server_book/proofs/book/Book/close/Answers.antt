@@ -1,11 +1,10 @@
-use Rattle.std.proofs.Common.{◌≡◌, ◌+◌, ◌-◌, ◌++◌, ◌∷◌, [], true, reverse, subst, sym, ap, ◌∙◌, arith}
+use Rattle.std.proofs.Common.{◌≡◌, ◌+◌, ◌-◌, ◌++◌, ◌∷◌, [], true, reverse, sym, ap, ◌∙◌, arith}
 use Rattle.std.specs.Prelude.{vec_len, vec_capacity}
 use Rattle.serial_model.specs.declared.history.Entry.TheVariants.{Close}
 use Rattle.serial_model.specs.declared.history.BookCall.TheVariants as call
 use Rattle.serial_model.specs.declared.history.BookReply.TheVariants.{Closed}
 use Rattle.serial_model.specs.History.{is_connected, posted}
 use Rattle.serial_model.specs.Steps.{book_step}
-use Rattle.server_book.specs.Standing.{Keeps, HasRoom}
 use Rattle.server_book.proofs.Keeping.{pushed, count_reverse, step_close, posted_close, last_post, keeps_close, flag_at, place_below, room_close, room_there}
 use Rattle.server_book.proofs.book.Book.close.Goals as goal
 

@@ -1,6 +1,6 @@
 use Rattle.std.proofs.Common.{◌≡◌, max, ◌+◌, ◌-◌, ◌++◌, ◌∷◌, [], reverse, length, true, sym, ap, subst, ◌∙◌, arith}
 use Rattle.serial_model.specs.History.{spelled}
-use Rattle.std.specs.Prelude.{vec_len, vec_capacity}
+use Rattle.std.specs.Prelude.{vec_len}
 use Rattle.serial_model.specs.declared.history.Entry.TheVariants.{Run}
 use Rattle.serial_model.specs.declared.history.BookCall.TheVariants as call
 use Rattle.serial_model.specs.declared.history.BookReply.TheVariants.{Ran}

@@ -1,6 +1,6 @@
-use Rattle.std.proofs.Common.{◌≡◌, ◌+◌, ◌-◌, ◌++◌, ◌∷◌, [], reverse, length, true, sym, ap, subst, ◌∙◌, take, arith, List, ℕ}
-use Rattle.std.specs.Prelude.{◌==◌, vec_len, vec_capacity}
-use Rattle.serial_model.specs.History.{is_connected, unsent}
+use Rattle.std.proofs.Common.{◌≡◌, ◌+◌, ◌++◌, ◌∷◌, [], reverse, length, true, sym, ap, ◌∙◌, take, arith}
+use Rattle.std.specs.Prelude.{◌==◌, vec_len}
+use Rattle.serial_model.specs.History.{is_connected}
 use Rattle.serial_model.specs.Steps.{book_step}
 use Rattle.serial_model.specs.declared.history.Entry.TheVariants.{Take}
 use Rattle.serial_model.specs.History.{posted}

@@ -1,6 +1,6 @@
-use Rattle.std.proofs.Common.{◌≡◌, true, reverse, length, sym, ap, ◌∙◌}
+use Rattle.std.proofs.Common.{◌≡◌, true, reverse, length, ap, ◌∙◌}
 use Rattle.serial_model.specs.History.{is_connected, unsent}
-use Rattle.server_book.proofs.Keeping.{queue_at, place_below}
+use Rattle.server_book.proofs.Keeping.{queue_at}
 use Rattle.server_book.proofs.book.Book.waiting.Goals as goal
 
 pub returns : goal.returns
