@@ -3,6 +3,8 @@
 //! `stream_bench gets 64` reads 64 MiB of requests; also `gets`, `replies`, `request_blobs`, `reply_blobs`. `all` reads each, and so does no word.
 #![tactic(auto)]
 
+ghost use Rattle.std.specs.Prelude.{◌≡◌, ◌*◌, length, IfOk};
+
 use resp_stream::{RequestReader, StreamFault, ValueReader};
 use std::alloc::Global;
 use std::{env, io};
@@ -10,8 +12,10 @@ use std::{env, io};
 /// How many bytes are fed at once, as a socket gives them.
 const PIECE: usize = 65536;
 
-/// The bytes, again and again, as often as they fit into a piece.
-fn repeated(alloc: Global, bytes: &[u8]) -> Result<Vec<u8>, StreamFault> {
+/// The bytes, again and again, as often as 32 bytes fit into a piece.
+fn repeated(alloc: Global, bytes: &[u8]) -> Result<Vec<u8>, StreamFault>
+    ensures { IfOk result (λ piece. length piece.items ≡ 2048 * length bytes.now) }
+{
     let mut piece = Vec::new(alloc);
     for _ in 0..PIECE / 32 {
         let Ok(()) = piece.extend_from_slice(bytes) else {
