@@ -141,6 +141,18 @@ fn a_run_writes_the_transcript_and_the_last_line_of_its_status(
         ),
         (
             "world",
+            "raw r\nbytes r *x\nserve r\nbytes r GET\\sa\\n\nserve r\nflow r\nflow r\nserve r 1\n",
+            Status::Refused,
+            "#1 admit r 1\nr bad 1 1\n#2 close r\nr end\nrefused 8 3\n",
+        ),
+        (
+            "world",
+            "raw r\nsay r Get\nsay r SET a b NX\nserve r\nsend r\nrecv r\nsend r 1\n",
+            Status::Refused,
+            "#1 admit r 1\n#2 run r Get\n#3 run r SET a b NX\n#4 take r 69\nr < -ERR\\swrong\\snumber\\sof\\sarguments\\sfor\\s'get'\\scommand\\r\\n-ERR\\ssyntax\\serror\\r\\n\nrefused 7 3\n",
+        ),
+        (
+            "world",
             "raw r\nbytes r \\x0D\n",
             Status::BadLine,
             "#1 admit r 1\nbad-line 2\n",
