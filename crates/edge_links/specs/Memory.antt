@@ -1,5 +1,6 @@
--- What a source and a sink in memory tell, and what they answer.
-use Rattle.std.specs.Prelude.{ℕ, ◌+◌, ◌-◌, ◌^◌, ◌==◌, ◌||◌, min, List, length, drop, Bool, if◌then◌else◌}
+-- What contracts see of a source and a sink in memory, and what these answer.
+use Rattle.std.specs.Prelude.{ℕ, ◌+◌, ◌-◌, ◌^◌, ◌==◌, ◌||◌, min, List, length, drop, Bool}
+use Rattle.std.specs.Prelude.{if◌then◌else◌}
 use Rattle.std.specs.List.{list_any}
 use Rattle.edge_links.specs.declared.memory.MemorySource.{MemorySource}
 use Rattle.edge_links.specs.declared.memory.MemorySink.{MemorySink}
@@ -8,11 +9,11 @@ use Rattle.edge_links.specs.declared.streams.SourceRead.TheVariants.{Bytes, End,
 use Rattle.edge_links.specs.declared.streams.Wrote.{Wrote}
 use Rattle.edge_links.specs.declared.streams.Wrote.TheVariants as wrote
 
--- the number of the next call, from 1; it stands still at its type's end
+-- the number of the next call, from 1; it stays at its type's last value
 abbrev pub next_call : ℕ → ℕ
 next_call calls = min (calls + 1) (2 ^ 64 - 1)
 
--- whether the call after so many is named as one that fails
+-- whether the next call is one of those that fail
 abbrev pub is_named : List ℕ → ℕ → Bool
 is_named fails calls = list_any (λ number. number == next_call calls) fails
 
@@ -49,4 +50,5 @@ writes_named s = s.fails.items
 abbrev pub write_answer : MemorySink → ℕ → Wrote
 write_answer s size =
     let taken = min (room_of s - length (bytes_written s)) size in
-    if is_named (writes_named s) (writes_made s) || taken == 0 then wrote.Failed else wrote.Took taken
+    if is_named (writes_named s) (writes_made s) || taken == 0 then wrote.Failed
+    else wrote.Took taken

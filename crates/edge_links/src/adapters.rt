@@ -1,4 +1,4 @@
-// std's readers and writers, standard input and output among them, as a source and a sink.
+//! std's readers and writers, standard input and output among them, as a source and a sink.
 ghost use Rattle.std.specs.Prelude.{◌≡◌, IfOk};
 ghost use Rattle.std.specs.Io.Buffered.{reader_remaining};
 ghost use Rattle.edge_links.specs.Counts.{nought};
@@ -9,13 +9,13 @@ use super::streams::{Sink, Source, SourceRead, Wrote};
 use std::alloc::Global;
 use std::io::{BufReader, Read, Write};
 
-/// How much is asked of a reader at once, in bytes.
+/// How many bytes are asked of a reader at once.
 const PIECE: usize = 65_536;
 
 /// A reader as a source, which asks for pieces of 64 KiB and gives of the piece it has.
 ///
-/// A piece that came short is passed on at once. The source tells what its reader tells, so over
-/// standard input it tells nothing.
+/// A piece that came short is passed on at once. The bytes that are left are those of the reader,
+/// so over standard input they are not known.
 #[derive(Drop)]
 pub struct ReaderSource<R: Read + Drop> {
     reader: BufReader<R>,
@@ -57,8 +57,8 @@ impl<R: Read + Drop> Source for ReaderSource<R> {
     }
 }
 
-/// A writer as a sink, which hands on each piece at once. The sink tells what its writer tells, so
-/// over standard output it tells nothing.
+/// A writer as a sink, which hands on each piece at once. The bytes written are those of the
+/// writer, so over standard output they are not known.
 #[derive(Drop)]
 pub struct WriterSink<W: Write + Drop> {
     writer: W,

@@ -1,4 +1,4 @@
-// The moment, where a clock tells it.
+//! A clock that gives the moment, the system's or one that is fixed.
 ghost use Rattle.std.specs.Prelude.{◌≡◌, ℕ, IfSome};
 ghost use Rattle.std.specs.declared.option.Option.{Option};
 ghost use Rattle.std.specs.declared.option.Option.TheVariants.{None, Some};
@@ -7,14 +7,14 @@ use std::time;
 
 /// The milliseconds since 1970 began.
 pub trait Clock {
-    /// The moment, where the clock tells it.
+    /// The moment, where it is known.
     ghost moment: { Self → Option ℕ };
 
     fn now_ms(&self) -> u64
         ensures { IfSome (moment self.now) (λ m. result ≡ m) };
 }
 
-/// A clock that stands.
+/// A clock that always gives the same moment.
 #[derive(Clone, Copy, Debug, Drop)]
 pub struct FixedClock {
     pub ms: u64,
@@ -28,7 +28,7 @@ impl Clock for FixedClock {
     }
 }
 
-/// The system's clock, which tells no moment. One that cannot be read gives 0.
+/// The system's clock, whose moment no contract knows. One that cannot be read gives 0.
 #[derive(Drop)]
 pub struct SystemClock<R> {
     rt: R,

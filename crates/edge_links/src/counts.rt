@@ -1,10 +1,10 @@
-// What an object at the edge counts.
+//! The counts of an object at the edge: faults, idle answers and ends.
 ghost use Rattle.std.specs.Prelude.{◌≡◌};
-ghost use Rattle.edge_links.specs.Counts.{FaultsRose, IdlesRose, EndsRose, nought};
+ghost use Rattle.edge_links.specs.Counts.{FaultCounted, IdleCounted, EndCounted, nought};
 
 /// How often an object failed, had nothing yet, and was at its end.
 ///
-/// A count never falls. One that stands at `u64::MAX` stays there, and counts as having risen.
+/// A count never falls, and one at `u64::MAX` stays there.
 #[derive(Clone, Copy, Debug, PartialEq, Eq)]
 pub struct Counts {
     pub faults: u64,
@@ -25,19 +25,19 @@ impl Counts {
     }
 
     pub fn fault(&mut self)
-        ensures { FaultsRose self.old self.new }
+        ensures { FaultCounted self.old self.new }
     {
         self.faults = self.faults.saturating_add(1);
     }
 
     pub fn idle(&mut self)
-        ensures { IdlesRose self.old self.new }
+        ensures { IdleCounted self.old self.new }
     {
         self.idles = self.idles.saturating_add(1);
     }
 
     pub fn end(&mut self)
-        ensures { EndsRose self.old self.new }
+        ensures { EndCounted self.old self.new }
     {
         self.ends = self.ends.saturating_add(1);
     }

@@ -1,8 +1,9 @@
 //! The outside as traits: where bytes come from and go to, who connects, and what time it is.
 //!
-//! Each object but a clock counts its faults, its idle answers and its ends. An answer that is no
-//! success comes only in a call in which its count rose, so what went wrong can be read off the
-//! object afterwards. Content is known where the object tells it, as the objects in memory do.
+//! Each object but a clock counts its faults, its idle answers and its ends. A call that does not
+//! succeed adds one to its count, so what went wrong can be read off the object afterwards. The
+//! bytes of an object in memory are known to contracts, those of a socket or of standard input
+//! are not.
 #![tactic(auto)]
 
 mod adapters;

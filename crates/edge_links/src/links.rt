@@ -1,14 +1,15 @@
-// Links to a peer, and who hands them out.
+//! Links to a peer, the acceptor that hands them out, and the net that listens and dials.
 ghost use Rattle.std.specs.Prelude.{◌≡◌, ◌<◌, ℕ, List, length};
 ghost use Rattle.std.specs.declared.option.Option.{Option};
 ghost use Rattle.std.specs.Io.KnownBytes.{Keeps};
 ghost use Rattle.edge_links.specs.Counts.{Counts};
 ghost use Rattle.edge_links.specs.Streams.{WriteTakes, WriteCounts};
-ghost use Rattle.edge_links.specs.Links.{LinkGives, LinkCounts, AcceptGives, AcceptCounts, NetCounts};
+ghost use Rattle.edge_links.specs.Links.{LinkGives, LinkCounts, AcceptGives, AcceptCounts};
+ghost use Rattle.edge_links.specs.Links.{NetCounts};
 
 use super::streams::Wrote;
 
-/// What a read of a link gave. `Idle` says that nothing came yet.
+/// What a read of a link gave. `Idle` means that nothing came yet.
 #[derive(Clone, Copy, Debug, PartialEq, Eq)]
 pub enum LinkRead {
     Bytes(usize),
@@ -17,7 +18,7 @@ pub enum LinkRead {
     Failed,
 }
 
-/// What an acceptor gave. `Closed` says that none will come any more.
+/// What an acceptor gave. `Closed` means that no more links come.
 #[derive(Debug, Drop)]
 pub enum Accepted<L> {
     Came(L),
@@ -30,12 +31,12 @@ pub enum Accepted<L> {
 #[derive(Clone, Copy, Debug, PartialEq, Eq)]
 pub struct NetFailed;
 
-/// A way to a peer and back.
+/// A connection to a peer, in both directions.
 pub trait Link {
-    /// The bytes that the peer's end still gives, where the link tells them.
+    /// The bytes that reads still give, where they are known.
     ghost left: { Self → Option (List ℕ) };
 
-    /// The bytes that were written to the peer, where the link tells them.
+    /// The bytes that were written to the peer, where they are known.
     ghost contents: { Self → Option (List ℕ) };
 
     ghost counts: { Self → Counts };
@@ -53,11 +54,11 @@ pub trait Link {
         ensures counts { WriteCounts result (counts self.old) (counts self.new) };
 }
 
-/// Gives the links of those who connect, each with its counts at 0.
+/// Accepts connections, each a link with its counts at 0.
 pub trait Acceptor {
     type Link: Link + Send + Drop;
 
-    /// The links that are still to come, in order, where the acceptor tells them.
+    /// The links that are still to come, in order, where they are known.
     ghost left: { Self → Option (List Self.Link) };
 
     ghost counts: { Self → Counts };
@@ -67,7 +68,7 @@ pub trait Acceptor {
         ensures counts { AcceptCounts Self.Link.counts result (counts self.old) (counts self.new) };
 }
 
-/// Listens for those who connect, and connects. What it hands out has its counts at 0.
+/// Listens and dials. What it hands out has its counts at 0.
 pub trait Net {
     type Link: Link + Send + Drop;
 

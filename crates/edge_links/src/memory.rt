@@ -1,4 +1,4 @@
-// A source and a sink in memory.
+//! A source and a sink in memory, which fail at the calls that are named in advance.
 ghost use Rattle.std.specs.Prelude.{◌≡◌, ◌≤◌, ◌<◌, [], length, IfOk, vec_capacity};
 ghost use Rattle.std.specs.declared.option.Option.TheVariants.{Some};
 
@@ -7,7 +7,7 @@ use super::counts::Counts;
 use super::streams::{Sink, Source, SourceRead, Wrote};
 use std::alloc::Global;
 
-/// Gives its bytes and then End. Reads are numbered from 1, and those in `fails` fail.
+/// Gives its bytes and then `End`. Reads are numbered from 1, and those in `fails` fail.
 #[derive(Debug, Drop)]
 pub struct MemorySource {
     bytes: Vec<u8>,
@@ -40,7 +40,8 @@ impl MemorySource {
 
 impl Source for MemorySource {
     ghost use Rattle.edge_links.specs.Streams.{ReadGives, ReadCounts};
-    ghost use Rattle.edge_links.specs.Memory.{bytes_left, next_call, read_answer, reads_made, reads_named};
+    ghost use Rattle.edge_links.specs.Memory.{bytes_left, next_call, read_answer, reads_made};
+    ghost use Rattle.edge_links.specs.Memory.{reads_named};
 
     ghost left = { λ s. Some (bytes_left s) };
 
@@ -87,7 +88,7 @@ impl MemorySink {
     ghost use Rattle.edge_links.specs.Counts.{nought};
     ghost use Rattle.edge_links.specs.Memory.{bytes_written, room_of, writes_made, writes_named};
 
-    /// The room is taken here: a write wants no memory.
+    /// The room is reserved here, so that no write takes memory.
     pub fn new(alloc: Global, room: usize, fails: Vec<u64>) -> Result<Self, NoMemory>
         ensures bytes { IfOk result (λ s. bytes_written s ≡ []) }
         ensures room { IfOk result (λ s. room_of s ≡ room) }
@@ -116,7 +117,8 @@ impl MemorySink {
 
 impl Sink for MemorySink {
     ghost use Rattle.edge_links.specs.Streams.{WriteTakes, WriteCounts};
-    ghost use Rattle.edge_links.specs.Memory.{bytes_written, next_call, room_of, write_answer, writes_made, writes_named};
+    ghost use Rattle.edge_links.specs.Memory.{bytes_written, next_call, room_of, write_answer};
+    ghost use Rattle.edge_links.specs.Memory.{writes_made, writes_named};
 
     ghost contents = { λ s. Some (bytes_written s) };
 

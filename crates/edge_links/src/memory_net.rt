@@ -1,13 +1,13 @@
-// A net in memory that has nobody on it.
+//! A net in memory on which nobody listens or dials.
 ghost use Rattle.std.specs.Prelude.{◌≡◌, []};
 ghost use Rattle.std.specs.declared.option.Option.TheVariants.{Some};
-ghost use Rattle.edge_links.specs.Counts.{FaultsRose, EndsRose, nought};
+ghost use Rattle.edge_links.specs.Counts.{FaultCounted, EndCounted, nought};
 
 use super::counts::Counts;
 use super::links::{Accepted, Acceptor, Link, LinkRead, Net, NetFailed};
 use super::streams::Wrote;
 
-/// A link whose peer is gone: reads give End, and writes fail.
+/// A link whose peer is gone: reads give `End`, and writes fail.
 #[derive(Debug, Drop)]
 pub struct EndedLink {
     counts: Counts,
@@ -32,7 +32,7 @@ impl Link for EndedLink {
 
     fn read(&mut self, _buf: &mut [u8]) -> LinkRead
         ensures answer { result ≡ LinkRead.End }
-        ensures counts { EndsRose self.old.counts self.new.counts }
+        ensures counts { EndCounted self.old.counts self.new.counts }
     {
         self.counts.end();
         LinkRead::End
@@ -40,14 +40,14 @@ impl Link for EndedLink {
 
     fn write(&mut self, _bytes: &[u8]) -> Wrote
         ensures answer { result ≡ Wrote.Failed }
-        ensures counts { FaultsRose self.old.counts self.new.counts }
+        ensures counts { FaultCounted self.old.counts self.new.counts }
     {
         self.counts.fault();
         Wrote::Failed
     }
 }
 
-/// An acceptor to whom nobody comes: it is closed.
+/// An acceptor that is closed.
 #[derive(Debug, Drop)]
 pub struct ClosedAcceptor {
     counts: Counts,
@@ -72,7 +72,7 @@ impl Acceptor for ClosedAcceptor {
 
     fn accept(&mut self) -> Accepted<EndedLink>
         ensures answer { result ≡ Accepted.Closed }
-        ensures counts { EndsRose self.old.counts self.new.counts }
+        ensures counts { EndCounted self.old.counts self.new.counts }
     {
         self.counts.end();
         Accepted::Closed
@@ -104,7 +104,7 @@ impl Net for MemoryNet {
 
     fn listen(&mut self, _port: u16) -> Result<ClosedAcceptor, NetFailed>
         ensures answer { result ≡ Err (record {}) }
-        ensures counts { FaultsRose self.old.counts self.new.counts }
+        ensures counts { FaultCounted self.old.counts self.new.counts }
     {
         self.counts.fault();
         Err(NetFailed)
@@ -112,7 +112,7 @@ impl Net for MemoryNet {
 
     fn dial(&mut self, _host: &str, _port: u16) -> Result<EndedLink, NetFailed>
         ensures answer { result ≡ Err (record {}) }
-        ensures counts { FaultsRose self.old.counts self.new.counts }
+        ensures counts { FaultCounted self.old.counts self.new.counts }
     {
         self.counts.fault();
         Err(NetFailed)

@@ -1,4 +1,4 @@
-// A source and a sink of bytes.
+//! A source and a sink of bytes.
 ghost use Rattle.std.specs.Prelude.{◌≡◌, ◌<◌, ℕ, List, length};
 ghost use Rattle.std.specs.declared.option.Option.{Option};
 ghost use Rattle.edge_links.specs.Counts.{Counts};
@@ -12,16 +12,16 @@ pub enum SourceRead {
     Failed,
 }
 
-/// What became of a piece. `Took(n)` took its first n bytes, at least one.
+/// What a write took. `Took(n)` is the first n bytes, at least one.
 #[derive(Clone, Copy, Debug, PartialEq, Eq)]
 pub enum Wrote {
     Took(usize),
     Failed,
 }
 
-/// Bytes in order, and then the end. `Failed` loses none: the next read goes on where it stood.
+/// Bytes in order, and then the end. `Failed` loses none: the next read goes on from there.
 pub trait Source {
-    /// The bytes that are left, where the source tells them.
+    /// The bytes that are left, where they are known.
     ghost left: { Self → Option (List ℕ) };
 
     ghost counts: { Self → Counts };
@@ -32,9 +32,9 @@ pub trait Source {
         ensures counts { ReadCounts result (counts self.old) (counts self.new) };
 }
 
-/// Takes bytes, in order.
+/// Takes bytes in order.
 pub trait Sink {
-    /// The bytes that were written, where the sink tells them.
+    /// The bytes that were written, where they are known.
     ghost contents: { Self → Option (List ℕ) };
 
     ghost counts: { Self → Counts };

@@ -1,3 +1,4 @@
+//! What the sources, sinks, clocks and nets of this crate answer.
 use super::*;
 use std::alloc::{AllocError, Global};
 use std::io;
@@ -129,14 +130,14 @@ fn a_reader_source_passes_a_short_piece_on_and_goes_on_after_a_fault(
 }
 
 #[test]
-fn standard_input_is_a_source(rt: HostRuntime) -> Result<(), Fail> {
+fn standard_input_is_a_source_that_ends(rt: HostRuntime) -> Result<(), Fail> {
     let mut source = ReaderSource::new(rt.alloc(), rt.stdin())?;
     assert!(rt; source.read(&mut [0]) == SourceRead::End);
     Ok(())
 }
 
 #[test]
-fn a_writer_sink_fails_where_nothing_is_taken(rt: HostRuntime) {
+fn a_writer_sink_takes_what_its_writer_takes_and_then_fails(rt: HostRuntime) {
     let mut sink = WriterSink::new(Halting { calls: 0 });
     for answer in [Wrote::Took(2), Wrote::Failed, Wrote::Failed] {
         assert!(rt; sink.write(b"abc") == answer);
@@ -150,7 +151,7 @@ fn standard_output_is_a_sink_that_takes_a_line_whole(rt: HostRuntime) {
 }
 
 #[test]
-fn the_system_clock_is_past_2024_and_a_fixed_clock_stands(rt: HostRuntime) {
+fn the_system_clock_is_past_2024_and_a_fixed_clock_gives_its_moment(rt: HostRuntime) {
     fn shared<C: Clock + Sync>(clock: &C) -> u64 {
         clock.now_ms()
     }
