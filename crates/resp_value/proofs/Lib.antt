@@ -1,4 +1,4 @@
-pub mod Growing
+pub mod InTurn
 pub mod OneToOne
-pub mod Spelled
-pub mod Turns
+pub mod Prefixes
+pub mod SpellingSteps

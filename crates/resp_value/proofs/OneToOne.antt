@@ -2,9 +2,11 @@
 use Rattle.std.proofs.Common.{◌≡◌, List, [], ◌∷◌, refl, sym, ap, ◌∙◌}
 use Rattle.resp_value.specs.Tree as tree
 use Rattle.resp_value.specs.Tree.{Tree, Trees, Rows, trees_of, rows_of, list_of, pairs_of}
-use Rattle.resp_value.specs.Of.{tree_of, value_of}
+use Rattle.resp_value.specs.ValueTree.{tree_of, value_of}
 use Rattle.resp_value.specs.declared.value.Value.{Value}
-use Rattle.resp_value.specs.declared.value.Value.TheVariants.{Simple, Error, Number, Blob, Verbatim, BlobError, Bool, Null, NullArray, Array, Map, Set, Push}
+use Rattle.resp_value.specs.declared.value.Value.TheVariants.{Simple, Error, Number, Blob, Verbatim}
+use Rattle.resp_value.specs.declared.value.Value.TheVariants.{BlobError, Bool, Null, NullArray}
+use Rattle.resp_value.specs.declared.value.Value.TheVariants.{Array, Map, Set, Push}
 
 pub list_back : (ts : List Tree) → list_of (trees_of ts) ≡ ts
 list_back [] = refl

@@ -2,11 +2,14 @@
 use Rattle.std.specs.Prelude.{map, pos, true, false}
 use Rattle.resp_value.specs.declared.value.Proto.{Proto}
 use Rattle.resp_value.specs.declared.value.Proto.TheVariants.{Two, Three}
-use Rattle.resp_value.specs.Tree.{Tree, Trees, Rows, simple, error, number, blob, verbatim, blob_error, boolean, null, null_array, array, mapping, set, push, end, more, last, row}
+use Rattle.resp_value.specs.Tree.{Tree, Trees, Rows, simple, error, number, blob, verbatim}
+use Rattle.resp_value.specs.Tree.{blob_error, boolean, null, null_array, array, mapping, set, push}
+use Rattle.resp_value.specs.Tree.{end, more, last, row}
 use Rattle.resp_value.specs.Spelling.{plain_byte}
 
 abbrev mutual
-  -- The third protocol has one null; the second has no texts with a format, no long errors, no truth values, and one kind of list.
+  -- The third protocol has one null; the second has no texts with a format, no long errors, no
+  -- truth values, and one kind of list.
   pub carried : Proto → Tree → Tree
   carried p (simple t) = simple t
   carried p (error t) = error t

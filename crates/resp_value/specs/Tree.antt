@@ -42,7 +42,7 @@ abbrev pub pairs_of : Rows → List (Tree × Tree)
 pairs_of last = []
 pairs_of (row k v rs) = (k, v) ∷ pairs_of rs
 
--- values in turn, as keys with their values; a last one that is alone is left out
+-- values in turn, as keys with their values; a last key without a value is left out
 abbrev pub in_turn : {A : Type 0} → List A → List (A × A)
 in_turn [] = []
 in_turn (k ∷ []) = []

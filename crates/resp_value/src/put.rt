@@ -1,19 +1,21 @@
-// Values and requests as bytes.
-ghost use Rattle.std.specs.Prelude.{◌≡◌, ◌<◌, ◌^◌, ◌++◌, ◌∷◌, [], ℕ, List, OnOk, OnErr, length, map};
-ghost use Rattle.resp_value.specs.Of.{tree_of};
-ghost use Rattle.resp_value.specs.Grew.{Grew};
+//! Values and requests as bytes.
+ghost use Rattle.std.specs.Prelude.{◌≡◌, ◌<◌, ◌^◌, ◌++◌, ◌∷◌, [], ℕ, List, OnOk, OnErr, length};
+ghost use Rattle.std.specs.Prelude.{map};
+ghost use Rattle.resp_value.specs.ValueTree.{tree_of};
+ghost use Rattle.resp_value.specs.Lists.{IsPrefix};
 ghost use Rattle.resp_value.specs.Tree.{trees_of, rows_of, count, row_count};
-ghost use Rattle.resp_value.specs.Spelling.{line, head, counted, plain_byte, spelling, spellings, row_spellings, blob_spellings, request_spelling};
+ghost use Rattle.resp_value.specs.Spelling.{line, head, counted, plain_byte, spelling, spellings};
+ghost use Rattle.resp_value.specs.Spelling.{row_spellings, blob_spellings, request_spelling};
 
 use super::octets::{NoMemory, Octets, Words};
 use super::value::{Pairs, Proto, Value, Values};
 use itoa::Buffer;
 
-/// A text behind its type byte, and the end of the line.
-#[tactic(auto, using(std::proofs::Common::append_assoc, crate::proofs::Growing::growing), unfolding(crate::specs::Spelling::line))]
+/// A type byte, a text, and the end of the line.
+#[tactic(auto, using(crate::proofs::Prefixes::growing), unfolding(crate::specs::Spelling::line))]
 fn put_line(mark: u8, text: &[u8], out: &mut Vec<u8>) -> Result<(), NoMemory>
     ensures ok { OnOk result (out.new.items ≡ out.old.items ++ line mark text.now) }
-    ensures err { OnErr result (Grew out.old.items out.new.items) }
+    ensures err { OnErr result (IsPrefix out.old.items out.new.items) }
 {
     out.push(mark)?;
     out.extend_from_slice(text)?;
@@ -25,17 +27,17 @@ fn put_line(mark: u8, text: &[u8], out: &mut Vec<u8>) -> Result<(), NoMemory>
 #[tactic(auto, unfolding(crate::specs::Spelling::head))]
 fn put_head(mark: u8, number: usize, out: &mut Vec<u8>) -> Result<(), NoMemory>
     ensures ok { OnOk result (out.new.items ≡ out.old.items ++ head mark number) }
-    ensures err { OnErr result (Grew out.old.items out.new.items) }
+    ensures err { OnErr result (IsPrefix out.old.items out.new.items) }
 {
     let mut digits = Buffer::new();
     put_line(mark, digits.format(number).as_bytes(), out)
 }
 
 /// A length, that many bytes, and an end.
-#[tactic(auto, using(std::proofs::Common::append_assoc, crate::proofs::Growing::growing), unfolding(crate::specs::Spelling::counted))]
+#[tactic(auto, using(crate::proofs::Prefixes::growing), unfolding(crate::specs::Spelling::counted))]
 fn put_counted(mark: u8, bytes: &[u8], out: &mut Vec<u8>) -> Result<(), NoMemory>
     ensures ok { OnOk result (out.new.items ≡ out.old.items ++ counted mark bytes.now) }
-    ensures err { OnErr result (Grew out.old.items out.new.items) }
+    ensures err { OnErr result (IsPrefix out.old.items out.new.items) }
 {
     put_head(mark, bytes.len(), out)?;
     out.extend_from_slice(bytes)?;
@@ -44,10 +46,10 @@ fn put_counted(mark: u8, bytes: &[u8], out: &mut Vec<u8>) -> Result<(), NoMemory
 }
 
 /// An error line whose text has a space for each CR and each LF.
-#[tactic(auto, using(std::proofs::Common::append_assoc, crate::proofs::Growing::growing), unfolding(crate::specs::Spelling::line))]
+#[tactic(auto, using(crate::proofs::Prefixes::growing), unfolding(crate::specs::Spelling::line))]
 fn put_error_line(text: &[u8], out: &mut Vec<u8>) -> Result<(), NoMemory>
     ensures ok { OnOk result (out.new.items ≡ out.old.items ++ line 45 (map plain_byte text.now)) }
-    ensures err { OnErr result (Grew out.old.items out.new.items) }
+    ensures err { OnErr result (IsPrefix out.old.items out.new.items) }
 {
     out.push(b'-')?;
     for byte in text {
@@ -61,11 +63,11 @@ fn put_error_line(text: &[u8], out: &mut Vec<u8>) -> Result<(), NoMemory>
     Ok(())
 }
 
-/// Blobs, one behind the other.
-#[tactic(auto, using(std::proofs::Common::append_assoc, crate::proofs::Growing::growing))]
+/// Blobs, one after the other.
+#[tactic(auto, using(crate::proofs::Prefixes::growing))]
 fn put_blobs(words: &[Octets], out: &mut Vec<u8>) -> Result<(), NoMemory>
     ensures ok { OnOk result (out.new.items ≡ out.old.items ++ blob_spellings words.now) }
-    ensures err { OnErr result (Grew out.old.items out.new.items) }
+    ensures err { OnErr result (IsPrefix out.old.items out.new.items) }
 {
     for word in words {
         put_counted(b'$', word.as_slice(), out)?;
@@ -73,11 +75,11 @@ fn put_blobs(words: &[Octets], out: &mut Vec<u8>) -> Result<(), NoMemory>
     Ok(())
 }
 
-/// A text behind the three bytes of its format and a colon.
-#[tactic(auto, using(std::proofs::Common::append_assoc, crate::proofs::Growing::growing), unfolding(crate::specs::Spelling::counted))]
+/// The three bytes of a format, a colon, and a text; all of them are counted.
+#[tactic(auto, using(crate::proofs::Prefixes::growing), unfolding(crate::specs::Spelling::counted))]
 fn put_verbatim(format: &[u8; 3], text: &[u8], out: &mut Vec<u8>) -> Result<(), NoMemory>
     ensures ok { OnOk result (out.new.items ≡ out.old.items ++ counted 61 (format.now ++ 58 ∷ text.now)) }
-    ensures err { OnErr result (Grew out.old.items out.new.items) }
+    ensures err { OnErr result (IsPrefix out.old.items out.new.items) }
 {
     put_head(b'=', text.len() + 4, out)?;
     out.extend_from_slice(format)?;
@@ -103,10 +105,10 @@ fn number_of_pairs(pairs: &Pairs) -> usize
 }
 
 #[cycle(spell)]
-#[tactic(auto, using(std::proofs::Common::append_assoc, crate::proofs::Growing::growing))]
+#[tactic(auto, using(crate::proofs::Prefixes::growing))]
 fn spell(proto: Proto, value: &Value, out: &mut Vec<u8>) -> Result<(), NoMemory>
     ensures ok { OnOk result (out.new.items ≡ out.old.items ++ spelling proto (tree_of value.now)) }
-    ensures err { OnErr result (Grew out.old.items out.new.items) }
+    ensures err { OnErr result (IsPrefix out.old.items out.new.items) }
 {
     match (proto, value) {
         (_, Value::Simple(text)) => put_line(b'+', text.as_slice(), out),
@@ -145,21 +147,24 @@ fn spell(proto: Proto, value: &Value, out: &mut Vec<u8>) -> Result<(), NoMemory>
 
 /// The number of the values, and the values.
 #[cycle(spell)]
-#[tactic(auto, using(std::proofs::Common::append_assoc, crate::proofs::Growing::growing))]
+#[tactic(auto, using(crate::proofs::Prefixes::growing))]
 fn spell_all(mark: u8, proto: Proto, values: &Values, out: &mut Vec<u8>) -> Result<(), NoMemory>
-    ensures ok { OnOk result (out.new.items ≡ out.old.items ++ (head mark (count (trees_of values.now)) ++ spellings proto (trees_of values.now))) }
-    ensures err { OnErr result (Grew out.old.items out.new.items) }
+    ensures ok { OnOk result
+        (out.new.items
+        ≡ out.old.items
+        ++ (head mark (count (trees_of values.now)) ++ spellings proto (trees_of values.now))) }
+    ensures err { OnErr result (IsPrefix out.old.items out.new.items) }
 {
     put_head(mark, number_of_values(values), out)?;
     spell_values(proto, values, out)
 }
 
-/// Values, one behind the other.
+/// Values, one after the other.
 #[cycle(spell)]
-#[tactic(auto, using(std::proofs::Common::append_assoc, crate::proofs::Growing::growing))]
+#[tactic(auto, using(crate::proofs::Prefixes::growing))]
 fn spell_values(proto: Proto, values: &Values, out: &mut Vec<u8>) -> Result<(), NoMemory>
     ensures ok { OnOk result (out.new.items ≡ out.old.items ++ spellings proto (trees_of values.now)) }
-    ensures err { OnErr result (Grew out.old.items out.new.items) }
+    ensures err { OnErr result (IsPrefix out.old.items out.new.items) }
 {
     for value in values.items.as_slice() {
         spell(proto, value, out)?;
@@ -169,10 +174,10 @@ fn spell_values(proto: Proto, values: &Values, out: &mut Vec<u8>) -> Result<(), 
 
 /// Keys and values in turn.
 #[cycle(spell)]
-#[tactic(auto, using(std::proofs::Common::append_assoc, crate::proofs::Growing::growing))]
+#[tactic(auto, using(crate::proofs::Prefixes::growing))]
 fn spell_pairs(proto: Proto, pairs: &Pairs, out: &mut Vec<u8>) -> Result<(), NoMemory>
     ensures ok { OnOk result (out.new.items ≡ out.old.items ++ row_spellings proto (rows_of pairs.now)) }
-    ensures err { OnErr result (Grew out.old.items out.new.items) }
+    ensures err { OnErr result (IsPrefix out.old.items out.new.items) }
 {
     for (key, value) in pairs.items.as_slice() {
         spell(proto, key, out)?;
@@ -182,7 +187,7 @@ fn spell_pairs(proto: Proto, pairs: &Pairs, out: &mut Vec<u8>) -> Result<(), NoM
 }
 
 /// Appends the spelling of a value on a connection of this protocol.
-#[tactic(auto, using(crate::proofs::Growing::cut_back))]
+#[tactic(auto, using(crate::proofs::Prefixes::cut_back))]
 pub fn put_value(proto: Proto, value: &Value, out: &mut Vec<u8>) -> Result<(), NoMemory>
     ensures ok { OnOk result (out.new.items ≡ out.old.items ++ spelling proto (tree_of value.now)) }
     ensures err { OnErr result (out.new.items ≡ out.old.items) }
@@ -198,17 +203,17 @@ pub fn put_value(proto: Proto, value: &Value, out: &mut Vec<u8>) -> Result<(), N
 }
 
 /// An array of blobs.
-#[tactic(auto, using(std::proofs::Common::append_assoc, crate::proofs::Growing::growing))]
+#[tactic(auto, using(crate::proofs::Prefixes::growing))]
 fn put_words(words: &[Octets], out: &mut Vec<u8>) -> Result<(), NoMemory>
     ensures ok { OnOk result (out.new.items ≡ out.old.items ++ request_spelling words.now) }
-    ensures err { OnErr result (Grew out.old.items out.new.items) }
+    ensures err { OnErr result (IsPrefix out.old.items out.new.items) }
 {
     put_head(b'*', words.len(), out)?;
     put_blobs(words, out)
 }
 
 /// Appends a request: the array of the words as blobs.
-#[tactic(auto, using(std::proofs::Common::append_assoc, crate::proofs::Growing::cut_back))]
+#[tactic(auto, using(std::proofs::Common::append_assoc, crate::proofs::Prefixes::cut_back))]
 pub fn put_request(words: &Words, out: &mut Vec<u8>) -> Result<(), NoMemory>
     ensures ok { OnOk result (out.new.items ≡ out.old.items ++ request_spelling words.now) }
     ensures err { OnErr result (out.new.items ≡ out.old.items) }

@@ -2,7 +2,9 @@
 use Rattle.resp_value.specs.Tree as tree
 use Rattle.resp_value.specs.Tree.{Tree, trees_of, rows_of, list_of, pairs_of}
 use Rattle.resp_value.specs.declared.value.Value.{Value}
-use Rattle.resp_value.specs.declared.value.Value.TheVariants.{Simple, Error, Number, Blob, Verbatim, BlobError, Bool, Null, NullArray, Array, Map, Set, Push}
+use Rattle.resp_value.specs.declared.value.Value.TheVariants.{Simple, Error, Number, Blob, Verbatim}
+use Rattle.resp_value.specs.declared.value.Value.TheVariants.{BlobError, Bool, Null, NullArray}
+use Rattle.resp_value.specs.declared.value.Value.TheVariants.{Array, Map, Set, Push}
 
 abbrev pub tree_of : Value → Tree
 tree_of (Simple t) = tree.simple t

@@ -1,9 +1,12 @@
 -- How a tree is stored, and that it comes back.
-use Rattle.std.specs.Prelude.{◌≡◌, ℕ, zero, suc, ℤ, pos, negsuc, Bool, true, false, List, [], ◌∷◌, refl}
+use Rattle.std.specs.Prelude.{◌≡◌, ℕ, zero, suc, ℤ, pos, negsuc, Bool, true, false, List, [], ◌∷◌}
+use Rattle.std.specs.Prelude.{refl}
 use mathlib.Core.Path.{ap}
 use base.Stored.{Gv, gnil, gnum, gcons, Coded}
 use Rattle.std.specs.Coded.{code_by}
-use Rattle.resp_value.specs.Tree.{Tree, Trees, Rows, simple, error, number, blob, verbatim, blob_error, boolean, null, null_array, array, mapping, set, push, end, more, last, row}
+use Rattle.resp_value.specs.Tree.{Tree, Trees, Rows, simple, error, number, blob, verbatim}
+use Rattle.resp_value.specs.Tree.{blob_error, boolean, null, null_array, array, mapping, set, push}
+use Rattle.resp_value.specs.Tree.{end, more, last, row}
 
 abbrev pub itself : Coded Gv
 itself = record { code = λ g. g; inj = λ x y p. p }
