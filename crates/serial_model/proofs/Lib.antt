@@ -1,3 +1,4 @@
 pub mod Streams
+pub mod Others
 pub mod Turning
-pub mod Frames
+pub mod Posts

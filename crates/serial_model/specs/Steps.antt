@@ -1,37 +1,79 @@
--- What a turn of the server answers and adds.
-use Rattle.std.specs.Prelude.{◌≡◌, ◌+◌, ◌<◌, ◌==◌, ℕ, List, [], ◌∷◌, ◌++◌, if◌then◌else◌, length, max, take}
+-- What a turn of the server answers and adds, and what lists of turns do.
+use Rattle.std.specs.Prelude.{◌≡◌, ◌+◌, ◌<◌, ◌==◌, ℕ, List, [], ◌∷◌, ◌++◌, Bool, true, false}
+use Rattle.std.specs.Prelude.{if◌then◌else◌, length, max, take}
+use Rattle.serial_model.specs.declared.history.Limits.{Limits}
 use Rattle.serial_model.specs.declared.history.Entry.{Entry}
 use Rattle.serial_model.specs.declared.history.Entry.TheVariants as entry
 use Rattle.serial_model.specs.declared.history.BookCall.{BookCall}
 use Rattle.serial_model.specs.declared.history.BookCall.TheVariants.{Admit, Run, Take, Close}
 use Rattle.serial_model.specs.declared.history.BookReply.{BookReply}
-use Rattle.serial_model.specs.declared.history.BookReply.TheVariants.{Admitted, Ran, Quiet, Bytes, Closed, Refused}
-use Rattle.serial_model.specs.declared.history.BookRefusal.TheVariants.{Gone, NoMemory}
-use Rattle.serial_model.specs.History.{admitted, is_connected, latest, unsent, stream, taken, runs_of}
+use Rattle.serial_model.specs.declared.history.BookReply.TheVariants.{Admitted, Ran, Quiet, Bytes}
+use Rattle.serial_model.specs.declared.history.BookReply.TheVariants.{Closed, Refused}
+use Rattle.serial_model.specs.declared.history.BookRefusal.TheVariants.{Gone, HistoryFull, NoMemory}
+use Rattle.serial_model.specs.History.{admitted, runs_on, reads_on, gives_on, latest, unsent}
+use Rattle.serial_model.specs.History.{is_full}
+
+-- each limit is at least 1
+pub record AreValid (l : Limits) : Type 0 where
+  pub table : 0 < l.table_max
+  pub out : 0 < l.out_max
+  pub history : 0 < l.history_max
 
 pub record Turn : Type 0 where
   pub reply : BookReply
   pub past : List Entry
 
--- nothing to take is Quiet, and adds no entry
-abbrev pub taking : List Entry → ℕ → ℕ → List ℕ → Turn
-taking past id most [] = record { reply = Quiet; past = past }
-taking past id most (b ∷ bytes) = record { reply = Bytes (length past + 1) (b ∷ bytes); past = entry.Take id most ∷ past }
-
 abbrev pub gone : List Entry → ℕ → Turn
 gone past id = record { reply = Refused (Gone id); past = past }
 
+abbrev pub full : List Entry → Turn
+full past = record { reply = Refused (HistoryFull (length past)); past = past }
+
+-- a turn that adds an entry, where the history has room for it
+abbrev pub unless_full : Limits → List Entry → Turn → Turn
+unless_full l past turn = if is_full l past then full past else turn
+
+abbrev pub admitting : List Entry → Turn
+admitting past =
+    record {
+      reply = Admitted (length past + 1) (admitted past + 1);
+      past = entry.Admit (admitted past + 1) ∷ past;
+    }
+
 abbrev pub running : List Entry → ℕ → List (List ℕ) → ℕ → Turn
-running past id words now = record { reply = Ran (length past + 1); past = entry.Run id words (max now (latest past)) ∷ past }
+running past id words now =
+    record {
+      reply = Ran (length past + 1);
+      past = entry.Run id words (max now (latest past)) ∷ past;
+    }
+
+-- nothing to take is Quiet, and adds no entry
+abbrev pub taking : Limits → List Entry → ℕ → ℕ → List ℕ → Turn
+taking l past id most [] = record { reply = Quiet; past = past }
+taking l past id most (b ∷ bytes) =
+    unless_full l past
+    (record { reply = Bytes (length past + 1) (b ∷ bytes); past = entry.Take id most ∷ past })
 
 abbrev pub closing : List Entry → ℕ → Turn
 closing past id = record { reply = Closed (length past + 1); past = entry.Close id ∷ past }
 
-unfoldable pub book_step : List Entry → BookCall → Turn
-book_step past Admit = record { reply = Admitted (length past + 1) (admitted past + 1); past = entry.Admit (admitted past + 1) ∷ past }
-book_step past (Run id words now) = if is_connected past id then running past id words now else gone past id
-book_step past (Take id most) = if is_connected past id then taking past id most (take most (unsent id past)) else gone past id
-book_step past (Close id) = if is_connected past id then closing past id else gone past id
+-- the refusals come in the order Gone, Quiet, HistoryFull; a Close is never refused for the limit
+unfoldable pub book_step : Limits → List Entry → BookCall → Turn
+book_step l past Admit = unless_full l past (admitting past)
+book_step l past (Run id words now) =
+    if runs_on l past id then unless_full l past (running past id words now) else gone past id
+book_step l past (Take id most) =
+    if gives_on l past id then taking l past id most (take most (unsent l id past)) else gone past id
+book_step l past (Close id) = if reads_on l past id then closing past id else gone past id
+
+-- the answer is that of a turn that added an entry
+abbrev pub AddsEntry : BookReply → Type 0
+AddsEntry (Admitted e id) = Unit {0}
+AddsEntry (Ran e) = Unit {0}
+AddsEntry Quiet = ⊥
+AddsEntry (Bytes e bytes) = Unit {0}
+AddsEntry (Closed e) = Unit {0}
+AddsEntry (Refused r) = ⊥
 
 -- a Close takes no memory
 abbrev pub TakesMemory : BookCall → Type 0
@@ -40,10 +82,11 @@ TakesMemory (Run id words now) = Unit {0}
 TakesMemory (Take id most) = Unit {0}
 TakesMemory (Close id) = ⊥
 
--- the turn is the step, or memory ran out and nothing changed
-abbrev pub BookStep : List Entry → BookCall → BookReply → List Entry → Type 0
-BookStep past call (Refused NoMemory) new = (new ≡ past) × TakesMemory call
-BookStep past call reply new = book_step past call ≡ record { reply = reply; past = new }
+-- the turn is the step; or the step would have added an entry, memory ran out, and nothing changed
+abbrev pub BookStep : Limits → List Entry → BookCall → BookReply → List Entry → Type 0
+BookStep l past call (Refused NoMemory) new =
+    (new ≡ past) × AddsEntry (book_step l past call).reply × TakesMemory call
+BookStep l past call reply new = book_step l past call ≡ record { reply = reply; past = new }
 
 -- a Take takes some bytes
 abbrev pub IsCallable : BookCall → Type 0
@@ -53,11 +96,12 @@ IsCallable (Take id most) = 0 < most
 IsCallable (Close id) = Unit {0}
 
 -- calls are played one after another
-abbrev pub Turns : List Entry → List BookCall → List BookReply → List Entry → Type 0
-Turns old [] [] new = new ≡ old
-Turns old [] (reply ∷ replies) new = ⊥
-Turns old (call ∷ calls) [] new = ⊥
-Turns old (call ∷ calls) (reply ∷ replies) new = (mid : List Entry) × BookStep old call reply mid × Turns mid calls replies new
+abbrev pub Turns : Limits → List Entry → List BookCall → List BookReply → List Entry → Type 0
+Turns l old [] [] new = new ≡ old
+Turns l old [] (reply ∷ replies) new = ⊥
+Turns l old (call ∷ calls) [] new = ⊥
+Turns l old (call ∷ calls) (reply ∷ replies) new =
+    (mid : List Entry) × BookStep l old call reply mid × Turns l mid calls replies new
 
 abbrev pub given_by : ℕ → BookCall → BookReply → List ℕ
 given_by c (Take id most) (Bytes e bytes) = if id == c then bytes else []
@@ -78,13 +122,3 @@ abbrev pub answered : ℕ → List BookCall → List BookReply → List (List (L
 answered c [] replies = []
 answered c (call ∷ calls) [] = []
 answered c (call ∷ calls) (reply ∷ replies) = ran_by c call reply ++ answered c calls replies
-
--- The bytes that a connection was given are the first bytes of what was sent to it.
-abbrev pub GivenIsStream : Type 0
-GivenIsStream = (c : ℕ) (calls : List BookCall) (replies : List BookReply) (past : List Entry) → Turns [] calls replies past
-    → given c calls replies ≡ take (taken c past) (stream c past)
-
--- Each request that was answered as run stands in the history once, in the order of its connection, and no other does.
-abbrev pub EachRunOnce : Type 0
-EachRunOnce = (c : ℕ) (calls : List BookCall) (replies : List BookReply) (past : List Entry) → Turns [] calls replies past
-    → runs_of c past ≡ answered c calls replies

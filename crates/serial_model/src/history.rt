@@ -1,7 +1,7 @@
 //! The entries of a history, the calls that make them and the answers to these calls.
 use resp_value::{Octets, Words};
 
-/// The limits of a server. Each is at least 1.
+/// The limits of a server. Each is at least 1 (`are_valid`).
 #[derive(Clone, Copy, Debug, PartialEq, Eq)]
 pub struct Limits {
     /// How many keys the tracking table remembers.
@@ -42,6 +42,8 @@ pub enum BookCall {
 pub enum BookRefusal {
     /// No connection of this id was admitted, or it has ended.
     Gone { id: u64 },
+    /// The history has as many entries as its limit allows.
+    HistoryFull { entries: u64 },
     NoMemory,
 }
 
@@ -57,12 +59,19 @@ pub enum BookReply {
     Refused(BookRefusal),
 }
 
-/// A message that a turn put into a connection's queue: the number of its entry, the connection,
-/// and how many bytes it has. `last` marks the end of a connection, with no bytes.
+/// What a turn put into a connection's queue.
+#[derive(Clone, Copy, Debug, PartialEq, Eq)]
+pub enum Posted {
+    /// A message of so many bytes.
+    Message { length: u64 },
+    /// The end of the connection, which has no bytes.
+    End,
+}
+
+/// A message or an end that a turn sent: the number of its entry, and to which connection.
 #[derive(Clone, Copy, Debug, PartialEq, Eq)]
 pub struct Post {
     pub entry: u64,
     pub id: u64,
-    pub length: u64,
-    pub last: bool,
+    pub what: Posted,
 }

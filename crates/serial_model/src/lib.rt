@@ -5,8 +5,11 @@ mod callable;
 mod history;
 mod laws;
 
-pub use history::{BookCall, BookRefusal, BookReply, Entry, Limits, Post};
-pub use laws::{law_each_run_once, law_given_is_stream};
+pub use history::{BookCall, BookRefusal, BookReply, Entry, Limits, Post, Posted};
+pub use laws::{
+    law_each_run_once, law_end_is_sent, law_given_is_stream, law_legal_is_added, law_others_extend,
+    law_posted_is_sent, law_posts_are_numbered,
+};
 
 #[cfg(test)]
 mod tests;
