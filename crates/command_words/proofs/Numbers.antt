@@ -2,7 +2,7 @@
 use Rattle.std.proofs.Common.{◌≡◌, ◌+◌, ◌-◌, ◌*◌, ◌<◌, ◌≤◌, ℕ, List, [], ◌∷◌, length, false, sym, arith}
 use Rattle.std.specs.Prelude.{nat_le}
 use Rattle.std.proofs.lemmas.Bool.{lt-leb}
-use Rattle.command_words.specs.Control.{value_of}
+use Rattle.command_words.specs.Integers.{value_of}
 
 grows : (n : ℕ) (ds : List ℕ) → n ≤ value_of n ds
 grows n [] = omega arith

@@ -1,23 +1,8 @@
 -- The words of the commands that change how the server serves a connection (the pages of these commands).
-use Rattle.std.specs.Prelude.{◌≡◌, ◌+◌, ◌-◌, ◌*◌, ◌&&◌, ◌||◌, ◌==◌, ℕ, List, [], ◌∷◌, Bool, true, false, not, if◌then◌else◌, nat_lt, nat_le, codes}
+use Rattle.std.specs.Prelude.{◌≡◌, ◌+◌, ◌-◌, ◌*◌, ◌&&◌, ◌||◌, ◌==◌, ℕ, List, [], ◌∷◌, Bool, true}
+use Rattle.std.specs.Prelude.{false, not, if◌then◌else◌, nat_lt, nat_le, codes}
 use Rattle.command_words.specs.Words.{is_name}
-
-abbrev pub is_digit : ℕ → Bool
-is_digit d = nat_le 48 d && nat_le d 57
-
-abbrev pub all_digits : List ℕ → Bool
-all_digits [] = true
-all_digits (d ∷ ds) = is_digit d && all_digits ds
-
--- the number that digits spell, behind those that spell the first
-abbrev pub value_of : ℕ → List ℕ → ℕ
-value_of n [] = n
-value_of n (d ∷ ds) = value_of (n * 10 + (d - 48)) ds
-
--- digits that begin with 1 to 9, within the limit
-abbrev pub is_positive_word : ℕ → List ℕ → Bool
-is_positive_word limit [] = false
-is_positive_word limit (d ∷ ds) = nat_le 49 d && (all_digits (d ∷ ds) && nat_le (value_of 0 (d ∷ ds)) limit)
+use Rattle.command_words.specs.Integers.{is_positive_word}
 
 abbrev pub is_zero_word : List ℕ → Bool
 is_zero_word (c ∷ []) = c == 48

@@ -1,4 +1,10 @@
 pub mod Words
+pub mod Integers
+pub mod KeyLists
+pub mod Space
+pub mod Effect
+pub mod Strings
+pub mod Hashes
 pub mod Effects
 pub mod Printed
 pub mod Queries

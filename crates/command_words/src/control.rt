@@ -1,16 +1,15 @@
-// Commands that change how the server serves a connection.
+//! Commands that change how the server serves a connection.
 ghost use Rattle.std.specs.Prelude.{◌≡◌, ◌≤◌, ℕ, true, nat_le};
 ghost use Rattle.std.specs.Str.{bytes_eq, str_to_ascii_lowercase};
 ghost use Rattle.command_words.specs.Words.{is_name};
-ghost use Rattle.command_words.specs.Control.{all_digits, value_of, is_positive_word, is_integer_word, is_flag, are_options, are_behind_prefix, are_behind_redirect, is_tracking, is_caching, is_saving, is_client_control, is_named_control, is_control};
+ghost use Rattle.command_words.specs.Integers.{all_digits, value_of, is_positive_word};
+ghost use Rattle.command_words.specs.Control.{is_integer_word, is_flag, are_options};
+ghost use Rattle.command_words.specs.Control.{are_behind_prefix, are_behind_redirect, is_tracking};
+ghost use Rattle.command_words.specs.Control.{is_caching, is_saving, is_client_control};
+ghost use Rattle.command_words.specs.Control.{is_named_control, is_control};
 
+use super::read::is_named;
 use resp_value::{Octets, Words};
-
-fn is_named(word: &Octets, name: &[u8]) -> bool
-    ensures { result ≡ bytes_eq (str_to_ascii_lowercase word.now) (str_to_ascii_lowercase name.now) }
-{
-    word.as_slice().eq_ignore_ascii_case(name)
-}
 
 fn are_digits(bytes: &[u8]) -> bool
     ensures { result ≡ all_digits bytes.now }

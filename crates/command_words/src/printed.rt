@@ -1,5 +1,5 @@
 //! The printed form of a word, as schedules and transcripts have it.
-ghost use Rattle.std.specs.Prelude.{◌≡◌, ◌++◌, ◌<◌, OnOk};
+ghost use Rattle.std.specs.Prelude.{◌≡◌, ◌++◌, ◌<◌, OnOk, OnErr, length, take};
 ghost use Rattle.command_words.specs.Printed.{hex_digit, printed, printed_byte, printed_bytes};
 
 use resp_value::NoMemory;
@@ -16,7 +16,8 @@ fn hex(digit: u8) -> u8
 }
 
 fn put_byte(byte: u8, out: &mut Vec<u8>) -> Result<(), NoMemory>
-    ensures { OnOk result (out.new.items ≡ out.old.items ++ printed_byte byte) }
+    ensures ok { OnOk result (out.new.items ≡ out.old.items ++ printed_byte byte) }
+    ensures err { OnErr result (out.new.items ≡ out.old.items) }
 {
     match byte {
         b'\r' => out.extend_from_slice(b"\\r")?,
@@ -31,7 +32,8 @@ fn put_byte(byte: u8, out: &mut Vec<u8>) -> Result<(), NoMemory>
 
 #[tactic(auto, unfolding(crate::specs::Printed::printed_bytes))]
 fn put_bytes(bytes: &[u8], out: &mut Vec<u8>) -> Result<(), NoMemory>
-    ensures { OnOk result (out.new.items ≡ out.old.items ++ printed_bytes bytes.now) }
+    ensures ok { OnOk result (out.new.items ≡ out.old.items ++ printed_bytes bytes.now) }
+    ensures err { OnErr result (take (length out.old.items) out.new.items ≡ out.old.items) }
 {
     for byte in bytes {
         put_byte(*byte, out)?;
@@ -40,14 +42,22 @@ fn put_bytes(bytes: &[u8], out: &mut Vec<u8>) -> Result<(), NoMemory>
 }
 
 /// Appends the one printed form of a word: visible bytes stand for themselves, save the
-/// backslash; `\r`, `\n`, `\s`, `\\` and `\xHH` (lower case) stand for the rest, and `\e` is the
-/// empty word. After want of memory some of it may have been appended.
+/// backslash; `\r`, `\n`, `\s`, `\\` and `\xHH` (lower case) are the others, and `\e` is the
+/// empty word.
 pub fn put_printed(word: &[u8], out: &mut Vec<u8>) -> Result<(), NoMemory>
-    ensures { OnOk result (out.new.items ≡ out.old.items ++ printed word.now) }
+    ensures ok { OnOk result (out.new.items ≡ out.old.items ++ printed word.now) }
+    ensures err { OnErr result (out.new.items ≡ out.old.items) }
 {
     if word.is_empty() {
         out.extend_from_slice(b"\\e")?;
         return Ok(());
     }
-    put_bytes(word, out)
+    let start = out.len();
+    match put_bytes(word, out) {
+        Ok(()) => Ok(()),
+        Err(e) => {
+            out.truncate(start);
+            Err(e)
+        }
+    }
 }

@@ -1,10 +1,14 @@
-// Cacheable queries.
+//! Cacheable queries.
 ghost use Rattle.std.specs.Prelude.{◌≡◌, IfOk, Some};
 ghost use Rattle.std.specs.Cmp.Lexicographic.{pointwise};
-ghost use Rattle.std.specs.Str.{bytes_eq};
+ghost use Rattle.std.specs.Str.{bytes_eq, str_to_ascii_uppercase};
+ghost use Rattle.command_words.specs.Words.{reading};
+ghost use Rattle.command_words.specs.Queries.{is_cacheable, reads_as_cacheable, with_upper_name};
 ghost use Rattle.command_words.specs.Queries.{query_of, key_of, same_query};
 
-use super::command::{Command, WordFault, read_command};
+use super::command::{Command, WordFault};
+use super::lists::push_all;
+use super::read::read_command;
 use resp_value::{NoMemory, Octets, Words};
 use std::alloc::Global;
 use std::marker::Model;
@@ -44,22 +48,56 @@ fn are_same(left: &[Octets], right: &[Octets]) -> bool
     }
 }
 
+fn is_cacheable(command: &Command) -> bool
+    ensures { result ≡ is_cacheable command.now }
+{
+    match command {
+        Command::Get(_) | Command::StrLen(_) | Command::GetRange(_, _, _) => true,
+        Command::HGet(_, _) | Command::HMGet(_, _) | Command::HGetAll(_) => true,
+        Command::HLen(_) | Command::HExists(_, _) | Command::HKeys(_) | Command::HVals(_) => true,
+        _ => false,
+    }
+}
+
+fn reads_as_cacheable(words: &Words) -> Result<bool, NoMemory>
+    ensures { IfOk result (λ b. b ≡ reads_as_cacheable (reading words.now)) }
+{
+    match read_command(words) {
+        Ok(command) => Ok(is_cacheable(&command)),
+        Err(WordFault::NoMemory) => Err(NoMemory),
+        Err(_) => Ok(false),
+    }
+}
+
+fn upper_case(alloc: Global, name: &Octets) -> Result<Octets, NoMemory>
+    ensures { IfOk result (λ n. n ≡ str_to_ascii_uppercase name.now) }
+{
+    let mut upper = Vec::from_slice(alloc, name.as_slice())?;
+    upper.make_ascii_uppercase();
+    Ok(Octets::from_vec(upper))
+}
+
+fn with_upper_name(alloc: Global, words: &[Octets]) -> Result<Words, NoMemory>
+    ensures { IfOk result (λ w. w ≡ with_upper_name words.now) }
+{
+    let mut copied = Words::new(alloc);
+    if let [name, rest @ ..] = words {
+        copied.push(upper_case(alloc, name)?)?;
+        push_all(rest, &mut copied)?;
+    }
+    Ok(copied)
+}
+
 impl Query {
     /// The query that the words are, where they are one: names are read without regard to case.
     pub fn read(alloc: Global, words: &Words) -> Result<Option<Query>, NoMemory>
         ensures { IfOk result (λ q. q ≡ query_of words.now) }
     {
-        match read_command(words) {
-            Ok(Command::Get(key)) => {
-                let mut words = Words::new(alloc);
-                words.push(Octets::from_slice(alloc, b"GET")?)?;
-                words.push(key)?;
-                Ok(Some(Query { words }))
-            }
-            Ok(Command::Set(_, _)) => Ok(None),
-            Err(WordFault::NoMemory) => Err(NoMemory),
-            Err(WordFault::Unknown | WordFault::Arity | WordFault::Syntax) => Ok(None),
+        if !reads_as_cacheable(words)? {
+            return Ok(None);
         }
+        let words = with_upper_name(alloc, words.as_slice())?;
+        Ok(Some(Query { words }))
     }
 
     /// The key that it reads.

@@ -36,6 +36,10 @@ pub fn fault_text(alloc: Global, words: &Words, fault: WordFault) -> Result<Octe
         WordFault::Unknown => Octets::from_slice(alloc, b"ERR unknown command"),
         WordFault::Arity => arity_text(alloc, words),
         WordFault::Syntax => Octets::from_slice(alloc, b"ERR syntax error"),
+        WordFault::BadNumber => {
+            Octets::from_slice(alloc, b"ERR value is not an integer or out of range")
+        }
+        WordFault::BadExpire => Octets::from_slice(alloc, b"ERR invalid expire time"),
         WordFault::NoMemory => Octets::from_slice(alloc, b""),
     }
 }

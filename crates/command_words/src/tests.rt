@@ -1,4 +1,4 @@
-// Commands and printed words against worked examples.
+//! Commands and printed words against worked examples.
 use super::{Command, WordFault, put_printed, read_command};
 use resp_value::{NoMemory, Octets, Words};
 use std::alloc::Global;
@@ -19,15 +19,18 @@ fn show(alloc: Global, read: Result<Command, WordFault>) -> Result<Vec<u8>, NoMe
             out.extend_from_slice(b"get ")?;
             out.extend_from_slice(key.as_slice())?;
         }
-        Ok(Command::Set(key, value)) => {
+        Ok(Command::Set(key, value, _, _)) => {
             out.extend_from_slice(b"set ")?;
             out.extend_from_slice(key.as_slice())?;
             out.extend_from_slice(b" to ")?;
             out.extend_from_slice(value.as_slice())?;
         }
+        Ok(_) => out.extend_from_slice(b"another")?,
         Err(WordFault::Unknown) => out.extend_from_slice(b"unknown")?,
         Err(WordFault::Arity) => out.extend_from_slice(b"arity")?,
         Err(WordFault::Syntax) => out.extend_from_slice(b"syntax")?,
+        Err(WordFault::BadNumber) => out.extend_from_slice(b"number")?,
+        Err(WordFault::BadExpire) => out.extend_from_slice(b"expire")?,
         Err(WordFault::NoMemory) => out.extend_from_slice(b"no memory")?,
     }
     Ok(out)

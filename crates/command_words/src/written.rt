@@ -1,33 +1,33 @@
-// The keys that commands change.
+//! The keys that commands change.
 ghost use Rattle.std.specs.Prelude.{◌≡◌, IfOk};
 ghost use Rattle.std.specs.List.{list_any};
 ghost use Rattle.std.specs.Str.{bytes_eq};
 ghost use Rattle.command_words.specs.Queries.{written, written_by, names};
 
-use super::command::{Command, WordFault, read_command};
+use super::command::{Command, WordFault};
+use super::read::read_command;
 use resp_value::{NoMemory, Octets, Words};
 use std::alloc::Global;
 
-/// The keys that a command can change.
+///! The keys that a command can change.
 #[derive(Debug, Drop)]
 pub enum Written {
     Keys(Words),
     All,
 }
 
-/// The keys that the command can change, in the order of its words.
+///! The keys that the command can change, in the order of its words.
 pub fn keys_written(alloc: Global, command: &Command) -> Result<Written, NoMemory>
     ensures { IfOk result (λ w. w ≡ written command.now) }
 {
     let mut keys = Words::new(alloc);
-    match command {
-        Command::Get(_) => {}
-        Command::Set(key, _) => keys.push(key.copy()?)?,
+    if let Command::Set(key, _, _, _) = command {
+        keys.push(key.copy()?)?;
     }
     Ok(Written::Keys(keys))
 }
 
-/// The keys that a command of these words can change: none where the words are no command.
+///! The keys that a command of these words can change: none where the words are no command.
 #[tactic(auto, unfolding(crate::specs::Queries::written_by))]
 pub fn written_by(alloc: Global, words: &Words) -> Result<Written, NoMemory>
     ensures { IfOk result (λ w. w ≡ written_by words.now) }
@@ -35,9 +35,7 @@ pub fn written_by(alloc: Global, words: &Words) -> Result<Written, NoMemory>
     match read_command(words) {
         Ok(command) => keys_written(alloc, &command),
         Err(WordFault::NoMemory) => Err(NoMemory),
-        Err(WordFault::Unknown | WordFault::Arity | WordFault::Syntax) => Ok(Written::Keys(
-            Words::new(alloc),
-        )),
+        Err(_) => Ok(Written::Keys(Words::new(alloc))),
     }
 }
 
