@@ -1,6 +1,7 @@
--- The words of the commands that change how the server serves a connection (the pages of these commands).
-use Rattle.std.specs.Prelude.{◌≡◌, ◌+◌, ◌-◌, ◌*◌, ◌&&◌, ◌||◌, ◌==◌, ℕ, List, [], ◌∷◌, Bool, true}
-use Rattle.std.specs.Prelude.{false, not, if◌then◌else◌, nat_lt, nat_le, codes}
+-- The words of the commands that change how the server serves a connection (the pages of these
+-- commands).
+use Rattle.std.specs.Prelude.{◌&&◌, ◌||◌, ◌==◌, ℕ, List, [], ◌∷◌, Bool, true}
+use Rattle.std.specs.Prelude.{false, not, if◌then◌else◌, codes}
 use Rattle.command_words.specs.Words.{is_name}
 use Rattle.command_words.specs.Integers.{is_positive_word}
 
@@ -12,13 +13,17 @@ abbrev pub is_negative_word : List ℕ → Bool
 is_negative_word [] = false
 is_negative_word (c ∷ cs) = c == 45 && is_positive_word 9223372036854775808 cs
 
--- an optional minus, then 0 or digits that begin with 1 to 9, within 64 bits with a sign; no minus before 0
+-- an optional minus, then 0 or digits that begin with 1 to 9, within 64 bits with a sign; no
+-- minus before 0
 unfoldable pub is_integer_word : List ℕ → Bool
-is_integer_word cs = is_zero_word cs || (is_positive_word 9223372036854775807 cs || is_negative_word cs)
+is_integer_word cs =
+    is_zero_word cs || (is_positive_word 9223372036854775807 cs || is_negative_word cs)
 
 -- an option of one word
 abbrev pub is_flag : List ℕ → Bool
-is_flag w = is_name (codes "bcast") w || (is_name (codes "optin") w || (is_name (codes "optout") w || is_name (codes "noloop") w))
+is_flag w =
+    is_name (codes "bcast") w || (is_name (codes "optin") w
+    || (is_name (codes "optout") w || is_name (codes "noloop") w))
 
 abbrev mutual
   -- the options of CLIENT TRACKING: flags, prefixes, and at most one redirection
@@ -35,7 +40,8 @@ abbrev mutual
 
   pub are_behind_redirect : Bool → List (List ℕ) → Bool
   are_behind_redirect redirected [] = false
-  are_behind_redirect redirected (id ∷ ws) = is_integer_word id && (not redirected && are_options true ws)
+  are_behind_redirect redirected (id ∷ ws) =
+      is_integer_word id && (not redirected && are_options true ws)
 
 abbrev pub is_tracking : List (List ℕ) → Bool
 is_tracking [] = false
@@ -52,7 +58,9 @@ is_saving _ = false
 
 abbrev pub is_client_control : List (List ℕ) → Bool
 is_client_control [] = false
-is_client_control (w ∷ ws) = (is_name (codes "tracking") w && is_tracking ws) || (is_name (codes "caching") w && is_caching ws)
+is_client_control (w ∷ ws) =
+    (is_name (codes "tracking") w && is_tracking ws)
+    || (is_name (codes "caching") w && is_caching ws)
 
 abbrev pub none_or_one : List (List ℕ) → Bool
 none_or_one [] = true
@@ -77,7 +85,8 @@ is_named_control name ws =
     if is_name (codes "unsubscribe") name then none_or_one ws else
     is_name (codes "client") name && is_client_control ws
 
--- the words read as HELLO, RESET, QUIT, SHUTDOWN, SUBSCRIBE, UNSUBSCRIBE, CLIENT TRACKING or CLIENT CACHING
+-- the words read as HELLO, RESET, QUIT, SHUTDOWN, SUBSCRIBE, UNSUBSCRIBE, CLIENT TRACKING or
+-- CLIENT CACHING
 unfoldable pub is_control : List (List ℕ) → Bool
 is_control [] = false
 is_control (name ∷ ws) = is_named_control name ws

@@ -1,7 +1,7 @@
 -- What a command does, and how its row is put: what it replies, what it writes, whom it signals.
-use Rattle.std.specs.Prelude.{ℕ, List, [], ◌∷◌, Option, Some, None, ℤ, pos, negsuc, Bool, Result}
+use Rattle.std.specs.Prelude.{ℕ, List, [], Option, Some, None, ℤ, pos, Result}
 use Rattle.std.specs.Prelude.{Ok, Err}
-use Rattle.std.specs.Prelude.{◌+ℤ◌, ◌^◌, nat_lt, codes, if◌then◌else◌}
+use Rattle.std.specs.Prelude.{◌+ℤ◌, codes, if◌then◌else◌}
 use Rattle.resp_value.specs.declared.value.Value.{Value}
 use Rattle.resp_value.specs.declared.value.Value.TheVariants.{Error, Blob, Null}
 use Rattle.command_words.specs.declared.command.Signalled.{Signalled}

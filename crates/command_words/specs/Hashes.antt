@@ -1,14 +1,15 @@
--- The commands on hashes, a row each (the pages of these commands). A key that holds a string is the wrong type, and then nothing changes.
-use Rattle.std.specs.Prelude.{ℕ, ◌-◌, ◌==◌, List, [], ◌∷◌, Bool, map, length, is_some}
+-- The commands on hashes, a row each (the pages of these commands). A key that holds a string is
+-- the wrong type, and then nothing changes.
+use Rattle.std.specs.Prelude.{ℕ, ◌-◌, ◌==◌, List, [], ◌∷◌, map, length, is_some}
 use Rattle.std.specs.Prelude.{Option, Some, None, Result, Ok, Err, ℤ, pos, if◌then◌else◌}
 use Rattle.std.specs.Fmt.{signed_decimal}
 use Rattle.std.specs.Str.{bytes_eq}
 use Rattle.std.specs.FinMap.{insert, remove}
 use Rattle.resp_value.specs.declared.value.Value.{Value}
 use Rattle.resp_value.specs.declared.value.Value.TheVariants.{Number, Blob, Array, Map}
-use Rattle.resp_value.specs.Of.{tree_of}
+use Rattle.resp_value.specs.ValueTree.{tree_of}
 use Rattle.resp_value.specs.Tree.{in_turn}
-use Rattle.command_words.specs.Space.{Content, Text, Fields, Held, Space, content_at, deadline_at}
+use Rattle.command_words.specs.Space.{Content, Text, Fields, Space, content_at, deadline_at}
 use Rattle.command_words.specs.Effect.{Effect, replied, wrote, blob_or_null, wrong_type}
 use Rattle.command_words.specs.Effect.{hash_not_integer, number_in, sum_in}
 
@@ -23,7 +24,8 @@ field_get name (f ∷ fs) = if bytes_eq name f.0 then Some f.1 else field_get na
 -- a field keeps its place, and a new one goes last
 abbrev pub field_set : List ℕ → List ℕ → Pairs → Pairs
 field_set name value [] = (name, value) ∷ []
-field_set name value (f ∷ fs) = if bytes_eq name f.0 then (f.0, value) ∷ fs else f ∷ field_set name value fs
+field_set name value (f ∷ fs) =
+    if bytes_eq name f.0 then (f.0, value) ∷ fs else f ∷ field_set name value fs
 
 -- the others keep their order
 abbrev pub field_remove : List ℕ → Pairs → Pairs
@@ -45,6 +47,12 @@ on_fields wrong row None = row []
 on_fields wrong row (Some (Text value)) = wrong
 on_fields wrong row (Some (Fields fields)) = row fields
 
+abbrev pub fields_reply : List ℕ → Space → (Pairs → Value) → Value
+fields_reply key space row = on_fields wrong_type row (content_at key space)
+
+abbrev pub fields_effect : List ℕ → Space → (Pairs → Effect) → Effect
+fields_effect key space row = on_fields (replied wrong_type space) row (content_at key space)
+
 -- the deadline of the key stays; a hash without fields goes
 abbrev pub put_fields : List ℕ → Pairs → Space → Space
 put_fields key [] space = remove space key
@@ -53,61 +61,63 @@ put_fields key (f ∷ fs) space =
 
 -- HGET k f
 abbrev pub hget_reply : List ℕ → List ℕ → Space → Value
-hget_reply key field space = on_fields wrong_type (λ fs. blob_or_null (field_get field fs)) (content_at key space)
+hget_reply key field space = fields_reply key space (λ fs. blob_or_null (field_get field fs))
 
 -- HMGET k f ..
 abbrev pub hmget_reply : List ℕ → List (List ℕ) → Space → Value
 hmget_reply key fields space =
-    on_fields wrong_type (λ fs. Array (map (λ f. tree_of (blob_or_null (field_get f fs))) fields)) (content_at key space)
+    fields_reply key space (λ fs. Array (map (λ f. tree_of (blob_or_null (field_get f fs))) fields))
 
 -- HGETALL k: in order of first insertion
 abbrev pub hgetall_reply : List ℕ → Space → Value
 hgetall_reply key space =
-    on_fields wrong_type (λ fs. Map (map (λ f. (tree_of (Blob f.0), tree_of (Blob f.1))) fs)) (content_at key space)
+    fields_reply key space (λ fs. Map (map (λ f. (tree_of (Blob f.0), tree_of (Blob f.1))) fs))
 
 -- HLEN k
 abbrev pub hlen_reply : List ℕ → Space → Value
-hlen_reply key space = on_fields wrong_type (λ fs. Number (pos (length fs))) (content_at key space)
+hlen_reply key space = fields_reply key space (λ fs. Number (pos (length fs)))
 
 -- HEXISTS k f
 abbrev pub hexists_reply : List ℕ → List ℕ → Space → Value
 hexists_reply key field space =
-    on_fields wrong_type (λ fs. Number (pos (if is_some (field_get field fs) then 1 else 0))) (content_at key space)
+    fields_reply key space (λ fs. Number (pos (if is_some (field_get field fs) then 1 else 0)))
 
 -- HKEYS k, HVALS k: in order of first insertion
 abbrev pub hkeys_reply : List ℕ → Space → Value
-hkeys_reply key space = on_fields wrong_type (λ fs. Array (map (λ f. tree_of (Blob f.0)) fs)) (content_at key space)
+hkeys_reply key space = fields_reply key space (λ fs. Array (map (λ f. tree_of (Blob f.0)) fs))
 
 abbrev pub hvals_reply : List ℕ → Space → Value
-hvals_reply key space = on_fields wrong_type (λ fs. Array (map (λ f. tree_of (Blob f.1)) fs)) (content_at key space)
+hvals_reply key space = fields_reply key space (λ fs. Array (map (λ f. tree_of (Blob f.1)) fs))
 
 -- HSET k f v ..: replies how many fields are new
+abbrev pub hset_row : List ℕ → Pairs → Pairs → Space → Effect
+hset_row key old new space =
+    wrote (Number (pos (length new - length old))) (key ∷ []) (put_fields key new space)
+
 abbrev pub hset_effect : List ℕ → List (List ℕ) → Space → Effect
 hset_effect key words space =
-    on_fields (replied wrong_type space) (λ fs. hset_row (set_all (in_turn words) fs) fs) (content_at key space)
-  where
-    hset_row : Pairs → Pairs → Effect
-    hset_row new old = wrote (Number (pos (length new - length old))) (key ∷ []) (put_fields key new space)
+    fields_effect key space (λ fs. hset_row key fs (set_all (in_turn words) fs) space)
 
 -- HDEL k f ..: replies how many fields went
+abbrev pub hdel_row : List ℕ → Pairs → Pairs → Space → Effect
+hdel_row key old new space =
+    if length old == length new
+    then replied (Number (pos 0)) space
+    else wrote (Number (pos (length old - length new))) (key ∷ []) (put_fields key new space)
+
 abbrev pub hdel_effect : List ℕ → List (List ℕ) → Space → Effect
 hdel_effect key names space =
-    on_fields (replied wrong_type space) (λ fs. hdel_row (remove_all names fs) fs) (content_at key space)
-  where
-    hdel_row : Pairs → Pairs → Effect
-    hdel_row new old =
-        if length old == length new
-        then replied (Number (pos 0)) space
-        else wrote (Number (pos (length old - length new))) (key ∷ []) (put_fields key new space)
-
-abbrev pub hash_counted : List ℕ → List ℕ → Result ℤ Value → Pairs → Space → Effect
-hash_counted key field (Ok n) fields space =
-    wrote (Number n) (key ∷ []) (put_fields key (field_set field (signed_decimal n) fields) space)
-hash_counted key field (Err error) fields space = replied error space
+    fields_effect key space (λ fs. hdel_row key fs (remove_all names fs) space)
 
 -- HINCRBY k f n: a missing field is 0
+abbrev pub hincrby_row : List ℕ → List ℕ → Result ℤ Value → Pairs → Space → Effect
+hincrby_row key field (Ok n) fields space =
+    wrote (Number n) (key ∷ []) (put_fields key (field_set field (signed_decimal n) fields) space)
+hincrby_row key field (Err error) fields space = replied error space
+
+abbrev pub field_sum : List ℕ → ℤ → Pairs → Result ℤ Value
+field_sum field n fields = sum_in hash_not_integer (number_in (field_get field fields)) n
+
 abbrev pub hincrby_effect : List ℕ → List ℕ → ℤ → Space → Effect
 hincrby_effect key field n space =
-    on_fields (replied wrong_type space)
-        (λ fs. hash_counted key field (sum_in hash_not_integer (number_in (field_get field fs)) n) fs space)
-        (content_at key space)
+    fields_effect key space (λ fs. hincrby_row key field (field_sum field n fs) fs space)

@@ -1,5 +1,6 @@
--- The printed form of a word in schedules and transcripts: one spelling for each byte string, of visible bytes alone.
-use Rattle.std.specs.Prelude.{◌+◌, ◌&&◌, ◌||◌, ◌==◌, ℕ, List, [], ◌∷◌, Bool, if◌then◌else◌, nat_lt}
+-- The printed form of a word in schedules and transcripts: one spelling for each byte string, of
+-- visible bytes alone.
+use Rattle.std.specs.Prelude.{◌+◌, ◌&&◌, ◌==◌, ℕ, List, [], ◌∷◌, Bool, if◌then◌else◌, nat_lt}
 use Rattle.std.specs.Prelude.{nat_le, codes}
 use Rattle.std.specs.List.{flat_map}
 use Rattle.std.specs.Prelude.{◌/◌, ◌%◌}

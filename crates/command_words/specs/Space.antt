@@ -49,9 +49,10 @@ coded_bytes = coded_list coded_ℕ
 abbrev pub content_code : Coded Content
 content_code =
     code_by (List ℕ ⊎ List (List ℕ × List ℕ))
-        (coded⊎ coded_bytes (coded_list (coded× coded_bytes coded_bytes))) as_sum of_sum of_sum-as_sum
+    (coded⊎ coded_bytes (coded_list (coded× coded_bytes coded_bytes)))
+    as_sum of_sum of_sum-as_sum
 
 abbrev pub held_code : Coded Held
 held_code =
     code_by (Content × Option ℕ) (coded× content_code (coded_option coded_ℕ))
-        (λ h. (h.content, h.deadline)) (λ p. record { content = p.0; deadline = p.1 }) (λ _. refl)
+    (λ h. (h.content, h.deadline)) (λ p. record { content = p.0; deadline = p.1 }) (λ _. refl)

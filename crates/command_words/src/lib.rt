@@ -10,8 +10,9 @@ mod read;
 mod refused;
 mod written;
 
-pub use command::{Command, Done, FlushMode, SaveMode, SetLife, SetWhen, Signalled};
-pub use command::{TrackOptions, WordFault};
+pub use command::{
+    Command, Done, FlushMode, SaveMode, SetLife, SetWhen, Signalled, TrackOptions, WordFault,
+};
 pub use control::is_control;
 pub use printed::put_printed;
 pub use query::Query;

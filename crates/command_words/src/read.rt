@@ -7,9 +7,7 @@ use super::command::{Command, SetLife, SetWhen, WordFault};
 use resp_value::{Octets, Words};
 
 pub(crate) fn is_named(word: &Octets, name: &[u8]) -> bool
-    ensures {
-        result ≡ bytes_eq (str_to_ascii_lowercase word.now) (str_to_ascii_lowercase name.now)
-    }
+    ensures { result ≡ bytes_eq (str_to_ascii_lowercase word.now) (str_to_ascii_lowercase name.now) }
 {
     word.as_slice().eq_ignore_ascii_case(name)
 }

@@ -1,5 +1,6 @@
 //! The texts of the replies to words that are no command.
-ghost use Rattle.std.specs.Prelude.{◌≡◌, ◌++◌, IfOk, OnOk, codes};
+ghost use Rattle.std.specs.Prelude.{◌≡◌, ◌++◌, IfOk, OnOk};
+ghost use Rattle.command_words.specs.declared.command.WordFault.TheVariants.{Arity};
 ghost use Rattle.command_words.specs.Words.{fault_text, lower_name};
 
 use super::command::WordFault;
@@ -18,7 +19,7 @@ fn put_lower_name(words: &Words, out: &mut Vec<u8>) -> Result<(), NoMemory>
 }
 
 fn arity_text(alloc: Global, words: &Words) -> Result<Octets, NoMemory>
-    ensures { IfOk result (λ t. t ≡ codes "ERR wrong number of arguments for '" ++ lower_name words.now ++ codes "' command") }
+    ensures { IfOk result (λ t. t ≡ fault_text words.now Arity) }
 {
     let mut text = Vec::new(alloc);
     text.extend_from_slice(b"ERR wrong number of arguments for '")?;

@@ -12,7 +12,7 @@ fn words_of(alloc: Global, text: &str) -> Result<Words, NoMemory> {
     Ok(words)
 }
 
-fn show(alloc: Global, read: Result<Command, WordFault>) -> Result<Vec<u8>, NoMemory> {
+fn show(alloc: Global, read: &Result<Command, WordFault>) -> Result<Vec<u8>, NoMemory> {
     let mut out = Vec::new(alloc);
     match read {
         Ok(Command::Get(key)) => {
@@ -52,7 +52,7 @@ fn words_are_read_as_their_command(rt: HostRuntime) -> Result<(), Fail> {
         ("GETS a", "unknown"),
     ] {
         let read = read_command(&words_of(rt.alloc(), text)?);
-        let shown = show(rt.alloc(), read)?;
+        let shown = show(rt.alloc(), &read)?;
         assert_eq!(rt; shown.as_slice(), want.as_bytes(), "{text}");
     }
     Ok(())

@@ -9,6 +9,6 @@ invariant_of-result c =
     let was_read : c.in_ok-reads_as_cacheable.field-0 ≡ true = search rules in
     let IsQuery : List (List ℕ) → Type 0 = λ words. query_of words ≡ Some words in
     subst IsQuery (sym c.in_ok-words.ensures)
-        (query_again _
-            (ap (λ words. reads_as_cacheable (reading words)) c.as_slice.ensures
-                ∙ sym c.in_ok-reads_as_cacheable.ensures ∙ was_read))
+    (query_again _
+    (ap (λ words. reads_as_cacheable (reading words)) c.as_slice.ensures
+    ∙ sym c.in_ok-reads_as_cacheable.ensures ∙ was_read))
