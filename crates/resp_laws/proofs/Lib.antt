@@ -1,5 +1,5 @@
-pub mod Parse
-pub mod Pieces
+pub mod Answered
+pub mod Steadiness
 pub mod Scalars
 pub mod Trees
 pub mod Written

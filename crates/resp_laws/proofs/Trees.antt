@@ -1,25 +1,32 @@
 -- What is written of a value is read as what its spelling carries.
-use Rattle.std.proofs.Common.{◌≡◌, ℕ, zero, suc, ◌+◌, ◌*◌, ◌≤◌, pos, List, [], ◌∷◌, ◌++◌, refl, ap, ◌∙◌, append_assoc, add-one, true, false, cond, length, map, arith}
+use Rattle.std.proofs.Common.{◌≡◌, ℕ, zero, suc, ◌+◌, ◌*◌, ◌≤◌, pos, List, [], ◌∷◌, ◌++◌, refl, ap}
+use Rattle.std.proofs.Common.{◌∙◌, append_assoc, add-one, true, false, cond, length, map, arith}
 use Rattle.std.specs.Fmt.{decimal, signed_decimal}
 use Rattle.std.proofs.lemmas.Bool.{eq-eqb}
 use Rattle.std.proofs.lemmas.List.{length-append, length-map}
 use Rattle.resp_value.specs.declared.value.Proto.{Proto}
 use Rattle.resp_value.specs.declared.value.Proto.TheVariants.{Two, Three}
-use Rattle.resp_value.specs.Tree.{Tree, Trees, Rows, simple, error, number, blob, verbatim, blob_error, boolean, null, null_array, array, mapping, set, push, end, more, last, row, count, row_count, trees_of, list_of, rows_of, in_turn}
+use Rattle.resp_value.specs.Tree.{Tree, Trees, Rows, simple, error, number, blob, verbatim}
+use Rattle.resp_value.specs.Tree.{blob_error, boolean, null, null_array, array, mapping, set, push}
+use Rattle.resp_value.specs.Tree.{end, more, last, row, count, row_count, trees_of, list_of}
+use Rattle.resp_value.specs.Tree.{rows_of, in_turn}
 use Rattle.resp_value.specs.Spelling.{line, head, plain_byte, spelling, spellings, row_spellings}
 use Rattle.resp_value.specs.Carried.{carried, all_carried, rows_in_turn, rows_carried}
 use Rattle.resp_value.proofs.OneToOne.{trees_back}
 use Rattle.resp_stream.specs.declared.fault.Fault.TheVariants.{BadByte}
 use Rattle.resp_stream.specs.declared.value.Kind.{Kind}
 use Rattle.resp_stream.specs.declared.value.Kind.TheVariants.{Array, Map, Set, Push}
-use Rattle.resp_stream.specs.Answer.{Whole, Go, Stop, taken, ◌>>=◌}
-use Rattle.resp_stream.specs.Parts.{only_byte, line_feed, ending, minus_one, length_at, many}
+use Rattle.resp_stream.specs.Parsed.{Whole, Go, Stop, taken, ◌>>=◌}
+use Rattle.resp_stream.specs.Tokens.{only_byte, line_feed, ending, minus_one, length_at, many}
 use Rattle.resp_stream.specs.Request.{whole_limit}
-use Rattle.resp_stream.specs.Value.{rule_of, digits_of_at, signed_at, number_at, blob_at, blob_error_at, verbatim_at, truth_at, text_at, whole_number_at, elements, build, elements_at, aggregate_at, value_in, value_at}
+use Rattle.resp_stream.specs.Value.{rule_of, digits_of_at, signed_at, number_at, blob_at}
+use Rattle.resp_stream.specs.Value.{blob_error_at, verbatim_at, truth_at, text_at, whole_number_at}
+use Rattle.resp_stream.specs.Value.{elements, build, elements_at, aggregate_at, value_in, value_at}
 use Rattle.resp_stream.proofs.Capped.{whole_within}
 use Rattle.resp_laws.specs.Values.{FitsIn, AllFit, RowsFit, WrittenValues}
 use Rattle.resp_laws.proofs.Written.{is_length, length_only, head_parts, counted_parts}
-use Rattle.resp_laws.proofs.Scalars.{text_only, all_plain, number_only, blob_only, blob_error_only, verbatim_only}
+use Rattle.resp_laws.proofs.Scalars.{text_only, all_plain, number_only, blob_only, blob_error_only}
+use Rattle.resp_laws.proofs.Scalars.{verbatim_only}
 
 -- ---- by the type byte
 
@@ -75,9 +82,12 @@ at_set : (d : ℕ) (b : List ℕ) → value_in (suc d) (126 ∷ b) ≡ aggregate
 unfolding value_in
 at_set d b = refl
 
-at_push : (d : ℕ) (b : List ℕ) → d ≡ 7 → value_in (suc d) (62 ∷ b) ≡ aggregate_at Push (value_in d) b
+at_push : (d : ℕ) (b : List ℕ) → d ≡ 7
+    → value_in (suc d) (62 ∷ b) ≡ aggregate_at Push (value_in d) b
 unfolding value_in
-at_push d b e = ap (λ t. taken (cond t (Go (aggregate_at Push (value_in d))) (Stop BadByte)) 62 b) (eq-eqb (suc d) 8 (omega arith))
+at_push d b e =
+    ap (λ t. taken (cond t (Go (aggregate_at Push (value_in d))) (Stop BadByte)) 62 b)
+    (eq-eqb (suc d) 8 (omega arith))
 
 -- ---- the parts of spellings
 
@@ -85,7 +95,8 @@ line_parts : (mark : ℕ) (t r : List ℕ) → line mark t ++ r ≡ mark ∷ (t 
 unfolding line
 line_parts mark t r = ap (λ (q : List ℕ). mark ∷ q) (append_assoc t (13 ∷ 10 ∷ []) r)
 
-list_parts : (mark n : ℕ) (body r : List ℕ) → (head mark n ++ body) ++ r ≡ mark ∷ (decimal n ++ 13 ∷ 10 ∷ (body ++ r))
+list_parts : (mark n : ℕ) (body r : List ℕ)
+    → (head mark n ++ body) ++ r ≡ mark ∷ (decimal n ++ 13 ∷ 10 ∷ (body ++ r))
 list_parts mark n body r = append_assoc (head mark n) body r ∙ head_parts mark n (body ++ r)
 
 -- ---- what is always the same
@@ -114,25 +125,33 @@ minus_only : (r : List ℕ) → blob_at (45 ∷ 49 ∷ 13 ∷ 10 ∷ r) ≡ Whol
 unfolding blob_at length_at minus_one ending line_feed only_byte
 minus_only r = refl
 
-minus_array : (d : ℕ) (r : List ℕ) → aggregate_at Array (value_in d) (45 ∷ 49 ∷ 13 ∷ 10 ∷ r) ≡ Whole null_array r
+minus_array : (d : ℕ) (r : List ℕ)
+    → aggregate_at Array (value_in d) (45 ∷ 49 ∷ 13 ∷ 10 ∷ r) ≡ Whole null_array r
 unfolding aggregate_at length_at minus_one ending line_feed only_byte
 minus_array d r = refl
 
 -- ---- aggregates
 
-many_then : (d n : ℕ) (b c r : List ℕ) (t : Tree) (ts : List Tree) → value_in d b ≡ Whole t c → many (value_in d) n c ≡ Whole ts r → many (value_in d) (suc n) b ≡ Whole (t ∷ ts) r
+many_then : (d n : ℕ) (b c r : List ℕ) (t : Tree) (ts : List Tree) → value_in d b ≡ Whole t c
+    → many (value_in d) n c ≡ Whole ts r → many (value_in d) (suc n) b ≡ Whole (t ∷ ts) r
 unfolding many
-many_then d n b c r t ts e h = ap (λ q. q >>= λ t r. many (value_in d) n r >>= λ ts s. Whole (t ∷ ts) s) e ∙ ap (λ q. q >>= λ ts s. Whole (t ∷ ts) s) h
+many_then d n b c r t ts e h =
+    ap (λ q. q >>= λ t r. many (value_in d) n r >>= λ ts s. Whole (t ∷ ts) s) e
+    ∙ ap (λ q. q >>= λ ts s. Whole (t ∷ ts) s) h
 
 many_end : (d : ℕ) (r : List ℕ) → many (value_in d) 0 r ≡ Whole [] r
 unfolding many
 many_end d r = refl
 
-aggregate_only : (kind : Kind) (d n : ℕ) (ts : List Tree) (b r : List ℕ) → n ≤ 65536 → (rule_of kind).least ≤ n → n ≤ (rule_of kind).limit → many (value_in d) (elements kind n) b ≡ Whole ts r →
+aggregate_only : (kind : Kind) (d n : ℕ) (ts : List Tree) (b r : List ℕ) → n ≤ 65536
+    → (rule_of kind).least ≤ n → n ≤ (rule_of kind).limit
+    → many (value_in d) (elements kind n) b ≡ Whole ts r →
     aggregate_at kind (value_in d) (decimal n ++ 13 ∷ 10 ∷ b) ≡ Whole (build kind ts) r
 unfolding aggregate_at
 aggregate_only kind d n ts b r le lo hi h =
-    ap (λ q. q >>= elements_at kind (value_in d)) (length_only (rule_of kind) n (decimal n) b hi lo (is_length n (omega arith))) ∙ ap (λ q. q >>= λ ts s. Whole (build kind ts) s) h
+    ap (λ q. q >>= elements_at kind (value_in d))
+    (length_only (rule_of kind) n (decimal n) b hi lo (is_length n (omega arith)))
+    ∙ ap (λ q. q >>= λ ts s. Whole (build kind ts) s) h
 
 -- the values of pairs in turn
 abbrev turns : Proto → Rows → List Tree
@@ -147,74 +166,140 @@ turns_three : (rs : Rows) → rows_of (in_turn (turns Three rs)) ≡ rows_carrie
 turns_three last = refl
 turns_three (row k v rs) = ap (row (carried Three k) (carried Three v)) (turns_three rs)
 
-list_by : (p : Proto) (d : ℕ) (ts : Trees) (r : List ℕ) → count ts ≤ 65536 → many (value_in d) (count ts) (spellings p ts ++ r) ≡ Whole (list_of (all_carried p ts)) r →
-    value_in (suc d) (42 ∷ (decimal (count ts) ++ 13 ∷ 10 ∷ (spellings p ts ++ r))) ≡ Whole (array (all_carried p ts)) r
+list_by : (p : Proto) (d : ℕ) (ts : Trees) (r : List ℕ) → count ts ≤ 65536
+    → many (value_in d) (count ts) (spellings p ts ++ r) ≡ Whole (list_of (all_carried p ts)) r →
+    value_in (suc d) (42 ∷ (decimal (count ts) ++ 13 ∷ 10 ∷ (spellings p ts ++ r)))
+    ≡ Whole (array (all_carried p ts)) r
 list_by p d ts r le h =
-    at_array d (decimal (count ts) ++ 13 ∷ 10 ∷ (spellings p ts ++ r)) ∙ aggregate_only Array d (count ts) (list_of (all_carried p ts)) (spellings p ts ++ r) r le (omega arith) le h
+    at_array d (decimal (count ts) ++ 13 ∷ 10 ∷ (spellings p ts ++ r))
+    ∙ aggregate_only Array d (count ts) (list_of (all_carried p ts)) (spellings p ts ++ r) r le
+    (omega arith) le h
     ∙ ap (λ q. Whole (array q) r) (trees_back (all_carried p ts))
 
 mutual
-  pub value_only : (p : Proto) (d : ℕ) (t : Tree) (r : List ℕ) → FitsIn p d t → value_in d (spelling p t ++ r) ≡ Whole (carried p t) r
-  value_only p d (simple t) r h = ap (λ q. value_in d q) (line_parts 43 t r) ∙ at_simple d (t ++ 13 ∷ 10 ∷ r) ∙ text_only simple t r h.0 h.1
-  value_only p d (error t) r h = ap (λ q. value_in d q) (line_parts 45 t r) ∙ at_error d (t ++ 13 ∷ 10 ∷ r) ∙ text_only error t r h.0 h.1
-  value_only p d (number i) r h = ap (λ q. value_in d q) (line_parts 58 (signed_decimal i) r) ∙ at_number d (signed_decimal i ++ 13 ∷ 10 ∷ r) ∙ number_only i r h
-  value_only p d (blob b) r h = ap (λ q. value_in d q) (counted_parts 36 b r) ∙ at_blob d (decimal (length b) ++ 13 ∷ 10 ∷ (b ++ 13 ∷ 10 ∷ r)) ∙ blob_only b r h
-  value_only Two d (verbatim f b) r h = ap (λ q. value_in d q) (counted_parts 36 b r) ∙ at_blob d (decimal (length b) ++ 13 ∷ 10 ∷ (b ++ 13 ∷ 10 ∷ r)) ∙ blob_only b r h
+  pub value_only : (p : Proto) (d : ℕ) (t : Tree) (r : List ℕ) → FitsIn p d t
+      → value_in d (spelling p t ++ r) ≡ Whole (carried p t) r
+  value_only p d (simple t) r h =
+      ap (λ q. value_in d q) (line_parts 43 t r) ∙ at_simple d (t ++ 13 ∷ 10 ∷ r)
+      ∙ text_only simple t r h.0 h.1
+  value_only p d (error t) r h =
+      ap (λ q. value_in d q) (line_parts 45 t r) ∙ at_error d (t ++ 13 ∷ 10 ∷ r)
+      ∙ text_only error t r h.0 h.1
+  value_only p d (number i) r h =
+      ap (λ q. value_in d q) (line_parts 58 (signed_decimal i) r)
+      ∙ at_number d (signed_decimal i ++ 13 ∷ 10 ∷ r) ∙ number_only i r h
+  value_only p d (blob b) r h = ap (λ q. value_in d q) (counted_parts 36 b r)
+      ∙ at_blob d (decimal (length b) ++ 13 ∷ 10 ∷ (b ++ 13 ∷ 10 ∷ r)) ∙ blob_only b r h
+  value_only Two d (verbatim f b) r h =
+      ap (λ q. value_in d q) (counted_parts 36 b r)
+      ∙ at_blob d (decimal (length b) ++ 13 ∷ 10 ∷ (b ++ 13 ∷ 10 ∷ r)) ∙ blob_only b r h
   value_only Three d (verbatim f b) r h =
-      ap (λ q. value_in d q) (counted_parts 61 (f ++ 58 ∷ b) r) ∙ at_verbatim d (decimal (length (f ++ 58 ∷ b)) ++ 13 ∷ 10 ∷ ((f ++ 58 ∷ b) ++ 13 ∷ 10 ∷ r))
-      ∙ ap (λ (q : List ℕ). verbatim_at (decimal (length (f ++ 58 ∷ b)) ++ 13 ∷ 10 ∷ q)) (append_assoc f (58 ∷ b) (13 ∷ 10 ∷ r)) ∙ verbatim_only f b r h.0 h.1
+      ap (λ q. value_in d q) (counted_parts 61 (f ++ 58 ∷ b) r)
+      ∙ at_verbatim d (decimal (length (f ++ 58 ∷ b)) ++ 13 ∷ 10
+      ∷ ((f ++ 58 ∷ b) ++ 13 ∷ 10 ∷ r))
+      ∙ ap (λ (q : List ℕ). verbatim_at (decimal (length (f ++ 58 ∷ b)) ++ 13 ∷ 10 ∷ q))
+      (append_assoc f (58 ∷ b) (13 ∷ 10 ∷ r)) ∙ verbatim_only f b r h.0 h.1
   value_only Two d (blob_error b) r h =
-      ap (λ q. value_in d q) (line_parts 45 (map plain_byte b) r) ∙ at_error d (map plain_byte b ++ 13 ∷ 10 ∷ r) ∙ text_only error (map plain_byte b) r (omega (arith, length-map b plain_byte)) (all_plain b)
-  value_only Three d (blob_error b) r h = ap (λ q. value_in d q) (counted_parts 33 b r) ∙ at_blob_error d (decimal (length b) ++ 13 ∷ 10 ∷ (b ++ 13 ∷ 10 ∷ r)) ∙ blob_error_only b r h
-  value_only Two d (boolean true) r h = ap (λ q. value_in d q) (line_parts 58 (49 ∷ []) r) ∙ at_number d (49 ∷ 13 ∷ 10 ∷ r) ∙ one_only r
-  value_only Two d (boolean false) r h = ap (λ q. value_in d q) (line_parts 58 (48 ∷ []) r) ∙ at_number d (48 ∷ 13 ∷ 10 ∷ r) ∙ nought_only r
-  value_only Three d (boolean true) r h = ap (λ q. value_in d q) (line_parts 35 (116 ∷ []) r) ∙ at_truth d (116 ∷ 13 ∷ 10 ∷ r) ∙ true_only r
-  value_only Three d (boolean false) r h = ap (λ q. value_in d q) (line_parts 35 (102 ∷ []) r) ∙ at_truth d (102 ∷ 13 ∷ 10 ∷ r) ∙ false_only r
-  value_only Two d null r h = ap (λ q. value_in d q) (line_parts 36 (45 ∷ 49 ∷ []) r) ∙ at_blob d (45 ∷ 49 ∷ 13 ∷ 10 ∷ r) ∙ minus_only r
-  value_only Three d null r h = ap (λ q. value_in d q) (line_parts 95 [] r) ∙ at_null d (13 ∷ 10 ∷ r) ∙ null_only r
+      ap (λ q. value_in d q) (line_parts 45 (map plain_byte b) r)
+      ∙ at_error d (map plain_byte b ++ 13 ∷ 10 ∷ r)
+      ∙ text_only error (map plain_byte b) r (omega (arith, length-map b plain_byte))
+      (all_plain b)
+  value_only Three d (blob_error b) r h =
+      ap (λ q. value_in d q) (counted_parts 33 b r)
+      ∙ at_blob_error d (decimal (length b) ++ 13 ∷ 10 ∷ (b ++ 13 ∷ 10 ∷ r)) ∙ blob_error_only b r h
+  value_only Two d (boolean true) r h =
+      ap (λ q. value_in d q) (line_parts 58 (49 ∷ []) r) ∙ at_number d (49 ∷ 13 ∷ 10 ∷ r)
+      ∙ one_only r
+  value_only Two d (boolean false) r h =
+      ap (λ q. value_in d q) (line_parts 58 (48 ∷ []) r) ∙ at_number d (48 ∷ 13 ∷ 10 ∷ r)
+      ∙ nought_only r
+  value_only Three d (boolean true) r h =
+      ap (λ q. value_in d q) (line_parts 35 (116 ∷ []) r) ∙ at_truth d (116 ∷ 13 ∷ 10 ∷ r)
+      ∙ true_only r
+  value_only Three d (boolean false) r h =
+      ap (λ q. value_in d q) (line_parts 35 (102 ∷ []) r) ∙ at_truth d (102 ∷ 13 ∷ 10 ∷ r)
+      ∙ false_only r
+  value_only Two d null r h = ap (λ q. value_in d q) (line_parts 36 (45 ∷ 49 ∷ []) r)
+      ∙ at_blob d (45 ∷ 49 ∷ 13 ∷ 10 ∷ r) ∙ minus_only r
+  value_only Three d null r h = ap (λ q. value_in d q) (line_parts 95 [] r)
+      ∙ at_null d (13 ∷ 10 ∷ r) ∙ null_only r
   value_only Two zero null_array r h = absurd h
-  value_only Two (suc d) null_array r h = ap (λ q. value_in (suc d) q) (line_parts 42 (45 ∷ 49 ∷ []) r) ∙ at_array d (45 ∷ 49 ∷ 13 ∷ 10 ∷ r) ∙ minus_array d r
-  value_only Three d null_array r h = ap (λ q. value_in d q) (line_parts 95 [] r) ∙ at_null d (13 ∷ 10 ∷ r) ∙ null_only r
+  value_only Two (suc d) null_array r h =
+      ap (λ q. value_in (suc d) q) (line_parts 42 (45 ∷ 49 ∷ []) r)
+      ∙ at_array d (45 ∷ 49 ∷ 13 ∷ 10 ∷ r) ∙ minus_array d r
+  value_only Three d null_array r h =
+      ap (λ q. value_in d q) (line_parts 95 [] r) ∙ at_null d (13 ∷ 10 ∷ r) ∙ null_only r
   value_only p zero (array ts) r h = absurd h
-  value_only p (suc d) (array ts) r h = ap (λ q. value_in (suc d) q) (list_parts 42 (count ts) (spellings p ts) r) ∙ list_by p d ts r h.0 (all_only p d ts r h.1)
+  value_only p (suc d) (array ts) r h =
+      ap (λ q. value_in (suc d) q) (list_parts 42 (count ts) (spellings p ts) r)
+      ∙ list_by p d ts r h.0 (all_only p d ts r h.1)
   value_only p zero (mapping rs) r h = absurd h
   value_only Two (suc d) (mapping rs) r h =
       let n : 2 * row_count rs ≡ row_count rs + row_count rs = omega arith in
-      ap (λ q. value_in (suc d) q) (list_parts 42 (2 * row_count rs) (row_spellings Two rs) r) ∙ at_array d (decimal (2 * row_count rs) ++ 13 ∷ 10 ∷ (row_spellings Two rs ++ r))
-      ∙ aggregate_only Array d (2 * row_count rs) (turns Two rs) (row_spellings Two rs ++ r) r (omega (arith, h.0)) (omega arith) (omega (arith, h.0)) (rows_only Two d rs (2 * row_count rs) r n h.1)
-      ∙ ap (λ q. Whole (array (trees_of q)) r) (turns_two rs) ∙ ap (λ q. Whole (array q) r) (trees_back (rows_in_turn rs))
+      ap (λ q. value_in (suc d) q) (list_parts 42 (2 * row_count rs) (row_spellings Two rs) r)
+      ∙ at_array d (decimal (2 * row_count rs) ++ 13 ∷ 10 ∷ (row_spellings Two rs ++ r))
+      ∙ aggregate_only Array d (2 * row_count rs) (turns Two rs) (row_spellings Two rs ++ r) r
+      (omega (arith, h.0)) (omega arith) (omega (arith, h.0))
+      (rows_only Two d rs (2 * row_count rs) r n h.1)
+      ∙ ap (λ q. Whole (array (trees_of q)) r) (turns_two rs)
+      ∙ ap (λ q. Whole (array q) r) (trees_back (rows_in_turn rs))
   value_only Three (suc d) (mapping rs) r h =
-      ap (λ q. value_in (suc d) q) (list_parts 37 (row_count rs) (row_spellings Three rs) r) ∙ at_map d (decimal (row_count rs) ++ 13 ∷ 10 ∷ (row_spellings Three rs ++ r))
-      ∙ aggregate_only Map d (row_count rs) (turns Three rs) (row_spellings Three rs ++ r) r (omega (arith, h.0)) (omega arith) h.0 (rows_only Three d rs (row_count rs + row_count rs) r refl h.1)
+      ap (λ q. value_in (suc d) q) (list_parts 37 (row_count rs) (row_spellings Three rs) r)
+      ∙ at_map d (decimal (row_count rs) ++ 13 ∷ 10 ∷ (row_spellings Three rs ++ r))
+      ∙ aggregate_only Map d (row_count rs) (turns Three rs) (row_spellings Three rs ++ r) r
+      (omega (arith, h.0)) (omega arith) h.0
+      (rows_only Three d rs (row_count rs + row_count rs) r refl h.1)
       ∙ ap (λ q. Whole (mapping q) r) (turns_three rs)
   value_only p zero (set ts) r h = absurd h
-  value_only Two (suc d) (set ts) r h = ap (λ q. value_in (suc d) q) (list_parts 42 (count ts) (spellings Two ts) r) ∙ list_by Two d ts r h.0 (all_only Two d ts r h.1)
+  value_only Two (suc d) (set ts) r h =
+      ap (λ q. value_in (suc d) q) (list_parts 42 (count ts) (spellings Two ts) r)
+      ∙ list_by Two d ts r h.0 (all_only Two d ts r h.1)
   value_only Three (suc d) (set ts) r h =
-      ap (λ q. value_in (suc d) q) (list_parts 126 (count ts) (spellings Three ts) r) ∙ at_set d (decimal (count ts) ++ 13 ∷ 10 ∷ (spellings Three ts ++ r))
-      ∙ aggregate_only Set d (count ts) (list_of (all_carried Three ts)) (spellings Three ts ++ r) r h.0 (omega arith) h.0 (all_only Three d ts r h.1) ∙ ap (λ q. Whole (set q) r) (trees_back (all_carried Three ts))
+      ap (λ q. value_in (suc d) q) (list_parts 126 (count ts) (spellings Three ts) r)
+      ∙ at_set d (decimal (count ts) ++ 13 ∷ 10 ∷ (spellings Three ts ++ r))
+      ∙ aggregate_only Set d (count ts) (list_of (all_carried Three ts)) (spellings Three ts ++ r) r
+      h.0 (omega arith) h.0 (all_only Three d ts r h.1)
+      ∙ ap (λ q. Whole (set q) r) (trees_back (all_carried Three ts))
   value_only p zero (push ts) r h = absurd h
-  value_only Two (suc d) (push ts) r h = ap (λ q. value_in (suc d) q) (list_parts 42 (count ts) (spellings Two ts) r) ∙ list_by Two d ts r h.1 (all_only Two d ts r h.2)
+  value_only Two (suc d) (push ts) r h =
+      ap (λ q. value_in (suc d) q) (list_parts 42 (count ts) (spellings Two ts) r)
+      ∙ list_by Two d ts r h.1 (all_only Two d ts r h.2)
   value_only Three (suc d) (push ts) r h =
-      ap (λ q. value_in (suc d) q) (list_parts 62 (count ts) (spellings Three ts) r) ∙ at_push d (decimal (count ts) ++ 13 ∷ 10 ∷ (spellings Three ts ++ r)) h.0
-      ∙ aggregate_only Push d (count ts) (list_of (all_carried Three ts)) (spellings Three ts ++ r) r h.1 (omega arith) h.1 (all_only Three d ts r h.2) ∙ ap (λ q. Whole (push q) r) (trees_back (all_carried Three ts))
+      ap (λ q. value_in (suc d) q) (list_parts 62 (count ts) (spellings Three ts) r)
+      ∙ at_push d (decimal (count ts) ++ 13 ∷ 10 ∷ (spellings Three ts ++ r)) h.0
+      ∙ aggregate_only Push d (count ts) (list_of (all_carried Three ts)) (spellings Three ts ++ r)
+      r h.1 (omega arith) h.1 (all_only Three d ts r h.2)
+      ∙ ap (λ q. Whole (push q) r) (trees_back (all_carried Three ts))
 
-  all_only : (p : Proto) (d : ℕ) (ts : Trees) (r : List ℕ) → AllFit p d ts → many (value_in d) (count ts) (spellings p ts ++ r) ≡ Whole (list_of (all_carried p ts)) r
+  all_only : (p : Proto) (d : ℕ) (ts : Trees) (r : List ℕ) → AllFit p d ts
+      → many (value_in d) (count ts) (spellings p ts ++ r) ≡ Whole (list_of (all_carried p ts)) r
   all_only p d end r h = many_end d r
   all_only p d (more t ts) r h =
-      (λ i. many (value_in d) (add-one (count ts) i) (append_assoc (spelling p t) (spellings p ts) r i))
-      ∙ many_then d (count ts) (spelling p t ++ (spellings p ts ++ r)) (spellings p ts ++ r) r (carried p t) (list_of (all_carried p ts)) (value_only p d t (spellings p ts ++ r) h.0) (all_only p d ts r h.1)
+      (λ i. many (value_in d) (add-one (count ts) i)
+      (append_assoc (spelling p t) (spellings p ts) r i))
+      ∙ many_then d (count ts) (spelling p t ++ (spellings p ts ++ r)) (spellings p ts ++ r) r
+      (carried p t) (list_of (all_carried p ts)) (value_only p d t (spellings p ts ++ r) h.0)
+      (all_only p d ts r h.1)
 
-  rows_only : (p : Proto) (d : ℕ) (rs : Rows) (n : ℕ) (r : List ℕ) → n ≡ row_count rs + row_count rs → RowsFit p d rs → many (value_in d) n (row_spellings p rs ++ r) ≡ Whole (turns p rs) r
+  rows_only : (p : Proto) (d : ℕ) (rs : Rows) (n : ℕ) (r : List ℕ) → n ≡ row_count rs + row_count rs
+      → RowsFit p d rs → many (value_in d) n (row_spellings p rs ++ r) ≡ Whole (turns p rs) r
   rows_only p d last n r e h = ap (λ k. many (value_in d) k r) e ∙ many_end d r
   rows_only p d (row k v rs) n r e h =
       let two : n ≡ suc (suc (row_count rs + row_count rs)) = omega arith in
-      (λ i. many (value_in d) (two i) ((append_assoc (spelling p k ++ spelling p v) (row_spellings p rs) r ∙ append_assoc (spelling p k) (spelling p v) (row_spellings p rs ++ r)) i))
-      ∙ many_then d (suc (row_count rs + row_count rs)) (spelling p k ++ (spelling p v ++ (row_spellings p rs ++ r))) (spelling p v ++ (row_spellings p rs ++ r)) r (carried p k) (carried p v ∷ turns p rs)
+      (λ i. many (value_in d) (two i)
+      ((append_assoc (spelling p k ++ spelling p v) (row_spellings p rs) r
+      ∙ append_assoc (spelling p k) (spelling p v) (row_spellings p rs ++ r)) i))
+      ∙ many_then d (suc (row_count rs + row_count rs))
+      (spelling p k ++ (spelling p v ++ (row_spellings p rs ++ r)))
+      (spelling p v ++ (row_spellings p rs ++ r)) r (carried p k) (carried p v ∷ turns p rs)
       (value_only p d k (spelling p v ++ (row_spellings p rs ++ r)) h.0)
-      (many_then d (row_count rs + row_count rs) (spelling p v ++ (row_spellings p rs ++ r)) (row_spellings p rs ++ r) r (carried p v) (turns p rs) (value_only p d v (row_spellings p rs ++ r) h.1)
+      (many_then d (row_count rs + row_count rs) (spelling p v ++ (row_spellings p rs ++ r))
+      (row_spellings p rs ++ r) r (carried p v) (turns p rs)
+      (value_only p d v (row_spellings p rs ++ r) h.1)
       (rows_only p d rs (row_count rs + row_count rs) r refl h.2))
 
 pub written_values : WrittenValues
 unfolding value_at
 written_values p t r h =
-    whole_within whole_limit (spelling p t ++ r) (value_in 8 (spelling p t ++ r)) (carried p t) r (value_only p 8 t r h.parts) (omega (arith, h.whole, length-append (spelling p t) r))
+    whole_within whole_limit (spelling p t ++ r) (value_in 8 (spelling p t ++ r)) (carried p t) r
+    (value_only p 8 t r h.parts) (omega (arith, h.whole, length-append (spelling p t) r))

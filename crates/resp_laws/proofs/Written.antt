@@ -1,5 +1,7 @@
 -- What is written of a request is read.
-use Rattle.std.proofs.Common.{◌≡◌, ℕ, zero, suc, ◌+◌, ◌-◌, ◌*◌, ◌/◌, ◌%◌, ◌<◌, ◌≤◌, ◌^◌, List, [], ◌∷◌, ◌++◌, refl, sym, ap, ◌∙◌, ◌⊎◌, inl, inr, append_assoc, Bool, cond, length, arith, Option, Some}
+use Rattle.std.proofs.Common.{◌≡◌, ℕ, zero, suc, ◌+◌, ◌-◌, ◌*◌, ◌/◌, ◌%◌, ◌<◌, ◌≤◌, ◌^◌, List, []}
+use Rattle.std.proofs.Common.{◌∷◌, ◌++◌, refl, sym, ap, ◌∙◌, ◌⊎◌, inl, inr, append_assoc, Bool}
+use Rattle.std.proofs.Common.{cond, length, arith, Option, Some}
 use Rattle.std.specs.Prelude.{nat_lt}
 use Rattle.std.specs.Fmt.{decimal}
 use Rattle.std.proofs.lemmas.Fmt.{decimal_by_steps}
@@ -7,10 +9,13 @@ use Rattle.std.proofs.lemmas.Bool.{ne_eqb, le-ltb}
 use Rattle.std.proofs.lemmas.List.{length-append}
 use Rattle.resp_value.specs.Spelling.{line, head, counted, blob_spellings, request_spelling}
 use Rattle.resp_stream.specs.declared.fault.Fault.TheVariants.{BadByte, TooLong, NotServed}
-use Rattle.resp_stream.specs.declared.parts.LengthRule.{LengthRule}
-use Rattle.resp_stream.specs.Answer.{Whole, Choice, Go, Stop, Move, On, Out, taken, moved, scan, ◌>>=◌}
-use Rattle.resp_stream.specs.Parts.{only_byte, line_feed, ending, length_end, digit_move, digits_at, minus_one, length_by, length_at, counted_at, many}
-use Rattle.resp_stream.specs.Request.{whole_limit, words_rule, word_rule, sized, word_at, listed, array_at, request_begun, request_at}
+use Rattle.resp_stream.specs.declared.tokens.LengthRule.{LengthRule}
+use Rattle.resp_stream.specs.Parsed.{Whole, Choice, Go, Stop, Move, On, Out, taken, moved, scan}
+use Rattle.resp_stream.specs.Parsed.{◌>>=◌}
+use Rattle.resp_stream.specs.Tokens.{only_byte, line_feed, ending, length_end, digit_move}
+use Rattle.resp_stream.specs.Tokens.{digits_at, minus_one, length_by, length_at, counted_at, many}
+use Rattle.resp_stream.specs.Request.{whole_limit, words_rule, word_rule, sized, word_at, listed}
+use Rattle.resp_stream.specs.Request.{array_at, request_begun, request_at}
 use Rattle.resp_stream.proofs.Readers.{bytes_exact}
 use Rattle.resp_stream.proofs.Capped.{whole_within}
 use Rattle.resp_laws.specs.Streams.{EachFits, RequestFits}
@@ -25,9 +30,11 @@ Digits m (c ∷ ds) n = (48 ≤ c) × (c ≤ 57) × Digits (m * 10 + (c - 48)) d
 -- `0`, or digits that begin with 1 to 9
 abbrev pub IsLength : ℕ → List ℕ → Type 0
 IsLength n [] = ⊥
-IsLength n (c ∷ ds) = ((c ≡ 48) × (ds ≡ []) × (n ≡ 0)) ⊎ ((49 ≤ c) × (c ≤ 57) × Digits (c - 48) ds n)
+IsLength n (c ∷ ds) =
+    ((c ≡ 48) × (ds ≡ []) × (n ≡ 0)) ⊎ ((49 ≤ c) × (c ≤ 57) × Digits (c - 48) ds n)
 
-digit_more : (ds : List ℕ) (m k d n : ℕ) → 48 ≤ d → d ≤ 57 → k * 10 + (d - 48) ≡ n → Digits m ds k → Digits m (ds ++ d ∷ []) n
+digit_more : (ds : List ℕ) (m k d n : ℕ) → 48 ≤ d → d ≤ 57 → k * 10 + (d - 48) ≡ n → Digits m ds k
+    → Digits m (ds ++ d ∷ []) n
 digit_more [] m k d n a b e h = (a, b, ap (λ z. z * 10 + (d - 48)) h ∙ e)
 digit_more (c ∷ ds) m k d n a b e h = (h.0, h.1, digit_more ds (m * 10 + (c - 48)) k d n a b e h.2)
 
@@ -35,12 +42,18 @@ one_digit : (n : ℕ) → n < 10 → IsLength n ((48 + n) ∷ [])
 one_digit zero lt = inl (omega arith, refl, refl)
 one_digit (suc n) lt = inr (omega arith, omega arith, omega arith)
 
-next_digit : (n : ℕ) (ds : List ℕ) → 10 ≤ n → IsLength (n / 10) ds → IsLength n (ds ++ ((48 + n % 10) ∷ []))
+next_digit : (n : ℕ) (ds : List ℕ) → 10 ≤ n → IsLength (n / 10) ds
+    → IsLength n (ds ++ ((48 + n % 10) ∷ []))
 next_digit n [] le h = absurd h
 next_digit n (c ∷ ds) le h =
     elim h [
       | inl z ↦ absurd (let e : n / 10 ≡ 0 = z.2 in omega arith)
-      | inr z ↦ inr (z.0, z.1, digit_more ds (c - 48) (n / 10) (48 + n % 10) n (omega arith) (omega arith) (omega arith) z.2)
+      | inr z ↦ inr (
+        z.0,
+        z.1,
+        digit_more ds (c - 48) (n / 10) (48 + n % 10) n (omega arith) (omega arith)
+            (omega arith) z.2,
+      )
     ]
 
 pub is_length : (n : ℕ) → n < 2 ^ 64 → IsLength n (decimal n)
@@ -54,45 +67,71 @@ grows (c ∷ ds) m n h = omega (arith, grows ds (m * 10 + (c - 48)) n h.2)
 
 module _ (rule : LengthRule) where
   digit : ℕ → ℕ → Bool → Bool → Bool → Bool → Move ℕ (Option ℕ)
-  digit n c x y z w = cond x (Out (length_end rule n)) (cond y (Out (Stop BadByte)) (cond z (Out (Stop BadByte)) (cond w (Out (Stop (TooLong (n * 10 + (c - 48))))) (On (n * 10 + (c - 48))))))
+  digit n c x y z w =
+      cond x (Out (length_end rule n))
+      (cond y (Out (Stop BadByte))
+      (cond z (Out (Stop BadByte))
+      (cond w (Out (Stop (TooLong (n * 10 + (c - 48))))) (On (n * 10 + (c - 48))))))
 
-  digit_step : (n c : ℕ) → 48 ≤ c → c ≤ 57 → n * 10 + (c - 48) ≤ rule.limit → digit_move rule n c ≡ On (n * 10 + (c - 48))
+  digit_step : (n c : ℕ) → 48 ≤ c → c ≤ 57 → n * 10 + (c - 48) ≤ rule.limit
+      → digit_move rule n c ≡ On (n * 10 + (c - 48))
   unfolding digit
-  digit_step n c a b le = λ i. digit n c (ne_eqb c 13 (λ e. omega arith) i) (le-ltb c 48 a i) (le-ltb 57 c b i) (le-ltb rule.limit (n * 10 + (c - 48)) le i)
+  digit_step n c a b le =
+      λ i. digit n c (ne_eqb c 13 (λ e. omega arith) i) (le-ltb c 48 a i) (le-ltb 57 c b i)
+      (le-ltb rule.limit (n * 10 + (c - 48)) le i)
 
-  digits_end : (n : ℕ) (r : List ℕ) → rule.least ≤ n → scan (digit_move rule) n (13 ∷ 10 ∷ r) ≡ Whole (Some n) r
+  digits_end : (n : ℕ) (r : List ℕ) → rule.least ≤ n
+      → scan (digit_move rule) n (13 ∷ 10 ∷ r) ≡ Whole (Some n) r
   unfolding line_feed only_byte
-  digits_end n r le = ap (λ t. taken (cond t (Stop BadByte) (Go (line_feed (Some n)))) 13 (10 ∷ r)) (le-ltb n rule.least le)
+  digits_end n r le =
+      ap (λ t. taken (cond t (Stop BadByte) (Go (line_feed (Some n)))) 13 (10 ∷ r))
+      (le-ltb n rule.least le)
 
-  digits_rest : (n : ℕ) (ds r : List ℕ) (m : ℕ) → n ≤ rule.limit → rule.least ≤ n → Digits m ds n → scan (digit_move rule) m (ds ++ 13 ∷ 10 ∷ r) ≡ Whole (Some n) r
+  digits_rest : (n : ℕ) (ds r : List ℕ) (m : ℕ) → n ≤ rule.limit → rule.least ≤ n → Digits m ds n
+      → scan (digit_move rule) m (ds ++ 13 ∷ 10 ∷ r) ≡ Whole (Some n) r
   digits_rest n [] r m le lo h = digits_end m r (omega (arith, h)) ∙ ap (λ k. Whole (Some k) r) h
   digits_rest n (c ∷ ds) r m le lo h =
-      ap (λ q. moved q (λ u. scan (digit_move rule) u (ds ++ 13 ∷ 10 ∷ r)) c (ds ++ 13 ∷ 10 ∷ r)) (digit_step m c h.0 h.1 (omega (arith, grows ds (m * 10 + (c - 48)) n h.2)))
+      ap (λ q. moved q (λ u. scan (digit_move rule) u (ds ++ 13 ∷ 10 ∷ r)) c (ds ++ 13 ∷ 10 ∷ r))
+      (digit_step m c h.0 h.1 (omega (arith, grows ds (m * 10 + (c - 48)) n h.2)))
       ∙ digits_rest n ds r (m * 10 + (c - 48)) le lo h.2
 
   lead : ℕ → Bool → Bool → Bool → Bool → Bool → Bool → Choice (Option ℕ)
   lead c x y z u v w =
-      cond x (cond rule.streamed (Stop (NotServed 63)) (Stop BadByte)) (cond y (cond rule.null (Go minus_one) (Stop BadByte)) (cond z (cond (nat_lt 0 rule.least) (Stop BadByte) (Go (ending (Some 0))))
-      (cond u (Stop BadByte) (cond v (Stop BadByte) (cond w (Stop (TooLong (c - 48))) (Go (digits_at rule (c - 48))))))))
+      cond x (cond rule.streamed (Stop (NotServed 63)) (Stop BadByte))
+      (cond y (cond rule.null (Go minus_one) (Stop BadByte))
+      (cond z (cond (nat_lt 0 rule.least) (Stop BadByte) (Go (ending (Some 0))))
+      (cond u (Stop BadByte)
+      (cond v (Stop BadByte)
+      (cond w (Stop (TooLong (c - 48))) (Go (digits_at rule (c - 48))))))))
 
-  lead_step : (c : ℕ) → 49 ≤ c → c ≤ 57 → c - 48 ≤ rule.limit → length_by rule c ≡ Go (digits_at rule (c - 48))
+  lead_step : (c : ℕ) → 49 ≤ c → c ≤ 57 → c - 48 ≤ rule.limit
+      → length_by rule c ≡ Go (digits_at rule (c - 48))
   unfolding lead
   lead_step c a b le =
-      λ i. lead c (ne_eqb c 63 (λ e. omega arith) i) (ne_eqb c 45 (λ e. omega arith) i) (ne_eqb c 48 (λ e. omega arith) i) (le-ltb c 49 a i) (le-ltb 57 c b i) (le-ltb rule.limit (c - 48) le i)
+      λ i. lead c (ne_eqb c 63 (λ e. omega arith) i) (ne_eqb c 45 (λ e. omega arith) i)
+      (ne_eqb c 48 (λ e. omega arith) i) (le-ltb c 49 a i) (le-ltb 57 c b i)
+      (le-ltb rule.limit (c - 48) le i)
 
   zero_only : (r : List ℕ) → rule.least ≤ 0 → length_at rule (48 ∷ 13 ∷ 10 ∷ r) ≡ Whole (Some 0) r
   unfolding length_at ending line_feed only_byte
-  zero_only r le = ap (λ t. taken (cond t (Stop BadByte) (Go (ending (Some 0)))) 48 (13 ∷ 10 ∷ r)) (le-ltb 0 rule.least le)
+  zero_only r le =
+      ap (λ t. taken (cond t (Stop BadByte) (Go (ending (Some 0)))) 48 (13 ∷ 10 ∷ r))
+      (le-ltb 0 rule.least le)
 
-  some_only : (n c : ℕ) (ds r : List ℕ) → n ≤ rule.limit → rule.least ≤ n → 49 ≤ c → c ≤ 57 → Digits (c - 48) ds n → length_at rule (c ∷ (ds ++ 13 ∷ 10 ∷ r)) ≡ Whole (Some n) r
+  some_only : (n c : ℕ) (ds r : List ℕ) → n ≤ rule.limit → rule.least ≤ n → 49 ≤ c → c ≤ 57
+      → Digits (c - 48) ds n → length_at rule (c ∷ (ds ++ 13 ∷ 10 ∷ r)) ≡ Whole (Some n) r
   unfolding length_at digits_at
-  some_only n c ds r le lo a b h = ap (λ q. taken q c (ds ++ 13 ∷ 10 ∷ r)) (lead_step c a b (omega (arith, grows ds (c - 48) n h))) ∙ digits_rest n ds r (c - 48) le lo h
+  some_only n c ds r le lo a b h =
+      ap (λ q. taken q c (ds ++ 13 ∷ 10 ∷ r))
+      (lead_step c a b (omega (arith, grows ds (c - 48) n h))) ∙ digits_rest n ds r (c - 48) le lo h
 
-  pub length_only : (n : ℕ) (ds r : List ℕ) → n ≤ rule.limit → rule.least ≤ n → IsLength n ds → length_at rule (ds ++ 13 ∷ 10 ∷ r) ≡ Whole (Some n) r
+  pub length_only : (n : ℕ) (ds r : List ℕ) → n ≤ rule.limit → rule.least ≤ n → IsLength n ds
+      → length_at rule (ds ++ 13 ∷ 10 ∷ r) ≡ Whole (Some n) r
   length_only n [] r le lo h = absurd h
   length_only n (c ∷ ds) r le lo h =
       elim h [
-        | inl z ↦ ap (λ (q : List ℕ). length_at rule (q ++ 13 ∷ 10 ∷ r)) (λ i. z.0 i ∷ z.1 i) ∙ zero_only r (omega (arith, z.2)) ∙ ap (λ k. Whole (Some k) r) (sym z.2)
+        | inl z ↦ ap (λ (q : List ℕ). length_at rule (q ++ 13 ∷ 10 ∷ r)) (λ i. z.0 i ∷ z.1 i)
+            ∙ zero_only r (omega (arith, z.2)) ∙ ap (λ k. Whole (Some k) r) (sym z.2)
         | inr z ↦ some_only n c ds r le lo z.0 z.1 z.2
       ]
 
@@ -110,10 +149,13 @@ pub head_parts : (mark n : ℕ) (r : List ℕ) → head mark n ++ r ≡ mark ∷
 unfolding head line
 head_parts mark n r = ap (λ (q : List ℕ). mark ∷ q) (append_assoc (decimal n) (13 ∷ 10 ∷ []) r)
 
-pub counted_parts : (mark : ℕ) (w r : List ℕ) → counted mark w ++ r ≡ mark ∷ (decimal (length w) ++ 13 ∷ 10 ∷ (w ++ 13 ∷ 10 ∷ r))
+pub counted_parts : (mark : ℕ) (w r : List ℕ)
+    → counted mark w ++ r ≡ mark ∷ (decimal (length w) ++ 13 ∷ 10 ∷ (w ++ 13 ∷ 10 ∷ r))
 unfolding counted
 counted_parts mark w r =
-    append_assoc (head mark (length w) ++ w) (13 ∷ 10 ∷ []) r ∙ append_assoc (head mark (length w)) w (13 ∷ 10 ∷ r) ∙ head_parts mark (length w) (w ++ 13 ∷ 10 ∷ r)
+    append_assoc (head mark (length w) ++ w) (13 ∷ 10 ∷ []) r
+    ∙ append_assoc (head mark (length w)) w (13 ∷ 10 ∷ r)
+    ∙ head_parts mark (length w) (w ++ 13 ∷ 10 ∷ r)
 
 marked : (b : List ℕ) → word_at (36 ∷ b) ≡ (length_at word_rule b >>= λ n s. sized n s)
 unfolding word_at only_byte
@@ -122,34 +164,48 @@ marked b = refl
 word_only : (w r : List ℕ) → length w ≤ 16777216 → word_at (counted 36 w ++ r) ≡ Whole w r
 word_only w r le =
     ap word_at (counted_parts 36 w r) ∙ marked (decimal (length w) ++ 13 ∷ 10 ∷ (w ++ 13 ∷ 10 ∷ r))
-    ∙ ap (λ q. q >>= λ n s. sized n s) (length_only word_rule (length w) (decimal (length w)) (w ++ 13 ∷ 10 ∷ r) le (omega arith) (is_length (length w) (omega arith)))
+    ∙ ap (λ q. q >>= λ n s. sized n s)
+    (length_only word_rule (length w) (decimal (length w)) (w ++ 13 ∷ 10 ∷ r) le (omega arith)
+    (is_length (length w) (omega arith)))
     ∙ counted_only w r
 
-many_next : (n : ℕ) (b c r w : List ℕ) (ws : List (List ℕ)) → word_at b ≡ Whole w c → many word_at n c ≡ Whole ws r → many word_at (suc n) b ≡ Whole (w ∷ ws) r
+many_next : (n : ℕ) (b c r w : List ℕ) (ws : List (List ℕ)) → word_at b ≡ Whole w c
+    → many word_at n c ≡ Whole ws r → many word_at (suc n) b ≡ Whole (w ∷ ws) r
 unfolding many
-many_next n b c r w ws e h = ap (λ q. q >>= λ t r. many word_at n r >>= λ ts s. Whole (t ∷ ts) s) e ∙ ap (λ q. q >>= λ ts s. Whole (w ∷ ts) s) h
+many_next n b c r w ws e h = ap (λ q. q >>= λ t r. many word_at n r >>= λ ts s. Whole (t ∷ ts) s) e
+    ∙ ap (λ q. q >>= λ ts s. Whole (w ∷ ts) s) h
 
 many_none : (r : List ℕ) → many word_at 0 r ≡ Whole [] r
 unfolding many
 many_none r = refl
 
-words_only : (ws : List (List ℕ)) (r : List ℕ) → EachFits ws → many word_at (length ws) (blob_spellings ws ++ r) ≡ Whole ws r
+words_only : (ws : List (List ℕ)) (r : List ℕ) → EachFits ws
+    → many word_at (length ws) (blob_spellings ws ++ r) ≡ Whole ws r
 words_only [] r h = many_none r
 words_only (w ∷ ws) r h =
     ap (λ q. many word_at (suc (length ws)) q) (append_assoc (counted 36 w) (blob_spellings ws) r)
-    ∙ many_next (length ws) (counted 36 w ++ (blob_spellings ws ++ r)) (blob_spellings ws ++ r) r w ws (word_only w (blob_spellings ws ++ r) h.0) (words_only ws r h.1)
+    ∙ many_next (length ws) (counted 36 w ++ (blob_spellings ws ++ r)) (blob_spellings ws ++ r) r w
+    ws (word_only w (blob_spellings ws ++ r) h.0) (words_only ws r h.1)
 
 starred : (b : List ℕ) → request_begun (42 ∷ b) ≡ (length_at words_rule b >>= listed)
 unfolding request_begun array_at
 starred b = refl
 
-begun_only : (ws : List (List ℕ)) (r : List ℕ) → length ws ≤ 65536 → EachFits ws → request_begun (request_spelling ws ++ r) ≡ Whole ws r
+begun_only : (ws : List (List ℕ)) (r : List ℕ) → length ws ≤ 65536 → EachFits ws
+    → request_begun (request_spelling ws ++ r) ≡ Whole ws r
 begun_only ws r le h =
-    ap request_begun (append_assoc (head 42 (length ws)) (blob_spellings ws) r ∙ head_parts 42 (length ws) (blob_spellings ws ++ r)) ∙ starred (decimal (length ws) ++ 13 ∷ 10 ∷ (blob_spellings ws ++ r))
-    ∙ ap (λ q. q >>= listed) (length_only words_rule (length ws) (decimal (length ws)) (blob_spellings ws ++ r) le (omega arith) (is_length (length ws) (omega arith)))
+    ap request_begun (append_assoc (head 42 (length ws)) (blob_spellings ws) r
+    ∙ head_parts 42 (length ws) (blob_spellings ws ++ r))
+    ∙ starred (decimal (length ws) ++ 13 ∷ 10 ∷ (blob_spellings ws ++ r))
+    ∙ ap (λ q. q >>= listed)
+    (length_only words_rule (length ws) (decimal (length ws)) (blob_spellings ws ++ r) le
+    (omega arith) (is_length (length ws) (omega arith)))
     ∙ words_only ws r h
 
-pub written : (ws : List (List ℕ)) (r : List ℕ) → RequestFits ws → request_at (request_spelling ws ++ r) ≡ Whole ws r
+pub written : (ws : List (List ℕ)) (r : List ℕ) → RequestFits ws
+    → request_at (request_spelling ws ++ r) ≡ Whole ws r
 unfolding request_at
 written ws r h =
-    whole_within whole_limit (request_spelling ws ++ r) (request_begun (request_spelling ws ++ r)) ws r (begun_only ws r h.number h.each) (omega (arith, h.whole, length-append (request_spelling ws) r))
+    whole_within whole_limit (request_spelling ws ++ r) (request_begun (request_spelling ws ++ r))
+    ws r (begun_only ws r h.number h.each)
+    (omega (arith, h.whole, length-append (request_spelling ws) r))

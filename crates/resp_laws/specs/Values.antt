@@ -1,11 +1,14 @@
 -- Values that pass no limit of a reader.
-use Rattle.std.specs.Prelude.{◌≡◌, ◌≢◌, ◌≤◌, ◌+◌, ℕ, zero, suc, ℤ, pos, negsuc, List, [], ◌∷◌, ◌++◌, length}
+use Rattle.std.specs.Prelude.{◌≡◌, ◌≢◌, ◌≤◌, ◌+◌, ℕ, zero, suc, ℤ, pos, negsuc, List, [], ◌∷◌, ◌++◌}
+use Rattle.std.specs.Prelude.{length}
 use Rattle.resp_value.specs.declared.value.Proto.{Proto}
 use Rattle.resp_value.specs.declared.value.Proto.TheVariants.{Two, Three}
-use Rattle.resp_value.specs.Tree.{Tree, Trees, Rows, simple, error, number, blob, verbatim, blob_error, boolean, null, null_array, array, mapping, set, push, end, more, last, row, count, row_count}
+use Rattle.resp_value.specs.Tree.{Tree, Trees, Rows, simple, error, number, blob, verbatim}
+use Rattle.resp_value.specs.Tree.{blob_error, boolean, null, null_array, array, mapping, set, push}
+use Rattle.resp_value.specs.Tree.{end, more, last, row, count, row_count}
 use Rattle.resp_value.specs.Spelling.{spelling}
 use Rattle.resp_value.specs.Carried.{carried}
-use Rattle.resp_stream.specs.Answer.{Whole}
+use Rattle.resp_stream.specs.Parsed.{Whole}
 use Rattle.resp_stream.specs.Request.{whole_limit}
 use Rattle.resp_stream.specs.Value.{value_at}
 
@@ -57,4 +60,5 @@ pub record Fits (p : Proto) (t : Tree) : Type 0 where
   pub whole : length (spelling p t) ≤ whole_limit
 
 abbrev pub WrittenValues : Type 0
-WrittenValues = (p : Proto) (t : Tree) (r : List ℕ) → Fits p t → value_at (spelling p t ++ r) ≡ Whole (carried p t) r
+WrittenValues = (p : Proto) (t : Tree) (r : List ℕ) → Fits p t
+    → value_at (spelling p t ++ r) ≡ Whole (carried p t) r

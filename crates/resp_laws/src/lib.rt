@@ -1,53 +1,73 @@
-//! Laws of the definitions that the readers of streams meet: each function below is a law, and does nothing.
+//! Laws of the definitions that the readers of streams meet: each function is a law, and does
+//! nothing.
 #![tactic(auto)]
 
-ghost use Rattle.resp_laws.specs.Parse.{PiecesJoin};
-ghost use Rattle.resp_laws.specs.Streams.{Steady, FirstFault, Unfinished, WrittenRequests, NoPrefix};
+ghost use Rattle.resp_laws.specs.Pieces.{RequestsJoin, ValuesJoin, OnlyRequests, OnlyValues};
+ghost use Rattle.resp_laws.specs.Streams.{Steady, FirstFault, Unfinished, WrittenRequests};
+ghost use Rattle.resp_laws.specs.Streams.{NoneBeginsAnother};
 ghost use Rattle.resp_laws.specs.Values.{WrittenValues};
 ghost use Rattle.resp_stream.specs.Request.{request_begun, request_at};
 ghost use Rattle.resp_stream.specs.Value.{value_in, value_at};
 
-/// What was read of a stream is read the same, whatever is fed behind it; and so is a fault: with the limit on the whole left aside, and under it.
-pub fn pieces_of_requests_do_not_matter()
+/// What was read of a stream is read the same, whatever is fed after it; and so is a fault: with
+/// the limit on the whole left aside, and under it.
+pub fn law_later_bytes_change_no_request()
     ensures begun { Steady request_begun }
     ensures under_the_limit { Steady request_at }
 {}
 
-/// However a stream is cut in two, the requests of the pieces are those of the whole, where the first piece has no fault.
-pub fn pieces_give_the_requests_of_the_whole()
-    ensures { PiecesJoin }
-{}
-
 /// The same of values.
-pub fn pieces_of_values_do_not_matter()
+pub fn law_later_bytes_change_no_value()
     ensures begun { Steady (value_in 8) }
     ensures under_the_limit { Steady value_at }
 {}
 
+/// However a stream is cut in two, the requests of the pieces are those of the whole, where the
+/// first piece has no fault.
+pub fn law_pieces_give_the_requests_of_the_whole()
+    ensures { RequestsJoin }
+{}
+
+/// The same of values.
+pub fn law_pieces_give_the_values_of_the_whole()
+    ensures { ValuesJoin }
+{}
+
+/// Whatever is fed and asked, a reader of requests answers in turn what stands in the bytes, and
+/// nothing else.
+pub fn law_only_requests_are_answered()
+    ensures { OnlyRequests }
+{}
+
+/// The same of a reader of values.
+pub fn law_only_values_are_answered()
+    ensures { OnlyValues }
+{}
+
 /// No whole value's bytes are a proper prefix of another's.
-pub fn no_value_begins_another()
-    ensures { NoPrefix }
+pub fn law_no_value_begins_another()
+    ensures { NoneBeginsAnother }
 {}
 
 /// Where more bytes are needed, some bytes complete a value or request.
-pub fn what_is_unfinished_can_be_finished()
+pub fn law_what_is_unfinished_can_be_finished()
     ensures requests { Unfinished request_begun }
     ensures values { Unfinished (value_in 8) }
 {}
 
-/// A fault stands at the first byte that no bytes behind it can mend.
-pub fn a_fault_is_the_first_byte_past_mending()
+/// A fault stands at the first byte that no later bytes can mend.
+pub fn law_a_fault_is_the_first_byte_past_mending()
     ensures requests { FirstFault request_begun }
     ensures values { FirstFault (value_in 8) }
 {}
 
 /// A request that passes no limit is read as the words that were written, whatever follows it.
-pub fn what_is_written_of_a_request_is_read()
+pub fn law_a_written_request_is_read()
     ensures { WrittenRequests }
 {}
 
 /// A value that passes no limit is read as what its spelling carries, whatever follows it.
-pub fn what_is_written_of_a_value_is_read()
+pub fn law_a_written_value_is_read()
     ensures { WrittenValues }
 {}
 

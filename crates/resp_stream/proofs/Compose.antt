@@ -1,8 +1,10 @@
 -- Readers put together are readers.
-use Rattle.std.proofs.Common.{◌≡◌, ℕ, List, [], ◌∷◌, ◌++◌, refl, sym, ap, ◌∙◌, append_assoc, ◌⊎◌, inl, inr, Bool, true, false, cond}
+use Rattle.std.proofs.Common.{◌≡◌, ℕ, List, [], ◌∷◌, ◌++◌, refl, sym, ap, ◌∙◌, append_assoc, ◌⊎◌}
+use Rattle.std.proofs.Common.{inl, inr, Bool, true, false, cond}
 use Rattle.resp_stream.specs.declared.fault.Fault.{Fault}
-use Rattle.resp_stream.specs.Answer.{Answer, Whole, More, Bad, Choice, Go, Stop, Move, On, Out, taken, moved, scan, first, ◌>>=◌}
-use Rattle.resp_stream.specs.Laws.{Took, Met, Completes, IsReader}
+use Rattle.resp_stream.specs.Parsed.{Parsed, Whole, More, Bad, Choice, Go, Stop, Move, On, Out}
+use Rattle.resp_stream.specs.Parsed.{taken, moved, scan, first, ◌>>=◌}
+use Rattle.resp_stream.specs.ReaderLaws.{Took, Met, Completes, IsReader}
 
 pub append_nil : (p : List ℕ) → p ++ [] ≡ p
 append_nil [] = refl
@@ -14,22 +16,27 @@ nothing_left (x ∷ p) r e = absurd cc
 
 -- ---- one after the other
 
-pub bind_whole : {A B : Type 0} (a : Answer A) (f : A → List ℕ → Answer B) (y : B) (s : List ℕ) → (a >>= f) ≡ Whole y s → (x : A) × (r : List ℕ) × (a ≡ Whole x r) × (f x r ≡ Whole y s)
+pub bind_whole : {A B : Type 0} (a : Parsed A) (f : A → List ℕ → Parsed B) (y : B) (s : List ℕ)
+    → (a >>= f) ≡ Whole y s → (x : A) × (r : List ℕ) × (a ≡ Whole x r) × (f x r ≡ Whole y s)
 bind_whole (Whole x r) f y s e = (x, r, refl, e)
 bind_whole More f y s e = absurd cc
 bind_whole (Bad g r) f y s e = absurd cc
 
-bind_bad : {A B : Type 0} (a : Answer A) (f : A → List ℕ → Answer B) (g : Fault) (s : List ℕ) → (a >>= f) ≡ Bad g s → (a ≡ Bad g s) ⊎ ((x : A) × (r : List ℕ) × (a ≡ Whole x r) × (f x r ≡ Bad g s))
+bind_bad : {A B : Type 0} (a : Parsed A) (f : A → List ℕ → Parsed B) (g : Fault) (s : List ℕ)
+    → (a >>= f) ≡ Bad g s → (a ≡ Bad g s)
+    ⊎ ((x : A) × (r : List ℕ) × (a ≡ Whole x r) × (f x r ≡ Bad g s))
 bind_bad (Whole x r) f g s e = inr (x, r, refl, e)
 bind_bad More f g s e = absurd cc
 bind_bad (Bad h r) f g s e = inl cc
 
-bind_more : {A B : Type 0} (a : Answer A) (f : A → List ℕ → Answer B) → (a >>= f) ≡ More → (a ≡ More) ⊎ ((x : A) × (r : List ℕ) × (a ≡ Whole x r) × (f x r ≡ More))
+bind_more : {A B : Type 0} (a : Parsed A) (f : A → List ℕ → Parsed B) → (a >>= f) ≡ More
+    → (a ≡ More) ⊎ ((x : A) × (r : List ℕ) × (a ≡ Whole x r) × (f x r ≡ More))
 bind_more (Whole x r) f e = inr (x, r, refl, e)
 bind_more More f e = inl refl
 bind_more (Bad h r) f e = absurd cc
 
-possible_by : {A : Type 0} (f : List ℕ → Answer A) → IsReader f → (a : Answer A) → f [] ≡ a → Completes f []
+possible_by : {A : Type 0} (f : List ℕ → Parsed A) → IsReader f → (a : Parsed A) → f [] ≡ a
+    → Completes f []
 possible_by f l (Whole x r) e =
     let t = l.whole [] r x e in
     let none : r ≡ [] = nothing_left t.front r t.parts in
@@ -41,16 +48,18 @@ possible_by f l (Bad g r) e = absurd (nowhere (l.bad [] r g e).front _ _ (l.bad 
     nowhere [] c s h = cc
     nowhere (x ∷ p) c s h = cc
 
-pub possible : {A : Type 0} (f : List ℕ → Answer A) → IsReader f → Completes f []
+pub possible : {A : Type 0} (f : List ℕ → Parsed A) → IsReader f → Completes f []
 possible f l = possible_by f l (f []) refl
 
-module _ {A B : Type 0} (a : List ℕ → Answer A) (f : A → List ℕ → Answer B) (la : IsReader a) (lf : (x : A) → IsReader (f x)) where
-  both : List ℕ → Answer B
+module _ {A B : Type 0} (a : List ℕ → Parsed A) (f : A → List ℕ → Parsed B) (la : IsReader a)
+    (lf : (x : A) → IsReader (f x)) where
+  both : List ℕ → Parsed B
   both b = a b >>= f
 
   -- behind a front that a reads as x, both is f x
-  behind : (p : List ℕ) (x : A) → ((s : List ℕ) → a (p ++ s) ≡ Whole x s) → (q : List ℕ) → (a (p ++ q) >>= f) ≡ f x q
-  behind p x h q = ap (λ r. r >>= f) (h q)
+  skip_empty : (p : List ℕ) (x : A) → ((s : List ℕ) → a (p ++ s) ≡ Whole x s) → (q : List ℕ)
+      → (a (p ++ q) >>= f) ≡ f x q
+  skip_empty p x h q = ap (λ r. r >>= f) (h q)
 
   then_whole : (b s : List ℕ) (y : B) → (a b >>= f) ≡ Whole y s → Took (λ b. a b >>= f) b y s
   then_whole b s y e =
@@ -59,8 +68,10 @@ module _ {A B : Type 0} (a : List ℕ → Answer A) (f : A → List ℕ → Answ
       let u = (lf w.0).whole w.1 s y w.3 in
       record {
         front = t.front ++ u.front;
-        parts = t.parts ∙ ap (λ (q : List ℕ). t.front ++ q) u.parts ∙ sym (append_assoc t.front u.front s);
-        again = λ z. ap (λ q. a q >>= f) (append_assoc t.front u.front z) ∙ behind t.front w.0 t.again (u.front ++ z) ∙ u.again z;
+        parts = t.parts ∙ ap (λ (q : List ℕ). t.front ++ q) u.parts
+            ∙ sym (append_assoc t.front u.front s);
+        again = λ z. ap (λ q. a q >>= f) (append_assoc t.front u.front z)
+            ∙ skip_empty t.front w.0 t.again (u.front ++ z) ∙ u.again z;
       }
 
   then_bad_1 : (b s : List ℕ) (g : Fault) → a b ≡ Bad g s → Met (λ b. a b >>= f) b g s
@@ -69,46 +80,63 @@ module _ {A B : Type 0} (a : List ℕ → Answer A) (f : A → List ℕ → Answ
       record {
         front = m.front;
         byte = m.byte;
-        behind = m.behind;
+        after = m.after;
         parts = m.parts;
         rest = m.rest;
         before = ap (λ r. r >>= f) m.before;
         again = λ z. ap (λ r. r >>= f) (m.again z);
       }
 
-  then_bad_2 : (b s : List ℕ) (g : Fault) (x : A) (r : List ℕ) → a b ≡ Whole x r → f x r ≡ Bad g s → Met (λ b. a b >>= f) b g s
+  then_bad_2 : (b s : List ℕ) (g : Fault) (x : A) (r : List ℕ) → a b ≡ Whole x r → f x r ≡ Bad g s
+      → Met (λ b. a b >>= f) b g s
   then_bad_2 b s g x r e h =
       let t = la.whole b r x e in
       let m = (lf x).bad r s g h in
       record {
         front = t.front ++ m.front;
         byte = m.byte;
-        behind = m.behind;
-        parts = t.parts ∙ ap (λ (q : List ℕ). t.front ++ q) m.parts ∙ sym (append_assoc t.front m.front (m.byte ∷ m.behind));
+        after = m.after;
+        parts = t.parts ∙ ap (λ (q : List ℕ). t.front ++ q) m.parts
+            ∙ sym (append_assoc t.front m.front (m.byte ∷ m.after));
         rest = m.rest;
-        before = behind t.front x t.again m.front ∙ m.before;
-        again = λ z. ap (λ q. a q >>= f) (append_assoc t.front m.front (m.byte ∷ z)) ∙ behind t.front x t.again (m.front ++ m.byte ∷ z) ∙ m.again z;
+        before = skip_empty t.front x t.again m.front ∙ m.before;
+        again = λ z. ap (λ q. a q >>= f) (append_assoc t.front m.front (m.byte ∷ z))
+            ∙ skip_empty t.front x t.again (m.front ++ m.byte ∷ z) ∙ m.again z;
       }
 
   then_bad : (b s : List ℕ) (g : Fault) → (a b >>= f) ≡ Bad g s → Met (λ b. a b >>= f) b g s
-  then_bad b s g e = elim (bind_bad (a b) f g s e) [ inl h ↦ then_bad_1 b s g h | inr h ↦ then_bad_2 b s g h.0 h.1 h.2 h.3 ]
+  then_bad b s g e =
+      elim (bind_bad (a b) f g s e) [
+        | inl h ↦ then_bad_1 b s g h
+        | inr h ↦ then_bad_2 b s g h.0 h.1 h.2 h.3
+      ]
 
   then_more_1 : (b : List ℕ) → a b ≡ More → Completes (λ b. a b >>= f) b
   then_more_1 b e =
       let c = la.more b e in
       let t = la.whole (b ++ c.0) [] c.1 c.2 in
       let d = possible (f c.1) (lf c.1) in
-      let same : b ++ c.0 ≡ t.front = t.parts ∙ append_nil t.front in
-      (c.0 ++ d.0, d.1, ap (λ q. a q >>= f) (sym (append_assoc b c.0 d.0) ∙ ap (λ (q : List ℕ). q ++ d.0) same) ∙ behind t.front c.1 t.again d.0 ∙ d.2)
+      let same : b ++ c.0 ≡ t.front = t.parts ∙ append_nil t.front in (
+        c.0 ++ d.0,
+        d.1,
+        ap (λ q. a q >>= f) (sym (append_assoc b c.0 d.0) ∙ ap (λ (q : List ℕ). q ++ d.0) same)
+            ∙ skip_empty t.front c.1 t.again d.0 ∙ d.2,
+      )
 
-  then_more_2 : (b : List ℕ) (x : A) (r : List ℕ) → a b ≡ Whole x r → f x r ≡ More → Completes (λ b. a b >>= f) b
+  then_more_2 : (b : List ℕ) (x : A) (r : List ℕ) → a b ≡ Whole x r → f x r ≡ More
+      → Completes (λ b. a b >>= f) b
   then_more_2 b x r e h =
       let t = la.whole b r x e in
-      let d = (lf x).more r h in
-      (d.0, d.1, ap (λ q. a q >>= f) (ap (λ (q : List ℕ). q ++ d.0) t.parts ∙ append_assoc t.front r d.0) ∙ behind t.front x t.again (r ++ d.0) ∙ d.2)
+      let d = (lf x).more r h in (
+        d.0,
+        d.1,
+        ap (λ q. a q >>= f) (ap (λ (q : List ℕ). q ++ d.0) t.parts ∙ append_assoc t.front r d.0)
+            ∙ skip_empty t.front x t.again (r ++ d.0) ∙ d.2,
+      )
 
   then_more : (b : List ℕ) → (a b >>= f) ≡ More → Completes (λ b. a b >>= f) b
-  then_more b e = elim (bind_more (a b) f e) [ inl h ↦ then_more_1 b h | inr h ↦ then_more_2 b h.0 h.1 h.2 h.3 ]
+  then_more b e =
+      elim (bind_more (a b) f e) [ inl h ↦ then_more_1 b h | inr h ↦ then_more_2 b h.0 h.1 h.2 h.3 ]
 
   pub reader_then : IsReader (λ b. a b >>= f)
   reader_then = record { whole = then_whole; bad = then_bad; more = then_more }
@@ -132,12 +160,18 @@ abbrev pub IsMove : {S A : Type 0} → Move S A → Type 0
 IsMove (On s) = Unit {0}
 IsMove (Out h) = IsChoice h
 
-module _ {S A : Type 0} (k : S → ℕ → Move S A) (lk : (s : S) (c : ℕ) → IsMove (k s c)) (way : (s : S) → Completes (scan k s) []) where
+module _ {S A : Type 0} (k : S → ℕ → Move S A) (lk : (s : S) (c : ℕ) → IsMove (k s c))
+    (way : (s : S) → Completes (scan k s) []) where
   Took_at : Move S A → ℕ → List ℕ → A → List ℕ → Type 0
-  Took_at m c bs x r = (p : List ℕ) × (bs ≡ p ++ r) × ((z : List ℕ) → moved m (λ t. scan k t (p ++ z)) c (p ++ z) ≡ Whole x z)
+  Took_at m c bs x r =
+      (p : List ℕ) × (bs ≡ p ++ r)
+      × ((z : List ℕ) → moved m (λ t. scan k t (p ++ z)) c (p ++ z) ≡ Whole x z)
 
-  moved_whole : (m : Move S A) → IsMove m → (c : ℕ) (bs r : List ℕ) (x : A) → ((s : S) → scan k s bs ≡ Whole x r → Took (scan k s) bs x r) → moved m (λ t. scan k t bs) c bs ≡ Whole x r →
-      (p : List ℕ) × (bs ≡ p ++ r) × ((z : List ℕ) → moved m (λ t. scan k t (p ++ z)) c (p ++ z) ≡ Whole x z)
+  moved_whole : (m : Move S A) → IsMove m → (c : ℕ) (bs r : List ℕ) (x : A)
+      → ((s : S) → scan k s bs ≡ Whole x r → Took (scan k s) bs x r)
+      → moved m (λ t. scan k t bs) c bs ≡ Whole x r →
+      (p : List ℕ) × (bs ≡ p ++ r)
+      × ((z : List ℕ) → moved m (λ t. scan k t (p ++ z)) c (p ++ z) ≡ Whole x z)
   moved_whole (On s) h c bs r x ih e = let t = ih s e in (t.front, t.parts, t.again)
   moved_whole (Out (Go g)) h c bs r x ih e = let t = h.whole bs r x e in (t.front, t.parts, t.again)
   moved_whole (Out (Stop g)) h c bs r x ih e = absurd cc
@@ -149,22 +183,48 @@ module _ {S A : Type 0} (k : S → ℕ → Move S A) (lk : (s : S) (c : ℕ) →
       record { front = c ∷ t.0; parts = ap (λ (q : List ℕ). c ∷ q) t.1; again = t.2 }
 
   -- what stands at fault behind the byte c, or c itself
-  moved_bad : (m : Move S A) → IsMove m → (c : ℕ) (bs r : List ℕ) (g : Fault) → ((s : S) → scan k s bs ≡ Bad g r → Met (scan k s) bs g r) → moved m (λ t. scan k t bs) c bs ≡ Bad g r →
+  moved_bad : (m : Move S A) → IsMove m → (c : ℕ) (bs r : List ℕ) (g : Fault)
+      → ((s : S) → scan k s bs ≡ Bad g r → Met (scan k s) bs g r)
+      → moved m (λ t. scan k t bs) c bs ≡ Bad g r →
       ((r ≡ c ∷ bs) × ((z : List ℕ) → moved m (λ t. scan k t z) c z ≡ Bad g (c ∷ z)))
-      ⊎ ((p : List ℕ) × (d : ℕ) × (u : List ℕ) × (bs ≡ p ++ d ∷ u) × (r ≡ d ∷ u) × (moved m (λ t. scan k t p) c p ≡ More) × ((z : List ℕ) → moved m (λ t. scan k t (p ++ d ∷ z)) c (p ++ d ∷ z) ≡ Bad g (d ∷ z)))
-  moved_bad (On s) h c bs r g ih e = let t = ih s e in inr (t.front, t.byte, t.behind, t.parts, t.rest, t.before, t.again)
-  moved_bad (Out (Go f)) h c bs r g ih e = let t = h.bad bs r g e in inr (t.front, t.byte, t.behind, t.parts, t.rest, t.before, t.again)
+      ⊎ ((p : List ℕ) × (d : ℕ) × (u : List ℕ) × (bs ≡ p ++ d ∷ u) × (r ≡ d ∷ u)
+      × (moved m (λ t. scan k t p) c p ≡ More)
+      × ((z : List ℕ) → moved m (λ t. scan k t (p ++ d ∷ z)) c (p ++ d ∷ z) ≡ Bad g (d ∷ z)))
+  moved_bad (On s) h c bs r g ih e = let t =
+      ih s e in inr (t.front, t.byte, t.after, t.parts, t.rest, t.before, t.again)
+  moved_bad (Out (Go f)) h c bs r g ih e = let t =
+      h.bad bs r g e in inr (t.front, t.byte, t.after, t.parts, t.rest, t.before, t.again)
   moved_bad (Out (Stop f)) h c bs r g ih e = inl (cc, λ z. cc)
 
   scan_bad : (b r : List ℕ) (g : Fault) (s : S) → scan k s b ≡ Bad g r → Met (scan k s) b g r
   scan_bad [] r g s e = absurd cc
   scan_bad (c ∷ bs) r g s e =
       elim (moved_bad (k s c) (lk s c) c bs r g (λ u. scan_bad bs r g u) e) [
-        | inl h ↦ record { front = []; byte = c; behind = bs; parts = refl; rest = h.0; before = refl; again = h.1 }
-        | inr h ↦ record { front = c ∷ h.0; byte = h.1; behind = h.2; parts = ap (λ (q : List ℕ). c ∷ q) h.3; rest = h.4; before = h.5; again = h.6 }
+        | inl h ↦ record {
+          front = [];
+          byte = c;
+          after = bs;
+          parts = refl;
+          rest = h.0;
+          before =
+              refl;
+          again = h.1;
+        }
+        | inr h ↦ record {
+          front = c ∷ h.0;
+          byte = h.1;
+          after = h.2;
+          parts =
+              ap (λ (q : List ℕ). c ∷ q) h.3;
+          rest = h.4;
+          before = h.5;
+          again = h.6;
+        }
       ]
 
-  moved_more : (m : Move S A) → IsMove m → (c : ℕ) (bs : List ℕ) → ((s : S) → scan k s bs ≡ More → Completes (scan k s) bs) → moved m (λ t. scan k t bs) c bs ≡ More →
+  moved_more : (m : Move S A) → IsMove m → (c : ℕ) (bs : List ℕ)
+      → ((s : S) → scan k s bs ≡ More → Completes (scan k s) bs)
+      → moved m (λ t. scan k t bs) c bs ≡ More →
       (z : List ℕ) × (x : A) × (moved m (λ t. scan k t (bs ++ z)) c (bs ++ z) ≡ Whole x [])
   moved_more (On s) h c bs ih e = ih s e
   moved_more (Out (Go f)) h c bs ih e = h.more bs e
@@ -175,9 +235,16 @@ module _ {S A : Type 0} (k : S → ℕ → Move S A) (lk : (s : S) (c : ℕ) →
   scan_more (c ∷ bs) s e = moved_more (k s c) (lk s c) c bs (λ u. scan_more bs u) e
 
   pub reader_scan : (s : S) → IsReader (scan k s)
-  reader_scan s = record { whole = λ b r x. scan_whole b r x s; bad = λ b r g. scan_bad b r g s; more = λ b. scan_more b s }
+  reader_scan s =
+      record {
+        whole = λ b r x. scan_whole b r x s;
+        bad = λ b r g. scan_bad b r g s;
+        more =
+            λ b. scan_more b s;
+      }
 
-pub choice_if : {A : Type 0} (t : Bool) (x y : Choice A) → IsChoice x → IsChoice y → IsChoice (cond t x y)
+pub choice_if : {A : Type 0} (t : Bool) (x y : Choice A) → IsChoice x → IsChoice y
+    → IsChoice (cond t x y)
 choice_if true x y p q = p
 choice_if false x y p q = q
 
@@ -186,8 +253,11 @@ move_if true x y p q = p
 move_if false x y p q = q
 
 -- one byte leads on
-first_way : {A : Type 0} (k : ℕ → Choice A) (c : ℕ) (g : List ℕ → Answer A) → k c ≡ Go g → IsReader g → Completes (first k) []
+first_way : {A : Type 0} (k : ℕ → Choice A) (c : ℕ) (g : List ℕ → Parsed A) → k c ≡ Go g
+    → IsReader g → Completes (first k) []
 first_way k c g e l = let d = possible g l in (c ∷ d.0, d.1, ap (λ h. taken h c d.0) e ∙ d.2)
 
-pub reader_first : {A : Type 0} (k : ℕ → Choice A) → ((c : ℕ) → IsChoice (k c)) → (c : ℕ) (g : List ℕ → Answer A) → k c ≡ Go g → IsReader g → IsReader (first k)
-reader_first {A} k lk c g e l = reader_scan {S = Unit {0}} (λ s b. Out (k b)) (λ s b. lk b) (λ s. first_way k c g e l) tt
+pub reader_first : {A : Type 0} (k : ℕ → Choice A) → ((c : ℕ) → IsChoice (k c))
+    → (c : ℕ) (g : List ℕ → Parsed A) → k c ≡ Go g → IsReader g → IsReader (first k)
+reader_first {A} k lk c g e l =
+    reader_scan {S = Unit {0}} (λ s b. Out (k b)) (λ s b. lk b) (λ s. first_way k c g e l) tt

@@ -1,5 +1,6 @@
 -- An aggregate by its head.
-use Rattle.std.proofs.Common.{◌≡◌, ◌≢◌, ℕ, zero, suc, ◌-◌, ◌<◌, List, [], ◌∷◌, ◌++◌, refl, sym, ap, subst, ◌∙◌, Bool, true, false, cond, arith, Some, None}
+use Rattle.std.proofs.Common.{◌≡◌, ◌≢◌, ℕ, zero, suc, ◌-◌, ◌<◌, List, [], ◌∷◌, ◌++◌, refl, sym, ap}
+use Rattle.std.proofs.Common.{subst, ◌∙◌, Bool, true, false, cond, arith, Some, None}
 use Rattle.std.specs.Prelude.{nat_eq}
 use Rattle.resp_stream.specs.declared.fault.Fault.{Fault}
 use Rattle.resp_stream.specs.declared.fault.Fault.TheVariants.{BadByte}
@@ -8,17 +9,20 @@ use Rattle.resp_stream.specs.declared.value.Kind.TheVariants.{Array, Map, Set, P
 use Rattle.resp_stream.specs.declared.value.Mark.{Mark}
 use Rattle.resp_stream.specs.declared.value.Mark.TheVariants as mark
 use Rattle.resp_value.specs.Tree.{Tree, null_array}
-use Rattle.resp_stream.specs.Answer.{Whole, More, Bad, Go, Stop, taken, ◌>>=◌}
-use Rattle.resp_stream.specs.Parts.{length_at, many}
-use Rattle.resp_stream.specs.Value.{rule_of, elements, build, elements_at, aggregate_at, may_stand, mark_of, choice_of, too_deep, deeper, opening, value_in}
-use Rattle.resp_stream.specs.Stack.{Opened}
+use Rattle.resp_stream.specs.Parsed.{Whole, More, Bad, Go, Stop, taken, ◌>>=◌}
+use Rattle.resp_stream.specs.Tokens.{length_at, many}
+use Rattle.resp_stream.specs.Value.{rule_of, elements, build, elements_at, aggregate_at, may_stand}
+use Rattle.resp_stream.specs.Value.{mark_of, choice_of, too_deep, deeper, opening, value_in}
+use Rattle.resp_stream.specs.ValueSteps.{Opened}
 use Rattle.resp_stream.proofs.Readers.{reader_length}
 use Rattle.resp_stream.proofs.ValueLaws.{rule_ok}
 use Rattle.resp_stream.proofs.Places.{steady}
 
 -- ---- where nothing opens
 
-none_by : (d c : ℕ) (b : List ℕ) (m : Mark) → opening (suc d) m ≡ None → taken (choice_of (deeper (nat_eq (suc d) 8) (value_in d)) m c) c b ≡ taken (choice_of too_deep m c) c b
+none_by : (d c : ℕ) (b : List ℕ) (m : Mark) → opening (suc d) m ≡ None
+    → taken (choice_of (deeper (nat_eq (suc d) 8) (value_in d)) m c) c b
+    ≡ taken (choice_of too_deep m c) c b
 none_by d c b mark.Simple e = refl
 none_by d c b mark.Error e = refl
 none_by d c b mark.Number e = refl
@@ -31,12 +35,14 @@ none_by d c b (mark.Aggregate kind) e = absurd cc
 none_by d c b mark.NotServed e = refl
 none_by d c b mark.Wrong e = refl
 
-pub leaf_here : (room c : ℕ) (text b : List ℕ) → text ≡ c ∷ b → opening room (mark_of c) ≡ None → value_in room text ≡ taken (choice_of too_deep (mark_of c) c) c b
+pub leaf_here : (room c : ℕ) (text b : List ℕ) → text ≡ c ∷ b → opening room (mark_of c) ≡ None
+    → value_in room text ≡ taken (choice_of too_deep (mark_of c) c) c b
 unfolding value_in
 leaf_here zero c text b h e = ap (λ q. value_in 0 q) h
 leaf_here (suc d) c text b h e = ap (λ q. value_in (suc d) q) h ∙ none_by d c b (mark_of c) e
 
-opens_by : (d : ℕ) (kind : Kind) (m : Mark) → opening (suc d) m ≡ Some kind → m ≡ mark.Aggregate kind
+opens_by : (d : ℕ) (kind : Kind) (m : Mark) → opening (suc d) m ≡ Some kind
+    → m ≡ mark.Aggregate kind
 opens_by d kind mark.Simple e = absurd cc
 opens_by d kind mark.Error e = absurd cc
 opens_by d kind mark.Number e = absurd cc
@@ -49,7 +55,8 @@ opens_by d kind (mark.Aggregate k) e = cc
 opens_by d kind mark.NotServed e = absurd cc
 opens_by d kind mark.Wrong e = absurd cc
 
-pub opens_here : (room : ℕ) (kind : Kind) (m : Mark) → opening room m ≡ Some kind → (m ≡ mark.Aggregate kind) × (0 < room)
+pub opens_here : (room : ℕ) (kind : Kind) (m : Mark) → opening room m ≡ Some kind
+    → (m ≡ mark.Aggregate kind) × (0 < room)
 opens_here zero kind m e = absurd cc
 opens_here (suc d) kind m e = (opens_by d kind m e, omega arith)
 
@@ -67,21 +74,29 @@ some_of Map n h = omega arith
 some_of Set n h = h
 some_of Push n h = h
 
-module _ (room c : ℕ) (text b : List ℕ) (kind : Kind) (head : text ≡ c ∷ b) (is : mark_of c ≡ mark.Aggregate kind) (some : 0 < room) where
+module _ (room c : ℕ) (text b : List ℕ) (kind : Kind) (head : text ≡ c ∷ b)
+    (is : mark_of c ≡ mark.Aggregate kind) (some : 0 < room) where
   one : room ≡ suc (room - 1)
   one = omega arith
 
   -- what the head leads to, with any bytes behind it
-  leads : (d : ℕ) (t : Bool) (m : List ℕ) → may_stand (nat_eq (suc d) 8) kind ≡ t → value_in (suc d) (c ∷ m) ≡ taken (cond t (Go (aggregate_at kind (value_in d))) (Stop BadByte)) c m
+  leads : (d : ℕ) (t : Bool) (m : List ℕ) → may_stand (nat_eq (suc d) 8) kind ≡ t
+      → value_in (suc d) (c ∷ m)
+      ≡ taken (cond t (Go (aggregate_at kind (value_in d))) (Stop BadByte)) c m
   unfolding value_in
   leads d t m e =
-      ap (λ q. taken (choice_of (deeper (nat_eq (suc d) 8) (value_in d)) q c) c m) is ∙ ap (λ q. taken (cond q (Go (aggregate_at kind (value_in d))) (Stop BadByte)) c m) e
+      ap (λ q. taken (choice_of (deeper (nat_eq (suc d) 8) (value_in d)) q c) c m) is
+      ∙ ap (λ q. taken (cond q (Go (aggregate_at kind (value_in d))) (Stop BadByte)) c m) e
 
-  allowed : (t : Bool) → may_stand (nat_eq room 8) kind ≡ t → may_stand (nat_eq (suc (room - 1)) 8) kind ≡ t
+  allowed : (t : Bool) → may_stand (nat_eq room 8) kind ≡ t
+      → may_stand (nat_eq (suc (room - 1)) 8) kind ≡ t
   allowed t e = ap (λ n. may_stand (nat_eq n 8) kind) (sym one) ∙ e
 
-  at_text : (t : Bool) → may_stand (nat_eq room 8) kind ≡ t → value_in room text ≡ taken (cond t (Go (aggregate_at kind (value_in (room - 1)))) (Stop BadByte)) c b
-  at_text t e = ap (λ q. value_in room q) head ∙ ap (λ n. value_in n (c ∷ b)) one ∙ leads (room - 1) t b (allowed t e)
+  at_text : (t : Bool) → may_stand (nat_eq room 8) kind ≡ t
+      → value_in room text
+      ≡ taken (cond t (Go (aggregate_at kind (value_in (room - 1)))) (Stop BadByte)) c b
+  at_text t e = ap (λ q. value_in room q) head ∙ ap (λ n. value_in n (c ∷ b)) one
+      ∙ leads (room - 1) t b (allowed t e)
 
   pub may_not : may_stand (nat_eq room 8) kind ≡ false → value_in room text ≡ Bad BadByte text
   may_not e = at_text false e ∙ ap (λ q. Bad BadByte q) (sym head)
@@ -94,28 +109,37 @@ module _ (room c : ℕ) (text b : List ℕ) (kind : Kind) (head : text ≡ c ∷
     unfolding aggregate_at
     head_more e = here ∙ ap (λ q. q >>= elements_at kind (value_in (room - 1))) e
 
-    pub head_bad : (r : List ℕ) (g : Fault) → length_at (rule_of kind) b ≡ Bad g r → value_in room text ≡ Bad g r
+    pub head_bad : (r : List ℕ) (g : Fault) → length_at (rule_of kind) b ≡ Bad g r
+        → value_in room text ≡ Bad g r
     unfolding aggregate_at
     head_bad r g e = here ∙ ap (λ q. q >>= elements_at kind (value_in (room - 1))) e
 
-    pub head_null : (r : List ℕ) → length_at (rule_of kind) b ≡ Whole None r → value_in room text ≡ Whole null_array r
+    pub head_null : (r : List ℕ) → length_at (rule_of kind) b ≡ Whole None r
+        → value_in room text ≡ Whole null_array r
     unfolding aggregate_at
     head_null r e = here ∙ ap (λ q. q >>= elements_at kind (value_in (room - 1))) e
 
-    no_elements : (d : ℕ) (n : ℕ) (r : List ℕ) → n ≡ 0 → (many (value_in d) n r >>= λ ts s. Whole (build kind ts) s) ≡ Whole (build kind []) r
+    no_elements : (d : ℕ) (n : ℕ) (r : List ℕ) → n ≡ 0
+        → (many (value_in d) n r >>= λ ts s. Whole (build kind ts) s) ≡ Whole (build kind []) r
     unfolding many
     no_elements d n r z = ap (λ k. many (value_in d) k r >>= λ ts s. Whole (build kind ts) s) z
 
-    pub head_empty : (n : ℕ) (r : List ℕ) (t : Tree) → length_at (rule_of kind) b ≡ Whole (Some n) r → n ≡ 0 → t ≡ build kind [] → value_in room text ≡ Whole t r
+    pub head_empty : (n : ℕ) (r : List ℕ) (t : Tree) → length_at (rule_of kind) b ≡ Whole (Some n) r
+        → n ≡ 0 → t ≡ build kind [] → value_in room text ≡ Whole t r
     unfolding aggregate_at
     head_empty n r t e z w =
-        here ∙ ap (λ q. q >>= elements_at kind (value_in (room - 1))) e ∙ no_elements (room - 1) (elements kind n) r (ap (elements kind) z ∙ none_of kind) ∙ ap (λ q. Whole q r) (sym w)
+        here ∙ ap (λ q. q >>= elements_at kind (value_in (room - 1))) e
+        ∙ no_elements (room - 1) (elements kind n) r (ap (elements kind) z ∙ none_of kind)
+        ∙ ap (λ q. Whole q r) (sym w)
 
-    counted : (d n : ℕ) (x s : List ℕ) → length_at (rule_of kind) x ≡ Whole (Some n) s → aggregate_at kind (value_in d) x ≡ (many (value_in d) (elements kind n) s >>= λ ts z. Whole (build kind ts) z)
+    counted : (d n : ℕ) (x s : List ℕ) → length_at (rule_of kind) x ≡ Whole (Some n) s
+        → aggregate_at kind (value_in d) x
+        ≡ (many (value_in d) (elements kind n) s >>= λ ts z. Whole (build kind ts) z)
     unfolding aggregate_at
     counted d n x s e = ap (λ q. q >>= elements_at kind (value_in d)) e
 
-    pub head_some : (n k : ℕ) (r : List ℕ) → length_at (rule_of kind) b ≡ Whole (Some n) r → n ≢ 0 → k ≡ elements kind n → Opened room text kind k r
+    pub head_some : (n k : ℕ) (r : List ℕ) → length_at (rule_of kind) b ≡ Whole (Some n) r → n ≢ 0
+        → k ≡ elements kind n → Opened room text kind k r
     head_some n k r e z w =
         let l = (reader_length (rule_of kind) (rule_ok kind)).whole b r (Some n) e in
         subst (λ (j : ℕ). Opened room text kind j r) (sym w) (record {
@@ -125,6 +149,10 @@ module _ (room c : ℕ) (text b : List ℕ) (kind : Kind) (head : text ≡ c ∷
           front = c ∷ l.front;
           parts = head ∙ ap (λ (q : List ℕ). c ∷ q) l.parts;
           long = omega arith;
-          same = λ m. ap (λ (q : List ℕ). value_in room (q ++ m)) head ∙ ap (λ j. value_in j (c ∷ (b ++ m))) one ∙ leads (room - 1) true (b ++ m) (allowed true may)
-              ∙ counted (room - 1) n (b ++ m) (r ++ m) (steady (length_at (rule_of kind)) (reader_length (rule_of kind) (rule_ok kind)) b r (Some n) e m);
+          same = λ m. ap (λ (q : List ℕ). value_in room (q ++ m)) head
+              ∙ ap (λ j. value_in j (c ∷ (b ++ m))) one
+              ∙ leads (room - 1) true (b ++ m) (allowed true may)
+              ∙ counted (room - 1) n (b ++ m) (r ++ m)
+              (steady (length_at (rule_of kind)) (reader_length (rule_of kind) (rule_ok kind)) b
+              r (Some n) e m);
         })

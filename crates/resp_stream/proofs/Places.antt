@@ -1,22 +1,26 @@
 -- Where a text goes on behind what was read of it.
-use Rattle.std.proofs.Common.{◌≡◌, ℕ, ◌+◌, ◌-◌, ◌<◌, ◌≤◌, List, [], ◌∷◌, ◌++◌, refl, sym, ap, ◌∙◌, append_assoc, length, take, drop, arith}
+use Rattle.std.proofs.Common.{◌≡◌, ℕ, ◌+◌, ◌-◌, ◌<◌, ◌≤◌, List, [], ◌∷◌, ◌++◌, refl, sym, ap, ◌∙◌}
+use Rattle.std.proofs.Common.{append_assoc, length, take, drop, arith}
 use Rattle.std.proofs.lemmas.List.{length-append, length-drop, take-append-drop}
 use Rattle.std.proofs.Math.Seq.{drop-append_seam}
 use Rattle.resp_stream.specs.declared.fault.Fault.{Fault}
-use Rattle.resp_stream.specs.Answer.{Answer, Whole, More, Bad}
-use Rattle.resp_stream.specs.Laws.{IsReader}
+use Rattle.resp_stream.specs.Parsed.{Parsed, Whole, More, Bad}
+use Rattle.resp_stream.specs.ReaderLaws.{IsReader}
 
 -- what was read whole is read the same with more behind it
-pub steady : {A : Type 0} (f : List ℕ → Answer A) → IsReader f → (b r : List ℕ) (x : A) → f b ≡ Whole x r → (m : List ℕ) → f (b ++ m) ≡ Whole x (r ++ m)
+pub steady : {A : Type 0} (f : List ℕ → Parsed A) → IsReader f → (b r : List ℕ) (x : A)
+    → f b ≡ Whole x r → (m : List ℕ) → f (b ++ m) ≡ Whole x (r ++ m)
 steady f l b r x e m =
     let t = l.whole b r x e in
     ap (λ q. f (q ++ m)) t.parts ∙ ap f (append_assoc t.front r m) ∙ t.again (r ++ m)
 
 -- and so is a fault
-pub steady_bad : {A : Type 0} (f : List ℕ → Answer A) → IsReader f → (b r : List ℕ) (g : Fault) → f b ≡ Bad g r → (m : List ℕ) → f (b ++ m) ≡ Bad g (r ++ m)
+pub steady_bad : {A : Type 0} (f : List ℕ → Parsed A) → IsReader f → (b r : List ℕ) (g : Fault)
+    → f b ≡ Bad g r → (m : List ℕ) → f (b ++ m) ≡ Bad g (r ++ m)
 steady_bad f l b r g e m =
     let t = l.bad b r g e in
-    ap (λ q. f (q ++ m)) t.parts ∙ ap f (append_assoc t.front (t.byte ∷ t.behind) m) ∙ t.again (t.behind ++ m) ∙ ap (λ q. Bad g (q ++ m)) (sym t.rest)
+    ap (λ q. f (q ++ m)) t.parts ∙ ap f (append_assoc t.front (t.byte ∷ t.after) m)
+    ∙ t.again (t.after ++ m) ∙ ap (λ q. Bad g (q ++ m)) (sym t.rest)
 
 -- the rest is the text from a place on
 rest_place : (q r b : List ℕ) → b ≡ q ++ r → drop (length b - length r) b ≡ r
@@ -33,26 +37,43 @@ nonempty : (p : List ℕ) → (p ≡ [] → ⊥) → 0 < length p
 nonempty [] h = absurd (h refl)
 nonempty (x ∷ p) h = omega arith
 
-pub goes : (text p r : List ℕ) (at : ℕ) → at ≤ length text → drop at text ≡ p ++ r → 0 < length p → Goes text at r
+pub goes : (text p r : List ℕ) (at : ℕ) → at ≤ length text → drop at text ≡ p ++ r → 0 < length p
+    → Goes text at r
 goes text p r at le e h =
-    let whole : text ≡ (take at text ++ p) ++ r = sym (take-append-drop at text) ∙ ap (λ (z : List ℕ). take at text ++ z) e ∙ sym (append_assoc (take at text) p r) in
-    let n : length text - at ≡ length p + length r = sym (length-drop at text) ∙ ap length e ∙ length-append p r in
-    record { place = rest_place (take at text ++ p) r text whole; within = omega arith; on = omega arith }
+    let whole : text ≡ (take at text ++ p) ++ r =
+    sym (take-append-drop at text) ∙ ap (λ (z : List ℕ). take at text ++ z) e
+    ∙ sym (append_assoc (take at text) p r) in
+    let n : length text - at ≡ length p + length r =
+    sym (length-drop at text) ∙ ap length e ∙ length-append p r in
+    record {
+      place = rest_place (take at text ++ p) r text whole;
+      within = omega arith;
+      on =
+          omega arith;
+    }
 
-more≢whole : {A : Type 0} (x : A) (r : List ℕ) (a : Answer A) → a ≡ More → a ≡ Whole x r → ⊥
+more≢whole : {A : Type 0} (x : A) (r : List ℕ) (a : Parsed A) → a ≡ More → a ≡ Whole x r → ⊥
 more≢whole x r a e h = cc
 
 -- what needs a byte takes one
-pub reads_on : {A : Type 0} (f : List ℕ → Answer A) → IsReader f → f [] ≡ More → (text r : List ℕ) (at : ℕ) (x : A) → at ≤ length text → f (drop at text) ≡ Whole x r → Goes text at r
+pub reads_on : {A : Type 0} (f : List ℕ → Parsed A) → IsReader f → f [] ≡ More
+    → (text r : List ℕ) (at : ℕ) (x : A) → at ≤ length text → f (drop at text) ≡ Whole x r
+    → Goes text at r
 reads_on f l none text r at x le e =
     let k = l.whole (drop at text) r x e in
     goes text k.front r at le k.parts
-    (nonempty k.front (λ z. more≢whole x [] (f []) none (ap (λ (q : List ℕ). f (q ++ [])) (sym z) ∙ k.again [])))
+    (nonempty k.front
+    (λ z. more≢whole x [] (f []) none (ap (λ (q : List ℕ). f (q ++ [])) (sym z) ∙ k.again [])))
 
 -- where a fault stands
-pub bad_within : {A : Type 0} (f : List ℕ → Answer A) → IsReader f → (text r : List ℕ) (g : Fault) → f text ≡ Bad g r → (drop (length text - length r) text ≡ r) × (length r ≤ length text) × (0 < length r)
+pub bad_within : {A : Type 0} (f : List ℕ → Parsed A) → IsReader f → (text r : List ℕ) (g : Fault)
+    → f text ≡ Bad g r → (drop (length text - length r) text ≡ r) × (length r ≤ length text)
+    × (0 < length r)
 bad_within f l text r g e =
     let m = l.bad text r g e in
     let parts : text ≡ m.front ++ r = m.parts ∙ ap (λ (q : List ℕ). m.front ++ q) (sym m.rest) in
-    let n = length-append m.front r in
-    (rest_place m.front r text parts, omega (arith, ap length parts), omega (arith, ap length m.rest))
+    let n = length-append m.front r in (
+      rest_place m.front r text parts,
+      omega (arith, ap length parts),
+      omega (arith, ap length m.rest),
+    )

@@ -1,22 +1,30 @@
 -- Each part of the format is a reader.
-use Rattle.std.proofs.Common.{◌≡◌, ℕ, zero, suc, ◌+◌, ◌-◌, ◌*◌, ◌<◌, ◌≤◌, List, [], ◌∷◌, ◌++◌, refl, sym, ap, ◌∙◌, Bool, true, false, cond, length, take, drop, arith, Some, None}
+use Rattle.std.proofs.Common.{◌≡◌, ℕ, zero, suc, ◌+◌, ◌-◌, ◌*◌, ◌<◌, ◌≤◌, List, [], ◌∷◌, ◌++◌, refl}
+use Rattle.std.proofs.Common.{sym, ap, ◌∙◌, Bool, true, false, cond, length, take, drop, arith}
+use Rattle.std.proofs.Common.{Some, None}
 use Rattle.std.proofs.lemmas.List.{take-append-drop, length-append, length-take-le}
 use Rattle.std.proofs.Math.Seq.{take-append_seam, drop-append_seam}
 use Rattle.std.proofs.lemmas.Bool.{ltb-false, ltb-true, le-ltb, eq-eqb}
 use Rattle.std.specs.Prelude.{nat_lt, nat_eq}
 use Rattle.resp_stream.specs.declared.fault.Fault.{Fault}
 use Rattle.resp_stream.specs.declared.fault.Fault.TheVariants.{BadByte, TooLong}
-use Rattle.resp_stream.specs.declared.parts.LengthRule.{LengthRule}
-use Rattle.resp_stream.specs.Answer.{Answer, Whole, More, Bad, Go, Stop, On, Out, taken, moved, scan, ◌>>=◌}
-use Rattle.resp_stream.specs.Laws.{Took, Completes, IsReader}
-use Rattle.resp_stream.specs.Parts.{IsRule, only_byte, line_feed, ending, digit_move, digits_at, minus_one, length_by, length_at, ends_line, refused, line_move, line_at, bytes_at, counted_at, many}
-use Rattle.resp_stream.proofs.Compose.{reader_then, reader_whole, reader_scan, reader_first, IsMove, choice_if, move_if, append_nil}
+use Rattle.resp_stream.specs.declared.tokens.LengthRule.{LengthRule}
+use Rattle.resp_stream.specs.Parsed.{Parsed, Whole, More, Bad, Go, Stop, On, Out, taken, moved}
+use Rattle.resp_stream.specs.Parsed.{scan, ◌>>=◌}
+use Rattle.resp_stream.specs.ReaderLaws.{Took, Completes, IsReader}
+use Rattle.resp_stream.specs.Tokens.{IsRule, only_byte, line_feed, ending, digit_move, digits_at}
+use Rattle.resp_stream.specs.Tokens.{minus_one, length_by, length_at, ends_line, refused, line_move}
+use Rattle.resp_stream.specs.Tokens.{line_at, bytes_at, counted_at, many}
+use Rattle.resp_stream.proofs.Compose.{reader_then, reader_whole, reader_scan, reader_first, IsMove}
+use Rattle.resp_stream.proofs.Compose.{choice_if, move_if, append_nil}
 
 pub reader_only : (b : ℕ) → IsReader (only_byte b)
 unfolding only_byte
 reader_only b =
-    reader_first (λ c. cond (nat_eq c b) (Go (Whole tt)) (Stop BadByte)) (λ c. choice_if (nat_eq c b) (Go (Whole tt)) (Stop BadByte) (reader_whole tt) tt)
-    b (Whole tt) (ap (λ t. cond t (Go (Whole tt)) (Stop BadByte)) (eq-eqb b b refl)) (reader_whole tt)
+    reader_first (λ c. cond (nat_eq c b) (Go (Whole tt)) (Stop BadByte))
+    (λ c. choice_if (nat_eq c b) (Go (Whole tt)) (Stop BadByte) (reader_whole tt) tt)
+    b (Whole tt) (ap (λ t. cond t (Go (Whole tt)) (Stop BadByte)) (eq-eqb b b refl))
+    (reader_whole tt)
 
 pub reader_feed : {A : Type 0} (x : A) → IsReader (line_feed x)
 unfolding line_feed
@@ -24,7 +32,8 @@ reader_feed x = reader_then (only_byte 10) (λ u r. Whole x r) (reader_only 10) 
 
 pub reader_ending : {A : Type 0} (x : A) → IsReader (ending x)
 unfolding ending
-reader_ending x = reader_then (only_byte 13) (λ u r. line_feed x r) (reader_only 13) (λ u. reader_feed x)
+reader_ending x =
+    reader_then (only_byte 13) (λ u r. line_feed x r) (reader_only 13) (λ u. reader_feed x)
 
 -- ---- lines
 
@@ -32,13 +41,17 @@ line_way : (inline : Bool) (limit : ℕ) (t : List ℕ) → Completes (scan (lin
 unfolding line_feed only_byte
 line_way inline limit t = (13 ∷ 10 ∷ [], t, refl)
 
-pub line_choices : (inline : Bool) (limit : ℕ) (t : List ℕ) (c : ℕ) → IsMove (line_move inline limit t c)
+pub line_choices : (inline : Bool) (limit : ℕ) (t : List ℕ) (c : ℕ)
+    → IsMove (line_move inline limit t c)
 line_choices inline limit t c =
     move_if (nat_eq c 13) _ _ (reader_feed t)
-    (move_if (ends_line inline c) _ _ (reader_whole t) (move_if (nat_lt (length t) limit) _ _ (move_if (refused inline c) _ _ tt tt) tt))
+    (move_if (ends_line inline c) _ _ (reader_whole t)
+    (move_if (nat_lt (length t) limit) _ _ (move_if (refused inline c) _ _ tt tt) tt))
 
-pub reader_text : (inline : Bool) (limit : ℕ) (t : List ℕ) → IsReader (scan (line_move inline limit) t)
-reader_text inline limit t = reader_scan (line_move inline limit) (line_choices inline limit) (line_way inline limit) t
+pub reader_text : (inline : Bool) (limit : ℕ) (t : List ℕ)
+    → IsReader (scan (line_move inline limit) t)
+reader_text inline limit t =
+    reader_scan (line_move inline limit) (line_choices inline limit) (line_way inline limit) t
 
 pub reader_line : (inline : Bool) (limit : ℕ) → IsReader (line_at inline limit)
 unfolding line_at
@@ -49,46 +62,68 @@ reader_line inline limit = reader_text inline limit []
 module _ (rule : LengthRule) (ok : IsRule rule) where
   enough : (n : ℕ) → rule.least ≤ n → Completes (scan (digit_move rule) n) []
   unfolding line_feed only_byte
-  enough n le = (13 ∷ 10 ∷ [], Some n, ap (λ t. taken (cond t (Stop BadByte) (Go (line_feed (Some n)))) 13 (10 ∷ [])) (le-ltb n rule.least le))
+  enough n le = (
+    13 ∷ 10 ∷ [],
+    Some n,
+    ap (λ t. taken (cond t (Stop BadByte) (Go (line_feed (Some n)))) 13 (10 ∷ []))
+        (le-ltb n rule.least le),
+  )
 
   -- one digit more is enough for the least length
-  digits_way_by : (n : ℕ) (t : Bool) → nat_lt n rule.least ≡ t → Completes (scan (digit_move rule) n) []
+  digits_way_by : (n : ℕ) (t : Bool) → nat_lt n rule.least ≡ t
+      → Completes (scan (digit_move rule) n) []
   digits_way_by n false e = enough n (ltb-false n rule.least e)
   digits_way_by n true e =
       let lt : n < rule.least = ltb-true n rule.least e in
-      let w = enough (n * 10 + 9) (omega (arith, ok.least)) in
-      (57 ∷ w.0, w.1, ap (λ t. moved (cond t (Out (Stop (TooLong (n * 10 + 9)))) (On (n * 10 + 9))) (λ k. scan (digit_move rule) k w.0) 57 w.0) (le-ltb rule.limit (n * 10 + 9) (omega (arith, ok.least, ok.room))) ∙ w.2)
+      let w = enough (n * 10 + 9) (omega (arith, ok.least)) in (
+        57 ∷ w.0,
+        w.1,
+        ap (λ t. moved (cond t (Out (Stop (TooLong (n * 10 + 9)))) (On (n * 10 + 9)))
+            (λ k. scan (digit_move rule) k w.0) 57 w.0)
+            (le-ltb rule.limit (n * 10 + 9) (omega (arith, ok.least, ok.room))) ∙ w.2,
+      )
 
   pub reader_digits : (n : ℕ) → IsReader (digits_at rule n)
   unfolding digits_at
   reader_digits n =
       reader_scan (digit_move rule)
-      (λ m c. move_if (nat_eq c 13) _ _ (choice_if (nat_lt m rule.least) _ _ tt (reader_feed (Some m)))
-      (move_if (nat_lt c 48) _ _ tt (move_if (nat_lt 57 c) _ _ tt (move_if (nat_lt rule.limit (m * 10 + (c - 48))) _ _ tt tt))))
+      (λ m c.
+      move_if (nat_eq c 13) _ _ (choice_if (nat_lt m rule.least) _ _ tt (reader_feed (Some m)))
+      (move_if (nat_lt c 48) _ _ tt
+      (move_if (nat_lt 57 c) _ _ tt
+      (move_if (nat_lt rule.limit (m * 10 + (c - 48))) _ _ tt tt))))
       (λ m. digits_way_by m (nat_lt m rule.least) refl) n
 
   pub reader_minus : IsReader minus_one
   unfolding minus_one
-  reader_minus = reader_then (only_byte 49) (λ u r. ending None r) (reader_only 49) (λ u. reader_ending None)
+  reader_minus =
+      reader_then (only_byte 49) (λ u r. ending None r) (reader_only 49) (λ u. reader_ending None)
 
   pub reader_length : IsReader (length_at rule)
   unfolding length_at
   reader_length =
       reader_first (length_by rule)
-      (λ c. choice_if (nat_eq c 63) _ _ (choice_if rule.streamed _ _ tt tt) (choice_if (nat_eq c 45) _ _ (choice_if rule.null _ _ reader_minus tt)
+      (λ c. choice_if (nat_eq c 63) _ _ (choice_if rule.streamed _ _ tt tt)
+      (choice_if (nat_eq c 45) _ _ (choice_if rule.null _ _ reader_minus tt)
       (choice_if (nat_eq c 48) _ _ (choice_if (nat_lt 0 rule.least) _ _ tt (reader_ending (Some 0)))
-      (choice_if (nat_lt c 49) _ _ tt (choice_if (nat_lt 57 c) _ _ tt (choice_if (nat_lt rule.limit (c - 48)) _ _ tt (reader_digits (c - 48))))))))
-      57 (digits_at rule 9) (ap (λ t. cond t (Stop (TooLong 9)) (Go (digits_at rule 9))) (le-ltb rule.limit 9 (omega (arith, ok.room)))) (reader_digits 9)
+      (choice_if (nat_lt c 49) _ _ tt
+      (choice_if (nat_lt 57 c) _ _ tt
+      (choice_if (nat_lt rule.limit (c - 48)) _ _ tt (reader_digits (c - 48))))))))
+      57 (digits_at rule 9)
+      (ap (λ t. cond t (Stop (TooLong 9)) (Go (digits_at rule 9)))
+      (le-ltb rule.limit 9 (omega (arith, ok.room)))) (reader_digits 9)
 
 -- ---- n bytes
 
 pub bytes_exact : (p s : List ℕ) → bytes_at (length p) (p ++ s) ≡ Whole p s
 unfolding bytes_at
 bytes_exact p s =
-    let e : nat_lt (length (p ++ s)) (length p) ≡ false = le-ltb (length (p ++ s)) (length p) (omega (arith, length-append p s)) in
+    let e : nat_lt (length (p ++ s)) (length p) ≡ false =
+    le-ltb (length (p ++ s)) (length p) (omega (arith, length-append p s)) in
     rw e (λ i. Whole (take-append_seam p s i) (drop-append_seam p s i))
 
-bytes_whole : (n : ℕ) (b r x : List ℕ) (t : Bool) → nat_lt (length b) n ≡ t → cond t More (Whole (take n b) (drop n b)) ≡ Whole x r → Took (bytes_at n) b x r
+bytes_whole : (n : ℕ) (b r x : List ℕ) (t : Bool) → nat_lt (length b) n ≡ t
+    → cond t More (Whole (take n b) (drop n b)) ≡ Whole x r → Took (bytes_at n) b x r
 bytes_whole n b r x true h e = absurd cc
 bytes_whole n b r x false h e =
     let le : n ≤ length b = ltb-false (length b) n h in
@@ -98,10 +133,12 @@ bytes_whole n b r x false h e =
     record {
       front = take n b;
       parts = sym (take-append-drop n b) ∙ ap (λ (q : List ℕ). take n b ++ q) r_is;
-      again = λ s. ap (λ m. bytes_at m (take n b ++ s)) (sym len) ∙ bytes_exact (take n b) s ∙ ap (λ q. Whole q s) x_is;
+      again = λ s. ap (λ m. bytes_at m (take n b ++ s)) (sym len) ∙ bytes_exact (take n b) s
+          ∙ ap (λ q. Whole q s) x_is;
     }
 
-bytes_bad : (n : ℕ) (b r : List ℕ) (g : Fault) (t : Bool) → cond t More (Whole (take n b) (drop n b)) ≡ Bad g r → ⊥
+bytes_bad : (n : ℕ) (b r : List ℕ) (g : Fault) (t : Bool)
+    → cond t More (Whole (take n b) (drop n b)) ≡ Bad g r → ⊥
 bytes_bad n b r g true e = cc
 bytes_bad n b r g false e = cc
 
@@ -114,12 +151,18 @@ unfolding zeros
 zeros_length zero = refl
 zeros_length (suc n) = ap suc (zeros_length n)
 
-bytes_more : (n : ℕ) (b : List ℕ) (t : Bool) → nat_lt (length b) n ≡ t → cond t More (Whole (take n b) (drop n b)) ≡ More → Completes (bytes_at n) b
+bytes_more : (n : ℕ) (b : List ℕ) (t : Bool) → nat_lt (length b) n ≡ t
+    → cond t More (Whole (take n b) (drop n b)) ≡ More → Completes (bytes_at n) b
 bytes_more n b false h e = absurd cc
 bytes_more n b true h e =
     let m = zeros (n - length b) in
-    let len : length (b ++ m) ≡ n = omega (arith, length-append b m, zeros_length (n - length b), ltb-true (length b) n h) in
-    (m, b ++ m, ap (λ q. bytes_at n q) (sym (append_nil (b ++ m))) ∙ ap (λ k. bytes_at k ((b ++ m) ++ [])) (sym len) ∙ bytes_exact (b ++ m) [])
+    let len : length (b ++ m) ≡ n =
+    omega (arith, length-append b m, zeros_length (n - length b), ltb-true (length b) n h) in (
+      m,
+      b ++ m,
+      ap (λ q. bytes_at n q) (sym (append_nil (b ++ m)))
+          ∙ ap (λ k. bytes_at k ((b ++ m) ++ [])) (sym len) ∙ bytes_exact (b ++ m) [],
+    )
 
 pub reader_bytes : (n : ℕ) → IsReader (bytes_at n)
 unfolding bytes_at
@@ -133,9 +176,11 @@ pub reader_counted : (n : ℕ) → IsReader (counted_at n)
 unfolding counted_at
 reader_counted n = reader_then (bytes_at n) (λ t. ending t) (reader_bytes n) reader_ending
 
-pub reader_many : {A : Type 0} (read : List ℕ → Answer A) → IsReader read → (n : ℕ) → IsReader (many read n)
+pub reader_many : {A : Type 0} (read : List ℕ → Parsed A) → IsReader read → (n : ℕ)
+    → IsReader (many read n)
 unfolding many
 reader_many read l zero = reader_whole []
 reader_many read l (suc n) =
     reader_then read (λ t r. many read n r >>= λ ts s. Whole (t ∷ ts) s) l
-    (λ t. reader_then (many read n) (λ ts s. Whole (t ∷ ts) s) (reader_many read l n) (λ ts. reader_whole (t ∷ ts)))
+    (λ t. reader_then (many read n) (λ ts s. Whole (t ∷ ts) s) (reader_many read l n)
+    (λ ts. reader_whole (t ∷ ts)))

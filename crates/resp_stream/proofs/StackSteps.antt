@@ -1,110 +1,155 @@
 -- The steps of a reader with a stack.
-use Rattle.std.proofs.Common.{◌≡◌, ℕ, suc, ◌≤◌, List, [], ◌∷◌, ◌++◌, refl, sym, ap, subst, ◌∙◌, append_assoc, length, drop, false, arith}
+use Rattle.std.proofs.Common.{◌≡◌, ℕ, suc, ◌≤◌, List, [], ◌∷◌, ◌++◌, refl, sym, ap, subst, ◌∙◌}
+use Rattle.std.proofs.Common.{append_assoc, length, drop, false, arith}
 use Rattle.std.proofs.lemmas.List.{length-append, drop-append-le}
 use Rattle.resp_value.specs.Tree.{Tree}
 use Rattle.resp_stream.specs.declared.fault.Fault.{Fault}
 use Rattle.resp_stream.specs.declared.stack.Frame.{Frame}
 use Rattle.resp_stream.specs.declared.value.Kind.{Kind}
-use Rattle.resp_stream.specs.Answer.{Answer, Whole, More, Bad, ◌>>=◌}
-use Rattle.resp_stream.specs.Parts.{many}
+use Rattle.resp_stream.specs.Parsed.{Parsed, Whole, More, Bad, ◌>>=◌}
+use Rattle.resp_stream.specs.Tokens.{many}
 use Rattle.resp_stream.specs.Request.{line_limit}
 use Rattle.resp_stream.specs.Value.{build, value_in}
-use Rattle.resp_stream.specs.Stack.{rest_of, resume, Stands, Has, Seen}
+use Rattle.resp_stream.specs.ValueSteps.{rest_of, resume, IsStack, HasRead, LineSeen}
 use Rattle.resp_stream.proofs.Compose.{append_nil}
 use Rattle.resp_stream.proofs.Line.{passed_none, passed_grows}
 use Rattle.resp_stream.proofs.ValueLaws.{reader_value}
 use Rattle.resp_stream.proofs.Places.{steady}
 
-pub begin : (whole : ℕ) (text : List ℕ) → Stands whole text 0 whole []
+pub begin : (whole : ℕ) (text : List ℕ) → IsStack whole text 0 whole []
 unfolding resume
 begin whole text = record { within = omega arith; same = λ m. refl }
 
-pub grow : (whole : ℕ) (text piece : List ℕ) (at room : ℕ) (fs : List Frame) → Stands whole text at room fs → Stands whole (text ++ piece) at room fs
+pub grow : (whole : ℕ) (text piece : List ℕ) (at room : ℕ) (fs : List Frame)
+    → IsStack whole text at room fs → IsStack whole (text ++ piece) at room fs
 grow whole text piece at room fs s =
     let le : at ≤ length text = s.within in
     record {
       within = omega (arith, length-append text piece);
       same = λ m. ap (λ q. value_in whole q) (append_assoc text piece m) ∙ s.same (piece ++ m)
           ∙ ap (λ q. resume room fs (value_in room q)) (sym (append_assoc (drop at text) piece m))
-          ∙ ap (λ q. resume room fs (value_in room (q ++ m))) (sym (drop-append-le at text piece le));
+          ∙ ap (λ q. resume room fs (value_in room (q ++ m)))
+          (sym (drop-append-le at text piece le));
     }
 
-pub seen_none : (b : List ℕ) → Seen b 0
+pub seen_none : (b : List ℕ) → LineSeen b 0
 seen_none [] = refl
 seen_none (c ∷ b) = (omega arith, passed_none false line_limit b)
 
-seen_more : (b piece : List ℕ) (seen : ℕ) → Seen b seen → Seen (b ++ piece) seen
-seen_more [] piece seen h = subst (λ (n : ℕ). Seen piece n) (sym h) (seen_none piece)
-seen_more (c ∷ b) piece seen h = (omega (arith, h.0, length-append b piece), passed_grows false line_limit seen b piece h.0 h.1)
+seen_more : (b piece : List ℕ) (seen : ℕ) → LineSeen b seen → LineSeen (b ++ piece) seen
+seen_more [] piece seen h = subst (λ (n : ℕ). LineSeen piece n) (sym h) (seen_none piece)
+seen_more (c ∷ b) piece seen h =
+    (omega (arith, h.0, length-append b piece), passed_grows false line_limit seen b piece h.0 h.1)
 
-pub seen_grows : (text piece : List ℕ) (at seen : ℕ) → at ≤ length text → Seen (drop at text) seen → Seen (drop at (text ++ piece)) seen
-seen_grows text piece at seen le h = subst (λ (q : List ℕ). Seen q seen) (sym (drop-append-le at text piece le)) (seen_more (drop at text) piece seen h)
+pub seen_grows : (text piece : List ℕ) (at seen : ℕ) → at ≤ length text
+    → LineSeen (drop at text) seen → LineSeen (drop at (text ++ piece)) seen
+seen_grows text piece at seen le h =
+    subst (λ (q : List ℕ). LineSeen q seen) (sym (drop-append-le at text piece le))
+    (seen_more (drop at text) piece seen h)
 
-pub has_leaf : (whole : ℕ) (text : List ℕ) (at next room : ℕ) (fs : List Frame) (t : Tree) → Stands whole text at room fs → next ≤ length text → value_in room (drop at text) ≡ Whole t (drop next text) → Has whole text next room fs t
+pub has_leaf : (whole : ℕ) (text : List ℕ) (at next room : ℕ) (fs : List Frame) (t : Tree)
+    → IsStack whole text at room fs → next ≤ length text
+    → value_in room (drop at text) ≡ Whole t (drop next text) → HasRead whole text next room fs t
 has_leaf whole text at next room fs t s le e = record {
   within = le;
-  same = λ m. s.same m ∙ ap (λ q. resume room fs q) (steady (value_in room) (reader_value room) (drop at text) (drop next text) t e m);
+  same = λ m. s.same m
+      ∙ ap (λ q. resume room fs q)
+      (steady (value_in room) (reader_value room) (drop at text) (drop next text) t e m);
 }
 
 -- an aggregate of suc n elements, by its first
-first_by : (d n : ℕ) (kind : Kind) (r : List ℕ) → (many (value_in d) (suc n) r >>= λ ts s. Whole (build kind ts) s) ≡ (value_in d r >>= rest_of d (record { kind = kind; left = n; done = [] }))
+first_by : (d n : ℕ) (kind : Kind) (r : List ℕ)
+    → (many (value_in d) (suc n) r >>= λ ts s. Whole (build kind ts) s)
+    ≡ (value_in d r >>= rest_of d (record { kind = kind; left = n; done = [] }))
 unfolding many rest_of
 first_by d n kind r = by (value_in d r)
   where
-    by_2 : (t : Tree) (a : Answer (List Tree)) → ((a >>= λ ts s. Whole (t ∷ ts) s) >>= λ ts s. Whole (build kind ts) s) ≡ (a >>= λ ts s. Whole (build kind (t ∷ ts)) s)
+    by_2 : (t : Tree) (a : Parsed (List Tree))
+        → ((a >>= λ ts s. Whole (t ∷ ts) s) >>= λ ts s. Whole (build kind ts) s)
+        ≡ (a >>= λ ts s. Whole (build kind (t ∷ ts)) s)
     by_2 t (Whole x r) = refl
     by_2 t More = refl
     by_2 t (Bad g r) = refl
 
-    by : (a : Answer Tree) → ((a >>= λ t r. many (value_in d) n r >>= λ ts s. Whole (t ∷ ts) s) >>= λ ts s. Whole (build kind ts) s) ≡ (a >>= λ t r. many (value_in d) n r >>= λ ts s. Whole (build kind ([] ++ t ∷ ts)) s)
+    by : (a : Parsed Tree)
+        → ((a >>= λ t r. many (value_in d) n r >>= λ ts s. Whole (t ∷ ts) s)
+        >>= λ ts s. Whole (build kind ts) s)
+        ≡ (a >>= λ t r. many (value_in d) n r >>= λ ts s. Whole (build kind ([] ++ t ∷ ts)) s)
     by (Whole t r) = by_2 t (many (value_in d) n r)
     by More = refl
     by (Bad g r) = refl
 
-pub opens : (whole : ℕ) (text : List ℕ) (at next room d n : ℕ) (kind : Kind) (fs : List Frame) → Stands whole text at room fs → next ≤ length text → room ≡ suc d →
-    ((m : List ℕ) → value_in room (drop at text ++ m) ≡ (many (value_in d) (suc n) (drop next text ++ m) >>= λ ts s. Whole (build kind ts) s)) → Stands whole text next d (record { kind = kind; left = n; done = [] } ∷ fs)
+pub opens : (whole : ℕ) (text : List ℕ) (at next room d n : ℕ) (kind : Kind) (fs : List Frame)
+    → IsStack whole text at room fs → next ≤ length text → room ≡ suc d →
+    ((m : List ℕ)
+    → value_in room (drop at text ++ m)
+    ≡ (many (value_in d) (suc n) (drop next text ++ m) >>= λ ts s. Whole (build kind ts) s))
+    → IsStack whole text next d (record { kind = kind; left = n; done = [] } ∷ fs)
 unfolding resume
 opens whole text at next room d n kind fs s le one e = record {
   within = le;
-  same = λ m. s.same m ∙ ap (λ q. resume room fs q) (e m ∙ first_by d n kind (drop next text ++ m)) ∙ ap (λ k. resume k fs (value_in d (drop next text ++ m) >>= rest_of d (record { kind = kind; left = n; done = [] }))) one;
+  same = λ m. s.same m ∙ ap (λ q. resume room fs q) (e m ∙ first_by d n kind (drop next text ++ m))
+      ∙ ap (λ k. resume k fs (value_in d (drop next text ++ m)
+      >>= rest_of d (record { kind = kind; left = n; done = [] }))) one;
 }
 
 -- an element behind others
-next_element : (d k : ℕ) (kind : Kind) (done : List Tree) (t : Tree) (r : List ℕ) → rest_of d (record { kind = kind; left = suc k; done = done }) t r ≡ (value_in d r >>= rest_of d (record { kind = kind; left = k; done = done ++ t ∷ [] }))
+next_element : (d k : ℕ) (kind : Kind) (done : List Tree) (t : Tree) (r : List ℕ)
+    → rest_of d (record { kind = kind; left = suc k; done = done }) t r
+    ≡ (value_in d r >>= rest_of d (record { kind = kind; left = k; done = done ++ t ∷ [] }))
 unfolding rest_of many
 next_element d k kind done t r = by (value_in d r)
   where
-    by_2 : (u : Tree) (a : Answer (List Tree)) → ((a >>= λ ts s. Whole (u ∷ ts) s) >>= λ ts s. Whole (build kind (done ++ t ∷ ts)) s) ≡ (a >>= λ ts s. Whole (build kind ((done ++ t ∷ []) ++ u ∷ ts)) s)
-    by_2 u (Whole x r) = ap (λ (q : List Tree). Whole (build kind q) r) (sym (append_assoc done (t ∷ []) (u ∷ x)))
+    by_2 : (u : Tree) (a : Parsed (List Tree))
+        → ((a >>= λ ts s. Whole (u ∷ ts) s) >>= λ ts s. Whole (build kind (done ++ t ∷ ts)) s)
+        ≡ (a >>= λ ts s. Whole (build kind ((done ++ t ∷ []) ++ u ∷ ts)) s)
+    by_2 u (Whole x r) =
+        ap (λ (q : List Tree). Whole (build kind q) r) (sym (append_assoc done (t ∷ []) (u ∷ x)))
     by_2 u More = refl
     by_2 u (Bad g r) = refl
 
-    by : (a : Answer Tree) → ((a >>= λ u r. many (value_in d) k r >>= λ ts s. Whole (u ∷ ts) s) >>= λ ts s. Whole (build kind (done ++ t ∷ ts)) s) ≡ (a >>= λ u r. many (value_in d) k r >>= λ ts s. Whole (build kind ((done ++ t ∷ []) ++ u ∷ ts)) s)
+    by : (a : Parsed Tree)
+        → ((a >>= λ u r. many (value_in d) k r >>= λ ts s. Whole (u ∷ ts) s)
+        >>= λ ts s. Whole (build kind (done ++ t ∷ ts)) s)
+        ≡ (a >>= λ u r. many (value_in d) k r
+        >>= λ ts s. Whole (build kind ((done ++ t ∷ []) ++ u ∷ ts)) s)
     by (Whole u r) = by_2 u (many (value_in d) k r)
     by More = refl
     by (Bad g r) = refl
 
-pub has_next : (whole : ℕ) (text : List ℕ) (at d k : ℕ) (kind : Kind) (done : List Tree) (fs : List Frame) (t : Tree) → Has whole text at d (record { kind = kind; left = suc k; done = done } ∷ fs) t → Stands whole text at d (record { kind = kind; left = k; done = done ++ t ∷ [] } ∷ fs)
+pub has_next : (whole : ℕ) (text : List ℕ) (at d k : ℕ) (kind : Kind) (done : List Tree)
+    (fs : List Frame) (t : Tree)
+    → HasRead whole text at d (record { kind = kind; left = suc k; done = done } ∷ fs) t
+    → IsStack whole text at d (record { kind = kind; left = k; done = done ++ t ∷ [] } ∷ fs)
 unfolding resume
 has_next whole text at d k kind done fs t h = record {
   within = h.within;
-  same = λ m. h.same m ∙ ap (λ q. resume (suc d) fs q) (next_element d k kind done t (drop at text ++ m));
+  same = λ m. h.same m
+      ∙ ap (λ q. resume (suc d) fs q) (next_element d k kind done t (drop at text ++ m));
 }
 
-last_element : (d : ℕ) (kind : Kind) (done : List Tree) (t : Tree) (r : List ℕ) → rest_of d (record { kind = kind; left = 0; done = done }) t r ≡ Whole (build kind (done ++ t ∷ [])) r
+last_element : (d : ℕ) (kind : Kind) (done : List Tree) (t : Tree) (r : List ℕ)
+    → rest_of d (record { kind = kind; left = 0; done = done }) t r
+    ≡ Whole (build kind (done ++ t ∷ [])) r
 unfolding rest_of many
 last_element d kind done t r = refl
 
-pub has_up : (whole : ℕ) (text : List ℕ) (at d : ℕ) (kind : Kind) (done : List Tree) (fs : List Frame) (t : Tree) → Has whole text at d (record { kind = kind; left = 0; done = done } ∷ fs) t → Has whole text at (suc d) fs (build kind (done ++ t ∷ []))
+pub has_up : (whole : ℕ) (text : List ℕ) (at d : ℕ) (kind : Kind) (done : List Tree)
+    (fs : List Frame) (t : Tree)
+    → HasRead whole text at d (record { kind = kind; left = 0; done = done } ∷ fs) t
+    → HasRead whole text at (suc d) fs (build kind (done ++ t ∷ []))
 unfolding resume
 has_up whole text at d kind done fs t h = record {
   within = h.within;
-  same = λ m. h.same m ∙ ap (λ q. resume (suc d) fs q) (last_element d kind done t (drop at text ++ m));
+  same = λ m. h.same m
+      ∙ ap (λ q. resume (suc d) fs q) (last_element d kind done t (drop at text ++ m));
 }
 
-pub has_all : (whole : ℕ) (text : List ℕ) (at d : ℕ) (t : Tree) → Has whole text at d [] t → value_in whole text ≡ Whole t (drop at text)
+pub has_all : (whole : ℕ) (text : List ℕ) (at d : ℕ) (t : Tree) → HasRead whole text at d [] t
+    → value_in whole text ≡ Whole t (drop at text)
 unfolding resume
-has_all whole text at d t h = ap (λ q. value_in whole q) (sym (append_nil text)) ∙ h.same [] ∙ ap (λ q. Whole t q) (append_nil (drop at text))
+has_all whole text at d t h = ap (λ q. value_in whole q) (sym (append_nil text)) ∙ h.same []
+    ∙ ap (λ q. Whole t q) (append_nil (drop at text))
 
 resume_more : (d : ℕ) (fs : List Frame) → resume d fs More ≡ More
 unfolding resume
@@ -116,11 +161,20 @@ unfolding resume
 resume_bad d [] g r = refl
 resume_bad d (f ∷ fs) g r = resume_bad (suc d) fs g r
 
-here : (whole : ℕ) (text : List ℕ) (at room : ℕ) (fs : List Frame) → Stands whole text at room fs → value_in whole text ≡ resume room fs (value_in room (drop at text))
-here whole text at room fs s = ap (λ q. value_in whole q) (sym (append_nil text)) ∙ s.same [] ∙ ap (λ q. resume room fs (value_in room q)) (append_nil (drop at text))
+here : (whole : ℕ) (text : List ℕ) (at room : ℕ) (fs : List Frame) → IsStack whole text at room fs
+    → value_in whole text ≡ resume room fs (value_in room (drop at text))
+here whole text at room fs s =
+    ap (λ q. value_in whole q) (sym (append_nil text)) ∙ s.same []
+    ∙ ap (λ q. resume room fs (value_in room q)) (append_nil (drop at text))
 
-pub needs_more : (whole : ℕ) (text : List ℕ) (at room : ℕ) (fs : List Frame) → Stands whole text at room fs → value_in room (drop at text) ≡ More → value_in whole text ≡ More
-needs_more whole text at room fs s e = here whole text at room fs s ∙ ap (λ q. resume room fs q) e ∙ resume_more room fs
+pub needs_more : (whole : ℕ) (text : List ℕ) (at room : ℕ) (fs : List Frame)
+    → IsStack whole text at room fs → value_in room (drop at text) ≡ More
+    → value_in whole text ≡ More
+needs_more whole text at room fs s e =
+    here whole text at room fs s ∙ ap (λ q. resume room fs q) e ∙ resume_more room fs
 
-pub is_bad : (whole : ℕ) (text r : List ℕ) (at room : ℕ) (fs : List Frame) (g : Fault) → Stands whole text at room fs → value_in room (drop at text) ≡ Bad g r → value_in whole text ≡ Bad g r
-is_bad whole text r at room fs g s e = here whole text at room fs s ∙ ap (λ q. resume room fs q) e ∙ resume_bad room fs g r
+pub is_bad : (whole : ℕ) (text r : List ℕ) (at room : ℕ) (fs : List Frame) (g : Fault)
+    → IsStack whole text at room fs → value_in room (drop at text) ≡ Bad g r
+    → value_in whole text ≡ Bad g r
+is_bad whole text r at room fs g s e =
+    here whole text at room fs s ∙ ap (λ q. resume room fs q) e ∙ resume_bad room fs g r

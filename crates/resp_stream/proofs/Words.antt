@@ -1,31 +1,44 @@
 -- The words of a request, one after the other.
-use Rattle.std.proofs.Common.{◌≡◌, ℕ, suc, ◌-◌, ◌<◌, ◌≤◌, List, [], ◌∷◌, ◌++◌, refl, sym, ap, ◌∙◌, append_assoc, length, drop, arith}
+use Rattle.std.proofs.Common.{◌≡◌, ℕ, suc, ◌-◌, ◌<◌, ◌≤◌, List, [], ◌∷◌, ◌++◌, refl, sym, ap, ◌∙◌}
+use Rattle.std.proofs.Common.{append_assoc, length, drop, arith}
 use Rattle.std.proofs.lemmas.List.{length-append, drop-append-le}
 use Rattle.resp_stream.specs.declared.fault.Fault.{Fault}
-use Rattle.resp_stream.specs.Answer.{Answer, Whole, More, Bad, ◌>>=◌}
-use Rattle.resp_stream.specs.Parts.{only_byte, many}
+use Rattle.resp_stream.specs.Parsed.{Parsed, Whole, More, Bad, ◌>>=◌}
+use Rattle.resp_stream.specs.Tokens.{only_byte, many}
 use Rattle.resp_stream.specs.Request.{word_at, request_begun}
-use Rattle.resp_stream.specs.Steps.{with_more, Within}
+use Rattle.resp_stream.specs.RequestSteps.{with_more, HasWords}
 use Rattle.resp_stream.proofs.Compose.{append_nil}
 use Rattle.resp_stream.proofs.RequestLaws.{reader_word}
 use Rattle.resp_stream.proofs.Places.{steady, Goes, reads_on}
 
-next_by : (ws : List (List ℕ)) (w : List ℕ) (a : Answer (List (List ℕ))) → ((a >>= λ ts s. Whole (w ∷ ts) s) >>= λ us s. Whole (ws ++ us) s) ≡ (a >>= λ us s. Whole ((ws ++ w ∷ []) ++ us) s)
-next_by ws w (Whole ts s) = ap (λ (q : List (List ℕ)). Whole q s) (sym (append_assoc ws (w ∷ []) ts))
+next_by : (ws : List (List ℕ)) (w : List ℕ) (a : Parsed (List (List ℕ)))
+    → ((a >>= λ ts s. Whole (w ∷ ts) s) >>= λ us s. Whole (ws ++ us) s)
+    ≡ (a >>= λ us s. Whole ((ws ++ w ∷ []) ++ us) s)
+next_by ws w (Whole ts s) =
+    ap (λ (q : List (List ℕ)). Whole q s) (sym (append_assoc ws (w ∷ []) ts))
 next_by ws w More = refl
 next_by ws w (Bad g s) = refl
 
-next_word : (ws : List (List ℕ)) (k : ℕ) (b r w : List ℕ) → word_at b ≡ Whole w r → with_more ws (suc k) b ≡ with_more (ws ++ w ∷ []) k r
+next_word : (ws : List (List ℕ)) (k : ℕ) (b r w : List ℕ) → word_at b ≡ Whole w r
+    → with_more ws (suc k) b ≡ with_more (ws ++ w ∷ []) k r
 unfolding with_more many
-next_word ws k b r w e = ap (λ q. (q >>= λ t r. many word_at k r >>= λ ts s. Whole (t ∷ ts) s) >>= λ us s. Whole (ws ++ us) s) e ∙ next_by ws w (many word_at k r)
+next_word ws k b r w e =
+    ap (λ q. (q >>= λ t r. many word_at k r >>= λ ts s. Whole (t ∷ ts) s)
+    >>= λ us s. Whole (ws ++ us) s) e ∙ next_by ws w (many word_at k r)
 
-more_words : (ws : List (List ℕ)) (k : ℕ) (b : List ℕ) → word_at b ≡ More → with_more ws (suc k) b ≡ More
+more_words : (ws : List (List ℕ)) (k : ℕ) (b : List ℕ) → word_at b ≡ More
+    → with_more ws (suc k) b ≡ More
 unfolding with_more many
-more_words ws k b e = ap (λ q. (q >>= λ t r. many word_at k r >>= λ ts s. Whole (t ∷ ts) s) >>= λ us s. Whole (ws ++ us) s) e
+more_words ws k b e =
+    ap (λ q. (q >>= λ t r. many word_at k r >>= λ ts s. Whole (t ∷ ts) s)
+    >>= λ us s. Whole (ws ++ us) s) e
 
-bad_word : (ws : List (List ℕ)) (k : ℕ) (b r : List ℕ) (g : Fault) → word_at b ≡ Bad g r → with_more ws (suc k) b ≡ Bad g r
+bad_word : (ws : List (List ℕ)) (k : ℕ) (b r : List ℕ) (g : Fault) → word_at b ≡ Bad g r
+    → with_more ws (suc k) b ≡ Bad g r
 unfolding with_more many
-bad_word ws k b r g e = ap (λ q. (q >>= λ t r. many word_at k r >>= λ ts s. Whole (t ∷ ts) s) >>= λ us s. Whole (ws ++ us) s) e
+bad_word ws k b r g e =
+    ap (λ q. (q >>= λ t r. many word_at k r >>= λ ts s. Whole (t ∷ ts) s)
+    >>= λ us s. Whole (ws ++ us) s) e
 
 all_words : (ws : List (List ℕ)) (b : List ℕ) → with_more ws 0 b ≡ Whole ws b
 unfolding with_more many
@@ -39,43 +52,58 @@ no_word : word_at [] ≡ More
 unfolding word_at only_byte
 no_word = refl
 
-pub within_grows : (text piece : List ℕ) (at left : ℕ) (ws : List (List ℕ)) → Within text at left ws → Within (text ++ piece) at left ws
+pub within_grows : (text piece : List ℕ) (at left : ℕ) (ws : List (List ℕ))
+    → HasWords text at left ws → HasWords (text ++ piece) at left ws
 within_grows text piece at left ws h =
     let le : at ≤ length text = h.within in
     record {
       within = omega (arith, length-append text piece);
-      same = λ m. ap request_begun (append_assoc text piece m) ∙ h.same (piece ++ m) ∙ ap (λ q. with_more ws left q) (sym (append_assoc (drop at text) piece m))
+      same = λ m. ap request_begun (append_assoc text piece m) ∙ h.same (piece ++ m)
+          ∙ ap (λ q. with_more ws left q) (sym (append_assoc (drop at text) piece m))
           ∙ ap (λ (q : List ℕ). with_more ws left (q ++ m)) (sym (drop-append-le at text piece le));
     }
 
-module _ (text rest : List ℕ) (at left : ℕ) (ws : List (List ℕ)) (h : Within text at left ws) (back : rest ≡ drop at text) where
+module _ (text rest : List ℕ) (at left : ℕ) (ws : List (List ℕ)) (h : HasWords text at left ws)
+    (back : rest ≡ drop at text) where
   here : request_begun text ≡ with_more ws left (drop at text)
-  here = ap request_begun (sym (append_nil text)) ∙ h.same [] ∙ ap (λ q. with_more ws left q) (append_nil (drop at text))
+  here = ap request_begun (sym (append_nil text)) ∙ h.same []
+      ∙ ap (λ q. with_more ws left q) (append_nil (drop at text))
 
   pub word_goes : (w r : List ℕ) → word_at rest ≡ Whole w r → Goes text at r
-  word_goes w r e = reads_on word_at reader_word no_word text r at w h.within (ap word_at (sym back) ∙ e)
+  word_goes w r e =
+      reads_on word_at reader_word no_word text r at w h.within (ap word_at (sym back) ∙ e)
 
-  pub word_on : (w r : List ℕ) (new : List (List ℕ)) → 0 < left → word_at rest ≡ Whole w r → new ≡ ws ++ w ∷ [] → Within text (length text - length r) (left - 1) new
+  pub word_on : (w r : List ℕ) (new : List (List ℕ)) → 0 < left → word_at rest ≡ Whole w r
+      → new ≡ ws ++ w ∷ [] → HasWords text (length text - length r) (left - 1) new
   word_on w r new lt e n =
       let g = word_goes w r e in
       let one : left ≡ suc (left - 1) = omega arith in
-      let f : word_at (drop at text) ≡ Whole w (drop (length text - length r) text) = ap word_at (sym back) ∙ e ∙ ap (λ (q : List ℕ). Whole w q) (sym g.place) in
+      let f : word_at (drop at text) ≡ Whole w (drop (length text - length r) text) =
+      ap word_at (sym back) ∙ e ∙ ap (λ (q : List ℕ). Whole w q) (sym g.place) in
       record {
         within = omega arith;
         same = λ m. h.same m ∙ ap (λ k. with_more ws k (drop at text ++ m)) one
-            ∙ next_word ws (left - 1) (drop at text ++ m) (drop (length text - length r) text ++ m) w (steady word_at reader_word (drop at text) (drop (length text - length r) text) w f m)
+            ∙ next_word ws (left - 1) (drop at text ++ m) (drop (length text - length r) text ++ m)
+            w (steady word_at reader_word (drop at text) (drop (length text - length r) text) w
+            f m)
             ∙ ap (λ q. with_more q (left - 1) (drop (length text - length r) text ++ m)) (sym n);
       }
 
   pub word_more : 0 < left → word_at rest ≡ More → request_begun text ≡ More
   word_more lt e =
       let one : left ≡ suc (left - 1) = omega arith in
-      here ∙ ap (λ k. with_more ws k (drop at text)) one ∙ more_words ws (left - 1) (drop at text) (ap word_at (sym back) ∙ e)
+      here ∙ ap (λ k. with_more ws k (drop at text)) one
+      ∙ more_words ws (left - 1) (drop at text) (ap word_at (sym back) ∙ e)
 
-  pub word_bad : (r : List ℕ) (g : Fault) → 0 < left → word_at rest ≡ Bad g r → request_begun text ≡ Bad g r
+  pub word_bad : (r : List ℕ) (g : Fault) → 0 < left → word_at rest ≡ Bad g r
+      → request_begun text ≡ Bad g r
   word_bad r g lt e =
       let one : left ≡ suc (left - 1) = omega arith in
-      here ∙ ap (λ k. with_more ws k (drop at text)) one ∙ bad_word ws (left - 1) (drop at text) r g (ap word_at (sym back) ∙ e)
+      here ∙ ap (λ k. with_more ws k (drop at text)) one
+      ∙ bad_word ws (left - 1) (drop at text) r g (ap word_at (sym back) ∙ e)
 
-pub words_all : (text : List ℕ) (at left : ℕ) (ws : List (List ℕ)) → Within text at left ws → left ≡ 0 → request_begun text ≡ Whole ws (drop at text)
-words_all text at left ws h z = here text (drop at text) at left ws h refl ∙ ap (λ k. with_more ws k (drop at text)) z ∙ all_words ws (drop at text)
+pub words_all : (text : List ℕ) (at left : ℕ) (ws : List (List ℕ)) → HasWords text at left ws
+    → left ≡ 0 → request_begun text ≡ Whole ws (drop at text)
+words_all text at left ws h z =
+    here text (drop at text) at left ws h refl ∙ ap (λ k. with_more ws k (drop at text)) z
+    ∙ all_words ws (drop at text)

@@ -1,8 +1,9 @@
 -- A request: an array of blobs, or a line of words (RESP specification 2, "Inline commands").
-use Rattle.std.specs.Prelude.{ℕ, zero, suc, nat_eq, Bool, true, false, ◌||◌, cond, List, [], ◌∷◌, ◌++◌, length, Option, Some, None}
-use Rattle.resp_stream.specs.declared.parts.LengthRule.{LengthRule}
-use Rattle.resp_stream.specs.Answer.{Answer, Whole, More, Bad, ◌>>=◌}
-use Rattle.resp_stream.specs.Parts.{only_byte, length_at, counted_at, many, line_at, capped}
+use Rattle.std.specs.Prelude.{ℕ, zero, suc, nat_eq, Bool, true, false, ◌||◌, cond, List, [], ◌∷◌}
+use Rattle.std.specs.Prelude.{◌++◌, length, Option, Some, None}
+use Rattle.resp_stream.specs.declared.tokens.LengthRule.{LengthRule}
+use Rattle.resp_stream.specs.Parsed.{Parsed, Whole, More, Bad, ◌>>=◌}
+use Rattle.resp_stream.specs.Tokens.{only_byte, length_at, counted_at, many, line_at, capped}
 
 abbrev pub line_limit : ℕ
 line_limit = 65536
@@ -30,52 +31,54 @@ some_word [] = []
 some_word (c ∷ w) = (c ∷ w) ∷ []
 
 -- the words of a line that goes on behind the bytes w of a word
-abbrev pub words_behind : List ℕ → List ℕ → List (List ℕ)
-words_behind w [] = some_word w
-words_behind w (c ∷ t) = cond (is_blank c) (some_word w ++ words_behind [] t) (words_behind (w ++ c ∷ []) t)
+abbrev pub words_after : List ℕ → List ℕ → List (List ℕ)
+words_after w [] = some_word w
+words_after w (c ∷ t) =
+    cond (is_blank c) (some_word w ++ words_after [] t) (words_after (w ++ c ∷ []) t)
 
 -- ---- a request, empty ones included
 
-unfoldable pub inline_at : List ℕ → Answer (List (List ℕ))
-inline_at b = line_at true line_limit b >>= λ t r. Whole (words_behind [] t) r
+unfoldable pub inline_at : List ℕ → Parsed (List (List ℕ))
+inline_at b = line_at true line_limit b >>= λ t r. Whole (words_after [] t) r
 
 -- a length, which is there: the rule has no null
-abbrev pub sized : Option ℕ → List ℕ → Answer (List ℕ)
+abbrev pub sized : Option ℕ → List ℕ → Parsed (List ℕ)
 sized None b = Whole [] b
 sized (Some n) b = counted_at n b
 
-unfoldable pub word_at : List ℕ → Answer (List ℕ)
+unfoldable pub word_at : List ℕ → Parsed (List ℕ)
 word_at b = only_byte 36 b >>= λ u r. length_at word_rule r >>= λ n s. sized n s
 
 -- so many words; no words for `-1`
-abbrev pub listed : Option ℕ → List ℕ → Answer (List (List ℕ))
+abbrev pub listed : Option ℕ → List ℕ → Parsed (List (List ℕ))
 listed None b = Whole [] b
 listed (Some n) b = many word_at n b
 
-unfoldable pub array_at : List ℕ → Answer (List (List ℕ))
+unfoldable pub array_at : List ℕ → Parsed (List (List ℕ))
 array_at b = length_at words_rule b >>= λ n r. listed n r
 
 -- the limit on the whole left aside
-unfoldable pub request_begun : List ℕ → Answer (List (List ℕ))
+unfoldable pub request_begun : List ℕ → Parsed (List (List ℕ))
 request_begun [] = More
 request_begun (c ∷ b) = cond (nat_eq c 42) (array_at b) (inline_at (c ∷ b))
 
-unfoldable pub request_at : List ℕ → Answer (List (List ℕ))
+unfoldable pub request_at : List ℕ → Parsed (List (List ℕ))
 request_at b = capped whole_limit b (request_begun b)
 
 -- ---- requests in turn
 
-abbrev pub after_empty : List ℕ → Answer (List (List ℕ)) → (List ℕ → List ℕ) → List ℕ
-after_empty b (Whole [] r) go = go r
-after_empty b (Whole (w ∷ ws) r) go = b
-after_empty b More go = b
-after_empty b (Bad g r) go = b
+abbrev pub skip_by : List ℕ → Parsed (List (List ℕ)) → (List ℕ → List ℕ) → List ℕ
+skip_by b (Whole [] r) go = go r
+skip_by b (Whole (w ∷ ws) r) go = b
+skip_by b More go = b
+skip_by b (Bad g r) go = b
 
 -- What stands behind the first n empty requests at the front of a text.
-unfoldable pub behind_in : ℕ → List ℕ → List ℕ
-behind_in zero b = b
-behind_in (suc n) b = after_empty b (request_at b) (λ r. behind_in n r)
+unfoldable pub skip_empty_in : ℕ → List ℕ → List ℕ
+skip_empty_in zero b = b
+skip_empty_in (suc n) b = skip_by b (request_at b) (λ r. skip_empty_in n r)
 
--- What stands behind the empty requests at the front of a text: there are no more of them than bytes.
-unfoldable pub behind : List ℕ → List ℕ
-behind b = behind_in (length b) b
+-- What stands behind the empty requests at the front of a text: there are no more of them than
+-- bytes.
+unfoldable pub skip_empty : List ℕ → List ℕ
+skip_empty b = skip_empty_in (length b) b

@@ -1,20 +1,46 @@
-// What is wrong with a stream.
+//! What is wrong with a stream.
 ghost use Rattle.std.specs.Prelude.{◌≡◌};
-ghost use Rattle.resp_stream.specs.Stream.{stream_fault};
-ghost use Rattle.resp_stream.specs.Parts.{limited};
+ghost use Rattle.resp_stream.specs.Stream.{stream_fault, fault_place};
+ghost use Rattle.resp_stream.specs.Tokens.{limited};
 
-/// What a reader answers in place of a value or request. Offsets count from the first byte that was fed to it.
+/// What a reader answers in place of a value or request.
+/// Offsets count from the first byte that was fed to it.
 #[derive(Clone, Copy, Debug, Drop, PartialEq, Eq)]
 pub enum StreamFault {
     /// The bytes up to and with this one begin nothing of the grammar.
     BadByte { offset: u64 },
-    /// This byte makes a length, a line or the whole longer than its limit; the number is the length so far.
+    /// This byte makes a length, a line or the whole longer than its limit; the number is the
+    /// length so far.
     TooLong { offset: u64, number: u64 },
     /// An aggregate stands here inside of eight others.
     TooDeep { offset: u64 },
     /// A kind of value or length that is not served stands here.
     NotServed { offset: u64, byte: u8 },
     NoMemory,
+}
+
+/// A fault of the bytes by its number, and the byte's place.
+#[derive(Clone, Copy, Debug, Drop, PartialEq, Eq)]
+pub struct FaultPlace {
+    /// 1 for a bad byte, 2 for what is too long, 3 for what is too deep, 4 for what is not served.
+    pub number: u64,
+    pub offset: u64,
+}
+
+impl StreamFault {
+    /// The place of a fault of the bytes; nothing for want of memory.
+    pub fn place(&self) -> Option<FaultPlace>
+        ensures { result ≡ fault_place self.now }
+    {
+        let (number, offset) = match *self {
+            StreamFault::BadByte { offset } => (1, offset),
+            StreamFault::TooLong { offset, .. } => (2, offset),
+            StreamFault::TooDeep { offset } => (3, offset),
+            StreamFault::NotServed { offset, .. } => (4, offset),
+            StreamFault::NoMemory => return None,
+        };
+        Some(FaultPlace { number, offset })
+    }
 }
 
 /// What is wrong with a byte.

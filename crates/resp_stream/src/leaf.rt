@@ -1,15 +1,16 @@
 // Values without elements behind their type byte.
 ghost use Rattle.std.specs.Prelude.{◌≡◌, ◌≤◌, ◌+◌, ◌∷◌, ℕ, length, take, true, false};
-ghost use Rattle.resp_value.specs.Of.{tree_of};
+ghost use Rattle.resp_value.specs.ValueTree.{tree_of};
 ghost use Rattle.resp_value.specs.Tree.{Tree, simple, error, null};
-ghost use Rattle.resp_stream.specs.Answer.{taken};
-ghost use Rattle.resp_stream.specs.Gives.{ValueGives};
-ghost use Rattle.resp_stream.specs.Parts.{Passed, ending};
+ghost use Rattle.resp_stream.specs.Parsed.{taken};
+ghost use Rattle.resp_stream.specs.Results.{LeafGives};
+ghost use Rattle.resp_stream.specs.Tokens.{Passed, ending};
 ghost use Rattle.resp_stream.specs.Request.{line_limit};
-ghost use Rattle.resp_stream.specs.Value.{text_at, whole_number_at, blob_at, blob_error_at, formatted_at, verbatim_at, truth_at, choice_of, too_deep};
+ghost use Rattle.resp_stream.specs.Value.{text_at, whole_number_at, blob_at, blob_error_at};
+ghost use Rattle.resp_stream.specs.Value.{formatted_at, verbatim_at, truth_at, choice_of, too_deep};
 
 use super::fault::{Broken, Fault, ReadStop};
-use super::parts::{LengthRule, bad_byte, byte_of, counted_of, end_of, length_of, line_of};
+use super::tokens::{LengthRule, bad_byte, byte_of, counted_of, end_of, length_of, line_of};
 use super::value::{Mark, format_of, number_of};
 use resp_value::{Octets, Value};
 use std::alloc::Global;
@@ -46,7 +47,7 @@ fn simple_of<'a>(
 ) -> Result<Option<(Value, &'a [u8])>, ReadStop>
     requires seen { seen.old ≤ length bytes.now }
     requires passed { Passed false line_limit (take seen.old bytes.now) }
-    ensures gives { ValueGives (λ x. (tree_of x.0, x.1.now)) result (text_at simple bytes.now) }
+    ensures gives { LeafGives (λ x. (tree_of x.0, x.1.now)) result (text_at simple bytes.now) }
     ensures seen { seen.new ≤ length bytes.now }
     ensures passed { Passed false line_limit (take seen.new bytes.now) }
 {
@@ -68,7 +69,7 @@ fn error_of<'a>(
 ) -> Result<Option<(Value, &'a [u8])>, ReadStop>
     requires seen { seen.old ≤ length bytes.now }
     requires passed { Passed false line_limit (take seen.old bytes.now) }
-    ensures gives { ValueGives (λ x. (tree_of x.0, x.1.now)) result (text_at error bytes.now) }
+    ensures gives { LeafGives (λ x. (tree_of x.0, x.1.now)) result (text_at error bytes.now) }
     ensures seen { seen.new ≤ length bytes.now }
     ensures passed { Passed false line_limit (take seen.new bytes.now) }
 {
@@ -84,7 +85,7 @@ fn error_of<'a>(
 
 #[tactic(auto, unfolding(crate::specs::Value::blob_at))]
 fn blob_of(alloc: Global, bytes: &[u8]) -> Result<Option<(Value, &[u8])>, ReadStop>
-    ensures { ValueGives (λ x. (tree_of x.0, x.1.now)) result (blob_at bytes.now) }
+    ensures { LeafGives (λ x. (tree_of x.0, x.1.now)) result (blob_at bytes.now) }
 {
     match length_of(BLOB, bytes) {
         Ok(None) => Ok(None),
@@ -103,7 +104,7 @@ fn blob_of(alloc: Global, bytes: &[u8]) -> Result<Option<(Value, &[u8])>, ReadSt
 
 #[tactic(auto, unfolding(crate::specs::Value::blob_error_at))]
 fn blob_error_of(alloc: Global, bytes: &[u8]) -> Result<Option<(Value, &[u8])>, ReadStop>
-    ensures { ValueGives (λ x. (tree_of x.0, x.1.now)) result (blob_error_at bytes.now) }
+    ensures { LeafGives (λ x. (tree_of x.0, x.1.now)) result (blob_error_at bytes.now) }
 {
     match length_of(BLOB_ERROR, bytes) {
         Ok(None) => Ok(None),
@@ -127,7 +128,7 @@ fn formatted_of(
     length: u64,
     bytes: &[u8],
 ) -> Result<Option<(Value, &[u8])>, ReadStop>
-    ensures { ValueGives (λ x. (tree_of x.0, x.1.now)) result (formatted_at length bytes.now) }
+    ensures { LeafGives (λ x. (tree_of x.0, x.1.now)) result (formatted_at length bytes.now) }
 {
     let Some((x, y, z, rest)) = format_of(bytes) else {
         return Ok(None);
@@ -151,7 +152,7 @@ fn formatted_of(
 
 #[tactic(auto, unfolding(crate::specs::Value::verbatim_at))]
 fn verbatim_of(alloc: Global, bytes: &[u8]) -> Result<Option<(Value, &[u8])>, ReadStop>
-    ensures { ValueGives (λ x. (tree_of x.0, x.1.now)) result (verbatim_at bytes.now) }
+    ensures { LeafGives (λ x. (tree_of x.0, x.1.now)) result (verbatim_at bytes.now) }
 {
     match length_of(VERBATIM, bytes) {
         Ok(None) => Ok(None),
@@ -161,9 +162,9 @@ fn verbatim_of(alloc: Global, bytes: &[u8]) -> Result<Option<(Value, &[u8])>, Re
     }
 }
 
-#[tactic(auto, unfolding(crate::specs::Value::truth_at, crate::specs::Parts::ending, crate::specs::Parts::line_feed))]
+#[tactic(auto, unfolding(crate::specs::Value::truth_at, crate::specs::Tokens::ending, crate::specs::Tokens::line_feed))]
 fn truth_of(bytes: &[u8]) -> Result<Option<(Value, &[u8])>, ReadStop>
-    ensures { ValueGives (λ x. (tree_of x.0, x.1.now)) result (truth_at bytes.now) }
+    ensures { LeafGives (λ x. (tree_of x.0, x.1.now)) result (truth_at bytes.now) }
 {
     let [c, rest @ ..] = bytes else {
         return Ok(None);
@@ -186,9 +187,9 @@ fn truth_of(bytes: &[u8]) -> Result<Option<(Value, &[u8])>, ReadStop>
     Err(ReadStop::Faulty(bad_byte(bytes)))
 }
 
-#[tactic(auto, unfolding(crate::specs::Parts::ending, crate::specs::Parts::line_feed))]
+#[tactic(auto, unfolding(crate::specs::Tokens::ending, crate::specs::Tokens::line_feed))]
 fn null_of(bytes: &[u8]) -> Result<Option<(Value, &[u8])>, ReadStop>
-    ensures { ValueGives (λ x. (tree_of x.0, x.1.now)) result (ending null bytes.now) }
+    ensures { LeafGives (λ x. (tree_of x.0, x.1.now)) result (ending null bytes.now) }
 {
     match end_of(bytes) {
         Ok(None) => Ok(None),
@@ -199,7 +200,7 @@ fn null_of(bytes: &[u8]) -> Result<Option<(Value, &[u8])>, ReadStop>
 
 #[tactic(auto, unfolding(crate::specs::Value::whole_number_at))]
 fn whole_number_of(bytes: &[u8]) -> Result<Option<(Value, &[u8])>, ReadStop>
-    ensures { ValueGives (λ x. (tree_of x.0, x.1.now)) result (whole_number_at bytes.now) }
+    ensures { LeafGives (λ x. (tree_of x.0, x.1.now)) result (whole_number_at bytes.now) }
 {
     match number_of(bytes) {
         Ok(None) => Ok(None),
@@ -208,7 +209,8 @@ fn whole_number_of(bytes: &[u8]) -> Result<Option<(Value, &[u8])>, ReadStop>
     }
 }
 
-/// A value without elements, behind its first byte `c`; an aggregate is too deep here. There are `left` bytes from that on, and `seen` bytes of a line were passed before.
+/// A value without elements, behind its first byte `c`; an aggregate is too deep here. There are
+/// `left` bytes from that on, and `seen` bytes of a line were passed before.
 pub(crate) fn leaf_of<'a>(
     alloc: Global,
     mark: Mark,
@@ -220,7 +222,8 @@ pub(crate) fn leaf_of<'a>(
     requires left { left ≡ length bytes.now + 1 }
     requires seen { seen.old ≤ length bytes.now }
     requires passed { Passed false line_limit (take seen.old bytes.now) }
-    ensures gives { ValueGives (λ x. (tree_of x.0, x.1.now)) result (taken (choice_of too_deep mark c) c bytes.now) }
+    ensures gives { LeafGives (λ x. (tree_of x.0, x.1.now)) result
+        (taken (choice_of too_deep mark c) c bytes.now) }
     ensures seen { seen.new ≤ length bytes.now }
     ensures passed { Passed false line_limit (take seen.new bytes.now) }
 {

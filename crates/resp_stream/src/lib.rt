@@ -3,15 +3,15 @@
 
 mod fault;
 mod leaf;
-mod parts;
 mod request;
 mod request_reader;
 mod rest;
 mod stack;
+mod tokens;
 mod value;
 mod value_reader;
 
-pub use fault::StreamFault;
+pub use fault::{FaultPlace, StreamFault};
 pub use request_reader::RequestReader;
 pub use value_reader::ValueReader;
 

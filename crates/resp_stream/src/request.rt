@@ -1,13 +1,16 @@
 // Requests, read from the front of a text in any number of steps.
-ghost use Rattle.std.specs.Prelude.{◌≡◌, true, ◌++◌, ◌∷◌, [], ℕ, ◌≤◌, ◌<◌, ◌^◌, ◌-◌, List, length, take, drop, IfOk, OnOk, OnErr};
+ghost use Rattle.std.specs.Prelude.{◌≡◌, true, ◌++◌, ◌∷◌, [], ℕ, ◌≤◌, ◌<◌, ◌^◌, ◌-◌, List, length};
+ghost use Rattle.std.specs.Prelude.{take, drop, IfOk, OnOk, OnErr};
 ghost use Rattle.std.specs.Prelude.{◌+◌};
-ghost use Rattle.resp_stream.specs.Gives.{Gives};
-ghost use Rattle.resp_stream.specs.Parts.{Passed};
-ghost use Rattle.resp_stream.specs.Request.{is_blank, some_word, words_behind, word_at, inline_at, line_limit, request_begun};
-ghost use Rattle.resp_stream.specs.Steps.{Within, StepGives, Stands, ReadingGives, NextGives};
+ghost use Rattle.resp_stream.specs.Results.{Gives};
+ghost use Rattle.resp_stream.specs.Tokens.{Passed};
+ghost use Rattle.resp_stream.specs.Request.{is_blank, some_word, words_after, word_at, inline_at};
+ghost use Rattle.resp_stream.specs.Request.{line_limit, request_begun};
+ghost use Rattle.resp_stream.specs.RequestSteps.{HasWords, RequestStepGives, IsProgress};
+ghost use Rattle.resp_stream.specs.RequestSteps.{RequestReadingGives, NextGives};
 
 use super::fault::{Broken, Fault, ReadStop, WHOLE_LIMIT, limited};
-use super::parts::{LengthRule, byte_of, counted_of, head_of, length_of, line_of};
+use super::tokens::{LengthRule, byte_of, counted_of, head_of, length_of, line_of};
 use resp_value::{NoMemory, Octets, Words};
 use std::alloc::Global;
 use std::mem;
@@ -54,7 +57,8 @@ pub enum Reading {
     Faulty { fault: Fault, at: usize },
 }
 
-/// The same behind empty requests: `taken` counts from the front, and `at` from behind the `passed` bytes.
+/// The same behind empty requests: `taken` counts from the front, and `at` from behind the `passed`
+/// bytes.
 #[derive(Drop)]
 pub enum Next {
     Whole {
@@ -90,7 +94,7 @@ fn close_word(words: &mut Words, word: Vec<u8>) -> Result<(), NoMemory>
 
 /// The words of an inline request.
 fn words_of(alloc: Global, line: &[u8]) -> Result<Words, NoMemory>
-    ensures { IfOk result (λ w. w ≡ words_behind [] line.now) }
+    ensures { IfOk result (λ w. w ≡ words_after [] line.now) }
 {
     let mut words = Words::new(alloc);
     let mut word = Vec::new(alloc);
@@ -129,8 +133,8 @@ fn read_words(
     left: u64,
     words: Words,
 ) -> Result<RequestStep, ReadStop>
-    requires { Within text.now at left words }
-    ensures { StepGives text.now result }
+    requires { HasWords text.now at left words }
+    ensures { RequestStepGives text.now result }
 {
     let mut at = at;
     let mut left = left;
@@ -144,7 +148,7 @@ fn read_words(
             Err(e) => {
                 return Err(ReadStop::Faulty(e));
             }
-            Ok(Some((word, behind))) => {
+            Ok(Some((word, after))) => {
                 let Ok(word) = Octets::from_slice(alloc, word) else {
                     return Err(ReadStop::NoMemory);
                 };
@@ -154,7 +158,7 @@ fn read_words(
                         return Err(ReadStop::NoMemory);
                     }
                 }
-                at = text.len() - behind.len();
+                at = text.len() - after.len();
                 left -= 1;
             }
         }
@@ -167,7 +171,7 @@ fn read_inline(alloc: Global, text: &[u8], seen: usize) -> Result<RequestStep, R
     requires seen { seen ≤ length text.now }
     requires passed { Passed true line_limit (take seen text.now) }
     requires inline { request_begun text.now ≡ inline_at text.now }
-    ensures { StepGives text.now result }
+    ensures { RequestStepGives text.now result }
 {
     let mut seen = seen;
     match line_of(true, LINE_LIMIT, &mut seen, text) {
@@ -187,7 +191,7 @@ fn read_inline(alloc: Global, text: &[u8], seen: usize) -> Result<RequestStep, R
 fn begin_request(alloc: Global, text: &[u8], seen: usize) -> Result<RequestStep, ReadStop>
     requires seen { seen ≤ length text.now }
     requires passed { Passed true line_limit (take seen text.now) }
-    ensures { StepGives text.now result }
+    ensures { RequestStepGives text.now result }
 {
     let Some((c, rest)) = head_of(text) else {
         return Ok(RequestStep::More(Progress::Line { seen: 0 }));
@@ -211,8 +215,8 @@ fn begin_request(alloc: Global, text: &[u8], seen: usize) -> Result<RequestStep,
 
 /// Reads on, until the request is whole, more is needed, or a byte is at fault.
 fn read_request(alloc: Global, text: &[u8], progress: Progress) -> Result<RequestStep, ReadStop>
-    requires { Stands text.now progress }
-    ensures { StepGives text.now result }
+    requires { IsProgress text.now progress }
+    ensures { RequestStepGives text.now result }
 {
     match progress {
         Progress::Line { seen } => begin_request(alloc, text, seen),
@@ -222,8 +226,8 @@ fn read_request(alloc: Global, text: &[u8], progress: Progress) -> Result<Reques
 
 /// A request with more bytes than `WHOLE_LIMIT` is a fault at the first byte too many.
 fn read_within(alloc: Global, text: &[u8], progress: Progress) -> Result<Reading, NoMemory>
-    requires { Stands text.now progress }
-    ensures { ReadingGives text.now result }
+    requires { IsProgress text.now progress }
+    ensures { RequestReadingGives text.now result }
 {
     match read_request(alloc, text, progress) {
         Err(ReadStop::NoMemory) => Err(NoMemory),
@@ -258,7 +262,7 @@ fn too_long() -> Reading
 
 /// The next request, empty ones passed over.
 pub(crate) fn next_in(alloc: Global, text: &[u8], progress: Progress) -> Result<Next, NoMemory>
-    requires { Stands text.now progress }
+    requires { IsProgress text.now progress }
     ensures { NextGives text.now result }
 {
     let mut passed = 0;

@@ -1,7 +1,7 @@
-// The requests of a stream.
-ghost use Rattle.std.specs.Prelude.{◌≡◌, true, OnOk, OnErr};
+//! The requests of a stream.
+ghost use Rattle.std.specs.Prelude.{◌≡◌, ◌<◌, true, length, IsOk, OnOk, OnErr};
 ghost use Rattle.resp_stream.specs.Stream.{begun, fed};
-ghost use Rattle.resp_stream.specs.Requests.{RequestGives, HadMemory};
+ghost use Rattle.resp_stream.specs.Readers.{RequestGives, NotMemory, OnItem, IfFault};
 
 use super::fault::{StreamFault, stream_fault};
 use super::request::{Next, Progress, next_in};
@@ -13,7 +13,8 @@ use std::mem;
 
 /// Reads the requests of a stream, however its bytes are cut.
 ///
-/// After a fault of the bytes every later call answers the same fault, and what is fed is left aside. After `NoMemory` the reader is as before.
+/// After a fault of the bytes every later call answers the same fault, and what is fed is dropped.
+/// After `NoMemory` the reader is as before.
 #[derive(Drop)]
 pub struct RequestReader {
     alloc: Global,
@@ -26,15 +27,15 @@ pub struct RequestReader {
 impl Model for RequestReader {
     ghost use Rattle.std.specs.Prelude.{is_some};
     ghost use Rattle.resp_stream.specs.Stream.{Stream, stream_code};
-    ghost use Rattle.resp_stream.specs.Requests.{Ready};
+    ghost use Rattle.resp_stream.specs.ReaderStates.{RequestState};
 
     ghost Value = { Stream };
 
     ghost coded = { stream_code };
 
-    ghost view = { λ s. record { before = s.before; rest = s.rest; told = is_some s.broken } };
+    ghost view = { λ s. record { before = s.before; rest = s.rest; failed = is_some s.broken } };
 
-    ghost invariant = { λ s. Ready s.before s.rest s.progress s.broken };
+    ghost invariant = { λ s. RequestState s.before s.rest s.progress s.broken };
 }
 
 impl RequestReader {
@@ -55,6 +56,7 @@ impl RequestReader {
     pub fn feed(&mut self, piece: &[u8]) -> Result<(), NoMemory>
         ensures ok { OnOk result (self.new ≡ fed self.old piece.now) }
         ensures err { OnErr result (self.new ≡ self.old) }
+        ensures failed { self.old.failed ≡ true → IsOk result }
     {
         if self.broken.is_some() {
             return Ok(());
@@ -65,7 +67,8 @@ impl RequestReader {
     /// The next request, empty ones passed over; nothing where more bytes are needed.
     pub fn next_request(&mut self) -> Result<Option<Words>, StreamFault>
         ensures gives { RequestGives self.old self.new result }
-        ensures told { self.old.told ≡ true → HadMemory result }
+        ensures words { OnItem result (λ ws. 0 < length ws) }
+        ensures failed { self.old.failed ≡ true → IfFault result NotMemory }
     {
         if let Some(fault) = self.broken {
             return Err(fault);

@@ -58,7 +58,8 @@ impl Rest {
         Ok(())
     }
 
-    /// The place of the bytes that are done is used again. Done when they are more than half, it costs a constant a byte.
+    /// The place of the bytes that are done is used again. Done when they are more than half, it
+    /// costs a constant a byte.
     fn compact(&mut self)
         ensures { self.new ≡ self.old }
     {

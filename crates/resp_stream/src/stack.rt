@@ -1,14 +1,16 @@
 // Values with elements, read without recursion.
-ghost use Rattle.std.specs.Prelude.{◌≡◌, ◌≤◌, ◌<◌, ◌^◌, ◌+◌, ◌∷◌, [], ℕ, List, length, take, drop, reverse, OnOk};
-ghost use Rattle.resp_value.specs.Of.{tree_of};
-ghost use Rattle.resp_stream.specs.Gives.{ValueGives};
+ghost use Rattle.std.specs.Prelude.{◌≡◌, ◌≤◌, ◌<◌, ◌^◌, ◌+◌, ◌∷◌, [], ℕ, List, length, take, drop};
+ghost use Rattle.std.specs.Prelude.{reverse, OnOk};
+ghost use Rattle.resp_value.specs.ValueTree.{tree_of};
+ghost use Rattle.resp_stream.specs.Results.{LeafGives};
 ghost use Rattle.resp_stream.specs.Value.{mark_of, opening};
-ghost use Rattle.resp_stream.specs.Stack.{Seen, StepGives, Has, Closes, Stands, RunGives, OnNone, ReadingGives, OnMore};
+ghost use Rattle.resp_stream.specs.ValueSteps.{LineSeen, ValueStepGives, HasRead, Closes, IsStack};
+ghost use Rattle.resp_stream.specs.ValueSteps.{RunGives, OnNone, ValueReadingGives, OnMore};
 ghost use Rattle.resp_stream.specs.declared.value.Mark.TheVariants.{Aggregate};
 
 use super::fault::{Fault, ReadStop, WHOLE_LIMIT, limited};
 use super::leaf::leaf_of;
-use super::parts::{bad_byte, head_of, length_of};
+use super::tokens::{bad_byte, head_of, length_of};
 use super::value::{Kind, Mark, build, elements, mark_of, may_stand, rule_of};
 use resp_value::{NoMemory, Value, Values};
 use std::alloc::Global;
@@ -61,7 +63,7 @@ fn open_of<'a>(
     requires head { bytes.now ≡ c ∷ rest.now }
     requires mark { mark_of c ≡ Aggregate kind }
     requires room { 0 < room }
-    ensures { StepGives room bytes.now (λ x. (x.0, x.1.now)) result }
+    ensures { ValueStepGives room bytes.now (λ x. (x.0, x.1.now)) result }
 {
     if !may_stand(room == 8, kind) {
         return Err(ReadStop::Faulty(bad_byte(bytes)));
@@ -89,9 +91,9 @@ fn step_of<'a>(
     seen: &mut usize,
     bytes: &'a [u8],
 ) -> Result<Option<(Step, &'a [u8])>, ReadStop>
-    requires { Seen bytes.now seen.old }
-    ensures gives { StepGives room bytes.now (λ x. (x.0, x.1.now)) result }
-    ensures seen { Seen bytes.now seen.new }
+    requires { LineSeen bytes.now seen.old }
+    ensures gives { ValueStepGives room bytes.now (λ x. (x.0, x.1.now)) result }
+    ensures seen { LineSeen bytes.now seen.new }
 {
     let Some((c, rest)) = head_of(bytes) else {
         return Ok(None);
@@ -118,7 +120,7 @@ fn close(
     requires { room.old + length stack.old.items < 2 ^ 32 }
     ensures room { OnOk result (room.new + length stack.new.items ≡ room.old + length stack.old.items) }
     ensures closes { (whole : ℕ) (text : List ℕ) (at : ℕ) →
-        Has whole text at room.old (reverse stack.old.items) (tree_of value) →
+        HasRead whole text at room.old (reverse stack.old.items) (tree_of value) →
         Closes whole text at room.new stack.new.items result }
 {
     let mut value = value;
@@ -168,12 +170,12 @@ fn run(
     stack: &mut Vec<Frame>,
 ) -> Result<Option<Value>, ReadStop>
     requires room { room.old + length stack.old.items ≡ 8 }
-    requires stands { Stands 8 text.now at.old room.old (reverse stack.old.items) }
-    requires seen { Seen (drop at.old text.now) seen.old }
+    requires stands { IsStack 8 text.now at.old room.old (reverse stack.old.items) }
+    requires seen { LineSeen (drop at.old text.now) seen.old }
     ensures gives { RunGives text.now at.new result }
-    ensures none { OnNone result (Stands 8 text.now at.new room.new (reverse stack.new.items)) }
+    ensures none { OnNone result (IsStack 8 text.now at.new room.new (reverse stack.new.items)) }
     ensures room { OnNone result (room.new + length stack.new.items ≡ 8) }
-    ensures seen { OnNone result (Seen (drop at.new text.now) seen.new) }
+    ensures seen { OnNone result (LineSeen (drop at.new text.now) seen.new) }
 {
     'steps: loop {
         let (_, rest) = text.split_at(*at);
@@ -184,8 +186,8 @@ fn run(
             Err(e) => {
                 return Err(e);
             }
-            Ok(Some((step, behind))) => {
-                let next = text.len() - behind.len();
+            Ok(Some((step, after))) => {
+                let next = text.len() - after.len();
                 *seen = 0;
                 match step {
                     Step::Open(kind, count) => {
@@ -241,12 +243,12 @@ pub(crate) fn read_value(
     stack: &mut Vec<Frame>,
 ) -> Result<ValueReading, NoMemory>
     requires room { room.old + length stack.old.items ≡ 8 }
-    requires stands { Stands 8 text.now at.old room.old (reverse stack.old.items) }
-    requires seen { Seen (drop at.old text.now) seen.old }
-    ensures gives { ReadingGives text.now result }
-    ensures more { OnMore result (Stands 8 text.now at.new room.new (reverse stack.new.items)) }
+    requires stands { IsStack 8 text.now at.old room.old (reverse stack.old.items) }
+    requires seen { LineSeen (drop at.old text.now) seen.old }
+    ensures gives { ValueReadingGives text.now result }
+    ensures more { OnMore result (IsStack 8 text.now at.new room.new (reverse stack.new.items)) }
     ensures room { OnMore result (room.new + length stack.new.items ≡ 8) }
-    ensures seen { OnMore result (Seen (drop at.new text.now) seen.new) }
+    ensures seen { OnMore result (LineSeen (drop at.new text.now) seen.new) }
 {
     match run(alloc, text, at, room, seen, stack) {
         Err(ReadStop::NoMemory) => Err(NoMemory),

@@ -1,14 +1,17 @@
 // Values without elements, read from the front of a text.
-ghost use Rattle.std.specs.Prelude.{◌≡◌, ◌≤◌, ◌<◌, ◌^◌, ℕ, ◌+◌, ◌-◌, List, length, take, drop, ◌∷◌, [], true, false, Some, None, IfOk, IfSome, IfNone};
-ghost use Rattle.resp_value.specs.Of.{tree_of};
-ghost use Rattle.resp_stream.specs.Answer.{Answer, Whole, More};
-ghost use Rattle.resp_stream.specs.Gives.{Gives, IfNumber};
-ghost use Rattle.resp_stream.specs.Parts.{Passed, ending};
+ghost use Rattle.std.specs.Prelude.{◌≡◌, ◌≤◌, ◌<◌, ◌^◌, ℕ, ◌+◌, ◌-◌, List, length, take, drop, ◌∷◌};
+ghost use Rattle.std.specs.Prelude.{[], true, false, Some, None, IfOk, IfSome, IfNone};
+ghost use Rattle.resp_value.specs.ValueTree.{tree_of};
+ghost use Rattle.resp_stream.specs.Parsed.{Parsed, Whole, More};
+ghost use Rattle.resp_stream.specs.Results.{Gives, IfNumber};
+ghost use Rattle.resp_stream.specs.Tokens.{Passed, ending};
 ghost use Rattle.resp_stream.specs.Request.{line_limit};
-ghost use Rattle.resp_stream.specs.Value.{rule_of, digits_of_at, number_at, signed_at, signed, greatest, blob_at, format_at, formatted_at, mark_of, elements, build, may_stand};
+ghost use Rattle.resp_stream.specs.Value.{rule_of, digits_of_at, number_at, signed_at, signed};
+ghost use Rattle.resp_stream.specs.Value.{greatest, blob_at, format_at, formatted_at, mark_of};
+ghost use Rattle.resp_stream.specs.Value.{elements, build, may_stand};
 
 use super::fault::Broken;
-use super::parts::{LengthRule, bad_byte, byte_of, head_of};
+use super::tokens::{LengthRule, bad_byte, byte_of, head_of};
 use resp_value::{NoMemory, Pairs, Value, Values};
 use std::alloc::Global;
 
@@ -117,7 +120,7 @@ pub(crate) fn build(alloc: Global, kind: Kind, values: Values) -> Result<Value, 
 }
 
 /// The rest of a number with this many digits so far.
-#[tactic(auto, unfolding(crate::specs::Value::digits_of_at, crate::specs::Parts::line_feed))]
+#[tactic(auto, unfolding(crate::specs::Value::digits_of_at, crate::specs::Tokens::line_feed))]
 fn digits_on(
     most: u64,
     digits: u64,
@@ -127,7 +130,8 @@ fn digits_on(
     requires digits { digits ≤ 19 }
     requires first { first ≤ most }
     requires most { most < 2 ^ 63 + 1 }
-    ensures gives { Gives (λ x. (x.0, x.1.now)) result (digits_of_at most (Some (record { count = digits; made = first })) bytes.now) }
+    ensures gives { Gives (λ x. (x.0, x.1.now)) result
+        (digits_of_at most (Some (record { count = digits; made = first })) bytes.now) }
     ensures most { IfNumber result most }
 {
     let mut count = digits;
@@ -138,7 +142,7 @@ fn digits_on(
         if c == 13 {
             return match byte_of(10, after) {
                 Ok(None) => Ok(None),
-                Ok(Some(behind)) => Ok(Some((number, behind))),
+                Ok(Some(after)) => Ok(Some((number, after))),
                 Err(e) => Err(e),
             };
         }

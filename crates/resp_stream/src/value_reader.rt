@@ -1,7 +1,7 @@
-// The values of a stream.
-ghost use Rattle.std.specs.Prelude.{◌≡◌, true, OnOk, OnErr};
+//! The values of a stream.
+ghost use Rattle.std.specs.Prelude.{◌≡◌, true, IsOk, OnOk, OnErr};
 ghost use Rattle.resp_stream.specs.Stream.{begun, fed};
-ghost use Rattle.resp_stream.specs.Values.{ValueGives, HadMemory};
+ghost use Rattle.resp_stream.specs.Readers.{ValueGives, NotMemory, IfFault};
 
 use super::fault::{StreamFault, stream_fault};
 use super::rest::Rest;
@@ -12,7 +12,8 @@ use std::marker::Model;
 
 /// Reads the values of a stream, however its bytes are cut, in either protocol's spelling.
 ///
-/// After a fault of the bytes every later call answers the same fault, and what is fed is left aside. After `NoMemory` the reader is as before.
+/// After a fault of the bytes every later call answers the same fault, and what is fed is dropped.
+/// After `NoMemory` the reader is as before.
 #[derive(Drop)]
 pub struct ValueReader {
     alloc: Global,
@@ -28,15 +29,15 @@ pub struct ValueReader {
 impl Model for ValueReader {
     ghost use Rattle.std.specs.Prelude.{is_some};
     ghost use Rattle.resp_stream.specs.Stream.{Stream, stream_code};
-    ghost use Rattle.resp_stream.specs.Values.{Ready};
+    ghost use Rattle.resp_stream.specs.ReaderStates.{ValueState};
 
     ghost Value = { Stream };
 
     ghost coded = { stream_code };
 
-    ghost view = { λ s. record { before = s.before; rest = s.rest; told = is_some s.broken } };
+    ghost view = { λ s. record { before = s.before; rest = s.rest; failed = is_some s.broken } };
 
-    ghost invariant = { λ s. Ready s.before s.rest s.at s.room s.seen s.stack.items s.broken };
+    ghost invariant = { λ s. ValueState s.before s.rest s.at s.room s.seen s.stack.items s.broken };
 }
 
 impl ValueReader {
@@ -60,20 +61,18 @@ impl ValueReader {
     pub fn feed(&mut self, piece: &[u8]) -> Result<(), NoMemory>
         ensures ok { OnOk result (self.new ≡ fed self.old piece.now) }
         ensures err { OnErr result (self.new ≡ self.old) }
+        ensures failed { self.old.failed ≡ true → IsOk result }
     {
         if self.broken.is_some() {
             return Ok(());
         }
-        match self.rest.append(piece) {
-            Ok(()) => Ok(()),
-            Err(e) => Err(e),
-        }
+        self.rest.append(piece)
     }
 
     /// The next whole value; nothing where more bytes are needed.
     pub fn next_value(&mut self) -> Result<Option<Value>, StreamFault>
         ensures gives { ValueGives self.old self.new result }
-        ensures told { self.old.told ≡ true → HadMemory result }
+        ensures failed { self.old.failed ≡ true → IfFault result NotMemory }
     {
         if let Some(fault) = self.broken {
             return Err(fault);

@@ -1,6 +1,6 @@
 use Rattle.std.proofs.Common.{refl, None}
 use Rattle.resp_stream.specs.declared.request.Progress.TheVariants.{Line}
-use Rattle.resp_stream.proofs.Telling.{fresh}
+use Rattle.resp_stream.proofs.RequestFaults.{fresh}
 use Rattle.resp_stream.proofs.request_reader.RequestReader.new.Goals as goal
 
 pub invariant_of-result : goal.invariant_of-result

@@ -1,5 +1,5 @@
 use Rattle.std.proofs.Common.{None}
-use Rattle.resp_stream.proofs.ValueTelling.{fresh}
+use Rattle.resp_stream.proofs.ValueFaults.{fresh}
 use Rattle.resp_stream.proofs.value_reader.ValueReader.new.Goals as goal
 
 pub invariant_of-result : goal.invariant_of-result

@@ -1,0 +1,7 @@
+use Rattle.std.proofs.Common.{refl}
+use Rattle.resp_stream.specs.Stream.{begun, fed}
+use Rattle.resp_stream.proofs.Parse.{parse_joined}
+use Rattle.resp_laws.proofs.law_pieces_give_the_requests_of_the_whole.Goals as goal
+
+pub returns : goal.returns
+returns c = λ b m e. parse_joined (fed begun b) m refl e

@@ -1,7 +1,0 @@
-use Rattle.std.proofs.Common.{refl}
-use Rattle.resp_stream.specs.Stream.{begun, fed}
-use Rattle.resp_laws.proofs.Parse.{parse_joined}
-use Rattle.resp_laws.proofs.pieces_give_the_requests_of_the_whole.Goals as goal
-
-pub returns : goal.returns
-returns c = λ b m e. parse_joined (fed begun b) m refl e

@@ -1,0 +1,189 @@
+-- The requests and the values of a stream, one at a time and in pieces.
+use Rattle.std.proofs.Common.{◌≡◌, ℕ, zero, suc, ◌+◌, ◌-◌, ◌<◌, ◌≤◌, List, [], ◌∷◌, ◌++◌, refl, sym}
+use Rattle.std.proofs.Common.{ap}
+use Rattle.std.proofs.Common.{◌∙◌, true, false, length, arith, Some, None}
+use Rattle.std.proofs.lemmas.List.{length-append}
+use Rattle.resp_value.specs.Tree.{Tree}
+use Rattle.resp_stream.specs.declared.fault.Fault.{Fault}
+use Rattle.resp_stream.specs.Parsed.{Parsed, Whole, More, Bad}
+use Rattle.resp_stream.specs.Parse.{Batch, batch, parse, parse_values}
+use Rattle.resp_stream.specs.Readers.{skipped}
+use Rattle.resp_stream.specs.Request.{whole_limit, request_begun, request_at, skip_by}
+use Rattle.resp_stream.specs.Request.{skip_empty_in}
+use Rattle.resp_stream.specs.Request.{skip_empty}
+use Rattle.resp_stream.specs.Stream.{Stream, fed, moved_on, offset_by, stream_fault}
+use Rattle.resp_stream.specs.Value.{value_in, value_at}
+use Rattle.resp_stream.proofs.Batches.{Takes, fed_rest, batch_whole, batch_more, batch_bad}
+use Rattle.resp_stream.proofs.Batches.{batch_rest}
+use Rattle.resp_stream.proofs.Batches.{batch_unfailed, batch_joined}
+use Rattle.resp_stream.proofs.Capped.{capped_whole, still_whole}
+use Rattle.resp_stream.proofs.Places.{reads_on}
+use Rattle.resp_stream.proofs.RequestLaws.{reader_request}
+use Rattle.resp_stream.proofs.Skipping.{takes, skip_on, skip_bad, skip_whole}
+use Rattle.resp_stream.proofs.ValueLaws.{reader_value, no_value}
+
+-- ---- a request takes a byte, and so do those that were passed over
+
+after_le : (b : List ℕ) (f : List ℕ → List ℕ) (a : Parsed (List (List ℕ)))
+    → ((r : List ℕ) → a ≡ Whole [] r → length (f r) ≤ length b) → length (skip_by b a f) ≤ length b
+after_le b f (Whole [] r) h = h r refl
+after_le b f (Whole (w ∷ ws) r) h = omega arith
+after_le b f More h = omega arith
+after_le b f (Bad g r) h = omega arith
+
+skip_in_le : (n : ℕ) (b : List ℕ) → length (skip_empty_in n b) ≤ length b
+unfolding skip_empty_in
+skip_in_le zero b = omega arith
+skip_in_le (suc n) b =
+    after_le b (λ r. skip_empty_in n r) (request_at b)
+    (λ r e. omega (arith, skip_in_le n r, takes b r [] e))
+
+skip_le : (b : List ℕ) → length (skip_empty b) ≤ length b
+unfolding skip_empty
+skip_le b = skip_in_le (length b) b
+
+pub shorter : (b r : List ℕ) (words : List (List ℕ)) → request_at (skip_empty b) ≡ Whole words r
+    → length r < length b
+shorter b r words e = omega (arith, takes (skip_empty b) r words e, skip_le b)
+
+-- ---- with more bytes
+
+request_kept : (b r m : List ℕ) (words : List (List ℕ)) → request_at b ≡ Whole words r
+    → request_at (b ++ m) ≡ Whole words (r ++ m)
+unfolding request_at
+request_kept b r m words e = still_whole whole_limit request_begun reader_request b r m words e
+
+joined_by : (b m : List ℕ) (f : List ℕ → List ℕ) (a : Parsed (List (List ℕ)))
+    → ((r : List ℕ) → a ≡ Whole [] r → skip_empty (b ++ m) ≡ skip_empty (f r ++ m))
+    → skip_empty (b ++ m) ≡ skip_empty (skip_by b a f ++ m)
+joined_by b m f (Whole [] r) h = h r refl
+joined_by b m f (Whole (w ∷ ws) r) h = refl
+joined_by b m f More h = refl
+joined_by b m f (Bad g r) h = refl
+
+joined_in : (n : ℕ) (b m : List ℕ) → skip_empty (b ++ m) ≡ skip_empty (skip_empty_in n b ++ m)
+unfolding skip_empty_in
+joined_in zero b m = refl
+joined_in (suc n) b m =
+    joined_by b m (λ r. skip_empty_in n r) (request_at b)
+    (λ r e. skip_on (b ++ m) (r ++ m) (request_kept b r m [] e) ∙ joined_in n r m)
+
+skip_joined : (b m : List ℕ) → skip_empty (b ++ m) ≡ skip_empty (skip_empty b ++ m)
+unfolding skip_empty
+skip_joined b m = joined_in (length b) b m
+
+-- after empty requests a request has words
+
+some_by : (b r : List ℕ) (words : List (List ℕ)) (f : List ℕ → List ℕ) (a : Parsed (List (List ℕ)))
+    → request_at b ≡ a
+    → ((q : List ℕ) → a ≡ Whole [] q → request_at (f q) ≡ Whole words r → 0 < length words) →
+    request_at (skip_by b a f) ≡ Whole words r → 0 < length words
+some_by b r words f (Whole [] q) k h e = h q refl e
+some_by b r words f (Whole (w ∷ ws) q) k h e = let same : words ≡ w ∷ ws =
+    cc in omega (arith, ap length same)
+some_by b r words f More k h e = absurd cc
+some_by b r words f (Bad g q) k h e = absurd cc
+
+some_in : (n : ℕ) (b r : List ℕ) (words : List (List ℕ)) → length b ≤ n
+    → request_at (skip_empty_in n b) ≡ Whole words r → 0 < length words
+unfolding skip_empty_in
+some_in zero b r words le e = absurd (omega (arith, takes b r words e))
+some_in (suc n) b r words le e =
+    some_by b r words (λ q. skip_empty_in n q) (request_at b) refl
+    (λ q h k. some_in n q r words (omega (arith, takes b q [] h)) k) e
+
+pub some_words : (b r : List ℕ) (words : List (List ℕ)) → request_at (skip_empty b) ≡ Whole words r
+    → 0 < length words
+unfolding skip_empty
+some_words b r words e = some_in (length b) b r words (omega arith) e
+
+whole_skipped : (b r m : List ℕ) (words : List (List ℕ)) → request_at (skip_empty b) ≡ Whole words r
+    → request_at (skip_empty (b ++ m)) ≡ Whole words (r ++ m)
+whole_skipped b r m words e =
+    let w = request_kept (skip_empty b) r m words e in
+    ap request_at
+    (skip_joined b m ∙ skip_whole (skip_empty b ++ m) (r ++ m) words w (some_words b r words e))
+    ∙ w
+
+pub takes_requests : Takes request_at skipped
+takes_requests = record {
+  some = λ s x r e. shorter s.rest r x e;
+  by_rest = λ s t e. ap skip_empty e;
+  failed = λ s. refl;
+  kept = λ s b x r t e. ap (λ (q : List ℕ). request_at (skip_empty q)) (fed_rest s b t)
+      ∙ whole_skipped s.rest r b x e;
+  joined = λ s b t. ap skip_empty (fed_rest s b t) ∙ skip_joined s.rest b
+      ∙ ap skip_empty (sym (fed_rest (skipped s) b t));
+  stays = λ s t g r h e. ap skip_empty e ∙ skip_bad (skip_empty s.rest) r g h;
+}
+
+pub parse_whole : (s : Stream) (words : List (List ℕ)) (r : List ℕ)
+    → request_at (skip_empty s.rest) ≡ Whole words r
+    → parse s ≡ record {
+      items = words ∷ (parse (moved_on s r)).items;
+      stream =
+          (parse (moved_on s r)).stream;
+      fault = (parse (moved_on s r)).fault;
+    }
+unfolding parse
+parse_whole s words r e = batch_whole request_at skipped takes_requests s words r e
+
+pub parse_more : (s : Stream) → request_at (skip_empty s.rest) ≡ More
+    → parse s ≡ record { items = []; stream = skipped s; fault = None }
+unfolding parse
+parse_more s e = batch_more request_at skipped takes_requests s e
+
+pub parse_bad : (s : Stream) (g : Fault) (r : List ℕ) → request_at (skip_empty s.rest) ≡ Bad g r
+    → parse s ≡ record {
+      items = [];
+      stream = record (skipped s) { failed = true };
+      fault =
+          Some (stream_fault g (offset_by (skipped s).before (length (skipped s).rest - length r)));
+    }
+unfolding parse
+parse_bad s g r e = batch_bad request_at skipped takes_requests s g r e
+
+pub parse_unfailed : (s : Stream) → s.failed ≡ false → (parse s).fault ≡ None
+    → (parse s).stream.failed ≡ false
+unfolding parse
+parse_unfailed s t e = batch_unfailed request_at skipped takes_requests s t e
+
+pub parse_rest : (s t : Stream) → s.rest ≡ t.rest → (parse s).items ≡ (parse t).items
+unfolding parse
+parse_rest s t e = batch_rest request_at skipped takes_requests s t e
+
+pub parse_joined : (s : Stream) (b : List ℕ) → s.failed ≡ false → (parse s).fault ≡ None
+    → (parse (fed s b)).items ≡ (parse s).items ++ (parse (fed (parse s).stream b)).items
+unfolding parse
+parse_joined s b t e = batch_joined request_at skipped takes_requests s b t e
+
+-- ---- values
+
+value_shorter : (b r : List ℕ) (t : Tree) → value_at b ≡ Whole t r → length r < length b
+unfolding value_at
+value_shorter b r t e =
+    let g =
+    reads_on (value_in 8) (reader_value 8) (no_value 8) b r 0 t (omega arith)
+    (capped_whole whole_limit b (value_in 8 b) t r e).0 in
+    omega (arith, g.on, g.within)
+
+value_kept : (b r m : List ℕ) (t : Tree) → value_at b ≡ Whole t r
+    → value_at (b ++ m) ≡ Whole t (r ++ m)
+unfolding value_at
+value_kept b r m t e = still_whole whole_limit (value_in 8) (reader_value 8) b r m t e
+
+pub takes_values : Takes value_at (λ s. s)
+takes_values = record {
+  some = λ s x r e. value_shorter s.rest r x e;
+  by_rest = λ s t e. e;
+  failed = λ s. refl;
+  kept = λ s b x r t e. ap value_at (fed_rest s b t) ∙ value_kept s.rest r b x e;
+  joined = λ s b t. refl;
+  stays = λ s t g r h e. e;
+}
+
+pub values_joined : (s : Stream) (b : List ℕ) → s.failed ≡ false → (parse_values s).fault ≡ None
+    → (parse_values (fed s b)).items
+    ≡ (parse_values s).items ++ (parse_values (fed (parse_values s).stream b)).items
+unfolding parse_values
+values_joined s b t e = batch_joined value_at (λ q. q) takes_values s b t e
