@@ -1,2 +1,3 @@
 pub mod Keyed
-pub mod Keeping
+pub mod Refusals
+pub mod BookTurns

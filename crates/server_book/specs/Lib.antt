@@ -1,2 +1,4 @@
-pub mod Written
-pub mod Standing
+pub mod Writes
+pub mod Log
+pub mod Connections
+pub mod BookState

@@ -1,56 +1,56 @@
 //! The server's state. A turn answers and adds what the definition of a step gives on the history.
-ghost use Rattle.std.specs.Prelude.{◌≡◌, ◌<◌, [], true, IfOk, OnErr, length, reverse};
+ghost use Rattle.std.specs.Prelude.{◌≡◌, ◌<◌, [], true, IfOk, OnErr, length};
+ghost use Rattle.std.specs.Prelude.{reverse};
 ghost use Rattle.serial_model.specs.declared.history.BookCall.TheVariants as call;
-ghost use Rattle.serial_model.specs.History.{is_connected, unsent, IsLegal};
-ghost use Rattle.serial_model.specs.Steps.{BookStep, IsCallable};
-ghost use Rattle.server_book.specs.Standing.{IsTurn, posts_after};
+ghost use Rattle.serial_model.specs.History.{IsLegal, gives_on, is_full, protocol, reads_on, runs_on};
+ghost use Rattle.serial_model.specs.History.{unsent};
+ghost use Rattle.serial_model.specs.Steps.{AreValid, BookStep, IsCallable};
+ghost use Rattle.server_book.specs.BookState.{IsAccepted, IsFullAnswer, IsRefusal, IsTurn, posts_after};
 
+use super::connections::Connections;
 use super::keyspace::Keyspace;
+use super::log::Log;
 use super::plan::{Plan, message_of, plan_of, put_written};
-use super::queue::Queues;
-use resp_value::{NoMemory, Words};
-use serial_model::{BookCall, BookRefusal, BookReply, Entry, Limits, Post};
+use resp_value::{NoMemory, Proto, Words};
+use serial_model::{BookCall, BookRefusal, BookReply, Entry, Limits, Post, Posted};
 use std::alloc::Global;
 use std::marker::Model;
 
-/// The server's state: connections, keys and what each connection was sent. Contracts see its
-/// limits, its history and what the last turn sent.
+/// The server's state: its history, its keys and its connections. Contracts see its limits, its
+/// history and what the last turn sent.
 #[derive(Drop)]
 pub struct Book {
     alloc: Global,
     limits: Limits,
-    entries: Vec<Entry>,
+    log: Log,
     space: Keyspace,
-    queues: Queues,
-    ended: Vec<bool>,
-    moment: u64,
+    connections: Connections,
     posts: Vec<Post>,
 }
 
 impl Model for Book {
-    ghost use Rattle.std.specs.Prelude.{reverse, vec_len, vec_capacity};
-    ghost use Rattle.server_book.specs.Standing.{Standing, Holds};
+    ghost use Rattle.std.specs.Prelude.{vec_capacity};
+    ghost use Rattle.server_book.specs.BookState.{BookInvariant, BookState};
 
-    ghost Value = { Standing };
+    ghost Value = { BookState };
 
-    ghost view = { λ b. record { limits = b.limits; past = reverse b.entries.items; posts = b.posts.items } };
+    ghost view = { λ b. record { limits = b.limits; past = b.log.past; posts = b.posts.items } };
 
-    ghost invariant = { λ b. Holds (reverse b.entries.items) b.space b.queues b.ended.items b.moment (vec_len b.entries) (vec_capacity b.entries) (vec_capacity b.posts) };
+    ghost invariant = { λ b. BookInvariant b.limits b.log b.space b.connections (vec_capacity b.posts) };
 }
 
 impl Book {
     /// The server before its first turn.
     pub fn new(alloc: Global, limits: Limits) -> Result<Book, NoMemory>
+        requires { AreValid limits }
         ensures { IfOk result (λ b. b ≡ record { limits = limits; past = []; posts = [] }) }
     {
         Ok(Book {
             alloc,
             limits,
-            entries: Vec::new(alloc),
+            log: Log::new(alloc),
             space: Keyspace::new(alloc),
-            queues: Queues::new(alloc),
-            ended: Vec::new(alloc),
-            moment: 0,
+            connections: Connections::new(alloc),
             posts: Vec::with_capacity(alloc, 1)?,
         })
     }
@@ -59,167 +59,208 @@ impl Book {
     pub fn entries(&self) -> u64
         ensures { result ≡ length self.now.past }
     {
-        self.entries.len() as u64
+        self.log.len()
     }
 
     /// The history, the first entry first.
     pub fn history(&self) -> &[Entry]
         ensures list { reverse result.now ≡ self.now.past }
-        ensures legal { IsLegal self.now.past }
+        ensures legal { IsLegal self.now.limits self.now.past }
     {
-        self.entries.as_slice()
+        self.log.entries()
     }
 
-    /// The messages that the last turn put into queues, in order.
+    /// What the last turn put into queues, in order.
     pub fn last_posts(&self) -> &[Post]
         ensures { result.now ≡ self.now.posts }
     {
         self.posts.as_slice()
     }
 
-    /// Whether a connection of this id was admitted and has not ended.
-    pub fn is_connected(&self, id: u64) -> bool
-        ensures { result ≡ is_connected self.now.past id }
+    /// Whether a Run of this connection is accepted.
+    pub fn runs_on(&self, id: u64) -> bool
+        ensures { result ≡ runs_on self.now.limits self.now.past id }
     {
-        if id == 0 || id > self.ended.len() as u64 {
-            return false;
-        }
-        !self.ended[(id - 1) as usize]
+        self.connections.is_live(id)
+    }
+
+    /// Whether the server reads on from this connection's link, and a Close of it is accepted.
+    pub fn reads_on(&self, id: u64) -> bool
+        ensures { result ≡ reads_on self.now.limits self.now.past id }
+    {
+        self.connections.is_live(id)
+    }
+
+    /// Whether a Take of this connection is accepted.
+    pub fn gives_on(&self, id: u64) -> bool
+        ensures { result ≡ gives_on self.now.limits self.now.past id }
+    {
+        self.connections.is_live(id)
     }
 
     /// How many bytes a connection can take now.
     pub fn waiting(&self, id: u64) -> u64
-        requires { is_connected self.now.past id ≡ true }
-        ensures { result ≡ length (unsent id self.now.past) }
+        requires { gives_on self.now.limits self.now.past id ≡ true }
+        ensures { result ≡ length (unsent self.now.limits id self.now.past) }
     {
-        self.queues.size((id - 1) as usize) as u64
+        self.connections.waiting(id) as u64
     }
 
-    #[tactic(auto, unfolding(serial_model::specs::Steps::book_step, serial_model::specs::History::posted))]
+    #[tactic(auto, unfolding(serial_model::specs::History::protocol))]
+    fn protocol(&self, id: u64) -> Proto
+        ensures { result ≡ protocol id self.now.past }
+    {
+        Proto::Two
+    }
+
+    fn is_full(&self) -> bool
+        ensures { result ≡ is_full self.now.limits self.now.past }
+    {
+        self.log.len() >= self.limits.history_max
+    }
+
+    // The answer to a call that would add an entry, where the history is full.
+    fn full(&self) -> Option<BookReply>
+        ensures { IsFullAnswer self.now result }
+    {
+        if self.is_full() {
+            let entries = self.log.len();
+            Some(BookReply::Refused(BookRefusal::HistoryFull { entries }))
+        } else {
+            None
+        }
+    }
+
+    // The answer to a call that adds no entry, by the order of refusals.
+    fn refusal(&self, call: &BookCall) -> Option<BookReply>
+        requires { IsCallable call.now }
+        ensures { IsRefusal self.now call.now result }
+    {
+        match call {
+            BookCall::Admit => self.full(),
+            BookCall::Run { id, .. } => {
+                if self.runs_on(*id) {
+                    self.full()
+                } else {
+                    Some(BookReply::Refused(BookRefusal::Gone { id: *id }))
+                }
+            }
+            BookCall::Take { id, .. } => {
+                if self.gives_on(*id) {
+                    if self.waiting(*id) > 0 {
+                        self.full()
+                    } else {
+                        Some(BookReply::Quiet)
+                    }
+                } else {
+                    Some(BookReply::Refused(BookRefusal::Gone { id: *id }))
+                }
+            }
+            BookCall::Close { id } => {
+                if self.reads_on(*id) {
+                    None
+                } else {
+                    Some(BookReply::Refused(BookRefusal::Gone { id: *id }))
+                }
+            }
+        }
+    }
+
     fn admit(&mut self) -> Result<BookReply, NoMemory>
-        requires { self.old.posts ≡ [] }
+        requires accepted { IsAccepted self.old.limits self.old.past call.Admit }
+        requires none { self.old.posts ≡ [] }
         ensures ok { IfOk result (λ reply. IsTurn self.old call.Admit reply self.new) }
         ensures err { OnErr result (self.new ≡ self.old) }
     {
-        let id = self.ended.len() as u64 + 1;
-        let entry = self.entries.len() as u64 + 1;
+        let id = self.connections.count() as u64 + 1;
+        let entry = self.log.len() + 1;
         // Room for this entry, and for the Close of each connection with the new one.
-        self.entries.reserve(self.ended.len() + 2)?;
-        self.ended.reserve(1)?;
-        self.queues.push_empty(self.alloc)?;
-        self.ended.push_reserved(false);
-        self.entries.push_reserved(Entry::Admit { id });
+        self.log.reserve(self.connections.count() + 2)?;
+        self.connections.admit(self.alloc)?;
+        self.log.push(Entry::Admit { id });
         Ok(BookReply::Admitted { entry, id })
     }
 
     // All room is made first. The keyspace grows last, and the queue can be taken back.
-    #[tactic(auto, unfolding(serial_model::specs::Steps::book_step))]
     fn run(&mut self, id: u64, words: Words, now: u64) -> Result<BookReply, NoMemory>
-        requires connected { is_connected self.old.past id ≡ true }
-        requires quiet { self.old.posts ≡ [] }
+        requires accepted { IsAccepted self.old.limits self.old.past (call.Run id words now) }
+        requires none { self.old.posts ≡ [] }
         ensures ok { IfOk result (λ reply. IsTurn self.old (call.Run id words now) reply self.new) }
         ensures err { OnErr result (self.new ≡ self.old) }
     {
-        let at = (id - 1) as usize;
-        let Plan { reply, write } = plan_of(self.alloc, &self.space, &words)?;
-        let message = message_of(self.alloc, &reply)?;
-        self.entries.reserve(self.ended.len() + 1)?;
+        let moment = now.max(self.log.moment());
+        let Plan { reply, write } = plan_of(self.alloc, &self.space, &words, moment)?;
+        let message = message_of(self.alloc, self.protocol(id), &reply)?;
+        self.log.reserve(self.connections.count() + 1)?;
         self.posts.reserve(1)?;
-        let size = self.queues.size(at);
-        self.queues.add(at, message.as_slice())?;
+        let size = self.connections.waiting(id);
+        self.connections.add(id, message.as_slice())?;
         match put_written(&mut self.space, write) {
             Ok(()) => {}
             Err(_) => {
-                self.queues.keep(at, size);
+                self.connections.keep(id, size);
                 return Err(NoMemory);
             }
         }
-        let entry = self.entries.len() as u64 + 1;
-        let moment = now.max(self.moment);
-        self.entries.push_reserved(Entry::Run { id, words, moment });
+        let entry = self.log.len() + 1;
+        let length = message.len() as u64;
+        self.log.push(Entry::Run { id, words, moment });
         self.posts.push_reserved(Post {
             entry,
             id,
-            length: message.len() as u64,
-            last: false,
+            what: Posted::Message { length },
         });
-        self.moment = moment;
         Ok(BookReply::Ran { entry })
     }
 
-    #[tactic(auto, unfolding(serial_model::specs::Steps::book_step))]
     fn take(&mut self, id: u64, most: u64) -> Result<BookReply, NoMemory>
         requires most { 0 < most }
-        requires connected { is_connected self.old.past id ≡ true }
-        requires quiet { self.old.posts ≡ [] }
+        requires accepted { IsAccepted self.old.limits self.old.past (call.Take id most) }
+        requires none { self.old.posts ≡ [] }
         ensures ok { IfOk result (λ reply. IsTurn self.old (call.Take id most) reply self.new) }
         ensures err { OnErr result (self.new ≡ self.old) }
     {
-        let at = (id - 1) as usize;
-        let bytes = self.queues.front(at, most as usize)?;
-        if bytes.as_slice().is_empty() {
-            return Ok(BookReply::Quiet);
-        }
-        let entry = self.entries.len() as u64 + 1;
-        self.entries.reserve(self.ended.len() + 1)?;
-        self.entries.push_reserved(Entry::Take { id, max: most });
-        self.queues.advance(at, most as usize);
+        let bytes = self.connections.front(id, most as usize)?;
+        self.log.reserve(self.connections.count() + 1)?;
+        let entry = self.log.len() + 1;
+        self.log.push(Entry::Take { id, max: most });
+        self.connections.advance(id, most as usize);
         Ok(BookReply::Bytes { entry, bytes })
     }
 
-    // The room for the entry and for its message was kept.
-    #[tactic(auto, unfolding(serial_model::specs::Steps::book_step))]
+    // The room for the entry and for its post was kept.
     fn close(&mut self, id: u64) -> BookReply
-        requires connected { is_connected self.old.past id ≡ true }
-        requires quiet { self.old.posts ≡ [] }
+        requires accepted { IsAccepted self.old.limits self.old.past (call.Close id) }
+        requires none { self.old.posts ≡ [] }
         ensures { IsTurn self.old (call.Close id) result self.new }
     {
-        let at = (id - 1) as usize;
-        let entry = self.entries.len() as u64 + 1;
-        self.entries.push_reserved(Entry::Close { id });
+        let entry = self.log.len() + 1;
+        self.log.push(Entry::Close { id });
         self.posts.push_reserved(Post {
             entry,
             id,
-            length: 0,
-            last: true,
+            what: Posted::End,
         });
-        self.queues.drop_all(at);
-        self.ended[at] = true;
+        self.connections.end(id);
         BookReply::Closed { entry }
     }
 
     /// Plays one turn. Want of memory leaves the history as it was.
-    #[tactic(auto, unfolding(serial_model::specs::Steps::book_step))]
     pub fn turn(&mut self, call: BookCall) -> BookReply
         requires { IsCallable call }
         ensures limits { self.new.limits ≡ self.old.limits }
-        ensures step { BookStep self.old.past call result self.new.past }
-        ensures posts { self.new.posts ≡ posts_after result self.new.past }
+        ensures step { BookStep self.old.limits self.old.past call result self.new.past }
+        ensures posts { self.new.posts ≡ posts_after self.old.limits result self.new.past }
     {
         self.posts.clear();
+        if let Some(reply) = self.refusal(&call) {
+            return reply;
+        }
         let turned = match call {
             BookCall::Admit => self.admit(),
-            BookCall::Run { id, words, now } => {
-                if self.is_connected(id) {
-                    self.run(id, words, now)
-                } else {
-                    Ok(BookReply::Refused(BookRefusal::Gone { id }))
-                }
-            }
-            BookCall::Take { id, max } => {
-                if self.is_connected(id) {
-                    self.take(id, max)
-                } else {
-                    Ok(BookReply::Refused(BookRefusal::Gone { id }))
-                }
-            }
-            BookCall::Close { id } => {
-                return if self.is_connected(id) {
-                    self.close(id)
-                } else {
-                    BookReply::Refused(BookRefusal::Gone { id })
-                };
-            }
+            BookCall::Run { id, words, now } => self.run(id, words, now),
+            BookCall::Take { id, max } => self.take(id, max),
+            BookCall::Close { id } => return self.close(id),
         };
         match turned {
             Ok(reply) => reply,

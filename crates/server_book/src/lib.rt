@@ -2,12 +2,13 @@
 #![tactic(auto)]
 
 mod book;
+mod connections;
 mod keyspace;
+mod log;
 mod plan;
-mod queue;
 
 pub use book::Book;
-pub use serial_model::{BookCall, BookRefusal, BookReply, Entry, Limits, Post};
+pub use serial_model::{BookCall, BookRefusal, BookReply, Entry, Limits, Post, Posted};
 
 #[cfg(test)]
 mod tests;

@@ -1,7 +1,7 @@
 //! What a request will do: its reply, and the pair that it writes.
 ghost use Rattle.std.specs.Prelude.{◌≡◌, IfOk, OnOk, OnErr};
-ghost use Rattle.serial_model.specs.History.{ran, spelled};
-ghost use Rattle.server_book.specs.Written.{written};
+ghost use Rattle.serial_model.specs.History.{ran_over, spelled};
+ghost use Rattle.server_book.specs.Writes.{after_write};
 
 use super::keyspace::Keyspace;
 use command_words::{Command, WordFault, fault_text, read_command};
@@ -20,11 +20,16 @@ pub struct Plan {
     pub write: Option<Pair>,
 }
 
-/// The plan of a request over a keyspace, which stays as it is.
-#[tactic(auto, unfolding(serial_model::specs::History::ran))]
-pub fn plan_of(alloc: Global, space: &Keyspace, words: &Words) -> Result<Plan, NoMemory>
-    ensures reply { IfOk result (λ p. p.reply ≡ (ran words.now space.now).reply) }
-    ensures space { IfOk result (λ p. written p.write space.now ≡ (ran words.now space.now).space) }
+/// The plan of a request over a keyspace at a moment. The keyspace stays as it is.
+#[tactic(auto, unfolding(serial_model::specs::History::ran_over))]
+pub fn plan_of(
+    alloc: Global,
+    space: &Keyspace,
+    words: &Words,
+    moment: u64,
+) -> Result<Plan, NoMemory>
+    ensures reply { IfOk result (λ p. p.reply ≡ (ran_over space.now words.now moment).reply) }
+    ensures space { IfOk result (λ p. after_write p.write space.now ≡ (ran_over space.now words.now moment).space) }
 {
     match read_command(words) {
         Ok(Command::Get(key)) => {
@@ -50,19 +55,19 @@ pub fn plan_of(alloc: Global, space: &Keyspace, words: &Words) -> Result<Plan, N
     }
 }
 
-/// The bytes of a reply, as its connection is sent them.
+/// The bytes of a reply on a connection of this protocol.
 #[tactic(auto, unfolding(serial_model::specs::History::spelled))]
-pub fn message_of(alloc: Global, reply: &Value) -> Result<Vec<u8>, NoMemory>
-    ensures { IfOk result (λ m. m.items ≡ spelled reply.now) }
+pub fn message_of(alloc: Global, proto: Proto, reply: &Value) -> Result<Vec<u8>, NoMemory>
+    ensures { IfOk result (λ m. m.items ≡ spelled proto reply.now) }
 {
     let mut message = Vec::new(alloc);
-    put_value(Proto::Two, reply, &mut message)?;
+    put_value(proto, reply, &mut message)?;
     Ok(message)
 }
 
 /// Writes the pair of a plan, where there is one.
 pub fn put_written(space: &mut Keyspace, write: Option<Pair>) -> Result<(), NoMemory>
-    ensures ok { OnOk result (space.new ≡ written write space.old) }
+    ensures ok { OnOk result (space.new ≡ after_write write space.old) }
     ensures err { OnErr result (space.new ≡ space.old) }
 {
     match write {

@@ -1,8 +1,8 @@
-// Turns against a worked example.
-ghost use Rattle.std.specs.Prelude.{IfOk};
-ghost use Rattle.serial_model.specs.Steps.{IsCallable};
+//! Turns against worked examples.
+ghost use Rattle.std.specs.Prelude.{IfOk, ◌<◌};
+ghost use Rattle.serial_model.specs.Steps.{AreValid, IsCallable};
 
-use super::{Book, BookCall, BookRefusal, BookReply, Entry, Limits, Post};
+use super::{Book, BookCall, BookRefusal, BookReply, Entry, Limits, Post, Posted};
 use resp_value::{NoMemory, Octets, Words};
 use std::alloc::Global;
 use std::test::Fail;
@@ -37,8 +37,19 @@ fn call_of(alloc: Global, what: &str, id: u64, number: u64) -> Result<BookCall, 
     }
 }
 
+fn limits_of(history_max: u64) -> Limits
+    requires { 0 < history_max }
+    ensures { AreValid result }
+{
+    Limits {
+        table_max: 1,
+        out_max: 1,
+        history_max,
+    }
+}
+
 // The number of the entry that a turn added, and the bytes that it gave.
-fn told(reply: &BookReply) -> (u64, &[u8]) {
+fn parts_of(reply: &BookReply) -> (u64, &[u8]) {
     match reply {
         BookReply::Admitted { entry, .. } => (*entry, b""),
         BookReply::Ran { entry } => (*entry, b""),
@@ -46,6 +57,7 @@ fn told(reply: &BookReply) -> (u64, &[u8]) {
         BookReply::Closed { entry } => (*entry, b""),
         BookReply::Quiet => (0, b"quiet"),
         BookReply::Refused(BookRefusal::Gone { .. }) => (0, b"gone"),
+        BookReply::Refused(BookRefusal::HistoryFull { entries }) => (*entries, b"full"),
         BookReply::Refused(BookRefusal::NoMemory) => (0, b"no memory"),
     }
 }
@@ -53,12 +65,7 @@ fn told(reply: &BookReply) -> (u64, &[u8]) {
 #[test]
 fn a_book_answers_its_turns_and_keeps_their_entries(rt: HostRuntime) -> Result<(), Fail> {
     let alloc = rt.alloc();
-    let limits = Limits {
-        table_max: 1,
-        out_max: 1,
-        history_max: 1,
-    };
-    let mut book = Book::new(alloc, limits)?;
+    let mut book = Book::new(alloc, limits_of(10))?;
     for (what, id, number, entry, bytes, sent) in [
         ("take", 1, 9, 0, "gone", 0),
         ("GET foo", 1, 0, 0, "gone", 0),
@@ -78,21 +85,18 @@ fn a_book_answers_its_turns_and_keeps_their_entries(rt: HostRuntime) -> Result<(
         ("GET foo", 2, 8, 0, "gone", 0),
     ] {
         let reply = book.turn(call_of(alloc, what, id, number)?);
-        let (number, gave) = told(&reply);
+        let (number, gave) = parts_of(&reply);
         assert_eq!(rt; number, entry, "{what}");
         assert_eq!(rt; gave, bytes.as_bytes(), "{what}");
         match book.last_posts() {
             [] => assert_eq!(rt; sent, 0, "{what}"),
-            [post, ..] => assert_eq!(rt;
-                *post,
-                Post {
-                    entry,
-                    id,
-                    length: sent,
-                    last: matches!(reply, BookReply::Closed { .. })
-                },
-                "{what}"
-            ),
+            [post, ..] => {
+                let what = match reply {
+                    BookReply::Closed { .. } => Posted::End,
+                    _ => Posted::Message { length: sent },
+                };
+                assert_eq!(rt; *post, Post { entry, id, what });
+            }
         }
     }
     assert_eq!(rt; book.entries(), 10);
@@ -103,5 +107,33 @@ fn a_book_answers_its_turns_and_keeps_their_entries(rt: HostRuntime) -> Result<(
         }
     }
     assert_eq!(rt; moments.as_slice(), [7, 7, 7, 8].as_slice());
+    Ok(())
+}
+
+#[test]
+fn a_full_history_refuses_all_but_what_adds_no_entry_and_a_close(
+    rt: HostRuntime,
+) -> Result<(), Fail> {
+    let alloc = rt.alloc();
+    let mut book = Book::new(alloc, limits_of(3))?;
+    for (what, id, entry, bytes) in [
+        ("admit", 0, 1, ""),
+        ("admit", 0, 2, ""),
+        ("GET foo", 1, 3, ""),
+        ("admit", 0, 3, "full"),
+        ("GET foo", 1, 3, "full"),
+        ("GET foo", 3, 0, "gone"),
+        ("take", 2, 0, "quiet"),
+        ("take", 1, 3, "full"),
+        ("close", 1, 4, ""),
+        ("take", 1, 0, "gone"),
+        ("close", 1, 0, "gone"),
+        ("close", 2, 5, ""),
+    ] {
+        let reply = book.turn(call_of(alloc, what, id, 9)?);
+        let (number, gave) = parts_of(&reply);
+        assert_eq!(rt; number, entry, "{what}");
+        assert_eq!(rt; gave, bytes.as_bytes(), "{what}");
+    }
     Ok(())
 }

@@ -1,23 +1,40 @@
-use Rattle.std.proofs.Common.{◌+◌, ◌++◌, ◌∷◌, [], false, reverse, subst, sym, ap, ◌∙◌, arith}
-use Rattle.std.specs.Prelude.{vec_len}
-use Rattle.serial_model.specs.declared.history.Entry.TheVariants.{Admit}
-use Rattle.server_book.specs.Standing.{Keeps}
-use Rattle.server_book.proofs.Keeping.{pushed, keeps_admit, room_admit}
+use Rattle.std.proofs.Common.{◌≡◌, ◌+◌, ◌≤◌, ◌<◌, ◌++◌, ◌∷◌, [], length, take, false, sym, ap, subst, ◌∙◌, arith, max, drop, true}
+use Rattle.serial_model.specs.declared.history.Entry.TheVariants as entry
+use Rattle.serial_model.specs.declared.history.BookCall.TheVariants.{Admit, Run, Take, Close}
+use Rattle.serial_model.specs.History.{spelled, protocol, ran_over, runs_on, latest, unsent}
+use Rattle.server_book.specs.Connections.{IsId, fresh}
+use Rattle.server_book.specs.BookState.{BookState, Agrees, IsAccepted}
+use Rattle.server_book.proofs.BookTurns.{is_id, kept_of, live_at, taken_back, is_turn}
+use Rattle.server_book.proofs.BookTurns.{agrees_admit, agrees_run, agrees_take, agrees_close}
+use Rattle.server_book.proofs.BookTurns.{room_more, room_admit, room_close, room_there}
+use Rattle.server_book.proofs.BookTurns.{admit_turned, run_turned, take_turned, close_turned}
+use Rattle.server_book.proofs.BookTurns.{posted_admit, posted_run, posted_take, posted_close}
 use Rattle.server_book.proofs.book.Book.admit.Goals as goal
 
 pub invariant_of-self-2 : goal.invariant_of-self-2
 invariant_of-self-2 c =
     let i = c.self.inside in
-    let k = c.self.invariant.keeps in
-    let r = c.self.invariant.room in
-    let entry = Admit (c.len.result + 1) in
-    let grown = pushed i.entries.items entry c.push_reserved-2.new.self.items (c.push_reserved-2.ensures.items ∙ ap (λ l. l ++ entry ∷ []) c.reserve.ensures.items) in
-    let flags = c.push_reserved.ensures.items ∙ ap (λ l. l ++ false ∷ []) c.reserve-2.ensures.items in
-    rw flags (record {
-      keeps = subst (λ p. Keeps p i.space c.push_empty.new.self (i.ended.items ++ false ∷ []) i.moment) (sym grown)
-          (subst (λ q. Keeps (entry ∷ reverse i.entries.items) i.space q (i.ended.items ++ false ∷ []) i.moment) (sym c.in_ok-push_empty.ensures.ok)
-          (keeps_admit (reverse i.entries.items) i.space i.queues i.ended.items i.moment k (c.len.result + 1) (omega (arith, c.len.ensures, k.ended_fit))));
-      room = room_admit (vec_len i.entries) _ _ _ i.ended.items
-          (omega (arith, c.in_ok-reserve.ensures.ok, c.push_reserved-2.ensures.capacity, c.len-3.ensures)) r.for_posts
-          (omega (arith, c.push_reserved-2.ensures.len, c.reserve.ensures.len));
-    })
+    let k = c.self.invariant.agrees in
+    let past = i.log.past in
+    let room = subst (λ (b : BookState). IsAccepted b.limits b.past Admit) (sym c.self.view_is) c.requires.accepted in
+    let e = entry.Admit (c.count.result + 1) in
+    let grown = c.push.ensures.past ∙ ap (λ p. e ∷ p) c.reserve.ensures.past in
+    record {
+      agrees = rw (grown, c.in_ok-admit.ensures.ok)
+          (agrees_admit i.limits past i.space i.connections k (c.count.result + 1) (omega (arith, c.count.ensures.count)) room);
+      room = rw c.in_ok-admit.ensures.ok
+          (room_admit c.push.new.self.room _ i.connections
+          (omega (arith, c.in_ok-reserve.ensures.ok, c.push.ensures.room, c.count-2.ensures.count)) c.self.invariant.room.for_posts);
+    }
+
+pub returns-clause-ok : goal.returns-clause-ok
+returns-clause-ok c =
+    let i = c.self.inside in
+    let k = c.self.invariant.agrees in
+    let past = i.log.past in
+    let room = subst (λ (b : BookState). IsAccepted b.limits b.past Admit) (sym c.self.view_is) c.requires.accepted in
+    let id = c.count.result + 1 in
+    is_turn c.args.self.now i.limits past c.push.new.self.past i.posts.items i.posts.items (entry.Admit id) Admit _ c.self.view_is tt
+    (c.push.ensures.past ∙ ap (λ p. entry.Admit id ∷ p) c.reserve.ensures.past)
+    (admit_turned i.limits past c.len-entry.result id room c.len-entry.ensures.len (omega (arith, c.count.ensures.count, k.count)))
+    (ap (λ (b : BookState). b.posts) c.self.view_is ∙ c.requires.none ∙ posted_admit i.limits past id)

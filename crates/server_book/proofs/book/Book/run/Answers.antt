@@ -1,71 +1,71 @@
-use Rattle.std.proofs.Common.{◌≡◌, max, ◌+◌, ◌-◌, ◌++◌, ◌∷◌, [], reverse, length, true, sym, ap, subst, ◌∙◌, arith}
-use Rattle.serial_model.specs.History.{spelled}
-use Rattle.std.specs.Prelude.{vec_len}
-use Rattle.serial_model.specs.declared.history.Entry.TheVariants.{Run}
-use Rattle.serial_model.specs.declared.history.BookCall.TheVariants as call
-use Rattle.serial_model.specs.declared.history.BookReply.TheVariants.{Ran}
-use Rattle.serial_model.specs.History.{is_connected, ran, posted}
-use Rattle.serial_model.specs.Steps.{book_step}
-use Rattle.server_book.proofs.Keeping.{pushed, restored, place_below, room_more, count_reverse, step_run, posted_run, message_post, keeps_run}
-use Rattle.server_book.specs.Standing.{Keeps}
+use Rattle.std.proofs.Common.{◌≡◌, ◌+◌, ◌≤◌, ◌<◌, ◌++◌, ◌∷◌, [], length, take, false, sym, ap, subst, ◌∙◌, arith, max, drop, true}
+use Rattle.serial_model.specs.declared.history.Entry.TheVariants as entry
+use Rattle.serial_model.specs.declared.history.BookCall.TheVariants.{Admit, Run, Take, Close}
+use Rattle.serial_model.specs.History.{spelled, protocol, ran_over, runs_on, latest, unsent}
+use Rattle.server_book.specs.Connections.{IsId, fresh}
+use Rattle.server_book.specs.BookState.{BookState, Agrees, IsAccepted}
+use Rattle.server_book.proofs.BookTurns.{is_id, kept_of, live_at, taken_back, is_turn}
+use Rattle.server_book.proofs.BookTurns.{agrees_admit, agrees_run, agrees_take, agrees_close}
+use Rattle.server_book.proofs.BookTurns.{room_more, room_admit, room_close, room_there}
+use Rattle.server_book.proofs.BookTurns.{admit_turned, run_turned, take_turned, close_turned}
+use Rattle.server_book.proofs.BookTurns.{posted_admit, posted_run, posted_take, posted_close, message_post}
 use Rattle.server_book.proofs.book.Book.run.Goals as goal
 
 pub invariant_of-self-2 : goal.invariant_of-self-2
 invariant_of-self-2 c =
     let i = c.self.inside in
-    let k = c.self.invariant.keeps in
-    let past = reverse i.entries.items in
-    let on : is_connected past c.args.id ≡ true = ap (λ s. is_connected s.past c.args.id) c.self.view_is ∙ c.requires.connected in
+    let k = c.self.invariant.agrees in
+    let past = i.log.past in
+    let acc = subst (λ (b : BookState). IsAccepted b.limits b.past (Run c.args.id c.args.words c.args.now)) (sym c.self.view_is) c.requires.accepted in
     let plan = c.in_ok-reply.ensures in
-    let entry = Run c.args.id c.args.words c.max-moment.result in
-    let grown = pushed i.entries.items entry c.push_reserved.new.self.items (c.push_reserved.ensures.items ∙ ap (λ l. l ++ entry ∷ []) c.reserve.ensures.items) in
-    let message = c.as_slice.ensures.value ∙ c.in_ok-message.ensures ∙ ap spelled (plan.reply ∙ ap (λ s. (ran c.args.words s).reply) k.space_is) in
+    let m = c.max-moment.result in
+    let e = entry.Run c.args.id c.args.words m in
+    let grown = c.push.ensures.past ∙ ap (λ p. e ∷ p) c.reserve.ensures.past in
+    let message = c.as_slice.ensures.value ∙ c.in_ok-message.ensures
+    ∙ ap (λ p. spelled p c.in_ok-reply.field-0.reply) (c.protocol.ensures ∙ ap (λ (b : BookState). protocol c.args.id b.past) (sym c.self.view_is))
+    ∙ ap (spelled (protocol c.args.id past)) (plan.reply ∙ ap (λ s. (ran_over s c.args.words m).reply) k.space_is) in
+    let kept = agrees_run i.limits past i.space i.connections k c.args.id m c.args.words c.as_slice.result.now c.put_written.new.space
+    acc.0 acc.1 (omega (arith, c.max-moment.ensures, c.moment.ensures))
+    (c.in-Ok.ensures.ok ∙ plan.space ∙ ap (λ s. (ran_over s c.args.words m).space) k.space_is) message in
     record {
-      keeps = subst (λ p. Keeps p c.put_written.new.space c.add.new.self i.ended.items c.max-moment.result) (sym grown)
-          (subst (λ q. Keeps (entry ∷ past) c.put_written.new.space q i.ended.items c.max-moment.result) (sym c.in_ok-add.ensures.ok)
-          (keeps_run past i.space i.queues i.ended.items i.moment k c.args.id c.max-moment.result c.args.words c.as_slice.result.now c.put_written.new.space on
-          (omega (arith, k.moment_is, c.max-moment.ensures))
-          (c.in-Ok.ensures.ok ∙ plan.space ∙ ap (λ s. (ran c.args.words s).space) k.space_is)
-          message));
-      room = room_more (vec_len i.entries) _ _ _ i.ended.items
-          (omega (arith, c.in_ok-reserve.ensures.ok, c.push_reserved.ensures.capacity, c.len.ensures))
-          (omega (arith, c.self.invariant.room.for_posts, c.reserve-2.ensures.capacity, c.push_reserved-2.ensures.capacity))
-          (omega (arith, c.push_reserved.ensures.len, c.reserve.ensures.len));
+      agrees = subst (λ p. Agrees i.limits p c.put_written.new.space c.add.new.self) (sym grown)
+          (subst (Agrees i.limits (e ∷ past) c.put_written.new.space) (sym c.in_ok-add.ensures.ok) kept);
+      room = room_more c.push.new.self.room _ c.args.id i.connections c.add.new.self _ c.in_ok-add.ensures.ok
+          (omega (arith, c.in_ok-reserve.ensures.ok, c.push.ensures.room, c.count.ensures.count))
+          (omega (arith, c.self.invariant.room.for_posts, c.reserve-2.ensures.capacity, c.push_reserved.ensures.capacity));
     }
 
 pub invariant_of-self-in-Err : goal.invariant_of-self-in-Err
 invariant_of-self-in-Err c =
     let i = c.self.inside in
-    let k = c.self.invariant.keeps in
-    let past = reverse i.entries.items in
-    let on : is_connected past c.args.id ≡ true = ap (λ s. is_connected s.past c.args.id) c.self.view_is ∙ c.requires.connected in
-    let back = restored i.queues c.add.new.self c.keep.new.self (c.args.id - 1) c.size-size.result c.as_slice.result.now (place_below _ _ _ _ _ k c.args.id on).1 c.size-size.ensures c.in_ok-add.ensures.ok c.keep.ensures in
+    let k = c.self.invariant.agrees in
+    let acc = subst (λ (b : BookState). IsAccepted b.limits b.past (Run c.args.id c.args.words c.args.now)) (sym c.self.view_is) c.requires.accepted in
+    let back = taken_back i.connections c.add.new.self c.keep.new.self c.args.id c.waiting-size.result c.as_slice.result.now
+    (is_id i.limits i.log.past i.space i.connections k c.args.id acc.0) c.waiting-size.ensures c.in_ok-add.ensures.ok c.keep.ensures in
     record {
-      keeps = rw (back, c.in-Err.ensures.err, c.reserve.ensures.items) k;
-      room = record {
-        for_closes = omega (arith, c.self.invariant.room.for_closes, c.reserve.ensures.capacity, c.reserve.ensures.len);
+      agrees = rw (back, c.in-Err.ensures.err, c.reserve.ensures.past) k;
+      room = rw back (record {
+        for_closes = omega (arith, c.self.invariant.room.for_closes, c.reserve.ensures.room);
         for_posts = omega (arith, c.self.invariant.room.for_posts, c.reserve-2.ensures.capacity);
-      };
+      });
     }
 
 pub returns-clause-ok : goal.returns-clause-ok
 returns-clause-ok c =
     let i = c.self.inside in
-    let k = c.self.invariant.keeps in
-    let past = reverse i.entries.items in
-    let on : is_connected past c.args.id ≡ true = ap (λ s. is_connected s.past c.args.id) c.self.view_is ∙ c.requires.connected in
+    let k = c.self.invariant.agrees in
+    let past = i.log.past in
+    let acc = subst (λ (b : BookState). IsAccepted b.limits b.past (Run c.args.id c.args.words c.args.now)) (sym c.self.view_is) c.requires.accepted in
     let plan = c.in_ok-reply.ensures in
-    let entry = Run c.args.id c.args.words c.max-moment.result in
-    let grown = pushed i.entries.items entry c.push_reserved.new.self.items (c.push_reserved.ensures.items ∙ ap (λ l. l ++ entry ∷ []) c.reserve.ensures.items) in
-    let count = count_reverse i.entries.items c.len-2.result (omega (arith, c.len-2.ensures, ap length c.reserve.ensures.items)) in
-    let message = c.in_ok-message.ensures ∙ ap spelled (plan.reply ∙ ap (λ s. (ran c.args.words s).reply) k.space_is) in
-    record {
-      limits = ap (λ s. s.limits) c.self.view_is;
-      step = ap (λ s. book_step s.past (call.Run c.args.id c.args.words c.args.now)) (sym c.self.view_is)
-          ∙ step_run past c.args.id c.args.now c.max-moment.result c.len-2.result c.args.words on count (c.max-moment.ensures ∙ ap (max c.args.now) k.moment_is)
-          ∙ ap (λ p. record { reply = Ran (c.len-2.result + 1); past = p }) (sym grown);
-      posts = c.push_reserved-2.ensures.items
-          ∙ ap (λ l. l ++ message_post (c.len-2.result + 1) c.args.id c.len-3.result ∷ []) (c.reserve-2.ensures.items ∙ ap (λ s. s.posts) c.self.view_is ∙ c.requires.quiet)
-          ∙ posted_run past c.args.id c.max-moment.result c.len-2.result c.len-3.result c.args.words count (omega (arith, c.len-3.ensures, ap length message))
-          ∙ sym (ap posted grown);
-    }
+    let m = c.max-moment.result in
+    let e = entry.Run c.args.id c.args.words m in
+    let n : c.len-entry.result ≡ length past = c.len-entry.ensures.len ∙ ap length c.reserve.ensures.past in
+    let message = c.in_ok-message.ensures
+    ∙ ap (λ p. spelled p c.in_ok-reply.field-0.reply) (c.protocol.ensures ∙ ap (λ (b : BookState). protocol c.args.id b.past) (sym c.self.view_is))
+    ∙ ap (spelled (protocol c.args.id past)) (plan.reply ∙ ap (λ s. (ran_over s c.args.words m).reply) k.space_is) in
+    let none = c.reserve-2.ensures.items ∙ ap (λ (b : BookState). b.posts) c.self.view_is ∙ c.requires.none in
+    is_turn c.args.self.now i.limits past c.push.new.self.past i.posts.items c.push_reserved.new.self.items e
+    (Run c.args.id c.args.words c.args.now) _ c.self.view_is tt (c.push.ensures.past ∙ ap (λ p. e ∷ p) c.reserve.ensures.past)
+    (run_turned i.limits past c.args.id c.args.now m c.len-entry.result c.args.words acc.0 acc.1 n (c.max-moment.ensures ∙ ap (max c.args.now) c.moment.ensures))
+    (c.push_reserved.ensures.items ∙ ap (λ x. x ++ message_post c.len-entry.result c.args.id c.len-length.result ∷ []) none
+    ∙ posted_run i.limits past c.args.id m c.len-entry.result c.len-length.result c.args.words n (omega (arith, c.len-length.ensures, ap length message)))

@@ -1,44 +1,43 @@
-use Rattle.std.proofs.Common.{◌≡◌, ◌+◌, ◌++◌, ◌∷◌, [], reverse, length, true, sym, ap, ◌∙◌, take, arith}
-use Rattle.std.specs.Prelude.{◌==◌, vec_len}
-use Rattle.serial_model.specs.History.{is_connected}
-use Rattle.serial_model.specs.Steps.{book_step}
-use Rattle.serial_model.specs.declared.history.Entry.TheVariants.{Take}
-use Rattle.serial_model.specs.History.{posted}
-use Rattle.serial_model.specs.declared.history.BookCall.TheVariants as call
-use Rattle.serial_model.specs.declared.history.BookReply.TheVariants.{Bytes}
-use Rattle.server_book.proofs.Keeping.{pushed, room_more, count_reverse, step_take, posted_take, not_empty, keeps_take, queue_at}
+use Rattle.std.proofs.Common.{◌≡◌, ◌+◌, ◌≤◌, ◌<◌, ◌++◌, ◌∷◌, [], length, take, false, sym, ap, subst, ◌∙◌, arith, max, drop, true}
+use Rattle.serial_model.specs.declared.history.Entry.TheVariants as entry
+use Rattle.serial_model.specs.declared.history.BookCall.TheVariants.{Admit, Run, Take, Close}
+use Rattle.serial_model.specs.History.{spelled, protocol, ran_over, runs_on, latest, unsent}
+use Rattle.server_book.specs.Connections.{IsId, fresh}
+use Rattle.server_book.specs.BookState.{BookState, Agrees, IsAccepted}
+use Rattle.server_book.proofs.BookTurns.{is_id, kept_of, live_at, taken_back, is_turn}
+use Rattle.server_book.proofs.BookTurns.{agrees_admit, agrees_run, agrees_take, agrees_close}
+use Rattle.server_book.proofs.BookTurns.{room_more, room_admit, room_close, room_there}
+use Rattle.server_book.proofs.BookTurns.{admit_turned, run_turned, take_turned, close_turned}
+use Rattle.server_book.proofs.BookTurns.{posted_admit, posted_run, posted_take, posted_close}
+use Rattle.server_book.proofs.Refusals.{take_some, takes_some}
 use Rattle.server_book.proofs.book.Book.take.Goals as goal
 
 pub invariant_of-self-2 : goal.invariant_of-self-2
 invariant_of-self-2 c =
     let i = c.self.inside in
-    let k = c.self.invariant.keeps in
-    let on : is_connected (reverse i.entries.items) c.args.id ≡ true = ap (λ s. is_connected s.past c.args.id) c.self.view_is ∙ c.requires.connected in
-    let front = c.in_ok-bytes.ensures ∙ ap (take c.args.most) (queue_at _ _ _ _ _ k c.args.id on) in
-    let full = not_empty _ (ap (λ l. length l == 0) (sym c.as_slice.ensures) ∙ sym c.is_empty.ensures ∙ c.if-is_empty.false) in
-    let grown = pushed i.entries.items (Take c.args.id c.args.most) _ (c.push_reserved.ensures.items ∙ ap (λ l. l ++ Take c.args.id c.args.most ∷ []) c.reserve.ensures.items) in
+    let k = c.self.invariant.agrees in
+    let past = i.log.past in
+    let acc = subst (λ (b : BookState). IsAccepted b.limits b.past (Take c.args.id c.args.most)) (sym c.self.view_is) c.requires.accepted in
+    let e = entry.Take c.args.id c.args.most in
+    let grown = c.push.ensures.past ∙ ap (λ p. e ∷ p) c.reserve.ensures.past in
     record {
-      keeps = rw (grown, c.advance.ensures) (keeps_take _ _ _ _ _ k c.args.id c.args.most on (λ e. full (front ∙ e)));
-      room = room_more (vec_len i.entries) _ _ _ i.ended.items
-          (omega (arith, c.in_ok-reserve.ensures.ok, c.push_reserved.ensures.capacity, c.len-2.ensures))
-          c.self.invariant.room.for_posts
-          (omega (arith, c.push_reserved.ensures.len, c.reserve.ensures.len));
+      agrees = rw (grown, c.advance.ensures)
+          (agrees_take i.limits past i.space i.connections k c.args.id c.args.most acc.0 acc.1 (takes_some c.args.most _ c.requires.most acc.2));
+      room = room_more c.push.new.self.room _ c.args.id i.connections c.advance.new.self _ c.advance.ensures
+          (omega (arith, c.in_ok-reserve.ensures.ok, c.push.ensures.room, c.count.ensures.count)) c.self.invariant.room.for_posts;
     }
 
 pub returns-clause-ok : goal.returns-clause-ok
 returns-clause-ok c =
     let i = c.self.inside in
-    let k = c.self.invariant.keeps in
-    let past = reverse i.entries.items in
-    let on : is_connected past c.args.id ≡ true = ap (λ s. is_connected s.past c.args.id) c.self.view_is ∙ c.requires.connected in
-    let grown = pushed i.entries.items (Take c.args.id c.args.most) _ (c.push_reserved.ensures.items ∙ ap (λ l. l ++ Take c.args.id c.args.most ∷ []) c.reserve.ensures.items) in
-    record {
-      limits = ap (λ s. s.limits) c.self.view_is;
-      step = ap (λ s. book_step s.past (call.Take c.args.id c.args.most)) (sym c.self.view_is)
-          ∙ step_take past c.args.id c.args.most c.len.result c.in_ok-bytes.bytes on
-          (c.in_ok-bytes.ensures ∙ ap (take c.args.most) (queue_at _ _ _ _ _ k c.args.id on))
-          (not_empty _ (ap (λ l. length l == 0) (sym c.as_slice.ensures) ∙ sym c.is_empty.ensures ∙ c.if-is_empty.false))
-          (count_reverse i.entries.items c.len.result (omega (arith, c.len.ensures)))
-          ∙ ap (λ p. record { reply = Bytes (c.len.result + 1) c.in_ok-bytes.bytes; past = p }) (sym grown);
-      posts = ap (λ s. s.posts) c.self.view_is ∙ c.requires.quiet ∙ sym (posted_take past c.args.id c.args.most) ∙ sym (ap posted grown);
-    }
+    let k = c.self.invariant.agrees in
+    let past = i.log.past in
+    let acc = subst (λ (b : BookState). IsAccepted b.limits b.past (Take c.args.id c.args.most)) (sym c.self.view_is) c.requires.accepted in
+    let e = entry.Take c.args.id c.args.most in
+    let n : c.len-entry.result ≡ length past = c.len-entry.ensures.len ∙ ap length c.reserve.ensures.past in
+    let front = c.in_ok-bytes.ensures ∙ ap (λ x. take c.args.most x.queue) (kept_of i.limits past i.space i.connections k c.args.id acc.0) in
+    is_turn c.args.self.now i.limits past c.push.new.self.past i.posts.items i.posts.items e (Take c.args.id c.args.most) _ c.self.view_is tt
+    (c.push.ensures.past ∙ ap (λ p. e ∷ p) c.reserve.ensures.past)
+    (take_turned i.limits past c.args.id c.args.most c.len-entry.result c.in_ok-bytes.bytes acc.0 acc.1 n front
+    (rw front (take_some c.args.most _ c.requires.most acc.2)))
+    (ap (λ (b : BookState). b.posts) c.self.view_is ∙ c.requires.none ∙ posted_take i.limits past c.args.id c.args.most)

@@ -5,6 +5,6 @@ use Rattle.std.specs.FinMap.{insert}
 use Rattle.command_words.specs.Effects.{Space}
 use Rattle.server_book.specs.declared.plan.Pair.{Pair}
 
-abbrev pub written : Option Pair → Space → Space
-written None space = space
-written (Some p) space = insert space p.key.items p.value
+abbrev pub after_write : Option Pair → Space → Space
+after_write None space = space
+after_write (Some p) space = insert space p.key.items p.value

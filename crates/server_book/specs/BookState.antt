@@ -1,0 +1,78 @@
+-- What contracts see of a book, and how its parts follow from its history.
+use Rattle.std.specs.Prelude.{◌≡◌, ◌<◌, ◌≤◌, ℕ, List, [], true, false, length, Option, Some, None}
+use Rattle.std.specs.List.{count_by}
+use Rattle.command_words.specs.Effects.{Space}
+use Rattle.serial_model.specs.declared.history.Limits.{Limits}
+use Rattle.serial_model.specs.declared.history.Post.{Post}
+use Rattle.serial_model.specs.declared.history.Entry.{Entry}
+use Rattle.serial_model.specs.declared.history.BookCall.{BookCall}
+use Rattle.serial_model.specs.declared.history.BookCall.TheVariants.{Admit, Run, Take, Close}
+use Rattle.serial_model.specs.declared.history.BookReply.{BookReply}
+use Rattle.serial_model.specs.declared.history.BookReply.TheVariants.{Admitted, Ran, Quiet, Bytes}
+use Rattle.serial_model.specs.declared.history.BookReply.TheVariants.{Closed, Refused}
+use Rattle.serial_model.specs.History.{admitted, has_ended, keyspace, unsent, posted, IsLegal, runs_on}
+use Rattle.serial_model.specs.History.{gives_on, reads_on, is_full}
+use Rattle.serial_model.specs.Steps.{BookStep, full}
+use Rattle.server_book.specs.declared.connections.Connection.{Connection}
+use Rattle.server_book.specs.Connections.{IsId, connection_at, is_open}
+use Rattle.server_book.specs.Log.{LogState}
+
+-- the limits, the history with its newest entry first, and what the last turn sent
+pub record BookState : Type 0 where
+  pub limits : Limits
+  pub past : List Entry
+  pub posts : List Post
+
+-- what a turn sent: the posts of the entry that it added, none where it added none
+abbrev pub posts_after : Limits → BookReply → List Entry → List Post
+posts_after l (Admitted e id) past = posted l past
+posts_after l (Ran e) past = posted l past
+posts_after l Quiet past = []
+posts_after l (Bytes e bytes) past = posted l past
+posts_after l (Closed e) past = posted l past
+posts_after l (Refused r) past = []
+
+-- what is kept of a connection
+abbrev pub connection_of : Limits → List Entry → ℕ → Connection
+connection_of l past id = record { queue = unsent l id past; ended = has_ended l id past }
+
+-- the history is legal, and the keyspace and the connections are those of it
+pub record Agrees (l : Limits) (past : List Entry) (space : Space) (connections : List Connection) : Type 0 where
+  pub legal : IsLegal l past
+  pub space_is : space ≡ keyspace past
+  pub count : length connections ≡ admitted past
+  pub each : (id : ℕ) → IsId connections id → connection_at connections id ≡ connection_of l past id
+
+-- there is room for the Close of each connection that has not ended, and for the post of one
+pub record HasRoom (room posts : ℕ) (connections : List Connection) : Type 0 where
+  pub for_closes : count_by is_open connections ≤ room
+  pub for_posts : 1 ≤ posts
+
+pub record BookInvariant (l : Limits) (log : LogState) (space : Space) (connections : List Connection) (posts : ℕ) : Type 0 where
+  pub agrees : Agrees l log.past space connections
+  pub room : HasRoom log.room posts connections
+
+-- the call is one that adds an entry
+abbrev pub IsAccepted : Limits → List Entry → BookCall → Type 0
+IsAccepted l past Admit = is_full l past ≡ false
+IsAccepted l past (Run id words now) = (runs_on l past id ≡ true) × (is_full l past ≡ false)
+IsAccepted l past (Take id most) =
+    (gives_on l past id ≡ true) × (is_full l past ≡ false) × (0 < length (unsent l id past))
+IsAccepted l past (Close id) = reads_on l past id ≡ true
+
+-- the history is full, and the answer says so; or there is none
+abbrev pub IsFullAnswer : BookState → Option BookReply → Type 0
+IsFullAnswer b None = is_full b.limits b.past ≡ false
+IsFullAnswer b (Some reply) = (is_full b.limits b.past ≡ true) × (reply ≡ (full b.past).reply)
+
+-- the call adds no entry, and the answer is the step's; or there is none, and the call is accepted
+abbrev pub IsRefusal : BookState → BookCall → Option BookReply → Type 0
+IsRefusal b call None = IsAccepted b.limits b.past call
+IsRefusal b call (Some reply) =
+    BookStep b.limits b.past call reply b.past × (posts_after b.limits reply b.past ≡ [])
+
+-- the turn is the step, and sends its posts
+pub record IsTurn (old : BookState) (call : BookCall) (reply : BookReply) (new : BookState) : Type 0 where
+  pub limits : new.limits ≡ old.limits
+  pub step : BookStep old.limits old.past call reply new.past
+  pub posts : new.posts ≡ posts_after old.limits reply new.past

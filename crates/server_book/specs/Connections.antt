@@ -1,0 +1,25 @@
+-- Connections by their ids, which begin at 1.
+use Rattle.std.specs.Prelude.{◌-◌, ◌<◌, ◌≤◌, ◌&&◌, ℕ, List, [], Bool, false, not, nat_lt, nat_le, length}
+use Rattle.std.specs.Prelude.{slice_index_or, slice_set}
+use Rattle.server_book.specs.declared.connections.Connection.{Connection}
+
+-- a connection that was sent nothing
+abbrev pub fresh : Connection
+fresh = record { queue = []; ended = false }
+
+abbrev pub IsId : List Connection → ℕ → Type 0
+IsId connections id = (0 < id) × (id ≤ length connections)
+
+abbrev pub connection_at : List Connection → ℕ → Connection
+connection_at connections id = slice_index_or connections (id - 1) fresh
+
+abbrev pub with_connection : List Connection → ℕ → Connection → List Connection
+with_connection connections id connection = slice_set connections (id - 1) connection
+
+abbrev pub is_live : List Connection → ℕ → Bool
+is_live connections id =
+    (nat_lt 0 id && nat_le id (length connections)) && not (connection_at connections id).ended
+
+-- a connection that can still be closed
+abbrev pub is_open : Connection → Bool
+is_open connection = not connection.ended
