@@ -14,10 +14,16 @@ use Rattle.resp_value.specs.ValueTree.{tree_of}
 use Rattle.resp_value.specs.Spelling.{spelling}
 use Rattle.command_words.specs.declared.command.Command.{Command}
 use Rattle.command_words.specs.declared.command.Command.TheVariants.{Get, Set}
+use Rattle.command_words.specs.declared.command.SetWhen.{SetWhen}
+use Rattle.command_words.specs.declared.command.SetWhen.TheVariants.{Always}
+use Rattle.command_words.specs.declared.command.SetLife.{SetLife}
+use Rattle.command_words.specs.declared.command.SetLife.TheVariants.{Cleared}
 use Rattle.command_words.specs.declared.command.WordFault.{WordFault}
-use Rattle.command_words.specs.declared.command.Signalled.TheVariants.{Keys}
+use Rattle.command_words.specs.declared.command.WordFault.TheVariants.{Unknown, Syntax}
 use Rattle.command_words.specs.Words.{reading, fault_text}
-use Rattle.command_words.specs.Effects.{Space, Effect, effect}
+use Rattle.command_words.specs.Space.{Space}
+use Rattle.command_words.specs.Effect.{Effect, replied}
+use Rattle.command_words.specs.Effects.{effect}
 use Rattle.serial_model.specs.declared.history.Limits.{Limits}
 use Rattle.serial_model.specs.declared.history.Entry.{Entry}
 use Rattle.serial_model.specs.declared.history.Entry.TheVariants.{Admit, Run, Take, Close}
@@ -46,23 +52,29 @@ latest (Close id ∷ past) = latest past
 
 -- ---- what words do
 
--- the commands that the server runs; words that read as another are unknown to it
+abbrev pub is_plain : SetWhen → SetLife → Bool
+is_plain Always Cleared = true
+is_plain when life = false
+
+-- the commands that the server runs are GET, and SET without options: words that read as another
+-- are unknown to it
 abbrev pub served : Result Command WordFault → Result Command WordFault
 served (Ok (Get key)) = Ok (Get key)
-served (Ok (Set key value)) = Ok (Set key value)
+served (Ok (Set key value when life)) =
+    if is_plain when life then Ok (Set key value Always Cleared) else Err Syntax
+served (Ok command) = Err Unknown
 served (Err fault) = Err fault
 
 abbrev pub served_reading : List (List ℕ) → Result Command WordFault
 served_reading words = served (reading words)
 
-abbrev pub effect_of : List (List ℕ) → Result Command WordFault → Space → Effect
-effect_of words (Ok command) space = effect command space
-effect_of words (Err fault) space =
-    record { space = space; reply = Error (fault_text words fault); signalled = Keys [] }
+abbrev pub effect_of : List (List ℕ) → Result Command WordFault → Space → ℕ → Effect
+effect_of words (Ok command) space moment = effect command space moment
+effect_of words (Err fault) space moment = replied (Error (fault_text words fault)) space
 
 -- what words do to a keyspace at a moment, a command or not
 unfoldable pub ran_over : Space → List (List ℕ) → ℕ → Effect
-ran_over space words moment = effect_of words (served_reading words) space
+ran_over space words moment = effect_of words (served_reading words) space moment
 
 -- the keyspace after all entries
 abbrev pub keyspace : List Entry → Space

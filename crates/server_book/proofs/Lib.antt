@@ -1,3 +1,4 @@
 pub mod Keyed
 pub mod Refusals
 pub mod BookTurns
+pub mod Plans

@@ -1,7 +1,7 @@
 -- What contracts see of a book, and how its parts follow from its history.
 use Rattle.std.specs.Prelude.{◌≡◌, ◌<◌, ◌≤◌, ℕ, List, [], true, false, length, Option, Some, None}
 use Rattle.std.specs.List.{count_by}
-use Rattle.command_words.specs.Effects.{Space}
+use Rattle.command_words.specs.Space.{Space}
 use Rattle.serial_model.specs.declared.history.Limits.{Limits}
 use Rattle.serial_model.specs.declared.history.Post.{Post}
 use Rattle.serial_model.specs.declared.history.Entry.{Entry}

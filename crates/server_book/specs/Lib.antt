@@ -1,4 +1,5 @@
-pub mod Writes
+pub mod Plans
 pub mod Log
 pub mod Connections
 pub mod BookState
+pub mod Texts

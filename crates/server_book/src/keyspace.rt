@@ -1,6 +1,9 @@
-//! The keyspace, as a finite map from keys to values.
-ghost use Rattle.std.specs.Prelude.{◌≡◌, OnOk, OnErr, option_map};
+//! The keyspace, as a finite map from keys to strings without deadlines.
+ghost use Rattle.std.specs.Prelude.{◌≡◌, OnOk, OnErr, None, option_map};
 ghost use Rattle.std.specs.FinMap as finite;
+ghost use Rattle.command_words.specs.Space.{held_at};
+ghost use Rattle.command_words.specs.Strings.{put_text};
+ghost use Rattle.server_book.specs.Texts.{held_text};
 
 use resp_value::{NoMemory, Octets};
 use std::alloc::Global;
@@ -16,13 +19,14 @@ impl Model for Keyspace {
     ghost use Rattle.std.specs.Prelude.{map};
     ghost use Rattle.std.specs.FinMap as finite;
     ghost use Rattle.std.specs.Coded.{coded_list, coded_ℕ};
-    ghost use Rattle.command_words.specs.Effects.{Space};
+    ghost use Rattle.command_words.specs.Space.{Space, held_code};
+    ghost use Rattle.server_book.specs.Texts.{held_text};
 
     ghost Value = { Space };
 
-    ghost coded = { finite.code (coded_list coded_ℕ) (coded_list coded_ℕ) };
+    ghost coded = { finite.code (coded_list coded_ℕ) held_code };
 
-    ghost view = { λ s. finite.from_entries (map (λ p. (p.0.items, p.1)) s.table.entries) };
+    ghost view = { λ s. finite.from_entries (map (λ p. (p.0.items, held_text p.1)) s.table.entries) };
 }
 
 impl Keyspace {
@@ -35,13 +39,13 @@ impl Keyspace {
     }
 
     pub fn get(&self, key: &[u8]) -> Option<&Octets>
-        ensures { option_map (λ o. o.now) result ≡ finite.get self.now key.now }
+        ensures { option_map (λ o. held_text o.now) result ≡ held_at key.now self.now }
     {
         self.table.get(key)
     }
 
     pub fn put(&mut self, key: Vec<u8>, value: Octets) -> Result<(), NoMemory>
-        ensures ok { OnOk result (self.new ≡ finite.insert self.old key.items value) }
+        ensures ok { OnOk result (self.new ≡ put_text key.items value None self.old) }
         ensures err { OnErr result (self.new ≡ self.old) }
     {
         match self.table.insert(key, value) {

@@ -23,10 +23,10 @@ invariant_of-self-2 c =
     let grown = c.push.ensures.past ∙ ap (λ p. e ∷ p) c.reserve.ensures.past in
     let message = c.as_slice.ensures.value ∙ c.in_ok-message.ensures
     ∙ ap (λ p. spelled p c.in_ok-reply.field-0.reply) (c.protocol.ensures ∙ ap (λ (b : BookState). protocol c.args.id b.past) (sym c.self.view_is))
-    ∙ ap (spelled (protocol c.args.id past)) (plan.reply ∙ ap (λ s. (ran_over s c.args.words m).reply) k.space_is) in
+    ∙ ap (spelled (protocol c.args.id past)) (plan.0 ∙ ap (λ s. (ran_over s c.args.words m).reply) k.space_is) in
     let kept = agrees_run i.limits past i.space i.connections k c.args.id m c.args.words c.as_slice.result.now c.put_written.new.space
     acc.0 acc.1 (omega (arith, c.max-moment.ensures, c.moment.ensures))
-    (c.in-Ok.ensures.ok ∙ plan.space ∙ ap (λ s. (ran_over s c.args.words m).space) k.space_is) message in
+    (c.in-Ok.ensures.ok ∙ plan.1 ∙ ap (λ s. (ran_over s c.args.words m).space) k.space_is) message in
     record {
       agrees = subst (λ p. Agrees i.limits p c.put_written.new.space c.add.new.self) (sym grown)
           (subst (Agrees i.limits (e ∷ past) c.put_written.new.space) (sym c.in_ok-add.ensures.ok) kept);
@@ -62,7 +62,7 @@ returns-clause-ok c =
     let n : c.len-entry.result ≡ length past = c.len-entry.ensures.len ∙ ap length c.reserve.ensures.past in
     let message = c.in_ok-message.ensures
     ∙ ap (λ p. spelled p c.in_ok-reply.field-0.reply) (c.protocol.ensures ∙ ap (λ (b : BookState). protocol c.args.id b.past) (sym c.self.view_is))
-    ∙ ap (spelled (protocol c.args.id past)) (plan.reply ∙ ap (λ s. (ran_over s c.args.words m).reply) k.space_is) in
+    ∙ ap (spelled (protocol c.args.id past)) (plan.0 ∙ ap (λ s. (ran_over s c.args.words m).reply) k.space_is) in
     let none = c.reserve-2.ensures.items ∙ ap (λ (b : BookState). b.posts) c.self.view_is ∙ c.requires.none in
     is_turn c.args.self.now i.limits past c.push.new.self.past i.posts.items c.push_reserved.new.self.items e
     (Run c.args.id c.args.words c.args.now) _ c.self.view_is tt (c.push.ensures.past ∙ ap (λ p. e ∷ p) c.reserve.ensures.past)
