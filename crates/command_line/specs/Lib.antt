@@ -1,0 +1,4 @@
+pub mod Options
+pub mod Clap
+pub mod Commands
+pub mod Unbuilt
