@@ -1,0 +1,2 @@
+pub mod PlainEntries
+pub mod Keyed
