@@ -2,9 +2,8 @@
 use Rattle.std.proofs.Common.{◌≡◌, ◌+◌, ℕ, List, [], ◌∷◌, ◌++◌, true, false, cond, length, take}
 use Rattle.std.proofs.Common.{max, refl}
 use Rattle.std.proofs.Common.{sym, ap, ◌∙◌, append-nil, append_assoc, arith}
-use Rattle.std.specs.Prelude.{◌==◌, ◌&&◌, not, nat_lt, nat_le}
+use Rattle.std.specs.Prelude.{◌==◌}
 use Rattle.std.proofs.lemmas.Bool.Decides.{nat_tests}
-use Rattle.resp_value.specs.Lists.{IsPrefix}
 use Rattle.serial_model.specs.declared.history.Limits.{Limits}
 use Rattle.serial_model.specs.declared.history.Entry.{Entry}
 use Rattle.serial_model.specs.declared.history.Entry.TheVariants as entry
@@ -22,8 +21,10 @@ use Rattle.serial_model.specs.Laws.{Extends, IsOther}
 use Rattle.serial_model.proofs.Streams.{stream_more, taken_other, ended_other}
 
 -- the turn of a limit is the turn or none
-pub by_limit : (l : Limits) (past : List Entry) (turn : Turn) (P : Turn → Type 0) → P (full past) → P turn → P (unless_full l past turn)
-by_limit l past turn P none does = elim (is_full l past) as (λ b. P (cond b (full past) turn)) [ true ↦ none | false ↦ does ]
+pub by_limit : (l : Limits) (past : List Entry) (turn : Turn) (P : Turn → Type 0) → P (full past)
+    → P turn → P (unless_full l past turn)
+by_limit l past turn P none does =
+    elim (is_full l past) as (λ b. P (cond b (full past) turn)) [ true ↦ none | false ↦ does ]
 
 module _ (l : Limits) (c : ℕ) where
   pub extends_none : (past : List Entry) → Extends l c past past
@@ -49,57 +50,76 @@ module _ (l : Limits) (c : ℕ) where
   }
 
   -- one more entry, which is none of the connection's
-  extends_entry : (past : List Entry) (e : Entry) → (is_admitted past c ≡ true → is_admitted (e ∷ past) c ≡ true)
+  extends_entry : (past : List Entry) (e : Entry)
+      → (is_admitted past c ≡ true → is_admitted (e ∷ past) c ≡ true)
       → taken l c (e ∷ past) ≡ taken l c past → runs_of c (e ∷ past) ≡ runs_of c past
       → (has_ended l c past ≡ true → has_ended l c (e ∷ past) ≡ true) → Extends l c past (e ∷ past)
   extends_entry past e on took ran ended = record {
     is_still_admitted = on;
-    stream_grew = (sent_bytes (sent_to (length past + 1) c (sends l e past)), sym (stream_more l past c e));
+    stream_grew = (
+      sent_bytes (sent_to (length past + 1) c (sends l e past)),
+      sym (stream_more l past c e),
+    );
     taken_is = took;
     runs_are = ran;
     stays_ended = ended;
   }
 
-  one_more_admitted : (past : List Entry) (id : ℕ) → is_admitted past c ≡ true → is_admitted (entry.Admit id ∷ past) c ≡ true
+  one_more_admitted : (past : List Entry) (id : ℕ) → is_admitted past c ≡ true
+      → is_admitted (entry.Admit id ∷ past) c ≡ true
   one_more_admitted past id h = grind (arith, nat_tests)
 
   pub admit_extends : (past : List Entry) → Extends l c past (book_step l past Admit).past
   unfolding book_step
   admit_extends past =
       by_limit l past (admitting past) (λ t. Extends l c past t.past) (extends_none past)
-      (extends_entry past (entry.Admit (admitted past + 1)) (one_more_admitted past (admitted past + 1)) refl refl (λ h. h))
+      (extends_entry past (entry.Admit (admitted past + 1))
+      (one_more_admitted past (admitted past + 1)) refl refl (λ h. h))
 
   pub run_extends : (id now : ℕ) (words : List (List ℕ)) (past : List Entry) → (id == c) ≡ false
       → Extends l c past (book_step l past (Run id words now)).past
   unfolding book_step
-  run_extends id now words past other = elim (runs_on l past id) as (λ b. Extends l c past (cond b (unless_full l past (running past id words now)) (gone past id)).past) [
-    | true ↦ by_limit l past (running past id words now) (λ t. Extends l c past t.past) (extends_none past)
-        (extends_entry past (entry.Run id words (max now (latest past))) (λ h. h) refl
-        (ap (λ b. cond b (runs_of c past ++ words ∷ []) (runs_of c past)) other) (λ h. h))
-    | false ↦ extends_none past
-  ]
+  run_extends id now words past other =
+      elim (runs_on l past id) as (λ b. Extends l c past
+      (cond b (unless_full l past (running past id words now)) (gone past id)).past) [
+        | true ↦ by_limit l past (running past id words now) (λ t. Extends l c past t.past)
+            (extends_none past)
+            (extends_entry past (entry.Run id words (max now (latest past))) (λ h. h) refl
+            (ap (λ b. cond b (runs_of c past ++ words ∷ []) (runs_of c past)) other) (λ h. h))
+        | false ↦ extends_none past
+      ]
 
-  taking_extends : (id most : ℕ) (past : List Entry) (bytes : List ℕ) → (id == c) ≡ false → Extends l c past (taking l past id most bytes).past
+  taking_extends : (id most : ℕ) (past : List Entry) (bytes : List ℕ) → (id == c) ≡ false
+      → Extends l c past (taking l past id most bytes).past
   taking_extends id most past [] other = extends_none past
   taking_extends id most past (b ∷ bytes) other =
       by_limit l past _ (λ t. Extends l c past t.past) (extends_none past)
-      (extends_entry past (entry.Take id most) (λ h. h) (taken_other l past c id most other) refl (λ h. h))
+      (extends_entry past (entry.Take id most) (λ h. h) (taken_other l past c id most other) refl
+      (λ h. h))
 
-  pub take_extends : (id most : ℕ) (past : List Entry) → (id == c) ≡ false → Extends l c past (book_step l past (Take id most)).past
+  pub take_extends : (id most : ℕ) (past : List Entry) → (id == c) ≡ false
+      → Extends l c past (book_step l past (Take id most)).past
   unfolding book_step
-  take_extends id most past other = elim (gives_on l past id) as (λ b. Extends l c past (cond b (taking l past id most (take most (unsent l id past))) (gone past id)).past) [
-    | true ↦ taking_extends id most past (take most (unsent l id past)) other
-    | false ↦ extends_none past
-  ]
+  take_extends id most past other =
+      elim (gives_on l past id) as (λ b. Extends l c past
+      (cond b (taking l past id most (take most (unsent l id past))) (gone past id)).past) [
+        | true ↦ taking_extends id most past (take most (unsent l id past)) other
+        | false ↦ extends_none past
+      ]
 
-  pub close_extends : (id : ℕ) (past : List Entry) → (id == c) ≡ false → Extends l c past (book_step l past (Close id)).past
+  pub close_extends : (id : ℕ) (past : List Entry) → (id == c) ≡ false
+      → Extends l c past (book_step l past (Close id)).past
   unfolding book_step
-  close_extends id past other = elim (reads_on l past id) as (λ b. Extends l c past (cond b (closing past id) (gone past id)).past) [
-    | true ↦ extends_entry past (entry.Close id) (λ h. h) refl refl (λ h. ended_other l past c id other ∙ h)
-    | false ↦ extends_none past
-  ]
+  close_extends id past other =
+      elim (reads_on l past id) as (λ b. Extends l c past
+      (cond b (closing past id) (gone past id)).past) [
+        | true ↦ extends_entry past (entry.Close id) (λ h. h) refl refl
+            (λ h. ended_other l past c id other ∙ h)
+        | false ↦ extends_none past
+      ]
 
-  pub others_extend : (past : List Entry) (call : BookCall) → IsOther c call → Extends l c past (book_step l past call).past
+  pub others_extend : (past : List Entry) (call : BookCall) → IsOther c call
+      → Extends l c past (book_step l past call).past
   others_extend past Admit other = admit_extends past
   others_extend past (Run id words now) other = run_extends id now words past other
   others_extend past (Take id most) other = take_extends id most past other

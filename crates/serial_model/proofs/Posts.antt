@@ -1,7 +1,7 @@
 -- The posts of an entry, and the end of a connection, are read off what was sent.
 use Rattle.std.proofs.Common.{◌≡◌, ◌+◌, ◌<◌, ℕ, List, [], ◌∷◌, ◌++◌, Bool, true, false, cond}
 use Rattle.std.proofs.Common.{length, get_or}
-use Rattle.std.proofs.Common.{refl, ap, sym, ◌∙◌, append-nil, arith}
+use Rattle.std.proofs.Common.{refl, ap, sym, ◌∙◌, arith}
 use Rattle.std.specs.Prelude.{◌==◌, ◌||◌, filter}
 use Prim.Native.Nat.{zero, suc}
 use Rattle.std.proofs.lemmas.Bool.{eqb-true}
@@ -19,39 +19,46 @@ use Rattle.serial_model.specs.Laws.{as_posts, has_end, is_end}
 abbrev post_of : ℕ → ℕ → Sending → Post
 post_of entry id s = record { entry = entry; id = id; what = posted_of s }
 
-as_posts-append : (c : ℕ) (xs ys : List (ℕ × Sending)) → as_posts c (xs ++ ys) ≡ as_posts c xs ++ as_posts c ys
+as_posts-append : (c : ℕ) (xs ys : List (ℕ × Sending))
+    → as_posts c (xs ++ ys) ≡ as_posts c xs ++ as_posts c ys
 as_posts-append c [] ys = refl
 as_posts-append c (x ∷ xs) ys = ap (λ ps. post_of x.0 c x.1 ∷ ps) (as_posts-append c xs ys)
 
 -- the posts for one connection are those of the sendings that are for it
-posts_for : (n c : ℕ) (ss : List (ℕ × Sending)) → as_posts c (sent_to n c ss) ≡ filter (λ p. p.id == c) (posts_of n ss)
+posts_for : (n c : ℕ) (ss : List (ℕ × Sending))
+    → as_posts c (sent_to n c ss) ≡ filter (λ p. p.id == c) (posts_of n ss)
 posts_for n c [] = refl
 posts_for n c (s ∷ ss) =
     elim (s.0 == c) as (λ b. (s.0 == c) ≡ b
     → as_posts c (cond b ((n, s.1) ∷ sent_to n c ss) (sent_to n c ss))
-    ≡ cond b (post_of n s.0 s.1 ∷ filter (λ p. p.id == c) (posts_of n ss)) (filter (λ p. p.id == c) (posts_of n ss))) [
+    ≡ cond b (post_of n s.0 s.1 ∷ filter (λ p. p.id == c) (posts_of n ss))
+    (filter (λ p. p.id == c) (posts_of n ss))) [
       | true ↦ λ e. ap (λ i. post_of n i s.1 ∷ as_posts c (sent_to n c ss)) (sym (eqb-true s.0 c e))
           ∙ ap (λ ps. post_of n s.0 s.1 ∷ ps) (posts_for n c ss)
       | false ↦ λ e. posts_for n c ss
     ] refl
 
 pub posted_is_sent : (l : Limits) (c : ℕ) (entry : Entry) (past : List Entry)
-    → as_posts c (sent l c (entry ∷ past)) ≡ as_posts c (sent l c past) ++ filter (λ p. p.id == c) (posted l (entry ∷ past))
+    → as_posts c (sent l c (entry ∷ past)) ≡ as_posts c (sent l c past)
+    ++ filter (λ p. p.id == c) (posted l (entry ∷ past))
 unfolding posted
 posted_is_sent l c entry past =
     as_posts-append c (sent l c past) (sent_to (length past + 1) c (sends l entry past))
     ∙ ap (λ x. as_posts c (sent l c past) ++ x) (posts_for (length past + 1) c (sends l entry past))
 
-all_numbered : (n : ℕ) (ss : List (ℕ × Sending)) (k : ℕ) (d : Post) → k < length (posts_of n ss) → (get_or (posts_of n ss) k d).entry ≡ n
+all_numbered : (n : ℕ) (ss : List (ℕ × Sending)) (k : ℕ) (d : Post) → k < length (posts_of n ss)
+    → (get_or (posts_of n ss) k d).entry ≡ n
 all_numbered n [] k d h = absurd (omega arith)
 all_numbered n (s ∷ ss) zero d h = refl
 all_numbered n (s ∷ ss) (suc k) d h = all_numbered n ss k d (omega arith)
 
-numbered : (n : ℕ) (ss : List (ℕ × Sending)) (ps : List Post) → ps ≡ posts_of n ss → (k : ℕ) (d : Post) → k < length ps
+numbered : (n : ℕ) (ss : List (ℕ × Sending)) (ps : List Post) → ps ≡ posts_of n ss
+    → (k : ℕ) (d : Post) → k < length ps
     → (get_or ps k d).entry ≡ n
 numbered n ss ps e k d h = rw e (all_numbered n ss k d (rw e at h))
 
-pub posts_are_numbered : (l : Limits) (past : List Entry) (k : ℕ) (d : Post) → k < length (posted l past)
+pub posts_are_numbered : (l : Limits) (past : List Entry) (k : ℕ) (d : Post)
+    → k < length (posted l past)
     → (get_or (posted l past) k d).entry ≡ length past
 unfolding posted
 posts_are_numbered l [] = numbered 0 [] (posted l []) refl
@@ -63,7 +70,11 @@ posts_are_numbered l (entry ∷ past) =
 has_end-append : (xs ys : List (ℕ × Sending)) → has_end (xs ++ ys) ≡ has_end xs || has_end ys
 has_end-append [] ys = refl
 has_end-append (x ∷ xs) ys =
-    elim (is_end x.1) as (λ b. b || has_end (xs ++ ys) ≡ (b || has_end xs) || has_end ys) [ true ↦ refl | false ↦ has_end-append xs ys ]
+    elim (is_end x.1) as (λ b. b || has_end (xs ++ ys) ≡ (b || has_end xs) || has_end ys) [
+      | true ↦
+          refl
+      | false ↦ has_end-append xs ys
+    ]
 
 or_false : (a : Bool) → a ≡ a || false
 or_false true = refl
@@ -75,18 +86,23 @@ or_end true false n = refl
 or_end false true n = refl
 or_end false false n = refl
 
-message_no_end : (b : Bool) (n : ℕ) (p : Proto) (v : Value) → has_end (cond b ((n, Message p v) ∷ []) []) ≡ false
+message_no_end : (b : Bool) (n : ℕ) (p : Proto) (v : Value)
+    → has_end (cond b ((n, Message p v) ∷ []) []) ≡ false
 message_no_end true n p v = refl
 message_no_end false n p v = refl
 
-no_end : (l : Limits) (c : ℕ) (e : Entry) (past : List Entry) → has_ended l c (e ∷ past) ≡ has_ended l c past
-    → has_ended l c past ≡ has_end (sent l c past) → has_end (sent_to (length past + 1) c (sends l e past)) ≡ false
+no_end : (l : Limits) (c : ℕ) (e : Entry) (past : List Entry)
+    → has_ended l c (e ∷ past) ≡ has_ended l c past
+    → has_ended l c past ≡ has_end (sent l c past)
+    → has_end (sent_to (length past + 1) c (sends l e past)) ≡ false
     → has_ended l c (e ∷ past) ≡ has_end (sent l c (e ∷ past))
 no_end l c e past same before none =
-    same ∙ before ∙ or_false (has_end (sent l c past)) ∙ ap (λ x. has_end (sent l c past) || x) (sym none)
+    same ∙ before ∙ or_false (has_end (sent l c past))
+    ∙ ap (λ x. has_end (sent l c past) || x) (sym none)
     ∙ sym (has_end-append (sent l c past) (sent_to (length past + 1) c (sends l e past)))
 
-pub end_is_sent : (l : Limits) (c : ℕ) (past : List Entry) → has_ended l c past ≡ has_end (sent l c past)
+pub end_is_sent : (l : Limits) (c : ℕ) (past : List Entry)
+    → has_ended l c past ≡ has_end (sent l c past)
 end_is_sent l c [] = refl
 end_is_sent l c (Admit id ∷ past) = no_end l c (Admit id) past refl (end_is_sent l c past) refl
 end_is_sent l c (Run id words m ∷ past) =

@@ -29,17 +29,23 @@ use Rattle.serial_model.proofs.Others.{by_limit}
 
 module _ (l : Limits) where
   -- what holds of the step, and of a turn that memory refused, holds of the turn
-  pub by_step : (P : BookReply → List Entry → Type 0) (past new : List Entry) (call : BookCall) (reply : BookReply)
+  pub by_step : (P : BookReply → List Entry → Type 0) (past new : List Entry) (call : BookCall)
+      (reply : BookReply)
       → P (book_step l past call).reply (book_step l past call).past → P (Refused NoMemory) past
       → BookStep l past call reply new → P reply new
-  by_step P past new call (Admitted e id) does none h = subst (λ (t : Turn). P t.reply t.past) h does
+  by_step P past new call (Admitted e id) does none h =
+      subst (λ (t : Turn). P t.reply t.past) h does
   by_step P past new call (Ran e) does none h = subst (λ (t : Turn). P t.reply t.past) h does
   by_step P past new call Quiet does none h = subst (λ (t : Turn). P t.reply t.past) h does
-  by_step P past new call (Bytes e bytes) does none h = subst (λ (t : Turn). P t.reply t.past) h does
-  by_step P past new call (Refused (Gone id)) does none h = subst (λ (t : Turn). P t.reply t.past) h does
-  by_step P past new call (Refused (HistoryFull n)) does none h = subst (λ (t : Turn). P t.reply t.past) h does
+  by_step P past new call (Bytes e bytes) does none h =
+      subst (λ (t : Turn). P t.reply t.past) h does
+  by_step P past new call (Refused (Gone id)) does none h =
+      subst (λ (t : Turn). P t.reply t.past) h does
+  by_step P past new call (Refused (HistoryFull n)) does none h =
+      subst (λ (t : Turn). P t.reply t.past) h does
   by_step P past new call (Closed e) does none h = subst (λ (t : Turn). P t.reply t.past) h does
-  by_step P past new call (Refused NoMemory) does none h = subst (P (Refused NoMemory)) (sym h.0) none
+  by_step P past new call (Refused NoMemory) does none h =
+      subst (P (Refused NoMemory)) (sym h.0) none
 
   -- ---- what was given
 
@@ -73,10 +79,12 @@ module _ (l : Limits) where
   first_take c id most past bytes live h =
       let n = min most (length (stream l c past) - taken l c past) in
       elim (id == c) as (λ b. (id == c) ≡ b
-      → first c past ++ (cond b bytes []) ≡ take (cond b (taken l c past + n) (taken l c past)) (stream l c past)) [
+      → first c past ++ (cond b bytes [])
+      ≡ take (cond b (taken l c past + n) (taken l c past)) (stream l c past)) [
         | true ↦ λ e. sym (take-add (taken l c past) n (stream l c past)
             ∙ ap (λ x. first c past ++ x)
-            (ap (λ k. take (min most k) (drop (taken l c past) (stream l c past))) (sym (length-drop (taken l c past) (stream l c past)))
+            (ap (λ k. take (min most k) (drop (taken l c past) (stream l c past)))
+            (sym (length-drop (taken l c past) (stream l c past)))
             ∙ take_min most (drop (taken l c past) (stream l c past))
             ∙ ap (λ i. take most (drop (taken l i past) (stream l i past))) (sym (eqb-true id c e))
             ∙ ap (take most) (sym (unsent_live l past id live)) ∙ h))
@@ -85,32 +93,40 @@ module _ (l : Limits) where
       ∙ ap (take (taken l c (entry.Take id most ∷ past))) (sym (stream_take l past c id most))
 
   gives_take : (c id most : ℕ) (past : List Entry) (bytes : List ℕ) → has_ended l id past ≡ false
-      → take most (unsent l id past) ≡ bytes → Gives c past (Take id most) (taking l past id most bytes)
+      → take most (unsent l id past) ≡ bytes
+      → Gives c past (Take id most) (taking l past id most bytes)
   unfolding Gives
   gives_take c id most past [] live h = append-nil (first c past)
   gives_take c id most past (b ∷ bytes) live h =
       by_limit l past _ (Gives c past (Take id most)) (append-nil (first c past))
       (first_take c id most past (b ∷ bytes) live h)
 
-  step_gives : (c : ℕ) (past : List Entry) (call : BookCall) → Gives c past call (book_step l past call)
+  step_gives : (c : ℕ) (past : List Entry) (call : BookCall)
+      → Gives c past call (book_step l past call)
   unfolding Gives book_step
   step_gives c past Admit =
       by_limit l past (admitting past) (Gives c past Admit) (append-nil (first c past))
       (first_same c past (entry.Admit (admitted past + 1)) refl)
   step_gives c past (Run id words now) =
       let call = Run id words now in
-      elim (runs_on l past id) as (λ b. Gives c past call (cond b (unless_full l past (running past id words now)) (gone past id))) [
-        | true ↦ by_limit l past (running past id words now) (Gives c past call) (append-nil (first c past))
+      elim (runs_on l past id) as (λ b. Gives c past call
+      (cond b (unless_full l past (running past id words now)) (gone past id))) [
+        | true ↦ by_limit l past (running past id words now) (Gives c past call)
+            (append-nil (first c past))
             (first_same c past (entry.Run id words (max now (latest past))) refl)
         | false ↦ append-nil (first c past)
       ]
   step_gives c past (Take id most) =
-      elim (gives_on l past id) as (λ b. gives_on l past id ≡ b → Gives c past (Take id most) (cond b (taking l past id most (take most (unsent l id past))) (gone past id))) [
-        | true ↦ λ on. gives_take c id most past (take most (unsent l id past)) (not_ended l past id on) refl
+      elim (gives_on l past id) as (λ b. gives_on l past id ≡ b
+      → Gives c past (Take id most) (cond b
+      (taking l past id most (take most (unsent l id past))) (gone past id))) [
+        | true ↦ λ on. gives_take c id most past (take most (unsent l id past))
+            (not_ended l past id on) refl
         | false ↦ λ off. append-nil (first c past)
       ] refl
   step_gives c past (Close id) =
-      elim (reads_on l past id) as (λ b. Gives c past (Close id) (cond b (closing past id) (gone past id))) [
+      elim (reads_on l past id) as (λ b. Gives c past (Close id)
+      (cond b (closing past id) (gone past id))) [
         | true ↦ first_same c past (entry.Close id) refl
         | false ↦ append-nil (first c past)
       ]
@@ -123,13 +139,15 @@ module _ (l : Limits) where
   step_gave c past call = step_gives c past call
 
   -- where memory ran out nothing was given, and nothing ran
-  none_given : (c : ℕ) (past : List Entry) (call : BookCall) → first c past ++ given_by c call (Refused NoMemory) ≡ first c past
+  none_given : (c : ℕ) (past : List Entry) (call : BookCall)
+      → first c past ++ given_by c call (Refused NoMemory) ≡ first c past
   none_given c past Admit = append-nil _
   none_given c past (Run id words now) = append-nil _
   none_given c past (Take id most) = append-nil _
   none_given c past (Close id) = append-nil _
 
-  turns_give : (c : ℕ) (calls : List BookCall) (replies : List BookReply) (old new : List Entry) → Turns l old calls replies new
+  turns_give : (c : ℕ) (calls : List BookCall) (replies : List BookReply) (old new : List Entry)
+      → Turns l old calls replies new
       → first c old ++ given c calls replies ≡ first c new
   unfolding first
   turns_give c [] [] old new h = append-nil _ ∙ sym (ap (first c) h)
@@ -137,10 +155,12 @@ module _ (l : Limits) where
   turns_give c (call ∷ calls) [] old new h = absurd h
   turns_give c (call ∷ calls) (reply ∷ replies) old new h =
       sym (append_assoc (first c old) (given_by c call reply) (given c calls replies))
-      ∙ ap (λ x. x ++ given c calls replies) (by_step (λ r p. first c old ++ given_by c call r ≡ first c p) old h.0 call reply (step_gave c old call) (none_given c old call) h.1)
+      ∙ ap (λ x. x ++ given c calls replies) (by_step (λ r p. first c old ++ given_by c call r
+      ≡ first c p) old h.0 call reply (step_gave c old call) (none_given c old call) h.1)
       ∙ turns_give c calls replies h.0 new h.2
 
-  pub given_is_stream : (c : ℕ) (calls : List BookCall) (replies : List BookReply) (past : List Entry) → Turns l [] calls replies past
+  pub given_is_stream : (c : ℕ) (calls : List BookCall) (replies : List BookReply)
+      (past : List Entry) → Turns l [] calls replies past
       → given c calls replies ≡ take (taken l c past) (stream l c past)
   unfolding first stream
   given_is_stream c calls replies past h = turns_give c calls replies [] past h
@@ -150,128 +170,170 @@ module _ (l : Limits) where
   Runs : ℕ → List Entry → BookCall → Turn → Type 0
   Runs c past call turn = runs_of c past ++ ran_by c call turn.reply ≡ runs_of c turn.past
 
-  runs_take : (c id most : ℕ) (past : List Entry) (bytes : List ℕ) → Runs c past (Take id most) (taking l past id most bytes)
+  runs_take : (c id most : ℕ) (past : List Entry) (bytes : List ℕ)
+      → Runs c past (Take id most) (taking l past id most bytes)
   unfolding Runs
   runs_take c id most past [] = append-nil _
-  runs_take c id most past (b ∷ bytes) = by_limit l past _ (Runs c past (Take id most)) (append-nil _) (append-nil _)
+  runs_take c id most past (b ∷ bytes) =
+      by_limit l past _ (Runs c past (Take id most)) (append-nil _) (append-nil _)
 
-  runs_step : (c : ℕ) (past : List Entry) (call : BookCall) → Runs c past call (book_step l past call)
+  runs_step : (c : ℕ) (past : List Entry) (call : BookCall)
+      → Runs c past call (book_step l past call)
   unfolding Runs book_step
-  runs_step c past Admit = by_limit l past (admitting past) (Runs c past Admit) (append-nil _) (append-nil _)
+  runs_step c past Admit =
+      by_limit l past (admitting past) (Runs c past Admit) (append-nil _) (append-nil _)
   runs_step c past (Run id words now) =
       let call = Run id words now in
-      elim (runs_on l past id) as (λ b. Runs c past call (cond b (unless_full l past (running past id words now)) (gone past id))) [
+      elim (runs_on l past id) as (λ b. Runs c past call
+      (cond b (unless_full l past (running past id words now)) (gone past id))) [
         | true ↦ by_limit l past (running past id words now) (Runs c past call) (append-nil _)
-            (elim (id == c) as (λ b. runs_of c past ++ (cond b (words ∷ []) []) ≡ cond b (runs_of c past ++ words ∷ []) (runs_of c past)) [ true ↦ refl | false ↦ append-nil _ ])
+            (elim (id == c) as (λ b. runs_of c past ++ (cond b (words ∷ []) [])
+            ≡ cond b (runs_of c past ++ words ∷ []) (runs_of c past)) [
+              | true ↦ refl
+              | false ↦
+                  append-nil _
+            ])
         | false ↦ append-nil _
       ]
   runs_step c past (Take id most) =
-      elim (gives_on l past id) as (λ b. Runs c past (Take id most) (cond b (taking l past id most (take most (unsent l id past))) (gone past id))) [
+      elim (gives_on l past id) as (λ b. Runs c past (Take id most)
+      (cond b (taking l past id most (take most (unsent l id past))) (gone past id))) [
         | true ↦ runs_take c id most past (take most (unsent l id past))
         | false ↦ append-nil _
       ]
   runs_step c past (Close id) =
-      elim (reads_on l past id) as (λ b. Runs c past (Close id) (cond b (closing past id) (gone past id))) [ true ↦ append-nil _ | false ↦ append-nil _ ]
+      elim (reads_on l past id) as (λ b. Runs c past (Close id)
+      (cond b (closing past id) (gone past id))) [ true ↦ append-nil _ | false ↦ append-nil _ ]
 
   pub step_runs : (c : ℕ) (past : List Entry) (call : BookCall)
-      → runs_of c past ++ ran_by c call (book_step l past call).reply ≡ runs_of c (book_step l past call).past
+      → runs_of c past ++ ran_by c call (book_step l past call).reply
+      ≡ runs_of c (book_step l past call).past
   unfolding Runs
   step_runs c past call = runs_step c past call
 
-  none_ran : (c : ℕ) (past : List Entry) (call : BookCall) → runs_of c past ++ ran_by c call (Refused NoMemory) ≡ runs_of c past
+  none_ran : (c : ℕ) (past : List Entry) (call : BookCall)
+      → runs_of c past ++ ran_by c call (Refused NoMemory) ≡ runs_of c past
   none_ran c past Admit = append-nil _
   none_ran c past (Run id words now) = append-nil _
   none_ran c past (Take id most) = append-nil _
   none_ran c past (Close id) = append-nil _
 
-  turns_run : (c : ℕ) (calls : List BookCall) (replies : List BookReply) (old new : List Entry) → Turns l old calls replies new
+  turns_run : (c : ℕ) (calls : List BookCall) (replies : List BookReply) (old new : List Entry)
+      → Turns l old calls replies new
       → runs_of c old ++ answered c calls replies ≡ runs_of c new
   turns_run c [] [] old new h = append-nil _ ∙ sym (ap (runs_of c) h)
   turns_run c [] (reply ∷ replies) old new h = absurd h
   turns_run c (call ∷ calls) [] old new h = absurd h
   turns_run c (call ∷ calls) (reply ∷ replies) old new h =
       sym (append_assoc (runs_of c old) (ran_by c call reply) (answered c calls replies))
-      ∙ ap (λ x. x ++ answered c calls replies) (by_step (λ r p. runs_of c old ++ ran_by c call r ≡ runs_of c p) old h.0 call reply (step_runs c old call) (none_ran c old call) h.1)
+      ∙ ap (λ x. x ++ answered c calls replies)
+      (by_step (λ r p. runs_of c old ++ ran_by c call r
+      ≡ runs_of c p) old h.0 call reply (step_runs c old call) (none_ran c old call) h.1)
       ∙ turns_run c calls replies h.0 new h.2
 
-  pub each_run_once : (c : ℕ) (calls : List BookCall) (replies : List BookReply) (past : List Entry) → Turns l [] calls replies past
+  pub each_run_once : (c : ℕ) (calls : List BookCall) (replies : List BookReply) (past : List Entry)
+      → Turns l [] calls replies past
       → runs_of c past ≡ answered c calls replies
   each_run_once c calls replies past h = sym (turns_run c calls replies [] past h)
 
   -- ---- legal histories
 
   -- what a limit keeps
-  by_room : (past : List Entry) (turn : Turn) → IsLegal l past → (is_full l past ≡ false → IsLegal l turn.past) → IsLegal l (unless_full l past turn).past
+  by_room : (past : List Entry) (turn : Turn) → IsLegal l past
+      → (is_full l past ≡ false → IsLegal l turn.past) → IsLegal l (unless_full l past turn).past
   by_room past turn h does =
-      elim (is_full l past) as (λ b. is_full l past ≡ b → IsLegal l (cond b (full past) turn).past) [ true ↦ λ e. h | false ↦ does ] refl
+      elim (is_full l past) as (λ b. is_full l past ≡ b
+      → IsLegal l (cond b (full past) turn).past) [ true ↦ λ e. h | false ↦ does ] refl
 
-  take_legal : (past : List Entry) (id most : ℕ) (bytes : List ℕ) → IsLegal l past → gives_on l past id ≡ true
+  take_legal : (past : List Entry) (id most : ℕ) (bytes : List ℕ) → IsLegal l past
+      → gives_on l past id ≡ true
       → take most (unsent l id past) ≡ bytes → IsLegal l (taking l past id most bytes).past
   take_legal past id most [] h on e = h
   take_legal past id most (b ∷ bytes) h on e =
       by_room past _ h (λ room. (on, room, (λ n. absurd (let no : ⊥ = cc in no)), h))
 
   -- a turn on a legal history leaves a legal one
-  pub step_legal : (past : List Entry) (call : BookCall) → IsLegal l past → IsLegal l (book_step l past call).past
+  pub step_legal : (past : List Entry) (call : BookCall) → IsLegal l past
+      → IsLegal l (book_step l past call).past
   unfolding book_step
   step_legal past Admit h = by_room past (admitting past) h (λ room. (refl, room, h))
   step_legal past (Run id words now) h =
-      elim (runs_on l past id) as (λ b. runs_on l past id ≡ b → IsLegal l (cond b (unless_full l past (running past id words now)) (gone past id)).past) [
-        | true ↦ λ on. by_room past (running past id words now) h (λ room. (on, room, omega arith, h))
+      elim (runs_on l past id) as (λ b. runs_on l past id ≡ b
+      → IsLegal l (cond b (unless_full l past (running past id words now)) (gone past id)).past) [
+        | true ↦ λ on. by_room past (running past id words now) h
+            (λ room. (on, room, omega arith, h))
         | false ↦ λ off. h
       ] refl
   step_legal past (Take id most) h =
-      elim (gives_on l past id) as (λ b. gives_on l past id ≡ b → IsLegal l (cond b (taking l past id most (take most (unsent l id past))) (gone past id)).past) [
+      elim (gives_on l past id) as (λ b. gives_on l past id ≡ b
+      → IsLegal l (cond b (taking l past id most (take most (unsent l id past)))
+      (gone past id)).past) [
         | true ↦ λ on. take_legal past id most (take most (unsent l id past)) h on refl
         | false ↦ λ off. h
       ] refl
   step_legal past (Close id) h =
-      elim (reads_on l past id) as (λ b. reads_on l past id ≡ b → IsLegal l (cond b (closing past id) (gone past id)).past) [
+      elim (reads_on l past id) as (λ b. reads_on l past id ≡ b
+      → IsLegal l (cond b (closing past id) (gone past id)).past) [
         | true ↦ λ on. (on, h)
         | false ↦ λ off. h
       ] refl
 
   -- ---- the step, where its questions are answered
 
-  pub admit_step : (past : List Entry) → is_full l past ≡ false → book_step l past Admit ≡ admitting past
+  pub admit_step : (past : List Entry) → is_full l past ≡ false
+      → book_step l past Admit ≡ admitting past
   unfolding book_step
   admit_step past room = ap (λ v. cond v (full past) (admitting past)) room
 
-  pub run_step : (past : List Entry) (id now : ℕ) (words : List (List ℕ)) → runs_on l past id ≡ true → is_full l past ≡ false
+  pub run_step : (past : List Entry) (id now : ℕ) (words : List (List ℕ)) → runs_on l past id ≡ true
+      → is_full l past ≡ false
       → book_step l past (Run id words now) ≡ running past id words now
   unfolding book_step
   run_step past id now words on room =
       ap (λ v. cond v (unless_full l past (running past id words now)) (gone past id)) on
       ∙ ap (λ v. cond v (full past) (running past id words now)) room
 
-  pub run_full : (past : List Entry) (id now : ℕ) (words : List (List ℕ)) → runs_on l past id ≡ true → is_full l past ≡ true
+  pub run_full : (past : List Entry) (id now : ℕ) (words : List (List ℕ)) → runs_on l past id ≡ true
+      → is_full l past ≡ true
       → book_step l past (Run id words now) ≡ full past
   unfolding book_step
   run_full past id now words on none =
       ap (λ v. cond v (unless_full l past (running past id words now)) (gone past id)) on
       ∙ ap (λ v. cond v (full past) (running past id words now)) none
 
-  pub take_step : (past : List Entry) (id most b : ℕ) (bytes : List ℕ) → gives_on l past id ≡ true → is_full l past ≡ false
+  pub take_step : (past : List Entry) (id most b : ℕ) (bytes : List ℕ) → gives_on l past id ≡ true
+      → is_full l past ≡ false
       → take most (unsent l id past) ≡ b ∷ bytes
-      → book_step l past (Take id most) ≡ record { reply = Bytes (length past + 1) (b ∷ bytes); past = entry.Take id most ∷ past }
+      → book_step l past (Take id most)
+      ≡ record { reply = Bytes (length past + 1) (b ∷ bytes); past = entry.Take id most ∷ past }
   unfolding book_step
   take_step past id most b bytes on room e =
       ap (λ v. cond v (taking l past id most (take most (unsent l id past))) (gone past id)) on
       ∙ ap (taking l past id most) e
-      ∙ ap (λ v. cond v (full past) (record { reply = Bytes (length past + 1) (b ∷ bytes); past = entry.Take id most ∷ past })) room
+      ∙ ap (λ v. cond v (full past)
+      (record {
+        reply = Bytes (length past + 1) (b ∷ bytes);
+        past = entry.Take id most ∷ past;
+      })) room
 
-  pub close_step : (past : List Entry) (id : ℕ) → reads_on l past id ≡ true → book_step l past (Close id) ≡ closing past id
+  pub close_step : (past : List Entry) (id : ℕ) → reads_on l past id ≡ true
+      → book_step l past (Close id) ≡ closing past id
   unfolding book_step
   close_step past id on = ap (λ v. cond v (closing past id) (gone past id)) on
 
-  taking_count : (past : List Entry) (id most : ℕ) (bytes : List ℕ) → admitted (taking l past id most bytes).past ≡ admitted past
+  taking_count : (past : List Entry) (id most : ℕ) (bytes : List ℕ)
+      → admitted (taking l past id most bytes).past ≡ admitted past
   taking_count past id most [] = refl
-  taking_count past id most (b ∷ bytes) = by_limit l past _ (λ t. admitted t.past ≡ admitted past) refl refl
+  taking_count past id most (b ∷ bytes) = by_limit l past _ (λ t. admitted t.past
+      ≡ admitted past) refl refl
 
-  pub take_count : (past : List Entry) (id most : ℕ) → admitted (book_step l past (Take id most)).past ≡ admitted past
+  pub take_count : (past : List Entry) (id most : ℕ)
+      → admitted (book_step l past (Take id most)).past ≡ admitted past
   unfolding book_step
   take_count past id most =
-      elim (gives_on l past id) as (λ b. admitted (cond b (taking l past id most (take most (unsent l id past))) (gone past id)).past ≡ admitted past) [
+      elim (gives_on l past id) as (λ b. admitted
+      (cond b (taking l past id most (take most (unsent l id past))) (gone past id)).past
+      ≡ admitted past) [
         | true ↦ taking_count past id most (take most (unsent l id past))
         | false ↦ refl
       ]
@@ -282,25 +344,43 @@ module _ (l : Limits) where
   takes_some zero bytes full = absurd (full refl)
   takes_some (suc most) bytes full = omega arith
 
-  take_added : (past : List Entry) (id most : ℕ) (bytes : List ℕ) → take most (unsent l id past) ≡ bytes → (bytes ≡ [] → ⊥)
-      → gives_on l past id ≡ true → is_full l past ≡ false → (book_step l past (Take id most)).past ≡ entry.Take id most ∷ past
+  take_added : (past : List Entry) (id most : ℕ) (bytes : List ℕ)
+      → take most (unsent l id past) ≡ bytes → (bytes ≡ [] → ⊥)
+      → gives_on l past id ≡ true → is_full l past ≡ false
+      → (book_step l past (Take id most)).past ≡ entry.Take id most ∷ past
   take_added past id most [] e some on room = absurd (some refl)
-  take_added past id most (b ∷ bytes) e some on room = ap (λ (t : Turn). t.past) (take_step past id most b bytes on room e)
+  take_added past id most (b ∷ bytes) e some on room =
+      ap (λ (t : Turn). t.past) (take_step past id most b bytes on room e)
 
   added : (past : List Entry) → IsLegal l past → IsAdded l past
   added [] h = tt
-  added (entry.Admit id ∷ past) h =
-      (h.2, Admit, tt, ap (λ (t : Turn). t.past) (admit_step past h.1) ∙ ap (λ i. entry.Admit i ∷ past) (sym h.0))
+  added (entry.Admit id ∷ past) h = (
+    h.2,
+    Admit,
+    tt,
+    ap (λ (t : Turn). t.past) (admit_step past h.1)
+        ∙ ap (λ i. entry.Admit i ∷ past) (sym h.0),
+  )
   added (entry.Run id words moment ∷ past) h = (
     h.3,
     Run id words moment,
     tt,
     ap (λ (t : Turn). t.past) (run_step past id moment words h.0 h.1)
-        ∙ ap (λ m. entry.Run id words m ∷ past) (let e : max moment (latest past) ≡ moment = omega arith in e),
+        ∙ ap (λ m. entry.Run id words m ∷ past) (let e : max moment (latest past)
+        ≡ moment = omega arith in e),
   )
-  added (entry.Take id most ∷ past) h =
-      (h.3, Take id most, takes_some most (unsent l id past) h.2, take_added past id most (take most (unsent l id past)) refl h.2 h.0 h.1)
-  added (entry.Close id ∷ past) h = (h.1, Close id, tt, ap (λ (t : Turn). t.past) (close_step past id h.0))
+  added (entry.Take id most ∷ past) h = (
+    h.3,
+    Take id most,
+    takes_some most (unsent l id past) h.2,
+    take_added past id most (take most (unsent l id past)) refl h.2 h.0 h.1,
+  )
+  added (entry.Close id ∷ past) h = (
+    h.1,
+    Close id,
+    tt,
+    ap (λ (t : Turn). t.past) (close_step past id h.0),
+  )
 
   legal : (past : List Entry) → IsAdded l past → IsLegal l past
   legal [] h = tt

@@ -1,7 +1,7 @@
 -- What a history says. A past is a list of entries, the newest first; entries, connections and the
 -- runs of words are numbered from 1, and 0 is no number.
 use Rattle.std.specs.Prelude.{◌≡◌, ◌+◌, ◌-◌, ◌≤◌, ◌&&◌, ◌==◌, ℕ, List, [], ◌∷◌, ◌++◌, Bool, true}
-use Rattle.std.specs.Prelude.{false, not, if◌then◌else◌, nat_lt, nat_le, length, map, min, take}
+use Rattle.std.specs.Prelude.{false, not, if◌then◌else◌, nat_lt, nat_le, length, min, take}
 use Rattle.std.specs.Prelude.{drop}
 use Rattle.std.specs.Prelude.{Ok, Err, Result}
 use Rattle.std.specs.List.{flat_map}

@@ -1,5 +1,5 @@
 -- What holds of every history that turns make, read off the definitions alone.
-use Rattle.std.specs.Prelude.{◌≡◌, ◌+◌, ◌==◌, ◌↔◌, ℕ, List, [], ◌∷◌, ◌++◌, Bool, true, false}
+use Rattle.std.specs.Prelude.{◌≡◌, ◌==◌, ◌↔◌, ℕ, List, [], ◌∷◌, ◌++◌, Bool, true, false}
 use Rattle.std.specs.Prelude.{filter, ◌||◌}
 use Rattle.std.specs.Prelude.{take, length, All}
 use Rattle.resp_value.specs.Lists.{IsPrefix}
@@ -20,7 +20,8 @@ GivenIsStream =
     → Turns l [] calls replies past
     → given c calls replies ≡ take (taken l c past) (stream l c past)
 
--- Each request that was answered as run is one entry, in the order of its connection, and no other is.
+-- Each request that was answered as run is one entry, in the order of its connection, and no other
+-- is.
 abbrev pub EachRunOnce : Type 0
 EachRunOnce =
     (l : Limits) (c : ℕ) (calls : List BookCall) (replies : List BookReply) (past : List Entry)

@@ -1,5 +1,5 @@
 -- What a turn of the server answers and adds, and what lists of turns do.
-use Rattle.std.specs.Prelude.{◌≡◌, ◌+◌, ◌<◌, ◌==◌, ℕ, List, [], ◌∷◌, ◌++◌, Bool, true, false}
+use Rattle.std.specs.Prelude.{◌≡◌, ◌+◌, ◌<◌, ◌==◌, ℕ, List, [], ◌∷◌, ◌++◌}
 use Rattle.std.specs.Prelude.{if◌then◌else◌, length, max, take}
 use Rattle.serial_model.specs.declared.history.Limits.{Limits}
 use Rattle.serial_model.specs.declared.history.Entry.{Entry}
@@ -63,7 +63,8 @@ book_step l past Admit = unless_full l past (admitting past)
 book_step l past (Run id words now) =
     if runs_on l past id then unless_full l past (running past id words now) else gone past id
 book_step l past (Take id most) =
-    if gives_on l past id then taking l past id most (take most (unsent l id past)) else gone past id
+    if gives_on l past id then taking l past id most (take most (unsent l id past))
+    else gone past id
 book_step l past (Close id) = if reads_on l past id then closing past id else gone past id
 
 -- the answer is that of a turn that added an entry

@@ -8,7 +8,8 @@ use Rattle.command_words.specs.declared.command.SetWhen.{SetWhen}
 use Rattle.command_words.specs.declared.command.SetLife.{SetLife}
 use Rattle.command_words.specs.declared.command.WordFault.{WordFault}
 use Rattle.command_words.specs.declared.command.WordFault.TheVariants.{Unknown, Arity, Syntax}
-use Rattle.command_words.specs.declared.command.WordFault.TheVariants.{BadNumber, BadExpire, NoMemory}
+use Rattle.command_words.specs.declared.command.WordFault.TheVariants.{BadNumber, BadExpire}
+use Rattle.command_words.specs.declared.command.WordFault.TheVariants.{NoMemory}
 use Rattle.command_words.specs.Words.{IsReading}
 use Rattle.command_words.specs.Space.{Space}
 use Rattle.serial_model.specs.History.{served, effect_of}
@@ -17,7 +18,8 @@ use Rattle.server_book.specs.Plans.{IsPlan}
 
 -- a command that is neither GET nor SET is unknown
 pub not_served : (command : Command) → ((key : List ℕ) → command ≡ Get key → ⊥)
-    → ((key value : List ℕ) (when : SetWhen) (life : SetLife) → command ≡ Set key value when life → ⊥)
+    → ((key value : List ℕ) (when : SetWhen) (life : SetLife) → command ≡ Set key value when life
+    → ⊥)
     → served (Ok command) ≡ Err Unknown
 not_served (Get key) no_get no_set = absurd (no_get key refl)
 not_served (Set key value when life) no_get no_set = absurd (no_set key value when life refl)
@@ -34,7 +36,8 @@ known_fault BadExpire read other h = h
 known_fault NoMemory read other h = absurd (other refl)
 
 -- words that read as no command are none that is served
-pub served_fault : (fault : WordFault) (read : Result Command WordFault) → IsReading (Err fault) read
+pub served_fault : (fault : WordFault) (read : Result Command WordFault)
+    → IsReading (Err fault) read
     → IsReading (Err fault) (served read)
 served_fault Unknown read h = ap served h
 served_fault Arity read h = ap served h
@@ -46,7 +49,8 @@ served_fault NoMemory read h = tt
 -- what holds of each reading that a fault may stand for holds of this one
 pub fault_planned : (r : Result Plan memory.NoMemory) (words : List (List ℕ)) (fault : WordFault)
     (read : Result Command WordFault) (space : Space) (moment : ℕ)
-    → IfOk r (λ p. (read : Result Command WordFault) (s : Space) (m : ℕ) → IsReading (Err fault) read → IsPlan p (effect_of words read s m) s)
+    → IfOk r (λ p. (read : Result Command WordFault) (s : Space) (m : ℕ)
+    → IsReading (Err fault) read → IsPlan p (effect_of words read s m) s)
     → IsReading (Err fault) read → IfOk r (λ p. IsPlan p (effect_of words read space moment) space)
 fault_planned (Ok p) words fault read space moment h e = h read space moment e
 fault_planned (Err none) words fault read space moment h e = h

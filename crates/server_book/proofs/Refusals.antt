@@ -1,9 +1,8 @@
 -- The answers to calls that add no entry, in their order.
-use Rattle.std.proofs.Common.{◌≡◌, ◌+◌, ◌<◌, ℕ, List, [], ◌∷◌, true, false, cond, Option, Some, None, length, take}
+use Rattle.std.proofs.Common.{◌≡◌, ◌+◌, ◌<◌, ℕ, List, [], ◌∷◌, true, false, cond, Option, Some}
+use Rattle.std.proofs.Common.{None, length, take}
 use Rattle.std.proofs.Common.{sym, ap, subst, ◌∙◌, refl, arith}
 use Prim.Native.Nat.{zero, suc}
-use Rattle.serial_model.specs.declared.history.Limits.{Limits}
-use Rattle.serial_model.specs.declared.history.Entry.{Entry}
 use Rattle.serial_model.specs.declared.history.Entry.TheVariants as entry
 use Rattle.serial_model.specs.declared.history.BookCall.{BookCall}
 use Rattle.serial_model.specs.declared.history.BookCall.TheVariants.{Admit, Run, Take, Close}
@@ -11,31 +10,42 @@ use Rattle.serial_model.specs.declared.history.BookReply.{BookReply}
 use Rattle.serial_model.specs.declared.history.BookReply.TheVariants.{Quiet, Bytes, Refused}
 use Rattle.serial_model.specs.declared.history.BookRefusal.TheVariants.{Gone}
 use Rattle.serial_model.specs.History.{runs_on, gives_on, reads_on, unsent, is_full}
-use Rattle.serial_model.specs.Steps.{Turn, full, unless_full, admitting, running, taking, closing, gone}
+use Rattle.serial_model.specs.Steps.{Turn, full, unless_full, admitting, running, taking, closing}
+use Rattle.serial_model.specs.Steps.{gone}
 use Rattle.serial_model.specs.Steps.{book_step, BookStep, AddsEntry, IsCallable}
 use Rattle.server_book.specs.BookState.{BookState, IsAccepted, IsFullAnswer, IsRefusal, posts_after}
 
 -- a call that would add an entry, once its other questions are answered
-module _ (b : BookState) (call : BookCall) (turn : Turn) (is : book_step b.limits b.past call ≡ unless_full b.limits b.past turn) where
-  pub by_limit : (r : Option BookReply) → (is_full b.limits b.past ≡ false → IsAccepted b.limits b.past call)
+module _ (b : BookState) (call : BookCall) (turn : Turn) (is : book_step b.limits b.past call
+    ≡ unless_full b.limits b.past turn) where
+  pub by_limit : (r : Option BookReply) → (is_full b.limits b.past ≡ false
+      → IsAccepted b.limits b.past call)
       → IsFullAnswer b r → IsRefusal b call r
   by_limit None accepted h = accepted h
   by_limit (Some reply) accepted h =
-      subst (λ r. BookStep b.limits b.past call r b.past × (posts_after b.limits r b.past ≡ [])) (sym h.1)
+      subst (λ r. BookStep b.limits b.past call r b.past
+      × (posts_after b.limits r b.past ≡ [])) (sym h.1)
       (is ∙ ap (λ v. cond v (full b.past) turn) h.0, refl)
 
 taking_some : (b : BookState) (id most : ℕ) (bytes : List ℕ) → 0 < length bytes
     → (turn : Turn) × (taking b.limits b.past id most bytes ≡ unless_full b.limits b.past turn)
 taking_some b id most [] h = absurd (omega arith)
-taking_some b id most (byte ∷ bytes) h =
-    (record { reply = Bytes (length b.past + 1) (byte ∷ bytes); past = entry.Take id most ∷ b.past }, refl)
+taking_some b id most (byte ∷ bytes) h = (
+  record {
+    reply = Bytes (length b.past + 1) (byte ∷ bytes);
+    past = entry.Take id most ∷ b.past;
+  },
+  refl,
+)
 
-pub take_some : (most : ℕ) (bytes : List ℕ) → 0 < most → 0 < length bytes → 0 < length (take most bytes)
+pub take_some : (most : ℕ) (bytes : List ℕ) → 0 < most → 0 < length bytes
+    → 0 < length (take most bytes)
 take_some zero bytes m h = absurd (omega arith)
 take_some (suc most) [] m h = absurd (omega arith)
 take_some (suc most) (b ∷ bytes) m h = omega arith
 
-pub takes_some : (most : ℕ) (bytes : List ℕ) → 0 < most → 0 < length bytes → take most bytes ≡ [] → ⊥
+pub takes_some : (most : ℕ) (bytes : List ℕ) → 0 < most → 0 < length bytes → take most bytes ≡ []
+    → ⊥
 takes_some most bytes m h e =
     let some : 0 < length (take most bytes) = take_some most bytes m h in
     let none : length (take most bytes) ≡ 0 = ap length e in
@@ -51,26 +61,33 @@ module _ (b : BookState) where
   unfolding book_step
   admit_refusal r h = by_limit b Admit (admitting b.past) refl r (λ room. room) h
 
-  pub run_refusal : (id now : ℕ) (words : List (List ℕ)) (r : Option BookReply) → runs_on b.limits b.past id ≡ true
+  pub run_refusal : (id now : ℕ) (words : List (List ℕ)) (r : Option BookReply)
+      → runs_on b.limits b.past id ≡ true
       → IsFullAnswer b r → IsRefusal b (Run id words now) r
   unfolding book_step
   run_refusal id now words r on h =
       by_limit b (Run id words now) (running b.past id words now)
-      (ap (λ v. cond v (unless_full b.limits b.past (running b.past id words now)) (gone b.past id)) on) r (λ room. (on, room)) h
+      (ap (λ v. cond v (unless_full b.limits b.past (running b.past id words now)) (gone b.past id))
+      on) r (λ room. (on, room)) h
 
   take_step : (id most : ℕ) → gives_on b.limits b.past id ≡ true
-      → book_step b.limits b.past (Take id most) ≡ taking b.limits b.past id most (take most (unsent b.limits id b.past))
+      → book_step b.limits b.past (Take id most)
+      ≡ taking b.limits b.past id most (take most (unsent b.limits id b.past))
   unfolding book_step
   take_step id most on =
-      ap (λ v. cond v (taking b.limits b.past id most (take most (unsent b.limits id b.past))) (gone b.past id)) on
+      ap (λ v. cond v (taking b.limits b.past id most (take most (unsent b.limits id b.past)))
+      (gone b.past id)) on
 
-  pub take_refusal : (id most : ℕ) (r : Option BookReply) → gives_on b.limits b.past id ≡ true → 0 < most
+  pub take_refusal : (id most : ℕ) (r : Option BookReply) → gives_on b.limits b.past id ≡ true
+      → 0 < most
       → 0 < length (unsent b.limits id b.past) → IsFullAnswer b r → IsRefusal b (Take id most) r
   take_refusal id most r on m some h =
-      let t = taking_some b id most (take most (unsent b.limits id b.past)) (take_some most _ m some) in
+      let t = taking_some b id most (take most (unsent b.limits id b.past))
+      (take_some most _ m some) in
       by_limit b (Take id most) t.0 (take_step id most on ∙ t.1) r (λ room. (on, room, some)) h
 
-  pub take_quiet : (id most : ℕ) → gives_on b.limits b.past id ≡ true → length (unsent b.limits id b.past) ≡ 0
+  pub take_quiet : (id most : ℕ) → gives_on b.limits b.past id ≡ true
+      → length (unsent b.limits id b.past) ≡ 0
       → IsRefusal b (Take id most) (Some Quiet)
   take_quiet id most on none =
       (take_step id most on ∙ ap (taking b.limits b.past id most) (take_none most _ none), refl)
@@ -78,15 +95,23 @@ module _ (b : BookState) where
   pub run_gone : (id now : ℕ) (words : List (List ℕ)) → runs_on b.limits b.past id ≡ false
       → IsRefusal b (Run id words now) (Some (Refused (Gone id)))
   unfolding book_step
-  run_gone id now words off =
-      (ap (λ v. cond v (unless_full b.limits b.past (running b.past id words now)) (gone b.past id)) off, refl)
+  run_gone id now words off = (
+    ap (λ v. cond v (unless_full b.limits b.past (running b.past id words now)) (gone b.past id))
+        off,
+    refl,
+  )
 
-  pub take_gone : (id most : ℕ) → gives_on b.limits b.past id ≡ false → IsRefusal b (Take id most) (Some (Refused (Gone id)))
+  pub take_gone : (id most : ℕ) → gives_on b.limits b.past id ≡ false
+      → IsRefusal b (Take id most) (Some (Refused (Gone id)))
   unfolding book_step
-  take_gone id most off =
-      (ap (λ v. cond v (taking b.limits b.past id most (take most (unsent b.limits id b.past))) (gone b.past id)) off, refl)
+  take_gone id most off = (
+    ap (λ v. cond v (taking b.limits b.past id most (take most (unsent b.limits id b.past)))
+        (gone b.past id)) off,
+    refl,
+  )
 
-  pub close_gone : (id : ℕ) → reads_on b.limits b.past id ≡ false → IsRefusal b (Close id) (Some (Refused (Gone id)))
+  pub close_gone : (id : ℕ) → reads_on b.limits b.past id ≡ false
+      → IsRefusal b (Close id) (Some (Refused (Gone id)))
   unfolding book_step
   close_gone id off = (ap (λ v. cond v (closing b.past id) (gone b.past id)) off, refl)
 
@@ -94,19 +119,28 @@ module _ (b : BookState) where
       → AddsEntry (taking b.limits b.past id most bytes).reply
   adds_taken id most [] h room = absurd (omega arith)
   adds_taken id most (byte ∷ bytes) h room =
-      subst (λ v. AddsEntry (cond v (full b.past) (record { reply = Bytes (length b.past + 1) (byte ∷ bytes); past = entry.Take id most ∷ b.past })).reply) (sym room) tt
+      subst (λ v. AddsEntry (cond v (full b.past)
+      (record {
+        reply = Bytes (length b.past + 1) (byte ∷ bytes);
+        past = entry.Take id
+            most ∷ b.past;
+      })).reply) (sym room) tt
 
   -- a call that is accepted adds an entry
   pub accepted_adds : (call : BookCall) → IsCallable call → IsAccepted b.limits b.past call
       → AddsEntry (book_step b.limits b.past call).reply
   unfolding book_step
-  accepted_adds Admit m h = subst (λ v. AddsEntry (cond v (full b.past) (admitting b.past)).reply) (sym h) tt
+  accepted_adds Admit m h =
+      subst (λ v. AddsEntry (cond v (full b.past) (admitting b.past)).reply) (sym h) tt
   accepted_adds (Run id words now) m h =
       let t = running b.past id words now in
-      subst (λ v. AddsEntry (cond v (unless_full b.limits b.past t) (gone b.past id)).reply) (sym h.0)
+      subst (λ v. AddsEntry (cond v (unless_full b.limits b.past t) (gone b.past id)).reply)
+      (sym h.0)
       (subst (λ v. AddsEntry (cond v (full b.past) t).reply) (sym h.1) tt)
   accepted_adds (Take id most) m h =
       let bytes = take most (unsent b.limits id b.past) in
-      subst (λ v. AddsEntry (cond v (taking b.limits b.past id most bytes) (gone b.past id)).reply) (sym h.0)
+      subst (λ v. AddsEntry (cond v (taking b.limits b.past id most bytes) (gone b.past id)).reply)
+      (sym h.0)
       (adds_taken id most bytes (take_some most _ m h.2) h.1)
-  accepted_adds (Close id) m h = subst (λ v. AddsEntry (cond v (closing b.past id) (gone b.past id)).reply) (sym h) tt
+  accepted_adds (Close id) m h =
+      subst (λ v. AddsEntry (cond v (closing b.past id) (gone b.past id)).reply) (sym h) tt

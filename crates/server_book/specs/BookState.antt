@@ -10,7 +10,8 @@ use Rattle.serial_model.specs.declared.history.BookCall.TheVariants.{Admit, Run,
 use Rattle.serial_model.specs.declared.history.BookReply.{BookReply}
 use Rattle.serial_model.specs.declared.history.BookReply.TheVariants.{Admitted, Ran, Quiet, Bytes}
 use Rattle.serial_model.specs.declared.history.BookReply.TheVariants.{Closed, Refused}
-use Rattle.serial_model.specs.History.{admitted, has_ended, keyspace, unsent, posted, IsLegal, runs_on}
+use Rattle.serial_model.specs.History.{admitted, has_ended, keyspace, unsent, posted, IsLegal}
+use Rattle.serial_model.specs.History.{runs_on}
 use Rattle.serial_model.specs.History.{gives_on, reads_on, is_full}
 use Rattle.serial_model.specs.Steps.{BookStep, full}
 use Rattle.server_book.specs.declared.connections.Connection.{Connection}
@@ -37,7 +38,8 @@ abbrev pub connection_of : Limits → List Entry → ℕ → Connection
 connection_of l past id = record { queue = unsent l id past; ended = has_ended l id past }
 
 -- the history is legal, and the keyspace and the connections are those of it
-pub record Agrees (l : Limits) (past : List Entry) (space : Space) (connections : List Connection) : Type 0 where
+pub record Agrees (l : Limits) (past : List Entry) (space : Space)
+    (connections : List Connection) : Type 0 where
   pub legal : IsLegal l past
   pub space_is : space ≡ keyspace past
   pub count : length connections ≡ admitted past
@@ -48,7 +50,8 @@ pub record HasRoom (room posts : ℕ) (connections : List Connection) : Type 0 w
   pub for_closes : count_by is_open connections ≤ room
   pub for_posts : 1 ≤ posts
 
-pub record BookInvariant (l : Limits) (log : LogState) (space : Space) (connections : List Connection) (posts : ℕ) : Type 0 where
+pub record IsBook (l : Limits) (log : LogState) (space : Space)
+    (connections : List Connection) (posts : ℕ) : Type 0 where
   pub agrees : Agrees l log.past space connections
   pub room : HasRoom log.room posts connections
 
@@ -72,7 +75,8 @@ IsRefusal b call (Some reply) =
     BookStep b.limits b.past call reply b.past × (posts_after b.limits reply b.past ≡ [])
 
 -- the turn is the step, and sends its posts
-pub record IsTurn (old : BookState) (call : BookCall) (reply : BookReply) (new : BookState) : Type 0 where
-  pub limits : new.limits ≡ old.limits
-  pub step : BookStep old.limits old.past call reply new.past
-  pub posts : new.posts ≡ posts_after old.limits reply new.past
+pub record IsTurn (old : BookState) (call : BookCall) (reply : BookReply) (new : BookState) : Type 0
+  where
+    pub limits : new.limits ≡ old.limits
+    pub step : BookStep old.limits old.past call reply new.past
+    pub posts : new.posts ≡ posts_after old.limits reply new.past

@@ -1,5 +1,6 @@
 -- Connections by their ids, which begin at 1.
-use Rattle.std.specs.Prelude.{◌-◌, ◌<◌, ◌≤◌, ◌&&◌, ℕ, List, [], Bool, false, not, nat_lt, nat_le, length}
+use Rattle.std.specs.Prelude.{◌-◌, ◌<◌, ◌≤◌, ◌&&◌, ℕ, List, [], Bool, false, not, nat_lt, nat_le}
+use Rattle.std.specs.Prelude.{length}
 use Rattle.std.specs.Prelude.{slice_index_or, slice_set}
 use Rattle.server_book.specs.declared.connections.Connection.{Connection}
 

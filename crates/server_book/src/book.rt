@@ -2,10 +2,12 @@
 ghost use Rattle.std.specs.Prelude.{◌≡◌, ◌<◌, [], true, IfOk, OnErr, length};
 ghost use Rattle.std.specs.Prelude.{reverse};
 ghost use Rattle.serial_model.specs.declared.history.BookCall.TheVariants as call;
-ghost use Rattle.serial_model.specs.History.{IsLegal, gives_on, is_full, protocol, reads_on, runs_on};
+ghost use Rattle.serial_model.specs.History.{IsLegal, gives_on, is_full, protocol, reads_on};
+ghost use Rattle.serial_model.specs.History.{runs_on};
 ghost use Rattle.serial_model.specs.History.{unsent};
 ghost use Rattle.serial_model.specs.Steps.{AreValid, BookStep, IsCallable};
-ghost use Rattle.server_book.specs.BookState.{IsAccepted, IsFullAnswer, IsRefusal, IsTurn, posts_after};
+ghost use Rattle.server_book.specs.BookState.{IsAccepted, IsFullAnswer, IsRefusal, IsTurn};
+ghost use Rattle.server_book.specs.BookState.{posts_after};
 
 use super::connections::Connections;
 use super::keyspace::Keyspace;
@@ -30,13 +32,13 @@ pub struct Book {
 
 impl Model for Book {
     ghost use Rattle.std.specs.Prelude.{vec_capacity};
-    ghost use Rattle.server_book.specs.BookState.{BookInvariant, BookState};
+    ghost use Rattle.server_book.specs.BookState.{IsBook, BookState};
 
     ghost Value = { BookState };
 
     ghost view = { λ b. record { limits = b.limits; past = b.log.past; posts = b.posts.items } };
 
-    ghost invariant = { λ b. BookInvariant b.limits b.log b.space b.connections (vec_capacity b.posts) };
+    ghost invariant = { λ b. IsBook b.limits b.log b.space b.connections (vec_capacity b.posts) };
 }
 
 impl Book {

@@ -1,6 +1,8 @@
 //! What the server keeps of its connections, by their ids.
-ghost use Rattle.std.specs.Prelude.{◌≡◌, ◌++◌, ◌∷◌, [], ◌+◌, ◌^◌, ◌<◌, ◌≤◌, true, false, OnOk, OnErr, IfOk, length, take, drop};
-ghost use Rattle.server_book.specs.Connections.{IsId, connection_at, fresh, is_live, with_connection};
+ghost use Rattle.std.specs.Prelude.{◌≡◌, ◌++◌, ◌∷◌, [], ◌+◌, ◌^◌, ◌<◌, ◌≤◌, true, false, OnOk};
+ghost use Rattle.std.specs.Prelude.{OnErr, IfOk, length, take, drop};
+ghost use Rattle.server_book.specs.Connections.{IsId, connection_at, fresh, is_live};
+ghost use Rattle.server_book.specs.Connections.{with_connection};
 
 use byte_queue::ByteQueue;
 use resp_value::{NoMemory, Octets};

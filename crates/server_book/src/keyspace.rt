@@ -18,6 +18,7 @@ pub struct Keyspace {
 impl Model for Keyspace {
     ghost use Rattle.std.specs.Prelude.{map};
     ghost use Rattle.std.specs.FinMap as finite;
+    ghost use Rattle.std.specs.FinMap.{from_entries};
     ghost use Rattle.std.specs.Coded.{coded_list, coded_ℕ};
     ghost use Rattle.command_words.specs.Space.{Space, held_code};
     ghost use Rattle.server_book.specs.Texts.{held_text};
@@ -26,7 +27,7 @@ impl Model for Keyspace {
 
     ghost coded = { finite.code (coded_list coded_ℕ) held_code };
 
-    ghost view = { λ s. finite.from_entries (map (λ p. (p.0.items, held_text p.1)) s.table.entries) };
+    ghost view = { λ s. from_entries (map (λ p. (p.0.items, held_text p.1)) s.table.entries) };
 }
 
 impl Keyspace {

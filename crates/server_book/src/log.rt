@@ -23,7 +23,10 @@ impl Model for Log {
 
     ghost Value = { LogState };
 
-    ghost view = { λ g. record { past = reverse g.entries.items; room = vec_capacity g.entries - vec_len g.entries } };
+    ghost view = { λ g. record {
+      past = reverse g.entries.items;
+      room = vec_capacity g.entries - vec_len g.entries;
+    } };
 
     ghost invariant = { λ g. g.moment ≡ latest (reverse g.entries.items) };
 }

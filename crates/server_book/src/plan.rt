@@ -48,7 +48,6 @@ fn is_plain(when: SetWhen, life: SetLife) -> bool
 }
 
 // The plan of words that read as a command.
-#[tactic(auto, unfolding(command_words::specs::Effects::effect, command_words::specs::Effects::string_effect))]
 fn plan_command(
     alloc: Global,
     space: &Keyspace,
@@ -56,7 +55,8 @@ fn plan_command(
     command: &Command,
     moment: u64,
 ) -> Result<Plan, NoMemory>
-    ensures { IfOk result (λ p. IsPlan p (effect_of words.now (served (Ok command.now)) space.now moment) space.now) }
+    ensures { IfOk result (λ p.
+        IsPlan p (effect_of words.now (served (Ok command.now)) space.now moment) space.now) }
 {
     match command {
         Command::Get(key) => {

@@ -1,14 +1,13 @@
-use Rattle.std.proofs.Common.{◌≡◌, ◌+◌, ◌≤◌, ◌<◌, ◌++◌, ◌∷◌, [], length, take, false, sym, ap, subst, ◌∙◌, arith, max, drop, true}
+use Rattle.std.proofs.Common.{◌+◌, ◌∷◌, sym, ap}
+use Rattle.std.proofs.Common.{subst, ◌∙◌, arith}
 use Rattle.serial_model.specs.declared.history.Entry.TheVariants as entry
-use Rattle.serial_model.specs.declared.history.BookCall.TheVariants.{Admit, Run, Take, Close}
-use Rattle.serial_model.specs.History.{spelled, protocol, ran_over, runs_on, latest, unsent}
-use Rattle.server_book.specs.Connections.{IsId, fresh}
-use Rattle.server_book.specs.BookState.{BookState, Agrees, IsAccepted}
-use Rattle.server_book.proofs.BookTurns.{is_id, kept_of, live_at, taken_back, is_turn}
-use Rattle.server_book.proofs.BookTurns.{agrees_admit, agrees_run, agrees_take, agrees_close}
-use Rattle.server_book.proofs.BookTurns.{room_more, room_admit, room_close, room_there}
-use Rattle.server_book.proofs.BookTurns.{admit_turned, run_turned, take_turned, close_turned}
-use Rattle.server_book.proofs.BookTurns.{posted_admit, posted_run, posted_take, posted_close}
+use Rattle.serial_model.specs.declared.history.BookCall.TheVariants.{Admit}
+use Rattle.server_book.specs.BookState.{BookState, IsAccepted}
+use Rattle.server_book.proofs.BookTurns.{is_turn}
+use Rattle.server_book.proofs.BookTurns.{agrees_admit}
+use Rattle.server_book.proofs.BookTurns.{room_admit}
+use Rattle.server_book.proofs.BookTurns.{admit_turned}
+use Rattle.server_book.proofs.BookTurns.{posted_admit}
 use Rattle.server_book.proofs.book.Book.admit.Goals as goal
 
 pub invariant_of-self-2 : goal.invariant_of-self-2
@@ -16,15 +15,18 @@ invariant_of-self-2 c =
     let i = c.self.inside in
     let k = c.self.invariant.agrees in
     let past = i.log.past in
-    let room = subst (λ (b : BookState). IsAccepted b.limits b.past Admit) (sym c.self.view_is) c.requires.accepted in
+    let room = subst (λ (b : BookState). IsAccepted b.limits b.past Admit) (sym c.self.view_is)
+    c.requires.accepted in
     let e = entry.Admit (c.count.result + 1) in
     let grown = c.push.ensures.past ∙ ap (λ p. e ∷ p) c.reserve.ensures.past in
     record {
       agrees = rw (grown, c.in_ok-admit.ensures.ok)
-          (agrees_admit i.limits past i.space i.connections k (c.count.result + 1) (omega (arith, c.count.ensures.count)) room);
+          (agrees_admit i.limits past i.space i.connections k (c.count.result + 1)
+          (omega (arith, c.count.ensures.count)) room);
       room = rw c.in_ok-admit.ensures.ok
           (room_admit c.push.new.self.room _ i.connections
-          (omega (arith, c.in_ok-reserve.ensures.ok, c.push.ensures.room, c.count-2.ensures.count)) c.self.invariant.room.for_posts);
+          (omega (arith, c.in_ok-reserve.ensures.ok, c.push.ensures.room, c.count-2.ensures.count))
+          c.self.invariant.room.for_posts);
     }
 
 pub returns-clause-ok : goal.returns-clause-ok
@@ -32,9 +34,13 @@ returns-clause-ok c =
     let i = c.self.inside in
     let k = c.self.invariant.agrees in
     let past = i.log.past in
-    let room = subst (λ (b : BookState). IsAccepted b.limits b.past Admit) (sym c.self.view_is) c.requires.accepted in
+    let room = subst (λ (b : BookState). IsAccepted b.limits b.past Admit) (sym c.self.view_is)
+    c.requires.accepted in
     let id = c.count.result + 1 in
-    is_turn c.args.self.now i.limits past c.push.new.self.past i.posts.items i.posts.items (entry.Admit id) Admit _ c.self.view_is tt
+    is_turn c.args.self.now i.limits past c.push.new.self.past i.posts.items i.posts.items
+    (entry.Admit id) Admit _ c.self.view_is tt
     (c.push.ensures.past ∙ ap (λ p. entry.Admit id ∷ p) c.reserve.ensures.past)
-    (admit_turned i.limits past c.len-entry.result id room c.len-entry.ensures.len (omega (arith, c.count.ensures.count, k.count)))
-    (ap (λ (b : BookState). b.posts) c.self.view_is ∙ c.requires.none ∙ posted_admit i.limits past id)
+    (admit_turned i.limits past c.len-entry.result id room c.len-entry.ensures.len
+    (omega (arith, c.count.ensures.count, k.count)))
+    (ap (λ (b : BookState). b.posts) c.self.view_is ∙ c.requires.none
+    ∙ posted_admit i.limits past id)

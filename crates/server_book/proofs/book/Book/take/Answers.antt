@@ -1,14 +1,13 @@
-use Rattle.std.proofs.Common.{◌≡◌, ◌+◌, ◌≤◌, ◌<◌, ◌++◌, ◌∷◌, [], length, take, false, sym, ap, subst, ◌∙◌, arith, max, drop, true}
+use Rattle.std.proofs.Common.{◌≡◌, ◌∷◌, length, take, sym, ap}
+use Rattle.std.proofs.Common.{subst, ◌∙◌, arith}
 use Rattle.serial_model.specs.declared.history.Entry.TheVariants as entry
-use Rattle.serial_model.specs.declared.history.BookCall.TheVariants.{Admit, Run, Take, Close}
-use Rattle.serial_model.specs.History.{spelled, protocol, ran_over, runs_on, latest, unsent}
-use Rattle.server_book.specs.Connections.{IsId, fresh}
-use Rattle.server_book.specs.BookState.{BookState, Agrees, IsAccepted}
-use Rattle.server_book.proofs.BookTurns.{is_id, kept_of, live_at, taken_back, is_turn}
-use Rattle.server_book.proofs.BookTurns.{agrees_admit, agrees_run, agrees_take, agrees_close}
-use Rattle.server_book.proofs.BookTurns.{room_more, room_admit, room_close, room_there}
-use Rattle.server_book.proofs.BookTurns.{admit_turned, run_turned, take_turned, close_turned}
-use Rattle.server_book.proofs.BookTurns.{posted_admit, posted_run, posted_take, posted_close}
+use Rattle.serial_model.specs.declared.history.BookCall.TheVariants.{Take}
+use Rattle.server_book.specs.BookState.{BookState, IsAccepted}
+use Rattle.server_book.proofs.BookTurns.{kept_of, is_turn}
+use Rattle.server_book.proofs.BookTurns.{agrees_take}
+use Rattle.server_book.proofs.BookTurns.{room_more}
+use Rattle.server_book.proofs.BookTurns.{take_turned}
+use Rattle.server_book.proofs.BookTurns.{posted_take}
 use Rattle.server_book.proofs.Refusals.{take_some, takes_some}
 use Rattle.server_book.proofs.book.Book.take.Goals as goal
 
@@ -17,14 +16,18 @@ invariant_of-self-2 c =
     let i = c.self.inside in
     let k = c.self.invariant.agrees in
     let past = i.log.past in
-    let acc = subst (λ (b : BookState). IsAccepted b.limits b.past (Take c.args.id c.args.most)) (sym c.self.view_is) c.requires.accepted in
+    let acc = subst (λ (b : BookState). IsAccepted b.limits b.past (Take c.args.id c.args.most))
+    (sym c.self.view_is) c.requires.accepted in
     let e = entry.Take c.args.id c.args.most in
     let grown = c.push.ensures.past ∙ ap (λ p. e ∷ p) c.reserve.ensures.past in
     record {
       agrees = rw (grown, c.advance.ensures)
-          (agrees_take i.limits past i.space i.connections k c.args.id c.args.most acc.0 acc.1 (takes_some c.args.most _ c.requires.most acc.2));
-      room = room_more c.push.new.self.room _ c.args.id i.connections c.advance.new.self _ c.advance.ensures
-          (omega (arith, c.in_ok-reserve.ensures.ok, c.push.ensures.room, c.count.ensures.count)) c.self.invariant.room.for_posts;
+          (agrees_take i.limits past i.space i.connections k c.args.id c.args.most acc.0 acc.1
+          (takes_some c.args.most _ c.requires.most acc.2));
+      room = room_more c.push.new.self.room _ c.args.id i.connections c.advance.new.self _
+          c.advance.ensures
+          (omega (arith, c.in_ok-reserve.ensures.ok, c.push.ensures.room, c.count.ensures.count))
+          c.self.invariant.room.for_posts;
     }
 
 pub returns-clause-ok : goal.returns-clause-ok
@@ -32,12 +35,19 @@ returns-clause-ok c =
     let i = c.self.inside in
     let k = c.self.invariant.agrees in
     let past = i.log.past in
-    let acc = subst (λ (b : BookState). IsAccepted b.limits b.past (Take c.args.id c.args.most)) (sym c.self.view_is) c.requires.accepted in
+    let acc = subst (λ (b : BookState). IsAccepted b.limits b.past (Take c.args.id c.args.most))
+    (sym c.self.view_is) c.requires.accepted in
     let e = entry.Take c.args.id c.args.most in
-    let n : c.len-entry.result ≡ length past = c.len-entry.ensures.len ∙ ap length c.reserve.ensures.past in
-    let front = c.in_ok-bytes.ensures ∙ ap (λ x. take c.args.most x.queue) (kept_of i.limits past i.space i.connections k c.args.id acc.0) in
-    is_turn c.args.self.now i.limits past c.push.new.self.past i.posts.items i.posts.items e (Take c.args.id c.args.most) _ c.self.view_is tt
+    let n : c.len-entry.result ≡ length past =
+    c.len-entry.ensures.len ∙ ap length c.reserve.ensures.past in
+    let front = c.in_ok-bytes.ensures
+    ∙ ap (λ x. take c.args.most x.queue) (kept_of i.limits past i.space i.connections k
+    c.args.id acc.0) in
+    is_turn c.args.self.now i.limits past c.push.new.self.past i.posts.items i.posts.items e
+    (Take c.args.id c.args.most) _ c.self.view_is tt
     (c.push.ensures.past ∙ ap (λ p. e ∷ p) c.reserve.ensures.past)
-    (take_turned i.limits past c.args.id c.args.most c.len-entry.result c.in_ok-bytes.bytes acc.0 acc.1 n front
+    (take_turned i.limits past c.args.id c.args.most c.len-entry.result c.in_ok-bytes.bytes acc.0
+    acc.1 n front
     (rw front (take_some c.args.most _ c.requires.most acc.2)))
-    (ap (λ (b : BookState). b.posts) c.self.view_is ∙ c.requires.none ∙ posted_take i.limits past c.args.id c.args.most)
+    (ap (λ (b : BookState). b.posts) c.self.view_is ∙ c.requires.none
+    ∙ posted_take i.limits past c.args.id c.args.most)

@@ -1,4 +1,4 @@
-use Rattle.std.proofs.Common.{◌≡◌, [], subst, rules}
+use Rattle.std.proofs.Common.{[], subst, rules}
 use Rattle.serial_model.specs.Steps.{AddsEntry, book_step}
 use Rattle.server_book.specs.BookState.{BookState}
 use Rattle.server_book.proofs.Refusals.{accepted_adds}
@@ -9,7 +9,8 @@ pub returns-in-Err-clause-step : goal.returns-in-Err-clause-step
 returns-in-Err-clause-step c =
     let i = c.self.inside in
     let b : BookState = record { limits = i.limits; past = i.log.past; posts = [] } in
-    let adds = subst (λ (x : BookState). AddsEntry (book_step x.limits x.past c.args.call).reply) c.self.view_is
+    let adds = subst (λ (x : BookState). AddsEntry (book_step x.limits x.past c.args.call).reply)
+    c.self.view_is
     (accepted_adds b c.args.call c.requires c.in_default.ensures) in
     elim c.match-call-2.branch [
       | in-Admit w ↦ (search rules, adds, rw w.in-Admit.is tt)
