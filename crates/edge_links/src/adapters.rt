@@ -24,7 +24,8 @@ pub struct ReaderSource<R: Read + Drop> {
 
 impl<R: Read + Drop> ReaderSource<R> {
     pub fn new(alloc: Global, reader: R) -> Result<Self, NoMemory>
-        ensures bytes { IfOk result (λ s. ⟦<ReaderSource<R> as Source>⟧.left s ≡ R.remaining reader) }
+        ensures bytes { IfOk result
+            (λ s. ⟦<ReaderSource<R> as Source>⟧.left s ≡ R.remaining reader) }
         ensures counts { IfOk result (λ s. ⟦<ReaderSource<R> as Source>⟧.counts s ≡ nought) }
     {
         match BufReader::with_capacity(alloc, PIECE, reader) {

@@ -49,7 +49,8 @@ impl Source for MemorySource {
 
     fn read(&mut self, buf: &mut [u8]) -> SourceRead
         requires { 0 < length buf.old }
-        ensures bytes { ReadGives result (Some (bytes_left self.old)) (Some (bytes_left self.new)) buf.new }
+        ensures bytes { ReadGives result
+            (Some (bytes_left self.old)) (Some (bytes_left self.new)) buf.new }
         ensures counts { ReadCounts result self.old.counts self.new.counts }
         ensures answer { result ≡ read_answer self.old (length buf.old) }
         ensures made { reads_made self.new ≡ next_call (reads_made self.old) }
@@ -126,7 +127,8 @@ impl Sink for MemorySink {
 
     fn write(&mut self, bytes: &[u8]) -> Wrote
         requires { 0 < length bytes.now }
-        ensures bytes { WriteTakes result (Some (bytes_written self.old)) (Some (bytes_written self.new)) bytes.now }
+        ensures bytes { WriteTakes result
+            (Some (bytes_written self.old)) (Some (bytes_written self.new)) bytes.now }
         ensures counts { WriteCounts result self.old.counts self.new.counts }
         ensures answer { result ≡ write_answer self.old (length bytes.now) }
         ensures room { room_of self.new ≡ room_of self.old }

@@ -1,86 +1,89 @@
 //! Threads that raise a register, under the turn lock and under a mutex.
 ghost use Rattle.std.specs.Thread.{IsSync};
-ghost use Rattle.std.specs.Prelude.{◌≡◌, ℕ, ◌+◌, ◌*◌, ◌%◌, ◌^◌, ◌≤◌, true, length, Some, IfOk, IfSome, OnOk};
+ghost use Rattle.std.specs.Prelude.{◌≡◌, ◌*◌, ◌≤◌, min, IfOk};
+ghost use Rattle.lock_bench.specs.Register.{RaisedBy};
 
 use crate::register::{Ask, Register};
 use std::alloc::Global;
 use std::sync::{Mutex, Wait};
 use std::thread::{Threads, join};
-use turn_lock::{Logged, NoMemory, Seat, TurnLock, Worn};
+use turn_lock::{Closed, LAST_TICKET, Logged, NoMemory, Seat, TurnLock};
 
-/// Plays that many turns.
+/// Plays that many turns, or fewer where no ticket is left.
 pub fn play_turns<R: Wait>(
     rt: &R,
     lock: &TurnLock<Register>,
-    seat: &mut Seat<Register>,
+    mut seat: Seat<Register>,
     turns: u64,
-) -> Result<(), Worn>
-    requires seat { seat.old.lock ≡ lock.now }
-    ensures same { (seat.new.lock ≡ seat.old.lock) × (seat.new.setup ≡ seat.old.setup) × (seat.new.parts ≡ seat.old.parts) }
-    ensures own { OnOk result (length seat.new.own ≡ length seat.old.own + turns) }
+) -> Seat<Register>
+    requires seat { seat.lock ≡ lock.now }
+    ensures { RaisedBy turns seat result }
 {
     for _ in 0..turns {
-        lock.play(rt, seat, Ask::Raise)?;
+        match lock.play(rt, &mut seat, Ask::Raise) {
+            Ok(_) => {}
+            Err(_) => break,
+        }
     }
-    Ok(())
+    seat
 }
 
-/// That many threads play that many turns each. False where the lock was worn.
+/// That many threads play that many turns each, or fewer where no ticket is left.
 pub fn play_in_threads<R: Threads + Wait + Sync>(
     rt: &R,
     lock: &TurnLock<Register>,
     mut seat: Seat<Register>,
     threads: u64,
     turns: u64,
-) -> (Seat<Register>, bool)
+) -> Seat<Register>
     requires seat { seat.lock ≡ lock.now }
     requires threads { (1 ≤ threads) × (threads ≤ seat.parts) }
-    ensures same { (result.0.lock ≡ lock.now) × (result.0.setup ≡ seat.setup) × (result.0.parts ≡ seat.parts) }
-    ensures own { result.1 ≡ true → length result.0.own ≡ length seat.own + threads * turns }
+    ensures { RaisedBy (threads * turns) seat result }
 {
     if threads == 1 {
-        let all = play_turns(rt, lock, &mut seat, turns).is_ok();
-        return (seat, all);
+        return play_turns(rt, lock, seat, turns);
     }
-    let theirs = threads / 2;
-    let ours = threads - theirs;
-    let other = lock.split(&mut seat, theirs);
-    let (mine, others) = join(
+    let others = threads - 1;
+    let other = lock.split(&mut seat, others);
+    let (mut mine, theirs) = join(
         rt,
-        || -> (Seat<Register>, bool)
-            requires { IsSync R.row × (seat.lock ≡ lock.now) × (1 ≤ ours) × (ours ≤ seat.parts) }
-            ensures { (result.0.lock ≡ lock.entry.now) × (result.0.setup ≡ seat.setup) × (result.0.parts ≡ seat.parts) × (result.1 ≡ true → length result.0.own ≡ length seat.own + ours * turns) }
-        { play_in_threads(rt, lock, seat, ours, turns) },
-        || -> (Seat<Register>, bool)
-            requires { IsSync R.row × (other.lock ≡ lock.now) × (1 ≤ theirs) × (theirs ≤ other.parts) }
-            ensures { (result.0.lock ≡ lock.entry.now) × (result.0.setup ≡ other.setup) × (result.0.parts ≡ other.parts) × (result.1 ≡ true → length result.0.own ≡ length other.own + theirs * turns) }
-        { play_in_threads(rt, lock, other, theirs, turns) },
+        || -> Seat<Register>
+            requires { IsSync R.row × (seat.lock ≡ lock.now) }
+            ensures { RaisedBy turns seat result }
+        { play_turns(rt, lock, seat, turns) },
+        || -> Seat<Register>
+            requires { IsSync R.row × (other.lock ≡ lock.now)
+                × (1 ≤ others) × (others ≤ other.parts) }
+            ensures { RaisedBy (others * turns) other result }
+        { play_in_threads(rt, lock, other, others, turns) },
     );
-    let (mut seat, first) = mine;
-    let (other, second) = others;
-    lock.join(&mut seat, other);
-    (seat, first && second)
+    lock.join(&mut mine, theirs);
+    mine
 }
 
-/// The value of a register that so many threads raised so many times each, under the turn lock. None where the lock was worn.
+/// A lock whose register so many threads raised so many times each. The threads stop where no
+/// ticket is left.
 pub fn raised_in_turn<R: Threads + Wait + Sync>(
     rt: &R,
     alloc: Global,
     threads: u64,
     turns: u64,
-) -> Result<Option<u64>, NoMemory>
+) -> Result<Closed<Register>, NoMemory>
     requires { 1 ≤ threads }
-    ensures { IfOk result (λ v. IfSome v (λ n. n ≡ (threads * turns) % 2 ^ 64)) }
+    ensures tickets { IfOk result (λ c. c.tickets ≡ min (threads * turns) LAST_TICKET) }
+    ensures value { IfOk result (λ c. c.state.value ≡ c.tickets) }
 {
     let (lock, seat) = TurnLock::create(alloc, Register::new(0))?;
-    let (seat, all) = play_in_threads(rt, &lock, seat, threads, turns);
+    let seat = play_in_threads(rt, &lock, seat, threads, turns);
     match lock.close(seat) {
-        Ok(closed) => Ok(if all {
-            Some(closed.into_state().value)
-        } else {
-            None
-        }),
+        Ok(closed) => Ok(closed),
         Err(_) => unreachable!(),
+    }
+}
+
+fn raise_many<R: Wait>(rt: &R, mutex: &Mutex<Register>, turns: u64) {
+    for _ in 0..turns {
+        mutex.lock(rt).turn(Ask::Raise);
     }
 }
 
@@ -93,25 +96,21 @@ fn raise_under_mutex<R: Threads + Wait + Sync>(
     requires { 1 ≤ threads }
 {
     if threads == 1 {
-        for _ in 0..turns {
-            mutex.lock(rt).turn(Ask::Raise);
-        }
-        return;
+        return raise_many(rt, mutex, turns);
     }
-    let theirs = threads / 2;
-    let ours = threads - theirs;
+    let others = threads - 1;
     join(
         rt,
         ||
-            requires { IsSync R.row × (1 ≤ ours) }
-        { raise_under_mutex(rt, mutex, ours, turns) },
+            requires { IsSync R.row }
+        { raise_many(rt, mutex, turns) },
         ||
-            requires { IsSync R.row × (1 ≤ theirs) }
-        { raise_under_mutex(rt, mutex, theirs, turns) },
+            requires { IsSync R.row × (1 ≤ others) }
+        { raise_under_mutex(rt, mutex, others, turns) },
     );
 }
 
-/// The same under std's mutex.
+/// The value of a register that so many threads raised so many times each, under std's mutex.
 pub fn raised_under_mutex<R: Threads + Wait + Sync>(rt: &R, threads: u64, turns: u64) -> u64
     requires { 1 ≤ threads }
 {

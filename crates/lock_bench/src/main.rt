@@ -1,4 +1,5 @@
-//! Raises a register in threads, and says whether it has the right value at the end: `lock_bench turn 4 1000`, or `lock_bench mutex 4 1000`.
+//! Raises a register in threads, and says whether it has the right value at the end:
+//! `lock_bench turn 4 1000`, or `lock_bench mutex 4 1000`.
 #![tactic(auto)]
 
 mod drive;
@@ -49,9 +50,12 @@ fn main(rt: HostRuntime) -> io::Result<()> {
     let value = if run.mutex {
         Some(drive::raised_under_mutex(&rt, run.threads, run.turns))
     } else {
-        drive::raised_in_turn(&rt, rt.alloc(), run.threads, run.turns).unwrap_or(None)
+        match drive::raised_in_turn(&rt, rt.alloc(), run.threads, run.turns) {
+            Ok(closed) => Some(closed.state().value),
+            Err(_) => None,
+        }
     };
-    if value == run.threads.checked_mul(run.turns) {
+    if value == Some(run.threads.saturating_mul(run.turns)) {
         println!(rt; "right")?;
     } else {
         println!(rt; "wrong")?;

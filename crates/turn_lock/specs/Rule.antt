@@ -1,14 +1,22 @@
--- The rule of the lock as plain data, and what each of its steps tells the seat that makes it.
-use Rattle.std.specs.Prelude.{◌≡◌, ◌≢◌, ℕ, ◌+◌, ◌-◌, ◌<◌, ◌≤◌, max, List, [], ◌∷◌, ◌++◌, length, Option, Some, None, slice_index, ◌⊎◌, ⊤}
+-- What the lock's rule says of its words, its slot and all views, and what each of its steps gives.
+use Rattle.std.specs.Prelude.{◌≡◌, ◌≢◌, ℕ, ◌+◌, ◌-◌, ◌<◌, ◌≤◌, max, List, [], ◌∷◌, ◌++◌, length}
+use Rattle.std.specs.Prelude.{Option, Some, None, slice_index, ◌⊎◌, ⊤}
 use mathlib.Core.Option.{some, none}
 use lib.ListN.{get_elem?}
+use Rattle.atomic_table.specs.Seated.{TableId}
 use Rattle.atomic_table.specs.Table.{State, Me, Step, rest}
 use Rattle.turn_lock.specs.Counts.{times, total}
-use Rattle.turn_lock.specs.History.{entries, Begins, history_after, own_after, Legal, made_by, Owns}
+use Rattle.turn_lock.specs.History.{entries, IsPrefix, past_after, history_after, own_after, Legal}
+use Rattle.turn_lock.specs.History.{made_by, Owns}
 use Rattle.turn_lock.specs.Seats.{IsSoundView, longer, shorter}
 use Rattle.turn_lock.specs.declared.rule.View.{View}
 use Rattle.turn_lock.specs.declared.rule.Stage.{Stage}
 use Rattle.turn_lock.specs.declared.rule.Stage.TheVariants.{New, Idle, Waits, Out, Spent}
+use Rattle.turn_lock.specs.declared.rule.TheConstants.{ALL_PARTS}
+
+-- the seat is of this table, which has the lock's two words and one slot
+abbrev pub IsSeatOf : TableId → TableId → Type 0
+IsSeatOf seat table = (seat ≡ table) × (table.words ≡ 2) × (table.slots ≡ 1)
 
 abbrev pub HasTicket : Stage → ℕ → Type 0
 HasTicket New t = ⊥
@@ -17,7 +25,7 @@ HasTicket (Waits s) t = s ≡ t
 HasTicket (Out s) t = s ≡ t
 HasTicket Spent t = ⊥
 
--- how many tickets it has
+-- how many tickets it has that were not served
 abbrev pub tickets_of : Stage → ℕ
 tickets_of New = 0
 tickets_of Idle = 0
@@ -43,64 +51,143 @@ Seated Spent = ⊥
 
 module _ {U E : Type 0} where
   abbrev pub newcomer : U → View U E
-  newcomer u = record { setup = Some u; number = 0; numbers = 0 ∷ []; others = []; parts = 18446744073709551615; tickets = 0; seen = []; shorter = []; own = []; stage = Idle }
+  newcomer u = record {
+    setup = Some u;
+    number = 0;
+    numbers = 0 ∷ [];
+    others = [];
+    shares = ALL_PARTS;
+    tickets = 0;
+    turns = 0;
+    seen = [];
+    shorter = [];
+    own = [];
+    stage = Idle;
+  }
 
-  -- the two halves of a view that is cut: the second finds its number by its first step
+  -- a view is cut in two: the first stays, and the second finds its number by its first step
   abbrev pub kept_of : View U E → ℕ → View U E
-  kept_of v n = record v { parts = v.parts - n }
+  kept_of v n = record v { shares = v.shares - n }
 
   abbrev pub given_of : View U E → ℕ → View U E
-  given_of v n = record { setup = v.setup; number = 0; numbers = []; others = v.numbers; parts = n; tickets = v.tickets; seen = v.seen; shorter = []; own = []; stage = New }
+  given_of v n = record {
+    setup = v.setup;
+    number = 0;
+    numbers = [];
+    others = v.numbers;
+    shares = n;
+    tickets = v.tickets;
+    turns = 0;
+    seen = v.seen;
+    shorter = [];
+    own = [];
+    stage = New;
+  }
 
   abbrev pub both_of : View U E → View U E → View U E
-  both_of v w = record v { numbers = v.numbers ++ w.numbers; parts = v.parts + w.parts; tickets = max v.tickets w.tickets; seen = longer v.seen w.seen; shorter = shorter v.seen w.seen; own = v.own ++ w.own }
+  both_of v w = record v {
+    numbers = v.numbers ++ w.numbers;
+    shares = v.shares + w.shares;
+    tickets = max v.tickets w.tickets;
+    turns = v.turns + w.turns;
+    seen = longer v.seen w.seen;
+    shorter = shorter v.seen w.seen;
+    own = v.own ++ w.own;
+  }
 
   abbrev pub spent_view : View U E
-  spent_view = record { setup = None; number = 0; numbers = []; others = []; parts = 0; tickets = 0; seen = []; shorter = []; own = []; stage = Spent }
+  spent_view = record {
+    setup = None;
+    number = 0;
+    numbers = [];
+    others = [];
+    shares = 0;
+    tickets = 0;
+    turns = 0;
+    seen = [];
+    shorter = [];
+    own = [];
+    stage = Spent;
+  }
+
+  -- the view that has drawn this ticket
+  abbrev pub waiting_view : View U E → ℕ → View U E
+  waiting_view v t = record v { tickets = t; turns = v.turns + 1; stage = Waits t }
+
+  -- the view whose ticket is served, which has the state
+  abbrev pub serving_view : View U E → ℕ → List (ℕ × E) → View U E
+  serving_view v t h = record v { seen = h; stage = Out t }
+
+  -- the view after its turn, which added this entry or none
+  abbrev pub view_after : View U E → Option E → View U E
+  view_after v e = record v {
+    seen = history_after v.number v.seen e;
+    own = own_after v.own (length v.seen) e;
+    stage = Idle;
+  }
 
   -- what is true of each view, where this many tickets were drawn
-  pub record Fits (setup : U) (drawn : ℕ) (history : List (ℕ × E)) (v : View U E) : Type 0 where
+  pub record ViewRule (setup : U) (drawn : ℕ) (history : List (ℕ × E)) (v : View U E)
+      : Type 0 where
     pub looked : v.tickets ≤ drawn
-    pub begins : Begins v.seen history
-    pub less : Begins v.shorter v.seen
+    pub begins : IsPrefix v.seen history
+    pub less : IsPrefix v.shorter v.seen
     pub owns : Owns v.numbers history v.own
     pub owned : Owns v.numbers v.seen v.own
     pub about : Live v.stage → v.setup ≡ Some setup
-    pub part : Live v.stage → 1 ≤ v.parts
+    pub share : Live v.stage → 1 ≤ v.shares
     pub named : Seated v.stage → times v.number v.numbers ≡ 1
-    pub gone : v.parts ≡ 0 → (v.numbers ≡ []) × (v.own ≡ [])
+    pub gone : v.shares ≡ 0 → (v.numbers ≡ []) × (v.own ≡ []) × (v.turns ≡ 0)
 
   -- no seat has this number, and no entry
   abbrev pub Unused : ℕ → List (ℕ × E) → List (View U E) → Type 0
-  Unused n history views = (total (λ v. times n v.numbers) views ≡ 0) × ((place : ℕ) → made_by (n ∷ []) history place ≡ 0)
+  Unused n history views =
+      (total (λ v. times n v.numbers) views ≡ 0)
+      × ((place : ℕ) → made_by (n ∷ []) history place ≡ 0)
 
-  -- the parts and numbers of all seats, and what they have seen
-  pub record Roster (setup : U) (drawn : ℕ) (history : List (ℕ × E)) (views : List (View U E)) : Type 0 where
-    pub fits : (j : ℕ) (v : View U E) → get_elem? views j ≡ some v → Fits setup drawn history v
-    pub parts : total (λ v. v.parts) views ≡ 18446744073709551615
+  -- the shares, numbers, turns and entries of all seats, and what they have seen
+  pub record Roster (setup : U) (drawn : ℕ) (history : List (ℕ × E)) (views : List (View U E))
+      : Type 0 where
+    pub fits : (j : ℕ) (v : View U E) → get_elem? views j ≡ some v
+        → ViewRule setup drawn history v
+    pub shares : total (λ v. v.shares) views ≡ ALL_PARTS
+    pub turns : total (λ v. v.turns) views ≡ drawn
     pub once : (n : ℕ) → total (λ v. times n v.numbers) views ≤ 1
     pub unused : (n : ℕ) → length views ≤ n → Unused n history views
-    pub unnamed : (j : ℕ) (v : View U E) → get_elem? views j ≡ some v → v.stage ≡ New → Unused j history views × (times j v.others ≡ 0) × (v.numbers ≡ [])
-    pub covered : (place : ℕ) → place < length history → 1 ≤ total (λ v. made_by v.numbers history place) views
-    pub shared : total (λ v. length v.own) views ≡ length history
-    pub whole : (j : ℕ) × (v : View U E) × (get_elem? views j ≡ some v) × Live v.stage × (v.seen ≡ history)
+    pub unnamed : (j : ℕ) (v : View U E) → get_elem? views j ≡ some v → v.stage ≡ New
+        → Unused j history views × (times j v.others ≡ 0) × (v.numbers ≡ [])
+    pub covered : (place : ℕ) → place < length history
+        → 1 ≤ total (λ v. made_by v.numbers history place) views
+    pub owned : total (λ v. length v.own) views ≡ length history
+    pub whole : (j : ℕ) × (v : View U E) × (get_elem? views j ≡ some v)
+        × Live v.stage × (v.seen ≡ history)
 
-  -- the tickets drawn are those served and those of the views; no two have one, and who is out has the one that is served and has seen all
-  pub record Queue (drawn served : ℕ) (history : List (ℕ × E)) (views : List (View U E)) : Type 0 where
+  -- The tickets drawn are those served and those that views have. No two views have one ticket, and
+  -- the view that is out has the one that is served and has seen the whole history.
+  pub record Queue (drawn served : ℕ) (history : List (ℕ × E)) (views : List (View U E))
+      : Type 0 where
     pub counted : drawn ≡ served + total (λ v. tickets_of v.stage) views
-    pub between : (j : ℕ) (v : View U E) (t : ℕ) → get_elem? views j ≡ some v → HasTicket v.stage t → (served ≤ t) × (t < drawn)
-    pub apart : (i j : ℕ) (v w : View U E) (t : ℕ) → get_elem? views i ≡ some v → get_elem? views j ≡ some w → HasTicket v.stage t → HasTicket w.stage t → i ≡ j
-    pub outs : (j : ℕ) (v : View U E) (t : ℕ) → get_elem? views j ≡ some v → v.stage ≡ Out t → (t ≡ served) × (v.seen ≡ history)
+    pub between : (j : ℕ) (v : View U E) (t : ℕ) → get_elem? views j ≡ some v
+        → HasTicket v.stage t → (served ≤ t) × (t < drawn)
+    pub apart : (i j : ℕ) (v w : View U E) (t : ℕ) → get_elem? views i ≡ some v
+        → get_elem? views j ≡ some w → HasTicket v.stage t → HasTicket w.stage t → i ≡ j
+    pub outs : (j : ℕ) (v : View U E) (t : ℕ) → get_elem? views j ≡ some v → v.stage ≡ Out t
+        → (t ≡ served) × (v.seen ≡ history)
 
   abbrev pub IsOut : ℕ → List (View U E) → Type 0
-  IsOut served views = (i : ℕ) × (v : View U E) × (get_elem? views i ≡ some v) × (v.stage ≡ Out served)
+  IsOut served views =
+      (i : ℕ) × (v : View U E) × (get_elem? views i ≡ some v) × (v.stage ≡ Out served)
 
-module _ {S U E C R : Type 0} (setup : S → U) (stands : S → List E → Type 0) (step : U → List E → C → R → Option E → Type 0) where
+module _ {S U E C R : Type 0} (setup : S → U) (stands : S → List E → Type 0)
+    (step : U → List E → C → R → Option E → Type 0) where
   abbrev pub AtHome : U → List (ℕ × E) → List (mathlib.Core.Option.Option (Option S)) → Type 0
-  AtHome about history homes = (y : S) × (get_elem? homes 0 ≡ some (some (Some y))) × (setup y ≡ about) × stands y (entries history)
+  AtHome about history homes =
+      (y : S) × (get_elem? homes 0 ≡ some (some (Some y)))
+      × (setup y ≡ about) × stands y (entries history)
 
-  -- the words are the next ticket and the ticket served; the slot's state is at home and stands for the history, or it is out with the seat that is served
-  pub record Kept (about : U) (s : State (Option S) (View U E)) : Type 0 where
+  -- The words are the tickets drawn and the ticket served. The state is in the slot and stands for
+  -- the history, or it is out with the seat that is served.
+  pub record LockRule (about : U) (s : State (Option S) (View U E)) : Type 0 where
     pub history : List (ℕ × E)
     pub legal : Legal step about history
     pub wide : length s.words ≡ 2
@@ -111,31 +198,70 @@ module _ {S U E C R : Type 0} (setup : S → U) (stands : S → List E → Type 
 
 module _ {S U E : Type 0} where
   -- a look at the ticket word notes it
-  abbrev pub looked_at : Step (Option S) → Me (Option S) (View U E) → ℕ → Me (Option S) (View U E) → Type 0
+  abbrev pub looked_at : Step (Option S) → Me (Option S) (View U E) → ℕ
+      → Me (Option S) (View U E) → Type 0
   looked_at st m r m' = (m' ≡ (record m.0 { tickets = r }, m.1)) × (m.0.tickets ≤ r)
 
   -- a ticket was drawn, or the exchange was lost; either notes the word that was found
-  abbrev pub drew : Step (Option S) → Me (Option S) (View U E) → ℕ → Me (Option S) (View U E) → Type 0
-  drew st m r m' = (m.0.tickets ≤ r) × (r ≡ st.first → m' ≡ (record m.0 { tickets = r; stage = Waits r }, m.1)) × (r ≢ st.first → m' ≡ (record m.0 { tickets = r }, m.1))
+  abbrev pub drew : Step (Option S) → Me (Option S) (View U E) → ℕ
+      → Me (Option S) (View U E) → Type 0
+  drew st m r m' =
+      (m.0.tickets ≤ r) × (r ≡ st.first → m' ≡ (waiting_view m.0 r, m.1))
+      × (r ≢ st.first → m' ≡ (record m.0 { tickets = r }, m.1))
 
 module _ {S U E : Type 0} (setup : S → U) (stands : S → List E → Type 0) where
+  -- the seat has the state, and has seen all that this stands for
+  abbrev pub HasState : Me (Option S) (View U E) → Type 0
+  HasState m =
+      (y : S) × (m.1 ≡ (0, Some y) ∷ []) × (m.0.setup ≡ Some (setup y))
+      × stands y (entries m.0.seen)
+
   -- the seat whose ticket is served takes the state out, and sees the whole history
   abbrev pub Enters : Me (Option S) (View U E) → ℕ → Me (Option S) (View U E) → Type 0
-  Enters m t m' = (y : S) × (h : List (ℕ × E)) × (m' ≡ (record m.0 { seen = h; stage = Out t }, (0, Some y) ∷ m.1)) × Begins m.0.seen h × (m.0.setup ≡ Some (setup y)) × stands y (entries h)
+  Enters m t m' =
+      (y : S) × (h : List (ℕ × E)) × (m' ≡ (serving_view m.0 t h, (0, Some y) ∷ m.1))
+      × IsPrefix m.0.seen h × (m.0.setup ≡ Some (setup y)) × stands y (entries h)
 
-  abbrev pub entered : Step (Option S) → Me (Option S) (View U E) → ℕ → Me (Option S) (View U E) → Type 0
-  entered st m r m' = (t : ℕ) → m.0.stage ≡ Waits t → (r ≡ t → Enters m t m') × (r ≢ t → m' ≡ m)
+  abbrev pub entered : Step (Option S) → Me (Option S) (View U E) → ℕ
+      → Me (Option S) (View U E) → Type 0
+  entered st m r m' =
+      (t : ℕ) → m.0.stage ≡ Waits t → (r ≡ t → Enters m t m') × (r ≢ t → m' ≡ m)
+
+module _ {S U E C R : Type 0} (setup : S → U) (stands : S → List E → Type 0)
+    (step : U → List E → C → R → Option E → Type 0) where
+  -- the seat has the state after this call and reply, and has not seen the turn's entry yet
+  abbrev pub HasPlayed : C → R → Me (Option S) (View U E) → Type 0
+  HasPlayed call reply m =
+      (y : S) × (e : Option E) × (m.1 ≡ (0, Some y) ∷ []) × (m.0.setup ≡ Some (setup y))
+      × step (setup y) (entries m.0.seen) call reply e
+      × stands y (past_after (entries m.0.seen) e)
 
 module _ {S U E C R : Type 0} (step : U → List E → C → R → Option E → Type 0) where
-  -- the turn's entry goes behind all that was seen
-  abbrev pub left_by : (U → List E → Option E → Type 0) → Step (Option S) → Me (Option S) (View U E) → ℕ → Me (Option S) (View U E) → Type 0
-  left_by by st m r m' = (u : U) × (e : Option E) × (m.0.setup ≡ Some u) × by u (entries m.0.seen) e
-      × (m' ≡ (record m.0 { seen = history_after m.0.number m.0.seen e; own = own_after m.0.own (length m.0.seen) e; stage = Idle }, rest m.1)) × IsSoundView step m'.0
+  -- the turn is over: the state is back in the slot, and the seat has seen the turn's entry
+  abbrev pub TurnEnds : C → R → Me (Option S) (View U E) → Me (Option S) (View U E) → Type 0
+  TurnEnds call reply m m' =
+      (u : U) × (e : Option E) × (m.0.setup ≡ Some u)
+      × step u (entries m.0.seen) call reply e × (m' ≡ (view_after m.0 e, []))
+
+  -- the same step, for any fact `by` of the entry
+  abbrev pub left_by : (U → List E → Option E → Type 0) → Step (Option S)
+      → Me (Option S) (View U E) → ℕ → Me (Option S) (View U E) → Type 0
+  left_by by st m r m' =
+      (u : U) × (e : Option E) × (m.0.setup ≡ Some u) × by u (entries m.0.seen) e
+      × (m' ≡ (view_after m.0 e, rest m.1)) × IsSoundView step m'.0
 
   -- a seat that was split off finds its number, which the other does not have
-  abbrev pub begun : Step (Option S) → Me (Option S) (View U E) → ℕ → Me (Option S) (View U E) → Type 0
-  begun st m r m' = m.0.stage ≡ New → (n : ℕ) × (m' ≡ (record m.0 { number = n; numbers = n ∷ []; stage = Idle }, m.1)) × (times n m.0.others ≡ 0) × IsSoundView step m'.0
+  abbrev pub begun : Step (Option S) → Me (Option S) (View U E) → ℕ
+      → Me (Option S) (View U E) → Type 0
+  begun st m r m' =
+      m.0.stage ≡ New
+      → (n : ℕ) × (m' ≡ (record m.0 { number = n; numbers = n ∷ []; stage = Idle }, m.1))
+      × (times n m.0.others ≡ 0) × IsSoundView step m'.0
 
-  -- a seat that another was joined into learns that the shorter of what both saw begins the longer
-  abbrev pub learned : Step (Option S) → Me (Option S) (View U E) → ℕ → Me (Option S) (View U E) → Type 0
-  learned st m r m' = (m' ≡ m) × (m.0.stage ≡ Idle → Begins m.0.shorter m.0.seen × (m.0.parts ≤ 18446744073709551615) × IsSoundView step m.0)
+  -- a seat that another was joined into finds that the shorter list seen is a prefix of the longer
+  abbrev pub learned : Step (Option S) → Me (Option S) (View U E) → ℕ
+      → Me (Option S) (View U E) → Type 0
+  learned st m r m' =
+      (m' ≡ m)
+      × (m.0.stage ≡ Idle
+      → IsPrefix m.0.shorter m.0.seen × (m.0.shares ≤ ALL_PARTS) × IsSoundView step m.0)

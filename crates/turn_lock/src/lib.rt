@@ -1,4 +1,5 @@
-//! A lock that serves its callers in turn. The turns that any threads take under it are one legal history.
+//! A lock that serves its callers in turn. The turns that any threads take under it are one legal
+//! history.
 #![tactic(auto)]
 
 mod lock;
@@ -8,3 +9,4 @@ mod steps;
 
 pub use lock::{Closed, NoMemory, Seat, TurnLock, Worn};
 pub use logged::Logged;
+pub use rule::{ALL_PARTS, LAST_TICKET};

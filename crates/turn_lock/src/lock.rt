@@ -1,11 +1,12 @@
 //! The lock, its seats and its calls.
-ghost use Rattle.std.specs.Prelude.{◌≡◌, ℕ, ◌+◌, ◌-◌, ◌<◌, ◌≤◌, List, [], ◌∷◌, length, Some, IfOk, IfErr, OnOk};
+ghost use Rattle.std.specs.Prelude.{◌≡◌, ℕ, ◌+◌, ◌-◌, ◌<◌, ◌≤◌, [], length, Some};
+ghost use Rattle.std.specs.Prelude.{IfSome, IfOk, IfErr, OnOk, OnErr};
 ghost use Rattle.turn_lock.specs.Counts.{times};
-ghost use Rattle.turn_lock.specs.History.{entries, Begins};
+ghost use Rattle.turn_lock.specs.History.{entries, IsPrefix};
 ghost use Rattle.turn_lock.specs.Seats.{first_seat, split_seat, joined_seat, IsSound, Turned};
 
 use crate::logged::Logged;
-use crate::rule::{InTurn, View};
+use crate::rule::{ALL_PARTS, InTurn, LAST_TICKET, View};
 use crate::steps::{Place, cut, find_number, merge, next_ticket, take_turn, wait_turn};
 use atomic_table::Table;
 use std::alloc::Global;
@@ -17,13 +18,13 @@ use std::sync::Wait;
 #[derive(Debug, Drop)]
 pub struct NoMemory;
 
-/// No ticket is left: the ticket word stands at its last value.
+/// No ticket is left: the ticket word is at its last value.
 #[derive(Debug, Drop)]
 pub struct Worn {
     pub tickets: u64,
 }
 
-/// One of those who take turns. Contracts see which lock it is of, and what it knows.
+/// A caller's place at a lock. Contracts see which lock it is of, and what it knows.
 #[derive(Drop)]
 pub struct Seat<S: Logged> {
     place: Place<S>,
@@ -32,15 +33,17 @@ pub struct Seat<S: Logged> {
 }
 
 impl<S: Logged> Model for Seat<S> {
-    ghost use Rattle.turn_lock.specs.Seats.{Known, known, IsSoundView};
     ghost use Rattle.std.specs.Prelude.{◌≡◌, []};
+    ghost use Rattle.turn_lock.specs.Seats.{Known, known, IsSoundView};
     ghost use Rattle.turn_lock.specs.declared.rule.Stage.{Stage};
 
     ghost Value = { Known S.Setup S.Entry };
 
     ghost view = { λ s. known s.place.table_id s.place.me.0 };
 
-    ghost invariant = { λ s. (s.parts ≡ s.place.me.0.parts) × (s.tickets ≡ s.place.me.0.tickets) × (s.place.me.0.stage ≡ Stage.Idle) × (s.place.me.1 ≡ []) × IsSoundView S.step s.place.me.0 };
+    ghost invariant = { λ s. (s.parts ≡ s.place.me.0.shares) × (s.tickets ≡ s.place.me.0.tickets)
+        × (s.place.me.0.stage ≡ Stage.Idle) × (s.place.me.1 ≡ [])
+        × IsSoundView S.step s.place.me.0 };
 }
 
 impl<S: Logged> Seat<S> {
@@ -52,7 +55,8 @@ impl<S: Logged> Seat<S> {
         self.parts
     }
 
-    /// The greatest value at which the seat, or one joined into it, looked at the ticket word. It is 0 at first.
+    /// The greatest value of the ticket word that the seat, or one joined into it, found. It is 0
+    /// at first.
     pub fn tickets(&self) -> u64
         ensures { result ≡ self.now.tickets }
     {
@@ -67,14 +71,14 @@ pub struct TurnLock<S: Logged> {
 }
 
 impl<S: Logged> Model for TurnLock<S> {
-    ghost use Rattle.std.specs.Prelude.{◌≡◌};
     ghost use Rattle.atomic_table.specs.Seated.{TableId};
+    ghost use Rattle.turn_lock.specs.Rule.{IsSeatOf};
 
     ghost Value = { TableId };
 
     ghost view = { λ l. l.table.shared.table_id };
 
-    ghost invariant = { λ l. (l.table.shared.table_id.words ≡ 2) × (l.table.shared.table_id.slots ≡ 1) };
+    ghost invariant = { λ l. IsSeatOf l.table.shared.table_id l.table.shared.table_id };
 }
 
 /// What a lock that was closed hands back.
@@ -85,9 +89,9 @@ pub struct Closed<S> {
 }
 
 impl<S> Model for Closed<S> {
-    ghost use Rattle.turn_lock.specs.Seats.{Ended};
+    ghost use Rattle.turn_lock.specs.Seats.{ClosedLock};
 
-    ghost Value = { Ended S };
+    ghost Value = { ClosedLock S };
 
     ghost view = { λ c. record { state = c.state; tickets = c.tickets } };
 }
@@ -106,7 +110,7 @@ impl<S> Closed<S> {
         state
     }
 
-    /// The ticket word as it stood at the close.
+    /// The ticket word at the close: how many tickets were drawn in all.
     pub fn tickets(&self) -> u64
         ensures { result ≡ self.now.tickets }
     {
@@ -130,7 +134,7 @@ impl<S: Logged + Drop> TurnLock<S> {
                 TurnLock { table },
                 Seat {
                     place,
-                    parts: u64::MAX,
+                    parts: ALL_PARTS,
                     tickets: 0,
                 },
             )),
@@ -140,7 +144,8 @@ impl<S: Logged + Drop> TurnLock<S> {
 }
 
 impl<S: Logged> TurnLock<S> {
-    /// A new seat, with a number of its own, that has seen what the other has and takes over some of its parts.
+    /// A new seat, with a number of its own, that has seen what the other has and takes over some
+    /// of its parts.
     pub fn split(&self, seat: &mut Seat<S>, parts: u64) -> Seat<S>
         requires seat { seat.old.lock ≡ self.now }
         requires parts { (1 ≤ parts) × (parts < seat.old.parts) }
@@ -159,11 +164,12 @@ impl<S: Logged> TurnLock<S> {
         }
     }
 
-    /// Joins the other seat into this one, which keeps what both have done and seen, and has the parts of both.
+    /// Joins the other seat into this one, which then has the turns, the entries and the parts of
+    /// both, and has seen what either has.
     pub fn join(&self, seat: &mut Seat<S>, other: Seat<S>)
         requires seat { (seat.old.lock ≡ self.now) × (other.lock ≡ self.now) }
         ensures both { seat.new ≡ joined_seat seat.old other }
-        ensures seen { Begins seat.old.seen seat.new.seen × Begins other.seen seat.new.seen }
+        ensures seen { IsPrefix seat.old.seen seat.new.seen × IsPrefix other.seen seat.new.seen }
         ensures sound { IsSound S.step seat.new }
     {
         let Seat {
@@ -179,11 +185,16 @@ impl<S: Logged> TurnLock<S> {
     /// One turn on the state. It waits until it is served, in the order of the tickets.
     pub fn play<R: Wait>(&self, rt: &R, seat: &mut Seat<S>, call: S::Call) -> Result<S::Reply, Worn>
         requires seat { seat.old.lock ≡ self.now }
-        requires call { S.fits call }
-        ensures same { (seat.new.lock ≡ seat.old.lock) × (seat.new.setup ≡ seat.old.setup) × (seat.new.number ≡ seat.old.number) × (seat.new.numbers ≡ seat.old.numbers) × (seat.new.parts ≡ seat.old.parts) }
+        requires call { IfSome seat.old.setup (λ u. S.fits u call) }
+        ensures same { (seat.new.lock ≡ seat.old.lock) × (seat.new.setup ≡ seat.old.setup)
+            × (seat.new.number ≡ seat.old.number) × (seat.new.numbers ≡ seat.old.numbers)
+            × (seat.new.parts ≡ seat.old.parts) }
         ensures turn { IfOk result (λ reply. Turned S.step call reply seat.old seat.new) }
-        ensures tickets { OnOk result ((seat.old.tickets ≤ seat.new.tickets) × (seat.new.tickets < 18446744073709551615)) }
-        ensures worn { IfErr result (λ w. (w.tickets ≡ 18446744073709551615) × (seat.new ≡ record seat.old { tickets = 18446744073709551615 }) × (seat.old.tickets ≤ 18446744073709551615)) }
+        ensures turns { OnOk result (seat.new.turns ≡ seat.old.turns + 1) }
+        ensures tickets { OnOk result (seat.new.tickets < LAST_TICKET) }
+        ensures worn { IfErr result (λ w. w.tickets ≡ LAST_TICKET) }
+        ensures err { OnErr result (seat.new ≡ record seat.old { tickets = LAST_TICKET }) }
+        ensures not_less { seat.old.tickets ≤ seat.new.tickets }
         ensures sound { IsSound S.step seat.new }
     {
         let board = &self.table.shared;
@@ -205,15 +216,22 @@ impl<S: Logged> TurnLock<S> {
         }
     }
 
-    /// Ends the lock and hands back its state. While another seat is not joined, the lock and the seat come back.
+    /// Ends the lock and hands back its state. While another seat is not joined, the lock and the
+    /// seat come back.
     pub fn close(self, seat: Seat<S>) -> Result<Closed<S>, (TurnLock<S>, Seat<S>)>
         requires seat { seat.lock ≡ self }
-        ensures ok { IfOk result (λ c. (seat.parts ≡ 18446744073709551615) × S.stands c.state (entries seat.seen) × (seat.setup ≡ Some (S.setup c.state)) × (seat.tickets ≤ c.tickets)) }
-        ensures all { OnOk result (((place : ℕ) → place < length seat.seen → times place seat.own ≡ 1) × (length seat.own ≡ length seat.seen)) }
-        ensures err { IfErr result (λ r. (seat.parts < 18446744073709551615) × (r.0 ≡ self) × (r.1 ≡ seat)) }
+        ensures ok { IfOk result (λ c. (seat.parts ≡ ALL_PARTS)
+            × S.stands c.state (entries seat.seen)
+            × (seat.setup ≡ Some (S.setup c.state))) }
+        ensures tickets { IfOk result (λ c. (c.tickets ≡ seat.turns)
+            × (seat.tickets ≤ c.tickets) × (c.tickets ≤ LAST_TICKET)) }
+        ensures all { OnOk result
+            (((place : ℕ) → place < length seat.seen → times place seat.own ≡ 1)
+            × (length seat.own ≡ length seat.seen)) }
+        ensures err { IfErr result (λ r. (seat.parts < ALL_PARTS) × (r.0 ≡ self) × (r.1 ≡ seat)) }
         ensures sound { IsSound S.step seat }
     {
-        if seat.parts != u64::MAX {
+        if seat.parts != ALL_PARTS {
             return Err((self, seat));
         }
         let TurnLock { table } = self;

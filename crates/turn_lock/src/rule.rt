@@ -1,4 +1,6 @@
-//! What a seat knows, the rule that each step keeps, and what each step tells. No value of these types is made.
+//! What a seat knows, the rule that each step keeps, and what each step gives.
+//!
+//! No value of these types is made: they are for the proof alone.
 ghost use Rattle.std.specs.Prelude.{ℕ, Option, None};
 
 use crate::logged::Logged;
@@ -7,23 +9,41 @@ use std::collections::LinkedList;
 use std::marker::{Brand, PhantomData};
 use std::snapshot::Snapshot;
 
-/// Where a seat stands: split off and with no number yet, without a ticket, with a ticket, with the state, or joined into another.
+/// The value of the ticket word at which no ticket is left.
+pub const LAST_TICKET: u64 = u64::MAX;
+
+/// The parts of a lock, which its first seat has.
+pub const ALL_PARTS: u64 = u64::MAX;
+
 pub enum Stage {
+    /// It was split off and has no number yet.
     New,
+
+    /// It has no ticket.
     Idle,
+
+    /// It has a ticket that is not served yet.
     Waits(u64),
+
+    /// It has the state, under the ticket that is served.
     Out(u64),
+
+    /// It was joined into another.
     Spent,
 }
 
-/// What a seat knows. `others` are numbers that are not its own, and `shorter` is a beginning of `seen`.
+/// What a seat knows.
+///
+/// `turns` counts the tickets that it drew, or that seats joined into it drew. `others` are numbers
+/// that are not its own, and `shorter` is a prefix of `seen`.
 pub struct View<U, E> {
     pub setup: Option<U>,
     pub number: u64,
     pub numbers: LinkedList<u64>,
     pub others: LinkedList<u64>,
-    pub parts: u64,
+    pub shares: u64,
     pub tickets: u64,
+    pub turns: u64,
     pub seen: LinkedList<(u64, E)>,
     pub shorter: LinkedList<(u64, E)>,
     pub own: LinkedList<u64>,
@@ -35,9 +55,9 @@ pub struct InTurn<S> {
 }
 
 impl<S: Logged> TableRule<Option<S>, View<S::Setup, S::Entry>, Snapshot<S>> for InTurn<S> {
-    ghost use Rattle.turn_lock.specs.Rule.{Kept, newcomer};
+    ghost use Rattle.turn_lock.specs.Rule.{LockRule, newcomer};
 
-    ghost holds = { λ k. Kept S.setup S.stands S.step (S.setup k.value) };
+    ghost holds = { λ k. LockRule S.setup S.stands S.step (S.setup k.value) };
 
     ghost first = { λ k. newcomer (S.setup k.value) };
 }
@@ -66,7 +86,7 @@ impl<S: Logged> Play<Option<S>, View<S::Setup, S::Entry>> for Enter {
     ghost then = { entered S.setup S.stands };
 }
 
-/// What a turn is told and answers, for the proof alone.
+/// A turn's call, or its reply.
 pub trait Said<X> {
     ghost item: { Option X };
 }
@@ -84,7 +104,9 @@ impl<S: Logged, W: Said<S::Call>, X: Said<S::Reply>> Play<Option<S>, View<S::Set
     ghost use Rattle.std.specs.Prelude.{Some, ◌≡◌};
     ghost use Rattle.turn_lock.specs.Rule.{left_by};
 
-    ghost then = { left_by S.step (λ u past e. (c : S.Call) (r : S.Reply) → W.item ≡ Some c → X.item ≡ Some r → S.step u past c r e) };
+    ghost then = { left_by S.step
+        (λ u past e. (c : S.Call) (r : S.Reply) → W.item ≡ Some c → X.item ≡ Some r
+        → S.step u past c r e) };
 }
 
 pub struct Begin;
@@ -103,13 +125,13 @@ impl<S: Logged> Play<Option<S>, View<S::Setup, S::Entry>> for Learn {
     ghost then = { learned S.step };
 }
 
-/// How many parts are cut off, for the proof alone.
+/// How many shares are cut off.
 pub trait Amount {
-    ghost parts: { ℕ };
+    ghost shares: { ℕ };
 }
 
 impl Amount for Brand {
-    ghost parts = { 0 };
+    ghost shares = { 0 };
 }
 
 pub struct Cut<N> {
@@ -119,9 +141,9 @@ pub struct Cut<N> {
 impl<U, E, N: Amount> Split<View<U, E>> for Cut<N> {
     ghost use Rattle.turn_lock.specs.Rule.{kept_of, given_of};
 
-    ghost left = { λ v. kept_of v N.parts };
+    ghost left = { λ v. kept_of v N.shares };
 
-    ghost right = { λ v. given_of v N.parts };
+    ghost right = { λ v. given_of v N.shares };
 }
 
 pub struct Both;
