@@ -1,12 +1,15 @@
 -- Finding a mark by its number, and what stays when it goes.
-use Rattle.std.proofs.Common.{◌≡◌, ◌==◌, ◌+◌, ◌<◌, ◌++◌, ℕ, zero, suc, List, [], ◌∷◌, length, take, drop, get_or, Bool, true, false, cond, not, Option, Some, None, sym, ap, ◌∙◌, refl, eq-eqb}
-use Rattle.std.specs.List.{filter, remove, slice_get}
+use Rattle.std.proofs.Common.{◌≡◌, ◌==◌, ◌+◌, ◌<◌, ◌++◌, ℕ, zero, suc, List, [], ◌∷◌, length, take}
+use Rattle.std.proofs.Common.{drop, get_or, Bool, true, false, cond, not, Some, None, sym}
+use Rattle.std.proofs.Common.{ap, ◌∙◌, refl, eq-eqb}
+use Rattle.std.specs.List.{filter, slice_get}
 use Rattle.std.proofs.lemmas.List.{at_drop_more}
 use Rattle.fill_mark.specs.declared.marks.Mark.{Mark}
 use Rattle.fill_mark.specs.Marks.{query_marked, without_number}
 
 -- the mark at hand is the one that is looked for
-pub found : (n : ℕ) (marks : List Mark) (i : ℕ) (m : Mark) → i < length marks → m ≡ get_or marks i m → m.number ≡ n
+pub found : (n : ℕ) (marks : List Mark) (i : ℕ) (m : Mark) → i < length marks → m ≡ get_or marks i m
+    → m.number ≡ n
     → query_marked n (drop i marks) ≡ Some m.query
 found n marks i m lt e is =
     at_drop_more (query_marked n) marks i m lt
@@ -14,17 +17,22 @@ found n marks i m lt e is =
     ∙ ap (λ b. cond b (Some m.query) (query_marked n (drop (i + 1) marks))) (eq-eqb m.number n is)
 
 -- where no mark has the number, none goes
-pub none_goes : (n : ℕ) (marks : List Mark) → query_marked n marks ≡ None → marks ≡ without_number n marks
+pub none_goes : (n : ℕ) (marks : List Mark) → query_marked n marks ≡ None
+    → marks ≡ without_number n marks
 none_goes n [] h = refl
 none_goes n (m ∷ marks) h =
-    elim (m.number == n) as (λ b. cond b (Some m.query) (query_marked n marks) ≡ None → m ∷ marks ≡ cond (not b) (m ∷ without_number n marks) (without_number n marks)) [
+    elim (m.number == n) as
+    (λ b. cond b (Some m.query) (query_marked n marks) ≡ None
+    → m ∷ marks ≡ cond (not b) (m ∷ without_number n marks) (without_number n marks)) [
       | true ↦ λ e. cc
       | false ↦ λ e. ap (λ l. m ∷ l) (none_goes n marks e)
     ] h
 
 -- what does not pass a filter may be removed before it
-pub removed : {X : Type 0} → (p : X → Bool) (xs : List X) (i : ℕ) (x : X) → slice_get xs i ≡ Some x → p x ≡ false
+pub removed : {X : Type 0} → (p : X → Bool) (xs : List X) (i : ℕ) (x : X) → slice_get xs i ≡ Some x
+    → p x ≡ false
     → filter p (take i xs ++ drop (suc i) xs) ≡ filter p xs
 removed p [] i x h no_ = cc
-removed p (y ∷ ys) zero x h no_ = let e : y ≡ x = cc in sym (ap (λ b. cond b (y ∷ filter p ys) (filter p ys)) (ap p e ∙ no_))
+removed p (y ∷ ys) zero x h no_ = let e : y ≡ x = cc in
+    sym (ap (λ b. cond b (y ∷ filter p ys) (filter p ys)) (ap p e ∙ no_))
 removed p (y ∷ ys) (suc i) x h no_ = ap (λ l. cond (p y) (y ∷ l) l) (removed p ys i x h no_)

@@ -1,5 +1,6 @@
 -- Lists of marks, the oldest first.
-use Rattle.std.specs.Prelude.{◌≡◌, ◌==◌, ◌++◌, ℕ, List, [], ◌∷◌, Bool, true, not, Option, Some, None, if◌then◌else◌}
+use Rattle.std.specs.Prelude.{◌≡◌, ◌==◌, ◌++◌, ℕ, List, [], ◌∷◌, true, not, Option, Some}
+use Rattle.std.specs.Prelude.{None, if◌then◌else◌}
 use Rattle.std.specs.List.{filter, slice_get}
 use Rattle.std.specs.Str.{bytes_eq}
 use Rattle.command_words.specs.Queries.{key_of, same_query}
@@ -15,16 +16,17 @@ abbrev pub without_number : ℕ → List Mark → List Mark
 without_number number = filter (λ m. not (m.number == number))
 
 abbrev pub begun : ℕ → List (List ℕ) → List Mark → List Mark
-begun number query marks = without_query query marks ++ record { number = number; query = query } ∷ []
+begun number query marks =
+    without_query query marks ++ record { number = number; query = query } ∷ []
 
 -- the query whose mark has that number
 abbrev pub query_marked : ℕ → List Mark → Option (List (List ℕ))
 query_marked number [] = None
 query_marked number (m ∷ ms) = if m.number == number then Some m.query else query_marked number ms
 
--- a mark of that number stands at that place, and none before it
+-- the first mark of that number is at that place
 pub record IsMarkAt (number : ℕ) (marks : List Mark) (place : ℕ) : Type 0 where
   pub mark : Mark
-  pub stands : slice_get marks place ≡ Some mark
+  pub at : slice_get marks place ≡ Some mark
   pub number_is : (mark.number == number) ≡ true
   pub query_is : query_marked number marks ≡ Some mark.query

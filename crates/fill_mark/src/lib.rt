@@ -1,4 +1,4 @@
-//! Marks of fetches in progress: a fetch may fill the cache only while its mark stands.
+//! Marks of fetches in flight: a reply may fill the cache only while its fetch is marked.
 #![tactic(auto)]
 
 mod marks;

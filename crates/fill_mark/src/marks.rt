@@ -1,5 +1,6 @@
-// The marks, the oldest first.
-ghost use Rattle.std.specs.Prelude.{◌≡◌, ◌==◌, ◌++◌, ◌∷◌, [], OnOk, OnErr, IfNone, MatchOption, option_copied};
+//! The marks, the oldest first.
+ghost use Rattle.std.specs.Prelude.{◌≡◌, ◌==◌, ◌++◌, ◌∷◌, [], OnOk, OnErr, IfNone, MatchOption};
+ghost use Rattle.std.specs.Prelude.{option_copied};
 ghost use Rattle.fill_mark.specs.Marks.{begun, IsMarkAt, query_marked, without_key, without_number};
 
 use command_words::Query;
@@ -7,14 +8,14 @@ use resp_value::NoMemory;
 use std::alloc::Global;
 use std::marker::Model;
 
-/// A fetch in progress: the number of its read, and what it asks.
+/// A fetch in flight: the number of its read, and what it asks.
 #[derive(Debug, Drop)]
 pub struct Mark {
     pub number: u64,
     pub query: Query,
 }
 
-/// The marks that stand, the oldest first.
+/// The fetches that may fill the cache, the oldest first.
 #[derive(Debug, Drop)]
 pub struct Marks {
     items: Vec<Mark>,
@@ -29,9 +30,10 @@ impl Model for Marks {
     ghost view = { λ m. m.items.items };
 }
 
-// Where the mark of that number stands.
+// Where the mark of that number is. Each is looked at.
 fn place_of(marks: &[Mark], number: u64) -> Option<usize>
-    ensures { MatchOption result (query_marked number marks.now ≡ None) (IsMarkAt number marks.now) }
+    ensures { MatchOption result (query_marked number marks.now ≡ None)
+        (IsMarkAt number marks.now) }
 {
     for (place, mark) in marks.iter().enumerate() {
         if mark.number == number {
@@ -76,7 +78,7 @@ impl Marks {
         self.items.clear();
     }
 
-    /// The query of that number, where its mark stands.
+    /// The query of that number, where it is marked.
     pub fn query_of(&self, number: u64) -> Option<&Query>
         ensures query { option_copied result ≡ query_marked number self.now }
         ensures none { IfNone result (self.now ≡ without_number number self.now) }
@@ -85,7 +87,7 @@ impl Marks {
         Some(&self.items[place].query)
     }
 
-    /// The query of that number, exactly where its mark stands; the mark goes.
+    /// The query of that number, exactly where it is marked; the mark goes.
     pub fn settle(&mut self, number: u64) -> Option<Query>
         ensures query { result ≡ query_marked number self.old }
         ensures rest { self.new ≡ without_number number self.old }

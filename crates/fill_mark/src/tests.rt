@@ -13,14 +13,14 @@ fn get(alloc: Global, key: &[u8]) -> Result<Query, Fail> {
 }
 
 #[test]
-fn a_mark_stands_until_it_is_settled_or_voided(rt: HostRuntime) -> Result<(), Fail> {
+fn a_mark_is_there_until_it_is_settled_or_voided(rt: HostRuntime) -> Result<(), Fail> {
     let alloc = rt.alloc();
     let mut marks = Marks::new(alloc);
     marks.begin(3, get(alloc, b"a".as_slice())?)?;
     marks.begin(4, get(alloc, b"b".as_slice())?)?;
     marks.begin(5, get(alloc, b"a".as_slice())?)?;
     assert!(rt; marks.query_of(3).is_none(), "a later fetch ends the older");
-    let query = marks.settle(4).ok_or("the mark of 4 stands")?;
+    let query = marks.settle(4).ok_or("4 is marked")?;
     assert_eq!(rt; query.key(), b"b".as_slice());
     assert!(rt; marks.settle(4).is_none(), "a settled mark is gone");
     marks.void_key(b"b".as_slice());

@@ -1,59 +1,82 @@
 -- What holds of the fetches of any log.
-use Rattle.std.proofs.Common.{◌≡◌, ◌+◌, ◌<◌, ◌≤◌, ℕ, List, [], ◌∷◌, length, Bool, false, cond, Option, Some, None, ap, ◌∙◌, refl, arith, ne_eqb, length-append}
+use Rattle.std.proofs.Common.{◌≡◌, ◌+◌, ◌<◌, ◌≤◌, ◌++◌, ℕ, List, [], ◌∷◌, length, append-nil, Bool}
+use Rattle.std.proofs.Common.{true, false, cond, Option, Some, None, ap, ◌∙◌, refl, arith, ne_eqb}
+use Rattle.std.proofs.Common.{length-append}
 use Rattle.std.proofs.lemmas.Bool.{lt-leb, or_from, and_left}
 use Rattle.resp_value.specs.declared.value.Value.{Value}
 use Rattle.command_words.specs.Queries.{writes}
-use Rattle.shared_cache.specs.declared.log.Wire.{Wire}
-use Rattle.shared_cache.specs.declared.log.Wire.TheVariants.{Main, Side}
+use Rattle.shared_cache.specs.declared.log.Wire.TheVariants.{Main}
 use Rattle.shared_cache.specs.declared.log.LogEntry.{LogEntry}
-use Rattle.shared_cache.specs.declared.log.LogEntry.TheVariants.{Ask, Send, Poll, TakeOut, Got, End, Bad}
-use Rattle.shared_cache.specs.declared.holding.Holding.{Holding}
+use Rattle.shared_cache.specs.declared.log.LogEntry.TheVariants.{Ask, Send, Poll, TakeOut, Got, End}
+use Rattle.shared_cache.specs.declared.log.LogEntry.TheVariants.{Bad}
+use Rattle.shared_cache.specs.declared.entry.CacheEntry.{CacheEntry}
 use Rattle.shared_cache.specs.declared.notices.Notice.{Notice}
-use Rattle.shared_cache.specs.declared.notices.Notice.TheVariants.{Reply, Keys, All, Broken, Other, Malformed}
-use Rattle.shared_cache.specs.Notices.{notice_of, spoils}
-use Rattle.shared_cache.specs.Log.{replies, with_reply}
-use Rattle.shared_cache.specs.Held.{Setup, Key, Words, numbered, numbers, held_of, held, unless, other_than, fetched, asked, sent_unless, sent, open_fetch, left}
+use Rattle.shared_cache.specs.declared.notices.Notice.TheVariants.{Reply, Keys, All, Broken, Other}
+use Rattle.shared_cache.specs.declared.notices.Notice.TheVariants.{Malformed}
+use Rattle.shared_cache.specs.Notices.{notice_of, invalidates}
+use Rattle.shared_cache.specs.Log.{is_wire, replies, with_reply}
+use Rattle.shared_cache.specs.Held.{Setup, Key, Words, SentCommand, numbered, numbers, held_of}
+use Rattle.shared_cache.specs.Held.{held, unless, other_than, fetched, asked, put_ask, put_read}
+use Rattle.shared_cache.specs.Held.{put_command, sent, open_fetch, left}
 
 pub unless_none : (t : Key → Bool) (o : Option Words) → o ≡ None → unless t o ≡ None
 unless_none t o e = ap (unless t) e
 
 -- a number past all that were sent has no fetch
-beyond_asked : (h : Option Holding) (on : Bool) (q : Words) (before : List Words) (s : Setup) (n : ℕ) (old : Option Words)
-    → numbered s (sent_unless h q before) < n → (numbered s before < n → old ≡ None) → asked h on (numbered s before + 1) q n old ≡ None
-beyond_asked (Some h) on q before s n old lt rest = rest lt
+beyond_asked : (h : Option CacheEntry) (on : Bool) (q : Words) (before : List SentCommand)
+    (s : Setup) (n : ℕ) (old : Option Words)
+    → numbered s (before ++ put_ask h s.mode on q) < n → (numbered s before < n → old ≡ None)
+    → asked h s.mode on (numbered s before) q n old ≡ None
+beyond_asked (Some h) on q before s n old lt rest =
+    rest (let e = ap length (append-nil before) in omega (arith, e))
 beyond_asked None on q before s n old lt rest =
-    ap (λ b. cond b (fetched on q) (other_than q old)) (ne_eqb n (numbered s before + 1) (λ e. omega (arith, length-append before (q ∷ []))))
-    ∙ ap (other_than q) (rest (omega (arith, length-append before (q ∷ []))))
+    ap (λ b. cond b (fetched on q) (other_than q old))
+    (ne_eqb n (numbered s before + 1)
+    (λ e. omega (arith, length-append before (put_read s.mode on q))))
+    ∙ ap (other_than q) (rest (omega (arith, length-append before (put_read s.mode on q))))
 
-pub beyond : (s : Setup) (log : List LogEntry) (n : ℕ) → numbers s log < n → open_fetch s log n ≡ None
+pub beyond : (s : Setup) (log : List LogEntry) (n : ℕ) → numbers s log < n
+    → open_fetch s log n ≡ None
 beyond s [] n lt = refl
-beyond s (Ask q ∷ log) n lt = beyond_asked (held_of q (held s log)) _ q (sent s log) s n (open_fetch s log n) lt (beyond s log n)
-beyond s (Send ws ∷ log) n lt = unless_none (writes ws) (open_fetch s log n) (beyond s log n (omega (arith, length-append (sent s log) (ws ∷ []))))
+beyond s (Ask q ∷ log) n lt =
+    beyond_asked (held_of q (held s log)) _ q (sent s log) s n (open_fetch s log n) lt
+    (beyond s log n)
+beyond s (Send ws ∷ log) n lt =
+    unless_none (writes ws) (open_fetch s log n)
+    (beyond s log n (omega (arith, length-append (sent s log) (put_command s.mode ws))))
 beyond s (Poll m ∷ log) n lt = beyond s log n lt
 beyond s (TakeOut w m ∷ log) n lt = beyond s log n lt
-beyond s (Got w v ∷ log) n lt = unless_none (spoils s.mode w v) (open_fetch s log n) (beyond s log n lt)
+beyond s (Got w v ∷ log) n lt =
+    unless_none (invalidates s.mode w v) (open_fetch s log n) (beyond s log n lt)
 beyond s (End w ∷ log) n lt = refl
 beyond s (Bad w v ∷ log) n lt = refl
 
 -- replies are added, and none is taken away
-more_replies : (w : Wire) (k : Notice) (v : Value) (vs : List Value) → length vs ≤ length (with_reply w k v vs)
-more_replies Main Reply v vs = omega arith
-more_replies Main Keys v vs = omega arith
-more_replies Main All v vs = omega arith
-more_replies Main Broken v vs = omega arith
-more_replies Main Other v vs = omega arith
-more_replies Main Malformed v vs = omega arith
-more_replies Side k v vs = omega arith
+more_replies : (main : Bool) (k : Notice) (v : Value) (vs : List Value)
+    → length vs ≤ length (with_reply main k v vs)
+more_replies true Reply v vs = omega arith
+more_replies true Keys v vs = omega arith
+more_replies true All v vs = omega arith
+more_replies true Broken v vs = omega arith
+more_replies true Other v vs = omega arith
+more_replies true Malformed v vs = omega arith
+more_replies false k v vs = omega arith
 
 -- a fetch without a reply has not left
-pub stays : (s : Setup) (log : List LogEntry) (n : ℕ) → length (replies s.mode log) < n → left s log n ≡ false
+pub stays : (s : Setup) (log : List LogEntry) (n : ℕ) → length (replies s.mode Main log) < n
+    → left s log n ≡ false
 stays s [] n lt = refl
 stays s (Ask q ∷ log) n lt = stays s log n lt
 stays s (Send ws ∷ log) n lt = stays s log n lt
 stays s (Poll m ∷ log) n lt = stays s log n lt
 stays s (TakeOut w m ∷ log) n lt = stays s log n lt
 stays s (Got w v ∷ log) n lt =
-    let less : length (replies s.mode log) < n = omega (arith, more_replies w (notice_of s.mode w v) v (replies s.mode log)) in
-    or_from _ _ (stays s log n less) (and_left _ _ (lt-leb n (length (replies s.mode log)) less))
+    let less : length (replies s.mode Main log) < n
+    = omega (
+      arith,
+      more_replies (is_wire w Main) (notice_of s.mode w v) v (replies s.mode Main log),
+    ) in
+    or_from _ _ (stays s log n less)
+    (and_left _ _ (lt-leb n (length (replies s.mode Main log)) less))
 stays s (End w ∷ log) n lt = stays s log n lt
 stays s (Bad w v ∷ log) n lt = stays s log n lt

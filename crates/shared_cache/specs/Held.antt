@@ -1,5 +1,7 @@
 -- Which fetches may fill the cache, and what the cache holds, as read off the log.
-use Rattle.std.specs.Prelude.{◌==◌, ◌+◌, ◌&&◌, ◌||◌, ◌++◌, ℕ, List, [], ◌∷◌, length, Bool, true, false, Option, Some, None, if◌then◌else◌, nat_lt, nat_le}
+use Rattle.std.specs.Prelude.{◌==◌, ◌+◌, ◌&&◌, ◌||◌, ◌++◌, ℕ, List, [], ◌∷◌, length, map, Bool}
+use Rattle.std.specs.Prelude.{true}
+use Rattle.std.specs.Prelude.{false, Option, Some, None, if◌then◌else◌, nat_lt, nat_le}
 use Rattle.std.specs.List.{list_any, flat_map}
 use Rattle.std.specs.Str.{bytes_eq}
 use Rattle.std.specs.declared.cmp.Ordering.{Ordering}
@@ -12,12 +14,13 @@ use Rattle.shared_cache.specs.declared.log.Wire.{Wire}
 use Rattle.shared_cache.specs.declared.log.Wire.TheVariants.{Main, Side}
 use Rattle.shared_cache.specs.declared.log.ClientMode.{ClientMode}
 use Rattle.shared_cache.specs.declared.log.LogEntry.{LogEntry}
-use Rattle.shared_cache.specs.declared.log.LogEntry.TheVariants.{Ask, Send, Poll, TakeOut, Got, End, Bad}
-use Rattle.shared_cache.specs.declared.holding.Holding.{Holding}
+use Rattle.shared_cache.specs.declared.log.LogEntry.TheVariants.{Ask, Send, Poll, TakeOut, Got}
+use Rattle.shared_cache.specs.declared.log.LogEntry.TheVariants.{End, Bad}
+use Rattle.shared_cache.specs.declared.entry.CacheEntry.{CacheEntry}
 use Rattle.shared_cache.specs.declared.notices.Notice.{Notice}
 use Rattle.shared_cache.specs.declared.notices.Notice.TheVariants.{Reply}
-use Rattle.shared_cache.specs.Notices.{notice_of, spoils}
-use Rattle.shared_cache.specs.Log.{handshake, replies, caching_on_for}
+use Rattle.shared_cache.specs.Notices.{notice_of, invalidates}
+use Rattle.shared_cache.specs.Log.{handshake, handshake_length, replies, caching_on_for}
 
 abbrev pub Key : Type 0
 Key = List ℕ
@@ -31,56 +34,96 @@ pub record Setup : Type 0 where
   pub capacity : ℕ
   pub log_max : ℕ
 
--- how many commands have a number, where these went behind the handshake
-abbrev pub numbered : Setup → List Words → ℕ
-numbered s sent = length (handshake s.mode) + length sent
+-- ---- the commands that calls put on a wire
+
+-- who asked for a command: a caller, who gets its number, or the client itself
+pub data Origin : Type 0 where
+  Caller : Origin
+  Library : Origin
+
+pub record SentCommand : Type 0 where
+  pub words : Words
+  pub origin : Origin
+
+-- what a Send puts on Main; the last has the number that is answered
+abbrev pub put_command : ClientMode → Words → List SentCommand
+put_command m ws = record { words = ws; origin = Caller } ∷ []
+
+-- what an Ask puts on Main where its fetch has caching on or off; the last is the read
+abbrev pub put_read : ClientMode → Bool → Words → List SentCommand
+put_read m on q = record { words = q; origin = Caller } ∷ []
+
+-- a hit puts nothing
+abbrev pub put_ask : Option CacheEntry → ClientMode → Bool → Words → List SentCommand
+put_ask (Some h) m on q = []
+put_ask None m on q = put_read m on q
+
+-- how many commands have a number, where these were sent after the handshake
+abbrev pub numbered : Setup → List SentCommand → ℕ
+numbered s sent = handshake_length s.mode + length sent
 
 -- words as they are printed
 abbrev pub shown_words : Words → List ℕ
 shown_words [] = []
 shown_words (w ∷ ws) = printed w ++ flat_map (λ x. 32 ∷ printed x) ws
 
--- ---- of what is held, each with its last use
+-- ---- what is held, each a query with its value and the number of its fetch
 
 -- what is held of the query
-abbrev pub held_of : Words → List Holding → Option Holding
+abbrev pub held_of : Words → List CacheEntry → Option CacheEntry
 held_of q [] = None
 held_of q (h ∷ hs) = if same_query h.query q then Some h else held_of q hs
 
-abbrev pub has_key : Key → List Holding → Bool
+abbrev pub has_key : Key → List CacheEntry → Bool
 has_key k = list_any (λ h. bytes_eq (key_of h.query) k)
 
 -- how many keys are held
-abbrev pub keys_held : List Holding → ℕ
+abbrev pub keys_held : List CacheEntry → ℕ
 keys_held [] = 0
 keys_held (h ∷ hs) = if has_key (key_of h.query) hs then keys_held hs else keys_held hs + 1
 
--- the first of those whose key was used earliest
-abbrev pub earliest_from : Holding → List Holding → Holding
-earliest_from best [] = best
-earliest_from best (h ∷ hs) = earliest_from (if nat_lt h.used best.used then h else best) hs
+abbrev pub earlier : (Key → ℕ) → CacheEntry → CacheEntry → CacheEntry
+earlier use_of h best =
+    if nat_lt (use_of (key_of h.query)) (use_of (key_of best.query)) then h else best
 
-abbrev pub earliest : List Holding → Option Holding
-earliest [] = None
-earliest (h ∷ hs) = Some (earliest_from h hs)
+-- the first of those whose key has the least last use
+abbrev pub earliest_from : (Key → ℕ) → CacheEntry → List CacheEntry → CacheEntry
+earliest_from use_of best [] = best
+earliest_from use_of best (h ∷ hs) = earliest_from use_of (earlier use_of h best) hs
 
-abbrev pub key_held : Option Holding → Option Key
+abbrev pub earliest : (Key → ℕ) → List CacheEntry → Option CacheEntry
+earliest use_of [] = None
+earliest use_of (h ∷ hs) = Some (earliest_from use_of h hs)
+
+abbrev pub key_held : Option CacheEntry → Option Key
 key_held None = None
 key_held (Some h) = Some (key_of h.query)
 
--- the key that leaves where the query is filled: none while its own key or fewer keys than the capacity are held
-abbrev pub leaving : ℕ → Option Words → List Holding → Option Key
-leaving capacity None hs = None
-leaving capacity (Some q) hs =
+-- the key that leaves where the query is filled: none while its own key or fewer keys than the
+-- capacity are held
+abbrev pub leaving : ℕ → (Key → ℕ) → Option Words → List CacheEntry → Option Key
+leaving capacity use_of None hs = None
+leaving capacity use_of (Some q) hs =
     if has_key (key_of q) hs then None else
-    if nat_lt (keys_held hs) capacity then None else key_held (earliest hs)
+    if nat_lt (keys_held hs) capacity then None else key_held (earliest use_of hs)
 
 abbrev pub is_key : Option Key → Option Words → Bool
 is_key None o = false
 is_key (Some k) None = false
 is_key (Some k) (Some q) = bytes_eq (key_of q) k
 
--- ---- of one fetch
+-- ---- one fetch
+
+-- an entry ends what a fetch of the key with that number may fill, after the log before it: an own
+-- write, an invalidation, an end
+abbrev pub ends : Setup → List LogEntry → ℕ → LogEntry → Key → Bool
+ends s log n (Ask q) k = false
+ends s log n (Send ws) k = writes ws k
+ends s log n (Poll m) k = false
+ends s log n (TakeOut w m) k = false
+ends s log n (Got w v) k = invalidates s.mode w v k
+ends s log n (End w) k = true
+ends s log n (Bad w v) k = true
 
 abbrev pub unless : (Key → Bool) → Option Words → Option Words
 unless test None = None
@@ -94,16 +137,15 @@ abbrev pub fetched : Bool → Words → Option Words
 fetched true q = Some q
 fetched false q = None
 
--- after an Ask that was no hit, the fetch of the new number is open where caching is on; a later fetch of a query ends the older
-abbrev pub asked : Option Holding → Bool → ℕ → Words → ℕ → Option Words → Option Words
-asked (Some h) on new q n old = old
-asked None on new q n old = if n == new then fetched on q else other_than q old
+-- after an Ask that was no hit, the fetch of its read's number is open where caching is on; a later
+-- fetch of a query ends the older
+abbrev pub asked :
+    Option CacheEntry → ClientMode → Bool → ℕ → Words → ℕ → Option Words → Option Words
+asked (Some h) m on before q n old = old
+asked None m on before q n old =
+    if n == before + length (put_read m on q) then fetched on q else other_than q old
 
-abbrev pub sent_unless : Option Holding → Words → List Words → List Words
-sent_unless (Some h) q sent = sent
-sent_unless None q sent = sent ++ q ∷ []
-
-abbrev pub hit_of : Option Holding → Words → Option Words
+abbrev pub hit_of : Option CacheEntry → Words → Option Words
 hit_of (Some h) q = Some q
 hit_of None q = None
 
@@ -113,42 +155,49 @@ filled_by Main Reply o = o
 filled_by Main _ o = None
 filled_by Side n o = None
 
-abbrev pub used : Option Words → Key → ℕ → ℕ → ℕ
-used None k now before = before
-used (Some q) k now before = if bytes_eq k (key_of q) then now else before
+-- the last use of the key after an entry of that number used the query's key, or none
+abbrev pub used_at : Option Words → Key → ℕ → ℕ → ℕ
+used_at None k now before = before
+used_at (Some q) k now before = if bytes_eq k (key_of q) then now else before
 
-abbrev pub hold : Option Words → Bool → Value → ℕ → (Key → ℕ) → List Holding
-hold None gone v n use_of = []
-hold (Some q) gone v n use_of = if gone then [] else record { query = q; value = v; number = n; used = use_of (key_of q); shown = shown_words q } ∷ []
+abbrev pub hold : Option Words → Bool → Value → ℕ → List CacheEntry
+hold None gone v n = []
+hold (Some q) gone v n = if gone then [] else record { query = q; value = v; number = n } ∷ []
 
 -- the fetches that are open, have their reply, and whose key has not left since
-abbrev pub held_by : (ℕ → Option Words) → (ℕ → Bool) → (Key → ℕ) → List Value → List Holding
-held_by open_of left_of use_of [] = []
-held_by open_of left_of use_of (v ∷ vs) =
-    held_by open_of left_of use_of vs ++ hold (open_of (length vs + 1)) (left_of (length vs + 1)) v (length vs + 1) use_of
+abbrev pub held_by : (ℕ → Option Words) → (ℕ → Bool) → List Value → List CacheEntry
+held_by open_of left_of [] = []
+held_by open_of left_of (v ∷ vs) =
+    held_by open_of left_of vs
+    ++ hold (open_of (length vs + 1)) (left_of (length vs + 1)) v (length vs + 1)
 
 abbrev mutual
-  -- the commands that Asks and Sends put on Main, in order of time: an Ask that is a hit puts none
-  pub sent : Setup → List LogEntry → List Words
+  -- the commands on Main after the handshake, in order of time
+  pub sent : Setup → List LogEntry → List SentCommand
   sent s [] = []
-  sent s (Ask q ∷ log) = sent_unless (held_of q (held_by (open_fetch s log) (left s log) (last_use s log) (replies s.mode log))) q (sent s log)
-  sent s (Send ws ∷ log) = sent s log ++ ws ∷ []
+  sent s (Ask q ∷ log) =
+      sent s log
+      ++ put_ask (held_of q (held_by (open_fetch s log) (left s log) (replies s.mode Main log)))
+      s.mode (caching_on_for s.mode log (key_of q)) q
+  sent s (Send ws ∷ log) = sent s log ++ put_command s.mode ws
   sent s (Poll n ∷ log) = sent s log
   sent s (TakeOut w n ∷ log) = sent s log
   sent s (Got w v ∷ log) = sent s log
   sent s (End w ∷ log) = sent s log
   sent s (Bad w v ∷ log) = sent s log
 
-  -- the query of the fetch of that number, where it is open: sent with caching on, and nothing since then ends it
+  -- the query of the fetch of that number, where it is open: sent with caching on, and nothing
+  -- since then ends it
   pub open_fetch : Setup → List LogEntry → ℕ → Option Words
   open_fetch s [] n = None
   open_fetch s (Ask q ∷ log) n =
-      asked (held_of q (held_by (open_fetch s log) (left s log) (last_use s log) (replies s.mode log)))
-      (caching_on_for s.mode log (key_of q)) (numbered s (sent s log) + 1) q n (open_fetch s log n)
-  open_fetch s (Send ws ∷ log) n = unless (writes ws) (open_fetch s log n)
+      asked (held_of q (held_by (open_fetch s log) (left s log) (replies s.mode Main log)))
+      s.mode (caching_on_for s.mode log (key_of q)) (numbered s (sent s log)) q n
+      (open_fetch s log n)
+  open_fetch s (Send ws ∷ log) n = unless (ends s log n (Send ws)) (open_fetch s log n)
   open_fetch s (Poll m ∷ log) n = open_fetch s log n
   open_fetch s (TakeOut w m ∷ log) n = open_fetch s log n
-  open_fetch s (Got w v ∷ log) n = unless (spoils s.mode w v) (open_fetch s log n)
+  open_fetch s (Got w v ∷ log) n = unless (ends s log n (Got w v)) (open_fetch s log n)
   open_fetch s (End w ∷ log) n = None
   open_fetch s (Bad w v ∷ log) n = None
 
@@ -160,10 +209,12 @@ abbrev mutual
   left s (Poll m ∷ log) n = left s log n
   left s (TakeOut w m ∷ log) n = left s log n
   left s (Got w v ∷ log) n =
-      left s log n || (nat_le n (length (replies s.mode log))
+      left s log n || (nat_le n (length (replies s.mode Main log))
       && is_key
-      (leaving s.capacity (filled_by w (notice_of s.mode w v) (open_fetch s log (length (replies s.mode log) + 1)))
-      (held_by (open_fetch s log) (left s log) (last_use s log) (replies s.mode log)))
+      (leaving s.capacity (last_use s log)
+      (filled_by w (notice_of s.mode w v)
+      (open_fetch s log (length (replies s.mode Main log) + 1)))
+      (held_by (open_fetch s log) (left s log) (replies s.mode Main log)))
       (open_fetch s log n))
   left s (End w ∷ log) n = left s log n
   left s (Bad w v ∷ log) n = left s log n
@@ -172,18 +223,23 @@ abbrev mutual
   pub last_use : Setup → List LogEntry → Key → ℕ
   last_use s [] k = 0
   last_use s (Ask q ∷ log) k =
-      used (hit_of (held_of q (held_by (open_fetch s log) (left s log) (last_use s log) (replies s.mode log))) q) k (length log + 1) (last_use s log k)
+      used_at
+      (hit_of (held_of q (held_by (open_fetch s log) (left s log) (replies s.mode Main log))) q)
+      k (length log + 1) (last_use s log k)
   last_use s (Send ws ∷ log) k = last_use s log k
   last_use s (Poll n ∷ log) k = last_use s log k
   last_use s (TakeOut w n ∷ log) k = last_use s log k
   last_use s (Got w v ∷ log) k =
-      used (filled_by w (notice_of s.mode w v) (open_fetch s log (length (replies s.mode log) + 1))) k (length log + 1) (last_use s log k)
+      used_at
+      (filled_by w (notice_of s.mode w v)
+      (open_fetch s log (length (replies s.mode Main log) + 1)))
+      k (length log + 1) (last_use s log k)
   last_use s (End w ∷ log) k = last_use s log k
   last_use s (Bad w v ∷ log) k = last_use s log k
 
 -- what the cache holds, in order of the fetches
-abbrev pub held : Setup → List LogEntry → List Holding
-held s log = held_by (open_fetch s log) (left s log) (last_use s log) (replies s.mode log)
+abbrev pub held : Setup → List LogEntry → List CacheEntry
+held s log = held_by (open_fetch s log) (left s log) (replies s.mode Main log)
 
 -- how many commands on Main have a number
 abbrev pub numbers : Setup → List LogEntry → ℕ
@@ -191,31 +247,33 @@ numbers s log = numbered s (sent s log)
 
 -- the commands on a link, in order of time
 abbrev pub commands : Setup → Wire → List LogEntry → List Words
-commands s Main log = handshake s.mode ++ sent s log
+commands s Main log = handshake s.mode log ++ map (λ c. c.words) (sent s log)
 commands s Side log = []
 
 -- ---- what is held, in byte order of the printed words
 
 -- by the printed words, and were these the same, by the number of the fetch
-abbrev pub order : Holding → Holding → Ordering
-order o h = ordering_then (slice_cmp nat_cmp o.shown h.shown) (nat_cmp o.number h.number)
+abbrev pub order : CacheEntry → CacheEntry → Ordering
+order o h =
+    ordering_then (slice_cmp nat_cmp (shown_words o.query) (shown_words h.query))
+    (nat_cmp o.number h.number)
 
-abbrev pub is_before : Holding → Holding → Bool
+abbrev pub is_before : CacheEntry → CacheEntry → Bool
 is_before o h = is_lt (order o h)
 
 -- how many come before it
-abbrev pub rank : Holding → List Holding → ℕ
+abbrev pub rank : CacheEntry → List CacheEntry → ℕ
 rank h [] = 0
 rank h (o ∷ os) = if is_before o h then rank h os + 1 else rank h os
 
-abbrev pub ranked : ℕ → List Holding → List Holding → Option Holding
+abbrev pub ranked : ℕ → List CacheEntry → List CacheEntry → Option CacheEntry
 ranked place all [] = None
 ranked place all (h ∷ hs) = if rank h all == place then Some h else ranked place all hs
 
 -- the one that so many come before
-abbrev pub held_at : ℕ → List Holding → Option Holding
+abbrev pub held_at : ℕ → List CacheEntry → Option CacheEntry
 held_at place hs = ranked place hs hs
 
-abbrev pub told : Option Holding → Option (Words × Value × ℕ)
-told None = None
-told (Some h) = Some (h.query, h.value, h.number)
+abbrev pub listed : Option CacheEntry → Option (Words × Value × ℕ)
+listed None = None
+listed (Some h) = Some (h.query, h.value, h.number)

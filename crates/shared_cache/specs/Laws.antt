@@ -1,46 +1,72 @@
 -- What holds of every legal log: the laws of a client's log.
-use Rattle.std.specs.Prelude.{◌≡◌, ◌+◌, ◌<◌, ◌≤◌, ◌++◌, ◌⊎◌, ℕ, List, [], ◌∷◌, length, drop, true, false, if◌then◌else◌, Some, None}
+use Rattle.std.specs.Prelude.{◌≡◌, ◌-◌, ◌<◌, ◌≤◌, ◌++◌, ◌⊎◌, ℕ, List, [], ◌∷◌, length, drop}
+use Rattle.std.specs.Prelude.{reverse, true, false, if◌then◌else◌, Some, None}
+use Rattle.std.specs.List.{filter, slice_get}
+use Rattle.resp_value.specs.Lists.{IsPrefix}
 use Rattle.resp_value.specs.declared.value.Value.{Value}
 use Rattle.command_words.specs.Control.{is_control}
 use Rattle.command_words.specs.Queries.{query_of, key_of, writes}
 use Rattle.shared_cache.specs.declared.log.Wire.{Wire}
 use Rattle.shared_cache.specs.declared.log.Wire.TheVariants.{Main, Side}
-use Rattle.shared_cache.specs.declared.log.ClientMode.{ClientMode}
 use Rattle.shared_cache.specs.declared.log.ClientCall.{ClientCall}
 use Rattle.shared_cache.specs.declared.log.ClientCall.TheVariants as call
-use Rattle.shared_cache.specs.declared.log.LogEntry.{LogEntry}
-use Rattle.shared_cache.specs.declared.log.LogEntry.TheVariants.{Ask, Send, Poll, TakeOut, Got, End, Bad}
-use Rattle.shared_cache.specs.declared.holding.Holding.{Holding}
-use Rattle.shared_cache.specs.Notices.{spoils}
-use Rattle.shared_cache.specs.Log.{handshake, is_wire, is_ended, is_ready, caching_on_for, reply}
-use Rattle.shared_cache.specs.Held.{Setup, Key, Words, held, held_of, held_at, rank, is_before, open_fetch, numbers, sent, commands}
 use Rattle.shared_cache.specs.declared.log.ClientReply.{ClientReply}
-use Rattle.shared_cache.specs.Steps.{client_step, ClientStep}
-
--- some list begins with another
-abbrev pub Prefix : {A : Type 0} → List A → List A → Type 0
-Prefix {A} xs ys = (rest : List A) × (xs ++ rest ≡ ys)
+use Rattle.shared_cache.specs.declared.log.LogEntry.{LogEntry}
+use Rattle.shared_cache.specs.declared.log.LogEntry.TheVariants.{Ask, Send, Poll, TakeOut, Got}
+use Rattle.shared_cache.specs.declared.log.LogEntry.TheVariants.{End, Bad}
+use Rattle.shared_cache.specs.declared.entry.CacheEntry.{CacheEntry}
+use Rattle.shared_cache.specs.Notices.{notice_of, is_reply}
+use Rattle.shared_cache.specs.Log.{handshake, is_wire, is_ended, is_ready, caching_on_for, replies}
+use Rattle.shared_cache.specs.Log.{reply}
+use Rattle.shared_cache.specs.Held.{Setup, Key, Words, SentCommand, Caller, has_key, keys_held}
+use Rattle.shared_cache.specs.Held.{held}
+use Rattle.shared_cache.specs.Held.{held_of, held_at, rank, is_before, ends, open_fetch, last_use}
+use Rattle.shared_cache.specs.Held.{leaving}
+use Rattle.shared_cache.specs.Held.{sent, commands}
+use Rattle.shared_cache.specs.Out.{out, taken}
+use Rattle.shared_cache.specs.Steps.{read_number, client_step, ClientStep}
 
 abbrev pub Every : {A : Type 0} → (A → Type 0) → List A → Type 0
 Every P [] = Unit {0}
 Every P (x ∷ xs) = P x × Every P xs
 
--- a query's words read as the query
+-- ---- legal logs
+
+-- a call speaks of the one link, and a command has at least one word
+abbrev pub IsCall : ClientCall → Type 0
+IsCall (call.Ask q) = Unit {0}
+IsCall (call.Send ws) = 0 < length ws
+IsCall (call.Poll n) = Unit {0}
+IsCall (call.TakeOut w most) = w ≡ Main
+IsCall (call.Got w v) = w ≡ Main
+IsCall (call.End w) = w ≡ Main
+
+-- a query's words read as the query, as those of each `Query` do
 abbrev pub IsQuery : Words → Type 0
 IsQuery q = query_of q ≡ Some q
 
-abbrev pub IsCall : ClientCall → Type 0
-IsCall (call.Ask q) = IsQuery q
-IsCall (call.Send ws) = Unit {0}
-IsCall (call.Poll n) = Unit {0}
-IsCall (call.TakeOut w n) = Unit {0}
-IsCall (call.Got w v) = Unit {0}
-IsCall (call.End w) = Unit {0}
+abbrev pub AsksQuery : ClientCall → Type 0
+AsksQuery (call.Ask q) = IsQuery q
+AsksQuery (call.Send ws) = Unit {0}
+AsksQuery (call.Poll n) = Unit {0}
+AsksQuery (call.TakeOut w most) = Unit {0}
+AsksQuery (call.Got w v) = Unit {0}
+AsksQuery (call.End w) = Unit {0}
 
 -- each entry is one that a turn adds on the entries before it
 abbrev pub LegalLog : Setup → List LogEntry → Type 0
 LegalLog s [] = Unit {0}
-LegalLog s (e ∷ log) = LegalLog s log × ((c : ClientCall) × IsCall c × ((client_step s log c).past ≡ e ∷ log))
+LegalLog s (e ∷ log) =
+    LegalLog s log
+    × ((c : ClientCall) × IsCall c × AsksQuery c × ((client_step s log c).past ≡ e ∷ log))
+
+-- a turn leaves a legal log legal
+abbrev pub LegalStep : Type 0
+LegalStep =
+    (s : Setup) (log new : List LogEntry) (c : ClientCall) (r : ClientReply)
+    → LegalLog s log → IsCall c → AsksQuery c → ClientStep s log c r new → LegalLog s new
+
+-- ---- what was got
 
 -- the values that were got on a link, in order of time
 abbrev pub gots : Wire → List LogEntry → List Value
@@ -53,77 +79,136 @@ gots w (Got u v ∷ log) = if is_wire u w then gots w log ++ v ∷ [] else gots 
 gots w (End u ∷ log) = gots w log
 gots w (Bad u v ∷ log) = gots w log
 
--- an entry that ends the right of no fetch of the key
-abbrev pub Spares : ClientMode → Key → LogEntry → Type 0
-Spares m k (Ask q) = Unit {0}
-Spares m k (Send ws) = writes ws k ≡ false
-Spares m k (Poll n) = Unit {0}
-Spares m k (TakeOut w n) = Unit {0}
-Spares m k (Got w v) = spoils m w v k ≡ false
-Spares m k (End w) = ⊥
-Spares m k (Bad w v) = ⊥
+abbrev pub GotsGrow : Type 0
+GotsGrow =
+    (w : Wire) (e : LogEntry) (log : List LogEntry)
+    → (gots w (e ∷ log) ≡ gots w log) ⊎ ((v : Value) × (gots w (e ∷ log) ≡ gots w log ++ v ∷ []))
+
+-- the replies are the values got that are no push, in order
+abbrev pub RepliesAreGots : Type 0
+RepliesAreGots =
+    (s : Setup) (w : Wire) (log : List LogEntry)
+    → reverse (replies s.mode w log) ≡ filter (λ v. is_reply (notice_of s.mode w v)) (gots w log)
+
+-- ---- what was sent
+
+abbrev pub CommandsGrow : Type 0
+CommandsGrow =
+    (s : Setup) (w : Wire) (e : LogEntry) (log : List LogEntry)
+    → IsPrefix (commands s w log) (commands s w (e ∷ log))
+
+-- each command has a word
+abbrev pub CommandsHaveWords : Type 0
+CommandsHaveWords =
+    (s : Setup) (w : Wire) (log : List LogEntry) → LegalLog s log
+    → Every (λ ws. 0 < length ws) (commands s w log)
+
+-- no more bytes were taken than there are
+abbrev pub TakenWithin : Type 0
+TakenWithin = (s : Setup) (w : Wire) (log : List LogEntry) → taken s w log ≤ length (out s w log)
+
+-- the handshake's commands come first, and nothing after them before the client is ready
+abbrev pub HandshakeFirst : Type 0
+HandshakeFirst =
+    (s : Setup) (log : List LogEntry) → LegalLog s log
+    → IsPrefix (handshake s.mode log) (commands s Main log)
+    × (is_ready s.mode log ≡ false → commands s Main log ≡ handshake s.mode log)
+
+-- no command of a caller is a control command
+abbrev pub NoControl : Type 0
+NoControl =
+    (s : Setup) (log : List LogEntry) → LegalLog s log
+    → Every (λ (c : SentCommand). c.origin ≡ Caller → is_control c.words ≡ false) (sent s log)
+
+-- ---- open fetches
+
+-- none of the later entries ends what the fetch of the key with that number may fill
+abbrev pub Spared : Setup → List LogEntry → ℕ → Key → List LogEntry → Type 0
+Spared s sooner n k [] = Unit {0}
+Spared s sooner n k (e ∷ later) =
+    (ends s (later ++ sooner) n e k ≡ false) × Spared s sooner n k later
 
 -- how an open fetch was sent, and what came since
 pub record WasSent (s : Setup) (log : List LogEntry) (n : ℕ) (q : Words) : Type 0 where
   pub later : List LogEntry
   pub sooner : List LogEntry
-  pub parts : log ≡ later ++ Ask q ∷ sooner
-  pub number_is : n ≡ numbers s sooner + 1
+  pub log_is : log ≡ later ++ Ask q ∷ sooner
+  pub number_is : n ≡ read_number s sooner q
   pub missed : held_of q (held s sooner) ≡ None
   pub on : caching_on_for s.mode sooner (key_of q) ≡ true
-  pub spared : Every (Spares s.mode (key_of q)) later
+  pub spared : Spared s (Ask q ∷ sooner) n (key_of q) later
 
--- an open fetch of which a reply is held
-pub record IsFetch (s : Setup) (log : List LogEntry) (h : Holding) : Type 0 where
-  pub fetch : open_fetch s log h.number ≡ Some h.query
-  pub reply_is : reply s.mode log h.number ≡ Some h.value
-
--- ---- the laws
-
-abbrev pub CommandsGrow : Type 0
-CommandsGrow = (s : Setup) (w : Wire) (e : LogEntry) (log : List LogEntry) → Prefix (commands s w log) (commands s w (e ∷ log))
-
-abbrev pub GotsGrow : Type 0
-GotsGrow = (w : Wire) (e : LogEntry) (log : List LogEntry) → (gots w (e ∷ log) ≡ gots w log) ⊎ ((v : Value) × (gots w (e ∷ log) ≡ gots w log ++ v ∷ []))
-
--- the handshake's commands come first, and nothing behind them before the client is ready
-abbrev pub HandshakeFirst : Type 0
-HandshakeFirst = (s : Setup) (log : List LogEntry) → LegalLog s log
-    → Prefix (handshake s.mode) (commands s Main log) × (is_ready s.mode log ≡ false → commands s Main log ≡ handshake s.mode)
-
--- none of the others is a control command
-abbrev pub NoControl : Type 0
-NoControl = (s : Setup) (log : List LogEntry) → LegalLog s log → Every (λ ws. is_control ws ≡ false) (sent s log)
-
--- an open fetch was sent when its number was still to come, with caching on, so the client was ready; and nothing got or sent since ends it
+-- an open fetch was sent when its number was still to come, with caching on, so the client was
+-- ready; and nothing got or sent since ends it
 abbrev pub OpenWasSent : Type 0
-OpenWasSent = (s : Setup) (log : List LogEntry) (n : ℕ) (q : Words) → open_fetch s log n ≡ Some q → WasSent s log n q
+OpenWasSent =
+    (s : Setup) (log : List LogEntry) (n : ℕ) (q : Words) → open_fetch s log n ≡ Some q
+    → WasSent s log n q
+
+-- the command of an open fetch's number is its query
+abbrev pub PlaceIsQuery : Type 0
+PlaceIsQuery =
+    (s : Setup) (log : List LogEntry) (n : ℕ) (q : Words) → open_fetch s log n ≡ Some q
+    → (0 < n) × (slice_get (commands s Main log) (n - 1) ≡ Some q)
 
 abbrev pub SentReady : Type 0
-SentReady = (s : Setup) (log : List LogEntry) (n : ℕ) (q : Words) (f : open_fetch s log n ≡ Some q) → (w : WasSent s log n q) → is_ready s.mode w.sooner ≡ true
+SentReady =
+    (s : Setup) (log : List LogEntry) (n : ℕ) (q : Words) (f : open_fetch s log n ≡ Some q)
+    → (w : WasSent s log n q) → is_ready s.mode w.sooner ≡ true
 
 abbrev pub OpenWires : Type 0
-OpenWires = (s : Setup) (log : List LogEntry) (n : ℕ) (q : Words) → open_fetch s log n ≡ Some q → (is_ended s.mode Main log ≡ false) × (is_ended s.mode Side log ≡ false)
+OpenWires =
+    (s : Setup) (log : List LogEntry) (n : ℕ) (q : Words) → open_fetch s log n ≡ Some q
+    → (is_ended s.mode Main log ≡ false) × (is_ended s.mode Side log ≡ false)
 
--- no command behind an open fetch writes its key
+-- no command after an open fetch writes its key
 abbrev pub NoLaterWrite : Type 0
-NoLaterWrite = (s : Setup) (log : List LogEntry) (n : ℕ) (q : Words) → LegalLog s log → open_fetch s log n ≡ Some q
+NoLaterWrite =
+    (s : Setup) (log : List LogEntry) (n : ℕ) (q : Words)
+    → LegalLog s log → open_fetch s log n ≡ Some q
     → Every (λ ws. writes ws (key_of q) ≡ false) (drop n (commands s Main log))
+
+-- ---- what is held
+
+-- an open fetch of which a reply is held
+pub record IsFetch (s : Setup) (log : List LogEntry) (h : CacheEntry) : Type 0 where
+  pub fetch : open_fetch s log h.number ≡ Some h.query
+  pub reply_is : reply s.mode log h.number ≡ Some h.value
 
 -- what is held is the reply to an open fetch
 abbrev pub HeldIsFetch : Type 0
 HeldIsFetch = (s : Setup) (log : List LogEntry) → Every (IsFetch s log) (held s log)
 
--- each place below their number has one, and no other place; none is left out, and those at lower places come before
-pub record InOrder (hs : List Holding) : Type 0 where
-  pub filled : (place : ℕ) → place < length hs → (h : Holding) × (held_at place hs ≡ Some h)
+-- once a link has ended nothing is held
+abbrev pub EndedHoldsNothing : Type 0
+EndedHoldsNothing =
+    (s : Setup) (w : Wire) (log : List LogEntry) → is_ended s.mode w log ≡ true → held s log ≡ []
+
+-- no more keys are held than the capacity
+abbrev pub WithinCapacity : Type 0
+WithinCapacity =
+    (s : Setup) (log : List LogEntry) → 0 < s.capacity → LegalLog s log
+    → keys_held (held s log) ≤ s.capacity
+
+-- of what is held no key has an earlier last use than the one that leaves, which is among them
+pub record IsEarliest (s : Setup) (log : List LogEntry) (k : Key) : Type 0 where
+  pub is_held : has_key k (held s log) ≡ true
+  pub earliest :
+      Every (λ (h : CacheEntry). last_use s log k ≤ last_use s log (key_of h.query)) (held s log)
+
+abbrev pub EarliestLeaves : Type 0
+EarliestLeaves =
+    (s : Setup) (log : List LogEntry) (q : Words) (k : Key)
+    → leaving s.capacity (last_use s log) (Some q) (held s log) ≡ Some k → IsEarliest s log k
+
+-- each place below their number has one, and no other place; none is left out, and those at lower
+-- places come before
+pub record InOrder (hs : List CacheEntry) : Type 0 where
+  pub filled : (place : ℕ) → place < length hs → (h : CacheEntry) × (held_at place hs ≡ Some h)
   pub beyond : (place : ℕ) → length hs ≤ place → held_at place hs ≡ None
   pub listed : Every (λ h. held_at (rank h hs) hs ≡ Some h) hs
-  pub sorted : (p q : ℕ) (g h : Holding) → p < q → held_at p hs ≡ Some g → held_at q hs ≡ Some h → is_before g h ≡ true
+  pub sorted : (p q : ℕ) (g h : CacheEntry) → p < q → held_at p hs ≡ Some g → held_at q hs ≡ Some h
+      → is_before g h ≡ true
 
 abbrev pub HeldInOrder : Type 0
 HeldInOrder = (s : Setup) (log : List LogEntry) → InOrder (held s log)
-
--- a turn leaves a legal log legal
-abbrev pub LegalStep : Type 0
-LegalStep = (s : Setup) (log new : List LogEntry) (c : ClientCall) (r : ClientReply) → LegalLog s log → IsCall c → ClientStep s log c r new → LegalLog s new

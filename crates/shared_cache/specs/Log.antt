@@ -1,5 +1,7 @@
--- What a client's log says of its handshake, its replies and its links. A log is a list of entries, the newest first.
-use Rattle.std.specs.Prelude.{◌==◌, ◌+◌, ◌&&◌, ◌||◌, ℕ, List, [], ◌∷◌, length, Bool, true, false, not, Option, Some, None, if◌then◌else◌, codes}
+-- What a client's log says of its handshake, its replies and its links. A log is a list of
+-- entries, the newest first.
+use Rattle.std.specs.Prelude.{◌==◌, ◌+◌, ◌&&◌, ◌||◌, ℕ, List, [], ◌∷◌, length, Bool, true, false}
+use Rattle.std.specs.Prelude.{not, Option, Some, None, if◌then◌else◌, codes}
 use Rattle.std.specs.Str.{bytes_eq}
 use Rattle.resp_value.specs.declared.value.Value.{Value}
 use Rattle.resp_value.specs.declared.value.Value.TheVariants.{Simple}
@@ -7,18 +9,27 @@ use Rattle.shared_cache.specs.declared.log.Wire.{Wire}
 use Rattle.shared_cache.specs.declared.log.Wire.TheVariants.{Main, Side}
 use Rattle.shared_cache.specs.declared.log.ClientMode.{ClientMode}
 use Rattle.shared_cache.specs.declared.log.LogEntry.{LogEntry}
-use Rattle.shared_cache.specs.declared.log.LogEntry.TheVariants.{Ask, Send, Poll, TakeOut, Got, End, Bad}
+use Rattle.shared_cache.specs.declared.log.LogEntry.TheVariants.{Ask, Send, Poll, TakeOut, Got}
+use Rattle.shared_cache.specs.declared.log.LogEntry.TheVariants.{End, Bad}
 use Rattle.shared_cache.specs.declared.notices.Notice.{Notice}
-use Rattle.shared_cache.specs.declared.notices.Notice.TheVariants.{Reply, Keys, All, Broken, Other, Malformed}
+use Rattle.shared_cache.specs.declared.notices.Notice.TheVariants.{Reply, Keys, All, Broken, Other}
+use Rattle.shared_cache.specs.declared.notices.Notice.TheVariants.{Malformed}
 use Rattle.shared_cache.specs.Notices.{notice_of}
 
--- what a client on one link sends first, in default mode over the third protocol
-abbrev pub greetings : List (List (List ℕ))
-greetings = (codes "HELLO" ∷ codes "3" ∷ []) ∷ (codes "CLIENT" ∷ codes "TRACKING" ∷ codes "ON" ∷ []) ∷ []
+-- how many commands on Main a client of this mode has sent when its handshake is done
+abbrev pub handshake_length : ClientMode → ℕ
+handshake_length m = 2
 
--- what a client of this mode sends first
-abbrev pub handshake : ClientMode → List (List (List ℕ))
-handshake m = greetings
+-- the number of the first command after the handshake
+abbrev pub first_number : ClientMode → ℕ
+first_number m = handshake_length m + 1
+
+-- the commands of the handshake that the log has let go: on one link, in default mode over the
+-- third protocol, all from the start (HELLO, CLIENT TRACKING)
+abbrev pub handshake : ClientMode → List LogEntry → List (List (List ℕ))
+handshake m log =
+    (codes "HELLO" ∷ codes "3" ∷ [])
+    ∷ (codes "CLIENT" ∷ codes "TRACKING" ∷ codes "ON" ∷ []) ∷ []
 
 abbrev pub is_wire : Wire → Wire → Bool
 is_wire Main Main = true
@@ -26,29 +37,30 @@ is_wire Main Side = false
 is_wire Side Main = false
 is_wire Side Side = true
 
-abbrev pub with_reply : Wire → Notice → Value → List Value → List Value
-with_reply Main Reply v vs = v ∷ vs
-with_reply Main _ v vs = vs
-with_reply Side n v vs = vs
+abbrev pub with_reply : Bool → Notice → Value → List Value → List Value
+with_reply true Reply v vs = v ∷ vs
+with_reply true n v vs = vs
+with_reply false n v vs = vs
 
--- the replies to the commands on Main, the newest first
-abbrev pub replies : ClientMode → List LogEntry → List Value
-replies m [] = []
-replies m (Ask q ∷ log) = replies m log
-replies m (Send ws ∷ log) = replies m log
-replies m (Poll n ∷ log) = replies m log
-replies m (TakeOut w n ∷ log) = replies m log
-replies m (Got w v ∷ log) = with_reply w (notice_of m w v) v (replies m log)
-replies m (End w ∷ log) = replies m log
-replies m (Bad w v ∷ log) = replies m log
+-- the replies to the commands on a wire, the newest first
+abbrev pub replies : ClientMode → Wire → List LogEntry → List Value
+replies m w [] = []
+replies m w (Ask q ∷ log) = replies m w log
+replies m w (Send ws ∷ log) = replies m w log
+replies m w (Poll n ∷ log) = replies m w log
+replies m w (TakeOut u n ∷ log) = replies m w log
+replies m w (Got u v ∷ log) = with_reply (is_wire u w) (notice_of m u v) v (replies m w log)
+replies m w (End u ∷ log) = replies m w log
+replies m w (Bad u v ∷ log) = replies m w log
 
 -- the reply of that number; the oldest has number 1
 abbrev pub reply_in : ℕ → List Value → Option Value
 reply_in n [] = None
 reply_in n (v ∷ vs) = if n == length vs + 1 then Some v else reply_in n vs
 
+-- the reply to the command of that number on Main
 abbrev pub reply : ClientMode → List LogEntry → ℕ → Option Value
-reply m log n = reply_in n (replies m log)
+reply m log n = reply_in n (replies m Main log)
 
 abbrev pub is_ok_text : Value → Bool
 is_ok_text (Simple t) = bytes_eq t (codes "OK")
@@ -60,7 +72,7 @@ is_accepted (Some v) = is_ok_text v
 
 -- the tracking command, the last of the handshake, was accepted
 abbrev pub is_ready : ClientMode → List LogEntry → Bool
-is_ready m log = is_accepted (reply m log (length (handshake m)))
+is_ready m log = is_accepted (reply m log (handshake_length m))
 
 -- the link has ended
 abbrev pub is_ended : ClientMode → Wire → List LogEntry → Bool
@@ -81,7 +93,7 @@ is_broken_notice All = false
 is_broken_notice Other = false
 is_broken_notice Malformed = false
 
--- the redirection was told to be broken
+-- a notice of a broken redirection has come
 abbrev pub is_broken : ClientMode → List LogEntry → Bool
 is_broken m [] = false
 is_broken m (Ask q ∷ log) = is_broken m log
@@ -92,10 +104,11 @@ is_broken m (Got w v ∷ log) = is_broken_notice (notice_of m w v) || is_broken 
 is_broken m (End w ∷ log) = is_broken m log
 is_broken m (Bad w v ∷ log) = is_broken m log
 
--- the server is to tell of what is read: from ready until a link ends or the redirection is broken
+-- the server invalidates what is read: from ready until a link ends or the redirection is broken
 abbrev pub caching_on : ClientMode → List LogEntry → Bool
-caching_on m log = is_ready m log && (not (is_ended m Main log || is_ended m Side log) && not (is_broken m log))
+caching_on m log =
+    is_ready m log && (not (is_ended m Main log || is_ended m Side log) && not (is_broken m log))
 
--- and of a read of this key
+-- and what is read of this key
 abbrev pub caching_on_for : ClientMode → List LogEntry → List ℕ → Bool
 caching_on_for m log key = caching_on m log

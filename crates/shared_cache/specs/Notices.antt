@@ -1,4 +1,5 @@
--- What a value that was read is to a client: a reply, or a push of some kind (the Redis client-side caching reference).
+-- What a value that was read is to a client: a reply, or a push of some kind (the Redis client-side
+-- caching reference).
 use Rattle.std.specs.Prelude.{ℕ, List, [], ◌∷◌, Bool, true, false, if◌then◌else◌, codes}
 use Rattle.std.specs.List.{list_any}
 use Rattle.std.specs.Str.{bytes_eq}
@@ -8,7 +9,8 @@ use Rattle.resp_value.specs.declared.value.Value.TheVariants.{Push}
 use Rattle.shared_cache.specs.declared.log.Wire.{Wire}
 use Rattle.shared_cache.specs.declared.log.ClientMode.{ClientMode}
 use Rattle.shared_cache.specs.declared.notices.Notice.{Notice}
-use Rattle.shared_cache.specs.declared.notices.Notice.TheVariants.{Reply, Keys, All, Broken, Other, Malformed}
+use Rattle.shared_cache.specs.declared.notices.Notice.TheVariants.{Reply, Keys, All, Broken, Other}
+use Rattle.shared_cache.specs.declared.notices.Notice.TheVariants.{Malformed}
 
 abbrev pub all_blobs : Trees → Bool
 all_blobs end = true
@@ -43,6 +45,14 @@ kind_of v = Reply
 abbrev pub notice_of : ClientMode → Wire → Value → Notice
 notice_of m w v = kind_of v
 
+abbrev pub is_reply : Notice → Bool
+is_reply Reply = true
+is_reply Keys = false
+is_reply All = false
+is_reply Broken = false
+is_reply Other = false
+is_reply Malformed = false
+
 abbrev pub blobs_in : Trees → List (List ℕ)
 blobs_in end = []
 blobs_in (more (blob b) ts) = b ∷ blobs_in ts
@@ -57,17 +67,17 @@ abbrev pub named_keys : Value → List (List ℕ)
 named_keys (Push ts) = keys_in ts
 named_keys v = []
 
-abbrev pub spoils_as : Notice → List (List ℕ) → List ℕ → Bool
-spoils_as Reply keys key = false
-spoils_as Keys keys key = list_any (bytes_eq key) keys
-spoils_as All keys key = true
-spoils_as Broken keys key = true
-spoils_as Other keys key = false
-spoils_as Malformed keys key = false
+abbrev pub invalidates_as : Notice → List (List ℕ) → List ℕ → Bool
+invalidates_as Reply keys key = false
+invalidates_as Keys keys key = list_any (bytes_eq key) keys
+invalidates_as All keys key = true
+invalidates_as Broken keys key = true
+invalidates_as Other keys key = false
+invalidates_as Malformed keys key = false
 
--- the value tells that what was read of the key is not to be kept
-abbrev pub spoils : ClientMode → Wire → Value → List ℕ → Bool
-spoils m w v key = spoils_as (notice_of m w v) (named_keys v) key
+-- after this value nothing that was read of the key before may be held
+abbrev pub invalidates : ClientMode → Wire → Value → List ℕ → Bool
+invalidates m w v key = invalidates_as (notice_of m w v) (named_keys v) key
 
 -- a well-formed push
 abbrev pub IsPush : Notice → Type 0

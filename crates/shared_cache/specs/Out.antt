@@ -1,12 +1,14 @@
 -- The bytes for a client's links, and the replies for its callers, as read off the log.
-use Rattle.std.specs.Prelude.{◌==◌, ◌+◌, ◌-◌, ◌&&◌, ◌||◌, ℕ, List, [], ◌∷◌, length, drop, min, Bool, false, not, if◌then◌else◌, nat_lt, nat_le}
-use Rattle.std.specs.List.{flat_map}
+use Rattle.std.specs.Prelude.{◌==◌, ◌+◌, ◌-◌, ◌&&◌, ◌||◌, ℕ, List, [], ◌∷◌, length, drop, min}
+use Rattle.std.specs.Prelude.{Bool, true, false, not, if◌then◌else◌, nat_lt, Option, Some, None}
+use Rattle.std.specs.List.{flat_map, slice_get}
 use Rattle.resp_value.specs.Spelling.{request_spelling}
 use Rattle.shared_cache.specs.declared.log.Wire.{Wire}
 use Rattle.shared_cache.specs.declared.log.LogEntry.{LogEntry}
-use Rattle.shared_cache.specs.declared.log.LogEntry.TheVariants.{Ask, Send, Poll, TakeOut, Got, End, Bad}
-use Rattle.shared_cache.specs.Log.{handshake, is_wire}
-use Rattle.shared_cache.specs.Held.{Setup, commands, numbers}
+use Rattle.shared_cache.specs.declared.log.LogEntry.TheVariants.{Ask, Send, Poll, TakeOut, Got}
+use Rattle.shared_cache.specs.declared.log.LogEntry.TheVariants.{End, Bad}
+use Rattle.shared_cache.specs.Log.{handshake_length, first_number, is_wire}
+use Rattle.shared_cache.specs.Held.{Setup, Origin, Caller, Library, SentCommand, sent, commands}
 
 -- the bytes for a link: its commands in turn
 unfoldable pub out : Setup → Wire → List LogEntry → List ℕ
@@ -18,7 +20,9 @@ taken s w [] = 0
 taken s w (Ask q ∷ log) = taken s w log
 taken s w (Send ws ∷ log) = taken s w log
 taken s w (Poll n ∷ log) = taken s w log
-taken s w (TakeOut u n ∷ log) = if is_wire u w then taken s w log + min n (length (out s w log) - taken s w log) else taken s w log
+taken s w (TakeOut u n ∷ log) =
+    if is_wire u w then taken s w log + min n (length (out s w log) - taken s w log)
+    else taken s w log
 taken s w (Got u v ∷ log) = taken s w log
 taken s w (End u ∷ log) = taken s w log
 taken s w (Bad u v ∷ log) = taken s w log
@@ -38,6 +42,20 @@ is_polled (Got w v ∷ log) n = is_polled log n
 is_polled (End w ∷ log) n = is_polled log n
 is_polled (Bad w v ∷ log) n = is_polled log n
 
--- a caller was given the number and has not been handed its reply
+abbrev pub is_caller : Origin → Bool
+is_caller Caller = true
+is_caller Library = false
+
+abbrev pub is_callers : Option SentCommand → Bool
+is_callers None = false
+is_callers (Some c) = is_caller c.origin
+
+-- a caller was given the number
+abbrev pub was_given : Setup → List LogEntry → ℕ → Bool
+was_given s log n =
+    nat_lt (handshake_length s.mode) n
+    && is_callers (slice_get (sent s log) (n - first_number s.mode))
+
+-- and has not been handed its reply
 abbrev pub is_wanted : Setup → List LogEntry → ℕ → Bool
-is_wanted s log n = nat_lt (length (handshake s.mode)) n && (nat_le n (numbers s log) && not (is_polled log n))
+is_wanted s log n = was_given s log n && not (is_polled log n)

@@ -1,20 +1,21 @@
-// The client's state: one turn at a time.
-ghost use Rattle.std.specs.Prelude.{◌≡◌, ◌+◌, ◌<◌, ◌≤◌, ◌∷◌, [], ℕ, IfOk, OnOk, OnErr, reverse, length};
+//! The client's state: one turn at a time.
+ghost use Rattle.std.specs.Prelude.{◌≡◌, ◌+◌, ◌<◌, ◌≤◌, ◌∷◌, [], ℕ, IfOk, OnOk, OnErr, reverse};
+ghost use Rattle.std.specs.Prelude.{length};
 
-use super::cache::{forget_all, held_at, held_of, mark, refill, spoil, touch};
-use super::desk::{Handed, hand_over, put_reply};
-use super::handshake::{enqueue, greeting, is_welcome};
-use super::holding::{Desk, Holding};
+use super::cache::{Fill, forget_all, invalidate, mark, refill, slot_at, slot_for, touch};
+use super::entry::{PendingReply, Slot};
+use super::handshake::{HANDSHAKE, enqueue, greeting, is_welcome};
 use super::log::{ClientCall, ClientMode, ClientRefusal, ClientReply, LogEntry, Wire};
-use super::notices::{Notice, is_broken_by, kind_of, told};
+use super::notices::{Notice, invalidated, is_broken_by, kind_of};
+use super::pending::{Handed, hand_over, put_reply};
+use byte_queue::ByteQueue;
 use command_words::{Query, is_control, written_by};
 use fill_mark::Marks;
 use resp_value::{NoMemory, Octets, Value, Words};
 use std::alloc::Global;
 use std::marker::Model;
 
-// How many commands the handshake has.
-const HANDSHAKE: u64 = 2;
+const DOWN: ClientRefusal = ClientRefusal::Down { wire: Wire::Main };
 
 /// A client of one link: its log, the bytes for its link, the replies for its callers, the marks
 /// of its fetches and its cache.
@@ -26,34 +27,46 @@ pub struct ClientState {
     log_max: u64,
     // it has room for an end, and for a Poll of each number that is owed
     log: Vec<LogEntry>,
-    // all bytes for the link, of which the first were taken
-    queued: Vec<u8>,
-    taken: usize,
+    // the bytes for the link that were not taken
+    queued: ByteQueue,
     replied: u64,
-    // by number, behind the handshake's
-    desk: Vec<Desk>,
+    // by number, after the handshake's
+    pending: Vec<PendingReply>,
     owed: usize,
     marks: Marks,
-    slots: Vec<Holding>,
+    slots: Vec<Slot>,
     ended: bool,
     broken: bool,
 }
 
 impl Model for ClientState {
     ghost use Rattle.std.specs.Prelude.{◌+◌, ◌≤◌, reverse, cond, vec_len, vec_capacity};
-    ghost use Rattle.shared_cache.specs.Standing.{Standing, Keeps};
+    ghost use Rattle.shared_cache.specs.ClientFields.{Client, Reflects};
     ghost use Rattle.std.specs.Coded.{codes};
-    ghost use Rattle.resp_value.specs.Code.{tree_code};
+    ghost use Rattle.resp_value.specs.TreeCoding.{tree_code};
 
-    ghost Value = { Standing };
+    ghost Value = { Client };
 
     ghost coded = { Prim.hlevel (codes, tree_code) };
 
-    ghost view = { λ c. record { setup = record { mode = c.mode; capacity = c.capacity; log_max = c.log_max }; past = reverse c.log.items } };
+    ghost view = { λ c. record {
+      setup = record { mode = c.mode; capacity = c.capacity; log_max = c.log_max };
+      past = reverse c.log.items;
+    } };
 
     ghost invariant = { λ c. record {
-      keeps : Keeps (record { mode = c.mode; capacity = c.capacity; log_max = c.log_max }) (reverse c.log.items)
-          c.queued.items c.taken c.replied c.desk.items c.owed c.marks c.slots.items c.ended c.broken;
+      reflects : Reflects (record { mode = c.mode; capacity = c.capacity; log_max = c.log_max })
+          (reverse c.log.items)
+          (record {
+            queued = c.queued;
+            replied = c.replied;
+            pending = c.pending.items;
+            owed = c.owed;
+            marks = c.marks;
+            slots = c.slots.items;
+            ended = c.ended;
+            broken = c.broken;
+          });
       room : vec_len c.log + c.owed + cond c.ended 0 1 ≤ vec_capacity c.log;
     } };
 }
@@ -66,11 +79,12 @@ impl ClientState {
     ghost use Rattle.shared_cache.specs.declared.log.Wire.TheVariants.{Main};
     ghost use Rattle.shared_cache.specs.Notices.{kind_of, IsPush};
     ghost use Rattle.shared_cache.specs.Log.{is_ready, is_ended, replies};
-    ghost use Rattle.shared_cache.specs.Held.{numbers, held, held_of, held_at, told};
+    ghost use Rattle.shared_cache.specs.Held.{numbers, held, held_of, held_at, listed};
     ghost use Rattle.shared_cache.specs.Out.{untaken};
-    ghost use Rattle.shared_cache.specs.Steps.{ClientStep, answer_ask, is_full, is_welcome, fault_of};
-    ghost use Rattle.shared_cache.specs.Standing.{IsCallable, IsLast, IsServed, added};
-    ghost use Rattle.shared_cache.specs.Laws.{LegalLog};
+    ghost use Rattle.shared_cache.specs.Steps.{ClientStep, answer_ask, read_number, command_number};
+    ghost use Rattle.shared_cache.specs.Steps.{is_full, is_welcome, fault_of};
+    ghost use Rattle.shared_cache.specs.ClientFields.{IsLast, IsServed, added};
+    ghost use Rattle.shared_cache.specs.Laws.{IsCall, LegalLog};
 
     /// A client with an empty log, whose handshake is queued.
     pub fn new(
@@ -82,9 +96,12 @@ impl ClientState {
         requires mode { IsServed mode }
         requires capacity { (0 < capacity) × (capacity ≤ 1000000) }
         requires log_max { 0 < log_max }
-        ensures { IfOk result (λ c. c ≡ record { setup = record { mode = mode; capacity = capacity; log_max = log_max }; past = [] }) }
+        ensures { IfOk result (λ c. c ≡ record {
+          setup = record { mode = mode; capacity = capacity; log_max = log_max };
+          past = [];
+        }) }
     {
-        let queued = greeting(alloc)?;
+        let queued = greeting(alloc, &mode)?;
         Ok(ClientState {
             alloc,
             mode,
@@ -92,9 +109,8 @@ impl ClientState {
             log_max,
             log: Vec::with_capacity(alloc, 1)?,
             queued,
-            taken: 0,
             replied: 0,
-            desk: Vec::new(alloc),
+            pending: Vec::new(alloc),
             owed: 0,
             marks: Marks::new(alloc),
             slots: Vec::new(alloc),
@@ -111,15 +127,16 @@ impl ClientState {
     }
 
     /// What is held, in byte order of the query's printed words: the query, the value, and the
-    /// number of the fetch. None past the last.
+    /// number of the fetch. None past the last. Each that is held is compared with all others.
     pub fn held(&self, place: usize) -> Option<(&Query, &Value, u64)>
-        ensures { option_map (λ r. (r.0.now, r.1.now, r.2)) result ≡ told (held_at place (held self.now.setup self.now.past)) }
+        ensures { option_map (λ r. (r.0.now, r.1.now, r.2)) result
+            ≡ listed (held_at place (held self.now.setup self.now.past)) }
     {
-        let slot = held_at(&self.slots, place)?;
-        Some((&slot.query, &slot.value, slot.number))
+        let slot = slot_at(&self.slots, place)?;
+        Some((&slot.entry.query, &slot.entry.value, slot.entry.number))
     }
 
-    fn is_over(&self) -> bool
+    fn has_ended(&self) -> bool
         ensures { result ≡ is_ended self.now.setup.mode Main self.now.past }
     {
         self.ended
@@ -156,9 +173,10 @@ impl ClientState {
 
     fn end(&mut self) -> ClientReply
         ensures setup { self.new.setup ≡ self.old.setup }
-        ensures step { ClientStep self.old.setup self.old.past (call.End Main) result self.new.past }
+        ensures step { ClientStep self.old.setup self.old.past (call.End Main) result
+            self.new.past }
     {
-        if self.is_over() {
+        if self.has_ended() {
             return ClientReply::Noted;
         }
         self.finish(LogEntry::End(Wire::Main));
@@ -167,20 +185,21 @@ impl ClientState {
 
     fn hand_out(&mut self, number: u64) -> ClientReply
         ensures setup { self.new.setup ≡ self.old.setup }
-        ensures step { ClientStep self.old.setup self.old.past (call.Poll number) result self.new.past }
+        ensures step { ClientStep self.old.setup self.old.past (call.Poll number) result
+            self.new.past }
     {
         if number <= HANDSHAKE {
             return ClientReply::Refused(ClientRefusal::NoNumber { number });
         }
-        if number - HANDSHAKE > self.desk.len() as u64 {
+        if number - HANDSHAKE > self.pending.len() as u64 {
             return ClientReply::Refused(ClientRefusal::NoNumber { number });
         }
         let place = (number - HANDSHAKE - 1) as usize;
-        match hand_over(&mut self.desk, place) {
+        match hand_over(&mut self.pending, place) {
             Handed::Gone => ClientReply::Refused(ClientRefusal::NoNumber { number }),
             Handed::Waiting => {
                 if self.ended {
-                    return ClientReply::Refused(ClientRefusal::Down { wire: Wire::Main });
+                    return ClientReply::Refused(DOWN);
                 }
                 ClientReply::NotYet
             }
@@ -195,30 +214,30 @@ impl ClientState {
     fn is_drained(&self) -> bool
         ensures { result ≡ (length (untaken self.now.setup Main self.now.past) == 0) }
     {
-        self.taken == self.queued.len()
+        self.queued.len() == 0
     }
 
     fn give(&mut self, most: u64) -> Result<Octets, NoMemory>
         requires { is_ended self.old.setup.mode Main self.old.past ≡ false }
-        ensures bytes { IfOk result (λ b. b ≡ take most (untaken self.old.setup Main self.old.past)) }
+        ensures bytes { IfOk result
+            (λ b. b ≡ take most (untaken self.old.setup Main self.old.past)) }
         ensures ok { OnOk result (self.new ≡ added (entry.TakeOut Main most) self.old) }
         ensures err { OnErr result (self.new ≡ self.old) }
     {
-        let rest = self.queued.split_at(self.taken).1;
-        let count = rest.len().min(most as usize);
-        let bytes = Octets::from_slice(self.alloc, rest.split_at(count).0)?;
+        let bytes = self.queued.front(most as usize)?;
         self.log.reserve(self.owed + 2)?;
-        self.taken += count;
+        self.queued.advance(most as usize);
         self.log.push_reserved(LogEntry::TakeOut(Wire::Main, most));
         Ok(bytes)
     }
 
     fn take_out(&mut self, most: u64) -> ClientReply
         ensures setup { self.new.setup ≡ self.old.setup }
-        ensures step { ClientStep self.old.setup self.old.past (call.TakeOut Main most) result self.new.past }
+        ensures step { ClientStep self.old.setup self.old.past (call.TakeOut Main most) result
+            self.new.past }
     {
-        if self.is_over() {
-            return ClientReply::Refused(ClientRefusal::Down { wire: Wire::Main });
+        if self.has_ended() {
+            return ClientReply::Refused(DOWN);
         }
         if self.is_drained() {
             return ClientReply::Quiet;
@@ -234,28 +253,29 @@ impl ClientState {
         }
     }
 
-    // The words go out, and what they write goes.
+    // The words go out, and what they write is no longer held.
     fn pass_on(&mut self, words: Words) -> Result<u64, NoMemory>
         requires { is_ended self.old.setup.mode Main self.old.past ≡ false }
-        ensures number { IfOk result (λ n. n ≡ numbers self.old.setup self.old.past + 1) }
+        ensures number { IfOk result (λ n. n ≡ command_number self.old.setup self.old.past words) }
         ensures ok { OnOk result (self.new ≡ added (entry.Send words) self.old) }
         ensures err { OnErr result (self.new ≡ self.old) }
     {
         let written = written_by(self.alloc, &words)?;
         self.log.reserve(self.owed + 3)?;
-        enqueue(&words, &mut self.queued, &mut self.desk)?;
-        spoil(&mut self.marks, &mut self.slots, &written);
+        enqueue(self.alloc, &words, &mut self.queued, &mut self.pending)?;
+        invalidate(&mut self.marks, &mut self.slots, &written);
         self.owed += 1;
         self.log.push_reserved(LogEntry::Send(words));
-        Ok(HANDSHAKE + self.desk.len() as u64)
+        Ok(HANDSHAKE + self.pending.len() as u64)
     }
 
     fn send(&mut self, words: Words) -> ClientReply
         ensures setup { self.new.setup ≡ self.old.setup }
-        ensures step { ClientStep self.old.setup self.old.past (call.Send words) result self.new.past }
+        ensures step { ClientStep self.old.setup self.old.past (call.Send words) result
+            self.new.past }
     {
-        if self.is_over() {
-            return ClientReply::Refused(ClientRefusal::Down { wire: Wire::Main });
+        if self.has_ended() {
+            return ClientReply::Refused(DOWN);
         }
         if !self.is_ready() {
             return ClientReply::Refused(ClientRefusal::NotReady);
@@ -287,25 +307,30 @@ impl ClientState {
         Ok(())
     }
 
-    // A miss: the query goes out, and its mark stands while caching is on.
+    // A miss: the query goes out, and while caching is on its fetch is marked.
     fn fetch(&mut self, query: Query) -> Result<u64, NoMemory>
         requires open { is_ended self.old.setup.mode Main self.old.past ≡ false }
         requires ready { is_ready self.old.setup.mode self.old.past ≡ true }
         requires miss { held_of query (held self.old.setup self.old.past) ≡ None }
-        ensures number { IfOk result (λ n. n ≡ numbers self.old.setup self.old.past + 1) }
+        ensures number { IfOk result (λ n. n ≡ read_number self.old.setup self.old.past query) }
         ensures ok { OnOk result (self.new ≡ added (entry.Ask query) self.old) }
         ensures err { OnErr result (self.new ≡ self.old) }
     {
         let marked = query.copy()?;
-        let number = HANDSHAKE + self.desk.len() as u64 + 1;
+        let number = HANDSHAKE + self.pending.len() as u64 + 1;
         let before = self.queued.len();
         self.log.reserve(self.owed + 3)?;
-        enqueue(query.words(), &mut self.queued, &mut self.desk)?;
+        enqueue(
+            self.alloc,
+            query.words(),
+            &mut self.queued,
+            &mut self.pending,
+        )?;
         match mark(&mut self.marks, self.broken, number, marked) {
             Ok(()) => {}
             Err(_) => {
-                self.queued.truncate(before);
-                let _ = self.desk.pop();
+                self.queued.keep(before);
+                let _ = self.pending.pop();
                 return Err(NoMemory);
             }
         }
@@ -317,14 +342,16 @@ impl ClientState {
     fn answer(&mut self, query: Query) -> Result<ClientReply, NoMemory>
         requires open { is_ended self.old.setup.mode Main self.old.past ≡ false }
         requires ready { is_ready self.old.setup.mode self.old.past ≡ true }
-        ensures reply { IfOk result (λ r. r ≡ answer_ask (held_of query (held self.old.setup self.old.past)) (numbers self.old.setup self.old.past + 1)) }
+        ensures reply { IfOk result
+            (λ r. r ≡ answer_ask (held_of query (held self.old.setup self.old.past))
+            (read_number self.old.setup self.old.past query)) }
         ensures ok { OnOk result (self.new ≡ added (entry.Ask query) self.old) }
         ensures err { OnErr result (self.new ≡ self.old) }
     {
-        match held_of(&self.slots, &query) {
+        match slot_for(&self.slots, &query) {
             Some(slot) => {
-                let value = slot.value.copy()?;
-                let number = slot.number;
+                let value = slot.entry.value.copy()?;
+                let number = slot.entry.number;
                 self.hit(query)?;
                 Ok(ClientReply::Hit { value, number })
             }
@@ -336,10 +363,11 @@ impl ClientState {
 
     fn ask(&mut self, query: Query) -> ClientReply
         ensures setup { self.new.setup ≡ self.old.setup }
-        ensures step { ClientStep self.old.setup self.old.past (call.Ask query) result self.new.past }
+        ensures step { ClientStep self.old.setup self.old.past (call.Ask query) result
+            self.new.past }
     {
-        if self.is_over() {
-            return ClientReply::Refused(ClientRefusal::Down { wire: Wire::Main });
+        if self.has_ended() {
+            return ClientReply::Refused(DOWN);
         }
         if !self.is_ready() {
             return ClientReply::Refused(ClientRefusal::NotReady);
@@ -355,17 +383,17 @@ impl ClientState {
         }
     }
 
-    // A push that is no end.
-    fn heed(&mut self, notice: Notice, value: Value) -> Result<(), NoMemory>
+    // A push that does not end the link.
+    fn on_push(&mut self, notice: Notice, value: Value) -> Result<(), NoMemory>
         requires open { is_ended self.old.setup.mode Main self.old.past ≡ false }
         requires notice { notice ≡ kind_of value }
         requires push { IsPush notice }
         ensures ok { OnOk result (self.new ≡ added (entry.Got Main value) self.old) }
         ensures err { OnErr result (self.new ≡ self.old) }
     {
-        let written = told(self.alloc, notice, &value)?;
+        let written = invalidated(self.alloc, notice, &value)?;
         self.log.reserve(self.owed + 2)?;
-        spoil(&mut self.marks, &mut self.slots, &written);
+        invalidate(&mut self.marks, &mut self.slots, &written);
         self.broken = is_broken_by(notice, self.broken);
         self.log.push_reserved(LogEntry::Got(Wire::Main, value));
         Ok(())
@@ -383,39 +411,39 @@ impl ClientState {
         let logged = value.copy()?;
         self.log.reserve(self.owed + 2)?;
         let now = self.log.len() as u64 + 1;
-        refill(
-            self.alloc,
-            self.capacity,
-            &mut self.marks,
-            &mut self.slots,
+        let fill = Fill {
+            capacity: self.capacity,
             number,
             now,
-            &logged,
-        )?;
-        put_reply(&mut self.desk, number, value);
+        };
+        refill(self.alloc, fill, &logged, &mut self.marks, &mut self.slots)?;
+        put_reply(&self.mode, &mut self.pending, number, value);
         self.replied = number;
         self.log.push_reserved(LogEntry::Got(Wire::Main, logged));
         Ok(())
     }
 
     fn is_awaiting(&self) -> bool
-        ensures { result ≡ not (nat_le (numbers self.now.setup self.now.past) (length (replies self.now.setup.mode self.now.past))) }
+        ensures { result ≡ not (nat_le (numbers self.now.setup self.now.past)
+            (length (replies self.now.setup.mode Main self.now.past))) }
     {
-        self.replied < HANDSHAKE + self.desk.len() as u64
+        self.replied < HANDSHAKE + self.pending.len() as u64
     }
 
     fn welcomes(&self, value: &Value) -> bool
-        ensures { result ≡ is_welcome (length (replies self.now.setup.mode self.now.past) + 1) value.now }
+        ensures { result ≡ is_welcome self.now.setup.mode Main
+            (length (replies self.now.setup.mode Main self.now.past) + 1) value.now }
     {
-        self.replied > 1 || is_welcome(self.replied + 1, value)
+        self.replied >= HANDSHAKE || is_welcome(&self.mode, self.replied + 1, value)
     }
 
     fn got(&mut self, value: Value) -> ClientReply
         ensures setup { self.new.setup ≡ self.old.setup }
-        ensures step { ClientStep self.old.setup self.old.past (call.Got Main value) result self.new.past }
+        ensures step { ClientStep self.old.setup self.old.past (call.Got Main value) result
+            self.new.past }
     {
-        if self.is_over() {
-            return ClientReply::Refused(ClientRefusal::Down { wire: Wire::Main });
+        if self.has_ended() {
+            return ClientReply::Refused(DOWN);
         }
         match kind_of(&value) {
             Notice::Reply => self.got_reply(value),
@@ -432,14 +460,15 @@ impl ClientState {
         requires notice { notice ≡ kind_of value }
         requires push { IsPush notice }
         ensures setup { self.new.setup ≡ self.old.setup }
-        ensures step { ClientStep self.old.setup self.old.past (call.Got Main value) result self.new.past }
+        ensures step { ClientStep self.old.setup self.old.past (call.Got Main value) result
+            self.new.past }
     {
         if self.is_full() {
             return ClientReply::Refused(ClientRefusal::LogFull {
                 entries: self.entries(),
             });
         }
-        match self.heed(notice, value) {
+        match self.on_push(notice, value) {
             Ok(()) => ClientReply::Noted,
             Err(_) => ClientReply::Refused(ClientRefusal::NoMemory),
         }
@@ -449,7 +478,8 @@ impl ClientState {
         requires open { is_ended self.old.setup.mode Main self.old.past ≡ false }
         requires reply { kind_of value ≡ Reply }
         ensures setup { self.new.setup ≡ self.old.setup }
-        ensures step { ClientStep self.old.setup self.old.past (call.Got Main value) result self.new.past }
+        ensures step { ClientStep self.old.setup self.old.past (call.Got Main value) result
+            self.new.past }
     {
         if !self.is_awaiting() {
             self.finish(LogEntry::Bad(Wire::Main, value));
@@ -472,14 +502,15 @@ impl ClientState {
 
     /// One turn: its answer, and one more entry in the log, or none, are those of the definition.
     pub fn turn(&mut self, call: ClientCall) -> ClientReply
-        requires { IsCallable call }
+        requires { IsCall call }
         ensures setup { self.new.setup ≡ self.old.setup }
         ensures step { ClientStep self.old.setup self.old.past call result self.new.past }
-        ensures legal { LegalLog self.old.setup self.old.past → LegalLog self.new.setup self.new.past }
+        ensures legal { LegalLog self.old.setup self.old.past
+            → LegalLog self.new.setup self.new.past }
     {
         match call {
             ClientCall::Ask(query) => {
-                // legal logs hold queries alone, and its words read as the query
+                // an entry of a legal log reads as a query, as each `Query` does
                 let _words = query.words();
                 self.ask(query)
             }

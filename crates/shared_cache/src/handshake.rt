@@ -1,25 +1,38 @@
-// Commands on their way out, and the answers that the handshake is to be given.
+//! Commands on their way out, and the answers that the handshake is to be given.
 ghost use Rattle.std.specs.Prelude.{◌≡◌, ◌++◌, ◌∷◌, [], List, ℕ, IfOk, OnOk, OnErr, codes};
-ghost use Rattle.resp_value.specs.Spelling.{request_spelling};
-ghost use Rattle.shared_cache.specs.declared.holding.Desk.TheVariants.{Waiting};
 ghost use Rattle.std.specs.List.{flat_map};
-ghost use Rattle.shared_cache.specs.Log.{is_ok_text, greetings};
+ghost use Rattle.resp_value.specs.Spelling.{request_spelling};
+ghost use Rattle.shared_cache.specs.declared.entry.PendingReply.TheVariants.{Waiting};
+ghost use Rattle.shared_cache.specs.declared.log.Wire.TheVariants.{Main};
+ghost use Rattle.shared_cache.specs.Log.{handshake, is_ok_text};
 ghost use Rattle.shared_cache.specs.Steps.{is_map, is_welcome};
 
-use super::holding::Desk;
+use super::entry::PendingReply;
+use super::log::ClientMode;
+use byte_queue::ByteQueue;
 use resp_value::{NoMemory, Octets, Value, Words, put_request};
 use std::alloc::Global;
 
-// A command's bytes go onto the queue, and a place for its reply onto the desk.
-pub fn enqueue(words: &Words, queued: &mut Vec<u8>, desk: &mut Vec<Desk>) -> Result<(), NoMemory>
-    ensures queued { OnOk result (queued.new.items ≡ queued.old.items ++ request_spelling words.now) }
-    ensures desk { OnOk result (desk.new.items ≡ desk.old.items ++ Waiting ∷ []) }
-    ensures err_queued { OnErr result (queued.new.items ≡ queued.old.items) }
-    ensures err_desk { OnErr result (desk.new.items ≡ desk.old.items) }
+/// How many commands the handshake has on one link.
+pub const HANDSHAKE: u64 = 2;
+
+/// A command's bytes go onto the queue, and its reply is waited for.
+pub fn enqueue(
+    alloc: Global,
+    words: &Words,
+    queued: &mut ByteQueue,
+    pending: &mut Vec<PendingReply>,
+) -> Result<(), NoMemory>
+    ensures queued { OnOk result (queued.new ≡ queued.old ++ request_spelling words.now) }
+    ensures pending { OnOk result (pending.new.items ≡ pending.old.items ++ Waiting ∷ []) }
+    ensures err_queued { OnErr result (queued.new ≡ queued.old) }
+    ensures err_pending { OnErr result (pending.new.items ≡ pending.old.items) }
 {
-    desk.reserve(1)?;
-    put_request(words, queued)?;
-    desk.push_reserved(Desk::Waiting);
+    pending.reserve(1)?;
+    let mut bytes = Vec::new(alloc);
+    put_request(words, &mut bytes)?;
+    queued.add(&bytes)?;
+    pending.push_reserved(PendingReply::Waiting);
     Ok(())
 }
 
@@ -41,20 +54,20 @@ fn is_ok_text(value: &Value) -> bool
     }
 }
 
-// Whether the value answers the handshake's command of that number as it is to be answered.
-pub fn is_welcome(number: u64, value: &Value) -> bool
-    ensures { result ≡ is_welcome number value.now }
+/// Whether the value answers the handshake's command of that number as it is to be answered.
+pub fn is_welcome(mode: &ClientMode, number: u64, value: &Value) -> bool
+    ensures { result ≡ is_welcome mode.now Main number value.now }
 {
     match number {
         1 => is_map(value),
-        2 => is_ok_text(value),
+        HANDSHAKE => is_ok_text(value),
         _ => true,
     }
 }
 
 /// The bytes of the handshake.
-pub fn greeting(alloc: Global) -> Result<Vec<u8>, NoMemory>
-    ensures { IfOk result (λ b. b.items ≡ flat_map request_spelling greetings) }
+pub fn greeting(alloc: Global, mode: &ClientMode) -> Result<ByteQueue, NoMemory>
+    ensures { IfOk result (λ b. b ≡ flat_map request_spelling (handshake mode.now [])) }
 {
     let mut hello = Words::new(alloc);
     hello.push(Octets::from_slice(alloc, b"HELLO")?)?;
@@ -66,5 +79,7 @@ pub fn greeting(alloc: Global) -> Result<Vec<u8>, NoMemory>
     let mut bytes = Vec::new(alloc);
     put_request(&hello, &mut bytes)?;
     put_request(&tracking, &mut bytes)?;
-    Ok(bytes)
+    let mut queued = ByteQueue::new(alloc);
+    queued.add(&bytes)?;
+    Ok(queued)
 }

@@ -1,5 +1,9 @@
 //! What holds of a client's log. Each function's contract is the law; none has work to do.
-ghost use Rattle.shared_cache.specs.Laws.{CommandsGrow, GotsGrow, HandshakeFirst, NoControl, OpenWasSent, SentReady, OpenWires, NoLaterWrite, HeldIsFetch, HeldInOrder, LegalStep};
+ghost use Rattle.shared_cache.specs.Laws.{LegalStep, CommandsGrow, CommandsHaveWords, GotsGrow};
+ghost use Rattle.shared_cache.specs.Laws.{RepliesAreGots, TakenWithin, HandshakeFirst, NoControl};
+ghost use Rattle.shared_cache.specs.Laws.{OpenWasSent, PlaceIsQuery, SentReady, OpenWires};
+ghost use Rattle.shared_cache.specs.Laws.{NoLaterWrite, HeldIsFetch, EndedHoldsNothing};
+ghost use Rattle.shared_cache.specs.Laws.{WithinCapacity, EarliestLeaves, HeldInOrder};
 
 /// A turn leaves a legal log legal.
 pub fn law_legal_step()
@@ -11,17 +15,32 @@ pub fn law_commands_grow()
     ensures { CommandsGrow }
 {}
 
+/// Each command has at least one word.
+pub fn law_commands_have_words()
+    ensures { CommandsHaveWords }
+{}
+
 /// With one entry more, one value more was got on a link, or none.
 pub fn law_gots_grow()
     ensures { GotsGrow }
 {}
 
-/// The handshake's commands come first, and nothing behind them before the client is ready.
+/// The replies are the values that were got and are no push, in order.
+pub fn law_replies_are_gots()
+    ensures { RepliesAreGots }
+{}
+
+/// No more bytes were taken than there are.
+pub fn law_taken_within()
+    ensures { TakenWithin }
+{}
+
+/// The handshake's commands come first, and nothing after them before the client is ready.
 pub fn law_handshake_first()
     ensures { HandshakeFirst }
 {}
 
-/// No command behind the handshake is one that changes how the server serves the client.
+/// No command of a caller is one that changes how the server serves the client.
 pub fn law_no_control()
     ensures { NoControl }
 {}
@@ -30,6 +49,11 @@ pub fn law_no_control()
 /// held, and nothing that was got or sent since ends it.
 pub fn law_open_was_sent()
     ensures { OpenWasSent }
+{}
+
+/// The command with the number of an open fetch is its query.
+pub fn law_place_is_query()
+    ensures { PlaceIsQuery }
 {}
 
 /// An open fetch was sent by a client that was ready.
@@ -42,7 +66,7 @@ pub fn law_open_wires()
     ensures { OpenWires }
 {}
 
-/// No command behind an open fetch writes its key.
+/// No command after an open fetch writes its key.
 pub fn law_no_later_write()
     ensures { NoLaterWrite }
 {}
@@ -50,6 +74,21 @@ pub fn law_no_later_write()
 /// What is held is the reply to an open fetch.
 pub fn law_held_is_fetch()
     ensures { HeldIsFetch }
+{}
+
+/// Once a link has ended nothing is held.
+pub fn law_ended_holds_nothing()
+    ensures { EndedHoldsNothing }
+{}
+
+/// No more keys are held than the capacity.
+pub fn law_within_capacity()
+    ensures { WithinCapacity }
+{}
+
+/// The key that leaves is held, and none that is held was last used before it.
+pub fn law_earliest_leaves()
+    ensures { EarliestLeaves }
 {}
 
 /// What is held is listed by its places: each below the number of what is held has its own, in

@@ -3,15 +3,15 @@
 
 mod cache;
 mod client;
-mod desk;
+mod entry;
 mod handshake;
-mod holding;
 pub mod laws;
 mod log;
 mod notices;
+mod pending;
 
 pub use client::ClientState;
-pub use holding::{Desk, Holding};
+pub use entry::{CacheEntry, PendingReply, Slot};
 pub use log::{Caching, ClientCall, ClientMode, ClientRefusal, ClientReply, LogEntry, Shape, Wire};
 pub use notices::Notice;
 

@@ -1,4 +1,4 @@
-// What a client is asked, what it answers, and what stands in its log.
+//! What a client is asked, what it answers, and the entries of its log.
 use command_words::Query;
 use resp_value::{Octets, Proto, Value, Words};
 
@@ -91,7 +91,7 @@ pub enum ClientRefusal {
     Worn,
 }
 
-/// What stands in a client's log.
+/// An entry of a client's log.
 #[derive(Drop)]
 pub enum LogEntry {
     Ask(Query),

@@ -1,8 +1,10 @@
-// What a value that was read is to a client.
+//! What a value that was read is to a client.
 ghost use Rattle.std.specs.Prelude.{◌≡◌, ◌||◌, ◌∷◌, List, ℕ, IfOk, map};
-ghost use Rattle.resp_value.specs.Of.{tree_of};
+ghost use Rattle.resp_value.specs.ValueTree.{tree_of};
 ghost use Rattle.resp_value.specs.Tree.{trees_of};
-ghost use Rattle.shared_cache.specs.Notices.{all_blobs, payload, named_push, push, kind_of, blobs_in, named_keys, spoils_as};
+ghost use Rattle.shared_cache.specs.Notices.{all_blobs, payload, named_push, push, kind_of};
+ghost use Rattle.shared_cache.specs.Notices.{blobs_in};
+ghost use Rattle.shared_cache.specs.Notices.{named_keys, invalidates_as};
 ghost use Rattle.shared_cache.specs.Log.{is_broken_notice};
 ghost use Rattle.command_words.specs.Queries.{names};
 
@@ -30,11 +32,13 @@ pub enum Notice {
 fn are_blobs(values: &[Value]) -> bool
     ensures { result ≡ all_blobs (trees_of (map tree_of values.now)) }
 {
-    match values {
-        [] => true,
-        [Value::Blob(_), rest @ ..] => are_blobs(rest),
-        _ => false,
+    for value in values {
+        match value {
+            Value::Blob(_) => {}
+            _ => return false,
+        }
     }
+    true
 }
 
 fn payload(value: &Value) -> Notice
@@ -114,9 +118,10 @@ fn named_keys(alloc: Global, value: &Value) -> Result<Words, NoMemory>
     }
 }
 
-/// What a value of this kind tells to be written: nothing, where it tells of no write.
-pub fn told(alloc: Global, notice: Notice, value: &Value) -> Result<Written, NoMemory>
-    ensures { IfOk result (λ w. (key : List ℕ) → names w key ≡ spoils_as notice (named_keys value.now) key) }
+/// The keys that a value of this kind invalidates.
+pub fn invalidated(alloc: Global, notice: Notice, value: &Value) -> Result<Written, NoMemory>
+    ensures { IfOk result (λ w. (key : List ℕ)
+        → names w key ≡ invalidates_as notice (named_keys value.now) key) }
 {
     match notice {
         Notice::Keys => Ok(Written::Keys(named_keys(alloc, value)?)),
@@ -126,7 +131,7 @@ pub fn told(alloc: Global, notice: Notice, value: &Value) -> Result<Written, NoM
     }
 }
 
-/// Whether a redirection was or is told to be broken.
+/// Whether a redirection is broken after a value of this kind.
 pub fn is_broken_by(notice: Notice, before: bool) -> bool
     ensures { result ≡ (is_broken_notice notice || before) }
 {

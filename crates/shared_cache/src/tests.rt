@@ -1,6 +1,7 @@
 //! A client over hand-written lists of calls.
 ghost use Rattle.std.specs.Prelude.{◌≡◌, IfOk, length};
-ghost use Rattle.shared_cache.specs.Standing.{IsCallable, IsServed};
+ghost use Rattle.shared_cache.specs.ClientFields.{IsServed};
+ghost use Rattle.shared_cache.specs.Laws.{IsCall};
 
 use super::{
     Caching, ClientCall, ClientMode, ClientRefusal, ClientReply, ClientState, Shape, Wire,
@@ -96,7 +97,7 @@ fn keys(alloc: Global, key: &[u8]) -> Result<Value, NoMemory> {
 }
 
 fn got(value: Value) -> ClientCall
-    ensures { IsCallable result }
+    ensures { IsCall result }
 {
     ClientCall::Got(Wire::Main, value)
 }
@@ -118,7 +119,7 @@ fn value_of(alloc: Global, step: Move) -> Result<Value, NoMemory> {
 }
 
 fn call_of(alloc: Global, step: Move) -> Result<ClientCall, Fail>
-    ensures { IfOk result (λ c. IsCallable c) }
+    ensures { IfOk result (λ c. IsCall c) }
 {
     match step {
         Move::Ask(key) => Ok(ClientCall::Ask(query(alloc, key)?)),

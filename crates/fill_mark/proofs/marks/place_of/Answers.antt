@@ -9,7 +9,9 @@ returns-then-mark-number c =
     let m = c.index-marks-place.result in
     record {
       mark = m;
-      stands = slice_get_read c.args.marks.now _ c.loop-place.place m refl c.loop-place-test.true c.index-marks-place.is;
+      at = slice_get_read c.args.marks.now _ c.loop-place.place m refl c.loop-place-test.true
+          c.index-marks-place.is;
       number_is = eq-eqb _ _ c.if-mark-number.true;
-      query_is = sym c.loop-place.invariant ∙ found _ _ _ m c.loop-place-test.true c.index-marks-place.is c.if-mark-number.true;
+      query_is = sym c.loop-place.invariant
+          ∙ found _ _ _ m c.loop-place-test.true c.index-marks-place.is c.if-mark-number.true;
     }

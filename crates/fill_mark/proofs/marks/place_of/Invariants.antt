@@ -3,4 +3,5 @@ use Rattle.fill_mark.specs.Marks.{query_marked}
 use Rattle.fill_mark.proofs.marks.place_of.Given as goal
 
 abbrev pub invariant-loop-place : goal.invariant-loop-place
-invariant-loop-place l = query_marked l.number (drop l.place l.marks) ≡ query_marked l.number l.marks
+invariant-loop-place l =
+    query_marked l.number (drop l.place l.marks) ≡ query_marked l.number l.marks

@@ -1,4 +1,4 @@
-use Rattle.shared_cache.proofs.Lawful.{commands_grow}
+use Rattle.shared_cache.proofs.CommandLists.{commands_grow}
 use Rattle.shared_cache.proofs.laws.law_commands_grow.Goals as goal
 
 pub returns : goal.returns

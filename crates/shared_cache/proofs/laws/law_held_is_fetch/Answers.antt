@@ -1,4 +1,4 @@
-use Rattle.shared_cache.proofs.Lawful.{held_is_fetch}
+use Rattle.shared_cache.proofs.FetchLaws.{held_is_fetch}
 use Rattle.shared_cache.proofs.laws.law_held_is_fetch.Goals as goal
 
 pub returns : goal.returns

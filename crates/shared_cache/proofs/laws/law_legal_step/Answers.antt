@@ -1,4 +1,4 @@
-use Rattle.shared_cache.proofs.Lawful.{legal_step}
+use Rattle.shared_cache.proofs.LegalLogs.{legal_step}
 use Rattle.shared_cache.proofs.laws.law_legal_step.Goals as goal
 
 pub returns : goal.returns

@@ -1,4 +1,4 @@
-use Rattle.shared_cache.proofs.Lawful.{no_control}
+use Rattle.shared_cache.proofs.CommandLaws.{no_control}
 use Rattle.shared_cache.proofs.laws.law_no_control.Goals as goal
 
 pub returns : goal.returns

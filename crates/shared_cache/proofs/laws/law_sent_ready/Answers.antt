@@ -1,4 +1,4 @@
-use Rattle.shared_cache.proofs.Lawful.{sent_ready}
+use Rattle.shared_cache.proofs.FetchLaws.{sent_ready}
 use Rattle.shared_cache.proofs.laws.law_sent_ready.Goals as goal
 
 pub returns : goal.returns

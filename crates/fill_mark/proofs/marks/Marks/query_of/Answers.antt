@@ -8,14 +8,26 @@ use Rattle.fill_mark.proofs.marks.Marks.query_of.Goals as goal
 
 pub returns-in_err-place-clause-none : goal.returns-in_err-place-clause-none
 returns-in_err-place-clause-none c =
-    rw c.from_residual.ensures (none_goes _ _ (ap (query_marked c.args.number) (sym (c.deref.ensures.value ∙ c.self.view_is)) ∙ c.in_err-place.ensures))
+    rw c.from_residual.ensures
+    (none_goes _ _
+    (ap (query_marked c.args.number) (sym (c.deref.ensures.value ∙ c.self.view_is))
+    ∙ c.in_err-place.ensures))
 
 pub index-requires : goal.index-requires
-index-requires c = omega (arith, slice_get_within c.deref.result.now c.in_ok-place.place c.in_ok-place.ensures.mark c.in_ok-place.ensures.stands, c.deref.ensures.len)
+index-requires c =
+    omega (
+      arith,
+      slice_get_within c.deref.result.now c.in_ok-place.place c.in_ok-place.ensures.mark
+          c.in_ok-place.ensures.at,
+      c.deref.ensures.len,
+    )
 
 pub returns-clause-query : goal.returns-clause-query
 returns-clause-query c =
-    let at = c.in_ok-place.ensures in
+    let found = c.in_ok-place.ensures in
     ap (λ (m : Mark). Some m.query)
-    (c.index.ensures ∙ get_or_from_slice_get c.self.inside.items.items c.in_ok-place.place at.mark c.index.result.now (ap (λ l. slice_get l c.in_ok-place.place) (sym c.deref.ensures.value) ∙ at.stands))
-    ∙ sym at.query_is ∙ ap (query_marked c.args.number) (c.deref.ensures.value ∙ c.self.view_is)
+    (c.index.ensures
+    ∙ get_or_from_slice_get c.self.inside.items.items c.in_ok-place.place found.mark
+    c.index.result.now
+    (ap (λ l. slice_get l c.in_ok-place.place) (sym c.deref.ensures.value) ∙ found.at))
+    ∙ sym found.query_is ∙ ap (query_marked c.args.number) (c.deref.ensures.value ∙ c.self.view_is)

@@ -1,25 +1,53 @@
-use Rattle.std.proofs.Common.{ap, sym, ◌∙◌, ◌+◌}
+use Rattle.std.proofs.Common.{ap, sym, ◌∙◌}
 use Rattle.shared_cache.specs.declared.log.ClientRefusal.TheVariants.{LogFull}
-use Rattle.shared_cache.specs.Held.{held, held_of, numbers}
-use Rattle.shared_cache.specs.Standing.{Standing}
-use Rattle.shared_cache.specs.Steps.{refused, answer_ask}
-use Rattle.shared_cache.proofs.Stepping.{stepped, ask_down, ask_unready, ask_full, ask_ok}
+use Rattle.shared_cache.specs.Held.{held, held_of}
+use Rattle.shared_cache.specs.declared.log.LogEntry.TheVariants as entry
+use Rattle.shared_cache.specs.ClientFields.{Client}
+use Rattle.shared_cache.specs.Steps.{ClientTurn, refused, answer_ask, read_number}
+use Rattle.shared_cache.proofs.StepCases.{stepped, ask_down, ask_unready, ask_full, ask_ok}
 use Rattle.shared_cache.proofs.client.ClientState.ask.Goals as goal
 
-pub returns-then-is_over-clause-step : goal.returns-then-is_over-clause-step
-returns-then-is_over-clause-step c = ask_down _ _ c.args.query (sym c.is_over.ensures ∙ c.if-is_over.true)
+pub returns-then-has_ended-clause-step : goal.returns-then-has_ended-clause-step
+returns-then-has_ended-clause-step c =
+    ask_down _ _ c.args.query (sym c.has_ended.ensures ∙ c.if-has_ended.true)
 
 pub returns-then-not-is_ready-clause-step : goal.returns-then-not-is_ready-clause-step
-returns-then-not-is_ready-clause-step c = ask_unready _ _ c.args.query (sym c.is_over.ensures ∙ c.if-is_over.false) (sym c.is_ready.ensures ∙ c.if-not-is_ready.true)
+returns-then-not-is_ready-clause-step c =
+    ask_unready _ _ c.args.query (sym c.has_ended.ensures ∙ c.if-has_ended.false)
+    (sym c.is_ready.ensures ∙ c.if-not-is_ready.true)
 
 pub returns-then-is_full-clause-step : goal.returns-then-is_full-clause-step
 returns-then-is_full-clause-step c =
-    ask_full _ _ c.args.query (sym c.is_over.ensures ∙ c.if-is_over.false) (sym c.is_ready.ensures ∙ c.if-not-is_ready.false) (sym c.is_full.ensures ∙ c.if-is_full.true)
+    ask_full _ _ c.args.query (sym c.has_ended.ensures ∙ c.if-has_ended.false)
+    (sym c.is_ready.ensures ∙ c.if-not-is_ready.false)
+    (sym c.is_full.ensures ∙ c.if-is_full.true)
     ∙ ap (λ n. refused (LogFull n) c.args.self.now.past) (sym c.entries.ensures)
 
 pub returns-in-Ok-clause-step : goal.returns-in-Ok-clause-step
 returns-in-Ok-clause-step c =
     stepped _ _ _ _ _ _ _
-    (ask_ok _ _ c.args.query (sym c.is_over.ensures ∙ c.if-is_over.false) (sym c.is_ready.ensures ∙ c.if-not-is_ready.false) (sym c.is_full.ensures ∙ c.if-is_full.false)
-    ∙ ap (λ (st : Standing). record { reply = answer_ask (held_of c.args.query (held c.args.self.now.setup c.args.self.now.past)) (numbers c.args.self.now.setup c.args.self.now.past + 1); past = st.past }) (sym c.in-Ok.ensures.ok))
+    (ask_ok _ _ c.args.query (sym c.has_ended.ensures ∙ c.if-has_ended.false)
+    (sym c.is_ready.ensures ∙ c.if-not-is_ready.false)
+    (sym c.is_full.ensures ∙ c.if-is_full.false)
+    ∙ ap (λ (st : Client).
+    record {
+      reply =
+          answer_ask (held_of c.args.query (held c.args.self.now.setup c.args.self.now.past))
+          (read_number c.args.self.now.setup c.args.self.now.past c.args.query);
+      past = st.past;
+    })
+    (sym c.in-Ok.ensures.ok))
     c.in-Ok.ensures.reply
+
+pub returns-in-Err-clause-step : goal.returns-in-Err-clause-step
+returns-in-Err-clause-step c = (
+  (
+    entry.Ask c.args.query,
+    tt,
+    ap (λ (t : ClientTurn). t.past)
+        (ask_ok _ _ c.args.query (sym c.has_ended.ensures ∙ c.if-has_ended.false)
+        (sym c.is_ready.ensures ∙ c.if-not-is_ready.false)
+        (sym c.is_full.ensures ∙ c.if-is_full.false)),
+  ),
+  ap (λ (st : Client). st.past) c.in-Err.ensures.err,
+)

@@ -2,14 +2,17 @@ use Rattle.std.proofs.Common.{ap, sym, ◌∙◌}
 use Rattle.shared_cache.specs.declared.log.ClientReply.TheVariants.{Refused}
 use Rattle.shared_cache.specs.declared.log.ClientRefusal.TheVariants.{BadPush}
 use Rattle.shared_cache.specs.declared.log.Wire.TheVariants.{Main}
-use Rattle.shared_cache.specs.Standing.{Standing}
-use Rattle.shared_cache.proofs.Stepping.{got_down, got_bad, fault_malformed}
+use Rattle.shared_cache.specs.ClientFields.{Client}
+use Rattle.shared_cache.proofs.StepCases.{got_down, got_bad, fault_malformed}
 use Rattle.shared_cache.proofs.client.ClientState.got.Goals as goal
 
-pub returns-then-is_over-clause-step : goal.returns-then-is_over-clause-step
-returns-then-is_over-clause-step c = got_down _ _ c.args.value (sym c.is_over.ensures ∙ c.if-is_over.true)
+pub returns-then-has_ended-clause-step : goal.returns-then-has_ended-clause-step
+returns-then-has_ended-clause-step c =
+    got_down _ _ c.args.value (sym c.has_ended.ensures ∙ c.if-has_ended.true)
 
 pub returns-in-Malformed-clause-step : goal.returns-in-Malformed-clause-step
 returns-in-Malformed-clause-step c =
-    got_bad _ _ c.args.value (BadPush Main) (sym c.is_over.ensures ∙ c.if-is_over.false) (fault_malformed _ _ c.args.value (sym c.in-Malformed.ensures))
-    ∙ ap (λ (st : Standing). record { reply = Refused (BadPush Main); past = st.past }) (sym c.finish.ensures)
+    got_bad _ _ c.args.value (BadPush Main) (sym c.has_ended.ensures ∙ c.if-has_ended.false)
+    (fault_malformed _ _ c.args.value (sym c.in-Malformed.ensures))
+    ∙ ap (λ (st : Client). record { reply = Refused (BadPush Main); past = st.past })
+    (sym c.finish.ensures)

@@ -2,44 +2,67 @@ use Rattle.std.proofs.Common.{ap, sym, ◌∙◌}
 use Rattle.std.proofs.lemmas.Bool.{not-true, not-false}
 use Rattle.shared_cache.specs.declared.log.Wire.TheVariants.{Main}
 use Rattle.shared_cache.specs.declared.log.ClientReply.TheVariants.{Noted, Refused}
-use Rattle.shared_cache.specs.declared.log.ClientRefusal.TheVariants.{LogFull, Unexpected, SetupRefused}
-use Rattle.shared_cache.specs.Standing.{Standing}
-use Rattle.shared_cache.specs.Steps.{refused}
-use Rattle.shared_cache.proofs.Stepping.{got_bad, got_full, got_ok, fault_unexpected, fault_refused, fault_none}
+use Rattle.shared_cache.specs.declared.log.ClientRefusal.TheVariants.{LogFull, Unexpected}
+use Rattle.shared_cache.specs.declared.log.ClientRefusal.TheVariants.{SetupRefused}
+use Rattle.shared_cache.specs.ClientFields.{Client}
+use Rattle.shared_cache.specs.declared.log.LogEntry.TheVariants as entry
+use Rattle.shared_cache.specs.Steps.{ClientTurn, refused}
+use Rattle.shared_cache.proofs.StepCases.{got_bad, got_full, got_ok, fault_unexpected}
+use Rattle.shared_cache.proofs.StepCases.{fault_refused, fault_none}
 use Rattle.shared_cache.proofs.client.ClientState.got_reply.Goals as goal
 
 pub returns-then-not-is_awaiting-clause-step : goal.returns-then-not-is_awaiting-clause-step
 returns-then-not-is_awaiting-clause-step c =
     got_bad _ _ c.args.value (Unexpected Main) c.requires.open
-    (fault_unexpected _ _ c.args.value c.requires.reply (not-false _ (sym c.is_awaiting.ensures ∙ c.if-not-is_awaiting.true)))
-    ∙ ap (λ (st : Standing). record { reply = Refused (Unexpected Main); past = st.past }) (sym c.finish.ensures)
+    (fault_unexpected _ _ c.args.value c.requires.reply
+    (not-false _ (sym c.is_awaiting.ensures ∙ c.if-not-is_awaiting.true)))
+    ∙ ap (λ (st : Client). record { reply = Refused (Unexpected Main); past = st.past })
+    (sym c.finish.ensures)
 
 pub returns-then-not-welcomes-clause-step : goal.returns-then-not-welcomes-clause-step
 returns-then-not-welcomes-clause-step c =
     got_bad _ _ c.args.value (SetupRefused Main) c.requires.open
-    (fault_refused _ _ c.args.value c.requires.reply (not-true _ (sym c.is_awaiting.ensures ∙ c.if-not-is_awaiting.false)) (sym c.welcomes.ensures ∙ c.if-not-welcomes.true))
-    ∙ ap (λ (st : Standing). record { reply = Refused (SetupRefused Main); past = st.past }) (sym c.finish-then-not-welcomes.ensures)
+    (fault_refused _ _ c.args.value c.requires.reply
+    (not-true _ (sym c.is_awaiting.ensures ∙ c.if-not-is_awaiting.false))
+    (sym c.welcomes.ensures ∙ c.if-not-welcomes.true))
+    ∙ ap (λ (st : Client). record { reply = Refused (SetupRefused Main); past = st.past })
+    (sym c.finish-then-not-welcomes.ensures)
 
 pub returns-then-is_full-clause-step : goal.returns-then-is_full-clause-step
 returns-then-is_full-clause-step c =
     got_full _ _ c.args.value c.requires.open
-    (fault_none _ _ c.args.value c.requires.reply (not-true _ (sym c.is_awaiting.ensures ∙ c.if-not-is_awaiting.false)) (sym c.welcomes.ensures ∙ c.if-not-welcomes.false))
+    (fault_none _ _ c.args.value c.requires.reply
+    (not-true _ (sym c.is_awaiting.ensures ∙ c.if-not-is_awaiting.false))
+    (sym c.welcomes.ensures ∙ c.if-not-welcomes.false))
     (sym c.is_full.ensures ∙ c.if-is_full.true)
     ∙ ap (λ n. refused (LogFull n) c.args.self.now.past) (sym c.entries.ensures)
 
 pub settle-requires-clause-awaited : goal.settle-requires-clause-awaited
 settle-requires-clause-awaited c =
-    fault_none _ _ c.args.value c.requires.reply (not-true _ (sym c.is_awaiting.ensures ∙ c.if-not-is_awaiting.false)) (sym c.welcomes.ensures ∙ c.if-not-welcomes.false)
+    fault_none _ _ c.args.value c.requires.reply
+    (not-true _ (sym c.is_awaiting.ensures ∙ c.if-not-is_awaiting.false))
+    (sym c.welcomes.ensures ∙ c.if-not-welcomes.false)
 
 pub returns-in-Ok-clause-step : goal.returns-in-Ok-clause-step
 returns-in-Ok-clause-step c =
     got_ok _ _ c.args.value c.requires.open
-    (fault_none _ _ c.args.value c.requires.reply (not-true _ (sym c.is_awaiting.ensures ∙ c.if-not-is_awaiting.false)) (sym c.welcomes.ensures ∙ c.if-not-welcomes.false))
+    (fault_none _ _ c.args.value c.requires.reply
+    (not-true _ (sym c.is_awaiting.ensures ∙ c.if-not-is_awaiting.false))
+    (sym c.welcomes.ensures ∙ c.if-not-welcomes.false))
     (sym c.is_full.ensures ∙ c.if-is_full.false)
-    ∙ ap (λ (st : Standing). record { reply = Noted; past = st.past }) (sym c.in-Ok.ensures.ok)
+    ∙ ap (λ (st : Client). record { reply = Noted; past = st.past }) (sym c.in-Ok.ensures.ok)
 
 pub returns-in-Err-clause-step : goal.returns-in-Err-clause-step
 returns-in-Err-clause-step c = (
-  fault_none _ _ c.args.value c.requires.reply (not-true _ (sym c.is_awaiting.ensures ∙ c.if-not-is_awaiting.false)) (sym c.welcomes.ensures ∙ c.if-not-welcomes.false),
-  ap (λ (st : Standing). st.past) c.in-Err.ensures.err,
+  (
+    entry.Got Main c.args.value,
+    tt,
+    ap (λ (t : ClientTurn). t.past)
+        (got_ok _ _ c.args.value c.requires.open
+        (fault_none _ _ c.args.value c.requires.reply
+        (not-true _ (sym c.is_awaiting.ensures ∙ c.if-not-is_awaiting.false))
+        (sym c.welcomes.ensures ∙ c.if-not-welcomes.false))
+        (sym c.is_full.ensures ∙ c.if-is_full.false)),
+  ),
+  ap (λ (st : Client). st.past) c.in-Err.ensures.err,
 )

@@ -2,20 +2,33 @@ use Rattle.std.proofs.Common.{◌≡◌, ◌+◌, ◌++◌, ◌∷◌, [], true,
 use Rattle.std.specs.Prelude.{is_some}
 use Rattle.shared_cache.specs.declared.log.LogEntry.TheVariants as entry
 use Rattle.shared_cache.specs.Held.{held, held_of}
-use Rattle.shared_cache.specs.Standing.{Standing}
-use Rattle.shared_cache.proofs.Logged.{pushed, count_reverse, at_most_one}
-use Rattle.shared_cache.proofs.Asking.{keeps_hit}
+use Rattle.shared_cache.specs.ClientFields.{Client}
+use Rattle.shared_cache.proofs.NewestFirst.{pushed, count_reverse, at_most_one}
+use Rattle.shared_cache.proofs.Asks.{reflects_hit}
 use Rattle.shared_cache.proofs.client.ClientState.hit.Goals as goal
 
 pub invariant_of-self-2 : goal.invariant_of-self-2
 invariant_of-self-2 c =
     let i = c.self.inside in
-    let k = c.self.invariant.keeps in
-    let held_is : is_some (held_of c.args.query (held (record { mode = i.mode; capacity = i.capacity; log_max = i.log_max }) (reverse i.log.items))) ≡ true =
-    ap (λ (st : Standing). is_some (held_of c.args.query (held st.setup st.past))) c.self.view_is ∙ c.requires in
-    let now_is : c.len.result + 1 ≡ length (reverse i.log.items) + 1 = ap (λ n. n + 1) (count_reverse i.log.items c.len.result (omega (arith, c.len.ensures, c.in_ok-reserve.ensures.len))) in
+    let k = c.self.invariant.reflects in
+    let held_is : is_some
+    (held_of c.args.query
+    (held (record { mode = i.mode; capacity = i.capacity; log_max = i.log_max })
+    (reverse i.log.items))) ≡ true =
+    ap (λ (st : Client). is_some (held_of c.args.query (held st.setup st.past))) c.self.view_is
+    ∙ c.requires in
+    let now_is : c.len.result + 1 ≡ length (reverse i.log.items) + 1
+    = ap (λ n. n + 1)
+    (count_reverse i.log.items c.len.result
+    (omega (arith, c.len.ensures, c.in_ok-reserve.ensures.len))) in
     record {
-      keeps = rw (pushed i.log.items _ _ (c.push_reserved.ensures.items ∙ ap (λ l. l ++ entry.Ask c.args.query ∷ []) c.in_ok-reserve.ensures.items), c.touch.ensures.items, c.key.ensures)
-          (keeps_hit _ _ _ _ _ _ _ _ _ _ _ k c.args.query (c.len.result + 1) held_is now_is);
+      reflects = rw (
+        pushed i.log.items _ _
+            (c.push_reserved.ensures.items
+            ∙ ap (λ l. l ++ entry.Ask c.args.query ∷ []) c.in_ok-reserve.ensures.items),
+        c.touch.ensures.items,
+        c.key.ensures,
+      )
+          (reflects_hit _ _ _ k c.args.query (c.len.result + 1) held_is now_is);
       room = omega (arith, at_most_one i.ended, c.in_ok-reserve.ensures.ok);
     }

@@ -1,25 +1,31 @@
 use Rattle.std.proofs.Common.{◌++◌, ◌∷◌, [], not, arith, ap, ◌∙◌}
 use Rattle.shared_cache.specs.declared.log.LogEntry.TheVariants as entry
-use Rattle.shared_cache.proofs.Logged.{pushed, at_most_one}
+use Rattle.shared_cache.proofs.NewestFirst.{pushed, at_most_one}
 use Rattle.std.specs.List.{filter}
 use Rattle.command_words.specs.Queries.{key_of, names}
 use Rattle.fill_mark.specs.declared.marks.Mark.{Mark}
-use Rattle.shared_cache.specs.declared.holding.Holding.{Holding}
-use Rattle.shared_cache.proofs.Keeping.{keeps_send}
+use Rattle.shared_cache.specs.declared.entry.Slot.{Slot}
+use Rattle.shared_cache.proofs.OtherTurns.{reflects_send}
 use Rattle.shared_cache.proofs.client.ClientState.pass_on.Goals as goal
 
 pub invariant_of-self-2 : goal.invariant_of-self-2
 invariant_of-self-2 c =
     let i = c.self.inside in
-    let k = c.self.invariant.keeps in
+    let k = c.self.invariant.reflects in
     record {
-      keeps = rw (
-        pushed i.log.items _ _ (c.push_reserved.ensures.items ∙ ap (λ l. l ++ entry.Send c.args.words ∷ []) c.in_ok-reserve.ensures.items),
+      reflects = rw (
+        pushed i.log.items _ _
+            (c.push_reserved.ensures.items
+            ∙ ap (λ l. l ++ entry.Send c.args.words ∷ []) c.in_ok-reserve.ensures.items),
         c.in_ok-enqueue.ensures.queued,
-        c.in_ok-enqueue.ensures.desk,
-        c.spoil.ensures.marks ∙ ap (λ w. filter (λ (m : Mark). not (names w (key_of m.query))) i.marks) c.in_ok-written.ensures,
-        c.spoil.ensures.slots ∙ ap (λ w. filter (λ (h : Holding). not (names w (key_of h.query))) i.slots.items) c.in_ok-written.ensures,
+        c.in_ok-enqueue.ensures.pending,
+        c.invalidate.ensures.marks
+            ∙ ap (λ w. filter (λ (m : Mark). not (names w (key_of m.query))) i.marks)
+            c.in_ok-written.ensures,
+        c.invalidate.ensures.slots
+            ∙ ap (λ w. filter (λ (o : Slot). not (names w (key_of o.entry.query))) i.slots.items)
+            c.in_ok-written.ensures,
       )
-          (keeps_send _ _ _ _ _ _ _ _ _ _ _ k c.args.words);
+          (reflects_send _ _ _ k c.args.words);
       room = omega (arith, at_most_one i.ended, c.in_ok-reserve.ensures.ok);
     }

@@ -4,40 +4,61 @@ use Rattle.shared_cache.specs.declared.log.LogEntry.TheVariants as entry
 use Rattle.shared_cache.specs.Log.{replies}
 use Rattle.shared_cache.specs.Held.{numbers}
 use Rattle.shared_cache.specs.Steps.{fault_of}
-use Rattle.shared_cache.specs.Standing.{Standing}
-use Rattle.shared_cache.proofs.Logged.{pushed, count_reverse, at_most_one}
-use Rattle.shared_cache.proofs.Stepping.{awaits}
+use Rattle.shared_cache.specs.ClientFields.{Client}
+use Rattle.shared_cache.proofs.NewestFirst.{pushed, count_reverse, at_most_one}
+use Rattle.shared_cache.proofs.StepCases.{awaits}
 use Rattle.std.proofs.lemmas.Bool.{leb-false}
 use Rattle.fill_mark.specs.Marks.{query_marked}
-use Rattle.shared_cache.specs.Standing.{refilled}
-use Rattle.shared_cache.proofs.Getting.{keeps_reply}
+use Rattle.shared_cache.specs.Slots.{refilled}
+use Rattle.shared_cache.proofs.Gots.{reflects_reply}
 use Rattle.shared_cache.proofs.client.ClientState.settle.Goals as goal
 
 pub put_reply-requires : goal.put_reply-requires
 put_reply-requires c =
     let i = c.self.inside in
-    let k = c.self.invariant.keeps in
-    let fault : fault_of (record { mode = i.mode; capacity = i.capacity; log_max = i.log_max }) (reverse i.log.items) Main c.args.value ≡ None =
-    ap (λ (st : Standing). fault_of st.setup st.past Main c.args.value) c.self.view_is ∙ c.requires.awaited in
-    let a = awaits (record { mode = i.mode; capacity = i.capacity; log_max = i.log_max }) (reverse i.log.items) c.args.value c.requires.reply fault in
-    omega (arith, leb-false (numbers (record { mode = i.mode; capacity = i.capacity; log_max = i.log_max }) (reverse i.log.items)) (length (replies i.mode (reverse i.log.items))) a.0, k.replied_is, k.desk_count)
+    let k = c.self.invariant.reflects in
+    let fault : fault_of (record { mode = i.mode; capacity = i.capacity; log_max = i.log_max })
+    (reverse i.log.items) Main c.args.value ≡ None =
+    ap (λ (st : Client). fault_of st.setup st.past Main c.args.value) c.self.view_is
+    ∙ c.requires.awaited in
+    let a = awaits (record { mode = i.mode; capacity = i.capacity; log_max = i.log_max })
+    (reverse i.log.items) c.args.value c.requires.reply fault in
+    omega (
+      arith,
+      leb-false (numbers (record { mode = i.mode; capacity = i.capacity; log_max = i.log_max })
+          (reverse i.log.items)) (length (replies i.mode Main (reverse i.log.items))) a.0,
+      k.replied_is,
+      k.pending_count,
+    )
 
 pub invariant_of-self-2 : goal.invariant_of-self-2
 invariant_of-self-2 c =
     let i = c.self.inside in
-    let k = c.self.invariant.keeps in
-    let fault : fault_of (record { mode = i.mode; capacity = i.capacity; log_max = i.log_max }) (reverse i.log.items) Main c.args.value ≡ None =
-    ap (λ (st : Standing). fault_of st.setup st.past Main c.args.value) c.self.view_is ∙ c.requires.awaited in
-    let a = awaits (record { mode = i.mode; capacity = i.capacity; log_max = i.log_max }) (reverse i.log.items) c.args.value c.requires.reply fault in
+    let k = c.self.invariant.reflects in
+    let fault : fault_of (record { mode = i.mode; capacity = i.capacity; log_max = i.log_max })
+    (reverse i.log.items) Main c.args.value ≡ None =
+    ap (λ (st : Client). fault_of st.setup st.past Main c.args.value) c.self.view_is
+    ∙ c.requires.awaited in
+    let a = awaits (record { mode = i.mode; capacity = i.capacity; log_max = i.log_max })
+    (reverse i.log.items) c.args.value c.requires.reply fault in
     let number = i.replied + 1 in
-    let now_is : c.len.result + 1 ≡ length (reverse i.log.items) + 1 = ap (λ n. n + 1) (count_reverse i.log.items c.len.result (omega (arith, c.len.ensures, c.in_ok-reserve.ensures.len))) in
+    let now_is : c.len.result + 1 ≡ length (reverse i.log.items) + 1
+    = ap (λ n. n + 1)
+    (count_reverse i.log.items c.len.result
+    (omega (arith, c.len.ensures, c.in_ok-reserve.ensures.len))) in
     record {
-      keeps = rw (
-        pushed i.log.items _ _ (c.push_reserved.ensures.items ∙ (λ j. c.in_ok-reserve.ensures.items j ++ entry.Got Main (c.in_ok-logged.ensures j) ∷ [])),
+      reflects = rw (
+        pushed i.log.items _ _
+            (c.push_reserved.ensures.items
+            ∙ (λ j. c.in_ok-reserve.ensures.items j ++ entry.Got Main
+            (c.in_ok-logged.ensures j) ∷ [])),
         c.put_reply.ensures,
         c.in_ok-refill.ensures.marks,
-        c.in_ok-refill.ensures.slots ∙ ap (λ v. refilled i.capacity (query_marked number i.marks) number (c.len.result + 1) v i.slots.items) c.in_ok-logged.ensures,
+        c.in_ok-refill.ensures.slots
+            ∙ ap (λ v. refilled i.capacity (query_marked number i.marks) number
+            (c.len.result + 1) v i.slots.items) c.in_ok-logged.ensures,
       )
-          (keeps_reply _ _ _ _ _ _ _ _ _ _ _ k c.args.value number (c.len.result + 1) c.requires.reply a.0 a.1 refl now_is);
+          (reflects_reply _ _ _ k c.args.value number
+          (c.len.result + 1) c.requires.reply a.0 a.1 refl now_is);
       room = omega (arith, at_most_one i.ended, c.in_ok-reserve.ensures.ok);
     }

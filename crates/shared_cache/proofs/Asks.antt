@@ -1,0 +1,247 @@
+-- After an Ask the fields are what the log says.
+use Rattle.std.proofs.Common.{◌≡◌, ◌==◌, ◌+◌, ◌++◌, ◌&&◌, ◌||◌, ℕ, suc, List, [], ◌∷◌, length}
+use Rattle.std.proofs.Common.{map, Bool, true, false, cond, not, Option, Some, None, sym, ap, ◌∙◌}
+use Rattle.std.proofs.Common.{refl, arith, length-append, inl, inr}
+use Rattle.std.specs.Prelude.{is_some}
+use Rattle.std.proofs.lemmas.Bool.{and_right, or_cases, lt-ltb, cases_Bool}
+use Rattle.resp_value.specs.Spelling.{request_spelling}
+use Rattle.command_words.specs.Queries.{key_of, same_query, writes}
+use Rattle.fill_mark.specs.declared.marks.Mark.{Mark}
+use Rattle.fill_mark.specs.Marks.{begun}
+use Rattle.shared_cache.specs.declared.log.Wire.TheVariants.{Main, Side}
+use Rattle.shared_cache.specs.declared.log.ClientMode.{ClientMode}
+use Rattle.shared_cache.specs.declared.log.LogEntry.{LogEntry}
+use Rattle.shared_cache.specs.declared.log.LogEntry.TheVariants.{Ask, Send, Poll, TakeOut, Got, End}
+use Rattle.shared_cache.specs.declared.log.LogEntry.TheVariants.{Bad}
+use Rattle.shared_cache.specs.declared.entry.CacheEntry.{CacheEntry}
+use Rattle.shared_cache.specs.declared.entry.PendingReply.TheVariants.{Waiting}
+use Rattle.shared_cache.specs.declared.notices.Notice.{Notice}
+use Rattle.shared_cache.specs.declared.notices.Notice.TheVariants.{Reply, Keys, All, Broken, Other}
+use Rattle.shared_cache.specs.declared.notices.Notice.TheVariants.{Malformed}
+use Rattle.shared_cache.specs.Notices.{kind_of, named_keys, invalidates, invalidates_as}
+use Rattle.shared_cache.specs.Log.{first_number, is_ended, is_ready, is_broken}
+use Rattle.shared_cache.specs.Log.{is_broken_notice, caching_on, caching_on_for}
+use Rattle.shared_cache.specs.Held.{Setup, Key, Words, Caller, put_read, numbered, numbers, held_of}
+use Rattle.shared_cache.specs.Held.{used_at, unless, other_than, fetched, asked, sent, open_fetch}
+use Rattle.shared_cache.specs.Held.{last_use, held}
+use Rattle.shared_cache.specs.Slots.{slot_of, touched}
+use Rattle.shared_cache.specs.ClientFields.{Fields, Reflects, marks_by, mark_of}
+use Rattle.shared_cache.proofs.Fetches.{unless_none}
+use Rattle.shared_cache.proofs.SlotLists.{slots_touched, slots_same}
+use Rattle.shared_cache.proofs.HeldSteps.{sent_hit, open_hit, held_hit, use_hit, sent_miss}
+use Rattle.shared_cache.proofs.HeldSteps.{open_old, open_new, held_miss, use_miss}
+use Rattle.shared_cache.proofs.MarkLists.{marks_filter, marks_same, marks_none, mark_other}
+use Rattle.shared_cache.proofs.Bytes.{untaken_one, untaken_same}
+use Rattle.shared_cache.proofs.PendingLists.{owed_push}
+use Rattle.shared_cache.proofs.OtherTurns.{pending_push}
+
+-- ---- a broken redirection leaves no fetch open
+
+broken_off : (m : ClientMode) (log : List LogEntry) → is_broken m log ≡ true
+    → caching_on m log ≡ false
+broken_off m log e =
+    and_right (is_ready m log)
+    (not (is_ended m Main log || is_ended m Side log) && not (is_broken m log))
+    (and_right (not (is_ended m Main log || is_ended m Side log)) (not (is_broken m log))
+    (ap not e))
+
+asked_none : (o : Option CacheEntry) (m : ClientMode) (on : Bool) (before : ℕ) (q : Words) (n : ℕ)
+    (old : Option Words) → on ≡ false → old ≡ None → asked o m on before q n old ≡ None
+asked_none (Some h) m on before q n old e f = f
+asked_none None m on before q n old e f =
+    (λ i. cond (n == before + 1) (fetched (e i) q) (other_than q (f i)))
+    ∙ elim (n == before + 1) as
+    (λ b. cond {A = Option Words} b None None ≡ None) [ true ↦ refl | false ↦ refl ]
+
+unless_all : (t : Key → Bool) (o : Option Words) → ((k : Key) → t k ≡ true) → unless t o ≡ None
+unless_all t None all = refl
+unless_all t (Some q) all = ap (λ b. cond b None (Some q)) (all (key_of q))
+
+breaks_all : (n : Notice) (keys : List Key) (k : Key) → is_broken_notice n ≡ true
+    → invalidates_as n keys k ≡ true
+breaks_all Broken keys k e = refl
+breaks_all Reply keys k e = cc
+breaks_all Keys keys k e = cc
+breaks_all All keys k e = cc
+breaks_all Other keys k e = cc
+breaks_all Malformed keys k e = cc
+
+pub broken_none : (s : Setup) (log : List LogEntry) (n : ℕ) → is_broken s.mode log ≡ true
+    → open_fetch s log n ≡ None
+broken_none s [] n e = cc
+broken_none s (Ask q ∷ log) n e =
+    asked_none (held_of q (held s log)) s.mode (caching_on_for s.mode log (key_of q))
+    (numbers s log) q n (open_fetch s log n) (broken_off s.mode log e) (broken_none s log n e)
+broken_none s (Send ws ∷ log) n e =
+    unless_none (writes ws) (open_fetch s log n) (broken_none s log n e)
+broken_none s (Poll m ∷ log) n e = broken_none s log n e
+broken_none s (TakeOut w m ∷ log) n e = broken_none s log n e
+broken_none s (Got w v ∷ log) n e =
+    elim (or_cases (is_broken_notice (kind_of v)) (is_broken s.mode log) e) [
+      | inl b ↦ unless_all (invalidates s.mode w v) (open_fetch s log n)
+          (λ k. breaks_all (kind_of v) (named_keys v) k b)
+      | inr b ↦ unless_none (invalidates s.mode w v) (open_fetch s log n) (broken_none s log n b)
+    ]
+broken_none s (End w ∷ log) n e = refl
+broken_none s (Bad w v ∷ log) n e = refl
+
+marks_all_none : (open_of : ℕ → Option Words) (replied n : ℕ) → ((m : ℕ) → open_of m ≡ None)
+    → marks_by open_of replied n ≡ []
+marks_all_none open_of replied n all = marks_same (λ m. None) open_of replied n (λ m le. all m)
+    ∙ marks_none replied n
+
+some_of : (o : Option CacheEntry) → is_some o ≡ true → (h : CacheEntry) × (o ≡ Some h)
+some_of None e = absurd (let f : false ≡ true = e in cc)
+some_of (Some h) e = (h, refl)
+
+-- ---- a hit
+
+module _ (s : Setup) (log : List LogEntry) (f : Fields) (k : Reflects s log f) where
+  reflects_hit_of : (q : Words) (h : CacheEntry) (now : ℕ) → held_of q (held s log) ≡ Some h
+      → now ≡ length log + 1
+      → Reflects s (Ask q ∷ log) (record f { slots = map (touched (key_of q) now) f.slots })
+  reflects_hit_of q h now e is = record {
+    queued_is = k.queued_is ∙ sym (untaken_same s log (Ask q ∷ log) (sent_hit s log q h e) refl);
+    replied_is = k.replied_is;
+    replied_within = let w = k.replied_within in omega (arith, ap length (sent_hit s log q h e));
+    ready_is = k.ready_is;
+    pending_count = k.pending_count ∙ ap length (sym (sent_hit s log q h e));
+    pending_is = k.pending_is;
+    unpolled = k.unpolled;
+    owed_is = k.owed_is;
+    marks_is = k.marks_is
+        ∙ sym (marks_same (open_fetch s log) (open_fetch s (Ask q ∷ log)) f.replied (numbers s log)
+        (λ m le. open_hit s log q h e m))
+        ∙ ap (λ l. marks_by (open_fetch s (Ask q ∷ log)) f.replied (numbered s l))
+        (sym (sent_hit s log q h e));
+    slots_is = (λ i. map (touched (key_of q) (is i)) (k.slots_is i))
+        ∙ slots_touched (last_use s log) q (length log + 1) (held s log)
+        ∙ sym (slots_same (λ j. used_at (Some q) j (length log + 1) (last_use s log j))
+        (last_use s (Ask q ∷ log)) (held s log) (use_hit s log q h e))
+        ∙ ap (map (slot_of (last_use s (Ask q ∷ log)))) (sym (held_hit s log q h e));
+    ended_is = k.ended_is;
+    side_is = k.side_is;
+    broken_is = k.broken_is;
+  }
+
+  pub reflects_hit : (q : Words) (now : ℕ) → is_some (held_of q (held s log)) ≡ true
+      → now ≡ length log + 1
+      → Reflects s (Ask q ∷ log) (record f { slots = map (touched (key_of q) now) f.slots })
+  reflects_hit q now e is = let o = some_of (held_of q (held s log)) e in
+      reflects_hit_of q o.0 now o.1 is
+
+  -- ---- a miss
+
+  marks_on : (q : Words) (number : ℕ) → held_of q (held s log) ≡ None → number ≡ numbers s log + 1
+      → caching_on s.mode log ≡ true
+      → begun number q (marks_by (open_fetch s log) f.replied (numbers s log)) ≡ marks_by
+      (open_fetch s (Ask q ∷ log)) f.replied (suc (numbers s log))
+  marks_on q number e is on =
+      (λ i. sym (marks_filter (open_fetch s log) (open_fetch s (Ask q ∷ log))
+      (λ (m : Mark). not (same_query m.query q)) f.replied (numbers s log)
+      (λ m le. ap (mark_of m) (open_old s log q e m le) ∙ mark_other q m (open_fetch s log m))) i
+      ++ record {
+        number = (let g : number ≡ suc (numbers s log) = omega arith in g) i;
+        query =
+            q;
+      } ∷ [])
+      ∙ ap (λ o. marks_by (open_fetch s (Ask q ∷ log)) f.replied (numbers s log) ++ mark_of
+      (suc (numbers s log)) o) (sym (open_new s log q e true on))
+      ∙ ap (λ b. marks_by (open_fetch s (Ask q ∷ log)) f.replied (numbers s log) ++ cond b
+      (mark_of (suc (numbers s log)) (open_fetch s (Ask q ∷ log) (suc (numbers s log)))) [])
+      (sym (lt-ltb f.replied (suc (numbers s log)) (let w = k.replied_within in omega arith)))
+
+  reflects_miss : (q : Words) (new : List Mark) → held_of q (held s log) ≡ None
+      → new ≡ marks_by (open_fetch s (Ask q ∷ log)) f.replied (suc (numbers s log))
+      → Reflects s (Ask q ∷ log)
+      (record f {
+        queued = f.queued ++ request_spelling q;
+        pending = f.pending ++ Waiting ∷ [];
+        owed = f.owed + 1;
+        marks = new;
+      })
+  reflects_miss q new e is =
+      let more = ap length (sent_miss s log q e) in
+      let one = length-append (sent s log)
+      (put_read s.mode (caching_on_for s.mode log (key_of q)) q) in
+      record {
+        queued_is = ap (λ l. l ++ request_spelling q) k.queued_is
+            ∙ sym (untaken_one s log (Ask q ∷ log) (record { words = q; origin = Caller })
+            (sent_miss s log q e) refl);
+        replied_is = k.replied_is;
+        replied_within = let w = k.replied_within in omega (arith, more, one);
+        ready_is = k.ready_is;
+        pending_count = length-append f.pending (Waiting ∷ []) ∙ ap (λ n. n + 1) k.pending_count
+            ∙ sym (more ∙ one);
+        pending_is =
+            pending_push s log (Ask q) f.pending f.replied k.pending_is
+            (λ n. refl) refl k.replied_is
+            (let w = k.replied_within in omega (arith, k.pending_count)) k.unpolled;
+        unpolled = k.unpolled;
+        owed_is = ap (λ n. n + 1) k.owed_is ∙ sym (owed_push f.pending);
+        marks_is = is
+            ∙ ap (marks_by (open_fetch s (Ask q ∷ log)) f.replied)
+            (let g : suc (numbers s log) ≡ numbers s (Ask q ∷ log) = omega (arith, more, one) in g);
+        slots_is = k.slots_is
+            ∙ ap (map (slot_of (last_use s log)))
+            (sym (held_miss s log q e (let w = k.replied_within in omega (arith, k.replied_is))))
+            ∙ sym (slots_same (last_use s log) (last_use s (Ask q ∷ log)) (held s (Ask q ∷ log))
+            (use_miss s log q e));
+        ended_is = k.ended_is;
+        side_is = k.side_is;
+        broken_is = k.broken_is;
+      }
+
+  -- while the redirection is not broken the fetch is open
+  reflects_fetch : (q : Words) (number : ℕ) → held_of q (held s log) ≡ None
+      → number ≡ length f.pending + first_number s.mode → is_ready s.mode log ≡ true
+      → f.ended ≡ false → f.broken ≡ false
+      → Reflects s (Ask q ∷ log)
+      (record f {
+        queued = f.queued ++ request_spelling q;
+        pending = f.pending ++ Waiting ∷ [];
+        owed = f.owed + 1;
+        marks = begun number q f.marks;
+      })
+  reflects_fetch q number e is ready open_ whole =
+      let on : caching_on s.mode log ≡ true
+      = λ i. ready i &&
+      (not ((sym k.ended_is ∙ open_) i || k.side_is i) && not ((sym k.broken_is ∙ whole) i)) in
+      reflects_miss q (begun number q f.marks) e
+      (ap (begun number q) k.marks_is ∙ marks_on q number e (omega (arith, k.pending_count)) on)
+
+  reflects_unmarked : (q : Words) → held_of q (held s log) ≡ None → f.broken ≡ true
+      → Reflects s (Ask q ∷ log)
+      (record f {
+        queued = f.queued ++ request_spelling q;
+        pending = f.pending ++ Waiting ∷ [];
+        owed = f.owed + 1;
+        marks = f.marks;
+      })
+  reflects_unmarked q e b =
+      let off : is_broken s.mode log ≡ true = sym k.broken_is ∙ b in
+      reflects_miss q f.marks e
+      (k.marks_is ∙ marks_all_none (open_fetch s log) f.replied (numbers s log)
+      (λ m. broken_none s log m off)
+      ∙ sym (marks_all_none (open_fetch s (Ask q ∷ log)) f.replied (suc (numbers s log))
+      (λ m. broken_none s (Ask q ∷ log) m off)))
+
+  pub reflects_ask : (q : Words) (number : ℕ) (bytes : List ℕ) (new : List Mark)
+      → held_of q (held s log) ≡ None → number ≡ length f.pending + first_number s.mode
+      → is_ready s.mode log ≡ true → f.ended ≡ false
+      → bytes ≡ f.queued ++ request_spelling q
+      → new ≡ cond f.broken f.marks (begun number q f.marks)
+      → Reflects s (Ask q ∷ log)
+      (record f {
+        queued = bytes;
+        pending = f.pending ++ Waiting ∷ [];
+        owed = f.owed + 1;
+        marks =
+            new;
+      })
+  reflects_ask q number bytes new e is ready open_ b m = elim (cases_Bool f.broken) [
+    | inl sure ↦ rw (b, m ∙ ap (λ x. cond x f.marks (begun number q f.marks)) sure)
+        (reflects_unmarked q e sure)
+    | inr whole ↦ rw (b, m ∙ ap (λ x. cond x f.marks (begun number q f.marks)) whole)
+        (reflects_fetch q number e is ready open_ whole)
+  ]

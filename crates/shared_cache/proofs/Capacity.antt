@@ -1,0 +1,368 @@
+-- How many keys are held, and which one leaves.
+use Rattle.std.proofs.Common.{◌≡◌, ◌+◌, ◌<◌, ◌≤◌, ◌++◌, ◌||◌, ℕ, List, [], ◌∷◌, length, Bool, true}
+use Rattle.std.proofs.Common.{false, cond}
+use Rattle.std.proofs.Common.{not, Option, Some, None, sym, ap, ◌∙◌, refl, subst, inl, inr, arith}
+use Rattle.std.specs.Prelude.{nat_lt}
+use Rattle.std.specs.List.{filter}
+use Rattle.std.specs.Str.{bytes_eq}
+use Rattle.std.proofs.lemmas.Bool.{cases_lt, cases_Bool, lt-ltb, le-ltb}
+use Rattle.std.proofs.lemmas.Option.{same_Some}
+use Rattle.resp_value.specs.declared.value.Value.{Value}
+use Rattle.command_words.specs.Queries.{key_of, writes}
+use Rattle.shared_cache.specs.declared.log.Wire.TheVariants.{Main}
+use Rattle.shared_cache.specs.declared.log.LogEntry.{LogEntry}
+use Rattle.shared_cache.specs.declared.log.LogEntry.TheVariants.{Ask, Send, Poll, TakeOut, Got, End}
+use Rattle.shared_cache.specs.declared.log.LogEntry.TheVariants.{Bad}
+use Rattle.shared_cache.specs.declared.entry.CacheEntry.{CacheEntry}
+use Rattle.shared_cache.specs.declared.notices.Notice.{Notice}
+use Rattle.shared_cache.specs.declared.notices.Notice.TheVariants.{Reply, Keys, All, Broken, Other}
+use Rattle.shared_cache.specs.declared.notices.Notice.TheVariants.{Malformed}
+use Rattle.shared_cache.specs.Notices.{kind_of, invalidates, is_reply}
+use Rattle.shared_cache.specs.Log.{replies}
+use Rattle.shared_cache.specs.Held.{Setup, Key, Words, held_of, has_key, keys_held, earlier}
+use Rattle.shared_cache.specs.Held.{earliest_from, earliest, key_held, leaving, open_fetch, left}
+use Rattle.shared_cache.specs.Held.{last_use, held}
+use Rattle.shared_cache.specs.Slots.{is_gone}
+use Rattle.shared_cache.specs.Laws.{Every, LegalLog, WithinCapacity, EarliestLeaves}
+use Rattle.shared_cache.proofs.KeyTests.{same_bytes, bytes_same}
+use Rattle.shared_cache.proofs.InPlace.{all_stay}
+use Rattle.shared_cache.proofs.HeldLists.{held_none}
+use Rattle.shared_cache.proofs.SlotLists.{filled}
+use Rattle.shared_cache.proofs.HeldSteps.{held_hit, held_miss, held_send, held_push, held_reply}
+use Rattle.shared_cache.proofs.LegalLogs.{newest, replies_within}
+
+-- ---- the key with the least last use
+
+module _ (use_of : Key → ℕ) where
+  abbrev used : CacheEntry → ℕ
+  used h = use_of (key_of h.query)
+
+  earlier_least : (h b : CacheEntry) → (used (earlier use_of h b) ≤ used h)
+      × (used (earlier use_of h b) ≤ used b)
+  earlier_least h b = elim (cases_lt (used h) (used b)) [
+    | inl lt ↦ subst (λ t. (used (cond t h b) ≤ used h) × (used (cond t h b) ≤ used b))
+        (sym (lt-ltb (used h) (used b) lt)) (omega arith, omega arith)
+    | inr le ↦ subst (λ t. (used (cond t h b) ≤ used h) × (used (cond t h b) ≤ used b))
+        (sym (le-ltb (used h) (used b) le)) (omega arith, omega arith)
+  ]
+
+  least_from : (b : CacheEntry) (hs : List CacheEntry) → (used (earliest_from use_of b hs) ≤ used b)
+      × Every (λ h. used (earliest_from use_of b hs) ≤ used h) hs
+  least_from b [] = (omega arith, tt)
+  least_from b (h ∷ hs) =
+      let r = least_from (earlier use_of h b) hs in
+      let e = earlier_least h b in
+      let x = r.0 in let y = e.0 in let z = e.1 in
+      (omega (arith, x, z), (omega (arith, x, y), r.1))
+
+  or_second : (a b c : Bool) → (a || c) ≡ true → (a || (b || c)) ≡ true
+  or_second true b c e = refl
+  or_second false true c e = refl
+  or_second false false c e = e
+
+  or_first : (a b c : Bool) → (b || c) ≡ true → (a || (b || c)) ≡ true
+  or_first true b c e = refl
+  or_first false b c e = e
+
+  earlier_has : (t : Bool) (k : Key) (h b : CacheEntry) (hs : List CacheEntry)
+      → has_key k (cond t h b ∷ hs) ≡ true → has_key k (b ∷ h ∷ hs) ≡ true
+  earlier_has true k h b hs e =
+      or_first (bytes_eq (key_of b.query) k) (bytes_eq (key_of h.query) k) (has_key k hs) e
+  earlier_has false k h b hs e =
+      or_second (bytes_eq (key_of b.query) k) (bytes_eq (key_of h.query) k) (has_key k hs) e
+
+  has_from : (b : CacheEntry) (hs : List CacheEntry) → ((k : Key) → bytes_eq k k ≡ true)
+      → has_key (key_of (earliest_from use_of b hs).query) (b ∷ hs) ≡ true
+  has_from b [] same = ap (λ t. t || false) (same (key_of b.query))
+  has_from b (h ∷ hs) same =
+      earlier_has (nat_lt (used h) (used b))
+      (key_of (earliest_from use_of (earlier use_of h b) hs).query) h b hs
+      (has_from (earlier use_of h b) hs same)
+
+  least : (hs : List CacheEntry) (k : Key) → ((j : Key) → bytes_eq j j ≡ true)
+      → key_held (earliest use_of hs) ≡ Some k
+      → (has_key k hs ≡ true) × Every (λ h. use_of k ≤ used h) hs
+  least [] k same e = cc
+  least (h ∷ hs) k same e =
+      let is : key_of (earliest_from use_of h hs).query ≡ k
+      = same_Some (key_of (earliest_from use_of h hs).query) k e in
+      let r = least_from h hs in (
+        ap (λ j. has_key j (h ∷ hs)) (sym is) ∙ has_from h hs same,
+        subst (λ j. Every (λ g. use_of j ≤ used g) (h ∷ hs)) is (r.0, r.1),
+      )
+
+leaves : (a b : Bool) (o : Option Key) (k : Key) → cond a None (cond b None o) ≡ Some k → o ≡ Some k
+leaves true b o k e = cc
+leaves false true o k e = cc
+leaves false false o k e = e
+
+pub earliest_leaves : EarliestLeaves
+earliest_leaves s log q k e =
+    let r = least (last_use s log) (held s log) k same_bytes
+    (leaves (has_key (key_of q) (held s log)) (nat_lt (keys_held (held s log)) s.capacity)
+    (key_held (earliest (last_use s log) (held s log))) k e) in
+    record { is_held = r.0; earliest = r.1 }
+
+-- ---- how many keys are held where some go
+
+has_kept : (t : Key → Bool) (k : Key) (hs : List CacheEntry) → t k ≡ false
+    → has_key k (filter (λ h. not (t (key_of h.query))) hs) ≡ has_key k hs
+has_kept t k [] e = refl
+has_kept t k (h ∷ hs) e = elim (cases_Bool (bytes_eq (key_of h.query) k)) [
+  | inl same ↦
+      let stays : t (key_of h.query) ≡ false = ap t (bytes_same (key_of h.query) k same) ∙ e in
+      ap (λ b. has_key k
+      (cond (not b) (h ∷ filter (λ g. not (t (key_of g.query))) hs)
+      (filter (λ g. not (t (key_of g.query))) hs))) stays
+      ∙ ap (λ b. bytes_eq (key_of h.query) k || b) (has_kept t k hs e)
+  | inr other ↦
+      elim (t (key_of h.query)) as
+      (λ b. has_key k
+      (cond (not b) (h ∷ filter (λ g. not (t (key_of g.query))) hs)
+      (filter (λ g. not (t (key_of g.query))) hs)) ≡ has_key k (h ∷ hs)) [
+        | true ↦ has_kept t k hs e ∙ ap (λ b. b || has_key k hs) (sym other)
+        | false ↦ ap (λ b. bytes_eq (key_of h.query) k || b) (has_kept t k hs e)
+      ]
+]
+
+one_more : (b : Bool) (n : ℕ) → (n ≤ cond b n (n + 1)) × (cond b n (n + 1) ≤ n + 1)
+one_more true n = (omega arith, omega arith)
+one_more false n = (omega arith, omega arith)
+
+each_more : (b : Bool) (m n : ℕ) → m ≤ n → cond b m (m + 1) ≤ cond b n (n + 1)
+each_more true m n le = le
+each_more false m n le = omega arith
+
+kept_keys : (t : Key → Bool) (hs : List CacheEntry)
+    → keys_held (filter (λ h. not (t (key_of h.query))) hs) ≤ keys_held hs
+kept_keys t [] = omega arith
+kept_keys t (h ∷ hs) = elim (cases_Bool (t (key_of h.query))) [
+  | inl goes ↦
+      let w = kept_keys t hs in
+      let o = (one_more (has_key (key_of h.query) hs) (keys_held hs)).0 in
+      subst (λ b. keys_held
+      (cond (not b) (h ∷ filter (λ g. not (t (key_of g.query))) hs)
+      (filter (λ g. not (t (key_of g.query))) hs)) ≤ keys_held (h ∷ hs)) (sym goes)
+      (omega (arith, w, o))
+  | inr stays ↦
+      subst (λ b. keys_held
+      (cond (not b) (h ∷ filter (λ g. not (t (key_of g.query))) hs)
+      (filter (λ g. not (t (key_of g.query))) hs)) ≤ keys_held (h ∷ hs)) (sym stays)
+      (subst (λ b. cond b (keys_held (filter (λ g. not (t (key_of g.query))) hs))
+      (keys_held (filter (λ g. not (t (key_of g.query))) hs) + 1) ≤ keys_held (h ∷ hs))
+      (sym (has_kept t (key_of h.query) hs stays))
+      (each_more (has_key (key_of h.query) hs)
+      (keys_held (filter (λ g. not (t (key_of g.query))) hs)) (keys_held hs) (kept_keys t hs)))
+]
+
+less_key : (k : Key) (hs : List CacheEntry) → has_key k hs ≡ true
+    → keys_held (filter (λ h. not (bytes_eq (key_of h.query) k)) hs) + 1 ≤ keys_held hs
+less_key k [] e = cc
+less_key k (h ∷ hs) e =
+    let rest = filter (λ (g : CacheEntry). not (bytes_eq (key_of g.query) k)) hs in
+    elim (cases_Bool (bytes_eq (key_of h.query) k)) [
+      | inl same ↦
+          subst (λ b. keys_held (cond (not b) (h ∷ rest) rest) + 1 ≤ keys_held (h ∷ hs)) (sym same)
+          (elim (cases_Bool (has_key k hs)) [
+            | inl again ↦
+                let w = less_key k hs again in
+                let o = (one_more (has_key (key_of h.query) hs) (keys_held hs)).0 in
+                omega (arith, w, o)
+            | inr last ↦
+                let w = kept_keys (λ j. bytes_eq j k) hs in
+                subst (λ b. keys_held rest + 1 ≤ cond b (keys_held hs) (keys_held hs + 1))
+                (sym (ap (λ j. has_key j hs) (bytes_same (key_of h.query) k same) ∙ last))
+                (omega (arith, w))
+          ])
+      | inr other ↦
+          let there : has_key k hs ≡ true = ap (λ b. b || has_key k hs) (sym other) ∙ e in
+          let w = less_key k hs there in
+          subst (λ b. keys_held (cond (not b) (h ∷ rest) rest) + 1 ≤ keys_held (h ∷ hs)) (sym other)
+          (subst (λ b. cond b (keys_held rest) (keys_held rest + 1) + 1 ≤ keys_held (h ∷ hs))
+          (sym (has_kept (λ j. bytes_eq j k) (key_of h.query) hs other))
+          (step (has_key (key_of h.query) hs) (keys_held rest) (keys_held hs) w))
+    ]
+  where
+    step : (b : Bool) (m n : ℕ) → m + 1 ≤ n → cond b m (m + 1) + 1 ≤ cond b n (n + 1)
+    step true m n le = le
+    step false m n le = omega arith
+
+-- ---- how many keys are held where one comes
+
+more_has : (k : Key) (hs : List CacheEntry) (e : CacheEntry) → has_key k hs ≡ true
+    → has_key k (hs ++ e ∷ []) ≡ true
+more_has k [] e h = cc
+more_has k (g ∷ hs) e h = elim (cases_Bool (bytes_eq (key_of g.query) k)) [
+  | inl same ↦ ap (λ b. b || has_key k (hs ++ e ∷ [])) same
+  | inr other ↦ ap (λ b. b || has_key k (hs ++ e ∷ [])) other
+      ∙ more_has k hs e (ap (λ b. b || has_key k hs) (sym other) ∙ h)
+]
+
+last_has : (hs : List CacheEntry) (e : CacheEntry) → has_key (key_of e.query) (hs ++ e ∷ []) ≡ true
+last_has [] e = ap (λ b. b || false) (same_bytes (key_of e.query))
+last_has (g ∷ hs) e = or_from_right (bytes_eq (key_of g.query) (key_of e.query)) (last_has hs e)
+  where
+    or_from_right : (a : Bool) → has_key (key_of e.query) (hs ++ e ∷ []) ≡ true
+        → (a || has_key (key_of e.query) (hs ++ e ∷ [])) ≡ true
+    or_from_right true h = refl
+    or_from_right false h = h
+
+add_key : (hs : List CacheEntry) (e : CacheEntry) → keys_held (hs ++ e ∷ []) ≤ keys_held hs + 1
+add_key [] e = omega arith
+add_key (h ∷ hs) e =
+    let w = add_key hs e in
+    elim (cases_Bool (has_key (key_of h.query) hs)) [
+      | inl again ↦
+          subst (λ b. cond b (keys_held (hs ++ e ∷ [])) (keys_held (hs ++ e ∷ []) + 1) ≤ keys_held
+          (h ∷ hs) + 1) (sym (more_has (key_of h.query) hs e again))
+          (subst (λ b. keys_held (hs ++ e ∷ []) ≤ cond b (keys_held hs) (keys_held hs + 1) + 1)
+          (sym again) w)
+      | inr first ↦
+          let o = (one_more (has_key (key_of h.query) (hs ++ e ∷ [])) (keys_held (hs ++ e ∷ []))).1
+          in
+          subst (λ b. keys_held (h ∷ (hs ++ e ∷ [])) ≤ cond b (keys_held hs) (keys_held hs + 1) + 1)
+          (sym first) (omega (arith, w, o))
+    ]
+
+same_keys : (hs : List CacheEntry) (e : CacheEntry) → has_key (key_of e.query) hs ≡ true
+    → keys_held (hs ++ e ∷ []) ≤ keys_held hs
+same_keys [] e is = cc
+same_keys (h ∷ hs) e is = elim (cases_Bool (has_key (key_of e.query) hs)) [
+  | inl again ↦
+      let w = same_keys hs e again in
+      elim (cases_Bool (has_key (key_of h.query) hs)) [
+        | inl twice ↦
+            subst (λ b. cond b (keys_held (hs ++ e ∷ [])) (keys_held (hs ++ e ∷ []) + 1) ≤ keys_held
+            (h ∷ hs)) (sym (more_has (key_of h.query) hs e twice))
+            (subst (λ b. keys_held (hs ++ e ∷ []) ≤ cond b (keys_held hs) (keys_held hs + 1))
+            (sym twice) w)
+        | inr once ↦
+            let o = (one_more (has_key (key_of h.query) (hs ++ e ∷ []))
+            (keys_held (hs ++ e ∷ []))).1 in
+            subst (λ b. keys_held (h ∷ (hs ++ e ∷ [])) ≤ cond b (keys_held hs) (keys_held hs + 1))
+            (sym once) (omega (arith, w, o))
+      ]
+  | inr not_ ↦
+      let w = add_key hs e in
+      let same : key_of h.query ≡ key_of e.query
+      = bytes_same (key_of h.query) (key_of e.query)
+      (left_true (bytes_eq (key_of h.query) (key_of e.query)) (has_key (key_of e.query) hs) is not_)
+      in
+      subst (λ b. cond b (keys_held (hs ++ e ∷ [])) (keys_held (hs ++ e ∷ []) + 1) ≤ keys_held
+      (h ∷ hs)) (sym (ap (λ k. has_key k (hs ++ e ∷ [])) same ∙ last_has hs e))
+      (subst (λ b. keys_held (hs ++ e ∷ []) ≤ cond b (keys_held hs) (keys_held hs + 1))
+      (sym (ap (λ k. has_key k hs) same ∙ not_)) w)
+]
+  where
+    left_true : (a b : Bool) → (a || b) ≡ true → b ≡ false → a ≡ true
+    left_true true b e n = refl
+    left_true false b e n = let no : true ≡ false = sym e ∙ n in cc
+
+-- ---- a fill
+
+module _ (capacity : ℕ) (use_of : Key → ℕ) (q : Words) (n : ℕ) (v : Value)
+    (hs : List CacheEntry) where
+  abbrev new : CacheEntry
+  new = record { query = q; value = v; number = n }
+
+  abbrev filled_but : Option Key → List CacheEntry
+  filled_but gone = filter (λ h. not (is_gone gone (key_of h.query))) hs ++ new ∷ []
+
+  none_goes : (P : List CacheEntry → Type 0) → leaving capacity use_of (Some q) hs ≡ None
+      → P (hs ++ new ∷ []) → P (filled capacity use_of (Some q) n v hs)
+  none_goes P e p =
+      subst (λ g. P (filled_but g)) (sym e) (subst (λ l. P (l ++ new ∷ [])) (sym (all_stay hs)) p)
+
+  one_goes : (o : Option Key) → 0 < keys_held hs → keys_held hs ≤ capacity
+      → key_held (earliest use_of hs) ≡ o → keys_held (filled_but o) ≤ capacity
+  one_goes None some le e = absurd (no_key hs some e)
+    where
+      no_key : (gs : List CacheEntry) → 0 < keys_held gs → key_held (earliest use_of gs) ≡ None → ⊥
+      no_key [] p f = omega arith
+      no_key (g ∷ gs) p f = cc
+  one_goes (Some k) some le e =
+      let w = less_key k hs (least use_of hs k same_bytes e).0 in
+      let a = add_key (filter (λ h. not (bytes_eq (key_of h.query) k)) hs) new in
+      omega (arith, w, a)
+
+  filled_within : 0 < capacity → keys_held hs ≤ capacity
+      → keys_held (filled capacity use_of (Some q) n v hs) ≤ capacity
+  filled_within some le = elim (cases_Bool (has_key (key_of q) hs)) [
+    | inl again ↦
+        none_goes (λ l. keys_held l ≤ capacity)
+        (ap (λ b. cond b None
+        (cond (nat_lt (keys_held hs) capacity) None (key_held (earliest use_of hs)))) again)
+        (let w = same_keys hs new again in omega (arith, w))
+    | inr first ↦ elim (cases_lt (keys_held hs) capacity) [
+      | inl room ↦
+          none_goes (λ l. keys_held l ≤ capacity)
+          ((λ i. cond (first i) None
+          (cond (lt-ltb (keys_held hs) capacity room i) None (key_held (earliest use_of hs)))))
+          (let w = add_key hs new in omega (arith, w))
+      | inr full ↦
+          subst (λ g. keys_held (filled_but g) ≤ capacity)
+          (sym ((λ i. cond (first i) None
+          (cond (le-ltb (keys_held hs) capacity full i) None (key_held (earliest use_of hs))))))
+          (one_goes (key_held (earliest use_of hs)) (omega arith) le refl)
+    ]
+  ]
+
+any_filled : (capacity : ℕ) (use_of : Key → ℕ) (o : Option Words) (n : ℕ) (v : Value)
+    (hs : List CacheEntry)
+    → 0 < capacity → keys_held hs ≤ capacity
+    → keys_held (filled capacity use_of o n v hs) ≤ capacity
+any_filled capacity use_of None n v hs some le = le
+any_filled capacity use_of (Some q) n v hs some le = filled_within capacity use_of q n v hs some le
+
+reply_is : (k : Notice) → is_reply k ≡ true → k ≡ Reply
+reply_is Reply e = refl
+reply_is Keys e = cc
+reply_is All e = cc
+reply_is Broken e = cc
+reply_is Other e = cc
+reply_is Malformed e = cc
+
+abbrev Within : Setup → List LogEntry → Type 0
+Within s log = keys_held (held s log) ≤ s.capacity
+
+asked_within : (s : Setup) (log : List LogEntry) (q : Words) → LegalLog s log
+    → (o : Option CacheEntry) → held_of q (held s log) ≡ o → Within s log → Within s (Ask q ∷ log)
+asked_within s log q l (Some h) e w =
+    subst (λ hs. keys_held hs ≤ s.capacity) (sym (held_hit s log q h e)) w
+asked_within s log q l None e w =
+    subst (λ hs. keys_held hs ≤ s.capacity) (sym (held_miss s log q e (replies_within s log l))) w
+
+got_within : (s : Setup) (log : List LogEntry) (v : Value) → 0 < s.capacity → Within s log
+    → Within s (Got Main v ∷ log)
+got_within s log v some w = elim (cases_Bool (is_reply (kind_of v))) [
+  | inl reply_ ↦
+      subst (λ hs. keys_held hs ≤ s.capacity)
+      (sym (held_reply s log v (reply_is (kind_of v) reply_)
+      (open_fetch s log (length (replies s.mode Main log) + 1)) refl))
+      (any_filled s.capacity (last_use s log)
+      (open_fetch s log (length (replies s.mode Main log) + 1))
+      (length (replies s.mode Main log) + 1) v (held s log) some w)
+  | inr push_ ↦
+      subst (λ hs. keys_held hs ≤ s.capacity) (sym (held_push s log v push_))
+      (let k = kept_keys (invalidates s.mode Main v) (held s log) in omega (arith, k, w))
+]
+
+pub within_capacity : WithinCapacity
+within_capacity s [] some l = omega arith
+within_capacity s (Ask q ∷ log) some l =
+    asked_within s log q l.0 (held_of q (held s log)) refl (within_capacity s log some l.0)
+within_capacity s (Send ws ∷ log) some l =
+    subst (λ hs. keys_held hs ≤ s.capacity) (sym (held_send s log ws))
+    (let k = kept_keys (writes ws) (held s log) in let w = within_capacity s log some l.0 in
+    omega (arith, k, w))
+within_capacity s (Poll n ∷ log) some l = within_capacity s log some l.0
+within_capacity s (TakeOut w n ∷ log) some l = within_capacity s log some l.0
+within_capacity s (Got w v ∷ log) some l =
+    subst (λ u. Within s (Got u v ∷ log)) (sym (newest s log (Got w v) l).0)
+    (got_within s log v some (within_capacity s log some l.0))
+within_capacity s (End w ∷ log) some l =
+    subst (λ hs. keys_held hs ≤ s.capacity) (sym (held_none (left s log) (replies s.mode Main log)))
+    (omega arith)
+within_capacity s (Bad w v ∷ log) some l =
+    subst (λ hs. keys_held hs ≤ s.capacity) (sym (held_none (left s log) (replies s.mode Main log)))
+    (omega arith)

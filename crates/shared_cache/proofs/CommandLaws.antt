@@ -1,0 +1,282 @@
+-- The laws of the commands of a legal log.
+use Rattle.std.proofs.Common.{◌≡◌, ◌+◌, ◌-◌, ◌<◌, ◌≤◌, ◌++◌, ◌⊎◌, ℕ, List}
+use Rattle.std.proofs.Common.{[], ◌∷◌, length, drop, Bool, true, false, cond, Option, Some}
+use Rattle.std.proofs.Common.{None, Ok, Err, Result, sym, ap, ◌∙◌, refl, subst, inl, inr, arith}
+use Rattle.std.proofs.Common.{append-nil, append_assoc, length-append, ne_eqb}
+use Rattle.std.specs.Prelude.{codes}
+use Rattle.std.proofs.lemmas.Bool.{cases_Bool, and_parts}
+use Rattle.std.proofs.lemmas.List.{drop-append-le, drop_all, map-append, length-map}
+use Rattle.std.proofs.lemmas.Option.{slice_get_within}
+use Rattle.std.specs.Prelude.{map}
+use Rattle.resp_value.specs.declared.value.Value.{Value}
+use Rattle.command_words.specs.declared.command.Command.{Command}
+use Rattle.command_words.specs.declared.command.Command.TheVariants as command
+use Rattle.command_words.specs.declared.command.WordFault.{WordFault}
+use Rattle.command_words.specs.Words.{is_name, reading_of, reading}
+use Rattle.command_words.specs.declared.command.WordFault.TheVariants.{Unknown}
+use Rattle.std.specs.Str.{str_to_ascii_lowercase}
+use Rattle.shared_cache.proofs.KeyTests.{bytes_same}
+use Rattle.command_words.specs.Control.{is_named_control, is_client_control, is_control}
+use Rattle.command_words.specs.Queries.{is_cacheable, reads_as_cacheable, with_upper_name, key_of}
+use Rattle.command_words.specs.Queries.{written, written_as, written_by, names, writes}
+use Rattle.shared_cache.specs.declared.log.Wire.{Wire}
+use Rattle.shared_cache.specs.declared.log.Wire.TheVariants.{Main, Side}
+use Rattle.shared_cache.specs.declared.log.ClientMode.{ClientMode}
+use Rattle.shared_cache.specs.declared.log.LogEntry.{LogEntry}
+use Rattle.shared_cache.specs.declared.log.LogEntry.TheVariants.{Ask, Send, Poll, TakeOut, Got, End}
+use Rattle.shared_cache.specs.declared.log.LogEntry.TheVariants.{Bad}
+use Rattle.shared_cache.specs.declared.entry.CacheEntry.{CacheEntry}
+use Rattle.shared_cache.specs.declared.notices.Notice.{Notice}
+use Rattle.shared_cache.specs.declared.notices.Notice.TheVariants.{Reply, Keys, All, Broken, Other}
+use Rattle.shared_cache.specs.declared.notices.Notice.TheVariants.{Malformed}
+use Rattle.shared_cache.specs.Notices.{notice_of, invalidates}
+use Rattle.shared_cache.specs.Log.{handshake, replies, reply_in, with_reply, is_wire}
+use Rattle.shared_cache.specs.Log.{is_ready, is_accepted, caching_on_for}
+use Rattle.shared_cache.specs.Held.{Setup, Key, Words, SentCommand, Caller, put_ask, put_read}
+use Rattle.shared_cache.specs.Held.{put_command, held_of}
+use Rattle.shared_cache.specs.Held.{numbers, sent, open_fetch, held}
+use Rattle.shared_cache.specs.Held.{commands}
+use Rattle.shared_cache.specs.Laws.{Every, IsQuery, LegalLog}
+use Rattle.shared_cache.specs.Laws.{CommandsHaveWords}
+use Rattle.shared_cache.specs.Laws.{HandshakeFirst, NoControl}
+use Rattle.shared_cache.specs.Laws.{NoLaterWrite}
+use Rattle.shared_cache.proofs.Every.{every_append, every_weaker}
+use Rattle.shared_cache.proofs.LegalLogs.{newest}
+use Rattle.shared_cache.proofs.FetchLaws.{unless_some, asked_some, place_is_query}
+
+-- ---- commands of a legal log
+
+read_as_cacheable : (b : Bool) (o p : Words) → cond b (Some o) None ≡ Some p → b ≡ true
+read_as_cacheable true o p e = refl
+read_as_cacheable false o p e = cc
+
+is_cacheable_query : (p : Words) → IsQuery p → reads_as_cacheable (reading p) ≡ true
+is_cacheable_query p e = read_as_cacheable (reads_as_cacheable (reading p)) (with_upper_name p) p e
+
+has_words : (p : Words) → IsQuery p → 0 < length p
+has_words [] e = cc
+has_words (w ∷ ws) e = omega arith
+
+-- a cacheable command writes nothing
+cacheable_writes_none : (c : Command) (k : Key) → is_cacheable c ≡ true
+    → names (written c) k ≡ false
+cacheable_writes_none (command.Set key value when life) k e = cc
+cacheable_writes_none _ k e = refl
+
+reads_write_none : (r : Result Command WordFault) (k : Key) → reads_as_cacheable r ≡ true
+    → names (written_as r) k ≡ false
+reads_write_none (Ok c) k e = cacheable_writes_none c k e
+reads_write_none (Err fault) k e = cc
+
+query_writes_none : (p : Words) (k : Key) → IsQuery p → writes p k ≡ false
+unfolding written_by
+query_writes_none p k e = reads_write_none (reading p) k (is_cacheable_query p e)
+
+-- the words of a control command read as no command
+module _ (name : List ℕ) (ws : Words) where
+  named : (n : List ℕ) → is_name n name ≡ true → reading_of n ws ≡ Err Unknown
+      → reading (name ∷ ws) ≡ Err Unknown
+  named n e r = ap (λ l. reading_of l ws) (bytes_same (str_to_ascii_lowercase name) n e) ∙ r
+
+  either : (b t u : Bool) → cond b t u ≡ true → (b ≡ true) ⊎ (u ≡ true)
+  either true t u e = inl refl
+  either false t u e = inr e
+
+  control_unread : is_named_control name ws ≡ true → reading (name ∷ ws) ≡ Err Unknown
+  control_unread e = elim (either _ _ _ e) [
+    | inl a ↦ named (codes "hello") a refl
+    | inr f ↦ elim (either _ _ _ f) [
+      | inl a ↦ named (codes "reset") a refl
+      | inr g ↦ elim (either _ _ _ g) [
+        | inl a ↦ named (codes "quit") a refl
+        | inr h ↦ elim (either _ _ _ h) [
+          | inl a ↦ named (codes "shutdown") a refl
+          | inr i ↦ elim (either _ _ _ i) [
+            | inl a ↦ named (codes "subscribe") a refl
+            | inr j ↦ elim (either _ _ _ j) [
+              | inl a ↦ named (codes "unsubscribe") a refl
+              | inr k ↦ named (codes "client")
+                  (and_parts (is_name (codes "client") name) (is_client_control ws) k).0 refl
+            ]
+          ]
+        ]
+      ]
+    ]
+  ]
+
+plain_as : (p : Words) → IsQuery p → is_control p ≡ true → ⊥
+unfolding is_control
+plain_as [] e c = cc
+plain_as (name ∷ ws) e c = let no : None ≡ Some (name ∷ ws) =
+    sym (ap (λ r. cond (reads_as_cacheable r) (Some (with_upper_name (name ∷ ws))) None)
+    (control_unread name ws c)) ∙ e in cc
+
+query_is_plain : (p : Words) → IsQuery p → is_control p ≡ false
+query_is_plain p e = elim (cases_Bool (is_control p)) [
+  | inl c ↦ absurd (plain_as p e c)
+  | inr plain ↦ plain
+]
+
+every_put : (P : SentCommand → Type 0) (o : Option CacheEntry) (m : ClientMode) (on : Bool)
+    (q : Words) → P (record { words = q; origin = Caller }) → Every P (put_ask o m on q)
+every_put P (Some h) m on q p = tt
+every_put P None m on q p = (p, tt)
+
+-- what holds of each query and of the words of each Send holds of all that was sent
+every_sent : (P : Words → Type 0) (s : Setup) → ((q : Words) → IsQuery q → P q)
+    → ((ws : Words) → is_control ws ≡ false → 0 < length ws → P ws)
+    → (log : List LogEntry) → LegalLog s log → Every (λ (c : SentCommand). P c.words) (sent s log)
+every_sent P s asks sends [] l = tt
+every_sent P s asks sends (Ask q ∷ log) l =
+    every_append (λ (c : SentCommand). P c.words) (sent s log)
+    (put_ask (held_of q (held s log)) s.mode (caching_on_for s.mode log (key_of q)) q)
+    (every_sent P s asks sends log l.0)
+    (every_put (λ (c : SentCommand). P c.words) (held_of q (held s log)) s.mode
+    (caching_on_for s.mode log (key_of q)) q (asks q (newest s log (Ask q) l).0))
+every_sent P s asks sends (Send ws ∷ log) l =
+    let k = newest s log (Send ws) l in
+    every_append (λ (c : SentCommand). P c.words) (sent s log) (put_command s.mode ws)
+    (every_sent P s asks sends log l.0) (sends ws k.0 k.2, tt)
+every_sent P s asks sends (Poll n ∷ log) l = every_sent P s asks sends log l.0
+every_sent P s asks sends (TakeOut w n ∷ log) l = every_sent P s asks sends log l.0
+every_sent P s asks sends (Got w v ∷ log) l = every_sent P s asks sends log l.0
+every_sent P s asks sends (End w ∷ log) l = every_sent P s asks sends log l.0
+every_sent P s asks sends (Bad w v ∷ log) l = every_sent P s asks sends log l.0
+
+pub no_control : NoControl
+no_control s log l =
+    every_weaker (λ (c : SentCommand). is_control c.words ≡ false)
+    (λ (c : SentCommand). c.origin ≡ Caller → is_control c.words ≡ false) (sent s log)
+    (λ c p is. p)
+    (every_sent (λ ws. is_control ws ≡ false) s (λ q is. query_is_plain q is)
+    (λ ws plain some. plain) log l)
+
+every_words : (P : Words → Type 0) (cs : List SentCommand)
+    → Every (λ (c : SentCommand). P c.words) cs → Every P (map (λ (c : SentCommand). c.words) cs)
+every_words P [] all = tt
+every_words P (c ∷ cs) all = (all.0, every_words P cs all.1)
+
+pub commands_have_words : CommandsHaveWords
+commands_have_words s Main log l =
+    every_append (λ ws. 0 < length ws) (handshake s.mode log)
+    (map (λ (c : SentCommand). c.words) (sent s log)) (omega arith, (omega arith, tt))
+    (every_words (λ ws. 0 < length ws) (sent s log)
+    (every_sent (λ ws. 0 < length ws) s has_words (λ ws plain some. some) log l))
+commands_have_words s Side log l = tt
+
+-- a client that is ready stays so
+more_accepted : (v : Value) (vs : List Value) → is_accepted (reply_in 2 vs) ≡ true
+    → is_accepted (reply_in 2 (v ∷ vs)) ≡ true
+more_accepted v [] e = cc
+more_accepted v (u ∷ []) e = cc
+more_accepted v (u ∷ t ∷ vs) e =
+    ap (λ b. is_accepted (cond b (Some v) (reply_in 2 (u ∷ t ∷ vs))))
+    (ne_eqb 2 (length (u ∷ t ∷ vs) + 1) (λ f. omega arith)) ∙ e
+
+with_accepted : (main : Bool) (k : Notice) (v : Value) (vs : List Value)
+    → is_accepted (reply_in 2 vs) ≡ true → is_accepted (reply_in 2 (with_reply main k v vs)) ≡ true
+with_accepted true Reply v vs e = more_accepted v vs e
+with_accepted true Keys v vs e = e
+with_accepted true All v vs e = e
+with_accepted true Broken v vs e = e
+with_accepted true Other v vs e = e
+with_accepted true Malformed v vs e = e
+with_accepted false k v vs e = e
+
+unready_before : (s : Setup) (w : Wire) (v : Value) (log : List LogEntry)
+    → is_ready s.mode (Got w v ∷ log) ≡ false → is_ready s.mode log ≡ false
+unready_before s w v log e = elim (cases_Bool (is_ready s.mode log)) [
+  | inl ready ↦ let f : true ≡ false =
+      sym (with_accepted (is_wire w Main) (notice_of s.mode w v) v (replies s.mode Main log) ready)
+      ∙ e in cc
+  | inr not_ ↦ not_
+]
+
+nothing_sent : (s : Setup) (log : List LogEntry) → LegalLog s log → is_ready s.mode log ≡ false
+    → sent s log ≡ []
+nothing_sent s [] l e = refl
+nothing_sent s (Ask q ∷ log) l e =
+    absurd (let f : true ≡ false = sym (newest s log (Ask q) l).1 ∙ e in cc)
+nothing_sent s (Send ws ∷ log) l e =
+    absurd (let f : true ≡ false = sym (newest s log (Send ws) l).1 ∙ e in cc)
+nothing_sent s (Poll n ∷ log) l e = nothing_sent s log l.0 e
+nothing_sent s (TakeOut w n ∷ log) l e = nothing_sent s log l.0 e
+nothing_sent s (Got w v ∷ log) l e = nothing_sent s log l.0 (unready_before s w v log e)
+nothing_sent s (End w ∷ log) l e = nothing_sent s log l.0 e
+nothing_sent s (Bad w v ∷ log) l e = nothing_sent s log l.0 e
+
+pub handshake_first : HandshakeFirst
+handshake_first s log l = (
+  (map (λ (c : SentCommand). c.words) (sent s log), refl),
+  λ e. ap (λ xs. handshake s.mode log ++ map (λ (c : SentCommand). c.words) xs)
+      (nothing_sent s log l e) ∙ append-nil (handshake s.mode log),
+)
+
+-- ---- no later command writes the key of an open fetch
+
+abbrev commands_of : Setup → List LogEntry → List SentCommand → List Words
+commands_of s log cs = handshake s.mode log ++ map (λ (c : SentCommand). c.words) cs
+
+within : (s : Setup) (log : List LogEntry) (n : ℕ) (q : Words) → open_fetch s log n ≡ Some q
+    → n ≤ length (commands s Main log)
+within s log n q f =
+    let p = place_is_query s log n q f in
+    let lt = slice_get_within (commands s Main log) (n - 1) q p.1 in
+    let some = p.0 in
+    omega (arith, lt, some)
+
+every_dropped : (P : Words → Type 0) (s : Setup) (log : List LogEntry) (xs ys : List SentCommand)
+    (n : ℕ)
+    → n ≤ length (commands_of s log xs) → Every P (drop n (commands_of s log xs))
+    → Every (λ (c : SentCommand). P c.words) ys → Every P (drop n (commands_of s log (xs ++ ys)))
+every_dropped P s log xs ys n le all p =
+    let words = λ (c : SentCommand). c.words in
+    let parts : commands_of s log xs ++ map words ys ≡ commands_of s log (xs ++ ys) =
+    append_assoc (handshake s.mode log) (map words xs) (map words ys)
+    ∙ ap (λ l. handshake s.mode log ++ l) (sym (map-append words xs ys)) in
+    subst (λ l. Every P (drop n l)) parts
+    (subst (Every P) (sym (drop-append-le n (commands_of s log xs) (map words ys) le))
+    (every_append P (drop n (commands_of s log xs)) (map words ys) all (every_words P ys p)))
+
+pub no_later_write : NoLaterWrite
+no_later_write s [] n q l f = cc
+no_later_write s (Ask p ∷ log) n q l f =
+    elim (asked_some (held_of p (held s log)) s.mode (caching_on_for s.mode log (key_of p))
+    (numbers s log) p n (open_fetch s log n) q f) [
+      | inl old ↦
+          every_dropped (λ ws. writes ws (key_of q) ≡ false) s log (sent s log)
+          (put_ask (held_of p (held s log)) s.mode (caching_on_for s.mode log (key_of p)) p) n
+          (within s log n q old) (no_later_write s log n q l.0 old)
+          (every_put (λ (c : SentCommand). writes c.words (key_of q) ≡ false)
+          (held_of p (held s log)) s.mode (caching_on_for s.mode log (key_of p)) p
+          (query_writes_none p (key_of q) (newest s log (Ask p) l).0))
+      | inr new ↦
+          subst (λ o. Every (λ ws. writes ws (key_of q) ≡ false)
+          (drop n (commands_of s log
+          (sent s log ++ put_ask o s.mode (caching_on_for s.mode log (key_of p)) p))))
+          (sym new.missed)
+          (subst (Every (λ ws. writes ws (key_of q) ≡ false))
+          (sym (drop_all n
+          (commands_of s log
+          (sent s log ++ put_read s.mode (caching_on_for s.mode log (key_of p)) p))
+          (omega (
+            arith,
+            new.number_is,
+            length-append (handshake s.mode log)
+                (map (λ (c : SentCommand). c.words)
+                (sent s log ++ put_read s.mode (caching_on_for s.mode log (key_of p)) p)),
+            length-map (sent s log ++ put_read s.mode (caching_on_for s.mode log (key_of p)) p)
+                (λ (c : SentCommand). c.words),
+            length-append (sent s log) (put_read s.mode (caching_on_for s.mode log (key_of p)) p),
+          )))) tt)
+    ]
+no_later_write s (Send ws ∷ log) n q l f =
+    let u = unless_some (writes ws) (open_fetch s log n) q f in
+    every_dropped (λ x. writes x (key_of q) ≡ false) s log (sent s log) (put_command s.mode ws) n
+    (within s log n q u.0) (no_later_write s log n q l.0 u.0) (u.1, tt)
+no_later_write s (Poll m ∷ log) n q l f = no_later_write s log n q l.0 f
+no_later_write s (TakeOut w m ∷ log) n q l f = no_later_write s log n q l.0 f
+no_later_write s (Got w v ∷ log) n q l f =
+    no_later_write s log n q l.0 (unless_some (invalidates s.mode w v) (open_fetch s log n) q f).0
+no_later_write s (End w ∷ log) n q l f = cc
+no_later_write s (Bad w v ∷ log) n q l f = cc

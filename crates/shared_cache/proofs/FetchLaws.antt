@@ -1,0 +1,266 @@
+-- The laws of open fetches and of what is held, by induction along the log.
+use Rattle.std.proofs.Common.{◌≡◌, ◌+◌, ◌-◌, ◌<◌, ◌≤◌, ◌++◌, zero, suc, ◌&&◌, ◌||◌, ◌⊎◌, ℕ, List}
+use Rattle.std.proofs.Common.{[], ◌∷◌, length, Bool, true, false, cond, not, Option, Some}
+use Rattle.std.proofs.Common.{None, sym, ap, ◌∙◌, refl, subst, inl, inr, arith}
+use Rattle.std.proofs.Common.{eq-eqb, ne_eqb}
+use Rattle.std.proofs.lemmas.Bool.{cases_eq, cases_Bool, and_parts, or_parts, not-true}
+use Rattle.std.specs.List.{slice_get}
+use Rattle.std.specs.Prelude.{map}
+use Rattle.std.proofs.lemmas.Option.{same_Some}
+use Rattle.resp_value.specs.declared.value.Value.{Value}
+use Rattle.command_words.specs.Queries.{key_of, same_query, writes}
+use Rattle.shared_cache.specs.declared.log.Wire.{Wire}
+use Rattle.shared_cache.specs.declared.log.Wire.TheVariants.{Main, Side}
+use Rattle.shared_cache.specs.declared.log.ClientMode.{ClientMode}
+use Rattle.shared_cache.specs.declared.log.LogEntry.{LogEntry}
+use Rattle.shared_cache.specs.declared.log.LogEntry.TheVariants.{Ask, Send, Poll, TakeOut, Got, End}
+use Rattle.shared_cache.specs.declared.log.LogEntry.TheVariants.{Bad}
+use Rattle.shared_cache.specs.declared.entry.CacheEntry.{CacheEntry}
+use Rattle.shared_cache.specs.Notices.{invalidates}
+use Rattle.shared_cache.specs.Log.{handshake, replies, reply_in, is_ended}
+use Rattle.shared_cache.specs.Log.{is_ready, is_broken, caching_on_for}
+use Rattle.shared_cache.specs.Held.{Setup, Key, Words, SentCommand, Caller, put_ask, put_read}
+use Rattle.shared_cache.specs.Held.{held_of, unless, other_than, fetched, asked, hold}
+use Rattle.shared_cache.specs.Held.{held_by, ends, numbers, sent, open_fetch, left, held}
+use Rattle.shared_cache.specs.Held.{commands}
+use Rattle.resp_value.specs.Lists.{IsPrefix}
+use Rattle.shared_cache.specs.Laws.{Every, WasSent}
+use Rattle.shared_cache.specs.Laws.{IsFetch}
+use Rattle.shared_cache.specs.Laws.{OpenWasSent}
+use Rattle.shared_cache.specs.Laws.{PlaceIsQuery, SentReady, OpenWires, HeldIsFetch}
+use Rattle.shared_cache.specs.Laws.{EndedHoldsNothing}
+use Rattle.shared_cache.proofs.Every.{every_append, every_weaker}
+use Rattle.shared_cache.proofs.CommandLists.{commands_grow}
+
+-- ---- open fetches
+
+pub unless_some : (t : Key → Bool) (o : Option Words) (q : Words) → unless t o ≡ Some q
+    → (o ≡ Some q) × (t (key_of q) ≡ false)
+unless_some t None q e = cc
+unless_some t (Some p) q e = elim (cases_Bool (t (key_of p))) [
+  | inl yes_ ↦ let f : None ≡ Some q = sym (ap (λ b. cond b None (Some p)) yes_) ∙ e in cc
+  | inr not_ ↦ let f : Some p ≡ Some q = sym (ap (λ b. cond b None (Some p)) not_) ∙ e in
+      (f, subst (λ x. t (key_of x) ≡ false) (same_Some p q f) not_)
+]
+
+other_some : (p : Words) (o : Option Words) (q : Words) → other_than p o ≡ Some q → o ≡ Some q
+other_some p None q e = e
+other_some p (Some r) q e = elim (cases_Bool (same_query r p)) [
+  | inl yes_ ↦ let f : None ≡ Some q = sym (ap (λ b. cond b None (Some r)) yes_) ∙ e in cc
+  | inr not_ ↦ sym (ap (λ b. cond b None (Some r)) not_) ∙ e
+]
+
+fetched_some : (on : Bool) (p q : Words) → fetched on p ≡ Some q → (on ≡ true) × (p ≡ q)
+fetched_some true p q e = (refl, same_Some p q e)
+fetched_some false p q e = cc
+
+pub record IsNew (o : Option CacheEntry) (m : ClientMode) (on : Bool) (before : ℕ) (p : Words)
+    (n : ℕ) (q : Words) : Type 0 where
+  pub missed : o ≡ None
+  pub number_is : n ≡ before + length (put_read m on p)
+  pub turned_on : on ≡ true
+  pub query_is : p ≡ q
+
+pub asked_some : (o : Option CacheEntry) (m : ClientMode) (on : Bool) (before : ℕ) (p : Words)
+    (n : ℕ) (old : Option Words) (q : Words)
+    → asked o m on before p n old ≡ Some q → (old ≡ Some q) ⊎ IsNew o m on before p n q
+asked_some (Some h) m on before p n old q e = inl e
+asked_some None m on before p n old q e = elim (cases_eq n (before + length (put_read m on p))) [
+  | inl same ↦
+      let f = fetched_some on p q
+      (sym (ap (λ b. cond b (fetched on p) (other_than p old))
+      (eq-eqb n (before + length (put_read m on p)) same)) ∙ e) in
+      inr (record { missed = refl; number_is = same; turned_on = f.0; query_is = f.1 })
+  | inr other ↦ inl
+      (other_some p old q
+      (sym (ap (λ b. cond b (fetched on p) (other_than p old))
+      (ne_eqb n (before + length (put_read m on p)) other)) ∙ e))
+]
+
+one_later : (s : Setup) (log : List LogEntry) (n : ℕ) (q : Words) (e : LogEntry)
+    → ends s log n e (key_of q) ≡ false → WasSent s log n q → WasSent s (e ∷ log) n q
+one_later s log n q e spares w = record {
+  later = e ∷ w.later;
+  sooner = w.sooner;
+  log_is = ap (λ l. e ∷ l) w.log_is;
+  number_is = w.number_is;
+  missed = w.missed;
+  on = w.on;
+  spared = (subst (λ l. ends s l n e (key_of q) ≡ false) w.log_is spares, w.spared);
+}
+
+pub open_was_sent : OpenWasSent
+open_was_sent s [] n q f = cc
+open_was_sent s (Ask p ∷ log) n q f =
+    elim (asked_some (held_of p (held s log)) s.mode (caching_on_for s.mode log (key_of p))
+    (numbers s log) p n (open_fetch s log n) q f) [
+      | inl old ↦ one_later s log n q (Ask p) refl (open_was_sent s log n q old)
+      | inr new ↦ record {
+        later = [];
+        sooner = log;
+        log_is = ap (λ x. Ask x ∷ log) new.query_is;
+        number_is = new.number_is;
+        missed = ap (λ x. held_of x (held s log)) (sym new.query_is) ∙ new.missed;
+        on = new.turned_on;
+        spared = tt;
+      }
+    ]
+open_was_sent s (Send ws ∷ log) n q f = let u = unless_some (writes ws) (open_fetch s log n) q f in
+    one_later s log n q (Send ws) u.1 (open_was_sent s log n q u.0)
+open_was_sent s (Poll m ∷ log) n q f = one_later s log n q (Poll m) refl (open_was_sent s log n q f)
+open_was_sent s (TakeOut w m ∷ log) n q f =
+    one_later s log n q (TakeOut w m) refl (open_was_sent s log n q f)
+open_was_sent s (Got w v ∷ log) n q f = let u =
+    unless_some (invalidates s.mode w v) (open_fetch s log n) q f in
+    one_later s log n q (Got w v) u.1 (open_was_sent s log n q u.0)
+open_was_sent s (End w ∷ log) n q f = cc
+open_was_sent s (Bad w v ∷ log) n q f = cc
+
+pub sent_ready : SentReady
+sent_ready s log n q f w =
+    (and_parts (is_ready s.mode w.sooner)
+    (not (is_ended s.mode Main w.sooner || is_ended s.mode Side w.sooner) && not
+    (is_broken s.mode w.sooner)) w.on).0
+
+pub open_wires : OpenWires
+open_wires s [] n q f = cc
+open_wires s (Ask p ∷ log) n q f =
+    elim (asked_some (held_of p (held s log)) s.mode (caching_on_for s.mode log (key_of p))
+    (numbers s log) p n (open_fetch s log n) q f) [
+      | inl old ↦ open_wires s log n q old
+      | inr new ↦
+          let a = and_parts (is_ready s.mode log)
+          (not (is_ended s.mode Main log || is_ended s.mode Side log) && not (is_broken s.mode log))
+          new.turned_on in
+          let b = and_parts (not (is_ended s.mode Main log || is_ended s.mode Side log))
+          (not (is_broken s.mode log)) a.1 in
+          or_parts (is_ended s.mode Main log) (is_ended s.mode Side log)
+          (not-true (is_ended s.mode Main log || is_ended s.mode Side log) b.0)
+    ]
+open_wires s (Send ws ∷ log) n q f =
+    open_wires s log n q (unless_some (writes ws) (open_fetch s log n) q f).0
+open_wires s (Poll m ∷ log) n q f = open_wires s log n q f
+open_wires s (TakeOut w m ∷ log) n q f = open_wires s log n q f
+open_wires s (Got w v ∷ log) n q f =
+    open_wires s log n q (unless_some (invalidates s.mode w v) (open_fetch s log n) q f).0
+open_wires s (End w ∷ log) n q f = cc
+open_wires s (Bad w v ∷ log) n q f = cc
+
+-- ---- the command of an open fetch
+
+at_end : (n : ℕ) (front : List Words) (xs ys : List SentCommand) (c : SentCommand)
+    → n ≡ length front + length xs
+    → slice_get (front ++ map (λ c. c.words) (xs ++ c ∷ ys)) n ≡ Some c.words
+at_end n [] [] ys c e = ap (λ i. slice_get (c.words ∷ map (λ (d : SentCommand). d.words) ys) i) e
+at_end n [] (x ∷ xs) ys c e =
+    ap (λ i. slice_get (x.words ∷ map (λ (d : SentCommand). d.words) (xs ++ c ∷ ys)) i)
+    (let f : n ≡ suc (length xs) = omega arith in f)
+    ∙ at_end (length xs) [] xs ys c (omega arith)
+at_end n (f ∷ front) xs ys c e =
+    ap (λ i. slice_get (f ∷ front ++ map (λ (d : SentCommand). d.words) (xs ++ c ∷ ys)) i)
+    (let g : n ≡ suc (length front + length xs) = omega arith in g)
+    ∙ at_end (length front + length xs) front xs ys c refl
+
+get_grows : (xs ys : List Words) (i : ℕ) (x : Words) → IsPrefix xs ys → slice_get xs i ≡ Some x
+    → slice_get ys i ≡ Some x
+get_grows [] ys i x p e = cc
+get_grows (w ∷ xs) ys zero x p e = ap (λ l. slice_get l 0) (sym p.1) ∙ e
+get_grows (w ∷ xs) ys (suc i) x p e = ap (λ l. slice_get l (suc i)) (sym p.1)
+    ∙ get_grows xs (xs ++ p.0) i x (p.0, refl) e
+
+place_later : (s : Setup) (e : LogEntry) (log : List LogEntry) (n : ℕ) (q : Words)
+    → (0 < n) × (slice_get (commands s Main log) (n - 1) ≡ Some q) → (0 < n)
+    × (slice_get (commands s Main (e ∷ log)) (n - 1) ≡ Some q)
+place_later s e log n q p = (
+  p.0,
+  get_grows (commands s Main log) (commands s Main (e ∷ log)) (n - 1) q
+      (commands_grow s Main e log) p.1,
+)
+
+pub place_is_query : PlaceIsQuery
+place_is_query s [] n q f = cc
+place_is_query s (Ask p ∷ log) n q f =
+    elim (asked_some (held_of p (held s log)) s.mode (caching_on_for s.mode log (key_of p))
+    (numbers s log) p n (open_fetch s log n) q f) [
+      | inl old ↦ place_later s (Ask p) log n q (place_is_query s log n q old)
+      | inr new ↦ (
+        omega (arith, new.number_is),
+        ap (λ o. slice_get
+            (handshake s.mode log ++ map (λ (c : SentCommand). c.words)
+            (sent s log ++ put_ask o s.mode (caching_on_for s.mode log (key_of p)) p)) (n - 1))
+            new.missed
+            ∙ at_end (n - 1) (handshake s.mode log) (sent s log) []
+            (record { words = p; origin = Caller })
+            (omega (arith, new.number_is))
+            ∙ ap Some new.query_is,
+      )
+    ]
+place_is_query s (Send ws ∷ log) n q f =
+    place_later s (Send ws) log n q
+    (place_is_query s log n q (unless_some (writes ws) (open_fetch s log n) q f).0)
+place_is_query s (Poll m ∷ log) n q f = place_later s (Poll m) log n q (place_is_query s log n q f)
+place_is_query s (TakeOut w m ∷ log) n q f =
+    place_later s (TakeOut w m) log n q (place_is_query s log n q f)
+place_is_query s (Got w v ∷ log) n q f =
+    place_later s (Got w v) log n q
+    (place_is_query s log n q (unless_some (invalidates s.mode w v) (open_fetch s log n) q f).0)
+place_is_query s (End w ∷ log) n q f = cc
+place_is_query s (Bad w v ∷ log) n q f = cc
+
+-- ---- what is held
+
+abbrev Fetched : (ℕ → Option Words) → List Value → CacheEntry → Type 0
+Fetched open_of vs h = (open_of h.number ≡ Some h.query) × (reply_in h.number vs ≡ Some h.value)
+    × (h.number ≤ length vs)
+
+hold_every : (open_of : ℕ → Option Words) (o : Option Words) (gone : Bool) (v : Value)
+    (vs : List Value) → open_of (length vs + 1) ≡ o
+    → Every (Fetched open_of (v ∷ vs)) (hold o gone v (length vs + 1))
+hold_every open_of None gone v vs e = tt
+hold_every open_of (Some q) true v vs e = tt
+hold_every open_of (Some q) false v vs e = (
+  (
+    e,
+    ap (λ b. cond b (Some v) (reply_in (length vs + 1) vs))
+        (eq-eqb (length vs + 1) (length vs + 1) refl),
+    omega arith,
+  ),
+  tt,
+)
+
+held_every : (open_of : ℕ → Option Words) (left_of : ℕ → Bool) (vs : List Value)
+    → Every (Fetched open_of vs) (held_by open_of left_of vs)
+held_every open_of left_of [] = tt
+held_every open_of left_of (v ∷ vs) =
+    every_append (Fetched open_of (v ∷ vs)) (held_by open_of left_of vs)
+    (hold (open_of (length vs + 1)) (left_of (length vs + 1)) v (length vs + 1))
+    (every_weaker (Fetched open_of vs) (Fetched open_of (v ∷ vs)) (held_by open_of left_of vs)
+    (λ h a. (
+      a.0,
+      ap (λ b. cond b (Some v) (reply_in h.number vs))
+          (ne_eqb h.number (length vs + 1) (λ f. omega (arith, a.2))) ∙ a.1,
+      omega (arith, a.2),
+    ))
+    (held_every open_of left_of vs))
+    (hold_every open_of (open_of (length vs + 1)) (left_of (length vs + 1)) v vs refl)
+
+pub held_is_fetch : HeldIsFetch
+held_is_fetch s log =
+    every_weaker (Fetched (open_fetch s log) (replies s.mode Main log)) (IsFetch s log) (held s log)
+    (λ h a. record { fetch = a.0; reply_is = a.1 })
+    (held_every (open_fetch s log) (left s log) (replies s.mode Main log))
+
+-- ---- nothing is held after an end
+
+not_open : (s : Setup) (w : Wire) (log : List LogEntry) (n : ℕ) (q : Words)
+    → open_fetch s log n ≡ Some q → is_ended s.mode w log ≡ true → ⊥
+not_open s Main log n q f e = let no : true ≡ false = sym e ∙ (open_wires s log n q f).0 in cc
+not_open s Side log n q f e = let no : true ≡ false = sym e ∙ (open_wires s log n q f).1 in cc
+
+none_fetched : (s : Setup) (w : Wire) (log : List LogEntry) (hs : List CacheEntry)
+    → Every (IsFetch s log) hs → is_ended s.mode w log ≡ true → hs ≡ []
+none_fetched s w log [] all e = refl
+none_fetched s w log (h ∷ hs) all e = absurd (not_open s w log h.number h.query all.0.fetch e)
+
+pub ended_holds_nothing : EndedHoldsNothing
+ended_holds_nothing s w log e = none_fetched s w log (held s log) (held_is_fetch s log) e

@@ -1,0 +1,242 @@
+-- After a value was read the fields are what the log says.
+use Rattle.std.proofs.Common.{◌≡◌, ◌+◌, ◌-◌, ◌<◌, ◌||◌, ℕ, suc, List, [], ◌∷◌}
+use Rattle.std.proofs.Common.{length, map, set, get_or, true, false, cond, not, Option, Some}
+use Rattle.std.proofs.Common.{sym, ap, ◌∙◌, refl, arith, ne_eqb, eq-eqb, inl, inr, length-set}
+use Rattle.std.specs.Prelude.{nat_lt, nat_le}
+use Rattle.std.specs.List.{filter}
+use Rattle.std.proofs.lemmas.Bool.{cases_eq, cases_lt, le-leb, lt-ltb, le-ltb, leb-false}
+use Rattle.std.proofs.lemmas.List.{get_or-set_same, get_or-set_other}
+use Rattle.resp_value.specs.declared.value.Value.{Value}
+use Rattle.command_words.specs.Queries.{key_of, names}
+use Rattle.command_words.specs.declared.written.Written.{Written}
+use Rattle.fill_mark.specs.declared.marks.Mark.{Mark}
+use Rattle.fill_mark.specs.Marks.{query_marked, without_number}
+use Rattle.shared_cache.specs.declared.log.Wire.TheVariants.{Main}
+use Rattle.shared_cache.specs.declared.log.LogEntry.{LogEntry}
+use Rattle.shared_cache.specs.declared.log.LogEntry.TheVariants.{Got}
+use Rattle.shared_cache.specs.declared.entry.Slot.{Slot}
+use Rattle.shared_cache.specs.declared.entry.PendingReply.TheVariants.{Waiting, There, Gone}
+use Rattle.shared_cache.specs.declared.notices.Notice.{Notice}
+use Rattle.shared_cache.specs.declared.notices.Notice.TheVariants.{Reply, Keys, All, Broken, Other}
+use Rattle.shared_cache.specs.declared.notices.Notice.TheVariants.{Malformed}
+use Rattle.shared_cache.specs.Notices.{kind_of, named_keys, invalidates, invalidates_as, is_reply}
+use Rattle.shared_cache.specs.Notices.{IsPush}
+use Rattle.shared_cache.specs.Log.{replies, reply_in, is_accepted}
+use Rattle.shared_cache.specs.Log.{is_broken, is_broken_notice}
+use Rattle.shared_cache.specs.Held.{Setup, Key, Words, numbers, used_at, open_fetch, last_use, held}
+use Rattle.shared_cache.specs.Out.{is_polled}
+use Rattle.shared_cache.specs.Steps.{is_welcome}
+use Rattle.shared_cache.specs.Slots.{slot_of, refilled}
+use Rattle.shared_cache.specs.ClientFields.{Fields, Reflects, pending_at, there, owed_in, marks_by}
+use Rattle.shared_cache.specs.ClientFields.{settled}
+use Rattle.shared_cache.proofs.InPlace.{filter_same_test}
+use Rattle.shared_cache.proofs.SlotLists.{filled, slots_filter, slots_refilled, slots_same}
+use Rattle.shared_cache.proofs.HeldSteps.{replies_push, held_push, use_push, replies_reply}
+use Rattle.shared_cache.proofs.HeldSteps.{open_reply, held_reply, use_reply}
+use Rattle.shared_cache.proofs.MarkLists.{marks_filter, marks_same, marks_next, marks_find}
+use Rattle.shared_cache.proofs.MarkLists.{mark_unless}
+use Rattle.shared_cache.proofs.Bytes.{untaken_same}
+use Rattle.shared_cache.proofs.PendingLists.{no_reply, owed_there}
+use Rattle.shared_cache.proofs.KeyTests.{same_bytes}
+
+push_no_reply : (n : Notice) → IsPush n → is_reply n ≡ false
+push_no_reply Reply p = absurd p
+push_no_reply Malformed p = absurd p
+push_no_reply Keys p = refl
+push_no_reply All p = refl
+push_no_reply Broken p = refl
+push_no_reply Other p = refl
+
+-- the handshake is answered as it is to be answered
+ready_next : (vs : List Value) (v : Value) (s : Setup)
+    → is_welcome s.mode Main (length vs + 1) v ≡ true
+    → is_accepted (reply_in 2 vs) ≡ nat_le 2 (length vs)
+    → is_accepted (reply_in 2 (v ∷ vs)) ≡ nat_le 2 (length vs + 1)
+ready_next [] v s w r = refl
+ready_next (u ∷ []) v s w r = w
+ready_next (u ∷ t ∷ vs) v s w r =
+    ap (λ b. is_accepted (cond b (Some v) (reply_in 2 (u ∷ t ∷ vs))))
+    (ne_eqb 2 (length (u ∷ t ∷ vs) + 1) (λ f. omega arith))
+    ∙ r ∙ le-leb 2 (length (u ∷ t ∷ vs)) (omega arith)
+    ∙ sym (le-leb 2 (length (u ∷ t ∷ vs) + 1) (omega arith))
+
+module _ (s : Setup) (log : List LogEntry) (f : Fields) (k : Reflects s log f) where
+  pub reflects_push : (v : Value) (n : Notice) (w : Written) → n ≡ kind_of v → IsPush n
+      → ((key : Key) → names w key ≡ invalidates_as n (named_keys v) key)
+      → Reflects s (Got Main v ∷ log) (record f {
+        marks = filter (λ m. not (names w (key_of m.query))) f.marks;
+        slots = filter (λ o. not (names w (key_of o.entry.query))) f.slots;
+        broken = is_broken_notice n || f.broken;
+      })
+  reflects_push v n w e p named =
+      let same : (key : Key) → not (names w key) ≡ not (invalidates s.mode Main v key)
+      = λ key. ap not (named key ∙ ap (λ m. invalidates_as m (named_keys v) key) e) in
+      let pushed : is_reply (kind_of v) ≡ false = ap is_reply (sym e) ∙ push_no_reply n p in
+      record {
+        queued_is = k.queued_is ∙ sym (untaken_same s log (Got Main v ∷ log) refl refl);
+        replied_is = k.replied_is ∙ ap length (sym (replies_push s log v pushed));
+        replied_within = k.replied_within;
+        ready_is = ap (λ vs. is_accepted (reply_in 2 vs)) (replies_push s log v pushed)
+            ∙ k.ready_is;
+        pending_count = k.pending_count;
+        pending_is = λ i l. k.pending_is i l
+            ∙ ap (λ vs. cond (is_polled log (i + 3)) Gone (there (reply_in (i + 3) vs)))
+            (sym (replies_push s log v pushed));
+        unpolled = k.unpolled;
+        owed_is = k.owed_is;
+        marks_is =
+            ap (filter (λ (m : Mark). not (names w (key_of m.query)))) k.marks_is
+            ∙ filter_same_test (λ (m : Mark). not (names w (key_of m.query)))
+            (λ (m : Mark). not (invalidates s.mode Main v (key_of m.query)))
+            (marks_by (open_fetch s log) f.replied (numbers s log)) (λ m. same (key_of m.query))
+            ∙ sym (marks_filter (open_fetch s log) (open_fetch s (Got Main v ∷ log))
+            (λ (m : Mark). not (invalidates s.mode Main v (key_of m.query))) f.replied
+            (numbers s log)
+            (λ m le. mark_unless (invalidates s.mode Main v) m (open_fetch s log m)));
+        slots_is =
+            ap (filter (λ (o : Slot). not (names w (key_of o.entry.query)))) k.slots_is
+            ∙ filter_same_test (λ (o : Slot). not (names w (key_of o.entry.query)))
+            (λ (o : Slot). not (invalidates s.mode Main v (key_of o.entry.query)))
+            (map (slot_of (last_use s log)) (held s log)) (λ o. same (key_of o.entry.query))
+            ∙ slots_filter (last_use s log) (invalidates s.mode Main v) (held s log)
+            ∙ ap (map (slot_of (last_use s log))) (sym (held_push s log v pushed))
+            ∙ sym (slots_same (last_use s log) (last_use s (Got Main v ∷ log))
+            (held s (Got Main v ∷ log)) (use_push s log v pushed));
+        ended_is = k.ended_is;
+        side_is = k.side_is;
+        broken_is = λ i. is_broken_notice (e i) || k.broken_is i;
+      }
+
+  -- a number without a reply waits
+  waits : (i : ℕ) → i < length f.pending → f.replied < i + 3 → get_or f.pending i Gone ≡ Waiting
+  waits i lt late =
+      k.pending_is i lt
+      ∙ ap (λ b. cond b Gone (there (reply_in (i + 3) (replies s.mode Main log))))
+      (k.unpolled (i + 3) late)
+      ∙ ap there (no_reply (i + 3) (replies s.mode Main log) (omega (arith, k.replied_is)))
+
+  pending_other : (v : Value) (i : ℕ) → kind_of v ≡ Reply → i < length f.pending
+      → (i + 3 ≡ f.replied + 1 → ⊥)
+      → get_or f.pending i Gone ≡ pending_at s.mode (Got Main v ∷ log) (i + 3)
+  pending_other v i e lt ne =
+      k.pending_is i lt
+      ∙ ap (λ b. cond (is_polled log (i + 3)) Gone
+      (there (cond b (Some v) (reply_in (i + 3) (replies s.mode Main log)))))
+      (sym (ne_eqb (i + 3) (length (replies s.mode Main log) + 1)
+      (λ g. ne (omega (arith, k.replied_is)))))
+      ∙ ap (λ vs. cond (is_polled log (i + 3)) Gone (there (reply_in (i + 3) vs)))
+      (sym (replies_reply s log v e))
+
+  pending_next : (v : Value) (i : ℕ) → kind_of v ≡ Reply → i + 3 ≡ f.replied + 1
+      → There v ≡ pending_at s.mode (Got Main v ∷ log) (i + 3)
+  pending_next v i e is =
+      sym (ap (λ vs. cond (is_polled log (i + 3)) Gone (there (reply_in (i + 3) vs)))
+      (replies_reply s log v e)
+      ∙ ap (λ b. cond b Gone (there (reply_in (i + 3) (v ∷ replies s.mode Main log))))
+      (k.unpolled (i + 3) (omega arith))
+      ∙ ap (λ b. there (cond b (Some v) (reply_in (i + 3) (replies s.mode Main log))))
+      (eq-eqb (i + 3) (length (replies s.mode Main log) + 1) (omega (arith, k.replied_is))))
+
+  pending_settled : (v : Value) (number i : ℕ) → kind_of v ≡ Reply → number ≡ f.replied + 1
+      → f.replied < length f.pending + 2 → i < length (settled s.mode number v f.pending)
+      → get_or (settled s.mode number v f.pending) i Gone ≡ pending_at s.mode (Got Main v ∷ log)
+      (i + 3)
+  pending_settled v number i e is within lt = elim (cases_lt 2 number) [
+    | inl big ↦
+        let to : settled s.mode number v f.pending ≡ set f.pending (number - 3) (There v)
+        = ap (λ b. cond b (set f.pending (number - 3) (There v)) f.pending) (lt-ltb 2 number big) in
+        let short : i < length f.pending
+        = omega (arith, ap length to, length-set f.pending (number - 3) (There v)) in
+        ap (λ l. get_or l i Gone) to
+        ∙ elim (cases_eq i (number - 3)) [
+          | inl same ↦ ap (λ j. get_or (set f.pending (number - 3) (There v)) j Gone) same
+              ∙ get_or-set_same f.pending (number - 3) (There v) Gone (omega arith)
+              ∙ pending_next v i e (omega arith)
+          | inr other ↦ get_or-set_other f.pending (number - 3) i (There v) Gone other
+              ∙ pending_other v i e short (λ g. other (omega arith))
+        ]
+    | inr small ↦
+        let to : settled s.mode number v f.pending ≡ f.pending
+        = ap (λ b. cond b (set f.pending (number - 3) (There v)) f.pending)
+        (le-ltb 2 number small) in
+        ap (λ l. get_or l i Gone) to
+        ∙ pending_other v i e (omega (arith, ap length to)) (λ g. omega arith)
+  ]
+
+  length_settled : (v : Value) (number : ℕ)
+      → length (settled s.mode number v f.pending) ≡ length f.pending
+  length_settled v number =
+      elim (nat_lt 2 number) as
+      (λ b. length (cond b (set f.pending (number - 3) (There v)) f.pending) ≡ length f.pending)
+      [ true ↦ length-set f.pending (number - 3) (There v) | false ↦ refl ]
+
+  owed_settled : (v : Value) (number : ℕ) → number ≡ f.replied + 1
+      → f.replied < length f.pending + 2
+      → owed_in (settled s.mode number v f.pending) ≡ owed_in f.pending
+  owed_settled v number is within = elim (cases_lt 2 number) [
+    | inl big ↦ ap (λ b. owed_in (cond b (set f.pending (number - 3) (There v)) f.pending))
+        (lt-ltb 2 number big)
+        ∙ owed_there f.pending (number - 3) v (waits (number - 3) (omega arith) (omega arith))
+    | inr small ↦ ap (λ b. owed_in (cond b (set f.pending (number - 3) (There v)) f.pending))
+        (le-ltb 2 number small)
+  ]
+
+  pub reflects_reply : (v : Value) (number now : ℕ) → kind_of v ≡ Reply
+      → nat_le (numbers s log) (length (replies s.mode Main log)) ≡ false
+      → is_welcome s.mode Main (length (replies s.mode Main log) + 1) v ≡ true
+      → number ≡ f.replied + 1 → now ≡ length log + 1
+      → Reflects s (Got Main v ∷ log) (record f {
+        replied = number;
+        pending = settled s.mode number v f.pending;
+        marks = without_number number f.marks;
+        slots = refilled s.capacity (query_marked number f.marks) number now v f.slots;
+      })
+  reflects_reply v number now e awaited welcome is at =
+      let within : f.replied < numbers s log
+      = omega (
+        arith,
+        leb-false (numbers s log) (length (replies s.mode Main log)) awaited,
+        k.replied_is,
+      ) in
+      let next_is : number ≡ length (replies s.mode Main log) + 1 = omega (arith, k.replied_is) in
+      let next_suc : number ≡ suc f.replied = omega arith in
+      let o : Option Words = open_fetch s log (length (replies s.mode Main log) + 1) in
+      let marked : query_marked number f.marks ≡ o =
+      ap (query_marked number) k.marks_is
+      ∙ marks_find (open_fetch s log) f.replied (numbers s log) number (omega arith)
+      (omega arith) ∙ ap (open_fetch s log) next_is in
+      record {
+        queued_is = k.queued_is ∙ sym (untaken_same s log (Got Main v ∷ log) refl refl);
+        replied_is = next_is
+            ∙ (let g : length (replies s.mode Main log) + 1 ≡ length (v ∷ replies s.mode Main log) =
+            omega arith in g) ∙ ap length (sym (replies_reply s log v e));
+        replied_within = omega arith;
+        ready_is = ap (λ vs. is_accepted (reply_in 2 vs)) (replies_reply s log v e)
+            ∙ ready_next (replies s.mode Main log) v s welcome
+            (k.ready_is ∙ ap (nat_le 2) k.replied_is) ∙ ap (nat_le 2) (sym next_is);
+        pending_count = length_settled v number ∙ k.pending_count;
+        pending_is = λ i l. pending_settled v number i e is (omega (arith, k.pending_count)) l;
+        unpolled = λ m l. k.unpolled m (omega arith);
+        owed_is = k.owed_is ∙ sym (owed_settled v number is (omega (arith, k.pending_count)));
+        marks_is =
+            ap (without_number number) k.marks_is
+            ∙ ap (λ m. without_number m (marks_by (open_fetch s log) f.replied (numbers s log)))
+            next_suc
+            ∙ sym (marks_next (open_fetch s log) f.replied (numbers s log))
+            ∙ sym (marks_same (open_fetch s log) (open_fetch s (Got Main v ∷ log)) (suc f.replied)
+            (numbers s log) (λ m le. open_reply s log v e m))
+            ∙ ap (λ m. marks_by (open_fetch s (Got Main v ∷ log)) m (numbers s log)) (sym next_suc);
+        slots_is =
+            (λ i. refilled s.capacity (marked i) (next_is i) (at i) v (k.slots_is i))
+            ∙ slots_refilled (last_use s log) s.capacity o (length (replies s.mode Main log) + 1)
+            (length log + 1) v (held s log) (λ q. same_bytes (key_of q))
+            ∙ sym (slots_same (λ j. used_at o j (length log + 1) (last_use s log j))
+            (last_use s (Got Main v ∷ log))
+            (filled s.capacity (last_use s log) o (length (replies s.mode Main log) + 1) v
+            (held s log)) (use_reply s log v e o refl))
+            ∙ ap (map (slot_of (last_use s (Got Main v ∷ log))))
+            (sym (held_reply s log v e o refl));
+        ended_is = k.ended_is;
+        side_is = k.side_is;
+        broken_is = k.broken_is ∙ (λ i. is_broken_notice (sym e i) || is_broken s.mode log);
+      }

@@ -1,0 +1,77 @@
+-- How what is held changes with its fetches.
+use Rattle.std.proofs.Common.{◌≡◌, ◌+◌, ◌≤◌, ◌++◌, ℕ, List, [], ◌∷◌, length, Bool, true, false}
+use Rattle.std.proofs.Common.{cond, not, Option, Some, None, sym, ap, ◌∙◌, refl, arith, append-nil}
+use Rattle.std.specs.List.{filter}
+use Rattle.std.proofs.lemmas.List.Elements.{filter-append}
+use Rattle.resp_value.specs.declared.value.Value.{Value}
+use Rattle.command_words.specs.Queries.{key_of, same_query}
+use Rattle.shared_cache.specs.declared.entry.CacheEntry.{CacheEntry}
+use Rattle.shared_cache.specs.Held.{Key, Words, held_of, unless, other_than, hold, held_by}
+
+-- some of what is held stays
+pub held_filter : (open_of open_new : ℕ → Option Words) (left_of left_new : ℕ → Bool)
+    (p : CacheEntry → Bool) (vs : List Value)
+    → ((n : ℕ) (v : Value) → n ≤ length vs
+    → hold (open_new n) (left_new n) v n ≡ filter p (hold (open_of n) (left_of n) v n))
+    → held_by open_new left_new vs ≡ filter p (held_by open_of left_of vs)
+held_filter open_of open_new left_of left_new p [] each = refl
+held_filter open_of open_new left_of left_new p (v ∷ vs) each =
+    (λ i. held_filter open_of open_new left_of left_new p vs
+    (λ n u le. each n u (omega arith)) i ++ each (length vs + 1) v (omega arith) i)
+    ∙ sym (filter-append p (held_by open_of left_of vs)
+    (hold (open_of (length vs + 1)) (left_of (length vs + 1)) v (length vs + 1)))
+
+-- nothing changes
+pub held_same : (open_of open_new : ℕ → Option Words) (left_of left_new : ℕ → Bool)
+    (vs : List Value)
+    → ((n : ℕ) (v : Value) → n ≤ length vs
+    → hold (open_new n) (left_new n) v n ≡ hold (open_of n) (left_of n) v n)
+    → held_by open_new left_new vs ≡ held_by open_of left_of vs
+held_same open_of open_new left_of left_new [] each = refl
+held_same open_of open_new left_of left_new (v ∷ vs) each =
+    λ i. held_same open_of open_new left_of left_new vs (λ n u le. each n u (omega arith)) i ++ each
+    (length vs + 1) v (omega arith) i
+
+-- nothing is left
+pub held_none : (left_of : ℕ → Bool) (vs : List Value) → held_by (λ n. None) left_of vs ≡ []
+held_none left_of [] = refl
+held_none left_of (v ∷ vs) = append-nil (held_by (λ n. None) left_of vs) ∙ held_none left_of vs
+
+-- what is invalidated by key goes
+pub hold_unless : (t : Key → Bool) (o : Option Words) (gone : Bool) (v : Value) (n : ℕ)
+    → hold (unless t o) gone v n ≡ filter (λ h. not (t (key_of h.query))) (hold o gone v n)
+hold_unless t None gone v n = refl
+hold_unless t (Some q) true v n =
+    elim (t (key_of q)) as
+    (λ b. hold (cond b None (Some q)) true v n ≡ []) [ true ↦ refl | false ↦ refl ]
+hold_unless t (Some q) false v n =
+    let h : CacheEntry = record { query = q; value = v; number = n } in
+    elim (t (key_of q)) as
+    (λ b. hold (cond b None (Some q)) false v n ≡ cond (not b) (h ∷ []) [])
+    [ true ↦ refl | false ↦ refl ]
+
+-- of another query nothing goes
+pub hold_other : (q : Words) (o : Option Words) (gone : Bool) (v : Value) (n : ℕ)
+    → hold (other_than q o) gone v n ≡ filter (λ h. not (same_query h.query q)) (hold o gone v n)
+hold_other q None gone v n = refl
+hold_other q (Some p) true v n =
+    elim (same_query p q) as
+    (λ b. hold (cond b None (Some p)) true v n ≡ []) [ true ↦ refl | false ↦ refl ]
+hold_other q (Some p) false v n =
+    let h : CacheEntry = record { query = p; value = v; number = n } in
+    elim (same_query p q) as
+    (λ b. hold (cond b None (Some p)) false v n ≡ cond (not b) (h ∷ []) [])
+    [ true ↦ refl | false ↦ refl ]
+
+-- what is not held does not go
+pub none_held : (q : Words) (hs : List CacheEntry) → held_of q hs ≡ None
+    → filter (λ h. not (same_query h.query q)) hs ≡ hs
+none_held q [] e = refl
+none_held q (h ∷ hs) e =
+    elim (same_query h.query q) as
+    (λ b. cond b (Some h) (held_of q hs) ≡ None
+    → cond (not b) (h ∷ filter (λ o. not (same_query o.query q)) hs)
+    (filter (λ o. not (same_query o.query q)) hs) ≡ h ∷ hs) [
+      | true ↦ λ f. cc
+      | false ↦ λ f. ap (λ l. h ∷ l) (none_held q hs f)
+    ] e

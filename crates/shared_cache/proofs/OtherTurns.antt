@@ -1,0 +1,278 @@
+-- After a turn that neither asks nor gets, the fields are what the log says.
+use Rattle.std.proofs.Common.{◌≡◌, ◌==◌, ◌+◌, ◌-◌, ◌<◌, ◌≤◌, ◌++◌, ◌||◌, ℕ, suc, List, [], ◌∷◌}
+use Rattle.std.proofs.Common.{length}
+use Rattle.std.proofs.Common.{map, set, get_or, drop, true, false, cond, not, Option}
+use Rattle.std.proofs.Common.{None, sym}
+use Rattle.std.proofs.Common.{ap, ◌∙◌, refl, arith, append-nil, length-append, ne_eqb, eq-eqb, inl}
+use Rattle.std.proofs.Common.{inr}
+use Rattle.std.proofs.Common.{below_more, length-set}
+use Rattle.std.specs.Prelude.{nat_lt}
+use Rattle.std.specs.List.{filter, flat_map}
+use Rattle.std.proofs.lemmas.Bool.{cases_eq}
+use Rattle.std.proofs.lemmas.List.{get_or_push, get_or_append_left, get_or-set_same}
+use Rattle.std.proofs.lemmas.List.{get_or-set_other}
+use Rattle.resp_value.specs.Spelling.{request_spelling}
+use Rattle.resp_value.specs.declared.value.Value.{Value}
+use Rattle.command_words.specs.Queries.{key_of, writes}
+use Rattle.fill_mark.specs.declared.marks.Mark.{Mark}
+use Rattle.shared_cache.specs.declared.log.Wire.{Wire}
+use Rattle.shared_cache.specs.declared.log.Wire.TheVariants.{Main, Side}
+use Rattle.shared_cache.specs.declared.log.LogEntry.{LogEntry}
+use Rattle.shared_cache.specs.declared.log.LogEntry.TheVariants.{Ask, Send, Poll, TakeOut, Got, End}
+use Rattle.shared_cache.specs.declared.log.LogEntry.TheVariants.{Bad}
+use Rattle.shared_cache.specs.declared.entry.Slot.{Slot}
+use Rattle.shared_cache.specs.declared.entry.PendingReply.{PendingReply}
+use Rattle.shared_cache.specs.declared.entry.PendingReply.TheVariants.{Waiting, There, Gone}
+use Rattle.shared_cache.specs.Log.{handshake, handshake_length, first_number, replies, reply_in}
+use Rattle.shared_cache.specs.Log.{is_wire, is_ended}
+use Rattle.shared_cache.specs.Held.{Setup, Words, Caller, put_command, sent, open_fetch, left}
+use Rattle.shared_cache.specs.Held.{last_use, held, held_of, held_at, numbers}
+use Rattle.shared_cache.specs.Out.{is_polled}
+use Rattle.shared_cache.specs.Slots.{slot_of, entry_in, slot_for, ranked_slot}
+use Rattle.shared_cache.specs.Out.{untaken}
+use Rattle.shared_cache.specs.ClientFields.{Fields, Reflects, IsLast, pending_at, there, marks_by}
+use Rattle.shared_cache.specs.ClientFields.{mark_of}
+use Rattle.shared_cache.proofs.Fetches.{beyond, unless_none}
+use Rattle.shared_cache.proofs.HeldLists.{held_none}
+use Rattle.shared_cache.proofs.SlotLists.{slots_filter, slot_for_is, ranked_slot_is}
+use Rattle.shared_cache.proofs.HeldSteps.{held_send}
+use Rattle.shared_cache.proofs.MarkLists.{marks_none, marks_filter, mark_unless}
+use Rattle.shared_cache.proofs.Bytes.{untaken_one, untaken_same, untaken_took, untaken_none}
+use Rattle.shared_cache.proofs.PendingLists.{no_reply, has_reply, owed_push, owed_gone}
+
+-- marks of one number more, which has no fetch
+pub marks_plus_none : (open_of : ℕ → Option Words) (replied n m : ℕ) → m ≡ suc n
+    → open_of (suc n) ≡ None → marks_by open_of replied m ≡ marks_by open_of replied n
+marks_plus_none open_of replied n m e none =
+    ap (marks_by open_of replied) e
+    ∙ ap (λ o. marks_by open_of replied n ++ cond (nat_lt replied (suc n)) (mark_of (suc n) o) [])
+    none
+    ∙ ap (λ l. marks_by open_of replied n ++ l)
+    (elim (nat_lt replied (suc n)) as
+    (λ b. cond {A = List Mark} b [] [] ≡ []) [ true ↦ refl | false ↦ refl ])
+    ∙ append-nil (marks_by open_of replied n)
+
+-- the pending replies with one number more
+pub pending_push : (s : Setup) (log : List LogEntry) (e : LogEntry) (pending : List PendingReply)
+    (replied : ℕ)
+    → ((i : ℕ) → i < length pending
+    → get_or pending i Gone ≡ pending_at s.mode log (i + first_number s.mode))
+    → ((n : ℕ) → is_polled (e ∷ log) n ≡ is_polled log n)
+    → replies s.mode Main (e ∷ log) ≡ replies s.mode Main log
+    → replied ≡ length (replies s.mode Main log)
+    → replied ≤ length pending + handshake_length s.mode
+    → ((n : ℕ) → replied < n → is_polled log n ≡ false)
+    → (i : ℕ) → i < length (pending ++ Waiting ∷ [])
+    → get_or (pending ++ Waiting ∷ []) i Gone ≡ pending_at s.mode (e ∷ log)
+    (i + first_number s.mode)
+pending_push s log e pending replied each polled same count within un i lt =
+    let at : (j : ℕ) → pending_at s.mode log (j + 3) ≡ pending_at s.mode (e ∷ log) (j + 3) =
+    λ j p. cond (sym (polled (j + 3)) p) Gone (there (reply_in (j + 3) (sym same p))) in
+    below_more (λ j. get_or (pending ++ Waiting ∷ []) j Gone ≡ pending_at s.mode (e ∷ log) (j + 3))
+    (length pending)
+    (λ j l. get_or_append_left pending (Waiting ∷ []) Gone j l ∙ each j l ∙ at j)
+    (get_or_push pending Waiting Gone (length pending) refl
+    ∙ sym (ap (λ b. cond b Gone (there (reply_in (length pending + 3) (replies s.mode Main log))))
+    (un (length pending + 3) (omega arith))
+    ∙ ap there (no_reply (length pending + 3) (replies s.mode Main log) (omega arith)))
+    ∙ at (length pending))
+    i (omega (arith, length-append pending (Waiting ∷ [])))
+
+module _ (s : Setup) (log : List LogEntry) (f : Fields) (k : Reflects s log f) where
+  reflects_end : (w : Wire) → w ≡ Main
+      → Reflects s (End w ∷ log) (record f { marks = []; slots = []; ended = true })
+  reflects_end w e = record {
+    queued_is = k.queued_is ∙ sym (untaken_same s log (End w ∷ log) refl refl);
+    replied_is = k.replied_is;
+    replied_within = k.replied_within;
+    ready_is = k.ready_is;
+    pending_count = k.pending_count;
+    pending_is = k.pending_is;
+    unpolled = k.unpolled;
+    owed_is = k.owed_is;
+    marks_is = sym (marks_none f.replied (numbers s log));
+    slots_is = ap (map (slot_of (last_use s log)))
+        (sym (held_none (left s log) (replies s.mode Main log)));
+    ended_is = ap (λ u. is_wire u Main || is_ended s.mode Main log) (sym e);
+    side_is = ap (λ u. is_wire u Side || is_ended s.mode Side log) e ∙ k.side_is;
+    broken_is = k.broken_is;
+  }
+
+  reflects_bad : (w : Wire) (v : Value) → w ≡ Main
+      → Reflects s (Bad w v ∷ log) (record f { marks = []; slots = []; ended = true })
+  reflects_bad w v e = record {
+    queued_is = k.queued_is ∙ sym (untaken_same s log (Bad w v ∷ log) refl refl);
+    replied_is = k.replied_is;
+    replied_within = k.replied_within;
+    ready_is = k.ready_is;
+    pending_count = k.pending_count;
+    pending_is = k.pending_is;
+    unpolled = k.unpolled;
+    owed_is = k.owed_is;
+    marks_is = sym (marks_none f.replied (numbers s log));
+    slots_is = ap (map (slot_of (last_use s log)))
+        (sym (held_none (left s log) (replies s.mode Main log)));
+    ended_is = ap (λ u. is_wire u Main || is_ended s.mode Main log) (sym e);
+    side_is = ap (λ u. is_wire u Side || is_ended s.mode Side log) e ∙ k.side_is;
+    broken_is = k.broken_is;
+  }
+
+  pub reflects_last : (e : LogEntry) → IsLast e
+      → Reflects s (e ∷ log) (record f { marks = []; slots = []; ended = true })
+  reflects_last (End w) e = reflects_end w e
+  reflects_last (Bad w v) e = reflects_bad w v e
+  reflects_last (Ask q) e = absurd e
+  reflects_last (Send ws) e = absurd e
+  reflects_last (Poll n) e = absurd e
+  reflects_last (TakeOut w n) e = absurd e
+  reflects_last (Got w v) e = absurd e
+
+  pub reflects_take : (most : ℕ)
+      → Reflects s (TakeOut Main most ∷ log) (record f { queued = drop most f.queued })
+  reflects_take most = record {
+    queued_is = ap (drop most) k.queued_is ∙ sym (untaken_took s log most);
+    replied_is = k.replied_is;
+    replied_within = k.replied_within;
+    ready_is = k.ready_is;
+    pending_count = k.pending_count;
+    pending_is = k.pending_is;
+    unpolled = k.unpolled;
+    owed_is = k.owed_is;
+    marks_is = k.marks_is;
+    slots_is = k.slots_is;
+    ended_is = k.ended_is;
+    side_is = k.side_is;
+    broken_is = k.broken_is;
+  }
+
+  pub reflects_send : (ws : Words) → Reflects s (Send ws ∷ log) (record f {
+    queued = f.queued ++ request_spelling ws;
+    pending = f.pending ++ Waiting ∷ [];
+    owed = f.owed + 1;
+    marks = filter (λ m. not (writes ws (key_of m.query))) f.marks;
+    slots = filter (λ o. not (writes ws (key_of o.entry.query))) f.slots;
+  })
+  reflects_send ws = let more = length-append (sent s log) (put_command s.mode ws) in record {
+    queued_is = ap (λ l. l ++ request_spelling ws) k.queued_is
+        ∙ sym (untaken_one s log (Send ws ∷ log)
+        (record { words = ws; origin = Caller }) refl refl);
+    replied_is = k.replied_is;
+    replied_within = let w = k.replied_within in omega (arith, more);
+    ready_is = k.ready_is;
+    pending_count = length-append f.pending (Waiting ∷ []) ∙ ap (λ n. n + 1) k.pending_count
+        ∙ sym more;
+    pending_is =
+        pending_push s log (Send ws) f.pending f.replied k.pending_is (λ n. refl) refl k.replied_is
+        (let w = k.replied_within in omega (arith, k.pending_count)) k.unpolled;
+    unpolled = k.unpolled;
+    owed_is = ap (λ n. n + 1) k.owed_is ∙ sym (owed_push f.pending);
+    marks_is =
+        ap (filter (λ (m : Mark). not (writes ws (key_of m.query)))) k.marks_is
+        ∙ sym (marks_filter (open_fetch s log) (open_fetch s (Send ws ∷ log))
+        (λ (m : Mark). not (writes ws (key_of m.query))) f.replied (numbers s log)
+        (λ n le. mark_unless (writes ws) n (open_fetch s log n)))
+        ∙ sym (marks_plus_none (open_fetch s (Send ws ∷ log)) f.replied (numbers s log)
+        (numbers s (Send ws ∷ log)) (omega (arith, more))
+        (unless_none (writes ws) (open_fetch s log (suc (numbers s log)))
+        (beyond s log (suc (numbers s log)) (omega arith))));
+    slots_is =
+        ap (filter (λ (o : Slot). not (writes ws (key_of o.entry.query)))) k.slots_is
+        ∙ slots_filter (last_use s log) (writes ws) (held s log)
+        ∙ ap (map (slot_of (last_use s log))) (sym (held_send s log ws));
+    ended_is = k.ended_is;
+    side_is = k.side_is;
+    broken_is = k.broken_is;
+  }
+
+  -- what a pending reply says of its number
+  pub number_there : (i : ℕ) (v : Value) → i < length f.pending → get_or f.pending i Gone ≡ There v
+      → i + first_number s.mode ≤ f.replied
+  number_there i v lt e =
+      let h : cond (is_polled log (i + 3)) Gone
+      (there (reply_in (i + 3) (replies s.mode Main log))) ≡ There v = sym (k.pending_is i lt)
+      ∙ e in
+      let g : i + 3 ≤ length (replies s.mode Main log) =
+      elim (is_polled log (i + 3)) as
+      (λ b. cond b Gone (there (reply_in (i + 3) (replies s.mode Main log))) ≡ There v
+      → i + 3 ≤ length (replies s.mode Main log)) [
+        | true ↦ λ c. cc
+        | false ↦ λ c. has_reply (i + 3) (replies s.mode Main log) v c
+      ] h in
+      omega (arith, k.replied_is)
+
+  pub reflects_poll : (n i : ℕ) (v : Value) → n ≡ i + first_number s.mode → i < length f.pending
+      → get_or f.pending i Gone ≡ There v
+      → Reflects s (Poll n ∷ log) (record f { pending = set f.pending i Gone; owed = f.owed - 1 })
+  reflects_poll n i v e lt is = record {
+    queued_is = k.queued_is ∙ sym (untaken_same s log (Poll n ∷ log) refl refl);
+    replied_is = k.replied_is;
+    replied_within = k.replied_within;
+    ready_is = k.ready_is;
+    pending_count = length-set f.pending i Gone ∙ k.pending_count;
+    pending_is = λ j l. elim (cases_eq j i) [
+      | inl same ↦ ap (λ x. get_or (set f.pending i Gone) x Gone) same
+          ∙ get_or-set_same f.pending i Gone Gone lt
+          ∙ ap (λ b. cond (b || is_polled log (j + 3)) Gone
+          (there (reply_in (j + 3) (replies s.mode Main log))))
+          (sym (eq-eqb n (j + 3) (omega arith)))
+      | inr other ↦ get_or-set_other f.pending i j Gone Gone other
+          ∙ k.pending_is j (omega (arith, length-set f.pending i Gone))
+          ∙ ap (λ b. cond (b || is_polled log (j + 3)) Gone
+          (there (reply_in (j + 3) (replies s.mode Main log))))
+          (sym (ne_eqb n (j + 3) (λ g. other (omega arith))))
+    ];
+    unpolled = λ m l. ap (λ b. b || is_polled log m)
+        (ne_eqb n m (λ g. omega (arith, number_there i v lt is))) ∙ k.unpolled m l;
+    owed_is = let o = owed_gone f.pending i v is in omega (arith, k.owed_is);
+    marks_is = k.marks_is;
+    slots_is = k.slots_is;
+    ended_is = k.ended_is;
+    side_is = k.side_is;
+    broken_is = k.broken_is;
+  }
+
+  -- what the slots say of what is held
+  pub slot_found : (q : Words) (os : List Slot) → os ≡ f.slots
+      → entry_in (slot_for q os) ≡ held_of q (held s log)
+  slot_found q os e = ap (λ l. entry_in (slot_for q l)) (e ∙ k.slots_is)
+      ∙ slot_for_is (last_use s log) q (held s log)
+
+  pub slot_placed : (place : ℕ) (os : List Slot) → os ≡ f.slots
+      → entry_in (ranked_slot place os os) ≡ held_at place (held s log)
+  slot_placed place os e = ap (λ l. entry_in (ranked_slot place l l)) (e ∙ k.slots_is)
+      ∙ ranked_slot_is (last_use s log) place (held s log) (held s log)
+
+  -- none is left where none is queued
+  pub drained : (n : ℕ) → n ≡ length f.queued → (n == 0) ≡ (length (untaken s Main log) == 0)
+  drained n e = ap (λ m. m == 0) (e ∙ ap length k.queued_is)
+
+-- a new client
+pub reflects_none : (s : Setup) (queued : List ℕ)
+    → queued ≡ flat_map request_spelling (handshake s.mode [])
+    → Reflects s []
+    (record {
+      queued = queued;
+      replied = 0;
+      pending = [];
+      owed = 0;
+      marks = [];
+      slots = [];
+      ended =
+          false;
+      broken = false;
+    })
+reflects_none s queued e = record {
+  queued_is = e ∙ untaken_none s;
+  replied_is = refl;
+  replied_within = omega arith;
+  ready_is = refl;
+  pending_count = refl;
+  pending_is = λ i lt. absurd (omega arith);
+  unpolled = λ n lt. refl;
+  owed_is = refl;
+  marks_is = refl;
+  slots_is = refl;
+  ended_is = refl;
+  side_is = refl;
+  broken_is = refl;
+}

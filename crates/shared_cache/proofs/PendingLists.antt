@@ -1,0 +1,76 @@
+-- The replies that wait for their callers, by the log.
+use Rattle.std.proofs.Common.{◌≡◌, ◌+◌, ◌<◌, ◌≤◌, ◌++◌, ℕ, zero, suc, List, [], ◌∷◌, length}
+use Rattle.std.proofs.Common.{set, get_or, Bool, true, false, cond, Option, Some, None, sym, ap}
+use Rattle.std.proofs.Common.{◌∙◌, refl, arith, ne_eqb, inl, inr}
+use Rattle.std.proofs.lemmas.Bool.{cases_eq}
+use Rattle.resp_value.specs.declared.value.Value.{Value}
+use Rattle.shared_cache.specs.declared.entry.PendingReply.{PendingReply}
+use Rattle.shared_cache.specs.declared.entry.PendingReply.TheVariants.{Waiting, There, Gone}
+use Rattle.shared_cache.specs.Log.{reply_in}
+use Rattle.shared_cache.specs.ClientFields.{there, owed_in}
+
+-- a number past the replies has none
+pub no_reply : (n : ℕ) (vs : List Value) → length vs < n → reply_in n vs ≡ None
+no_reply n [] lt = refl
+no_reply n (v ∷ vs) lt =
+    ap (λ b. cond b (Some v) (reply_in n vs)) (ne_eqb n (length vs + 1) (λ e. omega arith))
+    ∙ no_reply n vs (omega arith)
+
+pub has_reply : (n : ℕ) (vs : List Value) (v : Value) → there (reply_in n vs) ≡ There v
+    → n ≤ length vs
+has_reply n [] v e = cc
+has_reply n (u ∷ vs) v e =
+    elim (cases_eq n (length vs + 1)) [
+      | inl same ↦ omega arith
+      | inr other ↦
+          let h : n ≤ length vs
+          = has_reply n vs v
+          (ap (λ b. there (cond b (Some u) (reply_in n vs))) (sym (ne_eqb n (length vs + 1) other))
+          ∙ e) in omega arith
+    ]
+
+pub owed_push : (ds : List PendingReply) → owed_in (ds ++ Waiting ∷ []) ≡ owed_in ds + 1
+owed_push [] = refl
+owed_push (Waiting ∷ ds) = omega (arith, owed_push ds)
+owed_push (There v ∷ ds) = omega (arith, owed_push ds)
+owed_push (Gone ∷ ds) = owed_push ds
+
+-- a reply comes
+pub owed_there : (ds : List PendingReply) (i : ℕ) (v : Value) → get_or ds i Gone ≡ Waiting
+    → owed_in (set ds i (There v)) ≡ owed_in ds
+owed_there [] i v e = refl
+owed_there (Waiting ∷ ds) zero v e = refl
+owed_there (There u ∷ ds) zero v e = refl
+owed_there (Gone ∷ ds) zero v e = cc
+owed_there (Waiting ∷ ds) (suc i) v e = ap (λ n. n + 1) (owed_there ds i v e)
+owed_there (There u ∷ ds) (suc i) v e = ap (λ n. n + 1) (owed_there ds i v e)
+owed_there (Gone ∷ ds) (suc i) v e = owed_there ds i v e
+
+-- a reply is handed over
+pub owed_gone : (ds : List PendingReply) (i : ℕ) (v : Value) → get_or ds i Gone ≡ There v
+    → owed_in ds ≡ owed_in (set ds i Gone) + 1
+owed_gone [] i v e = cc
+owed_gone (Waiting ∷ ds) zero v e = cc
+owed_gone (There u ∷ ds) zero v e = refl
+owed_gone (Gone ∷ ds) zero v e = cc
+owed_gone (Waiting ∷ ds) (suc i) v e = ap (λ n. n + 1) (owed_gone ds i v e)
+owed_gone (There u ∷ ds) (suc i) v e = ap (λ n. n + 1) (owed_gone ds i v e)
+owed_gone (Gone ∷ ds) (suc i) v e = owed_gone ds i v e
+
+-- what a pending reply says of its number
+pub gone_is : (b : Bool) (o : Option Value) → cond b Gone (there o) ≡ Gone → b ≡ true
+gone_is true o e = refl
+gone_is false None e = cc
+gone_is false (Some v) e = cc
+
+pub waits_is : (b : Bool) (o : Option Value) → cond b Gone (there o) ≡ Waiting → (b ≡ false)
+    × (o ≡ None)
+waits_is true o e = cc
+waits_is false None e = (refl, refl)
+waits_is false (Some v) e = cc
+
+pub there_is : (b : Bool) (o : Option Value) (v : Value) → cond b Gone (there o) ≡ There v
+    → (b ≡ false) × (o ≡ Some v)
+there_is true o v e = cc
+there_is false None v e = cc
+there_is false (Some u) v e = (refl, cc)

@@ -1,0 +1,315 @@
+-- What a turn is, by what its checks found.
+use Rattle.std.proofs.Common.{◌≡◌, ◌==◌, ◌+◌, ◌<◌, ◌≤◌, ◌-◌, ℕ, zero, suc, List, []}
+use Rattle.std.proofs.Common.{◌∷◌, length, take, Bool, true, false, cond, not, Option, Some, None}
+use Rattle.std.proofs.Common.{sym, ap, ◌∙◌, refl, subst, arith}
+use Rattle.std.specs.Prelude.{nat_le, nat_lt}
+use Rattle.std.proofs.lemmas.Bool.{eqb-true, and_left, and_right, and_from, le-ltb, lt-ltb}
+use Rattle.resp_value.specs.declared.value.Value.{Value}
+use Rattle.command_words.specs.Control.{is_control}
+use Rattle.shared_cache.specs.declared.log.Wire.TheVariants.{Main}
+use Rattle.shared_cache.specs.declared.log.LogEntry.{LogEntry}
+use Rattle.shared_cache.specs.declared.log.LogEntry.TheVariants as entry
+use Rattle.shared_cache.specs.declared.log.ClientCall.{ClientCall}
+use Rattle.shared_cache.specs.declared.log.ClientCall.TheVariants.{Ask, Send, Poll, TakeOut, Got}
+use Rattle.shared_cache.specs.declared.log.ClientCall.TheVariants.{End}
+use Rattle.shared_cache.specs.declared.log.ClientReply.{ClientReply}
+use Rattle.shared_cache.specs.declared.log.ClientReply.TheVariants.{Sent, Bytes, Quiet, Noted}
+use Rattle.shared_cache.specs.declared.log.ClientReply.TheVariants.{Refused}
+use Rattle.shared_cache.specs.declared.log.ClientRefusal.{ClientRefusal}
+use Rattle.shared_cache.specs.declared.log.ClientRefusal.TheVariants.{Down, Unexpected, BadPush}
+use Rattle.shared_cache.specs.declared.log.ClientRefusal.TheVariants.{LogFull, SetupRefused}
+use Rattle.shared_cache.specs.declared.log.ClientRefusal.TheVariants.{NotReady, Control, NoNumber}
+use Rattle.shared_cache.specs.declared.entry.CacheEntry.{CacheEntry}
+use Rattle.shared_cache.specs.declared.notices.Notice.{Notice}
+use Rattle.shared_cache.specs.declared.notices.Notice.TheVariants.{Reply, Keys, All, Broken, Other}
+use Rattle.shared_cache.specs.declared.notices.Notice.TheVariants.{Malformed}
+use Rattle.shared_cache.specs.Notices.{kind_of, IsPush}
+use Rattle.shared_cache.specs.Log.{handshake_length, first_number, replies, reply, is_ended}
+use Rattle.shared_cache.specs.Log.{is_ready, caching_on_for}
+use Rattle.shared_cache.specs.Held.{Setup, Words, SentCommand, sent, put_ask, put_command, held}
+use Rattle.shared_cache.specs.Held.{held_of, numbers}
+use Rattle.shared_cache.specs.Out.{untaken, is_polled, is_caller, is_callers, was_given, is_wanted}
+use Rattle.shared_cache.specs.Laws.{Every}
+use Rattle.shared_cache.proofs.Every.{every_append}
+use Rattle.std.specs.List.{slice_get}
+use Rattle.std.proofs.lemmas.Option.{slice_get_past}
+use Rattle.command_words.specs.Queries.{key_of}
+use Rattle.shared_cache.specs.declared.log.ClientMode.{ClientMode}
+use Rattle.shared_cache.specs.Steps.{refused, is_full, read_number, command_number, answer_ask}
+use Rattle.shared_cache.specs.Steps.{polling, taking, is_welcome, judged, fault_of, getting}
+use Rattle.shared_cache.specs.Steps.{client_step, ClientStep}
+
+-- an answer to an Ask is the step's
+pub stepped : (s : Setup) (log new : List LogEntry) (call : ClientCall) (o : Option CacheEntry)
+    (n : ℕ) (r : ClientReply)
+    → client_step s log call ≡ record { reply = answer_ask o n; past = new } → r ≡ answer_ask o n
+    → ClientStep s log call r new
+stepped s log new call (Some h) n r e f = subst (λ x. ClientStep s log call x new) (sym f) e
+stepped s log new call None n r e f = subst (λ x. ClientStep s log call x new) (sym f) e
+
+-- ---- each command after the handshake is a caller's
+
+ask_callers : (o : Option CacheEntry) (m : ClientMode) (on : Bool) (q : Words)
+    → Every (λ (c : SentCommand). is_caller c.origin ≡ true) (put_ask o m on q)
+ask_callers (Some h) m on q = tt
+ask_callers None m on q = (refl, tt)
+
+sent_callers : (s : Setup) (log : List LogEntry)
+    → Every (λ (c : SentCommand). is_caller c.origin ≡ true) (sent s log)
+sent_callers s [] = tt
+sent_callers s (entry.Ask q ∷ log) =
+    every_append (λ (c : SentCommand). is_caller c.origin ≡ true) (sent s log)
+    (put_ask (held_of q (held s log)) s.mode (caching_on_for s.mode log (key_of q)) q)
+    (sent_callers s log)
+    (ask_callers (held_of q (held s log)) s.mode (caching_on_for s.mode log (key_of q)) q)
+sent_callers s (entry.Send ws ∷ log) =
+    every_append (λ (c : SentCommand). is_caller c.origin ≡ true) (sent s log)
+    (put_command s.mode ws) (sent_callers s log) (refl, tt)
+sent_callers s (entry.Poll n ∷ log) = sent_callers s log
+sent_callers s (entry.TakeOut w n ∷ log) = sent_callers s log
+sent_callers s (entry.Got w v ∷ log) = sent_callers s log
+sent_callers s (entry.End w ∷ log) = sent_callers s log
+sent_callers s (entry.Bad w v ∷ log) = sent_callers s log
+
+callers_at : (cs : List SentCommand) (i : ℕ)
+    → Every (λ (c : SentCommand). is_caller c.origin ≡ true) cs → i < length cs
+    → is_callers (slice_get cs i) ≡ true
+callers_at [] i all lt = absurd (omega arith)
+callers_at (c ∷ cs) zero all lt = all.0
+callers_at (c ∷ cs) (suc i) all lt = callers_at cs i all.1 (omega arith)
+
+module _ (s : Setup) (log : List LogEntry) where
+  pub ask_down : (q : Words) → is_ended s.mode Main log ≡ true
+      → client_step s log (Ask q) ≡ refused (Down Main) log
+  unfolding client_step
+  ask_down q e = rw e refl
+
+  pub ask_unready : (q : Words) → is_ended s.mode Main log ≡ false → is_ready s.mode log ≡ false
+      → client_step s log (Ask q) ≡ refused NotReady log
+  unfolding client_step
+  ask_unready q e r = rw (e, r) refl
+
+  pub ask_full : (q : Words) → is_ended s.mode Main log ≡ false → is_ready s.mode log ≡ true
+      → is_full s log ≡ true → client_step s log (Ask q) ≡ refused (LogFull (length log)) log
+  unfolding client_step
+  ask_full q e r f = rw (e, r, f) refl
+
+  pub ask_ok : (q : Words) → is_ended s.mode Main log ≡ false → is_ready s.mode log ≡ true
+      → is_full s log ≡ false
+      → client_step s log
+      (Ask q) ≡ record {
+        reply = answer_ask (held_of q (held s log)) (read_number s log q);
+        past =
+            entry.Ask q ∷ log;
+      }
+  unfolding client_step
+  ask_ok q e r f = rw (e, r, f) refl
+
+  pub send_down : (ws : Words) → is_ended s.mode Main log ≡ true
+      → client_step s log (Send ws) ≡ refused (Down Main) log
+  unfolding client_step
+  send_down ws e = rw e refl
+
+  pub send_unready : (ws : Words) → is_ended s.mode Main log ≡ false → is_ready s.mode log ≡ false
+      → client_step s log (Send ws) ≡ refused NotReady log
+  unfolding client_step
+  send_unready ws e r = rw (e, r) refl
+
+  pub send_control : (ws : Words) → is_ended s.mode Main log ≡ false → is_ready s.mode log ≡ true
+      → is_control ws ≡ true → client_step s log (Send ws) ≡ refused Control log
+  unfolding client_step
+  send_control ws e r c = rw (e, r, c) refl
+
+  pub send_full : (ws : Words) → is_ended s.mode Main log ≡ false → is_ready s.mode log ≡ true
+      → is_control ws ≡ false → is_full s log ≡ true
+      → client_step s log (Send ws) ≡ refused (LogFull (length log)) log
+  unfolding client_step
+  send_full ws e r c f = rw (e, r, c, f) refl
+
+  pub send_ok : (ws : Words) → is_ended s.mode Main log ≡ false → is_ready s.mode log ≡ true
+      → is_control ws ≡ false → is_full s log ≡ false
+      → client_step s log
+      (Send ws) ≡ record { reply = Sent (command_number s log ws); past = entry.Send ws ∷ log }
+  unfolding client_step
+  send_ok ws e r c f = rw (e, r, c, f) refl
+
+  pub poll_unwanted : (n : ℕ) → is_wanted s log n ≡ false
+      → client_step s log (Poll n) ≡ refused (NoNumber n) log
+  unfolding client_step
+  poll_unwanted n e =
+      ap (λ b. cond (not b) (refused (NoNumber n) log)
+      (polling (reply s.mode log n) n (is_ended s.mode Main log) log)) e
+
+  pub poll_wanted : (n : ℕ) (o : Option Value) (over : Bool) → is_wanted s log n ≡ true
+      → reply s.mode log n ≡ o → is_ended s.mode Main log ≡ over
+      → client_step s log (Poll n) ≡ polling o n over log
+  unfolding client_step
+  poll_wanted n o over e f g =
+      ap (λ b. cond (not b) (refused (NoNumber n) log)
+      (polling (reply s.mode log n) n (is_ended s.mode Main log) log)) e
+      ∙ (λ i. polling (f i) n (g i) log)
+
+  pub take_down : (most : ℕ) → is_ended s.mode Main log ≡ true
+      → client_step s log (TakeOut Main most) ≡ refused (Down Main) log
+  unfolding client_step
+  take_down most e = rw e refl
+
+  no_bytes : (most : ℕ) (bytes : List ℕ) (full : Bool) → (length bytes == 0) ≡ true
+      → taking Main most bytes full log ≡ record { reply = Quiet; past = log }
+  no_bytes most [] full e = refl
+  no_bytes most (b ∷ bytes) full e =
+      absurd (let h : length (b ∷ bytes) ≡ 0 = eqb-true (length (b ∷ bytes)) 0 e in omega arith)
+
+  some_bytes : (most : ℕ) (bytes : List ℕ) → (length bytes == 0) ≡ false
+      → taking Main most bytes false log ≡ record
+      { reply = Bytes (take most bytes); past = entry.TakeOut Main most ∷ log }
+  some_bytes most [] e = cc
+  some_bytes most (b ∷ bytes) e = refl
+
+  full_bytes : (most : ℕ) (bytes : List ℕ) → (length bytes == 0) ≡ false
+      → taking Main most bytes true log ≡ refused (LogFull (length log)) log
+  full_bytes most [] e = cc
+  full_bytes most (b ∷ bytes) e = refl
+
+  taking_is : (most : ℕ) → is_ended s.mode Main log ≡ false
+      → client_step s log (TakeOut Main most) ≡ taking Main most (untaken s Main log)
+      (is_full s log) log
+  unfolding client_step
+  taking_is most e = rw e refl
+
+  pub take_quiet : (most : ℕ) → is_ended s.mode Main log ≡ false
+      → (length (untaken s Main log) == 0) ≡ true
+      → client_step s log (TakeOut Main most) ≡ record { reply = Quiet; past = log }
+  take_quiet most e f = taking_is most e ∙ no_bytes most (untaken s Main log) (is_full s log) f
+
+  pub take_full : (most : ℕ) → is_ended s.mode Main log ≡ false
+      → (length (untaken s Main log) == 0) ≡ false → is_full s log ≡ true
+      → client_step s log (TakeOut Main most) ≡ refused (LogFull (length log)) log
+  take_full most e f g = taking_is most e ∙ ap (λ b. taking Main most (untaken s Main log) b log) g
+      ∙ full_bytes most (untaken s Main log) f
+
+  pub take_ok : (most : ℕ) → is_ended s.mode Main log ≡ false
+      → (length (untaken s Main log) == 0) ≡ false → is_full s log ≡ false
+      → client_step s log
+      (TakeOut Main most) ≡ record
+      { reply = Bytes (take most (untaken s Main log)); past = entry.TakeOut Main most ∷ log }
+  take_ok most e f g = taking_is most e ∙ ap (λ b. taking Main most (untaken s Main log) b log) g
+      ∙ some_bytes most (untaken s Main log) f
+
+  pub end_over : is_ended s.mode Main log ≡ true
+      → client_step s log (End Main) ≡ record { reply = Noted; past = log }
+  unfolding client_step
+  end_over e = rw e refl
+
+  pub end_ok : is_ended s.mode Main log ≡ false
+      → client_step s log (End Main) ≡ record { reply = Noted; past = entry.End Main ∷ log }
+  unfolding client_step
+  end_ok e = rw e refl
+
+  pub got_down : (v : Value) → is_ended s.mode Main log ≡ true
+      → client_step s log (Got Main v) ≡ refused (Down Main) log
+  unfolding client_step
+  got_down v e = rw e refl
+
+  getting_is : (v : Value) (f : Option ClientRefusal) → is_ended s.mode Main log ≡ false
+      → fault_of s log Main v ≡ f
+      → client_step s log (Got Main v) ≡ getting f Main v (is_full s log) log
+  unfolding client_step
+  getting_is v f e g = rw (e, g) refl
+
+  pub got_bad : (v : Value) (r : ClientRefusal) → is_ended s.mode Main log ≡ false
+      → fault_of s log Main v ≡ Some r
+      → client_step s log (Got Main v) ≡ record { reply = Refused r; past = entry.Bad Main v ∷ log }
+  got_bad v r e f = getting_is v (Some r) e f
+
+  pub got_full : (v : Value) → is_ended s.mode Main log ≡ false → fault_of s log Main v ≡ None
+      → is_full s log ≡ true → client_step s log (Got Main v) ≡ refused (LogFull (length log)) log
+  got_full v e f g = getting_is v None e f ∙ ap (λ b. getting None Main v b log) g
+
+  pub got_ok : (v : Value) → is_ended s.mode Main log ≡ false → fault_of s log Main v ≡ None
+      → is_full s log ≡ false
+      → client_step s log (Got Main v) ≡ record { reply = Noted; past = entry.Got Main v ∷ log }
+  got_ok v e f g = getting_is v None e f ∙ ap (λ b. getting None Main v b log) g
+
+  judged_as : (v : Value) (n : Notice) → kind_of v ≡ n
+      → fault_of s log Main v ≡ judged s.mode Main (length (replies s.mode Main log))
+      (numbers s log) v n
+  unfolding fault_of
+  judged_as v n e = ap (judged s.mode Main (length (replies s.mode Main log)) (numbers s log) v) e
+
+  pub fault_malformed : (v : Value) → kind_of v ≡ Malformed
+      → fault_of s log Main v ≡ Some (BadPush Main)
+  fault_malformed v e = judged_as v Malformed e
+
+  pub fault_push : (v : Value) (n : Notice) → n ≡ kind_of v → IsPush n
+      → fault_of s log Main v ≡ None
+  fault_push v Reply e p = absurd p
+  fault_push v Malformed e p = absurd p
+  fault_push v Keys e p = judged_as v Keys (sym e)
+  fault_push v All e p = judged_as v All (sym e)
+  fault_push v Broken e p = judged_as v Broken (sym e)
+  fault_push v Other e p = judged_as v Other (sym e)
+
+  pub fault_unexpected : (v : Value) → kind_of v ≡ Reply
+      → nat_le (numbers s log) (length (replies s.mode Main log)) ≡ true
+      → fault_of s log Main v ≡ Some (Unexpected Main)
+  fault_unexpected v e l = judged_as v Reply e ∙ rw l refl
+
+  pub fault_refused : (v : Value) → kind_of v ≡ Reply
+      → nat_le (numbers s log) (length (replies s.mode Main log)) ≡ false
+      → is_welcome s.mode Main (length (replies s.mode Main log) + 1) v ≡ false
+      → fault_of s log Main v ≡ Some (SetupRefused Main)
+  fault_refused v e l w = judged_as v Reply e
+      ∙ rw l (ap (λ b. cond b None (Some (SetupRefused Main))) w)
+
+  pub fault_none : (v : Value) → kind_of v ≡ Reply
+      → nat_le (numbers s log) (length (replies s.mode Main log)) ≡ false
+      → is_welcome s.mode Main (length (replies s.mode Main log) + 1) v ≡ true
+      → fault_of s log Main v ≡ None
+  fault_none v e l w = judged_as v Reply e
+      ∙ rw l (ap (λ b. cond b None (Some (SetupRefused Main))) w)
+
+  cases_none : (a b : Bool)
+      → cond a (Some (Unexpected Main)) (cond b None (Some (SetupRefused Main))) ≡ None
+      → (a ≡ false) × (b ≡ true)
+  cases_none true b e = cc
+  cases_none false true e = (refl, refl)
+  cases_none false false e = cc
+
+  pub awaits : (v : Value) → kind_of v ≡ Reply → fault_of s log Main v ≡ None
+      → (nat_le (numbers s log) (length (replies s.mode Main log)) ≡ false)
+      × (is_welcome s.mode Main (length (replies s.mode Main log) + 1) v ≡ true)
+  awaits v e f =
+      cases_none (nat_le (numbers s log) (length (replies s.mode Main log)))
+      (is_welcome s.mode Main (length (replies s.mode Main log) + 1) v)
+      (sym (judged_as v Reply e) ∙ f)
+
+  -- ---- which numbers are wanted
+
+  unwanted : (n : ℕ) → was_given s log n ≡ false → is_wanted s log n ≡ false
+  unwanted n h = and_left (was_given s log n) (not (is_polled log n)) h
+
+  pub low : (n : ℕ) → n ≤ handshake_length s.mode → is_wanted s log n ≡ false
+  low n h = unwanted n
+      (and_left (nat_lt (handshake_length s.mode) n)
+      (is_callers (slice_get (sent s log) (n - first_number s.mode)))
+      (le-ltb (handshake_length s.mode) n h))
+
+  pub high : (n : ℕ) → numbers s log < n → is_wanted s log n ≡ false
+  high n h = unwanted n
+      (and_right (nat_lt (handshake_length s.mode) n)
+      (is_callers (slice_get (sent s log) (n - first_number s.mode)))
+      (ap is_callers (slice_get_past (sent s log) (n - first_number s.mode) (omega arith))))
+
+  pub handed : (n : ℕ) → is_polled log n ≡ true → is_wanted s log n ≡ false
+  handed n h = and_right (was_given s log n) (not (is_polled log n)) (ap not h)
+
+  pub wanted : (n : ℕ) → handshake_length s.mode < n → n ≤ numbers s log → is_polled log n ≡ false
+      → is_wanted s log n ≡ true
+  wanted n b w h =
+      and_from (was_given s log n) (not (is_polled log n))
+      (and_from (nat_lt (handshake_length s.mode) n)
+      (is_callers (slice_get (sent s log) (n - first_number s.mode)))
+      (lt-ltb (handshake_length s.mode) n b)
+      (callers_at (sent s log) (n - first_number s.mode) (sent_callers s log) (omega arith)))
+      (ap not h)

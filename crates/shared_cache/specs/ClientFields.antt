@@ -1,0 +1,108 @@
+-- What a client is to a contract, and what its fields are by its log.
+use Rattle.std.specs.Prelude.{◌≡◌, ◌+◌, ◌-◌, ◌<◌, ◌≤◌, ◌++◌, ℕ, zero, suc, List, [], ◌∷◌, length}
+use Rattle.std.specs.Prelude.{map}
+use Rattle.std.specs.Prelude.{slice_index_or, slice_set, Bool, false, Option, Some, None}
+use Rattle.std.specs.Prelude.{if◌then◌else◌, nat_lt, nat_le}
+use Rattle.resp_value.specs.declared.value.Value.{Value}
+use Rattle.resp_value.specs.declared.value.Proto.TheVariants.{Three}
+use Rattle.fill_mark.specs.declared.marks.Mark.{Mark}
+use Rattle.shared_cache.specs.declared.log.Wire.TheVariants.{Main, Side}
+use Rattle.shared_cache.specs.declared.log.Shape.TheVariants.{Single}
+use Rattle.shared_cache.specs.declared.log.Caching.TheVariants.{Default}
+use Rattle.shared_cache.specs.declared.log.ClientMode.{ClientMode}
+use Rattle.shared_cache.specs.declared.log.LogEntry.{LogEntry}
+use Rattle.shared_cache.specs.declared.log.LogEntry.TheVariants as entry
+use Rattle.shared_cache.specs.declared.entry.Slot.{Slot}
+use Rattle.shared_cache.specs.declared.entry.PendingReply.{PendingReply}
+use Rattle.shared_cache.specs.declared.entry.PendingReply.TheVariants.{Waiting, There, Gone}
+use Rattle.shared_cache.specs.Log.{handshake_length, first_number, replies, reply_in, is_ready}
+use Rattle.shared_cache.specs.Log.{is_ended, is_broken}
+use Rattle.shared_cache.specs.Held.{Setup, Words, sent, open_fetch, last_use, held, numbers}
+use Rattle.shared_cache.specs.Out.{untaken, is_polled}
+use Rattle.shared_cache.specs.Slots.{slot_of}
+
+-- a client: its setup, and its log with the newest entry first
+pub record Client : Type 0 where
+  pub setup : Setup
+  pub past : List LogEntry
+
+-- the same client with one entry more
+abbrev pub added : LogEntry → Client → Client
+added e c = record { setup = c.setup; past = e ∷ c.past }
+
+-- the modes that are served: one link, the third protocol, default caching
+pub record IsServed (m : ClientMode) : Type 0 where
+  pub shape : m.shape ≡ Single
+  pub proto : m.proto ≡ Three
+  pub caching : m.caching ≡ Default
+  pub noloop : m.noloop ≡ false
+
+-- an entry that ends the link
+abbrev pub IsLast : LogEntry → Type 0
+IsLast (entry.End w) = w ≡ Main
+IsLast (entry.Bad w v) = w ≡ Main
+IsLast e = ⊥
+
+-- ---- replies for callers
+
+abbrev pub there : Option Value → PendingReply
+there None = Waiting
+there (Some v) = There v
+
+-- the reply of that number on its way to the caller
+abbrev pub pending_at : ClientMode → List LogEntry → ℕ → PendingReply
+pending_at m log n = if is_polled log n then Gone else there (reply_in n (replies m Main log))
+
+-- how many numbers are not handed out
+abbrev pub owed_in : List PendingReply → ℕ
+owed_in [] = 0
+owed_in (Waiting ∷ ps) = owed_in ps + 1
+owed_in (There v ∷ ps) = owed_in ps + 1
+owed_in (Gone ∷ ps) = owed_in ps
+
+-- the reply of that number is there; no caller waits for the handshake's
+abbrev pub settled : ClientMode → ℕ → Value → List PendingReply → List PendingReply
+settled m n v ps =
+    if nat_lt (handshake_length m) n then slice_set ps (n - first_number m) (There v) else ps
+
+-- ---- marks: the open fetches without a reply
+
+abbrev pub mark_of : ℕ → Option Words → List Mark
+mark_of n None = []
+mark_of n (Some q) = record { number = n; query = q } ∷ []
+
+-- those of the numbers above one, up to another
+abbrev pub marks_by : (ℕ → Option Words) → ℕ → ℕ → List Mark
+marks_by open_of replied zero = []
+marks_by open_of replied (suc n) =
+    marks_by open_of replied n
+    ++ (if nat_lt replied (suc n) then mark_of (suc n) (open_of (suc n)) else [])
+
+-- ---- the fields
+
+pub record Fields : Type 0 where
+  pub queued : List ℕ
+  pub replied : ℕ
+  pub pending : List PendingReply
+  pub owed : ℕ
+  pub marks : List Mark
+  pub slots : List Slot
+  pub ended : Bool
+  pub broken : Bool
+
+-- the fields are what the log says
+pub record Reflects (s : Setup) (log : List LogEntry) (f : Fields) : Type 0 where
+  pub queued_is : f.queued ≡ untaken s Main log
+  pub replied_is : f.replied ≡ length (replies s.mode Main log)
+  pub replied_within : f.replied ≤ numbers s log
+  pub ready_is : is_ready s.mode log ≡ nat_le (handshake_length s.mode) f.replied
+  pub pending_count : length f.pending ≡ length (sent s log)
+  pub pending_is : (i : ℕ) → i < length f.pending
+      → slice_index_or f.pending i Gone ≡ pending_at s.mode log (i + first_number s.mode)
+  pub unpolled : (n : ℕ) → f.replied < n → is_polled log n ≡ false
+  pub owed_is : f.owed ≡ owed_in f.pending
+  pub marks_is : f.marks ≡ marks_by (open_fetch s log) f.replied (numbers s log)
+  pub slots_is : f.slots ≡ map (slot_of (last_use s log)) (held s log)
+  pub ended_is : f.ended ≡ is_ended s.mode Main log
+  pub side_is : is_ended s.mode Side log ≡ false
+  pub broken_is : f.broken ≡ is_broken s.mode log
