@@ -1,27 +1,27 @@
-//! Bytes that wait: they are added at the end and leave from the front.
+//! A queue of bytes: they are added at the end and leave from the front.
 #![tactic(auto)]
 
 ghost use Rattle.std.specs.Prelude.{◌≡◌, ◌++◌, [], OnOk, OnErr, IfOk, length, take, drop};
 
-use bytes::BytesMut;
 use resp_value::{NoMemory, Octets};
 use std::alloc::Global;
 use std::marker::Model;
 
-/// A list of bytes. Taking from its front moves none of the others, and the room of what left is
-/// used again.
+/// A list of bytes. Its front moves without a copy, and the room of what left is used again.
 #[derive(Drop)]
 pub struct ByteQueue {
-    alloc: Global,
-    bytes: BytesMut,
+    bytes: Vec<u8>,
+    start: usize,
 }
 
 impl Model for ByteQueue {
-    ghost use Rattle.std.specs.Prelude.{List, ℕ};
+    ghost use Rattle.std.specs.Prelude.{ℕ, List, ◌≤◌, length, drop};
 
     ghost Value = { List ℕ };
 
-    ghost view = { λ q. q.bytes.items };
+    ghost view = { λ q. drop q.start q.bytes.items };
+
+    ghost invariant = { λ q. q.start ≤ length q.bytes.items };
 }
 
 impl ByteQueue {
@@ -30,21 +30,22 @@ impl ByteQueue {
         ensures { result ≡ [] }
     {
         ByteQueue {
-            alloc,
-            bytes: BytesMut::new(alloc),
+            bytes: Vec::new(alloc),
+            start: 0,
         }
     }
 
     pub fn as_slice(&self) -> &[u8]
         ensures { result.now ≡ self.now }
     {
-        self.bytes.as_slice()
+        let (_, queued) = self.bytes.as_slice().split_at(self.start);
+        queued
     }
 
     pub fn len(&self) -> usize
         ensures { result ≡ length self.now }
     {
-        self.bytes.as_slice().len()
+        self.as_slice().len()
     }
 
     /// The bytes go last.
@@ -52,8 +53,22 @@ impl ByteQueue {
         ensures ok { OnOk result (self.new ≡ self.old ++ bytes.now) }
         ensures err { OnErr result (self.new ≡ self.old) }
     {
+        if self.start > self.bytes.len() / 2 {
+            self.compact();
+        }
         self.bytes.extend_from_slice(bytes)?;
         Ok(())
+    }
+
+    /// Copies the queued bytes to where the buffer begins. They are fewer than those that left,
+    /// so this costs a constant for each byte that ever left.
+    fn compact(&mut self)
+        ensures { self.new ≡ self.old }
+    {
+        let kept = self.bytes.len() - self.start;
+        self.bytes.copy_within(self.start.., 0);
+        self.bytes.truncate(kept);
+        self.start = 0;
     }
 
     /// The first bytes, at most so many.
@@ -61,7 +76,7 @@ impl ByteQueue {
         ensures { IfOk result (λ o. o ≡ take most self.now) }
     {
         let count = most.min(self.len());
-        Octets::from_slice(self.alloc, &self.as_slice()[..count])
+        Octets::from_slice(*self.bytes.allocator(), &self.as_slice()[..count])
     }
 
     /// Drops the first bytes, at most so many. It takes no memory.
@@ -69,14 +84,15 @@ impl ByteQueue {
         ensures { self.new ≡ drop most self.old }
     {
         let count = most.min(self.len());
-        self.bytes.advance(count);
+        self.start += count;
     }
 
     /// Keeps the first bytes, at most so many. It takes no memory.
     pub fn keep(&mut self, most: usize)
         ensures { self.new ≡ take most self.old }
     {
-        self.bytes.truncate(most);
+        let count = most.min(self.len());
+        self.bytes.truncate(self.start + count);
     }
 
     /// Drops all bytes. It takes no memory.
@@ -84,6 +100,7 @@ impl ByteQueue {
         ensures { self.new ≡ [] }
     {
         self.bytes.clear();
+        self.start = 0;
     }
 }
 

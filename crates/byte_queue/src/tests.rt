@@ -1,4 +1,4 @@
-// A queue against worked examples.
+//! A queue against worked examples.
 use super::ByteQueue;
 use std::test::Fail;
 

@@ -17,7 +17,7 @@ use Rattle.resp_stream.specs.Tokens.{only_byte, line_feed, counted_at, line_move
 use Rattle.resp_stream.specs.Request.{line_limit}
 use Rattle.resp_stream.specs.Value.{blob_rule, verbatim_rule, blob_error_rule, Digits as Made}
 use Rattle.resp_stream.specs.Value.{number_move, digits_of_at, signed, greatest, signed_at}
-use Rattle.resp_stream.specs.Value.{number_at, sized_blob, blob_at, sized_error, blob_error_at}
+use Rattle.resp_stream.specs.Value.{number_at, sized_blob, blob_at, blob_tree}
 use Rattle.resp_stream.specs.Value.{format_at, formatted_at, sized_text, verbatim_at, text_at}
 use Rattle.resp_stream.specs.Value.{whole_number_at}
 use Rattle.resp_stream.proofs.Line.{line_step}
@@ -193,19 +193,21 @@ number_only (negsuc n) r h =
 -- ---- counted texts
 
 pub blob_only : (t r : List ℕ) → length t ≤ 16777216
-    → blob_at (decimal (length t) ++ 13 ∷ 10 ∷ (t ++ 13 ∷ 10 ∷ r)) ≡ Whole (blob t) r
+    → blob_at (blob_tree false) blob_rule (decimal (length t) ++ 13 ∷ 10 ∷ (t ++ 13 ∷ 10 ∷ r))
+    ≡ Whole (blob t) r
 unfolding blob_at
 blob_only t r le =
-    ap (λ q. q >>= sized_blob)
+    ap (λ q. q >>= sized_blob (blob_tree false))
     (length_only blob_rule (length t) (decimal (length t)) (t ++ 13 ∷ 10 ∷ r) le (omega arith)
     (is_length (length t) (omega arith)))
     ∙ ap (λ q. q >>= λ t s. Whole (blob t) s) (counted_only t r)
 
 pub blob_error_only : (t r : List ℕ) → length t ≤ 16777216
-    → blob_error_at (decimal (length t) ++ 13 ∷ 10 ∷ (t ++ 13 ∷ 10 ∷ r)) ≡ Whole (blob_error t) r
-unfolding blob_error_at
+    → blob_at (blob_tree true) blob_error_rule
+    (decimal (length t) ++ 13 ∷ 10 ∷ (t ++ 13 ∷ 10 ∷ r)) ≡ Whole (blob_error t) r
+unfolding blob_at
 blob_error_only t r le =
-    ap (λ q. q >>= sized_error)
+    ap (λ q. q >>= sized_blob (blob_tree true))
     (length_only blob_error_rule (length t) (decimal (length t)) (t ++ 13 ∷ 10 ∷ r) le
     (omega arith) (is_length (length t) (omega arith)))
     ∙ ap (λ q. q >>= λ t s. Whole (blob_error t) s) (counted_only t r)

@@ -20,7 +20,8 @@ use Rattle.resp_stream.specs.Parsed.{Whole, Go, Stop, taken, ◌>>=◌}
 use Rattle.resp_stream.specs.Tokens.{only_byte, line_feed, ending, minus_one, length_at, many}
 use Rattle.resp_stream.specs.Request.{whole_limit}
 use Rattle.resp_stream.specs.Value.{rule_of, digits_of_at, signed_at, number_at, blob_at}
-use Rattle.resp_stream.specs.Value.{blob_error_at, verbatim_at, truth_at, text_at, whole_number_at}
+use Rattle.resp_stream.specs.Value.{blob_rule, blob_error_rule, blob_tree, verbatim_at, truth_at}
+use Rattle.resp_stream.specs.Value.{text_at, whole_number_at}
 use Rattle.resp_stream.specs.Value.{elements, build, elements_at, aggregate_at, value_in, value_at}
 use Rattle.resp_stream.proofs.Capped.{whole_within}
 use Rattle.resp_laws.specs.Values.{FitsIn, AllFit, RowsFit, WrittenValues}
@@ -45,7 +46,7 @@ unfolding value_in
 at_number zero b = refl
 at_number (suc d) b = refl
 
-at_blob : (d : ℕ) (b : List ℕ) → value_in d (36 ∷ b) ≡ blob_at b
+at_blob : (d : ℕ) (b : List ℕ) → value_in d (36 ∷ b) ≡ blob_at (blob_tree false) blob_rule b
 unfolding value_in
 at_blob zero b = refl
 at_blob (suc d) b = refl
@@ -55,7 +56,8 @@ unfolding value_in
 at_verbatim zero b = refl
 at_verbatim (suc d) b = refl
 
-at_blob_error : (d : ℕ) (b : List ℕ) → value_in d (33 ∷ b) ≡ blob_error_at b
+at_blob_error : (d : ℕ) (b : List ℕ)
+    → value_in d (33 ∷ b) ≡ blob_at (blob_tree true) blob_error_rule b
 unfolding value_in
 at_blob_error zero b = refl
 at_blob_error (suc d) b = refl
@@ -121,7 +123,8 @@ null_only : (r : List ℕ) → ending null (13 ∷ 10 ∷ r) ≡ Whole null r
 unfolding ending line_feed only_byte
 null_only r = refl
 
-minus_only : (r : List ℕ) → blob_at (45 ∷ 49 ∷ 13 ∷ 10 ∷ r) ≡ Whole null r
+minus_only : (r : List ℕ)
+    → blob_at (blob_tree false) blob_rule (45 ∷ 49 ∷ 13 ∷ 10 ∷ r) ≡ Whole null r
 unfolding blob_at length_at minus_one ending line_feed only_byte
 minus_only r = refl
 

@@ -1,9 +1,9 @@
-// A limit that no law speaks of at its number.
+//! A limit that no law speaks of at its number.
 use resp_stream::{StreamFault, ValueReader};
 use resp_value::NoMemory;
 use std::test::Fail;
 
-/// A blob of so many bytes, behind the line that says how many.
+/// A blob of so many bytes, after the line that says how many.
 fn put_blob(out: &mut Vec<u8>, head: &[u8], count: usize) -> Result<(), NoMemory> {
     out.extend_from_slice(head)?;
     for _ in 0..count / 4096 {

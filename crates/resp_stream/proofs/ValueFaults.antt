@@ -10,18 +10,21 @@ use Rattle.resp_stream.specs.declared.fault.StreamFault.{StreamFault}
 use Rattle.resp_stream.specs.declared.stack.Frame.{Frame}
 use Rattle.resp_stream.specs.Parsed.{Bad}
 use Rattle.resp_stream.specs.Readers.{IsFaultOf, FaultGives, NotMemory}
-use Rattle.resp_stream.specs.ReaderStates.{Kept, ValueState}
+use Rattle.resp_stream.specs.ReaderStates.{IsKept, Kept, ValueState}
 use Rattle.resp_stream.specs.Value.{value_at}
 use Rattle.resp_stream.specs.Stream.{Stream, offset_by, stream_fault}
 use Rattle.resp_stream.proofs.ReaderFaults.{fault_by, not_memory}
 use Rattle.resp_stream.proofs.StackSteps.{begin, grow, seen_none, seen_grows}
 
-pub fresh : (before : ℕ) (rest : List ℕ) (frames : List Frame) (broken : Option StreamFault)
-    → frames ≡ [] → Kept value_at (λ b. b) before rest broken
-    → ValueState before rest 0 8 0 frames broken
-fresh before rest frames broken e k =
-    subst (λ (fs : List Frame). ValueState before rest 0 8 0 fs broken) (sym e)
-    (record { levels = refl; stack = begin 8 rest; line = seen_none rest; kept = k })
+pub fresh : (before : ℕ) (rest : List ℕ) (at room seen : ℕ) (frames : List Frame)
+    (broken : Option StreamFault) → at ≡ 0 → room ≡ 8 → seen ≡ 0 → frames ≡ []
+    → Kept value_at (λ b. b) before rest broken → ValueState before rest at room seen frames broken
+fresh before rest at room seen frames broken a r l f k =
+    subst (λ (n : ℕ). ValueState before rest n room seen frames broken) (sym a)
+    (subst (λ (n : ℕ). ValueState before rest 0 n seen frames broken) (sym r)
+    (subst (λ (n : ℕ). ValueState before rest 0 8 n frames broken) (sym l)
+    (subst (λ (fs : List Frame). ValueState before rest 0 8 0 fs broken) (sym f)
+    (record { levels = refl; stack = begin 8 rest; line = seen_none rest; kept = k }))))
 
 pub more_fed : (before : ℕ) (rest new piece : List ℕ) (at room seen : ℕ) (frames : List Frame)
     (broken : Option StreamFault) → new ≡ rest ++ piece → broken ≡ None
@@ -91,7 +94,5 @@ module _ (before : ℕ) (text rest : List ℕ) (at offset : ℕ) (g : Fault) (f 
       (record { before = before; rest = rest; failed = t })
       (record { before = before; rest = rest; failed = true }) f memory (faulty t) refl
 
-  pub keeps : (frames : List Frame) → frames ≡ [] → ValueState before rest 0 8 0 frames (Some f)
-  keeps frames e =
-      fresh before rest frames (Some f) e
-      (record { here = refl; faulty = faulty true; memory = memory })
+  pub keeps : IsKept value_at (λ b. b) before rest f
+  keeps = record { here = refl; faulty = faulty true; memory = memory }

@@ -11,13 +11,14 @@ use Rattle.resp_value.specs.Tree.{Tree, simple, error, number, blob, verbatim, b
 use Rattle.resp_value.specs.Tree.{null, null_array}
 use Rattle.resp_stream.specs.Parsed.{Parsed, Whole, More, Choice, Go, Stop, scan, first, ◌>>=◌}
 use Rattle.resp_stream.specs.ReaderLaws.{Completes, IsReader}
+use Rattle.resp_stream.specs.declared.tokens.LengthRule.{LengthRule}
 use Rattle.resp_stream.specs.Tokens.{IsRule, only_byte, line_feed, ending, length_at, counted_at}
 use Rattle.resp_stream.specs.Tokens.{many, line_at}
 use Rattle.resp_stream.specs.Request.{line_limit}
 use Rattle.resp_stream.specs.Value.{blob_rule, verbatim_rule, blob_error_rule, rule_of, Digits}
 use Rattle.resp_stream.specs.Value.{number_move, digits_of_at, signed, greatest, signed_at}
-use Rattle.resp_stream.specs.Value.{number_by, number_at, sized_blob, blob_at, sized_error}
-use Rattle.resp_stream.specs.Value.{blob_error_at, format_at, formatted_at, sized_text, verbatim_at}
+use Rattle.resp_stream.specs.Value.{number_by, number_at, sized_blob, blob_at, line_tree, blob_tree}
+use Rattle.resp_stream.specs.Value.{format_at, formatted_at, sized_text, verbatim_at}
 use Rattle.resp_stream.specs.Value.{truth_at, text_at, whole_number_at, elements, build}
 use Rattle.resp_stream.specs.Value.{elements_at, aggregate_at, may_stand, mark_of, choice_of}
 use Rattle.resp_stream.specs.Value.{too_deep, deeper, value_in}
@@ -80,28 +81,17 @@ reader_number =
 
 -- ---- values without elements
 
-reader_sized_blob : (n : Option ℕ) → IsReader (sized_blob n)
-reader_sized_blob None = reader_whole null
-reader_sized_blob (Some n) =
-    reader_then (counted_at n) (λ t s. Whole (blob t) s) (reader_counted n)
-    (λ t. reader_whole (blob t))
+reader_sized_blob : (make : List ℕ → Tree) (n : Option ℕ) → IsReader (sized_blob make n)
+reader_sized_blob make None = reader_whole null
+reader_sized_blob make (Some n) =
+    reader_then (counted_at n) (λ t s. Whole (make t) s) (reader_counted n)
+    (λ t. reader_whole (make t))
 
-reader_blob : IsReader blob_at
+reader_blob : (make : List ℕ → Tree) (rule : LengthRule) → IsRule rule
+    → IsReader (blob_at make rule)
 unfolding blob_at
-reader_blob =
-    reader_then (length_at blob_rule) sized_blob (reader_length blob_rule blob_ok) reader_sized_blob
-
-reader_sized_error : (n : Option ℕ) → IsReader (sized_error n)
-reader_sized_error None = reader_whole null
-reader_sized_error (Some n) =
-    reader_then (counted_at n) (λ t s. Whole (blob_error t) s) (reader_counted n)
-    (λ t. reader_whole (blob_error t))
-
-reader_blob_error : IsReader blob_error_at
-unfolding blob_error_at
-reader_blob_error =
-    reader_then (length_at blob_error_rule) sized_error
-    (reader_length blob_error_rule blob_error_ok) reader_sized_error
+reader_blob make rule ok =
+    reader_then (length_at rule) (sized_blob make) (reader_length rule ok) (reader_sized_blob make)
 
 any_byte : {A : Type 0} (f : ℕ → List ℕ → Parsed A) → ((c : ℕ) → IsReader (f c))
     → IsReader (first (λ c. Go (f c)))
@@ -173,12 +163,12 @@ reader_aggregate kind read l =
 
 choices : (aggregate : Kind → Choice Tree) → ((kind : Kind) → IsChoice (aggregate kind))
     → (m : Mark) (c : ℕ) → IsChoice (choice_of aggregate m c)
-choices aggregate l mark.Simple c = reader_text simple
-choices aggregate l mark.Error c = reader_text error
+choices aggregate l mark.Simple c = reader_text (line_tree false)
+choices aggregate l mark.Error c = reader_text (line_tree true)
 choices aggregate l mark.Number c = reader_whole_number
-choices aggregate l mark.Blob c = reader_blob
+choices aggregate l mark.Blob c = reader_blob (blob_tree false) blob_rule blob_ok
 choices aggregate l mark.Verbatim c = reader_verbatim
-choices aggregate l mark.BlobError c = reader_blob_error
+choices aggregate l mark.BlobError c = reader_blob (blob_tree true) blob_error_rule blob_error_ok
 choices aggregate l mark.Truth c = reader_truth
 choices aggregate l mark.Null c = reader_ending null
 choices aggregate l (mark.Aggregate kind) c = l kind
@@ -191,13 +181,14 @@ pub reader_value : (d : ℕ) → IsReader (value_in d)
 unfolding value_in
 reader_value zero =
     reader_first (λ c. choice_of too_deep (mark_of c) c)
-    (λ c. choices too_deep (λ kind. tt) (mark_of c) c) 43 (text_at simple) refl (reader_text simple)
+    (λ c. choices too_deep (λ kind. tt) (mark_of c) c) 43 (text_at (line_tree false)) refl
+    (reader_text (line_tree false))
 reader_value (suc d) =
     reader_first (λ c. choice_of (deeper (nat_eq (suc d) 8) (value_in d)) (mark_of c) c)
     (λ c. choices (deeper (nat_eq (suc d) 8) (value_in d))
     (λ kind. choice_if (may_stand (nat_eq (suc d) 8) kind) (Go (aggregate_at kind (value_in d)))
     (Stop BadByte) (reader_aggregate kind (value_in d) (reader_value d)) tt) (mark_of c) c)
-    43 (text_at simple) refl (reader_text simple)
+    43 (text_at (line_tree false)) refl (reader_text (line_tree false))
 
 pub no_value : (d : ℕ) → value_in d [] ≡ More
 unfolding value_in

@@ -2,7 +2,7 @@
 use Rattle.std.specs.Prelude.{ℕ, List, [], ◌∷◌}
 use Rattle.resp_stream.specs.declared.fault.Fault.{Fault}
 
--- A whole value and the text behind it; more is needed; the first byte of this rest is at fault.
+-- A whole value and the text after it; more is needed; the first byte of this rest is at fault.
 pub data Parsed (A : Type 0) : Type 0 where
   Whole : A → List ℕ → Parsed A
   More : Parsed A
@@ -14,7 +14,7 @@ abbrev pub ◌>>=◌ : {A B : Type 0} → Parsed A → (A → List ℕ → Parse
 More >>= f = More
 (Bad e r) >>= f = Bad e r
 
--- What a byte leads to: on behind it, or to a fault at it.
+-- What a byte leads to: on after it, or to a fault at it.
 pub data Choice (A : Type 0) : Type 0 where
   Go : (List ℕ → Parsed A) → Choice A
   Stop : Fault → Choice A

@@ -20,7 +20,7 @@ pub record IsFaultOf {A : Type 0} (read : List ℕ → Parsed A) (s : Stream) (f
     pub is : read s.rest ≡ Bad fault left
     pub place : f ≡ stream_fault fault (offset_by s.before (length s.rest - length left))
 
--- `past` is the stream behind what is passed over
+-- `past` is the stream after what is passed over
 abbrev pub FaultGives : {A : Type 0} → (List ℕ → Parsed A) → Stream → Stream → Stream → StreamFault
     → Type 0
 FaultGives read past old new NoMemory = new ≡ old

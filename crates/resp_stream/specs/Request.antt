@@ -30,7 +30,7 @@ abbrev pub some_word : List ℕ → List (List ℕ)
 some_word [] = []
 some_word (c ∷ w) = (c ∷ w) ∷ []
 
--- the words of a line that goes on behind the bytes w of a word
+-- the words of a line that goes on after the bytes w of a word
 abbrev pub words_after : List ℕ → List ℕ → List (List ℕ)
 words_after w [] = some_word w
 words_after w (c ∷ t) =
@@ -73,7 +73,7 @@ skip_by b (Whole (w ∷ ws) r) go = b
 skip_by b More go = b
 skip_by b (Bad g r) go = b
 
--- What stands behind the first n empty requests at the front of a text.
+-- What follows the first n empty requests at the front of a text.
 unfoldable pub skip_empty_in : ℕ → List ℕ → List ℕ
 skip_empty_in zero b = b
 skip_empty_in (suc n) b = skip_by b (request_at b) (λ r. skip_empty_in n r)

@@ -1,4 +1,4 @@
--- How far a request was read: the text reads as its rest does behind what is kept.
+-- How far a request was read: the text reads as its rest does after what is kept.
 use Rattle.std.specs.Prelude.{◌≡◌, ◌≤◌, ◌<◌, ℕ, List, ◌++◌, length, take, drop, true, Result, Ok}
 use Rattle.std.specs.Prelude.{Err}
 use Rattle.resp_stream.specs.Parsed.{Parsed, Whole, More, Bad, ◌>>=◌}
@@ -45,7 +45,7 @@ RequestReadingGives text (Ok (reading.Faulty g at)) =
     (at ≤ length text) × (request_at text ≡ Bad g (drop at text))
 RequestReadingGives text (Err e) = Unit {0}
 
--- behind empty requests, of which `passed` bytes are
+-- the first `passed` bytes are the empty requests at the front
 pub record IsPast (text : List ℕ) (passed : ℕ) : Type 0 where
   pub within : passed ≤ length text
   pub is : skip_empty text ≡ drop passed text

@@ -12,12 +12,12 @@ use Rattle.resp_stream.specs.Parsed.{scan, first, ◌>>=◌}
 unfoldable pub only_byte : ℕ → List ℕ → Parsed (Unit {0})
 only_byte b = first (λ c. cond (nat_eq c b) (Go (Whole tt)) (Stop BadByte))
 
--- LF, behind the CR of an end
-unfoldable pub line_feed : {A : Type 0} → A → List ℕ → Parsed A
+-- LF, after the CR of an end
+abbrev pub line_feed : {A : Type 0} → A → List ℕ → Parsed A
 line_feed x b = only_byte 10 b >>= λ u r. Whole x r
 
 -- CR LF
-unfoldable pub ending : {A : Type 0} → A → List ℕ → Parsed A
+abbrev pub ending : {A : Type 0} → A → List ℕ → Parsed A
 ending x b = only_byte 13 b >>= λ u r. line_feed x r
 
 -- ---- a length: `0`, or digits that begin with 1 to 9; or `-1`, where the rule has it
@@ -52,7 +52,7 @@ length_by rule c =
     (cond (nat_lt rule.limit (c - 48)) (Stop (TooLong (c - 48)))
     (Go (digits_at rule (c - 48))))))))
 
--- A length behind its type byte, with its end; None for the null `-1`.
+-- A length after its type byte, with its end; None for the null `-1`.
 unfoldable pub length_at : LengthRule → List ℕ → Parsed (Option ℕ)
 length_at rule = first (length_by rule)
 
@@ -61,7 +61,7 @@ pub record IsRule (rule : LengthRule) : Type 0 where
   pub room : 99 ≤ rule.limit
   pub least : rule.least ≤ 9
 
--- ---- a line of text: of a value behind its type byte, or an inline request
+-- ---- a line of text: of a value after its type byte, or an inline request
 
 -- an inline request ends in LF alone too
 abbrev pub ends_line : Bool → ℕ → Bool

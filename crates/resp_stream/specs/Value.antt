@@ -87,21 +87,24 @@ number_by c =
 unfoldable pub number_at : List ℕ → Parsed ℤ
 number_at = first number_by
 
--- ---- values without elements, behind their type byte
+-- ---- values without elements, after their type byte
 
-abbrev pub sized_blob : Option ℕ → List ℕ → Parsed Tree
-sized_blob None b = Whole null b
-sized_blob (Some n) b = counted_at n b >>= λ t s. Whole (blob t) s
+-- a simple string or an error
+abbrev pub line_tree : Bool → List ℕ → Tree
+line_tree false t = simple t
+line_tree true t = error t
 
-unfoldable pub blob_at : List ℕ → Parsed Tree
-blob_at b = length_at blob_rule b >>= sized_blob
+-- a blob or a long error
+abbrev pub blob_tree : Bool → List ℕ → Tree
+blob_tree false t = blob t
+blob_tree true t = blob_error t
 
-abbrev pub sized_error : Option ℕ → List ℕ → Parsed Tree
-sized_error None b = Whole null b
-sized_error (Some n) b = counted_at n b >>= λ t s. Whole (blob_error t) s
+abbrev pub sized_blob : (List ℕ → Tree) → Option ℕ → List ℕ → Parsed Tree
+sized_blob make None b = Whole null b
+sized_blob make (Some n) b = counted_at n b >>= λ t s. Whole (make t) s
 
-unfoldable pub blob_error_at : List ℕ → Parsed Tree
-blob_error_at b = length_at blob_error_rule b >>= sized_error
+unfoldable pub blob_at : (List ℕ → Tree) → LengthRule → List ℕ → Parsed Tree
+blob_at make rule b = length_at rule b >>= sized_blob make
 
 -- the three bytes of a format
 unfoldable pub format_at : List ℕ → Parsed (List ℕ)
@@ -179,12 +182,12 @@ mark_of c =
 
 -- what a type byte leads to, where `aggregate` is what an aggregate leads to
 abbrev pub choice_of : (Kind → Choice Tree) → Mark → ℕ → Choice Tree
-choice_of aggregate mark.Simple c = Go (text_at simple)
-choice_of aggregate mark.Error c = Go (text_at error)
+choice_of aggregate mark.Simple c = Go (text_at (line_tree false))
+choice_of aggregate mark.Error c = Go (text_at (line_tree true))
 choice_of aggregate mark.Number c = Go whole_number_at
-choice_of aggregate mark.Blob c = Go blob_at
+choice_of aggregate mark.Blob c = Go (blob_at (blob_tree false) blob_rule)
 choice_of aggregate mark.Verbatim c = Go verbatim_at
-choice_of aggregate mark.BlobError c = Go blob_error_at
+choice_of aggregate mark.BlobError c = Go (blob_at (blob_tree true) blob_error_rule)
 choice_of aggregate mark.Truth c = Go truth_at
 choice_of aggregate mark.Null c = Go (ending null)
 choice_of aggregate (mark.Aggregate kind) c = aggregate kind

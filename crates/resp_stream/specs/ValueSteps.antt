@@ -1,4 +1,4 @@
--- Where a reader with a stack of open aggregates stands in a text.
+-- How far a value was read, with a stack of open aggregates.
 use Rattle.std.specs.Prelude.{◌≡◌, ◌≤◌, ◌<◌, ℕ, suc, List, [], ◌∷◌, ◌++◌, length, take, drop}
 use Rattle.std.specs.Prelude.{reverse, false, Option, Some, None, Result, Ok, Err}
 use Rattle.resp_value.specs.Tree.{Tree}
@@ -18,7 +18,7 @@ use Rattle.resp_stream.specs.Value.{build, value_in, value_at}
 use Rattle.resp_stream.specs.declared.stack.ValueReading.{ValueReading}
 use Rattle.resp_stream.specs.declared.stack.ValueReading.TheVariants as reading
 
--- The rest of an aggregate behind its element t; d is the room of its elements.
+-- The rest of an aggregate after its element t; d is the room of its elements.
 unfoldable pub rest_of : ℕ → Frame → Tree → List ℕ → Parsed Tree
 rest_of d f t r = many (value_in d) f.left r >>= λ ts s. Whole (build f.kind (f.done ++ t ∷ ts)) s
 
@@ -42,12 +42,12 @@ pub record HasRead (whole : ℕ) (text : List ℕ) (at room : ℕ) (fs : List Fr
     pub same : (m : List ℕ) → value_in whole (text ++ m) ≡ resume room fs
         (Whole t (drop at text ++ m))
 
--- behind a type byte, so many bytes of a line were passed
+-- after a type byte, so many bytes of a line were passed
 abbrev pub LineSeen : List ℕ → ℕ → Type 0
 LineSeen [] seen = seen ≡ 0
 LineSeen (c ∷ b) seen = (seen ≤ length b) × Passed false line_limit (take seen b)
 
--- b begins with the head of an aggregate of n values, and r is behind it
+-- b begins with the head of an aggregate of n values, and r follows
 pub record Opened (room : ℕ) (b : List ℕ) (kind : Kind) (n : ℕ) (r : List ℕ) : Type 0 where
   pub some : 0 < n
   pub inner : ℕ
@@ -69,7 +69,7 @@ ValueStepGives room b view (Ok None) = value_in room b ≡ More
 ValueStepGives room b view (Ok (Some x)) = IsStep room b (view x).0 (view x).1
 ValueStepGives room b view (Err e) = StopGives e (value_in room b)
 
--- What is known behind a value that was put into the newest open aggregate.
+-- What is known after a value was put into the newest open aggregate.
 abbrev pub Closes : ℕ → List ℕ → ℕ → ℕ → List Frame → Result (Option Value) NoMemory → Type 0
 Closes whole text at room frames (Ok None) = IsStack whole text at room (reverse frames)
 Closes whole text at room frames (Ok (Some v)) =

@@ -2,6 +2,9 @@
 ghost use Rattle.std.specs.Prelude.{◌≡◌};
 ghost use Rattle.resp_stream.specs.Stream.{stream_fault, fault_place};
 ghost use Rattle.resp_stream.specs.Tokens.{limited};
+ghost use Rattle.resp_stream.specs.declared.fault.ReadStop.TheVariants as stop;
+
+use resp_value::NoMemory;
 
 /// What a reader answers in place of a value or request.
 /// Offsets count from the first byte that was fed to it.
@@ -64,6 +67,14 @@ pub struct Broken {
 pub enum ReadStop {
     NoMemory,
     Faulty(Broken),
+}
+
+impl From<NoMemory> for ReadStop {
+    ghost from_gives = { λ _ made. made ≡ stop.NoMemory };
+
+    fn from(_: NoMemory) -> ReadStop {
+        ReadStop::NoMemory
+    }
 }
 
 /// The most bytes of one whole value or request.

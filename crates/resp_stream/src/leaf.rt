@@ -1,16 +1,16 @@
-// Values without elements behind their type byte.
+//! Values without elements, after their type byte.
 ghost use Rattle.std.specs.Prelude.{◌≡◌, ◌≤◌, ◌+◌, ◌∷◌, ℕ, length, take, true, false};
 ghost use Rattle.resp_value.specs.ValueTree.{tree_of};
 ghost use Rattle.resp_value.specs.Tree.{Tree, simple, error, null};
 ghost use Rattle.resp_stream.specs.Parsed.{taken};
 ghost use Rattle.resp_stream.specs.Results.{LeafGives};
-ghost use Rattle.resp_stream.specs.Tokens.{Passed, ending};
+ghost use Rattle.resp_stream.specs.Tokens.{IsRule, Passed, ending};
 ghost use Rattle.resp_stream.specs.Request.{line_limit};
-ghost use Rattle.resp_stream.specs.Value.{text_at, whole_number_at, blob_at, blob_error_at};
+ghost use Rattle.resp_stream.specs.Value.{line_tree, blob_tree, text_at, whole_number_at, blob_at};
 ghost use Rattle.resp_stream.specs.Value.{formatted_at, verbatim_at, truth_at, choice_of, too_deep};
 
 use super::fault::{Broken, Fault, ReadStop};
-use super::tokens::{LengthRule, bad_byte, byte_of, counted_of, end_of, length_of, line_of};
+use super::tokens::{LengthRule, bad_byte, byte_of, counted_of, end_of, length_of, line_of, whole};
 use super::value::{Mark, format_of, number_of};
 use resp_value::{Octets, Value};
 use std::alloc::Global;
@@ -39,86 +39,50 @@ const BLOB_ERROR: LengthRule = LengthRule {
     limit: 16777216,
 };
 
+/// A line of text: a simple string or an error.
 #[tactic(auto, unfolding(crate::specs::Value::text_at))]
-fn simple_of<'a>(
+fn text_of<'a>(
     alloc: Global,
+    is_error: bool,
     seen: &mut usize,
     bytes: &'a [u8],
 ) -> Result<Option<(Value, &'a [u8])>, ReadStop>
     requires seen { seen.old ≤ length bytes.now }
     requires passed { Passed false line_limit (take seen.old bytes.now) }
-    ensures gives { LeafGives (λ x. (tree_of x.0, x.1.now)) result (text_at simple bytes.now) }
+    ensures gives { LeafGives (λ x. (tree_of x.0, x.1.now)) result (text_at (line_tree is_error) bytes.now) }
     ensures seen { seen.new ≤ length bytes.now }
     ensures passed { Passed false line_limit (take seen.new bytes.now) }
 {
-    match line_of(false, LINE_LIMIT, seen, bytes) {
-        Ok(None) => Ok(None),
-        Ok(Some((text, rest))) => match Octets::from_slice(alloc, text) {
-            Ok(text) => Ok(Some((Value::Simple(text), rest))),
-            Err(_) => Err(ReadStop::NoMemory),
-        },
-        Err(e) => Err(ReadStop::Faulty(e)),
+    let (text, rest) = whole!(line_of(false, LINE_LIMIT, seen, bytes), ReadStop::Faulty);
+    let text = Octets::from_slice(alloc, text)?;
+    if is_error {
+        return Ok(Some((Value::Error(text), rest)));
     }
+    Ok(Some((Value::Simple(text), rest)))
 }
 
-#[tactic(auto, unfolding(crate::specs::Value::text_at))]
-fn error_of<'a>(
-    alloc: Global,
-    seen: &mut usize,
-    bytes: &'a [u8],
-) -> Result<Option<(Value, &'a [u8])>, ReadStop>
-    requires seen { seen.old ≤ length bytes.now }
-    requires passed { Passed false line_limit (take seen.old bytes.now) }
-    ensures gives { LeafGives (λ x. (tree_of x.0, x.1.now)) result (text_at error bytes.now) }
-    ensures seen { seen.new ≤ length bytes.now }
-    ensures passed { Passed false line_limit (take seen.new bytes.now) }
-{
-    match line_of(false, LINE_LIMIT, seen, bytes) {
-        Ok(None) => Ok(None),
-        Ok(Some((text, rest))) => match Octets::from_slice(alloc, text) {
-            Ok(text) => Ok(Some((Value::Error(text), rest))),
-            Err(_) => Err(ReadStop::NoMemory),
-        },
-        Err(e) => Err(ReadStop::Faulty(e)),
-    }
-}
-
+/// Counted bytes: a blob, its null, or a long error.
 #[tactic(auto, unfolding(crate::specs::Value::blob_at))]
-fn blob_of(alloc: Global, bytes: &[u8]) -> Result<Option<(Value, &[u8])>, ReadStop>
-    ensures { LeafGives (λ x. (tree_of x.0, x.1.now)) result (blob_at bytes.now) }
+fn blob_of(
+    alloc: Global,
+    is_error: bool,
+    rule: LengthRule,
+    bytes: &[u8],
+) -> Result<Option<(Value, &[u8])>, ReadStop>
+    requires { IsRule rule }
+    ensures { LeafGives (λ x. (tree_of x.0, x.1.now)) result
+        (blob_at (blob_tree is_error) rule bytes.now) }
 {
-    match length_of(BLOB, bytes) {
-        Ok(None) => Ok(None),
-        Err(e) => Err(ReadStop::Faulty(e)),
-        Ok(Some((None, rest))) => Ok(Some((Value::Null, rest))),
-        Ok(Some((Some(length), rest))) => match counted_of(length, rest) {
-            Ok(None) => Ok(None),
-            Err(e) => Err(ReadStop::Faulty(e)),
-            Ok(Some((text, rest))) => match Octets::from_slice(alloc, text) {
-                Ok(text) => Ok(Some((Value::Blob(text), rest))),
-                Err(_) => Err(ReadStop::NoMemory),
-            },
-        },
+    let (length, rest) = whole!(length_of(rule, bytes), ReadStop::Faulty);
+    let Some(length) = length else {
+        return Ok(Some((Value::Null, rest)));
+    };
+    let (text, rest) = whole!(counted_of(length, rest), ReadStop::Faulty);
+    let text = Octets::from_slice(alloc, text)?;
+    if is_error {
+        return Ok(Some((Value::BlobError(text), rest)));
     }
-}
-
-#[tactic(auto, unfolding(crate::specs::Value::blob_error_at))]
-fn blob_error_of(alloc: Global, bytes: &[u8]) -> Result<Option<(Value, &[u8])>, ReadStop>
-    ensures { LeafGives (λ x. (tree_of x.0, x.1.now)) result (blob_error_at bytes.now) }
-{
-    match length_of(BLOB_ERROR, bytes) {
-        Ok(None) => Ok(None),
-        Err(e) => Err(ReadStop::Faulty(e)),
-        Ok(Some((None, rest))) => Ok(Some((Value::Null, rest))),
-        Ok(Some((Some(length), rest))) => match counted_of(length, rest) {
-            Ok(None) => Ok(None),
-            Err(e) => Err(ReadStop::Faulty(e)),
-            Ok(Some((text, rest))) => match Octets::from_slice(alloc, text) {
-                Ok(text) => Ok(Some((Value::BlobError(text), rest))),
-                Err(_) => Err(ReadStop::NoMemory),
-            },
-        },
-    }
+    Ok(Some((Value::Blob(text), rest)))
 }
 
 /// A format, a colon and a text, which have so many bytes.
@@ -133,36 +97,25 @@ fn formatted_of(
     let Some((x, y, z, rest)) = format_of(bytes) else {
         return Ok(None);
     };
-    match byte_of(b':', rest) {
-        Ok(None) => Ok(None),
-        Err(e) => Err(ReadStop::Faulty(e)),
-        Ok(Some(rest)) => match counted_of(length.saturating_sub(4), rest) {
-            Ok(None) => Ok(None),
-            Err(e) => Err(ReadStop::Faulty(e)),
-            Ok(Some((text, rest))) => match Octets::from_slice(alloc, text) {
-                Ok(text) => {
-                    let format = [x, y, z];
-                    Ok(Some((Value::Verbatim(format, text), rest)))
-                }
-                Err(_) => Err(ReadStop::NoMemory),
-            },
-        },
-    }
+    let rest = whole!(byte_of(b':', rest), ReadStop::Faulty);
+    let (text, rest) = whole!(counted_of(length.saturating_sub(4), rest), ReadStop::Faulty);
+    let text = Octets::from_slice(alloc, text)?;
+    let format = [x, y, z];
+    Ok(Some((Value::Verbatim(format, text), rest)))
 }
 
 #[tactic(auto, unfolding(crate::specs::Value::verbatim_at))]
 fn verbatim_of(alloc: Global, bytes: &[u8]) -> Result<Option<(Value, &[u8])>, ReadStop>
     ensures { LeafGives (λ x. (tree_of x.0, x.1.now)) result (verbatim_at bytes.now) }
 {
-    match length_of(VERBATIM, bytes) {
-        Ok(None) => Ok(None),
-        Err(e) => Err(ReadStop::Faulty(e)),
-        Ok(Some((None, rest))) => Ok(Some((Value::Null, rest))),
-        Ok(Some((Some(length), rest))) => formatted_of(alloc, length, rest),
+    let (length, rest) = whole!(length_of(VERBATIM, bytes), ReadStop::Faulty);
+    match length {
+        None => Ok(Some((Value::Null, rest))),
+        Some(length) => formatted_of(alloc, length, rest),
     }
 }
 
-#[tactic(auto, unfolding(crate::specs::Value::truth_at, crate::specs::Tokens::ending, crate::specs::Tokens::line_feed))]
+#[tactic(auto, unfolding(crate::specs::Value::truth_at))]
 fn truth_of(bytes: &[u8]) -> Result<Option<(Value, &[u8])>, ReadStop>
     ensures { LeafGives (λ x. (tree_of x.0, x.1.now)) result (truth_at bytes.now) }
 {
@@ -171,45 +124,32 @@ fn truth_of(bytes: &[u8]) -> Result<Option<(Value, &[u8])>, ReadStop>
     };
     let c = *c;
     if c == b't' {
-        return match end_of(rest) {
-            Ok(None) => Ok(None),
-            Ok(Some(rest)) => Ok(Some((Value::Bool(true), rest))),
-            Err(e) => Err(ReadStop::Faulty(e)),
-        };
+        let rest = whole!(end_of(rest), ReadStop::Faulty);
+        return Ok(Some((Value::Bool(true), rest)));
     }
     if c == b'f' {
-        return match end_of(rest) {
-            Ok(None) => Ok(None),
-            Ok(Some(rest)) => Ok(Some((Value::Bool(false), rest))),
-            Err(e) => Err(ReadStop::Faulty(e)),
-        };
+        let rest = whole!(end_of(rest), ReadStop::Faulty);
+        return Ok(Some((Value::Bool(false), rest)));
     }
     Err(ReadStop::Faulty(bad_byte(bytes)))
 }
 
-#[tactic(auto, unfolding(crate::specs::Tokens::ending, crate::specs::Tokens::line_feed))]
 fn null_of(bytes: &[u8]) -> Result<Option<(Value, &[u8])>, ReadStop>
     ensures { LeafGives (λ x. (tree_of x.0, x.1.now)) result (ending null bytes.now) }
 {
-    match end_of(bytes) {
-        Ok(None) => Ok(None),
-        Ok(Some(rest)) => Ok(Some((Value::Null, rest))),
-        Err(e) => Err(ReadStop::Faulty(e)),
-    }
+    let rest = whole!(end_of(bytes), ReadStop::Faulty);
+    Ok(Some((Value::Null, rest)))
 }
 
 #[tactic(auto, unfolding(crate::specs::Value::whole_number_at))]
 fn whole_number_of(bytes: &[u8]) -> Result<Option<(Value, &[u8])>, ReadStop>
     ensures { LeafGives (λ x. (tree_of x.0, x.1.now)) result (whole_number_at bytes.now) }
 {
-    match number_of(bytes) {
-        Ok(None) => Ok(None),
-        Ok(Some((number, rest))) => Ok(Some((Value::Number(number), rest))),
-        Err(e) => Err(ReadStop::Faulty(e)),
-    }
+    let (number, rest) = whole!(number_of(bytes), ReadStop::Faulty);
+    Ok(Some((Value::Number(number), rest)))
 }
 
-/// A value without elements, behind its first byte `c`; an aggregate is too deep here. There are
+/// A value without elements, after its type byte `c`; an aggregate is too deep here. There are
 /// `left` bytes from that on, and `seen` bytes of a line were passed before.
 pub(crate) fn leaf_of<'a>(
     alloc: Global,
@@ -228,12 +168,12 @@ pub(crate) fn leaf_of<'a>(
     ensures passed { Passed false line_limit (take seen.new bytes.now) }
 {
     match mark {
-        Mark::Simple => simple_of(alloc, seen, bytes),
-        Mark::Error => error_of(alloc, seen, bytes),
+        Mark::Simple => text_of(alloc, false, seen, bytes),
+        Mark::Error => text_of(alloc, true, seen, bytes),
         Mark::Number => whole_number_of(bytes),
-        Mark::Blob => blob_of(alloc, bytes),
+        Mark::Blob => blob_of(alloc, false, BLOB, bytes),
         Mark::Verbatim => verbatim_of(alloc, bytes),
-        Mark::BlobError => blob_error_of(alloc, bytes),
+        Mark::BlobError => blob_of(alloc, true, BLOB_ERROR, bytes),
         Mark::Truth => truth_of(bytes),
         Mark::Null => null_of(bytes),
         Mark::NotServed => Err(ReadStop::Faulty(Broken {

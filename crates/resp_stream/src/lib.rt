@@ -5,7 +5,6 @@ mod fault;
 mod leaf;
 mod request;
 mod request_reader;
-mod rest;
 mod stack;
 mod tokens;
 mod value;

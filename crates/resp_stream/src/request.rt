@@ -1,4 +1,4 @@
-// Requests, read from the front of a text in any number of steps.
+//! Requests, read from the front of a text in any number of steps.
 ghost use Rattle.std.specs.Prelude.{◌≡◌, true, ◌++◌, ◌∷◌, [], ℕ, ◌≤◌, ◌<◌, ◌^◌, ◌-◌, List, length};
 ghost use Rattle.std.specs.Prelude.{take, drop, IfOk, OnOk, OnErr};
 ghost use Rattle.std.specs.Prelude.{◌+◌};
@@ -57,7 +57,8 @@ pub enum Reading {
     Faulty { fault: Fault, at: usize },
 }
 
-/// The same behind empty requests: `taken` counts from the front, and `at` from behind the `passed`
+/// The same after empty requests: `taken` counts from the front, and `at` from the end of the
+/// `passed`
 /// bytes.
 #[derive(Drop)]
 pub enum Next {

@@ -5,7 +5,7 @@ ghost use Rattle.resp_stream.specs.Readers.{RequestGives, NotMemory, OnItem, IfF
 
 use super::fault::{StreamFault, stream_fault};
 use super::request::{Next, Progress, next_in};
-use super::rest::Rest;
+use byte_queue::ByteQueue;
 use resp_value::{NoMemory, Words};
 use std::alloc::Global;
 use std::marker::Model;
@@ -19,7 +19,7 @@ use std::mem;
 pub struct RequestReader {
     alloc: Global,
     before: u64,
-    rest: Rest,
+    rest: ByteQueue,
     progress: Progress,
     broken: Option<StreamFault>,
 }
@@ -46,7 +46,7 @@ impl RequestReader {
         RequestReader {
             alloc,
             before: 0,
-            rest: Rest::new(alloc),
+            rest: ByteQueue::new(alloc),
             progress: Progress::Line { seen: 0 },
             broken: None,
         }
@@ -61,7 +61,7 @@ impl RequestReader {
         if self.broken.is_some() {
             return Ok(());
         }
-        self.rest.append(piece)
+        self.rest.add(piece)
     }
 
     /// The next request, empty ones passed over; nothing where more bytes are needed.

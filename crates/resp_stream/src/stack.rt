@@ -1,5 +1,6 @@
-// Values with elements, read without recursion.
-ghost use Rattle.std.specs.Prelude.{◌≡◌, ◌≤◌, ◌<◌, ◌^◌, ◌+◌, ◌∷◌, [], ℕ, List, length, take, drop};
+//! Values with elements, read without recursion.
+ghost use Rattle.std.specs.Prelude.{◌≡◌, ◌≤◌, ◌<◌, ◌^◌, ◌+◌, ◌-◌, ◌++◌, ◌∷◌, [], ℕ, List, length};
+ghost use Rattle.std.specs.Prelude.{take, drop};
 ghost use Rattle.std.specs.Prelude.{reverse, OnOk};
 ghost use Rattle.resp_value.specs.ValueTree.{tree_of};
 ghost use Rattle.resp_stream.specs.Results.{LeafGives};
@@ -15,7 +16,7 @@ use super::value::{Kind, Mark, build, elements, mark_of, may_stand, rule_of};
 use resp_value::{NoMemory, Value, Values};
 use std::alloc::Global;
 
-/// An open aggregate: how many values come behind the one that stands next, and those before it.
+/// An open aggregate: how many values come after its next one, and those before it.
 #[derive(Drop)]
 pub struct Frame {
     kind: Kind,
@@ -51,7 +52,7 @@ fn opening(room: u64, mark: Mark) -> Option<Kind>
     }
 }
 
-/// An aggregate of `bytes` behind its type byte.
+/// The head of the aggregate that `bytes` begin with; `rest` follows its type byte.
 fn open_of<'a>(
     alloc: Global,
     c: u8,
@@ -109,6 +110,19 @@ fn step_of<'a>(
     }
 }
 
+/// Nothing is read of the next value.
+pub(crate) fn reset(at: &mut usize, room: &mut u64, seen: &mut usize, stack: &mut Vec<Frame>)
+    ensures at { at.new ≡ 0 }
+    ensures room { room.new ≡ 8 }
+    ensures seen { seen.new ≡ 0 }
+    ensures stack { stack.new.items ≡ [] }
+{
+    *at = 0;
+    *room = 8;
+    *seen = 0;
+    stack.clear();
+}
+
 /// Puts a value into the newest open aggregate. One that is full with it is a value in turn.
 #[tactic(auto, using(crate::proofs::Closing::closing))]
 fn close(
@@ -127,37 +141,33 @@ fn close(
     'open: while let Some(frame) = stack.pop() {
         let Frame { kind, left, done } = frame;
         let mut done = done;
-        match done.push(value) {
-            Ok(()) => {}
-            Err(e) => {
-                return Err(e);
-            }
-        }
+        done.push(value)?;
         if left > 0 {
-            match stack.push(Frame {
+            stack.push(Frame {
                 kind,
                 left: left - 1,
                 done,
-            }) {
-                Ok(()) => {
-                    return Ok(None);
-                }
-                Err(_) => {
-                    return Err(NoMemory);
-                }
-            }
+            })?;
+            return Ok(None);
         }
-        match build(alloc, kind, done) {
-            Ok(built) => {
-                value = built;
-            }
-            Err(e) => {
-                return Err(e);
-            }
-        }
+        value = build(alloc, kind, done)?;
         *room += 1;
     }
     Ok(Some(value))
+}
+
+/// Opens an aggregate of so many values.
+fn push_frame(alloc: Global, kind: Kind, count: u64, stack: &mut Vec<Frame>) -> Result<(), NoMemory>
+    requires { 0 < count }
+    ensures { OnOk result (stack.new.items
+        ≡ stack.old.items ++ (record { kind = kind; left = count - 1; done = [] }) ∷ []) }
+{
+    stack.push(Frame {
+        kind,
+        left: count - 1,
+        done: Values::new(alloc),
+    })?;
+    Ok(())
 }
 
 /// Reads on from `at`, until a value is whole, more is needed, or a byte is at fault.
@@ -180,43 +190,27 @@ fn run(
     'steps: loop {
         let (_, rest) = text.split_at(*at);
         match step_of(alloc, *room, seen, rest) {
-            Ok(None) => {
-                return Ok(None);
-            }
-            Err(e) => {
-                return Err(e);
-            }
+            Ok(None) => return Ok(None),
+            Err(e) => return Err(e),
             Ok(Some((step, after))) => {
                 let next = text.len() - after.len();
                 *seen = 0;
                 match step {
                     Step::Open(kind, count) => {
-                        match stack.push(Frame {
-                            kind,
-                            left: count - 1,
-                            done: Values::new(alloc),
-                        }) {
-                            Ok(()) => {}
-                            Err(_) => {
-                                return Err(ReadStop::NoMemory);
-                            }
-                        }
+                        push_frame(alloc, kind, count, stack)?;
                         *room -= 1;
                         *at = next;
                     }
-                    Step::Leaf(value) => {
-                        match close(alloc, stack, room, value) {
-                            Ok(None) => {}
-                            Ok(Some(value)) => {
-                                *at = next;
-                                return Ok(Some(value));
-                            }
-                            Err(_) => {
-                                return Err(ReadStop::NoMemory);
-                            }
+                    Step::Leaf(value) => match close(alloc, stack, room, value) {
+                        Err(_) => return Err(ReadStop::NoMemory),
+                        Ok(None) => {
+                            *at = next;
                         }
-                        *at = next;
-                    }
+                        Ok(Some(value)) => {
+                            *at = next;
+                            return Ok(Some(value));
+                        }
+                    },
                 }
             }
         }

@@ -1,4 +1,4 @@
-// The parts of values and requests: ends, lengths, counted bytes.
+//! The tokens of values and requests: ends, lengths, lines and counted bytes.
 ghost use Rattle.std.specs.Prelude.{◌≡◌, ℕ, ◌≤◌, ◌<◌, ◌^◌, length, take, List, ◌∷◌, [], IfNone};
 ghost use Rattle.std.specs.Prelude.{IfSome};
 ghost use Rattle.resp_stream.specs.declared.tokens.LengthRule.{LengthRule};
@@ -20,17 +20,45 @@ pub struct LengthRule {
     pub limit: u64,
 }
 
-/// A byte that begins nothing of the grammar.
-pub(crate) fn bad_byte(bytes: &[u8]) -> Broken
-    ensures { result ≡ record { fault = Fault.BadByte; left = length bytes.now } }
+/// What was read; where more is needed or a byte is at fault it returns that from the function,
+/// with `$wrap` around the fault.
+macro_rules! whole {
+    ($read:expr) => {
+        match $read {
+            Ok(Some(read)) => read,
+            Ok(None) => return Ok(None),
+            Err(broken) => return Err(broken),
+        }
+    };
+    ($read:expr, $wrap:path) => {
+        match $read {
+            Ok(Some(read)) => read,
+            Ok(None) => return Ok(None),
+            Err(broken) => return Err($wrap(broken)),
+        }
+    };
+}
+
+pub(crate) use whole;
+
+/// A fault of the first of these bytes.
+pub(crate) fn broken(fault: Fault, bytes: &[u8]) -> Broken
+    ensures { result ≡ record { fault = fault; left = length bytes.now } }
 {
     Broken {
-        fault: Fault::BadByte,
+        fault,
         left: bytes.len(),
     }
 }
 
-/// The first byte, and those behind it.
+/// The first of these bytes begins nothing of the grammar.
+pub(crate) fn bad_byte(bytes: &[u8]) -> Broken
+    ensures { result ≡ record { fault = Fault.BadByte; left = length bytes.now } }
+{
+    broken(Fault::BadByte, bytes)
+}
+
+/// The first byte, and those after it.
 pub(crate) fn head_of(bytes: &[u8]) -> Option<(u8, &[u8])>
     ensures some { IfSome result (λ x. bytes.now ≡ x.0 ∷ x.1.now) }
     ensures none { IfNone result (bytes.now ≡ []) }
@@ -58,22 +86,14 @@ pub(crate) fn byte_of(byte: u8, bytes: &[u8]) -> Result<Option<&[u8]>, Broken>
 }
 
 /// CR LF
-#[tactic(auto, unfolding(crate::specs::Tokens::ending, crate::specs::Tokens::line_feed))]
 pub(crate) fn end_of(bytes: &[u8]) -> Result<Option<&[u8]>, Broken>
     ensures { Gives (λ r. (tt, r.now)) result (ending {A = Unit {0}} tt bytes.now) }
 {
-    match byte_of(13, bytes) {
-        Ok(None) => Ok(None),
-        Ok(Some(rest)) => match byte_of(10, rest) {
-            Ok(None) => Ok(None),
-            Ok(Some(rest)) => Ok(Some(rest)),
-            Err(e) => Err(e),
-        },
-        Err(e) => Err(e),
-    }
+    let rest = whole!(byte_of(13, bytes));
+    Ok(Some(whole!(byte_of(10, rest))))
 }
 
-#[tactic(auto, unfolding(crate::specs::Tokens::line_feed, crate::specs::Tokens::digits_at))]
+#[tactic(auto, unfolding(crate::specs::Tokens::digits_at))]
 fn digits_of(
     rule: LengthRule,
     first: u64,
@@ -92,21 +112,14 @@ fn digits_of(
             if number < rule.least {
                 return Err(bad_byte(rest));
             }
-            return match byte_of(10, after) {
-                Ok(None) => Ok(None),
-                Ok(Some(after)) => Ok(Some((Some(number), after))),
-                Err(e) => Err(e),
-            };
+            return Ok(Some((Some(number), whole!(byte_of(10, after)))));
         }
         if c < 48 || 57 < c {
             return Err(bad_byte(rest));
         }
         let longer = number * 10 + u64::from(c - 48);
         if rule.limit < longer {
-            return Err(Broken {
-                fault: Fault::TooLong(longer),
-                left: rest.len(),
-            });
+            return Err(broken(Fault::TooLong(longer), rest));
         }
         number = longer;
         rest = after;
@@ -114,8 +127,8 @@ fn digits_of(
     Ok(None)
 }
 
-/// A length behind its type byte, with its end; nothing for the null `-1`.
-#[tactic(auto, unfolding(crate::specs::Tokens::length_at, crate::specs::Tokens::minus_one, crate::specs::Tokens::ending, crate::specs::Tokens::line_feed))]
+/// A length after its type byte, with its end; nothing for the null `-1`.
+#[tactic(auto, unfolding(crate::specs::Tokens::length_at, crate::specs::Tokens::minus_one))]
 pub(crate) fn length_of(
     rule: LengthRule,
     bytes: &[u8],
@@ -128,54 +141,28 @@ pub(crate) fn length_of(
         return Ok(None);
     };
     let c = *c;
-    if c == 63 {
-        if rule.streamed {
-            return Err(Broken {
-                fault: Fault::NotServed(63),
-                left: bytes.len(),
-            });
-        }
-        return Err(bad_byte(bytes));
+    if c == 63 && rule.streamed {
+        return Err(broken(Fault::NotServed(63), bytes));
     }
-    if c == 45 {
-        if !rule.null {
-            return Err(bad_byte(bytes));
-        }
-        return match byte_of(49, rest) {
-            Ok(None) => Ok(None),
-            Ok(Some(rest)) => match end_of(rest) {
-                Ok(None) => Ok(None),
-                Ok(Some(rest)) => Ok(Some((None, rest))),
-                Err(e) => Err(e),
-            },
-            Err(e) => Err(e),
-        };
+    if c == 45 && rule.null {
+        let rest = whole!(byte_of(49, rest));
+        return Ok(Some((None, whole!(end_of(rest)))));
     }
-    if c == 48 {
-        if 0 < rule.least {
-            return Err(bad_byte(bytes));
-        }
-        return match end_of(rest) {
-            Ok(None) => Ok(None),
-            Ok(Some(rest)) => Ok(Some((Some(0), rest))),
-            Err(e) => Err(e),
-        };
+    if c == 48 && rule.least == 0 {
+        return Ok(Some((Some(0), whole!(end_of(rest)))));
     }
     if c < 49 || 57 < c {
         return Err(bad_byte(bytes));
     }
     let number = u64::from(c - 48);
     if rule.limit < number {
-        return Err(Broken {
-            fault: Fault::TooLong(number),
-            left: bytes.len(),
-        });
+        return Err(broken(Fault::TooLong(number), bytes));
     }
     digits_of(rule, number, rest)
 }
 
 /// So many bytes, and an end.
-#[tactic(auto, unfolding(crate::specs::Tokens::counted_at, crate::specs::Tokens::bytes_at, crate::specs::Tokens::ending, crate::specs::Tokens::line_feed))]
+#[tactic(auto, unfolding(crate::specs::Tokens::counted_at, crate::specs::Tokens::bytes_at))]
 pub(crate) fn counted_of(length: u64, bytes: &[u8]) -> Result<Option<(&[u8], &[u8])>, Broken>
     ensures { Gives (λ x. (x.0.now, x.1.now)) result (counted_at length bytes.now) }
 {
@@ -184,11 +171,7 @@ pub(crate) fn counted_of(length: u64, bytes: &[u8]) -> Result<Option<(&[u8], &[u
         return Ok(None);
     }
     let (text, rest) = bytes.split_at(length);
-    match end_of(rest) {
-        Ok(None) => Ok(None),
-        Ok(Some(rest)) => Ok(Some((text, rest))),
-        Err(e) => Err(e),
-    }
+    Ok(Some((text, whole!(end_of(rest)))))
 }
 
 /// An inline request ends in LF alone too.
@@ -206,7 +189,7 @@ fn refused(inline: bool, c: u8) -> bool
 }
 
 /// The text of a line, of which `seen` bytes were passed before.
-#[tactic(auto, using(crate::proofs::Line::line_steps), unfolding(crate::specs::Tokens::line_feed))]
+#[tactic(auto, using(crate::proofs::Line::line_steps))]
 pub(crate) fn line_of<'a>(
     inline: bool,
     limit: usize,
@@ -227,20 +210,13 @@ pub(crate) fn line_of<'a>(
             return Ok(None);
         };
         if c == 13 {
-            return match byte_of(10, after) {
-                Ok(None) => Ok(None),
-                Ok(Some(after)) => Ok(Some((text, after))),
-                Err(e) => Err(e),
-            };
+            return Ok(Some((text, whole!(byte_of(10, after)))));
         }
         if ends_line(inline, c) {
             return Ok(Some((text, after)));
         }
         if limit <= at {
-            return Err(Broken {
-                fault: Fault::TooLong(limit as u64 + 1),
-                left: rest.len(),
-            });
+            return Err(broken(Fault::TooLong(limit as u64 + 1), rest));
         }
         if refused(inline, c) {
             return Err(bad_byte(rest));

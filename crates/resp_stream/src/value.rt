@@ -1,4 +1,4 @@
-// Values without elements, read from the front of a text.
+//! The types of values, and numbers.
 ghost use Rattle.std.specs.Prelude.{◌≡◌, ◌≤◌, ◌<◌, ◌^◌, ℕ, ◌+◌, ◌-◌, List, length, take, drop, ◌∷◌};
 ghost use Rattle.std.specs.Prelude.{[], true, false, Some, None, IfOk, IfSome, IfNone};
 ghost use Rattle.resp_value.specs.ValueTree.{tree_of};
@@ -11,7 +11,7 @@ ghost use Rattle.resp_stream.specs.Value.{greatest, blob_at, format_at, formatte
 ghost use Rattle.resp_stream.specs.Value.{elements, build, may_stand};
 
 use super::fault::Broken;
-use super::tokens::{LengthRule, bad_byte, byte_of, head_of};
+use super::tokens::{LengthRule, bad_byte, byte_of, head_of, whole};
 use resp_value::{NoMemory, Pairs, Value, Values};
 use std::alloc::Global;
 
@@ -24,7 +24,7 @@ pub enum Kind {
     Push,
 }
 
-/// What a type byte says.
+/// What a type byte says of a value.
 #[derive(Clone, Copy, Debug, Drop)]
 pub enum Mark {
     Simple,
@@ -120,7 +120,7 @@ pub(crate) fn build(alloc: Global, kind: Kind, values: Values) -> Result<Value, 
 }
 
 /// The rest of a number with this many digits so far.
-#[tactic(auto, unfolding(crate::specs::Value::digits_of_at, crate::specs::Tokens::line_feed))]
+#[tactic(auto, unfolding(crate::specs::Value::digits_of_at))]
 fn digits_on(
     most: u64,
     digits: u64,
@@ -140,11 +140,7 @@ fn digits_on(
     'digits: while let [c, after @ ..] = rest {
         let c = *c;
         if c == 13 {
-            return match byte_of(10, after) {
-                Ok(None) => Ok(None),
-                Ok(Some(after)) => Ok(Some((number, after))),
-                Err(e) => Err(e),
-            };
+            return Ok(Some((number, whole!(byte_of(10, after)))));
         }
         if c < 48 || 57 < c {
             return Err(bad_byte(rest));
@@ -166,9 +162,9 @@ fn digits_on(
     Ok(None)
 }
 
-/// The digits behind a sign.
+/// The digits after a sign.
 #[tactic(auto, unfolding(crate::specs::Value::digits_of_at))]
-fn digits_behind(most: u64, bytes: &[u8]) -> Result<Option<(u64, &[u8])>, Broken>
+fn digits_after(most: u64, bytes: &[u8]) -> Result<Option<(u64, &[u8])>, Broken>
     requires least { 9 ≤ most }
     requires most { most < 2 ^ 63 + 1 }
     ensures gives { Gives (λ x. (x.0, x.1.now)) result (digits_of_at most None bytes.now) }
@@ -198,7 +194,7 @@ fn signed(minus: bool, number: u64) -> i64
     -((number - 1) as i64) - 1
 }
 
-/// A number behind its type byte.
+/// A number, after its type byte.
 #[tactic(auto, unfolding(crate::specs::Value::number_at, crate::specs::Value::signed_at))]
 pub(crate) fn number_of(bytes: &[u8]) -> Result<Option<(i64, &[u8])>, Broken>
     ensures { Gives (λ x. (x.0, x.1.now)) result (number_at bytes.now) }
@@ -208,27 +204,18 @@ pub(crate) fn number_of(bytes: &[u8]) -> Result<Option<(i64, &[u8])>, Broken>
     };
     let c = *c;
     if c == b'+' {
-        return match digits_behind(9223372036854775807, rest) {
-            Ok(None) => Ok(None),
-            Ok(Some((number, rest))) => Ok(Some((signed(false, number), rest))),
-            Err(e) => Err(e),
-        };
+        let (number, rest) = whole!(digits_after(9223372036854775807, rest));
+        return Ok(Some((signed(false, number), rest)));
     }
     if c == b'-' {
-        return match digits_behind(9223372036854775808, rest) {
-            Ok(None) => Ok(None),
-            Ok(Some((number, rest))) => Ok(Some((signed(true, number), rest))),
-            Err(e) => Err(e),
-        };
+        let (number, rest) = whole!(digits_after(9223372036854775808, rest));
+        return Ok(Some((signed(true, number), rest)));
     }
     if c < 48 || 57 < c {
         return Err(bad_byte(bytes));
     }
-    match digits_on(9223372036854775807, 1, u64::from(c - 48), rest) {
-        Ok(None) => Ok(None),
-        Ok(Some((number, rest))) => Ok(Some((signed(false, number), rest))),
-        Err(e) => Err(e),
-    }
+    let (number, rest) = whole!(digits_on(9223372036854775807, 1, u64::from(c - 48), rest));
+    Ok(Some((signed(false, number), rest)))
 }
 
 /// The three bytes of a format.

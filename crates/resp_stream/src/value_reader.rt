@@ -4,8 +4,8 @@ ghost use Rattle.resp_stream.specs.Stream.{begun, fed};
 ghost use Rattle.resp_stream.specs.Readers.{ValueGives, NotMemory, IfFault};
 
 use super::fault::{StreamFault, stream_fault};
-use super::rest::Rest;
-use super::stack::{Frame, ValueReading, read_value};
+use super::stack::{Frame, ValueReading, read_value, reset};
+use byte_queue::ByteQueue;
 use resp_value::{NoMemory, Value};
 use std::alloc::Global;
 use std::marker::Model;
@@ -18,7 +18,7 @@ use std::marker::Model;
 pub struct ValueReader {
     alloc: Global,
     before: u64,
-    rest: Rest,
+    rest: ByteQueue,
     at: usize,
     room: u64,
     seen: usize,
@@ -48,7 +48,7 @@ impl ValueReader {
         ValueReader {
             alloc,
             before: 0,
-            rest: Rest::new(alloc),
+            rest: ByteQueue::new(alloc),
             at: 0,
             room: 8,
             seen: 0,
@@ -66,7 +66,7 @@ impl ValueReader {
         if self.broken.is_some() {
             return Ok(());
         }
-        self.rest.append(piece)
+        self.rest.add(piece)
     }
 
     /// The next whole value; nothing where more bytes are needed.
@@ -89,24 +89,30 @@ impl ValueReader {
             Ok(ValueReading::Whole { value, taken }) => {
                 self.before = self.before.saturating_add(taken as u64);
                 self.rest.advance(taken);
-                self.at = 0;
-                self.room = 8;
-                self.seen = 0;
-                self.stack.clear();
+                reset(
+                    &mut self.at,
+                    &mut self.room,
+                    &mut self.seen,
+                    &mut self.stack,
+                );
                 Ok(Some(value))
             }
             Err(_) => {
-                self.at = 0;
-                self.room = 8;
-                self.seen = 0;
-                self.stack.clear();
+                reset(
+                    &mut self.at,
+                    &mut self.room,
+                    &mut self.seen,
+                    &mut self.stack,
+                );
                 Err(StreamFault::NoMemory)
             }
             Ok(ValueReading::Faulty { fault, at }) => {
-                self.at = 0;
-                self.room = 8;
-                self.seen = 0;
-                self.stack.clear();
+                reset(
+                    &mut self.at,
+                    &mut self.room,
+                    &mut self.seen,
+                    &mut self.stack,
+                );
                 let fault = stream_fault(fault, self.before.saturating_add(at as u64));
                 self.broken = Some(fault);
                 Err(fault)

@@ -1,6 +1,8 @@
-//! Reads pipelined requests, pipelined replies and large blobs through both readers, and prints how many it read.
+//! Reads pipelined requests, pipelined replies and large blobs through both readers, and prints how
+//! many it read.
 //!
-//! `stream_bench gets 64` reads 64 MiB of requests; also `gets`, `replies`, `request_blobs`, `reply_blobs`. `all` reads each, and so does no word.
+//! `stream_bench gets 64` reads 64 MiB of requests; also `gets`, `replies`, `request_blobs`,
+//! `reply_blobs`. `all` reads each, and so does no word.
 #![tactic(auto)]
 
 ghost use Rattle.std.specs.Prelude.{◌≡◌, ◌*◌, length, IfOk};

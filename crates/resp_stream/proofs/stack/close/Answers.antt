@@ -15,8 +15,8 @@ open-preserved c = (
   ),
   λ whole text at h.
       close_up whole text at c.open.room c.open.stack.items c.pop.new.self.items c.in-Some.frame
-      (tree_of c.open.value) (tree_of c.in-Ok-build.built) c.push.new.self
-      c.in-Some.ensures.items c.in-Ok.ensures.ok (omega arith) c.in-Ok-build.ensures
+      (tree_of c.open.value) (tree_of c.in_ok-value.value) c.push.new.self
+      c.in-Some.ensures.items c.in_ok-push.ensures.ok (omega arith) c.in_ok-value.ensures
       (c.open.invariant.1 whole text at h),
 )
 
@@ -31,8 +31,8 @@ returns-clause-closes c = λ whole text at h.
       none,
     )
 
-pub returns-in-Ok-push-clause-closes : goal.returns-in-Ok-push-clause-closes
-returns-in-Ok-push-clause-closes c = λ whole text at h.
+pub returns-then-left-gt0-clause-closes : goal.returns-then-left-gt0-clause-closes
+returns-then-left-gt0-clause-closes c = λ whole text at h.
     close_next whole text at c.open.room c.open.stack.items c.pop.new.self.items
     c.push-then-left-gt0.new.self.items c.in-Some.frame
     (record {
@@ -41,5 +41,5 @@ returns-in-Ok-push-clause-closes c = λ whole text at h.
       done =
           c.push.new.self;
     }) (tree_of c.open.value)
-    c.in-Some.ensures.items refl c.in-Ok.ensures.ok (omega arith) c.in-Ok-push.ensures.items
+    c.in-Some.ensures.items refl c.in_ok-push.ensures.ok (omega arith) c.in_ok-push-2.ensures.items
     (c.open.invariant.1 whole text at h)

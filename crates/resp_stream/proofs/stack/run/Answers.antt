@@ -30,17 +30,18 @@ steps-preserved-in-Open c =
         arith,
         n.1,
         c.steps.invariant.0,
-        ap length c.in-Ok.ensures.items,
+        ap length c.in_ok-push_frame-in-Open.ensures,
         length-append c.steps.stack.items
-            ((record { kind = c.in-Open.kind; left = c.in-Open.count - 1; done = c.new.result })
+            ((record { kind = c.in-Open.kind; left = c.in-Open.count - 1; done = [] })
             ∷ []),
       ),
       step_open 8 c.args.text.now c.steps.at c.steps.room (reverse c.steps.stack.items)
           c.steps.invariant.1 c.split_at.result.1.now c.split_at.ensures.back c.in-Ok-Some.step
           c.in-Open.kind c.in-Open.count c.in-Ok-Some.after.now
-          (record { kind = c.in-Open.kind; left = c.in-Open.count - 1; done = c.new.result })
-          c.push.new.self.items c.steps.stack.items h c.in-Open.is refl c.in-Ok.ensures.items
-          refl refl c.new.ensures,
+          (record { kind = c.in-Open.kind; left = c.in-Open.count - 1; done = [] })
+          c.push_frame.new.stack.items c.steps.stack.items h c.in-Open.is refl
+          c.in_ok-push_frame-in-Open.ensures
+          refl refl refl,
       seen_none (drop (length c.args.text.now - length c.in-Ok-Some.after.now) c.args.text.now),
     )
 

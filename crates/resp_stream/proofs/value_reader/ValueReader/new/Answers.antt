@@ -1,6 +1,7 @@
-use Rattle.std.proofs.Common.{None}
+use Rattle.std.proofs.Common.{None, refl}
 use Rattle.resp_stream.proofs.ValueFaults.{fresh}
 use Rattle.resp_stream.proofs.value_reader.ValueReader.new.Goals as goal
 
 pub invariant_of-result : goal.invariant_of-result
-invariant_of-result c = fresh 0 c.new.result c.new-2.result.items None c.new-2.ensures.items tt
+invariant_of-result c =
+    fresh 0 c.new.result 0 8 0 c.new-2.result.items None refl refl refl c.new-2.ensures.items tt

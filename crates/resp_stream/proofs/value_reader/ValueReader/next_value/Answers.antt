@@ -1,4 +1,4 @@
-use Rattle.std.proofs.Common.{sym, subst, Option, true}
+use Rattle.std.proofs.Common.{sym, subst, Option, Some, true}
 use Rattle.std.specs.Prelude.{is_some}
 use Rattle.resp_stream.specs.declared.fault.StreamFault.{StreamFault}
 use Rattle.resp_stream.specs.Stream.{Stream}
@@ -10,24 +10,31 @@ use Rattle.resp_stream.proofs.value_reader.ValueReader.next_value.Goals as goal
 
 pub invariant_of-self-in-Ok-Whole : goal.invariant_of-self-in-Ok-Whole
 invariant_of-self-in-Ok-Whole c =
-    fresh c.saturating_add-self-inside.result c.advance.new.self c.clear.new.self.items
-    c.self.inside.broken c.clear.ensures.items
+    fresh c.saturating_add-self-inside.result c.advance.new.self c.reset.new.at c.reset.new.room
+    c.reset.new.seen c.reset.new.stack.items c.self.inside.broken c.reset.ensures.at
+    c.reset.ensures.room c.reset.ensures.seen c.reset.ensures.stack
     (subst (λ (b : Option StreamFault).
     Kept value_at (λ b. b) c.saturating_add-self-inside.result c.advance.new.self b)
     (sym c.in_default.is) tt)
 
 pub invariant_of-self-in-Err : goal.invariant_of-self-in-Err
 invariant_of-self-in-Err c =
-    fresh c.self.inside.before c.self.inside.rest c.clear-in-Err.new.self.items c.self.inside.broken
-    c.clear-in-Err.ensures.items c.self.invariant.kept
+    fresh c.self.inside.before c.self.inside.rest c.reset-in-Err.new.at c.reset-in-Err.new.room
+    c.reset-in-Err.new.seen c.reset-in-Err.new.stack.items c.self.inside.broken
+    c.reset-in-Err.ensures.at c.reset-in-Err.ensures.room c.reset-in-Err.ensures.seen
+    c.reset-in-Err.ensures.stack c.self.invariant.kept
 
 pub invariant_of-self-in-Ok-Faulty : goal.invariant_of-self-in-Ok-Faulty
 invariant_of-self-in-Ok-Faulty c =
-    keeps c.self.inside.before c.as_slice.result.now c.self.inside.rest c.in-Ok-Faulty.at
+    fresh c.self.inside.before c.self.inside.rest c.reset-in-Ok-Faulty.new.at
+    c.reset-in-Ok-Faulty.new.room c.reset-in-Ok-Faulty.new.seen
+    c.reset-in-Ok-Faulty.new.stack.items (Some c.stream_fault-fault.result)
+    c.reset-in-Ok-Faulty.ensures.at c.reset-in-Ok-Faulty.ensures.room
+    c.reset-in-Ok-Faulty.ensures.seen c.reset-in-Ok-Faulty.ensures.stack
+    (keeps c.self.inside.before c.as_slice.result.now c.self.inside.rest c.in-Ok-Faulty.at
     c.saturating_add.result c.in-Ok-Faulty.fault c.stream_fault-fault.result c.as_slice.ensures
     (rw c.in-Ok-Faulty.field-0-is at c.in-Ok-Faulty.ensures.gives) c.saturating_add.ensures
-    c.stream_fault-fault.ensures c.clear-in-Ok-Faulty.new.self.items
-    c.clear-in-Ok-Faulty.ensures.items
+    c.stream_fault-fault.ensures)
 
 pub returns-in-Ok-Faulty-clause-gives : goal.returns-in-Ok-Faulty-clause-gives
 returns-in-Ok-Faulty-clause-gives c =
