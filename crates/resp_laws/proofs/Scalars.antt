@@ -31,7 +31,7 @@ nothing_behind [] = refl
 nothing_behind (x ∷ p) = ap (λ (q : List ℕ). x ∷ q) (nothing_behind p)
 
 line_end : (p r : List ℕ) → scan (line_move false line_limit) p (13 ∷ 10 ∷ r) ≡ Whole p r
-unfolding line_feed only_byte
+unfolding only_byte
 line_end p r = refl
 
 line_rest : (t p r : List ℕ) → length p + length t ≤ line_limit → IsPlain t
@@ -100,7 +100,7 @@ module _ (most : ℕ) where
 
   number_end : (s : Made) (r : List ℕ)
       → scan (number_move most) (Some s) (13 ∷ 10 ∷ r) ≡ Whole s.made r
-  unfolding line_feed only_byte
+  unfolding only_byte
   number_end s r = refl
 
   number_rest : (n : ℕ) (ds r : List ℕ) (s : Made) → n ≤ most → s.count + length ds ≤ 19

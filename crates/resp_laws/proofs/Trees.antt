@@ -104,33 +104,33 @@ list_parts mark n body r = append_assoc (head mark n) body r ∙ head_parts mark
 -- ---- what is always the same
 
 true_only : (r : List ℕ) → truth_at (116 ∷ 13 ∷ 10 ∷ r) ≡ Whole (boolean true) r
-unfolding truth_at ending line_feed only_byte
+unfolding truth_at only_byte
 true_only r = refl
 
 false_only : (r : List ℕ) → truth_at (102 ∷ 13 ∷ 10 ∷ r) ≡ Whole (boolean false) r
-unfolding truth_at ending line_feed only_byte
+unfolding truth_at only_byte
 false_only r = refl
 
 one_only : (r : List ℕ) → whole_number_at (49 ∷ 13 ∷ 10 ∷ r) ≡ Whole (number (pos 1)) r
-unfolding whole_number_at number_at signed_at digits_of_at line_feed only_byte
+unfolding whole_number_at number_at signed_at digits_of_at only_byte
 one_only r = refl
 
 nought_only : (r : List ℕ) → whole_number_at (48 ∷ 13 ∷ 10 ∷ r) ≡ Whole (number (pos 0)) r
-unfolding whole_number_at number_at signed_at digits_of_at line_feed only_byte
+unfolding whole_number_at number_at signed_at digits_of_at only_byte
 nought_only r = refl
 
 null_only : (r : List ℕ) → ending null (13 ∷ 10 ∷ r) ≡ Whole null r
-unfolding ending line_feed only_byte
+unfolding only_byte
 null_only r = refl
 
 minus_only : (r : List ℕ)
     → blob_at (blob_tree false) blob_rule (45 ∷ 49 ∷ 13 ∷ 10 ∷ r) ≡ Whole null r
-unfolding blob_at length_at minus_one ending line_feed only_byte
+unfolding blob_at length_at minus_one only_byte
 minus_only r = refl
 
 minus_array : (d : ℕ) (r : List ℕ)
     → aggregate_at Array (value_in d) (45 ∷ 49 ∷ 13 ∷ 10 ∷ r) ≡ Whole null_array r
-unfolding aggregate_at length_at minus_one ending line_feed only_byte
+unfolding aggregate_at length_at minus_one only_byte
 minus_array d r = refl
 
 -- ---- aggregates

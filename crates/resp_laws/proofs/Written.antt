@@ -82,7 +82,7 @@ module _ (rule : LengthRule) where
 
   digits_end : (n : ℕ) (r : List ℕ) → rule.least ≤ n
       → scan (digit_move rule) n (13 ∷ 10 ∷ r) ≡ Whole (Some n) r
-  unfolding line_feed only_byte
+  unfolding only_byte
   digits_end n r le =
       ap (λ t. taken (cond t (Stop BadByte) (Go (line_feed (Some n)))) 13 (10 ∷ r))
       (le-ltb n rule.least le)
@@ -113,7 +113,7 @@ module _ (rule : LengthRule) where
       (le-ltb rule.limit (c - 48) le i)
 
   zero_only : (r : List ℕ) → rule.least ≤ 0 → length_at rule (48 ∷ 13 ∷ 10 ∷ r) ≡ Whole (Some 0) r
-  unfolding length_at ending line_feed only_byte
+  unfolding length_at only_byte
   zero_only r le =
       ap (λ t. taken (cond t (Stop BadByte) (Go (ending (Some 0)))) 48 (13 ∷ 10 ∷ r))
       (le-ltb 0 rule.least le)
@@ -138,7 +138,7 @@ module _ (rule : LengthRule) where
 -- ---- a word is read
 
 pub end_only : (t r : List ℕ) → ending t (13 ∷ 10 ∷ r) ≡ Whole t r
-unfolding ending line_feed only_byte
+unfolding only_byte
 end_only t r = refl
 
 pub counted_only : (w r : List ℕ) → counted_at (length w) (w ++ 13 ∷ 10 ∷ r) ≡ Whole w r

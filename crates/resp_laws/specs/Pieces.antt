@@ -52,7 +52,7 @@ items_answered view [] = []
 items_answered view (Fed piece ∷ calls) = items_answered view calls
 items_answered view (Answered result ∷ calls) = item_of view result ++ items_answered view calls
 
--- What is answered is at the front of what stands in all bytes, however they are cut.
+-- What is answered is a prefix of what all bytes hold, however they are cut.
 abbrev pub OnlyRequests : Type 0
 OnlyRequests = (calls : List (ReaderCall Words)) → AreCalls RequestGives begun calls
     → IsPrefix (items_answered (λ ws. ws) calls) (requests_of (bytes_fed calls))

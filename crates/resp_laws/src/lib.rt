@@ -33,8 +33,8 @@ pub fn law_pieces_give_the_values_of_the_whole()
     ensures { ValuesJoin }
 {}
 
-/// Whatever is fed and asked, a reader of requests answers in turn what stands in the bytes, and
-/// nothing else.
+/// Whatever is fed and asked, a reader of requests answers in turn what the bytes hold, and nothing
+/// else.
 pub fn law_only_requests_are_answered()
     ensures { OnlyRequests }
 {}
@@ -55,7 +55,7 @@ pub fn law_what_is_unfinished_can_be_finished()
     ensures values { Unfinished (value_in 8) }
 {}
 
-/// A fault stands at the first byte that no later bytes can mend.
+/// A fault is at the first byte that no later bytes can mend.
 pub fn law_a_fault_is_the_first_byte_past_mending()
     ensures requests { FirstFault request_begun }
     ensures values { FirstFault (value_in 8) }

@@ -6,13 +6,13 @@ use Rattle.resp_stream.specs.declared.fault.Fault.{Fault}
 use Rattle.resp_stream.specs.declared.fault.Fault.TheVariants.{BadByte}
 use Rattle.resp_stream.specs.declared.value.Kind.{Kind}
 use Rattle.resp_stream.specs.declared.value.Kind.TheVariants.{Array, Map, Set, Push}
-use Rattle.resp_stream.specs.declared.value.Mark.{Mark}
-use Rattle.resp_stream.specs.declared.value.Mark.TheVariants as mark
+use Rattle.resp_stream.specs.declared.value.TypeByte.{TypeByte}
+use Rattle.resp_stream.specs.declared.value.TypeByte.TheVariants as mark
 use Rattle.resp_value.specs.Tree.{Tree, null_array}
 use Rattle.resp_stream.specs.Parsed.{Whole, More, Bad, Go, Stop, taken, ◌>>=◌}
 use Rattle.resp_stream.specs.Tokens.{length_at, many}
 use Rattle.resp_stream.specs.Value.{rule_of, elements, build, elements_at, aggregate_at, may_stand}
-use Rattle.resp_stream.specs.Value.{mark_of, choice_of, too_deep, deeper, opening, value_in}
+use Rattle.resp_stream.specs.Value.{type_byte_of, choice_of, too_deep, deeper, opening, value_in}
 use Rattle.resp_stream.specs.ValueSteps.{Opened}
 use Rattle.resp_stream.proofs.Readers.{reader_length}
 use Rattle.resp_stream.proofs.ValueLaws.{rule_ok}
@@ -20,7 +20,7 @@ use Rattle.resp_stream.proofs.Places.{steady}
 
 -- ---- where nothing opens
 
-none_by : (d c : ℕ) (b : List ℕ) (m : Mark) → opening (suc d) m ≡ None
+none_by : (d c : ℕ) (b : List ℕ) (m : TypeByte) → opening (suc d) m ≡ None
     → taken (choice_of (deeper (nat_eq (suc d) 8) (value_in d)) m c) c b
     ≡ taken (choice_of too_deep m c) c b
 none_by d c b mark.Simple e = refl
@@ -35,13 +35,13 @@ none_by d c b (mark.Aggregate kind) e = absurd cc
 none_by d c b mark.NotServed e = refl
 none_by d c b mark.Wrong e = refl
 
-pub leaf_here : (room c : ℕ) (text b : List ℕ) → text ≡ c ∷ b → opening room (mark_of c) ≡ None
-    → value_in room text ≡ taken (choice_of too_deep (mark_of c) c) c b
+pub leaf_here : (room c : ℕ) (text b : List ℕ) → text ≡ c ∷ b → opening room (type_byte_of c) ≡ None
+    → value_in room text ≡ taken (choice_of too_deep (type_byte_of c) c) c b
 unfolding value_in
 leaf_here zero c text b h e = ap (λ q. value_in 0 q) h
-leaf_here (suc d) c text b h e = ap (λ q. value_in (suc d) q) h ∙ none_by d c b (mark_of c) e
+leaf_here (suc d) c text b h e = ap (λ q. value_in (suc d) q) h ∙ none_by d c b (type_byte_of c) e
 
-opens_by : (d : ℕ) (kind : Kind) (m : Mark) → opening (suc d) m ≡ Some kind
+opens_by : (d : ℕ) (kind : Kind) (m : TypeByte) → opening (suc d) m ≡ Some kind
     → m ≡ mark.Aggregate kind
 opens_by d kind mark.Simple e = absurd cc
 opens_by d kind mark.Error e = absurd cc
@@ -55,7 +55,7 @@ opens_by d kind (mark.Aggregate k) e = cc
 opens_by d kind mark.NotServed e = absurd cc
 opens_by d kind mark.Wrong e = absurd cc
 
-pub opens_here : (room : ℕ) (kind : Kind) (m : Mark) → opening room m ≡ Some kind
+pub opens_here : (room : ℕ) (kind : Kind) (m : TypeByte) → opening room m ≡ Some kind
     → (m ≡ mark.Aggregate kind) × (0 < room)
 opens_here zero kind m e = absurd cc
 opens_here (suc d) kind m e = (opens_by d kind m e, omega arith)
@@ -75,7 +75,7 @@ some_of Set n h = h
 some_of Push n h = h
 
 module _ (room c : ℕ) (text b : List ℕ) (kind : Kind) (head : text ≡ c ∷ b)
-    (is : mark_of c ≡ mark.Aggregate kind) (some : 0 < room) where
+    (is : type_byte_of c ≡ mark.Aggregate kind) (some : 0 < room) where
   one : room ≡ suc (room - 1)
   one = omega arith
 

@@ -1,12 +1,11 @@
 -- The requests and the values of a stream, one at a time and in pieces.
-use Rattle.std.proofs.Common.{◌≡◌, ℕ, zero, suc, ◌+◌, ◌-◌, ◌<◌, ◌≤◌, List, [], ◌∷◌, ◌++◌, refl, sym}
+use Rattle.std.proofs.Common.{◌≡◌, ℕ, zero, suc, ◌-◌, ◌<◌, ◌≤◌, List, [], ◌∷◌, ◌++◌, refl, sym}
 use Rattle.std.proofs.Common.{ap}
 use Rattle.std.proofs.Common.{◌∙◌, true, false, length, arith, Some, None}
-use Rattle.std.proofs.lemmas.List.{length-append}
 use Rattle.resp_value.specs.Tree.{Tree}
 use Rattle.resp_stream.specs.declared.fault.Fault.{Fault}
 use Rattle.resp_stream.specs.Parsed.{Parsed, Whole, More, Bad}
-use Rattle.resp_stream.specs.Parse.{Batch, batch, parse, parse_values}
+use Rattle.resp_stream.specs.Parse.{parse, parse_values}
 use Rattle.resp_stream.specs.Readers.{skipped}
 use Rattle.resp_stream.specs.Request.{whole_limit, request_begun, request_at, skip_by}
 use Rattle.resp_stream.specs.Request.{skip_empty_in}

@@ -27,18 +27,16 @@ reader_only b =
     (reader_whole tt)
 
 pub reader_feed : {A : Type 0} (x : A) → IsReader (line_feed x)
-unfolding line_feed
 reader_feed x = reader_then (only_byte 10) (λ u r. Whole x r) (reader_only 10) (λ u. reader_whole x)
 
 pub reader_ending : {A : Type 0} (x : A) → IsReader (ending x)
-unfolding ending
 reader_ending x =
     reader_then (only_byte 13) (λ u r. line_feed x r) (reader_only 13) (λ u. reader_feed x)
 
 -- ---- lines
 
 line_way : (inline : Bool) (limit : ℕ) (t : List ℕ) → Completes (scan (line_move inline limit) t) []
-unfolding line_feed only_byte
+unfolding only_byte
 line_way inline limit t = (13 ∷ 10 ∷ [], t, refl)
 
 pub line_choices : (inline : Bool) (limit : ℕ) (t : List ℕ) (c : ℕ)
@@ -61,7 +59,7 @@ reader_line inline limit = reader_text inline limit []
 
 module _ (rule : LengthRule) (ok : IsRule rule) where
   enough : (n : ℕ) → rule.least ≤ n → Completes (scan (digit_move rule) n) []
-  unfolding line_feed only_byte
+  unfolding only_byte
   enough n le = (
     13 ∷ 10 ∷ [],
     Some n,

@@ -11,7 +11,7 @@ use Rattle.resp_stream.specs.Readers.{IsFaultOf, FaultGives, NotMemory, skipped}
 use Rattle.resp_stream.specs.ReaderStates.{Kept, RequestState}
 use Rattle.resp_stream.specs.Request.{line_limit, request_at, skip_empty}
 use Rattle.resp_stream.specs.RequestSteps.{IsPast, IsProgress}
-use Rattle.resp_stream.specs.Stream.{Stream, offset_by, stream_fault}
+use Rattle.resp_stream.specs.Stream.{offset_by, stream_fault}
 use Rattle.resp_stream.proofs.Line.{passed_none}
 use Rattle.resp_stream.proofs.ReaderFaults.{fault_by, not_memory}
 use Rattle.resp_stream.proofs.Skipping.{skip_bad}

@@ -8,52 +8,54 @@ use Rattle.std.proofs.lemmas.List.{length-drop}
 use Rattle.resp_stream.specs.declared.fault.Fault.{Fault}
 use Rattle.resp_stream.specs.declared.fault.StreamFault.{StreamFault}
 use Rattle.resp_stream.specs.declared.stack.Frame.{Frame}
+use Rattle.resp_stream.specs.declared.stack.ValueProgress.{ValueProgress}
 use Rattle.resp_stream.specs.Parsed.{Bad}
 use Rattle.resp_stream.specs.Readers.{IsFaultOf, FaultGives, NotMemory}
 use Rattle.resp_stream.specs.ReaderStates.{IsKept, Kept, ValueState}
 use Rattle.resp_stream.specs.Value.{value_at}
-use Rattle.resp_stream.specs.Stream.{Stream, offset_by, stream_fault}
+use Rattle.resp_stream.specs.ValueSteps.{IsStack, LineSeen}
+use Rattle.resp_stream.specs.Stream.{offset_by, stream_fault}
 use Rattle.resp_stream.proofs.ReaderFaults.{fault_by, not_memory}
 use Rattle.resp_stream.proofs.StackSteps.{begin, grow, seen_none, seen_grows}
 
-pub fresh : (before : ℕ) (rest : List ℕ) (at room seen : ℕ) (frames : List Frame)
-    (broken : Option StreamFault) → at ≡ 0 → room ≡ 8 → seen ≡ 0 → frames ≡ []
-    → Kept value_at (λ b. b) before rest broken → ValueState before rest at room seen frames broken
-fresh before rest at room seen frames broken a r l f k =
-    subst (λ (n : ℕ). ValueState before rest n room seen frames broken) (sym a)
-    (subst (λ (n : ℕ). ValueState before rest 0 n seen frames broken) (sym r)
-    (subst (λ (n : ℕ). ValueState before rest 0 8 n frames broken) (sym l)
-    (subst (λ (fs : List Frame). ValueState before rest 0 8 0 fs broken) (sym f)
-    (record { levels = refl; stack = begin 8 rest; line = seen_none rest; kept = k }))))
+pub fresh : (before : ℕ) (rest : List ℕ) (p : ValueProgress) (broken : Option StreamFault)
+    → p.at ≡ 0
+    → p.room ≡ 8 → p.seen ≡ 0 → p.stack.items ≡ [] → Kept value_at (λ b. b) before rest broken
+    → ValueState before rest p broken
+fresh before rest p broken a r l f k = record {
+  levels = omega (arith, ap length f);
+  stack =
+      subst (λ (n : ℕ). IsStack 8 rest n p.room (reverse p.stack.items)) (sym a)
+      (subst (λ (n : ℕ). IsStack 8 rest 0 n (reverse p.stack.items)) (sym r)
+      (subst (λ (fs : List Frame). IsStack 8 rest 0 8 (reverse fs)) (sym f) (begin 8 rest)));
+  line =
+      subst (λ (n : ℕ). LineSeen (drop n rest) p.seen) (sym a)
+      (subst (λ (n : ℕ). LineSeen rest n) (sym l) (seen_none rest));
+  kept = k;
+}
 
-pub more_fed : (before : ℕ) (rest new piece : List ℕ) (at room seen : ℕ) (frames : List Frame)
-    (broken : Option StreamFault) → new ≡ rest ++ piece → broken ≡ None
-    → ValueState before rest at room seen frames broken
-    → ValueState before new at room seen frames broken
-more_fed before rest new piece at room seen frames broken e n h =
-    subst (λ (q : List ℕ). ValueState before q at room seen frames broken) (sym e) (record {
+-- with a piece more, or with none
+fed_more : (before : ℕ) (rest new piece : List ℕ) (p : ValueProgress) (broken : Option StreamFault)
+    → new ≡ rest ++ piece → broken ≡ None → ValueState before rest p broken
+    → ValueState before new p broken
+fed_more before rest new piece p broken e n h =
+    subst (λ (q : List ℕ). ValueState before q p broken) (sym e) (record {
       levels = h.levels;
-      stack = grow 8 rest piece at room (reverse frames) h.stack;
-      line = seen_grows rest piece at seen h.stack.within h.line;
-      kept = subst (λ (b : Option StreamFault). Kept value_at (λ b. b) before (rest ++ piece) b)
-          (sym n) tt;
+      stack = grow 8 rest piece p.at p.room (reverse p.stack.items) h.stack;
+      line = seen_grows rest piece p.at p.seen h.stack.within h.line;
+      kept =
+          subst (λ (b : Option StreamFault). Kept value_at (λ b. b) before (rest ++ piece) b)
+          (sym n)
+          tt;
     })
 
-pub same_fed : (before : ℕ) (rest new : List ℕ) (at room seen : ℕ) (frames : List Frame)
-    (broken : Option StreamFault) → new ≡ rest → ValueState before rest at room seen frames broken
-    → ValueState before new at room seen frames broken
-same_fed before rest new at room seen frames broken e h =
-    subst (λ (q : List ℕ). ValueState before q at room seen frames broken) (sym e) h
-
-pub fed_by : (before : ℕ) (rest new piece : List ℕ) (at room seen : ℕ) (frames : List Frame)
-    (broken : Option StreamFault) (r : Result (Unit {0}) NoMemory) → OnOk r (new ≡ rest ++ piece)
-    → OnErr r (new ≡ rest)
-    → broken ≡ None → ValueState before rest at room seen frames broken
-    → ValueState before new at room seen frames broken
-fed_by before rest new piece at room seen frames broken (Ok u) e f n h =
-    more_fed before rest new piece at room seen frames broken e n h
-fed_by before rest new piece at room seen frames broken (Err u) e f n h =
-    same_fed before rest new at room seen frames broken f h
+pub fed_by : (before : ℕ) (rest new piece : List ℕ) (p : ValueProgress)
+    (broken : Option StreamFault)
+    (r : Result (Unit {0}) NoMemory) → OnOk r (new ≡ rest ++ piece) → OnErr r (new ≡ rest)
+    → broken ≡ None → ValueState before rest p broken → ValueState before new p broken
+fed_by before rest new piece p broken (Ok u) e f n h = fed_more before rest new piece p broken e n h
+fed_by before rest new piece p broken (Err u) e f n h =
+    subst (λ (q : List ℕ). ValueState before q p broken) (sym f) h
 
 pub none_is : (broken : Option StreamFault) → is_some broken ≡ false → broken ≡ None
 none_is None e = refl

@@ -5,14 +5,14 @@ use Rattle.std.specs.Prelude.{nat_lt, nat_eq}
 use Rattle.resp_stream.specs.declared.fault.Fault.TheVariants.{BadByte}
 use Rattle.resp_stream.specs.declared.value.Kind.{Kind}
 use Rattle.resp_stream.specs.declared.value.Kind.TheVariants.{Array, Map, Set, Push}
-use Rattle.resp_stream.specs.declared.value.Mark.{Mark}
-use Rattle.resp_stream.specs.declared.value.Mark.TheVariants as mark
-use Rattle.resp_value.specs.Tree.{Tree, simple, error, number, blob, verbatim, blob_error, boolean}
+use Rattle.resp_stream.specs.declared.value.TypeByte.{TypeByte}
+use Rattle.resp_stream.specs.declared.value.TypeByte.TheVariants as mark
+use Rattle.resp_value.specs.Tree.{Tree, number, verbatim, boolean}
 use Rattle.resp_value.specs.Tree.{null, null_array}
 use Rattle.resp_stream.specs.Parsed.{Parsed, Whole, More, Choice, Go, Stop, scan, first, ◌>>=◌}
 use Rattle.resp_stream.specs.ReaderLaws.{Completes, IsReader}
 use Rattle.resp_stream.specs.declared.tokens.LengthRule.{LengthRule}
-use Rattle.resp_stream.specs.Tokens.{IsRule, only_byte, line_feed, ending, length_at, counted_at}
+use Rattle.resp_stream.specs.Tokens.{IsRule, only_byte, ending, length_at, counted_at}
 use Rattle.resp_stream.specs.Tokens.{many, line_at}
 use Rattle.resp_stream.specs.Request.{line_limit}
 use Rattle.resp_stream.specs.Value.{blob_rule, verbatim_rule, blob_error_rule, rule_of, Digits}
@@ -20,7 +20,7 @@ use Rattle.resp_stream.specs.Value.{number_move, digits_of_at, signed, greatest,
 use Rattle.resp_stream.specs.Value.{number_by, number_at, sized_blob, blob_at, line_tree, blob_tree}
 use Rattle.resp_stream.specs.Value.{format_at, formatted_at, sized_text, verbatim_at}
 use Rattle.resp_stream.specs.Value.{truth_at, text_at, whole_number_at, elements, build}
-use Rattle.resp_stream.specs.Value.{elements_at, aggregate_at, may_stand, mark_of, choice_of}
+use Rattle.resp_stream.specs.Value.{elements_at, aggregate_at, may_stand, type_byte_of, choice_of}
 use Rattle.resp_stream.specs.Value.{too_deep, deeper, value_in}
 use Rattle.resp_stream.proofs.Compose.{reader_then, reader_whole, reader_scan, reader_first}
 use Rattle.resp_stream.proofs.Compose.{IsChoice, IsMove, choice_if, move_if}
@@ -54,7 +54,7 @@ number_moves most (Some s) c =
     tt)))
 
 number_way : (most : ℕ) (s : Option Digits) → Completes (scan (number_move most) s) []
-unfolding line_feed only_byte
+unfolding only_byte
 number_way most None = (48 ∷ 13 ∷ 10 ∷ [], 0, refl)
 number_way most (Some s) = (13 ∷ 10 ∷ [], s.made, refl)
 
@@ -162,7 +162,7 @@ reader_aggregate kind read l =
     (reader_length (rule_of kind) (rule_ok kind)) (reader_elements kind read l)
 
 choices : (aggregate : Kind → Choice Tree) → ((kind : Kind) → IsChoice (aggregate kind))
-    → (m : Mark) (c : ℕ) → IsChoice (choice_of aggregate m c)
+    → (m : TypeByte) (c : ℕ) → IsChoice (choice_of aggregate m c)
 choices aggregate l mark.Simple c = reader_text (line_tree false)
 choices aggregate l mark.Error c = reader_text (line_tree true)
 choices aggregate l mark.Number c = reader_whole_number
@@ -180,14 +180,14 @@ choices aggregate l mark.Wrong c = tt
 pub reader_value : (d : ℕ) → IsReader (value_in d)
 unfolding value_in
 reader_value zero =
-    reader_first (λ c. choice_of too_deep (mark_of c) c)
-    (λ c. choices too_deep (λ kind. tt) (mark_of c) c) 43 (text_at (line_tree false)) refl
+    reader_first (λ c. choice_of too_deep (type_byte_of c) c)
+    (λ c. choices too_deep (λ kind. tt) (type_byte_of c) c) 43 (text_at (line_tree false)) refl
     (reader_text (line_tree false))
 reader_value (suc d) =
-    reader_first (λ c. choice_of (deeper (nat_eq (suc d) 8) (value_in d)) (mark_of c) c)
+    reader_first (λ c. choice_of (deeper (nat_eq (suc d) 8) (value_in d)) (type_byte_of c) c)
     (λ c. choices (deeper (nat_eq (suc d) 8) (value_in d))
     (λ kind. choice_if (may_stand (nat_eq (suc d) 8) kind) (Go (aggregate_at kind (value_in d)))
-    (Stop BadByte) (reader_aggregate kind (value_in d) (reader_value d)) tt) (mark_of c) c)
+    (Stop BadByte) (reader_aggregate kind (value_in d) (reader_value d)) tt) (type_byte_of c) c)
     43 (text_at (line_tree false)) refl (reader_text (line_tree false))
 
 pub no_value : (d : ℕ) → value_in d [] ≡ More

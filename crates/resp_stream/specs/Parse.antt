@@ -1,5 +1,5 @@
--- What stands in a stream, one after another, with what is left and the fault that stops it.
-use Rattle.std.specs.Prelude.{◌≡◌, ℕ, zero, suc, ◌+◌, ◌-◌, List, [], ◌∷◌, length, true}
+-- The values or requests of a stream, with what is left and the fault that stops them.
+use Rattle.std.specs.Prelude.{ℕ, zero, suc, ◌+◌, ◌-◌, List, [], ◌∷◌, length, true}
 use Rattle.std.specs.Prelude.{Option, Some, None}
 use Rattle.resp_value.specs.Tree.{Tree}
 use Rattle.resp_stream.specs.declared.fault.StreamFault.{StreamFault}
@@ -14,7 +14,7 @@ pub record Batch (A : Type 0) : Type 0 where
   pub stream : Stream
   pub fault : Option StreamFault
 
--- by what stands at the front of s
+-- by what s begins with
 abbrev pub batch_by : {A : Type 0} → Stream → Parsed A → (List ℕ → Batch A) → Batch A
 batch_by s (Whole x r) more =
     record { items = x ∷ (more r).items; stream = (more r).stream; fault = (more r).fault }

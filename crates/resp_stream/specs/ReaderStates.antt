@@ -2,14 +2,13 @@
 use Rattle.std.specs.Prelude.{◌≡◌, ◌+◌, ℕ, List, length, drop, reverse, true, Option, Some, None}
 use Rattle.resp_stream.specs.declared.fault.StreamFault.{StreamFault}
 use Rattle.resp_stream.specs.declared.request.Progress.{Progress}
-use Rattle.resp_stream.specs.declared.stack.Frame.{Frame}
+use Rattle.resp_stream.specs.declared.stack.ValueProgress.{ValueProgress}
 use Rattle.resp_stream.specs.Parsed.{Parsed}
 use Rattle.resp_stream.specs.Request.{request_at, skip_empty}
 use Rattle.resp_stream.specs.RequestSteps.{IsProgress}
 use Rattle.resp_stream.specs.Value.{value_at}
 use Rattle.resp_stream.specs.ValueSteps.{IsStack, LineSeen}
 use Rattle.resp_stream.specs.Readers.{IsFaultOf, NotMemory}
-use Rattle.resp_stream.specs.Stream.{Stream}
 
 -- a fault that was answered is that of the rest, where nothing is passed over
 pub record IsKept {A : Type 0} (read : List ℕ → Parsed A) (past : List ℕ → List ℕ) (before : ℕ)
@@ -28,9 +27,10 @@ pub record RequestState (before : ℕ) (rest : List ℕ) (progress : Progress)
   pub is_progress : IsProgress rest progress
   pub kept : Kept request_at skip_empty before rest broken
 
-pub record ValueState (before : ℕ) (rest : List ℕ) (at room seen : ℕ) (frames : List Frame)
-    (broken : Option StreamFault) : Type 0 where
-  pub levels : room + length frames ≡ 8
-  pub stack : IsStack 8 rest at room (reverse frames)
-  pub line : LineSeen (drop at rest) seen
+pub record ValueState (before : ℕ) (rest : List ℕ) (p : ValueProgress)
+    (broken : Option StreamFault) :
+    Type 0 where
+  pub levels : p.room + length p.stack.items ≡ 8
+  pub stack : IsStack 8 rest p.at p.room (reverse p.stack.items)
+  pub line : LineSeen (drop p.at rest) p.seen
   pub kept : Kept value_at (λ b. b) before rest broken

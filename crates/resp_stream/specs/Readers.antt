@@ -1,6 +1,5 @@
 -- What the readers of requests and of values answer of a stream.
 use Rattle.std.specs.Prelude.{◌≡◌, ◌-◌, ℕ, List, length, true, Option, Some, None, Result, Ok, Err}
-use Rattle.resp_value.specs.Tree.{Tree}
 use Rattle.resp_value.specs.ValueTree.{tree_of}
 use Rattle.resp_value.specs.declared.octets.Words.{Words}
 use Rattle.resp_value.specs.declared.value.Value.{Value}

@@ -78,7 +78,6 @@ unfoldable pub skip_empty_in : ℕ → List ℕ → List ℕ
 skip_empty_in zero b = b
 skip_empty_in (suc n) b = skip_by b (request_at b) (λ r. skip_empty_in n r)
 
--- What stands behind the empty requests at the front of a text: there are no more of them than
--- bytes.
+-- What follows the empty requests at the front of a text. There are no more of them than bytes.
 unfoldable pub skip_empty : List ℕ → List ℕ
 skip_empty b = skip_empty_in (length b) b

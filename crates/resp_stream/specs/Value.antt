@@ -6,8 +6,8 @@ use Rattle.resp_stream.specs.declared.fault.Fault.TheVariants as fault
 use Rattle.resp_stream.specs.declared.tokens.LengthRule.{LengthRule}
 use Rattle.resp_stream.specs.declared.value.Kind.{Kind}
 use Rattle.resp_stream.specs.declared.value.Kind.TheVariants.{Array, Map, Set, Push}
-use Rattle.resp_stream.specs.declared.value.Mark.{Mark}
-use Rattle.resp_stream.specs.declared.value.Mark.TheVariants as mark
+use Rattle.resp_stream.specs.declared.value.TypeByte.{TypeByte}
+use Rattle.resp_stream.specs.declared.value.TypeByte.TheVariants as mark
 use Rattle.resp_value.specs.Tree.{Tree, simple, error, number, blob, verbatim, blob_error, boolean}
 use Rattle.resp_value.specs.Tree.{null, null_array, array, mapping, set, push, trees_of, rows_of}
 use Rattle.resp_value.specs.Tree.{in_turn}
@@ -155,7 +155,7 @@ elements_at kind read (Some n) b = many read (elements kind n) b >>= λ ts s. Wh
 unfoldable pub aggregate_at : Kind → (List ℕ → Parsed Tree) → List ℕ → Parsed Tree
 aggregate_at kind read b = length_at (rule_of kind) b >>= elements_at kind read
 
--- a push stands at the top alone
+-- a push is at the top alone
 abbrev pub may_stand : Bool → Kind → Bool
 may_stand top Array = true
 may_stand top Map = true
@@ -164,8 +164,8 @@ may_stand top Push = top
 
 -- ---- values
 
-abbrev pub mark_of : ℕ → Mark
-mark_of c =
+abbrev pub type_byte_of : ℕ → TypeByte
+type_byte_of c =
     cond (nat_eq c 43) mark.Simple
     (cond (nat_eq c 45) mark.Error
     (cond (nat_eq c 58) mark.Number
@@ -181,7 +181,7 @@ mark_of c =
     (cond (nat_eq c 44 || nat_eq c 40 || nat_eq c 124) mark.NotServed mark.Wrong))))))))))))
 
 -- what a type byte leads to, where `aggregate` is what an aggregate leads to
-abbrev pub choice_of : (Kind → Choice Tree) → Mark → ℕ → Choice Tree
+abbrev pub choice_of : (Kind → Choice Tree) → TypeByte → ℕ → Choice Tree
 choice_of aggregate mark.Simple c = Go (text_at (line_tree false))
 choice_of aggregate mark.Error c = Go (text_at (line_tree true))
 choice_of aggregate mark.Number c = Go whole_number_at
@@ -202,14 +202,15 @@ deeper top read kind = cond (may_stand top kind) (Go (aggregate_at kind read)) (
 
 -- A value in which aggregates stand at most d deep; the whole has eight.
 unfoldable pub value_in : ℕ → List ℕ → Parsed Tree
-value_in zero = first (λ c. choice_of too_deep (mark_of c) c)
-value_in (suc d) = first (λ c. choice_of (deeper (nat_eq (suc d) 8) (value_in d)) (mark_of c) c)
+value_in zero = first (λ c. choice_of too_deep (type_byte_of c) c)
+value_in (suc d) =
+    first (λ c. choice_of (deeper (nat_eq (suc d) 8) (value_in d)) (type_byte_of c) c)
 
 unfoldable pub value_at : List ℕ → Parsed Tree
 value_at b = capped whole_limit b (value_in 8 b)
 
 -- an aggregate that opens, where there is room
-abbrev pub opening : ℕ → Mark → Option Kind
+abbrev pub opening : ℕ → TypeByte → Option Kind
 opening zero m = None
 opening (suc d) (mark.Aggregate kind) = Some kind
 opening (suc d) m = None

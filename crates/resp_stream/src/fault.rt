@@ -15,9 +15,9 @@ pub enum StreamFault {
     /// This byte makes a length, a line or the whole longer than its limit; the number is the
     /// length so far.
     TooLong { offset: u64, number: u64 },
-    /// An aggregate stands here inside of eight others.
+    /// An aggregate begins here inside of eight others.
     TooDeep { offset: u64 },
-    /// A kind of value or length that is not served stands here.
+    /// A kind of value or length that is not served begins here.
     NotServed { offset: u64, byte: u8 },
     NoMemory,
 }

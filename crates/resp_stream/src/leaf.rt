@@ -11,7 +11,7 @@ ghost use Rattle.resp_stream.specs.Value.{formatted_at, verbatim_at, truth_at, c
 
 use super::fault::{Broken, Fault, ReadStop};
 use super::tokens::{LengthRule, bad_byte, byte_of, counted_of, end_of, length_of, line_of, whole};
-use super::value::{Mark, format_of, number_of};
+use super::value::{TypeByte, format_of, number_of};
 use resp_value::{Octets, Value};
 use std::alloc::Global;
 
@@ -153,7 +153,7 @@ fn whole_number_of(bytes: &[u8]) -> Result<Option<(Value, &[u8])>, ReadStop>
 /// `left` bytes from that on, and `seen` bytes of a line were passed before.
 pub(crate) fn leaf_of<'a>(
     alloc: Global,
-    mark: Mark,
+    mark: TypeByte,
     c: u8,
     left: usize,
     seen: &mut usize,
@@ -168,23 +168,23 @@ pub(crate) fn leaf_of<'a>(
     ensures passed { Passed false line_limit (take seen.new bytes.now) }
 {
     match mark {
-        Mark::Simple => text_of(alloc, false, seen, bytes),
-        Mark::Error => text_of(alloc, true, seen, bytes),
-        Mark::Number => whole_number_of(bytes),
-        Mark::Blob => blob_of(alloc, false, BLOB, bytes),
-        Mark::Verbatim => verbatim_of(alloc, bytes),
-        Mark::BlobError => blob_of(alloc, true, BLOB_ERROR, bytes),
-        Mark::Truth => truth_of(bytes),
-        Mark::Null => null_of(bytes),
-        Mark::NotServed => Err(ReadStop::Faulty(Broken {
+        TypeByte::Simple => text_of(alloc, false, seen, bytes),
+        TypeByte::Error => text_of(alloc, true, seen, bytes),
+        TypeByte::Number => whole_number_of(bytes),
+        TypeByte::Blob => blob_of(alloc, false, BLOB, bytes),
+        TypeByte::Verbatim => verbatim_of(alloc, bytes),
+        TypeByte::BlobError => blob_of(alloc, true, BLOB_ERROR, bytes),
+        TypeByte::Truth => truth_of(bytes),
+        TypeByte::Null => null_of(bytes),
+        TypeByte::NotServed => Err(ReadStop::Faulty(Broken {
             fault: Fault::NotServed(c),
             left,
         })),
-        Mark::Wrong => Err(ReadStop::Faulty(Broken {
+        TypeByte::Wrong => Err(ReadStop::Faulty(Broken {
             fault: Fault::BadByte,
             left,
         })),
-        Mark::Aggregate(_) => Err(ReadStop::Faulty(Broken {
+        TypeByte::Aggregate(_) => Err(ReadStop::Faulty(Broken {
             fault: Fault::TooDeep,
             left,
         })),

@@ -4,15 +4,15 @@ ghost use Rattle.std.specs.Prelude.{take, drop};
 ghost use Rattle.std.specs.Prelude.{reverse, OnOk};
 ghost use Rattle.resp_value.specs.ValueTree.{tree_of};
 ghost use Rattle.resp_stream.specs.Results.{LeafGives};
-ghost use Rattle.resp_stream.specs.Value.{mark_of, opening};
+ghost use Rattle.resp_stream.specs.Value.{type_byte_of, opening};
 ghost use Rattle.resp_stream.specs.ValueSteps.{LineSeen, ValueStepGives, HasRead, Closes, IsStack};
 ghost use Rattle.resp_stream.specs.ValueSteps.{RunGives, OnNone, ValueReadingGives, OnMore};
-ghost use Rattle.resp_stream.specs.declared.value.Mark.TheVariants.{Aggregate};
+ghost use Rattle.resp_stream.specs.declared.value.TypeByte.TheVariants.{Aggregate};
 
 use super::fault::{Fault, ReadStop, WHOLE_LIMIT, limited};
 use super::leaf::leaf_of;
 use super::tokens::{bad_byte, head_of, length_of};
-use super::value::{Kind, Mark, build, elements, mark_of, may_stand, rule_of};
+use super::value::{Kind, TypeByte, build, elements, may_stand, rule_of, type_byte_of};
 use resp_value::{NoMemory, Value, Values};
 use std::alloc::Global;
 
@@ -22,6 +22,31 @@ pub struct Frame {
     kind: Kind,
     left: u64,
     done: Values,
+}
+
+/// How far a value was read: up to `at`, with room for `room` more levels, and `seen` bytes of the
+/// line that begins there.
+#[derive(Drop)]
+pub struct ValueProgress {
+    pub at: usize,
+    pub room: u64,
+    pub seen: usize,
+    pub stack: Vec<Frame>,
+}
+
+impl ValueProgress {
+    /// Nothing is read of the next value.
+    pub(crate) fn reset(&mut self)
+        ensures at { self.new.at ≡ 0 }
+        ensures room { self.new.room ≡ 8 }
+        ensures seen { self.new.seen ≡ 0 }
+        ensures stack { self.new.stack.items ≡ [] }
+    {
+        self.at = 0;
+        self.room = 8;
+        self.seen = 0;
+        self.stack.clear();
+    }
 }
 
 /// A whole value, or the head of an aggregate that has some.
@@ -40,14 +65,14 @@ pub enum ValueReading {
 }
 
 /// The kind of an aggregate, where there is room for it.
-fn opening(room: u64, mark: Mark) -> Option<Kind>
+fn opening(room: u64, mark: TypeByte) -> Option<Kind>
     ensures { result ≡ opening room mark }
 {
     if room == 0 {
         return None;
     }
     match mark {
-        Mark::Aggregate(kind) => Some(kind),
+        TypeByte::Aggregate(kind) => Some(kind),
         _ => None,
     }
 }
@@ -62,7 +87,7 @@ fn open_of<'a>(
     rest: &'a [u8],
 ) -> Result<Option<(Step, &'a [u8])>, ReadStop>
     requires head { bytes.now ≡ c ∷ rest.now }
-    requires mark { mark_of c ≡ Aggregate kind }
+    requires mark { type_byte_of c ≡ Aggregate kind }
     requires room { 0 < room }
     ensures { ValueStepGives room bytes.now (λ x. (x.0, x.1.now)) result }
 {
@@ -85,7 +110,7 @@ fn open_of<'a>(
     }
 }
 
-/// The value or the head that stands next; `seen` bytes of its line were passed before.
+/// The value or the head that comes next; `seen` bytes of its line were passed before.
 fn step_of<'a>(
     alloc: Global,
     room: u64,
@@ -99,7 +124,7 @@ fn step_of<'a>(
     let Some((c, rest)) = head_of(bytes) else {
         return Ok(None);
     };
-    let mark = mark_of(c);
+    let mark = type_byte_of(c);
     match opening(room, mark) {
         Some(kind) => open_of(alloc, c, kind, room, bytes, rest),
         None => match leaf_of(alloc, mark, c, bytes.len(), seen, rest) {
@@ -108,19 +133,6 @@ fn step_of<'a>(
             Err(e) => Err(e),
         },
     }
-}
-
-/// Nothing is read of the next value.
-pub(crate) fn reset(at: &mut usize, room: &mut u64, seen: &mut usize, stack: &mut Vec<Frame>)
-    ensures at { at.new ≡ 0 }
-    ensures room { room.new ≡ 8 }
-    ensures seen { seen.new ≡ 0 }
-    ensures stack { stack.new.items ≡ [] }
-{
-    *at = 0;
-    *room = 8;
-    *seen = 0;
-    stack.clear();
 }
 
 /// Puts a value into the newest open aggregate. One that is full with it is a value in turn.
@@ -180,7 +192,7 @@ fn run(
     stack: &mut Vec<Frame>,
 ) -> Result<Option<Value>, ReadStop>
     requires room { room.old + length stack.old.items ≡ 8 }
-    requires stands { IsStack 8 text.now at.old room.old (reverse stack.old.items) }
+    requires stack { IsStack 8 text.now at.old room.old (reverse stack.old.items) }
     requires seen { LineSeen (drop at.old text.now) seen.old }
     ensures gives { RunGives text.now at.new result }
     ensures none { OnNone result (IsStack 8 text.now at.new room.new (reverse stack.new.items)) }
@@ -231,27 +243,32 @@ fn too_long() -> ValueReading
 pub(crate) fn read_value(
     alloc: Global,
     text: &[u8],
-    at: &mut usize,
-    room: &mut u64,
-    seen: &mut usize,
-    stack: &mut Vec<Frame>,
+    progress: &mut ValueProgress,
 ) -> Result<ValueReading, NoMemory>
-    requires room { room.old + length stack.old.items ≡ 8 }
-    requires stands { IsStack 8 text.now at.old room.old (reverse stack.old.items) }
-    requires seen { LineSeen (drop at.old text.now) seen.old }
+    requires room { progress.old.room + length progress.old.stack.items ≡ 8 }
+    requires stack { IsStack 8 text.now progress.old.at progress.old.room (reverse progress.old.stack.items) }
+    requires seen { LineSeen (drop progress.old.at text.now) progress.old.seen }
     ensures gives { ValueReadingGives text.now result }
-    ensures more { OnMore result (IsStack 8 text.now at.new room.new (reverse stack.new.items)) }
-    ensures room { OnMore result (room.new + length stack.new.items ≡ 8) }
-    ensures seen { OnMore result (LineSeen (drop at.new text.now) seen.new) }
+    ensures more { OnMore result
+        (IsStack 8 text.now progress.new.at progress.new.room (reverse progress.new.stack.items)) }
+    ensures room { OnMore result (progress.new.room + length progress.new.stack.items ≡ 8) }
+    ensures seen { OnMore result (LineSeen (drop progress.new.at text.now) progress.new.seen) }
 {
-    match run(alloc, text, at, room, seen, stack) {
+    match run(
+        alloc,
+        text,
+        &mut progress.at,
+        &mut progress.room,
+        &mut progress.seen,
+        &mut progress.stack,
+    ) {
         Err(ReadStop::NoMemory) => Err(NoMemory),
         Err(ReadStop::Faulty(e)) => {
             let (fault, at) = limited(e.fault, text.len() - e.left);
             Ok(ValueReading::Faulty { fault, at })
         }
         Ok(Some(value)) => {
-            let taken = *at;
+            let taken = progress.at;
             if WHOLE_LIMIT < taken {
                 return Ok(too_long());
             }

@@ -7,7 +7,7 @@ ghost use Rattle.resp_stream.specs.Results.{Gives, IfNumber};
 ghost use Rattle.resp_stream.specs.Tokens.{Passed, ending};
 ghost use Rattle.resp_stream.specs.Request.{line_limit};
 ghost use Rattle.resp_stream.specs.Value.{rule_of, digits_of_at, number_at, signed_at, signed};
-ghost use Rattle.resp_stream.specs.Value.{greatest, blob_at, format_at, formatted_at, mark_of};
+ghost use Rattle.resp_stream.specs.Value.{greatest, blob_at, format_at, formatted_at, type_byte_of};
 ghost use Rattle.resp_stream.specs.Value.{elements, build, may_stand};
 
 use super::fault::Broken;
@@ -26,7 +26,7 @@ pub enum Kind {
 
 /// What a type byte says of a value.
 #[derive(Clone, Copy, Debug, Drop)]
-pub enum Mark {
+pub enum TypeByte {
     Simple,
     Error,
     Number,
@@ -41,24 +41,24 @@ pub enum Mark {
     Wrong,
 }
 
-pub(crate) fn mark_of(c: u8) -> Mark
-    ensures { result ≡ mark_of c }
+pub(crate) fn type_byte_of(c: u8) -> TypeByte
+    ensures { result ≡ type_byte_of c }
 {
     match c {
-        b'+' => Mark::Simple,
-        b'-' => Mark::Error,
-        b':' => Mark::Number,
-        b'$' => Mark::Blob,
-        b'*' => Mark::Aggregate(Kind::Array),
-        b'=' => Mark::Verbatim,
-        b'!' => Mark::BlobError,
-        b'#' => Mark::Truth,
-        b'_' => Mark::Null,
-        b'%' => Mark::Aggregate(Kind::Map),
-        b'~' => Mark::Aggregate(Kind::Set),
-        b'>' => Mark::Aggregate(Kind::Push),
-        b',' | b'(' | b'|' => Mark::NotServed,
-        _ => Mark::Wrong,
+        b'+' => TypeByte::Simple,
+        b'-' => TypeByte::Error,
+        b':' => TypeByte::Number,
+        b'$' => TypeByte::Blob,
+        b'*' => TypeByte::Aggregate(Kind::Array),
+        b'=' => TypeByte::Verbatim,
+        b'!' => TypeByte::BlobError,
+        b'#' => TypeByte::Truth,
+        b'_' => TypeByte::Null,
+        b'%' => TypeByte::Aggregate(Kind::Map),
+        b'~' => TypeByte::Aggregate(Kind::Set),
+        b'>' => TypeByte::Aggregate(Kind::Push),
+        b',' | b'(' | b'|' => TypeByte::NotServed,
+        _ => TypeByte::Wrong,
     }
 }
 
@@ -87,7 +87,7 @@ pub(crate) fn rule_of(kind: Kind) -> LengthRule
     }
 }
 
-/// A push stands at the top alone.
+/// A push is at the top alone.
 pub(crate) fn may_stand(top: bool, kind: Kind) -> bool
     ensures { result ≡ may_stand top kind }
 {

@@ -4,7 +4,7 @@ ghost use Rattle.resp_stream.specs.Stream.{begun, fed};
 ghost use Rattle.resp_stream.specs.Readers.{ValueGives, NotMemory, IfFault};
 
 use super::fault::{StreamFault, stream_fault};
-use super::stack::{Frame, ValueReading, read_value, reset};
+use super::stack::{ValueProgress, ValueReading, read_value};
 use byte_queue::ByteQueue;
 use resp_value::{NoMemory, Value};
 use std::alloc::Global;
@@ -19,10 +19,7 @@ pub struct ValueReader {
     alloc: Global,
     before: u64,
     rest: ByteQueue,
-    at: usize,
-    room: u64,
-    seen: usize,
-    stack: Vec<Frame>,
+    progress: ValueProgress,
     broken: Option<StreamFault>,
 }
 
@@ -37,7 +34,7 @@ impl Model for ValueReader {
 
     ghost view = { λ s. record { before = s.before; rest = s.rest; failed = is_some s.broken } };
 
-    ghost invariant = { λ s. ValueState s.before s.rest s.at s.room s.seen s.stack.items s.broken };
+    ghost invariant = { λ s. ValueState s.before s.rest s.progress s.broken };
 }
 
 impl ValueReader {
@@ -49,10 +46,12 @@ impl ValueReader {
             alloc,
             before: 0,
             rest: ByteQueue::new(alloc),
-            at: 0,
-            room: 8,
-            seen: 0,
-            stack: Vec::new(alloc),
+            progress: ValueProgress {
+                at: 0,
+                room: 8,
+                seen: 0,
+                stack: Vec::new(alloc),
+            },
             broken: None,
         }
     }
@@ -77,42 +76,20 @@ impl ValueReader {
         if let Some(fault) = self.broken {
             return Err(fault);
         }
-        match read_value(
-            self.alloc,
-            self.rest.as_slice(),
-            &mut self.at,
-            &mut self.room,
-            &mut self.seen,
-            &mut self.stack,
-        ) {
+        match read_value(self.alloc, self.rest.as_slice(), &mut self.progress) {
             Ok(ValueReading::More) => Ok(None),
             Ok(ValueReading::Whole { value, taken }) => {
                 self.before = self.before.saturating_add(taken as u64);
                 self.rest.advance(taken);
-                reset(
-                    &mut self.at,
-                    &mut self.room,
-                    &mut self.seen,
-                    &mut self.stack,
-                );
+                self.progress.reset();
                 Ok(Some(value))
             }
             Err(_) => {
-                reset(
-                    &mut self.at,
-                    &mut self.room,
-                    &mut self.seen,
-                    &mut self.stack,
-                );
+                self.progress.reset();
                 Err(StreamFault::NoMemory)
             }
             Ok(ValueReading::Faulty { fault, at }) => {
-                reset(
-                    &mut self.at,
-                    &mut self.room,
-                    &mut self.seen,
-                    &mut self.stack,
-                );
+                self.progress.reset();
                 let fault = stream_fault(fault, self.before.saturating_add(at as u64));
                 self.broken = Some(fault);
                 Err(fault)

@@ -1,6 +1,6 @@
 use Rattle.std.proofs.Common.{◌≡◌, sym, ap, subst, ◌∙◌}
 use Rattle.resp_value.specs.Tree.{Tree}
-use Rattle.resp_stream.specs.declared.value.Mark.{Mark}
+use Rattle.resp_stream.specs.declared.value.TypeByte.{TypeByte}
 use Rattle.resp_stream.specs.Parsed.{Parsed, taken}
 use Rattle.resp_stream.specs.Results.{StopGives}
 use Rattle.resp_stream.specs.Value.{opening, choice_of, too_deep, value_in}
@@ -14,34 +14,34 @@ returns-in_default-clause-gives c =
 
 pub open_of-requires-clause-mark : goal.open_of-requires-clause-mark
 open_of-requires-clause-mark c =
-    sym c.mark_of-mark.ensures
-    ∙ (opens_here c.args.room c.in-Some-opening.kind c.mark_of-mark.result
+    sym c.type_byte_of-mark.ensures
+    ∙ (opens_here c.args.room c.in-Some-opening.kind c.type_byte_of-mark.result
     (sym c.opening.ensures ∙ c.in-Some-opening.is)).0
 
 pub returns-in-Ok-None-clause-gives : goal.returns-in-Ok-None-clause-gives
 returns-in-Ok-None-clause-gives c =
     leaf_here c.args.room c.in-Some.c c.args.bytes.now c.in-Some.rest.now c.in-Some.ensures.some
-    (ap (opening c.args.room) (sym c.mark_of-mark.ensures) ∙ sym c.opening.ensures
+    (ap (opening c.args.room) (sym c.type_byte_of-mark.ensures) ∙ sym c.opening.ensures
     ∙ c.in-None.is)
-    ∙ ap (λ (m : Mark). taken (choice_of too_deep m c.in-Some.c) c.in-Some.c c.in-Some.rest.now)
-    (sym c.mark_of-mark.ensures) ∙ (rw c.in-Ok-None.field-0-is at c.in-Ok-None.ensures.gives)
+    ∙ ap (λ (m : TypeByte). taken (choice_of too_deep m c.in-Some.c) c.in-Some.c c.in-Some.rest.now)
+    (sym c.type_byte_of-mark.ensures) ∙ (rw c.in-Ok-None.field-0-is at c.in-Ok-None.ensures.gives)
 
 pub returns-in-Ok-Some-clause-gives : goal.returns-in-Ok-Some-clause-gives
 returns-in-Ok-Some-clause-gives c =
     leaf_here c.args.room c.in-Some.c c.args.bytes.now c.in-Some.rest.now c.in-Some.ensures.some
-    (ap (opening c.args.room) (sym c.mark_of-mark.ensures) ∙ sym c.opening.ensures
+    (ap (opening c.args.room) (sym c.type_byte_of-mark.ensures) ∙ sym c.opening.ensures
     ∙ c.in-None.is)
-    ∙ ap (λ (m : Mark). taken (choice_of too_deep m c.in-Some.c) c.in-Some.c c.in-Some.rest.now)
-    (sym c.mark_of-mark.ensures) ∙ (rw c.in-Ok-Some.field-0-is at c.in-Ok-Some.ensures.gives)
+    ∙ ap (λ (m : TypeByte). taken (choice_of too_deep m c.in-Some.c) c.in-Some.c c.in-Some.rest.now)
+    (sym c.type_byte_of-mark.ensures) ∙ (rw c.in-Ok-Some.field-0-is at c.in-Ok-Some.ensures.gives)
 
 pub returns-in-Err-clause-gives : goal.returns-in-Err-clause-gives
 returns-in-Err-clause-gives c =
     let e : value_in c.args.room c.args.bytes.now
-    ≡ taken (choice_of too_deep c.mark_of-mark.result c.in-Some.c) c.in-Some.c
+    ≡ taken (choice_of too_deep c.type_byte_of-mark.result c.in-Some.c) c.in-Some.c
     c.in-Some.rest.now =
     leaf_here c.args.room c.in-Some.c c.args.bytes.now c.in-Some.rest.now c.in-Some.ensures.some
-    (ap (opening c.args.room) (sym c.mark_of-mark.ensures) ∙ sym c.opening.ensures
+    (ap (opening c.args.room) (sym c.type_byte_of-mark.ensures) ∙ sym c.opening.ensures
     ∙ c.in-None.is)
-    ∙ ap (λ (m : Mark). taken (choice_of too_deep m c.in-Some.c) c.in-Some.c c.in-Some.rest.now)
-    (sym c.mark_of-mark.ensures) in
+    ∙ ap (λ (m : TypeByte). taken (choice_of too_deep m c.in-Some.c) c.in-Some.c c.in-Some.rest.now)
+    (sym c.type_byte_of-mark.ensures) in
     subst (λ (a : Parsed Tree). StopGives c.in-Err.e a) (sym e) c.in-Err.ensures.gives

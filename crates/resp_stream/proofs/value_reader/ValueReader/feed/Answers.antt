@@ -5,6 +5,5 @@ use Rattle.resp_stream.proofs.value_reader.ValueReader.feed.Goals as goal
 pub invariant_of-self : goal.invariant_of-self
 invariant_of-self c =
     fed_by c.self.inside.before c.self.inside.rest c.add.new.self c.args.piece.now
-    c.self.inside.at c.self.inside.room c.self.inside.seen c.self.inside.stack.items
-    c.self.inside.broken c.add.result c.add.ensures.ok c.add.ensures.err
+    c.self.inside.progress c.self.inside.broken c.add.result c.add.ensures.ok c.add.ensures.err
     (none_is c.self.inside.broken (sym c.is_some.ensures ∙ c.if-is_some.false)) c.self.invariant

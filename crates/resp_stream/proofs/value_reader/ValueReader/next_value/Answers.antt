@@ -10,27 +10,25 @@ use Rattle.resp_stream.proofs.value_reader.ValueReader.next_value.Goals as goal
 
 pub invariant_of-self-in-Ok-Whole : goal.invariant_of-self-in-Ok-Whole
 invariant_of-self-in-Ok-Whole c =
-    fresh c.saturating_add-self-inside.result c.advance.new.self c.reset.new.at c.reset.new.room
-    c.reset.new.seen c.reset.new.stack.items c.self.inside.broken c.reset.ensures.at
-    c.reset.ensures.room c.reset.ensures.seen c.reset.ensures.stack
+    let r = c.reset.ensures in
+    fresh c.saturating_add-self-inside.result c.advance.new.self c.reset.new.self
+    c.self.inside.broken
+    r.at r.room r.seen r.stack
     (subst (λ (b : Option StreamFault).
     Kept value_at (λ b. b) c.saturating_add-self-inside.result c.advance.new.self b)
     (sym c.in_default.is) tt)
 
 pub invariant_of-self-in-Err : goal.invariant_of-self-in-Err
 invariant_of-self-in-Err c =
-    fresh c.self.inside.before c.self.inside.rest c.reset-in-Err.new.at c.reset-in-Err.new.room
-    c.reset-in-Err.new.seen c.reset-in-Err.new.stack.items c.self.inside.broken
-    c.reset-in-Err.ensures.at c.reset-in-Err.ensures.room c.reset-in-Err.ensures.seen
-    c.reset-in-Err.ensures.stack c.self.invariant.kept
+    let r = c.reset-in-Err.ensures in
+    fresh c.self.inside.before c.self.inside.rest c.reset-in-Err.new.self c.self.inside.broken r.at
+    r.room r.seen r.stack c.self.invariant.kept
 
 pub invariant_of-self-in-Ok-Faulty : goal.invariant_of-self-in-Ok-Faulty
 invariant_of-self-in-Ok-Faulty c =
-    fresh c.self.inside.before c.self.inside.rest c.reset-in-Ok-Faulty.new.at
-    c.reset-in-Ok-Faulty.new.room c.reset-in-Ok-Faulty.new.seen
-    c.reset-in-Ok-Faulty.new.stack.items (Some c.stream_fault-fault.result)
-    c.reset-in-Ok-Faulty.ensures.at c.reset-in-Ok-Faulty.ensures.room
-    c.reset-in-Ok-Faulty.ensures.seen c.reset-in-Ok-Faulty.ensures.stack
+    let r = c.reset-in-Ok-Faulty.ensures in
+    fresh c.self.inside.before c.self.inside.rest c.reset-in-Ok-Faulty.new.self
+    (Some c.stream_fault-fault.result) r.at r.room r.seen r.stack
     (keeps c.self.inside.before c.as_slice.result.now c.self.inside.rest c.in-Ok-Faulty.at
     c.saturating_add.result c.in-Ok-Faulty.fault c.stream_fault-fault.result c.as_slice.ensures
     (rw c.in-Ok-Faulty.field-0-is at c.in-Ok-Faulty.ensures.gives) c.saturating_add.ensures
