@@ -1,0 +1,3 @@
+pub mod HolderLemmas
+pub mod Lookups
+pub mod Orders

@@ -1,0 +1,214 @@
+-- Each call leaves keys that are there once and are held, and holders that ascend.
+use Rattle.std.proofs.Common.{◌≡◌, ◌+◌, ◌<◌, ◌≤◌, ℕ, List, [], ◌∷◌, Bool, true, false, cond, length}
+use Rattle.std.proofs.Common.{map, refl, ap, sym, ◌∙◌, arith}
+use Rattle.std.specs.Prelude.{◌==◌, not, nat_lt, filter}
+use Rattle.std.specs.Str.{bytes_eq}
+use Rattle.std.proofs.lemmas.Slice.Eq.{bytes_eq-Decides}
+use Rattle.std.proofs.lemmas.Bool.Decides.{nat_tests}
+use Rattle.track_table.specs.declared.table.Held.{Held}
+use Rattle.track_table.specs.Table.{with_holder, without_holder, remembered, without_key}
+use Rattle.track_table.specs.Table.{without_connection, freed_of, is_held, holders_of}
+use Rattle.track_table.specs.Order.{AscendFrom, HasNo, AreOrdered, AreHeld, IsTable}
+
+-- ---- holders
+
+lower : (m n : ℕ) (ids : List ℕ) → m ≤ n → AscendFrom n ids → AscendFrom m ids
+lower m n [] le h = tt
+lower m n (id ∷ ids) le h = (omega arith, h.1)
+
+ascend_with : (n id : ℕ) (ids : List ℕ) → n ≤ id → AscendFrom n ids
+    → AscendFrom n (with_holder id ids)
+ascend_with n id [] le h = (le, tt)
+ascend_with n id (x ∷ xs) le h =
+    elim (nat_lt x id) as (λ b. nat_lt x id ≡ b
+    → AscendFrom n (cond b (x ∷ with_holder id xs) (cond (x == id) (x ∷ xs) (id ∷ x ∷ xs)))) [
+      | true ↦ λ e. let below : x < id = grind (arith, nat_tests) in
+          (h.0, ascend_with (x + 1) id xs (omega arith) h.1)
+      | false ↦ λ e. elim (x == id) as (λ b. (x == id) ≡ b
+          → AscendFrom n (cond b (x ∷ xs) (id ∷ x ∷ xs))) [
+            | true ↦ λ f. h
+            | false ↦ λ f. let above : id + 1 ≤ x = grind (arith, nat_tests) in (le, (above, h.1))
+          ] refl
+    ] refl
+
+ascend_without : (n id : ℕ) (ids : List ℕ) → AscendFrom n ids → AscendFrom n (without_holder id ids)
+ascend_without n id [] h = tt
+ascend_without n id (x ∷ xs) h =
+    let rest = ascend_without (x + 1) id xs h.1 in
+    elim (not (x == id)) as (λ b. AscendFrom n
+    (cond b (x ∷ without_holder id xs) (without_holder id xs))) [
+      | true ↦ (h.0, rest)
+      | false ↦ lower n (x + 1) (without_holder id xs) (omega arith) rest
+    ]
+
+with_some : (id : ℕ) (ids : List ℕ) → 0 < length (with_holder id ids)
+with_some id [] = omega arith
+with_some id (x ∷ xs) =
+    elim (nat_lt x id) as (λ b. 0 < length (cond b (x ∷ with_holder id xs)
+    (cond (x == id) (x ∷ xs) (id ∷ x ∷ xs)))) [
+      | true ↦ omega arith
+      | false ↦ elim (x == id) as (λ b. 0 < length (cond b (x ∷ xs) (id ∷ x ∷ xs))) [
+        | true ↦
+            omega arith
+        | false ↦ omega arith
+      ]
+    ]
+
+-- ---- keys
+
+same_bytes : (a b : List ℕ) → bytes_eq a b ≡ true → a ≡ b
+same_bytes a b e = (bytes_eq-Decides a b).0 e
+
+not_same : (a b : List ℕ) → bytes_eq a b ≡ false → a ≡ b → ⊥
+not_same a b e same = let t = (bytes_eq-Decides a b).1 same in let no : ⊥ = cc in no
+
+-- keys that differ one way differ the other
+apart : (a b : List ℕ) → bytes_eq a b ≡ false → bytes_eq b a ≡ false
+apart a b e = elim (bytes_eq b a) as (λ v. bytes_eq b a ≡ v → v ≡ false) [
+  | true ↦ λ f. absurd (not_same a b e (sym (same_bytes b a f)))
+  | false ↦ λ f. refl
+] refl
+
+has_no_remembered : (q : List ℕ) (id : ℕ) (key : List ℕ) (rs : List Held) → HasNo q rs
+    → bytes_eq q key ≡ false
+    → HasNo q (remembered id key rs)
+has_no_remembered q id key [] h other = (other, tt)
+has_no_remembered q id key (r ∷ rs) h other =
+    elim (bytes_eq key r.key) as (λ b. HasNo q
+    (cond b (record r { holders = with_holder id r.holders } ∷ rs) (r ∷ remembered id key rs))) [
+      | true ↦ h
+      | false ↦ (h.0, has_no_remembered q id key rs h.1 other)
+    ]
+
+ordered_remembered : (id : ℕ) (key : List ℕ) (rs : List Held) → AreOrdered rs
+    → AreOrdered (remembered id key rs)
+ordered_remembered id key [] h = ((omega arith, tt), tt, tt)
+ordered_remembered id key (r ∷ rs) h =
+    elim (bytes_eq key r.key) as (λ b. bytes_eq key r.key ≡ b
+    → AreOrdered (cond b (record r { holders = with_holder id r.holders } ∷ rs)
+    (r ∷ remembered id key rs))) [
+      | true ↦ λ e. (ascend_with 0 id r.holders (omega arith) h.0, h.1, h.2)
+      | false ↦ λ e. (
+        h.0,
+        has_no_remembered r.key id key rs h.1 (apart key r.key e),
+        ordered_remembered id key rs h.2,
+      )
+    ] refl
+
+held_remembered : (id : ℕ) (key : List ℕ) (rs : List Held) → AreHeld rs
+    → AreHeld (remembered id key rs)
+held_remembered id key [] h = (omega arith, tt)
+held_remembered id key (r ∷ rs) h =
+    elim (bytes_eq key r.key) as (λ b. AreHeld
+    (cond b (record r { holders = with_holder id r.holders } ∷ rs) (r ∷ remembered id key rs))) [
+      | true ↦ (with_some id r.holders, h.1)
+      | false ↦ (h.0, held_remembered id key rs h.1)
+    ]
+
+pub table_remembered : (id : ℕ) (key : List ℕ) (rs : List Held) → IsTable rs
+    → IsTable (remembered id key rs)
+table_remembered id key rs h = record {
+  ordered = ordered_remembered id key rs h.ordered;
+  held = held_remembered id key rs h.held;
+}
+
+module _ (p : Held → Bool) where
+  has_no_filter : (q : List ℕ) (rs : List Held) → HasNo q rs → HasNo q (filter p rs)
+  has_no_filter q [] h = tt
+  has_no_filter q (r ∷ rs) h =
+      elim (p r) as (λ b. HasNo q (cond b (r ∷ filter p rs) (filter p rs))) [
+        | true ↦ (h.0, has_no_filter q rs h.1)
+        | false ↦ has_no_filter q rs h.1
+      ]
+
+  ordered_filter : (rs : List Held) → AreOrdered rs → AreOrdered (filter p rs)
+  ordered_filter [] h = tt
+  ordered_filter (r ∷ rs) h =
+      elim (p r) as (λ b. AreOrdered (cond b (r ∷ filter p rs) (filter p rs))) [
+        | true ↦ (h.0, has_no_filter r.key rs h.1, ordered_filter rs h.2)
+        | false ↦ ordered_filter rs h.2
+      ]
+
+  held_filter : (rs : List Held) → AreHeld rs → AreHeld (filter p rs)
+  held_filter [] h = tt
+  held_filter (r ∷ rs) h =
+      elim (p r) as (λ b. AreHeld (cond b (r ∷ filter p rs) (filter p rs))) [
+        | true ↦ (h.0, held_filter rs h.1)
+        | false ↦ held_filter rs h.1
+      ]
+
+pub table_without_key : (key : List ℕ) (rs : List Held) → IsTable rs → IsTable (without_key key rs)
+table_without_key key rs h = record {
+  ordered = ordered_filter (λ r. not (bytes_eq key r.key)) rs h.ordered;
+  held = held_filter (λ r. not (bytes_eq key r.key)) rs h.held;
+}
+
+module _ (id : ℕ) where
+  has_no_freed : (q : List ℕ) (rs : List Held) → HasNo q rs → HasNo q (map (freed_of id) rs)
+  has_no_freed q [] h = tt
+  has_no_freed q (r ∷ rs) h = (h.0, has_no_freed q rs h.1)
+
+  ordered_freed : (rs : List Held) → AreOrdered rs → AreOrdered (map (freed_of id) rs)
+  ordered_freed [] h = tt
+  ordered_freed (r ∷ rs) h =
+      (ascend_without 0 id r.holders h.0, has_no_freed r.key rs h.1, ordered_freed rs h.2)
+
+held_kept : (rs : List Held) → AreHeld (filter is_held rs)
+held_kept [] = tt
+held_kept (r ∷ rs) =
+    elim (length r.holders == 0) as (λ b. (length r.holders == 0) ≡ b
+    → AreHeld (cond (not b) (r ∷ filter is_held rs) (filter is_held rs))) [
+      | true ↦ λ e. held_kept rs
+      | false ↦ λ e. let some : 0 < length r.holders = grind (arith, nat_tests) in
+          (some, held_kept rs)
+    ] refl
+
+pub table_without_connection : (id : ℕ) (rs : List Held) → IsTable rs
+    → IsTable (without_connection id rs)
+table_without_connection id rs h = record {
+  ordered = ordered_filter is_held (map (freed_of id) rs) (ordered_freed id rs h.ordered);
+  held = held_kept (map (freed_of id) rs);
+}
+
+-- the holders of a key ascend
+pub holders_ascend : (key : List ℕ) (rs : List Held) → IsTable rs → AscendFrom 0 (holders_of key rs)
+holders_ascend key rs h = ascending rs h.ordered
+  where
+    ascending : (xs : List Held) → AreOrdered xs → AscendFrom 0 (holders_of key xs)
+    ascending [] h = tt
+    ascending (x ∷ xs) h =
+        elim (bytes_eq key x.key) as (λ b. AscendFrom 0 (cond b x.holders (holders_of key xs)))
+        [ true ↦ h.0 | false ↦ ascending xs h.2 ]
+
+-- remembering a key changes its own holders alone
+pub holders_remembered : (q : List ℕ) (id : ℕ) (key : List ℕ) (rs : List Held)
+    → holders_of q (remembered id key rs)
+    ≡ cond (bytes_eq q key) (with_holder id (holders_of key rs)) (holders_of q rs)
+holders_remembered q id key [] = refl
+holders_remembered q id key (r ∷ rs) =
+    elim (bytes_eq key r.key) as (λ b. bytes_eq key r.key ≡ b
+    → holders_of q (cond b (record r { holders = with_holder id r.holders } ∷ rs)
+    (r ∷ remembered id key rs))
+    ≡ cond (bytes_eq q key) (with_holder id (cond b r.holders (holders_of key rs)))
+    (cond (bytes_eq q r.key) r.holders (holders_of q rs))) [
+      | true ↦ λ e. ap (λ k. cond (bytes_eq q k) (with_holder id r.holders) (holders_of q rs))
+          (sym (same_bytes key r.key e))
+          ∙ changed (bytes_eq q key) (bytes_eq q r.key) (with_holder id r.holders) r.holders
+          (holders_of q rs) (ap (bytes_eq q) (same_bytes key r.key e))
+      | false ↦ λ e. ap (λ x. cond (bytes_eq q r.key) r.holders x) (holders_remembered q id key rs)
+          ∙ swapped (bytes_eq q r.key) (bytes_eq q key) r.holders
+          (with_holder id (holders_of key rs)) (holders_of q rs)
+          (λ a b. not_same key r.key e (sym (same_bytes q key b) ∙ same_bytes q r.key a))
+    ] refl
+  where
+    changed : (a b : Bool) (x y z : List ℕ) → a ≡ b → cond a x z ≡ cond a x (cond b y z)
+    changed true true x y z e = refl
+    changed true false x y z e = refl
+    changed false false x y z e = refl
+    changed false true x y z e = absurd (let no : ⊥ = cc in no)
+
+    swapped : (a b : Bool) (x y z : List ℕ) → (a ≡ true → b ≡ true → ⊥)
+        → cond a x (cond b y z) ≡ cond b y (cond a x z)
+    swapped true true x y z differ = absurd (differ refl refl)
+    swapped true false x y z differ = refl
+    swapped false b x y z differ = refl

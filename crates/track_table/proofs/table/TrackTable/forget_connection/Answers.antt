@@ -1,0 +1,74 @@
+use Rattle.std.proofs.Common.{◌≡◌, ◌<◌, ◌++◌, length, get_or, set, map, take, drop}
+use Rattle.std.proofs.Common.{rules, ap, sym, subst, ◌∙◌, arith, append-nil, ◌≤◌}
+use Rattle.std.specs.Prelude.{filter}
+use Rattle.std.proofs.lemmas.Fn.{filter_same}
+use Rattle.std.proofs.lemmas.List.{take_all, drop_all}
+use Rattle.std.proofs.lemmas.List.Edits.{map_over_more}
+use Rattle.track_table.specs.declared.table.Held.{Held}
+use Rattle.track_table.specs.Table.{TableState, freed_of, is_held, without_connection}
+use Rattle.track_table.specs.Order.{IsTable}
+use Rattle.track_table.proofs.Orders.{table_without_connection}
+use Rattle.track_table.proofs.table.TrackTable.forget_connection.Goals as goal
+use Rattle.track_table.proofs.table.TrackTable.forget_connection.Goals.{After-retain}
+
+pub loop-row-init : goal.loop-row-init
+loop-row-init c = c.deref_mut-row-items.ensures.value
+    ∙ ap (λ (t : TableState). t.rows) c.self.view_is
+
+pub loop-row-preserved : goal.loop-row-preserved
+loop-row-preserved c =
+    let rows = c.args.self.now.rows in
+    let items = c.loop-row.row-items in
+    let i = c.loop-row.row-index in
+    let x = c.row-item.result in
+    let lt : i < length rows = omega (
+      arith,
+      c.deref_mut-row-items.ensures.len,
+      ap length c.deref_mut-row-items.ensures.value,
+      ap (λ (t : TableState). length t.rows) c.self.view_is,
+    ) in
+    ap (λ hs. set items i (record { key = (get_or items i x).key; holders = hs })) c.remove.ensures
+    ∙ ap (λ (y : Held). set items i (freed_of c.args.id y)) (sym c.row-item.is)
+    ∙ map_over_more (freed_of c.args.id) rows items i x lt c.loop-row.invariant c.row-item.is
+
+-- what is left
+left : (c : After-retain) → c.retain.new.self.items
+    ≡ without_connection c.args.id c.args.self.now.rows
+left c =
+    let rows = c.args.self.now.rows in
+    let i = c.loop-row.row-index in
+    let items = c.loop-row.row-items in
+    let inside = c.self.inside.rows in
+    let all : length rows ≤ i = omega (
+      arith,
+      c.deref_mut-row-items.ensures.len,
+      ap length c.deref_mut-row-items.ensures.value,
+      ap (λ (t : TableState). length t.rows) c.self.view_is,
+    ) in
+    filter_same _ _ _ (λ x b f' k. search rules) _ _ c.retain.ensures.filtered
+    ∙ ap (λ l. filter is_held (take inside.len (items ++ l)))
+    (drop_all (length items) inside.items (omega (
+      arith,
+      c.loop-row.auto.row-items,
+      ap length c.deref_mut-row-items.ensures.value,
+    )))
+    ∙ ap (λ l. filter is_held (take inside.len l)) (append-nil items)
+    ∙ ap (filter is_held) (take_all inside.len items
+    (omega (
+      arith,
+      inside.ok.0,
+      c.loop-row.auto.row-items,
+      ap length c.deref_mut-row-items.ensures.value,
+    )))
+    ∙ ap (filter is_held) c.loop-row.invariant
+    ∙ ap (λ l. filter is_held (map (freed_of c.args.id) l ++ drop i rows)) (take_all i rows all)
+    ∙ ap (λ l. filter is_held (map (freed_of c.args.id) rows ++ l)) (drop_all i rows all)
+    ∙ ap (filter is_held) (append-nil (map (freed_of c.args.id) rows))
+
+pub invariant_of-self : goal.invariant_of-self
+invariant_of-self c =
+    subst IsTable (sym (left c)) (table_without_connection c.args.id c.args.self.now.rows
+    (subst (λ (t : TableState). IsTable t.rows) c.self.view_is c.self.invariant))
+
+pub returns-clause-rows : goal.returns-clause-rows
+returns-clause-rows c = left c

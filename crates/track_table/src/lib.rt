@@ -1,0 +1,12 @@
+//! Which connections the server owes a message for which keys, and which of these keys is oldest.
+#![tactic(auto)]
+
+mod holders;
+mod laws;
+mod table;
+
+pub use laws::law_holders_grow;
+pub use table::TrackTable;
+
+#[cfg(test)]
+mod tests;
