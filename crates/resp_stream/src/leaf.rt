@@ -49,7 +49,8 @@ fn text_of<'a>(
 ) -> Result<Option<(Value, &'a [u8])>, ReadStop>
     requires seen { seen.old ≤ length bytes.now }
     requires passed { Passed false line_limit (take seen.old bytes.now) }
-    ensures gives { LeafGives (λ x. (tree_of x.0, x.1.now)) result (text_at (line_tree is_error) bytes.now) }
+    ensures gives { LeafGives (λ x. (tree_of x.0, x.1.now)) result
+        (text_at (line_tree is_error) bytes.now) }
     ensures seen { seen.new ≤ length bytes.now }
     ensures passed { Passed false line_limit (take seen.new bytes.now) }
 {

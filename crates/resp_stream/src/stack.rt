@@ -144,7 +144,8 @@ fn close(
     value: Value,
 ) -> Result<Option<Value>, NoMemory>
     requires { room.old + length stack.old.items < 2 ^ 32 }
-    ensures room { OnOk result (room.new + length stack.new.items ≡ room.old + length stack.old.items) }
+    ensures room { OnOk result
+        (room.new + length stack.new.items ≡ room.old + length stack.old.items) }
     ensures closes { (whole : ℕ) (text : List ℕ) (at : ℕ) →
         HasRead whole text at room.old (reverse stack.old.items) (tree_of value) →
         Closes whole text at room.new stack.new.items result }
@@ -246,7 +247,8 @@ pub(crate) fn read_value(
     progress: &mut ValueProgress,
 ) -> Result<ValueReading, NoMemory>
     requires room { progress.old.room + length progress.old.stack.items ≡ 8 }
-    requires stack { IsStack 8 text.now progress.old.at progress.old.room (reverse progress.old.stack.items) }
+    requires stack { IsStack 8 text.now progress.old.at progress.old.room
+        (reverse progress.old.stack.items) }
     requires seen { LineSeen (drop progress.old.at text.now) progress.old.seen }
     ensures gives { ValueReadingGives text.now result }
     ensures more { OnMore result

@@ -1,4 +1,4 @@
-// The standard's own bytes, whole and cut, and each limit at its number.
+//! The standard's own bytes, whole and cut, and each limit at its number.
 use super::{RequestReader, StreamFault, ValueReader};
 use resp_value::{NoMemory, Proto, Value, Words, put_request, put_value};
 use std::alloc::Global;

@@ -1,4 +1,4 @@
--- How a tree is stored, and that it comes back.
+-- How a tree is stored as a value of the model, and that it comes back.
 use Rattle.std.specs.Prelude.{◌≡◌, ℕ, zero, suc, ℤ, pos, negsuc, Bool, true, false, List, [], ◌∷◌}
 use Rattle.std.specs.Prelude.{refl}
 use mathlib.Core.Path.{ap}
@@ -24,13 +24,13 @@ back_b gnil = []
 back_b (gnum n) = []
 back_b (gcons a b) = num a ∷ back_b b
 
-abbrev head : Gv → Gv
-head (gcons a b) = a
-head _ = gnil
+abbrev left_of : Gv → Gv
+left_of (gcons a b) = a
+left_of _ = gnil
 
-abbrev tail : Gv → Gv
-tail (gcons a b) = b
-tail _ = gnil
+abbrev right_of : Gv → Gv
+right_of (gcons a b) = b
+right_of _ = gnil
 
 abbrev code_z : ℤ → Gv
 code_z (pos n) = gcons gnil (gnum n)
@@ -41,7 +41,7 @@ sign gnil n = pos n
 sign _ n = negsuc n
 
 abbrev back_z : Gv → ℤ
-back_z g = sign (head g) (num (tail g))
+back_z g = sign (left_of g) (num (right_of g))
 
 abbrev code_bool : Bool → Gv
 code_bool true = gnum 1
@@ -87,7 +87,7 @@ by_tag zero g ts rs = simple (back_b g)
 by_tag (suc zero) g ts rs = error (back_b g)
 by_tag (suc (suc zero)) g ts rs = number (back_z g)
 by_tag (suc (suc (suc zero))) g ts rs = blob (back_b g)
-by_tag (suc (suc (suc (suc zero)))) g ts rs = verbatim (back_b (head g)) (back_b (tail g))
+by_tag (suc (suc (suc (suc zero)))) g ts rs = verbatim (back_b (left_of g)) (back_b (right_of g))
 by_tag (suc (suc (suc (suc (suc zero))))) g ts rs = blob_error (back_b g)
 by_tag (suc (suc (suc (suc (suc (suc zero)))))) g ts rs = boolean (is_one (num g))
 by_tag (suc (suc (suc (suc (suc (suc (suc zero))))))) g ts rs = null

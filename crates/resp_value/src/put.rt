@@ -78,7 +78,8 @@ fn put_blobs(words: &[Octets], out: &mut Vec<u8>) -> Result<(), NoMemory>
 /// The three bytes of a format, a colon, and a text; all of them are counted.
 #[tactic(auto, using(crate::proofs::Prefixes::growing), unfolding(crate::specs::Spelling::counted))]
 fn put_verbatim(format: &[u8; 3], text: &[u8], out: &mut Vec<u8>) -> Result<(), NoMemory>
-    ensures ok { OnOk result (out.new.items ≡ out.old.items ++ counted 61 (format.now ++ 58 ∷ text.now)) }
+    ensures ok { OnOk result
+        (out.new.items ≡ out.old.items ++ counted 61 (format.now ++ 58 ∷ text.now)) }
     ensures err { OnErr result (IsPrefix out.old.items out.new.items) }
 {
     put_head(b'=', text.len() + 4, out)?;
@@ -163,7 +164,8 @@ fn spell_all(mark: u8, proto: Proto, values: &Values, out: &mut Vec<u8>) -> Resu
 #[cycle(spell)]
 #[tactic(auto, using(crate::proofs::Prefixes::growing))]
 fn spell_values(proto: Proto, values: &Values, out: &mut Vec<u8>) -> Result<(), NoMemory>
-    ensures ok { OnOk result (out.new.items ≡ out.old.items ++ spellings proto (trees_of values.now)) }
+    ensures ok { OnOk result
+        (out.new.items ≡ out.old.items ++ spellings proto (trees_of values.now)) }
     ensures err { OnErr result (IsPrefix out.old.items out.new.items) }
 {
     for value in values.items.as_slice() {
@@ -176,7 +178,8 @@ fn spell_values(proto: Proto, values: &Values, out: &mut Vec<u8>) -> Result<(), 
 #[cycle(spell)]
 #[tactic(auto, using(crate::proofs::Prefixes::growing))]
 fn spell_pairs(proto: Proto, pairs: &Pairs, out: &mut Vec<u8>) -> Result<(), NoMemory>
-    ensures ok { OnOk result (out.new.items ≡ out.old.items ++ row_spellings proto (rows_of pairs.now)) }
+    ensures ok { OnOk result
+        (out.new.items ≡ out.old.items ++ row_spellings proto (rows_of pairs.now)) }
     ensures err { OnErr result (IsPrefix out.old.items out.new.items) }
 {
     for (key, value) in pairs.items.as_slice() {
