@@ -1,4 +1,4 @@
-//! What the definitions say of each other. Each function's contract is the law, and it does nothing.
+//! A law of the definitions: its function has the law for its contract, and does nothing.
 ghost use Rattle.track_table.specs.Order.{HoldersGrow};
 
 /// Remembering a key changes the holders of that key alone.
