@@ -15,8 +15,8 @@ without_key key = filter (λ m. not (bytes_eq (key_of m.query) key))
 abbrev pub without_number : ℕ → List Mark → List Mark
 without_number number = filter (λ m. not (m.number == number))
 
-abbrev pub begun : ℕ → List (List ℕ) → List Mark → List Mark
-begun number query marks =
+abbrev pub with_mark : ℕ → List (List ℕ) → List Mark → List Mark
+with_mark number query marks =
     without_query query marks ++ record { number = number; query = query } ∷ []
 
 -- the query whose mark has that number

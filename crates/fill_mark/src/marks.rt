@@ -1,7 +1,8 @@
 //! The marks, the oldest first.
 ghost use Rattle.std.specs.Prelude.{◌≡◌, ◌==◌, ◌++◌, ◌∷◌, [], OnOk, OnErr, IfNone, MatchOption};
 ghost use Rattle.std.specs.Prelude.{option_copied};
-ghost use Rattle.fill_mark.specs.Marks.{begun, IsMarkAt, query_marked, without_key, without_number};
+ghost use Rattle.fill_mark.specs.Marks.{with_mark, IsMarkAt, query_marked, without_key};
+ghost use Rattle.fill_mark.specs.Marks.{without_number};
 
 use command_words::Query;
 use resp_value::NoMemory;
@@ -55,7 +56,7 @@ impl Marks {
 
     /// A mark for that number; an older mark of the same query goes.
     pub fn begin(&mut self, number: u64, query: Query) -> Result<(), NoMemory>
-        ensures ok { OnOk result (self.new ≡ begun number query self.old) }
+        ensures ok { OnOk result (self.new ≡ with_mark number query self.old) }
         ensures err { OnErr result (self.new ≡ self.old) }
     {
         self.items.reserve(1)?;

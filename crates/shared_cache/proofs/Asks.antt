@@ -7,7 +7,7 @@ use Rattle.std.proofs.lemmas.Bool.{and_right, or_cases, lt-ltb, cases_Bool}
 use Rattle.resp_value.specs.Spelling.{request_spelling}
 use Rattle.command_words.specs.Queries.{key_of, same_query, writes}
 use Rattle.fill_mark.specs.declared.marks.Mark.{Mark}
-use Rattle.fill_mark.specs.Marks.{begun}
+use Rattle.fill_mark.specs.Marks.{with_mark}
 use Rattle.shared_cache.specs.declared.log.Wire.TheVariants.{Main, Side}
 use Rattle.shared_cache.specs.declared.log.ClientMode.{ClientMode}
 use Rattle.shared_cache.specs.declared.log.LogEntry.{LogEntry}
@@ -21,11 +21,12 @@ use Rattle.shared_cache.specs.declared.notices.Notice.TheVariants.{Malformed}
 use Rattle.shared_cache.specs.Notices.{kind_of, named_keys, invalidates, invalidates_as}
 use Rattle.shared_cache.specs.Log.{first_number, is_ended, is_ready, is_broken}
 use Rattle.shared_cache.specs.Log.{is_broken_notice, caching_on, caching_on_for}
-use Rattle.shared_cache.specs.Held.{Setup, Key, Words, Caller, put_read, numbered, numbers, held_of}
+use Rattle.shared_cache.specs.Held.{Setup, Key, Words, Caller, put_read, numbered, numbers}
+use Rattle.shared_cache.specs.Held.{held_for}
 use Rattle.shared_cache.specs.Held.{used_at, unless, other_than, fetched, asked, sent, open_fetch}
 use Rattle.shared_cache.specs.Held.{last_use, held}
 use Rattle.shared_cache.specs.Slots.{slot_of, touched}
-use Rattle.shared_cache.specs.ClientFields.{Fields, Reflects, marks_by, mark_of}
+use Rattle.shared_cache.specs.ClientFields.{Fields, Reflects, marks_by, fetch_mark}
 use Rattle.shared_cache.proofs.Fetches.{unless_none}
 use Rattle.shared_cache.proofs.SlotLists.{slots_touched, slots_same}
 use Rattle.shared_cache.proofs.HeldSteps.{sent_hit, open_hit, held_hit, use_hit, sent_miss}
@@ -70,7 +71,7 @@ pub broken_none : (s : Setup) (log : List LogEntry) (n : ℕ) → is_broken s.mo
     → open_fetch s log n ≡ None
 broken_none s [] n e = cc
 broken_none s (Ask q ∷ log) n e =
-    asked_none (held_of q (held s log)) s.mode (caching_on_for s.mode log (key_of q))
+    asked_none (held_for q (held s log)) s.mode (caching_on_for s.mode log (key_of q))
     (numbers s log) q n (open_fetch s log n) (broken_off s.mode log e) (broken_none s log n e)
 broken_none s (Send ws ∷ log) n e =
     unless_none (writes ws) (open_fetch s log n) (broken_none s log n e)
@@ -97,7 +98,7 @@ some_of (Some h) e = (h, refl)
 -- ---- a hit
 
 module _ (s : Setup) (log : List LogEntry) (f : Fields) (k : Reflects s log f) where
-  reflects_hit_of : (q : Words) (h : CacheEntry) (now : ℕ) → held_of q (held s log) ≡ Some h
+  reflects_hit_of : (q : Words) (h : CacheEntry) (now : ℕ) → held_for q (held s log) ≡ Some h
       → now ≡ length log + 1
       → Reflects s (Ask q ∷ log) (record f { slots = map (touched (key_of q) now) f.slots })
   reflects_hit_of q h now e is = record {
@@ -124,34 +125,34 @@ module _ (s : Setup) (log : List LogEntry) (f : Fields) (k : Reflects s log f) w
     broken_is = k.broken_is;
   }
 
-  pub reflects_hit : (q : Words) (now : ℕ) → is_some (held_of q (held s log)) ≡ true
+  pub reflects_hit : (q : Words) (now : ℕ) → is_some (held_for q (held s log)) ≡ true
       → now ≡ length log + 1
       → Reflects s (Ask q ∷ log) (record f { slots = map (touched (key_of q) now) f.slots })
-  reflects_hit q now e is = let o = some_of (held_of q (held s log)) e in
+  reflects_hit q now e is = let o = some_of (held_for q (held s log)) e in
       reflects_hit_of q o.0 now o.1 is
 
   -- ---- a miss
 
-  marks_on : (q : Words) (number : ℕ) → held_of q (held s log) ≡ None → number ≡ numbers s log + 1
+  marks_on : (q : Words) (number : ℕ) → held_for q (held s log) ≡ None → number ≡ numbers s log + 1
       → caching_on s.mode log ≡ true
-      → begun number q (marks_by (open_fetch s log) f.replied (numbers s log)) ≡ marks_by
+      → with_mark number q (marks_by (open_fetch s log) f.replied (numbers s log)) ≡ marks_by
       (open_fetch s (Ask q ∷ log)) f.replied (suc (numbers s log))
   marks_on q number e is on =
       (λ i. sym (marks_filter (open_fetch s log) (open_fetch s (Ask q ∷ log))
       (λ (m : Mark). not (same_query m.query q)) f.replied (numbers s log)
-      (λ m le. ap (mark_of m) (open_old s log q e m le) ∙ mark_other q m (open_fetch s log m))) i
+      (λ m le. ap (fetch_mark m) (open_old s log q e m le) ∙ mark_other q m (open_fetch s log m))) i
       ++ record {
         number = (let g : number ≡ suc (numbers s log) = omega arith in g) i;
         query =
             q;
       } ∷ [])
-      ∙ ap (λ o. marks_by (open_fetch s (Ask q ∷ log)) f.replied (numbers s log) ++ mark_of
+      ∙ ap (λ o. marks_by (open_fetch s (Ask q ∷ log)) f.replied (numbers s log) ++ fetch_mark
       (suc (numbers s log)) o) (sym (open_new s log q e true on))
       ∙ ap (λ b. marks_by (open_fetch s (Ask q ∷ log)) f.replied (numbers s log) ++ cond b
-      (mark_of (suc (numbers s log)) (open_fetch s (Ask q ∷ log) (suc (numbers s log)))) [])
+      (fetch_mark (suc (numbers s log)) (open_fetch s (Ask q ∷ log) (suc (numbers s log)))) [])
       (sym (lt-ltb f.replied (suc (numbers s log)) (let w = k.replied_within in omega arith)))
 
-  reflects_miss : (q : Words) (new : List Mark) → held_of q (held s log) ≡ None
+  reflects_miss : (q : Words) (new : List Mark) → held_for q (held s log) ≡ None
       → new ≡ marks_by (open_fetch s (Ask q ∷ log)) f.replied (suc (numbers s log))
       → Reflects s (Ask q ∷ log)
       (record f {
@@ -193,7 +194,7 @@ module _ (s : Setup) (log : List LogEntry) (f : Fields) (k : Reflects s log f) w
       }
 
   -- while the redirection is not broken the fetch is open
-  reflects_fetch : (q : Words) (number : ℕ) → held_of q (held s log) ≡ None
+  reflects_fetch : (q : Words) (number : ℕ) → held_for q (held s log) ≡ None
       → number ≡ length f.pending + first_number s.mode → is_ready s.mode log ≡ true
       → f.ended ≡ false → f.broken ≡ false
       → Reflects s (Ask q ∷ log)
@@ -201,16 +202,16 @@ module _ (s : Setup) (log : List LogEntry) (f : Fields) (k : Reflects s log f) w
         queued = f.queued ++ request_spelling q;
         pending = f.pending ++ Waiting ∷ [];
         owed = f.owed + 1;
-        marks = begun number q f.marks;
+        marks = with_mark number q f.marks;
       })
   reflects_fetch q number e is ready open_ whole =
       let on : caching_on s.mode log ≡ true
       = λ i. ready i &&
       (not ((sym k.ended_is ∙ open_) i || k.side_is i) && not ((sym k.broken_is ∙ whole) i)) in
-      reflects_miss q (begun number q f.marks) e
-      (ap (begun number q) k.marks_is ∙ marks_on q number e (omega (arith, k.pending_count)) on)
+      reflects_miss q (with_mark number q f.marks) e
+      (ap (with_mark number q) k.marks_is ∙ marks_on q number e (omega (arith, k.pending_count)) on)
 
-  reflects_unmarked : (q : Words) → held_of q (held s log) ≡ None → f.broken ≡ true
+  reflects_unmarked : (q : Words) → held_for q (held s log) ≡ None → f.broken ≡ true
       → Reflects s (Ask q ∷ log)
       (record f {
         queued = f.queued ++ request_spelling q;
@@ -227,10 +228,10 @@ module _ (s : Setup) (log : List LogEntry) (f : Fields) (k : Reflects s log f) w
       (λ m. broken_none s (Ask q ∷ log) m off)))
 
   pub reflects_ask : (q : Words) (number : ℕ) (bytes : List ℕ) (new : List Mark)
-      → held_of q (held s log) ≡ None → number ≡ length f.pending + first_number s.mode
+      → held_for q (held s log) ≡ None → number ≡ length f.pending + first_number s.mode
       → is_ready s.mode log ≡ true → f.ended ≡ false
       → bytes ≡ f.queued ++ request_spelling q
-      → new ≡ cond f.broken f.marks (begun number q f.marks)
+      → new ≡ cond f.broken f.marks (with_mark number q f.marks)
       → Reflects s (Ask q ∷ log)
       (record f {
         queued = bytes;
@@ -240,8 +241,8 @@ module _ (s : Setup) (log : List LogEntry) (f : Fields) (k : Reflects s log f) w
             new;
       })
   reflects_ask q number bytes new e is ready open_ b m = elim (cases_Bool f.broken) [
-    | inl sure ↦ rw (b, m ∙ ap (λ x. cond x f.marks (begun number q f.marks)) sure)
+    | inl sure ↦ rw (b, m ∙ ap (λ x. cond x f.marks (with_mark number q f.marks)) sure)
         (reflects_unmarked q e sure)
-    | inr whole ↦ rw (b, m ∙ ap (λ x. cond x f.marks (begun number q f.marks)) whole)
+    | inr whole ↦ rw (b, m ∙ ap (λ x. cond x f.marks (with_mark number q f.marks)) whole)
         (reflects_fetch q number e is ready open_ whole)
   ]

@@ -14,7 +14,7 @@ use Rattle.shared_cache.specs.declared.log.LogEntry.TheVariants.{Ask, Send, Poll
 use Rattle.shared_cache.specs.declared.log.LogEntry.TheVariants.{End, Bad}
 use Rattle.shared_cache.specs.Log.{handshake, caching_on_for}
 use Rattle.shared_cache.specs.Held.{Setup, SentCommand, sent, put_ask, put_command}
-use Rattle.shared_cache.specs.Held.{held_of, held}
+use Rattle.shared_cache.specs.Held.{held_for, held}
 use Rattle.shared_cache.specs.Out.{out, taken, untaken}
 use Rattle.shared_cache.specs.Laws.{TakenWithin}
 
@@ -62,7 +62,7 @@ pub taken_main : (s : Setup) (log : List LogEntry) → taken s Main log ≤ leng
 taken_main s [] = omega arith
 taken_main s (Ask q ∷ log) =
     grown s log (Ask q ∷ log)
-    (put_ask (held_of q (held s log)) s.mode (caching_on_for s.mode log (key_of q)) q)
+    (put_ask (held_for q (held s log)) s.mode (caching_on_for s.mode log (key_of q)) q)
     (taken s Main log) refl (taken_main s log)
 taken_main s (Send ws ∷ log) =
     grown s log (Send ws ∷ log) (put_command s.mode ws) (taken s Main log) refl (taken_main s log)

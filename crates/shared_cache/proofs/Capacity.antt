@@ -19,7 +19,7 @@ use Rattle.shared_cache.specs.declared.notices.Notice.TheVariants.{Reply, Keys, 
 use Rattle.shared_cache.specs.declared.notices.Notice.TheVariants.{Malformed}
 use Rattle.shared_cache.specs.Notices.{kind_of, invalidates, is_reply}
 use Rattle.shared_cache.specs.Log.{replies}
-use Rattle.shared_cache.specs.Held.{Setup, Key, Words, held_of, has_key, keys_held, earlier}
+use Rattle.shared_cache.specs.Held.{Setup, Key, Words, held_for, has_key, keys_held, earlier}
 use Rattle.shared_cache.specs.Held.{earliest_from, earliest, key_held, leaving, open_fetch, left}
 use Rattle.shared_cache.specs.Held.{last_use, held}
 use Rattle.shared_cache.specs.Slots.{is_gone}
@@ -326,7 +326,7 @@ abbrev Within : Setup → List LogEntry → Type 0
 Within s log = keys_held (held s log) ≤ s.capacity
 
 asked_within : (s : Setup) (log : List LogEntry) (q : Words) → LegalLog s log
-    → (o : Option CacheEntry) → held_of q (held s log) ≡ o → Within s log → Within s (Ask q ∷ log)
+    → (o : Option CacheEntry) → held_for q (held s log) ≡ o → Within s log → Within s (Ask q ∷ log)
 asked_within s log q l (Some h) e w =
     subst (λ hs. keys_held hs ≤ s.capacity) (sym (held_hit s log q h e)) w
 asked_within s log q l None e w =
@@ -350,7 +350,7 @@ got_within s log v some w = elim (cases_Bool (is_reply (kind_of v))) [
 pub within_capacity : WithinCapacity
 within_capacity s [] some l = omega arith
 within_capacity s (Ask q ∷ log) some l =
-    asked_within s log q l.0 (held_of q (held s log)) refl (within_capacity s log some l.0)
+    asked_within s log q l.0 (held_for q (held s log)) refl (within_capacity s log some l.0)
 within_capacity s (Send ws ∷ log) some l =
     subst (λ hs. keys_held hs ≤ s.capacity) (sym (held_send s log ws))
     (let k = kept_keys (writes ws) (held s log) in let w = within_capacity s log some l.0 in

@@ -33,7 +33,7 @@ use Rattle.shared_cache.specs.Notices.{notice_of, invalidates}
 use Rattle.shared_cache.specs.Log.{handshake, replies, reply_in, with_reply, is_wire}
 use Rattle.shared_cache.specs.Log.{is_ready, is_accepted, caching_on_for}
 use Rattle.shared_cache.specs.Held.{Setup, Key, Words, SentCommand, Caller, put_ask, put_read}
-use Rattle.shared_cache.specs.Held.{put_command, held_of}
+use Rattle.shared_cache.specs.Held.{put_command, held_for}
 use Rattle.shared_cache.specs.Held.{numbers, sent, open_fetch, held}
 use Rattle.shared_cache.specs.Held.{commands}
 use Rattle.shared_cache.specs.Laws.{Every, IsQuery, LegalLog}
@@ -129,9 +129,9 @@ every_sent : (P : Words → Type 0) (s : Setup) → ((q : Words) → IsQuery q �
 every_sent P s asks sends [] l = tt
 every_sent P s asks sends (Ask q ∷ log) l =
     every_append (λ (c : SentCommand). P c.words) (sent s log)
-    (put_ask (held_of q (held s log)) s.mode (caching_on_for s.mode log (key_of q)) q)
+    (put_ask (held_for q (held s log)) s.mode (caching_on_for s.mode log (key_of q)) q)
     (every_sent P s asks sends log l.0)
-    (every_put (λ (c : SentCommand). P c.words) (held_of q (held s log)) s.mode
+    (every_put (λ (c : SentCommand). P c.words) (held_for q (held s log)) s.mode
     (caching_on_for s.mode log (key_of q)) q (asks q (newest s log (Ask q) l).0))
 every_sent P s asks sends (Send ws ∷ log) l =
     let k = newest s log (Send ws) l in
@@ -241,14 +241,14 @@ every_dropped P s log xs ys n le all p =
 pub no_later_write : NoLaterWrite
 no_later_write s [] n q l f = cc
 no_later_write s (Ask p ∷ log) n q l f =
-    elim (asked_some (held_of p (held s log)) s.mode (caching_on_for s.mode log (key_of p))
+    elim (asked_some (held_for p (held s log)) s.mode (caching_on_for s.mode log (key_of p))
     (numbers s log) p n (open_fetch s log n) q f) [
       | inl old ↦
           every_dropped (λ ws. writes ws (key_of q) ≡ false) s log (sent s log)
-          (put_ask (held_of p (held s log)) s.mode (caching_on_for s.mode log (key_of p)) p) n
+          (put_ask (held_for p (held s log)) s.mode (caching_on_for s.mode log (key_of p)) p) n
           (within s log n q old) (no_later_write s log n q l.0 old)
           (every_put (λ (c : SentCommand). writes c.words (key_of q) ≡ false)
-          (held_of p (held s log)) s.mode (caching_on_for s.mode log (key_of p)) p
+          (held_for p (held s log)) s.mode (caching_on_for s.mode log (key_of p)) p
           (query_writes_none p (key_of q) (newest s log (Ask p) l).0))
       | inr new ↦
           subst (λ o. Every (λ ws. writes ws (key_of q) ≡ false)

@@ -21,7 +21,7 @@ use Rattle.shared_cache.specs.Notices.{notice_of, is_reply}
 use Rattle.shared_cache.specs.Log.{handshake, replies, with_reply, is_wire}
 use Rattle.shared_cache.specs.Log.{caching_on_for}
 use Rattle.shared_cache.specs.Held.{Setup, Words, SentCommand, put_ask}
-use Rattle.shared_cache.specs.Held.{put_command, held_of}
+use Rattle.shared_cache.specs.Held.{put_command, held_for}
 use Rattle.shared_cache.specs.Held.{sent, held}
 use Rattle.resp_value.specs.Lists.{IsPrefix}
 use Rattle.shared_cache.specs.Laws.{gots}
@@ -40,7 +40,7 @@ after front xs ys p = (
 main_grows : (s : Setup) (e : LogEntry) (log : List LogEntry)
     → IsPrefix (sent s log) (sent s (e ∷ log))
 main_grows s (Ask q) log =
-    (put_ask (held_of q (held s log)) s.mode (caching_on_for s.mode log (key_of q)) q, refl)
+    (put_ask (held_for q (held s log)) s.mode (caching_on_for s.mode log (key_of q)) q, refl)
 main_grows s (Send ws) log = (put_command s.mode ws, refl)
 main_grows s (Poll n) log = ([], append-nil (sent s log))
 main_grows s (TakeOut w n) log = ([], append-nil (sent s log))

@@ -20,7 +20,7 @@ use Rattle.shared_cache.specs.Notices.{invalidates}
 use Rattle.shared_cache.specs.Log.{handshake, replies, reply_in, is_ended}
 use Rattle.shared_cache.specs.Log.{is_ready, is_broken, caching_on_for}
 use Rattle.shared_cache.specs.Held.{Setup, Key, Words, SentCommand, Caller, put_ask, put_read}
-use Rattle.shared_cache.specs.Held.{held_of, unless, other_than, fetched, asked, hold}
+use Rattle.shared_cache.specs.Held.{held_for, unless, other_than, fetched, asked, hold}
 use Rattle.shared_cache.specs.Held.{held_by, ends, numbers, sent, open_fetch, left, held}
 use Rattle.shared_cache.specs.Held.{commands}
 use Rattle.resp_value.specs.Lists.{IsPrefix}
@@ -92,7 +92,7 @@ one_later s log n q e spares w = record {
 pub open_was_sent : OpenWasSent
 open_was_sent s [] n q f = cc
 open_was_sent s (Ask p ∷ log) n q f =
-    elim (asked_some (held_of p (held s log)) s.mode (caching_on_for s.mode log (key_of p))
+    elim (asked_some (held_for p (held s log)) s.mode (caching_on_for s.mode log (key_of p))
     (numbers s log) p n (open_fetch s log n) q f) [
       | inl old ↦ one_later s log n q (Ask p) refl (open_was_sent s log n q old)
       | inr new ↦ record {
@@ -100,7 +100,7 @@ open_was_sent s (Ask p ∷ log) n q f =
         sooner = log;
         log_is = ap (λ x. Ask x ∷ log) new.query_is;
         number_is = new.number_is;
-        missed = ap (λ x. held_of x (held s log)) (sym new.query_is) ∙ new.missed;
+        missed = ap (λ x. held_for x (held s log)) (sym new.query_is) ∙ new.missed;
         on = new.turned_on;
         spared = tt;
       }
@@ -125,7 +125,7 @@ sent_ready s log n q f w =
 pub open_wires : OpenWires
 open_wires s [] n q f = cc
 open_wires s (Ask p ∷ log) n q f =
-    elim (asked_some (held_of p (held s log)) s.mode (caching_on_for s.mode log (key_of p))
+    elim (asked_some (held_for p (held s log)) s.mode (caching_on_for s.mode log (key_of p))
     (numbers s log) p n (open_fetch s log n) q f) [
       | inl old ↦ open_wires s log n q old
       | inr new ↦
@@ -180,7 +180,7 @@ place_later s e log n q p = (
 pub place_is_query : PlaceIsQuery
 place_is_query s [] n q f = cc
 place_is_query s (Ask p ∷ log) n q f =
-    elim (asked_some (held_of p (held s log)) s.mode (caching_on_for s.mode log (key_of p))
+    elim (asked_some (held_for p (held s log)) s.mode (caching_on_for s.mode log (key_of p))
     (numbers s log) p n (open_fetch s log n) q f) [
       | inl old ↦ place_later s (Ask p) log n q (place_is_query s log n q old)
       | inr new ↦ (

@@ -15,7 +15,7 @@ use Rattle.shared_cache.specs.declared.notices.Notice.TheVariants.{Reply, Keys, 
 use Rattle.shared_cache.specs.declared.notices.Notice.TheVariants.{Malformed}
 use Rattle.shared_cache.specs.Notices.{notice_of, invalidates}
 use Rattle.shared_cache.specs.Log.{is_wire, replies, with_reply}
-use Rattle.shared_cache.specs.Held.{Setup, Key, Words, SentCommand, numbered, numbers, held_of}
+use Rattle.shared_cache.specs.Held.{Setup, Key, Words, SentCommand, numbered, numbers, held_for}
 use Rattle.shared_cache.specs.Held.{held, unless, other_than, fetched, asked, put_ask, put_read}
 use Rattle.shared_cache.specs.Held.{put_command, sent, open_fetch, left}
 
@@ -39,7 +39,7 @@ pub beyond : (s : Setup) (log : List LogEntry) (n : ℕ) → numbers s log < n
     → open_fetch s log n ≡ None
 beyond s [] n lt = refl
 beyond s (Ask q ∷ log) n lt =
-    beyond_asked (held_of q (held s log)) _ q (sent s log) s n (open_fetch s log n) lt
+    beyond_asked (held_for q (held s log)) _ q (sent s log) s n (open_fetch s log n) lt
     (beyond s log n)
 beyond s (Send ws ∷ log) n lt =
     unless_none (writes ws) (open_fetch s log n)

@@ -6,7 +6,7 @@ use Rattle.std.proofs.lemmas.List.Elements.{filter-append}
 use Rattle.resp_value.specs.declared.value.Value.{Value}
 use Rattle.command_words.specs.Queries.{key_of, same_query}
 use Rattle.shared_cache.specs.declared.entry.CacheEntry.{CacheEntry}
-use Rattle.shared_cache.specs.Held.{Key, Words, held_of, unless, other_than, hold, held_by}
+use Rattle.shared_cache.specs.Held.{Key, Words, held_for, unless, other_than, hold, held_by}
 
 -- some of what is held stays
 pub held_filter : (open_of open_new : ℕ → Option Words) (left_of left_new : ℕ → Bool)
@@ -64,12 +64,12 @@ hold_other q (Some p) false v n =
     [ true ↦ refl | false ↦ refl ]
 
 -- what is not held does not go
-pub none_held : (q : Words) (hs : List CacheEntry) → held_of q hs ≡ None
+pub none_held : (q : Words) (hs : List CacheEntry) → held_for q hs ≡ None
     → filter (λ h. not (same_query h.query q)) hs ≡ hs
 none_held q [] e = refl
 none_held q (h ∷ hs) e =
     elim (same_query h.query q) as
-    (λ b. cond b (Some h) (held_of q hs) ≡ None
+    (λ b. cond b (Some h) (held_for q hs) ≡ None
     → cond (not b) (h ∷ filter (λ o. not (same_query o.query q)) hs)
     (filter (λ o. not (same_query o.query q)) hs) ≡ h ∷ hs) [
       | true ↦ λ f. cc

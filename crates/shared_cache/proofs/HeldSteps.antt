@@ -20,7 +20,7 @@ use Rattle.shared_cache.specs.declared.notices.Notice.TheVariants.{Malformed}
 use Rattle.shared_cache.specs.Notices.{kind_of, named_keys, invalidates, invalidates_as, is_reply}
 use Rattle.shared_cache.specs.Log.{replies, with_reply, caching_on, caching_on_for}
 use Rattle.shared_cache.specs.Held.{Setup, Key, Words, put_ask, put_read, numbers}
-use Rattle.shared_cache.specs.Held.{held_of, hit_of, used_at, unless, other_than, fetched, asked}
+use Rattle.shared_cache.specs.Held.{held_for, hit_of, used_at, unless, other_than, fetched, asked}
 use Rattle.shared_cache.specs.Held.{hold}
 use Rattle.shared_cache.specs.Held.{held_by, filled_by, leaving, is_key, sent, open_fetch, left}
 use Rattle.shared_cache.specs.Held.{last_use, held}
@@ -33,7 +33,7 @@ use Rattle.shared_cache.proofs.SlotLists.{filled}
 -- ---- an Ask that is a hit
 
 module _ (s : Setup) (log : List LogEntry) (q : Words) (h : CacheEntry)
-    (e : held_of q (held s log) ≡ Some h) where
+    (e : held_for q (held s log) ≡ Some h) where
   pub sent_hit : sent s (Ask q ∷ log) ≡ sent s log
   sent_hit = ap (λ o. sent s log ++ put_ask o s.mode (caching_on_for s.mode log (key_of q)) q) e
       ∙ append-nil (sent s log)
@@ -55,7 +55,7 @@ module _ (s : Setup) (log : List LogEntry) (q : Words) (h : CacheEntry)
 
 -- ---- an Ask that is none
 
-module _ (s : Setup) (log : List LogEntry) (q : Words) (e : held_of q (held s log) ≡ None) where
+module _ (s : Setup) (log : List LogEntry) (q : Words) (e : held_for q (held s log) ≡ None) where
   pub sent_miss : sent s (Ask q ∷ log) ≡ sent s log ++ put_read s.mode
       (caching_on_for s.mode log (key_of q)) q
   sent_miss = ap (λ o. sent s log ++ put_ask o s.mode (caching_on_for s.mode log (key_of q)) q) e

@@ -31,10 +31,11 @@ use Rattle.shared_cache.specs.Notices.{notice_of}
 use Rattle.shared_cache.specs.Log.{replies, with_reply, is_wire, is_ended}
 use Rattle.shared_cache.specs.Log.{is_ready, caching_on_for, reply}
 use Rattle.shared_cache.specs.Held.{Setup, Words, put_ask}
-use Rattle.shared_cache.specs.Held.{put_command, held_of}
+use Rattle.shared_cache.specs.Held.{put_command, held_for}
 use Rattle.shared_cache.specs.Held.{numbers, sent, held}
 use Rattle.shared_cache.specs.Out.{untaken, is_wanted}
-use Rattle.shared_cache.specs.Steps.{ClientTurn, refused, is_full, polling, taking, is_welcome}
+use Rattle.shared_cache.specs.Steps.{ClientTurn, refusing, is_log_full, polling, taking_out}
+use Rattle.shared_cache.specs.Steps.{is_welcome}
 use Rattle.shared_cache.specs.Steps.{judged_reply, judged, getting, fault_of, client_step}
 use Rattle.std.proofs.lemmas.Bool.{leb-false}
 use Rattle.shared_cache.specs.Laws.{IsQuery, IsCall, AsksQuery, LegalLog}
@@ -68,7 +69,7 @@ polling_known s None n true log e h = absurd (no_entry log e h)
 polling_known s None n false log e h = absurd (no_entry log e h)
 
 taking_known : (s : Setup) (w : Wire) (most : ℕ) (bytes : List ℕ) (full : Bool)
-    (log : List LogEntry) (e : LogEntry) → (taking w most bytes full log).past ≡ e ∷ log
+    (log : List LogEntry) (e : LogEntry) → (taking_out w most bytes full log).past ≡ e ∷ log
     → Known s log e
 taking_known s w most [] full log e h = absurd (no_entry log e h)
 taking_known s w most (b ∷ bytes) true log e h = absurd (no_entry log e h)
@@ -90,7 +91,7 @@ ask_known s log q e is h = elim (cases_Bool (is_ended s.mode Main log)) [
     | inr unready ↦ absurd
         (no_entry log e
         (ap (λ (t : ClientTurn). t.past) (sym (ask_unready s log q up unready)) ∙ h))
-    | inl ready ↦ elim (cases_Bool (is_full s log)) [
+    | inl ready ↦ elim (cases_Bool (is_log_full s log)) [
       | inl full ↦ absurd
           (no_entry log e
           (ap (λ (t : ClientTurn). t.past) (sym (ask_full s log q up ready full)) ∙ h))
@@ -113,7 +114,7 @@ send_known s log ws e some h = elim (cases_Bool (is_ended s.mode Main log)) [
       | inl control ↦ absurd
           (no_entry log e
           (ap (λ (t : ClientTurn). t.past) (sym (send_control s log ws up ready control)) ∙ h))
-      | inr plain ↦ elim (cases_Bool (is_full s log)) [
+      | inr plain ↦ elim (cases_Bool (is_log_full s log)) [
         | inl full ↦ absurd
             (no_entry log e
             (ap (λ (t : ClientTurn). t.past) (sym (send_full s log ws up ready plain full)) ∙ h))
@@ -132,7 +133,7 @@ known s log (call.Ask q) e is query h = ask_known s log q e query h
 known s log (call.Send ws) e is query h = send_known s log ws e is h
 known s log (call.Poll n) e is query h =
     elim (is_wanted s log n) as
-    (λ b. (cond (not b) (refused (NoNumber n) log)
+    (λ b. (cond (not b) (refusing (NoNumber n) log)
     (polling (reply s.mode log n) n (is_ended s.mode Main log) log)).past ≡ e ∷ log
     → Known s log e) [
       | true ↦ polling_known s (reply s.mode log n) n (is_ended s.mode Main log) log e
@@ -140,17 +141,17 @@ known s log (call.Poll n) e is query h =
     ] h
 known s log (call.TakeOut w n) e is query h =
     elim (is_ended s.mode w log) as
-    (λ b. (cond b (refused (Down w) log)
-    (taking w n (untaken s w log) (is_full s log) log)).past ≡ e ∷ log → Known s log e) [
+    (λ b. (cond b (refusing (Down w) log)
+    (taking_out w n (untaken s w log) (is_log_full s log) log)).past ≡ e ∷ log → Known s log e) [
       | true ↦ λ x. absurd (no_entry log e x)
-      | false ↦ taking_known s w n (untaken s w log) (is_full s log) log e
+      | false ↦ taking_known s w n (untaken s w log) (is_log_full s log) log e
     ] h
 known s log (call.Got w v) e is query h =
     elim (is_ended s.mode w log) as
-    (λ b. (cond b (refused (Down w) log)
-    (getting (fault_of s log w v) w v (is_full s log) log)).past ≡ e ∷ log → Known s log e) [
+    (λ b. (cond b (refusing (Down w) log)
+    (getting (fault_of s log w v) w v (is_log_full s log) log)).past ≡ e ∷ log → Known s log e) [
       | true ↦ λ x. absurd (no_entry log e x)
-      | false ↦ getting_known s (fault_of s log w v) w v (is_full s log) log e is refl
+      | false ↦ getting_known s (fault_of s log w v) w v (is_log_full s log) log e is refl
     ] h
 known s log (call.End w) e is query h =
     elim (is_ended s.mode w log) as (λ b. cond b log (End w ∷ log) ≡ e ∷ log → Known s log e) [
@@ -196,7 +197,7 @@ replies_within s (Ask q ∷ log) l =
     omega (
       arith,
       length-append (sent s log)
-          (put_ask (held_of q (held s log)) s.mode (caching_on_for s.mode log (key_of q)) q),
+          (put_ask (held_for q (held s log)) s.mode (caching_on_for s.mode log (key_of q)) q),
     )
 replies_within s (Send ws ∷ log) l = let w = replies_within s log l.0 in
     omega (arith, length-append (sent s log) (put_command s.mode ws))
@@ -225,7 +226,7 @@ polling_adds None n true log = inl refl
 polling_adds None n false log = inl refl
 
 taking_adds : (w : Wire) (most : ℕ) (bytes : List ℕ) (full : Bool) (log : List LogEntry)
-    → Adds log (taking w most bytes full log)
+    → Adds log (taking_out w most bytes full log)
 taking_adds w most [] full log = inl refl
 taking_adds w most (b ∷ bytes) true log = inl refl
 taking_adds w most (b ∷ bytes) false log = inr (TakeOut w most, refl)
@@ -246,21 +247,21 @@ unfolding client_step
 step_adds s log (call.Ask q) =
     if_adds log (is_ended s.mode Main log) _ _ (inl refl)
     (if_adds log (not (is_ready s.mode log)) _ _ (inl refl)
-    (if_adds log (is_full s log) _ _ (inl refl) (inr (Ask q, refl))))
+    (if_adds log (is_log_full s log) _ _ (inl refl) (inr (Ask q, refl))))
 step_adds s log (call.Send ws) =
     if_adds log (is_ended s.mode Main log) _ _ (inl refl)
     (if_adds log (not (is_ready s.mode log)) _ _ (inl refl)
     (if_adds log (is_control ws) _ _ (inl refl)
-    (if_adds log (is_full s log) _ _ (inl refl) (inr (Send ws, refl)))))
+    (if_adds log (is_log_full s log) _ _ (inl refl) (inr (Send ws, refl)))))
 step_adds s log (call.Poll n) =
     if_adds log (not (is_wanted s log n)) _ _ (inl refl)
     (polling_adds (reply s.mode log n) n (is_ended s.mode Main log) log)
 step_adds s log (call.TakeOut w n) =
     if_adds log (is_ended s.mode w log) _ _ (inl refl)
-    (taking_adds w n (untaken s w log) (is_full s log) log)
+    (taking_adds w n (untaken s w log) (is_log_full s log) log)
 step_adds s log (call.Got w v) =
     if_adds log (is_ended s.mode w log) _ _ (inl refl)
-    (getting_adds (fault_of s log w v) w v (is_full s log) log)
+    (getting_adds (fault_of s log w v) w v (is_log_full s log) log)
 step_adds s log (call.End w) =
     elim (is_ended s.mode w log) as
     (λ b. (cond b log (End w ∷ log) ≡ log)

@@ -10,21 +10,21 @@ use Rattle.command_words.specs.Queries.{key_of, same_query}
 use Rattle.fill_mark.specs.declared.marks.Mark.{Mark}
 use Rattle.fill_mark.specs.Marks.{query_marked, without_number, without_query}
 use Rattle.shared_cache.specs.Held.{Key, Words, unless, other_than}
-use Rattle.shared_cache.specs.ClientFields.{mark_of, marks_by}
+use Rattle.shared_cache.specs.ClientFields.{fetch_mark, marks_by}
 
 -- some marks stay
 pub marks_filter : (open_of open_new : ℕ → Option Words) (p : Mark → Bool) (replied n : ℕ)
-    → ((m : ℕ) → m ≤ n → mark_of m (open_new m) ≡ filter p (mark_of m (open_of m)))
+    → ((m : ℕ) → m ≤ n → fetch_mark m (open_new m) ≡ filter p (fetch_mark m (open_of m)))
     → marks_by open_new replied n ≡ filter p (marks_by open_of replied n)
 marks_filter open_of open_new p replied zero each = refl
 marks_filter open_of open_new p replied (suc n) each =
     (λ i. marks_filter open_of open_new p replied n (λ m le. each m (omega arith)) i
     ++ elim (nat_lt replied (suc n)) as
-    (λ b. cond b (mark_of (suc n) (open_new (suc n))) [] ≡ filter p
-    (cond b (mark_of (suc n) (open_of (suc n))) []))
+    (λ b. cond b (fetch_mark (suc n) (open_new (suc n))) [] ≡ filter p
+    (cond b (fetch_mark (suc n) (open_of (suc n))) []))
     [ true ↦ each (suc n) (omega arith) | false ↦ refl ] i)
     ∙ sym (filter-append p (marks_by open_of replied n)
-    (cond (nat_lt replied (suc n)) (mark_of (suc n) (open_of (suc n))) []))
+    (cond (nat_lt replied (suc n)) (fetch_mark (suc n) (open_of (suc n))) []))
 
 pub marks_same : (open_of open_new : ℕ → Option Words) (replied n : ℕ)
     → ((m : ℕ) → m ≤ n → open_new m ≡ open_of m)
@@ -32,7 +32,7 @@ pub marks_same : (open_of open_new : ℕ → Option Words) (replied n : ℕ)
 marks_same open_of open_new replied zero each = refl
 marks_same open_of open_new replied (suc n) each =
     λ i. marks_same open_of open_new replied n (λ m le. each m (omega arith)) i
-    ++ cond (nat_lt replied (suc n)) (mark_of (suc n) (each (suc n) (omega arith) i)) []
+    ++ cond (nat_lt replied (suc n)) (fetch_mark (suc n) (each (suc n) (omega arith) i)) []
 
 pub marks_none : (replied n : ℕ) → marks_by (λ m. None) replied n ≡ []
 marks_none replied zero = refl
@@ -41,61 +41,62 @@ marks_none replied (suc n) =
     (λ b. cond {A = List Mark} b [] [] ≡ []) [ true ↦ refl | false ↦ refl ] i)
 
 pub mark_unless : (t : Key → Bool) (n : ℕ) (o : Option Words)
-    → mark_of n (unless t o) ≡ filter (λ m. not (t (key_of m.query))) (mark_of n o)
+    → fetch_mark n (unless t o) ≡ filter (λ m. not (t (key_of m.query))) (fetch_mark n o)
 mark_unless t n None = refl
 mark_unless t n (Some q) =
     let m : Mark = record { number = n; query = q } in
     elim (t (key_of q)) as
-    (λ b. mark_of n (cond b None (Some q)) ≡ cond (not b) (m ∷ []) [])
+    (λ b. fetch_mark n (cond b None (Some q)) ≡ cond (not b) (m ∷ []) [])
     [ true ↦ refl | false ↦ refl ]
 
 pub mark_other : (q : Words) (n : ℕ) (o : Option Words)
-    → mark_of n (other_than q o) ≡ without_query q (mark_of n o)
+    → fetch_mark n (other_than q o) ≡ without_query q (fetch_mark n o)
 mark_other q n None = refl
 mark_other q n (Some p) =
     let m : Mark = record { number = n; query = p } in
     elim (same_query p q) as
-    (λ b. mark_of n (cond b None (Some p)) ≡ cond (not b) (m ∷ []) [])
+    (λ b. fetch_mark n (cond b None (Some p)) ≡ cond (not b) (m ∷ []) [])
     [ true ↦ refl | false ↦ refl ]
 
 -- ---- the mark of the next reply
 
-one_less : (n k : ℕ) (o : Option Words) → (n ≡ k → ⊥) → without_number k (mark_of n o) ≡ mark_of n o
+one_less : (n k : ℕ) (o : Option Words) → (n ≡ k → ⊥)
+    → without_number k (fetch_mark n o) ≡ fetch_mark n o
 one_less n k None ne = refl
 one_less n k (Some q) ne = let m : Mark = record { number = n; query = q } in
     ap (λ b. cond (not b) (m ∷ []) []) (ne_eqb n k ne)
 
-one_gone : (n : ℕ) (o : Option Words) → without_number n (mark_of n o) ≡ []
+one_gone : (n : ℕ) (o : Option Words) → without_number n (fetch_mark n o) ≡ []
 one_gone n None = refl
 one_gone n (Some q) = let m : Mark = record { number = n; query = q } in
     ap (λ b. cond (not b) (m ∷ []) []) (eq-eqb n n refl)
 
 -- the last part of the marks, where the next number goes
 last_next : (open_of : ℕ → Option Words) (replied n : ℕ)
-    → cond (nat_lt (suc replied) (suc n)) (mark_of (suc n) (open_of (suc n))) []
+    → cond (nat_lt (suc replied) (suc n)) (fetch_mark (suc n) (open_of (suc n))) []
     ≡ without_number (suc replied)
-    (cond (nat_lt replied (suc n)) (mark_of (suc n) (open_of (suc n))) [])
+    (cond (nat_lt replied (suc n)) (fetch_mark (suc n) (open_of (suc n))) [])
 last_next open_of replied n = elim (cases_lt replied n) [
   | inl lt ↦
-      ap (λ b. cond b (mark_of (suc n) (open_of (suc n))) [])
+      ap (λ b. cond b (fetch_mark (suc n) (open_of (suc n))) [])
       (lt-ltb (suc replied) (suc n) (omega arith))
       ∙ sym (one_less (suc n) (suc replied) (open_of (suc n)) (λ e. omega arith))
-      ∙ ap (λ b. without_number (suc replied) (cond b (mark_of (suc n) (open_of (suc n))) []))
+      ∙ ap (λ b. without_number (suc replied) (cond b (fetch_mark (suc n) (open_of (suc n))) []))
       (sym (lt-ltb replied (suc n) (omega arith)))
   | inr le ↦
-      ap (λ b. cond b (mark_of (suc n) (open_of (suc n))) [])
+      ap (λ b. cond b (fetch_mark (suc n) (open_of (suc n))) [])
       (le-ltb (suc replied) (suc n) (omega arith))
       ∙ sym (elim (cases_eq n replied) [
         | inl e ↦ elim (nat_lt replied (suc n)) as
             (λ b.
-            without_number (suc replied) (cond b (mark_of (suc n) (open_of (suc n))) []) ≡ []) [
+            without_number (suc replied) (cond b (fetch_mark (suc n) (open_of (suc n))) []) ≡ []) [
               | true ↦ subst
-                  (λ k. without_number (suc k) (mark_of (suc n) (open_of (suc n))) ≡ []) e
+                  (λ k. without_number (suc k) (fetch_mark (suc n) (open_of (suc n))) ≡ []) e
                   (one_gone (suc n) (open_of (suc n)))
               | false ↦ refl
             ]
         | inr ne ↦ ap
-            (λ b. without_number (suc replied) (cond b (mark_of (suc n) (open_of (suc n))) []))
+            (λ b. without_number (suc replied) (cond b (fetch_mark (suc n) (open_of (suc n))) []))
             (le-ltb replied (suc n) (omega arith))
       ])
 ]
@@ -106,7 +107,7 @@ marks_next open_of replied zero = refl
 marks_next open_of replied (suc n) =
     (λ i. marks_next open_of replied n i ++ last_next open_of replied n i)
     ∙ sym (filter-append (λ (m : Mark). not (m.number == suc replied)) (marks_by open_of replied n)
-    (cond (nat_lt replied (suc n)) (mark_of (suc n) (open_of (suc n))) []))
+    (cond (nat_lt replied (suc n)) (fetch_mark (suc n) (open_of (suc n))) []))
 
 -- ---- finding a mark
 
@@ -126,12 +127,12 @@ found_in n (m ∷ xs) ys =
     ]
 
 not_here : (n k : ℕ) (o : Option Words) (b : Bool) → (k ≡ n → ⊥)
-    → query_marked n (cond b (mark_of k o) []) ≡ None
+    → query_marked n (cond b (fetch_mark k o) []) ≡ None
 not_here n k None true ne = refl
 not_here n k (Some q) true ne = ap (λ b. cond b (Some q) None) (ne_eqb k n ne)
 not_here n k o false ne = refl
 
-is_here : (n : ℕ) (o : Option Words) → query_marked n (mark_of n o) ≡ o
+is_here : (n : ℕ) (o : Option Words) → query_marked n (fetch_mark n o) ≡ o
 is_here n None = refl
 is_here n (Some q) = ap (λ b. cond b (Some q) None) (eq-eqb n n refl)
 
@@ -140,7 +141,7 @@ none_past : (open_of : ℕ → Option Words) (replied n m : ℕ) → n < m
 none_past open_of replied zero m lt = refl
 none_past open_of replied (suc n) m lt =
     found_in m (marks_by open_of replied n)
-    (cond (nat_lt replied (suc n)) (mark_of (suc n) (open_of (suc n))) [])
+    (cond (nat_lt replied (suc n)) (fetch_mark (suc n) (open_of (suc n))) [])
     ∙ (λ i. or_else (none_past open_of replied n m (omega arith) i)
     (not_here m (suc n) (open_of (suc n)) (nat_lt replied (suc n)) (λ e. omega arith) i))
 
@@ -154,14 +155,14 @@ pub marks_find : (open_of : ℕ → Option Words) (replied n m : ℕ) → replie
 marks_find open_of replied zero m lt le = absurd (omega arith)
 marks_find open_of replied (suc n) m lt le =
     found_in m (marks_by open_of replied n)
-    (cond (nat_lt replied (suc n)) (mark_of (suc n) (open_of (suc n))) [])
+    (cond (nat_lt replied (suc n)) (fetch_mark (suc n) (open_of (suc n))) [])
     ∙ elim (cases_eq m (suc n)) [
       | inl e ↦
           (λ i. or_else (none_past open_of replied n m (omega arith) i)
           (query_marked m
           (cond (lt-ltb replied (suc n) (omega arith) i)
-          (mark_of (suc n) (open_of (suc n))) [])))
-          ∙ subst (λ k. query_marked k (mark_of (suc n) (open_of (suc n))) ≡ open_of k) (sym e)
+          (fetch_mark (suc n) (open_of (suc n))) [])))
+          ∙ subst (λ k. query_marked k (fetch_mark (suc n) (open_of (suc n))) ≡ open_of k) (sym e)
           (is_here (suc n) (open_of (suc n)))
       | inr ne ↦
           (λ i. or_else (marks_find open_of replied n m lt (omega arith) i)

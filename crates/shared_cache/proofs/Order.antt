@@ -16,7 +16,7 @@ use Rattle.shared_cache.specs.declared.entry.CacheEntry.{CacheEntry}
 use Rattle.shared_cache.specs.declared.log.Wire.TheVariants.{Main}
 use Rattle.shared_cache.specs.Log.{replies}
 use Rattle.shared_cache.specs.Held.{Words, shown_words, hold, held_by, held, open_fetch, left}
-use Rattle.shared_cache.specs.Held.{order, is_before, rank, ranked, held_at}
+use Rattle.shared_cache.specs.Held.{order, is_before, rank, ranked, held_in_place}
 use Rattle.shared_cache.specs.Laws.{Every, InOrder, HeldInOrder}
 use Rattle.shared_cache.proofs.Every.{every_append, every_weaker}
 
@@ -265,10 +265,10 @@ same_ranked hs a b apart i j e = elim (cases_eq a.number b.number) [
   ]
 ]
 
-no_place : (hs : List CacheEntry) (place : ℕ) → length hs ≤ place → held_at place hs ≡ None
-no_place hs place beyond = none (held_at place hs) refl
+no_place : (hs : List CacheEntry) (place : ℕ) → length hs ≤ place → held_in_place place hs ≡ None
+no_place hs place beyond = none (held_in_place place hs) refl
   where
-    none : (o : Option CacheEntry) → held_at place hs ≡ o → o ≡ None
+    none : (o : Option CacheEntry) → held_in_place place hs ≡ o → o ≡ None
     none None is = refl
     none (Some h) is =
         let r = ranked_is place hs hs h is in
@@ -285,13 +285,14 @@ in_order hs apart = record {
   sorted = λ p q g h less gs hs_. sorted_at p q g h less gs hs_;
 }
   where
-    listed_at : (h : CacheEntry) → Among h hs → held_at (rank h hs) hs ≡ Some h
+    listed_at : (h : CacheEntry) → Among h hs → held_in_place (rank h hs) hs ≡ Some h
     listed_at h a =
         let s = ranked_some (rank h hs) hs hs h a refl in
         let r = ranked_is (rank h hs) hs hs s.0 s.1 in
         s.1 ∙ ap Some (same_ranked hs s.0 h apart r.0 a r.1)
 
-    sorted_at : (p q : ℕ) (g h : CacheEntry) → p < q → held_at p hs ≡ Some g → held_at q hs ≡ Some h
+    sorted_at : (p q : ℕ) (g h : CacheEntry) → p < q → held_in_place p hs ≡ Some g
+        → held_in_place q hs ≡ Some h
         → is_before g h ≡ true
     sorted_at p q g h less g_is h_is =
         let a = ranked_is p hs hs g g_is in

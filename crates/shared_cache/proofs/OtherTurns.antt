@@ -26,12 +26,12 @@ use Rattle.shared_cache.specs.declared.entry.PendingReply.TheVariants.{Waiting, 
 use Rattle.shared_cache.specs.Log.{handshake, handshake_length, first_number, replies, reply_in}
 use Rattle.shared_cache.specs.Log.{is_wire, is_ended}
 use Rattle.shared_cache.specs.Held.{Setup, Words, Caller, put_command, sent, open_fetch, left}
-use Rattle.shared_cache.specs.Held.{last_use, held, held_of, held_at, numbers}
+use Rattle.shared_cache.specs.Held.{last_use, held, held_for, held_in_place, numbers}
 use Rattle.shared_cache.specs.Out.{is_polled}
 use Rattle.shared_cache.specs.Slots.{slot_of, entry_in, slot_for, ranked_slot}
 use Rattle.shared_cache.specs.Out.{untaken}
 use Rattle.shared_cache.specs.ClientFields.{Fields, Reflects, IsLast, pending_at, there, marks_by}
-use Rattle.shared_cache.specs.ClientFields.{mark_of}
+use Rattle.shared_cache.specs.ClientFields.{fetch_mark}
 use Rattle.shared_cache.proofs.Fetches.{beyond, unless_none}
 use Rattle.shared_cache.proofs.HeldLists.{held_none}
 use Rattle.shared_cache.proofs.SlotLists.{slots_filter, slot_for_is, ranked_slot_is}
@@ -45,7 +45,8 @@ pub marks_plus_none : (open_of : ℕ → Option Words) (replied n m : ℕ) → m
     → open_of (suc n) ≡ None → marks_by open_of replied m ≡ marks_by open_of replied n
 marks_plus_none open_of replied n m e none =
     ap (marks_by open_of replied) e
-    ∙ ap (λ o. marks_by open_of replied n ++ cond (nat_lt replied (suc n)) (mark_of (suc n) o) [])
+    ∙ ap (λ o. marks_by open_of replied n ++ cond (nat_lt replied (suc n))
+    (fetch_mark (suc n) o) [])
     none
     ∙ ap (λ l. marks_by open_of replied n ++ l)
     (elim (nat_lt replied (suc n)) as
@@ -233,12 +234,12 @@ module _ (s : Setup) (log : List LogEntry) (f : Fields) (k : Reflects s log f) w
 
   -- what the slots say of what is held
   pub slot_found : (q : Words) (os : List Slot) → os ≡ f.slots
-      → entry_in (slot_for q os) ≡ held_of q (held s log)
+      → entry_in (slot_for q os) ≡ held_for q (held s log)
   slot_found q os e = ap (λ l. entry_in (slot_for q l)) (e ∙ k.slots_is)
       ∙ slot_for_is (last_use s log) q (held s log)
 
   pub slot_placed : (place : ℕ) (os : List Slot) → os ≡ f.slots
-      → entry_in (ranked_slot place os os) ≡ held_at place (held s log)
+      → entry_in (ranked_slot place os os) ≡ held_in_place place (held s log)
   slot_placed place os e = ap (λ l. entry_in (ranked_slot place l l)) (e ∙ k.slots_is)
       ∙ ranked_slot_is (last_use s log) place (held s log) (held s log)
 

@@ -10,7 +10,8 @@ use Rattle.resp_value.specs.declared.value.Value.{Value}
 use Rattle.command_words.specs.Queries.{key_of, same_query}
 use Rattle.shared_cache.specs.declared.entry.CacheEntry.{CacheEntry}
 use Rattle.shared_cache.specs.declared.entry.Slot.{Slot}
-use Rattle.shared_cache.specs.Held.{Key, Words, held_of, has_key, keys_held, earlier, earliest_from}
+use Rattle.shared_cache.specs.Held.{Key, Words, held_for, has_key, keys_held, earlier}
+use Rattle.shared_cache.specs.Held.{earliest_from}
 use Rattle.shared_cache.specs.Held.{earliest, key_held, leaving, used_at, is_before, rank, ranked}
 use Rattle.shared_cache.specs.Slots.{slot_of, entry_in, slot_for, has_slot, slot_keys}
 use Rattle.shared_cache.specs.Slots.{earliest_slot_from, earliest_slot, slot_key, leaving_slots}
@@ -26,13 +27,13 @@ filled capacity use_of (Some q) n v hs =
 
 module _ (use_of : Key → ℕ) where
   pub slot_for_is : (q : Words) (hs : List CacheEntry)
-      → entry_in (slot_for q (map (slot_of use_of) hs)) ≡ held_of q hs
+      → entry_in (slot_for q (map (slot_of use_of) hs)) ≡ held_for q hs
   slot_for_is q [] = refl
   slot_for_is q (h ∷ hs) =
       elim (same_query h.query q) as
       (λ b. entry_in
       (cond b (Some (slot_of use_of h)) (slot_for q (map (slot_of use_of) hs))) ≡ cond b
-      (Some h) (held_of q hs))
+      (Some h) (held_for q hs))
       [ true ↦ refl | false ↦ slot_for_is q hs ]
 
   pub has_slot_is : (k : Key) (hs : List CacheEntry)

@@ -27,7 +27,7 @@ use Rattle.shared_cache.specs.Notices.{kind_of, IsPush}
 use Rattle.shared_cache.specs.Log.{handshake_length, first_number, replies, reply, is_ended}
 use Rattle.shared_cache.specs.Log.{is_ready, caching_on_for}
 use Rattle.shared_cache.specs.Held.{Setup, Words, SentCommand, sent, put_ask, put_command, held}
-use Rattle.shared_cache.specs.Held.{held_of, numbers}
+use Rattle.shared_cache.specs.Held.{held_for, numbers}
 use Rattle.shared_cache.specs.Out.{untaken, is_polled, is_caller, is_callers, was_given, is_wanted}
 use Rattle.shared_cache.specs.Laws.{Every}
 use Rattle.shared_cache.proofs.Every.{every_append}
@@ -35,8 +35,8 @@ use Rattle.std.specs.List.{slice_get}
 use Rattle.std.proofs.lemmas.Option.{slice_get_past}
 use Rattle.command_words.specs.Queries.{key_of}
 use Rattle.shared_cache.specs.declared.log.ClientMode.{ClientMode}
-use Rattle.shared_cache.specs.Steps.{refused, is_full, read_number, command_number, answer_ask}
-use Rattle.shared_cache.specs.Steps.{polling, taking, is_welcome, judged, fault_of, getting}
+use Rattle.shared_cache.specs.Steps.{refusing, is_log_full, read_number, command_number, answer_ask}
+use Rattle.shared_cache.specs.Steps.{polling, taking_out, is_welcome, judged, fault_of, getting}
 use Rattle.shared_cache.specs.Steps.{client_step, ClientStep}
 
 -- an answer to an Ask is the step's
@@ -59,9 +59,9 @@ sent_callers : (s : Setup) (log : List LogEntry)
 sent_callers s [] = tt
 sent_callers s (entry.Ask q ∷ log) =
     every_append (λ (c : SentCommand). is_caller c.origin ≡ true) (sent s log)
-    (put_ask (held_of q (held s log)) s.mode (caching_on_for s.mode log (key_of q)) q)
+    (put_ask (held_for q (held s log)) s.mode (caching_on_for s.mode log (key_of q)) q)
     (sent_callers s log)
-    (ask_callers (held_of q (held s log)) s.mode (caching_on_for s.mode log (key_of q)) q)
+    (ask_callers (held_for q (held s log)) s.mode (caching_on_for s.mode log (key_of q)) q)
 sent_callers s (entry.Send ws ∷ log) =
     every_append (λ (c : SentCommand). is_caller c.origin ≡ true) (sent s log)
     (put_command s.mode ws) (sent_callers s log) (refl, tt)
@@ -80,25 +80,25 @@ callers_at (c ∷ cs) (suc i) all lt = callers_at cs i all.1 (omega arith)
 
 module _ (s : Setup) (log : List LogEntry) where
   pub ask_down : (q : Words) → is_ended s.mode Main log ≡ true
-      → client_step s log (Ask q) ≡ refused (Down Main) log
+      → client_step s log (Ask q) ≡ refusing (Down Main) log
   unfolding client_step
   ask_down q e = rw e refl
 
   pub ask_unready : (q : Words) → is_ended s.mode Main log ≡ false → is_ready s.mode log ≡ false
-      → client_step s log (Ask q) ≡ refused NotReady log
+      → client_step s log (Ask q) ≡ refusing NotReady log
   unfolding client_step
   ask_unready q e r = rw (e, r) refl
 
   pub ask_full : (q : Words) → is_ended s.mode Main log ≡ false → is_ready s.mode log ≡ true
-      → is_full s log ≡ true → client_step s log (Ask q) ≡ refused (LogFull (length log)) log
+      → is_log_full s log ≡ true → client_step s log (Ask q) ≡ refusing (LogFull (length log)) log
   unfolding client_step
   ask_full q e r f = rw (e, r, f) refl
 
   pub ask_ok : (q : Words) → is_ended s.mode Main log ≡ false → is_ready s.mode log ≡ true
-      → is_full s log ≡ false
+      → is_log_full s log ≡ false
       → client_step s log
       (Ask q) ≡ record {
-        reply = answer_ask (held_of q (held s log)) (read_number s log q);
+        reply = answer_ask (held_for q (held s log)) (read_number s log q);
         past =
             entry.Ask q ∷ log;
       }
@@ -106,38 +106,38 @@ module _ (s : Setup) (log : List LogEntry) where
   ask_ok q e r f = rw (e, r, f) refl
 
   pub send_down : (ws : Words) → is_ended s.mode Main log ≡ true
-      → client_step s log (Send ws) ≡ refused (Down Main) log
+      → client_step s log (Send ws) ≡ refusing (Down Main) log
   unfolding client_step
   send_down ws e = rw e refl
 
   pub send_unready : (ws : Words) → is_ended s.mode Main log ≡ false → is_ready s.mode log ≡ false
-      → client_step s log (Send ws) ≡ refused NotReady log
+      → client_step s log (Send ws) ≡ refusing NotReady log
   unfolding client_step
   send_unready ws e r = rw (e, r) refl
 
   pub send_control : (ws : Words) → is_ended s.mode Main log ≡ false → is_ready s.mode log ≡ true
-      → is_control ws ≡ true → client_step s log (Send ws) ≡ refused Control log
+      → is_control ws ≡ true → client_step s log (Send ws) ≡ refusing Control log
   unfolding client_step
   send_control ws e r c = rw (e, r, c) refl
 
   pub send_full : (ws : Words) → is_ended s.mode Main log ≡ false → is_ready s.mode log ≡ true
-      → is_control ws ≡ false → is_full s log ≡ true
-      → client_step s log (Send ws) ≡ refused (LogFull (length log)) log
+      → is_control ws ≡ false → is_log_full s log ≡ true
+      → client_step s log (Send ws) ≡ refusing (LogFull (length log)) log
   unfolding client_step
   send_full ws e r c f = rw (e, r, c, f) refl
 
   pub send_ok : (ws : Words) → is_ended s.mode Main log ≡ false → is_ready s.mode log ≡ true
-      → is_control ws ≡ false → is_full s log ≡ false
+      → is_control ws ≡ false → is_log_full s log ≡ false
       → client_step s log
       (Send ws) ≡ record { reply = Sent (command_number s log ws); past = entry.Send ws ∷ log }
   unfolding client_step
   send_ok ws e r c f = rw (e, r, c, f) refl
 
   pub poll_unwanted : (n : ℕ) → is_wanted s log n ≡ false
-      → client_step s log (Poll n) ≡ refused (NoNumber n) log
+      → client_step s log (Poll n) ≡ refusing (NoNumber n) log
   unfolding client_step
   poll_unwanted n e =
-      ap (λ b. cond (not b) (refused (NoNumber n) log)
+      ap (λ b. cond (not b) (refusing (NoNumber n) log)
       (polling (reply s.mode log n) n (is_ended s.mode Main log) log)) e
 
   pub poll_wanted : (n : ℕ) (o : Option Value) (over : Bool) → is_wanted s log n ≡ true
@@ -145,55 +145,57 @@ module _ (s : Setup) (log : List LogEntry) where
       → client_step s log (Poll n) ≡ polling o n over log
   unfolding client_step
   poll_wanted n o over e f g =
-      ap (λ b. cond (not b) (refused (NoNumber n) log)
+      ap (λ b. cond (not b) (refusing (NoNumber n) log)
       (polling (reply s.mode log n) n (is_ended s.mode Main log) log)) e
       ∙ (λ i. polling (f i) n (g i) log)
 
   pub take_down : (most : ℕ) → is_ended s.mode Main log ≡ true
-      → client_step s log (TakeOut Main most) ≡ refused (Down Main) log
+      → client_step s log (TakeOut Main most) ≡ refusing (Down Main) log
   unfolding client_step
   take_down most e = rw e refl
 
   no_bytes : (most : ℕ) (bytes : List ℕ) (full : Bool) → (length bytes == 0) ≡ true
-      → taking Main most bytes full log ≡ record { reply = Quiet; past = log }
+      → taking_out Main most bytes full log ≡ record { reply = Quiet; past = log }
   no_bytes most [] full e = refl
   no_bytes most (b ∷ bytes) full e =
       absurd (let h : length (b ∷ bytes) ≡ 0 = eqb-true (length (b ∷ bytes)) 0 e in omega arith)
 
   some_bytes : (most : ℕ) (bytes : List ℕ) → (length bytes == 0) ≡ false
-      → taking Main most bytes false log ≡ record
+      → taking_out Main most bytes false log ≡ record
       { reply = Bytes (take most bytes); past = entry.TakeOut Main most ∷ log }
   some_bytes most [] e = cc
   some_bytes most (b ∷ bytes) e = refl
 
   full_bytes : (most : ℕ) (bytes : List ℕ) → (length bytes == 0) ≡ false
-      → taking Main most bytes true log ≡ refused (LogFull (length log)) log
+      → taking_out Main most bytes true log ≡ refusing (LogFull (length log)) log
   full_bytes most [] e = cc
   full_bytes most (b ∷ bytes) e = refl
 
   taking_is : (most : ℕ) → is_ended s.mode Main log ≡ false
-      → client_step s log (TakeOut Main most) ≡ taking Main most (untaken s Main log)
-      (is_full s log) log
+      → client_step s log (TakeOut Main most) ≡ taking_out Main most (untaken s Main log)
+      (is_log_full s log) log
   unfolding client_step
   taking_is most e = rw e refl
 
   pub take_quiet : (most : ℕ) → is_ended s.mode Main log ≡ false
       → (length (untaken s Main log) == 0) ≡ true
       → client_step s log (TakeOut Main most) ≡ record { reply = Quiet; past = log }
-  take_quiet most e f = taking_is most e ∙ no_bytes most (untaken s Main log) (is_full s log) f
+  take_quiet most e f = taking_is most e ∙ no_bytes most (untaken s Main log) (is_log_full s log) f
 
   pub take_full : (most : ℕ) → is_ended s.mode Main log ≡ false
-      → (length (untaken s Main log) == 0) ≡ false → is_full s log ≡ true
-      → client_step s log (TakeOut Main most) ≡ refused (LogFull (length log)) log
-  take_full most e f g = taking_is most e ∙ ap (λ b. taking Main most (untaken s Main log) b log) g
+      → (length (untaken s Main log) == 0) ≡ false → is_log_full s log ≡ true
+      → client_step s log (TakeOut Main most) ≡ refusing (LogFull (length log)) log
+  take_full most e f g = taking_is most e
+      ∙ ap (λ b. taking_out Main most (untaken s Main log) b log) g
       ∙ full_bytes most (untaken s Main log) f
 
   pub take_ok : (most : ℕ) → is_ended s.mode Main log ≡ false
-      → (length (untaken s Main log) == 0) ≡ false → is_full s log ≡ false
+      → (length (untaken s Main log) == 0) ≡ false → is_log_full s log ≡ false
       → client_step s log
       (TakeOut Main most) ≡ record
       { reply = Bytes (take most (untaken s Main log)); past = entry.TakeOut Main most ∷ log }
-  take_ok most e f g = taking_is most e ∙ ap (λ b. taking Main most (untaken s Main log) b log) g
+  take_ok most e f g = taking_is most e
+      ∙ ap (λ b. taking_out Main most (untaken s Main log) b log) g
       ∙ some_bytes most (untaken s Main log) f
 
   pub end_over : is_ended s.mode Main log ≡ true
@@ -207,13 +209,13 @@ module _ (s : Setup) (log : List LogEntry) where
   end_ok e = rw e refl
 
   pub got_down : (v : Value) → is_ended s.mode Main log ≡ true
-      → client_step s log (Got Main v) ≡ refused (Down Main) log
+      → client_step s log (Got Main v) ≡ refusing (Down Main) log
   unfolding client_step
   got_down v e = rw e refl
 
   getting_is : (v : Value) (f : Option ClientRefusal) → is_ended s.mode Main log ≡ false
       → fault_of s log Main v ≡ f
-      → client_step s log (Got Main v) ≡ getting f Main v (is_full s log) log
+      → client_step s log (Got Main v) ≡ getting f Main v (is_log_full s log) log
   unfolding client_step
   getting_is v f e g = rw (e, g) refl
 
@@ -223,11 +225,12 @@ module _ (s : Setup) (log : List LogEntry) where
   got_bad v r e f = getting_is v (Some r) e f
 
   pub got_full : (v : Value) → is_ended s.mode Main log ≡ false → fault_of s log Main v ≡ None
-      → is_full s log ≡ true → client_step s log (Got Main v) ≡ refused (LogFull (length log)) log
+      → is_log_full s log ≡ true
+      → client_step s log (Got Main v) ≡ refusing (LogFull (length log)) log
   got_full v e f g = getting_is v None e f ∙ ap (λ b. getting None Main v b log) g
 
   pub got_ok : (v : Value) → is_ended s.mode Main log ≡ false → fault_of s log Main v ≡ None
-      → is_full s log ≡ false
+      → is_log_full s log ≡ false
       → client_step s log (Got Main v) ≡ record { reply = Noted; past = entry.Got Main v ∷ log }
   got_ok v e f g = getting_is v None e f ∙ ap (λ b. getting None Main v b log) g
 

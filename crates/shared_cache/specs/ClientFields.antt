@@ -67,16 +67,16 @@ settled m n v ps =
 
 -- ---- marks: the open fetches without a reply
 
-abbrev pub mark_of : ℕ → Option Words → List Mark
-mark_of n None = []
-mark_of n (Some q) = record { number = n; query = q } ∷ []
+abbrev pub fetch_mark : ℕ → Option Words → List Mark
+fetch_mark n None = []
+fetch_mark n (Some q) = record { number = n; query = q } ∷ []
 
 -- those of the numbers above one, up to another
 abbrev pub marks_by : (ℕ → Option Words) → ℕ → ℕ → List Mark
 marks_by open_of replied zero = []
 marks_by open_of replied (suc n) =
     marks_by open_of replied n
-    ++ (if nat_lt replied (suc n) then mark_of (suc n) (open_of (suc n)) else [])
+    ++ (if nat_lt replied (suc n) then fetch_mark (suc n) (open_of (suc n)) else [])
 
 -- ---- the fields
 

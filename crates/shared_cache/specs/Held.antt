@@ -70,9 +70,9 @@ shown_words (w ∷ ws) = printed w ++ flat_map (λ x. 32 ∷ printed x) ws
 -- ---- what is held, each a query with its value and the number of its fetch
 
 -- what is held of the query
-abbrev pub held_of : Words → List CacheEntry → Option CacheEntry
-held_of q [] = None
-held_of q (h ∷ hs) = if same_query h.query q then Some h else held_of q hs
+abbrev pub held_for : Words → List CacheEntry → Option CacheEntry
+held_for q [] = None
+held_for q (h ∷ hs) = if same_query h.query q then Some h else held_for q hs
 
 abbrev pub has_key : Key → List CacheEntry → Bool
 has_key k = list_any (λ h. bytes_eq (key_of h.query) k)
@@ -177,7 +177,7 @@ abbrev mutual
   sent s [] = []
   sent s (Ask q ∷ log) =
       sent s log
-      ++ put_ask (held_of q (held_by (open_fetch s log) (left s log) (replies s.mode Main log)))
+      ++ put_ask (held_for q (held_by (open_fetch s log) (left s log) (replies s.mode Main log)))
       s.mode (caching_on_for s.mode log (key_of q)) q
   sent s (Send ws ∷ log) = sent s log ++ put_command s.mode ws
   sent s (Poll n ∷ log) = sent s log
@@ -191,7 +191,7 @@ abbrev mutual
   pub open_fetch : Setup → List LogEntry → ℕ → Option Words
   open_fetch s [] n = None
   open_fetch s (Ask q ∷ log) n =
-      asked (held_of q (held_by (open_fetch s log) (left s log) (replies s.mode Main log)))
+      asked (held_for q (held_by (open_fetch s log) (left s log) (replies s.mode Main log)))
       s.mode (caching_on_for s.mode log (key_of q)) (numbered s (sent s log)) q n
       (open_fetch s log n)
   open_fetch s (Send ws ∷ log) n = unless (ends s log n (Send ws)) (open_fetch s log n)
@@ -224,7 +224,7 @@ abbrev mutual
   last_use s [] k = 0
   last_use s (Ask q ∷ log) k =
       used_at
-      (hit_of (held_of q (held_by (open_fetch s log) (left s log) (replies s.mode Main log))) q)
+      (hit_of (held_for q (held_by (open_fetch s log) (left s log) (replies s.mode Main log))) q)
       k (length log + 1) (last_use s log k)
   last_use s (Send ws ∷ log) k = last_use s log k
   last_use s (Poll n ∷ log) k = last_use s log k
@@ -271,9 +271,9 @@ ranked place all [] = None
 ranked place all (h ∷ hs) = if rank h all == place then Some h else ranked place all hs
 
 -- the one that so many come before
-abbrev pub held_at : ℕ → List CacheEntry → Option CacheEntry
-held_at place hs = ranked place hs hs
+abbrev pub held_in_place : ℕ → List CacheEntry → Option CacheEntry
+held_in_place place hs = ranked place hs hs
 
-abbrev pub listed : Option CacheEntry → Option (Words × Value × ℕ)
-listed None = None
-listed (Some h) = Some (h.query, h.value, h.number)
+abbrev pub as_listed : Option CacheEntry → Option (Words × Value × ℕ)
+as_listed None = None
+as_listed (Some h) = Some (h.query, h.value, h.number)

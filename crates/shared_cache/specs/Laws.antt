@@ -20,7 +20,8 @@ use Rattle.shared_cache.specs.Log.{handshake, is_wire, is_ended, is_ready, cachi
 use Rattle.shared_cache.specs.Log.{reply}
 use Rattle.shared_cache.specs.Held.{Setup, Key, Words, SentCommand, Caller, has_key, keys_held}
 use Rattle.shared_cache.specs.Held.{held}
-use Rattle.shared_cache.specs.Held.{held_of, held_at, rank, is_before, ends, open_fetch, last_use}
+use Rattle.shared_cache.specs.Held.{held_for, held_in_place, rank, is_before, ends, open_fetch}
+use Rattle.shared_cache.specs.Held.{last_use}
 use Rattle.shared_cache.specs.Held.{leaving}
 use Rattle.shared_cache.specs.Held.{sent, commands}
 use Rattle.shared_cache.specs.Out.{out, taken}
@@ -134,7 +135,7 @@ pub record WasSent (s : Setup) (log : List LogEntry) (n : ℕ) (q : Words) : Typ
   pub sooner : List LogEntry
   pub log_is : log ≡ later ++ Ask q ∷ sooner
   pub number_is : n ≡ read_number s sooner q
-  pub missed : held_of q (held s sooner) ≡ None
+  pub missed : held_for q (held s sooner) ≡ None
   pub on : caching_on_for s.mode sooner (key_of q) ≡ true
   pub spared : Spared s (Ask q ∷ sooner) n (key_of q) later
 
@@ -204,10 +205,12 @@ EarliestLeaves =
 -- each place below their number has one, and no other place; none is left out, and those at lower
 -- places come before
 pub record InOrder (hs : List CacheEntry) : Type 0 where
-  pub filled : (place : ℕ) → place < length hs → (h : CacheEntry) × (held_at place hs ≡ Some h)
-  pub beyond : (place : ℕ) → length hs ≤ place → held_at place hs ≡ None
-  pub listed : Every (λ h. held_at (rank h hs) hs ≡ Some h) hs
-  pub sorted : (p q : ℕ) (g h : CacheEntry) → p < q → held_at p hs ≡ Some g → held_at q hs ≡ Some h
+  pub filled : (place : ℕ) → place < length hs → (h : CacheEntry)
+      × (held_in_place place hs ≡ Some h)
+  pub beyond : (place : ℕ) → length hs ≤ place → held_in_place place hs ≡ None
+  pub listed : Every (λ h. held_in_place (rank h hs) hs ≡ Some h) hs
+  pub sorted : (p q : ℕ) (g h : CacheEntry) → p < q → held_in_place p hs ≡ Some g
+      → held_in_place q hs ≡ Some h
       → is_before g h ≡ true
 
 abbrev pub HeldInOrder : Type 0

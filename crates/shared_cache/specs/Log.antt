@@ -24,7 +24,8 @@ handshake_length m = 2
 abbrev pub first_number : ClientMode → ℕ
 first_number m = handshake_length m + 1
 
--- the commands of the handshake that the log has let go: on one link, in default mode over the
+-- the commands of the handshake that may be sent after this log: on one link, in default mode over
+-- the
 -- third protocol, all from the start (HELLO, CLIENT TRACKING)
 abbrev pub handshake : ClientMode → List LogEntry → List (List (List ℕ))
 handshake m log =

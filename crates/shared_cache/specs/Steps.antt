@@ -31,7 +31,7 @@ use Rattle.shared_cache.specs.declared.notices.Notice.TheVariants.{Malformed}
 use Rattle.shared_cache.specs.Notices.{notice_of}
 use Rattle.shared_cache.specs.Log.{handshake_length, replies, reply, is_ok_text, is_ready, is_ended}
 use Rattle.shared_cache.specs.Log.{caching_on_for}
-use Rattle.shared_cache.specs.Held.{Setup, Words, put_command, put_read, held_of, held, numbers}
+use Rattle.shared_cache.specs.Held.{Setup, Words, put_command, put_read, held_for, held, numbers}
 use Rattle.shared_cache.specs.Out.{untaken, is_wanted}
 
 -- an answer, and the log after it
@@ -39,11 +39,11 @@ pub record ClientTurn : Type 0 where
   pub reply : ClientReply
   pub past : List LogEntry
 
-abbrev pub refused : ClientRefusal → List LogEntry → ClientTurn
-refused r log = record { reply = Refused r; past = log }
+abbrev pub refusing : ClientRefusal → List LogEntry → ClientTurn
+refusing r log = record { reply = Refused r; past = log }
 
-abbrev pub is_full : Setup → List LogEntry → Bool
-is_full s log = nat_le s.log_max (length log)
+abbrev pub is_log_full : Setup → List LogEntry → Bool
+is_log_full s log = nat_le s.log_max (length log)
 
 -- the number of the read that an Ask puts on the wire
 abbrev pub read_number : Setup → List LogEntry → Words → ℕ
@@ -62,12 +62,12 @@ answer_ask None n = Sent n
 abbrev pub polling : Option Value → ℕ → Bool → List LogEntry → ClientTurn
 polling (Some v) n ended log = record { reply = Answer v; past = entry.Poll n ∷ log }
 polling None n ended log =
-    if ended then refused (Down Main) log else record { reply = NotYet; past = log }
+    if ended then refusing (Down Main) log else record { reply = NotYet; past = log }
 
-abbrev pub taking : Wire → ℕ → List ℕ → Bool → List LogEntry → ClientTurn
-taking w most [] full log = record { reply = Quiet; past = log }
-taking w most (b ∷ bytes) full log =
-    if full then refused (LogFull (length log)) log else
+abbrev pub taking_out : Wire → ℕ → List ℕ → Bool → List LogEntry → ClientTurn
+taking_out w most [] full log = record { reply = Quiet; past = log }
+taking_out w most (b ∷ bytes) full log =
+    if full then refusing (LogFull (length log)) log else
     record { reply = Bytes (take most (b ∷ bytes)); past = entry.TakeOut w most ∷ log }
 
 abbrev pub is_map : Value → Bool
@@ -102,52 +102,52 @@ fault_of s log w v =
 abbrev pub getting : Option ClientRefusal → Wire → Value → Bool → List LogEntry → ClientTurn
 getting (Some r) w v full log = record { reply = Refused r; past = entry.Bad w v ∷ log }
 getting None w v full log =
-    if full then refused (LogFull (length log)) log else
+    if full then refusing (LogFull (length log)) log else
     record { reply = Noted; past = entry.Got w v ∷ log }
 
 unfoldable pub client_step : Setup → List LogEntry → ClientCall → ClientTurn
 client_step s log (Ask q) =
-    if is_ended s.mode Main log then refused (Down Main) log else
-    if not (is_ready s.mode log) then refused NotReady log else
-    if is_full s log then refused (LogFull (length log)) log else
+    if is_ended s.mode Main log then refusing (Down Main) log else
+    if not (is_ready s.mode log) then refusing NotReady log else
+    if is_log_full s log then refusing (LogFull (length log)) log else
     record {
-      reply = answer_ask (held_of q (held s log)) (read_number s log q);
+      reply = answer_ask (held_for q (held s log)) (read_number s log q);
       past = entry.Ask q ∷ log;
     }
 client_step s log (Send ws) =
-    if is_ended s.mode Main log then refused (Down Main) log else
-    if not (is_ready s.mode log) then refused NotReady log else
-    if is_control ws then refused Control log else
-    if is_full s log then refused (LogFull (length log)) log else
+    if is_ended s.mode Main log then refusing (Down Main) log else
+    if not (is_ready s.mode log) then refusing NotReady log else
+    if is_control ws then refusing Control log else
+    if is_log_full s log then refusing (LogFull (length log)) log else
     record { reply = Sent (command_number s log ws); past = entry.Send ws ∷ log }
 client_step s log (Poll n) =
-    if not (is_wanted s log n) then refused (NoNumber n) log else
+    if not (is_wanted s log n) then refusing (NoNumber n) log else
     polling (reply s.mode log n) n (is_ended s.mode Main log) log
 client_step s log (TakeOut w most) =
-    if is_ended s.mode w log then refused (Down w) log else
-    taking w most (untaken s w log) (is_full s log) log
+    if is_ended s.mode w log then refusing (Down w) log else
+    taking_out w most (untaken s w log) (is_log_full s log) log
 client_step s log (Got w v) =
-    if is_ended s.mode w log then refused (Down w) log else
-    getting (fault_of s log w v) w v (is_full s log) log
+    if is_ended s.mode w log then refusing (Down w) log else
+    getting (fault_of s log w v) w v (is_log_full s log) log
 client_step s log (End w) =
     record { reply = Noted; past = if is_ended s.mode w log then log else entry.End w ∷ log }
 
 -- a Poll and an end have their room in the log from the start; other entries take memory
-abbrev pub TakesRoom : LogEntry → Type 0
-TakesRoom (entry.Ask q) = Unit {0}
-TakesRoom (entry.Send ws) = Unit {0}
-TakesRoom (entry.Poll n) = ⊥
-TakesRoom (entry.TakeOut w most) = Unit {0}
-TakesRoom (entry.Got w v) = Unit {0}
-TakesRoom (entry.End w) = ⊥
-TakesRoom (entry.Bad w v) = ⊥
+abbrev pub NeedsRoom : LogEntry → Type 0
+NeedsRoom (entry.Ask q) = Unit {0}
+NeedsRoom (entry.Send ws) = Unit {0}
+NeedsRoom (entry.Poll n) = ⊥
+NeedsRoom (entry.TakeOut w most) = Unit {0}
+NeedsRoom (entry.Got w v) = Unit {0}
+NeedsRoom (entry.End w) = ⊥
+NeedsRoom (entry.Bad w v) = ⊥
 
 -- the step would add an entry that takes memory, so no refusal comes before want of memory
-abbrev pub TakesMemory : Setup → List LogEntry → ClientCall → Type 0
-TakesMemory s log call =
-    (e : LogEntry) × TakesRoom e × ((client_step s log call).past ≡ e ∷ log)
+abbrev pub MayRunOut : Setup → List LogEntry → ClientCall → Type 0
+MayRunOut s log call =
+    (e : LogEntry) × NeedsRoom e × ((client_step s log call).past ≡ e ∷ log)
 
 -- the turn is the step, or memory ran out and the log is as before
 abbrev pub ClientStep : Setup → List LogEntry → ClientCall → ClientReply → List LogEntry → Type 0
-ClientStep s log call (Refused NoMemory) new = TakesMemory s log call × (new ≡ log)
+ClientStep s log call (Refused NoMemory) new = MayRunOut s log call × (new ≡ log)
 ClientStep s log call answer new = client_step s log call ≡ record { reply = answer; past = new }

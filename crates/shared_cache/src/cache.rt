@@ -5,7 +5,7 @@ ghost use Rattle.std.specs.List.{filter, flat_map, list_any};
 ghost use Rattle.std.specs.Str.{bytes_eq};
 ghost use Rattle.command_words.specs.Printed.{printed};
 ghost use Rattle.command_words.specs.Queries.{key_of, names, same_query};
-ghost use Rattle.fill_mark.specs.Marks.{begun, query_marked, without_number};
+ghost use Rattle.fill_mark.specs.Marks.{with_mark, query_marked, without_number};
 ghost use Rattle.shared_cache.specs.Held.{shown_words};
 ghost use Rattle.shared_cache.specs.Slots.{slot_for, has_slot, slot_keys, earliest_slot, is_gone};
 ghost use Rattle.shared_cache.specs.Slots.{leaving_slots, touched, refilled, slot_before};
@@ -223,7 +223,7 @@ fn needs_of(
     Ok(FillNeeds { leaving, shown })
 }
 
-/// A reply that came, and where it stands.
+/// The place of a reply that came.
 #[derive(Clone, Copy)]
 pub struct Fill {
     /// How many keys may be held.
@@ -276,7 +276,7 @@ pub fn refill(
 /// A mark for the fetch of that number, unless the redirection is broken.
 pub fn mark(marks: &mut Marks, broken: bool, number: u64, query: Query) -> Result<(), NoMemory>
     ensures ok { OnOk result
-        (marks.new ≡ (if broken then marks.old else begun number query marks.old)) }
+        (marks.new ≡ (if broken then marks.old else with_mark number query marks.old)) }
     ensures err { OnErr result (marks.new ≡ marks.old) }
 {
     if broken {

@@ -79,10 +79,10 @@ impl ClientState {
     ghost use Rattle.shared_cache.specs.declared.log.Wire.TheVariants.{Main};
     ghost use Rattle.shared_cache.specs.Notices.{kind_of, IsPush};
     ghost use Rattle.shared_cache.specs.Log.{is_ready, is_ended, replies};
-    ghost use Rattle.shared_cache.specs.Held.{numbers, held, held_of, held_at, listed};
+    ghost use Rattle.shared_cache.specs.Held.{numbers, held, held_for, held_in_place, as_listed};
     ghost use Rattle.shared_cache.specs.Out.{untaken};
     ghost use Rattle.shared_cache.specs.Steps.{ClientStep, answer_ask, read_number, command_number};
-    ghost use Rattle.shared_cache.specs.Steps.{is_full, is_welcome, fault_of};
+    ghost use Rattle.shared_cache.specs.Steps.{is_log_full, is_welcome, fault_of};
     ghost use Rattle.shared_cache.specs.ClientFields.{IsLast, IsServed, added};
     ghost use Rattle.shared_cache.specs.Laws.{IsCall, LegalLog};
 
@@ -130,7 +130,7 @@ impl ClientState {
     /// number of the fetch. None past the last. Each that is held is compared with all others.
     pub fn held(&self, place: usize) -> Option<(&Query, &Value, u64)>
         ensures { option_map (λ r. (r.0.now, r.1.now, r.2)) result
-            ≡ listed (held_at place (held self.now.setup self.now.past)) }
+            ≡ as_listed (held_in_place place (held self.now.setup self.now.past)) }
     {
         let slot = slot_at(&self.slots, place)?;
         Some((&slot.entry.query, &slot.entry.value, slot.entry.number))
@@ -154,8 +154,8 @@ impl ClientState {
         self.log.len() as u64
     }
 
-    fn is_full(&self) -> bool
-        ensures { result ≡ is_full self.now.setup self.now.past }
+    fn is_log_full(&self) -> bool
+        ensures { result ≡ is_log_full self.now.setup self.now.past }
     {
         self.log.len() as u64 >= self.log_max
     }
@@ -242,7 +242,7 @@ impl ClientState {
         if self.is_drained() {
             return ClientReply::Quiet;
         }
-        if self.is_full() {
+        if self.is_log_full() {
             return ClientReply::Refused(ClientRefusal::LogFull {
                 entries: self.entries(),
             });
@@ -283,7 +283,7 @@ impl ClientState {
         if is_control(&words) {
             return ClientReply::Refused(ClientRefusal::Control);
         }
-        if self.is_full() {
+        if self.is_log_full() {
             return ClientReply::Refused(ClientRefusal::LogFull {
                 entries: self.entries(),
             });
@@ -296,7 +296,7 @@ impl ClientState {
 
     // A hit: the key was used.
     fn hit(&mut self, query: Query) -> Result<(), NoMemory>
-        requires { is_some (held_of query (held self.old.setup self.old.past)) ≡ true }
+        requires { is_some (held_for query (held self.old.setup self.old.past)) ≡ true }
         ensures ok { OnOk result (self.new ≡ added (entry.Ask query) self.old) }
         ensures err { OnErr result (self.new ≡ self.old) }
     {
@@ -311,7 +311,7 @@ impl ClientState {
     fn fetch(&mut self, query: Query) -> Result<u64, NoMemory>
         requires open { is_ended self.old.setup.mode Main self.old.past ≡ false }
         requires ready { is_ready self.old.setup.mode self.old.past ≡ true }
-        requires miss { held_of query (held self.old.setup self.old.past) ≡ None }
+        requires miss { held_for query (held self.old.setup self.old.past) ≡ None }
         ensures number { IfOk result (λ n. n ≡ read_number self.old.setup self.old.past query) }
         ensures ok { OnOk result (self.new ≡ added (entry.Ask query) self.old) }
         ensures err { OnErr result (self.new ≡ self.old) }
@@ -343,7 +343,7 @@ impl ClientState {
         requires open { is_ended self.old.setup.mode Main self.old.past ≡ false }
         requires ready { is_ready self.old.setup.mode self.old.past ≡ true }
         ensures reply { IfOk result
-            (λ r. r ≡ answer_ask (held_of query (held self.old.setup self.old.past))
+            (λ r. r ≡ answer_ask (held_for query (held self.old.setup self.old.past))
             (read_number self.old.setup self.old.past query)) }
         ensures ok { OnOk result (self.new ≡ added (entry.Ask query) self.old) }
         ensures err { OnErr result (self.new ≡ self.old) }
@@ -372,7 +372,7 @@ impl ClientState {
         if !self.is_ready() {
             return ClientReply::Refused(ClientRefusal::NotReady);
         }
-        if self.is_full() {
+        if self.is_log_full() {
             return ClientReply::Refused(ClientRefusal::LogFull {
                 entries: self.entries(),
             });
@@ -463,7 +463,7 @@ impl ClientState {
         ensures step { ClientStep self.old.setup self.old.past (call.Got Main value) result
             self.new.past }
     {
-        if self.is_full() {
+        if self.is_log_full() {
             return ClientReply::Refused(ClientRefusal::LogFull {
                 entries: self.entries(),
             });
@@ -489,7 +489,7 @@ impl ClientState {
             self.finish(LogEntry::Bad(Wire::Main, value));
             return ClientReply::Refused(ClientRefusal::SetupRefused { wire: Wire::Main });
         }
-        if self.is_full() {
+        if self.is_log_full() {
             return ClientReply::Refused(ClientRefusal::LogFull {
                 entries: self.entries(),
             });

@@ -1,7 +1,7 @@
 use Rattle.std.proofs.Common.{ap, sym, ◌∙◌}
 use Rattle.std.specs.Prelude.{is_some}
 use Rattle.shared_cache.specs.declared.log.ClientReply.TheVariants.{Hit, Sent}
-use Rattle.shared_cache.specs.Held.{held, held_of}
+use Rattle.shared_cache.specs.Held.{held, held_for}
 use Rattle.shared_cache.specs.Slots.{entry_in}
 use Rattle.shared_cache.specs.Steps.{answer_ask, read_number}
 use Rattle.shared_cache.specs.ClientFields.{Client}
@@ -13,14 +13,14 @@ hit-requires c =
     sym (ap is_some (ap entry_in c.in-Some.ensures
     ∙ slot_found _ _ _ c.self.invariant.reflects c.args.query c.deref.result.now
     c.deref.ensures.value
-    ∙ ap (λ (st : Client). held_of c.args.query (held st.setup st.past)) c.self.view_is))
+    ∙ ap (λ (st : Client). held_for c.args.query (held st.setup st.past)) c.self.view_is))
 
 pub fetch-requires-clause-miss : goal.fetch-requires-clause-miss
 fetch-requires-clause-miss c =
     sym (ap entry_in c.in-None.ensures
     ∙ slot_found _ _ _ c.self.invariant.reflects c.args.query c.deref.result.now
     c.deref.ensures.value
-    ∙ ap (λ (st : Client). held_of c.args.query (held st.setup st.past)) c.self.view_is)
+    ∙ ap (λ (st : Client). held_for c.args.query (held st.setup st.past)) c.self.view_is)
 
 pub returns-in_ok-hit-in-Some-clause-reply : goal.returns-in_ok-hit-in-Some-clause-reply
 returns-in_ok-hit-in-Some-clause-reply c =
@@ -29,7 +29,7 @@ returns-in_ok-hit-in-Some-clause-reply c =
     (ap entry_in c.in-Some.ensures
     ∙ slot_found _ _ _ c.self.invariant.reflects c.args.query c.deref.result.now
     c.deref.ensures.value
-    ∙ ap (λ (st : Client). held_of c.args.query (held st.setup st.past)) c.self.view_is)
+    ∙ ap (λ (st : Client). held_for c.args.query (held st.setup st.past)) c.self.view_is)
 
 pub returns-in_ok-fetch-in-None-clause-reply : goal.returns-in_ok-fetch-in-None-clause-reply
 returns-in_ok-fetch-in-None-clause-reply c =
@@ -38,4 +38,4 @@ returns-in_ok-fetch-in-None-clause-reply c =
     (ap entry_in c.in-None.ensures
     ∙ slot_found _ _ _ c.self.invariant.reflects c.args.query c.deref.result.now
     c.deref.ensures.value
-    ∙ ap (λ (st : Client). held_of c.args.query (held st.setup st.past)) c.self.view_is)
+    ∙ ap (λ (st : Client). held_for c.args.query (held st.setup st.past)) c.self.view_is)

@@ -1,9 +1,9 @@
 use Rattle.std.proofs.Common.{ap, sym, ◌∙◌}
 use Rattle.shared_cache.specs.declared.log.ClientRefusal.TheVariants.{LogFull}
-use Rattle.shared_cache.specs.Held.{held, held_of}
+use Rattle.shared_cache.specs.Held.{held, held_for}
 use Rattle.shared_cache.specs.declared.log.LogEntry.TheVariants as entry
 use Rattle.shared_cache.specs.ClientFields.{Client}
-use Rattle.shared_cache.specs.Steps.{ClientTurn, refused, answer_ask, read_number}
+use Rattle.shared_cache.specs.Steps.{ClientTurn, refusing, answer_ask, read_number}
 use Rattle.shared_cache.proofs.StepCases.{stepped, ask_down, ask_unready, ask_full, ask_ok}
 use Rattle.shared_cache.proofs.client.ClientState.ask.Goals as goal
 
@@ -16,23 +16,23 @@ returns-then-not-is_ready-clause-step c =
     ask_unready _ _ c.args.query (sym c.has_ended.ensures ∙ c.if-has_ended.false)
     (sym c.is_ready.ensures ∙ c.if-not-is_ready.true)
 
-pub returns-then-is_full-clause-step : goal.returns-then-is_full-clause-step
-returns-then-is_full-clause-step c =
+pub returns-then-is_log_full-clause-step : goal.returns-then-is_log_full-clause-step
+returns-then-is_log_full-clause-step c =
     ask_full _ _ c.args.query (sym c.has_ended.ensures ∙ c.if-has_ended.false)
     (sym c.is_ready.ensures ∙ c.if-not-is_ready.false)
-    (sym c.is_full.ensures ∙ c.if-is_full.true)
-    ∙ ap (λ n. refused (LogFull n) c.args.self.now.past) (sym c.entries.ensures)
+    (sym c.is_log_full.ensures ∙ c.if-is_log_full.true)
+    ∙ ap (λ n. refusing (LogFull n) c.args.self.now.past) (sym c.entries.ensures)
 
 pub returns-in-Ok-clause-step : goal.returns-in-Ok-clause-step
 returns-in-Ok-clause-step c =
     stepped _ _ _ _ _ _ _
     (ask_ok _ _ c.args.query (sym c.has_ended.ensures ∙ c.if-has_ended.false)
     (sym c.is_ready.ensures ∙ c.if-not-is_ready.false)
-    (sym c.is_full.ensures ∙ c.if-is_full.false)
+    (sym c.is_log_full.ensures ∙ c.if-is_log_full.false)
     ∙ ap (λ (st : Client).
     record {
       reply =
-          answer_ask (held_of c.args.query (held c.args.self.now.setup c.args.self.now.past))
+          answer_ask (held_for c.args.query (held c.args.self.now.setup c.args.self.now.past))
           (read_number c.args.self.now.setup c.args.self.now.past c.args.query);
       past = st.past;
     })
@@ -47,7 +47,7 @@ returns-in-Err-clause-step c = (
     ap (λ (t : ClientTurn). t.past)
         (ask_ok _ _ c.args.query (sym c.has_ended.ensures ∙ c.if-has_ended.false)
         (sym c.is_ready.ensures ∙ c.if-not-is_ready.false)
-        (sym c.is_full.ensures ∙ c.if-is_full.false)),
+        (sym c.is_log_full.ensures ∙ c.if-is_log_full.false)),
   ),
   ap (λ (st : Client). st.past) c.in-Err.ensures.err,
 )

@@ -3,11 +3,11 @@ use Rattle.std.proofs.Common.{None}
 use Rattle.shared_cache.specs.declared.log.Wire.TheVariants.{Main}
 use Rattle.shared_cache.specs.declared.log.LogEntry.TheVariants as entry
 use Rattle.shared_cache.specs.Log.{is_ended, is_ready}
-use Rattle.shared_cache.specs.Held.{held, held_of}
+use Rattle.shared_cache.specs.Held.{held, held_for}
 use Rattle.shared_cache.specs.ClientFields.{Client}
 use Rattle.shared_cache.proofs.NewestFirst.{pushed, at_most_one}
 use Rattle.resp_value.specs.Spelling.{request_spelling}
-use Rattle.fill_mark.specs.Marks.{begun}
+use Rattle.fill_mark.specs.Marks.{with_mark}
 use Rattle.shared_cache.proofs.Asks.{reflects_ask}
 use Rattle.shared_cache.proofs.client.ClientState.fetch.Goals as goal
 
@@ -15,10 +15,10 @@ pub invariant_of-self-2 : goal.invariant_of-self-2
 invariant_of-self-2 c =
     let i = c.self.inside in
     let k = c.self.invariant.reflects in
-    let miss : held_of c.args.query
+    let miss : held_for c.args.query
     (held (record { mode = i.mode; capacity = i.capacity; log_max = i.log_max })
     (reverse i.log.items)) ≡ None =
-    ap (λ (st : Client). held_of c.args.query (held st.setup st.past)) c.self.view_is
+    ap (λ (st : Client). held_for c.args.query (held st.setup st.past)) c.self.view_is
     ∙ c.requires.miss in
     let ready : is_ready i.mode (reverse i.log.items) ≡ true
     = ap (λ (st : Client). is_ready st.setup.mode st.past) c.self.view_is ∙ c.requires.ready in
@@ -38,7 +38,7 @@ invariant_of-self-2 c =
           (c.in_ok-enqueue.ensures.queued
           ∙ ap (λ q. i.queued ++ request_spelling q) c.words.ensures.words)
           (c.in-Ok.ensures.ok
-          ∙ ap (λ q. cond i.broken i.marks (begun (2 + c.len.result + 1) q i.marks))
+          ∙ ap (λ q. cond i.broken i.marks (with_mark (2 + c.len.result + 1) q i.marks))
           c.in_ok-marked.ensures));
       room = omega (arith, at_most_one i.ended, c.in_ok-reserve.ensures.ok);
     }

@@ -4,22 +4,22 @@ use Rattle.shared_cache.specs.declared.log.ClientRefusal.TheVariants.{LogFull}
 use Rattle.shared_cache.specs.ClientFields.{Client}
 use Rattle.shared_cache.specs.declared.log.LogEntry.TheVariants as entry
 use Rattle.shared_cache.specs.declared.log.Wire.TheVariants.{Main}
-use Rattle.shared_cache.specs.Steps.{ClientTurn, refused}
+use Rattle.shared_cache.specs.Steps.{ClientTurn, refusing}
 use Rattle.shared_cache.proofs.StepCases.{got_full, got_ok, fault_push}
 use Rattle.shared_cache.proofs.client.ClientState.got_push.Goals as goal
 
-pub returns-then-is_full-clause-step : goal.returns-then-is_full-clause-step
-returns-then-is_full-clause-step c =
+pub returns-then-is_log_full-clause-step : goal.returns-then-is_log_full-clause-step
+returns-then-is_log_full-clause-step c =
     got_full _ _ c.args.value c.requires.open
     (fault_push _ _ c.args.value c.args.notice c.requires.notice c.requires.push)
-    (sym c.is_full.ensures ∙ c.if-is_full.true)
-    ∙ ap (λ n. refused (LogFull n) c.args.self.now.past) (sym c.entries.ensures)
+    (sym c.is_log_full.ensures ∙ c.if-is_log_full.true)
+    ∙ ap (λ n. refusing (LogFull n) c.args.self.now.past) (sym c.entries.ensures)
 
 pub returns-in-Ok-clause-step : goal.returns-in-Ok-clause-step
 returns-in-Ok-clause-step c =
     got_ok _ _ c.args.value c.requires.open
     (fault_push _ _ c.args.value c.args.notice c.requires.notice c.requires.push)
-    (sym c.is_full.ensures ∙ c.if-is_full.false)
+    (sym c.is_log_full.ensures ∙ c.if-is_log_full.false)
     ∙ ap (λ (st : Client). record { reply = Noted; past = st.past }) (sym c.in-Ok.ensures.ok)
 
 pub returns-in-Err-clause-step : goal.returns-in-Err-clause-step
@@ -30,7 +30,7 @@ returns-in-Err-clause-step c = (
     ap (λ (t : ClientTurn). t.past)
         (got_ok _ _ c.args.value c.requires.open
         (fault_push _ _ c.args.value c.args.notice c.requires.notice c.requires.push)
-        (sym c.is_full.ensures ∙ c.if-is_full.false)),
+        (sym c.is_log_full.ensures ∙ c.if-is_log_full.false)),
   ),
   ap (λ (st : Client). st.past) c.in-Err.ensures.err,
 )

@@ -6,7 +6,7 @@ use Rattle.shared_cache.specs.declared.log.ClientRefusal.TheVariants.{LogFull, U
 use Rattle.shared_cache.specs.declared.log.ClientRefusal.TheVariants.{SetupRefused}
 use Rattle.shared_cache.specs.ClientFields.{Client}
 use Rattle.shared_cache.specs.declared.log.LogEntry.TheVariants as entry
-use Rattle.shared_cache.specs.Steps.{ClientTurn, refused}
+use Rattle.shared_cache.specs.Steps.{ClientTurn, refusing}
 use Rattle.shared_cache.proofs.StepCases.{got_bad, got_full, got_ok, fault_unexpected}
 use Rattle.shared_cache.proofs.StepCases.{fault_refused, fault_none}
 use Rattle.shared_cache.proofs.client.ClientState.got_reply.Goals as goal
@@ -28,14 +28,14 @@ returns-then-not-welcomes-clause-step c =
     ∙ ap (λ (st : Client). record { reply = Refused (SetupRefused Main); past = st.past })
     (sym c.finish-then-not-welcomes.ensures)
 
-pub returns-then-is_full-clause-step : goal.returns-then-is_full-clause-step
-returns-then-is_full-clause-step c =
+pub returns-then-is_log_full-clause-step : goal.returns-then-is_log_full-clause-step
+returns-then-is_log_full-clause-step c =
     got_full _ _ c.args.value c.requires.open
     (fault_none _ _ c.args.value c.requires.reply
     (not-true _ (sym c.is_awaiting.ensures ∙ c.if-not-is_awaiting.false))
     (sym c.welcomes.ensures ∙ c.if-not-welcomes.false))
-    (sym c.is_full.ensures ∙ c.if-is_full.true)
-    ∙ ap (λ n. refused (LogFull n) c.args.self.now.past) (sym c.entries.ensures)
+    (sym c.is_log_full.ensures ∙ c.if-is_log_full.true)
+    ∙ ap (λ n. refusing (LogFull n) c.args.self.now.past) (sym c.entries.ensures)
 
 pub settle-requires-clause-awaited : goal.settle-requires-clause-awaited
 settle-requires-clause-awaited c =
@@ -49,7 +49,7 @@ returns-in-Ok-clause-step c =
     (fault_none _ _ c.args.value c.requires.reply
     (not-true _ (sym c.is_awaiting.ensures ∙ c.if-not-is_awaiting.false))
     (sym c.welcomes.ensures ∙ c.if-not-welcomes.false))
-    (sym c.is_full.ensures ∙ c.if-is_full.false)
+    (sym c.is_log_full.ensures ∙ c.if-is_log_full.false)
     ∙ ap (λ (st : Client). record { reply = Noted; past = st.past }) (sym c.in-Ok.ensures.ok)
 
 pub returns-in-Err-clause-step : goal.returns-in-Err-clause-step
@@ -62,7 +62,7 @@ returns-in-Err-clause-step c = (
         (fault_none _ _ c.args.value c.requires.reply
         (not-true _ (sym c.is_awaiting.ensures ∙ c.if-not-is_awaiting.false))
         (sym c.welcomes.ensures ∙ c.if-not-welcomes.false))
-        (sym c.is_full.ensures ∙ c.if-is_full.false)),
+        (sym c.is_log_full.ensures ∙ c.if-is_log_full.false)),
   ),
   ap (λ (st : Client). st.past) c.in-Err.ensures.err,
 )

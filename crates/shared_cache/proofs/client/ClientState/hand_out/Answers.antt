@@ -9,7 +9,7 @@ use Rattle.shared_cache.specs.declared.log.ClientReply.TheVariants.{Answer}
 use Rattle.shared_cache.specs.declared.log.ClientRefusal.TheVariants.{NoNumber}
 use Rattle.shared_cache.specs.Log.{reply_in}
 use Rattle.shared_cache.specs.Out.{is_polled}
-use Rattle.shared_cache.specs.Steps.{client_step, refused}
+use Rattle.shared_cache.specs.Steps.{client_step, refusing}
 use Rattle.shared_cache.proofs.PendingLists.{gone_is, waits_is, there_is, owed_gone}
 use Rattle.shared_cache.proofs.OtherTurns.{reflects_poll}
 use Rattle.shared_cache.proofs.StepCases.{poll_unwanted, poll_wanted, low, high, handed, wanted}
@@ -29,7 +29,7 @@ returns-then-number-len-clause-step c =
     ∙ poll_unwanted _ (reverse i.log.items) n
     (high (record { mode = i.mode; capacity = i.capacity; log_max = i.log_max })
     (reverse i.log.items) n (omega (arith, c.len.ensures, k.pending_count)))
-    ∙ ap (λ (st : Client). refused (NoNumber n) st.past) c.self.view_is
+    ∙ ap (λ (st : Client). refusing (NoNumber n) st.past) c.self.view_is
 
 pub returns-in-Gone-clause-step : goal.returns-in-Gone-clause-step
 returns-in-Gone-clause-step c =

@@ -1,7 +1,7 @@
 use Rattle.std.proofs.Common.{◌≡◌, ◌+◌, ◌++◌, ◌∷◌, [], true, length, reverse, arith, ap, ◌∙◌}
 use Rattle.std.specs.Prelude.{is_some}
 use Rattle.shared_cache.specs.declared.log.LogEntry.TheVariants as entry
-use Rattle.shared_cache.specs.Held.{held, held_of}
+use Rattle.shared_cache.specs.Held.{held, held_for}
 use Rattle.shared_cache.specs.ClientFields.{Client}
 use Rattle.shared_cache.proofs.NewestFirst.{pushed, count_reverse, at_most_one}
 use Rattle.shared_cache.proofs.Asks.{reflects_hit}
@@ -12,10 +12,10 @@ invariant_of-self-2 c =
     let i = c.self.inside in
     let k = c.self.invariant.reflects in
     let held_is : is_some
-    (held_of c.args.query
+    (held_for c.args.query
     (held (record { mode = i.mode; capacity = i.capacity; log_max = i.log_max })
     (reverse i.log.items))) ≡ true =
-    ap (λ (st : Client). is_some (held_of c.args.query (held st.setup st.past))) c.self.view_is
+    ap (λ (st : Client). is_some (held_for c.args.query (held st.setup st.past))) c.self.view_is
     ∙ c.requires in
     let now_is : c.len.result + 1 ≡ length (reverse i.log.items) + 1
     = ap (λ n. n + 1)

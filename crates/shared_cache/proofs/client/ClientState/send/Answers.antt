@@ -3,7 +3,7 @@ use Rattle.shared_cache.specs.declared.log.ClientReply.TheVariants.{Sent}
 use Rattle.shared_cache.specs.declared.log.ClientRefusal.TheVariants.{LogFull}
 use Rattle.shared_cache.specs.declared.log.LogEntry.TheVariants as entry
 use Rattle.shared_cache.specs.ClientFields.{Client}
-use Rattle.shared_cache.specs.Steps.{ClientTurn, refused}
+use Rattle.shared_cache.specs.Steps.{ClientTurn, refusing}
 use Rattle.shared_cache.proofs.StepCases.{send_down, send_unready, send_control, send_full, send_ok}
 use Rattle.shared_cache.proofs.client.ClientState.send.Goals as goal
 
@@ -22,20 +22,20 @@ returns-then-is_control-clause-step c =
     (sym c.is_ready.ensures ∙ c.if-not-is_ready.false)
     (sym c.is_control.ensures ∙ c.if-is_control.true)
 
-pub returns-then-is_full-clause-step : goal.returns-then-is_full-clause-step
-returns-then-is_full-clause-step c =
+pub returns-then-is_log_full-clause-step : goal.returns-then-is_log_full-clause-step
+returns-then-is_log_full-clause-step c =
     send_full _ _ c.args.words (sym c.has_ended.ensures ∙ c.if-has_ended.false)
     (sym c.is_ready.ensures ∙ c.if-not-is_ready.false)
     (sym c.is_control.ensures ∙ c.if-is_control.false)
-    (sym c.is_full.ensures ∙ c.if-is_full.true)
-    ∙ ap (λ n. refused (LogFull n) c.args.self.now.past) (sym c.entries.ensures)
+    (sym c.is_log_full.ensures ∙ c.if-is_log_full.true)
+    ∙ ap (λ n. refusing (LogFull n) c.args.self.now.past) (sym c.entries.ensures)
 
 pub returns-in-Ok-clause-step : goal.returns-in-Ok-clause-step
 returns-in-Ok-clause-step c =
     send_ok _ _ c.args.words (sym c.has_ended.ensures ∙ c.if-has_ended.false)
     (sym c.is_ready.ensures ∙ c.if-not-is_ready.false)
     (sym c.is_control.ensures ∙ c.if-is_control.false)
-    (sym c.is_full.ensures ∙ c.if-is_full.false)
+    (sym c.is_log_full.ensures ∙ c.if-is_log_full.false)
     ∙ (λ i. record
     { reply = Sent (sym c.in-Ok.ensures.number i); past = (sym c.in-Ok.ensures.ok i).past })
 
@@ -48,7 +48,7 @@ returns-in-Err-clause-step c = (
         (send_ok _ _ c.args.words (sym c.has_ended.ensures ∙ c.if-has_ended.false)
         (sym c.is_ready.ensures ∙ c.if-not-is_ready.false)
         (sym c.is_control.ensures ∙ c.if-is_control.false)
-        (sym c.is_full.ensures ∙ c.if-is_full.false)),
+        (sym c.is_log_full.ensures ∙ c.if-is_log_full.false)),
   ),
   ap (λ (st : Client). st.past) c.in-Err.ensures.err,
 )
