@@ -1,4 +1,4 @@
-// The lines of a transcript, and how they are printed.
+//! The lines of a transcript, and how they are printed.
 ghost use Rattle.std.specs.Prelude.{◌≡◌, ◌<◌, ◌↔◌, ◌++◌, ◌∷◌, [], List, ℕ, length, option_to_list, IsSome, OnOk, OnErr};
 ghost use Rattle.std.specs.Fmt.{decimal};
 ghost use Rattle.script_text.specs.Printed.{entry_text, line_text, unended_text, words_text};
@@ -17,7 +17,11 @@ pub enum Line {
     /// `#E run L WORD..`: a request ran.
     Run(u64, Octets, Words),
     /// `L bad F O`: the bytes at the server's end broke the protocol, by the fault F at the offset O.
-    Bad(Octets, u64, u64),
+    Bad {
+        link: Octets,
+        number: u64,
+        offset: u64,
+    },
     /// `#E close L`: the server closed the connection.
     Close(u64, Octets),
     /// `#E take L N`: N bytes were taken for the link.
@@ -124,10 +128,14 @@ fn put_text(line: &Line, out: &mut Vec<u8>) -> Result<(), NoMemory>
             put_entry(*entry, b" run ", link, out)?;
             put_words(words, out)
         }
-        Line::Bad(link, fault, offset) => {
+        Line::Bad {
+            link,
+            number,
+            offset,
+        } => {
             append(out, link.as_slice())?;
             append(out, b" bad ")?;
-            put_number(*fault, out)?;
+            put_number(*number, out)?;
             append(out, b" ")?;
             put_number(*offset, out)
         }

@@ -227,7 +227,11 @@ fn lines_are_printed_one_after_the_other(rt: HostRuntime) -> Result<(), Fail> {
         link(b"n1")?,
         words_from(alloc, &[b"", b"a b", b"\\e", b"\x00\x7f\xff"])?,
     ))?;
-    lines.push(Line::Bad(link(b"r")?, 2, 12))?;
+    lines.push(Line::Bad {
+        link: link(b"r")?,
+        number: 2,
+        offset: 12,
+    })?;
     lines.push(Line::Close(11, link(b"r")?))?;
     lines.push(Line::End(link(b"r")?))?;
     lines.push(Line::Take(u64::MAX, link(b"n1")?, 0))?;

@@ -1,102 +1,168 @@
 -- Requests that are read and run one after another.
-use Rattle.std.proofs.Common.{◌≡◌, ◌<◌, ℕ, List, [], ◌∷◌, ◌++◌, true, length, Some, None, refl, sym, ap, subst, ◌∙◌, append_assoc, append-nil}
+use Rattle.std.proofs.Common.{◌≡◌, ◌<◌, ℕ, List, [], ◌∷◌, ◌++◌, true, length, Some, None, Option, Result, Ok, Err, inl, inr}
+use Rattle.std.proofs.Common.{refl, sym, ap, subst, ◌∙◌, append_assoc, append-nil}
 use Rattle.resp_stream.specs.declared.fault.StreamFault.{StreamFault}
-use Rattle.resp_stream.specs.declared.fault.StreamFault.TheVariants.{BadByte, TooLong, TooDeep, NotServed, NoMemory}
-use Rattle.resp_stream.specs.Answer.{Whole, More}
-use Rattle.resp_stream.specs.Request.{request_at, behind}
-use Rattle.resp_stream.specs.Requests.{skipped, Faulty, FaultGives, NotMemory}
-use Rattle.resp_stream.specs.Stream.{Stream, moved_on}
-use Rattle.resp_laws.specs.Parse.{Parsed, parse}
-use Rattle.resp_laws.proofs.Parse.{parse_whole, parse_more, parse_bad, shorter}
-use Rattle.serial_model.specs.declared.history.Entry.{Entry}
+use Rattle.resp_stream.specs.declared.fault.StreamFault.TheVariants as stream
+use Rattle.resp_stream.specs.declared.fault.FaultPlace.{FaultPlace}
+use Rattle.resp_stream.specs.Parsed.{Whole, More, Bad}
+use Rattle.resp_stream.specs.Parse.{Batch, parse}
+use Rattle.resp_stream.specs.Readers.{skipped, IsFaultOf, FaultGives, NotMemory}
+use Rattle.resp_stream.specs.Request.{request_at, skip_empty}
+use Rattle.resp_stream.specs.Stream.{Stream, moved_on, fault_place}
+use Rattle.resp_stream.proofs.Parse.{parse_whole, parse_more, parse_bad, shorter}
 use Rattle.serial_model.specs.declared.history.BookCall.TheVariants as call
-use Rattle.serial_model.specs.History.{admitted, is_connected}
-use Rattle.serial_model.specs.Steps.{book_step}
+use Rattle.serial_model.specs.History.{reads_on}
+use Rattle.serial_model.specs.Steps.{Turn, book_step}
+use Rattle.world_run.proofs.Carries.{by_run}
 use Rattle.script_text.specs.declared.line.Line.{Line}
-use Rattle.world_run.specs.Played.{StopsShort, served, served_lines, reply_lines, Runs}
-use Rattle.world_run.proofs.Short.{served_grows, short_at_once, short_then}
+use Rattle.world_run.specs.declared.fault.WorldFault.{WorldFault}
+use Rattle.world_run.specs.declared.fault.WorldFault.TheVariants.{NoMemory}
+use Rattle.world_run.specs.Moves.{next_read, past_request, turn, run_one, run_all, rest_read, run_requests, place_of}
+use Rattle.world_run.specs.Outcome.{Outcome, Stops, Gives, and_then, does, stays}
+use Rattle.world_run.specs.Session.{Session, with_link, with_reader}
+use Rattle.world_run.proofs.Outcomes.{Ends, ends_parts, after_ends, after_stops, stops_first, stops_here}
 
-pub served_more : (id : ℕ) (xs ys : List (List (List ℕ))) (past : List Entry) → served id (xs ++ ys) past ≡ served id ys (served id xs past)
-served_more id [] ys past = refl
-served_more id (x ∷ xs) ys past = served_more id xs ys (book_step past (call.Run id x 0)).past
+-- some requests ran, and then these: as all of them
+more_stops : (done todo : List (List (List ℕ))) (s0 s t : Session) (lines lines1 lines2 : List Line) (fault : WorldFault) → Ends (run_all done s0) lines s lines1
+    → Stops (run_all todo s) lines1 fault t lines2 → Stops (run_all (done ++ todo) s0) lines fault t lines2
+unfolding run_all
+more_stops [] todo s0 s t lines lines1 lines2 fault h g =
+    subst (λ x. Stops (run_all todo x) lines fault t lines2) h.1 (subst (λ l. Stops (run_all todo s) l fault t lines2) (h.2 ∙ append-nil lines) g)
+more_stops (d ∷ done) todo s0 s t lines lines1 lines2 fault h g =
+    let m = run_one d s0 in
+    let p = ends_parts m (run_all done) lines s lines1 h in
+    after_stops m (run_all (done ++ todo)) lines m.state (lines ++ m.lines) fault t lines2 (p.0, refl, refl) (more_stops done todo m.state s t (lines ++ m.lines) lines1 lines2 fault p.1 g)
 
-pub served_lines_more : (id : ℕ) (link : List ℕ) (xs ys : List (List (List ℕ))) (past : List Entry)
-    → served_lines id link (xs ++ ys) past ≡ served_lines id link xs past ++ served_lines id link ys (served id xs past)
-served_lines_more id link [] ys past = refl
-served_lines_more id link (x ∷ xs) ys past =
-    ap (λ l. reply_lines link x (book_step past (call.Run id x 0)).reply ++ l) (served_lines_more id link xs ys (book_step past (call.Run id x 0)).past)
-    ∙ sym (append_assoc (reply_lines link x (book_step past (call.Run id x 0)).reply) (served_lines id link xs (book_step past (call.Run id x 0)).past) _)
+more_ends : (done todo : List (List (List ℕ))) (s0 s t : Session) (lines lines1 lines2 : List Line) → Ends (run_all done s0) lines s lines1
+    → Ends (run_all todo s) lines1 t lines2 → Ends (run_all (done ++ todo) s0) lines t lines2
+unfolding run_all
+more_ends [] todo s0 s t lines lines1 lines2 h g =
+    subst (λ x. Ends (run_all todo x) lines t lines2) h.1 (subst (λ l. Ends (run_all todo s) l t lines2) (h.2 ∙ append-nil lines) g)
+more_ends (d ∷ done) todo s0 s t lines lines1 lines2 h g =
+    let m = run_one d s0 in
+    let p = ends_parts m (run_all done) lines s lines1 h in
+    after_ends m (run_all (done ++ todo)) lines m.state (lines ++ m.lines) t lines2 (p.0, refl, refl) (more_ends done todo m.state s t (lines ++ m.lines) lines1 lines2 p.1 g)
+
+-- the request that begins what was read runs
+module _ (s : Session) (words : List (List ℕ)) (new : Stream) (is : request_at (skip_empty s.link.reader.rest) ≡ Whole words new.rest) (moved : new ≡ moved_on s.link.reader new.rest) where
+  next : Session
+  next = with_link s (with_reader s.link new)
+
+  next_is : next ≡ next_read s
+  unfolding next
+  next_is = ap (λ r. with_link s (with_reader s.link r)) moved ∙ sym (ap (λ a. with_link s (with_reader s.link (past_request s.link.reader a))) is)
+
+  one_stops : (lines : List Line) (fault : WorldFault) (t : Session) (lines1 : List Line) → Stops (turn (call.Run s.link.id words s.now) words (with_link s (with_reader s.link new))) lines fault t lines1 → Stops (run_one words s) lines fault t lines1
+  unfolding run_one next
+  one_stops lines fault t lines1 g = after_stops (does s (next_read s) []) _ lines next lines fault t lines1 (refl, next_is, sym (append-nil lines)) g
+
+  one_ends : (lines : List Line) (t : Session) (lines1 : List Line) → Ends (turn (call.Run s.link.id words s.now) words (with_link s (with_reader s.link new))) lines t lines1 → Ends (run_one words s) lines t lines1
+  unfolding run_one next
+  one_ends lines t lines1 g = after_ends (does s (next_read s) []) _ lines next lines t lines1 (refl, next_is, sym (append-nil lines)) g
+
+run_on : (s : Session) (words : List (List ℕ)) → reads_on s.limits s.past s.link.id ≡ true → reads_on s.limits (book_step s.limits s.past (call.Run s.link.id words s.now)).past s.link.id ≡ true
+run_on s words on = by_run s.limits s.past s.link.id s.now words (λ (t : Turn). reads_on s.limits t.past s.link.id ≡ true) on on on
 
 -- what was read and run so far, and what is left of it
-pub record Reads (id : ℕ) (link : List ℕ) (old now : Stream) (past0 past : List Entry) (lines lines' : List Line) : Type 0 where
+pub record Reads (s0 s : Session) (lines0 lines : List Line) : Type 0 where
   pub done : List (List (List ℕ))
-  pub requests : (parse old).requests ≡ done ++ (parse now).requests
-  pub stream : (parse now).stream ≡ (parse old).stream
-  pub fault : (parse now).fault ≡ (parse old).fault
-  pub ran : past ≡ served id done past0
-  pub told : lines' ≡ lines ++ served_lines id link done past0
-  pub connected : is_connected past id ≡ true
-  pub count : admitted past ≡ admitted past0
+  pub items : (parse s0.link.reader).items ≡ done ++ (parse s.link.reader).items
+  pub stream : (parse s.link.reader).stream ≡ (parse s0.link.reader).stream
+  pub fault : (parse s.link.reader).fault ≡ (parse s0.link.reader).fault
+  pub ran : Ends (run_all done s0) lines0 s lines
+  pub on : reads_on s.limits s.past s.link.id ≡ true
 
-module _ (id : ℕ) (link : List ℕ) (old now : Stream) (past0 past : List Entry) (lines lines' : List Line) (h : Reads id link old now past0 past lines lines') where
-  pub reads_more : (new : Stream) (words : List (List ℕ)) (past' : List Entry) (lines'' : List Line) → request_at (behind now.rest) ≡ Whole words new.rest → new ≡ moved_on now new.rest
-      → Runs id link words past past' lines' lines'' → is_connected past' id ≡ true → admitted past' ≡ admitted past → Reads id link old new past0 past' lines lines''
-  reads_more new words past' lines'' is moved run on same =
-      let next = parse_whole now words new.rest is in
-      let at : parse (moved_on now new.rest) ≡ parse new = ap parse (sym moved) in
-      record {
-        done = h.done ++ words ∷ [];
-        requests = h.requests ∙ ap (λ (p : Parsed). h.done ++ p.requests) next ∙ ap (λ (p : Parsed). h.done ++ words ∷ p.requests) at ∙ sym (append_assoc h.done (words ∷ []) (parse new).requests);
-        stream = sym (ap (λ (p : Parsed). p.stream) next ∙ ap (λ (p : Parsed). p.stream) at) ∙ h.stream;
-        fault = sym (ap (λ (p : Parsed). p.fault) next ∙ ap (λ (p : Parsed). p.fault) at) ∙ h.fault;
-        ran = run.0 ∙ ap (λ p. (book_step p (call.Run id words 0)).past) h.ran ∙ sym (served_more id h.done (words ∷ []) past0);
-        told = run.1 ∙ ap (λ l. l ++ reply_lines link words (book_step past (call.Run id words 0)).reply) h.told
-            ∙ append_assoc lines (served_lines id link h.done past0) (reply_lines link words (book_step past (call.Run id words 0)).reply)
-            ∙ ap (λ p. lines ++ (served_lines id link h.done past0 ++ reply_lines link words (book_step p (call.Run id words 0)).reply)) h.ran
-            ∙ ap (λ l. lines ++ (served_lines id link h.done past0 ++ l)) (sym (append-nil (reply_lines link words (book_step (served id h.done past0) (call.Run id words 0)).reply)))
-            ∙ ap (λ l. lines ++ l) (sym (served_lines_more id link h.done (words ∷ []) past0));
-        connected = on;
-        count = same ∙ h.count;
-      }
+pub reads_none : (s : Session) (lines : List Line) → reads_on s.limits s.past s.link.id ≡ true → Reads s s lines lines
+unfolding run_all
+reads_none s lines on = record { done = []; items = refl; stream = refl; fault = refl; ran = (refl, refl, sym (append-nil lines)); on = on }
 
-  pub reads_short : (past' : List Entry) (lines'' : List Line) → past' ≡ past → lines'' ≡ lines'
-      → StopsShort past0 lines (served id (parse old).requests past0) (served_lines id link (parse old).requests past0) past' lines''
-  reads_short past' lines'' stands same =
-      let left = (parse now).requests in
-      let mid = served id h.done past0 in
-      let whole : served id (parse old).requests past0 ≡ served id left mid = ap (λ r. served id r past0) h.requests ∙ served_more id h.done left past0 in
-      let all : served_lines id link (parse old).requests past0 ≡ served_lines id link h.done past0 ++ served_lines id link left mid =
-      ap (λ r. served_lines id link r past0) h.requests ∙ served_lines_more id link h.done left past0 in
-      let s : StopsShort past0 lines (served id left mid) (served_lines id link h.done past0 ++ served_lines id link left mid) mid lines' =
-      short_then past0 mid _ mid lines lines' _ _ lines' (served_grows id link h.done past0) h.told (short_at_once mid _ lines' _ (served_grows id link left mid)) in
-      subst (λ p. StopsShort past0 lines p (served_lines id link (parse old).requests past0) past' lines'') (sym whole)
-      (subst (λ l. StopsShort past0 lines (served id left mid) l past' lines'') (sym all)
-      (subst (λ p. StopsShort past0 lines (served id left mid) (served_lines id link h.done past0 ++ served_lines id link left mid) p lines'') (sym (stands ∙ h.ran))
-      (subst (λ l. StopsShort past0 lines (served id left mid) (served_lines id link h.done past0 ++ served_lines id link left mid) mid l) (sym same) s)))
+module _ (s0 s : Session) (lines0 lines : List Line) (h : Reads s0 s lines0 lines) where
+  module _ (words : List (List ℕ)) (new : Stream) (is : request_at (skip_empty s.link.reader.rest) ≡ Whole words new.rest) (moved : new ≡ moved_on s.link.reader new.rest) where
+    whole : parse s.link.reader ≡ record { items = words ∷ (parse new).items; stream = (parse new).stream; fault = (parse new).fault }
+    whole = parse_whole s.link.reader words new.rest is ∙ ap (λ r. record { items = words ∷ (parse r).items; stream = (parse r).stream; fault = (parse r).fault }) (sym moved)
 
-  -- where nothing whole is left, all was run
-  pub reads_all : (parse now).requests ≡ [] → (past ≡ served id (parse old).requests past0) × (lines' ≡ lines ++ served_lines id link (parse old).requests past0)
-  reads_all none =
-      let all : (parse old).requests ≡ h.done = h.requests ∙ ap (λ l. h.done ++ l) none ∙ append-nil h.done in
-      (h.ran ∙ ap (λ r. served id r past0) (sym all), h.told ∙ ap (λ r. lines ++ served_lines id link r past0) (sym all))
+    pub reads_more : (t : Session) (lines1 : List Line) → t.link.reader ≡ new → Ends (turn (call.Run s.link.id words s.now) words (with_link s (with_reader s.link new))) lines t lines1 → Reads s0 t lines0 lines1
+    unfolding run_all turn
+    reads_more t lines1 same g =
+        let there : parse t.link.reader ≡ parse new = ap parse same in
+        record {
+          done = h.done ++ words ∷ [];
+          items = h.items ∙ ap (λ (p : Batch (List (List ℕ))). h.done ++ p.items) whole ∙ ap (λ (p : Batch (List (List ℕ))). h.done ++ words ∷ p.items) (sym there)
+              ∙ sym (append_assoc h.done (words ∷ []) (parse t.link.reader).items);
+          stream = ap (λ (p : Batch (List (List ℕ))). p.stream) (there ∙ sym refl) ∙ sym (ap (λ (p : Batch (List (List ℕ))). p.stream) whole) ∙ h.stream;
+          fault = ap (λ (p : Batch (List (List ℕ))). p.fault) there ∙ sym (ap (λ (p : Batch (List (List ℕ))). p.fault) whole) ∙ h.fault;
+          ran = more_ends h.done (words ∷ []) s0 s t lines0 lines lines1 h.ran
+              (after_ends (run_one words s) (run_all []) lines t lines1 t lines1 (one_ends s words new is moved lines t lines1 g) (refl, refl, sym (append-nil lines1)));
+          on = ap (λ (x : Session). reads_on x.limits x.past x.link.id) g.1 ∙ run_on s words h.on;
+        }
 
-  pub ends_more : (new : Stream) → (request_at (behind now.rest) ≡ More) × (new ≡ skipped now) → (None ≡ (parse old).fault) × (new ≡ (parse old).stream) × ((parse now).requests ≡ [])
-  ends_more new more =
-      let last = parse_more now more.0 in
-      (sym (ap (λ (p : Parsed). p.fault) last) ∙ h.fault, more.1 ∙ sym (ap (λ (p : Parsed). p.stream) last) ∙ h.stream, ap (λ (p : Parsed). p.requests) last)
+    pub reads_stop : (fault : WorldFault) (t : Session) (lines1 : List Line) → Stops (turn (call.Run s.link.id words s.now) words (with_link s (with_reader s.link new))) lines fault t lines1 → Stops (run_requests s0) lines0 fault t lines1
+    unfolding run_requests run_all
+    reads_stop fault t lines1 g =
+        let p = parse s0.link.reader in
+        let all : p.items ≡ h.done ++ words ∷ (parse new).items = h.items ∙ ap (λ (p : Batch (List (List ℕ))). h.done ++ p.items) whole in
+        stops_first (run_all p.items s0) (rest_read p.stream) lines0 fault t lines1
+        (subst (λ l. Stops (run_all l s0) lines0 fault t lines1) (sym all)
+        (more_stops h.done (words ∷ (parse new).items) s0 s t lines0 lines lines1 fault h.ran
+        (stops_first (run_one words s) (run_all (parse new).items) lines fault t lines1 (one_stops s words new is moved lines fault t lines1 g))))
 
-  faulty : (new : Stream) (f : StreamFault) → Faulty (skipped now) f → new ≡ record { before = (skipped now).before; rest = (skipped now).rest; told = true }
-      → (Some f ≡ (parse old).fault) × (new ≡ (parse old).stream) × ((parse now).requests ≡ [])
+  -- all ran
+  all_ran : (parse s.link.reader).items ≡ [] → Ends (run_all (parse s0.link.reader).items s0) lines0 s lines
+  all_ran none = subst (λ l. Ends (run_all l s0) lines0 s lines) (sym (h.items ∙ ap (λ l. h.done ++ l) none ∙ append-nil h.done)) h.ran
+
+  rest_ends : (new : Stream) → (parse s.link.reader).items ≡ [] → new ≡ (parse s0.link.reader).stream → Ends (run_requests s0) lines0 (with_link s (with_reader s.link new)) lines
+  unfolding run_requests
+  rest_ends new none is =
+      after_ends (run_all (parse s0.link.reader).items s0) (rest_read (parse s0.link.reader).stream) lines0 s lines (with_link s (with_reader s.link new)) lines (all_ran none)
+      (refl, ap (λ r. with_link s (with_reader s.link r)) is, sym (append-nil lines))
+
+  pub ends_more : (new : Stream) → request_at (skipped s.link.reader).rest ≡ More → new ≡ skipped s.link.reader
+      → Ends (run_requests s0) lines0 (with_link s (with_reader s.link new)) lines × (None ≡ place_of (parse s0.link.reader).fault)
+  ends_more new more is =
+      let last = parse_more s.link.reader more in
+      (
+        rest_ends new (ap (λ (p : Batch (List (List ℕ))). p.items) last) (is ∙ sym (ap (λ (p : Batch (List (List ℕ))). p.stream) last) ∙ h.stream),
+        ap place_of (sym (ap (λ (p : Batch (List (List ℕ))). p.fault) last) ∙ h.fault),
+      )
+
+  faulty : (new : Stream) (f : StreamFault) → IsFaultOf request_at (skipped s.link.reader) f → new ≡ record { before = (skipped s.link.reader).before; rest = (skipped s.link.reader).rest; failed = true }
+      → Ends (run_requests s0) lines0 (with_link s (with_reader s.link new)) lines × (fault_place f ≡ place_of (parse s0.link.reader).fault)
   faulty new f bad is =
-      let last = parse_bad now bad.fault bad.behind_it bad.is in
-      (ap Some bad.told ∙ sym (ap (λ (p : Parsed). p.fault) last) ∙ h.fault, is ∙ sym (ap (λ (p : Parsed). p.stream) last) ∙ h.stream, ap (λ (p : Parsed). p.requests) last)
+      let last = parse_bad s.link.reader bad.fault bad.left bad.is in
+      (
+        rest_ends new (ap (λ (p : Batch (List (List ℕ))). p.items) last) (is ∙ sym (ap (λ (p : Batch (List (List ℕ))). p.stream) last) ∙ h.stream),
+        ap fault_place bad.place ∙ ap place_of (sym (ap (λ (p : Batch (List (List ℕ))). p.fault) last) ∙ h.fault),
+      )
 
-  pub ends_bad : (new : Stream) (f : StreamFault) → FaultGives now new f → NotMemory f → (Some f ≡ (parse old).fault) × (new ≡ (parse old).stream) × ((parse now).requests ≡ [])
-  ends_bad new (BadByte o) g n = faulty new (BadByte o) g.0 g.1
-  ends_bad new (TooLong o m) g n = faulty new (TooLong o m) g.0 g.1
-  ends_bad new (TooDeep o) g n = faulty new (TooDeep o) g.0 g.1
-  ends_bad new (NotServed o b) g n = faulty new (NotServed o b) g.0 g.1
-  ends_bad new NoMemory g n = absurd n
+  pub ends_bad : (new : Stream) (f : StreamFault) (place : FaultPlace) → FaultGives request_at (skipped s.link.reader) s.link.reader new f → Some place ≡ fault_place f
+      → Ends (run_requests s0) lines0 (with_link s (with_reader s.link new)) lines × (Some place ≡ place_of (parse s0.link.reader).fault)
+  ends_bad new (stream.BadByte o) place g at = let r = faulty new (stream.BadByte o) g.0 g.1 in (r.0, at ∙ r.1)
+  ends_bad new (stream.TooLong o n) place g at = let r = faulty new (stream.TooLong o n) g.0 g.1 in (r.0, at ∙ r.1)
+  ends_bad new (stream.TooDeep o) place g at = let r = faulty new (stream.TooDeep o) g.0 g.1 in (r.0, at ∙ r.1)
+  ends_bad new (stream.NotServed o b) place g at = let r = faulty new (stream.NotServed o b) g.0 g.1 in (r.0, at ∙ r.1)
+  ends_bad new stream.NoMemory place g at = absurd (let no : ⊥ = cc in no)
 
-pub reads_less : (now new : Stream) (words : List (List ℕ)) → request_at (behind now.rest) ≡ Whole words new.rest → length new.rest < length now.rest
+  -- memory ran out in the reading, which is as before
+  here_stops : (items : List (List (List ℕ))) → (parse s.link.reader).items ≡ items → Stops (run_requests s0) lines0 NoMemory s lines
+  unfolding run_requests run_all run_one
+  here_stops [] none =
+      after_stops (run_all (parse s0.link.reader).items s0) (rest_read (parse s0.link.reader).stream) lines0 s lines NoMemory s lines (all_ran none)
+      (stops_here (rest_read (parse s0.link.reader).stream s) s lines refl)
+  here_stops (words ∷ items) some =
+      let p = parse s0.link.reader in
+      stops_first (run_all p.items s0) (rest_read p.stream) lines0 NoMemory s lines
+      (subst (λ l. Stops (run_all l s0) lines0 NoMemory s lines) (sym (h.items ∙ ap (λ l. h.done ++ l) some))
+      (more_stops h.done (words ∷ items) s0 s s lines0 lines lines NoMemory h.ran
+      (stops_first (run_one words s) (run_all items) lines NoMemory s lines
+      (stops_first (does s (next_read s) []) _ lines NoMemory s lines (stops_here (does s (next_read s) []) s lines refl)))))
+
+  pub reads_short : (new : Stream) (f : StreamFault) → FaultGives request_at (skipped s.link.reader) s.link.reader new f → None ≡ fault_place f
+      → Stops (run_requests s0) lines0 NoMemory (with_link s (with_reader s.link new)) lines
+  reads_short new stream.NoMemory g at = subst (λ r. Stops (run_requests s0) lines0 NoMemory (with_link s (with_reader s.link r)) lines) (sym g) (here_stops (parse s.link.reader).items refl)
+  reads_short new (stream.BadByte o) g at = absurd (let no : ⊥ = cc in no)
+  reads_short new (stream.TooLong o n) g at = absurd (let no : ⊥ = cc in no)
+  reads_short new (stream.TooDeep o) g at = absurd (let no : ⊥ = cc in no)
+  reads_short new (stream.NotServed o b) g at = absurd (let no : ⊥ = cc in no)
+
+pub reads_less : (now new : Stream) (words : List (List ℕ)) → request_at (skip_empty now.rest) ≡ Whole words new.rest → length new.rest < length now.rest
 reads_less now new words is = shorter now.rest new.rest words is

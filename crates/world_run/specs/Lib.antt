@@ -1,8 +1,11 @@
 pub mod Faults
-pub mod Ways
+pub mod Directions
 pub mod WorldState
-pub mod Played
+pub mod Session
+pub mod Outcome
+pub mod EntryLines
+pub mod Turns
 pub mod Moves
 pub mod World
 pub mod Transcript
-pub mod Serial
+pub mod OneHistory

@@ -1,136 +1,201 @@
--- What moves over one link, whose connection has this id.
-use Rattle.std.specs.Prelude.{◌≡◌, ◌^◌, ◌-◌, ◌&&◌, ℕ, List, [], ◌∷◌, ◌++◌, Bool, true, false, if◌then◌else◌, nat_le, length, take, Result, Ok, Err}
+-- What moves over one link.
+use Rattle.std.specs.Prelude.{◌^◌, ◌-◌, ◌&&◌, ℕ, List, [], ◌∷◌, ◌++◌, Bool, true, false, if◌then◌else◌, nat_le, length, take}
 use Rattle.std.specs.declared.option.Option.{Option}
 use Rattle.std.specs.declared.option.Option.TheVariants.{None, Some}
-use Rattle.resp_stream.specs.Stream.{fed}
-use Rattle.resp_laws.specs.Parse.{parse}
-use Rattle.serial_model.specs.declared.history.Entry.{Entry}
+use Rattle.resp_stream.specs.declared.fault.StreamFault.{StreamFault}
+use Rattle.resp_stream.specs.Parsed.{Parsed, Whole, More, Bad}
+use Rattle.resp_stream.specs.Request.{request_at, skip_empty}
+use Rattle.resp_stream.specs.declared.fault.FaultPlace.{FaultPlace}
+use Rattle.resp_stream.specs.Stream.{Stream, fault_place, fed, moved_on}
+use Rattle.resp_stream.specs.Parse.{parse}
+use Rattle.resp_value.specs.Spelling.{request_spelling}
+use Rattle.serial_model.specs.declared.history.BookCall.{BookCall}
 use Rattle.serial_model.specs.declared.history.BookCall.TheVariants as call
 use Rattle.serial_model.specs.declared.history.BookReply.{BookReply}
 use Rattle.serial_model.specs.declared.history.BookReply.TheVariants.{Admitted, Ran, Quiet, Bytes, Closed, Refused}
-use Rattle.serial_model.specs.History.{is_connected, unsent}
-use Rattle.serial_model.specs.Steps.{book_step}
+use Rattle.serial_model.specs.History.{reads_on, gives_on, unsent}
+use Rattle.serial_model.specs.Steps.{Turn, book_step}
+use Rattle.script_text.specs.declared.event.Event.{Event}
+use Rattle.script_text.specs.declared.event.Event.TheVariants as event
 use Rattle.script_text.specs.declared.line.Line.{Line}
-use Rattle.script_text.specs.declared.line.Line.TheVariants.{Read, End}
-use Rattle.world_run.specs.declared.fault.WorldFault.{WorldFault}
+use Rattle.script_text.specs.declared.line.Line.TheVariants as line
 use Rattle.world_run.specs.declared.fault.WorldFault.TheVariants.{NothingThere}
-use Rattle.world_run.specs.declared.link.Link.{Link}
-use Rattle.world_run.specs.declared.way.Way.{Way}
-use Rattle.world_run.specs.Ways.{is_open, is_finished, put, finished, emptied, without}
-use Rattle.world_run.specs.Played.{StopsShort, reply_lines, served, served_lines, stopped}
+use Rattle.world_run.specs.declared.direction.Direction.{Direction}
+use Rattle.world_run.specs.Directions.{cut, finished, is_open, is_queued, past_eof, put, without, without_bytes}
+use Rattle.world_run.specs.EntryLines.{reply_fault, reply_lines}
+use Rattle.world_run.specs.Outcome.{Outcome, and_then, does, refuses, stays}
+use Rattle.world_run.specs.Session.{Session, with_down, with_link, with_past, with_reader, with_up}
 
-pub record Moved : Type 0 where
-  pub past : List Entry
-  pub link : Link
-  pub lines : List Line
+-- ---- a turn of the server
 
-abbrev pub stays : List Entry → Link → Moved
-stays past link = record { past = past; link = link; lines = [] }
+abbrev pub turned : Session → List (List ℕ) → Turn → Outcome Session
+turned s words t = record {
+  state = with_past s t.past;
+  lines = reply_lines s.link.name words t.reply;
+  fault = reply_fault t.reply;
+  points = (s, []) ∷ [];
+}
 
--- What the reader was fed is run, each whole request once; then a fault of it, or an end that was read, closes.
-unfoldable pub ran_fed : ℕ → List Entry → Link → Bool → Moved
-ran_fed id past link ended =
-    let p = parse link.reader in
-    let stop = stopped id link.name p.fault ended (served id p.requests past) in
-    record {
-      past = stop.past;
-      link = record { name = link.name; up = link.up; down = link.down; reader = p.stream };
-      lines = served_lines id link.name p.requests past ++ stop.lines;
-    }
+-- a turn and its line: both, or neither
+unfoldable pub turn : BookCall → List (List ℕ) → Session → Outcome Session
+turn c words s = turned s words (book_step s.limits s.past c)
 
--- the link after its server's end was fed a piece of the way up
-abbrev pub with_fed : Link → List ℕ → Way → Link
-with_fed link piece up = record { name = link.name; up = up; down = link.down; reader = fed link.reader piece }
+-- ---- the client's end puts bytes on the way to the server
 
-abbrev pub serve_all : ℕ → List Entry → Link → Moved
-serve_all id past link = if is_connected past id then ran_fed id past (with_fed link link.up.bytes (emptied link.up)) (is_finished link.up.ending) else stays past link
+abbrev pub say : List ℕ → Session → Outcome Session
+say bytes s = does s (with_link s (with_up s.link (put bytes s.link.up))) []
 
--- a count moves so many bytes, and never the end
-abbrev pub serve : ℕ → List Entry → Link → Option ℕ → Result Moved WorldFault
-serve id past link None = Ok (serve_all id past link)
-serve id past link (Some n) =
-    if is_connected past id && nat_le n (length link.up.bytes)
-    then Ok (ran_fed id past (with_fed link (take n link.up.bytes) (without n link.up)) false)
-    else Err NothingThere
+-- the client of a raw link has nothing of its own to send
+abbrev pub out : Option ℕ → Session → Outcome Session
+out None s = stays s
+out (Some n) s = refuses s NothingThere
+
+-- ---- the server's end reads
+
+-- the reader after the request that begins what it has
+abbrev pub past_request : Stream → Parsed (List (List ℕ)) → Stream
+past_request reader (Whole words rest) = moved_on reader rest
+past_request reader More = reader
+past_request reader (Bad fault rest) = reader
+
+abbrev pub next_read : Session → Session
+next_read s =
+    with_link s (with_reader s.link (past_request s.link.reader (request_at (skip_empty s.link.reader.rest))))
+
+unfoldable pub run_one : List (List ℕ) → Session → Outcome Session
+run_one words s =
+    and_then (does s (next_read s) []) (λ s. turn (call.Run s.link.id words s.now) words s)
+
+unfoldable pub run_all : List (List (List ℕ)) → Session → Outcome Session
+run_all [] s = stays s
+run_all (words ∷ requests) s = and_then (run_one words s) (run_all requests)
+
+unfoldable pub close : Session → Outcome Session
+close s = turn (call.Close s.link.id) [] s
+
+abbrev pub place_of : Option StreamFault → Option FaultPlace
+place_of None = None
+place_of (Some fault) = fault_place fault
+
+-- a fault of the stream closes the connection, and so does an EOF that was read; what follows a fault
+-- is passed over
+abbrev pub stop : Option FaultPlace → Bool → Session → Outcome Session
+stop (Some place) eof s = and_then (does s s (line.Bad s.link.name place.number place.offset ∷ [])) close
+stop None true s = close s
+stop None false s = stays s
+
+abbrev pub rest_read : Stream → Session → Outcome Session
+rest_read rest s = does s (with_link s (with_reader s.link rest)) []
+
+-- each whole request in what was fed is one Run
+unfoldable pub run_requests : Session → Outcome Session
+run_requests s =
+    let p = parse s.link.reader in and_then (run_all p.items s) (rest_read p.stream)
+
+-- and then comes what stops the reading
+unfoldable pub run_fed : Bool → Session → Outcome Session
+run_fed eof s = and_then (run_requests s) (stop (place_of (parse s.link.reader).fault) eof)
+
+abbrev pub feed : List ℕ → Direction → Session → Outcome Session
+feed piece up s = does s (with_link s (with_reader (with_up s.link up) (fed s.link.reader piece))) []
+
+unfoldable pub serve_all : Session → Outcome Session
+serve_all s =
+    if reads_on s.limits s.past s.link.id
+    then and_then (feed s.link.up.bytes (past_eof (without_bytes s.link.up)) s) (run_fed (is_queued s.link.up.eof))
+    else stays s
+
+-- a count moves so many bytes, and never an EOF
+abbrev pub serve : Option ℕ → Session → Outcome Session
+serve None s = serve_all s
+serve (Some n) s =
+    if reads_on s.limits s.past s.link.id && nat_le n (length s.link.up.bytes)
+    then and_then (feed (take n s.link.up.bytes) (without n s.link.up) s) (run_fed false)
+    else refuses s NothingThere
+
+-- ---- the server's end sends
+
+abbrev pub bytes_of : BookReply → List ℕ
+bytes_of (Admitted e id) = []
+bytes_of (Ran e) = []
+bytes_of Quiet = []
+bytes_of (Bytes e bytes) = bytes
+bytes_of (Closed e) = []
+bytes_of (Refused r) = []
+
+-- One Take, and what it gives goes on the way to the client.
+unfoldable pub take_down : ℕ → Session → Outcome Session
+take_down most s =
+    let t = book_step s.limits s.past (call.Take s.link.id most) in
+    and_then (turned s [] t)
+    (λ s. does s (with_link s (with_down s.link (put (bytes_of t.reply) s.link.down))) [])
 
 -- no bound on what is taken
 abbrev pub all_bytes : ℕ
 all_bytes = 2 ^ 64 - 1
 
-abbrev pub given_bytes : BookReply → List ℕ
-given_bytes (Admitted e id) = []
-given_bytes (Ran e) = []
-given_bytes Quiet = []
-given_bytes (Bytes e bytes) = bytes
-given_bytes (Closed e) = []
-given_bytes (Refused r) = []
+-- A connection that has ended gets its EOF; after an EOF nothing is sent.
+abbrev pub send_all : Session → Outcome Session
+send_all s =
+    if is_open s.link.down.eof
+    then (if gives_on s.limits s.past s.link.id then take_down all_bytes s
+        else stays (with_link s (with_down s.link (finished s.link.down))))
+    else stays s
 
--- One Take, onto the way down.
-unfoldable pub taken_down : ℕ → List Entry → Link → ℕ → Moved
-taken_down id past link most =
-    let turn = book_step past (call.Take id most) in
-    record {
-      past = turn.past;
-      link = record { name = link.name; up = link.up; down = put (given_bytes turn.reply) link.down; reader = link.reader };
-      lines = reply_lines link.name [] turn.reply;
-    }
+abbrev pub send : Option ℕ → Session → Outcome Session
+send None s = send_all s
+send (Some n) s =
+    if is_open s.link.down.eof && gives_on s.limits s.past s.link.id
+      && nat_le n (length (unsent s.limits s.link.id s.past))
+    then take_down n s
+    else refuses s NothingThere
 
-abbrev pub with_down : Link → Way → Link
-with_down link down = record { name = link.name; up = link.up; down = down; reader = link.reader }
-
--- where the connection has ended its end goes on; a way that has ended takes nothing
-abbrev pub send_all : ℕ → List Entry → Link → Moved
-send_all id past link =
-    if is_open link.down.ending
-    then (if is_connected past id then taken_down id past link all_bytes else stays past (with_down link (finished link.down)))
-    else stays past link
-
-abbrev pub send : ℕ → List Entry → Link → Option ℕ → Result Moved WorldFault
-send id past link None = Ok (send_all id past link)
-send id past link (Some n) =
-    if is_open link.down.ending && is_connected past id && nat_le n (length (unsent id past))
-    then Ok (taken_down id past link n)
-    else Err NothingThere
+-- ---- the client's end reads
 
 abbrev pub read_lines : List ℕ → List ℕ → List Line
 read_lines link [] = []
-read_lines link (b ∷ bytes) = Read link (b ∷ bytes) ∷ []
+read_lines link (b ∷ bytes) = line.Read link (b ∷ bytes) ∷ []
 
-abbrev pub end_lines : List ℕ → Bool → List Line
-end_lines link true = End link ∷ []
-end_lines link false = []
+abbrev pub eof_lines : List ℕ → Bool → List Line
+eof_lines link true = line.End link ∷ []
+eof_lines link false = []
 
-abbrev pub received_lines : Link → List Line
-received_lines link = read_lines link.name link.down.bytes ++ end_lines link.name (is_finished link.down.ending)
+abbrev pub read_bytes : List ℕ → Direction → Session → Outcome Session
+read_bytes bytes down s = does s (with_link s (with_down s.link down)) (read_lines s.link.name bytes)
 
--- The client's end reads all that is there.
-abbrev pub receive_all : List Entry → Link → Moved
-receive_all past link = record { past = past; link = with_down link (emptied link.down); lines = received_lines link }
+abbrev pub read_eof : Session → Outcome Session
+read_eof s =
+    does s (with_link s (with_down s.link (past_eof s.link.down)))
+    (eof_lines s.link.name (is_queued s.link.down.eof))
 
-abbrev pub receive : List Entry → Link → Option ℕ → Result Moved WorldFault
-receive past link None = Ok (receive_all past link)
-receive past link (Some n) =
-    if nat_le n (length link.down.bytes)
-    then Ok (record { past = past; link = with_down link (without n link.down); lines = read_lines link.name (take n link.down.bytes) })
-    else Err NothingThere
+unfoldable pub receive_all : Session → Outcome Session
+receive_all s = and_then (read_bytes s.link.down.bytes (without_bytes s.link.down) s) read_eof
 
--- The client of a raw link has nothing of its own to put on the way up.
-abbrev pub out : List Entry → Link → Option ℕ → Result Moved WorldFault
-out past link None = Ok (stays past link)
-out past link (Some n) = Err NothingThere
+abbrev pub receive : Option ℕ → Session → Outcome Session
+receive None s = receive_all s
+receive (Some n) s =
+    if nat_le n (length s.link.down.bytes)
+    then read_bytes (take n s.link.down.bytes) (without n s.link.down) s
+    else refuses s NothingThere
 
--- All that is there moves: up, through the server, and down.
-unfoldable pub flow : ℕ → List Entry → Link → Moved
-flow id past link =
-    let first = serve_all id past link in
-    let second = send_all id first.past first.link in
-    let third = receive_all second.past second.link in
-    record { past = third.past; link = third.link; lines = first.lines ++ (second.lines ++ third.lines) }
+-- ---- all of it
 
--- memory ran out on the way
-abbrev pub MovesShort : Moved → List Entry → List Line → List Entry → List Line → Type 0
-MovesShort m past lines past' lines' = StopsShort past lines m.past m.lines past' lines'
+unfoldable pub flow : Session → Outcome Session
+flow s = and_then (out None s) (λ s. and_then (serve_all s) (λ s. and_then (send_all s) receive_all))
 
--- what was done is this move, and its lines were appended
-abbrev pub Moves : Moved → List Entry → Link → List Line → List Line → Type 0
-Moves m past link lines lines' = (past ≡ m.past) × (link ≡ m.link) × (lines' ≡ lines ++ m.lines)
+-- what is in flight is lost on both ways, and each gets an EOF; it takes no memory
+abbrev pub cut_off : Session → Outcome Session
+cut_off s = stays (with_link s (with_up (with_down s.link (cut s.link.down)) (cut s.link.up)))
+
+-- what an event of one link does there; the others do nothing of one link
+abbrev pub move_of : Event → Session → Outcome Session
+move_of (event.Raw name) s = stays s
+move_of (event.Say name words) s = say (request_spelling words) s
+move_of (event.Bytes name bytes) s = say bytes s
+move_of (event.Out name count) s = out count s
+move_of (event.Serve name count) s = serve count s
+move_of (event.Send name count) s = send count s
+move_of (event.Recv name count) s = receive count s
+move_of (event.Flow name) s = flow s
+move_of event.FlowAll s = stays s
+move_of (event.Cut name) s = cut_off s

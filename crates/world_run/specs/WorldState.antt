@@ -1,19 +1,30 @@
 -- What a world is seen as.
-use Rattle.std.specs.Prelude.{◌≡◌, ℕ, List, length}
+use Rattle.std.specs.Prelude.{◌≡◌, ◌+◌, ◌<◌, ℕ, List, [], length, slice_index_or}
 use Rattle.resp_stream.specs.Stream.{begun}
+use Rattle.serial_model.specs.declared.history.Limits.{Limits}
 use Rattle.serial_model.specs.declared.history.Entry.{Entry}
 use Rattle.serial_model.specs.History.{admitted}
 use Rattle.world_run.specs.declared.link.Link.{Link}
-use Rattle.world_run.specs.Ways.{fresh}
+use Rattle.world_run.specs.Directions.{fresh}
 
-abbrev pub fresh_link : List ℕ → Link
-fresh_link name = record { name = name; up = fresh; down = fresh; reader = begun }
+abbrev pub fresh_link : ℕ → List ℕ → Link
+fresh_link id name = record { id = id; name = name; up = fresh; down = fresh; reader = begun }
 
--- the history, the newest entry first, and the links, in order of their connections' ids
+-- the limits, the clock in milliseconds, the history with its newest entry first, and the links in
+-- the order in which they were made
 pub record WorldState : Type 0 where
+  pub limits : Limits
+  pub now : ℕ
   pub past : List Entry
   pub links : List Link
 
--- each link is a connection
+abbrev pub start : Limits → WorldState
+start limits = record { limits = limits; now = 0; past = []; links = [] }
+
+abbrev pub at_place : List Link → ℕ → Link
+at_place links at = slice_index_or links at (fresh_link 0 [])
+
+-- each admitted connection has a link, the one of the id n at the place n - 1
 pub record Fits (past : List Entry) (links : List Link) : Type 0 where
-  pub links_fit : length links ≡ admitted past
+  pub count : length links ≡ admitted past
+  pub ids : (at : ℕ) → at < length links → (at_place links at).id ≡ at + 1

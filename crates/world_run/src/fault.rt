@@ -1,11 +1,12 @@
-//! Why an event was not played.
+//! Why an event was not played, or not to its end.
 ghost use Rattle.std.specs.Prelude.{◌≡◌};
 ghost use Rattle.world_run.specs.Faults.{number_of};
 
 use resp_value::NoMemory;
-use std::alloc::AllocFailed;
+use std::alloc::AllocError;
 
-/// Why an event was not played.
+/// Why an event was not played, or not to its end. The first three leave the world as before. With
+/// the others what was played before stands, and its lines were appended.
 #[derive(Clone, Copy, Debug, PartialEq, Eq)]
 pub enum WorldFault {
     /// No link has this name.
@@ -14,13 +15,13 @@ pub enum WorldFault {
     NameTaken,
     /// Fewer bytes were there than the event moves.
     NothingThere,
-    /// Memory ran out. The turns that were played stand, and their lines were appended; what was to be
-    /// put onto a way may be lost.
     NoMemory,
+    /// The history has as many entries as it may have, and the event needs one more.
+    HistoryFull { entries: u64 },
 }
 
 impl WorldFault {
-    /// The number that stands in the last line of a refused schedule.
+    /// The number in the last line of a schedule that was refused.
     pub fn number(self) -> u64
         ensures { result ≡ number_of self }
     {
@@ -29,6 +30,7 @@ impl WorldFault {
             WorldFault::NameTaken => 2,
             WorldFault::NothingThere => 3,
             WorldFault::NoMemory => 4,
+            WorldFault::HistoryFull { .. } => 6,
         }
     }
 }
@@ -43,12 +45,12 @@ impl From<NoMemory> for WorldFault {
     }
 }
 
-impl<T: Drop> From<AllocFailed<T>> for WorldFault {
+impl From<AllocError> for WorldFault {
     ghost use Rattle.world_run.specs.declared.fault.WorldFault.TheVariants.{NoMemory};
 
     ghost from_gives = { λ _ e. e ≡ NoMemory };
 
-    fn from(_: AllocFailed<T>) -> Self {
+    fn from(_: AllocError) -> Self {
         WorldFault::NoMemory
     }
 }

@@ -1,14 +1,13 @@
 //! A schedule played on the server's state and its links.
 #![tactic(auto)]
 
-mod carry;
+mod client_end;
+mod direction;
 mod fault;
 mod laws;
 mod link;
-mod play;
-mod serve;
-mod tell;
-mod way;
+mod server;
+mod server_end;
 mod world;
 
 pub use fault::WorldFault;
@@ -16,6 +15,6 @@ pub use laws::law_one_history;
 pub use world::World;
 
 #[cfg(test)]
-mod plain;
+mod reference_player;
 #[cfg(test)]
 mod tests;

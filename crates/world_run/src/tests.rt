@@ -1,6 +1,8 @@
-// Schedules against their transcripts, and against a plain player.
+//! Schedules against their transcripts, and against the reference player.
+ghost use Rattle.serial_model.specs.Steps.{AreValid};
+
 use super::World;
-use super::plain::Plain;
+use super::reference_player::ReferencePlayer;
 use resp_value::{NoMemory, Octets};
 use script_text::{Event, Lines, put_line, read_event};
 use server_book::Limits;
@@ -57,15 +59,15 @@ bytes r *1\\r\\n$16777217
 serve r
 ";
 
-// The requests before a fault run; the link ends, and what stands behind the fault is passed over.
-const BROKEN_BEHIND_A_RUN: &str = "raw r
+// The requests before a fault run; the link ends, and what follows the fault is passed over.
+const BROKEN_AFTER_A_RUN: &str = "raw r
 bytes r GET\\sa\\r\\n*x\\r\\nGET\\sb\\r\\n
 flow r
 say r GET c
 flow r
 ";
 
-// Bytes that were sent before the cut are lost, and so is a piece of a request behind it.
+// Bytes that were sent before the cut are lost, and so is a piece of a request after it.
 const CUT_MIDWAY: &str = "raw r
 raw s
 say r SET a 1
@@ -97,7 +99,17 @@ fn events_of(alloc: Global, schedule: &str) -> Result<Vec<Event>, NoMemory> {
 
 // What a world prints for a schedule, and the number of the fault that it ends by, 0 for none.
 fn played(alloc: Global, events: &[Event]) -> Result<(Vec<u8>, u64), NoMemory> {
-    let mut world = World::new(alloc, LIMITS)?;
+    played_within(alloc, LIMITS, events)
+}
+
+fn played_within(
+    alloc: Global,
+    limits: Limits,
+    events: &[Event],
+) -> Result<(Vec<u8>, u64), NoMemory>
+    requires { AreValid limits }
+{
+    let mut world = World::new(alloc, limits)?;
     let mut text = Vec::new(alloc);
     for event in events {
         let mut lines = Lines::new(alloc);
@@ -112,15 +124,15 @@ fn played(alloc: Global, events: &[Event]) -> Result<(Vec<u8>, u64), NoMemory> {
     Ok((text, 0))
 }
 
-fn played_plainly(alloc: Global, events: &[Event]) -> Result<(Vec<u8>, u64), NoMemory> {
-    let mut plain = Plain::new(alloc);
+fn played_by_reference(alloc: Global, events: &[Event]) -> Result<(Vec<u8>, u64), NoMemory> {
+    let mut player = ReferencePlayer::new(alloc);
     let mut fault = 0;
     for event in events {
         if fault == 0 {
-            fault = plain.play(event)?;
+            fault = player.play(event)?;
         }
     }
-    Ok((Vec::from_slice(alloc, plain.text())?, fault))
+    Ok((Vec::from_slice(alloc, player.text())?, fault))
 }
 
 #[test]
@@ -182,7 +194,7 @@ r end
         ),
         (LENGTH_TOO_LONG, "#1 admit r 1\nr bad 2 12\n#2 close r\n", 0),
         (
-            BROKEN_BEHIND_A_RUN,
+            BROKEN_AFTER_A_RUN,
             "#1 admit r 1
 #2 run r GET a
 r bad 1 8
@@ -257,7 +269,35 @@ r < $-1\\r\\n
 }
 
 #[test]
-fn a_world_prints_what_the_plain_player_prints(rt: HostRuntime) -> Result<(), Fail> {
+fn a_full_history_ends_a_schedule_and_what_was_played_stands(
+    rt: HostRuntime,
+) -> Result<(), Fail> {
+    for (history_max, schedule, want, number) in [
+        (2, "raw r\nraw s\nraw t\n", "#1 admit r 1\n#2 admit s 2\n", 6),
+        (2, "raw r\nsay r GET a\nsay r GET b\nflow r\n", "#1 admit r 1\n#2 run r GET a\n", 6),
+        (2, "raw r\nsay r GET a\nflow r\n", "#1 admit r 1\n#2 run r GET a\n", 6),
+        (
+            2,
+            "raw r\nsay r GET a\nserve r\ncut r\nserve r\n",
+            "#1 admit r 1\n#2 run r GET a\n#3 close r\n",
+            0,
+        ),
+        (1, "raw r\nflow r\n", "#1 admit r 1\n", 0),
+    ] {
+        let events = events_of(rt.alloc(), schedule)?;
+        let limits = Limits {
+            history_max,
+            ..LIMITS
+        };
+        let (text, fault) = played_within(rt.alloc(), limits, events.as_slice())?;
+        assert_eq!(rt; text.as_slice(), want.as_bytes(), "{schedule}");
+        assert_eq!(rt; fault, number, "{schedule}");
+    }
+    Ok(())
+}
+
+#[test]
+fn a_world_prints_what_the_reference_player_prints(rt: HostRuntime) -> Result<(), Fail> {
     for schedule in [
         SET_AND_GET,
         TWO_LINKS,
@@ -265,7 +305,7 @@ fn a_world_prints_what_the_plain_player_prints(rt: HostRuntime) -> Result<(), Fa
         CUT_LINK,
         LENGTH_LEADING_ZERO,
         LENGTH_TOO_LONG,
-        BROKEN_BEHIND_A_RUN,
+        BROKEN_AFTER_A_RUN,
         CUT_MIDWAY,
         "say q GET a\n",
         "raw r\nflow q\nraw s\n",
@@ -282,7 +322,7 @@ fn a_world_prints_what_the_plain_player_prints(rt: HostRuntime) -> Result<(), Fa
     ] {
         let events = events_of(rt.alloc(), schedule)?;
         let (text, fault) = played(rt.alloc(), events.as_slice())?;
-        let (want, number) = played_plainly(rt.alloc(), events.as_slice())?;
+        let (want, number) = played_by_reference(rt.alloc(), events.as_slice())?;
         assert_eq!(rt; text.as_slice(), want.as_slice(), "{schedule}");
         assert_eq!(rt; fault, number, "{schedule}");
     }

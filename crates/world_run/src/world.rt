@@ -1,27 +1,26 @@
 //! The world of a schedule: the server and the links to it.
-ghost use Rattle.std.specs.Prelude.{◌≡◌, ◌++◌, ◌∷◌, [], Some, OnOk, OnErr, IfOk, length};
+ghost use Rattle.std.specs.Prelude.{◌≡◌, Some, IfOk, length};
 ghost use Rattle.script_text.specs.declared.event.Event.TheVariants as event;
-ghost use Rattle.serial_model.specs.History.{admitted};
-ghost use Rattle.world_run.specs.Played.{StopsShort};
-ghost use Rattle.world_run.specs.World.{StepGives, flows, link_named, place_of, start};
+ghost use Rattle.serial_model.specs.Steps.{AreValid};
+ghost use Rattle.world_run.specs.Outcome.{Gives};
+ghost use Rattle.world_run.specs.Session.{world};
+ghost use Rattle.world_run.specs.World.{StepGives, flow_first, link_named, place_of};
+ghost use Rattle.world_run.specs.WorldState.{Fits, start};
 
-use super::carry::flow;
 use super::fault::WorldFault;
 use super::link::Link;
-use super::play::play;
-use super::tell::{next_entry, play_turn};
+use super::server::Server;
 use resp_value::{NoMemory, Octets};
 use script_text::{Event, Line, Lines};
 use server_book::{Book, BookCall, Limits};
 use std::alloc::Global;
 use std::marker::Model;
 
-/// The server and its links. Contracts see the history and the links, each with its two ways and
-/// what its server's end has read.
+/// The server and its links. Contracts see the limits, the clock, the history and the links.
 #[derive(Drop)]
 pub struct World {
     alloc: Global,
-    book: Book,
+    server: Server,
     links: Vec<Link>,
 }
 
@@ -30,19 +29,28 @@ impl Model for World {
 
     ghost Value = { WorldState };
 
-    ghost view = { λ w. record { past = w.book.past; links = w.links.items } };
+    ghost view = { λ w. record {
+        limits = w.server.book.limits;
+        now = w.server.clock;
+        past = w.server.book.past;
+        links = w.links.items;
+    } };
 
-    ghost invariant = { λ w. Fits w.book.past w.links.items };
+    ghost invariant = { λ w. Fits w.server.book.past w.links.items };
 }
 
 impl World {
     /// A server with no link, at moment 0.
     pub fn new(alloc: Global, limits: Limits) -> Result<World, NoMemory>
-        ensures { IfOk result (λ w. w ≡ start) }
+        requires { AreValid limits }
+        ensures { IfOk result (λ w. w ≡ start limits) }
     {
         Ok(World {
             alloc,
-            book: Book::new(alloc, limits)?,
+            server: Server {
+                book: Book::new(alloc, limits)?,
+                clock: 0,
+            },
             links: Vec::new(alloc),
         })
     }
@@ -65,6 +73,7 @@ impl World {
         }
     }
 
+    // A look at each link.
     fn place(&self, name: &Octets) -> Option<usize>
         ensures { result ≡ place_of name.now self.now }
     {
@@ -74,21 +83,19 @@ impl World {
             .position(|link| link.name.as_slice() == name)
     }
 
-    #[tactic(auto, unfolding(crate::specs::World::step, serial_model::specs::Steps::book_step))]
+    /// Makes a link, which the server admits.
     fn raw(&mut self, name: &Octets, lines: &mut Lines) -> Result<(), WorldFault>
         ensures { StepGives self.old (event.Raw name.now) lines.old result self.new lines.new }
     {
         if self.place(name).is_some() {
             return Err(WorldFault::NameTaken);
         }
-        let entry = next_entry(&self.book)?;
-        let shown = name.copy()?;
-        self.links.push(Link::new(self.alloc, name.copy()?))?;
-        let line = Line::Admit(entry, shown, self.links.len() as u64);
-        if play_turn(&mut self.book, BookCall::Admit, line, lines).is_err() {
-            let _ = self.links.pop();
-            return Err(WorldFault::NoMemory);
-        }
+        let id = self.links.len() as u64 + 1;
+        let line = Line::Admit(self.server.next_entry()?, name.copy()?, id);
+        let link = Link::new(self.alloc, id, name.copy()?);
+        self.links.reserve(1)?;
+        self.server.turn(BookCall::Admit, line, lines)?;
+        self.links.push_reserved(link);
         Ok(())
     }
 
@@ -100,40 +107,29 @@ impl World {
         let Some(at) = self.place(name) else {
             return Err(WorldFault::NoName);
         };
-        play(
-            self.alloc,
-            &mut self.book,
-            at as u64 + 1,
-            &mut self.links[at],
-            event,
-            lines,
-        )
+        self.links[at].play(self.alloc, &mut self.server, event, lines)
     }
 
-    #[tactic(auto, unfolding(crate::specs::World::step))]
     fn flow_all(&mut self, lines: &mut Lines) -> Result<(), WorldFault>
         ensures { StepGives self.old event.FlowAll lines.old result self.new lines.new }
     {
-        Ok(flow_links(self.alloc, &mut self.book, &mut self.links, lines)?)
+        flow_links(self.alloc, &mut self.server, &mut self.links, lines)
     }
 }
 
 /// Each link flows, in order of making.
 fn flow_links(
     alloc: Global,
-    book: &mut Book,
+    server: &mut Server,
     links: &mut Vec<Link>,
     lines: &mut Lines,
-) -> Result<(), NoMemory>
-    ensures ok { OnOk result ((book.new.past ≡ (flows 1 links.old.items book.old.past).world.past)
-        × (links.new.items ≡ (flows 1 links.old.items book.old.past).world.links)
-        × (lines.new ≡ lines.old ++ (flows 1 links.old.items book.old.past).lines)) }
-    ensures err { OnErr result (StopsShort book.old.past lines.old (flows 1 links.old.items book.old.past).world.past (flows 1 links.old.items book.old.past).lines book.new.past lines.new) }
-    ensures same { admitted book.new.past ≡ admitted book.old.past }
-    ensures length { length links.new.items ≡ length links.old.items }
+) -> Result<(), WorldFault>
+    ensures gives { Gives (flow_first (length links.old.items) (world server.old links.old.items)) lines.old
+        result (world server.new links.new.items) lines.new }
+    ensures fits { Fits server.old.book.past links.old.items → Fits server.new.book.past links.new.items }
 {
     for at in 0..links.len() {
-        flow(alloc, book, at as u64 + 1, &mut links[at], lines)?;
+        links[at].flow(alloc, server, lines)?;
     }
     Ok(())
 }

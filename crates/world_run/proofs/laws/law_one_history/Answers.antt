@@ -1,5 +1,7 @@
-use Rattle.world_run.proofs.Serial.{one_history}
+use Rattle.world_run.proofs.Events.{one_history, follows}
+use Rattle.world_run.proofs.Delivery.{flow_delivers}
+use Rattle.world_run.proofs.Stepping.{over_gives}
 use Rattle.world_run.proofs.laws.law_one_history.Goals as goal
 
 pub returns : goal.returns
-returns c = one_history
+returns c l events w e = (one_history l events w e, follows l events w e, flow_delivers w)
