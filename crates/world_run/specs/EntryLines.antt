@@ -1,16 +1,19 @@
 -- The lines of turns, and those of a whole history.
-use Rattle.std.specs.Prelude.{◌+◌, ◌-◌, ℕ, List, [], ◌∷◌, ◌++◌, Bool, true, false, length, filter, slice_index_or}
+use Rattle.std.specs.Prelude.{◌+◌, ◌-◌, ℕ, List, [], ◌∷◌, ◌++◌, Bool, true, false, length}
+use Rattle.std.specs.Prelude.{slice_index_or}
 use Rattle.std.specs.declared.option.Option.{Option}
 use Rattle.std.specs.declared.option.Option.TheVariants.{None, Some}
 use Rattle.serial_model.specs.declared.history.Limits.{Limits}
 use Rattle.serial_model.specs.declared.history.Entry.{Entry}
 use Rattle.serial_model.specs.declared.history.Entry.TheVariants as entry
 use Rattle.serial_model.specs.declared.history.BookReply.{BookReply}
-use Rattle.serial_model.specs.declared.history.BookReply.TheVariants.{Admitted, Ran, Quiet, Bytes, Closed, Refused}
+use Rattle.serial_model.specs.declared.history.BookReply.TheVariants.{Admitted, Ran, Quiet, Bytes}
+use Rattle.serial_model.specs.declared.history.BookReply.TheVariants.{Closed, Refused}
 use Rattle.serial_model.specs.declared.history.BookRefusal.TheVariants as refusal
 use Rattle.serial_model.specs.History.{taken}
 use Rattle.script_text.specs.declared.line.Line.{Line}
-use Rattle.script_text.specs.declared.line.Line.TheVariants.{Admit, Run, Bad, Close, Take, Read, End}
+use Rattle.script_text.specs.declared.line.Line.TheVariants.{Admit, Run, Bad, Close, Take, Read}
+use Rattle.script_text.specs.declared.line.Line.TheVariants.{End}
 use Rattle.world_run.specs.declared.fault.WorldFault.{WorldFault}
 use Rattle.world_run.specs.declared.fault.WorldFault.TheVariants.{HistoryFull}
 
@@ -58,6 +61,7 @@ entry_lines l names (entry.Run id words moment ∷ past) =
     entry_lines l names past ++ Run (length past + 1) (name_of names id) words ∷ []
 entry_lines l names (entry.Take id max ∷ past) =
     entry_lines l names past
-      ++ Take (length past + 1) (name_of names id) (taken l id (entry.Take id max ∷ past) - taken l id past) ∷ []
+    ++ Take (length past + 1) (name_of names id)
+    (taken l id (entry.Take id max ∷ past) - taken l id past) ∷ []
 entry_lines l names (entry.Close id ∷ past) =
     entry_lines l names past ++ Close (length past + 1) (name_of names id) ∷ []

@@ -1,5 +1,6 @@
 -- What moves over one link.
-use Rattle.std.specs.Prelude.{◌^◌, ◌-◌, ◌&&◌, ℕ, List, [], ◌∷◌, ◌++◌, Bool, true, false, if◌then◌else◌, nat_le, length, take}
+use Rattle.std.specs.Prelude.{◌^◌, ◌-◌, ◌&&◌, ℕ, List, [], ◌∷◌, Bool, true, false, if◌then◌else◌}
+use Rattle.std.specs.Prelude.{nat_le, length, take}
 use Rattle.std.specs.declared.option.Option.{Option}
 use Rattle.std.specs.declared.option.Option.TheVariants.{None, Some}
 use Rattle.resp_stream.specs.declared.fault.StreamFault.{StreamFault}
@@ -12,7 +13,8 @@ use Rattle.resp_value.specs.Spelling.{request_spelling}
 use Rattle.serial_model.specs.declared.history.BookCall.{BookCall}
 use Rattle.serial_model.specs.declared.history.BookCall.TheVariants as call
 use Rattle.serial_model.specs.declared.history.BookReply.{BookReply}
-use Rattle.serial_model.specs.declared.history.BookReply.TheVariants.{Admitted, Ran, Quiet, Bytes, Closed, Refused}
+use Rattle.serial_model.specs.declared.history.BookReply.TheVariants.{Admitted, Ran, Quiet, Bytes}
+use Rattle.serial_model.specs.declared.history.BookReply.TheVariants.{Closed, Refused}
 use Rattle.serial_model.specs.History.{reads_on, gives_on, unsent}
 use Rattle.serial_model.specs.Steps.{Turn, book_step}
 use Rattle.script_text.specs.declared.event.Event.{Event}
@@ -21,7 +23,8 @@ use Rattle.script_text.specs.declared.line.Line.{Line}
 use Rattle.script_text.specs.declared.line.Line.TheVariants as line
 use Rattle.world_run.specs.declared.fault.WorldFault.TheVariants.{NothingThere}
 use Rattle.world_run.specs.declared.direction.Direction.{Direction}
-use Rattle.world_run.specs.Directions.{cut, finished, is_open, is_queued, past_eof, put, without, without_bytes}
+use Rattle.world_run.specs.Directions.{cut, finished, is_open, is_queued, past_eof, put, without}
+use Rattle.world_run.specs.Directions.{without_bytes}
 use Rattle.world_run.specs.EntryLines.{reply_fault, reply_lines}
 use Rattle.world_run.specs.Outcome.{Outcome, and_then, does, refuses, stays}
 use Rattle.world_run.specs.Session.{Session, with_down, with_link, with_past, with_reader, with_up}
@@ -60,7 +63,8 @@ past_request reader (Bad fault rest) = reader
 
 abbrev pub next_read : Session → Session
 next_read s =
-    with_link s (with_reader s.link (past_request s.link.reader (request_at (skip_empty s.link.reader.rest))))
+    with_link s (with_reader s.link (past_request s.link.reader
+    (request_at (skip_empty s.link.reader.rest))))
 
 unfoldable pub run_one : List (List ℕ) → Session → Outcome Session
 run_one words s =
@@ -77,10 +81,12 @@ abbrev pub place_of : Option StreamFault → Option FaultPlace
 place_of None = None
 place_of (Some fault) = fault_place fault
 
--- a fault of the stream closes the connection, and so does an EOF that was read; what follows a fault
+-- a fault of the stream closes the connection, and so does an EOF that was read; what follows a
+-- fault
 -- is passed over
 abbrev pub stop : Option FaultPlace → Bool → Session → Outcome Session
-stop (Some place) eof s = and_then (does s s (line.Bad s.link.name place.number place.offset ∷ [])) close
+stop (Some place) eof s =
+    and_then (does s s (line.Bad s.link.name place.number place.offset ∷ [])) close
 stop None true s = close s
 stop None false s = stays s
 
@@ -97,12 +103,14 @@ unfoldable pub run_fed : Bool → Session → Outcome Session
 run_fed eof s = and_then (run_requests s) (stop (place_of (parse s.link.reader).fault) eof)
 
 abbrev pub feed : List ℕ → Direction → Session → Outcome Session
-feed piece up s = does s (with_link s (with_reader (with_up s.link up) (fed s.link.reader piece))) []
+feed piece up s =
+    does s (with_link s (with_reader (with_up s.link up) (fed s.link.reader piece))) []
 
 unfoldable pub serve_all : Session → Outcome Session
 serve_all s =
     if reads_on s.limits s.past s.link.id
-    then and_then (feed s.link.up.bytes (past_eof (without_bytes s.link.up)) s) (run_fed (is_queued s.link.up.eof))
+    then and_then (feed s.link.up.bytes (past_eof (without_bytes s.link.up)) s)
+    (run_fed (is_queued s.link.up.eof))
     else stays s
 
 -- a count moves so many bytes, and never an EOF
@@ -139,14 +147,14 @@ abbrev pub send_all : Session → Outcome Session
 send_all s =
     if is_open s.link.down.eof
     then (if gives_on s.limits s.past s.link.id then take_down all_bytes s
-        else stays (with_link s (with_down s.link (finished s.link.down))))
+    else stays (with_link s (with_down s.link (finished s.link.down))))
     else stays s
 
 abbrev pub send : Option ℕ → Session → Outcome Session
 send None s = send_all s
 send (Some n) s =
     if is_open s.link.down.eof && gives_on s.limits s.past s.link.id
-      && nat_le n (length (unsent s.limits s.link.id s.past))
+    && nat_le n (length (unsent s.limits s.link.id s.past))
     then take_down n s
     else refuses s NothingThere
 
@@ -161,7 +169,8 @@ eof_lines link true = line.End link ∷ []
 eof_lines link false = []
 
 abbrev pub read_bytes : List ℕ → Direction → Session → Outcome Session
-read_bytes bytes down s = does s (with_link s (with_down s.link down)) (read_lines s.link.name bytes)
+read_bytes bytes down s =
+    does s (with_link s (with_down s.link down)) (read_lines s.link.name bytes)
 
 abbrev pub read_eof : Session → Outcome Session
 read_eof s =
@@ -181,7 +190,8 @@ receive (Some n) s =
 -- ---- all of it
 
 unfoldable pub flow : Session → Outcome Session
-flow s = and_then (out None s) (λ s. and_then (serve_all s) (λ s. and_then (send_all s) receive_all))
+flow s = and_then (out None s) (λ s. and_then (serve_all s)
+    (λ s. and_then (send_all s) receive_all))
 
 -- what is in flight is lost on both ways, and each gets an EOF; it takes no memory
 abbrev pub cut_off : Session → Outcome Session

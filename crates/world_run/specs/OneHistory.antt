@@ -1,7 +1,8 @@
 -- What the headline says of a schedule over bytes: one serial history, with each request once, and
--- replies that are its replies. Every byte is read, in flight or lost, and it is lost only by a cut.
-use Rattle.std.specs.Prelude.{◌≡◌, ◌+◌, ◌<◌, ◌≤◌, ℕ, List, [], ◌∷◌, ◌++◌, Bool, true, false, if◌then◌else◌, filter, length, map, take}
-use Rattle.std.specs.declared.option.Option.{Option}
+-- replies that are its replies. Every byte is read, in flight or lost, and it is lost only by a
+-- cut.
+use Rattle.std.specs.Prelude.{◌≡◌, ◌+◌, ◌<◌, ◌≤◌, ℕ, List, [], ◌∷◌, ◌++◌, Bool, true, false}
+use Rattle.std.specs.Prelude.{if◌then◌else◌, filter, length, map, take}
 use Rattle.std.specs.declared.option.Option.TheVariants.{None, Some}
 use Rattle.std.specs.List.{flat_map}
 use Rattle.std.specs.Str.{bytes_eq}
@@ -10,16 +11,17 @@ use Rattle.resp_value.specs.Spelling.{request_spelling}
 use Rattle.resp_stream.specs.Parse.{requests_of}
 use Rattle.serial_model.specs.declared.history.Limits.{Limits}
 use Rattle.serial_model.specs.declared.history.Entry.{Entry}
-use Rattle.serial_model.specs.History.{admitted, gives_on, reads_on, runs_of, stream, taken, unsent, IsLegal}
+use Rattle.serial_model.specs.History.{admitted, reads_on, runs_of, stream, taken, unsent, IsLegal}
 use Rattle.script_text.specs.declared.event.Event.{Event}
-use Rattle.script_text.specs.declared.event.Event.TheVariants.{Raw, Say, Bytes, Out, Serve, Send, Recv, Flow, FlowAll, Cut}
+use Rattle.script_text.specs.declared.event.Event.TheVariants.{Raw, Say, Bytes, Out, Serve, Send}
+use Rattle.script_text.specs.declared.event.Event.TheVariants.{Recv, Flow, FlowAll, Cut}
 use Rattle.script_text.specs.declared.line.Line.{Line}
 use Rattle.script_text.specs.declared.line.Line.TheVariants as line
 use Rattle.world_run.specs.declared.link.Link.{Link}
 use Rattle.world_run.specs.Directions.{is_open}
 use Rattle.world_run.specs.EntryLines.{entry_lines, is_entry_line}
 use Rattle.world_run.specs.Moves.{all_bytes, flow}
-use Rattle.world_run.specs.Outcome.{Outcome, Reached}
+use Rattle.world_run.specs.Outcome.{Reached}
 use Rattle.world_run.specs.Transcript.{after, heard, transcript}
 use Rattle.world_run.specs.World.{link_named, over, place_of, step}
 use Rattle.world_run.specs.WorldState.{WorldState, at_place, start}
@@ -60,42 +62,51 @@ names links = map (λ (l : Link). l.name) links
 
 -- ---- one link
 
--- What was put on a link is what its server's end heard, then what is in flight, then what was lost.
+-- What was put on a link is what its server's end heard, then what is in flight, then what was
+-- lost.
 pub record Delivers (heard said : List ℕ) (link : Link) : Type 0 where
   pub lost : List ℕ
   pub all_said : (heard ++ link.up.bytes) ++ lost ≡ said
 
--- What was taken of the stream of a connection is what its client read, then what is in flight, then
+-- What was taken of the stream of a connection is what its client read, then what is in flight,
+-- then
 -- what was lost.
 pub record Returns (l : Limits) (read : List ℕ) (past : List Entry) (link : Link) : Type 0 where
   pub lost : List ℕ
-  pub all_taken : (read ++ link.down.bytes) ++ lost ≡ take (taken l link.id past) (stream l link.id past)
+  pub all_taken : (read ++ link.down.bytes) ++ lost
+      ≡ take (taken l link.id past) (stream l link.id past)
 
--- Whether a connection ended before all that was heard of it ran: by QUIT, by an output that grew past
+-- Whether a connection ended before all that was heard of it ran: by QUIT, by an output that grew
+-- past
 -- its limit, or by SHUTDOWN. None of these is served yet.
 abbrev pub ended_early : Limits → ℕ → List Entry → Bool
 ended_early l c past = false
 
-pub record Serves (l : Limits) (heard said read : List ℕ) (past : List Entry) (link : Link) : Type 0 where
-  pub up : Delivers heard said link
-  pub up_lost : is_open link.up.eof ≡ true → up.lost ≡ []
-  pub down : Returns l read past link
-  pub down_lost : is_open link.down.eof ≡ true → down.lost ≡ []
-  -- the Runs are the requests in what was heard, up to a fault of the stream, each once and in order
-  pub runs_front : IsPrefix (runs_of link.id past) (requests_of heard)
-  pub runs_all : ended_early l link.id past ≡ false → runs_of link.id past ≡ requests_of heard
+pub record Serves (l : Limits) (heard said read : List ℕ) (past : List Entry) (link : Link) : Type 0
+  where
+    pub up : Delivers heard said link
+    pub up_lost : is_open link.up.eof ≡ true → up.lost ≡ []
+    pub down : Returns l read past link
+    pub down_lost : is_open link.down.eof ≡ true → down.lost ≡ []
+    -- the Runs are the requests in what was heard, up to a fault of the stream, each once and in
+    -- order
+    pub runs_front : IsPrefix (runs_of link.id past) (requests_of heard)
+    pub runs_all : ended_early l link.id past ≡ false → runs_of link.id past ≡ requests_of heard
 
--- The same where the last event met a fault or was broken off: what was heard by then is some front of
+-- The same where the last event met a fault or was broken off: what was heard by then is some front
+-- of
 -- what was said, and bytes may be lost.
-pub record PartServes (l : Limits) (said read : List ℕ) (past : List Entry) (link : Link) : Type 0 where
-  pub heard : List ℕ
-  pub up : Delivers heard said link
-  pub down : Returns l read past link
-  pub runs_front : IsPrefix (runs_of link.id past) (requests_of heard)
+pub record PartServes (l : Limits) (said read : List ℕ) (past : List Entry) (link : Link) : Type 0
+  where
+    pub heard : List ℕ
+    pub up : Delivers heard said link
+    pub down : Returns l read past link
+    pub runs_front : IsPrefix (runs_of link.id past) (requests_of heard)
 
 -- ---- all links
 
--- the history is a legal one, its lines are the lines that were printed, and each connection that it
+-- the history is a legal one, its lines are the lines that were printed, and each connection that
+-- it
 -- admitted has one link
 pub record History (l : Limits) (lines : List Line) (w : WorldState) : Type 0 where
   pub limits : w.limits ≡ l
@@ -105,15 +116,18 @@ pub record History (l : Limits) (lines : List Line) (w : WorldState) : Type 0 wh
   pub printed : filter is_entry_line lines ≡ entry_lines w.limits (names w.links) w.past
 
 -- after a schedule that met no fault
-pub record OneHistory (l : Limits) (events : List Event) (lines : List Line) (w : WorldState) : Type 0 where
+pub record OneHistory (l : Limits) (events : List Event) (lines : List Line) (w : WorldState) : Type
+    0 where
   pub history : History l lines w
   pub serves : (at : ℕ) → at < length w.links →
       let link = at_place w.links at in
-      Serves w.limits (heard (start l) at events) (said_to link.name events) (read_on link.name lines) w.past link
+      Serves w.limits (heard (start l) at events) (said_to link.name events)
+      (read_on link.name lines) w.past link
   pub unread : (name : List ℕ) → place_of name w ≡ None → read_on name lines ≡ []
 
 -- where the last event met a fault, or was broken off
-pub record PartHistory (l : Limits) (events : List Event) (lines : List Line) (w : WorldState) : Type 0 where
+pub record PartHistory (l : Limits) (events : List Event) (lines : List Line)
+    (w : WorldState) : Type 0 where
   pub history : History l lines w
   pub serves : (at : ℕ) → at < length w.links →
       let link = at_place w.links at in
@@ -124,7 +138,8 @@ pub record PartHistory (l : Limits) (events : List Event) (lines : List Line) (w
 
 -- the links that an event doesn't name are as they were
 abbrev pub OthersKept : WorldState → List ℕ → WorldState → Type 0
-OthersKept w name new = (at : ℕ) → (place_of name w ≡ Some at → ⊥) → at_place new.links at ≡ at_place w.links at
+OthersKept w name new = (at : ℕ) → (place_of name w ≡ Some at → ⊥)
+    → at_place new.links at ≡ at_place w.links at
 
 pub record Follows (l : Limits) (events : List Event) (lines : List Line) (w : WorldState)
     (event : Event) (printed : List Line) (new : WorldState) : Type 0 where
@@ -135,21 +150,26 @@ pub record Follows (l : Limits) (events : List Event) (lines : List Line) (w : W
   pub grows : new.past ≡ entries ++ w.past
   pub others : (name : List ℕ) → link_named event ≡ Some name → OthersKept w name new
 
--- A link that is not cut, and whose server reads on, flows without a fault: nothing is in flight then,
+-- A link that is not cut, and whose server reads on, flows without a fault: nothing is in flight
+-- then,
 -- and nothing is left to send, where a Take can ask for all of it.
 abbrev pub FlowDelivers : WorldState → ℕ → Type 0
 FlowDelivers w at =
     let link = at_place w.links at in
     let new = over at flow w in
     let link' = at_place new.state.links at in
-    reads_on w.limits w.past link.id ≡ true → is_open link.up.eof ≡ true → is_open link.down.eof ≡ true → new.fault ≡ None
+    reads_on w.limits w.past link.id ≡ true → is_open link.up.eof ≡ true
+    → is_open link.down.eof ≡ true → new.fault ≡ None
     → (link'.up.bytes ≡ []) × (link'.down.bytes ≡ [])
-    × (length (stream w.limits link.id new.state.past) ≤ all_bytes → unsent w.limits link.id new.state.past ≡ [])
+    × (length (stream w.limits link.id new.state.past) ≤ all_bytes
+    → unsent w.limits link.id new.state.past ≡ [])
 
--- So it is after any schedule that meets no fault; and one more event, done or broken off, stays within it.
+-- So it is after any schedule that meets no fault; and one more event, done or broken off, stays
+-- within it.
 abbrev pub HasOneHistory : Type 0
-HasOneHistory = (l : Limits) (events : List Event) (w : WorldState) → after (start l) events ≡ Some w →
+HasOneHistory = (l : Limits) (events : List Event) (w : WorldState)
+    → after (start l) events ≡ Some w →
     OneHistory l events (transcript (start l) events) w
     × ((event : Event) (new : WorldState) (printed : List Line) → Reached (step w event) new printed
-      → Follows l events (transcript (start l) events) w event printed new)
+    → Follows l events (transcript (start l) events) w event printed new)
     × ((at : ℕ) → at < length w.links → FlowDelivers w at)

@@ -67,7 +67,8 @@ Stops m lines fault new lines' =
     (m.fault ≡ Some fault) × (new ≡ m.state) × (lines' ≡ lines ++ m.lines)
 
 -- What was done is this outcome, and its lines were appended.
-abbrev pub Gives : {S A : Type 0} → Outcome S → List Line → Result A WorldFault → S → List Line → Type 0
+abbrev pub Gives : {S A : Type 0} → Outcome S → List Line → Result A WorldFault → S → List Line
+    → Type 0
 Gives m lines (Ok done) new lines' =
     (m.fault ≡ None) × (new ≡ m.state) × (lines' ≡ lines ++ m.lines)
 Gives m lines (Err fault) new lines' = Stops m lines fault new lines'

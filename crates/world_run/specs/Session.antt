@@ -1,5 +1,5 @@
 -- The server and one link to it: what a move over that link is given, and changes.
-use Rattle.std.specs.Prelude.{◌+◌, ℕ, List, slice_set}
+use Rattle.std.specs.Prelude.{ℕ, List, slice_set}
 use Rattle.serial_model.specs.declared.history.Limits.{Limits}
 use Rattle.serial_model.specs.declared.history.Entry.{Entry}
 use Rattle.resp_stream.specs.Stream.{Stream}
@@ -35,11 +35,13 @@ abbrev pub with_down : Link → Direction → Link
 with_down l down = record { id = l.id; name = l.name; up = l.up; down = down; reader = l.reader }
 
 abbrev pub with_reader : Link → Stream → Link
-with_reader l reader = record { id = l.id; name = l.name; up = l.up; down = l.down; reader = reader }
+with_reader l reader =
+    record { id = l.id; name = l.name; up = l.up; down = l.down; reader = reader }
 
 -- the session of the link at this place, and the world with it there
 abbrev pub session_at : ℕ → WorldState → Session
-session_at at w = record { limits = w.limits; now = w.now; past = w.past; link = at_place w.links at }
+session_at at w =
+    record { limits = w.limits; now = w.now; past = w.past; link = at_place w.links at }
 
 abbrev pub with_session : ℕ → WorldState → Session → WorldState
 with_session at w s = record {

@@ -1,10 +1,12 @@
 -- A schedule played in a world: what it prints, the world after it, and what servers heard.
-use Rattle.std.specs.Prelude.{◌==◌, ℕ, List, [], ◌∷◌, ◌++◌, Bool, false, if◌then◌else◌, nat_lt, length, take}
+use Rattle.std.specs.Prelude.{◌==◌, ℕ, List, [], ◌∷◌, ◌++◌, Bool, false, if◌then◌else◌, nat_lt}
+use Rattle.std.specs.Prelude.{length, take}
 use Rattle.std.specs.declared.option.Option.{Option}
 use Rattle.std.specs.declared.option.Option.TheVariants.{None, Some}
 use Rattle.serial_model.specs.History.{reads_on}
 use Rattle.script_text.specs.declared.event.Event.{Event}
-use Rattle.script_text.specs.declared.event.Event.TheVariants.{Raw, Say, Bytes, Out, Serve, Send, Recv, Flow, FlowAll, Cut}
+use Rattle.script_text.specs.declared.event.Event.TheVariants.{Raw, Say, Bytes, Out, Serve, Send}
+use Rattle.script_text.specs.declared.event.Event.TheVariants.{Recv, Flow, FlowAll, Cut}
 use Rattle.script_text.specs.declared.line.Line.{Line}
 use Rattle.world_run.specs.declared.fault.WorldFault.{WorldFault}
 use Rattle.world_run.specs.WorldState.{WorldState, at_place}
@@ -14,7 +16,8 @@ abbrev pub unless_fault : {X : Type 0} → Option WorldFault → X → X → X
 unless_fault None more none = more
 unless_fault (Some fault) more none = none
 
--- the printed lines of the events, up to the first that meets a fault, those of that event with them
+-- the printed lines of the events, up to the first that meets a fault, those of that event with
+-- them
 abbrev pub transcript : WorldState → List Event → List Line
 transcript w [] = []
 transcript w (e ∷ events) =
@@ -32,7 +35,8 @@ up_to (Some n) bytes = take n bytes
 -- what the server's end of the link at this place reads of the bytes in flight to it
 abbrev pub reads_at : WorldState → ℕ → Option ℕ → List ℕ
 reads_at w at count =
-    if reads_on w.limits w.past (at_place w.links at).id then up_to count (at_place w.links at).up.bytes else []
+    if reads_on w.limits w.past (at_place w.links at).id then
+    up_to count (at_place w.links at).up.bytes else []
 
 abbrev pub is_place : Option ℕ → ℕ → Bool
 is_place None at = false
@@ -49,7 +53,8 @@ heard_at w at (Serve name count) = if is_place (place_of name w) at then reads_a
 heard_at w at (Send name count) = []
 heard_at w at (Recv name count) = []
 heard_at w at (Flow name) = if is_place (place_of name w) at then reads_at w at None else []
-heard_at w at FlowAll = if nat_lt at (length w.links) then reads_at (flow_first at w).state at None else []
+heard_at w at FlowAll = if nat_lt at (length w.links) then reads_at (flow_first at w).state at None
+    else []
 heard_at w at (Cut name) = []
 
 -- and in a schedule, up to the first event that meets a fault

@@ -14,7 +14,8 @@ use Rattle.world_run.specs.declared.fault.WorldFault.TheVariants.{NoName, NameTa
 use Rattle.world_run.specs.declared.fault.WorldFault.TheVariants.{NoMemory, HistoryFull}
 use Rattle.world_run.specs.EntryLines.{reply_fault}
 
-abbrev pub TurnGives : Limits → List Entry → BookCall → Line → List Line → Result BookReply WorldFault → List Entry → List Line → Type 0
+abbrev pub TurnGives : Limits → List Entry → BookCall → Line → List Line
+    → Result BookReply WorldFault → List Entry → List Line → Type 0
 TurnGives l past call line lines (Ok reply) past' lines' =
     (book_step l past call ≡ record { reply = reply; past = past' })
     × (reply_fault reply ≡ None) × (lines' ≡ lines ++ line ∷ [])

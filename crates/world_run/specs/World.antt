@@ -1,5 +1,5 @@
 -- What an event does to a world, and what it prints.
-use Rattle.std.specs.Prelude.{◌≡◌, ◌+◌, ℕ, List, [], ◌∷◌, ◌++◌, position, length, Result}
+use Rattle.std.specs.Prelude.{ℕ, List, [], ◌∷◌, ◌++◌, position, length, Result}
 use Prim.Native.Nat.{zero, suc}
 use Rattle.std.specs.declared.option.Option.{Option}
 use Rattle.std.specs.declared.option.Option.TheVariants.{None, Some}
@@ -7,10 +7,11 @@ use Rattle.std.specs.Str.{bytes_eq}
 use Rattle.serial_model.specs.declared.history.Entry.{Entry}
 use Rattle.serial_model.specs.declared.history.BookCall.TheVariants as call
 use Rattle.serial_model.specs.declared.history.BookReply.{BookReply}
-use Rattle.serial_model.specs.declared.history.BookReply.TheVariants.{Admitted, Ran, Quiet, Bytes, Closed, Refused}
+use Rattle.serial_model.specs.declared.history.BookReply.TheVariants.{Admitted, Bytes}
 use Rattle.serial_model.specs.Steps.{Turn, book_step}
 use Rattle.script_text.specs.declared.event.Event.{Event}
-use Rattle.script_text.specs.declared.event.Event.TheVariants.{Raw, Say, Bytes, Out, Serve, Send, Recv, Flow, FlowAll, Cut}
+use Rattle.script_text.specs.declared.event.Event.TheVariants.{Raw, Say, Bytes, Out, Serve, Send}
+use Rattle.script_text.specs.declared.event.Event.TheVariants.{Recv, Flow, FlowAll, Cut}
 use Rattle.script_text.specs.declared.line.Line.{Line}
 use Rattle.world_run.specs.declared.fault.WorldFault.{WorldFault}
 use Rattle.world_run.specs.declared.fault.WorldFault.TheVariants.{NoName, NameTaken}
@@ -39,7 +40,13 @@ over_named (Some at) move w = over at move w
 -- a connection that was admitted has a link of its own, with nothing in flight
 abbrev pub with_admitted : WorldState → List ℕ → BookReply → List Entry → WorldState
 with_admitted w name (Admitted e id) past =
-    record { limits = w.limits; now = w.now; past = past; links = w.links ++ fresh_link id name ∷ [] }
+    record {
+      limits = w.limits;
+      now = w.now;
+      past = past;
+      links = w.links
+          ++ fresh_link id name ∷ [];
+    }
 with_admitted w name reply past = w
 
 abbrev pub admitting : WorldState → List ℕ → Turn → Stepped
@@ -54,7 +61,8 @@ abbrev pub raw_step : WorldState → List ℕ → Option ℕ → Stepped
 raw_step w name (Some at) = refuses w NameTaken
 raw_step w name None = admitting w name (book_step w.limits w.past call.Admit)
 
--- So many links flow, in the order in which they were made, each in the world that the one before left.
+-- So many links flow, in the order in which they were made, each in the world that the one before
+-- left.
 unfoldable pub flow_first : ℕ → WorldState → Stepped
 flow_first zero w = stays w
 flow_first (suc n) w = and_then (flow_first n w) (over n flow)
@@ -85,7 +93,9 @@ step w FlowAll = flow_first (length w.links) w
 step w (Cut name) = over_named (place_of name w) (move_of (Cut name)) w
 
 -- What was done is the step, and its lines were appended. Where memory ran out, the world and the
--- lines are those of a point on the way: a move over a link leaves all other links as they were, and
+-- lines are those of a point on the way: a move over a link leaves all other links as they were,
+-- and
 -- of its own link what was done before stands, whole.
-abbrev pub StepGives : WorldState → Event → List Line → Result (Unit {0}) WorldFault → WorldState → List Line → Type 0
+abbrev pub StepGives : WorldState → Event → List Line → Result (Unit {0}) WorldFault → WorldState
+    → List Line → Type 0
 StepGives w event lines result new lines' = Gives (step w event) lines result new lines'

@@ -1,5 +1,5 @@
-//! The client's end of a link: it reads what was sent. A raw link's client has nothing of its own to
-//! send.
+//! The client's end of a link: it reads what was sent. A raw link's client has nothing of its own
+//! to send.
 ghost use Rattle.std.specs.Prelude.{◌≡◌, ◌++◌, List, OnOk, OnErr};
 ghost use Rattle.script_text.specs.declared.line.Line.{Line};
 ghost use Rattle.world_run.specs.Moves.{eof_lines, out, read_lines, receive, receive_all};
@@ -40,7 +40,12 @@ impl Link {
             return Err(WorldFault::NothingThere);
         }
         let count = count as usize;
-        put_read(alloc, &self.name, &self.down.bytes.as_slice()[..count], lines)?;
+        put_read(
+            alloc,
+            &self.name,
+            &self.down.bytes.as_slice()[..count],
+            lines,
+        )?;
         self.down.pass(count);
         Ok(())
     }

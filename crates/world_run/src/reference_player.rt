@@ -1,5 +1,5 @@
-//! A slow reference player of schedules, for tests. It keeps the list of entries, the bytes in flight
-//! and what each server's end has heard, and works out all else anew at each event, as the
+//! A slow reference player of schedules, for tests. It keeps the list of entries, the bytes in
+//! flight and what each server's end has heard, and works out all else anew at each event, as the
 //! definitions read it off the past. It shares with the world the types of events and lines, their
 //! text, the spelling of a request and the reader of requests; not the book, the links or a limit.
 use resp_stream::{FaultPlace, RequestReader};

@@ -23,8 +23,8 @@ impl Server {
         self.book.entries().checked_add(1).ok_or(NoMemory)
     }
 
-    /// Plays a turn and appends its line. The line gets its place first, since a turn can't be taken
-    /// back.
+    /// Plays a turn and appends its line. The line gets its place first, since a turn can't be
+    /// taken back.
     pub fn turn(
         &mut self,
         call: BookCall,

@@ -40,11 +40,7 @@ impl Link {
     }
 
     /// The server's end reads all that is there. It reads nothing where its connection has ended.
-    pub fn serve_all(
-        &mut self,
-        server: &mut Server,
-        lines: &mut Lines,
-    ) -> Result<(), WorldFault>
+    pub fn serve_all(&mut self, server: &mut Server, lines: &mut Lines) -> Result<(), WorldFault>
         ensures { Gives (serve_all (session server.old self.old)) lines.old result
             (session server.new self.new) lines.new }
     {
@@ -107,8 +103,8 @@ impl Link {
         lines: &mut Lines,
     ) -> Result<(), WorldFault>
         requires { reads_on server.old.book.limits server.old.book.past self.now.id ≡ true }
-        ensures { Gives (turn (call.Run self.now.id words server.old.clock) words (session server.old self.now))
-            lines.old result (session server.new self.now) lines.new }
+        ensures { Gives (turn (call.Run self.now.id words server.old.clock) words
+            (session server.old self.now)) lines.old result (session server.new self.now) lines.new }
     {
         let line = Line::Run(server.next_entry()?, self.name.copy()?, words.copy()?);
         let now = server.clock;
@@ -116,6 +112,7 @@ impl Link {
         server.turn(BookCall::Run { id, words, now }, line, lines)?;
         Ok(())
     }
+
     fn close(&self, server: &mut Server, lines: &mut Lines) -> Result<(), WorldFault>
         requires { reads_on server.old.book.limits server.old.book.past self.now.id ≡ true }
         ensures { Gives (close (session server.old self.now)) lines.old result
@@ -176,11 +173,7 @@ impl Link {
 
     /// The server's end sends all that its connection was not given yet, or the EOF of one that has
     /// ended. After an EOF nothing is sent.
-    pub fn send_all(
-        &mut self,
-        server: &mut Server,
-        lines: &mut Lines,
-    ) -> Result<(), WorldFault>
+    pub fn send_all(&mut self, server: &mut Server, lines: &mut Lines) -> Result<(), WorldFault>
         ensures { Gives (send_all (session server.old self.old)) lines.old result
             (session server.new self.new) lines.new }
     {

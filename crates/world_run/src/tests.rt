@@ -85,6 +85,42 @@ flow
 flow
 ";
 
+// Two links that write and read one key, in turn.
+const TWO_WRITERS: &str = "raw a
+raw b
+flow a
+say a SET k 1
+say b SET k 2
+flow b
+flow a
+say b get k
+say a Get k
+flow b
+flow b
+flow a
+flow
+";
+
+// Links that are made late, words of a wrong count, and a cut amid the flow of all.
+const THREE_LINKS: &str = "raw a
+say a SET k v
+raw b
+say b GET k
+flow b
+flow a
+raw c
+say c SET a b c
+say b GET k
+flow
+say c GET
+say c SET k
+flow b
+cut b
+flow c
+flow
+flow
+";
+
 // The events up to the first line that is none.
 fn events_of(alloc: Global, schedule: &str) -> Result<Vec<Event>, NoMemory> {
     let mut events = Vec::new(alloc);
@@ -269,13 +305,26 @@ r < $-1\\r\\n
 }
 
 #[test]
-fn a_full_history_ends_a_schedule_and_what_was_played_stands(
-    rt: HostRuntime,
-) -> Result<(), Fail> {
+fn a_full_history_ends_a_schedule_and_what_was_played_stands(rt: HostRuntime) -> Result<(), Fail> {
     for (history_max, schedule, want, number) in [
-        (2, "raw r\nraw s\nraw t\n", "#1 admit r 1\n#2 admit s 2\n", 6),
-        (2, "raw r\nsay r GET a\nsay r GET b\nflow r\n", "#1 admit r 1\n#2 run r GET a\n", 6),
-        (2, "raw r\nsay r GET a\nflow r\n", "#1 admit r 1\n#2 run r GET a\n", 6),
+        (
+            2,
+            "raw r\nraw s\nraw t\n",
+            "#1 admit r 1\n#2 admit s 2\n",
+            6,
+        ),
+        (
+            2,
+            "raw r\nsay r GET a\nsay r GET b\nflow r\n",
+            "#1 admit r 1\n#2 run r GET a\n",
+            6,
+        ),
+        (
+            2,
+            "raw r\nsay r GET a\nflow r\n",
+            "#1 admit r 1\n#2 run r GET a\n",
+            6,
+        ),
         (
             2,
             "raw r\nsay r GET a\nserve r\ncut r\nserve r\n",
@@ -317,8 +366,8 @@ fn a_world_prints_what_the_reference_player_prints(rt: HostRuntime) -> Result<()
         "raw r\ncut r\nserve r 1\n",
         "raw r\ncut r\nserve r\nserve r\nsend r\nrecv r\nrecv r\nsend r 1\n",
         "raw r\nsay r GET a\nserve r\nbytes r $\\r\\n\nserve r\nsend r 1\n",
-        "raw a\nraw b\nflow a\nsay a SET k 1\nsay b SET k 2\nflow b\nflow a\nsay b get k\nsay a Get k\nflow b\nflow b\nflow a\nflow\n",
-        "raw a\nsay a SET k v\nraw b\nsay b GET k\nflow b\nflow a\nraw c\nsay c SET a b c\nsay b GET k\nflow\nsay c GET\nsay c SET k\nflow b\ncut b\nflow c\nflow\nflow\n",
+        TWO_WRITERS,
+        THREE_LINKS,
     ] {
         let events = events_of(rt.alloc(), schedule)?;
         let (text, fault) = played(rt.alloc(), events.as_slice())?;

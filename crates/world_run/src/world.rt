@@ -30,10 +30,10 @@ impl Model for World {
     ghost Value = { WorldState };
 
     ghost view = { λ w. record {
-        limits = w.server.book.limits;
-        now = w.server.clock;
-        past = w.server.book.past;
-        links = w.links.items;
+      limits = w.server.book.limits;
+      now = w.server.clock;
+      past = w.server.book.past;
+      links = w.links.items;
     } };
 
     ghost invariant = { λ w. Fits w.server.book.past w.links.items };
@@ -124,9 +124,10 @@ fn flow_links(
     links: &mut Vec<Link>,
     lines: &mut Lines,
 ) -> Result<(), WorldFault>
-    ensures gives { Gives (flow_first (length links.old.items) (world server.old links.old.items)) lines.old
-        result (world server.new links.new.items) lines.new }
-    ensures fits { Fits server.old.book.past links.old.items → Fits server.new.book.past links.new.items }
+    ensures gives { Gives (flow_first (length links.old.items) (world server.old links.old.items))
+        lines.old result (world server.new links.new.items) lines.new }
+    ensures fits { Fits server.old.book.past links.old.items
+        → Fits server.new.book.past links.new.items }
 {
     for at in 0..links.len() {
         links[at].flow(alloc, server, lines)?;

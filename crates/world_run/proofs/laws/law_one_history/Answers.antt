@@ -1,6 +1,5 @@
 use Rattle.world_run.proofs.Events.{one_history, follows}
 use Rattle.world_run.proofs.Delivery.{flow_delivers}
-use Rattle.world_run.proofs.Stepping.{over_gives}
 use Rattle.world_run.proofs.laws.law_one_history.Goals as goal
 
 pub returns : goal.returns

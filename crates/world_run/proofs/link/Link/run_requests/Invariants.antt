@@ -4,7 +4,9 @@ use Rattle.world_run.specs.Session.{session}
 use Rattle.world_run.proofs.link.Link.run_requests.Given as goal
 
 abbrev pub invariant-requests : goal.invariant-requests
-invariant-requests l = Reads (session l.initial.server l.initial.self) (session l.server l.self) l.initial.lines l.lines
+invariant-requests l =
+    Reads (session l.initial.server l.initial.self) (session l.server l.self) l.initial.lines
+    l.lines
 
 abbrev pub decreases-requests : goal.decreases-requests
 decreases-requests l = length l.self.reader.rest

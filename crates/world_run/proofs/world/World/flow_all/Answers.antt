@@ -8,4 +8,6 @@ use Rattle.world_run.proofs.world.World.flow_all.Goals as goal
 pub returns : goal.returns
 unfolding step
 returns c =
-    subst (λ (w : WorldState). StepGives w FlowAll c.args.lines.now c.flow_links.result (world c.flow_links.new.server c.flow_links.new.links.items) c.flow_links.new.lines) c.self.view_is c.flow_links.ensures.gives
+    subst (λ (w : WorldState). StepGives w FlowAll c.args.lines.now c.flow_links.result
+    (world c.flow_links.new.server c.flow_links.new.links.items) c.flow_links.new.lines)
+    c.self.view_is c.flow_links.ensures.gives
