@@ -1,10 +1,10 @@
--- What a text stands for, from any place in an escape on.
+-- The bytes of a text, from any place in an escape on.
 use Rattle.std.proofs.Common.{◌≡◌, [], refl}
 use Rattle.script_text.specs.declared.words.Escape.{Escape}
 use Rattle.script_text.specs.declared.words.Escape.TheVariants.{Outside, Backslash, Number, Digit}
 use Rattle.script_text.specs.Escapes.{unescaped_from}
 
--- behind the end nothing stands
+-- nothing follows the end
 pub unescaped_from-end : (escape : Escape) → unescaped_from escape [] ≡ []
 unescaped_from-end Outside = refl
 unescaped_from-end Backslash = refl

@@ -1,5 +1,6 @@
 -- The words and amounts of a line come back from its parts, and its parts from them.
-use Rattle.std.proofs.Common.{◌≡◌, ◌<◌, ◌==◌, ℕ, List, [], ◌∷◌, ◌++◌, Bool, true, false, cond, refl, ap, ◌∙◌, subst, arith, length, map}
+use Rattle.std.proofs.Common.{◌≡◌, ◌<◌, ◌==◌, ℕ, List, [], ◌∷◌, ◌++◌, Bool, true, false, cond, refl}
+use Rattle.std.proofs.Common.{ap, ◌∙◌, subst, arith, length, map}
 use Rattle.std.specs.declared.option.Option.{Option}
 use Rattle.std.specs.declared.option.Option.TheVariants.{None, Some}
 use Rattle.std.specs.Fmt.{decimal}
@@ -8,7 +9,8 @@ use Rattle.std.specs.Option.{option_map}
 use Rattle.std.proofs.lemmas.Bool.{ltb-true, lt-ltb}
 use Rattle.std.proofs.lemmas.Bool.Decides.{nat_tests}
 use Rattle.command_words.specs.Printed.{printed}
-use Rattle.script_text.specs.Words.{unescaped, behind_backslash, behind_x, behind_digit, escaped, hex_value, word_of, words_of, first_and_rest, count_of}
+use Rattle.script_text.specs.Words.{unescaped, after_backslash, after_x, after_digit, escaped}
+use Rattle.script_text.specs.Words.{hex_value, word_of, words_of, first_and_rest, count_of}
 use Rattle.script_text.specs.Events.{amount_of}
 use Rattle.script_text.specs.Grammar.{are_bytes, amount_parts, is_amount}
 use Rattle.script_text.proofs.Counts.{both_true, both, count_of-decimal, decimal-count_of}
@@ -18,13 +20,16 @@ use Rattle.script_text.proofs.Spelling.{word_of-printed, printed-word_of, unesca
 hex_value-small : (b : ℕ) → hex_value b < 16
 hex_value-small b = grind (arith, nat_tests)
 
-cond-bytes : (t : Bool) (xs ys : List ℕ) → are_bytes xs ≡ true → are_bytes ys ≡ true → are_bytes (cond t xs ys) ≡ true
+cond-bytes : (t : Bool) (xs ys : List ℕ) → are_bytes xs ≡ true → are_bytes ys ≡ true
+    → are_bytes (cond t xs ys) ≡ true
 cond-bytes true xs ys h k = h
 cond-bytes false xs ys h k = k
 
-joined-bytes : (xs ys : List ℕ) → are_bytes xs ≡ true → are_bytes ys ≡ true → are_bytes (xs ++ ys) ≡ true
+joined-bytes : (xs ys : List ℕ) → are_bytes xs ≡ true → are_bytes ys ≡ true
+    → are_bytes (xs ++ ys) ≡ true
 joined-bytes [] ys h k = k
-joined-bytes (x ∷ xs) ys h k = both _ _ (both_true _ _ h).0 (joined-bytes xs ys (both_true _ _ h).1 k)
+joined-bytes (x ∷ xs) ys h k =
+    both _ _ (both_true _ _ h).0 (joined-bytes xs ys (both_true _ _ h).1 k)
 
 escaped-bytes : (letter : ℕ) → are_bytes (escaped letter) ≡ true
 escaped-bytes letter =
@@ -36,69 +41,92 @@ escaped-bytes letter =
 mutual
   pub unescaped-bytes : (text : List ℕ) → are_bytes text ≡ true → are_bytes (unescaped text) ≡ true
   unescaped-bytes [] h = refl
-  unescaped-bytes (b ∷ text) h = cond-bytes (b == 92) (behind_backslash text) (b ∷ unescaped text) (behind_backslash-bytes text (both_true _ _ h).1) (both _ _ (both_true _ _ h).0 (unescaped-bytes text (both_true _ _ h).1))
+  unescaped-bytes (b ∷ text) h =
+      cond-bytes (b == 92) (after_backslash text) (b ∷ unescaped text)
+      (after_backslash-bytes text (both_true _ _ h).1)
+      (both _ _ (both_true _ _ h).0 (unescaped-bytes text (both_true _ _ h).1))
 
-  behind_backslash-bytes : (text : List ℕ) → are_bytes text ≡ true → are_bytes (behind_backslash text) ≡ true
-  behind_backslash-bytes [] h = refl
-  behind_backslash-bytes (b ∷ text) h = cond-bytes (b == 120) (behind_x text) (escaped b ++ unescaped text) (behind_x-bytes text (both_true _ _ h).1) (joined-bytes (escaped b) (unescaped text) (escaped-bytes b) (unescaped-bytes text (both_true _ _ h).1))
+  after_backslash-bytes : (text : List ℕ) → are_bytes text ≡ true
+      → are_bytes (after_backslash text) ≡ true
+  after_backslash-bytes [] h = refl
+  after_backslash-bytes (b ∷ text) h = cond-bytes (b == 120) (after_x text) (escaped b
+      ++ unescaped text) (after_x-bytes text (both_true _ _ h).1)
+      (joined-bytes (escaped b) (unescaped text) (escaped-bytes b)
+      (unescaped-bytes text (both_true _ _ h).1))
 
-  behind_x-bytes : (text : List ℕ) → are_bytes text ≡ true → are_bytes (behind_x text) ≡ true
-  behind_x-bytes [] h = refl
-  behind_x-bytes (high ∷ text) h = behind_digit-bytes text high (both_true _ _ h).1
+  after_x-bytes : (text : List ℕ) → are_bytes text ≡ true → are_bytes (after_x text) ≡ true
+  after_x-bytes [] h = refl
+  after_x-bytes (high ∷ text) h = after_digit-bytes text high (both_true _ _ h).1
 
-  behind_digit-bytes : (text : List ℕ) (high : ℕ) → are_bytes text ≡ true → are_bytes (behind_digit text high) ≡ true
-  behind_digit-bytes [] high h = refl
-  behind_digit-bytes (low ∷ text) high h =
-      both _ _ (lt-ltb _ _ (omega (arith, hex_value-small high, hex_value-small low))) (unescaped-bytes text (both_true _ _ h).1)
+  after_digit-bytes : (text : List ℕ) (high : ℕ) → are_bytes text ≡ true
+      → are_bytes (after_digit text high) ≡ true
+  after_digit-bytes [] high h = refl
+  after_digit-bytes (low ∷ text) high h =
+      both _ _ (lt-ltb _ _ (omega (arith, hex_value-small high, hex_value-small low)))
+      (unescaped-bytes text (both_true _ _ h).1)
 
-pub word-bytes : (text word : List ℕ) → word_of text ≡ Some word → are_bytes text ≡ true → are_bytes word ≡ true
-word-bytes text word h k = subst (λ w. are_bytes w ≡ true) (unescaped-word_of word text h) (unescaped-bytes text k)
+pub word-bytes : (text word : List ℕ) → word_of text ≡ Some word → are_bytes text ≡ true
+    → are_bytes word ≡ true
+word-bytes text word h k = subst (λ w. are_bytes w
+    ≡ true) (unescaped-word_of word text h) (unescaped-bytes text k)
 
 -- ---- words
-pub words_of-printed : (words : List (List ℕ)) → list_all are_bytes words ≡ true → words_of (map printed words) ≡ Some words
+pub words_of-printed : (words : List (List ℕ)) → list_all are_bytes words ≡ true
+    → words_of (map printed words) ≡ Some words
 words_of-printed [] h = refl
 words_of-printed (word ∷ words) h =
-    ap (λ o. first_and_rest o (words_of (map printed words))) (word_of-printed word (printed word) (both_true _ _ h).0 refl)
+    ap (λ o. first_and_rest o (words_of (map printed words)))
+    (word_of-printed word (printed word) (both_true _ _ h).0 refl)
     ∙ ap (first_and_rest (Some word)) (words_of-printed words (both_true _ _ h).1)
 
-split_words : (o : Option (List ℕ)) (os : Option (List (List ℕ))) (words : List (List ℕ)) → first_and_rest o os ≡ Some words
-    → (word : List ℕ) × ((rest : List (List ℕ)) × ((o ≡ Some word) × (os ≡ Some rest) × (word ∷ rest ≡ words)))
+split_words : (o : Option (List ℕ)) (os : Option (List (List ℕ))) (words : List (List ℕ))
+    → first_and_rest o os ≡ Some words
+    → (word : List ℕ) × ((rest : List (List ℕ))
+    × ((o ≡ Some word) × (os ≡ Some rest) × (word ∷ rest ≡ words)))
 split_words (Some word) (Some rest) words h = (word, (rest, (refl, refl, cc)))
 split_words (Some word) None words h = cc
 split_words None os words h = cc
 
-pub record WordsStand (texts words : List (List ℕ)) : Type 0 where
+pub record WordsComeFrom (texts words : List (List ℕ)) : Type 0 where
   pub printed_as : map printed words ≡ texts
   pub of_bytes : list_all are_bytes words ≡ true
   pub as_many : length words ≡ length texts
 
-pub printed-words_of : (texts words : List (List ℕ)) → words_of texts ≡ Some words → list_all are_bytes texts ≡ true → WordsStand texts words
+pub printed-words_of : (texts words : List (List ℕ)) → words_of texts ≡ Some words
+    → list_all are_bytes texts ≡ true → WordsComeFrom texts words
 printed-words_of [] words h k =
     let none : [] ≡ words = cc in
-    subst (λ ws. WordsStand [] ws) none (record { printed_as = refl; of_bytes = refl; as_many = refl })
+    subst (λ ws. WordsComeFrom [] ws) none
+    (record { printed_as = refl; of_bytes = refl; as_many = refl })
 printed-words_of (text ∷ texts) words h k =
     let parts = split_words (word_of text) (words_of texts) words h in
     let word = parts.0 in
     let rest = parts.1.0 in
     let first = parts.1.1.0 in
-    let more : WordsStand texts rest = printed-words_of texts rest parts.1.1.1 (both_true _ _ k).1 in
-    subst (λ ws. WordsStand (text ∷ texts) ws) parts.1.1.2 (record {
-      printed_as = ap (λ t. t ∷ map printed rest) (printed-word_of word text first) ∙ ap (λ ts. text ∷ ts) more.printed_as;
+    let more : WordsComeFrom texts rest =
+    printed-words_of texts rest parts.1.1.1 (both_true _ _ k).1 in
+    subst (λ ws. WordsComeFrom (text ∷ texts) ws) parts.1.1.2 (record {
+      printed_as = ap (λ t. t ∷ map printed rest) (printed-word_of word text first)
+          ∙ ap (λ ts. text ∷ ts) more.printed_as;
       of_bytes = both _ _ (word-bytes text word first (both_true _ _ k).0) more.of_bytes;
       as_many = omega (arith, more.as_many);
     })
 
 -- ---- amounts
-pub amount_of-parts : (amount : Option ℕ) → is_amount amount ≡ true → amount_of (amount_parts amount) ≡ Some amount
+pub amount_of-parts : (amount : Option ℕ) → is_amount amount ≡ true
+    → amount_of (amount_parts amount) ≡ Some amount
 amount_of-parts None h = refl
 amount_of-parts (Some count) h =
-    ap (option_map Some) (count_of-decimal count (decimal count) (ltb-true _ _ (both_true _ _ h).0) (ltb-true _ _ (both_true _ _ h).1) refl)
+    ap (option_map Some) (count_of-decimal count (decimal count) (ltb-true _ _ (both_true _ _ h).0)
+    (ltb-true _ _ (both_true _ _ h).1) refl)
 
-pub option_map-some : {A B : Type 0} (f : A → B) (o : Option A) (y : B) → option_map f o ≡ Some y → (x : A) × ((o ≡ Some x) × (f x ≡ y))
+pub option_map-some : {A B : Type 0} (f : A → B) (o : Option A) (y : B) → option_map f o ≡ Some y
+    → (x : A) × ((o ≡ Some x) × (f x ≡ y))
 option_map-some f (Some x) y h = (x, (refl, cc))
 option_map-some f None y h = cc
 
-pub parts-amount_of : (texts : List (List ℕ)) (amount : Option ℕ) → amount_of texts ≡ Some amount → (amount_parts amount ≡ texts) × (is_amount amount ≡ true)
+pub parts-amount_of : (texts : List (List ℕ)) (amount : Option ℕ) → amount_of texts ≡ Some amount
+    → (amount_parts amount ≡ texts) × (is_amount amount ≡ true)
 parts-amount_of [] amount h =
     let none : None ≡ amount = cc in
     subst (λ a. (amount_parts a ≡ []) × (is_amount a ≡ true)) none (refl, refl)

@@ -1,5 +1,6 @@
 -- Parts that hold no blank are what a line is parted into, and the parts of a line hold its bytes.
-use Rattle.std.proofs.Common.{◌≡◌, ◌<◌, ◌/◌, ◌%◌, ◌==◌, ◌^◌, ℕ, List, [], ◌∷◌, ◌++◌, Bool, true, false, not, cond, refl, ap, ◌∙◌, subst, arith, inl, inr, map}
+use Rattle.std.proofs.Common.{◌≡◌, ◌<◌, ◌/◌, ◌%◌, ◌==◌, ◌^◌, ℕ, List, [], ◌∷◌, ◌++◌, Bool, true}
+use Rattle.std.proofs.Common.{false, not, cond, refl, ap, ◌∙◌, subst, arith, inl, inr, map}
 use Rattle.std.specs.Fmt.{decimal}
 use Rattle.std.specs.List.{list_all, slice_split, onto_first, join_with_byte, All, AllPass}
 use Rattle.std.specs.Str.Parse.{AllDigits}
@@ -23,35 +24,46 @@ not_true true h = cc
 not_true false h = refl
 
 no_blank : (part : List ℕ) → is_unbroken part ≡ true → All (λ b. (b == 32) ≡ false) part
-no_blank part h = let all : AllPass (λ b. not (b == 32)) part = AllPass-from_list_all _ part h in λ k d l. not_true _ (all k d l)
+no_blank part h = let all : AllPass (λ b. not (b == 32)) part = AllPass-from_list_all _ part h in
+    λ k d l. not_true _ (all k d l)
 
 -- what is joined by blanks is parted at them
-pub parted-joined : (part : List ℕ) (parts : List (List ℕ)) → list_all is_unbroken (part ∷ parts) ≡ true → slice_split (λ b. b == 32) (join_with_byte 32 (part ∷ parts)) ≡ part ∷ parts
+pub parted-joined : (part : List ℕ) (parts : List (List ℕ))
+    → list_all is_unbroken (part ∷ parts) ≡ true
+    → slice_split (λ b. b == 32) (join_with_byte 32 (part ∷ parts)) ≡ part ∷ parts
 parted-joined part [] h = slice_split_none (λ b. b == 32) part (no_blank part (both_true _ _ h).0)
 parted-joined part (next ∷ parts) h =
-    slice_split_at (λ b. b == 32) part 32 (join_with_byte 32 (next ∷ parts)) (no_blank part (both_true _ _ h).0) refl
+    slice_split_at (λ b. b == 32) part 32 (join_with_byte 32 (next ∷ parts))
+    (no_blank part (both_true _ _ h).0) refl
     ∙ ap (λ rest. part ∷ rest) (parted-joined next parts (both_true _ _ h).1)
 
 -- ---- the bytes of the parts are those of the line
-onto_first-bytes : (b : ℕ) (parts : List (List ℕ)) → is_byte b ≡ true → list_all are_bytes parts ≡ true → list_all are_bytes (onto_first b parts) ≡ true
+onto_first-bytes : (b : ℕ) (parts : List (List ℕ)) → is_byte b ≡ true
+    → list_all are_bytes parts ≡ true → list_all are_bytes (onto_first b parts) ≡ true
 onto_first-bytes b [] h k = both _ _ (both _ _ h refl) refl
-onto_first-bytes b (part ∷ parts) h k = both _ _ (both _ _ h (both_true _ _ k).0) (both_true _ _ k).1
+onto_first-bytes b (part ∷ parts) h k =
+    both _ _ (both _ _ h (both_true _ _ k).0) (both_true _ _ k).1
 
-cond-bytes : (t : Bool) (xs ys : List (List ℕ)) → list_all are_bytes xs ≡ true → list_all are_bytes ys ≡ true → list_all are_bytes (cond t xs ys) ≡ true
+cond-bytes : (t : Bool) (xs ys : List (List ℕ)) → list_all are_bytes xs ≡ true
+    → list_all are_bytes ys ≡ true → list_all are_bytes (cond t xs ys) ≡ true
 cond-bytes true xs ys h k = h
 cond-bytes false xs ys h k = k
 
-pub parted-bytes : (line : List ℕ) → are_bytes line ≡ true → list_all are_bytes (slice_split (λ b. b == 32) line) ≡ true
+pub parted-bytes : (line : List ℕ) → are_bytes line ≡ true
+    → list_all are_bytes (slice_split (λ b. b == 32) line) ≡ true
 parted-bytes [] h = refl
 parted-bytes (b ∷ line) h =
     let parts = slice_split (λ c. c == 32) line in
     let rest = parted-bytes line (both_true _ _ h).1 in
-    cond-bytes (b == 32) ([] ∷ parts) (onto_first b parts) rest (onto_first-bytes b parts (both_true _ _ h).0 rest)
+    cond-bytes (b == 32) ([] ∷ parts) (onto_first b parts) rest
+    (onto_first-bytes b parts (both_true _ _ h).0 rest)
 
--- ---- no blank stands in a name, in a printed word or in a number
-list_all_wider : (p q : ℕ → Bool) → ((b : ℕ) → p b ≡ true → q b ≡ true) → (xs : List ℕ) → list_all p xs ≡ true → list_all q xs ≡ true
+-- ---- no blank is in a name, in a printed word or in a number
+list_all_wider : (p q : ℕ → Bool) → ((b : ℕ) → p b ≡ true → q b ≡ true) → (xs : List ℕ)
+    → list_all p xs ≡ true → list_all q xs ≡ true
 list_all_wider p q f [] h = refl
-list_all_wider p q f (x ∷ xs) h = both _ _ (f x (both_true _ _ h).0) (list_all_wider p q f xs (both_true _ _ h).1)
+list_all_wider p q f (x ∷ xs) h =
+    both _ _ (f x (both_true _ _ h).0) (list_all_wider p q f xs (both_true _ _ h).1)
 
 not_false : (t : Bool) → t ≡ false → not t ≡ true
 not_false true h = cc
@@ -60,16 +72,20 @@ not_false false h = refl
 name_byte-unbroken : (b : ℕ) → is_name_byte b ≡ true → not (b == 32) ≡ true
 name_byte-unbroken b h =
     elim (either (b == 32)) [
-      | inl e ↦ let bad : is_name_byte 32 ≡ true = subst (λ n. is_name_byte n ≡ true) (eqb-true b 32 e) h in cc
+      | inl e ↦ let bad : is_name_byte 32 ≡ true =
+          subst (λ n. is_name_byte n ≡ true) (eqb-true b 32 e) h in cc
       | inr e ↦ not_false _ e
     ]
 
 pub name-unbroken : (link : List ℕ) → is_name link ≡ true → is_unbroken link ≡ true
-name-unbroken link h = list_all_wider is_name_byte (λ b. not (b == 32)) name_byte-unbroken link (both_true _ _ h).1
+name-unbroken link h =
+    list_all_wider is_name_byte (λ b. not (b == 32)) name_byte-unbroken link (both_true _ _ h).1
 
-list_all_joined : (p : ℕ → Bool) (xs ys : List ℕ) → list_all p xs ≡ true → list_all p ys ≡ true → list_all p (xs ++ ys) ≡ true
+list_all_joined : (p : ℕ → Bool) (xs ys : List ℕ) → list_all p xs ≡ true → list_all p ys ≡ true
+    → list_all p (xs ++ ys) ≡ true
 list_all_joined p [] ys h k = k
-list_all_joined p (x ∷ xs) ys h k = both _ _ (both_true _ _ h).0 (list_all_joined p xs ys (both_true _ _ h).1 k)
+list_all_joined p (x ∷ xs) ys h k =
+    both _ _ (both_true _ _ h).0 (list_all_joined p xs ys (both_true _ _ h).1 k)
 
 hex_digit-above : (n : ℕ) → 32 < hex_digit n
 hex_digit-above n = grind (arith, nat_tests)
@@ -84,15 +100,19 @@ hex_digit-unbroken n =
 printed_byte-unbroken : (b : ℕ) → is_unbroken (printed_byte b) ≡ true
 printed_byte-unbroken b =
     elim (printing b) [
-      | lettered letter e not_x not_blank stands ↦ ap is_unbroken e ∙ both _ _ (not_false _ not_blank) refl
+      | lettered letter e not_x not_blank kept ↦ ap is_unbroken e
+          ∙ both _ _ (not_false _ not_blank) refl
       | plain e not_escape not_blank ↦ ap is_unbroken e ∙ both _ _ (not_false _ not_blank) refl
-      | numbered e ↦ ap is_unbroken e ∙ both _ _ (hex_digit-unbroken (b / 16)) (both _ _ (hex_digit-unbroken (b % 16)) refl)
+      | numbered e ↦ ap is_unbroken e
+          ∙ both _ _ (hex_digit-unbroken (b / 16)) (both _ _ (hex_digit-unbroken (b % 16)) refl)
     ]
 
 printed_bytes-unbroken : (word : List ℕ) → is_unbroken (printed_bytes word) ≡ true
 unfolding printed_bytes
 printed_bytes-unbroken [] = refl
-printed_bytes-unbroken (b ∷ word) = list_all_joined (λ c. not (c == 32)) (printed_byte b) (printed_bytes word) (printed_byte-unbroken b) (printed_bytes-unbroken word)
+printed_bytes-unbroken (b ∷ word) =
+    list_all_joined (λ c. not (c == 32)) (printed_byte b) (printed_bytes word)
+    (printed_byte-unbroken b) (printed_bytes-unbroken word)
 
 pub printed-unbroken : (word : List ℕ) → is_unbroken (printed word) ≡ true
 printed-unbroken [] = refl

@@ -1,5 +1,6 @@
 -- What is printed of a word is read as that word.
-use Rattle.std.proofs.Common.{◌≡◌, ◌<◌, ◌+◌, ◌*◌, ◌/◌, ◌%◌, ◌==◌, ℕ, List, [], ◌∷◌, ◌++◌, Bool, true, false, cond, refl, sym, ap, ◌∙◌, subst, arith, ◌⊎◌, inl, inr}
+use Rattle.std.proofs.Common.{◌≡◌, ◌<◌, ◌+◌, ◌*◌, ◌/◌, ◌%◌, ◌==◌, ℕ, List, [], ◌∷◌, ◌++◌, Bool}
+use Rattle.std.proofs.Common.{true, false, cond, refl, sym, ap, ◌∙◌, subst, arith, ◌⊎◌, inl, inr}
 use Rattle.std.specs.declared.option.Option.TheVariants.{None, Some}
 use Rattle.std.specs.List.{list_all}
 use Rattle.std.proofs.lemmas.Bool.{ltb-true, eqb-true}
@@ -12,15 +13,19 @@ use Rattle.script_text.proofs.Counts.{both_true}
 hex_value-hex_digit : (n : ℕ) → n < 16 → hex_value (hex_digit n) ≡ n
 hex_value-hex_digit n h = grind (arith, nat_tests)
 
-number_back : (b : ℕ) → b < 256 → 16 * hex_value (hex_digit (b / 16)) + hex_value (hex_digit (b % 16)) ≡ b
+number_back : (b : ℕ) → b < 256
+    → 16 * hex_value (hex_digit (b / 16)) + hex_value (hex_digit (b % 16)) ≡ b
 number_back b small =
-    let high : hex_value (hex_digit (b / 16)) ≡ b / 16 = hex_value-hex_digit (b / 16) (omega arith) in
-    let low : hex_value (hex_digit (b % 16)) ≡ b % 16 = hex_value-hex_digit (b % 16) (omega arith) in
+    let high : hex_value (hex_digit (b / 16)) ≡ b / 16 =
+    hex_value-hex_digit (b / 16) (omega arith) in
+    let low : hex_value (hex_digit (b % 16)) ≡ b % 16 =
+    hex_value-hex_digit (b % 16) (omega arith) in
     omega arith
 
 -- what a byte has as its printed form
 pub data Printing (b : ℕ) : Type 0 where
-  lettered : (letter : ℕ) → printed_byte b ≡ 92 ∷ letter ∷ [] → (letter == 120) ≡ false → (letter == 32) ≡ false → escaped letter ≡ b ∷ [] → Printing b
+  lettered : (letter : ℕ) → printed_byte b ≡ 92 ∷ letter ∷ [] → (letter == 120) ≡ false
+      → (letter == 32) ≡ false → escaped letter ≡ b ∷ [] → Printing b
   plain : printed_byte b ≡ b ∷ [] → (b == 92) ≡ false → (b == 32) ≡ false → Printing b
   numbered : printed_byte b ≡ 92 ∷ 120 ∷ hex_digit (b / 16) ∷ hex_digit (b % 16) ∷ [] → Printing b
 
@@ -47,12 +52,15 @@ printing b =
       ]
     ]
 
-byte_back : (b : ℕ) (rest : List ℕ) → b < 256 → unescaped (printed_byte b ++ rest) ≡ b ∷ unescaped rest
+byte_back : (b : ℕ) (rest : List ℕ) → b < 256 → unescaped (printed_byte b ++ rest)
+    ≡ b ∷ unescaped rest
 byte_back b rest small =
     elim (printing b) [
-      | lettered letter e not_x not_blank stands ↦ ap (λ text. unescaped (text ++ rest)) e ∙ rw (not_x, stands) refl
+      | lettered letter e not_x not_blank kept ↦ ap (λ text. unescaped (text ++ rest)) e
+          ∙ rw (not_x, kept) refl
       | plain e not_escape not_blank ↦ ap (λ text. unescaped (text ++ rest)) e ∙ rw not_escape refl
-      | numbered e ↦ ap (λ text. unescaped (text ++ rest)) e ∙ ap (λ n. n ∷ unescaped rest) (number_back b small)
+      | numbered e ↦ ap (λ text. unescaped (text ++ rest)) e
+          ∙ ap (λ n. n ∷ unescaped rest) (number_back b small)
     ]
 
 bytes_back : (word : List ℕ) → list_all is_byte word ≡ true → unescaped (printed_bytes word) ≡ word
@@ -60,7 +68,8 @@ unfolding printed_bytes
 bytes_back [] h = refl
 bytes_back (b ∷ word) h =
     let parts = both_true _ _ h in
-    byte_back b (printed_bytes word) (ltb-true b 256 parts.0) ∙ ap (λ rest. b ∷ rest) (bytes_back word parts.1)
+    byte_back b (printed_bytes word) (ltb-true b 256 parts.0)
+    ∙ ap (λ rest. b ∷ rest) (bytes_back word parts.1)
 
 word_back : (word : List ℕ) → list_all is_byte word ≡ true → unescaped (printed word) ≡ word
 word_back [] h = refl
@@ -74,7 +83,8 @@ read_back : (t : Bool) (u w : List ℕ) → cond t (Some u) None ≡ Some w → 
 read_back true u w h = (refl, cc)
 read_back false u w h = cc
 
-pub word_of-printed : (word text : List ℕ) → list_all is_byte word ≡ true → printed word ≡ text → word_of text ≡ Some word
+pub word_of-printed : (word text : List ℕ) → list_all is_byte word ≡ true → printed word ≡ text
+    → word_of text ≡ Some word
 unfolding word_of
 word_of-printed word text h e =
     let back : unescaped text ≡ word = ap unescaped (sym e) ∙ word_back word h in

@@ -6,7 +6,8 @@ use Rattle.std.specs.List.{slice_split}
 use Rattle.std.specs.Option.{option_map}
 use Rattle.std.specs.Str.{bytes_eq}
 use Rattle.script_text.specs.declared.event.Event.{Event}
-use Rattle.script_text.specs.declared.event.Event.TheVariants.{Raw, Say, Bytes, Out, Serve, Send, Recv, Flow, FlowAll, Cut}
+use Rattle.script_text.specs.declared.event.Event.TheVariants.{Raw, Say, Bytes, Out, Serve, Send}
+use Rattle.script_text.specs.declared.event.Event.TheVariants.{Recv, Flow, FlowAll, Cut}
 use Rattle.script_text.specs.Words.{is_name, word_of, words_of, count_of}
 
 -- an event of which the line says no more
@@ -55,4 +56,5 @@ longest_line = 1048576
 
 -- the event of a line, where the line is in the grammar: its parts stand between single spaces
 unfoldable pub event_of : List ℕ → Option Event
-event_of line = if nat_le (length line) longest_line then event_of_parts (slice_split (λ b. b == 32) line) else None
+event_of line = if nat_le (length line) longest_line then
+    event_of_parts (slice_split (λ b. b == 32) line) else None

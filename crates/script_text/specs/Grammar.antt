@@ -1,16 +1,19 @@
--- The grammar of schedules as its lines: each valid event has one line, and no other line has an event.
-use Rattle.std.specs.Prelude.{◌≡◌, ◌↔◌, ◌^◌, ◌&&◌, ℕ, List, [], ◌∷◌, Bool, true, nat_lt, nat_le, codes, length, map}
+-- The grammar of schedules as its lines: each valid event has one line, and no other line has an
+-- event.
+use Rattle.std.specs.Prelude.{◌≡◌, ◌↔◌, ◌^◌, ◌&&◌, ℕ, List, [], ◌∷◌, Bool, true, nat_lt, nat_le}
+use Rattle.std.specs.Prelude.{codes, length, map}
 use Rattle.std.specs.declared.option.Option.{Option}
 use Rattle.std.specs.declared.option.Option.TheVariants.{None, Some}
 use Rattle.std.specs.Fmt.{decimal}
 use Rattle.std.specs.List.{list_all, join_with_byte}
 use Rattle.command_words.specs.Printed.{printed}
 use Rattle.script_text.specs.declared.event.Event.{Event}
-use Rattle.script_text.specs.declared.event.Event.TheVariants.{Raw, Say, Bytes, Out, Serve, Send, Recv, Flow, FlowAll, Cut}
+use Rattle.script_text.specs.declared.event.Event.TheVariants.{Raw, Say, Bytes, Out, Serve, Send}
+use Rattle.script_text.specs.declared.event.Event.TheVariants.{Recv, Flow, FlowAll, Cut}
 use Rattle.script_text.specs.Words.{is_name, is_byte}
 use Rattle.script_text.specs.Events.{event_of, longest_line}
 
--- an amount stands as its count, and all that is there as nothing
+-- an amount is its count, and all that is there is nothing
 abbrev pub amount_parts : Option ℕ → List (List ℕ)
 amount_parts None = []
 amount_parts (Some count) = decimal count ∷ []
@@ -57,4 +60,5 @@ is_valid event = has_fields event && nat_le (length (line_of event)) longest_lin
 
 -- a line has an event exactly where the event is valid and the line is that event's
 abbrev pub LinesComeBack : Type 0
-LinesComeBack = (event : Event) (line : List ℕ) → are_bytes line ≡ true → (event_of line ≡ Some event) ↔ ((is_valid event ≡ true) × (line_of event ≡ line))
+LinesComeBack = (event : Event) (line : List ℕ) → are_bytes line ≡ true
+    → (event_of line ≡ Some event) ↔ ((is_valid event ≡ true) × (line_of event ≡ line))

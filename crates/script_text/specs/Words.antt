@@ -1,5 +1,6 @@
 -- The names, words and numbers that stand in a line of a schedule.
-use Rattle.std.specs.Prelude.{◌≡◌, ◌↔◌, true, ◌+◌, ◌-◌, ◌*◌, ◌^◌, ◌&&◌, ◌||◌, ◌==◌, ℕ, List, [], ◌∷◌, ◌++◌, Bool, if◌then◌else◌, nat_lt, nat_le, length}
+use Rattle.std.specs.Prelude.{◌≡◌, ◌↔◌, true, ◌+◌, ◌-◌, ◌*◌, ◌^◌, ◌&&◌, ◌||◌, ◌==◌, ℕ, List, []}
+use Rattle.std.specs.Prelude.{◌∷◌, ◌++◌, Bool, if◌then◌else◌, nat_lt, nat_le, length}
 use Rattle.std.specs.declared.option.Option.{Option}
 use Rattle.std.specs.declared.option.Option.TheVariants.{None, Some}
 use Rattle.std.specs.Fmt.{decimal}
@@ -34,23 +35,24 @@ escaped b =
     if b == 92 then 92 ∷ [] else
     []
 
--- what the escapes of a text stand for, read without care: whether the text is a spelling is judged below
+-- what the escapes of a text stand for, read without care: whether the text is a spelling is judged
+-- below
 abbrev mutual
   pub unescaped : List ℕ → List ℕ
   unescaped [] = []
-  unescaped (b ∷ text) = if b == 92 then behind_backslash text else b ∷ unescaped text
+  unescaped (b ∷ text) = if b == 92 then after_backslash text else b ∷ unescaped text
 
-  pub behind_backslash : List ℕ → List ℕ
-  behind_backslash [] = []
-  behind_backslash (b ∷ text) = if b == 120 then behind_x text else escaped b ++ unescaped text
+  pub after_backslash : List ℕ → List ℕ
+  after_backslash [] = []
+  after_backslash (b ∷ text) = if b == 120 then after_x text else escaped b ++ unescaped text
 
-  pub behind_x : List ℕ → List ℕ
-  behind_x [] = []
-  behind_x (high ∷ text) = behind_digit text high
+  pub after_x : List ℕ → List ℕ
+  after_x [] = []
+  after_x (high ∷ text) = after_digit text high
 
-  pub behind_digit : List ℕ → ℕ → List ℕ
-  behind_digit [] high = []
-  behind_digit (low ∷ text) high = (16 * hex_value high + hex_value low) ∷ unescaped text
+  pub after_digit : List ℕ → ℕ → List ℕ
+  after_digit [] high = []
+  after_digit (low ∷ text) high = (16 * hex_value high + hex_value low) ∷ unescaped text
 
 -- the word that a text spells: the one whose printed form it is
 unfoldable pub word_of : List ℕ → Option (List ℕ)
@@ -66,15 +68,19 @@ abbrev pub words_of : List (List ℕ) → Option (List (List ℕ))
 words_of [] = Some []
 words_of (text ∷ texts) = first_and_rest (word_of text) (words_of texts)
 
--- the number of 1 to 64 bits that a text spells: the one whose decimal form it is; a count is at least 1
+-- the number of 1 to 64 bits that a text spells: the one whose decimal form it is; a count is at
+-- least 1
 unfoldable pub count_of : List ℕ → Option ℕ
 count_of text =
     let count = digits_value 10 text in
-    if nat_lt 0 count && nat_lt count (2 ^ 64) && bytes_eq (decimal count) text then Some count else None
+    if nat_lt 0 count && nat_lt count (2 ^ 64) && bytes_eq (decimal count) text then Some count
+    else None
 
 abbrev pub is_byte : ℕ → Bool
 is_byte b = nat_lt b 256
 
--- a text is read as a word exactly where it is that word's printed form: so each word comes back, and has one spelling
+-- a text is read as a word exactly where it is that word's printed form: so each word comes back,
+-- and has one spelling
 abbrev pub WordsComeBack : Type 0
-WordsComeBack = (word text : List ℕ) → list_all is_byte word ≡ true → (word_of text ≡ Some word) ↔ (printed word ≡ text)
+WordsComeBack = (word text : List ℕ) → list_all is_byte word ≡ true
+    → (word_of text ≡ Some word) ↔ (printed word ≡ text)

@@ -1,7 +1,8 @@
-// The events of a schedule, and how they are read.
+//! The events of a schedule, and how they are read.
 ghost use Rattle.std.specs.Prelude.{◌≡◌, List, ℕ, IfOk, map};
 ghost use Rattle.std.specs.Str.{bytes_eq};
-ghost use Rattle.script_text.specs.Events.{amount_of, bare, bytes_of, event_of, event_of_parts, named_event, request_of};
+ghost use Rattle.script_text.specs.Events.{amount_of, bare, bytes_of, event_of, event_of_parts};
+ghost use Rattle.script_text.specs.Events.{named_event, request_of};
 
 use super::words::{line_parts, read_count, read_name, read_word, read_words};
 use resp_value::{NoMemory, Octets, Words};
@@ -127,7 +128,7 @@ fn read_parts(alloc: Global, parts: &[&[u8]]) -> Result<Option<Event>, NoMemory>
 
 /// The event of a line of a schedule, given without its LF, or `None` where the line is not in
 /// the grammar. The forms are those of the cases of `Event`, their parts parted by one space each.
-/// A name has 1 to 16 of `a` to `z` and `0` to `9`; a word, and the text of `bytes`, stands in its
+/// A name has 1 to 16 of `a` to `z` and `0` to `9`; a word, and the text of `bytes`, is in its
 /// one printed form, which `command_words::put_printed` describes; a count is 1 to 2^64 - 1 in
 /// decimal, with no leading zero. A line of more than `LONGEST_LINE` bytes is not in the grammar.
 #[tactic(auto, unfolding(crate::specs::Events::event_of))]

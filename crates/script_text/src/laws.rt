@@ -1,4 +1,4 @@
-// Laws of the definitions, which hold of all texts.
+//! Laws of the definitions, which hold of all texts.
 ghost use Rattle.script_text.specs.Grammar.{LinesComeBack};
 ghost use Rattle.script_text.specs.Words.{WordsComeBack};
 

@@ -1,5 +1,6 @@
 //! The lines of a transcript, and how they are printed.
-ghost use Rattle.std.specs.Prelude.{◌≡◌, ◌<◌, ◌↔◌, ◌++◌, ◌∷◌, [], List, ℕ, length, option_to_list, IsSome, OnOk, OnErr};
+ghost use Rattle.std.specs.Prelude.{◌≡◌, ◌<◌, ◌↔◌, ◌++◌, ◌∷◌, [], List, ℕ, length, option_to_list};
+ghost use Rattle.std.specs.Prelude.{IsSome, OnOk, OnErr};
 ghost use Rattle.std.specs.Fmt.{decimal};
 ghost use Rattle.script_text.specs.Printed.{entry_text, line_text, unended_text, words_text};
 
@@ -16,7 +17,8 @@ pub enum Line {
     Admit(u64, Octets, u64),
     /// `#E run L WORD..`: a request ran.
     Run(u64, Octets, Words),
-    /// `L bad F O`: the bytes at the server's end broke the protocol, by the fault F at the offset O.
+    /// `L bad F O`: the bytes at the server's end broke the protocol, by the fault F at the
+    /// offset O.
     Bad {
         link: Octets,
         number: u64,
@@ -57,7 +59,7 @@ impl Lines {
         }
     }
 
-    /// Puts a line behind the others.
+    /// Puts a line after the others.
     pub fn push(&mut self, line: Line) -> Result<(), NoMemory>
         ensures ok { OnOk result (self.new ≡ self.old ++ line ∷ []) }
         ensures err { OnErr result (self.new ≡ self.old) }
@@ -83,14 +85,17 @@ impl Lines {
 }
 
 fn append(out: &mut Vec<u8>, bytes: &[u8]) -> Result<(), NoMemory>
-    ensures { OnOk result (out.new.items ≡ out.old.items ++ bytes.now) }
+    ensures ok { OnOk result (out.new.items ≡ out.old.items ++ bytes.now) }
+    ensures err { OnErr result (out.new.items ≡ out.old.items) }
 {
     out.extend_from_slice(bytes)?;
     Ok(())
 }
 
-fn put_number(number: u64, out: &mut Vec<u8>) -> Result<(), NoMemory>
-    ensures { OnOk result (out.new.items ≡ out.old.items ++ decimal number) }
+/// Appends a number in decimal. Where memory runs out nothing is appended.
+pub fn put_number(number: u64, out: &mut Vec<u8>) -> Result<(), NoMemory>
+    ensures ok { OnOk result (out.new.items ≡ out.old.items ++ decimal number) }
+    ensures err { OnErr result (out.new.items ≡ out.old.items) }
 {
     let digits = number.to_string(*out.allocator())?;
     append(out, digits.as_bytes())

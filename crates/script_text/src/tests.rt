@@ -1,4 +1,4 @@
-// The grammar and the printed lines against worked examples.
+//! The grammar and the printed lines against worked examples.
 use super::{Event, LONGEST_LINE, Line, Lines, put_line, read_event};
 use command_words::put_printed;
 use resp_value::{NoMemory, Octets, Words};
@@ -106,7 +106,7 @@ fn a_line_of_the_grammar_is_read_as_its_event(rt: HostRuntime) -> Result<(), Fai
 }
 
 #[test]
-fn an_escape_stands_for_its_byte(rt: HostRuntime) -> Result<(), Fail> {
+fn an_escape_is_read_as_its_byte(rt: HostRuntime) -> Result<(), Fail> {
     let lines: [(&str, &[u8]); 7] = [
         ("bytes r \\e", b""),
         ("bytes r GET\\sa\\r\\n", b"GET a\r\n"),

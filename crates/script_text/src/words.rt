@@ -1,7 +1,8 @@
-// The parts of a line: names and words.
+//! The parts of a line: names and words.
 ghost use Rattle.std.specs.Prelude.{◌≡◌, ◌==◌, ◌<◌, ◌++◌, ◌∷◌, List, ℕ, IfOk, OnOk, map};
 ghost use Rattle.std.specs.List.{list_all, slice_split};
-ghost use Rattle.script_text.specs.Words.{count_of, escaped, hex_value, is_name, is_name_byte, name_of, unescaped, word_of, words_of};
+ghost use Rattle.script_text.specs.Words.{count_of, escaped, hex_value, is_name, is_name_byte};
+ghost use Rattle.script_text.specs.Words.{name_of, unescaped, word_of, words_of};
 ghost use Rattle.script_text.specs.Escapes.{unescaped_from};
 
 use command_words::put_printed;
@@ -38,7 +39,7 @@ pub fn read_name(alloc: Global, text: &[u8]) -> Result<Option<Octets>, NoMemory>
     }
 }
 
-/// Where a reader stands in an escape.
+/// Where a reader is in an escape.
 #[derive(Clone, Copy)]
 enum Escape {
     Outside,
@@ -72,7 +73,9 @@ fn put_escaped(letter: u8, out: &mut Vec<u8>) -> Result<(), NoMemory>
 }
 
 fn take_byte(escape: Escape, byte: u8, out: &mut Vec<u8>) -> Result<Escape, NoMemory>
-    ensures { IfOk result (λ next. (rest : List ℕ) → out.old.items ++ unescaped_from escape (byte ∷ rest) ≡ out.new.items ++ unescaped_from next rest) }
+    ensures { IfOk result (λ next. (rest : List ℕ)
+        → out.old.items ++ unescaped_from escape (byte ∷ rest)
+        ≡ out.new.items ++ unescaped_from next rest) }
 {
     match escape {
         Escape::Outside => {

@@ -3,4 +3,5 @@ use Rattle.script_text.specs.Printed.{words_text}
 use Rattle.script_text.proofs.line.put_words.Given as goal
 
 abbrev pub invariant-loop-word : goal.invariant-loop-word
-invariant-loop-word l = l.out.items ≡ l.initial.out.items ++ words_text (take l.word-index l.word-items)
+invariant-loop-word l = l.out.items ≡ l.initial.out.items
+    ++ words_text (take l.word-index l.word-items)

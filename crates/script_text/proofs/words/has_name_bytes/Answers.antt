@@ -5,4 +5,5 @@ use Rattle.script_text.specs.Words.{is_name_byte}
 use Rattle.script_text.proofs.words.has_name_bytes.Goals as goal
 
 pub returns : goal.returns
-returns c = all_from_yields_List is_name_byte _ _ _ c.all.ensures.ran (YieldsList-from_slice c.args.text.now cc) (λ x b q k. search (rules, tests))
+returns c = all_from_yields_List is_name_byte _ _ _ c.all.ensures.ran
+    (YieldsList-from_slice c.args.text.now cc) (λ x b q k. search (rules, tests))

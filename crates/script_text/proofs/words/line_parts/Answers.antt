@@ -6,6 +6,7 @@ use Rattle.script_text.proofs.words.line_parts.Goals as goal
 pub returns : goal.returns
 returns c =
     let parts = map_from_collect _ c.collect.ensures.ran
-    (YieldsList-from_slice_split _ (λ b. b == 32) c.args.line.now c.split.ensures.rest c.split.ensures.done c.split.ensures.closure (λ x b q k. search (rules, tests))) in
+    (YieldsList-from_slice_split _ (λ b. b == 32) c.args.line.now c.split.ensures.rest
+    c.split.ensures.done c.split.ensures.closure (λ x b q k. search (rules, tests))) in
     let was = c.in_ok-collect.was in
     rw was at parts

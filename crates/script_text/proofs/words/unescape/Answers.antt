@@ -6,7 +6,8 @@ use Rattle.script_text.proofs.words.unescape.Goals as goal
 
 pub returns : goal.returns
 returns c =
-    let at_end : drop c.loop-byte.byte-index c.args.text.now ≡ [] = drop_of_length-le c.args.text.now (omega arith) in
+    let at_end : drop c.loop-byte.byte-index c.args.text.now ≡ [] =
+    drop_of_length-le c.args.text.now (omega arith) in
     sym (append-nil c.loop-byte.word.items)
     ∙ ap (λ rest. c.loop-byte.word.items ++ rest) (sym (unescaped_from-end c.loop-byte.escape))
     ∙ ap (λ rest. c.loop-byte.word.items ++ unescaped_from c.loop-byte.escape rest) (sym at_end)
