@@ -1,2 +1,5 @@
+mod NoneOf
 mod Numbers
 mod QueryWords
+mod TrackingFits
+mod UnknownNames

@@ -1,6 +1,5 @@
 -- Digits that spell a number past a limit.
-use Rattle.std.proofs.Common.{◌≡◌, ◌+◌, ◌-◌, ◌*◌, ◌<◌, ◌≤◌, ℕ, List, [], ◌∷◌, length, false, sym}
-use Rattle.std.proofs.Common.{arith}
+use Rattle.std.proofs.Common.{◌≡◌, ◌+◌, ◌-◌, ◌*◌, ◌<◌, ◌≤◌, ℕ, List, [], ◌∷◌, length, false, arith}
 use Rattle.std.specs.Prelude.{nat_le}
 use Rattle.std.proofs.lemmas.Bool.{lt-leb}
 use Rattle.command_words.specs.Integers.{value_of}
@@ -10,8 +9,8 @@ grows n [] = omega arith
 grows n (d ∷ ds) = omega (arith, grows (n * 10 + (d - 48)) ds)
 
 pub too_large : (n limit : ℕ) (ds : List ℕ) → 0 < length ds → 922337203685477580 < n →
-    limit ≤ 9223372036854775808 → false ≡ nat_le (value_of n ds) limit
+    limit ≤ 9223372036854775808 → nat_le (value_of n ds) limit ≡ false
 too_large n limit [] some past within = absurd (omega arith)
 too_large n limit (d ∷ ds) some past within =
     let next = n * 10 + (d - 48) in
-    sym (lt-leb (value_of next ds) limit (omega (arith, grows next ds)))
+    lt-leb (value_of next ds) limit (omega (arith, grows next ds))

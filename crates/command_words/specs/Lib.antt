@@ -1,5 +1,15 @@
-pub mod Words
+pub mod Reading
+pub mod Names
 pub mod Integers
+pub mod WordCounts
+pub mod SetOptions
+pub mod TrackingWords
+pub mod StringWords
+pub mod HashWords
+pub mod KeyWords
+pub mod ClientWords
+pub mod ConnectionWords
+pub mod Words
 pub mod KeyLists
 pub mod Space
 pub mod Effect

@@ -1,148 +1,105 @@
-//! Commands that change how the server serves a connection.
-ghost use Rattle.std.specs.Prelude.{◌≡◌, ◌≤◌, ℕ, true, nat_le};
-ghost use Rattle.std.specs.Str.{bytes_eq, str_to_ascii_lowercase};
-ghost use Rattle.command_words.specs.Words.{is_name};
-ghost use Rattle.command_words.specs.Integers.{all_digits, value_of, is_positive_word};
-ghost use Rattle.command_words.specs.Control.{is_integer_word, is_flag, are_options};
-ghost use Rattle.command_words.specs.Control.{are_behind_prefix, are_behind_redirect, is_tracking};
-ghost use Rattle.command_words.specs.Control.{is_caching, is_saving, is_client_control};
-ghost use Rattle.command_words.specs.Control.{is_named_control, is_control};
+//! Whether words read as a command that a client's own handshake alone may send, without memory.
+ghost use Rattle.std.specs.Prelude.{◌≡◌, is_ok, true, false};
+ghost use Rattle.std.specs.Str.{str_to_ascii_lowercase};
+ghost use Rattle.command_words.specs.ClientWords.{client_name_text, client_reading, client_words};
+ghost use Rattle.command_words.specs.ClientWords.{yes_or_no};
+ghost use Rattle.command_words.specs.ConnectionWords.{connection_name_text, connection_reading};
+ghost use Rattle.command_words.specs.ConnectionWords.{save_mode};
+ghost use Rattle.command_words.specs.Control.{is_control, reads_as_control};
+ghost use Rattle.command_words.specs.TrackingWords.{no_options, track_options, tracking};
+ghost use Rattle.command_words.specs.WordCounts.{at_most_one};
+ghost use Rattle.command_words.specs.Words.{reading_of};
 
-use super::read::is_named;
+use super::client_words::{ClientName, client_name};
+use super::connection_words::{ConnectionName, connection_name};
+use super::integer::read_integer;
+use super::names::is_named;
+use super::tracking_words::is_flag;
 use resp_value::{Octets, Words};
 
-fn are_digits(bytes: &[u8]) -> bool
-    ensures { result ≡ all_digits bytes.now }
+fn are_track_options(words: &[Octets]) -> bool
+    ensures on { result ≡ is_ok (track_options (no_options true) words.now) }
+    ensures off { result ≡ is_ok (track_options (no_options false) words.now) }
 {
-    match bytes {
-        [] => true,
-        [digit, rest @ ..] => {
-            if *digit >= b'0' && *digit <= b'9' {
-                are_digits(rest)
-            } else {
-                false
-            }
+    let mut redirected = false;
+    let mut rest = words;
+    while let [word, after @ ..] = rest {
+        rest = after;
+        if is_flag(word) {
+            continue;
         }
-    }
-}
-
-fn is_within(number: u64, digits: &[u8], limit: u64) -> bool
-    requires digits { all_digits digits.now ≡ true }
-    requires limit { limit ≤ 9223372036854775808 }
-    ensures { result ≡ nat_le (value_of number digits.now) limit }
-{
-    match digits {
-        [] => number <= limit,
-        [digit, rest @ ..] => {
-            if number > 922337203685477580 {
+        if is_named(word, b"prefix") {
+            let [_, after @ ..] = rest else {
+                return false;
+            };
+            rest = after;
+        } else if is_named(word, b"redirect") && !redirected {
+            let [id, after @ ..] = rest else {
+                return false;
+            };
+            if read_integer(id.as_slice()).is_none() {
                 return false;
             }
-            is_within(number * 10 + (*digit - b'0') as u64, rest, limit)
+            redirected = true;
+            rest = after;
+        } else {
+            return false;
         }
     }
+    true
 }
 
-fn is_positive(bytes: &[u8], limit: u64) -> bool
-    requires { limit ≤ 9223372036854775808 }
-    ensures { result ≡ is_positive_word limit bytes.now }
-{
-    match bytes {
-        [] => false,
-        [first, ..] => {
-            if *first >= b'1' && are_digits(bytes) {
-                is_within(0, bytes, limit)
-            } else {
-                false
-            }
-        }
-    }
-}
-
-#[tactic(auto, unfolding(crate::specs::Control::is_integer_word))]
-fn is_integer(bytes: &[u8]) -> bool
-    ensures { result ≡ is_integer_word bytes.now }
-{
-    match bytes {
-        [b'0'] => true,
-        [b'-', digits @ ..] => is_positive(digits, 9223372036854775808),
-        _ => is_positive(bytes, 9223372036854775807),
-    }
-}
-
-fn is_option(word: &Octets) -> bool
-    ensures { result ≡ is_flag word.now }
-{
-    is_named(word, b"bcast")
-        || is_named(word, b"optin")
-        || is_named(word, b"optout")
-        || is_named(word, b"noloop")
-}
-
-#[cycle(options)]
-fn are_options(redirected: bool, words: &[Octets]) -> bool
-    ensures { result ≡ are_options redirected words.now }
+#[tactic(auto, unfolding(crate::specs::TrackingWords::tracking))]
+fn is_tracking(words: &[Octets]) -> bool
+    ensures { result ≡ is_ok (tracking words.now) }
 {
     match words {
-        [] => true,
-        [word, rest @ ..] => {
-            if is_option(word) {
-                are_options(redirected, rest)
-            } else if is_named(word, b"prefix") {
-                are_behind_prefix(redirected, rest)
-            } else if is_named(word, b"redirect") {
-                are_behind_redirect(redirected, rest)
-            } else {
-                false
-            }
-        }
-    }
-}
-
-#[cycle(options)]
-fn are_behind_prefix(redirected: bool, words: &[Octets]) -> bool
-    ensures { result ≡ are_behind_prefix redirected words.now }
-{
-    match words {
-        [] => false,
-        [_, rest @ ..] => are_options(redirected, rest),
-    }
-}
-
-#[cycle(options)]
-fn are_behind_redirect(redirected: bool, words: &[Octets]) -> bool
-    ensures { result ≡ are_behind_redirect redirected words.now }
-{
-    match words {
-        [] => false,
-        [id, rest @ ..] => {
-            if is_integer(id.as_slice()) && !redirected {
-                are_options(true, rest)
-            } else {
-                false
-            }
-        }
-    }
-}
-
-fn is_client(words: &[Octets]) -> bool
-    ensures { result ≡ is_client_control words.now }
-{
-    match words {
-        [name, switch, options @ ..] => {
-            if is_named(name, b"tracking") {
-                (is_named(switch, b"on") || is_named(switch, b"off")) && are_options(false, options)
-            } else if is_named(name, b"caching") {
-                options.is_empty() && (is_named(switch, b"yes") || is_named(switch, b"no"))
-            } else {
-                false
-            }
-        }
+        [switch, options @ ..] if is_named(switch, b"on") => are_track_options(options),
+        [switch, options @ ..] if is_named(switch, b"off") => are_track_options(options),
         _ => false,
     }
 }
 
-fn is_shutdown(words: &[Octets]) -> bool
-    ensures { result ≡ is_saving words.now }
+fn is_yes_or_no(words: &[Octets]) -> bool
+    ensures { result ≡ is_ok (yes_or_no words.now) }
+{
+    match words {
+        [word] => is_named(word, b"yes") || is_named(word, b"no"),
+        _ => false,
+    }
+}
+
+#[tactic(auto, unfolding(crate::specs::ClientWords::client_reading))]
+fn is_client_control(name: ClientName, words: &[Octets]) -> bool
+    ensures { result ≡ reads_as_control (client_reading (client_name_text name) words.now) }
+{
+    match name {
+        ClientName::Tracking => is_tracking(words),
+        ClientName::Caching => is_yes_or_no(words),
+        ClientName::Id | ClientName::GetRedir | ClientName::TrackingInfo => false,
+    }
+}
+
+fn is_client_named(name: &Octets, words: &[Octets]) -> bool
+    ensures { result ≡ reads_as_control (client_reading (str_to_ascii_lowercase name.now) words.now) }
+{
+    match client_name(name) {
+        Some(name) => is_client_control(name, words),
+        None => false,
+    }
+}
+
+fn is_client(words: &[Octets]) -> bool
+    ensures { result ≡ reads_as_control (client_words words.now) }
+{
+    match words {
+        [] => false,
+        [name, words @ ..] => is_client_named(name, words),
+    }
+}
+
+fn is_save_mode(words: &[Octets]) -> bool
+    ensures { result ≡ is_ok (save_mode words.now) }
 {
     match words {
         [] => true,
@@ -151,32 +108,46 @@ fn is_shutdown(words: &[Octets]) -> bool
     }
 }
 
+fn is_at_most_one(words: &[Octets]) -> bool
+    ensures { result ≡ is_ok (at_most_one words.now) }
+{
+    match words {
+        [] | [_] => true,
+        _ => false,
+    }
+}
+
+#[tactic(auto, unfolding(crate::specs::ConnectionWords::connection_reading))]
+fn is_connection_control(name: ConnectionName, words: &[Octets]) -> bool
+    ensures { result ≡ reads_as_control (connection_reading (connection_name_text name) words.now) }
+{
+    match name {
+        ConnectionName::Hello | ConnectionName::Unsubscribe => is_at_most_one(words),
+        ConnectionName::Reset | ConnectionName::Quit => words.is_empty(),
+        ConnectionName::Shutdown => is_save_mode(words),
+        ConnectionName::Client => is_client(words),
+        ConnectionName::Subscribe => words.len() == 1,
+        ConnectionName::Ping | ConnectionName::Echo => false,
+    }
+}
+
+fn is_named_control(name: &Octets, words: &[Octets]) -> bool
+    ensures { result ≡ reads_as_control (reading_of (str_to_ascii_lowercase name.now) words.now) }
+{
+    match connection_name(name) {
+        Some(name) => is_connection_control(name, words),
+        None => false,
+    }
+}
+
 /// Whether the words read as HELLO, RESET, QUIT, SHUTDOWN, SUBSCRIBE, UNSUBSCRIBE,
 /// CLIENT TRACKING or CLIENT CACHING: commands that a client's own handshake alone may send.
-#[tactic(auto, unfolding(crate::specs::Control::is_control))]
+#[tactic(auto, unfolding(crate::specs::Words::reading, crate::specs::Control::is_control))]
 pub fn is_control(words: &Words) -> bool
     ensures { result ≡ is_control words.now }
 {
     match words.as_slice() {
         [] => false,
-        [name, rest @ ..] => {
-            if is_named(name, b"hello") {
-                rest.len() < 2
-            } else if is_named(name, b"reset") {
-                rest.is_empty()
-            } else if is_named(name, b"quit") {
-                rest.is_empty()
-            } else if is_named(name, b"shutdown") {
-                is_shutdown(rest)
-            } else if is_named(name, b"subscribe") {
-                rest.len() == 1
-            } else if is_named(name, b"unsubscribe") {
-                rest.len() < 2
-            } else if is_named(name, b"client") {
-                is_client(rest)
-            } else {
-                false
-            }
-        }
+        [name, words @ ..] => is_named_control(name, words),
     }
 }

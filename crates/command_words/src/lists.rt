@@ -1,7 +1,8 @@
 //! Lists of words.
-ghost use Rattle.std.specs.Prelude.{◌≡◌, ◌++◌, OnOk};
+ghost use Rattle.std.specs.Prelude.{◌≡◌, ◌++◌, IfOk, OnOk};
 
 use resp_value::{NoMemory, Octets, Words};
+use std::alloc::Global;
 
 /// Copies of the words go last.
 pub(crate) fn push_all(words: &[Octets], out: &mut Words) -> Result<(), NoMemory>
@@ -11,4 +12,13 @@ pub(crate) fn push_all(words: &[Octets], out: &mut Words) -> Result<(), NoMemory
         out.push(word.copy()?)?;
     }
     Ok(())
+}
+
+/// An equal list.
+pub(crate) fn copies(alloc: Global, words: &[Octets]) -> Result<Words, NoMemory>
+    ensures { IfOk result (λ w. w ≡ words.now) }
+{
+    let mut out = Words::new(alloc);
+    push_all(words, &mut out)?;
+    Ok(out)
 }

@@ -59,10 +59,10 @@ fn is_cacheable(command: &Command) -> bool
     }
 }
 
-fn reads_as_cacheable(words: &Words) -> Result<bool, NoMemory>
+fn reads_as_cacheable(alloc: Global, words: &Words) -> Result<bool, NoMemory>
     ensures { IfOk result (λ b. b ≡ reads_as_cacheable (reading words.now)) }
 {
-    match read_command(words) {
+    match read_command(alloc, words) {
         Ok(command) => Ok(is_cacheable(&command)),
         Err(WordFault::NoMemory) => Err(NoMemory),
         Err(_) => Ok(false),
@@ -93,7 +93,7 @@ impl Query {
     pub fn read(alloc: Global, words: &Words) -> Result<Option<Query>, NoMemory>
         ensures { IfOk result (λ q. q ≡ query_of words.now) }
     {
-        if !reads_as_cacheable(words)? {
+        if !reads_as_cacheable(alloc, words)? {
             return Ok(None);
         }
         let words = with_upper_name(alloc, words.as_slice())?;

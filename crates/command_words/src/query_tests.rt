@@ -1,5 +1,5 @@
 //! Queries, written keys and control commands over ample memory.
-use super::{Query, is_control, written_by};
+use super::{Query, written_by};
 use resp_value::{NoMemory, Octets, Words};
 use std::alloc::Global;
 use std::test::Fail;
@@ -31,35 +31,5 @@ fn what_is_written_is_named(rt: HostRuntime) -> Result<(), Fail> {
     assert!(rt; written.names(b"a".as_slice()));
     assert!(rt; !written.names(b"b".as_slice()));
     assert!(rt; !written_by(alloc, &words(alloc, b"get a".as_slice())?)?.names(b"a".as_slice()));
-    Ok(())
-}
-
-#[test]
-fn control_commands_are_those_that_read_as_such(rt: HostRuntime) -> Result<(), Fail> {
-    let alloc = rt.alloc();
-    for (line, control) in [
-        (b"hello 3".as_slice(), true),
-        (b"HELLO 3 x".as_slice(), false),
-        (b"quit".as_slice(), true),
-        (b"quit now".as_slice(), false),
-        (b"shutdown nosave".as_slice(), true),
-        (
-            b"client tracking on bcast prefix a redirect -7".as_slice(),
-            true,
-        ),
-        (
-            b"client tracking on redirect 7 redirect 8".as_slice(),
-            false,
-        ),
-        (
-            b"client tracking on redirect 9223372036854775808".as_slice(),
-            false,
-        ),
-        (b"client caching yes".as_slice(), true),
-        (b"client id".as_slice(), false),
-        (b"get a".as_slice(), false),
-    ] {
-        assert_eq!(rt; is_control(&words(alloc, line)?), control);
-    }
     Ok(())
 }

@@ -1,9 +1,11 @@
 //! The texts of the replies to words that are no command.
-ghost use Rattle.std.specs.Prelude.{◌≡◌, ◌++◌, IfOk, OnOk};
-ghost use Rattle.command_words.specs.declared.command.WordFault.TheVariants.{Arity};
+ghost use Rattle.std.specs.Prelude.{◌≡◌, ◌++◌, IfOk, OnOk, codes};
+ghost use Rattle.std.specs.Str.{bytes_eq};
+ghost use Rattle.command_words.specs.declared.command.WordFault.TheVariants.{Arity, Unknown};
 ghost use Rattle.command_words.specs.Words.{fault_text, lower_name};
 
 use super::command::WordFault;
+use super::names::is_named;
 use resp_value::{NoMemory, Octets, Words};
 use std::alloc::Global;
 
@@ -28,13 +30,32 @@ fn arity_text(alloc: Global, words: &Words) -> Result<Octets, NoMemory>
     Ok(Octets::from_vec(text))
 }
 
+fn is_client(words: &Words) -> bool
+    ensures { result ≡ bytes_eq (lower_name words.now) (codes "client") }
+{
+    match words.as_slice() {
+        [name, ..] => is_named(name, b"client"),
+        [] => false,
+    }
+}
+
+fn unknown_text(alloc: Global, words: &Words) -> Result<Octets, NoMemory>
+    ensures { IfOk result (λ t. t ≡ fault_text words.now Unknown) }
+{
+    if is_client(words) {
+        Octets::from_slice(alloc, b"ERR unknown subcommand")
+    } else {
+        Octets::from_slice(alloc, b"ERR unknown command")
+    }
+}
+
 /// The text of the error reply to words that read as this fault: those of Redis for the number of
 /// words and for options, this project's own for an unknown name.
 pub fn fault_text(alloc: Global, words: &Words, fault: WordFault) -> Result<Octets, NoMemory>
     ensures { IfOk result (λ t. t ≡ fault_text words.now fault) }
 {
     match fault {
-        WordFault::Unknown => Octets::from_slice(alloc, b"ERR unknown command"),
+        WordFault::Unknown => unknown_text(alloc, words),
         WordFault::Arity => arity_text(alloc, words),
         WordFault::Syntax => Octets::from_slice(alloc, b"ERR syntax error"),
         WordFault::BadNumber => {

@@ -51,7 +51,7 @@ fn words_are_read_as_their_command(rt: HostRuntime) -> Result<(), Fail> {
         ("SET a b c", "syntax"),
         ("GETS a", "unknown"),
     ] {
-        let read = read_command(&words_of(rt.alloc(), text)?);
+        let read = read_command(rt.alloc(), &words_of(rt.alloc(), text)?);
         let shown = show(rt.alloc(), &read)?;
         assert_eq!(rt; shown.as_slice(), want.as_bytes(), "{text}");
     }

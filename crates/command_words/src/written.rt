@@ -32,7 +32,7 @@ pub fn keys_written(alloc: Global, command: &Command) -> Result<Written, NoMemor
 pub fn written_by(alloc: Global, words: &Words) -> Result<Written, NoMemory>
     ensures { IfOk result (λ w. w ≡ written_by words.now) }
 {
-    match read_command(words) {
+    match read_command(alloc, words) {
         Ok(command) => keys_written(alloc, &command),
         Err(WordFault::NoMemory) => Err(NoMemory),
         Err(_) => Ok(Written::Keys(Words::new(alloc))),
