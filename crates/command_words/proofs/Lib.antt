@@ -1,4 +1,5 @@
 mod NoneOf
+mod PairKeys
 mod Numbers
 mod QueryWords
 mod TrackingFits

@@ -1,6 +1,6 @@
 -- Which words are a cacheable query, and what a command writes.
 use Rattle.std.specs.Prelude.{ℕ, List, [], ◌∷◌, Bool, true, false, Option, Some, None}
-use Rattle.std.specs.Prelude.{if◌then◌else◌, Ok, Err, Result}
+use Rattle.std.specs.Prelude.{if◌then◌else◌, map, Ok, Err, Result}
 use Rattle.std.specs.Cmp.Lexicographic.{pointwise}
 use Rattle.std.specs.Str.{bytes_eq, str_to_ascii_uppercase}
 use Rattle.std.specs.List.{list_any}
@@ -8,9 +8,18 @@ use Rattle.command_words.specs.declared.command.Command.{Command}
 use Rattle.command_words.specs.declared.command.Command.TheVariants.{Get, Set, StrLen, GetRange}
 use Rattle.command_words.specs.declared.command.Command.TheVariants.{HGet, HMGet, HGetAll, HLen}
 use Rattle.command_words.specs.declared.command.Command.TheVariants.{HExists, HKeys, HVals}
+use Rattle.command_words.specs.declared.command.Command.TheVariants.{SetNx, GetDel, Append, Incr}
+use Rattle.command_words.specs.declared.command.Command.TheVariants.{Decr, IncrBy, DecrBy, MGet}
+use Rattle.command_words.specs.declared.command.Command.TheVariants.{MSet, HSet, HDel, HIncrBy}
+use Rattle.command_words.specs.declared.command.Command.TheVariants.{Del, Exists, KeyType, Rename}
+use Rattle.command_words.specs.declared.command.Command.TheVariants.{Expire, PExpire, ExpireAt}
+use Rattle.command_words.specs.declared.command.Command.TheVariants.{PExpireAt, Ttl, PTtl, Persist}
+use Rattle.command_words.specs.declared.command.Command.TheVariants.{FlushAll, FlushDb}
 use Rattle.command_words.specs.declared.command.WordFault.{WordFault}
 use Rattle.command_words.specs.declared.written.Written.{Written}
 use Rattle.command_words.specs.declared.written.Written.TheVariants.{Keys, All}
+use Rattle.resp_value.specs.Tree.{in_turn}
+use Rattle.command_words.specs.KeyLists.{each_once}
 use Rattle.command_words.specs.Words.{reading}
 
 -- reads whose reply depends on the content of one key alone (client-side caching reference)
@@ -49,10 +58,53 @@ key_of (name ∷ key ∷ words) = key
 abbrev pub same_query : List (List ℕ) → List (List ℕ) → Bool
 same_query = pointwise bytes_eq
 
--- the keys that a command can change
+-- the keys among keys and values in turn
+abbrev pub keys_in_turn : List (List ℕ) → List (List ℕ)
+keys_in_turn words = map (λ p. p.0) (in_turn words)
+
+-- the keys that a command can change; a flush changes all
 abbrev pub written : Command → Written
 written (Set key value when life) = Keys (key ∷ [])
+written (SetNx key value) = Keys (key ∷ [])
+written (GetDel key) = Keys (key ∷ [])
+written (Append key value) = Keys (key ∷ [])
+written (Incr key) = Keys (key ∷ [])
+written (Decr key) = Keys (key ∷ [])
+written (IncrBy key n) = Keys (key ∷ [])
+written (DecrBy key n) = Keys (key ∷ [])
+written (MSet words) = Keys (keys_in_turn words)
+written (HSet key words) = Keys (key ∷ [])
+written (HDel key fields) = Keys (key ∷ [])
+written (HIncrBy key field n) = Keys (key ∷ [])
+written (Del keys) = Keys keys
+written (Rename a b) = Keys (a ∷ b ∷ [])
+written (Expire key n) = Keys (key ∷ [])
+written (PExpire key n) = Keys (key ∷ [])
+written (ExpireAt key n) = Keys (key ∷ [])
+written (PExpireAt key n) = Keys (key ∷ [])
+written (Persist key) = Keys (key ∷ [])
+written (FlushAll mode) = All
+written (FlushDb mode) = All
 written _ = Keys []
+
+-- the keys that a read names, in order, each once; another command reads none
+abbrev pub read : Command → List (List ℕ)
+read (Get key) = key ∷ []
+read (StrLen key) = key ∷ []
+read (GetRange key a b) = key ∷ []
+read (MGet keys) = each_once keys
+read (HGet key field) = key ∷ []
+read (HMGet key fields) = key ∷ []
+read (HGetAll key) = key ∷ []
+read (HLen key) = key ∷ []
+read (HExists key field) = key ∷ []
+read (HKeys key) = key ∷ []
+read (HVals key) = key ∷ []
+read (Exists keys) = each_once keys
+read (KeyType key) = key ∷ []
+read (Ttl key) = key ∷ []
+read (PTtl key) = key ∷ []
+read _ = []
 
 -- words that read as no command change no key
 abbrev pub written_as : Result Command WordFault → Written
