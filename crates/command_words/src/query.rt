@@ -35,17 +35,17 @@ impl Model for Query {
 fn are_same(left: &[Octets], right: &[Octets]) -> bool
     ensures { result ≡ pointwise bytes_eq left.now right.now }
 {
-    match (left, right) {
-        ([], []) => true,
-        ([x, left @ ..], [y, right @ ..]) => {
-            if x.as_slice() == y.as_slice() {
-                are_same(left, right)
-            } else {
-                false
-            }
+    let mut others = right;
+    for word in left {
+        let [other, rest @ ..] = others else {
+            return false;
+        };
+        if word.as_slice() != other.as_slice() {
+            return false;
         }
-        _ => false,
+        others = rest;
     }
+    others.is_empty()
 }
 
 fn is_cacheable(command: &Command) -> bool

@@ -1,5 +1,5 @@
-//! Queries, written keys and control commands over ample memory.
-use super::{Query, written_by};
+//! Queries, keys and control commands, with ample memory.
+use super::{Query, is_control, written_by};
 use resp_value::{NoMemory, Octets, Words};
 use std::alloc::Global;
 use std::test::Fail;
@@ -20,7 +20,18 @@ fn a_query_has_its_name_in_upper_case(rt: HostRuntime) -> Result<(), Fail> {
     assert_eq!(rt; query.key(), b"a".as_slice());
     let same = Query::read(alloc, query.words())?.ok_or("no query")?;
     assert!(rt; query.is_same(&same));
-    assert!(rt; Query::read(alloc, &words(alloc, b"set a 1".as_slice())?)?.is_none());
+    for line in [
+        b"set a 1".as_slice(),
+        b"mget a".as_slice(),
+        b"ttl a".as_slice(),
+        b"exists a".as_slice(),
+        b"getrange a 0 x".as_slice(),
+    ] {
+        assert!(rt; Query::read(alloc, &words(alloc, line)?)?.is_none());
+    }
+    let fields = Query::read(alloc, &words(alloc, b"hmget k f g".as_slice())?)?.ok_or("none")?;
+    assert_eq!(rt; fields.key(), b"k".as_slice());
+    assert!(rt; !fields.is_same(&query));
     Ok(())
 }
 
@@ -30,6 +41,47 @@ fn what_is_written_is_named(rt: HostRuntime) -> Result<(), Fail> {
     let written = written_by(alloc, &words(alloc, b"set a 1".as_slice())?)?;
     assert!(rt; written.names(b"a".as_slice()));
     assert!(rt; !written.names(b"b".as_slice()));
+    for (line, key, named) in [
+        (b"mset a 1 b 2".as_slice(), b"b".as_slice(), true),
+        (b"mset a 1 b 2".as_slice(), b"1".as_slice(), false),
+        (b"hset k a 1".as_slice(), b"a".as_slice(), false),
+        (b"rename a b".as_slice(), b"b".as_slice(), true),
+        (b"flushdb".as_slice(), b"b".as_slice(), true),
+        (b"mset a".as_slice(), b"a".as_slice(), false),
+    ] {
+        let written = written_by(alloc, &words(alloc, line)?)?;
+        assert_eq!(rt; written.names(key), named);
+    }
     assert!(rt; !written_by(alloc, &words(alloc, b"get a".as_slice())?)?.names(b"a".as_slice()));
+    Ok(())
+}
+
+#[test]
+fn control_commands_are_those_that_read_as_such(rt: HostRuntime) -> Result<(), Fail> {
+    let alloc = rt.alloc();
+    for (line, control) in [
+        (b"hello 3".as_slice(), true),
+        (b"HELLO 3 x".as_slice(), false),
+        (b"quit".as_slice(), true),
+        (b"quit now".as_slice(), false),
+        (b"shutdown nosave".as_slice(), true),
+        (
+            b"client tracking on bcast prefix a redirect -7".as_slice(),
+            true,
+        ),
+        (
+            b"client tracking on redirect 7 redirect 8".as_slice(),
+            false,
+        ),
+        (
+            b"client tracking on redirect 9223372036854775808".as_slice(),
+            false,
+        ),
+        (b"client caching yes".as_slice(), true),
+        (b"client id".as_slice(), false),
+        (b"get a".as_slice(), false),
+    ] {
+        assert_eq!(rt; is_control(&words(alloc, line)?), control);
+    }
     Ok(())
 }
