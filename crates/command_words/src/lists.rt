@@ -1,5 +1,7 @@
 //! Lists of words.
 ghost use Rattle.std.specs.Prelude.{◌≡◌, ◌++◌, IfOk, OnOk};
+ghost use Rattle.std.specs.List.{list_any};
+ghost use Rattle.std.specs.Str.{bytes_eq};
 
 use resp_value::{NoMemory, Octets, Words};
 use std::alloc::Global;
@@ -21,4 +23,16 @@ pub(crate) fn copies(alloc: Global, words: &[Octets]) -> Result<Words, NoMemory>
     let mut out = Words::new(alloc);
     push_all(words, &mut out)?;
     Ok(out)
+}
+
+/// Whether the key is among them.
+pub(crate) fn has(keys: &[Octets], key: &[u8]) -> bool
+    ensures { result ≡ list_any (bytes_eq key.now) keys.now }
+{
+    for named in keys {
+        if key == named.as_slice() {
+            return true;
+        }
+    }
+    false
 }

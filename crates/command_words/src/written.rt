@@ -1,11 +1,9 @@
 //! The keys that commands change.
 ghost use Rattle.std.specs.Prelude.{◌≡◌, ◌∷◌, ◌++◌, [], IfOk, OnOk};
-ghost use Rattle.std.specs.List.{list_any};
-ghost use Rattle.std.specs.Str.{bytes_eq};
 ghost use Rattle.command_words.specs.Queries.{keys_in_turn, written, written_by, names};
 
 use super::command::{Command, WordFault};
-use super::lists::copies;
+use super::lists::{copies, has};
 use super::read::read_command;
 use resp_value::{NoMemory, Octets, Words};
 use std::alloc::Global;
@@ -17,7 +15,7 @@ pub enum Written {
     All,
 }
 
-fn one(alloc: Global, key: &Octets) -> Result<Words, NoMemory>
+pub(crate) fn one(alloc: Global, key: &Octets) -> Result<Words, NoMemory>
     ensures { IfOk result (λ w. w ≡ key.now ∷ []) }
 {
     let mut keys = Words::new(alloc);
@@ -84,21 +82,6 @@ pub fn written_by(alloc: Global, words: &Words) -> Result<Written, NoMemory>
         Ok(command) => keys_written(alloc, &command),
         Err(WordFault::NoMemory) => Err(NoMemory),
         Err(_) => Ok(Written::Keys(Words::new(alloc))),
-    }
-}
-
-fn has(keys: &[Octets], key: &[u8]) -> bool
-    ensures { result ≡ list_any (bytes_eq key.now) keys.now }
-{
-    match keys {
-        [] => false,
-        [named, keys @ ..] => {
-            if key == named.as_slice() {
-                true
-            } else {
-                has(keys, key)
-            }
-        }
     }
 }
 
