@@ -1,5 +1,6 @@
 mod NoneOf
 mod PairKeys
+mod Once
 mod Numbers
 mod QueryWords
 mod TrackingFits

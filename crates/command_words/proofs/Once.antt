@@ -1,16 +1,104 @@
--- Words in order of first occurrence, when one word more comes.
-use Rattle.std.proofs.Common.{◌≡◌, ◌∙◌, refl, sym, ap, ℕ, List, [], ◌∷◌, ◌++◌, Bool, true, false, not, cond}
+-- Words in order of first occurrence, one word after the other.
+use Rattle.std.proofs.Common.{◌≡◌, ◌∙◌, ◌+◌, ◌<◌, refl, sym, ap, subst, ℕ, List, [], ◌∷◌, ◌++◌}
+use Rattle.std.proofs.Common.{Bool, true, false, not, cond, drop, get_or, length, ◌||◌}
 use Rattle.std.specs.List.{filter, list_any}
 use Rattle.std.specs.Str.{bytes_eq}
-use Rattle.command_words.specs.KeyLists.{each_once}
+use Rattle.std.proofs.lemmas.Map.Made.{alike_from_same}
+use Rattle.std.proofs.lemmas.Slice.Eq.{bytes_eq-Decides}
+use Rattle.command_words.specs.KeyLists.{each_once, with_key}
 
-abbrev apart : List ℕ → List ℕ → Bool
-apart y k = not (bytes_eq k y)
+-- the word is none of those
+abbrev pub is_fresh : List (List ℕ) → List ℕ → Bool
+is_fresh met key = not (list_any (bytes_eq key) met)
 
-filter_more : (p : List ℕ → Bool) (xs : List (List ℕ)) (x : List ℕ) →
-    filter p (xs ++ x ∷ []) ≡ filter p xs ++ cond (p x) (x ∷ []) []
-filter_more p [] x = refl
-filter_more p (y ∷ ys) x =
-    elim (p y) as (λ b. cond b (y ∷ filter p (ys ++ x ∷ [])) (filter p (ys ++ x ∷ []))
-        ≡ cond b (y ∷ filter p ys) (filter p ys) ++ cond (p x) (x ∷ []) [])
-    [ true ↦ ap (λ l. y ∷ l) (filter_more p ys x) | false ↦ filter_more p ys x ]
+kept : (p : List ℕ → Bool) (b : Bool) (x : List ℕ) (xs ys : List (List ℕ)) (d : Bool) →
+    cond b (p x) false ≡ d → filter p xs ≡ ys → filter p (cond b (x ∷ xs) xs) ≡ cond d (x ∷ ys) ys
+kept p true x xs ys d e f =
+    ap (λ b. cond b (x ∷ filter p xs) (filter p xs)) e ∙ ap (λ l. cond d (x ∷ l) l) f
+kept p false x xs ys d e f = f ∙ ap (λ b. cond b (x ∷ ys) ys) e
+
+filter_both : (p q r : List ℕ → Bool) → ((x : List ℕ) → cond (q x) (p x) false ≡ r x) →
+    (xs : List (List ℕ)) → filter p (filter q xs) ≡ filter r xs
+filter_both p q r e [] = refl
+filter_both p q r e (x ∷ xs) = kept p (q x) x _ _ (r x) (e x) (filter_both p q r e xs)
+
+or_false : (b : Bool) → (b || false) ≡ b
+or_false true = refl
+or_false false = refl
+
+any_more : (t : List ℕ → Bool) (xs : List (List ℕ)) (y : List ℕ) →
+    list_any t (xs ++ y ∷ []) ≡ (list_any t xs || t y)
+any_more t [] y = or_false (t y)
+any_more t (x ∷ xs) y =
+    elim (t x) as (λ b. (b || list_any t (xs ++ y ∷ [])) ≡ ((b || list_any t xs) || t y))
+    [ true ↦ refl | false ↦ any_more t xs y ]
+
+both_apart : (a b : Bool) → cond (not b) (not a) false ≡ not (a || b)
+both_apart true true = refl
+both_apart true false = refl
+both_apart false true = refl
+both_apart false false = refl
+
+fresh_more : (met : List (List ℕ)) (key x : List ℕ) →
+    cond (not (bytes_eq x key)) (is_fresh met x) false ≡ is_fresh (met ++ key ∷ []) x
+fresh_more met key x =
+    both_apart (list_any (bytes_eq x) met) (bytes_eq x key)
+    ∙ ap not (sym (any_more (bytes_eq x) met key))
+
+joined : (met : List (List ℕ)) (key : List ℕ) (ks : List (List ℕ)) →
+    (met ++ key ∷ []) ++ ks ≡ met ++ key ∷ ks
+joined [] key ks = refl
+joined (m ∷ met) key ks = ap (λ l. m ∷ l) (joined met key ks)
+
+next_fresh : (met : List (List ℕ)) (key : List ℕ) (ks : List (List ℕ)) →
+    is_fresh met key ≡ true →
+    (met ++ key ∷ []) ++ filter (is_fresh (met ++ key ∷ [])) (each_once ks)
+    ≡ met ++ filter (is_fresh met) (each_once (key ∷ ks))
+next_fresh met key ks fresh =
+    joined met key _
+    ∙ ap (λ l. met ++ key ∷ l) (sym (filter_both _ _ _ (fresh_more met key) (each_once ks)))
+    ∙ ap (λ b. met ++ cond b
+    (key ∷ filter (is_fresh met) (filter (λ k. not (bytes_eq k key)) (each_once ks)))
+    (filter (is_fresh met) (filter (λ k. not (bytes_eq k key)) (each_once ks))))
+    (sym fresh)
+
+stays : (b c : Bool) → (b ≡ true → c ≡ false) → cond (not b) c false ≡ c
+stays true c e = sym (e refl)
+stays false c e = refl
+
+met_is_apart : (met : List (List ℕ)) (key x : List ℕ) → is_fresh met key ≡ false →
+    cond (not (bytes_eq x key)) (is_fresh met x) false ≡ is_fresh met x
+met_is_apart met key x stale =
+    stays (bytes_eq x key) (is_fresh met x)
+    (λ e. alike_from_same bytes_eq-Decides (is_fresh met) x key e ∙ stale)
+
+next_met : (met : List (List ℕ)) (key : List ℕ) (ks : List (List ℕ)) →
+    is_fresh met key ≡ false →
+    met ++ filter (is_fresh met) (each_once ks)
+    ≡ met ++ filter (is_fresh met) (each_once (key ∷ ks))
+next_met met key ks stale =
+    ap (λ l. met ++ l)
+    (sym (filter_both _ _ _ (λ x. met_is_apart met key x stale) (each_once ks)))
+    ∙ ap (λ b. met ++ cond b
+    (key ∷ filter (is_fresh met) (filter (λ k. not (bytes_eq k key)) (each_once ks)))
+    (filter (is_fresh met) (filter (λ k. not (bytes_eq k key)) (each_once ks))))
+    (sym stale)
+
+by_case : (b : Bool) (met : List (List ℕ)) (key : List ℕ) (ks : List (List ℕ)) →
+    list_any (bytes_eq key) met ≡ b →
+    cond b met (met ++ key ∷ []) ++ filter (is_fresh (cond b met (met ++ key ∷ []))) (each_once ks)
+    ≡ met ++ filter (is_fresh met) (each_once (key ∷ ks))
+by_case true met key ks e = next_met met key ks (ap not e)
+by_case false met key ks e = next_fresh met key ks (ap not e)
+
+pub next_key : (met : List (List ℕ)) (key : List ℕ) (ks : List (List ℕ)) →
+    with_key key met ++ filter (is_fresh (with_key key met)) (each_once ks)
+    ≡ met ++ filter (is_fresh met) (each_once (key ∷ ks))
+next_key met key ks = by_case (list_any (bytes_eq key) met) met key ks refl
+
+all_fresh : (ks : List (List ℕ)) → filter (is_fresh []) ks ≡ ks
+all_fresh [] = refl
+all_fresh (k ∷ ks) = ap (λ l. k ∷ l) (all_fresh ks)
+
+pub none_met : (ks : List (List ℕ)) → [] ++ filter (is_fresh []) (each_once ks) ≡ each_once ks
+none_met ks = all_fresh (each_once ks)

@@ -18,5 +18,4 @@ pub mod Hashes
 pub mod Effects
 pub mod Printed
 pub mod Queries
-pub mod Laws
 pub mod Control

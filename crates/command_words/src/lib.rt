@@ -8,13 +8,12 @@ mod control;
 mod hash_words;
 mod integer;
 mod key_words;
-mod keys_read;
-mod laws;
 mod lists;
 mod names;
 mod printed;
 mod query;
 mod read;
+mod read_keys;
 mod refused;
 mod set_options;
 mod string_words;
@@ -27,11 +26,10 @@ pub use command::{
 };
 pub use control::is_control;
 pub use integer::read_integer;
-pub use keys_read::keys_read;
-pub use laws::{law_replies_are_of_keys_read, law_signals_are_written};
 pub use printed::put_printed;
 pub use query::Query;
 pub use read::read_command;
+pub use read_keys::keys_read;
 pub use refused::fault_text;
 pub use written::{Written, keys_written, written_by};
 

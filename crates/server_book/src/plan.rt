@@ -34,7 +34,7 @@ pub fn plan_of(
 ) -> Result<Plan, NoMemory>
     ensures { IfOk result (λ p. IsPlan p (ran_over space.now words.now moment) space.now) }
 {
-    match read_command(words) {
+    match read_command(alloc, words) {
         Ok(command) => plan_command(alloc, space, words, &command, moment),
         Err(fault) => plan_fault(alloc, words, fault),
     }

@@ -1,6 +1,6 @@
 //! The keys that reads name.
-ghost use Rattle.std.specs.Prelude.{◌≡◌, ◌∷◌, ◌++◌, [], IfOk, OnOk};
-ghost use Rattle.command_words.specs.KeyLists.{each_once};
+ghost use Rattle.std.specs.Prelude.{◌≡◌, IfOk, OnOk};
+ghost use Rattle.command_words.specs.KeyLists.{each_once, with_key};
 ghost use Rattle.command_words.specs.Queries.{read};
 
 use super::command::Command;
@@ -9,15 +9,22 @@ use super::written::one;
 use resp_value::{NoMemory, Octets, Words};
 use std::alloc::Global;
 
+fn push_once(word: &Octets, keys: &mut Words) -> Result<(), NoMemory>
+    ensures { OnOk result (keys.new ≡ with_key word.now keys.old) }
+{
+    if has(keys.as_slice(), word.as_slice()) {
+        return Ok(());
+    }
+    keys.push(word.copy()?)
+}
+
 /// The words in order of first occurrence. It looks at each of those before a word again.
 fn first_ones(alloc: Global, words: &[Octets]) -> Result<Words, NoMemory>
     ensures { IfOk result (λ w. w ≡ each_once words.now) }
 {
     let mut keys = Words::new(alloc);
     for word in words {
-        if !has(keys.as_slice(), word.as_slice()) {
-            keys.push(word.copy()?)?;
-        }
+        push_once(word, &mut keys)?;
     }
     Ok(keys)
 }
