@@ -392,9 +392,10 @@ step_fronts (Flow name) w = named_fronts (place_of name w) (Flow name) w
 step_fronts FlowAll w = flow_fronts (length w.links) w
 step_fronts (Cut name) w = named_fronts (place_of name w) (Cut name) w
 
-pub step_lines : (w : WorldState) (event : Event) (new : WorldState) (printed : List Line)
+pub printed_first : (w : WorldState) (event : Event) (new : WorldState) (printed : List Line)
     → Reached (step w event) new printed → IsPrefix printed (step w event).lines
-step_lines w event new printed r = fronts_reached (step w event) (step_fronts event w) new printed r
+printed_first w event new printed r =
+    fronts_reached (step w event) (step_fronts event w) new printed r
 
 -- the links that an event doesn't name
 named_others : (p : Option ℕ) (event : Event) (w new : WorldState) (printed : List Line)
@@ -497,9 +498,9 @@ serves heard said read s a = record {
   runs_all = λ e. a.runs;
 }
 
-pub one_history : (l : Limits) (events : List Event) (w : WorldState)
+pub whole_history : (l : Limits) (events : List Event) (w : WorldState)
     → after (start l) events ≡ Some w → OneHistory l events (transcript (start l) events) w
-one_history l events w e =
+whole_history l events w e =
     let s = stands_after l events (λ i. []) (λ n. []) [] (start l) w (stands_start l) e in
     let lines = transcript (start l) events in
     record {
@@ -530,7 +531,7 @@ follows l events w e event new printed r =
             (p.parts at lt);
         unread = λ name none. p.unread name (unplaced name new none);
       };
-      front = step_lines w event new printed r;
+      front = printed_first w event new printed r;
       entries = g.0;
       grows = g.1;
       others = others_kept event w new printed r;

@@ -9,4 +9,6 @@ pub mod Events
 pub mod Delivery
 pub mod Playing
 pub mod Serving
+pub mod Refusals
+pub mod History
 pub mod Stepping

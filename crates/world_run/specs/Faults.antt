@@ -10,3 +10,11 @@ number_of NameTaken = 2
 number_of NothingThere = 3
 number_of NoMemory = 4
 number_of (HistoryFull entries) = 6
+
+-- the faults that leave the world as before
+abbrev pub IsRefusal : WorldFault → Type 0
+IsRefusal NoName = Unit {0}
+IsRefusal NameTaken = Unit {0}
+IsRefusal NothingThere = Unit {0}
+IsRefusal NoMemory = ⊥
+IsRefusal (HistoryFull entries) = ⊥

@@ -17,7 +17,9 @@ use Rattle.script_text.specs.declared.event.Event.TheVariants.{Raw, Say, Bytes, 
 use Rattle.script_text.specs.declared.event.Event.TheVariants.{Recv, Flow, FlowAll, Cut}
 use Rattle.script_text.specs.declared.line.Line.{Line}
 use Rattle.script_text.specs.declared.line.Line.TheVariants as line
+use Rattle.world_run.specs.declared.fault.WorldFault.{WorldFault}
 use Rattle.world_run.specs.declared.link.Link.{Link}
+use Rattle.world_run.specs.Faults.{IsRefusal}
 use Rattle.world_run.specs.Directions.{is_open}
 use Rattle.world_run.specs.EntryLines.{entry_lines, is_entry_line}
 use Rattle.world_run.specs.Moves.{all_bytes, flow}
@@ -173,3 +175,12 @@ HasOneHistory = (l : Limits) (events : List Event) (w : WorldState)
     × ((event : Event) (new : WorldState) (printed : List Line) → Reached (step w event) new printed
     → Follows l events (transcript (start l) events) w event printed new)
     × ((at : ℕ) → at < length w.links → FlowDelivers w at)
+
+-- An event that is refused, as there is no such link, or it is there already, or fewer bytes are
+-- there
+-- than it moves, leaves the world as it was and prints nothing.
+abbrev pub RefusalsChangeNothing : Type 0
+RefusalsChangeNothing =
+    (w : WorldState) (event : Event) (fault : WorldFault)
+    → (step w event).fault ≡ Some fault → IsRefusal fault
+    → ((step w event).state ≡ w) × ((step w event).lines ≡ [])

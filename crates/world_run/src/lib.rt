@@ -11,7 +11,7 @@ mod server_end;
 mod world;
 
 pub use fault::WorldFault;
-pub use laws::law_one_history;
+pub use laws::{law_one_history, law_refusals_change_nothing};
 pub use world::World;
 
 #[cfg(test)]

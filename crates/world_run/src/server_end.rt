@@ -104,7 +104,8 @@ impl Link {
     ) -> Result<(), WorldFault>
         requires { reads_on server.old.book.limits server.old.book.past self.now.id ≡ true }
         ensures { Gives (turn (call.Run self.now.id words server.old.clock) words
-            (session server.old self.now)) lines.old result (session server.new self.now) lines.new }
+            (session server.old self.now)) lines.old result (session server.new self.now)
+            lines.new }
     {
         let line = Line::Run(server.next_entry()?, self.name.copy()?, words.copy()?);
         let now = server.clock;

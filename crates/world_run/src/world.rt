@@ -62,14 +62,14 @@ impl World {
         match event {
             Event::Raw(name) => self.raw(name, lines),
             Event::FlowAll => self.flow_all(lines),
-            Event::Say(name, _) => self.play(name, event, lines),
-            Event::Bytes(name, _) => self.play(name, event, lines),
-            Event::Out(name, _) => self.play(name, event, lines),
-            Event::Serve(name, _) => self.play(name, event, lines),
-            Event::Send(name, _) => self.play(name, event, lines),
-            Event::Recv(name, _) => self.play(name, event, lines),
-            Event::Flow(name) => self.play(name, event, lines),
-            Event::Cut(name) => self.play(name, event, lines),
+            Event::Say(name, _)
+            | Event::Bytes(name, _)
+            | Event::Out(name, _)
+            | Event::Serve(name, _)
+            | Event::Send(name, _)
+            | Event::Recv(name, _)
+            | Event::Flow(name)
+            | Event::Cut(name) => self.play(name, event, lines),
         }
     }
 
