@@ -1,5 +1,5 @@
 //! Queries, keys and control commands, with ample memory.
-use super::{Query, is_control, written_by};
+use super::{Query, is_control, keys_read, read_command, written_by};
 use resp_value::{NoMemory, Octets, Words};
 use std::alloc::Global;
 use std::test::Fail;
@@ -82,6 +82,23 @@ fn control_commands_are_those_that_read_as_such(rt: HostRuntime) -> Result<(), F
         (b"get a".as_slice(), false),
     ] {
         assert_eq!(rt; is_control(&words(alloc, line)?), control);
+    }
+    Ok(())
+}
+
+#[test]
+fn a_read_names_each_key_once(rt: HostRuntime) -> Result<(), Fail> {
+    let alloc = rt.alloc();
+    for (line, number) in [
+        (b"mget a b a c b".as_slice(), 3),
+        (b"exists a a".as_slice(), 1),
+        (b"hmget k a b".as_slice(), 1),
+        (b"set a b".as_slice(), 0),
+    ] {
+        let command = read_command(alloc, &words(alloc, line)?)
+            .ok()
+            .ok_or("no command")?;
+        assert_eq!(rt; keys_read(alloc, &command)?.as_slice().len(), number);
     }
     Ok(())
 }
