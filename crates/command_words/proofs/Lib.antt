@@ -1,6 +1,9 @@
 mod NoneOf
 mod PairKeys
 mod Once
+mod KeysOnce
+mod SignalledKeys
+mod KeysRead
 mod Numbers
 mod QueryWords
 mod TrackingFits

@@ -1,8 +1,7 @@
 -- Which options of CLIENT TRACKING are well formed, by whether a redirection was read before.
-use Rattle.std.proofs.Common.{◌≡◌, ◌∙◌, ap, refl, ℕ, List, [], ◌∷◌, Bool, true, false, ◌&&◌, not, Option, Some, None, ℤ}
-use Rattle.std.specs.Prelude.{if◌then◌else◌, is_ok, is_some, codes, ◌++◌, Err}
+use Rattle.std.proofs.Common.{◌≡◌, ◌∙◌, ap, refl, ℕ, List, [], ◌∷◌, Bool, true, false, ◌&&◌, Option, Some, None, ℤ}
+use Rattle.std.specs.Prelude.{if◌then◌else◌, is_ok, is_some, codes, ◌++◌}
 use Rattle.command_words.specs.declared.command.TrackOptions.{TrackOptions}
-use Rattle.command_words.specs.declared.command.WordFault.TheVariants.{Syntax}
 use Rattle.command_words.specs.Integers.{integer_of}
 use Rattle.command_words.specs.Names.{is_name}
 use Rattle.command_words.specs.Reading.{Read, read_then}

@@ -12,12 +12,12 @@ use Rattle.command_words.specs.declared.command.FlushMode.{FlushMode}
 use Rattle.command_words.specs.declared.command.FlushMode.TheVariants.{Plain, Async, Sync}
 use Rattle.command_words.specs.declared.key_words.KeyName.{KeyName}
 use Rattle.command_words.specs.declared.key_words.KeyName.TheVariants as name
-use Rattle.command_words.specs.declared.command.WordFault.TheVariants.{Unknown, Arity}
+use Rattle.command_words.specs.declared.command.WordFault.TheVariants.{Unknown}
 use Rattle.command_words.specs.declared.command.WordFault.TheVariants.{Syntax, BadExpire}
 use Rattle.command_words.specs.Names.{is_name}
 use Rattle.command_words.specs.Reading.{Read, read_as, read_then}
 use Rattle.command_words.specs.WordCounts.{no_word, one, two}
-use Rattle.command_words.specs.WordCounts.{at_least_one, one_and_number, number}
+use Rattle.command_words.specs.WordCounts.{at_least_one, one_and_number}
 
 -- a number of seconds that is within 64 bits with a sign in milliseconds
 abbrev pub fits_in_millis : ℤ → Bool

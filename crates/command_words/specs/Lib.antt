@@ -18,4 +18,5 @@ pub mod Hashes
 pub mod Effects
 pub mod Printed
 pub mod Queries
+pub mod Laws
 pub mod Control

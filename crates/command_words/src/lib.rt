@@ -8,6 +8,7 @@ mod control;
 mod hash_words;
 mod integer;
 mod key_words;
+mod laws;
 mod lists;
 mod names;
 mod printed;
@@ -26,6 +27,7 @@ pub use command::{
 };
 pub use control::is_control;
 pub use integer::read_integer;
+pub use laws::{law_replies_are_of_keys_read, law_signals_are_written};
 pub use printed::put_printed;
 pub use query::Query;
 pub use read::read_command;

@@ -10,7 +10,7 @@ use Rattle.command_words.specs.declared.command.WordFault.{WordFault}
 use Rattle.command_words.specs.declared.command.WordFault.TheVariants.{Unknown, Arity, Syntax}
 use Rattle.command_words.specs.declared.command.WordFault.TheVariants.{BadNumber, BadExpire}
 use Rattle.command_words.specs.declared.command.WordFault.TheVariants.{NoMemory}
-use Rattle.command_words.specs.Words.{IsReading}
+use Rattle.command_words.specs.Reading.{IsReading}
 use Rattle.command_words.specs.Space.{Space}
 use Rattle.serial_model.specs.History.{served, effect_of}
 use Rattle.server_book.specs.declared.plan.Plan.{Plan}

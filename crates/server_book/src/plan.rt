@@ -3,7 +3,7 @@ ghost use Rattle.std.specs.Prelude.{◌≡◌, IfOk, OnOk, OnErr, Result, ℕ};
 ghost use Rattle.command_words.specs.declared.command.Command.{Command};
 ghost use Rattle.command_words.specs.declared.command.WordFault.{WordFault};
 ghost use Rattle.command_words.specs.Space.{Space};
-ghost use Rattle.command_words.specs.Words.{IsReading};
+ghost use Rattle.command_words.specs.Reading.{IsReading};
 ghost use Rattle.serial_model.specs.History.{effect_of, is_plain, ran_over, served, spelled};
 ghost use Rattle.server_book.specs.Plans.{IsPlan, after_write};
 

@@ -1,7 +1,7 @@
 use Rattle.std.proofs.Common.{ap, sym, ◌∙◌, ◌∷◌, ◌++◌, List, ℕ, drop, ◌+◌}
 use Rattle.std.specs.List.{filter}
 use Rattle.std.proofs.lemmas.List.{at_drop_more}
-use Rattle.command_words.specs.KeyLists.{each_once, with_key}
+use Rattle.command_words.specs.KeyLists.{each_once}
 use Rattle.command_words.proofs.Once.{is_fresh, next_key, none_met}
 use Rattle.command_words.proofs.read_keys.first_ones.Goals as goal
 

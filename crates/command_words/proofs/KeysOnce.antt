@@ -1,0 +1,54 @@
+-- The keys in order of first occurrence are the keys.
+use Rattle.std.proofs.Common.{◌≡◌, ◌∙◌, refl, sym, ap, ℕ, List, [], ◌∷◌, Bool, true, false, not}
+use Rattle.std.proofs.Common.{cond, map, ◌||◌, rules}
+use Rattle.std.specs.List.{filter, list_any}
+use Rattle.std.specs.Str.{bytes_eq}
+use Rattle.std.proofs.lemmas.Map.Made.{alike_from_same}
+use Rattle.std.proofs.lemmas.Slice.Eq.{bytes_eq-Decides}
+use Rattle.command_words.specs.KeyLists.{each_once}
+
+without_one : (k x e : List ℕ) (b : Bool) (es fs : List (List ℕ)) →
+    (bytes_eq e x ≡ b) → bytes_eq k x ≡ false →
+    list_any (bytes_eq k) fs ≡ list_any (bytes_eq k) es →
+    list_any (bytes_eq k) (cond (not b) (e ∷ fs) fs) ≡ list_any (bytes_eq k) (e ∷ es)
+without_one k x e true es fs same apart rest =
+    rest ∙ ap (λ b. b || list_any (bytes_eq k) es)
+    (sym (alike_from_same bytes_eq-Decides (bytes_eq k) e x same ∙ apart))
+without_one k x e false es fs same apart rest = ap (λ b. bytes_eq k e || b) rest
+
+any_apart : (k x : List ℕ) (es : List (List ℕ)) → bytes_eq k x ≡ false →
+    list_any (bytes_eq k) (filter (λ e. not (bytes_eq e x)) es) ≡ list_any (bytes_eq k) es
+any_apart k x [] apart = refl
+any_apart k x (e ∷ es) apart =
+    without_one k x e (bytes_eq e x) es _ refl apart (any_apart k x es apart)
+
+either_way : (b : Bool) (c d : Bool) → (b ≡ false → c ≡ d) → (b || c) ≡ (b || d)
+either_way true c d e = refl
+either_way false c d e = e refl
+
+-- a key is among them exactly where it is among the keys
+pub any_once : (k : List ℕ) (ks : List (List ℕ)) →
+    list_any (bytes_eq k) (each_once ks) ≡ list_any (bytes_eq k) ks
+any_once k [] = refl
+any_once k (x ∷ ks) =
+    either_way (bytes_eq k x) _ _ (λ apart. any_apart k x (each_once ks) apart ∙ any_once k ks)
+
+pub is_itself : (k : List ℕ) → bytes_eq k k ≡ true
+is_itself [] = refl
+is_itself (b ∷ bs) = search rules
+
+or_true : (b c : Bool) → c ≡ true → (b || c) ≡ true
+or_true true c e = refl
+or_true false c e = e
+
+first : (b c : Bool) → b ≡ true → (b || c) ≡ true
+first true c e = refl
+first false c e = cc
+
+-- maps that agree at each of the keys
+pub map_alike : {X : Type 0} (f g : List ℕ → X) (ks : List (List ℕ)) →
+    ((k : List ℕ) → list_any (bytes_eq k) ks ≡ true → f k ≡ g k) → map f ks ≡ map g ks
+map_alike f g [] same = refl
+map_alike f g (k ∷ ks) same =
+    ap (λ x. x ∷ map f ks) (same k (first (bytes_eq k k) _ (is_itself k)))
+    ∙ ap (λ l. g k ∷ l) (map_alike f g ks (λ j among. same j (or_true (bytes_eq j k) _ among)))

@@ -1,0 +1,42 @@
+-- The reply to a read is that of the contents of the keys that it reads.
+use Rattle.std.proofs.Common.{◌≡◌, ◌∙◌, refl, ap, ℕ, List, [], ◌∷◌, Bool, true, false, ◌||◌}
+use Rattle.std.specs.List.{list_any}
+use Rattle.std.specs.Str.{bytes_eq}
+use Rattle.resp_value.specs.declared.value.Value.TheVariants.{Null, Array}
+use Rattle.resp_value.specs.ValueTree.{tree_of}
+use Rattle.command_words.specs.declared.command.Command.TheVariants as command
+use Rattle.command_words.specs.Space.{Space, content_at}
+use Rattle.command_words.specs.Effect.{blob_or_null}
+use Rattle.command_words.specs.Effects.{read_reply}
+use Rattle.command_words.specs.Laws.{RepliesAreOfKeysRead}
+use Rattle.command_words.specs.Strings.{on_text}
+use Rattle.command_words.proofs.KeysOnce.{any_once, is_itself, map_alike}
+
+first : (b c : Bool) → b ≡ true → (b || c) ≡ true
+first true c e = refl
+first false c e = cc
+
+-- two keyspaces that agree at a command's one key
+at_one : (key : List ℕ) (space other : Space) →
+    ((k : List ℕ) → list_any (bytes_eq k) (key ∷ []) ≡ true →
+    content_at k space ≡ content_at k other) →
+    content_at key space ≡ content_at key other
+at_one key space other same = same key (first (bytes_eq key key) _ (is_itself key))
+
+pub replies_alike : RepliesAreOfKeysRead
+unfolding read_reply
+replies_alike (command.Get key) s o same = rw (at_one key s o same) refl
+replies_alike (command.StrLen key) s o same = rw (at_one key s o same) refl
+replies_alike (command.GetRange key a b) s o same = rw (at_one key s o same) refl
+replies_alike (command.MGet keys) s o same =
+    ap Array (map_alike _ _ keys
+    (λ k among. ap (λ c. tree_of (on_text Null blob_or_null c))
+    (same k (any_once k keys ∙ among))))
+replies_alike (command.HGet key field) s o same = rw (at_one key s o same) refl
+replies_alike (command.HMGet key fields) s o same = rw (at_one key s o same) refl
+replies_alike (command.HGetAll key) s o same = rw (at_one key s o same) refl
+replies_alike (command.HLen key) s o same = rw (at_one key s o same) refl
+replies_alike (command.HExists key field) s o same = rw (at_one key s o same) refl
+replies_alike (command.HKeys key) s o same = rw (at_one key s o same) refl
+replies_alike (command.HVals key) s o same = rw (at_one key s o same) refl
+replies_alike _ s o same = refl

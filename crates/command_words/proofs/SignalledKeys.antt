@@ -1,0 +1,105 @@
+-- What each row signals is among the keys that its command writes.
+use Rattle.std.proofs.Common.{◌≡◌, ◌∙◌, sym, ℕ, List, [], ◌∷◌, Bool, true, false}
+use Rattle.std.proofs.Common.{Option, None, Some, Result, Ok, Err, length, ◌==◌, ℤ}
+use Rattle.std.specs.Prelude.{pos, negsuc, neg_ℤ}
+use Rattle.std.specs.Prelude.{if◌then◌else◌, nat_lt, ◌++◌}
+use Rattle.std.specs.FinMap.{contains_key}
+use Rattle.resp_value.specs.declared.value.Value.{Value}
+use Rattle.resp_value.specs.Tree.{in_turn}
+use Rattle.command_words.specs.declared.command.Command.{Command}
+use Rattle.command_words.specs.declared.command.Command.TheVariants as command
+use Rattle.command_words.specs.declared.written.Written.{Written}
+use Rattle.command_words.specs.declared.written.Written.TheVariants.{Keys}
+use Rattle.command_words.specs.Space.{Content, Text, Fields, Space, content_at}
+use Rattle.command_words.specs.Effect.{Effect, replied, wrote, wrong_type}
+use Rattle.command_words.specs.Effect.{not_integer, number_in, sum_in}
+use Rattle.command_words.specs.Effects.{effect, string_effect, hash_effect}
+use Rattle.command_words.specs.Hashes.{Pairs, on_fields, hset_row, hdel_row, hincrby_row}
+use Rattle.command_words.specs.Hashes.{set_all, remove_all, field_sum}
+use Rattle.command_words.specs.Laws.{signals}
+use Rattle.command_words.specs.Queries.{written, names, keys_in_turn}
+use Rattle.command_words.specs.Strings.{on_text, getdel_row, append_row, incrby_row}
+use Rattle.command_words.specs.Strings.{incrby_effect, is_least, or_empty, sets}
+use Rattle.command_words.proofs.KeysOnce.{any_once}
+
+pub record Only (written : Written) (e : Effect) : Type 0 where
+  pub is : (k : List ℕ) → signals e.signalled k ≡ true → names written k ≡ true
+
+module _ {w : Written} where
+  none : {reply : Value} {space : Space} → Only w (replied reply space)
+  none = record { is = λ k signalled. cc }
+
+  either : (b : Bool) {x y : Effect} → Only w x → Only w y → Only w (if b then x else y)
+  either true only rest = only
+  either false only rest = rest
+
+  text : (content : Option Content) (space : Space) (row : Option (List ℕ) → Effect) →
+      ((v : Option (List ℕ)) → Only w (row v)) → Only w (on_text (replied wrong_type space) row content)
+  text None space row only = only None
+  text (Some (Text v)) space row only = only (Some v)
+  text (Some (Fields fs)) space row only = none
+
+  fields : (content : Option Content) (space : Space) (row : Pairs → Effect) →
+      ((fs : Pairs) → Only w (row fs)) → Only w (on_fields (replied wrong_type space) row content)
+  fields None space row only = only []
+  fields (Some (Text v)) space row only = none
+  fields (Some (Fields fs)) space row only = only fs
+
+own : {keys : List (List ℕ)} {reply : Value} {space : Space} → Only (Keys keys) (wrote reply keys space)
+own = record { is = λ k signalled. signalled }
+
+getdel : (key : List ℕ) (v : Option (List ℕ)) (space : Space) →
+    Only (Keys (key ∷ [])) (getdel_row key v space)
+getdel key None space = none
+getdel key (Some v) space = own
+
+incr : (key : List ℕ) (sum : Result ℤ Value) (space : Space) →
+    Only (Keys (key ∷ [])) (incrby_row key sum space)
+incr key (Ok n) space = own
+incr key (Err error) space = none
+
+append : (key value : List ℕ) (space : Space) →
+    Only (Keys (key ∷ [])) (append_row key value space)
+append key value space = either (nat_lt 16777216 (length value)) none own
+
+incr_text : (key : List ℕ) (n : ℤ) (space : Space) →
+    Only (Keys (key ∷ [])) (incrby_effect key n space)
+incr_text key n space =
+    text (content_at key space) space
+    (λ v. incrby_row key (sum_in not_integer (number_in v) n) space)
+    (λ v. incr key (sum_in not_integer (number_in v) n) space)
+
+hincr : (key field : List ℕ) (sum : Result ℤ Value) (fs : Pairs) (space : Space) →
+    Only (Keys (key ∷ [])) (hincrby_row key field sum fs space)
+hincr key field (Ok n) fs space = own
+hincr key field (Err error) fs space = none
+
+pub signalled_only : (c : Command) (space : Space) (moment : ℕ) →
+    Only (written c) (effect c space moment)
+unfolding effect string_effect hash_effect
+signalled_only (command.Set key value when life) space moment =
+    either (sets when (contains_key space key)) own none
+signalled_only (command.SetNx key value) space moment = either (contains_key space key) none own
+signalled_only (command.GetDel key) space moment =
+    text (content_at key space) space (λ v. getdel_row key v space) (λ v. getdel key v space)
+signalled_only (command.Append key value) space moment =
+    text (content_at key space) space (λ v. append_row key (or_empty v ++ value) space)
+    (λ v. append key (or_empty v ++ value) space)
+signalled_only (command.Incr key) space moment = incr_text key (pos 1) space
+signalled_only (command.Decr key) space moment = incr_text key (negsuc 0) space
+signalled_only (command.IncrBy key n) space moment = incr_text key n space
+signalled_only (command.DecrBy key n) space moment =
+    either (is_least n) none (incr_text key (neg_ℤ n) space)
+signalled_only (command.MSet words) space moment =
+    record { is = λ k signalled. sym (any_once k (keys_in_turn words)) ∙ signalled }
+signalled_only (command.HSet key words) space moment =
+    fields (content_at key space) space (λ fs. hset_row key fs (set_all (in_turn words) fs) space)
+    (λ fs. own)
+signalled_only (command.HDel key names) space moment =
+    fields (content_at key space) space (λ fs. hdel_row key fs (remove_all names fs) space)
+    (λ fs. either (length fs == length (remove_all names fs)) none own)
+signalled_only (command.HIncrBy key field n) space moment =
+    fields (content_at key space) space
+    (λ fs. hincrby_row key field (field_sum field n fs) fs space)
+    (λ fs. hincr key field (field_sum field n fs) fs space)
+signalled_only _ space moment = none
