@@ -1,2 +1,3 @@
 pub mod PlainEntries
 pub mod Keyed
+pub mod Changes

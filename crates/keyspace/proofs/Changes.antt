@@ -1,0 +1,60 @@
+-- A keyspace after a change of the content of one key.
+use Rattle.std.proofs.Common.{◌≡◌, ℕ, Bool, true, false, cond, List, Option, Some, None, refl, ap}
+use Rattle.std.proofs.Common.{sym, ◌∙◌}
+use Rattle.std.specs.Option.{option_map, option_map_or, option_and_then}
+use Rattle.std.specs.Ordering.{nat_cmp, eq_by_cmp}
+use Rattle.std.specs.Cmp.Lexicographic.{slice_cmp, nat_list_cmp_total, texts_ties}
+use Rattle.std.specs.FinMap.{get, insert, get-insert, same_map}
+use Rattle.std.specs.FinMap.{slice_cmp-IsAntisymmetric, nat_cmp-IsAntisymmetric}
+use Rattle.std.proofs.lemmas.Slice.Eq.{bytes_eq-Decides}
+use Rattle.command_words.specs.Space.{Content, Held, Space, content_at, deadline_at}
+use Rattle.keyspace.specs.Lending.{with_content}
+
+module _ (key : List ℕ) (space : Space) where
+  -- to put what is there changes nothing
+  insert-same : (held : Held) → get space key ≡ Some held → insert space key held ≡ space
+  insert-same held at =
+      same_map nat_list_cmp_total (slice_cmp-IsAntisymmetric nat_cmp-IsAntisymmetric) _ _
+      (λ q. get-insert nat_list_cmp_total space key held q
+      ∙ kept q (eq_by_cmp (slice_cmp nat_cmp) q key) refl)
+    where
+      kept : (q : List ℕ) (b : Bool) → eq_by_cmp (slice_cmp nat_cmp) q key ≡ b
+          → cond b (Some held) (get space q) ≡ get space q
+      kept q false e = refl
+      kept q true e =
+          sym at ∙ ap (get space) (sym ((bytes_eq-Decides q key).0 (texts_ties q key ∙ e)))
+
+  -- a key that has a content takes another one, and keeps its deadline
+  pub with_content-insert : (had content : Content) → content_at key space ≡ Some had
+      → with_content key content space
+      ≡ insert space key (record { content = content; deadline = deadline_at key space })
+  with_content-insert had content = by (get space key)
+    where
+      by : (r : Option Held) → option_map (λ held. held.content) r ≡ Some had
+          → option_map_or (λ held. insert space key (record held { content = content })) r space
+          ≡ insert space key
+          (record { content = content; deadline = option_and_then (λ held. held.deadline) r })
+      by None e = absurd cc
+      by (Some held) e = refl
+
+  -- a key that takes the content that it has
+  pub with_content-same : (had : Content) → content_at key space ≡ Some had
+      → with_content key had space ≡ space
+  with_content-same had = by (get space key) refl
+    where
+      by : (r : Option Held) → get space key ≡ r → option_map (λ held. held.content) r ≡ Some had
+          → option_map_or (λ held. insert space key (record held { content = had })) r space ≡ space
+      by None at e = refl
+      by (Some held) at e =
+          let same : held.content ≡ had = cc in
+          ap (λ c. insert space key (record held { content = c })) (sym same) ∙ insert-same held at
+
+  -- a missing key stays missing
+  pub with_content-none : (content : Content) → content_at key space ≡ None
+      → with_content key content space ≡ space
+  with_content-none content = by (get space key)
+    where
+      by : (r : Option Held) → option_map (λ held. held.content) r ≡ None
+          → option_map_or (λ held. insert space key (record held { content = content })) r space ≡ space
+      by None e = refl
+      by (Some held) e = absurd cc

@@ -1,0 +1,9 @@
+//! The commands on strings, a function each.
+#![tactic(auto)]
+
+mod numbers;
+mod reads;
+mod run;
+mod writes;
+
+pub use run::run_string;

@@ -1,0 +1,230 @@
+//! The commands that write strings: SET, SETNX, GETDEL, APPEND and MSET.
+//!
+//! All that may fail comes before the keyspace changes.
+ghost use Rattle.std.specs.Prelude.{◌≡◌, ◌++◌, ℕ, List, IfOk, OnOk, OnErr, None, map};
+ghost use Rattle.resp_value.specs.Tree.{in_turn};
+ghost use Rattle.command_words.specs.KeyLists.{each_once};
+ghost use Rattle.command_words.specs.Space.{Text, content_at, deadline_at};
+ghost use Rattle.command_words.specs.Strings.{moment_after, set_deadline, set_effect, sets};
+ghost use Rattle.command_words.specs.Strings.{setnx_effect, getdel_effect, append_effect};
+ghost use Rattle.command_words.specs.Strings.{mset_effect, put_text};
+ghost use Rattle.string_cmds.specs.Extended.{HasText, IsExtended};
+ghost use Rattle.keyspace.specs.Plain.{content_of};
+ghost use Rattle.command_rows.specs.Rows.{IsRow};
+
+use super::reads::get;
+use command_rows::{ok, only, replied, too_long, wrong_type, wrote};
+use command_words::{Done, SetLife, SetWhen};
+use keyspace::{Content, Held, Keyspace};
+use resp_value::{NoMemory, Octets, Value, Words};
+use std::alloc::Global;
+
+/// The most bytes of a string.
+const MOST_BYTES: usize = 16_777_216;
+
+/// Whether SET with this option sets a key that is there, or one that is not.
+fn sets(when: SetWhen, there: bool) -> bool
+    ensures { result ≡ sets when there }
+{
+    match when {
+        SetWhen::Always => true,
+        SetWhen::Nx => !there,
+        SetWhen::Xx => there,
+    }
+}
+
+/// So many units of milliseconds after a moment, and at most the last moment.
+fn moment_after(moment: u64, unit: u64, number: i64) -> u64
+    ensures { result ≡ moment_after moment unit number }
+{
+    let length = number.unsigned_abs().saturating_mul(unit);
+    if number >= 0 {
+        moment.saturating_add(length)
+    } else {
+        moment.saturating_sub(length)
+    }
+}
+
+/// The deadline that SET leaves, from the one that the key had.
+fn deadline(life: SetLife, moment: u64, had: Option<u64>) -> Option<u64>
+    ensures { result ≡ set_deadline life moment had }
+{
+    match life {
+        SetLife::Cleared => None,
+        SetLife::Seconds(number) => Some(moment_after(moment, 1000, number)),
+        SetLife::Millis(number) => Some(moment_after(moment, 1, number)),
+        SetLife::Kept => had,
+    }
+}
+
+/// The deadline of the key.
+pub(crate) fn deadline_of(space: &Keyspace, key: &[u8]) -> Option<u64>
+    ensures { result ≡ deadline_at key.now space.now }
+{
+    match space.get(key) {
+        None => None,
+        Some(held) => held.deadline,
+    }
+}
+
+/// The key holds this string.
+pub(crate) fn put_text(
+    space: &mut Keyspace,
+    key: &[u8],
+    text: Octets,
+    deadline: Option<u64>,
+) -> Result<(), NoMemory>
+    ensures ok { OnOk result (space.new ≡ put_text key.now text deadline space.old) }
+    ensures err { OnErr result (space.new ≡ space.old) }
+{
+    let content = Content::Text(text);
+    space.put(key, Held { content, deadline })
+}
+
+pub(crate) fn set(
+    alloc: Global,
+    space: &mut Keyspace,
+    key: &[u8],
+    value: &Octets,
+    when: SetWhen,
+    life: SetLife,
+    moment: u64,
+) -> Result<Done, NoMemory>
+    ensures { IsRow (set_effect key.now value.now when life space.old moment)
+        result space.old space.new }
+{
+    if !sets(when, space.get(key).is_some()) {
+        return Ok(replied(alloc, Value::Null));
+    }
+    let reply = ok(alloc)?;
+    let keys = only(alloc, key)?;
+    let deadline = deadline(life, moment, deadline_of(space, key));
+    put_text(space, key, value.copy()?, deadline)?;
+    Ok(wrote(reply, keys))
+}
+
+pub(crate) fn setnx(
+    alloc: Global,
+    space: &mut Keyspace,
+    key: &[u8],
+    value: &Octets,
+) -> Result<Done, NoMemory>
+    ensures { IsRow (setnx_effect key.now value.now space.old) result space.old space.new }
+{
+    if space.get(key).is_some() {
+        return Ok(replied(alloc, Value::Number(0)));
+    }
+    let keys = only(alloc, key)?;
+    put_text(space, key, value.copy()?, None)?;
+    Ok(wrote(Value::Number(1), keys))
+}
+
+pub(crate) fn getdel(alloc: Global, space: &mut Keyspace, key: &[u8]) -> Result<Done, NoMemory>
+    ensures { IsRow (getdel_effect key.now space.old) result space.old space.new }
+{
+    let reply = get(alloc, space, key)?;
+    if let Value::Blob(_) = &reply {
+        let keys = only(alloc, key)?;
+        space.take(key);
+        return Ok(wrote(reply, keys));
+    }
+    Ok(replied(alloc, reply))
+}
+
+/// The bytes go after those of the string.
+fn extend(content: &mut Content, bytes: &[u8]) -> Result<(), NoMemory>
+    ensures ok { OnOk result
+        ((v : List ℕ) → content_of content.old ≡ Text v → content_of content.new ≡ Text (v ++ bytes.now)) }
+    ensures err { OnErr result (content.new ≡ content.old) }
+{
+    match content {
+        Content::Text(text) => text.append(bytes),
+        Content::Fields(_) => Ok(()),
+    }
+}
+
+/// The bytes go after those of the string of this key, in place.
+fn extend_text(space: &mut Keyspace, key: &[u8], bytes: &[u8]) -> Result<(), NoMemory>
+    ensures ok { OnOk result (IsExtended key.now bytes.now space.old space.new) }
+    ensures err { OnErr result (space.new ≡ space.old) }
+{
+    match space.content_mut(key) {
+        Some(content) => extend(content, bytes),
+        None => Ok(()),
+    }
+}
+
+/// APPEND to a key that is missing.
+fn append_first(
+    alloc: Global,
+    space: &mut Keyspace,
+    key: &[u8],
+    value: &Octets,
+) -> Result<Done, NoMemory>
+    requires { content_at key.now space.old ≡ None }
+    ensures { IsRow (append_effect key.now value.now space.old) result space.old space.new }
+{
+    let len = value.as_slice().len();
+    if len > MOST_BYTES {
+        return Ok(replied(alloc, too_long(alloc)?));
+    }
+    let keys = only(alloc, key)?;
+    put_text(space, key, value.copy()?, None)?;
+    Ok(wrote(Value::Number(len as i64), keys))
+}
+
+/// APPEND to a string of this length.
+fn append_more(
+    alloc: Global,
+    space: &mut Keyspace,
+    key: &[u8],
+    had: usize,
+    value: &Octets,
+) -> Result<Done, NoMemory>
+    requires { HasText had (content_at key.now space.old) }
+    ensures { IsRow (append_effect key.now value.now space.old) result space.old space.new }
+{
+    let bytes = value.as_slice();
+    if had > MOST_BYTES || bytes.len() > MOST_BYTES - had {
+        return Ok(replied(alloc, too_long(alloc)?));
+    }
+    let keys = only(alloc, key)?;
+    extend_text(space, key, bytes)?;
+    Ok(wrote(Value::Number((had + bytes.len()) as i64), keys))
+}
+
+pub(crate) fn append(
+    alloc: Global,
+    space: &mut Keyspace,
+    key: &[u8],
+    value: &Octets,
+) -> Result<Done, NoMemory>
+    ensures { IsRow (append_effect key.now value.now space.old) result space.old space.new }
+{
+    match space.get(key) {
+        None => append_first(alloc, space, key, value),
+        Some(held) => match &held.content {
+            Content::Text(text) => {
+                let had = text.as_slice().len();
+                append_more(alloc, space, key, had, value)
+            }
+            Content::Fields(_) => Ok(replied(alloc, wrong_type(alloc)?)),
+        },
+    }
+}
+
+pub(crate) fn mset(alloc: Global, space: &mut Keyspace, words: &[Octets]) -> Result<Done, NoMemory>
+    ensures { IsRow (mset_effect words.now space.old) result space.old space.new }
+{
+    let reply = ok(alloc)?;
+    let keys = each_key_once(alloc, words)?;
+    space.put_texts(words)?;
+    Ok(wrote(reply, keys))
+}
+
+/// The keys of keys and values in turn, each once, in order of first occurrence.
+fn each_key_once(alloc: Global, words: &[Octets]) -> Result<Words, NoMemory>
+    ensures { IfOk result (λ keys. keys ≡ each_once (map (λ p. p.0) (in_turn words.now))) }
+{
+    Err(NoMemory)
+}
