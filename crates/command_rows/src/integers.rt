@@ -20,11 +20,11 @@ pub enum Addition {
 }
 
 /// The number in shortest decimal.
-pub fn decimal(alloc: Global, number: i64) -> Result<Octets, NoMemory>
-    ensures { IfOk result (λ o. o ≡ signed_decimal number) }
+pub fn decimal(alloc: Global, number: &i64) -> Result<Octets, NoMemory>
+    ensures { IfOk result (λ o. o ≡ signed_decimal number.now) }
 {
     let mut digits = Buffer::new();
-    Octets::from_slice(alloc, digits.format(number).as_bytes())
+    Octets::from_slice(alloc, digits.format(*number).as_bytes())
 }
 
 /// The number that digits spell, if they begin with 1 to 9 and it is within the limit.

@@ -1,8 +1,10 @@
 //! The fields of a hash, in order of first insertion.
-ghost use Rattle.std.specs.Prelude.{◌≡◌, ◌-◌, ◌<◌, ◌^◌, [], IfOk, OnOk, OnErr, is_some, not};
+ghost use Rattle.std.specs.Prelude.{◌≡◌, ◌+◌, ◌-◌, ◌<◌, ◌^◌, [], IfOk, OnOk, OnErr, is_some, not};
+ghost use Rattle.std.specs.Prelude.{false, if◌then◌else◌};
 ghost use Rattle.std.specs.Prelude.{option_map, slice_get, length};
 ghost use Rattle.resp_value.specs.Tree.{in_turn};
 ghost use Rattle.command_words.specs.Hashes.{field_get, field_set, field_remove, set_all};
+ghost use Rattle.command_words.specs.Hashes.{remove_all};
 
 use super::copies::{copies_in_turn, insert_in_room};
 use indexmap::IndexMap;
@@ -92,7 +94,26 @@ impl Fields {
     pub fn remove(&mut self, field: &[u8]) -> bool
         ensures gone { self.new ≡ field_remove field.now self.old }
         ensures was { result ≡ is_some (field_get field.now self.old) }
+        ensures len { length self.new + (if result then 1 else 0) ≡ length self.old }
+        ensures kept { result ≡ false → self.new ≡ self.old }
     {
         self.table.shift_remove(field).is_some()
+    }
+
+    /// Takes these fields out; the answer is how many of them were there. Each moves the fields
+    /// after it.
+    pub fn remove_all(&mut self, names: &[Octets]) -> u64
+        ensures gone { self.new ≡ remove_all names.now self.old }
+        ensures went { result ≡ length self.old - length self.new }
+        ensures kept { result ≡ 0 → self.new ≡ self.old }
+        ensures small { result < 2 ^ 63 }
+    {
+        let before = self.len();
+        let mut left = names;
+        'names: while let [name, others @ ..] = left {
+            self.remove(name.as_slice());
+            left = others;
+        }
+        before - self.len()
     }
 }

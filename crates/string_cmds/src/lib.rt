@@ -1,6 +1,7 @@
 //! The commands on strings, a function each.
 #![tactic(auto)]
 
+mod keys;
 mod numbers;
 mod reads;
 mod run;

@@ -30,7 +30,7 @@ fn put_addition(
         Addition::Sum(sum) => {
             let keys = only(alloc, key)?;
             let deadline = deadline_of(space, key);
-            put_text(space, key, decimal(alloc, sum)?, deadline)?;
+            put_text(space, key, decimal(alloc, &sum)?, deadline)?;
             Ok(wrote(Value::Number(sum), keys))
         }
     }

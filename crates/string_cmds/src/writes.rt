@@ -1,9 +1,7 @@
 //! The commands that write strings: SET, SETNX, GETDEL, APPEND and MSET.
 //!
 //! All that may fail comes before the keyspace changes.
-ghost use Rattle.std.specs.Prelude.{◌≡◌, ◌++◌, ℕ, List, IfOk, OnOk, OnErr, None, map};
-ghost use Rattle.resp_value.specs.Tree.{in_turn};
-ghost use Rattle.command_words.specs.KeyLists.{each_once};
+ghost use Rattle.std.specs.Prelude.{◌≡◌, ◌++◌, ℕ, List, OnOk, OnErr, None};
 ghost use Rattle.command_words.specs.Space.{Text, content_at, deadline_at};
 ghost use Rattle.command_words.specs.Strings.{moment_after, set_deadline, set_effect, sets};
 ghost use Rattle.command_words.specs.Strings.{setnx_effect, getdel_effect, append_effect};
@@ -12,11 +10,12 @@ ghost use Rattle.string_cmds.specs.Extended.{HasText, IsExtended};
 ghost use Rattle.keyspace.specs.Plain.{content_of};
 ghost use Rattle.command_rows.specs.Rows.{IsRow};
 
+use super::keys::each_key_once;
 use super::reads::get;
 use command_rows::{ok, only, replied, too_long, wrong_type, wrote};
 use command_words::{Done, SetLife, SetWhen};
 use keyspace::{Content, Held, Keyspace};
-use resp_value::{NoMemory, Octets, Value, Words};
+use resp_value::{NoMemory, Octets, Value};
 use std::alloc::Global;
 
 /// The most bytes of a string.
@@ -220,11 +219,4 @@ pub(crate) fn mset(alloc: Global, space: &mut Keyspace, words: &[Octets]) -> Res
     let keys = each_key_once(alloc, words)?;
     space.put_texts(words)?;
     Ok(wrote(reply, keys))
-}
-
-/// The keys of keys and values in turn, each once, in order of first occurrence.
-fn each_key_once(alloc: Global, words: &[Octets]) -> Result<Words, NoMemory>
-    ensures { IfOk result (λ keys. keys ≡ each_once (map (λ p. p.0) (in_turn words.now))) }
-{
-    Err(NoMemory)
 }

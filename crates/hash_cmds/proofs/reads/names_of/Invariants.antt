@@ -1,0 +1,7 @@
+use Rattle.std.proofs.Common.{◌≡◌, map, take}
+use Rattle.resp_value.specs.declared.value.Value.TheVariants.{Blob}
+use Rattle.resp_value.specs.ValueTree.{tree_of}
+use Rattle.hash_cmds.proofs.reads.names_of.Given as goal
+
+abbrev pub invariant-loop-place : goal.invariant-loop-place
+invariant-loop-place l = l.values ≡ map (λ f. tree_of (Blob f.0)) (take l.place l.fields)

@@ -1,0 +1,150 @@
+//! Changes of the fields under a key. All that may fail comes first.
+ghost use Rattle.std.specs.Prelude.{◌≡◌, ◌<◌, ◌^◌, [], OnOk, OnErr, IfOk, Some, None, length};
+ghost use Rattle.resp_value.specs.Tree.{in_turn};
+ghost use Rattle.command_words.specs.Space.{content_at};
+ghost use Rattle.command_words.specs.Hashes.{remove_all, set_all};
+ghost use Rattle.keyspace.specs.Plain.{content_of};
+ghost use Rattle.hash_cmds.specs.Changed.{is_text, is_empty_hash, IsDropped};
+ghost use Rattle.hash_cmds.specs.Changed.{Becomes, Adds, AddsThere, Loses};
+ghost use Rattle.hash_cmds.specs.Changed.{HashBecomes, FieldsBecome};
+ghost use Rattle.hash_cmds.specs.Changed.{with_hash};
+
+use keyspace::{Content, Fields, Held, Keyspace};
+use resp_value::{NoMemory, Octets};
+use std::alloc::Global;
+
+/// Whether the key holds a string.
+pub(crate) fn holds_text(space: &Keyspace, key: &[u8]) -> bool
+    ensures { result ≡ is_text (content_at key.now space.now) }
+{
+    match space.get(key) {
+        None => false,
+        Some(held) => match &held.content {
+            Content::Text(_) => true,
+            Content::Fields(_) => false,
+        },
+    }
+}
+
+/// Whether the key holds a hash without fields.
+fn holds_empty(space: &Keyspace, key: &[u8]) -> bool
+    ensures { result ≡ is_empty_hash (content_at key.now space.now) }
+{
+    match space.get(key) {
+        None => false,
+        Some(held) => match &held.content {
+            Content::Text(_) => false,
+            Content::Fields(fields) => fields.len() == 0,
+        },
+    }
+}
+
+/// A hash without fields goes.
+pub(crate) fn drop_empty(space: &mut Keyspace, key: &[u8])
+    ensures { IsDropped key.now space.old space.new }
+{
+    if holds_empty(space, key) {
+        space.take(key);
+    }
+}
+
+/// Sets fields of a hash, in turn with their values; a string stays.
+fn set_in(content: &mut Content, words: &[Octets]) -> Result<u64, NoMemory>
+    ensures ok { OnOk result (Becomes (set_all (in_turn words.now))
+        (content_of content.old) (content_of content.new)) }
+    ensures added { IfOk result (Adds (set_all (in_turn words.now))
+        (Some (content_of content.old))) }
+    ensures small { IfOk result (λ n. n < 2 ^ 63) }
+    ensures err { OnErr result (content.new ≡ content.old) }
+{
+    match content {
+        Content::Fields(fields) => fields.set_all(words),
+        Content::Text(_) => Ok(0),
+    }
+}
+
+/// Takes fields out of a hash; a string stays.
+fn remove_in(content: &mut Content, names: &[Octets]) -> u64
+    ensures gone { Becomes (remove_all names.now)
+        (content_of content.old) (content_of content.new) }
+    ensures went { Loses (remove_all names.now) (Some (content_of content.old)) result }
+    ensures kept { result ≡ 0 → content.new ≡ content.old }
+    ensures small { result < 2 ^ 63 }
+{
+    match content {
+        Content::Fields(fields) => fields.remove_all(names),
+        Content::Text(_) => 0,
+    }
+}
+
+/// Sets fields under a key that is missing.
+fn set_first(
+    alloc: Global,
+    space: &mut Keyspace,
+    key: &[u8],
+    words: &[Octets],
+) -> Result<u64, NoMemory>
+    requires { content_at key.now space.old ≡ None }
+    ensures ok { OnOk result
+        (space.new ≡ with_hash key.now (set_all (in_turn words.now) []) space.old) }
+    ensures added { IfOk result (λ n. n ≡ length (set_all (in_turn words.now) [])) }
+    ensures small { IfOk result (λ n. n < 2 ^ 63) }
+    ensures err { OnErr result (space.new ≡ space.old) }
+{
+    let mut fields = Fields::new(alloc);
+    let added = fields.set_all(words)?;
+    let held = Held {
+        content: Content::Fields(fields),
+        deadline: None,
+    };
+    space.put(key, held)?;
+    Ok(added)
+}
+
+/// Sets fields under a key that is there.
+fn set_more(space: &mut Keyspace, key: &[u8], words: &[Octets]) -> Result<u64, NoMemory>
+    ensures ok { OnOk result
+        (FieldsBecome key.now (set_all (in_turn words.now)) space.old space.new) }
+    ensures added { IfOk result
+        (AddsThere (set_all (in_turn words.now)) (content_at key.now space.old)) }
+    ensures small { IfOk result (λ n. n < 2 ^ 63) }
+    ensures err { OnErr result (space.new ≡ space.old) }
+{
+    match space.content_mut(key) {
+        Some(content) => set_in(content, words),
+        None => Ok(0),
+    }
+}
+
+/// Sets fields under a key, in turn with their values; the answer is how many are new.
+pub(crate) fn set_fields(
+    alloc: Global,
+    space: &mut Keyspace,
+    key: &[u8],
+    words: &[Octets],
+) -> Result<u64, NoMemory>
+    ensures ok { OnOk result
+        (HashBecomes key.now (set_all (in_turn words.now)) space.old space.new) }
+    ensures added { IfOk result
+        (Adds (set_all (in_turn words.now)) (content_at key.now space.old)) }
+    ensures small { IfOk result (λ n. n < 2 ^ 63) }
+    ensures err { OnErr result (space.new ≡ space.old) }
+{
+    match space.get(key) {
+        None => set_first(alloc, space, key, words),
+        Some(_) => set_more(space, key, words),
+    }
+}
+
+/// Takes fields out under a key; the answer is how many were there.
+pub(crate) fn remove_fields(space: &mut Keyspace, key: &[u8], names: &[Octets]) -> u64
+    ensures gone { FieldsBecome key.now (remove_all names.now) space.old space.new }
+    ensures went { Loses (remove_all names.now) (content_at key.now space.old) result }
+    ensures kept { result ≡ 0 → space.new ≡ space.old }
+    ensures small { result < 2 ^ 63 }
+{
+    match space.content_mut(key) {
+        Some(content) => remove_in(content, names),
+        None => 0,
+    }
+}

@@ -1,0 +1,14 @@
+use Rattle.std.proofs.Common.{◌≡◌, ◌++◌, map, length}
+use Rattle.std.specs.List.{filter}
+use Rattle.resp_value.specs.Tree.{in_turn}
+use Rattle.command_words.specs.KeyLists.{each_once}
+use Rattle.string_cmds.proofs.KeysOnce.{is_fresh}
+use Rattle.string_cmds.proofs.keys.each_key_once.Given as goal
+
+abbrev pub invariant-keys : goal.invariant-keys
+invariant-keys l =
+    l.keys ++ filter (is_fresh l.met) (each_once (map (λ p. p.0) (in_turn l.left)))
+    ≡ each_once (map (λ p. p.0) (in_turn l.fn.words))
+
+abbrev pub decreases-keys : goal.decreases-keys
+decreases-keys l = length l.left
