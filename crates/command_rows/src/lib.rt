@@ -4,7 +4,7 @@
 mod integers;
 mod replies;
 
-pub use integers::{Addition, add, decimal, integer_of};
+pub use integers::{Addition, add, decimal};
 pub use replies::{
     blob, blob_or_null, error, hash_not_integer, not_integer, ok, only, overflow, replied,
     too_long, wrong_type, wrote,

@@ -1,5 +1,6 @@
 -- Rows of the commands on hashes, from what a change of the fields under a key gave.
-use Rattle.std.proofs.Common.{◌≡◌, ℕ, ◌+◌, ◌-◌, Bool, true, false, cond, List, [], ◌∷◌, ◌++◌, Option}
+use Rattle.std.proofs.Common.{◌≡◌, ℕ, ◌+◌, ◌-◌, Bool, true, false, cond, List, [], ◌∷◌, ◌++◌}
+use Rattle.std.proofs.Common.{Option}
 use Rattle.std.proofs.Common.{Some, None, Result, Ok, Err, OnErr, OnOk, refl, ap, sym, subst, ◌∙◌}
 use Rattle.std.proofs.Common.{ℤ, length, map, take, slice_get, zero, suc, add-one}
 use Rattle.std.specs.Prelude.{◌+ℤ◌, if◌then◌else◌}
@@ -74,7 +75,8 @@ module _ (key : List ℕ) where
       ap (option_map (λ h. h.content)) (get-insert nat_list_cmp_total space key held key
       ∙ ap (λ b. cond b (Some held) (get space key)) its_own)
 
-  remove-insert : (space : Space) (held : Held) → remove (insert space key held) key ≡ remove space key
+  remove-insert : (space : Space) (held : Held)
+      → remove (insert space key held) key ≡ remove space key
   remove-insert space held =
       same_map nat_list_cmp_total (slice_cmp-IsAntisymmetric nat_cmp-IsAntisymmetric) _ _
       (λ q. get-remove nat_list_cmp_total (insert space key held) key q

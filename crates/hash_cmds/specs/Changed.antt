@@ -46,7 +46,8 @@ AddsThere change old n =
 -- how many fields a change takes out; where it takes none, it changes nothing
 abbrev pub Loses : (Pairs → Pairs) → Option Content → ℕ → Type 0
 Loses change old n =
-    (fs : Pairs) → HasFields old fs → (n ≡ length fs - length (change fs)) × (n ≡ 0 → change fs ≡ fs)
+    (fs : Pairs) → HasFields old fs
+    → (n ≡ length fs - length (change fs)) × (n ≡ 0 → change fs ≡ fs)
 
 -- the hash of a key, after a change of its fields
 abbrev pub HashBecomes : List ℕ → (Pairs → Pairs) → Space → Space → Type 0

@@ -6,4 +6,7 @@ mod reads;
 mod run;
 mod writes;
 
-pub use run::run_hash;
+pub use run::{is_hash, run_hash};
+
+#[cfg(test)]
+mod tests;

@@ -13,7 +13,7 @@ use std::alloc::Global;
 
 /// Runs a command on hashes: the reply, the new keyspace and the keys that changed are those of
 /// the command's row, at any moment. Where memory runs out, the keyspace is as before.
-#[tactic(auto, unfolding(command_words::specs::Effects::effect, command_words::specs::Effects::hash_effect))]
+#[tactic(auto, unfolding(crate::specs::Rows::effect, crate::specs::Rows::hash_effect))]
 pub fn run_hash(
     alloc: Global,
     space: &mut Keyspace,
@@ -46,5 +46,24 @@ pub fn run_hash(
             hincrby(alloc, space, key.as_slice(), field.as_slice(), number)
         }
         _ => unreachable!(),
+    }
+}
+
+/// Whether the command is one on hashes.
+pub fn is_hash(command: &Command) -> bool
+    ensures { result ≡ is_hash command.now }
+{
+    match command {
+        Command::HSet(_, _)
+        | Command::HGet(_, _)
+        | Command::HMGet(_, _)
+        | Command::HGetAll(_)
+        | Command::HDel(_, _)
+        | Command::HLen(_)
+        | Command::HExists(_, _)
+        | Command::HKeys(_)
+        | Command::HVals(_)
+        | Command::HIncrBy(_, _, _) => true,
+        _ => false,
     }
 }

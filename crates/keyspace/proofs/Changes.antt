@@ -55,6 +55,7 @@ module _ (key : List ℕ) (space : Space) where
   with_content-none content = by (get space key)
     where
       by : (r : Option Held) → option_map (λ held. held.content) r ≡ None
-          → option_map_or (λ held. insert space key (record held { content = content })) r space ≡ space
+          → option_map_or (λ held. insert space key (record held { content = content })) r space
+          ≡ space
       by None e = refl
       by (Some held) e = absurd cc

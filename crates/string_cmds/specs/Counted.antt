@@ -1,5 +1,5 @@
 -- What is found where a number is added to the string of a key.
-use Rattle.std.specs.Prelude.{◌≡◌, ℕ, ℤ, List, Option, Some}
+use Rattle.std.specs.Prelude.{◌≡◌, ℕ, ℤ, List, Option}
 use Rattle.std.specs.Option.{option_map}
 use Rattle.command_words.specs.Space.{Text, Space, content_at}
 use Rattle.command_words.specs.Effect.{number_in}

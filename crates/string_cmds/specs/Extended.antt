@@ -7,6 +7,10 @@ use Rattle.command_words.specs.Strings.{put_text}
 abbrev pub HasText : ℕ → Option Content → Type 0
 HasText len content = (v : List ℕ) × (content ≡ Some (Text v)) × (length v ≡ len)
 
+-- a string, and then these bytes
+abbrev pub IsLonger : List ℕ → Content → Content → Type 0
+IsLonger bytes old new = (v : List ℕ) → old ≡ Text v → new ≡ Text (v ++ bytes)
+
 -- what the key held, if it was a string, and then these bytes; its deadline stays
 abbrev pub IsExtended : List ℕ → List ℕ → Space → Space → Type 0
 IsExtended key bytes old new =

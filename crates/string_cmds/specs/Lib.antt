@@ -1,2 +1,3 @@
 pub mod Extended
 pub mod Counted
+pub mod Rows

@@ -7,4 +7,7 @@ mod reads;
 mod run;
 mod writes;
 
-pub use run::run_string;
+pub use run::{is_string, run_string};
+
+#[cfg(test)]
+mod tests;

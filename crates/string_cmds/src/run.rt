@@ -14,7 +14,7 @@ use std::alloc::Global;
 
 /// Runs a command on strings: the reply, the new keyspace and the keys that changed are those of
 /// the command's row. Where memory runs out, the keyspace is as before.
-#[tactic(auto, unfolding(command_words::specs::Effects::effect, command_words::specs::Effects::string_effect))]
+#[tactic(auto, unfolding(crate::specs::Rows::effect, crate::specs::Rows::string_effect))]
 pub fn run_string(
     alloc: Global,
     space: &mut Keyspace,
@@ -43,5 +43,27 @@ pub fn run_string(
         Command::MGet(keys) => Ok(replied(alloc, mget(alloc, space, keys.as_slice())?)),
         Command::MSet(words) => mset(alloc, space, words.as_slice()),
         _ => unreachable!(),
+    }
+}
+
+/// Whether the command is one on strings.
+pub fn is_string(command: &Command) -> bool
+    ensures { result ≡ is_string command.now }
+{
+    match command {
+        Command::Get(_)
+        | Command::Set(_, _, _, _)
+        | Command::SetNx(_, _)
+        | Command::GetDel(_)
+        | Command::Append(_, _)
+        | Command::StrLen(_)
+        | Command::GetRange(_, _, _)
+        | Command::Incr(_)
+        | Command::Decr(_)
+        | Command::IncrBy(_, _)
+        | Command::DecrBy(_, _)
+        | Command::MGet(_)
+        | Command::MSet(_) => true,
+        _ => false,
     }
 }

@@ -1,12 +1,12 @@
 //! The commands that write strings: SET, SETNX, GETDEL, APPEND and MSET.
 //!
 //! All that may fail comes before the keyspace changes.
-ghost use Rattle.std.specs.Prelude.{◌≡◌, ◌++◌, ℕ, List, OnOk, OnErr, None};
-ghost use Rattle.command_words.specs.Space.{Text, content_at, deadline_at};
+ghost use Rattle.std.specs.Prelude.{◌≡◌, OnOk, OnErr, None};
+ghost use Rattle.command_words.specs.Space.{content_at, deadline_at};
 ghost use Rattle.command_words.specs.Strings.{moment_after, set_deadline, set_effect, sets};
 ghost use Rattle.command_words.specs.Strings.{setnx_effect, getdel_effect, append_effect};
 ghost use Rattle.command_words.specs.Strings.{mset_effect, put_text};
-ghost use Rattle.string_cmds.specs.Extended.{HasText, IsExtended};
+ghost use Rattle.string_cmds.specs.Extended.{HasText, IsLonger, IsExtended};
 ghost use Rattle.keyspace.specs.Plain.{content_of};
 ghost use Rattle.command_rows.specs.Rows.{IsRow};
 
@@ -133,7 +133,7 @@ pub(crate) fn getdel(alloc: Global, space: &mut Keyspace, key: &[u8]) -> Result<
 /// The bytes go after those of the string.
 fn extend(content: &mut Content, bytes: &[u8]) -> Result<(), NoMemory>
     ensures ok { OnOk result
-        ((v : List ℕ) → content_of content.old ≡ Text v → content_of content.new ≡ Text (v ++ bytes.now)) }
+        (IsLonger bytes.now (content_of content.old) (content_of content.new)) }
     ensures err { OnErr result (content.new ≡ content.old) }
 {
     match content {

@@ -1,4 +1,5 @@
-use Rattle.std.proofs.Common.{◌≡◌, List, ℕ, ap, sym, subst, ◌∙◌, ◌∷◌, ◌++◌, [], rules, to_z, of_z, w64}
+use Rattle.std.proofs.Common.{◌≡◌, List, ℕ, ap, sym, subst, ◌∙◌, ◌∷◌, ◌++◌, [], rules}
+use Rattle.std.proofs.Common.{to_z, of_z, w64}
 use Rattle.std.specs.Fmt.{signed_decimal}
 use Rattle.resp_value.specs.declared.value.Value.TheVariants.{Number}
 use Rattle.command_words.specs.declared.command.Signalled.TheVariants.{Keys}
