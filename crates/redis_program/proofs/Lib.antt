@@ -1,7 +1,9 @@
+pub mod Asked
+pub mod Refusals
 pub mod Bytes
 pub mod Splitting
 pub mod Scheduling
-pub mod Fronts
+pub mod LineTexts
 pub mod Playing
 pub mod Judging
 pub mod Finishing

@@ -1,40 +1,52 @@
 -- A schedule played so far, and how a line takes it on or brings it to an end.
-use Rattle.std.proofs.Common.{◌≡◌, ◌+◌, ℕ, List, [], ◌∷◌, ◌++◌, Some, Ok, Err, length, refl, sym, ap, subst, ◌∙◌, append-nil, arith, length-append, inl, inr}
+use Rattle.std.proofs.Common.{◌≡◌, ◌+◌, ℕ, List, [], ◌∷◌, ◌++◌, Some, None, Ok, Err, length, refl}
+use Rattle.std.proofs.Common.{sym, ap, subst, ◌∙◌, append-nil, arith, length-append, inl, inr}
 use Rattle.std.specs.declared.option.Option.{Option}
 use Rattle.std.specs.Io.KnownBytes.{Appends, Consumes, IsAtEnd}
+use Rattle.edge_links.specs.declared.counts.Counts.{Counts}
+use Rattle.edge_links.specs.Counts.{EndCounted, FaultCounted}
+use Rattle.serial_model.specs.declared.history.Limits.{Limits}
 use Rattle.script_text.specs.declared.event.Event.{Event}
 use Rattle.script_text.specs.declared.line.Line.{Line}
 use Rattle.script_text.specs.Printed.{text_of}
-use Rattle.world_run.specs.WorldState.{WorldState}
-use Rattle.world_run.specs.World.{start, step}
+use Rattle.world_run.specs.WorldState.{WorldState, start}
+use Rattle.world_run.specs.World.{step}
 use Rattle.world_run.specs.Transcript.{transcript, after}
-use Rattle.world_run.proofs.Serial.{one_history}
+use Rattle.world_run.proofs.Events.{follows, one_history}
+use Rattle.world_run.proofs.Delivery.{flow_delivers}
+use Rattle.redis_program.proofs.Refusals.{refused_silent}
 use Rattle.redis_program.specs.declared.status.Ending.{Ending}
-use Rattle.redis_program.specs.declared.status.Ending.TheVariants.{Done, BadLine, ReadFault, WriteFault, Refused, NoMemory}
-use Rattle.redis_program.specs.Lines.{IsPlain, ArePlain, ended, text_lines, AppendsFront}
-use Rattle.redis_program.specs.Schedule.{AreLinesOf, events_of}
-use Rattle.redis_program.specs.Run.{Plays, PlayedThen, ReadsWhole, Next, ComesTo, LineGives, LineCounted, EndingRead, EndingWrote}
-use Rattle.edge_links.specs.declared.counts.Counts.{Counts}
-use Rattle.edge_links.specs.Counts.{FaultsRose, EndsRose}
+use Rattle.redis_program.specs.declared.status.Ending.TheVariants.{Done, BadLine, ReadFault}
+use Rattle.redis_program.specs.declared.status.Ending.TheVariants.{WriteFault, Refused, HistoryFull}
+use Rattle.redis_program.specs.declared.status.Ending.TheVariants.{NoMemory}
+use Rattle.redis_program.specs.Headline.{AppendsFirst, AreLinesOf, ArePlain, IsPlain, Next, Plays}
+use Rattle.redis_program.specs.Headline.{PlayedThen, PlaysPart, ReadsWhole, ended, event_at}
+use Rattle.redis_program.specs.Headline.{text_lines}
+use Rattle.redis_program.specs.Playing.{ComesTo, EndingRead, EndingWrote, LineCounted, LineGives}
+use Rattle.redis_program.specs.Playing.{PartPrinted}
 use Rattle.redis_program.proofs.Bytes.{appends_none, appends_more, consumes_none, consumes_more}
+use Rattle.redis_program.proofs.Bytes.{first_then}
 use Rattle.redis_program.proofs.Splitting.{lines_ended, line_alone, plain_more, ended_more}
-use Rattle.redis_program.proofs.Scheduling.{are_more, after_front, transcript_front, after_played, transcript_played, text_more}
-use Rattle.redis_program.proofs.Fronts.{front_then}
+use Rattle.redis_program.proofs.Scheduling.{are_more, after_then, transcript_then, after_played}
+use Rattle.redis_program.proofs.Scheduling.{transcript_one, text_more}
+use Rattle.redis_program.proofs.LineTexts.{all_printed}
 
 -- whole lines were read and played, and what they print was written; the next line has this number
-pub record Standing (number : ℕ) (w : WorldState) (in0 in1 out0 out1 : Option (List ℕ)) : Type 0 where
+pub record Standing (limits : Limits) (number : ℕ) (w : WorldState)
+    (in0 in1 out0 out1 : Option (List ℕ)) : Type 0 where
   pub lines : List (List ℕ)
   pub events : List Event
   pub consumed : Consumes in0 in1 (ended lines)
   pub plain : ArePlain lines
   pub lines_are : AreLinesOf 1 lines events
-  pub played : after start events ≡ Some w
+  pub played : after (start limits) events ≡ Some w
   pub numbered : number ≡ length lines + 1
-  pub written : Appends out0 out1 (text_of (transcript start events))
+  pub written : Appends out0 out1 (text_of (transcript (start limits) events))
 
-pub standing_none : (w : WorldState) (input output : Option (List ℕ)) → w ≡ start → Standing 1 w input input output output
+pub standing_none : (limits : Limits) (w : WorldState) (input output : Option (List ℕ))
+    → w ≡ start limits → Standing limits 1 w input input output output
 unfolding text_of
-standing_none w input output e = record {
+standing_none limits w input output e = record {
   lines = [];
   events = [];
   consumed = consumes_none input;
@@ -45,169 +57,269 @@ standing_none w input output e = record {
   written = appends_none output;
 }
 
-plays_of : (lines : List (List ℕ)) (events : List Event) (w : WorldState) → AreLinesOf 1 lines events → after start events ≡ Some w → Plays lines events w
-plays_of lines events w a p = record { lines_are = a; played = p; one_history = one_history events w p }
-
--- more lines are printed behind those that were written
-pub written_more : (w : WorldState) (events ds : List Event) (lines : List Line) (out0 out1 out2 : Option (List ℕ)) → Appends out0 out1 (text_of (transcript start events)) → Appends out1 out2 (text_of lines)
-    → Appends out0 out2 (text_of (transcript start events ++ lines))
-written_more w events ds lines out0 out1 out2 p q =
-    subst (λ l. Appends out0 out2 l) (sym (text_more (transcript start events) lines)) (appends_more out0 out1 out2 (text_of (transcript start events)) (text_of lines) p q)
-
--- one more event was played
-event_more : (w new : WorldState) (events : List Event) (event : Event) (lines : List Line) → after start events ≡ Some w → step w event ≡ Ok (record { world = new; lines = lines })
-    → (after start (events ++ event ∷ []) ≡ Some new) × (transcript start (events ++ event ∷ []) ≡ transcript start events ++ lines)
-event_more w new events event lines p s = (
-  after_front start w events (event ∷ []) p ∙ after_played w event _ s,
-  transcript_front start w events (event ∷ []) p ∙ ap (λ l. transcript start events ++ l) (transcript_played w event _ s),
-)
-
-pub standing_more : (number : ℕ) (w new : WorldState) (line : List ℕ) (done : Unit {0}) (in0 in1 in2 out0 out1 out2 : Option (List ℕ)) → Standing number w in0 in1 out0 out1 → IsPlain line
-    → Consumes in1 in2 (line ++ 10 ∷ []) → LineGives number w line (Ok done) new out1 out2 → Standing (number + 1) new in0 in2 out0 out2
-standing_more number w new line done in0 in1 in2 out0 out1 out2 s p c g =
-    let event = g.1.0 in
-    let more = event_more w new s.events event g.0 s.played g.1.2 in
+plays_of : (limits : Limits) (lines : List (List ℕ)) (events : List Event) (w : WorldState)
+    → AreLinesOf 1 lines events → after (start limits) events ≡ Some w
+    → Plays limits lines events w
+plays_of limits lines events w a p =
     record {
-      lines = s.lines ++ line ∷ [];
-      events = s.events ++ event ∷ [];
-      consumed = subst (λ l. Consumes in0 in2 l) (sym (ended_more s.lines line)) (consumes_more in0 in1 in2 (ended s.lines) (line ++ 10 ∷ []) s.consumed c);
-      plain = plain_more s.lines line s.plain p;
-      lines_are = are_more 1 number s.lines s.events line event s.lines_are s.numbered g.1.1;
-      played = more.0;
-      numbered = omega (arith, s.numbered, length-append s.lines (line ∷ []));
-      written = subst (λ l. Appends out0 out2 (text_of l)) (sym more.1) (written_more w s.events [] g.0 out0 out1 out2 s.written g.2);
+      lines_are = a;
+      played = p;
+      one_history = one_history limits events w p;
+      flows = flow_delivers w;
     }
 
--- the last line was played, which the end of the source ended
-pub done_last : (number : ℕ) (w new : WorldState) (line : List ℕ) (done : Unit {0}) (in0 in1 in2 out0 out1 out2 : Option (List ℕ)) → Standing number w in0 in1 out0 out1 → IsPlain line
-    → (line ≡ [] → ⊥) → Consumes in1 in2 line → IsAtEnd in2 → LineGives number w line (Ok done) new out1 out2 → ComesTo in0 in2 Done out0 out2
-done_last number w new line done in0 in1 in2 out0 out1 out2 s p n c e g =
-    let event = g.1.0 in
-    let more = event_more w new s.events event g.0 s.played g.1.2 in
-    let split = lines_ended s.lines line s.plain ∙ ap (λ l. s.lines ++ l) (line_alone line p n) in (
-      text_of (transcript start (s.events ++ event ∷ [])),
-      record {
-        bytes = ended s.lines ++ line;
-        events = s.events ++ event ∷ [];
-        w = new;
-        consumed = consumes_more in0 in1 in2 (ended s.lines) line s.consumed c;
-        at_end = e;
-        plays = plays_of (text_lines (ended s.lines ++ line)) (s.events ++ event ∷ []) new
-            (subst (λ ls. AreLinesOf 1 ls (s.events ++ event ∷ [])) (sym split) (are_more 1 number s.lines s.events line event s.lines_are s.numbered g.1.1)) more.0;
-        prints = refl;
-      },
-      subst (λ l. Appends out0 out2 (text_of l)) (sym more.1) (written_more w s.events [] g.0 out0 out1 out2 s.written g.2),
-    )
-
--- nothing stands behind the lines
-pub done_here : (number : ℕ) (w : WorldState) (in0 in1 in2 out0 out1 : Option (List ℕ)) → Standing number w in0 in1 out0 out1 → Consumes in1 in2 [] → IsAtEnd in2 → ComesTo in0 in2 Done out0 out1
-done_here number w in0 in1 in2 out0 out1 s c e =
-    let split : text_lines (ended s.lines ++ []) ≡ s.lines = lines_ended s.lines [] s.plain ∙ append-nil s.lines in (
-      text_of (transcript start s.events),
-      record {
-        bytes = ended s.lines ++ [];
-        events = s.events;
-        w = w;
-        consumed = consumes_more in0 in1 in2 (ended s.lines) [] s.consumed c;
-        at_end = e;
-        plays = plays_of (text_lines (ended s.lines ++ [])) s.events w (subst (λ ls. AreLinesOf 1 ls s.events) (sym split) s.lines_are) s.played;
-        prints = refl;
-      },
-      s.written,
-    )
-
-played_then : (Nx : ℕ → WorldState → List ℕ → List Line → Type 0) (number : ℕ) (w : WorldState) (more : List ℕ) (printed : List Line) (in0 in1 in2 out0 out1 : Option (List ℕ))
-    → (s : Standing number w in0 in1 out0 out1) → Consumes in1 in2 more → Nx number w more printed → PlayedThen Nx in0 in2 (text_of (transcript start s.events ++ printed))
-played_then Nx number w more printed in0 in1 in2 out0 out1 s c next = record {
-  lines = s.lines;
-  events = s.events;
-  w = w;
-  more = more;
-  printed = printed;
-  reads = record { consumed = consumes_more in0 in1 in2 (ended s.lines) more s.consumed c; plain = s.plain };
-  plays = plays_of s.lines s.events w s.lines_are s.played;
-  next = subst (λ k. Nx k w more printed) s.numbered next;
-  prints = refl;
+part_of : (limits : Limits) (events : List Event) (w : WorldState) (n : ℕ) (line : List ℕ)
+    (printed : List Line) → after (start limits) events ≡ Some w
+    → (part : PartPrinted n w line printed) → PlaysPart limits events w part.0 printed
+part_of limits events w n line printed p part = record {
+  state = part.2;
+  lines = part.3;
+  reached = part.4;
+  begins = part.5;
+  follows = follows limits events w p part.0 part.2 part.3 part.4;
 }
 
--- something else was read behind the lines, and printed nothing
-pub ends_here : (Nx : ℕ → WorldState → List ℕ → List Line → Type 0) (number : ℕ) (w : WorldState) (more : List ℕ) (in0 in1 in2 out0 out1 : Option (List ℕ))
-    → Standing number w in0 in1 out0 out1 → Consumes in1 in2 more → Nx number w more [] → (body : List ℕ) × PlayedThen Nx in0 in2 body × Appends out0 out1 body
-ends_here Nx number w more in0 in1 in2 out0 out1 s c next = (
-  text_of (transcript start s.events ++ []),
-  played_then Nx number w more [] in0 in1 in2 out0 out1 s c next,
-  subst (λ l. Appends out0 out1 (text_of l)) (sym (append-nil (transcript start s.events))) s.written,
+-- more lines are printed after those that were written
+written_more : (all lines : List Line) (out0 out1 out2 : Option (List ℕ))
+    → Appends out0 out1 (text_of all) → Appends out1 out2 (text_of lines)
+    → Appends out0 out2 (text_of (all ++ lines))
+written_more all lines out0 out1 out2 p q =
+    subst (λ l. Appends out0 out2 l) (sym (text_more all lines))
+    (appends_more out0 out1 out2 (text_of all) (text_of lines) p q)
+
+-- one more event was played
+event_more : (limits : Limits) (w : WorldState) (events : List Event) (event : Event)
+    → after (start limits) events ≡ Some w → (step w event).fault ≡ None
+    → (after (start limits) (events ++ event ∷ []) ≡ Some (step w event).state)
+    × (transcript (start limits) (events ++ event ∷ [])
+    ≡ transcript (start limits) events ++ (step w event).lines)
+event_more limits w events event p none = (
+  after_then (start limits) w events (event ∷ []) p ∙ after_played w event none,
+  transcript_then (start limits) w events (event ∷ []) p
+      ∙ ap (λ l. transcript (start limits) events ++ l) (transcript_one w event),
 )
 
-ends_with : (Nx : ℕ → WorldState → List ℕ → List Line → Type 0) (number : ℕ) (w : WorldState) (more : List ℕ) (printed : List Line) (in0 in1 in2 out0 out1 out2 : Option (List ℕ))
-    → Standing number w in0 in1 out0 out1 → Consumes in1 in2 more → Nx number w more printed → Appends out1 out2 (text_of printed) → (body : List ℕ) × PlayedThen Nx in0 in2 body × Appends out0 out2 body
-ends_with Nx number w more printed in0 in1 in2 out0 out1 out2 s c next wrote =
-    (text_of (transcript start s.events ++ printed), played_then Nx number w more printed in0 in1 in2 out0 out1 s c next, written_more w s.events [] printed out0 out1 out2 s.written wrote)
+module _ (limits : Limits) (number : ℕ) (w : WorldState)
+    (in0 in1 in2 out0 out1 out2 : Option (List ℕ)) where
+  abbrev printed_by : List Event → List Line
+  printed_by events = transcript (start limits) events
 
-ends_cut : (Nx : ℕ → WorldState → List ℕ → List Line → Type 0) (number : ℕ) (w : WorldState) (more : List ℕ) (printed : List Line) (in0 in1 in2 out0 out1 out2 : Option (List ℕ))
-    → Standing number w in0 in1 out0 out1 → Consumes in1 in2 more → Nx number w more printed → AppendsFront out1 out2 (text_of printed) → (body : List ℕ) × PlayedThen Nx in0 in2 body × AppendsFront out0 out2 body
-ends_cut Nx number w more printed in0 in1 in2 out0 out1 out2 s c next wrote = (
-  text_of (transcript start s.events ++ printed),
-  played_then Nx number w more printed in0 in1 in2 out0 out1 s c next,
-  subst (λ l. AppendsFront out0 out2 l) (sym (text_more (transcript start s.events) printed)) (front_then out0 out1 out2 (text_of (transcript start s.events)) (text_of printed) s.written wrote),
-)
+  -- a line was played
+  module _ (new : WorldState) (line : List ℕ) (done : Unit {0})
+      (s : Standing limits number w in0 in1 out0 out1)
+      (g : LineGives number w line (Ok done) new out1 out2) where
+    abbrev event : Event
+    event = g.1.0
 
--- a line that was read whole brings the run to an ending
-pub line_ends : (ending : Ending) (number : ℕ) (w new : WorldState) (line more : List ℕ) (in0 in1 in2 out0 out1 out2 : Option (List ℕ)) → Standing number w in0 in1 out0 out1
-    → ReadsWhole line more in2 → Consumes in1 in2 more → LineGives number w line (Err ending) new out1 out2 → ComesTo in0 in2 ending out0 out2
-line_ends Done number w new line more in0 in1 in2 out0 out1 out2 s r c g = absurd g.1
-line_ends (BadLine k) number w new line more in0 in1 in2 out0 out1 out2 s r c g =
-    ends_with (Next (BadLine k) in2) number w more g.0 in0 in1 in2 out0 out1 out2 s c (g.1.0, g.1.1, line, inl r, g.1.2) g.2
-line_ends ReadFault number w new line more in0 in1 in2 out0 out1 out2 s r c g = absurd g.1
-line_ends WriteFault number w new line more in0 in1 in2 out0 out1 out2 s r c g =
-    ends_cut (Next WriteFault in2) number w more (transcript w (events_of number (line ∷ []))) in0 in1 in2 out0 out1 out2 s c (line, r, refl) g
-line_ends (Refused k f) number w new line more in0 in1 in2 out0 out1 out2 s r c g =
-    ends_with (Next (Refused k f) in2) number w more g.0 in0 in1 in2 out0 out1 out2 s c (g.1.0, g.1.1, line, g.1.2, r, g.1.3, g.1.4) g.2
-line_ends NoMemory number w new line more in0 in1 in2 out0 out1 out2 s r c g =
-    ends_with (Next NoMemory in2) number w more g.0 in0 in1 in2 out0 out1 out2 s c (inr (line, r, g.1)) g.2
+    abbrev events : List Event
+    events = s.events ++ event ∷ []
 
-pub line_brings : (ending : Ending) (number : ℕ) (w new : WorldState) (items line : List ℕ) (in0 in1 in2 out0 out1 out2 : Option (List ℕ)) → Standing number w in0 in1 out0 out1 → line ≡ items
-    → IsPlain items → Consumes in1 in2 (items ++ 10 ∷ []) → LineGives number w line (Err ending) new out1 out2 → ComesTo in0 in2 ending out0 out2
-line_brings ending number w new items line in0 in1 in2 out0 out1 out2 s e p c g =
-    line_ends ending number w new items (items ++ 10 ∷ []) in0 in1 in2 out0 out1 out2 s (p, inl refl) c (subst (λ l. LineGives number w l (Err ending) new out1 out2) e g)
+    played : after (start limits) events ≡ Some new
+    played = (event_more limits w s.events event s.played g.1.2).0 ∙ ap Some (sym g.1.3)
 
-pub last_brings : (ending : Ending) (number : ℕ) (w new : WorldState) (items line : List ℕ) (in0 in1 in2 out0 out1 out2 : Option (List ℕ)) → Standing number w in0 in1 out0 out1 → line ≡ items
-    → IsPlain items → (items ≡ [] → ⊥) → Consumes in1 in2 items → IsAtEnd in2 → LineGives number w line (Err ending) new out1 out2 → ComesTo in0 in2 ending out0 out2
-last_brings ending number w new items line in0 in1 in2 out0 out1 out2 s e p n c end g =
-    line_ends ending number w new items items in0 in1 in2 out0 out1 out2 s (p, inr (n, refl, end)) c (subst (λ l. LineGives number w l (Err ending) new out1 out2) e g)
+    written : Appends out0 out2 (text_of (printed_by events))
+    written =
+        subst (λ l. Appends out0 out2 (text_of l))
+        (ap (λ l. printed_by s.events ++ l) g.1.4
+        ∙ sym (event_more limits w s.events event s.played g.1.2).1)
+        (written_more (printed_by s.events) g.0 out0 out1 out2 s.written g.2)
+
+    lines_are : AreLinesOf 1 (s.lines ++ line ∷ []) events
+    lines_are = are_more 1 number s.lines s.events line event s.lines_are s.numbered g.1.1
+
+    pub standing_more : IsPlain line → Consumes in1 in2 (line ++ 10 ∷ [])
+        → Standing limits (number + 1) new in0 in2 out0 out2
+    standing_more p c = record {
+      lines = s.lines ++ line ∷ [];
+      events = events;
+      consumed = subst (λ l. Consumes in0 in2 l) (sym (ended_more s.lines line))
+          (consumes_more in0 in1 in2 (ended s.lines) (line ++ 10 ∷ []) s.consumed c);
+      plain = plain_more s.lines line s.plain p;
+      lines_are = lines_are;
+      played = played;
+      numbered = let n = s.numbered in omega (arith, length-append s.lines (line ∷ []));
+      written = written;
+    }
+
+    -- the end of the source ended it
+    pub done_last : IsPlain line → (line ≡ [] → ⊥) → Consumes in1 in2 line → IsAtEnd in2
+        → ComesTo limits in0 in2 Done out0 out2
+    done_last p some c e =
+        let split : text_lines (ended s.lines ++ line) ≡ s.lines ++ line ∷ [] =
+        lines_ended s.lines line s.plain ∙ ap (λ l. s.lines ++ l) (line_alone line p some) in (
+          text_of (printed_by events),
+          record {
+            bytes = ended s.lines ++ line;
+            events = events;
+            w = new;
+            consumed = consumes_more in0 in1 in2 (ended s.lines) line s.consumed c;
+            at_end = e;
+            plays = plays_of limits (text_lines (ended s.lines ++ line)) events new
+                (subst (λ ls. AreLinesOf 1 ls events) (sym split) lines_are) played;
+            prints = refl;
+          },
+          written,
+        )
+
+  -- nothing comes after the lines
+  pub done_here : Standing limits number w in0 in1 out0 out1 → Consumes in1 in2 [] → IsAtEnd in2
+      → ComesTo limits in0 in2 Done out0 out1
+  done_here s c e =
+      let split : text_lines (ended s.lines ++ []) ≡ s.lines =
+      lines_ended s.lines [] s.plain ∙ append-nil s.lines in (
+        text_of (printed_by s.events),
+        record {
+          bytes = ended s.lines ++ [];
+          events = s.events;
+          w = w;
+          consumed = consumes_more in0 in1 in2 (ended s.lines) [] s.consumed c;
+          at_end = e;
+          plays = plays_of limits (text_lines (ended s.lines ++ [])) s.events w
+              (subst (λ ls. AreLinesOf 1 ls s.events) (sym split) s.lines_are) s.played;
+          prints = refl;
+        },
+        s.written,
+      )
+
+  played_then : (ending : Ending) (more : List ℕ) (printed : List Line)
+      (s : Standing limits number w in0 in1 out0 out1) → Consumes in1 in2 more
+      → Next limits ending in2 s.events number w more printed
+      → PlayedThen limits ending in0 in2 (text_of (printed_by s.events ++ printed))
+  played_then ending more printed s c next = record {
+    lines = s.lines;
+    events = s.events;
+    w = w;
+    more = more;
+    printed = printed;
+    reads = record {
+      consumed = consumes_more in0 in1 in2 (ended s.lines) more s.consumed c;
+      plain = s.plain;
+    };
+    plays = plays_of limits s.lines s.events w s.lines_are s.played;
+    next = subst (λ k. Next limits ending in2 s.events k w more printed) s.numbered next;
+    prints = refl;
+  }
+
+  -- something else was read after the lines, and printed nothing
+  pub ends_here : (ending : Ending) (more : List ℕ) (s : Standing limits number w in0 in1 out0 out1)
+      → Consumes in1 in2 more → Next limits ending in2 s.events number w more []
+      → (body : List ℕ) × PlayedThen limits ending in0 in2 body × Appends out0 out1 body
+  ends_here ending more s c next = (
+    text_of (printed_by s.events ++ []),
+    played_then ending more [] s c next,
+    subst (λ l. Appends out0 out1 (text_of l)) (sym (append-nil (printed_by s.events))) s.written,
+  )
+
+  -- the next line printed this
+  ends_with : (ending : Ending) (more : List ℕ) (printed : List Line)
+      (s : Standing limits number w in0 in1 out0 out1) → Consumes in1 in2 more
+      → Next limits ending in2 s.events number w more printed
+      → Appends out1 out2 (text_of printed)
+      → (body : List ℕ) × PlayedThen limits ending in0 in2 body × Appends out0 out2 body
+  ends_with ending more printed s c next a = (
+    text_of (printed_by s.events ++ printed),
+    played_then ending more printed s c next,
+    written_more (printed_by s.events) printed out0 out1 out2 s.written a,
+  )
+
+  -- a line was read, and brought the run to an ending
+  pub line_ends : (ending : Ending) (new : WorldState) (line more : List ℕ)
+      → Standing limits number w in0 in1 out0 out1 → ReadsWhole line more in2
+      → Consumes in1 in2 more → LineGives number w line (Err ending) new out1 out2
+      → ComesTo limits in0 in2 ending out0 out2
+  line_ends Done new line more s r c g = absurd g.1
+  line_ends (BadLine k) new line more s r c g =
+      ends_with (BadLine k) more g.0 s c (g.1.0, g.1.1, line, inl r, g.1.2) g.2
+  line_ends ReadFault new line more s r c g = absurd g.1
+  line_ends WriteFault new line more s r c g =
+      let part = part_of limits s.events w number line g.0 s.played g.1 in (
+        text_of (printed_by s.events ++ g.0),
+        played_then WriteFault more g.0 s c (line, g.1.0, r, g.1.1, part),
+        subst (λ l. AppendsFirst out0 out2 l) (sym (text_more (printed_by s.events) g.0))
+            (first_then out0 out1 out2 (text_of (printed_by s.events)) (text_of g.0) s.written g.2),
+      )
+  line_ends (Refused k f) new line more s r c g =
+      let none = refused_silent w g.1.2 f g.1.4 g.1.1 in
+      ends_with (Refused k f) more g.0 s c
+      (g.1.0, g.1.5 ∙ none, g.1.1, line, g.1.2, r, g.1.3, g.1.4) g.2
+  line_ends HistoryFull new line more s r c g =
+      let printed = all_printed number w line g.1.0 g.0 g.1.1 g.1.4 in
+      let part = part_of limits s.events w number line g.0 s.played printed in
+      ends_with HistoryFull more g.0 s c
+      (line, g.1.0, g.1.2, r, g.1.1, g.1.3, g.1.4, part) g.2
+  line_ends NoMemory new line more s r c g = elim g.1 [
+    | inl none ↦ ends_with NoMemory more g.0 s c (inr (inl (none, line, r))) g.2
+    | inr part ↦
+        let plays = part_of limits s.events w number line g.0 s.played part in
+        ends_with NoMemory more g.0 s c (inr (inr (line, part.0, r, part.1, plays))) g.2
+  ]
+
+  -- the same of the bytes of a line, which is the line that was played
+  pub line_brings : (ending : Ending) (new : WorldState) (items line : List ℕ)
+      → Standing limits number w in0 in1 out0 out1 → line ≡ items → IsPlain items
+      → Consumes in1 in2 (items ++ 10 ∷ [])
+      → LineGives number w line (Err ending) new out1 out2 → ComesTo limits in0 in2 ending out0 out2
+  line_brings ending new items line s e p c g =
+      line_ends ending new items (items ++ 10 ∷ []) s (p, inl refl) c
+      (subst (λ l. LineGives number w l (Err ending) new out1 out2) e g)
+
+  pub last_brings : (ending : Ending) (new : WorldState) (items line : List ℕ)
+      → Standing limits number w in0 in1 out0 out1 → line ≡ items → IsPlain items
+      → (items ≡ [] → ⊥) → Consumes in1 in2 items → IsAtEnd in2
+      → LineGives number w line (Err ending) new out1 out2 → ComesTo limits in0 in2 ending out0 out2
+  last_brings ending new items line s e p some c end g =
+      line_ends ending new items items s (p, inr (some, refl, end)) c
+      (subst (λ l. LineGives number w l (Err ending) new out1 out2) e g)
+
+  pub line_played : (new : WorldState) (items line : List ℕ) (done : Unit {0})
+      → Standing limits number w in0 in1 out0 out1 → line ≡ items → IsPlain items
+      → Consumes in1 in2 (items ++ 10 ∷ [])
+      → LineGives number w line (Ok done) new out1 out2
+      → Standing limits (number + 1) new in0 in2 out0 out2
+  line_played new items line done s e p c g =
+      standing_more new items done s
+      (subst (λ l. LineGives number w l (Ok done) new out1 out2) e g) p c
+
+  pub last_played : (new : WorldState) (items line : List ℕ) (done : Unit {0})
+      → Standing limits number w in0 in1 out0 out1 → line ≡ items → IsPlain items
+      → (items ≡ [] → ⊥) → Consumes in1 in2 items → IsAtEnd in2
+      → LineGives number w line (Ok done) new out1 out2 → ComesTo limits in0 in2 Done out0 out2
+  last_played new items line done s e p some c end g =
+      done_last new items done s
+      (subst (λ l. LineGives number w l (Ok done) new out1 out2) e g) p some c end
 
 -- the world could not be made
-pub no_world : (input output : Option (List ℕ)) → ComesTo input input NoMemory output output
-no_world input output = ends_here (Next NoMemory input) 1 start [] input input input output output (standing_none start input output refl) (consumes_none input) (inl (refl, tt))
+pub no_world : (limits : Limits) (input output : Option (List ℕ))
+    → ComesTo limits input input NoMemory output output
+no_world limits input output =
+    ends_here limits 1 (start limits) input input input output output output NoMemory []
+    (standing_none limits (start limits) input output refl) (consumes_none input)
+    (inl (refl, tt))
 
-pub line_reads : (ending : Ending) (number : ℕ) (w new : WorldState) (line : List ℕ) (out1 out2 : Option (List ℕ)) (old now : Counts) → LineGives number w line (Err ending) new out1 out2 → EndingRead ending old now
+pub line_reads : (ending : Ending) (number : ℕ) (w new : WorldState) (line : List ℕ)
+    (out1 out2 : Option (List ℕ)) (old now : Counts)
+    → LineGives number w line (Err ending) new out1 out2 → EndingRead ending old now
 line_reads Done number w new line out1 out2 old now g = absurd g.1
 line_reads (BadLine k) number w new line out1 out2 old now g = tt
 line_reads ReadFault number w new line out1 out2 old now g = absurd g.1
 line_reads WriteFault number w new line out1 out2 old now g = tt
 line_reads (Refused k f) number w new line out1 out2 old now g = tt
+line_reads HistoryFull number w new line out1 out2 old now g = tt
 line_reads NoMemory number w new line out1 out2 old now g = tt
 
-pub line_wrote : (ending : Ending) (old mid now : Counts) → mid ≡ old → LineCounted (Err ending) mid now → EndingWrote ending old now
+pub line_wrote : (ending : Ending) (old mid now : Counts) → mid ≡ old
+    → LineCounted (Err ending) mid now → EndingWrote ending old now
 line_wrote Done old mid now e c = c ∙ e
 line_wrote (BadLine k) old mid now e c = c ∙ e
 line_wrote ReadFault old mid now e c = c ∙ e
-line_wrote WriteFault old mid now e c = subst (λ x. FaultsRose x now) e c
+line_wrote WriteFault old mid now e c = subst (λ x. FaultCounted x now) e c
 line_wrote (Refused k f) old mid now e c = c ∙ e
+line_wrote HistoryFull old mid now e c = c ∙ e
 line_wrote NoMemory old mid now e c = c ∙ e
 
-pub ends_rose : (old mid now : Counts) → mid ≡ old → EndsRose mid now → EndsRose old now
-ends_rose old mid now e r = subst (λ x. EndsRose x now) e r
+pub end_counted : (old mid now : Counts) → mid ≡ old → EndCounted mid now → EndCounted old now
+end_counted old mid now e r = subst (λ x. EndCounted x now) e r
 
-pub faults_rose : (old mid now : Counts) → mid ≡ old → FaultsRose mid now → FaultsRose old now
-faults_rose old mid now e r = subst (λ x. FaultsRose x now) e r
-
-pub line_played : (number : ℕ) (w new : WorldState) (items line : List ℕ) (done : Unit {0}) (in0 in1 in2 out0 out1 out2 : Option (List ℕ)) → Standing number w in0 in1 out0 out1 → line ≡ items
-    → IsPlain items → Consumes in1 in2 (items ++ 10 ∷ []) → LineGives number w line (Ok done) new out1 out2 → Standing (number + 1) new in0 in2 out0 out2
-line_played number w new items line done in0 in1 in2 out0 out1 out2 s e p c g =
-    standing_more number w new items done in0 in1 in2 out0 out1 out2 s p c (subst (λ l. LineGives number w l (Ok done) new out1 out2) e g)
-
-pub last_played : (number : ℕ) (w new : WorldState) (items line : List ℕ) (done : Unit {0}) (in0 in1 in2 out0 out1 out2 : Option (List ℕ)) → Standing number w in0 in1 out0 out1 → line ≡ items
-    → IsPlain items → (items ≡ [] → ⊥) → Consumes in1 in2 items → IsAtEnd in2 → LineGives number w line (Ok done) new out1 out2 → ComesTo in0 in2 Done out0 out2
-last_played number w new items line done in0 in1 in2 out0 out1 out2 s e p n c end g =
-    done_last number w new items done in0 in1 in2 out0 out1 out2 s p n c end (subst (λ l. LineGives number w l (Ok done) new out1 out2) e g)
+pub fault_counted : (old mid now : Counts) → mid ≡ old → FaultCounted mid now
+    → FaultCounted old now
+fault_counted old mid now e r = subst (λ x. FaultCounted x now) e r

@@ -1,5 +1,3 @@
-pub mod Status
-pub mod Lines
-pub mod Schedule
-pub mod Run
-pub mod Program
+pub mod Headline
+pub mod Streams
+pub mod Playing

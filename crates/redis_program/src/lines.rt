@@ -1,6 +1,6 @@
-// Lines of a source, read byte by byte, and bytes written whole to a sink.
+//! Lines of a source, read byte by byte, and bytes written whole to a sink.
 ghost use Rattle.std.specs.Prelude.{◌≡◌};
-ghost use Rattle.redis_program.specs.Lines.{ReadLine, LineCounts, WritesAll, AllCounts};
+ghost use Rattle.redis_program.specs.Streams.{ReadsLine, LineCounts, WritesAll, AllCounts};
 
 use edge_links::{Sink, Source, SourceRead, Wrote};
 use script_text::LONGEST_LINE;
@@ -13,7 +13,7 @@ pub enum LineRead {
     Line(Vec<u8>),
     /// A line that the end of the source ended.
     Last(Vec<u8>),
-    /// The source is at its end, and no byte stood before it.
+    /// The source is at its end, and no byte came before it.
     End,
     /// The line has more than `LONGEST_LINE` bytes.
     TooLong,
@@ -25,9 +25,9 @@ pub enum LineRead {
 #[derive(Clone, Copy, Debug, PartialEq, Eq)]
 pub struct SinkFailed;
 
-/// Reads the next line, and nothing behind it.
+/// Reads the next line, and nothing after it.
 pub fn read_line<S: Source>(alloc: Global, source: &mut S) -> LineRead
-    ensures bytes { ReadLine result (S.left source.old) (S.left source.new) }
+    ensures bytes { ReadsLine result (S.left source.old) (S.left source.new) }
     ensures counts { LineCounts result (S.counts source.old) (S.counts source.new) }
 {
     let mut line = Vec::new(alloc);

@@ -1,7 +1,6 @@
-// How a run of the program ends, what its last line says, and the number of its status.
-ghost use Rattle.std.specs.Prelude.{◌≡◌, ◌++◌, OnOk, IfOk};
-ghost use Rattle.std.specs.Fmt.{decimal};
-ghost use Rattle.redis_program.specs.Status.{exit_number, last_line, status_of};
+//! How a run of the program ends, what its last line says, and the number of its status.
+ghost use Rattle.std.specs.Prelude.{◌≡◌, IfOk, string_bytes};
+ghost use Rattle.redis_program.specs.Headline.{exit_number, last_line, status_of};
 
 use resp_value::NoMemory;
 use std::alloc::Global;
@@ -18,8 +17,10 @@ pub enum Status {
     BadLine,
     ReadFault,
     WriteFault,
-    /// The event of a line met a fault.
+    /// The event of a line can't be played.
     Refused,
+    /// The history has as many entries as it may.
+    HistoryFull,
     NoMemory,
 }
 
@@ -35,6 +36,7 @@ impl Status {
             Status::ReadFault => 4,
             Status::WriteFault => 5,
             Status::Refused => 7,
+            Status::HistoryFull => 9,
             Status::NoMemory => 10,
         }
     }
@@ -48,6 +50,7 @@ pub enum Ending {
     ReadFault,
     WriteFault,
     Refused { number: u64, fault: WorldFault },
+    HistoryFull,
     NoMemory,
 }
 
@@ -61,33 +64,26 @@ impl Ending {
             Ending::ReadFault => Status::ReadFault,
             Ending::WriteFault => Status::WriteFault,
             Ending::Refused { .. } => Status::Refused,
+            Ending::HistoryFull => Status::HistoryFull,
             Ending::NoMemory => Status::NoMemory,
         }
     }
 
     /// The last line, with its LF. There is none where all was played or nothing can be written.
-    pub fn last_line(self, alloc: Global) -> Result<Vec<u8>, NoMemory>
-        ensures { IfOk result (λ v. v.items ≡ last_line self) }
+    pub fn last_line(self, alloc: Global) -> Result<String, NoMemory>
+        ensures { IfOk result (λ s. string_bytes s ≡ last_line self) }
     {
-        let mut text = Vec::new(alloc);
-        match self {
-            Ending::Done | Ending::WriteFault => {}
-            Ending::BadLine { number } => {
-                put(&mut text, b"bad-line ")?;
-                put_number(&mut text, number)?;
-                put(&mut text, b"\n")?;
-            }
-            Ending::ReadFault => put(&mut text, b"read-fault\n")?,
+        Ok(match self {
+            Ending::Done | Ending::WriteFault => String::new(alloc),
+            Ending::BadLine { number } => format!(in alloc; "bad-line {number}\n")?,
+            Ending::ReadFault => format!(in alloc; "read-fault\n")?,
             Ending::Refused { number, fault } => {
-                put(&mut text, b"refused ")?;
-                put_number(&mut text, number)?;
-                put(&mut text, b" ")?;
-                put_number(&mut text, fault.number())?;
-                put(&mut text, b"\n")?;
+                let fault = fault.number();
+                format!(in alloc; "refused {number} {fault}\n")?
             }
-            Ending::NoMemory => put(&mut text, b"no-memory\n")?,
-        }
-        Ok(text)
+            Ending::HistoryFull => format!(in alloc; "history-full\n")?,
+            Ending::NoMemory => format!(in alloc; "no-memory\n")?,
+        })
     }
 }
 
@@ -99,18 +95,4 @@ impl From<NoMemory> for Ending {
     fn from(_: NoMemory) -> Self {
         Ending::NoMemory
     }
-}
-
-fn put(out: &mut Vec<u8>, bytes: &[u8]) -> Result<(), NoMemory>
-    ensures { OnOk result (out.new.items ≡ out.old.items ++ bytes.now) }
-{
-    out.extend_from_slice(bytes)?;
-    Ok(())
-}
-
-fn put_number(out: &mut Vec<u8>, number: u64) -> Result<(), NoMemory>
-    ensures { OnOk result (out.new.items ≡ out.old.items ++ decimal number) }
-{
-    let digits = number.to_string(*out.allocator())?;
-    put(out, digits.as_bytes())
 }

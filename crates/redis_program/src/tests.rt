@@ -1,8 +1,12 @@
-// The program over streams in memory, against worked examples.
-use super::program::run;
+//! The program over streams in memory, against worked examples.
+use super::dispatch::run;
+use super::line_fault::{find_line_fault, find_refusal};
 use super::status::Status;
-use edge_links::{FixedClock, MemoryNet, MemorySink, MemorySource};
+use edge_links::{
+    FixedClock, MemoryNet, MemorySink, MemorySource, Sink, Source, SourceRead, Wrote,
+};
 use std::alloc::{AllocError, Global};
+use std::cell::Cell;
 use std::sync::Wait;
 use std::test::Fail;
 use std::thread::Threads;
@@ -41,7 +45,8 @@ fn status_of<R: Threads + Wait + Sync>(
 const SET_AND_GET: &str = "raw r\nsay r SET foo bar\nsay r GET foo\nsay r GET nope\nflow r\n";
 
 const SET_AND_GET_WRITTEN: &str =
-    "#1 admit r 1\n#2 run r SET foo bar\n#3 run r GET foo\n#4 run r GET nope\n#5 take r 19\nr < +OK\\r\\n$3\\r\\nbar\\r\\n$-1\\r\\n\n";
+    "#1 admit r 1\n#2 run r SET foo bar\n#3 run r GET foo\n#4 run r GET nope\n#5 take r 19\n\
+     r < +OK\\r\\n$3\\r\\nbar\\r\\n$-1\\r\\n\n";
 
 #[test]
 fn a_run_writes_the_transcript_and_the_last_line_of_its_status(
@@ -57,6 +62,28 @@ fn a_run_writes_the_transcript_and_the_last_line_of_its_status(
         ("World", "raw r\n", Status::Usage, "usage\n"),
         ("world world", "raw r\n", Status::Usage, "usage\n"),
         ("world --table-max 2", "raw r\n", Status::Usage, "usage\n"),
+        ("world --out-max=2", "raw r\n", Status::Usage, "usage\n"),
+        (
+            "world --history-max 05",
+            "raw r\n",
+            Status::Usage,
+            "usage\n",
+        ),
+        ("storm --number 1 --steps 0", "", Status::Usage, "usage\n"),
+        ("serve --port 7000", "", Status::Usage, "usage\n"),
+        ("script --connect h:1", "", Status::Usage, "usage\n"),
+        (
+            "world --history-max 2",
+            "raw r\nraw s\nraw t\n",
+            Status::HistoryFull,
+            "#1 admit r 1\n#2 admit s 2\nhistory-full\n",
+        ),
+        (
+            "world --history-max=3",
+            "raw r\nsay r GET a\nsay r GET b\nsay r GET c\nflow r\nraw s\n",
+            Status::HistoryFull,
+            "#1 admit r 1\n#2 run r GET a\n#3 run r GET b\nhistory-full\n",
+        ),
         (
             "world",
             "raw r\nsya r GET\n",
@@ -123,7 +150,8 @@ fn a_run_writes_the_transcript_and_the_last_line_of_its_status(
         ),
         (
             "world",
-            "raw r\nbytes r *2\\r\\n$3\\r\\nGET\\r\\n$3\\r\\nfoo\\r\\n\nserve r 21\nserve r 1\nsend r\nrecv r\n",
+            "raw r\nbytes r *2\\r\\n$3\\r\\nGET\\r\\n$3\\r\\nfoo\\r\\n\n\
+             serve r 21\nserve r 1\nsend r\nrecv r\n",
             Status::Done,
             "#1 admit r 1\n#2 run r GET foo\n#3 take r 5\nr < $-1\\r\\n\n",
         ),
@@ -149,7 +177,9 @@ fn a_run_writes_the_transcript_and_the_last_line_of_its_status(
             "world",
             "raw r\nsay r Get\nsay r SET a b NX\nserve r\nsend r\nrecv r\nsend r 1\n",
             Status::Refused,
-            "#1 admit r 1\n#2 run r Get\n#3 run r SET a b NX\n#4 take r 69\nr < -ERR\\swrong\\snumber\\sof\\sarguments\\sfor\\s'get'\\scommand\\r\\n-ERR\\ssyntax\\serror\\r\\n\nrefused 7 3\n",
+            "#1 admit r 1\n#2 run r Get\n#3 run r SET a b NX\n#4 take r 69\n\
+             r < -ERR\\swrong\\snumber\\sof\\sarguments\\sfor\\s'get'\\scommand\\r\\n\
+             -ERR\\ssyntax\\serror\\r\\n\nrefused 7 3\n",
         ),
         (
             "world",
@@ -176,7 +206,8 @@ fn a_request_is_run_once_wherever_its_bytes_are_cut(rt: HostRuntime) -> Result<(
     let words = words_of(rt.alloc(), "world")?;
     for cut in 1..22 {
         let input = format!(in rt.alloc();
-            "raw r\nbytes r *2\\r\\n$3\\r\\nGET\\r\\n$3\\r\\nfoo\\r\\n\nserve r {}\nserve r {}\nsend r\nrecv r\n",
+            "raw r\nbytes r *2\\r\\n$3\\r\\nGET\\r\\n$3\\r\\nfoo\\r\\n\n\
+             serve r {}\nserve r {}\nsend r\nrecv r\n",
             cut,
             22_u64.saturating_sub(cut)
         )?;
@@ -225,6 +256,127 @@ fn a_fault_of_a_stream_ends_the_run_where_it_comes(rt: HostRuntime) -> Result<()
     Ok(())
 }
 
+/// A sink that says how many bytes it has.
+#[derive(Drop)]
+struct CountedSink<'a> {
+    sink: MemorySink,
+    written: &'a Cell<usize>,
+}
+
+impl Sink for CountedSink<'_> {
+    ghost contents = { λ s. ⟦<MemorySink as Sink>⟧.contents s.sink };
+
+    ghost counts = { λ s. ⟦<MemorySink as Sink>⟧.counts s.sink };
+
+    fn write(&mut self, bytes: &[u8]) -> Wrote {
+        let answer = self.sink.write(bytes);
+        self.written.set(self.sink.bytes().len());
+        answer
+    }
+}
+
+/// A source that notes at each read how many bytes were written by then.
+#[derive(Drop)]
+struct NotingSource<'a> {
+    source: MemorySource,
+    written: &'a Cell<usize>,
+    notes: Vec<usize>,
+}
+
+impl Source for NotingSource<'_> {
+    ghost left = { λ s. ⟦<MemorySource as Source>⟧.left s.source };
+
+    ghost counts = { λ s. ⟦<MemorySource as Source>⟧.counts s.source };
+
+    fn read(&mut self, buf: &mut [u8]) -> SourceRead {
+        let _ = self.notes.push(self.written.get());
+        self.source.read(buf)
+    }
+}
+
+#[test]
+fn what_a_line_prints_is_written_before_the_next_is_read(rt: HostRuntime) -> Result<(), Fail> {
+    let alloc = rt.alloc();
+    let written = Cell::new(0);
+    let input = text_bytes(alloc, "raw r\nraw s\nraw t\n")?;
+    let mut source = NotingSource {
+        source: MemorySource::new(input, Vec::new(alloc)),
+        written: &written,
+        notes: Vec::new(alloc),
+    };
+    let mut sink = CountedSink {
+        sink: MemorySink::new(alloc, 100, Vec::new(alloc))?,
+        written: &written,
+    };
+    let words = words_of(alloc, "world")?;
+    let clock = FixedClock { ms: 0 };
+    let net = &mut MemoryNet::new();
+    let outcome = run(
+        &rt,
+        alloc,
+        words.as_slice(),
+        &mut source,
+        &mut sink,
+        net,
+        &clock,
+    );
+    assert!(rt; outcome.status == Status::Done);
+    // Each line has 6 bytes, which are read one by one, and prints 13. The last read meets the end.
+    assert_eq!(rt; source.notes.len(), 19);
+    for (read, note) in source.notes.iter().enumerate() {
+        assert_eq!(rt; *note, read / 6 * 13, "at read {read}");
+    }
+    Ok(())
+}
+
+#[test]
+fn a_person_is_told_what_is_wrong_with_a_line(rt: HostRuntime) -> Result<(), Fail> {
+    let alloc = rt.alloc();
+    for (line, wanted) in [
+        ("", "it is empty, and a schedule has no empty lines"),
+        ("# first", "a schedule has no comments"),
+        (
+            "raw r\r",
+            "it ends in a carriage return, and lines end in a line feed alone",
+        ),
+        ("raw\tr", "it has a tab, and one space parts its words"),
+        ("raw  r", "one space, and no more, parts its words"),
+        ("raw r ", "one space, and no more, parts its words"),
+        (
+            "sya r",
+            "`sya` is no kind of line; kinds are raw, say, bytes, serve, send, recv, out, flow \
+             and cut",
+        ),
+        (
+            "raw rR",
+            "`rR` is no name of a link, which has 1 to 16 characters of a to z and 0 to 9",
+        ),
+        (
+            "serve r 05",
+            "`05` is no count of bytes, which is a number from 1 with no leading zero",
+        ),
+        ("raw", "its form is `raw R`"),
+        (
+            "say r",
+            "its form is `say R WORD.., each word in its printed form`",
+        ),
+    ] {
+        let fault = find_line_fault(1, line.as_bytes());
+        let told = format!(in alloc; "{fault}")?;
+        assert!(rt; told.as_str() == wanted, "{line}: {told}");
+    }
+    for (digit, line, wanted) in [
+        (b'1', "flow q", "no link is named q"),
+        (b'2', "raw r", "a link is named r already"),
+        (b'3', "serve r 1", "fewer bytes are there than it moves"),
+    ] {
+        let refusal = find_refusal(digit, line.as_bytes());
+        let told = format!(in alloc; "{refusal}")?;
+        assert!(rt; told.as_str() == wanted, "{line}: {told}");
+    }
+    Ok(())
+}
+
 #[test]
 fn each_status_has_its_number(rt: HostRuntime) {
     for (status, number) in [
@@ -234,6 +386,7 @@ fn each_status_has_its_number(rt: HostRuntime) {
         (Status::ReadFault, 4),
         (Status::WriteFault, 5),
         (Status::Refused, 7),
+        (Status::HistoryFull, 9),
         (Status::NoMemory, 10),
     ] {
         assert_eq!(rt; status.number(), number);

@@ -1,6 +1,6 @@
 use Rattle.std.proofs.Common.{◌≡◌, length}
 use Rattle.std.specs.Io.KnownBytes.{Consumes}
-use Rattle.redis_program.specs.Lines.{IsPlain}
+use Rattle.redis_program.specs.Headline.{IsPlain}
 use Rattle.redis_program.proofs.lines.read_line.Given as goal
 
 abbrev pub invariant-loop-count : goal.invariant-loop-count

@@ -3,7 +3,9 @@ use Rattle.std.specs.Io.KnownBytes.{Appends}
 use Rattle.redis_program.proofs.lines.write_all.Given as goal
 
 abbrev pub invariant-loop-rest : goal.invariant-loop-rest
-invariant-loop-rest g l = (done : List ℕ) × (l.bytes ≡ done ++ l.rest) × Appends (g.K.Sink.contents l.initial.sink) (g.K.Sink.contents l.sink) done
+invariant-loop-rest g l =
+    (done : List ℕ) × (l.bytes ≡ done ++ l.rest)
+    × Appends (g.K.Sink.contents l.initial.sink) (g.K.Sink.contents l.sink) done
     × (g.K.Sink.counts l.sink ≡ g.K.Sink.counts l.initial.sink)
 
 abbrev pub decreases-loop-rest : goal.decreases-loop-rest

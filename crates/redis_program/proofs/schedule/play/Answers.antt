@@ -1,0 +1,19 @@
+use Rattle.std.proofs.Common.{◌∙◌, sym}
+use Rattle.redis_program.proofs.Bytes.{appends_as, first_as}
+use Rattle.redis_program.proofs.LineTexts.{line_written, line_uncounted, line_cut}
+use Rattle.redis_program.proofs.schedule.play.Goals as goal
+
+pub returns-in-Ok-clause-gives : goal.returns-in-Ok-clause-gives
+returns-in-Ok-clause-gives g c =
+    line_written _ _ _ _ _ _ _ _ c.play_line-played.ensures
+    (appends_as _ _ _ _ c.as_slice.ensures.value c.in-Ok.ensures.bytes)
+
+pub returns-in-Ok-clause-counts : goal.returns-in-Ok-clause-counts
+returns-in-Ok-clause-counts g c =
+    line_uncounted _ _ _ _ _ _ _ _ c.play_line-played.ensures c.in-Ok.ensures.counts
+
+pub returns-clause-gives : goal.returns-clause-gives
+returns-clause-gives g c =
+    line_cut _ _ _ _ _ _ _ c.args.world.now _ c.play_line-played.ensures
+    (first_as _ _ _ _ c.as_slice.ensures.value c.in-Err.ensures.bytes.0)
+    (λ none. c.in-Err.ensures.bytes.1 (c.as_slice.ensures.value ∙ none))

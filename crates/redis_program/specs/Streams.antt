@@ -1,0 +1,40 @@
+-- What reading a line and writing bytes do to what a source has left and what a sink holds.
+use Rattle.std.specs.Prelude.{◌≡◌, ◌<◌, ℕ, List, [], ◌∷◌, ◌++◌, length, Result, Ok, Err}
+use Rattle.std.specs.declared.option.Option.{Option}
+use Rattle.std.specs.Io.KnownBytes.{Appends, Consumes, IsAtEnd}
+use Rattle.edge_links.specs.declared.counts.Counts.{Counts}
+use Rattle.edge_links.specs.Counts.{EndCounted, FaultCounted}
+use Rattle.script_text.specs.Events.{longest_line}
+use Rattle.redis_program.specs.declared.lines.LineRead.{LineRead}
+use Rattle.redis_program.specs.declared.lines.LineRead.TheVariants.{Line, Last, End, TooLong}
+use Rattle.redis_program.specs.declared.lines.LineRead.TheVariants.{Failed, NoMemory}
+use Rattle.redis_program.specs.declared.lines.SinkFailed.{SinkFailed}
+use Rattle.redis_program.specs.Headline.{AppendsFirst, IsPlain}
+
+abbrev pub ReadsLine : LineRead → Option (List ℕ) → Option (List ℕ) → Type 0
+ReadsLine (Line line) old new = IsPlain line.items × Consumes old new (line.items ++ 10 ∷ [])
+ReadsLine (Last line) old new =
+    IsPlain line.items × (line.items ≡ [] → ⊥) × Consumes old new line.items × IsAtEnd new
+ReadsLine End old new = Consumes old new [] × IsAtEnd new
+ReadsLine TooLong old new =
+    (part : List ℕ) × IsPlain part × (longest_line < length part) × Consumes old new part
+ReadsLine Failed old new = (part : List ℕ) × IsPlain part × Consumes old new part
+ReadsLine NoMemory old new = (part : List ℕ) × IsPlain part × Consumes old new part
+
+-- one answer is a counted fault, two are counted ends, and the others leave the counts as they were
+abbrev pub LineCounts : LineRead → Counts → Counts → Type 0
+LineCounts (Line line) old new = new ≡ old
+LineCounts (Last line) old new = EndCounted old new
+LineCounts End old new = EndCounted old new
+LineCounts TooLong old new = new ≡ old
+LineCounts Failed old new = FaultCounted old new
+LineCounts NoMemory old new = new ≡ old
+
+abbrev pub WritesAll : Result (Unit {0}) SinkFailed → Option (List ℕ) → Option (List ℕ) → List ℕ
+    → Type 0
+WritesAll (Ok done) old new bytes = Appends old new bytes
+WritesAll (Err failed) old new bytes = AppendsFirst old new bytes × (bytes ≡ [] → ⊥)
+
+abbrev pub AllCounts : Result (Unit {0}) SinkFailed → Counts → Counts → Type 0
+AllCounts (Ok done) old new = new ≡ old
+AllCounts (Err failed) old new = FaultCounted old new
