@@ -1,5 +1,6 @@
 -- Words ask for a world alone, as the table of what is not built stands, and its limits are valid.
-use Rattle.std.proofs.Common.{◌≡◌, ◌<◌, ◌≤◌, ◌&&◌, ◌||◌, ◌∙◌, ℕ, Bool, true, false, cond, codes, refl}
+use Rattle.std.proofs.Common.{◌≡◌, ◌<◌, ◌≤◌, ◌&&◌, ◌||◌, ◌∙◌, ℕ, Bool, true, false, cond, codes}
+use Rattle.std.proofs.Common.{refl}
 use Rattle.std.proofs.Common.{List, [], ◌∷◌, None, Some, arith, sym, ap, subst, leb-true}
 use Rattle.std.specs.declared.option.Option.{Option}
 use Rattle.std.specs.Option.{option_map}

@@ -14,16 +14,15 @@ use Rattle.script_text.specs.Events.{longest_line}
 use Rattle.script_text.specs.Printed.{text_of}
 use Rattle.world_run.specs.declared.fault.WorldFault.{WorldFault}
 use Rattle.world_run.specs.declared.fault.WorldFault.TheVariants as fault
+use Rattle.world_run.specs.Faults.{IsRefusal}
 use Rattle.world_run.specs.WorldState.{WorldState, start}
 use Rattle.world_run.specs.World.{step}
 use Rattle.world_run.specs.Transcript.{transcript}
-use Rattle.world_run.proofs.Events.{step_lines}
-use Rattle.redis_program.proofs.Refusals.{refused_silent}
+use Rattle.world_run.proofs.History.{faults_none, step_lines}
 use Rattle.redis_program.specs.declared.status.Ending.{Ending}
 use Rattle.redis_program.specs.declared.status.Ending.TheVariants.{Done, BadLine, ReadFault}
 use Rattle.redis_program.specs.declared.status.Ending.TheVariants.{WriteFault, Refused, HistoryFull}
 use Rattle.redis_program.specs.declared.status.Ending.TheVariants.{NoMemory}
-use Rattle.redis_program.specs.Headline.{IsRefusal}
 use Rattle.redis_program.specs.Headline.{Begins, Comes, EndsAs, Next, PlayedThen, Plays, PlaysPart}
 use Rattle.redis_program.specs.Headline.{ReadsBad, ReadsWhole, ended, ending_at, event_at}
 use Rattle.redis_program.specs.Headline.{events_of, faulty_or, first_fault, text_lines}
@@ -226,7 +225,7 @@ module _ (limits : Limits) where
       part_ends lines events w p x.0 more rest x.1 printed body x.2 x.3 x.4 b
   by_ending (Refused number f) lines events w more printed body rest d p x b =
       let k = whole_first x.3 more rest (Some rest) x.5 (λ e. e) in
-      let none = refused_silent w x.4 f x.7 x.2 in
+      let none = (faults_none w x.4 f x.7 x.2).1 in
       let ends = fault_ends lines events w p k.0 x.3 x.4 f printed body x.6 x.7
       (x.1 ∙ sym none) b in
       subst (λ t. EndsAs limits (lines ++ t) (Refused number f) body) (sym k.1) (

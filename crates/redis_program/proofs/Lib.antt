@@ -1,5 +1,4 @@
 pub mod Asked
-pub mod Refusals
 pub mod Bytes
 pub mod Splitting
 pub mod Scheduling

@@ -1,5 +1,6 @@
 -- What a line comes to, once its text was written or the sink failed in it.
-use Rattle.std.proofs.Common.{◌≡◌, ◌++◌, ℕ, List, [], ◌∷◌, Some, Ok, Err, Result, refl, sym, ap, subst}
+use Rattle.std.proofs.Common.{◌≡◌, ◌++◌, ℕ, List, [], ◌∷◌, Some, Ok, Err, Result, refl, sym, ap}
+use Rattle.std.proofs.Common.{subst}
 use Rattle.std.proofs.Common.{◌∙◌, inl, inr}
 use Rattle.std.specs.declared.option.Option.{Option}
 use Rattle.std.specs.Io.KnownBytes.{Appends}
@@ -21,7 +22,8 @@ use Rattle.redis_program.specs.Playing.{LineCounted, LineGives, LineText, PartPr
 use Rattle.redis_program.proofs.Scheduling.{text_none}
 
 -- all lines of an event
-abbrev pub all_printed : (n : ℕ) (w : WorldState) (line : List ℕ) (event : Event) (lines : List Line)
+abbrev pub all_printed : (n : ℕ) (w : WorldState) (line : List ℕ) (event : Event)
+    (lines : List Line)
     → event_at n line ≡ Some event → lines ≡ (step w event).lines → PartPrinted n w line lines
 all_printed n w line event lines at is = (
   event,
@@ -67,7 +69,8 @@ module _ (n : ℕ) (w new : WorldState) (line text : List ℕ) (old out : Option
   ]
 
 pub line_uncounted : (n : ℕ) (w new : WorldState) (line text : List ℕ) (before now : Counts)
-    (played : Result (Unit {0}) Ending) → LineText n w line played new text → now ≡ before → LineCounted played before now
+    (played : Result (Unit {0}) Ending) → LineText n w line played new text → now ≡ before
+    → LineCounted played before now
 line_uncounted n w new line text before now (Ok done) t e = e
 line_uncounted n w new line text before now (Err ending.Done) t e = e
 line_uncounted n w new line text before now (Err (ending.BadLine k)) t e = e

@@ -12,9 +12,7 @@ use Rattle.script_text.specs.Printed.{text_of}
 use Rattle.world_run.specs.WorldState.{WorldState, start}
 use Rattle.world_run.specs.World.{step}
 use Rattle.world_run.specs.Transcript.{transcript, after}
-use Rattle.world_run.proofs.Events.{follows, one_history}
-use Rattle.world_run.proofs.Delivery.{flow_delivers}
-use Rattle.redis_program.proofs.Refusals.{refused_silent}
+use Rattle.world_run.proofs.History.{faults_none, one_history}
 use Rattle.redis_program.specs.declared.status.Ending.{Ending}
 use Rattle.redis_program.specs.declared.status.Ending.TheVariants.{Done, BadLine, ReadFault}
 use Rattle.redis_program.specs.declared.status.Ending.TheVariants.{WriteFault, Refused, HistoryFull}
@@ -64,8 +62,8 @@ plays_of limits lines events w a p =
     record {
       lines_are = a;
       played = p;
-      one_history = one_history limits events w p;
-      flows = flow_delivers w;
+      one_history = (one_history limits events w p).0;
+      flows = (one_history limits events w p).2;
     }
 
 part_of : (limits : Limits) (events : List Event) (w : WorldState) (n : ℕ) (line : List ℕ)
@@ -76,7 +74,7 @@ part_of limits events w n line printed p part = record {
   lines = part.3;
   reached = part.4;
   begins = part.5;
-  follows = follows limits events w p part.0 part.2 part.3 part.4;
+  follows = (one_history limits events w p).1 part.0 part.2 part.3 part.4;
 }
 
 -- more lines are printed after those that were written
@@ -239,7 +237,7 @@ module _ (limits : Limits) (number : ℕ) (w : WorldState)
             (first_then out0 out1 out2 (text_of (printed_by s.events)) (text_of g.0) s.written g.2),
       )
   line_ends (Refused k f) new line more s r c g =
-      let none = refused_silent w g.1.2 f g.1.4 g.1.1 in
+      let none = (faults_none w g.1.2 f g.1.4 g.1.1).1 in
       ends_with (Refused k f) more g.0 s c
       (g.1.0, g.1.5 ∙ none, g.1.1, line, g.1.2, r, g.1.3, g.1.4) g.2
   line_ends HistoryFull new line more s r c g =

@@ -1,5 +1,6 @@
 -- Some lines of a schedule, and then more.
-use Rattle.std.proofs.Common.{◌≡◌, ◌+◌, ◌<◌, ◌≤◌, ℕ, List, [], ◌∷◌, ◌++◌, Some, None, length, refl, sym}
+use Rattle.std.proofs.Common.{◌≡◌, ◌+◌, ◌<◌, ◌≤◌, ℕ, List, [], ◌∷◌, ◌++◌, Some, None, length, refl}
+use Rattle.std.proofs.Common.{sym}
 use Rattle.std.proofs.Common.{ap, subst, ◌∙◌, append_assoc, append-nil, arith, Bool, true, false}
 use Rattle.std.proofs.Common.{cond, leb-true}
 use Rattle.std.specs.Prelude.{nat_le, ◌==◌}
@@ -106,7 +107,8 @@ fault_then w m n k (d ∷ events) ds h q =
     next = (step w d).state
 
     go : (f : Option WorldFault) → unless_fault f (after next events) None ≡ Some m
-        → (after next events ≡ Some m → first_fault next (n + 1) (events ++ ds) ≡ first_fault m k ds)
+        → (after next events ≡ Some m
+        → first_fault next (n + 1) (events ++ ds) ≡ first_fault m k ds)
         → at_fault f n (first_fault next (n + 1) (events ++ ds)) ≡ first_fault m k ds
     go (Some f) p later = absurd (let no : ⊥ = cc in no)
     go None p later = later p
@@ -154,12 +156,15 @@ too_long n line h =
     → nat_le (length line) longest_line ≡ false in
     let test : nat_le (length line) longest_line ≡ false =
     elim (nat_le (length line) longest_line) as P [
-      | true ↦ λ t. absurd (let le : length line ≤ longest_line = leb-true (length line) longest_line t in omega arith)
+      | true ↦ λ t. absurd
+          (let le : length line ≤ longest_line = leb-true (length line) longest_line t in
+          omega arith)
       | false ↦ λ t. t
     ] refl in
     let out : event_of line ≡ None =
     ap (λ b. cond b (event_of_parts (slice_split (λ b. b == 32) line)) None) test in
-    elim (nat_le n most_lines) as (λ b. cond b (event_of line) None ≡ None) [ true ↦ out | false ↦ refl ]
+    elim (nat_le n most_lines) as
+    (λ b. cond b (event_of line) None ≡ None) [ true ↦ out | false ↦ refl ]
 
 -- a line of the grammar is not past the last number
 pub numbered : (n : ℕ) (line : List ℕ) (event : Event) → event_at n line ≡ Some event

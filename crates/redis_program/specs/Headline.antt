@@ -15,7 +15,7 @@ use Rattle.script_text.specs.Printed.{text_of}
 use Rattle.command_line.specs.declared.settings.LimitSettings.{LimitSettings}
 use Rattle.world_run.specs.declared.fault.WorldFault.{WorldFault}
 use Rattle.world_run.specs.declared.fault.WorldFault.TheVariants as fault
-use Rattle.world_run.specs.Faults.{number_of}
+use Rattle.world_run.specs.Faults.{IsRefusal, number_of}
 use Rattle.world_run.specs.Outcome.{Reached}
 use Rattle.world_run.specs.WorldState.{WorldState, start}
 use Rattle.world_run.specs.World.{step}
@@ -101,14 +101,6 @@ abbrev pub transcript_of : Limits → List (List ℕ) → List Line
 transcript_of limits lines = transcript (start limits) (events_of 1 lines)
 
 -- ---- the verdict on a schedule
-
--- the fault refuses an event, of which then nothing is done and nothing is printed
-abbrev pub IsRefusal : WorldFault → Type 0
-IsRefusal fault.NoName = Unit {0}
-IsRefusal fault.NameTaken = Unit {0}
-IsRefusal fault.NothingThere = Unit {0}
-IsRefusal fault.NoMemory = ⊥
-IsRefusal (fault.HistoryFull entries) = ⊥
 
 abbrev pub at_fault : Option WorldFault → ℕ → Option (ℕ × WorldFault) → Option (ℕ × WorldFault)
 at_fault None number later = later

@@ -11,6 +11,7 @@ use Rattle.script_text.specs.declared.event.Event.{Event}
 use Rattle.script_text.specs.declared.line.Line.{Line}
 use Rattle.script_text.specs.Printed.{text_of}
 use Rattle.world_run.specs.declared.fault.WorldFault.TheVariants as fault
+use Rattle.world_run.specs.Faults.{IsRefusal}
 use Rattle.world_run.specs.Outcome.{Reached}
 use Rattle.world_run.specs.WorldState.{WorldState}
 use Rattle.world_run.specs.World.{step}
@@ -20,8 +21,7 @@ use Rattle.redis_program.specs.declared.status.Ending.{Ending}
 use Rattle.redis_program.specs.declared.status.Ending.TheVariants.{Done, BadLine, ReadFault}
 use Rattle.redis_program.specs.declared.status.Ending.TheVariants.{WriteFault, Refused, HistoryFull}
 use Rattle.redis_program.specs.declared.status.Ending.TheVariants.{NoMemory}
-use Rattle.redis_program.specs.Headline.{AppendsFirst, Comes, IsRefusal, event_at, last_line}
-use Rattle.redis_program.specs.Headline.{status_of}
+use Rattle.redis_program.specs.Headline.{AppendsFirst, Comes, event_at, last_line, status_of}
 
 -- the event of the line was played this far, and what is printed is the first of its lines
 abbrev pub PartPrinted : ℕ → WorldState → List ℕ → List Line → Type 0

@@ -44,7 +44,8 @@ pub fn run<R: Threads + Wait + Sync, S: Source, K: Sink, N: Net, C: Clock + Sync
 ) -> Outcome
     ensures usage { command_of (map string_bytes words.now) ≡ None
         → UsageGives result.status (K.contents output.old) (K.contents output.new) }
-    ensures usage_only { result.status ≡ status.Usage → command_of (map string_bytes words.now) ≡ None }
+    ensures usage_only { result.status ≡ status.Usage
+        → command_of (map string_bytes words.now) ≡ None }
     ensures unread { command_of (map string_bytes words.now) ≡ None → input.new ≡ input.old }
     ensures offline { _net.new ≡ _net.old }
     ensures world { (settings : LimitSettings)

@@ -74,7 +74,7 @@ impl fmt::Display for LineFault<'_> {
                 let word = Shown(word);
                 write!(
                     f,
-                    "`{word}` is no name of a link, which has 1 to 16 characters of a to z and 0 to 9"
+                    "`{word}` is no name of a link, which has 1 to 16 of a to z and 0 to 9"
                 )
             }
             LineFault::BadCount(word) => {

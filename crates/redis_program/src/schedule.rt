@@ -41,8 +41,10 @@ pub fn run_world<S: Source, K: Sink>(
         → ¬ Counted (K.counts output.old).faults (K.counts output.new).faults
         → IfSome (S.left input.old) (λ text. IsVerdict limits (text_lines text) result) }
     ensures understood { ¬ (result ≡ status.Usage) }
-    ensures done { result ≡ status.Done → Counted (S.counts input.old).ends (S.counts input.new).ends }
-    ensures read { result ≡ status.ReadFault → Counted (S.counts input.old).faults (S.counts input.new).faults }
+    ensures done { result ≡ status.Done
+        → Counted (S.counts input.old).ends (S.counts input.new).ends }
+    ensures read { result ≡ status.ReadFault
+        → Counted (S.counts input.old).faults (S.counts input.new).faults }
     ensures write { result ≡ status.WriteFault
         → Counted (K.counts output.old).faults (K.counts output.new).faults }
 {

@@ -349,7 +349,7 @@ fn a_person_is_told_what_is_wrong_with_a_line(rt: HostRuntime) -> Result<(), Fai
         ),
         (
             "raw rR",
-            "`rR` is no name of a link, which has 1 to 16 characters of a to z and 0 to 9",
+            "`rR` is no name of a link, which has 1 to 16 of a to z and 0 to 9",
         ),
         (
             "serve r 05",

@@ -6,8 +6,12 @@ pub returns-in-Err-clause-bytes : goal.returns-in-Err-clause-bytes
 returns-in-Err-clause-bytes g c =
     let inv = c.loop-count.invariant in
     let gave = c.in-Bytes.ensures in
-    let one : length c.read.new.buf ≡ 1 = c.read.auto.buf ∙ inv.one in
-    (c.loop-count.line.items ++ slice_index_or c.read.new.buf 0 0 ∷ [], plain_push _ _ inv.plain c.if-byte-eq10.false, consumes_byte _ _ _ _ _ _ inv.consumed gave.bytes.2 (only_byte _ _ gave.bytes.0 gave.bytes.1 one))
+    let one : length c.read.new.buf ≡ 1 = c.read.auto.buf ∙ inv.one in (
+      c.loop-count.line.items ++ slice_index_or c.read.new.buf 0 0 ∷ [],
+      plain_push _ _ inv.plain c.if-byte-eq10.false,
+      consumes_byte _ _ _ _ _ _ inv.consumed gave.bytes.2
+          (only_byte _ _ gave.bytes.0 gave.bytes.1 one),
+    )
 
 pub loop-count-preserved : goal.loop-count-preserved
 loop-count-preserved g c =
@@ -17,8 +21,13 @@ loop-count-preserved g c =
     let items = c.in-Ok.ensures.items in
     rw items (record {
       plain = plain_push _ _ inv.plain c.if-byte-eq10.false;
-      counted = omega (arith, inv.counted, length-append c.loop-count.line.items (slice_index_or c.read.new.buf 0 0 ∷ []));
-      consumed = consumes_byte _ _ _ _ _ _ inv.consumed gave.bytes.2 (only_byte _ _ gave.bytes.0 gave.bytes.1 one);
+      counted = omega (
+        arith,
+        inv.counted,
+        length-append c.loop-count.line.items (slice_index_or c.read.new.buf 0 0 ∷ []),
+      );
+      consumed = consumes_byte _ _ _ _ _ _ inv.consumed gave.bytes.2
+          (only_byte _ _ gave.bytes.0 gave.bytes.1 one);
       counts = gave.counts ∙ inv.counts;
       one = one;
     })
