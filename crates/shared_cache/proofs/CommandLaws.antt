@@ -1,10 +1,9 @@
 -- The laws of the commands of a legal log.
-use Rattle.std.proofs.Common.{◌≡◌, ◌+◌, ◌-◌, ◌<◌, ◌≤◌, ◌++◌, ◌⊎◌, ℕ, List}
+use Rattle.std.proofs.Common.{◌≡◌, ◌+◌, ◌-◌, ◌<◌, ◌≤◌, ◌++◌, ℕ, List}
 use Rattle.std.proofs.Common.{[], ◌∷◌, length, drop, Bool, true, false, cond, Option, Some}
 use Rattle.std.proofs.Common.{None, Ok, Err, Result, sym, ap, ◌∙◌, refl, subst, inl, inr, arith}
 use Rattle.std.proofs.Common.{append-nil, append_assoc, length-append, ne_eqb}
-use Rattle.std.specs.Prelude.{codes}
-use Rattle.std.proofs.lemmas.Bool.{cases_Bool, and_parts}
+use Rattle.std.proofs.lemmas.Bool.{cases_Bool}
 use Rattle.std.proofs.lemmas.List.{drop-append-le, drop_all, map-append, length-map}
 use Rattle.std.proofs.lemmas.Option.{slice_get_within}
 use Rattle.std.specs.Prelude.{map}
@@ -12,11 +11,8 @@ use Rattle.resp_value.specs.declared.value.Value.{Value}
 use Rattle.command_words.specs.declared.command.Command.{Command}
 use Rattle.command_words.specs.declared.command.Command.TheVariants as command
 use Rattle.command_words.specs.declared.command.WordFault.{WordFault}
-use Rattle.command_words.specs.Words.{is_name, reading_of, reading}
-use Rattle.command_words.specs.declared.command.WordFault.TheVariants.{Unknown}
-use Rattle.std.specs.Str.{str_to_ascii_lowercase}
-use Rattle.shared_cache.proofs.KeyTests.{bytes_same}
-use Rattle.command_words.specs.Control.{is_named_control, is_client_control, is_control}
+use Rattle.command_words.specs.Words.{reading}
+use Rattle.command_words.specs.Control.{is_control_command, reads_as_control, is_control}
 use Rattle.command_words.specs.Queries.{is_cacheable, reads_as_cacheable, with_upper_name, key_of}
 use Rattle.command_words.specs.Queries.{written, written_as, written_by, names, writes}
 use Rattle.shared_cache.specs.declared.log.Wire.{Wire}
@@ -54,68 +50,42 @@ is_cacheable_query : (p : Words) → IsQuery p → reads_as_cacheable (reading p
 is_cacheable_query p e = read_as_cacheable (reads_as_cacheable (reading p)) (with_upper_name p) p e
 
 has_words : (p : Words) → IsQuery p → 0 < length p
-has_words [] e = cc
+unfolding reading
+has_words [] e = absurd (let no : None ≡ Some [] = e in cc)
 has_words (w ∷ ws) e = omega arith
 
--- a cacheable command writes nothing
-cacheable_writes_none : (c : Command) (k : Key) → is_cacheable c ≡ true
-    → names (written c) k ≡ false
-cacheable_writes_none (command.Set key value when life) k e = cc
-cacheable_writes_none _ k e = refl
+-- a cacheable command writes nothing, and changes nothing of the connection
+cacheable_reads : (c : Command) (k : Key) → is_cacheable c ≡ true
+    → (names (written c) k ≡ false) × (is_control_command c ≡ false)
+cacheable_reads (command.Get key) k e = (refl, refl)
+cacheable_reads (command.StrLen key) k e = (refl, refl)
+cacheable_reads (command.GetRange key a b) k e = (refl, refl)
+cacheable_reads (command.HGet key field) k e = (refl, refl)
+cacheable_reads (command.HMGet key fields) k e = (refl, refl)
+cacheable_reads (command.HGetAll key) k e = (refl, refl)
+cacheable_reads (command.HLen key) k e = (refl, refl)
+cacheable_reads (command.HExists key field) k e = (refl, refl)
+cacheable_reads (command.HKeys key) k e = (refl, refl)
+cacheable_reads (command.HVals key) k e = (refl, refl)
+cacheable_reads _ k e = absurd (let no : false ≡ true = e in cc)
 
 reads_write_none : (r : Result Command WordFault) (k : Key) → reads_as_cacheable r ≡ true
     → names (written_as r) k ≡ false
-reads_write_none (Ok c) k e = cacheable_writes_none c k e
+reads_write_none (Ok c) k e = (cacheable_reads c k e).0
 reads_write_none (Err fault) k e = cc
 
 query_writes_none : (p : Words) (k : Key) → IsQuery p → writes p k ≡ false
 unfolding written_by
 query_writes_none p k e = reads_write_none (reading p) k (is_cacheable_query p e)
 
--- the words of a control command read as no command
-module _ (name : List ℕ) (ws : Words) where
-  named : (n : List ℕ) → is_name n name ≡ true → reading_of n ws ≡ Err Unknown
-      → reading (name ∷ ws) ≡ Err Unknown
-  named n e r = ap (λ l. reading_of l ws) (bytes_same (str_to_ascii_lowercase name) n e) ∙ r
-
-  either : (b t u : Bool) → cond b t u ≡ true → (b ≡ true) ⊎ (u ≡ true)
-  either true t u e = inl refl
-  either false t u e = inr e
-
-  control_unread : is_named_control name ws ≡ true → reading (name ∷ ws) ≡ Err Unknown
-  control_unread e = elim (either _ _ _ e) [
-    | inl a ↦ named (codes "hello") a refl
-    | inr f ↦ elim (either _ _ _ f) [
-      | inl a ↦ named (codes "reset") a refl
-      | inr g ↦ elim (either _ _ _ g) [
-        | inl a ↦ named (codes "quit") a refl
-        | inr h ↦ elim (either _ _ _ h) [
-          | inl a ↦ named (codes "shutdown") a refl
-          | inr i ↦ elim (either _ _ _ i) [
-            | inl a ↦ named (codes "subscribe") a refl
-            | inr j ↦ elim (either _ _ _ j) [
-              | inl a ↦ named (codes "unsubscribe") a refl
-              | inr k ↦ named (codes "client")
-                  (and_parts (is_name (codes "client") name) (is_client_control ws) k).0 refl
-            ]
-          ]
-        ]
-      ]
-    ]
-  ]
-
-plain_as : (p : Words) → IsQuery p → is_control p ≡ true → ⊥
-unfolding is_control
-plain_as [] e c = cc
-plain_as (name ∷ ws) e c = let no : None ≡ Some (name ∷ ws) =
-    sym (ap (λ r. cond (reads_as_cacheable r) (Some (with_upper_name (name ∷ ws))) None)
-    (control_unread name ws c)) ∙ e in cc
+reads_are_plain : (r : Result Command WordFault) → reads_as_cacheable r ≡ true
+    → reads_as_control r ≡ false
+reads_are_plain (Ok c) e = (cacheable_reads c [] e).1
+reads_are_plain (Err fault) e = cc
 
 query_is_plain : (p : Words) → IsQuery p → is_control p ≡ false
-query_is_plain p e = elim (cases_Bool (is_control p)) [
-  | inl c ↦ absurd (plain_as p e c)
-  | inr plain ↦ plain
-]
+unfolding is_control
+query_is_plain p e = reads_are_plain (reading p) (is_cacheable_query p e)
 
 every_put : (P : SentCommand → Type 0) (o : Option CacheEntry) (m : ClientMode) (on : Bool)
     (q : Words) → P (record { words = q; origin = Caller }) → Every P (put_ask o m on q)
