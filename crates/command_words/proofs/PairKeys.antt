@@ -1,5 +1,6 @@
 -- The keys among keys and values in turn, one after the other.
-use Rattle.std.proofs.Common.{◌≡◌, ◌∙◌, ◌≤◌, ◌-◌, refl, ap, ℕ, List, [], ◌∷◌, ◌++◌, length, take, drop}
+use Rattle.std.proofs.Common.{◌≡◌, ◌∙◌, ◌≤◌, ◌-◌, refl, ap, ℕ, List, [], ◌∷◌, ◌++◌, length, take}
+use Rattle.std.proofs.Common.{drop}
 use Rattle.std.proofs.Common.{get_or, arith}
 use Rattle.std.proofs.lemmas.List.{take_all}
 use Rattle.command_words.specs.Queries.{keys_in_turn}
@@ -14,5 +15,7 @@ pub next_key : (out ws : List (List ℕ)) (k x : List ℕ) → 2 ≤ length ws �
 next_key out [] k x le e is = absurd (omega (arith, le))
 next_key out (a ∷ []) k x le e is = absurd (omega (arith, le))
 next_key out (a ∷ b ∷ ws) k x le e is =
-    ap (λ l. (out ++ k ∷ []) ++ keys_in_turn l) (take_all (length (a ∷ b ∷ ws) - 2) ws (omega arith)) ∙ after_key out k b ws
+    ap (λ l. (out ++ k ∷ []) ++ keys_in_turn l)
+    (take_all (length (a ∷ b ∷ ws) - 2) ws (omega arith))
+    ∙ after_key out k b ws
     ∙ ap (λ a. out ++ keys_in_turn (a ∷ b ∷ ws)) (e ∙ is)

@@ -1,5 +1,6 @@
 -- The words of a query are those of the same query.
-use Rattle.std.proofs.Common.{◌≡◌, ◌<◌, refl, arith, ℕ, List, [], ◌∷◌, Bool, true, false, Some, None}
+use Rattle.std.proofs.Common.{◌≡◌, ◌<◌, refl, arith, ℕ, List, [], ◌∷◌, Bool, true, false, Some}
+use Rattle.std.proofs.Common.{None}
 use Rattle.std.proofs.Common.{length, slice_index_or}
 use Rattle.std.specs.Prelude.{if◌then◌else◌}
 use Rattle.std.specs.Str.{str_to_ascii_lowercase, str_to_ascii_uppercase}
@@ -42,7 +43,8 @@ has_key [] is_query = cc
 has_key (name ∷ []) is_query = absurd (not_a_query name _ is_query)
 has_key (name ∷ key ∷ words) is_query = omega arith
 
-pub key_at : (ws : List (List ℕ)) (x : List ℕ) → query_of ws ≡ Some ws → slice_index_or ws 1 x ≡ key_of ws
+pub key_at : (ws : List (List ℕ)) (x : List ℕ) → query_of ws ≡ Some ws →
+    slice_index_or ws 1 x ≡ key_of ws
 unfolding reading
 key_at [] x is_query = cc
 key_at (name ∷ []) x is_query = absurd (not_a_query name _ is_query)

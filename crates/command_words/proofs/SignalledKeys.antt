@@ -34,7 +34,8 @@ module _ {w : Written} where
   either false only rest = rest
 
   text : (content : Option Content) (space : Space) (row : Option (List ℕ) → Effect) →
-      ((v : Option (List ℕ)) → Only w (row v)) → Only w (on_text (replied wrong_type space) row content)
+      ((v : Option (List ℕ)) → Only w (row v)) →
+      Only w (on_text (replied wrong_type space) row content)
   text None space row only = only None
   text (Some (Text v)) space row only = only (Some v)
   text (Some (Fields fs)) space row only = none
@@ -45,7 +46,8 @@ module _ {w : Written} where
   fields (Some (Text v)) space row only = none
   fields (Some (Fields fs)) space row only = only fs
 
-own : {keys : List (List ℕ)} {reply : Value} {space : Space} → Only (Keys keys) (wrote reply keys space)
+own : {keys : List (List ℕ)} {reply : Value} {space : Space} →
+    Only (Keys keys) (wrote reply keys space)
 own = record { is = λ k signalled. signalled }
 
 getdel : (key : List ℕ) (v : Option (List ℕ)) (space : Space) →

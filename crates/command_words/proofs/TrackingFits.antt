@@ -1,5 +1,6 @@
 -- Which options of CLIENT TRACKING are well formed, by whether a redirection was read before.
-use Rattle.std.proofs.Common.{◌≡◌, ◌∙◌, ap, refl, ℕ, List, [], ◌∷◌, Bool, true, false, ◌&&◌, Option, Some, None, ℤ}
+use Rattle.std.proofs.Common.{◌≡◌, ◌∙◌, ap, refl, ℕ, List, [], ◌∷◌, Bool, true, false, ◌&&◌, Option}
+use Rattle.std.proofs.Common.{Some, None, ℤ}
 use Rattle.std.specs.Prelude.{if◌then◌else◌, is_ok, is_some, codes, ◌++◌}
 use Rattle.command_words.specs.declared.command.TrackOptions.{TrackOptions}
 use Rattle.command_words.specs.Integers.{integer_of}

@@ -43,8 +43,10 @@ key_reading name words =
     if bytes_eq name (codes "exists") then read_as Exists (at_least_one words) else
     if bytes_eq name (codes "type") then read_as KeyType (one words) else
     if bytes_eq name (codes "rename") then read_as (λ p. Rename p.0 p.1) (two words) else
-    if bytes_eq name (codes "expire") then read_as (λ p. Expire p.0 p.1) (one_and_seconds words) else
-    if bytes_eq name (codes "pexpire") then read_as (λ p. PExpire p.0 p.1) (one_and_number words) else
+    if bytes_eq name (codes "expire")
+    then read_as (λ p. Expire p.0 p.1) (one_and_seconds words) else
+    if bytes_eq name (codes "pexpire")
+    then read_as (λ p. PExpire p.0 p.1) (one_and_number words) else
     if bytes_eq name (codes "expireat")
     then read_as (λ p. ExpireAt p.0 p.1) (one_and_seconds words) else
     if bytes_eq name (codes "pexpireat")

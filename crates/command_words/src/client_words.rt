@@ -37,7 +37,8 @@ fn yes_or_no(words: &[Octets]) -> Result<bool, WordFault>
 pub(crate) fn client_name(word: &Octets) -> Option<ClientName>
     ensures some { IfSome result (λ n. str_to_ascii_lowercase word.now ≡ client_name_text n) }
     ensures none { IfNone result
-        ((n : ClientName) → bytes_eq (str_to_ascii_lowercase word.now) (client_name_text n) ≡ false) }
+        ((n : ClientName) → bytes_eq (str_to_ascii_lowercase word.now)
+        (client_name_text n) ≡ false) }
 {
     if is_named(word, b"id") {
         Some(ClientName::Id)

@@ -52,7 +52,8 @@ fn save_mode(words: &[Octets]) -> Result<SaveMode, WordFault>
 pub(crate) fn connection_name(word: &Octets) -> Option<ConnectionName>
     ensures some { IfSome result (λ n. str_to_ascii_lowercase word.now ≡ connection_name_text n) }
     ensures none { IfNone result
-        ((n : ConnectionName) → bytes_eq (str_to_ascii_lowercase word.now) (connection_name_text n) ≡ false) }
+        ((n : ConnectionName) → bytes_eq (str_to_ascii_lowercase word.now)
+        (connection_name_text n) ≡ false) }
 {
     if is_named(word, b"ping") {
         Some(ConnectionName::Ping)

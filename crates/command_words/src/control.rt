@@ -81,7 +81,8 @@ fn is_client_control(name: ClientName, words: &[Octets]) -> bool
 }
 
 fn is_client_named(name: &Octets, words: &[Octets]) -> bool
-    ensures { result ≡ reads_as_control (client_reading (str_to_ascii_lowercase name.now) words.now) }
+    ensures { result
+        ≡ reads_as_control (client_reading (str_to_ascii_lowercase name.now) words.now) }
 {
     match client_name(name) {
         Some(name) => is_client_control(name, words),

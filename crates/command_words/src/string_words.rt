@@ -62,7 +62,8 @@ fn read_range(words: &[Octets]) -> Result<Command, WordFault>
 fn string_name(word: &Octets) -> Option<StringName>
     ensures some { IfSome result (λ n. str_to_ascii_lowercase word.now ≡ string_name_text n) }
     ensures none { IfNone result
-        ((n : StringName) → bytes_eq (str_to_ascii_lowercase word.now) (string_name_text n) ≡ false) }
+        ((n : StringName) → bytes_eq (str_to_ascii_lowercase word.now)
+        (string_name_text n) ≡ false) }
 {
     if is_named(word, b"get") {
         Some(StringName::Get)

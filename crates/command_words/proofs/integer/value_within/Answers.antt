@@ -7,6 +7,7 @@ returns-then-number-gt922337203685477580 c =
     let loop = c.loop-digit in
     let left = drop loop.digit-index c.args.digits.now in
     let past =
-    too_large loop.number c.args.limit left (omega (arith, length-drop {A = ℕ})) (omega arith) (omega arith)
+    too_large loop.number c.args.limit left (omega (arith, length-drop {A = ℕ}))
+    (omega arith) (omega arith)
     in
     rw (loop.invariant.0, past) refl
