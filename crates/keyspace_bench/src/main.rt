@@ -1,8 +1,8 @@
 //! Runs commands on a keyspace of many keys, or on one hash of many fields, and prints how many
 //! there are in the end.
 //!
-//! `keyspace_bench keys 1000 2000000` makes 1000 keys and then runs two million commands, SET and GET
-//! in turn; `fields` does so with the fields of one hash, HSET and HGET in turn.
+//! `keyspace_bench keys 1000 2000000` makes 1000 keys and then runs two million commands, SET and
+//! GET in turn; `fields` does so with the fields of one hash, HSET and HGET in turn.
 #![tactic(auto)]
 
 ghost use Rattle.std.specs.Prelude.{◌≡◌, ◌++◌, IfOk, codes, decimal, true};

@@ -19,14 +19,14 @@ use Rattle.world_run.specs.declared.link.Link.{Link}
 use Rattle.world_run.specs.Directions.{is_open, is_queued, past_eof, without_bytes, finished}
 use Rattle.world_run.specs.EntryLines.{reply_fault}
 use Rattle.world_run.specs.Moves.{turned, turn, out, next_read, run_one, run_all, close, stop}
-use Rattle.world_run.specs.Moves.{rest_read, run_requests, run_fed, place_of}
+use Rattle.world_run.specs.Moves.{rest_read, run_requests, run_fed, stopped_at}
 use Rattle.world_run.specs.Moves.{feed, serve_all, take_down, all_bytes, send_all, receive_all}
 use Rattle.world_run.specs.Moves.{flow, read_bytes, read_eof}
 use Rattle.world_run.specs.OneHistory.{FlowDelivers}
 use Rattle.world_run.specs.Outcome.{Outcome, and_then, does, stays, within, then_by}
 use Rattle.world_run.specs.Session.{Session, session_at, with_link, with_down}
 use Rattle.world_run.proofs.Moving.{every_serve_all, every_flow}
-use Rattle.world_run.proofs.AccountMoves.{both}
+use Rattle.world_run.proofs.AccountRuns.{both}
 use Rattle.world_run.specs.World.{over}
 use Rattle.world_run.specs.WorldState.{WorldState, at_place, fresh_link}
 
@@ -68,10 +68,10 @@ heard_run_fed : (eof : Bool) (s : Session) → Heard s → Ends Heard (run_fed e
 unfolding run_fed run_requests Ends Heard
 heard_run_fed eof s h =
     let p = parse s.link.reader in
-    ends_then Heard Heard (run_requests s) (stop (place_of p.fault) eof)
+    ends_then Heard Heard (run_requests s) (stop (stopped_at p.fault) eof)
     (ends_then Heard Heard (run_all p.items s) (rest_read p.stream) (heard_run_all p.items s h)
     (λ t k e. k))
-    (heard_stop (place_of p.fault) eof)
+    (heard_stop (stopped_at p.fault) eof)
 
 heard_serve : (s : Session) → reads_on s.limits s.past s.link.id ≡ true
     → is_open s.link.down.eof ≡ true → Ends Heard (serve_all s)

@@ -42,7 +42,8 @@ use Rattle.world_run.proofs.Outcomes.{fronts_then, fronts_within, fronts_reached
 use Rattle.resp_value.specs.Lists.{IsPrefix}
 use Rattle.world_run.proofs.Moving.{Every, every_move, every_flow}
 use Rattle.world_run.proofs.Accounts.{gave, Account, Part}
-use Rattle.world_run.proofs.AccountMoves.{reads_of, piece_of, bytes_said, none_said, flow_keeps}
+use Rattle.world_run.proofs.AccountRuns.{reads_of}
+use Rattle.world_run.proofs.AccountMoves.{piece_of, bytes_said, none_said, flow_keeps}
 use Rattle.world_run.proofs.AccountMoves.{move_keeps}
 use Rattle.world_run.proofs.Worlds.{Stands, PartStands, stands_part, stands_same, parts_same}
 use Rattle.world_run.proofs.Worlds.{not_equal, over_stands, made, made_lines, stands_made}

@@ -2,6 +2,7 @@ pub mod Outcomes
 pub mod Carries
 pub mod Moving
 pub mod Accounts
+pub mod AccountRuns
 pub mod AccountMoves
 pub mod Names
 pub mod Worlds

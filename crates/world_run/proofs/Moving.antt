@@ -22,7 +22,7 @@ use Rattle.world_run.specs.OneHistory.{read_on}
 use Rattle.world_run.specs.Outcome.{Outcome, stays, does, refuses, and_then}
 use Rattle.world_run.specs.Session.{Session, with_past, with_link, with_up, with_down, with_reader}
 use Rattle.world_run.specs.Moves.{turned, turn, say, out, next_read, run_one, run_all, close, stop}
-use Rattle.world_run.specs.Moves.{run_requests, run_fed, place_of}
+use Rattle.world_run.specs.Moves.{run_requests, run_fed, stopped_at}
 use Rattle.world_run.specs.Moves.{feed, serve_all, serve, take_down, all_bytes, send_all, send}
 use Rattle.world_run.specs.Moves.{read_lines, eof_lines, read_bytes, read_eof, receive_all, receive}
 use Rattle.world_run.specs.Moves.{flow, move_of}
@@ -127,7 +127,8 @@ every_run_requests s =
 every_run_fed : (eof : Bool) (s : Session) → Every s (run_fed eof s)
 unfolding run_fed
 every_run_fed eof s =
-    every_then s _ _ (every_run_requests s) (every_stop (place_of (parse s.link.reader).fault) eof)
+    every_then s _ _ (every_run_requests s)
+    (every_stop (stopped_at (parse s.link.reader).fault) eof)
 
 pub every_serve_all : (s : Session) → Every s (serve_all s)
 unfolding serve_all

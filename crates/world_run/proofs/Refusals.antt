@@ -22,12 +22,12 @@ use Rattle.world_run.specs.Directions.{without_bytes}
 use Rattle.world_run.specs.EntryLines.{reply_fault}
 use Rattle.world_run.specs.Faults.{IsRefusal}
 use Rattle.world_run.specs.Moves.{turn, out, run_one, run_all, close, stop, run_requests, run_fed}
-use Rattle.world_run.specs.Moves.{place_of, feed, serve_all, serve, take_down, all_bytes, send_all}
+use Rattle.world_run.specs.Moves.{stopped_at, feed, serve_all, serve, take_down, all_bytes}
+use Rattle.world_run.specs.Moves.{send_all}
 use Rattle.world_run.specs.Moves.{send, read_bytes, receive_all, receive, flow, move_of}
 use Rattle.world_run.specs.Outcome.{Outcome, stays, refuses, then_by, and_then, within}
 use Rattle.world_run.specs.Session.{Session, session_at, with_session, with_link, with_down}
-use Rattle.world_run.specs.World.{over, over_named, raw_step, flow_first, step, Stepped}
-use Rattle.world_run.specs.World as world
+use Rattle.world_run.specs.World.{over, over_named, place_of, raw_step, flow_first, step, Stepped}
 use Rattle.world_run.specs.WorldState.{WorldState, fresh_link}
 
 -- ---- what is never refused
@@ -78,9 +78,9 @@ un_run_fed : (eof : Bool) (s : Session) → Unrefused (run_fed eof s)
 unfolding run_fed run_requests Unrefused
 un_run_fed eof s =
     let p = parse s.link.reader in
-    un_then (run_requests s) (stop (place_of p.fault) eof)
+    un_then (run_requests s) (stop (stopped_at p.fault) eof)
     (un_then (run_all p.items s) _ (un_run_all p.items s) (λ t. none))
-    (un_stop (place_of p.fault) eof)
+    (un_stop (stopped_at p.fault) eof)
 
 un_serve_all : (s : Session) → Unrefused (serve_all s)
 unfolding serve_all Unrefused
@@ -190,22 +190,22 @@ un_flow_first (suc n) w =
 
 unchanged : (e : Event) (w : WorldState) → Unchanged w (step w e)
 unfolding step
-unchanged (event.Raw name) w = unchanged_raw name (world.place_of name w) w
+unchanged (event.Raw name) w = unchanged_raw name (place_of name w) w
 unchanged (event.Say name words) w =
-    unchanged_named (world.place_of name w) (event.Say name words) w
+    unchanged_named (place_of name w) (event.Say name words) w
 unchanged (event.Bytes name bytes) w =
-    unchanged_named (world.place_of name w) (event.Bytes name bytes) w
+    unchanged_named (place_of name w) (event.Bytes name bytes) w
 unchanged (event.Out name count) w =
-    unchanged_named (world.place_of name w) (event.Out name count) w
+    unchanged_named (place_of name w) (event.Out name count) w
 unchanged (event.Serve name count) w =
-    unchanged_named (world.place_of name w) (event.Serve name count) w
+    unchanged_named (place_of name w) (event.Serve name count) w
 unchanged (event.Send name count) w =
-    unchanged_named (world.place_of name w) (event.Send name count) w
+    unchanged_named (place_of name w) (event.Send name count) w
 unchanged (event.Recv name count) w =
-    unchanged_named (world.place_of name w) (event.Recv name count) w
-unchanged (event.Flow name) w = unchanged_named (world.place_of name w) (event.Flow name) w
+    unchanged_named (place_of name w) (event.Recv name count) w
+unchanged (event.Flow name) w = unchanged_named (place_of name w) (event.Flow name) w
 unchanged event.FlowAll w = accepted w _ (un_flow_first (length w.links) w)
-unchanged (event.Cut name) w = unchanged_named (world.place_of name w) (event.Cut name) w
+unchanged (event.Cut name) w = unchanged_named (place_of name w) (event.Cut name) w
 
 pub faults_none : (w : WorldState) (e : Event) (fault : WorldFault) → (step w e).fault ≡ Some fault
     → IsRefusal fault → ((step w e).state ≡ w) × ((step w e).lines ≡ [])

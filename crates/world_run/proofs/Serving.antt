@@ -18,7 +18,7 @@ use Rattle.script_text.specs.declared.line.Line.{Line}
 use Rattle.world_run.specs.declared.fault.WorldFault.{WorldFault}
 use Rattle.world_run.specs.declared.fault.WorldFault.TheVariants.{NoMemory}
 use Rattle.world_run.specs.Moves.{next_read, past_request, turn, run_one, run_all, rest_read}
-use Rattle.world_run.specs.Moves.{run_requests, place_of}
+use Rattle.world_run.specs.Moves.{run_requests, stopped_at}
 use Rattle.world_run.specs.Outcome.{Stops, does}
 use Rattle.world_run.specs.Session.{Session, with_link, with_reader}
 use Rattle.world_run.proofs.Outcomes.{Ends, ends_parts, after_ends, after_stops, stops_first}
@@ -201,12 +201,12 @@ module _ (s0 s : Session) (lines0 lines : List Line) (h : Reads s0 s lines0 line
   pub ends_more : (new : Stream) → request_at (skipped s.link.reader).rest ≡ More
       → new ≡ skipped s.link.reader
       → Ends (run_requests s0) lines0 (with_link s (with_reader s.link new)) lines
-      × (None ≡ place_of (parse s0.link.reader).fault)
+      × (None ≡ stopped_at (parse s0.link.reader).fault)
   ends_more new more is =
       let last = parse_more s.link.reader more in (
         rest_ends new (ap (λ (p : Batch (List (List ℕ))). p.items) last) (is
             ∙ sym (ap (λ (p : Batch (List (List ℕ))). p.stream) last) ∙ h.stream),
-        ap place_of (sym (ap (λ (p : Batch (List (List ℕ))). p.fault) last) ∙ h.fault),
+        ap stopped_at (sym (ap (λ (p : Batch (List (List ℕ))). p.fault) last) ∙ h.fault),
       )
 
   faulty : (new : Stream) (f : StreamFault) → IsFaultOf request_at (skipped s.link.reader) f
@@ -216,20 +216,20 @@ module _ (s0 s : Session) (lines0 lines : List Line) (h : Reads s0 s lines0 line
         failed = true;
       }
       → Ends (run_requests s0) lines0 (with_link s (with_reader s.link new)) lines
-      × (fault_place f ≡ place_of (parse s0.link.reader).fault)
+      × (fault_place f ≡ stopped_at (parse s0.link.reader).fault)
   faulty new f bad is =
       let last = parse_bad s.link.reader bad.fault bad.left bad.is in (
         rest_ends new (ap (λ (p : Batch (List (List ℕ))). p.items) last) (is
             ∙ sym (ap (λ (p : Batch (List (List ℕ))). p.stream) last) ∙ h.stream),
         ap fault_place bad.place
-            ∙ ap place_of (sym (ap (λ (p : Batch (List (List ℕ))). p.fault) last) ∙ h.fault),
+            ∙ ap stopped_at (sym (ap (λ (p : Batch (List (List ℕ))). p.fault) last) ∙ h.fault),
       )
 
   pub ends_bad : (new : Stream) (f : StreamFault) (place : FaultPlace)
       → FaultGives request_at (skipped s.link.reader) s.link.reader new f
       → Some place ≡ fault_place f
       → Ends (run_requests s0) lines0 (with_link s (with_reader s.link new)) lines
-      × (Some place ≡ place_of (parse s0.link.reader).fault)
+      × (Some place ≡ stopped_at (parse s0.link.reader).fault)
   ends_bad new (stream.BadByte o) place g at = let r = faulty new (stream.BadByte o) g.0 g.1 in
       (r.0, at ∙ r.1)
   ends_bad new (stream.TooLong o n) place g at = let r = faulty new (stream.TooLong o n) g.0 g.1 in

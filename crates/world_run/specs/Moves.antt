@@ -77,9 +77,9 @@ run_all (words ∷ requests) s = and_then (run_one words s) (run_all requests)
 unfoldable pub close : Session → Outcome Session
 close s = turn (call.Close s.link.id) [] s
 
-abbrev pub place_of : Option StreamFault → Option FaultPlace
-place_of None = None
-place_of (Some fault) = fault_place fault
+abbrev pub stopped_at : Option StreamFault → Option FaultPlace
+stopped_at None = None
+stopped_at (Some fault) = fault_place fault
 
 -- a fault of the stream closes the connection, and so does an EOF that was read; what follows a
 -- fault
@@ -100,7 +100,7 @@ run_requests s =
 
 -- and then comes what stops the reading
 unfoldable pub run_fed : Bool → Session → Outcome Session
-run_fed eof s = and_then (run_requests s) (stop (place_of (parse s.link.reader).fault) eof)
+run_fed eof s = and_then (run_requests s) (stop (stopped_at (parse s.link.reader).fault) eof)
 
 abbrev pub feed : List ℕ → Direction → Session → Outcome Session
 feed piece up s =

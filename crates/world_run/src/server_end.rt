@@ -3,7 +3,7 @@ ghost use Rattle.std.specs.Prelude.{◌≡◌, ◌<◌, true, IfOk, OnOk};
 ghost use Rattle.resp_stream.specs.Parse.{parse};
 ghost use Rattle.serial_model.specs.declared.history.BookCall.TheVariants as call;
 ghost use Rattle.serial_model.specs.History.{gives_on, reads_on};
-ghost use Rattle.world_run.specs.Moves.{close, place_of, run_fed, run_requests, send, send_all};
+ghost use Rattle.world_run.specs.Moves.{close, stopped_at, run_fed, run_requests, send, send_all};
 ghost use Rattle.world_run.specs.Moves.{serve, serve_all, stop, take_down, turn};
 ghost use Rattle.world_run.specs.Outcome.{Gives};
 ghost use Rattle.world_run.specs.Session.{session};
@@ -78,7 +78,7 @@ impl Link {
         requires { reads_on server.old.book.limits server.old.book.past self.old.id ≡ true }
         ensures gives { Gives (run_requests (session server.old self.old)) lines.old result
             (session server.new self.new) lines.new }
-        ensures fault { IfOk result (λ f. f ≡ place_of (parse self.old.reader).fault) }
+        ensures fault { IfOk result (λ f. f ≡ stopped_at (parse self.old.reader).fault) }
         ensures reads_on { OnOk result
             (reads_on server.new.book.limits server.new.book.past self.new.id ≡ true) }
     {
