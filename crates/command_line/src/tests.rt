@@ -19,205 +19,284 @@ fn words_of(alloc: Global, line: &str) -> Result<Vec<String>, NoMemory> {
     Ok(words)
 }
 
-/// Whether the line is taken, which has to be where a person is told of nothing wrong.
-fn is_taken(alloc: Global, name: &str, line: &str) -> Result<bool, NoMemory> {
-    let words = words_of(alloc, line)?;
-    let asked = read_command(alloc, name, words.as_slice())?;
-    let wrong = find_wrong_of(name, words.as_slice());
-    Ok(asked.is_some() && wrong.is_none())
+// Words that ask for something: the ends of each number's range in both forms, and other values.
+const TAKEN: &str = "\
+world --table-max 1
+world --table-max=1
+world --table-max 4000000000
+world --table-max=4000000000
+world --out-max 1
+world --out-max=1
+world --out-max 4000000000
+world --out-max=4000000000
+world --history-max 1
+world --history-max=1
+world --history-max 4000000000
+world --history-max=4000000000
+storm --number 0 --steps 0
+storm --number=0 --steps 0
+storm --number 18446744073709551615 --steps 0
+storm --number=18446744073709551615 --steps 0
+storm --steps 0 --number 0
+storm --steps=0 --number 0
+storm --steps 200000 --number 0
+storm --steps=200000 --number 0
+serve --port 1
+serve --port=1
+serve --port 65535
+serve --port=65535
+serve --workers 1 --port 1
+serve --workers=1 --port 1
+serve --workers 64 --port 1
+serve --workers=64 --port 1
+serve --connections 0 --port 1
+serve --connections=0 --port 1
+serve --connections 1000000 --port 1
+serve --connections=1000000 --port 1
+serve --table-max 1 --port 1
+serve --table-max=1 --port 1
+serve --table-max 4000000000 --port 1
+serve --table-max=4000000000 --port 1
+serve --out-max 1 --port 1
+serve --out-max=1 --port 1
+serve --out-max 4000000000 --port 1
+serve --out-max=4000000000 --port 1
+serve --history-max 1 --port 1
+serve --history-max=1 --port 1
+serve --history-max 4000000000 --port 1
+serve --history-max=4000000000 --port 1
+script --capacity 1 --connect h:1
+script --capacity=1 --connect h:1
+script --capacity 1000000 --connect h:1
+script --capacity=1000000 --connect h:1
+world
+world --out-max 6 --table-max=5
+script --connect h:1
+script --connect ::1:65535
+script --connect=-h:1
+script --redirect --resp 2 --connect h:1
+script --resp=3 --connect h:1 --noloop
+script --mode default --connect h:1
+script --mode optin --connect h:1
+script --mode=optout --connect h:1
+script --prefix a --mode bcast --connect h:1
+script --prefix=-a --mode bcast --connect h:1
+script --prefix=a=b --mode bcast --connect h:1
+script --mode bcast --connect h:1";
+
+// Words that ask for nothing: one past each end, another spelling, no value, twice, and others.
+const REFUSED: &str = "\
+world --table-max 0
+world --table-max=4000000001
+world --table-max 04000000000
+world --table-max +4000000000
+world --table-max -4000000000
+world --table-max=-4000000000
+world --table-max=
+world --table-max
+world --table-max
+world --table-max 1 --table-max 1
+world --table-max=1 --table-max=4000000000
+world --out-max 0
+world --out-max=4000000001
+world --out-max 04000000000
+world --out-max +4000000000
+world --out-max -4000000000
+world --out-max=-4000000000
+world --out-max=
+world --out-max
+world --out-max
+world --out-max 1 --out-max 1
+world --out-max=1 --out-max=4000000000
+world --history-max 0
+world --history-max=4000000001
+world --history-max 04000000000
+world --history-max +4000000000
+world --history-max -4000000000
+world --history-max=-4000000000
+world --history-max=
+world --history-max
+world --history-max
+world --history-max 1 --history-max 1
+world --history-max=1 --history-max=4000000000
+storm --number 00 --steps 0
+storm --number=18446744073709551616 --steps 0
+storm --number 018446744073709551615 --steps 0
+storm --number +18446744073709551615 --steps 0
+storm --number -18446744073709551615 --steps 0
+storm --number=-18446744073709551615 --steps 0
+storm --number= --steps 0
+storm --number --steps 0
+storm --steps 0 --number
+storm --number 0 --number 0 --steps 0
+storm --number=0 --steps 0 --number=18446744073709551615
+storm --steps 00 --number 0
+storm --steps=200001 --number 0
+storm --steps 0200000 --number 0
+storm --steps +200000 --number 0
+storm --steps -200000 --number 0
+storm --steps=-200000 --number 0
+storm --steps= --number 0
+storm --steps --number 0
+storm --number 0 --steps
+storm --steps 0 --steps 0 --number 0
+storm --steps=0 --number 0 --steps=200000
+serve --port 0
+serve --port=65536
+serve --port 065535
+serve --port +65535
+serve --port -65535
+serve --port=-65535
+serve --port=
+serve --port
+serve --port
+serve --port 1 --port 1
+serve --port=1 --port=65535
+serve --workers 0 --port 1
+serve --workers=65 --port 1
+serve --workers 064 --port 1
+serve --workers +64 --port 1
+serve --workers -64 --port 1
+serve --workers=-64 --port 1
+serve --workers= --port 1
+serve --workers --port 1
+serve --port 1 --workers
+serve --workers 1 --workers 1 --port 1
+serve --workers=1 --port 1 --workers=64
+serve --connections 00 --port 1
+serve --connections=1000001 --port 1
+serve --connections 01000000 --port 1
+serve --connections +1000000 --port 1
+serve --connections -1000000 --port 1
+serve --connections=-1000000 --port 1
+serve --connections= --port 1
+serve --connections --port 1
+serve --port 1 --connections
+serve --connections 0 --connections 0 --port 1
+serve --connections=0 --port 1 --connections=1000000
+serve --table-max 0 --port 1
+serve --table-max=4000000001 --port 1
+serve --table-max 04000000000 --port 1
+serve --table-max +4000000000 --port 1
+serve --table-max -4000000000 --port 1
+serve --table-max=-4000000000 --port 1
+serve --table-max= --port 1
+serve --table-max --port 1
+serve --port 1 --table-max
+serve --table-max 1 --table-max 1 --port 1
+serve --table-max=1 --port 1 --table-max=4000000000
+serve --out-max 0 --port 1
+serve --out-max=4000000001 --port 1
+serve --out-max 04000000000 --port 1
+serve --out-max +4000000000 --port 1
+serve --out-max -4000000000 --port 1
+serve --out-max=-4000000000 --port 1
+serve --out-max= --port 1
+serve --out-max --port 1
+serve --port 1 --out-max
+serve --out-max 1 --out-max 1 --port 1
+serve --out-max=1 --port 1 --out-max=4000000000
+serve --history-max 0 --port 1
+serve --history-max=4000000001 --port 1
+serve --history-max 04000000000 --port 1
+serve --history-max +4000000000 --port 1
+serve --history-max -4000000000 --port 1
+serve --history-max=-4000000000 --port 1
+serve --history-max= --port 1
+serve --history-max --port 1
+serve --port 1 --history-max
+serve --history-max 1 --history-max 1 --port 1
+serve --history-max=1 --port 1 --history-max=4000000000
+script --capacity 0 --connect h:1
+script --capacity=1000001 --connect h:1
+script --capacity 01000000 --connect h:1
+script --capacity +1000000 --connect h:1
+script --capacity -1000000 --connect h:1
+script --capacity=-1000000 --connect h:1
+script --capacity= --connect h:1
+script --capacity --connect h:1
+script --connect h:1 --capacity
+script --capacity 1 --capacity 1 --connect h:1
+script --capacity=1 --connect h:1 --capacity=1000000
+world --
+world -
+world -h
+world --help
+world help
+world --table 5
+world --table-max 5 6
+world --table-max 5 --
+world --table-max --
+world --table-max -
+world --=5
+world ---table-max 5
+world --table-max --out-max 6
+world --number 1
+world  
+storm
+storm --steps 1
+storm --number 1
+serve
+serve --workers 1
+script
+script --connect h
+script --connect :1
+script --connect h:0
+script --connect h:
+script --connect h:1:
+script --connect h:1 --connect h:1
+script --connect h:1 --resp 2
+script --connect h:1 --resp 4
+script --connect h:1 --resp=
+script --connect h:1 --mode Optin
+script --connect h:1 --mode=
+script --connect h:1 --prefix a
+script --connect h:1 --prefix a --mode optin
+script --connect h:1 --prefix= --mode bcast
+script --connect h:1 --prefix -a --mode bcast
+script --connect h:1 --noloop --noloop
+script --connect h:1 --noloop=true
+script --connect h:1 --noloop=
+script --connect h:1 --redirect true
+script --connect --noloop";
+
+fn is_judged(
+    alloc: Global,
+    name: &str,
+    words: &[String],
+    is_taken: bool,
+) -> Result<bool, NoMemory> {
+    let asked = read_command(alloc, name, words)?;
+    let wrong = find_wrong_of(name, words);
+    Ok(asked.is_some() == is_taken && wrong.is_none() == is_taken)
 }
 
-fn is_refused(alloc: Global, name: &str, line: &str) -> Result<bool, NoMemory> {
-    let words = words_of(alloc, line)?;
-    let asked = read_command(alloc, name, words.as_slice())?;
-    let wrong = find_wrong_of(name, words.as_slice());
-    Ok(asked.is_none() && wrong.is_some())
+/// Whether each row, a command and its words, is taken, or is not, and a person is told so.
+fn are_judged(alloc: Global, rows: &str, is_taken: bool) -> Result<bool, NoMemory> {
+    for row in rows.split('\n') {
+        let words = words_of(alloc, row)?;
+        let is_right = match words.as_slice() {
+            [name, words @ ..] => is_judged(alloc, name.as_str(), words, is_taken)?,
+            [] => false,
+        };
+        if !is_right {
+            return Ok(false);
+        }
+    }
+    Ok(true)
 }
 
 #[test]
 fn a_number_has_its_range_and_one_spelling(rt: HostRuntime) -> Result<(), Fail> {
     let alloc = rt.alloc();
-    for (name, others, option, least, greatest, below, above) in [
-        (
-            "world",
-            "",
-            "table-max",
-            "1",
-            "4000000000",
-            "0",
-            "4000000001",
-        ),
-        ("world", "", "out-max", "1", "4000000000", "0", "4000000001"),
-        (
-            "world",
-            "",
-            "history-max",
-            "1",
-            "4000000000",
-            "0",
-            "4000000001",
-        ),
-        (
-            "storm",
-            " --steps 0",
-            "number",
-            "0",
-            "18446744073709551615",
-            "00",
-            "18446744073709551616",
-        ),
-        (
-            "storm",
-            " --number 0",
-            "steps",
-            "0",
-            "200000",
-            "00",
-            "200001",
-        ),
-        ("serve", "", "port", "1", "65535", "0", "65536"),
-        ("serve", " --port 1", "workers", "1", "64", "0", "65"),
-        (
-            "serve",
-            " --port 1",
-            "connections",
-            "0",
-            "1000000",
-            "00",
-            "1000001",
-        ),
-        (
-            "serve",
-            " --port 1",
-            "table-max",
-            "1",
-            "4000000000",
-            "0",
-            "4000000001",
-        ),
-        (
-            "serve",
-            " --port 1",
-            "out-max",
-            "1",
-            "4000000000",
-            "0",
-            "4000000001",
-        ),
-        (
-            "serve",
-            " --port 1",
-            "history-max",
-            "1",
-            "4000000000",
-            "0",
-            "4000000001",
-        ),
-        (
-            "script",
-            " --connect h:1",
-            "capacity",
-            "1",
-            "1000000",
-            "0",
-            "1000001",
-        ),
-    ] {
-        for value in [least, greatest] {
-            for line in [
-                format!(in alloc; "--{option} {value}{others}")?,
-                format!(in alloc; "--{option}={value}{others}")?,
-            ] {
-                assert!(rt; is_taken(alloc, name, line.as_str())?, "{name} {line}");
-            }
-        }
-        for line in [
-            format!(in alloc; "--{option} {below}{others}")?,
-            format!(in alloc; "--{option}={above}{others}")?,
-            format!(in alloc; "--{option} 0{greatest}{others}")?,
-            format!(in alloc; "--{option} +{greatest}{others}")?,
-            format!(in alloc; "--{option} -{greatest}{others}")?,
-            format!(in alloc; "--{option}=-{greatest}{others}")?,
-            format!(in alloc; "--{option}={others}")?,
-            format!(in alloc; "--{option} {others}")?,
-            format!(in alloc; "--{option}{others}")?,
-            format!(in alloc; "{others} --{option}")?,
-            format!(in alloc; "--{option} {least} --{option} {least}{others}")?,
-            format!(in alloc; "--{option}={least} --{option} {greatest}{others}")?,
-            format!(in alloc; "--{option}={least}{others} --{option}={greatest}")?,
-        ] {
-            assert!(rt; is_refused(alloc, name, line.as_str())?, "{name} {line}");
-        }
-    }
-    Ok(())
-}
-
-#[test]
-fn other_values_and_words(rt: HostRuntime) -> Result<(), Fail> {
-    let alloc = rt.alloc();
-    for (name, line) in [
-        ("world", ""),
-        ("world", "--out-max 6 --table-max=5"),
-        ("script", "--connect h:1"),
-        ("script", "--connect ::1:65535"),
-        ("script", "--connect=-h:1"),
-        ("script", "--redirect --resp 2 --connect h:1"),
-        ("script", "--resp=3 --connect h:1 --noloop"),
-        ("script", "--mode default --connect h:1"),
-        ("script", "--mode optin --connect h:1"),
-        ("script", "--mode=optout --connect h:1"),
-        ("script", "--prefix a --mode bcast --connect h:1"),
-        ("script", "--prefix=-a --mode bcast --connect h:1"),
-        ("script", "--prefix=a=b --mode bcast --connect h:1"),
-        ("script", "--mode bcast --connect h:1"),
-    ] {
-        assert!(rt; is_taken(alloc, name, line)?, "{name} {line}");
-    }
-    for (name, line) in [
-        ("world", "--"),
-        ("world", "-"),
-        ("world", "-h"),
-        ("world", "--help"),
-        ("world", "help"),
-        ("world", "--table 5"),
-        ("world", "--table-max 5 6"),
-        ("world", "--table-max 5 --"),
-        ("world", "--table-max --"),
-        ("world", "--table-max -"),
-        ("world", "--=5"),
-        ("world", "---table-max 5"),
-        ("world", "--table-max --out-max 6"),
-        ("world", "--number 1"),
-        ("world", " "),
-        ("storm", ""),
-        ("storm", "--steps 1"),
-        ("storm", "--number 1"),
-        ("serve", ""),
-        ("serve", "--workers 1"),
-        ("script", ""),
-        ("script", "--connect h"),
-        ("script", "--connect :1"),
-        ("script", "--connect h:0"),
-        ("script", "--connect h:"),
-        ("script", "--connect h:1:"),
-        ("script", "--connect h:1 --connect h:1"),
-        ("script", "--connect h:1 --resp 2"),
-        ("script", "--connect h:1 --resp 4"),
-        ("script", "--connect h:1 --resp="),
-        ("script", "--connect h:1 --mode Optin"),
-        ("script", "--connect h:1 --mode="),
-        ("script", "--connect h:1 --prefix a"),
-        ("script", "--connect h:1 --prefix a --mode optin"),
-        ("script", "--connect h:1 --prefix= --mode bcast"),
-        ("script", "--connect h:1 --prefix -a --mode bcast"),
-        ("script", "--connect h:1 --noloop --noloop"),
-        ("script", "--connect h:1 --noloop=true"),
-        ("script", "--connect h:1 --noloop="),
-        ("script", "--connect h:1 --redirect true"),
-        ("script", "--connect --noloop"),
-    ] {
-        assert!(rt; is_refused(alloc, name, line)?, "{name} {line}");
-    }
+    assert!(rt;
+        are_judged(alloc, TAKEN, true)?,
+        "a row of TAKEN is refused"
+    );
+    assert!(rt;
+        are_judged(alloc, REFUSED, false)?,
+        "a row of REFUSED is taken"
+    );
     Ok(())
 }
 
