@@ -9,8 +9,8 @@ use Rattle.std.specs.FinMap.{contains_key, insert, remove, empty, len}
 use Rattle.resp_value.specs.declared.value.Value.{Value}
 use Rattle.resp_value.specs.declared.value.Value.TheVariants.{Simple, Number}
 use Rattle.command_words.specs.declared.command.Signalled.TheVariants.{All}
-use Rattle.command_words.specs.Space.{Content, Text, Fields, Space, held_at, content_at, deadline_at}
-use Rattle.command_words.specs.Space.{with_deadline}
+use Rattle.command_words.specs.Space.{Content, Text, Fields, Space, held_at, content_at}
+use Rattle.command_words.specs.Space.{deadline_at, with_deadline}
 use Rattle.command_words.specs.Effect.{Effect, replied, wrote, no_such_key}
 use Rattle.command_words.specs.KeyLists.{each_once}
 use Rattle.command_words.specs.Strings.{moment_after}
@@ -61,10 +61,12 @@ expiry_after moment unit (pos n) =
     if nat_lt 0 n then Some (moment_after moment unit (pos n)) else None
 expiry_after moment unit (negsuc n) = None
 
+abbrev pub if_to_come : ℕ → ℕ → Option ℕ
+if_to_come moment time = if nat_lt moment time then Some time else None
+
 -- the deadline at a time of so many units, at most the last moment; none where it is past at once
 abbrev pub expiry_at : ℕ → ℕ → ℤ → Option ℕ
-expiry_at moment unit (pos n) =
-    if nat_lt moment (n * unit) then Some (min (n * unit) 18446744073709551615) else None
+expiry_at moment unit (pos n) = if_to_come moment (min (n * unit) 18446744073709551615)
 expiry_at moment unit (negsuc n) = None
 
 -- a key takes a deadline, or goes where it is past at once

@@ -1,6 +1,7 @@
 //! The index of deadlines, as a list in order of moment and key.
 ghost use Rattle.std.specs.Prelude.{◌≡◌, [], OnOk, OnErr, option_map};
-ghost use Rattle.expiry.specs.Index.{comes_before, first_of, has, is_same, left, due, with, without};
+ghost use Rattle.expiry.specs.Index.{comes_before, is_same, has, with, without, is_due};
+ghost use Rattle.expiry.specs.Index.{due, left, first_of};
 ghost use Rattle.expiry.specs.Order.{IsOrdered};
 ghost use Rattle.expiry.specs.Places.{IsDueFront, IsPlaceFor};
 

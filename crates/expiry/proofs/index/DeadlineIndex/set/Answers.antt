@@ -8,8 +8,6 @@ use Rattle.expiry.specs.Places.{deadline_at, no_deadline}
 use Rattle.expiry.proofs.Fronts.{with_same, with_new}
 use Rattle.expiry.proofs.Orders.{ordered_with}
 use Rattle.expiry.proofs.index.DeadlineIndex.set.Goals as goal
-use Rattle.expiry.proofs.index.DeadlineIndex.set.Goals.{else-place-len-via-then-place-len+else-is_same}
-use Rattle.expiry.proofs.index.DeadlineIndex.set.Goals.{else-place-len-via-else-place-len}
 use Rattle.expiry.proofs.index.DeadlineIndex.set.Goals.{In_ok-insert}
 
 pub returns-then-is_same-clause-ok : goal.returns-then-is_same-clause-ok
@@ -32,12 +30,12 @@ placed c =
     let d : Deadline = record { at = c.args.deadline; key = c.args.key.now } in
     let other : n < length ds → is_same d (deadline_at ds n) ≡ false =
     elim c.else-place-len.branch [
-      | else-place-len-via-then-place-len+else-is_same w ↦ λ lt.
+      | goal.else-place-len-via-then-place-len+else-is_same w ↦ λ lt.
           let read = w.index.ensures
           ∙ ap (λ (l : List Deadline). get_or l n w.index.result.now) c.self.view_is in
           ap (is_same d) (sym (get_or_read ds n w.index.result.now lt read no_deadline))
           ∙ (sym w.is_same.ensures ∙ w.if-is_same.false)
-      | else-place-len-via-else-place-len w ↦ λ lt.
+      | goal.else-place-len-via-else-place-len w ↦ λ lt.
           absurd (omega (arith, ap length c.self.view_is, c.self.inside.list.ok.0))
     ] in
     c.in_ok-insert.ensures.items
