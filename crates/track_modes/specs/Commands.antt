@@ -86,7 +86,10 @@ is_no_memory _ = false
 abbrev pub after_refusal : ModeFault → ModeState → ModeState
 after_refusal fault m = if is_no_memory fault then m else spent_mode m
 
--- whether a command may register prefixes
-abbrev pub may_register : Command → Bool
-may_register (ClientTracking o) = o.on && o.bcast
-may_register _ = false
+-- whether an allowed command may register prefixes
+abbrev pub registers : Command → Bool
+registers (ClientTracking o) = o.on && o.bcast
+registers _ = false
+
+abbrev pub may_register : Command → ModeState → Bool
+may_register command m = allows m command && registers command

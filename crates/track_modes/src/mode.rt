@@ -4,7 +4,7 @@ ghost use Rattle.std.specs.Str.{bytes_eq};
 ghost use Rattle.track_modes.specs.Commands.{after_command, after_refusal, allows, changed};
 ghost use Rattle.track_modes.specs.Commands.{command_fault, fault_at, is_caching_command};
 ghost use Rattle.track_modes.specs.Commands.{is_for_subscribers, may_register, proto_after};
-ghost use Rattle.track_modes.specs.Commands.{spent_mode};
+ghost use Rattle.track_modes.specs.Commands.{registers, spent_mode};
 ghost use Rattle.track_modes.specs.ModeState.{broken, flags, new_mode, peer_of, remembers_read};
 ghost use Rattle.track_modes.specs.Tracked.{IsRefusal, cached, caching_fault, tracked};
 ghost use Rattle.track_modes.specs.Tracked.{tracking_fault};
@@ -143,7 +143,7 @@ impl Mode {
     fn change(&mut self, command: &Command, target_exists: bool) -> Result<(), ModeFault>
         ensures ok { OnOk result (self.new ≡ changed command.now self.old) }
         ensures accepted { OnOk result (fault_at command.now target_exists self.old ≡ None) }
-        ensures refused { IfErr result (λ f. IsRefusal (may_register command.now) f
+        ensures refused { IfErr result (λ f. IsRefusal (registers command.now) f
             (fault_at command.now target_exists self.old)) }
         ensures err { OnErr result (self.new ≡ self.old) }
     {
@@ -171,7 +171,7 @@ impl Mode {
     pub fn apply(&mut self, command: &Command, target_exists: bool) -> Result<(), ModeFault>
         ensures ok { OnOk result (self.new ≡ after_command command.now self.old) }
         ensures accepted { OnOk result (command_fault command.now target_exists self.old ≡ None) }
-        ensures refused { IfErr result (λ f. IsRefusal (may_register command.now) f
+        ensures refused { IfErr result (λ f. IsRefusal (may_register command.now self.old) f
             (command_fault command.now target_exists self.old)) }
         ensures err { IfErr result (λ f. self.new ≡ after_refusal f self.old) }
     {
