@@ -13,7 +13,7 @@ use Rattle.serial_model.specs.declared.history.Entry.TheVariants.{Admit, Run, Ta
 use Rattle.serial_model.specs.declared.history.Post.{Post}
 use Rattle.serial_model.specs.History.{Sending, End, sends, sent_to, sent, posts_of, posted}
 use Rattle.serial_model.specs.History.{posted_of}
-use Rattle.serial_model.specs.History.{has_ended, Message, protocol, ran}
+use Rattle.serial_model.specs.History.{has_ended, Message, reply_protocol, ran}
 use Rattle.serial_model.specs.Laws.{as_posts, has_end, is_end}
 
 abbrev post_of : ℕ → ℕ → Sending → Post
@@ -107,7 +107,8 @@ end_is_sent l c [] = refl
 end_is_sent l c (Admit id ∷ past) = no_end l c (Admit id) past refl (end_is_sent l c past) refl
 end_is_sent l c (Run id words m ∷ past) =
     no_end l c (Run id words m) past refl (end_is_sent l c past)
-    (message_no_end (id == c) (length past + 1) (protocol id past) (ran past id words m).reply)
+    (message_no_end (id == c) (length past + 1) (reply_protocol past id words)
+    (ran past id words m).reply)
 end_is_sent l c (Take id m ∷ past) = no_end l c (Take id m) past refl (end_is_sent l c past) refl
 end_is_sent l c (Close id ∷ past) =
     ap (λ x. cond (id == c) true x) (end_is_sent l c past)

@@ -13,7 +13,8 @@ use Rattle.std.proofs.lemmas.Bool.Decides.{nat_tests}
 use Rattle.serial_model.specs.declared.history.Limits.{Limits}
 use Rattle.serial_model.specs.declared.history.Entry.{Entry}
 use Rattle.serial_model.specs.declared.history.Entry.TheVariants.{Admit, Run, Take, Close}
-use Rattle.serial_model.specs.History.{admitted, is_admitted, runs_on, has_ended, ran, protocol}
+use Rattle.serial_model.specs.History.{admitted, is_admitted, runs_on, has_ended, ran}
+use Rattle.serial_model.specs.History.{reply_protocol}
 use Rattle.serial_model.specs.History.{Message, End, sends, sent_to, sent, sent_bytes, spelled}
 use Rattle.serial_model.specs.History.{sending_bytes, stream, taken, unsent, runs_of, IsLegal}
 
@@ -119,13 +120,14 @@ module _ (l : Limits) where
 
   -- the bytes of the reply that a Run sends
   abbrev pub reply_bytes : List Entry → ℕ → List (List ℕ) → ℕ → List ℕ
-  reply_bytes past id words moment = spelled (protocol id past) (ran past id words moment).reply
+  reply_bytes past id words moment =
+      spelled (reply_protocol past id words) (ran past id words moment).reply
 
   pub stream_own : (past : List Entry) (c id moment : ℕ) (words : List (List ℕ)) → (id == c) ≡ true
       → stream l c (Run id words moment ∷ past)
       ≡ stream l c past ++ reply_bytes past id words moment
   stream_own past c id moment words h =
-      let m = Message (protocol id past) (ran past id words moment).reply in
+      let m = Message (reply_protocol past id words) (ran past id words moment).reply in
       stream_more past c (Run id words moment)
       ∙ ap (λ b. stream l c past ++ sent_bytes (cond b ((length past + 1, m) ∷ []) [])) h
       ∙ ap (λ x. stream l c past ++ x) (append-nil (reply_bytes past id words moment))
@@ -134,7 +136,7 @@ module _ (l : Limits) where
       → (id == c) ≡ false
       → stream l c (Run id words moment ∷ past) ≡ stream l c past
   stream_other past c id moment words h =
-      let m = Message (protocol id past) (ran past id words moment).reply in
+      let m = Message (reply_protocol past id words) (ran past id words moment).reply in
       stream_same past c (Run id words moment)
       (ap (λ b. sent_bytes (cond b ((length past + 1, m) ∷ []) [])) h)
 

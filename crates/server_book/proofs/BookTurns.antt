@@ -1,6 +1,6 @@
 -- How each turn keeps what a book knows of its history.
 use Rattle.std.proofs.Common.{◌≡◌, ◌+◌, ◌-◌, ◌<◌, ◌≤◌, ℕ, List, [], ◌∷◌, ◌++◌, length, take, drop}
-use Rattle.std.proofs.Common.{max, sym, ap, subst, ◌∙◌, refl, arith, true, false, cond}
+use Rattle.std.proofs.Common.{max, sym, ap, subst, ◌∙◌, refl, arith, Bool, true, false, cond}
 use Rattle.std.proofs.Common.{length-append, inl, inr, slice_index_or, slice_set, eq-eqb, ne_eqb}
 use Rattle.std.proofs.Common.{length-set}
 use Rattle.std.specs.Prelude.{◌==◌, not}
@@ -26,6 +26,9 @@ use Rattle.serial_model.specs.declared.history.Posted.TheVariants.{Message, End}
 use Rattle.serial_model.specs.History.{admitted, runs_on, gives_on, reads_on, has_ended, latest}
 use Rattle.serial_model.specs.History.{ran, unsent, posted, is_full}
 use Rattle.serial_model.specs.Steps.{book_step, AddsEntry}
+use Rattle.serial_model.proofs.ModeSteps.{mode_own, mode_other, mode_fresh}
+use Rattle.serial_model.specs.declared.mode.Mode.{Mode}
+use Rattle.serial_model.specs.History.{mode, mode_after}
 use Rattle.serial_model.proofs.Turning.{admit_step, run_step, take_step, close_step}
 use Rattle.serial_model.proofs.Streams.{connected, not_ended, ended_fresh, ended_other, reply_bytes}
 use Rattle.serial_model.proofs.Streams.{unsent_close_own, unsent_close_other, unsent_fresh}
@@ -37,6 +40,15 @@ use Rattle.server_book.specs.BookState.{BookState, IsTurn, Agrees, HasRoom}
 use Rattle.server_book.specs.BookState.{connection_of}
 
 -- ---- a connection by its id
+
+-- connections of equal parts
+pub same_parts : {q r : List ℕ} {a b : Bool} {m n : Mode} → q ≡ r → a ≡ b → m ≡ n
+    → (let x : Connection = record { queue = q; ended = a; mode = m } in
+    let y : Connection = record { queue = r; ended = b; mode = n } in x ≡ y)
+same_parts {q} {r} {a} {b} {m} {n} e f g =
+    ap (λ z. record { queue = z; ended = a; mode = m }) e
+    ∙ ap (λ z. record { queue = r; ended = z; mode = m }) f
+    ∙ ap (λ z. record { queue = r; ended = b; mode = z }) g
 
 -- the connection that was put at an id, and the others
 pub at_same : (cs : List Connection) (id : ℕ) (c : Connection) → IsId cs id
@@ -75,6 +87,22 @@ taken_back cs one two id n bytes on size added kept =
     ∙ ap (λ q. with_connection cs id (record c { queue = q })) (take-append_seam c.queue bytes)
     ∙ set-get_or cs (id - 1) fresh
 
+-- a connection that was sent bytes and then switched
+pub switched : (cs one two : List Connection) (id : ℕ) (bytes : List ℕ) (m : Mode) → IsId cs id
+    → (let c = connection_at cs id in
+    one ≡ with_connection cs id (record c { queue = c.queue ++ bytes }))
+    → (let c = connection_at one id in two ≡ with_connection one id (record c { mode = m }))
+    → (let c = connection_at cs id in
+    two ≡ with_connection cs id (record c { queue = c.queue ++ bytes; mode = m }))
+switched cs one two id bytes m on grew set =
+    let c = connection_at cs id in
+    let grown : Connection = record c { queue = c.queue ++ bytes } in
+    set
+    ∙ ap (λ x. with_connection one id (record x { mode = m }))
+    (ap (λ x. connection_at x id) grew ∙ at_same cs id grown on)
+    ∙ ap (λ x. with_connection x id (record grown { mode = m })) grew
+    ∙ put_twice cs (id - 1) grown (record grown { mode = m })
+
 -- ---- room for closes
 
 abbrev pub one_open : Connection → ℕ
@@ -96,16 +124,17 @@ room_admit left posts cs h p =
     record { for_closes = omega (arith, open_le cs, sum_by_push one_open cs fresh); for_posts = p }
 
 pub room_close : (room left posts id : ℕ) (cs : List Connection) → HasRoom room posts cs
-    → IsId cs id → (connection_at cs id).ended ≡ false
-    → left + 1 ≡ room
-    → HasRoom left posts (with_connection cs id (record { queue = []; ended = true }))
+    → IsId cs id → (connection_at cs id).ended ≡ false → left + 1 ≡ room
+    → (let c = connection_at cs id in
+    HasRoom left posts (with_connection cs id (record c { queue = []; ended = true })))
 room_close room left posts id cs h on live e =
     let was : one_open (connection_at cs id) ≡ 1 = ap (λ b. cond (not b) 1 0) live in
+    let c : Connection = record (connection_at cs id) { queue = []; ended = true } in
     record {
       for_closes = omega (
         arith,
         h.for_closes,
-        sum_by-set one_open cs (id - 1) (record { queue = []; ended = true }) fresh (omega arith),
+        sum_by-set one_open cs (id - 1) c fresh (omega arith),
       );
       for_posts = h.for_posts;
     }
@@ -134,19 +163,17 @@ module _ (l : Limits) (past : List Entry) (space : Space) (cs : List Connection)
     space_is = k.space_is;
     count = omega (arith, k.count, length-append cs (fresh ∷ []));
     each = λ i on. elim (cases_eq i id) [
-      | inl same ↦ ap (λ j. slice_index_or (cs ++ fresh ∷ []) j fresh) (let j : i - 1
+      | inl same ↦
+          let new : admitted past < i = omega (arith, k.count) in
+          ap (λ j. slice_index_or (cs ++ fresh ∷ []) j fresh) (let j : i - 1
           ≡ length cs = omega arith in j)
           ∙ get_or_push cs fresh fresh (length cs) refl
-          ∙ ap (λ q. record { queue = q; ended = false })
-          (sym (unsent_admit l past i id
-          ∙ unsent_fresh l past i k.legal (omega (arith, k.count))))
-          ∙ ap (λ b. record { queue = unsent l i (entry.Admit id ∷ past); ended = b })
-          (sym (ended_fresh l past i k.legal (omega (arith, k.count))))
+          ∙ sym (same_parts (unsent_admit l past i id ∙ unsent_fresh l past i k.legal new)
+          (ended_fresh l past i k.legal new) (mode_fresh l past i k.legal new))
       | inr ne ↦ get_or_append_left cs (fresh ∷ []) fresh (i - 1)
           (omega (arith, length-append cs (fresh ∷ [])))
           ∙ k.each i (on.0, omega (arith, length-append cs (fresh ∷ [])))
-          ∙ ap (λ q. record { queue = q; ended = has_ended l i past })
-          (sym (unsent_admit l past i id))
+          ∙ same_parts (sym (unsent_admit l past i id)) refl refl
     ];
   }
 
@@ -159,82 +186,83 @@ module _ (l : Limits) (past : List Entry) (space : Space) (cs : List Connection)
   each_with new id c on own others i h = elim (cases_eq id i) [
     | inl e ↦ ap (connection_at (with_connection cs id c)) (sym e) ∙ at_same cs id c on ∙ own
         ∙ ap (connection_of l new) e
-    | inr ne ↦ at_other cs id i c on.0 h.0 ne ∙ k.each i (
-      h.0,
-      omega (arith, length-set cs (id - 1) c),
-    ) ∙ sym (others i (ne_eqb id i ne))
+    | inr ne ↦
+        let there : i ≤ length cs = omega (arith, length-set cs (id - 1) c) in
+        at_other cs id i c on.0 h.0 ne ∙ k.each i (h.0, there) ∙ sym (others i (ne_eqb id i ne))
   ]
 
+  -- a connection that was sent more, in another mode
+  abbrev pub sent_more : ℕ → List ℕ → Mode → Connection
+  sent_more id message mode =
+      let c = connection_at cs id in record c { queue = c.queue ++ message; mode = mode }
+
   pub agrees_run : (id m : ℕ) (words : List (List ℕ)) (message : List ℕ) (after : Space)
+      (left : Mode)
       → runs_on l past id ≡ true → is_full l past ≡ false → latest past ≤ m
       → after ≡ (ran past id words m).space → message ≡ reply_bytes l past id words m
+      → left ≡ mode_after words (mode id past)
       → Agrees l (entry.Run id words m ∷ past) after
-      (with_connection cs id (record (connection_at cs id) {
-        queue = (connection_at cs id).queue
-            ++ message;
-      }))
-  agrees_run id m words message after on room later s e =
-      let new = entry.Run id words m ∷ past in
-      let c : Connection = record (connection_at cs id) {
-        queue = (connection_at cs id).queue
-            ++ message;
-      } in
+      (with_connection cs id (sent_more id message left))
+  agrees_run id m words message after left on room later s e switched =
+      let c = sent_more id message left in
+      let own = eq-eqb id id refl in
+      let kept = kept_of id on in
       record {
         legal = (on, room, later, k.legal);
         space_is = s;
         count = length-set cs (id - 1) c ∙ k.count;
-        each = each_with new id c (is_id id on)
-            (ap (λ (x : Connection). record x { queue = x.queue ++ message }) (kept_of id on)
-            ∙ ap (λ b. record { queue = unsent l id past ++ b; ended = has_ended l id past }) e
-            ∙ ap (λ q. record { queue = q; ended = has_ended l id past })
-            (sym (unsent_run_own l past id id m words (not_ended l past id on)
-            (eq-eqb id id refl))))
-            (λ i n. ap (λ q. record { queue = q; ended = has_ended l i past })
-            (unsent_run_other l past i id m words n));
+        each = each_with (entry.Run id words m ∷ past) id c (is_id id on)
+            (same_parts
+            (ap (λ x. x.queue ++ message) kept ∙ ap (λ x. unsent l id past ++ x) e
+            ∙ sym (unsent_run_own l past id id m words (not_ended l past id on) own))
+            (ap (λ x. x.ended) kept)
+            (switched ∙ sym (mode_own id id m words past own)))
+            (λ i n. same_parts (unsent_run_other l past i id m words n) refl
+            (mode_other i id m words past n));
       }
+
+  abbrev pub took : ℕ → ℕ → Connection
+  took id m = let c = connection_at cs id in record c { queue = drop m c.queue }
 
   pub agrees_take : (id m : ℕ) → gives_on l past id ≡ true → is_full l past ≡ false
       → (take m (unsent l id past) ≡ [] → ⊥)
-      → Agrees l (entry.Take id m ∷ past) space
-      (with_connection cs id
-      (record (connection_at cs id) { queue = drop m (connection_at cs id).queue }))
+      → Agrees l (entry.Take id m ∷ past) space (with_connection cs id (took id m))
   agrees_take id m on room some =
-      let new = entry.Take id m ∷ past in
-      let c : Connection =
-      record (connection_at cs id) { queue = drop m (connection_at cs id).queue } in
+      let c = took id m in
+      let own = eq-eqb id id refl in
+      let kept = kept_of id on in
       record {
         legal = (on, room, some, k.legal);
         space_is = k.space_is;
         count = length-set cs (id - 1) c ∙ k.count;
-        each = each_with new id c (is_id id on)
-            (ap (λ (x : Connection). record x { queue = drop m x.queue }) (kept_of id on)
-            ∙ ap (λ q. record { queue = q; ended = has_ended l id past })
-            (sym (unsent_take_own l past id id m (not_ended l past id on) (eq-eqb id id refl))))
-            (λ i n. ap (λ q. record { queue = q; ended = has_ended l i past })
-            (unsent_take_other l past i id m n));
+        each = each_with (entry.Take id m ∷ past) id c (is_id id on)
+            (same_parts
+            (ap (λ x. drop m x.queue) kept
+            ∙ sym (unsent_take_own l past id id m (not_ended l past id on) own))
+            (ap (λ x. x.ended) kept) (ap (λ x. x.mode) kept))
+            (λ i n. same_parts (unsent_take_other l past i id m n) refl refl);
       }
 
   pub live_at : (id : ℕ) → reads_on l past id ≡ true → (connection_at cs id).ended ≡ false
   live_at id on = ap (λ x. x.ended) (kept_of id on) ∙ not_ended l past id on
 
+  abbrev pub closed : ℕ → Connection
+  closed id = let c = connection_at cs id in record c { queue = []; ended = true }
+
   pub agrees_close : (id : ℕ) → reads_on l past id ≡ true
-      → Agrees l (entry.Close id ∷ past) space
-      (with_connection cs id (record { queue = []; ended = true }))
+      → Agrees l (entry.Close id ∷ past) space (with_connection cs id (closed id))
   agrees_close id on =
-      let new = entry.Close id ∷ past in
-      let c : Connection = record { queue = []; ended = true } in
+      let c = closed id in
+      let own = eq-eqb id id refl in
       record {
         legal = (on, k.legal);
         space_is = k.space_is;
         count = length-set cs (id - 1) c ∙ k.count;
-        each = each_with new id c (is_id id on)
-            (ap (λ b. record { queue = []; ended = cond b true (has_ended l id past) })
-            (sym (eq-eqb id id refl))
-            ∙ ap (λ q. record { queue = q; ended = has_ended l id new })
-            (sym (unsent_close_own l past id id (eq-eqb id id refl))))
-            (λ i n. ap (λ q. record { queue = q; ended = has_ended l i new })
-            (unsent_close_other l past i id n)
-            ∙ ap (λ b. record { queue = unsent l i past; ended = b }) (ended_other l past i id n));
+        each = each_with (entry.Close id ∷ past) id c (is_id id on)
+            (same_parts (sym (unsent_close_own l past id id own))
+            (ap (λ b. cond b true (has_ended l id past)) (sym own))
+            (ap (λ x. x.mode) (kept_of id on)))
+            (λ i n. same_parts (unsent_close_other l past i id n) (ended_other l past i id n) refl);
       }
 
 -- ---- turns as they are played

@@ -1,4 +1,3 @@
-pub mod Keyed
 pub mod Refusals
 pub mod BookTurns
 pub mod Plans

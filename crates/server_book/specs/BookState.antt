@@ -12,7 +12,7 @@ use Rattle.serial_model.specs.declared.history.BookReply.TheVariants.{Admitted, 
 use Rattle.serial_model.specs.declared.history.BookReply.TheVariants.{Closed, Refused}
 use Rattle.serial_model.specs.History.{admitted, has_ended, keyspace, unsent, posted, IsLegal}
 use Rattle.serial_model.specs.History.{runs_on}
-use Rattle.serial_model.specs.History.{gives_on, reads_on, is_full}
+use Rattle.serial_model.specs.History.{gives_on, reads_on, is_full, mode}
 use Rattle.serial_model.specs.Steps.{BookStep, full}
 use Rattle.server_book.specs.declared.connections.Connection.{Connection}
 use Rattle.server_book.specs.Connections.{IsId, connection_at, is_open}
@@ -35,7 +35,8 @@ posts_after l (Refused r) past = []
 
 -- what is kept of a connection
 abbrev pub connection_of : Limits → List Entry → ℕ → Connection
-connection_of l past id = record { queue = unsent l id past; ended = has_ended l id past }
+connection_of l past id =
+    record { queue = unsent l id past; ended = has_ended l id past; mode = mode id past }
 
 -- the history is legal, and the keyspace and the connections are those of it
 pub record Agrees (l : Limits) (past : List Entry) (space : Space)

@@ -2,11 +2,12 @@
 use Rattle.std.specs.Prelude.{◌-◌, ◌<◌, ◌≤◌, ◌&&◌, ℕ, List, [], Bool, false, not, nat_lt, nat_le}
 use Rattle.std.specs.Prelude.{length}
 use Rattle.std.specs.Prelude.{slice_index_or, slice_set}
+use Rattle.serial_model.specs.Modes.{first_mode}
 use Rattle.server_book.specs.declared.connections.Connection.{Connection}
 
 -- a connection that was sent nothing
 abbrev pub fresh : Connection
-fresh = record { queue = []; ended = false }
+fresh = record { queue = []; ended = false; mode = first_mode }
 
 abbrev pub IsId : List Connection → ℕ → Type 0
 IsId connections id = (0 < id) × (id ≤ length connections)

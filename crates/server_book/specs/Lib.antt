@@ -2,4 +2,3 @@ pub mod Plans
 pub mod Log
 pub mod Connections
 pub mod BookState
-pub mod Texts

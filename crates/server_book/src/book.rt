@@ -2,7 +2,7 @@
 ghost use Rattle.std.specs.Prelude.{◌≡◌, ◌<◌, [], true, IfOk, OnErr, length};
 ghost use Rattle.std.specs.Prelude.{reverse};
 ghost use Rattle.serial_model.specs.declared.history.BookCall.TheVariants as call;
-ghost use Rattle.serial_model.specs.History.{IsLegal, gives_on, is_full, protocol, reads_on};
+ghost use Rattle.serial_model.specs.History.{IsLegal, gives_on, is_full, reads_on};
 ghost use Rattle.serial_model.specs.History.{runs_on};
 ghost use Rattle.serial_model.specs.History.{unsent};
 ghost use Rattle.serial_model.specs.Steps.{AreValid, BookStep, IsCallable};
@@ -10,11 +10,11 @@ ghost use Rattle.server_book.specs.BookState.{IsAccepted, IsFullAnswer, IsRefusa
 ghost use Rattle.server_book.specs.BookState.{posts_after};
 
 use super::connections::Connections;
-use super::keyspace::Keyspace;
 use super::log::Log;
 use super::plan::{Plan, message_of, plan_of, put_written};
-use resp_value::{NoMemory, Proto, Words};
-use serial_model::{BookCall, BookRefusal, BookReply, Entry, Limits, Post, Posted};
+use keyspace::Keyspace;
+use resp_value::{NoMemory, Words};
+use serial_model::{BookCall, BookRefusal, BookReply, Entry, Limits, Post, Posted, Runner};
 use std::alloc::Global;
 use std::marker::Model;
 
@@ -108,13 +108,6 @@ impl Book {
         self.connections.waiting(id) as u64
     }
 
-    #[tactic(auto, unfolding(serial_model::specs::History::protocol))]
-    fn protocol(&self, id: u64) -> Proto
-        ensures { result ≡ protocol id self.now.past }
-    {
-        Proto::Two
-    }
-
     fn is_full(&self) -> bool
         ensures { result ≡ is_full self.now.limits self.now.past }
     {
@@ -190,10 +183,13 @@ impl Book {
         ensures ok { IfOk result (λ reply. IsTurn self.old (call.Run id words now) reply self.new) }
         ensures err { OnErr result (self.new ≡ self.old) }
     {
+        let count = self.connections.count();
         let moment = now.max(self.log.moment());
-        let Plan { reply, write } = plan_of(self.alloc, &self.space, &words, moment)?;
-        let message = message_of(self.alloc, self.protocol(id), &reply)?;
-        self.log.reserve(self.connections.count() + 1)?;
+        let mode = self.connections.mode(id);
+        let by = Runner { id, mode };
+        let Plan { reply, write, mode } = plan_of(self.alloc, &self.space, by, &words, moment)?;
+        let message = message_of(self.alloc, mode.proto, &reply)?;
+        self.log.reserve(count + 1)?;
         self.posts.reserve(1)?;
         let size = self.connections.waiting(id);
         self.connections.add(id, message.as_slice())?;
@@ -204,6 +200,7 @@ impl Book {
                 return Err(NoMemory);
             }
         }
+        self.connections.set_mode(id, mode);
         let entry = self.log.len() + 1;
         let length = message.len() as u64;
         self.log.push(Entry::Run { id, words, moment });

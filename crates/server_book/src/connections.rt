@@ -5,7 +5,8 @@ ghost use Rattle.server_book.specs.Connections.{IsId, connection_at, fresh, is_l
 ghost use Rattle.server_book.specs.Connections.{with_connection};
 
 use byte_queue::ByteQueue;
-use resp_value::{NoMemory, Octets};
+use resp_value::{NoMemory, Octets, Proto};
+use serial_model::Mode;
 use std::alloc::Global;
 use std::marker::Model;
 
@@ -15,6 +16,8 @@ pub struct Connection {
     /// The bytes that it was sent and has not taken.
     pub queue: ByteQueue,
     pub ended: bool,
+    /// What its own runs made of it.
+    pub mode: Mode,
 }
 
 /// All connections that were admitted. Their ids are 1 to their number.
@@ -43,7 +46,7 @@ impl Connections {
 
     pub fn count(&self) -> usize
         ensures count { result ≡ length self.now }
-        ensures below { result + 2 < 2 ^ 64 }
+        ensures below { result < 2 ^ 63 }
     {
         self.items.len()
     }
@@ -66,8 +69,25 @@ impl Connections {
         self.items.push(Connection {
             queue: ByteQueue::new(alloc),
             ended: false,
+            mode: Mode { proto: Proto::Two },
         })?;
         Ok(())
+    }
+
+    pub fn mode(&self, id: u64) -> Mode
+        requires { IsId self.now id }
+        ensures { result ≡ (connection_at self.now id).mode }
+    {
+        self.items[(id - 1) as usize].mode
+    }
+
+    pub fn set_mode(&mut self, id: u64, mode: Mode)
+        requires { IsId self.old id }
+        ensures { let c = connection_at self.old id in
+            self.new ≡ with_connection self.old id (record c { mode = mode }) }
+    {
+        let connection = &mut self.items[(id - 1) as usize];
+        connection.mode = mode;
     }
 
     /// How many bytes the connection has not taken.
@@ -121,7 +141,8 @@ impl Connections {
     /// Ends the connection, and gives up what it has not taken.
     pub fn end(&mut self, id: u64)
         requires { IsId self.old id }
-        ensures { self.new ≡ with_connection self.old id (record { queue = []; ended = true }) }
+        ensures { let c = connection_at self.old id in
+            self.new ≡ with_connection self.old id (record c { queue = []; ended = true }) }
     {
         let connection = &mut self.items[(id - 1) as usize];
         connection.queue.drop_all();

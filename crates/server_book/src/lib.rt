@@ -3,7 +3,7 @@
 
 mod book;
 mod connections;
-mod keyspace;
+mod hello;
 mod log;
 mod plan;
 

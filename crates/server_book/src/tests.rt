@@ -137,3 +137,41 @@ fn a_full_history_refuses_all_but_what_adds_no_entry_and_a_close(
     }
     Ok(())
 }
+
+// What HELLO tells a connection of this id on the third protocol.
+const GREETING: &str = "%7\r\n$6\r\nserver\r\n$5\r\nredis\r\n$7\r\nversion\r\n$5\r\n7.0.0\r\n\
+    $5\r\nproto\r\n:3\r\n$2\r\nid\r\n:1\r\n$4\r\nmode\r\n$10\r\nstandalone\r\n\
+    $4\r\nrole\r\n$6\r\nmaster\r\n$7\r\nmodules\r\n*0\r\n";
+
+#[test]
+fn hello_switches_the_protocol_of_its_own_connection(rt: HostRuntime) -> Result<(), Fail> {
+    let alloc = rt.alloc();
+    let mut book = Book::new(alloc, limits_of(100))?;
+    assert_eq!(rt; GREETING.len(), 144);
+    for (what, id, bytes) in [
+        ("admit", 0, ""),
+        ("admit", 0, ""),
+        ("GET foo", 1, "$-1\r\n"),
+        ("HELLO 3", 1, GREETING),
+        ("GET foo", 1, "_\r\n"),
+        ("GET foo", 2, "$-1\r\n"),
+        ("HELLO 4", 1, "-NOPROTO unsupported protocol version\r\n"),
+        (
+            "HELLO three",
+            1,
+            "-ERR Protocol version is not an integer or out of range\r\n",
+        ),
+        ("HELLO 2 AUTH", 1, "-ERR syntax error\r\n"),
+        ("hello", 1, GREETING),
+        ("HELLO 2", 1, "*14\r\n"),
+        ("GET foo", 1, "$-1\r\n"),
+    ] {
+        let _ = book.turn(call_of(alloc, what, id, 0)?);
+        if id > 0 {
+            let reply = book.turn(call_of(alloc, "take", id, 999)?);
+            let (_, gave) = parts_of(&reply);
+            assert_eq!(rt; gave.starts_with(bytes.as_bytes()), true, "{what}");
+        }
+    }
+    Ok(())
+}
