@@ -9,6 +9,7 @@ use Rattle.std.specs.FinMap.{empty}
 use Rattle.resp_value.specs.declared.value.Value.{Value}
 use Rattle.resp_value.specs.declared.value.Value.TheVariants.{Error, Simple}
 use Rattle.resp_value.specs.declared.value.Proto.{Proto}
+use Rattle.resp_value.specs.declared.value.Proto.TheVariants.{Two, Three}
 use Rattle.resp_value.specs.ValueTree.{tree_of}
 use Rattle.resp_value.specs.Spelling.{spelling}
 use Rattle.command_words.specs.declared.command.Command.{Command}
