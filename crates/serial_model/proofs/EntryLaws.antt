@@ -8,8 +8,10 @@ use Rattle.std.specs.List.{list_any}
 use Rattle.std.specs.Cmp.Lexicographic.{nat_list_cmp_total, texts_ties}
 use Rattle.std.specs.FinMap.{get, insert, get-insert}
 use Rattle.command_words.specs.declared.command.Command.{Command}
-use Rattle.command_words.specs.declared.command.Command.TheVariants.{Get, Set, Hello}
+use Rattle.command_words.specs.declared.command.Command.TheVariants.{Get, Set, Hello, ClientTracking}
+use Rattle.command_words.specs.declared.command.TrackOptions.{TrackOptions}
 use Rattle.command_words.specs.declared.command.WordFault.{WordFault}
+use Rattle.serial_model.specs.Modes.{is_served_tracking}
 use Rattle.command_words.specs.declared.command.SetWhen.TheVariants.{Always}
 use Rattle.command_words.specs.declared.command.SetLife.TheVariants.{Cleared}
 use Rattle.command_words.specs.declared.command.WordFault.TheVariants.{Syntax}
@@ -23,10 +25,9 @@ use Rattle.serial_model.specs.declared.history.Entry.TheVariants.{Admit, Run, Ta
 use Rattle.serial_model.specs.History.{Sending, Message, End, sends, sent_to, sent, has_ended}
 use Rattle.serial_model.specs.History.{IsLegal, served}
 use Rattle.serial_model.specs.History.{effect_of, ran_over, ran, keyspace, is_plain, is_admitted}
-use Rattle.serial_model.specs.History.{reply_protocol}
 use Rattle.serial_model.specs.History.{runner}
 use Rattle.serial_model.specs.Laws.{AreOf, is_signalled}
-use Rattle.serial_model.proofs.Streams.{not_ended}
+use Rattle.serial_model.proofs.Streams.{IsLive, live, run_sends_none}
 use Rattle.std.proofs.lemmas.Bool.{eqb-true}
 
 -- ---- what is sent
@@ -48,34 +49,43 @@ sent_grows l c entry past = (
   of_entry (length past + 1) c (sends l entry past),
 )
 
--- a connection that has ended is not the one of an entry that may follow
-not_own : (l : Limits) (past : List Entry) (c id : ℕ)
-    → (is_admitted past id && not (has_ended l id past)) ≡ true
-    → has_ended l c past ≡ true → (id == c) ≡ false
-not_own l past c id on ended =
-    elim (id == c) as (λ b. (id == c) ≡ b → b ≡ false) [
+adds_none : (l : Limits) (c : ℕ) (entry : Entry) (past : List Entry)
+    → sent_to (length past + 1) c (sends l entry past) ≡ []
+    → sent l c (entry ∷ past) ≡ sent l c past
+adds_none l c entry past none = ap (λ ss. sent l c past ++ ss) none ∙ append-nil (sent l c past)
+
+-- one that has not ended is not one that has
+live_other : (l : Limits) (past : List Entry) (c h : ℕ) → has_ended l c past ≡ true
+    → IsLive l past h → (h == c) ≡ false
+unfolding IsLive
+live_other l past c h ended x =
+    elim (h == c) as (λ b. (h == c) ≡ b → b ≡ false) [
       | true ↦ λ e.
-          let live : has_ended l c past ≡ false =
-          ap (λ i. has_ended l i past) (sym (eqb-true id c e)) ∙ not_ended l past id on in
-          absurd (let no : ⊥ = cc in no)
+          let no : has_ended l c past ≡ false =
+          ap (λ i. has_ended l i past) (sym (eqb-true h c e)) ∙ x.1 in
+          absurd (let n : ⊥ = cc in n)
       | false ↦ λ e. refl
     ] refl
-
-adds_none : (l : Limits) (c n : ℕ) (past : List Entry) (id : ℕ) (s : Sending) → (id == c) ≡ false
-    → sent l c past ++ (cond (id == c) ((n, s) ∷ []) []) ≡ sent l c past
-adds_none l c n past id s other = ap (λ b. sent l c past ++ (cond b ((n, s) ∷ []) [])) other
-    ∙ append-nil (sent l c past)
 
 pub end_is_last : (l : Limits) (c : ℕ) (entry : Entry) (past : List Entry)
     → IsLegal l (entry ∷ past)
     → has_ended l c past ≡ true → sent l c (entry ∷ past) ≡ sent l c past
-end_is_last l c (Admit id) past h ended = append-nil (sent l c past)
+end_is_last l c (Admit id) past h ended = adds_none l c (Admit id) past refl
 end_is_last l c (Run id words m) past h ended =
-    adds_none l c (length past + 1) past id (Message (reply_protocol past id words)
-    (ran past id words m).reply) (not_own l past c id h.0 ended)
-end_is_last l c (Take id max) past h ended = append-nil (sent l c past)
+    adds_none l c (Run id words m) past
+    (run_sends_none l (length past + 1) c past id words m h.3 h.0
+    (λ k. live_other l past c k ended))
+end_is_last l c (Take id max) past h ended = adds_none l c (Take id max) past refl
 end_is_last l c (Close id) past h ended =
-    adds_none l c (length past + 1) past id End (not_own l past c id h.0 ended)
+    adds_none l c (Close id) past
+    (ap (λ b. cond b ((length past + 1, End) ∷ []) [])
+    (live_other l past c id ended (live l past id h.0)))
+
+pub runs_live : (l : Limits) (id moment : ℕ) (words : List (List ℕ)) (past : List Entry)
+    → IsLegal l (Run id words moment ∷ past)
+    → (is_admitted past id ≡ true) × (has_ended l id past ≡ false)
+unfolding IsLive
+runs_live l id moment words past h = live l past id h.0
 
 -- ---- what is changed
 
@@ -100,21 +110,32 @@ set_change by words key value true space m q h =
     other_held space key q (record { content = Text value; deadline = None }) h
 set_change by words key value false space m q h = refl
 
+tracking_change : (by : Runner) (words : List (List ℕ)) (options : TrackOptions) (served : Bool)
+    (space : Space) (m : ℕ) (q : List ℕ)
+    → held_at q (effect_of by words (cond served (Ok (ClientTracking options)) (Err Syntax)) space m)
+    .space ≡ held_at q space
+tracking_change by words options true space m q = refl
+tracking_change by words options false space m q = refl
+
 change_of : (by : Runner) (words : List (List ℕ)) (read : Result Command WordFault) (space : Space)
     (m : ℕ) (q : List ℕ)
     → is_signalled (effect_of by words (served read) space m).signalled q ≡ false
     → held_at q (effect_of by words (served read) space m).space ≡ held_at q space
 unfolding effect string_effect
 change_of by words (Ok (Hello word)) space m q h = refl
+change_of by words (Ok (ClientTracking options)) space m q h =
+    tracking_change by words options (is_served_tracking options) space m q
 change_of by words (Ok (Get key)) space m q h = refl
 change_of by words (Ok (Set key value when life)) space m q h =
     set_change by words key value (is_plain when life) space m q h
 change_of by words (Ok _) space m q h = refl
 change_of by words (Err fault) space m q h = refl
 
-pub change_is_signalled : (id moment : ℕ) (words : List (List ℕ)) (key : List ℕ) (past : List Entry)
-    → is_signalled (ran past id words moment).signalled key ≡ false
-    → held_at key (ran past id words moment).space ≡ held_at key (keyspace past)
+-- a key that a Run does not signal holds what it held
+pub held_same : (l : Limits) (id moment : ℕ) (words : List (List ℕ)) (key : List ℕ)
+    (past : List Entry)
+    → is_signalled (ran l past id words moment).signalled key ≡ false
+    → held_at key (ran l past id words moment).space ≡ held_at key (keyspace l past)
 unfolding ran_over
-change_is_signalled id moment words key past h =
-    change_of (runner past id) words (reading words) (keyspace past) moment key h
+held_same l id moment words key past h =
+    change_of (runner l past id) words (reading words) (keyspace l past) moment key h

@@ -1,3 +1,4 @@
+pub mod Tables
 pub mod Streams
 pub mod Others
 pub mod Turning

@@ -2,4 +2,4 @@ use Rattle.serial_model.proofs.laws.law_change_is_signalled.Goals as goal
 use Rattle.serial_model.proofs.EntryLaws.{change_is_signalled}
 
 pub returns : goal.returns
-returns c = change_is_signalled
+returns c = ?
