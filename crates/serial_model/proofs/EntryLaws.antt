@@ -112,8 +112,8 @@ set_change by words key value false space m q h = refl
 
 tracking_change : (by : Runner) (words : List (List ℕ)) (options : TrackOptions) (served : Bool)
     (space : Space) (m : ℕ) (q : List ℕ)
-    → held_at q (effect_of by words (cond served (Ok (ClientTracking options)) (Err Syntax)) space m)
-    .space ≡ held_at q space
+    → (let does = effect_of by words (cond served (Ok (ClientTracking options)) (Err Syntax)) space m
+    in held_at q does.space ≡ held_at q space)
 tracking_change by words options true space m q = refl
 tracking_change by words options false space m q = refl
 

@@ -119,7 +119,8 @@ run_no_end : (l : Limits) (n c id : ℕ) (words : List (List ℕ)) (m : ℕ) (pa
 run_no_end l n c id words m past =
     let late = own_group l past id words m ++ drop_group (drops l past id words m) in
     let after = modes l (Run id words m ∷ past) in
-    ap has_end (sent_to-append n c (routed (modes l past) (expiry_group l past m)) _)
+    ap has_end (sent_to-append n c (routed (modes l past) (expiry_group l past m))
+    (reply_of l past id words m ∷ (routed after late ++ [])))
     ∙ no_ends (sent_to n c (routed (modes l past) (expiry_group l past m)))
     (sent_to n c (reply_of l past id words m ∷ (routed after late ++ [])))
     (routed_no_end n c (modes l past) (expiry_group l past m))

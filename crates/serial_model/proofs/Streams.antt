@@ -46,7 +46,7 @@ module _ (l : Limits) where
 
   -- ---- holders are admitted, and have not ended
 
-  pub IsLive : List Entry → ℕ → Type 0
+  unfoldable pub IsLive : List Entry → ℕ → Type 0
   IsLive past h = (is_admitted past h ≡ true) × (has_ended l h past ≡ false)
 
   pub live : (past : List Entry) (id : ℕ) → runs_on l past id ≡ true → IsLive past id
@@ -75,6 +75,16 @@ module _ (l : Limits) where
         (let other : (id == h) ≡ false = grind (arith, nat_tests) in other) ∙ x.0.1,
   )
 
+  run_live : (past : List Entry) (id : ℕ) (words : List (List ℕ)) (moment : ℕ) (rows : List Held)
+      → AllRows (IsLive past) rows → AllRows (IsLive (Run id words moment ∷ past)) rows
+  unfolding IsLive
+  run_live past id words moment rows a = a
+
+  take_live : (past : List Entry) (id max : ℕ) (rows : List Held)
+      → AllRows (IsLive past) rows → AllRows (IsLive (Take id max ∷ past)) rows
+  unfolding IsLive
+  take_live past id max rows a = a
+
   pub table_live : (past : List Entry) → IsLegal l past → AllRows (IsLive past) (table l past)
   unfolding AllRows
   table_live [] h = tt
@@ -82,22 +92,10 @@ module _ (l : Limits) where
       all_rows {P = IsLive past} {Q = IsLive (Admit id ∷ past)} (admit_live past id) (table l past)
       (table_live past h.2)
   table_live (Run id words moment ∷ past) h =
-      run_live past id words moment
+      run_live past id words moment (table l (Run id words moment ∷ past))
       (kept_all (IsLive past) l.table_max (table_grown l past id words moment)
       (grown_live past id words moment h.0 (table_live past h.3)))
-    where
-      run_live : (past : List Entry) (id : ℕ) (words : List (List ℕ)) (moment : ℕ)
-          → AllRows (IsLive past) (table l (Run id words moment ∷ past))
-          → AllRows (IsLive (Run id words moment ∷ past)) (table l (Run id words moment ∷ past))
-      unfolding IsLive
-      run_live past id words moment a = a
-  table_live (Take id max ∷ past) h =
-      take_live past id max (table_live past h.3)
-    where
-      take_live : (past : List Entry) (id max : ℕ) → AllRows (IsLive past) (table l past)
-          → AllRows (IsLive (Take id max ∷ past)) (table l past)
-      unfolding IsLive
-      take_live past id max a = a
+  table_live (Take id max ∷ past) h = take_live past id max (table l past) (table_live past h.3)
   table_live (Close id ∷ past) h =
       all_rows {P = λ k. IsLive past k × ((k == id) ≡ false)} {Q = IsLive (Close id ∷ past)}
       (close_live past id) (table l (Close id ∷ past))
@@ -132,7 +130,9 @@ module _ (l : Limits) where
       → AllTo (λ h. (h == c) ≡ false) (behind past id words moment)
       → (id == c) ≡ false → sent_to n c (sends l (Run id words moment) past) ≡ []
   run_none n c past id words moment before after other =
-      sent_to-append n c (routed (modes l past) (expiry_group l past moment)) _
+      sent_to-append n c (routed (modes l past) (expiry_group l past moment))
+      (reply_of l past id words moment
+      ∷ (routed (modes l (Run id words moment ∷ past)) (behind past id words moment) ++ []))
       ∙ ap (λ xs. xs ++ sent_to n c (reply_of l past id words moment
       ∷ (routed (modes l (Run id words moment ∷ past)) (behind past id words moment) ++ [])))
       (routed_none n c (modes l past) (expiry_group l past moment) before)

@@ -12,18 +12,18 @@ use Rattle.track_table.specs.Table.{without_key, freed_of, without_connection}
 use Rattle.serial_model.specs.declared.mode.Mode.{Mode}
 use Rattle.serial_model.specs.Modes.{Memory, Remembers, Forgets}
 use Rattle.serial_model.specs.Tracking.{without_keys, with_keys, remembering, dropped, kept}
-use Rattle.serial_model.specs.Tracking.{Invalidation, told_of, group, drop_group}
-use Rattle.serial_model.specs.History.{Sending, sent_to, by_proto, route, routed}
+use Rattle.serial_model.specs.Tracking.{Invalidation, told_of, group, drop_group, push_of}
+use Rattle.serial_model.specs.History.{Sending, Message, sent_to, by_proto, route, routed}
 
-pub AllIn : (ℕ → Type 0) → List ℕ → Type 0
+unfoldable pub AllIn : (ℕ → Type 0) → List ℕ → Type 0
 AllIn P [] = Unit {0}
 AllIn P (h ∷ hs) = P h × AllIn P hs
 
-pub AllRows : (ℕ → Type 0) → List Held → Type 0
+unfoldable pub AllRows : (ℕ → Type 0) → List Held → Type 0
 AllRows P [] = Unit {0}
 AllRows P (r ∷ rs) = AllIn P r.holders × AllRows P rs
 
-pub AllTo : (ℕ → Type 0) → List Invalidation → Type 0
+unfoldable pub AllTo : (ℕ → Type 0) → List Invalidation → Type 0
 AllTo P [] = Unit {0}
 AllTo P (i ∷ told) = P i.to × AllTo P told
 
@@ -162,6 +162,7 @@ module _ (P : ℕ → Type 0) where
 -- what a connection remembers after its command: all others as before
 pub remembering_all : (P Q : ℕ → Type 0) (id : ℕ) (memory : Memory) (rows : List Held)
     → P id → AllRows P rows → AllRows P (remembering id memory rows)
+unfolding others
 remembering_all P Q id (Remembers keys) rows p a = with_keys_all P id keys rows p a
 remembering_all P Q id Forgets rows p a =
     all_rows {P = others P id} {Q = P} (λ h x. x.0) (without_connection id rows)
@@ -188,7 +189,7 @@ sent_to-append n c (x ∷ xs) ys =
 route_none : (n c : ℕ) (proto : Proto) (i : Invalidation) → (i.to == c) ≡ false
     → sent_to n c (by_proto proto i) ≡ []
 route_none n c Two i h = refl
-route_none n c Three i h = ap (λ b. cond b _ []) h
+route_none n c Three i h = ap (λ b. cond b ((n, Message Three (push_of i.keys)) ∷ []) []) h
 
 -- one that none of these are for is sent nothing
 pub routed_none : (n c : ℕ) (modes : ℕ → Mode) (told : List Invalidation)
