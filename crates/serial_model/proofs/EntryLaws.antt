@@ -8,7 +8,8 @@ use Rattle.std.specs.List.{list_any}
 use Rattle.std.specs.Cmp.Lexicographic.{nat_list_cmp_total, texts_ties}
 use Rattle.std.specs.FinMap.{get, insert, get-insert}
 use Rattle.command_words.specs.declared.command.Command.{Command}
-use Rattle.command_words.specs.declared.command.Command.TheVariants.{Get, Set, Hello, ClientTracking}
+use Rattle.command_words.specs.declared.command.Command.TheVariants.{Get, Set, Hello}
+use Rattle.command_words.specs.declared.command.Command.TheVariants.{ClientTracking}
 use Rattle.command_words.specs.declared.command.TrackOptions.{TrackOptions}
 use Rattle.command_words.specs.declared.command.WordFault.{WordFault}
 use Rattle.serial_model.specs.Modes.{is_served_tracking}
@@ -110,9 +111,10 @@ set_change by words key value true space m q h =
     other_held space key q (record { content = Text value; deadline = None }) h
 set_change by words key value false space m q h = refl
 
-tracking_change : (by : Runner) (words : List (List ℕ)) (options : TrackOptions) (served : Bool)
+tracking_change : (by : Runner) (words : List (List ℕ)) (options : TrackOptions) (plain : Bool)
     (space : Space) (m : ℕ) (q : List ℕ)
-    → (let does = effect_of by words (cond served (Ok (ClientTracking options)) (Err Syntax)) space m
+    → (let does = effect_of by words (cond plain (Ok (ClientTracking options)) (Err Syntax)) space
+    m
     in held_at q does.space ≡ held_at q space)
 tracking_change by words options true space m q = refl
 tracking_change by words options false space m q = refl

@@ -169,7 +169,8 @@ module _ (l : Limits) where
   sent_fresh (Run id words moment ∷ past) c h lt =
       ap (λ xs. xs ++ sent_to (length past + 1) c (sends l (Run id words moment) past))
       (sent_fresh past c h.3 lt)
-      ∙ run_sends_none (length past + 1) c past id words moment h.3 h.0 (λ k. fresh_other past c k lt)
+      ∙ run_sends_none (length past + 1) c past id words moment h.3 h.0
+      (λ k. fresh_other past c k lt)
   sent_fresh (Take id max ∷ past) c h lt = rw (sent_fresh past c h.3 lt) refl
   sent_fresh (Close id ∷ past) c h lt =
       let r = sent_fresh past c h.1 lt in let k = connected past id h.0 in grind (arith, nat_tests)

@@ -130,10 +130,10 @@ keyspace l (Close id ∷ past) = keyspace l past
 abbrev pub ran : Limits → List Entry → ℕ → List (List ℕ) → ℕ → Effect
 ran l past id words moment = ran_over (keyspace l past) (runner l past id) words moment
 
--- ---- what is remembered and told, step by step. A Run goes in this order: keys that are past their
--- deadline leave, its command runs, keys that it signals are told and forgotten, its connection
--- remembers what it read, keys past the table's limit are dropped, and connections with too much
--- untaken output end.
+-- ---- what is remembered and told, step by step. A Run goes in this order: keys that are past
+-- their deadline leave, its command runs, keys that it signals are told and forgotten, its
+-- connection remembers what it read, keys past the table's limit are dropped, and connections with
+-- too much untaken output end.
 
 -- keys that are past their deadline: no command that is served sets one
 abbrev pub expired : Limits → List Entry → ℕ → List (List ℕ)
@@ -227,7 +227,7 @@ sends l (Run id words moment) past =
     routed (modes l past) (expiry_group l past moment)
     ++ reply_of l past id words moment
     ∷ (routed (modes l (Run id words moment ∷ past))
-        (own_group l past id words moment ++ drop_group (drops l past id words moment))
+    (own_group l past id words moment ++ drop_group (drops l past id words moment))
     ++ overgrown l past id words moment)
 sends l (Take id max) past = []
 sends l (Close id) past = (id, End) ∷ []

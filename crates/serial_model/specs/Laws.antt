@@ -197,7 +197,7 @@ ChangeIsSignalled =
     → signals_key l entry past key ≡ false
     → (held_at key (keyspace l (entry ∷ past)) ≡ held_at key (keyspace l past))
     × ((query : List (List ℕ)) → reads_as_cacheable (reading query) ≡ true → key_of query ≡ key
-        → answer query (keyspace l (entry ∷ past)) ≡ answer query (keyspace l past))
+    → answer query (keyspace l (entry ∷ past)) ≡ answer query (keyspace l past))
 
 -- A cacheable read replies what its query answers at its entry.
 abbrev pub ReadReplies : Type 0
@@ -225,8 +225,8 @@ ReadIsOwedOrTold =
     → remembers_read (mode l c past) ≡ true
     → key_of words ≡ key
     → (is_told l (entry.Run c words moment ∷ past) c key
-        || is_due l (entry.Run c words moment) past c key
-        || has_ended l c (entry.Run c words moment ∷ past)) ≡ true
+    || is_due l (entry.Run c words moment) past c key
+    || has_ended l c (entry.Run c words moment ∷ past)) ≡ true
 
 -- Being told ends only for a cause.
 abbrev pub ToldEndsForCause : Type 0
@@ -235,4 +235,4 @@ ToldEndsForCause =
     → is_told l past c key ≡ true
     → is_told l (entry ∷ past) c key ≡ false
     → (signals_key l entry past key || drops_key l entry past key
-        || stops_tracking l entry past c || has_ended l c (entry ∷ past)) ≡ true
+    || stops_tracking l entry past c || has_ended l c (entry ∷ past)) ≡ true

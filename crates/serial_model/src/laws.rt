@@ -6,6 +6,8 @@ ghost use Rattle.serial_model.specs.Laws.{ModeByOwnRuns, OthersExtend, PostedIsS
 ghost use Rattle.serial_model.specs.Laws.{PostsAreNumbered, ReadIsOwedOrTold, ReadReplies};
 ghost use Rattle.serial_model.specs.Laws.{ToldEndsForCause, ToldIsDue};
 
+use command_words::law_replies_are_of_keys_read;
+
 /// After any list of turns on an empty history, the bytes that each connection was given are the
 /// first bytes of what was sent to it.
 pub fn law_given_is_stream()
@@ -71,7 +73,9 @@ pub fn law_runs_live()
 /// A changed answer is signalled.
 pub fn law_change_is_signalled()
     ensures { ChangeIsSignalled }
-{}
+{
+    law_replies_are_of_keys_read();
+}
 
 /// A cacheable read replies what its query answers at its entry.
 pub fn law_read_replies()
