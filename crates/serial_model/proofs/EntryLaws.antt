@@ -2,7 +2,7 @@
 use Rattle.std.proofs.Common.{◌≡◌, ◌+◌, ℕ, List, [], ◌∷◌, ◌++◌, Bool, true, false, cond, length}
 use Rattle.std.proofs.Common.{Result, Ok, Err, Some, None}
 use Rattle.std.proofs.Common.{refl, ap, sym, ◌∙◌, append-nil}
-use Rattle.std.specs.Prelude.{◌==◌, ◌&&◌, ◌||◌, not}
+use Rattle.std.specs.Prelude.{◌==◌, ◌||◌}
 use Rattle.std.specs.Str.{bytes_eq}
 use Rattle.std.specs.List.{list_any}
 use Rattle.std.specs.Cmp.Lexicographic.{nat_list_cmp_total, texts_ties}
@@ -23,7 +23,7 @@ use Rattle.serial_model.specs.declared.mode.Runner.{Runner}
 use Rattle.serial_model.specs.declared.history.Limits.{Limits}
 use Rattle.serial_model.specs.declared.history.Entry.{Entry}
 use Rattle.serial_model.specs.declared.history.Entry.TheVariants.{Admit, Run, Take, Close}
-use Rattle.serial_model.specs.History.{Sending, Message, End, sends, sent_to, sent, has_ended}
+use Rattle.serial_model.specs.History.{Sending, End, sends, sent_to, sent, has_ended}
 use Rattle.serial_model.specs.History.{IsLegal, served}
 use Rattle.serial_model.specs.History.{effect_of, ran_over, ran, keyspace, is_plain, is_admitted}
 use Rattle.serial_model.specs.History.{runner}

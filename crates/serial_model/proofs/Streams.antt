@@ -14,11 +14,11 @@ use Rattle.serial_model.specs.declared.history.Limits.{Limits}
 use Rattle.serial_model.specs.declared.history.Entry.{Entry}
 use Rattle.serial_model.specs.declared.history.Entry.TheVariants.{Admit, Run, Take, Close}
 use Rattle.track_table.specs.declared.table.Held.{Held}
-use Rattle.serial_model.specs.History.{admitted, is_admitted, runs_on, has_ended, ran, made}
+use Rattle.serial_model.specs.History.{admitted, is_admitted, runs_on, has_ended, made}
 use Rattle.serial_model.specs.History.{signals, expired, table, table_then, table_grown, drops}
 use Rattle.serial_model.specs.History.{expiry_group, own_group, routed, modes, reply_of}
 use Rattle.serial_model.specs.Tracking.{Invalidation, drop_group, without_keys}
-use Rattle.serial_model.specs.History.{Sending, End, sends, sent_to, sent, sent_bytes}
+use Rattle.serial_model.specs.History.{End, sends, sent_to, sent, sent_bytes}
 use Rattle.serial_model.specs.History.{sending_bytes, stream, taken, unsent, runs_of, IsLegal}
 use Rattle.serial_model.proofs.Tables.{AllRows, AllTo, all_rows, all_to, without_keys_all, kept_all}
 use Rattle.serial_model.proofs.Tables.{dropped_all, to_append, group_all, drop_group_all}

@@ -1,12 +1,11 @@
 -- Whom an entry tells of a key, and what it leaves of who is to be told.
-use Rattle.std.proofs.Common.{◌≡◌, ◌≤◌, ◌-◌, ℕ, List, [], ◌∷◌, ◌++◌, Bool, true, false, cond}
+use Rattle.std.proofs.Common.{◌≡◌, ◌≤◌, ◌-◌, ℕ, List, [], ◌∷◌, Bool, true, false, cond}
 use Rattle.std.proofs.Common.{length, take, drop, Result, Ok, Err, refl, ap, sym, ◌∙◌, arith}
 use Rattle.std.proofs.Common.{inl, inr}
 use Rattle.std.specs.Prelude.{◌==◌, ◌&&◌, ◌||◌, not}
 use Rattle.std.specs.List.{list_any}
 use Rattle.std.specs.Str.{bytes_eq}
 use Rattle.std.proofs.lemmas.Bool.{and_parts, and_from, or_left, or_right, or_cases, both_ways}
-use Rattle.std.proofs.lemmas.Bool.{not_from_false}
 use Rattle.std.proofs.lemmas.List.Folds.{list_any-append}
 use Rattle.command_words.specs.declared.command.Command.{Command}
 use Rattle.command_words.specs.declared.command.Command.TheVariants.{Get, Set, Hello}
@@ -21,7 +20,7 @@ use Rattle.command_words.specs.Words.{reading}
 use Rattle.command_words.specs.Queries.{reads_as_cacheable, key_of}
 use Rattle.command_words.specs.Effects.{effect, string_effect}
 use Rattle.track_table.specs.declared.table.Held.{Held}
-use Rattle.track_table.specs.Table.{holders_of, without_connection, remembered}
+use Rattle.track_table.specs.Table.{holders_of, without_connection}
 use Rattle.serial_model.specs.declared.mode.Runner.{Runner}
 use Rattle.serial_model.specs.declared.mode.Mode.{Mode}
 use Rattle.serial_model.specs.declared.history.Limits.{Limits}
@@ -31,9 +30,9 @@ use Rattle.serial_model.specs.Modes.{Memory, Remembers, Forgets, is_served_track
 use Rattle.serial_model.specs.Modes.{remembers_read}
 use Rattle.serial_model.specs.Tracking.{without_keys, remembering, dropped, drop_group, tells}
 use Rattle.serial_model.specs.History.{effect_of, ran_over, ran, made_of, made, is_plain, served}
-use Rattle.serial_model.specs.History.{runner, keyspace, mode, has_ended, IsLegal, table, signals}
+use Rattle.serial_model.specs.History.{runner, keyspace, mode, has_ended, table, signals}
 use Rattle.serial_model.specs.History.{signalled_keys, table_then, table_grown, own_group, drops}
-use Rattle.serial_model.specs.Laws.{is_among, is_signalled, is_told, signals_key, drops_key, is_due}
+use Rattle.serial_model.specs.Laws.{is_among, is_signalled, is_told, drops_key}
 use Rattle.serial_model.specs.Laws.{is_forgets, ToldIsDue, ReadIsOwedOrTold, ToldEndsForCause}
 use Rattle.serial_model.proofs.KeyHolders.{holds, keys_apart, remembering_keeps, remembered_own}
 use Rattle.serial_model.proofs.KeyHolders.{dropped_or_kept, drop_tells, group_tells}

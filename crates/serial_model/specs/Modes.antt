@@ -1,7 +1,7 @@
 -- What a connection's own commands make of it (the pages of HELLO, CLIENT TRACKING and of the RESP
 -- protocols).
 use Rattle.std.specs.Prelude.{ℕ, List, [], ◌∷◌, Option, Some, None, Result, Ok, Err, pos, codes}
-use Rattle.std.specs.Prelude.{is_some, if◌then◌else◌, Bool, true, false, not, ◌&&◌, ◌||◌, length}
+use Rattle.std.specs.Prelude.{is_some, if◌then◌else◌, Bool, false, not, ◌&&◌, ◌||◌, length}
 use Rattle.std.specs.Prelude.{◌==◌}
 use Rattle.std.specs.Str.{bytes_eq}
 use Rattle.resp_value.specs.declared.value.Value.{Value}
