@@ -1,21 +1,26 @@
 -- What each row signals is among the keys that its command writes.
-use Rattle.std.proofs.Common.{◌≡◌, ◌∙◌, sym, ℕ, List, [], ◌∷◌, Bool, true, false}
+use Rattle.std.proofs.Common.{◌≡◌, ◌∙◌, refl, sym, ℕ, List, [], ◌∷◌, Bool, true, false}
 use Rattle.std.proofs.Common.{Option, None, Some, Result, Ok, Err, length, ◌==◌, ℤ}
 use Rattle.std.specs.Prelude.{pos, negsuc, neg_ℤ}
-use Rattle.std.specs.Prelude.{if◌then◌else◌, nat_lt, ◌++◌}
+use Rattle.std.specs.Prelude.{if◌then◌else◌, nat_lt, ◌++◌, ◌||◌}
 use Rattle.std.specs.FinMap.{contains_key}
+use Rattle.std.specs.List.{filter, list_any}
+use Rattle.std.specs.Option.{is_some}
+use Rattle.std.specs.Str.{bytes_eq}
 use Rattle.resp_value.specs.declared.value.Value.{Value}
 use Rattle.resp_value.specs.Tree.{in_turn}
 use Rattle.command_words.specs.declared.command.Command.{Command}
 use Rattle.command_words.specs.declared.command.Command.TheVariants as command
 use Rattle.command_words.specs.declared.written.Written.{Written}
 use Rattle.command_words.specs.declared.written.Written.TheVariants.{Keys}
-use Rattle.command_words.specs.Space.{Content, Text, Fields, Space, content_at}
+use Rattle.command_words.specs.KeyLists.{each_once}
+use Rattle.command_words.specs.Space.{Content, Text, Fields, Space, content_at, deadline_at}
 use Rattle.command_words.specs.Effect.{Effect, replied, wrote, wrong_type}
 use Rattle.command_words.specs.Effect.{not_integer, number_in, sum_in}
-use Rattle.command_words.specs.Effects.{effect, string_effect, hash_effect}
+use Rattle.command_words.specs.Effects.{effect, string_effect, hash_effect, key_effect}
 use Rattle.command_words.specs.Hashes.{Pairs, on_fields, hset_row, hdel_row, hincrby_row}
 use Rattle.command_words.specs.Hashes.{set_all, remove_all, field_sum}
+use Rattle.command_words.specs.Keys.{expiry_after, expiry_at, expire_effect}
 use Rattle.command_words.specs.Laws.{signals}
 use Rattle.command_words.specs.Queries.{written, names, keys_in_turn}
 use Rattle.command_words.specs.Strings.{on_text, getdel_row, append_row, incrby_row}
@@ -76,9 +81,40 @@ hincr : (key field : List ℕ) (sum : Result ℤ Value) (fs : Pairs) (space : Sp
 hincr key field (Ok n) fs space = own
 hincr key field (Err error) fs space = none
 
+expire : (key : List ℕ) (expiry : Option ℕ) (space : Space) →
+    Only (Keys (key ∷ [])) (expire_effect key expiry space)
+expire key expiry space = either (contains_key space key) own none
+
+right_true : (b c : Bool) → c ≡ true → (b || c) ≡ true
+right_true true c e = refl
+right_true false c e = e
+
+left_true : (b c : Bool) → b ≡ true → (b || c) ≡ true
+left_true true c e = refl
+left_true false c e = cc
+
+also : (b : Bool) (k key : List ℕ) (some keys : List (List ℕ)) →
+    (list_any (bytes_eq k) some ≡ true → list_any (bytes_eq k) keys ≡ true) →
+    list_any (bytes_eq k) (if b then key ∷ some else some) ≡ true →
+    (bytes_eq k key || list_any (bytes_eq k) keys) ≡ true
+also false k key some keys rest e = right_true _ _ (rest e)
+also true k key some keys rest e = by (bytes_eq k key) e
+  where
+    by : (b : Bool) → (b || list_any (bytes_eq k) some) ≡ true →
+        (b || list_any (bytes_eq k) keys) ≡ true
+    by true e = refl
+    by false e = rest e
+
+-- a key that is among some of the keys is among them
+among : (p : List ℕ → Bool) (k : List ℕ) (keys : List (List ℕ)) →
+    list_any (bytes_eq k) (filter p keys) ≡ true → list_any (bytes_eq k) keys ≡ true
+among p k [] some = some
+among p k (key ∷ keys) some =
+    also (p key) k key (filter p keys) keys (among p k keys) some
+
 pub signalled_only : (c : Command) (space : Space) (moment : ℕ) →
     Only (written c) (effect c space moment)
-unfolding effect string_effect hash_effect
+unfolding effect string_effect hash_effect key_effect
 signalled_only (command.Set key value when life) space moment =
     either (sets when (contains_key space key)) own none
 signalled_only (command.SetNx key value) space moment = either (contains_key space key) none own
@@ -104,4 +140,19 @@ signalled_only (command.HIncrBy key field n) space moment =
     fields (content_at key space) space
     (λ fs. hincrby_row key field (field_sum field n fs) fs space)
     (λ fs. hincr key field (field_sum field n fs) fs space)
+signalled_only (command.Del keys) space moment =
+    record {
+      is = λ k signalled.
+          sym (any_once k keys) ∙ among (contains_key space) k (each_once keys) signalled;
+    }
+signalled_only (command.Rename a b) space moment =
+    either (contains_key space a) (either (bytes_eq a b) none own) none
+signalled_only (command.Expire key n) space moment = expire key (expiry_after moment 1000 n) space
+signalled_only (command.PExpire key n) space moment = expire key (expiry_after moment 1 n) space
+signalled_only (command.ExpireAt key n) space moment = expire key (expiry_at moment 1000 n) space
+signalled_only (command.PExpireAt key n) space moment = expire key (expiry_at moment 1 n) space
+signalled_only (command.Persist key) space moment =
+    either (is_some (deadline_at key space)) own none
+signalled_only (command.FlushAll mode) space moment = record { is = λ k signalled. signalled }
+signalled_only (command.FlushDb mode) space moment = record { is = λ k signalled. signalled }
 signalled_only _ space moment = none

@@ -42,6 +42,9 @@ overflow = Error (codes "ERR increment or decrement would overflow")
 abbrev pub too_long : Value
 too_long = Error (codes "ERR string exceeds maximum allowed size")
 
+abbrev pub no_such_key : Value
+no_such_key = Error (codes "ERR no such key")
+
 -- the number that a value spells; a missing one is 0
 abbrev pub number_in : Option (List ℕ) → Option ℤ
 number_in None = Some (pos 0)

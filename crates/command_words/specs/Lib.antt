@@ -15,6 +15,7 @@ pub mod Space
 pub mod Effect
 pub mod Strings
 pub mod Hashes
+pub mod Keys
 pub mod Effects
 pub mod Printed
 pub mod Queries

@@ -2,8 +2,8 @@
 use Rattle.std.specs.Prelude.{◌≡◌, ◌⊎◌, ℕ, List, Option, refl}
 use Rattle.std.specs.Ordering.{nat_cmp}
 use Rattle.std.specs.Cmp.Lexicographic.{slice_cmp}
-use Rattle.std.specs.FinMap.{FinMap, get}
-use Rattle.std.specs.Option.{option_map, option_and_then}
+use Rattle.std.specs.FinMap.{FinMap, get, insert}
+use Rattle.std.specs.Option.{option_map, option_and_then, option_map_or}
 use Rattle.std.specs.Coded.{Coded, code_by, coded×, coded⊎, coded_list, coded_option, coded_ℕ}
 use mathlib.Core.Logic.{inl, inr}
 
@@ -28,6 +28,15 @@ content_at key space = option_map (λ h. h.content) (held_at key space)
 
 abbrev pub deadline_at : List ℕ → Space → Option ℕ
 deadline_at key space = option_and_then (λ h. h.deadline) (held_at key space)
+
+-- what a key holds is changed; a missing key stays missing
+abbrev pub changed_at : List ℕ → (Held → Held) → Space → Space
+changed_at key change space =
+    option_map_or (λ held. insert space key (change held)) (get space key) space
+
+-- the key has this deadline, and the content that it had
+abbrev pub with_deadline : List ℕ → Option ℕ → Space → Space
+with_deadline key deadline = changed_at key (λ held. record held { deadline = deadline })
 
 -- how a content and what a key holds are stored
 

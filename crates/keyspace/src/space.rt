@@ -1,12 +1,13 @@
 //! The keyspace, as a finite map from keys to what they hold.
-ghost use Rattle.std.specs.Prelude.{◌≡◌, OnOk, OnErr, is_some, option_map};
+ghost use Rattle.std.specs.Prelude.{◌≡◌, ◌<◌, ◌^◌, OnOk, OnErr, IfOk, is_some, option_map};
 ghost use Rattle.std.specs.FinMap as finite;
 ghost use Rattle.std.specs.Borrow.{sem};
 ghost use Rattle.resp_value.specs.Tree.{in_turn};
-ghost use Rattle.command_words.specs.Space.{held_at, content_at};
+ghost use Rattle.command_words.specs.Space.{held_at, content_at, with_deadline};
+ghost use Rattle.command_words.specs.Keys.{renamed};
 ghost use Rattle.command_words.specs.Strings.{put_all};
 ghost use Rattle.keyspace.specs.Plain.{held_of, content_of};
-ghost use Rattle.keyspace.specs.Lending.{lends_content, with_deadline};
+ghost use Rattle.keyspace.specs.Lending.{lends_content};
 
 use super::copies::{copies_in_turn, insert_in_room};
 use super::fields::Fields;
@@ -114,6 +115,22 @@ impl Keyspace {
         self.table.swap_remove(key)
     }
 
+    /// What one key holds goes to another with its deadline, and what that one held is gone; the
+    /// answer is whether the first one is there.
+    pub fn rename(&mut self, from: &[u8], to: &[u8]) -> Result<bool, NoMemory>
+        ensures ok { OnOk result (self.new ≡ renamed from.now to.now self.old) }
+        ensures was { IfOk result (λ was. was ≡ is_some (held_at from.now self.old)) }
+        ensures err { OnErr result (self.new ≡ self.old) }
+    {
+        let name = Vec::from_slice(*self.table.allocator(), to)?;
+        self.table.reserve(1)?;
+        let Some(held) = self.table.swap_remove(from) else {
+            return Ok(false);
+        };
+        insert_in_room(&mut self.table, name, held);
+        Ok(true)
+    }
+
     /// Gives the key this deadline, or none; the answer is whether the key is there.
     pub fn set_deadline(&mut self, key: &[u8], deadline: Option<u64>) -> bool
         ensures set { self.new ≡ with_deadline key.now deadline self.old }
@@ -135,7 +152,8 @@ impl Keyspace {
 
     /// The number of keys.
     pub fn len(&self) -> u64
-        ensures { result ≡ finite.len self.now }
+        ensures len { result ≡ finite.len self.now }
+        ensures small { result < 2 ^ 63 }
     {
         self.table.len() as u64
     }

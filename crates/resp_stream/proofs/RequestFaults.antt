@@ -1,90 +1,139 @@
 -- A fault of a request, as the reader keeps and answers it.
-use Rattle.std.proofs.Common.{◌≡◌, ℕ, ◌-◌, ◌≤◌, List, sym, ap, subst, ◌∙◌, Bool, true, length, drop}
-use Rattle.std.proofs.Common.{arith, Option, Some}
-use Rattle.std.proofs.lemmas.List.{length-drop}
+use Rattle.std.proofs.Common.{◌≡◌, ℕ, ◌-◌, ◌≤◌, List, ◌++◌, refl, sym, ap, subst, ◌∙◌, Bool, true}
+use Rattle.std.proofs.Common.{false, cond, length, drop, take, arith, Option, Some}
+use Rattle.std.specs.Prelude.{is_some, Result, Ok, Err, OnOk, OnErr}
+use Rattle.std.proofs.lemmas.List.{length-append, length-drop}
+use Rattle.resp_value.specs.declared.octets.NoMemory.{NoMemory}
 use Rattle.resp_stream.specs.declared.fault.Fault.{Fault}
 use Rattle.resp_stream.specs.declared.fault.StreamFault.{StreamFault}
+use Rattle.resp_stream.specs.declared.input.Input.{Input}
 use Rattle.resp_stream.specs.declared.request.Progress.{Progress}
-use Rattle.resp_stream.specs.declared.request.Progress.TheVariants.{Line}
+use Rattle.resp_stream.specs.declared.request.Progress.TheVariants.{Line, Words}
 use Rattle.resp_stream.specs.Parsed.{Bad}
 use Rattle.resp_stream.specs.Readers.{IsFaultOf, FaultGives, NotMemory, skipped}
-use Rattle.resp_stream.specs.ReaderStates.{Kept, RequestState}
+use Rattle.resp_stream.specs.ReaderStates.{stream_of, IsKept, Kept, RequestState}
 use Rattle.resp_stream.specs.Request.{line_limit, request_at, skip_empty}
 use Rattle.resp_stream.specs.RequestSteps.{IsPast, IsProgress}
-use Rattle.resp_stream.specs.Stream.{offset_by, stream_fault}
-use Rattle.resp_stream.proofs.Line.{passed_none}
-use Rattle.resp_stream.proofs.ReaderFaults.{fault_by, not_memory}
+use Rattle.resp_stream.specs.Stream.{fed, offset_by, stream_fault}
+use Rattle.resp_stream.proofs.Line.{passed_none, passed_grows}
+use Rattle.resp_stream.proofs.ReaderFaults.{none_is, fed_is, fault_by, not_memory}
 use Rattle.resp_stream.proofs.Skipping.{skip_bad}
+use Rattle.resp_stream.proofs.Words.{within_grows}
 
-pub fresh : (before : ℕ) (rest : List ℕ) (p : Progress) (broken : Option StreamFault) → p ≡ Line 0
-    → Kept request_at skip_empty before rest broken → RequestState before rest p broken
-fresh before rest p broken e k =
+pub fresh : (input : Input) (p : Progress) → p ≡ Line 0
+    → Kept request_at skip_empty input.before input.rest input.broken → RequestState input p
+fresh input p e k =
     record {
       is_progress =
-          subst (λ (q : Progress). IsProgress rest q) (sym e)
-          (omega arith, passed_none true line_limit rest);
+          subst (λ (q : Progress). IsProgress input.rest q) (sym e)
+          (omega arith, passed_none true line_limit input.rest);
       kept = k;
     }
 
-module _ (before : ℕ) (rest newrest : List ℕ) (passed at newbefore offset : ℕ) (g : Fault)
-    (f : StreamFault) (h : IsPast rest passed × (at ≤ length (skip_empty rest))
-    × (request_at (skip_empty rest) ≡ Bad g (drop at (skip_empty rest))))
-    (r_is : newrest ≡ drop passed rest) (n_is : newbefore ≡ offset_by before passed)
-    (o_is : offset ≡ offset_by newbefore at) (f_is : f ≡ stream_fault g offset) where
-  gone : newrest ≡ skip_empty rest
-  gone = r_is ∙ sym h.0.is
+progress_grows : (text piece : List ℕ) (p : Progress) → IsProgress text p
+    → IsProgress (text ++ piece) p
+progress_grows text piece (Line seen) h = (
+  omega (arith, h.0, length-append text piece),
+  passed_grows true line_limit seen text piece h.0 h.1,
+)
+progress_grows text piece (Words at left words) h = within_grows text piece at left words h
 
-  count : length rest - length (skip_empty rest) ≡ passed
-  count = omega (arith, h.0.within, ap length h.0.is, length-drop passed rest)
+-- with a piece more, or with none after a fault
+fed_more : (i : Input) (piece : List ℕ) (p : Progress) (t : Bool) → is_some i.broken ≡ t
+    → RequestState i p → RequestState (record i { rest = cond t i.rest (i.rest ++ piece) }) p
+fed_more i piece p true e h = h
+fed_more i piece p false e h = record {
+  is_progress = progress_grows i.rest piece p h.is_progress;
+  kept =
+      subst (λ (b : Option StreamFault). Kept request_at skip_empty i.before (i.rest ++ piece) b)
+      (sym (none_is i.broken e))
+      tt;
+}
 
-  place : length (skip_empty rest) - length (drop at (skip_empty rest)) ≡ at
-  place = omega (arith, h.1, length-drop at (skip_empty rest))
+pub fed_by : (old new : Input) (piece : List ℕ) (p : Progress)
+    (r : Result (Unit {0}) NoMemory) → OnOk r (stream_of new ≡ fed (stream_of old) piece)
+    → new.broken ≡ old.broken → OnErr r (new ≡ old) → RequestState old p → RequestState new p
+fed_by old new piece p (Ok u) e b f h =
+    subst (λ (i : Input). RequestState i p) (sym (fed_is old new piece e b))
+    (fed_more old piece p (is_some old.broken) refl h)
+fed_by old new piece p (Err u) e b f h = subst (λ (i : Input). RequestState i p) (sym f) h
 
-  faulty : (t : Bool)
-      → IsFaultOf request_at (record { before = newbefore; rest = skip_empty rest; failed = t }) f
-  faulty t =
-      record {
-        fault = g;
-        left = drop at (skip_empty rest);
-        is = h.2;
-        place =
-            f_is ∙ ap (λ n. stream_fault g n) (o_is ∙ ap (λ n. offset_by newbefore n) (sym place));
-      }
-
-  memory : NotMemory f
-  memory = not_memory g offset f f_is
-
-  pub answers : (t : Bool)
-      → FaultGives request_at (skipped (record { before = before; rest = rest; failed = t }))
-      (record { before = before; rest = rest; failed = t })
-      (record { before = newbefore; rest = newrest; failed = true }) f
-  answers t =
-      let k : newbefore ≡ offset_by before (length rest - length (skip_empty rest)) =
-      n_is ∙ ap (λ n. offset_by before n) (sym count) in
-      fault_by request_at (skipped (record { before = before; rest = rest; failed = t }))
-      (record { before = before; rest = rest; failed = t })
-      (record { before = newbefore; rest = newrest; failed = true }) f memory
-      (subst (λ (n : ℕ).
-      IsFaultOf request_at (record { before = n; rest = skip_empty rest; failed = t }) f) k
-      (faulty t)) (λ i. record { before = k i; rest = gone i; failed = true })
-
-  pub keeps : (p : Progress) → p ≡ Line 0 → RequestState newbefore newrest p (Some f)
-  keeps p e =
-      fresh newbefore newrest p (Some f) e (record {
-        here = ap skip_empty gone ∙ skip_bad (skip_empty rest) (drop at (skip_empty rest)) g h.2
-            ∙ sym gone;
-        faulty =
-            subst (λ (q : List ℕ).
-            IsFaultOf request_at (record { before = newbefore; rest = q; failed = true }) f)
-            (sym gone) (faulty true);
-        memory = memory;
-      })
+-- the fault that was answered is answered again
+pub again : (i : Input) (f : StreamFault) → i.before ≤ 18446744073709551615 → i.broken ≡ Some f
+    → Kept request_at skip_empty i.before i.rest i.broken
+    → FaultGives request_at (skipped (stream_of i)) (stream_of i) (stream_of i) f
+again i f le e kept =
+    let k : IsKept request_at skip_empty i.before i.rest f =
+    subst (λ (b : Option StreamFault). Kept request_at skip_empty i.before i.rest b) e kept in
+    let b : i.before ≡ offset_by i.before (length i.rest - length (skip_empty i.rest)) =
+    omega (arith, ap length k.here, le) in
+    let t : is_some i.broken ≡ true = ap is_some e in
+    fault_by request_at (skipped (stream_of i)) (stream_of i) (stream_of i) f k.memory
+    (record {
+      fault = k.faulty.fault;
+      left = k.faulty.left;
+      is = ap request_at k.here ∙ k.faulty.is;
+      place = k.faulty.place ∙ (λ j.
+          stream_fault k.faulty.fault
+          (offset_by (b j) (length (sym k.here j) - length k.faulty.left)));
+    })
+    (λ j. record { before = b j; rest = sym k.here j; failed = t j })
 
 -- a fault behind the first `passed` bytes of a text
 abbrev pub Meets : List ℕ → ℕ → Fault → ℕ → Type 0
 Meets rest passed g at = IsPast rest passed × (at ≤ length (skip_empty rest))
     × (request_at (skip_empty rest) ≡ Bad g (drop at (skip_empty rest)))
 
-pub meets_of : (text rest : List ℕ) (passed : ℕ) (g : Fault) (at : ℕ) → text ≡ rest
-    → Meets text passed g at → Meets rest passed g at
-meets_of text rest passed g at e h = subst (λ (q : List ℕ). Meets q passed g at) e h
+module _ (text : List ℕ) (old past : Input) (passed at : ℕ) (g : Fault) (f : StreamFault)
+    (back : text ≡ old.rest) (h : Meets text passed g at)
+    (n_is : past.before ≡ offset_by old.before passed) (r_is : past.rest ≡ drop passed old.rest)
+    (f_is : f ≡ stream_fault g (offset_by past.before at)) where
+  met : Meets old.rest passed g at
+  met = subst (λ (q : List ℕ). Meets q passed g at) back h
+
+  gone : past.rest ≡ skip_empty old.rest
+  gone = r_is ∙ sym met.0.is
+
+  count : length old.rest - length (skip_empty old.rest) ≡ passed
+  count = omega (arith, met.0.within, ap length met.0.is, length-drop passed old.rest)
+
+  place : length (skip_empty old.rest) - length (drop at (skip_empty old.rest)) ≡ at
+  place = omega (arith, met.1, length-drop at (skip_empty old.rest))
+
+  faulty : (n : ℕ) → past.before ≡ n → (t : Bool)
+      → IsFaultOf request_at (record { before = n; rest = skip_empty old.rest; failed = t }) f
+  faulty n e t =
+      record {
+        fault = g;
+        left = drop at (skip_empty old.rest);
+        is = met.2;
+        place =
+            f_is ∙ (λ i. stream_fault g (offset_by (e i) (sym place i)));
+      }
+
+  memory : NotMemory f
+  memory = not_memory g (offset_by past.before at) f f_is
+
+  pub answers : (new : Input) → new ≡ record past { broken = Some f }
+      → FaultGives request_at (skipped (stream_of old)) (stream_of old) (stream_of new) f
+  answers new e =
+      let k : past.before ≡ offset_by old.before (length old.rest - length (skip_empty old.rest)) =
+      n_is ∙ ap (λ n. offset_by old.before n) (sym count) in
+      fault_by request_at (skipped (stream_of old)) (stream_of old) (stream_of new) f memory
+      (faulty (offset_by old.before (length old.rest - length (skip_empty old.rest))) k
+      (is_some old.broken))
+      (ap stream_of e ∙ (λ i. record { before = k i; rest = gone i; failed = true }))
+
+  pub keeps : (new : Input) → new ≡ record past { broken = Some f } → (p : Progress) → p ≡ Line 0
+      → RequestState new p
+  keeps new e p l =
+      subst (λ (q : Input). RequestState q p) (sym e)
+      (fresh (record past { broken = Some f }) p l (record {
+        here = ap skip_empty gone
+            ∙ skip_bad (skip_empty old.rest) (drop at (skip_empty old.rest)) g met.2 ∙ sym gone;
+        faulty =
+            subst (λ (q : List ℕ).
+            IsFaultOf request_at (record { before = past.before; rest = q; failed = true }) f)
+            (sym gone) (faulty past.before refl true);
+        memory = memory;
+      }))

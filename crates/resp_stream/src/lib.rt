@@ -2,6 +2,7 @@
 #![tactic(auto)]
 
 mod fault;
+mod input;
 mod leaf;
 mod request;
 mod request_reader;

@@ -3,9 +3,9 @@ ghost use Rattle.std.specs.Prelude.{◌≡◌, ◌<◌, true, length, IsOk, OnOk
 ghost use Rattle.resp_stream.specs.Stream.{begun, fed};
 ghost use Rattle.resp_stream.specs.Readers.{RequestGives, NotMemory, OnItem, IfFault};
 
-use super::fault::{StreamFault, stream_fault};
+use super::fault::StreamFault;
+use super::input::Input;
 use super::request::{Next, Progress, next_in};
-use byte_queue::ByteQueue;
 use resp_value::{NoMemory, Words};
 use std::alloc::Global;
 use std::marker::Model;
@@ -18,24 +18,21 @@ use std::mem;
 #[derive(Drop)]
 pub struct RequestReader {
     alloc: Global,
-    before: u64,
-    rest: ByteQueue,
+    input: Input,
     progress: Progress,
-    broken: Option<StreamFault>,
 }
 
 impl Model for RequestReader {
-    ghost use Rattle.std.specs.Prelude.{is_some};
     ghost use Rattle.resp_stream.specs.Stream.{Stream, stream_code};
-    ghost use Rattle.resp_stream.specs.ReaderStates.{RequestState};
+    ghost use Rattle.resp_stream.specs.ReaderStates.{stream_of, RequestState};
 
     ghost Value = { Stream };
 
     ghost coded = { stream_code };
 
-    ghost view = { λ s. record { before = s.before; rest = s.rest; failed = is_some s.broken } };
+    ghost view = { λ s. stream_of s.input };
 
-    ghost invariant = { λ s. RequestState s.before s.rest s.progress s.broken };
+    ghost invariant = { λ s. RequestState s.input s.progress };
 }
 
 impl RequestReader {
@@ -45,10 +42,8 @@ impl RequestReader {
     {
         RequestReader {
             alloc,
-            before: 0,
-            rest: ByteQueue::new(alloc),
+            input: Input::new(alloc),
             progress: Progress::Line { seen: 0 },
-            broken: None,
         }
     }
 
@@ -58,10 +53,7 @@ impl RequestReader {
         ensures err { OnErr result (self.new ≡ self.old) }
         ensures failed { self.old.failed ≡ true → IsOk result }
     {
-        if self.broken.is_some() {
-            return Ok(());
-        }
-        self.rest.add(piece)
+        self.input.feed(piece)
     }
 
     /// The next request, empty ones passed over; nothing where more bytes are needed.
@@ -70,29 +62,24 @@ impl RequestReader {
         ensures words { OnItem result (λ ws. 0 < length ws) }
         ensures failed { self.old.failed ≡ true → IfFault result NotMemory }
     {
-        if let Some(fault) = self.broken {
+        if let Some(fault) = self.input.fault() {
             return Err(fault);
         }
         let progress = mem::replace(&mut self.progress, Progress::Line { seen: 0 });
-        match next_in(self.alloc, self.rest.as_slice(), progress) {
+        match next_in(self.alloc, self.input.bytes(), progress) {
             Err(_) => Err(StreamFault::NoMemory),
             Ok(Next::Whole { words, taken }) => {
-                self.before = self.before.saturating_add(taken as u64);
-                self.rest.advance(taken);
+                self.input.pass(taken);
                 Ok(Some(words))
             }
             Ok(Next::More { passed, progress }) => {
-                self.before = self.before.saturating_add(passed as u64);
-                self.rest.advance(passed);
+                self.input.pass(passed);
                 self.progress = progress;
                 Ok(None)
             }
             Ok(Next::Faulty { passed, fault, at }) => {
-                self.before = self.before.saturating_add(passed as u64);
-                self.rest.advance(passed);
-                let fault = stream_fault(fault, self.before.saturating_add(at as u64));
-                self.broken = Some(fault);
-                Err(fault)
+                self.input.pass(passed);
+                Err(self.input.fail(fault, at))
             }
         }
     }

@@ -3,9 +3,9 @@ ghost use Rattle.std.specs.Prelude.{◌≡◌, true, IsOk, OnOk, OnErr};
 ghost use Rattle.resp_stream.specs.Stream.{begun, fed};
 ghost use Rattle.resp_stream.specs.Readers.{ValueGives, NotMemory, IfFault};
 
-use super::fault::{StreamFault, stream_fault};
+use super::fault::StreamFault;
+use super::input::Input;
 use super::stack::{ValueProgress, ValueReading, read_value};
-use byte_queue::ByteQueue;
 use resp_value::{NoMemory, Value};
 use std::alloc::Global;
 use std::marker::Model;
@@ -17,24 +17,21 @@ use std::marker::Model;
 #[derive(Drop)]
 pub struct ValueReader {
     alloc: Global,
-    before: u64,
-    rest: ByteQueue,
+    input: Input,
     progress: ValueProgress,
-    broken: Option<StreamFault>,
 }
 
 impl Model for ValueReader {
-    ghost use Rattle.std.specs.Prelude.{is_some};
     ghost use Rattle.resp_stream.specs.Stream.{Stream, stream_code};
-    ghost use Rattle.resp_stream.specs.ReaderStates.{ValueState};
+    ghost use Rattle.resp_stream.specs.ReaderStates.{stream_of, ValueState};
 
     ghost Value = { Stream };
 
     ghost coded = { stream_code };
 
-    ghost view = { λ s. record { before = s.before; rest = s.rest; failed = is_some s.broken } };
+    ghost view = { λ s. stream_of s.input };
 
-    ghost invariant = { λ s. ValueState s.before s.rest s.progress s.broken };
+    ghost invariant = { λ s. ValueState s.input s.progress };
 }
 
 impl ValueReader {
@@ -44,15 +41,13 @@ impl ValueReader {
     {
         ValueReader {
             alloc,
-            before: 0,
-            rest: ByteQueue::new(alloc),
+            input: Input::new(alloc),
             progress: ValueProgress {
                 at: 0,
                 room: 8,
                 seen: 0,
                 stack: Vec::new(alloc),
             },
-            broken: None,
         }
     }
 
@@ -62,10 +57,7 @@ impl ValueReader {
         ensures err { OnErr result (self.new ≡ self.old) }
         ensures failed { self.old.failed ≡ true → IsOk result }
     {
-        if self.broken.is_some() {
-            return Ok(());
-        }
-        self.rest.add(piece)
+        self.input.feed(piece)
     }
 
     /// The next whole value; nothing where more bytes are needed.
@@ -73,14 +65,13 @@ impl ValueReader {
         ensures gives { ValueGives self.old self.new result }
         ensures failed { self.old.failed ≡ true → IfFault result NotMemory }
     {
-        if let Some(fault) = self.broken {
+        if let Some(fault) = self.input.fault() {
             return Err(fault);
         }
-        match read_value(self.alloc, self.rest.as_slice(), &mut self.progress) {
+        match read_value(self.alloc, self.input.bytes(), &mut self.progress) {
             Ok(ValueReading::More) => Ok(None),
             Ok(ValueReading::Whole { value, taken }) => {
-                self.before = self.before.saturating_add(taken as u64);
-                self.rest.advance(taken);
+                self.input.pass(taken);
                 self.progress.reset();
                 Ok(Some(value))
             }
@@ -90,9 +81,7 @@ impl ValueReader {
             }
             Ok(ValueReading::Faulty { fault, at }) => {
                 self.progress.reset();
-                let fault = stream_fault(fault, self.before.saturating_add(at as u64));
-                self.broken = Some(fault);
-                Err(fault)
+                Err(self.input.fail(fault, at))
             }
         }
     }

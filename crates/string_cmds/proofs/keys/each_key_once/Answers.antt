@@ -3,7 +3,8 @@ use Rattle.std.specs.List.{filter}
 use Rattle.resp_value.specs.Tree.{in_turn}
 use Rattle.command_words.specs.Hashes.{field_set}
 use Rattle.command_words.specs.KeyLists.{each_once}
-use Rattle.string_cmds.proofs.KeysOnce.{all_fresh, is_fresh, more_first, more_again}
+use Rattle.command_rows.proofs.KeysMet.{is_fresh}
+use Rattle.string_cmds.proofs.KeysOnce.{all_fresh, more_first, more_again}
 use Rattle.string_cmds.proofs.keys.each_key_once.Goals as goal
 
 pub keys-init : goal.keys-init

@@ -2,7 +2,7 @@ use Rattle.std.proofs.Common.{◌≡◌, ◌++◌, map, length}
 use Rattle.std.specs.List.{filter}
 use Rattle.resp_value.specs.Tree.{in_turn}
 use Rattle.command_words.specs.KeyLists.{each_once}
-use Rattle.string_cmds.proofs.KeysOnce.{is_fresh}
+use Rattle.command_rows.proofs.KeysMet.{is_fresh}
 use Rattle.string_cmds.proofs.keys.each_key_once.Given as goal
 
 abbrev pub invariant-keys : goal.invariant-keys

@@ -1,0 +1,5 @@
+use Rattle.expiry.specs.Places.{AllDue}
+use Rattle.expiry.proofs.index.DeadlineIndex.due_count.Given as goal
+
+abbrev pub invariant-loop-place : goal.invariant-loop-place
+invariant-loop-place l = AllDue l.moment l.self l.place

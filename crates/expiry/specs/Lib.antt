@@ -1,0 +1,4 @@
+pub mod Index
+pub mod Order
+pub mod Places
+pub mod Laws

@@ -1,0 +1,6 @@
+pub mod PrefixLists
+pub mod ModeState
+pub mod Tracked
+pub mod Texts
+pub mod Commands
+pub mod Laws
