@@ -10,3 +10,4 @@ pub mod QueryKeys
 pub mod ReadLaws
 pub mod KeyHolders
 pub mod ToldLaws
+pub mod DueLaws

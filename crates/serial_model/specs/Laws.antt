@@ -1,10 +1,11 @@
 -- What holds of every history that turns make, read off the definitions alone.
 use Rattle.std.specs.Prelude.{◌≡◌, ◌==◌, ◌↔◌, ℕ, List, [], ◌∷◌, ◌++◌, Bool, true, false}
 use Rattle.std.specs.Prelude.{filter, ◌||◌, ◌&&◌, not}
-use Rattle.std.specs.Prelude.{take, length, All, ◌+◌}
+use Rattle.std.specs.Prelude.{take, length, All, ◌+◌, Option}
 use Rattle.std.specs.List.{list_any}
 use Rattle.std.specs.Str.{bytes_eq}
 use Rattle.resp_value.specs.Lists.{IsPrefix}
+use Rattle.resp_value.specs.declared.value.Proto.TheVariants.{Three}
 use Rattle.command_words.specs.declared.command.Signalled.{Signalled}
 use Rattle.command_words.specs.declared.command.Signalled.TheVariants as signalled
 use Rattle.command_words.specs.Space.{held_at}
@@ -19,9 +20,9 @@ use Rattle.serial_model.specs.History.{is_admitted, has_ended, sent, Sending, Me
 use Rattle.serial_model.specs.History.{stream, taken, runs_of, posted, posted_of, IsLegal, mode}
 use Rattle.serial_model.specs.History.{sends, reply_of, ran, keyspace, routed, modes, expired}
 use Rattle.serial_model.specs.History.{expiry_group, drops, table, invalidations, made}
-use Rattle.serial_model.specs.History.{served_reading}
+use Rattle.serial_model.specs.History.{served_reading, protocol, sent_to}
 use Rattle.serial_model.specs.Modes.{Memory, Remembers, Forgets, remembers_read}
-use Rattle.serial_model.specs.Tracking.{tells}
+use Rattle.serial_model.specs.Tracking.{tells, names_key, push_of}
 use Rattle.track_table.specs.Table.{holders_of}
 use Rattle.command_words.specs.Queries.{key_of, reads_as_cacheable}
 use Rattle.command_words.specs.Words.{reading}
@@ -214,6 +215,22 @@ ToldIsDue =
     → is_told l past c key ≡ true
     → (signals_key l entry past key || drops_key l entry past key) ≡ true
     → is_due l entry past c key ≡ true
+
+-- A push that names the key is among these sendings of an entry.
+pub record PushIsAmong (key : List ℕ) (entry : ℕ) (ss : List (ℕ × Sending)) : Type 0 where
+  pub keys : Option (List (List ℕ))
+  pub named : names_key keys key ≡ true
+  pub before : List (ℕ × Sending)
+  pub behind : List (ℕ × Sending)
+  pub is : ss ≡ before ++ (entry, Message Three (push_of keys)) ∷ behind
+
+-- On the third protocol a connection is sent a push of each key that an entry tells it of.
+abbrev pub DueIsSent : Type 0
+DueIsSent =
+    (l : Limits) (entry : Entry) (past : List Entry) (c : ℕ) (key : List ℕ)
+    → protocol l c past ≡ Three → protocol l c (entry ∷ past) ≡ Three
+    → is_due l entry past c key ≡ true
+    → PushIsAmong key (length past + 1) (sent_to (length past + 1) c (sends l entry past))
 
 -- A remembered read is owed or told: its connection is told of the key from then on, or it has been
 -- told already, or it has ended.

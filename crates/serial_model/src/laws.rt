@@ -1,6 +1,6 @@
 //! What follows for any list of turns. Each function's contract is the law; none has work to do.
-ghost use Rattle.serial_model.specs.Laws.{ChangeIsSignalled, EndIsLast, ReplyBehindExpiry};
-ghost use Rattle.serial_model.specs.Laws.{RunsLive, SentGrows};
+ghost use Rattle.serial_model.specs.Laws.{ChangeIsSignalled, DueIsSent, EndIsLast};
+ghost use Rattle.serial_model.specs.Laws.{ReplyBehindExpiry, RunsLive, SentGrows};
 ghost use Rattle.serial_model.specs.Laws.{EachRunOnce, EndIsSent, GivenIsStream, LegalIsAdded};
 ghost use Rattle.serial_model.specs.Laws.{ModeByOwnRuns, OthersExtend, PostedIsSent};
 ghost use Rattle.serial_model.specs.Laws.{PostsAreNumbered, ReadIsOwedOrTold, ReadReplies};
@@ -85,6 +85,11 @@ pub fn law_read_replies()
 /// A connection that is told of a key gets its message where the key is signalled or dropped.
 pub fn law_told_is_due()
     ensures { ToldIsDue }
+{}
+
+/// On the third protocol a connection is sent a push of each key that an entry tells it of.
+pub fn law_due_is_sent()
+    ensures { DueIsSent }
 {}
 
 /// A remembered read is owed or told: its connection is told of the key from then on, or it has
