@@ -1,0 +1,9 @@
+//! Sets of connections, by their ids.
+#![tactic(auto)]
+
+mod set;
+
+pub use set::IdSet;
+
+#[cfg(test)]
+mod tests;

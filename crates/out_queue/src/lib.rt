@@ -1,0 +1,87 @@
+//! What was sent to a connection and not taken yet.
+#![tactic(auto)]
+
+ghost use Rattle.std.specs.Prelude.{◌≡◌, ◌++◌, ◌<◌, ◌↔◌, IsTrue, [], OnOk, OnErr, IfOk};
+ghost use Rattle.std.specs.Prelude.{length, take, drop};
+
+use byte_queue::ByteQueue;
+use resp_value::{NoMemory, Octets};
+use std::alloc::Global;
+use std::marker::Model;
+
+/// The bytes of messages, in the order in which the messages were added. Where one ends is not
+/// kept: a connection takes bytes, not messages.
+#[derive(Drop)]
+pub struct OutQueue {
+    bytes: ByteQueue,
+}
+
+impl Model for OutQueue {
+    ghost use Rattle.std.specs.Prelude.{ℕ, List};
+
+    ghost Value = { List ℕ };
+
+    ghost view = { λ q. q.bytes };
+}
+
+impl OutQueue {
+    /// It takes no memory.
+    pub fn new(alloc: Global) -> OutQueue
+        ensures { result ≡ [] }
+    {
+        OutQueue {
+            bytes: ByteQueue::new(alloc),
+        }
+    }
+
+    /// How many bytes were not taken yet.
+    pub fn size(&self) -> u64
+        ensures { result ≡ length self.now }
+    {
+        self.bytes.len() as u64
+    }
+
+    /// Whether there are more bytes than an output limit allows.
+    pub fn is_over(&self, limit: u64) -> bool
+        ensures { IsTrue result ↔ limit < length self.now }
+    {
+        self.size() > limit
+    }
+
+    /// The message goes last.
+    pub fn add(&mut self, message: &[u8]) -> Result<(), NoMemory>
+        ensures ok { OnOk result (self.new ≡ self.old ++ message.now) }
+        ensures err { OnErr result (self.new ≡ self.old) }
+    {
+        self.bytes.add(message)
+    }
+
+    /// Takes the first bytes, at most so many.
+    pub fn take_bytes(&mut self, max: usize) -> Result<Octets, NoMemory>
+        ensures taken { IfOk result (λ bytes. bytes ≡ take max self.old) }
+        ensures left { OnOk result (self.new ≡ drop max self.old) }
+        ensures err { OnErr result (self.new ≡ self.old) }
+    {
+        let taken = self.bytes.front(max)?;
+        self.bytes.advance(max);
+        Ok(taken)
+    }
+
+    /// Keeps the first bytes, at most so many, and drops what was added behind them. It takes no
+    /// memory.
+    pub fn keep(&mut self, most: usize)
+        ensures { self.new ≡ take most self.old }
+    {
+        self.bytes.keep(most);
+    }
+
+    /// Drops all bytes. It takes no memory.
+    pub fn drop_all(&mut self)
+        ensures { self.new ≡ [] }
+    {
+        self.bytes.drop_all();
+    }
+}
+
+#[cfg(test)]
+mod tests;
