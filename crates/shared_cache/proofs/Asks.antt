@@ -1,6 +1,6 @@
 -- After an Ask the fields are what the log says.
 use Rattle.std.proofs.Common.{◌≡◌, ◌==◌, ◌+◌, ◌++◌, ◌&&◌, ◌||◌, ℕ, suc, List, [], ◌∷◌, length}
-use Rattle.std.proofs.Common.{map, Bool, true, false, cond, not, Option, Some, None, sym, ap, ◌∙◌}
+use Rattle.std.proofs.Common.{Bool, true, false, cond, not, Option, Some, None, sym, ap, ◌∙◌}
 use Rattle.std.proofs.Common.{refl, arith, length-append, inl, inr}
 use Rattle.std.specs.Prelude.{is_some}
 use Rattle.std.proofs.lemmas.Bool.{and_right, or_cases, lt-ltb, cases_Bool}
@@ -25,10 +25,13 @@ use Rattle.shared_cache.specs.Held.{Setup, Key, Words, Caller, put_read, numbere
 use Rattle.shared_cache.specs.Held.{held_for}
 use Rattle.shared_cache.specs.Held.{used_at, unless, other_than, fetched, asked, sent, open_fetch}
 use Rattle.shared_cache.specs.Held.{last_use, held}
-use Rattle.shared_cache.specs.Slots.{slot_of, touched}
+use Rattle.std.specs.Str.{bytes_eq}
+use Rattle.lru.specs.LruCache.{promoted}
+use Rattle.shared_cache.specs.HeldKeys.{with_pairs}
 use Rattle.shared_cache.specs.ClientFields.{Fields, Reflects, marks_by, fetch_mark}
 use Rattle.shared_cache.proofs.Fetches.{unless_none}
-use Rattle.shared_cache.proofs.SlotLists.{slots_touched, slots_same}
+use Rattle.shared_cache.proofs.LastUses.{used_before}
+use Rattle.shared_cache.proofs.Keeps.{keeps_promoted, keeps_same}
 use Rattle.shared_cache.proofs.HeldSteps.{sent_hit, open_hit, held_hit, use_hit, sent_miss}
 use Rattle.shared_cache.proofs.HeldSteps.{open_old, open_new, held_miss, use_miss}
 use Rattle.shared_cache.proofs.MarkLists.{marks_filter, marks_same, marks_none, mark_other}
@@ -98,10 +101,11 @@ some_of (Some h) e = (h, refl)
 -- ---- a hit
 
 module _ (s : Setup) (log : List LogEntry) (f : Fields) (k : Reflects s log f) where
-  reflects_hit_of : (q : Words) (h : CacheEntry) (now : ℕ) → held_for q (held s log) ≡ Some h
-      → now ≡ length log + 1
-      → Reflects s (Ask q ∷ log) (record f { slots = map (touched (key_of q) now) f.slots })
-  reflects_hit_of q h now e is = record {
+  reflects_hit_of : (q : Words) (h : CacheEntry) → held_for q (held s log) ≡ Some h
+      → Reflects s (Ask q ∷ log) (record f {
+        keys = with_pairs (promoted (bytes_eq (key_of q)) f.keys.pairs) f.keys;
+      })
+  reflects_hit_of q h e = record {
     queued_is = k.queued_is ∙ sym (untaken_same s log (Ask q ∷ log) (sent_hit s log q h e) refl);
     replied_is = k.replied_is;
     replied_within = let w = k.replied_within in omega (arith, ap length (sent_hit s log q h e));
@@ -115,21 +119,21 @@ module _ (s : Setup) (log : List LogEntry) (f : Fields) (k : Reflects s log f) w
         (λ m le. open_hit s log q h e m))
         ∙ ap (λ l. marks_by (open_fetch s (Ask q ∷ log)) f.replied (numbered s l))
         (sym (sent_hit s log q h e));
-    slots_is = (λ i. map (touched (key_of q) (is i)) (k.slots_is i))
-        ∙ slots_touched (last_use s log) q (length log + 1) (held s log)
-        ∙ sym (slots_same (λ j. used_at (Some q) j (length log + 1) (last_use s log j))
-        (last_use s (Ask q ∷ log)) (held s log) (use_hit s log q h e))
-        ∙ ap (map (slot_of (last_use s (Ask q ∷ log)))) (sym (held_hit s log q h e));
+    keys_is = keeps_same s.capacity
+        (λ j. used_at (Some q) j (length log + 1) (last_use s log j)) (last_use s (Ask q ∷ log))
+        (held s log) (held s (Ask q ∷ log)) _ (use_hit s log q h e) (held_hit s log q h e)
+        (keeps_promoted s.capacity (last_use s log) (held s log) f.keys k.keys_is (length log + 1)
+        (used_before s log) q);
     ended_is = k.ended_is;
     side_is = k.side_is;
     broken_is = k.broken_is;
   }
 
-  pub reflects_hit : (q : Words) (now : ℕ) → is_some (held_for q (held s log)) ≡ true
-      → now ≡ length log + 1
-      → Reflects s (Ask q ∷ log) (record f { slots = map (touched (key_of q) now) f.slots })
-  reflects_hit q now e is = let o = some_of (held_for q (held s log)) e in
-      reflects_hit_of q o.0 now o.1 is
+  pub reflects_hit : (q : Words) → is_some (held_for q (held s log)) ≡ true
+      → Reflects s (Ask q ∷ log) (record f {
+        keys = with_pairs (promoted (bytes_eq (key_of q)) f.keys.pairs) f.keys;
+      })
+  reflects_hit q e = let o = some_of (held_for q (held s log)) e in reflects_hit_of q o.0 o.1
 
   -- ---- a miss
 
@@ -183,11 +187,10 @@ module _ (s : Setup) (log : List LogEntry) (f : Fields) (k : Reflects s log f) w
         marks_is = is
             ∙ ap (marks_by (open_fetch s (Ask q ∷ log)) f.replied)
             (let g : suc (numbers s log) ≡ numbers s (Ask q ∷ log) = omega (arith, more, one) in g);
-        slots_is = k.slots_is
-            ∙ ap (map (slot_of (last_use s log)))
-            (sym (held_miss s log q e (let w = k.replied_within in omega (arith, k.replied_is))))
-            ∙ sym (slots_same (last_use s log) (last_use s (Ask q ∷ log)) (held s (Ask q ∷ log))
-            (use_miss s log q e));
+        keys_is = keeps_same s.capacity (last_use s log) (last_use s (Ask q ∷ log)) (held s log)
+            (held s (Ask q ∷ log)) f.keys (use_miss s log q e)
+            (held_miss s log q e (let w = k.replied_within in omega (arith, k.replied_is)))
+            k.keys_is;
         ended_is = k.ended_is;
         side_is = k.side_is;
         broken_is = k.broken_is;

@@ -5,7 +5,7 @@ use Rattle.std.proofs.Common.{not, Option, Some, None, sym, ap, ◌∙◌, refl,
 use Rattle.std.specs.Prelude.{nat_lt}
 use Rattle.std.specs.List.{filter}
 use Rattle.std.specs.Str.{bytes_eq}
-use Rattle.std.proofs.lemmas.Bool.{cases_lt, cases_Bool, lt-ltb, le-ltb}
+use Rattle.std.proofs.lemmas.Bool.{cases_lt, cases_Bool, lt-ltb, le-ltb, or_parts}
 use Rattle.std.proofs.lemmas.Option.{same_Some}
 use Rattle.resp_value.specs.declared.value.Value.{Value}
 use Rattle.command_words.specs.Queries.{key_of, writes}
@@ -22,12 +22,12 @@ use Rattle.shared_cache.specs.Log.{replies}
 use Rattle.shared_cache.specs.Held.{Setup, Key, Words, held_for, has_key, keys_held, earlier}
 use Rattle.shared_cache.specs.Held.{earliest_from, earliest, key_held, leaving, open_fetch, left}
 use Rattle.shared_cache.specs.Held.{last_use, held}
-use Rattle.shared_cache.specs.Slots.{is_gone}
+use Rattle.shared_cache.proofs.Filled.{is_gone}
 use Rattle.shared_cache.specs.Laws.{Every, LegalLog, WithinCapacity, EarliestLeaves}
 use Rattle.shared_cache.proofs.KeyTests.{same_bytes, bytes_same}
 use Rattle.shared_cache.proofs.InPlace.{all_stay}
 use Rattle.shared_cache.proofs.HeldLists.{held_none}
-use Rattle.shared_cache.proofs.SlotLists.{filled}
+use Rattle.shared_cache.proofs.Filled.{filled}
 use Rattle.shared_cache.proofs.HeldSteps.{held_hit, held_miss, held_send, held_push, held_reply}
 use Rattle.shared_cache.proofs.LegalLogs.{newest, replies_within}
 
@@ -79,7 +79,7 @@ module _ (use_of : Key → ℕ) where
       (key_of (earliest_from use_of (earlier use_of h b) hs).query) h b hs
       (has_from (earlier use_of h b) hs same)
 
-  least : (hs : List CacheEntry) (k : Key) → ((j : Key) → bytes_eq j j ≡ true)
+  pub least : (hs : List CacheEntry) (k : Key) → ((j : Key) → bytes_eq j j ≡ true)
       → key_held (earliest use_of hs) ≡ Some k
       → (has_key k hs ≡ true) × Every (λ h. use_of k ≤ used h) hs
   least [] k same e = cc
@@ -105,7 +105,7 @@ earliest_leaves s log q k e =
 
 -- ---- how many keys are held where some go
 
-has_kept : (t : Key → Bool) (k : Key) (hs : List CacheEntry) → t k ≡ false
+pub has_kept : (t : Key → Bool) (k : Key) (hs : List CacheEntry) → t k ≡ false
     → has_key k (filter (λ h. not (t (key_of h.query))) hs) ≡ has_key k hs
 has_kept t k [] e = refl
 has_kept t k (h ∷ hs) e = elim (cases_Bool (bytes_eq (key_of h.query) k)) [
@@ -133,7 +133,7 @@ each_more : (b : Bool) (m n : ℕ) → m ≤ n → cond b m (m + 1) ≤ cond b n
 each_more true m n le = le
 each_more false m n le = omega arith
 
-kept_keys : (t : Key → Bool) (hs : List CacheEntry)
+pub kept_keys : (t : Key → Bool) (hs : List CacheEntry)
     → keys_held (filter (λ h. not (t (key_of h.query))) hs) ≤ keys_held hs
 kept_keys t [] = omega arith
 kept_keys t (h ∷ hs) = elim (cases_Bool (t (key_of h.query))) [
@@ -155,37 +155,43 @@ kept_keys t (h ∷ hs) = elim (cases_Bool (t (key_of h.query))) [
       (keys_held (filter (λ g. not (t (key_of g.query))) hs)) (keys_held hs) (kept_keys t hs)))
 ]
 
-less_key : (k : Key) (hs : List CacheEntry) → has_key k hs ≡ true
-    → keys_held (filter (λ h. not (bytes_eq (key_of h.query) k)) hs) + 1 ≤ keys_held hs
+pub but_none : (k : Key) (hs : List CacheEntry) → has_key k hs ≡ false
+    → filter (λ h. not (bytes_eq (key_of h.query) k)) hs ≡ hs
+but_none k [] e = refl
+but_none k (h ∷ hs) e =
+    let p = or_parts (bytes_eq (key_of h.query) k) (has_key k hs) e in
+    let rest = filter (λ (g : CacheEntry). not (bytes_eq (key_of g.query) k)) hs in
+    ap (λ b. cond (not b) (h ∷ rest) rest) p.0 ∙ ap (λ l. h ∷ l) (but_none k hs p.1)
+
+pub less_key : (k : Key) (hs : List CacheEntry) → has_key k hs ≡ true
+    → keys_held (filter (λ h. not (bytes_eq (key_of h.query) k)) hs) + 1 ≡ keys_held hs
 less_key k [] e = cc
 less_key k (h ∷ hs) e =
     let rest = filter (λ (g : CacheEntry). not (bytes_eq (key_of g.query) k)) hs in
     elim (cases_Bool (bytes_eq (key_of h.query) k)) [
       | inl same ↦
-          subst (λ b. keys_held (cond (not b) (h ∷ rest) rest) + 1 ≤ keys_held (h ∷ hs)) (sym same)
-          (elim (cases_Bool (has_key k hs)) [
+          ap (λ b. keys_held (cond (not b) (h ∷ rest) rest) + 1) same
+          ∙ elim (cases_Bool (has_key k hs)) [
             | inl again ↦
-                let w = less_key k hs again in
-                let o = (one_more (has_key (key_of h.query) hs) (keys_held hs)).0 in
-                omega (arith, w, o)
+                less_key k hs again
+                ∙ ap (λ b. cond b (keys_held hs) (keys_held hs + 1))
+                (sym (ap (λ j. has_key j hs) (bytes_same (key_of h.query) k same) ∙ again))
             | inr last ↦
-                let w = kept_keys (λ j. bytes_eq j k) hs in
-                subst (λ b. keys_held rest + 1 ≤ cond b (keys_held hs) (keys_held hs + 1))
+                ap (λ l. keys_held l + 1) (but_none k hs last)
+                ∙ ap (λ b. cond b (keys_held hs) (keys_held hs + 1))
                 (sym (ap (λ j. has_key j hs) (bytes_same (key_of h.query) k same) ∙ last))
-                (omega (arith, w))
-          ])
+          ]
       | inr other ↦
           let there : has_key k hs ≡ true = ap (λ b. b || has_key k hs) (sym other) ∙ e in
-          let w = less_key k hs there in
-          subst (λ b. keys_held (cond (not b) (h ∷ rest) rest) + 1 ≤ keys_held (h ∷ hs)) (sym other)
-          (subst (λ b. cond b (keys_held rest) (keys_held rest + 1) + 1 ≤ keys_held (h ∷ hs))
-          (sym (has_kept (λ j. bytes_eq j k) (key_of h.query) hs other))
-          (step (has_key (key_of h.query) hs) (keys_held rest) (keys_held hs) w))
+          ap (λ b. keys_held (cond (not b) (h ∷ rest) rest) + 1) other
+          ∙ ap (λ b. cond b (keys_held rest) (keys_held rest + 1) + 1)
+          (has_kept (λ j. bytes_eq j k) (key_of h.query) hs other)
+          ∙ step (has_key (key_of h.query) hs) (keys_held rest) (keys_held hs) (less_key k hs there)
     ]
   where
-    step : (b : Bool) (m n : ℕ) → m + 1 ≤ n → cond b m (m + 1) + 1 ≤ cond b n (n + 1)
-    step true m n le = le
-    step false m n le = omega arith
+    step : (b : Bool) (m n : ℕ) → m + 1 ≡ n → cond b m (m + 1) + 1 ≡ cond b n (n + 1)
+    step true m n e = e
+    step false m n e = ap (λ x. x + 1) e
 
 -- ---- how many keys are held where one comes
 
@@ -198,7 +204,8 @@ more_has k (g ∷ hs) e h = elim (cases_Bool (bytes_eq (key_of g.query) k)) [
       ∙ more_has k hs e (ap (λ b. b || has_key k hs) (sym other) ∙ h)
 ]
 
-last_has : (hs : List CacheEntry) (e : CacheEntry) → has_key (key_of e.query) (hs ++ e ∷ []) ≡ true
+pub last_has : (hs : List CacheEntry) (e : CacheEntry)
+    → has_key (key_of e.query) (hs ++ e ∷ []) ≡ true
 last_has [] e = ap (λ b. b || false) (same_bytes (key_of e.query))
 last_has (g ∷ hs) e = or_from_right (bytes_eq (key_of g.query) (key_of e.query)) (last_has hs e)
   where
@@ -268,7 +275,7 @@ module _ (capacity : ℕ) (use_of : Key → ℕ) (q : Words) (n : ℕ) (v : Valu
   abbrev filled_but : Option Key → List CacheEntry
   filled_but gone = filter (λ h. not (is_gone gone (key_of h.query))) hs ++ new ∷ []
 
-  none_goes : (P : List CacheEntry → Type 0) → leaving capacity use_of (Some q) hs ≡ None
+  pub none_goes : (P : List CacheEntry → Type 0) → leaving capacity use_of (Some q) hs ≡ None
       → P (hs ++ new ∷ []) → P (filled capacity use_of (Some q) n v hs)
   none_goes P e p =
       subst (λ g. P (filled_but g)) (sym e) (subst (λ l. P (l ++ new ∷ [])) (sym (all_stay hs)) p)
@@ -307,7 +314,7 @@ module _ (capacity : ℕ) (use_of : Key → ℕ) (q : Words) (n : ℕ) (v : Valu
     ]
   ]
 
-any_filled : (capacity : ℕ) (use_of : Key → ℕ) (o : Option Words) (n : ℕ) (v : Value)
+pub any_filled : (capacity : ℕ) (use_of : Key → ℕ) (o : Option Words) (n : ℕ) (v : Value)
     (hs : List CacheEntry)
     → 0 < capacity → keys_held hs ≤ capacity
     → keys_held (filled capacity use_of o n v hs) ≤ capacity

@@ -1,7 +1,8 @@
 -- After a value was read the fields are what the log says.
 use Rattle.std.proofs.Common.{◌≡◌, ◌+◌, ◌-◌, ◌<◌, ◌||◌, ℕ, suc, List, [], ◌∷◌}
-use Rattle.std.proofs.Common.{length, map, set, get_or, true, false, cond, not, Option, Some}
-use Rattle.std.proofs.Common.{sym, ap, ◌∙◌, refl, arith, ne_eqb, eq-eqb, inl, inr, length-set}
+use Rattle.std.proofs.Common.{length, set, get_or, true, false, cond, not, Option, Some}
+use Rattle.std.proofs.Common.{sym, ap, ◌∙◌, refl, subst, arith, ne_eqb, eq-eqb, inl, inr}
+use Rattle.std.proofs.Common.{length-set}
 use Rattle.std.specs.Prelude.{nat_lt, nat_le}
 use Rattle.std.specs.List.{filter}
 use Rattle.std.proofs.lemmas.Bool.{cases_eq, cases_lt, le-leb, lt-ltb, le-ltb, leb-false}
@@ -14,7 +15,7 @@ use Rattle.fill_mark.specs.Marks.{query_marked, without_number}
 use Rattle.shared_cache.specs.declared.log.Wire.TheVariants.{Main}
 use Rattle.shared_cache.specs.declared.log.LogEntry.{LogEntry}
 use Rattle.shared_cache.specs.declared.log.LogEntry.TheVariants.{Got}
-use Rattle.shared_cache.specs.declared.entry.Slot.{Slot}
+use Rattle.shared_cache.specs.declared.entry.CacheEntry.{CacheEntry}
 use Rattle.shared_cache.specs.declared.entry.PendingReply.TheVariants.{Waiting, There, Gone}
 use Rattle.shared_cache.specs.declared.notices.Notice.{Notice}
 use Rattle.shared_cache.specs.declared.notices.Notice.TheVariants.{Reply, Keys, All, Broken, Other}
@@ -26,18 +27,19 @@ use Rattle.shared_cache.specs.Log.{is_broken, is_broken_notice}
 use Rattle.shared_cache.specs.Held.{Setup, Key, Words, numbers, used_at, open_fetch, last_use, held}
 use Rattle.shared_cache.specs.Out.{is_polled}
 use Rattle.shared_cache.specs.Steps.{is_welcome}
-use Rattle.shared_cache.specs.Slots.{slot_of, refilled}
+use Rattle.shared_cache.specs.HeldKeys.{Keeps, with_pairs, forgotten, refilled}
 use Rattle.shared_cache.specs.ClientFields.{Fields, Reflects, pending_at, there, owed_in, marks_by}
 use Rattle.shared_cache.specs.ClientFields.{settled}
 use Rattle.shared_cache.proofs.InPlace.{filter_same_test}
-use Rattle.shared_cache.proofs.SlotLists.{filled, slots_filter, slots_refilled, slots_same}
+use Rattle.shared_cache.proofs.Filled.{filled}
+use Rattle.shared_cache.proofs.LastUses.{used_before}
+use Rattle.shared_cache.proofs.Keeps.{keeps_forgotten, keeps_filled, keeps_same}
 use Rattle.shared_cache.proofs.HeldSteps.{replies_push, held_push, use_push, replies_reply}
 use Rattle.shared_cache.proofs.HeldSteps.{open_reply, held_reply, use_reply}
 use Rattle.shared_cache.proofs.MarkLists.{marks_filter, marks_same, marks_next, marks_find}
 use Rattle.shared_cache.proofs.MarkLists.{mark_unless}
 use Rattle.shared_cache.proofs.Bytes.{untaken_same}
 use Rattle.shared_cache.proofs.PendingLists.{no_reply, owed_there}
-use Rattle.shared_cache.proofs.KeyTests.{same_bytes}
 
 push_no_reply : (n : Notice) → IsPush n → is_reply n ≡ false
 push_no_reply Reply p = absurd p
@@ -65,7 +67,7 @@ module _ (s : Setup) (log : List LogEntry) (f : Fields) (k : Reflects s log f) w
       → ((key : Key) → names w key ≡ invalidates_as n (named_keys v) key)
       → Reflects s (Got Main v ∷ log) (record f {
         marks = filter (λ m. not (names w (key_of m.query))) f.marks;
-        slots = filter (λ o. not (names w (key_of o.entry.query))) f.slots;
+        keys = with_pairs (forgotten w f.keys.pairs) f.keys;
         broken = is_broken_notice n || f.broken;
       })
   reflects_push v n w e p named =
@@ -93,15 +95,15 @@ module _ (s : Setup) (log : List LogEntry) (f : Fields) (k : Reflects s log f) w
             (λ (m : Mark). not (invalidates s.mode Main v (key_of m.query))) f.replied
             (numbers s log)
             (λ m le. mark_unless (invalidates s.mode Main v) m (open_fetch s log m)));
-        slots_is =
-            ap (filter (λ (o : Slot). not (names w (key_of o.entry.query)))) k.slots_is
-            ∙ filter_same_test (λ (o : Slot). not (names w (key_of o.entry.query)))
-            (λ (o : Slot). not (invalidates s.mode Main v (key_of o.entry.query)))
-            (map (slot_of (last_use s log)) (held s log)) (λ o. same (key_of o.entry.query))
-            ∙ slots_filter (last_use s log) (invalidates s.mode Main v) (held s log)
-            ∙ ap (map (slot_of (last_use s log))) (sym (held_push s log v pushed))
-            ∙ sym (slots_same (last_use s log) (last_use s (Got Main v ∷ log))
-            (held s (Got Main v ∷ log)) (use_push s log v pushed));
+        keys_is =
+            keeps_same s.capacity (last_use s log) (last_use s (Got Main v ∷ log))
+            (filter (λ h. not (names w (key_of h.query))) (held s log)) (held s (Got Main v ∷ log))
+            (with_pairs (forgotten w f.keys.pairs) f.keys) (use_push s log v pushed)
+            (held_push s log v pushed
+            ∙ sym (filter_same_test (λ (h : CacheEntry). not (names w (key_of h.query)))
+            (λ (h : CacheEntry). not (invalidates s.mode Main v (key_of h.query))) (held s log)
+            (λ h. same (key_of h.query))))
+            (keeps_forgotten s.capacity (last_use s log) (held s log) f.keys k.keys_is w);
         ended_is = k.ended_is;
         side_is = k.side_is;
         broken_is = λ i. is_broken_notice (e i) || k.broken_is i;
@@ -181,17 +183,17 @@ module _ (s : Setup) (log : List LogEntry) (f : Fields) (k : Reflects s log f) w
         (le-ltb 2 number small)
   ]
 
-  pub reflects_reply : (v : Value) (number now : ℕ) → kind_of v ≡ Reply
+  pub reflects_reply : (v : Value) (number : ℕ) → kind_of v ≡ Reply
       → nat_le (numbers s log) (length (replies s.mode Main log)) ≡ false
       → is_welcome s.mode Main (length (replies s.mode Main log) + 1) v ≡ true
-      → number ≡ f.replied + 1 → now ≡ length log + 1
+      → number ≡ f.replied + 1
       → Reflects s (Got Main v ∷ log) (record f {
         replied = number;
         pending = settled s.mode number v f.pending;
         marks = without_number number f.marks;
-        slots = refilled s.capacity (query_marked number f.marks) number now v f.slots;
+        keys = refilled (query_marked number f.marks) number v f.keys;
       })
-  reflects_reply v number now e awaited welcome is at =
+  reflects_reply v number e awaited welcome is =
       let within : f.replied < numbers s log
       = omega (
         arith,
@@ -226,16 +228,17 @@ module _ (s : Setup) (log : List LogEntry) (f : Fields) (k : Reflects s log f) w
             ∙ sym (marks_same (open_fetch s log) (open_fetch s (Got Main v ∷ log)) (suc f.replied)
             (numbers s log) (λ m le. open_reply s log v e m))
             ∙ ap (λ m. marks_by (open_fetch s (Got Main v ∷ log)) m (numbers s log)) (sym next_suc);
-        slots_is =
-            (λ i. refilled s.capacity (marked i) (next_is i) (at i) v (k.slots_is i))
-            ∙ slots_refilled (last_use s log) s.capacity o (length (replies s.mode Main log) + 1)
-            (length log + 1) v (held s log) (λ q. same_bytes (key_of q))
-            ∙ sym (slots_same (λ j. used_at o j (length log + 1) (last_use s log j))
+        keys_is =
+            subst (Keeps s.capacity (last_use s (Got Main v ∷ log)) (held s (Got Main v ∷ log)))
+            (λ i. refilled (sym marked i) (sym next_is i) v f.keys)
+            (keeps_same s.capacity (λ j. used_at o j (length log + 1) (last_use s log j))
             (last_use s (Got Main v ∷ log))
             (filled s.capacity (last_use s log) o (length (replies s.mode Main log) + 1) v
-            (held s log)) (use_reply s log v e o refl))
-            ∙ ap (map (slot_of (last_use s (Got Main v ∷ log))))
-            (sym (held_reply s log v e o refl));
+            (held s log)) (held s (Got Main v ∷ log))
+            (refilled o (length (replies s.mode Main log) + 1) v f.keys)
+            (use_reply s log v e o refl) (held_reply s log v e o refl)
+            (keeps_filled s.capacity (last_use s log) (held s log) f.keys k.keys_is (length log + 1)
+            (used_before s log) o (length (replies s.mode Main log) + 1) v));
         ended_is = k.ended_is;
         side_is = k.side_is;
         broken_is = k.broken_is ∙ (λ i. is_broken_notice (sym e i) || is_broken s.mode log);

@@ -24,11 +24,11 @@ use Rattle.shared_cache.specs.Held.{held_for, hit_of, used_at, unless, other_tha
 use Rattle.shared_cache.specs.Held.{hold}
 use Rattle.shared_cache.specs.Held.{held_by, filled_by, leaving, is_key, sent, open_fetch, left}
 use Rattle.shared_cache.specs.Held.{last_use, held}
-use Rattle.shared_cache.specs.Slots.{is_gone}
+use Rattle.shared_cache.proofs.Filled.{is_gone}
 use Rattle.shared_cache.proofs.Fetches.{stays}
 use Rattle.shared_cache.proofs.HeldLists.{held_filter, held_same, hold_unless, hold_other}
 use Rattle.shared_cache.proofs.HeldLists.{none_held}
-use Rattle.shared_cache.proofs.SlotLists.{filled}
+use Rattle.shared_cache.proofs.Filled.{filled}
 
 -- ---- an Ask that is a hit
 

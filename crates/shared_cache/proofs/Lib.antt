@@ -3,7 +3,7 @@ pub mod Every
 pub mod Fetches
 pub mod Bytes
 pub mod HeldLists
-pub mod SlotLists
+pub mod Filled
 pub mod HeldSteps
 pub mod MarkLists
 pub mod PendingLists
@@ -19,3 +19,9 @@ pub mod FetchLaws
 pub mod CommandLaws
 pub mod Capacity
 pub mod Order
+pub mod PlainKeys
+pub mod KeyPairs
+pub mod KeyCode
+pub mod LastUses
+pub mod Keeps
+pub mod Places

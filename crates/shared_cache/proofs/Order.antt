@@ -214,7 +214,7 @@ placed (g ∷ gs) apart place below =
 
 -- ---- the place of each
 
-ranked_some : (place : ℕ) (all hs : List CacheEntry) (h : CacheEntry) → Among h hs
+pub ranked_some : (place : ℕ) (all hs : List CacheEntry) (h : CacheEntry) → Among h hs
     → rank h all ≡ place → (g : CacheEntry) × (ranked place all hs ≡ Some g)
 ranked_some place all [] h a is = absurd a
 ranked_some place all (o ∷ os) h a is = elim (cases_eq (rank o all) place) [
@@ -228,7 +228,8 @@ ranked_some place all (o ∷ os) h a is = elim (cases_eq (rank o all) place) [
     later (inl same) other = absurd (other (ap (λ x. rank x all) (sym same) ∙ is))
     later (inr b) other = b
 
-ranked_is : (place : ℕ) (all hs : List CacheEntry) (h : CacheEntry) → ranked place all hs ≡ Some h
+pub ranked_is : (place : ℕ) (all hs : List CacheEntry) (h : CacheEntry)
+    → ranked place all hs ≡ Some h
     → Among h hs × (rank h all ≡ place)
 ranked_is place all [] h is = absurd (let no : ⊥ = cc in no)
 ranked_is place all (o ∷ os) h is = elim (cases_eq (rank o all) place) [
@@ -254,7 +255,7 @@ same_numbered (o ∷ os) a b apart (inr i) (inl y) e =
     absurd (every_at _ os a apart.0 i (e ∙ ap (λ (h : CacheEntry). h.number) y))
 same_numbered (o ∷ os) a b apart (inr i) (inr j) e = same_numbered os a b apart.1 i j e
 
-same_ranked : (hs : List CacheEntry) (a b : CacheEntry) → Apart hs → Among a hs → Among b hs
+pub same_ranked : (hs : List CacheEntry) (a b : CacheEntry) → Apart hs → Among a hs → Among b hs
     → rank a hs ≡ rank b hs → a ≡ b
 same_ranked hs a b apart i j e = elim (cases_eq a.number b.number) [
   | inl same ↦ same_numbered hs a b apart i j same
@@ -337,7 +338,7 @@ held_numbers open_of left_of (v ∷ vs) =
     one (Some q) true = tt
     one (Some q) false = (omega arith, tt)
 
-held_apart : (open_of : ℕ → Option Words) (left_of : ℕ → Bool) (vs : List Value)
+pub held_apart : (open_of : ℕ → Option Words) (left_of : ℕ → Bool) (vs : List Value)
     → Apart (held_by open_of left_of vs)
 held_apart open_of left_of [] = tt
 held_apart open_of left_of (v ∷ vs) =

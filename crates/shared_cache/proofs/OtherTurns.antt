@@ -1,7 +1,7 @@
 -- After a turn that neither asks nor gets, the fields are what the log says.
 use Rattle.std.proofs.Common.{◌≡◌, ◌==◌, ◌+◌, ◌-◌, ◌<◌, ◌≤◌, ◌++◌, ◌||◌, ℕ, suc, List, [], ◌∷◌}
 use Rattle.std.proofs.Common.{length}
-use Rattle.std.proofs.Common.{map, set, get_or, drop, true, false, cond, not, Option}
+use Rattle.std.proofs.Common.{set, get_or, drop, true, false, cond, not, Option}
 use Rattle.std.proofs.Common.{None, sym}
 use Rattle.std.proofs.Common.{ap, ◌∙◌, refl, arith, append-nil, length-append, ne_eqb, eq-eqb, inl}
 use Rattle.std.proofs.Common.{inr}
@@ -13,14 +13,15 @@ use Rattle.std.proofs.lemmas.List.{get_or_push, get_or_append_left, get_or-set_s
 use Rattle.std.proofs.lemmas.List.{get_or-set_other}
 use Rattle.resp_value.specs.Spelling.{request_spelling}
 use Rattle.resp_value.specs.declared.value.Value.{Value}
-use Rattle.command_words.specs.Queries.{key_of, writes}
+use Rattle.command_words.specs.Queries.{key_of, names, writes, written_by}
+use Rattle.command_words.specs.declared.written.Written.{Written}
+use Rattle.shared_cache.specs.declared.entry.CacheEntry.{CacheEntry}
 use Rattle.fill_mark.specs.declared.marks.Mark.{Mark}
 use Rattle.shared_cache.specs.declared.log.Wire.{Wire}
 use Rattle.shared_cache.specs.declared.log.Wire.TheVariants.{Main, Side}
 use Rattle.shared_cache.specs.declared.log.LogEntry.{LogEntry}
 use Rattle.shared_cache.specs.declared.log.LogEntry.TheVariants.{Ask, Send, Poll, TakeOut, Got, End}
 use Rattle.shared_cache.specs.declared.log.LogEntry.TheVariants.{Bad}
-use Rattle.shared_cache.specs.declared.entry.Slot.{Slot}
 use Rattle.shared_cache.specs.declared.entry.PendingReply.{PendingReply}
 use Rattle.shared_cache.specs.declared.entry.PendingReply.TheVariants.{Waiting, There, Gone}
 use Rattle.shared_cache.specs.Log.{handshake, handshake_length, first_number, replies, reply_in}
@@ -28,13 +29,15 @@ use Rattle.shared_cache.specs.Log.{is_wire, is_ended}
 use Rattle.shared_cache.specs.Held.{Setup, Words, Caller, put_command, sent, open_fetch, left}
 use Rattle.shared_cache.specs.Held.{last_use, held, held_for, held_in_place, numbers}
 use Rattle.shared_cache.specs.Out.{is_polled}
-use Rattle.shared_cache.specs.Slots.{slot_of, entry_in, slot_for, ranked_slot}
+use Rattle.shared_cache.specs.HeldKeys.{KeysHeld, found_in, listed, with_pairs, forgotten}
 use Rattle.shared_cache.specs.Out.{untaken}
 use Rattle.shared_cache.specs.ClientFields.{Fields, Reflects, IsLast, pending_at, there, marks_by}
 use Rattle.shared_cache.specs.ClientFields.{fetch_mark}
 use Rattle.shared_cache.proofs.Fetches.{beyond, unless_none}
 use Rattle.shared_cache.proofs.HeldLists.{held_none}
-use Rattle.shared_cache.proofs.SlotLists.{slots_filter, slot_for_is, ranked_slot_is}
+use Rattle.shared_cache.proofs.Keeps.{keeps_none, keeps_new, keeps_forgotten, keeps_same}
+use Rattle.shared_cache.proofs.KeyPairs.{pairs_found}
+use Rattle.shared_cache.proofs.Places.{pairs_placed}
 use Rattle.shared_cache.proofs.HeldSteps.{held_send}
 use Rattle.shared_cache.proofs.MarkLists.{marks_none, marks_filter, mark_unless}
 use Rattle.shared_cache.proofs.Bytes.{untaken_one, untaken_same, untaken_took, untaken_none}
@@ -81,7 +84,8 @@ pending_push s log e pending replied each polled same count within un i lt =
 
 module _ (s : Setup) (log : List LogEntry) (f : Fields) (k : Reflects s log f) where
   reflects_end : (w : Wire) → w ≡ Main
-      → Reflects s (End w ∷ log) (record f { marks = []; slots = []; ended = true })
+      → Reflects s (End w ∷ log)
+      (record f { marks = []; keys = with_pairs [] f.keys; ended = true })
   reflects_end w e = record {
     queued_is = k.queued_is ∙ sym (untaken_same s log (End w ∷ log) refl refl);
     replied_is = k.replied_is;
@@ -92,15 +96,16 @@ module _ (s : Setup) (log : List LogEntry) (f : Fields) (k : Reflects s log f) w
     unpolled = k.unpolled;
     owed_is = k.owed_is;
     marks_is = sym (marks_none f.replied (numbers s log));
-    slots_is = ap (map (slot_of (last_use s log)))
-        (sym (held_none (left s log) (replies s.mode Main log)));
+    keys_is = keeps_none s.capacity (last_use s log) (held s log) f.keys k.keys_is _
+        (held_none (left s log) (replies s.mode Main log));
     ended_is = ap (λ u. is_wire u Main || is_ended s.mode Main log) (sym e);
     side_is = ap (λ u. is_wire u Side || is_ended s.mode Side log) e ∙ k.side_is;
     broken_is = k.broken_is;
   }
 
   reflects_bad : (w : Wire) (v : Value) → w ≡ Main
-      → Reflects s (Bad w v ∷ log) (record f { marks = []; slots = []; ended = true })
+      → Reflects s (Bad w v ∷ log)
+      (record f { marks = []; keys = with_pairs [] f.keys; ended = true })
   reflects_bad w v e = record {
     queued_is = k.queued_is ∙ sym (untaken_same s log (Bad w v ∷ log) refl refl);
     replied_is = k.replied_is;
@@ -111,15 +116,15 @@ module _ (s : Setup) (log : List LogEntry) (f : Fields) (k : Reflects s log f) w
     unpolled = k.unpolled;
     owed_is = k.owed_is;
     marks_is = sym (marks_none f.replied (numbers s log));
-    slots_is = ap (map (slot_of (last_use s log)))
-        (sym (held_none (left s log) (replies s.mode Main log)));
+    keys_is = keeps_none s.capacity (last_use s log) (held s log) f.keys k.keys_is _
+        (held_none (left s log) (replies s.mode Main log));
     ended_is = ap (λ u. is_wire u Main || is_ended s.mode Main log) (sym e);
     side_is = ap (λ u. is_wire u Side || is_ended s.mode Side log) e ∙ k.side_is;
     broken_is = k.broken_is;
   }
 
   pub reflects_last : (e : LogEntry) → IsLast e
-      → Reflects s (e ∷ log) (record f { marks = []; slots = []; ended = true })
+      → Reflects s (e ∷ log) (record f { marks = []; keys = with_pairs [] f.keys; ended = true })
   reflects_last (End w) e = reflects_end w e
   reflects_last (Bad w v) e = reflects_bad w v e
   reflects_last (Ask q) e = absurd e
@@ -140,20 +145,21 @@ module _ (s : Setup) (log : List LogEntry) (f : Fields) (k : Reflects s log f) w
     unpolled = k.unpolled;
     owed_is = k.owed_is;
     marks_is = k.marks_is;
-    slots_is = k.slots_is;
+    keys_is = k.keys_is;
     ended_is = k.ended_is;
     side_is = k.side_is;
     broken_is = k.broken_is;
   }
 
-  pub reflects_send : (ws : Words) → Reflects s (Send ws ∷ log) (record f {
-    queued = f.queued ++ request_spelling ws;
-    pending = f.pending ++ Waiting ∷ [];
-    owed = f.owed + 1;
-    marks = filter (λ m. not (writes ws (key_of m.query))) f.marks;
-    slots = filter (λ o. not (writes ws (key_of o.entry.query))) f.slots;
-  })
-  reflects_send ws = let more = length-append (sent s log) (put_command s.mode ws) in record {
+  pub reflects_send : (ws : Words) (w : Written) → w ≡ written_by ws
+      → Reflects s (Send ws ∷ log) (record f {
+        queued = f.queued ++ request_spelling ws;
+        pending = f.pending ++ Waiting ∷ [];
+        owed = f.owed + 1;
+        marks = filter (λ m. not (writes ws (key_of m.query))) f.marks;
+        keys = with_pairs (forgotten w f.keys.pairs) f.keys;
+      })
+  reflects_send ws w by = let more = length-append (sent s log) (put_command s.mode ws) in record {
     queued_is = ap (λ l. l ++ request_spelling ws) k.queued_is
         ∙ sym (untaken_one s log (Send ws ∷ log)
         (record { words = ws; origin = Caller }) refl refl);
@@ -176,10 +182,10 @@ module _ (s : Setup) (log : List LogEntry) (f : Fields) (k : Reflects s log f) w
         (numbers s (Send ws ∷ log)) (omega (arith, more))
         (unless_none (writes ws) (open_fetch s log (suc (numbers s log)))
         (beyond s log (suc (numbers s log)) (omega arith))));
-    slots_is =
-        ap (filter (λ (o : Slot). not (writes ws (key_of o.entry.query)))) k.slots_is
-        ∙ slots_filter (last_use s log) (writes ws) (held s log)
-        ∙ ap (map (slot_of (last_use s log))) (sym (held_send s log ws));
+    keys_is = keeps_same s.capacity (last_use s log) (last_use s log) _ _ _ (λ j. refl)
+        (held_send s log ws ∙ ap (λ x. filter (λ (h : CacheEntry). not (names x (key_of h.query)))
+        (held s log)) (sym by))
+        (keeps_forgotten s.capacity (last_use s log) (held s log) f.keys k.keys_is w);
     ended_is = k.ended_is;
     side_is = k.side_is;
     broken_is = k.broken_is;
@@ -226,29 +232,29 @@ module _ (s : Setup) (log : List LogEntry) (f : Fields) (k : Reflects s log f) w
         (ne_eqb n m (λ g. omega (arith, number_there i v lt is))) ∙ k.unpolled m l;
     owed_is = let o = owed_gone f.pending i v is in omega (arith, k.owed_is);
     marks_is = k.marks_is;
-    slots_is = k.slots_is;
+    keys_is = k.keys_is;
     ended_is = k.ended_is;
     side_is = k.side_is;
     broken_is = k.broken_is;
   }
 
-  -- what the slots say of what is held
-  pub slot_found : (q : Words) (os : List Slot) → os ≡ f.slots
-      → entry_in (slot_for q os) ≡ held_for q (held s log)
-  slot_found q os e = ap (λ l. entry_in (slot_for q l)) (e ∙ k.slots_is)
-      ∙ slot_for_is (last_use s log) q (held s log)
+  -- what the keys say of what is held
+  pub query_found : (q : Words) (keys : KeysHeld) → keys ≡ f.keys
+      → found_in q keys.pairs ≡ held_for q (held s log)
+  query_found q keys e = ap (λ x. found_in q x.pairs) e
+      ∙ pairs_found q f.keys.pairs (held s log) k.keys_is.pairs_are
 
-  pub slot_placed : (place : ℕ) (os : List Slot) → os ≡ f.slots
-      → entry_in (ranked_slot place os os) ≡ held_in_place place (held s log)
-  slot_placed place os e = ap (λ l. entry_in (ranked_slot place l l)) (e ∙ k.slots_is)
-      ∙ ranked_slot_is (last_use s log) place (held s log) (held s log)
+  pub entry_placed : (place : ℕ) (keys : KeysHeld) → keys ≡ f.keys
+      → held_in_place place (listed keys.pairs) ≡ held_in_place place (held s log)
+  entry_placed place keys e = ap (λ x. held_in_place place (listed x.pairs)) e
+      ∙ pairs_placed s log place f.keys.pairs k.keys_is.pairs_are
 
   -- none is left where none is queued
   pub drained : (n : ℕ) → n ≡ length f.queued → (n == 0) ≡ (length (untaken s Main log) == 0)
   drained n e = ap (λ m. m == 0) (e ∙ ap length k.queued_is)
 
 -- a new client
-pub reflects_none : (s : Setup) (queued : List ℕ)
+pub reflects_none : (s : Setup) (queued : List ℕ) → 0 < s.capacity
     → queued ≡ flat_map request_spelling (handshake s.mode [])
     → Reflects s []
     (record {
@@ -257,12 +263,12 @@ pub reflects_none : (s : Setup) (queued : List ℕ)
       pending = [];
       owed = 0;
       marks = [];
-      slots = [];
+      keys = record { pairs = []; most = s.capacity };
       ended =
           false;
       broken = false;
     })
-reflects_none s queued e = record {
+reflects_none s queued some e = record {
   queued_is = e ∙ untaken_none s;
   replied_is = refl;
   replied_within = omega arith;
@@ -272,7 +278,7 @@ reflects_none s queued e = record {
   unpolled = λ n lt. refl;
   owed_is = refl;
   marks_is = refl;
-  slots_is = refl;
+  keys_is = keeps_new s.capacity (last_use s []) some;
   ended_is = refl;
   side_is = refl;
   broken_is = refl;

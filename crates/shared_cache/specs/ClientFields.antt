@@ -1,6 +1,5 @@
 -- What a client is to a contract, and what its fields are by its log.
 use Rattle.std.specs.Prelude.{◌≡◌, ◌+◌, ◌-◌, ◌<◌, ◌≤◌, ◌++◌, ℕ, zero, suc, List, [], ◌∷◌, length}
-use Rattle.std.specs.Prelude.{map}
 use Rattle.std.specs.Prelude.{slice_index_or, slice_set, Bool, false, Option, Some, None}
 use Rattle.std.specs.Prelude.{if◌then◌else◌, nat_lt, nat_le}
 use Rattle.resp_value.specs.declared.value.Value.{Value}
@@ -12,14 +11,13 @@ use Rattle.shared_cache.specs.declared.log.Caching.TheVariants.{Default}
 use Rattle.shared_cache.specs.declared.log.ClientMode.{ClientMode}
 use Rattle.shared_cache.specs.declared.log.LogEntry.{LogEntry}
 use Rattle.shared_cache.specs.declared.log.LogEntry.TheVariants as entry
-use Rattle.shared_cache.specs.declared.entry.Slot.{Slot}
 use Rattle.shared_cache.specs.declared.entry.PendingReply.{PendingReply}
 use Rattle.shared_cache.specs.declared.entry.PendingReply.TheVariants.{Waiting, There, Gone}
 use Rattle.shared_cache.specs.Log.{handshake_length, first_number, replies, reply_in, is_ready}
 use Rattle.shared_cache.specs.Log.{is_ended, is_broken}
 use Rattle.shared_cache.specs.Held.{Setup, Words, sent, open_fetch, last_use, held, numbers}
 use Rattle.shared_cache.specs.Out.{untaken, is_polled}
-use Rattle.shared_cache.specs.Slots.{slot_of}
+use Rattle.shared_cache.specs.HeldKeys.{KeysHeld, Keeps}
 
 -- a client: its setup, and its log with the newest entry first
 pub record Client : Type 0 where
@@ -86,7 +84,7 @@ pub record Fields : Type 0 where
   pub pending : List PendingReply
   pub owed : ℕ
   pub marks : List Mark
-  pub slots : List Slot
+  pub keys : KeysHeld
   pub ended : Bool
   pub broken : Bool
 
@@ -102,7 +100,7 @@ pub record Reflects (s : Setup) (log : List LogEntry) (f : Fields) : Type 0 wher
   pub unpolled : (n : ℕ) → f.replied < n → is_polled log n ≡ false
   pub owed_is : f.owed ≡ owed_in f.pending
   pub marks_is : f.marks ≡ marks_by (open_fetch s log) f.replied (numbers s log)
-  pub slots_is : f.slots ≡ map (slot_of (last_use s log)) (held s log)
+  pub keys_is : Keeps s.capacity (last_use s log) (held s log) f.keys
   pub ended_is : f.ended ≡ is_ended s.mode Main log
   pub side_is : is_ended s.mode Side log ≡ false
   pub broken_is : f.broken ≡ is_broken s.mode log

@@ -3,7 +3,7 @@ pub mod Log
 pub mod Held
 pub mod Out
 pub mod Steps
-pub mod Slots
 pub mod ClientFields
 pub mod PendingReplies
 pub mod Laws
+pub mod HeldKeys

@@ -2,9 +2,10 @@
 ghost use Rattle.std.specs.Prelude.{◌≡◌, ◌+◌, ◌<◌, ◌≤◌, ◌∷◌, [], ℕ, IfOk, OnOk, OnErr, reverse};
 ghost use Rattle.std.specs.Prelude.{length};
 
-use super::cache::{Fill, forget_all, invalidate, mark, refill, slot_at, slot_for, touch};
-use super::entry::{PendingReply, Slot};
+use super::cache::{forget_all, invalidate, mark, refill};
+use super::entry::PendingReply;
 use super::handshake::{HANDSHAKE, enqueue, greeting, is_welcome};
+use super::held_keys::HeldKeys;
 use super::log::{ClientCall, ClientMode, ClientRefusal, ClientReply, LogEntry, Wire};
 use super::notices::{Notice, invalidated, is_broken_by, kind_of};
 use super::pending::{Handed, hand_over, put_reply};
@@ -34,7 +35,7 @@ pub struct ClientState {
     pending: Vec<PendingReply>,
     owed: usize,
     marks: Marks,
-    slots: Vec<Slot>,
+    keys: HeldKeys,
     ended: bool,
     broken: bool,
 }
@@ -63,7 +64,7 @@ impl Model for ClientState {
             pending = c.pending.items;
             owed = c.owed;
             marks = c.marks;
-            slots = c.slots.items;
+            keys = c.keys;
             ended = c.ended;
             broken = c.broken;
           });
@@ -101,6 +102,7 @@ impl ClientState {
           past = [];
         }) }
     {
+        let keys = HeldKeys::new(alloc, capacity)?;
         let queued = greeting(alloc, &mode)?;
         Ok(ClientState {
             alloc,
@@ -113,7 +115,7 @@ impl ClientState {
             pending: Vec::new(alloc),
             owed: 0,
             marks: Marks::new(alloc),
-            slots: Vec::new(alloc),
+            keys,
             ended: false,
             broken: false,
         })
@@ -132,8 +134,8 @@ impl ClientState {
         ensures { option_map (λ r. (r.0.now, r.1.now, r.2)) result
             ≡ as_listed (held_in_place place (held self.now.setup self.now.past)) }
     {
-        let slot = slot_at(&self.slots, place)?;
-        Some((&slot.entry.query, &slot.entry.value, slot.entry.number))
+        let entry = self.keys.entry_at(place)?;
+        Some((&entry.query, &entry.value, entry.number))
     }
 
     fn has_ended(&self) -> bool
@@ -166,7 +168,7 @@ impl ClientState {
         requires last { IsLast entry }
         ensures { self.new ≡ added entry self.old }
     {
-        forget_all(&mut self.marks, &mut self.slots);
+        forget_all(&mut self.marks, &mut self.keys);
         self.ended = true;
         self.log.push_reserved(entry);
     }
@@ -263,7 +265,7 @@ impl ClientState {
         let written = written_by(self.alloc, &words)?;
         self.log.reserve(self.owed + 3)?;
         enqueue(self.alloc, &words, &mut self.queued, &mut self.pending)?;
-        invalidate(&mut self.marks, &mut self.slots, &written);
+        invalidate(&mut self.marks, &mut self.keys, &written);
         self.owed += 1;
         self.log.push_reserved(LogEntry::Send(words));
         Ok(HANDSHAKE + self.pending.len() as u64)
@@ -301,8 +303,7 @@ impl ClientState {
         ensures err { OnErr result (self.new ≡ self.old) }
     {
         self.log.reserve(self.owed + 2)?;
-        let now = self.log.len() as u64 + 1;
-        touch(&mut self.slots, query.key(), now);
+        self.keys.promote(query.key());
         self.log.push_reserved(LogEntry::Ask(query));
         Ok(())
     }
@@ -348,10 +349,10 @@ impl ClientState {
         ensures ok { OnOk result (self.new ≡ added (entry.Ask query) self.old) }
         ensures err { OnErr result (self.new ≡ self.old) }
     {
-        match slot_for(&self.slots, &query) {
-            Some(slot) => {
-                let value = slot.entry.value.copy()?;
-                let number = slot.entry.number;
+        match self.keys.find(&query) {
+            Some(entry) => {
+                let value = entry.value.copy()?;
+                let number = entry.number;
                 self.hit(query)?;
                 Ok(ClientReply::Hit { value, number })
             }
@@ -393,7 +394,7 @@ impl ClientState {
     {
         let written = invalidated(self.alloc, notice, &value)?;
         self.log.reserve(self.owed + 2)?;
-        invalidate(&mut self.marks, &mut self.slots, &written);
+        invalidate(&mut self.marks, &mut self.keys, &written);
         self.broken = is_broken_by(notice, self.broken);
         self.log.push_reserved(LogEntry::Got(Wire::Main, value));
         Ok(())
@@ -410,13 +411,7 @@ impl ClientState {
         let number = self.replied + 1;
         let logged = value.copy()?;
         self.log.reserve(self.owed + 2)?;
-        let now = self.log.len() as u64 + 1;
-        let fill = Fill {
-            capacity: self.capacity,
-            number,
-            now,
-        };
-        refill(self.alloc, fill, &logged, &mut self.marks, &mut self.slots)?;
+        refill(self.alloc, number, &logged, &mut self.marks, &mut self.keys)?;
         put_reply(&self.mode, &mut self.pending, number, value);
         self.replied = number;
         self.log.push_reserved(LogEntry::Got(Wire::Main, logged));

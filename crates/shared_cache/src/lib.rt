@@ -5,13 +5,15 @@ mod cache;
 mod client;
 mod entry;
 mod handshake;
+mod held_keys;
 pub mod laws;
 mod log;
 mod notices;
 mod pending;
+mod slot;
 
 pub use client::ClientState;
-pub use entry::{CacheEntry, PendingReply, Slot};
+pub use entry::{CacheEntry, PendingReply};
 pub use log::{Caching, ClientCall, ClientMode, ClientRefusal, ClientReply, LogEntry, Shape, Wire};
 pub use notices::Notice;
 

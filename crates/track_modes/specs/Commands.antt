@@ -41,7 +41,7 @@ proto_after version proto =
     if bytes_eq version (codes "3") then Three else proto
 
 -- why the mode refuses a command that it allows
-abbrev pub fault_at : Command → Bool → ModeState → Option ModeFault
+unfoldable pub fault_at : Command → Bool → ModeState → Option ModeFault
 fault_at (ClientTracking o) target_exists m = tracking_fault o target_exists m.tracking
 fault_at (ClientCaching is_yes) target_exists m = caching_fault is_yes m.tracking
 fault_at _ target_exists m = None
@@ -74,7 +74,7 @@ command_fault command target_exists m =
     if allows m command then fault_at command target_exists m else None
 
 -- the mode after a command that it does not refuse; one that it does not allow changes nothing
-abbrev pub after_command : Command → ModeState → ModeState
+unfoldable pub after_command : Command → ModeState → ModeState
 after_command command m =
     if allows m command then ended command (changed command m) else spent_mode m
 

@@ -140,6 +140,7 @@ impl Mode {
     }
 
     // What the command changes, without what its end does.
+    #[tactic(auto, unfolding(crate::specs::Commands::fault_at))]
     fn change(&mut self, command: &Command, target_exists: bool) -> Result<(), ModeFault>
         ensures ok { OnOk result (self.new ≡ changed command.now self.old) }
         ensures accepted { OnOk result (fault_at command.now target_exists self.old ≡ None) }
@@ -168,6 +169,7 @@ impl Mode {
     /// the connection that REDIRECT names has not ended. A command that the mode doesn't allow
     /// changes nothing, but it is a command and ends what CLIENT CACHING said, as a refused one
     /// does. After want of memory the mode is as before.
+    #[tactic(auto, unfolding(crate::specs::Commands::after_command))]
     pub fn apply(&mut self, command: &Command, target_exists: bool) -> Result<(), ModeFault>
         ensures ok { OnOk result (self.new ≡ after_command command.now self.old) }
         ensures accepted { OnOk result (command_fault command.now target_exists self.old ≡ None) }

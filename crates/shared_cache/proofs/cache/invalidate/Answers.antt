@@ -1,7 +1,6 @@
-use Rattle.std.proofs.Common.{rules, ap, sym, ◌∙◌, not, take}
+use Rattle.std.proofs.Common.{ap, sym, ◌∙◌, not, take}
 use Rattle.std.specs.List.{filter, list_any}
 use Rattle.std.specs.Str.{bytes_eq}
-use Rattle.std.proofs.lemmas.Fn.{filter_same}
 use Rattle.command_words.specs.Queries.{key_of, names}
 use Rattle.fill_mark.specs.declared.marks.Mark.{Mark}
 use Rattle.fill_mark.specs.Marks.{without_key}
@@ -20,14 +19,6 @@ loop-key-preserved c =
     (take c.loop-key.key-index c.as_slice-key-items.result.now))) c.args.marks.now))
     c.as_slice.ensures
     ∙ without_more (λ (m : Mark). key_of m.query) _ _ _ _ c.loop-key-test.true c.key-item.is
-
-pub returns-after-loop-key-clause-slots : goal.returns-after-loop-key-clause-slots
-returns-after-loop-key-clause-slots c =
-    filter_same _ _ _ (λ x b f' k. search rules) _ _ c.retain.ensures.filtered
-
-pub returns-in-All-clause-slots : goal.returns-in-All-clause-slots
-returns-in-All-clause-slots c =
-    filter_same _ _ _ (λ x b f' k. search rules) _ _ c.retain.ensures.filtered
 
 pub returns-in-All-clause-marks : goal.returns-in-All-clause-marks
 returns-in-All-clause-marks c =

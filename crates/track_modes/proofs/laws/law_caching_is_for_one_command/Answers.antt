@@ -5,7 +5,8 @@ use Rattle.track_modes.specs.declared.tracking.TrackMode.{TrackMode}
 use Rattle.track_modes.specs.declared.tracking.TrackMode.TheVariants.{Default, OptIn, OptOut, Bcast}
 use Rattle.track_modes.specs.declared.tracking.Tracking.{Tracking}
 use Rattle.track_modes.specs.declared.tracking.Tracking.TheVariants.{Off, On}
-use Rattle.track_modes.specs.Commands.{allows, changed, ended, is_caching_command, spent_mode}
+use Rattle.track_modes.specs.Commands.{after_command, allows, changed, ended, is_caching_command}
+use Rattle.track_modes.specs.Commands.{spent_mode}
 use Rattle.track_modes.specs.ModeState.{ModeState, caching_in, caching_of, spent, spent_in}
 use Rattle.track_modes.proofs.laws.law_caching_is_for_one_command.Goals as goal
 
@@ -30,4 +31,5 @@ over true command m e = ended_is_over (is_caching_command command) (changed comm
 over false command m e = spent_is_over m.tracking
 
 pub returns : goal.returns
+unfolding after_command
 returns c = λ command m e. over (allows m command) command m e

@@ -16,7 +16,7 @@ invariant_of-self c =
       reflects = rw (
         pushed c.self.inside.log.items _ _ c.push_reserved.ensures.items,
         c.forget_all.ensures.marks,
-        c.forget_all.ensures.slots,
+        c.forget_all.ensures.keys,
       )
           (reflects_last _ _ _ k c.args.entry c.requires.last);
       room = let r = room_left _ _ _ c.self.invariant.room open_ in omega arith;

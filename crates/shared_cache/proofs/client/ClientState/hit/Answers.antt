@@ -1,9 +1,9 @@
-use Rattle.std.proofs.Common.{◌≡◌, ◌+◌, ◌++◌, ◌∷◌, [], true, length, reverse, arith, ap, ◌∙◌}
+use Rattle.std.proofs.Common.{◌≡◌, ◌++◌, ◌∷◌, [], true, reverse, arith, ap, ◌∙◌}
 use Rattle.std.specs.Prelude.{is_some}
 use Rattle.shared_cache.specs.declared.log.LogEntry.TheVariants as entry
 use Rattle.shared_cache.specs.Held.{held, held_for}
 use Rattle.shared_cache.specs.ClientFields.{Client}
-use Rattle.shared_cache.proofs.NewestFirst.{pushed, count_reverse, at_most_one}
+use Rattle.shared_cache.proofs.NewestFirst.{pushed, at_most_one}
 use Rattle.shared_cache.proofs.Asks.{reflects_hit}
 use Rattle.shared_cache.proofs.client.ClientState.hit.Goals as goal
 
@@ -17,18 +17,14 @@ invariant_of-self-2 c =
     (reverse i.log.items))) ≡ true =
     ap (λ (st : Client). is_some (held_for c.args.query (held st.setup st.past))) c.self.view_is
     ∙ c.requires in
-    let now_is : c.len.result + 1 ≡ length (reverse i.log.items) + 1
-    = ap (λ n. n + 1)
-    (count_reverse i.log.items c.len.result
-    (omega (arith, c.len.ensures, c.in_ok-reserve.ensures.len))) in
     record {
       reflects = rw (
         pushed i.log.items _ _
             (c.push_reserved.ensures.items
             ∙ ap (λ l. l ++ entry.Ask c.args.query ∷ []) c.in_ok-reserve.ensures.items),
-        c.touch.ensures.items,
+        c.promote.ensures,
         c.key.ensures,
       )
-          (reflects_hit _ _ _ k c.args.query (c.len.result + 1) held_is now_is);
+          (reflects_hit _ _ _ k c.args.query held_is);
       room = omega (arith, at_most_one i.ended, c.in_ok-reserve.ensures.ok);
     }

@@ -6,9 +6,9 @@ pub invariant_of-result : goal.invariant_of-result
 invariant_of-result c = record {
   reflects = rw (
     c.in_ok-with_capacity.ensures.items,
-    c.new.ensures.items,
-    c.new-2.ensures,
-    c.new-3.ensures.items,
-  ) (reflects_none _ _ c.in_ok-queued.ensures);
+    c.new-2.ensures.items,
+    c.new-3.ensures,
+    c.in_ok-keys.ensures,
+  ) (reflects_none _ _ c.requires.capacity.0 c.in_ok-queued.ensures);
   room = omega (arith, c.in_ok-with_capacity.ensures.len, c.in_ok-with_capacity.ensures.exact);
 }

@@ -15,7 +15,7 @@ invariant_of-self-2 c =
             (c.push_reserved.ensures.items
             ∙ ap (λ l. l ++ entry.Got Main c.args.value ∷ []) c.in_ok-reserve.ensures.items),
         c.invalidate.ensures.marks,
-        c.invalidate.ensures.slots,
+        c.invalidate.ensures.keys,
         c.is_broken_by-self-inside.ensures,
       )
           (reflects_push _ _ _ k c.args.value c.args.notice c.in_ok-written.written

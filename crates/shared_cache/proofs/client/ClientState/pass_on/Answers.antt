@@ -4,7 +4,6 @@ use Rattle.shared_cache.proofs.NewestFirst.{pushed, at_most_one}
 use Rattle.std.specs.List.{filter}
 use Rattle.command_words.specs.Queries.{key_of, names}
 use Rattle.fill_mark.specs.declared.marks.Mark.{Mark}
-use Rattle.shared_cache.specs.declared.entry.Slot.{Slot}
 use Rattle.shared_cache.proofs.OtherTurns.{reflects_send}
 use Rattle.shared_cache.proofs.client.ClientState.pass_on.Goals as goal
 
@@ -22,10 +21,8 @@ invariant_of-self-2 c =
         c.invalidate.ensures.marks
             ∙ ap (λ w. filter (λ (m : Mark). not (names w (key_of m.query))) i.marks)
             c.in_ok-written.ensures,
-        c.invalidate.ensures.slots
-            ∙ ap (λ w. filter (λ (o : Slot). not (names w (key_of o.entry.query))) i.slots.items)
-            c.in_ok-written.ensures,
+        c.invalidate.ensures.keys,
       )
-          (reflects_send _ _ _ k c.args.words);
+          (reflects_send _ _ _ k c.args.words c.in_ok-written.written c.in_ok-written.ensures);
       room = omega (arith, at_most_one i.ended, c.in_ok-reserve.ensures.ok);
     }

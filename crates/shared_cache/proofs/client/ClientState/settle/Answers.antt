@@ -5,11 +5,11 @@ use Rattle.shared_cache.specs.Log.{replies}
 use Rattle.shared_cache.specs.Held.{numbers}
 use Rattle.shared_cache.specs.Steps.{fault_of}
 use Rattle.shared_cache.specs.ClientFields.{Client}
-use Rattle.shared_cache.proofs.NewestFirst.{pushed, count_reverse, at_most_one}
+use Rattle.shared_cache.proofs.NewestFirst.{pushed, at_most_one}
 use Rattle.shared_cache.proofs.StepCases.{awaits}
 use Rattle.std.proofs.lemmas.Bool.{leb-false}
 use Rattle.fill_mark.specs.Marks.{query_marked}
-use Rattle.shared_cache.specs.Slots.{refilled}
+use Rattle.shared_cache.specs.HeldKeys.{refilled}
 use Rattle.shared_cache.proofs.Gots.{reflects_reply}
 use Rattle.shared_cache.proofs.client.ClientState.settle.Goals as goal
 
@@ -42,10 +42,6 @@ invariant_of-self-2 c =
     let a = awaits (record { mode = i.mode; capacity = i.capacity; log_max = i.log_max })
     (reverse i.log.items) c.args.value c.requires.reply fault in
     let number = i.replied + 1 in
-    let now_is : c.len.result + 1 ≡ length (reverse i.log.items) + 1
-    = ap (λ n. n + 1)
-    (count_reverse i.log.items c.len.result
-    (omega (arith, c.len.ensures, c.in_ok-reserve.ensures.len))) in
     record {
       reflects = rw (
         pushed i.log.items _ _
@@ -54,11 +50,10 @@ invariant_of-self-2 c =
             (c.in_ok-logged.ensures j) ∷ [])),
         c.put_reply.ensures,
         c.in_ok-refill.ensures.marks,
-        c.in_ok-refill.ensures.slots
-            ∙ ap (λ v. refilled i.capacity (query_marked number i.marks) number
-            (c.len.result + 1) v i.slots.items) c.in_ok-logged.ensures,
+        c.in_ok-refill.ensures.keys
+            ∙ ap (λ v. refilled (query_marked number i.marks) number v i.keys)
+            c.in_ok-logged.ensures,
       )
-          (reflects_reply _ _ _ k c.args.value number
-          (c.len.result + 1) c.requires.reply a.0 a.1 refl now_is);
+          (reflects_reply _ _ _ k c.args.value number c.requires.reply a.0 a.1 refl);
       room = omega (arith, at_most_one i.ended, c.in_ok-reserve.ensures.ok);
     }

@@ -1,0 +1,169 @@
+//! Fills a client's cache and measures its turns: `cache_bench 1000000 100000` holds 1,000,000 keys
+//! and takes 100,000 turns of each kind. How many were answered as they were to be goes to the
+//! output, what a turn took to standard error.
+#![tactic(auto)]
+
+ghost use Rattle.std.specs.Prelude.{◌≤◌, ◌<◌};
+
+mod calls;
+mod rounds;
+
+use calls::{content, flush, mode, welcome};
+use resp_value::NoMemory;
+use rounds::{StdMaps, changes, copies, fills, hits, notices, queries};
+use shared_cache::{ClientCall, ClientState, Wire};
+use std::alloc::Global;
+use std::rt::Runtime;
+use std::time::{Duration, Instant};
+use std::{env, io};
+
+#[derive(Drop)]
+enum Fault {
+    Memory,
+    System(io::Error),
+}
+
+impl From<NoMemory> for Fault {
+    fn from(_: NoMemory) -> Self {
+        Fault::Memory
+    }
+}
+
+impl From<io::Error> for Fault {
+    fn from(error: io::Error) -> Self {
+        Fault::System(error)
+    }
+}
+
+/// A client with room for so many keys, whose handshake is answered.
+fn ready_client(alloc: Global, keys: u64) -> Result<ClientState, NoMemory>
+    requires { (0 < keys) × (keys ≤ 1000000) }
+{
+    let mut client = ClientState::new(alloc, mode(), keys, 4000000000)?;
+    let (map, accepted) = welcome(alloc)?;
+    client.turn(ClientCall::TakeOut(Wire::Main, 4096));
+    client.turn(ClientCall::Got(Wire::Main, map));
+    client.turn(ClientCall::Got(Wire::Main, accepted));
+    Ok(client)
+}
+
+fn report<R: Runtime>(
+    rt: &R,
+    what: &str,
+    count: u64,
+    took: Duration,
+    times: u64,
+) -> Result<(), Fault>
+    requires { 0 < times }
+{
+    println!(rt; "{what} {count}")?;
+    let each = took.as_nanos() / (times as u128);
+    eprintln!(rt; "{what}: {each} ns each")?;
+    Ok(())
+}
+
+/// A round of turns on a client that holds every key below `keys`, and what std's maps take.
+fn measure<R: Runtime>(rt: &R, alloc: Global, keys: u64, times: u64) -> Result<(), Fault>
+    requires keys { (0 < keys) × (keys ≤ 1000000) }
+    requires times { 0 < times }
+{
+    let mut client = ready_client(alloc, keys)?;
+    let began = Instant::now(rt)?;
+    let count = fills(alloc, &mut client, 0, keys)?;
+    report(rt, "first fills", count, began.elapsed(rt)?, keys)?;
+    measure_reads(rt, alloc, &mut client, keys, times)?;
+    measure_maps(rt, alloc, keys, times)?;
+    measure_changes(rt, alloc, &mut client, keys, times)
+}
+
+fn measure_reads<R: Runtime>(
+    rt: &R,
+    alloc: Global,
+    client: &mut ClientState,
+    keys: u64,
+    times: u64,
+) -> Result<(), Fault>
+    requires keys { 0 < keys }
+    requires times { 0 < times }
+{
+    let asked = queries(alloc, keys, times)?;
+    let began = Instant::now(rt)?;
+    let count = hits(client, asked);
+    report(rt, "hits", count, began.elapsed(rt)?, times)?;
+    let value = content(alloc)?;
+    let began = Instant::now(rt)?;
+    let count = copies(&value, times)?;
+    report(rt, "copies", count, began.elapsed(rt)?, times)
+}
+
+fn measure_maps<R: Runtime>(rt: &R, alloc: Global, keys: u64, times: u64) -> Result<(), Fault>
+    requires keys { 0 < keys }
+    requires times { 0 < times }
+{
+    let asked = queries(alloc, keys, times)?;
+    let maps = StdMaps::new(alloc, keys)?;
+    let began = Instant::now(rt)?;
+    let count = maps.hash_hits(&asked);
+    report(rt, "look-ups by hash", count, began.elapsed(rt)?, times)?;
+    let began = Instant::now(rt)?;
+    let count = maps.tree_hits(&asked);
+    report(rt, "look-ups in a tree", count, began.elapsed(rt)?, times)
+}
+
+fn measure_changes<R: Runtime>(
+    rt: &R,
+    alloc: Global,
+    client: &mut ClientState,
+    keys: u64,
+    times: u64,
+) -> Result<(), Fault>
+    requires keys { 0 < keys }
+    requires times { 0 < times }
+{
+    let began = Instant::now(rt)?;
+    let count = fills(alloc, client, keys, times)?;
+    report(
+        rt,
+        "fills of a full cache",
+        count,
+        began.elapsed(rt)?,
+        times,
+    )?;
+    let changed = changes(alloc, keys, times)?;
+    let began = Instant::now(rt)?;
+    let count = notices(client, changed);
+    report(
+        rt,
+        "invalidations of a key",
+        count,
+        began.elapsed(rt)?,
+        times,
+    )?;
+    let mut all = Vec::new(alloc);
+    let Ok(()) = all.push(flush(alloc)?) else {
+        return Err(Fault::Memory);
+    };
+    let began = Instant::now(rt)?;
+    let count = notices(client, all);
+    report(rt, "invalidations of all", count, began.elapsed(rt)?, 1)
+}
+
+fn number(word: Option<String>) -> Option<u64> {
+    word?.as_str().parse::<u64>().ok()
+}
+
+fn main(rt: HostRuntime) -> io::Result<()> {
+    let mut words = env::args(&rt)?;
+    words.next();
+    let keys = number(words.next()).unwrap_or(0);
+    let times = number(words.next()).unwrap_or(0);
+    if keys == 0 || keys > 1000000 || times == 0 {
+        println!(rt; "usage: cache_bench KEYS TIMES")?;
+        return Ok(());
+    }
+    match measure(&rt, rt.alloc(), keys, times) {
+        Ok(()) => Ok(()),
+        Err(Fault::System(error)) => Err(error),
+        Err(Fault::Memory) => println!(rt; "memory ran out"),
+    }
+}

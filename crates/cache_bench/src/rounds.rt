@@ -1,0 +1,148 @@
+//! Rounds of calls, each with how many of them were answered as they were to be.
+ghost use Rattle.std.specs.Prelude.{◌<◌, ◌≤◌};
+
+use super::calls::{change, content, key, query};
+use command_words::Query;
+use resp_value::{NoMemory, Value};
+use shared_cache::{ClientCall, ClientReply, ClientState, Wire};
+use std::alloc::Global;
+use std::collections::{BTreeMap, HashMap};
+
+/// A miss, its reply, and the answer to the caller.
+fn fill(alloc: Global, client: &mut ClientState, number: u64) -> Result<bool, NoMemory> {
+    let Some(query) = query(alloc, number)? else {
+        return Ok(false);
+    };
+    let ClientReply::Sent { number } = client.turn(ClientCall::Ask(query)) else {
+        return Ok(false);
+    };
+    let ClientReply::Bytes(_) = client.turn(ClientCall::TakeOut(Wire::Main, 4096)) else {
+        return Ok(false);
+    };
+    let ClientReply::Noted = client.turn(ClientCall::Got(Wire::Main, content(alloc)?)) else {
+        return Ok(false);
+    };
+    let ClientReply::Answer { .. } = client.turn(ClientCall::Poll(number)) else {
+        return Ok(false);
+    };
+    Ok(true)
+}
+
+/// The keys of these numbers are asked for the first time.
+pub fn fills(
+    alloc: Global,
+    client: &mut ClientState,
+    from: u64,
+    times: u64,
+) -> Result<u64, NoMemory> {
+    let mut count = 0u64;
+    for place in 0..times {
+        if fill(alloc, client, from.saturating_add(place))? {
+            count = count.saturating_add(1);
+        }
+    }
+    Ok(count)
+}
+
+/// Numbers below `keys`, far from one another.
+fn spread(place: u64, keys: u64) -> u64
+    requires { 0 < keys }
+{
+    place.wrapping_mul(2654435761) % keys
+}
+
+/// Queries for keys below that number.
+pub fn queries(alloc: Global, keys: u64, times: u64) -> Result<Vec<Query>, NoMemory>
+    requires { 0 < keys }
+{
+    let mut queries = Vec::new(alloc);
+    for place in 0..times {
+        if let Some(query) = query(alloc, spread(place, keys))? {
+            queries.push(query)?;
+        }
+    }
+    Ok(queries)
+}
+
+/// How many of the queries are answered from the cache.
+pub fn hits(client: &mut ClientState, queries: Vec<Query>) -> u64 {
+    let mut count = 0u64;
+    for query in queries {
+        if let ClientReply::Hit { .. } = client.turn(ClientCall::Ask(query)) {
+            count = count.saturating_add(1);
+        }
+    }
+    count
+}
+
+/// The value is copied so many times.
+pub fn copies(value: &Value, times: u64) -> Result<u64, NoMemory> {
+    let mut count = 0u64;
+    for _ in 0..times {
+        let copy = value.copy()?;
+        if let Value::Blob(_) = copy {
+            count = count.saturating_add(1);
+        }
+    }
+    Ok(count)
+}
+
+/// Invalidations of the keys that were filled last.
+pub fn changes(alloc: Global, keys: u64, times: u64) -> Result<Vec<Value>, NoMemory> {
+    let mut values = Vec::new(alloc);
+    let last = keys.saturating_add(times);
+    for place in 0..times {
+        values.push(change(alloc, last.saturating_sub(place.saturating_add(1)))?)?;
+    }
+    Ok(values)
+}
+
+/// How many of these values are noted.
+pub fn notices(client: &mut ClientState, values: Vec<Value>) -> u64 {
+    let mut count = 0u64;
+    for value in values {
+        if let ClientReply::Noted = client.turn(ClientCall::Got(Wire::Main, value)) {
+            count = count.saturating_add(1);
+        }
+    }
+    count
+}
+
+/// std's maps of the same keys.
+#[derive(Drop)]
+pub struct StdMaps {
+    hash: HashMap<Vec<u8>, u64>,
+    tree: BTreeMap<Vec<u8>, u64>,
+}
+
+impl StdMaps {
+    pub fn new(alloc: Global, keys: u64) -> Result<StdMaps, NoMemory> {
+        let mut hash = HashMap::new(alloc);
+        let mut tree = BTreeMap::new(alloc);
+        for number in 0..keys {
+            hash.insert(key(alloc, number)?, number)?;
+            tree.insert(key(alloc, number)?, number)?;
+        }
+        Ok(StdMaps { hash, tree })
+    }
+
+    pub fn hash_hits(&self, queries: &[Query]) -> u64 {
+        let mut count = 0u64;
+        for query in queries {
+            if self.hash.get(query.key()).is_some() {
+                count = count.saturating_add(1);
+            }
+        }
+        count
+    }
+
+    pub fn tree_hits(&self, queries: &[Query]) -> u64 {
+        let mut count = 0u64;
+        for query in queries {
+            if self.tree.get(query.key()).is_some() {
+                count = count.saturating_add(1);
+            }
+        }
+        count
+    }
+}

@@ -1,0 +1,128 @@
+-- What the calls of the map of keys do, as the definitions of the cache by key say it.
+use Rattle.std.proofs.Common.{◌≡◌, ◌-◌, ℕ, List, [], ◌∷◌, map, take, true, false, cond}
+use Rattle.std.proofs.Common.{Vec}
+use Rattle.std.proofs.Common.{Global, Option, Some, None, option_map, sym, ap, ◌∙◌, refl, inl, inr}
+use Rattle.std.specs.Prelude.{is_some}
+use Rattle.std.specs.Map.{lookup, lookup_entry, remove_entry}
+use Rattle.std.specs.Option.{option_map_or}
+use Rattle.std.specs.Str.{bytes_eq}
+use Rattle.std.proofs.lemmas.Bool.{cases_Bool}
+use Rattle.command_words.specs.Queries.{key_of}
+use Rattle.shared_cache.specs.declared.entry.CacheEntry.{CacheEntry}
+use Rattle.shared_cache.specs.Held.{Key, Words, held_for}
+use Rattle.shared_cache.specs.HeldKeys.{Pairs, found_in, entries_of, others}
+use Rattle.shared_cache.proofs.KeyTests.{same_bytes, bytes_same}
+use Rattle.shared_cache.proofs.PlainKeys.{plain, value_plain, put_plain}
+
+abbrev pub Kept : Type 0
+Kept = List (Vec ℕ Global × Vec CacheEntry Global)
+
+items_or : (q : Words) (o : Option (Vec CacheEntry Global))
+    → option_map_or (λ v. held_for q v.items) o None ≡ option_map_or (held_for q)
+    (option_map (λ v. v.items) o) None
+items_or q None = refl
+items_or q (Some v) = refl
+
+pair_or : (q : Words) (o : Option (Key × List CacheEntry))
+    → option_map_or (held_for q) (option_map (λ p. p.1) o) None ≡ option_map_or
+    (λ p. held_for q p.1) o None
+pair_or q None = refl
+pair_or q (Some p) = refl
+
+pub found_plain : (q : Words) (k : Key) (es : Kept) (o : Option (Vec CacheEntry Global))
+    → k ≡ key_of q → o ≡ lookup (λ y. bytes_eq k y.items) es
+    → option_map_or (λ v. held_for q v.items) o None ≡ found_in q (map plain es)
+found_plain q k es o e f =
+    items_or q o
+    ∙ ap (λ x. option_map_or (held_for q) x None)
+    (ap (option_map (λ (v : Vec CacheEntry Global). v.items)) f ∙ value_plain (bytes_eq k) es)
+    ∙ pair_or q (lookup_entry (bytes_eq k) (map plain es))
+    ∙ ap (λ j. option_map_or (λ (p : Key × List CacheEntry). held_for q p.1)
+    (lookup_entry (bytes_eq j) (map plain es)) None) e
+
+list_or : (o : Option (Vec CacheEntry Global))
+    → option_map_or (λ v. v.items) o [] ≡ option_map_or (λ l. l) (option_map (λ v. v.items) o) []
+list_or None = refl
+list_or (Some v) = refl
+
+pair_list : (o : Option (Key × List CacheEntry))
+    → option_map_or (λ l. l) (option_map (λ p. p.1) o) [] ≡ option_map_or (λ p. p.1) o []
+pair_list None = refl
+pair_list (Some p) = refl
+
+pub entries_plain : (k : Key) (es : Kept) (o : Option (Vec CacheEntry Global))
+    → o ≡ lookup (λ y. bytes_eq k y.items) es
+    → option_map_or (λ v. v.items) o [] ≡ entries_of k (map plain es)
+entries_plain k es o f =
+    list_or o
+    ∙ ap (λ x. option_map_or (λ (l : List CacheEntry). l) x [])
+    (ap (option_map (λ (v : Vec CacheEntry Global). v.items)) f ∙ value_plain (bytes_eq k) es)
+    ∙ pair_list (lookup_entry (bytes_eq k) (map plain es))
+
+some_or : (o : Option (Vec CacheEntry Global)) → is_some o ≡ is_some (option_map (λ v. v.items) o)
+some_or None = refl
+some_or (Some v) = refl
+
+some_pair : (o : Option (Key × List CacheEntry)) → is_some (option_map (λ p. p.1) o) ≡ is_some o
+some_pair None = refl
+some_pair (Some p) = refl
+
+pub some_plain : (k : Key) (es : Kept)
+    → is_some (lookup (λ y. bytes_eq k y.items) es) ≡ is_some
+    (lookup_entry (bytes_eq k) (map plain es))
+some_plain k es =
+    some_or (lookup (λ y. bytes_eq k y.items) es) ∙ ap is_some (value_plain (bytes_eq k) es)
+    ∙ some_pair (lookup_entry (bytes_eq k) (map plain es))
+
+-- the pair that is found has the key
+key_is : (k : Key) (ps : Pairs) (p : Key × List CacheEntry) → lookup_entry (bytes_eq k) ps ≡ Some p
+    → k ≡ p.0
+key_is k [] p e = cc
+key_is k (r ∷ ps) p e = elim (cases_Bool (bytes_eq k r.0)) [
+  | inl same ↦
+      let is : Some r ≡ Some p
+      = sym (ap (λ b. cond b (Some r) (lookup_entry (bytes_eq k) ps)) same) ∙ e in
+      let is_ : r ≡ p = cc in
+      bytes_same k r.0 same ∙ ap (λ (x : Key × List CacheEntry). x.0) is_
+  | inr other ↦ key_is k ps p
+      (sym (ap (λ b. cond b (Some r) (lookup_entry (bytes_eq k) ps)) other) ∙ e)
+]
+
+put_cases : (k : Key) (vs : List CacheEntry) (most : ℕ) (ps : Pairs)
+    (o : Option (Key × List CacheEntry)) → lookup_entry (bytes_eq k) ps ≡ o
+    → option_map_or (λ e. (e.0, vs) ∷ remove_entry (bytes_eq k) ps) o ((k, vs) ∷ take (most - 1) ps)
+    ≡ (k, vs) ∷ option_map_or (λ p. remove_entry (bytes_eq k) ps) o (take (most - 1) ps)
+put_cases k vs most ps None e = refl
+put_cases k vs most ps (Some p) e =
+    ap (λ j. (j, vs) ∷ remove_entry (bytes_eq k) ps) (sym (key_is k ps p e))
+
+pub put_others : (es : Kept) (k : Vec ℕ Global) (v : Vec CacheEntry Global) (most : ℕ)
+    → map plain (option_map_or (λ e. (e.0, v) ∷ remove_entry (λ y. bytes_eq k.items y.items) es)
+    (lookup_entry (λ y. bytes_eq k.items y.items) es) ((k, v) ∷ take (most - 1) es))
+    ≡ (k.items, v.items) ∷ others k.items most (map plain es)
+put_others es k v most =
+    put_plain (bytes_eq k.items) es k v (most - 1)
+    ∙ put_cases k.items v.items most (map plain es)
+    (lookup_entry (bytes_eq k.items) (map plain es)) refl
+
+some_others : (k : Key) (most : ℕ) (ps : Pairs) (o : Option (Key × List CacheEntry))
+    → lookup_entry (bytes_eq k) ps ≡ o → is_some o ≡ true
+    → others k most ps ≡ remove_entry (bytes_eq k) ps
+some_others k most ps None e s = let no : false ≡ true = s in cc
+some_others k most ps (Some p) e s =
+    ap (λ o. option_map_or (λ (r : Key × List CacheEntry). remove_entry (bytes_eq k) ps) o
+    (take (most - 1) ps)) e
+
+pub there_others : (k : Key) (most : ℕ) (ps : Pairs) → is_some (lookup_entry (bytes_eq k) ps) ≡ true
+    → others k most ps ≡ remove_entry (bytes_eq k) ps
+there_others k most ps s = some_others k most ps (lookup_entry (bytes_eq k) ps) refl s
+
+-- the first pair has the key
+pub first_there : (k : Key) (vs : List CacheEntry) (ps : Pairs)
+    → is_some (lookup_entry (bytes_eq k) ((k, vs) ∷ ps)) ≡ true
+first_there k vs ps =
+    ap (λ b. is_some (cond b (Some (k, vs)) (lookup_entry (bytes_eq k) ps))) (same_bytes k)
+
+pub without_first : (k : Key) (vs : List CacheEntry) (ps : Pairs)
+    → remove_entry (bytes_eq k) ((k, vs) ∷ ps) ≡ ps
+without_first k vs ps = ap (λ b. cond b ps ((k, vs) ∷ remove_entry (bytes_eq k) ps)) (same_bytes k)

@@ -1,0 +1,84 @@
+-- Look-ups in a list with `Vec<u8>` keys, and in the list of plain pairs that it is to contracts.
+use Rattle.std.proofs.Common.{◌≡◌, ℕ, zero, suc, Bool, true, false, cond, List, [], ◌∷◌}
+use Rattle.std.proofs.Common.{Option}
+use Rattle.std.proofs.Common.{Some, None, option_map, take, Vec, Global, map, refl, ap, ◌∙◌}
+use Rattle.std.specs.Map.{lookup, lookup_entry, remove_entry}
+use Rattle.std.specs.Option.{option_map_or}
+
+module _ {X : Type 0} where
+  abbrev pub plain : Vec ℕ Global × Vec X Global → List ℕ × List X
+  plain p = (p.0.items, p.1.items)
+
+  pub entry_plain : (t : List ℕ → Bool) (es : List (Vec ℕ Global × Vec X Global))
+      → option_map plain (lookup_entry (λ k. t k.items) es) ≡ lookup_entry t (map plain es)
+  entry_plain t [] = refl
+  entry_plain t (e ∷ es) =
+      elim (t e.0.items) as
+      (λ b. option_map plain (cond b (Some e) (lookup_entry (λ k. t k.items) es)) ≡ cond b
+      (Some (plain e)) (lookup_entry t (map plain es)))
+      [ true ↦ refl | false ↦ entry_plain t es ]
+
+  pub value_plain : (t : List ℕ → Bool) (es : List (Vec ℕ Global × Vec X Global))
+      → option_map (λ v. v.items) (lookup (λ k. t k.items) es) ≡ option_map (λ p. p.1)
+      (lookup_entry t (map plain es))
+  value_plain t [] = refl
+  value_plain t (e ∷ es) =
+      elim (t e.0.items) as
+      (λ b. option_map (λ v. v.items)
+      (cond b (Some e.1) (lookup (λ k. t k.items) es)) ≡ option_map (λ p. p.1)
+      (cond b (Some (plain e)) (lookup_entry t (map plain es))))
+      [ true ↦ refl | false ↦ value_plain t es ]
+
+  pub remove_plain : (t : List ℕ → Bool) (es : List (Vec ℕ Global × Vec X Global))
+      → map plain (remove_entry (λ k. t k.items) es) ≡ remove_entry t (map plain es)
+  remove_plain t [] = refl
+  remove_plain t (e ∷ es) =
+      elim (t e.0.items) as
+      (λ b. map plain (cond b es (e ∷ remove_entry (λ k. t k.items) es)) ≡ cond b (map plain es)
+      (plain e ∷ remove_entry t (map plain es)))
+      [ true ↦ refl | false ↦ ap (λ r. plain e ∷ r) (remove_plain t es) ]
+
+  first_plain : (o : Option (Vec ℕ Global × Vec X Global))
+      (rest es : List (Vec ℕ Global × Vec X Global))
+      → map plain (option_map_or (λ e. e ∷ rest) o es) ≡ option_map_or (λ e. e ∷ map plain rest)
+      (option_map plain o) (map plain es)
+  first_plain (Some e) rest es = refl
+  first_plain None rest es = refl
+
+  pub promoted_plain : (t : List ℕ → Bool) (es : List (Vec ℕ Global × Vec X Global))
+      → map plain (option_map_or (λ e. e ∷ remove_entry (λ k. t k.items) es)
+      (lookup_entry (λ k. t k.items) es) es)
+      ≡ option_map_or (λ e. e ∷ remove_entry t (map plain es)) (lookup_entry t (map plain es))
+      (map plain es)
+  promoted_plain t es =
+      first_plain (lookup_entry (λ k. t k.items) es) (remove_entry (λ k. t k.items) es) es
+      ∙ ap (λ r. option_map_or (λ e. e ∷ r) (option_map plain (lookup_entry (λ k. t k.items) es))
+      (map plain es)) (remove_plain t es)
+      ∙ ap (λ o. option_map_or (λ e. e ∷ remove_entry t (map plain es)) o (map plain es))
+      (entry_plain t es)
+
+  pub take_plain : (n : ℕ) (es : List (Vec ℕ Global × Vec X Global))
+      → map plain (take n es) ≡ take n (map plain es)
+  take_plain zero es = refl
+  take_plain (suc n) [] = refl
+  take_plain (suc n) (e ∷ es) = ap (λ r. plain e ∷ r) (take_plain n es)
+
+  put_by : (t : List ℕ → Bool) (es : List (Vec ℕ Global × Vec X Global)) (k : Vec ℕ Global)
+      (v : Vec X Global) (n : ℕ) (o : Option (Vec ℕ Global × Vec X Global))
+      → map plain (option_map_or (λ e. (e.0, v) ∷ remove_entry (λ y. t y.items) es) o
+      ((k, v) ∷ take n es))
+      ≡ option_map_or (λ e. (e.0, v.items) ∷ remove_entry t (map plain es)) (option_map plain o)
+      ((k.items, v.items) ∷ take n (map plain es))
+  put_by t es k v n None = ap (λ r. (k.items, v.items) ∷ r) (take_plain n es)
+  put_by t es k v n (Some e) = ap (λ r. (e.0.items, v.items) ∷ r) (remove_plain t es)
+
+  pub put_plain : (t : List ℕ → Bool) (es : List (Vec ℕ Global × Vec X Global)) (k : Vec ℕ Global)
+      (v : Vec X Global) (n : ℕ)
+      → map plain (option_map_or (λ e. (e.0, v) ∷ remove_entry (λ y. t y.items) es)
+      (lookup_entry (λ y. t y.items) es) ((k, v) ∷ take n es))
+      ≡ option_map_or (λ e. (e.0, v.items) ∷ remove_entry t (map plain es))
+      (lookup_entry t (map plain es)) ((k.items, v.items) ∷ take n (map plain es))
+  put_plain t es k v n =
+      put_by t es k v n (lookup_entry (λ y. t y.items) es)
+      ∙ ap (λ o. option_map_or (λ e. (e.0, v.items) ∷ remove_entry t (map plain es)) o
+      ((k.items, v.items) ∷ take n (map plain es))) (entry_plain t es)

@@ -1,0 +1,13 @@
+use Rattle.std.proofs.Common.{ap, ◌∙◌, map}
+use Rattle.std.specs.Str.{bytes_eq}
+use Rattle.lru.specs.LruCache.{promoted}
+use Rattle.shared_cache.specs.HeldKeys.{with_pairs}
+use Rattle.shared_cache.proofs.PlainKeys.{plain, promoted_plain}
+use Rattle.shared_cache.proofs.held_keys.HeldKeys.promote.Goals as goal
+
+pub returns : goal.returns
+returns c =
+    ap (λ z. record { pairs = map plain z.entries; most = z.cap }) c.promote.ensures.entries
+    ∙ ap (λ l. record { pairs = l; most = c.self.inside.keys.cap })
+    (promoted_plain (bytes_eq c.args.key.now) c.self.inside.keys.entries)
+    ∙ ap (λ k. with_pairs (promoted (bytes_eq c.args.key.now) k.pairs) k) c.self.view_is

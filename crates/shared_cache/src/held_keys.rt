@@ -1,0 +1,244 @@
+//! What is held, by key: a look-up, a use, a fill and an invalidation cost the same however many
+//! keys are held.
+ghost use Rattle.std.specs.Prelude.{◌≡◌, ◌==◌, ◌<◌, ◌≤◌, ◌+◌, ◌++◌, ◌∷◌, [], IfOk, OnOk, OnErr};
+ghost use Rattle.std.specs.Prelude.{length};
+ghost use Rattle.std.specs.Prelude.{is_some, true, option_copied, vec_len, vec_capacity};
+ghost use Rattle.std.specs.Map.{lookup_entry, remove_entry};
+ghost use Rattle.std.specs.Str.{bytes_eq};
+ghost use Rattle.lru.specs.LruCache.{promoted};
+ghost use Rattle.shared_cache.specs.Held.{held_for, rank, ranked, held_in_place};
+ghost use Rattle.shared_cache.specs.HeldKeys.{found_in, entries_of, others, stored, with_pairs};
+ghost use Rattle.shared_cache.specs.HeldKeys.{forgotten, listed};
+
+use super::entry::CacheEntry;
+use super::slot::Slot;
+use command_words::{Query, Written};
+use lru::LruCache;
+use resp_value::NoMemory;
+use std::alloc::Global;
+use std::marker::Model;
+use std::num::NonZeroUsize;
+
+/// The keys that are held, the one used last first, each with its entries in order of the fetches.
+#[derive(Drop)]
+pub struct HeldKeys {
+    keys: LruCache<Vec<u8>, Vec<Slot>>,
+}
+
+impl Model for HeldKeys {
+    ghost use Rattle.std.specs.Prelude.{map};
+    ghost use Rattle.std.specs.Coded.{codes};
+    ghost use Rattle.resp_value.specs.TreeCoding.{tree_code};
+    ghost use Rattle.shared_cache.specs.HeldKeys.{KeysHeld};
+
+    ghost Value = { KeysHeld };
+
+    ghost coded = { Prim.hlevel (codes, tree_code) };
+
+    ghost view = { λ h. record {
+      pairs = map (λ p. (p.0.items, p.1.items)) h.keys.entries;
+      most = h.keys.cap;
+    } };
+}
+
+fn entry_for<'a>(entries: &'a [Slot], query: &Query) -> Option<&'a CacheEntry>
+    ensures { option_copied result ≡ held_for query.now entries.now }
+{
+    for slot in entries {
+        if slot.entry().query.is_same(query) {
+            return Some(slot.entry());
+        }
+    }
+    None
+}
+
+fn rank(slot: &Slot, entries: &[Slot]) -> usize
+    ensures count { result ≡ rank slot.now entries.now }
+    ensures within { result ≤ length entries.now }
+{
+    let mut count = 0;
+    let mut rest = entries;
+    while let [other, after @ ..] = rest {
+        if other.comes_before(slot) {
+            count += 1;
+        }
+        rest = after;
+    }
+    count
+}
+
+fn with_room(alloc: Global, entries: &[Slot]) -> Result<Vec<Slot>, NoMemory>
+    ensures items { IfOk result (λ v. v.items ≡ []) }
+    ensures room { IfOk result (λ v. length entries.now < vec_capacity v) }
+{
+    let mut room = Vec::new(alloc);
+    room.reserve(entries.len() + 1)?;
+    Ok(room)
+}
+
+fn move_all(old: Vec<Slot>, entries: &mut Vec<Slot>)
+    requires { vec_len entries.old + vec_len old < vec_capacity entries.old }
+    ensures items { entries.new.items ≡ entries.old.items ++ old.items }
+    ensures room { vec_len entries.new < vec_capacity entries.new }
+{
+    for entry in old {
+        entries.push_reserved(entry);
+    }
+}
+
+impl HeldKeys {
+    /// No key; so many may be held.
+    pub fn new(alloc: Global, capacity: u64) -> Result<HeldKeys, NoMemory>
+        requires { 0 < capacity }
+        ensures { IfOk result (λ k. k ≡ record { pairs = []; most = capacity }) }
+    {
+        match NonZeroUsize::new(capacity as usize) {
+            Some(most) => match LruCache::sparse(alloc, most) {
+                Ok(keys) => Ok(HeldKeys { keys }),
+                Err(_) => Err(NoMemory),
+            },
+            None => unreachable!(),
+        }
+    }
+
+    /// What is held of the query.
+    pub fn find(&self, query: &Query) -> Option<&CacheEntry>
+        ensures { option_copied result ≡ found_in query.now self.now.pairs }
+    {
+        let entries = self.keys.peek(query.key())?;
+        entry_for(entries, query)
+    }
+
+    /// The key was used.
+    pub fn promote(&mut self, key: &[u8])
+        ensures { self.new ≡ with_pairs (promoted (bytes_eq key.now) self.old.pairs) self.old }
+    {
+        let _ = self.keys.promote(key);
+    }
+
+    /// Nothing is held of the key any more.
+    pub fn remove(&mut self, key: &[u8])
+        ensures { self.new ≡ with_pairs (remove_entry (bytes_eq key.now) self.old.pairs) self.old }
+    {
+        let _ = self.keys.pop(key);
+    }
+
+    /// Nothing is held any more.
+    pub fn clear(&mut self)
+        ensures { self.new ≡ with_pairs [] self.old }
+    {
+        self.keys.clear();
+    }
+
+    /// What is written is no longer held.
+    pub fn invalidate(&mut self, written: &Written)
+        ensures { self.new ≡ with_pairs (forgotten written.now self.old.pairs) self.old }
+    {
+        match written {
+            Written::Keys(keys) => {
+                for key in keys.as_slice() {
+                    self.remove(key.as_slice());
+                }
+            }
+            Written::All => self.clear(),
+        }
+    }
+
+    // Whether exactly so many of what is held come before the entry.
+    fn is_at(&self, place: usize, slot: &Slot) -> bool
+        ensures { result ≡ (rank slot.now (listed self.now.pairs) == place) }
+    {
+        let mut count = 0;
+        for (_, entries) in self.keys.iter() {
+            let more = rank(slot, entries);
+            if more > place - count {
+                return false;
+            }
+            count += more;
+        }
+        count == place
+    }
+
+    fn entry_among<'a>(&self, place: usize, entries: &'a [Slot]) -> Option<&'a CacheEntry>
+        ensures { option_copied result ≡ ranked place (listed self.now.pairs) entries.now }
+    {
+        for slot in entries {
+            if self.is_at(place, slot) {
+                return Some(slot.entry());
+            }
+        }
+        None
+    }
+
+    /// The entry that so many come before, in byte order of the printed words. Each is compared
+    /// with all.
+    pub fn entry_at(&self, place: usize) -> Option<&CacheEntry>
+        ensures { option_copied result ≡ held_in_place place (listed self.now.pairs) }
+    {
+        for (_, entries) in self.keys.iter() {
+            match self.entry_among(place, entries) {
+                Some(entry) => return Some(entry),
+                None => {}
+            }
+        }
+        None
+    }
+
+    // An empty list that has room for the entries of the key and one more.
+    fn room_beside(&self, alloc: Global, key: &[u8]) -> Result<Vec<Slot>, NoMemory>
+        ensures items { IfOk result (λ v. v.items ≡ []) }
+        ensures room { IfOk result
+            (λ v. length (entries_of key.now self.now.pairs) < vec_capacity v) }
+    {
+        match self.keys.peek(key) {
+            Some(entries) => with_room(alloc, entries),
+            None => with_room(alloc, &[]),
+        }
+    }
+
+    // The entries of the key go out, and it is the one used last.
+    fn take_entries(&mut self, alloc: Global, key: Vec<u8>) -> Result<Vec<Slot>, NoMemory>
+        ensures entries { IfOk result (λ v. v.items ≡ entries_of key.items self.old.pairs) }
+        ensures ok { OnOk result (self.new ≡ with_pairs
+            ((key.items, []) ∷ others key.items self.old.most self.old.pairs) self.old) }
+        ensures err { OnErr result (self.new ≡ self.old) }
+    {
+        match self.keys.put(key, Vec::new(alloc)) {
+            Ok(old) => match old {
+                Some(entries) => Ok(entries),
+                None => Ok(Vec::new(alloc)),
+            },
+            Err(_) => Err(NoMemory),
+        }
+    }
+
+    // The key, which is there, has these entries, and is the one used last.
+    fn give_entries(&mut self, key: Vec<u8>, entries: Vec<Slot>)
+        requires { is_some (lookup_entry (bytes_eq key.items) self.old.pairs) ≡ true }
+        ensures { self.new ≡ with_pairs ((key.items, entries.items)
+            ∷ remove_entry (bytes_eq key.items) self.old.pairs) self.old }
+    {
+        match self.keys.put(key, entries) {
+            Ok(_) => {}
+            Err(_) => unreachable!(),
+        }
+    }
+
+    /// The entry is held, and its key is the one used last. Where as many keys are held as may be,
+    /// and this is none of them, the one used earliest leaves.
+    pub fn put(&mut self, alloc: Global, entry: CacheEntry) -> Result<(), NoMemory>
+        ensures ok { OnOk result
+            (self.new ≡ with_pairs (stored self.old.most entry self.old.pairs) self.old) }
+        ensures err { OnErr result (self.new ≡ self.old) }
+    {
+        let mut entries = self.room_beside(alloc, entry.query.key())?;
+        let first = Vec::from_slice(alloc, entry.query.key())?;
+        let second = Vec::from_slice(alloc, entry.query.key())?;
+        let slot = Slot::new(alloc, entry)?;
+        let old = self.take_entries(alloc, first)?;
+        move_all(old, &mut entries);
+        entries.push_reserved(slot);
+        self.give_entries(second, entries);
+        Ok(())
+    }
+}
