@@ -1,3 +1,4 @@
 pub mod Refusals
+pub mod Sendings
 pub mod BookTurns
 pub mod Plans

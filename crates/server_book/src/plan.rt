@@ -1,5 +1,7 @@
-//! What a request will do: its reply, and the pair that it writes.
-ghost use Rattle.std.specs.Prelude.{◌≡◌, ◌<◌, ◌^◌, IfOk, OnOk, OnErr, Result, List, ℕ, option_map};
+//! What a request will do: its reply, its deed, and what it makes of its connection.
+ghost use Rattle.std.specs.Prelude.{◌≡◌, ◌<◌, ◌^◌, IfOk, Result, Ok, Err, List, ℕ, option_map};
+ghost use Rattle.std.specs.Prelude.{codes, if◌then◌else◌};
+ghost use Rattle.resp_value.specs.declared.value.Value.TheVariants.{Simple};
 ghost use Rattle.command_words.specs.declared.command.Command.{Command};
 ghost use Rattle.command_words.specs.declared.command.Command.TheVariants.{Hello};
 ghost use Rattle.command_words.specs.declared.command.WordFault.{WordFault};
@@ -8,26 +10,23 @@ ghost use Rattle.command_words.specs.Space.{Space};
 ghost use Rattle.command_words.specs.Strings.{on_text};
 ghost use Rattle.keyspace.specs.Plain.{content_of};
 ghost use Rattle.command_words.specs.Reading.{IsReading};
-ghost use Rattle.serial_model.specs.History.{is_plain, served, served_reading, spelled};
-ghost use Rattle.server_book.specs.Plans.{IsPlan, after_write};
+ghost use Rattle.serial_model.specs.Modes.{is_served_tracking};
+ghost use Rattle.serial_model.specs.History.{is_plain, served, served_reading};
+ghost use Rattle.server_book.specs.declared.deed.Deed.TheVariants.{Nothing, Remember, Forget};
+ghost use Rattle.server_book.specs.Plans.{IsPlan};
 
+use super::deed::{Deed, Pair};
 use super::hello::{greeting, hello};
-use command_words::{Command, SetLife, SetWhen, WordFault, fault_text, read_command};
+use command_words::{Command, SetLife, SetWhen, TrackOptions, WordFault, fault_text, read_command};
 use keyspace::{Content, Held, Keyspace};
-use resp_value::{NoMemory, Octets, Proto, Value, Words, put_value};
+use resp_value::{NoMemory, Octets, Value, Words};
 use serial_model::{Mode, Runner};
 use std::alloc::Global;
 
 #[derive(Drop)]
-pub struct Pair {
-    key: Octets,
-    value: Octets,
-}
-
-#[derive(Drop)]
 pub struct Plan {
     pub reply: Value,
-    pub write: Option<Pair>,
+    pub deed: Deed,
     /// The mode of the connection after it.
     pub mode: Mode,
 }
@@ -75,6 +74,48 @@ fn is_plain(when: SetWhen, life: SetLife) -> bool
     matches!((when, life), (SetWhen::Always, SetLife::Cleared))
 }
 
+// CLIENT TRACKING without options, or OFF.
+fn is_served_tracking(options: &TrackOptions) -> bool
+    ensures { result ≡ is_served_tracking options.now }
+{
+    let none = options.redirect.is_none()
+        && !options.bcast
+        && !options.optin
+        && !options.optout
+        && !options.noloop
+        && options.prefixes.as_slice().is_empty();
+    !options.on || none
+}
+
+// What a read does: a connection that tracks remembers its key.
+fn read_deed(mode: Mode, key: &Octets) -> Result<Deed, NoMemory>
+    ensures { IfOk result (λ d. d ≡ (if mode.tracking then Remember key.now else Nothing)) }
+{
+    if mode.tracking {
+        Ok(Deed::Remember(key.copy()?))
+    } else {
+        Ok(Deed::Nothing)
+    }
+}
+
+// The plan of CLIENT TRACKING that is served.
+fn plan_tracking(alloc: Global, mode: Mode, on: bool) -> Result<Plan, NoMemory>
+    ensures { IfOk result (λ p. p ≡ record {
+        reply = Simple (codes "OK");
+        deed = if on then Nothing else Forget;
+        mode = record mode { tracking = on };
+    }) }
+{
+    Ok(Plan {
+        reply: Value::Simple(Octets::from_slice(alloc, b"OK")?),
+        deed: if on { Deed::Nothing } else { Deed::Forget },
+        mode: Mode {
+            tracking: on,
+            ..mode
+        },
+    })
+}
+
 // The plan of words that read as a command.
 fn plan_command(
     alloc: Global,
@@ -91,21 +132,27 @@ fn plan_command(
     let mode = by.mode;
     match command {
         Command::Hello(word) => plan_hello(alloc, by, word),
+        Command::ClientTracking(options) => {
+            if !is_served_tracking(options) {
+                return plan_fault(alloc, by, words, WordFault::Syntax);
+            }
+            plan_tracking(alloc, mode, options.on)
+        }
         Command::Get(key) => {
             let reply = get_reply(alloc, space.get(key.as_slice()))?;
-            let write = None;
-            Ok(Plan { reply, write, mode })
+            let deed = read_deed(mode, key)?;
+            Ok(Plan { reply, deed, mode })
         }
         Command::Set(key, value, when, life) => {
             if !is_plain(*when, *life) {
                 return plan_fault(alloc, by, words, WordFault::Syntax);
             }
             let reply = Value::Simple(Octets::from_slice(alloc, b"OK")?);
-            let write = Some(Pair {
+            let deed = Deed::Write(Pair {
                 key: key.copy()?,
                 value: value.copy()?,
             });
-            Ok(Plan { reply, write, mode })
+            Ok(Plan { reply, deed, mode })
         }
         _ => plan_fault(alloc, by, words, WordFault::Unknown),
     }
@@ -123,15 +170,15 @@ fn plan_hello(alloc: Global, by: Runner, word: &Option<Octets>) -> Result<Plan, 
             let reply = greeting(alloc, proto, by.id)?;
             Ok(Plan {
                 reply,
-                write: None,
-                mode: Mode { proto },
+                deed: Deed::Nothing,
+                mode: Mode { proto, ..by.mode },
             })
         }
         Err(text) => {
             let reply = Value::Error(Octets::from_slice(alloc, text)?);
             Ok(Plan {
                 reply,
-                write: None,
+                deed: Deed::Nothing,
                 mode: by.mode,
             })
         }
@@ -150,36 +197,9 @@ fn plan_fault(alloc: Global, by: Runner, words: &Words, fault: WordFault) -> Res
             let reply = Value::Error(fault_text(alloc, words, fault)?);
             Ok(Plan {
                 reply,
-                write: None,
+                deed: Deed::Nothing,
                 mode: by.mode,
             })
         }
-    }
-}
-
-/// The bytes of a reply on a connection of this protocol.
-#[tactic(auto, unfolding(serial_model::specs::History::spelled))]
-pub fn message_of(alloc: Global, proto: Proto, reply: &Value) -> Result<Vec<u8>, NoMemory>
-    ensures { IfOk result (λ m. m.items ≡ spelled proto reply.now) }
-{
-    let mut message = Vec::new(alloc);
-    put_value(proto, reply, &mut message)?;
-    Ok(message)
-}
-
-/// Writes the pair of a plan, where there is one.
-pub fn put_written(space: &mut Keyspace, write: Option<Pair>) -> Result<(), NoMemory>
-    ensures ok { OnOk result (space.new ≡ after_write write space.old) }
-    ensures err { OnErr result (space.new ≡ space.old) }
-{
-    match write {
-        Some(Pair { key, value }) => {
-            let held = Held {
-                content: Content::Text(value),
-                deadline: None,
-            };
-            space.put(key.as_slice(), held)
-        }
-        None => Ok(()),
     }
 }
