@@ -1,4 +1,5 @@
 pub mod Refusals
 pub mod Sendings
+pub mod Remembered
 pub mod BookTurns
 pub mod Plans

@@ -3,6 +3,7 @@ use Rattle.std.proofs.Common.{◌≡◌, ◌+◌, ◌-◌, ◌<◌, ◌≤◌, �
 use Rattle.std.proofs.Common.{sym, ap, subst, ◌∙◌, refl, arith, Bool, true, false, cond, Some}
 use Rattle.std.proofs.Common.{length-append, length-set, slice_index_or, slice_set, append_assoc}
 use Rattle.std.proofs.Common.{append-nil, inl, inr, eq-eqb, ne_eqb, Result, Ok, Err, OnErr}
+use Rattle.std.proofs.Common.{OnOk}
 use Rattle.std.specs.Prelude.{◌==◌}
 use Rattle.std.specs.List.{flat_map}
 use Prim.Native.Nat.{zero, suc}
@@ -24,10 +25,18 @@ use Rattle.server_book.specs.Connections.{fresh, ArePosted}
 use Rattle.server_book.specs.Sendings.{AreIds, modes_of, queued, with_sending, with_sendings}
 use Rattle.server_book.specs.Sendings.{unqueued, before_posts, size_of, message_post}
 
--- what holds holds of an error
+-- what holds holds of an error, and of a success
 pub on_err : {A E : Type 0} (r : Result A E) (P : Type 0) → P → OnErr r P
 on_err (Ok value) P h = tt
 on_err (Err error) P h = h
+
+pub on_ok : {A E : Type 0} (r : Result A E) (P : Type 0) → P → OnOk r P
+on_ok (Ok value) P h = h
+on_ok (Err error) P h = tt
+
+pub on_ok_then : {A E : Type 0} (r : Result A E) (P Q : Type 0) → (P → Q) → OnOk r P → OnOk r Q
+on_ok_then (Ok value) P Q f h = f h
+on_ok_then (Err error) P Q f h = tt
 
 -- ---- a connection by its id
 
