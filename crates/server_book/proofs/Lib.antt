@@ -2,4 +2,5 @@ pub mod Refusals
 pub mod Sendings
 pub mod Remembered
 pub mod BookTurns
+pub mod Runs
 pub mod Plans

@@ -11,7 +11,18 @@ use Rattle.track_table.specs.declared.table.Held.{Held}
 use Rattle.track_table.specs.Table.{holders_of, remembered, with_holder, without_key, is_held}
 use Rattle.track_table.specs.Table.{without_connection, freed_of, oldest_over, TableState}
 use Rattle.track_table.specs.Order.{IsTable, HasNo, AreHeld}
+use Prim.Native.Nat.{zero, suc}
+use Rattle.track_table.proofs.Orders.{table_remembered, table_without_key}
+use Rattle.track_table.proofs.Orders.{table_without_connection}
+use Rattle.serial_model.specs.declared.history.Limits.{Limits}
+use Rattle.serial_model.specs.declared.history.Entry.{Entry}
+use Rattle.serial_model.specs.declared.history.Entry.TheVariants.{Admit, Run, Take, Close}
+use Rattle.serial_model.specs.Modes.{Memory, Remembers, Forgets}
 use Rattle.serial_model.specs.Tracking.{dropped, kept, drop_group, told_of, Invalidation}
+use Rattle.serial_model.specs.Tracking.{without_keys, with_keys, remembering}
+use Rattle.serial_model.specs.History.{table, table_grown, table_then, made, signals, expired}
+use Rattle.serial_model.proofs.Tables.{AllIn, AllRows, AllTo}
+use Rattle.server_book.proofs.Sendings.{AreToldThere}
 use Rattle.server_book.specs.declared.connections.Connection.{Connection}
 use Rattle.server_book.specs.Connections.{IsId}
 use Rattle.server_book.specs.Sendings.{AreIds}
@@ -189,3 +200,71 @@ oldest_dropped limit (r ∷ rows) key table short is =
           )
       | false ↦ λ e none. absurd (let no : ⊥ = cc in no)
     ] refl is
+
+-- ---- the remembered keys of a past are a table
+
+without_keys_table : (keys : List (List ℕ)) (rows : List Held) → IsTable rows
+    → IsTable (without_keys keys rows)
+without_keys_table [] rows h = h
+without_keys_table (key ∷ keys) rows h =
+    without_keys_table keys (without_key key rows) (table_without_key key rows h)
+
+with_keys_table : (id : ℕ) (keys : List (List ℕ)) (rows : List Held) → IsTable rows
+    → IsTable (with_keys id keys rows)
+with_keys_table id [] rows h = h
+with_keys_table id (key ∷ keys) rows h =
+    with_keys_table id keys (remembered id key rows) (table_remembered id key rows h)
+
+remembering_table : (id : ℕ) (memory : Memory) (rows : List Held) → IsTable rows
+    → IsTable (remembering id memory rows)
+remembering_table id (Remembers keys) rows h = with_keys_table id keys rows h
+remembering_table id Forgets rows h = table_without_connection id rows h
+
+drop_table : (n : ℕ) (rows : List Held) → IsTable rows → IsTable (drop n rows)
+drop_table zero rows h = h
+drop_table (suc n) [] h = h
+drop_table (suc n) (r ∷ rows) h =
+    drop_table n rows (record { ordered = h.ordered.2; held = h.held.1 })
+
+pub table_of_past : (l : Limits) (past : List Entry) → IsTable (table l past)
+table_of_past l [] = record { ordered = tt; held = tt }
+table_of_past l (Admit id ∷ past) = table_of_past l past
+table_of_past l (Run id words moment ∷ past) =
+    drop_table (length (table_grown l past id words moment) - l.table_max)
+    (table_grown l past id words moment)
+    (remembering_table id (made l past id words).memory
+    (without_keys (signals l past id words moment) (table_then l past moment))
+    (without_keys_table (signals l past id words moment) (table_then l past moment)
+    (without_keys_table (expired l past moment) (table l past) (table_of_past l past))))
+table_of_past l (Take id max ∷ past) = table_of_past l past
+table_of_past l (Close id ∷ past) =
+    table_without_connection id (table l past) (table_of_past l past)
+
+-- ---- holders of a legal past are there
+
+module _ {P : ℕ → Type 0} (cs : List Connection) (there : (h : ℕ) → P h → IsId cs h) where
+  ids_all : (ids : List ℕ) → AllIn P ids → AreIds cs ids
+  unfolding AllIn
+  ids_all [] h = tt
+  ids_all (id ∷ ids) h = (there id h.0, ids_all ids h.1)
+
+  pub rows_all : (rows : List Held) → AllRows P rows → AreThere cs rows
+  unfolding AllRows
+  rows_all [] h = tt
+  rows_all (r ∷ rows) h = (ids_all r.holders h.0, rows_all rows h.1)
+
+  pub told_all : (told : List Invalidation) → AllTo P told → AreToldThere cs told
+  unfolding AllTo
+  told_all [] h = tt
+  told_all (i ∷ told) h = (there i.to h.0, told_all told h.1)
+
+ids_longer : (cs ds : List Connection) (ids : List ℕ) → length cs ≤ length ds → AreIds cs ids
+    → AreIds ds ids
+ids_longer cs ds [] le h = tt
+ids_longer cs ds (id ∷ ids) le h = ((h.0.0, omega (arith, h.0.1)), ids_longer cs ds ids le h.1)
+
+pub there_longer : (cs ds : List Connection) (rows : List Held) → length cs ≤ length ds
+    → AreThere cs rows → AreThere ds rows
+there_longer cs ds [] le h = tt
+there_longer cs ds (r ∷ rows) le h =
+    (ids_longer cs ds r.holders le h.0, there_longer cs ds rows le h.1)

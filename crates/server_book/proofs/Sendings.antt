@@ -220,6 +220,11 @@ abbrev pub AreToldThere : List Connection → List Invalidation → Type 0
 AreToldThere cs [] = Unit {0}
 AreToldThere cs (i ∷ is) = IsId cs i.to × AreToldThere cs is
 
+pub told_longer : (cs ds : List Connection) (is : List Invalidation) → length cs ≤ length ds
+    → AreToldThere cs is → AreToldThere ds is
+told_longer cs ds [] le h = tt
+told_longer cs ds (i ∷ is) le h = ((h.0.0, omega (arith, h.0.1)), told_longer cs ds is le h.1)
+
 pub told_there : (cs : List Connection) (key : List ℕ) (ids : List ℕ) → AreIds cs ids
     → AreToldThere cs (told_of key ids)
 told_there cs key [] h = tt
