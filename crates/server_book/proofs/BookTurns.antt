@@ -1,16 +1,15 @@
 -- How each turn keeps what a book knows of its history.
 use Rattle.std.proofs.Common.{◌≡◌, ◌+◌, ◌-◌, ◌<◌, ◌≤◌, ℕ, List, [], ◌∷◌, ◌++◌, length, take, drop}
 use Rattle.std.proofs.Common.{max, sym, ap, subst, ◌∙◌, refl, arith, Bool, true, false, cond}
-use Rattle.std.proofs.Common.{length-append, inl, inr, slice_index_or, slice_set, eq-eqb, ne_eqb}
+use Rattle.std.proofs.Common.{length-append, inl, inr, slice_index_or, eq-eqb, ne_eqb}
 use Rattle.std.proofs.Common.{length-set}
 use Rattle.std.specs.Prelude.{◌==◌, not}
 use Rattle.std.specs.List.{count_by}
 use Rattle.std.proofs.lemmas.List.Sums.{sum_by-set, sum_by_push, get_or-le-sum_by}
 use Rattle.std.proofs.lemmas.List.Sums.{count_by-le-length}
-use Rattle.std.proofs.lemmas.List.{get_or_push, get_or_append_left, get_or-set_same}
-use Rattle.std.proofs.lemmas.List.{get_or-set_other, set-get_or}
+use Rattle.std.proofs.lemmas.List.{get_or_push, get_or_append_left}
+use Rattle.std.proofs.lemmas.List.{set-get_or}
 use Rattle.std.proofs.Math.Seq.{take-append_seam}
-use Prim.Native.Nat.{zero, suc}
 use Rattle.std.proofs.lemmas.Bool.{cases_eq}
 use Rattle.command_words.specs.Space.{Space}
 use Rattle.serial_model.specs.declared.history.Limits.{Limits}
@@ -22,13 +21,13 @@ use Rattle.serial_model.specs.declared.history.BookReply.{BookReply}
 use Rattle.serial_model.specs.declared.history.BookReply.TheVariants.{Admitted, Ran, Quiet, Bytes}
 use Rattle.serial_model.specs.declared.history.BookReply.TheVariants.{Closed, Refused}
 use Rattle.serial_model.specs.declared.history.Post.{Post}
-use Rattle.serial_model.specs.declared.history.Posted.TheVariants.{Message, End}
+use Rattle.serial_model.specs.declared.history.Posted.TheVariants.{End}
 use Rattle.serial_model.specs.History.{admitted, runs_on, gives_on, reads_on, has_ended, latest}
 use Rattle.serial_model.specs.History.{unsent, posted, is_full}
 use Rattle.serial_model.specs.Steps.{book_step, AddsEntry}
 use Rattle.serial_model.proofs.ModeSteps.{mode_fresh}
 use Rattle.serial_model.specs.declared.mode.Mode.{Mode}
-use Rattle.serial_model.specs.History.{mode, table}
+use Rattle.serial_model.specs.History.{table}
 use Rattle.serial_model.proofs.Turning.{admit_step, run_step, take_step, close_step}
 use Rattle.serial_model.proofs.Streams.{connected, not_ended, ended_fresh, ended_other}
 use Rattle.serial_model.proofs.Streams.{unsent_close_own, unsent_close_other, unsent_fresh}
@@ -44,7 +43,6 @@ use Rattle.track_table.specs.Table.{TableState}
 use Rattle.serial_model.proofs.TableSize.{table_within}
 use Rattle.serial_model.proofs.Streams.{IsLive, table_live}
 use Rattle.std.proofs.lemmas.Bool.Decides.{nat_tests}
-use Rattle.serial_model.specs.History.{is_admitted}
 use Rattle.server_book.specs.BookState.{BookState, IsTurn, Agrees, HasRoom}
 use Rattle.server_book.specs.BookState.{connection_of}
 

@@ -1,6 +1,6 @@
 -- The plan of a command that the book does not run, and what a plan does after a past.
-use Rattle.std.proofs.Common.{◌≡◌, ℕ, List, [], ◌∷◌, Result, Ok, Err, refl, ap, sym, subst, Option}
-use Rattle.std.proofs.Common.{◌∙◌, Bool, true, false, cond}
+use Rattle.std.proofs.Common.{◌≡◌, ℕ, List, Result, Ok, Err, refl, ap, sym, subst, Option}
+use Rattle.std.proofs.Common.{◌∙◌, Bool, true, false}
 use Rattle.std.specs.Prelude.{IfOk, codes, if◌then◌else◌}
 use Rattle.resp_value.specs.declared.octets.NoMemory as memory
 use Rattle.resp_value.specs.declared.value.Value.TheVariants.{Simple}

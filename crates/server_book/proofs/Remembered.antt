@@ -1,7 +1,7 @@
 -- Remembered keys whose holders are there, and what is told of those that are pushed out.
-use Rattle.std.proofs.Common.{◌≡◌, ◌+◌, ◌-◌, ◌<◌, ◌≤◌, ℕ, List, [], ◌∷◌, ◌++◌, length, take, drop}
+use Rattle.std.proofs.Common.{◌≡◌, ◌+◌, ◌-◌, ◌≤◌, ℕ, List, [], ◌∷◌, length, take, drop}
 use Rattle.std.proofs.Common.{sym, ap, subst, ◌∙◌, refl, arith, Bool, true, false, cond, map}
-use Rattle.std.proofs.Common.{append-nil, Option, Some, None}
+use Rattle.std.proofs.Common.{append-nil, Some, None}
 use Rattle.std.specs.Prelude.{◌==◌, nat_lt, not, filter}
 use Rattle.std.specs.Str.{bytes_eq}
 use Rattle.std.proofs.lemmas.Slice.Eq.{bytes_eq-Decides}
@@ -187,8 +187,7 @@ oldest_dropped limit (r ∷ rows) key table short is =
           let over : length (r ∷ rows) - limit ≡ 1 = grind (arith, nat_tests) in
           let same : r.key ≡ key = cc in
           subst (λ k. (without_key k (r ∷ rows) ≡ kept limit (r ∷ rows))
-          × (drop_group (dropped limit (r ∷ rows)) ≡ told_of k (holders_of k (r ∷ rows)))) same
-          (
+          × (drop_group (dropped limit (r ∷ rows)) ≡ told_of k (holders_of k (r ∷ rows)))) same (
             ap (λ b. cond (not b) (r ∷ without_key r.key rows) (without_key r.key rows))
                 (same_bytes r.key)
                 ∙ without_none r.key rows table.ordered.1

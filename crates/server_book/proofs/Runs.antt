@@ -1,37 +1,33 @@
 -- A Run sends what its entry sends, and leaves what the history says.
 use Rattle.std.proofs.Common.{◌≡◌, ◌+◌, ◌-◌, ◌<◌, ◌≤◌, ℕ, List, [], ◌∷◌, ◌++◌, length, sym, ap}
 use Rattle.std.proofs.Common.{subst, ◌∙◌}
-use Rattle.std.proofs.Common.{refl, arith, Bool, true, false, cond, inl, inr, append-nil, length-set}
+use Rattle.std.proofs.Common.{refl, arith, true, false, cond, inl, inr, append-nil, length-set}
 use Rattle.std.proofs.Common.{append_assoc, eq-eqb, ne_eqb}
 use Rattle.std.specs.Prelude.{◌==◌}
 use Rattle.std.proofs.lemmas.Bool.{cases_eq}
-use Rattle.std.proofs.lemmas.Bool.Decides.{nat_tests}
 use Rattle.command_words.specs.Space.{Space}
 use Rattle.track_table.specs.Table.{TableState}
-use Rattle.track_table.specs.declared.table.Held.{Held}
 use Rattle.serial_model.specs.declared.history.Limits.{Limits}
 use Rattle.serial_model.specs.declared.history.Entry.{Entry}
 use Rattle.serial_model.specs.declared.history.Entry.TheVariants as entry
-use Rattle.serial_model.specs.declared.history.Post.{Post}
 use Rattle.serial_model.specs.declared.mode.Mode.{Mode}
-use Rattle.serial_model.specs.Modes.{Memory}
 use Rattle.serial_model.specs.Tracking.{Invalidation, group, drop_group, dropped, kept}
-use Rattle.serial_model.specs.History.{runs_on, is_full, latest, has_ended, unsent, posted, mode}
+use Rattle.serial_model.specs.History.{runs_on, is_full, latest, has_ended, unsent, posted}
 use Rattle.serial_model.specs.History.{modes, routed, reply_of, sends, sent_to, sent_bytes, spelled}
 use Rattle.serial_model.specs.History.{Sending, Message, posts_of, made, ran, signals, after_run}
-use Rattle.serial_model.specs.History.{table, keyspace}
+use Rattle.serial_model.specs.History.{table}
 use Rattle.serial_model.proofs.Streams.{behind, behind_live, run_bytes, run_sends_none, IsLive}
-use Rattle.serial_model.proofs.Streams.{unsent_run, unsent_ended, not_ended}
+use Rattle.serial_model.proofs.Streams.{unsent_run, unsent_ended}
 use Rattle.serial_model.proofs.ModeSteps.{mode_own, mode_other}
 use Rattle.server_book.specs.declared.connections.Connection.{Connection}
 use Rattle.server_book.specs.declared.deed.Deed.{Deed}
 use Rattle.server_book.specs.Connections.{ConnectionsState, IsId, connection_at, with_connection}
 use Rattle.server_book.specs.Plans.{signals_of, memory_of, told_by, kept_by}
-use Rattle.server_book.specs.Sendings.{modes_of, with_sendings, message_post, queued}
+use Rattle.server_book.specs.Sendings.{modes_of, with_sendings, message_post}
 use Rattle.server_book.specs.BookState.{Agrees, connection_of}
-use Rattle.server_book.proofs.Sendings.{at_same, at_other, AreToldThere, AreTo, sent_at, more}
+use Rattle.server_book.proofs.Sendings.{at_same, at_other, AreToldThere, sent_at, more}
 use Rattle.server_book.proofs.Sendings.{length_sendings, posts_sendings, routed_there, routed_same}
-use Rattle.server_book.proofs.Sendings.{to_longer, told_longer}
+use Rattle.server_book.proofs.Sendings.{told_longer}
 use Rattle.server_book.specs.Stores.{IsHeld}
 use Rattle.server_book.proofs.Remembered.{told_all, there_longer}
 use Rattle.server_book.proofs.BookTurns.{is_id, kept_of, there_live, switched, switched_is}

@@ -1,21 +1,18 @@
 -- What sendings do to each connection, and that taking them back undoes them.
-use Rattle.std.proofs.Common.{◌≡◌, ◌+◌, ◌-◌, ◌<◌, ◌≤◌, ℕ, List, [], ◌∷◌, ◌++◌, length, take, map}
-use Rattle.std.proofs.Common.{sym, ap, subst, ◌∙◌, refl, arith, Bool, true, false, cond, Some}
+use Rattle.std.proofs.Common.{◌≡◌, ◌+◌, ◌-◌, ◌<◌, ◌≤◌, ℕ, List, [], ◌∷◌, ◌++◌, length, take}
+use Rattle.std.proofs.Common.{sym, ap, subst, ◌∙◌, refl, arith, true, false, cond, Some}
 use Rattle.std.proofs.Common.{length-append, length-set, slice_index_or, slice_set, append_assoc}
 use Rattle.std.proofs.Common.{append-nil, inl, inr, eq-eqb, ne_eqb, Result, Ok, Err, OnErr}
 use Rattle.std.proofs.Common.{OnOk}
 use Rattle.std.specs.Prelude.{◌==◌}
-use Rattle.std.specs.List.{flat_map}
 use Prim.Native.Nat.{zero, suc}
 use Rattle.std.proofs.lemmas.Bool.{cases_eq}
-use Rattle.std.proofs.lemmas.Grind.{flat_map-append}
 use Rattle.std.proofs.lemmas.List.{get_or-set_same, get_or-set_other, set-get_or}
 use Rattle.std.proofs.Math.Seq.{take-append_seam}
 use Rattle.resp_value.specs.declared.value.Proto.{Proto}
 use Rattle.resp_value.specs.declared.value.Proto.TheVariants.{Two, Three}
 use Rattle.serial_model.specs.declared.mode.Mode.{Mode}
 use Rattle.serial_model.specs.declared.history.Post.{Post}
-use Rattle.serial_model.specs.declared.history.Posted.TheVariants as posted_as
 use Rattle.serial_model.specs.Tracking.{Invalidation, told_of, push_of}
 use Rattle.serial_model.specs.History.{Sending, Message, End, sending_bytes, posted_of, spelled}
 use Rattle.serial_model.specs.History.{sent_bytes, sent_to, routed, route, posts_of}

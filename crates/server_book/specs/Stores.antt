@@ -1,5 +1,5 @@
 -- What holds of the table of remembered keys beside the connections.
-use Rattle.std.specs.Prelude.{◌≤◌, ◌+◌, ℕ, List, [], ◌∷◌, length}
+use Rattle.std.specs.Prelude.{◌≤◌, ℕ, List, [], ◌∷◌, length}
 use Rattle.track_table.specs.declared.table.Held.{Held}
 use Rattle.track_table.specs.Order.{IsTable}
 use Rattle.server_book.specs.declared.connections.Connection.{Connection}

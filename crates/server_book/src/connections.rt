@@ -159,8 +159,8 @@ impl Connections {
     pub fn send(&mut self, entry: u64, to: u64, message: &[u8]) -> Result<(), NoMemory>
         requires { IsId self.old.items to }
         ensures ok { OnOk result (self.new ≡ record {
-            items = queued self.old.items to message.now;
-            posts = self.old.posts ++ message_post entry to (length message.now) ∷ [];
+          items = queued self.old.items to message.now;
+          posts = self.old.posts ++ message_post entry to (length message.now) ∷ [];
         }) }
         ensures err { OnErr result (self.new ≡ self.old) }
     {
@@ -178,7 +178,13 @@ impl Connections {
 
     /// Tells connections that a key is not what it was: those on the third protocol are sent a
     /// push, those on the second nothing. Where memory runs out, some of them were sent theirs.
-    pub fn tell(&mut self, alloc: Global, entry: u64, key: &[u8], to: &[u64]) -> Result<(), NoMemory>
+    pub fn tell(
+        &mut self,
+        alloc: Global,
+        entry: u64,
+        key: &[u8],
+        to: &[u64],
+    ) -> Result<(), NoMemory>
         requires { AreIds self.old.items to.now }
         ensures ok { OnOk result (self.new
             ≡ with_sendings entry (routed (modes_of self.old.items) (told_of key.now to.now))
@@ -217,9 +223,9 @@ impl Connections {
         ensures { let c = connection_at self.old.items id in
             let gone = record c { queue = []; ended = true } in
             self.new ≡ record {
-            items = with_connection self.old.items id gone;
-            posts = end_post entry id ∷ [];
-        } }
+              items = with_connection self.old.items id gone;
+              posts = end_post entry id ∷ [];
+            } }
     {
         let connection = &mut self.items[(id - 1) as usize];
         connection.queue.drop_all();

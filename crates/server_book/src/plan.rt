@@ -101,9 +101,9 @@ fn read_deed(mode: Mode, key: &Octets) -> Result<Deed, NoMemory>
 // The plan of CLIENT TRACKING that is served.
 fn plan_tracking(alloc: Global, mode: Mode, on: bool) -> Result<Plan, NoMemory>
     ensures { IfOk result (λ p. p ≡ record {
-        reply = Simple (codes "OK");
-        deed = if on then Nothing else Forget;
-        mode = record mode { tracking = on };
+      reply = Simple (codes "OK");
+      deed = if on then Nothing else Forget;
+      mode = record mode { tracking = on };
     }) }
 {
     Ok(Plan {

@@ -1,4 +1,4 @@
-use Rattle.std.proofs.Common.{◌∷◌, ◌+◌, sym, ap}
+use Rattle.std.proofs.Common.{◌∷◌, sym, ap}
 use Rattle.std.proofs.Common.{subst, ◌∙◌}
 use Rattle.track_table.specs.Table.{TableState, without_connection}
 use Rattle.serial_model.specs.declared.history.Entry.TheVariants as entry
@@ -6,7 +6,6 @@ use Rattle.serial_model.specs.declared.history.BookCall.TheVariants.{Close}
 use Rattle.serial_model.specs.History.{table}
 use Rattle.server_book.specs.BookState.{BookState, IsAccepted, Agrees, HasRoom}
 use Rattle.server_book.specs.Connections.{ConnectionsState}
-use Rattle.server_book.specs.Sendings.{end_post}
 use Rattle.server_book.proofs.Remembered.{same_table}
 use Rattle.server_book.proofs.BookTurns.{is_id, live_at, is_turn}
 use Rattle.server_book.proofs.BookTurns.{agrees_close}

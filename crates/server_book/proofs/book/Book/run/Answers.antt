@@ -4,18 +4,15 @@ use Rattle.serial_model.specs.declared.history.Entry.TheVariants as entry
 use Rattle.serial_model.specs.declared.history.BookCall.TheVariants.{Run}
 use Rattle.serial_model.specs.declared.mode.Runner.{Runner}
 use Rattle.serial_model.specs.History.{spelled, runner, routed}
-use Rattle.track_table.specs.Table.{TableState}
-use Rattle.command_words.specs.Space.{Space}
-use Rattle.server_book.specs.BookState.{BookState, Agrees, IsAccepted, HasRoom}
+use Rattle.server_book.specs.BookState.{BookState, Agrees, IsAccepted}
 use Rattle.server_book.specs.Connections.{ConnectionsState, connection_at, with_connection}
-use Rattle.server_book.specs.Connections.{IsId}
 use Rattle.server_book.specs.Sendings.{before_posts, message_post, modes_of, with_sendings}
 use Rattle.server_book.specs.Plans.{told_by, kept_by}
 use Rattle.server_book.specs.Stores.{IsHeld}
 use Rattle.server_book.proofs.Plans.{plan_runs}
 use Rattle.server_book.proofs.BookTurns.{is_id, kept_of, is_turn, switched, undone, run_turned}
 use Rattle.server_book.proofs.BookTurns.{room_more}
-use Rattle.server_book.proofs.Runs.{agrees_run, posted_run, length_after, held_replied, replied}
+use Rattle.server_book.proofs.Runs.{agrees_run, posted_run, length_after, held_replied}
 use Rattle.server_book.proofs.book.Book.run.Goals as goal
 
 pub carry_out-requires-clause-held : goal.carry_out-requires-clause-held
@@ -118,8 +115,12 @@ invariant_of-self-2 c =
           (ap (λ (s : ConnectionsState). length s.items) final
           ∙ length_after l past space keys cs k id m words acc.0 n p.deed p.mode message number
           runs.2 runs.3 runs.4 spelling)
-          (omega (arith, c.in_ok-reserve.ensures.ok, c.push.ensures.room,
-          c.count-count.ensures.count));
+          (omega (
+            arith,
+            c.in_ok-reserve.ensures.ok,
+            c.push.ensures.room,
+            c.count-count.ensures.count,
+          ));
     }
 
 pub invariant_of-self-in-Err : goal.invariant_of-self-in-Err

@@ -1,7 +1,7 @@
-use Rattle.std.proofs.Common.{◌≡◌, ◌≤◌, ◌<◌, ◌-◌, ◌++◌, ◌∷◌, [], length, arith, sym, ap, subst, ◌∙◌}
+use Rattle.std.proofs.Common.{◌<◌, ◌-◌, [], length, arith, sym, ap, subst, ◌∙◌}
 use Rattle.std.proofs.lemmas.List.{get_or_read}
 use Rattle.server_book.specs.Connections.{ArePosted, fresh}
-use Rattle.server_book.specs.Sendings.{before_posts, unqueued}
+use Rattle.server_book.specs.Sendings.{before_posts}
 use Rattle.server_book.proofs.Sendings.{posted_last, posted_front, posted_set, before_last}
 use Rattle.server_book.proofs.Sendings.{unqueued_is}
 use Rattle.server_book.proofs.connections.Connections.take_back.Goals as goal
@@ -29,14 +29,13 @@ posts-preserved c =
     let last = posted_last items left post
     (subst (ArePosted items) c.in-Some.ensures.items c.posts.invariant.0) in
     let lt : post.id - 1 < length items = omega (arith, last.1.0, last.1.1) in
-    let there = get_or_read items (post.id - 1) at lt c.index_mut-connection.ensures.value fresh in
-    (
+    let there = get_or_read items (post.id - 1) at lt c.index_mut-connection.ensures.value fresh in (
       posted_set items (post.id - 1) _ left last.0,
       omega (arith, c.posts.invariant.1, c.in-Some.ensures.capacity),
       ap (before_posts left) (unqueued_is items post at c.keep.new.self c.saturating_sub-left.result
-      there
-      (omega (arith, c.saturating_sub-left.ensures, c.len.ensures, c.size_of-size.ensures))
-      c.keep.ensures)
+          there
+          (omega (arith, c.saturating_sub-left.ensures, c.len.ensures, c.size_of-size.ensures))
+          c.keep.ensures)
           ∙ sym (before_last left post items)
           ∙ ap (λ ps. before_posts ps items) (sym c.in-Some.ensures.items)
           ∙ c.posts.invariant.2,

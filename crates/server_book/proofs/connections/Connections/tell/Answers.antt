@@ -1,4 +1,4 @@
-use Rattle.std.proofs.Common.{◌≡◌, ap, sym, ◌∙◌, arith, length, ◌<◌}
+use Rattle.std.proofs.Common.{ap, ◌∙◌, arith, length, ◌<◌}
 use Rattle.server_book.specs.Connections.{ConnectionsState}
 use Rattle.server_book.specs.Sendings.{before_posts}
 use Rattle.server_book.proofs.Sendings.{next_there, told_nothing, told_push, before_sendings}

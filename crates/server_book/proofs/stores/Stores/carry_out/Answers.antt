@@ -4,7 +4,7 @@ use Rattle.serial_model.specs.History.{routed}
 use Rattle.serial_model.specs.Tracking.{drop_group, told_of}
 use Rattle.server_book.specs.Plans.{kept_by, told_by}
 use Rattle.server_book.specs.Sendings.{with_sendings, modes_of}
-use Rattle.server_book.proofs.Sendings.{on_ok, on_ok_then}
+use Rattle.server_book.proofs.Sendings.{on_ok_then}
 use Rattle.server_book.proofs.Remembered.{short_kept, short_dropped, without_key_le}
 use Rattle.server_book.proofs.Remembered.{without_connection_le, same_table}
 use Rattle.server_book.proofs.stores.Stores.carry_out.Goals as goal

@@ -1,4 +1,4 @@
-use Rattle.std.proofs.Common.{◌≡◌, ap, ◌∙◌, sym, Some, rules}
+use Rattle.std.proofs.Common.{◌≡◌, ◌∙◌, Some, rules}
 use Rattle.track_table.specs.Table.{oldest_over}
 use Rattle.server_book.proofs.Remembered.{oldest_dropped, same_table}
 use Rattle.server_book.proofs.stores.Stores.drop_oldest.Goals as goal
