@@ -9,7 +9,7 @@ mod words;
 
 pub use event::{Event, LONGEST_LINE, read_event};
 pub use laws::{law_lines_come_back, law_words_come_back};
-pub use line::{Line, Lines, put_line, put_number};
+pub use line::{Line, Lines, put_line};
 
 #[cfg(test)]
 mod tests;

@@ -93,7 +93,7 @@ fn append(out: &mut Vec<u8>, bytes: &[u8]) -> Result<(), NoMemory>
 }
 
 /// Appends a number in decimal. Where memory runs out nothing is appended.
-pub fn put_number(number: u64, out: &mut Vec<u8>) -> Result<(), NoMemory>
+fn put_number(number: u64, out: &mut Vec<u8>) -> Result<(), NoMemory>
     ensures ok { OnOk result (out.new.items ≡ out.old.items ++ decimal number) }
     ensures err { OnErr result (out.new.items ≡ out.old.items) }
 {
