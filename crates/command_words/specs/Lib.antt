@@ -16,6 +16,7 @@ pub mod Effect
 pub mod Strings
 pub mod Hashes
 pub mod Keys
+pub mod Expiry
 pub mod Effects
 pub mod Printed
 pub mod Queries

@@ -8,6 +8,7 @@ mod run;
 mod writes;
 
 pub use run::{is_string, run_string};
+pub use writes::moment_after;
 
 #[cfg(test)]
 mod tests;

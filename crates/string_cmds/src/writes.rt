@@ -33,7 +33,7 @@ fn sets(when: SetWhen, there: bool) -> bool
 }
 
 /// So many units of milliseconds after a moment, and at most the last moment.
-fn moment_after(moment: u64, unit: u64, number: i64) -> u64
+pub fn moment_after(moment: u64, unit: u64, number: i64) -> u64
     ensures { result ≡ moment_after moment unit number }
 {
     let length = number.unsigned_abs().saturating_mul(unit);

@@ -1,0 +1,7 @@
+use Rattle.std.proofs.Common.{◌≡◌, take}
+use Rattle.command_set.specs.InStep.{keys_of}
+use Rattle.command_set.proofs.due.due_keys.Given as goal
+
+abbrev pub invariant-loop-deadline : goal.invariant-loop-deadline
+invariant-loop-deadline l =
+    l.keys ≡ keys_of (take l.deadline-index l.deadline-items)

@@ -1,0 +1,62 @@
+//! The keys whose deadline is before a moment.
+ghost use Rattle.std.specs.Prelude.{◌≡◌, IfOk, OnOk, OnErr};
+ghost use Rattle.command_words.specs.Expiry.{without_due};
+ghost use Rattle.command_words.specs.Keys.{remove_each};
+ghost use Rattle.expiry.specs.Index.{left};
+ghost use Rattle.command_set.specs.InStep.{InStep, due_keys, keys_of};
+
+use expiry::{Deadline, DeadlineIndex};
+use keyspace::Keyspace;
+use resp_value::{NoMemory, Words};
+use std::alloc::Global;
+
+/// The keys that are due, in order of deadline and key.
+pub fn due_keys(alloc: Global, index: &DeadlineIndex, moment: u64) -> Result<Words, NoMemory>
+    ensures { IfOk result (λ keys. keys ≡ due_keys moment index.now) }
+{
+    let mut keys = Words::new(alloc);
+    for deadline in index.due(moment) {
+        keys.push(deadline.key.copy()?)?;
+    }
+    Ok(keys)
+}
+
+/// The keys of the deadlines go.
+fn remove_keys(space: &mut Keyspace, deadlines: &[Deadline])
+    ensures { space.new ≡ remove_each (keys_of deadlines.now) space.old }
+{
+    for deadline in deadlines {
+        space.take(deadline.key.as_slice());
+    }
+}
+
+/// The keys that are due go. It takes no memory.
+pub fn drop_due(space: &mut Keyspace, index: &mut DeadlineIndex, moment: u64)
+    requires { InStep index.old space.old }
+    ensures space { space.new ≡ without_due moment space.old }
+    ensures index { index.new ≡ left moment index.old }
+    ensures step { InStep index.new space.new }
+{
+    remove_keys(space, index.due(moment));
+    index.drop_due(moment);
+}
+
+/// The keys that are due go, and are answered in order of deadline and key. Where memory runs out,
+/// keyspace and index are as before.
+pub fn expire_due(
+    alloc: Global,
+    space: &mut Keyspace,
+    index: &mut DeadlineIndex,
+    moment: u64,
+) -> Result<Words, NoMemory>
+    requires { InStep index.old space.old }
+    ensures keys { IfOk result (λ keys. keys ≡ due_keys moment index.old) }
+    ensures space { OnOk result (space.new ≡ without_due moment space.old) }
+    ensures step { InStep index.new space.new }
+    ensures err_space { OnErr result (space.new ≡ space.old) }
+    ensures err_index { OnErr result (index.new ≡ index.old) }
+{
+    let keys = due_keys(alloc, index, moment)?;
+    drop_due(space, index, moment);
+    Ok(keys)
+}

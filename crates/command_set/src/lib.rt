@@ -1,0 +1,12 @@
+//! Every data command by one call, with the index of deadlines in step.
+#![tactic(auto)]
+
+mod due;
+mod laws;
+mod run;
+mod step;
+mod touched;
+
+pub use due::{drop_due, due_keys, expire_due};
+pub use laws::{law_nothing_is_in_step, law_one_index_is_in_step, law_rows_move_what_they_write};
+pub use run::run_data;
