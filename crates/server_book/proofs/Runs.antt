@@ -189,7 +189,8 @@ module _ (l : Limits) (past : List Entry) (space : Space) (keys : TableState)
         ∙ sym (ap (λ x. x ++ sent_bytes (sent_to n id sent))
         (spelling ∙ ap (λ (x : Mode). spelled x.proto (ran l past id words m).reply) becomes)
         ∙ ap (λ x. spelled p (ran l past id words m).reply ++ sent_bytes (sent_to n id x)) sent_is
-        ∙ ap (λ x. spelled p (ran l past id words m).reply ++ sent_bytes (sent_to x id rest)) number)
+        ∙ ap (λ x. spelled p (ran l past id words m).reply ++ sent_bytes (sent_to x id rest))
+        number)
 
     other_bytes : (i : ℕ) → (id == i) ≡ false
         → run_bytes l past id words m i ≡ sent_bytes (sent_to n i sent)

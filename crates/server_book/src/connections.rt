@@ -148,7 +148,8 @@ impl Connections {
     pub fn advance(&mut self, id: u64, most: usize)
         requires { IsId self.old.items id }
         ensures { let c = connection_at self.old.items id in
-            let items = with_connection self.old.items id (record c { queue = drop most c.queue }) in
+            let left = record c { queue = drop most c.queue } in
+            let items = with_connection self.old.items id left in
             self.new ≡ record self.old { items = items } }
     {
         let connection = &mut self.items[(id - 1) as usize];

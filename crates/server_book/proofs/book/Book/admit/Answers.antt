@@ -31,7 +31,12 @@ invariant_of-self-2 c =
       room = subst (λ (s : ConnectionsState). HasRoom c.push.new.self.room s.items)
           (sym c.in_ok-admit.ensures.ok)
           (room_admit c.push.new.self.room cs
-          (omega (arith, c.in_ok-reserve.ensures.ok, c.push.ensures.room, c.count-2.ensures.count)));
+          (omega (
+            arith,
+            c.in_ok-reserve.ensures.ok,
+            c.push.ensures.room,
+            c.count-2.ensures.count,
+          )));
     }
 
 pub returns-clause-ok : goal.returns-clause-ok

@@ -43,8 +43,9 @@ carry_out-requires-clause-held c =
     let none : i.stores.connections.posts ≡ [] = ap (λ (b : BookState). b.posts) c.self.view_is
     ∙ c.requires.none in
     let told = told_by keys.limit id p.deed keys.rows in
+    let post = message_post n id (length message) in
     let sent : c.set_mode.new.self
-    ≡ record { items = switched cs id message p.mode; posts = message_post n id (length message) ∷ [] } =
+    ≡ record { items = switched cs id message p.mode; posts = post ∷ [] } =
     c.set_mode.ensures
     ∙ ap (λ (s : ConnectionsState). record {
       items = with_connection s.items id (record (connection_at s.items id) { mode = p.mode });
@@ -86,8 +87,9 @@ invariant_of-self-2 c =
     let none : i.stores.connections.posts ≡ [] = ap (λ (b : BookState). b.posts) c.self.view_is
     ∙ c.requires.none in
     let told = told_by keys.limit id p.deed keys.rows in
+    let post = message_post n id (length message) in
     let sent : c.set_mode.new.self
-    ≡ record { items = switched cs id message p.mode; posts = message_post n id (length message) ∷ [] } =
+    ≡ record { items = switched cs id message p.mode; posts = post ∷ [] } =
     c.set_mode.ensures
     ∙ ap (λ (s : ConnectionsState). record {
       items = with_connection s.items id (record (connection_at s.items id) { mode = p.mode });
@@ -151,8 +153,9 @@ invariant_of-self-in-Err c =
     let none : i.stores.connections.posts ≡ [] = ap (λ (b : BookState). b.posts) c.self.view_is
     ∙ c.requires.none in
     let told = told_by keys.limit id p.deed keys.rows in
+    let post = message_post n id (length message) in
     let sent : c.set_mode.new.self
-    ≡ record { items = switched cs id message p.mode; posts = message_post n id (length message) ∷ [] } =
+    ≡ record { items = switched cs id message p.mode; posts = post ∷ [] } =
     c.set_mode.ensures
     ∙ ap (λ (s : ConnectionsState). record {
       items = with_connection s.items id (record (connection_at s.items id) { mode = p.mode });
@@ -202,8 +205,9 @@ returns-clause-ok c =
     let none : i.stores.connections.posts ≡ [] = ap (λ (b : BookState). b.posts) c.self.view_is
     ∙ c.requires.none in
     let told = told_by keys.limit id p.deed keys.rows in
+    let post = message_post n id (length message) in
     let sent : c.set_mode.new.self
-    ≡ record { items = switched cs id message p.mode; posts = message_post n id (length message) ∷ [] } =
+    ≡ record { items = switched cs id message p.mode; posts = post ∷ [] } =
     c.set_mode.ensures
     ∙ ap (λ (s : ConnectionsState). record {
       items = with_connection s.items id (record (connection_at s.items id) { mode = p.mode });

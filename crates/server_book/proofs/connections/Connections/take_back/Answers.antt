@@ -29,7 +29,8 @@ posts-preserved c =
     let last = posted_last items left post
     (subst (ArePosted items) c.in-Some.ensures.items c.posts.invariant.0) in
     let lt : post.id - 1 < length items = omega (arith, last.1.0, last.1.1) in
-    let there = get_or_read items (post.id - 1) at lt c.index_mut-connection.ensures.value fresh in (
+    let read = c.index_mut-connection.ensures.value in
+    let there = get_or_read items (post.id - 1) at lt read fresh in (
       posted_set items (post.id - 1) _ left last.0,
       omega (arith, c.posts.invariant.1, c.in-Some.ensures.capacity),
       ap (before_posts left) (unqueued_is items post at c.keep.new.self c.saturating_sub-left.result
