@@ -1,4 +1,13 @@
+pub mod Tables
+pub mod TableSize
 pub mod Streams
 pub mod Others
 pub mod Turning
 pub mod Posts
+pub mod ModeSteps
+pub mod EntryLaws
+pub mod QueryKeys
+pub mod ReadLaws
+pub mod KeyHolders
+pub mod ToldLaws
+pub mod DueLaws

@@ -1,7 +1,7 @@
 -- The posts of an entry, and the end of a connection, are read off what was sent.
 use Rattle.std.proofs.Common.{◌≡◌, ◌+◌, ◌<◌, ℕ, List, [], ◌∷◌, ◌++◌, Bool, true, false, cond}
 use Rattle.std.proofs.Common.{length, get_or}
-use Rattle.std.proofs.Common.{refl, ap, sym, ◌∙◌, arith}
+use Rattle.std.proofs.Common.{refl, ap, sym, ◌∙◌, arith, append-nil}
 use Rattle.std.specs.Prelude.{◌==◌, ◌||◌, filter}
 use Prim.Native.Nat.{zero, suc}
 use Rattle.std.proofs.lemmas.Bool.{eqb-true}
@@ -13,7 +13,12 @@ use Rattle.serial_model.specs.declared.history.Entry.TheVariants.{Admit, Run, Ta
 use Rattle.serial_model.specs.declared.history.Post.{Post}
 use Rattle.serial_model.specs.History.{Sending, End, sends, sent_to, sent, posts_of, posted}
 use Rattle.serial_model.specs.History.{posted_of}
-use Rattle.serial_model.specs.History.{has_ended, Message, protocol, ran}
+use Rattle.resp_value.specs.declared.value.Proto.TheVariants.{Two, Three}
+use Rattle.serial_model.specs.declared.mode.Mode.{Mode}
+use Rattle.serial_model.specs.History.{has_ended, Message, reply_protocol, ran, reply_of, modes}
+use Rattle.serial_model.specs.History.{expiry_group, own_group, drops, by_proto, route, routed}
+use Rattle.serial_model.specs.Tracking.{Invalidation, drop_group, push_of}
+use Rattle.serial_model.proofs.Tables.{sent_to-append}
 use Rattle.serial_model.specs.Laws.{as_posts, has_end, is_end}
 
 abbrev post_of : ℕ → ℕ → Sending → Post
@@ -86,10 +91,43 @@ or_end true false n = refl
 or_end false true n = refl
 or_end false false n = refl
 
-message_no_end : (b : Bool) (n : ℕ) (p : Proto) (v : Value)
-    → has_end (cond b ((n, Message p v) ∷ []) []) ≡ false
-message_no_end true n p v = refl
-message_no_end false n p v = refl
+no_ends : (xs ys : List (ℕ × Sending)) → has_end xs ≡ false → has_end ys ≡ false
+    → has_end (xs ++ ys) ≡ false
+no_ends xs ys h g =
+    has_end-append xs ys ∙ ap (λ b. b || has_end ys) h ∙ g
+
+message_no_end : (b : Bool) (n : ℕ) (p : Proto) (v : Value) (ss : List (ℕ × Sending))
+    → has_end ss ≡ false → has_end (cond b ((n, Message p v) ∷ ss) ss) ≡ false
+message_no_end true n p v ss h = h
+message_no_end false n p v ss h = h
+
+route_no_end : (n c : ℕ) (p : Proto) (i : Invalidation)
+    → has_end (sent_to n c (by_proto p i)) ≡ false
+route_no_end n c Two i = refl
+route_no_end n c Three i = message_no_end (i.to == c) n Three (push_of i.keys) [] refl
+
+routed_no_end : (n c : ℕ) (modes : ℕ → Mode) (told : List Invalidation)
+    → has_end (sent_to n c (routed modes told)) ≡ false
+routed_no_end n c modes [] = refl
+routed_no_end n c modes (i ∷ told) =
+    ap has_end (sent_to-append n c (route (modes i.to) i) (routed modes told))
+    ∙ no_ends (sent_to n c (route (modes i.to) i)) (sent_to n c (routed modes told))
+    (route_no_end n c (modes i.to).proto i) (routed_no_end n c modes told)
+
+run_no_end : (l : Limits) (n c id : ℕ) (words : List (List ℕ)) (m : ℕ) (past : List Entry)
+    → has_end (sent_to n c (sends l (Run id words m) past)) ≡ false
+run_no_end l n c id words m past =
+    let late = own_group l past id words m ++ drop_group (drops l past id words m) in
+    let after = modes l (Run id words m ∷ past) in
+    ap has_end (sent_to-append n c (routed (modes l past) (expiry_group l past m))
+    (reply_of l past id words m ∷ (routed after late ++ [])))
+    ∙ no_ends (sent_to n c (routed (modes l past) (expiry_group l past m)))
+    (sent_to n c (reply_of l past id words m ∷ (routed after late ++ [])))
+    (routed_no_end n c (modes l past) (expiry_group l past m))
+    (message_no_end (id == c) n (reply_protocol l past id words) (ran l past id words m).reply
+    (sent_to n c (routed after late ++ []))
+    (ap (λ xs. has_end (sent_to n c xs)) (append-nil (routed after late))
+    ∙ routed_no_end n c after late))
 
 no_end : (l : Limits) (c : ℕ) (e : Entry) (past : List Entry)
     → has_ended l c (e ∷ past) ≡ has_ended l c past
@@ -107,7 +145,7 @@ end_is_sent l c [] = refl
 end_is_sent l c (Admit id ∷ past) = no_end l c (Admit id) past refl (end_is_sent l c past) refl
 end_is_sent l c (Run id words m ∷ past) =
     no_end l c (Run id words m) past refl (end_is_sent l c past)
-    (message_no_end (id == c) (length past + 1) (protocol id past) (ran past id words m).reply)
+    (run_no_end l (length past + 1) c id words m past)
 end_is_sent l c (Take id m ∷ past) = no_end l c (Take id m) past refl (end_is_sent l c past) refl
 end_is_sent l c (Close id ∷ past) =
     ap (λ x. cond (id == c) true x) (end_is_sent l c past)

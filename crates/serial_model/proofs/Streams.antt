@@ -13,9 +13,16 @@ use Rattle.std.proofs.lemmas.Bool.Decides.{nat_tests}
 use Rattle.serial_model.specs.declared.history.Limits.{Limits}
 use Rattle.serial_model.specs.declared.history.Entry.{Entry}
 use Rattle.serial_model.specs.declared.history.Entry.TheVariants.{Admit, Run, Take, Close}
-use Rattle.serial_model.specs.History.{admitted, is_admitted, runs_on, has_ended, ran, protocol}
-use Rattle.serial_model.specs.History.{Message, End, sends, sent_to, sent, sent_bytes, spelled}
+use Rattle.track_table.specs.declared.table.Held.{Held}
+use Rattle.serial_model.specs.History.{admitted, is_admitted, runs_on, has_ended, made}
+use Rattle.serial_model.specs.History.{signals, expired, table, table_then, table_grown, drops}
+use Rattle.serial_model.specs.History.{expiry_group, own_group, routed, modes, reply_of}
+use Rattle.serial_model.specs.Tracking.{Invalidation, drop_group, without_keys}
+use Rattle.serial_model.specs.History.{End, sends, sent_to, sent, sent_bytes}
 use Rattle.serial_model.specs.History.{sending_bytes, stream, taken, unsent, runs_of, IsLegal}
+use Rattle.serial_model.proofs.Tables.{AllRows, AllTo, all_rows, all_to, without_keys_all, kept_all}
+use Rattle.serial_model.proofs.Tables.{dropped_all, to_append, group_all, drop_group_all}
+use Rattle.serial_model.proofs.Tables.{remembering_all, freed_all, sent_to-append, routed_none}
 
 both_true : (a b : Bool) → (a && not b) ≡ true → (a ≡ true) × (b ≡ false)
 both_true true true h = absurd (let no : ⊥ = cc in no)
@@ -37,13 +44,133 @@ module _ (l : Limits) where
       → has_ended l id past ≡ false
   not_ended past id h = (both_true (is_admitted past id) (has_ended l id past) h).1
 
+  -- ---- holders are admitted, and have not ended
+
+  unfoldable pub IsLive : List Entry → ℕ → Type 0
+  IsLive past h = (is_admitted past h ≡ true) × (has_ended l h past ≡ false)
+
+  pub live : (past : List Entry) (id : ℕ) → runs_on l past id ≡ true → IsLive past id
+  unfolding IsLive
+  live past id h = both_true (is_admitted past id) (has_ended l id past) h
+
+  grown_live : (past : List Entry) (id : ℕ) (words : List (List ℕ)) (moment : ℕ)
+      → runs_on l past id ≡ true → AllRows (IsLive past) (table l past)
+      → AllRows (IsLive past) (table_grown l past id words moment)
+  grown_live past id words moment on a =
+      remembering_all (IsLive past) (IsLive past) id (made l past id words).memory
+      (without_keys (signals l past id words moment) (table_then l past moment)) (live past id on)
+      (without_keys_all (IsLive past) (signals l past id words moment) (table_then l past moment)
+      (without_keys_all (IsLive past) (expired l past moment) (table l past) a))
+
+  admit_live : (past : List Entry) (id h : ℕ) → IsLive past h → IsLive (Admit id ∷ past) h
+  unfolding IsLive
+  admit_live past id h x = (grind (arith, nat_tests), x.1)
+
+  close_live : (past : List Entry) (id h : ℕ) → IsLive past h × ((h == id) ≡ false)
+      → IsLive (Close id ∷ past) h
+  unfolding IsLive
+  close_live past id h x = (
+    x.0.0,
+    ap (λ b. cond b true (has_ended l h past))
+        (let other : (id == h) ≡ false = grind (arith, nat_tests) in other) ∙ x.0.1,
+  )
+
+  run_live : (past : List Entry) (id : ℕ) (words : List (List ℕ)) (moment : ℕ) (rows : List Held)
+      → AllRows (IsLive past) rows → AllRows (IsLive (Run id words moment ∷ past)) rows
+  unfolding IsLive
+  run_live past id words moment rows a = a
+
+  take_live : (past : List Entry) (id max : ℕ) (rows : List Held)
+      → AllRows (IsLive past) rows → AllRows (IsLive (Take id max ∷ past)) rows
+  unfolding IsLive
+  take_live past id max rows a = a
+
+  pub table_live : (past : List Entry) → IsLegal l past → AllRows (IsLive past) (table l past)
+  unfolding AllRows
+  table_live [] h = tt
+  table_live (Admit id ∷ past) h =
+      all_rows {P = IsLive past} {Q = IsLive (Admit id ∷ past)} (admit_live past id) (table l past)
+      (table_live past h.2)
+  table_live (Run id words moment ∷ past) h =
+      run_live past id words moment (table l (Run id words moment ∷ past))
+      (kept_all (IsLive past) l.table_max (table_grown l past id words moment)
+      (grown_live past id words moment h.0 (table_live past h.3)))
+  table_live (Take id max ∷ past) h = take_live past id max (table l past) (table_live past h.3)
+  table_live (Close id ∷ past) h =
+      all_rows {P = λ k. IsLive past k × ((k == id) ≡ false)} {Q = IsLive (Close id ∷ past)}
+      (close_live past id) (table l (Close id ∷ past))
+      (freed_all (IsLive past) id (table l past) (table_live past h.1))
+
+  -- the groups of a Run behind its reply
+  abbrev pub behind : List Entry → ℕ → List (List ℕ) → ℕ → List Invalidation
+  behind past id words moment =
+      own_group l past id words moment ++ drop_group (drops l past id words moment)
+
+  pub expiry_live : (past : List Entry) (moment : ℕ) → IsLegal l past
+      → AllTo (IsLive past) (expiry_group l past moment)
+  expiry_live past moment h =
+      group_all (IsLive past) (expired l past moment) (table l past) (table_live past h)
+
+  pub behind_live : (past : List Entry) (id : ℕ) (words : List (List ℕ)) (moment : ℕ)
+      → IsLegal l past → runs_on l past id ≡ true
+      → AllTo (IsLive past) (behind past id words moment)
+  behind_live past id words moment h on =
+      let a = table_live past h in
+      to_append (IsLive past) (own_group l past id words moment)
+      (drop_group (drops l past id words moment))
+      (group_all (IsLive past) (signals l past id words moment) (table_then l past moment)
+      (without_keys_all (IsLive past) (expired l past moment) (table l past) a))
+      (drop_group_all (IsLive past) (drops l past id words moment)
+      (dropped_all (IsLive past) l.table_max (table_grown l past id words moment)
+      (grown_live past id words moment on a)))
+
+  -- a Run sends nothing to another that none of its groups is for
+  run_none : (n c : ℕ) (past : List Entry) (id : ℕ) (words : List (List ℕ)) (moment : ℕ)
+      → AllTo (λ h. (h == c) ≡ false) (expiry_group l past moment)
+      → AllTo (λ h. (h == c) ≡ false) (behind past id words moment)
+      → (id == c) ≡ false → sent_to n c (sends l (Run id words moment) past) ≡ []
+  run_none n c past id words moment before after other =
+      sent_to-append n c (routed (modes l past) (expiry_group l past moment))
+      (reply_of l past id words moment
+      ∷ (routed (modes l (Run id words moment ∷ past)) (behind past id words moment) ++ []))
+      ∙ ap (λ xs. xs ++ sent_to n c (reply_of l past id words moment
+      ∷ (routed (modes l (Run id words moment ∷ past)) (behind past id words moment) ++ [])))
+      (routed_none n c (modes l past) (expiry_group l past moment) before)
+      ∙ ap (λ b. cond b ((n, (reply_of l past id words moment).1) ∷ sent_to n c
+      (routed (modes l (Run id words moment ∷ past)) (behind past id words moment) ++ []))
+      (sent_to n c
+      (routed (modes l (Run id words moment ∷ past)) (behind past id words moment) ++ []))) other
+      ∙ ap (sent_to n c)
+      (append-nil (routed (modes l (Run id words moment ∷ past)) (behind past id words moment)))
+      ∙ routed_none n c (modes l (Run id words moment ∷ past)) (behind past id words moment) after
+
+  -- nothing is sent by a Run to one that is not live, but for its own reply
+  pub run_sends_none : (n c : ℕ) (past : List Entry) (id : ℕ) (words : List (List ℕ)) (moment : ℕ)
+      → IsLegal l past → runs_on l past id ≡ true → ((h : ℕ) → IsLive past h → (h == c) ≡ false)
+      → sent_to n c (sends l (Run id words moment) past) ≡ []
+  run_sends_none n c past id words moment h on not_c =
+      run_none n c past id words moment
+      (all_to {P = IsLive past} {Q = λ k. (k == c) ≡ false} not_c (expiry_group l past moment)
+      (expiry_live past moment h))
+      (all_to {P = IsLive past} {Q = λ k. (k == c) ≡ false} not_c (behind past id words moment)
+      (behind_live past id words moment h on))
+      (not_c id (live past id on))
+
   -- ---- a connection that was not admitted
+
+  fresh_other : (past : List Entry) (c h : ℕ) → admitted past < c → IsLive past h → (h == c) ≡ false
+  unfolding IsLive
+  fresh_other past c h lt x =
+      let k = admitted_id past h x.0 in grind (arith, nat_tests)
 
   sent_fresh : (past : List Entry) (c : ℕ) → IsLegal l past → admitted past < c → sent l c past ≡ []
   sent_fresh [] c h lt = refl
   sent_fresh (Admit id ∷ past) c h lt = rw (sent_fresh past c h.2 (omega arith)) refl
   sent_fresh (Run id words moment ∷ past) c h lt =
-      let r = sent_fresh past c h.3 lt in let k = connected past id h.0 in grind (arith, nat_tests)
+      ap (λ xs. xs ++ sent_to (length past + 1) c (sends l (Run id words moment) past))
+      (sent_fresh past c h.3 lt)
+      ∙ run_sends_none (length past + 1) c past id words moment h.3 h.0
+      (λ k. fresh_other past c k lt)
   sent_fresh (Take id max ∷ past) c h lt = rw (sent_fresh past c h.3 lt) refl
   sent_fresh (Close id ∷ past) c h lt =
       let r = sent_fresh past c h.1 lt in let k = connected past id h.0 in grind (arith, nat_tests)
@@ -117,26 +244,10 @@ module _ (l : Limits) where
         | false ↦ refl
       ])
 
-  -- the bytes of the reply that a Run sends
-  abbrev pub reply_bytes : List Entry → ℕ → List (List ℕ) → ℕ → List ℕ
-  reply_bytes past id words moment = spelled (protocol id past) (ran past id words moment).reply
-
-  pub stream_own : (past : List Entry) (c id moment : ℕ) (words : List (List ℕ)) → (id == c) ≡ true
-      → stream l c (Run id words moment ∷ past)
-      ≡ stream l c past ++ reply_bytes past id words moment
-  stream_own past c id moment words h =
-      let m = Message (protocol id past) (ran past id words moment).reply in
-      stream_more past c (Run id words moment)
-      ∙ ap (λ b. stream l c past ++ sent_bytes (cond b ((length past + 1, m) ∷ []) [])) h
-      ∙ ap (λ x. stream l c past ++ x) (append-nil (reply_bytes past id words moment))
-
-  pub stream_other : (past : List Entry) (c id moment : ℕ) (words : List (List ℕ))
-      → (id == c) ≡ false
-      → stream l c (Run id words moment ∷ past) ≡ stream l c past
-  stream_other past c id moment words h =
-      let m = Message (protocol id past) (ran past id words moment).reply in
-      stream_same past c (Run id words moment)
-      (ap (λ b. sent_bytes (cond b ((length past + 1, m) ∷ []) [])) h)
+  -- the bytes that a Run sends to a connection
+  abbrev pub run_bytes : List Entry → ℕ → List (List ℕ) → ℕ → ℕ → List ℕ
+  run_bytes past id words moment c =
+      sent_bytes (sent_to (length past + 1) c (sends l (Run id words moment) past))
 
   -- ---- what was taken
 
@@ -194,19 +305,17 @@ module _ (l : Limits) where
   pub unsent_admit : (past : List Entry) (c id : ℕ) → unsent l c (Admit id ∷ past) ≡ unsent l c past
   unsent_admit past c id = unsent_same past c (Admit id) refl refl (stream_admit past c id)
 
-  pub unsent_run_own : (past : List Entry) (c id moment : ℕ) (words : List (List ℕ))
-      → has_ended l c past ≡ false → (id == c) ≡ true
+  pub unsent_run : (past : List Entry) (c id moment : ℕ) (words : List (List ℕ))
+      → has_ended l c past ≡ false
       → unsent l c (Run id words moment ∷ past)
-      ≡ unsent l c past ++ reply_bytes past id words moment
-  unsent_run_own past c id moment words live h =
-      unsent_more past c (Run id words moment) (reply_bytes past id words moment) live refl refl
-      (stream_own past c id moment words h)
+      ≡ unsent l c past ++ run_bytes past id words moment c
+  unsent_run past c id moment words live =
+      unsent_more past c (Run id words moment) (run_bytes past id words moment c) live refl refl
+      (stream_more past c (Run id words moment))
 
-  pub unsent_run_other : (past : List Entry) (c id moment : ℕ) (words : List (List ℕ))
-      → (id == c) ≡ false
-      → unsent l c (Run id words moment ∷ past) ≡ unsent l c past
-  unsent_run_other past c id moment words h =
-      unsent_same past c (Run id words moment) refl refl (stream_other past c id moment words h)
+  pub unsent_ended : (past : List Entry) (c : ℕ) → has_ended l c past ≡ true → unsent l c past ≡ []
+  unfolding unsent
+  unsent_ended past c h = ap (λ b. cond b [] (drop (taken l c past) (stream l c past))) h
 
   drop_min : (m : ℕ) (q : List ℕ) → drop (min m (length q)) q ≡ drop m q
   drop_min m q = elim (cases_lt (length q) m) [

@@ -3,17 +3,20 @@
 use Rattle.std.specs.Prelude.{◌≡◌, ◌+◌, ◌-◌, ◌≤◌, ◌&&◌, ◌==◌, ℕ, List, [], ◌∷◌, ◌++◌, Bool, true}
 use Rattle.std.specs.Prelude.{false, not, if◌then◌else◌, nat_lt, nat_le, length, min, take}
 use Rattle.std.specs.Prelude.{drop}
-use Rattle.std.specs.Prelude.{Ok, Err, Result}
+use Rattle.std.specs.Prelude.{Ok, Err, Result, codes}
 use Rattle.std.specs.List.{flat_map}
 use Rattle.std.specs.FinMap.{empty}
 use Rattle.resp_value.specs.declared.value.Value.{Value}
-use Rattle.resp_value.specs.declared.value.Value.TheVariants.{Error}
+use Rattle.resp_value.specs.declared.value.Value.TheVariants.{Error, Simple}
 use Rattle.resp_value.specs.declared.value.Proto.{Proto}
-use Rattle.resp_value.specs.declared.value.Proto.TheVariants.{Two}
+use Rattle.resp_value.specs.declared.value.Proto.TheVariants.{Two, Three}
 use Rattle.resp_value.specs.ValueTree.{tree_of}
 use Rattle.resp_value.specs.Spelling.{spelling}
 use Rattle.command_words.specs.declared.command.Command.{Command}
-use Rattle.command_words.specs.declared.command.Command.TheVariants.{Get, Set}
+use Rattle.command_words.specs.declared.command.Command.TheVariants.{Get, Set, Hello}
+use Rattle.command_words.specs.declared.command.Command.TheVariants.{ClientTracking}
+use Rattle.command_words.specs.declared.command.Signalled.{Signalled}
+use Rattle.command_words.specs.declared.command.Signalled.TheVariants as signalled
 use Rattle.command_words.specs.declared.command.SetWhen.{SetWhen}
 use Rattle.command_words.specs.declared.command.SetWhen.TheVariants.{Always}
 use Rattle.command_words.specs.declared.command.SetLife.{SetLife}
@@ -24,6 +27,14 @@ use Rattle.command_words.specs.Words.{reading, fault_text}
 use Rattle.command_words.specs.Space.{Space}
 use Rattle.command_words.specs.Effect.{Effect, replied}
 use Rattle.command_words.specs.Effects.{effect}
+use Rattle.serial_model.specs.declared.mode.Mode.{Mode}
+use Rattle.serial_model.specs.declared.mode.Runner.{Runner}
+use Rattle.track_table.specs.declared.table.Held.{Held}
+use Rattle.track_table.specs.Table.{without_connection}
+use Rattle.serial_model.specs.Modes.{first_mode, hello, hello_reply, is_served_tracking}
+use Rattle.serial_model.specs.Modes.{OwnEffect, own_effect, Memory}
+use Rattle.serial_model.specs.Tracking.{Invalidation, group, drop_group, push_of, without_keys}
+use Rattle.serial_model.specs.Tracking.{remembering, dropped, kept}
 use Rattle.serial_model.specs.declared.history.Limits.{Limits}
 use Rattle.serial_model.specs.declared.history.Entry.{Entry}
 use Rattle.serial_model.specs.declared.history.Entry.TheVariants.{Admit, Run, Take, Close}
@@ -56,9 +67,12 @@ abbrev pub is_plain : SetWhen → SetLife → Bool
 is_plain Always Cleared = true
 is_plain when life = false
 
--- the commands that the server runs are GET, and SET without options: words that read as another
--- are unknown to it
+-- the commands that the server runs: CLIENT TRACKING and SET without options, GET and HELLO; words
+-- that read as another are unknown to it
 abbrev pub served : Result Command WordFault → Result Command WordFault
+served (Ok (Hello word)) = Ok (Hello word)
+served (Ok (ClientTracking options)) =
+    if is_served_tracking options then Ok (ClientTracking options) else Err Syntax
 served (Ok (Get key)) = Ok (Get key)
 served (Ok (Set key value when life)) =
     if is_plain when life then Ok (Set key value Always Cleared) else Err Syntax
@@ -68,44 +82,164 @@ served (Err fault) = Err fault
 abbrev pub served_reading : List (List ℕ) → Result Command WordFault
 served_reading words = served (reading words)
 
-abbrev pub effect_of : List (List ℕ) → Result Command WordFault → Space → ℕ → Effect
-effect_of words (Ok command) space moment = effect command space moment
-effect_of words (Err fault) space moment = replied (Error (fault_text words fault)) space
+abbrev pub effect_of : Runner → List (List ℕ) → Result Command WordFault → Space → ℕ → Effect
+effect_of by words (Ok (Hello word)) space moment =
+    replied (hello_reply by.id (hello word by.mode.proto)) space
+effect_of by words (Ok (ClientTracking options)) space moment = replied (Simple (codes "OK")) space
+effect_of by words (Ok command) space moment = effect command space moment
+effect_of by words (Err fault) space moment = replied (Error (fault_text words fault)) space
 
--- what words do to a keyspace at a moment, a command or not
-unfoldable pub ran_over : Space → List (List ℕ) → ℕ → Effect
-ran_over space words moment = effect_of words (served_reading words) space moment
+-- what a connection's words do to a keyspace at a moment, a command or not
+unfoldable pub ran_over : Space → Runner → List (List ℕ) → ℕ → Effect
+ran_over space by words moment = effect_of by words (served_reading words) space moment
+
+-- what words make of their connection, a command or not
+unfoldable pub made_of : List (List ℕ) → Mode → OwnEffect
+made_of words mode = own_effect (served_reading words) mode
+
+-- the mode of a connection: its own Runs alone change it
+abbrev pub mode : Limits → ℕ → List Entry → Mode
+mode l c [] = first_mode
+mode l c (Admit id ∷ past) = mode l c past
+mode l c (Run id words moment ∷ past) =
+    if id == c then (made_of words (mode l c past)).mode else mode l c past
+mode l c (Take id max ∷ past) = mode l c past
+mode l c (Close id ∷ past) = mode l c past
+
+-- the protocol of a connection
+abbrev pub protocol : Limits → ℕ → List Entry → Proto
+protocol l c past = (mode l c past).proto
+
+-- what its words make of a connection that has this past
+abbrev pub made : Limits → List Entry → ℕ → List (List ℕ) → OwnEffect
+made l past id words = made_of words (mode l id past)
+
+abbrev pub runner : Limits → List Entry → ℕ → Runner
+runner l past id = record { id = id; mode = mode l id past }
 
 -- the keyspace after all entries
-abbrev pub keyspace : List Entry → Space
-keyspace [] = empty
-keyspace (Admit id ∷ past) = keyspace past
-keyspace (Run id words moment ∷ past) = (ran_over (keyspace past) words moment).space
-keyspace (Take id max ∷ past) = keyspace past
-keyspace (Close id ∷ past) = keyspace past
+abbrev pub keyspace : Limits → List Entry → Space
+keyspace l [] = empty
+keyspace l (Admit id ∷ past) = keyspace l past
+keyspace l (Run id words moment ∷ past) =
+    (ran_over (keyspace l past) (runner l past id) words moment).space
+keyspace l (Take id max ∷ past) = keyspace l past
+keyspace l (Close id ∷ past) = keyspace l past
 
 -- what a connection's words do after a past, at a moment
-abbrev pub ran : List Entry → ℕ → List (List ℕ) → ℕ → Effect
-ran past id words moment = ran_over (keyspace past) words moment
+abbrev pub ran : Limits → List Entry → ℕ → List (List ℕ) → ℕ → Effect
+ran l past id words moment = ran_over (keyspace l past) (runner l past id) words moment
+
+-- ---- what is remembered and told, step by step. A Run goes in this order: keys that are past
+-- their deadline leave, its command runs, keys that it signals are told and forgotten, its
+-- connection remembers what it read, keys past the table's limit are dropped, and connections with
+-- too much untaken output end.
+
+-- keys that are past their deadline: no command that is served sets one
+abbrev pub expired : Limits → List Entry → ℕ → List (List ℕ)
+expired l past moment = []
+
+-- the keys that a command signals: none that is served signals all
+abbrev pub signalled_keys : Signalled → List (List ℕ)
+signalled_keys (signalled.Keys keys) = keys
+signalled_keys signalled.All = []
+
+abbrev pub signals : Limits → List Entry → ℕ → List (List ℕ) → ℕ → List (List ℕ)
+signals l past id words moment = signalled_keys (ran l past id words moment).signalled
+
+-- the remembered keys once those that left are forgotten
+abbrev pub after_expiry : List (List ℕ) → List Held → List Held
+after_expiry keys rows = without_keys keys rows
+
+-- the remembered keys once those of a command are forgotten, and it remembers what it read
+abbrev pub after_run : ℕ → Memory → List (List ℕ) → List Held → List Held
+after_run id memory keys rows = remembering id memory (without_keys keys rows)
+
+-- the remembered keys after all entries, in order of age
+abbrev pub table : Limits → List Entry → List Held
+table l [] = []
+table l (Admit id ∷ past) = table l past
+table l (Run id words moment ∷ past) =
+    kept l.table_max
+    (after_run id (made l past id words).memory (signals l past id words moment)
+    (after_expiry (expired l past moment) (table l past)))
+table l (Take id max ∷ past) = table l past
+table l (Close id ∷ past) = without_connection id (table l past)
+
+-- the table of a Run, where its command has run, and where it has remembered
+abbrev pub table_then : Limits → List Entry → ℕ → List Held
+table_then l past moment = after_expiry (expired l past moment) (table l past)
+
+abbrev pub table_grown : Limits → List Entry → ℕ → List (List ℕ) → ℕ → List Held
+table_grown l past id words moment =
+    after_run id (made l past id words).memory (signals l past id words moment)
+    (table_then l past moment)
 
 -- ---- what is sent
-
--- the protocol of a connection: each is on the second
-unfoldable pub protocol : ℕ → List Entry → Proto
-protocol c past = Two
 
 -- what a connection is sent: a message in the protocol that it has at that moment, or its end
 pub data Sending : Type 0 where
   Message : Proto → Value → Sending
   End : Sending
 
+-- the route of an invalidation, by the mode of its receiver: on the second protocol it goes nowhere
+abbrev pub by_proto : Proto → Invalidation → List (ℕ × Sending)
+by_proto Two i = []
+by_proto Three i = (i.to, Message Three (push_of i.keys)) ∷ []
+
+abbrev pub route : Mode → Invalidation → List (ℕ × Sending)
+route mode i = by_proto mode.proto i
+
+abbrev pub routed : (ℕ → Mode) → List Invalidation → List (ℕ × Sending)
+routed modes told = flat_map (λ i. route (modes i.to) i) told
+
+-- the three groups of a Run
+abbrev pub expiry_group : Limits → List Entry → ℕ → List Invalidation
+expiry_group l past moment = group (expired l past moment) (table l past)
+
+abbrev pub own_group : Limits → List Entry → ℕ → List (List ℕ) → ℕ → List Invalidation
+own_group l past id words moment =
+    group (signals l past id words moment) (table_then l past moment)
+
+abbrev pub drops : Limits → List Entry → ℕ → List (List ℕ) → ℕ → List Held
+drops l past id words moment = dropped l.table_max (table_grown l past id words moment)
+
+-- connections with more untaken output than the limit end: not yet
+abbrev pub overgrown : Limits → List Entry → ℕ → List (List ℕ) → ℕ → List (ℕ × Sending)
+overgrown l past id words moment = []
+
+-- the reply, spelled in the protocol that is in force after its command
+abbrev pub reply_protocol : Limits → List Entry → ℕ → List (List ℕ) → Proto
+reply_protocol l past id words = (made l past id words).mode.proto
+
+abbrev pub reply_of : Limits → List Entry → ℕ → List (List ℕ) → ℕ → ℕ × Sending
+reply_of l past id words moment =
+    (id, Message (reply_protocol l past id words) (ran l past id words moment).reply)
+
+-- the modes before a Run, and those once its command has run
+abbrev pub modes : Limits → List Entry → ℕ → Mode
+modes l past c = mode l c past
+
 -- what one entry on a past sends, and to whom, in order: the only place that says so
 abbrev pub sends : Limits → Entry → List Entry → List (ℕ × Sending)
 sends l (Admit id) past = []
 sends l (Run id words moment) past =
-    (id, Message (protocol id past) (ran past id words moment).reply) ∷ []
+    routed (modes l past) (expiry_group l past moment)
+    ++ reply_of l past id words moment
+    ∷ (routed (modes l (Run id words moment ∷ past))
+    (own_group l past id words moment ++ drop_group (drops l past id words moment))
+    ++ overgrown l past id words moment)
 sends l (Take id max) past = []
 sends l (Close id) past = (id, End) ∷ []
+
+-- whom an entry tells of which keys, in order, whatever the route
+abbrev pub invalidations : Limits → Entry → List Entry → List Invalidation
+invalidations l (Admit id) past = []
+invalidations l (Run id words moment) past =
+    expiry_group l past moment
+    ++ own_group l past id words moment ++ drop_group (drops l past id words moment)
+invalidations l (Take id max) past = []
+invalidations l (Close id) past = []
 
 -- those of an entry's sendings that are for one connection, with the number of the entry
 abbrev pub sent_to : ℕ → ℕ → List (ℕ × Sending) → List (ℕ × Sending)

@@ -1,6 +1,12 @@
 //! What follows for any list of turns. Each function's contract is the law; none has work to do.
+ghost use Rattle.serial_model.specs.Laws.{ChangeIsSignalled, DueIsSent, EndIsLast};
+ghost use Rattle.serial_model.specs.Laws.{ReplyBehindExpiry, RunsLive, SentGrows};
 ghost use Rattle.serial_model.specs.Laws.{EachRunOnce, EndIsSent, GivenIsStream, LegalIsAdded};
-ghost use Rattle.serial_model.specs.Laws.{OthersExtend, PostedIsSent, PostsAreNumbered};
+ghost use Rattle.serial_model.specs.Laws.{ModeByOwnRuns, OthersExtend, PostedIsSent};
+ghost use Rattle.serial_model.specs.Laws.{PostsAreNumbered, ReadIsOwedOrTold, ReadReplies};
+ghost use Rattle.serial_model.specs.Laws.{ToldEndsForCause, ToldIsDue};
+
+use command_words::law_replies_are_of_keys_read;
 
 /// After any list of turns on an empty history, the bytes that each connection was given are the
 /// first bytes of what was sent to it.
@@ -37,4 +43,63 @@ pub fn law_posts_are_numbered()
 /// A connection has ended exactly where its end was sent.
 pub fn law_end_is_sent()
     ensures { EndIsSent }
+{}
+
+/// A connection's own runs alone change its mode.
+pub fn law_mode_by_own_runs()
+    ensures { ModeByOwnRuns }
+{}
+
+/// What was sent only grows, and what an entry adds has the number of that entry.
+pub fn law_sent_grows()
+    ensures { SentGrows }
+{}
+
+/// Nothing is sent to a connection after its end.
+pub fn law_end_is_last()
+    ensures { EndIsLast }
+{}
+
+/// The reply to a Run stands behind what tells of keys that left before it, and before the rest.
+pub fn law_reply_behind_expiry()
+    ensures { ReplyBehindExpiry }
+{}
+
+/// A Run in a legal history is of a connection that has not ended.
+pub fn law_runs_live()
+    ensures { RunsLive }
+{}
+
+/// A changed answer is signalled.
+pub fn law_change_is_signalled()
+    ensures { ChangeIsSignalled }
+{
+    law_replies_are_of_keys_read();
+}
+
+/// A cacheable read replies what its query answers at its entry.
+pub fn law_read_replies()
+    ensures { ReadReplies }
+{}
+
+/// A connection that is told of a key gets its message where the key is signalled or dropped.
+pub fn law_told_is_due()
+    ensures { ToldIsDue }
+{}
+
+/// On the third protocol a connection is sent a push of each key that an entry tells it of.
+pub fn law_due_is_sent()
+    ensures { DueIsSent }
+{}
+
+/// A remembered read is owed or told: its connection is told of the key from then on, or it has
+/// been told already, or it has ended.
+pub fn law_read_is_owed_or_told()
+    ensures { ReadIsOwedOrTold }
+{}
+
+/// Being told of a key ends only where the key is signalled or dropped, or the connection stops
+/// tracking or ends.
+pub fn law_told_ends_for_cause()
+    ensures { ToldEndsForCause }
 {}

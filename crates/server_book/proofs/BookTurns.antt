@@ -1,16 +1,15 @@
 -- How each turn keeps what a book knows of its history.
 use Rattle.std.proofs.Common.{◌≡◌, ◌+◌, ◌-◌, ◌<◌, ◌≤◌, ℕ, List, [], ◌∷◌, ◌++◌, length, take, drop}
-use Rattle.std.proofs.Common.{max, sym, ap, subst, ◌∙◌, refl, arith, true, false, cond}
-use Rattle.std.proofs.Common.{length-append, inl, inr, slice_index_or, slice_set, eq-eqb, ne_eqb}
+use Rattle.std.proofs.Common.{max, sym, ap, subst, ◌∙◌, refl, arith, Bool, true, false, cond}
+use Rattle.std.proofs.Common.{length-append, inl, inr, slice_index_or, eq-eqb, ne_eqb}
 use Rattle.std.proofs.Common.{length-set}
 use Rattle.std.specs.Prelude.{◌==◌, not}
 use Rattle.std.specs.List.{count_by}
 use Rattle.std.proofs.lemmas.List.Sums.{sum_by-set, sum_by_push, get_or-le-sum_by}
 use Rattle.std.proofs.lemmas.List.Sums.{count_by-le-length}
-use Rattle.std.proofs.lemmas.List.{get_or_push, get_or_append_left, get_or-set_same}
-use Rattle.std.proofs.lemmas.List.{get_or-set_other, set-get_or}
+use Rattle.std.proofs.lemmas.List.{get_or_push, get_or_append_left}
+use Rattle.std.proofs.lemmas.List.{set-get_or}
 use Rattle.std.proofs.Math.Seq.{take-append_seam}
-use Prim.Native.Nat.{zero, suc}
 use Rattle.std.proofs.lemmas.Bool.{cases_eq}
 use Rattle.command_words.specs.Space.{Space}
 use Rattle.serial_model.specs.declared.history.Limits.{Limits}
@@ -22,57 +21,93 @@ use Rattle.serial_model.specs.declared.history.BookReply.{BookReply}
 use Rattle.serial_model.specs.declared.history.BookReply.TheVariants.{Admitted, Ran, Quiet, Bytes}
 use Rattle.serial_model.specs.declared.history.BookReply.TheVariants.{Closed, Refused}
 use Rattle.serial_model.specs.declared.history.Post.{Post}
-use Rattle.serial_model.specs.declared.history.Posted.TheVariants.{Message, End}
+use Rattle.serial_model.specs.declared.history.Posted.TheVariants.{End}
 use Rattle.serial_model.specs.History.{admitted, runs_on, gives_on, reads_on, has_ended, latest}
-use Rattle.serial_model.specs.History.{ran, unsent, posted, is_full}
+use Rattle.serial_model.specs.History.{unsent, posted, is_full}
 use Rattle.serial_model.specs.Steps.{book_step, AddsEntry}
+use Rattle.serial_model.proofs.ModeSteps.{mode_fresh}
+use Rattle.serial_model.specs.declared.mode.Mode.{Mode}
+use Rattle.serial_model.specs.History.{table}
 use Rattle.serial_model.proofs.Turning.{admit_step, run_step, take_step, close_step}
-use Rattle.serial_model.proofs.Streams.{connected, not_ended, ended_fresh, ended_other, reply_bytes}
+use Rattle.serial_model.proofs.Streams.{connected, not_ended, ended_fresh, ended_other}
 use Rattle.serial_model.proofs.Streams.{unsent_close_own, unsent_close_other, unsent_fresh}
-use Rattle.serial_model.proofs.Streams.{unsent_admit, unsent_run_own, unsent_run_other}
+use Rattle.serial_model.proofs.Streams.{unsent_admit}
 use Rattle.serial_model.proofs.Streams.{unsent_take_own, unsent_take_other}
 use Rattle.server_book.specs.declared.connections.Connection.{Connection}
 use Rattle.server_book.specs.Connections.{IsId, connection_at, with_connection, fresh, is_open}
+use Rattle.server_book.specs.Sendings.{queued, unqueued, message_post, end_post}
+use Rattle.server_book.specs.Stores.{IsHeld}
+use Rattle.server_book.proofs.Sendings.{at_same, at_other, put_twice}
+use Rattle.server_book.proofs.Remembered.{table_of_past, rows_all}
+use Rattle.track_table.specs.Table.{TableState}
+use Rattle.serial_model.proofs.TableSize.{table_within}
+use Rattle.serial_model.proofs.Streams.{IsLive, table_live}
+use Rattle.std.proofs.lemmas.Bool.Decides.{nat_tests}
 use Rattle.server_book.specs.BookState.{BookState, IsTurn, Agrees, HasRoom}
 use Rattle.server_book.specs.BookState.{connection_of}
 
 -- ---- a connection by its id
 
--- the connection that was put at an id, and the others
-pub at_same : (cs : List Connection) (id : ℕ) (c : Connection) → IsId cs id
-    → connection_at (with_connection cs id c) id ≡ c
-at_same cs id c h = get_or-set_same cs (id - 1) c fresh (omega arith)
+-- connections of equal parts
+pub same_parts : {q r : List ℕ} {a b : Bool} {m n : Mode} → q ≡ r → a ≡ b → m ≡ n
+    → (let x : Connection = record { queue = q; ended = a; mode = m } in
+    let y : Connection = record { queue = r; ended = b; mode = n } in x ≡ y)
+same_parts {q} {r} {a} {b} {m} {n} e f g =
+    ap (λ z. record { queue = z; ended = a; mode = m }) e
+    ∙ ap (λ z. record { queue = r; ended = z; mode = m }) f
+    ∙ ap (λ z. record { queue = r; ended = b; mode = z }) g
 
-pub at_other : (cs : List Connection) (id other : ℕ) (c : Connection) → 0 < id → 0 < other
-    → (id ≡ other → ⊥)
-    → connection_at (with_connection cs id c) other ≡ connection_at cs other
-at_other cs id other c p q ne =
-    get_or-set_other cs (id - 1) (other - 1) c fresh (λ e. ne (omega arith))
+-- what is put at an id over what was put there
+put_over : (cs : List Connection) (id : ℕ) (x : Connection) (f : Connection → Connection)
+    → IsId cs id
+    → (let one = with_connection cs id x in with_connection one id (f (connection_at one id)))
+    ≡ with_connection cs id (f x)
+put_over cs id x f on =
+    ap (λ y. with_connection (with_connection cs id x) id (f y)) (at_same cs id x on)
+    ∙ put_twice cs (id - 1) x (f x)
 
-put_twice : (cs : List Connection) (at : ℕ) (a b : Connection)
-    → slice_set (slice_set cs at a) at b ≡ slice_set cs at b
-put_twice [] at a b = refl
-put_twice (c ∷ cs) zero a b = refl
-put_twice (c ∷ cs) (suc at) a b = ap (λ l. c ∷ l) (put_twice cs at a b)
+-- a connection that was sent a message and then switched
+abbrev pub switched : List Connection → ℕ → List ℕ → Mode → List Connection
+switched cs id message left =
+    let one = queued cs id message in
+    with_connection one id (record (connection_at one id) { mode = left })
 
--- a queue to which bytes were added, and that keeps the bytes before
-pub taken_back : (cs one two : List Connection) (id n : ℕ) (bytes : List ℕ) → IsId cs id
-    → n ≡ length (connection_at cs id).queue
-    → one ≡ with_connection cs id
-    (record (connection_at cs id) { queue = (connection_at cs id).queue ++ bytes })
-    → two ≡ with_connection one id
-    (record (connection_at one id) { queue = take n (connection_at one id).queue }) → two ≡ cs
-taken_back cs one two id n bytes on size added kept =
+pub switched_is : (cs : List Connection) (id : ℕ) (message : List ℕ) (left : Mode) → IsId cs id
+    → (let c = connection_at cs id in
+    switched cs id message left
+    ≡ with_connection cs id (record c { queue = c.queue ++ message; mode = left }))
+switched_is cs id message left on =
     let c = connection_at cs id in
-    let grown : Connection = record c { queue = c.queue ++ bytes } in
-    let is : connection_at one id ≡ grown = ap (λ x. connection_at x id) added
-    ∙ at_same cs id grown on in
-    kept
-    ∙ ap (λ x. with_connection one id (record x { queue = take n x.queue })) is
-    ∙ ap (λ x. with_connection x id (record c { queue = take n (c.queue ++ bytes) })) added
-    ∙ put_twice cs (id - 1) grown (record c { queue = take n (c.queue ++ bytes) })
-    ∙ ap (λ m. with_connection cs id (record c { queue = take m (c.queue ++ bytes) })) size
-    ∙ ap (λ q. with_connection cs id (record c { queue = q })) (take-append_seam c.queue bytes)
+    put_over cs id (record c { queue = c.queue ++ message })
+    (λ x. record x { mode = left }) on
+
+-- the message is taken back, and the mode put back
+pub undone : (cs : List Connection) (id n : ℕ) (message : List ℕ) (left before : Mode)
+    → IsId cs id → before ≡ (connection_at cs id).mode
+    → (let three = unqueued (message_post n id (length message)) (switched cs id message left) in
+    with_connection three id (record (connection_at three id) { mode = before })) ≡ cs
+undone cs id n message left before on was =
+    let c = connection_at cs id in
+    let sent : Connection = record c { queue = c.queue ++ message; mode = left } in
+    let p = message_post n id (length message) in
+    let unsent : Connection = record sent {
+      queue = take (length sent.queue - length message) sent.queue;
+    } in
+    let back : unqueued p (switched cs id message left) ≡ with_connection cs id unsent =
+    ap (unqueued p) (switched_is cs id message left on)
+    ∙ put_over cs id sent
+    (λ x. record x { queue = take (length x.queue - length message) x.queue }) on in
+    let size : length (c.queue ++ message) - length message ≡ length c.queue =
+    omega (arith, length-append c.queue message) in
+    ap (λ x. with_connection x id (record (connection_at x id) { mode = before })) back
+    ∙ put_over cs id unsent (λ x. record x { mode = before }) on
+    ∙ ap (λ k. with_connection cs id (record c {
+      queue = take k (c.queue ++ message);
+      mode = before;
+    })) size
+    ∙ ap (λ q. with_connection cs id (record c { queue = q; mode = before }))
+    (take-append_seam c.queue message)
+    ∙ ap (λ m. with_connection cs id (record c { mode = m })) was
     ∙ set-get_or cs (id - 1) fresh
 
 -- ---- room for closes
@@ -83,41 +118,31 @@ one_open c = cond (is_open c) 1 0
 open_le : (cs : List Connection) → count_by is_open cs ≤ length cs
 open_le cs = count_by-le-length is_open cs
 
-pub room_more : (left posts id : ℕ) (old cs : List Connection) (c : Connection)
-    → cs ≡ with_connection old id c → length old ≤ left → 1 ≤ posts
-    → HasRoom left posts cs
-room_more left posts id old cs c e h p =
-    let same : length cs ≡ length old = ap length e ∙ length-set old (id - 1) c in
-    record { for_closes = omega (arith, open_le cs); for_posts = p }
+pub room_more : (left : ℕ) (old cs : List Connection) → length cs ≡ length old
+    → length old ≤ left → HasRoom left cs
+room_more left old cs same h = omega (arith, open_le cs)
 
-pub room_admit : (left posts : ℕ) (cs : List Connection) → length cs + 1 ≤ left → 1 ≤ posts
-    → HasRoom left posts (cs ++ fresh ∷ [])
-room_admit left posts cs h p =
-    record { for_closes = omega (arith, open_le cs, sum_by_push one_open cs fresh); for_posts = p }
+pub room_admit : (left : ℕ) (cs : List Connection) → length cs + 1 ≤ left
+    → HasRoom left (cs ++ fresh ∷ [])
+room_admit left cs h = omega (arith, open_le cs, sum_by_push one_open cs fresh)
 
-pub room_close : (room left posts id : ℕ) (cs : List Connection) → HasRoom room posts cs
-    → IsId cs id → (connection_at cs id).ended ≡ false
-    → left + 1 ≡ room
-    → HasRoom left posts (with_connection cs id (record { queue = []; ended = true }))
-room_close room left posts id cs h on live e =
+pub room_close : (room left id : ℕ) (cs : List Connection) → HasRoom room cs → IsId cs id
+    → (connection_at cs id).ended ≡ false → left + 1 ≡ room
+    → (let c = connection_at cs id in
+    HasRoom left (with_connection cs id (record c { queue = []; ended = true })))
+room_close room left id cs h on live e =
     let was : one_open (connection_at cs id) ≡ 1 = ap (λ b. cond (not b) 1 0) live in
-    record {
-      for_closes = omega (
-        arith,
-        h.for_closes,
-        sum_by-set one_open cs (id - 1) (record { queue = []; ended = true }) fresh (omega arith),
-      );
-      for_posts = h.for_posts;
-    }
+    let c : Connection = record (connection_at cs id) { queue = []; ended = true } in
+    omega (arith, h, sum_by-set one_open cs (id - 1) c fresh (omega arith))
 
-pub room_there : (room posts id : ℕ) (cs : List Connection) → HasRoom room posts cs → IsId cs id
+pub room_there : (room id : ℕ) (cs : List Connection) → HasRoom room cs → IsId cs id
     → (connection_at cs id).ended ≡ false → 0 < room
-room_there room posts id cs h on live =
+room_there room id cs h on live =
     let was : one_open (connection_at cs id) ≡ 1 = ap (λ b. cond (not b) 1 0) live in
-    omega (arith, h.for_closes, get_or-le-sum_by one_open cs (id - 1) fresh (omega arith))
+    omega (arith, h, get_or-le-sum_by one_open cs (id - 1) fresh (omega arith))
 
-module _ (l : Limits) (past : List Entry) (space : Space) (cs : List Connection)
-    (k : Agrees l past space cs) where
+module _ (l : Limits) (past : List Entry) (space : Space) (keys : TableState)
+    (cs : List Connection) (k : Agrees l past space keys cs) where
   -- a connection that may do something is there
   pub is_id : (id : ℕ) → runs_on l past id ≡ true → IsId cs id
   is_id id on = let both = connected l past id on in (both.0, omega (arith, both.1, k.count))
@@ -128,25 +153,24 @@ module _ (l : Limits) (past : List Entry) (space : Space) (cs : List Connection)
 
   -- the new connection has nothing
   pub agrees_admit : (id : ℕ) → id ≡ length cs + 1 → is_full l past ≡ false
-      → Agrees l (entry.Admit id ∷ past) space (cs ++ fresh ∷ [])
+      → Agrees l (entry.Admit id ∷ past) space keys (cs ++ fresh ∷ [])
   agrees_admit id e room = record {
     legal = (omega (arith, k.count), room, k.legal);
     space_is = k.space_is;
+    table_is = k.table_is;
     count = omega (arith, k.count, length-append cs (fresh ∷ []));
     each = λ i on. elim (cases_eq i id) [
-      | inl same ↦ ap (λ j. slice_index_or (cs ++ fresh ∷ []) j fresh) (let j : i - 1
+      | inl same ↦
+          let new : admitted past < i = omega (arith, k.count) in
+          ap (λ j. slice_index_or (cs ++ fresh ∷ []) j fresh) (let j : i - 1
           ≡ length cs = omega arith in j)
           ∙ get_or_push cs fresh fresh (length cs) refl
-          ∙ ap (λ q. record { queue = q; ended = false })
-          (sym (unsent_admit l past i id
-          ∙ unsent_fresh l past i k.legal (omega (arith, k.count))))
-          ∙ ap (λ b. record { queue = unsent l i (entry.Admit id ∷ past); ended = b })
-          (sym (ended_fresh l past i k.legal (omega (arith, k.count))))
+          ∙ sym (same_parts (unsent_admit l past i id ∙ unsent_fresh l past i k.legal new)
+          (ended_fresh l past i k.legal new) (mode_fresh l past i k.legal new))
       | inr ne ↦ get_or_append_left cs (fresh ∷ []) fresh (i - 1)
           (omega (arith, length-append cs (fresh ∷ [])))
           ∙ k.each i (on.0, omega (arith, length-append cs (fresh ∷ [])))
-          ∙ ap (λ q. record { queue = q; ended = has_ended l i past })
-          (sym (unsent_admit l past i id))
+          ∙ same_parts (sym (unsent_admit l past i id)) refl refl
     ];
   }
 
@@ -159,82 +183,72 @@ module _ (l : Limits) (past : List Entry) (space : Space) (cs : List Connection)
   each_with new id c on own others i h = elim (cases_eq id i) [
     | inl e ↦ ap (connection_at (with_connection cs id c)) (sym e) ∙ at_same cs id c on ∙ own
         ∙ ap (connection_of l new) e
-    | inr ne ↦ at_other cs id i c on.0 h.0 ne ∙ k.each i (
-      h.0,
-      omega (arith, length-set cs (id - 1) c),
-    ) ∙ sym (others i (ne_eqb id i ne))
+    | inr ne ↦
+        let there : i ≤ length cs = omega (arith, length-set cs (id - 1) c) in
+        at_other cs id i c on.0 h.0 ne ∙ k.each i (h.0, there) ∙ sym (others i (ne_eqb id i ne))
   ]
 
-  pub agrees_run : (id m : ℕ) (words : List (List ℕ)) (message : List ℕ) (after : Space)
-      → runs_on l past id ≡ true → is_full l past ≡ false → latest past ≤ m
-      → after ≡ (ran past id words m).space → message ≡ reply_bytes l past id words m
-      → Agrees l (entry.Run id words m ∷ past) after
-      (with_connection cs id (record (connection_at cs id) {
-        queue = (connection_at cs id).queue
-            ++ message;
-      }))
-  agrees_run id m words message after on room later s e =
-      let new = entry.Run id words m ∷ past in
-      let c : Connection = record (connection_at cs id) {
-        queue = (connection_at cs id).queue
-            ++ message;
-      } in
-      record {
-        legal = (on, room, later, k.legal);
-        space_is = s;
-        count = length-set cs (id - 1) c ∙ k.count;
-        each = each_with new id c (is_id id on)
-            (ap (λ (x : Connection). record x { queue = x.queue ++ message }) (kept_of id on)
-            ∙ ap (λ b. record { queue = unsent l id past ++ b; ended = has_ended l id past }) e
-            ∙ ap (λ q. record { queue = q; ended = has_ended l id past })
-            (sym (unsent_run_own l past id id m words (not_ended l past id on)
-            (eq-eqb id id refl))))
-            (λ i n. ap (λ q. record { queue = q; ended = has_ended l i past })
-            (unsent_run_other l past i id m words n));
-      }
+  -- one that is admitted and has not ended is there
+  pub there_live : (h : ℕ) → IsLive l past h → IsId cs h
+  unfolding IsLive
+  there_live h live =
+      let some : 0 < h = grind (arith, nat_tests) in
+      let below : h ≤ admitted past = grind (arith, nat_tests) in
+      (some, omega (arith, below, k.count))
+
+  pub is_held : IsHeld keys.limit keys.rows cs
+  is_held = subst (λ (t : TableState). IsHeld t.limit t.rows cs) (sym k.table_is) (record {
+    table = table_of_past l past;
+    short = table_within l past;
+    there = rows_all {P = IsLive l past} cs there_live (table l past) (table_live l past k.legal);
+  })
+
+  abbrev pub took : ℕ → ℕ → Connection
+  took id m = let c = connection_at cs id in record c { queue = drop m c.queue }
 
   pub agrees_take : (id m : ℕ) → gives_on l past id ≡ true → is_full l past ≡ false
       → (take m (unsent l id past) ≡ [] → ⊥)
-      → Agrees l (entry.Take id m ∷ past) space
-      (with_connection cs id
-      (record (connection_at cs id) { queue = drop m (connection_at cs id).queue }))
+      → Agrees l (entry.Take id m ∷ past) space keys (with_connection cs id (took id m))
   agrees_take id m on room some =
-      let new = entry.Take id m ∷ past in
-      let c : Connection =
-      record (connection_at cs id) { queue = drop m (connection_at cs id).queue } in
+      let c = took id m in
+      let own = eq-eqb id id refl in
+      let kept = kept_of id on in
       record {
         legal = (on, room, some, k.legal);
         space_is = k.space_is;
+        table_is = k.table_is;
         count = length-set cs (id - 1) c ∙ k.count;
-        each = each_with new id c (is_id id on)
-            (ap (λ (x : Connection). record x { queue = drop m x.queue }) (kept_of id on)
-            ∙ ap (λ q. record { queue = q; ended = has_ended l id past })
-            (sym (unsent_take_own l past id id m (not_ended l past id on) (eq-eqb id id refl))))
-            (λ i n. ap (λ q. record { queue = q; ended = has_ended l i past })
-            (unsent_take_other l past i id m n));
+        each = each_with (entry.Take id m ∷ past) id c (is_id id on)
+            (same_parts
+            (ap (λ x. drop m x.queue) kept
+            ∙ sym (unsent_take_own l past id id m (not_ended l past id on) own))
+            (ap (λ x. x.ended) kept) (ap (λ x. x.mode) kept))
+            (λ i n. same_parts (unsent_take_other l past i id m n) refl refl);
       }
 
   pub live_at : (id : ℕ) → reads_on l past id ≡ true → (connection_at cs id).ended ≡ false
   live_at id on = ap (λ x. x.ended) (kept_of id on) ∙ not_ended l past id on
 
+  abbrev pub closed : ℕ → Connection
+  closed id = let c = connection_at cs id in record c { queue = []; ended = true }
+
   pub agrees_close : (id : ℕ) → reads_on l past id ≡ true
-      → Agrees l (entry.Close id ∷ past) space
-      (with_connection cs id (record { queue = []; ended = true }))
+      → (let rows = table l (entry.Close id ∷ past) in
+      Agrees l (entry.Close id ∷ past) space (record { limit = l.table_max; rows = rows })
+      (with_connection cs id (closed id)))
   agrees_close id on =
-      let new = entry.Close id ∷ past in
-      let c : Connection = record { queue = []; ended = true } in
+      let c = closed id in
+      let own = eq-eqb id id refl in
       record {
         legal = (on, k.legal);
         space_is = k.space_is;
+        table_is = refl;
         count = length-set cs (id - 1) c ∙ k.count;
-        each = each_with new id c (is_id id on)
-            (ap (λ b. record { queue = []; ended = cond b true (has_ended l id past) })
-            (sym (eq-eqb id id refl))
-            ∙ ap (λ q. record { queue = q; ended = has_ended l id new })
-            (sym (unsent_close_own l past id id (eq-eqb id id refl))))
-            (λ i n. ap (λ q. record { queue = q; ended = has_ended l i new })
-            (unsent_close_other l past i id n)
-            ∙ ap (λ b. record { queue = unsent l i past; ended = b }) (ended_other l past i id n));
+        each = each_with (entry.Close id ∷ past) id c (is_id id on)
+            (same_parts (sym (unsent_close_own l past id id own))
+            (ap (λ b. cond b true (has_ended l id past)) (sym own))
+            (ap (λ x. x.mode) (kept_of id on)))
+            (λ i n. same_parts (unsent_close_other l past i id n) (ended_other l past i id n) refl);
       }
 
 -- ---- turns as they are played
@@ -314,23 +328,8 @@ close_turned l past id n on h =
     ∙ ap (λ x. record { reply = Closed (x + 1); past = entry.Close id ∷ past }) (sym h)
 
 -- what each entry sends
-abbrev pub message_post : ℕ → ℕ → ℕ → Post
-message_post n id size = record { entry = n + 1; id = id; what = Message size }
-
-pub posted_run : (l : Limits) (past : List Entry) (id m n size : ℕ) (words : List (List ℕ))
-    → n ≡ length past
-    → size ≡ length (reply_bytes l past id words m)
-    → [] ++ message_post n id size ∷ [] ≡ posted l (entry.Run id words m ∷ past)
-unfolding posted
-posted_run l past id m n size words h k =
-    ap (λ x. record { entry = x + 1; id = id; what = Message size } ∷ []) h
-    ∙ ap (λ x. record { entry = length past + 1; id = id; what = Message x } ∷ []) k
-
-abbrev pub end_post : ℕ → ℕ → Post
-end_post n id = record { entry = n + 1; id = id; what = End }
-
 pub posted_close : (l : Limits) (past : List Entry) (id n : ℕ) → n ≡ length past
-    → [] ++ end_post n id ∷ [] ≡ posted l (entry.Close id ∷ past)
+    → end_post (n + 1) id ∷ [] ≡ posted l (entry.Close id ∷ past)
 unfolding posted
 posted_close l past id n h = ap (λ x. record { entry = x + 1; id = id; what = End } ∷ []) h
 

@@ -1,4 +1,6 @@
-pub mod Keyed
 pub mod Refusals
+pub mod Sendings
+pub mod Remembered
 pub mod BookTurns
+pub mod Runs
 pub mod Plans

@@ -12,7 +12,10 @@ use Rattle.serial_model.specs.declared.history.BookReply.TheVariants.{Admitted, 
 use Rattle.serial_model.specs.declared.history.BookReply.TheVariants.{Closed, Refused}
 use Rattle.serial_model.specs.History.{admitted, has_ended, keyspace, unsent, posted, IsLegal}
 use Rattle.serial_model.specs.History.{runs_on}
-use Rattle.serial_model.specs.History.{gives_on, reads_on, is_full}
+use Rattle.serial_model.specs.History.{gives_on, reads_on, is_full, mode}
+use Rattle.serial_model.specs.History.{table as table_of}
+use Rattle.track_table.specs.Table.{TableState}
+use Rattle.server_book.specs.declared.stores.Stores.{Stores}
 use Rattle.serial_model.specs.Steps.{BookStep, full}
 use Rattle.server_book.specs.declared.connections.Connection.{Connection}
 use Rattle.server_book.specs.Connections.{IsId, connection_at, is_open}
@@ -35,25 +38,25 @@ posts_after l (Refused r) past = []
 
 -- what is kept of a connection
 abbrev pub connection_of : Limits → List Entry → ℕ → Connection
-connection_of l past id = record { queue = unsent l id past; ended = has_ended l id past }
+connection_of l past id =
+    record { queue = unsent l id past; ended = has_ended l id past; mode = mode l id past }
 
--- the history is legal, and the keyspace and the connections are those of it
-pub record Agrees (l : Limits) (past : List Entry) (space : Space)
+-- the history is legal, and the keyspace, the remembered keys and the connections are those of it
+pub record Agrees (l : Limits) (past : List Entry) (space : Space) (table : TableState)
     (connections : List Connection) : Type 0 where
   pub legal : IsLegal l past
-  pub space_is : space ≡ keyspace past
+  pub space_is : space ≡ keyspace l past
+  pub table_is : table ≡ record { limit = l.table_max; rows = table_of l past }
   pub count : length connections ≡ admitted past
   pub each : (id : ℕ) → IsId connections id → connection_at connections id ≡ connection_of l past id
 
--- there is room for the Close of each connection that has not ended, and for the post of one
-pub record HasRoom (room posts : ℕ) (connections : List Connection) : Type 0 where
-  pub for_closes : count_by is_open connections ≤ room
-  pub for_posts : 1 ≤ posts
+-- there is room for the Close of each connection that has not ended
+abbrev pub HasRoom : ℕ → List Connection → Type 0
+HasRoom room connections = count_by is_open connections ≤ room
 
-pub record IsBook (l : Limits) (log : LogState) (space : Space)
-    (connections : List Connection) (posts : ℕ) : Type 0 where
-  pub agrees : Agrees l log.past space connections
-  pub room : HasRoom log.room posts connections
+pub record IsBook (l : Limits) (log : LogState) (stores : Stores) : Type 0 where
+  pub agrees : Agrees l log.past stores.space stores.table stores.connections.items
+  pub room : HasRoom log.room stores.connections.items
 
 -- the call is one that adds an entry
 abbrev pub IsAccepted : Limits → List Entry → BookCall → Type 0

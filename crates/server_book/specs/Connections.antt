@@ -1,12 +1,19 @@
 -- Connections by their ids, which begin at 1.
-use Rattle.std.specs.Prelude.{◌-◌, ◌<◌, ◌≤◌, ◌&&◌, ℕ, List, [], Bool, false, not, nat_lt, nat_le}
-use Rattle.std.specs.Prelude.{length}
+use Rattle.std.specs.Prelude.{◌-◌, ◌<◌, ◌≤◌, ◌&&◌, ℕ, List, [], ◌∷◌, Bool, false, not, nat_lt}
+use Rattle.std.specs.Prelude.{length, nat_le}
 use Rattle.std.specs.Prelude.{slice_index_or, slice_set}
+use Rattle.serial_model.specs.Modes.{first_mode}
+use Rattle.serial_model.specs.declared.history.Post.{Post}
 use Rattle.server_book.specs.declared.connections.Connection.{Connection}
+
+-- the connections, and what the last turn sent
+pub record ConnectionsState : Type 0 where
+  pub items : List Connection
+  pub posts : List Post
 
 -- a connection that was sent nothing
 abbrev pub fresh : Connection
-fresh = record { queue = []; ended = false }
+fresh = record { queue = []; ended = false; mode = first_mode }
 
 abbrev pub IsId : List Connection → ℕ → Type 0
 IsId connections id = (0 < id) × (id ≤ length connections)
@@ -24,3 +31,13 @@ is_live connections id =
 -- a connection that can still be closed
 abbrev pub is_open : Connection → Bool
 is_open connection = not connection.ended
+
+-- each post is of a connection that is there
+abbrev pub ArePosted : List Connection → List Post → Type 0
+ArePosted connections [] = Unit {0}
+ArePosted connections (post ∷ posts) = IsId connections post.id × ArePosted connections posts
+
+-- and there is room for one
+pub record HoldsPosts (connections : List Connection) (posts : List Post) (room : ℕ) : Type 0 where
+  pub there : ArePosted connections posts
+  pub for_one : 1 ≤ room

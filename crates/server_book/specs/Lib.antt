@@ -1,5 +1,6 @@
 pub mod Plans
 pub mod Log
 pub mod Connections
+pub mod Sendings
+pub mod Stores
 pub mod BookState
-pub mod Texts

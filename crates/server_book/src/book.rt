@@ -2,19 +2,19 @@
 ghost use Rattle.std.specs.Prelude.{◌≡◌, ◌<◌, [], true, IfOk, OnErr, length};
 ghost use Rattle.std.specs.Prelude.{reverse};
 ghost use Rattle.serial_model.specs.declared.history.BookCall.TheVariants as call;
-ghost use Rattle.serial_model.specs.History.{IsLegal, gives_on, is_full, protocol, reads_on};
+ghost use Rattle.serial_model.specs.History.{IsLegal, gives_on, is_full, reads_on};
 ghost use Rattle.serial_model.specs.History.{runs_on};
 ghost use Rattle.serial_model.specs.History.{unsent};
 ghost use Rattle.serial_model.specs.Steps.{AreValid, BookStep, IsCallable};
 ghost use Rattle.server_book.specs.BookState.{IsAccepted, IsFullAnswer, IsRefusal, IsTurn};
 ghost use Rattle.server_book.specs.BookState.{posts_after};
 
-use super::connections::Connections;
-use super::keyspace::Keyspace;
 use super::log::Log;
-use super::plan::{Plan, message_of, plan_of, put_written};
-use resp_value::{NoMemory, Proto, Words};
-use serial_model::{BookCall, BookRefusal, BookReply, Entry, Limits, Post, Posted};
+use super::messages::message_of;
+use super::plan::{Plan, plan_of};
+use super::stores::Stores;
+use resp_value::{NoMemory, Words};
+use serial_model::{BookCall, BookRefusal, BookReply, Entry, Limits, Post, Runner};
 use std::alloc::Global;
 use std::marker::Model;
 
@@ -22,23 +22,23 @@ use std::marker::Model;
 /// history and what the last turn sent.
 #[derive(Drop)]
 pub struct Book {
-    alloc: Global,
     limits: Limits,
     log: Log,
-    space: Keyspace,
-    connections: Connections,
-    posts: Vec<Post>,
+    stores: Stores,
 }
 
 impl Model for Book {
-    ghost use Rattle.std.specs.Prelude.{vec_capacity};
     ghost use Rattle.server_book.specs.BookState.{IsBook, BookState};
 
     ghost Value = { BookState };
 
-    ghost view = { λ b. record { limits = b.limits; past = b.log.past; posts = b.posts.items } };
+    ghost view = { λ b. record {
+      limits = b.limits;
+      past = b.log.past;
+      posts = b.stores.connections.posts;
+    } };
 
-    ghost invariant = { λ b. IsBook b.limits b.log b.space b.connections (vec_capacity b.posts) };
+    ghost invariant = { λ b. IsBook b.limits b.log b.stores };
 }
 
 impl Book {
@@ -48,12 +48,9 @@ impl Book {
         ensures { IfOk result (λ b. b ≡ record { limits = limits; past = []; posts = [] }) }
     {
         Ok(Book {
-            alloc,
             limits,
             log: Log::new(alloc),
-            space: Keyspace::new(alloc),
-            connections: Connections::new(alloc),
-            posts: Vec::with_capacity(alloc, 1)?,
+            stores: Stores::new(alloc, limits.table_max)?,
         })
     }
 
@@ -76,28 +73,28 @@ impl Book {
     pub fn last_posts(&self) -> &[Post]
         ensures { result.now ≡ self.now.posts }
     {
-        self.posts.as_slice()
+        self.stores.connections.posts()
     }
 
     /// Whether a Run of this connection is accepted.
     pub fn runs_on(&self, id: u64) -> bool
         ensures { result ≡ runs_on self.now.limits self.now.past id }
     {
-        self.connections.is_live(id)
+        self.stores.connections.is_live(id)
     }
 
     /// Whether the server reads on from this connection's link, and a Close of it is accepted.
     pub fn reads_on(&self, id: u64) -> bool
         ensures { result ≡ reads_on self.now.limits self.now.past id }
     {
-        self.connections.is_live(id)
+        self.stores.connections.is_live(id)
     }
 
     /// Whether a Take of this connection is accepted.
     pub fn gives_on(&self, id: u64) -> bool
         ensures { result ≡ gives_on self.now.limits self.now.past id }
     {
-        self.connections.is_live(id)
+        self.stores.connections.is_live(id)
     }
 
     /// How many bytes a connection can take now.
@@ -105,14 +102,7 @@ impl Book {
         requires { gives_on self.now.limits self.now.past id ≡ true }
         ensures { result ≡ length (unsent self.now.limits id self.now.past) }
     {
-        self.connections.waiting(id) as u64
-    }
-
-    #[tactic(auto, unfolding(serial_model::specs::History::protocol))]
-    fn protocol(&self, id: u64) -> Proto
-        ensures { result ≡ protocol id self.now.past }
-    {
-        Proto::Two
+        self.stores.connections.waiting(id) as u64
     }
 
     fn is_full(&self) -> bool
@@ -174,44 +164,42 @@ impl Book {
         ensures ok { IfOk result (λ reply. IsTurn self.old call.Admit reply self.new) }
         ensures err { OnErr result (self.new ≡ self.old) }
     {
-        let id = self.connections.count() as u64 + 1;
+        let id = self.stores.connections.count() as u64 + 1;
         let entry = self.log.len() + 1;
         // Room for this entry, and for the Close of each connection with the new one.
-        self.log.reserve(self.connections.count() + 2)?;
-        self.connections.admit(self.alloc)?;
+        self.log.reserve(self.stores.connections.count() + 2)?;
+        self.stores.connections.admit(self.stores.alloc)?;
         self.log.push(Entry::Admit { id });
         Ok(BookReply::Admitted { entry, id })
     }
 
-    // All room is made first. The keyspace grows last, and the queue can be taken back.
+    // What was sent can be taken back, so what grows for good goes last.
     fn run(&mut self, id: u64, words: Words, now: u64) -> Result<BookReply, NoMemory>
         requires accepted { IsAccepted self.old.limits self.old.past (call.Run id words now) }
         requires none { self.old.posts ≡ [] }
         ensures ok { IfOk result (λ reply. IsTurn self.old (call.Run id words now) reply self.new) }
         ensures err { OnErr result (self.new ≡ self.old) }
     {
+        let alloc = self.stores.alloc;
+        let count = self.stores.connections.count();
+        let entry = self.log.len() + 1;
         let moment = now.max(self.log.moment());
-        let Plan { reply, write } = plan_of(self.alloc, &self.space, &words, moment)?;
-        let message = message_of(self.alloc, self.protocol(id), &reply)?;
-        self.log.reserve(self.connections.count() + 1)?;
-        self.posts.reserve(1)?;
-        let size = self.connections.waiting(id);
-        self.connections.add(id, message.as_slice())?;
-        match put_written(&mut self.space, write) {
+        let before = self.stores.connections.mode(id);
+        let by = Runner { id, mode: before };
+        let Plan { reply, deed, mode } = plan_of(alloc, &self.stores.space, by, &words, moment)?;
+        let message = message_of(alloc, mode.proto, &reply)?;
+        self.log.reserve(count + 1)?;
+        self.stores.connections.send(entry, id, message.as_slice())?;
+        self.stores.connections.set_mode(id, mode);
+        match self.stores.carry_out(entry, id, deed) {
             Ok(()) => {}
             Err(_) => {
-                self.connections.keep(id, size);
+                self.stores.connections.take_back();
+                self.stores.connections.set_mode(id, before);
                 return Err(NoMemory);
             }
         }
-        let entry = self.log.len() + 1;
-        let length = message.len() as u64;
         self.log.push(Entry::Run { id, words, moment });
-        self.posts.push_reserved(Post {
-            entry,
-            id,
-            what: Posted::Message { length },
-        });
         Ok(BookReply::Ran { entry })
     }
 
@@ -222,15 +210,15 @@ impl Book {
         ensures ok { IfOk result (λ reply. IsTurn self.old (call.Take id most) reply self.new) }
         ensures err { OnErr result (self.new ≡ self.old) }
     {
-        let bytes = self.connections.front(id, most as usize)?;
-        self.log.reserve(self.connections.count() + 1)?;
+        let bytes = self.stores.connections.front(id, most as usize)?;
+        self.log.reserve(self.stores.connections.count() + 1)?;
         let entry = self.log.len() + 1;
         self.log.push(Entry::Take { id, max: most });
-        self.connections.advance(id, most as usize);
+        self.stores.connections.advance(id, most as usize);
         Ok(BookReply::Bytes { entry, bytes })
     }
 
-    // The room for the entry and for its post was kept.
+    // The room for the entry and for its post was kept. What the connection remembers goes.
     fn close(&mut self, id: u64) -> BookReply
         requires accepted { IsAccepted self.old.limits self.old.past (call.Close id) }
         requires none { self.old.posts ≡ [] }
@@ -238,12 +226,8 @@ impl Book {
     {
         let entry = self.log.len() + 1;
         self.log.push(Entry::Close { id });
-        self.posts.push_reserved(Post {
-            entry,
-            id,
-            what: Posted::End,
-        });
-        self.connections.end(id);
+        self.stores.connections.end(entry, id);
+        self.stores.table.forget_connection(id);
         BookReply::Closed { entry }
     }
 
@@ -254,7 +238,7 @@ impl Book {
         ensures step { BookStep self.old.limits self.old.past call result self.new.past }
         ensures posts { self.new.posts ≡ posts_after self.old.limits result self.new.past }
     {
-        self.posts.clear();
+        self.stores.connections.clear_posts();
         if let Some(reply) = self.refusal(&call) {
             return reply;
         }

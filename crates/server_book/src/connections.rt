@@ -1,11 +1,17 @@
-//! What the server keeps of its connections, by their ids.
+//! What the server keeps of its connections, by their ids, and what it sends them.
 ghost use Rattle.std.specs.Prelude.{◌≡◌, ◌++◌, ◌∷◌, [], ◌+◌, ◌^◌, ◌<◌, ◌≤◌, true, false, OnOk};
 ghost use Rattle.std.specs.Prelude.{OnErr, IfOk, length, take, drop};
-ghost use Rattle.server_book.specs.Connections.{IsId, connection_at, fresh, is_live};
-ghost use Rattle.server_book.specs.Connections.{with_connection};
+ghost use Rattle.serial_model.specs.History.{routed};
+ghost use Rattle.serial_model.specs.Tracking.{told_of};
+ghost use Rattle.server_book.specs.Connections.{IsId, ConnectionsState, connection_at, fresh};
+ghost use Rattle.server_book.specs.Connections.{is_live, with_connection};
+ghost use Rattle.server_book.specs.Sendings.{AreIds, before_posts, modes_of, queued, size_of};
+ghost use Rattle.server_book.specs.Sendings.{message_post, end_post, with_sendings};
 
+use super::messages::invalidation;
 use byte_queue::ByteQueue;
-use resp_value::{NoMemory, Octets};
+use resp_value::{NoMemory, Octets, Proto};
+use serial_model::{Mode, Post, Posted};
 use std::alloc::Global;
 use std::marker::Model;
 
@@ -15,42 +21,72 @@ pub struct Connection {
     /// The bytes that it was sent and has not taken.
     pub queue: ByteQueue,
     pub ended: bool,
+    /// What its own runs made of it.
+    pub mode: Mode,
 }
 
-/// All connections that were admitted. Their ids are 1 to their number.
+/// All connections that were admitted, and what the last turn sent them. Their ids are 1 to their
+/// number.
 #[derive(Drop)]
 pub struct Connections {
     items: Vec<Connection>,
+    posts: Vec<Post>,
 }
 
 impl Model for Connections {
-    ghost use Rattle.std.specs.Prelude.{List};
-    ghost use Rattle.server_book.specs.declared.connections.Connection.{Connection};
+    ghost use Rattle.std.specs.Prelude.{◌≤◌, vec_capacity};
+    ghost use Rattle.server_book.specs.Connections.{ConnectionsState, HoldsPosts};
 
-    ghost Value = { List Connection };
+    ghost Value = { ConnectionsState };
 
-    ghost view = { λ c. c.items.items };
+    ghost view = { λ c. record { items = c.items.items; posts = c.posts.items } };
+
+    ghost invariant = { λ c. HoldsPosts c.items.items c.posts.items (vec_capacity c.posts) };
+}
+
+fn size_of(what: Posted) -> u64
+    ensures { result ≡ size_of what }
+{
+    match what {
+        Posted::Message { length } => length,
+        Posted::End => 0,
+    }
 }
 
 impl Connections {
-    pub fn new(alloc: Global) -> Connections
-        ensures { result ≡ [] }
+    pub fn new(alloc: Global) -> Result<Connections, NoMemory>
+        ensures { IfOk result (λ c. c ≡ record { items = []; posts = [] }) }
     {
-        Connections {
+        Ok(Connections {
             items: Vec::new(alloc),
-        }
+            posts: Vec::with_capacity(alloc, 1)?,
+        })
     }
 
     pub fn count(&self) -> usize
-        ensures count { result ≡ length self.now }
-        ensures below { result + 2 < 2 ^ 64 }
+        ensures count { result ≡ length self.now.items }
+        ensures below { result < 2 ^ 63 }
     {
         self.items.len()
     }
 
+    /// What the last turn sent, in order.
+    pub fn posts(&self) -> &[Post]
+        ensures { result.now ≡ self.now.posts }
+    {
+        self.posts.as_slice()
+    }
+
+    /// A turn begins: nothing is sent yet.
+    pub fn clear_posts(&mut self)
+        ensures { self.new ≡ record self.old { posts = [] } }
+    {
+        self.posts.clear();
+    }
+
     /// Whether a connection of this id was admitted and has not ended.
     pub fn is_live(&self, id: u64) -> bool
-        ensures { result ≡ is_live self.now id }
+        ensures { result ≡ is_live self.now.items id }
     {
         if id == 0 || id > self.items.len() as u64 {
             return false;
@@ -60,71 +96,145 @@ impl Connections {
 
     /// One more connection, with nothing to take.
     pub fn admit(&mut self, alloc: Global) -> Result<(), NoMemory>
-        ensures ok { OnOk result (self.new ≡ self.old ++ fresh ∷ []) }
+        ensures ok { OnOk result
+            (self.new ≡ record self.old { items = self.old.items ++ fresh ∷ [] }) }
         ensures err { OnErr result (self.new ≡ self.old) }
     {
         self.items.push(Connection {
             queue: ByteQueue::new(alloc),
             ended: false,
+            mode: Mode {
+                proto: Proto::Two,
+                tracking: false,
+            },
         })?;
         Ok(())
     }
 
+    pub fn mode(&self, id: u64) -> Mode
+        requires { IsId self.now.items id }
+        ensures { result ≡ (connection_at self.now.items id).mode }
+    {
+        self.items[(id - 1) as usize].mode
+    }
+
+    pub fn set_mode(&mut self, id: u64, mode: Mode)
+        requires { IsId self.old.items id }
+        ensures { let c = connection_at self.old.items id in
+            let items = with_connection self.old.items id (record c { mode = mode }) in
+            self.new ≡ record self.old { items = items } }
+    {
+        let connection = &mut self.items[(id - 1) as usize];
+        connection.mode = mode;
+    }
+
     /// How many bytes the connection has not taken.
     pub fn waiting(&self, id: u64) -> usize
-        requires { IsId self.now id }
-        ensures { result ≡ length (connection_at self.now id).queue }
+        requires { IsId self.now.items id }
+        ensures { result ≡ length (connection_at self.now.items id).queue }
     {
         self.items[(id - 1) as usize].queue.len()
     }
 
-    /// Adds bytes to those that the connection has not taken.
-    pub fn add(&mut self, id: u64, bytes: &[u8]) -> Result<(), NoMemory>
-        requires { IsId self.old id }
-        ensures ok { OnOk result
-            (let c = connection_at self.old id in
-            self.new ≡ with_connection self.old id (record c { queue = c.queue ++ bytes.now })) }
-        ensures err { OnErr result (self.new ≡ self.old) }
-    {
-        let connection = &mut self.items[(id - 1) as usize];
-        connection.queue.add(bytes)
-    }
-
-    /// Keeps so many of the first bytes that the connection has not taken.
-    pub fn keep(&mut self, id: u64, count: usize)
-        requires { IsId self.old id }
-        ensures { let c = connection_at self.old id in
-            self.new ≡ with_connection self.old id (record c { queue = take count c.queue }) }
-    {
-        let connection = &mut self.items[(id - 1) as usize];
-        connection.queue.keep(count);
-    }
-
     /// The first bytes that the connection has not taken, at most so many.
     pub fn front(&self, id: u64, most: usize) -> Result<Octets, NoMemory>
-        requires { IsId self.now id }
-        ensures { IfOk result (λ o. o ≡ take most (connection_at self.now id).queue) }
+        requires { IsId self.now.items id }
+        ensures { IfOk result (λ o. o ≡ take most (connection_at self.now.items id).queue) }
     {
         self.items[(id - 1) as usize].queue.front(most)
     }
 
     /// Drops the first bytes that the connection has not taken, at most so many.
     pub fn advance(&mut self, id: u64, most: usize)
-        requires { IsId self.old id }
-        ensures { let c = connection_at self.old id in
-            self.new ≡ with_connection self.old id (record c { queue = drop most c.queue }) }
+        requires { IsId self.old.items id }
+        ensures { let c = connection_at self.old.items id in
+            let left = record c { queue = drop most c.queue } in
+            let items = with_connection self.old.items id left in
+            self.new ≡ record self.old { items = items } }
     {
         let connection = &mut self.items[(id - 1) as usize];
         connection.queue.advance(most);
     }
 
-    /// Ends the connection, and gives up what it has not taken.
-    pub fn end(&mut self, id: u64)
-        requires { IsId self.old id }
-        ensures { self.new ≡ with_connection self.old id (record { queue = []; ended = true }) }
+    /// Sends a message: its bytes go behind those that the connection has not taken.
+    pub fn send(&mut self, entry: u64, to: u64, message: &[u8]) -> Result<(), NoMemory>
+        requires { IsId self.old.items to }
+        ensures ok { OnOk result (self.new ≡ record {
+          items = queued self.old.items to message.now;
+          posts = self.old.posts ++ message_post entry to (length message.now) ∷ [];
+        }) }
+        ensures err { OnErr result (self.new ≡ self.old) }
+    {
+        self.posts.reserve(1)?;
+        let connection = &mut self.items[(to - 1) as usize];
+        connection.queue.add(message)?;
+        let length = message.len() as u64;
+        self.posts.push_reserved(Post {
+            entry,
+            id: to,
+            what: Posted::Message { length },
+        });
+        Ok(())
+    }
+
+    /// Tells connections that a key is not what it was: those on the third protocol are sent a
+    /// push, those on the second nothing. Where memory runs out, some of them were sent theirs.
+    pub fn tell(
+        &mut self,
+        alloc: Global,
+        entry: u64,
+        key: &[u8],
+        to: &[u64],
+    ) -> Result<(), NoMemory>
+        requires { AreIds self.old.items to.now }
+        ensures ok { OnOk result (self.new
+            ≡ with_sendings entry (routed (modes_of self.old.items) (told_of key.now to.now))
+            self.old) }
+        ensures err { OnErr result
+            (before_posts self.new.posts self.new.items
+            ≡ before_posts self.old.posts self.old.items) }
+    {
+        let push = invalidation(alloc, key)?;
+        for (place, id) in to.iter().enumerate() {
+            match self.mode(*id).proto {
+                Proto::Two => {}
+                Proto::Three => self.send(entry, *id, push.as_slice())?,
+            }
+        }
+        Ok(())
+    }
+
+    /// Takes back all that the turn sent, the last first. It takes no memory.
+    pub fn take_back(&mut self)
+        ensures { self.new
+            ≡ record { items = before_posts self.old.posts self.old.items; posts = [] } }
+    {
+        'posts: while let Some(post) = self.posts.pop() {
+            let connection = &mut self.items[(post.id - 1) as usize];
+            let size = size_of(post.what) as usize;
+            let left = connection.queue.len().saturating_sub(size);
+            connection.queue.keep(left);
+        }
+    }
+
+    /// Ends the connection, and gives up what it has not taken. It takes no memory.
+    pub fn end(&mut self, entry: u64, id: u64)
+        requires there { IsId self.old.items id }
+        requires none { self.old.posts ≡ [] }
+        ensures { let c = connection_at self.old.items id in
+            let gone = record c { queue = []; ended = true } in
+            self.new ≡ record {
+              items = with_connection self.old.items id gone;
+              posts = end_post entry id ∷ [];
+            } }
     {
         let connection = &mut self.items[(id - 1) as usize];
         connection.queue.drop_all();
         connection.ended = true;
+        self.posts.push_reserved(Post {
+            entry,
+            id,
+            what: Posted::End,
+        });
     }
 }

@@ -3,9 +3,12 @@
 
 mod book;
 mod connections;
-mod keyspace;
+mod deed;
+mod hello;
 mod log;
+mod messages;
 mod plan;
+mod stores;
 
 pub use book::Book;
 pub use serial_model::{BookCall, BookRefusal, BookReply, Entry, Limits, Post, Posted};

@@ -42,7 +42,7 @@ fn limits_of(history_max: u64) -> Limits
     ensures { AreValid result }
 {
     Limits {
-        table_max: 1,
+        table_max: 2,
         out_max: 1,
         history_max,
     }
@@ -135,5 +135,98 @@ fn a_full_history_refuses_all_but_what_adds_no_entry_and_a_close(
         assert_eq!(rt; number, entry, "{what}");
         assert_eq!(rt; gave, bytes.as_bytes(), "{what}");
     }
+    Ok(())
+}
+
+// What HELLO tells a connection of this id on the third protocol.
+const GREETING: &str = "%7\r\n$6\r\nserver\r\n$5\r\nredis\r\n$7\r\nversion\r\n$5\r\n7.0.0\r\n\
+    $5\r\nproto\r\n:3\r\n$2\r\nid\r\n:1\r\n$4\r\nmode\r\n$10\r\nstandalone\r\n\
+    $4\r\nrole\r\n$6\r\nmaster\r\n$7\r\nmodules\r\n*0\r\n";
+
+#[test]
+fn hello_switches_the_protocol_of_its_own_connection(rt: HostRuntime) -> Result<(), Fail> {
+    let alloc = rt.alloc();
+    let mut book = Book::new(alloc, limits_of(100))?;
+    assert_eq!(rt; GREETING.len(), 144);
+    for (what, id, bytes) in [
+        ("admit", 0, ""),
+        ("admit", 0, ""),
+        ("GET foo", 1, "$-1\r\n"),
+        ("HELLO 3", 1, GREETING),
+        ("GET foo", 1, "_\r\n"),
+        ("GET foo", 2, "$-1\r\n"),
+        ("HELLO 4", 1, "-NOPROTO unsupported protocol version\r\n"),
+        (
+            "HELLO three",
+            1,
+            "-ERR Protocol version is not an integer or out of range\r\n",
+        ),
+        ("HELLO 2 AUTH", 1, "-ERR syntax error\r\n"),
+        ("hello", 1, GREETING),
+        ("HELLO 2", 1, "*14\r\n"),
+        ("GET foo", 1, "$-1\r\n"),
+    ] {
+        let _ = book.turn(call_of(alloc, what, id, 0)?);
+        if id > 0 {
+            let reply = book.turn(call_of(alloc, "take", id, 999)?);
+            let (_, gave) = parts_of(&reply);
+            assert_eq!(rt; gave.starts_with(bytes.as_bytes()), true, "{what}");
+        }
+    }
+    Ok(())
+}
+
+// Who runs what, and then the posts: each the id of a connection and how many bytes it is sent.
+const TRACKING: &str = "1;HELLO 3;1 144
+2;HELLO 3;2 144
+1;CLIENT TRACKING ON;1 5
+2;CLIENT TRACKING ON;2 5
+2;GET a;2 3
+1;GET a;1 3
+3;SET a v;3 5,1 32,2 32
+3;SET a w;3 5
+1;GET a;1 7
+1;SET a x;1 5,1 32
+1;GET a;1 7
+1;GET b;1 3
+2;GET c;2 3,1 32
+1;CLIENT TRACKING OFF;1 5
+3;SET b v;3 5
+3;CLIENT TRACKING ON;3 5
+3;GET d;3 5
+1;SET d v;1 5
+3;SET c v;3 5,2 32";
+
+fn number_of(text: &str) -> u64 {
+    text.parse::<u64>().unwrap_or(0)
+}
+
+#[test]
+fn those_who_remember_a_key_are_told_behind_the_reply(rt: HostRuntime) -> Result<(), Fail> {
+    let alloc = rt.alloc();
+    let mut book = Book::new(alloc, limits_of(100))?;
+    for what in ["admit", "admit", "admit"] {
+        let _ = book.turn(call_of(alloc, what, 0, 0)?);
+    }
+    for line in TRACKING.split('\n') {
+        if let Some((id, rest)) = line.split_once(";") {
+            if let Some((what, want)) = rest.split_once(";") {
+                let _ = book.turn(call_of(alloc, what, number_of(id), 0)?);
+                let mut wanted = want.split(',');
+                for post in book.last_posts() {
+                    let want = wanted.next().unwrap_or("");
+                    let (to, size) = want.split_once(" ").unwrap_or(("", ""));
+                    assert_eq!(rt; post.id, number_of(to), "{line}");
+                    let length = number_of(size);
+                    assert_eq!(rt; post.what, Posted::Message { length }, "{line}");
+                }
+                assert_eq!(rt; wanted.next().is_none(), true, "{line}");
+            }
+        }
+    }
+    let reply = book.turn(call_of(alloc, "take", 2, 9999)?);
+    let (_, gave) = parts_of(&reply);
+    let push = b">2\r\n$10\r\ninvalidate\r\n*1\r\n$1\r\nc\r\n";
+    assert_eq!(rt; gave.ends_with(push), true);
     Ok(())
 }

@@ -1,97 +1,229 @@
-use Rattle.std.proofs.Common.{◌≡◌, ◌++◌, ◌∷◌, [], length, sym, ap}
+use Rattle.std.proofs.Common.{◌≡◌, ◌+◌, ◌++◌, ◌∷◌, [], length, sym, ap}
 use Rattle.std.proofs.Common.{subst, ◌∙◌, arith, max}
 use Rattle.serial_model.specs.declared.history.Entry.TheVariants as entry
 use Rattle.serial_model.specs.declared.history.BookCall.TheVariants.{Run}
-use Rattle.serial_model.specs.History.{spelled, protocol, ran_over}
+use Rattle.serial_model.specs.declared.mode.Runner.{Runner}
+use Rattle.serial_model.specs.History.{spelled, runner, routed}
 use Rattle.server_book.specs.BookState.{BookState, Agrees, IsAccepted}
-use Rattle.server_book.proofs.BookTurns.{is_id, taken_back, is_turn}
-use Rattle.server_book.proofs.BookTurns.{agrees_run}
+use Rattle.server_book.specs.Connections.{ConnectionsState, connection_at, with_connection}
+use Rattle.server_book.specs.Sendings.{before_posts, message_post, modes_of, with_sendings}
+use Rattle.server_book.specs.Plans.{told_by, kept_by}
+use Rattle.server_book.specs.Stores.{IsHeld}
+use Rattle.server_book.proofs.Plans.{plan_runs}
+use Rattle.server_book.proofs.BookTurns.{is_id, kept_of, is_turn, switched, undone, run_turned}
 use Rattle.server_book.proofs.BookTurns.{room_more}
-use Rattle.server_book.proofs.BookTurns.{run_turned}
-use Rattle.server_book.proofs.BookTurns.{posted_run}
-use Rattle.server_book.proofs.BookTurns.{message_post}
+use Rattle.server_book.proofs.Runs.{agrees_run, posted_run, length_after, held_replied}
 use Rattle.server_book.proofs.book.Book.run.Goals as goal
+
+pub carry_out-requires-clause-held : goal.carry_out-requires-clause-held
+carry_out-requires-clause-held c =
+    let i = c.self.inside in
+    let l = i.limits in
+    let cs = i.stores.connections.items in
+    let keys = i.stores.table in
+    let space = i.stores.space in
+    let k = c.self.invariant.agrees in
+    let past = i.log.past in
+    let id = c.args.id in
+    let words = c.args.words in
+    let acc = subst (λ (b : BookState). IsAccepted b.limits b.past (Run id words c.args.now))
+    (sym c.self.view_is) c.requires.accepted in
+    let m = c.max-moment.result in
+    let e = entry.Run id words m in
+    let n = c.len-entry.result + 1 in
+    let number : n ≡ length past + 1 = omega (arith, c.len-entry.ensures.len) in
+    let p = c.in_ok-reply.field-0 in
+    let by : Runner = record { id = id; mode = c.mode-before.result } in
+    let who : by ≡ runner l past id = ap (λ x. record { id = id; mode = x }) (c.mode-before.ensures
+    ∙ ap (λ x. x.mode) (kept_of l past space keys cs k id acc.0)) in
+    let runs = plan_runs l p words space m past id by c.in_ok-reply.ensures who k.space_is in
+    let message = c.as_slice.result.now in
+    let spelling = c.as_slice.ensures.value ∙ c.in_ok-message.ensures
+    ∙ ap (spelled p.mode.proto) runs.0 in
+    let none : i.stores.connections.posts ≡ [] = ap (λ (b : BookState). b.posts) c.self.view_is
+    ∙ c.requires.none in
+    let told = told_by keys.limit id p.deed keys.rows in
+    let post = message_post n id (length message) in
+    let sent : c.set_mode.new.self
+    ≡ record { items = switched cs id message p.mode; posts = post ∷ [] } =
+    c.set_mode.ensures
+    ∙ ap (λ (s : ConnectionsState). record {
+      items = with_connection s.items id (record (connection_at s.items id) { mode = p.mode });
+      posts = s.posts;
+    }) c.in_ok-send.ensures.ok
+    ∙ ap (λ x. record {
+      items = switched cs id message p.mode;
+      posts = x ++ message_post n id (length message) ∷ [];
+    }) none in
+    subst (λ (s : ConnectionsState). IsHeld keys.limit keys.rows s.items) (sym sent)
+    (held_replied l past space keys cs k id m words acc.0 n p.deed p.mode message number runs.2
+    runs.3 runs.4 spelling)
 
 pub invariant_of-self-2 : goal.invariant_of-self-2
 invariant_of-self-2 c =
     let i = c.self.inside in
+    let l = i.limits in
+    let cs = i.stores.connections.items in
+    let keys = i.stores.table in
+    let space = i.stores.space in
     let k = c.self.invariant.agrees in
     let past = i.log.past in
-    let acc = subst (λ (b : BookState). IsAccepted b.limits b.past
-    (Run c.args.id c.args.words c.args.now)) (sym c.self.view_is) c.requires.accepted in
-    let plan = c.in_ok-reply.ensures in
+    let id = c.args.id in
+    let words = c.args.words in
+    let acc = subst (λ (b : BookState). IsAccepted b.limits b.past (Run id words c.args.now))
+    (sym c.self.view_is) c.requires.accepted in
     let m = c.max-moment.result in
-    let e = entry.Run c.args.id c.args.words m in
-    let grown = c.push.ensures.past ∙ ap (λ p. e ∷ p) c.reserve.ensures.past in
-    let message = c.as_slice.ensures.value ∙ c.in_ok-message.ensures
-    ∙ ap (λ p. spelled p c.in_ok-reply.field-0.reply) (c.protocol.ensures
-    ∙ ap (λ (b : BookState). protocol c.args.id b.past) (sym c.self.view_is))
-    ∙ ap (spelled (protocol c.args.id past)) (plan.0
-    ∙ ap (λ s. (ran_over s c.args.words m).reply) k.space_is) in
-    let kept = agrees_run i.limits past i.space i.connections k c.args.id m c.args.words
-    c.as_slice.result.now c.put_written.new.space
-    acc.0 acc.1 (omega (arith, c.max-moment.ensures, c.moment.ensures))
-    (c.in-Ok.ensures.ok ∙ plan.1 ∙ ap (λ s. (ran_over s c.args.words m).space) k.space_is) message
-    in
+    let e = entry.Run id words m in
+    let n = c.len-entry.result + 1 in
+    let number : n ≡ length past + 1 = omega (arith, c.len-entry.ensures.len) in
+    let p = c.in_ok-reply.field-0 in
+    let by : Runner = record { id = id; mode = c.mode-before.result } in
+    let who : by ≡ runner l past id = ap (λ x. record { id = id; mode = x }) (c.mode-before.ensures
+    ∙ ap (λ x. x.mode) (kept_of l past space keys cs k id acc.0)) in
+    let runs = plan_runs l p words space m past id by c.in_ok-reply.ensures who k.space_is in
+    let message = c.as_slice.result.now in
+    let spelling = c.as_slice.ensures.value ∙ c.in_ok-message.ensures
+    ∙ ap (spelled p.mode.proto) runs.0 in
+    let none : i.stores.connections.posts ≡ [] = ap (λ (b : BookState). b.posts) c.self.view_is
+    ∙ c.requires.none in
+    let told = told_by keys.limit id p.deed keys.rows in
+    let post = message_post n id (length message) in
+    let sent : c.set_mode.new.self
+    ≡ record { items = switched cs id message p.mode; posts = post ∷ [] } =
+    c.set_mode.ensures
+    ∙ ap (λ (s : ConnectionsState). record {
+      items = with_connection s.items id (record (connection_at s.items id) { mode = p.mode });
+      posts = s.posts;
+    }) c.in_ok-send.ensures.ok
+    ∙ ap (λ x. record {
+      items = switched cs id message p.mode;
+      posts = x ++ message_post n id (length message) ∷ [];
+    }) none in
+    let final = c.in-Ok.ensures.told
+    ∙ ap (λ (s : ConnectionsState). with_sendings n (routed (modes_of s.items) told) s) sent in
+    let grown = c.push.ensures.past ∙ ap (λ x. e ∷ x) c.reserve.ensures.past in
     record {
-      agrees = subst (λ p. Agrees i.limits p c.put_written.new.space c.add.new.self) (sym grown)
-          (subst (Agrees i.limits (e ∷ past) c.put_written.new.space) (sym c.in_ok-add.ensures.ok)
-          kept);
-      room = room_more c.push.new.self.room _ c.args.id i.connections c.add.new.self _
-          c.in_ok-add.ensures.ok
-          (omega (arith, c.in_ok-reserve.ensures.ok, c.push.ensures.room, c.count.ensures.count))
+      agrees = subst (λ x. Agrees l x c.carry_out.new.self.space c.carry_out.new.self.table
+          c.carry_out.new.self.connections.items) (sym grown)
+          (subst (λ t. Agrees l (e ∷ past) c.carry_out.new.self.space t
+          c.carry_out.new.self.connections.items) (sym c.in-Ok.ensures.table)
+          (subst (λ (s : ConnectionsState). Agrees l (e ∷ past) c.carry_out.new.self.space
+          (record keys { rows = kept_by keys.limit id p.deed keys.rows }) s.items) (sym final)
+          (agrees_run l past space keys cs k id m words acc.0 n p.deed p.mode message number runs.2
+          runs.3 runs.4 spelling c.carry_out.new.self.space acc.1
+          (omega (arith, c.max-moment.ensures, c.moment.ensures))
+          (c.in-Ok.ensures.space ∙ runs.1))));
+      room = room_more c.push.new.self.room cs c.carry_out.new.self.connections.items
+          (ap (λ (s : ConnectionsState). length s.items) final
+          ∙ length_after l past space keys cs k id m words acc.0 n p.deed p.mode message number
+          runs.2 runs.3 runs.4 spelling)
           (omega (
             arith,
-            c.self.invariant.room.for_posts,
-            c.reserve-2.ensures.capacity,
-            c.push_reserved.ensures.capacity,
+            c.in_ok-reserve.ensures.ok,
+            c.push.ensures.room,
+            c.count-count.ensures.count,
           ));
     }
 
 pub invariant_of-self-in-Err : goal.invariant_of-self-in-Err
 invariant_of-self-in-Err c =
     let i = c.self.inside in
+    let l = i.limits in
+    let cs = i.stores.connections.items in
+    let keys = i.stores.table in
+    let space = i.stores.space in
     let k = c.self.invariant.agrees in
-    let acc = subst (λ (b : BookState). IsAccepted b.limits b.past
-    (Run c.args.id c.args.words c.args.now)) (sym c.self.view_is) c.requires.accepted in
-    let back = taken_back i.connections c.add.new.self c.keep.new.self c.args.id
-    c.waiting-size.result c.as_slice.result.now
-    (is_id i.limits i.log.past i.space i.connections k c.args.id acc.0) c.waiting-size.ensures
-    c.in_ok-add.ensures.ok c.keep.ensures in
+    let past = i.log.past in
+    let id = c.args.id in
+    let words = c.args.words in
+    let acc = subst (λ (b : BookState). IsAccepted b.limits b.past (Run id words c.args.now))
+    (sym c.self.view_is) c.requires.accepted in
+    let m = c.max-moment.result in
+    let e = entry.Run id words m in
+    let n = c.len-entry.result + 1 in
+    let number : n ≡ length past + 1 = omega (arith, c.len-entry.ensures.len) in
+    let p = c.in_ok-reply.field-0 in
+    let by : Runner = record { id = id; mode = c.mode-before.result } in
+    let who : by ≡ runner l past id = ap (λ x. record { id = id; mode = x }) (c.mode-before.ensures
+    ∙ ap (λ x. x.mode) (kept_of l past space keys cs k id acc.0)) in
+    let runs = plan_runs l p words space m past id by c.in_ok-reply.ensures who k.space_is in
+    let message = c.as_slice.result.now in
+    let spelling = c.as_slice.ensures.value ∙ c.in_ok-message.ensures
+    ∙ ap (spelled p.mode.proto) runs.0 in
+    let none : i.stores.connections.posts ≡ [] = ap (λ (b : BookState). b.posts) c.self.view_is
+    ∙ c.requires.none in
+    let told = told_by keys.limit id p.deed keys.rows in
+    let post = message_post n id (length message) in
+    let sent : c.set_mode.new.self
+    ≡ record { items = switched cs id message p.mode; posts = post ∷ [] } =
+    c.set_mode.ensures
+    ∙ ap (λ (s : ConnectionsState). record {
+      items = with_connection s.items id (record (connection_at s.items id) { mode = p.mode });
+      posts = s.posts;
+    }) c.in_ok-send.ensures.ok
+    ∙ ap (λ x. record {
+      items = switched cs id message p.mode;
+      posts = x ++ message_post n id (length message) ∷ [];
+    }) none in
+    let there = is_id l past space keys cs k id acc.0 in
+    let back : c.set_mode-in-Err.new.self.items ≡ cs =
+    ap (λ (s : ConnectionsState). s.items) c.set_mode-in-Err.ensures
+    ∙ ap (λ x. with_connection x id (record (connection_at x id) { mode = by.mode }))
+    (ap (λ (s : ConnectionsState). s.items) c.take_back.ensures ∙ c.in-Err.ensures.back
+    ∙ ap (λ (s : ConnectionsState). before_posts s.posts s.items) sent)
+    ∙ undone cs id n message p.mode by.mode there c.mode-before.ensures in
     record {
-      agrees = rw (back, c.in-Err.ensures.err, c.reserve.ensures.past) k;
-      room = rw back (record {
-        for_closes = omega (arith, c.self.invariant.room.for_closes, c.reserve.ensures.room);
-        for_posts = omega (arith, c.self.invariant.room.for_posts, c.reserve-2.ensures.capacity);
-      });
+      agrees = rw (back, c.in-Err.ensures.err.0, c.in-Err.ensures.err.1, c.reserve.ensures.past) k;
+      room = rw back (omega (arith, c.self.invariant.room, c.reserve.ensures.room));
     }
 
 pub returns-clause-ok : goal.returns-clause-ok
 returns-clause-ok c =
     let i = c.self.inside in
+    let l = i.limits in
+    let cs = i.stores.connections.items in
+    let keys = i.stores.table in
+    let space = i.stores.space in
     let k = c.self.invariant.agrees in
     let past = i.log.past in
-    let acc = subst (λ (b : BookState). IsAccepted b.limits b.past
-    (Run c.args.id c.args.words c.args.now)) (sym c.self.view_is) c.requires.accepted in
-    let plan = c.in_ok-reply.ensures in
+    let id = c.args.id in
+    let words = c.args.words in
+    let acc = subst (λ (b : BookState). IsAccepted b.limits b.past (Run id words c.args.now))
+    (sym c.self.view_is) c.requires.accepted in
     let m = c.max-moment.result in
-    let e = entry.Run c.args.id c.args.words m in
-    let n : c.len-entry.result ≡ length past =
-    c.len-entry.ensures.len ∙ ap length c.reserve.ensures.past in
-    let message = c.in_ok-message.ensures
-    ∙ ap (λ p. spelled p c.in_ok-reply.field-0.reply) (c.protocol.ensures
-    ∙ ap (λ (b : BookState). protocol c.args.id b.past) (sym c.self.view_is))
-    ∙ ap (spelled (protocol c.args.id past)) (plan.0
-    ∙ ap (λ s. (ran_over s c.args.words m).reply) k.space_is) in
-    let none = c.reserve-2.ensures.items ∙ ap (λ (b : BookState). b.posts) c.self.view_is
+    let e = entry.Run id words m in
+    let n = c.len-entry.result + 1 in
+    let number : n ≡ length past + 1 = omega (arith, c.len-entry.ensures.len) in
+    let p = c.in_ok-reply.field-0 in
+    let by : Runner = record { id = id; mode = c.mode-before.result } in
+    let who : by ≡ runner l past id = ap (λ x. record { id = id; mode = x }) (c.mode-before.ensures
+    ∙ ap (λ x. x.mode) (kept_of l past space keys cs k id acc.0)) in
+    let runs = plan_runs l p words space m past id by c.in_ok-reply.ensures who k.space_is in
+    let message = c.as_slice.result.now in
+    let spelling = c.as_slice.ensures.value ∙ c.in_ok-message.ensures
+    ∙ ap (spelled p.mode.proto) runs.0 in
+    let none : i.stores.connections.posts ≡ [] = ap (λ (b : BookState). b.posts) c.self.view_is
     ∙ c.requires.none in
-    is_turn c.args.self.now i.limits past c.push.new.self.past i.posts.items
-    c.push_reserved.new.self.items e
-    (Run c.args.id c.args.words c.args.now) _ c.self.view_is tt (c.push.ensures.past
-    ∙ ap (λ p. e ∷ p) c.reserve.ensures.past)
-    (run_turned i.limits past c.args.id c.args.now m c.len-entry.result c.args.words acc.0 acc.1 n
+    let told = told_by keys.limit id p.deed keys.rows in
+    let post = message_post n id (length message) in
+    let sent : c.set_mode.new.self
+    ≡ record { items = switched cs id message p.mode; posts = post ∷ [] } =
+    c.set_mode.ensures
+    ∙ ap (λ (s : ConnectionsState). record {
+      items = with_connection s.items id (record (connection_at s.items id) { mode = p.mode });
+      posts = s.posts;
+    }) c.in_ok-send.ensures.ok
+    ∙ ap (λ x. record {
+      items = switched cs id message p.mode;
+      posts = x ++ message_post n id (length message) ∷ [];
+    }) none in
+    let final = c.in-Ok.ensures.told
+    ∙ ap (λ (s : ConnectionsState). with_sendings n (routed (modes_of s.items) told) s) sent in
+    let grown = c.push.ensures.past ∙ ap (λ x. e ∷ x) c.reserve.ensures.past in
+    is_turn c.args.self.now l past c.push.new.self.past i.stores.connections.posts
+    c.carry_out.new.self.connections.posts e (Run id words c.args.now) _ c.self.view_is tt grown
+    (run_turned l past id c.args.now m c.len-entry.result words acc.0 acc.1 c.len-entry.ensures.len
     (c.max-moment.ensures ∙ ap (max c.args.now) c.moment.ensures))
-    (c.push_reserved.ensures.items ∙ ap (λ x. x
-    ++ message_post c.len-entry.result c.args.id c.len-length.result ∷ []) none
-    ∙ posted_run i.limits past c.args.id m c.len-entry.result c.len-length.result c.args.words n
-    (omega (arith, c.len-length.ensures, ap length message)))
+    (ap (λ (s : ConnectionsState). s.posts) final
+    ∙ posted_run l past space keys cs k id m words acc.0 n p.deed p.mode message number runs.2
+    runs.3 runs.4 spelling)

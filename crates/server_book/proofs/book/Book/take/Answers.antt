@@ -1,8 +1,9 @@
 use Rattle.std.proofs.Common.{◌≡◌, ◌∷◌, length, take, sym, ap}
-use Rattle.std.proofs.Common.{subst, ◌∙◌, arith}
+use Rattle.std.proofs.Common.{subst, ◌∙◌, ◌-◌, arith, length-set}
 use Rattle.serial_model.specs.declared.history.Entry.TheVariants as entry
 use Rattle.serial_model.specs.declared.history.BookCall.TheVariants.{Take}
-use Rattle.server_book.specs.BookState.{BookState, IsAccepted}
+use Rattle.server_book.specs.BookState.{BookState, IsAccepted, Agrees}
+use Rattle.server_book.specs.Connections.{ConnectionsState}
 use Rattle.server_book.proofs.BookTurns.{kept_of, is_turn}
 use Rattle.server_book.proofs.BookTurns.{agrees_take}
 use Rattle.server_book.proofs.BookTurns.{room_more}
@@ -14,6 +15,7 @@ use Rattle.server_book.proofs.book.Book.take.Goals as goal
 pub invariant_of-self-2 : goal.invariant_of-self-2
 invariant_of-self-2 c =
     let i = c.self.inside in
+    let cs = i.stores.connections.items in
     let k = c.self.invariant.agrees in
     let past = i.log.past in
     let acc = subst (λ (b : BookState). IsAccepted b.limits b.past (Take c.args.id c.args.most))
@@ -21,18 +23,22 @@ invariant_of-self-2 c =
     let e = entry.Take c.args.id c.args.most in
     let grown = c.push.ensures.past ∙ ap (λ p. e ∷ p) c.reserve.ensures.past in
     record {
-      agrees = rw (grown, c.advance.ensures)
-          (agrees_take i.limits past i.space i.connections k c.args.id c.args.most acc.0 acc.1
-          (takes_some c.args.most _ c.requires.most acc.2));
-      room = room_more c.push.new.self.room _ c.args.id i.connections c.advance.new.self _
-          c.advance.ensures
-          (omega (arith, c.in_ok-reserve.ensures.ok, c.push.ensures.room, c.count.ensures.count))
-          c.self.invariant.room.for_posts;
+      agrees = subst (λ p. Agrees i.limits p i.stores.space i.stores.table
+          c.advance.new.self.items) (sym grown)
+          (subst (λ (s : ConnectionsState). Agrees i.limits (e ∷ past) i.stores.space
+          i.stores.table s.items) (sym c.advance.ensures)
+          (agrees_take i.limits past i.stores.space i.stores.table cs k c.args.id c.args.most acc.0
+          acc.1 (takes_some c.args.most _ c.requires.most acc.2)));
+      room = room_more c.push.new.self.room cs c.advance.new.self.items
+          (ap (λ (s : ConnectionsState). length s.items) c.advance.ensures
+          ∙ length-set cs (c.args.id - 1) _)
+          (omega (arith, c.in_ok-reserve.ensures.ok, c.push.ensures.room, c.count.ensures.count));
     }
 
 pub returns-clause-ok : goal.returns-clause-ok
 returns-clause-ok c =
     let i = c.self.inside in
+    let cs = i.stores.connections.items in
     let k = c.self.invariant.agrees in
     let past = i.log.past in
     let acc = subst (λ (b : BookState). IsAccepted b.limits b.past (Take c.args.id c.args.most))
@@ -41,13 +47,15 @@ returns-clause-ok c =
     let n : c.len-entry.result ≡ length past =
     c.len-entry.ensures.len ∙ ap length c.reserve.ensures.past in
     let front = c.in_ok-bytes.ensures
-    ∙ ap (λ x. take c.args.most x.queue) (kept_of i.limits past i.space i.connections k
-    c.args.id acc.0) in
-    is_turn c.args.self.now i.limits past c.push.new.self.past i.posts.items i.posts.items e
+    ∙ ap (λ x. take c.args.most x.queue) (kept_of i.limits past i.stores.space
+    i.stores.table cs k c.args.id acc.0) in
+    is_turn c.args.self.now i.limits past c.push.new.self.past i.stores.connections.posts
+    c.advance.new.self.posts e
     (Take c.args.id c.args.most) _ c.self.view_is tt
     (c.push.ensures.past ∙ ap (λ p. e ∷ p) c.reserve.ensures.past)
     (take_turned i.limits past c.args.id c.args.most c.len-entry.result c.in_ok-bytes.bytes acc.0
     acc.1 n front
     (rw front (take_some c.args.most _ c.requires.most acc.2)))
-    (ap (λ (b : BookState). b.posts) c.self.view_is ∙ c.requires.none
+    (ap (λ (s : ConnectionsState). s.posts) c.advance.ensures
+    ∙ ap (λ (b : BookState). b.posts) c.self.view_is ∙ c.requires.none
     ∙ posted_take i.limits past c.args.id c.args.most)

@@ -1,0 +1,233 @@
+-- What a step of the table leaves of a key's holders, and that these are told of it.
+use Rattle.std.proofs.Common.{◌≡◌, ℕ, List, [], ◌∷◌, Bool, true, false, cond, length, take, drop}
+use Rattle.std.proofs.Common.{refl, ap, sym, ◌∙◌, arith, inl, inr}
+use Rattle.std.specs.Prelude.{◌==◌, ◌&&◌, ◌||◌, not, nat_lt}
+use Prim.Native.Nat.{zero, suc}
+use Rattle.std.specs.List.{list_any}
+use Rattle.std.specs.Str.{bytes_eq}
+use Rattle.std.proofs.lemmas.Slice.Eq.{bytes_eq-Decides}
+use Rattle.std.proofs.lemmas.Bool.{eqb-true, eq-eqb, or_parts, or_left, or_right, or_cases}
+use Rattle.std.proofs.lemmas.Bool.{and_from}
+use Rattle.std.proofs.lemmas.Bool.Decides.{nat_tests}
+use Rattle.std.proofs.lemmas.List.Folds.{list_any-append}
+use Rattle.track_table.specs.declared.table.Held.{Held}
+use Rattle.track_table.specs.Table.{holders_of, with_holder, without_holder, is_held, remembered}
+use Rattle.track_table.specs.Table.{without_key, freed_of, without_connection}
+use Rattle.track_table.proofs.Orders.{holders_remembered}
+use Rattle.serial_model.specs.Modes.{Memory, Remembers, Forgets}
+use Rattle.serial_model.specs.Tracking.{without_keys, with_keys, remembering, told_of, group}
+use Rattle.serial_model.specs.Tracking.{drop_group, tells}
+use Rattle.serial_model.specs.Laws.{is_among, is_forgets}
+
+abbrev pub holds : ℕ → List ℕ → Bool
+holds c ids = list_any (λ h. h == c) ids
+
+same_bytes : (a b : List ℕ) → bytes_eq a b ≡ true → a ≡ b
+same_bytes a b e = (bytes_eq-Decides a b).0 e
+
+itself : (a : List ℕ) → bytes_eq a a ≡ true
+itself a = (bytes_eq-Decides a a).1 refl
+
+or_keeps : (a b d : Bool) → (b ≡ true → d ≡ true) → (a || b) ≡ true → (a || d) ≡ true
+or_keeps true b d f h = refl
+or_keeps false b d f h = f h
+
+module _ (c : ℕ) where
+  with_keeps : (id : ℕ) (ids : List ℕ) → holds c ids ≡ true → holds c (with_holder id ids) ≡ true
+  with_keeps id [] h = absurd (let no : ⊥ = cc in no)
+  with_keeps id (x ∷ xs) h =
+      elim (nat_lt x id) as (λ b. holds c (cond b (x ∷ with_holder id xs)
+      (cond (x == id) (x ∷ xs) (id ∷ x ∷ xs))) ≡ true) [
+        | true ↦ or_keeps (x == c) (holds c xs) (holds c (with_holder id xs)) (with_keeps id xs) h
+        | false ↦ elim (x == id) as (λ b. holds c (cond b (x ∷ xs) (id ∷ x ∷ xs)) ≡ true) [
+          | true ↦ h
+          | false ↦ or_right (id == c) (holds c (x ∷ xs)) h
+        ]
+      ]
+
+  with_itself : (ids : List ℕ) → holds c (with_holder c ids) ≡ true
+  with_itself [] = or_left (c == c) false (eq-eqb c c refl)
+  with_itself (x ∷ xs) =
+      elim (nat_lt x c) as (λ b. holds c (cond b (x ∷ with_holder c xs)
+      (cond (x == c) (x ∷ xs) (c ∷ x ∷ xs))) ≡ true) [
+        | true ↦ or_right (x == c) (holds c (with_holder c xs)) (with_itself xs)
+        | false ↦ elim (x == c) as (λ b. (x == c) ≡ b
+            → holds c (cond b (x ∷ xs) (c ∷ x ∷ xs)) ≡ true) [
+              | true ↦ λ e. or_left (x == c) (holds c xs) e
+              | false ↦ λ e. or_left (c == c) (holds c (x ∷ xs)) (eq-eqb c c refl)
+            ] refl
+      ]
+
+  without_keeps : (id : ℕ) (ids : List ℕ) → (id == c) ≡ false → holds c ids ≡ true
+      → holds c (without_holder id ids) ≡ true
+  without_keeps id [] other h = absurd (let no : ⊥ = cc in no)
+  without_keeps id (x ∷ xs) other h =
+      elim (x == id) as (λ b. (x == id) ≡ b
+      → holds c (cond (not b) (x ∷ without_holder id xs) (without_holder id xs)) ≡ true) [
+        | true ↦ λ e. without_keeps id xs other
+            (sym (ap (λ b. b || holds c xs) (ap (λ i. i == c) (eqb-true x id e) ∙ other)) ∙ h)
+        | false ↦ λ e. or_keeps (x == c) (holds c xs) (holds c (without_holder id xs))
+            (without_keeps id xs other) h
+      ] refl
+
+  some_held : (ids : List ℕ) → holds c ids ≡ true → not (length ids == 0) ≡ true
+  some_held [] h = absurd (let no : ⊥ = cc in no)
+  some_held (x ∷ xs) h = grind (arith, nat_tests)
+
+  module _ (key : List ℕ) where
+    key_apart : (k : List ℕ) (rows : List Held) → bytes_eq key k ≡ false
+        → holders_of key (without_key k rows) ≡ holders_of key rows
+    key_apart k [] other = refl
+    key_apart k (r ∷ rs) other =
+        elim (bytes_eq k r.key) as (λ b. bytes_eq k r.key ≡ b
+        → holders_of key (cond (not b) (r ∷ without_key k rs) (without_key k rs))
+        ≡ holders_of key (r ∷ rs)) [
+          | true ↦ λ e. key_apart k rs other
+              ∙ sym (ap (λ b. cond b r.holders (holders_of key rs))
+              (ap (bytes_eq key) (sym (same_bytes k r.key e)) ∙ other))
+          | false ↦ λ e. ap (λ x. cond (bytes_eq key r.key) r.holders x) (key_apart k rs other)
+        ] refl
+
+    -- the keys of a group leave the holders of another key
+    pub keys_apart : (keys : List (List ℕ)) (rows : List Held) → is_among keys key ≡ false
+        → holders_of key (without_keys keys rows) ≡ holders_of key rows
+    keys_apart [] rows h = refl
+    keys_apart (k ∷ keys) rows h =
+        let p = or_parts (bytes_eq key k) (is_among keys key) h in
+        keys_apart keys (without_key k rows) p.1 ∙ key_apart k rows p.0
+
+    remembered_keeps : (id : ℕ) (k : List ℕ) (rows : List Held)
+        → holds c (holders_of key rows) ≡ true
+        → holds c (holders_of key (remembered id k rows)) ≡ true
+    remembered_keeps id k rows h =
+        ap (holds c) (holders_remembered key id k rows)
+        ∙ elim (bytes_eq key k) as (λ b. bytes_eq key k ≡ b
+        → holds c (cond b (with_holder id (holders_of k rows)) (holders_of key rows)) ≡ true) [
+          | true ↦ λ e. with_keeps id (holders_of k rows)
+              (ap (λ q. holds c (holders_of q rows)) (sym (same_bytes key k e)) ∙ h)
+          | false ↦ λ e. h
+        ] refl
+
+    pub remembered_own : (rows : List Held)
+        → holds c (holders_of key (remembered c key rows)) ≡ true
+    remembered_own rows =
+        ap (holds c) (holders_remembered key c key rows)
+        ∙ ap (λ b. holds c (cond b (with_holder c (holders_of key rows)) (holders_of key rows)))
+        (itself key)
+        ∙ with_itself (holders_of key rows)
+
+    with_keys_keeps : (id : ℕ) (keys : List (List ℕ)) (rows : List Held)
+        → holds c (holders_of key rows) ≡ true
+        → holds c (holders_of key (with_keys id keys rows)) ≡ true
+    with_keys_keeps id [] rows h = h
+    with_keys_keeps id (k ∷ keys) rows h =
+        with_keys_keeps id keys (remembered id k rows) (remembered_keeps id k rows h)
+
+    first_stays : (id : ℕ) (r : Held) (rest : List Held) → bytes_eq key r.key ≡ true
+        → holds c (without_holder id r.holders) ≡ true
+        → holds c (holders_of key (cond (is_held (freed_of id r)) (freed_of id r ∷ rest) rest))
+        ≡ true
+    first_stays id r rest is h =
+        ap (λ b. holds c (holders_of key (cond b (freed_of id r ∷ rest) rest)))
+        (some_held (without_holder id r.holders) h)
+        ∙ ap (λ b. holds c (cond b (without_holder id r.holders) (holders_of key rest))) is ∙ h
+
+    later_stays : (id : ℕ) (r : Held) (rest : List Held) → bytes_eq key r.key ≡ false
+        → holds c (holders_of key rest) ≡ true
+        → holds c (holders_of key (cond (is_held (freed_of id r)) (freed_of id r ∷ rest) rest))
+        ≡ true
+    later_stays id r rest other h =
+        elim (is_held (freed_of id r)) as (λ b. holds c
+        (holders_of key (cond b (freed_of id r ∷ rest) rest)) ≡ true) [
+          | true ↦ ap (λ b. holds c (cond b (without_holder id r.holders) (holders_of key rest)))
+              other ∙ h
+          | false ↦ h
+        ]
+
+    -- another connection that is freed leaves the key to this one
+    pub without_other : (id : ℕ) (rows : List Held) → (id == c) ≡ false
+        → holds c (holders_of key rows) ≡ true
+        → holds c (holders_of key (without_connection id rows)) ≡ true
+    without_other id [] other h = h
+    without_other id (r ∷ rs) other h =
+        elim (bytes_eq key r.key) as (λ b. bytes_eq key r.key ≡ b
+        → holds c (cond b r.holders (holders_of key rs)) ≡ true
+        → holds c (holders_of key (without_connection id (r ∷ rs))) ≡ true) [
+          | true ↦ λ e f. first_stays id r (without_connection id rs) e
+              (without_keeps id r.holders other f)
+          | false ↦ λ e f. later_stays id r (without_connection id rs) e
+              (without_other id rs other f)
+        ] refl h
+
+    -- the key stays the connection's, unless it is the one that forgets
+    pub remembering_keeps : (id : ℕ) (memory : Memory) (rows : List Held)
+        → ((id == c) && is_forgets memory) ≡ false → holds c (holders_of key rows) ≡ true
+        → holds c (holders_of key (remembering id memory rows)) ≡ true
+    remembering_keeps id (Remembers keys) rows other h = with_keys_keeps id keys rows h
+    remembering_keeps id Forgets rows other h =
+        without_other id rows (and_true (id == c) other) h
+      where
+        and_true : (b : Bool) → (b && true) ≡ false → b ≡ false
+        and_true true e = e
+        and_true false e = refl
+
+    -- ---- of the keys past the limit, and those within
+
+    -- a key is among those that are dropped, or its holders stay
+    pub dropped_or_kept : (n : ℕ) (rows : List Held) → holds c (holders_of key rows) ≡ true
+        → (list_any (λ r. bytes_eq key r.key) (take n rows)
+        || holds c (holders_of key (drop n rows))) ≡ true
+    dropped_or_kept zero rows h = h
+    dropped_or_kept (suc n) [] h = absurd (let no : ⊥ = cc in no)
+    dropped_or_kept (suc n) (r ∷ rs) h =
+        elim (bytes_eq key r.key) as (λ b. holds c (cond b r.holders (holders_of key rs)) ≡ true
+        → ((b || list_any (λ r. bytes_eq key r.key) (take n rs))
+        || holds c (holders_of key (drop n rs))) ≡ true)
+        [ true ↦ λ f. refl | false ↦ λ f. dropped_or_kept n rs f ] h
+
+    -- ---- it is told of the key
+
+    told_tells : (k : List ℕ) (ids : List ℕ) → bytes_eq key k ≡ true → holds c ids ≡ true
+        → list_any (tells c key) (told_of k ids) ≡ true
+    told_tells k [] same h = absurd (let no : ⊥ = cc in no)
+    told_tells k (x ∷ xs) same h = elim (or_cases (x == c) (holds c xs) h) [
+      | inl e ↦ or_left ((x == c) && (bytes_eq key k || false))
+          (list_any (tells c key) (told_of k xs))
+          (and_from (x == c) (bytes_eq key k || false) e (or_left (bytes_eq key k) false same))
+      | inr e ↦ or_right ((x == c) && (bytes_eq key k || false))
+          (list_any (tells c key) (told_of k xs)) (told_tells k xs same e)
+    ]
+
+    pub drop_tells : (n : ℕ) (rows : List Held) → holds c (holders_of key rows) ≡ true
+        → list_any (λ r. bytes_eq key r.key) (take n rows) ≡ true
+        → list_any (tells c key) (drop_group (take n rows)) ≡ true
+    drop_tells zero rows h some = absurd (let no : ⊥ = cc in no)
+    drop_tells (suc n) [] h some = absurd (let no : ⊥ = cc in no)
+    drop_tells (suc n) (r ∷ rs) h some =
+        let told = list_any (tells c key) (told_of r.key r.holders) in
+        let rest = list_any (tells c key) (drop_group (take n rs)) in
+        list_any-append (tells c key) (told_of r.key r.holders) (drop_group (take n rs))
+        ∙ elim (bytes_eq key r.key) as (λ b. bytes_eq key r.key ≡ b
+        → holds c (cond b r.holders (holders_of key rs)) ≡ true
+        → (b || list_any (λ r. bytes_eq key r.key) (take n rs)) ≡ true
+        → (told || rest) ≡ true) [
+          | true ↦ λ e f g. or_left told rest (told_tells r.key r.holders e f)
+          | false ↦ λ e f g. or_right told rest (drop_tells n rs f g)
+        ] refl h some
+
+    pub group_tells : (keys : List (List ℕ)) (rows : List Held) → is_among keys key ≡ true
+        → holds c (holders_of key rows) ≡ true
+        → list_any (tells c key) (group keys rows) ≡ true
+    group_tells [] rows among h = absurd (let no : ⊥ = cc in no)
+    group_tells (k ∷ keys) rows among h =
+        let told = list_any (tells c key) (told_of k (holders_of k rows)) in
+        let rest = list_any (tells c key) (group keys (without_key k rows)) in
+        list_any-append (tells c key) (told_of k (holders_of k rows))
+        (group keys (without_key k rows))
+        ∙ elim (bytes_eq key k) as (λ b. bytes_eq key k ≡ b → (b || is_among keys key) ≡ true
+        → (told || rest) ≡ true) [
+          | true ↦ λ e g. or_left told rest (told_tells k (holders_of k rows) e
+              (ap (λ q. holds c (holders_of q rows)) (sym (same_bytes key k e)) ∙ h))
+          | false ↦ λ e g. or_right told rest (group_tells keys (without_key k rows) g
+              (ap (holds c) (key_apart k rows e) ∙ h))
+        ] refl among

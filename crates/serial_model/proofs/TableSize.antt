@@ -1,0 +1,58 @@
+-- The table has at most as many keys as its limit.
+use Rattle.std.proofs.Common.{◌≡◌, ◌≤◌, ◌-◌, ℕ, List, [], ◌∷◌, Bool, true, false, cond, length, map}
+use Rattle.std.proofs.Common.{refl, ap, arith}
+use Rattle.std.specs.Prelude.{not, filter}
+use Prim.Native.Nat.{suc}
+use Rattle.std.specs.Str.{bytes_eq}
+use Rattle.std.proofs.lemmas.List.{length-drop}
+use Rattle.track_table.specs.declared.table.Held.{Held}
+use Rattle.track_table.specs.Table.{is_held, without_key, freed_of, without_connection}
+use Rattle.serial_model.specs.declared.history.Limits.{Limits}
+use Rattle.serial_model.specs.declared.history.Entry.{Entry}
+use Rattle.serial_model.specs.declared.history.Entry.TheVariants.{Admit, Run, Take, Close}
+use Rattle.serial_model.specs.Tracking.{without_keys, kept}
+use Rattle.serial_model.specs.History.{table, table_then, table_grown, expired}
+
+module _ (p : Held → Bool) where
+  filter_within : (rows : List Held) → length (filter p rows) ≤ length rows
+  filter_within [] = omega arith
+  filter_within (r ∷ rs) =
+      let rest = filter_within rs in
+      elim (p r) as (λ b. length (cond b (r ∷ filter p rs) (filter p rs)) ≤ length (r ∷ rs))
+      [ true ↦ omega arith | false ↦ omega arith ]
+
+length_freed : (id : ℕ) (rows : List Held) → length (map (freed_of id) rows) ≡ length rows
+length_freed id [] = refl
+length_freed id (r ∷ rs) = ap suc (length_freed id rs)
+
+pub without_within : (id : ℕ) (rows : List Held)
+    → length (without_connection id rows) ≤ length rows
+without_within id rows =
+    let f = filter_within is_held (map (freed_of id) rows) in
+    let e = length_freed id rows in omega arith
+
+pub without_keys_within : (keys : List (List ℕ)) (rows : List Held)
+    → length (without_keys keys rows) ≤ length rows
+without_keys_within [] rows = omega arith
+without_keys_within (key ∷ keys) rows =
+    let f = filter_within (λ r. not (bytes_eq key r.key)) rows in
+    let g = without_keys_within keys (without_key key rows) in omega arith
+
+module _ (l : Limits) where
+  kept_within : (limit : ℕ) (rows : List Held) → length (kept limit rows) ≤ limit
+  kept_within limit rows =
+      let e = length-drop (length rows - limit) rows in omega arith
+
+  pub table_within : (past : List Entry) → length (table l past) ≤ l.table_max
+  table_within [] = omega arith
+  table_within (Admit id ∷ past) = table_within past
+  table_within (Run id words m ∷ past) = kept_within l.table_max (table_grown l past id words m)
+  table_within (Take id max ∷ past) = table_within past
+  table_within (Close id ∷ past) =
+      let w = table_within past in let f = without_within id (table l past) in omega arith
+
+  pub table_then_within : (past : List Entry) (m : ℕ)
+      → length (table_then l past m) ≤ l.table_max
+  table_then_within past m =
+      let w = table_within past in
+      let f = without_keys_within (expired l past m) (table l past) in omega arith

@@ -1,0 +1,202 @@
+-- What holds of all holders of all remembered keys, and so of all who are told.
+use Rattle.std.proofs.Common.{◌≡◌, ◌-◌, ℕ, zero, suc, List, [], ◌∷◌, ◌++◌}
+use Rattle.std.proofs.Common.{Bool, true, false}
+use Rattle.std.proofs.Common.{cond, length, map, take, drop, refl, ap, ◌∙◌}
+use Rattle.std.specs.Prelude.{◌==◌, not, filter, nat_lt}
+use Rattle.std.specs.Str.{bytes_eq}
+use Rattle.resp_value.specs.declared.value.Proto.{Proto}
+use Rattle.resp_value.specs.declared.value.Proto.TheVariants.{Two, Three}
+use Rattle.track_table.specs.declared.table.Held.{Held}
+use Rattle.track_table.specs.Table.{with_holder, without_holder, is_held, holders_of, remembered}
+use Rattle.track_table.specs.Table.{without_key, freed_of, without_connection}
+use Rattle.serial_model.specs.declared.mode.Mode.{Mode}
+use Rattle.serial_model.specs.Modes.{Memory, Remembers, Forgets}
+use Rattle.serial_model.specs.Tracking.{without_keys, with_keys, remembering, dropped, kept}
+use Rattle.serial_model.specs.Tracking.{Invalidation, told_of, group, drop_group, push_of}
+use Rattle.serial_model.specs.History.{Sending, Message, sent_to, by_proto, route, routed}
+
+unfoldable pub AllIn : (ℕ → Type 0) → List ℕ → Type 0
+AllIn P [] = Unit {0}
+AllIn P (h ∷ hs) = P h × AllIn P hs
+
+unfoldable pub AllRows : (ℕ → Type 0) → List Held → Type 0
+AllRows P [] = Unit {0}
+AllRows P (r ∷ rs) = AllIn P r.holders × AllRows P rs
+
+unfoldable pub AllTo : (ℕ → Type 0) → List Invalidation → Type 0
+AllTo P [] = Unit {0}
+AllTo P (i ∷ told) = P i.to × AllTo P told
+
+module _ {P Q : ℕ → Type 0} (f : (h : ℕ) → P h → Q h) where
+  all_in : (hs : List ℕ) → AllIn P hs → AllIn Q hs
+  unfolding AllIn
+  all_in [] a = tt
+  all_in (h ∷ hs) a = (f h a.0, all_in hs a.1)
+
+  pub all_rows : (rows : List Held) → AllRows P rows → AllRows Q rows
+  unfolding AllRows
+  all_rows [] a = tt
+  all_rows (r ∷ rs) a = (all_in r.holders a.0, all_rows rs a.1)
+
+  pub all_to : (told : List Invalidation) → AllTo P told → AllTo Q told
+  unfolding AllTo
+  all_to [] a = tt
+  all_to (i ∷ told) a = (f i.to a.0, all_to told a.1)
+
+module _ (P : ℕ → Type 0) where
+  in_if : (b : Bool) (xs ys : List ℕ) → AllIn P xs → AllIn P ys → AllIn P (cond b xs ys)
+  in_if true xs ys a b = a
+  in_if false xs ys a b = b
+
+  with_holder_all : (id : ℕ) (hs : List ℕ) → P id → AllIn P hs → AllIn P (with_holder id hs)
+  unfolding AllIn
+  with_holder_all id [] p a = (p, tt)
+  with_holder_all id (h ∷ hs) p a =
+      in_if (nat_lt h id) (h ∷ with_holder id hs) (cond (h == id) (h ∷ hs) (id ∷ h ∷ hs))
+      (a.0, with_holder_all id hs p a.1) (in_if (h == id) (h ∷ hs) (id ∷ h ∷ hs) a (p, a))
+
+  rows_if : (b : Bool) (xs ys : List Held) → AllRows P xs → AllRows P ys → AllRows P (cond b xs ys)
+  rows_if true xs ys a b = a
+  rows_if false xs ys a b = b
+
+  remembered_all : (id : ℕ) (key : List ℕ) (rows : List Held) → P id → AllRows P rows
+      → AllRows P (remembered id key rows)
+  unfolding AllRows AllIn
+  remembered_all id key [] p a = ((p, tt), tt)
+  remembered_all id key (r ∷ rs) p a =
+      rows_if (bytes_eq key r.key) (record r { holders = with_holder id r.holders } ∷ rs)
+      (r ∷ remembered id key rs)
+      (with_holder_all id r.holders p a.0, a.1) (a.0, remembered_all id key rs p a.1)
+
+  with_keys_all : (id : ℕ) (keys : List (List ℕ)) (rows : List Held) → P id → AllRows P rows
+      → AllRows P (with_keys id keys rows)
+  with_keys_all id [] rows p a = a
+  with_keys_all id (key ∷ keys) rows p a =
+      with_keys_all id keys (remembered id key rows) p (remembered_all id key rows p a)
+
+  filter_all : (p : Held → Bool) (rows : List Held) → AllRows P rows → AllRows P (filter p rows)
+  unfolding AllRows
+  filter_all p [] a = tt
+  filter_all p (r ∷ rs) a =
+      rows_if (p r) (r ∷ filter p rs) (filter p rs) (a.0, filter_all p rs a.1)
+      (filter_all p rs a.1)
+
+  pub without_keys_all : (keys : List (List ℕ)) (rows : List Held) → AllRows P rows
+      → AllRows P (without_keys keys rows)
+  without_keys_all [] rows a = a
+  without_keys_all (key ∷ keys) rows a =
+      without_keys_all keys (without_key key rows)
+      (filter_all (λ r. not (bytes_eq key r.key)) rows a)
+
+  others : ℕ → ℕ → Type 0
+  others id h = P h × ((h == id) ≡ false)
+
+  freed_in : (id : ℕ) (hs : List ℕ) → AllIn P hs → AllIn (others id) (without_holder id hs)
+  unfolding AllIn others
+  freed_in id [] a = tt
+  freed_in id (h ∷ hs) a =
+      elim (h == id) as (λ b. (h == id) ≡ b
+      → AllIn (others id) (cond (not b) (h ∷ without_holder id hs) (without_holder id hs))) [
+        | true ↦ λ e. freed_in id hs a.1
+        | false ↦ λ e. ((a.0, e), freed_in id hs a.1)
+      ] refl
+
+  freed_rows : (id : ℕ) (rows : List Held) → AllRows P rows
+      → AllRows (others id) (map (freed_of id) rows)
+  unfolding AllRows
+  freed_rows id [] a = tt
+  freed_rows id (r ∷ rs) a = (freed_in id r.holders a.0, freed_rows id rs a.1)
+
+  drop_rows : (n : ℕ) (rows : List Held) → AllRows P rows → AllRows P (drop n rows)
+  unfolding AllRows
+  drop_rows zero rows a = a
+  drop_rows (suc n) [] a = tt
+  drop_rows (suc n) (r ∷ rs) a = drop_rows n rs a.1
+
+  take_rows : (n : ℕ) (rows : List Held) → AllRows P rows → AllRows P (take n rows)
+  unfolding AllRows
+  take_rows zero rows a = tt
+  take_rows (suc n) [] a = tt
+  take_rows (suc n) (r ∷ rs) a = (a.0, take_rows n rs a.1)
+
+  pub kept_all : (limit : ℕ) (rows : List Held) → AllRows P rows → AllRows P (kept limit rows)
+  kept_all limit rows a = drop_rows (length rows - limit) rows a
+
+  pub dropped_all : (limit : ℕ) (rows : List Held) → AllRows P rows → AllRows P (dropped limit rows)
+  dropped_all limit rows a = take_rows (length rows - limit) rows a
+
+  -- ---- who is told
+
+  holders_all : (key : List ℕ) (rows : List Held) → AllRows P rows → AllIn P (holders_of key rows)
+  unfolding AllRows AllIn
+  holders_all key [] a = tt
+  holders_all key (r ∷ rs) a =
+      in_if (bytes_eq key r.key) r.holders (holders_of key rs) a.0 (holders_all key rs a.1)
+
+  told_all : (key : List ℕ) (hs : List ℕ) → AllIn P hs → AllTo P (told_of key hs)
+  unfolding AllIn AllTo
+  told_all key [] a = tt
+  told_all key (h ∷ hs) a = (a.0, told_all key hs a.1)
+
+  pub to_append : (xs ys : List Invalidation) → AllTo P xs → AllTo P ys → AllTo P (xs ++ ys)
+  unfolding AllTo
+  to_append [] ys a b = b
+  to_append (x ∷ xs) ys a b = (a.0, to_append xs ys a.1 b)
+
+  pub group_all : (keys : List (List ℕ)) (rows : List Held) → AllRows P rows
+      → AllTo P (group keys rows)
+  unfolding AllTo
+  group_all [] rows a = tt
+  group_all (key ∷ keys) rows a =
+      to_append (told_of key (holders_of key rows)) (group keys (without_key key rows))
+      (told_all key (holders_of key rows) (holders_all key rows a))
+      (group_all keys (without_key key rows) (filter_all (λ r. not (bytes_eq key r.key)) rows a))
+
+  pub drop_group_all : (rows : List Held) → AllRows P rows → AllTo P (drop_group rows)
+  unfolding AllTo AllRows
+  drop_group_all [] a = tt
+  drop_group_all (r ∷ rs) a =
+      to_append (told_of r.key r.holders) (drop_group rs) (told_all r.key r.holders a.0)
+      (drop_group_all rs a.1)
+
+-- what a connection remembers after its command: all others as before
+pub remembering_all : (P Q : ℕ → Type 0) (id : ℕ) (memory : Memory) (rows : List Held)
+    → P id → AllRows P rows → AllRows P (remembering id memory rows)
+unfolding others
+remembering_all P Q id (Remembers keys) rows p a = with_keys_all P id keys rows p a
+remembering_all P Q id Forgets rows p a =
+    all_rows {P = others P id} {Q = P} (λ h x. x.0) (without_connection id rows)
+    (filter_all (others P id) is_held (map (freed_of id) rows) (freed_rows P id rows a))
+
+pub freed_all : (P : ℕ → Type 0) (id : ℕ) (rows : List Held) → AllRows P rows
+    → AllRows (λ h. P h × ((h == id) ≡ false)) (without_connection id rows)
+unfolding others
+freed_all P id rows a =
+    filter_all (others P id) is_held (map (freed_of id) rows) (freed_rows P id rows a)
+
+-- ---- what is sent to one
+
+pub sent_to-append : (n c : ℕ) (xs ys : List (ℕ × Sending))
+    → sent_to n c (xs ++ ys) ≡ sent_to n c xs ++ sent_to n c ys
+sent_to-append n c [] ys = refl
+sent_to-append n c (x ∷ xs) ys =
+    elim (x.0 == c) as (λ b. cond b ((n, x.1) ∷ sent_to n c (xs ++ ys)) (sent_to n c (xs ++ ys))
+    ≡ (cond b ((n, x.1) ∷ sent_to n c xs) (sent_to n c xs)) ++ sent_to n c ys) [
+      | true ↦ ap (λ l. (n, x.1) ∷ l) (sent_to-append n c xs ys)
+      | false ↦ sent_to-append n c xs ys
+    ]
+
+route_none : (n c : ℕ) (proto : Proto) (i : Invalidation) → (i.to == c) ≡ false
+    → sent_to n c (by_proto proto i) ≡ []
+route_none n c Two i h = refl
+route_none n c Three i h = ap (λ b. cond b ((n, Message Three (push_of i.keys)) ∷ []) []) h
+
+-- one that none of these are for is sent nothing
+pub routed_none : (n c : ℕ) (modes : ℕ → Mode) (told : List Invalidation)
+    → AllTo (λ h. (h == c) ≡ false) told → sent_to n c (routed modes told) ≡ []
+unfolding AllTo
+routed_none n c modes [] a = refl
+routed_none n c modes (i ∷ told) a =
+    sent_to-append n c (route (modes i.to) i) (routed modes told)
+    ∙ ap (λ l. l ++ sent_to n c (routed modes told)) (route_none n c (modes i.to).proto i a.0)
+    ∙ routed_none n c modes told a.1

@@ -1,0 +1,74 @@
+-- Which keys the connections remember, and whom a change of them is told, in order (the client-side
+-- caching reference; the order inside a group is this project's).
+use Rattle.std.specs.Prelude.{◌-◌, ◌==◌, ◌&&◌, ℕ, List, [], ◌∷◌, ◌++◌, Bool, true}
+use Rattle.std.specs.Prelude.{Option, Some, None, length, take, drop, map, codes}
+use Rattle.std.specs.List.{list_any}
+use Rattle.std.specs.Str.{bytes_eq}
+use Rattle.resp_value.specs.declared.value.Value.{Value}
+use Rattle.resp_value.specs.declared.value.Value.TheVariants.{Push}
+use Rattle.resp_value.specs.Tree.{Tree, blob, array, null, trees_of}
+use Rattle.track_table.specs.declared.table.Held.{Held}
+use Rattle.track_table.specs.Table.{holders_of, remembered, without_key, without_connection}
+use Rattle.serial_model.specs.Modes.{Memory, Remembers, Forgets}
+
+-- ---- what is remembered: keys in order of age, each with its holders
+
+abbrev pub without_keys : List (List ℕ) → List Held → List Held
+without_keys [] rows = rows
+without_keys (key ∷ keys) rows = without_keys keys (without_key key rows)
+
+-- a connection remembers these keys too: of those that are new the first is the oldest
+abbrev pub with_keys : ℕ → List (List ℕ) → List Held → List Held
+with_keys id [] rows = rows
+with_keys id (key ∷ keys) rows = with_keys id keys (remembered id key rows)
+
+-- what a connection remembers after its command
+abbrev pub remembering : ℕ → Memory → List Held → List Held
+remembering id (Remembers keys) rows = with_keys id keys rows
+remembering id Forgets rows = without_connection id rows
+
+-- of more keys than the limit the oldest are dropped
+abbrev pub dropped : ℕ → List Held → List Held
+dropped limit rows = take (length rows - limit) rows
+
+abbrev pub kept : ℕ → List Held → List Held
+kept limit rows = drop (length rows - limit) rows
+
+-- ---- who is told
+
+-- a connection that tracks is told that these keys, or all, are not what they were
+pub record Invalidation : Type 0 where
+  pub to : ℕ
+  pub keys : Option (List (List ℕ))
+
+-- a key's holders are told of it, one key a message
+abbrev pub told_of : List ℕ → List ℕ → List Invalidation
+told_of key [] = []
+told_of key (id ∷ ids) = record { to = id; keys = Some (key ∷ []) } ∷ told_of key ids
+
+-- a group of keys: key by key its holders are told, and then it is forgotten
+abbrev pub group : List (List ℕ) → List Held → List Invalidation
+group [] rows = []
+group (key ∷ keys) rows = told_of key (holders_of key rows) ++ group keys (without_key key rows)
+
+-- the holders of keys that were dropped
+abbrev pub drop_group : List Held → List Invalidation
+drop_group [] = []
+drop_group (row ∷ rows) = told_of row.key row.holders ++ drop_group rows
+
+-- the keys of an invalidation, or null for all
+abbrev pub named : Option (List (List ℕ)) → Tree
+named (Some keys) = array (trees_of (map blob keys))
+named None = null
+
+-- what it says
+abbrev pub push_of : Option (List (List ℕ)) → Value
+push_of keys = Push (blob (codes "invalidate") ∷ named keys ∷ [])
+
+abbrev pub names_key : Option (List (List ℕ)) → List ℕ → Bool
+names_key (Some keys) key = list_any (bytes_eq key) keys
+names_key None key = true
+
+-- it tells this connection of this key
+abbrev pub tells : ℕ → List ℕ → Invalidation → Bool
+tells c key i = (i.to == c) && names_key i.keys key

@@ -1,0 +1,269 @@
+-- Remembered keys whose holders are there, and what is told of those that are pushed out.
+use Rattle.std.proofs.Common.{◌≡◌, ◌+◌, ◌-◌, ◌≤◌, ℕ, List, [], ◌∷◌, length, take, drop}
+use Rattle.std.proofs.Common.{sym, ap, subst, ◌∙◌, refl, arith, Bool, true, false, cond, map}
+use Rattle.std.proofs.Common.{append-nil, Some, None}
+use Rattle.std.specs.Prelude.{◌==◌, nat_lt, not, filter}
+use Rattle.std.specs.Str.{bytes_eq}
+use Rattle.std.proofs.lemmas.Slice.Eq.{bytes_eq-Decides}
+use Rattle.std.proofs.lemmas.Bool.Decides.{nat_tests}
+use Rattle.std.proofs.lemmas.List.{length-map}
+use Rattle.track_table.specs.declared.table.Held.{Held}
+use Rattle.track_table.specs.Table.{holders_of, remembered, with_holder, without_key, is_held}
+use Rattle.track_table.specs.Table.{without_connection, freed_of, oldest_over, TableState}
+use Rattle.track_table.specs.Order.{IsTable, HasNo, AreHeld}
+use Prim.Native.Nat.{zero, suc}
+use Rattle.track_table.proofs.Orders.{table_remembered, table_without_key}
+use Rattle.track_table.proofs.Orders.{table_without_connection}
+use Rattle.serial_model.specs.declared.history.Limits.{Limits}
+use Rattle.serial_model.specs.declared.history.Entry.{Entry}
+use Rattle.serial_model.specs.declared.history.Entry.TheVariants.{Admit, Run, Take, Close}
+use Rattle.serial_model.specs.Modes.{Memory, Remembers, Forgets}
+use Rattle.serial_model.specs.Tracking.{dropped, kept, drop_group, told_of, Invalidation}
+use Rattle.serial_model.specs.Tracking.{without_keys, with_keys, remembering}
+use Rattle.serial_model.specs.History.{table, table_grown, table_then, made, signals, expired}
+use Rattle.serial_model.proofs.Tables.{AllIn, AllRows, AllTo}
+use Rattle.server_book.proofs.Sendings.{AreToldThere}
+use Rattle.server_book.specs.declared.connections.Connection.{Connection}
+use Rattle.server_book.specs.Connections.{IsId}
+use Rattle.server_book.specs.Sendings.{AreIds}
+use Rattle.server_book.specs.Stores.{AreThere}
+
+-- ---- holders are there
+
+module _ (cs : List Connection) where
+  pub holders_there : (key : List ℕ) (rows : List Held) → AreThere cs rows
+      → AreIds cs (holders_of key rows)
+  holders_there key [] h = tt
+  holders_there key (r ∷ rows) h =
+      elim (bytes_eq key r.key) as (λ b. AreIds cs (cond b r.holders (holders_of key rows))) [
+        | true ↦ h.0
+        | false ↦ holders_there key rows h.1
+      ]
+
+  with_there : (id : ℕ) (ids : List ℕ) → IsId cs id → AreIds cs ids → AreIds cs (with_holder id ids)
+  with_there id [] on h = (on, tt)
+  with_there id (x ∷ xs) on h =
+      elim (nat_lt x id) as (λ b. AreIds cs
+      (cond b (x ∷ with_holder id xs) (cond (x == id) (x ∷ xs) (id ∷ x ∷ xs)))) [
+        | true ↦ (h.0, with_there id xs on h.1)
+        | false ↦ elim (x == id) as (λ b. AreIds cs (cond b (x ∷ xs) (id ∷ x ∷ xs))) [
+          | true ↦ h
+          | false ↦ (on, h)
+        ]
+      ]
+
+  pub remembered_there : (id : ℕ) (key : List ℕ) (rows : List Held) → IsId cs id
+      → AreThere cs rows → AreThere cs (remembered id key rows)
+  remembered_there id key [] on h = ((on, tt), tt)
+  remembered_there id key (r ∷ rows) on h =
+      elim (bytes_eq key r.key) as (λ b. AreThere cs
+      (cond b (record r { holders = with_holder id r.holders } ∷ rows)
+      (r ∷ remembered id key rows))) [
+        | true ↦ (with_there id r.holders on h.0, h.1)
+        | false ↦ (h.0, remembered_there id key rows on h.1)
+      ]
+
+-- ---- a table by its parts
+
+pub same_table : (t : TableState) (limit : ℕ) (rows : List Held) → t.limit ≡ limit → t.rows ≡ rows
+    → t ≡ record { limit = limit; rows = rows }
+same_table t limit rows e f =
+    ap (λ n. record { limit = n; rows = t.rows }) e ∙ ap (λ r. record { limit = limit; rows = r }) f
+
+-- ---- whether a key has a holder
+
+pub is_known : (ids key : List ℕ) (rows : List Held) → ids ≡ holders_of key rows
+    → (length ids == 0) ≡ false → holders_of key rows ≡ [] → ⊥
+is_known ids key rows e some none =
+    let zero : (length ids == 0) ≡ true = ap (λ (l : List ℕ). length l == 0) (e ∙ none) in
+    let no : ⊥ = cc in no
+
+empty_of : (ids : List ℕ) → (length ids == 0) ≡ true → ids ≡ []
+empty_of [] e = refl
+empty_of (id ∷ ids) e = absurd (grind (arith, nat_tests))
+
+pub is_new : (ids key : List ℕ) (rows : List Held) → ids ≡ holders_of key rows
+    → (length ids == 0) ≡ true → holders_of key rows ≡ []
+is_new ids key rows e none = sym e ∙ empty_of ids none
+
+-- ---- how many keys are remembered
+
+pub remembered_le : (id : ℕ) (key : List ℕ) (rows : List Held)
+    → length (remembered id key rows) ≤ length rows + 1
+remembered_le id key [] = omega arith
+remembered_le id key (r ∷ rows) =
+    let rest = remembered_le id key rows in
+    elim (bytes_eq key r.key) as (λ b. length
+    (cond b (record r { holders = with_holder id r.holders } ∷ rows) (r ∷ remembered id key rows))
+    ≤ length (r ∷ rows) + 1) [ true ↦ omega arith | false ↦ omega (arith, rest) ]
+
+-- a key that has a holder is no new key
+pub remembered_known : (id : ℕ) (key : List ℕ) (rows : List Held)
+    → (holders_of key rows ≡ [] → ⊥) → length (remembered id key rows) ≡ length rows
+remembered_known id key [] known = absurd (known refl)
+remembered_known id key (r ∷ rows) known =
+    elim (bytes_eq key r.key) as (λ b. (cond b r.holders (holders_of key rows) ≡ [] → ⊥)
+    → length (cond b (record r { holders = with_holder id r.holders } ∷ rows)
+    (r ∷ remembered id key rows)) ≡ length (r ∷ rows)) [
+      | true ↦ λ k. refl
+      | false ↦ λ k. let rest = remembered_known id key rows k in omega (arith, rest)
+    ] known
+
+filter_le : (p : Held → Bool) (rows : List Held) → length (filter p rows) ≤ length rows
+filter_le p [] = omega arith
+filter_le p (r ∷ rows) =
+    let rest = filter_le p rows in
+    elim (p r) as (λ b. length (cond b (r ∷ filter p rows) (filter p rows)) ≤ length (r ∷ rows)) [
+      | true ↦ omega (arith, rest)
+      | false ↦ omega (arith, rest)
+    ]
+
+pub without_key_le : (key : List ℕ) (rows : List Held)
+    → length (without_key key rows) ≤ length rows
+without_key_le key rows = filter_le (λ r. not (bytes_eq key r.key)) rows
+
+pub without_connection_le : (id : ℕ) (rows : List Held)
+    → length (without_connection id rows) ≤ length rows
+without_connection_le id rows =
+    let held = filter_le is_held (map (freed_of id) rows) in
+    omega (arith, held, length-map rows (freed_of id))
+
+-- ---- within the limit nothing is dropped
+
+pub short_kept : (limit : ℕ) (rows : List Held) → length rows ≤ limit → kept limit rows ≡ rows
+short_kept limit rows short =
+    ap (λ n. drop n rows) (let none : length rows - limit ≡ 0 = omega arith in none)
+
+pub short_dropped : (limit : ℕ) (rows : List Held) → length rows ≤ limit → dropped limit rows ≡ []
+short_dropped limit rows short =
+    ap (λ n. take n rows) (let none : length rows - limit ≡ 0 = omega arith in none)
+
+-- ---- a key that is new
+
+same_bytes : (key : List ℕ) → bytes_eq key key ≡ true
+same_bytes key = (bytes_eq-Decides key key).1 refl
+
+-- rows without a key lose nothing with it
+without_none : (key : List ℕ) (rows : List Held) → HasNo key rows → without_key key rows ≡ rows
+without_none key [] h = refl
+without_none key (r ∷ rows) h =
+    ap (λ b. cond (not b) (r ∷ without_key key rows) (without_key key rows)) h.0
+    ∙ ap (λ l. r ∷ l) (without_none key rows h.1)
+
+pub new_forgotten : (id : ℕ) (key : List ℕ) (rows : List Held) → AreHeld rows
+    → holders_of key rows ≡ [] → without_key key (remembered id key rows) ≡ rows
+new_forgotten id key [] held none =
+    ap (λ b. cond (not b) (record { key = key; holders = id ∷ [] } ∷ []) []) (same_bytes key)
+new_forgotten id key (r ∷ rows) held none =
+    elim (bytes_eq key r.key) as (λ b. bytes_eq key r.key ≡ b
+    → cond b r.holders (holders_of key rows) ≡ []
+    → without_key key (cond b (record r { holders = with_holder id r.holders } ∷ rows)
+    (r ∷ remembered id key rows)) ≡ r ∷ rows) [
+      | true ↦ λ e n. absurd (let zero : length r.holders ≡ 0 = ap length n in omega (arith, held.0))
+      | false ↦ λ e n.
+          ap (λ b. cond (not b) (r ∷ without_key key (remembered id key rows))
+          (without_key key (remembered id key rows))) e
+          ∙ ap (λ l. r ∷ l) (new_forgotten id key rows held.1 n)
+    ] refl none
+
+-- ---- one key more than the limit
+
+-- the oldest key is the first, and nothing else goes with it
+pub oldest_dropped : (limit : ℕ) (rows : List Held) (key : List ℕ) → IsTable rows
+    → length rows ≤ limit + 1 → oldest_over (record { limit = limit; rows = rows }) ≡ Some key
+    → (without_key key rows ≡ kept limit rows)
+    × (drop_group (dropped limit rows) ≡ told_of key (holders_of key rows))
+oldest_dropped limit [] key table short is =
+    absurd (elim (nat_lt limit 0) as (λ b. cond b None None ≡ Some key → ⊥) [
+      | true ↦ λ e. let no : ⊥ = cc in no
+      | false ↦ λ e. let no : ⊥ = cc in no
+    ] is)
+oldest_dropped limit (r ∷ rows) key table short is =
+    elim (nat_lt limit (length (r ∷ rows))) as (λ b. nat_lt limit (length (r ∷ rows)) ≡ b
+    → cond b (Some r.key) None ≡ Some key
+    → (without_key key (r ∷ rows) ≡ kept limit (r ∷ rows))
+    × (drop_group (dropped limit (r ∷ rows)) ≡ told_of key (holders_of key (r ∷ rows)))) [
+      | true ↦ λ e found.
+          let over : length (r ∷ rows) - limit ≡ 1 = grind (arith, nat_tests) in
+          let same : r.key ≡ key = cc in
+          subst (λ k. (without_key k (r ∷ rows) ≡ kept limit (r ∷ rows))
+          × (drop_group (dropped limit (r ∷ rows)) ≡ told_of k (holders_of k (r ∷ rows)))) same (
+            ap (λ b. cond (not b) (r ∷ without_key r.key rows) (without_key r.key rows))
+                (same_bytes r.key)
+                ∙ without_none r.key rows table.ordered.1
+                ∙ sym (ap (λ n. drop n (r ∷ rows)) over),
+            ap (λ n. drop_group (take n (r ∷ rows))) over
+                ∙ append-nil (told_of r.key r.holders)
+                ∙ sym (ap (λ b. told_of r.key (cond b r.holders (holders_of r.key rows)))
+                (same_bytes r.key)),
+          )
+      | false ↦ λ e none. absurd (let no : ⊥ = cc in no)
+    ] refl is
+
+-- ---- the remembered keys of a past are a table
+
+without_keys_table : (keys : List (List ℕ)) (rows : List Held) → IsTable rows
+    → IsTable (without_keys keys rows)
+without_keys_table [] rows h = h
+without_keys_table (key ∷ keys) rows h =
+    without_keys_table keys (without_key key rows) (table_without_key key rows h)
+
+with_keys_table : (id : ℕ) (keys : List (List ℕ)) (rows : List Held) → IsTable rows
+    → IsTable (with_keys id keys rows)
+with_keys_table id [] rows h = h
+with_keys_table id (key ∷ keys) rows h =
+    with_keys_table id keys (remembered id key rows) (table_remembered id key rows h)
+
+remembering_table : (id : ℕ) (memory : Memory) (rows : List Held) → IsTable rows
+    → IsTable (remembering id memory rows)
+remembering_table id (Remembers keys) rows h = with_keys_table id keys rows h
+remembering_table id Forgets rows h = table_without_connection id rows h
+
+drop_table : (n : ℕ) (rows : List Held) → IsTable rows → IsTable (drop n rows)
+drop_table zero rows h = h
+drop_table (suc n) [] h = h
+drop_table (suc n) (r ∷ rows) h =
+    drop_table n rows (record { ordered = h.ordered.2; held = h.held.1 })
+
+pub table_of_past : (l : Limits) (past : List Entry) → IsTable (table l past)
+table_of_past l [] = record { ordered = tt; held = tt }
+table_of_past l (Admit id ∷ past) = table_of_past l past
+table_of_past l (Run id words moment ∷ past) =
+    drop_table (length (table_grown l past id words moment) - l.table_max)
+    (table_grown l past id words moment)
+    (remembering_table id (made l past id words).memory
+    (without_keys (signals l past id words moment) (table_then l past moment))
+    (without_keys_table (signals l past id words moment) (table_then l past moment)
+    (without_keys_table (expired l past moment) (table l past) (table_of_past l past))))
+table_of_past l (Take id max ∷ past) = table_of_past l past
+table_of_past l (Close id ∷ past) =
+    table_without_connection id (table l past) (table_of_past l past)
+
+-- ---- holders of a legal past are there
+
+module _ {P : ℕ → Type 0} (cs : List Connection) (there : (h : ℕ) → P h → IsId cs h) where
+  ids_all : (ids : List ℕ) → AllIn P ids → AreIds cs ids
+  unfolding AllIn
+  ids_all [] h = tt
+  ids_all (id ∷ ids) h = (there id h.0, ids_all ids h.1)
+
+  pub rows_all : (rows : List Held) → AllRows P rows → AreThere cs rows
+  unfolding AllRows
+  rows_all [] h = tt
+  rows_all (r ∷ rows) h = (ids_all r.holders h.0, rows_all rows h.1)
+
+  pub told_all : (told : List Invalidation) → AllTo P told → AreToldThere cs told
+  unfolding AllTo
+  told_all [] h = tt
+  told_all (i ∷ told) h = (there i.to h.0, told_all told h.1)
+
+ids_longer : (cs ds : List Connection) (ids : List ℕ) → length cs ≤ length ds → AreIds cs ids
+    → AreIds ds ids
+ids_longer cs ds [] le h = tt
+ids_longer cs ds (id ∷ ids) le h = ((h.0.0, omega (arith, h.0.1)), ids_longer cs ds ids le h.1)
+
+pub there_longer : (cs ds : List Connection) (rows : List Held) → length cs ≤ length ds
+    → AreThere cs rows → AreThere ds rows
+there_longer cs ds [] le h = tt
+there_longer cs ds (r ∷ rows) le h =
+    (ids_longer cs ds r.holders le h.0, there_longer cs ds rows le h.1)

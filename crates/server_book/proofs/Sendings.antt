@@ -1,0 +1,381 @@
+-- What sendings do to each connection, and that taking them back undoes them.
+use Rattle.std.proofs.Common.{◌≡◌, ◌+◌, ◌-◌, ◌<◌, ◌≤◌, ℕ, List, [], ◌∷◌, ◌++◌, length, take}
+use Rattle.std.proofs.Common.{sym, ap, subst, ◌∙◌, refl, arith, true, false, cond, Some}
+use Rattle.std.proofs.Common.{length-append, length-set, slice_index_or, slice_set, append_assoc}
+use Rattle.std.proofs.Common.{append-nil, inl, inr, eq-eqb, ne_eqb, Result, Ok, Err, OnErr}
+use Rattle.std.proofs.Common.{OnOk}
+use Rattle.std.specs.Prelude.{◌==◌}
+use Prim.Native.Nat.{zero, suc}
+use Rattle.std.proofs.lemmas.Bool.{cases_eq}
+use Rattle.std.proofs.lemmas.List.{get_or-set_same, get_or-set_other, set-get_or}
+use Rattle.std.proofs.Math.Seq.{take-append_seam}
+use Rattle.resp_value.specs.declared.value.Proto.{Proto}
+use Rattle.resp_value.specs.declared.value.Proto.TheVariants.{Two, Three}
+use Rattle.serial_model.specs.declared.mode.Mode.{Mode}
+use Rattle.serial_model.specs.declared.history.Post.{Post}
+use Rattle.serial_model.specs.Tracking.{Invalidation, told_of, push_of}
+use Rattle.serial_model.specs.History.{Sending, Message, End, sending_bytes, posted_of, spelled}
+use Rattle.serial_model.specs.History.{sent_bytes, sent_to, routed, route, posts_of}
+use Rattle.server_book.specs.declared.connections.Connection.{Connection}
+use Rattle.server_book.specs.Connections.{ConnectionsState, IsId, connection_at, with_connection}
+use Rattle.server_book.specs.Connections.{fresh, ArePosted}
+use Rattle.server_book.specs.Sendings.{AreIds, modes_of, queued, with_sending, with_sendings}
+use Rattle.server_book.specs.Sendings.{unqueued, before_posts, size_of, message_post}
+
+-- what holds holds of an error, and of a success
+pub on_err : {A E : Type 0} (r : Result A E) (P : Type 0) → P → OnErr r P
+on_err (Ok value) P h = tt
+on_err (Err error) P h = h
+
+pub on_ok : {A E : Type 0} (r : Result A E) (P : Type 0) → P → OnOk r P
+on_ok (Ok value) P h = h
+on_ok (Err error) P h = tt
+
+pub on_ok_then : {A E : Type 0} (r : Result A E) (P Q : Type 0) → (P → Q) → OnOk r P → OnOk r Q
+on_ok_then (Ok value) P Q f h = f h
+on_ok_then (Err error) P Q f h = tt
+
+-- ---- a connection by its id
+
+pub at_same : (cs : List Connection) (id : ℕ) (c : Connection) → IsId cs id
+    → connection_at (with_connection cs id c) id ≡ c
+at_same cs id c h = get_or-set_same cs (id - 1) c fresh (omega arith)
+
+pub at_other : (cs : List Connection) (id other : ℕ) (c : Connection) → 0 < id → 0 < other
+    → (id ≡ other → ⊥)
+    → connection_at (with_connection cs id c) other ≡ connection_at cs other
+at_other cs id other c p q ne =
+    get_or-set_other cs (id - 1) (other - 1) c fresh (λ e. ne (omega arith))
+
+pub put_twice : (cs : List Connection) (at : ℕ) (a b : Connection)
+    → slice_set (slice_set cs at a) at b ≡ slice_set cs at b
+put_twice [] at a b = refl
+put_twice (c ∷ cs) zero a b = refl
+put_twice (c ∷ cs) (suc at) a b = ap (λ l. c ∷ l) (put_twice cs at a b)
+
+-- ---- posts are of connections that are there
+
+pub posted_longer : (cs ds : List Connection) (ps : List Post) → length cs ≤ length ds
+    → ArePosted cs ps → ArePosted ds ps
+posted_longer cs ds [] le h = tt
+posted_longer cs ds (p ∷ ps) le h = ((h.0.0, omega (arith, h.0.1)), posted_longer cs ds ps le h.1)
+
+pub posted_set : (cs : List Connection) (at : ℕ) (c : Connection) (ps : List Post)
+    → ArePosted cs ps → ArePosted (slice_set cs at c) ps
+posted_set cs at c ps h =
+    posted_longer cs (slice_set cs at c) ps (omega (arith, length-set cs at c)) h
+
+pub posted_more : (cs : List Connection) (ps : List Post) (p : Post) → ArePosted cs ps
+    → IsId cs p.id → ArePosted cs (ps ++ p ∷ [])
+posted_more cs [] p h on = (on, tt)
+posted_more cs (q ∷ ps) p h on = (h.0, posted_more cs ps p h.1 on)
+
+pub posted_last : (cs : List Connection) (ps : List Post) (p : Post) → ArePosted cs (ps ++ p ∷ [])
+    → ArePosted cs ps × IsId cs p.id
+posted_last cs [] p h = (tt, h.0)
+posted_last cs (q ∷ ps) p h = let r = posted_last cs ps p h.1 in ((h.0, r.0), r.1)
+
+-- ---- taking back
+
+pub before_last : (ps : List Post) (p : Post) (cs : List Connection)
+    → before_posts (ps ++ p ∷ []) cs ≡ before_posts ps (unqueued p cs)
+before_last [] p cs = refl
+before_last (q ∷ ps) p cs = ap (unqueued q) (before_last ps p cs)
+
+-- bytes that were queued last are gone
+pub unqueued_queued : (cs : List Connection) (p : Post) (bytes : List ℕ) → IsId cs p.id
+    → size_of p.what ≡ length bytes → unqueued p (queued cs p.id bytes) ≡ cs
+unqueued_queued cs p bytes on size =
+    let c = connection_at cs p.id in
+    let more : Connection = record c { queue = c.queue ++ bytes } in
+    let left : length (c.queue ++ bytes) - size_of p.what ≡ length c.queue =
+    omega (arith, length-append c.queue bytes) in
+    ap (λ (x : Connection). with_connection (queued cs p.id bytes) p.id
+    (record x { queue = take (length x.queue - size_of p.what) x.queue }))
+    (at_same cs p.id more on)
+    ∙ put_twice cs (p.id - 1) more
+    (record more { queue = take (length more.queue - size_of p.what) more.queue })
+    ∙ ap (λ n. with_connection cs p.id (record c { queue = take n (c.queue ++ bytes) })) left
+    ∙ ap (λ q. with_connection cs p.id (record c { queue = q })) (take-append_seam c.queue bytes)
+    ∙ set-get_or cs (p.id - 1) fresh
+
+size_sent : (s : Sending) → size_of (posted_of s) ≡ length (sending_bytes s)
+size_sent (Message proto value) = refl
+size_sent End = refl
+
+pub before_sending : (n : ℕ) (s : ℕ × Sending) (state : ConnectionsState) → IsId state.items s.0
+    → before_posts (with_sending n s state).posts (with_sending n s state).items
+    ≡ before_posts state.posts state.items
+before_sending n s state on =
+    let p : Post = record { entry = n; id = s.0; what = posted_of s.1 } in
+    before_last state.posts p (queued state.items s.0 (sending_bytes s.1))
+    ∙ ap (before_posts state.posts)
+    (unqueued_queued state.items p (sending_bytes s.1) on (size_sent s.1))
+
+-- sendings to connections that are there
+abbrev pub AreTo : List Connection → List (ℕ × Sending) → Type 0
+AreTo cs [] = Unit {0}
+AreTo cs (s ∷ ss) = IsId cs s.0 × AreTo cs ss
+
+pub to_longer : (cs ds : List Connection) (ss : List (ℕ × Sending)) → length cs ≤ length ds
+    → AreTo cs ss → AreTo ds ss
+to_longer cs ds [] le h = tt
+to_longer cs ds (s ∷ ss) le h = ((h.0.0, omega (arith, h.0.1)), to_longer cs ds ss le h.1)
+
+length_queued : (cs : List Connection) (id : ℕ) (bytes : List ℕ)
+    → length (queued cs id bytes) ≡ length cs
+length_queued cs id bytes =
+    let c = connection_at cs id in length-set cs (id - 1) (record c { queue = c.queue ++ bytes })
+
+pub length_sendings : (n : ℕ) (ss : List (ℕ × Sending)) (state : ConnectionsState)
+    → length (with_sendings n ss state).items ≡ length state.items
+length_sendings n [] state = refl
+length_sendings n (s ∷ ss) state =
+    length_sendings n ss (with_sending n s state)
+    ∙ length_queued state.items s.0 (sending_bytes s.1)
+
+to_next : (n : ℕ) (s : ℕ × Sending) (ss : List (ℕ × Sending)) (state : ConnectionsState)
+    → AreTo state.items ss → AreTo (with_sending n s state).items ss
+to_next n s ss state h =
+    to_longer state.items (with_sending n s state).items ss
+    (omega (arith, length_queued state.items s.0 (sending_bytes s.1))) h
+
+pub before_sendings : (n : ℕ) (ss : List (ℕ × Sending)) (state : ConnectionsState)
+    → AreTo state.items ss
+    → before_posts (with_sendings n ss state).posts (with_sendings n ss state).items
+    ≡ before_posts state.posts state.items
+before_sendings n [] state h = refl
+before_sendings n (s ∷ ss) state h =
+    before_sendings n ss (with_sending n s state) (to_next n s ss state h.1)
+    ∙ before_sending n s state h.0
+
+-- ---- what sendings do
+
+pub sendings_append : (n : ℕ) (xs ys : List (ℕ × Sending)) (state : ConnectionsState)
+    → with_sendings n (xs ++ ys) state ≡ with_sendings n ys (with_sendings n xs state)
+sendings_append n [] ys state = refl
+sendings_append n (x ∷ xs) ys state = sendings_append n xs ys (with_sending n x state)
+
+pub posts_sendings : (n : ℕ) (ss : List (ℕ × Sending)) (state : ConnectionsState)
+    → (with_sendings n ss state).posts ≡ state.posts ++ posts_of n ss
+posts_sendings n [] state = sym (append-nil state.posts)
+posts_sendings n (s ∷ ss) state =
+    posts_sendings n ss (with_sending n s state)
+    ∙ append_assoc state.posts (record { entry = n; id = s.0; what = posted_of s.1 } ∷ [])
+    (posts_of n ss)
+
+-- a connection with bytes behind its queue
+abbrev pub more : Connection → List ℕ → Connection
+more c bytes = record c { queue = c.queue ++ bytes }
+
+more_nothing : (c : Connection) → c ≡ more c []
+more_nothing c = ap (λ q. record c { queue = q }) (sym (append-nil c.queue))
+
+sent_more : (n i : ℕ) (s : ℕ × Sending) (ss : List (ℕ × Sending)) → (s.0 == i) ≡ true
+    → sent_bytes (sent_to n i (s ∷ ss)) ≡ sending_bytes s.1 ++ sent_bytes (sent_to n i ss)
+sent_more n i s ss h =
+    ap (λ b. sent_bytes (cond b ((n, s.1) ∷ sent_to n i ss) (sent_to n i ss))) h
+
+sent_same : (n i : ℕ) (s : ℕ × Sending) (ss : List (ℕ × Sending)) → (s.0 == i) ≡ false
+    → sent_bytes (sent_to n i (s ∷ ss)) ≡ sent_bytes (sent_to n i ss)
+sent_same n i s ss h =
+    ap (λ b. sent_bytes (cond b ((n, s.1) ∷ sent_to n i ss) (sent_to n i ss))) h
+
+-- each connection has the bytes of its own sendings behind its queue
+pub sent_at : (n i : ℕ) (ss : List (ℕ × Sending)) (state : ConnectionsState)
+    → IsId state.items i → AreTo state.items ss
+    → connection_at (with_sendings n ss state).items i
+    ≡ more (connection_at state.items i) (sent_bytes (sent_to n i ss))
+sent_at n i [] state on h = more_nothing (connection_at state.items i)
+sent_at n i (s ∷ ss) state on h =
+    let next = with_sending n s state in
+    let c = connection_at state.items s.0 in
+    let there : i ≤ length next.items =
+    omega (arith, on.1, length_queued state.items s.0 (sending_bytes s.1)) in
+    sent_at n i ss next (on.0, there) (to_next n s ss state h.1)
+    ∙ elim (cases_eq s.0 i) [
+      | inl e ↦
+          ap (λ x. more x (sent_bytes (sent_to n i ss)))
+          (subst (λ j. connection_at next.items j
+          ≡ more (connection_at state.items j) (sending_bytes s.1)) e
+          (at_same state.items s.0 (more c (sending_bytes s.1)) h.0))
+          ∙ ap (λ q. record (connection_at state.items i) { queue = q })
+          (append_assoc (connection_at state.items i).queue (sending_bytes s.1)
+          (sent_bytes (sent_to n i ss)))
+          ∙ ap (more (connection_at state.items i))
+          (sym (sent_more n i s ss (eq-eqb s.0 i e)))
+      | inr ne ↦
+          ap (λ x. more x (sent_bytes (sent_to n i ss)))
+          (at_other state.items s.0 i (more c (sending_bytes s.1)) h.0.0 on.0 ne)
+          ∙ ap (more (connection_at state.items i))
+          (sym (sent_same n i s ss (ne_eqb s.0 i ne)))
+    ]
+
+-- ---- whom a key's holders' group goes to
+
+abbrev pub AreToldThere : List Connection → List Invalidation → Type 0
+AreToldThere cs [] = Unit {0}
+AreToldThere cs (i ∷ is) = IsId cs i.to × AreToldThere cs is
+
+pub told_longer : (cs ds : List Connection) (is : List Invalidation) → length cs ≤ length ds
+    → AreToldThere cs is → AreToldThere ds is
+told_longer cs ds [] le h = tt
+told_longer cs ds (i ∷ is) le h = ((h.0.0, omega (arith, h.0.1)), told_longer cs ds is le h.1)
+
+pub told_there : (cs : List Connection) (key : List ℕ) (ids : List ℕ) → AreIds cs ids
+    → AreToldThere cs (told_of key ids)
+told_there cs key [] h = tt
+told_there cs key (id ∷ ids) h = (h.0, told_there cs key ids h.1)
+
+to_append : (cs : List Connection) (xs ys : List (ℕ × Sending)) → AreTo cs xs → AreTo cs ys
+    → AreTo cs (xs ++ ys)
+to_append cs [] ys h k = k
+to_append cs (x ∷ xs) ys h k = (h.0, to_append cs xs ys h.1 k)
+
+route_there : (cs : List Connection) (m : Mode) (i : Invalidation) → IsId cs i.to
+    → AreTo cs (route m i)
+route_there cs m i on = by m.proto
+  where
+    by : (p : Proto) → AreTo cs (route (record m { proto = p }) i)
+    by Two = tt
+    by Three = (on, tt)
+
+pub routed_there : (cs : List Connection) (m : ℕ → Mode) (is : List Invalidation)
+    → AreToldThere cs is → AreTo cs (routed m is)
+routed_there cs m [] h = tt
+routed_there cs m (i ∷ is) h =
+    to_append cs (route (m i.to) i) (routed m is) (route_there cs (m i.to) i h.0)
+    (routed_there cs m is h.1)
+
+-- routes by modes that agree on those that are there
+pub routed_same : (cs : List Connection) (m n : ℕ → Mode) (is : List Invalidation)
+    → ((id : ℕ) → IsId cs id → m id ≡ n id) → AreToldThere cs is
+    → routed m is ≡ routed n is
+routed_same cs m n [] same h = refl
+routed_same cs m n (i ∷ is) same h =
+    ap (λ x. route x i ++ routed m is) (same i.to h.0)
+    ∙ ap (λ x. route (n i.to) i ++ x) (routed_same cs m n is same h.1)
+
+-- ---- telling one holder after another
+
+pub told_next : (m : ℕ → Mode) (key : List ℕ) (ids : List ℕ) (n : ℕ) → n < length ids
+    → (let id = slice_index_or ids n 0 in
+    routed m (told_of key (take (n + 1) ids))
+    ≡ routed m (told_of key (take n ids))
+    ++ route (m id) (record { to = id; keys = Some (key ∷ []) }))
+told_next m key [] n lt = absurd (omega arith)
+told_next m key (id ∷ ids) zero lt =
+    append-nil (route (m id) (record { to = id; keys = Some (key ∷ []) }))
+told_next m key (id ∷ ids) (suc n) lt =
+    let at = slice_index_or ids n 0 in
+    ap (λ k. routed m (told_of key (take k (id ∷ ids))))
+    (let e : suc n + 1 ≡ suc (n + 1) = omega arith in e)
+    ∙ ap (λ x. route (m id) (record { to = id; keys = Some (key ∷ []) }) ++ x)
+    (told_next m key ids n (omega arith))
+    ∙ sym (append_assoc (route (m id) (record { to = id; keys = Some (key ∷ []) }))
+    (routed m (told_of key (take n ids)))
+    (route (m at) (record { to = at; keys = Some (key ∷ []) })))
+
+pub ids_at : (cs : List Connection) (ids : List ℕ) (n : ℕ) → AreIds cs ids → n < length ids
+    → IsId cs (slice_index_or ids n 0)
+ids_at cs [] n h lt = absurd (omega arith)
+ids_at cs (id ∷ ids) zero h lt = h.0
+ids_at cs (id ∷ ids) (suc n) h lt = ids_at cs ids n h.1 (omega arith)
+
+pub ids_take : (cs : List Connection) (ids : List ℕ) (n : ℕ) → AreIds cs ids
+    → AreIds cs (take n ids)
+ids_take cs ids zero h = tt
+ids_take cs [] (suc n) h = tt
+ids_take cs (id ∷ ids) (suc n) h = (h.0, ids_take cs ids n h.1)
+
+-- what the first holders of a key are sent
+abbrev pub told_first : List Connection → List ℕ → List ℕ → ℕ → List (ℕ × Sending)
+told_first cs key ids k = routed (modes_of cs) (told_of key (take k ids))
+
+pub first_there : (cs : List Connection) (key ids : List ℕ) (k : ℕ) → AreIds cs ids
+    → AreTo cs (told_first cs key ids k)
+first_there cs key ids k h =
+    routed_there cs (modes_of cs) (told_of key (take k ids))
+    (told_there cs key (take k ids) (ids_take cs ids k h))
+
+module _ (n : ℕ) (key ids : List ℕ) (k : ℕ) (old now : ConnectionsState) (lt : k < length ids)
+    (there : AreIds old.items ids)
+    (so_far : now ≡ with_sendings n (told_first old.items key ids k) old) where
+  -- the next holder is there, and its mode is as before
+  pub next_there : IsId now.items (slice_index_or ids k 0)
+  next_there =
+      let on = ids_at old.items ids k there lt in
+      let same : length now.items ≡ length old.items =
+      ap (λ (s : ConnectionsState). length s.items) so_far
+      ∙ length_sendings n (told_first old.items key ids k) old in
+      (on.0, omega (arith, on.1))
+
+  mode_then : (connection_at now.items (slice_index_or ids k 0)).mode
+      ≡ modes_of old.items (slice_index_or ids k 0)
+  mode_then =
+      let id = slice_index_or ids k 0 in
+      ap (λ (s : ConnectionsState). (connection_at s.items id).mode) so_far
+      ∙ ap (λ (c : Connection). c.mode) (sent_at n id (told_first old.items key ids k) old
+      (ids_at old.items ids k there lt) (first_there old.items key ids k there))
+
+  told_step : (next : ConnectionsState) (m : Mode)
+      → m ≡ (connection_at now.items (slice_index_or ids k 0)).mode
+      → (let i : Invalidation = record {
+        to = slice_index_or ids k 0;
+        keys = Some (key ∷ []);
+      } in next ≡ with_sendings n (route m i) now)
+      → next ≡ with_sendings n (told_first old.items key ids (k + 1)) old
+  told_step next m is sent =
+      let i : Invalidation = record { to = slice_index_or ids k 0; keys = Some (key ∷ []) } in
+      let first = told_first old.items key ids k in
+      sent
+      ∙ ap (λ x. with_sendings n (route x i) now) (is ∙ mode_then)
+      ∙ ap (with_sendings n (route (modes_of old.items i.to) i)) so_far
+      ∙ sym (sendings_append n first (route (modes_of old.items i.to) i) old)
+      ∙ ap (λ ss. with_sendings n ss old) (sym (told_next (modes_of old.items) key ids k lt))
+
+  -- it is on the second protocol
+  pub told_nothing : (next : ConnectionsState) (m : Mode)
+      → m ≡ (connection_at now.items (slice_index_or ids k 0)).mode → m.proto ≡ Two → next ≡ now
+      → next ≡ with_sendings n (told_first old.items key ids (k + 1)) old
+  told_nothing next m is two same =
+      let i : Invalidation = record { to = slice_index_or ids k 0; keys = Some (key ∷ []) } in
+      told_step next m is
+      (same ∙ ap (λ p. with_sendings n (route (record m { proto = p }) i) now) (sym two))
+
+  -- it is on the third
+  pub told_push : (next : ConnectionsState) (m : Mode) (push : List ℕ)
+      → m ≡ (connection_at now.items (slice_index_or ids k 0)).mode → m.proto ≡ Three
+      → push ≡ spelled Three (push_of (Some (key ∷ [])))
+      → (let id = slice_index_or ids k 0 in next ≡ record {
+        items = queued now.items id push;
+        posts = now.posts ++ message_post n id (length push) ∷ [];
+      })
+      → next ≡ with_sendings n (told_first old.items key ids (k + 1)) old
+  told_push next m push is three spelling sent =
+      let id = slice_index_or ids k 0 in
+      let i : Invalidation = record { to = id; keys = Some (key ∷ []) } in
+      told_step next m is
+      (sent
+      ∙ ap (λ b. record {
+        items = queued now.items id b;
+        posts = now.posts ++ message_post n id (length b) ∷ [];
+      }) spelling
+      ∙ ap (λ p. with_sendings n (route (record m { proto = p }) i) now) (sym three))
+
+-- ---- the last post
+
+pub posted_front : (cs : List Connection) (ps qs : List Post) → ArePosted cs (ps ++ qs)
+    → ArePosted cs ps
+posted_front cs [] qs h = tt
+posted_front cs (p ∷ ps) qs h = (h.0, posted_front cs ps qs h.1)
+
+pub unqueued_is : (cs : List Connection) (p : Post) (c : Connection) (queue : List ℕ) (left : ℕ)
+    → c ≡ connection_at cs p.id → left ≡ length c.queue - size_of p.what
+    → queue ≡ take left c.queue
+    → slice_set cs (p.id - 1) (record c { queue = queue }) ≡ unqueued p cs
+unqueued_is cs p c queue left there size kept =
+    ap (λ q. slice_set cs (p.id - 1) (record c { queue = q })) kept
+    ∙ ap (λ n. slice_set cs (p.id - 1) (record c { queue = take n c.queue })) size
+    ∙ ap (λ (x : Connection). slice_set cs (p.id - 1)
+    (record x { queue = take (length x.queue - size_of p.what) x.queue })) there

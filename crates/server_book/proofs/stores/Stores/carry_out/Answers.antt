@@ -1,0 +1,62 @@
+use Rattle.std.proofs.Common.{◌≤◌, ◌++◌, [], ap, ◌∙◌, sym, arith, length, append-nil}
+use Rattle.track_table.specs.Table.{holders_of, without_key, without_connection}
+use Rattle.serial_model.specs.History.{routed}
+use Rattle.serial_model.specs.Tracking.{drop_group, told_of}
+use Rattle.server_book.specs.Plans.{kept_by, told_by}
+use Rattle.server_book.specs.Sendings.{with_sendings, modes_of}
+use Rattle.server_book.proofs.Sendings.{on_ok_then}
+use Rattle.server_book.proofs.Remembered.{short_kept, short_dropped, without_key_le}
+use Rattle.server_book.proofs.Remembered.{without_connection_le, same_table}
+use Rattle.server_book.proofs.stores.Stores.carry_out.Goals as goal
+
+pub returns-in-Write-clause-table : goal.returns-in-Write-clause-table
+returns-in-Write-clause-table c =
+    let t = c.args.self.now.table in
+    let left = without_key c.in-Write.pair.key t.rows in
+    let short : length left ≤ t.limit =
+    omega (arith, c.requires.held.short, without_key_le c.in-Write.pair.key t.rows) in
+    on_ok_then c.write.result _ _
+    (λ is. is ∙ ap (λ r. record { limit = t.limit; rows = r }) (sym (short_kept t.limit left short))
+    ∙ ap (λ d. record { limit = t.limit; rows = kept_by t.limit c.args.id d t.rows })
+    (sym c.in-Write.is)) c.write.ensures.table
+
+pub returns-in-Write-clause-told : goal.returns-in-Write-clause-told
+returns-in-Write-clause-told c =
+    let s = c.args.self.now in
+    let t = s.table in
+    let key = c.in-Write.pair.key in
+    let left = without_key key t.rows in
+    let short : length left ≤ t.limit =
+    omega (arith, c.requires.held.short, without_key_le key t.rows) in
+    let own = told_of key (holders_of key t.rows) in
+    let modes = modes_of s.connections.items in
+    on_ok_then c.write.result _ _
+    (λ is. is
+    ∙ ap (λ g. with_sendings c.args.entry (routed modes g) s.connections)
+    (sym (ap (λ d. (own ++ []) ++ drop_group d) (short_dropped t.limit left short)
+    ∙ append-nil (own ++ []) ∙ append-nil own))
+    ∙ ap (λ d. with_sendings c.args.entry (routed modes (told_by t.limit c.args.id d t.rows))
+    s.connections) (sym c.in-Write.is)) c.write.ensures.told
+
+pub returns-in-Forget-clause-table : goal.returns-in-Forget-clause-table
+returns-in-Forget-clause-table c =
+    let t = c.args.self.now.table in
+    let left = without_connection c.args.id t.rows in
+    let short : length left ≤ t.limit =
+    omega (arith, c.requires.held.short, without_connection_le c.args.id t.rows) in
+    same_table c.forget_connection.new.self t.limit _ c.forget_connection.ensures.limit
+    (c.forget_connection.ensures.rows ∙ sym (short_kept t.limit left short)
+    ∙ ap (λ d. kept_by t.limit c.args.id d t.rows) (sym c.in-Forget.is))
+
+pub returns-in-Forget-clause-told : goal.returns-in-Forget-clause-told
+returns-in-Forget-clause-told c =
+    let s = c.args.self.now in
+    let t = s.table in
+    let left = without_connection c.args.id t.rows in
+    let short : length left ≤ t.limit =
+    omega (arith, c.requires.held.short, without_connection_le c.args.id t.rows) in
+    let modes = modes_of s.connections.items in
+    ap (λ d. with_sendings c.args.entry (routed modes (drop_group d)) s.connections)
+    (sym (short_dropped t.limit left short))
+    ∙ ap (λ d. with_sendings c.args.entry (routed modes (told_by t.limit c.args.id d t.rows))
+    s.connections) (sym c.in-Forget.is)

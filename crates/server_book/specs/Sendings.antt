@@ -1,0 +1,56 @@
+-- What sendings do to the connections, and what taking them back does.
+use Rattle.std.specs.Prelude.{◌-◌, ℕ, List, [], ◌∷◌, ◌++◌, length, take}
+use Rattle.serial_model.specs.declared.mode.Mode.{Mode}
+use Rattle.serial_model.specs.declared.history.Post.{Post}
+use Rattle.serial_model.specs.declared.history.Posted.{Posted}
+use Rattle.serial_model.specs.declared.history.Posted.TheVariants.{Message, End}
+use Rattle.serial_model.specs.History.{Sending, sending_bytes, posted_of}
+use Rattle.server_book.specs.declared.connections.Connection.{Connection}
+use Rattle.server_book.specs.Connections.{ConnectionsState, IsId, connection_at, with_connection}
+
+abbrev pub modes_of : List Connection → ℕ → Mode
+modes_of connections id = (connection_at connections id).mode
+
+abbrev pub AreIds : List Connection → List ℕ → Type 0
+AreIds connections [] = Unit {0}
+AreIds connections (id ∷ ids) = IsId connections id × AreIds connections ids
+
+-- bytes behind those that a connection has not taken
+abbrev pub queued : List Connection → ℕ → List ℕ → List Connection
+queued connections id bytes =
+    let c = connection_at connections id in
+    with_connection connections id (record c { queue = c.queue ++ bytes })
+
+abbrev pub message_post : ℕ → ℕ → ℕ → Post
+message_post entry id size = record { entry = entry; id = id; what = Message size }
+
+abbrev pub end_post : ℕ → ℕ → Post
+end_post entry id = record { entry = entry; id = id; what = End }
+
+-- the connections and the posts after one more sending of an entry, and after several
+abbrev pub with_sending : ℕ → (ℕ × Sending) → ConnectionsState → ConnectionsState
+with_sending entry s state =
+    record {
+      items = queued state.items s.0 (sending_bytes s.1);
+      posts = state.posts ++ record { entry = entry; id = s.0; what = posted_of s.1 } ∷ [];
+    }
+
+abbrev pub with_sendings : ℕ → List (ℕ × Sending) → ConnectionsState → ConnectionsState
+with_sendings entry [] state = state
+with_sendings entry (s ∷ ss) state = with_sendings entry ss (with_sending entry s state)
+
+abbrev pub size_of : Posted → ℕ
+size_of (Message length) = length
+size_of End = 0
+
+-- a connection without the bytes of a post, which are its last
+abbrev pub unqueued : Post → List Connection → List Connection
+unqueued post connections =
+    let c = connection_at connections post.id in
+    let left = length c.queue - size_of post.what in
+    with_connection connections post.id (record c { queue = take left c.queue })
+
+-- the connections before all that was posted: the last post goes first
+abbrev pub before_posts : List Post → List Connection → List Connection
+before_posts [] connections = connections
+before_posts (post ∷ posts) connections = unqueued post (before_posts posts connections)
