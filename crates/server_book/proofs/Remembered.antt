@@ -159,7 +159,8 @@ new_forgotten id key (r ∷ rows) held none =
     → cond b r.holders (holders_of key rows) ≡ []
     → without_key key (cond b (record r { holders = with_holder id r.holders } ∷ rows)
     (r ∷ remembered id key rows)) ≡ r ∷ rows) [
-      | true ↦ λ e n. absurd (let zero : length r.holders ≡ 0 = ap length n in omega (arith, held.0))
+      | true ↦ λ e n.
+          absurd (let zero : length r.holders ≡ 0 = ap length n in omega (arith, held.0))
       | false ↦ λ e n.
           ap (λ b. cond (not b) (r ∷ without_key key (remembered id key rows))
           (without_key key (remembered id key rows))) e

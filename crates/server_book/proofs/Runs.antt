@@ -129,7 +129,8 @@ module _ (l : Limits) (past : List Entry) (space : Space) (keys : TableState)
     replied_other i some ne =
         let c = connection_at cs id in
         ap (λ x. connection_at x i) replied_is
-        ∙ at_other cs id i (record c { queue = c.queue ++ message; mode = left }) own_there.0 some ne
+        ∙ at_other cs id i (record c { queue = c.queue ++ message; mode = left }) own_there.0 some
+        ne
 
     pub held_replied : IsHeld keys.limit keys.rows replied.items
     held_replied =
