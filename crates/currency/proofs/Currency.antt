@@ -1,0 +1,491 @@
+-- The theorem on currency, on one link.
+use Rattle.std.proofs.Common.{◌≡◌, ◌+◌, ◌-◌, ◌<◌, ◌≤◌, ℕ, suc, List, [], ◌∷◌, length}
+use Rattle.std.proofs.Common.{Bool, true, false, cond, refl, ap, sym, ◌∙◌, arith, Some, subst}
+use Rattle.std.proofs.Common.{inl, inr, drop, take, max, get_or, Result, Ok, Err}
+use Rattle.std.specs.Prelude.{slice_get}
+use Rattle.std.specs.List.{filter}
+use Rattle.std.proofs.lemmas.Bool.{cases_lt}
+use Rattle.std.proofs.lemmas.Option.{slice_get_within, slice_get-get_or}
+use Rattle.std.proofs.lemmas.List.{length-reverse}
+use Rattle.resp_value.specs.ValueTree.{tree_of}
+use Rattle.resp_value.specs.Carried.{carried}
+use Rattle.resp_value.specs.declared.value.Value.{Value}
+use Rattle.resp_value.specs.declared.value.Value.TheVariants.{Null}
+use Rattle.resp_value.specs.declared.value.Proto.TheVariants.{Three}
+use Rattle.command_words.specs.Words.{reading}
+use Rattle.command_words.specs.Control.{is_control}
+use Rattle.command_words.specs.Queries.{key_of, reads_as_cacheable, writes}
+use Rattle.command_words.specs.Effects.{answer}
+use Rattle.command_words.specs.Laws.{SignalsAreWritten}
+use Rattle.serial_model.specs.declared.mode.Mode.{Mode}
+use Rattle.serial_model.specs.declared.history.Limits.{Limits}
+use Rattle.serial_model.specs.declared.history.Entry.{Entry}
+use Rattle.serial_model.specs.declared.history.Entry.TheVariants.{Run}
+use Rattle.serial_model.specs.History.{Sending, Message, sent, runs_of, mode, made_of, keyspace}
+use Rattle.serial_model.specs.History.{ran}
+use Rattle.serial_model.specs.History.{IsLegal, served_reading, reply_of, reply_protocol, is_plain}
+use Rattle.serial_model.specs.History as history
+use Rattle.serial_model.specs.Modes.{is_served_tracking}
+use Rattle.command_words.specs.declared.command.Command.{Command}
+use Rattle.command_words.specs.declared.command.Command.TheVariants.{Get, Set, Hello}
+use Rattle.command_words.specs.declared.command.Command.TheVariants.{ClientTracking}
+use Rattle.command_words.specs.declared.command.TrackOptions.{TrackOptions}
+use Rattle.command_words.specs.declared.command.WordFault.{WordFault}
+use Rattle.command_words.specs.declared.command.WordFault.TheVariants.{Syntax}
+use Rattle.command_words.specs.declared.command.SetWhen.TheVariants.{Always}
+use Rattle.command_words.specs.declared.command.SetLife.TheVariants.{Cleared}
+use Rattle.serial_model.specs.Laws.{ChangeIsSignalled, signals_key, is_signalled}
+use Rattle.serial_model.proofs.ReadLaws.{read_replies}
+use Rattle.shared_cache.specs.declared.log.Wire.{Wire}
+use Rattle.shared_cache.specs.declared.log.Wire.TheVariants.{Main, Side}
+use Rattle.shared_cache.specs.declared.log.LogEntry.{LogEntry}
+use Rattle.shared_cache.specs.declared.entry.CacheEntry.{CacheEntry}
+use Rattle.shared_cache.specs.ClientFields.{IsServed}
+use Rattle.shared_cache.specs.Notices.{invalidates, is_reply, kind_of}
+use Rattle.shared_cache.specs.Log.{reply, replies, is_ended}
+use Rattle.shared_cache.specs.Held.{commands, held}
+use Rattle.shared_cache.specs.Laws.{gots, LegalLog, IsFetch, Every}
+use Rattle.shared_cache.proofs.FetchLaws.{open_wires, held_is_fetch, place_is_query}
+use Rattle.shared_cache.proofs.CommandLists.{replies_are_gots}
+use Rattle.shared_cache.proofs.CommandLaws.{no_later_write}
+use Rattle.currency.specs.Links.{Client, HasWire, Meet, run_of, run_entries, IsGot, AreGot}
+use Rattle.currency.specs.Points.{up_to, before_first, complete_on, complete_by, complete, replied}
+use Rattle.currency.specs.Current.{IsAnswer, IsCurrent, HasPoint, point, Currency}
+use Rattle.currency.proofs.Lists.{get_dropped, nothing_dropped, get_front}
+use Rattle.currency.proofs.Named.{named_at, get_taken, get_drop, every_at, ran_written}
+use Rattle.currency.proofs.Runs.{Older, older_tail, older_up_to, up_to_older, RanAt}
+use Rattle.currency.proofs.Runs.{ran_at, in_order}
+use Rattle.currency.proofs.Sent.{sent_le, sent_order, sent_pos}
+use Rattle.currency.proofs.Handshake.{made_same, is_no_control}
+use Rattle.currency.proofs.Replies.{replies_of, replies_are_of_runs}
+use Rattle.currency.proofs.Gots.{sent_form, got_at, got_replies, got_kept}
+use Rattle.currency.proofs.Placed.{Placed, reply_at, reply_place}
+use Rattle.currency.proofs.Since.{got_since}
+use Rattle.currency.proofs.Covered.{has_main, Pending, covered, Steady, settled, words_are}
+use Rattle.currency.proofs.Covered.{before_then, both_ways, own, r, number_least}
+
+some_number : (a b : ℕ) → Some a ≡ Some b → a ≡ b
+some_number a b e = cc
+
+-- a value is the reply of the newest entry
+Answered : Limits → List Entry → Value → Type 0
+Answered l (Run id words moment ∷ up) v =
+    tree_of v ≡ carried (reply_protocol l up id words) (tree_of (ran l up id words moment).reply)
+Answered l _ v = ⊥
+
+module _ (l : Limits) (x : Client) (past : List Entry) (log : List LogEntry)
+    (served : IsServed x.setup.mode) (legal : IsLegal l past) (legal_log : LegalLog x.setup log)
+    (meet : Meet l x past log) where
+  -- ---- how far the client is
+
+  first_waiting : ℕ
+  first_waiting = before_first (drop (length (gots Main log)) (sent l (x.id Main) past))
+      (length past)
+
+  complete_is : is_ended x.setup.mode Main log ≡ false → complete l x past log ≡ first_waiting
+  unfolding first_waiting
+  complete_is h =
+      ap (λ s. complete_by s (λ w. complete_on l x w past log)) served.shape
+      ∙ ap (λ b. cond b (length past)
+      (before_first (drop (length (gots Main log)) (sent l (x.id Main) past)) (length past))) h
+
+  before_is : (ss : List (ℕ × Sending)) → drop (length (gots Main log)) (sent l (x.id Main) past)
+      ≡ ss
+      → before_first ss (length past) ≤ length past
+  before_is [] e = omega arith
+  before_is (s ∷ ss) e =
+      let at = get_dropped (length (gots Main log)) (sent l (x.id Main) past) ss s e in
+      let le = sent_le (x.id Main) l past (length (gots Main log)) s at in omega (arith, le)
+
+  pending_after : (n : ℕ) (ss : List (ℕ × Sending))
+      → drop (length (gots Main log)) (sent l (x.id Main) past) ≡ ss
+      → Pending l x past log served legal legal_log meet n → before_first ss (length past) < n
+  pending_after n [] e p =
+      let none = nothing_dropped (length (gots Main log)) (sent l (x.id Main) past) e in
+      let w = slice_get_within (sent l (x.id Main) past) p.place p.sending p.there in
+      absurd (let no : ⊥ = omega (arith, none, w, p.waits) in no)
+  pending_after n (s ∷ ss) e p =
+      let at = get_dropped (length (gots Main log)) (sent l (x.id Main) past) ss s e in
+      let le = sent_order (x.id Main) l past (length (gots Main log)) p.place s p.sending p.waits at
+      p.there in
+      let pos = sent_pos (x.id Main) l past (length (gots Main log)) s at in
+      omega (arith, le, pos, p.by)
+
+  complete_le : is_ended x.setup.mode Main log ≡ false → complete l x past log ≤ length past
+  unfolding first_waiting
+  complete_le h = omega (
+    arith,
+    complete_is h,
+    before_is (drop (length (gots Main log)) (sent l (x.id Main) past)) refl,
+  )
+
+  -- what waits was sent at an entry that is not complete
+  none_pending : (n : ℕ) → is_ended x.setup.mode Main log ≡ false → n ≤ complete l x past log
+      → Pending l x past log served legal legal_log meet n → ⊥
+  unfolding first_waiting
+  none_pending n h le p =
+      let lt = pending_after n (drop (length (gots Main log)) (sent l (x.id Main) past)) refl p in
+      omega (arith, complete_is h, le, lt)
+
+  -- ---- the value of a held entry
+
+  -- the reply of a number that was got, and the Run that it replies to
+  pub record GotReply (n : ℕ) (v : Value) : Type 0 where
+    pub sending : ℕ × Sending
+    pub placed : Placed l (x.id Main) past (n - 1) sending
+    pub is : IsGot v sending.1
+    pub least : 0 < n
+
+  got_reply : (n : ℕ) (v : Value) → reply x.setup.mode log n ≡ Some v → GotReply n v
+  got_reply n v e =
+      let r = reply_place n (replies x.setup.mode Main log) v e in
+      let at : slice_get (filter (λ u. is_reply (kind_of u)) (gots Main log)) (n - 1) ≡ Some v =
+      ap (λ vs. slice_get vs (n - 1)) (sym (replies_are_gots x.setup Main log)) ∙ r.1 in
+      let came = got_replies (gots Main log) (sent l (x.id Main) past) (sent_form l
+      (x.id Main) past)
+      (meet.came Main (has_main l x past log served legal legal_log meet)) in
+      let c = got_at (filter (λ u. is_reply (kind_of u)) (gots Main log)) (replies_of l
+      (x.id Main) past)
+      (n - 1) v
+      (subst (AreGot (filter (λ u. is_reply (kind_of u)) (gots Main log)))
+      (replies_are_of_runs l (x.id Main) past) came) at in
+      record {
+        sending = c.sending;
+        placed = reply_at l (x.id Main) past (n - 1) c.sending c.there;
+        is = c.is;
+        least = r.0;
+      }
+
+  waiting_after : (i : ℕ) (s : ℕ × Sending) → i < length (gots Main log)
+      → slice_get (sent l (x.id Main) past) i ≡ Some s → (ss : List (ℕ × Sending))
+      → drop (length (gots Main log)) (sent l (x.id Main) past) ≡ ss
+      → s.0 ≤ before_first ss (length past) + 1
+  waiting_after i s lt there [] e =
+      let le = sent_le (x.id Main) l past i s there in omega (arith, le)
+  waiting_after i s lt there (t ∷ ss) e =
+      let at = get_dropped (length (gots Main log)) (sent l (x.id Main) past) ss t e in
+      let le = sent_order (x.id Main) l past i (length (gots Main log)) s t (omega
+      (arith, lt)) there
+      at in
+      let pos = sent_pos (x.id Main) l past (length (gots Main log)) t at in omega (arith, le, pos)
+
+  -- what was got is complete, save perhaps the entry that it was sent at
+  got_complete : is_ended x.setup.mode Main log ≡ false → (i : ℕ) (s : ℕ × Sending)
+      → i < length (gots Main log) → slice_get (sent l (x.id Main) past) i ≡ Some s
+      → s.0 ≤ complete l x past log + 1
+  unfolding first_waiting
+  got_complete ended i s lt there =
+      let f = waiting_after i s lt there (drop (length (gots Main log)) (sent l
+      (x.id Main) past)) refl in
+      omega (arith, f, complete_is ended)
+
+  -- a reply that was got: the entry of its command's Run is complete, save perhaps its own
+  replied_complete : is_ended x.setup.mode Main log ≡ false → (j q : ℕ)
+      → j < length (replies x.setup.mode Main log)
+      → slice_get (run_entries (x.id Main) past) j ≡ Some q → q ≤ complete l x past log + 1
+  replied_complete ended j q lt e =
+      let test = λ (u : Value). is_reply (kind_of u) in
+      let kept = filter test (gots Main log) in
+      let count : length kept ≡ length (replies x.setup.mode Main log) =
+      ap length (sym (replies_are_gots x.setup Main log))
+      ∙ length-reverse (replies x.setup.mode Main log) in
+      let v = get_or kept j Null in
+      let k = got_kept (gots Main log) (sent l (x.id Main) past) j v (sent_form l (x.id Main) past)
+      (meet.came Main (has_main l x past log served legal legal_log meet))
+      (slice_get-get_or kept j Null (omega (arith, count, lt))) in
+      let p = reply_at l (x.id Main) past j k.sending
+      (ap (λ ss. slice_get ss j) (sym (replies_are_of_runs l (x.id Main) past)) ∙ k.replied) in
+      let same : q ≡ length p.up + 1 = some_number q (length p.up + 1) (sym e ∙ p.entry) in
+      let le = got_complete ended k.place k.sending
+      (slice_get_within (gots Main log) k.place k.value k.got) k.there in
+      omega (arith, same, p.number, le)
+
+  module _ (h : CacheEntry) (fetch : IsFetch x.setup log h)
+      (serves : reads_as_cacheable (served_reading h.query) ≡ true)
+      (cacheable : reads_as_cacheable (reading h.query) ≡ true) where
+    g : GotReply h.number h.value
+    g = got_reply h.number h.value fetch.reply_is
+
+    at : ℕ
+    at = length g.placed.up + 1
+
+    ran_there : run_of (x.id Main) past h.number ≡ Some at
+    unfolding at
+    ran_there = g.placed.entry
+
+    live : is_ended x.setup.mode Main log ≡ false
+    live = (open_wires x.setup log h.number h.query fetch.fetch).0
+
+    ran_it : RanAt (x.id Main) past (h.number - 1) at
+    ran_it = r l x past log served legal legal_log meet h.number at h.query fetch.fetch ran_there
+
+    fetched_by : List Entry
+    fetched_by = Run (x.id Main) ran_it.words ran_it.moment ∷ ran_it.up
+
+    own_run : Older fetched_by past
+    unfolding fetched_by ran_it
+    own_run = own l x past log served legal legal_log meet h.number at h.query fetch.fetch ran_there
+
+    fetched_is : up_to at past ≡ fetched_by
+    unfolding fetched_by
+    fetched_is =
+        ap (λ n. up_to n past) (let n : at ≡ length (Run (x.id Main) ran_it.words ran_it.moment
+        ∷ ran_it.up) = omega (arith, ran_it.at) in n)
+        ∙ older_up_to fetched_by past own_run
+
+    is_query : ran_it.words ≡ h.query
+    unfolding ran_it
+    is_query =
+        words_are l x past log served legal legal_log meet h.number at h.query fetch.fetch ran_there
+
+    before : mode l (x.id Main) ran_it.up ≡ record { proto = Three; tracking = true }
+    unfolding ran_it fetched_by
+    before =
+        settled l x past log served legal legal_log meet h.number at h.query fetch.fetch ran_there
+        ran_it.up
+        (older_tail (Run (x.id Main) ran_it.words ran_it.moment) ran_it.up past own_run)
+        (before_then l x past log served legal legal_log meet h.number at h.query fetch.fetch
+        ran_there)
+
+    no_control : is_control h.query ≡ false
+    no_control =
+        let c = place_is_query x.setup log h.number h.query fetch.fetch in
+        let n = number_least l x past log served legal legal_log meet h.number at h.query
+        fetch.fetch
+        ran_there in
+        is_no_control x.setup log legal_log (h.number - 3) h.query
+        (ap (slice_get (commands x.setup Main log))
+        (let e : suc (suc (h.number - 3)) ≡ h.number - 1 = omega (arith, n) in e) ∙ c.1)
+
+    -- the value is the reply of the Run
+    answered : Answered l fetched_by h.value
+    unfolding Answered at fetched_by
+    answered =
+        subst (λ u. Answered l u h.value)
+        (sym (older_up_to (Run g.placed.id g.placed.words g.placed.moment ∷ g.placed.up) past
+        g.placed.older)
+        ∙ ap (λ n. up_to n past) (let e : length (Run g.placed.id g.placed.words g.placed.moment
+        ∷ g.placed.up) ≡ at = omega arith in e)
+        ∙ fetched_is)
+        (subst (IsGot h.value) g.placed.reply g.is)
+
+    proto_is : reply_protocol l ran_it.up (x.id Main) ran_it.words ≡ x.setup.mode.proto
+    proto_is =
+        ap (λ w. (made_of w (mode l (x.id Main) ran_it.up)).mode.proto) is_query
+        ∙ ap (λ (m : Mode). m.proto)
+        (made_same h.query (mode l (x.id Main) ran_it.up) no_control ∙ before)
+        ∙ sym served.proto
+
+    reply_is : (ran l ran_it.up (x.id Main) ran_it.words ran_it.moment).reply
+        ≡ answer h.query (keyspace l (up_to at past))
+    unfolding fetched_by
+    reply_is =
+        read_replies l (x.id Main) ran_it.moment ran_it.words ran_it.up
+        (ap (λ w. reads_as_cacheable (served_reading w)) is_query ∙ serves)
+        ∙ ap (λ w. answer w (keyspace l fetched_by)) is_query
+        ∙ ap (λ u. answer h.query (keyspace l u)) (sym fetched_is)
+
+    value_at_run : IsAnswer l x past at h
+    unfolding Answered fetched_by
+    value_at_run =
+        answered
+        ∙ ap (λ p. carried p (tree_of (ran l ran_it.up (x.id Main) ran_it.words
+        ran_it.moment).reply))
+        proto_is
+        ∙ ap (λ v. carried x.setup.mode.proto (tree_of v)) reply_is
+
+    same_answer : (n : ℕ) → Steady l x past log served legal legal_log meet h.number at h.query
+        fetch.fetch ran_there (up_to n past)
+        → answer h.query (keyspace l (up_to n past)) ≡ answer h.query (keyspace l (up_to at past))
+    unfolding Steady
+    same_answer n s = s.1
+
+    -- ---- current
+
+    steady : (law : ChangeIsSignalled) (n : ℕ) → at ≤ n → n ≤ complete l x past log
+        → IsAnswer l x past n h
+    steady law n le comp =
+        let u = up_to_older n past (omega (arith, complete_le live, comp)) in
+        elim (covered l x past log served legal legal_log meet h.number at h.query fetch.fetch
+        ran_there
+        serves cacheable law (up_to n past) u.0 (omega (arith, u.1, le))) [
+          | inl same ↦
+              value_at_run
+              ∙ ap (λ v. carried x.setup.mode.proto (tree_of v)) (sym (same_answer n same))
+          | inr waits ↦
+              absurd (none_pending (length (up_to n past)) live (omega (arith, u.1, comp)) waits)
+        ]
+
+    pub current : (law : ChangeIsSignalled) → IsCurrent l x past log h
+    current law p n run le comp =
+        let same : at ≡ p = some_number at p (sym ran_there ∙ run) in
+        steady law n (omega (arith, same, le)) comp
+
+    -- ---- the point of a hit
+
+    -- a command that ran after the fetch stands behind it
+    behind_fetch : (j q : ℕ) → at < q → slice_get (run_entries (x.id Main) past) j ≡ Some q
+        → h.number ≤ j
+    behind_fetch j q lt e =
+        elim (cases_lt j (h.number - 1)) [
+          | inl less ↦
+              let f = in_order (x.id Main) past j (h.number - 1) q at less e ran_there in
+              absurd (let gone : ⊥ = omega (arith, f, lt) in gone)
+          | inr ge ↦
+              elim (cases_lt (h.number - 1) j) [
+                | inl more ↦ let n = g.least in omega (arith, more, n)
+                | inr le ↦
+                    let same : j ≡ h.number - 1 = omega (arith, ge, le) in
+                    let f : q ≡ at =
+                    some_number q at (sym e ∙ ap (slice_get (run_entries (x.id Main) past)) same
+                    ∙ ran_there) in
+                    absurd (let gone : ⊥ = omega (arith, f, lt) in gone)
+              ]
+        ]
+
+    module _ (law : ChangeIsSignalled) (written : SignalsAreWritten) where
+      not_written : (j q : ℕ) → at < q → slice_get (run_entries (x.id Main) past) j ≡ Some q
+          → (words : List (List ℕ)) → slice_get (runs_of (x.id Main) past) j ≡ Some words
+          → writes words (key_of h.query) ≡ false
+      not_written j q lt e words there =
+          let m = meet.ran Main (has_main l x past log served legal legal_log meet) in
+          let at_command : slice_get (commands x.setup Main log) j ≡ Some words =
+          ap (λ cs. slice_get cs j) (sym m.1)
+          ∙ get_front (runs_of (x.id Main) past) m.0 j words there in
+          let later : h.number ≤ j = behind_fetch j q lt e in
+          every_at (λ ws. writes ws (key_of h.query) ≡ false)
+          (drop h.number (commands x.setup Main log)) (j - h.number) words
+          (no_later_write x.setup log h.number h.query legal_log fetch.fetch)
+          (get_drop h.number (commands x.setup Main log) (j - h.number) words
+          (ap (slice_get (commands x.setup Main log))
+          (let n : h.number + (j - h.number) ≡ j = omega (arith, later) in n) ∙ at_command))
+
+      not_signalled : (id : ℕ) (words : List (List ℕ)) (moment : ℕ) (up : List Entry)
+          → writes words (key_of h.query) ≡ false
+          → signals_key l (Run id words moment) up (key_of h.query) ≡ false
+      not_signalled id words moment up none =
+          elim (is_signalled (ran l up id words moment).signalled (key_of h.query)) as (λ b.
+          is_signalled (ran l up id words moment).signalled (key_of h.query) ≡ b → b ≡ false) [
+            | true ↦ λ e.
+                absurd (both_ways (writes words (key_of h.query)) none
+                (ran_written written l up id words moment (key_of h.query) e))
+            | false ↦ λ e. refl
+          ] refl
+
+      -- a command behind the fetch does not change its answer
+      after_command : (j q : ℕ) → at < q → slice_get (run_entries (x.id Main) past) j ≡ Some q
+          → complete l x past log + 1 ≡ q → IsAnswer l x past q h
+      after_command j q lt e next =
+          let t = ran_at (x.id Main) past j q e in
+          let run = Run t.id t.words t.moment in
+          let up_is : up_to (complete l x past log) past ≡ t.up =
+          ap (λ n. up_to n past) (let n : complete l x past log ≡ length t.up =
+          omega (arith, t.at, next) in n)
+          ∙ older_up_to t.up past (older_tail run t.up past t.older) in
+          let run_is : up_to q past ≡ run ∷ t.up =
+          ap (λ n. up_to n past) (let n : q ≡ length (run ∷ t.up) = omega (arith, t.at) in n)
+          ∙ older_up_to (run ∷ t.up) past t.older in
+          let quiet = not_signalled t.id t.words t.moment t.up
+          (not_written j q lt e t.words t.words_are) in
+          steady law (complete l x past log) (omega (arith, lt, next)) (omega arith)
+          ∙ ap (λ v. carried x.setup.mode.proto (tree_of v))
+          (ap (λ u. answer h.query (keyspace l u)) up_is
+          ∙ sym ((law l run t.up (key_of h.query) quiet).1 h.query cacheable refl)
+          ∙ ap (λ u. answer h.query (keyspace l u)) (sym run_is))
+
+      point_is_at : complete l x past log < at → replied x past log (key_of h.query) ≤ at
+          → point l x past log h at ≡ at
+      point_is_at a b = omega (arith, a, b)
+
+      answers : IsAnswer l x past (point l x past log h at) h
+      answers =
+          let c = complete l x past log in
+          let q = replied x past log (key_of h.query) in
+          elim (cases_lt (max at c) q) [
+            | inl lt ↦
+                let n = named_at (key_of h.query)
+                (take (length (replies x.setup.mode Main log)) (runs_of (x.id Main) past))
+                (run_entries (x.id Main) past) (omega (arith, lt)) in
+                let t = get_taken (length (replies x.setup.mode Main log)) (runs_of
+                (x.id Main) past)
+                n.place n.words n.there in
+                let le = replied_complete live n.place q t.below n.entry in
+                let is : q ≡ point l x past log h at = omega (arith, lt) in
+                subst (λ k. IsAnswer l x past k h) is
+                (after_command n.place q (omega (arith, lt)) n.entry (omega (arith, lt, le)))
+            | inr le ↦
+                elim (cases_lt c at) [
+                  | inl lt ↦
+                      let is : at ≡ point l x past log h at = omega (arith, lt, le) in
+                      subst (λ k. IsAnswer l x past k h) is value_at_run
+                  | inr ge ↦
+                      let is : c ≡ point l x past log h at = omega (arith, ge, le) in
+                      subst (λ k. IsAnswer l x past k h) is (steady law c ge (omega arith))
+                ]
+          ]
+
+      after_main : (i : ℕ) (v : Value) (s : ℕ × Sending) → slice_get (gots Main log) i ≡ Some v
+          → invalidates x.setup.mode Main v (key_of h.query) ≡ true
+          → slice_get (sent l (x.id Main) past) i ≡ Some s → s.0 < point l x past log h at
+      after_main i v s got voided there =
+          elim (cases_lt s.0 at) [
+            | inl lt ↦ omega (arith, lt)
+            | inr ge ↦
+                absurd (both_ways (invalidates x.setup.mode Main v (key_of h.query))
+                (got_since l x past log h.number at h.query
+                (has_main l x past log served legal legal_log meet) meet.causal fetch.fetch
+                ran_there i v
+                s got there ge) voided)
+          ]
+
+      after_any : (w : Wire) → HasWire x.setup.mode.shape w → (i : ℕ) (v : Value) (s : ℕ × Sending)
+          → slice_get (gots w log) i ≡ Some v
+          → invalidates x.setup.mode w v (key_of h.query) ≡ true
+          → slice_get (sent l (x.id w) past) i ≡ Some s → s.0 < point l x past log h at
+      after_any Main has i v s got voided there = after_main i v s got voided there
+      after_any Side has i v s got voided there =
+          absurd (subst (λ shape. HasWire shape Side) served.shape has)
+
+      pub has_point : HasPoint l x past log h
+      has_point =
+          record { fetched = at; ran = ran_there; answers = answers; after = after_any }
+
+-- a query that the server serves is a query
+not_tracking : (options : TrackOptions) (plain : Bool)
+    → reads_as_cacheable (cond plain (Ok (ClientTracking options)) (Err Syntax)) ≡ true → ⊥
+not_tracking options true h = cc
+not_tracking options false h = cc
+
+not_set : (key value : List ℕ) (plain : Bool)
+    → reads_as_cacheable (cond plain (Ok (Set key value Always Cleared)) (Err Syntax)) ≡ true → ⊥
+not_set key value true h = cc
+not_set key value false h = cc
+
+served_cacheable : (read : Result Command WordFault) → reads_as_cacheable (history.served read)
+    ≡ true
+    → reads_as_cacheable read ≡ true
+served_cacheable (Ok (Get key)) h = refl
+served_cacheable (Ok (Hello word)) h = absurd (let gone : ⊥ = cc in gone)
+served_cacheable (Ok (ClientTracking options)) h =
+    absurd (not_tracking options (is_served_tracking options) h)
+served_cacheable (Ok (Set key value when life)) h =
+    absurd (not_set key value (is_plain when life) h)
+served_cacheable (Ok _) h = absurd (let gone : ⊥ = cc in gone)
+served_cacheable (Err fault) h = absurd (let gone : ⊥ = cc in gone)
+
+every_held : {A : Type 0} (P Q : A → Type 0) (f : (y : A) → P y → Q y) (xs : List A) → Every P xs
+    → Every Q xs
+every_held P Q f [] a = tt
+every_held P Q f (y ∷ xs) a = (f y a.0, every_held P Q f xs a.1)
+
+pub currency : ChangeIsSignalled → SignalsAreWritten → Currency
+currency law written l x past log served legal legal_log meet =
+    every_held (IsFetch x.setup log)
+    (λ h. reads_as_cacheable (served_reading h.query) ≡ true
+    → IsCurrent l x past log h × HasPoint l x past log h)
+    (λ h fetch serves.
+    let cacheable = served_cacheable (reading h.query) serves in (
+      current l x past log served legal legal_log meet h fetch serves cacheable law,
+      has_point l x past log served legal legal_log meet h fetch serves cacheable law written,
+    ))
+    (held x.setup log) (held_is_fetch x.setup log)

@@ -1,0 +1,12 @@
+pub mod Lists
+pub mod Runs
+pub mod Sent
+pub mod Handshake
+pub mod Replies
+pub mod Gots
+pub mod Since
+pub mod Voids
+pub mod Placed
+pub mod Covered
+pub mod Named
+pub mod Currency

@@ -1,0 +1,134 @@
+-- The last reply to a command that names a key, and what a command signals.
+use Rattle.std.proofs.Common.{◌≡◌, ◌+◌, ◌<◌, ◌≤◌, ℕ, zero, suc, List, [], ◌∷◌}
+use Rattle.std.proofs.Common.{Bool, true, false, cond, refl, ap, sym, ◌∙◌, arith, Some, take}
+use Rattle.std.proofs.Common.{inl, inr, max, drop, Result, Ok, Err, subst}
+use Rattle.std.specs.Prelude.{slice_get}
+use Rattle.std.proofs.lemmas.Bool.{cases_lt}
+use Rattle.command_words.specs.declared.command.Command.{Command}
+use Rattle.command_words.specs.declared.command.Command.TheVariants.{Get, Set, Hello}
+use Rattle.command_words.specs.declared.command.Command.TheVariants.{ClientTracking}
+use Rattle.command_words.specs.declared.command.TrackOptions.{TrackOptions}
+use Rattle.command_words.specs.declared.command.WordFault.{WordFault}
+use Rattle.command_words.specs.declared.command.WordFault.TheVariants.{Syntax}
+use Rattle.command_words.specs.declared.command.SetWhen.TheVariants.{Always}
+use Rattle.command_words.specs.declared.command.SetLife.TheVariants.{Cleared}
+use Rattle.command_words.specs.Words.{reading}
+use Rattle.command_words.specs.Space.{Space}
+use Rattle.command_words.specs.Queries.{names, written_as, written_by, writes}
+use Rattle.command_words.specs.Laws.{SignalsAreWritten}
+use Rattle.serial_model.specs.declared.mode.Runner.{Runner}
+use Rattle.serial_model.specs.declared.history.Limits.{Limits}
+use Rattle.serial_model.specs.declared.history.Entry.{Entry}
+use Rattle.serial_model.specs.Modes.{is_served_tracking}
+use Rattle.serial_model.specs.History.{served, is_plain, effect_of, ran, ran_over, runner, keyspace}
+use Rattle.serial_model.specs.Laws.{is_signalled}
+use Rattle.shared_cache.specs.Laws.{Every}
+use Rattle.currency.specs.Points.{names_key, last_named}
+
+-- ---- the last that names a key
+
+pub record NamedAt (runs : List (List (List ℕ))) (entries : List ℕ) (last : ℕ) : Type 0 where
+  pub place : ℕ
+  pub words : List (List ℕ)
+  pub there : slice_get runs place ≡ Some words
+  pub entry : slice_get entries place ≡ Some last
+
+greater_left : (a b : ℕ) → b ≤ a → max a b ≡ a
+greater_left a b h = omega (arith, h)
+
+greater_right : (a b : ℕ) → a < b → max a b ≡ b
+greater_right a b h = omega (arith, h)
+
+names_it : (b : Bool) (r : ℕ) → 0 < cond b r 0 → cond b r 0 ≡ r
+names_it true r h = refl
+names_it false r h = absurd (let no : ⊥ = omega (arith, h) in no)
+
+pub named_at : (key : List ℕ) (runs : List (List (List ℕ))) (entries : List ℕ)
+    → 0 < last_named key runs entries → NamedAt runs entries (last_named key runs entries)
+named_at key [] entries h = absurd (let no : ⊥ = omega (arith, h) in no)
+named_at key (w ∷ runs) [] h = absurd (let no : ⊥ = omega (arith, h) in no)
+named_at key (w ∷ runs) (r ∷ entries) h =
+    elim (cases_lt (cond (names_key w key) r 0) (last_named key runs entries)) [
+      | inl lt ↦
+          let m = greater_right (cond (names_key w key) r 0) (last_named key runs entries) lt in
+          let rest = named_at key runs entries (omega (arith, lt)) in record {
+            place = suc rest.place;
+            words = rest.words;
+            there = rest.there;
+            entry = rest.entry ∙ ap Some (sym m);
+          }
+      | inr le ↦
+          let m = greater_left (cond (names_key w key) r 0) (last_named key runs entries) le in
+          let pos : 0 < cond (names_key w key) r 0 = omega (arith, m, h) in record {
+            place = 0;
+            words = w;
+            there = refl;
+            entry = ap Some (sym (names_it (names_key w key) r pos) ∙ sym m);
+          }
+    ]
+
+pub record Taken {A : Type 0} (n : ℕ) (xs : List A) (i : ℕ) (x : A) : Type 0 where
+  pub there : slice_get xs i ≡ Some x
+  pub below : i < n
+
+pub get_taken : {A : Type 0} (n : ℕ) (xs : List A) (i : ℕ) (x : A)
+    → slice_get (take n xs) i ≡ Some x → Taken n xs i x
+get_taken zero xs i x e = absurd (let no : ⊥ = cc in no)
+get_taken (suc n) [] i x e = absurd (let no : ⊥ = cc in no)
+get_taken (suc n) (y ∷ xs) zero x e = record { there = e; below = omega arith }
+get_taken (suc n) (y ∷ xs) (suc i) x e =
+    let r = get_taken n xs i x e in record { there = r.there; below = omega (arith, r.below) }
+
+pub get_drop : {A : Type 0} (n : ℕ) (xs : List A) (i : ℕ) (x : A) → slice_get xs (n + i) ≡ Some x
+    → slice_get (drop n xs) i ≡ Some x
+get_drop zero xs i x e = ap (slice_get xs) (let n : i ≡ 0 + i = omega arith in n) ∙ e
+get_drop (suc n) [] i x e = absurd (let no : ⊥ = cc in no)
+get_drop (suc n) (y ∷ xs) i x e =
+    get_drop n xs i x
+    (ap (slice_get (y ∷ xs)) (let k : suc (n + i) ≡ suc n + i = omega arith in k) ∙ e)
+
+pub every_at : {A : Type 0} (P : A → Type 0) (xs : List A) (i : ℕ) (x : A) → Every P xs
+    → slice_get xs i ≡ Some x → P x
+every_at P [] i x a e = absurd (let no : ⊥ = cc in no)
+every_at P (y ∷ xs) zero x a e = let same : y ≡ x = cc in subst P same a.0
+every_at P (y ∷ xs) (suc i) x a e = every_at P xs i x a.1 e
+
+-- ---- signals
+
+module _ (law : SignalsAreWritten) where
+  set_written : (by : Runner) (words : List (List ℕ)) (key value : List ℕ) (plain : Bool)
+      (space : Space) (m : ℕ) (k : List ℕ)
+      → is_signalled (effect_of by words (cond plain (Ok (Set key value Always Cleared))
+      (Err Syntax))
+      space m).signalled k ≡ true
+      → names (written_as (Ok (Set key value Always Cleared))) k ≡ true
+  set_written by words key value true space m k h = law (Set key value Always Cleared) space m k h
+  set_written by words key value false space m k h = absurd (let no : ⊥ = cc in no)
+
+  tracking_written : (by : Runner) (words : List (List ℕ)) (options : TrackOptions) (plain : Bool)
+      (space : Space) (m : ℕ) (k : List ℕ)
+      → is_signalled (effect_of by words (cond plain (Ok (ClientTracking options))
+      (Err Syntax)) space
+      m).signalled k ≡ true → ⊥
+  tracking_written by words options true space m k h = cc
+  tracking_written by words options false space m k h = cc
+
+  effect_written : (by : Runner) (words : List (List ℕ)) (read : Result Command WordFault)
+      (space : Space) (m : ℕ) (k : List ℕ)
+      → is_signalled (effect_of by words (served read) space m).signalled k ≡ true
+      → names (written_as read) k ≡ true
+  effect_written by words (Ok (Hello word)) space m k h = absurd (let no : ⊥ = cc in no)
+  effect_written by words (Ok (ClientTracking options)) space m k h =
+      absurd (tracking_written by words options (is_served_tracking options) space m k h)
+  effect_written by words (Ok (Get key)) space m k h = law (Get key) space m k h
+  effect_written by words (Ok (Set key value when life)) space m k h =
+      set_written by words key value (is_plain when life) space m k h
+  effect_written by words (Ok _) space m k h = absurd (let no : ⊥ = cc in no)
+  effect_written by words (Err fault) space m k h = absurd (let no : ⊥ = cc in no)
+
+  pub ran_written : (l : Limits) (past : List Entry) (id : ℕ) (words : List (List ℕ)) (m : ℕ)
+      (k : List ℕ)
+      → is_signalled (ran l past id words m).signalled k ≡ true → writes words k ≡ true
+  unfolding ran_over written_by
+  ran_written l past id words m k h =
+      effect_written (runner l past id) words (reading words) (keyspace l past) m k h

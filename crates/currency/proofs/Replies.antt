@@ -1,0 +1,202 @@
+-- What is no push of what was sent to a connection is the replies to its commands, in order.
+use Rattle.std.proofs.Common.{◌≡◌, ◌+◌, ℕ, List, [], ◌∷◌, ◌++◌, length}
+use Rattle.std.proofs.Common.{Bool, true, false, cond, refl, ap, ◌∙◌, Some, None}
+use Rattle.std.proofs.Common.{append-nil, Ok, Err, Result}
+use Rattle.std.specs.Prelude.{◌==◌, Option}
+use Rattle.std.specs.List.{filter}
+use Rattle.std.proofs.lemmas.List.Elements.{filter-append}
+use Rattle.resp_value.specs.declared.value.Value.{Value}
+use Rattle.resp_value.specs.declared.value.Value.TheVariants.{Push}
+use Rattle.resp_value.specs.declared.value.Proto.{Proto}
+use Rattle.resp_value.specs.declared.value.Proto.TheVariants.{Two, Three}
+use Rattle.command_words.specs.declared.command.Command.{Command}
+use Rattle.command_words.specs.declared.command.Command.TheVariants.{Get, Set, Hello}
+use Rattle.command_words.specs.declared.command.Command.TheVariants.{ClientTracking}
+use Rattle.command_words.specs.declared.command.WordFault.{WordFault}
+use Rattle.command_words.specs.declared.command.WordFault.TheVariants.{Syntax}
+use Rattle.command_words.specs.declared.command.SetWhen.TheVariants.{Always}
+use Rattle.command_words.specs.declared.command.SetLife.TheVariants.{Cleared}
+use Rattle.command_words.specs.Words.{reading}
+use Rattle.command_words.specs.Space.{Space, Content, Text, Fields, content_at}
+use Rattle.command_words.specs.Effect.{blob_or_null, wrong_type}
+use Rattle.command_words.specs.Strings.{on_text}
+use Rattle.command_words.specs.declared.command.TrackOptions.{TrackOptions}
+use Rattle.command_words.specs.Effects.{effect, string_effect, read_reply}
+use Rattle.serial_model.specs.declared.mode.Mode.{Mode}
+use Rattle.serial_model.specs.declared.mode.Runner.{Runner}
+use Rattle.serial_model.specs.declared.history.Limits.{Limits}
+use Rattle.serial_model.specs.declared.history.Entry.{Entry}
+use Rattle.serial_model.specs.declared.history.Entry.TheVariants.{Admit, Run, Take, Close}
+use Rattle.serial_model.specs.Modes.{hello, hello_reply, is_served_tracking}
+use Rattle.serial_model.specs.Tracking.{Invalidation, push_of, drop_group}
+use Rattle.serial_model.specs.History.{Sending, Message, End, sends, sent_to, sent, modes, served}
+use Rattle.serial_model.specs.History.{by_proto, route, routed, expiry_group, own_group, drops}
+use Rattle.serial_model.specs.History.{reply_of, reply_protocol, ran, ran_over, effect_of, is_plain}
+use Rattle.serial_model.specs.History.{runner, keyspace}
+use Rattle.serial_model.proofs.Tables.{sent_to-append}
+
+-- ---- no reply is a push
+
+unfoldable pub is_push : Value → Bool
+is_push (Push ts) = true
+is_push v = false
+
+hello_no_push : (id : ℕ) (r : Result Proto (List ℕ)) → is_push (hello_reply id r) ≡ false
+unfolding is_push
+hello_no_push id (Ok proto) = refl
+hello_no_push id (Err text) = refl
+
+set_no_push : (by : Runner) (words : List (List ℕ)) (key value : List ℕ) (plain : Bool)
+    (space : Space) (m : ℕ)
+    → is_push (effect_of by words (cond plain (Ok (Set key value Always Cleared))
+    (Err Syntax)) space
+    m).reply ≡ false
+unfolding is_push effect string_effect
+set_no_push by words key value true space m = refl
+set_no_push by words key value false space m = refl
+
+tracking_no_push : (by : Runner) (words : List (List ℕ)) (options : TrackOptions) (plain : Bool)
+    (space : Space) (m : ℕ)
+    → is_push (effect_of by words (cond plain (Ok (ClientTracking options)) (Err Syntax)) space
+    m).reply ≡ false
+unfolding is_push
+tracking_no_push by words options true space m = refl
+tracking_no_push by words options false space m = refl
+
+text_no_push : (content : Option Content) → is_push (on_text wrong_type blob_or_null content)
+    ≡ false
+unfolding is_push
+text_no_push None = refl
+text_no_push (Some (Text text)) = refl
+text_no_push (Some (Fields fields)) = refl
+
+get_no_push : (by : Runner) (words : List (List ℕ)) (key : List ℕ) (space : Space) (m : ℕ)
+    → is_push (effect_of by words (Ok (Get key)) space m).reply ≡ false
+unfolding effect string_effect read_reply
+get_no_push by words key space m = text_no_push (content_at key space)
+
+effect_no_push : (by : Runner) (words : List (List ℕ)) (read : Result Command WordFault)
+    (space : Space) (m : ℕ) → is_push (effect_of by words (served read) space m).reply ≡ false
+unfolding is_push
+effect_no_push by words (Ok (Hello word)) space m = hello_no_push by.id (hello word by.mode.proto)
+effect_no_push by words (Ok (ClientTracking options)) space m =
+    tracking_no_push by words options (is_served_tracking options) space m
+effect_no_push by words (Ok (Get key)) space m = get_no_push by words key space m
+effect_no_push by words (Ok (Set key value when life)) space m =
+    set_no_push by words key value (is_plain when life) space m
+effect_no_push by words (Ok _) space m = refl
+effect_no_push by words (Err fault) space m = refl
+
+pub reply_no_push : (l : Limits) (past : List Entry) (id : ℕ) (words : List (List ℕ)) (m : ℕ)
+    → is_push (ran l past id words m).reply ≡ false
+unfolding ran_over
+reply_no_push l past id words m =
+    effect_no_push (runner l past id) words (reading words) (keyspace l past) m
+
+-- ---- the replies among what was sent
+
+unfoldable pub is_reply_sent : ℕ × Sending → Bool
+is_reply_sent (n, Message proto v) = cond (is_push v) false true
+is_reply_sent (n, End) = false
+
+-- the replies to a connection's commands, in order
+unfoldable pub replies_of : Limits → ℕ → List Entry → List (ℕ × Sending)
+replies_of l c [] = []
+replies_of l c (Admit id ∷ past) = replies_of l c past
+replies_of l c (Run id words moment ∷ past) =
+    cond (id == c) (replies_of l c past
+    ++ (length past + 1, (reply_of l past id words moment).1) ∷ []) (replies_of l c past)
+replies_of l c (Take id max ∷ past) = replies_of l c past
+replies_of l c (Close id ∷ past) = replies_of l c past
+
+route_no_reply : (n c : ℕ) (p : Proto) (i : Invalidation)
+    → filter is_reply_sent (sent_to n c (by_proto p i)) ≡ []
+unfolding is_reply_sent is_push
+route_no_reply n c Two i = refl
+route_no_reply n c Three i =
+    elim (i.to == c) as (λ b. filter is_reply_sent (cond b ((
+      n,
+      Message Three
+          (push_of i.keys),
+    ) ∷ [])
+    []) ≡ []) [ true ↦ refl | false ↦ refl ]
+
+routed_no_reply : (n c : ℕ) (of : ℕ → Mode) (told : List Invalidation)
+    → filter is_reply_sent (sent_to n c (routed of told)) ≡ []
+routed_no_reply n c of [] = refl
+routed_no_reply n c of (i ∷ told) =
+    ap (filter is_reply_sent) (sent_to-append n c (route (of i.to) i) (routed of told))
+    ∙ filter-append is_reply_sent (sent_to n c (route (of i.to) i)) (sent_to n c (routed of told))
+    ∙ ap (λ xs. xs ++ filter is_reply_sent (sent_to n c (routed of told)))
+    (route_no_reply n c (of i.to).proto i)
+    ∙ routed_no_reply n c of told
+
+reply_kept : (b : Bool) (n : ℕ) (p : Proto) (v : Value) (ss : List (ℕ × Sending))
+    → is_push v ≡ false → filter is_reply_sent ss ≡ []
+    → filter is_reply_sent (cond b ((n, Message p v) ∷ ss) ss) ≡ cond b ((n, Message p v) ∷ []) []
+unfolding is_reply_sent
+reply_kept true n p v ss h none =
+    ap (λ b. cond (cond b false true) ((n, Message p v) ∷ filter is_reply_sent ss)
+    (filter is_reply_sent ss)) h ∙ ap (λ xs. (n, Message p v) ∷ xs) none
+reply_kept false n p v ss h none = none
+
+run_reply : (l : Limits) (n c : ℕ) (past : List Entry) (id : ℕ) (words : List (List ℕ)) (m : ℕ)
+    → filter is_reply_sent (sent_to n c (sends l (Run id words m) past))
+    ≡ cond (id == c) ((n, (reply_of l past id words m).1) ∷ []) []
+run_reply l n c past id words m =
+    let late = own_group l past id words m ++ drop_group (drops l past id words m) in
+    let of = modes l (Run id words m ∷ past) in
+    let early = sent_to n c (routed (modes l past) (expiry_group l past m)) in
+    let rest = sent_to n c (routed of late ++ []) in
+    let none : filter is_reply_sent rest ≡ [] =
+    ap (λ xs. filter is_reply_sent (sent_to n c xs)) (append-nil (routed of late))
+    ∙ routed_no_reply n c of late in
+    ap (filter is_reply_sent)
+    (sent_to-append n c (routed (modes l past) (expiry_group l past m))
+    (reply_of l past id words m ∷ (routed of late ++ [])))
+    ∙ filter-append is_reply_sent early
+    (cond (id == c) ((n, (reply_of l past id words m).1) ∷ rest) rest)
+    ∙ ap (λ xs. xs ++ filter is_reply_sent
+    (cond (id == c) ((n, (reply_of l past id words m).1) ∷ rest) rest))
+    (routed_no_reply n c (modes l past) (expiry_group l past m))
+    ∙ reply_kept (id == c) n (reply_protocol l past id words) (ran l past id words m).reply rest
+    (reply_no_push l past id words m) none
+
+add_none : (l : Limits) (c : ℕ) (e : Entry) (past : List Entry)
+    → filter is_reply_sent (sent_to (length past + 1) c (sends l e past)) ≡ []
+    → filter is_reply_sent (sent l c past) ≡ replies_of l c past
+    → filter is_reply_sent (sent l c (e ∷ past)) ≡ replies_of l c past
+add_none l c e past none before =
+    filter-append is_reply_sent (sent l c past) (sent_to (length past + 1) c (sends l e past))
+    ∙ ap (λ xs. filter is_reply_sent (sent l c past) ++ xs) none
+    ∙ append-nil (filter is_reply_sent (sent l c past)) ∙ before
+
+close_none : (n : ℕ) (b : Bool) → filter is_reply_sent (cond b ((n, End) ∷ []) []) ≡ []
+unfolding is_reply_sent
+close_none n true = refl
+close_none n false = refl
+
+out_of : (b : Bool) (xs ys : List (ℕ × Sending)) → xs ++ cond b ys [] ≡ cond b (xs ++ ys) xs
+out_of true xs ys = refl
+out_of false xs ys = append-nil xs
+
+pub replies_are_of_runs : (l : Limits) (c : ℕ) (past : List Entry)
+    → filter is_reply_sent (sent l c past) ≡ replies_of l c past
+unfolding replies_of
+replies_are_of_runs l c [] = refl
+replies_are_of_runs l c (Admit id ∷ past) =
+    add_none l c (Admit id) past refl (replies_are_of_runs l c past)
+replies_are_of_runs l c (Take id max ∷ past) =
+    add_none l c (Take id max) past refl (replies_are_of_runs l c past)
+replies_are_of_runs l c (Close id ∷ past) =
+    add_none l c (Close id) past (close_none (length past + 1) (id == c))
+    (replies_are_of_runs l c past)
+replies_are_of_runs l c (Run id words m ∷ past) =
+    filter-append is_reply_sent (sent l c past)
+    (sent_to (length past + 1) c (sends l (Run id words m) past))
+    ∙ ap (λ xs. filter is_reply_sent (sent l c past) ++ xs)
+    (run_reply l (length past + 1) c past id words m)
+    ∙ ap (λ xs. xs ++ cond (id == c) ((length past + 1, (reply_of l past id words m).1) ∷ []) [])
+    (replies_are_of_runs l c past)
+    ∙ out_of (id == c) (replies_of l c past)
+    ((length past + 1, (reply_of l past id words m).1) ∷ [])

@@ -1,0 +1,270 @@
+-- Where in a past a connection's commands ran.
+use Rattle.std.proofs.Common.{◌≡◌, ◌+◌, ◌-◌, ◌<◌, ◌≤◌, ℕ, zero, suc, List, [], ◌∷◌, ◌++◌, length}
+use Rattle.std.proofs.Common.{true, false, cond, drop, refl, ap, sym, ◌∙◌, arith, Some}
+use Rattle.std.proofs.Common.{◌⊎◌, inl, inr, append_assoc, length-append, append-nil, subst}
+use Rattle.std.specs.Prelude.{slice_get, ◌==◌}
+use Rattle.std.proofs.lemmas.Option.{slice_get_within}
+use Rattle.resp_value.specs.Lists.{IsPrefix}
+use Rattle.serial_model.specs.declared.history.Limits.{Limits}
+use Rattle.serial_model.specs.declared.history.Entry.{Entry}
+use Rattle.serial_model.specs.declared.history.Entry.TheVariants.{Admit, Run, Take, Close}
+use Rattle.serial_model.specs.History.{runs_of, IsLegal}
+use Rattle.currency.specs.Links.{run_entries}
+use Rattle.currency.specs.Points.{up_to}
+use Rattle.currency.proofs.Lists.{get_front, get_parts, get_one, get_last, Behind}
+
+-- the older part of a past
+pub record Older (up past : List Entry) : Type 0 where
+  pub newer : List Entry
+  pub is : newer ++ up ≡ past
+
+pub older_all : (past : List Entry) → Older past past
+older_all past = record { newer = []; is = refl }
+
+pub older_tail : (e : Entry) (up past : List Entry) → Older (e ∷ up) past → Older up past
+older_tail e up past o = record {
+  newer = o.newer ++ e ∷ [];
+  is = append_assoc o.newer (e ∷ []) up ∙ o.is;
+}
+
+pub older_more : (up mid past : List Entry) → Older up mid → Older mid past → Older up past
+older_more up mid past o m = record {
+  newer = m.newer ++ o.newer;
+  is = append_assoc m.newer o.newer up ∙ ap (λ l. m.newer ++ l) o.is ∙ m.is;
+}
+
+pub older_le : (up past : List Entry) → Older up past → length up ≤ length past
+older_le up past o = omega (arith, length-append o.newer up, ap length o.is)
+
+-- of two older parts the shorter is one of the longer
+within : (na nb a b : List Entry) → na ++ a ≡ nb ++ b → length nb ≤ length na → Older a b
+within na [] a b e le = record { newer = na; is = e }
+within [] (y ∷ nb) a b e le = absurd (let no : ⊥ = omega (arith, le) in no)
+within (x ∷ na) (y ∷ nb) a b e le =
+    let f : na ++ a ≡ nb ++ b = cc in within na nb a b f (omega (arith, le))
+
+pub older_within : (a b past : List Entry) → Older a past → Older b past → length a ≤ length b
+    → Older a b
+older_within a b past o m le =
+    within o.newer m.newer a b (o.is ∙ sym m.is)
+    (omega (
+      arith,
+      length-append o.newer a,
+      length-append m.newer b,
+      ap length o.is,
+      ap length m.is,
+      le,
+    ))
+
+-- the past up to an entry is an older part of it
+drop_older : (n : ℕ) (past : List Entry) → n ≤ length past
+    → Older (drop n past) past × (length (drop n past) ≡ length past - n)
+drop_older zero past le = (older_all past, omega arith)
+drop_older (suc n) [] le = absurd (let no : ⊥ = omega arith in no)
+drop_older (suc n) (e ∷ past) le =
+    let r = drop_older n past (omega arith) in (
+      record { newer = e ∷ r.0.newer; is = ap (λ l. e ∷ l) r.0.is },
+      omega (arith, r.1),
+    )
+
+pub up_to_older : (r : ℕ) (past : List Entry) → r ≤ length past
+    → Older (up_to r past) past × (length (up_to r past) ≡ r)
+up_to_older r past le =
+    let d = drop_older (length past - r) past (omega arith) in (d.0, omega (arith, d.1))
+
+-- an older part is the past up to the entry of its length
+drop_front : (newer up : List Entry) → drop (length newer) (newer ++ up) ≡ up
+drop_front [] up = refl
+drop_front (e ∷ newer) up = drop_front newer up
+
+pub older_up_to : (up past : List Entry) → Older up past → up_to (length up) past ≡ up
+older_up_to up past o =
+    ap (λ n. drop n past)
+    (let n : length past - length up ≡ length o.newer =
+    omega (arith, length-append o.newer up, ap length o.is) in n)
+    ∙ ap (drop (length o.newer)) (sym o.is) ∙ drop_front o.newer up
+
+pub older_legal : (l : Limits) (newer up : List Entry) → IsLegal l (newer ++ up) → IsLegal l up
+older_legal l [] up h = h
+older_legal l (Admit id ∷ newer) up h = older_legal l newer up h.2
+older_legal l (Run id words moment ∷ newer) up h = older_legal l newer up h.3
+older_legal l (Take id max ∷ newer) up h = older_legal l newer up h.3
+older_legal l (Close id ∷ newer) up h = older_legal l newer up h.1
+
+module _ (c : ℕ) where
+  pub runs_count : (past : List Entry) → length (run_entries c past) ≡ length (runs_of c past)
+  runs_count [] = refl
+  runs_count (Admit id ∷ past) = runs_count past
+  runs_count (Run id words moment ∷ past) =
+      elim (id == c) as (λ b. length (cond b (run_entries c past ++ (length past + 1) ∷ [])
+      (run_entries c past))
+      ≡ length (cond b (runs_of c past ++ words ∷ []) (runs_of c past))) [
+        | true ↦ omega (
+          arith,
+          runs_count past,
+          length-append (run_entries c past) ((length past + 1) ∷ []),
+          length-append (runs_of c past) (words ∷ []),
+        )
+        | false ↦ runs_count past
+      ]
+  runs_count (Take id max ∷ past) = runs_count past
+  runs_count (Close id ∷ past) = runs_count past
+
+  pub entry_le : (past : List Entry) (place p : ℕ) → slice_get (run_entries c past) place ≡ Some p
+      → p ≤ length past
+  entry_le [] place p e = cc
+  entry_le (Admit id ∷ past) place p e = let r = entry_le past place p e in omega (arith, r)
+  entry_le (Run id words moment ∷ past) place p e =
+      let r : p ≤ length past + 1 =
+      elim (id == c) as (λ b. slice_get (cond b (run_entries c past ++ (length past + 1) ∷ [])
+      (run_entries c past)) place ≡ Some p → p ≤ length past + 1) [
+        | true ↦ λ e.
+            elim (get_parts (run_entries c past) ((length past + 1) ∷ []) place p e) [
+              | inl h ↦ let r = entry_le past place p h in omega (arith, r)
+              | inr b ↦ let o = get_one (length past + 1) b.at p b.there in omega (arith, o.1)
+            ]
+        | false ↦ λ e. let r = entry_le past place p e in omega (arith, r)
+      ] e in
+      omega (arith, r)
+  entry_le (Take id max ∷ past) place p e = let r = entry_le past place p e in omega (arith, r)
+  entry_le (Close id ∷ past) place p e = let r = entry_le past place p e in omega (arith, r)
+
+  last : (past : List Entry) (i j p q : ℕ) → i < j
+      → (slice_get (run_entries c past) i ≡ Some p → slice_get (run_entries c past) j ≡ Some q
+      → p < q)
+      → (slice_get (run_entries c past) i ≡ Some p)
+      ⊎ Behind (run_entries c past) ((length past + 1) ∷ []) i p
+      → (slice_get (run_entries c past) j ≡ Some q)
+      ⊎ Behind (run_entries c past) ((length past + 1) ∷ []) j q
+      → p < q
+  last past i j p q lt before (inl h) (inl g) = before h g
+  last past i j p q lt before (inl h) (inr b) =
+      let le = entry_le past i p h in
+      let o = get_one (length past + 1) b.at q b.there in omega (arith, le, o.1)
+  last past i j p q lt before (inr a) (inl g) =
+      let w = slice_get_within (run_entries c past) j q g in
+      absurd (let no : ⊥ = omega (arith, w, a.is) in no)
+  last past i j p q lt before (inr a) (inr b) =
+      let o = get_one (length past + 1) a.at p a.there in
+      let n = get_one (length past + 1) b.at q b.there in
+      absurd (let no : ⊥ = omega (arith, a.is, b.is, o.0, n.0) in no)
+
+  -- places and entries of runs grow together
+  pub in_order : (past : List Entry) (i j p q : ℕ) → i < j
+      → slice_get (run_entries c past) i ≡ Some p → slice_get (run_entries c past) j ≡ Some q
+      → p < q
+  in_order [] i j p q lt e f = cc
+  in_order (Admit id ∷ past) i j p q lt e f = in_order past i j p q lt e f
+  in_order (Run id words moment ∷ past) i j p q lt e f =
+      elim (id == c) as (λ b. slice_get (cond b (run_entries c past ++ (length past + 1) ∷ [])
+      (run_entries c past)) i ≡ Some p
+      → slice_get (cond b (run_entries c past ++ (length past + 1) ∷ [])
+      (run_entries c past)) j ≡ Some q → p < q) [
+        | true ↦ λ e f. last past i j p q lt (λ h g. in_order past i j p q lt h g)
+            (get_parts (run_entries c past) ((length past + 1) ∷ []) i p e)
+            (get_parts (run_entries c past) ((length past + 1) ∷ []) j q f)
+        | false ↦ λ e f. in_order past i j p q lt e f
+      ] e f
+  in_order (Take id max ∷ past) i j p q lt e f = in_order past i j p q lt e f
+  in_order (Close id ∷ past) i j p q lt e f = in_order past i j p q lt e f
+
+  -- what ran up to an older entry are the first of all that ran
+  pub runs_more : (newer up : List Entry) → IsPrefix (runs_of c up) (runs_of c (newer ++ up))
+  runs_more [] up = ([], append-nil (runs_of c up))
+  runs_more (Admit id ∷ newer) up = runs_more newer up
+  runs_more (Take id max ∷ newer) up = runs_more newer up
+  runs_more (Close id ∷ newer) up = runs_more newer up
+  runs_more (Run id words moment ∷ newer) up =
+      let r = runs_more newer up in
+      elim (id == c) as (λ b. IsPrefix (runs_of c up) (cond b (runs_of c
+      (newer ++ up) ++ words ∷ [])
+      (runs_of c (newer ++ up)))) [
+        | true ↦ (
+          r.0 ++ words ∷ [],
+          sym (append_assoc (runs_of c up) r.0 (words ∷ [])) ∙ ap (λ rs. rs ++ words ∷ []) r.1,
+        )
+        | false ↦ r
+      ]
+
+  pub runs_older : (up past : List Entry) → Older up past → IsPrefix (runs_of c up) (runs_of c past)
+  runs_older up past o =
+      subst (λ p. IsPrefix (runs_of c up) (runs_of c p)) o.is (runs_more o.newer up)
+
+  -- ---- the Run of a place
+
+  pub record RanAt (past : List Entry) (place p : ℕ) : Type 0 where
+    pub id : ℕ
+    pub words : List (List ℕ)
+    pub moment : ℕ
+    pub up : List Entry
+    pub own : (id == c) ≡ true
+    pub older : Older (Run id words moment ∷ up) past
+    pub at : length up + 1 ≡ p
+    pub place_is : length (runs_of c up) ≡ place
+    pub words_are : slice_get (runs_of c past) place ≡ Some words
+
+  one_newer : (e : Entry) (past : List Entry) (place p : ℕ)
+      → IsPrefix (runs_of c past) (runs_of c (e ∷ past))
+      → RanAt past place p → RanAt (e ∷ past) place p
+  one_newer e past place p grown r = record {
+    id = r.id;
+    words = r.words;
+    moment = r.moment;
+    up = r.up;
+    own = r.own;
+    older = record { newer = e ∷ r.older.newer; is = ap (λ l. e ∷ l) r.older.is };
+    at = r.at;
+    place_is = r.place_is;
+    words_are =
+        ap (λ l. slice_get l place) (sym grown.1)
+        ∙ get_front (runs_of c past) grown.0 place r.words r.words_are;
+  }
+
+  same : (xs : List (List (List ℕ))) → IsPrefix xs xs
+  same xs = ([], append-nil xs)
+
+  pub ran_at : (past : List Entry) (place p : ℕ) → slice_get (run_entries c past) place ≡ Some p
+      → RanAt past place p
+  ran_at [] place p e = cc
+  ran_at (Admit id ∷ past) place p e =
+      one_newer (Admit id) past place p (same (runs_of c past)) (ran_at past place p e)
+  ran_at (Run id words moment ∷ past) place p e =
+      elim (id == c) as (λ b. (id == c) ≡ b
+      → slice_get (cond b (run_entries c past ++ (length past + 1) ∷ [])
+      (run_entries c past)) place ≡ Some p → RanAt (Run id words moment ∷ past) place p) [
+        | true ↦ λ own e.
+            let runs_are : runs_of c past ++ words ∷ [] ≡ runs_of c (Run id words moment ∷ past) =
+            ap (λ b. cond b (runs_of c past ++ words ∷ []) (runs_of c past)) (sym own) in
+            elim (get_parts (run_entries c past) ((length past + 1) ∷ []) place p e) [
+              | inl h ↦
+                  one_newer (Run id words moment) past place p (words ∷ [], runs_are)
+                  (ran_at past place p h)
+              | inr b ↦ let o = get_one (length past + 1) b.at p b.there in
+                  let n : length (runs_of c past) ≡ place =
+                  omega (arith, runs_count past, b.is, o.0) in record {
+                    id = id;
+                    words = words;
+                    moment = moment;
+                    up = past;
+                    own = own;
+                    older = older_all (Run id words moment ∷ past);
+                    at = o.1;
+                    place_is = n;
+                    words_are =
+                        ap (λ l. slice_get l place) (sym runs_are)
+                        ∙ ap (slice_get (runs_of c past ++ words ∷ [])) (sym n)
+                        ∙ get_last (runs_of c past) words;
+                  }
+            ]
+        | false ↦ λ own e.
+            one_newer (Run id words moment) past place p (
+              [],
+              append-nil (runs_of c past)
+                  ∙ ap (λ b. cond b (runs_of c past ++ words ∷ []) (runs_of c past)) (sym own),
+            )
+            (ran_at past place p e)
+      ] refl e
+  ran_at (Take id max ∷ past) place p e =
+      one_newer (Take id max) past place p (same (runs_of c past)) (ran_at past place p e)
+  ran_at (Close id ∷ past) place p e =
+      one_newer (Close id) past place p (same (runs_of c past)) (ran_at past place p e)

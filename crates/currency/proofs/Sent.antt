@@ -1,0 +1,218 @@
+-- What was sent to a connection, by its places and by the numbers of its entries.
+use Rattle.std.proofs.Common.{◌≡◌, ◌+◌, ◌<◌, ◌≤◌, ℕ, zero, suc, List, [], ◌∷◌, ◌++◌, length}
+use Rattle.std.proofs.Common.{Bool, true, false, cond, refl, ap, sym, ◌∙◌, arith, Some}
+use Rattle.std.proofs.Common.{◌⊎◌, inl, inr, append_assoc, append-nil}
+use Rattle.std.specs.Prelude.{slice_get, ◌==◌, ◌&&◌, Option}
+use Rattle.std.proofs.lemmas.Option.{slice_get_within}
+use Rattle.std.proofs.lemmas.Bool.{eqb-true}
+use Rattle.resp_value.specs.Lists.{IsPrefix}
+use Rattle.resp_value.specs.declared.value.Proto.TheVariants.{Three}
+use Rattle.serial_model.specs.declared.mode.Mode.{Mode}
+use Rattle.serial_model.specs.declared.history.Limits.{Limits}
+use Rattle.serial_model.specs.declared.history.Entry.{Entry}
+use Rattle.serial_model.specs.declared.history.Entry.TheVariants.{Admit, Run, Take, Close}
+use Rattle.serial_model.specs.Tracking.{Invalidation, push_of, names_key, tells, drop_group}
+use Rattle.serial_model.specs.History.{Sending, Message, End, sends, sent_to, sent, mode, modes}
+use Rattle.serial_model.specs.History.{by_proto, route, routed, expiry_group, own_group, drops}
+use Rattle.serial_model.specs.History.{reply_of}
+use Rattle.serial_model.specs.Laws.{is_due, has_end}
+use Rattle.currency.proofs.Lists.{get_front, get_behind, get_parts, Behind, one_passes, get_given}
+use Rattle.currency.proofs.Runs.{Older}
+
+module _ (c : ℕ) where
+  -- ---- the sendings of one entry
+
+  first : (n : ℕ) (x : Sending) (ss : List (ℕ × Sending)) (i : ℕ) (s : ℕ × Sending)
+      → ((j : ℕ) → slice_get (sent_to n c ss) j ≡ Some s → s.0 ≡ n)
+      → slice_get ((n, x) ∷ sent_to n c ss) i ≡ Some s → s.0 ≡ n
+  first n x ss zero s rest e =
+      let same : (n, x) ≡ s = cc in ap (λ (p : ℕ × Sending). p.0) (sym same)
+  first n x ss (suc i) s rest e = rest i e
+
+  number_of : (n : ℕ) (ss : List (ℕ × Sending)) (i : ℕ) (s : ℕ × Sending)
+      → slice_get (sent_to n c ss) i ≡ Some s → s.0 ≡ n
+  number_of n [] i s e = cc
+  number_of n (x ∷ ss) i s e =
+      elim (x.0 == c) as (λ b. slice_get (cond b ((n, x.1) ∷ sent_to n c ss) (sent_to n c ss)) i
+      ≡ Some s → s.0 ≡ n) [
+        | true ↦ λ e. first n x.1 ss i s (λ j h. number_of n ss j s h) e
+        | false ↦ λ e. number_of n ss i s e
+      ] e
+
+  pub is_sent_to : (n : ℕ) (ss : List (ℕ × Sending)) (k : ℕ) (x : ℕ × Sending)
+      → slice_get ss k ≡ Some x → (x.0 == c) ≡ true
+      → (j : ℕ) × (slice_get (sent_to n c ss) j ≡ Some (n, x.1))
+  is_sent_to n [] k x e own = cc
+  is_sent_to n (y ∷ ss) zero x e own =
+      let same : y ≡ x = cc in (
+        0,
+        ap (λ (z : ℕ × Sending). slice_get (cond (z.0 == c) ((n, z.1) ∷ sent_to n c ss)
+            (sent_to n c ss)) 0) same
+            ∙ ap (λ b. slice_get (cond b ((n, x.1) ∷ sent_to n c ss) (sent_to n c ss)) 0) own,
+      )
+  is_sent_to n (y ∷ ss) (suc k) x e own =
+      let r = is_sent_to n ss k x e own in
+      elim (y.0 == c) as (λ b. (j : ℕ)
+      × (slice_get (cond b ((n, y.1) ∷ sent_to n c ss) (sent_to n c ss)) j ≡ Some (n, x.1))) [
+        | true ↦ (suc r.0, r.1)
+        | false ↦ r
+      ]
+
+  module _ (l : Limits) where
+    pub sent_le : (past : List Entry) (i : ℕ) (s : ℕ × Sending)
+        → slice_get (sent l c past) i ≡ Some s → s.0 ≤ length past
+    sent_le [] i s e = cc
+    sent_le (x ∷ past) i s e =
+        elim (get_parts (sent l c past) (sent_to (length past + 1) c (sends l x past)) i s e) [
+          | inl h ↦ let r = sent_le past i s h in omega (arith, r)
+          | inr b ↦
+              let r = number_of (length past + 1) (sends l x past) b.at s b.there in omega
+              (arith, r)
+        ]
+
+    by_parts : (x : Entry) (past : List Entry) (i j : ℕ) (s t : ℕ × Sending) → i ≤ j
+        → (slice_get (sent l c past) i ≡ Some s → slice_get (sent l c past) j ≡ Some t
+        → s.0 ≤ t.0)
+        → (slice_get (sent l c past) i ≡ Some s)
+        ⊎ Behind (sent l c past) (sent_to (length past + 1) c (sends l x past)) i s
+        → (slice_get (sent l c past) j ≡ Some t)
+        ⊎ Behind (sent l c past) (sent_to (length past + 1) c (sends l x past)) j t → s.0 ≤ t.0
+    by_parts x past i j s t le before (inl h) (inl g) = before h g
+    by_parts x past i j s t le before (inl h) (inr b) =
+        let r = sent_le past i s h in
+        let n = number_of (length past + 1) (sends l x past) b.at t b.there in
+        omega (arith, r, n)
+    by_parts x past i j s t le before (inr a) (inl g) =
+        let w = slice_get_within (sent l c past) j t g in
+        absurd (let no : ⊥ = omega (arith, w, a.is, le) in no)
+    by_parts x past i j s t le before (inr a) (inr b) =
+        let m = number_of (length past + 1) (sends l x past) a.at s a.there in
+        let n = number_of (length past + 1) (sends l x past) b.at t b.there in
+        omega (arith, m, n)
+
+    pub sent_pos : (past : List Entry) (i : ℕ) (s : ℕ × Sending)
+        → slice_get (sent l c past) i ≡ Some s → 0 < s.0
+    sent_pos [] i s e = cc
+    sent_pos (x ∷ past) i s e =
+        elim (get_parts (sent l c past) (sent_to (length past + 1) c (sends l x past)) i s e) [
+          | inl h ↦ sent_pos past i s h
+          | inr b ↦
+              let r = number_of (length past + 1) (sends l x past) b.at s b.there in omega
+              (arith, r)
+        ]
+
+    -- what was sent later was sent at a later entry, or at the same
+    pub sent_order : (past : List Entry) (i j : ℕ) (s t : ℕ × Sending) → i ≤ j
+        → slice_get (sent l c past) i ≡ Some s → slice_get (sent l c past) j ≡ Some t → s.0 ≤ t.0
+    sent_order [] i j s t le e f = cc
+    sent_order (x ∷ past) i j s t le e f =
+        by_parts x past i j s t le (λ h g. sent_order past i j s t le h g)
+        (get_parts (sent l c past) (sent_to (length past + 1) c (sends l x past)) i s e)
+        (get_parts (sent l c past) (sent_to (length past + 1) c (sends l x past)) j t f)
+
+    pub sent_more : (newer up : List Entry) → IsPrefix (sent l c up) (sent l c (newer ++ up))
+    sent_more [] up = ([], append-nil (sent l c up))
+    sent_more (x ∷ newer) up =
+        let r = sent_more newer up in
+        let new = sent_to (length (newer ++ up) + 1) c (sends l x (newer ++ up)) in (
+          r.0 ++ new,
+          sym (append_assoc (sent l c up) r.0 new) ∙ ap (λ ss. ss ++ new) r.1,
+        )
+
+    -- a place in what was sent up to an older entry is a place in all
+    pub sent_older : (up past : List Entry) → Older up past → (i : ℕ) (s : ℕ × Sending)
+        → slice_get (sent l c up) i ≡ Some s → slice_get (sent l c past) i ≡ Some s
+    sent_older up past o i s e =
+        let m = sent_more o.newer up in
+        ap (λ p. slice_get (sent l c p) i) (sym o.is)
+        ∙ ap (λ ss. slice_get ss i) (sym m.1) ∙ get_front (sent l c up) m.0 i s e
+
+    -- what an entry sends to the connection has a place behind all that was sent before
+    pub sent_at : (x : Entry) (up : List Entry) (k : ℕ) (y : ℕ × Sending)
+        → slice_get (sends l x up) k ≡ Some y → (y.0 == c) ≡ true
+        → (j : ℕ) × (slice_get (sent l c (x ∷ up)) j ≡ Some (length up + 1, y.1))
+    sent_at x up k y e own =
+        let r = is_sent_to (length up + 1) (sends l x up) k y e own in (
+          length (sent l c up) + r.0,
+          get_behind (sent l c up) (sent_to (length up + 1) c (sends l x up)) r.0
+              (length up + 1, y.1) r.1,
+        )
+
+    -- ---- invalidations
+
+    -- an invalidation of the key that was sent
+    pub record Told (past : List Entry) (n : ℕ) (key : List ℕ) : Type 0 where
+      pub place : ℕ
+      pub keys : Option (List (List ℕ))
+      pub there : slice_get (sent l c past) place ≡ Some (n, Message Three (push_of keys))
+      pub names : names_key keys key ≡ true
+
+    both : (a b : Bool) → (a && b) ≡ true → (a ≡ true) × (b ≡ true)
+    both true b h = (refl, h)
+    both false b h = absurd (let no : ⊥ = cc in no)
+
+    routed_at : (of : ℕ → Mode) (told : List Invalidation) (k : ℕ) (i : Invalidation)
+        → slice_get told k ≡ Some i → (of i.to).proto ≡ Three
+        → (n : ℕ) × (slice_get (routed of told) n ≡ Some (i.to, Message Three (push_of i.keys)))
+    routed_at of told k i e three =
+        get_given (λ j. route (of j.to) j) told k i (i.to, Message Three (push_of i.keys)) 0 e
+        (ap (λ p. slice_get (by_proto p i) 0) three)
+
+    told_by : (x : Entry) (up : List Entry) (key : List ℕ) (i : Invalidation) (k : ℕ)
+        → slice_get (sends l x up) k ≡ Some (i.to, Message Three (push_of i.keys))
+        → tells c key i ≡ true → Told (x ∷ up) (length up + 1) key
+    told_by x up key i k e t =
+        let h = both (i.to == c) (names_key i.keys key) t in
+        let r = sent_at x up k (i.to, Message Three (push_of i.keys)) e h.0 in
+        record { place = r.0; keys = i.keys; there = r.1; names = h.1 }
+
+    -- a connection of the third protocol that an entry tells of a key is sent it there
+    pub lands : (x : Entry) (up : List Entry) (key : List ℕ)
+        → is_due l x up c key ≡ true → (mode l c up).proto ≡ Three
+        → (mode l c (x ∷ up)).proto ≡ Three → Told (x ∷ up) (length up + 1) key
+    lands (Admit id) up key h before after = absurd (let no : ⊥ = cc in no)
+    lands (Take id max) up key h before after = absurd (let no : ⊥ = cc in no)
+    lands (Close id) up key h before after = absurd (let no : ⊥ = cc in no)
+    lands (Run id words moment) up key h before after =
+        let x = Run id words moment in
+        let early = expiry_group l up moment in
+        let late = own_group l up id words moment ++ drop_group (drops l up id words moment) in
+        let p = one_passes (tells c key) (early ++ late) h in
+        let own : (p.one.to == c) ≡ true = (both (p.one.to == c) (names_key p.one.keys key)
+        p.passes).0 in
+        let of = modes l (x ∷ up) in
+        let reply = reply_of l up id words moment in
+        elim (get_parts early late p.at p.one p.there) [
+          | inl e ↦
+              let r = routed_at (modes l up) early p.at p.one e
+              (ap (λ d. (mode l d up).proto) (eqb-true p.one.to c own) ∙ before) in
+              told_by x up key p.one r.0
+              (get_front (routed (modes l up) early) (reply ∷ (routed of late ++ [])) r.0
+              (p.one.to, Message Three (push_of p.one.keys)) r.1)
+              p.passes
+          | inr b ↦
+              let r = routed_at of late b.at p.one b.there
+              (ap (λ d. (mode l d (x ∷ up)).proto) (eqb-true p.one.to c own) ∙ after) in
+              told_by x up key p.one (length (routed (modes l up) early) + suc r.0)
+              (get_behind (routed (modes l up) early) (reply ∷ (routed of late ++ [])) (suc r.0)
+              (p.one.to, Message Three (push_of p.one.keys))
+              (get_front (routed of late) [] r.0 (
+                p.one.to,
+                Message Three
+                    (push_of p.one.keys),
+              ) r.1))
+              p.passes
+        ]
+
+    -- where a connection has ended its end was sent
+    pub record Ended (past : List Entry) (n : ℕ) : Type 0 where
+      pub place : ℕ
+      pub entry : ℕ
+      pub there : slice_get (sent l c past) place ≡ Some (entry, End)
+      pub before : entry ≤ n
+
+    pub end_place : (ss : List (ℕ × Sending)) → has_end ss ≡ true
+        → (i n : ℕ) × (slice_get ss i ≡ Some (n, End))
+    end_place [] h = absurd (let no : ⊥ = cc in no)
+    end_place ((n, Message p v) ∷ ss) h = let r = end_place ss h in (suc r.0, r.1, r.2)
+    end_place ((n, End) ∷ ss) h = (0, n, refl)

@@ -1,0 +1,17 @@
+//! The cache is current: what a client holds is what the server would answer, on the premise that
+//! its link hands over what was sent, in order.
+#![tactic(auto)]
+
+ghost use Rattle.currency.specs.Current.{Currency};
+
+use command_words::law_signals_are_written;
+use serial_model::law_change_is_signalled;
+
+/// For every legal history and every legal log that meet: each held entry is current, and a hit on
+/// it has its point.
+pub fn law_currency()
+    ensures { Currency }
+{
+    law_change_is_signalled();
+    law_signals_are_written();
+}
