@@ -3,6 +3,7 @@ ghost use Rattle.std.specs.Prelude.{IfOk, ◌<◌};
 ghost use Rattle.serial_model.specs.Steps.{AreValid, IsCallable};
 
 use super::{Book, BookCall, BookRefusal, BookReply, Entry, Limits, Post, Posted};
+use command_words::put_printed;
 use resp_value::{NoMemory, Octets, Words};
 use std::alloc::Global;
 use std::test::Fail;
@@ -62,43 +63,86 @@ fn parts_of(reply: &BookReply) -> (u64, &[u8]) {
     }
 }
 
+fn number_of(text: &str) -> u64 {
+    text.parse::<u64>().unwrap_or(0)
+}
+
+// Whether these are the posts: the id of each connection, and how many bytes it is sent.
+fn are_posts(posts: &[Post], text: &str) -> bool {
+    if text == "-" {
+        return posts.is_empty();
+    }
+    let mut wanted = text.split(',');
+    for post in posts {
+        let (id, size) = wanted
+            .next()
+            .unwrap_or("")
+            .split_once(":")
+            .unwrap_or(("", ""));
+        let what = match post.what {
+            Posted::End => size == "end",
+            Posted::Message { length } => size != "end" && length == number_of(size),
+        };
+        if post.id != number_of(id) || !what {
+            return false;
+        }
+    }
+    wanted.next().is_none()
+}
+
+// Plays the turn of a row: the id, a number and the call; then the number of its entry, the bytes
+// that it gave as they are printed, and its posts.
+fn is_played_so(alloc: Global, book: &mut Book, row: &str) -> Result<bool, NoMemory> {
+    let (asked, wanted) = row.split_once(": ").unwrap_or(("", ""));
+    let (id, asked) = asked.split_once(" ").unwrap_or(("", ""));
+    let (number, what) = asked.split_once(" ").unwrap_or(("", ""));
+    let (entry, wanted) = wanted.split_once(" ").unwrap_or(("", ""));
+    let (gave, posts) = wanted.split_once(" ").unwrap_or(("", ""));
+    let reply = book.turn(call_of(alloc, what, number_of(id), number_of(number))?);
+    let (added, bytes) = parts_of(&reply);
+    let mut shown = Vec::new(alloc);
+    put_printed(bytes, &mut shown)?;
+    let same = added == number_of(entry) && shown.as_slice() == gave.as_bytes();
+    Ok(same && are_posts(book.last_posts(), posts))
+}
+
+// The first row whose turn is not what it says.
+fn wrong_row<'a>(
+    alloc: Global,
+    book: &mut Book,
+    table: &'a str,
+) -> Result<Option<&'a str>, NoMemory> {
+    for row in table.split('\n') {
+        if !is_played_so(alloc, book, row)? {
+            return Ok(Some(row));
+        }
+    }
+    Ok(None)
+}
+
+const TURNS: &str = "\
+1 9 take: 0 gone -
+1 0 GET foo: 0 gone -
+0 0 admit: 1 \\e -
+1 9 take: 0 quiet -
+1 7 SET foo bar: 2 \\e 1:5
+1 3 GET foo: 3 \\e 1:9
+1 3 GET nope: 4 \\e 1:5
+2 9 take: 0 gone -
+1 5 take: 5 +OK\\r\\n -
+0 0 admit: 6 \\e -
+2 8 get foo: 7 \\e 2:9
+1 99 take: 8 $3\\r\\nbar\\r\\n$-1\\r\\n -
+2 99 take: 9 $3\\r\\nbar\\r\\n -
+2 99 take: 0 quiet -
+2 0 close: 10 \\e 2:end
+2 8 GET foo: 0 gone -";
+
 #[test]
 fn a_book_answers_its_turns_and_keeps_their_entries(rt: HostRuntime) -> Result<(), Fail> {
     let alloc = rt.alloc();
     let mut book = Book::new(alloc, limits_of(10))?;
-    for (what, id, number, entry, bytes, sent) in [
-        ("take", 1, 9, 0, "gone", 0),
-        ("GET foo", 1, 0, 0, "gone", 0),
-        ("admit", 0, 0, 1, "", 0),
-        ("take", 1, 9, 0, "quiet", 0),
-        ("SET foo bar", 1, 7, 2, "", 5),
-        ("GET foo", 1, 3, 3, "", 9),
-        ("GET nope", 1, 3, 4, "", 5),
-        ("take", 2, 9, 0, "gone", 0),
-        ("take", 1, 5, 5, "+OK\r\n", 0),
-        ("admit", 0, 0, 6, "", 0),
-        ("get foo", 2, 8, 7, "", 9),
-        ("take", 1, 99, 8, "$3\r\nbar\r\n$-1\r\n", 0),
-        ("take", 2, 99, 9, "$3\r\nbar\r\n", 0),
-        ("take", 2, 99, 0, "quiet", 0),
-        ("close", 2, 0, 10, "", 0),
-        ("GET foo", 2, 8, 0, "gone", 0),
-    ] {
-        let reply = book.turn(call_of(alloc, what, id, number)?);
-        let (number, gave) = parts_of(&reply);
-        assert_eq!(rt; number, entry, "{what}");
-        assert_eq!(rt; gave, bytes.as_bytes(), "{what}");
-        match book.last_posts() {
-            [] => assert_eq!(rt; sent, 0, "{what}"),
-            [post, ..] => {
-                let what = match reply {
-                    BookReply::Closed { .. } => Posted::End,
-                    _ => Posted::Message { length: sent },
-                };
-                assert_eq!(rt; *post, Post { entry, id, what });
-            }
-        }
-    }
+    assert_eq!(rt; wrong_row(alloc, &mut book, TURNS)?, None);
     assert_eq!(rt; book.entries(), 10);
     let mut moments = Vec::new(alloc);
     for entry in book.history() {
@@ -110,120 +154,98 @@ fn a_book_answers_its_turns_and_keeps_their_entries(rt: HostRuntime) -> Result<(
     Ok(())
 }
 
+const FULL: &str = "\
+0 9 admit: 1 \\e -
+0 9 admit: 2 \\e -
+1 9 GET foo: 3 \\e 1:5
+0 9 admit: 3 full -
+1 9 GET foo: 3 full -
+3 9 GET foo: 0 gone -
+2 9 take: 0 quiet -
+1 9 take: 3 full -
+1 9 close: 4 \\e 1:end
+1 9 take: 0 gone -
+1 9 close: 0 gone -
+2 9 close: 5 \\e 2:end";
+
 #[test]
 fn a_full_history_refuses_all_but_what_adds_no_entry_and_a_close(
     rt: HostRuntime,
 ) -> Result<(), Fail> {
     let alloc = rt.alloc();
     let mut book = Book::new(alloc, limits_of(3))?;
-    for (what, id, entry, bytes) in [
-        ("admit", 0, 1, ""),
-        ("admit", 0, 2, ""),
-        ("GET foo", 1, 3, ""),
-        ("admit", 0, 3, "full"),
-        ("GET foo", 1, 3, "full"),
-        ("GET foo", 3, 0, "gone"),
-        ("take", 2, 0, "quiet"),
-        ("take", 1, 3, "full"),
-        ("close", 1, 4, ""),
-        ("take", 1, 0, "gone"),
-        ("close", 1, 0, "gone"),
-        ("close", 2, 5, ""),
-    ] {
-        let reply = book.turn(call_of(alloc, what, id, 9)?);
-        let (number, gave) = parts_of(&reply);
-        assert_eq!(rt; number, entry, "{what}");
-        assert_eq!(rt; gave, bytes.as_bytes(), "{what}");
-    }
+    assert_eq!(rt; wrong_row(alloc, &mut book, FULL)?, None);
     Ok(())
 }
 
-// What HELLO tells a connection of this id on the third protocol.
-const GREETING: &str = "%7\r\n$6\r\nserver\r\n$5\r\nredis\r\n$7\r\nversion\r\n$5\r\n7.0.0\r\n\
-    $5\r\nproto\r\n:3\r\n$2\r\nid\r\n:1\r\n$4\r\nmode\r\n$10\r\nstandalone\r\n\
-    $4\r\nrole\r\n$6\r\nmaster\r\n$7\r\nmodules\r\n*0\r\n";
+// What HELLO tells a connection stands in the row of its Take.
+const PROTOCOLS: &str = "\
+0 0 admit: 1 \\e -
+0 0 admit: 2 \\e -
+1 0 GET foo: 3 \\e 1:5
+1 999 take: 4 $-1\\r\\n -
+1 0 HELLO 3: 5 \\e 1:144
+1 999 take: 6 %7\\r\\n$6\\r\\nserver\\r\\n$5\\r\\nredis\\r\\n$7\\r\\nversion\\r\\n\
+    $5\\r\\n7.0.0\\r\\n\
+    $5\\r\\nproto\\r\\n:3\\r\\n$2\\r\\nid\\r\\n:1\\r\\n$4\\r\\nmode\\r\\n\
+    $10\\r\\nstandalone\\r\\n$4\\r\\nrole\\r\\n$6\\r\\nmaster\\r\\n$7\\r\\nmodules\\r\\n*0\\r\\n -
+1 0 GET foo: 7 \\e 1:3
+1 999 take: 8 _\\r\\n -
+2 0 GET foo: 9 \\e 2:5
+2 999 take: 10 $-1\\r\\n -
+1 0 HELLO 4: 11 \\e 1:39
+1 999 take: 12 -NOPROTO\\sunsupported\\sprotocol\\sversion\\r\\n -
+1 0 HELLO three: 13 \\e 1:57
+1 999 take: 14 -ERR\\sProtocol\\sversion\\sis\\snot\
+    \\san\\sinteger\\sor\\sout\\sof\\srange\\r\\n -
+1 0 HELLO 2 AUTH: 15 \\e 1:19
+1 999 take: 16 -ERR\\ssyntax\\serror\\r\\n -
+1 0 hello: 17 \\e 1:144
+1 999 take: 18 %7\\r\\n$6\\r\\nserver\\r\\n$5\\r\\nredis\\r\\n$7\\r\\nversion\\r\\n\
+    $5\\r\\n7.0.0\\r\\n\
+    $5\\r\\nproto\\r\\n:3\\r\\n$2\\r\\nid\\r\\n:1\\r\\n$4\\r\\nmode\\r\\n\
+    $10\\r\\nstandalone\\r\\n$4\\r\\nrole\\r\\n$6\\r\\nmaster\\r\\n$7\\r\\nmodules\\r\\n*0\\r\\n -
+1 0 HELLO 2: 19 \\e 1:145
+1 5 take: 20 *14\\r\\n -";
 
 #[test]
 fn hello_switches_the_protocol_of_its_own_connection(rt: HostRuntime) -> Result<(), Fail> {
     let alloc = rt.alloc();
     let mut book = Book::new(alloc, limits_of(100))?;
-    assert_eq!(rt; GREETING.len(), 144);
-    for (what, id, bytes) in [
-        ("admit", 0, ""),
-        ("admit", 0, ""),
-        ("GET foo", 1, "$-1\r\n"),
-        ("HELLO 3", 1, GREETING),
-        ("GET foo", 1, "_\r\n"),
-        ("GET foo", 2, "$-1\r\n"),
-        ("HELLO 4", 1, "-NOPROTO unsupported protocol version\r\n"),
-        (
-            "HELLO three",
-            1,
-            "-ERR Protocol version is not an integer or out of range\r\n",
-        ),
-        ("HELLO 2 AUTH", 1, "-ERR syntax error\r\n"),
-        ("hello", 1, GREETING),
-        ("HELLO 2", 1, "*14\r\n"),
-        ("GET foo", 1, "$-1\r\n"),
-    ] {
-        let _ = book.turn(call_of(alloc, what, id, 0)?);
-        if id > 0 {
-            let reply = book.turn(call_of(alloc, "take", id, 999)?);
-            let (_, gave) = parts_of(&reply);
-            assert_eq!(rt; gave.starts_with(bytes.as_bytes()), true, "{what}");
-        }
-    }
+    assert_eq!(rt; wrong_row(alloc, &mut book, PROTOCOLS)?, None);
     Ok(())
 }
 
-// Who runs what, and then the posts: each the id of a connection and how many bytes it is sent.
-const TRACKING: &str = "1;HELLO 3;1 144
-2;HELLO 3;2 144
-1;CLIENT TRACKING ON;1 5
-2;CLIENT TRACKING ON;2 5
-2;GET a;2 3
-1;GET a;1 3
-3;SET a v;3 5,1 32,2 32
-3;SET a w;3 5
-1;GET a;1 7
-1;SET a x;1 5,1 32
-1;GET a;1 7
-1;GET b;1 3
-2;GET c;2 3,1 32
-1;CLIENT TRACKING OFF;1 5
-3;SET b v;3 5
-3;CLIENT TRACKING ON;3 5
-3;GET d;3 5
-1;SET d v;1 5
-3;SET c v;3 5,2 32";
-
-fn number_of(text: &str) -> u64 {
-    text.parse::<u64>().unwrap_or(0)
-}
+// Of three connections two are on the third protocol.
+const TRACKING: &str = "\
+0 0 admit: 1 \\e -
+0 0 admit: 2 \\e -
+0 0 admit: 3 \\e -
+1 0 HELLO 3: 4 \\e 1:144
+2 0 HELLO 3: 5 \\e 2:144
+1 0 CLIENT TRACKING ON: 6 \\e 1:5
+2 0 CLIENT TRACKING ON: 7 \\e 2:5
+2 0 GET a: 8 \\e 2:3
+1 0 GET a: 9 \\e 1:3
+3 0 SET a v: 10 \\e 3:5,1:32,2:32
+3 0 SET a w: 11 \\e 3:5
+1 0 GET a: 12 \\e 1:7
+1 0 SET a x: 13 \\e 1:5,1:32
+1 0 GET a: 14 \\e 1:7
+1 0 GET b: 15 \\e 1:3
+2 0 GET c: 16 \\e 2:3,1:32
+1 0 CLIENT TRACKING OFF: 17 \\e 1:5
+3 0 SET b v: 18 \\e 3:5
+3 0 CLIENT TRACKING ON: 19 \\e 3:5
+3 0 GET d: 20 \\e 3:5
+1 0 SET d v: 21 \\e 1:5
+3 0 SET c v: 22 \\e 3:5,2:32";
 
 #[test]
 fn those_who_remember_a_key_are_told_behind_the_reply(rt: HostRuntime) -> Result<(), Fail> {
     let alloc = rt.alloc();
     let mut book = Book::new(alloc, limits_of(100))?;
-    for what in ["admit", "admit", "admit"] {
-        let _ = book.turn(call_of(alloc, what, 0, 0)?);
-    }
-    for line in TRACKING.split('\n') {
-        if let Some((id, rest)) = line.split_once(";") {
-            if let Some((what, want)) = rest.split_once(";") {
-                let _ = book.turn(call_of(alloc, what, number_of(id), 0)?);
-                let mut wanted = want.split(',');
-                for post in book.last_posts() {
-                    let want = wanted.next().unwrap_or("");
-                    let (to, size) = want.split_once(" ").unwrap_or(("", ""));
-                    assert_eq!(rt; post.id, number_of(to), "{line}");
-                    let length = number_of(size);
-                    assert_eq!(rt; post.what, Posted::Message { length }, "{line}");
-                }
-                assert_eq!(rt; wanted.next().is_none(), true, "{line}");
-            }
-        }
-    }
+    assert_eq!(rt; wrong_row(alloc, &mut book, TRACKING)?, None);
     let reply = book.turn(call_of(alloc, "take", 2, 9999)?);
     let (_, gave) = parts_of(&reply);
     let push = b">2\r\n$10\r\ninvalidate\r\n*1\r\n$1\r\nc\r\n";
