@@ -1,13 +1,13 @@
 //! The rows of the commands on hashes, in the words of their pages.
+//!
+//! A row is `LINE: REPLY | KEYS`: the reply with a space for each end of a line, and the keys that
+//! the line signals.
 use super::{is_hash, run_hash};
 use command_words::{Signalled, read_command};
 use keyspace::{Content, Held, Keyspace};
 use resp_value::{NoMemory, Octets, Proto, Words, put_value};
 use std::alloc::Global;
-use std::process::Abort;
 use std::test::Fail;
-
-const WRONG: &str = "-WRONGTYPE Operation against a key holding the wrong kind of value\r\n";
 
 /// The words of a line; two quotes are the empty word.
 fn words_of(alloc: Global, line: &str) -> Result<Words, NoMemory> {
@@ -19,102 +19,113 @@ fn words_of(alloc: Global, line: &str) -> Result<Words, NoMemory> {
     Ok(words)
 }
 
-/// Runs a line at the moment 1000, and compares its reply and the keys that it signals.
-fn runs(
-    rt: &impl Abort,
-    alloc: Global,
-    space: &mut Keyspace,
-    line: &str,
-    reply: &str,
-    keys: &str,
-) -> Result<(), NoMemory> {
+/// The reply and the keys of a line that runs at the moment 1000.
+fn answer(alloc: Global, space: &mut Keyspace, line: &str) -> Result<Vec<u8>, NoMemory> {
+    let mut shown = Vec::new(alloc);
     let Ok(command) = read_command(alloc, &words_of(alloc, line)?) else {
-        assert!(rt; false, "{line}");
-        return Ok(());
+        return Ok(shown);
     };
     if !is_hash(&command) {
-        assert!(rt; false, "{line}");
-        return Ok(());
+        return Ok(shown);
     }
     let done = run_hash(alloc, space, &command, 1000)?;
     let mut bytes = Vec::new(alloc);
     put_value(Proto::Three, &done.reply, &mut bytes)?;
-    assert_eq!(rt; bytes.as_slice(), reply.as_bytes(), "{line}");
-    let mut signalled = Vec::new(alloc);
-    if let Signalled::Keys(words) = &done.signalled {
-        for word in words.as_slice() {
-            signalled.extend_from_slice(word.as_slice())?;
-            signalled.push(b' ')?;
+    for byte in bytes.as_slice() {
+        if *byte != b'\n' {
+            shown.push(if *byte == b'\r' { b' ' } else { *byte })?;
         }
     }
-    assert_eq!(rt; signalled.as_slice(), keys.as_bytes(), "{line}");
-    Ok(())
+    shown.push(b'|')?;
+    if let Signalled::Keys(words) = &done.signalled {
+        for word in words.as_slice() {
+            shown.push(b' ')?;
+            shown.extend_from_slice(word.as_slice())?;
+        }
+    }
+    Ok(shown)
 }
+
+/// Runs the rows, and answers the first that gives something else.
+fn wrong_row<'a>(
+    alloc: Global,
+    space: &mut Keyspace,
+    table: &'a str,
+) -> Result<Option<&'a str>, NoMemory> {
+    for row in table.split('\n') {
+        let Some((line, wanted)) = row.split_once(": ") else {
+            return Ok(Some(row));
+        };
+        if answer(alloc, space, line)?.as_slice() != wanted.as_bytes() {
+            return Ok(Some(row));
+        }
+    }
+    Ok(None)
+}
+
+// Fields that are missing, new and old, in the order in which they came.
+const ROWS: &str = "\
+HGET h f: _ |
+HSET h a 1 b 2: :2 | h
+HSET h a 3 c 4: :1 | h
+HGET h a: $1 3 |
+HMGET h a zz: *2 $1 3 _ |
+HVALS h: *3 $1 3 $1 2 $1 4 |
+HDEL h b zz b: :1 | h
+HKEYS h: *2 $1 a $1 c |
+HGETALL h: %2 $1 a $1 3 $1 c $1 4 |
+HLEN h: :2 |
+HEXISTS h a: :1 |
+HEXISTS h b: :0 |
+HDEL h zz: :0 |
+HSET h '' '': :1 | h
+HGET h '': $0  |
+HDEL h '' a c: :3 | h
+HINCRBY i f 1: :1 | i
+HINCRBY i f -3: :-2 | i
+HSET i m 9223372036854775807 x 01: :2 | i
+HINCRBY i m 1: -ERR increment or decrement would overflow |
+HINCRBY i x 1: -ERR hash value is not an integer |
+HVALS i: *3 $2 -2 $19 9223372036854775807 $2 01 |";
 
 #[test]
 fn each_command_replies_and_signals_by_its_row(rt: HostRuntime) -> Result<(), Fail> {
-    let a = rt.alloc();
-    let mut space = Keyspace::new(a);
-    for (line, reply, keys) in [
-        ("HGET h f", "_\r\n", ""),
-        ("HSET h a 1 b 2", ":2\r\n", "h "),
-        ("HSET h a 3 c 4", ":1\r\n", "h "),
-        ("HGET h a", "$1\r\n3\r\n", ""),
-        ("HMGET h a zz", "*2\r\n$1\r\n3\r\n_\r\n", ""),
-        ("HVALS h", "*3\r\n$1\r\n3\r\n$1\r\n2\r\n$1\r\n4\r\n", ""),
-        ("HDEL h b zz b", ":1\r\n", "h "),
-        ("HKEYS h", "*2\r\n$1\r\na\r\n$1\r\nc\r\n", ""),
-        (
-            "HGETALL h",
-            "%2\r\n$1\r\na\r\n$1\r\n3\r\n$1\r\nc\r\n$1\r\n4\r\n",
-            "",
-        ),
-        ("HLEN h", ":2\r\n", ""),
-        ("HEXISTS h a", ":1\r\n", ""),
-        ("HEXISTS h b", ":0\r\n", ""),
-        ("HDEL h zz", ":0\r\n", ""),
-        ("HSET h '' ''", ":1\r\n", "h "),
-        ("HGET h ''", "$0\r\n\r\n", ""),
-        ("HDEL h '' a c", ":3\r\n", "h "),
-        ("HINCRBY i f 1", ":1\r\n", "i "),
-        ("HINCRBY i f -3", ":-2\r\n", "i "),
-        ("HSET i m 9223372036854775807 x 01", ":2\r\n", "i "),
-        (
-            "HINCRBY i m 1",
-            "-ERR increment or decrement would overflow\r\n",
-            "",
-        ),
-        ("HINCRBY i x 1", "-ERR hash value is not an integer\r\n", ""),
-        (
-            "HVALS i",
-            "*3\r\n$2\r\n-2\r\n$19\r\n9223372036854775807\r\n$2\r\n01\r\n",
-            "",
-        ),
-    ] {
-        runs(&rt, a, &mut space, line, reply, keys)?;
-    }
+    let mut space = Keyspace::new(rt.alloc());
+    assert_eq!(rt; wrong_row(rt.alloc(), &mut space, ROWS)?, None);
     assert!(rt; space.get(b"h").is_none(), "a hash without fields goes");
     Ok(())
 }
 
+// A missing key is a hash without fields.
+const MISSING_ROWS: &str = "\
+HMGET h a b: *2 _ _ |
+HGETALL h: %0 |
+HKEYS h: *0 |
+HVALS h: *0 |
+HLEN h: :0 |
+HEXISTS h a: :0 |
+HDEL h a: :0 |";
+
 #[test]
 fn a_missing_key_is_a_hash_without_fields(rt: HostRuntime) -> Result<(), Fail> {
-    let a = rt.alloc();
-    let mut space = Keyspace::new(a);
-    for (line, reply) in [
-        ("HMGET h a b", "*2\r\n_\r\n_\r\n"),
-        ("HGETALL h", "%0\r\n"),
-        ("HKEYS h", "*0\r\n"),
-        ("HVALS h", "*0\r\n"),
-        ("HLEN h", ":0\r\n"),
-        ("HEXISTS h a", ":0\r\n"),
-        ("HDEL h a", ":0\r\n"),
-    ] {
-        runs(&rt, a, &mut space, line, reply, "")?;
-    }
+    let mut space = Keyspace::new(rt.alloc());
+    assert_eq!(rt; wrong_row(rt.alloc(), &mut space, MISSING_ROWS)?, None);
     assert_eq!(rt; space.len(), 0);
     Ok(())
 }
+
+// A string is under `k`.
+const WRONG_TYPE_ROWS: &str = "\
+HSET k f v: -WRONGTYPE Operation against a key holding the wrong kind of value |
+HGET k f: -WRONGTYPE Operation against a key holding the wrong kind of value |
+HMGET k f: -WRONGTYPE Operation against a key holding the wrong kind of value |
+HGETALL k: -WRONGTYPE Operation against a key holding the wrong kind of value |
+HDEL k f: -WRONGTYPE Operation against a key holding the wrong kind of value |
+HLEN k: -WRONGTYPE Operation against a key holding the wrong kind of value |
+HEXISTS k f: -WRONGTYPE Operation against a key holding the wrong kind of value |
+HKEYS k: -WRONGTYPE Operation against a key holding the wrong kind of value |
+HVALS k: -WRONGTYPE Operation against a key holding the wrong kind of value |
+HINCRBY k f 1: -WRONGTYPE Operation against a key holding the wrong kind of value |";
 
 #[test]
 fn a_string_is_of_the_wrong_type(rt: HostRuntime) -> Result<(), Fail> {
@@ -128,20 +139,7 @@ fn a_string_is_of_the_wrong_type(rt: HostRuntime) -> Result<(), Fail> {
             deadline: None,
         },
     )?;
-    for line in [
-        "HSET k f v",
-        "HGET k f",
-        "HMGET k f",
-        "HGETALL k",
-        "HDEL k f",
-        "HLEN k",
-        "HEXISTS k f",
-        "HKEYS k",
-        "HVALS k",
-        "HINCRBY k f 1",
-    ] {
-        runs(&rt, a, &mut space, line, WRONG, "")?;
-    }
+    assert_eq!(rt; wrong_row(a, &mut space, WRONG_TYPE_ROWS)?, None);
     Ok(())
 }
 
@@ -149,19 +147,19 @@ fn a_string_is_of_the_wrong_type(rt: HostRuntime) -> Result<(), Fail> {
 fn a_hash_keeps_its_deadline(rt: HostRuntime) -> Result<(), Fail> {
     let a = rt.alloc();
     let mut space = Keyspace::new(a);
-    runs(&rt, a, &mut space, "HSET h a 1", ":1\r\n", "h ")?;
+    assert_eq!(rt; wrong_row(a, &mut space, "HSET h a 1: :1 | h")?, None);
     assert!(rt; space.set_deadline(b"h", Some(9000)));
-    for (line, reply) in [
-        ("HSET h a 2 b 3", ":1\r\n"),
-        ("HINCRBY h a 1", ":3\r\n"),
-        ("HDEL h b", ":1\r\n"),
+    for row in [
+        "HSET h a 2 b 3: :1 | h",
+        "HINCRBY h a 1: :3 | h",
+        "HDEL h b: :1 | h",
     ] {
-        runs(&rt, a, &mut space, line, reply, "h ")?;
+        assert_eq!(rt; wrong_row(a, &mut space, row)?, None);
         let Some(held) = space.get(b"h") else {
-            assert!(rt; false, "{line}");
+            assert!(rt; false, "{row}");
             return Ok(());
         };
-        assert!(rt; held.deadline == Some(9000), "{line}");
+        assert!(rt; held.deadline == Some(9000), "{row}");
     }
     Ok(())
 }

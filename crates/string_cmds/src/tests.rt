@@ -1,15 +1,13 @@
 //! The rows of the commands on strings, in the words of their pages.
+//!
+//! A row is `LINE: REPLY | KEYS`: the reply with a space for each end of a line, and the keys that
+//! the line signals.
 use super::{is_string, run_string};
 use command_words::{Signalled, read_command};
 use keyspace::{Content, Fields, Held, Keyspace};
 use resp_value::{NoMemory, Octets, Proto, Words, put_value};
 use std::alloc::Global;
-use std::process::Abort;
 use std::test::Fail;
-
-const WRONG: &str = "-WRONGTYPE Operation against a key holding the wrong kind of value\r\n";
-
-const OVERFLOW: &str = "-ERR increment or decrement would overflow\r\n";
 
 /// The words of a line; two quotes are the empty word.
 fn words_of(alloc: Global, line: &str) -> Result<Words, NoMemory> {
@@ -21,139 +19,150 @@ fn words_of(alloc: Global, line: &str) -> Result<Words, NoMemory> {
     Ok(words)
 }
 
-/// Runs a line at the moment 1000, and compares its reply and the keys that it signals.
-fn runs(
-    rt: &impl Abort,
-    alloc: Global,
-    space: &mut Keyspace,
-    line: &str,
-    reply: &str,
-    keys: &str,
-) -> Result<(), NoMemory> {
+/// The reply and the keys of a line that runs at the moment 1000.
+fn answer(alloc: Global, space: &mut Keyspace, line: &str) -> Result<Vec<u8>, NoMemory> {
+    let mut shown = Vec::new(alloc);
     let Ok(command) = read_command(alloc, &words_of(alloc, line)?) else {
-        assert!(rt; false, "{line}");
-        return Ok(());
+        return Ok(shown);
     };
     if !is_string(&command) {
-        assert!(rt; false, "{line}");
-        return Ok(());
+        return Ok(shown);
     }
     let done = run_string(alloc, space, &command, 1000)?;
     let mut bytes = Vec::new(alloc);
     put_value(Proto::Three, &done.reply, &mut bytes)?;
-    assert_eq!(rt; bytes.as_slice(), reply.as_bytes(), "{line}");
-    let mut signalled = Vec::new(alloc);
-    if let Signalled::Keys(words) = &done.signalled {
-        for word in words.as_slice() {
-            signalled.extend_from_slice(word.as_slice())?;
-            signalled.push(b' ')?;
+    for byte in bytes.as_slice() {
+        if *byte != b'\n' {
+            shown.push(if *byte == b'\r' { b' ' } else { *byte })?;
         }
     }
-    assert_eq!(rt; signalled.as_slice(), keys.as_bytes(), "{line}");
-    Ok(())
+    shown.push(b'|')?;
+    if let Signalled::Keys(words) = &done.signalled {
+        for word in words.as_slice() {
+            shown.push(b' ')?;
+            shown.extend_from_slice(word.as_slice())?;
+        }
+    }
+    Ok(shown)
 }
+
+/// Runs the rows, and answers the first that gives something else.
+fn wrong_row<'a>(
+    alloc: Global,
+    space: &mut Keyspace,
+    table: &'a str,
+) -> Result<Option<&'a str>, NoMemory> {
+    for row in table.split('\n') {
+        let Some((line, wanted)) = row.split_once(": ") else {
+            return Ok(Some(row));
+        };
+        if answer(alloc, space, line)?.as_slice() != wanted.as_bytes() {
+            return Ok(Some(row));
+        }
+    }
+    Ok(None)
+}
+
+// Keys that are missing, and keys that hold a string.
+const ROWS: &str = "\
+GET k: _ |
+SET k v: +OK | k
+GET k: $1 v |
+SET k w NX: _ |
+SET k w XX: +OK | k
+SET z w XX: _ |
+SET z w NX: +OK | z
+SETNX k x: :0 |
+SETNX n 1: :1 | n
+SET e '': +OK | e
+GET e: $0  |
+APPEND a xy: :2 | a
+APPEND a z: :3 | a
+APPEND b '': :0 | b
+STRLEN a: :3 |
+STRLEN none: :0 |
+GETRANGE a 0 -1: $3 xyz |
+GETRANGE a -2 9: $2 yz |
+GETRANGE a -1 -2: $0  |
+GETRANGE a 2 1: $0  |
+GETRANGE none 0 5: $0  |
+GETDEL a: $3 xyz | a
+GETDEL a: _ |
+MSET p 1 q 2 p 3: +OK | p q
+MGET p none q: *3 $1 3 _ $1 2 |
+MSET p 4 k w: +OK | p k
+MGET p k: *2 $1 4 $1 w |";
 
 #[test]
 fn each_command_replies_and_signals_by_its_row(rt: HostRuntime) -> Result<(), Fail> {
-    let a = rt.alloc();
-    let mut space = Keyspace::new(a);
-    for (line, reply, keys) in [
-        ("GET k", "_\r\n", ""),
-        ("SET k v", "+OK\r\n", "k "),
-        ("GET k", "$1\r\nv\r\n", ""),
-        ("SET k w NX", "_\r\n", ""),
-        ("SET k w XX", "+OK\r\n", "k "),
-        ("SET z w XX", "_\r\n", ""),
-        ("SET z w NX", "+OK\r\n", "z "),
-        ("SETNX k x", ":0\r\n", ""),
-        ("SETNX n 1", ":1\r\n", "n "),
-        ("SET e ''", "+OK\r\n", "e "),
-        ("GET e", "$0\r\n\r\n", ""),
-        ("APPEND a xy", ":2\r\n", "a "),
-        ("APPEND a z", ":3\r\n", "a "),
-        ("APPEND b ''", ":0\r\n", "b "),
-        ("STRLEN a", ":3\r\n", ""),
-        ("STRLEN none", ":0\r\n", ""),
-        ("GETRANGE a 0 -1", "$3\r\nxyz\r\n", ""),
-        ("GETRANGE a -2 9", "$2\r\nyz\r\n", ""),
-        ("GETRANGE a -1 -2", "$0\r\n\r\n", ""),
-        ("GETRANGE a 2 1", "$0\r\n\r\n", ""),
-        ("GETRANGE none 0 5", "$0\r\n\r\n", ""),
-        ("GETDEL a", "$3\r\nxyz\r\n", "a "),
-        ("GETDEL a", "_\r\n", ""),
-        ("MSET p 1 q 2 p 3", "+OK\r\n", "p q "),
-        ("MGET p none q", "*3\r\n$1\r\n3\r\n_\r\n$1\r\n2\r\n", ""),
-    ] {
-        runs(&rt, a, &mut space, line, reply, keys)?;
-    }
+    let mut space = Keyspace::new(rt.alloc());
+    assert_eq!(rt; wrong_row(rt.alloc(), &mut space, ROWS)?, None);
     Ok(())
 }
 
+// Both ends of 64 bits, and what is no number.
+const NUMBER_ROWS: &str = "\
+INCR c: :1 | c
+DECR c: :0 | c
+INCRBY c 5: :5 | c
+DECRBY c 7: :-2 | c
+GET c: $2 -2 |
+SET m 9223372036854775807: +OK | m
+INCR m: -ERR increment or decrement would overflow |
+GET m: $19 9223372036854775807 |
+SET m -9223372036854775808: +OK | m
+DECR m: -ERR increment or decrement would overflow |
+INCR m: :-9223372036854775807 | m
+DECRBY none -9223372036854775808: -ERR increment or decrement would overflow |
+SET k 01: +OK | k
+INCR k: -ERR value is not an integer or out of range |
+DECR n: :-1 | n
+INCRBY o 4: :4 | o
+DECRBY p 3: :-3 | p";
+
 #[test]
 fn numbers_end_at_64_bits(rt: HostRuntime) -> Result<(), Fail> {
-    let a = rt.alloc();
-    let mut space = Keyspace::new(a);
-    for (line, reply, keys) in [
-        ("INCR c", ":1\r\n", "c "),
-        ("DECR c", ":0\r\n", "c "),
-        ("INCRBY c 5", ":5\r\n", "c "),
-        ("DECRBY c 7", ":-2\r\n", "c "),
-        ("GET c", "$2\r\n-2\r\n", ""),
-        ("SET m 9223372036854775807", "+OK\r\n", "m "),
-        ("INCR m", OVERFLOW, ""),
-        ("GET m", "$19\r\n9223372036854775807\r\n", ""),
-        ("SET m -9223372036854775808", "+OK\r\n", "m "),
-        ("DECR m", OVERFLOW, ""),
-        ("INCR m", ":-9223372036854775807\r\n", "m "),
-        ("DECRBY none -9223372036854775808", OVERFLOW, ""),
-        ("SET k 01", "+OK\r\n", "k "),
-        (
-            "INCR k",
-            "-ERR value is not an integer or out of range\r\n",
-            "",
-        ),
-    ] {
-        runs(&rt, a, &mut space, line, reply, keys)?;
-    }
+    let mut space = Keyspace::new(rt.alloc());
+    assert_eq!(rt; wrong_row(rt.alloc(), &mut space, NUMBER_ROWS)?, None);
     Ok(())
+}
+
+// A hash is under `h`; SET and MSET overwrite it.
+const WRONG_TYPE_ROWS: &str = "\
+GET h: -WRONGTYPE Operation against a key holding the wrong kind of value |
+GETDEL h: -WRONGTYPE Operation against a key holding the wrong kind of value |
+APPEND h x: -WRONGTYPE Operation against a key holding the wrong kind of value |
+STRLEN h: -WRONGTYPE Operation against a key holding the wrong kind of value |
+GETRANGE h 0 1: -WRONGTYPE Operation against a key holding the wrong kind of value |
+INCR h: -WRONGTYPE Operation against a key holding the wrong kind of value |
+DECR h: -WRONGTYPE Operation against a key holding the wrong kind of value |
+INCRBY h 2: -WRONGTYPE Operation against a key holding the wrong kind of value |
+DECRBY h 2: -WRONGTYPE Operation against a key holding the wrong kind of value |
+SETNX h x: :0 |
+MGET h: *1 _ |
+DECRBY h -9223372036854775808: -ERR increment or decrement would overflow |
+SET h x: +OK | h";
+
+fn put_hash(alloc: Global, space: &mut Keyspace, key: &[u8]) -> Result<(), NoMemory> {
+    let content = Content::Fields(Fields::new(alloc));
+    let held = Held {
+        content,
+        deadline: None,
+    };
+    space.put(key, held)
 }
 
 #[test]
 fn a_hash_is_of_the_wrong_type(rt: HostRuntime) -> Result<(), Fail> {
     let a = rt.alloc();
     let mut space = Keyspace::new(a);
-    let content = Content::Fields(Fields::new(a));
-    space.put(
-        b"h",
-        Held {
-            content,
-            deadline: None,
-        },
-    )?;
-    for line in [
-        "GET h",
-        "GETDEL h",
-        "APPEND h x",
-        "STRLEN h",
-        "GETRANGE h 0 1",
-        "INCR h",
-        "DECR h",
-        "INCRBY h 2",
-        "DECRBY h 2",
-    ] {
-        runs(&rt, a, &mut space, line, WRONG, "")?;
-    }
-    runs(&rt, a, &mut space, "SETNX h x", ":0\r\n", "")?;
-    runs(&rt, a, &mut space, "MGET h", "*1\r\n_\r\n", "")?;
-    runs(
-        &rt,
-        a,
-        &mut space,
-        "DECRBY h -9223372036854775808",
-        OVERFLOW,
-        "",
-    )?;
-    runs(&rt, a, &mut space, "SET h x", "+OK\r\n", "h ")?;
+    put_hash(a, &mut space, b"h")?;
+    assert_eq!(rt; wrong_row(a, &mut space, WRONG_TYPE_ROWS)?, None);
+    put_hash(a, &mut space, b"h")?;
+    assert_eq!(rt;
+        wrong_row(a, &mut space, "MSET h x: +OK | h\nGET h: $1 x |")?,
+        None
+    );
     Ok(())
 }
 
@@ -161,23 +170,29 @@ fn a_hash_is_of_the_wrong_type(rt: HostRuntime) -> Result<(), Fail> {
 fn set_leaves_the_deadline_of_its_option(rt: HostRuntime) -> Result<(), Fail> {
     let a = rt.alloc();
     let mut space = Keyspace::new(a);
-    for (line, reply, deadline) in [
-        ("SET d 1 EX 10", "+OK\r\n", Some(11000)),
-        ("SET d 2 KEEPTTL", "+OK\r\n", Some(11000)),
-        ("APPEND d 3", ":2\r\n", Some(11000)),
-        ("INCR d", ":24\r\n", Some(11000)),
-        ("SET d 5 PX 7", "+OK\r\n", Some(1007)),
-        ("SET d 6", "+OK\r\n", None),
+    for (row, deadline) in [
+        ("SET d 1 EX 10: +OK | d", Some(11000)),
+        ("SET d 2 KEEPTTL: +OK | d", Some(11000)),
+        ("APPEND d 3: :2 | d", Some(11000)),
+        ("INCR d: :24 | d", Some(11000)),
+        ("SET d 5 PX 7: +OK | d", Some(1007)),
+        ("SET d 6: +OK | d", None),
     ] {
-        runs(&rt, a, &mut space, line, reply, "d ")?;
+        assert_eq!(rt; wrong_row(a, &mut space, row)?, None);
         let Some(held) = space.get(b"d") else {
-            assert!(rt; false, "{line}");
+            assert!(rt; false, "{row}");
             return Ok(());
         };
-        assert!(rt; held.deadline == deadline, "{line}");
+        assert!(rt; held.deadline == deadline, "{row}");
     }
     Ok(())
 }
+
+// A mebibyte under `big`.
+const BIG_ROWS: &str = "\
+APPEND big y: :1048577 | big
+STRLEN big: :1048577 |
+GETRANGE big -2 -1: $2 xy |";
 
 #[test]
 fn a_value_of_a_mebibyte_grows_by_one_byte(rt: HostRuntime) -> Result<(), Fail> {
@@ -195,7 +210,6 @@ fn a_value_of_a_mebibyte_grows_by_one_byte(rt: HostRuntime) -> Result<(), Fail> 
             deadline: None,
         },
     )?;
-    runs(&rt, a, &mut space, "APPEND big y", ":1048577\r\n", "big ")?;
-    runs(&rt, a, &mut space, "GETRANGE big -2 -1", "$2\r\nxy\r\n", "")?;
+    assert_eq!(rt; wrong_row(a, &mut space, BIG_ROWS)?, None);
     Ok(())
 }
