@@ -1,12 +1,10 @@
 -- What a reader answers stands in what it was fed.
 use Rattle.std.proofs.Common.{◌≡◌, ℕ, List, [], ◌∷◌, ◌++◌, refl, sym, ap, subst, ◌∙◌, append_assoc}
 use Rattle.std.proofs.Common.{true, false}
-use Rattle.std.proofs.Common.{cond, Option, Some, None, Result, Ok, Err}
+use Rattle.std.proofs.Common.{cond, Some, None, Ok, Err}
 use Rattle.resp_value.specs.Lists.{IsPrefix}
-use Rattle.resp_value.specs.Tree.{Tree}
 use Rattle.resp_value.specs.ValueTree.{tree_of}
 use Rattle.resp_value.specs.declared.octets.Words.{Words}
-use Rattle.resp_value.specs.declared.value.Value.{Value}
 use Rattle.resp_stream.specs.declared.fault.Fault.{Fault}
 use Rattle.resp_stream.specs.declared.fault.StreamFault.{StreamFault}
 use Rattle.resp_stream.specs.declared.fault.StreamFault.TheVariants.{BadByte, TooLong, TooDeep}

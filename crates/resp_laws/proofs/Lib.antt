@@ -1,5 +1,11 @@
 pub mod Answered
-pub mod Steadiness
+pub mod Decimals
+pub mod Numbers
+pub mod Only
+pub mod Progress
+pub mod Requests
 pub mod Scalars
+pub mod Spelled
+pub mod Steadiness
 pub mod Trees
 pub mod Written

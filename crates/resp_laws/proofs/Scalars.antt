@@ -26,11 +26,11 @@ use Rattle.resp_laws.proofs.Written.{Digits, IsLength, is_length, grows, length_
 
 -- ---- lines
 
-nothing_behind : (p : List ℕ) → p ++ [] ≡ p
+pub nothing_behind : (p : List ℕ) → p ++ [] ≡ p
 nothing_behind [] = refl
 nothing_behind (x ∷ p) = ap (λ (q : List ℕ). x ∷ q) (nothing_behind p)
 
-line_end : (p r : List ℕ) → scan (line_move false line_limit) p (13 ∷ 10 ∷ r) ≡ Whole p r
+pub line_end : (p r : List ℕ) → scan (line_move false line_limit) p (13 ∷ 10 ∷ r) ≡ Whole p r
 unfolding only_byte
 line_end p r = refl
 
@@ -118,7 +118,7 @@ first_by c x y =
     cond x (Out (Stop BadByte))
     (cond y (Out (Stop BadByte)) (On (Some (record { count = 1; made = c - 48 }))))
 
-first_step : (most c : ℕ) → 48 ≤ c → c ≤ 57
+pub first_step : (most c : ℕ) → 48 ≤ c → c ≤ 57
     → number_move most None c ≡ On (Some (record { count = 1; made = c - 48 }))
 unfolding first_by
 first_step most c a b = λ i. first_by c (le-ltb c 48 a i) (le-ltb 57 c b i)
@@ -141,7 +141,7 @@ digits_only most n (c ∷ ds) r le k h =
     ]
 
 -- a number without a sign begins with its first digit
-unsigned_by : (c : ℕ) (b : List ℕ) → 48 ≤ c → c ≤ 57
+pub unsigned_by : (c : ℕ) (b : List ℕ) → 48 ≤ c → c ≤ 57
     → number_at (c ∷ b) ≡ signed_at false None (c ∷ b)
 unfolding number_at signed_at digits_of_at
 unsigned_by c b lo hi =
@@ -166,7 +166,7 @@ unsigned n (c ∷ ds) r h =
       | inr z ↦ unsigned_by c (ds ++ 13 ∷ 10 ∷ r) (omega (arith, z.0)) z.1
     ]
 
-minus : (b : List ℕ) → number_at (45 ∷ b) ≡ signed_at true None b
+pub minus : (b : List ℕ) → number_at (45 ∷ b) ≡ signed_at true None b
 unfolding number_at
 minus b = refl
 
@@ -212,7 +212,7 @@ blob_error_only t r le =
     (omega arith) (is_length (length t) (omega arith)))
     ∙ ap (λ q. q >>= λ t s. Whole (blob_error t) s) (counted_only t r)
 
-three : (f t r : List ℕ) (n : ℕ) → length f ≡ 3 → n ≡ length t + 4
+pub three : (f t r : List ℕ) (n : ℕ) → length f ≡ 3 → n ≡ length t + 4
     → formatted_at n (f ++ 58 ∷ (t ++ 13 ∷ 10 ∷ r)) ≡ Whole (verbatim f t) r
 unfolding formatted_at format_at only_byte
 three [] t r n e k = absurd (omega arith)

@@ -17,7 +17,7 @@ use Rattle.resp_stream.specs.declared.fault.Fault.TheVariants.{BadByte}
 use Rattle.resp_stream.specs.declared.value.Kind.{Kind}
 use Rattle.resp_stream.specs.declared.value.Kind.TheVariants.{Array, Map, Set, Push}
 use Rattle.resp_stream.specs.Parsed.{Whole, Go, Stop, taken, ◌>>=◌}
-use Rattle.resp_stream.specs.Tokens.{only_byte, line_feed, ending, minus_one, length_at, many}
+use Rattle.resp_stream.specs.Tokens.{only_byte, ending, minus_one, length_at, many}
 use Rattle.resp_stream.specs.Request.{whole_limit}
 use Rattle.resp_stream.specs.Value.{rule_of, digits_of_at, signed_at, number_at, blob_at}
 use Rattle.resp_stream.specs.Value.{blob_rule, blob_error_rule, blob_tree, verbatim_at, truth_at}
@@ -31,60 +31,60 @@ use Rattle.resp_laws.proofs.Scalars.{verbatim_only}
 
 -- ---- by the type byte
 
-at_simple : (d : ℕ) (b : List ℕ) → value_in d (43 ∷ b) ≡ text_at simple b
+pub at_simple : (d : ℕ) (b : List ℕ) → value_in d (43 ∷ b) ≡ text_at simple b
 unfolding value_in
 at_simple zero b = refl
 at_simple (suc d) b = refl
 
-at_error : (d : ℕ) (b : List ℕ) → value_in d (45 ∷ b) ≡ text_at error b
+pub at_error : (d : ℕ) (b : List ℕ) → value_in d (45 ∷ b) ≡ text_at error b
 unfolding value_in
 at_error zero b = refl
 at_error (suc d) b = refl
 
-at_number : (d : ℕ) (b : List ℕ) → value_in d (58 ∷ b) ≡ whole_number_at b
+pub at_number : (d : ℕ) (b : List ℕ) → value_in d (58 ∷ b) ≡ whole_number_at b
 unfolding value_in
 at_number zero b = refl
 at_number (suc d) b = refl
 
-at_blob : (d : ℕ) (b : List ℕ) → value_in d (36 ∷ b) ≡ blob_at (blob_tree false) blob_rule b
+pub at_blob : (d : ℕ) (b : List ℕ) → value_in d (36 ∷ b) ≡ blob_at (blob_tree false) blob_rule b
 unfolding value_in
 at_blob zero b = refl
 at_blob (suc d) b = refl
 
-at_verbatim : (d : ℕ) (b : List ℕ) → value_in d (61 ∷ b) ≡ verbatim_at b
+pub at_verbatim : (d : ℕ) (b : List ℕ) → value_in d (61 ∷ b) ≡ verbatim_at b
 unfolding value_in
 at_verbatim zero b = refl
 at_verbatim (suc d) b = refl
 
-at_blob_error : (d : ℕ) (b : List ℕ)
+pub at_blob_error : (d : ℕ) (b : List ℕ)
     → value_in d (33 ∷ b) ≡ blob_at (blob_tree true) blob_error_rule b
 unfolding value_in
 at_blob_error zero b = refl
 at_blob_error (suc d) b = refl
 
-at_truth : (d : ℕ) (b : List ℕ) → value_in d (35 ∷ b) ≡ truth_at b
+pub at_truth : (d : ℕ) (b : List ℕ) → value_in d (35 ∷ b) ≡ truth_at b
 unfolding value_in
 at_truth zero b = refl
 at_truth (suc d) b = refl
 
-at_null : (d : ℕ) (b : List ℕ) → value_in d (95 ∷ b) ≡ ending null b
+pub at_null : (d : ℕ) (b : List ℕ) → value_in d (95 ∷ b) ≡ ending null b
 unfolding value_in
 at_null zero b = refl
 at_null (suc d) b = refl
 
-at_array : (d : ℕ) (b : List ℕ) → value_in (suc d) (42 ∷ b) ≡ aggregate_at Array (value_in d) b
+pub at_array : (d : ℕ) (b : List ℕ) → value_in (suc d) (42 ∷ b) ≡ aggregate_at Array (value_in d) b
 unfolding value_in
 at_array d b = refl
 
-at_map : (d : ℕ) (b : List ℕ) → value_in (suc d) (37 ∷ b) ≡ aggregate_at Map (value_in d) b
+pub at_map : (d : ℕ) (b : List ℕ) → value_in (suc d) (37 ∷ b) ≡ aggregate_at Map (value_in d) b
 unfolding value_in
 at_map d b = refl
 
-at_set : (d : ℕ) (b : List ℕ) → value_in (suc d) (126 ∷ b) ≡ aggregate_at Set (value_in d) b
+pub at_set : (d : ℕ) (b : List ℕ) → value_in (suc d) (126 ∷ b) ≡ aggregate_at Set (value_in d) b
 unfolding value_in
 at_set d b = refl
 
-at_push : (d : ℕ) (b : List ℕ) → d ≡ 7
+pub at_push : (d : ℕ) (b : List ℕ) → d ≡ 7
     → value_in (suc d) (62 ∷ b) ≡ aggregate_at Push (value_in d) b
 unfolding value_in
 at_push d b e =
@@ -93,42 +93,42 @@ at_push d b e =
 
 -- ---- the parts of spellings
 
-line_parts : (mark : ℕ) (t r : List ℕ) → line mark t ++ r ≡ mark ∷ (t ++ 13 ∷ 10 ∷ r)
+pub line_parts : (mark : ℕ) (t r : List ℕ) → line mark t ++ r ≡ mark ∷ (t ++ 13 ∷ 10 ∷ r)
 unfolding line
 line_parts mark t r = ap (λ (q : List ℕ). mark ∷ q) (append_assoc t (13 ∷ 10 ∷ []) r)
 
-list_parts : (mark n : ℕ) (body r : List ℕ)
+pub list_parts : (mark n : ℕ) (body r : List ℕ)
     → (head mark n ++ body) ++ r ≡ mark ∷ (decimal n ++ 13 ∷ 10 ∷ (body ++ r))
 list_parts mark n body r = append_assoc (head mark n) body r ∙ head_parts mark n (body ++ r)
 
 -- ---- what is always the same
 
-true_only : (r : List ℕ) → truth_at (116 ∷ 13 ∷ 10 ∷ r) ≡ Whole (boolean true) r
+pub true_only : (r : List ℕ) → truth_at (116 ∷ 13 ∷ 10 ∷ r) ≡ Whole (boolean true) r
 unfolding truth_at only_byte
 true_only r = refl
 
-false_only : (r : List ℕ) → truth_at (102 ∷ 13 ∷ 10 ∷ r) ≡ Whole (boolean false) r
+pub false_only : (r : List ℕ) → truth_at (102 ∷ 13 ∷ 10 ∷ r) ≡ Whole (boolean false) r
 unfolding truth_at only_byte
 false_only r = refl
 
-one_only : (r : List ℕ) → whole_number_at (49 ∷ 13 ∷ 10 ∷ r) ≡ Whole (number (pos 1)) r
+pub one_only : (r : List ℕ) → whole_number_at (49 ∷ 13 ∷ 10 ∷ r) ≡ Whole (number (pos 1)) r
 unfolding whole_number_at number_at signed_at digits_of_at only_byte
 one_only r = refl
 
-nought_only : (r : List ℕ) → whole_number_at (48 ∷ 13 ∷ 10 ∷ r) ≡ Whole (number (pos 0)) r
+pub nought_only : (r : List ℕ) → whole_number_at (48 ∷ 13 ∷ 10 ∷ r) ≡ Whole (number (pos 0)) r
 unfolding whole_number_at number_at signed_at digits_of_at only_byte
 nought_only r = refl
 
-null_only : (r : List ℕ) → ending null (13 ∷ 10 ∷ r) ≡ Whole null r
+pub null_only : (r : List ℕ) → ending null (13 ∷ 10 ∷ r) ≡ Whole null r
 unfolding only_byte
 null_only r = refl
 
-minus_only : (r : List ℕ)
+pub minus_only : (r : List ℕ)
     → blob_at (blob_tree false) blob_rule (45 ∷ 49 ∷ 13 ∷ 10 ∷ r) ≡ Whole null r
 unfolding blob_at length_at minus_one only_byte
 minus_only r = refl
 
-minus_array : (d : ℕ) (r : List ℕ)
+pub minus_array : (d : ℕ) (r : List ℕ)
     → aggregate_at Array (value_in d) (45 ∷ 49 ∷ 13 ∷ 10 ∷ r) ≡ Whole null_array r
 unfolding aggregate_at length_at minus_one only_byte
 minus_array d r = refl
@@ -157,15 +157,15 @@ aggregate_only kind d n ts b r le lo hi h =
     ∙ ap (λ q. q >>= λ ts s. Whole (build kind ts) s) h
 
 -- the values of pairs in turn
-abbrev turns : Proto → Rows → List Tree
+abbrev pub turns : Proto → Rows → List Tree
 turns p last = []
 turns p (row k v rs) = carried p k ∷ carried p v ∷ turns p rs
 
-turns_two : (rs : Rows) → turns Two rs ≡ list_of (rows_in_turn rs)
+pub turns_two : (rs : Rows) → turns Two rs ≡ list_of (rows_in_turn rs)
 turns_two last = refl
 turns_two (row k v rs) = ap (λ (q : List Tree). carried Two k ∷ carried Two v ∷ q) (turns_two rs)
 
-turns_three : (rs : Rows) → rows_of (in_turn (turns Three rs)) ≡ rows_carried rs
+pub turns_three : (rs : Rows) → rows_of (in_turn (turns Three rs)) ≡ rows_carried rs
 turns_three last = refl
 turns_three (row k v rs) = ap (row (carried Three k) (carried Three v)) (turns_three rs)
 

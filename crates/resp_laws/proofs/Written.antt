@@ -38,11 +38,11 @@ digit_more : (ds : List ℕ) (m k d n : ℕ) → 48 ≤ d → d ≤ 57 → k * 1
 digit_more [] m k d n a b e h = (a, b, ap (λ z. z * 10 + (d - 48)) h ∙ e)
 digit_more (c ∷ ds) m k d n a b e h = (h.0, h.1, digit_more ds (m * 10 + (c - 48)) k d n a b e h.2)
 
-one_digit : (n : ℕ) → n < 10 → IsLength n ((48 + n) ∷ [])
+pub one_digit : (n : ℕ) → n < 10 → IsLength n ((48 + n) ∷ [])
 one_digit zero lt = inl (omega arith, refl, refl)
 one_digit (suc n) lt = inr (omega arith, omega arith, omega arith)
 
-next_digit : (n : ℕ) (ds : List ℕ) → 10 ≤ n → IsLength (n / 10) ds
+pub next_digit : (n : ℕ) (ds : List ℕ) → 10 ≤ n → IsLength (n / 10) ds
     → IsLength n (ds ++ ((48 + n % 10) ∷ []))
 next_digit n [] le h = absurd h
 next_digit n (c ∷ ds) le h =
@@ -157,7 +157,7 @@ counted_parts mark w r =
     ∙ append_assoc (head mark (length w)) w (13 ∷ 10 ∷ r)
     ∙ head_parts mark (length w) (w ++ 13 ∷ 10 ∷ r)
 
-marked : (b : List ℕ) → word_at (36 ∷ b) ≡ (length_at word_rule b >>= λ n s. sized n s)
+pub marked : (b : List ℕ) → word_at (36 ∷ b) ≡ (length_at word_rule b >>= λ n s. sized n s)
 unfolding word_at only_byte
 marked b = refl
 
@@ -187,7 +187,7 @@ words_only (w ∷ ws) r h =
     ∙ many_next (length ws) (counted 36 w ++ (blob_spellings ws ++ r)) (blob_spellings ws ++ r) r w
     ws (word_only w (blob_spellings ws ++ r) h.0) (words_only ws r h.1)
 
-starred : (b : List ℕ) → request_begun (42 ∷ b) ≡ (length_at words_rule b >>= listed)
+pub starred : (b : List ℕ) → request_begun (42 ∷ b) ≡ (length_at words_rule b >>= listed)
 unfolding request_begun array_at
 starred b = refl
 

@@ -2,7 +2,11 @@
 //! nothing.
 #![tactic(auto)]
 
+ghost use Rattle.std.specs.Prelude.{◌<◌, length};
+ghost use Rattle.resp_laws.specs.Fronts.{IsWellFormed, RequestsInOrder, ValuesInOrder};
 ghost use Rattle.resp_laws.specs.Pieces.{RequestsJoin, ValuesJoin, OnlyRequests, OnlyValues};
+ghost use Rattle.resp_laws.specs.Progress.{BeginsRead, FeedsRead, AnswersRead, EmptiesRead};
+ghost use Rattle.resp_laws.specs.Progress.{WaitsRead, StopsRead, HoldsRead};
 ghost use Rattle.resp_laws.specs.Streams.{Steady, FirstFault, Unfinished, WrittenRequests};
 ghost use Rattle.resp_laws.specs.Streams.{NoneBeginsAnother};
 ghost use Rattle.resp_laws.specs.Values.{WrittenValues};
@@ -69,6 +73,28 @@ pub fn law_a_written_request_is_read()
 /// A value that passes no limit is read as what its spelling carries, whatever follows it.
 pub fn law_a_written_value_is_read()
     ensures { WrittenValues }
+{}
+
+/// The first bytes of written requests hold the first of these requests, and nothing else.
+pub fn law_written_requests_are_read_in_order()
+    ensures { RequestsInOrder (λ words. 0 < length words) }
+{}
+
+/// The same of values: each is read as what its spelling carries.
+pub fn law_written_values_are_read_in_order()
+    ensures { ValuesInOrder IsWellFormed }
+{}
+
+/// However it is fed and asked, a reader of values has what the bytes so far hold: what it answered
+/// and what its stream still gives.
+pub fn law_a_reader_goes_on_where_it_stands()
+    ensures begins { BeginsRead }
+    ensures feeds { FeedsRead }
+    ensures answers { AnswersRead }
+    ensures empties { EmptiesRead }
+    ensures holds { HoldsRead }
+    ensures waits { WaitsRead }
+    ensures stops { StopsRead }
 {}
 
 #[cfg(test)]

@@ -1,0 +1,275 @@
+-- A length that was written is read, or passes a limit, however great it is.
+use Rattle.std.proofs.Common.{◌≡◌, ℕ, zero, suc, ◌+◌, ◌-◌, ◌*◌, ◌/◌, ◌%◌, ◌<◌, ◌≤◌, ◌^◌, List, []}
+use Rattle.std.proofs.Common.{◌∷◌, ◌++◌, refl, sym, ap, subst, ◌∙◌, ◌⊎◌, inl, inr, Bool}
+use Rattle.std.proofs.Common.{true, false, cond, length, arith, Option, Some}
+use Rattle.std.specs.Prelude.{nat_lt, nat_eq}
+use Rattle.std.specs.Fmt.{decimal, digits, digits_onto, digit_glyph}
+use Rattle.std.proofs.lemmas.Fmt.{decimal_by_steps_wide}
+use Rattle.std.proofs.lemmas.Bool.{ne_eqb, le-ltb, lt-ltb, ltb-true, ltb-false}
+use Rattle.resp_stream.specs.declared.fault.Fault.TheVariants.{BadByte, TooLong, NotServed}
+use Rattle.resp_stream.specs.declared.tokens.LengthRule.{LengthRule}
+use Rattle.resp_stream.specs.Parsed.{Whole, Bad, Go, Stop, On, Out, taken, moved, scan}
+use Rattle.resp_stream.specs.Parsed.{◌>>=◌}
+use Rattle.resp_stream.specs.Tokens.{only_byte, line_feed, ending, length_end, digit_move}
+use Rattle.resp_stream.specs.Tokens.{digits_at, minus_one, length_by, length_at}
+use Rattle.resp_laws.proofs.Written.{Digits, IsLength, one_digit, next_digit}
+use Rattle.resp_laws.proofs.Only.{Only, only_same, only_taken, only_moved}
+
+-- ---- the digits of a number that is too great to be spelled
+
+abbrev pub AreDigits : List ℕ → Type 0
+AreDigits [] = Unit {0}
+AreDigits (c ∷ ds) = (48 ≤ c) × (c ≤ 57) × AreDigits ds
+
+-- m with k noughts behind it
+grown : ℕ → ℕ → ℕ
+grown m zero = m
+grown m (suc k) = grown (m * 10) k
+
+grown_tens : (k m : ℕ) → grown (m * 10) k ≡ grown m k * 10
+unfolding grown
+grown_tens zero m = refl
+grown_tens (suc k) m = grown_tens k (m * 10)
+
+grown_le : (k m n : ℕ) → m ≤ n → grown m k ≤ grown n k
+unfolding grown
+grown_le zero m n le = le
+grown_le (suc k) m n le = grown_le k (m * 10) (n * 10) (omega arith)
+
+some_grown : (k m : ℕ) → 1 ≤ m → 1 ≤ grown m k
+unfolding grown
+some_grown zero m le = le
+some_grown (suc k) m le = some_grown k (m * 10) (omega arith)
+
+-- what digits lead to from m
+made : ℕ → List ℕ → ℕ
+made m [] = m
+made m (c ∷ ds) = made (m * 10 + (c - 48)) ds
+
+made_digits : (ds : List ℕ) (m : ℕ) → AreDigits ds → Digits m ds (made m ds)
+unfolding made
+made_digits [] m h = refl
+made_digits (c ∷ ds) m h = (h.0, h.1, made_digits ds (m * 10 + (c - 48)) h.2)
+
+made_great : (ds : List ℕ) (m : ℕ) → grown m (length ds) ≤ made m ds
+unfolding made grown
+made_great [] m = omega arith
+made_great (c ∷ ds) m =
+    omega (
+      arith,
+      made_great ds (m * 10 + (c - 48)),
+      grown_le (length ds) (m * 10) (m * 10 + (c - 48)) (omega arith),
+    )
+
+glyph_is : (n : ℕ) → n < 10 → digit_glyph false n ≡ 48 + n
+glyph_is n lt = ap (λ t. cond t (48 + n) (87 + n)) (lt-ltb n 10 lt)
+
+are_if : (t : Bool) (x y : List ℕ) → AreDigits x → AreDigits y → AreDigits (cond t x y)
+are_if true x y h k = h
+are_if false x y h k = k
+
+onto_digits : (k n : ℕ) (acc : List ℕ) → AreDigits acc → AreDigits (digits_onto k 10 false n acc)
+onto_digits zero n acc h = h
+onto_digits (suc k) n acc h =
+    let e = glyph_is (n % 10) (omega arith) in
+    let one : AreDigits (digit_glyph false (n % 10) ∷ acc) =
+    (omega (arith, e), omega (arith, e), h) in
+    are_if (nat_eq (n / 10) 0) (digit_glyph false (n % 10) ∷ acc)
+    (digits_onto k 10 false (n / 10) (digit_glyph false (n % 10) ∷ acc)) one
+    (onto_digits k (n / 10) (digit_glyph false (n % 10) ∷ acc) one)
+
+onto_length : (k n : ℕ) (acc : List ℕ) → grown 1 k ≤ n
+    → length (digits_onto k 10 false n acc) ≡ k + length acc
+unfolding grown
+onto_length zero n acc le = omega arith
+onto_length (suc k) n acc le =
+    let more : grown 1 k * 10 ≤ n = omega (arith, grown_tens k 1, le) in
+    ap (λ t. length (cond t (digit_glyph false (n % 10) ∷ acc)
+    (digits_onto k 10 false (n / 10) (digit_glyph false (n % 10) ∷ acc))))
+    (ne_eqb (n / 10) 0 (λ e. omega (arith, some_grown k 1 (omega arith), more)))
+    ∙ onto_length k (n / 10) (digit_glyph false (n % 10) ∷ acc) (omega (arith, more)) ∙ omega arith
+
+-- as many digits as a number can be spelled with
+pub record IsGreat (n : ℕ) (ds : List ℕ) : Type 0 where
+  pub great : 10 ^ 64 ≤ n
+  pub are : AreDigits ds
+  pub many : length ds ≡ 64
+
+abbrev pub IsDecimal : ℕ → List ℕ → Type 0
+IsDecimal n ds = IsLength n ds ⊎ IsGreat n ds
+
+great_decimal : (n : ℕ) → 10 ^ 64 ≤ n → IsGreat n (decimal n)
+unfolding digits grown
+great_decimal n le = record {
+  great = le;
+  are = onto_digits 64 n [] tt;
+  many = onto_length 64 n [] le ∙ omega arith;
+}
+
+decimal_by : (n : ℕ) (t : Bool) → nat_lt n (10 ^ 64) ≡ t → IsDecimal n (decimal n)
+decimal_by n true e =
+    inl (decimal_by_steps_wide IsLength one_digit next_digit n (ltb-true n (10 ^ 64) e))
+decimal_by n false e = inr (great_decimal n (ltb-false n (10 ^ 64) e))
+
+pub is_decimal : (n : ℕ) → IsDecimal n (decimal n)
+is_decimal n = decimal_by n (nat_lt n (10 ^ 64)) refl
+
+-- the digits of a length, the first apart
+pub as_digits : (n c : ℕ) (ds : List ℕ) → IsLength n (c ∷ ds)
+    → (48 ≤ c) × (c ≤ 57) × Digits (c - 48) ds n
+as_digits n c ds h =
+    elim h [
+      | inl z ↦ (
+        omega (arith, z.0),
+        omega (arith, z.0),
+        subst (λ (q : List ℕ). Digits (c - 48) q n) (sym z.1) (omega (arith, z.0, z.2)),
+      )
+      | inr z ↦ (omega (arith, z.0), z.1, z.2)
+    ]
+
+-- ---- a length
+
+module _ (rule : LengthRule) where
+  digit_by : (n c : ℕ) → 48 ≤ c → c ≤ 57 → digit_move rule n c
+      ≡ cond (nat_lt rule.limit (n * 10 + (c - 48))) (Out (Stop (TooLong (n * 10 + (c - 48)))))
+      (On (n * 10 + (c - 48)))
+  digit_by n c a b =
+      λ i. cond (ne_eqb c 13 (λ e. omega arith) i) (Out (length_end rule n))
+      (cond (le-ltb c 48 a i) (Out (Stop BadByte))
+      (cond (le-ltb 57 c b i) (Out (Stop BadByte))
+      (cond (nat_lt rule.limit (n * 10 + (c - 48))) (Out (Stop (TooLong (n * 10 + (c - 48)))))
+      (On (n * 10 + (c - 48))))))
+
+  only_digit : (n c : ℕ) (bs : List ℕ) (x : Option ℕ) (s : List ℕ) → 48 ≤ c → c ≤ 57
+      → (nat_lt rule.limit (n * 10 + (c - 48)) ≡ false
+      → Only (scan (digit_move rule) (n * 10 + (c - 48)) bs) x s)
+      → Only (scan (digit_move rule) n (c ∷ bs)) x s
+  only_digit n c bs x s a b h =
+      let v = n * 10 + (c - 48) in
+      only_same (scan (digit_move rule) n (c ∷ bs))
+      (moved (cond (nat_lt rule.limit v) (Out (Stop (TooLong v))) (On v))
+      (λ u. scan (digit_move rule) u bs) c bs) x s
+      (ap (λ q. moved q (λ u. scan (digit_move rule) u bs) c bs) (digit_by n c a b))
+      (only_moved (nat_lt rule.limit v) (TooLong v) v (λ u. scan (digit_move rule) u bs) c bs x s h)
+
+  end_only : (n : ℕ) (s : List ℕ) → Only (scan (digit_move rule) n (13 ∷ 10 ∷ s)) (Some n) s
+  unfolding only_byte
+  end_only n s =
+      only_taken (nat_lt n rule.least) BadByte (line_feed (Some n)) 13 (10 ∷ s) (Some n) s
+      (refl, refl)
+
+  scan_only : (ds : List ℕ) (m n : ℕ) (s : List ℕ) → Digits m ds n
+      → Only (scan (digit_move rule) m (ds ++ 13 ∷ 10 ∷ s)) (Some n) s
+  scan_only [] m n s h =
+      subst (λ k. Only (scan (digit_move rule) m (13 ∷ 10 ∷ s)) (Some k) s) h (end_only m s)
+  scan_only (c ∷ ds) m n s h =
+      only_digit m c (ds ++ 13 ∷ 10 ∷ s) (Some n) s h.0 h.1
+      (λ e. scan_only ds (m * 10 + (c - 48)) n s h.2)
+
+  -- a number past the limit is not read
+  scan_over : (ds : List ℕ) (m n : ℕ) (x : Option ℕ) (s : List ℕ) → Digits m ds n
+      → m ≤ rule.limit → rule.limit < n → Only (scan (digit_move rule) m (ds ++ 13 ∷ 10 ∷ s)) x s
+  scan_over [] m n x s h le lt = absurd (omega (arith, h))
+  scan_over (c ∷ ds) m n x s h le lt =
+      only_digit m c (ds ++ 13 ∷ 10 ∷ s) x s h.0 h.1
+      (λ e. scan_over ds (m * 10 + (c - 48)) n x s h.2
+      (ltb-false rule.limit (m * 10 + (c - 48)) e) lt)
+
+  lead_by : (c : ℕ) → 49 ≤ c → c ≤ 57 → length_by rule c
+      ≡ cond (nat_lt rule.limit (c - 48)) (Stop (TooLong (c - 48))) (Go (digits_at rule (c - 48)))
+  lead_by c a b =
+      λ i. cond (ne_eqb c 63 (λ e. omega arith) i)
+      (cond rule.streamed (Stop (NotServed 63)) (Stop BadByte))
+      (cond (ne_eqb c 45 (λ e. omega arith) i) (cond rule.null (Go minus_one) (Stop BadByte))
+      (cond (ne_eqb c 48 (λ e. omega arith) i)
+      (cond (nat_lt 0 rule.least) (Stop BadByte) (Go (ending (Some 0))))
+      (cond (le-ltb c 49 a i) (Stop BadByte)
+      (cond (le-ltb 57 c b i) (Stop BadByte)
+      (cond (nat_lt rule.limit (c - 48)) (Stop (TooLong (c - 48)))
+      (Go (digits_at rule (c - 48))))))))
+
+  lead_taken : (t : Bool) (c : ℕ) (bs : List ℕ) (x : Option ℕ) (s : List ℕ)
+      → (t ≡ false → Only (scan (digit_move rule) (c - 48) bs) x s)
+      → Only (taken (cond t (Stop (TooLong (c - 48))) (Go (digits_at rule (c - 48)))) c bs) x s
+  unfolding digits_at
+  lead_taken true c bs x s h = tt
+  lead_taken false c bs x s h = h refl
+
+  lead_only : (c : ℕ) (bs : List ℕ) (x : Option ℕ) (s : List ℕ) → 49 ≤ c → c ≤ 57
+      → (nat_lt rule.limit (c - 48) ≡ false → Only (scan (digit_move rule) (c - 48) bs) x s)
+      → Only (length_at rule (c ∷ bs)) x s
+  unfolding length_at
+  lead_only c bs x s a b h =
+      only_same (taken (length_by rule c) c bs)
+      (taken (cond (nat_lt rule.limit (c - 48)) (Stop (TooLong (c - 48)))
+      (Go (digits_at rule (c - 48)))) c bs) x s (ap (λ q. taken q c bs) (lead_by c a b))
+      (lead_taken (nat_lt rule.limit (c - 48)) c bs x s h)
+
+  nought_only : (s : List ℕ) → Only (length_at rule (48 ∷ 13 ∷ 10 ∷ s)) (Some 0) s
+  unfolding length_at only_byte
+  nought_only s =
+      only_taken (nat_lt 0 rule.least) BadByte (ending (Some 0)) 48 (13 ∷ 10 ∷ s) (Some 0) s
+      (refl, refl)
+
+  no_end : (c : ℕ) (bs : List ℕ) (x : Option ℕ) (s : List ℕ) → 48 ≤ c
+      → Only (ending (Some 0) (c ∷ bs)) x s
+  unfolding only_byte
+  no_end c bs x s a =
+      only_same (ending (Some 0) (c ∷ bs)) (Bad BadByte (c ∷ bs)) x s
+      (ap (λ t. taken (cond t (Go (Whole tt)) (Stop BadByte)) c bs >>= λ u r. line_feed (Some 0) r)
+      (ne_eqb c 13 (λ e. omega arith))) tt
+
+  -- nothing follows a first nought
+  nought_over : (c : ℕ) (bs : List ℕ) (x : Option ℕ) (s : List ℕ) → 48 ≤ c
+      → Only (length_at rule (48 ∷ c ∷ bs)) x s
+  unfolding length_at
+  nought_over c bs x s a =
+      only_taken (nat_lt 0 rule.least) BadByte (ending (Some 0)) 48 (c ∷ bs) x s
+      (no_end c bs x s a)
+
+  length_is : (n : ℕ) (ds s : List ℕ) → IsLength n ds
+      → Only (length_at rule (ds ++ 13 ∷ 10 ∷ s)) (Some n) s
+  length_is n [] s h = absurd h
+  length_is n (c ∷ ds) s h =
+      elim h [
+        | inl z ↦ subst (λ k. Only (length_at rule (c ∷ (ds ++ 13 ∷ 10 ∷ s))) (Some k) s) (sym z.2)
+            (only_same (length_at rule (c ∷ (ds ++ 13 ∷ 10 ∷ s)))
+            (length_at rule (48 ∷ 13 ∷ 10 ∷ s)) (Some 0) s
+            (λ i. length_at rule (z.0 i ∷ (z.1 i ++ 13 ∷ 10 ∷ s))) (nought_only s))
+        | inr z ↦ lead_only c (ds ++ 13 ∷ 10 ∷ s) (Some n) s z.0 z.1
+            (λ e. scan_only ds (c - 48) n s z.2)
+      ]
+
+  length_great : (c : ℕ) (ds : List ℕ) (x : Option ℕ) (s : List ℕ) (t : Bool) → nat_lt 48 c ≡ t
+      → rule.limit < 2 ^ 32 → AreDigits (c ∷ ds) → length ds ≡ 63
+      → Only (length_at rule (c ∷ (ds ++ 13 ∷ 10 ∷ s))) x s
+  unfolding grown
+  length_great c ds x s true e lt h k =
+      let g : grown (c - 48) 63 ≤ made (c - 48) ds =
+      subst (λ j. grown (c - 48) j ≤ made (c - 48) ds) k (made_great ds (c - 48)) in
+      let first : 48 < c = ltb-true 48 c e in
+      let one : grown 1 63 ≤ grown (c - 48) 63 = grown_le 63 1 (c - 48) (omega (arith, first)) in
+      lead_only c (ds ++ 13 ∷ 10 ∷ s) x s (omega (arith, first)) h.1
+      (λ w. scan_over ds (c - 48) (made (c - 48) ds) x s (made_digits ds (c - 48) h.2)
+      (ltb-false rule.limit (c - 48) w) (omega (arith, lt, g, one)))
+  length_great c [] x s false e lt h k = absurd (omega arith)
+  length_great c (d ∷ ds) x s false e lt h k =
+      let nought : c ≡ 48 = omega (arith, ltb-false 48 c e, h.0) in
+      only_same (length_at rule (c ∷ d ∷ (ds ++ 13 ∷ 10 ∷ s)))
+      (length_at rule (48 ∷ d ∷ (ds ++ 13 ∷ 10 ∷ s))) x s
+      (ap (λ (q : ℕ). length_at rule (q ∷ d ∷ (ds ++ 13 ∷ 10 ∷ s))) nought)
+      (nought_over d (ds ++ 13 ∷ 10 ∷ s) x s h.2.0)
+
+  length_by_digits : (n : ℕ) (ds s : List ℕ) → rule.limit < 2 ^ 32 → IsGreat n ds
+      → Only (length_at rule (ds ++ 13 ∷ 10 ∷ s)) (Some n) s
+  length_by_digits n [] s lt g = absurd (omega (arith, g.many))
+  length_by_digits n (c ∷ ds) s lt g =
+      length_great c ds (Some n) s (nat_lt 48 c) refl lt g.are (omega (arith, g.many))
+
+  pub length_written : (n : ℕ) (s : List ℕ) → rule.limit < 2 ^ 32
+      → Only (length_at rule (decimal n ++ 13 ∷ 10 ∷ s)) (Some n) s
+  length_written n s lt =
+      elim (is_decimal n) [
+        | inl h ↦ length_is n (decimal n) s h
+        | inr g ↦ length_by_digits n (decimal n) s lt g
+      ]

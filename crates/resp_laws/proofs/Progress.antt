@@ -1,0 +1,99 @@
+-- A reader of values goes on from where it stands.
+use Rattle.std.proofs.Common.{◌≡◌, ℕ, List, [], ◌∷◌, ◌++◌, refl, sym, ap, ◌∙◌, append_assoc}
+use Rattle.std.proofs.Common.{append-nil, false, None}
+use Rattle.resp_value.specs.Tree.{Tree}
+use Rattle.resp_stream.specs.declared.fault.Fault.{Fault}
+use Rattle.resp_stream.specs.Parsed.{Whole, More, Bad}
+use Rattle.resp_stream.specs.Parse.{Batch, parse_values, values_of}
+use Rattle.resp_stream.specs.Stream.{Stream, fed, moved_on}
+use Rattle.resp_stream.specs.Value.{value_at}
+use Rattle.resp_stream.proofs.Batches.{fed_rest, batch_whole, batch_more, batch_bad, batch_rest}
+use Rattle.resp_stream.proofs.Batches.{batch_unfailed}
+use Rattle.resp_stream.proofs.Parse.{takes_values, values_joined}
+use Rattle.resp_laws.specs.Progress.{BeginsRead, FeedsRead, AnswersRead, EmptiesRead}
+use Rattle.resp_laws.specs.Progress.{WaitsRead, StopsRead, HoldsRead}
+use Rattle.resp_laws.proofs.Steadiness.{steady_values}
+
+values_rest : (s t : Stream) → s.rest ≡ t.rest → (parse_values s).items ≡ (parse_values t).items
+unfolding parse_values
+values_rest s t e = batch_rest value_at (λ q. q) takes_values s t e
+
+values_whole : (s : Stream) (x : Tree) (r : List ℕ) → value_at s.rest ≡ Whole x r
+    → (parse_values s).items ≡ x ∷ (parse_values (moved_on s r)).items
+unfolding parse_values
+values_whole s x r e =
+    ap (λ (q : Batch Tree). q.items) (batch_whole value_at (λ q. q) takes_values s x r e)
+
+values_more : (s : Stream) → value_at s.rest ≡ More → (parse_values s).items ≡ []
+unfolding parse_values
+values_more s e = ap (λ (q : Batch Tree). q.items) (batch_more value_at (λ q. q) takes_values s e)
+
+values_bad : (s : Stream) (g : Fault) (r : List ℕ) → value_at s.rest ≡ Bad g r
+    → (parse_values s).items ≡ []
+unfolding parse_values
+values_bad s g r e =
+    ap (λ (q : Batch Tree). q.items) (batch_bad value_at (λ q. q) takes_values s g r e)
+
+values_unfailed : (s : Stream) → s.failed ≡ false → (parse_values s).fault ≡ None
+    → (parse_values s).stream.failed ≡ false
+unfolding parse_values
+values_unfailed s t e = batch_unfailed value_at (λ q. q) takes_values s t e
+
+fed_twice : (s : Stream) (a b : List ℕ) → s.failed ≡ false
+    → (fed s (a ++ b)).rest ≡ (fed (fed s a) b).rest
+fed_twice s a b t =
+    fed_rest s (a ++ b) t ∙ sym (append_assoc s.rest a b)
+    ∙ ap (λ (q : List ℕ). q ++ b) (sym (fed_rest s a t)) ∙ sym (fed_rest (fed s a) b t)
+
+pub begins_read : BeginsRead
+begins_read = record { untold = refl; further = λ m. refl }
+
+pub feeds_read : FeedsRead
+feeds_read got b piece s h = record {
+  untold = h.untold;
+  further = λ m. ap values_of (append_assoc b piece m) ∙ h.further (piece ++ m)
+      ∙ ap (λ (q : List Tree). got ++ q)
+      (values_rest (fed s (piece ++ m)) (fed (fed s piece) m) (fed_twice s piece m h.untold));
+}
+
+next_items : (s : Stream) (x : Tree) (r m : List ℕ) → s.failed ≡ false
+    → value_at s.rest ≡ Whole x r
+    → (parse_values (fed s m)).items ≡ x ∷ (parse_values (fed (moved_on s r) m)).items
+next_items s x r m t e =
+    values_whole (fed s m) x (r ++ m) (takes_values.kept s m x r t e)
+    ∙ ap (λ (q : List Tree). x ∷ q)
+    (values_rest (moved_on (fed s m) (r ++ m)) (fed (moved_on s r) m)
+    (sym (fed_rest (moved_on s r) m t)))
+
+pub answers_read : AnswersRead
+answers_read got b r s x h e = record {
+  untold = h.untold;
+  further = λ m. h.further m ∙ ap (λ (q : List Tree). got ++ q) (next_items s x r m h.untold e)
+      ∙ sym (append_assoc got (x ∷ []) (parse_values (fed (moved_on s r) m)).items);
+}
+
+pub empties_read : EmptiesRead
+empties_read got b s h e = record {
+  untold = values_unfailed s h.untold e;
+  further = λ m. h.further m ∙ ap (λ (q : List Tree). got ++ q) (values_joined s m h.untold e)
+      ∙ sym (append_assoc got (parse_values s).items
+      (parse_values (fed (parse_values s).stream m)).items);
+}
+
+pub holds_read : HoldsRead
+holds_read got b s h =
+    ap values_of (sym (append-nil b)) ∙ h.further []
+    ∙ ap (λ (q : List Tree). got ++ q)
+    (values_rest (fed s []) s (fed_rest s [] h.untold ∙ append-nil s.rest))
+
+pub waits_read : WaitsRead
+waits_read got b s h e =
+    holds_read got b s h ∙ ap (λ (q : List Tree). got ++ q) (values_more s e) ∙ append-nil got
+
+pub stops_read : StopsRead
+stops_read got b r m s g h e =
+    h.further m
+    ∙ ap (λ (q : List Tree). got ++ q)
+    (values_bad (fed s m) g (r ++ m)
+    (ap value_at (fed_rest s m h.untold) ∙ steady_values.bad s.rest r g e m))
+    ∙ append-nil got

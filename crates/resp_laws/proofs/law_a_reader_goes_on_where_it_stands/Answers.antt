@@ -1,0 +1,24 @@
+use Rattle.resp_laws.proofs.Progress.{begins_read, feeds_read, answers_read, empties_read}
+use Rattle.resp_laws.proofs.Progress.{holds_read, waits_read, stops_read}
+use Rattle.resp_laws.proofs.law_a_reader_goes_on_where_it_stands.Goals as goal
+
+pub returns-clause-begins : goal.returns-clause-begins
+returns-clause-begins c = begins_read
+
+pub returns-clause-feeds : goal.returns-clause-feeds
+returns-clause-feeds c = feeds_read
+
+pub returns-clause-answers : goal.returns-clause-answers
+returns-clause-answers c = answers_read
+
+pub returns-clause-empties : goal.returns-clause-empties
+returns-clause-empties c = empties_read
+
+pub returns-clause-holds : goal.returns-clause-holds
+returns-clause-holds c = holds_read
+
+pub returns-clause-waits : goal.returns-clause-waits
+returns-clause-waits c = waits_read
+
+pub returns-clause-stops : goal.returns-clause-stops
+returns-clause-stops c = stops_read
