@@ -14,7 +14,7 @@ use Rattle.resp_laws.specs.Progress.{BeginsRead, FeedsRead, AnswersRead, Empties
 use Rattle.resp_laws.specs.Progress.{WaitsRead, StopsRead, HoldsRead}
 use Rattle.resp_laws.proofs.Steadiness.{steady_values}
 
-values_rest : (s t : Stream) → s.rest ≡ t.rest → (parse_values s).items ≡ (parse_values t).items
+pub values_rest : (s t : Stream) → s.rest ≡ t.rest → (parse_values s).items ≡ (parse_values t).items
 unfolding parse_values
 values_rest s t e = batch_rest value_at (λ q. q) takes_values s t e
 
@@ -24,7 +24,7 @@ unfolding parse_values
 values_whole s x r e =
     ap (λ (q : Batch Tree). q.items) (batch_whole value_at (λ q. q) takes_values s x r e)
 
-values_more : (s : Stream) → value_at s.rest ≡ More → (parse_values s).items ≡ []
+pub values_more : (s : Stream) → value_at s.rest ≡ More → (parse_values s).items ≡ []
 unfolding parse_values
 values_more s e = ap (λ (q : Batch Tree). q.items) (batch_more value_at (λ q. q) takes_values s e)
 
@@ -34,12 +34,12 @@ unfolding parse_values
 values_bad s g r e =
     ap (λ (q : Batch Tree). q.items) (batch_bad value_at (λ q. q) takes_values s g r e)
 
-values_unfailed : (s : Stream) → s.failed ≡ false → (parse_values s).fault ≡ None
+pub values_unfailed : (s : Stream) → s.failed ≡ false → (parse_values s).fault ≡ None
     → (parse_values s).stream.failed ≡ false
 unfolding parse_values
 values_unfailed s t e = batch_unfailed value_at (λ q. q) takes_values s t e
 
-fed_twice : (s : Stream) (a b : List ℕ) → s.failed ≡ false
+pub fed_twice : (s : Stream) (a b : List ℕ) → s.failed ≡ false
     → (fed s (a ++ b)).rest ≡ (fed (fed s a) b).rest
 fed_twice s a b t =
     fed_rest s (a ++ b) t ∙ sym (append_assoc s.rest a b)

@@ -20,6 +20,13 @@ ValuesJoin = (b m : List ℕ) → (parse_values (fed begun b)).fault ≡ None �
     values_of (b ++ m)
     ≡ values_of b ++ (parse_values (fed (parse_values (fed begun b)).stream m)).items
 
+-- Later bytes only add to what was read, fault or not.
+abbrev pub RequestsGrow : Type 0
+RequestsGrow = (b m : List ℕ) → IsPrefix (requests_of b) (requests_of (b ++ m))
+
+abbrev pub ValuesGrow : Type 0
+ValuesGrow = (b m : List ℕ) → IsPrefix (values_of b) (values_of (b ++ m))
+
 -- ---- the calls of a reader
 
 -- a piece that was fed, or what the reader answered

@@ -5,6 +5,7 @@
 ghost use Rattle.std.specs.Prelude.{◌<◌, length};
 ghost use Rattle.resp_laws.specs.Fronts.{IsWellFormed, RequestsInOrder, ValuesInOrder};
 ghost use Rattle.resp_laws.specs.Pieces.{RequestsJoin, ValuesJoin, OnlyRequests, OnlyValues};
+ghost use Rattle.resp_laws.specs.Pieces.{RequestsGrow, ValuesGrow};
 ghost use Rattle.resp_laws.specs.Progress.{BeginsRead, FeedsRead, AnswersRead, EmptiesRead};
 ghost use Rattle.resp_laws.specs.Progress.{WaitsRead, StopsRead, HoldsRead};
 ghost use Rattle.resp_laws.specs.Streams.{Steady, FirstFault, Unfinished, WrittenRequests};
@@ -35,6 +36,12 @@ pub fn law_pieces_give_the_requests_of_the_whole()
 /// The same of values.
 pub fn law_pieces_give_the_values_of_the_whole()
     ensures { ValuesJoin }
+{}
+
+/// The requests and the values of a stream are the first of those that it has with more bytes.
+pub fn law_later_bytes_only_add()
+    ensures requests { RequestsGrow }
+    ensures values { ValuesGrow }
 {}
 
 /// Whatever is fed and asked, a reader of requests answers in turn what the bytes hold, and nothing
