@@ -1,0 +1,4 @@
+mod Crossing
+mod Plain
+mod Rows
+mod SentMessages
