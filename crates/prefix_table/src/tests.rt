@@ -86,3 +86,52 @@ fn places_go_behind_what_is_there(rt: HostRuntime) -> Result<(), Fail> {
     assert_eq!(rt; places.as_slice(), [8, 0, 1].as_slice());
     Ok(())
 }
+
+// The same four prefixes in each order in which they can be registered; two quotes are the empty
+// one.
+const ORDERS: &str = "\
+'' a ab b
+'' a b ab
+'' ab a b
+'' ab b a
+'' b a ab
+'' b ab a
+a '' ab b
+a '' b ab
+a ab '' b
+a ab b ''
+a b '' ab
+a b ab ''
+ab '' a b
+ab '' b a
+ab a '' b
+ab a b ''
+ab b '' a
+ab b a ''
+b '' a ab
+b '' ab a
+b a '' ab
+b a ab ''
+b ab '' a
+b ab a ''";
+
+fn of_words(alloc: Global, words: &str) -> Result<PrefixTable, Fail> {
+    let mut table = PrefixTable::new(alloc);
+    for word in words.split(' ') {
+        let prefix = if word == "''" { "" } else { word };
+        table.add(1, prefix.as_bytes())?;
+    }
+    Ok(table)
+}
+
+#[test]
+fn a_table_is_the_same_whatever_the_order_of_registering(rt: HostRuntime) -> Result<(), Fail> {
+    for words in ORDERS.split('\n') {
+        let table = of_words(rt.alloc(), words)?;
+        let line = line_of(&table, rt.alloc(), "ab")?;
+        assert_eq!(rt; line.as_slice(), b"[ 1][a 1][ab 1]".as_slice(), "{words}");
+        let line = line_of(&table, rt.alloc(), "b")?;
+        assert_eq!(rt; line.as_slice(), b"[ 1][b 1]".as_slice(), "{words}");
+    }
+    Ok(())
+}

@@ -98,11 +98,7 @@ tracking on bcast optout: ERR OPTIN and OPTOUT are not for BCAST
 tracking on bcast optin prefix a prefix a: ERR OPTIN and OPTOUT are not for BCAST
 tracking on optin, tracking on optout: ERR OPTIN and OPTOUT can't be switched while tracking is on
 tracking on optout, tracking on optin: ERR OPTIN and OPTOUT can't be switched while tracking is on
-tracking on bcast prefix a prefix ab: ERR prefixes must not overlap
-tracking on bcast prefix ab prefix a: ERR prefixes must not overlap
 tracking on bcast prefix a prefix a: ERR prefixes must not overlap
-tracking on bcast prefix b prefix '': ERR prefixes must not overlap
-tracking on bcast prefix ab, tracking on bcast prefix a: ERR prefixes must not overlap
 tracking on bcast, tracking on bcast prefix a: ERR prefixes must not overlap
 caching yes: ERR CLIENT CACHING needs OPTIN or OPTOUT
 tracking on, caching no: ERR CLIENT CACHING needs OPTIN or OPTOUT
@@ -113,6 +109,39 @@ tracking on optin, caching no: ERR CLIENT CACHING NO needs OPTOUT";
 #[test]
 fn the_first_fault_in_the_order_is_answered(rt: HostRuntime) -> Result<(), Fail> {
     assert!(rt; answers(rt.alloc(), REFUSED)?);
+    Ok(())
+}
+
+// The empty prefix, "a", "ab" and "b" in either order, in one command and in two.
+const OVERLAPS: &str = "\
+tracking on bcast prefix '' prefix a: ERR prefixes must not overlap
+tracking on bcast prefix '' prefix ab: ERR prefixes must not overlap
+tracking on bcast prefix '' prefix b: ERR prefixes must not overlap
+tracking on bcast prefix a prefix '': ERR prefixes must not overlap
+tracking on bcast prefix a prefix ab: ERR prefixes must not overlap
+tracking on bcast prefix a prefix b: OK
+tracking on bcast prefix ab prefix '': ERR prefixes must not overlap
+tracking on bcast prefix ab prefix a: ERR prefixes must not overlap
+tracking on bcast prefix ab prefix b: OK
+tracking on bcast prefix b prefix '': ERR prefixes must not overlap
+tracking on bcast prefix b prefix a: OK
+tracking on bcast prefix b prefix ab: OK
+tracking on bcast prefix '', tracking on bcast prefix a: ERR prefixes must not overlap
+tracking on bcast prefix '', tracking on bcast prefix ab: ERR prefixes must not overlap
+tracking on bcast prefix '', tracking on bcast prefix b: ERR prefixes must not overlap
+tracking on bcast prefix a, tracking on bcast prefix '': ERR prefixes must not overlap
+tracking on bcast prefix a, tracking on bcast prefix ab: ERR prefixes must not overlap
+tracking on bcast prefix a, tracking on bcast prefix b: OK
+tracking on bcast prefix ab, tracking on bcast prefix '': ERR prefixes must not overlap
+tracking on bcast prefix ab, tracking on bcast prefix a: ERR prefixes must not overlap
+tracking on bcast prefix ab, tracking on bcast prefix b: OK
+tracking on bcast prefix b, tracking on bcast prefix '': ERR prefixes must not overlap
+tracking on bcast prefix b, tracking on bcast prefix a: OK
+tracking on bcast prefix b, tracking on bcast prefix ab: OK";
+
+#[test]
+fn one_prefix_that_starts_with_another_overlaps_it(rt: HostRuntime) -> Result<(), Fail> {
+    assert!(rt; answers(rt.alloc(), OVERLAPS)?);
     Ok(())
 }
 
