@@ -1,3 +1,4 @@
 pub mod Moves
 pub mod Steps
 pub mod PastDeadlines
+pub mod TakenBack

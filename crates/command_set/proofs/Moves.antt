@@ -53,11 +53,11 @@ at_remove s k q =
     get-remove nat_list_cmp_total s k q
     ∙ ap (λ b. cond b None (get s q)) (sym (texts_ties q k))
 
-left_false : (b c : Bool) → (b || c) ≡ false → b ≡ false
+pub left_false : (b c : Bool) → (b || c) ≡ false → b ≡ false
 left_false true c e = absurd cc
 left_false false c e = refl
 
-right_false : (b c : Bool) → (b || c) ≡ false → c ≡ false
+pub right_false : (b c : Bool) → (b || c) ≡ false → c ≡ false
 right_false true c e = absurd cc
 right_false false c e = e
 
@@ -94,7 +94,7 @@ module _ {w : Written} {new : Option Deadline} {s : Space} where
 
 module _ {new : Option Deadline} (s : Space) (k : List ℕ) where
   -- one key is put
-  put : (held : Held) → ((at : ℕ) → held.deadline ≡ Some at → Source new s k at)
+  pub put : (held : Held) → ((at : ℕ) → held.deadline ≡ Some at → Source new s k at)
       → Moves (Keys (k ∷ [])) new s (insert s k held)
   put held source = record {
     stays = λ q other. at_insert s k held q
@@ -113,7 +113,7 @@ module _ {new : Option Deadline} (s : Space) (k : List ℕ) where
           ∙ ap (λ b. cond b (Some held) (get s q)) is)) ∙ e)
 
   -- one key goes
-  gone : Moves (Keys (k ∷ [])) new s (remove s k)
+  pub gone : Moves (Keys (k ∷ [])) new s (remove s k)
   gone = record {
     stays = λ q other. at_remove s k q
         ∙ ap (λ b. cond b None (get s q)) (left_false (bytes_eq q k) false other);
@@ -291,3 +291,11 @@ unfolding effect string_effect hash_effect key_effect
 all_gone (command.FlushAll mode) s moment e = refl
 all_gone (command.FlushDb mode) s moment e = refl
 all_gone _ s moment e = absurd cc
+
+-- a flush looks at no key
+pub same_flush : (c : Command) (s t : Space) (moment : ℕ) → written c ≡ All
+    → effect c s moment ≡ effect c t moment
+unfolding effect string_effect hash_effect key_effect
+same_flush (command.FlushAll mode) s t moment e = refl
+same_flush (command.FlushDb mode) s t moment e = refl
+same_flush _ s t moment e = absurd cc

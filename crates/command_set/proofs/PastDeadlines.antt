@@ -118,7 +118,7 @@ module _ (moment : ℕ) (s : Space) where
       ap (λ key. not (is_past moment (deadline_at key s)))
       (sym (slice_cmp-IsAntisymmetric nat_cmp-IsAntisymmetric q x tied))
 
-  get_without : (q : List ℕ) → get (without_due moment s) q
+  pub get_without : (q : List ℕ) → get (without_due moment s) q
       ≡ cond (not (is_past moment (deadline_at q s))) (get s q) None
   get_without q =
       get-retain_keys s (λ key. not (is_past moment (deadline_at key s))) q

@@ -200,7 +200,7 @@ module _ (index : List Deadline) (s t : Space) (keys : List (List ℕ)) (new : O
   }
 
 -- a run of a command moves what its row does
-moved : (c : Command) (s : Space) (moment : ℕ) (r : Result Done NoMemory) (t : Space)
+pub moved : (c : Command) (s : Space) (moment : ℕ) (r : Result Done NoMemory) (t : Space)
     → IsRow (effect c s moment) r s t → Moves (written c) (new_deadline c s moment) s t
 moved c s moment (Ok done) t is =
     subst (Moves (written c) (new_deadline c s moment) s) (sym is.2) (row_moves c s moment)

@@ -1,3 +1,5 @@
 pub mod InStep
 pub mod NewDeadlines
 pub mod Laws
+pub mod Priors
+pub mod Runs

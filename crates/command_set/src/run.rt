@@ -15,7 +15,14 @@ use key_cmds::{is_key, run_key};
 use keyspace::Keyspace;
 use resp_value::{NoMemory, Octets};
 use std::alloc::Global;
-use string_cmds::run_string;
+use string_cmds::{is_string, run_string};
+
+/// Whether the command is a data command: one on strings, on hashes or on keys.
+pub fn has_row(command: &Command) -> bool
+    ensures { result ≡ has_row command.now }
+{
+    is_string(command) || is_hash(command) || is_key(command)
+}
 
 /// Runs the command on the keyspace alone.
 fn run_row(

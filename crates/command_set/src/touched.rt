@@ -47,7 +47,7 @@ pub(crate) fn deadlines_of(
     Ok(out)
 }
 
-fn deadline(key: &Octets, at: Option<u64>) -> Result<Option<Deadline>, NoMemory>
+pub(crate) fn deadline(key: &Octets, at: Option<u64>) -> Result<Option<Deadline>, NoMemory>
     ensures { IfOk result (λ d. d ≡ deadline key.now at) }
 {
     match at {

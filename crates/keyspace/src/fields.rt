@@ -36,6 +36,22 @@ impl Fields {
         }
     }
 
+    /// An equal list of fields, in the allocator of this one.
+    pub fn copy(&self) -> Result<Fields, NoMemory>
+        ensures { IfOk result (λ fields. fields ≡ self.now) }
+    {
+        let mut table = IndexMap::new(*self.table.allocator());
+        table.reserve(self.table.len())?;
+        'fields: for place in 0..self.table.len() {
+            let Some((field, value)) = self.at(place) else {
+                unreachable!();
+            };
+            let name = Vec::from_slice(*self.table.allocator(), field)?;
+            insert_in_room(&mut table, name, value.copy()?);
+        }
+        Ok(Fields { table })
+    }
+
     /// The number of fields.
     pub fn len(&self) -> u64
         ensures len { result ≡ length self.now }

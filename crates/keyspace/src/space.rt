@@ -30,6 +30,29 @@ pub struct Held {
     pub deadline: Option<u64>,
 }
 
+impl Content {
+    /// An equal content, in the allocator of this one.
+    pub fn copy(&self) -> Result<Content, NoMemory>
+        ensures { IfOk result (λ content. content_of content ≡ content_of self.now) }
+    {
+        match self {
+            Content::Text(value) => Ok(Content::Text(value.copy()?)),
+            Content::Fields(fields) => Ok(Content::Fields(fields.copy()?)),
+        }
+    }
+}
+
+impl Held {
+    /// An equal content with the same deadline, in the allocator of this one.
+    pub fn copy(&self) -> Result<Held, NoMemory>
+        ensures { IfOk result (λ held. held_of held ≡ held_of self.now) }
+    {
+        let content = self.content.copy()?;
+        let deadline = self.deadline;
+        Ok(Held { content, deadline })
+    }
+}
+
 /// All keys with what they hold; contracts see a finite map.
 #[derive(Drop)]
 pub struct Keyspace {

@@ -1,0 +1,120 @@
+//! A run of a command together with the keys that are due.
+ghost use Rattle.std.specs.Prelude.{◌≡◌, [], true, IfOk, OnOk, OnErr};
+ghost use Rattle.command_words.specs.declared.written.Written.TheVariants.{All, Keys};
+ghost use Rattle.command_words.specs.Effects.{effect, has_row};
+ghost use Rattle.command_words.specs.Expiry.{without_due};
+ghost use Rattle.command_words.specs.Queries.{written};
+ghost use Rattle.command_set.specs.InStep.{InStep};
+ghost use Rattle.command_set.specs.Priors.{all_waiting, shown};
+ghost use Rattle.command_set.specs.Runs.{AreDue, IsTurn, taken_back};
+
+use super::database::{Change, Database, Expired, Turned, Undo};
+use super::due::{drop_due, due_keys};
+use super::prior::push_priors;
+use super::run::run_data;
+use super::waiting::{Parts, Waiting, push_waiting};
+use command_words::Command;
+use resp_value::{NoMemory, Octets};
+use std::alloc::Global;
+use std::mem;
+
+/// The keys that are due go; what they hold is copied first.
+pub(crate) fn expire(alloc: Global, parts: &mut Parts, moment: u64) -> Result<Expired, NoMemory>
+    requires step { InStep parts.old.index parts.old.space }
+    requires settled { all_waiting parts.old.waiting ≡ [] }
+    ensures keys { IfOk result (λ expired. AreDue moment (shown parts.old) expired.keys) }
+    ensures ok { OnOk result (shown parts.new ≡ without_due moment (shown parts.old)) }
+    ensures err { OnErr result (shown parts.new ≡ shown parts.old) }
+    ensures undo { IfOk result (λ expired.
+        taken_back expired.undo (shown parts.new) ≡ shown parts.old) }
+    ensures step { InStep parts.new.index parts.new.space }
+{
+    let keys = due_keys(alloc, &parts.index, moment)?;
+    let mut priors = Vec::new(alloc);
+    push_priors(&parts.space, keys.as_slice(), &mut priors)?;
+    let place = Box::new(alloc, Waiting::Nothing)?;
+    drop_due(&mut parts.space, &mut parts.index, moment);
+    let change = Change::Keys(priors, place);
+    let undo = Undo { change };
+    Ok(Expired { keys, undo })
+}
+
+/// A command that writes these keys. What they and the due keys hold is copied first, so that the
+/// run can be taken back without memory.
+pub(crate) fn run_keys(
+    alloc: Global,
+    parts: &mut Parts,
+    command: &Command,
+    moment: u64,
+    keys: &[Octets],
+) -> Result<Turned, NoMemory>
+    requires has { has_row command.now ≡ true }
+    requires step { InStep parts.old.index parts.old.space }
+    requires settled { all_waiting parts.old.waiting ≡ [] }
+    requires keys { written command.now ≡ Keys keys.now }
+    ensures turn { IsTurn (effect command.now (without_due moment (shown parts.old)) moment)
+        result (shown parts.old) (shown parts.new) }
+    ensures expired { IfOk result (λ turned. AreDue moment (shown parts.old) turned.expired) }
+    ensures undo { IfOk result (λ turned.
+        taken_back turned.undo (shown parts.new) ≡ shown parts.old) }
+    ensures step { InStep parts.new.index parts.new.space }
+{
+    let expired = due_keys(alloc, &parts.index, moment)?;
+    let mut priors = Vec::new(alloc);
+    push_priors(&parts.space, expired.as_slice(), &mut priors)?;
+    push_priors(&parts.space, keys, &mut priors)?;
+    let place = Box::new(alloc, Waiting::Nothing)?;
+    drop_due(&mut parts.space, &mut parts.index, moment);
+    match run_data(alloc, &mut parts.space, &mut parts.index, command, moment) {
+        Ok(done) => {
+            let change = Change::Keys(priors, place);
+            let undo = Undo { change };
+            Ok(Turned {
+                expired,
+                done,
+                undo,
+            })
+        }
+        Err(NoMemory) => {
+            push_waiting(&mut parts.waiting, priors, place);
+            Err(NoMemory)
+        }
+    }
+}
+
+/// A flush: the database as it was is kept aside, and an empty one is flushed.
+pub(crate) fn run_flush(
+    alloc: Global,
+    parts: &mut Parts,
+    command: &Command,
+    moment: u64,
+) -> Result<Turned, NoMemory>
+    requires has { has_row command.now ≡ true }
+    requires step { InStep parts.old.index parts.old.space }
+    requires settled { all_waiting parts.old.waiting ≡ [] }
+    requires all { written command.now ≡ All }
+    ensures turn { IsTurn (effect command.now (without_due moment (shown parts.old)) moment)
+        result (shown parts.old) (shown parts.new) }
+    ensures expired { IfOk result (λ turned. AreDue moment (shown parts.old) turned.expired) }
+    ensures undo { IfOk result (λ turned.
+        taken_back turned.undo (shown parts.new) ≡ shown parts.old) }
+    ensures step { InStep parts.new.index parts.new.space }
+{
+    let expired = due_keys(alloc, &parts.index, moment)?;
+    let old = mem::replace(parts, Parts::new(alloc));
+    match run_data(alloc, &mut parts.space, &mut parts.index, command, moment) {
+        Ok(done) => {
+            let change = Change::All(Database { alloc, parts: old });
+            let undo = Undo { change };
+            Ok(Turned {
+                expired,
+                done,
+                undo,
+            })
+        }
+        Err(NoMemory) => {
+            *parts = old;
+            Err(NoMemory)
+        }
+    }
+}
