@@ -20,7 +20,8 @@ use Rattle.turn_lock.specs.declared.rule.TheConstants.{ALL_PARTS}
 use Rattle.turn_lock.specs.Counts.{times}
 use Rattle.turn_lock.specs.History.{entries, past_after, history_after, Legal, made_by}
 use Rattle.turn_lock.specs.Seats.{IsSoundView}
-use Rattle.turn_lock.specs.Rule.{HasTicket, tickets_of, Live, Seated, newcomer, kept_of, given_of}
+use Rattle.turn_lock.specs.Rule.{HasTicket, tickets_of, next_stage, Live, Seated, newcomer}
+use Rattle.turn_lock.specs.Rule.{kept_of, given_of}
 use Rattle.turn_lock.specs.Rule.{both_of, spent_view, waiting_view, serving_view, view_after}
 use Rattle.turn_lock.specs.Rule.{Roster, Queue, IsOut, AtHome, LockRule, looked_at, drew, entered}
 use Rattle.turn_lock.specs.Rule.{HasPlayed, left_by, begun, learned}
@@ -55,6 +56,10 @@ entries-after n h (Some e) = refl
 seated_at : (s t : Stage) → s ≡ t → Seated t → Seated s
 seated_at s t e h = subst Seated (sym e) h
 
+next_seated : (t more : ℕ) → Seated (next_stage t more)
+next_seated t zero = tt
+next_seated t (suc more) = tt
+
 module _ {S U E C R : Type 0} (setup : S → U) (stands : S → List E → Type 0)
     (step_of : U → List E → C → R → Option E → Type 0) (about : U) where
   abbrev Rule : State (Option S) (View U E) → Type 0
@@ -84,7 +89,7 @@ module _ {S U E C R : Type 0} (setup : S → U) (stands : S → List E → Type 
       → ((t : ℕ) → v.stage ≡ Out t → w.stage ≡ Out t)
       → Rule record { words = set s.words 0 n; homes = s.homes; views = set s.views id w }
   moves s k id n v w at roster queue out =
-      let wide : length s.words ≡ 2 = k.wide in
+      let wide : length s.words ≡ 3 = k.wide in
       let first = get_or-set_same s.words 0 n 0 (omega arith) in
       let second = get_or-set_other s.words 0 1 n 0 (λ e. omega arith) in
       record {
@@ -114,7 +119,7 @@ module _ {S U E C R : Type 0} (setup : S → U) (stands : S → List E → Type 
       moves s k id n v w at
       (roster_set about drawn n k.history s.views id v w k.roster at (omega arith)
       (omega arith) refl refl refl seated
-      (fits_stage about drawn n n v.turns k.history v.stage v (k.roster.fits id v at) seated
+      (fits_stage about drawn n n v.turns k.history v.stage v.more v (k.roster.fits id v at) seated
       (omega arith)) (λ e. e))
       (subst (λ z. Queue z (get_or s.words 1 0) k.history (set s.views id w)) (sym is)
       (queue_set drawn (get_or s.words 1 0) k.history s.views id v w k.queue at refl (λ t h. h)
@@ -132,32 +137,38 @@ module _ {S U E C R : Type 0} (setup : S → U) (stands : S → List E → Type 
         (refl, (k.roster.fits id me.0 at).looked),
       )
 
-  pub draws : (slots id old : ℕ) (me : Me (Option S) (View U E)) → me.0.stage ≡ Idle
-      → Allows Rule slots id me 0 (λ n. either (eqb n old) (old + 1) n)
-      (drew (step slots 0 old (old + 1) none) me)
-  draws slots id old me idle s k wide at small =
+  pub draws : (slots id old new more : ℕ) (me : Me (Option S) (View U E)) → new ≡ old + 1 + more
+      → me.0.stage ≡ Idle
+      → Allows Rule slots id me 0 (λ n. either (eqb n old) new n)
+      (drew (step slots 0 old new none) me)
+  draws slots id old new more me sum idle s k wide at small =
       let n : ℕ = get_or s.words 0 0 in
-      let found = drew (step slots 0 old (old + 1) none) me in
+      let found = drew (step slots 0 old new none) me in
+      let same_more : (a b : ℕ) → new ≡ old + 1 + a → new ≡ old + 1 + b → a ≡ b
+      = λ a b x y. omega arith in
       let F : ℕ → Type 0
       = λ m. (w : View U E) × (a : _) × Valid s.homes me.1 a × Rule (stepped s 0 m id me.1 w a)
       × found n (w, carried_after me.1 a) in
       let seen : me.0.tickets ≤ n = (k.roster.fits id me.0 at).looked in
       let seated = seated_at me.0.stage Idle idle tt in
-      exchanged n old (old + 1) F
-      (λ hit. let w : View U E = waiting_view me.0 n in (
+      exchanged n old new F
+      (λ hit. let w : View U E = waiting_view me.0 n more in (
         w,
         keeps,
         tt,
-        moves s k id (old + 1) me.0 w at
-            (roster_set about n (old + 1) k.history s.views id me.0 w k.roster at (omega arith)
+        moves s k id new me.0 w at
+            (roster_set about n new k.history s.views id me.0 w k.roster at (omega arith)
             (omega arith) refl refl refl tt
-            (fits_stage about n (old + 1) n (me.0.turns + 1) k.history (Waits n) me.0
+            (fits_stage about n new n (me.0.turns + 1 + more) k.history (Waits n) more me.0
             (k.roster.fits id me.0 at) seated (omega arith)) (λ e. e))
-            (subst (λ z. Queue (z + 1) (get_or s.words 1 0) k.history (set s.views id w)) hit
-            (queue_draw n
-            (get_or s.words 1 0) k.history s.views id me.0 w k.queue at idle refl))
+            (queue_draw n (get_or s.words 1 0) more new k.history s.views id me.0 w k.queue at
+            idle refl refl (omega arith))
             (λ t o. let bad : Idle ≡ Out t = sym idle ∙ o in absurd cc),
-        (seen, (λ _. refl), (λ miss. absurd (miss hit))),
+        (
+          seen,
+          (λ _ m sum'. ap (λ (z : ℕ). (waiting_view me.0 n z, me.1)) (same_more more m sum sum')),
+          (λ miss. absurd (miss hit)),
+        ),
       ))
       (λ miss. (
         record me.0 { tickets = n },
@@ -177,6 +188,33 @@ module _ {S U E C R : Type 0} (setup : S → U) (stands : S → List E → Type 
       Rule record { words = z.0; homes = s.homes; views = z.1 })
       (λ j. (sym (set_again_or s.words i) j, sym (set_again s.views id v at) j)) k
 
+  -- whatever is done to the number of sleepers
+  pub counts : (slots id : ℕ) (f : ℕ → ℕ) (me : Me (Option S) (View U E))
+      → Allows Rule slots id me 2 f (λ r m'. m' ≡ me)
+  counts slots id f me s k wide at small =
+      let n : ℕ = f (get_or s.words 2 0) in
+      let first = get_or-set_other s.words 2 0 n 0 (λ e. omega arith) in
+      let second = get_or-set_other s.words 2 1 n 0 (λ e. omega arith) in
+      let same : set s.views id me.0 ≡ s.views = set_again s.views id me.0 at in
+      let kept : Rule record { words = set s.words 2 n; homes = s.homes; views = s.views }
+      = record {
+        history = k.history;
+        legal = k.legal;
+        wide = length-set s.words 2 n ∙ k.wide;
+        slot = k.slot;
+        roster = rw first k.roster;
+        queue = rw (first, second) k.queue;
+        place = ⊎_elim (λ home. inl home)
+            (λ o. inr (subst (λ z. IsOut z s.views) (sym second) o)) k.place;
+      } in (
+        me.0,
+        keeps,
+        tt,
+        subst (λ z. Rule record { words = set s.words 2 n; homes = s.homes; views = z })
+            (sym same) kept,
+        refl,
+      )
+
   -- the state goes out with the seat whose ticket is served
   goes_out : (s : State (Option S) (View U E)) (k : Rule s) (id : ℕ) (v : View U E)
       → get_elem? s.views id ≡ some v → v.stage ≡ Waits (get_or s.words 1 0)
@@ -190,7 +228,7 @@ module _ {S U E C R : Type 0} (setup : S → U) (stands : S → List E → Type 
       let n : ℕ = get_or s.words 1 0 in
       let drawn : ℕ = get_or s.words 0 0 in
       let w : View U E = serving_view v n k.history in
-      let wide : length s.words ≡ 2 = k.wide in
+      let wide : length s.words ≡ 3 = k.wide in
       let first = get_or-set_other s.words 1 0 n 0 (λ e. omega arith) in
       let second = get_or-set_same s.words 1 n 0 (omega arith) in
       record {
@@ -204,8 +242,9 @@ module _ {S U E C R : Type 0} (setup : S → U) (stands : S → List E → Type 
             (fits_whole about drawn k.history (Out n) v (k.roster.fits id v at)
             (seated_at v.stage (Waits n) waits tt)) (λ _. refl));
         queue = rw (first, second)
-            (queue_set drawn n k.history s.views id v w k.queue at (sym (ap tickets_of waits))
-            (λ t e. subst (λ z. HasTicket z t) (sym waits) e)
+            (queue_set drawn n k.history s.views id v w k.queue at
+            (sym (ap (λ z. tickets_of z v.more) waits))
+            (λ t e. subst (λ z. HasTicket z v.more t) (sym waits) e)
             (λ t o. (sym (ap number_of o), refl)));
         place = inr (id, w, set_there s.views id w v at, ap Out (sym second));
       }
@@ -236,9 +275,10 @@ module _ {S U E C R : Type 0} (setup : S → U) (stands : S → List E → Type 
           (λ ne. let same : t ≡ t' = ap number_of (sym waits ∙ is) in absurd (ne (hit ∙ same))),
         )),
       ))
-      (λ (out : IsOut n s.views). let mine : HasTicket me.0.stage n =
-      subst (λ z. HasTicket z n) (sym waits) (sym hit) in
-      let its : HasTicket out.1.stage n = subst (λ z. HasTicket z n) (sym out.3) refl in
+      (λ (out : IsOut n s.views). let mine : HasTicket me.0.stage me.0.more n =
+      subst (λ z. HasTicket z me.0.more n) (sym waits) ((omega arith), (omega arith)) in
+      let its : HasTicket out.1.stage out.1.more n
+      = subst (λ z. HasTicket z out.1.more n) (sym out.3) ((omega arith), (omega arith)) in
       let who = k.queue.apart out.0 id out.1 me.0 n out.2 at its mine in
       let same : out.1 ≡ me.0 = same_at s.views out.0 id out.1 me.0 who out.2 at in
       let bad : Out n ≡ Waits t
@@ -265,13 +305,13 @@ module _ {S U E C R : Type 0} (setup : S → U) (stands : S → List E → Type 
         words = set s.words 1 (t + 1);
         homes = set s.homes 0 (some (Some y));
         views =
-            set s.views id (view_after v e);
+            set s.views id (view_after v (t + 1) e);
       }
   comes_home s k id v t y e c r at out its is st =
-      let w : View U E = view_after v e in
+      let w : View U E = view_after v (t + 1) e in
       let drawn : ℕ = get_or s.words 0 0 in
       let served : ℕ = get_or s.words 1 0 in
-      let wide : length s.words ≡ 2 = k.wide in
+      let wide : length s.words ≡ 3 = k.wide in
       let slot : length s.homes ≡ 1 = k.slot in
       let first = get_or-set_other s.words 1 0 (t + 1) 0 (λ e. omega arith) in
       let second = get_or-set_same s.words 1 (t + 1) 0 (omega arith) in
@@ -291,10 +331,11 @@ module _ {S U E C R : Type 0} (setup : S → U) (stands : S → List E → Type 
         slot = length-set s.homes 0 (some (Some y)) ∙ k.slot;
         roster = rw first
             (roster_entry about drawn e v.seen s.views id v w roster at seated refl refl refl refl
-            tt (fits_entry about drawn v.seen e v (roster.fits id v at) seated refl) refl);
+            (next_seated (t + 1) v.more)
+            (fits_entry about drawn (t + 1) v.seen e v (roster.fits id v at) seated refl) refl);
         queue = rw (first, second)
             (queue_leave drawn t v.seen
-            (history_after v.number v.seen e) s.views id v w queue at out refl);
+            (history_after v.number v.seen e) s.views id v w queue at out refl refl);
         place = inl (
           y,
           set_here s.homes 0 (some (Some y)) (omega arith),
@@ -311,7 +352,7 @@ module _ {S U E C R : Type 0} (setup : S → U) (stands : S → List E → Type 
       → Allows Rule slots id me 1 (λ _. t + 1)
       (λ _. left_by step_of by (step slots 1 (t + 1) 0 none) me (t + 1))
   leaves by slots id t me y e c r out held has is fact st s k wide at small =
-      let w : View U E = view_after me.0 e in
+      let w : View U E = view_after me.0 (t + 1) e in
       let its : setup y ≡ about
       = same_Some (setup y) about
       (sym has ∙ (k.roster.fits id me.0 at).about
@@ -324,7 +365,14 @@ module _ {S U E C R : Type 0} (setup : S → U) (stands : S → List E → Type 
         subst (λ z. Rule record
             { words = set s.words 1 (t + 1); homes = put_back s.homes z; views = set s.views id w })
             (sym held) home,
-        (setup y, e, has, fact, refl, sound_of _ home id w (set_there s.views id w me.0 at) tt),
+        (
+          setup y,
+          e,
+          has,
+          fact,
+          refl,
+          sound_of _ home id w (set_there s.views id w me.0 at) (next_seated (t + 1) me.0.more),
+        ),
       )
 
   pub begins : (slots id : ℕ) (me : Me (Option S) (View U E)) → me.0.stage ≡ New
@@ -333,7 +381,7 @@ module _ {S U E C R : Type 0} (setup : S → U) (stands : S → List E → Type 
       let n : ℕ = get_or s.words 0 0 in
       let served : ℕ = get_or s.words 1 0 in
       let w : View U E = record me.0 { number = id; numbers = id ∷ []; stage = Idle } in
-      let none : tickets_of me.0.stage ≡ 0 = ap tickets_of new in
+      let none : tickets_of me.0.stage me.0.more ≡ 0 = ap (λ z. tickets_of z me.0.more) new in
       let kept = moves s k id n me.0 w at
       (roster_begin about n k.history s.views id me.0 k.roster at new)
       (queue_set n served k.history s.views id me.0 w k.queue at (sym none) (λ t h. absurd h)
@@ -414,7 +462,7 @@ module _ {S U E C R : Type 0} (setup : S → U) (stands : S → List E → Type 
         roster = roster_join about drawn k.history s.views id other v w k.roster apart at at'
             (seated_at v.stage Idle idle tt) (seated_at w.stage Idle idle' tt);
         queue = queue_set drawn served k.history mid other w spent_view queue there
-            (sym (ap tickets_of idle')) (λ t h. absurd h)
+            (sym (ap (λ z. tickets_of z w.more) idle')) (λ t h. absurd h)
             (λ t o. let bad : Spent ≡ Out t = o in absurd cc);
         place = ⊎_elim (λ home. inl home)
             (λ o. inr (out_set mid other w spent_view served there
@@ -423,7 +471,7 @@ module _ {S U E C R : Type 0} (setup : S → U) (stands : S → List E → Type 
       }
 
   pub opens : (y : S) → setup y ≡ about → stands y []
-      → Rule (opening (0 ∷ 0 ∷ []) (Some y ∷ []) (newcomer {U = U} {E = E} about))
+      → Rule (opening (0 ∷ 0 ∷ 0 ∷ []) (Some y ∷ []) (newcomer {U = U} {E = E} about))
   opens y its st = record {
     history = [];
     legal = tt;
@@ -432,9 +480,10 @@ module _ {S U E C R : Type 0} (setup : S → U) (stands : S → List E → Type 
     roster = roster_opening about;
     queue = record {
       counted = refl;
-      between = λ j u t e h. absurd (subst (λ z. HasTicket z.stage t) (sym (only j u e)) h);
+      between = λ j u t e h. absurd
+          (subst (λ (z : View U E). HasTicket z.stage z.more t) (sym (only j u e)) h);
       apart = λ i j v w t a b ha hb. absurd
-          (subst (λ z. HasTicket z.stage t) (sym (only i v a)) ha);
+          (subst (λ (z : View U E). HasTicket z.stage z.more t) (sym (only i v a)) ha);
       outs = λ j u t e o. let bad : Idle ≡ Out t = ap (λ (z : View U E). z.stage) (only j u e)
           ∙ o in absurd cc;
     };

@@ -1,6 +1,6 @@
 -- The steps keep what is true of the tickets.
-use Rattle.std.proofs.Common.{◌≡◌, ◌≢◌, ℕ, ◌+◌, ◌<◌, ◌≤◌, ◌⊎◌, inl, inr, List, [], ◌∷◌, ◌++◌, set}
-use Rattle.std.proofs.Common.{sym, refl, ap, ◌∙◌, subst, arith, ⊎_elim}
+use Rattle.std.proofs.Common.{◌≡◌, ◌≢◌, ℕ, zero, suc, ◌+◌, ◌<◌, ◌≤◌, ◌⊎◌, inl, inr, List, [], ◌∷◌}
+use Rattle.std.proofs.Common.{◌++◌, set, sym, refl, ap, ◌∙◌, subst, arith, ⊎_elim}
 use mathlib.Core.Option.{some}
 use mathlib.Core.Logic.{dite}
 use native.Mathlib.Decide.{ℕ_discrete}
@@ -9,7 +9,7 @@ use Rattle.atomic_table.proofs.Lists.{at_set, set_else, at_snoc}
 use Rattle.turn_lock.specs.declared.rule.View.{View}
 use Rattle.turn_lock.specs.declared.rule.Stage.{Stage}
 use Rattle.turn_lock.specs.declared.rule.Stage.TheVariants.{New, Idle, Waits, Out, Spent}
-use Rattle.turn_lock.specs.Rule.{HasTicket, tickets_of, Queue, IsOut}
+use Rattle.turn_lock.specs.Rule.{HasTicket, tickets_of, next_stage, one_less, Queue, IsOut}
 use Rattle.turn_lock.proofs.Counting.{total_set, total_snoc}
 use Rattle.turn_lock.proofs.Rosters.{each_set, set_there, same_at}
 
@@ -20,73 +20,93 @@ number_of (Waits t) = t
 number_of (Out t) = t
 number_of Spent = 0
 
+has_next : (s more t : ℕ) → HasTicket (next_stage (s + 1) more) (one_less more) t
+    → (s + 1 ≤ t) × (t ≤ s + more)
+has_next s zero t h = absurd h
+has_next s (suc more) t h = (h.0, (let high = h.1 in omega arith))
+
+count_next : (s more : ℕ) → tickets_of (next_stage s more) (one_less more) ≡ more
+count_next s zero = refl
+count_next s (suc more) = omega arith
+
+next_not_out : (s more t : ℕ) → next_stage s more ≡ Out t → ⊥
+next_not_out s zero t e = absurd cc
+next_not_out s (suc more) t e = absurd cc
+
 module _ {U E : Type 0} where
   Apart : List (View U E) → Type 0
   Apart vs = (i j : ℕ) (v w : View U E) (t : ℕ) → get_elem? vs i ≡ some v → get_elem? vs j ≡ some w
-      → HasTicket v.stage t → HasTicket w.stage t → i ≡ j
+      → HasTicket v.stage v.more t → HasTicket w.stage w.more t → i ≡ j
 
   -- the ticket of the view that changes is one that it had, or one that no other has
   apart_set : (vs : List (View U E)) (id : ℕ) (v w : View U E) → get_elem? vs id ≡ some v
       → ((i j : ℕ) (v w : View U E) (t : ℕ) → get_elem? vs i ≡ some v → get_elem? vs j ≡ some w
-      → HasTicket v.stage t → HasTicket w.stage t → i ≡ j)
-      → ((t : ℕ) → HasTicket w.stage t → HasTicket v.stage t
-      ⊎ ((j : ℕ) (u : View U E) → get_elem? vs j ≡ some u → HasTicket u.stage t → ⊥))
+      → HasTicket v.stage v.more t → HasTicket w.stage w.more t → i ≡ j)
+      → ((t : ℕ) → HasTicket w.stage w.more t → HasTicket v.stage v.more t
+      ⊎ ((j : ℕ) (u : View U E) → get_elem? vs j ≡ some u → HasTicket u.stage u.more t → ⊥))
       → (i j : ℕ) (a b : View U E) (t : ℕ) → get_elem? (set vs id w) i ≡ some a
-      → get_elem? (set vs id w) j ≡ some b → HasTicket a.stage t → HasTicket b.stage t → i ≡ j
+      → get_elem? (set vs id w) j ≡ some b → HasTicket a.stage a.more t
+      → HasTicket b.stage b.more t → i ≡ j
   apart_set vs id v w at old new i j a b t ea eb ha hb =
       ⊎_elim
-      (λ (p : (i ≡ id) × (w ≡ a)). let hw = subst (λ u. HasTicket u.stage t) (sym p.1) ha in ⊎_elim
+      (λ (p : (i ≡ id) × (w ≡ a)). let hw =
+      subst (λ (u : View U E). HasTicket u.stage u.more t) (sym p.1) ha in ⊎_elim
       (λ (q : (j ≡ id) × (w ≡ b)). p.0 ∙ sym q.0)
       (λ (q : (j ≢ id) × (get_elem? vs j ≡ some b)). ⊎_elim
       (λ hv. p.0 ∙ old id j v b t at q.1 hv hb) (λ no. absurd (no j b q.1 hb)) (new t hw))
       (at_set vs id j w b eb))
       (λ (p : (i ≢ id) × (get_elem? vs i ≡ some a)). ⊎_elim
-      (λ (q : (j ≡ id) × (w ≡ b)). let hw = subst (λ u. HasTicket u.stage t) (sym q.1) hb in
+      (λ (q : (j ≡ id) × (w ≡ b)). let hw =
+      subst (λ (u : View U E). HasTicket u.stage u.more t) (sym q.1) hb in
       ⊎_elim (λ hv. old i id a v t p.1 at ha hv ∙ sym q.0) (λ no. absurd (no i a p.1 ha))
       (new t hw))
       (λ (q : (j ≢ id) × (get_elem? vs j ≡ some b)). old i j a b t p.1 q.1 ha hb)
       (at_set vs id j w b eb))
       (at_set vs id i w a ea)
 
-  counts : View U E → ℕ
-  counts v = tickets_of v.stage
-
   -- one view changes, and keeps its ticket
   pub queue_set : (drawn served : ℕ) (h : List (ℕ × E)) (vs : List (View U E)) (id : ℕ)
       (v w : View U E) → Queue drawn served h vs → get_elem? vs id ≡ some v
-      → tickets_of w.stage ≡ tickets_of v.stage
-      → ((t : ℕ) → HasTicket w.stage t → HasTicket v.stage t)
+      → tickets_of w.stage w.more ≡ tickets_of v.stage v.more
+      → ((t : ℕ) → HasTicket w.stage w.more t → HasTicket v.stage v.more t)
       → ((t : ℕ) → w.stage ≡ Out t → (t ≡ served) × (w.seen ≡ h))
       → Queue drawn served h (set vs id w)
   queue_set drawn served h vs id v w q at same has out = record {
-    counted = let s = total_set (λ (u : View U E). tickets_of u.stage) vs id v w at in
+    counted = let s = total_set (λ (u : View U E). tickets_of u.stage u.more) vs id v w at in
         let c = q.counted in omega arith;
-    between = λ j u t e. each_set (λ j u. HasTicket u.stage t → (served ≤ t) × (t < drawn)) vs id w
+    between = λ j u t e. each_set
+        (λ j u. HasTicket u.stage u.more t → (served ≤ t) × (t < drawn)) vs id w
         (λ hw. q.between id v t at (has t hw)) (λ j u ne e. q.between j u t e) j u e;
     apart = apart_set vs id v w at q.apart (λ t hw. inl (has t hw));
     outs = λ j u t e. each_set (λ j u. u.stage ≡ Out t → (t ≡ served) × (u.seen ≡ h)) vs id w
         (out t) (λ j u ne e. q.outs j u t e) j u e;
   }
 
-  -- a view with no ticket draws the next
-  pub queue_draw : (drawn served : ℕ) (h : List (ℕ × E)) (vs : List (View U E)) (id : ℕ)
-      (v w : View U E) → Queue drawn served h vs → get_elem? vs id ≡ some v
-      → v.stage ≡ Idle → w.stage ≡ Waits drawn → Queue (drawn + 1) served h (set vs id w)
-  queue_draw drawn served h vs id v w q at idle waits =
-      let has : (t : ℕ) → HasTicket w.stage t → drawn ≡ t
-      = λ t hw. subst (λ s. HasTicket s t) waits hw in
+  -- a view with no ticket draws the next, and so many more
+  pub queue_draw : (drawn served more drawn' : ℕ) (h : List (ℕ × E)) (vs : List (View U E))
+      (id : ℕ) (v w : View U E) → Queue drawn served h vs → get_elem? vs id ≡ some v
+      → v.stage ≡ Idle → w.stage ≡ Waits drawn → w.more ≡ more → drawn' ≡ drawn + 1 + more
+      → Queue drawn' served h (set vs id w)
+  queue_draw drawn served more drawn' h vs id v w q at idle waits behind sum =
+      let has : (t : ℕ) → HasTicket w.stage w.more t → (drawn ≤ t) × (t ≤ drawn + more)
+      = λ t hw. subst (λ (z : Stage × ℕ). HasTicket z.0 z.1 t) (λ i. (waits i, behind i)) hw in
       record {
-        counted = let s = total_set (λ (u : View U E). tickets_of u.stage) vs id v w at in
-            let c = q.counted in let a : tickets_of w.stage ≡ 1 = ap tickets_of waits in
-            let b : tickets_of v.stage ≡ 0 = ap tickets_of idle in omega arith;
+        counted = let s = total_set (λ (u : View U E). tickets_of u.stage u.more) vs id v w at in
+            let c = q.counted in
+            let a : tickets_of w.stage w.more ≡ more + 1
+            = (λ i. tickets_of (waits i) (behind i)) in
+            let b : tickets_of v.stage v.more ≡ 0 = ap (λ z. tickets_of z v.more) idle in
+            omega arith;
         between = λ j u t e. each_set
-            (λ j u. HasTicket u.stage t → (served ≤ t) × (t < drawn + 1)) vs id w
-            (λ hw. let is = has t hw in let c = q.counted in ((omega arith), (omega arith)))
+            (λ j u. HasTicket u.stage u.more t → (served ≤ t) × (t < drawn')) vs id w
+            (λ hw. let is = has t hw in let low = is.0 in let high = is.1 in
+            let c = q.counted in ((omega arith), (omega arith)))
             (λ j u ne e hu. let old = q.between j u t e hu in
             (old.0, (let o = old.1 in omega arith))) j u e;
         apart = apart_set vs id v w at q.apart
             (λ t hw. inr
-            (λ j u e hu. let is = has t hw in let o = (q.between j u t e hu).1 in omega arith));
+            (λ j u e hu. let is = (has t hw).0 in let o = (q.between j u t e hu).1 in
+            omega arith));
         outs = λ j u t e. each_set (λ j u. u.stage ≡ Out t → (t ≡ served) × (u.seen ≡ h)) vs id w
             (λ is. let bad : Waits drawn ≡ Out t = sym waits ∙ is in absurd cc)
             (λ j u ne e. q.outs j u t e) j u e;
@@ -95,41 +115,54 @@ module _ {U E : Type 0} where
   -- the view that is out comes home, and the next is served
   pub queue_leave : (drawn served : ℕ) (h h' : List (ℕ × E)) (vs : List (View U E)) (id : ℕ)
       (v w : View U E) → Queue drawn served h vs → get_elem? vs id ≡ some v
-      → v.stage ≡ Out served → w.stage ≡ Idle → Queue drawn (served + 1) h' (set vs id w)
-  queue_leave drawn served h h' vs id v w q at out idle =
-      let mine : HasTicket v.stage served = subst (λ s. HasTicket s served) (sym out) refl in
-      let none : (t : ℕ) → HasTicket w.stage t → ⊥ = λ t hw. subst (λ s. HasTicket s t) idle hw in
+      → v.stage ≡ Out served → w.stage ≡ next_stage (served + 1) v.more
+      → w.more ≡ one_less v.more → Queue drawn (served + 1) h' (set vs id w)
+  queue_leave drawn served h h' vs id v w q at out next less =
+      let has : (t : ℕ) → (served ≤ t) → (t ≤ served + v.more) → HasTicket v.stage v.more t
+      = λ t low high. subst (λ z. HasTicket z v.more t) (sym out) (low, high) in
+      let mine : HasTicket v.stage v.more served = has served (omega arith) (omega arith) in
+      let left : (t : ℕ) → HasTicket w.stage w.more t
+      → (served + 1 ≤ t) × (t ≤ served + v.more)
+      = λ t hw. has_next served v.more t
+      (subst (λ (z : Stage × ℕ). HasTicket z.0 z.1 t) (λ i. (next i, less i)) hw) in
+      let old_one : (t : ℕ) → HasTicket w.stage w.more t → HasTicket v.stage v.more t
+      = λ t hw. let is = left t hw in let low = is.0 in has t (omega arith) is.1 in
       record {
-        counted = let s = total_set (λ (u : View U E). tickets_of u.stage) vs id v w at in
-            let c = q.counted in let a : tickets_of w.stage ≡ 0 = ap tickets_of idle in
-            let b : tickets_of v.stage ≡ 1 = ap tickets_of out in omega arith;
+        counted = let s = total_set (λ (u : View U E). tickets_of u.stage u.more) vs id v w at in
+            let c = q.counted in
+            let a : tickets_of w.stage w.more ≡ v.more
+            = (λ i. tickets_of (next i) (less i)) ∙ count_next (served + 1) v.more in
+            let b : tickets_of v.stage v.more ≡ v.more + 1
+            = ap (λ z. tickets_of z v.more) out in omega arith;
         between = λ j u t e. each_set
-            (λ j u. HasTicket u.stage t → (served + 1 ≤ t) × (t < drawn)) vs id w
-            (λ hw. absurd (none t hw))
+            (λ j u. HasTicket u.stage u.more t → (served + 1 ≤ t) × (t < drawn)) vs id w
+            (λ hw. ((left t hw).0, (q.between id v t at (old_one t hw)).1))
             (λ j u ne e hu. let old = q.between j u t e hu in
             let other : served ≢ t
             = λ same. ne
-            (q.apart j id u v t e at hu (subst (λ z. HasTicket v.stage z) same mine)) in
+            (q.apart j id u v t e at hu (subst (λ z. HasTicket v.stage v.more z) same mine)) in
             ((let a = old.0 in omega arith), old.1)) j u e;
-        apart = apart_set vs id v w at q.apart (λ t hw. absurd (none t hw));
+        apart = apart_set vs id v w at q.apart (λ t hw. inl (old_one t hw));
         outs = λ j u t e. each_set
             (λ j u. u.stage ≡ Out t → (t ≡ served + 1) × (u.seen ≡ h')) vs id w
-            (λ is. let bad : Idle ≡ Out t = sym idle ∙ is in absurd cc)
-            (λ j u ne e is. let old = q.outs j u t e is in
+            (λ is. absurd (next_not_out (served + 1) v.more t (sym next ∙ is)))
+            (λ j u ne e is. let old = q.outs j u t e is in let same = old.0 in
             absurd (ne (q.apart j id u v served e at
-            (subst (λ z. HasTicket z served) (sym is) old.0) mine))) j u e;
+            (subst (λ z. HasTicket z u.more served) (sym is) ((omega arith), (omega arith)))
+            mine))) j u e;
       }
 
   -- a view with no ticket comes to the others
   pub queue_more : (drawn served : ℕ) (h : List (ℕ × E)) (vs : List (View U E)) (w : View U E)
       → Queue drawn served h vs → w.stage ≡ New → Queue drawn served h (vs ++ w ∷ [])
   queue_more drawn served h vs w q new =
-      let none : (u : View U E) (t : ℕ) → w ≡ u → HasTicket u.stage t → ⊥
-      = λ u t is hu. subst (λ s. HasTicket s t)
+      let none : (u : View U E) (t : ℕ) → w ≡ u → HasTicket u.stage u.more t → ⊥
+      = λ u t is hu. subst (λ s. HasTicket s u.more t)
       (sym (ap (λ (z : View U E). z.stage) is) ∙ new) hu in
       record {
-        counted = let s = total_snoc (λ (u : View U E). tickets_of u.stage) vs w in
-            let c = q.counted in let a : tickets_of w.stage ≡ 0 = ap tickets_of new in omega arith;
+        counted = let s = total_snoc (λ (u : View U E). tickets_of u.stage u.more) vs w in
+            let c = q.counted in let a : tickets_of w.stage w.more ≡ 0
+            = ap (λ z. tickets_of z w.more) new in omega arith;
         between = λ j u t e hu. ⊎_elim (λ old. q.between j u t old hu)
             (λ is. absurd (none u t is hu)) (at_snoc vs w u j e);
         apart = λ i j a b t ea eb ha hb. ⊎_elim

@@ -67,10 +67,11 @@ module _ {A : Type 0} where
 
 module _ {U E : Type 0} (setup : U) where
   -- the tickets and the stage change
-  pub fits_stage : (drawn drawn' tickets turns : ℕ) (h : List (ℕ × E)) (stage : Stage)
+  pub fits_stage : (drawn drawn' tickets turns : ℕ) (h : List (ℕ × E)) (stage : Stage) (more : ℕ)
       (v : View U E) → ViewRule setup drawn h v → Seated v.stage → tickets ≤ drawn'
-      → ViewRule setup drawn' h (record v { tickets = tickets; turns = turns; stage = stage })
-  fits_stage drawn drawn' tickets turns h stage v f seated le = record {
+      → ViewRule setup drawn' h
+      (record v { tickets = tickets; turns = turns; stage = stage; more = more })
+  fits_stage drawn drawn' tickets turns h stage more v f seated le = record {
     looked = le;
     begins = f.begins;
     less = f.less;
@@ -99,10 +100,10 @@ module _ {U E : Type 0} (setup : U) where
   }
 
   -- the seat that has seen all makes an entry, or none
-  pub fits_entry : (drawn : ℕ) (h : List (ℕ × E)) (e : Option E) (v : View U E)
+  pub fits_entry : (drawn t : ℕ) (h : List (ℕ × E)) (e : Option E) (v : View U E)
       → ViewRule setup drawn h v → Seated v.stage → v.seen ≡ h
-      → ViewRule setup drawn (history_after v.number v.seen e) (view_after v e)
-  fits_entry drawn h e v f seated all =
+      → ViewRule setup drawn (history_after v.number v.seen e) (view_after v t e)
+  fits_entry drawn t h e v f seated all =
       let more = owns_one_more v.numbers v.own v.number v.seen e (f.named seated) f.owned in
       record {
         looked = f.looked;

@@ -1,6 +1,6 @@
 -- What the lock's rule says of its words, its slot and all views, and what each of its steps gives.
-use Rattle.std.specs.Prelude.{◌≡◌, ◌≢◌, ℕ, ◌+◌, ◌-◌, ◌<◌, ◌≤◌, max, List, [], ◌∷◌, ◌++◌, length}
-use Rattle.std.specs.Prelude.{Option, Some, None, slice_index, ◌⊎◌, ⊤}
+use Rattle.std.specs.Prelude.{◌≡◌, ◌≢◌, ℕ, zero, suc, ◌+◌, ◌-◌, ◌<◌, ◌≤◌, max, List, [], ◌∷◌}
+use Rattle.std.specs.Prelude.{◌++◌, length, Option, Some, None, slice_index, ◌⊎◌, ⊤}
 use mathlib.Core.Option.{some, none}
 use lib.ListN.{get_elem?}
 use Rattle.atomic_table.specs.Seated.{TableId}
@@ -14,24 +14,34 @@ use Rattle.turn_lock.specs.declared.rule.Stage.{Stage}
 use Rattle.turn_lock.specs.declared.rule.Stage.TheVariants.{New, Idle, Waits, Out, Spent}
 use Rattle.turn_lock.specs.declared.rule.TheConstants.{ALL_PARTS}
 
--- the seat is of this table, which has the lock's two words and one slot
+-- the seat is of this table, which has the lock's three words and one slot
 abbrev pub IsSeatOf : TableId → TableId → Type 0
-IsSeatOf seat table = (seat ≡ table) × (table.words ≡ 2) × (table.slots ≡ 1)
+IsSeatOf seat table = (seat ≡ table) × (table.words ≡ 3) × (table.slots ≡ 1)
 
-abbrev pub HasTicket : Stage → ℕ → Type 0
-HasTicket New t = ⊥
-HasTicket Idle t = ⊥
-HasTicket (Waits s) t = s ≡ t
-HasTicket (Out s) t = s ≡ t
-HasTicket Spent t = ⊥
+-- it has this ticket, where it has so many more behind the one of its stage
+abbrev pub HasTicket : Stage → ℕ → ℕ → Type 0
+HasTicket New more t = ⊥
+HasTicket Idle more t = ⊥
+HasTicket (Waits s) more t = (s ≤ t) × (t ≤ s + more)
+HasTicket (Out s) more t = (s ≤ t) × (t ≤ s + more)
+HasTicket Spent more t = ⊥
 
 -- how many tickets it has that were not served
-abbrev pub tickets_of : Stage → ℕ
-tickets_of New = 0
-tickets_of Idle = 0
-tickets_of (Waits s) = 1
-tickets_of (Out s) = 1
-tickets_of Spent = 0
+abbrev pub tickets_of : Stage → ℕ → ℕ
+tickets_of New more = 0
+tickets_of Idle more = 0
+tickets_of (Waits s) more = more + 1
+tickets_of (Out s) more = more + 1
+tickets_of Spent more = 0
+
+-- after a turn it waits with the next of its tickets, or has none
+abbrev pub next_stage : ℕ → ℕ → Stage
+next_stage t zero = Idle
+next_stage t (suc more) = Waits t
+
+abbrev pub one_less : ℕ → ℕ
+one_less zero = zero
+one_less (suc more) = more
 
 -- it was not joined into another
 abbrev pub Live : Stage → Type 0
@@ -63,6 +73,7 @@ module _ {U E : Type 0} where
     shorter = [];
     own = [];
     stage = Idle;
+    more = 0;
   }
 
   -- a view is cut in two: the first stays, and the second finds its number by its first step
@@ -82,6 +93,7 @@ module _ {U E : Type 0} where
     shorter = [];
     own = [];
     stage = New;
+    more = 0;
   }
 
   abbrev pub both_of : View U E → View U E → View U E
@@ -108,23 +120,37 @@ module _ {U E : Type 0} where
     shorter = [];
     own = [];
     stage = Spent;
+    more = 0;
   }
 
-  -- the view that has drawn this ticket
-  abbrev pub waiting_view : View U E → ℕ → View U E
-  waiting_view v t = record v { tickets = t; turns = v.turns + 1; stage = Waits t }
+  -- the view that has drawn this ticket, and so many more behind it
+  abbrev pub waiting_view : View U E → ℕ → ℕ → View U E
+  waiting_view v t more =
+      record v { tickets = t; turns = v.turns + 1 + more; stage = Waits t; more = more }
 
   -- the view whose ticket is served, which has the state
   abbrev pub serving_view : View U E → ℕ → List (ℕ × E) → View U E
   serving_view v t h = record v { seen = h; stage = Out t }
 
-  -- the view after its turn, which added this entry or none
-  abbrev pub view_after : View U E → Option E → View U E
-  view_after v e = record v {
+  -- the view after its turn, which added this entry or none; this ticket is served next
+  abbrev pub view_after : View U E → ℕ → Option E → View U E
+  view_after v t e = record v {
     seen = history_after v.number v.seen e;
     own = own_after v.own (length v.seen) e;
-    stage = Idle;
+    stage = next_stage t v.more;
+    more = one_less v.more;
   }
+
+  -- it has so many tickets, the first of them this one, and none is served yet
+  abbrev pub IsReady : View U E → ℕ → ℕ → Type 0
+  IsReady v t zero = v.stage ≡ Idle
+  IsReady v t (suc more) = (v.stage ≡ Waits t) × (v.more ≡ more)
+
+  -- what turns do not change, where no ticket is drawn
+  abbrev pub IsSameView : View U E → View U E → Type 0
+  IsSameView v w =
+      (w.setup ≡ v.setup) × (w.number ≡ v.number) × (w.numbers ≡ v.numbers)
+      × (w.shares ≡ v.shares) × (w.tickets ≡ v.tickets) × (w.turns ≡ v.turns)
 
   -- what is true of each view, where this many tickets were drawn
   pub record ViewRule (setup : U) (drawn : ℕ) (history : List (ℕ × E)) (v : View U E)
@@ -166,11 +192,12 @@ module _ {U E : Type 0} where
   -- the view that is out has the one that is served and has seen the whole history.
   pub record Queue (drawn served : ℕ) (history : List (ℕ × E)) (views : List (View U E))
       : Type 0 where
-    pub counted : drawn ≡ served + total (λ v. tickets_of v.stage) views
+    pub counted : drawn ≡ served + total (λ v. tickets_of v.stage v.more) views
     pub between : (j : ℕ) (v : View U E) (t : ℕ) → get_elem? views j ≡ some v
-        → HasTicket v.stage t → (served ≤ t) × (t < drawn)
+        → HasTicket v.stage v.more t → (served ≤ t) × (t < drawn)
     pub apart : (i j : ℕ) (v w : View U E) (t : ℕ) → get_elem? views i ≡ some v
-        → get_elem? views j ≡ some w → HasTicket v.stage t → HasTicket w.stage t → i ≡ j
+        → get_elem? views j ≡ some w → HasTicket v.stage v.more t → HasTicket w.stage w.more t
+        → i ≡ j
     pub outs : (j : ℕ) (v : View U E) (t : ℕ) → get_elem? views j ≡ some v → v.stage ≡ Out t
         → (t ≡ served) × (v.seen ≡ history)
 
@@ -185,12 +212,13 @@ module _ {S U E C R : Type 0} (setup : S → U) (stands : S → List E → Type 
       (y : S) × (get_elem? homes 0 ≡ some (some (Some y)))
       × (setup y ≡ about) × stands y (entries history)
 
-  -- The words are the tickets drawn and the ticket served. The state is in the slot and stands for
-  -- the history, or it is out with the seat that is served.
+  -- The words are the tickets drawn, the ticket served, and the number of sleepers, of which
+  -- nothing is said. The state is in the slot and stands for the history, or it is out with the
+  -- seat that is served.
   pub record LockRule (about : U) (s : State (Option S) (View U E)) : Type 0 where
     pub history : List (ℕ × E)
     pub legal : Legal step about history
-    pub wide : length s.words ≡ 2
+    pub wide : length s.words ≡ 3
     pub slot : length s.homes ≡ 1
     pub roster : Roster about (slice_index s.words 0) history s.views
     pub queue : Queue (slice_index s.words 0) (slice_index s.words 1) history s.views
@@ -202,12 +230,19 @@ module _ {S U E : Type 0} where
       → Me (Option S) (View U E) → Type 0
   looked_at st m r m' = (m' ≡ (record m.0 { tickets = r }, m.1)) × (m.0.tickets ≤ r)
 
-  -- a ticket was drawn, or the exchange was lost; either notes the word that was found
+  -- tickets were drawn, or the exchange was lost; either notes the word that was found
   abbrev pub drew : Step (Option S) → Me (Option S) (View U E) → ℕ
       → Me (Option S) (View U E) → Type 0
   drew st m r m' =
-      (m.0.tickets ≤ r) × (r ≡ st.first → m' ≡ (waiting_view m.0 r, m.1))
+      (m.0.tickets ≤ r)
+      × (r ≡ st.first → (more : ℕ) → st.second ≡ st.first + 1 + more
+      → m' ≡ (waiting_view m.0 r more, m.1))
       × (r ≢ st.first → m' ≡ (record m.0 { tickets = r }, m.1))
+
+  -- a step on the number of sleepers tells nothing
+  abbrev pub counted_at : Step (Option S) → Me (Option S) (View U E) → ℕ
+      → Me (Option S) (View U E) → Type 0
+  counted_at st m r m' = m' ≡ m
 
 module _ {S U E : Type 0} (setup : S → U) (stands : S → List E → Type 0) where
   -- the seat has the state, and has seen all that this stands for
@@ -237,18 +272,19 @@ module _ {S U E C R : Type 0} (setup : S → U) (stands : S → List E → Type 
       × stands y (past_after (entries m.0.seen) e)
 
 module _ {S U E C R : Type 0} (step : U → List E → C → R → Option E → Type 0) where
-  -- the turn is over: the state is back in the slot, and the seat has seen the turn's entry
-  abbrev pub TurnEnds : C → R → Me (Option S) (View U E) → Me (Option S) (View U E) → Type 0
-  TurnEnds call reply m m' =
+  -- the turn is over: the state is back in the slot, the seat has seen the turn's entry, and this
+  -- ticket is served next
+  abbrev pub TurnEnds : ℕ → C → R → Me (Option S) (View U E) → Me (Option S) (View U E) → Type 0
+  TurnEnds t call reply m m' =
       (u : U) × (e : Option E) × (m.0.setup ≡ Some u)
-      × step u (entries m.0.seen) call reply e × (m' ≡ (view_after m.0 e, []))
+      × step u (entries m.0.seen) call reply e × (m' ≡ (view_after m.0 t e, []))
 
   -- the same step, for any fact `by` of the entry
   abbrev pub left_by : (U → List E → Option E → Type 0) → Step (Option S)
       → Me (Option S) (View U E) → ℕ → Me (Option S) (View U E) → Type 0
   left_by by st m r m' =
       (u : U) × (e : Option E) × (m.0.setup ≡ Some u) × by u (entries m.0.seen) e
-      × (m' ≡ (view_after m.0 e, rest m.1)) × IsSoundView step m'.0
+      × (m' ≡ (view_after m.0 st.first e, rest m.1)) × IsSoundView step m'.0
 
   -- a seat that was split off finds its number, which the other does not have
   abbrev pub begun : Step (Option S) → Me (Option S) (View U E) → ℕ

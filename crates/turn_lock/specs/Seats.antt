@@ -1,6 +1,6 @@
 -- What a seat knows, and what the calls of a lock say of it.
-use Rattle.std.specs.Prelude.{◌≡◌, ℕ, ◌+◌, ◌≤◌, max, cond, nat_lt, List, [], ◌∷◌, ◌++◌, length}
-use Rattle.std.specs.Prelude.{Option, Some}
+use Rattle.std.specs.Prelude.{◌≡◌, ℕ, ◌+◌, ◌≤◌, max, cond, nat_lt, List, [], ◌∷◌, ◌++◌}
+use Rattle.std.specs.Prelude.{length, Option, Some}
 use Rattle.atomic_table.specs.Seated.{TableId}
 use Rattle.turn_lock.specs.Counts.{times}
 use Rattle.turn_lock.specs.History.{entries, IsPrefix, history_after, own_after, Legal, Owns}
@@ -76,6 +76,12 @@ joined_seat k other = record k {
   own = k.own ++ other.own;
 }
 
+-- what no turn changes
+abbrev pub IsSameSeat : {U E : Type 0} → Known U E → Known U E → Type 0
+IsSameSeat k l =
+    (l.lock ≡ k.lock) × (l.setup ≡ k.setup) × (l.number ≡ k.number) × (l.numbers ≡ k.numbers)
+    × (l.parts ≡ k.parts)
+
 module _ {U E C R : Type 0} (step : U → List E → C → R → Option E → Type 0) where
   -- what was seen is legal, the own places are exactly those of the entries that the numbers made,
   -- and no number is twice among them
@@ -98,3 +104,14 @@ module _ {U E C R : Type 0} (step : U → List E → C → R → Option E → Ty
       × IsPrefix before.seen h × step u (entries h) call reply e
       × (after.seen ≡ history_after before.number h e)
       × (after.own ≡ own_after before.own (length h) e)
+
+  -- One turn for each call, in their order, each with its reply. Between two of them others may
+  -- have theirs.
+  abbrev pub TurnedAll : List C → List R → Known U E → Known U E → Type 0
+  TurnedAll [] [] before after =
+      IsSameSeat before after × (after.seen ≡ before.seen) × (after.own ≡ before.own)
+  TurnedAll [] (reply ∷ replies) before after = ⊥
+  TurnedAll (call ∷ calls) [] before after = ⊥
+  TurnedAll (call ∷ calls) (reply ∷ replies) before after =
+      (next : Known U E) × IsSameSeat before next × Turned call reply before next
+      × TurnedAll calls replies next after

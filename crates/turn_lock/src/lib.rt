@@ -7,6 +7,6 @@ mod logged;
 mod rule;
 mod steps;
 
-pub use lock::{Closed, NoMemory, Seat, TurnLock, Worn};
+pub use lock::{Closed, NoMemory, Patience, Seat, TurnLock, Unplayed, Worn};
 pub use logged::Logged;
 pub use rule::{ALL_PARTS, LAST_TICKET};

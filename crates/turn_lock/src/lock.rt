@@ -1,13 +1,19 @@
 //! The lock, its seats and its calls.
 ghost use Rattle.std.specs.Prelude.{◌≡◌, ℕ, ◌+◌, ◌-◌, ◌<◌, ◌≤◌, [], length, Some};
-ghost use Rattle.std.specs.Prelude.{IfSome, IfOk, IfErr, OnOk, OnErr};
+ghost use Rattle.std.specs.Prelude.{IfSome, IfOk, IfErr, OnOk, OnErr, Err};
+ghost use Rattle.std.specs.List.{All};
 ghost use Rattle.turn_lock.specs.Counts.{times};
 ghost use Rattle.turn_lock.specs.History.{entries, IsPrefix};
-ghost use Rattle.turn_lock.specs.Seats.{first_seat, split_seat, joined_seat, IsSound, Turned};
+ghost use Rattle.turn_lock.specs.Seats.{first_seat, split_seat, joined_seat, IsSameSeat, IsSound};
+ghost use Rattle.turn_lock.specs.Seats.{Turned, TurnedAll};
+ghost use Rattle.turn_lock.specs.declared.lock.Unplayed.{Unplayed};
+ghost use Rattle.turn_lock.specs.declared.lock.Worn.{Worn};
 
 use crate::logged::Logged;
 use crate::rule::{ALL_PARTS, InTurn, LAST_TICKET, View};
-use crate::steps::{Place, cut, find_number, merge, next_ticket, take_turn, wait_turn};
+use crate::steps::{
+    Place, cut, find_number, merge, next_tickets, take_turn, take_turns, wait_turn, wake_next,
+};
 use atomic_table::Table;
 use std::alloc::Global;
 use std::marker::{Brand, Model};
@@ -22,6 +28,14 @@ pub struct NoMemory;
 #[derive(Debug, Drop)]
 pub struct Worn {
     pub tickets: u64,
+}
+
+/// Why no call of several was played: there was no memory for the replies, or fewer tickets are
+/// left than calls.
+#[derive(Debug, Drop)]
+pub enum Unplayed {
+    NoMemory,
+    Worn(Worn),
 }
 
 /// A caller's place at a lock. Contracts see which lock it is of, and what it knows.
@@ -64,9 +78,20 @@ impl<S: Logged> Seat<S> {
     }
 }
 
+/// How often a seat looks for a turn before it sleeps.
+#[derive(Clone, Copy, Debug)]
+pub struct Patience {
+    /// How often it looks again at once.
+    pub spins: u16,
+
+    /// How often it then lets other threads run before it looks.
+    pub yields: u16,
+}
+
 /// A lock with a state. Contracts see which lock it is.
 #[derive(Drop)]
 pub struct TurnLock<S: Logged> {
+    patience: Patience,
     table: Table<Option<S>, View<S::Setup, S::Entry>, Snapshot<S>, InTurn<S>, Global>,
 }
 
@@ -119,7 +144,8 @@ impl<S> Closed<S> {
 }
 
 impl<S: Logged + Drop> TurnLock<S> {
-    /// A free lock, and its first seat, which has all parts.
+    /// A free lock, and its first seat, which has all parts. Its seats look 40 times at once and 40
+    /// times after others ran.
     pub fn create(alloc: Global, state: S) -> Result<(TurnLock<S>, Seat<S>), NoMemory>
         requires { S.stands state [] }
         ensures { IfOk result (λ r. r.1 ≡ first_seat r.0 (S.setup state)) }
@@ -129,9 +155,15 @@ impl<S: Logged + Drop> TurnLock<S> {
         if slots.push(Some(state)).is_err() {
             return Err(NoMemory);
         }
-        match Table::new(alloc, &[0, 0], slots, &about) {
+        match Table::new(alloc, &[0, 0, 0], slots, &about) {
             Ok((table, place)) => Ok((
-                TurnLock { table },
+                TurnLock {
+                    patience: Patience {
+                        spins: 40,
+                        yields: 40,
+                    },
+                    table,
+                },
                 Seat {
                     place,
                     parts: ALL_PARTS,
@@ -144,6 +176,14 @@ impl<S: Logged + Drop> TurnLock<S> {
 }
 
 impl<S: Logged> TurnLock<S> {
+    /// The same lock, whose seats look this often before they sleep.
+    pub fn with_patience(self, patience: Patience) -> TurnLock<S>
+        ensures { result ≡ self }
+    {
+        let TurnLock { patience: _, table } = self;
+        TurnLock { patience, table }
+    }
+
     /// A new seat, with a number of its own, that has seen what the other has and takes over some
     /// of its parts.
     pub fn split(&self, seat: &mut Seat<S>, parts: u64) -> Seat<S>
@@ -182,7 +222,7 @@ impl<S: Logged> TurnLock<S> {
         seat.tickets = seat.tickets.max(tickets);
     }
 
-    /// One turn on the state. It waits until it is served, in the order of the tickets.
+    /// One turn on the state. It waits until no other seat has a turn.
     pub fn play<R: Wait>(&self, rt: &R, seat: &mut Seat<S>, call: S::Call) -> Result<S::Reply, Worn>
         requires seat { seat.old.lock ≡ self.now }
         requires call { IfSome seat.old.setup (λ u. S.fits u call) }
@@ -203,15 +243,69 @@ impl<S: Logged> TurnLock<S> {
             parts: _,
             tickets,
         } = seat;
-        match next_ticket(rt, board, place) {
+        match next_tickets(rt, board, place, &self.patience, 0) {
             Ok(at) => {
                 *tickets = at;
                 wait_turn(rt, board, place, at);
-                Ok(take_turn::<S, Brand>(board, place, at, call))
+                let reply = take_turn::<S, Brand>(board, place, at, call);
+                wake_next(board);
+                Ok(reply)
             }
             Err(worn) => {
                 *tickets = worn.tickets;
                 Err(worn)
+            }
+        }
+    }
+
+    /// One turn for each call, in their order. It waits once, for the first. Memory for the replies
+    /// is taken before, and where it is not to be had, or fewer tickets are left than calls, no
+    /// call is played.
+    pub fn play_all<R: Wait>(
+        &self,
+        rt: &R,
+        alloc: Global,
+        seat: &mut Seat<S>,
+        calls: Vec<S::Call>,
+    ) -> Result<Vec<S::Reply>, Unplayed>
+        requires seat { seat.old.lock ≡ self.now }
+        requires calls { IfSome seat.old.setup (λ u. All (S.fits u) calls.items) }
+        ensures same { IsSameSeat seat.old seat.new }
+        ensures all { IfOk result
+            (λ replies. TurnedAll S.step calls.items replies.items seat.old seat.new) }
+        ensures turns { OnOk result (seat.new.turns ≡ seat.old.turns + length calls.items) }
+        ensures tickets { OnOk result (seat.new.tickets + length calls.items ≤ LAST_TICKET) }
+        ensures err { OnErr result (seat.new ≡ record seat.old { tickets = seat.new.tickets }) }
+        ensures no_memory { result ≡ Err Unplayed.NoMemory → seat.new ≡ seat.old }
+        ensures worn { (w : Worn) → result ≡ Err (Unplayed.Worn w)
+            → (w.tickets ≤ LAST_TICKET) × (LAST_TICKET < w.tickets + length calls.items)
+            × (seat.new ≡ record seat.old { tickets = w.tickets }) }
+        ensures not_less { seat.old.tickets ≤ seat.new.tickets }
+        ensures sound { IsSound S.step seat.new }
+    {
+        let board = &self.table.shared;
+        let Seat {
+            place,
+            parts: _,
+            tickets,
+        } = seat;
+        let Ok(mut replies) = Vec::with_capacity(alloc, calls.len()) else {
+            return Err(Unplayed::NoMemory);
+        };
+        if calls.is_empty() {
+            return Ok(replies);
+        }
+        match next_tickets(rt, board, place, &self.patience, calls.len() as u64 - 1) {
+            Ok(at) => {
+                *tickets = at;
+                take_turns(rt, board, place, at, calls, &mut replies);
+                wake_next(board);
+                Ok(replies)
+            }
+            Err(worn) => {
+                *tickets = worn.tickets;
+                replies.destroy_empty();
+                Err(Unplayed::Worn(worn))
             }
         }
     }
@@ -234,7 +328,7 @@ impl<S: Logged> TurnLock<S> {
         if seat.parts != ALL_PARTS {
             return Err((self, seat));
         }
-        let TurnLock { table } = self;
+        let TurnLock { patience: _, table } = self;
         let Seat {
             place,
             parts: _,

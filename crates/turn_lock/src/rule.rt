@@ -35,7 +35,8 @@ pub enum Stage {
 /// What a seat knows.
 ///
 /// `turns` counts the tickets that it drew, or that seats joined into it drew. `others` are numbers
-/// that are not its own, and `shorter` is a prefix of `seen`.
+/// that are not its own, and `shorter` is a prefix of `seen`. `more` counts the tickets that it has
+/// behind the one of its stage.
 pub struct View<U, E> {
     pub setup: Option<U>,
     pub number: u64,
@@ -48,6 +49,7 @@ pub struct View<U, E> {
     pub shorter: LinkedList<(u64, E)>,
     pub own: LinkedList<u64>,
     pub stage: Stage,
+    pub more: u64,
 }
 
 pub struct InTurn<S> {
@@ -76,6 +78,15 @@ impl<S, U, E> Play<Option<S>, View<U, E>> for Draw {
     ghost use Rattle.turn_lock.specs.Rule.{drew};
 
     ghost then = { drew };
+}
+
+/// A step on the number of sleepers.
+pub struct Count;
+
+impl<S, U, E> Play<Option<S>, View<U, E>> for Count {
+    ghost use Rattle.turn_lock.specs.Rule.{counted_at};
+
+    ghost then = { counted_at };
 }
 
 pub struct Enter;

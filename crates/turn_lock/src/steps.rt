@@ -1,20 +1,24 @@
 //! The steps of the lock on its table.
 //!
-//! The two words are the next ticket and the ticket served. The slot has the state.
+//! The three words are the next ticket, the ticket served, and the number of seats that sleep. The
+//! slot has the state.
 ghost use Rattle.std.specs.Prelude.{◌≡◌, ◌≢◌, ℕ, ◌+◌, ◌<◌, ◌≤◌, true, false, [], ◌∷◌, Some};
-ghost use Rattle.std.specs.Prelude.{IfSome, IfOk, IfErr, OnErr};
+ghost use Rattle.std.specs.Prelude.{IfSome, IfOk, IfErr, length};
+ghost use Rattle.std.specs.List.{All};
+ghost use Rattle.std.specs.Vec.{vec_len, vec_capacity};
 ghost use Rattle.turn_lock.specs.declared.rule.Stage.{Stage};
 ghost use Rattle.turn_lock.specs.Counts.{times};
 ghost use Rattle.turn_lock.specs.History.{IsPrefix};
-ghost use Rattle.turn_lock.specs.Seats.{IsSoundView};
+ghost use Rattle.turn_lock.specs.Seats.{IsSoundView, known, TurnedAll};
 ghost use Rattle.turn_lock.specs.Rule.{IsSeatOf, HasState, Enters, HasPlayed, TurnEnds};
+ghost use Rattle.turn_lock.specs.Rule.{IsReady, IsSameView};
 ghost use Rattle.turn_lock.specs.Rule.{kept_of, given_of, both_of, waiting_view};
 
-use crate::lock::Worn;
+use crate::lock::{Patience, Worn};
 use crate::logged::Logged;
 use crate::rule::{
-    ALL_PARTS, Amount, Begin, Both, Cut, Draw, Enter, InTurn, LAST_TICKET, Learn, Leave, Look,
-    Said, View,
+    ALL_PARTS, Amount, Begin, Both, Count, Cut, Draw, Enter, InTurn, LAST_TICKET, Learn, Leave,
+    Look, Said, View,
 };
 use atomic_table::Shared;
 use std::hint::spin_loop;
@@ -38,11 +42,7 @@ const NEXT: usize = 0;
 
 const SERVED: usize = 1;
 
-/// How often a seat that waits looks again at once, before it lets other threads run.
-const SPINS: u32 = 40;
-
-/// How often it then lets other threads run, before it sleeps.
-const YIELDS: u32 = 40;
+const SLEEPERS: usize = 2;
 
 /// Looks at the ticket word.
 fn look_at_tickets<S: Logged>(board: &Board<S>, place: &mut Place<S>) -> u64
@@ -55,45 +55,58 @@ fn look_at_tickets<S: Logged>(board: &Board<S>, place: &mut Place<S>) -> u64
     board.load::<Look>(place, NEXT)
 }
 
-/// Draws the ticket `at`, if it is the next one.
-fn draw_ticket<S: Logged>(board: &Board<S>, place: &mut Place<S>, at: u64) -> bool
+/// Draws the ticket `at`, if it is the next one, and so many more behind it.
+fn draw_tickets<S: Logged>(board: &Board<S>, place: &mut Place<S>, at: u64, more: u64) -> bool
     requires table { IsSeatOf place.old.table_id board.now.table_id }
     requires idle { place.old.me.0.stage ≡ Stage.Idle }
-    requires small { at < LAST_TICKET }
+    requires small { at + more < LAST_TICKET }
     ensures same { (place.new.table_id ≡ place.old.table_id) × (place.new.id ≡ place.old.id) }
     ensures drawn { result ≡ true
-        → place.new.me ≡ (waiting_view place.old.me.0 at, place.old.me.1) }
+        → place.new.me ≡ (waiting_view place.old.me.0 at more, place.old.me.1) }
     ensures lost { result ≡ false
         → (n : ℕ) × (place.new.me ≡ (record place.old.me.0 { tickets = n }, place.old.me.1))
         × (place.old.me.0.tickets ≤ n) }
 {
-    board.compare_exchange::<Draw>(place, NEXT, at, at + 1) == at
+    board.compare_exchange::<Draw>(place, NEXT, at, at + 1 + more) == at
 }
 
-/// Draws a ticket, or finds that none is left.
-pub fn next_ticket<S: Logged, R: Wait>(
+/// Draws a ticket that is served at once, and so many more behind it, or finds that too few are
+/// left.
+///
+/// The ticket served is looked at before the next ticket. Then the two differ only where a turn is
+/// under way, whose end changes the word on which this seat may sleep, and wakes.
+pub fn next_tickets<S: Logged, R: Wait>(
     rt: &R,
     board: &Board<S>,
     place: &mut Place<S>,
+    patience: &Patience,
+    more: u64,
 ) -> Result<u64, Worn>
     requires table { IsSeatOf place.old.table_id board.now.table_id }
     requires idle { place.old.me.0.stage ≡ Stage.Idle }
     ensures same { (place.new.table_id ≡ place.old.table_id) × (place.new.id ≡ place.old.id) }
-    ensures drawn { IfOk result (λ t. (place.old.me.0.tickets ≤ t) × (t < LAST_TICKET)) }
-    ensures ok { IfOk result (λ t. place.new.me ≡ (waiting_view place.old.me.0 t, place.old.me.1)) }
-    ensures worn { IfErr result (λ w. w.tickets ≡ LAST_TICKET) }
-    ensures err { OnErr result
-        (place.new.me ≡ (record place.old.me.0 { tickets = LAST_TICKET }, place.old.me.1)) }
+    ensures drawn { IfOk result (λ t. (place.old.me.0.tickets ≤ t) × (t + more < LAST_TICKET)) }
+    ensures ok { IfOk result
+        (λ t. place.new.me ≡ (waiting_view place.old.me.0 t more, place.old.me.1)) }
+    ensures worn { IfErr result (λ w. (w.tickets ≤ LAST_TICKET)
+        × (LAST_TICKET ≤ w.tickets + more) × (place.old.me.0.tickets ≤ w.tickets)) }
+    ensures err { IfErr result
+        (λ w. place.new.me ≡ (record place.old.me.0 { tickets = w.tickets }, place.old.me.1)) }
 {
+    let mut looks: u32 = 0;
     for _ in rt.forever() {
+        let served = board.peek(SERVED);
         let at = look_at_tickets(board, place);
-        if at == LAST_TICKET {
+        if LAST_TICKET - at <= more {
+            wake_next(board);
             return Err(Worn { tickets: at });
         }
-        if draw_ticket(board, place, at) {
-            return Ok(at);
+        if served == at {
+            if draw_tickets(board, place, at, more) {
+                return Ok(at);
+            }
         }
-        thread::yield_now();
+        looks = rest_a_while(rt, board, place, patience, served, looks);
     }
     unreachable!()
 }
@@ -109,36 +122,73 @@ fn enter_at<S: Logged>(board: &Board<S>, place: &mut Place<S>, at: u64) -> u64
     board.load::<Enter>(place, SERVED)
 }
 
-/// Waits until the ticket is served, and takes the state out.
+/// Waits until the ticket is served, and takes the state out. It is served at once, since it was
+/// drawn where it would be, or the seat itself served the ticket before it.
 pub fn wait_turn<S: Logged, R: Wait>(rt: &R, board: &Board<S>, place: &mut Place<S>, at: u64)
     requires table { IsSeatOf place.old.table_id board.now.table_id }
     requires waits { place.old.me.0.stage ≡ Stage.Waits at }
     ensures same { (place.new.table_id ≡ place.old.table_id) × (place.new.id ≡ place.old.id) }
     ensures out { Enters S.setup S.stands place.old.me at place.new.me }
 {
-    let mut looks: u32 = 0;
     for _ in rt.forever() {
         let served = enter_at(board, place, at);
         if served == at {
             return;
         }
-        rest_a_while(rt, board, served, looks);
-        looks = looks.saturating_add(1);
+        spin_loop();
     }
     unreachable!()
 }
 
-/// Spins at first, then yields, and then sleeps until the word of the ticket served has changed.
-fn rest_a_while<S: Logged, R: Wait>(rt: &R, board: &Board<S>, served: u64, looks: u32)
-    requires { board.now.table_id.words ≡ 2 }
+/// Adds to the number of sleepers.
+fn count_in<S: Logged>(board: &Board<S>, place: &mut Place<S>)
+    requires table { IsSeatOf place.old.table_id board.now.table_id }
+    ensures same { (place.new.table_id ≡ place.old.table_id) × (place.new.id ≡ place.old.id)
+        × (place.new.me ≡ place.old.me) }
 {
-    if looks < SPINS {
+    board.fetch_add::<Count>(place, SLEEPERS, 1);
+}
+
+/// Takes from the number of sleepers.
+fn count_out<S: Logged>(board: &Board<S>, place: &mut Place<S>)
+    requires table { IsSeatOf place.old.table_id board.now.table_id }
+    ensures same { (place.new.table_id ≡ place.old.table_id) × (place.new.id ≡ place.old.id)
+        × (place.new.me ≡ place.old.me) }
+{
+    board.fetch_sub::<Count>(place, SLEEPERS, 1);
+}
+
+/// Spins at first, then yields, and then sleeps until the word of the ticket served has changed.
+/// The answer is how often the seat has then looked, which starts anew after a sleep.
+fn rest_a_while<S: Logged, R: Wait>(
+    rt: &R,
+    board: &Board<S>,
+    place: &mut Place<S>,
+    patience: &Patience,
+    served: u64,
+    looks: u32,
+) -> u32
+    requires table { IsSeatOf place.old.table_id board.now.table_id }
+    ensures same { (place.new.table_id ≡ place.old.table_id) × (place.new.id ≡ place.old.id)
+        × (place.new.me ≡ place.old.me) }
+{
+    let spins = u32::from(patience.spins);
+    if looks < spins {
         spin_loop();
-    } else if looks < SPINS + YIELDS {
+        return looks + 1;
+    }
+    if looks < spins + u32::from(patience.yields) {
         thread::yield_now();
-    } else {
+        return looks + 1;
+    }
+    // The end of a turn changes the word and then looks at the count, so one of the two sees the
+    // other.
+    count_in(board, place);
+    if board.peek(SERVED) == served {
         board.park(rt, SERVED, (served % (1 << 32)) as u32);
     }
+    count_out(board, place);
+    0
 }
 
 /// Serves the next: the state goes back into the slot, and the turn's entry into the history.
@@ -156,19 +206,19 @@ fn serve_next<S: Logged, W: Said<S::Call>, X: Said<S::Reply>>(
     requires reply { X.item ≡ Some reply.now }
     ensures same { (place.new.table_id ≡ place.old.table_id) × (place.new.id ≡ place.old.id) }
     ensures turn { (c : S.Call) → W.item ≡ Some c
-        → TurnEnds S.step c reply.now place.old.me place.new.me }
+        → TurnEnds S.step (at + 1) c reply.now place.old.me place.new.me }
     ensures sound { IsSoundView S.step place.new.me.0 }
 {
     board.store::<Leave<W, X>>(place, SERVED, at + 1);
 }
 
-/// Wakes those who sleep, where a ticket after `at` was drawn.
-fn wake_next<S: Logged>(board: &Board<S>, at: u64)
-    requires table { board.now.table_id.words ≡ 2 }
-    requires small { at < LAST_TICKET }
+/// Wakes one of those who sleep. All of them wait for the same, so any will do: whoever is woken
+/// ends a turn or wakes the next.
+pub fn wake_next<S: Logged>(board: &Board<S>)
+    requires table { board.now.table_id.words ≡ 3 }
 {
-    if board.peek(NEXT) > at + 1 {
-        board.wake_all(SERVED);
+    if board.peek(SLEEPERS) != 0 {
+        board.wake_one(SERVED);
     }
 }
 
@@ -186,7 +236,7 @@ pub fn take_turn<S: Logged, W: Said<S::Call>>(
     requires fits { IfSome place.old.me.0.setup (λ u. S.fits u call) }
     requires call { W.item ≡ Some call }
     ensures same { (place.new.table_id ≡ place.old.table_id) × (place.new.id ≡ place.old.id) }
-    ensures turn { TurnEnds S.step call result place.old.me place.new.me }
+    ensures turn { TurnEnds S.step (at + 1) call result place.old.me place.new.me }
     ensures sound { IsSoundView S.step place.new.me.0 }
 {
     match board.exchange(place, 0, None) {
@@ -197,10 +247,42 @@ pub fn take_turn<S: Logged, W: Said<S::Call>>(
                 Some(_) => unreachable!(),
             }
             serve_next::<S, W, Brand>(board, place, at, &reply);
-            wake_next(board, at);
             reply
         }
         None => unreachable!(),
+    }
+}
+
+/// One turn for each call, in their order, with the tickets that the seat has for them.
+pub fn take_turns<S: Logged, R: Wait>(
+    rt: &R,
+    board: &Board<S>,
+    place: &mut Place<S>,
+    first: u64,
+    calls: Vec<S::Call>,
+    replies: &mut Vec<S::Reply>,
+)
+    requires table { IsSeatOf place.old.table_id board.now.table_id }
+    requires ready { IsReady place.old.me.0 first (vec_len calls) }
+    requires small { first + vec_len calls ≤ LAST_TICKET }
+    requires none_out { place.old.me.1 ≡ [] }
+    requires sound { IsSoundView S.step place.old.me.0 }
+    requires fits { IfSome place.old.me.0.setup (λ u. All (S.fits u) calls.items) }
+    requires room { (replies.old.items ≡ []) × (vec_len calls ≤ vec_capacity replies.old) }
+    ensures same { (place.new.table_id ≡ place.old.table_id) × (place.new.id ≡ place.old.id) }
+    ensures kept { IsSameView place.old.me.0 place.new.me.0 }
+    ensures turns { TurnedAll S.step calls.items replies.new.items
+        (known place.old.table_id place.old.me.0) (known place.new.table_id place.new.me.0) }
+    ensures idle { (place.new.me.0.stage ≡ Stage.Idle) × (place.new.me.1 ≡ []) }
+    ensures sound { IsSoundView S.step place.new.me.0 }
+{
+    let mut at = first;
+    let mut rest = calls.into_iter();
+    'turns: while let Some(call) = rest.next() {
+        wait_turn(rt, board, place, at);
+        let reply = take_turn::<S, Brand>(board, place, at, call);
+        replies.push_reserved(reply);
+        at += 1;
     }
 }
 

@@ -9,6 +9,6 @@ new-requires g c =
     let about = g.S.Logged.setup c.of-about.result.value in
     let one : c.push.new.self.items ≡ Some c.args.state ∷ [] = search rules in
     subst (λ z. LockRule g.S.Logged.setup g.S.Logged.stands g.S.Logged.step about
-    (opening (0 ∷ 0 ∷ []) z (newcomer about))) (sym one)
+    (opening (0 ∷ 0 ∷ 0 ∷ []) z (newcomer about))) (sym one)
     (opens g.S.Logged.setup g.S.Logged.stands g.S.Logged.step about c.args.state
     (ap g.S.Logged.setup (sym c.of-about.ensures)) c.requires)

@@ -1,5 +1,5 @@
 use Rattle.std.proofs.Common.{◌≡◌, ℕ, ◌≤◌}
-use Rattle.turn_lock.proofs.steps.next_ticket.Given as goal
+use Rattle.turn_lock.proofs.steps.next_tickets.Given as goal
 
 abbrev pub invariant-loop : goal.invariant-loop
 invariant-loop g l =
