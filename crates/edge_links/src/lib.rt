@@ -9,10 +9,16 @@
 mod adapters;
 mod clock;
 mod counts;
+#[cfg(test)]
+mod link_tests;
 mod links;
+mod listed_net;
 mod memory;
+mod memory_acceptor;
+mod memory_link;
 mod memory_net;
 mod streams;
+mod tcp;
 #[cfg(test)]
 mod tests;
 
@@ -20,9 +26,13 @@ pub use adapters::{ReaderSource, WriterSink};
 pub use clock::{Clock, FixedClock, SystemClock};
 pub use counts::Counts;
 pub use links::{Accepted, Acceptor, Link, LinkRead, Net, NetFailed};
+pub use listed_net::{Dialled, ListedNet, Listening};
 pub use memory::{MemorySink, MemorySource};
+pub use memory_acceptor::{AcceptStep, MemoryAcceptor};
+pub use memory_link::{LinkStep, MemoryLink};
 pub use memory_net::{ClosedAcceptor, EndedLink, MemoryNet};
 pub use streams::{Sink, Source, SourceRead, Wrote};
+pub use tcp::{TcpAcceptor, TcpLink, TcpNet};
 
 /// Memory ran out.
 #[derive(Clone, Copy, Debug, PartialEq, Eq)]
