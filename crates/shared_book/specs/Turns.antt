@@ -1,0 +1,121 @@
+-- The server's turns, as a seat of the lock takes them.
+use Rattle.std.specs.Prelude.{◌≡◌, ◌+◌, ◌<◌, ◌≤◌, ◌⊎◌, ℕ, List, [], ◌∷◌, length, max, take}
+use Rattle.std.specs.Prelude.{Option, Some, None, true, false, ⊤}
+use Rattle.turn_lock.specs.History.{entries, IsPrefix, past_after}
+use Rattle.turn_lock.specs.Seats.{Known}
+use Rattle.turn_lock.specs.declared.rule.TheConstants.{LAST_TICKET}
+use Rattle.resp_value.specs.declared.octets.Octets.{Octets}
+use Rattle.serial_model.specs.declared.history.Limits.{Limits}
+use Rattle.serial_model.specs.declared.history.Entry.{Entry}
+use Rattle.serial_model.specs.declared.history.Entry.TheVariants as entry
+use Rattle.serial_model.specs.declared.history.BookCall.{BookCall}
+use Rattle.serial_model.specs.declared.history.BookReply.{BookReply}
+use Rattle.serial_model.specs.History.{admitted, has_ended, is_admitted, is_full, latest, unsent}
+use Rattle.serial_model.specs.Steps.{BookStep}
+use Rattle.shared_book.specs.Own.{past_of, Grows}
+use Rattle.shared_book.specs.declared.turns.Refusal.{Refusal}
+use Rattle.shared_book.specs.declared.turns.Refusal.TheVariants as refusal
+
+-- the limits and the history of a book that threads take turns on
+pub record Shared : Type 0 where
+  pub limits : Limits
+  pub past : List Entry
+
+-- the step on this past may give this reply and add this entry, or none
+abbrev pub TurnStep : Limits → List Entry → BookCall → BookReply → Option Entry → Type 0
+TurnStep l past call reply entry = BookStep l past call reply (past_after past entry)
+
+-- an entry with the entries before it
+abbrev pub Turn : Type 0
+Turn = Entry × List Entry
+
+-- what a server's seat knows
+abbrev pub Place : Type 0
+Place = Known Limits Entry
+
+abbrev pub limits_in : Option Limits → Limits
+limits_in None = record { table_max = 0; out_max = 0; history_max = 0 }
+limits_in (Some l) = l
+
+-- the limits of the seat's server
+abbrev pub limits_of : Place → Limits
+limits_of k = limits_in k.setup
+
+-- the turns that add this entry, or none, on a past
+abbrev pub turns_added : List Entry → Option Entry → List Turn
+turns_added past None = []
+turns_added past (Some e) = (e, past) ∷ []
+
+-- one turn of the seat with this call and reply, on the entries that it found
+pub record Plays (call : BookCall) (reply : BookReply) (before after : Place) : Type 0 where
+  pub past : List Entry
+  pub added : Option Entry
+  pub begins : IsPrefix (past_of before) past
+  pub step : TurnStep (limits_of before) past call reply added
+  pub ends : past_of after ≡ past_after past added
+  pub grows : Grows before after (turns_added past added)
+
+-- why a connection's turn was not taken, as the seat shows it
+abbrev pub IsCause : Refusal → ℕ → Place → Type 0
+IsCause refusal.Dropped id k = has_ended (limits_of k) id (past_of k) ≡ true
+IsCause refusal.HistoryFull id k = is_full (limits_of k) (past_of k) ≡ true
+IsCause refusal.NoMemory id k = ⊤
+IsCause refusal.Worn id k = LAST_TICKET ≤ k.tickets
+
+-- a turn was not taken
+pub record Refuses (cause : Refusal) (id : ℕ) (before after : Place) : Type 0 where
+  pub grows : Grows before after []
+  pub cause_is : IsCause cause id after
+
+-- an Admit is not refused for its connection
+abbrev pub IsAdmissionCause : Refusal → Type 0
+IsAdmissionCause refusal.Dropped = ⊥
+IsAdmissionCause refusal.HistoryFull = ⊤
+IsAdmissionCause refusal.NoMemory = ⊤
+IsAdmissionCause refusal.Worn = ⊤
+
+pub record Admits (id : ℕ) (before after : Place) : Type 0 where
+  pub past : List Entry
+  pub next : id ≡ admitted past + 1
+  pub grows : Grows before after ((entry.Admit id, past) ∷ [])
+  pub ends : past_of after ≡ entry.Admit id ∷ past
+
+pub record Runs (id : ℕ) (words : List (List ℕ)) (now : ℕ) (before after : Place) : Type 0 where
+  pub past : List Entry
+  pub begins : IsPrefix (past_of before) past
+  pub grows : Grows before after ((entry.Run id words (max now (latest past)), past) ∷ [])
+  pub ends : past_of after ≡ entry.Run id words (max now (latest past)) ∷ past
+
+-- a Take that gave these bytes
+pub record Gives (id most : ℕ) (bytes : List ℕ) (before after : Place) : Type 0 where
+  pub past : List Entry
+  pub begins : IsPrefix (past_of before) past
+  pub given : bytes ≡ take most (unsent (limits_of before) id past)
+  pub live : has_ended (limits_of before) id past ≡ false
+  pub grows : Grows before after ((entry.Take id most, past) ∷ [])
+  pub ends : past_of after ≡ entry.Take id most ∷ past
+
+-- a Take that found nothing
+pub record Rests (id : ℕ) (before after : Place) : Type 0 where
+  pub none : unsent (limits_of before) id (past_of after) ≡ []
+  pub live : has_ended (limits_of before) id (past_of after) ≡ false
+  pub grows : Grows before after []
+
+abbrev pub closed_turns : ℕ → Option (List Entry) → List Turn
+closed_turns id None = []
+closed_turns id (Some past) = (entry.Close id, past) ∷ []
+
+-- a Close, which may find that the connection has ended, or that no ticket is left
+pub record Closes (id : ℕ) (before after : Place) : Type 0 where
+  pub close : Option (List Entry)
+  pub grows : Grows before after (closed_turns id close)
+  pub over : (has_ended (limits_of before) id (past_of after) ≡ true) ⊎ (LAST_TICKET ≤
+      after.tickets)
+
+-- the most bytes of one Take
+abbrev pub most : ℕ
+most = 65536
+
+abbrev pub Takes : ℕ → Option Octets → Place → Place → Type 0
+Takes id (Some bytes) before after = Gives id most bytes before after × (0 < length bytes)
+Takes id None before after = Rests id before after

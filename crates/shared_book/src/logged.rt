@@ -1,0 +1,83 @@
+//! The server's state, as it is kept under the turn lock.
+ghost use Rattle.std.specs.Prelude.{◌≡◌, [], IfOk};
+ghost use Rattle.serial_model.specs.Steps.{AreValid, IsCallable};
+ghost use Rattle.shared_book.specs.Own.{IsWithin};
+ghost use Rattle.shared_book.specs.Turns.{TurnStep};
+ghost use Rattle.turn_lock.specs.Seats.{first_seat};
+
+use resp_value::NoMemory;
+use server_book::{Book, BookCall, BookReply, Entry, Limits};
+use std::alloc::Global;
+use std::marker::Model;
+use turn_lock::{Logged, Seat, TurnLock};
+
+/// A book that threads take turns on. Contracts see its limits and its history.
+#[derive(Drop)]
+pub struct SharedBook {
+    book: Book,
+}
+
+impl Model for SharedBook {
+    ghost use Rattle.shared_book.specs.Turns.{Shared};
+
+    ghost Value = { Shared };
+
+    ghost view = { λ s. record { limits = s.book.limits; past = s.book.past } };
+}
+
+impl SharedBook {
+    /// The server before its first turn.
+    pub fn new(alloc: Global, limits: Limits) -> Result<SharedBook, NoMemory>
+        requires { AreValid limits }
+        ensures { IfOk result (λ s. s ≡ record { limits = limits; past = [] }) }
+    {
+        Ok(SharedBook {
+            book: Book::new(alloc, limits)?,
+        })
+    }
+
+    pub fn book(&self) -> &Book
+        ensures limits { result.now.limits ≡ self.now.limits }
+        ensures past { result.now.past ≡ self.now.past }
+    {
+        &self.book
+    }
+}
+
+impl Logged for SharedBook {
+    type Setup = Limits;
+
+    type Entry = Entry;
+
+    type Call = BookCall;
+
+    type Reply = BookReply;
+
+    ghost setup = { λ s. s.limits };
+
+    ghost stands = { λ s past. s.past ≡ past };
+
+    ghost fits = { λ _ call. IsCallable call };
+
+    ghost step = { TurnStep };
+
+    #[tactic(auto, using(crate::proofs::Did::turned))]
+    fn turn(&mut self, call: BookCall) -> BookReply {
+        self.book.turn(call)
+    }
+}
+
+/// A lock with a server before its first turn, and its first seat.
+pub fn open(
+    alloc: Global,
+    limits: Limits,
+) -> Result<(TurnLock<SharedBook>, Seat<SharedBook>), NoMemory>
+    requires { AreValid limits }
+    ensures seat { IfOk result (λ r. r.1 ≡ first_seat r.0 limits) }
+    ensures within { IfOk result (λ r. IsWithin r.1) }
+{
+    match TurnLock::create(alloc, SharedBook::new(alloc, limits)?) {
+        Ok(opened) => Ok(opened),
+        Err(_) => Err(NoMemory),
+    }
+}

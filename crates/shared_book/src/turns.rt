@@ -1,0 +1,146 @@
+//! One connection's turns under the lock.
+ghost use Rattle.std.specs.Prelude.{◌≡◌, ◌≤◌, [], true, length, IfOk, IfErr};
+ghost use Rattle.std.specs.Prelude.{OnErr};
+ghost use Rattle.turn_lock.specs.declared.rule.TheConstants.{LAST_TICKET};
+ghost use Rattle.serial_model.specs.History.{is_admitted};
+ghost use Rattle.serial_model.specs.Steps.{IsCallable};
+ghost use Rattle.shared_book.specs.Own.{IsWithin, past_of, Grows};
+ghost use Rattle.shared_book.specs.Turns.{Admits, Closes, IsAdmissionCause, Plays, Refuses};
+ghost use Rattle.shared_book.specs.Turns.{Runs, Takes};
+
+use super::logged::SharedBook;
+use resp_value::{Octets, Words};
+use server_book::{BookCall, BookRefusal, BookReply};
+use std::sync::Wait;
+use turn_lock::{Seat, TurnLock, Worn};
+
+/// Why a connection's turn was not taken.
+#[derive(Clone, Copy, Debug, Drop, PartialEq, Eq)]
+pub enum Refusal {
+    /// The connection has ended.
+    Dropped,
+    /// The history is full.
+    HistoryFull,
+    NoMemory,
+    /// No ticket of the lock is left.
+    Worn,
+}
+
+/// The most bytes of one Take.
+pub const MOST: u64 = 65_536;
+
+// A turn, and what it adds to the seat's own entries.
+#[tactic(auto, using(crate::proofs::Turning::playing))]
+fn play<R: Wait>(
+    rt: &R,
+    lock: &TurnLock<SharedBook>,
+    seat: &mut Seat<SharedBook>,
+    call: BookCall,
+) -> Result<BookReply, Worn>
+    requires lock { seat.old.lock ≡ lock.now }
+    requires within { IsWithin seat.old }
+    requires call { IsCallable call }
+    ensures ok { IfOk result (λ reply. Plays call reply seat.old seat.new) }
+    ensures err { OnErr result (Grows seat.old seat.new [] × (LAST_TICKET ≤ seat.new.tickets)) }
+{
+    match lock.play(rt, seat, call) {
+        Ok(reply) => Ok(reply),
+        Err(worn) => Err(worn),
+    }
+}
+
+/// Admits a connection; its id is at least 1.
+#[tactic(auto, using(crate::proofs::Outcomes::admitting))]
+pub fn admit<R: Wait>(
+    rt: &R,
+    lock: &TurnLock<SharedBook>,
+    seat: &mut Seat<SharedBook>,
+) -> Result<u64, Refusal>
+    requires lock { seat.old.lock ≡ lock.now }
+    requires within { IsWithin seat.old }
+    ensures ok { IfOk result (λ id. Admits id seat.old seat.new) }
+    ensures err { IfErr result (λ e. Refuses e 0 seat.old seat.new × IsAdmissionCause e) }
+{
+    match play(rt, lock, seat, BookCall::Admit) {
+        Ok(BookReply::Admitted { id, .. }) => Ok(id),
+        Ok(BookReply::Refused(BookRefusal::HistoryFull { .. })) => Err(Refusal::HistoryFull),
+        Ok(BookReply::Refused(BookRefusal::NoMemory)) => Err(Refusal::NoMemory),
+        Ok(BookReply::Ran { .. }) => unreachable!(),
+        Ok(BookReply::Quiet) => unreachable!(),
+        Ok(BookReply::Bytes { .. }) => unreachable!(),
+        Ok(BookReply::Closed { .. }) => unreachable!(),
+        Ok(BookReply::Refused(BookRefusal::Gone { .. })) => unreachable!(),
+        Err(_) => Err(Refusal::Worn),
+    }
+}
+
+/// Runs a request at this moment; the answer is the number of its entry.
+#[tactic(auto, using(crate::proofs::Outcomes::running))]
+pub fn run<R: Wait>(
+    rt: &R,
+    lock: &TurnLock<SharedBook>,
+    seat: &mut Seat<SharedBook>,
+    id: u64,
+    words: Words,
+    now: u64,
+) -> Result<u64, Refusal>
+    requires lock { seat.old.lock ≡ lock.now }
+    requires within { IsWithin seat.old }
+    requires admitted { is_admitted (past_of seat.old) id ≡ true }
+    ensures ok { IfOk result (λ entry. Runs id words now seat.old seat.new
+        × (entry ≡ length seat.new.seen)) }
+    ensures err { IfErr result (λ e. Refuses e id seat.old seat.new) }
+{
+    match play(rt, lock, seat, BookCall::Run { id, words, now }) {
+        Ok(BookReply::Ran { entry }) => Ok(entry),
+        Ok(BookReply::Refused(BookRefusal::Gone { .. })) => Err(Refusal::Dropped),
+        Ok(BookReply::Refused(BookRefusal::HistoryFull { .. })) => Err(Refusal::HistoryFull),
+        Ok(BookReply::Refused(BookRefusal::NoMemory)) => Err(Refusal::NoMemory),
+        Ok(BookReply::Admitted { .. }) => unreachable!(),
+        Ok(BookReply::Quiet) => unreachable!(),
+        Ok(BookReply::Bytes { .. }) => unreachable!(),
+        Ok(BookReply::Closed { .. }) => unreachable!(),
+        Err(_) => Err(Refusal::Worn),
+    }
+}
+
+/// Takes the connection's next bytes, `MOST` or fewer; none where nothing waits.
+#[tactic(auto, using(crate::proofs::Outcomes::taking))]
+pub fn take<R: Wait>(
+    rt: &R,
+    lock: &TurnLock<SharedBook>,
+    seat: &mut Seat<SharedBook>,
+    id: u64,
+) -> Result<Option<Octets>, Refusal>
+    requires lock { seat.old.lock ≡ lock.now }
+    requires within { IsWithin seat.old }
+    requires admitted { is_admitted (past_of seat.old) id ≡ true }
+    ensures ok { IfOk result (λ bytes. Takes id bytes seat.old seat.new) }
+    ensures err { IfErr result (λ e. Refuses e id seat.old seat.new) }
+{
+    match play(rt, lock, seat, BookCall::Take { id, max: MOST }) {
+        Ok(BookReply::Bytes { bytes, .. }) => Ok(Some(bytes)),
+        Ok(BookReply::Quiet) => Ok(None),
+        Ok(BookReply::Refused(BookRefusal::Gone { .. })) => Err(Refusal::Dropped),
+        Ok(BookReply::Refused(BookRefusal::HistoryFull { .. })) => Err(Refusal::HistoryFull),
+        Ok(BookReply::Refused(BookRefusal::NoMemory)) => Err(Refusal::NoMemory),
+        Ok(BookReply::Admitted { .. }) => unreachable!(),
+        Ok(BookReply::Ran { .. }) => unreachable!(),
+        Ok(BookReply::Closed { .. }) => unreachable!(),
+        Err(_) => Err(Refusal::Worn),
+    }
+}
+
+/// Closes the connection, where it has not ended and a ticket is left.
+#[tactic(auto, using(crate::proofs::Outcomes::closing))]
+pub fn close<R: Wait>(rt: &R, lock: &TurnLock<SharedBook>, seat: &mut Seat<SharedBook>, id: u64)
+    requires lock { seat.old.lock ≡ lock.now }
+    requires within { IsWithin seat.old }
+    requires admitted { is_admitted (past_of seat.old) id ≡ true }
+    ensures { Closes id seat.old seat.new }
+{
+    match play(rt, lock, seat, BookCall::Close { id }) {
+        Ok(_) => {}
+        Err(_) => {}
+    }
+}
