@@ -1,0 +1,220 @@
+-- What waits for a connection is taken and written, Take after Take.
+use Rattle.std.proofs.Common.{◌≡◌, ◌≤◌, ◌<◌, ◌+◌, ◌-◌, ℕ, List, [], ◌∷◌, ◌++◌, length, take, drop}
+use Rattle.std.proofs.Common.{min}
+use Rattle.std.proofs.Common.{true, false, cond, refl, sym, ap, subst, ◌∙◌, arith, append-nil, inl}
+use Rattle.std.proofs.Common.{inr}
+use Rattle.std.proofs.Common.{zero, suc, eq-eqb}
+use Rattle.std.specs.Prelude.{Option, ◌⊎◌, ◌==◌}
+use Rattle.std.specs.List.{All}
+use Rattle.std.specs.Io.KnownBytes.{Appends}
+use Rattle.std.proofs.lemmas.List.Elements.{All-nil, All-cons}
+use Rattle.std.proofs.lemmas.List.{length-drop}
+use Rattle.resp_value.specs.Lists.{IsPrefix}
+use Rattle.serial_model.specs.declared.history.Limits.{Limits}
+use Rattle.serial_model.specs.declared.history.Entry.{Entry}
+use Rattle.serial_model.specs.declared.history.Entry.TheVariants.{Take}
+use Rattle.serial_model.specs.History.{has_ended, is_admitted, stream, taken, unsent}
+use Rattle.serial_model.proofs.Streams.{stream_take}
+use Rattle.shared_book.specs.Own.{past_of, IsWithin, Grows}
+use Rattle.resp_value.specs.declared.octets.Octets.{Octets}
+use Rattle.shared_book.specs.Turns.{Place, Turn, Gives, Rests, Refuses, Takes, limits_in, limits_of}
+use Rattle.shared_book.specs.declared.turns.Refusal.{Refusal}
+use Rattle.shared_book.specs.declared.turns.Refusal.TheVariants as refusal
+use Rattle.shared_book.proofs.Growing.{grows_none, grows_then, grows_past}
+use Rattle.shared_book.proofs.Histories.{begins_lift, admitted_more, stream_begins, taken_begins}
+use Rattle.conn_worker.specs.declared.report.Ended.{Ended}
+use Rattle.conn_worker.specs.declared.report.Ended.TheVariants as ended
+use Rattle.conn_worker.specs.Visits.{IsWork, IsEnd, ended_by, runs_in, gave, Delivers, DeliversPart}
+use Rattle.conn_worker.proofs.Bytes.{appends_none, appends_more, appends_as}
+use Rattle.conn_worker.proofs.Turning.{gave_append}
+
+-- what was taken and written so far
+pub record Delivering (id : ℕ) (link0 link1 : Option (List ℕ)) (old new : Place) : Type 0 where
+  pub turns : List Turn
+  pub grows : Grows old new turns
+  pub work : (clock : Option ℕ) → All (IsWork id clock) turns
+  pub runs_none : runs_in turns ≡ []
+  pub wrote : Appends link0 link1 (gave (limits_of old) turns)
+  pub admitted : is_admitted (past_of new) id ≡ true
+
+pub delivering_none : (id : ℕ) (link : Option (List ℕ)) (k : Place) → IsWithin k
+    → is_admitted (past_of k) id ≡ true → Delivering id link link k k
+delivering_none id link k is on = record {
+  turns = [];
+  grows = grows_none k is;
+  work = λ clock. All-nil (IsWork id clock);
+  runs_none = refl;
+  wrote = appends_none link;
+  admitted = on;
+}
+
+length_take : (n : ℕ) (xs : List ℕ) → length (take n xs) ≡ min n (length xs)
+length_take zero xs = omega arith
+length_take (suc n) [] = omega arith
+length_take (suc n) (x ∷ xs) = let r = length_take n xs in omega (arith, r)
+
+module _ (l : Limits) (id : ℕ) where
+  own_take : (n m : ℕ) → cond (id == id) (n + m) n ≡ n + m
+  own_take n m = ap (λ b. cond b (n + m) n) (eq-eqb id id refl)
+
+  unsent_is : (past : List Entry) → has_ended l id past ≡ false
+      → unsent l id past ≡ drop (taken l id past) (stream l id past)
+  unfolding unsent
+  unsent_is past live =
+      ap (λ b. cond b [] (drop (taken l id past) (stream l id past))) live
+
+  nothing_left : (n : ℕ) (xs : List ℕ) → drop n xs ≡ [] → length xs ≤ n
+  nothing_left n xs h = omega (arith, ap length h, length-drop n xs)
+
+  -- nothing waits, so all was taken
+  pub rests_taken : (past : List Entry) → has_ended l id past ≡ false → unsent l id past ≡ []
+      → length (stream l id past) ≤ taken l id past
+  rests_taken past live none =
+      nothing_left (taken l id past) (stream l id past) (sym (unsent_is past live) ∙ none)
+
+  -- a Take that gave less than the most took all
+  pub short_taken : (past : List Entry) (most : ℕ) (bytes : List ℕ) → has_ended l id past ≡ false
+      → bytes ≡ take most (unsent l id past) → length bytes < most
+      → length (stream l id (Take id most ∷ past)) ≤ taken l id (Take id most ∷ past)
+  short_taken past most bytes live is short =
+      let all = stream l id past in
+      let n = taken l id past in
+      let t = ap length (is ∙ ap (take most) (unsent_is past live)) in
+      let d = length-drop n all in
+      let s = ap length (stream_take l past id id most) in
+      let own : taken l id (Take id most ∷ past) ≡ n + min most (length all - n) =
+      own_take (taken l id past) (min most (length all - n)) in
+      let cut = length_take most (drop n all) in
+      omega (arith, t, d, s, own, cut, short)
+
+module _ (id : ℕ) (link0 link1 : Option (List ℕ)) (old new : Place)
+    (d : Delivering id link0 link1 old new) where
+  limits_same : limits_of new ≡ limits_of old
+  limits_same = ap limits_in d.grows.setup
+
+  still_admitted : (last : Place) (ts : List Turn) → Grows new last ts
+      → is_admitted (past_of last) id ≡ true
+  still_admitted last ts g = begins_lift (λ past. is_admitted past id ≡ true) (admitted_more id)
+      (past_of new) (past_of last) (grows_past new last ts g) d.admitted
+
+  module _ (most : ℕ) (bytes : List ℕ) (last : Place) (g : Gives id most bytes new last) where
+    turn : Turn
+    turn = (Take id most, g.past)
+
+    took : List Turn
+    took = turn ∷ d.turns
+
+    took_work : (clock : Option ℕ) → All (IsWork id clock) took
+    unfolding took turn
+    took_work clock = All-cons (IsWork id clock) turn d.turns refl (d.work clock)
+
+    took_grows : Grows old last took
+    unfolding took turn
+    took_grows = grows_then old new last d.turns (turn ∷ []) d.grows g.grows
+
+    gave_is : gave (limits_of old) took ≡ gave (limits_of old) d.turns ++ bytes
+    unfolding took turn
+    gave_is = ap (λ z. gave (limits_of old) d.turns ++ z)
+        (ap (λ l. take most (unsent l id g.past)) (sym limits_same) ∙ sym g.given)
+
+    -- the bytes were written, and more may wait
+    pub delivering_more : (link2 : Option (List ℕ)) → Appends link1 link2 bytes
+        → Delivering id link0 link2 old last
+    unfolding took turn
+    delivering_more link2 w = record {
+      turns = took;
+      grows = took_grows;
+      work = took_work;
+      runs_none = append-nil (runs_in d.turns) ∙ d.runs_none;
+      wrote = appends_as link0 link2 _ _ (sym gave_is)
+          (appends_more link0 link1 link2 (gave (limits_of old) d.turns) bytes d.wrote w);
+      admitted = still_admitted last (turn ∷ []) g.grows;
+    }
+
+    -- they were all that waited
+    pub delivers_short : (link2 : Option (List ℕ)) → Appends link1 link2 bytes
+        → length bytes < most → Delivers id link0 link2 old last
+    unfolding took turn
+    delivers_short link2 w short =
+        let l = limits_of old in
+        let ends = g.ends in
+        let live = ap (λ l. has_ended l id g.past) (sym limits_same) ∙ g.live in
+        let given = g.given ∙ ap (λ l. take most (unsent l id g.past)) limits_same in
+        let now = short_taken l id g.past most bytes live given short in
+        let before = stream_begins l id (past_of old) (past_of last)
+        (grows_past old last took took_grows) in
+        let there : length (stream l id (past_of last)) ≤ taken l id (past_of last)
+        = subst (λ past. length (stream l id past) ≤ taken l id past) (sym ends) now in
+        record {
+          turns = took;
+          grows = took_grows;
+          work = took_work;
+          runs_none = append-nil (runs_in d.turns) ∙ d.runs_none;
+          wrote = appends_as link0 link2 _ _ (sym gave_is)
+              (appends_more link0 link1 link2 (gave (limits_of old) d.turns) bytes d.wrote w);
+          taken_all = omega (arith, before, there);
+        }
+
+    -- a front of them was written, and the link failed
+    pub delivers_failed : (link2 : Option (List ℕ)) (front : List ℕ) → Appends link1 link2 front
+        → IsPrefix front bytes → DeliversPart ended.LinkFault id link0 link2 old last
+    unfolding took turn
+    delivers_failed link2 front w part = record {
+      turns = took;
+      grows = took_grows;
+      work = took_work;
+      runs_none = append-nil (runs_in d.turns) ∙ d.runs_none;
+      bytes = gave (limits_of old) d.turns ++ front;
+      wrote = appends_more link0 link1 link2 (gave (limits_of old) d.turns) front d.wrote w;
+      front = (
+        part.0,
+        front_behind (gave (limits_of old) d.turns) front part.0
+            ∙ ap (λ z. gave (limits_of old) d.turns ++ z) part.1 ∙ sym gave_is,
+      );
+      cause_is = inl refl;
+    }
+      where
+        front_behind : (xs ys zs : List ℕ) → (xs ++ ys) ++ zs ≡ xs ++ (ys ++ zs)
+        front_behind [] ys zs = refl
+        front_behind (x ∷ xs) ys zs = ap (λ z. x ∷ z) (front_behind xs ys zs)
+
+  -- nothing waits
+  pub delivers_rests : (last : Place) → Rests id new last → Delivers id link0 link1 old last
+  delivers_rests last r =
+      let l = limits_of old in
+      let grows = grows_then old new last d.turns [] d.grows r.grows in
+      let live = ap (λ l. has_ended l id (past_of last)) (sym limits_same) ∙ r.live in
+      let none = ap (λ l. unsent l id (past_of last)) (sym limits_same) ∙ r.none in
+      let before = stream_begins l id (past_of old) (past_of last)
+      (grows_past old last d.turns grows) in
+      record {
+        turns = d.turns;
+        grows = grows;
+        work = d.work;
+        runs_none = d.runs_none;
+        wrote = d.wrote;
+        taken_all = omega (arith, before, rests_taken l id (past_of last) live none);
+      }
+
+  pub delivers_refused : (r : Refusal) (last : Place) → Refuses r id new last
+      → DeliversPart (ended_by r) id link0 link1 old last
+  delivers_refused r last g = record {
+    turns = d.turns;
+    grows = grows_then old new last d.turns [] d.grows g.grows;
+    work = d.work;
+    runs_none = d.runs_none;
+    bytes = gave (limits_of old) d.turns;
+    wrote = d.wrote;
+    front = ([], append-nil (gave (limits_of old) d.turns));
+    cause_is = inr (by_case r g);
+  }
+    where
+      by_case : (r : Refusal) → Refuses r id new last → IsEnd (ended_by r) id last
+      by_case refusal.Dropped h = h.cause_is
+      by_case refusal.HistoryFull h = h.cause_is
+      by_case refusal.NoMemory h = tt
+      by_case refusal.Worn h = h.cause_is
+
+pub takes_at : (id : ℕ) (r s : Option Octets) (old new : Place) → Takes id r old new → r ≡ s
+    → Takes id s old new
+takes_at id r s old new t e = subst (λ x. Takes id x old new) e t

@@ -1,0 +1,6 @@
+mod Reading
+mod Turning
+mod Running
+mod Bytes
+mod Delivering
+mod Serving

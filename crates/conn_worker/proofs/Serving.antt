@@ -1,0 +1,448 @@
+-- A connection is served round by round: its link is read, its requests run, and what waits for it
+-- is written.
+use Rattle.std.proofs.Common.{◌≡◌, ◌≤◌, ◌<◌, ◌+◌, ℕ, List, [], ◌∷◌, ◌++◌, length, true, false}
+use Rattle.std.proofs.Common.{Some, None, refl, sym, ap, subst, ◌∙◌, arith, append_assoc}
+use Rattle.std.proofs.Common.{append-nil}
+use Rattle.std.proofs.Common.{length-append, inl, inr}
+use Rattle.std.specs.Prelude.{Option, ◌⊎◌}
+use Rattle.std.specs.List.{All}
+use Rattle.std.specs.Io.KnownBytes.{Appends, Consumes, Keeps}
+use Rattle.std.proofs.lemmas.List.Elements.{All-nil, All-append}
+use Rattle.std.proofs.lemmas.Option.{same_Some}
+use Rattle.resp_value.specs.Lists.{IsPrefix}
+use Rattle.resp_stream.specs.declared.fault.StreamFault.{StreamFault}
+use Rattle.resp_stream.specs.Parse.{parse, requests_of}
+use Rattle.resp_stream.specs.Stream.{begun, fed}
+use Rattle.serial_model.specs.History.{is_admitted, stream, taken}
+use Rattle.shared_book.specs.Own.{past_of, IsWithin, Grows}
+use Rattle.shared_book.specs.Turns.{Place, Turn, limits_in, limits_of}
+use Rattle.shared_book.proofs.Growing.{grows_none, grows_then, grows_past, grows_stands}
+use Rattle.shared_book.specs.Turns.{Admits}
+use Rattle.serial_model.specs.declared.history.Entry.TheVariants.{Admit}
+use Rattle.shared_book.proofs.Histories.{begins_lift, admitted_more, admitted_now}
+use Rattle.edge_links.specs.declared.counts.Counts.{Counts}
+use Rattle.edge_links.specs.Counts.{Counted}
+use Rattle.conn_worker.specs.declared.report.Ended.{Ended}
+use Rattle.conn_worker.specs.declared.report.Ended.TheVariants as ended
+use Rattle.conn_worker.specs.declared.connection.Connection.{Connection}
+use Rattle.conn_worker.specs.Visits.{IsWork, IsEnd, IsTaken, IsWhole, IsOfLink, IsShown, MeetsFault}
+use Rattle.conn_worker.specs.Visits.{runs_in, gave, fed_connection, RunsAll, RunsPart, Delivers}
+use Rattle.conn_worker.specs.Visits.{DeliversPart, EndCounts, Hears, HearsPart, Works}
+use Rattle.conn_worker.specs.Visits.{Idle, Piece, Nothing, Part}
+use Rattle.conn_worker.proofs.Bytes.{appends_none, appends_more, appends_as, appends_kept}
+use Rattle.conn_worker.proofs.Bytes.{consumes_none, consumes_more, consumes_kept}
+use Rattle.conn_worker.proofs.Reading.{ReadsOn, reads_begun, reads_further, no_requests}
+use Rattle.conn_worker.proofs.Turning.{runs_append, gave_append, taken_more, all_taken, no_runs}
+
+-- all that was read ran, and all that this gave was written
+pub record Serving (clock : Option ℕ) (id : ℕ) (c : Connection)
+    (left0 left1 link0 link1 : Option (List ℕ)) (old new : Place) : Type 0 where
+  pub turns : List Turn
+  pub grows : Grows old new turns
+  pub work : All (IsWork id clock) turns
+  pub id_is : c.id ≡ id
+  pub counted : c.requests ≡ length (runs_in turns)
+  pub fits : c.requests ≤ length new.seen
+  pub heard : List ℕ
+  pub read : Consumes left0 left1 heard
+  pub reading : ReadsOn heard c.reader
+  pub runs : runs_in turns ≡ requests_of heard
+  pub wrote : Appends link0 link1 (gave (limits_of old) turns)
+  pub was_taken : All (IsTaken (limits_of old) id (taken (limits_of old) id (past_of new))) turns
+  pub admitted : is_admitted (past_of new) id ≡ true
+
+-- what was read ran, up to this fault, and its replies wait
+pub record Waiting (clock : Option ℕ) (id : ℕ) (fault : Option StreamFault) (c : Connection)
+    (left0 left1 link0 link1 : Option (List ℕ)) (old new : Place) : Type 0 where
+  pub turns : List Turn
+  pub grows : Grows old new turns
+  pub work : All (IsWork id clock) turns
+  pub id_is : c.id ≡ id
+  pub counted : c.requests ≡ length (runs_in turns)
+  pub fits : c.requests ≤ length new.seen
+  pub heard : List ℕ
+  pub read : Consumes left0 left1 heard
+  pub reading : fault ≡ None → ReadsOn heard c.reader
+  pub met : (f : StreamFault) → fault ≡ Some f → MeetsFault heard f
+  pub runs : runs_in turns ≡ requests_of heard
+  pub wrote : Appends link0 link1 (gave (limits_of old) turns)
+  pub admitted : is_admitted (past_of new) id ≡ true
+
+pub serving_none : (clock : Option ℕ) (c : Connection) (left link : Option (List ℕ)) (k : Place)
+    → c ≡ record { id = c.id; requests = 0; reader = begun }
+    → IsWithin k → is_admitted (past_of k) c.id ≡ true
+    → Serving clock c.id c left left link link k k
+serving_none clock c left link k new is on =
+    let requests : c.requests ≡ 0 = ap (λ (x : Connection). x.requests) new in
+    record {
+      turns = [];
+      grows = grows_none k is;
+      work = All-nil (IsWork c.id clock);
+      id_is = refl;
+      counted = requests;
+      fits = omega (arith, requests);
+      heard = [];
+      read = consumes_none left;
+      reading = subst (ReadsOn []) (sym (ap (λ (x : Connection). x.reader) new)) reads_begun;
+      runs = sym no_requests;
+      wrote = appends_none link;
+      was_taken = All-nil (IsTaken (limits_of k) c.id (taken (limits_of k) c.id (past_of k)));
+      admitted = on;
+    }
+
+module _ (clock : Option ℕ) (id : ℕ) (c : Connection) (left0 left1 link0 link1 : Option (List ℕ))
+    (old new : Place) (s : Serving clock id c left0 left1 link0 link1 old new) where
+  limits_same : limits_of new ≡ limits_of old
+  limits_same = ap limits_in s.grows.setup
+
+  gave_more : (ts : List Turn) → gave (limits_of new) ts ≡ []
+      → gave (limits_of old) (ts ++ s.turns) ≡ gave (limits_of old) s.turns
+  gave_more ts none =
+      gave_append (limits_of old) ts s.turns
+      ∙ ap (λ z. gave (limits_of old) s.turns ++ z)
+      (ap (λ l. gave l ts) (sym limits_same) ∙ none)
+      ∙ append-nil (gave (limits_of old) s.turns)
+
+  admitted_then : (last : Place) (ts : List Turn) → Grows new last ts
+      → is_admitted (past_of last) id ≡ true
+  admitted_then last ts g = begins_lift (λ past. is_admitted past id ≡ true) (admitted_more id)
+      (past_of new) (past_of last) (grows_past new last ts g) s.admitted
+
+  -- a piece was read, and all of it ran
+  piece_waits : (piece : List ℕ) (fault : Option StreamFault) (after : Connection) (last : Place)
+      (left2 link2 : Option (List ℕ)) → Consumes left1 left2 piece → Keeps link1 link2
+      → RunsAll clock fault (fed_connection c piece) after new last
+      → Waiting clock id fault after left0 left2 link0 link2 old last
+  piece_waits piece fault after last left2 link2 took kept r =
+      let p = parse (fed c.reader piece) in
+      let long = ap length (runs_append r.turns s.turns) in
+      let both = length-append (runs_in s.turns) (runs_in r.turns) in
+      let all : requests_of (s.heard ++ piece) ≡ requests_of s.heard ++ p.items
+      = s.reading.further piece in
+      record {
+        turns = r.turns ++ s.turns;
+        grows = grows_then old new last s.turns r.turns s.grows r.grows;
+        work = All-append (IsWork id clock) r.turns s.turns
+            (subst (λ n. All (IsWork n clock) r.turns) s.id_is r.work) s.work;
+        id_is = r.id ∙ s.id_is;
+        counted = omega (arith, r.requests, s.counted, long, both);
+        fits = r.counted;
+        heard = s.heard ++ piece;
+        read = consumes_more left0 left1 left2 s.heard piece s.read took;
+        reading = λ none.
+            subst (ReadsOn (s.heard ++ piece)) (sym (r.reader none))
+            (reads_further s.heard piece c.reader s.reading (sym r.fault_is ∙ none));
+        met = λ f is. record {
+          earlier = s.heard;
+          piece = piece;
+          reader = c.reader;
+          parts = refl;
+          items = all;
+          met = sym r.fault_is ∙ is;
+        };
+        runs = runs_append r.turns s.turns
+            ∙ ap (λ z. z ++ runs_in r.turns) s.runs
+            ∙ ap (λ z. requests_of s.heard ++ z) r.runs ∙ sym all;
+        wrote = appends_as link0 link2 _ _ (sym (gave_more r.turns r.gave_none))
+            (appends_kept link0 link1 link2 _ s.wrote kept);
+        admitted = admitted_then last r.turns r.grows;
+      }
+
+  -- the same at this place of the seat, and what the link has of both directions
+  idle_waits : (fault : Option StreamFault) (left2 link2 : Option (List ℕ)) → fault ≡ None
+      → Consumes left1 left2 [] → Keeps link1 link2
+      → Waiting clock id fault c left0 left2 link0 link2 old new
+  idle_waits fault left2 link2 none took kept = record {
+    turns = s.turns;
+    grows = s.grows;
+    work = s.work;
+    id_is = s.id_is;
+    counted = s.counted;
+    fits = s.fits;
+    heard = s.heard;
+    read = subst (Consumes left0 left2) (append-nil s.heard)
+        (consumes_more left0 left1 left2 s.heard [] s.read took);
+    reading = λ h. s.reading;
+    met = λ f is. absurd (let no : None ≡ Some f = sym none ∙ is in cc);
+    runs = s.runs;
+    wrote = appends_kept link0 link1 link2 _ s.wrote kept;
+    admitted = s.admitted;
+  }
+
+  pub hears_waits : (fault : Option StreamFault) (after : Connection) (last : Place)
+      (left2 link2 : Option (List ℕ)) → Hears clock fault c after left1 left2 new last
+      → Keeps link1 link2 → Waiting clock id fault after left0 left2 link0 link2 old last
+  hears_waits fault after last left2 link2 (Idle none same still took) kept =
+      subst (λ k. Waiting clock id fault after left0 left2 link0 link2 old k) (sym still)
+      (subst (λ x. Waiting clock id fault x left0 left2 link0 link2 old new) (sym same)
+      (idle_waits fault left2 link2 none took kept))
+  hears_waits fault after last left2 link2 (Piece piece took r) kept =
+      piece_waits piece fault after last left2 link2 took kept r
+
+  part_works : (piece : List ℕ) (cause : Ended) (after : Connection) (last : Place)
+      (left2 link2 : Option (List ℕ)) → Consumes left1 left2 piece → Keeps link1 link2
+      → RunsPart clock cause (fed_connection c piece) after new last
+      → Works clock cause id after.requests left0 left2 link0 link2 old last
+  part_works piece cause after last left2 link2 took kept r =
+      let p = parse (fed c.reader piece) in
+      let long = ap length (runs_append r.turns s.turns) in
+      let both = length-append (runs_in s.turns) (runs_in r.turns) in
+      let front : runs_in (r.turns ++ s.turns) ≡ requests_of s.heard ++ runs_in r.turns
+      = runs_append r.turns s.turns ∙ ap (λ z. z ++ runs_in r.turns) s.runs in
+      record {
+        turns = r.turns ++ s.turns;
+        grows = grows_then old new last s.turns r.turns s.grows r.grows;
+        work = All-append (IsWork id clock) r.turns s.turns
+            (subst (λ n. All (IsWork n clock) r.turns) s.id_is r.work) s.work;
+        counted = omega (arith, r.requests, s.counted, long, both);
+        heard = s.heard ++ piece;
+        read = consumes_more left0 left1 left2 s.heard piece s.read took;
+        bytes = gave (limits_of old) (r.turns ++ s.turns);
+        wrote = appends_as link0 link2 _ _ (sym (gave_more r.turns r.gave_none))
+            (appends_kept link0 link1 link2 _ s.wrote kept);
+        runs = (
+          r.runs.0,
+          ap (λ z. z ++ r.runs.0) front ∙ append_assoc (requests_of s.heard) (runs_in r.turns)
+              r.runs.0
+              ∙ ap (λ z. requests_of s.heard ++ z) r.runs.1 ∙ sym (s.reading.further piece),
+        );
+        front = ([], append-nil (gave (limits_of old) (r.turns ++ s.turns)));
+        all_ran = λ w. absurd (no_whole cause id new last r.cause_is w);
+        all_wrote = λ w. refl;
+        all_taken = λ w. absurd (no_whole cause id new last r.cause_is w);
+        shown = shown_by cause (subst (λ n. IsEnd cause n last) s.id_is r.cause_is);
+      }
+    where
+      no_whole : (cause : Ended) (id : ℕ) (new last : Place) → IsEnd cause c.id last → IsWhole cause
+          → ⊥
+      no_whole ended.PeerEnd id new last e w = e
+      no_whole ended.Dropped id new last e w = w
+      no_whole (ended.BadRequest f) id new last e w = e
+      no_whole ended.LinkFault id new last e w = w
+      no_whole ended.HistoryFull id new last e w = w
+      no_whole ended.NoMemory id new last e w = w
+      no_whole ended.Worn id new last e w = w
+
+      shown_by : (cause : Ended) → IsEnd cause id last → IsShown cause id (s.heard ++ piece) last
+      shown_by ended.PeerEnd e = tt
+      shown_by ended.Dropped e = e
+      shown_by (ended.BadRequest f) e = absurd e
+      shown_by ended.LinkFault e = tt
+      shown_by ended.HistoryFull e = e
+      shown_by ended.NoMemory e = tt
+      shown_by ended.Worn e = e
+
+  nothing_works : (cause : Ended) (left2 link2 : Option (List ℕ)) → IsOfLink cause
+      → Consumes left1 left2 [] → Keeps link1 link2
+      → Works clock cause id c.requests left0 left2 link0 link2 old new
+  nothing_works cause left2 link2 of took kept = record {
+    turns = s.turns;
+    grows = s.grows;
+    work = s.work;
+    counted = s.counted;
+    heard = s.heard;
+    read = subst (Consumes left0 left2) (append-nil s.heard)
+        (consumes_more left0 left1 left2 s.heard [] s.read took);
+    bytes = gave (limits_of old) s.turns;
+    wrote = appends_kept link0 link1 link2 _ s.wrote kept;
+    runs = ([], append-nil (runs_in s.turns) ∙ s.runs);
+    front = ([], append-nil (gave (limits_of old) s.turns));
+    all_ran = λ w. s.runs;
+    all_wrote = λ w. refl;
+    all_taken = λ w. s.was_taken;
+    shown = shown_by cause of;
+  }
+    where
+      shown_by : (cause : Ended) → IsOfLink cause → IsShown cause id s.heard new
+      shown_by ended.PeerEnd o = tt
+      shown_by ended.Dropped o = absurd o
+      shown_by (ended.BadRequest f) o = absurd o
+      shown_by ended.LinkFault o = tt
+      shown_by ended.HistoryFull o = absurd o
+      shown_by ended.NoMemory o = absurd o
+      shown_by ended.Worn o = absurd o
+
+  pub hears_stops : (cause : Ended) (after : Connection) (last : Place)
+      (left2 link2 : Option (List ℕ)) → HearsPart clock cause c after left1 left2 new last
+      → Keeps link1 link2
+      → Works clock cause id after.requests left0 left2 link0 link2 old last
+  hears_stops cause after last left2 link2 (Nothing of same still took) kept =
+      subst (λ k. Works clock cause id after.requests left0 left2 link0 link2 old k) (sym still)
+      (subst (λ (x : Connection). Works clock cause id x.requests left0 left2 link0 link2 old new)
+      (sym same) (nothing_works cause left2 link2 of took kept))
+  hears_stops cause after last left2 link2 (Part piece took r) kept =
+      part_works piece cause after last left2 link2 took kept r
+
+module _ (clock : Option ℕ) (id : ℕ) (fault : Option StreamFault) (c : Connection)
+    (left0 left1 link0 link1 : Option (List ℕ)) (old new : Place)
+    (s : Waiting clock id fault c left0 left1 link0 link1 old new)
+    (left2 link2 : Option (List ℕ)) (kept : Keeps left1 left2) (last : Place) where
+  limits_kept : limits_of new ≡ limits_of old
+  limits_kept = ap limits_in s.grows.setup
+
+  module _ (d : Delivers id link1 link2 new last) where
+    all_turns : List Turn
+    all_turns = d.turns ++ s.turns
+
+    all_grows : Grows old last all_turns
+    unfolding all_turns
+    all_grows = grows_then old new last s.turns d.turns s.grows d.grows
+
+    all_work : All (IsWork id clock) all_turns
+    unfolding all_turns
+    all_work = All-append (IsWork id clock) d.turns s.turns (d.work clock) s.work
+
+    all_runs : runs_in all_turns ≡ runs_in s.turns
+    unfolding all_turns
+    all_runs = runs_append d.turns s.turns ∙ ap (λ z. runs_in s.turns ++ z) d.runs_none
+        ∙ append-nil (runs_in s.turns)
+
+    all_gave : Appends link0 link2 (gave (limits_of old) all_turns)
+    unfolding all_turns
+    all_gave = appends_as link0 link2 _ _
+        (ap (λ l. gave (limits_of old) s.turns ++ gave l d.turns) limits_kept
+        ∙ sym (gave_append (limits_of old) d.turns s.turns))
+        (appends_more link0 link1 link2 (gave (limits_of old) s.turns)
+        (gave (limits_of new) d.turns) s.wrote d.wrote)
+
+    there : length (stream (limits_of old) id (past_of new)) ≤ taken (limits_of old) id (past_of
+        last)
+    there = subst (λ l. length (stream l id (past_of new)) ≤ taken l id (past_of last)) limits_kept
+        d.taken_all
+
+    all_are_taken : All (IsTaken (limits_of old) id (taken (limits_of old) id (past_of last)))
+        all_turns
+    unfolding all_turns
+    all_are_taken =
+        let n = taken (limits_of old) id (past_of last) in
+        All-append (IsTaken (limits_of old) id n) d.turns s.turns
+        (no_runs (limits_of old) id n d.turns d.runs_none)
+        (all_taken (limits_of old) id (past_of new) n s.turns there
+        (grows_stands old new s.turns s.grows))
+
+    pub delivered_serves : fault ≡ None → Serving clock id c left0 left2 link0 link2 old last
+    delivered_serves none =
+        let more = d.grows.seen in
+        let long = ap length more.1 in
+        let both = length-append more.0 new.seen in
+        record {
+          turns = all_turns;
+          grows = all_grows;
+          work = all_work;
+          id_is = s.id_is;
+          counted = s.counted ∙ ap length (sym all_runs);
+          fits = omega (arith, s.fits, long, both);
+          heard = s.heard;
+          read = consumes_kept left0 left1 left2 s.heard s.read kept;
+          reading = s.reading none;
+          runs = all_runs ∙ s.runs;
+          wrote = all_gave;
+          was_taken = all_are_taken;
+          admitted = begins_lift (λ past. is_admitted past id ≡ true) (admitted_more id)
+              (past_of new) (past_of last) (grows_past new last d.turns d.grows) s.admitted;
+        }
+
+    pub delivered_ends : (f : StreamFault) → fault ≡ Some f
+        → Works clock (ended.BadRequest f) id c.requests left0 left2 link0 link2 old last
+    delivered_ends f is = record {
+      turns = all_turns;
+      grows = all_grows;
+      work = all_work;
+      counted = s.counted ∙ ap length (sym all_runs);
+      heard = s.heard;
+      read = consumes_kept left0 left1 left2 s.heard s.read kept;
+      bytes = gave (limits_of old) all_turns;
+      wrote = all_gave;
+      runs = ([], append-nil (runs_in all_turns) ∙ (all_runs ∙ s.runs));
+      front = ([], append-nil (gave (limits_of old) all_turns));
+      all_ran = λ w. all_runs ∙ s.runs;
+      all_wrote = λ w. refl;
+      all_taken = λ w. all_are_taken;
+      shown = s.met f is;
+    }
+
+  pub delivery_stops : (cause : Ended) → DeliversPart cause id link1 link2 new last
+      → Works clock cause id c.requests left0 left2 link0 link2 old last
+  delivery_stops cause d =
+      let all = d.turns ++ s.turns in
+      let runs : runs_in all ≡ runs_in s.turns
+      = runs_append d.turns s.turns ∙ ap (λ z. runs_in s.turns ++ z) d.runs_none
+      ∙ append-nil (runs_in s.turns) in
+      let gave_is : gave (limits_of old) all ≡ gave (limits_of old) s.turns
+      ++ gave (limits_of old) d.turns
+      = gave_append (limits_of old) d.turns s.turns in
+      record {
+        turns = all;
+        grows = grows_then old new last s.turns d.turns s.grows d.grows;
+        work = All-append (IsWork id clock) d.turns s.turns (d.work clock) s.work;
+        counted = s.counted ∙ ap length (sym runs);
+        heard = s.heard;
+        read = consumes_kept left0 left1 left2 s.heard s.read kept;
+        bytes = gave (limits_of old) s.turns ++ d.bytes;
+        wrote = appends_more link0 link1 link2 (gave (limits_of old) s.turns) d.bytes s.wrote
+            d.wrote;
+        runs = ([], append-nil (runs_in all) ∙ (runs ∙ s.runs));
+        front = (
+          d.front.0,
+          append_assoc (gave (limits_of old) s.turns) d.bytes d.front.0
+              ∙ ap (λ z. gave (limits_of old) s.turns ++ z)
+              (d.front.1 ∙ ap (λ l. gave l d.turns) limits_kept) ∙ sym gave_is,
+        );
+        all_ran = λ w. runs ∙ s.runs;
+        all_wrote = λ w. absurd (no_whole cause d.cause_is w);
+        all_taken = λ w. absurd (no_whole cause d.cause_is w);
+        shown = shown_by cause d.cause_is;
+      }
+    where
+      no_whole : (cause : Ended) → (cause ≡ ended.LinkFault) ⊎ IsEnd cause id last → IsWhole cause
+          → ⊥
+      no_whole ended.PeerEnd (inl e) w = cc
+      no_whole ended.PeerEnd (inr e) w = e
+      no_whole ended.Dropped e w = w
+      no_whole (ended.BadRequest f) (inl e) w = cc
+      no_whole (ended.BadRequest f) (inr e) w = e
+      no_whole ended.LinkFault e w = w
+      no_whole ended.HistoryFull e w = w
+      no_whole ended.NoMemory e w = w
+      no_whole ended.Worn e w = w
+
+      shown_by : (cause : Ended) → (cause ≡ ended.LinkFault) ⊎ IsEnd cause id last
+          → IsShown cause id s.heard last
+      shown_by ended.PeerEnd e = tt
+      shown_by ended.Dropped (inl e) = absurd (let no : ⊥ = cc in no)
+      shown_by ended.Dropped (inr e) = e
+      shown_by (ended.BadRequest f) (inl e) = absurd (let no : ⊥ = cc in no)
+      shown_by (ended.BadRequest f) (inr e) = absurd e
+      shown_by ended.LinkFault e = tt
+      shown_by ended.HistoryFull (inl e) = absurd (let no : ⊥ = cc in no)
+      shown_by ended.HistoryFull (inr e) = e
+      shown_by ended.NoMemory e = tt
+      shown_by ended.Worn (inl e) = absurd (let no : ⊥ = cc in no)
+      shown_by ended.Worn (inr e) = e
+
+-- counts over two steps, the first of which left faults and ends as they were
+pub end_counts_from : (cause : Ended) (a b c : Counts) → b.faults ≡ a.faults → b.ends ≡ a.ends
+    → EndCounts cause b c → EndCounts cause a c
+end_counts_from ended.PeerEnd a b c f e h =
+    (subst (λ n. Counted n c.ends) e h.0, h.1 ∙ f)
+end_counts_from ended.Dropped a b c f e h = (h.0 ∙ f, h.1 ∙ e)
+end_counts_from (ended.BadRequest x) a b c f e h = (h.0 ∙ f, h.1 ∙ e)
+end_counts_from ended.LinkFault a b c f e h =
+    (subst (λ n. Counted n c.faults) f h.0, h.1 ∙ e)
+end_counts_from ended.HistoryFull a b c f e h = (h.0 ∙ f, h.1 ∙ e)
+end_counts_from ended.NoMemory a b c f e h = (h.0 ∙ f, h.1 ∙ e)
+end_counts_from ended.Worn a b c f e h = (h.0 ∙ f, h.1 ∙ e)
+
+pub admits_admitted : (id : ℕ) (old first : Place) → Admits id old first
+    → is_admitted (past_of first) id ≡ true
+admits_admitted id old first a =
+    ap (λ past. is_admitted past id) a.ends
+    ∙ ap (λ n. is_admitted (Admit n ∷ a.past) n) a.next ∙ admitted_now a.past
+
+pub works_admitted : (clock : Option ℕ) (cause : Ended) (id name requests : ℕ)
+    (left0 left1 link0 link1 : Option (List ℕ)) (old first last : Place) → Admits id old first
+    → name ≡ id → Works clock cause name requests left0 left1 link0 link1 first last
+    → is_admitted (past_of last) id ≡ true
+works_admitted clock cause id name requests left0 left1 link0 link1 old first last a same w =
+    begins_lift (λ past. is_admitted past id ≡ true) (admitted_more id) (past_of first)
+    (past_of last) (grows_past first last w.turns w.grows) (admits_admitted id old first a)

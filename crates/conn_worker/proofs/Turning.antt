@@ -1,0 +1,72 @@
+-- What the turns of a connection ran and gave, one list after another.
+use Rattle.std.proofs.Common.{◌≡◌, ◌≤◌, ◌+◌, ℕ, List, [], ◌∷◌, ◌++◌, length, refl, sym, ap, subst}
+use Rattle.std.proofs.Common.{◌∙◌}
+use Rattle.std.proofs.Common.{append_assoc, append-nil, arith, length-append}
+use Rattle.std.specs.List.{All}
+use Rattle.std.proofs.lemmas.List.Elements.{All-nil, All-cons, All-tail, All-head}
+use Rattle.resp_value.specs.Lists.{IsPrefix}
+use Rattle.turn_lock.specs.History.{IsPrefix as IsBefore}
+use Rattle.serial_model.specs.declared.history.Limits.{Limits}
+use Rattle.serial_model.specs.declared.history.Entry.{Entry}
+use Rattle.serial_model.specs.declared.history.Entry.TheVariants.{Admit, Run, Take, Close}
+use Rattle.serial_model.specs.History.{stream, taken}
+use Rattle.shared_book.specs.Turns.{Turn}
+use Rattle.shared_book.proofs.Histories.{stream_begins}
+use Rattle.conn_worker.specs.Visits.{runs_in, run_in, gave, gave_in, IsTaken}
+
+pub runs_append : (xs ys : List Turn) → runs_in (xs ++ ys) ≡ runs_in ys ++ runs_in xs
+runs_append [] ys = sym (append-nil (runs_in ys))
+runs_append (x ∷ xs) ys =
+    ap (λ z. z ++ run_in x) (runs_append xs ys)
+    ∙ append_assoc (runs_in ys) (runs_in xs) (run_in x)
+
+pub gave_append : (l : Limits) (xs ys : List Turn) → gave l (xs ++ ys) ≡ gave l ys ++ gave l xs
+gave_append l [] ys = sym (append-nil (gave l ys))
+gave_append l (x ∷ xs) ys =
+    ap (λ z. z ++ gave_in l x) (gave_append l xs ys)
+    ∙ append_assoc (gave l ys) (gave l xs) (gave_in l x)
+
+module _ (l : Limits) (id : ℕ) where
+  taken_one : (a b : ℕ) (t : Turn) → a ≤ b → IsTaken l id a t → IsTaken l id b t
+  taken_one a b (Admit n, past) le h = tt
+  taken_one a b (Run n words moment, past) le h = omega (arith, le, h)
+  taken_one a b (Take n most, past) le h = tt
+  taken_one a b (Close n, past) le h = tt
+
+  pub taken_more : (a b : ℕ) → a ≤ b → (ts : List Turn) → All (IsTaken l id a) ts
+      → All (IsTaken l id b) ts
+  taken_more a b le ts h k d lt = taken_one a b _ le (h k d lt)
+
+  stands_taken : (past : List Entry) (n : ℕ) (t : Turn) → length (stream l id past) ≤ n
+      → IsBefore (t.0 ∷ t.1) past → IsTaken l id n t
+  stands_taken past n (Admit m, before) le h = tt
+  stands_taken past n (Run m words moment, before) le h =
+      omega (arith, le, stream_begins l id (Run m words moment ∷ before) past h)
+  stands_taken past n (Take m most, before) le h = tt
+  stands_taken past n (Close m, before) le h = tt
+
+  -- turns of a history all of whose stream was taken
+  pub all_taken : (past : List Entry) (n : ℕ) (ts : List Turn) → length (stream l id past) ≤ n
+      → All (λ t. IsBefore (t.0 ∷ t.1) past) ts → All (IsTaken l id n) ts
+  all_taken past n ts le h k d lt = stands_taken past n _ le (h k d lt)
+
+  none_one : (n : ℕ) (t : Turn) → run_in t ≡ [] → IsTaken l id n t
+  none_one n (Admit m, past) h = tt
+  none_one n (Run m words moment, past) h = absurd (let no : ⊥ = cc in no)
+  none_one n (Take m most, past) h = tt
+  none_one n (Close m, past) h = tt
+
+  back_none : {A : Type 0} (xs ys : List A) → xs ++ ys ≡ [] → ys ≡ []
+  back_none [] ys h = h
+  back_none (x ∷ xs) ys h = absurd (let no : ⊥ = cc in no)
+
+  front_none : {A : Type 0} (xs ys : List A) → xs ++ ys ≡ [] → xs ≡ []
+  front_none [] ys h = refl
+  front_none (x ∷ xs) ys h = absurd (let no : ⊥ = cc in no)
+
+  -- turns that are no Runs
+  pub no_runs : (n : ℕ) (ts : List Turn) → runs_in ts ≡ [] → All (IsTaken l id n) ts
+  no_runs n [] h = All-nil (IsTaken l id n)
+  no_runs n (t ∷ ts) h = All-cons (IsTaken l id n) t ts
+      (none_one n t (back_none (runs_in ts) (run_in t) h))
+      (no_runs n ts (front_none (runs_in ts) (run_in t) h))

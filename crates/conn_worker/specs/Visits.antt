@@ -1,0 +1,294 @@
+-- What the service of one connection does to its seat and its link.
+use Rattle.std.specs.Prelude.{◌≡◌, ◌≢◌, ◌≤◌, ◌<◌, ◌+◌, ◌⊎◌, ℕ, List, [], ◌∷◌, ◌++◌, length, max}
+use Rattle.std.specs.Prelude.{take}
+use Rattle.std.specs.Prelude.{Option, Some, None, Result, Ok, Err, IfSome, ⊤, true, false}
+use Rattle.std.specs.List.{All}
+use Rattle.std.specs.Io.KnownBytes.{Appends, Consumes}
+use Rattle.resp_value.specs.Lists.{IsPrefix}
+use Rattle.resp_stream.specs.Parse.{Batch, parse, requests_of}
+use Rattle.resp_stream.specs.Stream.{Stream, begun, fed}
+use Rattle.resp_stream.specs.declared.fault.StreamFault.{StreamFault}
+use Rattle.edge_links.specs.declared.counts.Counts.{Counts}
+use Rattle.edge_links.specs.Counts.{Counted, FaultCounted}
+use Rattle.serial_model.specs.declared.history.Limits.{Limits}
+use Rattle.serial_model.specs.declared.history.Entry.{Entry}
+use Rattle.serial_model.specs.declared.history.Entry.TheVariants as entry
+use Rattle.serial_model.specs.History.{latest, is_admitted, stream, taken, unsent}
+use Rattle.shared_book.specs.declared.turns.Refusal.{Refusal}
+use Rattle.shared_book.specs.declared.turns.Refusal.TheVariants as refusal
+use Rattle.shared_book.specs.Own.{past_of, Grows}
+use Rattle.shared_book.specs.Turns.{Place, Turn, IsCause, limits_of, Admits, Closes, Refuses}
+use Rattle.shared_book.specs.Turns.{IsAdmissionCause}
+use Rattle.conn_worker.specs.declared.report.Report.{Report}
+use Rattle.conn_worker.specs.declared.report.Ended.{Ended}
+use Rattle.conn_worker.specs.declared.report.Ended.TheVariants as ended
+use Rattle.conn_worker.specs.declared.connection.Connection.{Connection}
+use Rattle.conn_worker.specs.declared.deliver.LinkFailed.{LinkFailed}
+
+abbrev pub ended_by : Refusal → Ended
+ended_by refusal.Dropped = ended.Dropped
+ended_by refusal.HistoryFull = ended.HistoryFull
+ended_by refusal.NoMemory = ended.NoMemory
+ended_by refusal.Worn = ended.Worn
+
+-- why no turn is taken any more, as the seat shows it
+abbrev pub IsEnd : Ended → ℕ → Place → Type 0
+IsEnd ended.PeerEnd id k = ⊥
+IsEnd ended.Dropped id k = IsCause refusal.Dropped id k
+IsEnd (ended.BadRequest fault) id k = ⊥
+IsEnd ended.LinkFault id k = ⊥
+IsEnd ended.HistoryFull id k = IsCause refusal.HistoryFull id k
+IsEnd ended.NoMemory id k = ⊤
+IsEnd ended.Worn id k = IsCause refusal.Worn id k
+
+-- ---- the turns of one connection, the newest first
+
+-- a Run of the connection, at the greater of the clock's moment and the latest; or a Take of it
+abbrev pub IsWork : ℕ → Option ℕ → Turn → Type 0
+IsWork id clock (entry.Admit n, past) = ⊥
+IsWork id clock (entry.Run n words moment, past) =
+    (n ≡ id) × IfSome clock (λ now. moment ≡ max now (latest past))
+IsWork id clock (entry.Take n most, past) = n ≡ id
+IsWork id clock (entry.Close n, past) = ⊥
+
+abbrev pub run_in : Turn → List (List (List ℕ))
+run_in (entry.Admit n, past) = []
+run_in (entry.Run n words moment, past) = words ∷ []
+run_in (entry.Take n most, past) = []
+run_in (entry.Close n, past) = []
+
+-- the requests that ran, in order
+abbrev pub runs_in : List Turn → List (List (List ℕ))
+runs_in [] = []
+runs_in (t ∷ ts) = runs_in ts ++ run_in t
+
+abbrev pub gave_in : Limits → Turn → List ℕ
+gave_in l (entry.Admit n, past) = []
+gave_in l (entry.Run n words moment, past) = []
+gave_in l (entry.Take n most, past) = take most (unsent l n past)
+gave_in l (entry.Close n, past) = []
+
+-- the bytes that the Takes gave, in order
+abbrev pub gave : Limits → List Turn → List ℕ
+gave l [] = []
+gave l (t ∷ ts) = gave l ts ++ gave_in l t
+
+-- where the turn is a Run: of all that its connection was sent up to and with it, no byte is behind
+-- those that were taken
+abbrev pub IsTaken : Limits → ℕ → ℕ → Turn → Type 0
+IsTaken l id count (entry.Admit n, past) = ⊤
+IsTaken l id count (entry.Run n words moment, past) =
+    length (stream l id (entry.Run n words moment ∷ past)) ≤ count
+IsTaken l id count (entry.Take n most, past) = ⊤
+IsTaken l id count (entry.Close n, past) = ⊤
+
+-- ---- the requests of a link
+
+abbrev pub fed_connection : Connection → List ℕ → Connection
+fed_connection c piece = record c { reader = fed c.reader piece }
+
+-- one request ran
+pub record RunsOne (clock : Option ℕ) (words : List (List ℕ)) (before after : Connection)
+    (old new : Place) : Type 0 where
+  pub moment : ℕ
+  pub past : List Entry
+  pub grows : Grows old new ((entry.Run before.id words moment, past) ∷ [])
+  pub work : IsWork before.id clock (entry.Run before.id words moment, past)
+  pub connection : after ≡ record before { requests = before.requests + 1 }
+  pub counted : after.requests ≤ length new.seen
+
+-- a request did not run
+pub record RunsNone (cause : Ended) (before after : Connection) (old new : Place) : Type 0 where
+  pub grows : Grows old new []
+  pub connection : after ≡ before
+  pub cause_is : IsEnd cause before.id new
+
+-- some of the requests that the connection has read ran
+pub record RunsPart (clock : Option ℕ) (cause : Ended) (before after : Connection) (old new : Place)
+    : Type 0 where
+  pub turns : List Turn
+  pub grows : Grows old new turns
+  pub work : All (IsWork before.id clock) turns
+  pub gave_none : gave (limits_of old) turns ≡ []
+  pub id : after.id ≡ before.id
+  pub requests : after.requests ≡ before.requests + length (runs_in turns)
+  pub runs : IsPrefix (runs_in turns) (parse before.reader).items
+  pub cause_is : IsEnd cause before.id new
+
+-- all of them ran, up to this fault
+pub record RunsAll (clock : Option ℕ) (fault : Option StreamFault) (before after : Connection)
+    (old new : Place) : Type 0 where
+  pub turns : List Turn
+  pub grows : Grows old new turns
+  pub work : All (IsWork before.id clock) turns
+  pub gave_none : gave (limits_of old) turns ≡ []
+  pub id : after.id ≡ before.id
+  pub requests : after.requests ≡ before.requests + length (runs_in turns)
+  pub counted : after.requests ≤ length new.seen
+  pub runs : runs_in turns ≡ (parse before.reader).items
+  pub fault_is : fault ≡ (parse before.reader).fault
+  pub reader : fault ≡ None → after.reader ≡ (parse before.reader).stream
+
+-- ---- what is written to a link
+
+abbrev pub WritesAll : Result ⊤ LinkFailed → Option (List ℕ) → Option (List ℕ) → List ℕ → Type 0
+WritesAll (Ok u) old new bytes = Appends old new bytes
+WritesAll (Err e) old new bytes =
+    (front : List ℕ) × Appends old new front × IsPrefix front bytes
+
+abbrev pub AllCounts : Result ⊤ LinkFailed → Counts → Counts → Type 0
+AllCounts (Ok u) old new = new ≡ old
+AllCounts (Err e) old new = FaultCounted old new
+
+-- what waited for the connection was taken and written, all of it
+pub record Delivers (id : ℕ) (link0 link1 : Option (List ℕ)) (old new : Place) : Type 0 where
+  pub turns : List Turn
+  pub grows : Grows old new turns
+  pub work : (clock : Option ℕ) → All (IsWork id clock) turns
+  pub runs_none : runs_in turns ≡ []
+  pub wrote : Appends link0 link1 (gave (limits_of old) turns)
+  pub taken_all : length (stream (limits_of old) id (past_of old))
+      ≤ taken (limits_of old) id (past_of new)
+
+-- some of what waited was taken, and some of that was written
+pub record DeliversPart (cause : Ended) (id : ℕ) (link0 link1 : Option (List ℕ)) (old new : Place)
+    : Type 0 where
+  pub turns : List Turn
+  pub grows : Grows old new turns
+  pub work : (clock : Option ℕ) → All (IsWork id clock) turns
+  pub runs_none : runs_in turns ≡ []
+  pub bytes : List ℕ
+  pub wrote : Appends link0 link1 bytes
+  pub front : IsPrefix bytes (gave (limits_of old) turns)
+  pub cause_is : (cause ≡ ended.LinkFault) ⊎ IsEnd cause id new
+
+abbrev pub DeliveryCounts : Result ⊤ Ended → Counts → Counts → Type 0
+DeliveryCounts (Ok u) old new = new ≡ old
+DeliveryCounts (Err ended.LinkFault) old new = FaultCounted old new
+DeliveryCounts (Err e) old new = new ≡ old
+
+-- ---- one read of a link
+
+-- a count that rose in this call, for an end that the link gave; else no fault and no end of it
+abbrev pub EndCounts : Ended → Counts → Counts → Type 0
+EndCounts ended.PeerEnd old new = Counted old.ends new.ends × (new.faults ≡ old.faults)
+EndCounts ended.Dropped old new = (new.faults ≡ old.faults) × (new.ends ≡ old.ends)
+EndCounts (ended.BadRequest fault) old new = (new.faults ≡ old.faults) × (new.ends ≡ old.ends)
+EndCounts ended.LinkFault old new = Counted old.faults new.faults × (new.ends ≡ old.ends)
+EndCounts ended.HistoryFull old new = (new.faults ≡ old.faults) × (new.ends ≡ old.ends)
+EndCounts ended.NoMemory old new = (new.faults ≡ old.faults) × (new.ends ≡ old.ends)
+EndCounts ended.Worn old new = (new.faults ≡ old.faults) × (new.ends ≡ old.ends)
+
+abbrev pub IsOfLink : Ended → Type 0
+IsOfLink ended.PeerEnd = ⊤
+IsOfLink ended.Dropped = ⊥
+IsOfLink (ended.BadRequest fault) = ⊥
+IsOfLink ended.LinkFault = ⊤
+IsOfLink ended.HistoryFull = ⊥
+IsOfLink ended.NoMemory = ⊥
+IsOfLink ended.Worn = ⊥
+
+-- Nothing came; or a piece was read, and the requests that are whole by then ran.
+pub data Hears (clock : Option ℕ) (fault : Option StreamFault) (before after : Connection)
+    (left0 left1 : Option (List ℕ)) (old new : Place) : Type 0 where
+  Idle : fault ≡ None → after ≡ before → new ≡ old → Consumes left0 left1 []
+      → Hears clock fault before after left0 left1 old new
+  Piece : (piece : List ℕ) → Consumes left0 left1 piece
+      → RunsAll clock fault (fed_connection before piece) after old new
+      → Hears clock fault before after left0 left1 old new
+
+-- The link gave no bytes; or a piece was read, and some of the requests in it ran.
+pub data HearsPart (clock : Option ℕ) (cause : Ended) (before after : Connection)
+    (left0 left1 : Option (List ℕ)) (old new : Place) : Type 0 where
+  Nothing : IsOfLink cause → after ≡ before → new ≡ old → Consumes left0 left1 []
+      → HearsPart clock cause before after left0 left1 old new
+  Part : (piece : List ℕ) → Consumes left0 left1 piece
+      → RunsPart clock cause (fed_connection before piece) after old new
+      → HearsPart clock cause before after left0 left1 old new
+
+abbrev pub HearingCounts : Result (Option StreamFault) Ended → Counts → Counts → Type 0
+HearingCounts (Ok fault) old new = (new.faults ≡ old.faults) × (new.ends ≡ old.ends)
+HearingCounts (Err e) old new = EndCounts e old new
+
+-- ---- a connection that is served
+
+-- the end was read after all that came before it
+abbrev pub IsWhole : Ended → Type 0
+IsWhole ended.PeerEnd = ⊤
+IsWhole ended.Dropped = ⊥
+IsWhole (ended.BadRequest fault) = ⊤
+IsWhole ended.LinkFault = ⊥
+IsWhole ended.HistoryFull = ⊥
+IsWhole ended.NoMemory = ⊥
+IsWhole ended.Worn = ⊥
+
+-- the fault is the one behind the requests in what was read: the reader met it in its last piece
+pub record MeetsFault (heard : List ℕ) (fault : StreamFault) : Type 0 where
+  pub earlier : List ℕ
+  pub piece : List ℕ
+  pub reader : Stream
+  pub parts : earlier ++ piece ≡ heard
+  pub items : requests_of heard ≡ requests_of earlier ++ (parse (fed reader piece)).items
+  pub met : (parse (fed reader piece)).fault ≡ Some fault
+
+-- why the connection is served no longer, as the seat or what was read shows it
+abbrev pub IsShown : Ended → ℕ → List ℕ → Place → Type 0
+IsShown ended.PeerEnd id heard k = ⊤
+IsShown ended.Dropped id heard k = IsEnd ended.Dropped id k
+IsShown (ended.BadRequest fault) id heard k = MeetsFault heard fault
+IsShown ended.LinkFault id heard k = ⊤
+IsShown ended.HistoryFull id heard k = IsEnd ended.HistoryFull id k
+IsShown ended.NoMemory id heard k = ⊤
+IsShown ended.Worn id heard k = IsEnd ended.Worn id k
+
+-- what the service of an admitted connection did, up to its end: the Runs are the first requests
+-- in what was read, in order, and what was written are the first bytes that its Takes gave; where
+-- the end was read, they are all
+pub record Works (clock : Option ℕ) (cause : Ended) (id requests : ℕ)
+    (left0 left1 link0 link1 : Option (List ℕ)) (old new : Place) : Type 0 where
+  pub turns : List Turn
+  pub grows : Grows old new turns
+  pub work : All (IsWork id clock) turns
+  pub counted : requests ≡ length (runs_in turns)
+  pub heard : List ℕ
+  pub read : Consumes left0 left1 heard
+  pub bytes : List ℕ
+  pub wrote : Appends link0 link1 bytes
+  pub runs : IsPrefix (runs_in turns) (requests_of heard)
+  pub front : IsPrefix bytes (gave (limits_of old) turns)
+  pub all_ran : IsWhole cause → runs_in turns ≡ requests_of heard
+  pub all_wrote : IsWhole cause → bytes ≡ gave (limits_of old) turns
+  pub all_taken : IsWhole cause
+      → All (IsTaken (limits_of old) id (taken (limits_of old) id (past_of new))) turns
+  pub shown : IsShown cause id heard new
+
+-- ---- the whole visit of a connection
+
+abbrev pub close_turns : ℕ → Option (List Entry) → List Turn
+close_turns id None = []
+close_turns id (Some past) = (entry.Close id, past) ∷ []
+
+-- a connection that was admitted: one Admit, its work, and at most one Close
+pub record Served (clock : Option ℕ) (r : Report) (left0 left1 link0 link1 : Option (List ℕ))
+    (old new : Place) : Type 0 where
+  pub first : Place
+  pub last : Place
+  pub admits : Admits r.id old first
+  pub works : Works clock r.ended r.id r.requests left0 left1 link0 link1 first last
+  pub closes : Closes r.id last new
+
+-- a connection that was not admitted
+pub record NotServed (r : Report) (left0 left1 link0 link1 : Option (List ℕ)) (old new : Place)
+    : Type 0 where
+  pub id : r.id ≡ 0
+  pub none : r.requests ≡ 0
+  pub refusal : Refusal
+  pub ended : r.ended ≡ ended_by refusal
+  pub refuses : Refuses refusal 0 old new × IsAdmissionCause refusal
+  pub unread : left1 ≡ left0
+  pub unwritten : link1 ≡ link0
+
+abbrev pub Visits : Option ℕ → Report → Option (List ℕ) → Option (List ℕ) → Option (List ℕ)
+    → Option (List ℕ) → Place → Place → Type 0
+Visits clock r left0 left1 link0 link1 old new =
+    NotServed r left0 left1 link0 link1 old new ⊎ Served clock r left0 left1 link0 link1 old new

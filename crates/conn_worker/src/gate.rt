@@ -1,0 +1,22 @@
+//! Who is told of a connection's requests as they run.
+use resp_value::Words;
+
+/// Is told of each request before it runs, and once its reply was written. It has no part in the
+/// answers; a test may hold a request by it.
+pub trait Gate {
+    /// The connection's next request runs once this returns.
+    fn before(&self, id: u64, words: &Words);
+
+    /// The replies to the connection's first so many requests were written.
+    fn after(&self, id: u64, requests: u64);
+}
+
+/// A gate that lets every request through.
+#[derive(Clone, Copy, Debug, Drop)]
+pub struct OpenGate;
+
+impl Gate for OpenGate {
+    fn before(&self, _id: u64, _words: &Words) {}
+
+    fn after(&self, _id: u64, _requests: u64) {}
+}

@@ -1,0 +1,45 @@
+//! What became of a connection.
+ghost use Rattle.std.specs.Prelude.{◌≡◌};
+ghost use Rattle.conn_worker.specs.Visits.{ended_by};
+
+use resp_stream::StreamFault;
+use shared_book::Refusal;
+
+/// Why a connection is served no longer.
+#[derive(Clone, Copy, Debug, Drop, PartialEq, Eq)]
+pub enum Ended {
+    /// The link gave its end.
+    PeerEnd,
+    /// The connection had ended already.
+    Dropped,
+    /// The bytes that were read have this fault.
+    BadRequest(StreamFault),
+    /// The link failed.
+    LinkFault,
+    /// The history was full.
+    HistoryFull,
+    NoMemory,
+    /// No ticket of the lock was left.
+    Worn,
+}
+
+/// One connection that was served. Its id is 0 where it was not admitted.
+#[derive(Clone, Copy, Debug, Drop, PartialEq, Eq)]
+pub struct Report {
+    pub id: u64,
+    /// How many of its requests ran.
+    pub requests: u64,
+    pub ended: Ended,
+}
+
+/// The end of a connection whose turn was not taken.
+pub fn ended_by(refusal: Refusal) -> Ended
+    ensures { result ≡ ended_by refusal }
+{
+    match refusal {
+        Refusal::Dropped => Ended::Dropped,
+        Refusal::HistoryFull => Ended::HistoryFull,
+        Refusal::NoMemory => Ended::NoMemory,
+        Refusal::Worn => Ended::Worn,
+    }
+}
