@@ -56,14 +56,28 @@ impl OutQueue {
         self.bytes.add(message)
     }
 
+    /// The first bytes, at most so many.
+    pub fn front(&self, max: usize) -> Result<Octets, NoMemory>
+        ensures { IfOk result (λ bytes. bytes ≡ take max self.now) }
+    {
+        self.bytes.front(max)
+    }
+
+    /// Drops the first bytes, at most so many. It takes no memory.
+    pub fn advance(&mut self, max: usize)
+        ensures { self.new ≡ drop max self.old }
+    {
+        self.bytes.advance(max);
+    }
+
     /// Takes the first bytes, at most so many.
     pub fn take_bytes(&mut self, max: usize) -> Result<Octets, NoMemory>
         ensures taken { IfOk result (λ bytes. bytes ≡ take max self.old) }
         ensures left { OnOk result (self.new ≡ drop max self.old) }
         ensures err { OnErr result (self.new ≡ self.old) }
     {
-        let taken = self.bytes.front(max)?;
-        self.bytes.advance(max);
+        let taken = self.front(max)?;
+        self.advance(max);
         Ok(taken)
     }
 

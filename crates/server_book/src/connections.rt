@@ -9,7 +9,7 @@ ghost use Rattle.server_book.specs.Sendings.{AreIds, before_posts, modes_of, que
 ghost use Rattle.server_book.specs.Sendings.{message_post, end_post, with_sendings};
 
 use super::messages::invalidation;
-use byte_queue::ByteQueue;
+use out_queue::OutQueue;
 use resp_value::{NoMemory, Octets, Proto};
 use serial_model::{Mode, Post, Posted};
 use std::alloc::Global;
@@ -19,7 +19,7 @@ use std::marker::Model;
 #[derive(Drop)]
 pub struct Connection {
     /// The bytes that it was sent and has not taken.
-    pub queue: ByteQueue,
+    pub queue: OutQueue,
     pub ended: bool,
     /// What its own runs made of it.
     pub mode: Mode,
@@ -101,7 +101,7 @@ impl Connections {
         ensures err { OnErr result (self.new ≡ self.old) }
     {
         self.items.push(Connection {
-            queue: ByteQueue::new(alloc),
+            queue: OutQueue::new(alloc),
             ended: false,
             mode: Mode {
                 proto: Proto::Two,
@@ -133,7 +133,7 @@ impl Connections {
         requires { IsId self.now.items id }
         ensures { result ≡ length (connection_at self.now.items id).queue }
     {
-        self.items[(id - 1) as usize].queue.len()
+        self.items[(id - 1) as usize].queue.size() as usize
     }
 
     /// The first bytes that the connection has not taken, at most so many.
@@ -212,7 +212,8 @@ impl Connections {
         'posts: while let Some(post) = self.posts.pop() {
             let connection = &mut self.items[(post.id - 1) as usize];
             let size = size_of(post.what) as usize;
-            let left = connection.queue.len().saturating_sub(size);
+            let held = connection.queue.size() as usize;
+            let left = held.saturating_sub(size);
             connection.queue.keep(left);
         }
     }
