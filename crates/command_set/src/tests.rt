@@ -86,7 +86,39 @@ GETDEL m: -
 SET m 1 EX 1: m
 DEL m m: -
 SET m 1 EX 1: m
-FLUSHALL: -";
+FLUSHALL: -
+SET s 1 KEEPTTL: -
+SET s 1 KEEPTTL: -
+SET d 1 XX PX 1: -
+SET d 1 PX 1000: d
+SET s 1 EX 1: d s
+SET s 1 PX 999: s d
+SET s 1 EX 1: d s
+SET d 1 XX PX 1001: s d
+HSET h f 1: s d
+SET h 1 PX 999: h s d
+DEL h: s d
+HSET h f 1: s d
+SET h 1 EX 2: s d h
+DEL h: s d
+HSET h f 1: s d
+EXPIRE h 2: s d h
+SET h 1 KEEPTTL: s d h
+DEL h: s d
+HSET h f 1: s d
+EXPIRE h 2: s d h
+SET h 1 PX 1: h s d
+HSET i f 1: h s d
+EXPIRE i 2: h s d i
+SET i 1: h s d
+SET s 1 PX 9223372036854775807: h d s
+SET d 1 EX 9223372036854775: h d s
+SET h 1 PX 9223372036854775806: d h s
+SET s 1 PX 1: s d h
+RENAME s s: s d h
+RENAME s h: h d
+RENAME i d: h
+FLUSHDB: -";
 
 #[test]
 fn the_deadlines_follow_each_command(rt: HostRuntime) -> Result<(), Fail> {
@@ -141,7 +173,8 @@ fn keys_go_after_their_deadlines(rt: HostRuntime) -> Result<(), Fail> {
     }
     expires(&rt, a, &mut database, 4, "-")?;
     expires(&rt, a, &mut database, 6, "z a b")?;
-    finds_due(&rt, a, &mut database, "SET c 2", "c")?;
+    finds_due(&rt, a, &mut database, "SET c 2 KEEPTTL", "c")?;
+    finds_due(&rt, a, &mut database, "SET d 2 KEEPTTL", "-")?;
     expires(&rt, a, &mut database, u64::MAX, "d")?;
     Ok(())
 }

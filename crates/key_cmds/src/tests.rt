@@ -15,10 +15,11 @@ fn words_of(alloc: Global, line: &str) -> Result<Words, NoMemory> {
     Ok(words)
 }
 
-/// A string, a hash, and a string with a deadline at 2000: the moment of the tests is 1000.
-fn three_keys(alloc: Global) -> Result<Keyspace, NoMemory> {
+/// Strings with no deadline, one to come, one now and one past, and two hashes: the moment of the
+/// tests is 1000.
+fn six_keys(alloc: Global) -> Result<Keyspace, NoMemory> {
     let mut space = Keyspace::new(alloc);
-    for name in [b"s", b"d"] {
+    for name in [b"s", b"d", b"n", b"p"] {
         let content = Content::Text(Octets::from_slice(alloc, b"1")?);
         let held = Held {
             content,
@@ -27,11 +28,15 @@ fn three_keys(alloc: Global) -> Result<Keyspace, NoMemory> {
         space.put(name.as_slice(), held)?;
     }
     space.set_deadline(b"d", Some(2000));
-    let held = Held {
-        content: Content::Fields(Fields::new(alloc)),
-        deadline: None,
-    };
-    space.put(b"h", held)?;
+    space.set_deadline(b"n", Some(1000));
+    space.set_deadline(b"p", Some(999));
+    for name in [b"h", b"i"] {
+        let held = Held {
+            content: Content::Fields(Fields::new(alloc)),
+            deadline: None,
+        };
+        space.put(name.as_slice(), held)?;
+    }
     Ok(space)
 }
 
@@ -91,7 +96,7 @@ fn row_holds(alloc: Global, space: &mut Keyspace, row: &str) -> Result<bool, NoM
 
 /// Whether each row of a table holds, where they run one after another.
 fn holds(alloc: Global, table: &str) -> Result<bool, NoMemory> {
-    let mut space = three_keys(alloc)?;
+    let mut space = six_keys(alloc)?;
     for row in table.lines() {
         if !row_holds(alloc, &mut space, row)? {
             return Ok(false);
@@ -101,15 +106,30 @@ fn holds(alloc: Global, table: &str) -> Result<bool, NoMemory> {
 }
 
 const KEYS: &str = "\
-DBSIZE: :3
+DBSIZE: :6
 TYPE s: +string
+TYPE d: +string
+TYPE n: +string
+TYPE p: +string
 TYPE h: +hash
 TYPE none: +none
+EXISTS none: :0
 EXISTS s h none s: :3
+EXISTS d n p: :3
 DEL none: :0
 DEL s none s h: :2 s h
 EXISTS s h d: :1
-DBSIZE: :1";
+TYPE h: +none
+PEXPIRE i 5: :1 i
+TYPE i: +hash
+EXISTS i: :1
+DBSIZE: :4
+DEL n d none d i: :3 n d i
+DBSIZE: :1
+FLUSHDB SYNC: +OK all
+EXISTS p: :0
+DBSIZE: :0
+FLUSHALL: +OK all";
 
 #[test]
 fn keys_are_counted_and_removed_once(rt: HostRuntime) -> Result<(), Fail> {
@@ -119,16 +139,35 @@ fn keys_are_counted_and_removed_once(rt: HostRuntime) -> Result<(), Fail> {
 
 const MOVES: &str = "\
 RENAME none s: -ERR no such key
+RENAME none d: -ERR no such key
+RENAME none none: -ERR no such key
 RENAME s s: +OK
+PTTL s: :-1
 RENAME d d: +OK
 PTTL d: :1000
+RENAME h h: +OK
+TYPE h: +hash
 RENAME s d: +OK s d
 PTTL d: :-1
 PEXPIRE d 70: :1 d
 RENAME d h: +OK d h
 PTTL h: :70
 TYPE h: +string
-EXISTS s d h: :1
+RENAME i h: +OK i h
+TYPE h: +hash
+PTTL h: :-1
+PEXPIRE h 9: :1 h
+RENAME h h: +OK
+PTTL h: :9
+RENAME h new: +OK h new
+TYPE new: +hash
+PTTL new: :9
+RENAME n new: +OK n new
+TYPE new: +string
+PTTL new: :0
+RENAME new p: +OK new p
+PTTL p: :0
+EXISTS s d h i n new p: :1
 FLUSHALL ASYNC: +OK all
 FLUSHDB: +OK all
 DBSIZE: :0";
@@ -143,14 +182,33 @@ const DEADLINES: &str = "\
 TTL none: :-2
 PTTL none: :-2
 TTL s: :-1
+PTTL s: :-1
+TTL h: :-1
+PTTL h: :-1
 TTL d: :1
+PTTL d: :1000
+TTL n: :0
+PTTL n: :0
+TTL p: :0
+PTTL p: :0
 EXPIRE none 5: :0
+PEXPIRE none 5: :0
+EXPIREAT none 5: :0
+PEXPIREAT none 5000: :0
+EXPIRE none 0: :0
+PEXPIREAT none 1000: :0
 EXPIRE s 5: :1 s
 PTTL s: :5000
+PEXPIRE s 499: :1 s
+TTL s: :0
+PEXPIRE s 500: :1 s
+TTL s: :1
 PEXPIRE s 1499: :1 s
 TTL s: :1
 PEXPIRE s 1500: :1 s
 TTL s: :2
+EXPIREAT s 3: :1 s
+PTTL s: :2000
 PEXPIREAT s 1001: :1 s
 PTTL s: :1
 TTL s: :0
@@ -158,13 +216,28 @@ PEXPIREAT s 1000: :1 s
 EXISTS s: :0
 EXPIREAT h 2: :1 h
 PTTL h: :1000
+EXPIRE h 3: :1 h
+TTL h: :3
+PEXPIRE h 4: :1 h
+PTTL h: :4
+PEXPIREAT h 2500: :1 h
+TTL h: :2
 PERSIST h: :1 h
 PERSIST h: :0
 PERSIST none: :0
 PTTL h: :-1
 EXPIREAT h 1: :1 h
+PERSIST d: :1 d
+PERSIST d: :0
+PERSIST n: :1 n
+PTTL n: :-1
+PERSIST p: :1 p
+PTTL p: :-1
 PEXPIRE d 0: :1 d
 PEXPIRE d -9223372036854775808: :0
+EXPIRE i 0: :1 i
+PEXPIREAT n 999: :1 n
+EXPIREAT p 0: :1 p
 DBSIZE: :0";
 
 #[test]
@@ -174,15 +247,33 @@ fn a_deadline_that_is_past_at_once_removes_the_key(rt: HostRuntime) -> Result<()
 }
 
 const ENDS: &str = "\
+EXPIRE s 1: :1 s
+PTTL s: :1000
+PEXPIRE s 1: :1 s
+PTTL s: :1
 PEXPIRE s 9223372036854775807: :1 s
 PTTL s: :9223372036854775807
 TTL s: :9223372036854776
 EXPIRE s 9223372036854775: :1 s
 PTTL s: :9223372036854775000
+TTL s: :9223372036854775
+EXPIREAT s 9223372036854775: :1 s
+PTTL s: :9223372036854774000
 PEXPIREAT s 9223372036854775807: :1 s
 PTTL s: :9223372036854774807
-PEXPIREAT s -9223372036854775808: :1 s
-EXISTS s: :0";
+RENAME s d: +OK s d
+PTTL d: :9223372036854774807
+PERSIST d: :1 d
+PTTL d: :-1
+PEXPIRE h 9223372036854775807: :1 h
+PTTL h: :9223372036854775807
+EXISTS d h: :2
+PEXPIREAT d -9223372036854775808: :1 d
+PEXPIRE h -9223372036854775808: :1 h
+EXPIREAT i -9223372036854775: :1 i
+EXPIRE n -9223372036854775: :1 n
+PEXPIRE p -1: :1 p
+DBSIZE: :0";
 
 #[test]
 fn deadlines_reach_both_ends_of_the_range(rt: HostRuntime) -> Result<(), Fail> {
