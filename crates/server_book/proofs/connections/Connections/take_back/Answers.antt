@@ -35,8 +35,12 @@ posts-preserved c =
       omega (arith, c.posts.invariant.1, c.in-Some.ensures.capacity),
       ap (before_posts left) (unqueued_is items post at c.keep.new.self c.saturating_sub-left.result
           there
-          (omega (arith, c.saturating_sub-left.ensures, c.size-held.ensures,
-          c.size_of-size.ensures))
+          (omega (
+            arith,
+            c.saturating_sub-left.ensures,
+            c.size-held.ensures,
+            c.size_of-size.ensures,
+          ))
           c.keep.ensures)
           ∙ sym (before_last left post items)
           ∙ ap (λ ps. before_posts ps items) (sym c.in-Some.ensures.items)
