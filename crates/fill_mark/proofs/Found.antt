@@ -2,7 +2,9 @@
 use Rattle.std.proofs.Common.{◌≡◌, ◌==◌, ◌+◌, ◌<◌, ◌++◌, ℕ, zero, suc, List, [], ◌∷◌, length, take}
 use Rattle.std.proofs.Common.{drop, get_or, Bool, true, false, cond, not, Some, None, sym}
 use Rattle.std.proofs.Common.{ap, ◌∙◌, refl, eq-eqb}
+use Rattle.std.proofs.Common.{Bor, Option}
 use Rattle.std.specs.List.{filter, slice_get}
+use Rattle.std.specs.Option.{option_copied, IfNone}
 use Rattle.std.proofs.lemmas.List.{at_drop_more}
 use Rattle.fill_mark.specs.declared.marks.Mark.{Mark}
 use Rattle.fill_mark.specs.Marks.{query_marked, without_number}
@@ -27,6 +29,11 @@ none_goes n (m ∷ marks) h =
       | true ↦ λ e. cc
       | false ↦ λ e. ap (λ l. m ∷ l) (none_goes n marks e)
     ] h
+
+pub none_found : (n : ℕ) (marks : List Mark) (r : Option (Bor (List (List ℕ))))
+    → option_copied r ≡ query_marked n marks → IfNone r (marks ≡ without_number n marks)
+none_found n marks None e = none_goes n marks (sym e)
+none_found n marks (Some q) e = tt
 
 -- what does not pass a filter may be removed before it
 pub removed : {X : Type 0} → (p : X → Bool) (xs : List X) (i : ℕ) (x : X) → slice_get xs i ≡ Some x

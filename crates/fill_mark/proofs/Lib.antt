@@ -1,1 +1,5 @@
 mod Found
+mod Amongst
+mod Numbers
+mod Keyed
+mod Indexed

@@ -1,9 +1,9 @@
 //! The marks, the oldest first.
-ghost use Rattle.std.specs.Prelude.{◌≡◌, ◌==◌, ◌++◌, ◌∷◌, [], OnOk, OnErr, IfNone, MatchOption};
-ghost use Rattle.std.specs.Prelude.{option_copied};
-ghost use Rattle.fill_mark.specs.Marks.{with_mark, IsMarkAt, query_marked, without_key};
-ghost use Rattle.fill_mark.specs.Marks.{without_number};
+ghost use Rattle.std.specs.Prelude.{◌≡◌, [], OnOk, OnErr, IfNone, option_copied};
+ghost use Rattle.fill_mark.specs.Marks.{with_mark, query_marked, without_key, without_number};
 
+use super::mark_list::MarkList;
+use super::mark_table::MarkTable;
 use command_words::Query;
 use resp_value::NoMemory;
 use std::alloc::Global;
@@ -17,31 +17,23 @@ pub struct Mark {
 }
 
 /// The fetches that may fill the cache, the oldest first.
+///
+/// Marks whose numbers ascend are found by number and by key however many there are. From a number
+/// that is not above all others on, until those from there have gone, each mark is looked at.
 #[derive(Debug, Drop)]
 pub struct Marks {
-    items: Vec<Mark>,
+    table: MarkTable,
+    // the newer ones
+    rest: MarkList,
 }
 
 impl Model for Marks {
-    ghost use Rattle.std.specs.Prelude.{List};
+    ghost use Rattle.std.specs.Prelude.{List, ◌++◌};
     ghost use Rattle.fill_mark.specs.declared.marks.Mark.{Mark};
 
     ghost Value = { List Mark };
 
-    ghost view = { λ m. m.items.items };
-}
-
-// Where the mark of that number is. Each is looked at.
-fn place_of(marks: &[Mark], number: u64) -> Option<usize>
-    ensures { MatchOption result (query_marked number marks.now ≡ None)
-        (IsMarkAt number marks.now) }
-{
-    for (place, mark) in marks.iter().enumerate() {
-        if mark.number == number {
-            return Some(place);
-        }
-    }
-    None
+    ghost view = { λ m. m.table ++ m.rest };
 }
 
 impl Marks {
@@ -50,7 +42,8 @@ impl Marks {
         ensures { result ≡ [] }
     {
         Marks {
-            items: Vec::new(alloc),
+            table: MarkTable::new(alloc),
+            rest: MarkList::new(alloc),
         }
     }
 
@@ -59,9 +52,13 @@ impl Marks {
         ensures ok { OnOk result (self.new ≡ with_mark number query self.old) }
         ensures err { OnErr result (self.new ≡ self.old) }
     {
-        self.items.reserve(1)?;
-        self.items.retain(|mark| !mark.query.is_same(&query));
-        self.items.push_reserved(Mark { number, query });
+        if self.rest.is_empty() && self.table.are_below(number) {
+            self.table.begin(number, query)?;
+            return Ok(());
+        }
+        let marked = query.copy()?;
+        self.rest.begin(number, query)?;
+        self.table.void_query(&marked);
         Ok(())
     }
 
@@ -69,14 +66,16 @@ impl Marks {
     pub fn void_key(&mut self, key: &[u8])
         ensures { self.new ≡ without_key key.now self.old }
     {
-        self.items.retain(|mark| mark.query.key() != key);
+        self.table.void_key(key);
+        self.rest.void_key(key);
     }
 
     /// All marks go.
     pub fn void_all(&mut self)
         ensures { self.new ≡ [] }
     {
-        self.items.clear();
+        self.table.clear();
+        self.rest.clear();
     }
 
     /// The query of that number, where it is marked.
@@ -84,8 +83,10 @@ impl Marks {
         ensures query { option_copied result ≡ query_marked number self.now }
         ensures none { IfNone result (self.now ≡ without_number number self.now) }
     {
-        let place = place_of(&self.items, number)?;
-        Some(&self.items[place].query)
+        match self.table.query_of(number) {
+            Some(query) => Some(query),
+            None => self.rest.query_of(number),
+        }
     }
 
     /// The query of that number, exactly where it is marked; the mark goes.
@@ -93,9 +94,7 @@ impl Marks {
         ensures query { result ≡ query_marked number self.old }
         ensures rest { self.new ≡ without_number number self.old }
     {
-        let place = place_of(&self.items, number)?;
-        let mark = self.items.remove(place);
-        self.items.retain(|mark| mark.number != number);
-        Some(mark.query)
+        let newer = self.rest.settle(number);
+        self.table.settle(number).or(newer)
     }
 }

@@ -32,3 +32,19 @@ fn a_mark_is_there_until_it_is_settled_or_voided(rt: HostRuntime) -> Result<(), 
     assert!(rt; marks.settle(6).is_none());
     Ok(())
 }
+
+#[test]
+fn numbers_may_come_in_any_order(rt: HostRuntime) -> Result<(), Fail> {
+    let alloc = rt.alloc();
+    let mut marks = Marks::new(alloc);
+    marks.begin(8, get(alloc, b"a".as_slice())?)?;
+    marks.begin(7, get(alloc, b"b".as_slice())?)?;
+    marks.begin(9, get(alloc, b"b".as_slice())?)?;
+    assert!(rt; marks.query_of(7).is_none(), "a later fetch ends the older");
+    let query = marks.settle(9).ok_or("9 is marked")?;
+    assert_eq!(rt; query.key(), b"b".as_slice());
+    marks.begin(10, get(alloc, b"a".as_slice())?)?;
+    assert!(rt; marks.query_of(8).is_none());
+    assert!(rt; marks.settle(10).is_some());
+    Ok(())
+}

@@ -126,6 +126,8 @@ EXISTS i: :1
 DBSIZE: :4
 DEL n d none d i: :3 n d i
 DBSIZE: :1
+DEL p p: :1 p
+DBSIZE: :0
 FLUSHDB SYNC: +OK all
 EXISTS p: :0
 DBSIZE: :0
@@ -235,7 +237,7 @@ PERSIST p: :1 p
 PTTL p: :-1
 PEXPIRE d 0: :1 d
 PEXPIRE d -9223372036854775808: :0
-EXPIRE i 0: :1 i
+PEXPIREAT i 1000: :1 i
 PEXPIREAT n 999: :1 n
 EXPIREAT p 0: :1 p
 DBSIZE: :0";
@@ -243,6 +245,23 @@ DBSIZE: :0";
 #[test]
 fn a_deadline_that_is_past_at_once_removes_the_key(rt: HostRuntime) -> Result<(), Fail> {
     assert!(rt; holds(rt.alloc(), DEADLINES)?);
+    Ok(())
+}
+
+const DUE: &str = "\
+EXPIRE n 5: :1 n
+PTTL n: :5000
+PEXPIRE p 5: :1 p
+PTTL p: :5
+PEXPIREAT h 999: :1 h
+EXPIRE i 0: :1 i
+EXISTS h i: :0
+FLUSHALL: +OK all
+DBSIZE: :0";
+
+#[test]
+fn a_due_key_takes_a_later_deadline(rt: HostRuntime) -> Result<(), Fail> {
+    assert!(rt; holds(rt.alloc(), DUE)?);
     Ok(())
 }
 

@@ -139,6 +139,8 @@ DECR h: -WRONGTYPE Operation against a key holding the wrong kind of value |
 INCRBY h 2: -WRONGTYPE Operation against a key holding the wrong kind of value |
 DECRBY h 2: -WRONGTYPE Operation against a key holding the wrong kind of value |
 SETNX h x: :0 |
+SET h x EX 5 NX: _ |
+SET none x PX 5 XX: _ |
 MGET h: *1 _ |
 DECRBY h -9223372036854775808: -ERR increment or decrement would overflow |
 SET h x: +OK | h";
@@ -170,12 +172,15 @@ fn a_hash_is_of_the_wrong_type(rt: HostRuntime) -> Result<(), Fail> {
 fn set_leaves_the_deadline_of_its_option(rt: HostRuntime) -> Result<(), Fail> {
     let a = rt.alloc();
     let mut space = Keyspace::new(a);
+    put_hash(a, &mut space, b"d")?;
     for (row, deadline) in [
         ("SET d 1 EX 10: +OK | d", Some(11000)),
         ("SET d 2 KEEPTTL: +OK | d", Some(11000)),
         ("APPEND d 3: :2 | d", Some(11000)),
         ("INCR d: :24 | d", Some(11000)),
         ("SET d 5 PX 7: +OK | d", Some(1007)),
+        ("SET d 6 EX 9 NX: _ |", Some(1007)),
+        ("SET d 6 PX 9 XX: +OK | d", Some(1009)),
         ("SET d 6: +OK | d", None),
     ] {
         assert_eq!(rt; wrong_row(a, &mut space, row)?, None);

@@ -1,33 +1,30 @@
-use Rattle.std.proofs.Common.{arith, ap, sym, ◌∙◌, Some}
-use Rattle.std.specs.List.{slice_get}
-use Rattle.std.proofs.lemmas.Option.{slice_get_within, get_or_from_slice_get}
-use Rattle.fill_mark.specs.declared.marks.Mark.{Mark}
+use Rattle.std.proofs.Common.{ap, ◌∙◌, sym}
+use Rattle.std.specs.Option.{option_or}
 use Rattle.fill_mark.specs.Marks.{query_marked}
-use Rattle.fill_mark.proofs.Found.{none_goes}
+use Rattle.fill_mark.proofs.Amongst.{marked_or}
+use Rattle.fill_mark.proofs.Found.{none_found}
 use Rattle.fill_mark.proofs.marks.Marks.query_of.Goals as goal
 
-pub returns-in_err-place-clause-none : goal.returns-in_err-place-clause-none
-returns-in_err-place-clause-none c =
-    rw c.from_residual.ensures
-    (none_goes _ _
-    (ap (query_marked c.args.number) (sym (c.deref.ensures.value ∙ c.self.view_is))
-    ∙ c.in_err-place.ensures))
+pub returns-in-Some-clause-query : goal.returns-in-Some-clause-query
+returns-in-Some-clause-query c =
+    let rest = c.self.inside.rest in
+    ap (λ o. option_or o (query_marked c.args.number rest)) c.in-Some.ensures
+    ∙ sym (marked_or c.args.number c.self.inside.table rest)
+    ∙ ap (query_marked c.args.number) c.self.view_is
 
-pub index-requires : goal.index-requires
-index-requires c =
-    omega (
-      arith,
-      slice_get_within c.deref.result.now c.in_ok-place.place c.in_ok-place.ensures.mark
-          c.in_ok-place.ensures.at,
-      c.deref.ensures.len,
-    )
+pub returns-in-None-clause-query : goal.returns-in-None-clause-query
+returns-in-None-clause-query c =
+    let rest = c.self.inside.rest in
+    c.query_of-in-None.ensures.query
+    ∙ ap (λ o. option_or o (query_marked c.args.number rest)) c.in-None.ensures
+    ∙ sym (marked_or c.args.number c.self.inside.table rest)
+    ∙ ap (query_marked c.args.number) c.self.view_is
 
-pub returns-clause-query : goal.returns-clause-query
-returns-clause-query c =
-    let found = c.in_ok-place.ensures in
-    ap (λ (m : Mark). Some m.query)
-    (c.index.ensures
-    ∙ get_or_from_slice_get c.self.inside.items.items c.in_ok-place.place found.mark
-    c.index.result.now
-    (ap (λ l. slice_get l c.in_ok-place.place) (sym c.deref.ensures.value) ∙ found.at))
-    ∙ sym found.query_is ∙ ap (query_marked c.args.number) (c.deref.ensures.value ∙ c.self.view_is)
+pub returns-in-None-clause-none : goal.returns-in-None-clause-none
+returns-in-None-clause-none c =
+    let rest = c.self.inside.rest in
+    none_found c.args.number c.args.self.now c.query_of-in-None.result
+    (c.query_of-in-None.ensures.query
+    ∙ ap (λ o. option_or o (query_marked c.args.number rest)) c.in-None.ensures
+    ∙ sym (marked_or c.args.number c.self.inside.table rest)
+    ∙ ap (query_marked c.args.number) c.self.view_is)

@@ -2,7 +2,7 @@ use Rattle.std.proofs.Common.{sym, ◌∙◌, eq-eqb}
 use Rattle.std.proofs.lemmas.Option.{slice_get_read}
 use Rattle.std.proofs.Common.{refl}
 use Rattle.fill_mark.proofs.Found.{found}
-use Rattle.fill_mark.proofs.marks.place_of.Goals as goal
+use Rattle.fill_mark.proofs.mark_list.place_of.Goals as goal
 
 pub returns-then-mark-number : goal.returns-then-mark-number
 returns-then-mark-number c =

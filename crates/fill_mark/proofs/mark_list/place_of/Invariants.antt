@@ -1,6 +1,6 @@
 use Rattle.std.proofs.Common.{◌≡◌, drop}
 use Rattle.fill_mark.specs.Marks.{query_marked}
-use Rattle.fill_mark.proofs.marks.place_of.Given as goal
+use Rattle.fill_mark.proofs.mark_list.place_of.Given as goal
 
 abbrev pub invariant-loop-place : goal.invariant-loop-place
 invariant-loop-place l =

@@ -1,7 +1,7 @@
 use Rattle.std.proofs.Common.{rules, ap, ◌∙◌, ◌++◌, ◌∷◌, []}
 use Rattle.std.proofs.lemmas.Fn.{filter_same}
 use Rattle.fill_mark.specs.Marks.{without_query}
-use Rattle.fill_mark.proofs.marks.Marks.begin.Goals as goal
+use Rattle.fill_mark.proofs.mark_list.MarkList.begin.Goals as goal
 
 pub returns-clause-ok : goal.returns-clause-ok
 returns-clause-ok c =
