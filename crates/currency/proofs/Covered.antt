@@ -15,12 +15,8 @@ use Rattle.command_words.specs.Control.{is_control, reads_as_control}
 use Rattle.command_words.specs.Queries.{key_of, reads_as_cacheable}
 use Rattle.command_words.specs.Effects.{answer}
 use Rattle.command_words.specs.declared.command.Command.{Command}
-use Rattle.command_words.specs.declared.command.Command.TheVariants.{Get, Set, Hello}
-use Rattle.command_words.specs.declared.command.Command.TheVariants.{ClientTracking}
+use Rattle.command_words.specs.declared.command.Command.TheVariants.{Hello, ClientTracking}
 use Rattle.command_words.specs.declared.command.WordFault.{WordFault}
-use Rattle.command_words.specs.declared.command.WordFault.TheVariants.{Syntax}
-use Rattle.command_words.specs.declared.command.SetWhen.TheVariants.{Always}
-use Rattle.command_words.specs.declared.command.SetLife.TheVariants.{Cleared}
 use Rattle.serial_model.specs.declared.mode.Mode.{Mode}
 use Rattle.serial_model.specs.declared.history.Limits.{Limits}
 use Rattle.serial_model.specs.declared.history.Entry.{Entry}
@@ -29,7 +25,7 @@ use Rattle.serial_model.specs.Modes.{own_effect, remembers_read}
 use Rattle.serial_model.specs.Tracking.{push_of}
 use Rattle.serial_model.specs.History.{Sending, Message, End, sent, runs_of, mode, made_of}
 use Rattle.serial_model.specs.History.{keyspace}
-use Rattle.serial_model.specs.History.{IsLegal, has_ended, served, served_reading, is_plain}
+use Rattle.serial_model.specs.History.{IsLegal, has_ended, served, served_reading}
 use Rattle.serial_model.specs.Laws.{is_told, is_due, signals_key, drops_key, stops_tracking}
 use Rattle.serial_model.specs.Laws.{is_forgets, ChangeIsSignalled}
 use Rattle.serial_model.proofs.Posts.{end_is_sent}
@@ -47,26 +43,23 @@ use Rattle.currency.proofs.Lists.{get_front, get_last}
 use Rattle.currency.proofs.Runs.{Older, older_tail, older_up_to}
 use Rattle.currency.proofs.Runs.{older_legal, older_within, runs_older, RanAt, ran_at}
 use Rattle.currency.proofs.Sent.{sent_older, sent_le, lands, Told, end_place}
-use Rattle.currency.proofs.Handshake.{asked, mode_by, is_no_control}
+use Rattle.currency.proofs.Handshake.{asked, mode_by, is_no_control, served_no_control}
 use Rattle.currency.proofs.Gots.{got_at, got_no_end}
 use Rattle.currency.proofs.Since.{got_since}
 use Rattle.currency.proofs.Voids.{voids}
 
-served_remembers : (read : Result Command WordFault) (m : Mode) → reads_as_control read ≡ false
-    → is_forgets (own_effect (served read) m).memory ≡ false
-served_remembers (Ok (Hello word)) m h = absurd (let no : ⊥ = cc in no)
-served_remembers (Ok (ClientTracking options)) m h = absurd (let no : ⊥ = cc in no)
-served_remembers (Ok (Get key)) m h = refl
-served_remembers (Ok (Set key value when life)) m h =
-    elim (is_plain when life) as (λ b. is_forgets (own_effect (cond b (Ok (Set key value Always
-    Cleared)) (Err Syntax)) m).memory ≡ false) [ true ↦ refl | false ↦ refl ]
-served_remembers (Ok _) m h = refl
-served_remembers (Err fault) m h = refl
+read_remembers : (read : Result Command WordFault) (m : Mode) → reads_as_control read ≡ false
+    → is_forgets (own_effect read m).memory ≡ false
+read_remembers (Ok (Hello word)) m h = absurd (let no : ⊥ = cc in no)
+read_remembers (Ok (ClientTracking options)) m h = absurd (let no : ⊥ = cc in no)
+read_remembers (Ok _) m h = refl
+read_remembers (Err fault) m h = refl
 
 remembers_all : (words : List (List ℕ)) (m : Mode) → is_control words ≡ false
     → is_forgets (made_of words m).memory ≡ false
 unfolding made_of is_control
-remembers_all words m h = served_remembers (reading words) m h
+remembers_all words m h =
+    read_remembers (served (reading words)) m (served_no_control (reading words) h)
 
 by_two : (n : ℕ) → 2 ≤ n → mode_by n ≡ record { proto = Three; tracking = true }
 unfolding mode_by

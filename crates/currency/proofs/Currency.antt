@@ -16,26 +16,20 @@ use Rattle.command_words.specs.Words.{reading}
 use Rattle.command_words.specs.Control.{is_control}
 use Rattle.command_words.specs.Queries.{key_of, reads_as_cacheable, writes}
 use Rattle.command_words.specs.Effects.{answer}
-use Rattle.command_words.specs.Laws.{SignalsAreWritten}
+use Rattle.command_words.specs.Laws.{SignalsAreWritten, signals}
 use Rattle.serial_model.specs.declared.mode.Mode.{Mode}
 use Rattle.serial_model.specs.declared.history.Limits.{Limits}
 use Rattle.serial_model.specs.declared.history.Entry.{Entry}
 use Rattle.serial_model.specs.declared.history.Entry.TheVariants.{Run}
 use Rattle.serial_model.specs.History.{Sending, Message, sent, runs_of, mode, made_of, keyspace}
 use Rattle.serial_model.specs.History.{ran}
-use Rattle.serial_model.specs.History.{IsLegal, served_reading, reply_of, reply_protocol, is_plain}
+use Rattle.serial_model.specs.History.{IsLegal, served_reading, reply_of, reply_protocol}
 use Rattle.serial_model.specs.History as history
-use Rattle.serial_model.specs.Modes.{is_served_tracking}
 use Rattle.command_words.specs.declared.command.Command.{Command}
-use Rattle.command_words.specs.declared.command.Command.TheVariants.{Get, Set, Hello}
-use Rattle.command_words.specs.declared.command.Command.TheVariants.{ClientTracking}
-use Rattle.command_words.specs.declared.command.TrackOptions.{TrackOptions}
 use Rattle.command_words.specs.declared.command.WordFault.{WordFault}
-use Rattle.command_words.specs.declared.command.WordFault.TheVariants.{Syntax}
-use Rattle.command_words.specs.declared.command.SetWhen.TheVariants.{Always}
-use Rattle.command_words.specs.declared.command.SetLife.TheVariants.{Cleared}
-use Rattle.serial_model.specs.Laws.{ChangeIsSignalled, signals_key, is_signalled}
+use Rattle.serial_model.specs.Laws.{ChangeIsSignalled, signals_key}
 use Rattle.serial_model.proofs.ReadLaws.{read_replies}
+use Rattle.serial_model.proofs.ServedRows.{served_is}
 use Rattle.shared_cache.specs.declared.log.Wire.{Wire}
 use Rattle.shared_cache.specs.declared.log.Wire.TheVariants.{Main, Side}
 use Rattle.shared_cache.specs.declared.log.LogEntry.{LogEntry}
@@ -48,7 +42,8 @@ use Rattle.shared_cache.specs.Laws.{gots, LegalLog, IsFetch, Every}
 use Rattle.shared_cache.proofs.FetchLaws.{open_wires, held_is_fetch, place_is_query}
 use Rattle.shared_cache.proofs.CommandLists.{replies_are_gots}
 use Rattle.shared_cache.proofs.CommandLaws.{no_later_write}
-use Rattle.currency.specs.Links.{Client, HasWire, Meet, run_of, run_entries, IsGot, AreGot}
+use Rattle.currency.specs.Links.{Client, HasWire, Meet, run_of, IsGot, AreGot}
+use Rattle.serial_model.specs.History.{run_entries}
 use Rattle.currency.specs.Points.{up_to, before_first, complete_on, complete_by, complete, replied}
 use Rattle.currency.specs.Current.{IsAnswer, IsCurrent, HasPoint, point, Currency}
 use Rattle.currency.proofs.Lists.{get_dropped, nothing_dropped, get_front}
@@ -364,8 +359,8 @@ module _ (l : Limits) (x : Client) (past : List Entry) (log : List LogEntry)
           → writes words (key_of h.query) ≡ false
           → signals_key l (Run id words moment) up (key_of h.query) ≡ false
       not_signalled id words moment up none =
-          elim (is_signalled (ran l up id words moment).signalled (key_of h.query)) as (λ b.
-          is_signalled (ran l up id words moment).signalled (key_of h.query) ≡ b → b ≡ false) [
+          elim (signals (ran l up id words moment).signalled (key_of h.query)) as (λ b.
+          signals (ran l up id words moment).signalled (key_of h.query) ≡ b → b ≡ false) [
             | true ↦ λ e.
                 absurd (both_ways (writes words (key_of h.query)) none
                 (ran_written written l up id words moment (key_of h.query) e))
@@ -451,27 +446,10 @@ module _ (l : Limits) (x : Client) (past : List Entry) (log : List LogEntry)
           record { fetched = at; ran = ran_there; answers = answers; after = after_any }
 
 -- a query that the server serves is a query
-not_tracking : (options : TrackOptions) (plain : Bool)
-    → reads_as_cacheable (cond plain (Ok (ClientTracking options)) (Err Syntax)) ≡ true → ⊥
-not_tracking options true h = cc
-not_tracking options false h = cc
-
-not_set : (key value : List ℕ) (plain : Bool)
-    → reads_as_cacheable (cond plain (Ok (Set key value Always Cleared)) (Err Syntax)) ≡ true → ⊥
-not_set key value true h = cc
-not_set key value false h = cc
-
 served_cacheable : (read : Result Command WordFault) → reads_as_cacheable (history.served read)
     ≡ true
     → reads_as_cacheable read ≡ true
-served_cacheable (Ok (Get key)) h = refl
-served_cacheable (Ok (Hello word)) h = absurd (let gone : ⊥ = cc in gone)
-served_cacheable (Ok (ClientTracking options)) h =
-    absurd (not_tracking options (is_served_tracking options) h)
-served_cacheable (Ok (Set key value when life)) h =
-    absurd (not_set key value (is_plain when life) h)
-served_cacheable (Ok _) h = absurd (let gone : ⊥ = cc in gone)
-served_cacheable (Err fault) h = absurd (let gone : ⊥ = cc in gone)
+served_cacheable read h = sym (ap reads_as_cacheable (served_is read h)) ∙ h
 
 every_held : {A : Type 0} (P Q : A → Type 0) (f : (y : A) → P y → Q y) (xs : List A) → Every P xs
     → Every Q xs

@@ -27,7 +27,8 @@ use Rattle.shared_cache.specs.declared.notices.Notice.TheVariants.{Keys, Malform
 use Rattle.shared_cache.specs.Notices.{push, invalidation, payload, kind_of, is_reply}
 use Rattle.shared_cache.specs.Notices.{all_blobs}
 use Rattle.currency.specs.Links.{IsGot, AreGot}
-use Rattle.currency.proofs.Replies.{is_push, is_reply_sent, reply_no_push}
+use Rattle.currency.proofs.PushReplies.{is_push}
+use Rattle.currency.proofs.Replies.{is_reply_sent, reply_no_push}
 
 -- ---- by places
 

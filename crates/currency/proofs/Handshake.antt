@@ -6,12 +6,9 @@ use Rattle.std.specs.Prelude.{slice_get, ◌==◌, Option}
 use Rattle.resp_value.specs.Lists.{IsPrefix}
 use Rattle.resp_value.specs.declared.value.Proto.TheVariants.{Three}
 use Rattle.command_words.specs.declared.command.Command.{Command}
-use Rattle.command_words.specs.declared.command.Command.TheVariants.{Get, Set, Hello}
-use Rattle.command_words.specs.declared.command.Command.TheVariants.{ClientTracking}
+use Rattle.command_words.specs.declared.command.Command.TheVariants.{Hello, ClientTracking}
 use Rattle.command_words.specs.declared.command.WordFault.{WordFault}
-use Rattle.command_words.specs.declared.command.WordFault.TheVariants.{Syntax}
-use Rattle.command_words.specs.declared.command.SetWhen.TheVariants.{Always}
-use Rattle.command_words.specs.declared.command.SetLife.TheVariants.{Cleared}
+use Rattle.command_words.specs.declared.command.WordFault.TheVariants.{Unknown}
 use Rattle.command_words.specs.Words.{reading}
 use Rattle.command_words.specs.StringWords.{string_reading}
 use Rattle.command_words.specs.HashWords.{hash_reading}
@@ -25,7 +22,7 @@ use Rattle.serial_model.specs.declared.history.Limits.{Limits}
 use Rattle.serial_model.specs.declared.history.Entry.{Entry}
 use Rattle.serial_model.specs.declared.history.Entry.TheVariants.{Admit, Run, Take, Close}
 use Rattle.serial_model.specs.Modes.{first_mode, own_effect}
-use Rattle.serial_model.specs.History.{mode, made_of, runs_of, served, is_plain}
+use Rattle.serial_model.specs.History.{mode, made_of, runs_of, served, is_served}
 use Rattle.shared_cache.specs.declared.log.Wire.TheVariants.{Main}
 use Rattle.shared_cache.specs.declared.log.LogEntry.{LogEntry}
 use Rattle.shared_cache.specs.declared.log.LogEntry.TheVariants.{Ask, Send, Poll, TakeOut, Got}
@@ -47,22 +44,27 @@ mode_by (suc (suc n)) = record { proto = Three; tracking = true }
 
 -- ---- commands behind the handshake
 
+-- words that read as no control command are served as none
+pub served_no_control : (read : Result Command WordFault) → reads_as_control read ≡ false
+    → reads_as_control (served read) ≡ false
+served_no_control (Ok command) h =
+    elim (is_served command) as (λ b. reads_as_control (cond b (Ok command) (Err Unknown)) ≡ false)
+    [ true ↦ h | false ↦ refl ]
+served_no_control (Err fault) h = refl
+
 -- a command that is no control command leaves its connection's mode
-served_same : (read : Result Command WordFault) (m : Mode) → reads_as_control read ≡ false
-    → (own_effect (served read) m).mode ≡ m
-served_same (Ok (Hello word)) m h = absurd (let no : ⊥ = cc in no)
-served_same (Ok (ClientTracking options)) m h = absurd (let no : ⊥ = cc in no)
-served_same (Ok (Get key)) m h = refl
-served_same (Ok (Set key value when life)) m h =
-    elim (is_plain when life) as (λ b. (own_effect (cond b (Ok (Set key value Always Cleared))
-    (Err Syntax)) m).mode ≡ m) [ true ↦ refl | false ↦ refl ]
-served_same (Ok _) m h = refl
-served_same (Err fault) m h = refl
+keeps_mode : (read : Result Command WordFault) (m : Mode) → reads_as_control read ≡ false
+    → (own_effect read m).mode ≡ m
+keeps_mode (Ok (Hello word)) m h = absurd (let no : ⊥ = cc in no)
+keeps_mode (Ok (ClientTracking options)) m h = absurd (let no : ⊥ = cc in no)
+keeps_mode (Ok _) m h = refl
+keeps_mode (Err fault) m h = refl
 
 pub made_same : (words : List (List ℕ)) (m : Mode) → is_control words ≡ false
     → (made_of words m).mode ≡ m
 unfolding made_of is_control
-made_same words m h = served_same (reading words) m h
+made_same words m h =
+    keeps_mode (served (reading words)) m (served_no_control (reading words) h)
 
 hello_made : (made_of (codes "HELLO" ∷ codes "3" ∷ []) first_mode).mode ≡ mode_by 1
 unfolding made_of reading string_reading hash_reading key_reading connection_reading mode_by

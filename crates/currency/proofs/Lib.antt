@@ -2,6 +2,7 @@ pub mod Lists
 pub mod Runs
 pub mod Sent
 pub mod Handshake
+pub mod PushReplies
 pub mod Replies
 pub mod Gots
 pub mod Since

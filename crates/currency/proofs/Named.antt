@@ -5,23 +5,18 @@ use Rattle.std.proofs.Common.{inl, inr, max, drop, Result, Ok, Err, subst}
 use Rattle.std.specs.Prelude.{slice_get}
 use Rattle.std.proofs.lemmas.Bool.{cases_lt}
 use Rattle.command_words.specs.declared.command.Command.{Command}
-use Rattle.command_words.specs.declared.command.Command.TheVariants.{Get, Set, Hello}
-use Rattle.command_words.specs.declared.command.Command.TheVariants.{ClientTracking}
-use Rattle.command_words.specs.declared.command.TrackOptions.{TrackOptions}
+use Rattle.command_words.specs.declared.command.Command.TheVariants.{Hello, ClientTracking}
 use Rattle.command_words.specs.declared.command.WordFault.{WordFault}
-use Rattle.command_words.specs.declared.command.WordFault.TheVariants.{Syntax}
-use Rattle.command_words.specs.declared.command.SetWhen.TheVariants.{Always}
-use Rattle.command_words.specs.declared.command.SetLife.TheVariants.{Cleared}
+use Rattle.command_words.specs.declared.command.WordFault.TheVariants.{Unknown}
 use Rattle.command_words.specs.Words.{reading}
 use Rattle.command_words.specs.Space.{Space}
 use Rattle.command_words.specs.Queries.{names, written_as, written_by, writes}
-use Rattle.command_words.specs.Laws.{SignalsAreWritten}
+use Rattle.command_words.specs.Laws.{SignalsAreWritten, signals}
 use Rattle.serial_model.specs.declared.mode.Runner.{Runner}
 use Rattle.serial_model.specs.declared.history.Limits.{Limits}
 use Rattle.serial_model.specs.declared.history.Entry.{Entry}
-use Rattle.serial_model.specs.Modes.{is_served_tracking}
-use Rattle.serial_model.specs.History.{served, is_plain, effect_of, ran, ran_over, runner, keyspace}
-use Rattle.serial_model.specs.Laws.{is_signalled}
+use Rattle.serial_model.specs.History.{served, is_served, effect_of, ran, ran_over, runner}
+use Rattle.serial_model.specs.History.{keyspace}
 use Rattle.shared_cache.specs.Laws.{Every}
 use Rattle.currency.specs.Points.{names_key, last_named}
 
@@ -96,39 +91,32 @@ every_at P (y ∷ xs) (suc i) x a e = every_at P xs i x a.1 e
 -- ---- signals
 
 module _ (law : SignalsAreWritten) where
-  set_written : (by : Runner) (words : List (List ℕ)) (key value : List ℕ) (plain : Bool)
+  read_written : (by : Runner) (words : List (List ℕ)) (read : Result Command WordFault)
       (space : Space) (m : ℕ) (k : List ℕ)
-      → is_signalled (effect_of by words (cond plain (Ok (Set key value Always Cleared))
-      (Err Syntax))
-      space m).signalled k ≡ true
-      → names (written_as (Ok (Set key value Always Cleared))) k ≡ true
-  set_written by words key value true space m k h = law (Set key value Always Cleared) space m k h
-  set_written by words key value false space m k h = absurd (let no : ⊥ = cc in no)
-
-  tracking_written : (by : Runner) (words : List (List ℕ)) (options : TrackOptions) (plain : Bool)
-      (space : Space) (m : ℕ) (k : List ℕ)
-      → is_signalled (effect_of by words (cond plain (Ok (ClientTracking options))
-      (Err Syntax)) space
-      m).signalled k ≡ true → ⊥
-  tracking_written by words options true space m k h = cc
-  tracking_written by words options false space m k h = cc
+      → signals (effect_of by words read space m).signalled k ≡ true
+      → names (written_as read) k ≡ true
+  read_written by words (Ok (Hello word)) space m k h = absurd (let no : ⊥ = cc in no)
+  read_written by words (Ok (ClientTracking options)) space m k h =
+      absurd (let no : ⊥ = cc in no)
+  read_written by words (Ok command) space m k h = law command space m k h
+  read_written by words (Err fault) space m k h = absurd (let no : ⊥ = cc in no)
 
   effect_written : (by : Runner) (words : List (List ℕ)) (read : Result Command WordFault)
       (space : Space) (m : ℕ) (k : List ℕ)
-      → is_signalled (effect_of by words (served read) space m).signalled k ≡ true
+      → signals (effect_of by words (served read) space m).signalled k ≡ true
       → names (written_as read) k ≡ true
-  effect_written by words (Ok (Hello word)) space m k h = absurd (let no : ⊥ = cc in no)
-  effect_written by words (Ok (ClientTracking options)) space m k h =
-      absurd (tracking_written by words options (is_served_tracking options) space m k h)
-  effect_written by words (Ok (Get key)) space m k h = law (Get key) space m k h
-  effect_written by words (Ok (Set key value when life)) space m k h =
-      set_written by words key value (is_plain when life) space m k h
-  effect_written by words (Ok _) space m k h = absurd (let no : ⊥ = cc in no)
+  effect_written by words (Ok command) space m k h =
+      elim (is_served command) as (λ b.
+      signals (effect_of by words (cond b (Ok command) (Err Unknown)) space m).signalled k ≡ true
+      → names (written_as (Ok command)) k ≡ true) [
+        | true ↦ λ e. read_written by words (Ok command) space m k e
+        | false ↦ λ e. absurd (let no : ⊥ = cc in no)
+      ] h
   effect_written by words (Err fault) space m k h = absurd (let no : ⊥ = cc in no)
 
   pub ran_written : (l : Limits) (past : List Entry) (id : ℕ) (words : List (List ℕ)) (m : ℕ)
       (k : List ℕ)
-      → is_signalled (ran l past id words m).signalled k ≡ true → writes words k ≡ true
+      → signals (ran l past id words m).signalled k ≡ true → writes words k ≡ true
   unfolding ran_over written_by
   ran_written l past id words m k h =
       effect_written (runner l past id) words (reading words) (keyspace l past) m k h

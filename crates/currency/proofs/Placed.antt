@@ -11,7 +11,7 @@ use Rattle.serial_model.specs.declared.history.Entry.{Entry}
 use Rattle.serial_model.specs.declared.history.Entry.TheVariants.{Admit, Run, Take, Close}
 use Rattle.serial_model.specs.History.{Sending, reply_of}
 use Rattle.shared_cache.specs.Log.{reply_in}
-use Rattle.currency.specs.Links.{run_entries}
+use Rattle.serial_model.specs.History.{run_entries}
 use Rattle.currency.proofs.Lists.{get_parts, get_one, get_last, get_front}
 use Rattle.currency.proofs.Runs.{Older, older_all}
 use Rattle.currency.proofs.Replies.{replies_of}

@@ -10,82 +10,41 @@ use Rattle.resp_value.specs.declared.value.Value.TheVariants.{Push}
 use Rattle.resp_value.specs.declared.value.Proto.{Proto}
 use Rattle.resp_value.specs.declared.value.Proto.TheVariants.{Two, Three}
 use Rattle.command_words.specs.declared.command.Command.{Command}
-use Rattle.command_words.specs.declared.command.Command.TheVariants.{Get, Set, Hello}
-use Rattle.command_words.specs.declared.command.Command.TheVariants.{ClientTracking}
 use Rattle.command_words.specs.declared.command.WordFault.{WordFault}
-use Rattle.command_words.specs.declared.command.WordFault.TheVariants.{Syntax}
-use Rattle.command_words.specs.declared.command.SetWhen.TheVariants.{Always}
-use Rattle.command_words.specs.declared.command.SetLife.TheVariants.{Cleared}
 use Rattle.command_words.specs.Words.{reading}
-use Rattle.command_words.specs.Space.{Space, Content, Text, Fields, content_at}
-use Rattle.command_words.specs.Effect.{blob_or_null, wrong_type}
-use Rattle.command_words.specs.Strings.{on_text}
-use Rattle.command_words.specs.declared.command.TrackOptions.{TrackOptions}
-use Rattle.command_words.specs.Effects.{effect, string_effect, read_reply}
+use Rattle.command_words.specs.Space.{Space}
+use Rattle.command_words.specs.Effect.{Effect}
 use Rattle.serial_model.specs.declared.mode.Mode.{Mode}
 use Rattle.serial_model.specs.declared.mode.Runner.{Runner}
 use Rattle.serial_model.specs.declared.history.Limits.{Limits}
 use Rattle.serial_model.specs.declared.history.Entry.{Entry}
 use Rattle.serial_model.specs.declared.history.Entry.TheVariants.{Admit, Run, Take, Close}
-use Rattle.serial_model.specs.Modes.{hello, hello_reply, is_served_tracking}
+use Rattle.serial_model.specs.Modes.{hello, hello_reply}
 use Rattle.serial_model.specs.Tracking.{Invalidation, push_of, drop_group}
 use Rattle.serial_model.specs.History.{Sending, Message, End, sends, sent_to, sent, modes, served}
 use Rattle.serial_model.specs.History.{by_proto, route, routed, expiry_group, own_group, drops}
-use Rattle.serial_model.specs.History.{reply_of, reply_protocol, ran, ran_over, effect_of, is_plain}
+use Rattle.serial_model.specs.History.{reply_of, reply_protocol, ran, ran_over, effect_of}
 use Rattle.serial_model.specs.History.{runner, keyspace}
 use Rattle.serial_model.proofs.Tables.{sent_to-append}
+use Rattle.serial_model.proofs.ServedRows.{served_cases, data_effect}
+use Rattle.currency.proofs.PushReplies.{is_push, no_push}
 
 -- ---- no reply is a push
-
-unfoldable pub is_push : Value → Bool
-is_push (Push ts) = true
-is_push v = false
 
 hello_no_push : (id : ℕ) (r : Result Proto (List ℕ)) → is_push (hello_reply id r) ≡ false
 unfolding is_push
 hello_no_push id (Ok proto) = refl
 hello_no_push id (Err text) = refl
 
-set_no_push : (by : Runner) (words : List (List ℕ)) (key value : List ℕ) (plain : Bool)
-    (space : Space) (m : ℕ)
-    → is_push (effect_of by words (cond plain (Ok (Set key value Always Cleared))
-    (Err Syntax)) space
-    m).reply ≡ false
-unfolding is_push effect string_effect
-set_no_push by words key value true space m = refl
-set_no_push by words key value false space m = refl
-
-tracking_no_push : (by : Runner) (words : List (List ℕ)) (options : TrackOptions) (plain : Bool)
-    (space : Space) (m : ℕ)
-    → is_push (effect_of by words (cond plain (Ok (ClientTracking options)) (Err Syntax)) space
-    m).reply ≡ false
-unfolding is_push
-tracking_no_push by words options true space m = refl
-tracking_no_push by words options false space m = refl
-
-text_no_push : (content : Option Content) → is_push (on_text wrong_type blob_or_null content)
-    ≡ false
-unfolding is_push
-text_no_push None = refl
-text_no_push (Some (Text text)) = refl
-text_no_push (Some (Fields fields)) = refl
-
-get_no_push : (by : Runner) (words : List (List ℕ)) (key : List ℕ) (space : Space) (m : ℕ)
-    → is_push (effect_of by words (Ok (Get key)) space m).reply ≡ false
-unfolding effect string_effect read_reply
-get_no_push by words key space m = text_no_push (content_at key space)
-
 effect_no_push : (by : Runner) (words : List (List ℕ)) (read : Result Command WordFault)
     (space : Space) (m : ℕ) → is_push (effect_of by words (served read) space m).reply ≡ false
 unfolding is_push
-effect_no_push by words (Ok (Hello word)) space m = hello_no_push by.id (hello word by.mode.proto)
-effect_no_push by words (Ok (ClientTracking options)) space m =
-    tracking_no_push by words options (is_served_tracking options) space m
-effect_no_push by words (Ok (Get key)) space m = get_no_push by words key space m
-effect_no_push by words (Ok (Set key value when life)) space m =
-    set_no_push by words key value (is_plain when life) space m
-effect_no_push by words (Ok _) space m = refl
-effect_no_push by words (Err fault) space m = refl
+effect_no_push by words read space m =
+    served_cases (λ r. is_push (effect_of by words r space m).reply ≡ false)
+    (λ word. hello_no_push by.id (hello word by.mode.proto)) (λ options. refl)
+    (λ c is. ap (λ (e : Effect). is_push e.reply) (data_effect by words c space m is)
+    ∙ (no_push c space m is).is)
+    (λ fault. refl) read
 
 pub reply_no_push : (l : Limits) (past : List Entry) (id : ℕ) (words : List (List ℕ)) (m : ℕ)
     → is_push (ran l past id words m).reply ≡ false

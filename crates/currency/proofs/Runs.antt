@@ -9,7 +9,7 @@ use Rattle.serial_model.specs.declared.history.Limits.{Limits}
 use Rattle.serial_model.specs.declared.history.Entry.{Entry}
 use Rattle.serial_model.specs.declared.history.Entry.TheVariants.{Admit, Run, Take, Close}
 use Rattle.serial_model.specs.History.{runs_of, IsLegal}
-use Rattle.currency.specs.Links.{run_entries}
+use Rattle.serial_model.specs.History.{run_entries}
 use Rattle.currency.specs.Points.{up_to}
 use Rattle.currency.proofs.Lists.{get_front, get_parts, get_one, get_last, Behind}
 

@@ -10,7 +10,7 @@ use Rattle.command_words.specs.Words.{reading}
 use Rattle.std.specs.Prelude.{Ok, Err, Result}
 use Rattle.serial_model.specs.declared.history.Limits.{Limits}
 use Rattle.serial_model.specs.declared.history.Entry.{Entry}
-use Rattle.serial_model.specs.History.{Sending, sent, runs_of}
+use Rattle.serial_model.specs.History.{Sending, sent, run_entries, runs_of}
 use Rattle.shared_cache.specs.declared.log.Wire.{Wire}
 use Rattle.shared_cache.specs.declared.log.Wire.TheVariants.{Main, Side}
 use Rattle.shared_cache.specs.declared.log.Shape.{Shape}
@@ -18,7 +18,7 @@ use Rattle.shared_cache.specs.declared.log.Shape.TheVariants.{Single, Pair}
 use Rattle.shared_cache.specs.declared.log.LogEntry.{LogEntry}
 use Rattle.shared_cache.specs.Log.{is_ended, replies}
 use Rattle.shared_cache.specs.Laws.{gots}
-use Rattle.currency.specs.Links.{Client, run_entries}
+use Rattle.currency.specs.Links.{Client}
 
 -- the past up to an entry of that number
 abbrev pub up_to : ℕ → List Entry → List Entry

@@ -2,10 +2,12 @@
 #![tactic(auto)]
 
 mod change;
+mod foresee;
 mod reads;
 mod run;
 mod writes;
 
+pub use foresee::foresee_hash;
 pub use run::{is_hash, run_hash};
 
 #[cfg(test)]

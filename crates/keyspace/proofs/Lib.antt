@@ -1,3 +1,4 @@
 pub mod PlainEntries
 pub mod Keyed
 pub mod Changes
+pub mod Counting

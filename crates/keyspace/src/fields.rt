@@ -105,6 +105,46 @@ impl Fields {
         Ok((self.table.len() - before) as u64)
     }
 
+    /// How many fields more there would be, were these set from left to right, given in turn with
+    /// their values. Nothing changes.
+    pub fn count_new(&self, words: &[Octets]) -> Result<u64, NoMemory>
+        ensures count { IfOk result
+            (λ n. n ≡ length (set_all (in_turn words.now) self.now) - length self.now) }
+        ensures small { IfOk result (λ n. n < 2 ^ 63) }
+    {
+        let alloc = *self.table.allocator();
+        let mut met = Fields::new(alloc);
+        let mut left = words;
+        'pairs: while let [field, _, others @ ..] = left {
+            if self.get(field.as_slice()).is_none() {
+                met.set(field.as_slice(), Octets::from_slice(alloc, b"")?)?;
+            }
+            left = others;
+        }
+        Ok(met.len())
+    }
+
+    /// How many of these fields are there, each counted once. Nothing changes.
+    pub fn count_there(&self, names: &[Octets]) -> Result<u64, NoMemory>
+        ensures count { IfOk result
+            (λ n. n + length (remove_all names.now self.now) ≡ length self.now) }
+        ensures small { IfOk result (λ n. n < 2 ^ 63) }
+    {
+        if self.table.len() == 0 {
+            return Ok(0);
+        }
+        let alloc = *self.table.allocator();
+        let mut met = Fields::new(alloc);
+        let mut left = names;
+        'names: while let [name, others @ ..] = left {
+            if self.get(name.as_slice()).is_some() {
+                met.set(name.as_slice(), Octets::from_slice(alloc, b"")?)?;
+            }
+            left = others;
+        }
+        Ok(met.len())
+    }
+
     /// Takes the field out, if it is there; the others keep their order. It moves the fields after
     /// that one.
     pub fn remove(&mut self, field: &[u8]) -> bool

@@ -1,4 +1,4 @@
-mod Crossing
+pub mod Crossing
 mod Plain
 mod Rows
 mod SentMessages

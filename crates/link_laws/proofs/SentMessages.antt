@@ -8,13 +8,9 @@ use Rattle.resp_value.specs.declared.value.Proto.TheVariants.{Two, Three}
 use Rattle.resp_value.specs.declared.value.Value.TheVariants.{Map}
 use Rattle.resp_value.specs.Tree.{blob}
 use Rattle.command_words.specs.declared.command.Command.{Command}
-use Rattle.command_words.specs.declared.command.Command.TheVariants.{Set, Hello}
-use Rattle.command_words.specs.declared.command.Command.TheVariants.{ClientTracking}
-use Rattle.command_words.specs.declared.command.SetWhen.TheVariants.{Always}
-use Rattle.command_words.specs.declared.command.SetLife.TheVariants.{Cleared}
-use Rattle.command_words.specs.declared.command.TrackOptions.{TrackOptions}
+use Rattle.command_words.specs.declared.command.Command.TheVariants.{Hello, ClientTracking}
 use Rattle.command_words.specs.declared.command.WordFault.{WordFault}
-use Rattle.command_words.specs.declared.command.WordFault.TheVariants.{Arity, Syntax}
+use Rattle.command_words.specs.declared.command.WordFault.TheVariants.{Arity, Unknown}
 use Rattle.command_words.specs.Integers.{integer_of}
 use Rattle.command_words.specs.Space.{Space}
 use Rattle.command_words.specs.Words.{reading}
@@ -23,10 +19,10 @@ use Rattle.serial_model.specs.declared.mode.Runner.{Runner}
 use Rattle.serial_model.specs.declared.history.Limits.{Limits}
 use Rattle.serial_model.specs.declared.history.Entry.{Entry}
 use Rattle.serial_model.specs.declared.history.Entry.TheVariants.{Admit, Run, Take, Close}
-use Rattle.serial_model.specs.Modes.{greeting, hello, hello_reply, is_served_tracking}
+use Rattle.serial_model.specs.Modes.{greeting, hello, hello_reply}
 use Rattle.serial_model.specs.Tracking.{Invalidation, push_of, drop_group}
-use Rattle.serial_model.specs.History.{Sending, served, served_reading, effect_of}
-use Rattle.serial_model.specs.History.{ran_over, ran, runner, keyspace, is_plain, modes, by_proto}
+use Rattle.serial_model.specs.History.{Sending, served, is_served, served_reading, effect_of}
+use Rattle.serial_model.specs.History.{ran_over, ran, runner, keyspace, modes, by_proto}
 use Rattle.serial_model.specs.History.{route, routed, expiry_group, own_group, drops, overgrown}
 use Rattle.serial_model.specs.History.{reply_protocol, reply_of, sends, sent_to, sent}
 use Rattle.resp_laws.specs.Fronts.{Every}
@@ -59,23 +55,13 @@ hello_good id (Some word) proto =
     word id
 
 -- a fault of counting words is one of reading them
-tracking_arity : (t : Bool) (o : TrackOptions)
-    → ◌≡◌ {A = Result Command WordFault} (cond t (Ok (ClientTracking o)) (Err Syntax)) (Err Arity)
-    → ⊥
-tracking_arity true o e = cc
-tracking_arity false o e = cc
-
-set_arity : (t : Bool) (key value : List ℕ)
-    → ◌≡◌ {A = Result Command WordFault} (cond t (Ok (Set key value Always Cleared)) (Err Syntax))
-    (Err Arity) → ⊥
-set_arity true key value e = cc
-set_arity false key value e = cc
+no_arity : (command : Command) (t : Bool)
+    → ◌≡◌ {A = Result Command WordFault} (cond t (Ok command) (Err Unknown)) (Err Arity) → ⊥
+no_arity command true e = cc
+no_arity command false e = cc
 
 served_arity : (r : Result Command WordFault) → served r ≡ Err Arity → r ≡ Err Arity
-served_arity (Ok (ClientTracking o)) e = absurd (tracking_arity (is_served_tracking o) o e)
-served_arity (Ok (Set key value when life)) e =
-    absurd (set_arity (is_plain when life) key value e)
-served_arity (Ok _) e = absurd (let none : ⊥ = cc in none)
+served_arity (Ok command) e = absurd (no_arity command (is_served command) e)
 served_arity (Err fault) e = e
 
 abbrev err : WordFault → Result Command WordFault

@@ -12,13 +12,14 @@ use Rattle.script_text.specs.declared.event.Event.{Event}
 use Rattle.script_text.specs.declared.line.Line.{Line}
 use Rattle.script_text.specs.Events.{longest_line}
 use Rattle.script_text.specs.Printed.{text_of}
-use Rattle.world_run.specs.declared.fault.WorldFault.{WorldFault}
-use Rattle.world_run.specs.declared.fault.WorldFault.TheVariants as fault
-use Rattle.world_run.specs.Faults.{IsRefusal}
+use Rattle.server_links.specs.declared.fault.WorldFault.{WorldFault}
+use Rattle.server_links.specs.declared.fault.WorldFault.TheVariants as fault
+use Rattle.server_links.specs.Faults.{IsRefusal}
 use Rattle.world_run.specs.WorldState.{WorldState, start}
 use Rattle.world_run.specs.World.{step}
 use Rattle.world_run.specs.Transcript.{transcript}
-use Rattle.world_run.proofs.History.{faults_none, step_lines}
+use Rattle.world_run.proofs.History.{faults_none, have_links, step_lines}
+use Rattle.redis_program.proofs.Valid.{lines_valid}
 use Rattle.redis_program.specs.declared.status.Ending.{Ending}
 use Rattle.redis_program.specs.declared.status.Ending.TheVariants.{Done, BadLine, ReadFault}
 use Rattle.redis_program.specs.declared.status.Ending.TheVariants.{WriteFault, Refused, HistoryFull}
@@ -206,6 +207,7 @@ module _ (limits : Limits) where
   refused_at n fault.NameTaken r = refl
   refused_at n fault.NothingThere r = refl
   refused_at n fault.NoMemory r = absurd r
+  refused_at n (fault.Refused k) r = refl
   refused_at n (fault.HistoryFull entries) r = absurd r
 
   by_ending : (ending : Ending) (lines : List (List ℕ)) (events : List Event) (w : WorldState)
@@ -225,7 +227,8 @@ module _ (limits : Limits) where
       part_ends lines events w p x.0 more rest x.1 printed body x.2 x.3 x.4 b
   by_ending (Refused number f) lines events w more printed body rest d p x b =
       let k = whole_first x.3 more rest (Some rest) x.5 (λ e. e) in
-      let none = (faults_none w x.4 f x.7 x.2).1 in
+      let links = have_links limits events w (lines_valid 1 lines events p.lines_are) p.played in
+      let none = (faults_none w x.4 f links x.7 x.2).1 in
       let ends = fault_ends lines events w p k.0 x.3 x.4 f printed body x.6 x.7
       (x.1 ∙ sym none) b in
       subst (λ t. EndsAs limits (lines ++ t) (Refused number f) body) (sym k.1) (

@@ -6,3 +6,4 @@ pub mod LineTexts
 pub mod Playing
 pub mod Judging
 pub mod Finishing
+pub mod Valid

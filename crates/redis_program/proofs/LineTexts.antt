@@ -10,9 +10,9 @@ use Rattle.resp_value.proofs.Prefixes.{prefix_same}
 use Rattle.script_text.specs.declared.event.Event.{Event}
 use Rattle.script_text.specs.declared.line.Line.{Line}
 use Rattle.script_text.specs.Printed.{text_of}
-use Rattle.world_run.specs.declared.fault.WorldFault.{WorldFault}
-use Rattle.world_run.specs.Outcome.{Gives}
-use Rattle.world_run.proofs.Outcomes.{gives_reached}
+use Rattle.server_links.specs.declared.fault.WorldFault.{WorldFault}
+use Rattle.server_links.specs.Outcome.{Gives}
+use Rattle.server_links.proofs.Outcomes.{gives_reached}
 use Rattle.world_run.specs.WorldState.{WorldState}
 use Rattle.world_run.specs.World.{step}
 use Rattle.redis_program.specs.declared.status.Ending.{Ending}

@@ -12,7 +12,8 @@ use Rattle.script_text.specs.Printed.{text_of}
 use Rattle.world_run.specs.WorldState.{WorldState, start}
 use Rattle.world_run.specs.World.{step}
 use Rattle.world_run.specs.Transcript.{transcript, after}
-use Rattle.world_run.proofs.History.{faults_none, one_history}
+use Rattle.world_run.specs.OneHistory.{HasOneHistory}
+use Rattle.world_run.proofs.History.{faults_none, have_links}
 use Rattle.redis_program.specs.declared.status.Ending.{Ending}
 use Rattle.redis_program.specs.declared.status.Ending.TheVariants.{Done, BadLine, ReadFault}
 use Rattle.redis_program.specs.declared.status.Ending.TheVariants.{WriteFault, Refused, HistoryFull}
@@ -28,6 +29,7 @@ use Rattle.redis_program.proofs.Splitting.{lines_ended, line_alone, plain_more, 
 use Rattle.redis_program.proofs.Scheduling.{are_more, after_then, transcript_then, after_played}
 use Rattle.redis_program.proofs.Scheduling.{transcript_one, text_more}
 use Rattle.redis_program.proofs.LineTexts.{all_printed}
+use Rattle.redis_program.proofs.Valid.{event_valid, lines_valid}
 
 -- whole lines were read and played, and what they print was written; the next line has this number
 pub record Standing (limits : Limits) (number : ℕ) (w : WorldState)
@@ -55,26 +57,30 @@ standing_none limits w input output e = record {
   written = appends_none output;
 }
 
-plays_of : (limits : Limits) (lines : List (List ℕ)) (events : List Event) (w : WorldState)
-    → AreLinesOf 1 lines events → after (start limits) events ≡ Some w
+-- what holds of every schedule holds of the lines so far
+plays_of : HasOneHistory → (limits : Limits) (lines : List (List ℕ)) (events : List Event)
+    (w : WorldState) → AreLinesOf 1 lines events → after (start limits) events ≡ Some w
     → Plays limits lines events w
-plays_of limits lines events w a p =
+plays_of law limits lines events w a p =
     record {
       lines_are = a;
       played = p;
-      one_history = (one_history limits events w p).0;
-      flows = (one_history limits events w p).2;
+      one_history = (law limits events w (lines_valid 1 lines events a) p).0;
+      hits = (law limits events w (lines_valid 1 lines events a) p).2;
+      flows = (law limits events w (lines_valid 1 lines events a) p).4;
     }
 
-part_of : (limits : Limits) (events : List Event) (w : WorldState) (n : ℕ) (line : List ℕ)
-    (printed : List Line) → after (start limits) events ≡ Some w
+part_of : HasOneHistory → (limits : Limits) (lines : List (List ℕ)) (events : List Event)
+    (w : WorldState) (n : ℕ) (line : List ℕ) (printed : List Line) → AreLinesOf 1 lines events
+    → after (start limits) events ≡ Some w
     → (part : PartPrinted n w line printed) → PlaysPart limits events w part.0 printed
-part_of limits events w n line printed p part = record {
+part_of law limits lines events w n line printed a p part = record {
   state = part.2;
   lines = part.3;
   reached = part.4;
   begins = part.5;
-  follows = (one_history limits events w p).1 part.0 part.2 part.3 part.4;
+  follows = (law limits events w (lines_valid 1 lines events a) p).1 part.0 part.2 part.3
+      (event_valid n line part.0 part.1) part.4;
 }
 
 -- more lines are printed after those that were written
@@ -140,9 +146,9 @@ module _ (limits : Limits) (number : ℕ) (w : WorldState)
     }
 
     -- the end of the source ended it
-    pub done_last : IsPlain line → (line ≡ [] → ⊥) → Consumes in1 in2 line → IsAtEnd in2
-        → ComesTo limits in0 in2 Done out0 out2
-    done_last p some c e =
+    pub done_last : HasOneHistory → IsPlain line → (line ≡ [] → ⊥) → Consumes in1 in2 line
+        → IsAtEnd in2 → ComesTo limits in0 in2 Done out0 out2
+    done_last law p some c e =
         let split : text_lines (ended s.lines ++ line) ≡ s.lines ++ line ∷ [] =
         lines_ended s.lines line s.plain ∙ ap (λ l. s.lines ++ l) (line_alone line p some) in (
           text_of (printed_by events),
@@ -152,7 +158,7 @@ module _ (limits : Limits) (number : ℕ) (w : WorldState)
             w = new;
             consumed = consumes_more in0 in1 in2 (ended s.lines) line s.consumed c;
             at_end = e;
-            plays = plays_of limits (text_lines (ended s.lines ++ line)) events new
+            plays = plays_of law limits (text_lines (ended s.lines ++ line)) events new
                 (subst (λ ls. AreLinesOf 1 ls events) (sym split) lines_are) played;
             prints = refl;
           },
@@ -160,9 +166,9 @@ module _ (limits : Limits) (number : ℕ) (w : WorldState)
         )
 
   -- nothing comes after the lines
-  pub done_here : Standing limits number w in0 in1 out0 out1 → Consumes in1 in2 [] → IsAtEnd in2
-      → ComesTo limits in0 in2 Done out0 out1
-  done_here s c e =
+  pub done_here : HasOneHistory → Standing limits number w in0 in1 out0 out1
+      → Consumes in1 in2 [] → IsAtEnd in2 → ComesTo limits in0 in2 Done out0 out1
+  done_here law s c e =
       let split : text_lines (ended s.lines ++ []) ≡ s.lines =
       lines_ended s.lines [] s.plain ∙ append-nil s.lines in (
         text_of (printed_by s.events),
@@ -172,18 +178,18 @@ module _ (limits : Limits) (number : ℕ) (w : WorldState)
           w = w;
           consumed = consumes_more in0 in1 in2 (ended s.lines) [] s.consumed c;
           at_end = e;
-          plays = plays_of limits (text_lines (ended s.lines ++ [])) s.events w
+          plays = plays_of law limits (text_lines (ended s.lines ++ [])) s.events w
               (subst (λ ls. AreLinesOf 1 ls s.events) (sym split) s.lines_are) s.played;
           prints = refl;
         },
         s.written,
       )
 
-  played_then : (ending : Ending) (more : List ℕ) (printed : List Line)
+  played_then : HasOneHistory → (ending : Ending) (more : List ℕ) (printed : List Line)
       (s : Standing limits number w in0 in1 out0 out1) → Consumes in1 in2 more
       → Next limits ending in2 s.events number w more printed
       → PlayedThen limits ending in0 in2 (text_of (printed_by s.events ++ printed))
-  played_then ending more printed s c next = record {
+  played_then law ending more printed s c next = record {
     lines = s.lines;
     events = s.events;
     w = w;
@@ -193,80 +199,88 @@ module _ (limits : Limits) (number : ℕ) (w : WorldState)
       consumed = consumes_more in0 in1 in2 (ended s.lines) more s.consumed c;
       plain = s.plain;
     };
-    plays = plays_of limits s.lines s.events w s.lines_are s.played;
+    plays = plays_of law limits s.lines s.events w s.lines_are s.played;
     next = subst (λ k. Next limits ending in2 s.events k w more printed) s.numbered next;
     prints = refl;
   }
 
   -- something else was read after the lines, and printed nothing
-  pub ends_here : (ending : Ending) (more : List ℕ) (s : Standing limits number w in0 in1 out0 out1)
+  pub ends_here : HasOneHistory → (ending : Ending) (more : List ℕ)
+      (s : Standing limits number w in0 in1 out0 out1)
       → Consumes in1 in2 more → Next limits ending in2 s.events number w more []
       → (body : List ℕ) × PlayedThen limits ending in0 in2 body × Appends out0 out1 body
-  ends_here ending more s c next = (
+  ends_here law ending more s c next = (
     text_of (printed_by s.events ++ []),
-    played_then ending more [] s c next,
+    played_then law ending more [] s c next,
     subst (λ l. Appends out0 out1 (text_of l)) (sym (append-nil (printed_by s.events))) s.written,
   )
 
   -- the next line printed this
-  ends_with : (ending : Ending) (more : List ℕ) (printed : List Line)
+  ends_with : HasOneHistory → (ending : Ending) (more : List ℕ) (printed : List Line)
       (s : Standing limits number w in0 in1 out0 out1) → Consumes in1 in2 more
       → Next limits ending in2 s.events number w more printed
       → Appends out1 out2 (text_of printed)
       → (body : List ℕ) × PlayedThen limits ending in0 in2 body × Appends out0 out2 body
-  ends_with ending more printed s c next a = (
+  ends_with law ending more printed s c next a = (
     text_of (printed_by s.events ++ printed),
-    played_then ending more printed s c next,
+    played_then law ending more printed s c next,
     written_more (printed_by s.events) printed out0 out1 out2 s.written a,
   )
 
   -- a line was read, and brought the run to an ending
-  pub line_ends : (ending : Ending) (new : WorldState) (line more : List ℕ)
+  pub line_ends : HasOneHistory → (ending : Ending) (new : WorldState) (line more : List ℕ)
       → Standing limits number w in0 in1 out0 out1 → ReadsWhole line more in2
       → Consumes in1 in2 more → LineGives number w line (Err ending) new out1 out2
       → ComesTo limits in0 in2 ending out0 out2
-  line_ends Done new line more s r c g = absurd g.1
-  line_ends (BadLine k) new line more s r c g =
-      ends_with (BadLine k) more g.0 s c (g.1.0, g.1.1, line, inl r, g.1.2) g.2
-  line_ends ReadFault new line more s r c g = absurd g.1
-  line_ends WriteFault new line more s r c g =
-      let part = part_of limits s.events w number line g.0 s.played g.1 in (
+  line_ends law Done new line more s r c g = absurd g.1
+  line_ends law (BadLine k) new line more s r c g =
+      ends_with law (BadLine k) more g.0 s c (g.1.0, g.1.1, line, inl r, g.1.2) g.2
+  line_ends law ReadFault new line more s r c g = absurd g.1
+  line_ends law WriteFault new line more s r c g =
+      let part = part_of law limits s.lines s.events w number line g.0 s.lines_are s.played g.1 in (
         text_of (printed_by s.events ++ g.0),
-        played_then WriteFault more g.0 s c (line, g.1.0, r, g.1.1, part),
+        played_then law WriteFault more g.0 s c (line, g.1.0, r, g.1.1, part),
         subst (λ l. AppendsFirst out0 out2 l) (sym (text_more (printed_by s.events) g.0))
-            (first_then out0 out1 out2 (text_of (printed_by s.events)) (text_of g.0) s.written g.2),
+            (first_then out0 out1 out2 (text_of (printed_by s.events)) (text_of g.0) s.written
+            g.2),
       )
-  line_ends (Refused k f) new line more s r c g =
-      let none = (faults_none w g.1.2 f g.1.4 g.1.1).1 in
-      ends_with (Refused k f) more g.0 s c
+  line_ends law (Refused k f) new line more s r c g =
+      let links = have_links limits s.events w (lines_valid 1 s.lines s.events s.lines_are)
+      s.played in
+      let none = (faults_none w g.1.2 f links g.1.4 g.1.1).1 in
+      ends_with law (Refused k f) more g.0 s c
       (g.1.0, g.1.5 ∙ none, g.1.1, line, g.1.2, r, g.1.3, g.1.4) g.2
-  line_ends HistoryFull new line more s r c g =
+  line_ends law HistoryFull new line more s r c g =
       let printed = all_printed number w line g.1.0 g.0 g.1.1 g.1.4 in
-      let part = part_of limits s.events w number line g.0 s.played printed in
-      ends_with HistoryFull more g.0 s c
+      let part =
+      part_of law limits s.lines s.events w number line g.0 s.lines_are s.played printed in
+      ends_with law HistoryFull more g.0 s c
       (line, g.1.0, g.1.2, r, g.1.1, g.1.3, g.1.4, part) g.2
-  line_ends NoMemory new line more s r c g = elim g.1 [
-    | inl none ↦ ends_with NoMemory more g.0 s c (inr (inl (none, line, r))) g.2
+  line_ends law NoMemory new line more s r c g = elim g.1 [
+    | inl none ↦ ends_with law NoMemory more g.0 s c (inr (inl (none, line, r))) g.2
     | inr part ↦
-        let plays = part_of limits s.events w number line g.0 s.played part in
-        ends_with NoMemory more g.0 s c (inr (inr (line, part.0, r, part.1, plays))) g.2
+        let plays =
+        part_of law limits s.lines s.events w number line g.0 s.lines_are s.played part in
+        ends_with law NoMemory more g.0 s c (inr (inr (line, part.0, r, part.1, plays))) g.2
   ]
 
   -- the same of the bytes of a line, which is the line that was played
-  pub line_brings : (ending : Ending) (new : WorldState) (items line : List ℕ)
+  pub line_brings : HasOneHistory → (ending : Ending) (new : WorldState) (items line : List ℕ)
       → Standing limits number w in0 in1 out0 out1 → line ≡ items → IsPlain items
       → Consumes in1 in2 (items ++ 10 ∷ [])
-      → LineGives number w line (Err ending) new out1 out2 → ComesTo limits in0 in2 ending out0 out2
-  line_brings ending new items line s e p c g =
-      line_ends ending new items (items ++ 10 ∷ []) s (p, inl refl) c
+      → LineGives number w line (Err ending) new out1 out2
+      → ComesTo limits in0 in2 ending out0 out2
+  line_brings law ending new items line s e p c g =
+      line_ends law ending new items (items ++ 10 ∷ []) s (p, inl refl) c
       (subst (λ l. LineGives number w l (Err ending) new out1 out2) e g)
 
-  pub last_brings : (ending : Ending) (new : WorldState) (items line : List ℕ)
+  pub last_brings : HasOneHistory → (ending : Ending) (new : WorldState) (items line : List ℕ)
       → Standing limits number w in0 in1 out0 out1 → line ≡ items → IsPlain items
       → (items ≡ [] → ⊥) → Consumes in1 in2 items → IsAtEnd in2
-      → LineGives number w line (Err ending) new out1 out2 → ComesTo limits in0 in2 ending out0 out2
-  last_brings ending new items line s e p some c end g =
-      line_ends ending new items items s (p, inr (some, refl, end)) c
+      → LineGives number w line (Err ending) new out1 out2
+      → ComesTo limits in0 in2 ending out0 out2
+  last_brings law ending new items line s e p some c end g =
+      line_ends law ending new items items s (p, inr (some, refl, end)) c
       (subst (λ l. LineGives number w l (Err ending) new out1 out2) e g)
 
   pub line_played : (new : WorldState) (items line : List ℕ) (done : Unit {0})
@@ -278,21 +292,13 @@ module _ (limits : Limits) (number : ℕ) (w : WorldState)
       standing_more new items done s
       (subst (λ l. LineGives number w l (Ok done) new out1 out2) e g) p c
 
-  pub last_played : (new : WorldState) (items line : List ℕ) (done : Unit {0})
+  pub last_played : HasOneHistory → (new : WorldState) (items line : List ℕ) (done : Unit {0})
       → Standing limits number w in0 in1 out0 out1 → line ≡ items → IsPlain items
       → (items ≡ [] → ⊥) → Consumes in1 in2 items → IsAtEnd in2
       → LineGives number w line (Ok done) new out1 out2 → ComesTo limits in0 in2 Done out0 out2
-  last_played new items line done s e p some c end g =
+  last_played law new items line done s e p some c end g =
       done_last new items done s
-      (subst (λ l. LineGives number w l (Ok done) new out1 out2) e g) p some c end
-
--- the world could not be made
-pub no_world : (limits : Limits) (input output : Option (List ℕ))
-    → ComesTo limits input input NoMemory output output
-no_world limits input output =
-    ends_here limits 1 (start limits) input input input output output output NoMemory []
-    (standing_none limits (start limits) input output refl) (consumes_none input)
-    (inl (refl, tt))
+      (subst (λ l. LineGives number w l (Ok done) new out1 out2) e g) law p some c end
 
 pub line_reads : (ending : Ending) (number : ℕ) (w new : WorldState) (line : List ℕ)
     (out1 out2 : Option (List ℕ)) (old now : Counts)
@@ -321,3 +327,11 @@ end_counted old mid now e r = subst (λ x. EndCounted x now) e r
 pub fault_counted : (old mid now : Counts) → mid ≡ old → FaultCounted mid now
     → FaultCounted old now
 fault_counted old mid now e r = subst (λ x. FaultCounted x now) e r
+
+-- the world could not be made
+pub no_world : HasOneHistory → (limits : Limits) (input output : Option (List ℕ))
+    → ComesTo limits input input NoMemory output output
+no_world law limits input output =
+    ends_here limits 1 (start limits) input input input output output output law NoMemory []
+    (standing_none limits (start limits) input output refl) (consumes_none input)
+    (inl (refl, tt))

@@ -13,7 +13,7 @@ use Rattle.script_text.specs.Events.{event_of, event_of_parts, longest_line}
 use Rattle.script_text.specs.declared.event.Event.{Event}
 use Rattle.script_text.specs.declared.line.Line.{Line}
 use Rattle.script_text.specs.Printed.{text_of, line_text}
-use Rattle.world_run.specs.declared.fault.WorldFault.{WorldFault}
+use Rattle.server_links.specs.declared.fault.WorldFault.{WorldFault}
 use Rattle.world_run.specs.WorldState.{WorldState}
 use Rattle.world_run.specs.World.{step}
 use Rattle.world_run.specs.Transcript.{unless_fault, transcript, after}

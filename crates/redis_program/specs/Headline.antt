@@ -13,14 +13,14 @@ use Rattle.script_text.specs.declared.line.Line.{Line}
 use Rattle.script_text.specs.Events.{event_of, longest_line}
 use Rattle.script_text.specs.Printed.{text_of}
 use Rattle.command_line.specs.declared.settings.LimitSettings.{LimitSettings}
-use Rattle.world_run.specs.declared.fault.WorldFault.{WorldFault}
-use Rattle.world_run.specs.declared.fault.WorldFault.TheVariants as fault
-use Rattle.world_run.specs.Faults.{IsRefusal, number_of}
-use Rattle.world_run.specs.Outcome.{Reached}
+use Rattle.server_links.specs.declared.fault.WorldFault.{WorldFault}
+use Rattle.server_links.specs.declared.fault.WorldFault.TheVariants as fault
+use Rattle.server_links.specs.Faults.{IsRefusal, number_of}
+use Rattle.server_links.specs.Outcome.{Reached}
 use Rattle.world_run.specs.WorldState.{WorldState, start}
 use Rattle.world_run.specs.World.{step}
 use Rattle.world_run.specs.Transcript.{after, transcript}
-use Rattle.world_run.specs.OneHistory.{FlowDelivers, Follows, OneHistory}
+use Rattle.world_run.specs.OneHistory.{AllHitsStand, FlowDelivers, Follows, OneHistory}
 use Rattle.redis_program.specs.declared.status.Status.{Status}
 use Rattle.redis_program.specs.declared.status.Status.TheVariants as status
 use Rattle.redis_program.specs.declared.status.Ending.{Ending}
@@ -169,14 +169,16 @@ ReadsBad line more in1 =
 
 -- ---- what was played
 
--- The lines are those of the events, these met no fault, and one history serves all links. A link
--- that is not cut would deliver all of its bytes in a flow.
+-- The lines are those of the events, these met no fault, and one history serves all links. What a
+-- client holds is what the server would answer, and each answer from a cache stands at its point of
+-- the history. A raw link that is not cut would deliver all of its bytes in a flow.
 pub record Plays (limits : Limits) (lines : List (List ℕ)) (events : List Event) (w : WorldState)
     : Type 0 where
   pub lines_are : AreLinesOf 1 lines events
   pub played : after (start limits) events ≡ Some w
   pub one_history : OneHistory limits events (transcript (start limits) events) w
-  pub flows : (at : ℕ) → at < length w.links → FlowDelivers w at
+  pub hits : AllHitsStand (start limits) events
+  pub flows : (at : ℕ) → at < length w.links.links → FlowDelivers w at
 
 -- After these events one more was played, or broken off on the way by a fault or want of memory.
 -- What it printed is the first of the lines that it had printed by then, within the one history.

@@ -10,9 +10,9 @@ use Rattle.serial_model.specs.declared.history.Limits.{Limits}
 use Rattle.script_text.specs.declared.event.Event.{Event}
 use Rattle.script_text.specs.declared.line.Line.{Line}
 use Rattle.script_text.specs.Printed.{text_of}
-use Rattle.world_run.specs.declared.fault.WorldFault.TheVariants as fault
-use Rattle.world_run.specs.Faults.{IsRefusal}
-use Rattle.world_run.specs.Outcome.{Reached}
+use Rattle.server_links.specs.declared.fault.WorldFault.TheVariants as fault
+use Rattle.server_links.specs.Faults.{IsRefusal}
+use Rattle.server_links.specs.Outcome.{Reached}
 use Rattle.world_run.specs.WorldState.{WorldState}
 use Rattle.world_run.specs.World.{step}
 use Rattle.redis_program.specs.declared.status.Status.{Status}

@@ -18,6 +18,7 @@ use serial_model::Limits;
 use std::alloc::Global;
 use std::sync::Wait;
 use std::thread::Threads;
+use world_run::law_one_history;
 
 /// What a run of the program came to.
 #[derive(Clone, Copy, Debug, PartialEq, Eq)]
@@ -75,9 +76,13 @@ pub fn run<R: Threads + Wait + Sync, S: Source, K: Sink, N: Net, C: Clock + Sync
         Ok(None) => return Outcome {
             status: refuse(output),
         },
-        Err(NoMemory) => return Outcome {
-            status: write_no_memory(output),
-        },
+        Err(NoMemory) => {
+            // of no line too
+            law_one_history();
+            return Outcome {
+                status: write_no_memory(output),
+            };
+        }
     };
     match asked {
         Asked::World(settings) => {

@@ -26,9 +26,18 @@ pub enum LineFault<'a> {
 /// Why the event of a line can't be played.
 #[derive(Clone, Copy)]
 pub enum Refusal<'a> {
-    NoName(&'a [u8]),
+    NoLink(&'a [u8]),
+    /// No raw connection has the name that the line is to speak for.
+    NoRaw(&'a [u8]),
+    NoClient(&'a [u8]),
     NameTaken(&'a [u8]),
     NothingThere,
+    /// The client's mode is not served yet.
+    Mode,
+    /// The command is for a client's handshake alone.
+    Control,
+    /// The client owes nobody a reply of this number.
+    NoNumber,
 }
 
 /// At most forty bytes of a word, those that are no visible ASCII as `\xHH`.
@@ -66,15 +75,16 @@ impl fmt::Display for LineFault<'_> {
                 let word = Shown(word);
                 write!(
                     f,
-                    "`{word}` is no kind of line; kinds are raw, say, bytes, serve, send, recv, \
-                     out, flow and cut"
+                    "`{word}` is no kind of line; kinds are raw, say, bytes, client, out, serve, \
+                     send, recv, flow, cut, ask, do, poll and show"
                 )
             }
             LineFault::BadName(word) => {
                 let word = Shown(word);
                 write!(
                     f,
-                    "`{word}` is no name of a link, which has 1 to 16 of a to z and 0 to 9"
+                    "`{word}` is no name, which has 1 to 16 of a to z and 0 to 9; .data behind a \
+                     client's is its link, for out, serve, send, recv, flow and cut"
                 )
             }
             LineFault::BadCount(word) => {
@@ -92,15 +102,32 @@ impl fmt::Display for LineFault<'_> {
 impl fmt::Display for Refusal<'_> {
     fn fmt<W: fmt::Write>(&self, f: &mut fmt::Formatter<W>) -> fmt::Result {
         match self {
-            Refusal::NoName(name) => {
+            Refusal::NoLink(name) => {
                 let name = Shown(name);
                 write!(f, "no link is named {name}")
             }
+            Refusal::NoRaw(name) => {
+                let name = Shown(name);
+                write!(f, "no raw connection is named {name}")
+            }
+            Refusal::NoClient(name) => {
+                let name = Shown(name);
+                write!(f, "no client is named {name}")
+            }
             Refusal::NameTaken(name) => {
                 let name = Shown(name);
-                write!(f, "a link is named {name} already")
+                write!(f, "a link or a client is named {name} already")
             }
             Refusal::NothingThere => f.write_str("fewer bytes are there than it moves"),
+            Refusal::Mode => f.write_str(
+                "no such client is served yet; one is `client X single 3 default CAPACITY`",
+            ),
+            Refusal::Control => f.write_str(
+                "a client sends no command that changes how the server serves it, as HELLO does",
+            ),
+            Refusal::NoNumber => f.write_str(
+                "the client gave no command this number, or handed its reply out before",
+            ),
         }
     }
 }
@@ -130,7 +157,12 @@ pub fn find_line_fault(number: u64, line: &[u8]) -> LineFault<'_> {
         return LineFault::UnknownKind(kind);
     };
     let (name, rest) = first_word(rest);
-    if !name.is_empty() && !is_name(name) {
+    let is_good = if names_link(kind) {
+        is_link(name)
+    } else {
+        is_name(name)
+    };
+    if !name.is_empty() && !is_good {
         return LineFault::BadName(name);
     }
     let moves_bytes = matches!(kind, b"serve" | b"send" | b"recv" | b"out");
@@ -142,13 +174,26 @@ pub fn find_line_fault(number: u64, line: &[u8]) -> LineFault<'_> {
 
 /// Why the event of the line was refused, by the digit that was written of it.
 pub fn find_refusal(digit: u8, line: &[u8]) -> Refusal<'_> {
-    let (_, rest) = first_word(line);
+    let (kind, rest) = first_word(line);
     let (name, _) = first_word(rest);
-    match digit {
-        b'1' => Refusal::NoName(name),
-        b'2' => Refusal::NameTaken(name),
+    match (digit, kind) {
+        (b'1', b"say" | b"bytes") => Refusal::NoRaw(name),
+        (b'1', b"ask" | b"do" | b"poll" | b"show") => Refusal::NoClient(name),
+        (b'1', _) => Refusal::NoLink(name),
+        (b'2', _) => Refusal::NameTaken(name),
+        (b'5', b"client") => Refusal::Mode,
+        (b'5', b"do") => Refusal::Control,
+        (b'5', _) => Refusal::NoNumber,
         _ => Refusal::NothingThere,
     }
+}
+
+/// Whether a line of this kind names a link, which may be a client's.
+fn names_link(kind: &[u8]) -> bool {
+    matches!(
+        kind,
+        b"out" | b"serve" | b"send" | b"recv" | b"flow" | b"cut"
+    )
 }
 
 fn form_of(kind: &[u8]) -> Option<&'static str> {
@@ -156,12 +201,17 @@ fn form_of(kind: &[u8]) -> Option<&'static str> {
         b"raw" => Some("raw R"),
         b"say" => Some("say R WORD.., each word in its printed form"),
         b"bytes" => Some("bytes R TEXT, the text in its printed form"),
-        b"serve" => Some("serve R [N]"),
-        b"send" => Some("send R [N]"),
-        b"recv" => Some("recv R [N]"),
-        b"out" => Some("out R [N]"),
-        b"flow" => Some("flow [R]"),
-        b"cut" => Some("cut R"),
+        b"client" => { Some("client X single 3 default CAPACITY, the capacity from 1 to 1000000") }
+        b"out" => Some("out L [N]"),
+        b"serve" => Some("serve L [N]"),
+        b"send" => Some("send L [N]"),
+        b"recv" => Some("recv L [N]"),
+        b"flow" => Some("flow [L]"),
+        b"cut" => Some("cut L"),
+        b"ask" => Some("ask X WORD.., the words of a query, as ask x GET foo"),
+        b"do" => Some("do X WORD.., each word in its printed form"),
+        b"poll" => Some("poll X N"),
+        b"show" => Some("show X"),
         _ => None,
     }
 }
@@ -196,6 +246,14 @@ fn is_name(word: &[u8]) -> bool {
         }
     }
     word.len() <= 16
+}
+
+fn is_link(word: &[u8]) -> bool {
+    match word {
+        [client @ .., b'.', b'd', b'a', b't', b'a'] => is_name(client),
+        [client @ .., b'.', b'i', b'n', b'v'] => is_name(client),
+        _ => is_name(word),
+    }
 }
 
 fn is_count(word: &[u8]) -> bool {

@@ -18,7 +18,7 @@ use resp_value::NoMemory;
 use script_text::{Event, Lines, put_line, read_event};
 use serial_model::Limits;
 use std::alloc::Global;
-use world_run::{World, WorldFault};
+use world_run::{World, WorldFault, law_one_history};
 
 /// How many lines a schedule may have.
 pub const MOST_LINES: u64 = 10_000_000;
@@ -67,6 +67,7 @@ fn play_schedule<S: Source, K: Sink>(
     ensures read { EndingRead result (S.counts input.old) (S.counts input.new) }
     ensures wrote { EndingWrote result (K.counts output.old) (K.counts output.new) }
 {
+    law_one_history();
     let mut world = match World::new(alloc, limits) {
         Ok(world) => world,
         Err(_) => return Ending::NoMemory,

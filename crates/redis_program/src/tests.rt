@@ -175,9 +175,9 @@ fn a_run_writes_the_transcript_and_the_last_line_of_its_status(
         ),
         (
             "world",
-            "raw r\nsay r Get\nsay r SET a b NX\nserve r\nsend r\nrecv r\nsend r 1\n",
+            "raw r\nsay r Get\nsay r SET a b NX NX\nserve r\nsend r\nrecv r\nsend r 1\n",
             Status::Refused,
-            "#1 admit r 1\n#2 run r Get\n#3 run r SET a b NX\n#4 take r 69\n\
+            "#1 admit r 1\n#2 run r Get\n#3 run r SET a b NX NX\n#4 take r 69\n\
              r < -ERR\\swrong\\snumber\\sof\\sarguments\\sfor\\s'get'\\scommand\\r\\n\
              -ERR\\ssyntax\\serror\\r\\n\nrefused 7 3\n",
         ),
@@ -344,18 +344,21 @@ fn a_person_is_told_what_is_wrong_with_a_line(rt: HostRuntime) -> Result<(), Fai
         ("raw r ", "one space, and no more, parts its words"),
         (
             "sya r",
-            "`sya` is no kind of line; kinds are raw, say, bytes, serve, send, recv, out, flow \
-             and cut",
+            "`sya` is no kind of line; kinds are raw, say, bytes, client, out, serve, send, recv, \
+             flow, cut, ask, do, poll and show",
         ),
         (
             "raw rR",
-            "`rR` is no name of a link, which has 1 to 16 of a to z and 0 to 9",
+            "`rR` is no name, which has 1 to 16 of a to z and 0 to 9; .data behind a client's is \
+             its link, for out, serve, send, recv, flow and cut",
         ),
         (
             "serve r 05",
             "`05` is no count of bytes, which is a number from 1 with no leading zero",
         ),
         ("raw", "its form is `raw R`"),
+        ("serve x.data", "its form is `serve L [N]`"),
+        ("poll x", "its form is `poll X N`"),
         (
             "say r",
             "its form is `say R WORD.., each word in its printed form`",
@@ -366,9 +369,21 @@ fn a_person_is_told_what_is_wrong_with_a_line(rt: HostRuntime) -> Result<(), Fai
         assert!(rt; told.as_str() == wanted, "{line}: {told}");
     }
     for (digit, line, wanted) in [
-        (b'1', "flow q", "no link is named q"),
-        (b'2', "raw r", "a link is named r already"),
+        (b'1', "flow q.data", "no link is named q.data"),
+        (b'1', "say q GET a", "no raw connection is named q"),
+        (b'1', "show q", "no client is named q"),
+        (b'2', "raw r", "a link or a client is named r already"),
         (b'3', "serve r 1", "fewer bytes are there than it moves"),
+        (
+            b'5',
+            "client x pair 3 default 1",
+            "no such client is served yet; one is `client X single 3 default CAPACITY`",
+        ),
+        (
+            b'5',
+            "poll x 9",
+            "the client gave no command this number, or handed its reply out before",
+        ),
     ] {
         let refusal = find_refusal(digit, line.as_bytes());
         let told = format!(in alloc; "{refusal}")?;

@@ -6,14 +6,16 @@ use Rattle.std.specs.declared.option.Option.TheVariants.{None, Some}
 use Rattle.std.specs.Fmt.{decimal}
 use Rattle.std.specs.List.{list_all}
 use Rattle.std.specs.Option.{option_map}
-use Rattle.std.proofs.lemmas.Bool.{ltb-true, lt-ltb}
+use Rattle.std.proofs.lemmas.Bool.{lt-ltb}
 use Rattle.std.proofs.lemmas.Bool.Decides.{nat_tests}
 use Rattle.command_words.specs.Printed.{printed}
 use Rattle.script_text.specs.Words.{unescaped, after_backslash, after_x, after_digit, escaped}
-use Rattle.script_text.specs.Words.{hex_value, word_of, words_of, first_and_rest, count_of}
+use Rattle.script_text.specs.Words.{hex_value, word_of, words_of, first_and_rest, number_within}
+use Rattle.script_text.specs.Words.{greatest}
 use Rattle.script_text.specs.Events.{amount_of}
 use Rattle.script_text.specs.Grammar.{are_bytes, amount_parts, is_amount}
-use Rattle.script_text.proofs.Counts.{both_true, both, count_of-decimal, decimal-count_of}
+use Rattle.script_text.proofs.Numbers.{both_true, both, number_within-decimal}
+use Rattle.script_text.proofs.Numbers.{decimal-number_within, small_within}
 use Rattle.script_text.proofs.Spelling.{word_of-printed, printed-word_of, unescaped-word_of}
 
 -- ---- a word is of bytes where its text is
@@ -79,7 +81,7 @@ words_of-printed (word ∷ words) h =
     (word_of-printed word (printed word) (both_true _ _ h).0 refl)
     ∙ ap (first_and_rest (Some word)) (words_of-printed words (both_true _ _ h).1)
 
-split_words : (o : Option (List ℕ)) (os : Option (List (List ℕ))) (words : List (List ℕ))
+pub split_words : (o : Option (List ℕ)) (os : Option (List (List ℕ))) (words : List (List ℕ))
     → first_and_rest o os ≡ Some words
     → (word : List ℕ) × ((rest : List (List ℕ))
     × ((o ≡ Some word) × (os ≡ Some rest) × (word ∷ rest ≡ words)))
@@ -117,8 +119,8 @@ pub amount_of-parts : (amount : Option ℕ) → is_amount amount ≡ true
     → amount_of (amount_parts amount) ≡ Some amount
 amount_of-parts None h = refl
 amount_of-parts (Some count) h =
-    ap (option_map Some) (count_of-decimal count (decimal count) (ltb-true _ _ (both_true _ _ h).0)
-    (ltb-true _ _ (both_true _ _ h).1) refl)
+    ap (option_map Some) (number_within-decimal 1 greatest count (decimal count) h
+    (small_within 1 greatest count (omega arith) h) refl)
 
 pub option_map-some : {A B : Type 0} (f : A → B) (o : Option A) (y : B) → option_map f o ≡ Some y
     → (x : A) × ((o ≡ Some x) × (f x ≡ y))
@@ -131,8 +133,8 @@ parts-amount_of [] amount h =
     let none : None ≡ amount = cc in
     subst (λ a. (amount_parts a ≡ []) × (is_amount a ≡ true)) none (refl, refl)
 parts-amount_of (text ∷ []) amount h =
-    let found = option_map-some Some (count_of text) amount h in
-    let back = decimal-count_of found.0 text found.1.0 in
+    let found = option_map-some Some (number_within 1 greatest text) amount h in
+    let back = decimal-number_within 1 greatest found.0 text found.1.0 in
     subst (λ a. (amount_parts a ≡ text ∷ []) × (is_amount a ≡ true)) found.1.1
-    (ap (λ t. t ∷ []) back.2, both _ _ (lt-ltb _ _ back.0) (lt-ltb _ _ back.1))
+    (ap (λ t. t ∷ []) back.1, back.0)
 parts-amount_of (text ∷ next ∷ texts) amount h = cc

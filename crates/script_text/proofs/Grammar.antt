@@ -1,114 +1,188 @@
--- A line has an event exactly where it is the line of that event, and the event is valid.
-use Rattle.std.proofs.Common.{◌≡◌, ◌<◌, ◌==◌, ℕ, List, [], ◌∷◌, Bool, true, false, cond, nat_lt}
+-- A line has an event exactly where it is a line of that event, and the event is valid.
+use Rattle.std.proofs.Common.{◌≡◌, ◌<◌, ◌==◌, ℕ, List, [], ◌∷◌, Bool, true, false, cond}
 use Rattle.std.proofs.Common.{nat_le, codes, refl, sym, ap, ◌∙◌, subst, arith, length, map}
+use Rattle.std.proofs.Common.{◌⊎◌, inl, inr}
 use Rattle.std.specs.declared.option.Option.{Option}
 use Rattle.std.specs.declared.option.Option.TheVariants.{None, Some}
+use Rattle.std.specs.Fmt.{decimal}
 use Rattle.std.specs.List.{list_all, slice_split, join_with_byte}
-use Rattle.std.specs.Option.{option_map}
+use Rattle.std.specs.Option.{option_map, option_and_then}
 use Rattle.std.specs.Str.{bytes_eq}
-use Rattle.std.proofs.lemmas.Bool.{ltb-true, lt-ltb}
+use Rattle.std.proofs.lemmas.Bool.{lt-ltb}
 use Rattle.std.proofs.lemmas.List.Splits.{join_with_byte-slice_split}
-use Rattle.std.proofs.lemmas.Slice.Eq.{bytes_eq-Decides}
 use Rattle.command_words.specs.Printed.{printed}
+use Rattle.command_words.specs.Queries.{query_of}
+use Rattle.shared_cache.specs.declared.log.ClientMode.{ClientMode}
 use Rattle.script_text.specs.declared.event.Event.{Event}
-use Rattle.script_text.specs.declared.event.Event.TheVariants.{Raw, Say, Bytes, Out, Serve, Send}
-use Rattle.script_text.specs.declared.event.Event.TheVariants.{Recv, Flow, FlowAll, Cut}
-use Rattle.script_text.specs.Words.{is_name, word_of, words_of}
-use Rattle.script_text.specs.Events.{event_of, event_of_parts, named_event, bare, request_of}
-use Rattle.script_text.specs.Events.{bytes_of, amount_of, longest_line}
-use Rattle.script_text.specs.Grammar.{parts_of, line_of, amount_parts, is_amount, are_bytes}
-use Rattle.script_text.specs.Grammar.{has_fields, is_valid, LinesComeBack}
-use Rattle.script_text.proofs.Counts.{both_true, both}
+use Rattle.script_text.specs.declared.event.Event.TheVariants.{Raw, Say, Bytes, Client, Out, Serve}
+use Rattle.script_text.specs.declared.event.Event.TheVariants.{Send, Recv, Flow, FlowAll, Cut, Ask}
+use Rattle.script_text.specs.declared.event.Event.TheVariants.{Do, Poll, Show}
+use Rattle.script_text.specs.Words.{is_name, is_link, word_of, words_of, number_within, greatest}
+use Rattle.script_text.specs.Clients.{client_of}
+use Rattle.script_text.specs.Events.{event_of, event_of_parts, named_event, link_event, first_there}
+use Rattle.script_text.specs.Events.{bare, request_of, bytes_of, asked_of, polled_of, amount_of}
+use Rattle.script_text.specs.Events.{longest_line}
+use Rattle.script_text.specs.Grammar.{parts_of, line_of, amount_parts, client_parts, asking}
+use Rattle.script_text.specs.Grammar.{is_amount, is_request, are_bytes, has_fields}
+use Rattle.script_text.specs.Grammar.{is_valid, IsLineOf, LinesComeBack}
+use Rattle.script_text.proofs.Numbers.{both_true, both, number_within-decimal}
+use Rattle.script_text.proofs.Numbers.{decimal-number_within, small_within}
+use Rattle.script_text.proofs.Choices.{none_is_some, same_text, by_test, named, when}
 use Rattle.script_text.proofs.Spelling.{word_of-printed, printed-word_of}
 use Rattle.script_text.proofs.Parts.{is_unbroken, parted-joined, parted-bytes, name-unbroken}
-use Rattle.script_text.proofs.Parts.{printed-unbroken, all_printed-unbroken, decimal-unbroken}
+use Rattle.script_text.proofs.Parts.{link-unbroken, printed-unbroken, all_printed-unbroken}
+use Rattle.script_text.proofs.Parts.{decimal-unbroken}
 use Rattle.script_text.proofs.Fields.{word-bytes, words_of-printed, printed-words_of}
-use Rattle.script_text.proofs.Fields.{amount_of-parts, parts-amount_of, option_map-some}
+use Rattle.script_text.proofs.Fields.{WordsComeFrom, amount_of-parts, parts-amount_of}
+use Rattle.script_text.proofs.Fields.{option_map-some}
+use Rattle.script_text.proofs.ClientFields.{client_there, client_back, ClientComesFrom, there_then}
+use Rattle.script_text.proofs.ClientFields.{client-unbroken}
+use Rattle.script_text.proofs.Asking.{is_query-read, query_of-is_query, query_bytes, query-length}
 
 -- ---- from the event to its parts
-requested : (words : List (List ℕ)) → nat_lt 0 (length words) ≡ true
-    → list_all are_bytes words ≡ true → request_of (map printed words) ≡ Some words
-requested [] h k = cc
-requested (word ∷ words) h k = words_of-printed (word ∷ words) k
+requested : (words : List (List ℕ)) → is_request words ≡ true
+    → request_of (map printed words) ≡ Some words
+requested [] h = cc
+requested (word ∷ words) h = words_of-printed (word ∷ words) (both_true _ _ h).1
 
-named : (t : Bool) (o : Option Event) (event : Event) → t ≡ true → o ≡ Some event
-    → cond t o None ≡ Some event
-named true o event h k = k
-named false o event h k = cc
+-- an event of a name
+of_name : (kind name : List ℕ) (rest : List (List ℕ)) (event : Event) → is_name name ≡ true
+    → named_event kind name rest ≡ Some event → event_of_parts (kind ∷ name ∷ rest) ≡ Some event
+unfolding event_of_parts
+of_name kind name rest event n e =
+    ap (λ o. first_there o (cond (is_link name) (link_event kind name rest) None))
+    (named (is_name name) (named_event kind name rest) event n e)
+
+always_none : (t : Bool) (o : Option Event) → o ≡ None → cond t o None ≡ None
+always_none true o h = h
+always_none false o h = refl
+
+-- an event of a link
+of_link : (kind link : List ℕ) (rest : List (List ℕ)) (event : Event)
+    → named_event kind link rest ≡ None → is_link link ≡ true
+    → link_event kind link rest ≡ Some event → event_of_parts (kind ∷ link ∷ rest) ≡ Some event
+unfolding event_of_parts
+of_link kind link rest event other n e =
+    ap (λ o. first_there o (cond (is_link link) (link_event kind link rest) None))
+    (always_none (is_name link) (named_event kind link rest) other)
+    ∙ named (is_link link) (link_event kind link rest) event n e
+
+asked_there : (client : List ℕ) (words query : List (List ℕ)) → is_name client ≡ true
+    → query_of words ≡ Some query → list_all are_bytes words ≡ true
+    → event_of_parts (asking client words) ≡ Some (Ask client query)
+unfolding named_event
+asked_there client words query n q b =
+    of_name (codes "ask") client (map printed words) (Ask client query) n
+    (ap (option_map (Ask client))
+    (ap (option_and_then query_of) (words_of-printed words b) ∙ q))
 
 event_of_parts-parts : (event : Event) → has_fields event ≡ true
     → event_of_parts (parts_of event) ≡ Some event
-unfolding event_of_parts named_event
-event_of_parts-parts (Raw link) h = named _ _ _ h refl
+unfolding event_of_parts named_event link_event
+event_of_parts-parts (Raw link) h = of_name (codes "raw") link [] (Raw link) h refl
 event_of_parts-parts (Say link words) h =
     let parts = both_true _ _ h in
-    let fields = both_true _ _ parts.1 in
-    named _ _ _ parts.0 (ap (option_map (Say link)) (requested words fields.0 fields.1))
+    of_name (codes "say") link (map printed words) (Say link words) parts.0
+    (ap (option_map (Say link)) (requested words parts.1))
 event_of_parts-parts (Bytes link bytes) h =
     let parts = both_true _ _ h in
-    named _ _ _ parts.0 (ap (option_map (Bytes link))
-    (word_of-printed bytes (printed bytes) parts.1 refl))
+    of_name (codes "bytes") link (printed bytes ∷ []) (Bytes link bytes) parts.0
+    (ap (option_map (Bytes link)) (word_of-printed bytes (printed bytes) parts.1 refl))
+event_of_parts-parts (Client client mode keys) h =
+    let parts = both_true _ _ h in
+    let fields = both_true _ _ parts.1 in
+    of_name (codes "client") client (client_parts mode keys) (Client client mode keys) parts.0
+    (ap (option_map (λ (made : ClientMode × ℕ). Client client made.0 made.1))
+    (client_there mode keys fields.0 fields.1))
 event_of_parts-parts (Out link amount) h =
     let parts = both_true _ _ h in
-    named _ _ _ parts.0 (ap (option_map (Out link)) (amount_of-parts amount parts.1))
+    of_link (codes "out") link (amount_parts amount) (Out link amount) refl parts.0
+    (ap (option_map (Out link)) (amount_of-parts amount parts.1))
 event_of_parts-parts (Serve link amount) h =
     let parts = both_true _ _ h in
-    named _ _ _ parts.0 (ap (option_map (Serve link)) (amount_of-parts amount parts.1))
+    of_link (codes "serve") link (amount_parts amount) (Serve link amount) refl parts.0
+    (ap (option_map (Serve link)) (amount_of-parts amount parts.1))
 event_of_parts-parts (Send link amount) h =
     let parts = both_true _ _ h in
-    named _ _ _ parts.0 (ap (option_map (Send link)) (amount_of-parts amount parts.1))
+    of_link (codes "send") link (amount_parts amount) (Send link amount) refl parts.0
+    (ap (option_map (Send link)) (amount_of-parts amount parts.1))
 event_of_parts-parts (Recv link amount) h =
     let parts = both_true _ _ h in
-    named _ _ _ parts.0 (ap (option_map (Recv link)) (amount_of-parts amount parts.1))
-event_of_parts-parts (Flow link) h = named _ _ _ h refl
+    of_link (codes "recv") link (amount_parts amount) (Recv link amount) refl parts.0
+    (ap (option_map (Recv link)) (amount_of-parts amount parts.1))
+event_of_parts-parts (Flow link) h = of_link (codes "flow") link [] (Flow link) refl h refl
 event_of_parts-parts FlowAll h = refl
-event_of_parts-parts (Cut link) h = named _ _ _ h refl
+event_of_parts-parts (Cut link) h = of_link (codes "cut") link [] (Cut link) refl h refl
+event_of_parts-parts (Ask client query) h =
+    let parts = both_true _ _ h in
+    let fields = both_true _ _ parts.1 in
+    asked_there client query query parts.0 (query_of-is_query query fields.0) fields.1
+event_of_parts-parts (Do client words) h =
+    let parts = both_true _ _ h in
+    of_name (codes "do") client (map printed words) (Do client words) parts.0
+    (ap (option_map (Do client)) (requested words parts.1))
+event_of_parts-parts (Poll client number) h =
+    let parts = both_true _ _ h in
+    of_name (codes "poll") client (decimal number ∷ []) (Poll client number) parts.0
+    (ap (option_map (Poll client)) (number_within-decimal 0 greatest number (decimal number) parts.1
+    (small_within 0 greatest number (omega arith) parts.1) refl))
+event_of_parts-parts (Show client) h = of_name (codes "show") client [] (Show client) h refl
 
 -- ---- from the parts to their event
+-- the event asks for the query that these words are
+record Asked (event : Event) : Type 0 where
+  client : List ℕ
+  query : List (List ℕ)
+  words : List (List ℕ)
+  is_ask : Ask client query ≡ event
+  is_read : query_of words ≡ Some query
+  of_bytes : list_all are_bytes words ≡ true
+
 record ComesBack (parts : List (List ℕ)) (event : Event) : Type 0 where
-  parted : parts_of event ≡ parts
+  parted : (parts_of event ≡ parts) ⊎ ((a : Asked event) × (asking a.client a.words ≡ parts))
   fields : has_fields event ≡ true
 
-same_text : (kind name : List ℕ) → bytes_eq kind name ≡ true → name ≡ kind
-same_text kind name h = sym ((bytes_eq-Decides kind name).0 h)
-
-bare_back : (made : Event) (kind name link : List ℕ) (rest : List (List ℕ)) (event : Event)
-    → bytes_eq kind name ≡ true → parts_of made ≡ name ∷ link ∷ [] → has_fields made ≡ true
+bare_back : (made : Event) (kind word link : List ℕ) (rest : List (List ℕ)) (event : Event)
+    → bytes_eq kind word ≡ true → parts_of made ≡ word ∷ link ∷ [] → has_fields made ≡ true
     → bare made rest ≡ Some event → ComesBack (kind ∷ link ∷ rest) event
-bare_back made kind name link [] event k p f h =
+bare_back made kind word link [] event k p f h =
     let same : made ≡ event = cc in
     subst (λ e. ComesBack (kind ∷ link ∷ []) e) same
-    (record { parted = p ∙ ap (λ n. n ∷ link ∷ []) (same_text kind name k); fields = f })
-bare_back made kind name link (part ∷ rest) event k p f h = cc
+    (record { parted = inl (p ∙ ap (λ n. n ∷ link ∷ []) (same_text kind word k)); fields = f })
+bare_back made kind word link (part ∷ rest) event k p f h = cc
 
-amount_back : (make : Option ℕ → Event) (kind name link : List ℕ) (rest : List (List ℕ))
-    (event : Event) → bytes_eq kind name ≡ true
-    → ((a : Option ℕ) → parts_of (make a) ≡ name ∷ link ∷ amount_parts a)
+amount_back : (make : Option ℕ → Event) (kind word link : List ℕ) (rest : List (List ℕ))
+    (event : Event) → bytes_eq kind word ≡ true
+    → ((a : Option ℕ) → parts_of (make a) ≡ word ∷ link ∷ amount_parts a)
     → ((a : Option ℕ) → is_amount a ≡ true → has_fields (make a) ≡ true)
     → option_map make (amount_of rest) ≡ Some event → ComesBack (kind ∷ link ∷ rest) event
-amount_back make kind name link rest event k p f h =
+amount_back make kind word link rest event k p f h =
     let found = option_map-some make (amount_of rest) event h in
     let back = parts-amount_of rest found.0 found.1.0 in
     subst (λ e. ComesBack (kind ∷ link ∷ rest) e) found.1.1
     (record {
-      parted = p found.0 ∙ ap (λ n. n ∷ link ∷ amount_parts found.0) (same_text kind name k)
-          ∙ ap (λ more. kind ∷ link ∷ more) back.0;
+      parted = inl (p found.0 ∙ ap (λ n. n ∷ link ∷ amount_parts found.0) (same_text kind word k)
+          ∙ ap (λ more. kind ∷ link ∷ more) back.0);
       fields = f found.0 back.1;
     })
 
-say_back : (kind link : List ℕ) (rest : List (List ℕ)) (event : Event)
-    → bytes_eq kind (codes "say") ≡ true → is_name link ≡ true → list_all are_bytes rest ≡ true
-    → option_map (Say link) (request_of rest) ≡ Some event → ComesBack (kind ∷ link ∷ rest) event
-say_back kind link [] event k n b h = cc
-say_back kind link (text ∷ texts) event k n b h =
-    let found = option_map-some (Say link) (words_of (text ∷ texts)) event h in
+words_back : (make : List (List ℕ) → Event) (kind word name : List ℕ) (rest : List (List ℕ))
+    (event : Event) → bytes_eq kind word ≡ true
+    → ((ws : List (List ℕ)) → parts_of (make ws) ≡ word ∷ name ∷ map printed ws)
+    → ((ws : List (List ℕ)) → is_request ws ≡ true → has_fields (make ws) ≡ true)
+    → list_all are_bytes rest ≡ true
+    → option_map make (request_of rest) ≡ Some event → ComesBack (kind ∷ name ∷ rest) event
+words_back make kind word name [] event k p f b h = cc
+words_back make kind word name (text ∷ texts) event k p f b h =
+    let found = option_map-some make (words_of (text ∷ texts)) event h in
     let words = found.0 in
-    let back = printed-words_of (text ∷ texts) words found.1.0 b in
-    subst (λ e. ComesBack (kind ∷ link ∷ text ∷ texts) e) found.1.1
+    let back : WordsComeFrom (text ∷ texts) words =
+    printed-words_of (text ∷ texts) words found.1.0 b in
+    subst (λ e. ComesBack (kind ∷ name ∷ text ∷ texts) e) found.1.1
     (record {
-      parted = ap (λ n. n ∷ link ∷ map printed words) (same_text kind (codes "say") k)
-          ∙ ap (λ more. kind ∷ link ∷ more) back.printed_as;
-      fields = both _ _ n (both _ _ (lt-ltb _ _ (omega (arith, back.as_many))) back.of_bytes);
+      parted = inl (p words ∙ ap (λ n. n ∷ name ∷ map printed words) (same_text kind word k)
+          ∙ ap (λ more. kind ∷ name ∷ more) back.printed_as);
+      fields = f words (both _ _ (lt-ltb _ _ (omega (arith, back.as_many))) back.of_bytes);
     })
 
 bytes_back_from : (kind link : List ℕ) (rest : List (List ℕ)) (event : Event)
@@ -120,77 +194,154 @@ bytes_back_from kind link (text ∷ []) event k n b h =
     let word = found.0 in
     subst (λ e. ComesBack (kind ∷ link ∷ text ∷ []) e) found.1.1
     (record {
-      parted = ap (λ n. n ∷ link ∷ printed word ∷ []) (same_text kind (codes "bytes") k)
-          ∙ ap (λ t. kind ∷ link ∷ t ∷ []) (printed-word_of word text found.1.0);
+      parted = inl (ap (λ n. n ∷ link ∷ printed word ∷ []) (same_text kind (codes "bytes") k)
+          ∙ ap (λ t. kind ∷ link ∷ t ∷ []) (printed-word_of word text found.1.0));
       fields = both _ _ n (word-bytes text word found.1.0 (both_true _ _ b).0);
     })
 bytes_back_from kind link (text ∷ next ∷ rest) event k n b h = cc
 
--- a test of the kind decides, or what follows it
-by_kind : (R : Type 0) (event : Event) (t : Bool) (o p : Option Event)
-    → (t ≡ true → o ≡ Some event → R) → (p ≡ Some event → R) → cond t o p ≡ Some event → R
-by_kind R event true o p f g h = f refl h
-by_kind R event false o p f g h = g h
+made_back : (kind name : List ℕ) (rest : List (List ℕ)) (event : Event)
+    → bytes_eq kind (codes "client") ≡ true → is_name name ≡ true → list_all are_bytes rest ≡ true
+    → option_map (λ (made : ClientMode × ℕ). Client name made.0 made.1) (client_of rest)
+    ≡ Some event → ComesBack (kind ∷ name ∷ rest) event
+made_back kind name rest event k n b h =
+    let found = option_map-some (λ (made : ClientMode × ℕ). Client name made.0 made.1)
+    (client_of rest) event h in
+    let made = found.0 in
+    let back : ClientComesFrom rest made = client_back rest made found.1.0 b in
+    subst (λ e. ComesBack (kind ∷ name ∷ rest) e) found.1.1
+    (record {
+      parted = inl (ap (λ w. w ∷ name ∷ client_parts made.0 made.1)
+          (same_text kind (codes "client") k) ∙ ap (λ more. kind ∷ name ∷ more) back.parted);
+      fields = both _ _ n (both _ _ back.mode_fits back.keys_fit);
+    })
 
-no_event : (R : Type 0) (event : Event) → None ≡ Some event → R
-no_event R event h = cc
+ask_back : (kind name : List ℕ) (rest : List (List ℕ)) (event : Event)
+    → bytes_eq kind (codes "ask") ≡ true → is_name name ≡ true → list_all are_bytes rest ≡ true
+    → option_map (Ask name) (asked_of rest) ≡ Some event → ComesBack (kind ∷ name ∷ rest) event
+ask_back kind name rest event k n b h =
+    let found = option_map-some (Ask name) (asked_of rest) event h in
+    let query = found.0 in
+    let read = there_then query_of (words_of rest) query found.1.0 in
+    let words = read.0 in
+    let back : WordsComeFrom rest words = printed-words_of rest words read.1.0 b in
+    let asked : Asked event = record {
+      client = name;
+      query = query;
+      words = words;
+      is_ask = found.1.1;
+      is_read = read.1.1;
+      of_bytes = back.of_bytes;
+    } in
+    record {
+      parted = inr (
+        asked,
+        ap (λ w. w ∷ name ∷ map printed words) (same_text kind (codes "ask") k)
+            ∙ ap (λ more. kind ∷ name ∷ more) back.printed_as,
+      );
+      fields = subst (λ e. has_fields e ≡ true) found.1.1 (both _ _ n
+          (both _ _ (is_query-read words query read.1.1)
+          (query_bytes words query read.1.1 back.of_bytes)));
+    }
 
-named_back : (kind link : List ℕ) (rest : List (List ℕ)) (event : Event) → is_name link ≡ true
-    → list_all are_bytes rest ≡ true → named_event kind link rest ≡ Some event
-    → ComesBack (kind ∷ link ∷ rest) event
+poll_back : (kind name : List ℕ) (rest : List (List ℕ)) (event : Event)
+    → bytes_eq kind (codes "poll") ≡ true → is_name name ≡ true
+    → option_map (Poll name) (polled_of rest) ≡ Some event → ComesBack (kind ∷ name ∷ rest) event
+poll_back kind name [] event k n h = cc
+poll_back kind name (text ∷ []) event k n h =
+    let found = option_map-some (Poll name) (number_within 0 greatest text) event h in
+    let back = decimal-number_within 0 greatest found.0 text found.1.0 in
+    subst (λ e. ComesBack (kind ∷ name ∷ text ∷ []) e) found.1.1
+    (record {
+      parted = inl (ap (λ w. w ∷ name ∷ decimal found.0 ∷ []) (same_text kind (codes "poll") k)
+          ∙ ap (λ t. kind ∷ name ∷ t ∷ []) back.1);
+      fields = both _ _ n back.0;
+    })
+poll_back kind name (text ∷ next ∷ rest) event k n h = cc
+
+named_back : (kind name : List ℕ) (rest : List (List ℕ)) (event : Event) → is_name name ≡ true
+    → list_all are_bytes rest ≡ true → named_event kind name rest ≡ Some event
+    → ComesBack (kind ∷ name ∷ rest) event
 unfolding named_event
-named_back kind link rest event n b =
+named_back kind name rest event n b =
+    let R = ComesBack (kind ∷ name ∷ rest) event in
+    let fields = λ (ws : List (List ℕ)) (g : is_request ws ≡ true). both _ _ n g in
+    by_test R event (bytes_eq kind (codes "raw")) (bare (Raw name) rest) _
+    (λ k h. bare_back (Raw name) kind (codes "raw") name rest event k refl n h) (
+    by_test R event (bytes_eq kind (codes "say")) (option_map (Say name) (request_of rest)) _
+    (λ k h. words_back (Say name) kind (codes "say") name rest event k (λ ws. refl) fields b h) (
+    by_test R event (bytes_eq kind (codes "bytes")) (option_map (Bytes name) (bytes_of rest)) _
+    (λ k h. bytes_back_from kind name rest event k n b h) (
+    by_test R event (bytes_eq kind (codes "client"))
+    (option_map (λ (made : ClientMode × ℕ). Client name made.0 made.1) (client_of rest)) _
+    (λ k h. made_back kind name rest event k n b h) (
+    by_test R event (bytes_eq kind (codes "ask")) (option_map (Ask name) (asked_of rest)) _
+    (λ k h. ask_back kind name rest event k n b h) (
+    by_test R event (bytes_eq kind (codes "do")) (option_map (Do name) (request_of rest)) _
+    (λ k h. words_back (Do name) kind (codes "do") name rest event k (λ ws. refl) fields b h) (
+    by_test R event (bytes_eq kind (codes "poll")) (option_map (Poll name) (polled_of rest)) _
+    (λ k h. poll_back kind name rest event k n h) (
+    by_test R event (bytes_eq kind (codes "show")) (bare (Show name) rest) None
+    (λ k h. bare_back (Show name) kind (codes "show") name rest event k refl n h) (
+    none_is_some R event))))))))
+
+link_back : (kind link : List ℕ) (rest : List (List ℕ)) (event : Event) → is_link link ≡ true
+    → link_event kind link rest ≡ Some event → ComesBack (kind ∷ link ∷ rest) event
+unfolding link_event
+link_back kind link rest event n =
     let R = ComesBack (kind ∷ link ∷ rest) event in
     let fields = λ (a : Option ℕ) (g : is_amount a ≡ true). both _ _ n g in
-    by_kind R event (bytes_eq kind (codes "raw")) (bare (Raw link) rest) _
-    (λ k h. bare_back (Raw link) kind (codes "raw") link rest event k refl n h) (
-    by_kind R event (bytes_eq kind (codes "say")) (option_map (Say link) (request_of rest)) _
-    (λ k h. say_back kind link rest event k n b h) (
-    by_kind R event (bytes_eq kind (codes "bytes")) (option_map (Bytes link) (bytes_of rest)) _
-    (λ k h. bytes_back_from kind link rest event k n b h) (
-    by_kind R event (bytes_eq kind (codes "out")) (option_map (Out link) (amount_of rest)) _
+    by_test R event (bytes_eq kind (codes "out")) (option_map (Out link) (amount_of rest)) _
     (λ k h. amount_back (Out link) kind (codes "out") link rest event k (λ a. refl) fields h) (
-    by_kind R event (bytes_eq kind (codes "serve")) (option_map (Serve link) (amount_of rest)) _
+    by_test R event (bytes_eq kind (codes "serve")) (option_map (Serve link) (amount_of rest)) _
     (λ k h. amount_back (Serve link) kind (codes "serve") link rest event k (λ a. refl) fields
     h) (
-    by_kind R event (bytes_eq kind (codes "send")) (option_map (Send link) (amount_of rest)) _
+    by_test R event (bytes_eq kind (codes "send")) (option_map (Send link) (amount_of rest)) _
     (λ k h. amount_back (Send link) kind (codes "send") link rest event k (λ a. refl) fields h)
     (
-    by_kind R event (bytes_eq kind (codes "recv")) (option_map (Recv link) (amount_of rest)) _
+    by_test R event (bytes_eq kind (codes "recv")) (option_map (Recv link) (amount_of rest)) _
     (λ k h. amount_back (Recv link) kind (codes "recv") link rest event k (λ a. refl) fields h)
     (
-    by_kind R event (bytes_eq kind (codes "flow")) (bare (Flow link) rest) _
+    by_test R event (bytes_eq kind (codes "flow")) (bare (Flow link) rest) _
     (λ k h. bare_back (Flow link) kind (codes "flow") link rest event k refl n h) (
-    by_kind R event (bytes_eq kind (codes "cut")) (bare (Cut link) rest) None
+    by_test R event (bytes_eq kind (codes "cut")) (bare (Cut link) rest) None
     (λ k h. bare_back (Cut link) kind (codes "cut") link rest event k refl n h) (
-    no_event R event)))))))))
+    none_is_some R event))))))
 
 all_back : (kind : List ℕ) (event : Event) → bytes_eq kind (codes "flow") ≡ true
     → Some FlowAll ≡ Some event → ComesBack (kind ∷ []) event
 all_back kind event k h =
     let same : FlowAll ≡ event = cc in
     subst (λ e. ComesBack (kind ∷ []) e) same
-    (record { parted = ap (λ n. n ∷ []) (same_text kind (codes "flow") k); fields = refl })
+    (record { parted = inl (ap (λ n. n ∷ []) (same_text kind (codes "flow") k)); fields = refl })
+
+first_or_other : (o p : Option Event) (event : Event) → first_there o p ≡ Some event
+    → (o ≡ Some event) ⊎ (p ≡ Some event)
+first_or_other (Some made) p event h = inl h
+first_or_other None p event h = inr h
 
 parts_back : (parts : List (List ℕ)) (event : Event) → list_all are_bytes parts ≡ true
     → event_of_parts parts ≡ Some event → ComesBack parts event
 unfolding event_of_parts
 parts_back [] event b h = cc
 parts_back (kind ∷ []) event b h =
-    by_kind (ComesBack (kind ∷ []) event) event (bytes_eq kind (codes "flow")) (Some FlowAll) None
-    (all_back kind event) (no_event _ event) h
-parts_back (kind ∷ link ∷ rest) event b h =
-    by_kind (ComesBack (kind ∷ link ∷ rest) event) event (is_name link) (named_event kind link rest)
-    None
-    (λ n e. named_back kind link rest event n (both_true _ _ (both_true _ _ b).1).1 e)
-    (no_event _ event) h
+    by_test (ComesBack (kind ∷ []) event) event (bytes_eq kind (codes "flow")) (Some FlowAll) None
+    (all_back kind event) (none_is_some _ event) h
+parts_back (kind ∷ name ∷ rest) event b h =
+    let bytes = (both_true _ _ (both_true _ _ b).1).1 in
+    elim (first_or_other _ _ event h) [
+      | inl e ↦ let found = when (is_name name) (named_event kind name rest) event e in
+          named_back kind name rest event found.0 bytes found.1
+      | inr e ↦ let found = when (is_link name) (link_event kind name rest) event e in
+          link_back kind name rest event found.0 found.1
+    ]
 
 -- ---- no part of an event's line holds a blank
 amount-unbroken : (amount : Option ℕ) → is_amount amount ≡ true
     → list_all is_unbroken (amount_parts amount) ≡ true
 amount-unbroken None h = refl
 amount-unbroken (Some count) h =
-    both _ _ (decimal-unbroken count (ltb-true _ _ (both_true _ _ h).1)) refl
+    both _ _ (decimal-unbroken count (small_within 1 greatest count (omega arith) h)) refl
 
 parts-unbroken : (event : Event) → has_fields event ≡ true
     → list_all is_unbroken (parts_of event) ≡ true
@@ -199,17 +350,30 @@ parts-unbroken (Say link words) h =
     both _ _ (name-unbroken link (both_true _ _ h).0) (all_printed-unbroken words)
 parts-unbroken (Bytes link bytes) h =
     both _ _ (name-unbroken link (both_true _ _ h).0) (both _ _ (printed-unbroken bytes) refl)
+parts-unbroken (Client client mode keys) h =
+    let parts = both_true _ _ h in
+    both _ _ (name-unbroken client parts.0)
+    (client-unbroken mode keys (both_true _ _ parts.1).1)
 parts-unbroken (Out link amount) h =
-    both _ _ (name-unbroken link (both_true _ _ h).0) (amount-unbroken amount (both_true _ _ h).1)
+    both _ _ (link-unbroken link (both_true _ _ h).0) (amount-unbroken amount (both_true _ _ h).1)
 parts-unbroken (Serve link amount) h =
-    both _ _ (name-unbroken link (both_true _ _ h).0) (amount-unbroken amount (both_true _ _ h).1)
+    both _ _ (link-unbroken link (both_true _ _ h).0) (amount-unbroken amount (both_true _ _ h).1)
 parts-unbroken (Send link amount) h =
-    both _ _ (name-unbroken link (both_true _ _ h).0) (amount-unbroken amount (both_true _ _ h).1)
+    both _ _ (link-unbroken link (both_true _ _ h).0) (amount-unbroken amount (both_true _ _ h).1)
 parts-unbroken (Recv link amount) h =
-    both _ _ (name-unbroken link (both_true _ _ h).0) (amount-unbroken amount (both_true _ _ h).1)
-parts-unbroken (Flow link) h = both _ _ (name-unbroken link h) refl
+    both _ _ (link-unbroken link (both_true _ _ h).0) (amount-unbroken amount (both_true _ _ h).1)
+parts-unbroken (Flow link) h = both _ _ (link-unbroken link h) refl
 parts-unbroken FlowAll h = refl
-parts-unbroken (Cut link) h = both _ _ (name-unbroken link h) refl
+parts-unbroken (Cut link) h = both _ _ (link-unbroken link h) refl
+parts-unbroken (Ask client query) h =
+    both _ _ (name-unbroken client (both_true _ _ h).0) (all_printed-unbroken query)
+parts-unbroken (Do client words) h =
+    both _ _ (name-unbroken client (both_true _ _ h).0) (all_printed-unbroken words)
+parts-unbroken (Poll client number) h =
+    let parts = both_true _ _ h in
+    both _ _ (name-unbroken client parts.0)
+    (both _ _ (decimal-unbroken number (small_within 0 greatest number (omega arith) parts.1)) refl)
+parts-unbroken (Show client) h = both _ _ (name-unbroken client h) refl
 
 parted_again : (parts : List (List ℕ)) → list_all is_unbroken parts ≡ true → 0 < length parts
     → slice_split (λ b. b == 32) (join_with_byte 32 parts) ≡ parts
@@ -220,6 +384,7 @@ some_part : (event : Event) → 0 < length (parts_of event)
 some_part (Raw link) = omega arith
 some_part (Say link words) = omega arith
 some_part (Bytes link bytes) = omega arith
+some_part (Client client mode keys) = omega arith
 some_part (Out link amount) = omega arith
 some_part (Serve link amount) = omega arith
 some_part (Send link amount) = omega arith
@@ -227,33 +392,125 @@ some_part (Recv link amount) = omega arith
 some_part (Flow link) = omega arith
 some_part FlowAll = omega arith
 some_part (Cut link) = omega arith
+some_part (Ask client query) = omega arith
+some_part (Do client words) = omega arith
+some_part (Poll client number) = omega arith
+some_part (Show client) = omega arith
+
+-- ---- the lines of an event
+-- its one line is one of them
+own_line : (event : Event) (line : List ℕ) → has_fields event ≡ true → line_of event ≡ line
+    → IsLineOf event line
+own_line (Raw link) line h e = e
+own_line (Say link words) line h e = e
+own_line (Bytes link bytes) line h e = e
+own_line (Client client mode keys) line h e = e
+own_line (Out link amount) line h e = e
+own_line (Serve link amount) line h e = e
+own_line (Send link amount) line h e = e
+own_line (Recv link amount) line h e = e
+own_line (Flow link) line h e = e
+own_line FlowAll line h e = e
+own_line (Cut link) line h e = e
+own_line (Ask client query) line h e =
+    let fields = both_true _ _ (both_true _ _ h).1 in
+    (query, (query_of-is_query query fields.0, fields.1, e))
+own_line (Do client words) line h e = e
+own_line (Poll client number) line h e = e
+own_line (Show client) line h e = e
+
+-- the others ask for a query
+line_is : (event : Event) (line : List ℕ) → IsLineOf event line
+    → (line_of event ≡ line)
+    ⊎ ((a : Asked event) × (join_with_byte 32 (asking a.client a.words) ≡ line))
+line_is (Raw link) line e = inl e
+line_is (Say link words) line e = inl e
+line_is (Bytes link bytes) line e = inl e
+line_is (Client client mode keys) line e = inl e
+line_is (Out link amount) line e = inl e
+line_is (Serve link amount) line e = inl e
+line_is (Send link amount) line e = inl e
+line_is (Recv link amount) line e = inl e
+line_is (Flow link) line e = inl e
+line_is FlowAll line e = inl e
+line_is (Cut link) line e = inl e
+line_is (Ask client query) line e = inr (
+  record {
+    client = client;
+    query = query;
+    words = e.0;
+    is_ask = refl;
+    is_read = e.1.0;
+    of_bytes = e.1.1;
+  },
+  e.1.2,
+)
+line_is (Do client words) line e = inl e
+line_is (Poll client number) line e = inl e
+line_is (Show client) line e = inl e
+
+asked_length : (event : Event) (a : Asked event)
+    → length (line_of event) ≡ length (join_with_byte 32 (asking a.client a.words))
+asked_length event a =
+    subst (λ e. length (line_of e) ≡ length (join_with_byte 32 (asking a.client a.words))) a.is_ask
+    (query-length a.client a.words a.query a.is_read)
+
+asked_line : (event : Event) (a : Asked event)
+    → IsLineOf event (join_with_byte 32 (asking a.client a.words))
+asked_line event a =
+    subst (λ e. IsLineOf e (join_with_byte 32 (asking a.client a.words))) a.is_ask
+    (a.words, (a.is_read, a.of_bytes, refl))
 
 -- ---- the law
-when_short : (t : Bool) (o : Option Event) (event : Event) → cond t o None ≡ Some event
-    → (t ≡ true) × (o ≡ Some event)
-when_short true o event h = (refl, h)
-when_short false o event h = cc
-
 valid_line : (event : Event) (line : List ℕ) → are_bytes line ≡ true → event_of line ≡ Some event
-    → (is_valid event ≡ true) × (line_of event ≡ line)
+    → (is_valid event ≡ true) × IsLineOf event line
 unfolding event_of
 valid_line event line b h =
-    let short = when_short _ _ event h in
-    let back = parts_back (slice_split (λ b. b == 32) line) event (parted-bytes line b) short.1 in
-    let same : line_of event ≡ line = ap (join_with_byte 32) back.parted
-    ∙ join_with_byte-slice_split 32 line in
-    (both _ _ back.fields (ap (λ l. nat_le (length l) longest_line) same ∙ short.0), same)
+    let short = when _ _ event h in
+    let back : ComesBack (slice_split (λ b. b == 32) line) event =
+    parts_back (slice_split (λ b. b == 32) line) event (parted-bytes line b) short.1 in
+    let whole = join_with_byte-slice_split 32 line in
+    elim back.parted [
+      | inl p ↦ let same : line_of event ≡ line = ap (join_with_byte 32) p ∙ whole in (
+        both _ _ back.fields (ap (λ l. nat_le (length l) longest_line) same ∙ short.0),
+        own_line event line back.fields same,
+      )
+      | inr p ↦ let same : join_with_byte 32 (asking p.0.client p.0.words) ≡ line =
+          ap (join_with_byte 32) p.1 ∙ whole in (
+            both _ _ back.fields (ap (λ n. nat_le n longest_line)
+                (asked_length event p.0 ∙ ap length same) ∙ short.0),
+            subst (λ l. IsLineOf event l) same (asked_line event p.0),
+          )
+    ]
 
-event_back : (event : Event) (line : List ℕ) → is_valid event ≡ true → line_of event ≡ line
+parted_back : (event : Event) (parts : List (List ℕ)) (line : List ℕ)
+    → nat_le (length line) longest_line ≡ true → join_with_byte 32 parts ≡ line
+    → list_all is_unbroken parts ≡ true → 0 < length parts → event_of_parts parts ≡ Some event
     → event_of line ≡ Some event
 unfolding event_of
-event_back event line v same =
-    let parts = both_true _ _ v in
-    let parted : slice_split (λ b. b == 32) line ≡ parts_of event =
-    ap (slice_split (λ b. b == 32)) (sym same)
-    ∙ parted_again (parts_of event) (parts-unbroken event parts.0) (some_part event) in
-    named _ _ event (ap (λ l. nat_le (length l) longest_line) (sym same)
-    ∙ parts.1) (ap event_of_parts parted ∙ event_of_parts-parts event parts.0)
+parted_back event parts line short joined u l there =
+    let parted : slice_split (λ b. b == 32) line ≡ parts =
+    ap (slice_split (λ b. b == 32)) (sym joined) ∙ parted_again parts u l in
+    named _ _ event short (ap event_of_parts parted ∙ there)
+
+event_back : (event : Event) (line : List ℕ) → is_valid event ≡ true → IsLineOf event line
+    → event_of line ≡ Some event
+event_back event line v is_line =
+    let valid = both_true _ _ v in
+    elim (line_is event line is_line) [
+      | inl e ↦ parted_back event (parts_of event) line
+          (ap (λ l. nat_le (length l) longest_line) (sym e) ∙ valid.1) e
+          (parts-unbroken event valid.0) (some_part event) (event_of_parts-parts event valid.0)
+      | inr p ↦ let a : Asked event = p.0 in
+          let client : is_name a.client ≡ true =
+          (both_true _ _ (subst (λ e. has_fields e ≡ true) (sym a.is_ask) valid.0)).0 in
+          parted_back event (asking a.client a.words) line
+          (ap (λ n. nat_le n longest_line) (ap length (sym p.1) ∙ sym (asked_length event a))
+          ∙ valid.1) p.1
+          (both _ _ (name-unbroken a.client client) (all_printed-unbroken a.words))
+          (omega arith)
+          (asked_there a.client a.words a.query client a.is_read a.of_bytes ∙ ap Some a.is_ask)
+    ]
 
 pub lines_come_back : LinesComeBack
 lines_come_back event line b = (valid_line event line b, λ h. event_back event line h.0 h.1)

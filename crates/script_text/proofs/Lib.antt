@@ -1,6 +1,11 @@
 pub mod Escapes
-pub mod Counts
+pub mod Numbers
 pub mod Spelling
 pub mod Parts
 pub mod Fields
+pub mod Choices
+pub mod Prefixes
+pub mod ClientFields
+pub mod Asking
 pub mod Grammar
+pub mod Valid

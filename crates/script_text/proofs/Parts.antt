@@ -1,19 +1,22 @@
 -- Parts that hold no blank are what a line is parted into, and the parts of a line hold its bytes.
 use Rattle.std.proofs.Common.{◌≡◌, ◌<◌, ◌/◌, ◌%◌, ◌==◌, ◌^◌, ℕ, List, [], ◌∷◌, ◌++◌, Bool, true}
-use Rattle.std.proofs.Common.{false, not, cond, refl, ap, ◌∙◌, subst, arith, inl, inr, map}
+use Rattle.std.proofs.Common.{false, not, cond, refl, sym, ap, ◌∙◌, subst, arith, ◌⊎◌, inl, inr}
+use Rattle.std.proofs.Common.{◌-◌, ◌||◌, length, take, codes, map}
 use Rattle.std.specs.Fmt.{decimal}
 use Rattle.std.specs.List.{list_all, slice_split, onto_first, join_with_byte, All, AllPass}
 use Rattle.std.specs.Str.Parse.{AllDigits}
 use Rattle.std.proofs.lemmas.Bool.{eqb-true}
 use Rattle.std.proofs.lemmas.Bool.Decides.{nat_tests}
 use Rattle.std.proofs.lemmas.Fmt.{decimal_is_IsNumeral}
+use Rattle.std.proofs.lemmas.List.{take-append-drop}
 use Rattle.std.proofs.lemmas.List.Splits.{slice_split_none, slice_split_at}
 use Rattle.std.proofs.lemmas.List.Sums.{AllPass-from_list_all}
+use Rattle.std.proofs.lemmas.Slice.Eq.{bytes_eq-Decides}
 use Rattle.std.proofs.lemmas.Str.Parse.{digit_from_value}
 use Rattle.command_words.specs.Printed.{printed, printed_byte, printed_bytes, hex_digit}
-use Rattle.script_text.specs.Words.{is_byte, is_name, is_name_byte}
+use Rattle.script_text.specs.Words.{is_byte, is_name, is_name_byte, is_name_with, is_link}
 use Rattle.script_text.specs.Grammar.{are_bytes}
-use Rattle.script_text.proofs.Counts.{both_true, both}
+use Rattle.script_text.proofs.Numbers.{both_true, both}
 use Rattle.script_text.proofs.Spelling.{printing, lettered, plain, numbered, either}
 
 abbrev pub is_unbroken : List ℕ → Bool
@@ -86,6 +89,32 @@ list_all_joined : (p : ℕ → Bool) (xs ys : List ℕ) → list_all p xs ≡ tr
 list_all_joined p [] ys h k = k
 list_all_joined p (x ∷ xs) ys h k =
     both _ _ (both_true _ _ h).0 (list_all_joined p xs ys (both_true _ _ h).1 k)
+
+name_with-unbroken : (ending text : List ℕ) → is_unbroken ending ≡ true
+    → is_name_with ending text ≡ true → is_unbroken text ≡ true
+name_with-unbroken ending text u h =
+    let parts = both_true _ _ h in
+    let front = take (length text - length ending) text in
+    let whole : front ++ ending ≡ text =
+    ap (λ e. front ++ e) (sym ((bytes_eq-Decides _ _).0 parts.0))
+    ∙ take-append-drop (length text - length ending) text in
+    subst (λ t. is_unbroken t ≡ true) whole
+    (list_all_joined (λ c. not (c == 32)) front ending (name-unbroken front parts.1) u)
+
+one_of : (a b : Bool) → (a || b) ≡ true → (a ≡ true) ⊎ (b ≡ true)
+one_of true b h = inl refl
+one_of false b h = inr h
+
+pub link-unbroken : (link : List ℕ) → is_link link ≡ true → is_unbroken link ≡ true
+link-unbroken link h =
+    elim (one_of (is_name link || is_name_with (codes ".data") link)
+    (is_name_with (codes ".inv") link) h) [
+      | inl w ↦ elim (one_of (is_name link) (is_name_with (codes ".data") link) w) [
+        | inl n ↦ name-unbroken link n
+        | inr d ↦ name_with-unbroken (codes ".data") link refl d
+      ]
+      | inr i ↦ name_with-unbroken (codes ".inv") link refl i
+    ]
 
 hex_digit-above : (n : ℕ) → 32 < hex_digit n
 hex_digit-above n = grind (arith, nat_tests)

@@ -8,7 +8,7 @@ use Rattle.std.proofs.lemmas.Bool.Decides.{nat_tests}
 use Rattle.std.proofs.lemmas.Slice.Eq.{bytes_eq-Decides}
 use Rattle.command_words.specs.Printed.{printed, printed_byte, printed_bytes, hex_digit, is_visible}
 use Rattle.script_text.specs.Words.{unescaped, escaped, hex_value, word_of, is_byte, WordsComeBack}
-use Rattle.script_text.proofs.Counts.{both_true}
+use Rattle.script_text.proofs.Numbers.{both_true}
 
 hex_value-hex_digit : (n : ℕ) → n < 16 → hex_value (hex_digit n) ≡ n
 hex_value-hex_digit n h = grind (arith, nat_tests)

@@ -1,6 +1,7 @@
 -- The names, words and numbers that stand in a line of a schedule.
-use Rattle.std.specs.Prelude.{◌≡◌, ◌↔◌, true, ◌+◌, ◌-◌, ◌*◌, ◌^◌, ◌&&◌, ◌||◌, ◌==◌, ℕ, List, []}
-use Rattle.std.specs.Prelude.{◌∷◌, ◌++◌, Bool, if◌then◌else◌, nat_lt, nat_le, length}
+use Rattle.std.specs.Prelude.{◌≡◌, ◌↔◌, true, ◌+◌, ◌-◌, ◌*◌, ◌&&◌, ◌||◌, ◌==◌, ℕ, List, []}
+use Rattle.std.specs.Prelude.{◌∷◌, ◌++◌, Bool, if◌then◌else◌, nat_lt, nat_le, length, take, drop}
+use Rattle.std.specs.Prelude.{codes}
 use Rattle.std.specs.declared.option.Option.{Option}
 use Rattle.std.specs.declared.option.Option.TheVariants.{None, Some}
 use Rattle.std.specs.Fmt.{decimal}
@@ -17,8 +18,16 @@ is_name_byte b = (nat_le 48 b && nat_le b 57) || (nat_le 97 b && nat_le b 122)
 abbrev pub is_name : List ℕ → Bool
 is_name text = nat_lt 0 (length text) && nat_le (length text) 16 && list_all is_name_byte text
 
-abbrev pub name_of : List ℕ → Option (List ℕ)
-name_of text = if is_name text then Some text else None
+-- a name, and then this ending
+abbrev pub is_name_with : List ℕ → List ℕ → Bool
+is_name_with ending text =
+    bytes_eq (drop (length text - length ending) text) ending
+    && is_name (take (length text - length ending) text)
+
+-- the link of a connection has its name, those of a client its name and `.data` or `.inv`
+abbrev pub is_link : List ℕ → Bool
+is_link text =
+    is_name text || is_name_with (codes ".data") text || is_name_with (codes ".inv") text
 
 -- the digits 0 to 9 and a to f
 abbrev pub hex_value : ℕ → ℕ
@@ -68,13 +77,19 @@ abbrev pub words_of : List (List ℕ) → Option (List (List ℕ))
 words_of [] = Some []
 words_of (text ∷ texts) = first_and_rest (word_of text) (words_of texts)
 
--- the number of 1 to 64 bits that a text spells: the one whose decimal form it is; a count is at
--- least 1
-unfoldable pub count_of : List ℕ → Option ℕ
-count_of text =
-    let count = digits_value 10 text in
-    if nat_lt 0 count && nat_lt count (2 ^ 64) && bytes_eq (decimal count) text then Some count
+abbrev pub is_within : ℕ → ℕ → ℕ → Bool
+is_within low high number = nat_le low number && nat_le number high
+
+-- the number from low to high that a text spells: the one whose decimal form it is
+unfoldable pub number_within : ℕ → ℕ → List ℕ → Option ℕ
+number_within low high text =
+    let number = digits_value 10 text in
+    if is_within low high number && bytes_eq (decimal number) text then Some number
     else None
+
+-- numbers have up to 64 bits
+abbrev pub greatest : ℕ
+greatest = 18446744073709551615
 
 abbrev pub is_byte : ℕ → Bool
 is_byte b = nat_lt b 256

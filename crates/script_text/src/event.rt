@@ -1,18 +1,21 @@
 //! The events of a schedule, and how they are read.
 ghost use Rattle.std.specs.Prelude.{◌≡◌, List, ℕ, IfOk, map};
-ghost use Rattle.std.specs.Str.{bytes_eq};
-ghost use Rattle.script_text.specs.Events.{amount_of, bare, bytes_of, event_of, event_of_parts};
-ghost use Rattle.script_text.specs.Events.{named_event, request_of};
+ghost use Rattle.script_text.specs.Events.{amount_of, asked_of, bare, bytes_of, event_of};
+ghost use Rattle.script_text.specs.Events.{event_of_parts, link_event, named_event, polled_of};
+ghost use Rattle.script_text.specs.Events.{request_of};
 
-use super::words::{line_parts, read_count, read_name, read_word, read_words};
+use super::client_line::read_client;
+use super::words::{is_link, is_name, is_text, line_parts, read_within, read_word, read_words};
+use command_words::Query;
 use resp_value::{NoMemory, Octets, Words};
+use shared_cache::ClientMode;
 use std::alloc::Global;
 
 /// The longest line of a schedule in bytes, its LF not counted.
 pub const LONGEST_LINE: usize = 1_048_576;
 
-/// What a line of a schedule asks for. The first field is the name of the link; where an amount of
-/// bytes is `None`, all that is there moves.
+/// What a line of a schedule asks for. The first field is the name of a link or of a client; where
+/// an amount of bytes is `None`, all that is there moves.
 #[derive(Debug, Drop)]
 pub enum Event {
     /// `raw R`: a link is made, and the server admits it.
@@ -21,6 +24,9 @@ pub enum Event {
     Say(Octets, Words),
     /// `bytes R TEXT`: bytes are put onto the way up.
     Bytes(Octets, Octets),
+    /// `client X SHAPE PROTO MODE CAPACITY [noloop] [prefix P]..`: a client is made with its links,
+    /// and the server admits them. It holds the queries of at most `CAPACITY` keys.
+    Client(Octets, ClientMode, u64),
     /// `out L [N]`: the client's end puts what it has to send onto the way up.
     Out(Octets, Option<u64>),
     /// `serve L [N]`: the server's end reads from the way up.
@@ -35,12 +41,14 @@ pub enum Event {
     FlowAll,
     /// `cut L`: what is on both ways is dropped, and both end.
     Cut(Octets),
-}
-
-fn is_text(part: &[u8], text: &[u8]) -> bool
-    ensures { result ≡ bytes_eq part.now text.now }
-{
-    part == text
+    /// `ask X WORD..`: the client is asked a query.
+    Ask(Octets, Query),
+    /// `do X WORD..`: the client sends any other command.
+    Do(Octets, Words),
+    /// `poll X N`: the client is asked for the reply to its command number N.
+    Poll(Octets, u64),
+    /// `show X`: what the client holds is printed.
+    Show(Octets),
 }
 
 fn read_bare(event: Event, rest: &[&[u8]]) -> Option<Event>
@@ -67,12 +75,30 @@ fn read_bytes(alloc: Global, rest: &[&[u8]]) -> Result<Option<Octets>, NoMemory>
     }
 }
 
+fn read_query(alloc: Global, rest: &[&[u8]]) -> Result<Option<Query>, NoMemory>
+    ensures { IfOk result (λ o. o ≡ asked_of (map (λ p. p.now) rest.now)) }
+{
+    match read_words(alloc, rest)? {
+        Some(words) => Query::read(alloc, &words),
+        None => Ok(None),
+    }
+}
+
+fn read_polled(alloc: Global, rest: &[&[u8]]) -> Result<Option<u64>, NoMemory>
+    ensures { IfOk result (λ o. o ≡ polled_of (map (λ p. p.now) rest.now)) }
+{
+    match rest {
+        [text] => read_within(alloc, 0, u64::MAX, text),
+        _ => Ok(None),
+    }
+}
+
 fn read_amount(alloc: Global, rest: &[&[u8]]) -> Result<Option<Option<u64>>, NoMemory>
     ensures { IfOk result (λ o. o ≡ amount_of (map (λ p. p.now) rest.now)) }
 {
     match rest {
         [] => Ok(Some(None)),
-        [text] => match read_count(alloc, text)? {
+        [text] => match read_within(alloc, 1, u64::MAX, text)? {
             Some(count) => Ok(Some(Some(count))),
             None => Ok(None),
         },
@@ -84,18 +110,42 @@ fn read_amount(alloc: Global, rest: &[&[u8]]) -> Result<Option<Option<u64>>, NoM
 fn read_named(
     alloc: Global,
     kind: &[u8],
+    name: Octets,
+    rest: &[&[u8]],
+) -> Result<Option<Event>, NoMemory>
+    ensures { IfOk result (λ o. o ≡ named_event kind.now name (map (λ p. p.now) rest.now)) }
+{
+    if is_text(kind, b"raw") {
+        Ok(read_bare(Event::Raw(name), rest))
+    } else if is_text(kind, b"say") {
+        Ok(read_request(alloc, rest)?.map(|words| Event::Say(name, words)))
+    } else if is_text(kind, b"bytes") {
+        Ok(read_bytes(alloc, rest)?.map(|bytes| Event::Bytes(name, bytes)))
+    } else if is_text(kind, b"client") {
+        Ok(read_client(alloc, rest)?.map(|(mode, keys)| Event::Client(name, mode, keys)))
+    } else if is_text(kind, b"ask") {
+        Ok(read_query(alloc, rest)?.map(|query| Event::Ask(name, query)))
+    } else if is_text(kind, b"do") {
+        Ok(read_request(alloc, rest)?.map(|words| Event::Do(name, words)))
+    } else if is_text(kind, b"poll") {
+        Ok(read_polled(alloc, rest)?.map(|number| Event::Poll(name, number)))
+    } else if is_text(kind, b"show") {
+        Ok(read_bare(Event::Show(name), rest))
+    } else {
+        Ok(None)
+    }
+}
+
+#[tactic(auto, unfolding(crate::specs::Events::link_event))]
+fn read_of_link(
+    alloc: Global,
+    kind: &[u8],
     link: Octets,
     rest: &[&[u8]],
 ) -> Result<Option<Event>, NoMemory>
-    ensures { IfOk result (λ o. o ≡ named_event kind.now link (map (λ p. p.now) rest.now)) }
+    ensures { IfOk result (λ o. o ≡ link_event kind.now link (map (λ p. p.now) rest.now)) }
 {
-    if is_text(kind, b"raw") {
-        Ok(read_bare(Event::Raw(link), rest))
-    } else if is_text(kind, b"say") {
-        Ok(read_request(alloc, rest)?.map(|words| Event::Say(link, words)))
-    } else if is_text(kind, b"bytes") {
-        Ok(read_bytes(alloc, rest)?.map(|bytes| Event::Bytes(link, bytes)))
-    } else if is_text(kind, b"out") {
+    if is_text(kind, b"out") {
         Ok(read_amount(alloc, rest)?.map(|amount| Event::Out(link, amount)))
     } else if is_text(kind, b"serve") {
         Ok(read_amount(alloc, rest)?.map(|amount| Event::Serve(link, amount)))
@@ -119,18 +169,29 @@ fn read_parts(alloc: Global, parts: &[&[u8]]) -> Result<Option<Event>, NoMemory>
     match parts {
         [] => Ok(None),
         [kind] => Ok(is_text(kind, b"flow").then_some(Event::FlowAll)),
-        [kind, link, rest @ ..] => match read_name(alloc, link)? {
-            Some(link) => read_named(alloc, kind, link, rest),
-            None => Ok(None),
-        },
+        [kind, name, rest @ ..] => {
+            if is_name(name) {
+                let named = Octets::from_slice(alloc, name)?;
+                if let Some(event) = read_named(alloc, kind, named, rest)? {
+                    return Ok(Some(event));
+                }
+            }
+            if is_link(name) {
+                read_of_link(alloc, kind, Octets::from_slice(alloc, name)?, rest)
+            } else {
+                Ok(None)
+            }
+        }
     }
 }
 
 /// The event of a line of a schedule, given without its LF, or `None` where the line is not in
 /// the grammar. The forms are those of the cases of `Event`, their parts parted by one space each.
-/// A name has 1 to 16 of `a` to `z` and `0` to `9`; a word, and the text of `bytes`, is in its
-/// one printed form, which `command_words::put_printed` describes; a count is 1 to 2^64 - 1 in
-/// decimal, with no leading zero. A line of more than `LONGEST_LINE` bytes is not in the grammar.
+/// A name has 1 to 16 of `a` to `z` and `0` to `9`, and a link of a client has `.data` or `.inv`
+/// behind the client's name; a word, and the text of `bytes`, is in its one printed form, which
+/// `command_words::put_printed` describes; the words of a query are a cacheable query, its name in
+/// any case. Numbers are in decimal, with no leading zero and below 2^64; a count is at least 1.
+/// A line of more than `LONGEST_LINE` bytes is not in the grammar.
 #[tactic(auto, unfolding(crate::specs::Events::event_of))]
 pub fn read_event(alloc: Global, line: &[u8]) -> Result<Option<Event>, NoMemory>
     ensures { IfOk result (λ o. o ≡ event_of line.now) }

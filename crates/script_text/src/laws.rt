@@ -1,5 +1,6 @@
 //! Laws of the definitions, which hold of all texts.
 ghost use Rattle.script_text.specs.Grammar.{LinesComeBack};
+ghost use Rattle.script_text.specs.Valid.{EventsAreValid};
 ghost use Rattle.script_text.specs.Words.{WordsComeBack};
 
 /// A text is read as a word exactly where it is what is printed of that word: each word comes
@@ -9,7 +10,14 @@ pub fn law_words_come_back()
 {}
 
 /// A line is read as an event exactly where the event is valid and the line is that event's: its
-/// parts joined by single spaces. So each valid event has one line, and no other line has an event.
+/// parts joined by single spaces. So each valid event has one line, save that the name of a query
+/// is read in any case, and no other line has an event.
 pub fn law_lines_come_back()
     ensures { LinesComeBack }
+{}
+
+/// Each line that has an event has a valid one: what a client may hold has its bounds, the words of
+/// an Ask read as the query, and a command has a word.
+pub fn law_events_are_valid()
+    ensures { EventsAreValid }
 {}

@@ -1,17 +1,10 @@
-//! The grammar and the printed lines against worked examples.
+//! The grammar and the printed lines against worked examples. Each table has a case a line.
 use super::{Event, LONGEST_LINE, Line, Lines, put_line, read_event};
 use command_words::put_printed;
-use resp_value::{NoMemory, Octets, Words};
+use resp_value::{NoMemory, Octets, Proto, Value, Words};
+use shared_cache::{Caching, ClientMode, Shape};
 use std::alloc::Global;
 use std::test::Fail;
-
-fn words_from(alloc: Global, texts: &[&[u8]]) -> Result<Words, NoMemory> {
-    let mut words = Words::new(alloc);
-    for text in texts {
-        words.push(Octets::from_slice(alloc, text)?)?;
-    }
-    Ok(words)
-}
 
 fn put(out: &mut Vec<u8>, bytes: &[u8]) -> Result<(), NoMemory> {
     out.extend_from_slice(bytes)?;
@@ -24,6 +17,12 @@ fn put_link(kind: &[u8], link: &Octets, out: &mut Vec<u8>) -> Result<(), NoMemor
     put(out, link.as_slice())
 }
 
+fn put_number(number: u64, out: &mut Vec<u8>) -> Result<(), NoMemory> {
+    put(out, b" ")?;
+    let digits = number.to_string(*out.allocator())?;
+    put(out, digits.as_bytes())
+}
+
 fn put_move(
     kind: &[u8],
     link: &Octets,
@@ -31,12 +30,61 @@ fn put_move(
     out: &mut Vec<u8>,
 ) -> Result<(), NoMemory> {
     put_link(kind, link, out)?;
-    if let Some(count) = amount {
-        put(out, b" ")?;
-        let digits = count.to_string(*out.allocator())?;
-        put(out, digits.as_bytes())?;
+    match amount {
+        Some(count) => put_number(*count, out),
+        None => Ok(()),
+    }
+}
+
+fn put_words(before: &[u8], words: &Words, out: &mut Vec<u8>) -> Result<(), NoMemory> {
+    for word in words.as_slice() {
+        put(out, before)?;
+        put_printed(word.as_slice(), out)?;
     }
     Ok(())
+}
+
+fn put_request(
+    kind: &[u8],
+    link: &Octets,
+    words: &Words,
+    out: &mut Vec<u8>,
+) -> Result<(), NoMemory> {
+    put_link(kind, link, out)?;
+    put_words(b" ", words, out)
+}
+
+fn shape_and_proto(mode: &ClientMode) -> &'static [u8] {
+    match (mode.shape, mode.proto) {
+        (Shape::Single, Proto::Two) => b" single 2 ",
+        (Shape::Single, Proto::Three) => b" single 3 ",
+        (Shape::Pair, Proto::Two) => b" pair 2 ",
+        (Shape::Pair, Proto::Three) => b" pair 3 ",
+    }
+}
+
+fn put_client(
+    name: &Octets,
+    mode: &ClientMode,
+    keys: u64,
+    out: &mut Vec<u8>,
+) -> Result<(), NoMemory> {
+    put_link(b"client", name, out)?;
+    put(out, shape_and_proto(mode))?;
+    match &mode.caching {
+        Caching::Default => put(out, b"default")?,
+        Caching::OptIn => put(out, b"optin")?,
+        Caching::OptOut => put(out, b"optout")?,
+        Caching::Bcast(_) => put(out, b"bcast")?,
+    }
+    put_number(keys, out)?;
+    if mode.noloop {
+        put(out, b" noloop")?;
+    }
+    match &mode.caching {
+        Caching::Bcast(prefixes) => put_words(b" prefix ", prefixes, out),
+        _ => Ok(()),
+    }
 }
 
 // The line that an event is read from.
@@ -44,18 +92,13 @@ fn line_of(alloc: Global, event: &Event) -> Result<Vec<u8>, NoMemory> {
     let mut out = Vec::new(alloc);
     match event {
         Event::Raw(link) => put_link(b"raw", link, &mut out)?,
-        Event::Say(link, words) => {
-            put_link(b"say", link, &mut out)?;
-            for word in words.as_slice() {
-                put(&mut out, b" ")?;
-                put_printed(word.as_slice(), &mut out)?;
-            }
-        }
+        Event::Say(link, words) => put_request(b"say", link, words, &mut out)?,
         Event::Bytes(link, bytes) => {
             put_link(b"bytes", link, &mut out)?;
             put(&mut out, b" ")?;
             put_printed(bytes.as_slice(), &mut out)?;
         }
+        Event::Client(name, mode, keys) => put_client(name, mode, *keys, &mut out)?,
         Event::Out(link, amount) => put_move(b"out", link, amount, &mut out)?,
         Event::Serve(link, amount) => put_move(b"serve", link, amount, &mut out)?,
         Event::Send(link, amount) => put_move(b"send", link, amount, &mut out)?,
@@ -63,137 +106,256 @@ fn line_of(alloc: Global, event: &Event) -> Result<Vec<u8>, NoMemory> {
         Event::Flow(link) => put_link(b"flow", link, &mut out)?,
         Event::FlowAll => put(&mut out, b"flow")?,
         Event::Cut(link) => put_link(b"cut", link, &mut out)?,
+        Event::Ask(name, query) => put_request(b"ask", name, query.words(), &mut out)?,
+        Event::Do(name, words) => put_request(b"do", name, words, &mut out)?,
+        Event::Poll(name, number) => {
+            put_link(b"poll", name, &mut out)?;
+            put_number(*number, &mut out)?;
+        }
+        Event::Show(name) => put_link(b"show", name, &mut out)?,
     }
     Ok(out)
 }
 
-#[test]
-fn a_line_of_the_grammar_is_read_as_its_event(rt: HostRuntime) -> Result<(), Fail> {
-    let lines = [
-        "raw r",
-        "raw n1",
-        "raw abcdefghijklmnop",
-        "raw 0123456789abcdef",
-        "raw raw",
-        "say r SET foo bar",
-        "say r GET nope",
-        "say n2 SET k1 x.y",
-        "say w set a \"!~#[]{}'",
-        "say r \\e \\s \\\\ a\\sb \\x00\\x1f\\x7f\\xff",
-        "say say say say",
-        "bytes r *2\\r\\n$3\\r\\nGET\\r\\n$3\\r\\nfoo\\r\\n",
-        "bytes r GET\\sa\\r\\n",
-        "bytes r \\e",
-        "out r",
-        "out r 1",
-        "serve r",
-        "serve r 21",
-        "send r",
-        "send r 10",
-        "recv r",
-        "recv r 18446744073709551615",
-        "flow r",
-        "flow flow",
-        "flow",
-        "cut r",
-    ];
-    for line in lines {
-        let event = read_event(rt.alloc(), line.as_bytes())?.ok_or("a line that is refused")?;
-        let text = line_of(rt.alloc(), &event)?;
-        assert_eq!(rt; text.as_slice(), line.as_bytes(), "{line}");
+fn comes_back(alloc: Global, line: &str) -> Result<bool, NoMemory> {
+    match read_event(alloc, line.as_bytes())? {
+        Some(event) => {
+            let text = line_of(alloc, &event)?;
+            Ok(text.as_slice() == line.as_bytes())
+        }
+        None => Ok(false),
     }
-    Ok(())
 }
 
-#[test]
-fn an_escape_is_read_as_its_byte(rt: HostRuntime) -> Result<(), Fail> {
-    let lines: [(&str, &[u8]); 7] = [
-        ("bytes r \\e", b""),
-        ("bytes r GET\\sa\\r\\n", b"GET a\r\n"),
-        ("bytes r \\\\e", b"\\e"),
-        ("bytes r \\\\\\\\x41", b"\\\\x41"),
-        ("bytes r \\x00\\x09\\x7f\\x80\\xff", b"\x00\t\x7f\x80\xff"),
-        ("bytes r \\xabc", b"\xabc"),
-        ("bytes r !~", b"!~"),
-    ];
-    for (line, want) in lines {
-        let event = read_event(rt.alloc(), line.as_bytes())?.ok_or("a line that is refused")?;
-        assert!(rt;
-            matches!(&event, Event::Bytes(_, bytes) if bytes.as_slice() == want),
-            "{line}"
-        );
+/// The first line of a table that is not read as the event whose line it is.
+fn first_changed<'a>(alloc: Global, table: &'a str) -> Result<Option<&'a str>, NoMemory> {
+    for line in table.split('\n') {
+        if !comes_back(alloc, line)? {
+            return Ok(Some(line));
+        }
     }
+    Ok(None)
+}
+
+/// The first line of a table that is read.
+fn first_read<'a>(alloc: Global, table: &'a str) -> Result<Option<&'a str>, NoMemory> {
+    for line in table.split('\n') {
+        if read_event(alloc, line.as_bytes())?.is_some() {
+            return Ok(Some(line));
+        }
+    }
+    Ok(None)
+}
+
+// Lines of a raw connection and of any link.
+const READ: &str = "\
+raw r
+raw n1
+raw abcdefghijklmnop
+raw 0123456789abcdef
+raw raw
+say r SET foo bar
+say r GET nope
+say n2 SET k1 x.y
+say w set a \"!~#[]{}'
+say r \\e \\s \\\\ a\\sb \\x00\\x1f\\x7f\\xff
+say say say say
+bytes r *2\\r\\n$3\\r\\nGET\\r\\n$3\\r\\nfoo\\r\\n
+bytes r GET\\sa\\r\\n
+bytes r \\e
+out r
+out r 1
+serve r
+serve r 21
+send r
+send r 10
+recv r
+recv r 18446744073709551615
+flow r
+flow flow
+flow
+cut r
+out x.data
+serve x.inv 21
+send 0.data 1
+recv abcdefghijklmnop.data
+flow data.inv
+cut x.data";
+
+// Lines of a client.
+const CLIENT_LINES: &str = "\
+client x single 3 default 1
+client x single 3 optin 8
+client x single 3 optout 1000000
+client x single 3 bcast 8
+client x pair 2 default 8 noloop
+client x pair 3 optin 8 noloop
+client x single 3 bcast 8 prefix a
+client x pair 2 bcast 8 noloop prefix a\\sb prefix \\e prefix noloop
+client x single 3 bcast 8 prefix prefix prefix prefix
+ask x GET k
+ask x HMGET k f \\e
+ask x GETRANGE k 0 -1
+do x GET k
+do x get \\xff
+poll x 0
+poll x 18446744073709551615
+show x";
+
+// Lines outside the grammar; the last is empty.
+const REFUSED: &str = "\
+raw
+raw 
+raw  r
+raw r 
+raw r x
+raw r\r
+raw abcdefghijklmnopq
+raw R
+raw r.data
+raw r-1
+RAW r
+rawr r
+sya r GET
+say r
+say r 
+say r  GET
+say r GET  a
+say r GET a 
+say R GET a
+say abcdefghijklmnopq GET a
+say r GET\ta
+say r GET \u{7f}
+say r GET caf\u{e9}
+flow 
+flow r r
+flow R
+flow r 1
+cut
+cut r 1
+bytes r
+bytes r a b
+bytes r \\
+bytes r \\q
+bytes r a\\e
+bytes r \\e\\e
+bytes r \\ea
+bytes r \\x0
+bytes r \\xFF
+bytes r \\xg0
+bytes r \\X00
+bytes r \\x41
+bytes r \\x0d
+bytes r \\x20
+bytes r \\x5c
+say r GET \\x0D
+out
+out r 
+out r 0
+out r 01
+out r +1
+out r -1
+out r 1x
+out r 1 1
+serve r 18446744073709551616
+send r 99999999999999999999999
+recv r \u{663}
+tick
+ 
+ raw r
+";
+
+// Names where they do not belong.
+const REFUSED_LINKS: &str = "\
+raw x.data
+say x.data PING
+bytes x.inv a
+client x.data single 3 default 8
+ask x.data GET k
+do x.inv GET k
+poll x.data 1
+show x.inv
+out x.
+out .data
+out x.side
+out x.data.data
+out x.DATA
+out x.data 0
+cut abcdefghijklmnopq.inv";
+
+// Lines of a client that are outside the grammar.
+const REFUSED_CLIENT_LINES: &str = "\
+client x
+client x single
+client x single 3
+client x single 3 default
+client x single 2 default 8
+client x Single 3 default 8
+client x triple 3 default 8
+client x pair 1 default 8
+client x pair 03 default 8
+client x single 3 all 8
+client x single 3 default 0
+client x single 3 default 08
+client x single 3 default 1000001
+client x single 3 default 8 
+client x single 3 default 8 NOLOOP
+client x single 3 default 8 noloop noloop
+client x single 3 default 8 prefix a
+client x single 3 bcast 8 prefix
+client x single 3 bcast 8 prefix a noloop
+client x single 3 bcast 8 prefix a b
+client x single 3 bcast 8 prefix \\x61
+ask x
+ask x SET k v
+ask x MGET k
+ask x GET
+ask x GET k k
+ask x get k 
+ask X GET k
+do x
+do x 
+poll x
+poll x 01
+poll x -1
+poll x 1 1
+poll x 18446744073709551616
+show
+show x 1";
+
+#[test]
+fn a_line_of_the_grammar_is_read_as_its_event(rt: HostRuntime) -> Result<(), Fail> {
+    let alloc = rt.alloc();
+    assert_eq!(rt; first_changed(alloc, READ)?, None);
+    assert_eq!(rt; first_changed(alloc, CLIENT_LINES)?, None);
     Ok(())
 }
 
 #[test]
 fn a_line_outside_the_grammar_has_no_event(rt: HostRuntime) -> Result<(), Fail> {
-    let lines = [
-        "",
-        " ",
-        "raw",
-        "raw ",
-        "raw  r",
-        "raw r ",
-        " raw r",
-        "raw r x",
-        "raw r\r",
-        "raw abcdefghijklmnopq",
-        "raw R",
-        "raw r.data",
-        "raw r-1",
-        "RAW r",
-        "rawr r",
-        "sya r GET",
-        "say r",
-        "say r ",
-        "say r  GET",
-        "say r GET  a",
-        "say r GET a ",
-        "say R GET a",
-        "say abcdefghijklmnopq GET a",
-        "say r GET\ta",
-        "say r GET \u{7f}",
-        "say r GET caf\u{e9}",
-        "flow ",
-        "flow r r",
-        "flow R",
-        "flow r 1",
-        "cut",
-        "cut r 1",
-        "bytes r",
-        "bytes r a b",
-        "bytes r \\",
-        "bytes r \\q",
-        "bytes r a\\e",
-        "bytes r \\e\\e",
-        "bytes r \\ea",
-        "bytes r \\x0",
-        "bytes r \\xFF",
-        "bytes r \\xg0",
-        "bytes r \\X00",
-        "bytes r \\x41",
-        "bytes r \\x0d",
-        "bytes r \\x20",
-        "bytes r \\x5c",
-        "say r GET \\x0D",
-        "out",
-        "out r ",
-        "out r 0",
-        "out r 01",
-        "out r +1",
-        "out r -1",
-        "out r 1x",
-        "out r 1 1",
-        "serve r 18446744073709551616",
-        "send r 99999999999999999999999",
-        "recv r \u{663}",
-        "tick",
-    ];
-    for line in lines {
-        let event = read_event(rt.alloc(), line.as_bytes())?;
-        assert!(rt; event.is_none(), "{line}");
-    }
+    let alloc = rt.alloc();
+    assert_eq!(rt; first_read(alloc, REFUSED)?, None);
+    assert_eq!(rt; first_read(alloc, REFUSED_LINKS)?, None);
+    assert_eq!(rt; first_read(alloc, REFUSED_CLIENT_LINES)?, None);
+    Ok(())
+}
+
+#[test]
+fn a_query_is_read_in_any_case(rt: HostRuntime) -> Result<(), Fail> {
+    let event = read_event(rt.alloc(), b"ask x hGetAll K")?.ok_or("a line that is refused")?;
+    let line = line_of(rt.alloc(), &event)?;
+    assert_eq!(rt; line.as_slice(), b"ask x HGETALL K".as_slice());
+    Ok(())
+}
+
+#[test]
+fn an_escape_is_read_as_its_byte(rt: HostRuntime) -> Result<(), Fail> {
+    let line = b"bytes r \\r\\n\\s\\\\e\\\\x41\\x00\\x09\\x7f\\xff!~\\xabc";
+    let want: &[u8] = b"\r\n \\e\\x41\x00\t\x7f\xff!~\xabc";
+    let event = read_event(rt.alloc(), line)?;
+    assert!(rt; matches!(&event, Some(Event::Bytes(_, bytes)) if bytes.as_slice() == want));
+    let event = read_event(rt.alloc(), b"bytes r \\e")?;
+    assert!(rt; matches!(&event, Some(Event::Bytes(_, bytes)) if bytes.as_slice().is_empty()));
     Ok(())
 }
 
@@ -209,48 +371,89 @@ fn the_longest_line_is_read_and_a_longer_one_is_not(rt: HostRuntime) -> Result<(
     Ok(())
 }
 
+fn words_from(alloc: Global, text: &str) -> Result<Words, NoMemory> {
+    let mut words = Words::new(alloc);
+    for part in text.split(' ') {
+        words.push(Octets::from_slice(alloc, part.as_bytes())?)?;
+    }
+    Ok(words)
+}
+
+fn put_all(lines: &Lines, out: &mut Vec<u8>) -> Result<(), NoMemory> {
+    for line in lines.as_slice() {
+        put_line(line, out)?;
+    }
+    Ok(())
+}
+
 #[test]
 fn lines_are_printed_one_after_the_other(rt: HostRuntime) -> Result<(), Fail> {
     let alloc = rt.alloc();
     let link = |name: &[u8]| Octets::from_slice(alloc, name);
     let mut lines = Lines::new(alloc);
-    lines.push(Line::Admit(1, link(b"r")?, 1))?;
-    lines.push(Line::Run(
-        2,
-        link(b"r")?,
-        words_from(alloc, &[b"SET", b"foo", b"bar"])?,
-    ))?;
+    lines.push(Line::Admit(1, link(b"x.data")?, 1))?;
+    lines.push(Line::Run(10, link(b"n1")?, words_from(alloc, "SET \\e \u{7f}")?))?;
     lines.push(Line::Take(5, link(b"r")?, 19))?;
-    lines.push(Line::Read(link(b"r")?, link(b"+OK\r\n$3\r\nbar\r\n$-1\r\n")?))?;
-    lines.push(Line::Run(
-        10,
-        link(b"n1")?,
-        words_from(alloc, &[b"", b"a b", b"\\e", b"\x00\x7f\xff"])?,
-    ))?;
+    lines.push(Line::Read(link(b"r")?, link(b"+OK\r\n$-1\r\n")?))?;
     lines.push(Line::Bad {
         link: link(b"r")?,
         number: 2,
         offset: 12,
     })?;
+    lines.push(Line::Fault(link(b"x.data")?, 3))?;
     lines.push(Line::Close(11, link(b"r")?))?;
     lines.push(Line::End(link(b"r")?))?;
     lines.push(Line::Take(u64::MAX, link(b"n1")?, 0))?;
     lines.push(Line::End(link(b"n1")?))?;
     assert!(rt; matches!(lines.pop(), Some(Line::End(_))));
     let mut out = Vec::from_slice(alloc, b"#0 ..\n")?;
-    for line in lines.as_slice() {
-        put_line(line, &mut out)?;
-    }
+    put_all(&lines, &mut out)?;
     let want = b"#0 ..
-#1 admit r 1
-#2 run r SET foo bar
+#1 admit x.data 1
+#10 run n1 SET \\\\e \\x7f
 #5 take r 19
-r < +OK\\r\\n$3\\r\\nbar\\r\\n$-1\\r\\n
-#10 run n1 \\e a\\sb \\\\e \\x00\\x7f\\xff
+r < +OK\\r\\n$-1\\r\\n
 r bad 2 12
+x.data fault 3
 #11 close r
 r end
 #18446744073709551615 take n1 0
+";
+    assert_eq!(rt; out.as_slice(), want.as_slice());
+    Ok(())
+}
+
+#[test]
+fn what_a_client_answers_is_printed(rt: HostRuntime) -> Result<(), Fail> {
+    let alloc = rt.alloc();
+    let name = || Octets::from_slice(alloc, b"x");
+    let mut lines = Lines::new(alloc);
+    lines.push(Line::Hit {
+        client: name()?,
+        value: Value::Blob(Octets::from_slice(alloc, b"a b")?),
+        entry: 9,
+        point: 12,
+    })?;
+    lines.push(Line::Miss(name()?, 3))?;
+    lines.push(Line::Sent(name()?, 4))?;
+    lines.push(Line::Answer(name()?, 4, Value::Number(-7)))?;
+    lines.push(Line::Wait(name()?, 5))?;
+    lines.push(Line::Down(name()?))?;
+    lines.push(Line::NotReady(name()?))?;
+    let query = words_from(alloc, "HGET k f")?;
+    lines.push(Line::Holds(name()?, query, Value::Null, 20))?;
+    lines.push(Line::Complete(name()?, 21))?;
+    let mut out = Vec::new(alloc);
+    put_all(&lines, &mut out)?;
+    let want = b"x hit $3\\r\\na\\sb\\r\\n from 9 at 12
+x miss 3
+x sent 4
+x answer 4 :-7\\r\\n
+x wait 5
+x down
+x not-ready
+x holds HGET k f = _\\r\\n from 20
+x complete 21
 ";
     assert_eq!(rt; out.as_slice(), want.as_slice());
     Ok(())

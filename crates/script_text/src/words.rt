@@ -1,8 +1,10 @@
 //! The parts of a line: names and words.
 ghost use Rattle.std.specs.Prelude.{◌≡◌, ◌==◌, ◌<◌, ◌++◌, ◌∷◌, List, ℕ, IfOk, OnOk, map};
 ghost use Rattle.std.specs.List.{list_all, slice_split};
-ghost use Rattle.script_text.specs.Words.{count_of, escaped, hex_value, is_name, is_name_byte};
-ghost use Rattle.script_text.specs.Words.{name_of, unescaped, word_of, words_of};
+ghost use Rattle.std.specs.Str.{bytes_eq};
+ghost use Rattle.script_text.specs.Words.{escaped, hex_value, is_link, is_name, is_name_byte};
+ghost use Rattle.script_text.specs.Words.{is_name_with, is_within, number_within, unescaped};
+ghost use Rattle.script_text.specs.Words.{word_of, words_of};
 ghost use Rattle.script_text.specs.Escapes.{unescaped_from};
 
 use command_words::put_printed;
@@ -23,20 +25,31 @@ fn has_name_bytes(text: &[u8]) -> bool
     text.iter().all(|b| matches!(*b, b'a'..=b'z' | b'0'..=b'9'))
 }
 
-fn is_name(text: &[u8]) -> bool
+pub fn is_text(part: &[u8], text: &[u8]) -> bool
+    ensures { result ≡ bytes_eq part.now text.now }
+{
+    part == text
+}
+
+pub fn is_name(text: &[u8]) -> bool
     ensures { result ≡ is_name text.now }
 {
     !text.is_empty() && text.len() <= LONGEST_NAME && has_name_bytes(text)
 }
 
-pub fn read_name(alloc: Global, text: &[u8]) -> Result<Option<Octets>, NoMemory>
-    ensures { IfOk result (λ o. o ≡ name_of text.now) }
+fn is_name_with(ending: &[u8], text: &[u8]) -> bool
+    ensures { result ≡ is_name_with ending.now text.now }
 {
-    if is_name(text) {
-        Ok(Some(Octets::from_slice(alloc, text)?))
-    } else {
-        Ok(None)
+    match text.strip_suffix(ending) {
+        Some(name) => is_name(name),
+        None => false,
     }
+}
+
+pub fn is_link(text: &[u8]) -> bool
+    ensures { result ≡ is_link text.now }
+{
+    is_name(text) || is_name_with(b".data", text) || is_name_with(b".inv", text)
 }
 
 /// Where a reader is in an escape.
@@ -138,19 +151,25 @@ pub fn read_words(alloc: Global, texts: &[&[u8]]) -> Result<Option<Words>, NoMem
     Ok(Some(words))
 }
 
-#[tactic(auto, unfolding(crate::specs::Words::count_of))]
-pub fn read_count(alloc: Global, text: &[u8]) -> Result<Option<u64>, NoMemory>
-    ensures { IfOk result (λ o. o ≡ count_of text.now) }
+fn is_within(low: u64, high: u64, number: u64) -> bool
+    ensures { result ≡ is_within low high number }
+{
+    low <= number && number <= high
+}
+
+#[tactic(auto, unfolding(crate::specs::Words::number_within))]
+pub fn read_within(alloc: Global, low: u64, high: u64, text: &[u8]) -> Result<Option<u64>, NoMemory>
+    ensures { IfOk result (λ o. o ≡ number_within low high text.now) }
 {
     let Ok(digits) = str::from_utf8(text) else {
         return Ok(None);
     };
-    let Ok(count) = digits.parse::<u64>() else {
+    let Ok(number) = digits.parse::<u64>() else {
         return Ok(None);
     };
-    let spelling = count.to_string(alloc)?;
-    if count > 0 && spelling.as_bytes() == text {
-        Ok(Some(count))
+    let spelling = number.to_string(alloc)?;
+    if is_within(low, high, number) && spelling.as_bytes() == text {
+        Ok(Some(number))
     } else {
         Ok(None)
     }

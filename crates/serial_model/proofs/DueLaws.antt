@@ -1,18 +1,16 @@
 -- Whom an entry tells on the third protocol is sent a push by it.
 use Rattle.std.proofs.Common.{◌≡◌, ◌+◌, ℕ, List, [], ◌∷◌, ◌++◌, true, cond, length}
-use Rattle.std.proofs.Common.{refl, ap, sym, ◌∙◌, append_assoc, inl, inr}
-use Rattle.std.specs.Prelude.{◌==◌, ◌&&◌}
+use Rattle.std.proofs.Common.{ap, sym, ◌∙◌, append_assoc, inl, inr}
+use Rattle.std.specs.Prelude.{◌==◌}
 use Rattle.std.specs.List.{list_any}
 use Rattle.std.proofs.lemmas.Bool.{eqb-true, and_parts, or_cases}
 use Rattle.std.proofs.lemmas.List.Folds.{list_any-append}
 use Rattle.resp_value.specs.declared.value.Proto.{Proto}
 use Rattle.resp_value.specs.declared.value.Proto.TheVariants.{Two, Three}
 use Rattle.serial_model.specs.declared.mode.Mode.{Mode}
-use Rattle.serial_model.specs.declared.history.Limits.{Limits}
-use Rattle.serial_model.specs.declared.history.Entry.{Entry}
 use Rattle.serial_model.specs.declared.history.Entry.TheVariants.{Admit, Run, Take, Close}
 use Rattle.serial_model.specs.Tracking.{Invalidation, push_of, tells, names_key, drop_group}
-use Rattle.serial_model.specs.History.{Sending, Message, sends, sent_to, by_proto, route, routed}
+use Rattle.serial_model.specs.History.{Sending, Message, sent_to, by_proto, route, routed}
 use Rattle.serial_model.specs.History.{modes, expiry_group, own_group, drops, reply_of, overgrown}
 use Rattle.serial_model.specs.Laws.{PushIsAmong, DueIsSent}
 use Rattle.serial_model.proofs.Tables.{sent_to-append}

@@ -1,33 +1,24 @@
 -- What each entry does, whatever the past: what it sends and what it changes.
-use Rattle.std.proofs.Common.{◌≡◌, ◌+◌, ℕ, List, [], ◌∷◌, ◌++◌, Bool, true, false, cond, length}
-use Rattle.std.proofs.Common.{Result, Ok, Err, Some, None}
-use Rattle.std.proofs.Common.{refl, ap, sym, ◌∙◌, append-nil}
-use Rattle.std.specs.Prelude.{◌==◌, ◌||◌}
-use Rattle.std.specs.Str.{bytes_eq}
-use Rattle.std.specs.List.{list_any}
-use Rattle.std.specs.Cmp.Lexicographic.{nat_list_cmp_total, texts_ties}
-use Rattle.std.specs.FinMap.{get, insert, get-insert}
+use Rattle.std.proofs.Common.{◌≡◌, ◌+◌, ℕ, List, [], ◌∷◌, ◌++◌, true, false, cond, length}
+use Rattle.std.proofs.Common.{Result}
+use Rattle.std.proofs.Common.{refl, ap, sym, subst, ◌∙◌, append-nil}
+use Rattle.std.specs.Prelude.{◌==◌}
 use Rattle.command_words.specs.declared.command.Command.{Command}
-use Rattle.command_words.specs.declared.command.Command.TheVariants.{Get, Set, Hello}
-use Rattle.command_words.specs.declared.command.Command.TheVariants.{ClientTracking}
-use Rattle.command_words.specs.declared.command.TrackOptions.{TrackOptions}
 use Rattle.command_words.specs.declared.command.WordFault.{WordFault}
-use Rattle.serial_model.specs.Modes.{is_served_tracking}
-use Rattle.command_words.specs.declared.command.SetWhen.TheVariants.{Always}
-use Rattle.command_words.specs.declared.command.SetLife.TheVariants.{Cleared}
-use Rattle.command_words.specs.declared.command.WordFault.TheVariants.{Syntax}
-use Rattle.command_words.specs.Space.{Space, Held, Text, held_at}
+use Rattle.command_words.specs.Effect.{Effect}
+use Rattle.command_words.specs.Laws.{signals}
+use Rattle.command_words.specs.Space.{Space, held_at}
 use Rattle.command_words.specs.Words.{reading}
-use Rattle.command_words.specs.Effects.{effect, string_effect}
 use Rattle.serial_model.specs.declared.mode.Runner.{Runner}
 use Rattle.serial_model.specs.declared.history.Limits.{Limits}
 use Rattle.serial_model.specs.declared.history.Entry.{Entry}
 use Rattle.serial_model.specs.declared.history.Entry.TheVariants.{Admit, Run, Take, Close}
 use Rattle.serial_model.specs.History.{Sending, End, sends, sent_to, sent, has_ended}
 use Rattle.serial_model.specs.History.{IsLegal, served}
-use Rattle.serial_model.specs.History.{effect_of, ran_over, ran, keyspace, is_plain, is_admitted}
+use Rattle.serial_model.specs.History.{effect_of, ran_over, ran, keyspace, is_admitted}
 use Rattle.serial_model.specs.History.{runner}
-use Rattle.serial_model.specs.Laws.{AreOf, is_signalled}
+use Rattle.serial_model.specs.Laws.{AreOf}
+use Rattle.serial_model.proofs.ServedRows.{served_cases, data_effect, row_of}
 use Rattle.serial_model.proofs.Streams.{IsLive, live, run_sends_none}
 use Rattle.std.proofs.lemmas.Bool.{eqb-true}
 
@@ -90,53 +81,23 @@ runs_live l id moment words past h = live l past id h.0
 
 -- ---- what is changed
 
--- a write of a key leaves the others
-other_held : (space : Space) (k q : List ℕ) (v : Held) → list_any (bytes_eq q) (k ∷ []) ≡ false
-    → held_at q (insert space k v) ≡ held_at q space
-other_held space k q v h =
-    get-insert nat_list_cmp_total space k v q
-    ∙ ap (λ b. cond b (Some v) (get space q)) (sym (texts_ties q k) ∙ differ (bytes_eq q k) h)
-  where
-    differ : (b : Bool) → (b || false) ≡ false → b ≡ false
-    differ true h = h
-    differ false h = refl
-
-set_change : (by : Runner) (words : List (List ℕ)) (key value : List ℕ) (plain : Bool)
-    (space : Space) (m : ℕ) (q : List ℕ)
-    → (let does = effect_of by words (cond plain (Ok (Set key value Always Cleared)) (Err Syntax))
-    space m in
-    is_signalled does.signalled q ≡ false → held_at q does.space ≡ held_at q space)
-unfolding effect string_effect
-set_change by words key value true space m q h =
-    other_held space key q (record { content = Text value; deadline = None }) h
-set_change by words key value false space m q h = refl
-
-tracking_change : (by : Runner) (words : List (List ℕ)) (options : TrackOptions) (plain : Bool)
-    (space : Space) (m : ℕ) (q : List ℕ)
-    → (let does = effect_of by words (cond plain (Ok (ClientTracking options)) (Err Syntax)) space
-    m
-    in held_at q does.space ≡ held_at q space)
-tracking_change by words options true space m q = refl
-tracking_change by words options false space m q = refl
-
 change_of : (by : Runner) (words : List (List ℕ)) (read : Result Command WordFault) (space : Space)
     (m : ℕ) (q : List ℕ)
-    → is_signalled (effect_of by words (served read) space m).signalled q ≡ false
+    → signals (effect_of by words (served read) space m).signalled q ≡ false
     → held_at q (effect_of by words (served read) space m).space ≡ held_at q space
-unfolding effect string_effect
-change_of by words (Ok (Hello word)) space m q h = refl
-change_of by words (Ok (ClientTracking options)) space m q h =
-    tracking_change by words options (is_served_tracking options) space m q
-change_of by words (Ok (Get key)) space m q h = refl
-change_of by words (Ok (Set key value when life)) space m q h =
-    set_change by words key value (is_plain when life) space m q h
-change_of by words (Ok _) space m q h = refl
-change_of by words (Err fault) space m q h = refl
+change_of by words read space m q =
+    served_cases (λ r. signals (effect_of by words r space m).signalled q ≡ false
+    → held_at q (effect_of by words r space m).space ≡ held_at q space)
+    (λ word h. refl) (λ options h. refl)
+    (λ c is. subst (λ (e : Effect). signals e.signalled q ≡ false
+    → held_at q e.space ≡ held_at q space)
+    (sym (data_effect by words c space m is)) ((row_of c space m is).others_stay q))
+    (λ fault h. refl) read
 
 -- a key that a Run does not signal holds what it held
 pub held_same : (l : Limits) (id moment : ℕ) (words : List (List ℕ)) (key : List ℕ)
     (past : List Entry)
-    → is_signalled (ran l past id words moment).signalled key ≡ false
+    → signals (ran l past id words moment).signalled key ≡ false
     → held_at key (ran l past id words moment).space ≡ held_at key (keyspace l past)
 unfolding ran_over
 held_same l id moment words key past h =

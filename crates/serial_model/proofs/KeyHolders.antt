@@ -12,10 +12,10 @@ use Rattle.std.proofs.lemmas.Bool.Decides.{nat_tests}
 use Rattle.std.proofs.lemmas.List.Folds.{list_any-append}
 use Rattle.track_table.specs.declared.table.Held.{Held}
 use Rattle.track_table.specs.Table.{holders_of, with_holder, without_holder, is_held, remembered}
-use Rattle.track_table.specs.Table.{without_key, freed_of, without_connection}
+use Rattle.track_table.specs.Table.{without_key, freed_of, without_connection, with_keys}
 use Rattle.track_table.proofs.Orders.{holders_remembered}
 use Rattle.serial_model.specs.Modes.{Memory, Remembers, Forgets}
-use Rattle.serial_model.specs.Tracking.{without_keys, with_keys, remembering, told_of, group}
+use Rattle.serial_model.specs.Tracking.{without_keys, remembering, told_of, group}
 use Rattle.serial_model.specs.Tracking.{drop_group, tells}
 use Rattle.serial_model.specs.Laws.{is_among, is_forgets}
 

@@ -5,6 +5,7 @@ pub mod Others
 pub mod Turning
 pub mod Posts
 pub mod ModeSteps
+pub mod ServedRows
 pub mod EntryLaws
 pub mod QueryKeys
 pub mod ReadLaws

@@ -34,7 +34,8 @@ abbrev first : List (List ℕ) → List ℕ
 first [] = []
 first (key ∷ words) = key
 
-abbrev keys_read : Read Command → List (List ℕ)
+-- the keys that what was read as a command reads
+abbrev pub keys_read : Read Command → List (List ℕ)
 keys_read (Ok command) = read command
 keys_read (Err fault) = []
 
@@ -240,12 +241,6 @@ unfolding reading
 reads_its_key [] h = absurd (let no : ⊥ = cc in no)
 reads_its_key (name ∷ words) h =
     (of_name (str_to_ascii_lowercase name) words).is h ∙ ap (λ k. k ∷ []) (first_key name words)
-
-pub key_of_get : (words : List (List ℕ)) (key : List ℕ) → reading words ≡ Ok (command.Get key)
-    → key ≡ key_of words
-key_of_get words key e =
-    let reads = reads_its_key words (ap reads_as_cacheable e) in
-    let both : key ∷ [] ≡ key_of words ∷ [] = sym (ap keys_read e) ∙ reads in cc
 
 -- ---- the answer to a query depends on what its key holds alone
 

@@ -163,7 +163,8 @@ module _ (l : Limits) where
   fresh_other past c h lt x =
       let k = admitted_id past h x.0 in grind (arith, nat_tests)
 
-  sent_fresh : (past : List Entry) (c : ℕ) → IsLegal l past → admitted past < c → sent l c past ≡ []
+  pub sent_fresh : (past : List Entry) (c : ℕ) → IsLegal l past → admitted past < c
+      → sent l c past ≡ []
   sent_fresh [] c h lt = refl
   sent_fresh (Admit id ∷ past) c h lt = rw (sent_fresh past c h.2 (omega arith)) refl
   sent_fresh (Run id words moment ∷ past) c h lt =

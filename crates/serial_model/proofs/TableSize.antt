@@ -6,11 +6,11 @@ use Prim.Native.Nat.{suc}
 use Rattle.std.specs.Str.{bytes_eq}
 use Rattle.std.proofs.lemmas.List.{length-drop}
 use Rattle.track_table.specs.declared.table.Held.{Held}
-use Rattle.track_table.specs.Table.{is_held, without_key, freed_of, without_connection}
+use Rattle.track_table.specs.Table.{is_held, without_key, freed_of, without_connection, kept}
 use Rattle.serial_model.specs.declared.history.Limits.{Limits}
 use Rattle.serial_model.specs.declared.history.Entry.{Entry}
 use Rattle.serial_model.specs.declared.history.Entry.TheVariants.{Admit, Run, Take, Close}
-use Rattle.serial_model.specs.Tracking.{without_keys, kept}
+use Rattle.serial_model.specs.Tracking.{without_keys}
 use Rattle.serial_model.specs.History.{table, table_then, table_grown, expired}
 
 module _ (p : Held → Bool) where

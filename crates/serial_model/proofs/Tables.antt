@@ -8,10 +8,11 @@ use Rattle.resp_value.specs.declared.value.Proto.{Proto}
 use Rattle.resp_value.specs.declared.value.Proto.TheVariants.{Two, Three}
 use Rattle.track_table.specs.declared.table.Held.{Held}
 use Rattle.track_table.specs.Table.{with_holder, without_holder, is_held, holders_of, remembered}
-use Rattle.track_table.specs.Table.{without_key, freed_of, without_connection}
+use Rattle.track_table.specs.Table.{without_key, freed_of, without_connection, with_keys}
+use Rattle.track_table.specs.Table.{dropped, kept}
 use Rattle.serial_model.specs.declared.mode.Mode.{Mode}
 use Rattle.serial_model.specs.Modes.{Memory, Remembers, Forgets}
-use Rattle.serial_model.specs.Tracking.{without_keys, with_keys, remembering, dropped, kept}
+use Rattle.serial_model.specs.Tracking.{without_keys, remembering}
 use Rattle.serial_model.specs.Tracking.{Invalidation, told_of, group, drop_group, push_of}
 use Rattle.serial_model.specs.History.{Sending, Message, sent_to, by_proto, route, routed}
 

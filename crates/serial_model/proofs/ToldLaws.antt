@@ -1,6 +1,6 @@
 -- Whom an entry tells of a key, and what it leaves of who is to be told.
 use Rattle.std.proofs.Common.{◌≡◌, ◌≤◌, ◌-◌, ℕ, List, [], ◌∷◌, Bool, true, false, cond}
-use Rattle.std.proofs.Common.{length, take, drop, Result, Ok, Err, refl, ap, sym, ◌∙◌, arith}
+use Rattle.std.proofs.Common.{length, take, drop, Result, Ok, Err, refl, ap, sym, subst, ◌∙◌, arith}
 use Rattle.std.proofs.Common.{inl, inr}
 use Rattle.std.specs.Prelude.{◌==◌, ◌&&◌, ◌||◌, not}
 use Rattle.std.specs.List.{list_any}
@@ -8,76 +8,54 @@ use Rattle.std.specs.Str.{bytes_eq}
 use Rattle.std.proofs.lemmas.Bool.{and_parts, and_from, or_left, or_right, or_cases, both_ways}
 use Rattle.std.proofs.lemmas.List.Folds.{list_any-append}
 use Rattle.command_words.specs.declared.command.Command.{Command}
-use Rattle.command_words.specs.declared.command.Command.TheVariants.{Get, Set, Hello}
-use Rattle.command_words.specs.declared.command.Command.TheVariants.{ClientTracking}
-use Rattle.command_words.specs.declared.command.TrackOptions.{TrackOptions}
-use Rattle.command_words.specs.declared.command.SetWhen.TheVariants.{Always}
-use Rattle.command_words.specs.declared.command.SetLife.TheVariants.{Cleared}
 use Rattle.command_words.specs.declared.command.WordFault.{WordFault}
-use Rattle.command_words.specs.declared.command.WordFault.TheVariants.{Syntax}
+use Rattle.command_words.specs.Effect.{Effect}
+use Rattle.command_words.specs.Laws as laws
 use Rattle.command_words.specs.Space.{Space}
 use Rattle.command_words.specs.Words.{reading}
-use Rattle.command_words.specs.Queries.{reads_as_cacheable, key_of}
-use Rattle.command_words.specs.Effects.{effect, string_effect}
+use Rattle.command_words.specs.Queries.{reads_as_cacheable, key_of, read}
 use Rattle.track_table.specs.declared.table.Held.{Held}
-use Rattle.track_table.specs.Table.{holders_of, without_connection}
+use Rattle.track_table.specs.Table.{holders_of, without_connection, dropped}
 use Rattle.serial_model.specs.declared.mode.Runner.{Runner}
 use Rattle.serial_model.specs.declared.mode.Mode.{Mode}
 use Rattle.serial_model.specs.declared.history.Limits.{Limits}
 use Rattle.serial_model.specs.declared.history.Entry.{Entry}
 use Rattle.serial_model.specs.declared.history.Entry.TheVariants.{Admit, Run, Take, Close}
-use Rattle.serial_model.specs.Modes.{Memory, Remembers, Forgets, is_served_tracking, own_effect}
+use Rattle.serial_model.specs.Modes.{Memory, Remembers, Forgets, OwnEffect, own_effect}
 use Rattle.serial_model.specs.Modes.{remembers_read}
-use Rattle.serial_model.specs.Tracking.{without_keys, remembering, dropped, drop_group, tells}
-use Rattle.serial_model.specs.History.{effect_of, ran_over, ran, made_of, made, is_plain, served}
+use Rattle.serial_model.specs.Tracking.{without_keys, remembering, drop_group, tells}
+use Rattle.serial_model.specs.History.{effect_of, ran_over, ran, made_of, made, served}
 use Rattle.serial_model.specs.History.{runner, keyspace, mode, has_ended, table, signals}
 use Rattle.serial_model.specs.History.{signalled_keys, table_then, table_grown, own_group, drops}
-use Rattle.serial_model.specs.Laws.{is_among, is_signalled, is_told, drops_key}
+use Rattle.serial_model.specs.Laws.{is_among, is_told, drops_key}
 use Rattle.serial_model.specs.Laws.{is_forgets, ToldIsDue, ReadIsOwedOrTold, ToldEndsForCause}
 use Rattle.serial_model.proofs.KeyHolders.{holds, keys_apart, remembering_keeps, remembered_own}
 use Rattle.serial_model.proofs.KeyHolders.{dropped_or_kept, drop_tells, group_tells}
 use Rattle.serial_model.proofs.KeyHolders.{without_other}
 use Rattle.serial_model.proofs.TableSize.{without_within, without_keys_within, table_then_within}
 use Rattle.serial_model.proofs.Streams.{not_ended}
-use Rattle.serial_model.proofs.ReadLaws.{served_get}
-use Rattle.serial_model.proofs.QueryKeys.{key_of_get}
+use Rattle.serial_model.proofs.ServedRows.{served_cases, served_is, data_effect, row_of}
+use Rattle.serial_model.proofs.ServedRows.{data_own, query_data}
+use Rattle.serial_model.proofs.QueryKeys.{keys_read, reads_its_key}
 
 -- ---- no command that is served signals all
-
-set_signals : (by : Runner) (words : List (List ℕ)) (key value : List ℕ) (plain : Bool)
-    (space : Space) (m : ℕ) (q : List ℕ)
-    → (let does = effect_of by words (cond plain (Ok (Set key value Always Cleared)) (Err Syntax))
-    space m in
-    is_signalled does.signalled q ≡ is_among (signalled_keys does.signalled) q)
-unfolding effect string_effect
-set_signals by words key value true space m q = refl
-set_signals by words key value false space m q = refl
-
-tracking_signals : (by : Runner) (words : List (List ℕ)) (options : TrackOptions) (plain : Bool)
-    (space : Space) (m : ℕ) (q : List ℕ)
-    → (let does = effect_of by words (cond plain (Ok (ClientTracking options)) (Err Syntax)) space m
-    in
-    is_signalled does.signalled q ≡ is_among (signalled_keys does.signalled) q)
-tracking_signals by words options true space m q = refl
-tracking_signals by words options false space m q = refl
 
 signals_of : (by : Runner) (words : List (List ℕ)) (read : Result Command WordFault)
     (space : Space) (m : ℕ) (q : List ℕ)
     → (let does = effect_of by words (served read) space m in
-    is_signalled does.signalled q ≡ is_among (signalled_keys does.signalled) q)
-unfolding effect string_effect
-signals_of by words (Ok (Hello word)) space m q = refl
-signals_of by words (Ok (ClientTracking options)) space m q =
-    tracking_signals by words options (is_served_tracking options) space m q
-signals_of by words (Ok (Get key)) space m q = refl
-signals_of by words (Ok (Set key value when life)) space m q =
-    set_signals by words key value (is_plain when life) space m q
-signals_of by words (Ok _) space m q = refl
-signals_of by words (Err fault) space m q = refl
+    laws.signals does.signalled q ≡ is_among (signalled_keys does.signalled) q)
+signals_of by words read space m q =
+    served_cases (λ r. laws.signals (effect_of by words r space m).signalled q
+    ≡ is_among (signalled_keys (effect_of by words r space m).signalled) q)
+    (λ word. refl) (λ options. refl)
+    (λ c is. subst (λ (e : Effect). laws.signals e.signalled q
+    ≡ is_among (signalled_keys e.signalled) q)
+    (sym (data_effect by words c space m is)) ((row_of c space m is).signals_keys q))
+    (λ fault. refl) read
 
 signalled_is_among : (l : Limits) (past : List Entry) (id m : ℕ) (words : List (List ℕ))
     (key : List ℕ)
-    → is_signalled (ran l past id words m).signalled key ≡ is_among (signals l past id words m) key
+    → laws.signals (ran l past id words m).signalled key ≡ is_among (signals l past id words m) key
 unfolding ran_over
 signalled_is_among l past id m words key =
     signals_of (runner l past id) words (reading words) (keyspace l past) m key
@@ -128,7 +106,7 @@ told_is_due l (Run id words m) past c key told h =
     let keys = signals l past id words m in
     let own = list_any (tells c key) (own_group l past id words m) in
     let last = list_any (tells c key) (drop_group (drops l past id words m)) in
-    let signalled = is_signalled (ran l past id words m).signalled key in
+    let signalled = laws.signals (ran l past id words m).signalled key in
     let within = table_then_within l past m in
     let fewer = without_keys_within keys (table_then l past m) in
     list_any-append (tells c key) (own_group l past id words m)
@@ -147,12 +125,13 @@ told_is_due l (Close id) past c key told h = absurd (let no : ⊥ = cc in no)
 
 -- ---- a remembered read is owed or told
 
-get_remembers : (read : Result Command WordFault) (now : Mode) (key : List ℕ)
-    → read ≡ Ok (Get key) → remembers_read now ≡ true
-    → (own_effect (served read) now).memory ≡ Remembers (key ∷ [])
-get_remembers read now key is tracks =
-    ap (λ r. (own_effect (served r) now).memory) is
-    ∙ ap (λ b. Remembers (cond b (key ∷ []) [])) tracks
+-- a cacheable query is remembered by what it reads
+query_remembers : (r : Result Command WordFault) (now : Mode) → reads_as_cacheable r ≡ true
+    → remembers_read now ≡ true → (own_effect r now).memory ≡ Remembers (keys_read r)
+query_remembers (Ok c) now h tracks =
+    ap (λ (o : OwnEffect). o.memory) (data_own c now (query_data c h))
+    ∙ ap (λ b. Remembers (cond b (read c) [])) tracks
+query_remembers (Err fault) now h tracks = absurd (let no : ⊥ = cc in no)
 
 read_remembers : (l : Limits) (past : List Entry) (c : ℕ) (words : List (List ℕ)) (key : List ℕ)
     → reads_as_cacheable (served (reading words)) ≡ true
@@ -160,9 +139,11 @@ read_remembers : (l : Limits) (past : List Entry) (c : ℕ) (words : List (List 
     → (made l past c words).memory ≡ Remembers (key ∷ [])
 unfolding made_of
 read_remembers l past c words key cacheable tracks is =
-    let get = served_get (reading words) cacheable in
-    get_remembers (reading words) (mode l c past) get.0 get.1 tracks
-    ∙ ap (λ k. Remembers (k ∷ [])) (key_of_get words get.0 get.1 ∙ is)
+    let same = served_is (reading words) cacheable in
+    query_remembers (served (reading words)) (mode l c past) cacheable tracks
+    ∙ ap (λ r. Remembers (keys_read r)) same
+    ∙ ap Remembers (reads_its_key words (sym (ap reads_as_cacheable same) ∙ cacheable))
+    ∙ ap (λ k. Remembers (k ∷ [])) is
 
 owed : (ended stays own last : Bool) → ended ≡ false → (stays || last) ≡ true
     → (((not ended && stays) || (own || last)) || ended) ≡ true
@@ -214,7 +195,7 @@ told_ends_for_cause l (Run id words m) past c key told gone =
     let memory = (made l past id words).memory in
     let grown = table_grown l past id words m in
     let n = length grown - l.table_max in
-    let signalled = is_signalled (ran l past id words m).signalled key in
+    let signalled = laws.signals (ran l past id words m).signalled key in
     let drops_it = list_any (λ r. bytes_eq key r.key) (drops l past id words m) in
     cause signalled drops_it ((id == c) && is_forgets memory) (has_ended l c past)
     (λ quiet stays goes_on.

@@ -1,7 +1,7 @@
 -- What a history says. A past is a list of entries, the newest first; entries, connections and the
 -- runs of words are numbered from 1, and 0 is no number.
-use Rattle.std.specs.Prelude.{◌≡◌, ◌+◌, ◌-◌, ◌≤◌, ◌&&◌, ◌==◌, ℕ, List, [], ◌∷◌, ◌++◌, Bool, true}
-use Rattle.std.specs.Prelude.{false, not, if◌then◌else◌, nat_lt, nat_le, length, min, take}
+use Rattle.std.specs.Prelude.{◌≡◌, ◌+◌, ◌-◌, ◌≤◌, ◌&&◌, ◌||◌, ◌==◌, ℕ, List, [], ◌∷◌, ◌++◌, Bool}
+use Rattle.std.specs.Prelude.{true, false, not, if◌then◌else◌, nat_lt, nat_le, length, min, take}
 use Rattle.std.specs.Prelude.{drop}
 use Rattle.std.specs.Prelude.{Ok, Err, Result, codes}
 use Rattle.std.specs.List.{flat_map}
@@ -13,28 +13,26 @@ use Rattle.resp_value.specs.declared.value.Proto.TheVariants.{Two, Three}
 use Rattle.resp_value.specs.ValueTree.{tree_of}
 use Rattle.resp_value.specs.Spelling.{spelling}
 use Rattle.command_words.specs.declared.command.Command.{Command}
-use Rattle.command_words.specs.declared.command.Command.TheVariants.{Get, Set, Hello}
+use Rattle.command_words.specs.declared.command.Command.TheVariants.{Set, Hello}
 use Rattle.command_words.specs.declared.command.Command.TheVariants.{ClientTracking}
 use Rattle.command_words.specs.declared.command.Signalled.{Signalled}
 use Rattle.command_words.specs.declared.command.Signalled.TheVariants as signalled
-use Rattle.command_words.specs.declared.command.SetWhen.{SetWhen}
-use Rattle.command_words.specs.declared.command.SetWhen.TheVariants.{Always}
 use Rattle.command_words.specs.declared.command.SetLife.{SetLife}
-use Rattle.command_words.specs.declared.command.SetLife.TheVariants.{Cleared}
+use Rattle.command_words.specs.declared.command.SetLife.TheVariants.{Cleared, Kept}
 use Rattle.command_words.specs.declared.command.WordFault.{WordFault}
-use Rattle.command_words.specs.declared.command.WordFault.TheVariants.{Unknown, Syntax}
+use Rattle.command_words.specs.declared.command.WordFault.TheVariants.{Unknown}
 use Rattle.command_words.specs.Words.{reading, fault_text}
 use Rattle.command_words.specs.Space.{Space}
 use Rattle.command_words.specs.Effect.{Effect, replied}
-use Rattle.command_words.specs.Effects.{effect}
+use Rattle.command_words.specs.Effects.{effect, is_string, is_hash}
 use Rattle.serial_model.specs.declared.mode.Mode.{Mode}
 use Rattle.serial_model.specs.declared.mode.Runner.{Runner}
 use Rattle.track_table.specs.declared.table.Held.{Held}
-use Rattle.track_table.specs.Table.{without_connection}
+use Rattle.track_table.specs.Table.{without_connection, dropped, kept}
 use Rattle.serial_model.specs.Modes.{first_mode, hello, hello_reply, is_served_tracking}
 use Rattle.serial_model.specs.Modes.{OwnEffect, own_effect, Memory}
 use Rattle.serial_model.specs.Tracking.{Invalidation, group, drop_group, push_of, without_keys}
-use Rattle.serial_model.specs.Tracking.{remembering, dropped, kept}
+use Rattle.serial_model.specs.Tracking.{remembering}
 use Rattle.serial_model.specs.declared.history.Limits.{Limits}
 use Rattle.serial_model.specs.declared.history.Entry.{Entry}
 use Rattle.serial_model.specs.declared.history.Entry.TheVariants.{Admit, Run, Take, Close}
@@ -63,20 +61,27 @@ latest (Close id ∷ past) = latest past
 
 -- ---- what words do
 
-abbrev pub is_plain : SetWhen → SetLife → Bool
-is_plain Always Cleared = true
-is_plain when life = false
+-- SET gives no deadline that the key did not have
+abbrev pub gives_no_deadline : SetLife → Bool
+gives_no_deadline Cleared = true
+gives_no_deadline Kept = true
+gives_no_deadline life = false
 
--- the commands that the server runs: CLIENT TRACKING and SET without options, GET and HELLO; words
--- that read as another are unknown to it
+-- a command on strings or on hashes
+abbrev pub is_data : Command → Bool
+is_data command = is_string command || is_hash command
+
+-- the commands that the server runs: those on strings and on hashes, but for SET with a new
+-- deadline; HELLO; and CLIENT TRACKING without options
+abbrev pub is_served : Command → Bool
+is_served (Hello word) = true
+is_served (ClientTracking options) = is_served_tracking options
+is_served (Set key value when life) = gives_no_deadline life
+is_served command = is_data command
+
+-- words that read as another are unknown to it
 abbrev pub served : Result Command WordFault → Result Command WordFault
-served (Ok (Hello word)) = Ok (Hello word)
-served (Ok (ClientTracking options)) =
-    if is_served_tracking options then Ok (ClientTracking options) else Err Syntax
-served (Ok (Get key)) = Ok (Get key)
-served (Ok (Set key value when life)) =
-    if is_plain when life then Ok (Set key value Always Cleared) else Err Syntax
-served (Ok command) = Err Unknown
+served (Ok command) = if is_served command then Ok command else Err Unknown
 served (Err fault) = Err fault
 
 abbrev pub served_reading : List (List ℕ) → Result Command WordFault
@@ -326,6 +331,15 @@ runs_of c (Run id words moment ∷ past) =
     if id == c then runs_of c past ++ words ∷ [] else runs_of c past
 runs_of c (Take id max ∷ past) = runs_of c past
 runs_of c (Close id ∷ past) = runs_of c past
+
+-- the numbers of the entries at which a connection's commands ran, in order
+abbrev pub run_entries : ℕ → List Entry → List ℕ
+run_entries c [] = []
+run_entries c (Admit id ∷ past) = run_entries c past
+run_entries c (Run id words moment ∷ past) =
+    if id == c then run_entries c past ++ (length past + 1) ∷ [] else run_entries c past
+run_entries c (Take id max ∷ past) = run_entries c past
+run_entries c (Close id ∷ past) = run_entries c past
 
 -- ---- which pasts there are
 

@@ -6,8 +6,7 @@ use Rattle.std.specs.List.{list_any}
 use Rattle.std.specs.Str.{bytes_eq}
 use Rattle.resp_value.specs.Lists.{IsPrefix}
 use Rattle.resp_value.specs.declared.value.Proto.TheVariants.{Three}
-use Rattle.command_words.specs.declared.command.Signalled.{Signalled}
-use Rattle.command_words.specs.declared.command.Signalled.TheVariants as signalled
+use Rattle.command_words.specs.Laws.{signals}
 use Rattle.command_words.specs.Space.{held_at}
 use Rattle.serial_model.specs.declared.history.Limits.{Limits}
 use Rattle.serial_model.specs.declared.history.Entry.{Entry}
@@ -156,14 +155,10 @@ RunsLive =
 abbrev pub is_among : List (List ℕ) → List ℕ → Bool
 is_among keys key = list_any (bytes_eq key) keys
 
-abbrev pub is_signalled : Signalled → List ℕ → Bool
-is_signalled (signalled.Keys keys) key = is_among keys key
-is_signalled signalled.All key = true
-
 -- an entry signals a key
 abbrev pub signals_key : Limits → Entry → List Entry → List ℕ → Bool
 signals_key l (entry.Run id words moment) past key =
-    is_among (expired l past moment) key || is_signalled (ran l past id words moment).signalled key
+    is_among (expired l past moment) key || signals (ran l past id words moment).signalled key
 signals_key l _ past key = false
 
 -- an entry drops a key from the table

@@ -1,14 +1,14 @@
 -- Which keys the connections remember, and whom a change of them is told, in order (the client-side
 -- caching reference; the order inside a group is this project's).
-use Rattle.std.specs.Prelude.{◌-◌, ◌==◌, ◌&&◌, ℕ, List, [], ◌∷◌, ◌++◌, Bool, true}
-use Rattle.std.specs.Prelude.{Option, Some, None, length, take, drop, map, codes}
+use Rattle.std.specs.Prelude.{◌≡◌, ◌==◌, ◌&&◌, ℕ, List, [], ◌∷◌, ◌++◌, Bool, true, false}
+use Rattle.std.specs.Prelude.{Option, Some, None, map, codes}
 use Rattle.std.specs.List.{list_any}
 use Rattle.std.specs.Str.{bytes_eq}
 use Rattle.resp_value.specs.declared.value.Value.{Value}
 use Rattle.resp_value.specs.declared.value.Value.TheVariants.{Push}
 use Rattle.resp_value.specs.Tree.{Tree, blob, array, null, trees_of}
 use Rattle.track_table.specs.declared.table.Held.{Held}
-use Rattle.track_table.specs.Table.{holders_of, remembered, without_key, without_connection}
+use Rattle.track_table.specs.Table.{holders_of, with_keys, without_key, without_connection}
 use Rattle.serial_model.specs.Modes.{Memory, Remembers, Forgets}
 
 -- ---- what is remembered: keys in order of age, each with its holders
@@ -17,22 +17,10 @@ abbrev pub without_keys : List (List ℕ) → List Held → List Held
 without_keys [] rows = rows
 without_keys (key ∷ keys) rows = without_keys keys (without_key key rows)
 
--- a connection remembers these keys too: of those that are new the first is the oldest
-abbrev pub with_keys : ℕ → List (List ℕ) → List Held → List Held
-with_keys id [] rows = rows
-with_keys id (key ∷ keys) rows = with_keys id keys (remembered id key rows)
-
 -- what a connection remembers after its command
 abbrev pub remembering : ℕ → Memory → List Held → List Held
 remembering id (Remembers keys) rows = with_keys id keys rows
 remembering id Forgets rows = without_connection id rows
-
--- of more keys than the limit the oldest are dropped
-abbrev pub dropped : ℕ → List Held → List Held
-dropped limit rows = take (length rows - limit) rows
-
-abbrev pub kept : ℕ → List Held → List Held
-kept limit rows = drop (length rows - limit) rows
 
 -- ---- who is told
 
@@ -50,6 +38,11 @@ told_of key (id ∷ ids) = record { to = id; keys = Some (key ∷ []) } ∷ told
 abbrev pub group : List (List ℕ) → List Held → List Invalidation
 group [] rows = []
 group (key ∷ keys) rows = told_of key (holders_of key rows) ++ group keys (without_key key rows)
+
+-- each key is there once
+abbrev pub AreApart : List (List ℕ) → Type 0
+AreApart [] = Unit {0}
+AreApart (key ∷ keys) = (list_any (bytes_eq key) keys ≡ false) × AreApart keys
 
 -- the holders of keys that were dropped
 abbrev pub drop_group : List Held → List Invalidation

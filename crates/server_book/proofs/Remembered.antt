@@ -1,16 +1,14 @@
 -- Remembered keys whose holders are there, and what is told of those that are pushed out.
-use Rattle.std.proofs.Common.{◌≡◌, ◌+◌, ◌-◌, ◌≤◌, ℕ, List, [], ◌∷◌, length, take, drop}
-use Rattle.std.proofs.Common.{sym, ap, subst, ◌∙◌, refl, arith, Bool, true, false, cond, map}
-use Rattle.std.proofs.Common.{append-nil, Some, None}
+use Rattle.std.proofs.Common.{◌≡◌, ◌-◌, ◌≤◌, ℕ, List, [], ◌∷◌, length, take, drop}
+use Rattle.std.proofs.Common.{ap, ◌∙◌, arith, Bool, true, false, cond, map}
 use Rattle.std.specs.Prelude.{◌==◌, nat_lt, not, filter}
 use Rattle.std.specs.Str.{bytes_eq}
-use Rattle.std.proofs.lemmas.Slice.Eq.{bytes_eq-Decides}
-use Rattle.std.proofs.lemmas.Bool.Decides.{nat_tests}
 use Rattle.std.proofs.lemmas.List.{length-map}
 use Rattle.track_table.specs.declared.table.Held.{Held}
 use Rattle.track_table.specs.Table.{holders_of, remembered, with_holder, without_key, is_held}
-use Rattle.track_table.specs.Table.{without_connection, freed_of, oldest_over, TableState}
-use Rattle.track_table.specs.Order.{IsTable, HasNo, AreHeld}
+use Rattle.track_table.specs.Table.{without_connection, freed_of, TableState, with_keys}
+use Rattle.track_table.specs.Table.{dropped, kept}
+use Rattle.track_table.specs.Order.{IsTable}
 use Prim.Native.Nat.{zero, suc}
 use Rattle.track_table.proofs.Orders.{table_remembered, table_without_key}
 use Rattle.track_table.proofs.Orders.{table_without_connection}
@@ -18,8 +16,7 @@ use Rattle.serial_model.specs.declared.history.Limits.{Limits}
 use Rattle.serial_model.specs.declared.history.Entry.{Entry}
 use Rattle.serial_model.specs.declared.history.Entry.TheVariants.{Admit, Run, Take, Close}
 use Rattle.serial_model.specs.Modes.{Memory, Remembers, Forgets}
-use Rattle.serial_model.specs.Tracking.{dropped, kept, drop_group, told_of, Invalidation}
-use Rattle.serial_model.specs.Tracking.{without_keys, with_keys, remembering}
+use Rattle.serial_model.specs.Tracking.{Invalidation, without_keys, remembering}
 use Rattle.serial_model.specs.History.{table, table_grown, table_then, made, signals, expired}
 use Rattle.serial_model.proofs.Tables.{AllIn, AllRows, AllTo}
 use Rattle.server_book.proofs.Sendings.{AreToldThere}
@@ -52,7 +49,7 @@ module _ (cs : List Connection) where
         ]
       ]
 
-  pub remembered_there : (id : ℕ) (key : List ℕ) (rows : List Held) → IsId cs id
+  remembered_there : (id : ℕ) (key : List ℕ) (rows : List Held) → IsId cs id
       → AreThere cs rows → AreThere cs (remembered id key rows)
   remembered_there id key [] on h = ((on, tt), tt)
   remembered_there id key (r ∷ rows) on h =
@@ -63,6 +60,12 @@ module _ (cs : List Connection) where
         | false ↦ (h.0, remembered_there id key rows on h.1)
       ]
 
+  pub with_keys_there : (id : ℕ) (keys : List (List ℕ)) (rows : List Held) → IsId cs id
+      → AreThere cs rows → AreThere cs (with_keys id keys rows)
+  with_keys_there id [] rows on h = h
+  with_keys_there id (key ∷ keys) rows on h =
+      with_keys_there id keys (remembered id key rows) on (remembered_there id key rows on h)
+
 -- ---- a table by its parts
 
 pub same_table : (t : TableState) (limit : ℕ) (rows : List Held) → t.limit ≡ limit → t.rows ≡ rows
@@ -70,44 +73,7 @@ pub same_table : (t : TableState) (limit : ℕ) (rows : List Held) → t.limit �
 same_table t limit rows e f =
     ap (λ n. record { limit = n; rows = t.rows }) e ∙ ap (λ r. record { limit = limit; rows = r }) f
 
--- ---- whether a key has a holder
-
-pub is_known : (ids key : List ℕ) (rows : List Held) → ids ≡ holders_of key rows
-    → (length ids == 0) ≡ false → holders_of key rows ≡ [] → ⊥
-is_known ids key rows e some none =
-    let zero : (length ids == 0) ≡ true = ap (λ (l : List ℕ). length l == 0) (e ∙ none) in
-    let no : ⊥ = cc in no
-
-empty_of : (ids : List ℕ) → (length ids == 0) ≡ true → ids ≡ []
-empty_of [] e = refl
-empty_of (id ∷ ids) e = absurd (grind (arith, nat_tests))
-
-pub is_new : (ids key : List ℕ) (rows : List Held) → ids ≡ holders_of key rows
-    → (length ids == 0) ≡ true → holders_of key rows ≡ []
-is_new ids key rows e none = sym e ∙ empty_of ids none
-
 -- ---- how many keys are remembered
-
-pub remembered_le : (id : ℕ) (key : List ℕ) (rows : List Held)
-    → length (remembered id key rows) ≤ length rows + 1
-remembered_le id key [] = omega arith
-remembered_le id key (r ∷ rows) =
-    let rest = remembered_le id key rows in
-    elim (bytes_eq key r.key) as (λ b. length
-    (cond b (record r { holders = with_holder id r.holders } ∷ rows) (r ∷ remembered id key rows))
-    ≤ length (r ∷ rows) + 1) [ true ↦ omega arith | false ↦ omega (arith, rest) ]
-
--- a key that has a holder is no new key
-pub remembered_known : (id : ℕ) (key : List ℕ) (rows : List Held)
-    → (holders_of key rows ≡ [] → ⊥) → length (remembered id key rows) ≡ length rows
-remembered_known id key [] known = absurd (known refl)
-remembered_known id key (r ∷ rows) known =
-    elim (bytes_eq key r.key) as (λ b. (cond b r.holders (holders_of key rows) ≡ [] → ⊥)
-    → length (cond b (record r { holders = with_holder id r.holders } ∷ rows)
-    (r ∷ remembered id key rows)) ≡ length (r ∷ rows)) [
-      | true ↦ λ k. refl
-      | false ↦ λ k. let rest = remembered_known id key rows k in omega (arith, rest)
-    ] known
 
 filter_le : (p : Held → Bool) (rows : List Held) → length (filter p rows) ≤ length rows
 filter_le p [] = omega arith
@@ -137,69 +103,6 @@ short_kept limit rows short =
 pub short_dropped : (limit : ℕ) (rows : List Held) → length rows ≤ limit → dropped limit rows ≡ []
 short_dropped limit rows short =
     ap (λ n. take n rows) (let none : length rows - limit ≡ 0 = omega arith in none)
-
--- ---- a key that is new
-
-same_bytes : (key : List ℕ) → bytes_eq key key ≡ true
-same_bytes key = (bytes_eq-Decides key key).1 refl
-
--- rows without a key lose nothing with it
-without_none : (key : List ℕ) (rows : List Held) → HasNo key rows → without_key key rows ≡ rows
-without_none key [] h = refl
-without_none key (r ∷ rows) h =
-    ap (λ b. cond (not b) (r ∷ without_key key rows) (without_key key rows)) h.0
-    ∙ ap (λ l. r ∷ l) (without_none key rows h.1)
-
-pub new_forgotten : (id : ℕ) (key : List ℕ) (rows : List Held) → AreHeld rows
-    → holders_of key rows ≡ [] → without_key key (remembered id key rows) ≡ rows
-new_forgotten id key [] held none =
-    ap (λ b. cond (not b) (record { key = key; holders = id ∷ [] } ∷ []) []) (same_bytes key)
-new_forgotten id key (r ∷ rows) held none =
-    elim (bytes_eq key r.key) as (λ b. bytes_eq key r.key ≡ b
-    → cond b r.holders (holders_of key rows) ≡ []
-    → without_key key (cond b (record r { holders = with_holder id r.holders } ∷ rows)
-    (r ∷ remembered id key rows)) ≡ r ∷ rows) [
-      | true ↦ λ e n.
-          absurd (let zero : length r.holders ≡ 0 = ap length n in omega (arith, held.0))
-      | false ↦ λ e n.
-          ap (λ b. cond (not b) (r ∷ without_key key (remembered id key rows))
-          (without_key key (remembered id key rows))) e
-          ∙ ap (λ l. r ∷ l) (new_forgotten id key rows held.1 n)
-    ] refl none
-
--- ---- one key more than the limit
-
--- the oldest key is the first, and nothing else goes with it
-pub oldest_dropped : (limit : ℕ) (rows : List Held) (key : List ℕ) → IsTable rows
-    → length rows ≤ limit + 1 → oldest_over (record { limit = limit; rows = rows }) ≡ Some key
-    → (without_key key rows ≡ kept limit rows)
-    × (drop_group (dropped limit rows) ≡ told_of key (holders_of key rows))
-oldest_dropped limit [] key table short is =
-    absurd (elim (nat_lt limit 0) as (λ b. cond b None None ≡ Some key → ⊥) [
-      | true ↦ λ e. let no : ⊥ = cc in no
-      | false ↦ λ e. let no : ⊥ = cc in no
-    ] is)
-oldest_dropped limit (r ∷ rows) key table short is =
-    elim (nat_lt limit (length (r ∷ rows))) as (λ b. nat_lt limit (length (r ∷ rows)) ≡ b
-    → cond b (Some r.key) None ≡ Some key
-    → (without_key key (r ∷ rows) ≡ kept limit (r ∷ rows))
-    × (drop_group (dropped limit (r ∷ rows)) ≡ told_of key (holders_of key (r ∷ rows)))) [
-      | true ↦ λ e found.
-          let over : length (r ∷ rows) - limit ≡ 1 = grind (arith, nat_tests) in
-          let same : r.key ≡ key = cc in
-          subst (λ k. (without_key k (r ∷ rows) ≡ kept limit (r ∷ rows))
-          × (drop_group (dropped limit (r ∷ rows)) ≡ told_of k (holders_of k (r ∷ rows)))) same (
-            ap (λ b. cond (not b) (r ∷ without_key r.key rows) (without_key r.key rows))
-                (same_bytes r.key)
-                ∙ without_none r.key rows table.ordered.1
-                ∙ sym (ap (λ n. drop n (r ∷ rows)) over),
-            ap (λ n. drop_group (take n (r ∷ rows))) over
-                ∙ append-nil (told_of r.key r.holders)
-                ∙ sym (ap (λ b. told_of r.key (cond b r.holders (holders_of r.key rows)))
-                (same_bytes r.key)),
-          )
-      | false ↦ λ e none. absurd (let no : ⊥ = cc in no)
-    ] refl is
 
 -- ---- the remembered keys of a past are a table
 

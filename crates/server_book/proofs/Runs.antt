@@ -6,12 +6,12 @@ use Rattle.std.proofs.Common.{append_assoc, eq-eqb, ne_eqb}
 use Rattle.std.specs.Prelude.{◌==◌}
 use Rattle.std.proofs.lemmas.Bool.{cases_eq}
 use Rattle.command_words.specs.Space.{Space}
-use Rattle.track_table.specs.Table.{TableState}
+use Rattle.track_table.specs.Table.{TableState, dropped, kept}
 use Rattle.serial_model.specs.declared.history.Limits.{Limits}
 use Rattle.serial_model.specs.declared.history.Entry.{Entry}
 use Rattle.serial_model.specs.declared.history.Entry.TheVariants as entry
 use Rattle.serial_model.specs.declared.mode.Mode.{Mode}
-use Rattle.serial_model.specs.Tracking.{Invalidation, group, drop_group, dropped, kept}
+use Rattle.serial_model.specs.Tracking.{Invalidation, group, drop_group}
 use Rattle.serial_model.specs.History.{runs_on, is_full, latest, has_ended, unsent, posted}
 use Rattle.serial_model.specs.History.{modes, routed, reply_of, sends, sent_to, sent_bytes, spelled}
 use Rattle.serial_model.specs.History.{Sending, Message, posts_of, made, ran, signals, after_run}

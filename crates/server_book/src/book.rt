@@ -1,6 +1,8 @@
 //! The server's state. A turn answers and adds what the definition of a step gives on the history.
 ghost use Rattle.std.specs.Prelude.{◌≡◌, ◌<◌, [], true, IfOk, OnErr, length};
 ghost use Rattle.std.specs.Prelude.{reverse};
+ghost use Rattle.command_words.specs.Reading.{IsReading};
+ghost use Rattle.command_words.specs.Words.{reading};
 ghost use Rattle.serial_model.specs.declared.history.BookCall.TheVariants as call;
 ghost use Rattle.serial_model.specs.History.{IsLegal, gives_on, is_full, reads_on};
 ghost use Rattle.serial_model.specs.History.{runs_on};
@@ -13,6 +15,7 @@ use super::log::Log;
 use super::messages::message_of;
 use super::plan::{Plan, plan_of};
 use super::stores::Stores;
+use command_words::{Command, WordFault, read_command};
 use resp_value::{NoMemory, Words};
 use serial_model::{BookCall, BookRefusal, BookReply, Entry, Limits, Post, Runner};
 use std::alloc::Global;
@@ -174,9 +177,16 @@ impl Book {
     }
 
     // What was sent can be taken back, so what grows for good goes last.
-    fn run(&mut self, id: u64, words: Words, now: u64) -> Result<BookReply, NoMemory>
+    fn run_read(
+        &mut self,
+        id: u64,
+        words: Words,
+        read: &Result<Command, WordFault>,
+        now: u64,
+    ) -> Result<BookReply, NoMemory>
         requires accepted { IsAccepted self.old.limits self.old.past (call.Run id words now) }
         requires none { self.old.posts ≡ [] }
+        requires reading { IsReading read.now (reading words) }
         ensures ok { IfOk result (λ reply. IsTurn self.old (call.Run id words now) reply self.new) }
         ensures err { OnErr result (self.new ≡ self.old) }
     {
@@ -186,12 +196,19 @@ impl Book {
         let moment = now.max(self.log.moment());
         let before = self.stores.connections.mode(id);
         let by = Runner { id, mode: before };
-        let Plan { reply, deed, mode } = plan_of(alloc, &self.stores.space, by, &words, moment)?;
+        let Plan { reply, deed, mode } = plan_of(
+            alloc,
+            &self.stores.space,
+            by,
+            &words,
+            read,
+            moment,
+        )?;
         let message = message_of(alloc, mode.proto, &reply)?;
         self.log.reserve(count + 1)?;
         self.stores.connections.send(entry, id, message.as_slice())?;
         self.stores.connections.set_mode(id, mode);
-        match self.stores.carry_out(entry, id, deed) {
+        match self.stores.carry_out(entry, id, deed, read, moment) {
             Ok(()) => {}
             Err(_) => {
                 self.stores.connections.take_back();
@@ -201,6 +218,16 @@ impl Book {
         }
         self.log.push(Entry::Run { id, words, moment });
         Ok(BookReply::Ran { entry })
+    }
+
+    fn run(&mut self, id: u64, words: Words, now: u64) -> Result<BookReply, NoMemory>
+        requires accepted { IsAccepted self.old.limits self.old.past (call.Run id words now) }
+        requires none { self.old.posts ≡ [] }
+        ensures ok { IfOk result (λ reply. IsTurn self.old (call.Run id words now) reply self.new) }
+        ensures err { OnErr result (self.new ≡ self.old) }
+    {
+        let read = read_command(self.stores.alloc, &words);
+        self.run_read(id, words, &read, now)
     }
 
     fn take(&mut self, id: u64, most: u64) -> Result<BookReply, NoMemory>

@@ -1,27 +1,31 @@
 //! What a request will do: its reply, its deed, and what it makes of its connection.
-ghost use Rattle.std.specs.Prelude.{◌≡◌, ◌<◌, ◌^◌, IfOk, Result, Ok, Err, List, ℕ, option_map};
-ghost use Rattle.std.specs.Prelude.{codes, if◌then◌else◌};
+ghost use Rattle.std.specs.Prelude.{◌≡◌, ◌<◌, ◌^◌, IfOk, Result, Ok, Err, List, [], ℕ, true, codes};
+ghost use Rattle.std.specs.Prelude.{if◌then◌else◌};
 ghost use Rattle.resp_value.specs.declared.value.Value.TheVariants.{Simple};
-ghost use Rattle.command_words.specs.declared.command.Command.{Command};
 ghost use Rattle.command_words.specs.declared.command.Command.TheVariants.{Hello};
 ghost use Rattle.command_words.specs.declared.command.WordFault.{WordFault};
-ghost use Rattle.command_words.specs.Effect.{blob_or_null, wrong_type};
+ghost use Rattle.command_words.specs.Effects.{effect};
 ghost use Rattle.command_words.specs.Space.{Space};
-ghost use Rattle.command_words.specs.Strings.{on_text};
-ghost use Rattle.keyspace.specs.Plain.{content_of};
 ghost use Rattle.command_words.specs.Reading.{IsReading};
+ghost use Rattle.command_words.specs.Words.{reading};
+ghost use Rattle.command_words.specs.declared.command.Command.{Command};
 ghost use Rattle.serial_model.specs.Modes.{is_served_tracking};
-ghost use Rattle.serial_model.specs.History.{is_plain, served, served_reading};
-ghost use Rattle.server_book.specs.declared.deed.Deed.TheVariants.{Nothing, Remember, Forget};
-ghost use Rattle.server_book.specs.Plans.{IsPlan};
+ghost use Rattle.serial_model.specs.History.{gives_no_deadline, is_data, is_served, served};
+ghost use Rattle.serial_model.specs.History.{served_reading, signalled_keys};
+ghost use Rattle.server_book.specs.declared.deed.Deed.TheVariants.{Nothing, Forget};
+ghost use Rattle.server_book.specs.Plans.{IsPlan, deed_for};
 
-use super::deed::{Deed, Pair};
+use super::deed::Deed;
 use super::hello::{greeting, hello};
-use command_words::{Command, SetLife, SetWhen, TrackOptions, WordFault, fault_text, read_command};
-use keyspace::{Content, Held, Keyspace};
+use command_words::{
+    Command, Done, SetLife, Signalled, TrackOptions, WordFault, fault_text, keys_read, read_command,
+};
+use hash_cmds::{foresee_hash, is_hash};
+use keyspace::Keyspace;
 use resp_value::{NoMemory, Octets, Value, Words};
 use serial_model::{Mode, Runner};
 use std::alloc::Global;
+use string_cmds::{foresee_string, is_string};
 
 #[derive(Drop)]
 pub struct Plan {
@@ -37,41 +41,25 @@ pub fn plan_of(
     space: &Keyspace,
     by: Runner,
     words: &Words,
+    read: &Result<Command, WordFault>,
     moment: u64,
 ) -> Result<Plan, NoMemory>
-    requires { by.id < 2 ^ 63 }
+    requires id { by.id < 2 ^ 63 }
+    requires reading { IsReading read.now (reading words.now) }
     ensures { IfOk result (λ p.
-        IsPlan p by words.now (served_reading words.now) space.now moment) }
+        IsPlan p by words.now read.now (served_reading words.now) space.now moment) }
 {
-    match read_command(alloc, words) {
-        Ok(command) => plan_command(alloc, space, by, words, &command, moment),
-        Err(fault) => plan_fault(alloc, by, words, fault),
+    match read {
+        Ok(command) => plan_command(alloc, space, by, words, command, moment),
+        Err(fault) => plan_fault(alloc, by, words, *fault),
     }
 }
 
-// The reply to GET, by what the key holds.
-fn get_reply(alloc: Global, held: Option<&Held>) -> Result<Value, NoMemory>
-    ensures { IfOk result (λ v.
-        let content = option_map (λ h. content_of h.now.content) held.entry in
-        v ≡ on_text wrong_type blob_or_null content) }
+// SET gives no deadline that the key did not have.
+fn gives_no_deadline(life: SetLife) -> bool
+    ensures { result ≡ gives_no_deadline life }
 {
-    match held {
-        Some(held) => match &held.content {
-            Content::Text(text) => Ok(Value::Blob(text.copy()?)),
-            Content::Fields(_) => {
-                let text = b"WRONGTYPE Operation against a key holding the wrong kind of value";
-                Ok(Value::Error(Octets::from_slice(alloc, text)?))
-            }
-        },
-        None => Ok(Value::Null),
-    }
-}
-
-// SET without options.
-fn is_plain(when: SetWhen, life: SetLife) -> bool
-    ensures { result ≡ is_plain when life }
-{
-    matches!((when, life), (SetWhen::Always, SetLife::Cleared))
+    matches!(life, SetLife::Cleared | SetLife::Kept)
 }
 
 // CLIENT TRACKING without options, or OFF.
@@ -87,15 +75,89 @@ fn is_served_tracking(options: &TrackOptions) -> bool
     !options.on || none
 }
 
-// What a read does: a connection that tracks remembers its key.
-fn read_deed(mode: Mode, key: &Octets) -> Result<Deed, NoMemory>
-    ensures { IfOk result (λ d. d ≡ (if mode.tracking then Remember key.now else Nothing)) }
+// A command that the server runs.
+fn is_served(command: &Command) -> bool
+    ensures { result ≡ is_served command.now }
+{
+    match command {
+        Command::Hello(_) => true,
+        Command::ClientTracking(options) => is_served_tracking(options),
+        Command::Set(_, _, _, life) => gives_no_deadline(*life),
+        _ => is_string(command) || is_hash(command),
+    }
+}
+
+// What a command on strings or hashes replies, and which keys it signals.
+fn foresee(
+    alloc: Global,
+    space: &Keyspace,
+    command: &Command,
+    moment: u64,
+) -> Result<Done, NoMemory>
+    requires { is_data command.now ≡ true }
+    ensures reply { IfOk result (λ d. d.reply ≡ (effect command.now space.now moment).reply) }
+    ensures signals { IfOk result (λ d.
+        d.signalled ≡ (effect command.now space.now moment).signalled) }
+{
+    if is_hash(command) {
+        foresee_hash(alloc, space, command, moment)
+    } else {
+        foresee_string(alloc, space, command, moment)
+    }
+}
+
+// What a command that signals no key does: a connection that tracks remembers the keys that it
+// reads.
+fn read_deed(alloc: Global, mode: Mode, command: &Command) -> Result<Deed, NoMemory>
+    ensures { IfOk result (λ d. d ≡ deed_for mode.tracking command.now []) }
 {
     if mode.tracking {
-        Ok(Deed::Remember(key.copy()?))
+        Ok(Deed::Remember(keys_read(alloc, command)?))
     } else {
         Ok(Deed::Nothing)
     }
+}
+
+// What a command does that signals these keys.
+fn deed_of(
+    alloc: Global,
+    mode: Mode,
+    command: &Command,
+    signalled: Signalled,
+) -> Result<Deed, NoMemory>
+    ensures { IfOk result (λ d.
+        d ≡ deed_for mode.tracking command.now (signalled_keys signalled)) }
+{
+    match signalled {
+        Signalled::Keys(keys) => {
+            if keys.as_slice().is_empty() {
+                return read_deed(alloc, mode, command);
+            }
+            Ok(Deed::Write(keys))
+        }
+        Signalled::All => read_deed(alloc, mode, command),
+    }
+}
+
+// The plan of a command on strings or hashes.
+fn plan_data(
+    alloc: Global,
+    space: &Keyspace,
+    by: Runner,
+    command: &Command,
+    moment: u64,
+) -> Result<Plan, NoMemory>
+    requires { is_data command.now ≡ true }
+    ensures { IfOk result (λ p. (words : List (List ℕ))
+        → IsPlan p by words (Ok command.now) (Ok command.now) space.now moment) }
+{
+    let done = foresee(alloc, space, command, moment)?;
+    let deed = deed_of(alloc, by.mode, command, done.signalled)?;
+    Ok(Plan {
+        reply: done.reply,
+        deed,
+        mode: by.mode,
+    })
 }
 
 // The plan of CLIENT TRACKING that is served.
@@ -127,34 +189,15 @@ fn plan_command(
 ) -> Result<Plan, NoMemory>
     requires { by.id < 2 ^ 63 }
     ensures { IfOk result (λ p.
-        IsPlan p by words.now (served (Ok command.now)) space.now moment) }
+        IsPlan p by words.now (Ok command.now) (served (Ok command.now)) space.now moment) }
 {
-    let mode = by.mode;
+    if !is_served(command) {
+        return plan_fault(alloc, by, words, WordFault::Unknown);
+    }
     match command {
         Command::Hello(word) => plan_hello(alloc, by, word),
-        Command::ClientTracking(options) => {
-            if !is_served_tracking(options) {
-                return plan_fault(alloc, by, words, WordFault::Syntax);
-            }
-            plan_tracking(alloc, mode, options.on)
-        }
-        Command::Get(key) => {
-            let reply = get_reply(alloc, space.get(key.as_slice()))?;
-            let deed = read_deed(mode, key)?;
-            Ok(Plan { reply, deed, mode })
-        }
-        Command::Set(key, value, when, life) => {
-            if !is_plain(*when, *life) {
-                return plan_fault(alloc, by, words, WordFault::Syntax);
-            }
-            let reply = Value::Simple(Octets::from_slice(alloc, b"OK")?);
-            let deed = Deed::Write(Pair {
-                key: key.copy()?,
-                value: value.copy()?,
-            });
-            Ok(Plan { reply, deed, mode })
-        }
-        _ => plan_fault(alloc, by, words, WordFault::Unknown),
+        Command::ClientTracking(options) => plan_tracking(alloc, by.mode, options.on),
+        _ => plan_data(alloc, space, by, command, moment),
     }
 }
 
@@ -162,8 +205,8 @@ fn plan_command(
 fn plan_hello(alloc: Global, by: Runner, word: &Option<Octets>) -> Result<Plan, NoMemory>
     requires { by.id < 2 ^ 63 }
     ensures { IfOk result (λ p.
-        (words : List (List ℕ)) (space : Space) (moment : ℕ)
-        → IsPlan p by words (Ok (Hello word.now)) space moment) }
+        (words : List (List ℕ)) (raw : Result Command WordFault) (space : Space) (moment : ℕ)
+        → IsPlan p by words raw (Ok (Hello word.now)) space moment) }
 {
     match hello(word, by.mode.proto) {
         Ok(proto) => {
@@ -188,8 +231,8 @@ fn plan_hello(alloc: Global, by: Runner, word: &Option<Octets>) -> Result<Plan, 
 // The plan of words that are no command that is served.
 fn plan_fault(alloc: Global, by: Runner, words: &Words, fault: WordFault) -> Result<Plan, NoMemory>
     ensures { IfOk result (λ p.
-        (read : Result Command WordFault) (space : Space) (moment : ℕ)
-        → IsReading (Err fault) read → IsPlan p by words.now read space moment) }
+        (raw read : Result Command WordFault) (space : Space) (moment : ℕ)
+        → IsReading (Err fault) read → IsPlan p by words.now raw read space moment) }
 {
     match fault {
         WordFault::NoMemory => Err(NoMemory),

@@ -252,3 +252,76 @@ fn those_who_remember_a_key_are_told_behind_the_reply(rt: HostRuntime) -> Result
     assert_eq!(rt; gave.ends_with(push), true);
     Ok(())
 }
+
+// A write that fails tells nobody, one of several keys tells the holders of each, and what is not
+// served changes nothing.
+const STRINGS_AND_HASHES: &str = "\
+0 0 admit: 1 \\e -
+1 0 HELLO 3: 2 \\e 1:144
+1 0 CLIENT TRACKING ON: 3 \\e 1:5
+0 0 admit: 4 \\e -
+2 0 SET n 9223372036854775807: 5 \\e 2:5
+2 0 SET n 1 NX: 6 \\e 2:5
+2 0 SET m 5 XX KEEPTTL: 7 \\e 2:5
+2 0 SET m 5 EX 10: 8 \\e 2:22
+1 0 GET n: 9 \\e 1:26
+1 0 STRLEN m: 10 \\e 1:4
+2 0 INCR n: 11 \\e 2:44
+2 0 MSET m 1 n 2 m 3: 12 \\e 2:5,1:32,1:32
+2 0 HSET h a 1 b 2 a 3: 13 \\e 2:4
+1 0 HGET h a: 14 \\e 1:7
+2 0 HDEL h zz: 15 \\e 2:4
+2 0 HDEL h b zz b: 16 \\e 2:4,1:32
+1 0 HGETALL h: 17 \\e 1:18
+2 0 HINCRBY h a 1: 18 \\e 2:4,1:32
+1 0 HKEYS h: 19 \\e 1:11
+1 0 HVALS h: 20 \\e 1:11
+2 0 HSET h a 9: 21 \\e 2:4,1:32
+2 0 HDEL h a: 22 \\e 2:4
+1 0 HLEN h: 23 \\e 1:4
+2 0 GETDEL m: 24 \\e 2:7
+2 0 APPEND n x: 25 \\e 2:4
+1 0 GETRANGE n 0 -1: 26 \\e 1:8
+2 0 SETNX n 1: 27 \\e 2:4
+2 0 DECRBY n 1: 28 \\e 2:46
+2 0 HEXISTS n a: 29 \\e 2:68
+2 0 HMGET h a b: 30 \\e 2:14
+2 0 DEL n: 31 \\e 2:22";
+
+#[test]
+fn strings_and_hashes_are_served_and_told(rt: HostRuntime) -> Result<(), Fail> {
+    let alloc = rt.alloc();
+    let mut book = Book::new(alloc, limits_of(100))?;
+    assert_eq!(rt; wrong_row(alloc, &mut book, STRINGS_AND_HASHES)?, None);
+    Ok(())
+}
+
+// A table of two keys: an MGET of more drops the oldest, of its own keys too, and tells.
+const SEVERAL_KEYS: &str = "\
+0 0 admit: 1 \\e -
+0 0 admit: 2 \\e -
+1 0 HELLO 3: 3 \\e 1:144
+2 0 HELLO 3: 4 \\e 2:144
+2 0 CLIENT TRACKING ON: 5 \\e 2:5
+2 0 SET s v: 6 \\e 2:5
+2 0 HSET h f v: 7 \\e 2:4
+1 0 MGET s h nope s: 8 \\e 1:24
+2 0 SET nope v: 9 \\e 2:5
+1 0 CLIENT TRACKING ON: 10 \\e 1:5
+1 0 MGET s h s: 11 \\e 1:21
+2 0 HDEL h f: 12 \\e 2:4,1:32
+2 0 SET s w: 13 \\e 2:5,1:32
+2 0 GET a: 14 \\e 2:3
+1 0 MGET a b: 15 \\e 1:10
+2 0 MGET b c d: 16 \\e 2:13,1:32,2:32,1:32,2:32
+2 0 SET a v: 17 \\e 2:5
+1 0 SET d v: 18 \\e 1:5,2:32
+1 0 MGET: 19 \\e 1:51";
+
+#[test]
+fn a_read_of_several_keys_remembers_each(rt: HostRuntime) -> Result<(), Fail> {
+    let alloc = rt.alloc();
+    let mut book = Book::new(alloc, limits_of(100))?;
+    assert_eq!(rt; wrong_row(alloc, &mut book, SEVERAL_KEYS)?, None);
+    Ok(())
+}

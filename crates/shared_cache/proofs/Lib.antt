@@ -25,3 +25,4 @@ pub mod KeyCode
 pub mod LastUses
 pub mod Keeps
 pub mod Places
+pub mod Listing

@@ -29,20 +29,20 @@ abbrev pub Apart : List CacheEntry → Type 0
 Apart [] = Unit {0}
 Apart (h ∷ hs) = Every (λ o. o.number ≡ h.number → ⊥) hs × Apart hs
 
-every_at : (P : CacheEntry → Type 0) (hs : List CacheEntry) (h : CacheEntry) → Every P hs
+pub every_at : (P : CacheEntry → Type 0) (hs : List CacheEntry) (h : CacheEntry) → Every P hs
     → Among h hs → P h
 every_at P [] h e a = absurd a
 every_at P (o ∷ os) h e (inl is) = subst P (sym is) e.0
 every_at P (o ∷ os) h e (inr a) = every_at P os h e.1 a
 
-every_of : (P : CacheEntry → Type 0) (hs : List CacheEntry) → ((h : CacheEntry) → Among h hs → P h)
-    → Every P hs
+pub every_of : (P : CacheEntry → Type 0) (hs : List CacheEntry)
+    → ((h : CacheEntry) → Among h hs → P h) → Every P hs
 every_of P [] f = tt
 every_of P (o ∷ os) f = (f o (inl refl), every_of P os (λ h a. f h (inr a)))
 
 -- ---- the order
 
-order_total : IsTotalOrder order
+pub order_total : IsTotalOrder order
 order_total =
     then_total {R =
     λ (x y : CacheEntry). slice_cmp nat_cmp (shown_words x.query) (shown_words y.query)}
@@ -73,10 +73,10 @@ before_then : (a b c : CacheEntry) → is_before a b ≡ true → is_before b c 
 before_then a b c ab bc =
     ap is_lt (order_total.trans a b c (before_less a b ab) (before_less b c bc))
 
-before_not : (a b : CacheEntry) → is_before a b ≡ true → is_before b a ≡ false
+pub before_not : (a b : CacheEntry) → is_before a b ≡ true → is_before b a ≡ false
 before_not a b ab = ap is_lt (order_total.antisymm b a ∙ ap ordering_reverse (before_less a b ab))
 
-before_self : (a : CacheEntry) → is_before a a ≡ false
+pub before_self : (a : CacheEntry) → is_before a a ≡ false
 before_self a =
     elim (cases_Bool (is_before a a)) [ inl yes_ ↦ before_not a a yes_ | inr not_ ↦ not_ ]
 
@@ -90,7 +90,7 @@ not_less Less is = absurd (let no : ⊥ = cc in no)
 not_less Equal is = inl refl
 not_less Greater is = inr refl
 
-before_other : (a b : CacheEntry) → (a.number ≡ b.number → ⊥) → is_before a b ≡ false
+pub before_other : (a b : CacheEntry) → (a.number ≡ b.number → ⊥) → is_before a b ≡ false
     → is_before b a ≡ true
 before_other a b apart not_ = elim (not_less (order a b) not_) [
   | inl equal ↦ absurd
@@ -102,11 +102,11 @@ before_other a b apart not_ = elim (not_less (order a b) not_) [
 
 -- ---- how many come before
 
-rank_more : (h o : CacheEntry) (os : List CacheEntry) → is_before o h ≡ true
+pub rank_more : (h o : CacheEntry) (os : List CacheEntry) → is_before o h ≡ true
     → rank h (o ∷ os) ≡ rank h os + 1
 rank_more h o os is = ap (λ b. cond b (rank h os + 1) (rank h os)) is
 
-rank_same : (h o : CacheEntry) (os : List CacheEntry) → is_before o h ≡ false
+pub rank_same : (h o : CacheEntry) (os : List CacheEntry) → is_before o h ≡ false
     → rank h (o ∷ os) ≡ rank h os
 rank_same h o os is = ap (λ b. cond b (rank h os + 1) (rank h os)) is
 
@@ -266,7 +266,8 @@ same_ranked hs a b apart i j e = elim (cases_eq a.number b.number) [
   ]
 ]
 
-no_place : (hs : List CacheEntry) (place : ℕ) → length hs ≤ place → held_in_place place hs ≡ None
+pub no_place : (hs : List CacheEntry) (place : ℕ) → length hs ≤ place
+    → held_in_place place hs ≡ None
 no_place hs place beyond = none (held_in_place place hs) refl
   where
     none : (o : Option CacheEntry) → held_in_place place hs ≡ o → o ≡ None

@@ -1,4 +1,5 @@
 -- After a turn that neither asks nor gets, the fields are what the log says.
+use Rattle.std.proofs.Common.{subst}
 use Rattle.std.proofs.Common.{◌≡◌, ◌==◌, ◌+◌, ◌-◌, ◌<◌, ◌≤◌, ◌++◌, ◌||◌, ℕ, suc, List, [], ◌∷◌}
 use Rattle.std.proofs.Common.{length}
 use Rattle.std.proofs.Common.{set, get_or, drop, true, false, cond, not, Option}
@@ -7,7 +8,7 @@ use Rattle.std.proofs.Common.{ap, ◌∙◌, refl, arith, append-nil, length-app
 use Rattle.std.proofs.Common.{inr}
 use Rattle.std.proofs.Common.{below_more, length-set}
 use Rattle.std.specs.Prelude.{nat_lt}
-use Rattle.std.specs.List.{filter, flat_map}
+use Rattle.std.specs.List.{slice_get, filter, flat_map}
 use Rattle.std.proofs.lemmas.Bool.{cases_eq}
 use Rattle.std.proofs.lemmas.List.{get_or_push, get_or_append_left, get_or-set_same}
 use Rattle.std.proofs.lemmas.List.{get_or-set_other}
@@ -30,6 +31,8 @@ use Rattle.shared_cache.specs.Held.{Setup, Words, Caller, put_command, sent, ope
 use Rattle.shared_cache.specs.Held.{last_use, held, held_for, held_in_place, numbers}
 use Rattle.shared_cache.specs.Out.{is_polled}
 use Rattle.shared_cache.specs.HeldKeys.{KeysHeld, found_in, listed, with_pairs, forgotten}
+use Rattle.shared_cache.specs.HeldKeys.{IsSortedAs}
+use Rattle.shared_cache.proofs.Listing.{held_sorted}
 use Rattle.shared_cache.specs.Out.{untaken}
 use Rattle.shared_cache.specs.ClientFields.{Fields, Reflects, IsLast, pending_at, there, marks_by}
 use Rattle.shared_cache.specs.ClientFields.{fetch_mark}
@@ -248,6 +251,13 @@ module _ (s : Setup) (log : List LogEntry) (f : Fields) (k : Reflects s log f) w
       → held_in_place place (listed keys.pairs) ≡ held_in_place place (held s log)
   entry_placed place keys e = ap (λ x. held_in_place place (listed x.pairs)) e
       ∙ pairs_placed s log place f.keys.pairs k.keys_is.pairs_are
+
+  pub entries_sorted : (keys : KeysHeld) → keys ≡ f.keys → (ys : List CacheEntry)
+      → IsSortedAs (listed keys.pairs) ys → (place : ℕ)
+      → slice_get ys place ≡ held_in_place place (held s log)
+  entries_sorted keys e ys sorted =
+      held_sorted s log f.keys.pairs k.keys_is.pairs_are ys
+      (subst (λ x. IsSortedAs (listed x.pairs) ys) e sorted)
 
   -- none is left where none is queued
   pub drained : (n : ℕ) → n ≡ length f.queued → (n == 0) ≡ (length (untaken s Main log) == 0)

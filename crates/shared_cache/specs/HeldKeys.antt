@@ -1,7 +1,8 @@
 -- The cache as the client keeps it: the keys that are held, the one used last first, each with what
 -- is held of it in order of the fetches.
 use Rattle.std.specs.Prelude.{◌≡◌, ◌-◌, ◌<◌, ◌≤◌, ◌++◌, ℕ, List, [], ◌∷◌, take, true, not, Option}
-use Rattle.std.specs.Prelude.{Some, None}
+use Rattle.std.specs.Prelude.{Some, None, false, map, length, slice_index_or, IsPermutation}
+use denote.Ref.{Bor}
 use Rattle.std.specs.List.{filter}
 use Rattle.std.specs.Map.{lookup_entry, remove_entry}
 use Rattle.std.specs.Option.{option_map_or}
@@ -11,7 +12,7 @@ use Rattle.command_words.specs.declared.written.Written.{Written}
 use Rattle.command_words.specs.declared.written.Written.TheVariants as written
 use Rattle.shared_cache.specs.declared.entry.CacheEntry.{CacheEntry}
 use Rattle.resp_value.specs.declared.value.Value.{Value}
-use Rattle.shared_cache.specs.Held.{Key, Words, held_for, has_key, keys_held}
+use Rattle.shared_cache.specs.Held.{Key, Words, held_for, has_key, keys_held, is_before}
 use Rattle.shared_cache.specs.Laws.{Every}
 
 abbrev pub Pairs : Type 0
@@ -30,6 +31,16 @@ entries_of k pairs = option_map_or (λ p. p.1) (lookup_entry (bytes_eq k) pairs)
 abbrev pub listed : Pairs → List CacheEntry
 listed [] = []
 listed (p ∷ pairs) = p.1 ++ listed pairs
+
+-- what references show
+abbrev pub seen : List (Bor CacheEntry) → List CacheEntry
+seen = map (λ (e : Bor CacheEntry). e.now)
+
+-- the second list is the first in order
+pub record IsSortedAs (hs sorted : List CacheEntry) : Type 0 where
+  pub permutes : IsPermutation hs sorted
+  pub ascends : (i j : ℕ) (d : CacheEntry) → i ≤ j → j < length sorted
+      → is_before (slice_index_or sorted j d) (slice_index_or sorted i d) ≡ false
 
 -- the other keys after a fill of this one: a new key pushes the last out of a full cache
 abbrev pub others : Key → ℕ → Pairs → Pairs

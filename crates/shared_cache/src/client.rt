@@ -3,7 +3,7 @@ ghost use Rattle.std.specs.Prelude.{◌≡◌, ◌+◌, ◌<◌, ◌≤◌, ◌�
 ghost use Rattle.std.specs.Prelude.{length};
 
 use super::cache::{forget_all, invalidate, mark, refill};
-use super::entry::PendingReply;
+use super::entry::{CacheEntry, PendingReply};
 use super::handshake::{HANDSHAKE, enqueue, greeting, is_welcome};
 use super::held_keys::HeldKeys;
 use super::log::{ClientCall, ClientMode, ClientRefusal, ClientReply, LogEntry, Wire};
@@ -81,6 +81,8 @@ impl ClientState {
     ghost use Rattle.shared_cache.specs.Notices.{kind_of, IsPush};
     ghost use Rattle.shared_cache.specs.Log.{is_ready, is_ended, replies};
     ghost use Rattle.shared_cache.specs.Held.{numbers, held, held_for, held_in_place, as_listed};
+    ghost use Rattle.std.specs.List.{slice_get};
+    ghost use Rattle.shared_cache.specs.HeldKeys.{seen};
     ghost use Rattle.shared_cache.specs.Out.{untaken};
     ghost use Rattle.shared_cache.specs.Steps.{ClientStep, answer_ask, read_number, command_number};
     ghost use Rattle.shared_cache.specs.Steps.{is_log_full, is_welcome, fault_of};
@@ -138,10 +140,33 @@ impl ClientState {
         Some((&entry.query, &entry.value, entry.number))
     }
 
-    fn has_ended(&self) -> bool
+    /// All that is held, as `held` lists it by place, by one sort.
+    pub fn held_in_order(&self) -> Result<Vec<&CacheEntry>, NoMemory>
+        ensures { IfOk result (λ v. (place : ℕ) → slice_get (seen v.items) place
+            ≡ held_in_place place (held self.now.setup self.now.past)) }
+    {
+        self.keys.in_order(self.alloc)
+    }
+
+    /// Whether its link has ended.
+    pub fn has_ended(&self) -> bool
         ensures { result ≡ is_ended self.now.setup.mode Main self.now.past }
     {
         self.ended
+    }
+
+    /// How many bytes are to be taken out for its link.
+    pub fn waiting(&self) -> usize
+        ensures { result ≡ length (untaken self.now.setup Main self.now.past) }
+    {
+        self.queued.len()
+    }
+
+    /// How many of its commands have been answered, those of the handshake among them.
+    pub fn replied(&self) -> u64
+        ensures { result ≡ length (replies self.now.setup.mode Main self.now.past) }
+    {
+        self.replied
     }
 
     fn is_ready(&self) -> bool

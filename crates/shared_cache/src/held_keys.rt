@@ -8,7 +8,7 @@ ghost use Rattle.std.specs.Str.{bytes_eq};
 ghost use Rattle.lru.specs.LruCache.{promoted};
 ghost use Rattle.shared_cache.specs.Held.{held_for, rank, ranked, held_in_place};
 ghost use Rattle.shared_cache.specs.HeldKeys.{found_in, entries_of, others, stored, with_pairs};
-ghost use Rattle.shared_cache.specs.HeldKeys.{forgotten, listed};
+ghost use Rattle.shared_cache.specs.HeldKeys.{forgotten, listed, seen, IsSortedAs};
 
 use super::entry::CacheEntry;
 use super::slot::Slot;
@@ -65,6 +65,25 @@ fn rank(slot: &Slot, entries: &[Slot]) -> usize
         rest = after;
     }
     count
+}
+
+fn put_slots<'a>(entries: &'a [Slot], slots: &mut Vec<&'a Slot>) -> Result<(), NoMemory>
+    ensures { OnOk result (seen slots.new.items ≡ seen slots.old.items ++ entries.now) }
+{
+    for slot in entries {
+        slots.push(slot)?;
+    }
+    Ok(())
+}
+
+fn entries_of<'a>(alloc: Global, slots: &[&'a Slot]) -> Result<Vec<&'a CacheEntry>, NoMemory>
+    ensures { IfOk result (λ v. seen v.items ≡ seen slots.now) }
+{
+    let mut entries = Vec::new(alloc);
+    for slot in slots {
+        entries.push(slot.entry())?;
+    }
+    Ok(entries)
 }
 
 fn with_room(alloc: Global, entries: &[Slot]) -> Result<Vec<Slot>, NoMemory>
@@ -182,6 +201,26 @@ impl HeldKeys {
             }
         }
         None
+    }
+
+    // What is held, one key after the other.
+    fn slots(&self, alloc: Global) -> Result<Vec<&Slot>, NoMemory>
+        ensures { IfOk result (λ v. seen v.items ≡ listed self.now.pairs) }
+    {
+        let mut slots = Vec::new(alloc);
+        for (_, entries) in self.keys.iter() {
+            put_slots(entries, &mut slots)?;
+        }
+        Ok(slots)
+    }
+
+    /// What is held, in byte order of the printed words: one sort of it.
+    pub fn in_order(&self, alloc: Global) -> Result<Vec<&CacheEntry>, NoMemory>
+        ensures { IfOk result (λ v. IsSortedAs (listed self.now.pairs) (seen v.items)) }
+    {
+        let mut slots = self.slots(alloc)?;
+        slots.sort_by(|left, right| left.order(right))?;
+        entries_of(alloc, &slots)
     }
 
     // An empty list that has room for the entries of the key and one more.

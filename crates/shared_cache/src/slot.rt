@@ -2,12 +2,13 @@
 ghost use Rattle.std.specs.Prelude.{◌≡◌, ◌++◌, ◌∷◌, List, ℕ, IfOk, OnOk};
 ghost use Rattle.std.specs.List.{flat_map};
 ghost use Rattle.command_words.specs.Printed.{printed};
-ghost use Rattle.shared_cache.specs.Held.{shown_words, is_before};
+ghost use Rattle.shared_cache.specs.Held.{shown_words, order, is_before};
 
 use super::entry::CacheEntry;
 use command_words::{Query, put_printed};
 use resp_value::{NoMemory, Octets};
 use std::alloc::Global;
+use std::cmp::Ordering;
 use std::marker::Model;
 
 /// A cache entry with its query's printed words: listing in their order takes no memory.
@@ -72,14 +73,20 @@ impl Slot {
         &self.entry
     }
 
-    /// Whether it stands before the other in byte order of the printed words.
-    pub fn comes_before(&self, other: &Slot) -> bool
-        ensures { result ≡ is_before self.now other.now }
+    /// By byte order of the printed words, then by number.
+    pub fn order(&self, other: &Slot) -> Ordering
+        ensures { result ≡ order self.now other.now }
     {
         self.shown
             .as_slice()
             .cmp(other.shown.as_slice())
             .then(self.entry.number.cmp(&other.entry.number))
-            .is_lt()
+    }
+
+    /// Whether it stands before the other in that order.
+    pub fn comes_before(&self, other: &Slot) -> bool
+        ensures { result ≡ is_before self.now other.now }
+    {
+        self.order(other).is_lt()
     }
 }

@@ -19,10 +19,10 @@ use resp_value::{NoMemory, Octets, Value};
 use std::alloc::Global;
 
 /// The most bytes of a string.
-const MOST_BYTES: usize = 16_777_216;
+pub(crate) const MOST_BYTES: usize = 16_777_216;
 
 /// Whether SET with this option sets a key that is there, or one that is not.
-fn sets(when: SetWhen, there: bool) -> bool
+pub(crate) fn sets(when: SetWhen, there: bool) -> bool
     ensures { result ≡ sets when there }
 {
     match when {

@@ -1,3 +1,4 @@
 pub mod HolderLemmas
 pub mod Lookups
 pub mod Orders
+pub mod Releases

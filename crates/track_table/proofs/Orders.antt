@@ -1,10 +1,12 @@
 -- Each call leaves keys that are there once and are held, and holders that ascend.
 use Rattle.std.proofs.Common.{◌≡◌, ◌+◌, ◌<◌, ◌≤◌, ℕ, List, [], ◌∷◌, Bool, true, false, cond, length}
-use Rattle.std.proofs.Common.{map, refl, ap, sym, ◌∙◌, arith}
+use Rattle.std.proofs.Common.{◌-◌, ◌++◌, map, take, drop, refl, ap, sym, ◌∙◌, arith}
 use Rattle.std.specs.Prelude.{◌==◌, not, nat_lt, filter}
+use Prim.Native.Nat.{zero, suc}
 use Rattle.std.specs.Str.{bytes_eq}
 use Rattle.std.proofs.lemmas.Slice.Eq.{bytes_eq-Decides}
 use Rattle.std.proofs.lemmas.Bool.Decides.{nat_tests}
+use Rattle.std.proofs.lemmas.List.{length-drop, take_all, take-append-le}
 use Rattle.track_table.specs.declared.table.Held.{Held}
 use Rattle.track_table.specs.Table.{with_holder, without_holder, remembered, without_key}
 use Rattle.track_table.specs.Table.{without_connection, freed_of, is_held, holders_of}
@@ -31,7 +33,8 @@ ascend_with n id (x ∷ xs) le h =
           ] refl
     ] refl
 
-ascend_without : (n id : ℕ) (ids : List ℕ) → AscendFrom n ids → AscendFrom n (without_holder id ids)
+pub ascend_without : (n id : ℕ) (ids : List ℕ) → AscendFrom n ids
+    → AscendFrom n (without_holder id ids)
 ascend_without n id [] h = tt
 ascend_without n id (x ∷ xs) h =
     let rest = ascend_without (x + 1) id xs h.1 in
@@ -212,3 +215,17 @@ holders_remembered q id key (r ∷ rs) =
     swapped true true x y z differ = absurd (differ refl refl)
     swapped true false x y z differ = refl
     swapped false b x y z differ = refl
+
+-- the rows behind the first
+pub table_drop : (n : ℕ) (rs : List Held) → IsTable rs → IsTable (drop n rs)
+table_drop zero rs h = h
+table_drop (suc n) [] h = h
+table_drop (suc n) (r ∷ rs) h =
+    table_drop n rs (record { ordered = h.ordered.2; held = h.held.1 })
+
+-- what is left of the rows that were turned until the first stand last
+pub cut : (n : ℕ) (rs : List Held) → n ≤ length rs
+    → take (length rs - n) (drop n rs ++ take n rs) ≡ drop n rs
+cut n rs le =
+    take-append-le (length rs - n) (drop n rs) (take n rs) (omega (arith, length-drop n rs))
+    ∙ take_all (length rs - n) (drop n rs) (omega (arith, length-drop n rs))

@@ -1,6 +1,6 @@
 -- The remembered keys in order of age, the oldest first, each with the connections that hold it.
-use Rattle.std.specs.Prelude.{◌==◌, ℕ, List, [], ◌∷◌, Bool, not}
-use Rattle.std.specs.Prelude.{if◌then◌else◌, nat_lt, length, map, filter, Option, Some, None}
+use Rattle.std.specs.Prelude.{◌==◌, ◌-◌, ℕ, List, [], ◌∷◌, Bool, not}
+use Rattle.std.specs.Prelude.{if◌then◌else◌, nat_lt, length, map, filter, take, drop}
 use Rattle.std.specs.Str.{bytes_eq}
 use Rattle.track_table.specs.declared.table.Held.{Held}
 
@@ -34,6 +34,11 @@ remembered id key (r ∷ rs) =
     if bytes_eq key r.key then record r { holders = with_holder id r.holders } ∷ rs
     else r ∷ remembered id key rs
 
+-- a connection holds these keys too: of those that are new the first is the oldest
+abbrev pub with_keys : ℕ → List (List ℕ) → List Held → List Held
+with_keys id [] rows = rows
+with_keys id (key ∷ keys) rows = with_keys id keys (remembered id key rows)
+
 abbrev pub without_key : List ℕ → List Held → List Held
 without_key key rs = filter (λ r. not (bytes_eq key r.key)) rs
 
@@ -44,10 +49,21 @@ freed_of id r = record r { holders = without_holder id r.holders }
 abbrev pub without_connection : ℕ → List Held → List Held
 without_connection id rs = filter is_held (map (freed_of id) rs)
 
--- where there are more keys than the limit, the oldest
-abbrev pub first_key : List Held → Option (List ℕ)
-first_key [] = None
-first_key (r ∷ rs) = Some r.key
+-- a connection holds a key no more
+abbrev pub released : ℕ → List ℕ → List Held → List Held
+released id key [] = []
+released id key (r ∷ rs) =
+    if bytes_eq key r.key then (if is_held (freed_of id r) then freed_of id r ∷ rs else rs)
+    else r ∷ released id key rs
 
-abbrev pub oldest_over : TableState → Option (List ℕ)
-oldest_over t = if nat_lt t.limit (length t.rows) then first_key t.rows else None
+-- it holds none of these, of which the last goes first
+abbrev pub all_released : ℕ → List (List ℕ) → List Held → List Held
+all_released id [] rows = rows
+all_released id (key ∷ keys) rows = released id key (all_released id keys rows)
+
+-- of more keys than the limit the oldest are dropped
+abbrev pub dropped : ℕ → List Held → List Held
+dropped limit rows = take (length rows - limit) rows
+
+abbrev pub kept : ℕ → List Held → List Held
+kept limit rows = drop (length rows - limit) rows

@@ -6,7 +6,7 @@ mod laws;
 mod table;
 
 pub use laws::law_holders_grow;
-pub use table::TrackTable;
+pub use table::{Held, TrackTable};
 
 #[cfg(test)]
 mod tests;

@@ -1,12 +1,14 @@
 //! The table of remembered keys, as a list in order of age.
-ghost use Rattle.std.specs.Prelude.{◌≡◌, ◌<◌, [], OnOk, OnErr, IfOk, length, option_map};
-ghost use Rattle.track_table.specs.Table.{TableState, holders_of, oldest_over, remembered};
-ghost use Rattle.track_table.specs.Table.{without_connection, without_key};
+ghost use Rattle.std.specs.Prelude.{◌≡◌, ◌==◌, ◌-◌, ◌<◌, [], OnOk, OnErr, IfOk, length};
+ghost use Rattle.std.specs.List.{list_any};
+ghost use Rattle.track_table.specs.Table.{TableState, all_released, dropped, holders_of, kept};
+ghost use Rattle.track_table.specs.Table.{released, remembered, with_keys, without_connection};
+ghost use Rattle.track_table.specs.Table.{without_key};
 ghost use Rattle.track_table.specs.Order.{AscendFrom, IsTable};
 ghost use Rattle.track_table.specs.Places.{IsPlace};
 
 use super::holders::Holders;
-use resp_value::{NoMemory, Octets};
+use resp_value::{NoMemory, Octets, Words};
 use std::alloc::Global;
 use std::marker::Model;
 
@@ -15,6 +17,21 @@ use std::marker::Model;
 pub struct Held {
     key: Octets,
     holders: Holders,
+}
+
+impl Held {
+    pub fn key(&self) -> &[u8]
+        ensures { result.now ≡ self.now.key }
+    {
+        self.key.as_slice()
+    }
+
+    /// In ascending order.
+    pub fn holders(&self) -> &[u64]
+        ensures { result.now ≡ self.now.holders }
+    {
+        self.holders.as_slice()
+    }
 }
 
 /// Which connections hold which keys. The keys stand in order of age: a key is as old as the time
@@ -104,6 +121,82 @@ impl TrackTable {
         }
     }
 
+    fn holds(&self, id: u64, key: &[u8]) -> bool
+        ensures { result ≡ list_any (λ h. h == id) (holders_of key.now self.now.rows) }
+    {
+        self.holders(key).contains(&id)
+    }
+
+    // Where the connection does not hold the key yet, it goes last among those that are new.
+    fn remember_new(&mut self, id: u64, key: &[u8], new: &mut Words) -> Result<(), NoMemory>
+        ensures limit { self.new.limit ≡ self.old.limit }
+        ensures ok { OnOk result (self.new.rows ≡ remembered id key.now self.old.rows) }
+        ensures back { OnOk result (all_released id new.new self.new.rows
+            ≡ all_released id new.old self.old.rows) }
+        ensures err { OnErr result ((self.new.rows ≡ self.old.rows) × (new.new ≡ new.old)) }
+    {
+        let alloc = self.alloc;
+        if self.holds(id, key) {
+            return Ok(());
+        }
+        let copy = Octets::from_slice(alloc, key)?;
+        self.remember(id, key)?;
+        match new.push(copy) {
+            Ok(()) => Ok(()),
+            Err(_) => {
+                self.release(id, key);
+                Err(NoMemory)
+            }
+        }
+    }
+
+    /// The connection holds these keys too. It answers those that it did not hold: once these are
+    /// released the table is as before.
+    pub fn remember_all(&mut self, id: u64, keys: &[Octets]) -> Result<Words, NoMemory>
+        ensures limit { self.new.limit ≡ self.old.limit }
+        ensures ok { OnOk result (self.new.rows ≡ with_keys id keys.now self.old.rows) }
+        ensures back { IfOk result (λ new. all_released id new self.new.rows ≡ self.old.rows) }
+        ensures err { OnErr result (self.new.rows ≡ self.old.rows) }
+    {
+        let mut new = Words::new(self.alloc);
+        for (place, key) in keys.iter().enumerate() {
+            match self.remember_new(id, key.as_slice(), &mut new) {
+                Ok(()) => {}
+                Err(_) => {
+                    self.release_all(id, new.as_slice());
+                    return Err(NoMemory);
+                }
+            }
+        }
+        Ok(new)
+    }
+
+    // The connection holds the key no more.
+    fn release(&mut self, id: u64, key: &[u8])
+        ensures limit { self.new.limit ≡ self.old.limit }
+        ensures rows { self.new.rows ≡ released id key.now self.old.rows }
+    {
+        if let Some(place) = self.place_of(key) {
+            let row = &mut self.rows[place];
+            row.holders.remove(id);
+            if row.holders.as_slice().is_empty() {
+                self.rows.remove(place);
+            }
+        }
+    }
+
+    /// The connection holds these keys no more; the last is released first. It takes no memory.
+    pub fn release_all(&mut self, id: u64, keys: &[Octets])
+        ensures limit { self.new.limit ≡ self.old.limit }
+        ensures rows { self.new.rows ≡ all_released id keys.now self.old.rows }
+    {
+        let mut left = keys.len();
+        'keys: while left > 0 {
+            left -= 1;
+            self.release(id, keys[left].as_slice());
+        }
+    }
+
     /// No connection holds the key any more. It takes no memory.
     pub fn forget_key(&mut self, key: &[u8])
         ensures limit { self.new.limit ≡ self.old.limit }
@@ -131,14 +224,29 @@ impl TrackTable {
         self.rows.clear();
     }
 
-    /// Where there are more keys than the limit, the oldest of them.
-    pub fn oldest_over(&self) -> Option<&[u8]>
-        ensures { option_map (λ key. key.now) result ≡ oldest_over self.now }
+    // How many keys there are past the limit.
+    fn over(&self) -> usize
+        ensures { result ≡ length self.now.rows - self.now.limit }
     {
-        if self.rows.len() as u64 > self.limit {
-            Some(self.rows[0].key.as_slice())
-        } else {
-            None
-        }
+        (self.rows.len() as u64).saturating_sub(self.limit) as usize
+    }
+
+    /// The keys past the limit, the oldest first.
+    pub fn over_limit(&self) -> &[Held]
+        ensures { result.now ≡ dropped self.now.limit self.now.rows }
+    {
+        let over = self.over();
+        &self.rows[..over]
+    }
+
+    /// Drops the keys past the limit. It takes no memory.
+    pub fn drop_over_limit(&mut self)
+        ensures limit { self.new.limit ≡ self.old.limit }
+        ensures rows { self.new.rows ≡ kept self.old.limit self.old.rows }
+    {
+        let over = self.over();
+        let left = self.rows.len() - over;
+        self.rows.rotate_left(over);
+        self.rows.truncate(left);
     }
 }

@@ -1,28 +1,104 @@
 -- What holds of every schedule, as the crates above cite it.
-use Rattle.std.proofs.Common.{◌≡◌, List, [], Some}
+use Rattle.std.proofs.Common.{◌≡◌, ℕ, List, [], ◌∷◌, ◌++◌, Some, None}
+use Rattle.std.proofs.Common.{refl, sym, ap, ◌∙◌, append-nil}
+use Rattle.std.proofs.lemmas.Grind.{flat_map-append}
 use Rattle.resp_value.specs.Lists.{IsPrefix}
+use Rattle.serial_model.specs.declared.history.Limits.{Limits}
+use Rattle.shared_cache.specs.Laws.{Every}
+use Rattle.currency.specs.Current.{Currency}
 use Rattle.script_text.specs.declared.event.Event.{Event}
 use Rattle.script_text.specs.declared.line.Line.{Line}
-use Rattle.world_run.specs.declared.fault.WorldFault.{WorldFault}
-use Rattle.world_run.specs.Faults.{IsRefusal}
-use Rattle.world_run.specs.OneHistory.{HasOneHistory}
-use Rattle.world_run.specs.Outcome.{Reached}
+use Rattle.script_text.specs.Valid.{IsValid}
+use Rattle.server_links.specs.Outcome.{Reached}
+use Rattle.server_links.specs.Transcript.{unless_fault}
+use Rattle.world_run.specs.WorldState.{WorldState, member_at, start}
+use Rattle.world_run.specs.OneHistory.{AllHitsStand, AllServiced, Follows, HasOneHistory}
+use Rattle.world_run.specs.OneHistory.{HaveLinks, RefusalsChangeNothing, said_by, said_to}
+use Rattle.world_run.specs.Transcript.{after, heard, heard_at, transcript}
 use Rattle.world_run.specs.World.{step}
-use Rattle.world_run.specs.WorldState.{WorldState}
-use Rattle.world_run.proofs.Delivery.{flow_delivers}
-use Rattle.world_run.proofs.Events.{follows, printed_first, whole_history}
-use Rattle.world_run.proofs.Refusals as refusals
+use Rattle.server_links.proofs.Delivery.{flow_delivers}
+use Rattle.world_run.proofs.Clients.{place_is}
+use Rattle.world_run.proofs.Hits.{hits_stand}
+use Rattle.world_run.proofs.LinkEvents.{part_of}
+use Rattle.world_run.proofs.Others.{others_kept, printed_first}
+use Rattle.world_run.proofs.RefusedEvents.{unchanged}
+use Rattle.world_run.proofs.Schedules.{all_serviced, part_history, stands_start, stands_then}
+use Rattle.world_run.proofs.Schedules.{whole_history}
+use Rattle.world_run.proofs.WorldEvents.{event_comes}
+use Rattle.world_run.proofs.WorldKept.{step_grows}
+use Rattle.world_run.proofs.Worlds.{WorldStands}
 
-pub one_history : HasOneHistory
-one_history l events w e = (whole_history l events w e, follows l events w e, flow_delivers w)
+-- the clients of a world between two events
+serviced_all : Currency → (l : Limits) (heard : ℕ → List ℕ) (raw : List ℕ → List ℕ)
+    (lines : List Line) (w : WorldState) → WorldStands l heard raw lines w → AllServiced w
+serviced_all law l heard raw lines w s =
+    all_serviced law l raw lines w (part_of l heard raw raw lines w s (λ n none. refl))
+
+follows : Currency → (l : Limits) (events : List Event) (w : WorldState) → Every IsValid events
+    → after (start l) events ≡ Some w → (event : Event) (new : WorldState) (printed : List Line)
+    → IsValid event → Reached (step w event) new printed
+    → Follows l events (transcript (start l) events) w event printed new
+follows law l events w valid e event new printed good r =
+    let lines = transcript (start l) events in
+    let heard_by : ℕ → List ℕ = λ i. heard (start l) i events in
+    let raw : List ℕ → List ℕ = λ n. said_to n events in
+    let s = stands_then l events w valid e in
+    let p = (event_comes l heard_by raw lines w s event good).all new printed r in
+    let g = (step_grows event w).all new printed r in
+    record {
+      part = part_history law l (λ n. raw n ++ said_by n event) (lines ++ printed) new
+          (events ++ event ∷ []) p
+          (λ n. ap (λ x. raw n ++ x) (sym (append-nil (said_by n event)))
+          ∙ sym (flat_map-append (said_by n) events (event ∷ [])));
+      front = printed_first w event new printed r;
+      entries = g.0;
+      grows = g.1;
+      others = others_kept l heard_by raw lines w s event new printed r;
+    }
+
+all_hits : Currency → (l : Limits) (events : List Event) (before : ℕ → List ℕ)
+    (raw : List ℕ → List ℕ) (lines : List Line) (v w : WorldState) → Every IsValid events
+    → WorldStands l before raw lines v → after v events ≡ Some w → AllHitsStand v events
+all_hits law l [] before raw lines v w valid s e = tt
+all_hits law l (d ∷ more) before raw lines v w valid s e =
+    let t = step v d in
+    elim t.fault as (λ f. t.fault ≡ f → unless_fault f (after t.state more) None ≡ Some w
+    → AllHitsStand v (d ∷ more)) [
+      | Some f ↦ λ is q. absurd (let no : ⊥ = cc in no)
+      | None ↦ λ is q. (
+        hits_stand d v (serviced_all law l before raw lines v s),
+        all_hits law l more (λ i. before i ++ heard_at v i d) (λ n. raw n ++ said_by n d)
+            (lines ++ t.lines) t.state w valid.1
+            ((event_comes l before raw lines v s d valid.0).ends is) q,
+      )
+    ] refl e
+
+pub one_history : Currency → HasOneHistory
+one_history law l events w valid e =
+    let s = stands_then l events w valid e in
+    let all = serviced_all law l (λ i. heard (start l) i events) (λ n. said_to n events)
+    (transcript (start l) events) w s in (
+      whole_history law l events w valid e,
+      follows law l events w valid e,
+      all_hits law l events (λ i. []) (λ n. []) [] (start l) w valid (stands_start l) e,
+      (λ event good. hits_stand event w all),
+      (λ at lt none. flow_delivers w.links at lt),
+    )
 
 -- what was printed by then begins what the event prints
 pub step_lines : (w : WorldState) (event : Event) (new : WorldState) (printed : List Line)
     → Reached (step w event) new printed → IsPrefix printed (step w event).lines
 step_lines w event new printed r = printed_first w event new printed r
 
+-- after a schedule each client has its link
+pub have_links : (l : Limits) (events : List Event) (w : WorldState) → Every IsValid events
+    → after (start l) events ≡ Some w → HaveLinks w
+have_links l events w valid e at lt =
+    let s = stands_then l events w valid e in
+    let k = (s.each at lt).0 in
+    let m = member_at w.members at in
+    place_is w.links s.links.unique m.link m.place k.below k.placed
+
 -- a refused event leaves the world as it was, and prints nothing
-pub faults_none : (w : WorldState) (event : Event) (fault : WorldFault)
-    → (step w event).fault ≡ Some fault
-    → IsRefusal fault → ((step w event).state ≡ w) × ((step w event).lines ≡ [])
-faults_none w event fault is r = refusals.faults_none w event fault is r
+pub faults_none : RefusalsChangeNothing
+faults_none w event fault h is r = unchanged event w h fault is r

@@ -1,15 +1,33 @@
-pub mod Outcomes
-pub mod Carries
-pub mod Moving
-pub mod Accounts
-pub mod AccountRuns
-pub mod AccountMoves
-pub mod Names
-pub mod Worlds
-pub mod Events
-pub mod Delivery
-pub mod Playing
-pub mod Serving
-pub mod Refusals
+pub mod Answering
+pub mod Linked
+pub mod Printing
+pub mod Received
+pub mod Replied
+mod Below
+mod Causal
+mod Readings
+mod Members
+mod Turns
+mod Links
+mod Names
+mod Worlds
+mod Seats
+mod SeatMoves
+mod SeatTurns
+mod Reading
+mod Clients
+mod LinkEvents
+mod Joining
+mod Flowing
+mod Kept
+mod WorldKept
+mod WorldEvents
+mod Schedules
+mod HitLines
+mod Hits
+mod Others
+mod Places
+mod Refusals
+mod RefusedEvents
 pub mod History
-pub mod Stepping
+pub mod WorldCode

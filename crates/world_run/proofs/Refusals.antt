@@ -1,213 +1,375 @@
 -- A refused event leaves the world as it was, and prints nothing.
-use Rattle.std.proofs.Common.{◌≡◌, ℕ, List, [], ◌∷◌, ◌++◌, Bool, true, false, cond, zero, suc}
-use Rattle.std.proofs.Common.{Some, None, Option, length, refl, sym, ap, ◌∙◌}
-use Rattle.std.specs.Prelude.{◌&&◌, nat_le, slice_set, take}
-use Rattle.std.proofs.lemmas.List.{set-get_or}
-use Rattle.resp_value.specs.Spelling.{request_spelling}
+use Rattle.std.proofs.Common.{◌≡◌, ◌+◌, ℕ, List, [], ◌∷◌, Bool, true}
+use Rattle.std.proofs.Common.{false, cond, Some, None, Option, length, refl, sym, ap, subst}
+use Rattle.std.proofs.Common.{take, ◌∙◌, arith, inl}
+use Rattle.std.specs.Prelude.{nat_le}
+use Rattle.std.proofs.lemmas.Bool.Decides.{nat_tests}
+use Rattle.resp_value.specs.Tree.{Tree}
+use Rattle.resp_value.specs.ValueTree.{value_of}
+use Rattle.resp_value.specs.declared.value.Value.{Value}
 use Rattle.resp_stream.specs.declared.fault.FaultPlace.{FaultPlace}
-use Rattle.resp_stream.specs.Parse.{parse}
-use Rattle.serial_model.specs.declared.history.BookReply.{BookReply}
-use Rattle.serial_model.specs.declared.history.BookReply.TheVariants.{Admitted, Ran, Quiet, Bytes}
-use Rattle.serial_model.specs.declared.history.BookReply.TheVariants.{Closed, Refused}
-use Rattle.serial_model.specs.declared.history.BookRefusal.TheVariants as refusal
-use Rattle.serial_model.specs.History.{reads_on, gives_on, unsent}
-use Rattle.script_text.specs.declared.event.Event.{Event}
-use Rattle.script_text.specs.declared.event.Event.TheVariants as event
-use Rattle.world_run.specs.declared.fault.WorldFault.{WorldFault}
-use Rattle.world_run.specs.declared.fault.WorldFault.TheVariants.{NoName, NameTaken, NothingThere}
-use Rattle.world_run.specs.declared.fault.WorldFault.TheVariants.{NoMemory, HistoryFull}
-use Rattle.world_run.specs.declared.link.Link.{Link}
-use Rattle.world_run.specs.Directions.{finished, is_open, is_queued, past_eof, without}
-use Rattle.world_run.specs.Directions.{without_bytes}
-use Rattle.world_run.specs.EntryLines.{reply_fault}
-use Rattle.world_run.specs.Faults.{IsRefusal}
-use Rattle.world_run.specs.Moves.{turn, out, run_one, run_all, close, stop, run_requests, run_fed}
-use Rattle.world_run.specs.Moves.{stopped_at, feed, serve_all, serve, take_down, all_bytes}
-use Rattle.world_run.specs.Moves.{send_all}
-use Rattle.world_run.specs.Moves.{send, read_bytes, receive_all, receive, flow, move_of}
-use Rattle.world_run.specs.Outcome.{Outcome, stays, refuses, then_by, and_then, within}
-use Rattle.world_run.specs.Session.{Session, session_at, with_session, with_link, with_down}
-use Rattle.world_run.specs.World.{over, over_named, place_of, raw_step, flow_first, step, Stepped}
-use Rattle.world_run.specs.WorldState.{WorldState, fresh_link}
+use Rattle.resp_stream.specs.Parse.{parse_values}
+use Rattle.shared_cache.specs.declared.log.ClientCall.{ClientCall}
+use Rattle.shared_cache.specs.declared.log.ClientCall.TheVariants as call
+use Rattle.shared_cache.specs.declared.log.ClientMode.{ClientMode}
+use Rattle.shared_cache.specs.declared.log.ClientRefusal.{ClientRefusal}
+use Rattle.shared_cache.specs.declared.log.ClientRefusal.TheVariants as refusal
+use Rattle.shared_cache.specs.declared.log.LogEntry.{LogEntry}
+use Rattle.shared_cache.specs.declared.log.Wire.{Wire}
+use Rattle.shared_cache.specs.declared.log.Wire.TheVariants.{Main}
+use Rattle.shared_cache.specs.declared.notices.Notice.{Notice}
+use Rattle.shared_cache.specs.declared.notices.Notice.TheVariants as notice
+use Rattle.shared_cache.specs.Held.{numbers}
+use Rattle.shared_cache.specs.Notices.{notice_of}
+use Rattle.shared_cache.specs.Log.{is_ended, is_ready}
+use Rattle.shared_cache.specs.Log as log
+use Rattle.shared_cache.specs.Out.{untaken}
+use Rattle.shared_cache.specs.Steps.{ClientTurn, answer_ask, client_step, command_number, getting}
+use Rattle.shared_cache.specs.Steps.{is_log_full, is_welcome, judged, polling, read_number}
+use Rattle.shared_cache.specs.Steps.{refusing}
+use Rattle.shared_cache.specs.Steps.{taking_out}
+use Rattle.shared_cache.specs.Steps as steps
+use Rattle.script_text.specs.declared.line.Line.{Line}
+use Rattle.script_text.specs.declared.line.Line.TheVariants as line
+use Rattle.server_links.specs.declared.fault.WorldFault.{WorldFault}
+use Rattle.server_links.specs.declared.fault.WorldFault.TheVariants as fault
+use Rattle.server_links.specs.declared.fault.WorldFault.TheVariants.{NothingThere}
+use Rattle.server_links.specs.declared.link.LinkMove.{LinkMove}
+use Rattle.server_links.specs.declared.link.LinkMove.TheVariants as moves
+use Rattle.server_links.specs.Directions.{is_queued, without}
+use Rattle.server_links.specs.Faults.{IsRefusal}
+use Rattle.server_links.specs.LinkEvent.{LinkEvent, Put, Over}
+use Rattle.server_links.specs.LinksState.{LinksState}
+use Rattle.server_links.specs.LinkSteps.{over, over_named, place_of, step}
+use Rattle.server_links.specs.Moves.{all_bytes, move_of, moved, read_bytes, stopped_at}
+use Rattle.server_links.specs.Outcome.{Outcome, and_then, does, refuses, stays, then_by, within}
+use Rattle.server_links.specs.Session.{Session, session_at}
+use Rattle.server_links.proofs.Refusals.{Unrefused, un_receive_all, un_send_all}
+use Rattle.server_links.proofs.Refusals.{un_serve_all}
+use Rattle.world_run.specs.Members.{Seat, link_of, links_do, with_log, with_reader}
+use Rattle.world_run.specs.ClientMoves.{bytes_of, fault_of, feed, flow, got, got_all}
+use Rattle.world_run.specs.ClientMoves.{got_one, hang_up, has_ended, next_read, out}
+use Rattle.world_run.specs.ClientMoves.{read_values, receive, receive_bytes, receive_eof}
+use Rattle.world_run.specs.ClientMoves.{refused_fault, rest_read, stop, take_out, turn}
+use Rattle.world_run.proofs.Kept.{named_kept}
+use Rattle.world_run.proofs.Links.{step_moved}
+use Rattle.world_run.proofs.Places.{NamesKept, names_both, names_same, place_kept}
 
--- ---- what is never refused
-
-Unrefused : {S : Type 0} → Outcome S → Type 0
-Unrefused m = (f : WorldFault) → m.fault ≡ Some f → IsRefusal f → ⊥
-
-none : (f : WorldFault) → None ≡ Some f → IsRefusal f → ⊥
+pub none : (f : WorldFault) → None ≡ Some f → IsRefusal f → ⊥
 none f e r = absurd (let no : ⊥ = cc in no)
 
-by_reply : (reply : BookReply) (f : WorldFault) → reply_fault reply ≡ Some f → IsRefusal f → ⊥
-by_reply (Admitted e id) f is r = none f is r
-by_reply (Ran e) f is r = none f is r
-by_reply Quiet f is r = none f is r
-by_reply (Bytes e bytes) f is r = none f is r
-by_reply (Closed e) f is r = none f is r
-by_reply (Refused (refusal.Gone id)) f is r = none f is r
-by_reply (Refused refusal.NoMemory) f is r = none f is r
-by_reply (Refused (refusal.HistoryFull n)) NoName is r = absurd (let no : ⊥ = cc in no)
-by_reply (Refused (refusal.HistoryFull n)) NameTaken is r = absurd (let no : ⊥ = cc in no)
-by_reply (Refused (refusal.HistoryFull n)) NothingThere is r = absurd (let no : ⊥ = cc in no)
-by_reply (Refused (refusal.HistoryFull n)) NoMemory is r = r
-by_reply (Refused (refusal.HistoryFull n)) (HistoryFull k) is r = r
+-- ---- a client and its link, where nothing is refused
 
-un_then : {S : Type 0} → (m : Outcome S) (next : S → Outcome S) → Unrefused m
-    → ((t : S) → Unrefused (next t)) → Unrefused (and_then m next)
+abbrev pub HasLink : Seat → Type 0
+HasLink s = place_of s.member.link s.links ≡ Some s.member.place
+
+pub record Sure (s : Seat) (m : Outcome Seat) : Type 0 where
+  pub unrefused : Unrefused m
+  pub names : NamesKept s.links m.state.links
+  pub link : m.state.member.link ≡ s.member.link
+  pub place : m.state.member.place ≡ s.member.place
+
+has_then : (s : Seat) (m : Outcome Seat) → Sure s m → HasLink s → HasLink m.state
+has_then s m k h =
+    ap (λ n. place_of n m.state.links) k.link
+    ∙ place_kept s.member.link s.links m.state.links s.member.place k.names h
+    ∙ ap Some (sym k.place)
+
+pub sure_then : (s : Seat) (m : Outcome Seat) (next : Seat → Outcome Seat) → HasLink s → Sure s m
+    → ((t : Seat) → HasLink t → Sure t (next t)) → Sure s (and_then m next)
 unfolding Unrefused and_then
-un_then m next h g f = elim m.fault as (λ v. m.fault ≡ v
-    → (then_by v m (next m.state)).fault ≡ Some f → IsRefusal f → ⊥) [
-      | Some x ↦ λ is e r. h f e r
-      | None ↦ λ is e r. g m.state f e r
+sure_then s m next h k g =
+    let n = g m.state (has_then s m k h) in
+    elim m.fault as (λ v. m.fault ≡ v → Sure s (then_by v m (next m.state))) [
+      | Some x ↦ λ is. k
+      | None ↦ λ is. record {
+        unrefused = n.unrefused;
+        names = names_both s.links m.state.links (next m.state).state.links k.names n.names;
+        link = n.link ∙ k.link;
+        place = n.place ∙ k.place;
+      }
     ] refl
 
-un_run_all : (requests : List (List (List ℕ))) (s : Session) → Unrefused (run_all requests s)
-unfolding run_all run_one turn Unrefused
-un_run_all [] s = none
-un_run_all (words ∷ requests) s =
-    un_then (run_one words s) (run_all requests) (un_then _ _ none (λ t. by_reply _))
-    (un_run_all requests)
+sure_if : (s : Seat) (b : Bool) (m n : Outcome Seat) → Sure s m → Sure s n → Sure s (cond b m n)
+sure_if s true m n p q = p
+sure_if s false m n p q = q
 
-un_stop : (place : Option FaultPlace) (eof : Bool) (s : Session) → Unrefused (stop place eof s)
-unfolding close turn Unrefused
-un_stop (Some place) eof s = un_then _ close none (λ t. by_reply _)
-un_stop None true s = by_reply _
-un_stop None false s = none
+-- the links are as they were
+sure_here : (s new : Seat) (m : Outcome Seat) → m.state ≡ new → Unrefused m → new.links ≡ s.links
+    → new.member.link ≡ s.member.link → new.member.place ≡ s.member.place → Sure s m
+sure_here s new m is un same link place = record {
+  unrefused = un;
+  names = subst (λ v. NamesKept s.links v) (sym (ap (λ (t : Seat). t.links) is ∙ same))
+      (names_same s.links);
+  link = ap (λ (t : Seat). t.member.link) is ∙ link;
+  place = ap (λ (t : Seat). t.member.place) is ∙ place;
+}
 
-un_run_fed : (eof : Bool) (s : Session) → Unrefused (run_fed eof s)
-unfolding run_fed run_requests Unrefused
-un_run_fed eof s =
-    let p = parse s.link.reader in
-    un_then (run_requests s) (stop (stopped_at p.fault) eof)
-    (un_then (run_all p.items s) _ (un_run_all p.items s) (λ t. none))
-    (un_stop (stopped_at p.fault) eof)
-
-un_serve_all : (s : Session) → Unrefused (serve_all s)
-unfolding serve_all Unrefused
-un_serve_all s f = elim (reads_on s.limits s.past s.link.id) as (λ b.
-    (cond b (and_then (feed s.link.up.bytes (past_eof (without_bytes s.link.up)) s)
-    (run_fed (is_queued s.link.up.eof))) (stays s)).fault ≡ Some f → IsRefusal f → ⊥) [
-      | true ↦ un_then _ _ none (un_run_fed (is_queued s.link.up.eof)) f
-      | false ↦ none f
-    ]
-
-un_take : (most : ℕ) (s : Session) → Unrefused (take_down most s)
-unfolding take_down Unrefused
-un_take most s = un_then _ _ (by_reply _) (λ t. none)
-
-un_send_all : (s : Session) → Unrefused (send_all s)
+sure_stays : (s : Seat) → Sure s (stays s)
 unfolding Unrefused
-un_send_all s f =
-    let ended = with_link s (with_down s.link (finished s.link.down)) in
-    elim (is_open s.link.down.eof) as (λ b. (cond b (cond (gives_on s.limits s.past s.link.id)
-    (take_down all_bytes s) (stays ended)) (stays s)).fault ≡ Some f → IsRefusal f → ⊥) [
-      | true ↦ elim (gives_on s.limits s.past s.link.id) as (λ b.
-          (cond b (take_down all_bytes s) (stays ended)).fault ≡ Some f → IsRefusal f → ⊥) [
-            | true ↦ un_take all_bytes s f
-            | false ↦ none f
-          ]
-      | false ↦ none f
-    ]
+sure_stays s = sure_here s s (stays s) refl none refl refl refl
 
-un_receive_all : (s : Session) → Unrefused (receive_all s)
-unfolding receive_all Unrefused
-un_receive_all s = un_then _ _ none (λ t. none)
-
-un_flow : (s : Session) → Unrefused (flow s)
-unfolding flow Unrefused
-un_flow s = un_then _ _ none (λ t. un_then (serve_all t) _ (un_serve_all t)
-    (λ u. un_then (send_all u) receive_all (un_send_all u) un_receive_all))
-
--- ---- what is refused changes nothing
-
-Unchanged : {S : Type 0} → S → Outcome S → Type 0
-Unchanged {S} s m = (f : WorldFault) → m.fault ≡ Some f → IsRefusal f
-    → (m.state ≡ s) × (m.lines ≡ [])
-
-accepted : {S : Type 0} → (s : S) (m : Outcome S) → Unrefused m → Unchanged s m
-unfolding Unrefused Unchanged
-accepted s m h f e r = absurd (h f e r)
-
-refused : {S : Type 0} → (s : S) (fault : WorldFault) → Unchanged s (refuses s fault)
-unfolding Unchanged
-refused s fault f e r = (refl, refl)
-
-either : (b : Bool) (s : Session) (m : Outcome Session) → Unrefused m
-    → Unchanged s (cond b m (refuses s NothingThere))
-either true s m h = accepted s m h
-either false s m h = refused s NothingThere
-
-still : (s t : Session) → Unchanged s (stays t)
-unfolding Unchanged
-still s t f e r = absurd (none f e r)
-
-unchanged_move : (e : Event) (s : Session) → Unchanged s (move_of e s)
+sure_does : (s new : Seat) (ls : List Line) → new.links ≡ s.links
+    → new.member.link ≡ s.member.link → new.member.place ≡ s.member.place
+    → Sure s (does s new ls)
 unfolding Unrefused
-unchanged_move (event.Raw name) s = still s s
-unchanged_move (event.Say name words) s = accepted s _ none
-unchanged_move (event.Bytes name bytes) s = accepted s _ none
-unchanged_move (event.Out name None) s = still s s
-unchanged_move (event.Out name (Some n)) s = refused s NothingThere
-unchanged_move (event.Serve name None) s = accepted s _ (un_serve_all s)
-unchanged_move (event.Serve name (Some n)) s =
-    either (reads_on s.limits s.past s.link.id && nat_le n (length s.link.up.bytes)) s _
-    (un_then _ _ none (un_run_fed false))
-unchanged_move (event.Send name None) s = accepted s _ (un_send_all s)
-unchanged_move (event.Send name (Some n)) s =
-    either (is_open s.link.down.eof && gives_on s.limits s.past s.link.id && nat_le n
-    (length (unsent s.limits s.link.id s.past))) s _ (un_take n s)
-unchanged_move (event.Recv name None) s = accepted s _ (un_receive_all s)
-unchanged_move (event.Recv name (Some n)) s = either (nat_le n (length s.link.down.bytes)) s _ none
-unchanged_move (event.Flow name) s = accepted s _ (un_flow s)
-unchanged_move event.FlowAll s = still s s
-unchanged_move (event.Cut name) s = still s _
+sure_does s new ls same link place =
+    sure_here s new (does s new ls) refl none same link place
 
-unchanged_over : (at : ℕ) (e : Event) (w : WorldState) → Unchanged w (over at (move_of e) w)
-unfolding over within Unchanged
-unchanged_over at e w f is r =
-    let h = unchanged_move e (session_at at w) f is r in (
-      ap (with_session at w) h.0
-          ∙ ap (λ l. record { limits = w.limits; now = w.now; past = w.past; links = l })
-          (set-get_or w.links at (fresh_link 0 [])),
-      h.1,
-    )
+-- ---- its link
 
-unchanged_named : (p : Option ℕ) (e : Event) (w : WorldState)
-    → Unchanged w (over_named p (move_of e) w)
-unchanged_named None e w = refused w NoName
-unchanged_named (Some at) e w = unchanged_over at e w
+named_sure : (event : LinkEvent) (s : Seat)
+    → NamesKept s.links (step s.links event).state → Unrefused (step s.links event)
+    → Sure s (links_do event s)
+unfolding links_do within Unrefused
+named_sure event s names un = record { unrefused = un; names = names; link = refl; place = refl }
 
-unchanged_raw : (name : List ℕ) (p : Option ℕ) (w : WorldState) → Unchanged w (raw_step w name p)
-unfolding Unrefused
-unchanged_raw name (Some at) w = refused w NameTaken
-unchanged_raw name None w = accepted w _ (by_reply _)
+over_names : (event : LinkEvent) (name : List ℕ) (w : LinksState)
+    → step w event ≡ over_named (place_of name w) (move_of event) w
+    → NamesKept w (step w event).state
+over_names event name w is = record {
+  size = subst (λ m. length m.state.links ≡ length w.links) (sym is)
+      ((named_kept event w name).all (over_named (place_of name w) (move_of event) w).state
+      (over_named (place_of name w) (move_of event) w).lines (inl (refl, refl))).size;
+  names = ((step_moved w event).all (step w event).state (step w event).lines
+      (inl (refl, refl))).grows.names;
+}
 
-un_flow_first : (n : ℕ) (w : WorldState) → Unrefused (flow_first n w)
-unfolding flow_first over within Unrefused
-un_flow_first zero w = none
-un_flow_first (suc n) w =
-    un_then (flow_first n w) (over n flow) (un_flow_first n w) (λ v. un_flow (session_at n v))
+un_over : (event : LinkEvent) (name : List ℕ) (w : LinksState) (at : ℕ)
+    → step w event ≡ over_named (place_of name w) (move_of event) w → place_of name w ≡ Some at
+    → Unrefused (move_of event (session_at at w)) → Unrefused (step w event)
+unfolding over within Unrefused
+un_over event name w at is found un f e =
+    un f (sym (ap (λ m. m.fault) (is ∙ ap (λ p. over_named p (move_of event) w) found)) ∙ e)
 
-unchanged : (e : Event) (w : WorldState) → Unchanged w (step w e)
+sure_put : (bytes name : List ℕ) (s : Seat) → s.member.link ≡ name → HasLink s
+    → Sure s (links_do (Put name bytes) s)
+unfolding step Unrefused
+sure_put bytes name s is h =
+    named_sure (Put name bytes) s (over_names (Put name bytes) name s.links refl)
+    (un_over (Put name bytes) name s.links s.member.place refl
+    (ap (λ n. place_of n s.links) (sym is) ∙ h) none)
+
+sure_over : (move : LinkMove) (s : Seat) → HasLink s
+    → Unrefused (moved move (session_at s.member.place s.links))
+    → Sure s (links_do (Over s.member.link move) s)
 unfolding step
-unchanged (event.Raw name) w = unchanged_raw name (place_of name w) w
-unchanged (event.Say name words) w =
-    unchanged_named (place_of name w) (event.Say name words) w
-unchanged (event.Bytes name bytes) w =
-    unchanged_named (place_of name w) (event.Bytes name bytes) w
-unchanged (event.Out name count) w =
-    unchanged_named (place_of name w) (event.Out name count) w
-unchanged (event.Serve name count) w =
-    unchanged_named (place_of name w) (event.Serve name count) w
-unchanged (event.Send name count) w =
-    unchanged_named (place_of name w) (event.Send name count) w
-unchanged (event.Recv name count) w =
-    unchanged_named (place_of name w) (event.Recv name count) w
-unchanged (event.Flow name) w = unchanged_named (place_of name w) (event.Flow name) w
-unchanged event.FlowAll w = accepted w _ (un_flow_first (length w.links) w)
-unchanged (event.Cut name) w = unchanged_named (place_of name w) (event.Cut name) w
+sure_over move s h un =
+    let event = Over s.member.link move in
+    named_sure event s (over_names event s.member.link s.links refl)
+    (un_over event s.member.link s.links s.member.place refl h un)
 
-pub faults_none : (w : WorldState) (e : Event) (fault : WorldFault) → (step w e).fault ≡ Some fault
-    → IsRefusal fault → ((step w e).state ≡ w) × ((step w e).lines ≡ [])
-unfolding Unchanged
-faults_none w e fault is r = unchanged e w fault is r
+-- ---- turns
+
+-- the client refuses, and no event is refused for it
+unfoldable pub Never : ClientRefusal → Type 0
+Never r = (f : WorldFault) → refused_fault r ≡ Some f → IsRefusal f → ⊥
+
+pub never_down : (w : Wire) → Never (refusal.Down w)
+unfolding Never
+never_down w f e r = none f e r
+
+pub never_full : (n : ℕ) → Never (refusal.LogFull n)
+unfolding Never
+never_full n fault.NoName e r = absurd (let no : ⊥ = cc in no)
+never_full n fault.NameTaken e r = absurd (let no : ⊥ = cc in no)
+never_full n fault.NothingThere e r = absurd (let no : ⊥ = cc in no)
+never_full n fault.NoMemory e r = r
+never_full n (fault.Refused k) e r = absurd (let no : ⊥ = cc in no)
+never_full n (fault.HistoryFull k) e r = r
+
+NeverBy : Option ClientRefusal → Type 0
+NeverBy None = Unit {0}
+NeverBy (Some r) = Never r
+
+never_welcome : (b : Bool) (w : Wire) → NeverBy (cond b None (Some (refusal.SetupRefused w)))
+unfolding NeverBy Never
+never_welcome true w = tt
+never_welcome false w = λ f e r. none f e r
+
+never_reply : (b c : Bool) (w : Wire)
+    → NeverBy (cond b (Some (refusal.Unexpected w)) (cond c None (Some (refusal.SetupRefused w))))
+unfolding NeverBy Never
+never_reply true c w = λ f e r. none f e r
+never_reply false c w = never_welcome c w
+
+never_judged : (m : ClientMode) (w : Wire) (replied sent : ℕ) (v : Value) (n : Notice)
+    → NeverBy (judged m w replied sent v n)
+unfolding NeverBy Never
+never_judged m w replied sent v notice.Reply =
+    never_reply (nat_le sent replied) (is_welcome m w (replied + 1) v) w
+never_judged m w replied sent v notice.Keys = tt
+never_judged m w replied sent v notice.All = tt
+never_judged m w replied sent v notice.Broken = tt
+never_judged m w replied sent v notice.Other = tt
+never_judged m w replied sent v notice.Malformed = λ f e r. none f e r
+
+unfoldable pub NeverTurn : ClientTurn → Type 0
+NeverTurn t = (f : WorldFault) → fault_of t.reply ≡ Some f → IsRefusal f → ⊥
+
+never_if : (b : Bool) (x y : ClientTurn) → NeverTurn x → NeverTurn y → NeverTurn (cond b x y)
+never_if true x y p q = p
+never_if false x y p q = q
+
+never_getting : (o : Option ClientRefusal) (v : Value) (full : Bool) (log : List LogEntry)
+    → NeverBy o → NeverTurn (getting o Main v full log)
+unfolding NeverBy Never NeverTurn
+never_getting (Some r) v full log n = n
+never_getting None v true log n = never_full (length log)
+never_getting None v false log n = none
+
+never_taking : (most : ℕ) (bytes : List ℕ) (full : Bool) (log : List LogEntry)
+    → NeverTurn (taking_out Main most bytes full log)
+unfolding Never NeverTurn
+never_taking most [] full log = none
+never_taking most (b ∷ bytes) true log = never_full (length log)
+never_taking most (b ∷ bytes) false log = none
+
+sure_turn : (c : ClientCall) (s : Seat)
+    → NeverTurn (client_step s.member.state.setup s.member.state.past c) → Sure s (turn c s)
+unfolding turn and_then Unrefused NeverTurn
+sure_turn c s n =
+    let t = client_step s.member.state.setup s.member.state.past c in
+    sure_here s (with_log s t.past) (turn c s) refl n refl refl refl
+
+sure_got_turn : (v : Value) (s : Seat) → Sure s (turn (call.Got Main v) s)
+unfolding client_step steps.fault_of Never NeverTurn
+sure_got_turn v s =
+    let set = s.member.state.setup in
+    let past = s.member.state.past in
+    sure_turn (call.Got Main v) s
+    (never_if (is_ended set.mode Main past) (refusing (refusal.Down Main) past)
+    (getting (steps.fault_of set past Main v) Main v (is_log_full set past) past)
+    (never_down Main)
+    (never_getting (steps.fault_of set past Main v) v (is_log_full set past) past
+    (never_judged set.mode Main (length (log.replies set.mode Main past)) (numbers set past) v
+    (notice_of set.mode Main v))))
+
+sure_end_turn : (s : Seat) → Sure s (turn (call.End Main) s)
+unfolding client_step NeverTurn
+sure_end_turn s = sure_turn (call.End Main) s none
+
+sure_take_turn : (most : ℕ) (s : Seat) → Sure s (turn (call.TakeOut Main most) s)
+unfolding client_step Never NeverTurn
+sure_take_turn most s =
+    let set = s.member.state.setup in
+    let past = s.member.state.past in
+    sure_turn (call.TakeOut Main most) s
+    (never_if (is_ended set.mode Main past) (refusing (refusal.Down Main) past)
+    (taking_out Main most (untaken set Main past) (is_log_full set past) past) (never_down Main)
+    (never_taking most (untaken set Main past) (is_log_full set past) past))
+
+-- ---- moves
+
+pub sure_take : (most : ℕ) (s : Seat) → HasLink s → Sure s (take_out most s)
+unfolding take_out Unrefused and_then
+sure_take most s h =
+    let t = client_step s.member.state.setup s.member.state.past (call.TakeOut Main most) in
+    let m = turn (call.TakeOut Main most) s in
+    let k = sure_take_turn most s in
+    let n = sure_put (bytes_of t.reply) s.member.link m.state k.link (has_then s m k h) in
+    elim m.fault as (λ v. m.fault ≡ v
+    → Sure s (then_by v m (links_do (Put s.member.link (bytes_of t.reply)) m.state))) [
+      | Some x ↦ λ is. k
+      | None ↦ λ is. record {
+        unrefused = n.unrefused;
+        names = names_both s.links m.state.links _ k.names n.names;
+        link = n.link ∙ k.link;
+        place = n.place ∙ k.place;
+      }
+    ] refl
+
+pub sure_out : (s : Seat) → HasLink s → Sure s (out None s)
+sure_out s h =
+    sure_if s (has_ended s) (stays s) (take_out all_bytes s) (sure_stays s)
+    (sure_take all_bytes s h)
+
+sure_got : (v : Value) (s : Seat) → Sure s (got v s)
+sure_got v s =
+    sure_if s (has_ended s) (stays s) (turn (call.Got Main v) s) (sure_stays s)
+    (sure_got_turn v s)
+
+sure_got_all : (ts : List Tree) (s : Seat) → HasLink s → Sure s (got_all ts s)
+unfolding got_all got_one
+sure_got_all [] s h = sure_stays s
+sure_got_all (t ∷ ts) s h =
+    sure_then s (got_one t s) (got_all ts) h
+    (sure_then s (does s (next_read s) []) (got (value_of t)) h
+    (sure_does s (next_read s) [] refl refl refl) (λ u g. sure_got (value_of t) u))
+    (sure_got_all ts)
+
+sure_stop : (place : Option FaultPlace) (s : Seat) → HasLink s → Sure s (stop place s)
+sure_stop None s h = sure_stays s
+sure_stop (Some place) s h =
+    let bad = line.Bad s.member.link place.number place.offset ∷ [] in
+    sure_if s (has_ended s) (stays s) (and_then (does s s bad) (turn (call.End Main)))
+    (sure_stays s)
+    (sure_then s (does s s bad) (turn (call.End Main)) h (sure_does s s bad refl refl refl)
+    (λ u g. sure_end_turn u))
+
+sure_values : (s : Seat) → HasLink s → Sure s (read_values s)
+unfolding read_values
+sure_values s h =
+    let p = parse_values s.member.reader in
+    sure_then s (and_then (got_all p.items s) (rest_read p.stream)) (stop (stopped_at p.fault)) h
+    (sure_then s (got_all p.items s) (rest_read p.stream) h (sure_got_all p.items s h)
+    (λ u g. sure_does u (with_reader u p.stream) [] refl refl refl))
+    (sure_stop (stopped_at p.fault))
+
+sure_hang : (s : Seat) → HasLink s → Sure s (hang_up s)
+unfolding Unrefused
+sure_hang s h =
+    sure_if s (has_ended s) (links_do (Over s.member.link moves.HangUp) s) (stays s)
+    (sure_over moves.HangUp s h none) (sure_stays s)
+
+un_enough : (n : ℕ) (x : Session) → nat_le n (length x.link.down.bytes) ≡ true
+    → Unrefused (moved (moves.Recv (Some n)) x)
+unfolding Unrefused
+un_enough n x enough f e r =
+    let down = x.link.down in
+    none f (sym (ap (λ b. (cond b (read_bytes (take n down.bytes) (without n down) x)
+    (refuses x NothingThere)).fault) enough) ∙ e) r
+
+pub sure_bytes : (n : ℕ) (s : Seat) → HasLink s → nat_le n (length (link_of s).down.bytes) ≡ true
+    → Sure s (receive_bytes n s)
+unfolding receive_bytes
+sure_bytes n s h enough =
+    let piece = take n (link_of s).down.bytes in
+    sure_then s (links_do (Over s.member.link (moves.Recv (Some n))) s)
+    (λ t. and_then (feed piece t) (λ t. and_then (read_values t) hang_up)) h
+    (sure_over (moves.Recv (Some n)) s h (un_enough n (session_at s.member.place s.links) enough))
+    (λ t g. sure_then t (feed piece t) (λ t. and_then (read_values t) hang_up) g
+    (sure_does t (feed piece t).state [] refl refl refl)
+    (λ u k. sure_then u (read_values u) hang_up k (sure_values u k) sure_hang))
+
+sure_eof : (s : Seat) → HasLink s → Sure s (receive_eof s)
+unfolding receive_eof
+sure_eof s h =
+    let q = is_queued (link_of s).down.eof in
+    sure_then s (links_do (Over s.member.link (moves.Recv None)) s)
+    (λ t. cond q (turn (call.End Main) t) (stays t)) h
+    (sure_over (moves.Recv None) s h (un_receive_all (session_at s.member.place s.links)))
+    (λ t g. sure_if t q (turn (call.End Main) t) (stays t) (sure_end_turn t) (sure_stays t))
+
+all_of_it : (n : ℕ) → nat_le n n ≡ true
+all_of_it n = grind (arith, nat_tests)
+
+pub sure_receive : (s : Seat) → HasLink s → Sure s (receive None s)
+sure_receive s h =
+    let n = length (link_of s).down.bytes in
+    sure_if s (has_ended s) (stays s) (and_then (receive_bytes n s) receive_eof) (sure_stays s)
+    (sure_then s (receive_bytes n s) receive_eof h (sure_bytes n s h (all_of_it n)) sure_eof)
+
+pub sure_flow : (s : Seat) → HasLink s → Sure s (flow s)
+unfolding flow
+sure_flow s h =
+    sure_then s (out None s)
+    (λ s. and_then (links_do (Over s.member.link (moves.Serve None)) s)
+    (λ s. and_then (links_do (Over s.member.link (moves.Send None)) s) (receive None))) h
+    (sure_out s h)
+    (λ t g. sure_then t (links_do (Over t.member.link (moves.Serve None)) t)
+    (λ s. and_then (links_do (Over s.member.link (moves.Send None)) s) (receive None)) g
+    (sure_over (moves.Serve None) t g (un_serve_all (session_at t.member.place t.links)))
+    (λ u k. sure_then u (links_do (Over u.member.link (moves.Send None)) u) (receive None) k
+    (sure_over (moves.Send None) u k (un_send_all (session_at u.member.place u.links)))
+    sure_receive))

@@ -1,620 +1,170 @@
--- One history serves all links, event by event: what stands of a world after each, and wherever
--- memory runs out.
-use Rattle.std.proofs.Common.{◌≡◌, ◌+◌, ◌-◌, ◌<◌, ◌≤◌, ℕ, List, [], ◌∷◌, ◌++◌, Bool, true, false}
-use Rattle.std.proofs.Common.{cond, zero, suc}
-use Rattle.std.proofs.Common.{None, length, take, filter, slice_index_or, slice_set, refl, sym, ap}
-use Rattle.std.proofs.Common.{subst, ◌∙◌}
-use Rattle.std.proofs.Common.{arith, append-nil, length-append, length-set, inl, inr, eq-eqb}
-use Rattle.std.proofs.Common.{ne_eqb}
-use Rattle.std.specs.Prelude.{◌==◌, ◌&&◌, not, nat_lt, nat_le}
-use Rattle.std.specs.Str.{bytes_eq}
-use Rattle.std.proofs.lemmas.Bool.{eqb-true, cases_lt}
-use Rattle.std.proofs.lemmas.Slice.Eq.{bytes_eq-Decides}
-use Rattle.std.proofs.lemmas.Bool.Decides.{nat_tests}
-use Rattle.std.proofs.lemmas.List.{get_or-set_same, get_or-set_other, get_or_push}
-use Rattle.std.proofs.lemmas.List.{get_or_append_left, take-append-le}
+-- What holds of a world with clients: of its links, and of each client.
+use Rattle.std.proofs.Common.{◌≡◌, ◌<◌, ℕ, List, [], ◌++◌, false}
+use Rattle.std.proofs.Common.{None, length, map, sym, ap, subst, ◌∙◌}
+use Rattle.std.proofs.Common.{append-nil}
+use Rattle.resp_value.specs.Lists.{IsPrefix}
+use Rattle.resp_value.specs.ValueTree.{tree_of}
+use Rattle.resp_stream.specs.Parse.{values_of}
 use Rattle.serial_model.specs.declared.history.Limits.{Limits}
-use Rattle.serial_model.specs.declared.history.Entry.{Entry}
-use Rattle.serial_model.specs.History.{admitted, is_admitted, is_full, has_ended, reads_on, stream}
-use Rattle.serial_model.specs.History.{taken, runs_of, IsLegal}
-use Rattle.serial_model.specs.Laws.{Extends}
-use Rattle.serial_model.proofs.Streams.{taken_le}
+use Rattle.shared_cache.specs.declared.log.Wire.TheVariants.{Main}
+use Rattle.shared_cache.specs.Laws.{gots}
+use Rattle.shared_cache.specs.Log.{is_ended}
+use Rattle.currency.specs.Links.{Meet}
 use Rattle.script_text.specs.declared.line.Line.{Line}
-use Rattle.script_text.specs.declared.line.Line.TheVariants as line
-use Rattle.std.proofs.Math.Seq.{take-nil}
-use Rattle.resp_stream.specs.Stream.{fed, begun}
-use Rattle.resp_stream.specs.Request.{skip_empty, skip_empty_in, request_at, request_begun}
-use Rattle.resp_stream.specs.Parse.{Batch, parse, requests_of}
-use Rattle.resp_stream.proofs.Parse.{parse_more}
-use Rattle.serial_model.specs.declared.history.Entry.TheVariants as entry
-use Rattle.serial_model.proofs.Streams.{connected, stream_admit, stream_fresh, runs_fresh}
-use Rattle.world_run.specs.declared.link.Link.{Link}
-use Rattle.world_run.specs.EntryLines.{entry_lines, is_entry_line, name_of}
-use Rattle.world_run.specs.OneHistory.{read_on, names, History}
-use Rattle.world_run.specs.Outcome.{Outcome}
-use Rattle.world_run.specs.Session.{Session, with_past, session_at, with_session}
-use Rattle.world_run.specs.World.{over, place_of}
-use Rattle.world_run.specs.WorldState.{WorldState, at_place, fresh_link}
-use Rattle.world_run.proofs.Names.{unplaced}
-use Rattle.world_run.proofs.Outcomes.{Meets, meets_within}
-use Rattle.world_run.proofs.Carries.{Carries, read_more, entries_more}
-use Rattle.world_run.proofs.Moving.{Every}
-use Rattle.world_run.proofs.Accounts.{gave, Account, Part, account_part, Keeps}
+use Rattle.server_links.specs.LinkEvent.{LinkEvent}
+use Rattle.server_links.specs.LinksState.{LinksState, at_place}
+use Rattle.server_links.specs.LinkSteps.{step}
+use Rattle.server_links.specs.OneHistory.{PartServes, read_on, said_by}
+use Rattle.server_links.specs.Transcript.{heard_at}
+use Rattle.server_links.proofs.Accounts.{Part}
+use Rattle.server_links.proofs.Carries.{read_more}
+use Rattle.server_links.proofs.LinksStand.{Stands, PartStands, stands_part}
+use Rattle.server_links.proofs.Outcomes.{Meets}
+use Rattle.world_run.specs.WorldState.{WorldState, MemberState, member_at}
+use Rattle.world_run.specs.Members.{client_of}
+use Rattle.world_run.specs.OneHistory.{taken_bytes}
+use Rattle.world_run.specs.World.{on_links}
+use Rattle.world_run.proofs.Below.{stands_step}
+use Rattle.world_run.proofs.Links.{step_moved}
+use Rattle.world_run.proofs.Members.{MemberPart, LinkGrows, meet_of, member_grown}
+use Rattle.world_run.proofs.Readings.{ValuesOn}
 
-pub name_at : WorldState → ℕ → List ℕ
-name_at w i = (at_place w.links i).name
+-- while its link has not ended, a client got all values in what its end has read
+pub record ReadsOn (read : List ℕ) (m : MemberState) : Type 0 where
+  pub gots_are : map tree_of (gots Main m.state.past) ≡ values_of read
+  pub reading : ValuesOn read m.reader
 
-pub record Stands (l : Limits) (heard : ℕ → List ℕ) (said : List ℕ
-    → List ℕ) (lines : List Line) (w : WorldState) : Type 0 where
-  pub history : History l lines w
-  pub unique : (i j : ℕ) → i < length w.links → j < length w.links
-      → (at_place w.links j).name ≡ (at_place w.links i).name → j ≡ i
-  pub accounts : (i : ℕ) → i < length w.links
-      → Account (heard i) (said (at_place w.links i).name) (read_on (at_place w.links i).name lines)
-      (session_at i w)
-  pub unread : (name : List ℕ) → ((i : ℕ) → i < length w.links → (at_place w.links i).name ≡ name
-      → ⊥) → read_on name lines ≡ []
-  pub unsaid : (name : List ℕ) → ((i : ℕ) → i < length w.links → (at_place w.links i).name ≡ name
-      → ⊥) → said name ≡ []
-  pub unheard : (i : ℕ) → length w.links ≤ i → heard i ≡ []
+abbrev pub Reads : List ℕ → MemberState → Type 0
+Reads read m = is_ended m.state.setup.mode Main m.state.past ≡ false → ReadsOn read m
+
+-- no other client has this link
+abbrev pub NoneHas : WorldState → List ℕ → Type 0
+NoneHas w name = (i : ℕ) → i < length w.members → (member_at w.members i).link ≡ name → ⊥
+
+-- what is said of each client, of its place, the links, what was read on its link and put there
+abbrev pub Each : Type 1
+Each = ℕ → LinksState → List ℕ → List ℕ → MemberState → Type 0
+
+pub record Holds (l : Limits) (heard : ℕ → List ℕ) (raw : List ℕ → List ℕ) (M : Each)
+    (lines : List Line) (w : WorldState) : Type 0 where
+  -- what was put on each link
+  pub said : List ℕ → List ℕ
+  pub links : Stands l heard said lines w.links
+  pub each : (i : ℕ) → i < length w.members → let m = member_at w.members i in
+      M i w.links (read_on m.link lines) (said m.link) m
+  pub distinct : (i j : ℕ) → i < length w.members → j < length w.members
+      → (member_at w.members j).link ≡ (member_at w.members i).link → j ≡ i
+  -- on a link without a client, what the schedule says
+  pub rest : (name : List ℕ) → NoneHas w name → said name ≡ raw name
 
 -- where memory ran out, or a fault stopped the last event
-pub record PartStands (l : Limits) (said : List ℕ
-    → List ℕ) (lines : List Line) (w : WorldState) : Type 0 where
-  pub history : History l lines w
-  pub parts : (i : ℕ) → i < length w.links
-      → Part (said (at_place w.links i).name) (read_on (at_place w.links i).name lines)
-      (session_at i w)
-  pub unread : (name : List ℕ) → ((i : ℕ) → i < length w.links → (at_place w.links i).name ≡ name
-      → ⊥) → read_on name lines ≡ []
+pub record WorldPart (l : Limits) (raw : List ℕ → List ℕ) (lines : List Line) (w : WorldState) :
+    Type 0 where
+  pub said : List ℕ → List ℕ
+  pub links : PartStands l said lines w.links
+  pub unique : (i j : ℕ) → i < length w.links.links → j < length w.links.links
+      → (at_place w.links.links j).name ≡ (at_place w.links.links i).name → j ≡ i
+  pub each : (i : ℕ) → i < length w.members → let m = member_at w.members i in
+      MemberPart w.links (read_on m.link lines) m
+  pub taken : (i : ℕ) → i < length w.members → let m = member_at w.members i in
+      said m.link ≡ taken_bytes m
+  pub distinct : (i j : ℕ) → i < length w.members → j < length w.members
+      → (member_at w.members j).link ≡ (member_at w.members i).link → j ≡ i
+  pub rest : (name : List ℕ) → NoneHas w name → said name ≡ raw name
 
-pub stands_part : (l : Limits) (heard : ℕ → List ℕ) (said : List ℕ
-    → List ℕ) (lines : List Line) (w : WorldState) → Stands l heard said lines w
-    → PartStands l said lines w
-stands_part l heard said lines w s = record {
-  history = s.history;
-  parts = λ i lt. account_part (heard i) (said (at_place w.links i).name)
-      (read_on (at_place w.links i).name lines) (session_at i w) (s.accounts i lt);
-  unread = s.unread;
-}
+-- a client in a world between two events
+abbrev pub Stable : Each
+Stable i ls read said m = MemberPart ls read m × (said ≡ taken_bytes m) × Reads read m
 
-pub stands_same : (l : Limits) (heard heard' : ℕ → List ℕ) (said said' : List ℕ
-    → List ℕ) (lines : List Line) (w : WorldState)
-    → ((i : ℕ) → heard i ≡ heard' i) → ((name : List ℕ) → said name ≡ said' name)
-    → Stands l heard said lines w → Stands l heard' said' lines w
-stands_same l heard heard' said said' lines w h d s = record {
-  history = s.history;
-  unique = s.unique;
-  accounts = λ i lt.
-      let name = (at_place w.links i).name in
-      subst (λ x. Account x (said' name) (read_on name lines) (session_at i w)) (h i)
-      (subst (λ x. Account (heard i) x (read_on name lines) (session_at i w)) (d name)
-      (s.accounts i lt));
-  unread = s.unread;
-  unsaid = λ name none. sym (d name) ∙ s.unsaid name none;
-  unheard = λ i le. sym (h i) ∙ s.unheard i le;
-}
+abbrev pub WorldStands : Limits → (ℕ → List ℕ) → (List ℕ → List ℕ) → List Line → WorldState → Type 0
+WorldStands l heard raw lines w = Holds l heard raw Stable lines w
 
-pub parts_same : (l : Limits) (said said' : List ℕ → List ℕ) (lines : List Line) (w : WorldState)
-    → ((i : ℕ) → i < length w.links → said (at_place w.links i).name
-    ≡ said' (at_place w.links i).name) → PartStands l said lines w → PartStands l said' lines w
-parts_same l said said' lines w d s = record {
-  history = s.history;
-  parts = λ i lt. subst (λ x. Part x (read_on (at_place w.links i).name lines) (session_at i w))
-      (d i lt) (s.parts i lt);
-  unread = s.unread;
-}
+-- ---- the client and the history meet
 
--- ---- another connection's turn
+pub meet_by : (l : Limits) (said : List ℕ → List ℕ) (lines : List Line) (ls : LinksState)
+    (m : MemberState) → PartStands l said lines ls
+    → MemberPart ls (read_on m.link lines) m → IsPrefix (said m.link) (taken_bytes m)
+    → Meet ls.limits (client_of m) ls.past m.state.past
+unfolding Part
+meet_by l said lines ls m s part took =
+    meet_of ls (read_on m.link lines) (said m.link) m s.history.legal
+    (s.history.ids m.place part.below) part took
+    (subst (λ n. PartServes ls.limits (said n) (read_on n lines) ls.past
+    (at_place ls.links m.place)) part.placed (s.parts m.place part.below))
 
-gave_other : (l : Limits) (c : ℕ) (past new : List Entry) → Extends l c past new
-    → gave l c new ≡ gave l c past
-unfolding gave
-gave_other l c past new e =
-    ap (λ n. take n (stream l c new)) e.taken_is ∙ ap (take (taken l c past)) (sym e.stream_grew.1)
-    ∙ take-append-le (taken l c past) (stream l c past) e.stream_grew.0 (taken_le l past c)
+pub meet_part : (l : Limits) (raw : List ℕ → List ℕ) (lines : List Line) (w : WorldState)
+    → WorldPart l raw lines w → (i : ℕ) → i < length w.members
+    → let m = member_at w.members i in
+    Meet w.links.limits (client_of m) w.links.past m.state.past
+meet_part l raw lines w p i lt =
+    let m = member_at w.members i in
+    meet_by l p.said lines w.links m p.links (p.each i lt)
+    ([], append-nil (p.said m.link) ∙ p.taken i lt)
 
-both_hold : (a b : Bool) → (a && not b) ≡ true → b ≡ true → ⊥
-both_hold true true h e = cc
-both_hold true false h e = cc
-both_hold false b h e = cc
+-- ---- an event of the links
 
-live : (a b : Bool) → a ≡ true → (b ≡ true → ⊥) → (a && not b) ≡ true
-live a true h n = absurd (n refl)
-live true false h n = refl
-live false false h n = absurd (let no : ⊥ = cc in no)
+module _ (l : Limits) (heard : ℕ → List ℕ) (raw raw' : List ℕ → List ℕ) (M N : Each)
+    (lines : List Line) (w : WorldState) (h : Holds l heard raw M lines w) (event : LinkEvent)
+    (part : (i : ℕ) → i < length w.members → let m = member_at w.members i in
+    MemberPart w.links (read_on m.link lines) m)
+    (takes : (i : ℕ) → i < length w.members → let m = member_at w.members i in
+    h.said m.link ++ said_by m.link event ≡ taken_bytes m)
+    (says : (name : List ℕ) → NoneHas w name → raw name ++ said_by name event ≡ raw' name)
+    (moves : (i : ℕ) → i < length w.members → let m = member_at w.members i in
+    let v = (step w.links event).state in
+    let ls = (step w.links event).lines in
+    (step w.links event).fault ≡ None
+    → MemberPart v (read_on m.link lines ++ read_on m.link ls) m
+    → N i v (read_on m.link lines ++ read_on m.link ls)
+    (h.said m.link ++ said_by m.link event) m) where
+  before : (i : ℕ) → i < length w.members → let m = member_at w.members i in
+      Meet w.links.limits (client_of m) w.links.past m.state.past
+  before i lt =
+      let m = member_at w.members i in
+      meet_by l h.said lines w.links m (stands_part l heard h.said lines w.links h.links)
+      (part i lt) (said_by m.link event, takes i lt)
 
-reads_before : (l : Limits) (c : ℕ) (past new : List Entry) → is_admitted past c ≡ true
-    → Extends l c past new → reads_on l new c ≡ true → reads_on l past c ≡ true
-reads_before l c past new on e h =
-    live (is_admitted past c) (has_ended l c past) on
-    (λ ended. both_hold (is_admitted new c) (has_ended l c new) h (e.stays_ended ended))
+  grown : (v : LinksState) (ls : List Line) → LinkGrows w.links v → (i : ℕ)
+      → i < length w.members → let m = member_at w.members i in
+      MemberPart v (read_on m.link lines ++ read_on m.link ls) m
+  grown v ls g i lt =
+      let m = member_at w.members i in
+      member_grown w.links v (read_on m.link lines) (read_on m.link ls) m g (before i lt)
+      (part i lt)
 
-other_account : (heard said read : List ℕ) (s : Session) (past : List Entry)
-    → is_admitted s.past s.link.id ≡ true → Extends s.limits s.link.id s.past past
-    → Account heard said read s → Account heard said read (with_past s past)
-other_account heard said read s past on e a = record {
-  bytes = record {
-    up_lost = a.bytes.up_lost;
-    all_said = a.bytes.all_said;
-    none_up = a.bytes.none_up;
-    down_lost = a.bytes.down_lost;
-    all_taken = a.bytes.all_taken ∙ sym (gave_other s.limits s.link.id s.past past e);
-    none_down = a.bytes.none_down;
-  };
-  runs = e.runs_are ∙ a.runs;
-  reading = λ h. a.reading (reads_before s.limits s.link.id s.past past on e h);
-}
+  said_rest : (name : List ℕ) → NoneHas w name → h.said name ++ said_by name event ≡ raw' name
+  said_rest name none = ap (λ x. x ++ said_by name event) (h.rest name none) ∙ says name none
 
--- ---- lists of links
-
-names_at : (links : List Link) (at : ℕ) → at < length links
-    → slice_index_or (names links) at [] ≡ (at_place links at).name
-names_at [] at lt = absurd (omega (arith, lt))
-names_at (x ∷ links) zero lt = refl
-names_at (x ∷ links) (suc at) lt = names_at links at (omega (arith, lt))
-
-names_set : (links : List Link) (at : ℕ) (new : Link) → at < length links
-    → new.name ≡ (at_place links at).name → names (slice_set links at new) ≡ names links
-names_set [] at new lt e = refl
-names_set (x ∷ links) zero new lt e = ap (λ n. n ∷ names links) e
-names_set (x ∷ links) (suc at) new lt e =
-    ap (λ l. x.name ∷ l) (names_set links at new (omega (arith, lt)) e)
-
-pub not_equal : (a b : List ℕ) → (a ≡ b → ⊥) → bytes_eq a b ≡ false
-not_equal a b n = elim (bytes_eq a b) as (λ v. bytes_eq a b ≡ v
-    → v ≡ false) [ true ↦ λ e. absurd (n ((bytes_eq-Decides a b).0 e)) | false ↦ λ e. refl ] refl
-
--- ---- a move over the link at this place
-
-module _ (l : Limits) (heard : ℕ → List ℕ) (said : List ℕ
-    → List ℕ) (lines : List Line) (w : WorldState) (s : Stands l heard said lines w) (at : ℕ)
-    (below : at < length w.links) where
-  here : Session
-  here = session_at at w
-
-  admitted_there : (i : ℕ) → i < length w.links → is_admitted w.past (at_place w.links i).id ≡ true
-  admitted_there i lt = ap (is_admitted w.past) (s.history.ids i lt)
-      ∙ grind (arith, nat_tests, s.history.links, lt)
-
-  module _ (piece bytes : List ℕ) (t : Session) (ls : List Line)
-      (c : Carries (session_at at w) t ls) where
-    moved : WorldState
-    moved = with_session at w t
-
-    size : length moved.links ≡ length w.links
-    unfolding moved
-    size = length-set w.links at t.link
-
-    mine : session_at at moved ≡ t
-    unfolding moved
-    mine =
-        ap (λ (x : Link). record { limits = w.limits; now = w.now; past = t.past; link = x })
-        (get_or-set_same w.links at t.link (fresh_link 0 []) below)
-        ∙ ap (λ (m : Limits). record { limits = m; now = w.now; past = t.past; link = t.link })
-        (sym c.limits)
-        ∙ ap (λ n. record { limits = t.limits; now = n; past = t.past; link = t.link }) (sym c.now)
-
-    theirs : (i : ℕ) → (at ≡ i → ⊥) → at_place moved.links i ≡ at_place w.links i
-    unfolding moved
-    theirs i n = get_or-set_other w.links at i t.link (fresh_link 0 []) (λ e. n (sym e))
-
-    either : (P : ℕ → Type 0) (i : ℕ) → P at → ((at ≡ i → ⊥) → P i) → P i
-    either P i is other = elim (at == i) as (λ b. (at == i) ≡ b → P i) [
-      | true ↦ λ e. subst P (eqb-true at i e) is
-      | false ↦ λ e. other (λ q. let t : (at == i) ≡ true = eq-eqb at i q in cc)
-    ] refl
-
-    mine_link : at_place moved.links at ≡ t.link
-    mine_link = ap (λ (x : Session). x.link) mine
-
-    kept_name : (i : ℕ) → (at_place moved.links i).name ≡ (at_place w.links i).name
-    kept_name i = either (λ k. (at_place moved.links k).name
-        ≡ (at_place w.links k).name) i (ap (λ (x : Link). x.name) mine_link
-        ∙ c.named) (λ n. ap (λ (x : Link). x.name) (theirs i n))
-
-    kept_id : (i : ℕ) → (at_place moved.links i).id ≡ (at_place w.links i).id
-    kept_id i = either (λ k. (at_place moved.links k).id
-        ≡ (at_place w.links k).id) i (ap (λ (x : Link). x.id) mine_link
-        ∙ c.id) (λ n. ap (λ (x : Link). x.id) (theirs i n))
-
-    moved_history : History l (lines ++ ls) moved
-    unfolding moved
-    moved_history = record {
-      limits = s.history.limits;
-      legal = c.legal s.history.legal;
-      links = size ∙ s.history.links ∙ sym c.count;
-      ids = λ i lt. kept_id i ∙ s.history.ids i (omega (arith, lt, size));
-      printed =
-          let ns = names w.links in
-          let named : name_of ns (at_place w.links at).id ≡ (at_place w.links at).name =
-          ap (name_of ns) (s.history.ids at below) ∙ ap (λ i. slice_index_or ns i []) (omega arith)
-          ∙ names_at w.links at below in
-          entries_more lines ls ∙ ap (λ x. x ++ filter is_entry_line ls) s.history.printed
-          ∙ sym (c.printed ns named)
-          ∙ ap (λ n. entry_lines w.limits n t.past)
-          (sym (names_set w.links at t.link below c.named));
-    }
-
-    moved_unread : (name : List ℕ) → ((i : ℕ) → i < length moved.links
-        → (at_place moved.links i).name ≡ name → ⊥) → read_on name (lines ++ ls) ≡ []
-    moved_unread name n =
-        let other : (i : ℕ) → i < length w.links → (at_place w.links i).name ≡ name → ⊥ =
-        λ i lt e. n i (omega (arith, lt, size)) (kept_name i ∙ e) in
-        read_more name lines ls ∙ ap (λ r. r ++ read_on name ls) (s.unread name other)
-        ∙ c.mute name (not_equal (at_place w.links at).name name (other at below))
-
-    moved_heard : ℕ → List ℕ
-    moved_heard i = heard i ++ cond (at == i) piece []
-
-    moved_said : List ℕ → List ℕ
-    moved_said name = said name ++ cond (bytes_eq (at_place w.links at).name name) bytes []
-
-    same_name : bytes_eq (at_place w.links at).name (at_place w.links at).name ≡ true
-    same_name = (bytes_eq-Decides (at_place w.links at).name (at_place w.links at).name).1 refl
-
-    -- the account of a link that another move leaves
-    their_account : (i : ℕ) → i < length w.links → (at ≡ i → ⊥)
-        → Account (moved_heard i) (moved_said (at_place moved.links i).name)
-        (read_on (at_place moved.links i).name (lines ++ ls)) (session_at i moved)
-    unfolding moved_heard moved_said moved
-    their_account i lt n =
-        let link = at_place w.links i in
-        let differ : (at_place w.links at).name ≡ link.name → ⊥ =
-        λ e. n (s.unique i at lt below e) in
-        let ids : ((at_place w.links at).id == link.id) ≡ false =
-        ne_eqb (at_place w.links at).id link.id
-        (λ e. n (omega (arith, e, s.history.ids at below, s.history.ids i lt))) in
-        let a = other_account (heard i) (said link.name) (read_on link.name lines) (session_at i w)
-        t.past (admitted_there i lt) (c.others link.id ids) (s.accounts i lt) in
-        subst (λ (x : Link). Account (heard i ++ cond (at == i) piece []) (said x.name
-        ++ cond (bytes_eq (at_place w.links at).name x.name) bytes [])
-        (read_on x.name (lines ++ ls))
-        (record { limits = w.limits; now = w.now; past = t.past; link = x })) (sym (theirs i n))
-        (subst (λ h. Account h (said link.name
-        ++ cond (bytes_eq (at_place w.links at).name link.name) bytes [])
-        (read_on link.name (lines ++ ls)) (with_past (session_at i w) t.past))
-        (sym (ap (λ b. heard i ++ cond b piece []) (ne_eqb at i n) ∙ append-nil (heard i)))
-        (subst (λ d. Account (heard i) d (read_on link.name (lines ++ ls))
-        (with_past (session_at i w) t.past))
-        (sym (ap (λ b. said link.name ++ cond b bytes [])
-        (not_equal (at_place w.links at).name link.name differ) ∙ append-nil (said link.name)))
-        (subst (λ r. Account (heard i) (said link.name) r (with_past (session_at i w) t.past))
-        (sym (read_more link.name lines ls ∙ ap (λ r. read_on link.name lines
-        ++ r) (c.mute link.name (not_equal (at_place w.links at).name link.name differ))
-        ∙ append-nil (read_on link.name lines))) a)))
-
-    unique_moved : (i j : ℕ) → i < length moved.links → j < length moved.links
-        → (at_place moved.links j).name ≡ (at_place moved.links i).name → j ≡ i
-    unique_moved i j li lj e =
-        s.unique i j (omega (arith, li, size)) (omega (arith, lj, size)) (sym (kept_name j) ∙ e
-        ∙ kept_name i)
-
-    stands_moved : Account (heard at ++ piece) (said (at_place w.links at).name
-        ++ bytes) (read_on (at_place w.links at).name lines
-        ++ read_on (at_place w.links at).name ls) t
-        → Stands l moved_heard moved_said (lines ++ ls) moved
-    unfolding moved_heard moved_said
-    stands_moved a =
-        let name = (at_place w.links at).name in
-        let read = read_on name lines ++ read_on name ls in
-        record {
-          history = moved_history;
-          unique = unique_moved;
-          accounts = λ i lt. either (λ k. Account (moved_heard k)
-              (moved_said (at_place moved.links k).name)
-              (read_on (at_place moved.links k).name (lines ++ ls)) (session_at k moved)) i
-              (subst (λ (x : Session). Account (moved_heard at)
-              (moved_said (at_place moved.links at).name)
-              (read_on (at_place moved.links at).name (lines ++ ls)) x) (sym mine)
-              (subst (λ n. Account (heard at ++ cond (at == at) piece []) (said n
-              ++ cond (bytes_eq name n) bytes []) (read_on n (lines ++ ls)) t)
-              (sym (kept_name at))
-              (subst (λ b. Account (heard at ++ cond b piece []) (said name
-              ++ cond (bytes_eq name name) bytes []) (read_on name (lines ++ ls)) t)
-              (sym (eq-eqb at at refl))
-              (subst (λ b. Account (heard at ++ piece) (said name
-              ++ cond b bytes []) (read_on name (lines ++ ls)) t) (sym same_name)
-              (subst (λ r. Account (heard at ++ piece) (said name ++ bytes) r t)
-              (sym (read_more name lines ls)) a)))))
-              (their_account i (omega (arith, lt, size)));
-          unread = moved_unread;
-          unsaid = λ n none.
-              let other : (i : ℕ) → i < length w.links → (at_place w.links i).name ≡ n → ⊥ =
-              λ i lt e. none i (omega (arith, lt, size)) (kept_name i ∙ e) in
-              ap (λ b. said n ++ cond b bytes []) (not_equal name n (other at below))
-              ∙ append-nil (said n) ∙ s.unsaid n other;
-          unheard = λ i le. ap (λ b. heard i ++ cond b piece [])
-              (ne_eqb at i (λ e. omega (arith, le, below, size, e))) ∙ append-nil (heard i)
-              ∙ s.unheard i (omega (arith, le, size));
-        }
-
-    parts_moved : Part (said (at_place w.links at).name
-        ++ bytes) (read_on (at_place w.links at).name lines
-        ++ read_on (at_place w.links at).name ls) t → PartStands l moved_said (lines ++ ls) moved
-    unfolding moved_said
-    parts_moved p =
-        let name = (at_place w.links at).name in
-        record {
-          history = moved_history;
-          parts = λ i lt. either (λ k. Part (moved_said (at_place moved.links k).name)
-              (read_on (at_place moved.links k).name (lines ++ ls)) (session_at k moved)) i
-              (subst (λ (x : Session). Part (moved_said (at_place moved.links at).name)
-              (read_on (at_place moved.links at).name (lines ++ ls)) x) (sym mine)
-              (subst (λ n. Part (said n ++ cond (bytes_eq name n) bytes [])
-              (read_on n (lines ++ ls)) t) (sym (kept_name at))
-              (subst (λ b. Part (said name ++ cond b bytes []) (read_on name (lines ++ ls)) t)
-              (sym same_name)
-              (subst (λ r. Part (said name ++ bytes) r t) (sym (read_more name lines ls)) p))))
-              (λ n. account_part (moved_heard i) (moved_said (at_place moved.links i).name)
-              (read_on (at_place moved.links i).name (lines ++ ls)) (session_at i moved)
-              (their_account i (omega (arith, lt, size)) n));
-          unread = moved_unread;
-        }
-
-  -- wherever a move over this link comes to
-  pub over_stands : (piece bytes : List ℕ) (move : Session → Outcome Session)
-      → Every (session_at at w) (move (session_at at w))
-      → Keeps (Account (heard at) (said (at_place w.links at).name))
-      (Account (heard at ++ piece) (said (at_place w.links at).name ++ bytes))
-      (Part (said (at_place w.links at).name ++ bytes)) (session_at at w)
-      (move (session_at at w))
-      → Meets (λ v ls. Stands l (λ i. heard i ++ cond (at == i) piece []) (λ name. said name
-      ++ cond (bytes_eq (at_place w.links at).name name) bytes []) (lines ++ ls) v)
-      (λ v ls. PartStands l (λ name. said name
-      ++ cond (bytes_eq (at_place w.links at).name name) bytes []) (lines ++ ls) v)
-      (over at move w)
-  unfolding over Keeps moved_heard moved_said moved
-  over_stands piece bytes move e k =
-      let m = move (session_at at w) in
-      let r = k (read_on (at_place w.links at).name lines) (s.accounts at below) in
-      meets_within (with_session at w) _ _ m (record {
-        ends = λ none. stands_moved piece bytes m.state m.lines (e.carries.ends none) (r.ends none);
-        all = λ t ls reached. parts_moved piece bytes t ls (e.carries.all t ls reached)
-            (r.all t ls reached);
-      })
-
--- ---- a link is made
-
-no_requests : requests_of [] ≡ []
-unfolding skip_empty skip_empty_in request_at request_begun
-no_requests = ap (λ (p : Batch (List (List ℕ))). p.items) (parse_more (fed begun []) refl)
-
-fresh_account : (c : ℕ) (name : List ℕ) (l : Limits) (now : ℕ) (past : List Entry) → IsLegal l past
-    → admitted past < c →
-    Account [] [] []
-    (record { limits = l; now = now; past = entry.Admit c ∷ past; link = fresh_link c name })
-unfolding gave
-fresh_account c name l now past legal above =
-    let none : runs_of c past ≡ [] = runs_fresh l past c legal above in
-    record {
-      bytes = record {
-        up_lost = [];
-        all_said = refl;
-        none_up = λ h. refl;
-        down_lost = [];
-        all_taken = sym (ap (take (taken l c past)) (stream_admit l past c c
-            ∙ stream_fresh l past c legal above) ∙ take-nil (taken l c past));
-        none_down = λ h. refl;
-      };
-      runs = none ∙ sym no_requests;
-      reading = λ on. record {
-        untold = refl;
-        further = λ m. ap (λ l. l
-            ++ (parse (fed begun m)).items) (sym no_requests);
-      };
-    }
-
--- names of links that a longer list of names has too
-name_front : (ns : List (List ℕ)) (name : List ℕ) (id : ℕ) → 0 < id → id ≤ length ns
-    → name_of (ns ++ name ∷ []) id ≡ name_of ns id
-name_front ns name id more le =
-    get_or_append_left ns (name ∷ []) [] (id - 1) (omega (arith, more, le))
-
-names_front : (l : Limits) (ns : List (List ℕ)) (name : List ℕ) (past : List Entry) → IsLegal l past
-    → admitted past ≤ length ns → entry_lines l (ns ++ name ∷ []) past ≡ entry_lines l ns past
-names_front l ns name [] legal le = refl
-names_front l ns name (entry.Admit id ∷ past) legal le =
-    ap (λ x. entry_lines l (ns ++ name ∷ []) past
-    ++ line.Admit (length past + 1) x id ∷ [])
-    (name_front ns name id (omega (arith, legal.0)) (omega (arith, legal.0, le)))
-    ∙ ap (λ x. x ++ line.Admit (length past + 1) (name_of ns id) id ∷ [])
-    (names_front l ns name past legal.2 (omega (arith, le)))
-names_front l ns name (entry.Run id words m ∷ past) legal le =
-    let k = connected l past id legal.0 in
-    ap (λ x. entry_lines l (ns ++ name ∷ []) past
-    ++ line.Run (length past + 1) x words ∷ [])
-    (name_front ns name id k.0 (omega (arith, k.1, le)))
-    ∙ ap (λ x. x ++ line.Run (length past + 1) (name_of ns id) words ∷ [])
-    (names_front l ns name past legal.3 le)
-names_front l ns name (entry.Take id max ∷ past) legal le =
-    let k = connected l past id legal.0 in
-    let n = taken l id (entry.Take id max ∷ past) - taken l id past in
-    ap (λ x. entry_lines l (ns ++ name ∷ []) past
-    ++ line.Take (length past + 1) x n ∷ [])
-    (name_front ns name id k.0 (omega (arith, k.1, le)))
-    ∙ ap (λ x. x ++ line.Take (length past + 1) (name_of ns id) n ∷ [])
-    (names_front l ns name past legal.3 le)
-names_front l ns name (entry.Close id ∷ past) legal le =
-    let k = connected l past id legal.0 in
-    ap (λ x. entry_lines l (ns ++ name ∷ []) past
-    ++ line.Close (length past + 1) x ∷ []) (name_front ns name id k.0 (omega (arith, k.1, le)))
-    ∙ ap (λ x. x ++ line.Close (length past + 1) (name_of ns id) ∷ [])
-    (names_front l ns name past legal.1 le)
-
-names_more : (links : List Link) (new : Link) → names (links ++ new ∷ [])
-    ≡ names links ++ new.name ∷ []
-names_more [] new = refl
-names_more (x ∷ links) new = ap (λ l. x.name ∷ l) (names_more links new)
-
-names_size : (links : List Link) → length (names links) ≡ length links
-names_size [] = refl
-names_size (x ∷ links) = let h = names_size links in omega (arith, h)
-
--- one more connection leaves the others' accounts
-admitted_account : (heard said read : List ℕ) (s : Session) (id : ℕ)
-    → reads_on s.limits (entry.Admit id ∷ s.past) s.link.id ≡ reads_on s.limits s.past s.link.id
-    → Account heard said read s → Account heard said read (with_past s (entry.Admit id ∷ s.past))
-unfolding gave
-admitted_account heard said read s id still a = record {
-  bytes = record {
-    up_lost = a.bytes.up_lost;
-    all_said = a.bytes.all_said;
-    none_up = a.bytes.none_up;
-    down_lost = a.bytes.down_lost;
-    all_taken = a.bytes.all_taken
-        ∙ sym (ap (take (taken s.limits s.link.id s.past))
-        (stream_admit s.limits s.past s.link.id id));
-    none_down = a.bytes.none_down;
-  };
-  runs = a.runs;
-  reading = λ on. a.reading (sym still ∙ on);
-}
-
-module _ (l : Limits) (heard : ℕ → List ℕ) (said : List ℕ
-    → List ℕ) (lines : List Line) (w : WorldState) (s : Stands l heard said lines w) (name : List ℕ)
-    (free : place_of name w ≡ None)
-    (room : is_full w.limits w.past ≡ false) where
-  abbrev pub made : WorldState
-  made = record {
-    limits = w.limits;
-    now = w.now;
-    past = entry.Admit (admitted w.past + 1) ∷ w.past;
-    links = w.links ++ fresh_link (admitted w.past + 1) name ∷ [];
-  }
-
-  abbrev pub made_lines : List Line
-  made_lines = line.Admit (length w.past + 1) name (admitted w.past + 1) ∷ []
-
-  nowhere : (i : ℕ) → i < length w.links → (at_place w.links i).name ≡ name → ⊥
-  nowhere = unplaced name w free
-
-  made_size : length made.links ≡ length w.links + 1
-  made_size = length-append w.links (fresh_link (admitted w.past + 1) name ∷ [])
-
-  old_there : (i : ℕ) → i < length w.links → at_place made.links i ≡ at_place w.links i
-  old_there i lt =
-      get_or_append_left w.links (fresh_link (admitted w.past + 1) name ∷ []) (fresh_link 0 []) i lt
-
-  new_there : (i : ℕ) → i ≡ length w.links → at_place made.links i
-      ≡ fresh_link (admitted w.past + 1) name
-  new_there i e =
-      get_or_push w.links (fresh_link (admitted w.past + 1) name) (fresh_link 0 []) i (sym e)
-
-  which : (P : ℕ → Type 0) (i : ℕ) → i < length made.links → ((k : ℕ) → k < length w.links → P k)
-      → ((k : ℕ) → k ≡ length w.links → P k) → P i
-  which P i lt old new = elim (cases_lt i (length w.links)) [
-    | inl below ↦ old i below
-    | inr over ↦
-        new i (omega (arith, over, lt, made_size))
-  ]
-
-  same_lines : (n : List ℕ) → read_on n (lines ++ made_lines) ≡ read_on n lines
-  same_lines n = read_more n lines made_lines ∙ append-nil (read_on n lines)
-
-  still_there : (c : ℕ) → 0 < c → c ≤ admitted w.past
-      → reads_on w.limits (entry.Admit (admitted w.past + 1) ∷ w.past) c
-      ≡ reads_on w.limits w.past c
-  still_there c more le =
-      let a : nat_le c (admitted w.past + 1) ≡ true = grind (arith, nat_tests) in
-      let b : nat_le c (admitted w.past) ≡ true = grind (arith, nat_tests) in
-      ap (λ v. (nat_lt 0 c && v) && not (has_ended w.limits c w.past)) (a ∙ sym b)
-
-  made_history : History l (lines ++ made_lines) made
-  made_history =
-      let id = admitted w.past + 1 in
-      let ns = names w.links in
-      let fits = names_size w.links ∙ s.history.links in
-      let named : name_of (ns ++ name ∷ []) id ≡ name =
-      get_or_push ns name [] (id - 1) (omega (arith, fits)) in
+  pub linked : Meets (λ v ls. Holds l (λ i. heard i ++ heard_at w.links i event) raw' N
+      (lines ++ ls) (on_links w v)) (λ v ls. WorldPart l raw' (lines ++ ls) (on_links w v))
+      (step w.links event)
+  linked =
+      let s = stands_step l heard h.said lines w.links h.links event in
+      let g = step_moved w.links event in
       record {
-        limits = s.history.limits;
-        legal = (refl, room, s.history.legal);
-        links = made_size ∙ ap (λ n. n + 1) s.history.links;
-        ids = λ i lt. which (λ k. (at_place made.links k).id ≡ k + 1) i lt
-            (λ k lk. ap (λ (x : Link). x.id) (old_there k lk) ∙ s.history.ids k lk)
-            (λ k ek. ap (λ (x : Link). x.id) (new_there k ek) ∙ omega (arith, ek, s.history.links));
-        printed = entries_more lines made_lines ∙ ap (λ x. x ++ made_lines) s.history.printed
-            ∙ sym (ap (λ n. entry_lines w.limits n (entry.Admit id ∷ w.past))
-            (names_more w.links (fresh_link id name))
-            ∙ ap (λ x. entry_lines w.limits (ns ++ name ∷ []) w.past
-            ++ line.Admit (length w.past + 1) x id ∷ []) named
-            ∙ ap (λ x. x ++ made_lines) (names_front w.limits ns name w.past s.history.legal
-            (omega (arith, fits))));
-      }
-
-  old_account : (i : ℕ) → i < length w.links → Account (heard i
-      ++ []) (said (at_place made.links i).name
-      ++ []) (read_on (at_place made.links i).name (lines ++ made_lines)) (session_at i made)
-  old_account i lt =
-      let x = at_place w.links i in
-      let id = admitted w.past + 1 in
-      let still = still_there x.id (omega (arith, s.history.ids i lt))
-      (omega (arith, s.history.ids i lt, lt, s.history.links)) in
-      subst (λ (y : Link). Account (heard i ++ []) (said y.name
-      ++ []) (read_on y.name (lines ++ made_lines))
-      (record { limits = w.limits; now = w.now; past = entry.Admit id ∷ w.past; link = y }))
-      (sym (old_there i lt))
-      (subst (λ h. Account h (said x.name ++ []) (read_on x.name (lines ++ made_lines))
-      (with_past (session_at i w) (entry.Admit id ∷ w.past))) (sym (append-nil (heard i)))
-      (subst (λ d. Account (heard i) d (read_on x.name (lines ++ made_lines))
-      (with_past (session_at i w) (entry.Admit id ∷ w.past))) (sym (append-nil (said x.name)))
-      (subst (λ r. Account (heard i) (said x.name) r
-      (with_past (session_at i w) (entry.Admit id ∷ w.past))) (sym (same_lines x.name))
-      (admitted_account (heard i) (said x.name) (read_on x.name lines) (session_at i w) id still
-      (s.accounts i lt)))))
-
-  new_account : (i : ℕ) → i ≡ length w.links → Account (heard i
-      ++ []) (said (at_place made.links i).name
-      ++ []) (read_on (at_place made.links i).name (lines ++ made_lines)) (session_at i made)
-  new_account i e =
-      let id = admitted w.past + 1 in
-      let f = fresh_link id name in
-      subst (λ (y : Link). Account (heard i ++ []) (said y.name
-      ++ []) (read_on y.name (lines ++ made_lines))
-      (record { limits = w.limits; now = w.now; past = entry.Admit id ∷ w.past; link = y }))
-      (sym (new_there i e))
-      (subst (λ h. Account h (said name ++ []) (read_on name (lines ++ made_lines))
-      (record { limits = w.limits; now = w.now; past = entry.Admit id ∷ w.past; link = f }))
-      (sym (append-nil (heard i) ∙ s.unheard i (omega (arith, e))))
-      (subst (λ d. Account [] d (read_on name (lines ++ made_lines))
-      (record { limits = w.limits; now = w.now; past = entry.Admit id ∷ w.past; link = f }))
-      (sym (append-nil (said name) ∙ s.unsaid name nowhere))
-      (subst (λ r. Account [] [] r
-      (record { limits = w.limits; now = w.now; past = entry.Admit id ∷ w.past; link = f }))
-      (sym (same_lines name ∙ s.unread name nowhere))
-      (fresh_account id name w.limits w.now w.past s.history.legal (omega arith)))))
-
-  old_name : (i : ℕ) → i < length w.links → (at_place made.links i).name ≡ (at_place w.links i).name
-  old_name i lt = ap (λ (x : Link). x.name) (old_there i lt)
-
-  new_name : (i : ℕ) → i ≡ length w.links → (at_place made.links i).name ≡ name
-  new_name i e = ap (λ (x : Link). x.name) (new_there i e)
-
-  made_unique : (i j : ℕ) → i < length made.links → j < length made.links
-      → (at_place made.links j).name ≡ (at_place made.links i).name → j ≡ i
-  made_unique i j li lj =
-      which (λ k. (at_place made.links j).name ≡ (at_place made.links k).name → j ≡ k) i li
-      (λ k lk. which (λ m. (at_place made.links m).name ≡ (at_place made.links k).name → m ≡ k) j lj
-      (λ m lm e. s.unique k m lk lm (sym (old_name m lm) ∙ e ∙ old_name k lk))
-      (λ m em e. absurd (nowhere k lk (sym (old_name k lk) ∙ sym e ∙ new_name m em))))
-      (λ k ek. which (λ m. (at_place made.links m).name ≡ (at_place made.links k).name → m ≡ k) j lj
-      (λ m lm e. absurd (nowhere m lm (sym (old_name m lm) ∙ e ∙ new_name k ek)))
-      (λ m em e. em ∙ sym ek))
-
-  pub stands_made : Stands l (λ i. heard i ++ []) (λ n. said n ++ []) (lines ++ made_lines) made
-  stands_made =
-      let before : (n : List ℕ) → ((i : ℕ) → i < length made.links
-      → (at_place made.links i).name ≡ n → ⊥) → (i : ℕ) → i < length w.links
-      → (at_place w.links i).name ≡ n → ⊥ =
-      λ n none i lt e. none i (omega (arith, lt, made_size)) (old_name i lt ∙ e) in
-      record {
-        history = made_history;
-        unique = made_unique;
-        accounts = λ i lt. which (λ k. Account (heard k ++ []) (said (at_place made.links k).name
-            ++ []) (read_on (at_place made.links k).name (lines ++ made_lines)) (session_at k made))
-            i lt old_account new_account;
-        unread = λ n none. same_lines n ∙ s.unread n (before n none);
-        unsaid = λ n none. append-nil (said n) ∙ s.unsaid n (before n none);
-        unheard = λ i le. append-nil (heard i) ∙ s.unheard i (omega (arith, le, made_size));
+        ends = λ none. record {
+          said = λ name. h.said name ++ said_by name event;
+          links = s.ends none;
+          each = λ i lt.
+              let m = member_at w.members i in
+              let v = (step w.links event).state in
+              let ls = (step w.links event).lines in
+              subst (λ r. N i v r (h.said m.link ++ said_by m.link event) m)
+              (sym (read_more m.link lines ls))
+              (moves i lt none (grown v ls (g.ends none).grows i lt));
+          distinct = h.distinct;
+          rest = said_rest;
+        };
+        all = λ v ls reached. record {
+          said = λ name. h.said name ++ said_by name event;
+          links = s.all v ls reached;
+          unique = (g.all v ls reached).grows.unique h.links.unique;
+          each = λ i lt.
+              let m = member_at w.members i in
+              subst (λ r. MemberPart v r m) (sym (read_more m.link lines ls))
+              (grown v ls (g.all v ls reached).grows i lt);
+          taken = takes;
+          distinct = h.distinct;
+          rest = said_rest;
+        };
       }

@@ -1,11 +1,7 @@
-pub mod Faults
-pub mod Directions
 pub mod WorldState
-pub mod Session
-pub mod Outcome
-pub mod EntryLines
-pub mod Turns
-pub mod Moves
+pub mod Members
+pub mod ClientMoves
+pub mod MemberTurns
 pub mod World
 pub mod Transcript
 pub mod OneHistory

@@ -1,39 +1,54 @@
--- What the headline says of a schedule over bytes: one serial history, with each request once, and
--- replies that are its replies. Every byte is read, in flight or lost, and it is lost only by a
--- cut.
-use Rattle.std.specs.Prelude.{◌≡◌, ◌+◌, ◌<◌, ◌≤◌, ℕ, List, [], ◌∷◌, ◌++◌, Bool, true, false}
-use Rattle.std.specs.Prelude.{if◌then◌else◌, filter, length, map, take}
+-- What the headline says of a schedule: one serial history, with each request once, and replies
+-- that are its replies; and what a client holds is what the server would answer.
+use Rattle.std.specs.Prelude.{◌≡◌, ◌<◌, ℕ, List, [], ◌∷◌, ◌++◌, true}
+use Rattle.std.specs.Prelude.{if◌then◌else◌, length, take}
+use Rattle.std.specs.declared.option.Option.{Option}
 use Rattle.std.specs.declared.option.Option.TheVariants.{None, Some}
 use Rattle.std.specs.List.{flat_map}
 use Rattle.std.specs.Str.{bytes_eq}
 use Rattle.resp_value.specs.Lists.{IsPrefix}
 use Rattle.resp_value.specs.Spelling.{request_spelling}
-use Rattle.resp_stream.specs.Parse.{requests_of}
+use Rattle.resp_value.specs.declared.value.Value.{Value}
+use Rattle.command_words.specs.Queries.{reads_as_cacheable}
 use Rattle.serial_model.specs.declared.history.Limits.{Limits}
 use Rattle.serial_model.specs.declared.history.Entry.{Entry}
-use Rattle.serial_model.specs.History.{admitted, reads_on, runs_of, stream, taken, unsent, IsLegal}
+use Rattle.serial_model.specs.History.{served_reading}
+use Rattle.shared_cache.specs.declared.log.Wire.TheVariants.{Main}
+use Rattle.shared_cache.specs.declared.entry.CacheEntry.{CacheEntry}
+use Rattle.shared_cache.specs.ClientFields.{IsServed}
+use Rattle.shared_cache.specs.Held.{held}
+use Rattle.shared_cache.specs.Laws.{Every, LegalLog}
+use Rattle.shared_cache.specs.Out.{out as written, taken as taken_out}
+use Rattle.currency.specs.Links.{Meet}
+use Rattle.currency.specs.Current.{HasPoint, IsCurrent}
 use Rattle.script_text.specs.declared.event.Event.{Event}
-use Rattle.script_text.specs.declared.event.Event.TheVariants.{Raw, Say, Bytes, Out, Serve, Send}
-use Rattle.script_text.specs.declared.event.Event.TheVariants.{Recv, Flow, FlowAll, Cut}
+use Rattle.script_text.specs.declared.event.Event.TheVariants.{Raw, Say, Bytes, Client, Out, Serve}
+use Rattle.script_text.specs.declared.event.Event.TheVariants.{Send, Recv, Flow, FlowAll, Cut, Ask}
+use Rattle.script_text.specs.declared.event.Event.TheVariants.{Do, Poll, Show}
+use Rattle.script_text.specs.Valid.{IsValid}
 use Rattle.script_text.specs.declared.line.Line.{Line}
 use Rattle.script_text.specs.declared.line.Line.TheVariants as line
-use Rattle.world_run.specs.declared.fault.WorldFault.{WorldFault}
-use Rattle.world_run.specs.declared.link.Link.{Link}
-use Rattle.world_run.specs.Faults.{IsRefusal}
-use Rattle.world_run.specs.Directions.{is_open}
-use Rattle.world_run.specs.EntryLines.{entry_lines, is_entry_line}
-use Rattle.world_run.specs.Moves.{all_bytes, flow}
-use Rattle.world_run.specs.Outcome.{Reached}
+use Rattle.server_links.specs.declared.fault.WorldFault.{WorldFault}
+use Rattle.server_links.specs.Faults.{IsRefusal}
+use Rattle.server_links.specs.LinksState.{at_place}
+use Rattle.server_links.specs.LinkSteps.{place_of}
+use Rattle.server_links.specs.OneHistory as links_kept
+use Rattle.server_links.specs.OneHistory.{History, PartServes, Serves, read_on}
+use Rattle.server_links.specs.Outcome.{Reached}
+use Rattle.world_run.specs.WorldState.{WorldState, client_named, client_of_link, data_link}
+use Rattle.world_run.specs.WorldState.{MemberState, member_at, start}
+use Rattle.world_run.specs.Members.{client_of, seat_at}
+use Rattle.world_run.specs.ClientMoves.{point_at}
 use Rattle.world_run.specs.Transcript.{after, heard, transcript}
-use Rattle.world_run.specs.World.{link_named, over, place_of, step}
-use Rattle.world_run.specs.WorldState.{WorldState, at_place, start}
+use Rattle.world_run.specs.World.{step}
 
--- ---- what schedules and lines say
+-- ---- what is put on a link
 
 abbrev pub said_by : List ℕ → Event → List ℕ
 said_by link (Raw name) = []
 said_by link (Say name words) = if bytes_eq name link then request_spelling words else []
 said_by link (Bytes name bytes) = if bytes_eq name link then bytes else []
+said_by link (Client name mode capacity) = []
 said_by link (Out name count) = []
 said_by link (Serve name count) = []
 said_by link (Send name count) = []
@@ -41,107 +56,102 @@ said_by link (Recv name count) = []
 said_by link (Flow name) = []
 said_by link FlowAll = []
 said_by link (Cut name) = []
+said_by link (Ask name q) = []
+said_by link (Do name words) = []
+said_by link (Poll name n) = []
+said_by link (Show name) = []
 
--- the bytes that the client of a link put on it, in order
+-- the bytes that a schedule says on a raw link, in order
 abbrev pub said_to : List ℕ → List Event → List ℕ
 said_to link events = flat_map (said_by link) events
 
-abbrev pub read_by : List ℕ → Line → List ℕ
-read_by link (line.Admit e name id) = []
-read_by link (line.Run e name words) = []
-read_by link (line.Bad name number offset) = []
-read_by link (line.Close e name) = []
-read_by link (line.Take e name count) = []
-read_by link (line.Read name bytes) = if bytes_eq name link then bytes else []
-read_by link (line.End name) = []
+-- the bytes that a client took out for its link: the first of those of its commands
+abbrev pub taken_bytes : MemberState → List ℕ
+taken_bytes m =
+    take (taken_out m.state.setup Main m.state.past) (written m.state.setup Main m.state.past)
 
--- the bytes that were read on a link, in order
-abbrev pub read_on : List ℕ → List Line → List ℕ
-read_on link lines = flat_map (read_by link) lines
+-- what was put on a link: what its client took out, or what the schedule said there
+abbrev pub put_by : Option ℕ → WorldState → List ℕ → List Event → List ℕ
+put_by None w link events = said_to link events
+put_by (Some at) w link events = taken_bytes (member_at w.members at)
 
-abbrev pub names : List Link → List (List ℕ)
-names links = map (λ (l : Link). l.name) links
+abbrev pub put_on : WorldState → List ℕ → List Event → List ℕ
+put_on w link events = put_by (client_of_link link w.members) w link events
 
--- ---- one link
+-- ---- one client
 
--- What was put on a link is what its server's end heard, then what is in flight, then what was
--- lost.
-pub record Delivers (heard said : List ℕ) (link : Link) : Type 0 where
-  pub lost : List ℕ
-  pub all_said : (heard ++ link.up.bytes) ++ lost ≡ said
+-- A client has one link, whose connection is its own; its log is a legal one; commands run in
+-- order and only those that it sent, and what it got is what it was sent, in order.
+pub record Serviced (w : WorldState) (m : MemberState) : Type 0 where
+  pub named : m.link ≡ data_link m.name
+  pub link : place_of m.link w.links ≡ Some m.place
+  pub mode : IsServed m.state.setup.mode
+  pub legal : LegalLog m.state.setup m.state.past
+  pub meet : Meet w.links.limits (client_of m) w.links.past m.state.past
 
--- What was taken of the stream of a connection is what its client read, then what is in flight,
--- then
--- what was lost.
-pub record Returns (l : Limits) (read : List ℕ) (past : List Entry) (link : Link) : Type 0 where
-  pub lost : List ℕ
-  pub all_taken : (read ++ link.down.bytes) ++ lost
-      ≡ take (taken l link.id past) (stream l link.id past)
+-- what a client holds is current, and a hit on it has its point in the history
+abbrev pub HoldsCurrent : WorldState → MemberState → Type 0
+HoldsCurrent w m =
+    Every (λ h. reads_as_cacheable (served_reading h.query) ≡ true
+    → IsCurrent w.links.limits (client_of m) w.links.past m.state.past h
+    × HasPoint w.links.limits (client_of m) w.links.past m.state.past h)
+    (held m.state.setup m.state.past)
 
--- Whether a connection ended before all that was heard of it ran: by QUIT, by an output that grew
--- past
--- its limit, or by SHUTDOWN. None of these is served yet.
-abbrev pub ended_early : Limits → ℕ → List Entry → Bool
-ended_early l c past = false
+abbrev pub AllServiced : WorldState → Type 0
+AllServiced w =
+    (at : ℕ) → at < length w.members
+    → Serviced w (member_at w.members at) × HoldsCurrent w (member_at w.members at)
 
-pub record Serves (l : Limits) (heard said read : List ℕ) (past : List Entry) (link : Link) : Type 0
-  where
-    pub up : Delivers heard said link
-    pub up_lost : is_open link.up.eof ≡ true → up.lost ≡ []
-    pub down : Returns l read past link
-    pub down_lost : is_open link.down.eof ≡ true → down.lost ≡ []
-    -- the Runs are the requests in what was heard, up to a fault of the stream, each once and in
-    -- order
-    pub runs_front : IsPrefix (runs_of link.id past) (requests_of heard)
-    pub runs_all : ended_early l link.id past ≡ false → runs_of link.id past ≡ requests_of heard
-
--- The same where the last event met a fault or was broken off: what was heard by then is some front
--- of
--- what was said, and bytes may be lost.
-pub record PartServes (l : Limits) (said read : List ℕ) (past : List Entry) (link : Link) : Type 0
-  where
-    pub heard : List ℕ
-    pub up : Delivers heard said link
-    pub down : Returns l read past link
-    pub runs_front : IsPrefix (runs_of link.id past) (requests_of heard)
-
--- ---- all links
-
--- the history is a legal one, its lines are the lines that were printed, and each connection that
--- it
--- admitted has one link
-pub record History (l : Limits) (lines : List Line) (w : WorldState) : Type 0 where
-  pub limits : w.limits ≡ l
-  pub legal : IsLegal w.limits w.past
-  pub links : length w.links ≡ admitted w.past
-  pub ids : (at : ℕ) → at < length w.links → (at_place w.links at).id ≡ at + 1
-  pub printed : filter is_entry_line lines ≡ entry_lines w.limits (names w.links) w.past
+-- ---- a schedule
 
 -- after a schedule that met no fault
 pub record OneHistory (l : Limits) (events : List Event) (lines : List Line) (w : WorldState) : Type
     0 where
-  pub history : History l lines w
-  pub serves : (at : ℕ) → at < length w.links →
-      let link = at_place w.links at in
-      Serves w.limits (heard (start l) at events) (said_to link.name events)
-      (read_on link.name lines) w.past link
-  pub unread : (name : List ℕ) → place_of name w ≡ None → read_on name lines ≡ []
+  pub history : History l lines w.links
+  pub serves : (at : ℕ) → at < length w.links.links →
+      let link = at_place w.links.links at in
+      Serves w.links.limits (heard (start l) at events) (put_on w link.name events)
+      (read_on link.name lines) w.links.past link
+  pub unread : (name : List ℕ) → place_of name w.links ≡ None → read_on name lines ≡ []
+  pub clients : AllServiced w
 
 -- where the last event met a fault, or was broken off
 pub record PartHistory (l : Limits) (events : List Event) (lines : List Line)
     (w : WorldState) : Type 0 where
-  pub history : History l lines w
-  pub serves : (at : ℕ) → at < length w.links →
-      let link = at_place w.links at in
-      PartServes w.limits (said_to link.name events) (read_on link.name lines) w.past link
-  pub unread : (name : List ℕ) → place_of name w ≡ None → read_on name lines ≡ []
+  pub history : History l lines w.links
+  pub serves : (at : ℕ) → at < length w.links.links →
+      let link = at_place w.links.links at in
+      PartServes w.links.limits (put_on w link.name events) (read_on link.name lines) w.links.past
+      link
+  pub unread : (name : List ℕ) → place_of name w.links ≡ None → read_on name lines ≡ []
+  pub clients : AllServiced w
 
 -- ---- one more event
 
--- the links that an event doesn't name are as they were
-abbrev pub OthersKept : WorldState → List ℕ → WorldState → Type 0
-OthersKept w name new = (at : ℕ) → (place_of name w ≡ Some at → ⊥)
-    → at_place new.links at ≡ at_place w.links at
+-- the link that an event names, where it is an event of one link that there is; the client's link
+-- where it is an event of one client
+abbrev pub link_named : Event → Option (List ℕ)
+link_named (Raw name) = None
+link_named (Say name words) = Some name
+link_named (Bytes name bytes) = Some name
+link_named (Client name mode capacity) = None
+link_named (Out name count) = Some name
+link_named (Serve name count) = Some name
+link_named (Send name count) = Some name
+link_named (Recv name count) = Some name
+link_named (Flow name) = Some name
+link_named FlowAll = None
+link_named (Cut name) = Some name
+link_named (Ask name q) = Some (data_link name)
+link_named (Do name words) = Some (data_link name)
+link_named (Poll name n) = Some (data_link name)
+link_named (Show name) = Some (data_link name)
+
+-- the links that an event doesn't name, and the clients at other links, are as they were
+pub record OthersKept (w : WorldState) (name : List ℕ) (new : WorldState) : Type 0 where
+  pub links : links_kept.OthersKept w.links name new.links
+  pub members : (at : ℕ) → ((member_at w.members at).link ≡ name → ⊥)
+      → member_at new.members at ≡ member_at w.members at
 
 pub record Follows (l : Limits) (events : List Event) (lines : List Line) (w : WorldState)
     (event : Event) (printed : List Line) (new : WorldState) : Type 0 where
@@ -149,38 +159,65 @@ pub record Follows (l : Limits) (events : List Event) (lines : List Line) (w : W
   -- what was printed by then begins what the whole event prints
   pub front : IsPrefix printed (step w event).lines
   pub entries : List Entry
-  pub grows : new.past ≡ entries ++ w.past
+  pub grows : new.links.past ≡ entries ++ w.links.past
   pub others : (name : List ℕ) → link_named event ≡ Some name → OthersKept w name new
 
--- A link that is not cut, and whose server reads on, flows without a fault: nothing is in flight
--- then,
--- and nothing is left to send, where a Take can ask for all of it.
+-- ---- answers from a cache
+
+-- What a client answers from its cache is that query's answer at the printed point of the history,
+-- which is not before the last invalidation of the key, nor before the reply to a command that
+-- names it, that the client has processed.
+pub record HitHolds (w : WorldState) (name : List ℕ) (v : Value) (entry at : ℕ) : Type 0 where
+  pub place : ℕ
+  pub client : client_named name w.members ≡ Some place
+  pub held : CacheEntry
+  pub value : held.value ≡ v
+  pub point_is : at ≡ point_at (seat_at place w) held
+  pub holds : reads_as_cacheable (served_reading held.query) ≡ true
+      → HasPoint w.links.limits (client_of (member_at w.members place)) w.links.past
+      (member_at w.members place).state.past held
+
+abbrev pub HitStands : WorldState → Line → Type 0
+HitStands w (line.Hit name v entry at) = HitHolds w name v entry at
+HitStands w l = Unit {0}
+
+-- each answer from a cache that a schedule prints
+abbrev pub AllHitsStand : WorldState → List Event → Type 0
+AllHitsStand w [] = Unit {0}
+AllHitsStand w (e ∷ events) =
+    Every (HitStands w) (step w e).lines × AllHitsStand (step w e).state events
+
+-- ---- the law
+
+-- a raw link that flows, and is not cut, delivers all that was there
 abbrev pub FlowDelivers : WorldState → ℕ → Type 0
-FlowDelivers w at =
-    let link = at_place w.links at in
-    let new = over at flow w in
-    let link' = at_place new.state.links at in
-    reads_on w.limits w.past link.id ≡ true → is_open link.up.eof ≡ true
-    → is_open link.down.eof ≡ true → new.fault ≡ None
-    → (link'.up.bytes ≡ []) × (link'.down.bytes ≡ [])
-    × (length (stream w.limits link.id new.state.past) ≤ all_bytes
-    → unsent w.limits link.id new.state.past ≡ [])
+FlowDelivers w at = client_of_link (at_place w.links.links at).name w.members ≡ None
+    → links_kept.FlowDelivers w.links at
 
 -- So it is after any schedule that meets no fault; and one more event, done or broken off, stays
 -- within it.
 abbrev pub HasOneHistory : Type 0
-HasOneHistory = (l : Limits) (events : List Event) (w : WorldState)
+HasOneHistory = (l : Limits) (events : List Event) (w : WorldState) → Every IsValid events
     → after (start l) events ≡ Some w →
     OneHistory l events (transcript (start l) events) w
-    × ((event : Event) (new : WorldState) (printed : List Line) → Reached (step w event) new printed
+    × ((event : Event) (new : WorldState) (printed : List Line) → IsValid event
+    → Reached (step w event) new printed
     → Follows l events (transcript (start l) events) w event printed new)
-    × ((at : ℕ) → at < length w.links → FlowDelivers w at)
+    × AllHitsStand (start l) events
+    × ((event : Event) → IsValid event → Every (HitStands w) (step w event).lines)
+    × ((at : ℕ) → at < length w.links.links → FlowDelivers w at)
 
--- An event that is refused, as there is no such link, or it is there already, or fewer bytes are
--- there
--- than it moves, leaves the world as it was and prints nothing.
+-- each client has its link
+abbrev pub HaveLinks : WorldState → Type 0
+HaveLinks w =
+    (at : ℕ) → at < length w.members
+    → place_of (member_at w.members at).link w.links ≡ Some (member_at w.members at).place
+
+-- An event that is refused, as there is no such link or client, or it is there already, or fewer
+-- bytes are there than it moves, or the client refuses it, leaves the world as it was and prints
+-- nothing.
 abbrev pub RefusalsChangeNothing : Type 0
 RefusalsChangeNothing =
-    (w : WorldState) (event : Event) (fault : WorldFault)
+    (w : WorldState) (event : Event) (fault : WorldFault) → HaveLinks w
     → (step w event).fault ≡ Some fault → IsRefusal fault
     → ((step w event).state ≡ w) × ((step w event).lines ≡ [])

@@ -1,20 +1,18 @@
 -- A schedule played in a world: what it prints, the world after it, and what servers heard.
-use Rattle.std.specs.Prelude.{◌==◌, ℕ, List, [], ◌∷◌, ◌++◌, Bool, false, if◌then◌else◌, nat_lt}
-use Rattle.std.specs.Prelude.{length, take}
+use Rattle.std.specs.Prelude.{ℕ, List, [], ◌∷◌, ◌++◌, if◌then◌else◌, nat_lt, length}
 use Rattle.std.specs.declared.option.Option.{Option}
 use Rattle.std.specs.declared.option.Option.TheVariants.{None, Some}
-use Rattle.serial_model.specs.History.{reads_on}
 use Rattle.script_text.specs.declared.event.Event.{Event}
-use Rattle.script_text.specs.declared.event.Event.TheVariants.{Raw, Say, Bytes, Out, Serve, Send}
-use Rattle.script_text.specs.declared.event.Event.TheVariants.{Recv, Flow, FlowAll, Cut}
+use Rattle.script_text.specs.declared.event.Event.TheVariants.{Raw, Say, Bytes, Client, Out, Serve}
+use Rattle.script_text.specs.declared.event.Event.TheVariants.{Send, Recv, Flow, FlowAll, Cut, Ask}
+use Rattle.script_text.specs.declared.event.Event.TheVariants.{Do, Poll, Show}
 use Rattle.script_text.specs.declared.line.Line.{Line}
-use Rattle.world_run.specs.declared.fault.WorldFault.{WorldFault}
-use Rattle.world_run.specs.WorldState.{WorldState, at_place}
-use Rattle.world_run.specs.World.{flow_first, place_of, step}
-
-abbrev pub unless_fault : {X : Type 0} → Option WorldFault → X → X → X
-unless_fault None more none = more
-unless_fault (Some fault) more none = none
+use Rattle.server_links.specs.LinksState.{at_place}
+use Rattle.server_links.specs.LinkSteps.{place_of}
+use Rattle.server_links.specs.Transcript.{is_place, reads_at, unless_fault}
+use Rattle.world_run.specs.WorldState.{WorldState, client_of_link}
+use Rattle.world_run.specs.World.{client_does, flow_first, step}
+use Rattle.world_run.specs.ClientMoves as client
 
 -- the printed lines of the events, up to the first that meets a fault, those of that event with
 -- them
@@ -28,19 +26,16 @@ abbrev pub after : WorldState → List Event → Option WorldState
 after w [] = Some w
 after w (e ∷ events) = unless_fault (step w e).fault (after (step w e).state events) None
 
-abbrev pub up_to : Option ℕ → List ℕ → List ℕ
-up_to None bytes = bytes
-up_to (Some n) bytes = take n bytes
+-- the world where a link has begun to flow: its client, if it has one, has sent what it had
+abbrev pub flowing : Option ℕ → WorldState → WorldState
+flowing None w = w
+flowing (Some at) w = (client_does at (client.out None) w).state
 
--- what the server's end of the link at this place reads of the bytes in flight to it
-abbrev pub reads_at : WorldState → ℕ → Option ℕ → List ℕ
-reads_at w at count =
-    if reads_on w.limits w.past (at_place w.links at).id then
-    up_to count (at_place w.links at).up.bytes else []
-
-abbrev pub is_place : Option ℕ → ℕ → Bool
-is_place None at = false
-is_place (Some place) at = place == at
+-- what the server's end of the link at this place reads where that link flows
+abbrev pub flow_heard : ℕ → WorldState → List ℕ
+flow_heard at w =
+    reads_at
+    (flowing (client_of_link (at_place w.links.links at).name w.members) w).links at None
 
 -- what the server's end of the link at this place reads at an event; where all links flow, in the
 -- world that those before it left
@@ -48,14 +43,20 @@ abbrev pub heard_at : WorldState → ℕ → Event → List ℕ
 heard_at w at (Raw name) = []
 heard_at w at (Say name words) = []
 heard_at w at (Bytes name bytes) = []
+heard_at w at (Client name mode capacity) = []
 heard_at w at (Out name count) = []
-heard_at w at (Serve name count) = if is_place (place_of name w) at then reads_at w at count else []
+heard_at w at (Serve name count) =
+    if is_place (place_of name w.links) at then reads_at w.links at count else []
 heard_at w at (Send name count) = []
 heard_at w at (Recv name count) = []
-heard_at w at (Flow name) = if is_place (place_of name w) at then reads_at w at None else []
-heard_at w at FlowAll = if nat_lt at (length w.links) then reads_at (flow_first at w).state at None
-    else []
+heard_at w at (Flow name) = if is_place (place_of name w.links) at then flow_heard at w else []
+heard_at w at FlowAll =
+    if nat_lt at (length w.links.links) then flow_heard at (flow_first at w).state else []
 heard_at w at (Cut name) = []
+heard_at w at (Ask name q) = []
+heard_at w at (Do name words) = []
+heard_at w at (Poll name n) = []
+heard_at w at (Show name) = []
 
 -- and in a schedule, up to the first event that meets a fault
 abbrev pub heard : WorldState → ℕ → List Event → List ℕ

@@ -1,101 +1,171 @@
 -- What an event does to a world, and what it prints.
-use Rattle.std.specs.Prelude.{ℕ, List, [], ◌∷◌, ◌++◌, position, length, Result}
-use Prim.Native.Nat.{zero, suc}
+use Rattle.std.specs.Prelude.{◌||◌, ◌&&◌, ℕ, zero, suc, List, [], ◌∷◌, ◌++◌, Bool, true, false, not}
+use Rattle.std.specs.Prelude.{if◌then◌else◌, length, Result}
 use Rattle.std.specs.declared.option.Option.{Option}
 use Rattle.std.specs.declared.option.Option.TheVariants.{None, Some}
-use Rattle.std.specs.Str.{bytes_eq}
-use Rattle.serial_model.specs.declared.history.Entry.{Entry}
-use Rattle.serial_model.specs.declared.history.BookCall.TheVariants as call
-use Rattle.serial_model.specs.declared.history.BookReply.{BookReply}
-use Rattle.serial_model.specs.declared.history.BookReply.TheVariants.{Admitted, Bytes}
-use Rattle.serial_model.specs.Steps.{Turn, book_step}
+use Rattle.std.specs.Option.{is_some}
+use Rattle.resp_value.specs.declared.value.Proto.{Proto}
+use Rattle.resp_value.specs.declared.value.Proto.TheVariants.{Two, Three}
+use Rattle.resp_value.specs.Spelling.{request_spelling}
 use Rattle.script_text.specs.declared.event.Event.{Event}
-use Rattle.script_text.specs.declared.event.Event.TheVariants.{Raw, Say, Bytes, Out, Serve, Send}
-use Rattle.script_text.specs.declared.event.Event.TheVariants.{Recv, Flow, FlowAll, Cut}
+use Rattle.script_text.specs.declared.event.Event.TheVariants.{Raw, Say, Bytes, Client, Out, Serve}
+use Rattle.script_text.specs.declared.event.Event.TheVariants.{Send, Recv, Flow, FlowAll, Cut, Ask}
+use Rattle.script_text.specs.declared.event.Event.TheVariants.{Do, Poll, Show}
 use Rattle.script_text.specs.declared.line.Line.{Line}
-use Rattle.world_run.specs.declared.fault.WorldFault.{WorldFault}
-use Rattle.world_run.specs.declared.fault.WorldFault.TheVariants.{NoName, NameTaken}
-use Rattle.world_run.specs.declared.link.Link.{Link}
-use Rattle.world_run.specs.WorldState.{WorldState, fresh_link}
-use Rattle.world_run.specs.EntryLines.{reply_fault, reply_lines}
-use Rattle.world_run.specs.Moves.{flow, move_of}
-use Rattle.world_run.specs.Outcome.{Outcome, Gives, and_then, refuses, stays, within}
-use Rattle.world_run.specs.Session.{Session, session_at, with_session}
+use Rattle.shared_cache.specs.declared.log.ClientMode.{ClientMode}
+use Rattle.shared_cache.specs.declared.log.Shape.{Shape}
+use Rattle.shared_cache.specs.declared.log.Shape.TheVariants.{Single, Pair}
+use Rattle.shared_cache.specs.declared.log.Caching.{Caching}
+use Rattle.shared_cache.specs.declared.log.Caching.TheVariants.{Default, OptIn, OptOut, Bcast}
+use Rattle.shared_cache.specs.declared.log.ClientCall.TheVariants as call
+use Rattle.shared_cache.specs.Held.{Setup}
+use Rattle.server_links.specs.declared.fault.WorldFault.{WorldFault}
+use Rattle.server_links.specs.declared.fault.WorldFault.TheVariants.{NoName, NameTaken}
+use Rattle.server_links.specs.declared.fault.WorldFault.TheVariants.{NothingThere, Refused}
+use Rattle.server_links.specs.declared.link.LinkMove.TheVariants as moves
+use Rattle.server_links.specs.LinkEvent as link_event
+use Rattle.server_links.specs.LinkEvent.{LinkEvent}
+use Rattle.server_links.specs.LinksState.{LinksState, at_place}
+use Rattle.server_links.specs.LinkSteps as links
+use Rattle.server_links.specs.Outcome.{Outcome, Gives, and_then, does, refuses, stays, within}
+use Rattle.world_run.specs.WorldState.{WorldState, client_named, client_of_link, data_link}
+use Rattle.world_run.specs.WorldState.{fresh_member}
+use Rattle.world_run.specs.Members.{Seat, seat_at, with_seat}
+use Rattle.world_run.specs.ClientMoves as client
+use Rattle.world_run.specs.ClientMoves.{turn, show}
 
 abbrev pub Stepped : Type 0
 Stepped = Outcome WorldState
 
--- the place of a link by its name
-abbrev pub place_of : List ℕ → WorldState → Option ℕ
-place_of name w = position (λ (l : Link). bytes_eq l.name name) w.links
+abbrev pub on_links : WorldState → LinksState → WorldState
+on_links w ls = record { links = ls; members = w.members }
 
--- a move over the link at this place
-unfoldable pub over : ℕ → (Session → Outcome Session) → WorldState → Stepped
-over at move w = within (with_session at w) (move (session_at at w))
+-- something happens to the links
+unfoldable pub links_step : LinkEvent → WorldState → Stepped
+links_step event w = within (on_links w) (links.step w.links event)
 
-abbrev pub over_named : Option ℕ → (Session → Outcome Session) → WorldState → Stepped
-over_named None move w = refuses w NoName
-over_named (Some at) move w = over at move w
+-- a move of the client at this place
+unfoldable pub client_does : ℕ → (Seat → Outcome Seat) → WorldState → Stepped
+client_does at move w = within (with_seat at w) (move (seat_at at w))
 
--- a connection that was admitted has a link of its own, with nothing in flight
-abbrev pub with_admitted : WorldState → List ℕ → BookReply → List Entry → WorldState
-with_admitted w name (Admitted e id) past =
-    record {
-      limits = w.limits;
-      now = w.now;
-      past = past;
-      links = w.links
-          ++ fresh_link id name ∷ [];
-    }
-with_admitted w name reply past = w
+-- a move of the client of this name
+abbrev pub named_does : Option ℕ → (Seat → Outcome Seat) → WorldState → Stepped
+named_does None move w = refuses w NoName
+named_does (Some at) move w = client_does at move w
 
-abbrev pub admitting : WorldState → List ℕ → Turn → Stepped
-admitting w name t = record {
-  state = with_admitted w name t.reply t.past;
-  lines = reply_lines name [] t.reply;
-  fault = reply_fault t.reply;
-  points = (w, []) ∷ [];
-}
+-- ---- links and clients are made
 
-abbrev pub raw_step : WorldState → List ℕ → Option ℕ → Stepped
-raw_step w name (Some at) = refuses w NameTaken
-raw_step w name None = admitting w name (book_step w.limits w.past call.Admit)
+-- one name is one link's or one client's
+abbrev pub is_taken : List ℕ → WorldState → Bool
+is_taken name w =
+    is_some (links.place_of name w.links) || is_some (client_named name w.members)
+
+abbrev pub raw_step : List ℕ → WorldState → Stepped
+raw_step name w =
+    if is_taken name w then refuses w NameTaken else links_step (link_event.Raw name) w
+
+-- what a client is set up with: its log may have as many entries as the history
+abbrev pub setup_by : WorldState → ClientMode → ℕ → Setup
+setup_by w mode capacity =
+    record { mode = mode; capacity = capacity; log_max = w.links.limits.history_max }
+
+-- the client at the link of this place
+abbrev pub join : List ℕ → ℕ → Setup → WorldState → Stepped
+join name place setup w =
+    stays (record { links = w.links; members = w.members ++ fresh_member name place setup ∷ [] })
+
+abbrev pub is_single : Shape → Bool
+is_single Single = true
+is_single Pair = false
+
+abbrev pub is_third : Proto → Bool
+is_third Two = false
+is_third Three = true
+
+abbrev pub is_default : Caching → Bool
+is_default Default = true
+is_default OptIn = false
+is_default OptOut = false
+is_default (Bcast prefixes) = false
+
+-- the modes that are served: one link, the third protocol, default caching
+abbrev pub is_served : ClientMode → Bool
+is_served mode =
+    is_single mode.shape && is_third mode.proto && is_default mode.caching && not mode.noloop
+
+-- the number of the refusal of a mode that is not served yet
+abbrev pub not_served : ℕ
+not_served = 0
+
+-- a client takes memory before its link is made
+abbrev pub client_step : List ℕ → ClientMode → ℕ → WorldState → Stepped
+client_step name mode capacity w =
+    if not (is_served mode) then refuses w (Refused not_served) else
+    if is_taken name w then refuses w NameTaken else
+    and_then (does w w [])
+    (λ w. and_then (links_step (link_event.Raw (data_link name)) w)
+    (join name (length w.links.links) (setup_by w mode capacity)))
+
+-- ---- one link
+
+-- only a raw connection is told by the schedule what to say
+abbrev pub said_step : Option ℕ → List ℕ → List ℕ → WorldState → Stepped
+said_step None name bytes w = links_step (link_event.Put name bytes) w
+said_step (Some at) name bytes w = refuses w NoName
+
+-- a raw connection has nothing of its own to send
+abbrev pub raw_out : Option ℕ → Option ℕ → WorldState → Stepped
+raw_out None count w = refuses w NoName
+raw_out (Some at) None w = stays w
+raw_out (Some at) (Some n) w = refuses w NothingThere
+
+abbrev pub out_step : Option ℕ → List ℕ → Option ℕ → WorldState → Stepped
+out_step None name count w = raw_out (links.place_of name w.links) count w
+out_step (Some at) name count w = client_does at (client.out count) w
+
+abbrev pub recv_step : Option ℕ → List ℕ → Option ℕ → WorldState → Stepped
+recv_step None name count w = links_step (link_event.Over name (moves.Recv count)) w
+recv_step (Some at) name count w = client_does at (client.receive count) w
+
+abbrev pub flow_step : Option ℕ → List ℕ → WorldState → Stepped
+flow_step None name w = links_step (link_event.Over name moves.Flow) w
+flow_step (Some at) name w = client_does at client.flow w
+
+-- ---- all links
+
+abbrev pub flow_at : ℕ → WorldState → Stepped
+flow_at at w =
+    let name = (at_place w.links.links at).name in
+    flow_step (client_of_link name w.members) name w
 
 -- So many links flow, in the order in which they were made, each in the world that the one before
 -- left.
 unfoldable pub flow_first : ℕ → WorldState → Stepped
 flow_first zero w = stays w
-flow_first (suc n) w = and_then (flow_first n w) (over n flow)
+flow_first (suc n) w = and_then (flow_first n w) (flow_at n)
 
--- the link that an event names, where it is an event of one link that there is
-abbrev pub link_named : Event → Option (List ℕ)
-link_named (Raw name) = None
-link_named (Say name words) = Some name
-link_named (Bytes name bytes) = Some name
-link_named (Out name count) = Some name
-link_named (Serve name count) = Some name
-link_named (Send name count) = Some name
-link_named (Recv name count) = Some name
-link_named (Flow name) = Some name
-link_named FlowAll = None
-link_named (Cut name) = Some name
+-- ---- an event
 
 unfoldable pub step : WorldState → Event → Stepped
-step w (Raw name) = raw_step w name (place_of name w)
-step w (Say name words) = over_named (place_of name w) (move_of (Say name words)) w
-step w (Bytes name bytes) = over_named (place_of name w) (move_of (Bytes name bytes)) w
-step w (Out name count) = over_named (place_of name w) (move_of (Out name count)) w
-step w (Serve name count) = over_named (place_of name w) (move_of (Serve name count)) w
-step w (Send name count) = over_named (place_of name w) (move_of (Send name count)) w
-step w (Recv name count) = over_named (place_of name w) (move_of (Recv name count)) w
-step w (Flow name) = over_named (place_of name w) (move_of (Flow name)) w
-step w FlowAll = flow_first (length w.links) w
-step w (Cut name) = over_named (place_of name w) (move_of (Cut name)) w
+step w (Raw name) = raw_step name w
+step w (Say name words) =
+    said_step (client_of_link name w.members) name (request_spelling words) w
+step w (Bytes name bytes) = said_step (client_of_link name w.members) name bytes w
+step w (Client name mode capacity) = client_step name mode capacity w
+step w (Out name count) = out_step (client_of_link name w.members) name count w
+step w (Serve name count) = links_step (link_event.Over name (moves.Serve count)) w
+step w (Send name count) = links_step (link_event.Over name (moves.Send count)) w
+step w (Recv name count) = recv_step (client_of_link name w.members) name count w
+step w (Flow name) = flow_step (client_of_link name w.members) name w
+step w FlowAll = flow_first (length w.links.links) w
+step w (Cut name) = links_step (link_event.Over name moves.Cut) w
+step w (Ask name q) = named_does (client_named name w.members) (turn (call.Ask q)) w
+step w (Do name words) = named_does (client_named name w.members) (turn (call.Send words)) w
+step w (Poll name n) = named_does (client_named name w.members) (turn (call.Poll n)) w
+step w (Show name) = named_does (client_named name w.members) show w
 
 -- What was done is the step, and its lines were appended. Where memory ran out, the world and the
--- lines are those of a point on the way: a move over a link leaves all other links as they were,
--- and
--- of its own link what was done before stands, whole.
+-- lines are those of a point on the way.
 abbrev pub StepGives : WorldState → Event → List Line → Result (Unit {0}) WorldFault → WorldState
     → List Line → Type 0
 StepGives w event lines result new lines' = Gives (step w event) lines result new lines'

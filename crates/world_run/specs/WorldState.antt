@@ -1,30 +1,64 @@
--- What a world is seen as.
-use Rattle.std.specs.Prelude.{◌≡◌, ◌+◌, ◌<◌, ℕ, List, [], length, slice_index_or}
-use Rattle.resp_stream.specs.Stream.{begun}
+-- What a world is seen as: a server with its links, and the clients at the other ends of some.
+use Rattle.std.specs.Prelude.{◌==◌, ℕ, List, [], ◌∷◌, ◌++◌, false, codes, length, position}
+use Rattle.std.specs.Prelude.{slice_index_or, slice_set}
+use Rattle.std.specs.declared.option.Option.{Option}
+use Rattle.std.specs.Str.{bytes_eq}
+use Rattle.resp_stream.specs.Stream.{Stream, begun}
+use Rattle.resp_value.specs.declared.value.Proto.TheVariants.{Three}
 use Rattle.serial_model.specs.declared.history.Limits.{Limits}
-use Rattle.serial_model.specs.declared.history.Entry.{Entry}
-use Rattle.serial_model.specs.History.{admitted}
-use Rattle.world_run.specs.declared.link.Link.{Link}
-use Rattle.world_run.specs.Directions.{fresh}
+use Rattle.shared_cache.specs.declared.log.ClientMode.{ClientMode}
+use Rattle.shared_cache.specs.declared.log.Shape.TheVariants.{Single}
+use Rattle.shared_cache.specs.declared.log.Caching.TheVariants.{Default}
+use Rattle.shared_cache.specs.ClientFields.{Client}
+use Rattle.shared_cache.specs.Held.{Setup}
+use Rattle.server_links.specs.LinksState as links
+use Rattle.server_links.specs.LinksState.{LinksState}
 
-abbrev pub fresh_link : ℕ → List ℕ → Link
-fresh_link id name = record { id = id; name = name; up = fresh; down = fresh; reader = begun }
+-- a client: its name, that of its link and the place of it, its setup and log, and what its end of
+-- the link has read
+pub record MemberState : Type 0 where
+  pub name : List ℕ
+  pub link : List ℕ
+  pub place : ℕ
+  pub state : Client
+  pub reader : Stream
 
--- the limits, the clock in milliseconds, the history with its newest entry first, and the links in
--- the order in which they were made
+-- the server with its links, and the clients in the order in which they were made
 pub record WorldState : Type 0 where
-  pub limits : Limits
-  pub now : ℕ
-  pub past : List Entry
-  pub links : List Link
+  pub links : LinksState
+  pub members : List MemberState
 
 abbrev pub start : Limits → WorldState
-start limits = record { limits = limits; now = 0; past = []; links = [] }
+start limits = record { links = links.start limits; members = [] }
 
-abbrev pub at_place : List Link → ℕ → Link
-at_place links at = slice_index_or links at (fresh_link 0 [])
+-- the name of the link of a client
+abbrev pub data_link : List ℕ → List ℕ
+data_link name = name ++ codes ".data"
 
--- each admitted connection has a link, the one of the id n at the place n - 1
-pub record Fits (past : List Entry) (links : List Link) : Type 0 where
-  pub count : length links ≡ admitted past
-  pub ids : (at : ℕ) → at < length links → (at_place links at).id ≡ at + 1
+-- a client whose log is empty, at the link of this place
+abbrev pub fresh_member : List ℕ → ℕ → Setup → MemberState
+fresh_member name place setup = record {
+  name = name;
+  link = data_link name;
+  place = place;
+  state = record { setup = setup; past = [] };
+  reader = begun;
+}
+
+-- a setup for a place where there is no client
+abbrev pub no_setup : Setup
+no_setup = record {
+  mode = record { shape = Single; proto = Three; caching = Default; noloop = false };
+  capacity = 0;
+  log_max = 0;
+}
+
+abbrev pub member_at : List MemberState → ℕ → MemberState
+member_at members at = slice_index_or members at (fresh_member [] 0 no_setup)
+
+-- the place of a client by its name, and by the name of its link
+abbrev pub client_named : List ℕ → List MemberState → Option ℕ
+client_named name members = position (λ (m : MemberState). bytes_eq m.name name) members
+
+abbrev pub client_of_link : List ℕ → List MemberState → Option ℕ
+client_of_link link members = position (λ (m : MemberState). bytes_eq m.link link) members

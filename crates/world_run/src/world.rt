@@ -1,42 +1,42 @@
-//! The world of a schedule: the server and the links to it.
-ghost use Rattle.std.specs.Prelude.{◌≡◌, Some, IfOk, length};
+//! The world of a schedule: a server, the links to it, and the clients at their other ends.
+ghost use Rattle.std.specs.Prelude.{◌≡◌, ◌<◌, ◌≤◌, IfOk, length};
 ghost use Rattle.script_text.specs.declared.event.Event.TheVariants as event;
+ghost use Rattle.script_text.specs.Valid.{IsValid};
 ghost use Rattle.serial_model.specs.Steps.{AreValid};
-ghost use Rattle.world_run.specs.Outcome.{Gives};
-ghost use Rattle.world_run.specs.Session.{world};
-ghost use Rattle.world_run.specs.World.{StepGives, flow_first, link_named, place_of};
-ghost use Rattle.world_run.specs.WorldState.{Fits, start};
+ghost use Rattle.server_links.specs.LinkEvent.{Over};
+ghost use Rattle.server_links.specs.Outcome.{Gives};
+ghost use Rattle.world_run.specs.World.{StepGives, flow_at, is_served, is_taken};
+ghost use Rattle.world_run.specs.World.{links_step};
+ghost use Rattle.world_run.specs.WorldState.{client_named, client_of_link, data_link, start};
 
-use super::fault::WorldFault;
-use super::link::Link;
-use super::server::Server;
-use resp_value::{NoMemory, Octets};
-use script_text::{Event, Line, Lines};
-use server_book::{Book, BookCall, Limits};
+use super::member::Member;
+use command_words::Query;
+use resp_value::{NoMemory, Octets, Proto, Words, put_request};
+use script_text::{Event, Lines};
+use server_book::Limits;
+use server_links::{LinkMove, ServerLinks, WorldFault};
+use shared_cache::{Caching, ClientMode, ClientState, Shape};
 use std::alloc::Global;
 use std::marker::Model;
 
-/// The server and its links. Contracts see the limits, the clock, the history and the links.
+/// Contracts see the server with its links, and the clients.
 #[derive(Drop)]
 pub struct World {
     alloc: Global,
-    server: Server,
-    links: Vec<Link>,
+    links: ServerLinks,
+    members: Vec<Member>,
 }
 
 impl Model for World {
-    ghost use Rattle.world_run.specs.WorldState.{WorldState, Fits};
+    ghost use Rattle.std.specs.Coded.{codes};
+    ghost use Rattle.resp_value.specs.TreeCoding.{tree_code};
+    ghost use Rattle.world_run.specs.WorldState.{WorldState};
 
     ghost Value = { WorldState };
 
-    ghost view = { λ w. record {
-      limits = w.server.book.limits;
-      now = w.server.clock;
-      past = w.server.book.past;
-      links = w.links.items;
-    } };
+    ghost coded = { Prim.hlevel (codes, tree_code) };
 
-    ghost invariant = { λ w. Fits w.server.book.past w.links.items };
+    ghost view = { λ w. record { links = w.links; members = w.members.items } };
 }
 
 impl World {
@@ -47,90 +47,271 @@ impl World {
     {
         Ok(World {
             alloc,
-            server: Server {
-                book: Book::new(alloc, limits)?,
-                clock: 0,
-            },
-            links: Vec::new(alloc),
+            links: ServerLinks::new(alloc, limits)?,
+            members: Vec::new(alloc),
         })
     }
 
     /// Plays an event, and appends its lines.
     pub fn step(&mut self, event: &Event, lines: &mut Lines) -> Result<(), WorldFault>
+        requires { IsValid event.now }
         ensures { StepGives self.old event.now lines.old result self.new lines.new }
     {
         match event {
             Event::Raw(name) => self.raw(name, lines),
+            Event::Say(name, words) => self.say(name, words, lines),
+            Event::Bytes(name, bytes) => self.bytes(name, bytes.as_slice(), lines),
+            Event::Client(name, mode, capacity) => self.client(name, mode, *capacity, lines),
+            Event::Out(name, count) => self.out(name, *count, lines),
+            Event::Serve(name, count) => self.play(name, LinkMove::Serve(*count), lines),
+            Event::Send(name, count) => self.play(name, LinkMove::Send(*count), lines),
+            Event::Recv(name, count) => self.recv(name, *count, lines),
+            Event::Flow(name) => self.flow(name, lines),
             Event::FlowAll => self.flow_all(lines),
-            Event::Say(name, _)
-            | Event::Bytes(name, _)
-            | Event::Out(name, _)
-            | Event::Serve(name, _)
-            | Event::Send(name, _)
-            | Event::Recv(name, _)
-            | Event::Flow(name)
-            | Event::Cut(name) => self.play(name, event, lines),
+            Event::Cut(name) => self.play(name, LinkMove::Cut, lines),
+            Event::Ask(name, query) => self.ask(name, query, lines),
+            Event::Do(name, words) => self.send(name, words, lines),
+            Event::Poll(name, number) => self.poll(name, *number, lines),
+            Event::Show(name) => self.show(name, lines),
         }
     }
 
-    // A look at each link.
-    fn place(&self, name: &Octets) -> Option<usize>
-        ensures { result ≡ place_of name.now self.now }
+    // A look at each client.
+    fn client_named(&self, name: &Octets) -> Option<usize>
+        ensures { result ≡ client_named name.now self.now.members }
     {
         let name = name.as_slice();
-        self.links
+        self.members
             .iter()
-            .position(|link| link.name.as_slice() == name)
+            .position(|member| member.name().as_slice() == name)
+    }
+
+    // A look at each client.
+    fn client_of_link(&self, link: &Octets) -> Option<usize>
+        ensures { result ≡ client_of_link link.now self.now.members }
+    {
+        let link = link.as_slice();
+        self.members
+            .iter()
+            .position(|member| member.link().as_slice() == link)
+    }
+
+    // One name is one link's or one client's.
+    fn is_taken(&self, name: &Octets) -> bool
+        ensures { result ≡ is_taken name.now self.now }
+    {
+        self.links.place_of(name).is_some() || self.client_named(name).is_some()
+    }
+
+    /// Something moves over a link.
+    fn play(
+        &mut self,
+        name: &Octets,
+        movement: LinkMove,
+        lines: &mut Lines,
+    ) -> Result<(), WorldFault>
+        ensures { Gives (links_step (Over name.now movement) self.old) lines.old result self.new
+            lines.new }
+    {
+        self.links.play(name, movement, lines)
     }
 
     /// Makes a link, which the server admits.
     fn raw(&mut self, name: &Octets, lines: &mut Lines) -> Result<(), WorldFault>
         ensures { StepGives self.old (event.Raw name.now) lines.old result self.new lines.new }
     {
-        if self.place(name).is_some() {
+        if self.is_taken(name) {
             return Err(WorldFault::NameTaken);
         }
-        let id = self.links.len() as u64 + 1;
-        let line = Line::Admit(self.server.next_entry()?, name.copy()?, id);
-        let link = Link::new(self.alloc, id, name.copy()?);
-        self.links.reserve(1)?;
-        self.server.turn(BookCall::Admit, line, lines)?;
-        self.links.push_reserved(link);
+        self.links.raw(name, lines)
+    }
+
+    /// The bytes of a request are put onto the way up of a raw link.
+    fn say(&mut self, name: &Octets, words: &Words, lines: &mut Lines) -> Result<(), WorldFault>
+        ensures { StepGives self.old (event.Say name.now words.now) lines.old result self.new
+            lines.new }
+    {
+        if self.client_of_link(name).is_some() {
+            return Err(WorldFault::NoName);
+        }
+        if self.links.place_of(name).is_none() {
+            return Err(WorldFault::NoName);
+        }
+        let mut request = Vec::new(self.alloc);
+        put_request(words, &mut request)?;
+        self.links.put(name, request.as_slice(), lines)
+    }
+
+    /// Bytes are put onto the way up of a raw link.
+    fn bytes(&mut self, name: &Octets, bytes: &[u8], lines: &mut Lines) -> Result<(), WorldFault>
+        ensures { StepGives self.old (event.Bytes name.now bytes.now) lines.old result self.new
+            lines.new }
+    {
+        if self.client_of_link(name).is_some() {
+            return Err(WorldFault::NoName);
+        }
+        self.links.put(name, bytes, lines)
+    }
+
+    /// Makes a client and its link, which the server admits.
+    fn client(
+        &mut self,
+        name: &Octets,
+        mode: &ClientMode,
+        capacity: u64,
+        lines: &mut Lines,
+    ) -> Result<(), WorldFault>
+        requires { (0 < capacity) × (capacity ≤ 1000000) }
+        ensures { StepGives self.old (event.Client name.now mode.now capacity) lines.old result
+            self.new lines.new }
+    {
+        if !is_served(mode) {
+            return Err(WorldFault::Refused { number: 0 });
+        }
+        if self.is_taken(name) {
+            return Err(WorldFault::NameTaken);
+        }
+        let mode = ClientMode {
+            shape: Shape::Single,
+            proto: Proto::Three,
+            caching: Caching::Default,
+            noloop: false,
+        };
+        let state = ClientState::new(self.alloc, mode, capacity, self.links.limits().history_max)?;
+        let link = data_link(self.alloc, name)?;
+        let place = self.links.count();
+        let member = Member::new(self.alloc, name.copy()?, link.copy()?, place, state);
+        self.members.reserve(1)?;
+        self.links.raw(&link, lines)?;
+        self.members.push_reserved(member);
         Ok(())
     }
 
-    /// Plays an event over the one link that it names.
-    fn play(&mut self, name: &Octets, event: &Event, lines: &mut Lines) -> Result<(), WorldFault>
-        requires { link_named event.now ≡ Some name.now }
-        ensures { StepGives self.old event.now lines.old result self.new lines.new }
+    /// The client's end of a link puts what it has to send onto the way up.
+    fn out(
+        &mut self,
+        name: &Octets,
+        count: Option<u64>,
+        lines: &mut Lines,
+    ) -> Result<(), WorldFault>
+        ensures { StepGives self.old (event.Out name.now count) lines.old result self.new
+            lines.new }
     {
-        let Some(at) = self.place(name) else {
-            return Err(WorldFault::NoName);
-        };
-        self.links[at].play(self.alloc, &mut self.server, event, lines)
+        match self.client_of_link(name) {
+            Some(at) => self.members[at].out(&mut self.links, count, lines),
+            None if self.links.place_of(name).is_none() => Err(WorldFault::NoName),
+            None => match count {
+                None => Ok(()),
+                Some(_) => Err(WorldFault::NothingThere),
+            },
+        }
     }
 
+    /// The client's end of a link reads.
+    fn recv(
+        &mut self,
+        name: &Octets,
+        count: Option<u64>,
+        lines: &mut Lines,
+    ) -> Result<(), WorldFault>
+        ensures { StepGives self.old (event.Recv name.now count) lines.old result self.new
+            lines.new }
+    {
+        match self.client_of_link(name) {
+            Some(at) => self.members[at].receive(&mut self.links, count, lines),
+            None => self.links.play(name, LinkMove::Recv(count), lines),
+        }
+    }
+
+    /// All that is there moves over a link.
+    fn flow(&mut self, name: &Octets, lines: &mut Lines) -> Result<(), WorldFault>
+        ensures { StepGives self.old (event.Flow name.now) lines.old result self.new lines.new }
+    {
+        match self.client_of_link(name) {
+            Some(at) => self.members[at].flow(&mut self.links, lines),
+            None => self.links.play(name, LinkMove::Flow, lines),
+        }
+    }
+
+    /// Each link flows, in order of making.
     fn flow_all(&mut self, lines: &mut Lines) -> Result<(), WorldFault>
         ensures { StepGives self.old event.FlowAll lines.old result self.new lines.new }
     {
-        flow_links(self.alloc, &mut self.server, &mut self.links, lines)
+        for at in 0..self.links.count() {
+            self.flow_at(at, lines)?;
+        }
+        Ok(())
+    }
+
+    /// All that is there moves over the link at this place.
+    fn flow_at(&mut self, at: usize, lines: &mut Lines) -> Result<(), WorldFault>
+        requires { at < length self.old.links.links }
+        ensures gives { Gives (flow_at at self.old) lines.old result self.new lines.new }
+        ensures count { length self.new.links.links ≡ length self.old.links.links }
+    {
+        match self.client_of_link(self.links.name_at(at)) {
+            Some(client) => self.members[client].flow(&mut self.links, lines),
+            None => self.links.play_at(at, LinkMove::Flow, lines),
+        }
+    }
+
+    fn ask(&mut self, name: &Octets, query: &Query, lines: &mut Lines) -> Result<(), WorldFault>
+        ensures { StepGives self.old (event.Ask name.now query.now) lines.old result self.new
+            lines.new }
+    {
+        let Some(at) = self.client_named(name) else {
+            return Err(WorldFault::NoName);
+        };
+        self.members[at].ask(&self.links, query, lines)
+    }
+
+    fn send(&mut self, name: &Octets, words: &Words, lines: &mut Lines) -> Result<(), WorldFault>
+        requires { 0 < length words.now }
+        ensures { StepGives self.old (event.Do name.now words.now) lines.old result self.new
+            lines.new }
+    {
+        let Some(at) = self.client_named(name) else {
+            return Err(WorldFault::NoName);
+        };
+        self.members[at].send(&self.links, words, lines)
+    }
+
+    fn poll(&mut self, name: &Octets, number: u64, lines: &mut Lines) -> Result<(), WorldFault>
+        ensures { StepGives self.old (event.Poll name.now number) lines.old result self.new
+            lines.new }
+    {
+        let Some(at) = self.client_named(name) else {
+            return Err(WorldFault::NoName);
+        };
+        self.members[at].poll(&self.links, number, lines)
+    }
+
+    fn show(&mut self, name: &Octets, lines: &mut Lines) -> Result<(), WorldFault>
+        ensures { StepGives self.old (event.Show name.now) lines.old result self.new lines.new }
+    {
+        let Some(at) = self.client_named(name) else {
+            return Err(WorldFault::NoName);
+        };
+        self.members[at].show(&self.links, lines)
     }
 }
 
-/// Each link flows, in order of making.
-fn flow_links(
-    alloc: Global,
-    server: &mut Server,
-    links: &mut Vec<Link>,
-    lines: &mut Lines,
-) -> Result<(), WorldFault>
-    ensures gives { Gives (flow_first (length links.old.items) (world server.old links.old.items))
-        lines.old result (world server.new links.new.items) lines.new }
-    ensures fits { Fits server.old.book.past links.old.items
-        → Fits server.new.book.past links.new.items }
+/// The modes that are served: one link, the third protocol, default caching.
+fn is_served(mode: &ClientMode) -> bool
+    ensures { result ≡ is_served mode.now }
 {
-    for at in 0..links.len() {
-        links[at].flow(alloc, server, lines)?;
+    match (mode.shape, mode.proto, &mode.caching) {
+        (Shape::Single, Proto::Three, Caching::Default) => !mode.noloop,
+        _ => false,
     }
-    Ok(())
+}
+
+/// The name of a client's link.
+fn data_link(alloc: Global, name: &Octets) -> Result<Octets, NoMemory>
+    ensures { IfOk result (λ l. l ≡ data_link name.now) }
+{
+    let mut link = Vec::new(alloc);
+    link.extend_from_slice(name.as_slice())?;
+    link.extend_from_slice(b".data")?;
+    Octets::from_slice(alloc, link.as_slice())
 }

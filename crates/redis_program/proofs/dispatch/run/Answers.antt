@@ -26,7 +26,7 @@ returns-in-Err-clause-world g c = λ settings e.
     let output = g.K.Sink.contents c.args.output.now in
     finishes (limits_of settings) input input NoMemory c.write_no_memory.result output output
     (g.K.Sink.contents c.write_no_memory.new.output) _ _ (λ d. cc) (λ d. cc)
-    (no_world (limits_of settings) input output) c.write_no_memory.ensures
+    (no_world c.law_one_history.ensures (limits_of settings) input output) c.write_no_memory.ensures
 
 pub returns-in-Err-clause-exact : goal.returns-in-Err-clause-exact
 returns-in-Err-clause-exact g c = λ settings e.
@@ -36,4 +36,5 @@ returns-in-Err-clause-exact g c = λ settings e.
     (g.K.Sink.contents c.write_no_memory.new.output) c.write_no_memory.result
     (finishes (limits_of settings) input input NoMemory c.write_no_memory.result output output
     (g.K.Sink.contents c.write_no_memory.new.output) _ _ (λ d. cc) (λ d. cc)
-    (no_world (limits_of settings) input output) c.write_no_memory.ensures)
+    (no_world c.law_one_history.ensures (limits_of settings) input output)
+    c.write_no_memory.ensures)

@@ -3,6 +3,7 @@ use Rattle.resp_value.proofs.Prefixes.{prefix_same}
 use Rattle.script_text.specs.Printed.{text_of}
 use Rattle.redis_program.proofs.Scheduling.{text_none}
 use Rattle.redis_program.proofs.LineTexts.{part_printed}
+use Rattle.redis_program.proofs.Valid.{event_valid}
 use Rattle.redis_program.proofs.schedule.play_line.Goals as goal
 
 pub returns-in-Ok-None : goal.returns-in-Ok-None
@@ -30,3 +31,7 @@ returns-in-Err-NoMemory c =
       inr (part_printed _ _ _ _ _ _ _ lines lines at c.new-lines.ensures c.step-stepped.ensures
           (prefix_same lines lines refl)),
     )
+
+pub step-stepped-requires : goal.step-stepped-requires
+step-stepped-requires c =
+    event_valid _ _ _ (sym c.in-Ok-Some.ensures ∙ c.in-Ok-Some.field-0-is)

@@ -7,7 +7,7 @@ use Rattle.redis_program.proofs.Playing.{line_wrote, end_counted, fault_counted}
 use Rattle.redis_program.proofs.schedule.play_schedule.Goals as goal
 
 pub returns-in-Err-clause-gives : goal.returns-in-Err-clause-gives
-returns-in-Err-clause-gives g c = no_world _ _ _
+returns-in-Err-clause-gives g c = no_world c.law_one_history.ensures _ _ _
 
 pub loop-number-init : goal.loop-number-init
 loop-number-init g c = record {
@@ -19,8 +19,9 @@ loop-number-init g c = record {
 
 pub returns-in-Err-play-clause-gives : goal.returns-in-Err-play-clause-gives
 returns-in-Err-play-clause-gives g c =
+    let law = c.law_one_history.ensures in
     let read = c.in-Line.ensures.bytes in
-    line_brings _ _ _ _ _ _ _ _ _ _ _ _ _ c.loop-number.invariant.standing
+    line_brings _ _ _ _ _ _ _ _ _ law _ _ _ _ c.loop-number.invariant.standing
     c.as_slice.ensures.value read.0 read.1 c.in-Err-play.ensures.gives
 
 pub returns-in-Err-play-clause-read : goal.returns-in-Err-play-clause-read
@@ -47,20 +48,23 @@ loop-number-preserved g c =
 
 pub returns-in-Ok-play-2-clause-gives : goal.returns-in-Ok-play-2-clause-gives
 returns-in-Ok-play-2-clause-gives g c =
+    let law = c.law_one_history.ensures in
     let read = c.in-Last.ensures.bytes in
-    last_played _ _ _ _ _ _ _ _ _ _ _ _ _ c.loop-number.invariant.standing
+    last_played _ _ _ _ _ _ _ _ _ law _ _ _ _ c.loop-number.invariant.standing
     c.as_slice-in-Last.ensures.value read.0 read.1 read.2 read.3 c.in-Ok-play-2.ensures.gives
 
 pub returns-in-Err-play-2-clause-gives : goal.returns-in-Err-play-2-clause-gives
 returns-in-Err-play-2-clause-gives g c =
+    let law = c.law_one_history.ensures in
     let read = c.in-Last.ensures.bytes in
-    last_brings _ _ _ _ _ _ _ _ _ _ _ _ _ c.loop-number.invariant.standing
+    last_brings _ _ _ _ _ _ _ _ _ law _ _ _ _ c.loop-number.invariant.standing
     c.as_slice-in-Last.ensures.value read.0 read.1 read.2 read.3 c.in-Err-play-2.ensures.gives
 
 pub returns-in-End-clause-gives : goal.returns-in-End-clause-gives
 returns-in-End-clause-gives g c =
+    let law = c.law_one_history.ensures in
     let read = c.in-End.ensures.bytes in
-    done_here _ _ _ _ _ _ _ _ (g.K.Sink.contents c.loop-number.output)
+    done_here _ _ _ _ _ _ _ _ (g.K.Sink.contents c.loop-number.output) law
     c.loop-number.invariant.standing read.0 read.1
 
 pub returns-in-End-clause-read : goal.returns-in-End-clause-read
@@ -69,16 +73,18 @@ returns-in-End-clause-read g c =
 
 pub returns-in-TooLong-clause-gives : goal.returns-in-TooLong-clause-gives
 returns-in-TooLong-clause-gives g c =
+    let law = c.law_one_history.ensures in
     let read = c.in-TooLong.ensures.bytes in
     let n = c.loop-number.number in
-    ends_here _ _ _ _ _ _ _ _ (g.K.Sink.contents c.loop-number.output) (BadLine n) read.0
+    ends_here _ _ _ _ _ _ _ _ (g.K.Sink.contents c.loop-number.output) law (BadLine n) read.0
     c.loop-number.invariant.standing read.3
     (refl, refl, read.0, inr (read.1, refl, read.2), too_long n read.0 read.2)
 
 pub returns-in-Failed-clause-gives : goal.returns-in-Failed-clause-gives
 returns-in-Failed-clause-gives g c =
+    let law = c.law_one_history.ensures in
     let read = c.in-Failed.ensures.bytes in
-    ends_here _ _ _ _ _ _ _ _ (g.K.Sink.contents c.loop-number.output) ReadFault read.0
+    ends_here _ _ _ _ _ _ _ _ (g.K.Sink.contents c.loop-number.output) law ReadFault read.0
     c.loop-number.invariant.standing read.2
     (refl, read.1)
 
@@ -88,7 +94,8 @@ returns-in-Failed-clause-read g c =
 
 pub returns-in-NoMemory-clause-gives : goal.returns-in-NoMemory-clause-gives
 returns-in-NoMemory-clause-gives g c =
+    let law = c.law_one_history.ensures in
     let read = c.in-NoMemory.ensures.bytes in
-    ends_here _ _ _ _ _ _ _ _ (g.K.Sink.contents c.loop-number.output) NoMemory read.0
+    ends_here _ _ _ _ _ _ _ _ (g.K.Sink.contents c.loop-number.output) law NoMemory read.0
     c.loop-number.invariant.standing read.2
     (inl (refl, read.1))

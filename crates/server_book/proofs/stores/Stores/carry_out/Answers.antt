@@ -1,40 +1,45 @@
-use Rattle.std.proofs.Common.{◌≤◌, ◌++◌, [], ap, ◌∙◌, sym, arith, length, append-nil}
-use Rattle.track_table.specs.Table.{holders_of, without_key, without_connection}
+use Rattle.std.proofs.Common.{◌≤◌, ◌++◌, ap, ◌∙◌, sym, arith, length, append-nil}
+use Rattle.track_table.specs.Table.{without_connection}
 use Rattle.serial_model.specs.History.{routed}
-use Rattle.serial_model.specs.Tracking.{drop_group, told_of}
+use Rattle.serial_model.specs.Tracking.{drop_group, group, without_keys}
+use Rattle.serial_model.proofs.TableSize.{without_keys_within}
 use Rattle.server_book.specs.Plans.{kept_by, told_by}
 use Rattle.server_book.specs.Sendings.{with_sendings, modes_of}
 use Rattle.server_book.proofs.Sendings.{on_ok_then}
-use Rattle.server_book.proofs.Remembered.{short_kept, short_dropped, without_key_le}
+use Rattle.server_book.proofs.Remembered.{short_kept, short_dropped}
 use Rattle.server_book.proofs.Remembered.{without_connection_le, same_table}
 use Rattle.server_book.proofs.stores.Stores.carry_out.Goals as goal
 
-pub returns-in-Write-clause-table : goal.returns-in-Write-clause-table
-returns-in-Write-clause-table c =
+pub returns-in-Ok-clause-table : goal.returns-in-Ok-clause-table
+returns-in-Ok-clause-table c =
     let t = c.args.self.now.table in
-    let left = without_key c.in-Write.pair.key t.rows in
+    let keys = c.in-Write.keys in
+    let left = without_keys keys t.rows in
     let short : length left ≤ t.limit =
-    omega (arith, c.requires.held.short, without_key_le c.in-Write.pair.key t.rows) in
+    omega (arith, c.requires.held.short, without_keys_within keys t.rows) in
     on_ok_then c.write.result _ _
-    (λ is. is ∙ ap (λ r. record { limit = t.limit; rows = r }) (sym (short_kept t.limit left short))
+    (λ is. is
+    ∙ ap (λ ks. record { limit = t.limit; rows = without_keys ks t.rows }) c.as_slice.ensures
+    ∙ ap (λ r. record { limit = t.limit; rows = r }) (sym (short_kept t.limit left short))
     ∙ ap (λ d. record { limit = t.limit; rows = kept_by t.limit c.args.id d t.rows })
     (sym c.in-Write.is)) c.write.ensures.table
 
-pub returns-in-Write-clause-told : goal.returns-in-Write-clause-told
-returns-in-Write-clause-told c =
+pub returns-in-Ok-clause-told : goal.returns-in-Ok-clause-told
+returns-in-Ok-clause-told c =
     let s = c.args.self.now in
     let t = s.table in
-    let key = c.in-Write.pair.key in
-    let left = without_key key t.rows in
+    let keys = c.in-Write.keys in
+    let left = without_keys keys t.rows in
     let short : length left ≤ t.limit =
-    omega (arith, c.requires.held.short, without_key_le key t.rows) in
-    let own = told_of key (holders_of key t.rows) in
+    omega (arith, c.requires.held.short, without_keys_within keys t.rows) in
+    let own = group keys t.rows in
     let modes = modes_of s.connections.items in
     on_ok_then c.write.result _ _
     (λ is. is
+    ∙ ap (λ ks. with_sendings c.args.entry (routed modes (group ks t.rows)) s.connections)
+    c.as_slice.ensures
     ∙ ap (λ g. with_sendings c.args.entry (routed modes g) s.connections)
-    (sym (ap (λ d. (own ++ []) ++ drop_group d) (short_dropped t.limit left short)
-    ∙ append-nil (own ++ []) ∙ append-nil own))
+    (sym (ap (λ d. own ++ drop_group d) (short_dropped t.limit left short) ∙ append-nil own))
     ∙ ap (λ d. with_sendings c.args.entry (routed modes (told_by t.limit c.args.id d t.rows))
     s.connections) (sym c.in-Write.is)) c.write.ensures.told
 

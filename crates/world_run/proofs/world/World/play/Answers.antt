@@ -1,46 +1,17 @@
-use Rattle.std.proofs.Common.{◌≡◌, [], Some, slice_set, sym, ap, subst, ◌∙◌}
-use Rattle.std.specs.Str.{bytes_eq}
-use Rattle.std.proofs.lemmas.List.Quantifiers.{position-Some}
-use Rattle.world_run.specs.declared.fault.WorldFault.TheVariants.{NoName}
-use Rattle.world_run.specs.declared.link.Link.{Link}
-use Rattle.world_run.specs.Outcome.{Stops}
-use Rattle.world_run.specs.Session.{world}
-use Rattle.world_run.specs.World.{place_of, step, StepGives}
-use Rattle.world_run.specs.WorldState.{WorldState, fresh_link}
-use Rattle.world_run.proofs.Stepping.{no_such_link, step_gives, step_fits}
+use Rattle.std.proofs.Common.{subst}
+use Rattle.server_links.specs.LinkEvent.{Over}
+use Rattle.server_links.specs.Outcome.{Gives}
+use Rattle.world_run.specs.Members.{world}
+use Rattle.world_run.specs.World.{links_step}
+use Rattle.world_run.specs.WorldState.{WorldState}
+use Rattle.world_run.proofs.WorldCode.{links_give}
 use Rattle.world_run.proofs.world.World.play.Goals as goal
-
-pub returns-in_default : goal.returns-in_default
-returns-in_default c =
-    let i = c.self.inside in
-    subst (λ (w : WorldState). Stops (step w c.args.event.now) c.args.lines.now NoName w
-    c.args.lines.now) c.self.view_is
-    (no_such_link c.args.name.now c.args.event.now c.requires i.server i.links.items
-    c.args.lines.now (ap (place_of c.args.name.now) c.self.view_is ∙ sym c.place.ensures
-    ∙ c.in_default.is))
-
-pub invariant_of-self : goal.invariant_of-self
-invariant_of-self c =
-    let i = c.self.inside in
-    let place : place_of c.args.name.now (world i.server i.links.items) ≡ Some c.in-Some.at =
-    ap (place_of c.args.name.now) c.self.view_is ∙ sym c.place.ensures ∙ c.in-Some.is in
-    let below = (position-Some (λ (l : Link). bytes_eq l.name c.args.name.now) i.links.items
-    c.in-Some.at (fresh_link 0 []) place).0 in
-    step_fits c.args.name.now c.args.event.now c.requires i.server i.links.items c.in-Some.at place
-    below c.play.new.server c.index_mut.result.now c.play.new.self c.index_mut.ensures.value
-    c.args.lines.now c.play.result c.play.new.lines c.play.ensures c.self.invariant
 
 pub returns : goal.returns
 returns c =
     let i = c.self.inside in
-    let place : place_of c.args.name.now (world i.server i.links.items) ≡ Some c.in-Some.at =
-    ap (place_of c.args.name.now) c.self.view_is ∙ sym c.place.ensures ∙ c.in-Some.is in
-    let below = (position-Some (λ (l : Link). bytes_eq l.name c.args.name.now) i.links.items
-    c.in-Some.at (fresh_link 0 []) place).0 in
-    subst (λ (w : WorldState). StepGives w c.args.event.now c.args.lines.now c.play.result
-    (world c.play.new.server (slice_set i.links.items c.in-Some.at c.play.new.self))
-    c.play.new.lines) c.self.view_is
-    (step_gives c.args.name.now c.args.event.now c.requires i.server i.links.items c.in-Some.at
-    place below c.play.new.server c.index_mut.result.now c.play.new.self
-    c.index_mut.ensures.value
-    c.args.lines.now c.play.result c.play.new.lines c.play.ensures)
+    let event = Over c.args.name.now c.args.movement in
+    subst (λ (w : WorldState). Gives (links_step event w) c.args.lines.now c.play.result
+    (world c.play.new.self i.members.items) c.play.new.lines) c.self.view_is
+    (links_give event i.links c.play.new.self i.members.items c.args.lines.now c.play.result
+    c.play.new.lines c.play.ensures)

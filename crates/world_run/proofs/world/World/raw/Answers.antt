@@ -1,154 +1,37 @@
-use Rattle.std.proofs.Common.{◌≡◌, ◌+◌, ◌++◌, ◌∷◌, [], arith, Some, None, Option, Bool, List, ℕ}
-use Rattle.std.proofs.Common.{true, false, refl, sym, ap, subst, ◌∙◌}
-use Rattle.std.specs.Option.{is_some}
-use Rattle.std.proofs.lemmas.Result.{err_from_is_err_and}
-use Rattle.script_text.specs.declared.event.Event.TheVariants.{Raw}
-use Rattle.script_text.specs.declared.line.Line.TheVariants as line
-use Rattle.world_run.specs.declared.fault.WorldFault.TheVariants.{NameTaken, NoMemory}
-use Rattle.world_run.specs.Outcome.{Stops}
-use Rattle.world_run.specs.Session.{world}
-use Rattle.world_run.specs.World.{place_of, step}
-use Rattle.world_run.specs.WorldState.{WorldState, Fits, fresh_link}
-use Rattle.world_run.proofs.Outcomes.{Ends}
-use Rattle.world_run.proofs.Stepping.{raw_taken, raw_before, raw_stops, raw_fits_still, raw_gives}
-use Rattle.world_run.proofs.Stepping.{raw_fits}
+use Rattle.std.proofs.Common.{true, false, cond}
+use Rattle.std.proofs.Common.{sym, ap, subst, ◌∙◌}
+use Rattle.script_text.specs.declared.event.Event.TheVariants as event
+use Rattle.server_links.specs.declared.fault.WorldFault.TheVariants as taken
+use Rattle.server_links.specs.LinkEvent.{Raw}
+use Rattle.server_links.specs.Outcome.{Gives, refuses}
+use Rattle.world_run.specs.Members.{world}
+use Rattle.world_run.specs.World.{StepGives, is_taken, links_step}
+use Rattle.world_run.specs.World.{raw_step, step}
+use Rattle.world_run.specs.WorldState.{WorldState}
+use Rattle.world_run.proofs.WorldCode as code
 use Rattle.world_run.proofs.world.World.raw.Goals as goal
 
-some : {A : Type 0} → (o : Option A) → is_some o ≡ true → (a : A) × (o ≡ Some a)
-some None e = absurd (let no : ⊥ = cc in no)
-some (Some a) e = (a, refl)
-
-none : {A : Type 0} → (o : Option A) → is_some o ≡ false → o ≡ None
-none None e = refl
-none (Some a) e = absurd (let no : ⊥ = cc in no)
-
-free : (v w : WorldState) (name : List ℕ) (o : Option ℕ) (b : Bool) → v ≡ w → o ≡ place_of name w
-    → b ≡ is_some o → b ≡ false → place_of name v ≡ None
-free v w name o b view place is off =
-    none (place_of name v) (ap (λ x. is_some (place_of name x)) view ∙ ap is_some (sym place)
-    ∙ sym is ∙ off)
-
-pub returns-then-is_some : goal.returns-then-is_some
-returns-then-is_some c =
-    let i = c.self.inside in
-    let is = some (place_of c.args.name.now (world i.server i.links.items))
-    (ap (λ (w : WorldState). is_some (place_of c.args.name.now w)) c.self.view_is
-    ∙ ap is_some (sym c.place.ensures) ∙ sym c.is_some.ensures ∙ c.if-is_some.true) in
-    subst (λ (w : WorldState). Stops (step w (Raw c.args.name.now)) c.args.lines.now NameTaken w
-    c.args.lines.now) c.self.view_is
-    (raw_taken i.server i.links.items c.args.name.now c.args.lines.now is.0 is.1)
-
-pub returns-in_err-next_entry : goal.returns-in_err-next_entry
-returns-in_err-next_entry c =
-    let i = c.self.inside in
-    let free = free (world i.server i.links.items) c.args.self.now c.args.name.now c.place.result
-    c.is_some.result c.self.view_is c.place.ensures c.is_some.ensures c.if-is_some.false in
-    let p = err_from_is_err_and c.from_residual.result c.from_residual.ensures.1 in
-    rw p.1 (rw p.2
-    (subst (λ (w : WorldState). Stops (step w (Raw c.args.name.now)) c.args.lines.now NoMemory w
-    c.args.lines.now) c.self.view_is (raw_before i.server i.links.items c.args.name.now
-    c.args.lines.now free)))
-
-pub returns-in_err-copy : goal.returns-in_err-copy
-returns-in_err-copy c =
-    let i = c.self.inside in
-    let free = free (world i.server i.links.items) c.args.self.now c.args.name.now c.place.result
-    c.is_some.result c.self.view_is c.place.ensures c.is_some.ensures c.if-is_some.false in
-    let p = err_from_is_err_and c.from_residual-in_err-copy.result
-    c.from_residual-in_err-copy.ensures.1 in
-    rw p.1 (rw p.2
-    (subst (λ (w : WorldState). Stops (step w (Raw c.args.name.now)) c.args.lines.now NoMemory w
-    c.args.lines.now) c.self.view_is (raw_before i.server i.links.items c.args.name.now
-    c.args.lines.now free)))
-
-pub returns-in_err-copy-2 : goal.returns-in_err-copy-2
-returns-in_err-copy-2 c =
-    let i = c.self.inside in
-    let free = free (world i.server i.links.items) c.args.self.now c.args.name.now c.place.result
-    c.is_some.result c.self.view_is c.place.ensures c.is_some.ensures c.if-is_some.false in
-    let p = err_from_is_err_and c.from_residual-in_err-copy-2.result
-    c.from_residual-in_err-copy-2.ensures.1 in
-    rw p.1 (rw p.2
-    (subst (λ (w : WorldState). Stops (step w (Raw c.args.name.now)) c.args.lines.now NoMemory w
-    c.args.lines.now) c.self.view_is (raw_before i.server i.links.items c.args.name.now
-    c.args.lines.now free)))
-
-pub returns-in_err-reserve : goal.returns-in_err-reserve
-returns-in_err-reserve c =
-    let i = c.self.inside in
-    let free = free (world i.server i.links.items) c.args.self.now c.args.name.now c.place.result
-    c.is_some.result c.self.view_is c.place.ensures c.is_some.ensures c.if-is_some.false in
-    let p = err_from_is_err_and c.from_residual-in_err-reserve.result
-    c.from_residual-in_err-reserve.ensures.1 in
-    rw p.1 (rw p.2
-    (subst (λ (w : WorldState). Stops (step w (Raw c.args.name.now)) c.args.lines.now NoMemory
-    (world i.server c.reserve.new.self.items) c.args.lines.now) c.self.view_is
-    (subst (λ l. Stops (step (world i.server i.links.items) (Raw c.args.name.now)) c.args.lines.now
-    NoMemory (world i.server l) c.args.lines.now) (sym c.reserve.ensures.items)
-    (raw_before i.server i.links.items c.args.name.now c.args.lines.now free))))
-
-pub invariant_of-self-in_err-turn : goal.invariant_of-self-in_err-turn
-invariant_of-self-in_err-turn c =
-    let i = c.self.inside in
-    subst (λ l. Fits c.turn.new.self.book.past l) (sym c.reserve.ensures.items)
-    (raw_fits_still i.server i.links.items c.args.name.now c.args.lines.now
-    (free (world i.server i.links.items) c.args.self.now c.args.name.now c.place.result
-    c.is_some.result c.self.view_is c.place.ensures c.is_some.ensures c.if-is_some.false)
-    c.turn.new.self (line.Admit c.in_ok-next_entry.field-0 c.in_ok-copy.field-0
-    (c.len.result + 1)) c.turn.new.lines c.turn.ensures.limits c.turn.ensures.clock
-    c.in_err-turn.field-0.0 c.in_err-turn.ensures.gives c.self.invariant)
-
-pub returns-in_err-turn : goal.returns-in_err-turn
-returns-in_err-turn c =
-    let i = c.self.inside in
-    let fault = c.in_err-turn.field-0.0 in
-    let p = err_from_is_err_and c.from_residual-in_err-turn.result
-    c.from_residual-in_err-turn.ensures.1 in
-    rw p.1 (rw p.2
-    (subst (λ (w : WorldState). Stops (step w (Raw c.args.name.now)) c.args.lines.now fault
-    (world c.turn.new.self c.reserve.new.self.items) c.turn.new.lines) c.self.view_is
-    (subst (λ l. Stops (step (world i.server i.links.items) (Raw c.args.name.now)) c.args.lines.now
-    fault (world c.turn.new.self l) c.turn.new.lines) (sym c.reserve.ensures.items)
-    (raw_stops i.server i.links.items c.args.name.now c.args.lines.now
-    (free (world i.server i.links.items) c.args.self.now c.args.name.now c.place.result
-    c.is_some.result c.self.view_is c.place.ensures c.is_some.ensures c.if-is_some.false)
-    c.turn.new.self (line.Admit c.in_ok-next_entry.field-0 c.in_ok-copy.field-0
-    (c.len.result + 1)) c.turn.new.lines c.turn.ensures.limits c.turn.ensures.clock fault
-    c.in_err-turn.ensures.gives))))
-
-pub invariant_of-self-2 : goal.invariant_of-self-2
-invariant_of-self-2 c =
-    let i = c.self.inside in
-    let more : c.push_reserved.new.self.items ≡ i.links.items
-    ++ fresh_link (c.len.result + 1) c.args.name.now ∷ [] =
-    c.push_reserved.ensures.items ∙ ap (λ l. l ++ c.new-link.result ∷ []) c.reserve.ensures.items
-    ∙ ap (λ x. i.links.items ++ x ∷ []) (c.new-link.ensures
-    ∙ ap (fresh_link (c.len.result + 1)) c.in_ok-copy-2.ensures) in
-    subst (λ l. Fits c.turn.new.self.book.past l) (sym more)
-    (raw_fits i.server i.links.items c.args.name.now c.args.lines.now
-    (free (world i.server i.links.items) c.args.self.now c.args.name.now c.place.result
-    c.is_some.result c.self.view_is c.place.ensures c.is_some.ensures c.if-is_some.false)
-    c.turn.new.self (line.Admit c.in_ok-next_entry.field-0 c.in_ok-copy.field-0
-    (c.len.result + 1)) c.turn.new.lines c.turn.ensures.limits c.turn.ensures.clock
-    c.in_ok-turn.field-0 c.in_ok-turn.ensures.gives (c.len.result + 1) c.self.invariant
-    (omega (arith, c.len.ensures)) (cc (c.in_ok-next_entry.ensures, c.in_ok-copy.ensures)))
+pub returns-then-is_taken : goal.returns-then-is_taken
+unfolding step
+returns-then-is_taken c =
+    let w = c.args.self.now in
+    let name = c.args.name.now in
+    code.name_taken w (raw_step name w) c.args.lines.now
+    (ap (λ b. cond b (refuses w taken.NameTaken) (links_step (Raw name) w))
+    (sym c.is_taken.ensures ∙ c.if-is_taken.true))
 
 pub returns : goal.returns
+unfolding step
 returns c =
     let i = c.self.inside in
-    let more : c.push_reserved.new.self.items ≡ i.links.items
-    ++ fresh_link (c.len.result + 1) c.args.name.now ∷ [] =
-    c.push_reserved.ensures.items ∙ ap (λ l. l ++ c.new-link.result ∷ []) c.reserve.ensures.items
-    ∙ ap (λ x. i.links.items ++ x ∷ []) (c.new-link.ensures
-    ∙ ap (fresh_link (c.len.result + 1)) c.in_ok-copy-2.ensures) in
-    subst (λ (w : WorldState). Ends (step w (Raw c.args.name.now)) c.args.lines.now
-    (world c.turn.new.self c.push_reserved.new.self.items) c.turn.new.lines) c.self.view_is
-    (subst (λ l. Ends (step (world i.server i.links.items) (Raw c.args.name.now)) c.args.lines.now
-    (world c.turn.new.self l) c.turn.new.lines) (sym more)
-    (raw_gives i.server i.links.items c.args.name.now c.args.lines.now
-    (free (world i.server i.links.items) c.args.self.now c.args.name.now c.place.result
-    c.is_some.result c.self.view_is c.place.ensures c.is_some.ensures c.if-is_some.false)
-    c.turn.new.self (line.Admit c.in_ok-next_entry.field-0 c.in_ok-copy.field-0
-    (c.len.result + 1)) c.turn.new.lines c.turn.ensures.limits c.turn.ensures.clock
-    c.in_ok-turn.field-0 c.in_ok-turn.ensures.gives (c.len.result + 1) c.self.invariant
-    (omega (arith, c.len.ensures)) (cc (c.in_ok-next_entry.ensures, c.in_ok-copy.ensures))))
+    let w = world i.links i.members.items in
+    let t = world c.raw.new.self i.members.items in
+    let name = c.args.name.now in
+    let free = ap (is_taken name) c.self.view_is ∙ sym c.is_taken.ensures ∙ c.if-is_taken.false in
+    subst (λ (v : WorldState). StepGives v (event.Raw name) c.args.lines.now c.raw.result t
+    c.raw.new.lines) c.self.view_is
+    (subst (λ b. Gives (cond b (refuses w taken.NameTaken) (links_step
+    (Raw name) w)) c.args.lines.now
+    c.raw.result t c.raw.new.lines) (sym free)
+    (code.links_give (Raw name) i.links c.raw.new.self i.members.items c.args.lines.now
+    c.raw.result c.raw.new.lines c.raw.ensures))

@@ -1,0 +1,144 @@
+-- The name of a query in another case makes the same query, and a line as long as its line.
+use Rattle.std.proofs.Common.{◌≡◌, ◌<◌, ◌≤◌, ◌+◌, ℕ, List, [], ◌∷◌, ◌++◌, true, false, suc}
+use Rattle.std.proofs.Common.{refl, sym, ap, ◌∙◌, subst, arith, length, map, codes}
+use Rattle.std.specs.declared.option.Option.{Option}
+use Rattle.std.specs.declared.option.Option.TheVariants.{None, Some}
+use Rattle.std.specs.Char.{to_ascii_uppercase}
+use Rattle.std.specs.List.{list_all, join_with_byte}
+use Rattle.std.specs.Option.{option_map_or}
+use Rattle.std.specs.Str.{str_to_ascii_lowercase, str_to_ascii_uppercase}
+use Rattle.std.proofs.lemmas.Bool.{ltb-true, lt-ltb}
+use Rattle.std.proofs.lemmas.Bool.Decides.{nat_tests}
+use Rattle.std.proofs.lemmas.List.{length-append}
+use Rattle.std.proofs.lemmas.Option.{cond_some}
+use Rattle.std.proofs.lemmas.Slice.Eq.{bytes_eq-Decides, slice_eq-Decides}
+use Rattle.std.proofs.lemmas.Str.Ascii.{lowercase-uppercase, uppercase-uppercase}
+use Rattle.command_words.specs.Printed.{printed, printed_byte, printed_bytes}
+use Rattle.command_words.specs.Queries.{query_of, reads_as_cacheable, same_query, with_upper_name}
+use Rattle.command_words.specs.Words.{reading}
+use Rattle.script_text.specs.Grammar.{are_bytes, asking, is_query}
+use Rattle.script_text.proofs.Numbers.{both_true, both}
+
+-- ---- the same query
+lower_of_upper : (name : List ℕ)
+    → str_to_ascii_lowercase (str_to_ascii_uppercase name) ≡ str_to_ascii_lowercase name
+lower_of_upper [] = refl
+lower_of_upper (b ∷ name) = λ i. lowercase-uppercase b i ∷ lower_of_upper name i
+
+upper_of_upper : (name : List ℕ)
+    → str_to_ascii_uppercase (str_to_ascii_uppercase name) ≡ str_to_ascii_uppercase name
+upper_of_upper [] = refl
+upper_of_upper (b ∷ name) = λ i. uppercase-uppercase b i ∷ upper_of_upper name i
+
+pub query_again : (words : List (List ℕ)) → reads_as_cacheable (reading words) ≡ true
+    → query_of (with_upper_name words) ≡ Some (with_upper_name words)
+unfolding reading
+query_again [] h = cc
+query_again (name ∷ words) h = rw (lower_of_upper name, h, upper_of_upper name) refl
+
+pub named_in_upper : (words query : List (List ℕ)) → query_of words ≡ Some query
+    → with_upper_name words ≡ query
+named_in_upper words query h = (cond_some _ _ _ h).1
+
+query_stands : (words query : List (List ℕ)) → query_of words ≡ Some query
+    → query_of query ≡ Some query
+query_stands words query h =
+    let read = cond_some _ _ _ h in
+    subst (λ q. query_of q ≡ Some q) read.1 (query_again words read.0)
+
+same_as_itself : (words : List (List ℕ)) → same_query words words ≡ true
+same_as_itself words = (slice_eq-Decides bytes_eq-Decides words words _ refl).1 refl
+
+pub is_query-read : (words query : List (List ℕ)) → query_of words ≡ Some query
+    → is_query query ≡ true
+is_query-read words query h =
+    ap (λ o. option_map_or (same_query query) o false) (query_stands words query h)
+    ∙ same_as_itself query
+
+where_same : (o : Option (List (List ℕ))) (words : List (List ℕ))
+    → option_map_or (same_query words) o false ≡ true → o ≡ Some words
+where_same (Some query) words h =
+    ap Some (sym ((slice_eq-Decides bytes_eq-Decides words query _ refl).0 h))
+where_same None words h = cc
+
+pub query_of-is_query : (query : List (List ℕ)) → is_query query ≡ true
+    → query_of query ≡ Some query
+query_of-is_query query h = where_same (query_of query) query h
+
+-- ---- of bytes
+upper_below : (b : ℕ) → to_ascii_uppercase b ≤ b
+upper_below b = grind (arith, nat_tests)
+
+upper_bytes : (name : List ℕ) → are_bytes name ≡ true
+    → are_bytes (str_to_ascii_uppercase name) ≡ true
+upper_bytes [] h = refl
+upper_bytes (b ∷ name) h =
+    let small : b < 256 = ltb-true _ _ (both_true _ _ h).0 in
+    both _ _ (lt-ltb _ _ (omega (arith, upper_below b, small)))
+    (upper_bytes name (both_true _ _ h).1)
+
+with_upper-bytes : (words : List (List ℕ)) → list_all are_bytes words ≡ true
+    → list_all are_bytes (with_upper_name words) ≡ true
+with_upper-bytes [] h = refl
+with_upper-bytes (name ∷ words) h =
+    both _ _ (upper_bytes name (both_true _ _ h).0) (both_true _ _ h).1
+
+pub query_bytes : (words query : List (List ℕ)) → query_of words ≡ Some query
+    → list_all are_bytes words ≡ true → list_all are_bytes query ≡ true
+query_bytes words query h b =
+    subst (λ q. list_all are_bytes q ≡ true) (named_in_upper words query h)
+    (with_upper-bytes words b)
+
+-- ---- as long
+upper_byte-length : (b : ℕ) → length (printed_byte (to_ascii_uppercase b))
+    ≡ length (printed_byte b)
+upper_byte-length b = grind (arith, nat_tests)
+
+upper_bytes-length : (name : List ℕ) → length (printed_bytes (str_to_ascii_uppercase name))
+    ≡ length (printed_bytes name)
+unfolding printed_bytes
+upper_bytes-length [] = refl
+upper_bytes-length (b ∷ name) =
+    length-append (printed_byte (to_ascii_uppercase b))
+    (printed_bytes (str_to_ascii_uppercase name))
+    ∙ ap (λ n. n + length (printed_bytes (str_to_ascii_uppercase name))) (upper_byte-length b)
+    ∙ ap (λ n. length (printed_byte b) + n) (upper_bytes-length name)
+    ∙ sym (length-append (printed_byte b) (printed_bytes name))
+
+upper-length : (name : List ℕ) → length (printed (str_to_ascii_uppercase name))
+    ≡ length (printed name)
+upper-length [] = refl
+upper-length (b ∷ name) = upper_bytes-length (b ∷ name)
+
+behind-length : (front more others : List ℕ) → length more ≡ length others
+    → length (front ++ more) ≡ length (front ++ others)
+behind-length [] more others h = h
+behind-length (b ∷ front) more others h = ap suc (behind-length front more others h)
+
+first-length : (part other : List ℕ) (parts : List (List ℕ)) → length part ≡ length other
+    → length (join_with_byte 32 (part ∷ parts)) ≡ length (join_with_byte 32 (other ∷ parts))
+first-length part other [] h = h
+first-length part other (next ∷ parts) h =
+    let rest = join_with_byte 32 (next ∷ parts) in
+    length-append part (32 ∷ rest) ∙ ap (λ n. n + length (32 ∷ rest)) h
+    ∙ sym (length-append other (32 ∷ rest))
+
+asking-length : (client : List ℕ) (words : List (List ℕ))
+    → length (join_with_byte 32 (asking client (with_upper_name words)))
+    ≡ length (join_with_byte 32 (asking client words))
+asking-length client [] = refl
+asking-length client (name ∷ words) =
+    let upper = join_with_byte 32 (printed (str_to_ascii_uppercase name) ∷ map printed words) in
+    let lower = join_with_byte 32 (printed name ∷ map printed words) in
+    let same : length upper ≡ length lower =
+    first-length (printed (str_to_ascii_uppercase name)) (printed name) (map printed words)
+    (upper-length name) in
+    behind-length (codes "ask") (32 ∷ client ++ 32 ∷ upper) (32 ∷ client ++ 32 ∷ lower)
+    (ap suc (behind-length client (32 ∷ upper) (32 ∷ lower) (ap suc same)))
+
+pub query-length : (client : List ℕ) (words query : List (List ℕ)) → query_of words ≡ Some query
+    → length (join_with_byte 32 (asking client query))
+    ≡ length (join_with_byte 32 (asking client words))
+query-length client words query h =
+    ap (λ q. length (join_with_byte 32 (asking client q))) (sym (named_in_upper words query h))
+    ∙ asking-length client words

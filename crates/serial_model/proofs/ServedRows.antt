@@ -1,0 +1,382 @@
+-- What is served, case by case, and what each row that is served does: it signals keys, and leaves
+-- each key that it does not signal.
+use Rattle.std.proofs.Common.{◌≡◌, ◌∙◌, refl, sym, ap, ℕ, ℤ, List, [], ◌∷◌}
+use Rattle.std.proofs.Common.{Bool, true, false, cond, Option, None, Some, Result, Ok, Err}
+use Rattle.std.proofs.Common.{length, map, inl, inr, ◌⊎◌}
+use Rattle.std.specs.Prelude.{pos, negsuc, neg_ℤ, nat_lt, not, ◌==◌, ◌++◌, ◌||◌}
+use Rattle.std.specs.Prelude.{if◌then◌else◌}
+use Rattle.std.specs.FinMap.{get, insert, remove, contains_key, get-insert, get-remove}
+use Rattle.std.specs.FinMap.{same_map, slice_cmp-IsAntisymmetric, nat_cmp-IsAntisymmetric}
+use Rattle.std.specs.Cmp.Lexicographic.{nat_list_cmp_total, texts_ties}
+use Rattle.std.specs.Fmt.{signed_decimal}
+use Rattle.std.specs.List.{filter, list_any}
+use Rattle.std.specs.Str.{bytes_eq}
+use Rattle.std.proofs.lemmas.Slice.Eq.{bytes_eq-Decides}
+use Rattle.resp_value.specs.declared.value.Value.{Value}
+use Rattle.resp_value.specs.Tree.{in_turn}
+use Rattle.command_words.specs.declared.command.Command.{Command}
+use Rattle.command_words.specs.declared.command.Command.TheVariants as command
+use Rattle.command_words.specs.declared.command.TrackOptions.{TrackOptions}
+use Rattle.command_words.specs.declared.command.WordFault.{WordFault}
+use Rattle.command_words.specs.declared.command.WordFault.TheVariants.{Unknown}
+use Rattle.command_words.specs.KeyLists.{each_once}
+use Rattle.command_words.specs.Laws.{signals}
+use Rattle.command_words.specs.Space.{Content, Text, Fields, Held, Space, content_at, held_at}
+use Rattle.command_words.specs.Space.{deadline_at}
+use Rattle.command_words.specs.Effect.{Effect, replied, wrote, wrong_type}
+use Rattle.command_words.specs.Effect.{not_integer, number_in, sum_in}
+use Rattle.command_words.specs.Effects.{effect, string_effect, hash_effect, read_reply, answer_as}
+use Rattle.command_words.specs.Hashes.{Pairs, on_fields, put_fields, hset_row, hdel_row}
+use Rattle.command_words.specs.Hashes.{hincrby_row, set_all, remove_all, field_sum, field_set}
+use Rattle.command_words.specs.Queries.{is_cacheable, reads_as_cacheable, read}
+use Rattle.command_words.specs.Strings.{on_text, getdel_row, append_row, incrby_row, put_all}
+use Rattle.command_words.specs.Strings.{incrby_effect, is_least, or_empty, sets, put_text}
+use Rattle.command_words.specs.Strings.{set_deadline}
+use Rattle.serial_model.specs.declared.mode.Mode.{Mode}
+use Rattle.serial_model.specs.declared.mode.Runner.{Runner}
+use Rattle.serial_model.specs.Modes.{Remembers, own_effect, remembers_read, is_served_tracking}
+use Rattle.serial_model.specs.Tracking.{AreApart}
+use Rattle.serial_model.specs.History.{served, is_served, is_data, gives_no_deadline}
+use Rattle.serial_model.specs.History.{effect_of}
+use Rattle.serial_model.specs.History.{signalled_keys}
+use Rattle.serial_model.specs.Laws.{is_among}
+
+-- ---- what is served
+
+-- what is served is HELLO, CLIENT TRACKING, a command on strings or on hashes, or a fault
+module _ (P : Result Command WordFault → Type 0)
+    (hello : (word : Option (List ℕ)) → P (Ok (command.Hello word)))
+    (tracking : (options : TrackOptions) → P (Ok (command.ClientTracking options)))
+    (data_command : (c : Command) → is_data c ≡ true → P (Ok c))
+    (fault : (f : WordFault) → P (Err f)) where
+  pub served_cases : (r : Result Command WordFault) → P (served r)
+  served_cases (Ok (command.Hello word)) = hello word
+  served_cases (Ok (command.ClientTracking options)) =
+      elim (is_served_tracking options) as (λ b. P (cond b (Ok (command.ClientTracking options))
+      (Err Unknown))) [ true ↦ tracking options | false ↦ fault Unknown ]
+  served_cases (Ok (command.Set key value when life)) =
+      elim (gives_no_deadline life) as (λ b. P (cond b (Ok (command.Set key value when life))
+      (Err Unknown))) [
+        | true ↦ data_command (command.Set key value when life) refl
+        | false ↦ fault Unknown
+      ]
+  served_cases (Ok c) =
+      elim (is_data c) as (λ b. is_data c ≡ b → P (cond b (Ok c) (Err Unknown))) [
+        | true ↦ λ e. data_command c e
+        | false ↦ λ e. fault Unknown
+      ] refl
+  served_cases (Err f) = fault f
+
+-- words that are served as a cacheable query are those that are read
+pub served_is : (r : Result Command WordFault) → reads_as_cacheable (served r) ≡ true
+    → served r ≡ r
+served_is (Ok c) h =
+    elim (is_served c) as (λ b. reads_as_cacheable (cond b (Ok c) (Err Unknown)) ≡ true
+    → cond b (Ok c) (Err Unknown) ≡ Ok c) [
+      | true ↦ λ e. refl
+      | false ↦ λ e. absurd (let no : ⊥ = cc in no)
+    ] h
+served_is (Err f) h = refl
+
+module _ (by : Runner) (words : List (List ℕ)) where
+  pub data_effect : (c : Command) (s : Space) (moment : ℕ) → is_data c ≡ true
+      → effect_of by words (Ok c) s moment ≡ effect c s moment
+  data_effect (command.Hello word) s moment h = absurd (let no : ⊥ = cc in no)
+  data_effect (command.ClientTracking options) s moment h = absurd (let no : ⊥ = cc in no)
+  data_effect _ s moment h = refl
+
+  -- a cacheable query is answered, and nothing changes
+  pub query_effect : (r : Result Command WordFault) (s : Space) (moment : ℕ)
+      → reads_as_cacheable r ≡ true → effect_of by words r s moment ≡ replied (answer_as r s) s
+  unfolding effect string_effect hash_effect read_reply
+  query_effect (Ok (command.Get key)) s moment h = refl
+  query_effect (Ok (command.StrLen key)) s moment h = refl
+  query_effect (Ok (command.GetRange key a b)) s moment h = refl
+  query_effect (Ok (command.HGet key field)) s moment h = refl
+  query_effect (Ok (command.HMGet key fields)) s moment h = refl
+  query_effect (Ok (command.HGetAll key)) s moment h = refl
+  query_effect (Ok (command.HLen key)) s moment h = refl
+  query_effect (Ok (command.HExists key field)) s moment h = refl
+  query_effect (Ok (command.HKeys key)) s moment h = refl
+  query_effect (Ok (command.HVals key)) s moment h = refl
+  query_effect (Ok _) s moment h = absurd (let no : ⊥ = cc in no)
+  query_effect (Err f) s moment h = absurd (let no : ⊥ = cc in no)
+
+-- a command on strings or hashes leaves its connection's mode, which remembers what it reads
+pub data_own : (c : Command) (mode : Mode) → is_data c ≡ true
+    → own_effect (Ok c) mode
+    ≡ record { mode = mode; memory = Remembers (if remembers_read mode then read c else []) }
+data_own (command.Hello word) mode h = absurd (let no : ⊥ = cc in no)
+data_own (command.ClientTracking options) mode h = absurd (let no : ⊥ = cc in no)
+data_own _ mode h = refl
+
+pub query_data : (c : Command) → is_cacheable c ≡ true → is_data c ≡ true
+query_data (command.Get key) h = refl
+query_data (command.StrLen key) h = refl
+query_data (command.GetRange key a b) h = refl
+query_data (command.HGet key field) h = refl
+query_data (command.HMGet key fields) h = refl
+query_data (command.HGetAll key) h = refl
+query_data (command.HLen key) h = refl
+query_data (command.HExists key field) h = refl
+query_data (command.HKeys key) h = refl
+query_data (command.HVals key) h = refl
+query_data _ h = absurd (let no : ⊥ = cc in no)
+
+-- ---- what a row does
+
+pub record Row (s : Space) (e : Effect) : Type 0 where
+  pub signals_keys : (q : List ℕ) → signals e.signalled q ≡ is_among (signalled_keys e.signalled) q
+  pub apart : AreApart (signalled_keys e.signalled)
+  pub others_stay : (q : List ℕ) → signals e.signalled q ≡ false → held_at q e.space ≡ held_at q s
+
+-- where a row signals no key, nothing changes
+pub quiet_stays : (s : Space) (e : Effect) → Row s e → signalled_keys e.signalled ≡ []
+    → e.space ≡ s
+quiet_stays s e row none =
+    same_map nat_list_cmp_total (slice_cmp-IsAntisymmetric nat_cmp-IsAntisymmetric) _ _
+    (λ q. row.others_stay q (row.signals_keys q ∙ ap (λ keys. is_among keys q) none))
+
+left_false : (b c : Bool) → (b || c) ≡ false → b ≡ false
+left_false true c e = absurd (let no : ⊥ = cc in no)
+left_false false c e = refl
+
+right_false : (b c : Bool) → (b || c) ≡ false → c ≡ false
+right_false true c e = absurd (let no : ⊥ = cc in no)
+right_false false c e = e
+
+module _ {s : Space} where
+  none : {reply : Value} → Row s (replied reply s)
+  none = record { signals_keys = λ q. refl; apart = tt; others_stay = λ q apart. refl }
+
+  either : (b : Bool) {x y : Effect} → Row s x → Row s y → Row s (if b then x else y)
+  either true one other = one
+  either false one other = other
+
+  text : (content : Option Content) (rows : Option (List ℕ) → Effect)
+      → ((v : Option (List ℕ)) → Row s (rows v))
+      → Row s (on_text (replied wrong_type s) rows content)
+  text None rows all = all None
+  text (Some (Text v)) rows all = all (Some v)
+  text (Some (Fields fs)) rows all = none
+
+  fields : (content : Option Content) (rows : Pairs → Effect)
+      → ((fs : Pairs) → Row s (rows fs))
+      → Row s (on_fields (replied wrong_type s) rows content)
+  fields None rows all = all []
+  fields (Some (Text v)) rows all = none
+  fields (Some (Fields fs)) rows all = all fs
+
+module _ (s : Space) (k : List ℕ) where
+  put_other : (held : Held) (q : List ℕ) → bytes_eq q k ≡ false
+      → held_at q (insert s k held) ≡ held_at q s
+  put_other held q apart =
+      get-insert nat_list_cmp_total s k held q
+      ∙ ap (λ b. cond b (Some held) (get s q)) (sym (texts_ties q k) ∙ apart)
+
+  -- one key is put
+  put : {reply : Value} (held : Held) → Row s (wrote reply (k ∷ []) (insert s k held))
+  put held = record {
+    signals_keys = λ q. refl;
+    apart = (refl, tt);
+    others_stay = λ q apart. put_other held q (left_false (bytes_eq q k) false apart);
+  }
+
+  -- one key goes
+  gone : {reply : Value} → Row s (wrote reply (k ∷ []) (remove s k))
+  gone = record {
+    signals_keys = λ q. refl;
+    apart = (refl, tt);
+    others_stay = λ q apart.
+        get-remove nat_list_cmp_total s k q
+        ∙ ap (λ b. cond b None (get s q))
+        (sym (texts_ties q k) ∙ left_false (bytes_eq q k) false apart);
+  }
+
+  put_hash : {reply : Value} (fs : Pairs) → Row s (wrote reply (k ∷ []) (put_fields k fs s))
+  put_hash [] = gone
+  put_hash (f ∷ fs) = put (record { content = Fields (f ∷ fs); deadline = deadline_at k s })
+
+-- a key that is none of those met first is none of them
+module _ (q : List ℕ) where
+  apart_from : (k : List ℕ) (keys : List (List ℕ)) → bytes_eq q k ≡ false
+      → list_any (bytes_eq q) (filter (λ x. not (bytes_eq x k)) keys) ≡ false
+      → list_any (bytes_eq q) keys ≡ false
+  apart_from k [] apart h = refl
+  apart_from k (x ∷ keys) apart h =
+      elim (bytes_eq x k) as (λ b. bytes_eq x k ≡ b
+      → list_any (bytes_eq q) (cond (not b) (x ∷ filter (λ y. not (bytes_eq y k)) keys)
+      (filter (λ y. not (bytes_eq y k)) keys)) ≡ false
+      → list_any (bytes_eq q) (x ∷ keys) ≡ false) [
+        | true ↦ λ e g.
+            ap (λ b. b || list_any (bytes_eq q) keys)
+            (ap (bytes_eq q) ((bytes_eq-Decides x k).0 e) ∙ apart) ∙ apart_from k keys apart g
+        | false ↦ λ e g.
+            ap (λ b. b || list_any (bytes_eq q) keys) (left_false (bytes_eq q x) _ g)
+            ∙ apart_from k keys apart (right_false (bytes_eq q x) _ g)
+      ] refl h
+
+  none_of : (keys : List (List ℕ)) → list_any (bytes_eq q) (each_once keys) ≡ false
+      → list_any (bytes_eq q) keys ≡ false
+  none_of [] h = refl
+  none_of (k ∷ keys) h =
+      let apart = left_false (bytes_eq q k) _ h in
+      ap (λ b. b || list_any (bytes_eq q) keys) apart
+      ∙ none_of keys (apart_from k (each_once keys) apart (right_false (bytes_eq q k) _ h))
+
+  puts_other : (ps : List (List ℕ × List ℕ)) (s : Space)
+      → list_any (bytes_eq q) (map (λ p. p.0) ps) ≡ false
+      → held_at q (put_all ps s) ≡ held_at q s
+  puts_other [] s h = refl
+  puts_other (p ∷ ps) s h =
+      puts_other ps (put_text p.0 p.1 None s) (right_false (bytes_eq q p.0) _ h)
+      ∙ put_other s p.0 (record { content = Text p.1; deadline = None }) q
+      (left_false (bytes_eq q p.0) _ h)
+
+-- and each of those met first is there once
+fewer : (p : List ℕ → Bool) (k : List ℕ) (keys : List (List ℕ)) → is_among keys k ≡ false
+    → is_among (filter p keys) k ≡ false
+fewer p k [] h = refl
+fewer p k (x ∷ keys) h =
+    elim (p x) as (λ b. is_among (cond b (x ∷ filter p keys) (filter p keys)) k ≡ false) [
+      | true ↦
+          ap (λ b. b || is_among (filter p keys) k) (left_false (bytes_eq k x) _ h)
+          ∙ fewer p k keys (right_false (bytes_eq k x) _ h)
+      | false ↦ fewer p k keys (right_false (bytes_eq k x) _ h)
+    ]
+
+apart_still : (p : List ℕ → Bool) (keys : List (List ℕ)) → AreApart keys → AreApart (filter p keys)
+apart_still p [] h = tt
+apart_still p (x ∷ keys) h =
+    elim (p x) as (λ b. AreApart (cond b (x ∷ filter p keys) (filter p keys))) [
+      | true ↦ (fewer p x keys h.0, apart_still p keys h.1)
+      | false ↦ apart_still p keys h.1
+    ]
+
+turned : (a b : List ℕ) → bytes_eq a b ≡ false → bytes_eq b a ≡ false
+turned a b apart =
+    elim (bytes_eq b a) as (λ c. bytes_eq b a ≡ c → c ≡ false) [
+      | true ↦ λ e.
+          let same : bytes_eq a b ≡ true = (bytes_eq-Decides a b).1
+          (sym ((bytes_eq-Decides b a).0 e)) in
+          absurd (let no : ⊥ = cc in no)
+      | false ↦ λ e. refl
+    ] refl
+
+none_left : (k : List ℕ) (keys : List (List ℕ))
+    → is_among (filter (λ x. not (bytes_eq x k)) keys) k ≡ false
+none_left k [] = refl
+none_left k (x ∷ keys) =
+    elim (bytes_eq x k) as (λ b. bytes_eq x k ≡ b
+    → is_among (cond (not b) (x ∷ filter (λ y. not (bytes_eq y k)) keys)
+    (filter (λ y. not (bytes_eq y k)) keys)) k ≡ false) [
+      | true ↦ λ e. none_left k keys
+      | false ↦ λ e.
+          ap (λ b. b || is_among (filter (λ y. not (bytes_eq y k)) keys) k) (turned x k e)
+          ∙ none_left k keys
+    ] refl
+
+once_apart : (keys : List (List ℕ)) → AreApart (each_once keys)
+once_apart [] = tt
+once_apart (k ∷ keys) = (
+  none_left k (each_once keys),
+  apart_still (λ x. not (bytes_eq x k)) (each_once keys) (once_apart keys),
+)
+
+-- keys are put in turn
+puts : {reply : Value} (ps : List (List ℕ × List ℕ)) (s : Space)
+    → Row s (wrote reply (each_once (map (λ p. p.0) ps)) (put_all ps s))
+puts ps s = record {
+  signals_keys = λ q. refl;
+  apart = once_apart (map (λ p. p.0) ps);
+  others_stay = λ q apart. puts_other q ps s (none_of q (map (λ p. p.0) ps) apart);
+}
+
+getdel : (key : List ℕ) (v : Option (List ℕ)) (s : Space) → Row s (getdel_row key v s)
+getdel key None s = none
+getdel key (Some v) s = gone s key
+
+incr : (key : List ℕ) (sum : Result ℤ Value) (s : Space) → Row s (incrby_row key sum s)
+incr key (Ok n) s =
+    put s key (record { content = Text (signed_decimal n); deadline = deadline_at key s })
+incr key (Err error) s = none
+
+incr_text : (key : List ℕ) (n : ℤ) (s : Space) → Row s (incrby_effect key n s)
+incr_text key n s =
+    text (content_at key s) (λ v. incrby_row key (sum_in not_integer (number_in v) n) s)
+    (λ v. incr key (sum_in not_integer (number_in v) n) s)
+
+append : (key value : List ℕ) (s : Space) → Row s (append_row key value s)
+append key value s =
+    either (nat_lt 16777216 (length value)) none
+    (put s key (record { content = Text value; deadline = deadline_at key s }))
+
+hincr : (key field : List ℕ) (sum : Result ℤ Value) (fs : Pairs) (s : Space)
+    → Row s (hincrby_row key field sum fs s)
+hincr key field (Ok n) fs s = put_hash s key (field_set field (signed_decimal n) fs)
+hincr key field (Err error) fs s = none
+
+pub row_of : (c : Command) (s : Space) (moment : ℕ) → is_data c ≡ true → Row s (effect c s moment)
+unfolding effect string_effect hash_effect
+row_of (command.Get key) s moment h = none
+row_of (command.Set key value when life) s moment h =
+    either (sets when (contains_key s key))
+    (put s key
+    (record { content = Text value; deadline = set_deadline life moment (deadline_at key s) }))
+    none
+row_of (command.SetNx key value) s moment h =
+    either (contains_key s key) none
+    (put s key (record { content = Text value; deadline = None }))
+row_of (command.GetDel key) s moment h =
+    text (content_at key s) (λ v. getdel_row key v s) (λ v. getdel key v s)
+row_of (command.Append key value) s moment h =
+    text (content_at key s) (λ v. append_row key (or_empty v ++ value) s)
+    (λ v. append key (or_empty v ++ value) s)
+row_of (command.StrLen key) s moment h = none
+row_of (command.GetRange key a b) s moment h = none
+row_of (command.Incr key) s moment h = incr_text key (pos 1) s
+row_of (command.Decr key) s moment h = incr_text key (negsuc 0) s
+row_of (command.IncrBy key n) s moment h = incr_text key n s
+row_of (command.DecrBy key n) s moment h =
+    either (is_least n) none (incr_text key (neg_ℤ n) s)
+row_of (command.MGet keys) s moment h = none
+row_of (command.MSet words) s moment h = puts (in_turn words) s
+row_of (command.HSet key words) s moment h =
+    fields (content_at key s) (λ fs. hset_row key fs (set_all (in_turn words) fs) s)
+    (λ fs. put_hash s key (set_all (in_turn words) fs))
+row_of (command.HGet key field) s moment h = none
+row_of (command.HMGet key names) s moment h = none
+row_of (command.HGetAll key) s moment h = none
+row_of (command.HDel key names) s moment h =
+    fields (content_at key s) (λ fs. hdel_row key fs (remove_all names fs) s)
+    (λ fs. either (length fs == length (remove_all names fs)) none
+    (put_hash s key (remove_all names fs)))
+row_of (command.HLen key) s moment h = none
+row_of (command.HExists key field) s moment h = none
+row_of (command.HKeys key) s moment h = none
+row_of (command.HVals key) s moment h = none
+row_of (command.HIncrBy key field n) s moment h =
+    fields (content_at key s) (λ fs. hincrby_row key field (field_sum field n fs) fs s)
+    (λ fs. hincr key field (field_sum field n fs) fs s)
+row_of _ s moment h = absurd (let no : ⊥ = cc in no)
+
+-- a command that signals keys reads none
+pub reads_or_writes : (c : Command) (s : Space) (moment : ℕ) → is_data c ≡ true
+    → (signalled_keys (effect c s moment).signalled ≡ []) ⊎ (read c ≡ [])
+unfolding effect string_effect hash_effect
+reads_or_writes (command.Get key) s moment h = inl refl
+reads_or_writes (command.StrLen key) s moment h = inl refl
+reads_or_writes (command.GetRange key a b) s moment h = inl refl
+reads_or_writes (command.MGet keys) s moment h = inl refl
+reads_or_writes (command.HGet key field) s moment h = inl refl
+reads_or_writes (command.HMGet key names) s moment h = inl refl
+reads_or_writes (command.HGetAll key) s moment h = inl refl
+reads_or_writes (command.HLen key) s moment h = inl refl
+reads_or_writes (command.HExists key field) s moment h = inl refl
+reads_or_writes (command.HKeys key) s moment h = inl refl
+reads_or_writes (command.HVals key) s moment h = inl refl
+reads_or_writes (command.Exists keys) s moment h = absurd (let no : ⊥ = cc in no)
+reads_or_writes (command.KeyType key) s moment h = absurd (let no : ⊥ = cc in no)
+reads_or_writes (command.Ttl key) s moment h = absurd (let no : ⊥ = cc in no)
+reads_or_writes (command.PTtl key) s moment h = absurd (let no : ⊥ = cc in no)
+reads_or_writes _ s moment h = inr refl

@@ -1,0 +1,197 @@
+-- Telling the holders of one key after another.
+use Rattle.std.proofs.Common.{◌≡◌, ◌+◌, ◌<◌, ℕ, List, [], ◌∷◌, ◌++◌, length, take, refl, ap}
+use Rattle.std.proofs.Common.{sym}
+use Rattle.std.proofs.Common.{subst, ◌∙◌, arith, append-nil, append_assoc, false, true}
+use Rattle.std.proofs.Common.{slice_index_or}
+use Rattle.std.specs.Prelude.{◌||◌}
+use Prim.Native.Nat.{zero, suc}
+use Rattle.std.specs.Str.{bytes_eq}
+use Rattle.std.proofs.lemmas.Slice.Eq.{bytes_eq-Decides}
+use Rattle.std.proofs.lemmas.Bool.{or_parts}
+use Rattle.track_table.specs.declared.table.Held.{Held}
+use Rattle.track_table.specs.Places.{nobody}
+use Rattle.track_table.specs.Table.{holders_of, without_key}
+use Rattle.serial_model.specs.declared.mode.Mode.{Mode}
+use Rattle.serial_model.specs.Laws.{is_among}
+use Rattle.serial_model.specs.History.{Sending, route, routed}
+use Rattle.serial_model.specs.Tracking.{AreApart, Invalidation, drop_group, group, told_of}
+use Rattle.serial_model.proofs.KeyHolders.{keys_apart}
+use Rattle.server_book.specs.declared.connections.Connection.{Connection}
+use Rattle.server_book.specs.Connections.{ConnectionsState, IsId}
+use Rattle.server_book.specs.Sendings.{AreIds, before_posts, modes_of, with_sendings}
+use Rattle.server_book.specs.Stores.{AreThere}
+use Rattle.server_book.proofs.Remembered.{holders_there, there_longer}
+use Rattle.server_book.proofs.Sendings.{AreTo, AreToldThere, before_sendings, length_sendings}
+use Rattle.server_book.proofs.Sendings.{routed_same, routed_there, sendings_append, sent_at}
+use Rattle.server_book.proofs.Sendings.{told_there}
+
+-- the holders of each key, by a table that stays
+abbrev pub each_row : List (List ℕ) → List Held → List Held
+each_row [] rows = []
+each_row (key ∷ keys) rows =
+    record { key = key; holders = holders_of key rows } ∷ each_row keys rows
+
+abbrev pub each_told : List (List ℕ) → List Held → List Invalidation
+each_told keys rows = drop_group (each_row keys rows)
+
+turned : (a b : List ℕ) → bytes_eq a b ≡ false → bytes_eq b a ≡ false
+turned a b apart =
+    elim (bytes_eq b a) as (λ c. bytes_eq b a ≡ c → c ≡ false) [
+      | true ↦ λ e.
+          let same : bytes_eq a b ≡ true = (bytes_eq-Decides a b).1
+          (sym ((bytes_eq-Decides b a).0 e)) in
+          absurd (let no : ⊥ = cc in no)
+      | false ↦ λ e. refl
+    ] refl
+
+each_apart : (k : List ℕ) (keys : List (List ℕ)) (rows : List Held) → is_among keys k ≡ false
+    → each_told keys (without_key k rows) ≡ each_told keys rows
+each_apart k [] rows h = refl
+each_apart k (x ∷ keys) rows h =
+    let p = or_parts (bytes_eq k x) (is_among keys k) h in
+    ap (λ ids. told_of x ids ++ each_told keys (without_key k rows))
+    (keys_apart 0 x (k ∷ []) rows (ap (λ b. b || false) (turned k x p.0)))
+    ∙ ap (λ t. told_of x (holders_of x rows) ++ t) (each_apart k keys rows p.1)
+
+-- keys that differ are told as if none were forgotten on the way
+pub group_told : (keys : List (List ℕ)) (rows : List Held) → AreApart keys
+    → group keys rows ≡ each_told keys rows
+group_told [] rows h = refl
+group_told (k ∷ keys) rows h =
+    ap (λ t. told_of k (holders_of k rows) ++ t)
+    (group_told keys (without_key k rows) h.1 ∙ each_apart k keys rows h.0)
+
+pub each_length : (keys : List (List ℕ)) (rows : List Held)
+    → length (each_row keys rows) ≡ length keys
+each_length [] rows = refl
+each_length (k ∷ keys) rows = ap suc (each_length keys rows)
+
+pub each_at : (keys : List (List ℕ)) (rows : List Held) (n : ℕ) → n < length keys
+    → (let key = slice_index_or keys n [] in
+    slice_index_or (each_row keys rows) n nobody
+    ≡ record { key = key; holders = holders_of key rows })
+each_at [] rows n lt = absurd (let no : ⊥ = omega arith in no)
+each_at (k ∷ keys) rows zero lt = refl
+each_at (k ∷ keys) rows (suc n) lt = each_at keys rows n (omega arith)
+
+-- the holders of one row more
+rows_next : (rows : List Held) (n : ℕ) → n < length rows
+    → (let row = slice_index_or rows n nobody in
+    drop_group (take (n + 1) rows) ≡ drop_group (take n rows) ++ told_of row.key row.holders)
+rows_next [] n lt = absurd (let no : ⊥ = omega arith in no)
+rows_next (r ∷ rows) zero lt = append-nil (told_of r.key r.holders)
+rows_next (r ∷ rows) (suc n) lt =
+    let row = slice_index_or rows n nobody in
+    ap (λ m. drop_group (take m (r ∷ rows)))
+    (let e : suc n + 1 ≡ suc (n + 1) = omega arith in e)
+    ∙ ap (λ t. told_of r.key r.holders ++ t) (rows_next rows n (omega arith))
+    ∙ sym (append_assoc (told_of r.key r.holders) (drop_group (take n rows))
+    (told_of row.key row.holders))
+
+told_append : (cs : List Connection) (xs ys : List Invalidation) → AreToldThere cs xs
+    → AreToldThere cs ys → AreToldThere cs (xs ++ ys)
+told_append cs [] ys h k = k
+told_append cs (x ∷ xs) ys h k = (h.0, told_append cs xs ys h.1 k)
+
+rows_there : (cs : List Connection) (rows : List Held) → AreThere cs rows
+    → AreToldThere cs (drop_group rows)
+rows_there cs [] h = tt
+rows_there cs (r ∷ rows) h =
+    told_append cs (told_of r.key r.holders) (drop_group rows)
+    (told_there cs r.key r.holders h.0) (rows_there cs rows h.1)
+
+pub each_there : (cs : List Connection) (keys : List (List ℕ)) (rows : List Held)
+    → AreThere cs rows → AreThere cs (each_row keys rows)
+each_there cs [] rows h = tt
+each_there cs (k ∷ keys) rows h = (holders_there cs k rows h, each_there cs keys rows h)
+
+pub take_there : (cs : List Connection) (n : ℕ) (rows : List Held) → AreThere cs rows
+    → AreThere cs (take n rows)
+take_there cs zero rows h = tt
+take_there cs (suc n) [] h = tt
+take_there cs (suc n) (r ∷ rows) h = (h.0, take_there cs n rows h.1)
+
+row_there : (cs : List Connection) (n : ℕ) (rows : List Held) → AreThere cs rows
+    → AreIds cs (slice_index_or rows n nobody).holders
+row_there cs n [] h = tt
+row_there cs zero (r ∷ rows) h = h.0
+row_there cs (suc n) (r ∷ rows) h = row_there cs n rows h.1
+
+-- what a group was told is taken back
+pub group_back : (n : ℕ) (old now : ConnectionsState) (keys : List (List ℕ)) (rows : List Held)
+    → AreThere old.items rows → AreApart keys
+    → now ≡ with_sendings n (routed (modes_of old.items) (group keys rows)) old
+    → before_posts now.posts now.items ≡ before_posts old.posts old.items
+group_back n old now keys rows there apart told =
+    ap (λ (s : ConnectionsState). before_posts s.posts s.items) told
+    ∙ before_sendings n (routed (modes_of old.items) (group keys rows)) old
+    (routed_there old.items (modes_of old.items) (group keys rows)
+    (subst (AreToldThere old.items) (sym (group_told keys rows apart))
+    (rows_there old.items (each_row keys rows) (each_there old.items keys rows there))))
+
+routed_append : (m : ℕ → Mode) (xs ys : List Invalidation)
+    → routed m (xs ++ ys) ≡ routed m xs ++ routed m ys
+routed_append m [] ys = refl
+routed_append m (x ∷ xs) ys =
+    ap (λ t. route (m x.to) x ++ t) (routed_append m xs ys)
+    ∙ sym (append_assoc (route (m x.to) x) (routed m xs) (routed m ys))
+
+-- the holders of row after row are told
+module _ (n : ℕ) (old now : ConnectionsState) (rows : List Held) (k : ℕ)
+    (there : AreThere old.items rows) where
+  abbrev pub so_far : List (ℕ × Sending)
+  so_far = routed (modes_of old.items) (drop_group (take k rows))
+
+  pub so_far_there : AreTo old.items so_far
+  so_far_there =
+      routed_there old.items (modes_of old.items) (drop_group (take k rows))
+      (rows_there old.items (take k rows) (take_there old.items k rows there))
+
+  module _ (told : now ≡ with_sendings n so_far old) where
+    same_length : length now.items ≡ length old.items
+    same_length = ap (λ (s : ConnectionsState). length s.items) told ∙ length_sendings n so_far old
+
+    -- the holders are there still
+    holders_still : AreIds now.items (slice_index_or rows k nobody).holders
+    holders_still =
+        row_there now.items k rows
+        (there_longer old.items now.items rows (omega (arith, same_length)) there)
+
+    pub ids_still : (ids : List ℕ) → ids ≡ (slice_index_or rows k nobody).holders
+        → AreIds now.items ids
+    ids_still ids is = subst (AreIds now.items) (sym is) holders_still
+
+    -- and nothing is lost by taking back
+    pub back_still : before_posts now.posts now.items ≡ before_posts old.posts old.items
+    back_still =
+        ap (λ (s : ConnectionsState). before_posts s.posts s.items) told
+        ∙ before_sendings n so_far old so_far_there
+
+    same_modes : (i : ℕ) → IsId now.items i → modes_of now.items i ≡ modes_of old.items i
+    same_modes i on =
+        let on_old : IsId old.items i = (on.0, omega (arith, on.1, same_length)) in
+        ap (λ (s : ConnectionsState). modes_of s.items i) told
+        ∙ ap (λ (c : Connection). c.mode) (sent_at n i so_far old on_old so_far_there)
+
+    -- one row more
+    pub told_more : (key ids : List ℕ) (next : ConnectionsState) → k < length rows
+        → key ≡ (slice_index_or rows k nobody).key
+        → ids ≡ (slice_index_or rows k nobody).holders
+        → next ≡ with_sendings n (routed (modes_of now.items) (told_of key ids)) now
+        → next ≡ with_sendings n
+        (routed (modes_of old.items) (drop_group (take (k + 1) rows))) old
+    told_more key ids next lt at is sent =
+        let m = modes_of old.items in
+        let row = slice_index_or rows k nobody in
+        let at_row = told_of row.key row.holders in
+        sent
+        ∙ ap (λ x. with_sendings n (routed (modes_of now.items) (told_of x ids)) now) at
+        ∙ ap (λ x. with_sendings n (routed (modes_of now.items) (told_of row.key x)) now) is
+        ∙ ap (λ ss. with_sendings n ss now)
+        (routed_same now.items (modes_of now.items) m at_row same_modes
+        (told_there now.items row.key row.holders holders_still))
+        ∙ ap (λ s. with_sendings n (routed m at_row) s) told
+        ∙ sym (sendings_append n so_far (routed m at_row) old)
+        ∙ ap (λ ss. with_sendings n ss old)
+        (sym (routed_append m (drop_group (take k rows)) at_row)
+        ∙ ap (routed m) (sym (rows_next rows k lt)))

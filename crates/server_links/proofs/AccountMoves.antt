@@ -1,0 +1,477 @@
+-- What each move over a link does to its account.
+use Rattle.std.proofs.Common.{◌≡◌, ◌+◌, ℕ, List, [], ◌∷◌, ◌++◌, Bool, true, false, cond, zero, suc}
+use Rattle.std.proofs.Common.{Some, None, Option, length, take, refl, sym, ap, subst, ◌∙◌, arith}
+use Rattle.std.proofs.Common.{append_assoc, append-nil, eq-eqb}
+use Rattle.std.specs.Prelude.{◌==◌, ◌&&◌, not, nat_le}
+use Rattle.std.proofs.lemmas.Slice.Eq.{bytes_eq-Decides}
+use Rattle.std.proofs.lemmas.List.{take-append-drop}
+use Rattle.resp_stream.specs.declared.fault.Fault.TheVariants as fault
+use Rattle.resp_stream.specs.declared.fault.StreamFault.{StreamFault}
+use Rattle.resp_stream.specs.declared.fault.FaultPlace.{FaultPlace}
+use Rattle.resp_stream.specs.Parsed.{Parsed, Whole, More, Bad}
+use Rattle.resp_stream.specs.Request.{request_at}
+use Rattle.resp_stream.specs.Readers.{skipped}
+use Rattle.resp_stream.specs.Stream.{Stream, fed, moved_on}
+use Rattle.resp_stream.specs.Parse.{Batch, batch, batch_by, batch_in, parse, requests_of}
+use Rattle.resp_stream.proofs.Parse.{parse_joined, parse_rest, parse_unfailed}
+use Rattle.serial_model.specs.declared.history.Limits.{Limits}
+use Rattle.serial_model.specs.declared.history.Entry.{Entry}
+use Rattle.serial_model.specs.declared.history.BookCall.TheVariants as call
+use Rattle.serial_model.specs.declared.history.BookReply.{BookReply}
+use Rattle.serial_model.specs.declared.history.BookReply.TheVariants.{Admitted, Ran, Quiet, Bytes}
+use Rattle.serial_model.specs.declared.history.BookReply.TheVariants.{Closed, Refused}
+use Rattle.serial_model.specs.History.{is_admitted, has_ended, reads_on, gives_on, stream, taken}
+use Rattle.serial_model.specs.History.{unsent, runs_of, is_full}
+use Rattle.serial_model.specs.Steps.{Turn, book_step, running, closing, given_by}
+use Rattle.serial_model.proofs.Turning.{step_gave, step_runs, run_step, run_full, close_step}
+use Rattle.server_links.specs.LinkEvent.{LinkEvent, Raw, Put, Over}
+use Rattle.server_links.specs.declared.link.LinkMove.{LinkMove}
+use Rattle.server_links.specs.declared.link.LinkMove.TheVariants as moves
+use Rattle.server_links.specs.declared.direction.Direction.{Direction}
+use Rattle.server_links.specs.declared.direction.Eof.{Eof}
+use Rattle.server_links.specs.declared.direction.Eof.TheVariants as eof
+use Rattle.server_links.specs.declared.fault.WorldFault.TheVariants.{NothingThere}
+use Rattle.server_links.specs.Directions.{cut, finished, is_open, is_queued, put, put_by, queued}
+use Rattle.server_links.specs.Directions.{eof_read, without, without_bytes, past_eof}
+use Rattle.server_links.specs.EntryLines.{reply_lines, reply_fault}
+use Rattle.server_links.specs.OneHistory.{read_on}
+use Rattle.server_links.specs.Outcome.{Outcome, stays, refuses, and_then}
+use Rattle.server_links.specs.Session.{Session, with_past, with_link, with_up, with_down}
+use Rattle.server_links.specs.Session.{with_reader}
+use Rattle.server_links.specs.Moves.{turned, turn, say, next_read, run_one, run_all, close, stop}
+use Rattle.server_links.specs.Moves.{rest_read, run_requests, run_fed, stopped_at}
+use Rattle.server_links.specs.Moves.{feed, serve_all, serve, bytes_of, take_down, all_bytes}
+use Rattle.server_links.specs.Moves.{send_all}
+use Rattle.server_links.specs.Moves.{send}
+use Rattle.std.proofs.lemmas.Bool.Decides.{nat_tests}
+use Rattle.server_links.specs.Moves.{cut_off, move_of, moved, hang_up}
+use Rattle.server_links.specs.Moves.{read_lines, eof_lines, read_bytes, read_eof, receive_all}
+use Rattle.server_links.specs.Moves.{receive}
+use Rattle.server_links.specs.Moves.{flow}
+use Rattle.server_links.proofs.Outcomes.{Meets}
+use Rattle.server_links.proofs.Carries.{mute_reply, by_take, took}
+use Rattle.server_links.specs.Transcript.{up_to}
+use Rattle.server_links.proofs.Moving.{every_quiet, every_does, every_turned, every_run_one}
+use Rattle.server_links.proofs.Moving.{every_run_all}
+use Rattle.server_links.proofs.Moving.{every_run_requests, every_read, every_serve_all}
+use Rattle.server_links.proofs.Moving.{every_send_all}
+use Rattle.server_links.proofs.Carries.{carries_link, take_carries}
+use Rattle.server_links.proofs.Accounts.{gave, InFlight, ReadsOn, Account, Running, Halted, Part}
+use Rattle.server_links.proofs.Accounts.{account_part}
+use Rattle.server_links.proofs.Accounts.{running_part, halted_part, Keeps, keeps_then, keeps_stays}
+use Rattle.server_links.proofs.Accounts.{keeps_refuses, keeps_once, keeps_quiet}
+use Rattle.server_links.proofs.AccountRuns.{account_refuses, account_stays, keeps_at, open_past_eof}
+use Rattle.server_links.proofs.AccountRuns.{reads_of, same_heard, same_id, serve_all_keeps}
+use Rattle.server_links.proofs.AccountRuns.{serve_keeps}
+
+-- ---- the server's end sends
+
+put_open : (more : List ℕ) (e : Eof) (bytes : List ℕ) → is_open e ≡ true
+    → put_by e bytes more ≡ bytes ++ more
+put_open more eof.None bytes h = refl
+put_open more eof.Queued bytes h = absurd (let no : ⊥ = cc in no)
+put_open more eof.Read bytes h = absurd (let no : ⊥ = cc in no)
+
+given_is : (c most : ℕ) (reply : BookReply) → given_by c (call.Take c most) reply ≡ bytes_of reply
+given_is c most (Admitted e id) = refl
+given_is c most (Ran e) = refl
+given_is c most Quiet = refl
+given_is c most (Bytes e bytes) = ap (λ b. cond b bytes []) (same_id c)
+given_is c most (Closed e) = refl
+given_is c most (Refused r) = refl
+
+gave_take : (l : Limits) (c most : ℕ) (past : List Entry) →
+    let t : Turn = book_step l past (call.Take c most) in
+    gave l c past ++ bytes_of t.reply ≡ gave l c t.past
+unfolding gave
+gave_take l c most past =
+    let t = book_step l past (call.Take c most) in
+    ap (λ b. take (taken l c past) (stream l c past) ++ b) (sym (given_is c most t.reply))
+    ∙ step_gave l c past (call.Take c most)
+
+take_reads : (l : Limits) (c most : ℕ) (past : List Entry)
+    → reads_on l (book_step l past (call.Take c most)).past c ≡ reads_on l past c
+unfolding took
+take_reads l c most past = by_take l past c most (λ t. reads_on l t.past c
+    ≡ reads_on l past c) refl refl refl (λ on. refl)
+
+-- a Take was played, and what it gave is still to be put on the way
+record InHand (given heard said read : List ℕ) (s : Session) : Type 0 where
+  up_lost : List ℕ
+  all_said : (heard ++ s.link.up.bytes) ++ up_lost ≡ said
+  none_up : is_open s.link.up.eof ≡ true → up_lost ≡ []
+  opened : is_open s.link.down.eof ≡ true
+  all_given : (read ++ s.link.down.bytes) ++ given ≡ gave s.limits s.link.id s.past
+  runs : runs_of s.link.id s.past ≡ requests_of heard
+  reading : reads_on s.limits s.past s.link.id ≡ true → ReadsOn heard s.link.reader
+
+module _ (heard said : List ℕ) where
+  hand_part : (given read : List ℕ) (s : Session) → InHand given heard said read s
+      → Part said read s
+  unfolding Part gave
+  hand_part given read s h = record {
+    heard = heard;
+    up = record { lost = h.up_lost; all_said = h.all_said };
+    down = record { lost = given; all_taken = h.all_given };
+    runs_front = ([], append-nil (runs_of s.link.id s.past) ∙ h.runs);
+  }
+
+  take_in_hand : (most : ℕ) (read : List ℕ) (s : Session) → is_open s.link.down.eof ≡ true
+      → Account heard said read s →
+      let t : Turn = book_step s.limits s.past (call.Take s.link.id most) in
+      InHand (bytes_of t.reply) heard said read (with_past s t.past)
+  take_in_hand most read s opened a =
+      let t = book_step s.limits s.past (call.Take s.link.id most) in
+      record {
+        up_lost = a.bytes.up_lost;
+        all_said = a.bytes.all_said;
+        none_up = a.bytes.none_up;
+        opened = opened;
+        all_given = ap (λ l. l ++ bytes_of t.reply)
+            (sym (append-nil (read ++ s.link.down.bytes))
+            ∙ ap (λ l. (read ++ s.link.down.bytes) ++ l) (sym (a.bytes.none_down opened))
+            ∙ a.bytes.all_taken)
+            ∙ gave_take s.limits s.link.id most s.past;
+        runs = sym (step_runs s.limits s.link.id s.past (call.Take s.link.id most))
+            ∙ append-nil (runs_of s.link.id s.past) ∙ a.runs;
+        reading = λ on. a.reading (sym (take_reads s.limits s.link.id most s.past) ∙ on);
+      }
+
+  put_in_hand : (given read : List ℕ) (s : Session) → InHand given heard said read s
+      → Account heard said read (with_link s (with_down s.link (put given s.link.down)))
+  put_in_hand given read s h = record {
+    bytes = record {
+      up_lost = h.up_lost;
+      all_said = h.all_said;
+      none_up = h.none_up;
+      down_lost = [];
+      all_taken = append-nil (read ++ put_by s.link.down.eof s.link.down.bytes given)
+          ∙ ap (λ l. read ++ l) (put_open given s.link.down.eof s.link.down.bytes h.opened)
+          ∙ sym (append_assoc read s.link.down.bytes given) ∙ h.all_given;
+      none_down = λ e. refl;
+    };
+    runs = h.runs;
+    reading = h.reading;
+  }
+
+  take_keeps : (most : ℕ) (s : Session) → is_open s.link.down.eof ≡ true
+      → Keeps (Account heard said) (Account heard said) (Part said) s (take_down most s)
+  unfolding take_down
+  take_keeps most s opened =
+      let t = book_step s.limits s.past (call.Take s.link.id most) in
+      let given = bytes_of t.reply in
+      keeps_then (Account heard said) (InHand given heard said) (Account heard said) (Part said) s
+      (turned s [] t) _ (every_turned s [] t (take_carries s most))
+      (keeps_quiet (Account heard said) (InHand given heard said) (Part said) s (with_past s t.past)
+      (reply_lines s.link.name [] t.reply) (reply_fault t.reply)
+      (mute_reply s.link.name s.link.name [] t.reply)
+      (λ read a. let h = take_in_hand most read s opened a in
+      (account_part heard said read s a, (λ e. h), hand_part given read _ h)))
+      (λ u. keeps_quiet (InHand given heard said) (Account heard said) (Part said) u
+      (with_link u (with_down u.link (put given u.link.down))) [] None refl
+      (λ read h. let a = put_in_hand given read u h in
+      (hand_part given read u h, (λ e. a), account_part heard said read _ a)))
+
+  not_open : (e : Eof) → is_open (queued e) ≡ true → ⊥
+  not_open eof.None h = cc
+  not_open eof.Queued h = cc
+  not_open eof.Read h = cc
+
+  finished_account : (read : List ℕ) (s : Session) → Account heard said read s
+      → Account heard said read (with_link s (with_down s.link (finished s.link.down)))
+  finished_account read s a = record {
+    bytes = record {
+      up_lost = a.bytes.up_lost;
+      all_said = a.bytes.all_said;
+      none_up = a.bytes.none_up;
+      down_lost = a.bytes.down_lost;
+      all_taken = a.bytes.all_taken;
+      none_down = λ h. absurd (not_open s.link.down.eof h);
+    };
+    runs = a.runs;
+    reading = a.reading;
+  }
+
+  send_all_keeps : (s : Session)
+      → Keeps (Account heard said) (Account heard said) (Part said) s (send_all s)
+  send_all_keeps s =
+      let ended = with_link s (with_down s.link (finished s.link.down)) in
+      elim (is_open s.link.down.eof) as (λ b. is_open s.link.down.eof ≡ b
+      → Keeps (Account heard said) (Account heard said) (Part said) s
+      (cond b (cond (gives_on s.limits s.past s.link.id) (take_down all_bytes s) (stays ended))
+      (stays s))) [
+        | true ↦ λ opened. elim (gives_on s.limits s.past s.link.id) as (λ b. Keeps
+            (Account heard said) (Account heard said) (Part said) s
+            (cond b (take_down all_bytes s) (stays ended))) [
+              | true ↦ take_keeps all_bytes s opened
+              | false ↦ keeps_stays (Account heard said) (Account heard said) (Part said) s ended
+                  (λ read a. let n = finished_account read s a in
+                  (n, account_part heard said read ended n))
+            ]
+        | false ↦ λ shut. account_stays heard said s
+      ] refl
+
+  send_keeps : (count : Option ℕ) (s : Session)
+      → Keeps (Account heard said) (Account heard said) (Part said) s (send count s)
+  send_keeps None s = send_all_keeps s
+  send_keeps (Some n) s =
+      let can = is_open s.link.down.eof && gives_on s.limits s.past s.link.id && nat_le n
+      (length (unsent s.limits s.link.id s.past)) in
+      elim can as (λ b. can ≡ b
+      → Keeps (Account heard said) (Account heard said) (Part said) s
+      (cond b (take_down n s) (refuses s NothingThere))) [
+        | true ↦ λ t. take_keeps n s (grind (arith, nat_tests))
+        | false ↦ λ t. account_refuses heard said s
+      ] refl
+
+  -- ---- the client's end
+
+  read_own : (name bytes : List ℕ) → read_on name (read_lines name bytes) ≡ bytes
+  read_own name [] = refl
+  read_own name (b ∷ bytes) = ap (λ v. cond v (b ∷ bytes) []
+      ++ []) ((bytes_eq-Decides name name).1 refl) ∙ append-nil (b ∷ bytes)
+
+  down_account : (bytes read : List ℕ) (down : Direction) (s : Session)
+      → bytes ++ down.bytes ≡ s.link.down.bytes
+      → (is_open down.eof ≡ true → is_open s.link.down.eof ≡ true)
+      → Account heard said read s → Account heard said (read
+      ++ bytes) (with_link s (with_down s.link down))
+  down_account bytes read down s split opened a = record {
+    bytes = record {
+      up_lost = a.bytes.up_lost;
+      all_said = a.bytes.all_said;
+      none_up = a.bytes.none_up;
+      down_lost = a.bytes.down_lost;
+      all_taken = ap (λ l. l ++ a.bytes.down_lost) (append_assoc read bytes down.bytes
+          ∙ ap (λ l. read ++ l) split) ∙ a.bytes.all_taken;
+      none_down = λ h. a.bytes.none_down (opened h);
+    };
+    runs = a.runs;
+    reading = a.reading;
+  }
+
+  read_keeps : (bytes : List ℕ) (down : Direction) (s : Session)
+      → bytes ++ down.bytes ≡ s.link.down.bytes
+      → (is_open down.eof ≡ true → is_open s.link.down.eof ≡ true)
+      → Keeps (Account heard said) (Account heard said) (Part said) s (read_bytes bytes down s)
+  read_keeps bytes down s split opened =
+      keeps_once (Account heard said) (Account heard said) (Part said) s
+      (with_link s (with_down s.link down)) (read_lines s.link.name bytes) None bytes
+      (read_own s.link.name bytes)
+      (λ read a. let n = down_account bytes read down s split opened a in
+      (account_part heard said read s a, (λ e. n), account_part heard said (read ++ bytes) _ n))
+
+  eof_quiet : (name : List ℕ) (b : Bool) → read_on name (eof_lines name b) ≡ []
+  eof_quiet name true = refl
+  eof_quiet name false = refl
+
+  read_eof_keeps : (s : Session)
+      → Keeps (Account heard said) (Account heard said) (Part said) s (read_eof s)
+  read_eof_keeps s =
+      let b = is_queued s.link.down.eof in
+      keeps_once (Account heard said) (Account heard said) (Part said) s
+      (with_link s (with_down s.link (past_eof s.link.down))) (eof_lines s.link.name b) None []
+      (eof_quiet s.link.name b)
+      (λ read a. let n = down_account [] read (past_eof s.link.down) s refl
+      (open_past_eof s.link.down.eof) a in
+      (account_part heard said read s a, (λ e. n), account_part heard said (read ++ []) _ n))
+
+  receive_all_keeps : (s : Session)
+      → Keeps (Account heard said) (Account heard said) (Part said) s (receive_all s)
+  unfolding receive_all
+  receive_all_keeps s =
+      keeps_then (Account heard said) (Account heard said) (Account heard said) (Part said) s _
+      read_eof (every_read s.link.down.bytes (without_bytes s.link.down) s)
+      (read_keeps s.link.down.bytes (without_bytes s.link.down) s (append-nil s.link.down.bytes)
+      (λ h. h)) read_eof_keeps
+
+  receive_keeps : (count : Option ℕ) (s : Session)
+      → Keeps (Account heard said) (Account heard said) (Part said) s (receive count s)
+  receive_keeps None s = receive_all_keeps s
+  receive_keeps (Some n) s =
+      elim (nat_le n (length s.link.down.bytes)) as (λ b. Keeps (Account heard said)
+      (Account heard said) (Part said) s (cond b
+      (read_bytes (take n s.link.down.bytes) (without n s.link.down) s) (refuses s NothingThere))) [
+        | true ↦ read_keeps (take n s.link.down.bytes) (without n s.link.down) s
+            (take-append-drop n s.link.down.bytes) (λ h. h)
+        | false ↦ account_refuses heard said s
+      ]
+
+  cut_keeps : (s : Session)
+      → Keeps (Account heard said) (Account heard said) (Part said) s (cut_off s)
+  cut_keeps s = keeps_stays (Account heard said) (Account heard said) (Part said) s _ (λ read a.
+      let n : Account heard said read (with_link s
+      (with_up (with_down s.link (cut s.link.down)) (cut s.link.up))) = record {
+        bytes = record {
+          up_lost = s.link.up.bytes ++ a.bytes.up_lost;
+          all_said = ap (λ l. l ++ (s.link.up.bytes ++ a.bytes.up_lost)) (append-nil heard)
+              ∙ sym (append_assoc heard s.link.up.bytes a.bytes.up_lost) ∙ a.bytes.all_said;
+          none_up = λ h. absurd (not_open s.link.up.eof h);
+          down_lost = s.link.down.bytes ++ a.bytes.down_lost;
+          all_taken = ap (λ l. l ++ (s.link.down.bytes ++ a.bytes.down_lost)) (append-nil read)
+              ∙ sym (append_assoc read s.link.down.bytes a.bytes.down_lost) ∙ a.bytes.all_taken;
+          none_down = λ h. absurd (not_open s.link.down.eof h);
+        };
+        runs = a.runs;
+        reading = a.reading;
+      } in
+      (n, account_part heard said read _ n))
+
+  hang_keeps : (s : Session)
+      → Keeps (Account heard said) (Account heard said) (Part said) s (hang_up s)
+  hang_keeps s = keeps_stays (Account heard said) (Account heard said) (Part said) s _ (λ read a.
+      let n : Account heard said read (with_link s (with_up s.link (finished s.link.up))) =
+      record {
+        bytes = record {
+          up_lost = a.bytes.up_lost;
+          all_said = a.bytes.all_said;
+          none_up = λ h. absurd (not_open s.link.up.eof h);
+          down_lost = a.bytes.down_lost;
+          all_taken = a.bytes.all_taken;
+          none_down = a.bytes.none_down;
+        };
+        runs = a.runs;
+        reading = a.reading;
+      } in
+      (n, account_part heard said read _ n))
+
+-- ---- the client's end puts bytes on the way
+
+put_said : (heard said bytes lost flight : List ℕ) (e : Eof) → (heard ++ flight) ++ lost ≡ said
+    → (is_open e ≡ true → lost ≡ [])
+    → (rest : List ℕ) × ((heard ++ put_by e flight bytes) ++ rest ≡ said ++ bytes)
+    × (is_open e ≡ true → rest ≡ [])
+put_said heard said bytes lost flight eof.None all none = (
+  [],
+  append-nil (heard ++ (flight ++ bytes)) ∙ sym (append_assoc heard flight bytes)
+      ∙ ap (λ l. l ++ bytes) (sym (append-nil (heard ++ flight))
+      ∙ ap (λ l. (heard ++ flight) ++ l) (sym (none refl)) ∙ all),
+  λ h. refl,
+)
+put_said heard said bytes lost flight eof.Queued all none = (
+  lost ++ bytes,
+  sym (append_assoc (heard ++ flight) lost bytes)
+      ∙ ap (λ l. l ++ bytes) all,
+  λ h. absurd (let no : ⊥ = cc in no),
+)
+put_said heard said bytes lost flight eof.Read all none = (
+  lost ++ bytes,
+  sym (append_assoc (heard ++ flight) lost bytes)
+      ∙ ap (λ l. l ++ bytes) all,
+  λ h. absurd (let no : ⊥ = cc in no),
+)
+
+say_keeps : (heard said bytes : List ℕ) (s : Session)
+    → Keeps (Account heard said) (Account heard (said ++ bytes)) (Part (said ++ bytes)) s
+    (say bytes s)
+unfolding Part gave
+say_keeps heard said bytes s =
+    keeps_quiet (Account heard said) (Account heard (said ++ bytes)) (Part (said ++ bytes)) s
+    (with_link s (with_up s.link (put bytes s.link.up))) [] None refl (λ read a.
+    let p = put_said heard said bytes a.bytes.up_lost s.link.up.bytes s.link.up.eof a.bytes.all_said
+    a.bytes.none_up in
+    let n : Account heard (said ++ bytes) read
+    (with_link s (with_up s.link (put bytes s.link.up))) = record {
+      bytes = record {
+        up_lost = p.0;
+        all_said = p.1;
+        none_up = p.2;
+        down_lost = a.bytes.down_lost;
+        all_taken = a.bytes.all_taken;
+        none_down = a.bytes.none_down;
+      };
+      runs = a.runs;
+      reading = a.reading;
+    } in
+    let old : Part (said ++ bytes) read s = record {
+      heard = heard;
+      up = record {
+        lost = a.bytes.up_lost
+            ++ bytes;
+        all_said = sym (append_assoc (heard ++ s.link.up.bytes) a.bytes.up_lost bytes)
+            ∙ ap (λ l. l ++ bytes) a.bytes.all_said;
+      };
+      down = record { lost = a.bytes.down_lost; all_taken = a.bytes.all_taken };
+      runs_front = ([], append-nil (runs_of s.link.id s.past) ∙ a.runs);
+    } in
+    (old, (λ e. n), account_part heard (said ++ bytes) read _ n))
+
+-- ---- an event
+
+pub flow_keeps : (heard said : List ℕ) (s : Session)
+    → Keeps (Account heard said) (Account (heard ++ reads_of None s) said) (Part said) s (flow s)
+unfolding flow
+flow_keeps heard said s =
+    keeps_then (Account heard said) (Account (heard ++ reads_of None s) said)
+    (Account (heard ++ reads_of None s) said) (Part said) s (serve_all s) _ (every_serve_all s)
+    (serve_all_keeps heard said s)
+    (λ t. keeps_then (Account (heard ++ reads_of None s) said)
+    (Account (heard ++ reads_of None s) said) (Account (heard ++ reads_of None s) said)
+    (Part said) t (send_all t) receive_all (every_send_all t)
+    (send_all_keeps (heard ++ reads_of None s) said t)
+    (receive_all_keeps (heard ++ reads_of None s) said))
+
+-- what the server's end hears at a move over its link
+unfoldable pub piece_over : LinkMove → Session → List ℕ
+piece_over (moves.Serve count) s = reads_of count s
+piece_over (moves.Send count) s = []
+piece_over (moves.Recv count) s = []
+piece_over moves.Flow s = reads_of None s
+piece_over moves.HangUp s = []
+piece_over moves.Cut s = []
+
+-- what the server's end hears at an event of its link, and what the client says
+unfoldable pub piece_of : LinkEvent → Session → List ℕ
+piece_of (Raw name) s = []
+piece_of (Put name bytes) s = []
+piece_of (Over name move) s = piece_over move s
+
+unfoldable pub bytes_said : LinkEvent → List ℕ
+bytes_said (Raw name) = []
+bytes_said (Put name bytes) = bytes
+bytes_said (Over name move) = []
+
+-- nothing was said, or nothing heard
+module _ (heard said : List ℕ) (s : Session) (m : Outcome Session) where
+  pub none_said : (piece : List ℕ)
+      → Keeps (Account heard said) (Account (heard ++ piece) said) (Part said) s m
+      → Keeps (Account heard said) (Account (heard ++ piece) (said ++ [])) (Part (said ++ [])) s m
+  none_said piece k =
+      subst (λ d. Keeps (Account heard said) (Account (heard ++ piece) d) (Part d) s m)
+      (sym (append-nil said)) k
+
+  none_heard : (bytes : List ℕ)
+      → Keeps (Account heard said) (Account heard (said ++ bytes)) (Part (said ++ bytes)) s m
+      → Keeps (Account heard said) (Account (heard ++ []) (said ++ bytes)) (Part (said ++ bytes)) s
+      m
+  none_heard bytes k =
+      subst (λ h. Keeps (Account heard said) (Account h (said ++ bytes)) (Part (said ++ bytes)) s m)
+      (sym (append-nil heard)) k
+
+  neither : Keeps (Account heard said) (Account heard said) (Part said) s m
+      → Keeps (Account heard said) (Account (heard ++ []) (said ++ [])) (Part (said ++ [])) s m
+  neither k = none_said [] (same_heard heard said s m k)
+
+moved_keeps : (heard said : List ℕ) (move : LinkMove) (s : Session)
+    → Keeps (Account heard said) (Account (heard ++ piece_over move s) (said ++ []))
+    (Part (said ++ [])) s (moved move s)
+unfolding piece_over
+moved_keeps heard said (moves.Serve count) s =
+    none_said heard said s _ (reads_of count s) (serve_keeps heard said count s)
+moved_keeps heard said (moves.Send count) s =
+    neither heard said s _ (send_keeps heard said count s)
+moved_keeps heard said (moves.Recv count) s =
+    neither heard said s _ (receive_keeps heard said count s)
+moved_keeps heard said moves.Flow s =
+    none_said heard said s _ (reads_of None s) (flow_keeps heard said s)
+moved_keeps heard said moves.HangUp s = neither heard said s _ (hang_keeps heard said s)
+moved_keeps heard said moves.Cut s = neither heard said s _ (cut_keeps heard said s)
+
+pub move_keeps : (heard said : List ℕ) (event : LinkEvent) (s : Session)
+    → Keeps (Account heard said) (Account (heard ++ piece_of event s) (said ++ bytes_said event))
+    (Part (said ++ bytes_said event)) s (move_of event s)
+unfolding piece_of bytes_said
+move_keeps heard said (Raw name) s = neither heard said s _ (account_stays heard said s)
+move_keeps heard said (Put name bytes) s =
+    none_heard heard said s _ bytes (say_keeps heard said bytes s)
+move_keeps heard said (Over name move) s = moved_keeps heard said move s

@@ -1,0 +1,447 @@
+-- What is heard and runs, in the account of a link.
+use Rattle.std.proofs.Common.{◌≡◌, ◌+◌, ℕ, List, [], ◌∷◌, ◌++◌, Bool, true, false, cond, zero, suc}
+use Rattle.std.proofs.Common.{Some, None, Option, length, take, refl, sym, ap, subst, ◌∙◌, arith}
+use Rattle.std.proofs.Common.{append_assoc, append-nil, eq-eqb}
+use Rattle.std.specs.Prelude.{◌==◌, ◌&&◌, not, nat_le}
+use Rattle.std.proofs.lemmas.Slice.Eq.{bytes_eq-Decides}
+use Rattle.std.proofs.lemmas.List.{take-append-drop}
+use Rattle.resp_stream.specs.declared.fault.Fault.TheVariants as fault
+use Rattle.resp_stream.specs.declared.fault.StreamFault.{StreamFault}
+use Rattle.resp_stream.specs.declared.fault.FaultPlace.{FaultPlace}
+use Rattle.resp_stream.specs.Parsed.{Parsed, Whole, More, Bad}
+use Rattle.resp_stream.specs.Request.{request_at}
+use Rattle.resp_stream.specs.Readers.{skipped}
+use Rattle.resp_stream.specs.Stream.{Stream, fed, moved_on}
+use Rattle.resp_stream.specs.Parse.{Batch, batch, batch_by, batch_in, parse, requests_of}
+use Rattle.resp_stream.proofs.Parse.{parse_joined, parse_rest, parse_unfailed}
+use Rattle.serial_model.specs.declared.history.Limits.{Limits}
+use Rattle.serial_model.specs.declared.history.Entry.{Entry}
+use Rattle.serial_model.specs.declared.history.BookCall.TheVariants as call
+use Rattle.serial_model.specs.declared.history.BookReply.{BookReply}
+use Rattle.serial_model.specs.declared.history.BookReply.TheVariants.{Admitted, Ran, Quiet, Bytes}
+use Rattle.serial_model.specs.declared.history.BookReply.TheVariants.{Closed, Refused}
+use Rattle.serial_model.specs.History.{is_admitted, has_ended, reads_on, gives_on, stream, taken}
+use Rattle.serial_model.specs.History.{unsent, runs_of, is_full}
+use Rattle.serial_model.specs.Steps.{Turn, book_step, running, closing, given_by}
+use Rattle.serial_model.proofs.Turning.{step_gave, step_runs, run_step, run_full, close_step}
+use Rattle.server_links.specs.LinkEvent.{LinkEvent, Raw, Put, Over}
+use Rattle.server_links.specs.declared.link.LinkMove.{LinkMove}
+use Rattle.server_links.specs.declared.link.LinkMove.TheVariants as moves
+use Rattle.server_links.specs.declared.direction.Direction.{Direction}
+use Rattle.server_links.specs.declared.direction.Eof.{Eof}
+use Rattle.server_links.specs.declared.direction.Eof.TheVariants as eof
+use Rattle.server_links.specs.declared.fault.WorldFault.TheVariants.{NothingThere}
+use Rattle.server_links.specs.Directions.{cut, finished, is_open, is_queued, put, put_by, queued}
+use Rattle.server_links.specs.Directions.{eof_read, without, without_bytes, past_eof}
+use Rattle.server_links.specs.EntryLines.{reply_lines, reply_fault}
+use Rattle.server_links.specs.OneHistory.{read_on}
+use Rattle.server_links.specs.Outcome.{Outcome, stays, refuses, and_then}
+use Rattle.server_links.specs.Session.{Session, with_past, with_link, with_up, with_down}
+use Rattle.server_links.specs.Session.{with_reader}
+use Rattle.server_links.specs.Moves.{turned, turn, say, next_read, run_one, run_all, close, stop}
+use Rattle.server_links.specs.Moves.{rest_read, run_requests, run_fed, stopped_at}
+use Rattle.server_links.specs.Moves.{feed, serve_all, serve, bytes_of, take_down, all_bytes}
+use Rattle.server_links.specs.Moves.{send_all}
+use Rattle.server_links.specs.Moves.{send}
+use Rattle.std.proofs.lemmas.Bool.Decides.{nat_tests}
+use Rattle.server_links.specs.Moves.{cut_off, move_of, moved, hang_up}
+use Rattle.server_links.specs.Moves.{read_lines, eof_lines, read_bytes, read_eof, receive_all}
+use Rattle.server_links.specs.Moves.{receive}
+use Rattle.server_links.specs.Moves.{flow}
+use Rattle.server_links.proofs.Outcomes.{Meets}
+use Rattle.server_links.proofs.Carries.{mute_reply, by_take, took}
+use Rattle.server_links.specs.Transcript.{up_to}
+use Rattle.server_links.proofs.Moving.{every_quiet, every_does, every_turned, every_run_one}
+use Rattle.server_links.proofs.Moving.{every_run_all}
+use Rattle.server_links.proofs.Moving.{every_run_requests, every_read, every_serve_all}
+use Rattle.server_links.proofs.Moving.{every_send_all}
+use Rattle.server_links.proofs.Carries.{carries_link, take_carries}
+use Rattle.server_links.proofs.Accounts.{gave, InFlight, ReadsOn, Account, Running, Halted, Part}
+use Rattle.server_links.proofs.Accounts.{account_part}
+use Rattle.server_links.proofs.Accounts.{running_part, halted_part, Keeps, keeps_then, keeps_stays}
+use Rattle.server_links.proofs.Accounts.{keeps_refuses, keeps_once, keeps_quiet}
+
+pub same_id : (c : ℕ) → (c == c) ≡ true
+same_id c = eq-eqb c c refl
+
+flight_past : (heard said read : List ℕ) (s : Session) (past : List Entry)
+    → gave s.limits s.link.id past ≡ gave s.limits s.link.id s.past
+    → InFlight heard said read s → InFlight heard said read (with_past s past)
+flight_past heard said read s past same f = record {
+  up_lost = f.up_lost;
+  all_said = f.all_said;
+  none_up = f.none_up;
+  down_lost = f.down_lost;
+  all_taken = f.all_taken ∙ sym same;
+  none_down = f.none_down;
+}
+
+flight_reader : (heard said read : List ℕ) (s : Session) (reader : Stream)
+    → InFlight heard said read s
+    → InFlight heard said read (with_link s (with_reader s.link reader))
+flight_reader heard said read s reader f = record {
+  up_lost = f.up_lost;
+  all_said = f.all_said;
+  none_up = f.none_up;
+  down_lost = f.down_lost;
+  all_taken = f.all_taken;
+  none_down = f.none_down;
+}
+
+-- ---- what runs
+
+gave_run : (l : Limits) (c now : ℕ) (words : List (List ℕ)) (past : List Entry)
+    → gave l c (book_step l past (call.Run c words now)).past ≡ gave l c past
+unfolding gave
+gave_run l c now words past = sym (step_gave l c past (call.Run c words now))
+    ∙ append-nil (take (taken l c past) (stream l c past))
+
+gave_close : (l : Limits) (c : ℕ) (past : List Entry)
+    → gave l c (book_step l past (call.Close c)).past ≡ gave l c past
+unfolding gave
+gave_close l c past = sym (step_gave l c past (call.Close c))
+    ∙ append-nil (take (taken l c past) (stream l c past))
+
+module _ (heard said : List ℕ) where
+  run_done : (words : List (List ℕ)) (todo : List (List (List ℕ))) (read : List ℕ) (s : Session)
+      → Running (words ∷ todo) heard said read s →
+      let t : Turn = book_step s.limits s.past (call.Run s.link.id words s.now) in
+      (reply_fault t.reply ≡ None → Running todo heard said read (with_past s t.past))
+      × Part said read (with_past s t.past)
+  run_done words todo read s r =
+      let c = s.link.id in
+      let P : Turn → Type 0 = λ t. (reply_fault t.reply ≡ None
+      → Running todo heard said read (with_past s t.past))
+      × Part said read (with_past s t.past) in
+      elim (is_full s.limits s.past) as (λ b. is_full s.limits s.past ≡ b
+      → P (book_step s.limits s.past (call.Run c words s.now))) [
+        | true ↦ λ none. subst P (sym (run_full s.limits s.past c s.now words r.on none))
+            ((λ e. absurd (let no : ⊥ = cc in no)), running_part (words ∷ todo) heard said read s r)
+        | false ↦ λ room.
+            let is = run_step s.limits s.past c s.now words r.on room in
+            let new : Running todo heard said read
+            (with_past s (running s.past c words s.now).past) = record {
+              bytes = flight_past heard said read s (running s.past c words s.now).past
+                  (ap (λ (t : Turn). gave s.limits c t.past) (sym is)
+                  ∙ gave_run s.limits c s.now words s.past) r.bytes;
+              on = r.on;
+              runs = ap (λ b. cond b (runs_of c s.past ++ words ∷ []) (runs_of c s.past)
+                  ++ todo) (same_id c) ∙ append_assoc (runs_of c s.past) (words ∷ []) todo ∙ r.runs;
+            } in
+            subst P (sym is) ((λ e. new), running_part todo heard said read _ new)
+      ] refl
+
+  run_turn_keeps : (words : List (List ℕ)) (todo : List (List (List ℕ))) (s : Session)
+      → Keeps (Running (words ∷ todo) heard said) (Running todo heard said) (Part said) s
+      (turned s words (book_step s.limits s.past (call.Run s.link.id words s.now)))
+  run_turn_keeps words todo s =
+      let t = book_step s.limits s.past (call.Run s.link.id words s.now) in
+      keeps_quiet (Running (words ∷ todo) heard said) (Running todo heard said) (Part said) s
+      (with_past s t.past) (reply_lines s.link.name words t.reply) (reply_fault t.reply)
+      (mute_reply s.link.name s.link.name words t.reply)
+      (λ read r. let d = run_done words todo read s r in
+      (running_part (words ∷ todo) heard said read s r, d.0, d.1))
+
+  running_reader : (todo : List (List (List ℕ))) (read : List ℕ) (s : Session) (reader : Stream)
+      → Running todo heard said read s
+      → Running todo heard said read (with_link s (with_reader s.link reader))
+  running_reader todo read s reader r =
+      record { bytes = flight_reader heard said read s reader r.bytes; on = r.on; runs = r.runs }
+
+  run_one_keeps : (words : List (List ℕ)) (todo : List (List (List ℕ))) (s : Session)
+      → Keeps (Running (words ∷ todo) heard said) (Running todo heard said) (Part said) s
+      (run_one words s)
+  unfolding run_one turn
+  run_one_keeps words todo s =
+      keeps_then (Running (words ∷ todo) heard said) (Running (words ∷ todo) heard said)
+      (Running todo heard said) (Part said) s _ _
+      (every_quiet s s.link.up s.link.down (next_read s).link.reader)
+      (keeps_quiet (Running (words ∷ todo) heard said) (Running (words ∷ todo) heard said)
+      (Part said) s (next_read s) [] None refl
+      (λ read r. let n = running_reader (words ∷ todo) read s (next_read s).link.reader r in (
+        running_part (words ∷ todo) heard said read s r,
+        (λ e. n),
+        running_part (words ∷ todo) heard said read (next_read s) n,
+      )))
+      (run_turn_keeps words todo)
+
+  run_all_keeps : (todo : List (List (List ℕ))) (s : Session)
+      → Keeps (Running todo heard said) (Running [] heard said) (Part said) s (run_all todo s)
+  unfolding run_all
+  run_all_keeps [] s =
+      keeps_stays (Running [] heard said) (Running [] heard said) (Part said) s s
+      (λ read r. (r, running_part [] heard said read s r))
+  run_all_keeps (words ∷ todo) s =
+      keeps_then (Running (words ∷ todo) heard said) (Running todo heard said)
+      (Running [] heard said) (Part said) s (run_one words s) (run_all todo)
+      (every_run_one words s) (run_one_keeps words todo s) (run_all_keeps todo)
+
+  run_requests_keeps : (s : Session) → ((parse s.link.reader).fault ≡ None
+      → ReadsOn heard (parse s.link.reader).stream)
+      → Keeps (Running (parse s.link.reader).items heard said)
+      (Halted (parse s.link.reader).fault heard said) (Part said) s (run_requests s)
+  unfolding run_requests
+  run_requests_keeps s reading =
+      let p = parse s.link.reader in
+      keeps_then (Running p.items heard said) (Running [] heard said) (Halted p.fault heard said)
+      (Part said) s (run_all p.items s) (rest_read p.stream) (every_run_all p.items s)
+      (run_all_keeps p.items s)
+      (λ t. keeps_quiet (Running [] heard said) (Halted p.fault heard said) (Part said) t
+      (with_link t (with_reader t.link p.stream)) [] None refl
+      (λ read r.
+      let h : Halted p.fault heard said read (with_link t (with_reader t.link p.stream)) = record {
+        bytes = flight_reader heard said read t p.stream r.bytes;
+        on = r.on;
+        runs = sym (append-nil (runs_of t.link.id t.past)) ∙ r.runs;
+        reading = reading;
+      } in
+      (running_part [] heard said read t r, (λ e. h), halted_part p.fault heard said read _ h)))
+
+  -- ---- what stops the reading
+
+  no_more : (a : Bool) → (a && not true) ≡ true → ⊥
+  no_more true h = cc
+  no_more false h = cc
+
+  close_ends : (l : Limits) (c : ℕ) (past : List Entry) → reads_on l past c ≡ true
+      → reads_on l (book_step l past (call.Close c)).past c ≡ true → ⊥
+  close_ends l c past on h =
+      let is : reads_on l (closing past c).past c ≡ true =
+      ap (λ (t : Turn). reads_on l t.past c) (sym (close_step l past c on)) ∙ h in
+      no_more (is_admitted past c)
+      (ap (λ b. is_admitted past c && not (cond b true (has_ended l c past))) (sym (same_id c))
+      ∙ is)
+
+  close_keeps : (fault : Option StreamFault) (s : Session)
+      → Keeps (Halted fault heard said) (Account heard said) (Part said) s (close s)
+  unfolding close turn
+  close_keeps fault s =
+      let t = book_step s.limits s.past (call.Close s.link.id) in
+      keeps_quiet (Halted fault heard said) (Account heard said) (Part said) s (with_past s t.past)
+      (reply_lines s.link.name [] t.reply) (reply_fault t.reply)
+      (mute_reply s.link.name s.link.name [] t.reply)
+      (λ read h.
+      let a : Account heard said read (with_past s t.past) = record {
+        bytes = flight_past heard said read s t.past (gave_close s.limits s.link.id s.past) h.bytes;
+        runs = sym (step_runs s.limits s.link.id s.past (call.Close s.link.id))
+            ∙ append-nil (runs_of s.link.id s.past) ∙ h.runs;
+        reading = λ on. absurd (close_ends s.limits s.link.id s.past h.on on);
+      } in
+      (halted_part fault heard said read s h, (λ e. a), account_part heard said read _ a))
+
+  stop_keeps : (fault : Option StreamFault) (place : Option FaultPlace)
+      → (place ≡ None → fault ≡ None) → (eof : Bool) (s : Session)
+      → Keeps (Halted fault heard said) (Account heard said) (Part said) s (stop place eof s)
+  stop_keeps fault (Some place) met eof s =
+      keeps_then (Halted fault heard said) (Halted fault heard said) (Account heard said)
+      (Part said) s _ close (every_does s s _
+      (carries_link s s.link _ refl refl (λ name n. refl) refl))
+      (keeps_quiet (Halted fault heard said) (Halted fault heard said) (Part said) s s _ None refl
+      (λ read h. (
+        halted_part fault heard said read s h,
+        (λ e. h),
+        halted_part fault heard said read s h,
+      )))
+      (close_keeps fault)
+  stop_keeps fault None met true s = close_keeps fault s
+  stop_keeps fault None met false s =
+      keeps_stays (Halted fault heard said) (Account heard said) (Part said) s s
+      (λ read h. let a : Account heard said read s =
+      record { bytes = h.bytes; runs = h.runs; reading = λ on. h.reading (met refl) } in
+      (a, account_part heard said read s a))
+
+  by_front : (s : Stream) (a : Parsed (List (List ℕ))) (f : List ℕ → Batch (List (List ℕ)))
+      → ((r : List ℕ) → stopped_at (f r).fault ≡ None → (f r).fault ≡ None)
+      → stopped_at (batch_by s a f).fault ≡ None → (batch_by s a f).fault ≡ None
+  by_front s (Whole words r) f more e = more r e
+  by_front s More f more e = refl
+  by_front s (Bad fault.BadByte r) f more e = absurd (let no : ⊥ = cc in no)
+  by_front s (Bad (fault.TooLong k) r) f more e = absurd (let no : ⊥ = cc in no)
+  by_front s (Bad fault.TooDeep r) f more e = absurd (let no : ⊥ = cc in no)
+  by_front s (Bad (fault.NotServed k) r) f more e = absurd (let no : ⊥ = cc in no)
+
+  place_met : (n : ℕ) (s : Stream) → stopped_at (batch_in request_at skipped n s).fault ≡ None
+      → (batch_in request_at skipped n s).fault ≡ None
+  unfolding batch_in
+  place_met zero s e = refl
+  place_met (suc n) s e =
+      by_front (skipped s) (request_at (skipped s).rest)
+      (λ r. batch_in request_at skipped n (moved_on s r)) (λ r. place_met n (moved_on s r)) e
+
+  parse_met : (s : Stream) → stopped_at (parse s).fault ≡ None → (parse s).fault ≡ None
+  unfolding parse batch
+  parse_met s e = place_met (length s.rest + 1) s e
+
+  run_fed_keeps : (eof : Bool) (s : Session) → ((parse s.link.reader).fault ≡ None
+      → ReadsOn heard (parse s.link.reader).stream)
+      → Keeps (Running (parse s.link.reader).items heard said) (Account heard said) (Part said) s
+      (run_fed eof s)
+  unfolding run_fed
+  run_fed_keeps eof s reading =
+      let p = parse s.link.reader in
+      keeps_then (Running p.items heard said) (Halted p.fault heard said) (Account heard said)
+      (Part said) s (run_requests s) _ (every_run_requests s) (run_requests_keeps s reading)
+      (stop_keeps p.fault (stopped_at p.fault) (parse_met s.link.reader) eof)
+
+-- what is done at this one state
+pub keeps_at : (P Q W : List ℕ → Session → Type 0) (s : Session) (next : Session → Outcome Session)
+    → Keeps P Q W s (next s) → (t : Session) → Keeps (λ read u. (u ≡ s) × P read u) Q W t (next t)
+unfolding Keeps
+keeps_at P Q W s next k t read r =
+    subst (λ x. Meets (λ u l. Q (read ++ read_on x.link.name l) u)
+    (λ u l. W (read ++ read_on x.link.name l) u) (next x)) (sym r.0)
+    (k read (subst (P read) r.0 r.1))
+
+-- ---- the server's end reads
+
+fed_twice : (s : Stream) (a b : List ℕ) → s.failed ≡ false
+    → (fed s (a ++ b)).rest ≡ (fed (fed s a) b).rest
+fed_twice s a b t =
+    ap (λ v. cond v s.rest (s.rest ++ (a ++ b))) t ∙ sym (append_assoc s.rest a b)
+    ∙ sym (ap (λ v. cond v (cond v s.rest (s.rest ++ a)) (cond v s.rest (s.rest ++ a) ++ b)) t)
+
+-- where what was fed is no fault, it is read on from there
+reads_further : (heard piece : List ℕ) (reader : Stream) → ReadsOn heard reader
+    → (parse (fed reader piece)).fault ≡ None → ReadsOn (heard
+    ++ piece) (parse (fed reader piece)).stream
+reads_further heard piece reader r none =
+    let p : Batch (List (List ℕ)) = parse (fed reader piece) in
+    record {
+      untold = parse_unfailed (fed reader piece) r.untold none;
+      further = λ m.
+          ap requests_of (append_assoc heard piece m) ∙ r.further (piece ++ m)
+          ∙ ap (λ l. requests_of heard
+          ++ l) (parse_rest (fed reader (piece ++ m)) (fed (fed reader piece) m)
+          (fed_twice reader piece m r.untold) ∙ parse_joined (fed reader piece) m r.untold none)
+          ∙ sym (append_assoc (requests_of heard) p.items (parse (fed p.stream m)).items)
+          ∙ ap (λ l. l ++ (parse (fed p.stream m)).items) (sym (r.further piece));
+    }
+
+module _ (heard said piece : List ℕ) (up : Direction) (eof : Bool) (s : Session)
+    (on : reads_on s.limits s.past s.link.id ≡ true)
+    (split : piece ++ up.bytes ≡ s.link.up.bytes) (open_before : is_open up.eof ≡ true
+    → is_open s.link.up.eof ≡ true) where
+  fed_session : Session
+  fed_session = with_link s (with_reader (with_up s.link up) (fed s.link.reader piece))
+
+  fed_flight : (read : List ℕ) → InFlight heard said read s
+      → InFlight (heard ++ piece) said read fed_session
+  unfolding fed_session
+  fed_flight read f = record {
+    up_lost = f.up_lost;
+    all_said = ap (λ l. l ++ f.up_lost) (append_assoc heard piece up.bytes
+        ∙ ap (λ l. heard ++ l) split) ∙ f.all_said;
+    none_up = λ e. f.none_up (open_before e);
+    down_lost = f.down_lost;
+    all_taken = f.all_taken;
+    none_down = f.none_down;
+  }
+
+  fed_running : (read : List ℕ) → Account heard said read s
+      → Running (parse (fed s.link.reader piece)).items (heard ++ piece) said read fed_session
+  unfolding fed_session
+  fed_running read a = record {
+    bytes = fed_flight read a.bytes;
+    on = on;
+    runs = ap (λ l. l ++ (parse (fed s.link.reader piece)).items) a.runs
+        ∙ sym ((a.reading on).further piece);
+  }
+
+  Fed : List ℕ → Session → Type 0
+  Fed read t = (t ≡ fed_session) × Running (parse (fed s.link.reader piece)).items (heard
+      ++ piece) said read fed_session
+      × ((parse (fed s.link.reader piece)).fault ≡ None
+      → ReadsOn (heard ++ piece) (parse (fed s.link.reader piece)).stream)
+
+  fed_run : (t : Session) → Keeps Fed (Account (heard ++ piece) said) (Part said) t (run_fed eof t)
+  unfolding Keeps Fed fed_session
+  fed_run t read r =
+      subst (λ x. Meets (λ u l. Account (heard ++ piece) said (read ++ read_on x.link.name l) u)
+      (λ u l. Part said (read ++ read_on x.link.name l) u) (run_fed eof x)) (sym r.0)
+      (run_fed_keeps (heard ++ piece) said eof fed_session r.2 read r.1)
+
+  -- a piece is fed, and runs
+  fed_keeps : Keeps (Account heard said) (Account (heard ++ piece) said) (Part said) s
+      (and_then (feed piece up s) (run_fed eof))
+  unfolding fed_session Fed
+  fed_keeps =
+      let p = parse (fed s.link.reader piece) in
+      keeps_then (Account heard said) Fed (Account (heard ++ piece) said) (Part said) s
+      (feed piece up s) (run_fed eof) (every_quiet s up s.link.down (fed s.link.reader piece))
+      (keeps_quiet (Account heard said) Fed (Part said) s fed_session [] None refl
+      (λ read a. let r = fed_running read a in (
+        account_part heard said read s a,
+        (λ e. (refl, r, reads_further heard piece s.link.reader (a.reading on))),
+        running_part p.items (heard ++ piece) said read fed_session r,
+      )))
+      fed_run
+
+unfoldable pub reads_of : Option ℕ → Session → List ℕ
+reads_of count s = cond (reads_on s.limits s.past s.link.id) (up_to count s.link.up.bytes) []
+
+pub same_heard : (heard said : List ℕ) (s : Session) (m : Outcome Session)
+    → Keeps (Account heard said) (Account heard said) (Part said) s m
+    → Keeps (Account heard said) (Account (heard ++ []) said) (Part said) s m
+same_heard heard said s m k =
+    subst (λ h. Keeps (Account heard said) (Account h said) (Part said) s m)
+    (sym (append-nil heard)) k
+
+pub open_past_eof : (e : Eof) → is_open (eof_read e) ≡ true → is_open e ≡ true
+open_past_eof eof.None h = refl
+open_past_eof eof.Queued h = absurd (let no : ⊥ = cc in no)
+open_past_eof eof.Read h = absurd (let no : ⊥ = cc in no)
+
+pub account_stays : (heard said : List ℕ) (s : Session)
+    → Keeps (Account heard said) (Account heard said) (Part said) s (stays s)
+account_stays heard said s =
+    keeps_stays (Account heard said) (Account heard said) (Part said) s s
+    (λ read a. (a, account_part heard said read s a))
+
+pub account_refuses : (heard said : List ℕ) (s : Session)
+    → Keeps (Account heard said) (Account heard said) (Part said) s (refuses s NothingThere)
+account_refuses heard said s =
+    keeps_refuses (Account heard said) (Account heard said) (Part said) s
+    (λ read a. account_part heard said read s a)
+
+pub serve_all_keeps : (heard said : List ℕ) (s : Session)
+    → Keeps (Account heard said) (Account (heard ++ reads_of None s) said) (Part said) s
+    (serve_all s)
+unfolding serve_all reads_of
+serve_all_keeps heard said s =
+    elim (reads_on s.limits s.past s.link.id) as (λ b. reads_on s.limits s.past s.link.id ≡ b
+    → Keeps (Account heard said) (Account (heard ++ cond b s.link.up.bytes []) said) (Part said) s
+    (cond b (and_then (feed s.link.up.bytes (past_eof (without_bytes s.link.up)) s)
+    (run_fed (is_queued s.link.up.eof))) (stays s))) [
+      | true ↦ λ on. fed_keeps heard said s.link.up.bytes (past_eof (without_bytes s.link.up))
+          (is_queued s.link.up.eof) s on (append-nil s.link.up.bytes) (open_past_eof s.link.up.eof)
+      | false ↦ λ off. same_heard heard said s (stays s) (account_stays heard said s)
+    ] refl
+
+pub both : (a b : Bool) → (a && b) ≡ true → a ≡ true
+both true b e = refl
+both false b e = absurd (let no : ⊥ = cc in no)
+
+pub serve_keeps : (heard said : List ℕ) (count : Option ℕ) (s : Session)
+    → Keeps (Account heard said) (Account (heard ++ reads_of count s) said) (Part said) s
+    (serve count s)
+unfolding reads_of
+serve_keeps heard said None s = serve_all_keeps heard said s
+serve_keeps heard said (Some n) s =
+    let can = reads_on s.limits s.past s.link.id && nat_le n (length s.link.up.bytes) in
+    elim can as (λ b. can ≡ b
+    → Keeps (Account heard said) (Account (heard ++ reads_of (Some n) s) said) (Part said) s
+    (cond b (and_then (feed (take n s.link.up.bytes) (without n s.link.up) s) (run_fed false))
+    (refuses s NothingThere))) [
+      | true ↦ λ t.
+          let on = both (reads_on s.limits s.past s.link.id) (nat_le n (length s.link.up.bytes)) t
+          in
+          subst (λ b. Keeps (Account heard said)
+          (Account (heard ++ cond b (take n s.link.up.bytes) []) said) (Part said) s
+          (and_then (feed (take n s.link.up.bytes) (without n s.link.up) s) (run_fed false)))
+          (sym on)
+          (fed_keeps heard said (take n s.link.up.bytes) (without n s.link.up) false s on
+          (take-append-drop n s.link.up.bytes) (λ h. h))
+      | false ↦ λ t. keeps_refuses (Account heard said)
+          (Account (heard ++ reads_of (Some n) s) said) (Part said) s
+          (λ read a. account_part heard said read s a)
+    ] refl

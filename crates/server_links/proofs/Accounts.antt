@@ -1,0 +1,170 @@
+-- The account of a link: what was put on it and what was taken for it are heard or read, in flight
+-- or
+-- lost, and what its server's end heard ran. Each move keeps it, and wherever memory runs out a
+-- part of
+-- it stands.
+use Rattle.std.proofs.Common.{◌≡◌, ℕ, List, [], ◌∷◌, ◌++◌, true, false}
+use Rattle.std.proofs.Common.{None, Option, take, sym, ap, subst, ◌∙◌, append_assoc, append-nil}
+use Rattle.resp_value.specs.Lists.{IsPrefix}
+use Rattle.resp_stream.specs.declared.fault.StreamFault.{StreamFault}
+use Rattle.resp_stream.specs.Stream.{Stream, fed}
+use Rattle.resp_stream.specs.Parse.{parse, requests_of}
+use Rattle.serial_model.specs.declared.history.Limits.{Limits}
+use Rattle.serial_model.specs.declared.history.Entry.{Entry}
+use Rattle.serial_model.specs.History.{reads_on, stream, taken, runs_of}
+use Rattle.script_text.specs.declared.line.Line.{Line}
+use Rattle.server_links.specs.declared.fault.WorldFault.TheVariants.{NothingThere}
+use Rattle.server_links.specs.Directions.{is_open}
+use Rattle.server_links.specs.OneHistory.{read_on, PartServes}
+use Rattle.server_links.specs.Outcome.{Outcome, stays, refuses, and_then}
+use Rattle.server_links.specs.Session.{Session}
+use Rattle.server_links.proofs.Outcomes.{Meets, meets_stays, meets_once, meets_refuses, meets_then}
+use Rattle.server_links.proofs.Outcomes.{meets_weaker}
+use Rattle.server_links.proofs.Carries.{read_more}
+use Rattle.server_links.proofs.Moving.{Every, every_named}
+
+-- the first bytes of a stream, those that were taken
+unfoldable pub gave : Limits → ℕ → List Entry → List ℕ
+gave l c past = take (taken l c past) (stream l c past)
+
+pub record InFlight (heard said read : List ℕ) (s : Session) : Type 0 where
+  pub up_lost : List ℕ
+  pub all_said : (heard ++ s.link.up.bytes) ++ up_lost ≡ said
+  pub none_up : is_open s.link.up.eof ≡ true → up_lost ≡ []
+  pub down_lost : List ℕ
+  pub all_taken : (read ++ s.link.down.bytes) ++ down_lost ≡ gave s.limits s.link.id s.past
+  pub none_down : is_open s.link.down.eof ≡ true → down_lost ≡ []
+
+-- what will be heard is read on from the reader
+pub record ReadsOn (heard : List ℕ) (reader : Stream) : Type 0 where
+  pub untold : reader.failed ≡ false
+  pub further : (m : List ℕ) → requests_of (heard ++ m)
+      ≡ requests_of heard ++ (parse (fed reader m)).items
+
+pub record Account (heard said read : List ℕ) (s : Session) : Type 0 where
+  pub bytes : InFlight heard said read s
+  pub runs : runs_of s.link.id s.past ≡ requests_of heard
+  pub reading : reads_on s.limits s.past s.link.id ≡ true → ReadsOn heard s.link.reader
+
+-- these requests are still to run
+pub record Running (todo : List (List (List ℕ))) (heard said read : List ℕ) (s : Session) : Type 0
+  where
+    pub bytes : InFlight heard said read s
+    pub on : reads_on s.limits s.past s.link.id ≡ true
+    pub runs : runs_of s.link.id s.past ++ todo ≡ requests_of heard
+
+-- all ran, up to this fault
+pub record Halted (fault : Option StreamFault) (heard said read : List ℕ) (s : Session) : Type 0
+  where
+    pub bytes : InFlight heard said read s
+    pub on : reads_on s.limits s.past s.link.id ≡ true
+    pub runs : runs_of s.link.id s.past ≡ requests_of heard
+    pub reading : fault ≡ None → ReadsOn heard s.link.reader
+
+unfoldable pub Part : List ℕ → List ℕ → Session → Type 0
+Part said read s = PartServes s.limits said read s.past s.link
+
+pub part_of : (heard said read : List ℕ) (s : Session) → InFlight heard said read s
+    → IsPrefix (runs_of s.link.id s.past) (requests_of heard) → Part said read s
+unfolding Part gave
+part_of heard said read s b front = record {
+  heard = heard;
+  up = record { lost = b.up_lost; all_said = b.all_said };
+  down = record { lost = b.down_lost; all_taken = b.all_taken };
+  runs_front = front;
+}
+
+pub account_part : (heard said read : List ℕ) (s : Session) → Account heard said read s
+    → Part said read s
+account_part heard said read s a = part_of heard said read s a.bytes (
+  [],
+  append-nil (runs_of s.link.id s.past) ∙ a.runs,
+)
+
+pub running_part : (todo : List (List (List ℕ))) (heard said read : List ℕ) (s : Session)
+    → Running todo heard said read s → Part said read s
+running_part todo heard said read s r = part_of heard said read s r.bytes (todo, r.runs)
+
+pub halted_part : (fault : Option StreamFault) (heard said read : List ℕ) (s : Session)
+    → Halted fault heard said read s → Part said read s
+halted_part fault heard said read s h = part_of heard said read s h.bytes (
+  [],
+  append-nil (runs_of s.link.id s.past) ∙ h.runs,
+)
+
+-- ---- one move after another
+
+-- from P, a move ends in Q, and comes to W wherever memory runs out
+unfoldable pub Keeps : (P Q W : List ℕ → Session → Type 0) → Session → Outcome Session → Type 0
+Keeps P Q W s m =
+    (read : List ℕ) → P read s
+    → Meets (λ t l. Q (read ++ read_on s.link.name l) t)
+    (λ t l. W (read ++ read_on s.link.name l) t) m
+
+pub keeps_then : (P R Q W : List ℕ → Session → Type 0) (s : Session) (m : Outcome Session)
+    (next : Session → Outcome Session)
+    → Every s m → Keeps P R W s m → ((t : Session) → Keeps R Q W t (next t))
+    → Keeps P Q W s (and_then m next)
+unfolding Keeps
+keeps_then P R Q W s m next e h g read p =
+    let name = s.link.name in
+    meets_then (λ t l. R (read ++ read_on name l) t) (λ t l. Q (read ++ read_on name l) t)
+    (λ t l. W (read ++ read_on name l) t) m next (h read p)
+    (λ none r.
+    let same : (l : List Line) → (read ++ read_on name m.lines) ++ read_on m.state.link.name l
+    ≡ read ++ read_on name (m.lines ++ l) =
+    λ l. (ap (λ n. (read ++ read_on name m.lines) ++ read_on n l) (every_named s m e none)
+    ∙ append_assoc read (read_on name m.lines) (read_on name l)
+    ∙ ap (λ x. read ++ x) (sym (read_more name m.lines l))) in
+    meets_weaker
+    (λ t l. Q ((read ++ read_on name m.lines) ++ read_on m.state.link.name l) t)
+    (λ t l. Q (read ++ read_on name (m.lines ++ l)) t)
+    (λ t l. W ((read ++ read_on name m.lines) ++ read_on m.state.link.name l) t)
+    (λ t l. W (read ++ read_on name (m.lines ++ l)) t) (next m.state)
+    (λ t l q. subst (λ x. Q x t) (same l) q) (λ t l w. subst (λ x. W x t) (same l) w)
+    (g m.state (read ++ read_on name m.lines) r))
+
+module _ (P Q W : List ℕ → Session → Type 0) (s : Session) where
+  pub keeps_stays : (new : Session) → ((read : List ℕ) → P read s → Q read new × W read new)
+      → Keeps P Q W s (stays new)
+  unfolding Keeps
+  keeps_stays new f read p =
+      let r = f read p in
+      meets_stays (λ t l. Q (read ++ read_on s.link.name l) t)
+      (λ t l. W (read ++ read_on s.link.name l) t) new
+      (subst (λ x. Q x new) (sym (append-nil read)) r.0)
+      (subst (λ x. W x new) (sym (append-nil read)) r.1)
+
+  pub keeps_refuses : ((read : List ℕ) → P read s → W read s)
+      → Keeps P Q W s (refuses s NothingThere)
+  unfolding Keeps
+  keeps_refuses f read p =
+      meets_refuses (λ t l. Q (read ++ read_on s.link.name l) t)
+      (λ t l. W (read ++ read_on s.link.name l) t) s NothingThere
+      (subst (λ x. W x s) (sym (append-nil read)) (f read p))
+
+  -- something is done whose lines tell of these bytes
+  pub keeps_once : (new : Session) (lines : List Line) (fault : Option _) (bytes : List ℕ)
+      → read_on s.link.name lines ≡ bytes
+      → ((read : List ℕ) → P read s → W read s × (fault ≡ None → Q (read ++ bytes) new)
+      × W (read ++ bytes) new)
+      → Keeps P Q W s (record { state = new; lines = lines; fault = fault; points = (s, []) ∷ [] })
+  unfolding Keeps
+  keeps_once new lines fault bytes tells f read p =
+      let r = f read p in
+      meets_once (λ t l. Q (read ++ read_on s.link.name l) t)
+      (λ t l. W (read ++ read_on s.link.name l) t) s new lines fault
+      (λ none. subst (λ b. Q (read ++ b) new) (sym tells) (r.1 none))
+      (subst (λ x. W x s) (sym (append-nil read)) r.0)
+      (subst (λ b. W (read ++ b) new) (sym tells) r.2)
+
+  pub keeps_quiet : (new : Session) (lines : List Line) (fault : Option _)
+      → read_on s.link.name lines ≡ []
+      → ((read : List ℕ) → P read s → W read s × (fault ≡ None → Q read new) × W read new)
+      → Keeps P Q W s (record { state = new; lines = lines; fault = fault; points = (s, []) ∷ [] })
+  keeps_quiet new lines fault tells f = keeps_once new lines fault [] tells
+      (λ read p. let r = f read p in (
+        r.0,
+        (λ none. subst (λ x. Q x new) (sym (append-nil read)) (r.1 none)),
+        subst (λ x. W x new) (sym (append-nil read)) r.2,
+      ))

@@ -1,0 +1,272 @@
+-- What every move over one link leaves of the rest: the names, the other connections, and a history
+-- whose new entries have their lines.
+use Rattle.std.proofs.Common.{◌≡◌, ◌+◌, ◌-◌, ℕ, List, [], ◌∷◌, ◌++◌, true, false, cond}
+use Rattle.std.proofs.Common.{length, take, drop, filter, min, refl, sym, ap, subst, ◌∙◌, arith}
+use Rattle.std.proofs.Common.{append_assoc, append-nil, eq-eqb, length-take, length-drop}
+use Rattle.std.specs.Prelude.{◌==◌}
+use Rattle.std.specs.Str.{bytes_eq}
+use Rattle.std.proofs.lemmas.Grind.{flat_map-append}
+use Rattle.serial_model.specs.declared.history.Limits.{Limits}
+use Rattle.serial_model.specs.declared.history.Entry.{Entry}
+use Rattle.serial_model.specs.declared.history.Entry.TheVariants as entry
+use Rattle.serial_model.specs.declared.history.BookCall.{BookCall}
+use Rattle.serial_model.specs.declared.history.BookCall.TheVariants as call
+use Rattle.serial_model.specs.declared.history.BookReply.{BookReply}
+use Rattle.serial_model.specs.declared.history.BookReply.TheVariants.{Admitted, Ran, Quiet, Bytes}
+use Rattle.serial_model.specs.declared.history.BookReply.TheVariants.{Closed, Refused}
+use Rattle.serial_model.specs.History.{admitted, runs_on, reads_on, gives_on, stream, taken, unsent}
+use Rattle.serial_model.specs.History.{IsLegal}
+use Rattle.serial_model.specs.Steps.{Turn, book_step, gone, full, running, taking, closing}
+use Rattle.serial_model.specs.Steps.{unless_full}
+use Rattle.serial_model.specs.Laws.{Extends}
+use Rattle.serial_model.proofs.Others.{by_limit, extends_none, extends_more, run_extends}
+use Rattle.serial_model.proofs.Others.{take_extends, close_extends}
+use Rattle.serial_model.proofs.Streams.{not_ended, unsent_live}
+use Rattle.serial_model.proofs.Turning.{step_legal}
+use Rattle.script_text.specs.declared.line.Line.{Line}
+use Rattle.script_text.specs.declared.line.Line.TheVariants as line
+use Rattle.server_links.specs.declared.link.Link.{Link}
+use Rattle.server_links.specs.EntryLines.{entry_lines, is_entry_line, name_of, reply_lines}
+use Rattle.server_links.specs.OneHistory.{read_by, read_on}
+use Rattle.server_links.specs.Session.{Session, with_past, with_link}
+
+pub read_more : (name : List ℕ) (xs ys : List Line)
+    → read_on name (xs ++ ys) ≡ read_on name xs ++ read_on name ys
+read_more name xs ys = flat_map-append (read_by name) xs ys
+
+pub entries_more : (xs ys : List Line) → filter is_entry_line (xs ++ ys)
+    ≡ filter is_entry_line xs ++ filter is_entry_line ys
+entries_more [] ys = refl
+entries_more (x ∷ xs) ys =
+    elim (is_entry_line x) as (λ b. cond b (x ∷ filter is_entry_line (xs ++ ys))
+    (filter is_entry_line (xs ++ ys))
+    ≡ cond b (x ∷ filter is_entry_line xs) (filter is_entry_line xs) ++ filter is_entry_line ys) [
+      | true ↦ ap (λ l. x ∷ l) (entries_more xs ys)
+      | false ↦ entries_more xs ys
+    ]
+
+pub record Carries (s t : Session) (lines : List Line) : Type 0 where
+  pub limits : t.limits ≡ s.limits
+  pub now : t.now ≡ s.now
+  pub id : t.link.id ≡ s.link.id
+  pub named : t.link.name ≡ s.link.name
+  pub legal : IsLegal s.limits s.past → IsLegal s.limits t.past
+  pub count : admitted t.past ≡ admitted s.past
+  pub entries : List Entry
+  pub grows : t.past ≡ entries ++ s.past
+  pub others : (c : ℕ) → (s.link.id == c) ≡ false → Extends s.limits c s.past t.past
+  pub mute : (name : List ℕ) → bytes_eq s.link.name name ≡ false → read_on name lines ≡ []
+  pub printed : (names : List (List ℕ)) → name_of names s.link.id ≡ s.link.name
+      → entry_lines s.limits names t.past ≡ entry_lines s.limits names s.past
+      ++ filter is_entry_line lines
+
+pub carries_more : (s t u : Session) (a b : List Line) → Carries s t a → Carries t u b
+    → Carries s u (a ++ b)
+carries_more s t u a b f g = record {
+  limits = g.limits ∙ f.limits;
+  now = g.now ∙ f.now;
+  id = g.id ∙ f.id;
+  named = g.named ∙ f.named;
+  legal = λ h. subst (λ l. IsLegal l u.past) f.limits
+      (g.legal (subst (λ l. IsLegal l t.past) (sym f.limits) (f.legal h)));
+  count = g.count ∙ f.count;
+  entries = g.entries ++ f.entries;
+  grows = g.grows ∙ ap (λ p. g.entries ++ p) f.grows
+      ∙ sym (append_assoc g.entries f.entries s.past);
+  others = λ c n.
+      extends_more s.limits c s.past t.past u.past (f.others c n)
+      (subst (λ l. Extends l c t.past u.past) f.limits (g.others c (ap (λ i. i == c) f.id ∙ n)));
+  mute = λ name n. read_more name a b ∙ ap (λ r. r ++ read_on name b) (f.mute name n)
+      ∙ g.mute name (ap (λ x. bytes_eq x name) f.named ∙ n);
+  printed = λ names n.
+      subst (λ l. entry_lines l names u.past ≡ entry_lines l names t.past
+      ++ filter is_entry_line b) f.limits
+      (g.printed names (ap (name_of names) f.id ∙ n ∙ sym f.named))
+      ∙ ap (λ l. l ++ filter is_entry_line b) (f.printed names n)
+      ∙ append_assoc (entry_lines s.limits names s.past) (filter is_entry_line a)
+      (filter is_entry_line b)
+      ∙ ap (λ l. entry_lines s.limits names s.past ++ l) (sym (entries_more a b));
+}
+
+-- a change of the link alone
+pub carries_link : (s : Session) (new : Link) (lines : List Line) → new.id ≡ s.link.id
+    → new.name ≡ s.link.name
+    → ((name : List ℕ) → bytes_eq s.link.name name ≡ false → read_on name lines ≡ [])
+    → filter is_entry_line lines ≡ [] → Carries s (with_link s new) lines
+carries_link s new lines id named mute none = record {
+  limits = refl;
+  now = refl;
+  id = id;
+  named = named;
+  legal = λ h. h;
+  count = refl;
+  entries = [];
+  grows = refl;
+  others = λ c n. extends_none s.limits c s.past;
+  mute = mute;
+  printed = λ names n. sym (append-nil (entry_lines s.limits names s.past))
+      ∙ ap (λ l. entry_lines s.limits names s.past ++ l) (sym none);
+}
+
+pub carries_none : (s : Session) → Carries s s []
+carries_none s = carries_link s s.link [] refl refl (λ name n. refl) refl
+
+-- ---- turns of the connection
+
+pub by_run : (l : Limits) (past : List Entry) (id now : ℕ) (words : List (List ℕ)) (P : Turn
+    → Type 0)
+    → P (gone past id) → P (full past) → P (running past id words now)
+    → P (book_step l past (call.Run id words now))
+unfolding book_step
+by_run l past id now words P g f r =
+    elim (runs_on l past id) as (λ b. P (cond b (unless_full l past (running past id words now))
+    (gone past id))) [
+      | true ↦ by_limit l past (running past id words now) P f r
+      | false ↦ g
+    ]
+
+pub by_close : (l : Limits) (past : List Entry) (id : ℕ) (P : Turn → Type 0) → P (gone past id)
+    → P (closing past id) → P (book_step l past (call.Close id))
+unfolding book_step
+by_close l past id P g c =
+    elim (reads_on l past id) as (λ b. P (cond b (closing past id) (gone past id))) [
+      | true ↦
+          c
+      | false ↦ g
+    ]
+
+unfoldable pub took : List Entry → ℕ → ℕ → List ℕ → Turn
+took past id most bytes =
+    record { reply = Bytes (length past + 1) bytes; past = entry.Take id most ∷ past }
+
+module _ (l : Limits) (past : List Entry) (id most : ℕ) (P : Turn
+    → Type 0) (g : P (gone past id)) (q : P (record { reply = Quiet; past = past }))
+    (f : P (full past)) where
+  by_taking : (bytes : List ℕ) → P (took past id most bytes) → P (taking l past id most bytes)
+  unfolding took
+  by_taking [] t = q
+  by_taking (b ∷ bytes) t = by_limit l past _ P f t
+
+  pub by_take : (gives_on l past id ≡ true → P (took past id most (take most (unsent l id past))))
+      → P (book_step l past (call.Take id most))
+  unfolding book_step
+  by_take t = elim (gives_on l past id) as (λ b. gives_on l past id ≡ b
+      → P (cond b (taking l past id most (take most (unsent l id past))) (gone past id))) [
+        | true ↦ λ on. by_taking (take most (unsent l id past)) (t on)
+        | false ↦ λ off. g
+      ] refl
+
+-- what a turn of the connection adds, and prints
+record Adds (l : Limits) (id : ℕ) (words : List (List ℕ)) (past : List Entry) (t : Turn) : Type 0
+  where
+    count : admitted t.past ≡ admitted past
+    entries : List Entry
+    grows : t.past ≡ entries ++ past
+    printed : (names : List (List ℕ)) → entry_lines l names t.past
+        ≡ entry_lines l names past
+        ++ filter is_entry_line (reply_lines (name_of names id) words t.reply)
+
+adds_nothing : (l : Limits) (id : ℕ) (words : List (List ℕ)) (past : List Entry) (reply : BookReply)
+    → ((names : List (List ℕ)) → filter is_entry_line (reply_lines (name_of names id) words reply)
+    ≡ []) → Adds l id words past (record { reply = reply; past = past })
+adds_nothing l id words past reply none = record {
+  count = refl;
+  entries = [];
+  grows = refl;
+  printed = λ names. sym (append-nil (entry_lines l names past))
+      ∙ ap (λ x. entry_lines l names past ++ x) (sym (none names));
+}
+
+run_adds : (l : Limits) (past : List Entry) (id now : ℕ) (words : List (List ℕ))
+    → Adds l id words past (book_step l past (call.Run id words now))
+run_adds l past id now words = by_run l past id now words (Adds l id words past)
+    (adds_nothing l id words past _ (λ names. refl))
+    (adds_nothing l id words past _ (λ names. refl))
+    (record { count = refl; entries = _ ∷ []; grows = refl; printed = λ names. refl })
+
+close_adds : (l : Limits) (past : List Entry) (id : ℕ)
+    → Adds l id [] past (book_step l past (call.Close id))
+close_adds l past id =
+    by_close l past id (Adds l id [] past) (adds_nothing l id [] past _ (λ names. refl))
+    (record { count = refl; entries = _ ∷ []; grows = refl; printed = λ names. refl })
+
+taken_count : (l : Limits) (past : List Entry) (id most : ℕ) → gives_on l past id ≡ true
+    → length (take most (unsent l id past))
+    ≡ taken l id (entry.Take id most ∷ past) - taken l id past
+taken_count l past id most on =
+    ap (λ u. length (take most u)) (unsent_live l past id (not_ended l past id on))
+    ∙ length-take most (drop (taken l id past) (stream l id past))
+    ∙ ap (λ n. min most n) (length-drop (taken l id past) (stream l id past))
+    ∙ sym (ap (λ b. cond b (taken l id past + min most
+    (length (stream l id past) - taken l id past)) (taken l id past) - taken l id past)
+    (eq-eqb id id refl)
+    ∙ omega arith)
+
+take_adds : (l : Limits) (past : List Entry) (id most : ℕ)
+    → Adds l id [] past (book_step l past (call.Take id most))
+unfolding took
+take_adds l past id most = by_take l past id most (Adds l id [] past)
+    (adds_nothing l id [] past _ (λ names. refl)) (adds_nothing l id [] past _ (λ names. refl))
+    (adds_nothing l id [] past _ (λ names. refl))
+    (λ on. record {
+      count = refl;
+      entries = _ ∷ [];
+      grows = refl;
+      printed = λ names. ap (λ n. entry_lines l names past
+          ++ line.Take (length past + 1) (name_of names id) n ∷ [])
+          (sym (taken_count l past id most on));
+    })
+
+pub mute_reply : (name link : List ℕ) (words : List (List ℕ)) (reply : BookReply)
+    → read_on name (reply_lines link words reply) ≡ []
+mute_reply name link words (Admitted e id) = refl
+mute_reply name link words (Ran e) = refl
+mute_reply name link words Quiet = refl
+mute_reply name link words (Bytes e bytes) = refl
+mute_reply name link words (Closed e) = refl
+mute_reply name link words (Refused r) = refl
+
+carries_turn : (s : Session) (c : BookCall) (words : List (List ℕ))
+    → Adds s.limits s.link.id words s.past (book_step s.limits s.past c)
+    → ((d : ℕ) → (s.link.id == d) ≡ false
+    → Extends s.limits d s.past (book_step s.limits s.past c).past)
+    → let t : Turn = book_step s.limits s.past c in
+    Carries s (with_past s t.past) (reply_lines s.link.name words t.reply)
+carries_turn s c words a others =
+    let t = book_step s.limits s.past c in
+    record {
+      limits = refl;
+      now = refl;
+      id = refl;
+      named = refl;
+      legal = step_legal s.limits s.past c;
+      count = a.count;
+      entries = a.entries;
+      grows = a.grows;
+      others = others;
+      mute = λ name n. mute_reply name s.link.name words t.reply;
+      printed = λ names n. a.printed names ∙ ap (λ x. entry_lines s.limits names s.past
+          ++ filter is_entry_line (reply_lines x words t.reply)) n;
+    }
+
+pub run_carries : (s : Session) (now : ℕ) (words : List (List ℕ)) →
+    let t : Turn = book_step s.limits s.past (call.Run s.link.id words now) in
+    Carries s (with_past s t.past) (reply_lines s.link.name words t.reply)
+run_carries s now words =
+    carries_turn s (call.Run s.link.id words now) words
+    (run_adds s.limits s.past s.link.id now words)
+    (λ d n. run_extends s.limits d s.link.id now words s.past n)
+
+pub take_carries : (s : Session) (most : ℕ) →
+    let t : Turn = book_step s.limits s.past (call.Take s.link.id most) in
+    Carries s (with_past s t.past) (reply_lines s.link.name [] t.reply)
+take_carries s most =
+    carries_turn s (call.Take s.link.id most) [] (take_adds s.limits s.past s.link.id most)
+    (λ d n. take_extends s.limits d s.link.id most s.past n)
+
+pub close_carries : (s : Session) →
+    let t : Turn = book_step s.limits s.past (call.Close s.link.id) in
+    Carries s (with_past s t.past) (reply_lines s.link.name [] t.reply)
+close_carries s =
+    carries_turn s (call.Close s.link.id) [] (close_adds s.limits s.past s.link.id)
+    (λ d n. close_extends s.limits d s.link.id s.past n)

@@ -1,0 +1,16 @@
+pub mod Outcomes
+pub mod Carries
+pub mod Moving
+pub mod Accounts
+pub mod AccountRuns
+pub mod AccountMoves
+pub mod Names
+pub mod LinksStand
+pub mod Events
+pub mod Delivery
+pub mod Playing
+pub mod Serving
+pub mod Refusals
+pub mod History
+pub mod Stepping
+pub mod Noting

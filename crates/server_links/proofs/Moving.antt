@@ -1,0 +1,261 @@
+-- Each move over one link leaves the rest as it is, wherever it comes to.
+use Rattle.std.proofs.Common.{◌≡◌, ℕ, List, [], ◌∷◌, ◌++◌, Bool, true, false, cond, Some, None}
+use Rattle.std.proofs.Common.{Option, refl, ap}
+use Rattle.std.specs.Prelude.{◌&&◌, nat_le, length, take, filter}
+use Rattle.std.specs.Str.{bytes_eq}
+use Rattle.resp_stream.specs.declared.fault.FaultPlace.{FaultPlace}
+use Rattle.resp_stream.specs.Stream.{Stream}
+use Rattle.resp_stream.specs.Parse.{parse}
+use Rattle.serial_model.specs.History.{reads_on, gives_on, unsent}
+use Rattle.serial_model.specs.Steps.{Turn}
+use Rattle.server_links.specs.LinkEvent.{LinkEvent, Raw, Put, Over}
+use Rattle.server_links.specs.declared.link.LinkMove.{LinkMove}
+use Rattle.server_links.specs.declared.link.LinkMove.TheVariants as moves
+use Rattle.script_text.specs.declared.line.Line.{Line}
+use Rattle.server_links.specs.declared.direction.Direction.{Direction}
+use Rattle.server_links.specs.declared.fault.WorldFault.TheVariants.{NothingThere}
+use Rattle.server_links.specs.Directions.{cut, finished, put, is_open, is_queued, without}
+use Rattle.server_links.specs.Directions.{without_bytes, past_eof}
+use Rattle.server_links.specs.EntryLines.{is_entry_line, reply_lines, reply_fault}
+use Rattle.server_links.specs.OneHistory.{read_on}
+use Rattle.server_links.specs.Outcome.{Outcome, stays, does, refuses, and_then}
+use Rattle.server_links.specs.Session.{Session, with_past, with_link, with_up, with_down}
+use Rattle.server_links.specs.Session.{with_reader}
+use Rattle.server_links.specs.Moves.{turned, turn, say, next_read, run_one, run_all, close, stop}
+use Rattle.server_links.specs.Moves.{run_requests, run_fed, stopped_at}
+use Rattle.server_links.specs.Moves.{feed, serve_all, serve, take_down, all_bytes, send_all, send}
+use Rattle.server_links.specs.Moves.{read_lines, eof_lines, read_bytes, read_eof, receive_all}
+use Rattle.server_links.specs.Moves.{receive}
+use Rattle.server_links.specs.Moves.{flow, move_of, moved, hang_up}
+use Rattle.server_links.proofs.Outcomes.{Meets, meets_stays, meets_once, meets_refuses, meets_then}
+use Rattle.server_links.proofs.Outcomes.{meets_weaker}
+use Rattle.server_links.proofs.Outcomes.{Fronts, fronts_stays, fronts_refuses, fronts_once}
+use Rattle.server_links.proofs.Outcomes.{fronts_then}
+use Rattle.server_links.proofs.Carries.{Carries, carries_none, carries_more, carries_link}
+use Rattle.server_links.proofs.Carries.{run_carries}
+use Rattle.server_links.proofs.Carries.{take_carries, close_carries}
+
+pub record Every (s : Session) (m : Outcome Session) : Type 0 where
+  pub carries : Meets (Carries s) (Carries s) m
+  pub fronts : Fronts m
+
+pub every_named : (s : Session) (m : Outcome Session) → Every s m → m.fault ≡ None
+    → m.state.link.name ≡ s.link.name
+every_named s m e none = (e.carries.ends none).named
+
+every_then : (s : Session) (m : Outcome Session) (next : Session → Outcome Session) → Every s m
+    → ((t : Session) → Every t (next t)) → Every s (and_then m next)
+every_then s m next h g = record {
+  carries = meets_then (Carries s) (Carries s) (Carries s) m next h.carries
+      (λ none c. meets_weaker (Carries m.state) (λ t l. Carries s t (m.lines ++ l))
+      (Carries m.state) (λ t l. Carries s t (m.lines ++ l)) (next m.state)
+      (λ t l d. carries_more s m.state t m.lines l c d)
+      (λ t l d. carries_more s m.state t m.lines l c d) (g m.state).carries);
+  fronts = fronts_then m next h.fronts (λ t. (g t).fronts);
+}
+
+every_stays : (s new : Session) → Carries s new [] → Every s (stays new)
+every_stays s new c =
+    record { carries = meets_stays (Carries s) (Carries s) new c c; fronts = fronts_stays new }
+
+pub every_none : (s : Session) → Every s (stays s)
+every_none s = every_stays s s (carries_none s)
+
+every_refuses : (s : Session) → Every s (refuses s NothingThere)
+every_refuses s =
+    record {
+      carries = meets_refuses (Carries s) (Carries s) s NothingThere (carries_none s);
+      fronts = fronts_refuses s NothingThere;
+    }
+
+every_once : (s new : Session) (lines : List Line) (fault : Option _) → Carries s new lines
+    → Every s (record { state = new; lines = lines; fault = fault; points = (s, []) ∷ [] })
+every_once s new lines fault c =
+    record {
+      carries = meets_once (Carries s) (Carries s) s new lines fault (λ e. c)
+          (carries_none s) c;
+      fronts = fronts_once s new lines fault;
+    }
+
+pub every_does : (s new : Session) (lines : List Line) → Carries s new lines
+    → Every s (does s new lines)
+every_does s new lines c = every_once s new lines None c
+
+-- a change of what is in flight or was read prints nothing
+pub every_quiet : (s : Session) (up down : Direction) (reader : Stream)
+    → Every s (does s (with_link s (with_reader (with_down (with_up s.link up) down) reader)) [])
+every_quiet s up down reader =
+    every_does s _ [] (carries_link s (with_reader (with_down (with_up s.link up) down) reader) []
+    refl refl (λ name n. refl) refl)
+
+pub every_turned : (s : Session) (words : List (List ℕ)) (t : Turn)
+    → Carries s (with_past s t.past) (reply_lines s.link.name words t.reply)
+    → Every s (turned s words t)
+every_turned s words t c =
+    every_once s (with_past s t.past) (reply_lines s.link.name words t.reply) (reply_fault t.reply)
+    c
+
+-- ---- the server's end
+
+pub every_run_one : (words : List (List ℕ)) (s : Session) → Every s (run_one words s)
+unfolding run_one turn
+every_run_one words s =
+    every_then s _ _ (every_quiet s s.link.up s.link.down (next_read s).link.reader)
+    (λ t. every_turned t words _ (run_carries t t.now words))
+
+pub every_run_all : (requests : List (List (List ℕ))) (s : Session) → Every s (run_all requests s)
+unfolding run_all
+every_run_all [] s = every_none s
+every_run_all (words ∷ requests) s =
+    every_then s _ _ (every_run_one words s) (λ t. every_run_all requests t)
+
+every_close : (s : Session) → Every s (close s)
+unfolding close turn
+every_close s = every_turned s [] _ (close_carries s)
+
+pub every_stop : (place : Option FaultPlace) (eof : Bool) (s : Session) → Every s (stop place eof s)
+every_stop (Some place) eof s =
+    every_then s _ _ (every_does s s _ (carries_link s s.link _ refl refl (λ name n. refl) refl))
+    every_close
+every_stop None true s = every_close s
+every_stop None false s = every_none s
+
+pub every_run_requests : (s : Session) → Every s (run_requests s)
+unfolding run_requests
+every_run_requests s =
+    every_then s _ _ (every_run_all (parse s.link.reader).items s)
+    (λ t. every_quiet t t.link.up t.link.down (parse s.link.reader).stream)
+
+every_run_fed : (eof : Bool) (s : Session) → Every s (run_fed eof s)
+unfolding run_fed
+every_run_fed eof s =
+    every_then s _ _ (every_run_requests s)
+    (every_stop (stopped_at (parse s.link.reader).fault) eof)
+
+pub every_serve_all : (s : Session) → Every s (serve_all s)
+unfolding serve_all
+every_serve_all s =
+    elim (reads_on s.limits s.past s.link.id) as (λ b. Every s
+    (cond b (and_then (feed s.link.up.bytes (past_eof (without_bytes s.link.up)) s)
+    (run_fed (is_queued s.link.up.eof))) (stays s))) [
+      | true ↦ every_then s _ _ (every_quiet s _ s.link.down _)
+          (every_run_fed (is_queued s.link.up.eof))
+      | false ↦ every_none s
+    ]
+
+every_serve : (count : Option ℕ) (s : Session) → Every s (serve count s)
+every_serve None s = every_serve_all s
+every_serve (Some n) s =
+    elim (reads_on s.limits s.past s.link.id && nat_le n (length s.link.up.bytes)) as (λ b. Every s
+    (cond b (and_then (feed (take n s.link.up.bytes) (without n s.link.up) s) (run_fed false))
+    (refuses s NothingThere))) [
+      | true ↦ every_then s _ _ (every_quiet s _ s.link.down _) (every_run_fed false)
+      | false ↦ every_refuses s
+    ]
+
+every_take : (most : ℕ) (s : Session) → Every s (take_down most s)
+unfolding take_down
+every_take most s =
+    every_then s _ _ (every_turned s [] _ (take_carries s most))
+    (λ t. every_quiet t t.link.up _ t.link.reader)
+
+pub every_send_all : (s : Session) → Every s (send_all s)
+every_send_all s =
+    elim (is_open s.link.down.eof) as (λ b. Every s
+    (cond b (cond (gives_on s.limits s.past s.link.id) (take_down all_bytes s)
+    (stays (with_link s (with_down s.link (finished s.link.down))))) (stays s))) [
+      | true ↦ elim (gives_on s.limits s.past s.link.id) as (λ b. Every s
+          (cond b (take_down all_bytes s)
+          (stays (with_link s (with_down s.link (finished s.link.down)))))) [
+            | true ↦ every_take all_bytes s
+            | false ↦ every_stays s _ (carries_link s (with_down s.link (finished s.link.down)) []
+                refl refl
+                (λ name n. refl) refl)
+          ]
+      | false ↦ every_none s
+    ]
+
+every_send : (count : Option ℕ) (s : Session) → Every s (send count s)
+every_send None s = every_send_all s
+every_send (Some n) s =
+    elim (is_open s.link.down.eof && gives_on s.limits s.past s.link.id && nat_le n
+    (length (unsent s.limits s.link.id s.past))) as (λ b. Every s
+    (cond b (take_down n s) (refuses s NothingThere))) [
+      | true ↦ every_take n s
+      | false ↦ every_refuses s
+    ]
+
+-- ---- the client's end
+
+read_other : (link name bytes : List ℕ) → bytes_eq link name ≡ false
+    → read_on name (read_lines link bytes) ≡ []
+read_other link name [] n = refl
+read_other link name (b ∷ bytes) n = ap (λ v. cond v (b ∷ bytes) [] ++ []) n
+
+no_entries : (link bytes : List ℕ) → filter is_entry_line (read_lines link bytes) ≡ []
+no_entries link [] = refl
+no_entries link (b ∷ bytes) = refl
+
+eof_other : (link name : List ℕ) (b : Bool) → read_on name (eof_lines link b) ≡ []
+eof_other link name true = refl
+eof_other link name false = refl
+
+no_entry : (link : List ℕ) (b : Bool) → filter is_entry_line (eof_lines link b) ≡ []
+no_entry link true = refl
+no_entry link false = refl
+
+pub every_read : (bytes : List ℕ) (down : Direction) (s : Session)
+    → Every s (read_bytes bytes down s)
+every_read bytes down s =
+    every_does s _ _ (carries_link s (with_down s.link down) (read_lines s.link.name bytes) refl
+    refl (λ name n. read_other s.link.name name bytes n) (no_entries s.link.name bytes))
+
+every_read_eof : (s : Session) → Every s (read_eof s)
+every_read_eof s =
+    let b = is_queued s.link.down.eof in
+    every_does s _ _ (carries_link s (with_down s.link (past_eof s.link.down))
+    (eof_lines s.link.name b) refl refl (λ name n. eof_other s.link.name name b)
+    (no_entry s.link.name b))
+
+pub every_receive_all : (s : Session) → Every s (receive_all s)
+unfolding receive_all
+every_receive_all s =
+    every_then s _ _ (every_read s.link.down.bytes (without_bytes s.link.down) s) every_read_eof
+
+every_receive : (count : Option ℕ) (s : Session) → Every s (receive count s)
+every_receive None s = every_receive_all s
+every_receive (Some n) s =
+    elim (nat_le n (length s.link.down.bytes)) as (λ b. Every s
+    (cond b (read_bytes (take n s.link.down.bytes) (without n s.link.down) s)
+    (refuses s NothingThere))) [
+      | true ↦ every_read (take n s.link.down.bytes) (without n s.link.down) s
+      | false ↦ every_refuses s
+    ]
+
+-- ---- an event
+
+pub every_flow : (s : Session) → Every s (flow s)
+unfolding flow
+every_flow s =
+    every_then s _ _ (every_serve_all s)
+    (λ u. every_then u _ _ (every_send_all u) every_receive_all)
+
+every_say : (bytes : List ℕ) (s : Session) → Every s (say bytes s)
+every_say bytes s = every_quiet s (put bytes s.link.up) s.link.down s.link.reader
+
+every_moved : (move : LinkMove) (s : Session) → Every s (moved move s)
+every_moved (moves.Serve count) s = every_serve count s
+every_moved (moves.Send count) s = every_send count s
+every_moved (moves.Recv count) s = every_receive count s
+every_moved moves.Flow s = every_flow s
+every_moved moves.HangUp s =
+    every_stays s _ (carries_link s (with_up s.link (finished s.link.up)) [] refl refl
+    (λ name n. refl) refl)
+every_moved moves.Cut s =
+    every_stays s _ (carries_link s (with_up (with_down s.link (cut s.link.down)) (cut s.link.up))
+    [] refl refl (λ name n. refl) refl)
+
+pub every_move : (event : LinkEvent) (s : Session) → Every s (move_of event s)
+every_move (Raw name) s = every_none s
+every_move (Put name bytes) s = every_say bytes s
+every_move (Over name move) s = every_moved move s

@@ -1,0 +1,318 @@
+-- What is noted of a turn is what the history says after it.
+use Rattle.std.proofs.Common.{◌≡◌, ◌+◌, ◌-◌, ◌<◌, ◌≤◌, ℕ, List, [], ◌∷◌, ◌++◌, Bool, true, false}
+use Rattle.std.proofs.Common.{cond, Option, None, Some, length, map, slice_index_or, slice_set}
+use Rattle.std.proofs.Common.{refl, sym, ap}
+use Rattle.std.proofs.Common.{subst}
+use Rattle.std.proofs.Common.{◌∙◌, arith, append-nil, append_assoc, length-set, length-append, inl}
+use Rattle.std.proofs.Common.{inr, eq-eqb, max, take}
+use Rattle.std.specs.Prelude.{◌==◌, ◌&&◌, ◌↔◌, nat_le, nat_lt, option_to_list, IsSome}
+use Rattle.std.proofs.lemmas.Bool.{eqb-true, cases_lt}
+use Rattle.std.proofs.lemmas.Bool.Decides.{nat_tests}
+use Rattle.std.proofs.lemmas.List.{get_or-set_same, get_or-set_other, get_or_append_left}
+use Rattle.std.proofs.lemmas.List.{get_or_past, get_or_push, map-append, take_more}
+use Rattle.std.proofs.Math.Seq.{take-append_seam}
+use Rattle.serial_model.specs.declared.history.Limits.{Limits}
+use Rattle.serial_model.specs.declared.history.Entry.{Entry}
+use Rattle.serial_model.specs.declared.history.Entry.TheVariants as entry
+use Rattle.serial_model.specs.declared.history.Post.{Post}
+use Rattle.serial_model.specs.declared.history.BookCall.{BookCall}
+use Rattle.serial_model.specs.declared.history.BookCall.TheVariants.{Admit, Run, Take, Close}
+use Rattle.serial_model.specs.declared.history.BookReply.{BookReply}
+use Rattle.serial_model.specs.declared.history.BookReply.TheVariants.{Admitted, Ran, Quiet, Bytes}
+use Rattle.serial_model.specs.declared.history.BookReply.TheVariants.{Closed, Refused}
+use Rattle.serial_model.specs.History.{Sending, admitted, gives_on, latest, posts_of, posted}
+use Rattle.serial_model.specs.History.{reads_on}
+use Rattle.serial_model.specs.History.{run_entries, runs_on, sends, sent, sent_to, unsent}
+use Rattle.serial_model.specs.History.{IsLegal}
+use Rattle.serial_model.specs.Steps.{Turn, admitting, closing, gone, running, taking, unless_full}
+use Rattle.serial_model.specs.Steps.{book_step, BookStep}
+use Rattle.serial_model.proofs.Others.{by_limit}
+use Rattle.serial_model.proofs.Streams.{sent_fresh, connected}
+use Rattle.serial_model.proofs.Turning.{by_step}
+use Rattle.server_book.specs.BookState.{posts_after}
+use Rattle.server_links.specs.Notes.{AreNotes, NotesState}
+use Rattle.server_links.specs.Notes.{TrailState, IsNoted, changed, has_trail, no_trail, noted_admit}
+use Rattle.server_links.specs.Notes.{noted_posts, noted_reply, noted_run, noted_turn, runner_of}
+use Rattle.server_links.specs.Notes.{sent_entries, trail_of, with_run, with_sent}
+
+-- ---- one trail changes
+
+changed_size : (f : TrailState → TrailState) (id : ℕ) (ts : List TrailState)
+    → length (changed f id ts) ≡ length ts
+changed_size f id ts = elim (has_trail id ts) as (λ b.
+    length (cond b (slice_set ts (id - 1) (f (trail_of id ts))) ts) ≡ length ts) [
+      | true ↦ length-set ts (id - 1) (f (trail_of id ts))
+      | false ↦ refl
+    ]
+
+changed_there : (f : TrailState → TrailState) (id c : ℕ) (ts : List TrailState) → 0 < c
+    → c ≤ length ts
+    → trail_of c (changed f id ts) ≡ cond (id == c) (f (trail_of c ts)) (trail_of c ts)
+changed_there f id c ts more le = elim (id == c) as (λ b. (id == c) ≡ b
+    → trail_of c (changed f id ts) ≡ cond b (f (trail_of c ts)) (trail_of c ts)) [
+      | true ↦ λ e.
+          let same : id ≡ c = eqb-true id c e in
+          let there : has_trail c ts ≡ true = grind (arith, nat_tests) in
+          subst (λ i. trail_of c (changed f i ts) ≡ f (trail_of c ts)) (sym same)
+          (ap (λ b. trail_of c (cond b (slice_set ts (c - 1) (f (trail_of c ts))) ts)) there
+          ∙ get_or-set_same ts (c - 1) (f (trail_of c ts)) no_trail (omega (arith, more, le)))
+      | false ↦ λ e. elim (has_trail id ts) as (λ b. has_trail id ts ≡ b
+          → trail_of c (cond b (slice_set ts (id - 1) (f (trail_of id ts))) ts) ≡ trail_of c ts) [
+            | true ↦ λ there. get_or-set_other ts (id - 1) (c - 1) (f (trail_of id ts)) no_trail
+                (λ q. let z : (id == c) ≡ true = eq-eqb id c (grind (arith, nat_tests)) in cc)
+            | false ↦ λ off. refl
+          ] refl
+    ] refl
+
+-- ---- posts
+
+-- those that are for one connection
+abbrev posted_to : ℕ → List Post → List ℕ
+posted_to c [] = []
+posted_to c (p ∷ ps) = cond (p.id == c) (p.entry ∷ posted_to c ps) (posted_to c ps)
+
+posted_is : (n c : ℕ) (ss : List (ℕ × Sending))
+    → posted_to c (posts_of n ss) ≡ map (λ s. s.0) (sent_to n c ss)
+posted_is n c [] = refl
+posted_is n c (s ∷ ss) = elim (s.0 == c) as (λ b.
+    cond b (n ∷ posted_to c (posts_of n ss)) (posted_to c (posts_of n ss))
+    ≡ map (λ s. s.0) (cond b ((n, s.1) ∷ sent_to n c ss) (sent_to n c ss))) [
+      | true ↦ ap (λ l. n ∷ l) (posted_is n c ss)
+      | false ↦ posted_is n c ss
+    ]
+
+posts_size : (ps : List Post) (ts : List TrailState) → length (noted_posts ps ts) ≡ length ts
+posts_size [] ts = refl
+posts_size (p ∷ ps) ts =
+    posts_size ps (changed (with_sent p.entry) p.id ts) ∙ changed_size (with_sent p.entry) p.id ts
+
+posts_runs : (c : ℕ) (ps : List Post) (ts : List TrailState) → 0 < c → c ≤ length ts
+    → (trail_of c (noted_posts ps ts)).runs ≡ (trail_of c ts).runs
+posts_runs c [] ts more le = refl
+posts_runs c (p ∷ ps) ts more le =
+    let next = changed (with_sent p.entry) p.id ts in
+    posts_runs c ps next more (omega (arith, le, changed_size (with_sent p.entry) p.id ts))
+    ∙ ap (λ (t : TrailState). t.runs) (changed_there (with_sent p.entry) p.id c ts more le)
+    ∙ (elim (p.id == c) as (λ b.
+    (cond b (with_sent p.entry (trail_of c ts)) (trail_of c ts)).runs
+    ≡ (trail_of c ts).runs) [ true ↦ refl | false ↦ refl ])
+
+posts_sent : (c : ℕ) (ps : List Post) (ts : List TrailState) → 0 < c → c ≤ length ts
+    → (trail_of c (noted_posts ps ts)).sent ≡ (trail_of c ts).sent ++ posted_to c ps
+posts_sent c [] ts more le = sym (append-nil (trail_of c ts).sent)
+posts_sent c (p ∷ ps) ts more le =
+    let next = changed (with_sent p.entry) p.id ts in
+    posts_sent c ps next more (omega (arith, le, changed_size (with_sent p.entry) p.id ts))
+    ∙ ap (λ (t : TrailState). t.sent ++ posted_to c ps)
+    (changed_there (with_sent p.entry) p.id c ts more le)
+    ∙ (elim (p.id == c) as (λ b.
+    (cond b (with_sent p.entry (trail_of c ts)) (trail_of c ts)).sent ++ posted_to c ps
+    ≡ (trail_of c ts).sent ++ cond b (p.entry ∷ posted_to c ps) (posted_to c ps)) [
+      | true ↦ append_assoc (trail_of c ts).sent (p.entry ∷ []) (posted_to c ps)
+      | false ↦ refl
+    ])
+
+-- ---- an entry
+
+-- the entries of a connection that was not admitted
+runs_none : (l : Limits) (past : List Entry) (c : ℕ) → IsLegal l past → admitted past < c
+    → run_entries c past ≡ []
+runs_none l [] c h lt = refl
+runs_none l (entry.Admit id ∷ past) c h lt = runs_none l past c h.2 (omega arith)
+runs_none l (entry.Run id words moment ∷ past) c h lt =
+    let r = runs_none l past c h.3 lt in let k = connected l past id h.0 in
+    grind (arith, nat_tests)
+runs_none l (entry.Take id max ∷ past) c h lt = runs_none l past c h.3 lt
+runs_none l (entry.Close id ∷ past) c h lt = runs_none l past c h.1 lt
+
+module _ (l : Limits) (past : List Entry) (ts : List TrailState) (noted : IsNoted l past ts) where
+  -- an entry that admits nobody
+  entry_noted : (e : Entry) (ran : List TrailState) → length ran ≡ length ts
+      → admitted (e ∷ past) ≡ admitted past
+      → ((c : ℕ) → 0 < c → c ≤ length ts → ((trail_of c ran).runs ≡ run_entries c (e ∷ past))
+      × ((trail_of c ran).sent ≡ (trail_of c ts).sent))
+      → IsNoted l (e ∷ past) (noted_posts (posts_of (length past + 1) (sends l e past)) ran)
+  entry_noted e ran size same each =
+      let n = length past + 1 in
+      let posts = posts_of n (sends l e past) in
+      record {
+        count = posts_size posts ran ∙ size ∙ noted.count ∙ sym same;
+        runs = λ c more le.
+            let le' : c ≤ length ts = omega (arith, le, posts_size posts ran, size) in
+            posts_runs c posts ran more (omega (arith, le', size)) ∙ (each c more le').0;
+        sent = λ c more le.
+            let le' : c ≤ length ts = omega (arith, le, posts_size posts ran, size) in
+            posts_sent c posts ran more (omega (arith, le', size))
+            ∙ ap (λ x. x ++ posted_to c posts) ((each c more le').1 ∙ noted.sent c more le')
+            ∙ ap (λ x. sent_entries l c past ++ x) (posted_is n c (sends l e past))
+            ∙ sym (map-append (λ s. s.0) (sent l c past) (sent_to n c (sends l e past)));
+      }
+
+  run_noted : (id moment : ℕ) (words : List (List ℕ))
+      → IsNoted l (entry.Run id words moment ∷ past)
+      (noted_posts (posts_of (length past + 1) (sends l (entry.Run id words moment) past))
+      (changed (with_run (length past + 1)) id ts))
+  run_noted id moment words =
+      let n = length past + 1 in
+      entry_noted (entry.Run id words moment) (changed (with_run n) id ts)
+      (changed_size (with_run n) id ts) refl
+      (λ c more le.
+      let there = changed_there (with_run n) id c ts more le in (
+        ap (λ (t : TrailState). t.runs) there
+            ∙ (elim (id == c) as (λ b. (cond b (with_run n (trail_of c ts)) (trail_of c ts)).runs
+            ≡ cond b (run_entries c past ++ n ∷ []) (run_entries c past)) [
+              | true ↦ ap (λ x. x ++ n ∷ []) (noted.runs c more le)
+              | false ↦ noted.runs c more le
+            ]),
+        ap (λ (t : TrailState). t.sent) there
+            ∙ (elim (id == c) as (λ b. (cond b (with_run n (trail_of c ts)) (trail_of c ts)).sent
+            ≡ (trail_of c ts).sent) [ true ↦ refl | false ↦ refl ]),
+      ))
+
+  quiet_noted : (e : Entry) → admitted (e ∷ past) ≡ admitted past
+      → ((c : ℕ) → run_entries c (e ∷ past) ≡ run_entries c past)
+      → IsNoted l (e ∷ past) (noted_posts (posts_of (length past + 1) (sends l e past)) ts)
+  quiet_noted e same none =
+      entry_noted e ts refl same
+      (λ c more le. (noted.runs c more le ∙ sym (none c), refl))
+
+  admit_noted : IsLegal l past
+      → IsNoted l (entry.Admit (admitted past + 1) ∷ past) (noted_admit ts)
+  admit_noted legal =
+      let size = length-append ts (no_trail ∷ []) in
+      record {
+        count = size ∙ ap (λ n. n + 1) noted.count;
+        runs = λ c more le. elim (cases_lt (length ts) c) [
+          | inl last ↦
+              ap (λ (t : TrailState). t.runs)
+              (get_or_push ts no_trail no_trail (c - 1) (omega (arith, last, le, size)))
+              ∙ sym (runs_none l past c legal (omega (arith, last, noted.count)))
+          | inr old ↦
+              ap (λ (t : TrailState). t.runs)
+              (get_or_append_left ts (no_trail ∷ []) no_trail (c - 1) (omega (arith, more, old)))
+              ∙ noted.runs c more old
+        ];
+        sent = λ c more le. elim (cases_lt (length ts) c) [
+          | inl last ↦
+              ap (λ (t : TrailState). t.sent)
+              (get_or_push ts no_trail no_trail (c - 1) (omega (arith, last, le, size)))
+              ∙ sym (ap (λ s. map (λ s. s.0) (s ++ []))
+              (sent_fresh l past c legal (omega (arith, last, noted.count))))
+          | inr old ↦
+              ap (λ (t : TrailState). t.sent)
+              (get_or_append_left ts (no_trail ∷ []) no_trail (c - 1) (omega (arith, more, old)))
+              ∙ noted.sent c more old
+              ∙ sym (ap (map (λ s. s.0)) (append-nil (sent l c past)))
+        ];
+      }
+
+-- ---- a turn
+
+module _ (l : Limits) (past : List Entry) (ts : List TrailState) (noted : IsNoted l past ts)
+    (legal : IsLegal l past) where
+  Noted : BookCall → BookReply → List Entry → Type 0
+  Noted call reply new =
+      IsNoted l new (noted_turn (runner_of call) reply (posts_after l reply new) ts)
+
+  take_noted : (id most : ℕ) (bytes : List ℕ) → let t = taking l past id most bytes in
+      Noted (Take id most) t.reply t.past
+  unfolding posted Noted
+  take_noted id most [] = noted
+  take_noted id most (b ∷ bytes) =
+      by_limit l past _ (λ t. Noted (Take id most) t.reply t.past) noted
+      (quiet_noted l past ts noted (entry.Take id most) refl (λ c. refl))
+
+  step_noted : (call : BookCall)
+      → Noted call (book_step l past call).reply (book_step l past call).past
+  unfolding book_step posted Noted
+  step_noted Admit =
+      by_limit l past (admitting past) (λ t. Noted Admit t.reply t.past) noted
+      (admit_noted l past ts noted legal)
+  step_noted (Run id words now) =
+      elim (runs_on l past id) as (λ b.
+      let t = cond b (unless_full l past (running past id words now)) (gone past id) in
+      Noted (Run id words now) t.reply t.past) [
+        | true ↦ by_limit l past (running past id words now)
+            (λ t. Noted (Run id words now) t.reply t.past) noted
+            (run_noted l past ts noted id (max now (latest past)) words)
+        | false ↦ noted
+      ]
+  step_noted (Take id most) =
+      elim (gives_on l past id) as (λ b.
+      let t = cond b (taking l past id most (take most (unsent l id past))) (gone past id) in
+      Noted (Take id most) t.reply t.past) [
+        | true ↦ take_noted id most (take most (unsent l id past))
+        | false ↦ noted
+      ]
+  step_noted (Close id) =
+      elim (reads_on l past id) as (λ b.
+      let t = cond b (closing past id) (gone past id) in Noted (Close id) t.reply t.past) [
+        | true ↦ quiet_noted l past ts noted (entry.Close id) refl (λ c. refl)
+        | false ↦ noted
+      ]
+
+  pub turn_noted : (call : BookCall) (reply : BookReply) (new : List Entry)
+      → BookStep l past call reply new
+      → IsNoted l new (noted_turn (runner_of call) reply (posts_after l reply new) ts)
+  unfolding Noted
+  turn_noted call reply new does =
+      by_step l (Noted call) past new call reply (step_noted call) noted does
+
+-- ---- notes that are whole
+
+pub posts_then : (ps qs : List Post) (ts : List TrailState)
+    → noted_posts (ps ++ qs) ts ≡ noted_posts qs (noted_posts ps ts)
+posts_then [] qs ts = refl
+posts_then (p ∷ ps) qs ts = posts_then ps qs (changed (with_sent p.entry) p.id ts)
+
+pub posts_next : (posts : List Post) (i : ℕ) (d : Post) (ts now next : List TrailState)
+    → i < length posts → now ≡ noted_posts (take i posts) ts
+    → next ≡ changed (with_sent (slice_index_or posts i d).entry) (slice_index_or posts i d).id now
+    → next ≡ noted_posts (take (i + 1) posts) ts
+posts_next posts i d ts now next lt before is =
+    let p = slice_index_or posts i d in
+    is ∙ ap (λ x. changed (with_sent p.entry) p.id x) before
+    ∙ sym (posts_then (take i posts) (p ∷ []) ts)
+    ∙ ap (λ ps. noted_posts ps ts) (sym (take_more posts i d lt))
+
+module _ (l : Limits) (past : List Entry) (notes : NotesState) (are : AreNotes l past notes)
+    (whole : notes.whole ≡ true) (legal : IsLegal l past) where
+  pub whole_runs : (at : ℕ)
+      → (trail_of (at + 1) notes.trails).runs ≡ run_entries (at + 1) past
+  whole_runs at = elim (cases_lt at (length notes.trails)) [
+    | inl there ↦ (are whole).runs (at + 1) (omega arith) (omega (arith, there))
+    | inr past_all ↦
+        ap (λ (t : TrailState). t.runs)
+        (get_or_past notes.trails (at + 1 - 1) no_trail (omega (arith, past_all)))
+        ∙ sym (runs_none l past (at + 1) legal (omega (arith, past_all, (are whole).count)))
+  ]
+
+  pub whole_sent : (at : ℕ)
+      → (trail_of (at + 1) notes.trails).sent ≡ sent_entries l (at + 1) past
+  whole_sent at = elim (cases_lt at (length notes.trails)) [
+    | inl there ↦ (are whole).sent (at + 1) (omega arith) (omega (arith, there))
+    | inr past_all ↦
+        ap (λ (t : TrailState). t.sent)
+        (get_or_past notes.trails (at + 1 - 1) no_trail (omega (arith, past_all)))
+        ∙ sym (ap (map (λ s. s.0))
+        (sent_fresh l past (at + 1) legal (omega (arith, past_all, (are whole).count))))
+  ]
+
+-- ---- a line that is taken back
+
+last_same : {A : Type 0} → (xs ys : List A) (x y : A) → xs ++ x ∷ [] ≡ ys ++ y ∷ [] → xs ≡ ys
+last_same xs ys x y e =
+    let n : length (xs ++ x ∷ []) ≡ length (ys ++ y ∷ []) = ap length e in
+    sym (take-append_seam xs (x ∷ []))
+    ∙ ap (take (length xs)) e
+    ∙ ap (λ k. take k (ys ++ y ∷ []))
+    (omega (arith, n, length-append xs (x ∷ []), length-append ys (y ∷ [])))
+    ∙ take-append_seam ys (y ∷ [])
+
+pub last_gone : {A : Type 0} → (before : List A) (x : A) (old new : List A) (r : Option A)
+    → old ≡ before ++ x ∷ [] → old ≡ new ++ option_to_list r → (IsSome r ↔ (0 < length old))
+    → new ≡ before
+last_gone {A} before x old new None is items some =
+    absurd (let no : IsSome {T = A} None =
+    some.1 (omega (arith, ap length is, length-append before (x ∷ []))) in cc)
+last_gone before x old new (Some y) is items some = last_same new before y x (sym items ∙ is)

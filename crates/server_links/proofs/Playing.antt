@@ -1,0 +1,374 @@
+-- What the calls of the code give, as outcomes.
+use Rattle.std.proofs.Common.{◌≡◌, ◌+◌, ◌<◌, ℕ, List, [], ◌∷◌, ◌++◌, Bool, true, false, cond, Some}
+use Rattle.std.proofs.Common.{None, Option}
+use Rattle.std.proofs.Common.{Result, Ok, Err, length, take, min, refl, sym, ap, subst, ◌∙◌, arith}
+use Rattle.std.proofs.Common.{inl, append-nil, length-take}
+use Rattle.std.specs.Prelude.{◌&&◌, nat_le}
+use Rattle.serial_model.specs.declared.history.Limits.{Limits}
+use Rattle.serial_model.specs.declared.history.Entry.{Entry}
+use Rattle.serial_model.specs.declared.history.BookCall.{BookCall}
+use Rattle.serial_model.specs.declared.history.BookCall.TheVariants as call
+use Rattle.serial_model.specs.declared.history.BookReply.{BookReply}
+use Rattle.serial_model.specs.declared.history.BookReply.TheVariants.{Admitted, Ran, Quiet, Bytes}
+use Rattle.serial_model.specs.declared.history.BookReply.TheVariants.{Closed, Refused}
+use Rattle.serial_model.specs.History.{runs_on, reads_on, gives_on, is_full, unsent}
+use Rattle.serial_model.specs.Steps.{Turn, book_step, gone, full, taking}
+use Rattle.serial_model.proofs.Turning.{run_step, run_full, close_step}
+use Rattle.script_text.specs.declared.line.Line.{Line}
+use Rattle.script_text.specs.declared.line.Line.TheVariants as line
+use Rattle.server_links.specs.declared.fault.WorldFault.{WorldFault}
+use Rattle.server_links.specs.declared.fault.WorldFault.TheVariants.{NoName, NameTaken}
+use Rattle.server_links.specs.declared.fault.WorldFault.TheVariants.{NothingThere}
+use Rattle.server_links.specs.declared.fault.WorldFault.TheVariants.{NoMemory, HistoryFull}
+use Rattle.server_links.specs.declared.fault.WorldFault.TheVariants as faults
+use Rattle.server_links.specs.declared.link.Link.{Link}
+use Rattle.server_links.specs.ServerState.{ServerState}
+use Rattle.server_links.specs.EntryLines.{reply_fault, reply_lines}
+use Rattle.serial_model.specs.declared.history.Entry.TheVariants as entry
+use Rattle.server_links.specs.declared.direction.Direction.{Direction}
+use Rattle.server_links.specs.declared.direction.Eof.{Eof}
+use Rattle.server_links.specs.declared.direction.Eof.TheVariants as eof
+use Rattle.server_links.specs.Directions.{put, put_by, is_queued, without, without_bytes, past_eof}
+use Rattle.server_links.specs.Directions.{eof_read}
+use Rattle.server_links.specs.Moves.{turned, turn, bytes_of, take_down, read_lines, eof_lines}
+use Rattle.server_links.specs.Moves.{read_bytes, read_eof, receive_all, stop, close, feed, run_fed}
+use Rattle.server_links.specs.Moves.{serve, serve_all}
+use Rattle.resp_stream.specs.declared.fault.FaultPlace.{FaultPlace}
+use Rattle.server_links.proofs.Outcomes.{Ends, after_ends, after_stops, gives_then, stops_first}
+use Rattle.server_links.proofs.Outcomes.{stops_here}
+use Rattle.server_links.specs.Outcome.{Outcome, Stops, Gives, and_then, does, refuses, stays}
+use Rattle.server_links.specs.Session.{Session, session, with_past, with_link, with_down}
+use Rattle.server_links.specs.Turns.{TurnGives}
+
+-- a turn changes the history of a server, and no more
+pub server_turned : (old new : ServerState) (link : Link) → new.book.limits ≡ old.book.limits
+    → new.clock ≡ old.clock → session new link ≡ with_past (session old link) new.book.past
+server_turned old new link l c =
+    ap (λ (x : Limits). record { limits = x; now = new.clock; past = new.book.past; link = link }) l
+    ∙ ap (λ x. record { limits = old.book.limits; now = x; past = new.book.past; link = link }) c
+
+module _ (s : Session) (c : BookCall) (words : List (List ℕ)) (past : List Entry) (x : Line)
+    (lines lines' : List Line) where
+  pub turn_gives : (reply : BookReply) → TurnGives s.limits s.past c x lines (Ok reply) past lines'
+      → reply_lines s.link.name words reply ≡ x ∷ []
+      → Ends (turn c words s) lines (with_past s past) lines'
+  unfolding turn
+  turn_gives reply g is = (
+    ap (λ (t : Turn). reply_fault t.reply) g.0 ∙ g.1,
+    ap (λ (t : Turn). with_past s t.past) (sym g.0),
+    g.2 ∙ ap (λ l. lines ++ l) (sym is
+        ∙ ap (λ (t : Turn). reply_lines s.link.name words t.reply) (sym g.0)),
+  )
+
+  pub turn_stops : (fault : WorldFault)
+      → TurnGives s.limits s.past c x lines (Err fault) past lines'
+      → Stops (turn c words s) lines fault (with_past s past) lines'
+  unfolding turn
+  turn_stops NoMemory g = ([], inl (ap (with_past s) g.0, refl), g.1 ∙ sym (append-nil lines))
+  turn_stops (HistoryFull n) g = (
+    ap (λ (t : Turn). reply_fault t.reply) g.0,
+    ap (λ (t : Turn). with_past s t.past) (sym g.0),
+    g.1 ∙ sym (append-nil lines) ∙ ap (λ (t : Turn). lines
+        ++ reply_lines s.link.name words t.reply) (sym g.0),
+  )
+  turn_stops NoName g = absurd g
+  turn_stops NameTaken g = absurd g
+  turn_stops NothingThere g = absurd g
+  turn_stops (faults.Refused n) g = absurd g
+
+-- before a turn
+pub turn_before : (s : Session) (c : BookCall) (words : List (List ℕ)) (lines : List Line)
+    → Stops (turn c words s) lines NoMemory s lines
+unfolding turn
+turn_before s c words lines = ([], inl (refl, refl), sym (append-nil lines))
+
+module _ (l : Limits) (past new : List Entry) (id : ℕ) (reply : BookReply) (met : reply_fault reply
+    ≡ None) where
+  pub run_line : (now : ℕ) (words : List (List ℕ)) (name : List ℕ) → runs_on l past id ≡ true
+      → book_step l past (call.Run id words now) ≡ record { reply = reply; past = new }
+      → reply_lines name words reply ≡ line.Run (length past + 1) name words ∷ []
+  run_line now words name on is = elim (is_full l past) as (λ b. is_full l past ≡ b
+      → reply_lines name words reply ≡ line.Run (length past + 1) name words ∷ []) [
+        | true ↦ λ none. absurd (let no : Some (HistoryFull (length past))
+            ≡ None = ap (λ (t : Turn). reply_fault t.reply)
+            (sym (run_full l past id now words on none)
+            ∙ is) ∙ met in cc)
+        | false ↦ λ room. ap (λ (t : Turn). reply_lines name words t.reply) (sym is
+            ∙ run_step l past id now words on room)
+      ] refl
+
+  pub close_line : (name : List ℕ) → reads_on l past id ≡ true
+      → book_step l past (call.Close id) ≡ record { reply = reply; past = new }
+      → reply_lines name [] reply ≡ line.Close (length past + 1) name ∷ []
+  close_line name on is = ap (λ (t : Turn). reply_lines name [] t.reply) (sym is
+      ∙ close_step l past id on)
+
+-- a Run leaves its connection read on
+pub run_reads : (l : Limits) (past new : List Entry) (id now : ℕ) (words : List (List ℕ))
+    (reply : BookReply) → reads_on l past id ≡ true
+    → book_step l past (call.Run id words now) ≡ record { reply = reply; past = new }
+    → reads_on l new id ≡ true
+run_reads l past new id now words reply on is =
+    elim (is_full l past) as (λ b. is_full l past ≡ b → reads_on l new id ≡ true) [
+      | true ↦ λ none. ap (λ (t : Turn). reads_on l t.past id) (sym is
+          ∙ run_full l past id now words on none) ∙ on
+      | false ↦ λ room. ap (λ (t : Turn). reads_on l t.past id) (sym is
+          ∙ run_step l past id now words on room) ∙ on
+    ] refl
+
+-- ---- the server's end sends
+
+put_none : (d : Direction) → put [] d ≡ d
+put_none d = ap (λ b. record { bytes = b; eof = d.eof }) (by_eof d.eof d.bytes)
+  where
+    by_eof : (e : Eof) (bytes : List ℕ) → put_by e bytes [] ≡ bytes
+    by_eof eof.None bytes = append-nil bytes
+    by_eof eof.Queued bytes = refl
+    by_eof eof.Read bytes = refl
+
+take_is : (s : Session) (most : ℕ) → gives_on s.limits s.past s.link.id ≡ true
+    → book_step s.limits s.past (call.Take s.link.id most)
+    ≡ taking s.limits s.past s.link.id most (take most (unsent s.limits s.link.id s.past))
+unfolding book_step
+take_is s most on =
+    ap (λ v. cond v (taking s.limits s.past s.link.id most
+    (take most (unsent s.limits s.link.id s.past))) (gone s.past s.link.id)) on
+
+module _ (most : ℕ) (s : Session) (lines : List Line) where
+  -- there is nothing to take
+  pub take_quiet : gives_on s.limits s.past s.link.id ≡ true
+      → take most (unsent s.limits s.link.id s.past) ≡ [] → Ends (take_down most s) lines s lines
+  unfolding take_down
+  take_quiet on none =
+      let is = take_is s most on ∙ ap (taking s.limits s.past s.link.id most) none in
+      subst (λ (t : Turn). Ends (and_then (turned s [] t)
+      (λ u. does u (with_link u (with_down u.link (put (bytes_of t.reply) u.link.down))) []))
+      lines s lines) (sym is)
+      (after_ends (turned s [] (record { reply = Quiet; past = s.past })) _ lines s lines s lines
+      (refl, refl, sym (append-nil lines)) (
+        refl,
+        ap (λ d. with_link s (with_down s.link d)) (sym (put_none s.link.down)),
+        sym (append-nil lines),
+      ))
+
+  pub take_before : Stops (take_down most s) lines NoMemory s lines
+  unfolding take_down turn
+  take_before =
+      stops_first (turned s [] (book_step s.limits s.past (call.Take s.link.id most))) _ lines
+      NoMemory s lines (turn_before s (call.Take s.link.id most) [] lines)
+
+  module _ (past : List Entry) (x : Line) (lines' : List Line) where
+    pub take_stops : (fault : WorldFault)
+        → TurnGives s.limits s.past (call.Take s.link.id most) x lines (Err fault) past lines'
+        → Stops (take_down most s) lines fault (with_past s past) lines'
+    unfolding take_down turn
+    take_stops fault g =
+        stops_first (turned s [] (book_step s.limits s.past (call.Take s.link.id most))) _ lines
+        fault (with_past s past) lines' (turn_stops s (call.Take s.link.id most) [] past x lines
+        lines' fault g)
+
+    module _ (reply : BookReply) (g : TurnGives s.limits s.past (call.Take s.link.id most) x lines
+        (Ok reply) past lines') (is : reply_lines s.link.name [] reply ≡ x ∷ []) where
+      taken : Ends (turned s [] (book_step s.limits s.past (call.Take s.link.id most))) lines
+          (with_past s past) lines'
+      unfolding turn
+      taken = turn_gives s (call.Take s.link.id most) [] past x lines lines' reply g is
+
+      given : bytes_of (book_step s.limits s.past (call.Take s.link.id most)).reply ≡ bytes_of reply
+      given = ap (λ (t : Turn). bytes_of t.reply) g.0
+
+      -- the bytes could not be put on the way
+      pub take_short : Stops (take_down most s) lines NoMemory (with_past s past) lines'
+      unfolding take_down
+      take_short =
+          let t = book_step s.limits s.past (call.Take s.link.id most) in
+          after_stops (turned s [] t) (λ u. does u
+          (with_link u (with_down u.link (put (bytes_of t.reply) u.link.down))) []) lines
+          (with_past s past) lines' NoMemory (with_past s past) lines' taken
+          (stops_here (does (with_past s past)
+          (with_link (with_past s past) (with_down s.link (put (bytes_of t.reply) s.link.down)))
+          []) (with_past s past) lines' refl)
+
+      pub take_gives : (down : Direction) → down ≡ put (bytes_of reply) s.link.down
+          → Ends (take_down most s) lines (with_link (with_past s past) (with_down s.link down))
+          lines'
+      unfolding take_down
+      take_gives down put_is =
+          let t = book_step s.limits s.past (call.Take s.link.id most) in
+          after_ends (turned s [] t) (λ u. does u
+          (with_link u (with_down u.link (put (bytes_of t.reply) u.link.down))) []) lines
+          (with_past s past) lines' _ lines' taken (
+            refl,
+            ap (λ d. with_link (with_past s past) (with_down s.link d)) (put_is
+                ∙ ap (λ b. put b s.link.down) (sym given)),
+            sym (append-nil lines'),
+          )
+
+pub take_size : (bytes : List ℕ) (most waiting count : ℕ) → waiting ≡ length bytes
+    → count ≡ min waiting most → length (take most bytes) ≡ count
+take_size bytes most waiting count w n = let l = length-take most bytes in grind (arith, l, w, n)
+
+pub no_bytes : (bytes : List ℕ) → length bytes ≡ 0 → bytes ≡ []
+no_bytes [] none = refl
+no_bytes (b ∷ bytes) none = absurd (let no : ⊥ = omega (arith, none) in no)
+
+-- an answer with bytes, those that were taken
+abbrev pub IsGiven : ℕ → List ℕ → BookReply → Type 0
+IsGiven entry bytes (Bytes e given) = (e ≡ entry) × (given ≡ bytes)
+IsGiven entry bytes reply = ⊥
+
+pub only_given : (entry : ℕ) (bytes : List ℕ) (reply : BookReply) → IsGiven entry bytes reply
+    → ((e : ℕ) (given : List ℕ) → reply ≡ Bytes e given → ⊥) → ⊥
+only_given entry bytes (Admitted e id) is gave = is
+only_given entry bytes (Ran e) is gave = is
+only_given entry bytes Quiet is gave = is
+only_given entry bytes (Bytes e given) is gave = gave e given refl
+only_given entry bytes (Closed e) is gave = is
+only_given entry bytes (Refused f) is gave = is
+
+-- where something can be taken and the history has room, it is
+taking_given : (l : Limits) (past : List Entry) (id most : ℕ) (bytes : List ℕ) → 0 < length bytes
+    → reply_fault (taking l past id most bytes).reply ≡ None
+    → IsGiven (length past + 1) bytes (taking l past id most bytes).reply
+taking_given l past id most [] some = λ met. absurd (let no : ⊥ = omega (arith, some) in no)
+taking_given l past id most (b ∷ bytes) some =
+    elim (is_full l past) as (λ v. let t : Turn = cond v (full past)
+    (record { reply = Bytes (length past + 1) (b ∷ bytes); past = entry.Take id most ∷ past }) in
+    reply_fault t.reply ≡ None → IsGiven (length past + 1) (b ∷ bytes) t.reply) [
+      | true ↦ λ met. absurd (let no : ⊥ = cc in no)
+      | false ↦ λ met. (refl, refl)
+    ]
+
+pub take_given : (s : Session) (most : ℕ) (past : List Entry) (reply : BookReply)
+    → gives_on s.limits s.past s.link.id ≡ true
+    → 0 < length (take most (unsent s.limits s.link.id s.past))
+    → book_step s.limits s.past (call.Take s.link.id most) ≡ record { reply = reply; past = past }
+    → reply_fault reply ≡ None
+    → IsGiven (length s.past + 1) (take most (unsent s.limits s.link.id s.past)) reply
+take_given s most past reply on some is met =
+    let same = sym (take_is s most on) ∙ is in
+    subst (λ (t : Turn). IsGiven (length s.past + 1) (take most (unsent s.limits s.link.id s.past))
+    t.reply) same
+    (taking_given s.limits s.past s.link.id most (take most (unsent s.limits s.link.id s.past)) some
+    (ap (λ (t : Turn). reply_fault t.reply) same ∙ met))
+
+pub given_line : (entry count : ℕ) (bytes name : List ℕ) (reply : BookReply)
+    → IsGiven entry bytes reply → length bytes ≡ count
+    → reply_lines name [] reply ≡ line.Take entry name count ∷ []
+given_line entry count bytes name (Admitted e id) is size = absurd is
+given_line entry count bytes name (Ran e) is size = absurd is
+given_line entry count bytes name Quiet is size = absurd is
+given_line entry count bytes name (Bytes e given) is size =
+    ap (λ n. line.Take n name (length given) ∷ []) is.0
+    ∙ ap (λ n. line.Take entry name n ∷ []) (ap length is.1 ∙ size)
+given_line entry count bytes name (Closed e) is size = absurd is
+given_line entry count bytes name (Refused f) is size = absurd is
+
+-- ---- the client's end reads
+
+module _ (s : Session) (lines lines1 : List Line) (down : Direction) (is : down
+    ≡ without_bytes s.link.down) (told : lines1
+    ≡ lines ++ read_lines s.link.name s.link.down.bytes) where
+  bytes_read : Ends (read_bytes s.link.down.bytes (without_bytes s.link.down) s) lines
+      (with_link s (with_down s.link down)) lines1
+  bytes_read = (refl, ap (λ d. with_link s (with_down s.link d)) is, told)
+
+  pub receive_short : Stops (receive_all s) lines NoMemory (with_link s (with_down s.link down))
+      lines1
+  unfolding receive_all
+  receive_short =
+      after_stops (read_bytes s.link.down.bytes (without_bytes s.link.down) s) read_eof lines
+      (with_link s (with_down s.link down)) lines1 NoMemory
+      (with_link s (with_down s.link down)) lines1 bytes_read
+      (stops_here (read_eof (with_link s (with_down s.link down)))
+      (with_link s (with_down s.link down)) lines1 refl)
+
+  pub receive_gives : (down2 : Direction) (lines2 : List Line) → down2 ≡ past_eof down
+      → lines2 ≡ lines1 ++ eof_lines s.link.name (is_queued down.eof)
+      → Ends (receive_all s) lines (with_link s (with_down s.link down2)) lines2
+  unfolding receive_all
+  receive_gives down2 lines2 past more =
+      after_ends (read_bytes s.link.down.bytes (without_bytes s.link.down) s) read_eof lines
+      (with_link s (with_down s.link down)) lines1 (with_link s (with_down s.link down2)) lines2
+      bytes_read
+      (refl, ap (λ d. with_link s (with_down s.link d)) past, more)
+
+pub receive_before : (s : Session) (lines : List Line)
+    → Stops (receive_all s) lines NoMemory s lines
+unfolding receive_all
+receive_before s lines =
+    stops_first (read_bytes s.link.down.bytes (without_bytes s.link.down) s) read_eof lines NoMemory
+    s lines (stops_here (read_bytes s.link.down.bytes (without_bytes s.link.down) s) s lines refl)
+
+pub no_eof : (e : Eof) → is_queued e ≡ false → e ≡ eof_read e
+no_eof eof.None h = refl
+no_eof eof.Queued h = absurd (let no : ⊥ = cc in no)
+no_eof eof.Read h = refl
+
+-- ---- what stops the reading
+
+module _ (place : Option FaultPlace) (at : FaultPlace) (eof : Bool) (s : Session)
+    (lines : List Line) (is : place ≡ Some at) where
+  pub stop_before : Stops (stop place eof s) lines NoMemory s lines
+  stop_before =
+      subst (λ p. Stops (stop p eof s) lines NoMemory s lines) (sym is)
+      (stops_first (does s s (line.Bad s.link.name at.number at.offset ∷ [])) close lines NoMemory s
+      lines (stops_here (does s s (line.Bad s.link.name at.number at.offset ∷ [])) s lines
+      refl))
+
+  pub stop_gives : {A : Type 0}
+      → (lines1 : List Line) (r : Result A WorldFault) (t : Session) (lines2 : List Line)
+      → lines1 ≡ lines ++ line.Bad s.link.name at.number at.offset ∷ []
+      → Gives (close s) lines1 r t lines2 → Gives (stop place eof s) lines r t lines2
+  stop_gives lines1 r t lines2 told g =
+      subst (λ p. Gives (stop p eof s) lines r t lines2) (sym is)
+      (gives_then (does s s (line.Bad s.link.name at.number at.offset ∷ [])) close lines r s lines1
+      r t lines2 (refl, refl, told) g)
+
+-- ---- the server's end reads
+
+pub fed_stops : (piece : List ℕ) (up : Direction) (s : Session) (next : Session
+    → Outcome Session) (lines : List Line)
+    → Stops (and_then (feed piece up s) next) lines NoMemory s lines
+fed_stops piece up s next lines =
+    stops_first (feed piece up s) next lines NoMemory s lines
+    (stops_here (feed piece up s) s lines refl)
+
+pub fed_gives : {A : Type 0} → (piece : List ℕ) (up : Direction) (s s1 : Session) (next : Session
+    → Outcome Session) (lines : List Line) (r : Result A WorldFault) (t : Session)
+    (lines1 : List Line)
+    → s1 ≡ (feed piece up s).state → Gives (next s1) lines r t lines1
+    → Gives (and_then (feed piece up s) next) lines r t lines1
+fed_gives piece up s s1 next lines r t lines1 is g =
+    gives_then (feed piece up s) next lines r s1 lines r t lines1 (
+      refl,
+      is,
+      sym (append-nil lines),
+    ) g
+
+pub serve_off : (s : Session) → reads_on s.limits s.past s.link.id ≡ false → serve_all s ≡ stays s
+unfolding serve_all
+serve_off s off =
+    ap (λ b. cond b (and_then (feed s.link.up.bytes (past_eof (without_bytes s.link.up)) s)
+    (run_fed (is_queued s.link.up.eof))) (stays s)) off
+
+pub serve_on : (s : Session) → reads_on s.limits s.past s.link.id ≡ true
+    → serve_all s
+    ≡ and_then (feed s.link.up.bytes (past_eof (without_bytes s.link.up)) s)
+    (run_fed (is_queued s.link.up.eof))
+unfolding serve_all
+serve_on s on =
+    ap (λ b. cond b (and_then (feed s.link.up.bytes (past_eof (without_bytes s.link.up)) s)
+    (run_fed (is_queued s.link.up.eof))) (stays s)) on
+
+pub serve_some : (count : Option ℕ) (n : ℕ) (s : Session) → count ≡ Some n
+    → reads_on s.limits s.past s.link.id ≡ true → nat_le n (length s.link.up.bytes) ≡ true
+    → serve count s
+    ≡ and_then (feed (take n s.link.up.bytes) (without n s.link.up) s) (run_fed false)
+serve_some count n s is on le =
+    ap (λ x. serve x s) is
+    ∙ ap (λ b. cond (b && nat_le n (length s.link.up.bytes))
+    (and_then (feed (take n s.link.up.bytes) (without n s.link.up) s) (run_fed false))
+    (refuses s NothingThere)) on
+    ∙ ap (λ b. cond b (and_then (feed (take n s.link.up.bytes) (without n s.link.up) s)
+    (run_fed false)) (refuses s NothingThere)) le

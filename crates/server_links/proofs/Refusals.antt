@@ -1,0 +1,199 @@
+-- A refused event leaves the world as it was, and prints nothing.
+use Rattle.std.proofs.Common.{◌≡◌, ℕ, List, [], ◌∷◌, ◌++◌, Bool, true, false, cond, zero, suc}
+use Rattle.std.proofs.Common.{Some, None, Option, length, refl, sym, ap, ◌∙◌}
+use Rattle.std.specs.Prelude.{◌&&◌, nat_le, slice_set, take}
+use Rattle.std.proofs.lemmas.List.{set-get_or}
+use Rattle.resp_stream.specs.declared.fault.FaultPlace.{FaultPlace}
+use Rattle.resp_stream.specs.Parse.{parse}
+use Rattle.serial_model.specs.declared.history.BookReply.{BookReply}
+use Rattle.serial_model.specs.declared.history.BookReply.TheVariants.{Admitted, Ran, Quiet, Bytes}
+use Rattle.serial_model.specs.declared.history.BookReply.TheVariants.{Closed, Refused}
+use Rattle.serial_model.specs.declared.history.BookRefusal.TheVariants as refusal
+use Rattle.serial_model.specs.History.{reads_on, gives_on, unsent}
+use Rattle.server_links.specs.LinkEvent.{LinkEvent, Raw, Put, Over}
+use Rattle.server_links.specs.declared.link.LinkMove.{LinkMove}
+use Rattle.server_links.specs.declared.link.LinkMove.TheVariants as moves
+use Rattle.server_links.specs.declared.fault.WorldFault.{WorldFault}
+use Rattle.server_links.specs.declared.fault.WorldFault.TheVariants.{NoName, NameTaken}
+use Rattle.server_links.specs.declared.fault.WorldFault.TheVariants.{NothingThere}
+use Rattle.server_links.specs.declared.fault.WorldFault.TheVariants.{NoMemory, HistoryFull}
+use Rattle.server_links.specs.declared.fault.WorldFault.TheVariants as faults
+use Rattle.server_links.specs.declared.link.Link.{Link}
+use Rattle.server_links.specs.Directions.{finished, is_open, is_queued, past_eof, without}
+use Rattle.server_links.specs.Directions.{without_bytes}
+use Rattle.server_links.specs.EntryLines.{reply_fault}
+use Rattle.server_links.specs.Faults.{IsRefusal}
+use Rattle.server_links.specs.Moves.{turn, run_one, run_all, close, stop, run_requests, run_fed}
+use Rattle.server_links.specs.Moves.{stopped_at, feed, serve_all, serve, take_down, all_bytes}
+use Rattle.server_links.specs.Moves.{send_all}
+use Rattle.server_links.specs.Moves.{send, read_bytes, receive_all, receive, flow, move_of, moved}
+use Rattle.server_links.specs.Outcome.{Outcome, stays, refuses, then_by, and_then, within}
+use Rattle.server_links.specs.Session.{Session, session_at, with_session, with_link, with_down}
+use Rattle.server_links.specs.LinkSteps.{over, over_named, place_of, raw_step, step, Stepped}
+use Rattle.server_links.specs.LinksState.{LinksState, fresh_link}
+
+-- ---- what is never refused
+
+unfoldable pub Unrefused : {S : Type 0} → Outcome S → Type 0
+Unrefused m = (f : WorldFault) → m.fault ≡ Some f → IsRefusal f → ⊥
+
+none : (f : WorldFault) → None ≡ Some f → IsRefusal f → ⊥
+none f e r = absurd (let no : ⊥ = cc in no)
+
+by_reply : (reply : BookReply) (f : WorldFault) → reply_fault reply ≡ Some f → IsRefusal f → ⊥
+by_reply (Admitted e id) f is r = none f is r
+by_reply (Ran e) f is r = none f is r
+by_reply Quiet f is r = none f is r
+by_reply (Bytes e bytes) f is r = none f is r
+by_reply (Closed e) f is r = none f is r
+by_reply (Refused (refusal.Gone id)) f is r = none f is r
+by_reply (Refused refusal.NoMemory) f is r = none f is r
+by_reply (Refused (refusal.HistoryFull n)) NoName is r = absurd (let no : ⊥ = cc in no)
+by_reply (Refused (refusal.HistoryFull n)) NameTaken is r = absurd (let no : ⊥ = cc in no)
+by_reply (Refused (refusal.HistoryFull n)) NothingThere is r = absurd (let no : ⊥ = cc in no)
+by_reply (Refused (refusal.HistoryFull n)) NoMemory is r = r
+by_reply (Refused (refusal.HistoryFull n)) (faults.Refused k) is r = absurd (let no : ⊥ = cc in no)
+by_reply (Refused (refusal.HistoryFull n)) (HistoryFull k) is r = r
+
+pub un_then : {S : Type 0} → (m : Outcome S) (next : S → Outcome S) → Unrefused m
+    → ((t : S) → Unrefused (next t)) → Unrefused (and_then m next)
+unfolding Unrefused and_then
+un_then m next h g f = elim m.fault as (λ v. m.fault ≡ v
+    → (then_by v m (next m.state)).fault ≡ Some f → IsRefusal f → ⊥) [
+      | Some x ↦ λ is e r. h f e r
+      | None ↦ λ is e r. g m.state f e r
+    ] refl
+
+un_run_all : (requests : List (List (List ℕ))) (s : Session) → Unrefused (run_all requests s)
+unfolding run_all run_one turn Unrefused
+un_run_all [] s = none
+un_run_all (words ∷ requests) s =
+    un_then (run_one words s) (run_all requests) (un_then _ _ none (λ t. by_reply _))
+    (un_run_all requests)
+
+un_stop : (place : Option FaultPlace) (eof : Bool) (s : Session) → Unrefused (stop place eof s)
+unfolding close turn Unrefused
+un_stop (Some place) eof s = un_then _ close none (λ t. by_reply _)
+un_stop None true s = by_reply _
+un_stop None false s = none
+
+un_run_fed : (eof : Bool) (s : Session) → Unrefused (run_fed eof s)
+unfolding run_fed run_requests Unrefused
+un_run_fed eof s =
+    let p = parse s.link.reader in
+    un_then (run_requests s) (stop (stopped_at p.fault) eof)
+    (un_then (run_all p.items s) _ (un_run_all p.items s) (λ t. none))
+    (un_stop (stopped_at p.fault) eof)
+
+pub un_serve_all : (s : Session) → Unrefused (serve_all s)
+unfolding serve_all Unrefused
+un_serve_all s f = elim (reads_on s.limits s.past s.link.id) as (λ b.
+    (cond b (and_then (feed s.link.up.bytes (past_eof (without_bytes s.link.up)) s)
+    (run_fed (is_queued s.link.up.eof))) (stays s)).fault ≡ Some f → IsRefusal f → ⊥) [
+      | true ↦ un_then _ _ none (un_run_fed (is_queued s.link.up.eof)) f
+      | false ↦ none f
+    ]
+
+un_take : (most : ℕ) (s : Session) → Unrefused (take_down most s)
+unfolding take_down Unrefused
+un_take most s = un_then _ _ (by_reply _) (λ t. none)
+
+pub un_send_all : (s : Session) → Unrefused (send_all s)
+unfolding Unrefused
+un_send_all s f =
+    let ended = with_link s (with_down s.link (finished s.link.down)) in
+    elim (is_open s.link.down.eof) as (λ b. (cond b (cond (gives_on s.limits s.past s.link.id)
+    (take_down all_bytes s) (stays ended)) (stays s)).fault ≡ Some f → IsRefusal f → ⊥) [
+      | true ↦ elim (gives_on s.limits s.past s.link.id) as (λ b.
+          (cond b (take_down all_bytes s) (stays ended)).fault ≡ Some f → IsRefusal f → ⊥) [
+            | true ↦ un_take all_bytes s f
+            | false ↦ none f
+          ]
+      | false ↦ none f
+    ]
+
+pub un_receive_all : (s : Session) → Unrefused (receive_all s)
+unfolding receive_all Unrefused
+un_receive_all s = un_then _ _ none (λ t. none)
+
+pub un_flow : (s : Session) → Unrefused (flow s)
+unfolding flow Unrefused
+un_flow s = un_then (serve_all s) _ (un_serve_all s)
+    (λ u. un_then (send_all u) receive_all (un_send_all u) un_receive_all)
+
+-- ---- what is refused changes nothing
+
+Unchanged : {S : Type 0} → S → Outcome S → Type 0
+Unchanged {S} s m = (f : WorldFault) → m.fault ≡ Some f → IsRefusal f
+    → (m.state ≡ s) × (m.lines ≡ [])
+
+accepted : {S : Type 0} → (s : S) (m : Outcome S) → Unrefused m → Unchanged s m
+unfolding Unrefused Unchanged
+accepted s m h f e r = absurd (h f e r)
+
+refused : {S : Type 0} → (s : S) (fault : WorldFault) → Unchanged s (refuses s fault)
+unfolding Unchanged
+refused s fault f e r = (refl, refl)
+
+either : (b : Bool) (s : Session) (m : Outcome Session) → Unrefused m
+    → Unchanged s (cond b m (refuses s NothingThere))
+either true s m h = accepted s m h
+either false s m h = refused s NothingThere
+
+still : (s t : Session) → Unchanged s (stays t)
+unfolding Unchanged
+still s t f e r = absurd (none f e r)
+
+unchanged_moved : (move : LinkMove) (s : Session) → Unchanged s (moved move s)
+unfolding Unrefused
+unchanged_moved (moves.Serve None) s = accepted s _ (un_serve_all s)
+unchanged_moved (moves.Serve (Some n)) s =
+    either (reads_on s.limits s.past s.link.id && nat_le n (length s.link.up.bytes)) s _
+    (un_then _ _ none (un_run_fed false))
+unchanged_moved (moves.Send None) s = accepted s _ (un_send_all s)
+unchanged_moved (moves.Send (Some n)) s =
+    either (is_open s.link.down.eof && gives_on s.limits s.past s.link.id && nat_le n
+    (length (unsent s.limits s.link.id s.past))) s _ (un_take n s)
+unchanged_moved (moves.Recv None) s = accepted s _ (un_receive_all s)
+unchanged_moved (moves.Recv (Some n)) s = either (nat_le n (length s.link.down.bytes)) s _ none
+unchanged_moved moves.Flow s = accepted s _ (un_flow s)
+unchanged_moved moves.HangUp s = still s _
+unchanged_moved moves.Cut s = still s _
+
+unchanged_move : (e : LinkEvent) (s : Session) → Unchanged s (move_of e s)
+unfolding Unrefused
+unchanged_move (Raw name) s = still s s
+unchanged_move (Put name bytes) s = accepted s _ none
+unchanged_move (Over name move) s = unchanged_moved move s
+
+unchanged_over : (at : ℕ) (e : LinkEvent) (w : LinksState) → Unchanged w (over at (move_of e) w)
+unfolding over within Unchanged
+unchanged_over at e w f is r =
+    let h = unchanged_move e (session_at at w) f is r in (
+      ap (with_session at w) h.0
+          ∙ ap (λ l. record { limits = w.limits; now = w.now; past = w.past; links = l })
+          (set-get_or w.links at (fresh_link 0 [])),
+      h.1,
+    )
+
+unchanged_named : (p : Option ℕ) (e : LinkEvent) (w : LinksState)
+    → Unchanged w (over_named p (move_of e) w)
+unchanged_named None e w = refused w NoName
+unchanged_named (Some at) e w = unchanged_over at e w
+
+unchanged_raw : (name : List ℕ) (p : Option ℕ) (w : LinksState) → Unchanged w (raw_step w name p)
+unfolding Unrefused
+unchanged_raw name (Some at) w = refused w NameTaken
+unchanged_raw name None w = accepted w _ (by_reply _)
+
+unchanged : (e : LinkEvent) (w : LinksState) → Unchanged w (step w e)
+unfolding step
+unchanged (Raw name) w = unchanged_raw name (place_of name w) w
+unchanged (Put name bytes) w = unchanged_named (place_of name w) (Put name bytes) w
+unchanged (Over name move) w = unchanged_named (place_of name w) (Over name move) w
+
+pub faults_none : (w : LinksState) (e : LinkEvent) (fault : WorldFault)
+    → (step w e).fault ≡ Some fault
+    → IsRefusal fault → ((step w e).state ≡ w) × ((step w e).lines ≡ [])
+unfolding Unchanged
+faults_none w e fault is r = unchanged e w fault is r

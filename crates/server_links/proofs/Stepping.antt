@@ -1,0 +1,313 @@
+-- A step of the world in the code: its links stay those of the connections, and flow one after
+-- another.
+use Rattle.std.proofs.Common.{◌≡◌, ◌+◌, ◌<◌, ◌≤◌, ℕ, List, [], ◌∷◌, ◌++◌, true, false, zero, suc}
+use Rattle.std.proofs.Common.{Some, None, Result, Ok, Err}
+use Rattle.std.proofs.Common.{length, slice_index_or, slice_set, refl, sym, ap, subst, ◌∙◌, arith}
+use Rattle.std.proofs.Common.{append-nil, length-set, length-append, eq-eqb, inl, inr}
+use Rattle.std.specs.Prelude.{◌==◌}
+use Rattle.std.proofs.lemmas.Bool.{eqb-true, cases_lt}
+use Rattle.std.proofs.lemmas.List.{get_or_read, get_or-set_same, get_or-set_other, get_or_push}
+use Rattle.std.proofs.lemmas.List.{get_or_append_left}
+use Rattle.std.proofs.Math.Numerals.{suc-eq-add-one}
+use Rattle.serial_model.specs.declared.history.Entry.TheVariants as entry
+use Rattle.serial_model.specs.declared.history.BookCall.TheVariants as call
+use Rattle.serial_model.specs.declared.history.BookReply.{BookReply}
+use Rattle.serial_model.specs.History.{admitted, is_full}
+use Rattle.serial_model.specs.Steps.{Turn, book_step, admitting}
+use Rattle.serial_model.proofs.Turning.{admit_step}
+use Rattle.script_text.specs.declared.line.Line.TheVariants as line
+use Rattle.server_links.specs.EntryLines.{reply_fault}
+use Rattle.server_links.specs.Turns.{TurnGives}
+use Rattle.server_links.specs.LinkSteps.{admitting as admitting_link, raw_step}
+use Rattle.server_links.specs.LinkEvent.{LinkEvent, Raw, Put, Over}
+use Rattle.server_links.specs.declared.link.LinkMove.{LinkMove}
+use Rattle.server_links.specs.declared.link.LinkMove.TheVariants as moves
+use Rattle.script_text.specs.declared.line.Line.{Line}
+use Rattle.server_links.specs.declared.fault.WorldFault.{WorldFault}
+use Rattle.server_links.specs.declared.fault.WorldFault.TheVariants.{NoName, NameTaken}
+use Rattle.server_links.specs.declared.fault.WorldFault.TheVariants.{NothingThere}
+use Rattle.server_links.specs.declared.fault.WorldFault.TheVariants.{NoMemory, HistoryFull}
+use Rattle.server_links.specs.declared.fault.WorldFault.TheVariants as faults
+use Rattle.server_links.specs.declared.link.Link.{Link}
+use Rattle.server_links.specs.ServerState.{ServerState}
+use Rattle.server_links.specs.Outcome.{Outcome, Stops, Gives}
+use Rattle.server_links.specs.Session.{Session, session, session_at, with_session, world}
+use Rattle.server_links.specs.Moves.{flow, move_of}
+use Rattle.server_links.specs.LinkSteps.{over, over_named, place_of, link_named, step}
+use Rattle.server_links.specs.LinkSteps.{StepGives}
+use Rattle.server_links.specs.LinksState.{LinksState, at_place, fresh_link, Fits}
+use Rattle.server_links.proofs.Outcomes.{Ends, after_ends, after_stops, stops_first, stops_here}
+use Rattle.server_links.proofs.Outcomes.{gives_within, gives_reached}
+use Rattle.server_links.proofs.Carries.{Carries}
+use Rattle.server_links.proofs.Moving.{Every, every_flow, every_move}
+use Rattle.server_links.proofs.Events.{step_is, admit_full, admit_refused}
+
+-- a move over a link leaves each connection its link
+pub move_fits : {A : Type 0} → (w : LinksState) (at : ℕ) → at < length w.links
+    → (m : Outcome Session) → Every (session_at at w) m
+    → (lines : List Line) (r : Result A WorldFault) (t : Session) (lines' : List Line)
+    → Gives m lines r t lines' → Fits w.past w.links → Fits t.past (slice_set w.links at t.link)
+move_fits w at below m every lines r t lines' g f =
+    let h = gives_reached m lines r t lines' g in
+    let c : Carries (session_at at w) t h.0 = every.carries.all t h.0 h.1 in
+    let size = length-set w.links at t.link in
+    record {
+      count = size ∙ f.count ∙ sym c.count;
+      ids = λ i lt. elim (at == i) as (λ b. (at == i) ≡ b
+          → (at_place (slice_set w.links at t.link) i).id ≡ i + 1) [
+            | true ↦ λ e.
+                let same : at ≡ i = eqb-true at i e in
+                subst (λ k. (at_place (slice_set w.links at t.link) k).id ≡ k + 1) same
+                (ap (λ (x : Link). x.id) (get_or-set_same w.links at t.link (fresh_link 0 []) below)
+                ∙ c.id ∙ f.ids at below)
+            | false ↦ λ e.
+                ap (λ (x : Link). x.id) (get_or-set_other w.links at i t.link (fresh_link 0 [])
+                (λ q. let z : (at == i) ≡ true = eq-eqb at i (sym q) in cc))
+                ∙ f.ids i (omega (arith, lt, size))
+          ] refl;
+    }
+
+-- the code's links are those of the world's sessions
+pub over_gives : {A : Type 0} → (at : ℕ) (move : Session
+    → Outcome Session) (server new : ServerState) (links : List Link) (link link' : Link)
+    (lines : List Line) (r : Result A WorldFault) (lines' : List Line)
+    → at < length links → link ≡ slice_index_or links at link
+    → Gives (move (session server link)) lines r (session new link') lines'
+    → new.book.limits ≡ server.book.limits → new.clock ≡ server.clock
+    → Gives (over at move (world server links)) lines r (world new (slice_set links at link'))
+    lines'
+unfolding over
+over_gives at move server new links link link' lines r lines' below is g limits clock =
+    let w = world server links in
+    let there : link ≡ at_place links at = get_or_read links at link below is (fresh_link 0 []) in
+    let same : session server link ≡ session_at at w = ap (session server) there in
+    let state : with_session at w (session new link') ≡ world new (slice_set links at link') =
+    ap (λ l. record {
+      limits = l;
+      now = server.clock;
+      past = new.book.past;
+      links = slice_set links
+          at link';
+    }) (sym limits)
+    ∙ ap (λ n. record {
+      limits = new.book.limits;
+      now = n;
+      past = new.book.past;
+      links = slice_set
+          links at link';
+    }) (sym clock) in
+    subst (λ x. Gives (over at move w) lines r x lines') state
+    (gives_within (with_session at w) (move (session_at at w)) lines r (session new link') lines'
+    (subst (λ x. Gives (move x) lines r (session new link') lines') same g))
+
+-- ---- an event of one link
+
+module _ (name : List ℕ) (event : LinkEvent) (names : link_named event
+    ≡ Some name) (server : ServerState) (links : List Link) where
+  pub no_such_link : (lines : List Line) → place_of name (world server links) ≡ None
+      → Stops (step (world server links) event) lines NoName (world server links) lines
+  no_such_link lines none =
+      let w = world server links in
+      subst (λ m. Stops m lines NoName w lines)
+      (sym (step_is w name event names ∙ ap (λ p. over_named p (move_of event) w) none)) (
+        refl,
+        refl,
+        sym (append-nil lines),
+      )
+
+  module _ (at : ℕ) (place : place_of name (world server links)
+      ≡ Some at) (below : at < length links) (new : ServerState) (link link' : Link) (is : link
+      ≡ slice_index_or links at link)
+      (lines : List Line) (r : Result (Unit {0}) WorldFault) (lines' : List Line)
+      (g : Gives (move_of event (session server link)) lines r (session new link') lines') where
+    changed : (printed : List Line) × Carries (session server link) (session new link') printed
+    changed = let h =
+        gives_reached (move_of event (session server link)) lines r (session new link') lines' g in
+        (h.0, (every_move event (session server link)).carries.all (session new link') h.0 h.1)
+
+    pub step_gives : StepGives (world server links) event lines r
+        (world new (slice_set links at link')) lines'
+    step_gives =
+        let w = world server links in
+        subst (λ m. Gives m lines r (world new (slice_set links at link')) lines')
+        (sym (step_is w name event names ∙ ap (λ p. over_named p (move_of event) w) place))
+        (over_gives at (move_of event) server new links link link' lines r lines' below is g
+        changed.1.limits changed.1.now)
+
+    pub step_fits : Fits server.book.past links → Fits new.book.past (slice_set links at link')
+    step_fits f =
+        let w = world server links in
+        let same : session server link ≡ session_at at w =
+        ap (session server) (get_or_read links at link below is (fresh_link 0 [])) in
+        move_fits w at below (move_of event (session_at at w)) (every_move event (session_at at w))
+        lines r (session new link') lines'
+        (subst (λ x. Gives (move_of event x) lines r (session new link') lines') same g) f
+
+-- ---- a link is made
+
+module _ (server : ServerState) (links : List Link) (name : List ℕ) (lines : List Line) where
+  pub raw_taken : (at : ℕ) → place_of name (world server links) ≡ Some at
+      → Stops (step (world server links) (Raw name)) lines NameTaken (world server links) lines
+  unfolding step
+  raw_taken at place =
+      subst (λ p. Stops (raw_step (world server links) name p) lines NameTaken (world server links)
+      lines) (sym place) (refl, refl, sym (append-nil lines))
+
+  module _ (free : place_of name (world server links) ≡ None) where
+    pub raw_before : Stops (step (world server links) (Raw name)) lines NoMemory
+        (world server links) lines
+    unfolding step
+    raw_before = subst (λ p. Stops (raw_step (world server links) name p) lines NoMemory
+        (world server links) lines) (sym free)
+        (stops_here (raw_step (world server links) name None) (world server links) lines refl)
+
+    module _ (new : ServerState) (x : Line) (lines' : List Line) (limits : new.book.limits
+        ≡ server.book.limits) (clock : new.clock ≡ server.clock) where
+      same_world : (ls : List Link) → world new ls
+          ≡ record {
+            limits = server.book.limits;
+            now = server.clock;
+            past = new.book.past;
+            links =
+                ls;
+          }
+      same_world ls =
+          ap (λ l. record { limits = l; now = new.clock; past = new.book.past; links = ls }) limits
+          ∙ ap (λ n. record {
+            limits = server.book.limits;
+            now = n;
+            past = new.book.past;
+            links = ls;
+          }) clock
+
+      raw_fault : (fault : WorldFault)
+          → TurnGives server.book.limits server.book.past call.Admit x lines (Err fault)
+          new.book.past lines' → new.book.past ≡ server.book.past
+          → Stops (raw_step (world server links) name None) lines fault (world server links) lines'
+      raw_fault NoMemory g same = ([], inl (refl, refl), g.1 ∙ sym (append-nil lines))
+      raw_fault (HistoryFull n) g same =
+          subst (λ (t : Turn). Stops (admitting_link (world server links) name t) lines
+          (HistoryFull n) (world server links) lines') (sym g.0)
+          (refl, refl, g.1 ∙ sym (append-nil lines))
+      raw_fault NoName g same = absurd g
+      raw_fault NameTaken g same = absurd g
+      raw_fault NothingThere g same = absurd g
+      raw_fault (faults.Refused n) g same = absurd g
+
+      past_same : (fault : WorldFault)
+          → TurnGives server.book.limits server.book.past call.Admit x lines (Err fault)
+          new.book.past lines' → new.book.past ≡ server.book.past
+      past_same NoMemory g = g.0
+      past_same (HistoryFull n) g =
+          admit_refused server.book.limits server.book.past new.book.past n g.0
+      past_same NoName g = absurd g
+      past_same NameTaken g = absurd g
+      past_same NothingThere g = absurd g
+      past_same (faults.Refused n) g = absurd g
+
+      pub raw_stops : (fault : WorldFault)
+          → TurnGives server.book.limits server.book.past call.Admit x lines (Err fault)
+          new.book.past lines'
+          → Stops (step (world server links) (Raw name)) lines fault (world new links) lines'
+      unfolding step
+      raw_stops fault g =
+          let same = past_same fault g in
+          subst (λ v. Stops (raw_step (world server links) name
+          (place_of name (world server links))) lines fault v lines')
+          (sym (same_world links
+          ∙ ap (λ p. record {
+            limits = server.book.limits;
+            now = server.clock;
+            past = p;
+            links =
+                links;
+          }) same))
+          (subst (λ p. Stops (raw_step (world server links) name p) lines fault (world server links)
+          lines') (sym free) (raw_fault fault g same))
+
+      pub raw_fits_still : (fault : WorldFault)
+          → TurnGives server.book.limits server.book.past call.Admit x lines (Err fault)
+          new.book.past lines' → Fits server.book.past links → Fits new.book.past links
+      raw_fits_still fault g f = subst (λ p. Fits p links) (sym (past_same fault g)) f
+
+      module _ (reply : BookReply) (g : TurnGives server.book.limits server.book.past call.Admit x
+          lines (Ok reply) new.book.past lines') (id : ℕ) (fits : Fits server.book.past links)
+          (is : id ≡ length links + 1)
+          (line_is : x ≡ line.Admit (length server.book.past + 1) name id) where
+        admitted_step : book_step server.book.limits server.book.past call.Admit
+            ≡ admitting server.book.past
+        admitted_step =
+            elim (is_full server.book.limits server.book.past) as (λ b. is_full server.book.limits
+            server.book.past ≡ b → book_step server.book.limits server.book.past call.Admit
+            ≡ admitting server.book.past) [
+              | true ↦ λ none. absurd (let no : Some (HistoryFull (length server.book.past))
+                  ≡ None = ap (λ (t : Turn). reply_fault t.reply)
+                  (sym (admit_full server.book.limits server.book.past none) ∙ g.0) ∙ g.1 in cc)
+              | false ↦ λ room. admit_step server.book.limits server.book.past room
+            ] refl
+
+        id_is : id ≡ admitted server.book.past + 1
+        id_is = is ∙ ap (λ n. n + 1) fits.count
+
+        past_is : new.book.past ≡ entry.Admit (admitted server.book.past + 1) ∷ server.book.past
+        past_is = ap (λ (t : Turn). t.past) (sym g.0 ∙ admitted_step)
+
+        pub raw_gives : Ends (step (world server links) (Raw name)) lines
+            (world new (links ++ fresh_link id name ∷ [])) lines'
+        unfolding step
+        raw_gives =
+            let w = world server links in
+            let n = admitted server.book.past + 1 in
+            subst (λ v. Ends (raw_step w name (place_of name w)) lines v lines')
+            (sym (same_world (links ++ fresh_link id name ∷ [])
+            ∙ ap (λ p. record {
+              limits = server.book.limits;
+              now = server.clock;
+              past = p;
+              links =
+                  links ++ fresh_link id name ∷ [];
+            }) past_is
+            ∙ ap (λ i. record {
+              limits = server.book.limits;
+              now = server.clock;
+              past = entry.Admit
+                  n ∷ server.book.past;
+              links = links ++ fresh_link i name ∷ [];
+            }) id_is))
+            (subst (λ p. Ends (raw_step w name p) lines
+            (record {
+              limits = server.book.limits;
+              now = server.clock;
+              past = entry.Admit
+                  n ∷ server.book.past;
+              links = links ++ fresh_link n name ∷ [];
+            }) lines') (sym free)
+            (subst (λ (t : Turn). Ends (admitting_link w name t) lines
+            (record {
+              limits = server.book.limits;
+              now = server.clock;
+              past = entry.Admit
+                  n ∷ server.book.past;
+              links = links ++ fresh_link n name ∷ [];
+            }) lines')
+            (sym admitted_step) (
+              refl,
+              refl,
+              g.2 ∙ ap (λ z. lines ++ z ∷ []) (line_is
+                  ∙ ap (λ i. line.Admit (length server.book.past + 1) name i) id_is),
+            )))
+
+        pub raw_fits : Fits new.book.past (links ++ fresh_link id name ∷ [])
+        raw_fits =
+            let size = length-append links (fresh_link id name ∷ []) in
+            record {
+              count = size ∙ ap (λ n. n + 1) fits.count ∙ sym (ap admitted past_is);
+              ids = λ i lt. elim (cases_lt i (length links)) [
+                | inl old ↦ ap (λ (y : Link). y.id)
+                    (get_or_append_left links (fresh_link id name ∷ []) (fresh_link 0 []) i old)
+                    ∙ fits.ids i old
+                | inr over ↦ let last : i ≡ length links = omega (arith, over, lt, size) in
+                    ap (λ (y : Link). y.id) (get_or_push links (fresh_link id name)
+                    (fresh_link 0 []) i (sym last)) ∙ is ∙ ap (λ n. n + 1) (sym last)
+              ];
+            }

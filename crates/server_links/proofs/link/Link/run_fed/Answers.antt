@@ -1,0 +1,25 @@
+use Rattle.std.proofs.Common.{subst}
+use Rattle.std.proofs.lemmas.Result.{err_from_is_err_and}
+use Rattle.server_links.specs.Moves.{run_fed, run_requests, stop}
+use Rattle.server_links.specs.Outcome.{Gives}
+use Rattle.server_links.specs.Session.{session}
+use Rattle.server_links.proofs.Outcomes.{stops_first, gives_then}
+use Rattle.server_links.proofs.link.Link.run_fed.Goals as goal
+
+pub returns-in_err-fault : goal.returns-in_err-fault
+unfolding run_fed
+returns-in_err-fault c =
+    let p = err_from_is_err_and c.from_residual.result c.from_residual.ensures.1 in
+    rw p.1 (rw p.2 (stops_first (run_requests (session c.args.server.now c.args.self.now)) _
+    c.args.lines.now _ _ _ c.in_err-fault.ensures.gives))
+
+pub returns : goal.returns
+unfolding run_fed
+returns c =
+    let s = session c.args.server.now c.args.self.now in
+    let s1 = session c.run_requests.new.server c.run_requests.new.self in
+    gives_then (run_requests s) _ c.args.lines.now c.in_ok-fault.fault s1 c.run_requests.new.lines
+    c.stop.result _ c.stop.new.lines c.in_ok-fault.ensures.gives
+    (subst (λ p. Gives (stop p c.args.eof s1) c.run_requests.new.lines c.stop.result
+    (session c.stop.new.server c.run_requests.new.self) c.stop.new.lines)
+    c.in_ok-fault.ensures.fault c.stop.ensures)

@@ -1,0 +1,155 @@
+use Rattle.std.proofs.Common.{◌≡◌, ◌+◌, ◌++◌, ◌∷◌, [], arith, Some, None, Option, Bool, List, ℕ}
+use Rattle.std.proofs.Common.{true, false, refl, sym, ap, subst, ◌∙◌}
+use Rattle.std.specs.Option.{is_some}
+use Rattle.std.proofs.lemmas.Result.{err_from_is_err_and}
+use Rattle.server_links.specs.LinkEvent.{Raw}
+use Rattle.script_text.specs.declared.line.Line.TheVariants as line
+use Rattle.server_links.specs.declared.fault.WorldFault.TheVariants.{NameTaken, NoMemory}
+use Rattle.server_links.specs.Outcome.{Stops}
+use Rattle.server_links.specs.Session.{world}
+use Rattle.server_links.specs.LinkSteps.{place_of, step}
+use Rattle.server_links.specs.LinksState.{LinksState, Fits, fresh_link}
+use Rattle.server_links.proofs.Outcomes.{Ends}
+use Rattle.server_links.proofs.Stepping.{raw_taken, raw_before, raw_stops, raw_fits_still}
+use Rattle.server_links.proofs.Stepping.{raw_gives}
+use Rattle.server_links.proofs.Stepping.{raw_fits}
+use Rattle.server_links.proofs.server_links.ServerLinks.raw.Goals as goal
+
+some : {A : Type 0} → (o : Option A) → is_some o ≡ true → (a : A) × (o ≡ Some a)
+some None e = absurd (let no : ⊥ = cc in no)
+some (Some a) e = (a, refl)
+
+none : {A : Type 0} → (o : Option A) → is_some o ≡ false → o ≡ None
+none None e = refl
+none (Some a) e = absurd (let no : ⊥ = cc in no)
+
+free : (v w : LinksState) (name : List ℕ) (o : Option ℕ) (b : Bool) → v ≡ w → o ≡ place_of name w
+    → b ≡ is_some o → b ≡ false → place_of name v ≡ None
+free v w name o b view place is off =
+    none (place_of name v) (ap (λ x. is_some (place_of name x)) view ∙ ap is_some (sym place)
+    ∙ sym is ∙ off)
+
+pub returns-then-is_some : goal.returns-then-is_some
+returns-then-is_some c =
+    let i = c.self.inside in
+    let is = some (place_of c.args.name.now (world i.server i.links.items))
+    (ap (λ (w : LinksState). is_some (place_of c.args.name.now w)) c.self.view_is
+    ∙ ap is_some (sym c.place.ensures) ∙ sym c.is_some.ensures ∙ c.if-is_some.true) in
+    subst (λ (w : LinksState). Stops (step w (Raw c.args.name.now)) c.args.lines.now NameTaken w
+    c.args.lines.now) c.self.view_is
+    (raw_taken i.server i.links.items c.args.name.now c.args.lines.now is.0 is.1)
+
+pub returns-in_err-next_entry : goal.returns-in_err-next_entry
+returns-in_err-next_entry c =
+    let i = c.self.inside in
+    let free = free (world i.server i.links.items) c.args.self.now c.args.name.now c.place.result
+    c.is_some.result c.self.view_is c.place.ensures c.is_some.ensures c.if-is_some.false in
+    let p = err_from_is_err_and c.from_residual.result c.from_residual.ensures.1 in
+    rw p.1 (rw p.2
+    (subst (λ (w : LinksState). Stops (step w (Raw c.args.name.now)) c.args.lines.now NoMemory w
+    c.args.lines.now) c.self.view_is (raw_before i.server i.links.items c.args.name.now
+    c.args.lines.now free)))
+
+pub returns-in_err-copy : goal.returns-in_err-copy
+returns-in_err-copy c =
+    let i = c.self.inside in
+    let free = free (world i.server i.links.items) c.args.self.now c.args.name.now c.place.result
+    c.is_some.result c.self.view_is c.place.ensures c.is_some.ensures c.if-is_some.false in
+    let p = err_from_is_err_and c.from_residual-in_err-copy.result
+    c.from_residual-in_err-copy.ensures.1 in
+    rw p.1 (rw p.2
+    (subst (λ (w : LinksState). Stops (step w (Raw c.args.name.now)) c.args.lines.now NoMemory w
+    c.args.lines.now) c.self.view_is (raw_before i.server i.links.items c.args.name.now
+    c.args.lines.now free)))
+
+pub returns-in_err-copy-2 : goal.returns-in_err-copy-2
+returns-in_err-copy-2 c =
+    let i = c.self.inside in
+    let free = free (world i.server i.links.items) c.args.self.now c.args.name.now c.place.result
+    c.is_some.result c.self.view_is c.place.ensures c.is_some.ensures c.if-is_some.false in
+    let p = err_from_is_err_and c.from_residual-in_err-copy-2.result
+    c.from_residual-in_err-copy-2.ensures.1 in
+    rw p.1 (rw p.2
+    (subst (λ (w : LinksState). Stops (step w (Raw c.args.name.now)) c.args.lines.now NoMemory w
+    c.args.lines.now) c.self.view_is (raw_before i.server i.links.items c.args.name.now
+    c.args.lines.now free)))
+
+pub returns-in_err-reserve : goal.returns-in_err-reserve
+returns-in_err-reserve c =
+    let i = c.self.inside in
+    let free = free (world i.server i.links.items) c.args.self.now c.args.name.now c.place.result
+    c.is_some.result c.self.view_is c.place.ensures c.is_some.ensures c.if-is_some.false in
+    let p = err_from_is_err_and c.from_residual-in_err-reserve.result
+    c.from_residual-in_err-reserve.ensures.1 in
+    rw p.1 (rw p.2
+    (subst (λ (w : LinksState). Stops (step w (Raw c.args.name.now)) c.args.lines.now NoMemory
+    (world i.server c.reserve.new.self.items) c.args.lines.now) c.self.view_is
+    (subst (λ l. Stops (step (world i.server i.links.items) (Raw c.args.name.now)) c.args.lines.now
+    NoMemory (world i.server l) c.args.lines.now) (sym c.reserve.ensures.items)
+    (raw_before i.server i.links.items c.args.name.now c.args.lines.now free))))
+
+pub invariant_of-self-in_err-turn : goal.invariant_of-self-in_err-turn
+invariant_of-self-in_err-turn c =
+    let i = c.self.inside in
+    subst (λ l. Fits c.turn.new.self.book.past l) (sym c.reserve.ensures.items)
+    (raw_fits_still i.server i.links.items c.args.name.now c.args.lines.now
+    (free (world i.server i.links.items) c.args.self.now c.args.name.now c.place.result
+    c.is_some.result c.self.view_is c.place.ensures c.is_some.ensures c.if-is_some.false)
+    c.turn.new.self (line.Admit c.in_ok-next_entry.field-0 c.in_ok-copy.field-0
+    (c.len.result + 1)) c.turn.new.lines c.turn.ensures.limits c.turn.ensures.clock
+    c.in_err-turn.field-0.0 c.in_err-turn.ensures.gives c.self.invariant)
+
+pub returns-in_err-turn : goal.returns-in_err-turn
+returns-in_err-turn c =
+    let i = c.self.inside in
+    let fault = c.in_err-turn.field-0.0 in
+    let p = err_from_is_err_and c.from_residual-in_err-turn.result
+    c.from_residual-in_err-turn.ensures.1 in
+    rw p.1 (rw p.2
+    (subst (λ (w : LinksState). Stops (step w (Raw c.args.name.now)) c.args.lines.now fault
+    (world c.turn.new.self c.reserve.new.self.items) c.turn.new.lines) c.self.view_is
+    (subst (λ l. Stops (step (world i.server i.links.items) (Raw c.args.name.now)) c.args.lines.now
+    fault (world c.turn.new.self l) c.turn.new.lines) (sym c.reserve.ensures.items)
+    (raw_stops i.server i.links.items c.args.name.now c.args.lines.now
+    (free (world i.server i.links.items) c.args.self.now c.args.name.now c.place.result
+    c.is_some.result c.self.view_is c.place.ensures c.is_some.ensures c.if-is_some.false)
+    c.turn.new.self (line.Admit c.in_ok-next_entry.field-0 c.in_ok-copy.field-0
+    (c.len.result + 1)) c.turn.new.lines c.turn.ensures.limits c.turn.ensures.clock fault
+    c.in_err-turn.ensures.gives))))
+
+pub invariant_of-self-2 : goal.invariant_of-self-2
+invariant_of-self-2 c =
+    let i = c.self.inside in
+    let more : c.push_reserved.new.self.items ≡ i.links.items
+    ++ fresh_link (c.len.result + 1) c.args.name.now ∷ [] =
+    c.push_reserved.ensures.items ∙ ap (λ l. l ++ c.new-link.result ∷ []) c.reserve.ensures.items
+    ∙ ap (λ x. i.links.items ++ x ∷ []) (c.new-link.ensures
+    ∙ ap (fresh_link (c.len.result + 1)) c.in_ok-copy-2.ensures) in
+    subst (λ l. Fits c.turn.new.self.book.past l) (sym more)
+    (raw_fits i.server i.links.items c.args.name.now c.args.lines.now
+    (free (world i.server i.links.items) c.args.self.now c.args.name.now c.place.result
+    c.is_some.result c.self.view_is c.place.ensures c.is_some.ensures c.if-is_some.false)
+    c.turn.new.self (line.Admit c.in_ok-next_entry.field-0 c.in_ok-copy.field-0
+    (c.len.result + 1)) c.turn.new.lines c.turn.ensures.limits c.turn.ensures.clock
+    c.in_ok-turn.field-0 c.in_ok-turn.ensures.gives (c.len.result + 1) c.self.invariant
+    (omega (arith, c.len.ensures)) (cc (c.in_ok-next_entry.ensures, c.in_ok-copy.ensures)))
+
+pub returns : goal.returns
+returns c =
+    let i = c.self.inside in
+    let more : c.push_reserved.new.self.items ≡ i.links.items
+    ++ fresh_link (c.len.result + 1) c.args.name.now ∷ [] =
+    c.push_reserved.ensures.items ∙ ap (λ l. l ++ c.new-link.result ∷ []) c.reserve.ensures.items
+    ∙ ap (λ x. i.links.items ++ x ∷ []) (c.new-link.ensures
+    ∙ ap (fresh_link (c.len.result + 1)) c.in_ok-copy-2.ensures) in
+    subst (λ (w : LinksState). Ends (step w (Raw c.args.name.now)) c.args.lines.now
+    (world c.turn.new.self c.push_reserved.new.self.items) c.turn.new.lines) c.self.view_is
+    (subst (λ l. Ends (step (world i.server i.links.items) (Raw c.args.name.now)) c.args.lines.now
+    (world c.turn.new.self l) c.turn.new.lines) (sym more)
+    (raw_gives i.server i.links.items c.args.name.now c.args.lines.now
+    (free (world i.server i.links.items) c.args.self.now c.args.name.now c.place.result
+    c.is_some.result c.self.view_is c.place.ensures c.is_some.ensures c.if-is_some.false)
+    c.turn.new.self (line.Admit c.in_ok-next_entry.field-0 c.in_ok-copy.field-0
+    (c.len.result + 1)) c.turn.new.lines c.turn.ensures.limits c.turn.ensures.clock
+    c.in_ok-turn.field-0 c.in_ok-turn.ensures.gives (c.len.result + 1) c.self.invariant
+    (omega (arith, c.len.ensures)) (cc (c.in_ok-next_entry.ensures, c.in_ok-copy.ensures))))

@@ -1,0 +1,78 @@
+-- The lines of turns, and those of a whole history.
+use Rattle.std.specs.Prelude.{◌+◌, ◌-◌, ℕ, List, [], ◌∷◌, ◌++◌, Bool, true, false, length}
+use Rattle.std.specs.Prelude.{slice_index_or}
+use Rattle.std.specs.declared.option.Option.{Option}
+use Rattle.std.specs.declared.option.Option.TheVariants.{None, Some}
+use Rattle.serial_model.specs.declared.history.Limits.{Limits}
+use Rattle.serial_model.specs.declared.history.Entry.{Entry}
+use Rattle.serial_model.specs.declared.history.Entry.TheVariants as entry
+use Rattle.serial_model.specs.declared.history.BookReply.{BookReply}
+use Rattle.serial_model.specs.declared.history.BookReply.TheVariants.{Admitted, Ran, Quiet, Bytes}
+use Rattle.serial_model.specs.declared.history.BookReply.TheVariants.{Closed, Refused}
+use Rattle.serial_model.specs.declared.history.BookRefusal.TheVariants as refusal
+use Rattle.serial_model.specs.History.{taken}
+use Rattle.script_text.specs.declared.line.Line.{Line}
+use Rattle.script_text.specs.declared.line.Line.TheVariants.{Admit, Run, Bad, Close, Take, Read}
+use Rattle.script_text.specs.declared.line.Line.TheVariants.{End}
+use Rattle.script_text.specs.declared.line.Line.TheVariants as line
+use Rattle.server_links.specs.declared.fault.WorldFault.{WorldFault}
+use Rattle.server_links.specs.declared.fault.WorldFault.TheVariants.{HistoryFull}
+
+-- what a turn prints, of the link of this name
+abbrev pub reply_lines : List ℕ → List (List ℕ) → BookReply → List Line
+reply_lines link words (Admitted e id) = Admit e link id ∷ []
+reply_lines link words (Ran e) = Run e link words ∷ []
+reply_lines link words Quiet = []
+reply_lines link words (Bytes e bytes) = Take e link (length bytes) ∷ []
+reply_lines link words (Closed e) = Close e link ∷ []
+reply_lines link words (Refused r) = []
+
+-- a full history is the one refusal that stops an event
+abbrev pub reply_fault : BookReply → Option WorldFault
+reply_fault (Admitted e id) = None
+reply_fault (Ran e) = None
+reply_fault Quiet = None
+reply_fault (Bytes e bytes) = None
+reply_fault (Closed e) = None
+reply_fault (Refused (refusal.Gone id)) = None
+reply_fault (Refused (refusal.HistoryFull entries)) = Some (HistoryFull entries)
+reply_fault (Refused refusal.NoMemory) = None
+
+-- a line that begins with `#`
+abbrev pub is_entry_line : Line → Bool
+is_entry_line (Admit e link id) = true
+is_entry_line (Run e link words) = true
+is_entry_line (Bad link fault offset) = false
+is_entry_line (Close e link) = true
+is_entry_line (Take e link count) = true
+is_entry_line (Read link bytes) = false
+is_entry_line (line.Fault link number) = false
+is_entry_line (End link) = false
+is_entry_line (line.Hit client value entry point) = false
+is_entry_line (line.Miss client number) = false
+is_entry_line (line.Sent client number) = false
+is_entry_line (line.Answer client number value) = false
+is_entry_line (line.Wait client number) = false
+is_entry_line (line.Down client) = false
+is_entry_line (line.NotReady client) = false
+is_entry_line (line.Holds client query value entry) = false
+is_entry_line (line.Complete client entry) = false
+
+-- the name of a connection's link, where the connection of the id n has the n-th name
+abbrev pub name_of : List (List ℕ) → ℕ → List ℕ
+name_of names id = slice_index_or names (id - 1) []
+
+-- The lines of a history, from it and the names of the links alone: one for each entry, in order,
+-- with its number and what it did. A Take's line has the count of the bytes that it took.
+abbrev pub entry_lines : Limits → List (List ℕ) → List Entry → List Line
+entry_lines l names [] = []
+entry_lines l names (entry.Admit id ∷ past) =
+    entry_lines l names past ++ Admit (length past + 1) (name_of names id) id ∷ []
+entry_lines l names (entry.Run id words moment ∷ past) =
+    entry_lines l names past ++ Run (length past + 1) (name_of names id) words ∷ []
+entry_lines l names (entry.Take id max ∷ past) =
+    entry_lines l names past
+    ++ Take (length past + 1) (name_of names id)
+    (taken l id (entry.Take id max ∷ past) - taken l id past) ∷ []
+entry_lines l names (entry.Close id ∷ past) =
+    entry_lines l names past ++ Close (length past + 1) (name_of names id) ∷ []

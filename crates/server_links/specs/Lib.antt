@@ -1,0 +1,14 @@
+pub mod Faults
+pub mod Directions
+pub mod LinkEvent
+pub mod Notes
+pub mod ServerState
+pub mod LinksState
+pub mod Session
+pub mod Outcome
+pub mod EntryLines
+pub mod Turns
+pub mod Moves
+pub mod LinkSteps
+pub mod Transcript
+pub mod OneHistory

@@ -1,0 +1,80 @@
+-- What an event does to a world, and what it prints.
+use Rattle.std.specs.Prelude.{ℕ, List, [], ◌∷◌, ◌++◌, position, length, Result}
+use Prim.Native.Nat.{zero, suc}
+use Rattle.std.specs.declared.option.Option.{Option}
+use Rattle.std.specs.declared.option.Option.TheVariants.{None, Some}
+use Rattle.std.specs.Str.{bytes_eq}
+use Rattle.serial_model.specs.declared.history.Entry.{Entry}
+use Rattle.serial_model.specs.declared.history.BookCall.TheVariants as call
+use Rattle.serial_model.specs.declared.history.BookReply.{BookReply}
+use Rattle.serial_model.specs.declared.history.BookReply.TheVariants.{Admitted, Bytes}
+use Rattle.serial_model.specs.Steps.{Turn, book_step}
+use Rattle.server_links.specs.LinkEvent.{LinkEvent, Raw, Put, Over}
+use Rattle.server_links.specs.declared.link.LinkMove.{LinkMove}
+use Rattle.server_links.specs.declared.link.LinkMove.TheVariants as moves
+use Rattle.script_text.specs.declared.line.Line.{Line}
+use Rattle.server_links.specs.declared.fault.WorldFault.{WorldFault}
+use Rattle.server_links.specs.declared.fault.WorldFault.TheVariants.{NoName, NameTaken}
+use Rattle.server_links.specs.declared.link.Link.{Link}
+use Rattle.server_links.specs.LinksState.{LinksState, fresh_link}
+use Rattle.server_links.specs.EntryLines.{reply_fault, reply_lines}
+use Rattle.server_links.specs.Moves.{flow, move_of}
+use Rattle.server_links.specs.Outcome.{Outcome, Gives, and_then, refuses, stays, within}
+use Rattle.server_links.specs.Session.{Session, session_at, with_session}
+
+abbrev pub Stepped : Type 0
+Stepped = Outcome LinksState
+
+-- the place of a link by its name
+abbrev pub place_of : List ℕ → LinksState → Option ℕ
+place_of name w = position (λ (l : Link). bytes_eq l.name name) w.links
+
+-- a move over the link at this place
+unfoldable pub over : ℕ → (Session → Outcome Session) → LinksState → Stepped
+over at move w = within (with_session at w) (move (session_at at w))
+
+abbrev pub over_named : Option ℕ → (Session → Outcome Session) → LinksState → Stepped
+over_named None move w = refuses w NoName
+over_named (Some at) move w = over at move w
+
+-- a connection that was admitted has a link of its own, with nothing in flight
+abbrev pub with_admitted : LinksState → List ℕ → BookReply → List Entry → LinksState
+with_admitted w name (Admitted e id) past =
+    record {
+      limits = w.limits;
+      now = w.now;
+      past = past;
+      links = w.links
+          ++ fresh_link id name ∷ [];
+    }
+with_admitted w name reply past = w
+
+abbrev pub admitting : LinksState → List ℕ → Turn → Stepped
+admitting w name t = record {
+  state = with_admitted w name t.reply t.past;
+  lines = reply_lines name [] t.reply;
+  fault = reply_fault t.reply;
+  points = (w, []) ∷ [];
+}
+
+abbrev pub raw_step : LinksState → List ℕ → Option ℕ → Stepped
+raw_step w name (Some at) = refuses w NameTaken
+raw_step w name None = admitting w name (book_step w.limits w.past call.Admit)
+
+-- the link that an event names, where it is an event of one link that there is
+abbrev pub link_named : LinkEvent → Option (List ℕ)
+link_named (Raw name) = None
+link_named (Put name bytes) = Some name
+link_named (Over name move) = Some name
+
+unfoldable pub step : LinksState → LinkEvent → Stepped
+step w (Raw name) = raw_step w name (place_of name w)
+step w (Put name bytes) = over_named (place_of name w) (move_of (Put name bytes)) w
+step w (Over name move) = over_named (place_of name w) (move_of (Over name move)) w
+
+-- What was done is the step, and its lines were appended. Where memory ran out, the world and the
+-- lines are those of a point on the way: a move over a link leaves all other links as they were,
+-- and of its own link what was done before stands, whole.
+abbrev pub StepGives : LinksState → LinkEvent → List Line → Result (Unit {0}) WorldFault
+    → LinksState → List Line → Type 0
+StepGives w event lines result new lines' = Gives (step w event) lines result new lines'

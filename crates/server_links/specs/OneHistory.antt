@@ -1,0 +1,189 @@
+-- What the headline says of a schedule over bytes: one serial history, with each request once, and
+-- replies that are its replies. Every byte is read, in flight or lost, and it is lost only by a
+-- cut.
+use Rattle.std.specs.Prelude.{◌≡◌, ◌+◌, ◌<◌, ◌≤◌, ℕ, List, [], ◌∷◌, ◌++◌, Bool, true, false}
+use Rattle.std.specs.Prelude.{if◌then◌else◌, filter, length, map, take}
+use Rattle.std.specs.declared.option.Option.TheVariants.{None, Some}
+use Rattle.std.specs.List.{flat_map}
+use Rattle.std.specs.Str.{bytes_eq}
+use Rattle.resp_value.specs.Lists.{IsPrefix}
+use Rattle.resp_stream.specs.Parse.{requests_of}
+use Rattle.serial_model.specs.declared.history.Limits.{Limits}
+use Rattle.serial_model.specs.declared.history.Entry.{Entry}
+use Rattle.serial_model.specs.History.{admitted, reads_on, runs_of, stream, taken, unsent, IsLegal}
+use Rattle.server_links.specs.LinkEvent.{LinkEvent, Raw, Put, Over}
+use Rattle.server_links.specs.declared.link.LinkMove.{LinkMove}
+use Rattle.server_links.specs.declared.link.LinkMove.TheVariants as moves
+use Rattle.script_text.specs.declared.line.Line.{Line}
+use Rattle.script_text.specs.declared.line.Line.TheVariants as line
+use Rattle.server_links.specs.declared.fault.WorldFault.{WorldFault}
+use Rattle.server_links.specs.declared.link.Link.{Link}
+use Rattle.server_links.specs.Faults.{IsRefusal}
+use Rattle.server_links.specs.Directions.{is_open}
+use Rattle.server_links.specs.EntryLines.{entry_lines, is_entry_line}
+use Rattle.server_links.specs.Moves.{all_bytes, flow}
+use Rattle.server_links.specs.Outcome.{Reached}
+use Rattle.server_links.specs.Transcript.{after, heard, transcript}
+use Rattle.server_links.specs.LinkSteps.{link_named, over, place_of, step}
+use Rattle.server_links.specs.LinksState.{LinksState, at_place, start}
+
+-- ---- what schedules and lines say
+
+abbrev pub said_by : List ℕ → LinkEvent → List ℕ
+said_by link (Raw name) = []
+said_by link (Put name bytes) = if bytes_eq name link then bytes else []
+said_by link (Over name move) = []
+
+-- the bytes that the client of a link put on it, in order
+abbrev pub said_to : List ℕ → List LinkEvent → List ℕ
+said_to link events = flat_map (said_by link) events
+
+abbrev pub read_by : List ℕ → Line → List ℕ
+read_by link (line.Admit e name id) = []
+read_by link (line.Run e name words) = []
+read_by link (line.Bad name number offset) = []
+read_by link (line.Close e name) = []
+read_by link (line.Take e name count) = []
+read_by link (line.Read name bytes) = if bytes_eq name link then bytes else []
+read_by link (line.Fault name number) = []
+read_by link (line.End name) = []
+read_by link (line.Hit client value entry point) = []
+read_by link (line.Miss client number) = []
+read_by link (line.Sent client number) = []
+read_by link (line.Answer client number value) = []
+read_by link (line.Wait client number) = []
+read_by link (line.Down client) = []
+read_by link (line.NotReady client) = []
+read_by link (line.Holds client query value entry) = []
+read_by link (line.Complete client entry) = []
+
+-- the bytes that were read on a link, in order
+abbrev pub read_on : List ℕ → List Line → List ℕ
+read_on link lines = flat_map (read_by link) lines
+
+abbrev pub names : List Link → List (List ℕ)
+names links = map (λ (l : Link). l.name) links
+
+-- ---- one link
+
+-- What was put on a link is what its server's end heard, then what is in flight, then what was
+-- lost.
+pub record Delivers (heard said : List ℕ) (link : Link) : Type 0 where
+  pub lost : List ℕ
+  pub all_said : (heard ++ link.up.bytes) ++ lost ≡ said
+
+-- What was taken of the stream of a connection is what its client read, then what is in flight,
+-- then
+-- what was lost.
+pub record Returns (l : Limits) (read : List ℕ) (past : List Entry) (link : Link) : Type 0 where
+  pub lost : List ℕ
+  pub all_taken : (read ++ link.down.bytes) ++ lost
+      ≡ take (taken l link.id past) (stream l link.id past)
+
+-- Whether a connection ended before all that was heard of it ran: by QUIT, by an output that grew
+-- past
+-- its limit, or by SHUTDOWN. None of these is served yet.
+abbrev pub ended_early : Limits → ℕ → List Entry → Bool
+ended_early l c past = false
+
+pub record Serves (l : Limits) (heard said read : List ℕ) (past : List Entry) (link : Link) : Type 0
+  where
+    pub up : Delivers heard said link
+    pub up_lost : is_open link.up.eof ≡ true → up.lost ≡ []
+    pub down : Returns l read past link
+    pub down_lost : is_open link.down.eof ≡ true → down.lost ≡ []
+    -- the Runs are the requests in what was heard, up to a fault of the stream, each once and in
+    -- order
+    pub runs_front : IsPrefix (runs_of link.id past) (requests_of heard)
+    pub runs_all : ended_early l link.id past ≡ false → runs_of link.id past ≡ requests_of heard
+
+-- The same where the last event met a fault or was broken off: what was heard by then is some front
+-- of
+-- what was said, and bytes may be lost.
+pub record PartServes (l : Limits) (said read : List ℕ) (past : List Entry) (link : Link) : Type 0
+  where
+    pub heard : List ℕ
+    pub up : Delivers heard said link
+    pub down : Returns l read past link
+    pub runs_front : IsPrefix (runs_of link.id past) (requests_of heard)
+
+-- ---- all links
+
+-- the history is a legal one, its lines are the lines that were printed, and each connection that
+-- it
+-- admitted has one link
+pub record History (l : Limits) (lines : List Line) (w : LinksState) : Type 0 where
+  pub limits : w.limits ≡ l
+  pub legal : IsLegal w.limits w.past
+  pub links : length w.links ≡ admitted w.past
+  pub ids : (at : ℕ) → at < length w.links → (at_place w.links at).id ≡ at + 1
+  pub printed : filter is_entry_line lines ≡ entry_lines w.limits (names w.links) w.past
+
+-- after a schedule that met no fault
+pub record OneHistory (l : Limits) (events : List LinkEvent) (lines : List Line)
+    (w : LinksState) : Type 0 where
+  pub history : History l lines w
+  pub serves : (at : ℕ) → at < length w.links →
+      let link = at_place w.links at in
+      Serves w.limits (heard (start l) at events) (said_to link.name events)
+      (read_on link.name lines) w.past link
+  pub unread : (name : List ℕ) → place_of name w ≡ None → read_on name lines ≡ []
+
+-- where the last event met a fault, or was broken off
+pub record PartHistory (l : Limits) (events : List LinkEvent) (lines : List Line)
+    (w : LinksState) : Type 0 where
+  pub history : History l lines w
+  pub serves : (at : ℕ) → at < length w.links →
+      let link = at_place w.links at in
+      PartServes w.limits (said_to link.name events) (read_on link.name lines) w.past link
+  pub unread : (name : List ℕ) → place_of name w ≡ None → read_on name lines ≡ []
+
+-- ---- one more event
+
+-- the links that an event doesn't name are as they were
+abbrev pub OthersKept : LinksState → List ℕ → LinksState → Type 0
+OthersKept w name new = (at : ℕ) → (place_of name w ≡ Some at → ⊥)
+    → at_place new.links at ≡ at_place w.links at
+
+pub record Follows (l : Limits) (events : List LinkEvent) (lines : List Line) (w : LinksState)
+    (event : LinkEvent) (printed : List Line) (new : LinksState) : Type 0 where
+  pub part : PartHistory l (events ++ event ∷ []) (lines ++ printed) new
+  -- what was printed by then begins what the whole event prints
+  pub front : IsPrefix printed (step w event).lines
+  pub entries : List Entry
+  pub grows : new.past ≡ entries ++ w.past
+  pub others : (name : List ℕ) → link_named event ≡ Some name → OthersKept w name new
+
+-- A link that is not cut, and whose server reads on, flows without a fault: nothing is in flight
+-- then,
+-- and nothing is left to send, where a Take can ask for all of it.
+abbrev pub FlowDelivers : LinksState → ℕ → Type 0
+FlowDelivers w at =
+    let link = at_place w.links at in
+    let new = over at flow w in
+    let link' = at_place new.state.links at in
+    reads_on w.limits w.past link.id ≡ true → is_open link.up.eof ≡ true
+    → is_open link.down.eof ≡ true → new.fault ≡ None
+    → (link'.up.bytes ≡ []) × (link'.down.bytes ≡ [])
+    × (length (stream w.limits link.id new.state.past) ≤ all_bytes
+    → unsent w.limits link.id new.state.past ≡ [])
+
+-- So it is after any schedule that meets no fault; and one more event, done or broken off, stays
+-- within it.
+abbrev pub HasOneHistory : Type 0
+HasOneHistory = (l : Limits) (events : List LinkEvent) (w : LinksState)
+    → after (start l) events ≡ Some w →
+    OneHistory l events (transcript (start l) events) w
+    × ((event : LinkEvent) (new : LinksState) (printed : List Line)
+    → Reached (step w event) new printed
+    → Follows l events (transcript (start l) events) w event printed new)
+    × ((at : ℕ) → at < length w.links → FlowDelivers w at)
+
+-- An event that is refused, as there is no such link, or it is there already, or fewer bytes are
+-- there
+-- than it moves, leaves the world as it was and prints nothing.
+abbrev pub RefusalsChangeNothing : Type 0
+RefusalsChangeNothing =
+    (w : LinksState) (event : LinkEvent) (fault : WorldFault)
+    → (step w event).fault ≡ Some fault → IsRefusal fault
+    → ((step w event).state ≡ w) × ((step w event).lines ≡ [])

@@ -1,0 +1,211 @@
+-- A connection that holds a key no more: where its row is, and that what was new goes again.
+use Rattle.std.proofs.Common.{◌≡◌, ◌+◌, ◌<◌, ℕ, List, [], ◌∷◌, ◌++◌, true, false, cond, length}
+use Rattle.std.proofs.Common.{get_or, set, remove, refl, ap, sym, ◌∙◌, arith, eq-eqb}
+use Rattle.std.specs.Prelude.{◌==◌, ◌||◌, not, nat_lt}
+use Rattle.std.specs.List.{list_any}
+use Prim.Native.Nat.{zero, suc}
+use Rattle.std.specs.Str.{bytes_eq}
+use Rattle.std.proofs.lemmas.Slice.Eq.{bytes_eq-Decides}
+use Rattle.std.proofs.lemmas.Bool.{or_parts}
+use Rattle.std.proofs.lemmas.Bool.Decides.{nat_tests}
+use Rattle.track_table.specs.declared.table.Held.{Held}
+use Rattle.track_table.specs.Table.{with_holder, without_holder, holders_of, remembered, with_keys}
+use Rattle.track_table.specs.Table.{freed_of, is_held, released, all_released}
+use Rattle.track_table.specs.Places.{nobody, NoneBefore, key_at}
+use Rattle.track_table.specs.Order.{AscendFrom, HasNo, AreOrdered, AreHeld, IsTable}
+use Rattle.track_table.proofs.Orders.{ascend_without}
+
+-- ---- at the first row with the key
+
+module _ (id : ℕ) (key : List ℕ) where
+  abbrev left : Held → List Held → List Held
+  left r rs = cond (is_held (freed_of id r)) (freed_of id r ∷ rs) rs
+
+  pub released_kept : (rs : List Held) (n : ℕ) → n < length rs → bytes_eq key (key_at rs n) ≡ true
+      → NoneBefore key rs n → is_held (freed_of id (get_or rs n nobody)) ≡ true
+      → released id key rs ≡ set rs n (freed_of id (get_or rs n nobody))
+  released_kept [] n lt is before held = absurd (omega arith)
+  released_kept (r ∷ rs) zero lt is before held =
+      ap (λ b. cond b (left r rs) (r ∷ released id key rs)) is
+      ∙ ap (λ b. cond b (freed_of id r ∷ rs) rs) held
+  released_kept (r ∷ rs) (suc n) lt is before held =
+      ap (λ b. cond b (left r rs) (r ∷ released id key rs)) (before 0 (omega arith))
+      ∙ ap (λ l. r ∷ l) (released_kept rs n (omega arith) is
+      (λ i k. before (suc i) (omega arith)) held)
+
+  pub released_gone : (rs : List Held) (n : ℕ) (x : Held) → n < length rs
+      → bytes_eq key (key_at rs n) ≡ true
+      → NoneBefore key rs n → is_held (freed_of id (get_or rs n nobody)) ≡ false
+      → released id key rs ≡ remove (set rs n x) n
+  released_gone [] n x lt is before held = absurd (omega arith)
+  released_gone (r ∷ rs) zero x lt is before held =
+      ap (λ b. cond b (left r rs) (r ∷ released id key rs)) is
+      ∙ ap (λ b. cond b (freed_of id r ∷ rs) rs) held
+  released_gone (r ∷ rs) (suc n) x lt is before held =
+      ap (λ b. cond b (left r rs) (r ∷ released id key rs)) (before 0 (omega arith))
+      ∙ ap (λ l. r ∷ l) (released_gone rs n x (omega arith) is
+      (λ i k. before (suc i) (omega arith)) held)
+
+  pub released_none : (rs : List Held) → NoneBefore key rs (length rs) → released id key rs ≡ rs
+  released_none [] none = refl
+  released_none (r ∷ rs) none =
+      ap (λ b. cond b (left r rs) (r ∷ released id key rs)) (none 0 (omega arith))
+      ∙ ap (λ l. r ∷ l) (released_none rs (λ i k. none (suc i) (omega arith)))
+
+  -- ---- what is left is a table
+
+  has_no_released : (q : List ℕ) (rs : List Held) → HasNo q rs → HasNo q (released id key rs)
+  has_no_released q [] h = tt
+  has_no_released q (r ∷ rs) h =
+      elim (bytes_eq key r.key) as (λ b. HasNo q (cond b (left r rs) (r ∷ released id key rs))) [
+        | true ↦ elim (is_held (freed_of id r)) as (λ b. HasNo q (cond b (freed_of id r ∷ rs) rs))
+            [ true ↦ h | false ↦ h.1 ]
+        | false ↦ (h.0, has_no_released q rs h.1)
+      ]
+
+  ordered_released : (rs : List Held) → AreOrdered rs → AreOrdered (released id key rs)
+  ordered_released [] h = tt
+  ordered_released (r ∷ rs) h =
+      elim (bytes_eq key r.key) as (λ b. AreOrdered (cond b (left r rs) (r ∷ released id key rs))) [
+        | true ↦ elim (is_held (freed_of id r)) as (λ b. AreOrdered
+            (cond b (freed_of id r ∷ rs) rs)) [
+              | true ↦ (ascend_without 0 id r.holders h.0, h.1, h.2)
+              | false ↦ h.2
+            ]
+        | false ↦ (h.0, has_no_released r.key rs h.1, ordered_released rs h.2)
+      ]
+
+  held_released : (rs : List Held) → AreHeld rs → AreHeld (released id key rs)
+  held_released [] h = tt
+  held_released (r ∷ rs) h =
+      elim (bytes_eq key r.key) as (λ b. AreHeld (cond b (left r rs) (r ∷ released id key rs))) [
+        | true ↦ elim (length (without_holder id r.holders) == 0) as
+            (λ b. (length (without_holder id r.holders) == 0) ≡ b
+            → AreHeld (cond (not b) (freed_of id r ∷ rs) rs)) [
+              | true ↦ λ e. h.1
+              | false ↦ λ e.
+                  let some : 0 < length (without_holder id r.holders) = grind (arith, nat_tests) in
+                  (some, h.1)
+            ] refl
+        | false ↦ (h.0, held_released rs h.1)
+      ]
+
+pub table_released : (id : ℕ) (key : List ℕ) (rs : List Held) → IsTable rs
+    → IsTable (released id key rs)
+table_released id key rs h = record {
+  ordered = ordered_released id key rs h.ordered;
+  held = held_released id key rs h.held;
+}
+
+-- ---- a key that the connection did not hold
+
+without_same : (id : ℕ) (hs : List ℕ) → list_any (λ h. h == id) hs ≡ false
+    → without_holder id hs ≡ hs
+without_same id [] none = refl
+without_same id (h ∷ hs) none =
+    let p = or_parts (h == id) (list_any (λ x. x == id) hs) none in
+    ap (λ b. cond (not b) (h ∷ without_holder id hs) (without_holder id hs)) p.0
+    ∙ ap (λ l. h ∷ l) (without_same id hs p.1)
+
+own_goes : (id : ℕ) (hs : List ℕ) → without_holder id (id ∷ hs) ≡ without_holder id hs
+own_goes id hs =
+    ap (λ b. cond (not b) (id ∷ without_holder id hs) (without_holder id hs)) (eq-eqb id id refl)
+
+without_with : (id : ℕ) (hs : List ℕ) → list_any (λ h. h == id) hs ≡ false
+    → without_holder id (with_holder id hs) ≡ hs
+without_with id [] none = own_goes id []
+without_with id (h ∷ hs) none =
+    let p = or_parts (h == id) (list_any (λ x. x == id) hs) none in
+    let rest = without_holder id (with_holder id hs) in
+    elim (nat_lt h id) as (λ b. without_holder id
+    (cond b (h ∷ with_holder id hs) (cond (h == id) (h ∷ hs) (id ∷ h ∷ hs))) ≡ h ∷ hs) [
+      | true ↦ ap (λ b. cond (not b) (h ∷ rest) rest) p.0 ∙ ap (λ l. h ∷ l) (without_with id hs p.1)
+      | false ↦ ap (λ b. without_holder id (cond b (h ∷ hs) (id ∷ h ∷ hs))) p.0
+          ∙ own_goes id (h ∷ hs) ∙ without_same id (h ∷ hs) none
+    ]
+
+itself : (key : List ℕ) → bytes_eq key key ≡ true
+itself key = (bytes_eq-Decides key key).1 refl
+
+still_held : (r : Held) → 0 < length r.holders → is_held r ≡ true
+still_held r some = grind (arith, nat_tests)
+
+pub released_remembered : (id : ℕ) (key : List ℕ) (rs : List Held) → AreHeld rs
+    → list_any (λ h. h == id) (holders_of key rs) ≡ false
+    → released id key (remembered id key rs) ≡ rs
+released_remembered id key [] held none =
+    let new : Held = record { key = key; holders = id ∷ [] } in
+    ap (λ b. cond b (left id key new []) (new ∷ [])) (itself key)
+    ∙ ap (λ hs. cond (is_held (record { key = key; holders = hs }))
+    (record { key = key; holders = hs } ∷ []) []) (own_goes id [])
+released_remembered id key (r ∷ rs) held none =
+    elim (bytes_eq key r.key) as (λ b. bytes_eq key r.key ≡ b
+    → list_any (λ h. h == id) (cond b r.holders (holders_of key rs)) ≡ false
+    → released id key (cond b (record r { holders = with_holder id r.holders } ∷ rs)
+    (r ∷ remembered id key rs)) ≡ r ∷ rs) [
+      | true ↦ λ e f.
+          let more : Held = record r { holders = with_holder id r.holders } in
+          ap (λ b. cond b (left id key more rs) (more ∷ released id key rs)) e
+          ∙ ap (λ hs. cond (is_held (record r { holders = hs })) (record r { holders = hs } ∷ rs)
+          rs) (without_with id r.holders f)
+          ∙ ap (λ b. cond b (r ∷ rs) rs) (still_held r held.0)
+      | false ↦ λ e f.
+          let rest = remembered id key rs in
+          ap (λ b. cond b (left id key r rest) (r ∷ released id key rest)) e
+          ∙ ap (λ l. r ∷ l) (released_remembered id key rs held.1 f)
+    ] refl none
+
+-- ---- a key that it held
+
+none_above : (id n : ℕ) (hs : List ℕ) → AscendFrom n hs → id < n
+    → list_any (λ h. h == id) hs ≡ false
+none_above id n [] a lt = refl
+none_above id n (h ∷ hs) a lt =
+    let other : (h == id) ≡ false = let above = a.0 in grind (arith, nat_tests) in
+    ap (λ b. b || list_any (λ x. x == id) hs) other
+    ∙ none_above id (h + 1) hs a.1 (let above = a.0 in omega arith)
+
+with_held : (id n : ℕ) (hs : List ℕ) → AscendFrom n hs → list_any (λ h. h == id) hs ≡ true
+    → with_holder id hs ≡ hs
+with_held id n [] a some = absurd (let no : ⊥ = cc in no)
+with_held id n (h ∷ hs) a some =
+    elim (nat_lt h id) as (λ b. nat_lt h id ≡ b
+    → cond b (h ∷ with_holder id hs) (cond (h == id) (h ∷ hs) (id ∷ h ∷ hs)) ≡ h ∷ hs) [
+      | true ↦ λ e.
+          let other : (h == id) ≡ false = grind (arith, nat_tests) in
+          ap (λ l. h ∷ l) (with_held id (h + 1) hs a.1
+          (sym (ap (λ b. b || list_any (λ x. x == id) hs) other) ∙ some))
+      | false ↦ λ e. elim (h == id) as (λ b. (h == id) ≡ b
+          → cond b (h ∷ hs) (id ∷ h ∷ hs) ≡ h ∷ hs) [
+            | true ↦ λ f. refl
+            | false ↦ λ f.
+                let below : id < h + 1 = grind (arith, nat_tests) in
+                let none : list_any (λ x. x == id) (h ∷ hs) ≡ false =
+                ap (λ b. b || list_any (λ x. x == id) hs) f ∙ none_above id (h + 1) hs a.1 below in
+                absurd (let no : ⊥ = cc in no)
+          ] refl
+    ] refl
+
+pub remembered_held : (id : ℕ) (key : List ℕ) (rs : List Held) → AreOrdered rs
+    → list_any (λ h. h == id) (holders_of key rs) ≡ true → remembered id key rs ≡ rs
+remembered_held id key [] ordered some = absurd (let no : ⊥ = cc in no)
+remembered_held id key (r ∷ rs) ordered some =
+    elim (bytes_eq key r.key) as (λ b.
+    list_any (λ h. h == id) (cond b r.holders (holders_of key rs)) ≡ true
+    → cond b (record r { holders = with_holder id r.holders } ∷ rs) (r ∷ remembered id key rs)
+    ≡ r ∷ rs) [
+      | true ↦ λ f. ap (λ hs. record r { holders = hs } ∷ rs) (with_held id 0 r.holders ordered.0 f)
+      | false ↦ λ f. ap (λ l. r ∷ l) (remembered_held id key rs ordered.2 f)
+    ] some
+
+-- ---- key by key
+
+pub last_released : (id : ℕ) (keys : List (List ℕ)) (key : List ℕ) (rows : List Held)
+    → all_released id (keys ++ key ∷ []) rows ≡ all_released id keys (released id key rows)
+last_released id [] key rows = refl
+last_released id (k ∷ keys) key rows = ap (released id k) (last_released id keys key rows)
+
+pub last_remembered : (id : ℕ) (keys : List (List ℕ)) (key : List ℕ) (rows : List Held)
+    → with_keys id (keys ++ key ∷ []) rows ≡ remembered id key (with_keys id keys rows)
+last_remembered id [] key rows = refl
+last_remembered id (k ∷ keys) key rows = last_remembered id keys key (remembered id k rows)

@@ -1,0 +1,402 @@
+-- What a turn of a client comes to in the code.
+use Rattle.std.proofs.Common.{◌≡◌, ◌+◌, ℕ, List, [], ◌∷◌, ◌++◌, Bool, true, false, cond}
+use Rattle.std.proofs.Common.{not, length}
+use Rattle.std.proofs.Common.{Option, Some, None, Result, Ok, Err, refl, sym, ap, subst, ◌∙◌, arith}
+use Rattle.std.proofs.Common.{◌≤◌, append-nil, length-append, ◌⊎◌, inl, inr}
+use Rattle.resp_value.specs.declared.value.Value.{Value}
+use Rattle.command_words.specs.Control.{is_control}
+use Rattle.shared_cache.specs.declared.log.Wire.{Wire}
+use Rattle.shared_cache.specs.declared.log.Wire.TheVariants.{Main}
+use Rattle.shared_cache.specs.declared.log.LogEntry.{LogEntry}
+use Rattle.shared_cache.specs.declared.log.LogEntry.TheVariants as entry
+use Rattle.shared_cache.specs.declared.log.ClientCall.{ClientCall}
+use Rattle.shared_cache.specs.declared.log.ClientCall.TheVariants as call
+use Rattle.shared_cache.specs.declared.log.ClientReply.{ClientReply}
+use Rattle.shared_cache.specs.declared.log.ClientReply.TheVariants.{Hit, Sent, NotYet, Answer}
+use Rattle.shared_cache.specs.declared.log.ClientReply.TheVariants.{Bytes, Quiet, Noted, Refused}
+use Rattle.shared_cache.specs.declared.log.ClientRefusal.{ClientRefusal}
+use Rattle.shared_cache.specs.declared.log.ClientRefusal.TheVariants as refusal
+use Rattle.shared_cache.specs.ClientFields.{Client}
+use Rattle.shared_cache.specs.Held.{Setup, Words}
+use Rattle.shared_cache.specs.Laws.{gots}
+use Rattle.shared_cache.specs.Log.{is_ended, is_ready, reply as reply_to}
+use Rattle.shared_cache.specs.Out.{is_wanted, untaken}
+use Rattle.shared_cache.specs.Steps.{ClientStep, ClientTurn, MayRunOut, client_step, getting}
+use Rattle.shared_cache.specs.Steps.{fault_of as ending_of, is_log_full, polling, refusing}
+use Rattle.shared_cache.specs.Steps.{taking_out, NeedsRoom}
+use Rattle.script_text.specs.declared.line.Line.{Line}
+use Rattle.server_links.specs.declared.fault.WorldFault.{WorldFault}
+use Rattle.server_links.specs.declared.fault.WorldFault.TheVariants as fault
+use Rattle.server_links.specs.LinksState.{LinksState}
+use Rattle.server_links.specs.Outcome.{Outcome, Stops, does}
+use Rattle.server_links.proofs.Outcomes.{Ends, after_ends, after_stops, stops_first, stops_here}
+use Rattle.world_run.specs.WorldState.{MemberState}
+use Rattle.world_run.specs.Members.{Seat, log_of, seat, setup_of, with_log}
+use Rattle.world_run.specs.ClientMoves.{answers, ending_lines, fault_of, lines_of, refused_fault}
+use Rattle.world_run.specs.ClientMoves.{refused_lines, turn}
+use Rattle.world_run.specs.MemberTurns.{IsNoValue, Turned, TurnGives}
+
+-- ---- what a turn answers is the step, where memory did not run out
+
+pub stepped : (s : Setup) (log : List LogEntry) (c : ClientCall) (reply : ClientReply)
+    (new : List LogEntry) → (reply ≡ Refused refusal.NoMemory → ⊥) → ClientStep s log c reply new
+    → client_step s log c ≡ record { reply = reply; past = new }
+stepped s log c (Hit v n) new has h = h
+stepped s log c (Sent n) new has h = h
+stepped s log c NotYet new has h = h
+stepped s log c (Answer v) new has h = h
+stepped s log c (Bytes b) new has h = h
+stepped s log c Quiet new has h = h
+stepped s log c Noted new has h = h
+stepped s log c (Refused (refusal.Down w)) new has h = h
+stepped s log c (Refused (refusal.Unexpected w)) new has h = h
+stepped s log c (Refused (refusal.BadPush w)) new has h = h
+stepped s log c (Refused refusal.NoMemory) new has h = absurd (has refl)
+stepped s log c (Refused (refusal.LogFull n)) new has h = h
+stepped s log c (Refused (refusal.SetupRefused w)) new has h = h
+stepped s log c (Refused refusal.NotReady) new has h = h
+stepped s log c (Refused refusal.Control) new has h = h
+stepped s log c (Refused (refusal.NoNumber n)) new has h = h
+stepped s log c (Refused refusal.Worn) new has h = h
+
+-- ---- the log after a step
+
+by_if : (P : ClientTurn → Type 0) (b : Bool) (x y : ClientTurn) → P x → P y → P (cond b x y)
+by_if P true x y p q = p
+by_if P false x y p q = q
+
+module _ (P : List LogEntry → Type 0) (s : Setup) (log : List LogEntry) (same : P log) where
+  Q : ClientTurn → Type 0
+  Q t = P t.past
+
+  pub ask_past : (q : Words) → P (entry.Ask q ∷ log) → P (client_step s log (call.Ask q)).past
+  unfolding client_step Q
+  ask_past q one =
+      by_if Q (is_ended s.mode Main log) _ _ same
+      (by_if Q (not (is_ready s.mode log)) _ _ same
+      (by_if Q (is_log_full s log) _ _ same one))
+
+  send_past : (ws : Words) → P (entry.Send ws ∷ log) → P (client_step s log (call.Send ws)).past
+  unfolding client_step Q
+  send_past ws one =
+      by_if Q (is_ended s.mode Main log) _ _ same
+      (by_if Q (not (is_ready s.mode log)) _ _ same
+      (by_if Q (is_control ws) _ _ same
+      (by_if Q (is_log_full s log) _ _ same one)))
+
+  by_reply : (o : Option Value) (n : ℕ) (b : Bool) → P (entry.Poll n ∷ log)
+      → P (polling o n b log).past
+  by_reply None n true one = same
+  by_reply None n false one = same
+  by_reply (Some v) n b one = one
+
+  poll_past : (n : ℕ) → P (entry.Poll n ∷ log) → P (client_step s log (call.Poll n)).past
+  unfolding client_step Q
+  poll_past n one =
+      by_if Q (not (is_wanted s log n)) _ _ same
+      (by_reply (reply_to s.mode log n) n (is_ended s.mode Main log) one)
+
+  by_bytes : (w : Wire) (most : ℕ) (bytes : List ℕ) (b : Bool) → P (entry.TakeOut w most ∷ log)
+      → P (taking_out w most bytes b log).past
+  by_bytes w most [] b one = same
+  by_bytes w most (x ∷ bytes) true one = same
+  by_bytes w most (x ∷ bytes) false one = one
+
+  take_past : (w : Wire) (most : ℕ) → P (entry.TakeOut w most ∷ log)
+      → P (client_step s log (call.TakeOut w most)).past
+  unfolding client_step Q
+  take_past w most one =
+      by_if Q (is_ended s.mode w log) _ _ same
+      (by_bytes w most (untaken s w log) (is_log_full s log) one)
+
+  by_end : (w : Wire) (b : Bool) → P (entry.End w ∷ log) → P (cond b log (entry.End w ∷ log))
+  by_end w true one = same
+  by_end w false one = one
+
+  end_past : (w : Wire) → P (entry.End w ∷ log) → P (client_step s log (call.End w)).past
+  unfolding client_step
+  end_past w one = by_end w (is_ended s.mode w log) one
+
+-- no value is got
+pub gots_kept : (s : Setup) (log : List LogEntry) (c : ClientCall) → IsNoValue c
+    → gots Main (client_step s log c).past ≡ gots Main log
+gots_kept s log (call.Ask q) h = ask_past (λ p. gots Main p ≡ gots Main log) s log refl q refl
+gots_kept s log (call.Send ws) h = send_past (λ p. gots Main p ≡ gots Main log) s log refl ws refl
+gots_kept s log (call.Poll n) h = poll_past (λ p. gots Main p ≡ gots Main log) s log refl n refl
+gots_kept s log (call.TakeOut w n) h =
+    take_past (λ p. gots Main p ≡ gots Main log) s log refl w n refl
+gots_kept s log (call.Got w v) h = absurd h
+gots_kept s log (call.End w) h = end_past (λ p. gots Main p ≡ gots Main log) s log refl w refl
+
+-- what becomes of a value
+pub GotPast : List LogEntry → Value → ClientReply → List LogEntry → Type 0
+GotPast log v Noted new = new ≡ entry.Got Main v ∷ log
+GotPast log v (Refused r) new = gots Main new ≡ gots Main log
+GotPast log v (Hit x n) new = ⊥
+GotPast log v (Sent n) new = ⊥
+GotPast log v NotYet new = ⊥
+GotPast log v (Answer x) new = ⊥
+GotPast log v (Bytes b) new = ⊥
+GotPast log v Quiet new = ⊥
+
+pub got_past : (s : Setup) (log : List LogEntry) (v : Value) (reply : ClientReply)
+    (new : List LogEntry) → client_step s log (call.Got Main v)
+    ≡ record { reply = reply; past = new } → GotPast log v reply new
+unfolding GotPast client_step
+got_past s log v reply new is =
+    subst (λ (t : ClientTurn). GotPast log v t.reply t.past) is
+    (by_if (λ (t : ClientTurn). GotPast log v t.reply t.past) (is_ended s.mode Main log) _ _ refl
+    (elim (ending_of s log Main v) as (λ o. GotPast log v
+    (getting o Main v (is_log_full s log) log).reply
+    (getting o Main v (is_log_full s log) log).past) [
+      | Some r ↦ refl
+      | None ↦
+          by_if (λ (t : ClientTurn). GotPast log v t.reply t.past) (is_log_full s log) _ _ refl refl
+    ]))
+
+pub got_more : (log new : List LogEntry) (v : Value) → GotPast log v Noted new
+    → (length (gots Main new) ≡ length (gots Main log) + 1) × (length new ≡ length log + 1)
+unfolding GotPast
+got_more log new v is =
+    let e = ap (λ l. length (gots Main l)) is ∙ length-append (gots Main log) (v ∷ []) in
+    let n = ap length is in (omega (arith, e), omega (arith, n))
+
+pub got_same : (log new : List LogEntry) (v : Value) (r : ClientRefusal)
+    → GotPast log v (Refused r) new → gots Main new ≡ gots Main log
+unfolding GotPast
+got_same log new v r is = is
+
+-- fewer are got than there are entries
+pub gots_within : (log : List LogEntry) → length (gots Main log) ≤ length log
+gots_within [] = omega arith
+gots_within (entry.Ask q ∷ log) = let r = gots_within log in omega (arith, r)
+gots_within (entry.Send ws ∷ log) = let r = gots_within log in omega (arith, r)
+gots_within (entry.Poll n ∷ log) = let r = gots_within log in omega (arith, r)
+gots_within (entry.TakeOut w n ∷ log) = let r = gots_within log in omega (arith, r)
+gots_within (entry.End w ∷ log) = let r = gots_within log in omega (arith, r)
+gots_within (entry.Bad w v ∷ log) = let r = gots_within log in omega (arith, r)
+gots_within (entry.Got Main v ∷ log) =
+    let r = gots_within log in omega (arith, r, length-append (gots Main log) (v ∷ []))
+gots_within (entry.Got w v ∷ log) = let r = gots_within log in omega (arith, r)
+
+-- an end takes no memory
+pub ends_always : (s : Setup) (log : List LogEntry) → MayRunOut s log (call.End Main) → ⊥
+unfolding client_step
+ends_always s log m =
+    elim (is_ended s.mode Main log) as (λ b. cond b log (entry.End Main ∷ log) ≡ m.0 ∷ log → ⊥) [
+      | true ↦ λ e. let n = ap length e in absurd (let no : ⊥ = omega (arith, n) in no)
+      | false ↦ λ e. let same : entry.End Main ≡ m.0 = cc in
+          subst NeedsRoom (sym same) m.1
+    ] m.2
+
+-- ---- faults of an answer
+
+not_memory : (r : ClientRefusal) → refused_fault r ≡ Some fault.NoMemory → ⊥
+not_memory (refusal.Down w) e = cc
+not_memory (refusal.Unexpected w) e = cc
+not_memory (refusal.BadPush w) e = cc
+not_memory refusal.NoMemory e = cc
+not_memory (refusal.LogFull n) e = cc
+not_memory (refusal.SetupRefused w) e = cc
+not_memory refusal.NotReady e = cc
+not_memory refusal.Control e = cc
+not_memory (refusal.NoNumber n) e = cc
+not_memory refusal.Worn e = cc
+
+no_memory : (r : ClientReply) → fault_of r ≡ Some fault.NoMemory → ⊥
+no_memory (Hit v n) e = cc
+no_memory (Sent n) e = cc
+no_memory NotYet e = cc
+no_memory (Answer v) e = cc
+no_memory (Bytes b) e = cc
+no_memory Quiet e = cc
+no_memory Noted e = cc
+no_memory (Refused r) e = not_memory r e
+
+-- a refusal that stops its event prints nothing
+silent : (name : List ℕ) (r : ClientRefusal) (f : WorldFault) → refused_fault r ≡ Some f
+    → (refused_lines name r ≡ []) × (ending_lines name r ≡ [])
+silent name (refusal.Down w) f e = absurd (let no : ⊥ = cc in no)
+silent name (refusal.Unexpected w) f e = absurd (let no : ⊥ = cc in no)
+silent name (refusal.BadPush w) f e = absurd (let no : ⊥ = cc in no)
+silent name refusal.NoMemory f e = absurd (let no : ⊥ = cc in no)
+silent name (refusal.LogFull n) f e = (refl, refl)
+silent name (refusal.SetupRefused w) f e = absurd (let no : ⊥ = cc in no)
+silent name refusal.NotReady f e = absurd (let no : ⊥ = cc in no)
+silent name refusal.Control f e = (refl, refl)
+silent name (refusal.NoNumber n) f e = (refl, refl)
+silent name refusal.Worn f e = absurd (let no : ⊥ = cc in no)
+
+by_call : (s : Seat) (c : ClientCall) (r : ClientRefusal) (f : WorldFault)
+    → refused_fault r ≡ Some f → lines_of s c (Refused r) ≡ []
+by_call s (call.Ask q) r f e = (silent s.member.name r f e).0
+by_call s (call.Send ws) r f e = (silent s.member.name r f e).0
+by_call s (call.Poll n) r f e = (silent s.member.name r f e).0
+by_call s (call.TakeOut w n) r f e = refl
+by_call s (call.Got w v) r f e = (silent s.member.link r f e).1
+by_call s (call.End w) r f e = refl
+
+no_lines : (s : Seat) (c : ClientCall) (reply : ClientReply) (f : WorldFault)
+    → fault_of reply ≡ Some f → lines_of s c reply ≡ []
+no_lines s c (Hit v n) f e = absurd (let no : ⊥ = cc in no)
+no_lines s c (Sent n) f e = absurd (let no : ⊥ = cc in no)
+no_lines s c NotYet f e = absurd (let no : ⊥ = cc in no)
+no_lines s c (Answer v) f e = absurd (let no : ⊥ = cc in no)
+no_lines s c (Bytes b) f e = absurd (let no : ⊥ = cc in no)
+no_lines s c Quiet f e = absurd (let no : ⊥ = cc in no)
+no_lines s c Noted f e = absurd (let no : ⊥ = cc in no)
+no_lines s c (Refused r) f e = by_call s c r f e
+
+pub stops_by : {S : Type 0} → (m : Outcome S) (f : WorldFault) (t : S) (lines : List Line)
+    → (f ≡ fault.NoMemory → ⊥) → m.fault ≡ Some f → t ≡ m.state → m.lines ≡ []
+    → Stops m lines f t lines
+stops_by m fault.NoMemory t lines has e is none = absurd (has refl)
+stops_by m fault.NoName t lines has e is none =
+    (e, is, sym (ap (λ l. lines ++ l) none ∙ append-nil lines))
+stops_by m fault.NameTaken t lines has e is none =
+    (e, is, sym (ap (λ l. lines ++ l) none ∙ append-nil lines))
+stops_by m fault.NothingThere t lines has e is none =
+    (e, is, sym (ap (λ l. lines ++ l) none ∙ append-nil lines))
+stops_by m (fault.Refused n) t lines has e is none =
+    (e, is, sym (ap (λ l. lines ++ l) none ∙ append-nil lines))
+stops_by m (fault.HistoryFull n) t lines has e is none =
+    (e, is, sym (ap (λ l. lines ++ l) none ∙ append-nil lines))
+
+-- ---- a turn and its lines
+
+pub turned_is : (s : Seat) (m : MemberState) → Turned s.member m
+    → seat s.links m ≡ with_log s m.state.past
+turned_is s m t =
+    ap (λ x. seat s.links (record {
+      name = x;
+      link = m.link;
+      place = m.place;
+      state = m.state;
+      reader = m.reader;
+    })) t.name
+    ∙ ap (λ x. seat s.links (record {
+      name = s.member.name;
+      link = x;
+      place = m.place;
+      state = m.state;
+      reader = m.reader;
+    })) t.link
+    ∙ ap (λ x. seat s.links (record {
+      name = s.member.name;
+      link = s.member.link;
+      place = x;
+      state = m.state;
+      reader = m.reader;
+    })) t.place
+    ∙ ap (λ x. seat s.links (record {
+      name = s.member.name;
+      link = s.member.link;
+      place = s.member.place;
+      state = record { setup = x; past = m.state.past };
+      reader = m.reader;
+    })) t.setup
+    ∙ ap (λ x. seat s.links (record {
+      name = s.member.name;
+      link = s.member.link;
+      place = s.member.place;
+      state = record { setup = s.member.state.setup; past = m.state.past };
+      reader = x;
+    })) t.reader
+
+pub turned_like : (i old : MemberState) (new : Client) → i ≡ old → new.setup ≡ i.state.setup
+    → Turned old (record {
+      name = i.name;
+      link = i.link;
+      place = i.place;
+      state = new;
+      reader = i.reader;
+    })
+turned_like i old new e setup = record {
+  name = ap (λ (m : MemberState). m.name) e;
+  link = ap (λ (m : MemberState). m.link) e;
+  place = ap (λ (m : MemberState). m.place) e;
+  setup = setup ∙ ap (λ (m : MemberState). m.state.setup) e;
+  reader = ap (λ (m : MemberState). m.reader) e;
+}
+
+pub step_like : (i old : MemberState) (c : ClientCall) (reply : ClientReply)
+    (past : List LogEntry) → i ≡ old
+    → client_step i.state.setup i.state.past c ≡ record { reply = reply; past = past }
+    → client_step old.state.setup old.state.past c ≡ record { reply = reply; past = past }
+step_like i old c reply past e is =
+    subst (λ (m : MemberState). client_step m.state.setup m.state.past c
+    ≡ record { reply = reply; past = past }) e is
+
+-- an end is noted
+pub end_fault : (s : Setup) (log past : List LogEntry) (reply : ClientReply)
+    → client_step s log (call.End Main) ≡ record { reply = reply; past = past }
+    → fault_of reply ≡ None
+unfolding client_step
+end_fault s log past reply is = ap (λ (t : ClientTurn). fault_of t.reply) (sym is)
+
+-- no other answer comes to a value
+pub got_other : (log new : List LogEntry) (v : Value) (reply : ClientReply)
+    → GotPast log v reply new → (reply ≡ Noted → ⊥)
+    → ((r : ClientRefusal) → reply ≡ Refused r → ⊥) → ⊥
+unfolding GotPast
+got_other log new v Noted g has others = has refl
+got_other log new v (Refused r) g has others = others r refl
+got_other log new v (Hit x n) g has others = g
+got_other log new v (Sent n) g has others = g
+got_other log new v NotYet g has others = g
+got_other log new v (Answer x) g has others = g
+got_other log new v (Bytes b) g has others = g
+got_other log new v Quiet g has others = g
+
+module _ (s : Seat) (c : ClientCall) where
+  pub turn_before : (lines : List Line) → Stops (turn c s) lines fault.NoMemory s lines
+  unfolding turn
+  turn_before lines =
+      let t = client_step (setup_of s) (log_of s) c in
+      let m = does s (with_log s t.past) [] in
+      stops_first m _ lines fault.NoMemory s lines (stops_here m s lines refl)
+
+  module _ (m : MemberState) (reply : ClientReply) (like : Turned s.member m)
+      (is : client_step (setup_of s) (log_of s) c
+      ≡ record { reply = reply; past = m.state.past }) where
+    there : seat s.links m ≡ with_log s (client_step (setup_of s) (log_of s) c).past
+    there = turned_is s m like ∙ ap (λ (t : ClientTurn). with_log s t.past) (sym is)
+
+    pub turn_after : (lines : List Line)
+        → Stops (turn c s) lines fault.NoMemory (seat s.links m) lines
+    unfolding turn
+    turn_after lines =
+        let t = client_step (setup_of s) (log_of s) c in
+        let n = seat s.links m in
+        let next = answers (lines_of s c t.reply) (fault_of t.reply) in
+        after_stops (does s (with_log s t.past) []) next lines n lines fault.NoMemory n lines
+        (refl, there, sym (append-nil lines))
+        (stops_here (next n) n lines refl)
+
+    pub turn_ends : (lines lines' : List Line) → fault_of reply ≡ None
+        → lines' ≡ lines ++ lines_of s c reply → Ends (turn c s) lines (seat s.links m) lines'
+    unfolding turn
+    turn_ends lines lines' none e =
+        let t = client_step (setup_of s) (log_of s) c in
+        let n = seat s.links m in
+        let next = answers (lines_of s c t.reply) (fault_of t.reply) in
+        after_ends (does s (with_log s t.past) []) next lines n lines n lines'
+        (refl, there, sym (append-nil lines)) (
+          ap (λ (t : ClientTurn). fault_of t.reply) is ∙ none,
+          refl,
+          e ∙ ap (λ (t : ClientTurn). lines ++ lines_of s c t.reply) (sym is),
+        )
+
+    pub turn_stops : (lines : List Line) (f : WorldFault) → fault_of reply ≡ Some f
+        → Stops (turn c s) lines f (seat s.links m) lines
+    unfolding turn
+    turn_stops lines f e =
+        let t = client_step (setup_of s) (log_of s) c in
+        let n = seat s.links m in
+        let next = answers (lines_of s c t.reply) (fault_of t.reply) in
+        after_stops (does s (with_log s t.past) []) next lines n lines f n lines
+        (refl, there, sym (append-nil lines))
+        (stops_by (next n) f n lines
+        (λ memory. no_memory reply (e ∙ ap Some memory))
+        (ap (λ (t : ClientTurn). fault_of t.reply) is ∙ e) refl
+        (ap (λ (t : ClientTurn). lines_of s c t.reply) is ∙ no_lines s c reply f e))

@@ -1,0 +1,185 @@
+-- Links flow: one, with or without a client at its end, and all of them in turn.
+use Rattle.std.proofs.Common.{◌≡◌, ◌<◌, ◌≤◌, ℕ, zero, suc, List, [], ◌++◌}
+use Rattle.std.proofs.Common.{true, false, cond, Some, None, length, refl, sym, ap, subst}
+use Rattle.std.proofs.Common.{◌∙◌, arith, append_assoc, append-nil, inl, inr}
+use Rattle.std.specs.Prelude.{◌==◌, nat_lt}
+use Rattle.std.proofs.lemmas.Bool.{eqb-true, cases_lt}
+use Rattle.std.proofs.lemmas.Bool.Decides.{nat_tests}
+use Rattle.serial_model.specs.declared.history.Limits.{Limits}
+use Rattle.script_text.specs.declared.line.Line.{Line}
+use Rattle.server_links.specs.declared.link.LinkMove.TheVariants as moves
+use Rattle.server_links.specs.LinkEvent.{Over}
+use Rattle.server_links.specs.LinksState.{at_place}
+use Rattle.server_links.specs.LinkSteps.{place_of}
+use Rattle.server_links.specs.Outcome.{within}
+use Rattle.server_links.specs.Transcript.{heard_at, is_place, reads_at}
+use Rattle.server_links.proofs.Outcomes.{Meets, meets_then}
+use Rattle.world_run.specs.WorldState.{WorldState, client_of_link, member_at}
+use Rattle.world_run.specs.Members.{Seat, seat_at, with_seat}
+use Rattle.world_run.specs.ClientMoves as client
+use Rattle.world_run.specs.World.{client_does, flow_at, flow_first, flow_step, links_step}
+use Rattle.world_run.specs.Transcript.{flow_heard, flowing}
+use Rattle.world_run.proofs.Clients.{flow_stands, out_link, out_place, out_stands, place_is}
+use Rattle.world_run.proofs.LinkEvents.{Comes, comes_apart, comes_as, comes_client, comes_same}
+use Rattle.world_run.proofs.LinkEvents.{stands_again}
+use Rattle.world_run.proofs.Links.{name_of_event}
+use Rattle.world_run.proofs.Names.{link_nowhere, link_there}
+use Rattle.world_run.proofs.Seats.{seat_back, seated, still_below}
+use Rattle.world_run.proofs.WorldKept.{flow_size}
+use Rattle.world_run.proofs.Worlds.{WorldPart, WorldStands}
+
+-- what is heard by the link at a place alone
+abbrev pub only_at : (ℕ → List ℕ) → ℕ → List ℕ → ℕ → List ℕ
+only_at heard place bytes i = heard i ++ cond (place == i) bytes []
+
+at_this : (heard : ℕ → List ℕ) (read : ℕ → List ℕ) (place i : ℕ)
+    → heard i ++ cond (place == i) (read i) [] ≡ only_at heard place (read place) i
+at_this heard read place i = elim (place == i) as (λ b. (place == i) ≡ b
+    → heard i ++ cond b (read i) [] ≡ heard i ++ cond b (read place) []) [
+      | true ↦ λ e. ap (λ k. heard i ++ read k) (sym (eqb-true place i e))
+      | false ↦ λ e. refl
+    ] refl
+
+module _ (l : Limits) (heard : ℕ → List ℕ) (raw : List ℕ → List ℕ) (lines : List Line)
+    (w : WorldState) (h : WorldStands l heard raw lines w) (place : ℕ)
+    (below : place < length w.links.links) where
+  abbrev name : List ℕ
+  name = (at_place w.links.links place).name
+
+  found : place_of name w.links ≡ Some place
+  found = place_is w.links h.links.unique name place below refl
+
+  flow_apart : client_of_link name w.members ≡ None
+      → Comes l (only_at heard place (reads_at w.links place None)) raw lines
+      (links_step (Over name moves.Flow) w)
+  unfolding name_of_event
+  flow_apart none =
+      comes_as l _ (only_at heard place (reads_at w.links place None)) raw raw lines
+      (links_step (Over name moves.Flow) w)
+      (λ i. ap (λ q. heard i ++ cond (is_place q i) (reads_at w.links i None) []) found
+      ∙ at_this heard (λ k. reads_at w.links k None) place i)
+      (λ n. refl)
+      (comes_apart l heard raw lines w h raw (Over name moves.Flow)
+      (link_nowhere name w.members none) (λ n. append-nil (raw n)))
+
+  flow_client : (at : ℕ) → client_of_link name w.members ≡ Some at
+      → Comes l (only_at heard place (reads_at (flowing (Some at) w).links place None)) raw lines
+      (client_does at client.flow w)
+  unfolding client_does within
+  flow_client at is =
+      let there = link_there name w.members at is in
+      let s = seat_at at w in
+      let m = member_at w.members at in
+      let v = (client.out None s).state in
+      let part = (h.each at there.0).0 in
+      let same : m.place ≡ place =
+      h.links.unique place m.place below part.below (part.placed ∙ there.1) in
+      let sent = out_stands l raw at heard None lines w (seated l heard raw at lines w h) there.0
+      in
+      let after = sent.all v (client.out None s).lines (inl (refl, refl)) in
+      let back = seat_back at w there.0 v in
+      let here = after.each at (still_below at w there.0 v) in
+      let u = with_seat at w v in
+      let link_is : (member_at u.members at).link ≡ m.link =
+      ap (λ (x : Seat). x.member.link) back ∙ out_link s in
+      let place_same : (member_at u.members at).place ≡ m.place =
+      ap (λ (x : Seat). x.member.place) back ∙ out_place s in
+      let found_then : place_of m.link v.links ≡ Some place =
+      place_is v.links after.unique m.link place
+      (subst (λ k. k < length v.links.links) (place_same ∙ same) here.below)
+      (ap (λ k. (at_place v.links.links k).name) (sym (place_same ∙ same)) ∙ here.placed ∙ link_is)
+      in
+      comes_as l _ (only_at heard place (reads_at v.links place None)) raw raw lines
+      (client_does at client.flow w)
+      (λ i. ap (λ q. heard i ++ cond (is_place q i) (reads_at v.links i None) []) found_then
+      ∙ at_this heard (λ k. reads_at v.links k None) place i)
+      (λ n. refl)
+      (comes_client l heard raw lines w h
+      (λ i. heard i ++ heard_at v.links i (Over m.link (moves.Serve None))) at client.flow
+      (λ k. flow_stands l raw at heard lines w k there.0))
+
+  pub flow_one : Comes l (only_at heard place (flow_heard place w)) raw lines
+      (flow_step (client_of_link name w.members) name w)
+  flow_one = elim (client_of_link name w.members) as (λ c. client_of_link name w.members ≡ c
+      → Comes l (only_at heard place (reads_at (flowing c w).links place None)) raw lines
+      (flow_step c name w)) [
+        | None ↦ λ none. flow_apart none
+        | Some at ↦ λ is. flow_client at is
+      ] refl
+
+-- ---- all links flow
+
+module _ (l : Limits) (heard : ℕ → List ℕ) (raw : List ℕ → List ℕ) (lines : List Line)
+    (w : WorldState) (h : WorldStands l heard raw lines w) where
+  -- what was heard once so many links have flowed
+  abbrev pub heard_first : ℕ → ℕ → List ℕ
+  heard_first n i = heard i ++ cond (nat_lt i n) (flow_heard i (flow_first i w).state) []
+
+  heard_next : (n i : ℕ)
+      → only_at (heard_first n) n (flow_heard n (flow_first n w).state) i ≡ heard_first (suc n) i
+  heard_next n i =
+      let read : ℕ → List ℕ = λ k. flow_heard k (flow_first k w).state in
+      elim (n == i) as (λ b. (n == i) ≡ b → (heard i ++ cond (nat_lt i n) (read i) [])
+      ++ cond b (read n) [] ≡ heard i ++ cond (nat_lt i (suc n)) (read i) []) [
+        | true ↦ λ e.
+            let same : n ≡ i = eqb-true n i e in
+            ap (λ b. (heard i ++ cond b (read i) []) ++ read n) (let c : nat_lt i n
+            ≡ false = grind (arith, nat_tests) in c)
+            ∙ ap (λ x. x ++ read n) (append-nil (heard i)) ∙ ap (λ k. heard i ++ read k) same
+            ∙ sym (ap (λ b. heard i ++ cond b (read i) []) (let c : nat_lt i (suc n)
+            ≡ true = grind (arith, nat_tests) in c))
+        | false ↦ λ e.
+            append-nil (heard i ++ cond (nat_lt i n) (read i) [])
+            ∙ ap (λ b. heard i ++ cond b (read i) [])
+            (elim (cases_lt i n) as (λ _. nat_lt i n ≡ nat_lt i (suc n)) [
+              | inl lt ↦ (let c : nat_lt i n ≡ true = grind (arith, nat_tests) in c)
+                  ∙ sym (let c : nat_lt i (suc n) ≡ true = grind (arith, nat_tests) in c)
+              | inr ge ↦ (let c : nat_lt i n ≡ false = grind (arith, nat_tests) in c)
+                  ∙ sym (let c : nat_lt i (suc n) ≡ false = grind (arith, nat_tests) in c)
+            ])
+      ] refl
+
+  none_first : (i : ℕ) → heard i ≡ heard_first zero i
+  none_first i =
+      sym (ap (λ b. heard i ++ cond b (flow_heard i (flow_first i w).state) [])
+      (let c : nat_lt i 0 ≡ false = grind (arith, nat_tests) in c) ∙ append-nil (heard i))
+
+  Flowed : ℕ → WorldState → List Line → Type 0
+  Flowed n v ls = (length v.links.links ≡ length w.links.links)
+      × WorldStands l (heard_first n) raw (lines ++ ls) v
+
+  flow_stands_first : (n : ℕ) → n ≤ length w.links.links
+      → Meets (Flowed n) (λ v ls. WorldPart l raw (lines ++ ls) v) (flow_first n w)
+  unfolding flow_first Flowed
+  flow_stands_first zero le =
+      let k = comes_same l heard raw lines w h (heard_first zero) raw none_first (λ n. refl) in
+      record {
+        ends = λ none. (refl, k.ends none);
+        all = k.all;
+      }
+  flow_stands_first (suc n) le =
+      let m = flow_first n w in
+      meets_then (Flowed n) (Flowed (suc n)) (λ v ls. WorldPart l raw (lines ++ ls) v) m (flow_at n)
+      (flow_stands_first n (omega (arith, le)))
+      (λ none p.
+      let v = m.state in
+      let u = flow_at n v in
+      let o = flow_one l (heard_first n) raw (lines ++ m.lines) v p.1 n (omega (arith, le, p.0)) in
+      record {
+        ends = λ e. (
+          flow_size n v u.state u.lines (inl (refl, refl)) ∙ p.0,
+          subst (λ y. WorldStands l (heard_first (suc n)) raw y u.state)
+              (append_assoc lines m.lines u.lines)
+              (stands_again l _ (heard_first (suc n)) raw raw ((lines ++ m.lines) ++ u.lines)
+              u.state (heard_next n) (λ k free. refl) (o.ends e)),
+        );
+        all = λ t ls r.
+            subst (λ y. WorldPart l raw y t) (append_assoc lines m.lines ls) (o.all t ls r);
+      })
+
+  pub flow_all_comes : Comes l (heard_first (length w.links.links)) raw lines
+      (flow_first (length w.links.links) w)
+  unfolding Flowed
+  flow_all_comes =
+      let k = flow_stands_first (length w.links.links) (omega arith) in
+      record { ends = λ none. (k.ends none).1; all = k.all }

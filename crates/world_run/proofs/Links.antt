@@ -1,0 +1,440 @@
+-- What an event of the links leaves of them, wherever it comes to, and what it prints of reading.
+use Rattle.std.proofs.Common.{◌≡◌, ◌+◌, ◌<◌, ℕ, List, [], ◌∷◌, ◌++◌, Bool, true, false, cond}
+use Rattle.std.proofs.Common.{Some, None, Option, length, take, drop, refl, sym, ap, subst, ◌∙◌}
+use Rattle.std.proofs.Common.{arith, append-nil, length-append, length-set, inl, inr, eq-eqb}
+use Rattle.std.specs.Prelude.{◌==◌, ◌&&◌, nat_le, slice_set}
+use Rattle.std.specs.Str.{bytes_eq}
+use Rattle.std.proofs.lemmas.Bool.{eqb-true, cases_lt}
+use Rattle.std.proofs.lemmas.List.{get_or-set_same, get_or-set_other, get_or_push}
+use Rattle.std.proofs.lemmas.List.{get_or_append_left}
+use Rattle.resp_stream.specs.declared.fault.FaultPlace.{FaultPlace}
+use Rattle.resp_stream.specs.Parse.{parse}
+use Rattle.serial_model.specs.declared.history.Entry.{Entry}
+use Rattle.serial_model.specs.declared.history.Entry.TheVariants as entry
+use Rattle.serial_model.specs.declared.history.BookReply.{BookReply}
+use Rattle.serial_model.specs.declared.history.BookReply.TheVariants.{Admitted, Ran, Quiet, Bytes}
+use Rattle.serial_model.specs.declared.history.BookReply.TheVariants.{Closed, Refused}
+use Rattle.serial_model.specs.History.{admitted, is_full, reads_on, gives_on, unsent}
+use Rattle.serial_model.specs.Steps.{Turn, book_step, unless_full}
+use Rattle.serial_model.specs.Steps as steps
+use Rattle.script_text.specs.declared.line.Line.{Line}
+use Rattle.server_links.specs.declared.fault.WorldFault.{WorldFault}
+use Rattle.server_links.specs.declared.fault.WorldFault.TheVariants.{NoName, NameTaken}
+use Rattle.server_links.specs.declared.fault.WorldFault.TheVariants.{NothingThere}
+use Rattle.server_links.specs.declared.link.Link.{Link}
+use Rattle.server_links.specs.declared.link.LinkMove.TheVariants as moves
+use Rattle.server_links.specs.Directions.{is_open, is_queued, past_eof, without, without_bytes}
+use Rattle.server_links.specs.Directions.{finished}
+use Rattle.server_links.specs.EntryLines.{reply_lines}
+use Rattle.server_links.specs.LinkEvent.{LinkEvent, Raw, Put, Over}
+use Rattle.server_links.specs.LinksState.{LinksState, at_place, fresh_link}
+use Rattle.server_links.specs.LinkSteps.{Stepped, admitting, over, over_named, place_of, raw_step}
+use Rattle.server_links.specs.LinkSteps.{step}
+use Rattle.server_links.specs.Moves.{turned, turn, run_one, run_all, run_requests, run_fed, close}
+use Rattle.server_links.specs.Moves.{stop, stopped_at, feed, serve_all, serve, take_down, all_bytes}
+use Rattle.server_links.specs.Moves.{send, read_lines, eof_lines, read_bytes}
+use Rattle.server_links.specs.Moves.{receive_all, receive, move_of}
+use Rattle.server_links.specs.OneHistory.{read_on}
+use Rattle.server_links.specs.Outcome.{Outcome, and_then, does, refuses, stays, within}
+use Rattle.server_links.specs.Session.{Session, session_at, with_session, with_link, with_down}
+use Rattle.server_links.specs.Transcript.{up_to}
+use Rattle.server_links.proofs.Carries.{read_more}
+use Rattle.server_links.proofs.Names.{names_itself, placed, unplaced}
+use Rattle.server_links.proofs.Outcomes.{Meets, meets_stays, meets_once, meets_refuses}
+use Rattle.server_links.proofs.Outcomes.{meets_then, meets_weaker, meets_within}
+use Rattle.server_links.proofs.Moving.{every_move}
+use Rattle.world_run.proofs.Members.{LinkGrows}
+
+-- ---- what grows
+
+pub grows_none : (w : LinksState) → LinkGrows w w
+grows_none w = record {
+  limits = refl;
+  size = omega arith;
+  names = λ i lt. refl;
+  entries = [];
+  grows = refl;
+  unique = λ u. u;
+}
+
+module _ (w : LinksState) (at : ℕ) (below : at < length w.links) (t : Session)
+    (named : t.link.name ≡ (at_place w.links at).name) where
+  over_names : (i : ℕ) → (at_place (with_session at w t).links i).name
+      ≡ (at_place w.links i).name
+  over_names i = elim (at == i) as (λ b. (at == i) ≡ b
+      → (at_place (slice_set w.links at t.link) i).name ≡ (at_place w.links i).name) [
+        | true ↦ λ e.
+            subst (λ k. (at_place (slice_set w.links at t.link) k).name
+            ≡ (at_place w.links k).name) (eqb-true at i e)
+            (ap (λ (x : Link). x.name)
+            (get_or-set_same w.links at t.link (fresh_link 0 []) below) ∙ named)
+        | false ↦ λ e. ap (λ (x : Link). x.name)
+            (get_or-set_other w.links at i t.link (fresh_link 0 [])
+            (λ q. let f : (at == i) ≡ true = eq-eqb at i (sym q) in cc))
+      ] refl
+
+  over_size : length (with_session at w t).links ≡ length w.links
+  over_size = length-set w.links at t.link
+
+  over_grows : (entries : List Entry) → t.past ≡ entries ++ w.past
+      → LinkGrows w (with_session at w t)
+  over_grows entries grows = record {
+    limits = refl;
+    size = omega (arith, over_size);
+    names = λ i lt. over_names i;
+    entries = entries;
+    grows = grows;
+    unique = λ u i j li lj e. u i j (omega (arith, li, over_size)) (omega (arith, lj, over_size))
+        (sym (over_names j) ∙ e ∙ over_names i);
+  }
+
+-- the links have grown, and nothing was read on another link
+pub record LinkMoved (w : LinksState) (name : List ℕ) (v : LinksState) (ls : List Line) : Type 0
+  where
+    pub grows : LinkGrows w v
+    pub mute : (n : List ℕ) → bytes_eq name n ≡ false → read_on n ls ≡ []
+
+moved_none : (w : LinksState) (name : List ℕ) → LinkMoved w name w []
+moved_none w name = record { grows = grows_none w; mute = λ n e. refl }
+
+over_moved : (at : ℕ) (event : LinkEvent) (w : LinksState) (name : List ℕ)
+    → at < length w.links → (at_place w.links at).name ≡ name
+    → Meets (LinkMoved w name) (LinkMoved w name) (over at (move_of event) w)
+unfolding over
+over_moved at event w name below is =
+    let c = (every_move event (session_at at w)).carries in
+    meets_within (with_session at w) (LinkMoved w name) (LinkMoved w name)
+    (move_of event (session_at at w)) (record {
+      ends = λ e. (let d = c.ends e in record {
+        grows = over_grows w at below (move_of event (session_at at w)).state d.named d.entries
+            d.grows;
+        mute = λ n q. d.mute n (ap (λ x. bytes_eq x n) is ∙ q);
+      });
+      all = λ t ls r. (let d = c.all t ls r in record {
+        grows = over_grows w at below t d.named d.entries d.grows;
+        mute = λ n q. d.mute n (ap (λ x. bytes_eq x n) is ∙ q);
+      });
+    })
+
+named_moved : (name : List ℕ) (event : LinkEvent) (w : LinksState)
+    → Meets (LinkMoved w name) (LinkMoved w name) (over_named (place_of name w) (move_of event) w)
+named_moved name event w = elim (place_of name w) as (λ p. place_of name w ≡ p
+    → Meets (LinkMoved w name) (LinkMoved w name) (over_named p (move_of event) w)) [
+      | None ↦ λ none. meets_refuses (LinkMoved w name) (LinkMoved w name) w NoName
+          (moved_none w name)
+      | Some at ↦ λ is. (let p = placed name w at is in over_moved at event w name p.0 p.1)
+    ] refl
+
+-- a link more
+made_grows : (w : LinksState) (id : ℕ) (name : List ℕ) → place_of name w ≡ None
+    → LinkGrows w (record {
+      limits = w.limits;
+      now = w.now;
+      past = entry.Admit id ∷ w.past;
+      links = w.links ++ fresh_link id name ∷ [];
+    })
+made_grows w id name free =
+    let new = w.links ++ fresh_link id name ∷ [] in
+    let size = length-append w.links (fresh_link id name ∷ []) in
+    let old : (i : ℕ) → i < length w.links → at_place new i ≡ at_place w.links i =
+    λ i lt. get_or_append_left w.links (fresh_link id name ∷ []) (fresh_link 0 []) i lt in
+    let last : (i : ℕ) → i ≡ length w.links → (at_place new i).name ≡ name =
+    λ i e. ap (λ (x : Link). x.name)
+    (get_or_push w.links (fresh_link id name) (fresh_link 0 []) i (sym e)) in
+    record {
+      limits = refl;
+      size = omega (arith, size);
+      names = λ i lt. ap (λ (x : Link). x.name) (old i lt);
+      entries = entry.Admit id ∷ [];
+      grows = refl;
+      unique = λ u i j li lj e. elim (cases_lt i (length w.links)) [
+        | inl bi ↦ elim (cases_lt j (length w.links)) [
+          | inl bj ↦ u i j bi bj (sym (ap (λ (x : Link). x.name) (old j bj)) ∙ e
+              ∙ ap (λ (x : Link). x.name) (old i bi))
+          | inr oj ↦ absurd (unplaced name w free i bi (sym (ap (λ (x : Link). x.name) (old i bi))
+              ∙ sym e ∙ last j (omega (arith, oj, lj, size))))
+        ]
+        | inr oi ↦ elim (cases_lt j (length w.links)) [
+          | inl bj ↦ absurd (unplaced name w free j bj (sym (ap (λ (x : Link). x.name) (old j bj))
+              ∙ e ∙ last i (omega (arith, oi, li, size))))
+          | inr oj ↦ omega (arith, oi, oj, li, lj, size)
+        ]
+      ];
+    }
+
+raw_moved : (name : List ℕ) (w : LinksState)
+    → Meets (LinkMoved w name) (LinkMoved w name) (raw_step w name (place_of name w))
+unfolding book_step
+raw_moved name w = elim (place_of name w) as (λ p. place_of name w ≡ p
+    → Meets (LinkMoved w name) (LinkMoved w name) (raw_step w name p)) [
+      | Some at ↦ λ is. meets_refuses (LinkMoved w name) (LinkMoved w name) w NameTaken
+          (moved_none w name)
+      | None ↦ λ free.
+          elim (is_full w.limits w.past) as (λ b. Meets (LinkMoved w name) (LinkMoved w name)
+          (admitting w name (cond b (steps.full w.past) (steps.admitting w.past)))) [
+            | true ↦ meets_once (LinkMoved w name) (LinkMoved w name) w w [] _
+                (λ e. moved_none w name) (moved_none w name) (moved_none w name)
+            | false ↦
+                let made = made_grows w (admitted w.past + 1) name free in
+                let m : (ls : List Line) → ((n : List ℕ) → read_on n ls ≡ [])
+                → LinkMoved w name _ ls = λ ls q. record { grows = made; mute = λ n e. q n } in
+                meets_once (LinkMoved w name) (LinkMoved w name) w _ _ None
+                (λ e. m _ (λ n. refl)) (moved_none w name) (m _ (λ n. refl))
+          ]
+    ] refl
+
+unfoldable pub name_of_event : LinkEvent → List ℕ
+name_of_event (Raw name) = name
+name_of_event (Put name bytes) = name
+name_of_event (Over name move) = name
+
+pub step_moved : (w : LinksState) (event : LinkEvent)
+    → Meets (LinkMoved w (name_of_event event)) (LinkMoved w (name_of_event event)) (step w event)
+unfolding step name_of_event
+step_moved w (Raw name) = raw_moved name w
+step_moved w (Put name bytes) = named_moved name (Put name bytes) w
+step_moved w (Over name move) = named_moved name (Over name move) w
+
+-- ---- nothing is read
+
+unfoldable pub Mute : List Line → Type 0
+Mute ls = (n : List ℕ) → read_on n ls ≡ []
+
+unfoldable pub Mutes : {S : Type 0} → Outcome S → Type 0
+Mutes m = Meets (λ s ls. Mute ls) (λ s ls. Mute ls) m
+
+nothing_read : Mute []
+unfolding Mute
+nothing_read n = refl
+
+pub mute_both : (a b : List Line) → Mute a → Mute b → Mute (a ++ b)
+unfolding Mute
+mute_both a b f g n = read_more n a b ∙ ap (λ x. x ++ read_on n b) (f n) ∙ g n
+
+mutes_stays : {S : Type 0} → (s : S) → Mutes (stays s)
+unfolding Mutes
+mutes_stays s = meets_stays (λ t ls. Mute ls) (λ t ls. Mute ls) s nothing_read nothing_read
+
+mutes_refuses : {S : Type 0} → (s : S) (f : WorldFault) → Mutes (refuses s f)
+unfolding Mutes
+mutes_refuses s f = meets_refuses (λ t ls. Mute ls) (λ t ls. Mute ls) s f nothing_read
+
+mutes_once : {S : Type 0} → (old new : S) (lines : List Line) (fault : Option WorldFault)
+    → Mute lines
+    → Mutes (record { state = new; lines = lines; fault = fault; points = (old, []) ∷ [] })
+unfolding Mutes
+mutes_once old new lines fault m =
+    meets_once (λ t ls. Mute ls) (λ t ls. Mute ls) old new lines fault (λ e. m) nothing_read m
+
+mutes_then : {S : Type 0} → (m : Outcome S) (next : S → Outcome S) → Mutes m
+    → ((t : S) → Mutes (next t)) → Mutes (and_then m next)
+unfolding Mutes
+mutes_then m next h g =
+    meets_then (λ t ls. Mute ls) (λ t ls. Mute ls) (λ t ls. Mute ls) m next h
+    (λ none q. meets_weaker (λ t ls. Mute ls) (λ t ls. Mute (m.lines ++ ls)) (λ t ls. Mute ls)
+    (λ t ls. Mute (m.lines ++ ls)) (next m.state) (λ t ls n. mute_both m.lines ls q n)
+    (λ t ls n. mute_both m.lines ls q n) (g m.state))
+
+mute_reply : (link : List ℕ) (words : List (List ℕ)) (reply : BookReply)
+    → Mute (reply_lines link words reply)
+unfolding Mute
+mute_reply link words (Admitted e id) n = refl
+mute_reply link words (Ran e) n = refl
+mute_reply link words Quiet n = refl
+mute_reply link words (Bytes e bytes) n = refl
+mute_reply link words (Closed e) n = refl
+mute_reply link words (Refused r) n = refl
+
+mutes_turned : (s : Session) (words : List (List ℕ)) (t : Turn) → Mutes (turned s words t)
+mutes_turned s words t = mutes_once s _ _ _ (mute_reply s.link.name words t.reply)
+
+mutes_does : (s new : Session) → Mutes (does s new [])
+mutes_does s new = mutes_once s new [] None nothing_read
+
+mutes_run_all : (requests : List (List (List ℕ))) (s : Session) → Mutes (run_all requests s)
+unfolding run_all run_one turn
+mutes_run_all [] s = mutes_stays s
+mutes_run_all (words ∷ requests) s =
+    mutes_then (run_one words s) (run_all requests)
+    (mutes_then _ _ (mutes_does s _) (λ t. mutes_turned t words _)) (mutes_run_all requests)
+
+mutes_close : (s : Session) → Mutes (close s)
+unfolding close turn
+mutes_close s = mutes_turned s [] _
+
+mutes_stop : (place : Option FaultPlace) (eof : Bool) (s : Session) → Mutes (stop place eof s)
+unfolding Mute
+mutes_stop (Some place) eof s =
+    mutes_then _ close (mutes_once s s _ None (λ n. refl)) mutes_close
+mutes_stop None true s = mutes_close s
+mutes_stop None false s = mutes_stays s
+
+mutes_run_fed : (eof : Bool) (s : Session) → Mutes (run_fed eof s)
+unfolding run_fed run_requests
+mutes_run_fed eof s =
+    mutes_then (run_requests s) _
+    (mutes_then (run_all (parse s.link.reader).items s) _
+    (mutes_run_all (parse s.link.reader).items s) (λ t. mutes_does t _))
+    (mutes_stop (stopped_at (parse s.link.reader).fault) eof)
+
+mutes_serve : (count : Option ℕ) (s : Session) → Mutes (serve count s)
+unfolding serve_all
+mutes_serve None s =
+    elim (reads_on s.limits s.past s.link.id) as (λ b. Mutes
+    (cond b (and_then (feed s.link.up.bytes (past_eof (without_bytes s.link.up)) s)
+    (run_fed (is_queued s.link.up.eof))) (stays s))) [
+      | true ↦ mutes_then _ _ (mutes_does s _) (mutes_run_fed (is_queued s.link.up.eof))
+      | false ↦ mutes_stays s
+    ]
+mutes_serve (Some n) s =
+    elim (reads_on s.limits s.past s.link.id && nat_le n (length s.link.up.bytes)) as (λ b. Mutes
+    (cond b (and_then (feed (take n s.link.up.bytes) (without n s.link.up) s) (run_fed false))
+    (refuses s NothingThere))) [
+      | true ↦ mutes_then _ _ (mutes_does s _) (mutes_run_fed false)
+      | false ↦ mutes_refuses s NothingThere
+    ]
+
+mutes_take : (most : ℕ) (s : Session) → Mutes (take_down most s)
+unfolding take_down
+mutes_take most s = mutes_then _ _ (mutes_turned s [] _) (λ t. mutes_does t _)
+
+mutes_send : (count : Option ℕ) (s : Session) → Mutes (send count s)
+mutes_send None s =
+    let ended = with_link s (with_down s.link (finished s.link.down)) in
+    elim (is_open s.link.down.eof) as (λ b. Mutes
+    (cond b (cond (gives_on s.limits s.past s.link.id) (take_down all_bytes s) (stays ended))
+    (stays s))) [
+      | true ↦ elim (gives_on s.limits s.past s.link.id) as (λ b. Mutes
+          (cond b (take_down all_bytes s) (stays ended))) [
+            | true ↦ mutes_take all_bytes s
+            | false ↦ mutes_stays ended
+          ]
+      | false ↦ mutes_stays s
+    ]
+mutes_send (Some n) s =
+    elim (is_open s.link.down.eof && gives_on s.limits s.past s.link.id && nat_le n
+    (length (unsent s.limits s.link.id s.past))) as (λ b. Mutes
+    (cond b (take_down n s) (refuses s NothingThere))) [
+      | true ↦ mutes_take n s
+      | false ↦ mutes_refuses s NothingThere
+    ]
+
+-- an event by which no client's end reads
+unfoldable pub IsUnread : LinkEvent → Type 0
+IsUnread (Raw name) = Unit {0}
+IsUnread (Put name bytes) = Unit {0}
+IsUnread (Over name (moves.Serve count)) = Unit {0}
+IsUnread (Over name (moves.Send count)) = Unit {0}
+IsUnread (Over name (moves.Recv count)) = ⊥
+IsUnread (Over name moves.Flow) = ⊥
+IsUnread (Over name moves.HangUp) = Unit {0}
+IsUnread (Over name moves.Cut) = Unit {0}
+
+mutes_move : (event : LinkEvent) (s : Session) → IsUnread event → Mutes (move_of event s)
+unfolding IsUnread
+mutes_move (Raw name) s h = mutes_stays s
+mutes_move (Put name bytes) s h = mutes_does s _
+mutes_move (Over name (moves.Serve count)) s h = mutes_serve count s
+mutes_move (Over name (moves.Send count)) s h = mutes_send count s
+mutes_move (Over name (moves.Recv count)) s h = absurd h
+mutes_move (Over name moves.Flow) s h = absurd h
+mutes_move (Over name moves.HangUp) s h = mutes_stays _
+mutes_move (Over name moves.Cut) s h = mutes_stays _
+
+mutes_named : (p : Option ℕ) (event : LinkEvent) (w : LinksState) → IsUnread event
+    → Mutes (over_named p (move_of event) w)
+unfolding over Mutes
+mutes_named None event w h = mutes_refuses w NoName
+mutes_named (Some at) event w h =
+    meets_within (with_session at w) (λ t ls. Mute ls) (λ t ls. Mute ls) _
+    (mutes_move event (session_at at w) h)
+
+mutes_raw : (name : List ℕ) (p : Option ℕ) (w : LinksState) → Mutes (raw_step w name p)
+mutes_raw name (Some at) w = mutes_refuses w NameTaken
+mutes_raw name None w = mutes_once w _ _ _ (mute_reply name [] _)
+
+pub step_mutes : (w : LinksState) (event : LinkEvent) → IsUnread event → Mutes (step w event)
+unfolding step
+step_mutes w (Raw name) h = mutes_raw name (place_of name w) w
+step_mutes w (Put name bytes) h = mutes_named (place_of name w) (Put name bytes) w h
+step_mutes w (Over name move) h = mutes_named (place_of name w) (Over name move) w h
+
+-- ---- what is read
+
+read_own : (name bytes : List ℕ) → read_on name (read_lines name bytes) ≡ bytes
+read_own name [] = refl
+read_own name (b ∷ bytes) =
+    ap (λ v. cond v (b ∷ bytes) [] ++ []) (names_itself name name refl) ∙ append-nil (b ∷ bytes)
+
+eof_own : (link name : List ℕ) (b : Bool) → read_on name (eof_lines link b) ≡ []
+eof_own link name true = refl
+eof_own link name false = refl
+
+-- what a client's end reads of its link
+pub record HasRead (name bytes : List ℕ) (left : Option ℕ) (m : Outcome Session) : Type 0 where
+  pub reads : m.fault ≡ None → read_on name m.lines ≡ up_to left bytes
+  pub leaves : (n : ℕ) → left ≡ Some n → m.fault ≡ None → m.state.link.down.bytes ≡ drop n bytes
+
+not_some : (n : ℕ) → None ≡ Some n → ⊥
+not_some n e = cc
+
+refused : Some NothingThere ≡ None → ⊥
+refused e = cc
+
+received : (count : Option ℕ) (s : Session)
+    → HasRead s.link.name s.link.down.bytes count (receive count s)
+unfolding receive_all and_then
+received None s =
+    let name = s.link.name in
+    let bytes = s.link.down.bytes in
+    record {
+      reads = λ e. read_more name (read_lines name bytes)
+          (eof_lines name (is_queued s.link.down.eof))
+          ∙ ap (λ x. read_on name (read_lines name bytes) ++ x)
+          (eof_own name name (is_queued s.link.down.eof))
+          ∙ append-nil (read_on name (read_lines name bytes))
+          ∙ read_own name bytes;
+      leaves = λ n e none. absurd (not_some n e);
+    }
+received (Some n) s =
+    let name = s.link.name in
+    let bytes = s.link.down.bytes in
+    elim (nat_le n (length bytes)) as (λ b. HasRead name bytes (Some n)
+    (cond b (read_bytes (take n bytes) (without n s.link.down) s) (refuses s NothingThere))) [
+      | true ↦ record {
+        reads = λ e. read_own name (take n bytes);
+        leaves = λ k e none. ap (λ i. drop i bytes) (let same : n ≡ k = cc in same);
+      }
+      | false ↦ record {
+        reads = λ e. absurd (refused e);
+        leaves = λ k e none. absurd (refused none);
+      }
+    ]
+
+pub record StepReads (w : LinksState) (name : List ℕ) (at : ℕ) (count : Option ℕ) : Type 0 where
+  pub reads : (step w (Over name (moves.Recv count))).fault ≡ None
+      → read_on name (step w (Over name (moves.Recv count))).lines
+      ≡ up_to count (at_place w.links at).down.bytes
+  pub leaves : (n : ℕ) → count ≡ Some n
+      → (step w (Over name (moves.Recv count))).fault ≡ None
+      → (at_place (step w (Over name (moves.Recv count))).state.links at).down.bytes
+      ≡ drop n (at_place w.links at).down.bytes
+
+pub step_reads : (w : LinksState) (name : List ℕ) (at : ℕ) (count : Option ℕ)
+    → place_of name w ≡ Some at → StepReads w name at count
+unfolding step over within
+step_reads w name at count is =
+    let p = placed name w at is in
+    let r = received count (session_at at w) in
+    let same : step w (Over name (moves.Recv count)) ≡ over at (receive count) w =
+    ap (λ q. over_named q (receive count) w) is in
+    record {
+      reads = λ e. ap (λ (m : Stepped). read_on name m.lines) same
+          ∙ ap (λ n. read_on n (receive count (session_at at w)).lines) (sym p.1)
+          ∙ r.reads (ap (λ (m : Stepped). m.fault) (sym same) ∙ e);
+      leaves = λ n c e. ap (λ (m : Stepped). (at_place m.state.links at).down.bytes) same
+          ∙ ap (λ (x : Link). x.down.bytes)
+          (get_or-set_same w.links at (receive count (session_at at w)).state.link
+          (fresh_link 0 []) p.0)
+          ∙ r.leaves n c (ap (λ (m : Stepped). m.fault) (sym same) ∙ e);
+    }

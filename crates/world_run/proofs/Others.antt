@@ -1,0 +1,311 @@
+-- The links and the clients that an event does not name are as they were.
+use Rattle.std.proofs.Common.{◌≡◌, ◌≤◌, ℕ, zero, suc, List, [], ◌∷◌, Bool, true}
+use Rattle.std.proofs.Common.{false, cond, Some, None, Option, length, refl, sym, ap, subst, ◌∙◌}
+use Rattle.std.proofs.Common.{arith, inl, inr, not, slice_index_or}
+use Rattle.std.proofs.lemmas.Bool.{cases_lt}
+use Rattle.std.proofs.lemmas.List.{get_or-set_other}
+use Rattle.resp_value.specs.Lists.{IsPrefix}
+use Rattle.resp_value.specs.Spelling.{request_spelling}
+use Rattle.serial_model.specs.declared.history.Limits.{Limits}
+use Rattle.shared_cache.specs.declared.log.ClientCall.TheVariants as call
+use Rattle.shared_cache.specs.declared.log.ClientMode.{ClientMode}
+use Rattle.script_text.specs.declared.event.Event.{Event}
+use Rattle.script_text.specs.declared.event.Event.TheVariants.{Raw, Say, Bytes, Client, Out, Serve}
+use Rattle.script_text.specs.declared.event.Event.TheVariants.{Send, Recv, Flow, FlowAll, Cut, Ask}
+use Rattle.script_text.specs.declared.event.Event.TheVariants.{Do, Poll, Show}
+use Rattle.script_text.specs.declared.line.Line.{Line}
+use Rattle.server_links.specs.declared.fault.WorldFault.{WorldFault}
+use Rattle.server_links.specs.declared.fault.WorldFault.TheVariants.{NameTaken, NoName}
+use Rattle.server_links.specs.declared.fault.WorldFault.TheVariants.{NothingThere}
+use Rattle.server_links.specs.declared.fault.WorldFault.TheVariants.{Refused}
+use Rattle.server_links.specs.declared.link.LinkMove.{LinkMove}
+use Rattle.server_links.specs.declared.link.LinkMove.TheVariants as moves
+use Rattle.server_links.specs.LinkEvent as link_event
+use Rattle.server_links.specs.LinkEvent.{LinkEvent}
+use Rattle.server_links.specs.LinksState.{at_place, fresh_link}
+use Rattle.server_links.specs.LinkSteps as links
+use Rattle.server_links.specs.LinkSteps.{place_of}
+use Rattle.server_links.specs.Outcome.{Outcome, Reached, and_then, does, refuses, stays}
+use Rattle.server_links.proofs.Outcomes.{Fronts, fronts_once, fronts_reached, fronts_refuses}
+use Rattle.server_links.proofs.Outcomes.{fronts_stays, fronts_then, fronts_within}
+use Rattle.server_links.proofs.Outcomes.{Meets, meets_refuses, meets_stays, meets_weaker}
+use Rattle.server_links.proofs.Outcomes.{meets_within}
+use Rattle.world_run.specs.WorldState.{WorldState, client_named, client_of_link}
+use Rattle.world_run.specs.WorldState.{data_link, fresh_member, member_at, no_setup}
+use Rattle.world_run.specs.Members.{Seat, seat_at, with_seat}
+use Rattle.world_run.specs.ClientMoves as client
+use Rattle.world_run.specs.ClientMoves.{show, turn}
+use Rattle.world_run.specs.OneHistory.{OthersKept, link_named}
+use Rattle.world_run.specs.World.{Stepped, client_does, client_step, flow_at, flow_first, flow_step}
+use Rattle.world_run.specs.World.{is_served, is_taken, join, links_step, named_does, not_served}
+use Rattle.world_run.specs.World.{out_step, raw_out, recv_step, said_step, setup_by, step}
+use Rattle.world_run.specs.World.{on_links}
+use Rattle.server_links.proofs.Events.{step_fronts}
+use Rattle.world_run.proofs.Clients.{place_is}
+use Rattle.world_run.proofs.Kept.{LinksKept, Orderly, links_same, named_kept, o_flow, o_out}
+use Rattle.world_run.proofs.Kept.{o_receive, o_show, o_turn}
+use Rattle.world_run.proofs.Names.{client_there, link_there}
+use Rattle.world_run.proofs.Worlds.{WorldStands}
+
+-- ---- what is printed by then
+
+f_if : {S : Type 0} → (b : Bool) (m n : Outcome S) → Fronts m → Fronts n → Fronts (cond b m n)
+f_if true m n a b = a
+f_if false m n a b = b
+
+f_event : (event : LinkEvent) (w : WorldState) → Fronts (links_step event w)
+unfolding links_step
+f_event event w =
+    fronts_within (on_links w) (links.step w.links event) (step_fronts event w.links)
+
+f_client : (at : ℕ) (move : Seat → Outcome Seat) → ((s : Seat) → Orderly s (move s))
+    → (w : WorldState) → Fronts (client_does at move w)
+unfolding client_does
+f_client at move o w =
+    fronts_within (with_seat at w) (move (seat_at at w)) (o (seat_at at w)).fronts
+
+f_flow : (c : Option ℕ) (name : List ℕ) (w : WorldState) → Fronts (flow_step c name w)
+f_flow None name w = f_event (link_event.Over name moves.Flow) w
+f_flow (Some at) name w = f_client at client.flow o_flow w
+
+f_first : (n : ℕ) (w : WorldState) → Fronts (flow_first n w)
+unfolding flow_first
+f_first zero w = fronts_stays w
+f_first (suc n) w =
+    fronts_then (flow_first n w) (flow_at n) (f_first n w)
+    (λ v. let name = (at_place v.links.links n).name in
+    f_flow (client_of_link name v.members) name v)
+
+f_make : (name : List ℕ) (mode : ClientMode) (capacity : ℕ) (w : WorldState)
+    → Fronts (client_step name mode capacity w)
+f_make name mode capacity w =
+    f_if (not (is_served mode)) (refuses w (Refused not_served)) _
+    (fronts_refuses w (Refused not_served))
+    (f_if (is_taken name w) (refuses w NameTaken) _ (fronts_refuses w NameTaken)
+    (fronts_then (does w w [])
+    (λ w. and_then (links_step (link_event.Raw (data_link name)) w)
+    (join name (length w.links.links) (setup_by w mode capacity))) (fronts_once w w [] None)
+    (λ v. fronts_then (links_step (link_event.Raw (data_link name)) v)
+    (join name (length v.links.links) (setup_by v mode capacity))
+    (f_event (link_event.Raw (data_link name)) v) (λ u. fronts_stays _))))
+
+f_said : (c : Option ℕ) (name bytes : List ℕ) (w : WorldState) → Fronts (said_step c name bytes w)
+f_said None name bytes w = f_event (link_event.Put name bytes) w
+f_said (Some at) name bytes w = fronts_refuses w NoName
+
+f_raw_out : (p count : Option ℕ) (w : WorldState) → Fronts (raw_out p count w)
+f_raw_out None count w = fronts_refuses w NoName
+f_raw_out (Some at) None w = fronts_stays w
+f_raw_out (Some at) (Some n) w = fronts_refuses w NothingThere
+
+f_out : (c : Option ℕ) (name : List ℕ) (count : Option ℕ) (w : WorldState)
+    → Fronts (out_step c name count w)
+f_out None name count w = f_raw_out (place_of name w.links) count w
+f_out (Some at) name count w = f_client at (client.out count) (o_out count) w
+
+f_recv : (c : Option ℕ) (name : List ℕ) (count : Option ℕ) (w : WorldState)
+    → Fronts (recv_step c name count w)
+f_recv None name count w = f_event (link_event.Over name (moves.Recv count)) w
+f_recv (Some at) name count w = f_client at (client.receive count) (o_receive count) w
+
+f_named : (c : Option ℕ) (move : Seat → Outcome Seat) → ((s : Seat) → Orderly s (move s))
+    → (w : WorldState) → Fronts (named_does c move w)
+f_named None move o w = fronts_refuses w NoName
+f_named (Some at) move o w = f_client at move o w
+
+event_fronts : (e : Event) (w : WorldState) → Fronts (step w e)
+unfolding step
+event_fronts (Raw name) w =
+    f_if (is_taken name w) (refuses w NameTaken) (links_step (link_event.Raw name) w)
+    (fronts_refuses w NameTaken) (f_event (link_event.Raw name) w)
+event_fronts (Say name words) w =
+    f_said (client_of_link name w.members) name (request_spelling words) w
+event_fronts (Bytes name bytes) w = f_said (client_of_link name w.members) name bytes w
+event_fronts (Client name mode capacity) w = f_make name mode capacity w
+event_fronts (Out name count) w = f_out (client_of_link name w.members) name count w
+event_fronts (Serve name count) w = f_event (link_event.Over name (moves.Serve count)) w
+event_fronts (Send name count) w = f_event (link_event.Over name (moves.Send count)) w
+event_fronts (Recv name count) w = f_recv (client_of_link name w.members) name count w
+event_fronts (Flow name) w = f_flow (client_of_link name w.members) name w
+event_fronts FlowAll w = f_first (length w.links.links) w
+event_fronts (Cut name) w = f_event (link_event.Over name moves.Cut) w
+event_fronts (Ask name q) w =
+    f_named (client_named name w.members) (turn (call.Ask q)) (o_turn (call.Ask q)) w
+event_fronts (Do name words) w =
+    f_named (client_named name w.members) (turn (call.Send words)) (o_turn (call.Send words)) w
+event_fronts (Poll name n) w =
+    f_named (client_named name w.members) (turn (call.Poll n)) (o_turn (call.Poll n)) w
+event_fronts (Show name) w = f_named (client_named name w.members) show o_show w
+
+pub printed_first : (w : WorldState) (e : Event) (new : WorldState) (printed : List Line)
+    → Reached (step w e) new printed → IsPrefix printed (step w e).lines
+printed_first w e new printed r = fronts_reached (step w e) (event_fronts e w) new printed r
+
+-- ---- what is left
+
+record Apart (w : WorldState) (name : List ℕ) (v : WorldState) : Type 0 where
+  links : LinksKept w.links name v.links
+  members : (i : ℕ) → ((member_at w.members i).link ≡ name → ⊥)
+      → member_at v.members i ≡ member_at w.members i
+
+apart_same : (w : WorldState) (name : List ℕ) → Apart w name w
+apart_same w name = record { links = links_same w.links name; members = λ i n. refl }
+
+abbrev Leaves : WorldState → List ℕ → Stepped → Type 0
+Leaves w name m = Meets (λ v ls. Apart w name v) (λ v ls. Apart w name v) m
+
+a_refused : (w : WorldState) (name : List ℕ) (f : WorldFault) → Leaves w name (refuses w f)
+a_refused w name f =
+    meets_refuses (λ v ls. Apart w name v) (λ v ls. Apart w name v) w f (apart_same w name)
+
+a_same : (w : WorldState) (name : List ℕ) → Leaves w name (stays w)
+a_same w name =
+    meets_stays (λ v ls. Apart w name v) (λ v ls. Apart w name v) w (apart_same w name)
+    (apart_same w name)
+
+a_event : (event : LinkEvent) (name : List ℕ) (w : WorldState)
+    → Meets (λ v ls. LinksKept w.links name v) (λ v ls. LinksKept w.links name v)
+    (links.step w.links event) → Leaves w name (links_step event w)
+unfolding links_step
+a_event event name w k =
+    meets_within (on_links w) (λ v ls. Apart w name v) (λ v ls. Apart w name v)
+    (links.step w.links event)
+    (meets_weaker (λ v ls. LinksKept w.links name v) (λ v ls. Apart w name (on_links w v))
+    (λ v ls. LinksKept w.links name v) (λ v ls. Apart w name (on_links w v))
+    (links.step w.links event) (λ v ls q. record { links = q; members = λ i n. refl })
+    (λ v ls q. record { links = q; members = λ i n. refl }) k)
+
+a_over : (name : List ℕ) (move : LinkMove) (w : WorldState)
+    → Leaves w name (links_step (link_event.Over name move) w)
+unfolding links.step
+a_over name move w =
+    a_event (link_event.Over name move) name w
+    (named_kept (link_event.Over name move) w.links name)
+
+a_put : (name bytes : List ℕ) (w : WorldState)
+    → Leaves w name (links_step (link_event.Put name bytes) w)
+unfolding links.step
+a_put name bytes w =
+    a_event (link_event.Put name bytes) name w
+    (named_kept (link_event.Put name bytes) w.links name)
+
+a_client : (at : ℕ) (name : List ℕ) (move : Seat → Outcome Seat)
+    → ((s : Seat) → Orderly s (move s)) → (w : WorldState)
+    → (member_at w.members at).link ≡ name → Leaves w name (client_does at move w)
+unfolding client_does
+a_client at name move o w is =
+    let s = seat_at at w in
+    let apart : (t : Seat) → LinksKept w.links s.member.link t.links
+    → Apart w name (with_seat at w t) = λ t k. record {
+      links = subst (λ n. LinksKept w.links n t.links) is k;
+      members = λ i n. get_or-set_other w.members at i t.member (fresh_member [] 0 no_setup)
+          (λ e. n (ap (λ k. (member_at w.members k).link) e ∙ is));
+    } in
+    meets_within (with_seat at w) (λ v ls. Apart w name v) (λ v ls. Apart w name v) (move s)
+    (record {
+      ends = λ none. apart (move s).state ((o s).kept.ends none).links;
+      all = λ t ls r. apart t ((o s).kept.all t ls r).links;
+    })
+
+module _ (l : Limits) (heard : ℕ → List ℕ) (raw : List ℕ → List ℕ) (lines : List Line)
+    (w : WorldState) (h : WorldStands l heard raw lines w) where
+  a_linked : (name : List ℕ) (move : Seat → Outcome Seat) (m : Stepped)
+      → ((s : Seat) → Orderly s (move s)) → (at : ℕ) → client_of_link name w.members ≡ Some at
+      → Leaves w name (client_does at move w)
+  a_linked name move m o at is = a_client at name move o w (link_there name w.members at is).1
+
+  a_named : (name : List ℕ) (move : Seat → Outcome Seat) → ((s : Seat) → Orderly s (move s))
+      → Leaves w (data_link name) (named_does (client_named name w.members) move w)
+  a_named name move o =
+      elim (client_named name w.members) as (λ c. client_named name w.members ≡ c
+      → Leaves w (data_link name) (named_does c move w)) [
+        | None ↦ λ none. a_refused w (data_link name) NoName
+        | Some at ↦ λ is.
+            let there = client_there name w.members at is in
+            a_client at (data_link name) move o w
+            ((h.each at there.0).0.named ∙ ap data_link there.1)
+      ] refl
+
+  a_by : (name : List ℕ) (step_by : Option ℕ → Stepped) → Leaves w name (step_by None)
+      → ((at : ℕ) → client_of_link name w.members ≡ Some at → Leaves w name (step_by (Some at)))
+      → Leaves w name (step_by (client_of_link name w.members))
+  a_by name step_by f g =
+      elim (client_of_link name w.members) as (λ c. client_of_link name w.members ≡ c
+      → Leaves w name (step_by c)) [ None ↦ λ none. f | Some at ↦ λ is. g at is ] refl
+
+  a_raw_out : (name : List ℕ) (p count : Option ℕ) → Leaves w name (raw_out p count w)
+  a_raw_out name None count = a_refused w name NoName
+  a_raw_out name (Some at) None = a_same w name
+  a_raw_out name (Some at) (Some n) = a_refused w name NothingThere
+
+  a_said : (name bytes : List ℕ)
+      → Leaves w name (said_step (client_of_link name w.members) name bytes w)
+  a_said name bytes =
+      a_by name (λ c. said_step c name bytes w) (a_put name bytes w)
+      (λ at is. a_refused w name NoName)
+
+  apart_then : (e : Event) (name : List ℕ) → link_named e ≡ Some name → Leaves w name (step w e)
+  unfolding step
+  apart_then (Raw n) name e = absurd (let no : ⊥ = cc in no)
+  apart_then (Say n words) name e =
+      subst (λ x. Leaves w x (step w (Say n words))) (let i : n ≡ name = cc in i)
+      (a_said n (request_spelling words))
+  apart_then (Bytes n bytes) name e =
+      subst (λ x. Leaves w x (step w (Bytes n bytes))) (let i : n ≡ name = cc in i)
+      (a_said n bytes)
+  apart_then (Client n mode capacity) name e = absurd (let no : ⊥ = cc in no)
+  apart_then (Out n count) name e =
+      subst (λ x. Leaves w x (step w (Out n count))) (let i : n ≡ name = cc in i)
+      (a_by n (λ c. out_step c n count w) (a_raw_out n (place_of n w.links) count)
+      (λ at is. a_linked n (client.out count) (stays w) (o_out count) at is))
+  apart_then (Serve n count) name e =
+      subst (λ x. Leaves w x (step w (Serve n count))) (let i : n ≡ name = cc in i)
+      (a_over n (moves.Serve count) w)
+  apart_then (Send n count) name e =
+      subst (λ x. Leaves w x (step w (Send n count))) (let i : n ≡ name = cc in i)
+      (a_over n (moves.Send count) w)
+  apart_then (Recv n count) name e =
+      subst (λ x. Leaves w x (step w (Recv n count))) (let i : n ≡ name = cc in i)
+      (a_by n (λ c. recv_step c n count w) (a_over n (moves.Recv count) w)
+      (λ at is. a_linked n (client.receive count) (stays w) (o_receive count) at is))
+  apart_then (Flow n) name e =
+      subst (λ x. Leaves w x (step w (Flow n))) (let i : n ≡ name = cc in i)
+      (a_by n (λ c. flow_step c n w) (a_over n moves.Flow w)
+      (λ at is. a_linked n client.flow (stays w) o_flow at is))
+  apart_then FlowAll name e = absurd (let no : ⊥ = cc in no)
+  apart_then (Cut n) name e =
+      subst (λ x. Leaves w x (step w (Cut n))) (let i : n ≡ name = cc in i)
+      (a_over n moves.Cut w)
+  apart_then (Ask n q) name e =
+      subst (λ x. Leaves w x (step w (Ask n q))) (let i : data_link n ≡ name = cc in i)
+      (a_named n (turn (call.Ask q)) (o_turn (call.Ask q)))
+  apart_then (Do n words) name e =
+      subst (λ x. Leaves w x (step w (Do n words))) (let i : data_link n ≡ name = cc in i)
+      (a_named n (turn (call.Send words)) (o_turn (call.Send words)))
+  apart_then (Poll n k) name e =
+      subst (λ x. Leaves w x (step w (Poll n k))) (let i : data_link n ≡ name = cc in i)
+      (a_named n (turn (call.Poll k)) (o_turn (call.Poll k)))
+  apart_then (Show n) name e =
+      subst (λ x. Leaves w x (step w (Show n))) (let i : data_link n ≡ name = cc in i)
+      (a_named n show o_show)
+
+  nothing_at : {A : Type 0} (xs : List A) (i : ℕ) (d : A) → length xs ≤ i
+      → slice_index_or xs i d ≡ d
+  nothing_at [] i d le = refl
+  nothing_at (x ∷ xs) zero d le = absurd (let no : ⊥ = omega (arith, le) in no)
+  nothing_at (x ∷ xs) (suc i) d le = nothing_at xs i d (omega (arith, le))
+
+  pub others_kept : (e : Event) (new : WorldState) (printed : List Line)
+      → Reached (step w e) new printed → (name : List ℕ) → link_named e ≡ Some name
+      → OthersKept w name new
+  others_kept e new printed r name is =
+      let a = (apart_then e name is).all new printed r in
+      record {
+        links = λ i n. elim (cases_lt i (length w.links.links)) [
+          | inl lt ↦ a.links.others i (λ same. n (place_is w.links h.links.unique name i lt same))
+          | inr ge ↦
+              nothing_at new.links.links i (fresh_link 0 []) (omega (arith, ge, a.links.size))
+              ∙ sym (nothing_at w.links.links i (fresh_link 0 []) (omega (arith, ge)))
+        ];
+        members = a.members;
+      }

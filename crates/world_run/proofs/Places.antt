@@ -1,0 +1,64 @@
+-- A link is found at the same place while the names of the links stay as they are.
+use Rattle.std.proofs.Common.{◌≡◌, ◌<◌, ℕ, List, [], true, false, cond, Some, None}
+use Rattle.std.proofs.Common.{length, refl, sym, ap, ◌∙◌, arith, inl, inr}
+use Rattle.std.specs.Prelude.{not, nat_lt}
+use Rattle.std.specs.List.{position_or_len}
+use Rattle.std.specs.Str.{bytes_eq}
+use Rattle.std.proofs.lemmas.Bool.{cases_lt}
+use Rattle.std.proofs.lemmas.List.Sums.{prefix_len_passes}
+use Rattle.server_links.specs.declared.link.Link.{Link}
+use Rattle.server_links.specs.LinksState.{LinksState, at_place, fresh_link}
+use Rattle.server_links.specs.LinkSteps.{place_of}
+use Rattle.server_links.proofs.Names.{names_itself, placed, unplaced}
+
+-- no link before the one that is found has the name
+first_place : (name : List ℕ) (w : LinksState) (at : ℕ) → place_of name w ≡ Some at → (i : ℕ)
+    → i < at → (at_place w.links i).name ≡ name → ⊥
+first_place name w at found i lt same =
+    let test = λ (l : Link). bytes_eq l.name name in
+    let l = position_or_len test w.links in
+    let is : l ≡ at =
+    elim (nat_lt l (length w.links)) as (λ b. cond b (Some l) None ≡ Some at → l ≡ at) [
+      | true ↦ λ e. cc
+      | false ↦ λ e. absurd cc
+    ] found in
+    let passed : not (test (at_place w.links i)) ≡ true =
+    prefix_len_passes (λ x. not (test x)) w.links i (fresh_link 0 []) (omega (arith, lt, is)) in
+    let there : test (at_place w.links i) ≡ true =
+    names_itself (at_place w.links i).name name same in
+    absurd (let no : not true ≡ true = ap not (sym there) ∙ passed in cc)
+
+pub record NamesKept (w v : LinksState) : Type 0 where
+  pub size : length v.links ≡ length w.links
+  pub names : (i : ℕ) → i < length w.links
+      → (at_place v.links i).name ≡ (at_place w.links i).name
+
+pub names_same : (w : LinksState) → NamesKept w w
+names_same w = record { size = refl; names = λ i lt. refl }
+
+pub names_both : (w u v : LinksState) → NamesKept w u → NamesKept u v → NamesKept w v
+names_both w u v a b = record {
+  size = b.size ∙ a.size;
+  names = λ i lt. b.names i (omega (arith, lt, a.size)) ∙ a.names i lt;
+}
+
+pub place_kept : (name : List ℕ) (w v : LinksState) (at : ℕ) → NamesKept w v
+    → place_of name w ≡ Some at → place_of name v ≡ Some at
+place_kept name w v at k found =
+    let p = placed name w at found in
+    elim (place_of name v) as (λ q. place_of name v ≡ q → q ≡ Some at) [
+      | None ↦ λ none. absurd (unplaced name v none at (omega (arith, p.0, k.size))
+          (k.names at p.0 ∙ p.1))
+      | Some j ↦ λ there.
+          let q = placed name v j there in
+          let below : j < length w.links = omega (arith, q.0, k.size) in
+          ap Some (elim (cases_lt j at) [
+            | inl lt ↦
+                absurd (first_place name w at found j lt (sym (k.names j below) ∙ q.1))
+            | inr ge ↦ elim (cases_lt at j) [
+              | inl more ↦
+                  absurd (first_place name v j there at more (k.names at p.0 ∙ p.1))
+              | inr le ↦ omega (arith, ge, le)
+            ]
+          ])
+    ] refl

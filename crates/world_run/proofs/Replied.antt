@@ -1,0 +1,212 @@
+-- Where in the history a client's answers stand: by the entries of its commands, from the last on.
+use Rattle.std.proofs.Common.{◌≡◌, ◌+◌, ◌-◌, ◌<◌, ◌≤◌, ℕ, zero, suc, List, [], ◌∷◌, ◌++◌, length}
+use Rattle.std.proofs.Common.{Bool, true, false, cond, drop, take, map, max, reverse, refl, sym, ap}
+use Rattle.std.proofs.Common.{◌∙◌, arith, Option, Some, None, inl, inr}
+use Rattle.std.specs.Prelude.{slice_get}
+use Rattle.std.proofs.lemmas.Bool.{cases_lt}
+use Rattle.std.proofs.lemmas.List.{reverse-append, length-reverse}
+use Rattle.serial_model.specs.declared.history.Limits.{Limits}
+use Rattle.serial_model.specs.declared.history.Entry.{Entry}
+use Rattle.serial_model.specs.declared.history.Entry.TheVariants.{Run}
+use Rattle.serial_model.specs.History.{Sending, run_entries, runs_of, sent}
+use Rattle.shared_cache.specs.declared.log.LogEntry.{LogEntry}
+use Rattle.shared_cache.specs.declared.log.Shape.TheVariants.{Single}
+use Rattle.shared_cache.specs.declared.log.Wire.TheVariants.{Main}
+use Rattle.shared_cache.specs.Log.{is_ended}
+use Rattle.shared_cache.specs.Laws.{gots}
+use Rattle.currency.specs.Links.{Client}
+use Rattle.currency.specs.Points.{before_first, complete, complete_by, complete_on, last_named}
+use Rattle.currency.specs.Points.{names_key}
+use Rattle.currency.proofs.Lists.{get_front, get_last}
+use Rattle.currency.proofs.Runs.{in_order, ran_at as run_at}
+use Rattle.server_links.specs.Notes.{sent_entries, words_at, words_if}
+
+-- ---- how far a client has processed
+
+first_some : (n : ℕ) (ss : List (ℕ × Sending)) (e all : ℕ)
+    → slice_get (map (λ (s : ℕ × Sending). s.0) ss) n ≡ Some e
+    → before_first (drop n ss) all ≡ e - 1
+first_some zero [] e all h = absurd (let no : ⊥ = cc in no)
+first_some zero (s ∷ ss) e all h = let same : s.0 ≡ e = cc in ap (λ n. n - 1) same
+first_some (suc n) [] e all h = absurd (let no : ⊥ = cc in no)
+first_some (suc n) (s ∷ ss) e all h = first_some n ss e all h
+
+first_none : (n : ℕ) (ss : List (ℕ × Sending)) (all : ℕ)
+    → slice_get (map (λ (s : ℕ × Sending). s.0) ss) n ≡ None
+    → before_first (drop n ss) all ≡ all
+first_none zero [] all h = refl
+first_none zero (s ∷ ss) all h = absurd (let no : ⊥ = cc in no)
+first_none (suc n) [] all h = refl
+first_none (suc n) (s ∷ ss) all h = first_none n ss all h
+
+module _ (l : Limits) (x : Client) (past : List Entry) (log : List LogEntry)
+    (single : x.setup.mode.shape ≡ Single) where
+  on_main : complete l x past log ≡ complete_on l x Main past log
+  on_main = ap (λ s. complete_by s (λ w. complete_on l x w past log)) single
+
+  pub complete_ended : is_ended x.setup.mode Main log ≡ true → length past ≡ complete l x past log
+  complete_ended e =
+      sym (on_main ∙ ap (λ b. cond b (length past)
+      (before_first (drop (length (gots Main log)) (sent l (x.id Main) past)) (length past))) e)
+
+  going : is_ended x.setup.mode Main log ≡ false
+      → complete l x past log
+      ≡ before_first (drop (length (gots Main log)) (sent l (x.id Main) past)) (length past)
+  going e =
+      on_main ∙ ap (λ b. cond b (length past)
+      (before_first (drop (length (gots Main log)) (sent l (x.id Main) past)) (length past))) e
+
+  pub complete_some : is_ended x.setup.mode Main log ≡ false → (n e : ℕ)
+      → n ≡ length (gots Main log)
+      → slice_get (sent_entries l (x.id Main) past) n ≡ Some e → e - 1 ≡ complete l x past log
+  complete_some on n e is h =
+      sym (going on ∙ first_some (length (gots Main log)) (sent l (x.id Main) past) e (length past)
+      (ap (slice_get (sent_entries l (x.id Main) past)) (sym is) ∙ h))
+
+  pub complete_none : is_ended x.setup.mode Main log ≡ false → (n : ℕ)
+      → n ≡ length (gots Main log)
+      → slice_get (sent_entries l (x.id Main) past) n ≡ None → length past ≡ complete l x past log
+  complete_none on n is h =
+      sym (going on ∙ first_none (length (gots Main log)) (sent l (x.id Main) past) (length past)
+      (ap (slice_get (sent_entries l (x.id Main) past)) (sym is) ∙ h))
+
+-- ---- the last entry that names a key
+
+module _ (key : List ℕ) where
+  named : Bool → ℕ → ℕ
+  named b r = cond b r 0
+
+  at_none : (k : ℕ) (ws : List (List (List ℕ))) (es : List ℕ) → slice_get es k ≡ None
+      → last_named key (take (suc k) ws) es ≡ last_named key (take k ws) es
+  at_none zero [] es e = refl
+  at_none zero (w ∷ ws) [] e = refl
+  at_none zero (w ∷ ws) (r ∷ es) e = absurd (let no : ⊥ = cc in no)
+  at_none (suc k) [] es e = refl
+  at_none (suc k) (w ∷ ws) [] e = refl
+  at_none (suc k) (w ∷ ws) (r ∷ es) e =
+      ap (max (cond (names_key w key) r 0)) (at_none k ws es e)
+
+  swapped : (x : ℕ) → max x 0 ≡ max 0 x
+  swapped x = omega arith
+
+  together : (x y z : ℕ) → max x (max y z) ≡ max (max x y) z
+  together x y z = omega arith
+
+  at_some : (k : ℕ) (ws : List (List (List ℕ))) (es : List ℕ) (w : List (List ℕ)) (e : ℕ)
+      → slice_get ws k ≡ Some w → slice_get es k ≡ Some e
+      → last_named key (take (suc k) ws) es
+      ≡ max (last_named key (take k ws) es) (cond (names_key w key) e 0)
+  at_some zero [] es w e a b = absurd (let no : ⊥ = cc in no)
+  at_some zero (v ∷ ws) [] w e a b = absurd (let no : ⊥ = cc in no)
+  at_some zero (v ∷ ws) (r ∷ es) w e a b =
+      let same : v ≡ w = cc in
+      let there : r ≡ e = cc in
+      swapped (cond (names_key v key) r 0)
+      ∙ ap (λ u. max 0 (cond (names_key u key) r 0)) same
+      ∙ ap (λ u. max 0 (cond (names_key w key) u 0)) there
+  at_some (suc k) [] es w e a b = absurd (let no : ⊥ = cc in no)
+  at_some (suc k) (v ∷ ws) [] w e a b = absurd (let no : ⊥ = cc in no)
+  at_some (suc k) (v ∷ ws) (r ∷ es) w e a b =
+      let x = cond (names_key v key) r 0 in
+      ap (max x) (at_some k ws es w e a b)
+      ∙ together x (last_named key (take k ws) es) (cond (names_key w key) e 0)
+
+  picked : (b : Bool) (r e : ℕ) → r ≤ e → cond b r 0 ≤ e
+  picked true r e le = le
+  picked false r e le = omega arith
+
+  bound : (k : ℕ) (ws : List (List (List ℕ))) (es : List ℕ) (e : ℕ)
+      → ((i p : ℕ) → i < k → slice_get es i ≡ Some p → p ≤ e)
+      → last_named key (take k ws) es ≤ e
+  bound zero ws es e h = omega arith
+  bound (suc k) [] es e h = omega arith
+  bound (suc k) (w ∷ ws) [] e h = omega arith
+  bound (suc k) (w ∷ ws) (r ∷ es) e h =
+      let first = picked (names_key w key) r e (h 0 r (omega arith) refl) in
+      let rest = bound k ws es e (λ i p lt g. h (suc i) p (omega (arith, lt)) g) in
+      omega (arith, first, rest)
+
+-- up to so many commands
+abbrev pub named_to : ℕ → List Entry → List ℕ → ℕ → ℕ
+named_to id past key n = last_named key (take n (runs_of id past)) (run_entries id past)
+
+module _ (id : ℕ) (past : List Entry) where
+  pub record There (place p : ℕ) : Type 0 where
+    pub words : List (List ℕ)
+    pub ran : slice_get (runs_of id past) place ≡ Some words
+    pub read : words_at p past ≡ Some words
+
+  pub there : (place p : ℕ) → slice_get (run_entries id past) place ≡ Some p → There place p
+  there place p e =
+      let r = run_at id past place p e in
+      let x : Entry = Run r.id r.words r.moment in
+      let n : p ≡ suc (length r.up) = omega (arith, r.at) in
+      let turned : reverse past ≡ reverse (x ∷ r.up) ++ reverse r.older.newer =
+      ap reverse (sym r.older.is) ∙ reverse-append r.older.newer (x ∷ r.up) in
+      let last : slice_get (reverse (x ∷ r.up)) (length r.up) ≡ Some x =
+      ap (λ l. slice_get l (length r.up)) (reverse-append (x ∷ []) r.up)
+      ∙ ap (slice_get (reverse r.up ++ x ∷ [])) (sym (length-reverse r.up))
+      ∙ get_last (reverse r.up) x in
+      record {
+        words = r.words;
+        ran = r.words_are;
+        read =
+            ap (λ m. words_at m past) n
+            ∙ ap (λ l. words_if (slice_get l (length r.up))) turned
+            ∙ ap words_if (get_front (reverse (x ∷ r.up)) (reverse r.older.newer) (length r.up) x
+            last);
+      }
+
+  module _ (key : List ℕ) (k m : ℕ) (next : m ≡ k + 1) where
+    up : m ≡ suc k
+    up = omega (arith, next)
+
+    pub without : slice_get (run_entries id past) k ≡ None
+        → named_to id past key m ≡ named_to id past key k
+    without none =
+        ap (named_to id past key) up
+        ∙ at_none key k (runs_of id past) (run_entries id past) none
+
+    module _ (e : ℕ) (is : slice_get (run_entries id past) k ≡ Some e) where
+      pub at_most : named_to id past key k ≤ e
+      at_most =
+          bound key k (runs_of id past) (run_entries id past) e
+          (λ i p lt g. let less = in_order id past i k p e lt g is in omega (arith, less))
+
+      pub grown : (ws : List (List ℕ)) → slice_get (runs_of id past) k ≡ Some ws
+          → named_to id past key m
+          ≡ max (named_to id past key k) (cond (names_key ws key) e 0)
+      grown ws ran =
+          ap (named_to id past key) up
+          ∙ at_some key k (runs_of id past) (run_entries id past) ws e ran is
+
+      pub named_within : named_to id past key m ≤ e
+      named_within =
+          let t = there k e is in
+          let g = grown t.words t.ran in
+          let p = picked key (names_key t.words key) e e (omega arith) in
+          omega (arith, g, p, at_most)
+
+      pub named_here : (ws : List (List ℕ)) → words_at e past ≡ Some ws → names_key ws key ≡ true
+          → named_to id past key m ≡ e
+      named_here ws read names =
+          let t = there k e is in
+          let same : t.words ≡ ws = let q : Some t.words ≡ Some ws = sym t.read ∙ read in cc in
+          let g = grown t.words t.ran
+          ∙ ap (λ w. max (named_to id past key k) (cond (names_key w key) e 0)) same
+          ∙ ap (λ b. max (named_to id past key k) (cond b e 0)) names in
+          omega (arith, g, at_most)
+
+      pub not_named : (ws : List (List ℕ)) → words_at e past ≡ Some ws → names_key ws key ≡ false
+          → named_to id past key m ≡ named_to id past key k
+      not_named ws read names =
+          let t = there k e is in
+          let same : t.words ≡ ws = let q : Some t.words ≡ Some ws = sym t.read ∙ read in cc in
+          let g = grown t.words t.ran
+          ∙ ap (λ w. max (named_to id past key k) (cond (names_key w key) e 0)) same
+          ∙ ap (λ b. max (named_to id past key k) (cond b e 0)) names in
+          omega (arith, g)
+
+      pub has_words : words_at e past ≡ None → ⊥
+      has_words none = let t = there k e is in
+          let q : Some t.words ≡ None = sym t.read ∙ none in cc

@@ -1,0 +1,185 @@
+-- What stands of a world after a schedule.
+use Rattle.std.proofs.Common.{◌≡◌, ◌<◌, ℕ, List, [], ◌∷◌, ◌++◌}
+use Rattle.std.proofs.Common.{Some, None, length, refl, sym, ap, subst, ◌∙◌, arith}
+use Rattle.std.proofs.Common.{append_assoc, append-nil}
+use Rattle.serial_model.specs.declared.history.Limits.{Limits}
+use Rattle.shared_cache.specs.Laws.{Every}
+use Rattle.currency.specs.Current.{Currency}
+use Rattle.script_text.specs.declared.event.Event.{Event}
+use Rattle.script_text.specs.declared.line.Line.{Line}
+use Rattle.script_text.specs.Valid.{IsValid}
+use Rattle.server_links.specs.LinksState.{at_place}
+use Rattle.server_links.specs.OneHistory.{PartServes, Serves, read_on}
+use Rattle.server_links.specs.Session.{Session, session_at}
+use Rattle.server_links.specs.Transcript.{unless_fault}
+use Rattle.server_links.proofs.Accounts.{Account, Part, gave}
+use Rattle.server_links.proofs.Names.{unplaced}
+use Rattle.world_run.specs.WorldState.{WorldState, client_of_link, member_at, start}
+use Rattle.world_run.specs.Members.{client_of}
+use Rattle.world_run.specs.OneHistory.{AllServiced, HoldsCurrent, OneHistory, PartHistory, Serviced}
+use Rattle.world_run.specs.OneHistory.{put_by, put_on, said_by, said_to, taken_bytes}
+use Rattle.world_run.specs.Transcript.{after, heard, heard_at, transcript}
+use Rattle.world_run.specs.World.{step}
+use Rattle.world_run.proofs.Clients.{place_is}
+use Rattle.world_run.proofs.LinkEvents.{part_of, stands_again}
+use Rattle.world_run.proofs.Names.{link_nowhere, link_there}
+use Rattle.world_run.proofs.WorldEvents.{event_comes}
+use Rattle.world_run.proofs.Worlds.{NoneHas, WorldPart, WorldStands, meet_part}
+
+-- ---- what a world part says
+
+put_is : (w : WorldState) (events : List Event) (said : List ℕ → List ℕ)
+    → ((at : ℕ) → at < length w.members → let m = member_at w.members at in
+    said m.link ≡ taken_bytes m)
+    → ((n : List ℕ) → NoneHas w n → said n ≡ said_to n events)
+    → (n : List ℕ) → said n ≡ put_on w n events
+put_is w events said taken rest n =
+    elim (client_of_link n w.members) as (λ c. client_of_link n w.members ≡ c
+    → said n ≡ put_by c w n events) [
+      | None ↦ λ none. rest n (link_nowhere n w.members none)
+      | Some at ↦ λ is.
+          let there = link_there n w.members at is in
+          ap said (sym there.1) ∙ taken at there.0
+    ] refl
+
+pub serviced : (l : Limits) (raw : List ℕ → List ℕ) (lines : List Line) (w : WorldState)
+    → WorldPart l raw lines w → (at : ℕ) → at < length w.members
+    → Serviced w (member_at w.members at)
+serviced l raw lines w p at lt =
+    let m = member_at w.members at in
+    let k = p.each at lt in
+    record {
+      named = k.named;
+      link = place_is w.links p.unique m.link m.place k.below k.placed;
+      mode = k.mode;
+      legal = k.legal;
+      meet = meet_part l raw lines w p at lt;
+    }
+
+pub holds_current : Currency → (l : Limits) (raw : List ℕ → List ℕ) (lines : List Line)
+    (w : WorldState) → WorldPart l raw lines w → (at : ℕ) → at < length w.members
+    → HoldsCurrent w (member_at w.members at)
+holds_current law l raw lines w p at lt =
+    let m = member_at w.members at in
+    let k = p.each at lt in
+    law w.links.limits (client_of m) w.links.past m.state.past k.mode p.links.history.legal
+    k.legal (meet_part l raw lines w p at lt)
+
+pub all_serviced : Currency → (l : Limits) (raw : List ℕ → List ℕ) (lines : List Line)
+    (w : WorldState) → WorldPart l raw lines w → AllServiced w
+all_serviced law l raw lines w p at lt =
+    (serviced l raw lines w p at lt, holds_current law l raw lines w p at lt)
+
+pub part_history : Currency → (l : Limits) (raw : List ℕ → List ℕ) (lines : List Line)
+    (w : WorldState) (events : List Event) → WorldPart l raw lines w
+    → ((n : List ℕ) → raw n ≡ said_to n events) → PartHistory l events lines w
+unfolding Part
+part_history law l raw lines w events p raw_is = record {
+  history = p.links.history;
+  serves = λ at lt.
+      let link = at_place w.links.links at in
+      subst (λ d. PartServes w.links.limits d (read_on link.name lines) w.links.past link)
+      (put_is w events p.said p.taken (λ n none. p.rest n none ∙ raw_is n) link.name)
+      (p.links.parts at lt);
+  unread = λ name none. p.links.unread name (unplaced name w.links none);
+  clients = all_serviced law l raw lines w p;
+}
+
+-- ---- after a schedule
+
+pub stands_start : (l : Limits) → WorldStands l (λ i. []) (λ n. []) [] (start l)
+stands_start l = record {
+  said = λ n. [];
+  links = record {
+    history = record {
+      limits = refl;
+      legal = tt;
+      links = refl;
+      ids = λ i lt. absurd (omega (arith, lt));
+      printed = refl;
+    };
+    unique = λ i j li. absurd (omega (arith, li));
+    accounts = λ i lt. absurd (omega (arith, lt));
+    unread = λ name n. refl;
+    unsaid = λ name n. refl;
+    unheard = λ i le. refl;
+  };
+  each = λ i lt. absurd (omega (arith, lt));
+  distinct = λ i j li. absurd (omega (arith, li));
+  rest = λ n none. refl;
+}
+
+pub stands_after : (l : Limits) (events : List Event) (before : ℕ → List ℕ)
+    (raw : List ℕ → List ℕ) (lines : List Line) (v w : WorldState) → Every IsValid events
+    → WorldStands l before raw lines v → after v events ≡ Some w
+    → WorldStands l (λ i. before i ++ heard v i events) (λ n. raw n ++ said_to n events)
+    (lines ++ transcript v events) w
+stands_after l [] before raw lines v w valid s e =
+    subst (λ x. WorldStands l (λ i. before i ++ []) (λ n. raw n ++ []) (lines ++ []) x)
+    (let same : v ≡ w = cc in same)
+    (subst (λ x. WorldStands l (λ i. before i ++ []) (λ n. raw n ++ []) x v)
+    (sym (append-nil lines))
+    (stands_again l before (λ i. before i ++ []) raw (λ n. raw n ++ []) lines v
+    (λ i. sym (append-nil (before i))) (λ n none. sym (append-nil (raw n))) s))
+stands_after l (d ∷ more) before raw lines v w valid s e =
+    let t = step v d in
+    elim t.fault as (λ f. t.fault ≡ f → unless_fault f (after t.state more) None ≡ Some w
+    → WorldStands l (λ i. before i ++ unless_fault f (heard_at v i d ++ heard t.state i more) [])
+    (λ n. raw n ++ said_to n (d ∷ more)) (lines
+    ++ (t.lines ++ unless_fault f (transcript t.state more) [])) w) [
+      | Some f ↦ λ is q. absurd (let no : ⊥ = cc in no)
+      | None ↦ λ is q.
+          let k = stands_after l more (λ i. before i ++ heard_at v i d) (λ n. raw n
+          ++ said_by n d) (lines ++ t.lines) t.state w valid.1
+          ((event_comes l before raw lines v s d valid.0).ends is) q in
+          subst (λ x. WorldStands l
+          (λ i. before i ++ (heard_at v i d ++ heard t.state i more))
+          (λ n. raw n ++ said_to n (d ∷ more)) x w)
+          (append_assoc lines t.lines (transcript t.state more))
+          (stands_again l (λ i. (before i ++ heard_at v i d) ++ heard t.state i more)
+          (λ i. before i ++ (heard_at v i d ++ heard t.state i more))
+          (λ n. (raw n ++ said_by n d) ++ said_to n more) (λ n. raw n ++ said_to n (d ∷ more))
+          ((lines ++ t.lines) ++ transcript t.state more) w
+          (λ i. append_assoc (before i) (heard_at v i d) (heard t.state i more))
+          (λ n none. append_assoc (raw n) (said_by n d) (said_to n more)) k)
+    ] refl e
+
+pub stands_then : (l : Limits) (events : List Event) (w : WorldState) → Every IsValid events
+    → after (start l) events ≡ Some w
+    → WorldStands l (λ i. heard (start l) i events) (λ n. said_to n events)
+    (transcript (start l) events) w
+stands_then l events w valid e =
+    stands_after l events (λ i. []) (λ n. []) [] (start l) w valid (stands_start l) e
+
+serves : (heard said read : List ℕ) (s : Session) → Account heard said read s
+    → Serves s.limits heard said read s.past s.link
+unfolding gave
+serves heard said read s a = record {
+  up = record { lost = a.bytes.up_lost; all_said = a.bytes.all_said };
+  up_lost = a.bytes.none_up;
+  down = record { lost = a.bytes.down_lost; all_taken = a.bytes.all_taken };
+  down_lost = a.bytes.none_down;
+  runs_front = ([], append-nil _ ∙ a.runs);
+  runs_all = λ e. a.runs;
+}
+
+pub whole_history : Currency → (l : Limits) (events : List Event) (w : WorldState)
+    → Every IsValid events → after (start l) events ≡ Some w
+    → OneHistory l events (transcript (start l) events) w
+whole_history law l events w valid e =
+    let lines = transcript (start l) events in
+    let raw : List ℕ → List ℕ = λ n. said_to n events in
+    let s = stands_then l events w valid e in
+    let p = part_of l (λ i. heard (start l) i events) raw raw lines w s (λ n none. refl) in
+    record {
+      history = s.links.history;
+      serves = λ at lt.
+          let link = at_place w.links.links at in
+          subst (λ d. Serves w.links.limits (heard (start l) at events) d
+          (read_on link.name lines) w.links.past link)
+          (put_is w events s.said (λ i lt. (s.each i lt).1) s.rest link.name)
+          (serves (heard (start l) at events) (s.said link.name) (read_on link.name lines)
+          (session_at at w.links) (s.links.accounts at lt));
+      unread = λ name none. s.links.unread name (unplaced name w.links none);
+      clients = all_serviced law l raw lines w p;
+    }

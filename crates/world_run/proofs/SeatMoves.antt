@@ -1,0 +1,238 @@
+-- A client's moves one by one: an event of its link, a change of what it has read, a turn.
+use Rattle.std.proofs.Common.{◌≡◌, ◌<◌, ℕ, List, [], ◌++◌, false}
+use Rattle.std.proofs.Common.{cond, None, length, refl, sym, ap, subst}
+use Rattle.std.proofs.Common.{◌∙◌, arith, append-nil, length-set}
+use Rattle.std.specs.Prelude.{slice_set}
+use Rattle.std.specs.Str.{bytes_eq}
+use Rattle.std.proofs.lemmas.List.{get_or-set_same, get_or-set_other, set-get_or}
+use Rattle.serial_model.specs.declared.history.Limits.{Limits}
+use Rattle.script_text.specs.declared.line.Line.{Line}
+use Rattle.server_links.specs.LinkEvent.{LinkEvent, Raw, Put, Over}
+use Rattle.server_links.specs.LinksState.{LinksState}
+use Rattle.server_links.specs.LinkSteps.{step}
+use Rattle.server_links.specs.OneHistory.{read_on, said_by}
+use Rattle.server_links.specs.Transcript.{heard_at}
+use Rattle.server_links.proofs.LinksStand.{not_equal, stands_part}
+use Rattle.server_links.proofs.Names.{names_itself}
+use Rattle.server_links.proofs.Outcomes.{meets_weaker, meets_within}
+use Rattle.world_run.specs.WorldState.{WorldState, MemberState, fresh_member, member_at, no_setup}
+use Rattle.world_run.specs.Members.{Seat, client_of, links_do, log_of, seat_at, setup_of}
+use Rattle.world_run.specs.Members.{with_log, with_reader, with_seat}
+use Rattle.world_run.specs.Members as members
+use Rattle.world_run.specs.OneHistory.{taken_bytes}
+use Rattle.world_run.specs.World as world
+use Rattle.world_run.proofs.Links.{name_of_event, step_moved}
+use Rattle.world_run.proofs.Members.{MemberPart}
+use Rattle.world_run.proofs.Seats.{One, Plain, Seating, Working, by_place, parts_longer}
+use Rattle.world_run.proofs.Seats.{stands_lines, unread}
+use Rattle.world_run.proofs.Worlds.{Holds, NoneHas, Reads, Stable, WorldPart}
+use Rattle.world_run.proofs.Worlds.{linked}
+
+-- ---- an event of the client's link
+
+said_other : (event : LinkEvent) (n : List ℕ) → bytes_eq (name_of_event event) n ≡ false
+    → said_by n event ≡ []
+unfolding name_of_event
+said_other (Raw name) n e = refl
+said_other (Put name bytes) n e = ap (λ b. cond b bytes []) e
+said_other (Over name move) n e = refl
+
+module _ (l : Limits) (heard : ℕ → List ℕ) (raw : List ℕ → List ℕ) (at : ℕ) (pend : List ℕ)
+    (R Q : Working) (lines : List Line) (w : WorldState)
+    (h : Holds l heard raw (Seating at pend R) lines w) (below : at < length w.members)
+    (event : LinkEvent)
+    (own : name_of_event event ≡ (member_at w.members at).link)
+    (puts : said_by (member_at w.members at).link event ≡ pend)
+    (keeps : let m = member_at w.members at in
+    let ls = (step w.links event).lines in
+    (step w.links event).fault ≡ None → R w.links (read_on m.link lines) m
+    → Q (step w.links event).state (read_on m.link lines ++ read_on m.link ls) m) where
+  differs : (i : ℕ) → i < length w.members → (i ≡ at → ⊥)
+      → bytes_eq (name_of_event event) (member_at w.members i).link ≡ false
+  differs i lt n =
+      not_equal (name_of_event event) (member_at w.members i).link
+      (λ e. n (h.distinct at i below lt (sym e ∙ own)))
+
+  part : (i : ℕ) → i < length w.members → let m = member_at w.members i in
+      MemberPart w.links (read_on m.link lines) m
+  part i lt =
+      let m = member_at w.members i in
+      by_place (MemberPart w.links (read_on m.link lines) m) i at
+      (λ e. ((h.each i lt).0 e).0) (λ n. ((h.each i lt).1 n).0)
+
+  takes : (i : ℕ) → i < length w.members → let m = member_at w.members i in
+      h.said m.link ++ said_by m.link event ≡ taken_bytes m
+  takes i lt =
+      let m = member_at w.members i in
+      by_place (h.said m.link ++ said_by m.link event ≡ taken_bytes m) i at
+      (λ e. ap (λ x. h.said m.link ++ x)
+      (ap (λ k. said_by (member_at w.members k).link event) e ∙ puts)
+      ∙ ((h.each i lt).0 e).1)
+      (λ n. ap (λ x. h.said m.link ++ x) (said_other event m.link (differs i lt n))
+      ∙ append-nil (h.said m.link) ∙ ((h.each i lt).1 n).1)
+
+  says : (name : List ℕ) → NoneHas w name → raw name ++ said_by name event ≡ raw name
+  says name none =
+      ap (λ x. raw name ++ x) (said_other event name
+      (not_equal (name_of_event event) name (λ e. none at below (sym own ∙ e))))
+      ∙ append-nil (raw name)
+
+  moves : (i : ℕ) → i < length w.members → let m = member_at w.members i in
+      let v = (step w.links event).state in
+      let ls = (step w.links event).lines in
+      (step w.links event).fault ≡ None
+      → MemberPart v (read_on m.link lines ++ read_on m.link ls) m
+      → Seating at [] Q i v (read_on m.link lines ++ read_on m.link ls)
+      (h.said m.link ++ said_by m.link event) m
+  moves i lt none p =
+      let m = member_at w.members i in
+      let ls = (step w.links event).lines in (
+        λ e. (
+          p,
+          append-nil (h.said m.link ++ said_by m.link event) ∙ takes i lt,
+          subst (λ k. let m = member_at w.members k in
+              R w.links (read_on m.link lines) m
+              → Q (step w.links event).state (read_on m.link lines ++ read_on m.link ls) m)
+              (sym e) (keeps none) ((h.each i lt).0 e).2,
+        ),
+        λ n. (
+          p,
+          takes i lt,
+          subst (λ r. Reads r m)
+              (sym (append-nil (read_on m.link lines))
+              ∙ ap (λ x. read_on m.link lines ++ x)
+              (sym (((step_moved w.links event).ends none).mute m.link (differs i lt n))))
+              ((h.each i lt).1 n).2,
+        ),
+      )
+
+  same_world : (v : LinksState)
+      → world.on_links w v ≡ with_seat at w (members.with_links (seat_at at w) v)
+  same_world v =
+      ap (λ ms. record { links = v; members = ms })
+      (sym (set-get_or w.members at (fresh_member [] 0 no_setup)))
+
+  pub seat_linked : One l raw at
+      (λ ls u. Holds l (λ i. heard i ++ heard_at w.links i event) raw (Seating at [] Q) ls u)
+      lines w (links_do event (seat_at at w))
+  unfolding links_do
+  seat_linked =
+      let H : List Line → WorldState → Type 0 = λ ls u.
+      Holds l (λ i. heard i ++ heard_at w.links i event) raw (Seating at [] Q) ls u in
+      meets_within (members.with_links (seat_at at w)) (λ u ls. H (lines ++ ls) (with_seat at w u))
+      (λ u ls. WorldPart l raw (lines ++ ls) (with_seat at w u)) (step w.links event)
+      (meets_weaker (λ v ls. H (lines ++ ls) (world.on_links w v))
+      (λ v ls. H (lines ++ ls) (with_seat at w (members.with_links (seat_at at w) v)))
+      (λ v ls. WorldPart l raw (lines ++ ls) (world.on_links w v))
+      (λ v ls. WorldPart l raw (lines ++ ls)
+      (with_seat at w (members.with_links (seat_at at w) v)))
+      (step w.links event)
+      (λ v ls. subst (H (lines ++ ls)) (same_world v))
+      (λ v ls. subst (WorldPart l raw (lines ++ ls)) (same_world v))
+      (linked l heard raw raw (Seating at pend R) (Seating at [] Q) lines w h event part takes says
+      moves))
+
+-- ---- the client changes, and its link does not
+
+module _ (l : Limits) (heard : ℕ → List ℕ) (raw : List ℕ → List ℕ) (at : ℕ) (pend more : List ℕ)
+    (R Q : Working) (lines : List Line) (w : WorldState)
+    (h : Holds l heard raw (Seating at pend R) lines w) (below : at < length w.members)
+    (new : MemberState) (same : new.link ≡ (member_at w.members at).link)
+    (part : MemberPart w.links (read_on new.link lines) new)
+    (took : h.said new.link ++ more ≡ taken_bytes new)
+    (ls : List Line) (plain : Plain ls) where
+  abbrev pub changed : WorldState
+  changed = record { links = w.links; members = slice_set w.members at new }
+
+  size : length changed.members ≡ length w.members
+  size = length-set w.members at new
+
+  mine : (i : ℕ) → i ≡ at → member_at changed.members i ≡ new
+  mine i e = ap (member_at (slice_set w.members at new)) e
+      ∙ get_or-set_same w.members at new (fresh_member [] 0 no_setup) below
+
+  theirs : (i : ℕ) → (i ≡ at → ⊥) → member_at changed.members i ≡ member_at w.members i
+  theirs i n = get_or-set_other w.members at i new (fresh_member [] 0 no_setup) n
+
+  link_is : (i : ℕ) → (member_at changed.members i).link ≡ (member_at w.members i).link
+  link_is i =
+      by_place ((member_at changed.members i).link ≡ (member_at w.members i).link) i at
+      (λ e. ap (λ (m : MemberState). m.link) (mine i e) ∙ same
+      ∙ ap (λ k. (member_at w.members k).link) (sym e))
+      (λ n. ap (λ (m : MemberState). m.link) (theirs i n))
+
+  apart : (i j : ℕ) → i < length changed.members → j < length changed.members
+      → (member_at changed.members j).link ≡ (member_at changed.members i).link → j ≡ i
+  apart i j li lj e =
+      h.distinct i j (omega (arith, li, size)) (omega (arith, lj, size))
+      (sym (link_is j) ∙ e ∙ link_is i)
+
+  nowhere : (name : List ℕ) → NoneHas changed name → NoneHas w name
+  nowhere name none i lt e = none i (omega (arith, lt, size)) (link_is i ∙ e)
+
+  -- with these bytes still to be put
+  put_later : List ℕ → List ℕ
+  put_later name = h.said name ++ cond (bytes_eq new.link name) more []
+
+  pub changed_part : WorldPart l raw (lines ++ ls) changed
+  unfolding put_later
+  changed_part =
+      let old = stands_part l heard h.said (lines ++ ls) w.links
+      (stands_lines l heard h.said lines ls w.links plain h.links) in
+      record {
+        said = put_later;
+        links = parts_longer l h.said put_later (lines ++ ls) w.links
+            (λ name. (cond (bytes_eq new.link name) more [], refl)) old;
+        unique = h.links.unique;
+        each = λ i lt.
+            by_place (let m = member_at changed.members i in
+            MemberPart w.links (read_on m.link (lines ++ ls)) m) i at
+            (λ e. subst (λ (m : MemberState). MemberPart w.links (read_on m.link (lines ++ ls)) m)
+            (sym (mine i e))
+            (subst (λ r. MemberPart w.links r new) (sym (unread new.link lines ls plain.mute))
+            part))
+            (λ n. subst (λ (m : MemberState). MemberPart w.links (read_on m.link (lines ++ ls)) m)
+            (sym (theirs i n))
+            (let m = member_at w.members i in
+            subst (λ r. MemberPart w.links r m) (sym (unread m.link lines ls plain.mute))
+            ((h.each i (omega (arith, lt, size))).1 n).0));
+        taken = λ i lt.
+            by_place (let m = member_at changed.members i in put_later m.link ≡ taken_bytes m) i at
+            (λ e. subst (λ (m : MemberState). put_later m.link ≡ taken_bytes m) (sym (mine i e))
+            (ap (λ b. h.said new.link ++ cond b more []) (names_itself new.link new.link refl)
+            ∙ took))
+            (λ n. subst (λ (m : MemberState). put_later m.link ≡ taken_bytes m)
+            (sym (theirs i n))
+            (let m = member_at w.members i in
+            ap (λ b. h.said m.link ++ cond b more [])
+            (not_equal new.link m.link (λ e. n (h.distinct at i below (omega (arith, lt, size))
+            (sym e ∙ same))))
+            ∙ append-nil (h.said m.link) ∙ ((h.each i (omega (arith, lt, size))).1 n).1));
+        distinct = apart;
+        rest = λ name none.
+            ap (λ b. h.said name ++ cond b more [])
+            (not_equal new.link name (λ e. nowhere name none at below (sym same ∙ e)))
+            ∙ append-nil (h.said name) ∙ h.rest name (nowhere name none);
+      }
+
+  pub changed_holds : Q w.links (read_on new.link lines) new
+      → Holds l heard raw (Seating at more Q) (lines ++ ls) changed
+  changed_holds q = record {
+    said = h.said;
+    links = stands_lines l heard h.said lines ls w.links plain h.links;
+    each = λ i lt. (
+      λ e. subst (λ (m : MemberState). MemberPart w.links (read_on m.link (lines ++ ls)) m
+          × (h.said m.link ++ more ≡ taken_bytes m) × Q w.links (read_on m.link (lines ++ ls)) m)
+          (sym (mine i e))
+          (subst (λ r. MemberPart w.links r new × (h.said new.link ++ more ≡ taken_bytes new)
+          × Q w.links r new) (sym (unread new.link lines ls plain.mute)) (part, took, q)),
+      λ n. subst (λ (m : MemberState). Stable i w.links (read_on m.link (lines ++ ls))
+          (h.said m.link) m) (sym (theirs i n))
+          (let m = member_at w.members i in
+          subst (λ r. Stable i w.links r (h.said m.link) m)
+          (sym (unread m.link lines ls plain.mute))
+          ((h.each i (omega (arith, lt, size))).1 n)),
+    );
+    distinct = apart;
+    rest = λ name none. h.rest name (nowhere name none);
+  }

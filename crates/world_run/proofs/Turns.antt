@@ -1,0 +1,269 @@
+-- What a turn of a client does to its log: what it got, what it took out, and whether its link has
+-- ended.
+use Rattle.std.proofs.Common.{◌≡◌, ◌-◌, ◌⊎◌, ℕ, List, [], ◌∷◌, ◌++◌, Bool, true}
+use Rattle.std.proofs.Common.{false, cond, not, Some, None, Option, length, take, drop, min, inl}
+use Rattle.std.proofs.Common.{inr}
+use Rattle.std.proofs.Common.{refl, sym, ap, subst, ◌∙◌, arith, append-nil}
+use Rattle.std.proofs.Math.Seq.{take-add}
+use Rattle.std.specs.List.{flat_map}
+use Rattle.std.proofs.lemmas.Bool.{cases_lt}
+use Rattle.std.proofs.lemmas.Grind.{flat_map-append}
+use Rattle.std.proofs.lemmas.List.{take-append-le, take_all, length-drop}
+use Rattle.resp_value.specs.Spelling.{request_spelling}
+use Rattle.resp_value.specs.declared.value.Value.{Value}
+use Rattle.command_words.specs.Control.{is_control}
+use Rattle.shared_cache.specs.declared.log.Wire.TheVariants.{Main}
+use Rattle.shared_cache.specs.declared.log.LogEntry.{LogEntry}
+use Rattle.shared_cache.specs.declared.log.LogEntry.TheVariants as entry
+use Rattle.shared_cache.specs.declared.log.ClientCall.{ClientCall}
+use Rattle.shared_cache.specs.declared.log.ClientCall.TheVariants.{Ask, Send, Poll, TakeOut, Got}
+use Rattle.shared_cache.specs.declared.log.ClientCall.TheVariants.{End}
+use Rattle.shared_cache.specs.declared.log.ClientRefusal.{ClientRefusal}
+use Rattle.shared_cache.specs.declared.log.ClientRefusal.TheVariants.{Down, LogFull}
+use Rattle.shared_cache.specs.Log.{is_ended, is_ready, reply}
+use Rattle.shared_cache.specs.Held.{Setup, commands}
+use Rattle.shared_cache.specs.Laws.{gots, IsCall, AsksQuery, LegalLog}
+use Rattle.shared_cache.specs.Out.{out, taken, untaken, is_wanted}
+use Rattle.shared_cache.specs.Steps.{ClientTurn, client_step, refusing, is_log_full, polling}
+use Rattle.shared_cache.specs.Steps.{taking_out, getting, read_number, command_number, answer_ask}
+use Rattle.shared_cache.specs.Steps as steps
+use Rattle.world_run.specs.ClientMoves.{bytes_of, fault_of}
+use Rattle.shared_cache.proofs.Bytes.{taken_within}
+use Rattle.shared_cache.proofs.CommandLists.{commands_grow}
+
+-- the bytes that were taken out
+abbrev pub taken_of : Setup → List LogEntry → List ℕ
+taken_of s log = take (taken s Main log) (out s Main log)
+
+by_if : (P : ClientTurn → Type 0) (b : Bool) (x y : ClientTurn) → P x → P y → P (cond b x y)
+by_if P true x y p q = p
+by_if P false x y p q = q
+
+-- ---- what is added
+
+-- at most one entry
+abbrev pub Adds : List LogEntry → List LogEntry → Type 0
+Adds log new = (new ≡ log) ⊎ ((e : LogEntry) × (new ≡ e ∷ log))
+
+adds_poll : (o : Option Value) (n : ℕ) (ended : Bool) (log : List LogEntry)
+    → Adds log (polling o n ended log).past
+adds_poll (Some v) n ended log = inr (entry.Poll n, refl)
+adds_poll None n true log = inl refl
+adds_poll None n false log = inl refl
+
+adds_taking : (most : ℕ) (bytes : List ℕ) (full : Bool) (log : List LogEntry)
+    → Adds log (taking_out Main most bytes full log).past
+adds_taking most [] full log = inl refl
+adds_taking most (b ∷ bytes) true log = inl refl
+adds_taking most (b ∷ bytes) false log = inr (entry.TakeOut Main most, refl)
+
+adds_getting : (r : Option ClientRefusal) (v : Value) (full : Bool) (log : List LogEntry)
+    → Adds log (getting r Main v full log).past
+adds_getting (Some r) v full log = inr (entry.Bad Main v, refl)
+adds_getting None v true log = inl refl
+adds_getting None v false log = inr (entry.Got Main v, refl)
+
+adds_end : (b : Bool) (log : List LogEntry) → Adds log (cond b log (entry.End Main ∷ log))
+adds_end true log = inl refl
+adds_end false log = inr (entry.End Main, refl)
+
+pub turn_adds : (s : Setup) (log : List LogEntry) (c : ClientCall) → IsCall c
+    → Adds log (client_step s log c).past
+unfolding client_step
+turn_adds s log (Ask q) h =
+    by_if (λ t. Adds log t.past) (is_ended s.mode Main log) _ _ (inl refl)
+    (by_if (λ t. Adds log t.past) (not (is_ready s.mode log)) _ _ (inl refl)
+    (by_if (λ t. Adds log t.past) (is_log_full s log) _ _ (inl refl) (inr (entry.Ask q, refl))))
+turn_adds s log (Send ws) h =
+    by_if (λ t. Adds log t.past) (is_ended s.mode Main log) _ _ (inl refl)
+    (by_if (λ t. Adds log t.past) (not (is_ready s.mode log)) _ _ (inl refl)
+    (by_if (λ t. Adds log t.past) (is_control ws) _ _ (inl refl)
+    (by_if (λ t. Adds log t.past) (is_log_full s log) _ _ (inl refl)
+    (inr (entry.Send ws, refl)))))
+turn_adds s log (Poll n) h =
+    by_if (λ t. Adds log t.past) (not (is_wanted s log n)) _ _ (inl refl)
+    (adds_poll (reply s.mode log n) n (is_ended s.mode Main log) log)
+turn_adds s log (TakeOut w most) h =
+    subst (λ w. Adds log (client_step s log (TakeOut w most)).past) (sym h)
+    (by_if (λ t. Adds log t.past) (is_ended s.mode Main log) _ _ (inl refl)
+    (adds_taking most (untaken s Main log) (is_log_full s log) log))
+turn_adds s log (Got w v) h =
+    subst (λ w. Adds log (client_step s log (Got w v)).past) (sym h)
+    (by_if (λ t. Adds log t.past) (is_ended s.mode Main log) _ _ (inl refl)
+    (adds_getting (steps.fault_of s log Main v) v (is_log_full s log) log))
+turn_adds s log (End w) h =
+    subst (λ w. Adds log (client_step s log (End w)).past) (sym h)
+    (adds_end (is_ended s.mode Main log) log)
+
+pub turn_legal : (s : Setup) (log : List LogEntry) (c : ClientCall) → IsCall c → AsksQuery c
+    → LegalLog s log → LegalLog s (client_step s log c).past
+turn_legal s log c h q legal = elim (turn_adds s log c h) [
+  | inl same ↦ subst (LegalLog s) (sym same) legal
+  | inr more ↦ subst (LegalLog s) (sym more.1) (legal, (c, h, q, more.1))
+]
+
+-- ---- what was taken out
+
+taken_more : (s : Setup) (e : LogEntry) (log : List LogEntry)
+    → taken s Main (e ∷ log) ≡ taken s Main log → taken_of s (e ∷ log) ≡ taken_of s log
+unfolding out
+taken_more s e log same =
+    let p = commands_grow s Main e log in
+    let more : out s Main (e ∷ log) ≡ out s Main log ++ flat_map request_spelling p.0 =
+    ap (flat_map request_spelling) (sym p.1)
+    ∙ flat_map-append request_spelling (commands s Main log) p.0 in
+    ap (λ n. take n (out s Main (e ∷ log))) same ∙ ap (take (taken s Main log)) more
+    ∙ take-append-le (taken s Main log) (out s Main log) (flat_map request_spelling p.0)
+    (taken_within s Main log)
+
+take_min : (m : ℕ) (q : List ℕ) → take (min m (length q)) q ≡ take m q
+take_min m q = elim (cases_lt (length q) m) [
+  | inl h ↦ take_all (min m (length q)) q (omega arith) ∙ sym (take_all m q (omega arith))
+  | inr h ↦ ap (λ k. take k q) (omega arith)
+]
+
+taken_out : (s : Setup) (log : List LogEntry) (most : ℕ)
+    → taken_of s (entry.TakeOut Main most ∷ log) ≡ taken_of s log ++ take most (untaken s Main log)
+unfolding out untaken
+taken_out s log most =
+    let bytes = out s Main log in
+    let t = taken s Main log in
+    take-add t (min most (length bytes - t)) bytes
+    ∙ ap (λ x. take t bytes ++ x)
+    (ap (λ k. take (min most k) (drop t bytes)) (sym (length-drop t bytes))
+    ∙ take_min most (drop t bytes))
+
+-- ---- what a turn leaves
+
+pub record TurnKeeps (s : Setup) (log new : List LogEntry) : Type 0 where
+  pub gots_are : gots Main new ≡ gots Main log
+  pub ended_is : is_ended s.mode Main new ≡ is_ended s.mode Main log
+  pub taken_is : taken_of s new ≡ taken_of s log
+
+keeps_none : (s : Setup) (log : List LogEntry) → TurnKeeps s log log
+keeps_none s log = record { gots_are = refl; ended_is = refl; taken_is = refl }
+
+keeps_ask : (s : Setup) (log : List LogEntry) (q : List (List ℕ))
+    → TurnKeeps s log (entry.Ask q ∷ log)
+keeps_ask s log q =
+    record { gots_are = refl; ended_is = refl; taken_is = taken_more s (entry.Ask q) log refl }
+
+keeps_send : (s : Setup) (log : List LogEntry) (ws : List (List ℕ))
+    → TurnKeeps s log (entry.Send ws ∷ log)
+keeps_send s log ws =
+    record { gots_are = refl; ended_is = refl; taken_is = taken_more s (entry.Send ws) log refl }
+
+keeps_polling : (s : Setup) (o : Option Value) (n : ℕ) (ended : Bool) (log : List LogEntry)
+    → TurnKeeps s log (polling o n ended log).past
+keeps_polling s (Some v) n ended log =
+    record { gots_are = refl; ended_is = refl; taken_is = taken_more s (entry.Poll n) log refl }
+keeps_polling s None n true log = keeps_none s log
+keeps_polling s None n false log = keeps_none s log
+
+pub ask_keeps : (s : Setup) (log : List LogEntry) (q : List (List ℕ))
+    → TurnKeeps s log (client_step s log (Ask q)).past
+unfolding client_step
+ask_keeps s log q =
+    let P : ClientTurn → Type 0 = λ t. TurnKeeps s log t.past in
+    by_if P (is_ended s.mode Main log) _ _ (keeps_none s log)
+    (by_if P (not (is_ready s.mode log)) _ _ (keeps_none s log)
+    (by_if P (is_log_full s log) _ _ (keeps_none s log) (keeps_ask s log q)))
+
+pub send_keeps : (s : Setup) (log : List LogEntry) (ws : List (List ℕ))
+    → TurnKeeps s log (client_step s log (Send ws)).past
+unfolding client_step
+send_keeps s log ws =
+    let P : ClientTurn → Type 0 = λ t. TurnKeeps s log t.past in
+    by_if P (is_ended s.mode Main log) _ _ (keeps_none s log)
+    (by_if P (not (is_ready s.mode log)) _ _ (keeps_none s log)
+    (by_if P (is_control ws) _ _ (keeps_none s log)
+    (by_if P (is_log_full s log) _ _ (keeps_none s log) (keeps_send s log ws))))
+
+pub poll_keeps : (s : Setup) (log : List LogEntry) (n : ℕ)
+    → TurnKeeps s log (client_step s log (Poll n)).past
+unfolding client_step
+poll_keeps s log n =
+    by_if (λ t. TurnKeeps s log t.past) (not (is_wanted s log n)) _ _ (keeps_none s log)
+    (keeps_polling s (reply s.mode log n) n (is_ended s.mode Main log) log)
+
+-- bytes are taken out
+pub record TurnTakes (s : Setup) (log : List LogEntry) (t : ClientTurn) : Type 0 where
+  pub gots_are : gots Main t.past ≡ gots Main log
+  pub ended_is : is_ended s.mode Main t.past ≡ is_ended s.mode Main log
+  pub taken_is : taken_of s t.past ≡ taken_of s log ++ bytes_of t.reply
+
+takes_none : (s : Setup) (log : List LogEntry) (r : ClientRefusal)
+    → TurnTakes s log (refusing r log)
+takes_none s log r =
+    record { gots_are = refl; ended_is = refl; taken_is = sym (append-nil (taken_of s log)) }
+
+takes_bytes : (s : Setup) (most : ℕ) (bytes : List ℕ) (full : Bool) (log : List LogEntry)
+    → untaken s Main log ≡ bytes → TurnTakes s log (taking_out Main most bytes full log)
+takes_bytes s most [] full log e =
+    record { gots_are = refl; ended_is = refl; taken_is = sym (append-nil (taken_of s log)) }
+takes_bytes s most (b ∷ bytes) true log e = takes_none s log (LogFull (length log))
+takes_bytes s most (b ∷ bytes) false log e =
+    record {
+      gots_are = refl;
+      ended_is = refl;
+      taken_is = taken_out s log most ∙ ap (λ x. taken_of s log ++ take most x) e;
+    }
+
+pub take_takes : (s : Setup) (log : List LogEntry) (most : ℕ)
+    → TurnTakes s log (client_step s log (TakeOut Main most))
+unfolding client_step
+take_takes s log most =
+    by_if (TurnTakes s log) (is_ended s.mode Main log) _ _ (takes_none s log (Down Main))
+    (takes_bytes s most (untaken s Main log) (is_log_full s log) log refl)
+
+-- a value is got
+pub record TurnGets (s : Setup) (v : Value) (log : List LogEntry) (t : ClientTurn) : Type 0 where
+  pub gots_front : (gots Main t.past ≡ gots Main log) ⊎ (gots Main t.past ≡ gots Main log ++ v ∷ [])
+  pub done : fault_of t.reply ≡ None → is_ended s.mode Main t.past ≡ false
+      → gots Main t.past ≡ gots Main log ++ v ∷ []
+  pub taken_is : taken_of s t.past ≡ taken_of s log
+
+gets_judged : (s : Setup) (v : Value) (r : Option ClientRefusal) (full : Bool)
+    (log : List LogEntry) → TurnGets s v log (getting r Main v full log)
+gets_judged s v (Some r) full log = record {
+  gots_front = inl refl;
+  done = λ none going. absurd (let no : true ≡ false = going in cc);
+  taken_is = taken_more s (entry.Bad Main v) log refl;
+}
+gets_judged s v None true log = record {
+  gots_front = inl refl;
+  done = λ none going. absurd (let no : ⊥ = cc in no);
+  taken_is = refl;
+}
+gets_judged s v None false log = record {
+  gots_front = inr refl;
+  done = λ none going. refl;
+  taken_is = taken_more s (entry.Got Main v) log refl;
+}
+
+pub got_gets : (s : Setup) (log : List LogEntry) (v : Value) → is_ended s.mode Main log ≡ false
+    → TurnGets s v log (client_step s log (Got Main v))
+unfolding client_step
+got_gets s log v going =
+    let on = getting (steps.fault_of s log Main v) Main v (is_log_full s log) log in
+    subst (λ b. TurnGets s v log (cond b (refusing (Down Main) log) on)) (sym going)
+    (gets_judged s v (steps.fault_of s log Main v) (is_log_full s log) log)
+
+-- the link ends
+pub record TurnEnds (s : Setup) (log new : List LogEntry) : Type 0 where
+  pub gots_are : gots Main new ≡ gots Main log
+  pub ended_is : is_ended s.mode Main new ≡ true
+  pub taken_is : taken_of s new ≡ taken_of s log
+
+pub end_ends : (s : Setup) (log : List LogEntry)
+    → TurnEnds s log (client_step s log (End Main)).past
+unfolding client_step
+end_ends s log = elim (is_ended s.mode Main log) as (λ b. is_ended s.mode Main log ≡ b
+    → TurnEnds s log (cond b log (entry.End Main ∷ log))) [
+      | true ↦ λ e. record { gots_are = refl; ended_is = e; taken_is = refl }
+      | false ↦ λ e. record {
+        gots_are = refl;
+        ended_is = refl;
+        taken_is = taken_more s (entry.End Main) log refl;
+      }
+    ] refl

@@ -1,0 +1,306 @@
+-- How the code of a world plays an event: the links' step and a client's move, in the world.
+use Rattle.std.proofs.Common.{◌≡◌, ◌+◌, ◌<◌, ℕ, zero, suc, List, [], ◌∷◌, ◌++◌, Bool, true, false}
+use Rattle.std.proofs.Common.{cond, Option, Some, None, Result, Ok, Err, length, slice_index_or}
+use Rattle.std.proofs.Common.{slice_set, refl, sym, ap, subst, ◌∙◌, append-nil, arith}
+use Rattle.std.specs.Option.{is_some}
+use Rattle.std.specs.Prelude.{not}
+use Rattle.std.proofs.lemmas.List.{get_or_read, set-get_or}
+use Rattle.std.proofs.Math.Numerals.{suc-eq-add-one}
+use Rattle.resp_value.specs.declared.value.Proto.{Proto}
+use Rattle.resp_value.specs.declared.value.Proto.TheVariants.{Two, Three}
+use Rattle.shared_cache.specs.declared.log.ClientMode.{ClientMode}
+use Rattle.shared_cache.specs.declared.log.Shape.{Shape}
+use Rattle.shared_cache.specs.declared.log.Shape.TheVariants.{Single, Pair}
+use Rattle.shared_cache.specs.declared.log.Caching.{Caching}
+use Rattle.shared_cache.specs.declared.log.Caching.TheVariants.{Default, OptIn, OptOut, Bcast}
+use Rattle.script_text.specs.declared.line.Line.{Line}
+use Rattle.server_links.specs.declared.fault.WorldFault.{WorldFault}
+use Rattle.server_links.specs.declared.fault.WorldFault.TheVariants.{NoName, NameTaken, NoMemory}
+use Rattle.server_links.specs.declared.fault.WorldFault.TheVariants.{NothingThere, Refused}
+use Rattle.server_links.specs.LinkEvent as link_event
+use Rattle.server_links.specs.LinkEvent.{LinkEvent}
+use Rattle.server_links.specs.LinksState.{LinksState, fresh_link}
+use Rattle.server_links.specs.LinkSteps as links
+use Rattle.server_links.specs.LinkSteps.{over, over_named, place_of}
+use Rattle.server_links.specs.Moves.{move_of}
+use Rattle.server_links.specs.Outcome.{Outcome, Gives, Stops, and_then, does, refuses, within}
+use Rattle.server_links.specs.Session.{session_at, with_session}
+use Rattle.server_links.proofs.Outcomes.{Ends, after_ends, after_stops, gives_then}
+use Rattle.server_links.proofs.Outcomes.{gives_within, stops_first, stops_here}
+use Rattle.world_run.specs.WorldState.{MemberState, WorldState, client_named, client_of_link}
+use Rattle.world_run.specs.WorldState.{data_link, fresh_member, member_at, no_setup}
+use Rattle.world_run.specs.Members.{Seat, seat, seat_at, with_seat, world}
+use Rattle.world_run.specs.World.{Stepped, client_does, client_step, flow_at, flow_first}
+use Rattle.world_run.specs.World.{is_served, is_taken, join, links_step, named_does, on_links}
+use Rattle.world_run.specs.World.{said_step, setup_by}
+use Rattle.world_run.proofs.Names.{client_there, link_there}
+
+pub links_give : {A : Type 0} → (e : LinkEvent) (old new : LinksState) (members : List MemberState)
+    (lines : List Line) (r : Result A WorldFault) (lines' : List Line)
+    → Gives (links.step old e) lines r new lines'
+    → Gives (links_step e (world old members)) lines r (world new members) lines'
+unfolding links_step
+links_give e old new members lines r lines' g =
+    gives_within (on_links (world old members)) (links.step old e) lines r new lines' g
+
+pub client_gives : {A : Type 0} → (at : ℕ) (move : Seat → Outcome Seat) (old new : LinksState)
+    (members : List MemberState) (m m' : MemberState) (lines : List Line)
+    (r : Result A WorldFault) (lines' : List Line) → at < length members
+    → m ≡ slice_index_or members at m
+    → Gives (move (seat old m)) lines r (seat new m') lines'
+    → Gives (client_does at move (world old members)) lines r
+    (world new (slice_set members at m')) lines'
+unfolding client_does
+client_gives at move old new members m m' lines r lines' below is g =
+    let w = world old members in
+    let there : m ≡ member_at members at =
+    get_or_read members at m below is (fresh_member [] 0 no_setup) in
+    gives_within (with_seat at w) (move (seat_at at w)) lines r (seat new m') lines'
+    (subst (λ x. Gives (move x) lines r (seat new m') lines') (ap (seat old) there) g)
+
+-- ---- what is refused
+
+pub no_name : (w : WorldState) (m : Stepped) (lines : List Line) → m ≡ refuses w NoName
+    → Stops m lines NoName w lines
+no_name w m lines e = subst (λ (x : Stepped). Stops x lines NoName w lines) (sym e)
+    (refl, refl, sym (append-nil lines))
+
+pub name_taken : (w : WorldState) (m : Stepped) (lines : List Line) → m ≡ refuses w NameTaken
+    → Stops m lines NameTaken w lines
+name_taken w m lines e = subst (λ (x : Stepped). Stops x lines NameTaken w lines) (sym e)
+    (refl, refl, sym (append-nil lines))
+
+pub nothing_there : (w : WorldState) (m : Stepped) (lines : List Line)
+    → m ≡ refuses w NothingThere → Stops m lines NothingThere w lines
+nothing_there w m lines e = subst (λ (x : Stepped). Stops x lines NothingThere w lines) (sym e)
+    (refl, refl, sym (append-nil lines))
+
+pub is_refused : (n : ℕ) (w : WorldState) (m : Stepped) (lines : List Line)
+    → m ≡ refuses w (Refused n) → Stops m lines (Refused n) w lines
+is_refused n w m lines e = subst (λ (x : Stepped). Stops x lines (Refused n) w lines) (sym e)
+    (refl, refl, sym (append-nil lines))
+
+-- ---- a client by its name
+
+pub named_none : (name : List ℕ) (move : Seat → Outcome Seat) (w : WorldState) (lines : List Line)
+    → client_named name w.members ≡ None
+    → Stops (named_does (client_named name w.members) move w) lines NoName w lines
+named_none name move w lines none =
+    no_name w (named_does (client_named name w.members) move w) lines
+    (ap (λ c. named_does c move w) none)
+
+pub named_gives : {A : Type 0} → (name : List ℕ) (move : Seat → Outcome Seat)
+    (old new : LinksState) (members : List MemberState) (at : ℕ) (m m' : MemberState)
+    (lines : List Line) (r : Result A WorldFault) (lines' : List Line)
+    → client_named name members ≡ Some at → m ≡ slice_index_or members at m
+    → Gives (move (seat old m)) lines r (seat new m') lines'
+    → Gives (named_does (client_named name members) move (world old members)) lines r
+    (world new (slice_set members at m')) lines'
+named_gives name move old new members at m m' lines r lines' found is g =
+    subst (λ c. Gives (named_does c move (world old members)) lines r
+    (world new (slice_set members at m')) lines') (sym found)
+    (client_gives at move old new members m m' lines r lines'
+    (client_there name members at found).0 is g)
+
+-- a client that stays as it is
+pub named_shows : {A : Type 0} → (name : List ℕ) (move : Seat → Outcome Seat)
+    (links : LinksState) (members : List MemberState) (at : ℕ) (m : MemberState)
+    (lines : List Line) (r : Result A WorldFault) (lines' : List Line)
+    → client_named name members ≡ Some at → m ≡ slice_index_or members at m
+    → Gives (move (seat links m)) lines r (seat links m) lines'
+    → Gives (named_does (client_named name members) move (world links members)) lines r
+    (world links members) lines'
+named_shows name move links members at m lines r lines' found is g =
+    let none = fresh_member [] 0 no_setup in
+    let there : m ≡ member_at members at =
+    get_or_read members at m (client_there name members at found).0 is none in
+    let same : slice_set members at m ≡ members =
+    ap (slice_set members at) there ∙ set-get_or members at none in
+    subst (λ ms. Gives (named_does (client_named name members) move (world links members)) lines r
+    (world links ms) lines') same
+    (named_gives name move links links members at m m lines r lines' found is g)
+
+-- ---- a link is named
+
+pub owned : {A : Type 0} → (f : Option ℕ → Stepped) (link : List ℕ) (move : Seat → Outcome Seat)
+    (old new : LinksState) (members : List MemberState) (at : ℕ) (m m' : MemberState)
+    (lines : List Line) (r : Result A WorldFault) (lines' : List Line)
+    → client_of_link link members ≡ Some at → f (Some at) ≡ client_does at move (world old members)
+    → m ≡ slice_index_or members at m
+    → Gives (move (seat old m)) lines r (seat new m') lines'
+    → Gives (f (client_of_link link members)) lines r (world new (slice_set members at m')) lines'
+owned f link move old new members at m m' lines r lines' found what is g =
+    subst (λ (x : Stepped). Gives x lines r (world new (slice_set members at m')) lines')
+    (sym (ap f found ∙ what))
+    (client_gives at move old new members m m' lines r lines'
+    (link_there link members at found).0 is g)
+
+pub unowned : {A : Type 0} → (f : Option ℕ → Stepped) (link : List ℕ) (e : LinkEvent)
+    (old new : LinksState) (members : List MemberState)
+    (lines : List Line) (r : Result A WorldFault) (lines' : List Line)
+    → client_of_link link members ≡ None → f None ≡ links_step e (world old members)
+    → Gives (links.step old e) lines r new lines'
+    → Gives (f (client_of_link link members)) lines r (world new members) lines'
+unowned f link e old new members lines r lines' none what g =
+    subst (λ (x : Stepped). Gives x lines r (world new members) lines') (sym (ap f none ∙ what))
+    (links_give e old new members lines r lines' g)
+
+-- ---- a raw link is told what to say
+
+pub a_some : {A : Type 0} → (o : Option A) → is_some o ≡ true → (a : A) × (o ≡ Some a)
+a_some None e = absurd (let no : ⊥ = cc in no)
+a_some (Some a) e = (a, refl)
+
+pub a_none : {A : Type 0} → (o : Option A) → is_some o ≡ false → o ≡ None
+a_none None e = refl
+a_none (Some a) e = absurd (let no : ⊥ = cc in no)
+
+pub said_client : (o : Option ℕ) (name bytes : List ℕ) (w : WorldState) → is_some o ≡ true
+    → said_step o name bytes w ≡ refuses w NoName
+said_client None name bytes w e = absurd (let no : ⊥ = cc in no)
+said_client (Some at) name bytes w e = refl
+
+pub put_nowhere : (name bytes : List ℕ) (w : WorldState) (lines : List Line)
+    → place_of name w.links ≡ None
+    → Stops (links_step (link_event.Put name bytes) w) lines NoName w lines
+unfolding links.step
+put_nowhere name bytes w lines none =
+    let e : LinkEvent = link_event.Put name bytes in
+    let r : Result (Unit {0}) WorldFault = Err NoName in
+    links_give e w.links w.links w.members lines r lines
+    (subst (λ (m : Outcome LinksState). Stops m lines NoName w.links lines)
+    (sym (ap (λ p. over_named p (move_of e) w.links) none))
+    (refl, refl, sym (append-nil lines)))
+
+-- where the link is no client's
+pub said_stops : (name bytes : List ℕ) (w : WorldState) (lines : List Line) (fault : WorldFault)
+    → client_of_link name w.members ≡ None
+    → Stops (links_step (link_event.Put name bytes) w) lines fault w lines
+    → Stops (said_step (client_of_link name w.members) name bytes w) lines fault w lines
+said_stops name bytes w lines fault none g =
+    subst (λ c. Stops (said_step c name bytes w) lines fault w lines) (sym none) g
+
+-- memory runs out before anything is said
+pub put_before : (name bytes : List ℕ) (at : ℕ) (w : WorldState) (lines : List Line)
+    → place_of name w.links ≡ Some at
+    → Stops (links_step (link_event.Put name bytes) w) lines NoMemory w lines
+unfolding links.step over within
+put_before name bytes at w lines found =
+    let ls = w.links in
+    let e : LinkEvent = link_event.Put name bytes in
+    let r : Result (Unit {0}) WorldFault = Err NoMemory in
+    let same : with_session at ls (session_at at ls) ≡ ls =
+    ap (λ l. record { limits = ls.limits; now = ls.now; past = ls.past; links = l })
+    (set-get_or ls.links at (fresh_link 0 [])) in
+    links_give e ls ls w.members lines r lines
+    (subst (λ (m : Outcome LinksState). Stops m lines NoMemory ls lines)
+    (sym (ap (λ p. over_named p (move_of e) ls) found))
+    (subst (λ x. Stops (over at (move_of e) ls) lines NoMemory x lines) same
+    (stops_here (over at (move_of e) ls) (with_session at ls (session_at at ls)) lines refl)))
+
+-- ---- a client is made
+
+abbrev pub one_mode : ClientMode
+one_mode = record { shape = Single; proto = Three; caching = Default; noloop = false }
+
+mode_of : (s : Shape) (p : Proto) (k : Caching) (n : Bool)
+    → is_served (record { shape = s; proto = p; caching = k; noloop = n }) ≡ true
+    → record { shape = s; proto = p; caching = k; noloop = n } ≡ one_mode
+mode_of Single Three Default false e = refl
+mode_of Single Three Default true e = absurd (let no : ⊥ = cc in no)
+mode_of Single Three OptIn n e = absurd (let no : ⊥ = cc in no)
+mode_of Single Three OptOut n e = absurd (let no : ⊥ = cc in no)
+mode_of Single Three (Bcast ps) n e = absurd (let no : ⊥ = cc in no)
+mode_of Single Two k n e = absurd (let no : ⊥ = cc in no)
+mode_of Pair p k n e = absurd (let no : ⊥ = cc in no)
+
+-- one mode alone is served
+pub served_mode : (mode : ClientMode) → is_served mode ≡ true → mode ≡ one_mode
+served_mode mode e = mode_of mode.shape mode.proto mode.caching mode.noloop e
+
+module _ (name : List ℕ) (mode : ClientMode) (capacity : ℕ) (w : WorldState) where
+  abbrev making : Stepped
+  making = and_then (does w w [])
+      (λ w. and_then (links_step (link_event.Raw (data_link name)) w)
+      (join name (length w.links.links) (setup_by w mode capacity)))
+
+  pub client_unserved : is_served mode ≡ false
+      → client_step name mode capacity w ≡ refuses w (Refused 0)
+  client_unserved off = ap (λ b. cond (not b) (refuses w (Refused 0))
+      (cond (is_taken name w) (refuses w NameTaken) making)) off
+
+  module _ (served : is_served mode ≡ true) where
+    pub client_taken : is_taken name w ≡ true
+        → client_step name mode capacity w ≡ refuses w NameTaken
+    client_taken on = ap (λ b. cond (not b) (refuses w (Refused 0))
+        (cond (is_taken name w) (refuses w NameTaken) making)) served
+        ∙ ap (λ b. cond b (refuses w NameTaken) making) on
+
+    module _ (free : is_taken name w ≡ false) where
+      client_making : client_step name mode capacity w ≡ making
+      client_making = ap (λ b. cond (not b) (refuses w (Refused 0))
+          (cond (is_taken name w) (refuses w NameTaken) making)) served
+          ∙ ap (λ b. cond b (refuses w NameTaken) making) free
+
+      -- memory runs out before its link is made
+      pub client_before : (lines : List Line)
+          → Stops (client_step name mode capacity w) lines NoMemory w lines
+      client_before lines =
+          subst (λ (x : Stepped). Stops x lines NoMemory w lines) (sym client_making)
+          (stops_first (does w w []) _ lines NoMemory w lines
+          (stops_here (does w w []) w lines refl))
+
+      module _ (lines : List Line) (new : LinksState) (lines' : List Line) where
+        pub client_stops : (fault : WorldFault)
+            → Stops (links.step w.links (link_event.Raw (data_link name))) lines fault new lines'
+            → Stops (client_step name mode capacity w) lines fault (world new w.members) lines'
+        client_stops fault g =
+            let r : Result (Unit {0}) WorldFault = Err fault in
+            let raw = link_event.Raw (data_link name) in
+            let t = world new w.members in
+            subst (λ (x : Stepped). Stops x lines fault t lines') (sym client_making)
+            (after_stops (does w w []) _ lines w lines fault t lines'
+            (refl, refl, sym (append-nil lines))
+            (stops_first (links_step raw w) _ lines fault t lines'
+            (links_give raw w.links new w.members lines r lines' g)))
+
+        pub client_ends : (m : MemberState)
+            → m ≡ fresh_member name (length w.links.links) (setup_by w mode capacity)
+            → Ends (links.step w.links (link_event.Raw (data_link name))) lines new lines'
+            → Ends (client_step name mode capacity w) lines (world new (w.members ++ m ∷ [])) lines'
+        client_ends m is g =
+            let r : Result (Unit {0}) WorldFault = Ok (tt {0}) in
+            let raw = link_event.Raw (data_link name) in
+            let t = world new (w.members ++ m ∷ []) in
+            subst (λ (x : Stepped). Ends x lines t lines') (sym client_making)
+            (after_ends (does w w []) _ lines w lines t lines'
+            (refl, refl, sym (append-nil lines))
+            (after_ends (links_step raw w) _ lines (world new w.members) lines' t lines'
+            (links_give raw w.links new w.members lines r lines' g)
+            (refl, ap (λ x. world new (w.members ++ x ∷ [])) is, sym (append-nil lines'))))
+
+-- ---- all links flow
+
+-- one more link flows
+pub flow_more : {A : Type 0} → (n : ℕ) (w v : WorldState) (lines lines1 : List Line)
+    (r : Result A WorldFault) (u : WorldState) (lines2 : List Line)
+    → Ends (flow_first n w) lines v lines1 → Gives (flow_at n v) lines1 r u lines2
+    → Gives (flow_first (n + 1) w) lines r u lines2
+unfolding flow_first
+flow_more n w v lines lines1 r u lines2 h g =
+    subst (λ k. Gives (flow_first k w) lines r u lines2) (suc-eq-add-one n)
+    (gives_then (flow_first n w) (flow_at n) lines (tt {0}) v lines1 r u lines2 h g)
+
+-- a fault of one is the fault of all that follow
+pub flow_stops : (n more : ℕ) (w : WorldState) (lines : List Line) (fault : WorldFault)
+    (u : WorldState) (lines' : List Line) → Stops (flow_first n w) lines fault u lines'
+    → Stops (flow_first (n + more) w) lines fault u lines'
+unfolding flow_first
+flow_stops n zero w lines fault u lines' h =
+    subst (λ k. Stops (flow_first k w) lines fault u lines')
+    (let e : n ≡ n + 0 = omega arith in e) h
+flow_stops n (suc more) w lines fault u lines' h =
+    subst (λ k. Stops (flow_first k w) lines fault u lines')
+    (let e : suc (n + more) ≡ n + suc more = omega arith in e)
+    (stops_first (flow_first (n + more) w) (flow_at (n + more)) lines fault u lines'
+    (flow_stops n more w lines fault u lines' h))

@@ -1,0 +1,236 @@
+-- What each event leaves of a world as it was, and that what is printed by then begins what it
+-- prints.
+use Rattle.std.proofs.Common.{◌≡◌, ℕ, zero, suc, List, [], ◌++◌, Bool, true}
+use Rattle.std.proofs.Common.{false, cond, not, Some, None, Option, length, refl, sym, ap}
+use Rattle.std.proofs.Common.{◌∙◌, append_assoc}
+use Rattle.serial_model.specs.declared.history.Entry.{Entry}
+use Rattle.shared_cache.specs.declared.log.ClientCall.TheVariants as call
+use Rattle.shared_cache.specs.declared.log.ClientMode.{ClientMode}
+use Rattle.script_text.specs.declared.event.Event.{Event}
+use Rattle.script_text.specs.declared.event.Event.TheVariants.{Raw, Say, Bytes, Client, Out, Serve}
+use Rattle.script_text.specs.declared.event.Event.TheVariants.{Send, Recv, Flow, FlowAll, Cut, Ask}
+use Rattle.script_text.specs.declared.event.Event.TheVariants.{Do, Poll, Show}
+use Rattle.script_text.specs.declared.line.Line.{Line}
+use Rattle.server_links.specs.declared.fault.WorldFault.{WorldFault}
+use Rattle.server_links.specs.declared.fault.WorldFault.TheVariants.{NameTaken, NoName}
+use Rattle.server_links.specs.declared.fault.WorldFault.TheVariants.{NothingThere}
+use Rattle.server_links.specs.declared.fault.WorldFault.TheVariants.{Refused}
+use Rattle.server_links.specs.declared.link.LinkMove.{LinkMove}
+use Rattle.server_links.specs.declared.link.LinkMove.TheVariants as moves
+use Rattle.server_links.specs.LinkEvent as link_event
+use Rattle.server_links.specs.LinkEvent.{LinkEvent}
+use Rattle.server_links.specs.LinksState.{at_place}
+use Rattle.server_links.specs.LinkSteps as links
+use Rattle.server_links.specs.LinkSteps.{place_of}
+use Rattle.server_links.specs.Outcome.{Outcome, Reached, and_then, does, refuses, stays}
+use Rattle.server_links.proofs.Outcomes.{Meets, meets_does, meets_refuses, meets_stays, meets_then}
+use Rattle.server_links.proofs.Outcomes.{meets_weaker, meets_within}
+use Rattle.world_run.specs.WorldState.{WorldState, client_named, client_of_link}
+use Rattle.world_run.specs.WorldState.{data_link}
+use Rattle.world_run.specs.Members.{Seat, seat_at, with_seat}
+use Rattle.world_run.specs.ClientMoves as client
+use Rattle.world_run.specs.ClientMoves.{show, turn}
+use Rattle.world_run.specs.World.{Stepped, client_does, client_step, flow_at, flow_first, flow_step}
+use Rattle.world_run.specs.World.{is_served, is_taken, join, links_step, named_does, not_served}
+use Rattle.world_run.specs.World.{out_step, raw_out, recv_step, said_step, setup_by, step}
+use Rattle.world_run.specs.World.{on_links}
+use Rattle.world_run.proofs.Kept.{LinksKept, Orderly, named_kept, o_flow, o_out}
+use Rattle.world_run.proofs.Kept.{o_receive, o_show, o_turn}
+use Rattle.world_run.proofs.Links.{step_moved}
+
+by_if : {S : Type 0} → (P : Outcome S → Type 0) (b : Bool) (m n : Outcome S) → P m → P n
+    → P (cond b m n)
+by_if P true m n p q = p
+by_if P false m n p q = q
+
+-- the history grows, and no link is made
+pub record Onward (w v : WorldState) : Type 0 where
+  pub size : length v.links.links ≡ length w.links.links
+  pub entries : List Entry
+  pub grows : v.links.past ≡ entries ++ w.links.past
+
+onward_same : (w : WorldState) → Onward w w
+onward_same w = record { size = refl; entries = []; grows = refl }
+
+onward_both : (w u v : WorldState) → Onward w u → Onward u v → Onward w v
+onward_both w u v a b = record {
+  size = b.size ∙ a.size;
+  entries = b.entries ++ a.entries;
+  grows = b.grows ∙ ap (λ x. b.entries ++ x) a.grows
+      ∙ sym (append_assoc b.entries a.entries w.links.past);
+}
+
+onward_kept : (w v : WorldState) (name : List ℕ) → LinksKept w.links name v.links → Onward w v
+onward_kept w v name k = record { size = k.size; entries = k.entries; grows = k.grows }
+
+abbrev Goes : WorldState → Stepped → Type 0
+Goes w m = Meets (λ v ls. Onward w v) (λ v ls. Onward w v) m
+
+goes_refused : (w : WorldState) (f : WorldFault) → Goes w (refuses w f)
+goes_refused w f =
+    meets_refuses (λ v ls. Onward w v) (λ v ls. Onward w v) w f (onward_same w)
+
+goes_same : (w : WorldState) → Goes w (stays w)
+goes_same w =
+    meets_stays (λ v ls. Onward w v) (λ v ls. Onward w v) w (onward_same w) (onward_same w)
+
+goes_linked : (event : LinkEvent) (name : List ℕ) (w : WorldState)
+    → Meets (λ v ls. LinksKept w.links name v) (λ v ls. LinksKept w.links name v)
+    (links.step w.links event) → Goes w (links_step event w)
+unfolding links_step
+goes_linked event name w k =
+    meets_within (on_links w) (λ v ls. Onward w v) (λ v ls. Onward w v)
+    (links.step w.links event)
+    (meets_weaker (λ v ls. LinksKept w.links name v) (λ v ls. Onward w (on_links w v))
+    (λ v ls. LinksKept w.links name v) (λ v ls. Onward w (on_links w v))
+    (links.step w.links event) (λ v ls. onward_kept w (on_links w v) name)
+    (λ v ls. onward_kept w (on_links w v) name) k)
+
+goes_over : (name : List ℕ) (move : LinkMove) (w : WorldState)
+    → Goes w (links_step (link_event.Over name move) w)
+unfolding links.step
+goes_over name move w =
+    goes_linked (link_event.Over name move) name w
+    (named_kept (link_event.Over name move) w.links name)
+
+goes_put : (name bytes : List ℕ) (w : WorldState)
+    → Goes w (links_step (link_event.Put name bytes) w)
+unfolding links.step
+goes_put name bytes w =
+    goes_linked (link_event.Put name bytes) name w
+    (named_kept (link_event.Put name bytes) w.links name)
+
+goes_client : (at : ℕ) (move : Seat → Outcome Seat) → ((s : Seat) → Orderly s (move s))
+    → (w : WorldState) → Goes w (client_does at move w)
+unfolding client_does
+goes_client at move orderly w =
+    let s = seat_at at w in
+    meets_within (with_seat at w) (λ v ls. Onward w v) (λ v ls. Onward w v) (move s)
+    (record {
+      ends = λ none. onward_kept w (with_seat at w (move s).state) s.member.link
+          ((orderly s).kept.ends none).links;
+      all = λ t ls r. onward_kept w (with_seat at w t) s.member.link
+          ((orderly s).kept.all t ls r).links;
+    })
+
+goes_flow : (c : Option ℕ) (name : List ℕ) (w : WorldState) → Goes w (flow_step c name w)
+goes_flow None name w = goes_over name moves.Flow w
+goes_flow (Some at) name w = goes_client at client.flow o_flow w
+
+pub flow_size : (n : ℕ) (w v : WorldState) (ls : List Line) → Reached (flow_at n w) v ls
+    → length v.links.links ≡ length w.links.links
+flow_size n w v ls r =
+    let name = (at_place w.links.links n).name in
+    ((goes_flow (client_of_link name w.members) name w).all v ls r).size
+
+goes_first : (n : ℕ) (w : WorldState) → Goes w (flow_first n w)
+unfolding flow_first
+goes_first zero w = goes_same w
+goes_first (suc n) w =
+    let m = flow_first n w in
+    meets_then (λ v ls. Onward w v) (λ v ls. Onward w v) (λ v ls. Onward w v) m (flow_at n)
+    (goes_first n w)
+    (λ none k.
+    let name = (at_place m.state.links.links n).name in
+    meets_weaker (λ v ls. Onward m.state v) (λ v ls. Onward w v) (λ v ls. Onward m.state v)
+    (λ v ls. Onward w v) (flow_at n m.state) (λ v ls. onward_both w m.state v k)
+    (λ v ls. onward_both w m.state v k)
+    (goes_flow (client_of_link name m.state.members) name m.state))
+
+-- ---- the history grows at any event
+
+abbrev pub Grows : WorldState → WorldState → Type 0
+Grows w v = (es : List Entry) × (v.links.past ≡ es ++ w.links.past)
+
+abbrev Growing : WorldState → Stepped → Type 0
+Growing w m = Meets (λ v ls. Grows w v) (λ v ls. Grows w v) m
+
+as_growing : (w : WorldState) (m : Stepped) → Goes w m → Growing w m
+as_growing w m k =
+    meets_weaker (λ v ls. Onward w v) (λ v ls. Grows w v) (λ v ls. Onward w v) (λ v ls. Grows w v) m
+    (λ v ls o. (o.entries, o.grows)) (λ v ls o. (o.entries, o.grows)) k
+
+raw_grows : (name : List ℕ) (w : WorldState) → Growing w (links_step (link_event.Raw name) w)
+unfolding links_step
+raw_grows name w =
+    let event = link_event.Raw name in
+    let k = step_moved w.links event in
+    meets_within (on_links w) (λ v ls. Grows w v) (λ v ls. Grows w v) (links.step w.links event)
+    (record {
+      ends = λ none. (let g = (k.ends none).grows in (g.entries, g.grows));
+      all = λ v ls r. (let g = (k.all v ls r).grows in (g.entries, g.grows));
+    })
+
+client_grows : (name : List ℕ) (mode : ClientMode) (capacity : ℕ) (w : WorldState)
+    → Growing w (client_step name mode capacity w)
+client_grows name mode capacity w =
+    let none : Grows w w = ([], refl) in
+    let G : WorldState → List Line → Type 0 = λ v ls. Grows w v in
+    by_if (Growing w) (not (is_served mode)) (refuses w (Refused not_served)) _
+    (meets_refuses G G w (Refused not_served) none)
+    (by_if (Growing w) (is_taken name w) (refuses w NameTaken) _
+    (meets_refuses G G w NameTaken none)
+    (meets_then (λ v ls. v ≡ w) G G (does w w [])
+    (λ w. and_then (links_step (link_event.Raw (data_link name)) w)
+    (join name (length w.links.links) (setup_by w mode capacity)))
+    (meets_does (λ v ls. v ≡ w) G w w [] refl none none)
+    (λ ok same. meets_then G G G (links_step (link_event.Raw (data_link name)) w)
+    (join name (length w.links.links) (setup_by w mode capacity)) (raw_grows (data_link name) w)
+    (λ ok2 k. meets_stays G G _ k k))))
+
+named_goes : (c : Option ℕ) (move : Seat → Outcome Seat) → ((s : Seat) → Orderly s (move s))
+    → (w : WorldState) → Goes w (named_does c move w)
+named_goes None move orderly w = goes_refused w NoName
+named_goes (Some at) move orderly w = goes_client at move orderly w
+
+said_goes : (c : Option ℕ) (name bytes : List ℕ) (w : WorldState)
+    → Goes w (said_step c name bytes w)
+said_goes None name bytes w = goes_put name bytes w
+said_goes (Some at) name bytes w = goes_refused w NoName
+
+raw_out_goes : (p : Option ℕ) (count : Option ℕ) (w : WorldState) → Goes w (raw_out p count w)
+raw_out_goes None count w = goes_refused w NoName
+raw_out_goes (Some at) None w = goes_same w
+raw_out_goes (Some at) (Some n) w = goes_refused w NothingThere
+
+out_goes : (c : Option ℕ) (name : List ℕ) (count : Option ℕ) (w : WorldState)
+    → Goes w (out_step c name count w)
+out_goes None name count w = raw_out_goes (place_of name w.links) count w
+out_goes (Some at) name count w = goes_client at (client.out count) (o_out count) w
+
+recv_goes : (c : Option ℕ) (name : List ℕ) (count : Option ℕ) (w : WorldState)
+    → Goes w (recv_step c name count w)
+recv_goes None name count w = goes_over name (moves.Recv count) w
+recv_goes (Some at) name count w = goes_client at (client.receive count) (o_receive count) w
+
+pub step_grows : (e : Event) (w : WorldState)
+    → Meets (λ v ls. Grows w v) (λ v ls. Grows w v) (step w e)
+unfolding step
+step_grows (Raw name) w =
+    by_if (Growing w) (is_taken name w) (refuses w NameTaken) _
+    (meets_refuses (λ v ls. Grows w v) (λ v ls. Grows w v) w NameTaken ([], refl))
+    (raw_grows name w)
+step_grows (Say name words) w = as_growing w _ (said_goes (client_of_link name w.members) name _ w)
+step_grows (Bytes name bytes) w =
+    as_growing w _ (said_goes (client_of_link name w.members) name bytes w)
+step_grows (Client name mode capacity) w = client_grows name mode capacity w
+step_grows (Out name count) w =
+    as_growing w _ (out_goes (client_of_link name w.members) name count w)
+step_grows (Serve name count) w = as_growing w _ (goes_over name (moves.Serve count) w)
+step_grows (Send name count) w = as_growing w _ (goes_over name (moves.Send count) w)
+step_grows (Recv name count) w =
+    as_growing w _ (recv_goes (client_of_link name w.members) name count w)
+step_grows (Flow name) w = as_growing w _ (goes_flow (client_of_link name w.members) name w)
+step_grows FlowAll w = as_growing w _ (goes_first (length w.links.links) w)
+step_grows (Cut name) w = as_growing w _ (goes_over name moves.Cut w)
+step_grows (Ask name q) w =
+    as_growing w _ (named_goes (client_named name w.members) (turn (call.Ask q))
+    (o_turn (call.Ask q)) w)
+step_grows (Do name words) w =
+    as_growing w _ (named_goes (client_named name w.members) (turn (call.Send words))
+    (o_turn (call.Send words)) w)
+step_grows (Poll name n) w =
+    as_growing w _ (named_goes (client_named name w.members) (turn (call.Poll n))
+    (o_turn (call.Poll n)) w)
+step_grows (Show name) w =
+    as_growing w _ (named_goes (client_named name w.members) show o_show w)

@@ -1,0 +1,52 @@
+use Rattle.std.proofs.Common.{◌≡◌, append-nil, length, ap, subst, sym, ◌∙◌}
+use Rattle.shared_cache.specs.declared.log.Wire.TheVariants.{Main}
+use Rattle.shared_cache.specs.declared.log.ClientCall.TheVariants as call
+use Rattle.shared_cache.specs.ClientFields.{IsServed}
+use Rattle.shared_cache.specs.Held.{Setup}
+use Rattle.shared_cache.specs.Laws.{gots}
+use Rattle.shared_cache.specs.Steps.{ClientTurn}
+use Rattle.world_run.specs.Members.{seat}
+use Rattle.world_run.specs.WorldState.{MemberState}
+use Rattle.world_run.proofs.Answering.{end_fault, ends_always, gots_kept, step_like, turn_ends}
+use Rattle.world_run.proofs.Answering.{turned_like}
+use Rattle.world_run.proofs.member.Member.end.Goals as goal
+
+pub unreachable-requires : goal.unreachable-requires
+unreachable-requires c =
+    ends_always c.self.inside.state.setup c.self.inside.state.past c.in-Err.ensures.room
+
+pub invariant_of-self : goal.invariant_of-self
+invariant_of-self c =
+    let i = c.self.inside in (
+      subst (λ (x : Setup). IsServed x.mode) (sym c.turn.ensures.setup) c.self.invariant.0,
+      c.self.invariant.1
+          ∙ ap length
+          (sym (ap (λ (t : ClientTurn). gots Main t.past) (sym c.in-Ok.ensures.step)
+          ∙ gots_kept i.state.setup i.state.past (call.End Main) tt)),
+    )
+
+pub returns : goal.returns
+returns c =
+    let i = c.self.inside in
+    let old = c.args.self.now in
+    let m : MemberState = record {
+      name = i.name;
+      link = i.link;
+      place = i.place;
+      state = i.state;
+      reader = i.reader;
+    } in
+    let new : MemberState = record {
+      name = i.name;
+      link = i.link;
+      place = i.place;
+      state = c.turn.new.state;
+      reader = i.reader;
+    } in
+    let like = turned_like m old c.turn.new.state c.self.view_is c.turn.ensures.setup in
+    let is = step_like m old (call.End Main) c.in-Ok.field-0 new.state.past c.self.view_is
+    c.in-Ok.ensures.step in
+    let none = end_fault i.state.setup i.state.past new.state.past c.in-Ok.field-0
+    c.in-Ok.ensures.step in
+    λ links lines. turn_ends (seat links old) (call.End Main) new c.in-Ok.field-0 like is lines
+    lines none (sym (append-nil lines))

@@ -1,0 +1,74 @@
+use Rattle.std.proofs.Common.{◌≡◌, length, ap, subst, sym, ◌∙◌}
+use Rattle.std.proofs.lemmas.Result.{err_from_is_err_and}
+use Rattle.shared_cache.specs.declared.log.Wire.TheVariants.{Main}
+use Rattle.shared_cache.specs.ClientFields.{Client, IsServed}
+use Rattle.shared_cache.specs.Held.{Setup}
+use Rattle.shared_cache.specs.Laws.{gots}
+use Rattle.shared_cache.specs.Steps.{ClientTurn, client_step}
+use Rattle.server_links.specs.declared.fault.WorldFault.TheVariants.{NoMemory}
+use Rattle.server_links.specs.Outcome.{Stops}
+use Rattle.world_run.specs.ClientMoves.{turn}
+use Rattle.world_run.specs.Members.{seat}
+use Rattle.world_run.specs.WorldState.{MemberState}
+use Rattle.world_run.specs.MemberTurns.{Turned}
+use Rattle.world_run.proofs.Answering.{gots_kept, turn_before, turn_stops}
+use Rattle.world_run.proofs.member.Member.play.Goals as goal
+
+pub returns-in_err-reply : goal.returns-in_err-reply
+returns-in_err-reply c =
+    let i = c.self.inside in
+    let same = ap (λ (x : Client). record {
+      name = i.name;
+      link = i.link;
+      place = i.place;
+      state = x;
+      reader = i.reader;
+    }) c.in_err-reply.ensures.err ∙ c.self.view_is in
+    let p = err_from_is_err_and c.from_residual.result c.from_residual.ensures.1 in
+    rw p.1 (rw p.2 (λ links lines.
+    subst (λ (m : MemberState). Stops (turn c.args.call (seat links c.args.self.now)) lines NoMemory
+    (seat links m) lines) (sym same) (turn_before (seat links c.args.self.now) c.args.call lines)))
+
+pub invariant_of-self-in-Some : goal.invariant_of-self-in-Some
+invariant_of-self-in-Some c =
+    let i = c.self.inside in (
+      subst (λ (x : Setup). IsServed x.mode) (sym c.turn.ensures.setup) c.self.invariant.0,
+      c.self.invariant.1
+          ∙ ap length
+          (sym (ap (λ (t : ClientTurn). gots Main t.past) (sym c.in_ok-reply.ensures.step)
+          ∙ gots_kept i.state.setup i.state.past c.args.call c.requires.no_value)),
+    )
+
+pub returns-in-Some : goal.returns-in-Some
+returns-in-Some c =
+    let i = c.self.inside in
+    let old = c.args.self.now in
+    let new : MemberState = record {
+      name = i.name;
+      link = i.link;
+      place = i.place;
+      state = c.turn.new.state;
+      reader = i.reader;
+    } in
+    let like : Turned old new = record {
+      name = ap (λ (m : MemberState). m.name) c.self.view_is;
+      link = ap (λ (m : MemberState). m.link) c.self.view_is;
+      place = ap (λ (m : MemberState). m.place) c.self.view_is;
+      setup = c.turn.ensures.setup ∙ ap (λ (m : MemberState). m.state.setup) c.self.view_is;
+      reader = ap (λ (m : MemberState). m.reader) c.self.view_is;
+    } in
+    let is = subst (λ (m : MemberState). client_step m.state.setup m.state.past c.args.call
+    ≡ record { reply = c.in_ok-reply.reply; past = new.state.past }) c.self.view_is
+    c.in_ok-reply.ensures.step in
+    λ links lines. turn_stops (seat links old) c.args.call new c.in_ok-reply.reply like is lines
+    c.in-Some.fault (sym c.fault_of.ensures ∙ c.in-Some.is)
+
+pub invariant_of-self-2 : goal.invariant_of-self-2
+invariant_of-self-2 c =
+    let i = c.self.inside in (
+      subst (λ (x : Setup). IsServed x.mode) (sym c.turn.ensures.setup) c.self.invariant.0,
+      c.self.invariant.1
+          ∙ ap length
+          (sym (ap (λ (t : ClientTurn). gots Main t.past) (sym c.in_ok-reply.ensures.step)
+          ∙ gots_kept i.state.setup i.state.past c.args.call c.requires.no_value)),
+    )

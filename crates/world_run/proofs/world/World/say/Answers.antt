@@ -1,0 +1,78 @@
+use Rattle.std.proofs.Common.{◌≡◌, ◌++◌, true, false, not}
+use Rattle.std.proofs.Common.{refl, sym, ap, subst, ◌∙◌}
+use Rattle.std.specs.Option.{is_some}
+use Rattle.std.proofs.lemmas.Result.{err_from_is_err_and}
+use Rattle.resp_value.specs.Spelling.{request_spelling}
+use Rattle.script_text.specs.declared.event.Event.TheVariants as event
+use Rattle.server_links.specs.declared.fault.WorldFault.TheVariants.{NoName, NoMemory}
+use Rattle.server_links.specs.LinkEvent.{Put}
+use Rattle.server_links.specs.LinkSteps.{place_of}
+use Rattle.server_links.specs.LinkSteps as links
+use Rattle.server_links.specs.Outcome.{Gives}
+use Rattle.world_run.specs.Members.{world}
+use Rattle.world_run.specs.World.{StepGives}
+use Rattle.world_run.specs.World.{said_step, step}
+use Rattle.world_run.specs.WorldState.{WorldState, client_of_link}
+use Rattle.world_run.proofs.WorldCode as code
+use Rattle.world_run.proofs.world.World.say.Goals as goal
+
+pub returns-then-is_some : goal.returns-then-is_some
+unfolding step
+returns-then-is_some c =
+    let w = c.args.self.now in
+    let name = c.args.name.now in
+    let bytes = request_spelling c.args.words.now in
+    let o = client_of_link name w.members in
+    code.no_name w (said_step o name bytes w) c.args.lines.now
+    (code.said_client o name bytes w
+    (ap is_some (sym c.client_of_link.ensures) ∙ sym c.is_some.ensures ∙ c.if-is_some.true))
+
+pub returns-then-is_none : goal.returns-then-is_none
+unfolding step
+returns-then-is_none c =
+    let w = c.args.self.now in
+    let name = c.args.name.now in
+    let bytes = request_spelling c.args.words.now in
+    let none = sym c.client_of_link.ensures
+    ∙ code.a_none c.client_of_link.result (sym c.is_some.ensures ∙ c.if-is_some.false) in
+    let nowhere = ap (λ (v : WorldState). place_of name v.links) (sym c.self.view_is)
+    ∙ sym c.place_of.ensures
+    ∙ code.a_none c.place_of.result (c.is_none.ensures ∙ ap not c.if-is_none.true) in
+    code.said_stops name bytes w c.args.lines.now NoName none
+    (code.put_nowhere name bytes w c.args.lines.now nowhere)
+
+pub returns-in_err-put_request : goal.returns-in_err-put_request
+unfolding step
+returns-in_err-put_request c =
+    let w = c.args.self.now in
+    let name = c.args.name.now in
+    let bytes = request_spelling c.args.words.now in
+    let none = sym c.client_of_link.ensures
+    ∙ code.a_none c.client_of_link.result (sym c.is_some.ensures ∙ c.if-is_some.false) in
+    let at = code.a_some c.place_of.result (c.is_none.ensures ∙ ap not c.if-is_none.false) in
+    let p = err_from_is_err_and c.from_residual.result c.from_residual.ensures.1 in
+    rw p.1 (rw p.2
+    (code.said_stops name bytes w c.args.lines.now NoMemory none
+    (code.put_before name bytes at.0 w c.args.lines.now
+    (ap (λ (v : WorldState). place_of name v.links) (sym c.self.view_is)
+    ∙ sym c.place_of.ensures ∙ at.1))))
+
+pub returns : goal.returns
+unfolding step
+returns c =
+    let i = c.self.inside in
+    let w = world i.links i.members.items in
+    let t = world c.put.new.self i.members.items in
+    let name = c.args.name.now in
+    let bytes = request_spelling c.args.words.now in
+    let none = ap (λ (v : WorldState). client_of_link name v.members) c.self.view_is
+    ∙ sym c.client_of_link.ensures
+    ∙ code.a_none c.client_of_link.result (sym c.is_some.ensures ∙ c.if-is_some.false) in
+    let written : c.as_slice.result.now ≡ bytes = c.as_slice.ensures.value
+    ∙ c.in_ok-put_request.ensures.ok ∙ ap (λ l. l ++ bytes) c.new-request.ensures.items in
+    subst (λ (v : WorldState). StepGives v (event.Say name c.args.words.now) c.args.lines.now
+    c.put.result t c.put.new.lines) c.self.view_is
+    (code.unowned (λ o. said_step o name bytes w) name (Put name bytes) i.links c.put.new.self
+    i.members.items c.args.lines.now c.put.result c.put.new.lines none refl
+    (subst (λ b. Gives (links.step i.links (Put name b)) c.args.lines.now c.put.result
+    c.put.new.self c.put.new.lines) written c.put.ensures))

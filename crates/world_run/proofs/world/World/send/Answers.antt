@@ -1,0 +1,30 @@
+use Rattle.std.proofs.Common.{slice_set, sym, ap, subst, ◌∙◌}
+use Rattle.shared_cache.specs.declared.log.ClientCall.TheVariants as call
+use Rattle.script_text.specs.declared.event.Event.TheVariants as event
+use Rattle.world_run.specs.WorldState.{WorldState, client_named}
+use Rattle.world_run.specs.Members.{world}
+use Rattle.world_run.specs.ClientMoves.{turn}
+use Rattle.world_run.specs.World.{StepGives, step}
+use Rattle.world_run.proofs.WorldCode.{named_gives, named_none}
+use Rattle.world_run.proofs.world.World.send.Goals as goal
+
+pub returns-in_default : goal.returns-in_default
+unfolding step
+returns-in_default c =
+    named_none c.args.name.now (turn (call.Send c.args.words.now)) c.args.self.now c.args.lines.now
+    (sym c.client_named.ensures ∙ c.in_default.is)
+
+pub returns : goal.returns
+unfolding step
+returns c =
+    let i = c.self.inside in
+    subst (λ (w : WorldState). StepGives w
+    (event.Do c.args.name.now c.args.words.now) c.args.lines.now
+    c.send.result (world i.links (slice_set i.members.items c.in-Some.at c.send.new.self))
+    c.send.new.lines) c.self.view_is
+    (named_gives c.args.name.now (turn (call.Send c.args.words.now))
+    i.links i.links i.members.items c.in-Some.at c.index_mut.result.now
+    c.send.new.self c.args.lines.now c.send.result c.send.new.lines
+    (ap (λ (w : WorldState). client_named c.args.name.now w.members) c.self.view_is
+    ∙ sym c.client_named.ensures ∙ c.in-Some.is)
+    c.index_mut.ensures.value c.send.ensures)
