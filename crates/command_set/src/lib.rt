@@ -15,6 +15,3 @@ pub use database::{Database, Expired, Turned, Undo};
 pub use due::{drop_due, due_keys, expire_due};
 pub use laws::{law_nothing_is_in_step, law_one_index_is_in_step, law_rows_move_what_they_write};
 pub use run::{has_row, run_data};
-
-#[cfg(test)]
-mod tests;

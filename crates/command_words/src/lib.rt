@@ -34,8 +34,3 @@ pub use read::read_command;
 pub use read_keys::keys_read;
 pub use refused::fault_text;
 pub use written::{Written, keys_written, written_by};
-
-#[cfg(test)]
-mod query_tests;
-#[cfg(test)]
-mod tests;

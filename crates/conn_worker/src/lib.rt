@@ -10,6 +10,3 @@ mod serve;
 pub use gate::{Gate, OpenGate};
 pub use report::{Ended, Report};
 pub use serve::serve_link;
-
-#[cfg(test)]
-mod tests;

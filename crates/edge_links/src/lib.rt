@@ -9,8 +9,6 @@
 mod adapters;
 mod clock;
 mod counts;
-#[cfg(test)]
-mod link_tests;
 mod links;
 mod listed_net;
 mod memory;
@@ -19,8 +17,6 @@ mod memory_link;
 mod memory_net;
 mod streams;
 mod tcp;
-#[cfg(test)]
-mod tests;
 
 pub use adapters::{ReaderSource, WriterSink};
 pub use clock::{Clock, FixedClock, SystemClock};

@@ -8,6 +8,3 @@ mod marks;
 mod numbered;
 
 pub use marks::{Mark, Marks};
-
-#[cfg(test)]
-mod tests;

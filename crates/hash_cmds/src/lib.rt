@@ -9,6 +9,3 @@ mod writes;
 
 pub use foresee::foresee_hash;
 pub use run::{is_hash, run_hash};
-
-#[cfg(test)]
-mod tests;

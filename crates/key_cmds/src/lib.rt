@@ -9,6 +9,3 @@ mod writes;
 
 pub use deadlines::{expiry_after, expiry_at};
 pub use run::{is_key, run_key};
-
-#[cfg(test)]
-mod tests;

@@ -7,6 +7,3 @@ mod space;
 
 pub use fields::Fields;
 pub use space::{Content, Held, Keyspace};
-
-#[cfg(test)]
-mod tests;

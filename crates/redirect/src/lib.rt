@@ -8,6 +8,3 @@ mod routing;
 pub use messages::{invalidation, notice};
 pub use routes::Route;
 pub use routing::{is_broken, route};
-
-#[cfg(test)]
-mod tests;

@@ -14,6 +14,3 @@ mod value_reader;
 pub use fault::{FaultPlace, StreamFault};
 pub use request_reader::RequestReader;
 pub use value_reader::ValueReader;
-
-#[cfg(test)]
-mod tests;

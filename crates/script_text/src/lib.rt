@@ -11,6 +11,3 @@ mod words;
 pub use event::{Event, LONGEST_LINE, read_event};
 pub use laws::{law_events_are_valid, law_lines_come_back, law_words_come_back};
 pub use line::{Line, Lines, put_line};
-
-#[cfg(test)]
-mod tests;

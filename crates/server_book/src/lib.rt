@@ -12,6 +12,3 @@ mod stores;
 
 pub use book::Book;
 pub use serial_model::{BookCall, BookRefusal, BookReply, Entry, Limits, Post, Posted};
-
-#[cfg(test)]
-mod tests;

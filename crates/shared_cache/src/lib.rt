@@ -16,6 +16,3 @@ pub use client::ClientState;
 pub use entry::{CacheEntry, PendingReply};
 pub use log::{Caching, ClientCall, ClientMode, ClientRefusal, ClientReply, LogEntry, Shape, Wire};
 pub use notices::Notice;
-
-#[cfg(test)]
-mod tests;

@@ -11,6 +11,3 @@ mod writes;
 pub use foresee::foresee_string;
 pub use run::{is_string, run_string};
 pub use writes::moment_after;
-
-#[cfg(test)]
-mod tests;

@@ -15,6 +15,3 @@ pub use mode::{INVALIDATION_CHANNEL, Mode};
 pub use peer::Peer;
 pub use prefixes::Prefixes;
 pub use tracking::{Settings, TrackMode, Tracking};
-
-#[cfg(test)]
-mod tests;

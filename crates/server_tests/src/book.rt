@@ -2,9 +2,9 @@
 ghost use Rattle.std.specs.Prelude.{IfOk, ◌<◌};
 ghost use Rattle.serial_model.specs.Steps.{AreValid, IsCallable};
 
-use super::{Book, BookCall, BookRefusal, BookReply, Entry, Limits, Post, Posted};
 use command_words::put_printed;
 use resp_value::{NoMemory, Octets, Words};
+use server_book::{Book, BookCall, BookRefusal, BookReply, Entry, Limits, Post, Posted};
 use std::alloc::Global;
 use std::test::Fail;
 

@@ -1,5 +1,5 @@
 //! What no clause can say: the spellings in the standard's own words, and that calls succeed.
-use super::{NoMemory, Octets, Pairs, Proto, Value, Values, Words, put_request, put_value};
+use resp_value::{NoMemory, Octets, Pairs, Proto, Value, Values, Words, put_request, put_value};
 use std::alloc::Global;
 use std::process::Abort;
 use std::test::Fail;

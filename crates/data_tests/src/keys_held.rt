@@ -1,5 +1,5 @@
 //! What no clause can say: the calls succeed, and the fields stand in the order of the pages.
-use super::{Content, Fields, Held, Keyspace};
+use keyspace::{Content, Fields, Held, Keyspace};
 use resp_value::{NoMemory, Octets, Words};
 use std::alloc::Global;
 use std::process::Abort;

@@ -1,7 +1,7 @@
 //! The grammar and the printed lines against worked examples. Each table has a case a line.
-use super::{Event, LONGEST_LINE, Line, Lines, put_line, read_event};
 use command_words::put_printed;
 use resp_value::{NoMemory, Octets, Proto, Value, Words};
+use script_text::{Event, LONGEST_LINE, Line, Lines, put_line, read_event};
 use shared_cache::{Caching, ClientMode, Shape};
 use std::alloc::Global;
 use std::test::Fail;

@@ -1,5 +1,5 @@
 //! Queries, keys and control commands, with ample memory.
-use super::{Query, is_control, keys_read, read_command, written_by};
+use command_words::{Query, is_control, keys_read, read_command, written_by};
 use resp_value::{NoMemory, Octets, Words};
 use std::alloc::Global;
 use std::test::Fail;

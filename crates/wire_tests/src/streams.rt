@@ -1,5 +1,5 @@
 //! The standard's own bytes, whole and cut, and each limit at its number.
-use super::{RequestReader, StreamFault, ValueReader};
+use resp_stream::{RequestReader, StreamFault, ValueReader};
 use resp_value::{NoMemory, Proto, Value, Words, put_request, put_value};
 use std::alloc::Global;
 use std::test::Fail;

@@ -3,11 +3,11 @@ ghost use Rattle.std.specs.Prelude.{◌≡◌, IfOk, length};
 ghost use Rattle.shared_cache.specs.ClientFields.{IsServed};
 ghost use Rattle.shared_cache.specs.Laws.{IsCall};
 
-use super::{
-    Caching, ClientCall, ClientMode, ClientRefusal, ClientReply, ClientState, Shape, Wire,
-};
 use command_words::Query;
 use resp_value::{NoMemory, Octets, Pairs, Proto, Value, Values, Words};
+use shared_cache::{
+    Caching, ClientCall, ClientMode, ClientRefusal, ClientReply, ClientState, Shape, Wire,
+};
 use std::alloc::Global;
 use std::process::Abort;
 use std::test::Fail;

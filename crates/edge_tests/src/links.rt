@@ -1,5 +1,5 @@
 //! Links, acceptors and nets, in memory and over the loopback address: what they answer in turn.
-use super::*;
+use edge_links::*;
 use std::alloc::{AllocError, Global};
 use std::test::Fail;
 

@@ -2,8 +2,8 @@
 //!
 //! A row is `LINE: REPLY | KEYS`: the reply with a space for each end of a line, and the keys that
 //! the line signals.
-use super::{is_hash, run_hash};
 use command_words::{Signalled, read_command};
+use hash_cmds::{is_hash, run_hash};
 use keyspace::{Content, Held, Keyspace};
 use resp_value::{NoMemory, Octets, Proto, Words, put_value};
 use std::alloc::Global;

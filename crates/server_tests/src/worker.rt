@@ -1,6 +1,6 @@
 //! One connection over a link in memory: how it ends, how many of its requests ran, and what was
 //! written to it.
-use super::*;
+use conn_worker::*;
 use edge_links::{FixedClock, LinkStep, MemoryLink};
 use resp_value::Words;
 use server_book::Limits;

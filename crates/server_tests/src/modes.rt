@@ -1,9 +1,9 @@
 //! Commands of one connection against worked rows.
-use super::{Mode, ModeFault};
 use command_words::read_command;
 use resp_value::{NoMemory, Octets, Words};
 use std::alloc::Global;
 use std::test::Fail;
+use track_modes::{Mode, ModeFault};
 
 // The words of a command, which spaces part here; '' stands for the empty word. CLIENT is left out.
 fn words_of(alloc: Global, command: &str) -> Result<Words, NoMemory> {

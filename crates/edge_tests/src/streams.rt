@@ -1,5 +1,5 @@
 //! What the sources, sinks, clocks and nets of this crate answer.
-use super::*;
+use edge_links::*;
 use std::alloc::{AllocError, Global};
 use std::io;
 use std::io::{Read, Write};

@@ -2,12 +2,12 @@
 //!
 //! A row is `LINE: REPLY | KEYS`: the reply with a space for each end of a line, and the keys that
 //! the line signals.
-use super::{is_string, run_string};
 use command_words::{Signalled, read_command};
 use keyspace::{Content, Fields, Held, Keyspace};
 use resp_value::{NoMemory, Octets, Proto, Words, put_value};
 use std::alloc::Global;
 use std::test::Fail;
+use string_cmds::{is_string, run_string};
 
 /// The words of a line; two quotes are the empty word.
 fn words_of(alloc: Global, line: &str) -> Result<Words, NoMemory> {

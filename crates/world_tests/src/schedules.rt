@@ -3,7 +3,6 @@
 ghost use Rattle.std.specs.Prelude.{◌<◌};
 ghost use Rattle.serial_model.specs.Steps.{AreValid};
 
-use super::World;
 use super::reference_player::ReferencePlayer;
 use super::schedule_table::{SCHEDULES, SMALL_TABLE};
 use command_words::put_printed;
@@ -13,6 +12,7 @@ use server_book::Limits;
 use std::alloc::Global;
 use std::process::Abort;
 use std::test::Fail;
+use world_run::World;
 
 const LIMITS: Limits = Limits {
     table_max: 1_000,

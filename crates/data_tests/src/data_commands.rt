@@ -1,5 +1,5 @@
 //! Commands with the deadlines after each, the keys that were due, and runs that are taken back.
-use super::{Database, Turned, has_row};
+use command_set::{Database, Turned, has_row};
 use command_words::read_command;
 use resp_value::{NoMemory, Octets, Proto, Words, put_value};
 use std::alloc::Global;

@@ -1,6 +1,6 @@
 //! Routes and messages against worked examples.
-use super::{Route, invalidation, is_broken, notice, route};
 use command_words::read_command;
+use redirect::{Route, invalidation, is_broken, notice, route};
 use resp_value::{NoMemory, Octets, Proto, Value, Words, put_value};
 use std::alloc::Global;
 use std::test::Fail;

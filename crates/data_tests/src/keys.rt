@@ -1,6 +1,6 @@
 //! The rows of the commands on keys, in the words of their pages.
-use super::{is_key, run_key};
 use command_words::{Command, Signalled, read_command};
+use key_cmds::{is_key, run_key};
 use keyspace::{Content, Fields, Held, Keyspace};
 use resp_value::{NoMemory, Octets, Proto, Words, put_value};
 use std::alloc::Global;

@@ -1,6 +1,6 @@
 //! Marks over ample memory.
-use super::Marks;
 use command_words::Query;
+use fill_mark::Marks;
 use resp_value::{Octets, Words};
 use std::alloc::Global;
 use std::test::Fail;

@@ -1,5 +1,5 @@
 //! Words against the tables of commands, and printed words against worked examples.
-use super::{Command, SetLife, SetWhen, WordFault, fault_text, put_printed, read_command};
+use command_words::{Command, SetLife, SetWhen, WordFault, fault_text, put_printed, read_command};
 use resp_value::{NoMemory, Octets, Words};
 use std::alloc::Global;
 use std::test::Fail;
