@@ -1,18 +1,11 @@
 //! Commands with the deadlines after each, the keys that were due, and runs that are taken back.
+use super::rows::words_of;
 use command_set::{Database, Turned, has_row};
 use command_words::read_command;
-use resp_value::{NoMemory, Octets, Proto, Words, put_value};
+use resp_value::{NoMemory, Proto, Words, put_value};
 use std::alloc::Global;
 use std::process::Abort;
 use std::test::Fail;
-
-fn words_of(alloc: Global, line: &str) -> Result<Words, NoMemory> {
-    let mut words = Words::new(alloc);
-    for word in line.split(' ') {
-        words.push(Octets::from_slice(alloc, word.as_bytes())?)?;
-    }
-    Ok(words)
-}
 
 /// The words, parted by spaces; `-` where there are none.
 fn joined(alloc: Global, words: &Words) -> Result<Vec<u8>, NoMemory> {

@@ -1,67 +1,8 @@
 //! The rows of the commands on hashes, in the words of their pages.
-//!
-//! A row is `LINE: REPLY | KEYS`: the reply with a space for each end of a line, and the keys that
-//! the line signals.
-use command_words::{Signalled, read_command};
-use hash_cmds::{is_hash, run_hash};
+use super::rows::wrong_row;
 use keyspace::{Content, Held, Keyspace};
-use resp_value::{NoMemory, Octets, Proto, Words, put_value};
-use std::alloc::Global;
+use resp_value::Octets;
 use std::test::Fail;
-
-/// The words of a line; two quotes are the empty word.
-fn words_of(alloc: Global, line: &str) -> Result<Words, NoMemory> {
-    let mut words = Words::new(alloc);
-    for word in line.split(' ') {
-        let word = if word == "''" { "" } else { word };
-        words.push(Octets::from_slice(alloc, word.as_bytes())?)?;
-    }
-    Ok(words)
-}
-
-/// The reply and the keys of a line that runs at the moment 1000.
-fn answer(alloc: Global, space: &mut Keyspace, line: &str) -> Result<Vec<u8>, NoMemory> {
-    let mut shown = Vec::new(alloc);
-    let Ok(command) = read_command(alloc, &words_of(alloc, line)?) else {
-        return Ok(shown);
-    };
-    if !is_hash(&command) {
-        return Ok(shown);
-    }
-    let done = run_hash(alloc, space, &command, 1000)?;
-    let mut bytes = Vec::new(alloc);
-    put_value(Proto::Three, &done.reply, &mut bytes)?;
-    for byte in bytes.as_slice() {
-        if *byte != b'\n' {
-            shown.push(if *byte == b'\r' { b' ' } else { *byte })?;
-        }
-    }
-    shown.push(b'|')?;
-    if let Signalled::Keys(words) = &done.signalled {
-        for word in words.as_slice() {
-            shown.push(b' ')?;
-            shown.extend_from_slice(word.as_slice())?;
-        }
-    }
-    Ok(shown)
-}
-
-/// Runs the rows, and answers the first that gives something else.
-fn wrong_row<'a>(
-    alloc: Global,
-    space: &mut Keyspace,
-    table: &'a str,
-) -> Result<Option<&'a str>, NoMemory> {
-    for row in table.split('\n') {
-        let Some((line, wanted)) = row.split_once(": ") else {
-            return Ok(Some(row));
-        };
-        if answer(alloc, space, line)?.as_slice() != wanted.as_bytes() {
-            return Ok(Some(row));
-        }
-    }
-    Ok(None)
-}
 
 // Fields that are missing, new and old, in the order in which they came.
 const ROWS: &str = "\

@@ -1,19 +1,11 @@
 //! The rows of the commands on keys, in the words of their pages.
+use super::rows::words_of;
 use command_words::{Command, Signalled, read_command};
 use key_cmds::{is_key, run_key};
 use keyspace::{Content, Fields, Held, Keyspace};
-use resp_value::{NoMemory, Octets, Proto, Words, put_value};
+use resp_value::{NoMemory, Octets, Proto, put_value};
 use std::alloc::Global;
 use std::test::Fail;
-
-/// The words of a line.
-fn words_of(alloc: Global, line: &str) -> Result<Words, NoMemory> {
-    let mut words = Words::new(alloc);
-    for word in line.split(' ') {
-        words.push(Octets::from_slice(alloc, word.as_bytes())?)?;
-    }
-    Ok(words)
-}
 
 /// Strings with no deadline, one to come, one now and one past, and two hashes: the moment of the
 /// tests is 1000.

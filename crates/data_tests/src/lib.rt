@@ -10,4 +10,6 @@ mod keys;
 #[cfg(test)]
 mod keys_held;
 #[cfg(test)]
+mod rows;
+#[cfg(test)]
 mod strings;

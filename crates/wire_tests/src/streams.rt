@@ -28,44 +28,58 @@ fn is_nothing(answer: &Result<Option<Words>, StreamFault>) -> bool {
     }
 }
 
-#[test]
-fn requests_are_read_however_their_bytes_are_cut(rt: HostRuntime) -> Result<(), Fail> {
-    let a = rt.alloc();
-    let rows: [(&[u8], Result<&[u8], StreamFault>); 5] = [
-        (
+// A request's bytes, and the request or the fault that they hold.
+fn request_row(row: usize) -> (&'static [u8], Result<&'static [u8], StreamFault>) {
+    match row {
+        0 => (
             b"*2\r\n$3\r\nGET\r\n$3\r\nfoo\r\n",
             Ok(b"*2\r\n$3\r\nGET\r\n$3\r\nfoo\r\n"),
         ),
-        (b"*0\r\n*-1\r\nPING\n", Ok(b"*1\r\n$4\r\nPING\r\n")),
-        (b" GET\t a  \r\n", Ok(b"*2\r\n$3\r\nGET\r\n$1\r\na\r\n")),
-        (b"*1\r\n$-1", Err(StreamFault::BadByte { offset: 5 })),
-        (b"GET \"a\"", Err(StreamFault::BadByte { offset: 4 })),
-    ];
-    for (bytes, want) in &rows {
-        for cut in 0..bytes.len() {
-            let (front, back) = bytes.split_at(cut);
-            let mut reader = RequestReader::new(a);
-            reader.feed(front)?;
-            let early = reader.next_request();
-            assert!(rt;
-                is_nothing(&early) || is_request(a, &early, want)?,
-                "before the cut at {cut}"
-            );
-            reader.feed(back)?;
-            let answer = reader.next_request();
-            assert!(rt; is_request(a, &answer, want)?, "cut at {cut}");
-        }
+        1 => (b"*0\r\n*-1\r\nPING\n", Ok(b"*1\r\n$4\r\nPING\r\n")),
+        2 => (b" GET\t a  \r\n", Ok(b"*2\r\n$3\r\nGET\r\n$1\r\na\r\n")),
+        3 => (b"*1\r\n$-1", Err(StreamFault::BadByte { offset: 5 })),
+        _ => (b"GET \"a\"", Err(StreamFault::BadByte { offset: 4 })),
+    }
+}
+
+fn is_request_in_pieces(
+    rt: &impl std::process::Abort,
+    a: Global,
+    bytes: &[u8],
+    want: &Result<&[u8], StreamFault>,
+) -> Result<(), NoMemory> {
+    for cut in 0..bytes.len() {
+        let (front, back) = bytes.split_at(cut);
         let mut reader = RequestReader::new(a);
-        let mut answer = Ok(None);
-        for byte in *bytes {
-            assert!(rt;
-                is_nothing(&answer) || is_request(a, &answer, want)?,
-                "byte by byte"
-            );
-            reader.feed(&[*byte])?;
-            answer = reader.next_request();
-        }
-        assert!(rt; is_request(a, &answer, want)?, "byte by byte");
+        reader.feed(front)?;
+        let early = reader.next_request();
+        assert!(rt;
+            is_nothing(&early) || is_request(a, &early, want)?,
+            "before the cut at {cut}"
+        );
+        reader.feed(back)?;
+        let answer = reader.next_request();
+        assert!(rt; is_request(a, &answer, want)?, "cut at {cut}");
+    }
+    let mut reader = RequestReader::new(a);
+    let mut answer = Ok(None);
+    for byte in bytes {
+        assert!(rt;
+            is_nothing(&answer) || is_request(a, &answer, want)?,
+            "byte by byte"
+        );
+        reader.feed(&[*byte])?;
+        answer = reader.next_request();
+    }
+    assert!(rt; is_request(a, &answer, want)?, "byte by byte");
+    Ok(())
+}
+
+#[test]
+fn requests_are_read_however_their_bytes_are_cut(rt: HostRuntime) -> Result<(), Fail> {
+    for row in 0..5 {
+        let (bytes, want) = request_row(row);
+        is_request_in_pieces(&rt, rt.alloc(), bytes, &want)?;
     }
     Ok(())
 }
@@ -230,83 +244,93 @@ fn is_read_in_pieces(
     Ok(())
 }
 
-#[test]
-fn faults_of_values_are_found_however_their_bytes_are_cut(rt: HostRuntime) -> Result<(), Fail> {
-    let rows: [(&[u8], StreamFault); 12] = [
-        (
+// Bytes that are no value, and their fault.
+fn fault_row(row: usize) -> (&'static [u8], StreamFault) {
+    match row {
+        0 => (
             b"$16777217",
             StreamFault::TooLong {
                 offset: 8,
                 number: 16777217,
             },
         ),
-        (
+        1 => (
             b"*65537",
             StreamFault::TooLong {
                 offset: 5,
                 number: 65537,
             },
         ),
-        (
+        2 => (
             b"%32769",
             StreamFault::TooLong {
                 offset: 5,
                 number: 32769,
             },
         ),
-        (
+        3 => (
             b"*1\r\n*1\r\n*1\r\n*1\r\n*1\r\n*1\r\n*1\r\n*1\r\n*1\r\n",
             StreamFault::TooDeep { offset: 32 },
         ),
-        (
+        4 => (
             b",1.5\r\n",
             StreamFault::NotServed {
                 offset: 0,
                 byte: 44,
             },
         ),
-        (
+        5 => (
             b"$?",
             StreamFault::NotServed {
                 offset: 1,
                 byte: 63,
             },
         ),
-        (b"*1\r\n>", StreamFault::BadByte { offset: 4 }),
-        (b":9223372036854775808", StreamFault::BadByte { offset: 19 }),
-        (b"=3\r", StreamFault::BadByte { offset: 2 }),
-        (b"=5\r\ntxt;", StreamFault::BadByte { offset: 7 }),
-        (b"=?", StreamFault::BadByte { offset: 1 }),
-        (b"+a\nb", StreamFault::BadByte { offset: 2 }),
-    ];
-    for (bytes, fault) in &rows {
-        is_read_in_pieces(&rt, rt.alloc(), bytes, &Err(*fault))?;
+        6 => (b"*1\r\n>", StreamFault::BadByte { offset: 4 }),
+        7 => (b":9223372036854775808", StreamFault::BadByte { offset: 19 }),
+        8 => (b"=3\r", StreamFault::BadByte { offset: 2 }),
+        9 => (b"=5\r\ntxt;", StreamFault::BadByte { offset: 7 }),
+        10 => (b"=?", StreamFault::BadByte { offset: 1 }),
+        _ => (b"+a\nb", StreamFault::BadByte { offset: 2 }),
+    }
+}
+
+#[test]
+fn faults_of_values_are_found_however_their_bytes_are_cut(rt: HostRuntime) -> Result<(), Fail> {
+    for row in 0..12 {
+        let (bytes, fault) = fault_row(row);
+        is_read_in_pieces(&rt, rt.alloc(), bytes, &Err(fault))?;
     }
     Ok(())
 }
 
+// Bytes, and how the third protocol spells the value in them; nothing where it is not whole.
+fn value_row(row: usize) -> (&'static [u8], &'static [u8]) {
+    match row {
+        0 => (b":-0\r\n", b":0\r\n"),
+        1 => (b"$3\r\nfo", b""),
+        2 => (b":+0009223372036854775\r\n", b":9223372036854775\r\n"),
+        3 => (b":-9223372036854775808\r\n", b":-9223372036854775808\r\n"),
+        4 => (b"+OK\r\n", b"+OK\r\n"),
+        5 => (b"-ERR no\r\n", b"-ERR no\r\n"),
+        6 => (b"$-1\r\n", b"_\r\n"),
+        7 => (b"*-1\r\n", b"_\r\n"),
+        8 => (b"=8\r\ntxt:a\r\nb\r\n", b"=8\r\ntxt:a\r\nb\r\n"),
+        9 => (
+            b"%2\r\n$1\r\na\r\n#t\r\n!1\r\n\n\r\n*2\r\n~0\r\n_\r\n",
+            b"%2\r\n$1\r\na\r\n#t\r\n!1\r\n\n\r\n*2\r\n~0\r\n_\r\n",
+        ),
+        _ => (
+            b">2\r\n$10\r\ninvalidate\r\n*1\r\n$3\r\nfoo\r\n",
+            b">2\r\n$10\r\ninvalidate\r\n*1\r\n$3\r\nfoo\r\n",
+        ),
+    }
+}
+
 #[test]
 fn values_are_read_however_their_bytes_are_cut(rt: HostRuntime) -> Result<(), Fail> {
-    let rows: [(&[u8], &[u8]); 11] = [
-        (b":-0\r\n", b":0\r\n"),
-        (b"$3\r\nfo", b""),
-        (b":+0009223372036854775\r\n", b":9223372036854775\r\n"),
-        (b":-9223372036854775808\r\n", b":-9223372036854775808\r\n"),
-        (b"+OK\r\n", b"+OK\r\n"),
-        (b"-ERR no\r\n", b"-ERR no\r\n"),
-        (b"$-1\r\n", b"_\r\n"),
-        (b"*-1\r\n", b"_\r\n"),
-        (b"=8\r\ntxt:a\r\nb\r\n", b"=8\r\ntxt:a\r\nb\r\n"),
-        (
-            b"%2\r\n$1\r\na\r\n#t\r\n!1\r\n\n\r\n*2\r\n~0\r\n_\r\n",
-            b"%2\r\n$1\r\na\r\n#t\r\n!1\r\n\n\r\n*2\r\n~0\r\n_\r\n",
-        ),
-        (
-            b">2\r\n$10\r\ninvalidate\r\n*1\r\n$3\r\nfoo\r\n",
-            b">2\r\n$10\r\ninvalidate\r\n*1\r\n$3\r\nfoo\r\n",
-        ),
-    ];
-    for (bytes, value) in &rows {
+    for row in 0..11 {
+        let (bytes, value) = value_row(row);
         is_read_in_pieces(&rt, rt.alloc(), bytes, &Ok(value))?;
     }
     Ok(())

@@ -42,104 +42,99 @@ fn is_spelled(
     Ok(())
 }
 
-#[test]
-fn texts_and_numbers_have_their_spelling(rt: HostRuntime) -> Result<(), Fail> {
-    let a = rt.alloc();
-    is_spelled(
-        &rt,
-        a,
-        &Value::Simple(text(a, b"OK")?),
-        b"+OK\r\n",
-        b"+OK\r\n",
-    )?;
-    is_spelled(
-        &rt,
-        a,
-        &Value::Error(text(a, b"ERR no")?),
-        b"-ERR no\r\n",
-        b"-ERR no\r\n",
-    )?;
-    is_spelled(
-        &rt,
-        a,
-        &Value::Number(i64::MIN),
-        b":-9223372036854775808\r\n",
-        b":-9223372036854775808\r\n",
-    )?;
-    is_spelled(
-        &rt,
-        a,
-        &Value::Blob(text(a, b"a\r\nb")?),
-        b"$4\r\na\r\nb\r\n",
-        b"$4\r\na\r\nb\r\n",
-    )?;
-    is_spelled(
-        &rt,
-        a,
-        &Value::Verbatim(*b"txt", text(a, b"Some string")?),
-        b"$11\r\nSome string\r\n",
-        b"=15\r\ntxt:Some string\r\n",
-    )?;
-    is_spelled(
-        &rt,
-        a,
-        &Value::BlobError(text(a, b"SYNTAX\r\nbad")?),
-        b"-SYNTAX  bad\r\n",
-        b"!11\r\nSYNTAX\r\nbad\r\n",
-    )?;
-    Ok(())
+/// A value, and how the two protocols spell it.
+#[derive(Drop)]
+struct Row {
+    value: Value,
+    two: &'static [u8],
+    three: &'static [u8],
+}
+
+fn text_row(a: Global, row: usize) -> Result<Row, NoMemory> {
+    let (value, two, three): (Value, &'static [u8], &'static [u8]) = match row {
+        0 => (Value::Simple(text(a, b"OK")?), b"+OK\r\n", b"+OK\r\n"),
+        1 => (
+            Value::Error(text(a, b"ERR no")?),
+            b"-ERR no\r\n",
+            b"-ERR no\r\n",
+        ),
+        2 => (
+            Value::Blob(text(a, b"a\r\nb")?),
+            b"$4\r\na\r\nb\r\n",
+            b"$4\r\na\r\nb\r\n",
+        ),
+        3 => (
+            Value::Verbatim(*b"txt", text(a, b"Some string")?),
+            b"$11\r\nSome string\r\n",
+            b"=15\r\ntxt:Some string\r\n",
+        ),
+        _ => (
+            Value::BlobError(text(a, b"SYNTAX\r\nbad")?),
+            b"-SYNTAX  bad\r\n",
+            b"!11\r\nSYNTAX\r\nbad\r\n",
+        ),
+    };
+    Ok(Row { value, two, three })
+}
+
+fn plain_row(row: usize) -> Row {
+    let (value, two, three): (Value, &'static [u8], &'static [u8]) = match row {
+        0 => (
+            Value::Number(i64::MIN),
+            b":-9223372036854775808\r\n",
+            b":-9223372036854775808\r\n",
+        ),
+        1 => (Value::Bool(true), b":1\r\n", b"#t\r\n"),
+        2 => (Value::Bool(false), b":0\r\n", b"#f\r\n"),
+        3 => (Value::Null, b"$-1\r\n", b"_\r\n"),
+        _ => (Value::NullArray, b"*-1\r\n", b"_\r\n"),
+    };
+    Row { value, two, three }
+}
+
+fn aggregate_row(a: Global, row: usize) -> Result<Row, NoMemory> {
+    let (value, two, three): (Value, &'static [u8], &'static [u8]) = match row {
+        0 => (
+            Value::Array(two_values(a)?),
+            b"*2\r\n:-7\r\n$-1\r\n",
+            b"*2\r\n:-7\r\n_\r\n",
+        ),
+        1 => (
+            Value::Set(two_values(a)?),
+            b"*2\r\n:-7\r\n$-1\r\n",
+            b"~2\r\n:-7\r\n_\r\n",
+        ),
+        2 => (
+            Value::Push(two_values(a)?),
+            b"*2\r\n:-7\r\n$-1\r\n",
+            b">2\r\n:-7\r\n_\r\n",
+        ),
+        3 => (
+            Value::Map(one_pair(a)?),
+            b"*2\r\n:1\r\n$0\r\n\r\n",
+            b"%1\r\n#t\r\n$0\r\n\r\n",
+        ),
+        _ => (
+            Value::Map(Pairs::in_turn(a, two_values(a)?)?),
+            b"*2\r\n:-7\r\n$-1\r\n",
+            b"%1\r\n:-7\r\n_\r\n",
+        ),
+    };
+    Ok(Row { value, two, three })
+}
+
+fn is_row(rt: &impl Abort, a: Global, row: &Row) -> Result<(), NoMemory> {
+    is_spelled(rt, a, &row.value, row.two, row.three)
 }
 
 #[test]
-fn truth_and_nulls_have_their_spelling(rt: HostRuntime) -> Result<(), Fail> {
+fn each_value_has_its_spelling(rt: HostRuntime) -> Result<(), Fail> {
     let a = rt.alloc();
-    is_spelled(&rt, a, &Value::Bool(true), b":1\r\n", b"#t\r\n")?;
-    is_spelled(&rt, a, &Value::Bool(false), b":0\r\n", b"#f\r\n")?;
-    is_spelled(&rt, a, &Value::Null, b"$-1\r\n", b"_\r\n")?;
-    is_spelled(&rt, a, &Value::NullArray, b"*-1\r\n", b"_\r\n")?;
-    Ok(())
-}
-
-#[test]
-fn aggregates_have_their_spelling(rt: HostRuntime) -> Result<(), Fail> {
-    let a = rt.alloc();
-    is_spelled(
-        &rt,
-        a,
-        &Value::Array(two_values(a)?),
-        b"*2\r\n:-7\r\n$-1\r\n",
-        b"*2\r\n:-7\r\n_\r\n",
-    )?;
-    is_spelled(
-        &rt,
-        a,
-        &Value::Set(two_values(a)?),
-        b"*2\r\n:-7\r\n$-1\r\n",
-        b"~2\r\n:-7\r\n_\r\n",
-    )?;
-    is_spelled(
-        &rt,
-        a,
-        &Value::Push(two_values(a)?),
-        b"*2\r\n:-7\r\n$-1\r\n",
-        b">2\r\n:-7\r\n_\r\n",
-    )?;
-    is_spelled(
-        &rt,
-        a,
-        &Value::Map(one_pair(a)?),
-        b"*2\r\n:1\r\n$0\r\n\r\n",
-        b"%1\r\n#t\r\n$0\r\n\r\n",
-    )?;
-    let turns = Pairs::in_turn(a, two_values(a)?)?;
-    assert_eq!(rt; turns.copy()?.as_slice().len(), 1);
-    is_spelled(
-        &rt,
-        a,
-        &Value::Map(turns),
-        b"*2\r\n:-7\r\n$-1\r\n",
-        b"%1\r\n:-7\r\n_\r\n",
-    )?;
+    for row in 0..5 {
+        is_row(&rt, a, &text_row(a, row)?)?;
+        is_row(&rt, a, &plain_row(row))?;
+        is_row(&rt, a, &aggregate_row(a, row)?)?;
+    }
     Ok(())
 }
 

@@ -1,0 +1,86 @@
+//! Rows of commands, as the tables of these tests have them.
+//!
+//! A row is `LINE: REPLY | KEYS`: the reply with a space for each end of a line, and the keys that
+//! the line signals.
+use command_words::{Command, Signalled, read_command};
+use hash_cmds::{is_hash, run_hash};
+use keyspace::Keyspace;
+use resp_value::{NoMemory, Octets, Proto, Value, Words, put_value};
+use std::alloc::Global;
+use string_cmds::{is_string, run_string};
+
+/// The words of a line; two quotes are the empty word.
+pub fn words_of(alloc: Global, line: &str) -> Result<Words, NoMemory> {
+    let mut words = Words::new(alloc);
+    for word in line.split(' ') {
+        let word = if word == "''" { "" } else { word };
+        words.push(Octets::from_slice(alloc, word.as_bytes())?)?;
+    }
+    Ok(words)
+}
+
+fn put_reply(alloc: Global, reply: &Value, shown: &mut Vec<u8>) -> Result<(), NoMemory> {
+    let mut bytes = Vec::new(alloc);
+    put_value(Proto::Three, reply, &mut bytes)?;
+    for byte in bytes.as_slice() {
+        if *byte != b'\n' {
+            shown.push(if *byte == b'\r' { b' ' } else { *byte })?;
+        }
+    }
+    Ok(())
+}
+
+fn put_keys(signalled: &Signalled, shown: &mut Vec<u8>) -> Result<(), NoMemory> {
+    if let Signalled::Keys(words) = signalled {
+        for word in words.as_slice() {
+            shown.push(b' ')?;
+            shown.extend_from_slice(word.as_slice())?;
+        }
+    }
+    Ok(())
+}
+
+/// Runs a command on strings or hashes at the moment 1000; any other shows nothing.
+fn put_outcome(
+    alloc: Global,
+    space: &mut Keyspace,
+    command: &Command,
+    shown: &mut Vec<u8>,
+) -> Result<(), NoMemory> {
+    let done = if is_string(command) {
+        run_string(alloc, space, command, 1000)?
+    } else if is_hash(command) {
+        run_hash(alloc, space, command, 1000)?
+    } else {
+        return Ok(());
+    };
+    put_reply(alloc, &done.reply, shown)?;
+    shown.push(b'|')?;
+    put_keys(&done.signalled, shown)
+}
+
+/// The reply and the keys of a line.
+fn answer(alloc: Global, space: &mut Keyspace, line: &str) -> Result<Vec<u8>, NoMemory> {
+    let mut shown = Vec::new(alloc);
+    if let Ok(command) = read_command(alloc, &words_of(alloc, line)?) {
+        put_outcome(alloc, space, &command, &mut shown)?;
+    }
+    Ok(shown)
+}
+
+/// Runs the rows, and answers the first that gives something else.
+pub fn wrong_row<'a>(
+    alloc: Global,
+    space: &mut Keyspace,
+    table: &'a str,
+) -> Result<Option<&'a str>, NoMemory> {
+    for row in table.split('\n') {
+        let Some((line, wanted)) = row.split_once(": ") else {
+            return Ok(Some(row));
+        };
+        if answer(alloc, space, line)?.as_slice() != wanted.as_bytes() {
+            return Ok(Some(row));
+        }
+    }
+    Ok(None)
+}
