@@ -1,29 +1,21 @@
 -- What each move over a link does to its account.
-use Rattle.std.proofs.Common.{◌≡◌, ◌+◌, ℕ, List, [], ◌∷◌, ◌++◌, Bool, true, false, cond, zero, suc}
+use Rattle.std.proofs.Common.{◌≡◌, ℕ, List, [], ◌∷◌, ◌++◌, Bool, true, false, cond}
 use Rattle.std.proofs.Common.{Some, None, Option, length, take, refl, sym, ap, subst, ◌∙◌, arith}
-use Rattle.std.proofs.Common.{append_assoc, append-nil, eq-eqb}
-use Rattle.std.specs.Prelude.{◌==◌, ◌&&◌, not, nat_le}
+use Rattle.std.proofs.Common.{append_assoc, append-nil}
+use Rattle.std.specs.Prelude.{◌&&◌, nat_le}
 use Rattle.std.proofs.lemmas.Slice.Eq.{bytes_eq-Decides}
 use Rattle.std.proofs.lemmas.List.{take-append-drop}
-use Rattle.resp_stream.specs.declared.fault.Fault.TheVariants as fault
-use Rattle.resp_stream.specs.declared.fault.StreamFault.{StreamFault}
-use Rattle.resp_stream.specs.declared.fault.FaultPlace.{FaultPlace}
-use Rattle.resp_stream.specs.Parsed.{Parsed, Whole, More, Bad}
-use Rattle.resp_stream.specs.Request.{request_at}
-use Rattle.resp_stream.specs.Readers.{skipped}
-use Rattle.resp_stream.specs.Stream.{Stream, fed, moved_on}
-use Rattle.resp_stream.specs.Parse.{Batch, batch, batch_by, batch_in, parse, requests_of}
-use Rattle.resp_stream.proofs.Parse.{parse_joined, parse_rest, parse_unfailed}
+use Rattle.resp_stream.specs.Parse.{requests_of}
 use Rattle.serial_model.specs.declared.history.Limits.{Limits}
 use Rattle.serial_model.specs.declared.history.Entry.{Entry}
 use Rattle.serial_model.specs.declared.history.BookCall.TheVariants as call
 use Rattle.serial_model.specs.declared.history.BookReply.{BookReply}
 use Rattle.serial_model.specs.declared.history.BookReply.TheVariants.{Admitted, Ran, Quiet, Bytes}
 use Rattle.serial_model.specs.declared.history.BookReply.TheVariants.{Closed, Refused}
-use Rattle.serial_model.specs.History.{is_admitted, has_ended, reads_on, gives_on, stream, taken}
-use Rattle.serial_model.specs.History.{unsent, runs_of, is_full}
-use Rattle.serial_model.specs.Steps.{Turn, book_step, running, closing, given_by}
-use Rattle.serial_model.proofs.Turning.{step_gave, step_runs, run_step, run_full, close_step}
+use Rattle.serial_model.specs.History.{reads_on, gives_on, stream, taken}
+use Rattle.serial_model.specs.History.{unsent, runs_of}
+use Rattle.serial_model.specs.Steps.{Turn, book_step, given_by}
+use Rattle.serial_model.proofs.Turning.{step_gave, step_runs}
 use Rattle.server_links.specs.LinkEvent.{LinkEvent, Raw, Put, Over}
 use Rattle.server_links.specs.declared.link.LinkMove.{LinkMove}
 use Rattle.server_links.specs.declared.link.LinkMove.TheVariants as moves
@@ -32,15 +24,13 @@ use Rattle.server_links.specs.declared.direction.Eof.{Eof}
 use Rattle.server_links.specs.declared.direction.Eof.TheVariants as eof
 use Rattle.server_links.specs.declared.fault.WorldFault.TheVariants.{NothingThere}
 use Rattle.server_links.specs.Directions.{cut, finished, is_open, is_queued, put, put_by, queued}
-use Rattle.server_links.specs.Directions.{eof_read, without, without_bytes, past_eof}
+use Rattle.server_links.specs.Directions.{without, without_bytes, past_eof}
 use Rattle.server_links.specs.EntryLines.{reply_lines, reply_fault}
 use Rattle.server_links.specs.OneHistory.{read_on}
-use Rattle.server_links.specs.Outcome.{Outcome, stays, refuses, and_then}
+use Rattle.server_links.specs.Outcome.{Outcome, stays, refuses}
 use Rattle.server_links.specs.Session.{Session, with_past, with_link, with_up, with_down}
-use Rattle.server_links.specs.Session.{with_reader}
-use Rattle.server_links.specs.Moves.{turned, turn, say, next_read, run_one, run_all, close, stop}
-use Rattle.server_links.specs.Moves.{rest_read, run_requests, run_fed, stopped_at}
-use Rattle.server_links.specs.Moves.{feed, serve_all, serve, bytes_of, take_down, all_bytes}
+use Rattle.server_links.specs.Moves.{turned, say}
+use Rattle.server_links.specs.Moves.{serve_all, bytes_of, take_down, all_bytes}
 use Rattle.server_links.specs.Moves.{send_all}
 use Rattle.server_links.specs.Moves.{send}
 use Rattle.std.proofs.lemmas.Bool.Decides.{nat_tests}
@@ -48,19 +38,16 @@ use Rattle.server_links.specs.Moves.{cut_off, move_of, moved, hang_up}
 use Rattle.server_links.specs.Moves.{read_lines, eof_lines, read_bytes, read_eof, receive_all}
 use Rattle.server_links.specs.Moves.{receive}
 use Rattle.server_links.specs.Moves.{flow}
-use Rattle.server_links.proofs.Outcomes.{Meets}
 use Rattle.server_links.proofs.Carries.{mute_reply, by_take, took}
-use Rattle.server_links.specs.Transcript.{up_to}
-use Rattle.server_links.proofs.Moving.{every_quiet, every_does, every_turned, every_run_one}
-use Rattle.server_links.proofs.Moving.{every_run_all}
-use Rattle.server_links.proofs.Moving.{every_run_requests, every_read, every_serve_all}
+use Rattle.server_links.proofs.Moving.{every_turned}
+use Rattle.server_links.proofs.Moving.{every_read, every_serve_all}
 use Rattle.server_links.proofs.Moving.{every_send_all}
-use Rattle.server_links.proofs.Carries.{carries_link, take_carries}
-use Rattle.server_links.proofs.Accounts.{gave, InFlight, ReadsOn, Account, Running, Halted, Part}
+use Rattle.server_links.proofs.Carries.{take_carries}
+use Rattle.server_links.proofs.Accounts.{gave, ReadsOn, Account, Part}
 use Rattle.server_links.proofs.Accounts.{account_part}
-use Rattle.server_links.proofs.Accounts.{running_part, halted_part, Keeps, keeps_then, keeps_stays}
-use Rattle.server_links.proofs.Accounts.{keeps_refuses, keeps_once, keeps_quiet}
-use Rattle.server_links.proofs.AccountRuns.{account_refuses, account_stays, keeps_at, open_past_eof}
+use Rattle.server_links.proofs.Accounts.{Keeps, keeps_then, keeps_stays}
+use Rattle.server_links.proofs.Accounts.{keeps_once, keeps_quiet}
+use Rattle.server_links.proofs.AccountRuns.{account_refuses, account_stays, open_past_eof}
 use Rattle.server_links.proofs.AccountRuns.{reads_of, same_heard, same_id, serve_all_keeps}
 use Rattle.server_links.proofs.AccountRuns.{serve_keeps}
 
@@ -281,7 +268,8 @@ module _ (heard said : List ℕ) where
   unfolding receive_all
   receive_all_keeps s =
       keeps_then (Account heard said) (Account heard said) (Account heard said) (Part said) s _
-      read_eof (every_read s.link.down.bytes (without_bytes s.link.down) s)
+      read_eof (every_read s.link.down.bytes (without_bytes s.link.down) s
+      (ap without_bytes))
       (read_keeps s.link.down.bytes (without_bytes s.link.down) s (append-nil s.link.down.bytes)
       (λ h. h)) read_eof_keeps
 

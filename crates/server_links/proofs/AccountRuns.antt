@@ -1,9 +1,8 @@
 -- What is heard and runs, in the account of a link.
 use Rattle.std.proofs.Common.{◌≡◌, ◌+◌, ℕ, List, [], ◌∷◌, ◌++◌, Bool, true, false, cond, zero, suc}
-use Rattle.std.proofs.Common.{Some, None, Option, length, take, refl, sym, ap, subst, ◌∙◌, arith}
+use Rattle.std.proofs.Common.{Some, None, Option, length, take, refl, sym, ap, subst, ◌∙◌}
 use Rattle.std.proofs.Common.{append_assoc, append-nil, eq-eqb}
 use Rattle.std.specs.Prelude.{◌==◌, ◌&&◌, not, nat_le}
-use Rattle.std.proofs.lemmas.Slice.Eq.{bytes_eq-Decides}
 use Rattle.std.proofs.lemmas.List.{take-append-drop}
 use Rattle.resp_stream.specs.declared.fault.Fault.TheVariants as fault
 use Rattle.resp_stream.specs.declared.fault.StreamFault.{StreamFault}
@@ -17,49 +16,35 @@ use Rattle.resp_stream.proofs.Parse.{parse_joined, parse_rest, parse_unfailed}
 use Rattle.serial_model.specs.declared.history.Limits.{Limits}
 use Rattle.serial_model.specs.declared.history.Entry.{Entry}
 use Rattle.serial_model.specs.declared.history.BookCall.TheVariants as call
-use Rattle.serial_model.specs.declared.history.BookReply.{BookReply}
-use Rattle.serial_model.specs.declared.history.BookReply.TheVariants.{Admitted, Ran, Quiet, Bytes}
-use Rattle.serial_model.specs.declared.history.BookReply.TheVariants.{Closed, Refused}
-use Rattle.serial_model.specs.History.{is_admitted, has_ended, reads_on, gives_on, stream, taken}
-use Rattle.serial_model.specs.History.{unsent, runs_of, is_full}
-use Rattle.serial_model.specs.Steps.{Turn, book_step, running, closing, given_by}
+use Rattle.serial_model.specs.History.{is_admitted, has_ended, reads_on, stream, taken}
+use Rattle.serial_model.specs.History.{runs_of, is_full}
+use Rattle.serial_model.specs.Steps.{Turn, book_step, running, closing}
 use Rattle.serial_model.proofs.Turning.{step_gave, step_runs, run_step, run_full, close_step}
-use Rattle.server_links.specs.LinkEvent.{LinkEvent, Raw, Put, Over}
-use Rattle.server_links.specs.declared.link.LinkMove.{LinkMove}
-use Rattle.server_links.specs.declared.link.LinkMove.TheVariants as moves
 use Rattle.server_links.specs.declared.direction.Direction.{Direction}
 use Rattle.server_links.specs.declared.direction.Eof.{Eof}
 use Rattle.server_links.specs.declared.direction.Eof.TheVariants as eof
 use Rattle.server_links.specs.declared.fault.WorldFault.TheVariants.{NothingThere}
-use Rattle.server_links.specs.Directions.{cut, finished, is_open, is_queued, put, put_by, queued}
+use Rattle.server_links.specs.Directions.{is_open, is_queued}
 use Rattle.server_links.specs.Directions.{eof_read, without, without_bytes, past_eof}
 use Rattle.server_links.specs.EntryLines.{reply_lines, reply_fault}
 use Rattle.server_links.specs.OneHistory.{read_on}
 use Rattle.server_links.specs.Outcome.{Outcome, stays, refuses, and_then}
-use Rattle.server_links.specs.Session.{Session, with_past, with_link, with_up, with_down}
+use Rattle.server_links.specs.Session.{Session, with_past, with_link, with_up}
 use Rattle.server_links.specs.Session.{with_reader}
-use Rattle.server_links.specs.Moves.{turned, turn, say, next_read, run_one, run_all, close, stop}
+use Rattle.server_links.specs.Moves.{turned, turn, next_read, run_one, run_all, close, stop}
 use Rattle.server_links.specs.Moves.{rest_read, run_requests, run_fed, stopped_at}
-use Rattle.server_links.specs.Moves.{feed, serve_all, serve, bytes_of, take_down, all_bytes}
-use Rattle.server_links.specs.Moves.{send_all}
-use Rattle.server_links.specs.Moves.{send}
-use Rattle.std.proofs.lemmas.Bool.Decides.{nat_tests}
-use Rattle.server_links.specs.Moves.{cut_off, move_of, moved, hang_up}
-use Rattle.server_links.specs.Moves.{read_lines, eof_lines, read_bytes, read_eof, receive_all}
-use Rattle.server_links.specs.Moves.{receive}
-use Rattle.server_links.specs.Moves.{flow}
+use Rattle.server_links.specs.Moves.{feed, serve_all, serve}
 use Rattle.server_links.proofs.Outcomes.{Meets}
-use Rattle.server_links.proofs.Carries.{mute_reply, by_take, took}
+use Rattle.server_links.proofs.Carries.{mute_reply}
 use Rattle.server_links.specs.Transcript.{up_to}
-use Rattle.server_links.proofs.Moving.{every_quiet, every_does, every_turned, every_run_one}
+use Rattle.server_links.proofs.Moving.{every_quiet, every_does, every_run_one}
 use Rattle.server_links.proofs.Moving.{every_run_all}
-use Rattle.server_links.proofs.Moving.{every_run_requests, every_read, every_serve_all}
-use Rattle.server_links.proofs.Moving.{every_send_all}
-use Rattle.server_links.proofs.Carries.{carries_link, take_carries}
+use Rattle.server_links.proofs.Moving.{every_run_requests}
+use Rattle.server_links.proofs.Carries.{carries_link}
 use Rattle.server_links.proofs.Accounts.{gave, InFlight, ReadsOn, Account, Running, Halted, Part}
 use Rattle.server_links.proofs.Accounts.{account_part}
 use Rattle.server_links.proofs.Accounts.{running_part, halted_part, Keeps, keeps_then, keeps_stays}
-use Rattle.server_links.proofs.Accounts.{keeps_refuses, keeps_once, keeps_quiet}
+use Rattle.server_links.proofs.Accounts.{keeps_refuses, keeps_quiet}
 
 pub same_id : (c : ℕ) → (c == c) ≡ true
 same_id c = eq-eqb c c refl
@@ -155,7 +140,7 @@ module _ (heard said : List ℕ) where
   run_one_keeps words todo s =
       keeps_then (Running (words ∷ todo) heard said) (Running (words ∷ todo) heard said)
       (Running todo heard said) (Part said) s _ _
-      (every_quiet s s.link.up s.link.down (next_read s).link.reader)
+      (every_quiet s s.link.up s.link.down (next_read s).link.reader (λ h. h))
       (keeps_quiet (Running (words ∷ todo) heard said) (Running (words ∷ todo) heard said)
       (Part said) s (next_read s) [] None refl
       (λ read r. let n = running_reader (words ∷ todo) read s (next_read s).link.reader r in (
@@ -235,7 +220,7 @@ module _ (heard said : List ℕ) where
   stop_keeps fault (Some place) met eof s =
       keeps_then (Halted fault heard said) (Halted fault heard said) (Account heard said)
       (Part said) s _ close (every_does s s _
-      (carries_link s s.link _ refl refl (λ name n. refl) refl))
+      (carries_link s s.link _ refl refl (λ name n. refl) refl (λ h. h)))
       (keeps_quiet (Halted fault heard said) (Halted fault heard said) (Part said) s s _ None refl
       (λ read h. (
         halted_part fault heard said read s h,
@@ -367,7 +352,8 @@ module _ (heard said piece : List ℕ) (up : Direction) (eof : Bool) (s : Sessio
   fed_keeps =
       let p = parse (fed s.link.reader piece) in
       keeps_then (Account heard said) Fed (Account (heard ++ piece) said) (Part said) s
-      (feed piece up s) (run_fed eof) (every_quiet s up s.link.down (fed s.link.reader piece))
+      (feed piece up s) (run_fed eof)
+      (every_quiet s up s.link.down (fed s.link.reader piece) (λ h. h))
       (keeps_quiet (Account heard said) Fed (Part said) s fed_session [] None refl
       (λ read a. let r = fed_running read a in (
         account_part heard said read s a,

@@ -26,6 +26,7 @@ use Rattle.serial_model.proofs.Turning.{step_legal}
 use Rattle.script_text.specs.declared.line.Line.{Line}
 use Rattle.script_text.specs.declared.line.Line.TheVariants as line
 use Rattle.server_links.specs.declared.link.Link.{Link}
+use Rattle.server_links.specs.Directions.{spent}
 use Rattle.server_links.specs.EntryLines.{entry_lines, is_entry_line, name_of, reply_lines}
 use Rattle.server_links.specs.OneHistory.{read_by, read_on}
 use Rattle.server_links.specs.Session.{Session, with_past, with_link}
@@ -56,6 +57,7 @@ pub record Carries (s t : Session) (lines : List Line) : Type 0 where
   pub grows : t.past ≡ entries ++ s.past
   pub others : (c : ℕ) → (s.link.id == c) ≡ false → Extends s.limits c s.past t.past
   pub mute : (name : List ℕ) → bytes_eq s.link.name name ≡ false → read_on name lines ≡ []
+  pub stays_spent : s.link.down ≡ spent → t.link.down ≡ spent
   pub printed : (names : List (List ℕ)) → name_of names s.link.id ≡ s.link.name
       → entry_lines s.limits names t.past ≡ entry_lines s.limits names s.past
       ++ filter is_entry_line lines
@@ -78,6 +80,7 @@ carries_more s t u a b f g = record {
       (subst (λ l. Extends l c t.past u.past) f.limits (g.others c (ap (λ i. i == c) f.id ∙ n)));
   mute = λ name n. read_more name a b ∙ ap (λ r. r ++ read_on name b) (f.mute name n)
       ∙ g.mute name (ap (λ x. bytes_eq x name) f.named ∙ n);
+  stays_spent = λ h. g.stays_spent (f.stays_spent h);
   printed = λ names n.
       subst (λ l. entry_lines l names u.past ≡ entry_lines l names t.past
       ++ filter is_entry_line b) f.limits
@@ -92,8 +95,9 @@ carries_more s t u a b f g = record {
 pub carries_link : (s : Session) (new : Link) (lines : List Line) → new.id ≡ s.link.id
     → new.name ≡ s.link.name
     → ((name : List ℕ) → bytes_eq s.link.name name ≡ false → read_on name lines ≡ [])
-    → filter is_entry_line lines ≡ [] → Carries s (with_link s new) lines
-carries_link s new lines id named mute none = record {
+    → filter is_entry_line lines ≡ [] → (s.link.down ≡ spent → new.down ≡ spent)
+    → Carries s (with_link s new) lines
+carries_link s new lines id named mute none still = record {
   limits = refl;
   now = refl;
   id = id;
@@ -104,12 +108,13 @@ carries_link s new lines id named mute none = record {
   grows = refl;
   others = λ c n. extends_none s.limits c s.past;
   mute = mute;
+  stays_spent = still;
   printed = λ names n. sym (append-nil (entry_lines s.limits names s.past))
       ∙ ap (λ l. entry_lines s.limits names s.past ++ l) (sym none);
 }
 
 pub carries_none : (s : Session) → Carries s s []
-carries_none s = carries_link s s.link [] refl refl (λ name n. refl) refl
+carries_none s = carries_link s s.link [] refl refl (λ name n. refl) refl (λ h. h)
 
 -- ---- turns of the connection
 
@@ -245,6 +250,7 @@ carries_turn s c words a others =
       grows = a.grows;
       others = others;
       mute = λ name n. mute_reply name s.link.name words t.reply;
+      stays_spent = λ h. h;
       printed = λ names n. a.printed names ∙ ap (λ x. entry_lines s.limits names s.past
           ++ filter is_entry_line (reply_lines x words t.reply)) n;
     }

@@ -1,12 +1,10 @@
 -- What stands of a world after each event, and so after a schedule.
-use Rattle.std.proofs.Common.{◌≡◌, ◌+◌, ◌<◌, ◌≤◌, ℕ, List, [], ◌∷◌, ◌++◌, Bool, true, false, cond}
-use Rattle.std.proofs.Common.{zero, suc}
+use Rattle.std.proofs.Common.{◌≡◌, ◌+◌, ◌<◌, ℕ, List, [], ◌∷◌, ◌++◌, Bool, true, false, cond}
 use Rattle.std.proofs.Common.{Some, None, Option, length, refl, sym, ap, subst, ◌∙◌, arith}
-use Rattle.std.proofs.Common.{append_assoc, append-nil, length-set, inl, inr}
-use Rattle.std.specs.Prelude.{◌==◌, nat_lt}
+use Rattle.std.proofs.Common.{append_assoc, append-nil, inl, inr}
+use Rattle.std.specs.Prelude.{◌==◌}
 use Rattle.std.specs.Str.{bytes_eq}
-use Rattle.std.proofs.lemmas.Bool.{eqb-true, cases_lt}
-use Rattle.std.proofs.lemmas.Bool.Decides.{nat_tests}
+use Rattle.std.proofs.lemmas.Bool.{eqb-true}
 use Rattle.std.proofs.lemmas.Grind.{flat_map-append}
 use Rattle.std.proofs.lemmas.List.{get_or-set_other}
 use Rattle.serial_model.specs.declared.history.Limits.{Limits}
@@ -19,7 +17,6 @@ use Rattle.serial_model.specs.History.{admitted, is_full}
 use Rattle.serial_model.specs.Steps.{Turn, book_step, admitting, full}
 use Rattle.serial_model.proofs.Turning.{admit_step}
 use Rattle.server_links.specs.LinkEvent.{LinkEvent, Raw, Put, Over}
-use Rattle.server_links.specs.declared.link.LinkMove.{LinkMove}
 use Rattle.server_links.specs.declared.link.LinkMove.TheVariants as moves
 use Rattle.script_text.specs.declared.line.Line.{Line}
 use Rattle.server_links.specs.declared.fault.WorldFault.TheVariants.{NoName, NameTaken, HistoryFull}
@@ -27,23 +24,23 @@ use Rattle.server_links.specs.OneHistory.{read_on, said_by, said_to, Serves, Par
 use Rattle.server_links.specs.OneHistory.{OthersKept, Follows}
 use Rattle.server_links.specs.Outcome.{Outcome, Reached}
 use Rattle.server_links.specs.Session.{Session, session_at, with_session}
-use Rattle.server_links.specs.Moves.{flow, move_of}
-use Rattle.server_links.specs.Transcript.{reads_at, is_place, heard_at, heard, unless_fault}
+use Rattle.server_links.specs.Moves.{move_of}
+use Rattle.server_links.specs.Transcript.{is_place, heard_at, heard, unless_fault}
 use Rattle.server_links.specs.Transcript.{transcript, after}
 use Rattle.server_links.specs.LinkSteps.{Stepped, place_of, over, over_named, raw_step}
 use Rattle.server_links.specs.LinkSteps.{link_named, step}
 use Rattle.server_links.specs.LinkSteps.{admitting as admitting_link}
 use Rattle.server_links.specs.LinksState.{LinksState, start, at_place, fresh_link}
 use Rattle.server_links.proofs.Names.{placed, unplaced}
-use Rattle.server_links.proofs.Outcomes.{Meets, meets_stays, meets_once, meets_refuses, meets_then}
+use Rattle.server_links.proofs.Outcomes.{Meets, meets_once, meets_refuses}
 use Rattle.server_links.proofs.Outcomes.{meets_weaker, meets_within, reached_within}
-use Rattle.server_links.proofs.Outcomes.{Fronts, fronts_stays, fronts_refuses, fronts_once}
-use Rattle.server_links.proofs.Outcomes.{fronts_then, fronts_within, fronts_reached}
+use Rattle.server_links.proofs.Outcomes.{Fronts, fronts_refuses, fronts_once}
+use Rattle.server_links.proofs.Outcomes.{fronts_within, fronts_reached}
 use Rattle.resp_value.specs.Lists.{IsPrefix}
-use Rattle.server_links.proofs.Moving.{Every, every_move, every_flow}
+use Rattle.server_links.proofs.Moving.{Every, every_move}
 use Rattle.server_links.proofs.Accounts.{gave, Account, Part}
 use Rattle.server_links.proofs.AccountRuns.{reads_of}
-use Rattle.server_links.proofs.AccountMoves.{piece_of, bytes_said, none_said, flow_keeps}
+use Rattle.server_links.proofs.AccountMoves.{piece_of, bytes_said}
 use Rattle.server_links.proofs.AccountMoves.{move_keeps, piece_over}
 use Rattle.server_links.proofs.LinksStand.{Stands, PartStands, stands_part, stands_same, parts_same}
 use Rattle.server_links.proofs.LinksStand.{not_equal, over_stands, made, made_lines, stands_made}

@@ -1,9 +1,7 @@
 -- What holds of every schedule, as the crates above cite it.
 use Rattle.std.proofs.Common.{◌≡◌, List, [], Some}
 use Rattle.resp_value.specs.Lists.{IsPrefix}
-use Rattle.server_links.specs.LinkEvent.{LinkEvent, Raw, Put, Over}
-use Rattle.server_links.specs.declared.link.LinkMove.{LinkMove}
-use Rattle.server_links.specs.declared.link.LinkMove.TheVariants as moves
+use Rattle.server_links.specs.LinkEvent.{LinkEvent}
 use Rattle.script_text.specs.declared.line.Line.{Line}
 use Rattle.server_links.specs.declared.fault.WorldFault.{WorldFault}
 use Rattle.server_links.specs.Faults.{IsRefusal}

@@ -5,6 +5,7 @@ pub mod Accounts
 pub mod AccountRuns
 pub mod AccountMoves
 pub mod Names
+pub mod NameLists
 pub mod LinksStand
 pub mod Events
 pub mod Delivery
@@ -13,4 +14,5 @@ pub mod Serving
 pub mod Refusals
 pub mod History
 pub mod Stepping
+pub mod Ended
 pub mod Noting

@@ -1,8 +1,8 @@
 -- One history serves all links, event by event: what stands of a world after each, and wherever
 -- memory runs out.
 use Rattle.std.proofs.Common.{◌≡◌, ◌+◌, ◌-◌, ◌<◌, ◌≤◌, ℕ, List, [], ◌∷◌, ◌++◌, Bool, true, false}
-use Rattle.std.proofs.Common.{cond, zero, suc}
-use Rattle.std.proofs.Common.{None, length, take, filter, slice_index_or, slice_set, refl, sym, ap}
+use Rattle.std.proofs.Common.{cond}
+use Rattle.std.proofs.Common.{None, length, take, filter, slice_index_or, refl, sym, ap}
 use Rattle.std.proofs.Common.{subst, ◌∙◌}
 use Rattle.std.proofs.Common.{arith, append-nil, length-append, length-set, inl, inr, eq-eqb}
 use Rattle.std.proofs.Common.{ne_eqb}
@@ -30,12 +30,13 @@ use Rattle.serial_model.specs.declared.history.Entry.TheVariants as entry
 use Rattle.serial_model.proofs.Streams.{connected, stream_admit, stream_fresh, runs_fresh}
 use Rattle.server_links.specs.declared.link.Link.{Link}
 use Rattle.server_links.specs.EntryLines.{entry_lines, is_entry_line, name_of}
-use Rattle.server_links.specs.OneHistory.{read_on, names, History}
+use Rattle.server_links.specs.OneHistory.{read_on, History}
 use Rattle.server_links.specs.Outcome.{Outcome}
 use Rattle.server_links.specs.Session.{Session, with_past, session_at, with_session}
 use Rattle.server_links.specs.LinkSteps.{over, place_of}
-use Rattle.server_links.specs.LinksState.{LinksState, at_place, fresh_link}
+use Rattle.server_links.specs.LinksState.{LinksState, at_place, fresh_link, names}
 use Rattle.server_links.proofs.Names.{unplaced}
+use Rattle.server_links.proofs.NameLists.{names_at, names_more, names_set, names_size}
 use Rattle.server_links.proofs.Outcomes.{Meets, meets_within}
 use Rattle.server_links.proofs.Carries.{Carries, read_more, entries_more}
 use Rattle.server_links.proofs.Moving.{Every}
@@ -146,21 +147,6 @@ other_account heard said read s past on e a = record {
   reading = λ h. a.reading (reads_before s.limits s.link.id s.past past on e h);
 }
 
--- ---- lists of links
-
-names_at : (links : List Link) (at : ℕ) → at < length links
-    → slice_index_or (names links) at [] ≡ (at_place links at).name
-names_at [] at lt = absurd (omega (arith, lt))
-names_at (x ∷ links) zero lt = refl
-names_at (x ∷ links) (suc at) lt = names_at links at (omega (arith, lt))
-
-names_set : (links : List Link) (at : ℕ) (new : Link) → at < length links
-    → new.name ≡ (at_place links at).name → names (slice_set links at new) ≡ names links
-names_set [] at new lt e = refl
-names_set (x ∷ links) zero new lt e = ap (λ n. n ∷ names links) e
-names_set (x ∷ links) (suc at) new lt e =
-    ap (λ l. x.name ∷ l) (names_set links at new (omega (arith, lt)) e)
-
 pub not_equal : (a b : List ℕ) → (a ≡ b → ⊥) → bytes_eq a b ≡ false
 not_equal a b n = elim (bytes_eq a b) as (λ v. bytes_eq a b ≡ v
     → v ≡ false) [ true ↦ λ e. absurd (n ((bytes_eq-Decides a b).0 e)) | false ↦ λ e. refl ] refl
@@ -233,7 +219,7 @@ module _ (l : Limits) (heard : ℕ → List ℕ) (said : List ℕ
           entries_more lines ls ∙ ap (λ x. x ++ filter is_entry_line ls) s.history.printed
           ∙ sym (c.printed ns named)
           ∙ ap (λ n. entry_lines w.limits n t.past)
-          (sym (names_set w.links at t.link below c.named));
+          (sym (names_set w.links at t.link c.named));
     }
 
     moved_unread : (name : List ℕ) → ((i : ℕ) → i < length moved.links
@@ -441,15 +427,6 @@ names_front l ns name (entry.Close id ∷ past) legal le =
     ++ line.Close (length past + 1) x ∷ []) (name_front ns name id k.0 (omega (arith, k.1, le)))
     ∙ ap (λ x. x ++ line.Close (length past + 1) (name_of ns id) ∷ [])
     (names_front l ns name past legal.1 le)
-
-names_more : (links : List Link) (new : Link) → names (links ++ new ∷ [])
-    ≡ names links ++ new.name ∷ []
-names_more [] new = refl
-names_more (x ∷ links) new = ap (λ l. x.name ∷ l) (names_more links new)
-
-names_size : (links : List Link) → length (names links) ≡ length links
-names_size [] = refl
-names_size (x ∷ links) = let h = names_size links in omega (arith, h)
 
 -- one more connection leaves the others' accounts
 admitted_account : (heard said read : List ℕ) (s : Session) (id : ℕ)

@@ -1,6 +1,7 @@
 -- Each move over one link leaves the rest as it is, wherever it comes to.
 use Rattle.std.proofs.Common.{◌≡◌, ℕ, List, [], ◌∷◌, ◌++◌, Bool, true, false, cond, Some, None}
-use Rattle.std.proofs.Common.{Option, refl, ap}
+use Rattle.std.proofs.Common.{Option, refl, ap, ◌∙◌}
+use Rattle.std.proofs.Math.Seq.{drop-nil}
 use Rattle.std.specs.Prelude.{◌&&◌, nat_le, length, take, filter}
 use Rattle.std.specs.Str.{bytes_eq}
 use Rattle.resp_stream.specs.declared.fault.FaultPlace.{FaultPlace}
@@ -13,9 +14,10 @@ use Rattle.server_links.specs.declared.link.LinkMove.{LinkMove}
 use Rattle.server_links.specs.declared.link.LinkMove.TheVariants as moves
 use Rattle.script_text.specs.declared.line.Line.{Line}
 use Rattle.server_links.specs.declared.direction.Direction.{Direction}
+use Rattle.server_links.specs.declared.direction.Eof.TheVariants.{Read}
 use Rattle.server_links.specs.declared.fault.WorldFault.TheVariants.{NothingThere}
 use Rattle.server_links.specs.Directions.{cut, finished, put, is_open, is_queued, without}
-use Rattle.server_links.specs.Directions.{without_bytes, past_eof}
+use Rattle.server_links.specs.Directions.{without_bytes, past_eof, spent}
 use Rattle.server_links.specs.EntryLines.{is_entry_line, reply_lines, reply_fault}
 use Rattle.server_links.specs.OneHistory.{read_on}
 use Rattle.server_links.specs.Outcome.{Outcome, stays, does, refuses, and_then}
@@ -26,7 +28,7 @@ use Rattle.server_links.specs.Moves.{run_requests, run_fed, stopped_at}
 use Rattle.server_links.specs.Moves.{feed, serve_all, serve, take_down, all_bytes, send_all, send}
 use Rattle.server_links.specs.Moves.{read_lines, eof_lines, read_bytes, read_eof, receive_all}
 use Rattle.server_links.specs.Moves.{receive}
-use Rattle.server_links.specs.Moves.{flow, move_of, moved, hang_up}
+use Rattle.server_links.specs.Moves.{flow, move_of, moved}
 use Rattle.server_links.proofs.Outcomes.{Meets, meets_stays, meets_once, meets_refuses, meets_then}
 use Rattle.server_links.proofs.Outcomes.{meets_weaker}
 use Rattle.server_links.proofs.Outcomes.{Fronts, fronts_stays, fronts_refuses, fronts_once}
@@ -83,10 +85,11 @@ every_does s new lines c = every_once s new lines None c
 
 -- a change of what is in flight or was read prints nothing
 pub every_quiet : (s : Session) (up down : Direction) (reader : Stream)
+    → (s.link.down ≡ spent → down ≡ spent)
     → Every s (does s (with_link s (with_reader (with_down (with_up s.link up) down) reader)) [])
-every_quiet s up down reader =
+every_quiet s up down reader still =
     every_does s _ [] (carries_link s (with_reader (with_down (with_up s.link up) down) reader) []
-    refl refl (λ name n. refl) refl)
+    refl refl (λ name n. refl) refl still)
 
 pub every_turned : (s : Session) (words : List (List ℕ)) (t : Turn)
     → Carries s (with_past s t.past) (reply_lines s.link.name words t.reply)
@@ -100,7 +103,7 @@ every_turned s words t c =
 pub every_run_one : (words : List (List ℕ)) (s : Session) → Every s (run_one words s)
 unfolding run_one turn
 every_run_one words s =
-    every_then s _ _ (every_quiet s s.link.up s.link.down (next_read s).link.reader)
+    every_then s _ _ (every_quiet s s.link.up s.link.down (next_read s).link.reader (λ h. h))
     (λ t. every_turned t words _ (run_carries t t.now words))
 
 pub every_run_all : (requests : List (List (List ℕ))) (s : Session) → Every s (run_all requests s)
@@ -115,7 +118,8 @@ every_close s = every_turned s [] _ (close_carries s)
 
 pub every_stop : (place : Option FaultPlace) (eof : Bool) (s : Session) → Every s (stop place eof s)
 every_stop (Some place) eof s =
-    every_then s _ _ (every_does s s _ (carries_link s s.link _ refl refl (λ name n. refl) refl))
+    every_then s _ _ (every_does s s _
+    (carries_link s s.link _ refl refl (λ name n. refl) refl (λ h. h)))
     every_close
 every_stop None true s = every_close s
 every_stop None false s = every_none s
@@ -124,7 +128,7 @@ pub every_run_requests : (s : Session) → Every s (run_requests s)
 unfolding run_requests
 every_run_requests s =
     every_then s _ _ (every_run_all (parse s.link.reader).items s)
-    (λ t. every_quiet t t.link.up t.link.down (parse s.link.reader).stream)
+    (λ t. every_quiet t t.link.up t.link.down (parse s.link.reader).stream (λ h. h))
 
 every_run_fed : (eof : Bool) (s : Session) → Every s (run_fed eof s)
 unfolding run_fed
@@ -138,7 +142,7 @@ every_serve_all s =
     elim (reads_on s.limits s.past s.link.id) as (λ b. Every s
     (cond b (and_then (feed s.link.up.bytes (past_eof (without_bytes s.link.up)) s)
     (run_fed (is_queued s.link.up.eof))) (stays s))) [
-      | true ↦ every_then s _ _ (every_quiet s _ s.link.down _)
+      | true ↦ every_then s _ _ (every_quiet s _ s.link.down _ (λ h. h))
           (every_run_fed (is_queued s.link.up.eof))
       | false ↦ every_none s
     ]
@@ -149,7 +153,7 @@ every_serve (Some n) s =
     elim (reads_on s.limits s.past s.link.id && nat_le n (length s.link.up.bytes)) as (λ b. Every s
     (cond b (and_then (feed (take n s.link.up.bytes) (without n s.link.up) s) (run_fed false))
     (refuses s NothingThere))) [
-      | true ↦ every_then s _ _ (every_quiet s _ s.link.down _) (every_run_fed false)
+      | true ↦ every_then s _ _ (every_quiet s _ s.link.down _ (λ h. h)) (every_run_fed false)
       | false ↦ every_refuses s
     ]
 
@@ -157,7 +161,7 @@ every_take : (most : ℕ) (s : Session) → Every s (take_down most s)
 unfolding take_down
 every_take most s =
     every_then s _ _ (every_turned s [] _ (take_carries s most))
-    (λ t. every_quiet t t.link.up _ t.link.reader)
+    (λ t. every_quiet t t.link.up _ t.link.reader (ap (put _)))
 
 pub every_send_all : (s : Session) → Every s (send_all s)
 every_send_all s =
@@ -170,7 +174,7 @@ every_send_all s =
             | true ↦ every_take all_bytes s
             | false ↦ every_stays s _ (carries_link s (with_down s.link (finished s.link.down)) []
                 refl refl
-                (λ name n. refl) refl)
+                (λ name n. refl) refl (ap finished))
           ]
       | false ↦ every_none s
     ]
@@ -205,22 +209,26 @@ no_entry link true = refl
 no_entry link false = refl
 
 pub every_read : (bytes : List ℕ) (down : Direction) (s : Session)
-    → Every s (read_bytes bytes down s)
-every_read bytes down s =
+    → (s.link.down ≡ spent → down ≡ spent) → Every s (read_bytes bytes down s)
+every_read bytes down s still =
     every_does s _ _ (carries_link s (with_down s.link down) (read_lines s.link.name bytes) refl
-    refl (λ name n. read_other s.link.name name bytes n) (no_entries s.link.name bytes))
+    refl (λ name n. read_other s.link.name name bytes n) (no_entries s.link.name bytes) still)
 
 every_read_eof : (s : Session) → Every s (read_eof s)
 every_read_eof s =
     let b = is_queued s.link.down.eof in
     every_does s _ _ (carries_link s (with_down s.link (past_eof s.link.down))
     (eof_lines s.link.name b) refl refl (λ name n. eof_other s.link.name name b)
-    (no_entry s.link.name b))
+    (no_entry s.link.name b) (ap past_eof))
 
 pub every_receive_all : (s : Session) → Every s (receive_all s)
 unfolding receive_all
 every_receive_all s =
-    every_then s _ _ (every_read s.link.down.bytes (without_bytes s.link.down) s) every_read_eof
+    every_then s _ _ (every_read s.link.down.bytes (without_bytes s.link.down) s
+    (ap without_bytes)) every_read_eof
+
+without_none : (n : ℕ) → without n spent ≡ spent
+without_none n = ap (λ b. record { bytes = b; eof = Read }) (drop-nil n)
 
 every_receive : (count : Option ℕ) (s : Session) → Every s (receive count s)
 every_receive None s = every_receive_all s
@@ -229,6 +237,7 @@ every_receive (Some n) s =
     (cond b (read_bytes (take n s.link.down.bytes) (without n s.link.down) s)
     (refuses s NothingThere))) [
       | true ↦ every_read (take n s.link.down.bytes) (without n s.link.down) s
+          (λ h. ap (without n) h ∙ without_none n)
       | false ↦ every_refuses s
     ]
 
@@ -241,7 +250,7 @@ every_flow s =
     (λ u. every_then u _ _ (every_send_all u) every_receive_all)
 
 every_say : (bytes : List ℕ) (s : Session) → Every s (say bytes s)
-every_say bytes s = every_quiet s (put bytes s.link.up) s.link.down s.link.reader
+every_say bytes s = every_quiet s (put bytes s.link.up) s.link.down s.link.reader (λ h. h)
 
 every_moved : (move : LinkMove) (s : Session) → Every s (moved move s)
 every_moved (moves.Serve count) s = every_serve count s
@@ -250,10 +259,10 @@ every_moved (moves.Recv count) s = every_receive count s
 every_moved moves.Flow s = every_flow s
 every_moved moves.HangUp s =
     every_stays s _ (carries_link s (with_up s.link (finished s.link.up)) [] refl refl
-    (λ name n. refl) refl)
+    (λ name n. refl) refl (λ h. h))
 every_moved moves.Cut s =
     every_stays s _ (carries_link s (with_up (with_down s.link (cut s.link.down)) (cut s.link.up))
-    [] refl refl (λ name n. refl) refl)
+    [] refl refl (λ name n. refl) refl (ap cut))
 
 pub every_move : (event : LinkEvent) (s : Session) → Every s (move_of event s)
 every_move (Raw name) s = every_none s

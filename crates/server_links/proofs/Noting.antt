@@ -1,11 +1,11 @@
 -- What is noted of a turn is what the history says after it.
-use Rattle.std.proofs.Common.{◌≡◌, ◌+◌, ◌-◌, ◌<◌, ◌≤◌, ℕ, List, [], ◌∷◌, ◌++◌, Bool, true, false}
+use Rattle.std.proofs.Common.{◌≡◌, ◌+◌, ◌-◌, ◌<◌, ◌≤◌, ℕ, List, [], ◌∷◌, ◌++◌, true, false}
 use Rattle.std.proofs.Common.{cond, Option, None, Some, length, map, slice_index_or, slice_set}
 use Rattle.std.proofs.Common.{refl, sym, ap}
 use Rattle.std.proofs.Common.{subst}
 use Rattle.std.proofs.Common.{◌∙◌, arith, append-nil, append_assoc, length-set, length-append, inl}
 use Rattle.std.proofs.Common.{inr, eq-eqb, max, take}
-use Rattle.std.specs.Prelude.{◌==◌, ◌&&◌, ◌↔◌, nat_le, nat_lt, option_to_list, IsSome}
+use Rattle.std.specs.Prelude.{◌==◌, ◌↔◌, option_to_list, IsSome}
 use Rattle.std.proofs.lemmas.Bool.{eqb-true, cases_lt}
 use Rattle.std.proofs.lemmas.Bool.Decides.{nat_tests}
 use Rattle.std.proofs.lemmas.List.{get_or-set_same, get_or-set_other, get_or_append_left}
@@ -18,13 +18,11 @@ use Rattle.serial_model.specs.declared.history.Post.{Post}
 use Rattle.serial_model.specs.declared.history.BookCall.{BookCall}
 use Rattle.serial_model.specs.declared.history.BookCall.TheVariants.{Admit, Run, Take, Close}
 use Rattle.serial_model.specs.declared.history.BookReply.{BookReply}
-use Rattle.serial_model.specs.declared.history.BookReply.TheVariants.{Admitted, Ran, Quiet, Bytes}
-use Rattle.serial_model.specs.declared.history.BookReply.TheVariants.{Closed, Refused}
 use Rattle.serial_model.specs.History.{Sending, admitted, gives_on, latest, posts_of, posted}
 use Rattle.serial_model.specs.History.{reads_on}
 use Rattle.serial_model.specs.History.{run_entries, runs_on, sends, sent, sent_to, unsent}
 use Rattle.serial_model.specs.History.{IsLegal}
-use Rattle.serial_model.specs.Steps.{Turn, admitting, closing, gone, running, taking, unless_full}
+use Rattle.serial_model.specs.Steps.{admitting, closing, gone, running, taking, unless_full}
 use Rattle.serial_model.specs.Steps.{book_step, BookStep}
 use Rattle.serial_model.proofs.Others.{by_limit}
 use Rattle.serial_model.proofs.Streams.{sent_fresh, connected}
@@ -32,7 +30,7 @@ use Rattle.serial_model.proofs.Turning.{by_step}
 use Rattle.server_book.specs.BookState.{posts_after}
 use Rattle.server_links.specs.Notes.{AreNotes, NotesState}
 use Rattle.server_links.specs.Notes.{TrailState, IsNoted, changed, has_trail, no_trail, noted_admit}
-use Rattle.server_links.specs.Notes.{noted_posts, noted_reply, noted_run, noted_turn, runner_of}
+use Rattle.server_links.specs.Notes.{noted_posts, noted_turn, runner_of}
 use Rattle.server_links.specs.Notes.{sent_entries, trail_of, with_run, with_sent}
 
 -- ---- one trail changes
@@ -300,7 +298,7 @@ module _ (l : Limits) (past : List Entry) (notes : NotesState) (are : AreNotes l
 
 -- ---- a line that is taken back
 
-last_same : {A : Type 0} → (xs ys : List A) (x y : A) → xs ++ x ∷ [] ≡ ys ++ y ∷ [] → xs ≡ ys
+pub last_same : {A : Type 0} → (xs ys : List A) (x y : A) → xs ++ x ∷ [] ≡ ys ++ y ∷ [] → xs ≡ ys
 last_same xs ys x y e =
     let n : length (xs ++ x ∷ []) ≡ length (ys ++ y ∷ []) = ap length e in
     sym (take-append_seam xs (x ∷ []))

@@ -1,7 +1,7 @@
 -- A refused event leaves the world as it was, and prints nothing.
-use Rattle.std.proofs.Common.{◌≡◌, ℕ, List, [], ◌∷◌, ◌++◌, Bool, true, false, cond, zero, suc}
-use Rattle.std.proofs.Common.{Some, None, Option, length, refl, sym, ap, ◌∙◌}
-use Rattle.std.specs.Prelude.{◌&&◌, nat_le, slice_set, take}
+use Rattle.std.proofs.Common.{◌≡◌, ℕ, List, [], ◌∷◌, Bool, true, false, cond}
+use Rattle.std.proofs.Common.{Some, None, Option, length, refl, ap, ◌∙◌}
+use Rattle.std.specs.Prelude.{◌&&◌, nat_le}
 use Rattle.std.proofs.lemmas.List.{set-get_or}
 use Rattle.resp_stream.specs.declared.fault.FaultPlace.{FaultPlace}
 use Rattle.resp_stream.specs.Parse.{parse}
@@ -18,18 +18,17 @@ use Rattle.server_links.specs.declared.fault.WorldFault.TheVariants.{NoName, Nam
 use Rattle.server_links.specs.declared.fault.WorldFault.TheVariants.{NothingThere}
 use Rattle.server_links.specs.declared.fault.WorldFault.TheVariants.{NoMemory, HistoryFull}
 use Rattle.server_links.specs.declared.fault.WorldFault.TheVariants as faults
-use Rattle.server_links.specs.declared.link.Link.{Link}
-use Rattle.server_links.specs.Directions.{finished, is_open, is_queued, past_eof, without}
+use Rattle.server_links.specs.Directions.{finished, is_open, is_queued, past_eof}
 use Rattle.server_links.specs.Directions.{without_bytes}
 use Rattle.server_links.specs.EntryLines.{reply_fault}
 use Rattle.server_links.specs.Faults.{IsRefusal}
 use Rattle.server_links.specs.Moves.{turn, run_one, run_all, close, stop, run_requests, run_fed}
-use Rattle.server_links.specs.Moves.{stopped_at, feed, serve_all, serve, take_down, all_bytes}
+use Rattle.server_links.specs.Moves.{stopped_at, feed, serve_all, take_down, all_bytes}
 use Rattle.server_links.specs.Moves.{send_all}
-use Rattle.server_links.specs.Moves.{send, read_bytes, receive_all, receive, flow, move_of, moved}
+use Rattle.server_links.specs.Moves.{receive_all, flow, move_of, moved}
 use Rattle.server_links.specs.Outcome.{Outcome, stays, refuses, then_by, and_then, within}
 use Rattle.server_links.specs.Session.{Session, session_at, with_session, with_link, with_down}
-use Rattle.server_links.specs.LinkSteps.{over, over_named, place_of, raw_step, step, Stepped}
+use Rattle.server_links.specs.LinkSteps.{over, over_named, place_of, raw_step, step}
 use Rattle.server_links.specs.LinksState.{LinksState, fresh_link}
 
 -- ---- what is never refused

@@ -1,6 +1,6 @@
 -- A step of the world in the code: its links stay those of the connections, and flow one after
 -- another.
-use Rattle.std.proofs.Common.{◌≡◌, ◌+◌, ◌<◌, ◌≤◌, ℕ, List, [], ◌∷◌, ◌++◌, true, false, zero, suc}
+use Rattle.std.proofs.Common.{◌≡◌, ◌+◌, ◌<◌, ℕ, List, [], ◌∷◌, ◌++◌, true, false}
 use Rattle.std.proofs.Common.{Some, None, Result, Ok, Err}
 use Rattle.std.proofs.Common.{length, slice_index_or, slice_set, refl, sym, ap, subst, ◌∙◌, arith}
 use Rattle.std.proofs.Common.{append-nil, length-set, length-append, eq-eqb, inl, inr}
@@ -8,7 +8,6 @@ use Rattle.std.specs.Prelude.{◌==◌}
 use Rattle.std.proofs.lemmas.Bool.{eqb-true, cases_lt}
 use Rattle.std.proofs.lemmas.List.{get_or_read, get_or-set_same, get_or-set_other, get_or_push}
 use Rattle.std.proofs.lemmas.List.{get_or_append_left}
-use Rattle.std.proofs.Math.Numerals.{suc-eq-add-one}
 use Rattle.serial_model.specs.declared.history.Entry.TheVariants as entry
 use Rattle.serial_model.specs.declared.history.BookCall.TheVariants as call
 use Rattle.serial_model.specs.declared.history.BookReply.{BookReply}
@@ -19,9 +18,7 @@ use Rattle.script_text.specs.declared.line.Line.TheVariants as line
 use Rattle.server_links.specs.EntryLines.{reply_fault}
 use Rattle.server_links.specs.Turns.{TurnGives}
 use Rattle.server_links.specs.LinkSteps.{admitting as admitting_link, raw_step}
-use Rattle.server_links.specs.LinkEvent.{LinkEvent, Raw, Put, Over}
-use Rattle.server_links.specs.declared.link.LinkMove.{LinkMove}
-use Rattle.server_links.specs.declared.link.LinkMove.TheVariants as moves
+use Rattle.server_links.specs.LinkEvent.{LinkEvent, Raw}
 use Rattle.script_text.specs.declared.line.Line.{Line}
 use Rattle.server_links.specs.declared.fault.WorldFault.{WorldFault}
 use Rattle.server_links.specs.declared.fault.WorldFault.TheVariants.{NoName, NameTaken}
@@ -32,14 +29,15 @@ use Rattle.server_links.specs.declared.link.Link.{Link}
 use Rattle.server_links.specs.ServerState.{ServerState}
 use Rattle.server_links.specs.Outcome.{Outcome, Stops, Gives}
 use Rattle.server_links.specs.Session.{Session, session, session_at, with_session, world}
-use Rattle.server_links.specs.Moves.{flow, move_of}
+use Rattle.server_links.specs.Moves.{move_of}
 use Rattle.server_links.specs.LinkSteps.{over, over_named, place_of, link_named, step}
 use Rattle.server_links.specs.LinkSteps.{StepGives}
-use Rattle.server_links.specs.LinksState.{LinksState, at_place, fresh_link, Fits}
-use Rattle.server_links.proofs.Outcomes.{Ends, after_ends, after_stops, stops_first, stops_here}
+use Rattle.server_links.specs.LinksState.{AreNames, Fits, LinksState, at_place, fresh_link}
+use Rattle.server_links.proofs.Outcomes.{Ends, stops_here}
 use Rattle.server_links.proofs.Outcomes.{gives_within, gives_reached}
 use Rattle.server_links.proofs.Carries.{Carries}
-use Rattle.server_links.proofs.Moving.{Every, every_flow, every_move}
+use Rattle.server_links.proofs.Moving.{Every, every_move}
+use Rattle.server_links.proofs.NameLists.{name_place, named_more, named_set}
 use Rattle.server_links.proofs.Events.{step_is, admit_full, admit_refused}
 
 -- a move over a link leaves each connection its link
@@ -102,12 +100,10 @@ over_gives at move server new links link link' lines r lines' below is g limits 
 
 -- ---- an event of one link
 
-module _ (name : List ℕ) (event : LinkEvent) (names : link_named event
-    ≡ Some name) (server : ServerState) (links : List Link) where
-  pub no_such_link : (lines : List Line) → place_of name (world server links) ≡ None
-      → Stops (step (world server links) event) lines NoName (world server links) lines
-  no_such_link lines none =
-      let w = world server links in
+module _ (name : List ℕ) (event : LinkEvent) (names : link_named event ≡ Some name) where
+  pub no_such_link : (w : LinksState) (lines : List Line) → place_of name w ≡ None
+      → Stops (step w event) lines NoName w lines
+  no_such_link w lines none =
       subst (λ m. Stops m lines NoName w lines)
       (sym (step_is w name event names ∙ ap (λ p. over_named p (move_of event) w) none)) (
         refl,
@@ -115,6 +111,8 @@ module _ (name : List ℕ) (event : LinkEvent) (names : link_named event
         sym (append-nil lines),
       )
 
+module _ (name : List ℕ) (event : LinkEvent) (names : link_named event
+    ≡ Some name) (server : ServerState) (links : List Link) where
   module _ (at : ℕ) (place : place_of name (world server links)
       ≡ Some at) (below : at < length links) (new : ServerState) (link link' : Link) (is : link
       ≡ slice_index_or links at link)
@@ -134,7 +132,7 @@ module _ (name : List ℕ) (event : LinkEvent) (names : link_named event
         (over_gives at (move_of event) server new links link link' lines r lines' below is g
         changed.1.limits changed.1.now)
 
-    pub step_fits : Fits server.book.past links → Fits new.book.past (slice_set links at link')
+    step_fits : Fits server.book.past links → Fits new.book.past (slice_set links at link')
     step_fits f =
         let w = world server links in
         let same : session server link ≡ session_at at w =
@@ -142,6 +140,15 @@ module _ (name : List ℕ) (event : LinkEvent) (names : link_named event
         move_fits w at below (move_of event (session_at at w)) (every_move event (session_at at w))
         lines r (session new link') lines'
         (subst (λ x. Gives (move_of event x) lines r (session new link') lines') same g) f
+
+    pub step_stands : (ns : List (List ℕ)) → Fits server.book.past links × AreNames ns links
+        → Fits new.book.past (slice_set links at link') × AreNames ns (slice_set links at link')
+    step_stands ns k =
+        let there = get_or_read links at link below is (fresh_link 0 []) in (
+          step_fits k.0,
+          named_set ns links k.1 at link'
+              (changed.1.named ∙ ap (λ (x : Link). x.name) there),
+        )
 
 -- ---- a link is made
 
@@ -160,6 +167,12 @@ module _ (server : ServerState) (links : List Link) (name : List ℕ) (lines : L
     raw_before = subst (λ p. Stops (raw_step (world server links) name p) lines NoMemory
         (world server links) lines) (sym free)
         (stops_here (raw_step (world server links) name None) (world server links) lines refl)
+
+    pub made_named : (ns : List (List ℕ)) (id : ℕ) → AreNames ns links
+        → AreNames (ns ++ name ∷ []) (links ++ fresh_link id name ∷ [])
+    made_named ns id k =
+        named_more ns links k (fresh_link id name)
+        (name_place ns (world server links) k name ∙ free)
 
     module _ (new : ServerState) (x : Line) (lines' : List Line) (limits : new.book.limits
         ≡ server.book.limits) (clock : new.clock ≡ server.clock) where

@@ -17,6 +17,10 @@ is_queued eof.None = false
 is_queued eof.Queued = true
 is_queued eof.Read = false
 
+-- nothing is in flight, and nothing will be: the EOF was read
+abbrev pub spent : Direction
+spent = record { bytes = []; eof = eof.Read }
+
 -- bytes go after those in flight; after an EOF they go nowhere
 abbrev pub put_by : Eof → List ℕ → List ℕ → List ℕ
 put_by eof.None bytes more = bytes ++ more

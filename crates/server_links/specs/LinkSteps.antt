@@ -1,25 +1,22 @@
 -- What an event does to a world, and what it prints.
-use Rattle.std.specs.Prelude.{ℕ, List, [], ◌∷◌, ◌++◌, position, length, Result}
-use Prim.Native.Nat.{zero, suc}
+use Rattle.std.specs.Prelude.{ℕ, List, [], ◌∷◌, ◌++◌, position, Result}
 use Rattle.std.specs.declared.option.Option.{Option}
 use Rattle.std.specs.declared.option.Option.TheVariants.{None, Some}
 use Rattle.std.specs.Str.{bytes_eq}
 use Rattle.serial_model.specs.declared.history.Entry.{Entry}
 use Rattle.serial_model.specs.declared.history.BookCall.TheVariants as call
 use Rattle.serial_model.specs.declared.history.BookReply.{BookReply}
-use Rattle.serial_model.specs.declared.history.BookReply.TheVariants.{Admitted, Bytes}
+use Rattle.serial_model.specs.declared.history.BookReply.TheVariants.{Admitted}
 use Rattle.serial_model.specs.Steps.{Turn, book_step}
 use Rattle.server_links.specs.LinkEvent.{LinkEvent, Raw, Put, Over}
-use Rattle.server_links.specs.declared.link.LinkMove.{LinkMove}
-use Rattle.server_links.specs.declared.link.LinkMove.TheVariants as moves
 use Rattle.script_text.specs.declared.line.Line.{Line}
 use Rattle.server_links.specs.declared.fault.WorldFault.{WorldFault}
 use Rattle.server_links.specs.declared.fault.WorldFault.TheVariants.{NoName, NameTaken}
 use Rattle.server_links.specs.declared.link.Link.{Link}
 use Rattle.server_links.specs.LinksState.{LinksState, fresh_link}
 use Rattle.server_links.specs.EntryLines.{reply_fault, reply_lines}
-use Rattle.server_links.specs.Moves.{flow, move_of}
-use Rattle.server_links.specs.Outcome.{Outcome, Gives, and_then, refuses, stays, within}
+use Rattle.server_links.specs.Moves.{move_of}
+use Rattle.server_links.specs.Outcome.{Outcome, Gives, refuses, within}
 use Rattle.server_links.specs.Session.{Session, session_at, with_session}
 
 abbrev pub Stepped : Type 0

@@ -1,6 +1,6 @@
 -- What a server notes of its history: at which entries each connection's commands ran, and which
 -- entries sent it something.
-use Rattle.std.specs.Prelude.{◌≡◌, ◌+◌, ◌-◌, ◌<◌, ◌≤◌, ◌&&◌, ℕ, List, [], ◌∷◌, ◌++◌, Bool, true}
+use Rattle.std.specs.Prelude.{◌≡◌, ◌-◌, ◌<◌, ◌≤◌, ◌&&◌, ℕ, List, [], ◌∷◌, ◌++◌, Bool, true}
 use Rattle.std.specs.Prelude.{Option, None, Some, reverse, slice_get, zero, suc}
 use Rattle.std.specs.Prelude.{if◌then◌else◌, length, map, nat_le, nat_lt, slice_index_or, slice_set}
 use Rattle.serial_model.specs.declared.history.Limits.{Limits}

@@ -2,7 +2,7 @@
 -- replies that are its replies. Every byte is read, in flight or lost, and it is lost only by a
 -- cut.
 use Rattle.std.specs.Prelude.{◌≡◌, ◌+◌, ◌<◌, ◌≤◌, ℕ, List, [], ◌∷◌, ◌++◌, Bool, true, false}
-use Rattle.std.specs.Prelude.{if◌then◌else◌, filter, length, map, take}
+use Rattle.std.specs.Prelude.{if◌then◌else◌, filter, length, take}
 use Rattle.std.specs.declared.option.Option.TheVariants.{None, Some}
 use Rattle.std.specs.List.{flat_map}
 use Rattle.std.specs.Str.{bytes_eq}
@@ -12,8 +12,6 @@ use Rattle.serial_model.specs.declared.history.Limits.{Limits}
 use Rattle.serial_model.specs.declared.history.Entry.{Entry}
 use Rattle.serial_model.specs.History.{admitted, reads_on, runs_of, stream, taken, unsent, IsLegal}
 use Rattle.server_links.specs.LinkEvent.{LinkEvent, Raw, Put, Over}
-use Rattle.server_links.specs.declared.link.LinkMove.{LinkMove}
-use Rattle.server_links.specs.declared.link.LinkMove.TheVariants as moves
 use Rattle.script_text.specs.declared.line.Line.{Line}
 use Rattle.script_text.specs.declared.line.Line.TheVariants as line
 use Rattle.server_links.specs.declared.fault.WorldFault.{WorldFault}
@@ -25,7 +23,7 @@ use Rattle.server_links.specs.Moves.{all_bytes, flow}
 use Rattle.server_links.specs.Outcome.{Reached}
 use Rattle.server_links.specs.Transcript.{after, heard, transcript}
 use Rattle.server_links.specs.LinkSteps.{link_named, over, place_of, step}
-use Rattle.server_links.specs.LinksState.{LinksState, at_place, start}
+use Rattle.server_links.specs.LinksState.{LinksState, at_place, names, start}
 
 -- ---- what schedules and lines say
 
@@ -60,9 +58,6 @@ read_by link (line.Complete client entry) = []
 -- the bytes that were read on a link, in order
 abbrev pub read_on : List ℕ → List Line → List ℕ
 read_on link lines = flat_map (read_by link) lines
-
-abbrev pub names : List Link → List (List ℕ)
-names links = map (λ (l : Link). l.name) links
 
 -- ---- one link
 

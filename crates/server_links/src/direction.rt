@@ -1,7 +1,7 @@
 //! One direction of a link: the bytes in flight, and perhaps an EOF after them.
-ghost use Rattle.std.specs.Prelude.{◌≡◌, OnOk, OnErr};
+ghost use Rattle.std.specs.Prelude.{◌≡◌, OnOk, OnErr, false, true};
 ghost use Rattle.server_links.specs.Directions.{cut, finished, fresh, is_open, is_queued};
-ghost use Rattle.server_links.specs.Directions.{past_eof, put, without, without_bytes};
+ghost use Rattle.server_links.specs.Directions.{past_eof, put, spent, without, without_bytes};
 
 use byte_queue::ByteQueue;
 use resp_value::NoMemory;
@@ -47,6 +47,17 @@ impl Direction {
         match self.eof {
             Eof::Queued => true,
             Eof::None | Eof::Read => false,
+        }
+    }
+
+    /// Whether nothing is in flight, and the EOF was read.
+    pub fn is_spent(&self) -> bool
+        ensures spent { result ≡ true → self.now ≡ spent }
+        ensures goes_on { result ≡ false → self.now ≡ spent → ⊥ }
+    {
+        match self.eof {
+            Eof::Read => self.bytes.len() == 0,
+            Eof::None | Eof::Queued => false,
         }
     }
 

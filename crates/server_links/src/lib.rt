@@ -6,6 +6,7 @@ mod direction;
 mod fault;
 mod laws;
 mod link;
+mod name_list;
 mod notes;
 mod server;
 mod server_end;

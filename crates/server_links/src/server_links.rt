@@ -1,19 +1,25 @@
 //! A server and the links to it.
-ghost use Rattle.std.specs.Prelude.{◌≡◌, ◌+◌, ◌<◌, IfOk, length, option_map, slice_get};
+ghost use Rattle.std.specs.Prelude.{◌≡◌, ◌+◌, ◌<◌, ◌++◌, ◌∷◌, [], IfOk, OnOk, OnErr, false, length};
+ghost use Rattle.std.specs.Prelude.{option_map, position, slice_get, true};
+ghost use Rattle.std.specs.declared.option.Option.TheVariants.{None};
+ghost use Rattle.std.specs.Str.{bytes_eq};
+ghost use Rattle.serial_model.specs.declared.history.BookCall.TheVariants as call;
 ghost use Rattle.serial_model.specs.History.{run_entries};
 ghost use Rattle.serial_model.specs.Steps.{AreValid};
 ghost use Rattle.server_links.specs.Directions.{is_queued};
 ghost use Rattle.server_links.specs.LinkEvent.{Over, Put, Raw};
 ghost use Rattle.server_links.specs.LinkSteps.{StepGives, place_of};
-ghost use Rattle.server_links.specs.LinksState.{at_place, start};
+ghost use Rattle.server_links.specs.LinksState.{AreApart, IsOver, at_place, names, start};
 ghost use Rattle.server_links.specs.Notes.{sent_entries, words_at};
+ghost use Rattle.server_links.specs.Turns.{TurnGives};
 
 use super::fault::WorldFault;
 use super::link::{Link, LinkMove};
+use super::name_list::Names;
 use super::server::Server;
 use resp_value::{NoMemory, Octets, Words};
 use script_text::{Line, Lines};
-use server_book::{BookCall, Limits};
+use server_book::{BookCall, BookReply, Limits};
 use std::alloc::Global;
 use std::marker::Model;
 
@@ -23,10 +29,12 @@ pub struct ServerLinks {
     alloc: Global,
     server: Server,
     links: Vec<Link>,
+    // those of the links, in order
+    names: Names,
 }
 
 impl Model for ServerLinks {
-    ghost use Rattle.server_links.specs.LinksState.{LinksState, Fits};
+    ghost use Rattle.server_links.specs.LinksState.{AreNames, Fits, LinksState};
 
     ghost Value = { LinksState };
 
@@ -37,7 +45,8 @@ impl Model for ServerLinks {
       links = w.links.items;
     } };
 
-    ghost invariant = { λ w. Fits w.server.book.past w.links.items };
+    ghost invariant = { λ w. Fits w.server.book.past w.links.items
+        × AreNames w.names w.links.items };
 }
 
 impl ServerLinks {
@@ -50,31 +59,28 @@ impl ServerLinks {
             alloc,
             server: Server::new(alloc, limits)?,
             links: Vec::new(alloc),
+            names: Names::new(alloc),
         })
-    }
-
-    // A look at each link.
-    fn place(&self, name: &Octets) -> Option<usize>
-        ensures { result ≡ place_of name.now self.now }
-    {
-        let name = name.as_slice();
-        self.links
-            .iter()
-            .position(|link| link.name.as_slice() == name)
     }
 
     /// Makes a link, which the server admits.
     pub fn raw(&mut self, name: &Octets, lines: &mut Lines) -> Result<(), WorldFault>
         ensures { StepGives self.old (Raw name.now) lines.old result self.new lines.new }
     {
-        if self.place(name).is_some() {
+        if self.place_of(name).is_some() {
             return Err(WorldFault::NameTaken);
         }
         let id = self.links.len() as u64 + 1;
         let line = Line::Admit(self.server.next_entry()?, name.copy()?, id);
         let link = Link::new(self.alloc, id, name.copy()?);
         self.links.reserve(1)?;
-        self.server.turn(BookCall::Admit, line, lines)?;
+        admit(
+            &mut self.server,
+            &mut self.names,
+            name.as_slice(),
+            line,
+            lines,
+        )?;
         self.links.push_reserved(link);
         Ok(())
     }
@@ -83,7 +89,7 @@ impl ServerLinks {
     pub fn put(&mut self, name: &Octets, bytes: &[u8], lines: &mut Lines) -> Result<(), WorldFault>
         ensures { StepGives self.old (Put name.now bytes.now) lines.old result self.new lines.new }
     {
-        let Some(at) = self.place(name) else {
+        let Some(at) = self.place_of(name) else {
             return Err(WorldFault::NoName);
         };
         self.links[at].put(bytes)
@@ -98,10 +104,10 @@ impl ServerLinks {
     ) -> Result<(), WorldFault>
         ensures { StepGives self.old (Over name.now movement) lines.old result self.new lines.new }
     {
-        let Some(at) = self.place(name) else {
+        let Some(at) = self.place_of(name) else {
             return Err(WorldFault::NoName);
         };
-        self.links[at].play(self.alloc, &mut self.server, movement, lines)
+        self.play_at(at, movement, lines)
     }
 
     /// Plays a move over the link at this place.
@@ -115,10 +121,7 @@ impl ServerLinks {
         ensures { StepGives self.old (Over (at_place self.old.links at).name movement) lines.old
             result self.new lines.new }
     {
-        let Some(found) = self.place(self.name_at(at)) else {
-            return Err(WorldFault::NoName);
-        };
-        self.links[found].play(self.alloc, &mut self.server, movement, lines)
+        self.links[at].play(self.alloc, &mut self.server, movement, lines)
     }
 
     pub fn limits(&self) -> Limits
@@ -135,9 +138,10 @@ impl ServerLinks {
         self.server.entries()
     }
 
-    /// How many links there are.
+    /// How many links there are; no two have one name.
     pub fn count(&self) -> usize
-        ensures { result ≡ length self.now.links }
+        ensures count { result ≡ length self.now.links }
+        ensures apart { AreApart (names self.now.links) }
     {
         self.links.len()
     }
@@ -146,7 +150,7 @@ impl ServerLinks {
     pub fn place_of(&self, name: &Octets) -> Option<usize>
         ensures { result ≡ place_of name.now self.now }
     {
-        self.place(name)
+        self.names.place(name.as_slice())
     }
 
     /// The name of the link at this place.
@@ -177,6 +181,20 @@ impl ServerLinks {
         }
     }
 
+    /// Whether the link at this place is over: its connection has ended, and the EOF on the way
+    /// down was read. It stays so, and nothing moves down any more.
+    pub fn is_over(&self, at: usize) -> bool
+        requires { at < length self.now.links }
+        ensures over { result ≡ true → IsOver self.now at }
+        ensures goes_on { result ≡ false → IsOver self.now at → ⊥ }
+    {
+        let link = &self.links[at];
+        if self.server.reads_on(link.id) {
+            return false;
+        }
+        link.down.is_spent()
+    }
+
     /// At which entry the command of this number, counted from 0, of the link at this place ran.
     /// Want of memory may have lost it.
     pub fn run_entry(&self, at: usize, number: usize) -> Result<Option<u64>, NoMemory>
@@ -199,5 +217,32 @@ impl ServerLinks {
         ensures { option_map (λ w. w.now) result ≡ words_at entry self.now.past }
     {
         self.server.words_at(entry)
+    }
+}
+
+/// The turn that admits the connection of a link of this name, which is new. Where it is refused,
+/// the names are as they were.
+fn admit(
+    server: &mut Server,
+    names: &mut Names,
+    name: &[u8],
+    line: Line,
+    lines: &mut Lines,
+) -> Result<BookReply, WorldFault>
+    requires { position (λ n. bytes_eq n name.now) names.old ≡ None }
+    ensures limits { server.new.book.limits ≡ server.old.book.limits }
+    ensures clock { server.new.clock ≡ server.old.clock }
+    ensures gives { TurnGives server.old.book.limits server.old.book.past call.Admit line lines.old
+        result server.new.book.past lines.new }
+    ensures ok { OnOk result (names.new ≡ names.old ++ name.now ∷ []) }
+    ensures err { OnErr result (names.new ≡ names.old) }
+{
+    names.add(name)?;
+    match server.turn(BookCall::Admit, line, lines) {
+        Ok(reply) => Ok(reply),
+        Err(fault) => {
+            let _ = names.place(name);
+            Err(fault)
+        }
     }
 }

@@ -29,6 +29,8 @@ use Rattle.server_links.specs.LinkSteps.{over, over_named, place_of, step}
 use Rattle.server_links.specs.Moves.{all_bytes, move_of, stopped_at}
 use Rattle.server_links.specs.Outcome.{Outcome, and_then, does, refuses, stays}
 use Rattle.server_links.specs.Session.{Session, session_at, with_session}
+use Rattle.server_links.proofs.Carries.{Carries}
+use Rattle.server_links.proofs.Ended.{StayOver, over_both, over_moved, over_same}
 use Rattle.server_links.proofs.Names.{placed}
 use Rattle.server_links.proofs.Outcomes.{Fronts, fronts_once, fronts_refuses, fronts_stays}
 use Rattle.server_links.proofs.Outcomes.{fronts_then, fronts_within}
@@ -52,9 +54,16 @@ pub record LinksKept (w : LinksState) (name : List ℕ) (v : LinksState) : Type 
   pub grows : v.past ≡ entries ++ w.past
   pub others : (i : ℕ) → ((at_place w.links i).name ≡ name → ⊥)
       → at_place v.links i ≡ at_place w.links i
+  pub stay : StayOver w v
 
 pub links_same : (w : LinksState) (name : List ℕ) → LinksKept w name w
-links_same w name = record { size = refl; entries = []; grows = refl; others = λ i n. refl }
+links_same w name = record {
+  size = refl;
+  entries = [];
+  grows = refl;
+  others = λ i n. refl;
+  stay = over_same w;
+}
 
 links_both : (w u v : LinksState) (name : List ℕ) → LinksKept w name u → LinksKept u name v
     → LinksKept w name v
@@ -65,6 +74,7 @@ links_both w u v name a b = record {
       ∙ sym (append_assoc b.entries a.entries w.past);
   others = λ i n.
       b.others i (λ e. n (sym (ap (λ (x : Link). x.name) (a.others i n)) ∙ e)) ∙ a.others i n;
+  stay = over_both w u v a.size a.stay b.stay;
 }
 
 over_kept : (at : ℕ) (event : LinkEvent) (w : LinksState) (name : List ℕ)
@@ -73,19 +83,19 @@ over_kept : (at : ℕ) (event : LinkEvent) (w : LinksState) (name : List ℕ)
 unfolding over
 over_kept at event w name is =
     let c = (every_move event (session_at at w)).carries in
-    let kept : (t : Session) (entries : List Entry) → t.past ≡ entries ++ w.past
-    → LinksKept w name (with_session at w t) = λ t entries grows. record {
+    let kept : (t : Session) (ls : List Line) → Carries (session_at at w) t ls
+    → LinksKept w name (with_session at w t) = λ t ls d. record {
       size = length-set w.links at t.link;
-      entries = entries;
-      grows = grows;
+      entries = d.entries;
+      grows = d.grows;
       others = λ i n. get_or-set_other w.links at i t.link (fresh_link 0 [])
           (λ e. n (ap (λ k. (at_place w.links k).name) e ∙ is));
+      stay = over_moved w at t ls d;
     } in
     meets_within (with_session at w) (λ v ls. LinksKept w name v) (λ v ls. LinksKept w name v)
     (move_of event (session_at at w)) (record {
-      ends = λ e. (let d = c.ends e in
-          kept (move_of event (session_at at w)).state d.entries d.grows);
-      all = λ t ls r. (let d = c.all t ls r in kept t d.entries d.grows);
+      ends = λ e. kept (move_of event (session_at at w)).state _ (c.ends e);
+      all = λ t ls r. kept t ls (c.all t ls r);
     })
 
 pub named_kept : (event : LinkEvent) (w : LinksState) (name : List ℕ)

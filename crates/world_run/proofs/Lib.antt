@@ -21,6 +21,7 @@ mod Joining
 mod Flowing
 mod Kept
 mod WorldKept
+mod Skipping
 mod WorldEvents
 mod Schedules
 mod HitLines

@@ -1,5 +1,6 @@
 -- How the code of a world plays an event: the links' step and a client's move, in the world.
-use Rattle.std.proofs.Common.{◌≡◌, ◌+◌, ◌<◌, ℕ, zero, suc, List, [], ◌∷◌, ◌++◌, Bool, true, false}
+use Rattle.std.proofs.Common.{◌≡◌, ◌+◌, ◌-◌, ◌<◌, ◌≤◌, ℕ, zero, suc, List, [], ◌∷◌, ◌++◌, Bool}
+use Rattle.std.proofs.Common.{true, false}
 use Rattle.std.proofs.Common.{cond, Option, Some, None, Result, Ok, Err, length, slice_index_or}
 use Rattle.std.proofs.Common.{slice_set, refl, sym, ap, subst, ◌∙◌, append-nil, arith}
 use Rattle.std.specs.Option.{is_some}
@@ -13,27 +14,34 @@ use Rattle.shared_cache.specs.declared.log.Shape.{Shape}
 use Rattle.shared_cache.specs.declared.log.Shape.TheVariants.{Single, Pair}
 use Rattle.shared_cache.specs.declared.log.Caching.{Caching}
 use Rattle.shared_cache.specs.declared.log.Caching.TheVariants.{Default, OptIn, OptOut, Bcast}
+use Rattle.script_text.specs.declared.event.Event.{Event}
 use Rattle.script_text.specs.declared.line.Line.{Line}
 use Rattle.server_links.specs.declared.fault.WorldFault.{WorldFault}
 use Rattle.server_links.specs.declared.fault.WorldFault.TheVariants.{NoName, NameTaken, NoMemory}
 use Rattle.server_links.specs.declared.fault.WorldFault.TheVariants.{NothingThere, Refused}
 use Rattle.server_links.specs.LinkEvent as link_event
 use Rattle.server_links.specs.LinkEvent.{LinkEvent}
-use Rattle.server_links.specs.LinksState.{LinksState, fresh_link}
+use Rattle.server_links.specs.declared.link.LinkMove.{LinkMove}
+use Rattle.server_links.specs.declared.link.LinkMove.TheVariants as moves
+use Rattle.server_links.specs.LinksState.{AreApart, LinksState, at_place, fresh_link, names}
 use Rattle.server_links.specs.LinkSteps as links
 use Rattle.server_links.specs.LinkSteps.{over, over_named, place_of}
 use Rattle.server_links.specs.Moves.{move_of}
 use Rattle.server_links.specs.Outcome.{Outcome, Gives, Stops, and_then, does, refuses, within}
 use Rattle.server_links.specs.Session.{session_at, with_session}
-use Rattle.server_links.proofs.Outcomes.{Ends, after_ends, after_stops, gives_then}
+use Rattle.server_links.proofs.Ended.{over_below, over_idle}
+use Rattle.server_links.proofs.NameLists.{own_place}
+use Rattle.server_links.proofs.Outcomes.{Ends, after_ends, after_stops, gives_reached, gives_then}
 use Rattle.server_links.proofs.Outcomes.{gives_within, stops_first, stops_here}
-use Rattle.world_run.specs.WorldState.{MemberState, WorldState, client_named, client_of_link}
+use Rattle.world_run.specs.WorldState.{AreOver, IsOver, MemberState, WorldState, client_named}
+use Rattle.world_run.specs.WorldState.{client_of_link}
 use Rattle.world_run.specs.WorldState.{data_link, fresh_member, member_at, no_setup}
 use Rattle.world_run.specs.Members.{Seat, seat, seat_at, with_seat, world}
-use Rattle.world_run.specs.World.{Stepped, client_does, client_step, flow_at, flow_first}
+use Rattle.world_run.specs.World.{Stepped, client_does, client_step, flow_at, flow_first, flow_step}
 use Rattle.world_run.specs.World.{is_served, is_taken, join, links_step, named_does, on_links}
-use Rattle.world_run.specs.World.{said_step, setup_by}
+use Rattle.world_run.specs.World.{said_step, setup_by, step}
 use Rattle.world_run.proofs.Names.{client_there, link_there}
+use Rattle.world_run.proofs.WorldKept.{goes_flow, goes_over, step_grows}
 
 pub links_give : {A : Type 0} → (e : LinkEvent) (old new : LinksState) (members : List MemberState)
     (lines : List Line) (r : Result A WorldFault) (lines' : List Line)
@@ -304,3 +312,72 @@ flow_stops n (suc more) w lines fault u lines' h =
     (let e : suc (n + more) ≡ n + suc more = omega arith in e)
     (stops_first (flow_first (n + more) w) (flow_at (n + more)) lines fault u lines'
     (flow_stops n more w lines fault u lines' h))
+
+-- a link that is over does nothing
+flow_over : (at : ℕ) (w : WorldState) (lines : List Line) → AreApart (names w.links.links)
+    → IsOver w at → Ends (flow_at at w) lines w lines
+flow_over at w lines apart is =
+    let ls = w.links in
+    let name = (at_place ls.links at).name in
+    let r : Result (Unit {0}) WorldFault = Ok (tt {0}) in
+    let found : place_of name ls ≡ Some at =
+    own_place (names ls.links) ls (record { all = refl; apart = apart }) at
+    (over_below ls at is.link) in
+    subst (λ c. Ends (flow_step c name w) lines w lines) (sym is.apart)
+    (links_give (link_event.Over name moves.Flow) ls ls w.members lines r lines
+    (over_idle name ls at lines found is.link))
+
+-- nor do so many
+flow_past : (n more : ℕ) (w v : WorldState) (lines lines1 : List Line)
+    → AreApart (names v.links.links) → ((k : ℕ) → n ≤ k → k < n + more → IsOver v k)
+    → Ends (flow_first n w) lines v lines1 → Ends (flow_first (n + more) w) lines v lines1
+flow_past n zero w v lines lines1 apart over h =
+    subst (λ k. Ends (flow_first k w) lines v lines1)
+    (let e : n ≡ n + 0 = omega arith in e) h
+flow_past n (suc more) w v lines lines1 apart over h =
+    let r : Result (Unit {0}) WorldFault = Ok (tt {0}) in
+    subst (λ k. Ends (flow_first k w) lines v lines1)
+    (let e : (n + more) + 1 ≡ n + suc more = omega arith in e)
+    (flow_more (n + more) w v lines lines1 r v lines1
+    (flow_past n more w v lines lines1 apart (λ k a b. over k a (omega (arith, b))) h)
+    (flow_over (n + more) v lines1 apart (over (n + more) (omega arith) (omega arith))))
+
+pub flow_on : (n to : ℕ) (w v : WorldState) (lines lines1 : List Line) → n ≤ to
+    → AreApart (names v.links.links) → ((k : ℕ) → n ≤ k → k < to → IsOver v k)
+    → Ends (flow_first n w) lines v lines1 → Ends (flow_first to w) lines v lines1
+flow_on n to w v lines lines1 le apart over h =
+    let up : n + (to - n) ≡ to = omega (arith, le) in
+    subst (λ k. Ends (flow_first k w) lines v lines1) up
+    (flow_past n (to - n) w v lines lines1 apart (λ k a b. over k a (omega (arith, b, up))) h)
+
+-- ---- what is over stays so
+
+pub over_step : {A : Type 0} → (next : List ℕ) (e : Event) (w v : WorldState) (lines : List Line)
+    (r : Result A WorldFault) (lines' : List Line) → Gives (step w e) lines r v lines'
+    → AreOver next w → AreOver next v
+over_step next e w v lines r lines' g are from at order below =
+    let h = gives_reached (step w e) lines r v lines' g in
+    (((step_grows e w).all v h.0 h.1).2 at (are from at order below)).0
+
+pub over_links : {A : Type 0} → (next : List ℕ) (name : List ℕ) (move : LinkMove)
+    (w v : WorldState) (lines : List Line) (r : Result A WorldFault) (lines' : List Line)
+    → Gives (links_step (link_event.Over name move) w) lines r v lines'
+    → AreOver next w → AreOver next v
+over_links next name move w v lines r lines' g are from at order below =
+    let m = links_step (link_event.Over name move) w in
+    let h = gives_reached m lines r v lines' g in
+    (((goes_over name move w).all v h.0 h.1).still at (are from at order below)).0
+
+pub flow_still : {A : Type 0} → (n : ℕ) (w v : WorldState) (lines : List Line)
+    (r : Result A WorldFault) (lines' : List Line) → Gives (flow_at n w) lines r v lines'
+    → (at : ℕ) → IsOver w at → IsOver v at
+flow_still n w v lines r lines' g at is =
+    let h = gives_reached (flow_at n w) lines r v lines' g in
+    let name = (at_place w.links.links n).name in
+    (((goes_flow (client_of_link name w.members) name w).all v h.0 h.1).still at is).0
+
+pub over_flow : {A : Type 0} → (next : List ℕ) (n : ℕ) (w v : WorldState) (lines : List Line)
+    (r : Result A WorldFault) (lines' : List Line) → Gives (flow_at n w) lines r v lines'
+    → AreOver next w → AreOver next v
+over_flow next n w v lines r lines' g are from at order below =
+    flow_still n w v lines r lines' g at (are from at order below)

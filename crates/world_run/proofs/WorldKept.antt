@@ -1,6 +1,6 @@
 -- What each event leaves of a world as it was, and that what is printed by then begins what it
 -- prints.
-use Rattle.std.proofs.Common.{◌≡◌, ℕ, zero, suc, List, [], ◌++◌, Bool, true}
+use Rattle.std.proofs.Common.{◌≡◌, ℕ, zero, suc, List, [], ◌∷◌, ◌++◌, Bool, true}
 use Rattle.std.proofs.Common.{false, cond, not, Some, None, Option, length, refl, sym, ap}
 use Rattle.std.proofs.Common.{◌∙◌, append_assoc}
 use Rattle.serial_model.specs.declared.history.Entry.{Entry}
@@ -19,14 +19,16 @@ use Rattle.server_links.specs.declared.link.LinkMove.{LinkMove}
 use Rattle.server_links.specs.declared.link.LinkMove.TheVariants as moves
 use Rattle.server_links.specs.LinkEvent as link_event
 use Rattle.server_links.specs.LinkEvent.{LinkEvent}
-use Rattle.server_links.specs.LinksState.{at_place}
+use Rattle.server_links.specs.LinksState.{LinksState, at_place}
 use Rattle.server_links.specs.LinkSteps as links
 use Rattle.server_links.specs.LinkSteps.{place_of}
 use Rattle.server_links.specs.Outcome.{Outcome, Reached, and_then, does, refuses, stays}
+use Rattle.server_links.proofs.Ended.{StayOver, over_below, raw_over}
+use Rattle.server_links.proofs.Names.{unplaced}
 use Rattle.server_links.proofs.Outcomes.{Meets, meets_does, meets_refuses, meets_stays, meets_then}
 use Rattle.server_links.proofs.Outcomes.{meets_weaker, meets_within}
-use Rattle.world_run.specs.WorldState.{WorldState, client_named, client_of_link}
-use Rattle.world_run.specs.WorldState.{data_link}
+use Rattle.world_run.specs.WorldState.{IsOver, MemberState, WorldState, client_named}
+use Rattle.world_run.specs.WorldState.{client_of_link, data_link, fresh_member}
 use Rattle.world_run.specs.Members.{Seat, seat_at, with_seat}
 use Rattle.world_run.specs.ClientMoves as client
 use Rattle.world_run.specs.ClientMoves.{show, turn}
@@ -34,23 +36,51 @@ use Rattle.world_run.specs.World.{Stepped, client_does, client_step, flow_at, fl
 use Rattle.world_run.specs.World.{is_served, is_taken, join, links_step, named_does, not_served}
 use Rattle.world_run.specs.World.{out_step, raw_out, recv_step, said_step, setup_by, step}
 use Rattle.world_run.specs.World.{on_links}
-use Rattle.world_run.proofs.Kept.{LinksKept, Orderly, named_kept, o_flow, o_out}
+use Rattle.world_run.proofs.Kept.{Kept, LinksKept, Orderly, named_kept, o_flow, o_out}
 use Rattle.world_run.proofs.Kept.{o_receive, o_show, o_turn}
 use Rattle.world_run.proofs.Links.{step_moved}
+use Rattle.world_run.proofs.Names.{client_more, client_set}
 
 by_if : {S : Type 0} → (P : Outcome S → Type 0) (b : Bool) (m n : Outcome S) → P m → P n
     → P (cond b m n)
 by_if P true m n p q = p
 by_if P false m n p q = q
 
+-- what is over stays so, and keeps its name
+abbrev pub Still : WorldState → WorldState → Type 0
+Still w v = (at : ℕ) → IsOver w at → IsOver v at
+    × ((at_place v.links.links at).name ≡ (at_place w.links.links at).name)
+
+still_same : (w : WorldState) → Still w w
+still_same w at is = (is, refl)
+
+still_both : (w u v : WorldState) → Still w u → Still u v → Still w v
+still_both w u v a b at is =
+    let k = a at is in let m = b at k.0 in (m.0, m.1 ∙ k.1)
+
+-- where the clients keep their links
+still_kept : (w v : WorldState) → StayOver w.links v.links
+    → ((link : List ℕ) → client_of_link link v.members ≡ client_of_link link w.members)
+    → Still w v
+still_kept w v k clients at is =
+    let named = k.named at (over_below w.links at is.link) in
+    let link = (at_place w.links.links at).name in (
+      record {
+        link = k.over at is.link;
+        apart = ap (λ n. client_of_link n v.members) named ∙ clients link ∙ is.apart;
+      },
+      named,
+    )
+
 -- the history grows, and no link is made
 pub record Onward (w v : WorldState) : Type 0 where
   pub size : length v.links.links ≡ length w.links.links
   pub entries : List Entry
   pub grows : v.links.past ≡ entries ++ w.links.past
+  pub still : Still w v
 
 onward_same : (w : WorldState) → Onward w w
-onward_same w = record { size = refl; entries = []; grows = refl }
+onward_same w = record { size = refl; entries = []; grows = refl; still = still_same w }
 
 onward_both : (w u v : WorldState) → Onward w u → Onward u v → Onward w v
 onward_both w u v a b = record {
@@ -58,10 +88,18 @@ onward_both w u v a b = record {
   entries = b.entries ++ a.entries;
   grows = b.grows ∙ ap (λ x. b.entries ++ x) a.grows
       ∙ sym (append_assoc b.entries a.entries w.links.past);
+  still = still_both w u v a.still b.still;
 }
 
-onward_kept : (w v : WorldState) (name : List ℕ) → LinksKept w.links name v.links → Onward w v
-onward_kept w v name k = record { size = k.size; entries = k.entries; grows = k.grows }
+onward_kept : (w v : WorldState) (name : List ℕ) → LinksKept w.links name v.links
+    → ((link : List ℕ) → client_of_link link v.members ≡ client_of_link link w.members)
+    → Onward w v
+onward_kept w v name k clients = record {
+  size = k.size;
+  entries = k.entries;
+  grows = k.grows;
+  still = still_kept w v k.stay clients;
+}
 
 abbrev Goes : WorldState → Stepped → Type 0
 Goes w m = Meets (λ v ls. Onward w v) (λ v ls. Onward w v) m
@@ -83,10 +121,10 @@ goes_linked event name w k =
     (links.step w.links event)
     (meets_weaker (λ v ls. LinksKept w.links name v) (λ v ls. Onward w (on_links w v))
     (λ v ls. LinksKept w.links name v) (λ v ls. Onward w (on_links w v))
-    (links.step w.links event) (λ v ls. onward_kept w (on_links w v) name)
-    (λ v ls. onward_kept w (on_links w v) name) k)
+    (links.step w.links event) (λ v ls q. onward_kept w (on_links w v) name q (λ n. refl))
+    (λ v ls q. onward_kept w (on_links w v) name q (λ n. refl)) k)
 
-goes_over : (name : List ℕ) (move : LinkMove) (w : WorldState)
+pub goes_over : (name : List ℕ) (move : LinkMove) (w : WorldState)
     → Goes w (links_step (link_event.Over name move) w)
 unfolding links.step
 goes_over name move w =
@@ -105,15 +143,16 @@ goes_client : (at : ℕ) (move : Seat → Outcome Seat) → ((s : Seat) → Orde
 unfolding client_does
 goes_client at move orderly w =
     let s = seat_at at w in
+    let onward : (t : Seat) → Kept s t → Onward w (with_seat at w t) =
+    λ t k. onward_kept w (with_seat at w t) s.member.link k.links
+    (λ n. client_set n w.members at t.member k.link) in
     meets_within (with_seat at w) (λ v ls. Onward w v) (λ v ls. Onward w v) (move s)
     (record {
-      ends = λ none. onward_kept w (with_seat at w (move s).state) s.member.link
-          ((orderly s).kept.ends none).links;
-      all = λ t ls r. onward_kept w (with_seat at w t) s.member.link
-          ((orderly s).kept.all t ls r).links;
+      ends = λ none. onward (move s).state ((orderly s).kept.ends none);
+      all = λ t ls r. onward t ((orderly s).kept.all t ls r);
     })
 
-goes_flow : (c : Option ℕ) (name : List ℕ) (w : WorldState) → Goes w (flow_step c name w)
+pub goes_flow : (c : Option ℕ) (name : List ℕ) (w : WorldState) → Goes w (flow_step c name w)
 goes_flow None name w = goes_over name moves.Flow w
 goes_flow (Some at) name w = goes_client at client.flow o_flow w
 
@@ -140,7 +179,7 @@ goes_first (suc n) w =
 -- ---- the history grows at any event
 
 abbrev pub Grows : WorldState → WorldState → Type 0
-Grows w v = (es : List Entry) × (v.links.past ≡ es ++ w.links.past)
+Grows w v = (es : List Entry) × (v.links.past ≡ es ++ w.links.past) × Still w v
 
 abbrev Growing : WorldState → Stepped → Type 0
 Growing w m = Meets (λ v ls. Grows w v) (λ v ls. Grows w v) m
@@ -148,23 +187,55 @@ Growing w m = Meets (λ v ls. Grows w v) (λ v ls. Grows w v) m
 as_growing : (w : WorldState) (m : Stepped) → Goes w m → Growing w m
 as_growing w m k =
     meets_weaker (λ v ls. Onward w v) (λ v ls. Grows w v) (λ v ls. Onward w v) (λ v ls. Grows w v) m
-    (λ v ls o. (o.entries, o.grows)) (λ v ls o. (o.entries, o.grows)) k
+    (λ v ls o. (o.entries, o.grows, o.still)) (λ v ls o. (o.entries, o.grows, o.still)) k
 
-raw_grows : (name : List ℕ) (w : WorldState) → Growing w (links_step (link_event.Raw name) w)
+-- and where the link was made, its name was free
+raw_grows : (name : List ℕ) (w : WorldState)
+    → Meets (λ v ls. Grows w v × (place_of name w.links ≡ None)) (λ v ls. Grows w v)
+    (links_step (link_event.Raw name) w)
 unfolding links_step
 raw_grows name w =
     let event = link_event.Raw name in
     let k = step_moved w.links event in
-    meets_within (on_links w) (λ v ls. Grows w v) (λ v ls. Grows w v) (links.step w.links event)
+    let o = raw_over name w.links in
+    let still : (v : LinksState) → StayOver w.links v → Still w (on_links w v) =
+    λ v s. still_kept w (on_links w v) s (λ n. refl) in
+    meets_within (on_links w) (λ v ls. Grows w v × (place_of name w.links ≡ None))
+    (λ v ls. Grows w v) (links.step w.links event)
     (record {
-      ends = λ none. (let g = (k.ends none).grows in (g.entries, g.grows));
-      all = λ v ls r. (let g = (k.all v ls r).grows in (g.entries, g.grows));
+      ends = λ none. (let g = (k.ends none).grows in let s = o.ends none in
+          ((g.entries, g.grows, still _ s.0), s.1));
+      all = λ v ls r. (let g = (k.all v ls r).grows in
+          (g.entries, g.grows, still v (o.all v ls r)));
     })
+
+-- a client is made, at the link of that name
+joined : (w u : WorldState) (m : MemberState) → Grows w u → place_of m.link w.links ≡ None
+    → Grows w (record { links = u.links; members = u.members ++ m ∷ [] })
+joined w u m g free = (
+  g.0,
+  g.1,
+  (λ at is.
+      let k = g.2 at is in
+      let n = (at_place u.links.links at).name in (
+        record {
+          link = k.0.link;
+          apart = client_more n u.members m k.0.apart
+              (λ e. unplaced m.link w.links free at (over_below w.links at is.link)
+              (sym k.1 ∙ sym e));
+        },
+        k.1,
+      )),
+)
+
+raw_alone : (name : List ℕ) (w : WorldState) → Growing w (links_step (link_event.Raw name) w)
+raw_alone name w =
+    let k = raw_grows name w in record { ends = λ none. (k.ends none).0; all = k.all }
 
 client_grows : (name : List ℕ) (mode : ClientMode) (capacity : ℕ) (w : WorldState)
     → Growing w (client_step name mode capacity w)
 client_grows name mode capacity w =
-    let none : Grows w w = ([], refl) in
+    let none : Grows w w = ([], refl, still_same w) in
     let G : WorldState → List Line → Type 0 = λ v ls. Grows w v in
     by_if (Growing w) (not (is_served mode)) (refuses w (Refused not_served)) _
     (meets_refuses G G w (Refused not_served) none)
@@ -174,9 +245,13 @@ client_grows name mode capacity w =
     (λ w. and_then (links_step (link_event.Raw (data_link name)) w)
     (join name (length w.links.links) (setup_by w mode capacity)))
     (meets_does (λ v ls. v ≡ w) G w w [] refl none none)
-    (λ ok same. meets_then G G G (links_step (link_event.Raw (data_link name)) w)
+    (λ ok same. meets_then (λ v ls. Grows w v × (place_of (data_link name) w.links ≡ None)) G G
+    (links_step (link_event.Raw (data_link name)) w)
     (join name (length w.links.links) (setup_by w mode capacity)) (raw_grows (data_link name) w)
-    (λ ok2 k. meets_stays G G _ k k))))
+    (λ ok2 k.
+    let u = (links_step (link_event.Raw (data_link name)) w).state in
+    let j = joined w u (fresh_member name (length w.links.links) (setup_by w mode capacity)) k.0
+    k.1 in meets_stays G G _ j j))))
 
 named_goes : (c : Option ℕ) (move : Seat → Outcome Seat) → ((s : Seat) → Orderly s (move s))
     → (w : WorldState) → Goes w (named_does c move w)
@@ -208,8 +283,8 @@ pub step_grows : (e : Event) (w : WorldState)
 unfolding step
 step_grows (Raw name) w =
     by_if (Growing w) (is_taken name w) (refuses w NameTaken) _
-    (meets_refuses (λ v ls. Grows w v) (λ v ls. Grows w v) w NameTaken ([], refl))
-    (raw_grows name w)
+    (meets_refuses (λ v ls. Grows w v) (λ v ls. Grows w v) w NameTaken ([], refl, still_same w))
+    (raw_alone name w)
 step_grows (Say name words) w = as_growing w _ (said_goes (client_of_link name w.members) name _ w)
 step_grows (Bytes name bytes) w =
     as_growing w _ (said_goes (client_of_link name w.members) name bytes w)

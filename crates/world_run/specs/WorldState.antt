@@ -1,7 +1,10 @@
--- What a world is seen as: a server with its links, and the clients at the other ends of some.
-use Rattle.std.specs.Prelude.{◌==◌, ℕ, List, [], ◌∷◌, ◌++◌, false, codes, length, position}
+-- What a world is seen as: a server with its links, and the clients at the other ends of some; and
+-- when a link is over that has no client.
+use Rattle.std.specs.Prelude.{◌==◌, ◌≡◌, ◌≤◌, ◌<◌, ℕ, List, [], ◌∷◌, ◌++◌, false, codes, length}
+use Rattle.std.specs.Prelude.{position}
 use Rattle.std.specs.Prelude.{slice_index_or, slice_set}
 use Rattle.std.specs.declared.option.Option.{Option}
+use Rattle.std.specs.declared.option.Option.TheVariants.{None}
 use Rattle.std.specs.Str.{bytes_eq}
 use Rattle.resp_stream.specs.Stream.{Stream, begun}
 use Rattle.resp_value.specs.declared.value.Proto.TheVariants.{Three}
@@ -12,7 +15,7 @@ use Rattle.shared_cache.specs.declared.log.Caching.TheVariants.{Default}
 use Rattle.shared_cache.specs.ClientFields.{Client}
 use Rattle.shared_cache.specs.Held.{Setup}
 use Rattle.server_links.specs.LinksState as links
-use Rattle.server_links.specs.LinksState.{LinksState}
+use Rattle.server_links.specs.LinksState.{LinksState, at_place}
 
 -- a client: its name, that of its link and the place of it, its setup and log, and what its end of
 -- the link has read
@@ -62,3 +65,12 @@ client_named name members = position (λ (m : MemberState). bytes_eq m.name name
 
 abbrev pub client_of_link : List ℕ → List MemberState → Option ℕ
 client_of_link link members = position (λ (m : MemberState). bytes_eq m.link link) members
+
+-- Nothing moves any more over the link at this place, and no client is at its end.
+pub record IsOver (w : WorldState) (at : ℕ) : Type 0 where
+  pub link : links.IsOver w.links at
+  pub apart : client_of_link (at_place w.links.links at).name w.members ≡ None
+
+-- From each place on, the links before the place that is told are over.
+abbrev pub AreOver : List ℕ → WorldState → Type 0
+AreOver next w = (from at : ℕ) → from ≤ at → at < slice_index_or next from 0 → IsOver w at

@@ -3,6 +3,7 @@
 
 mod asks;
 mod laws;
+mod living;
 mod member;
 mod moves;
 mod playing;

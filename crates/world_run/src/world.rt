@@ -1,14 +1,17 @@
 //! The world of a schedule: a server, the links to it, and the clients at their other ends.
-ghost use Rattle.std.specs.Prelude.{◌≡◌, ◌<◌, ◌≤◌, IfOk, length};
+ghost use Rattle.std.specs.Prelude.{◌≡◌, ◌+◌, ◌^◌, ◌<◌, ◌≤◌, ℕ, IfOk, false, length, true};
 ghost use Rattle.script_text.specs.declared.event.Event.TheVariants as event;
 ghost use Rattle.script_text.specs.Valid.{IsValid};
 ghost use Rattle.serial_model.specs.Steps.{AreValid};
 ghost use Rattle.server_links.specs.LinkEvent.{Over};
+ghost use Rattle.server_links.specs.LinksState.{AreApart, names};
 ghost use Rattle.server_links.specs.Outcome.{Gives};
 ghost use Rattle.world_run.specs.World.{StepGives, flow_at, is_served, is_taken};
 ghost use Rattle.world_run.specs.World.{links_step};
-ghost use Rattle.world_run.specs.WorldState.{client_named, client_of_link, data_link, start};
+ghost use Rattle.world_run.specs.WorldState.{IsOver, client_named, client_of_link, data_link};
+ghost use Rattle.world_run.specs.WorldState.{start};
 
+use super::living::Living;
 use super::member::Member;
 use command_words::Query;
 use resp_value::{NoMemory, Octets, Proto, Words, put_request};
@@ -25,18 +28,22 @@ pub struct World {
     alloc: Global,
     links: ServerLinks,
     members: Vec<Member>,
+    living: Living,
 }
 
 impl Model for World {
     ghost use Rattle.std.specs.Coded.{codes};
     ghost use Rattle.resp_value.specs.TreeCoding.{tree_code};
-    ghost use Rattle.world_run.specs.WorldState.{WorldState};
+    ghost use Rattle.world_run.specs.Members.{world};
+    ghost use Rattle.world_run.specs.WorldState.{AreOver, WorldState};
 
     ghost Value = { WorldState };
 
     ghost coded = { Prim.hlevel (codes, tree_code) };
 
     ghost view = { λ w. record { links = w.links; members = w.members.items } };
+
+    ghost invariant = { λ w. AreOver w.living (world w.links w.members.items) };
 }
 
 impl World {
@@ -49,6 +56,7 @@ impl World {
             alloc,
             links: ServerLinks::new(alloc, limits)?,
             members: Vec::new(alloc),
+            living: Living::new(alloc),
         })
     }
 
@@ -237,10 +245,65 @@ impl World {
     fn flow_all(&mut self, lines: &mut Lines) -> Result<(), WorldFault>
         ensures { StepGives self.old event.FlowAll lines.old result self.new lines.new }
     {
-        for at in 0..self.links.count() {
+        let mut over = 0;
+        let mut at = self.next_after(over, 0);
+        'links: while at < self.count() {
             self.flow_at(at, lines)?;
+            over = self.over_from(over, at);
+            at = self.next_after(over, at + 1);
         }
         Ok(())
+    }
+
+    fn count(&self) -> usize
+        ensures count { result ≡ length self.now.links.links }
+        ensures apart { AreApart (names self.now.links.links) }
+    {
+        self.links.count()
+    }
+
+    // The first link from a place on that may still move something, where those before it from
+    // another place on are over; this is kept for the next time.
+    fn next_after(&mut self, over: usize, at: usize) -> usize
+        requires order { over ≤ at }
+        requires below { at ≤ length self.old.links.links }
+        requires over { (k : ℕ) → over ≤ k → k < at → IsOver self.old k }
+        ensures same { self.new ≡ self.old }
+        ensures order { (at ≤ result) × (result ≤ length self.old.links.links) }
+        ensures over { (k : ℕ) → over ≤ k → k < result → IsOver self.old k }
+        ensures apart { AreApart (names self.old.links.links) }
+    {
+        let next = self.living.next(at).min(self.count());
+        // what want of memory loses here is found again
+        let _ = self.living.note(over, next);
+        next
+    }
+
+    // From where on the links up to this place are over, where those between are.
+    fn over_from(&self, from: usize, at: usize) -> usize
+        requires below { at < length self.now.links.links }
+        requires small { at + 1 < 2 ^ 64 }
+        requires order { from ≤ at }
+        requires over { (k : ℕ) → from ≤ k → k < at → IsOver self.now k }
+        ensures order { result ≤ at + 1 }
+        ensures over { (k : ℕ) → result ≤ k → k < at + 1 → IsOver self.now k }
+    {
+        if self.is_over(at) {
+            return from;
+        }
+        at + 1
+    }
+
+    // Nothing moves any more over the link at this place, and no client is at its end.
+    fn is_over(&self, at: usize) -> bool
+        requires { at < length self.now.links.links }
+        ensures over { result ≡ true → IsOver self.now at }
+        ensures goes_on { result ≡ false → IsOver self.now at → ⊥ }
+    {
+        if !self.links.is_over(at) {
+            return false;
+        }
+        self.client_of_link(self.links.name_at(at)).is_none()
     }
 
     /// All that is there moves over the link at this place.

@@ -1,4 +1,3 @@
-use Rattle.std.proofs.Common.{◌≡◌}
 use Rattle.server_links.proofs.Noting.{last_gone}
 use Rattle.server_links.proofs.server.take_back.Goals as goal
 

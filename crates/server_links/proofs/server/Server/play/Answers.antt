@@ -1,4 +1,4 @@
-use Rattle.std.proofs.Common.{◌≡◌, true, ap, sym, subst, ◌∙◌}
+use Rattle.std.proofs.Common.{◌≡◌, ap, sym, subst, ◌∙◌}
 use Rattle.serial_model.specs.declared.history.Limits.{Limits}
 use Rattle.server_book.specs.BookState.{posts_after}
 use Rattle.server_links.specs.Notes.{IsNoted, noted_turn, runner_of}

@@ -1,8 +1,7 @@
-use Rattle.std.proofs.Common.{◌≡◌, ◌+◌, true, ap, sym, ◌∙◌}
+use Rattle.std.proofs.Common.{◌≡◌, ◌+◌, true, ap, ◌∙◌}
 use Rattle.std.specs.Prelude.{slice_get}
 use Rattle.server_links.specs.ServerState.{ServerState}
 use Rattle.serial_model.specs.History.{run_entries}
-use Rattle.server_links.specs.Notes.{sent_entries}
 use Rattle.server_links.proofs.Noting.{whole_runs}
 use Rattle.server_links.proofs.server.Server.run_entry.Goals as goal
 

@@ -1,50 +1,23 @@
-use Rattle.std.proofs.Common.{◌≡◌, [], Some, slice_set, refl, sym, ap, subst, ◌∙◌}
-use Rattle.std.specs.Str.{bytes_eq}
-use Rattle.std.proofs.lemmas.List.Quantifiers.{position-Some}
-use Rattle.server_links.specs.declared.fault.WorldFault.TheVariants.{NoName}
-use Rattle.server_links.specs.declared.link.Link.{Link}
-use Rattle.server_links.specs.LinkEvent.{LinkEvent, Over}
-use Rattle.server_links.specs.Outcome.{Stops}
-use Rattle.server_links.specs.Session.{session, world}
-use Rattle.server_links.specs.LinkSteps.{place_of, step, StepGives}
-use Rattle.server_links.specs.LinksState.{LinksState, fresh_link}
-use Rattle.server_links.proofs.Stepping.{no_such_link, step_gives, step_fits}
+use Rattle.std.proofs.Common.{refl, sym, subst, ◌∙◌}
+use Rattle.server_links.specs.LinkEvent.{Over}
+use Rattle.server_links.specs.LinkSteps.{StepGives}
+use Rattle.server_links.proofs.Names.{placed}
+use Rattle.server_links.proofs.Stepping.{no_such_link}
 use Rattle.server_links.proofs.server_links.ServerLinks.play.Goals as goal
 
 pub returns-in_default : goal.returns-in_default
 returns-in_default c =
-    let i = c.self.inside in
-    let e : LinkEvent = Over c.args.name.now c.args.movement in
-    subst (λ (w : LinksState). Stops (step w e) c.args.lines.now NoName w c.args.lines.now)
-    c.self.view_is
-    (no_such_link c.args.name.now e refl i.server i.links.items
-    c.args.lines.now (ap (place_of c.args.name.now) c.self.view_is ∙ sym c.place.ensures
-    ∙ c.in_default.is))
+    no_such_link c.args.name.now (Over c.args.name.now c.args.movement) refl c.args.self.now
+    c.args.lines.now (sym c.place_of.ensures ∙ c.in_default.is)
 
-pub invariant_of-self : goal.invariant_of-self
-invariant_of-self c =
-    let i = c.self.inside in
-    let e : LinkEvent = Over c.args.name.now c.args.movement in
-    let place : place_of c.args.name.now (world i.server i.links.items) ≡ Some c.in-Some.at =
-    ap (place_of c.args.name.now) c.self.view_is ∙ sym c.place.ensures ∙ c.in-Some.is in
-    let below = (position-Some (λ (l : Link). bytes_eq l.name c.args.name.now) i.links.items
-    c.in-Some.at (fresh_link 0 []) place).0 in
-    step_fits c.args.name.now e refl i.server i.links.items c.in-Some.at place
-    below c.play.new.server c.index_mut.result.now c.play.new.self c.index_mut.ensures.value
-    c.args.lines.now c.play.result c.play.new.lines c.play.ensures c.self.invariant
+pub play_at-requires : goal.play_at-requires
+play_at-requires c =
+    (placed c.args.name.now c.args.self.now c.in-Some.at
+    (sym c.place_of.ensures ∙ c.in-Some.is)).0
 
 pub returns : goal.returns
 returns c =
-    let i = c.self.inside in
-    let e : LinkEvent = Over c.args.name.now c.args.movement in
-    let place : place_of c.args.name.now (world i.server i.links.items) ≡ Some c.in-Some.at =
-    ap (place_of c.args.name.now) c.self.view_is ∙ sym c.place.ensures ∙ c.in-Some.is in
-    let below = (position-Some (λ (l : Link). bytes_eq l.name c.args.name.now) i.links.items
-    c.in-Some.at (fresh_link 0 []) place).0 in
-    subst (λ (w : LinksState). StepGives w e c.args.lines.now c.play.result
-    (world c.play.new.server (slice_set i.links.items c.in-Some.at c.play.new.self))
-    c.play.new.lines) c.self.view_is
-    (step_gives c.args.name.now e refl i.server i.links.items c.in-Some.at
-    place below c.play.new.server c.index_mut.result.now c.play.new.self
-    c.index_mut.ensures.value
-    c.args.lines.now c.play.result c.play.new.lines c.play.ensures)
+    let w = c.args.self.now in
+    let p = placed c.args.name.now w c.in-Some.at (sym c.place_of.ensures ∙ c.in-Some.is) in
+    subst (λ n. StepGives w (Over n c.args.movement) c.args.lines.now c.play_at.result
+    c.play_at.new.self c.play_at.new.lines) p.1 c.play_at.ensures

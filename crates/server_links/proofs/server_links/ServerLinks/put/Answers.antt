@@ -8,7 +8,7 @@ use Rattle.server_links.specs.Outcome.{Stops}
 use Rattle.server_links.specs.Session.{session, world}
 use Rattle.server_links.specs.LinkSteps.{place_of, step, StepGives}
 use Rattle.server_links.specs.LinksState.{LinksState, fresh_link}
-use Rattle.server_links.proofs.Stepping.{no_such_link, step_gives, step_fits}
+use Rattle.server_links.proofs.Stepping.{no_such_link, step_gives, step_stands}
 use Rattle.server_links.proofs.server_links.ServerLinks.put.Goals as goal
 
 pub returns-in_default : goal.returns-in_default
@@ -17,8 +17,8 @@ returns-in_default c =
     let e : LinkEvent = Put c.args.name.now c.args.bytes.now in
     subst (λ (w : LinksState). Stops (step w e) c.args.lines.now NoName w c.args.lines.now)
     c.self.view_is
-    (no_such_link c.args.name.now e refl i.server i.links.items
-    c.args.lines.now (ap (place_of c.args.name.now) c.self.view_is ∙ sym c.place.ensures
+    (no_such_link c.args.name.now e refl (world i.server i.links.items) c.args.lines.now
+    (ap (place_of c.args.name.now) c.self.view_is ∙ sym c.place_of.ensures
     ∙ c.in_default.is))
 
 pub invariant_of-self : goal.invariant_of-self
@@ -26,20 +26,21 @@ invariant_of-self c =
     let i = c.self.inside in
     let e : LinkEvent = Put c.args.name.now c.args.bytes.now in
     let place : place_of c.args.name.now (world i.server i.links.items) ≡ Some c.in-Some.at =
-    ap (place_of c.args.name.now) c.self.view_is ∙ sym c.place.ensures ∙ c.in-Some.is in
+    ap (place_of c.args.name.now) c.self.view_is ∙ sym c.place_of.ensures ∙ c.in-Some.is in
     let below = (position-Some (λ (l : Link). bytes_eq l.name c.args.name.now) i.links.items
     c.in-Some.at (fresh_link 0 []) place).0 in
-    step_fits c.args.name.now e refl i.server i.links.items c.in-Some.at place
+    step_stands c.args.name.now e refl i.server i.links.items c.in-Some.at place
     below i.server c.index_mut.result.now c.put.new.self c.index_mut.ensures.value
     c.args.lines.now c.put.result c.args.lines.now
-    (c.put.ensures (session i.server c.index_mut.result.now) c.args.lines.now) c.self.invariant
+    (c.put.ensures (session i.server c.index_mut.result.now) c.args.lines.now) i.names
+    c.self.invariant
 
 pub returns : goal.returns
 returns c =
     let i = c.self.inside in
     let e : LinkEvent = Put c.args.name.now c.args.bytes.now in
     let place : place_of c.args.name.now (world i.server i.links.items) ≡ Some c.in-Some.at =
-    ap (place_of c.args.name.now) c.self.view_is ∙ sym c.place.ensures ∙ c.in-Some.is in
+    ap (place_of c.args.name.now) c.self.view_is ∙ sym c.place_of.ensures ∙ c.in-Some.is in
     let below = (position-Some (λ (l : Link). bytes_eq l.name c.args.name.now) i.links.items
     c.in-Some.at (fresh_link 0 []) place).0 in
     subst (λ (w : LinksState). StepGives w e c.args.lines.now c.put.result

@@ -1,6 +1,8 @@
 use Rattle.std.proofs.Common.{◌≡◌, ◌+◌, ◌++◌, ◌∷◌, [], arith, Some, None, Option, Bool, List, ℕ}
 use Rattle.std.proofs.Common.{true, false, refl, sym, ap, subst, ◌∙◌}
 use Rattle.std.specs.Option.{is_some}
+use Rattle.std.specs.Prelude.{position}
+use Rattle.std.specs.Str.{bytes_eq}
 use Rattle.std.proofs.lemmas.Result.{err_from_is_err_and}
 use Rattle.server_links.specs.LinkEvent.{Raw}
 use Rattle.script_text.specs.declared.line.Line.TheVariants as line
@@ -8,11 +10,11 @@ use Rattle.server_links.specs.declared.fault.WorldFault.TheVariants.{NameTaken, 
 use Rattle.server_links.specs.Outcome.{Stops}
 use Rattle.server_links.specs.Session.{world}
 use Rattle.server_links.specs.LinkSteps.{place_of, step}
-use Rattle.server_links.specs.LinksState.{LinksState, Fits, fresh_link}
+use Rattle.server_links.specs.LinksState.{AreNames, Fits, LinksState, fresh_link}
+use Rattle.server_links.proofs.NameLists.{name_place}
 use Rattle.server_links.proofs.Outcomes.{Ends}
 use Rattle.server_links.proofs.Stepping.{raw_taken, raw_before, raw_stops, raw_fits_still}
-use Rattle.server_links.proofs.Stepping.{raw_gives}
-use Rattle.server_links.proofs.Stepping.{raw_fits}
+use Rattle.server_links.proofs.Stepping.{made_named, raw_fits, raw_gives}
 use Rattle.server_links.proofs.server_links.ServerLinks.raw.Goals as goal
 
 some : {A : Type 0} → (o : Option A) → is_some o ≡ true → (a : A) × (o ≡ Some a)
@@ -34,7 +36,7 @@ returns-then-is_some c =
     let i = c.self.inside in
     let is = some (place_of c.args.name.now (world i.server i.links.items))
     (ap (λ (w : LinksState). is_some (place_of c.args.name.now w)) c.self.view_is
-    ∙ ap is_some (sym c.place.ensures) ∙ sym c.is_some.ensures ∙ c.if-is_some.true) in
+    ∙ ap is_some (sym c.place_of.ensures) ∙ sym c.is_some.ensures ∙ c.if-is_some.true) in
     subst (λ (w : LinksState). Stops (step w (Raw c.args.name.now)) c.args.lines.now NameTaken w
     c.args.lines.now) c.self.view_is
     (raw_taken i.server i.links.items c.args.name.now c.args.lines.now is.0 is.1)
@@ -42,8 +44,8 @@ returns-then-is_some c =
 pub returns-in_err-next_entry : goal.returns-in_err-next_entry
 returns-in_err-next_entry c =
     let i = c.self.inside in
-    let free = free (world i.server i.links.items) c.args.self.now c.args.name.now c.place.result
-    c.is_some.result c.self.view_is c.place.ensures c.is_some.ensures c.if-is_some.false in
+    let free = free (world i.server i.links.items) c.args.self.now c.args.name.now c.place_of.result
+    c.is_some.result c.self.view_is c.place_of.ensures c.is_some.ensures c.if-is_some.false in
     let p = err_from_is_err_and c.from_residual.result c.from_residual.ensures.1 in
     rw p.1 (rw p.2
     (subst (λ (w : LinksState). Stops (step w (Raw c.args.name.now)) c.args.lines.now NoMemory w
@@ -53,8 +55,8 @@ returns-in_err-next_entry c =
 pub returns-in_err-copy : goal.returns-in_err-copy
 returns-in_err-copy c =
     let i = c.self.inside in
-    let free = free (world i.server i.links.items) c.args.self.now c.args.name.now c.place.result
-    c.is_some.result c.self.view_is c.place.ensures c.is_some.ensures c.if-is_some.false in
+    let free = free (world i.server i.links.items) c.args.self.now c.args.name.now c.place_of.result
+    c.is_some.result c.self.view_is c.place_of.ensures c.is_some.ensures c.if-is_some.false in
     let p = err_from_is_err_and c.from_residual-in_err-copy.result
     c.from_residual-in_err-copy.ensures.1 in
     rw p.1 (rw p.2
@@ -65,8 +67,8 @@ returns-in_err-copy c =
 pub returns-in_err-copy-2 : goal.returns-in_err-copy-2
 returns-in_err-copy-2 c =
     let i = c.self.inside in
-    let free = free (world i.server i.links.items) c.args.self.now c.args.name.now c.place.result
-    c.is_some.result c.self.view_is c.place.ensures c.is_some.ensures c.if-is_some.false in
+    let free = free (world i.server i.links.items) c.args.self.now c.args.name.now c.place_of.result
+    c.is_some.result c.self.view_is c.place_of.ensures c.is_some.ensures c.if-is_some.false in
     let p = err_from_is_err_and c.from_residual-in_err-copy-2.result
     c.from_residual-in_err-copy-2.ensures.1 in
     rw p.1 (rw p.2
@@ -77,8 +79,8 @@ returns-in_err-copy-2 c =
 pub returns-in_err-reserve : goal.returns-in_err-reserve
 returns-in_err-reserve c =
     let i = c.self.inside in
-    let free = free (world i.server i.links.items) c.args.self.now c.args.name.now c.place.result
-    c.is_some.result c.self.view_is c.place.ensures c.is_some.ensures c.if-is_some.false in
+    let free = free (world i.server i.links.items) c.args.self.now c.args.name.now c.place_of.result
+    c.is_some.result c.self.view_is c.place_of.ensures c.is_some.ensures c.if-is_some.false in
     let p = err_from_is_err_and c.from_residual-in_err-reserve.result
     c.from_residual-in_err-reserve.ensures.1 in
     rw p.1 (rw p.2
@@ -88,68 +90,90 @@ returns-in_err-reserve c =
     NoMemory (world i.server l) c.args.lines.now) (sym c.reserve.ensures.items)
     (raw_before i.server i.links.items c.args.name.now c.args.lines.now free))))
 
-pub invariant_of-self-in_err-turn : goal.invariant_of-self-in_err-turn
-invariant_of-self-in_err-turn c =
+pub admit-requires : goal.admit-requires
+admit-requires c =
     let i = c.self.inside in
-    subst (λ l. Fits c.turn.new.self.book.past l) (sym c.reserve.ensures.items)
-    (raw_fits_still i.server i.links.items c.args.name.now c.args.lines.now
-    (free (world i.server i.links.items) c.args.self.now c.args.name.now c.place.result
-    c.is_some.result c.self.view_is c.place.ensures c.is_some.ensures c.if-is_some.false)
-    c.turn.new.self (line.Admit c.in_ok-next_entry.field-0 c.in_ok-copy.field-0
-    (c.len.result + 1)) c.turn.new.lines c.turn.ensures.limits c.turn.ensures.clock
-    c.in_err-turn.field-0.0 c.in_err-turn.ensures.gives c.self.invariant)
+    ap (λ b. position (λ n. bytes_eq n b) i.names) c.as_slice.ensures
+    ∙ name_place i.names (world i.server i.links.items) c.self.invariant.1 c.args.name.now
+    ∙ free (world i.server i.links.items) c.args.self.now c.args.name.now c.place_of.result
+    c.is_some.result c.self.view_is c.place_of.ensures c.is_some.ensures c.if-is_some.false
 
-pub returns-in_err-turn : goal.returns-in_err-turn
-returns-in_err-turn c =
+pub invariant_of-self-in_err-admit : goal.invariant_of-self-in_err-admit
+invariant_of-self-in_err-admit c =
+    let i = c.self.inside in (
+      subst (λ l. Fits c.admit.new.server.book.past l) (sym c.reserve.ensures.items)
+          (raw_fits_still i.server i.links.items c.args.name.now c.args.lines.now
+          (free (world i.server i.links.items) c.args.self.now c.args.name.now c.place_of.result
+          c.is_some.result c.self.view_is c.place_of.ensures c.is_some.ensures
+          c.if-is_some.false)
+          c.admit.new.server (line.Admit c.in_ok-next_entry.field-0 c.in_ok-copy.field-0
+          (c.len.result + 1)) c.admit.new.lines c.admit.ensures.limits c.admit.ensures.clock
+          c.in_err-admit.field-0.0 c.in_err-admit.ensures.gives c.self.invariant.0),
+      subst (λ ns. AreNames ns c.reserve.new.self.items) (sym c.in_err-admit.ensures.err)
+          (subst (λ l. AreNames i.names l) (sym c.reserve.ensures.items) c.self.invariant.1),
+    )
+
+pub returns-in_err-admit : goal.returns-in_err-admit
+returns-in_err-admit c =
     let i = c.self.inside in
-    let fault = c.in_err-turn.field-0.0 in
-    let p = err_from_is_err_and c.from_residual-in_err-turn.result
-    c.from_residual-in_err-turn.ensures.1 in
+    let fault = c.in_err-admit.field-0.0 in
+    let p = err_from_is_err_and c.from_residual-in_err-admit.result
+    c.from_residual-in_err-admit.ensures.1 in
     rw p.1 (rw p.2
     (subst (λ (w : LinksState). Stops (step w (Raw c.args.name.now)) c.args.lines.now fault
-    (world c.turn.new.self c.reserve.new.self.items) c.turn.new.lines) c.self.view_is
+    (world c.admit.new.server c.reserve.new.self.items) c.admit.new.lines) c.self.view_is
     (subst (λ l. Stops (step (world i.server i.links.items) (Raw c.args.name.now)) c.args.lines.now
-    fault (world c.turn.new.self l) c.turn.new.lines) (sym c.reserve.ensures.items)
+    fault (world c.admit.new.server l) c.admit.new.lines) (sym c.reserve.ensures.items)
     (raw_stops i.server i.links.items c.args.name.now c.args.lines.now
-    (free (world i.server i.links.items) c.args.self.now c.args.name.now c.place.result
-    c.is_some.result c.self.view_is c.place.ensures c.is_some.ensures c.if-is_some.false)
-    c.turn.new.self (line.Admit c.in_ok-next_entry.field-0 c.in_ok-copy.field-0
-    (c.len.result + 1)) c.turn.new.lines c.turn.ensures.limits c.turn.ensures.clock fault
-    c.in_err-turn.ensures.gives))))
+    (free (world i.server i.links.items) c.args.self.now c.args.name.now c.place_of.result
+    c.is_some.result c.self.view_is c.place_of.ensures c.is_some.ensures c.if-is_some.false)
+    c.admit.new.server (line.Admit c.in_ok-next_entry.field-0 c.in_ok-copy.field-0
+    (c.len.result + 1)) c.admit.new.lines c.admit.ensures.limits c.admit.ensures.clock fault
+    c.in_err-admit.ensures.gives))))
 
 pub invariant_of-self-2 : goal.invariant_of-self-2
 invariant_of-self-2 c =
     let i = c.self.inside in
+    let free = free (world i.server i.links.items) c.args.self.now c.args.name.now
+    c.place_of.result c.is_some.result c.self.view_is c.place_of.ensures c.is_some.ensures
+    c.if-is_some.false in
+    let id = c.len.result + 1 in
     let more : c.push_reserved.new.self.items ≡ i.links.items
-    ++ fresh_link (c.len.result + 1) c.args.name.now ∷ [] =
+    ++ fresh_link id c.args.name.now ∷ [] =
     c.push_reserved.ensures.items ∙ ap (λ l. l ++ c.new-link.result ∷ []) c.reserve.ensures.items
     ∙ ap (λ x. i.links.items ++ x ∷ []) (c.new-link.ensures
-    ∙ ap (fresh_link (c.len.result + 1)) c.in_ok-copy-2.ensures) in
-    subst (λ l. Fits c.turn.new.self.book.past l) (sym more)
-    (raw_fits i.server i.links.items c.args.name.now c.args.lines.now
-    (free (world i.server i.links.items) c.args.self.now c.args.name.now c.place.result
-    c.is_some.result c.self.view_is c.place.ensures c.is_some.ensures c.if-is_some.false)
-    c.turn.new.self (line.Admit c.in_ok-next_entry.field-0 c.in_ok-copy.field-0
-    (c.len.result + 1)) c.turn.new.lines c.turn.ensures.limits c.turn.ensures.clock
-    c.in_ok-turn.field-0 c.in_ok-turn.ensures.gives (c.len.result + 1) c.self.invariant
-    (omega (arith, c.len.ensures)) (cc (c.in_ok-next_entry.ensures, c.in_ok-copy.ensures)))
+    ∙ ap (fresh_link id) c.in_ok-copy-2.ensures) in
+    let names : c.admit.new.names ≡ i.names ++ c.args.name.now ∷ [] =
+    c.in_ok-admit.ensures.ok ∙ ap (λ b. i.names ++ b ∷ []) c.as_slice.ensures in (
+      subst (λ l. Fits c.admit.new.server.book.past l) (sym more)
+          (raw_fits i.server i.links.items c.args.name.now c.args.lines.now free
+          c.admit.new.server (line.Admit c.in_ok-next_entry.field-0 c.in_ok-copy.field-0 id)
+          c.admit.new.lines c.admit.ensures.limits c.admit.ensures.clock
+          c.in_ok-admit.field-0 c.in_ok-admit.ensures.gives id c.self.invariant.0
+          (omega (arith, c.len.ensures)) (cc (c.in_ok-next_entry.ensures, c.in_ok-copy.ensures))),
+      subst (λ ns. AreNames ns c.push_reserved.new.self.items) (sym names)
+          (subst (λ l. AreNames (i.names ++ c.args.name.now ∷ []) l) (sym more)
+          (made_named i.server i.links.items c.args.name.now c.args.lines.now free i.names id
+          c.self.invariant.1)),
+    )
 
 pub returns : goal.returns
 returns c =
     let i = c.self.inside in
+    let id = c.len.result + 1 in
     let more : c.push_reserved.new.self.items ≡ i.links.items
-    ++ fresh_link (c.len.result + 1) c.args.name.now ∷ [] =
+    ++ fresh_link id c.args.name.now ∷ [] =
     c.push_reserved.ensures.items ∙ ap (λ l. l ++ c.new-link.result ∷ []) c.reserve.ensures.items
     ∙ ap (λ x. i.links.items ++ x ∷ []) (c.new-link.ensures
-    ∙ ap (fresh_link (c.len.result + 1)) c.in_ok-copy-2.ensures) in
+    ∙ ap (fresh_link id) c.in_ok-copy-2.ensures) in
     subst (λ (w : LinksState). Ends (step w (Raw c.args.name.now)) c.args.lines.now
-    (world c.turn.new.self c.push_reserved.new.self.items) c.turn.new.lines) c.self.view_is
+    (world c.admit.new.server c.push_reserved.new.self.items) c.admit.new.lines) c.self.view_is
     (subst (λ l. Ends (step (world i.server i.links.items) (Raw c.args.name.now)) c.args.lines.now
-    (world c.turn.new.self l) c.turn.new.lines) (sym more)
+    (world c.admit.new.server l) c.admit.new.lines) (sym more)
     (raw_gives i.server i.links.items c.args.name.now c.args.lines.now
-    (free (world i.server i.links.items) c.args.self.now c.args.name.now c.place.result
-    c.is_some.result c.self.view_is c.place.ensures c.is_some.ensures c.if-is_some.false)
-    c.turn.new.self (line.Admit c.in_ok-next_entry.field-0 c.in_ok-copy.field-0
-    (c.len.result + 1)) c.turn.new.lines c.turn.ensures.limits c.turn.ensures.clock
-    c.in_ok-turn.field-0 c.in_ok-turn.ensures.gives (c.len.result + 1) c.self.invariant
+    (free (world i.server i.links.items) c.args.self.now c.args.name.now c.place_of.result
+    c.is_some.result c.self.view_is c.place_of.ensures c.is_some.ensures c.if-is_some.false)
+    c.admit.new.server (line.Admit c.in_ok-next_entry.field-0 c.in_ok-copy.field-0 id)
+    c.admit.new.lines c.admit.ensures.limits c.admit.ensures.clock
+    c.in_ok-admit.field-0 c.in_ok-admit.ensures.gives id c.self.invariant.0
     (omega (arith, c.len.ensures)) (cc (c.in_ok-next_entry.ensures, c.in_ok-copy.ensures))))

@@ -5,7 +5,7 @@ use Rattle.world_run.specs.WorldState.{WorldState, client_named}
 use Rattle.world_run.specs.Members.{world}
 use Rattle.world_run.specs.ClientMoves.{turn}
 use Rattle.world_run.specs.World.{StepGives, step}
-use Rattle.world_run.proofs.WorldCode.{named_gives, named_none}
+use Rattle.world_run.proofs.WorldCode.{named_gives, named_none, over_step}
 use Rattle.world_run.proofs.world.World.ask.Goals as goal
 
 pub returns-in_default : goal.returns-in_default
@@ -28,3 +28,18 @@ returns c =
     (ap (λ (w : WorldState). client_named c.args.name.now w.members) c.self.view_is
     ∙ sym c.client_named.ensures ∙ c.in-Some.is)
     c.index_mut.ensures.value c.ask.ensures)
+
+pub invariant_of-self : goal.invariant_of-self
+unfolding step
+invariant_of-self c =
+    let i = c.self.inside in
+    let w = world i.links i.members.items in
+    over_step i.living (event.Ask c.args.name.now c.args.query.now) w
+    (world i.links (slice_set i.members.items c.in-Some.at c.ask.new.self)) c.args.lines.now
+    c.ask.result c.ask.new.lines
+    (named_gives c.args.name.now (turn (call.Ask c.args.query.now))
+    i.links i.links i.members.items c.in-Some.at c.index_mut.result.now
+    c.ask.new.self c.args.lines.now c.ask.result c.ask.new.lines
+    (ap (λ (w : WorldState). client_named c.args.name.now w.members) c.self.view_is
+    ∙ sym c.client_named.ensures ∙ c.in-Some.is)
+    c.index_mut.ensures.value c.ask.ensures) c.self.invariant

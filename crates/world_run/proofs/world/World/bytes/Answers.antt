@@ -34,3 +34,19 @@ returns c =
     c.put.result (world c.put.new.self i.members.items) c.put.new.lines) c.self.view_is
     (code.unowned (λ o. said_step o name bytes w) name (Put name bytes) i.links c.put.new.self
     i.members.items c.args.lines.now c.put.result c.put.new.lines none refl c.put.ensures)
+
+pub invariant_of-self : goal.invariant_of-self
+unfolding step
+invariant_of-self c =
+    let i = c.self.inside in
+    let w = world i.links i.members.items in
+    let name = c.args.name.now in
+    let bytes = c.args.bytes.now in
+    let none = ap (λ (v : WorldState). client_of_link name v.members) c.self.view_is
+    ∙ sym c.client_of_link.ensures
+    ∙ code.a_none c.client_of_link.result (sym c.is_some.ensures ∙ c.if-is_some.false) in
+    code.over_step i.living (event.Bytes name bytes) w (world c.put.new.self i.members.items)
+    c.args.lines.now c.put.result c.put.new.lines
+    (code.unowned (λ o. said_step o name bytes w) name (Put name bytes) i.links c.put.new.self
+    i.members.items c.args.lines.now c.put.result c.put.new.lines none refl c.put.ensures)
+    c.self.invariant

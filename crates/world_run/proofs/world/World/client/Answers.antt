@@ -1,9 +1,11 @@
 use Rattle.std.proofs.Common.{◌≡◌, ◌++◌, [], ◌∷◌, true, false}
-use Rattle.std.proofs.Common.{length, sym, ap, subst, ◌∙◌}
+use Rattle.std.proofs.Common.{Result, Ok, Err, length, sym, ap, subst, ◌∙◌}
 use Rattle.std.proofs.lemmas.Result.{err_from_is_err_and}
 use Rattle.resp_stream.specs.Stream.{begun}
 use Rattle.shared_cache.specs.declared.log.ClientMode.{ClientMode}
 use Rattle.shared_cache.specs.ClientFields as fields
+use Rattle.script_text.specs.declared.event.Event.TheVariants as event
+use Rattle.server_links.specs.declared.fault.WorldFault.{WorldFault}
 use Rattle.server_links.specs.declared.fault.WorldFault.TheVariants.{NoMemory}
 use Rattle.server_links.specs.LinkEvent.{Raw}
 use Rattle.server_links.specs.LinkSteps as links
@@ -12,7 +14,7 @@ use Rattle.server_links.proofs.Outcomes.{Ends}
 use Rattle.serial_model.specs.declared.history.Limits.{Limits}
 use Rattle.world_run.specs.Members.{world}
 use Rattle.world_run.specs.World.{client_step, is_served, is_taken, setup_by, step}
-use Rattle.world_run.specs.WorldState.{WorldState, data_link, fresh_member}
+use Rattle.world_run.specs.WorldState.{AreOver, WorldState, data_link, fresh_member}
 use Rattle.world_run.proofs.WorldCode as code
 use Rattle.world_run.proofs.world.World.client.Goals as goal
 
@@ -161,7 +163,7 @@ returns c =
       place = p;
       state = c.in_ok-state.state;
       reader = begun;
-    }) c.count-place.ensures
+    }) c.count-place.ensures.count
     ∙ ap (λ (s : fields.Client). record {
       name = name;
       link = data_link name;
@@ -178,3 +180,95 @@ returns c =
     (code.client_ends name mode capacity w served free lines c.raw.new.self c.raw.new.lines m is
     (subst (λ l. Ends (links.step i.links (Raw l)) lines c.raw.new.self c.raw.new.lines)
     c.in_ok-link.ensures c.in_ok-raw.ensures)))
+
+pub invariant_of-self : goal.invariant_of-self
+invariant_of-self c =
+    let i = c.self.inside in
+    subst (λ ms. AreOver i.living (world i.links ms)) (sym c.reserve.ensures.items)
+    c.self.invariant
+
+pub invariant_of-self-in_err-raw : goal.invariant_of-self-in_err-raw
+unfolding step
+invariant_of-self-in_err-raw c =
+    let i = c.self.inside in
+    let name = c.args.name.now in
+    let mode = c.args.mode.now in
+    let capacity = c.args.capacity in
+    let lines = c.args.lines.now in
+    let fault = c.in_err-raw.field-0.0 in
+    let w = world i.links i.members.items in
+    let free = ap (is_taken name) c.self.view_is ∙ sym c.is_taken.ensures ∙ c.if-is_taken.false in
+    let r : Result (Unit {0}) WorldFault = Err fault in
+    code.over_step i.living (event.Client name mode capacity) w
+    (world c.raw.new.self c.reserve.new.self.items) lines r c.raw.new.lines
+    (subst (λ ms. Stops (client_step name mode capacity w) lines fault
+    (world c.raw.new.self ms) c.raw.new.lines) (sym c.reserve.ensures.items)
+    (code.client_stops name mode capacity w
+    (sym c.is_served.ensures ∙ c.if-not-is_served.false) free lines c.raw.new.self c.raw.new.lines
+    fault
+    (subst (λ l. Stops (links.step i.links (Raw l)) lines fault c.raw.new.self c.raw.new.lines)
+    c.in_ok-link.ensures c.in_err-raw.ensures))) c.self.invariant
+
+pub invariant_of-self-2 : goal.invariant_of-self-2
+unfolding step
+invariant_of-self-2 c =
+    let i = c.self.inside in
+    let name = c.args.name.now in
+    let mode = c.args.mode.now in
+    let capacity = c.args.capacity in
+    let lines = c.args.lines.now in
+    let w = world i.links i.members.items in
+    let served = sym c.is_served.ensures ∙ c.if-not-is_served.false in
+    let free = ap (is_taken name) c.self.view_is ∙ sym c.is_taken.ensures ∙ c.if-is_taken.false in
+    let m = c.new-member.result in
+    let setup = c.in_ok-state.ensures
+    ∙ ap (λ (l : Limits). record {
+      setup = record {
+        mode = code.one_mode;
+        capacity = capacity;
+        log_max = l.history_max;
+      };
+      past = [];
+    }) c.limits.ensures.same
+    ∙ ap (λ (k : ClientMode). record { setup = setup_by w k capacity; past = [] })
+    (sym (code.served_mode mode served)) in
+    let is : m ≡ fresh_member name (length i.links.links) (setup_by w mode capacity) =
+    c.new-member.ensures
+    ∙ ap (λ n. record {
+      name = n;
+      link = c.in_ok-copy-2.field-0;
+      place = c.count-place.result;
+      state = c.in_ok-state.state;
+      reader = begun;
+    }) c.in_ok-copy.ensures
+    ∙ ap (λ l. record {
+      name = name;
+      link = l;
+      place = c.count-place.result;
+      state = c.in_ok-state.state;
+      reader = begun;
+    }) (c.in_ok-copy-2.ensures ∙ c.in_ok-link.ensures)
+    ∙ ap (λ p. record {
+      name = name;
+      link = data_link name;
+      place = p;
+      state = c.in_ok-state.state;
+      reader = begun;
+    }) c.count-place.ensures.count
+    ∙ ap (λ (s : fields.Client). record {
+      name = name;
+      link = data_link name;
+      place = length i.links.links;
+      state = s;
+      reader = begun;
+    }) setup in
+    let more : c.push_reserved.new.self.items ≡ i.members.items ++ m ∷ [] =
+    c.push_reserved.ensures.items ∙ ap (λ l. l ++ m ∷ []) c.reserve.ensures.items in
+    let r : Result (Unit {0}) WorldFault = Ok (tt {0}) in
+    code.over_step i.living (event.Client name mode capacity) w
+    (world c.raw.new.self c.push_reserved.new.self.items) lines r c.raw.new.lines
+    (subst (λ ms. Ends (client_step name mode capacity w) lines (world c.raw.new.self ms)
+    c.raw.new.lines) (sym more)
+    (code.client_ends name mode capacity w served free lines c.raw.new.self c.raw.new.lines m is
+    (subst (λ l. Ends (links.step i.links (Raw l)) lines c.raw.new.self c.raw.new.lines)
+    c.in_ok-link.ensures c.in_ok-raw.ensures))) c.self.invariant

@@ -38,3 +38,33 @@ returns-in-None c =
     (world c.play.new.self i.members.items) c.play.new.lines) c.self.view_is
     (code.unowned (λ o. flow_step o name w) name (Over name moves.Flow) i.links c.play.new.self
     i.members.items c.args.lines.now c.play.result c.play.new.lines none refl c.play.ensures)
+
+pub invariant_of-self : goal.invariant_of-self
+unfolding step
+invariant_of-self c =
+    let i = c.self.inside in
+    let w = world i.links i.members.items in
+    let name = c.args.name.now in
+    let owner = ap (λ (v : WorldState). client_of_link name v.members) c.self.view_is
+    ∙ sym c.client_of_link.ensures ∙ c.in-Some.is in
+    code.over_step i.living (event.Flow name) w
+    (world c.flow.new.links (slice_set i.members.items c.in-Some.at c.flow.new.self))
+    c.args.lines.now c.flow.result c.flow.new.lines
+    (code.owned (λ o. flow_step o name w) name client.flow
+    i.links c.flow.new.links i.members.items c.in-Some.at c.index_mut.result.now
+    c.flow.new.self c.args.lines.now c.flow.result c.flow.new.lines owner refl
+    c.index_mut.ensures.value c.flow.ensures.gives) c.self.invariant
+
+pub invariant_of-self-in-None : goal.invariant_of-self-in-None
+unfolding step
+invariant_of-self-in-None c =
+    let i = c.self.inside in
+    let w = world i.links i.members.items in
+    let name = c.args.name.now in
+    let none = ap (λ (v : WorldState). client_of_link name v.members) c.self.view_is
+    ∙ sym c.client_of_link.ensures ∙ c.in-None.is in
+    code.over_step i.living (event.Flow name) w (world c.play.new.self i.members.items)
+    c.args.lines.now c.play.result c.play.new.lines
+    (code.unowned (λ o. flow_step o name w) name (Over name moves.Flow) i.links
+    c.play.new.self i.members.items c.args.lines.now c.play.result c.play.new.lines none refl
+    c.play.ensures) c.self.invariant

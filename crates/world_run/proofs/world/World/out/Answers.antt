@@ -1,10 +1,15 @@
-use Rattle.std.proofs.Common.{Some, Ok, slice_set, not, refl, sym, ap, subst, ◌∙◌, append-nil}
-use Rattle.script_text.specs.declared.event.Event.TheVariants as event
+use Rattle.std.proofs.Common.{◌≡◌, ℕ, List, Option, Some, None, append-nil, slice_set, refl, sym}
+use Rattle.std.proofs.Common.{ap, subst, ◌∙◌}
+use Rattle.std.specs.Prelude.{not}
+use Rattle.script_text.specs.declared.line.Line.{Line}
+use Rattle.server_links.specs.declared.fault.WorldFault.TheVariants.{NoName, NothingThere}
 use Rattle.server_links.specs.LinkSteps.{place_of}
-use Rattle.server_links.specs.Outcome.{Gives}
+use Rattle.server_links.specs.Outcome.{Stops}
+use Rattle.server_links.proofs.Outcomes.{Ends}
+use Rattle.script_text.specs.declared.event.Event.TheVariants as event
 use Rattle.world_run.specs.ClientMoves as client
 use Rattle.world_run.specs.Members.{world}
-use Rattle.world_run.specs.World.{StepGives, Stepped, out_step, raw_out, step}
+use Rattle.world_run.specs.World.{StepGives, out_step, raw_out, step}
 use Rattle.world_run.specs.WorldState.{WorldState, client_of_link}
 use Rattle.world_run.proofs.WorldCode as code
 use Rattle.world_run.proofs.world.World.out.Goals as goal
@@ -18,8 +23,8 @@ returns-in-Some c =
     let name = c.args.name.now in
     let owner = ap (λ (v : WorldState). client_of_link name v.members) c.self.view_is
     ∙ sym c.client_of_link.ensures ∙ c.in-Some.is in
-    subst (λ (v : WorldState). StepGives v
-    (event.Out name c.args.count) c.args.lines.now c.out.result
+    subst (λ (v : WorldState). StepGives v (event.Out name c.args.count) c.args.lines.now
+    c.out.result
     (world c.out.new.links (slice_set i.members.items c.in-Some.at c.out.new.self))
     c.out.new.lines) c.self.view_is
     (code.owned (λ o. out_step o name c.args.count w) name (client.out c.args.count)
@@ -27,38 +32,73 @@ returns-in-Some c =
     c.out.new.self c.args.lines.now c.out.result c.out.new.lines owner refl
     c.index_mut.ensures.value c.out.ensures.gives)
 
+module _ (w : WorldState) (name : List ℕ) (lines : List Line)
+    (free : client_of_link name w.members ≡ None) where
+  nowhere : (count : Option ℕ) → place_of name w.links ≡ None
+      → Stops (step w (event.Out name count)) lines NoName w lines
+  unfolding step
+  nowhere count none =
+      subst (λ c. Stops (out_step c name count w) lines NoName w lines) (sym free)
+      (subst (λ p. Stops (raw_out p count w) lines NoName w lines) (sym none)
+      (refl, refl, sym (append-nil lines)))
+
+  module _ (at : ℕ) (there : place_of name w.links ≡ Some at) where
+    nothing : Ends (step w (event.Out name None)) lines w lines
+    unfolding step
+    nothing =
+        subst (λ c. Ends (out_step c name None w) lines w lines) (sym free)
+        (subst (λ p. Ends (raw_out p None w) lines w lines) (sym there)
+        (refl, refl, sym (append-nil lines)))
+
+    too_many : (n : ℕ) → Stops (step w (event.Out name (Some n))) lines NothingThere w lines
+    unfolding step
+    too_many n =
+        subst (λ c. Stops (out_step c name (Some n) w) lines NothingThere w lines) (sym free)
+        (subst (λ p. Stops (raw_out p (Some n) w) lines NothingThere w lines) (sym there)
+        (refl, refl, sym (append-nil lines)))
+
 pub returns-in-None : goal.returns-in-None
-unfolding step
 returns-in-None c =
-    let w = c.args.self.now in
     let name = c.args.name.now in
-    let none = sym c.client_of_link.ensures ∙ c.in-None.is in
-    let nowhere = ap (λ (v : WorldState). place_of name v.links) (sym c.self.view_is)
+    nowhere c.args.self.now name c.args.lines.now (sym c.client_of_link.ensures ∙ c.in-None.is)
+    c.args.count (sym (ap (λ (v : WorldState). place_of name v.links) c.self.view_is)
     ∙ sym c.place_of.ensures
-    ∙ code.a_none c.place_of.result (c.is_none.ensures ∙ ap not c.if-is_none.true) in
-    code.no_name w (out_step (client_of_link name w.members) name c.args.count w)
-    c.args.lines.now
-    (ap (λ o. out_step o name c.args.count w) none
-    ∙ ap (λ p. raw_out p c.args.count w) nowhere)
+    ∙ code.a_none c.place_of.result (c.is_none.ensures ∙ ap not c.if-is_none.true))
 
 pub returns-after-count : goal.returns-after-count
-unfolding step
 returns-after-count c =
     let w = c.args.self.now in
     let name = c.args.name.now in
     let lines = c.args.lines.now in
-    let none = sym c.client_of_link.ensures ∙ c.in-None-2.is in
-    let at = code.a_some c.place_of.result (c.is_none.ensures ∙ ap not c.if-is_none.false) in
-    let there = ap (λ (v : WorldState). place_of name v.links) (sym c.self.view_is)
-    ∙ sym c.place_of.ensures ∙ at.1 in
-    let is = ap (λ o. out_step o name c.args.count w) none
-    ∙ ap (λ p. raw_out p c.args.count w) there in
+    let free = sym c.client_of_link.ensures ∙ c.in-None-2.is in
+    let some = code.a_some c.place_of.result (c.is_none.ensures ∙ ap not c.if-is_none.false) in
+    let there : place_of name w.links ≡ Some some.0 =
+    sym (ap (λ (v : WorldState). place_of name v.links) c.self.view_is)
+    ∙ sym c.place_of.ensures ∙ some.1 in
     elim c.match-count.branch [
       | in-None-count b ↦
-          rw b.result-is (subst (λ (m : Stepped). Gives m lines (Ok (tt {0})) w lines)
-          (sym (is ∙ ap (λ k. raw_out (Some at.0) k w) b.in-None-count.is))
-          (refl, refl, sym (append-nil lines)))
+          subst (λ r. StepGives w (event.Out name c.args.count) lines r w lines) (sym b.result-is)
+          (subst (λ n. Ends (step w (event.Out name n)) lines w lines) (sym b.in-None-count.is)
+          (nothing w name lines free some.0 there))
       | in-Some-count b ↦
-          rw b.result-is (code.nothing_there w (out_step (client_of_link name w.members) name
-          c.args.count w) lines (is ∙ ap (λ k. raw_out (Some at.0) k w) b.in-Some-count.is))
+          subst (λ r. StepGives w (event.Out name c.args.count) lines r w lines) (sym b.result-is)
+          (subst (λ n. Stops (step w (event.Out name n)) lines NothingThere w lines)
+          (sym b.in-Some-count.is)
+          (too_many w name lines free some.0 there b.in-Some-count.field-0))
     ]
+
+pub invariant_of-self : goal.invariant_of-self
+unfolding step
+invariant_of-self c =
+    let i = c.self.inside in
+    let w = world i.links i.members.items in
+    let name = c.args.name.now in
+    let owner = ap (λ (v : WorldState). client_of_link name v.members) c.self.view_is
+    ∙ sym c.client_of_link.ensures ∙ c.in-Some.is in
+    code.over_step i.living (event.Out name c.args.count) w
+    (world c.out.new.links (slice_set i.members.items c.in-Some.at c.out.new.self))
+    c.args.lines.now c.out.result c.out.new.lines
+    (code.owned (λ o. out_step o name c.args.count w) name (client.out c.args.count)
+    i.links c.out.new.links i.members.items c.in-Some.at c.index_mut.result.now
+    c.out.new.self c.args.lines.now c.out.result c.out.new.lines owner refl
+    c.index_mut.ensures.value c.out.ensures.gives) c.self.invariant

@@ -35,3 +35,18 @@ returns c =
     c.raw.result t c.raw.new.lines) (sym free)
     (code.links_give (Raw name) i.links c.raw.new.self i.members.items c.args.lines.now
     c.raw.result c.raw.new.lines c.raw.ensures))
+
+pub invariant_of-self : goal.invariant_of-self
+unfolding step
+invariant_of-self c =
+    let i = c.self.inside in
+    let w = world i.links i.members.items in
+    let t = world c.raw.new.self i.members.items in
+    let name = c.args.name.now in
+    let free = ap (is_taken name) c.self.view_is ∙ sym c.is_taken.ensures ∙ c.if-is_taken.false in
+    code.over_step i.living (event.Raw name) w t c.args.lines.now c.raw.result c.raw.new.lines
+    (subst (λ b. Gives (cond b (refuses w taken.NameTaken) (links_step
+    (Raw name) w)) c.args.lines.now
+    c.raw.result t c.raw.new.lines) (sym free)
+    (code.links_give (Raw name) i.links c.raw.new.self i.members.items c.args.lines.now
+    c.raw.result c.raw.new.lines c.raw.ensures)) c.self.invariant

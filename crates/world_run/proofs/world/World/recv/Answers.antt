@@ -41,3 +41,34 @@ returns-in-None c =
     (code.unowned (λ o. recv_step o name c.args.count w) name (Over name
     (moves.Recv c.args.count)) i.links c.play.new.self
     i.members.items c.args.lines.now c.play.result c.play.new.lines none refl c.play.ensures)
+
+pub invariant_of-self : goal.invariant_of-self
+unfolding step
+invariant_of-self c =
+    let i = c.self.inside in
+    let w = world i.links i.members.items in
+    let name = c.args.name.now in
+    let owner = ap (λ (v : WorldState). client_of_link name v.members) c.self.view_is
+    ∙ sym c.client_of_link.ensures ∙ c.in-Some.is in
+    code.over_step i.living (event.Recv name c.args.count) w
+    (world c.receive.new.links (slice_set i.members.items c.in-Some.at c.receive.new.self))
+    c.args.lines.now c.receive.result c.receive.new.lines
+    (code.owned (λ o. recv_step o name c.args.count w) name (client.receive c.args.count)
+    i.links c.receive.new.links i.members.items c.in-Some.at c.index_mut.result.now
+    c.receive.new.self c.args.lines.now c.receive.result c.receive.new.lines owner refl
+    c.index_mut.ensures.value c.receive.ensures.gives) c.self.invariant
+
+pub invariant_of-self-in-None : goal.invariant_of-self-in-None
+unfolding step
+invariant_of-self-in-None c =
+    let i = c.self.inside in
+    let w = world i.links i.members.items in
+    let name = c.args.name.now in
+    let none = ap (λ (v : WorldState). client_of_link name v.members) c.self.view_is
+    ∙ sym c.client_of_link.ensures ∙ c.in-None.is in
+    code.over_step i.living (event.Recv name c.args.count) w (world c.play.new.self i.members.items)
+    c.args.lines.now c.play.result c.play.new.lines
+    (code.unowned (λ o. recv_step o name c.args.count w) name (Over name
+    (moves.Recv c.args.count)) i.links
+    c.play.new.self i.members.items c.args.lines.now c.play.result c.play.new.lines none refl
+    c.play.ensures) c.self.invariant

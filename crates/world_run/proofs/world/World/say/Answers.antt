@@ -76,3 +76,23 @@ returns c =
     i.members.items c.args.lines.now c.put.result c.put.new.lines none refl
     (subst (λ b. Gives (links.step i.links (Put name b)) c.args.lines.now c.put.result
     c.put.new.self c.put.new.lines) written c.put.ensures))
+
+pub invariant_of-self : goal.invariant_of-self
+unfolding step
+invariant_of-self c =
+    let i = c.self.inside in
+    let w = world i.links i.members.items in
+    let t = world c.put.new.self i.members.items in
+    let name = c.args.name.now in
+    let bytes = request_spelling c.args.words.now in
+    let none = ap (λ (v : WorldState). client_of_link name v.members) c.self.view_is
+    ∙ sym c.client_of_link.ensures
+    ∙ code.a_none c.client_of_link.result (sym c.is_some.ensures ∙ c.if-is_some.false) in
+    let written : c.as_slice.result.now ≡ bytes = c.as_slice.ensures.value
+    ∙ c.in_ok-put_request.ensures.ok ∙ ap (λ l. l ++ bytes) c.new-request.ensures.items in
+    code.over_step i.living (event.Say name c.args.words.now) w t c.args.lines.now c.put.result
+    c.put.new.lines
+    (code.unowned (λ o. said_step o name bytes w) name (Put name bytes) i.links c.put.new.self
+    i.members.items c.args.lines.now c.put.result c.put.new.lines none refl
+    (subst (λ b. Gives (links.step i.links (Put name b)) c.args.lines.now c.put.result
+    c.put.new.self c.put.new.lines) written c.put.ensures)) c.self.invariant

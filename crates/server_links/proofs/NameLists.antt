@@ -1,0 +1,218 @@
+-- Lists of names: what a table of names finds, and the names of links in order.
+use Rattle.std.proofs.Common.{◌≡◌, ◌+◌, ◌<◌, ℕ, List, [], ◌∷◌, ◌++◌, Bool, true, false, cond}
+use Rattle.std.proofs.Common.{Option, Some, None, Vec, Global, zero, suc, map, length, not, ◌||◌}
+use Rattle.std.proofs.Common.{slice_index_or, slice_set, refl, sym, ap, ◌∙◌, arith, inl, inr}
+use Rattle.std.proofs.Common.{length-append}
+use Rattle.std.specs.Prelude.{◌↔◌, nat_lt, option_to_list, IsSome, position}
+use Rattle.std.specs.List.{list_any, position_or_len}
+use Rattle.std.specs.Str.{bytes_eq}
+use Rattle.std.proofs.lemmas.Bool.{cases_lt}
+use Rattle.std.proofs.lemmas.Bool.Decides.{nat_tests}
+use Rattle.std.proofs.lemmas.List.{get_or_push, get_or_append_left, length-map, map-append}
+use Rattle.std.proofs.lemmas.List.Quantifiers.{position-Some}
+use Rattle.std.proofs.lemmas.List.Sums.{prefix_len_passes}
+use Rattle.std.proofs.lemmas.Slice.Eq.{bytes_eq-Decides}
+use Rattle.indexmap.specs.IndexSet.{insert_key}
+use Rattle.server_links.specs.declared.link.Link.{Link}
+use Rattle.server_links.specs.LinkSteps.{place_of}
+use Rattle.server_links.specs.LinksState.{AreApart, AreNames, LinksState, at_place, names}
+use Rattle.server_links.proofs.Noting.{last_same}
+
+-- ---- the first that passes
+
+module _ {X : Type 0} where
+  first_map : {Y : Type 0} → (f : X → Y) (p : Y → Bool) (xs : List X)
+      → position_or_len p (map f xs) ≡ position_or_len (λ x. p (f x)) xs
+  first_map f p [] = refl
+  first_map f p (x ∷ xs) = ap (λ n. cond (not (p (f x))) (1 + n) 0) (first_map f p xs)
+
+  pub position_map : {Y : Type 0} → (f : X → Y) (p : Y → Bool) (xs : List X)
+      → position p (map f xs) ≡ position (λ x. p (f x)) xs
+  position_map f p xs =
+      let n = position_or_len (λ x. p (f x)) xs in
+      ap (λ k. cond (nat_lt k (length (map f xs))) (Some k) None) (first_map f p xs)
+      ∙ ap (λ l. cond (nat_lt n l) (Some n) None) (length-map xs f)
+
+  pub position_same : (p q : X → Bool) → ((x : X) → p x ≡ q x) → (xs : List X)
+      → position p xs ≡ position q xs
+  position_same p q e xs = λ i. position (λ x. e x i) xs
+
+  -- where none is found, none passes
+  pub nowhere : (p : X → Bool) (xs : List X) (d : X) → position p xs ≡ None → (i : ℕ)
+      → i < length xs → p (slice_index_or xs i d) ≡ true → ⊥
+  nowhere p xs d none i lt is =
+      let l = position_or_len p xs in
+      let over : nat_lt l (length xs) ≡ false =
+      elim (nat_lt l (length xs)) as (λ b. cond b (Some l) None ≡ None
+      → b ≡ false) [ true ↦ λ e. absurd cc | false ↦ λ e. refl ] none in
+      let passed : not (p (slice_index_or xs i d)) ≡ true =
+      prefix_len_passes (λ x. not (p x)) xs i d (grind (arith, nat_tests)) in
+      absurd (let no : not true ≡ true = ap not (sym is) ∙ passed in cc)
+
+  -- nor does one more
+  pub none_more : (p : X → Bool) (xs : List X) (x : X) → position p xs ≡ None → p x ≡ false
+      → position p (xs ++ x ∷ []) ≡ None
+  none_more p xs x none off =
+      let size = length-append xs (x ∷ []) in
+      elim (position p (xs ++ x ∷ [])) as (λ q. position p (xs ++ x ∷ []) ≡ q → q ≡ None) [
+        | None ↦ λ e. refl
+        | Some k ↦ λ e.
+            let found = position-Some p (xs ++ x ∷ []) k x e in
+            elim (cases_lt k (length xs)) [
+              | inl lt ↦ absurd (nowhere p xs x none k lt
+                  (ap p (sym (get_or_append_left xs (x ∷ []) x k lt)) ∙ found.1))
+              | inr ge ↦ absurd (let last : k ≡ length xs = omega (arith, ge, found.0, size) in
+                  let no : true ≡ false = sym found.1 ∙ ap p (get_or_push xs x x k (sym last))
+                  ∙ off in cc)
+            ]
+      ] refl
+
+  none_passes : (p : X → Bool) (d : X) (xs : List X)
+      → ((i : ℕ) → i < length xs → p (slice_index_or xs i d) ≡ true → ⊥) → list_any p xs ≡ false
+  none_passes p d [] h = refl
+  none_passes p d (x ∷ xs) h =
+      elim (p x) as (λ b. p x ≡ b → (b || list_any p xs) ≡ false) [
+        | true ↦ λ e. absurd (h 0 (omega arith) e)
+        | false ↦ λ e. none_passes p d xs (λ i lt. h (suc i) (omega (arith, lt)))
+      ] refl
+
+-- ---- a table of names
+
+pub turned : (a b : List ℕ) → bytes_eq a b ≡ bytes_eq b a
+turned a b =
+    elim (bytes_eq a b) as (λ c. bytes_eq a b ≡ c → c ≡ bytes_eq b a) [
+      | true ↦ λ e. sym ((bytes_eq-Decides b a).1 (sym ((bytes_eq-Decides a b).0 e)))
+      | false ↦ λ e. elim (bytes_eq b a) as (λ d. bytes_eq b a ≡ d → false ≡ d) [
+        | true ↦ λ k. absurd (let same : bytes_eq a b
+            ≡ true = (bytes_eq-Decides a b).1 (sym ((bytes_eq-Decides b a).0 k)) in cc)
+        | false ↦ λ k. refl
+      ] refl
+    ] refl
+
+abbrev Keys : Type 0
+Keys = List (Vec ℕ Global)
+
+abbrev same : Vec ℕ Global → Vec ℕ Global → Bool
+same a b = bytes_eq a.items b.items
+
+abbrev pub plain : Keys → List (List ℕ)
+plain keys = map (λ k. k.items) keys
+
+pub find_name : (name : List ℕ) (keys : Keys)
+    → position (λ k. bytes_eq name k.items) keys ≡ position (λ n. bytes_eq n name) (plain keys)
+find_name name keys =
+    position_same (λ k. bytes_eq name k.items) (λ k. bytes_eq k.items name)
+    (λ k. turned name k.items) keys
+    ∙ sym (position_map (λ k. k.items) (λ n. bytes_eq n name) keys)
+
+-- a name that is not there goes last
+pub name_added : (k : Vec ℕ Global) (keys : Keys)
+    → position (λ n. bytes_eq n k.items) (plain keys) ≡ None
+    → plain (insert_key same keys k) ≡ plain keys ++ k.items ∷ []
+name_added k keys none =
+    let apart : list_any (same k) keys ≡ false =
+    none_passes (same k) k keys (nowhere (same k) keys k (find_name k.items keys ∙ none)) in
+    ap (λ b. plain (cond b keys (keys ++ k ∷ []))) apart ∙ map-append (λ k. k.items) keys (k ∷ [])
+
+-- the last one is taken out
+pub name_gone : (before : List (List ℕ)) (name : List ℕ) (old new : Keys)
+    (r : Option (Vec ℕ Global)) → plain old ≡ before ++ name ∷ []
+    → old ≡ new ++ option_to_list r → (IsSome r ↔ (0 < length old)) → plain new ≡ before
+name_gone before name old new None is items some =
+    absurd (let no : IsSome {T = Vec ℕ Global} None =
+    some.1 (omega (
+      arith,
+      length-map old (λ k. k.items),
+      ap length is,
+      length-append before (name ∷ []),
+    )) in cc)
+name_gone before name old new (Some k) is items some =
+    last_same (plain new) before k.items name
+    (sym (map-append (λ k. k.items) new (k ∷ [])) ∙ ap plain (sym items) ∙ is)
+
+-- ---- the names of links
+
+pub names_at : (links : List Link) (at : ℕ) → at < length links
+    → slice_index_or (names links) at [] ≡ (at_place links at).name
+names_at [] at lt = absurd (omega (arith, lt))
+names_at (x ∷ links) zero lt = refl
+names_at (x ∷ links) (suc at) lt = names_at links at (omega (arith, lt))
+
+pub names_set : (links : List Link) (at : ℕ) (new : Link) → new.name ≡ (at_place links at).name
+    → names (slice_set links at new) ≡ names links
+names_set [] at new e = refl
+names_set (x ∷ links) zero new e = ap (λ n. n ∷ names links) e
+names_set (x ∷ links) (suc at) new e = ap (λ l. x.name ∷ l) (names_set links at new e)
+
+pub names_more : (links : List Link) (new : Link) → names (links ++ new ∷ [])
+    ≡ names links ++ new.name ∷ []
+names_more links new = map-append (λ (l : Link). l.name) links (new ∷ [])
+
+pub names_size : (links : List Link) → length (names links) ≡ length links
+names_size links = length-map links (λ (l : Link). l.name)
+
+-- ---- each name is one link's
+
+apart_more : (ns : List (List ℕ)) (name : List ℕ) → AreApart ns
+    → ((i : ℕ) → i < length ns → slice_index_or ns i [] ≡ name → ⊥) → AreApart (ns ++ name ∷ [])
+apart_more ns name apart new i j li lj e =
+    let size = length-append ns (name ∷ []) in
+    let old : (k : ℕ) → k < length ns → slice_index_or (ns ++ name ∷ []) k []
+    ≡ slice_index_or ns k [] = λ k lt. get_or_append_left ns (name ∷ []) [] k lt in
+    let last : (k : ℕ) → k ≡ length ns → slice_index_or (ns ++ name ∷ []) k [] ≡ name =
+    λ k is. get_or_push ns name [] k (sym is) in
+    elim (cases_lt i (length ns)) [
+      | inl bi ↦ elim (cases_lt j (length ns)) [
+        | inl bj ↦ apart i j bi bj (sym (old j bj) ∙ e ∙ old i bi)
+        | inr aj ↦ absurd (new i bi (sym (old i bi) ∙ sym e ∙ last j (omega (arith, aj, lj, size))))
+      ]
+      | inr ai ↦ elim (cases_lt j (length ns)) [
+        | inl bj ↦ absurd (new j bj (sym (old j bj) ∙ e ∙ last i (omega (arith, ai, li, size))))
+        | inr aj ↦ omega (arith, ai, li, aj, lj, size)
+      ]
+    ]
+
+module _ (ns : List (List ℕ)) (w : LinksState) (are : AreNames ns w.links) where
+  -- a link is found among the names
+  pub name_place : (name : List ℕ) → position (λ n. bytes_eq n name) ns ≡ place_of name w
+  name_place name =
+      ap (position (λ n. bytes_eq n name)) are.all
+      ∙ position_map (λ (l : Link). l.name) (λ n. bytes_eq n name) w.links
+
+  -- at the place where it is
+  pub own_place : (at : ℕ) → at < length w.links
+      → place_of (at_place w.links at).name w ≡ Some at
+  own_place at below =
+      let name = (at_place w.links at).name in
+      let test = λ (n : List ℕ). bytes_eq n name in
+      let size : length ns ≡ length w.links = ap length are.all ∙ names_size w.links in
+      let here : slice_index_or ns at [] ≡ name =
+      ap (λ l. slice_index_or l at []) are.all ∙ names_at w.links at below in
+      sym (name_place name)
+      ∙ elim (position test ns) as (λ p. position test ns ≡ p → p ≡ Some at) [
+        | None ↦ λ none. absurd (nowhere test ns [] none at (omega (arith, below, size))
+            ((bytes_eq-Decides (slice_index_or ns at []) name).1 here))
+        | Some k ↦ λ is.
+            let found = position-Some test ns k [] is in
+            ap Some (are.apart at k (omega (arith, below, size)) found.0
+            ((bytes_eq-Decides (slice_index_or ns k []) name).0 found.1 ∙ sym here))
+      ] refl
+
+module _ (ns : List (List ℕ)) (links : List Link) (are : AreNames ns links) where
+  -- a link is made
+  pub named_more : (new : Link) → position (λ n. bytes_eq n new.name) ns ≡ None
+      → AreNames (ns ++ new.name ∷ []) (links ++ new ∷ [])
+  named_more new free = record {
+    all = ap (λ l. l ++ new.name ∷ []) are.all ∙ sym (names_more links new);
+    apart = apart_more ns new.name are.apart
+        (λ i lt e. nowhere (λ n. bytes_eq n new.name) ns [] free i lt
+        ((bytes_eq-Decides (slice_index_or ns i []) new.name).1 e));
+  }
+
+  -- a link changes, and keeps its name
+  pub named_set : (at : ℕ) (new : Link) → new.name ≡ (at_place links at).name
+      → AreNames ns (slice_set links at new)
+  named_set at new same = record {
+    all = are.all ∙ sym (names_set links at new same);
+    apart = are.apart;
+  }

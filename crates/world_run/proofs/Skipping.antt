@@ -1,0 +1,49 @@
+-- What is kept of the links that are over, and what is told of them.
+use Rattle.std.proofs.Common.{◌≡◌, ◌<◌, ◌≤◌, ℕ, zero, suc, List, [], ◌∷◌, ◌++◌, true, false}
+use Rattle.std.proofs.Common.{Result, Ok, Err}
+use Rattle.std.proofs.Common.{slice_index_or, refl, ap, arith, eq-eqb, inl, inr, max}
+use Rattle.std.specs.Prelude.{◌==◌, OnOk, OnErr}
+use Rattle.std.proofs.lemmas.Bool.{cases_lt, eqb-true}
+use Rattle.world_run.specs.WorldState.{AreOver, IsOver, WorldState}
+
+-- one more place is noted, or want of memory leaves it as it was
+pub noted : {A E : Type 0} → (old new : List ℕ) (over next : ℕ) (r : Result A E) (w : WorldState)
+    → OnOk r (slice_index_or new over 0 ≡ next)
+    → OnErr r (slice_index_or new over 0 ≡ slice_index_or old over 0)
+    → ((k : ℕ) → (k ≡ over → ⊥) → slice_index_or new k 0 ≡ slice_index_or old k 0)
+    → ((k : ℕ) → over ≤ k → k < next → IsOver w k) → AreOver old w → AreOver new w
+noted old new over next r w ok err others run are from at order below =
+    elim (from == over) as (λ b. (from == over) ≡ b → IsOver w at) [
+      | true ↦ λ e.
+          let same = eqb-true from over e in
+          let moved : slice_index_or new from 0 ≡ slice_index_or new over 0 =
+          ap (λ k. slice_index_or new k 0) same in
+          elim r as (λ r. OnOk r (slice_index_or new over 0 ≡ next)
+          → OnErr r (slice_index_or new over 0 ≡ slice_index_or old over 0) → IsOver w at) [
+            | Ok done ↦ λ n o. run at (omega (arith, order, same)) (omega (arith, below, moved, n))
+            | Err e ↦ λ n o. are from at order (let back : slice_index_or old from 0
+                ≡ slice_index_or old over 0 = ap (λ k. slice_index_or old k 0) same in
+                omega (arith, below, moved, o, back))
+          ] ok err
+      | false ↦ λ e. are from at order (let other : slice_index_or new from 0
+          ≡ slice_index_or old from 0 =
+          others from (λ q. let t : (from == over) ≡ true = eq-eqb from over q in cc) in
+          omega (arith, below, other))
+    ] refl
+
+-- up to the place that is told
+pub run_on : (next : List ℕ) (over at to : ℕ) (w : WorldState) → AreOver next w
+    → to ≤ max at (slice_index_or next at 0)
+    → ((k : ℕ) → over ≤ k → k < at → IsOver w k) → (k : ℕ) → over ≤ k → k < to → IsOver w k
+run_on next over at to w are is run k order below = elim (cases_lt k at) [
+  | inl lt ↦ run k order lt
+  | inr ge ↦ are at k ge (omega (arith, below, is, ge))
+]
+
+-- nothing is known of one more place
+pub padded : (next : List ℕ) (k : ℕ)
+    → slice_index_or (next ++ 0 ∷ []) k 0 ≡ slice_index_or next k 0
+padded [] zero = refl
+padded [] (suc k) = refl
+padded (n ∷ next) zero = refl
+padded (n ∷ next) (suc k) = padded next k
