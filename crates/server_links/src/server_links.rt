@@ -241,7 +241,7 @@ fn admit(
     match server.turn(BookCall::Admit, line, lines) {
         Ok(reply) => Ok(reply),
         Err(fault) => {
-            let _ = names.place(name);
+            names.remove_last();
             Err(fault)
         }
     }
