@@ -1,0 +1,4 @@
+mod Alone
+mod Steps
+mod WithBytes
+mod WithNumber

@@ -1,0 +1,119 @@
+-- A client as a program of another language holds it: what its last call told stands beside it.
+use Rattle.std.specs.Prelude.{◌≡◌, ◌++◌, ◌⊎◌, ℕ, List, [], length, drop, Option, Some, None}
+use Rattle.std.specs.Prelude.{if◌then◌else◌, nat_le}
+use Rattle.resp_value.specs.declared.value.Proto.TheVariants.{Three}
+use Rattle.resp_value.specs.Spelling.{spelling}
+use Rattle.resp_value.specs.ValueTree.{tree_of}
+use Rattle.resp_stream.specs.Parse.{parse_values}
+use Rattle.resp_stream.specs.Stream.{fed}
+use Rattle.command_words.specs.Queries.{query_of}
+use Rattle.shared_cache.specs.declared.log.ClientCall.{ClientCall}
+use Rattle.shared_cache.specs.declared.log.ClientCall.TheVariants as call
+use Rattle.shared_cache.specs.declared.log.ClientReply.{ClientReply}
+use Rattle.shared_cache.specs.declared.log.ClientReply.TheVariants.{Hit, Sent, NotYet, Answer}
+use Rattle.shared_cache.specs.declared.log.ClientReply.TheVariants.{Bytes, Quiet, Noted, Refused}
+use Rattle.shared_cache.specs.declared.log.ClientRefusal.{ClientRefusal}
+use Rattle.shared_cache.specs.declared.log.ClientRefusal.TheVariants as refusal
+use Rattle.shared_cache.specs.Held.{Words}
+use Rattle.client_library.specs.Library.{CutShort, Library, Plays, ended, feed}
+use Rattle.client_library.specs.Requests.{first_request}
+
+-- the client, and the bytes and the number that its last call told
+pub record Handle : Type 0 where
+  pub client : Library
+  pub answer : List ℕ
+  pub number : ℕ
+
+abbrev pub silent : Library → Handle
+silent c = record { client = c; answer = []; number = 0 }
+
+-- ---- what a call tells
+
+abbrev pub refusal_status : ClientRefusal → ℕ
+refusal_status (refusal.Down w) = 7
+refusal_status (refusal.Unexpected w) = 7
+refusal_status (refusal.BadPush w) = 7
+refusal_status refusal.NoMemory = 12
+refusal_status (refusal.LogFull n) = 11
+refusal_status (refusal.SetupRefused w) = 7
+refusal_status refusal.NotReady = 8
+refusal_status refusal.Control = 9
+refusal_status (refusal.NoNumber n) = 10
+refusal_status refusal.Worn = 7
+
+abbrev pub status_of : ClientReply → ℕ
+status_of Noted = 0
+status_of (Hit v n) = 1
+status_of (Sent n) = 2
+status_of NotYet = 3
+status_of (Answer v) = 4
+status_of (Bytes b) = 5
+status_of Quiet = 6
+status_of (Refused r) = refusal_status r
+
+abbrev pub number_of : ClientReply → ℕ
+number_of (Hit v n) = n
+number_of (Sent n) = n
+number_of reply = 0
+
+-- a value by its spelling
+abbrev pub answer_of : ClientReply → List ℕ
+answer_of (Hit v n) = spelling Three (tree_of v)
+answer_of (Answer v) = spelling Three (tree_of v)
+answer_of (Bytes b) = b
+answer_of reply = []
+
+-- what a reply of the client is told by, or memory ran out for its bytes, and the link ended
+abbrev pub Tells : ClientReply → Library → ℕ → Handle → Type 0
+Tells reply c status new =
+    ((status ≡ status_of reply)
+    × (new ≡ record { client = c; answer = answer_of reply; number = number_of reply }))
+    ⊎ ((status ≡ 12) × (new ≡ silent (ended c)))
+
+-- one turn, and what it tells
+pub record Called (c : ClientCall) (old : Handle) (status : ℕ) (new : Handle) : Type 0 where
+  pub reply : ClientReply
+  pub between : Library
+  pub plays : Plays c old.client reply between
+  pub tells : Tells reply between status new
+
+-- nothing was done
+abbrev pub Passed : ℕ → Handle → ℕ → Handle → Type 0
+Passed wanted old status new = (status ≡ wanted) × (new ≡ silent old.client)
+
+-- ---- the calls
+
+abbrev pub AsksQuery : Option Words → Handle → ℕ → Handle → Type 0
+AsksQuery None old status new = Passed 14 old status new
+AsksQuery (Some q) old status new = Called (call.Ask q) old status new
+
+abbrev pub AsksWords : Option Words → Handle → ℕ → Handle → Type 0
+AsksWords None old status new = Passed 13 old status new
+AsksWords (Some ws) old status new = AsksQuery (query_of ws) old status new
+
+-- the query that the bytes write is asked, or memory ran out for its words
+abbrev pub Asks : List ℕ → Handle → ℕ → Handle → Type 0
+Asks request old status new =
+    AsksWords (first_request request) old status new ⊎ Passed 12 old status new
+
+abbrev pub SendsWords : Option Words → Handle → ℕ → Handle → Type 0
+SendsWords None old status new = Passed 13 old status new
+SendsWords (Some ws) old status new = Called (call.Send ws) old status new
+
+-- the command that the bytes write is sent, or memory ran out for its words
+abbrev pub Sends : List ℕ → Handle → ℕ → Handle → Type 0
+Sends request old status new =
+    SendsWords (first_request request) old status new ⊎ Passed 12 old status new
+
+-- what the server sent is got, or memory ran out and the link ended
+abbrev pub Feeds : List ℕ → Handle → ℕ → Handle → Type 0
+Feeds bytes old status new =
+    ((status ≡ 0) × (new ≡ silent (feed old.client bytes)))
+    ⊎ ((status ≡ 12)
+    × ((c : Library) × CutShort old.client (parse_values (fed old.client.reader bytes)).items c
+    × (new ≡ silent c)))
+
+-- the answer is copied where there is room for it; in any case its size is told
+abbrev pub copied : List ℕ → List ℕ → List ℕ
+copied answer room =
+    if nat_le (length answer) (length room) then answer ++ drop (length answer) room else room

@@ -1,0 +1,4 @@
+pub mod Foreign
+pub mod Handles
+pub mod Library
+pub mod Requests

@@ -1,0 +1,310 @@
+//! The client as a program of another language holds it: each call tells a status, and what it
+//! tells beside stands in the handle until the next call.
+ghost use Rattle.std.specs.Prelude.{◌≡◌, ◌++◌, ◌<◌, ◌≤◌, [], IfOk, OnErr, OnOk, length};
+ghost use Rattle.shared_cache.specs.declared.log.ClientCall.TheVariants as call;
+ghost use Rattle.shared_cache.specs.declared.log.Wire.TheVariants.{Main};
+ghost use Rattle.command_words.specs.Queries.{query_of};
+ghost use Rattle.client_library.specs.Handles.{Asks, AsksQuery, AsksWords, Called, Feeds, Sends};
+ghost use Rattle.client_library.specs.Handles.{SendsWords, Tells, answer_of, copied, number_of};
+ghost use Rattle.client_library.specs.Handles.{refusal_status, silent, status_of};
+ghost use Rattle.client_library.specs.Library.{ended, fresh, has_ended};
+ghost use Rattle.client_library.specs.Requests.{first_request};
+
+use super::library::LibraryClient;
+use super::request::read_words;
+use command_words::Query;
+use resp_value::{NoMemory, Proto, Words, put_value};
+use shared_cache::{ClientRefusal, ClientReply};
+use std::alloc::Global;
+use std::marker::Model;
+
+/// What a call told, as a number.
+pub mod status {
+    /// Done, and there is nothing more to tell.
+    pub const DONE: u64 = 0;
+    /// The value is held: it is the answer, and the number is that of the fetch that filled it.
+    pub const HIT: u64 = 1;
+    /// The command goes to the server: the number is its own.
+    pub const SENT: u64 = 2;
+    /// The reply is not there yet.
+    pub const NOT_YET: u64 = 3;
+    /// The reply is the answer.
+    pub const REPLY: u64 = 4;
+    /// The answer is bytes for the server.
+    pub const BYTES: u64 = 5;
+    /// No bytes are to be sent.
+    pub const QUIET: u64 = 6;
+    /// The link has ended.
+    pub const ENDED: u64 = 7;
+    /// The set-up is not answered yet.
+    pub const NOT_READY: u64 = 8;
+    /// The command would change how the server serves this client.
+    pub const CONTROL: u64 = 9;
+    /// No such number is waiting for its caller.
+    pub const NO_NUMBER: u64 = 10;
+    /// The log has as many entries as it may have.
+    pub const LOG_FULL: u64 = 11;
+    /// Memory ran out.
+    pub const NO_MEMORY: u64 = 12;
+    /// The bytes begin with no whole command.
+    pub const NO_REQUEST: u64 = 13;
+    /// The command is no query that can be held.
+    pub const NO_QUERY: u64 = 14;
+    /// A limit is none.
+    pub const BAD_LIMIT: u64 = 15;
+}
+
+/// A client, and the bytes and the number that its last call told.
+#[derive(Drop)]
+pub struct Handle {
+    alloc: Global,
+    client: LibraryClient,
+    answer: Vec<u8>,
+    number: u64,
+}
+
+impl Model for Handle {
+    ghost use Rattle.std.specs.Coded.{codes};
+    ghost use Rattle.resp_value.specs.TreeCoding.{tree_code};
+    ghost use Rattle.client_library.specs.Handles as handles;
+
+    ghost Value = { handles.Handle };
+
+    ghost coded = { Prim.hlevel (codes, tree_code) };
+
+    ghost view = { λ h. record {
+      client = h.client;
+      answer = h.answer.items;
+      number = h.number;
+    } };
+}
+
+fn refusal_status(refusal: ClientRefusal) -> u64
+    ensures { result ≡ refusal_status refusal }
+{
+    match refusal {
+        ClientRefusal::NoMemory => status::NO_MEMORY,
+        ClientRefusal::LogFull { .. } => status::LOG_FULL,
+        ClientRefusal::NotReady => status::NOT_READY,
+        ClientRefusal::Control => status::CONTROL,
+        ClientRefusal::NoNumber { .. } => status::NO_NUMBER,
+        _ => status::ENDED,
+    }
+}
+
+fn status_of(reply: &ClientReply) -> u64
+    ensures { result ≡ status_of reply.now }
+{
+    match reply {
+        ClientReply::Noted => status::DONE,
+        ClientReply::Hit { .. } => status::HIT,
+        ClientReply::Sent { .. } => status::SENT,
+        ClientReply::NotYet => status::NOT_YET,
+        ClientReply::Answer { .. } => status::REPLY,
+        ClientReply::Bytes(_) => status::BYTES,
+        ClientReply::Quiet => status::QUIET,
+        ClientReply::Refused(refusal) => refusal_status(*refusal),
+    }
+}
+
+fn number_of(reply: &ClientReply) -> u64
+    ensures { result ≡ number_of reply.now }
+{
+    match reply {
+        ClientReply::Hit { number, .. } => *number,
+        ClientReply::Sent { number } => *number,
+        _ => 0,
+    }
+}
+
+/// Appends what a reply tells as bytes: a value by its spelling in the third protocol.
+fn put_answer(reply: &ClientReply, out: &mut Vec<u8>) -> Result<(), NoMemory>
+    ensures ok { OnOk result (out.new.items ≡ out.old.items ++ answer_of reply.now) }
+    ensures err { OnErr result (out.new.items ≡ out.old.items) }
+{
+    match reply {
+        ClientReply::Hit { value, .. } => put_value(Proto::Three, value, out),
+        ClientReply::Answer { value } => put_value(Proto::Three, value, out),
+        ClientReply::Bytes(bytes) => {
+            out.extend_from_slice(bytes.as_slice())?;
+            Ok(())
+        }
+        _ => Ok(()),
+    }
+}
+
+impl Handle {
+    /// As `LibraryClient::new`.
+    pub fn new(alloc: Global, capacity: u64, log_max: u64) -> Result<Handle, NoMemory>
+        requires capacity { (0 < capacity) × (capacity ≤ 1000000) }
+        requires log_max { 0 < log_max }
+        ensures { IfOk result (λ h. h ≡ silent (fresh capacity log_max)) }
+    {
+        Ok(Handle {
+            alloc,
+            client: LibraryClient::new(alloc, capacity, log_max)?,
+            answer: Vec::new(alloc),
+            number: 0,
+        })
+    }
+
+    /// The bytes of the last answer.
+    pub fn answer(&self) -> &[u8]
+        ensures { result.now ≡ self.now.answer }
+    {
+        self.answer.as_slice()
+    }
+
+    /// The number that the last call told.
+    pub fn number(&self) -> u64
+        ensures { result ≡ self.now.number }
+    {
+        self.number
+    }
+
+    /// Whether the link has ended.
+    pub fn has_ended(&self) -> bool
+        ensures { result ≡ has_ended self.now.client }
+    {
+        self.client.has_ended()
+    }
+
+    /// The size of the last answer. It is copied where there is room for it, and else nothing is.
+    pub fn copy_answer(&self, out: &mut [u8]) -> u64
+        ensures size { result ≡ length self.now.answer }
+        ensures copied { out.new ≡ copied self.now.answer out.old }
+    {
+        let size = self.answer.len();
+        if size <= out.len() {
+            out[..size].copy_from_slice(self.answer.as_slice());
+        }
+        size as u64
+    }
+
+    // Nothing is told.
+    fn clear(&mut self)
+        ensures { self.new ≡ silent self.old.client }
+    {
+        self.answer.clear();
+        self.number = 0;
+    }
+
+    // Where memory runs out for the answer the link ends, since a reply would be lost.
+    fn tell(&mut self, reply: &ClientReply) -> u64
+        requires { self.old ≡ silent self.old.client }
+        ensures { Tells reply.now self.old.client result self.new }
+    {
+        match put_answer(reply, &mut self.answer) {
+            Ok(()) => {
+                self.number = number_of(reply);
+                status_of(reply)
+            }
+            Err(_) => {
+                self.client.end();
+                status::NO_MEMORY
+            }
+        }
+    }
+
+    fn ask_words(&mut self, words: &Words) -> Result<u64, NoMemory>
+        requires { self.old ≡ silent self.old.client }
+        ensures ok { IfOk result (λ s. AsksQuery (query_of words.now) self.old s self.new) }
+        ensures err { OnErr result (self.new ≡ self.old) }
+    {
+        match Query::read(self.alloc, words)? {
+            Some(query) => {
+                let reply = self.client.ask(query);
+                Ok(self.tell(&reply))
+            }
+            None => Ok(status::NO_QUERY),
+        }
+    }
+
+    fn ask_request(&mut self, request: &[u8]) -> Result<u64, NoMemory>
+        requires { self.old ≡ silent self.old.client }
+        ensures ok { IfOk result
+            (λ s. AsksWords (first_request request.now) self.old s self.new) }
+        ensures err { OnErr result (self.new ≡ self.old) }
+    {
+        match read_words(self.alloc, request)? {
+            Some(words) => self.ask_words(&words),
+            None => Ok(status::NO_REQUEST),
+        }
+    }
+
+    /// Asks the query that the bytes write, as it would be sent to the server.
+    pub fn ask(&mut self, request: &[u8]) -> u64
+        ensures { Asks request.now self.old result self.new }
+    {
+        self.clear();
+        match self.ask_request(request) {
+            Ok(status) => status,
+            Err(_) => status::NO_MEMORY,
+        }
+    }
+
+    fn send_request(&mut self, request: &[u8]) -> Result<u64, NoMemory>
+        requires { self.old ≡ silent self.old.client }
+        ensures ok { IfOk result
+            (λ s. SendsWords (first_request request.now) self.old s self.new) }
+        ensures err { OnErr result (self.new ≡ self.old) }
+    {
+        match read_words(self.alloc, request)? {
+            Some(words) => {
+                let reply = self.client.send(words);
+                Ok(self.tell(&reply))
+            }
+            None => Ok(status::NO_REQUEST),
+        }
+    }
+
+    /// Sends the command that the bytes write, whatever it is.
+    pub fn send(&mut self, request: &[u8]) -> u64
+        ensures { Sends request.now self.old result self.new }
+    {
+        self.clear();
+        match self.send_request(request) {
+            Ok(status) => status,
+            Err(_) => status::NO_MEMORY,
+        }
+    }
+
+    /// The reply to the command of that number, which is told once.
+    pub fn poll(&mut self, number: u64) -> u64
+        ensures { Called (call.Poll number) self.old result self.new }
+    {
+        self.clear();
+        let reply = self.client.poll(number);
+        self.tell(&reply)
+    }
+
+    /// The next bytes for the server, at most so many.
+    pub fn take_out(&mut self, most: u64) -> u64
+        ensures { Called (call.TakeOut Main most) self.old result self.new }
+    {
+        self.clear();
+        let reply = self.client.take_out(most);
+        self.tell(&reply)
+    }
+
+    /// What the server sent next, cut anywhere.
+    pub fn feed(&mut self, bytes: &[u8]) -> u64
+        ensures { Feeds bytes.now self.old result self.new }
+    {
+        self.clear();
+        match self.client.feed(bytes) {
+            Ok(()) => status::DONE,
+            Err(_) => status::NO_MEMORY,
+        }
+    }
+
+    /// The connection is lost.
+    pub fn end(&mut self) -> u64
+        ensures status { result ≡ 0 }
+        ensures ended { self.new ≡ silent (ended self.old.client) }
+    {
+        self.clear();
+        self.client.end();
+        status::DONE
+    }
+}

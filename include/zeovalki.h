@@ -1,0 +1,107 @@
+/* A client-side cache for Redis, for any event loop or thread.
+ *
+ * The library opens no socket and starts no thread. Its program carries the bytes: what
+ * zeovalki_take_out answers goes to the server, and what the server sends goes in by zeovalki_feed,
+ * all of it, in order, and in pieces of any size. docs/library.md tells what a user has to know.
+ *
+ * What the program has to keep, and nothing checks:
+ *   - a client is what zeovalki_new wrote, and was not freed;
+ *   - a client is one thread's at a time, and is used by no signal handler and by no forked child;
+ *   - bytes and room are never NULL, also where their size is 0;
+ *   - malloc, realloc and free come from one allocator, whose blocks are aligned to 16.
+ */
+#ifndef ZEOVALKI_H
+#define ZEOVALKI_H
+
+#include <stddef.h>
+#include <stdint.h>
+
+#ifdef __cplusplus
+extern "C" {
+#endif
+
+typedef struct zeovalki_client zeovalki_client;
+
+/* What a call tells. */
+typedef uint64_t zeovalki_status;
+enum {
+    ZEOVALKI_DONE = 0,       /* there is nothing more to tell */
+    ZEOVALKI_HIT = 1,        /* the answer is the value that is held; the number is its fetch's */
+    ZEOVALKI_SENT = 2,       /* the command goes to the server; the number is its own */
+    ZEOVALKI_NOT_YET = 3,    /* the reply is not there yet */
+    ZEOVALKI_REPLY = 4,      /* the answer is the reply */
+    ZEOVALKI_BYTES = 5,      /* the answer is bytes for the server */
+    ZEOVALKI_QUIET = 6,      /* no bytes are to be sent */
+    ZEOVALKI_ENDED = 7,      /* the link has ended; nothing is held any more */
+    ZEOVALKI_NOT_READY = 8,  /* the server has not answered the set-up yet: feed, and ask again */
+    ZEOVALKI_CONTROL = 9,    /* the command would change how the server serves this client */
+    ZEOVALKI_NO_NUMBER = 10, /* nobody waits for a reply of this number */
+    ZEOVALKI_LOG_FULL = 11,  /* the log has as many entries as it may: make another client */
+    ZEOVALKI_NO_MEMORY = 12, /* memory ran out; zeovalki_ended tells whether the link has ended */
+    ZEOVALKI_NO_REQUEST = 13, /* the bytes begin with no whole command */
+    ZEOVALKI_NO_QUERY = 14,  /* the command is no read that can be held: send it */
+    ZEOVALKI_BAD_LIMIT = 15, /* a limit is 0, or the capacity is above 1,000,000 */
+};
+
+/* Makes a client that holds at most `capacity` keys, and whose log has at most `log_max` entries.
+ * DONE, and *client points to a client that has done nothing yet, whose first bytes for the server
+ * are its set-up; BAD_LIMIT exactly where a limit is 0 or the capacity is above 1,000,000; or
+ * NO_MEMORY. Where it is not DONE, *client is as before. *client has a value at the call (NULL, say),
+ * which is written over and not freed. */
+zeovalki_status zeovalki_new(uint64_t capacity, uint64_t log_max, zeovalki_client **client);
+
+/* What the server sent next. Each whole value in it is processed: replies, and invalidations. Bytes
+ * that are no RESP, a malformed invalidation and a reply to nothing end the link.
+ * DONE; or NO_MEMORY, and the link has ended. */
+zeovalki_status zeovalki_feed(zeovalki_client *client, const uint8_t *bytes, size_t size);
+
+/* The next bytes for the server, at most `most`: BYTES, QUIET, ENDED, LOG_FULL or NO_MEMORY. */
+zeovalki_status zeovalki_take_out(zeovalki_client *client, uint64_t most);
+
+/* Asks a read (GET, HGET and the like), written as it would be sent: "*2\r\n$3\r\nGET\r\n$3\r\nfoo\r\n",
+ * or as a line, "GET foo\r\n". Only the first command of the bytes is read.
+ * HIT; SENT; NO_QUERY, NO_REQUEST, NOT_READY, ENDED, LOG_FULL or NO_MEMORY. */
+zeovalki_status zeovalki_ask(zeovalki_client *client, const uint8_t *request, size_t size);
+
+/* Sends any command, written likewise. What it may write is no longer held.
+ * SENT; CONTROL, NO_REQUEST, NOT_READY, ENDED, LOG_FULL or NO_MEMORY. */
+zeovalki_status zeovalki_send(zeovalki_client *client, const uint8_t *request, size_t size);
+
+/* The reply to the command of that number, which is told once.
+ * REPLY; NOT_YET; ENDED where it can never come; NO_NUMBER; NO_MEMORY, and the link has ended. */
+zeovalki_status zeovalki_poll(zeovalki_client *client, uint64_t number);
+
+/* The connection is lost: what is held is let go. DONE. */
+zeovalki_status zeovalki_end(zeovalki_client *client);
+
+/* 1 where the link has ended, else 0. It changes nothing. */
+uint64_t zeovalki_ended(zeovalki_client *client);
+
+/* The number that the last call told, or 0. It changes nothing. */
+uint64_t zeovalki_number(zeovalki_client *client);
+
+/* The size of the last call's answer, which is copied to `out` where `room` is enough for it. Where
+ * it is not, nothing is copied. It changes nothing else, so it may be called again with more room.
+ * The answer stands until the next call of the functions above; a value is written in RESP3. */
+uint64_t zeovalki_answer(zeovalki_client *client, uint8_t *out, size_t room);
+
+/* Lets go of all that a client has; zeovalki_free calls it. */
+zeovalki_status zeovalki_close(zeovalki_client *client);
+
+/* Of the library's own heap file: frees the block of a client that was closed. */
+void rattle_dealloc(void *block);
+
+/* Frees a client. */
+static inline void zeovalki_free(zeovalki_client *client)
+{
+    if (client != NULL) {
+        zeovalki_close(client);
+        rattle_dealloc(client);
+    }
+}
+
+#ifdef __cplusplus
+}
+#endif
+
+#endif
