@@ -1,6 +1,8 @@
 //! What a client is asked, and what is printed of its answers.
 ghost use Rattle.std.specs.Prelude.{◌≡◌, ◌++◌, ◌∷◌, ◌<◌, [], IfOk, OnErr, OnOk, length};
 ghost use Rattle.std.specs.Prelude.{ℕ, ◌≤◌, option_to_list};
+ghost use Rattle.std.specs.List.{slice_get};
+ghost use Rattle.shared_cache.specs.HeldKeys.{seen};
 ghost use Rattle.shared_cache.specs.Held.{held, held_in_place};
 ghost use Rattle.shared_cache.specs.declared.log.ClientCall.TheVariants as call;
 ghost use Rattle.shared_cache.specs.declared.log.ClientReply.TheVariants as reply;
@@ -14,7 +16,7 @@ use command_words::Query;
 use resp_value::{NoMemory, Octets, Value, Words};
 use script_text::{Line, Lines};
 use server_links::{ServerLinks, WorldFault};
-use shared_cache::{ClientCall, ClientRefusal, ClientReply};
+use shared_cache::{CacheEntry, ClientCall, ClientRefusal, ClientReply};
 
 /// Puts a line after the others, if there is one.
 pub fn put_line(lines: &mut Lines, line: Option<Line>) -> Result<(), NoMemory>
@@ -164,17 +166,25 @@ impl Member {
         Ok(())
     }
 
-    /// The line of what is held at a place, if anything is.
-    fn held_line(&self, links: &ServerLinks, place: usize) -> Result<Option<Line>, NoMemory>
+    /// The line of what is held at a place of all that it holds, if anything is.
+    fn held_line(
+        &self,
+        links: &ServerLinks,
+        entries: &[&CacheEntry],
+        place: usize,
+    ) -> Result<Option<Line>, NoMemory>
+        requires { slice_get (seen entries.now) place
+            ≡ held_in_place place (held self.now.state.setup self.now.state.past) }
         ensures { IfOk result (λ l. option_to_list l ≡ listed_line (seat links.now self.now)
             (held_in_place place (held self.now.state.setup self.now.state.past))) }
     {
-        let Some((query, value, number)) = self.state.held(place) else {
+        let Some(kept) = entries.get(place) else {
             return Ok(None);
         };
-        let entry = self.ran_at(links, number)?;
-        let words = query.words().copy()?;
-        Ok(Some(Line::Holds(self.name.copy()?, words, value.copy()?, entry)))
+        let entry = self.ran_at(links, kept.number)?;
+        let words = kept.query.words().copy()?;
+        let value = kept.value.copy()?;
+        Ok(Some(Line::Holds(self.name.copy()?, words, value, entry)))
     }
 
     /// The lines of what it holds, in order.
@@ -186,9 +196,10 @@ impl Member {
             × (count ≤ length (held self.now.state.setup self.now.state.past))
             × (lines.new ≡ lines.old ++ held_lines count (seat links.now self.now))) }
     {
+        let entries = self.state.held_in_order()?;
         // no more are held than replies came
         for place in 0..self.state.replied() as usize {
-            let Some(line) = self.held_line(links, place)? else {
+            let Some(line) = self.held_line(links, entries.as_slice(), place)? else {
                 return Ok(());
             };
             lines.push(line)?;
