@@ -60,6 +60,19 @@ impl ByteQueue {
         Ok(())
     }
 
+    /// The bytes go last. They are not copied where nothing is queued.
+    pub fn add_owned(&mut self, bytes: Vec<u8>) -> Result<(), NoMemory>
+        ensures ok { OnOk result (self.new ≡ self.old ++ bytes.items) }
+        ensures err { OnErr result (self.new ≡ self.old) }
+    {
+        if self.len() == 0 {
+            self.bytes = bytes;
+            self.start = 0;
+            return Ok(());
+        }
+        self.add(bytes.as_slice())
+    }
+
     /// Copies the queued bytes to where the buffer begins. They are fewer than those that left,
     /// so this costs a constant for each byte that ever left.
     fn compact(&mut self)

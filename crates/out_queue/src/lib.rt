@@ -48,12 +48,12 @@ impl OutQueue {
         self.size() > limit
     }
 
-    /// The message goes last.
-    pub fn add(&mut self, message: &[u8]) -> Result<(), NoMemory>
-        ensures ok { OnOk result (self.new ≡ self.old ++ message.now) }
+    /// The message goes last. It is not copied where nothing waits.
+    pub fn add(&mut self, message: Vec<u8>) -> Result<(), NoMemory>
+        ensures ok { OnOk result (self.new ≡ self.old ++ message.items) }
         ensures err { OnErr result (self.new ≡ self.old) }
     {
-        self.bytes.add(message)
+        self.bytes.add_owned(message)
     }
 
     /// The first bytes, at most so many.

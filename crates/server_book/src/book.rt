@@ -206,7 +206,7 @@ impl Book {
         )?;
         let message = message_of(alloc, mode.proto, &reply)?;
         self.log.reserve(count + 1)?;
-        self.stores.connections.send(entry, id, message.as_slice())?;
+        self.stores.connections.send(entry, id, message)?;
         self.stores.connections.set_mode(id, mode);
         match self.stores.carry_out(entry, id, deed, read, moment) {
             Ok(()) => {}

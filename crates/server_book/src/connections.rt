@@ -157,18 +157,18 @@ impl Connections {
     }
 
     /// Sends a message: its bytes go behind those that the connection has not taken.
-    pub fn send(&mut self, entry: u64, to: u64, message: &[u8]) -> Result<(), NoMemory>
+    pub fn send(&mut self, entry: u64, to: u64, message: Vec<u8>) -> Result<(), NoMemory>
         requires { IsId self.old.items to }
         ensures ok { OnOk result (self.new ≡ record {
-          items = queued self.old.items to message.now;
-          posts = self.old.posts ++ message_post entry to (length message.now) ∷ [];
+          items = queued self.old.items to message.items;
+          posts = self.old.posts ++ message_post entry to (length message.items) ∷ [];
         }) }
         ensures err { OnErr result (self.new ≡ self.old) }
     {
         self.posts.reserve(1)?;
+        let length = message.len() as u64;
         let connection = &mut self.items[(to - 1) as usize];
         connection.queue.add(message)?;
-        let length = message.len() as u64;
         self.posts.push_reserved(Post {
             entry,
             id: to,
@@ -198,7 +198,7 @@ impl Connections {
         for (place, id) in to.iter().enumerate() {
             match self.mode(*id).proto {
                 Proto::Two => {}
-                Proto::Three => self.send(entry, *id, push.as_slice())?,
+                Proto::Three => self.send(entry, *id, push.clone()?)?,
             }
         }
         Ok(())
