@@ -177,6 +177,25 @@ impl Connections {
         Ok(())
     }
 
+    // Sends a message that others are sent too.
+    fn send_copy(
+        &mut self,
+        alloc: Global,
+        entry: u64,
+        to: u64,
+        message: &[u8],
+    ) -> Result<(), NoMemory>
+        requires { IsId self.old.items to }
+        ensures ok { OnOk result (self.new ≡ record {
+          items = queued self.old.items to message.now;
+          posts = self.old.posts ++ message_post entry to (length message.now) ∷ [];
+        }) }
+        ensures err { OnErr result (self.new ≡ self.old) }
+    {
+        let copy = Vec::from_slice(alloc, message)?;
+        self.send(entry, to, copy)
+    }
+
     /// Tells connections that a key is not what it was: those on the third protocol are sent a
     /// push, those on the second nothing. Where memory runs out, some of them were sent theirs.
     pub fn tell(
@@ -198,7 +217,7 @@ impl Connections {
         for (place, id) in to.iter().enumerate() {
             match self.mode(*id).proto {
                 Proto::Two => {}
-                Proto::Three => self.send(entry, *id, push.clone()?)?,
+                Proto::Three => self.send_copy(alloc, entry, *id, push.as_slice())?,
             }
         }
         Ok(())
