@@ -11,7 +11,8 @@ use Rattle.std.proofs.lemmas.Bool.{and_from}
 use Rattle.std.proofs.lemmas.Bool.Decides.{nat_tests}
 use Rattle.std.proofs.lemmas.List.Folds.{list_any-append}
 use Rattle.track_table.specs.declared.table.Held.{Held}
-use Rattle.track_table.specs.Table.{holders_of, with_holder, without_holder, is_held, remembered}
+use Rattle.id_set.specs.Ids.{with_id, without_id}
+use Rattle.track_table.specs.Table.{holders_of, is_held, remembered}
 use Rattle.track_table.specs.Table.{without_key, freed_of, without_connection, with_keys}
 use Rattle.track_table.proofs.Orders.{holders_remembered}
 use Rattle.serial_model.specs.Modes.{Memory, Remembers, Forgets}
@@ -33,24 +34,24 @@ or_keeps true b d f h = refl
 or_keeps false b d f h = f h
 
 module _ (c : ℕ) where
-  with_keeps : (id : ℕ) (ids : List ℕ) → holds c ids ≡ true → holds c (with_holder id ids) ≡ true
+  with_keeps : (id : ℕ) (ids : List ℕ) → holds c ids ≡ true → holds c (with_id id ids) ≡ true
   with_keeps id [] h = absurd (let no : ⊥ = cc in no)
   with_keeps id (x ∷ xs) h =
-      elim (nat_lt x id) as (λ b. holds c (cond b (x ∷ with_holder id xs)
+      elim (nat_lt x id) as (λ b. holds c (cond b (x ∷ with_id id xs)
       (cond (x == id) (x ∷ xs) (id ∷ x ∷ xs))) ≡ true) [
-        | true ↦ or_keeps (x == c) (holds c xs) (holds c (with_holder id xs)) (with_keeps id xs) h
+        | true ↦ or_keeps (x == c) (holds c xs) (holds c (with_id id xs)) (with_keeps id xs) h
         | false ↦ elim (x == id) as (λ b. holds c (cond b (x ∷ xs) (id ∷ x ∷ xs)) ≡ true) [
           | true ↦ h
           | false ↦ or_right (id == c) (holds c (x ∷ xs)) h
         ]
       ]
 
-  with_itself : (ids : List ℕ) → holds c (with_holder c ids) ≡ true
+  with_itself : (ids : List ℕ) → holds c (with_id c ids) ≡ true
   with_itself [] = or_left (c == c) false (eq-eqb c c refl)
   with_itself (x ∷ xs) =
-      elim (nat_lt x c) as (λ b. holds c (cond b (x ∷ with_holder c xs)
+      elim (nat_lt x c) as (λ b. holds c (cond b (x ∷ with_id c xs)
       (cond (x == c) (x ∷ xs) (c ∷ x ∷ xs))) ≡ true) [
-        | true ↦ or_right (x == c) (holds c (with_holder c xs)) (with_itself xs)
+        | true ↦ or_right (x == c) (holds c (with_id c xs)) (with_itself xs)
         | false ↦ elim (x == c) as (λ b. (x == c) ≡ b
             → holds c (cond b (x ∷ xs) (c ∷ x ∷ xs)) ≡ true) [
               | true ↦ λ e. or_left (x == c) (holds c xs) e
@@ -59,14 +60,14 @@ module _ (c : ℕ) where
       ]
 
   without_keeps : (id : ℕ) (ids : List ℕ) → (id == c) ≡ false → holds c ids ≡ true
-      → holds c (without_holder id ids) ≡ true
+      → holds c (without_id id ids) ≡ true
   without_keeps id [] other h = absurd (let no : ⊥ = cc in no)
   without_keeps id (x ∷ xs) other h =
       elim (x == id) as (λ b. (x == id) ≡ b
-      → holds c (cond (not b) (x ∷ without_holder id xs) (without_holder id xs)) ≡ true) [
+      → holds c (cond (not b) (x ∷ without_id id xs) (without_id id xs)) ≡ true) [
         | true ↦ λ e. without_keeps id xs other
             (sym (ap (λ b. b || holds c xs) (ap (λ i. i == c) (eqb-true x id e) ∙ other)) ∙ h)
-        | false ↦ λ e. or_keeps (x == c) (holds c xs) (holds c (without_holder id xs))
+        | false ↦ λ e. or_keeps (x == c) (holds c xs) (holds c (without_id id xs))
             (without_keeps id xs other) h
       ] refl
 
@@ -102,7 +103,7 @@ module _ (c : ℕ) where
     remembered_keeps id k rows h =
         ap (holds c) (holders_remembered key id k rows)
         ∙ elim (bytes_eq key k) as (λ b. bytes_eq key k ≡ b
-        → holds c (cond b (with_holder id (holders_of k rows)) (holders_of key rows)) ≡ true) [
+        → holds c (cond b (with_id id (holders_of k rows)) (holders_of key rows)) ≡ true) [
           | true ↦ λ e. with_keeps id (holders_of k rows)
               (ap (λ q. holds c (holders_of q rows)) (sym (same_bytes key k e)) ∙ h)
           | false ↦ λ e. h
@@ -112,7 +113,7 @@ module _ (c : ℕ) where
         → holds c (holders_of key (remembered c key rows)) ≡ true
     remembered_own rows =
         ap (holds c) (holders_remembered key c key rows)
-        ∙ ap (λ b. holds c (cond b (with_holder c (holders_of key rows)) (holders_of key rows)))
+        ∙ ap (λ b. holds c (cond b (with_id c (holders_of key rows)) (holders_of key rows)))
         (itself key)
         ∙ with_itself (holders_of key rows)
 
@@ -124,13 +125,13 @@ module _ (c : ℕ) where
         with_keys_keeps id keys (remembered id k rows) (remembered_keeps id k rows h)
 
     first_stays : (id : ℕ) (r : Held) (rest : List Held) → bytes_eq key r.key ≡ true
-        → holds c (without_holder id r.holders) ≡ true
+        → holds c (without_id id r.holders) ≡ true
         → holds c (holders_of key (cond (is_held (freed_of id r)) (freed_of id r ∷ rest) rest))
         ≡ true
     first_stays id r rest is h =
         ap (λ b. holds c (holders_of key (cond b (freed_of id r ∷ rest) rest)))
-        (some_held (without_holder id r.holders) h)
-        ∙ ap (λ b. holds c (cond b (without_holder id r.holders) (holders_of key rest))) is ∙ h
+        (some_held (without_id id r.holders) h)
+        ∙ ap (λ b. holds c (cond b (without_id id r.holders) (holders_of key rest))) is ∙ h
 
     later_stays : (id : ℕ) (r : Held) (rest : List Held) → bytes_eq key r.key ≡ false
         → holds c (holders_of key rest) ≡ true
@@ -139,7 +140,7 @@ module _ (c : ℕ) where
     later_stays id r rest other h =
         elim (is_held (freed_of id r)) as (λ b. holds c
         (holders_of key (cond b (freed_of id r ∷ rest) rest)) ≡ true) [
-          | true ↦ ap (λ b. holds c (cond b (without_holder id r.holders) (holders_of key rest)))
+          | true ↦ ap (λ b. holds c (cond b (without_id id r.holders) (holders_of key rest)))
               other ∙ h
           | false ↦ h
         ]

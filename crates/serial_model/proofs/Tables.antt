@@ -7,7 +7,8 @@ use Rattle.std.specs.Str.{bytes_eq}
 use Rattle.resp_value.specs.declared.value.Proto.{Proto}
 use Rattle.resp_value.specs.declared.value.Proto.TheVariants.{Two, Three}
 use Rattle.track_table.specs.declared.table.Held.{Held}
-use Rattle.track_table.specs.Table.{with_holder, without_holder, is_held, holders_of, remembered}
+use Rattle.id_set.specs.Ids.{with_id, without_id}
+use Rattle.track_table.specs.Table.{is_held, holders_of, remembered}
 use Rattle.track_table.specs.Table.{without_key, freed_of, without_connection, with_keys}
 use Rattle.track_table.specs.Table.{dropped, kept}
 use Rattle.serial_model.specs.declared.mode.Mode.{Mode}
@@ -49,11 +50,11 @@ module _ (P : ℕ → Type 0) where
   in_if true xs ys a b = a
   in_if false xs ys a b = b
 
-  with_holder_all : (id : ℕ) (hs : List ℕ) → P id → AllIn P hs → AllIn P (with_holder id hs)
+  with_holder_all : (id : ℕ) (hs : List ℕ) → P id → AllIn P hs → AllIn P (with_id id hs)
   unfolding AllIn
   with_holder_all id [] p a = (p, tt)
   with_holder_all id (h ∷ hs) p a =
-      in_if (nat_lt h id) (h ∷ with_holder id hs) (cond (h == id) (h ∷ hs) (id ∷ h ∷ hs))
+      in_if (nat_lt h id) (h ∷ with_id id hs) (cond (h == id) (h ∷ hs) (id ∷ h ∷ hs))
       (a.0, with_holder_all id hs p a.1) (in_if (h == id) (h ∷ hs) (id ∷ h ∷ hs) a (p, a))
 
   rows_if : (b : Bool) (xs ys : List Held) → AllRows P xs → AllRows P ys → AllRows P (cond b xs ys)
@@ -65,7 +66,7 @@ module _ (P : ℕ → Type 0) where
   unfolding AllRows AllIn
   remembered_all id key [] p a = ((p, tt), tt)
   remembered_all id key (r ∷ rs) p a =
-      rows_if (bytes_eq key r.key) (record r { holders = with_holder id r.holders } ∷ rs)
+      rows_if (bytes_eq key r.key) (record r { holders = with_id id r.holders } ∷ rs)
       (r ∷ remembered id key rs)
       (with_holder_all id r.holders p a.0, a.1) (a.0, remembered_all id key rs p a.1)
 
@@ -92,12 +93,12 @@ module _ (P : ℕ → Type 0) where
   others : ℕ → ℕ → Type 0
   others id h = P h × ((h == id) ≡ false)
 
-  freed_in : (id : ℕ) (hs : List ℕ) → AllIn P hs → AllIn (others id) (without_holder id hs)
+  freed_in : (id : ℕ) (hs : List ℕ) → AllIn P hs → AllIn (others id) (without_id id hs)
   unfolding AllIn others
   freed_in id [] a = tt
   freed_in id (h ∷ hs) a =
       elim (h == id) as (λ b. (h == id) ≡ b
-      → AllIn (others id) (cond (not b) (h ∷ without_holder id hs) (without_holder id hs))) [
+      → AllIn (others id) (cond (not b) (h ∷ without_id id hs) (without_id id hs))) [
         | true ↦ λ e. freed_in id hs a.1
         | false ↦ λ e. ((a.0, e), freed_in id hs a.1)
       ] refl

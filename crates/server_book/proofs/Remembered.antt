@@ -5,7 +5,8 @@ use Rattle.std.specs.Prelude.{◌==◌, nat_lt, not, filter}
 use Rattle.std.specs.Str.{bytes_eq}
 use Rattle.std.proofs.lemmas.List.{length-map}
 use Rattle.track_table.specs.declared.table.Held.{Held}
-use Rattle.track_table.specs.Table.{holders_of, remembered, with_holder, without_key, is_held}
+use Rattle.id_set.specs.Ids.{with_id}
+use Rattle.track_table.specs.Table.{holders_of, remembered, without_key, is_held}
 use Rattle.track_table.specs.Table.{without_connection, freed_of, TableState, with_keys}
 use Rattle.track_table.specs.Table.{dropped, kept}
 use Rattle.track_table.specs.Order.{IsTable}
@@ -37,11 +38,11 @@ module _ (cs : List Connection) where
         | false ↦ holders_there key rows h.1
       ]
 
-  with_there : (id : ℕ) (ids : List ℕ) → IsId cs id → AreIds cs ids → AreIds cs (with_holder id ids)
+  with_there : (id : ℕ) (ids : List ℕ) → IsId cs id → AreIds cs ids → AreIds cs (with_id id ids)
   with_there id [] on h = (on, tt)
   with_there id (x ∷ xs) on h =
       elim (nat_lt x id) as (λ b. AreIds cs
-      (cond b (x ∷ with_holder id xs) (cond (x == id) (x ∷ xs) (id ∷ x ∷ xs)))) [
+      (cond b (x ∷ with_id id xs) (cond (x == id) (x ∷ xs) (id ∷ x ∷ xs)))) [
         | true ↦ (h.0, with_there id xs on h.1)
         | false ↦ elim (x == id) as (λ b. AreIds cs (cond b (x ∷ xs) (id ∷ x ∷ xs))) [
           | true ↦ h
@@ -54,7 +55,7 @@ module _ (cs : List Connection) where
   remembered_there id key [] on h = ((on, tt), tt)
   remembered_there id key (r ∷ rows) on h =
       elim (bytes_eq key r.key) as (λ b. AreThere cs
-      (cond b (record r { holders = with_holder id r.holders } ∷ rows)
+      (cond b (record r { holders = with_id id r.holders } ∷ rows)
       (r ∷ remembered id key rows))) [
         | true ↦ (with_there id r.holders on h.0, h.1)
         | false ↦ (h.0, remembered_there id key rows on h.1)

@@ -1,4 +1,3 @@
-pub mod HolderLemmas
 pub mod Lookups
 pub mod Orders
 pub mod Releases

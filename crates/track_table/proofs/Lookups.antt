@@ -5,7 +5,8 @@ use Rattle.std.proofs.Common.{refl, ap, ◌∙◌, arith}
 use Prim.Native.Nat.{zero, suc}
 use Rattle.std.specs.Str.{bytes_eq}
 use Rattle.track_table.specs.declared.table.Held.{Held}
-use Rattle.track_table.specs.Table.{holders_of, remembered, with_holder}
+use Rattle.id_set.specs.Ids.{with_id}
+use Rattle.track_table.specs.Table.{holders_of, remembered}
 use Rattle.track_table.specs.Places.{nobody, NoneBefore, key_at}
 
 module _ (key : List ℕ) where
@@ -25,7 +26,7 @@ module _ (key : List ℕ) where
       ∙ holders_none rs (λ i k. none (suc i) (omega arith))
 
   abbrev grown : ℕ → Held → Held
-  grown id r = record r { holders = with_holder id r.holders }
+  grown id r = record r { holders = with_id id r.holders }
 
   pub remembered_at : (id : ℕ) (rs : List Held) (n : ℕ) → n < length rs
       → bytes_eq key (key_at rs n) ≡ true

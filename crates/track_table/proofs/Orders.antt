@@ -1,63 +1,18 @@
 -- Each call leaves keys that are there once and are held, and holders that ascend.
-use Rattle.std.proofs.Common.{◌≡◌, ◌+◌, ◌<◌, ◌≤◌, ℕ, List, [], ◌∷◌, Bool, true, false, cond, length}
+use Rattle.std.proofs.Common.{◌≡◌, ◌<◌, ◌≤◌, ℕ, List, [], ◌∷◌, Bool, true, false, cond, length}
 use Rattle.std.proofs.Common.{◌-◌, ◌++◌, map, take, drop, refl, ap, sym, ◌∙◌, arith}
-use Rattle.std.specs.Prelude.{◌==◌, not, nat_lt, filter}
+use Rattle.std.specs.Prelude.{◌==◌, not, filter}
 use Prim.Native.Nat.{zero, suc}
 use Rattle.std.specs.Str.{bytes_eq}
 use Rattle.std.proofs.lemmas.Slice.Eq.{bytes_eq-Decides}
 use Rattle.std.proofs.lemmas.Bool.Decides.{nat_tests}
 use Rattle.std.proofs.lemmas.List.{length-drop, take_all, take-append-le}
+use Rattle.id_set.proofs.Orders.{ascend_with, ascend_without, with_some}
 use Rattle.track_table.specs.declared.table.Held.{Held}
-use Rattle.track_table.specs.Table.{with_holder, without_holder, remembered, without_key}
+use Rattle.id_set.specs.Ids.{Ascend, with_id}
+use Rattle.track_table.specs.Table.{remembered, without_key}
 use Rattle.track_table.specs.Table.{without_connection, freed_of, is_held, holders_of}
-use Rattle.track_table.specs.Order.{AscendFrom, HasNo, AreOrdered, AreHeld, IsTable}
-
--- ---- holders
-
-lower : (m n : ℕ) (ids : List ℕ) → m ≤ n → AscendFrom n ids → AscendFrom m ids
-lower m n [] le h = tt
-lower m n (id ∷ ids) le h = (omega arith, h.1)
-
-ascend_with : (n id : ℕ) (ids : List ℕ) → n ≤ id → AscendFrom n ids
-    → AscendFrom n (with_holder id ids)
-ascend_with n id [] le h = (le, tt)
-ascend_with n id (x ∷ xs) le h =
-    elim (nat_lt x id) as (λ b. nat_lt x id ≡ b
-    → AscendFrom n (cond b (x ∷ with_holder id xs) (cond (x == id) (x ∷ xs) (id ∷ x ∷ xs)))) [
-      | true ↦ λ e. let below : x < id = grind (arith, nat_tests) in
-          (h.0, ascend_with (x + 1) id xs (omega arith) h.1)
-      | false ↦ λ e. elim (x == id) as (λ b. (x == id) ≡ b
-          → AscendFrom n (cond b (x ∷ xs) (id ∷ x ∷ xs))) [
-            | true ↦ λ f. h
-            | false ↦ λ f. let above : id + 1 ≤ x = grind (arith, nat_tests) in (le, (above, h.1))
-          ] refl
-    ] refl
-
-pub ascend_without : (n id : ℕ) (ids : List ℕ) → AscendFrom n ids
-    → AscendFrom n (without_holder id ids)
-ascend_without n id [] h = tt
-ascend_without n id (x ∷ xs) h =
-    let rest = ascend_without (x + 1) id xs h.1 in
-    elim (not (x == id)) as (λ b. AscendFrom n
-    (cond b (x ∷ without_holder id xs) (without_holder id xs))) [
-      | true ↦ (h.0, rest)
-      | false ↦ lower n (x + 1) (without_holder id xs) (omega arith) rest
-    ]
-
-with_some : (id : ℕ) (ids : List ℕ) → 0 < length (with_holder id ids)
-with_some id [] = omega arith
-with_some id (x ∷ xs) =
-    elim (nat_lt x id) as (λ b. 0 < length (cond b (x ∷ with_holder id xs)
-    (cond (x == id) (x ∷ xs) (id ∷ x ∷ xs)))) [
-      | true ↦ omega arith
-      | false ↦ elim (x == id) as (λ b. 0 < length (cond b (x ∷ xs) (id ∷ x ∷ xs))) [
-        | true ↦
-            omega arith
-        | false ↦ omega arith
-      ]
-    ]
-
--- ---- keys
+use Rattle.track_table.specs.Order.{HasNo, AreOrdered, AreHeld, IsTable}
 
 same_bytes : (a b : List ℕ) → bytes_eq a b ≡ true → a ≡ b
 same_bytes a b e = (bytes_eq-Decides a b).0 e
@@ -78,7 +33,7 @@ has_no_remembered : (q : List ℕ) (id : ℕ) (key : List ℕ) (rs : List Held) 
 has_no_remembered q id key [] h other = (other, tt)
 has_no_remembered q id key (r ∷ rs) h other =
     elim (bytes_eq key r.key) as (λ b. HasNo q
-    (cond b (record r { holders = with_holder id r.holders } ∷ rs) (r ∷ remembered id key rs))) [
+    (cond b (record r { holders = with_id id r.holders } ∷ rs) (r ∷ remembered id key rs))) [
       | true ↦ h
       | false ↦ (h.0, has_no_remembered q id key rs h.1 other)
     ]
@@ -88,9 +43,9 @@ ordered_remembered : (id : ℕ) (key : List ℕ) (rs : List Held) → AreOrdered
 ordered_remembered id key [] h = ((omega arith, tt), tt, tt)
 ordered_remembered id key (r ∷ rs) h =
     elim (bytes_eq key r.key) as (λ b. bytes_eq key r.key ≡ b
-    → AreOrdered (cond b (record r { holders = with_holder id r.holders } ∷ rs)
+    → AreOrdered (cond b (record r { holders = with_id id r.holders } ∷ rs)
     (r ∷ remembered id key rs))) [
-      | true ↦ λ e. (ascend_with 0 id r.holders (omega arith) h.0, h.1, h.2)
+      | true ↦ λ e. (ascend_with id r.holders h.0, h.1, h.2)
       | false ↦ λ e. (
         h.0,
         has_no_remembered r.key id key rs h.1 (apart key r.key e),
@@ -103,7 +58,7 @@ held_remembered : (id : ℕ) (key : List ℕ) (rs : List Held) → AreHeld rs
 held_remembered id key [] h = (omega arith, tt)
 held_remembered id key (r ∷ rs) h =
     elim (bytes_eq key r.key) as (λ b. AreHeld
-    (cond b (record r { holders = with_holder id r.holders } ∷ rs) (r ∷ remembered id key rs))) [
+    (cond b (record r { holders = with_id id r.holders } ∷ rs) (r ∷ remembered id key rs))) [
       | true ↦ (with_some id r.holders, h.1)
       | false ↦ (h.0, held_remembered id key rs h.1)
     ]
@@ -154,7 +109,7 @@ module _ (id : ℕ) where
   ordered_freed : (rs : List Held) → AreOrdered rs → AreOrdered (map (freed_of id) rs)
   ordered_freed [] h = tt
   ordered_freed (r ∷ rs) h =
-      (ascend_without 0 id r.holders h.0, has_no_freed r.key rs h.1, ordered_freed rs h.2)
+      (ascend_without id r.holders h.0, has_no_freed r.key rs h.1, ordered_freed rs h.2)
 
 held_kept : (rs : List Held) → AreHeld (filter is_held rs)
 held_kept [] = tt
@@ -174,33 +129,33 @@ table_without_connection id rs h = record {
 }
 
 -- the holders of a key ascend
-pub holders_ascend : (key : List ℕ) (rs : List Held) → IsTable rs → AscendFrom 0 (holders_of key rs)
+pub holders_ascend : (key : List ℕ) (rs : List Held) → IsTable rs → Ascend (holders_of key rs)
 holders_ascend key rs h = ascending rs h.ordered
   where
-    ascending : (xs : List Held) → AreOrdered xs → AscendFrom 0 (holders_of key xs)
+    ascending : (xs : List Held) → AreOrdered xs → Ascend (holders_of key xs)
     ascending [] h = tt
     ascending (x ∷ xs) h =
-        elim (bytes_eq key x.key) as (λ b. AscendFrom 0 (cond b x.holders (holders_of key xs)))
+        elim (bytes_eq key x.key) as (λ b. Ascend (cond b x.holders (holders_of key xs)))
         [ true ↦ h.0 | false ↦ ascending xs h.2 ]
 
 -- remembering a key changes its own holders alone
 pub holders_remembered : (q : List ℕ) (id : ℕ) (key : List ℕ) (rs : List Held)
     → holders_of q (remembered id key rs)
-    ≡ cond (bytes_eq q key) (with_holder id (holders_of key rs)) (holders_of q rs)
+    ≡ cond (bytes_eq q key) (with_id id (holders_of key rs)) (holders_of q rs)
 holders_remembered q id key [] = refl
 holders_remembered q id key (r ∷ rs) =
     elim (bytes_eq key r.key) as (λ b. bytes_eq key r.key ≡ b
-    → holders_of q (cond b (record r { holders = with_holder id r.holders } ∷ rs)
+    → holders_of q (cond b (record r { holders = with_id id r.holders } ∷ rs)
     (r ∷ remembered id key rs))
-    ≡ cond (bytes_eq q key) (with_holder id (cond b r.holders (holders_of key rs)))
+    ≡ cond (bytes_eq q key) (with_id id (cond b r.holders (holders_of key rs)))
     (cond (bytes_eq q r.key) r.holders (holders_of q rs))) [
-      | true ↦ λ e. ap (λ k. cond (bytes_eq q k) (with_holder id r.holders) (holders_of q rs))
+      | true ↦ λ e. ap (λ k. cond (bytes_eq q k) (with_id id r.holders) (holders_of q rs))
           (sym (same_bytes key r.key e))
-          ∙ changed (bytes_eq q key) (bytes_eq q r.key) (with_holder id r.holders) r.holders
+          ∙ changed (bytes_eq q key) (bytes_eq q r.key) (with_id id r.holders) r.holders
           (holders_of q rs) (ap (bytes_eq q) (same_bytes key r.key e))
       | false ↦ λ e. ap (λ x. cond (bytes_eq q r.key) r.holders x) (holders_remembered q id key rs)
           ∙ swapped (bytes_eq q r.key) (bytes_eq q key) r.holders
-          (with_holder id (holders_of key rs)) (holders_of q rs)
+          (with_id id (holders_of key rs)) (holders_of q rs)
           (λ a b. not_same key r.key e (sym (same_bytes q key b) ∙ same_bytes q r.key a))
     ] refl
   where

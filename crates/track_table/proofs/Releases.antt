@@ -9,11 +9,12 @@ use Rattle.std.proofs.lemmas.Slice.Eq.{bytes_eq-Decides}
 use Rattle.std.proofs.lemmas.Bool.{or_parts}
 use Rattle.std.proofs.lemmas.Bool.Decides.{nat_tests}
 use Rattle.track_table.specs.declared.table.Held.{Held}
-use Rattle.track_table.specs.Table.{with_holder, without_holder, holders_of, remembered, with_keys}
+use Rattle.id_set.specs.Ids.{AscendFrom, with_id, without_id}
+use Rattle.track_table.specs.Table.{holders_of, remembered, with_keys}
 use Rattle.track_table.specs.Table.{freed_of, is_held, released, all_released}
 use Rattle.track_table.specs.Places.{nobody, NoneBefore, key_at}
-use Rattle.track_table.specs.Order.{AscendFrom, HasNo, AreOrdered, AreHeld, IsTable}
-use Rattle.track_table.proofs.Orders.{ascend_without}
+use Rattle.track_table.specs.Order.{HasNo, AreOrdered, AreHeld, IsTable}
+use Rattle.id_set.proofs.Orders.{ascend_without}
 
 -- ---- at the first row with the key
 
@@ -69,7 +70,7 @@ module _ (id : ℕ) (key : List ℕ) where
       elim (bytes_eq key r.key) as (λ b. AreOrdered (cond b (left r rs) (r ∷ released id key rs))) [
         | true ↦ elim (is_held (freed_of id r)) as (λ b. AreOrdered
             (cond b (freed_of id r ∷ rs) rs)) [
-              | true ↦ (ascend_without 0 id r.holders h.0, h.1, h.2)
+              | true ↦ (ascend_without id r.holders h.0, h.1, h.2)
               | false ↦ h.2
             ]
         | false ↦ (h.0, has_no_released r.key rs h.1, ordered_released rs h.2)
@@ -79,12 +80,12 @@ module _ (id : ℕ) (key : List ℕ) where
   held_released [] h = tt
   held_released (r ∷ rs) h =
       elim (bytes_eq key r.key) as (λ b. AreHeld (cond b (left r rs) (r ∷ released id key rs))) [
-        | true ↦ elim (length (without_holder id r.holders) == 0) as
-            (λ b. (length (without_holder id r.holders) == 0) ≡ b
+        | true ↦ elim (length (without_id id r.holders) == 0) as
+            (λ b. (length (without_id id r.holders) == 0) ≡ b
             → AreHeld (cond (not b) (freed_of id r ∷ rs) rs)) [
               | true ↦ λ e. h.1
               | false ↦ λ e.
-                  let some : 0 < length (without_holder id r.holders) = grind (arith, nat_tests) in
+                  let some : 0 < length (without_id id r.holders) = grind (arith, nat_tests) in
                   (some, h.1)
             ] refl
         | false ↦ (h.0, held_released rs h.1)
@@ -100,27 +101,27 @@ table_released id key rs h = record {
 -- ---- a key that the connection did not hold
 
 without_same : (id : ℕ) (hs : List ℕ) → list_any (λ h. h == id) hs ≡ false
-    → without_holder id hs ≡ hs
+    → without_id id hs ≡ hs
 without_same id [] none = refl
 without_same id (h ∷ hs) none =
     let p = or_parts (h == id) (list_any (λ x. x == id) hs) none in
-    ap (λ b. cond (not b) (h ∷ without_holder id hs) (without_holder id hs)) p.0
+    ap (λ b. cond (not b) (h ∷ without_id id hs) (without_id id hs)) p.0
     ∙ ap (λ l. h ∷ l) (without_same id hs p.1)
 
-own_goes : (id : ℕ) (hs : List ℕ) → without_holder id (id ∷ hs) ≡ without_holder id hs
+own_goes : (id : ℕ) (hs : List ℕ) → without_id id (id ∷ hs) ≡ without_id id hs
 own_goes id hs =
-    ap (λ b. cond (not b) (id ∷ without_holder id hs) (without_holder id hs)) (eq-eqb id id refl)
+    ap (λ b. cond (not b) (id ∷ without_id id hs) (without_id id hs)) (eq-eqb id id refl)
 
 without_with : (id : ℕ) (hs : List ℕ) → list_any (λ h. h == id) hs ≡ false
-    → without_holder id (with_holder id hs) ≡ hs
+    → without_id id (with_id id hs) ≡ hs
 without_with id [] none = own_goes id []
 without_with id (h ∷ hs) none =
     let p = or_parts (h == id) (list_any (λ x. x == id) hs) none in
-    let rest = without_holder id (with_holder id hs) in
-    elim (nat_lt h id) as (λ b. without_holder id
-    (cond b (h ∷ with_holder id hs) (cond (h == id) (h ∷ hs) (id ∷ h ∷ hs))) ≡ h ∷ hs) [
+    let rest = without_id id (with_id id hs) in
+    elim (nat_lt h id) as (λ b. without_id id
+    (cond b (h ∷ with_id id hs) (cond (h == id) (h ∷ hs) (id ∷ h ∷ hs))) ≡ h ∷ hs) [
       | true ↦ ap (λ b. cond (not b) (h ∷ rest) rest) p.0 ∙ ap (λ l. h ∷ l) (without_with id hs p.1)
-      | false ↦ ap (λ b. without_holder id (cond b (h ∷ hs) (id ∷ h ∷ hs))) p.0
+      | false ↦ ap (λ b. without_id id (cond b (h ∷ hs) (id ∷ h ∷ hs))) p.0
           ∙ own_goes id (h ∷ hs) ∙ without_same id (h ∷ hs) none
     ]
 
@@ -141,10 +142,10 @@ released_remembered id key [] held none =
 released_remembered id key (r ∷ rs) held none =
     elim (bytes_eq key r.key) as (λ b. bytes_eq key r.key ≡ b
     → list_any (λ h. h == id) (cond b r.holders (holders_of key rs)) ≡ false
-    → released id key (cond b (record r { holders = with_holder id r.holders } ∷ rs)
+    → released id key (cond b (record r { holders = with_id id r.holders } ∷ rs)
     (r ∷ remembered id key rs)) ≡ r ∷ rs) [
       | true ↦ λ e f.
-          let more : Held = record r { holders = with_holder id r.holders } in
+          let more : Held = record r { holders = with_id id r.holders } in
           ap (λ b. cond b (left id key more rs) (more ∷ released id key rs)) e
           ∙ ap (λ hs. cond (is_held (record r { holders = hs })) (record r { holders = hs } ∷ rs)
           rs) (without_with id r.holders f)
@@ -166,11 +167,11 @@ none_above id n (h ∷ hs) a lt =
     ∙ none_above id (h + 1) hs a.1 (let above = a.0 in omega arith)
 
 with_held : (id n : ℕ) (hs : List ℕ) → AscendFrom n hs → list_any (λ h. h == id) hs ≡ true
-    → with_holder id hs ≡ hs
+    → with_id id hs ≡ hs
 with_held id n [] a some = absurd (let no : ⊥ = cc in no)
 with_held id n (h ∷ hs) a some =
     elim (nat_lt h id) as (λ b. nat_lt h id ≡ b
-    → cond b (h ∷ with_holder id hs) (cond (h == id) (h ∷ hs) (id ∷ h ∷ hs)) ≡ h ∷ hs) [
+    → cond b (h ∷ with_id id hs) (cond (h == id) (h ∷ hs) (id ∷ h ∷ hs)) ≡ h ∷ hs) [
       | true ↦ λ e.
           let other : (h == id) ≡ false = grind (arith, nat_tests) in
           ap (λ l. h ∷ l) (with_held id (h + 1) hs a.1
@@ -192,7 +193,7 @@ remembered_held id key [] ordered some = absurd (let no : ⊥ = cc in no)
 remembered_held id key (r ∷ rs) ordered some =
     elim (bytes_eq key r.key) as (λ b.
     list_any (λ h. h == id) (cond b r.holders (holders_of key rs)) ≡ true
-    → cond b (record r { holders = with_holder id r.holders } ∷ rs) (r ∷ remembered id key rs)
+    → cond b (record r { holders = with_id id r.holders } ∷ rs) (r ∷ remembered id key rs)
     ≡ r ∷ rs) [
       | true ↦ λ f. ap (λ hs. record r { holders = hs } ∷ rs) (with_held id 0 r.holders ordered.0 f)
       | false ↦ λ f. ap (λ l. r ∷ l) (remembered_held id key rs ordered.2 f)

@@ -1,14 +1,10 @@
 -- What holds of every table: each key is there once and is held, and holders ascend.
-use Rattle.std.specs.Prelude.{◌≡◌, ◌+◌, ◌≤◌, ◌<◌, ℕ, List, [], ◌∷◌, false, length}
+use Rattle.std.specs.Prelude.{◌≡◌, ◌<◌, ℕ, List, [], ◌∷◌, false, length}
 use Rattle.std.specs.Prelude.{if◌then◌else◌}
 use Rattle.std.specs.Str.{bytes_eq}
+use Rattle.id_set.specs.Ids.{Ascend, with_id}
 use Rattle.track_table.specs.declared.table.Held.{Held}
-use Rattle.track_table.specs.Table.{holders_of, remembered, with_holder}
-
--- ids from this one on, each above the one before it
-abbrev pub AscendFrom : ℕ → List ℕ → Type 0
-AscendFrom n [] = Unit {0}
-AscendFrom n (id ∷ ids) = (n ≤ id) × AscendFrom (id + 1) ids
+use Rattle.track_table.specs.Table.{holders_of, remembered}
 
 abbrev pub HasNo : List ℕ → List Held → Type 0
 HasNo key [] = Unit {0}
@@ -16,7 +12,7 @@ HasNo key (r ∷ rs) = (bytes_eq key r.key ≡ false) × HasNo key rs
 
 abbrev pub AreOrdered : List Held → Type 0
 AreOrdered [] = Unit {0}
-AreOrdered (r ∷ rs) = AscendFrom 0 r.holders × HasNo r.key rs × AreOrdered rs
+AreOrdered (r ∷ rs) = Ascend r.holders × HasNo r.key rs × AreOrdered rs
 
 abbrev pub AreHeld : List Held → Type 0
 AreHeld [] = Unit {0}
@@ -31,4 +27,4 @@ abbrev pub HoldersGrow : Type 0
 HoldersGrow =
     (q : List ℕ) (id : ℕ) (key : List ℕ) (rows : List Held)
     → holders_of q (remembered id key rows)
-    ≡ (if bytes_eq q key then with_holder id (holders_of key rows) else holders_of q rows)
+    ≡ (if bytes_eq q key then with_id id (holders_of key rows) else holders_of q rows)

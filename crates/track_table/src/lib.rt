@@ -1,7 +1,6 @@
 //! Which connections the server owes a message for which keys, and which of these keys is oldest.
 #![tactic(auto)]
 
-mod holders;
 mod laws;
 mod table;
 

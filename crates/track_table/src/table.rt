@@ -4,10 +4,11 @@ ghost use Rattle.std.specs.List.{list_any};
 ghost use Rattle.track_table.specs.Table.{TableState, all_released, dropped, holders_of, kept};
 ghost use Rattle.track_table.specs.Table.{released, remembered, with_keys, without_connection};
 ghost use Rattle.track_table.specs.Table.{without_key};
-ghost use Rattle.track_table.specs.Order.{AscendFrom, IsTable};
+ghost use Rattle.id_set.specs.Ids.{Ascend};
+ghost use Rattle.track_table.specs.Order.{IsTable};
 ghost use Rattle.track_table.specs.Places.{IsPlace};
 
-use super::holders::Holders;
+use id_set::IdSet;
 use resp_value::{NoMemory, Octets, Words};
 use std::alloc::Global;
 use std::marker::Model;
@@ -16,7 +17,7 @@ use std::marker::Model;
 #[derive(Drop)]
 pub struct Held {
     key: Octets,
-    holders: Holders,
+    holders: IdSet,
 }
 
 impl Held {
@@ -90,7 +91,7 @@ impl TrackTable {
     /// The holders of a key, in ascending order.
     pub fn holders(&self, key: &[u8]) -> &[u64]
         ensures list { result.now ≡ holders_of key.now self.now.rows }
-        ensures ascending { AscendFrom 0 result.now }
+        ensures ascending { Ascend result.now }
     {
         match self.place_of(key) {
             Some(place) => self.rows[place].holders.as_slice(),
@@ -107,13 +108,13 @@ impl TrackTable {
         match self.place_of(key) {
             Some(place) => {
                 let row = &mut self.rows[place];
-                row.holders.add(id)?;
+                row.holders.insert(id)?;
                 Ok(())
             }
             None => {
                 let key = Octets::from_slice(self.alloc, key)?;
-                let mut holders = Holders::new(self.alloc);
-                holders.add(id)?;
+                let mut holders = IdSet::new(self.alloc);
+                holders.insert(id)?;
                 self.rows.reserve(1)?;
                 self.rows.push_reserved(Held { key, holders });
                 Ok(())

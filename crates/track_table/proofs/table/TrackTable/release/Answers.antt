@@ -29,7 +29,7 @@ held : (c : After-is_empty) (b : Bool) → c.is_empty.result ≡ b
     → is_held (freed_of c.args.id (get_or c.args.self.now.rows c.in-Some.place nobody)) ≡ not b
 held c b e =
     ap is_held (sym (freed c))
-    ∙ ap (λ (hs : List ℕ). not (length hs == 0)) (sym c.as_slice.ensures)
+    ∙ ap (λ (hs : List ℕ). not (length hs == 0)) (sym c.as_slice.ensures.list)
     ∙ ap not (sym c.is_empty.ensures ∙ e)
 
 -- the table where it is, and where it is not
