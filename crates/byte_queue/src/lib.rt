@@ -2,8 +2,10 @@
 #![tactic(auto)]
 
 ghost use Rattle.std.specs.Prelude.{◌≡◌, ◌++◌, [], OnOk, OnErr, IfOk, length, take, drop};
+ghost use Rattle.resp_value.specs.Spelling.{spelling};
+ghost use Rattle.resp_value.specs.ValueTree.{tree_of};
 
-use resp_value::{NoMemory, Octets};
+use resp_value::{NoMemory, Octets, Proto, Value, put_value};
 use std::alloc::Global;
 use std::marker::Model;
 
@@ -53,24 +55,30 @@ impl ByteQueue {
         ensures ok { OnOk result (self.new ≡ self.old ++ bytes.now) }
         ensures err { OnErr result (self.new ≡ self.old) }
     {
-        if self.start > self.bytes.len() / 2 {
-            self.compact();
-        }
+        self.make_room();
         self.bytes.extend_from_slice(bytes)?;
         Ok(())
     }
 
-    /// The bytes go last. They are not copied where nothing is queued.
-    pub fn add_owned(&mut self, bytes: Vec<u8>) -> Result<(), NoMemory>
-        ensures ok { OnOk result (self.new ≡ self.old ++ bytes.items) }
+    /// The spelling of a value goes last. It answers of how many bytes it is.
+    pub fn add_value(&mut self, proto: Proto, value: &Value) -> Result<usize, NoMemory>
+        ensures ok { OnOk result (self.new ≡ self.old ++ spelling proto (tree_of value.now)) }
+        ensures count { IfOk result (λ n. n ≡ length (spelling proto (tree_of value.now))) }
         ensures err { OnErr result (self.new ≡ self.old) }
     {
-        if self.len() == 0 {
-            self.bytes = bytes;
-            self.start = 0;
-            return Ok(());
+        self.make_room();
+        let held = self.bytes.len();
+        put_value(proto, value, &mut self.bytes)?;
+        Ok(self.bytes.len() - held)
+    }
+
+    // The room of what left is used again, once that is most of it.
+    fn make_room(&mut self)
+        ensures { self.new ≡ self.old }
+    {
+        if self.start > self.bytes.len() / 2 {
+            self.compact();
         }
-        self.add(bytes.as_slice())
     }
 
     /// Copies the queued bytes to where the buffer begins. They are fewer than those that left,

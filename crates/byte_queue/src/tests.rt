@@ -26,8 +26,8 @@ fn bytes_leave_in_the_order_in_which_they_came(rt: HostRuntime) -> Result<(), Fa
 #[test]
 fn what_was_added_last_can_be_taken_back(rt: HostRuntime) -> Result<(), Fail> {
     let mut queue = ByteQueue::new(rt.alloc());
-    queue.add_owned(Vec::from_slice(rt.alloc(), b"abc")?)?;
-    queue.add_owned(Vec::from_slice(rt.alloc(), b"de")?)?;
+    queue.add(b"abc")?;
+    queue.add(b"de")?;
     queue.keep(9);
     assert_eq!(rt; queue.as_slice(), b"abcde".as_slice());
     queue.keep(3);

@@ -3,9 +3,11 @@
 
 ghost use Rattle.std.specs.Prelude.{◌≡◌, ◌++◌, ◌<◌, ◌↔◌, IsTrue, [], OnOk, OnErr, IfOk};
 ghost use Rattle.std.specs.Prelude.{length, take, drop};
+ghost use Rattle.resp_value.specs.Spelling.{spelling};
+ghost use Rattle.resp_value.specs.ValueTree.{tree_of};
 
 use byte_queue::ByteQueue;
-use resp_value::{NoMemory, Octets};
+use resp_value::{NoMemory, Octets, Proto, Value};
 use std::alloc::Global;
 use std::marker::Model;
 
@@ -48,12 +50,22 @@ impl OutQueue {
         self.size() > limit
     }
 
-    /// The message goes last. It is not copied where nothing waits.
-    pub fn add(&mut self, message: Vec<u8>) -> Result<(), NoMemory>
-        ensures ok { OnOk result (self.new ≡ self.old ++ message.items) }
+    /// The message goes last.
+    pub fn add(&mut self, message: &[u8]) -> Result<(), NoMemory>
+        ensures ok { OnOk result (self.new ≡ self.old ++ message.now) }
         ensures err { OnErr result (self.new ≡ self.old) }
     {
-        self.bytes.add_owned(message)
+        self.bytes.add(message)
+    }
+
+    /// The message goes last: a value, as it is spelled. It answers of how many bytes it is.
+    pub fn add_value(&mut self, proto: Proto, value: &Value) -> Result<u64, NoMemory>
+        ensures ok { OnOk result (self.new ≡ self.old ++ spelling proto (tree_of value.now)) }
+        ensures count { IfOk result (λ n. n ≡ length (spelling proto (tree_of value.now))) }
+        ensures err { OnErr result (self.new ≡ self.old) }
+    {
+        let count = self.bytes.add_value(proto, value)?;
+        Ok(count as u64)
     }
 
     /// The first bytes, at most so many.

@@ -1,21 +1,13 @@
 //! A queue against worked examples.
 use super::OutQueue;
-use resp_value::NoMemory;
-use std::alloc::Global;
+use resp_value::{Proto, Value};
 use std::test::Fail;
-
-// A queue of these messages.
-fn queue_of(alloc: Global, messages: &[&str]) -> Result<OutQueue, NoMemory> {
-    let mut queue = OutQueue::new(alloc);
-    for message in messages.iter() {
-        queue.add(Vec::from_slice(alloc, message.as_bytes())?)?;
-    }
-    Ok(queue)
-}
 
 #[test]
 fn a_queue_is_over_its_limit_where_it_has_one_byte_more(rt: HostRuntime) -> Result<(), Fail> {
-    let queue = queue_of(rt.alloc(), &["+OK\r\n", "$1\r\na\r\n"])?;
+    let mut queue = OutQueue::new(rt.alloc());
+    queue.add(b"+OK\r\n")?;
+    queue.add(b"$1\r\na\r\n")?;
     assert_eq!(rt; queue.size(), 12);
     assert_eq!(rt; queue.is_over(11), true);
     assert_eq!(rt; queue.is_over(12), false);
@@ -25,7 +17,10 @@ fn a_queue_is_over_its_limit_where_it_has_one_byte_more(rt: HostRuntime) -> Resu
 
 #[test]
 fn bytes_are_taken_across_messages(rt: HostRuntime) -> Result<(), Fail> {
-    let mut queue = queue_of(rt.alloc(), &["+OK\r\n", "", ":1\r\n"])?;
+    let mut queue = OutQueue::new(rt.alloc());
+    queue.add(b"+OK\r\n")?;
+    queue.add(b"")?;
+    queue.add(b":1\r\n")?;
     assert_eq!(rt; queue.take_bytes(0)?.as_slice(), b"".as_slice());
     assert_eq!(rt; queue.take_bytes(7)?.as_slice(), b"+OK\r\n:1".as_slice());
     assert_eq!(rt; queue.size(), 2);
@@ -36,11 +31,26 @@ fn bytes_are_taken_across_messages(rt: HostRuntime) -> Result<(), Fail> {
 
 #[test]
 fn what_was_added_last_can_be_taken_back(rt: HostRuntime) -> Result<(), Fail> {
-    let mut queue = queue_of(rt.alloc(), &["abc", "de"])?;
+    let mut queue = OutQueue::new(rt.alloc());
+    queue.add(b"abc")?;
+    queue.add(b"de")?;
     queue.keep(3);
     assert_eq!(rt; queue.take_bytes(9)?.as_slice(), b"abc".as_slice());
-    queue.add(Vec::from_slice(rt.alloc(), b"f")?)?;
+    queue.add(b"f")?;
     queue.drop_all();
     assert_eq!(rt; queue.size(), 0);
+    Ok(())
+}
+
+#[test]
+fn a_value_is_added_as_it_is_spelled(rt: HostRuntime) -> Result<(), Fail> {
+    let mut queue = OutQueue::new(rt.alloc());
+    queue.add(b"+OK\r\n")?;
+    assert_eq!(rt; queue.add_value(Proto::Two, &Value::Null)?, 5);
+    assert_eq!(rt; queue.add_value(Proto::Three, &Value::Null)?, 3);
+    assert_eq!(rt;
+        queue.take_bytes(20)?.as_slice(),
+        b"+OK\r\n$-1\r\n_\r\n".as_slice()
+    );
     Ok(())
 }

@@ -12,7 +12,6 @@ ghost use Rattle.server_book.specs.BookState.{IsAccepted, IsFullAnswer, IsRefusa
 ghost use Rattle.server_book.specs.BookState.{posts_after};
 
 use super::log::Log;
-use super::messages::message_of;
 use super::plan::{Plan, plan_of};
 use super::stores::Stores;
 use command_words::{Command, WordFault, read_command};
@@ -204,9 +203,8 @@ impl Book {
             read,
             moment,
         )?;
-        let message = message_of(alloc, mode.proto, &reply)?;
         self.log.reserve(count + 1)?;
-        self.stores.connections.send(entry, id, message)?;
+        self.stores.connections.send(entry, id, mode.proto, &reply)?;
         self.stores.connections.set_mode(id, mode);
         match self.stores.carry_out(entry, id, deed, read, moment) {
             Ok(()) => {}

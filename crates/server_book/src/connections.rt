@@ -1,16 +1,16 @@
 //! What the server keeps of its connections, by their ids, and what it sends them.
 ghost use Rattle.std.specs.Prelude.{◌≡◌, ◌++◌, ◌∷◌, [], ◌+◌, ◌^◌, ◌<◌, ◌≤◌, true, false, OnOk};
 ghost use Rattle.std.specs.Prelude.{OnErr, IfOk, length, take, drop};
-ghost use Rattle.serial_model.specs.History.{routed};
+ghost use Rattle.serial_model.specs.History.{routed, spelled};
 ghost use Rattle.serial_model.specs.Tracking.{told_of};
 ghost use Rattle.server_book.specs.Connections.{IsId, ConnectionsState, connection_at, fresh};
 ghost use Rattle.server_book.specs.Connections.{is_live, with_connection};
 ghost use Rattle.server_book.specs.Sendings.{AreIds, before_posts, modes_of, queued, size_of};
 ghost use Rattle.server_book.specs.Sendings.{message_post, end_post, with_sendings};
 
-use super::messages::invalidation;
+use super::messages::push_of;
 use out_queue::OutQueue;
-use resp_value::{NoMemory, Octets, Proto};
+use resp_value::{NoMemory, Octets, Proto, Value};
 use serial_model::{Mode, Post, Posted};
 use std::alloc::Global;
 use std::marker::Model;
@@ -156,44 +156,26 @@ impl Connections {
         connection.queue.advance(most);
     }
 
-    /// Sends a message: its bytes go behind those that the connection has not taken.
-    pub fn send(&mut self, entry: u64, to: u64, message: Vec<u8>) -> Result<(), NoMemory>
+    /// Sends a value: its spelling goes behind the bytes that the connection has not taken.
+    #[tactic(auto, unfolding(serial_model::specs::History::spelled))]
+    pub fn send(&mut self, entry: u64, to: u64, proto: Proto, value: &Value) -> Result<(), NoMemory>
         requires { IsId self.old.items to }
-        ensures ok { OnOk result (self.new ≡ record {
-          items = queued self.old.items to message.items;
-          posts = self.old.posts ++ message_post entry to (length message.items) ∷ [];
-        }) }
+        ensures ok { OnOk result (let message = spelled proto value.now in
+            self.new ≡ record {
+              items = queued self.old.items to message;
+              posts = self.old.posts ++ message_post entry to (length message) ∷ [];
+            }) }
         ensures err { OnErr result (self.new ≡ self.old) }
     {
         self.posts.reserve(1)?;
-        let length = message.len() as u64;
         let connection = &mut self.items[(to - 1) as usize];
-        connection.queue.add(message)?;
+        let length = connection.queue.add_value(proto, value)?;
         self.posts.push_reserved(Post {
             entry,
             id: to,
             what: Posted::Message { length },
         });
         Ok(())
-    }
-
-    // Sends a message that others are sent too.
-    fn send_copy(
-        &mut self,
-        alloc: Global,
-        entry: u64,
-        to: u64,
-        message: &[u8],
-    ) -> Result<(), NoMemory>
-        requires { IsId self.old.items to }
-        ensures ok { OnOk result (self.new ≡ record {
-          items = queued self.old.items to message.now;
-          posts = self.old.posts ++ message_post entry to (length message.now) ∷ [];
-        }) }
-        ensures err { OnErr result (self.new ≡ self.old) }
-    {
-        let copy = Vec::from_slice(alloc, message)?;
-        self.send(entry, to, copy)
     }
 
     /// Tells connections that a key is not what it was: those on the third protocol are sent a
@@ -213,11 +195,12 @@ impl Connections {
             (before_posts self.new.posts self.new.items
             ≡ before_posts self.old.posts self.old.items) }
     {
-        let push = invalidation(alloc, key)?;
+        let push = push_of(alloc, key)?;
+        let message = &push;
         for (place, id) in to.iter().enumerate() {
             match self.mode(*id).proto {
                 Proto::Two => {}
-                Proto::Three => self.send_copy(alloc, entry, *id, push.as_slice())?,
+                Proto::Three => self.send(entry, *id, Proto::Three, message)?,
             }
         }
         Ok(())

@@ -38,9 +38,8 @@ carry_out-requires-clause-held c =
     ∙ ap (λ x. x.mode) (kept_of l past space keys cs k id acc.0)) in
     let runs = plan_runs l p words c.args.read.now space m past id by c.in_ok-reply.ensures who
     k.space_is in
-    let message = c.in_ok-message.message.items in
-    let spelling = c.in_ok-message.ensures
-    ∙ ap (spelled p.mode.proto) runs.0 in
+    let message = spelled p.mode.proto p.reply in
+    let spelling = ap (spelled p.mode.proto) runs.0 in
     let none : i.stores.connections.posts ≡ [] = ap (λ (b : BookState). b.posts) c.self.view_is
     ∙ c.requires.none in
     let told = told_by keys.limit id p.deed keys.rows in
@@ -83,9 +82,8 @@ invariant_of-self-2 c =
     ∙ ap (λ x. x.mode) (kept_of l past space keys cs k id acc.0)) in
     let runs = plan_runs l p words c.args.read.now space m past id by c.in_ok-reply.ensures who
     k.space_is in
-    let message = c.in_ok-message.message.items in
-    let spelling = c.in_ok-message.ensures
-    ∙ ap (spelled p.mode.proto) runs.0 in
+    let message = spelled p.mode.proto p.reply in
+    let spelling = ap (spelled p.mode.proto) runs.0 in
     let none : i.stores.connections.posts ≡ [] = ap (λ (b : BookState). b.posts) c.self.view_is
     ∙ c.requires.none in
     let told = told_by keys.limit id p.deed keys.rows in
@@ -150,9 +148,8 @@ invariant_of-self-in-Err c =
     ∙ ap (λ x. x.mode) (kept_of l past space keys cs k id acc.0)) in
     let runs = plan_runs l p words c.args.read.now space m past id by c.in_ok-reply.ensures who
     k.space_is in
-    let message = c.in_ok-message.message.items in
-    let spelling = c.in_ok-message.ensures
-    ∙ ap (spelled p.mode.proto) runs.0 in
+    let message = spelled p.mode.proto p.reply in
+    let spelling = ap (spelled p.mode.proto) runs.0 in
     let none : i.stores.connections.posts ≡ [] = ap (λ (b : BookState). b.posts) c.self.view_is
     ∙ c.requires.none in
     let told = told_by keys.limit id p.deed keys.rows in
@@ -203,9 +200,8 @@ returns-clause-ok c =
     ∙ ap (λ x. x.mode) (kept_of l past space keys cs k id acc.0)) in
     let runs = plan_runs l p words c.args.read.now space m past id by c.in_ok-reply.ensures who
     k.space_is in
-    let message = c.in_ok-message.message.items in
-    let spelling = c.in_ok-message.ensures
-    ∙ ap (spelled p.mode.proto) runs.0 in
+    let message = spelled p.mode.proto p.reply in
+    let spelling = ap (spelled p.mode.proto) runs.0 in
     let none : i.stores.connections.posts ≡ [] = ap (λ (b : BookState). b.posts) c.self.view_is
     ∙ c.requires.none in
     let told = told_by keys.limit id p.deed keys.rows in
