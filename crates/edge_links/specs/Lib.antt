@@ -3,3 +3,4 @@ pub mod Streams
 pub mod Links
 pub mod Memory
 pub mod MemoryLinks
+pub mod Writes

@@ -1,5 +1,7 @@
 -- What contracts see of a link and an acceptor in memory.
-use Rattle.std.specs.Prelude.{ℕ, List, [], ◌∷◌, ◌++◌, length, drop, Bool, false, nat_le}
+use Rattle.std.specs.Prelude.{ℕ, List, [], ◌∷◌, length, drop, Bool, false, nat_le, Option, Some}
+use Rattle.std.specs.Prelude.{None}
+use Rattle.std.specs.Io.KnownBytes.{prepend_known}
 use Rattle.edge_links.specs.declared.memory_link.LinkStep.{LinkStep}
 use Rattle.edge_links.specs.declared.memory_link.LinkStep.TheVariants as step
 use Rattle.edge_links.specs.declared.memory_link.MemoryLink.{MemoryLink}
@@ -8,24 +10,27 @@ use Rattle.edge_links.specs.declared.memory_acceptor.AcceptStep.TheVariants as a
 use Rattle.edge_links.specs.Counts.{nought}
 use Rattle.edge_links.specs.Memory.{bytes_written}
 
--- the bytes that the steps give; nothing comes behind an end
-abbrev pub step_bytes : List LinkStep → List ℕ
-step_bytes [] = []
-step_bytes (step.Bytes bytes ∷ steps) = bytes.items ++ step_bytes steps
+-- The bytes that the steps give, where they are known; nothing comes behind an end. While bytes are
+-- awaited it is not known whether what stands behind comes.
+abbrev pub step_bytes : List LinkStep → Option (List ℕ)
+step_bytes [] = Some []
+step_bytes (step.Bytes bytes ∷ steps) = prepend_known bytes.items (step_bytes steps)
 step_bytes (step.Idle ∷ steps) = step_bytes steps
 step_bytes (step.Wait count ∷ steps) = step_bytes steps
+step_bytes (step.Await count reads ∷ steps) = None
 step_bytes (step.Fail ∷ steps) = step_bytes steps
-step_bytes (step.End ∷ steps) = []
+step_bytes (step.End ∷ steps) = Some []
 
 -- the same, where so many bytes of the first step were given
-abbrev pub bytes_from : LinkStep → ℕ → List LinkStep → List ℕ
-bytes_from (step.Bytes bytes) at steps = drop at bytes.items ++ step_bytes steps
+abbrev pub bytes_from : LinkStep → ℕ → List LinkStep → Option (List ℕ)
+bytes_from (step.Bytes bytes) at steps = prepend_known (drop at bytes.items) (step_bytes steps)
 bytes_from step.Idle at steps = step_bytes steps
 bytes_from (step.Wait count) at steps = step_bytes steps
+bytes_from (step.Await count reads) at steps = None
 bytes_from step.Fail at steps = step_bytes steps
-bytes_from step.End at steps = []
+bytes_from step.End at steps = Some []
 
-abbrev pub bytes_to_come : MemoryLink → List ℕ
+abbrev pub bytes_to_come : MemoryLink → Option (List ℕ)
 bytes_to_come l = bytes_from l.step l.at l.steps.items
 
 -- the step has nothing to answer, where so many bytes of it were given and so many were written
@@ -33,6 +38,7 @@ abbrev pub passed : LinkStep → ℕ → ℕ → Bool
 passed (step.Bytes bytes) at written = nat_le (length bytes.items) at
 passed step.Idle at written = false
 passed (step.Wait count) at written = nat_le count written
+passed (step.Await count reads) at written = nat_le count written
 passed step.Fail at written = false
 passed step.End at written = false
 

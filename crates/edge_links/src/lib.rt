@@ -17,6 +17,7 @@ mod memory_link;
 mod memory_net;
 mod streams;
 mod tcp;
+mod writing;
 
 pub use adapters::{ReaderSource, WriterSink};
 pub use clock::{Clock, FixedClock, SystemClock};
@@ -29,6 +30,7 @@ pub use memory_link::{LinkStep, MemoryLink};
 pub use memory_net::{ClosedAcceptor, EndedLink, MemoryNet};
 pub use streams::{Sink, Source, SourceRead, Wrote};
 pub use tcp::{TcpAcceptor, TcpLink, TcpNet};
+pub use writing::{LinkFailed, write_all};
 
 /// Memory ran out.
 #[derive(Clone, Copy, Debug, PartialEq, Eq)]

@@ -1,5 +1,6 @@
 //! A link in memory, which plays its steps in order and keeps what is written.
 ghost use Rattle.std.specs.Prelude.{◌≡◌, ◌<◌, [], false, IfOk, length};
+ghost use Rattle.std.specs.Io.KnownBytes.{Keeps};
 ghost use Rattle.std.specs.declared.option.Option.TheVariants.{Some};
 ghost use Rattle.edge_links.specs.Counts.{nought};
 ghost use Rattle.edge_links.specs.Memory.{bytes_written, room_of};
@@ -23,6 +24,9 @@ pub enum LinkStep {
     Idle,
     /// Reads answer `Idle` until so many bytes were written in all.
     Wait(u64),
+    /// The same, but where so many reads have answered `Idle` before, every read from here on
+    /// answers `End`.
+    Await { bytes: u64, reads: u64 },
     /// One read fails.
     Fail,
     /// Every read from here on answers `End`.
@@ -78,13 +82,14 @@ impl MemoryLink {
         match &self.step {
             LinkStep::Bytes(bytes) => bytes.len() <= self.at,
             LinkStep::Wait(count) => *count <= self.written.bytes().len() as u64,
+            LinkStep::Await { bytes, .. } => *bytes <= self.written.bytes().len() as u64,
             _ => false,
         }
     }
 
     // Steps that have nothing to answer are left behind.
     fn pass(&mut self)
-        ensures bytes { bytes_to_come self.new ≡ bytes_to_come self.old }
+        ensures bytes { Keeps (bytes_to_come self.old) (bytes_to_come self.new) }
         ensures written { self.new.written ≡ self.old.written }
         ensures counts { self.new.counts ≡ self.old.counts }
         ensures passed { is_passed self.new ≡ false }
@@ -105,7 +110,7 @@ impl MemoryLink {
 }
 
 impl Link for MemoryLink {
-    ghost left = { λ l. Some (bytes_to_come l) };
+    ghost left = { bytes_to_come };
 
     ghost contents = { λ l. Some (bytes_written l.written) };
 
@@ -127,6 +132,19 @@ impl Link for MemoryLink {
                 LinkRead::Idle
             }
             LinkStep::Wait(_) => {
+                self.counts.idle();
+                LinkRead::Idle
+            }
+            LinkStep::Await { reads: 0, .. } => {
+                self.step = LinkStep::End;
+                self.counts.end();
+                LinkRead::End
+            }
+            LinkStep::Await { bytes, reads } => {
+                self.step = LinkStep::Await {
+                    bytes: *bytes,
+                    reads: *reads - 1,
+                };
                 self.counts.idle();
                 LinkRead::Idle
             }

@@ -12,6 +12,8 @@ fn steps_of(alloc: Global, text: &str) -> Result<Vec<LinkStep>, AllocError> {
             "fail" => LinkStep::Fail,
             "end" => LinkStep::End,
             "two" => LinkStep::Wait(2),
+            "soon" => LinkStep::Await { bytes: 2, reads: 9 },
+            "late" => LinkStep::Await { bytes: 9, reads: 2 },
             _ => {
                 let mut bytes = Vec::new(alloc);
                 bytes.extend_from_slice(word.as_bytes())?;
@@ -56,6 +58,8 @@ const READS: &str = "abcd = abc d end end end
 abc,idle,,de = abc idle de end end
 two,ab = idle idle ab end end
 two,two,abcd = idle idle abc d end
+soon,ab = idle idle ab end end
+late,ab = idle idle end end end
 fail,ab,fail = fail ab fail end end
 a,end,b = a end end end end";
 
