@@ -124,6 +124,3 @@ impl ByteQueue {
         self.start = 0;
     }
 }
-
-#[cfg(test)]
-mod tests;

@@ -6,6 +6,3 @@ mod laws;
 
 pub use index::{Deadline, DeadlineIndex};
 pub use laws::{law_one_index, law_removal_takes_one, law_setting_adds_one};
-
-#[cfg(test)]
-mod tests;

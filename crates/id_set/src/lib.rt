@@ -4,6 +4,3 @@
 mod set;
 
 pub use set::IdSet;
-
-#[cfg(test)]
-mod tests;

@@ -6,6 +6,8 @@
 ghost use Rattle.std.specs.Prelude.{◌≡◌, ◌<◌};
 
 mod rounds;
+#[cfg(test)]
+mod tests;
 
 use keyspace::Keyspace;
 use resp_value::NoMemory;

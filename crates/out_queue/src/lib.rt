@@ -108,6 +108,3 @@ impl OutQueue {
         self.bytes.drop_all();
     }
 }
-
-#[cfg(test)]
-mod tests;

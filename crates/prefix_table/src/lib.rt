@@ -4,6 +4,3 @@
 mod table;
 
 pub use table::PrefixTable;
-
-#[cfg(test)]
-mod tests;

@@ -103,6 +103,3 @@ pub fn law_a_reader_goes_on_where_it_stands()
     ensures waits { WaitsRead }
     ensures stops { StopsRead }
 {}
-
-#[cfg(test)]
-mod tests;

@@ -16,7 +16,7 @@ pub const LONGEST_LINE: usize = 1_048_576;
 
 /// What a line of a schedule asks for. The first field is the name of a link or of a client; where
 /// an amount of bytes is `None`, all that is there moves.
-#[derive(Debug, Drop)]
+#[derive(Drop)]
 pub enum Event {
     /// `raw R`: a link is made, and the server admits it.
     Raw(Octets),

@@ -13,7 +13,7 @@ use std::marker::Model;
 
 /// A printed line. The fields stand in the order of the line: `#E` is the number of an entry of
 /// the history, `L` the name of a link, `X` that of a client.
-#[derive(Debug, Drop)]
+#[derive(Drop)]
 pub enum Line {
     /// `#E admit L ID`: a link was admitted, as the connection ID.
     Admit(u64, Octets, u64),
@@ -63,7 +63,7 @@ pub enum Line {
 }
 
 /// A list of lines.
-#[derive(Debug, Drop)]
+#[derive(Drop)]
 pub struct Lines {
     items: Vec<Line>,
 }

@@ -15,6 +15,3 @@ pub use laws::{
     law_told_is_due,
 };
 pub use mode::{Mode, Runner};
-
-#[cfg(test)]
-mod tests;

@@ -7,6 +7,9 @@
 
 ghost use Rattle.std.specs.Prelude.{◌≡◌, ◌*◌, length, IfOk};
 
+#[cfg(test)]
+mod tests;
+
 use resp_stream::{RequestReader, StreamFault, ValueReader};
 use std::alloc::Global;
 use std::{env, io};

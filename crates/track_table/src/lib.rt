@@ -6,6 +6,3 @@ mod table;
 
 pub use laws::law_holders_grow;
 pub use table::{Held, TrackTable};
-
-#[cfg(test)]
-mod tests;

@@ -1,5 +1,8 @@
 //! Schedules against their transcripts, and against the reference player. In a schedule here `;`
 //! parts the lines.
+//!
+//! A table of transcripts has a block for each schedule, with an empty line between blocks: the
+//! number of the fault that it ends by, 0 for none, and the schedule; then what is printed.
 ghost use Rattle.std.specs.Prelude.{◌<◌};
 ghost use Rattle.serial_model.specs.Steps.{AreValid};
 
@@ -75,30 +78,37 @@ fn referred(alloc: Global, limits: Limits, schedule: &str) -> Result<(Vec<u8>, u
     Ok((Vec::from_slice(alloc, player.text())?, fault))
 }
 
-// The schedule prints that, and ends by the fault of that number.
-fn prints<R: Abort>(
-    rt: &R,
-    alloc: Global,
-    schedule: &str,
-    want: &str,
-    number: u64,
-) -> Result<(), Fail> {
-    prints_within(rt, alloc, LIMITS, schedule, want, number)
+/// Whether this was printed: the lines, each with an LF.
+fn is_text(text: &[u8], want: &str) -> bool {
+    match text {
+        [printed @ .., b'\n'] => printed == want.as_bytes(),
+        [] => want.is_empty(),
+        _ => false,
+    }
 }
 
-fn prints_within<R: Abort>(
-    rt: &R,
-    alloc: Global,
-    limits: Limits,
-    schedule: &str,
-    want: &str,
-    number: u64,
-) -> Result<(), Fail>
+/// The number, the schedule and the lines of a block.
+fn parts_of(block: &str) -> Option<(u64, &str, &str)> {
+    let (number, rest) = block.split_once(' ')?;
+    let (schedule, want) = rest.split_once('\n').unwrap_or((rest, ""));
+    Some((number.parse().ok()?, schedule, want))
+}
+
+/// Whether a schedule within these limits prints what its block says.
+fn is_printed(alloc: Global, limits: Limits, block: &str) -> Result<bool, NoMemory>
     requires { AreValid limits }
 {
+    let Some((number, schedule, want)) = parts_of(block) else {
+        return Ok(false);
+    };
     let (text, fault) = played(alloc, limits, schedule)?;
-    assert_eq!(rt; text.as_slice(), want.as_bytes(), "{schedule}");
-    assert_eq!(rt; fault, number, "{schedule}");
+    Ok(fault == number && is_text(text.as_slice(), want))
+}
+
+fn prints<R: Abort>(rt: &R, alloc: Global, table: &str) -> Result<(), Fail> {
+    for block in table.split("\n\n") {
+        assert!(rt; is_printed(alloc, LIMITS, block)?, "{block}");
+    }
     Ok(())
 }
 
@@ -130,28 +140,17 @@ fn a_small_table_tells_what_it_drops(rt: HostRuntime) -> Result<(), Fail> {
     agree(&rt, rt.alloc(), limits, SMALL_TABLE)
 }
 
-#[test]
-fn raw_links_carry_requests_and_replies(rt: HostRuntime) -> Result<(), Fail> {
-    let alloc = rt.alloc();
-    prints(
-        &rt,
-        alloc,
-        "raw r;say r SET foo bar;say r GET foo;say r GET nope;flow r",
-        "#1 admit r 1
+const RAW_LINKS: &str = "\
+0 raw r;say r SET foo bar;say r GET foo;say r GET nope;flow r
+#1 admit r 1
 #2 run r SET foo bar
 #3 run r GET foo
 #4 run r GET nope
 #5 take r 19
 r < +OK\\r\\n$3\\r\\nbar\\r\\n$-1\\r\\n
-",
-        0,
-    )?;
-    prints(
-        &rt,
-        alloc,
-        "raw n1;raw w;say n1 GET a;say n1 SET foo 1;flow w;flow n1;say n1 NOPE a;\
-         say w GET foo;flow",
-        "#1 admit n1 1
+
+0 raw n1;raw w;say n1 GET a;say n1 SET foo 1;flow w;flow n1;say n1 NOPE a;say w GET foo;flow
+#1 admit n1 1
 #2 admit w 2
 #3 run n1 GET a
 #4 run n1 SET foo 1
@@ -162,60 +161,48 @@ n1 < $-1\\r\\n+OK\\r\\n
 n1 < -ERR\\sunknown\\scommand\\r\\n
 #8 run w GET foo
 #9 take w 7
-w < $1\\r\\n1\\r\\n
-",
-        0,
-    )
+w < $1\\r\\n1\\r\\n";
+
+#[test]
+fn raw_links_carry_requests_and_replies(rt: HostRuntime) -> Result<(), Fail> {
+    prints(&rt, rt.alloc(), RAW_LINKS)
 }
+
+const BROKEN: &str = "\
+0 raw r;bytes r *1\\r\\n$007;serve r
+#1 admit r 1
+r bad 1 6
+#2 close r
+
+0 raw r;bytes r *1\\r\\n$16777217;serve r
+#1 admit r 1
+r bad 2 12
+#2 close r
+
+0 raw r;bytes r GET\\sa\\r\\n*x\\r\\nGET\\sb\\r\\n;flow r;say r GET c;flow r
+#1 admit r 1
+#2 run r GET a
+r bad 1 8
+#3 close r
+r end";
 
 #[test]
 fn a_request_that_breaks_the_protocol_closes_its_connection(rt: HostRuntime) -> Result<(), Fail> {
-    let alloc = rt.alloc();
-    prints(
-        &rt,
-        alloc,
-        "raw r;bytes r *1\\r\\n$007;serve r",
-        "#1 admit r 1\nr bad 1 6\n#2 close r\n",
-        0,
-    )?;
-    prints(
-        &rt,
-        alloc,
-        "raw r;bytes r *1\\r\\n$16777217;serve r",
-        "#1 admit r 1\nr bad 2 12\n#2 close r\n",
-        0,
-    )?;
-    prints(
-        &rt,
-        alloc,
-        "raw r;bytes r GET\\sa\\r\\n*x\\r\\nGET\\sb\\r\\n;flow r;say r GET c;flow r",
-        "#1 admit r 1\n#2 run r GET a\nr bad 1 8\n#3 close r\nr end\n",
-        0,
-    )
+    prints(&rt, rt.alloc(), BROKEN)
 }
 
-#[test]
-fn a_cut_loses_what_is_in_flight(rt: HostRuntime) -> Result<(), Fail> {
-    let alloc = rt.alloc();
-    prints(
-        &rt,
-        alloc,
-        "raw r;bytes r GET\\sa\\r\\n;flow r;cut r;recv r;serve r",
-        "#1 admit r 1
+const CUTS: &str = "\
+0 raw r;bytes r GET\\sa\\r\\n;flow r;cut r;recv r;serve r
+#1 admit r 1
 #2 run r GET a
 #3 take r 5
 r < $-1\\r\\n
 r end
 #4 close r
-",
-        0,
-    )?;
-    prints(
-        &rt,
-        alloc,
-        "raw r;raw s;say r SET a 1;say r GET a;serve r;send r 7;recv r 2;cut r;say r GET b;flow r;\
-         say s GET a;serve s;cut s;flow;flow",
-        "#1 admit r 1
+
+0 raw r;raw s;say r SET a 1;say r GET a;serve r;send r 7;recv r 2;cut r;say r GET b;flow r;\
+say s GET a;serve s;cut s;flow;flow
+#1 admit r 1
 #2 admit s 2
 #3 run r SET a 1
 #4 run r GET a
@@ -225,35 +212,39 @@ r < +O
 r end
 #7 run s GET a
 #8 close s
-s end
-",
-        0,
-    )
+s end";
+
+#[test]
+fn a_cut_loses_what_is_in_flight(rt: HostRuntime) -> Result<(), Fail> {
+    prints(&rt, rt.alloc(), CUTS)
 }
+
+const REFUSED: &str = "\
+1 say q GET a
+
+1 flow q
+
+2 raw r;raw r
+#1 admit r 1
+
+3 raw r;serve r 1
+#1 admit r 1
+
+5 client x pair 3 default 1
+
+5 client x single 3 optin 1
+
+5 client x single 3 default 1 noloop";
 
 #[test]
 fn an_event_that_is_refused_prints_nothing(rt: HostRuntime) -> Result<(), Fail> {
-    let alloc = rt.alloc();
-    prints(&rt, alloc, "say q GET a", "", 1)?;
-    prints(&rt, alloc, "flow q", "", 1)?;
-    prints(&rt, alloc, "raw r;raw r", "#1 admit r 1\n", 2)?;
-    prints(&rt, alloc, "raw r;serve r 1", "#1 admit r 1\n", 3)?;
-    prints(&rt, alloc, "client x pair 3 default 1", "", 5)?;
-    prints(&rt, alloc, "client x single 3 optin 1", "", 5)?;
-    prints(&rt, alloc, "client x single 3 default 1 noloop", "", 5)
+    prints(&rt, rt.alloc(), REFUSED)
 }
 
-const FIRST_HITS: &str = "raw w;say w SET foo bar;flow w;client x single 3 default 100;\
-    flow x.data;ask x GET foo;flow x.data;ask x GET foo;say w SET foo baz;flow w;ask x GET foo;\
-    flow x.data;ask x GET foo";
-
-#[test]
-fn a_client_answers_from_its_cache_until_it_is_told(rt: HostRuntime) -> Result<(), Fail> {
-    prints(
-        &rt,
-        rt.alloc(),
-        FIRST_HITS,
-        "#1 admit w 1
+const FIRST_HITS: &str = "\
+0 raw w;say w SET foo bar;flow w;client x single 3 default 100;flow x.data;ask x GET foo;\
+flow x.data;ask x GET foo;say w SET foo baz;flow w;ask x GET foo;flow x.data;ask x GET foo
+#1 admit w 1
 #2 run w SET foo bar
 #3 take w 5
 w < +OK\\r\\n
@@ -275,10 +266,11 @@ w < +OK\\r\\n
 x hit $3\\r\\nbar\\r\\n from 8 at 9
 #12 take x.data 34
 x.data < >2\\r\\n$10\\r\\ninvalidate\\r\\n*1\\r\\n$3\\r\\nfoo\\r\\n
-x miss 4
-",
-        0,
-    )
+x miss 4";
+
+#[test]
+fn a_client_answers_from_its_cache_until_it_is_told(rt: HostRuntime) -> Result<(), Fail> {
+    prints(&rt, rt.alloc(), FIRST_HITS)
 }
 
 /// What the first connection is told when it sets up a client.
@@ -291,30 +283,27 @@ $5\\r\\nproto\\r\\n:3\\r\\n$2\\r\\nid\\r\\n:1\\r\\n$4\\r\\nmode\\r\\n$10\\r\\nst
 $4\\r\\nrole\\r\\n$6\\r\\nmaster\\r\\n$7\\r\\nmodules\\r\\n*0\\r\\n+OK\\r\\n
 ";
 
-// The schedule prints that after a client is set up, and ends by the fault of that number.
-fn goes_on<R: Abort>(
-    rt: &R,
-    alloc: Global,
-    schedule: &str,
-    want: &str,
-    number: u64,
-) -> Result<(), Fail> {
+/// Whether a schedule prints what its block says behind what a client is told first.
+fn goes_on(alloc: Global, block: &str) -> Result<bool, NoMemory> {
+    let Some((number, schedule, want)) = parts_of(block) else {
+        return Ok(false);
+    };
     let (text, fault) = played(alloc, LIMITS, schedule)?;
-    let mut wanted = Vec::from_slice(alloc, SET_UP.as_bytes())?;
-    wanted.extend_from_slice(want.as_bytes())?;
-    assert_eq!(rt; text.as_slice(), wanted.as_slice(), "{schedule}");
-    assert_eq!(rt; fault, number, "{schedule}");
+    let (front, rest) = text.as_slice().split_at(SET_UP.len().min(text.len()));
+    Ok(fault == number && front == SET_UP.as_bytes() && is_text(rest, want))
+}
+
+fn all_go_on<R: Abort>(rt: &R, alloc: Global, table: &str) -> Result<(), Fail> {
+    for block in table.split("\n\n") {
+        assert!(rt; goes_on(alloc, block)?, "{block}");
+    }
     Ok(())
 }
 
-#[test]
-fn a_missing_key_is_held(rt: HostRuntime) -> Result<(), Fail> {
-    goes_on(
-        &rt,
-        rt.alloc(),
-        "client x single 3 default 100;flow x.data;ask x GET n;flow x.data;ask x GET n;raw w;\
-         say w SET n 1;flow w;flow x.data;show x",
-        "x miss 3
+const MISSING: &str = "\
+0 client x single 3 default 100;flow x.data;ask x GET n;flow x.data;ask x GET n;raw w;\
+say w SET n 1;flow w;flow x.data;show x
+x miss 3
 #5 run x.data GET n
 #6 take x.data 3
 x.data < _\\r\\n
@@ -325,20 +314,16 @@ x hit _\\r\\n from 5 at 6
 w < +OK\\r\\n
 #10 take x.data 32
 x.data < >2\\r\\n$10\\r\\ninvalidate\\r\\n*1\\r\\n$1\\r\\nn\\r\\n
-x complete 10
-",
-        0,
-    )
-}
+x complete 10";
 
 #[test]
-fn a_client_holds_no_more_keys_than_its_capacity(rt: HostRuntime) -> Result<(), Fail> {
-    goes_on(
-        &rt,
-        rt.alloc(),
-        "client x single 3 default 1;flow x.data;ask x GET a;flow x.data;ask x GET b;flow x.data;\
-         show x",
-        "x miss 3
+fn a_missing_key_is_held(rt: HostRuntime) -> Result<(), Fail> {
+    all_go_on(&rt, rt.alloc(), MISSING)
+}
+
+const CAPACITY_ONE: &str = "\
+0 client x single 3 default 1;flow x.data;ask x GET a;flow x.data;ask x GET b;flow x.data;show x
+x miss 3
 #5 run x.data GET a
 #6 take x.data 3
 x.data < _\\r\\n
@@ -347,22 +332,28 @@ x miss 4
 #8 take x.data 3
 x.data < _\\r\\n
 x holds GET b = _\\r\\n from 7
-x complete 8
-",
-        0,
-    )
+x complete 8";
+
+#[test]
+fn a_client_holds_no_more_keys_than_its_capacity(rt: HostRuntime) -> Result<(), Fail> {
+    all_go_on(&rt, rt.alloc(), CAPACITY_ONE)
 }
+
+const REFUSED_BY_A_CLIENT: &str = "\
+5 client x single 3 default 100;flow x.data;poll x 9
+
+5 client x single 3 default 100;flow x.data;do x RESET";
+
+const NOT_READY: &str = "\
+5 client x single 3 default 100;ask x GET a;do x SET a 1;poll x 3
+#1 admit x.data 1
+x not-ready
+x not-ready";
 
 #[test]
 fn what_a_client_refuses_is_refused(rt: HostRuntime) -> Result<(), Fail> {
-    let alloc = rt.alloc();
-    let number = "client x single 3 default 100;flow x.data;poll x 9";
-    goes_on(&rt, alloc, number, "", 5)?;
-    let control = "client x single 3 default 100;flow x.data;do x RESET";
-    goes_on(&rt, alloc, control, "", 5)?;
-    let not_ready = "client x single 3 default 100;ask x GET a;do x SET a 1;poll x 3";
-    let want = "#1 admit x.data 1\nx not-ready\nx not-ready\n";
-    prints(&rt, alloc, not_ready, want, 5)
+    all_go_on(&rt, rt.alloc(), REFUSED_BY_A_CLIENT)?;
+    prints(&rt, rt.alloc(), NOT_READY)
 }
 
 // A piece of a request comes, and all that came is read.
@@ -391,68 +382,68 @@ fn cut_at(alloc: Global, request: &[u8], at: usize) -> Result<Vec<u8>, NoMemory>
     Ok(text)
 }
 
+const REQUEST: &[u8] = b"*2\r\n$3\r\nGET\r\n$3\r\nfoo\r\n";
+
+const RUN_ONCE: &str = "\
+#1 admit r 1
+#2 run r GET foo
+#3 take r 5
+r < $-1\\r\\n";
+
 #[test]
 fn a_request_cut_anywhere_runs_once(rt: HostRuntime) -> Result<(), Fail> {
-    let request: &[u8] = b"*2\r\n$3\r\nGET\r\n$3\r\nfoo\r\n";
-    let want = "#1 admit r 1\n#2 run r GET foo\n#3 take r 5\nr < $-1\\r\\n\n";
-    assert_eq!(rt; request.len(), 22);
+    assert_eq!(rt; REQUEST.len(), 22);
     for at in 0..22 {
-        let text = cut_at(rt.alloc(), request, at)?;
-        assert_eq!(rt; text.as_slice(), want.as_bytes(), "{at}");
+        let text = cut_at(rt.alloc(), REQUEST, at)?;
+        assert!(rt; is_text(text.as_slice(), RUN_ONCE), "{at}");
     }
     Ok(())
 }
 
-fn full_history<R: Abort>(
-    rt: &R,
-    alloc: Global,
-    history_max: u64,
-    schedule: &str,
-    want: &str,
-    number: u64,
-) -> Result<(), Fail>
-    requires { 0 < history_max }
-{
+// Blocks behind the number of entries that the history may have. The log of a client may have as
+// many.
+const FULL: &str = "\
+2 6 raw r;raw s;raw t
+#1 admit r 1
+#2 admit s 2
+
+2 6 raw r;say r GET a;say r GET b;flow r
+#1 admit r 1
+#2 run r GET a
+
+2 6 raw r;say r GET a;flow r
+#1 admit r 1
+#2 run r GET a
+
+2 0 raw r;say r GET a;serve r;cut r;serve r
+#1 admit r 1
+#2 run r GET a
+#3 close r
+
+1 0 raw r;flow r
+#1 admit r 1
+
+3 6 client x single 3 default 1;flow x.data
+#1 admit x.data 1
+#2 run x.data HELLO 3
+#3 run x.data CLIENT TRACKING ON";
+
+/// Whether a schedule prints what its block says where the history has room for so many entries.
+fn is_printed_within(alloc: Global, block: &str) -> Result<bool, NoMemory> {
+    let Some((entries, block)) = block.split_once(' ') else {
+        return Ok(false);
+    };
     let limits = Limits {
-        history_max,
+        history_max: entries.parse().unwrap_or(1).max(1),
         ..LIMITS
     };
-    prints_within(rt, alloc, limits, schedule, want, number)
+    is_printed(alloc, limits, block)
 }
 
 #[test]
 fn a_full_history_ends_a_schedule_and_what_was_played_stands(rt: HostRuntime) -> Result<(), Fail> {
-    let alloc = rt.alloc();
-    let admits = "#1 admit r 1\n#2 admit s 2\n";
-    full_history(&rt, alloc, 2, "raw r;raw s;raw t", admits, 6)?;
-    let ran = "#1 admit r 1\n#2 run r GET a\n";
-    full_history(
-        &rt,
-        alloc,
-        2,
-        "raw r;say r GET a;say r GET b;flow r",
-        ran,
-        6,
-    )?;
-    full_history(&rt, alloc, 2, "raw r;say r GET a;flow r", ran, 6)?;
-    let closed = "#1 admit r 1\n#2 run r GET a\n#3 close r\n";
-    full_history(
-        &rt,
-        alloc,
-        2,
-        "raw r;say r GET a;serve r;cut r;serve r",
-        closed,
-        0,
-    )?;
-    full_history(&rt, alloc, 1, "raw r;flow r", "#1 admit r 1\n", 0)?;
-    // the log of a client may have as many entries as the history
-    let served = "#1 admit x.data 1\n#2 run x.data HELLO 3\n#3 run x.data CLIENT TRACKING ON\n";
-    full_history(
-        &rt,
-        alloc,
-        3,
-        "client x single 3 default 1;flow x.data",
-        served,
-        6,
-    )
+    for block in FULL.split("\n\n") {
+        assert!(rt; is_printed_within(rt.alloc(), block)?, "{block}");
+    }
+    Ok(())
 }

@@ -386,66 +386,92 @@ fn put_all(lines: &Lines, out: &mut Vec<u8>) -> Result<(), NoMemory> {
     Ok(())
 }
 
-#[test]
-fn lines_are_printed_one_after_the_other(rt: HostRuntime) -> Result<(), Fail> {
-    let alloc = rt.alloc();
-    let link = |name: &[u8]| Octets::from_slice(alloc, name);
-    let mut lines = Lines::new(alloc);
-    lines.push(Line::Admit(1, link(b"x.data")?, 1))?;
-    lines.push(Line::Run(10, link(b"n1")?, words_from(alloc, "SET \\e \u{7f}")?))?;
-    lines.push(Line::Take(5, link(b"r")?, 19))?;
-    lines.push(Line::Read(link(b"r")?, link(b"+OK\r\n$-1\r\n")?))?;
-    lines.push(Line::Bad {
-        link: link(b"r")?,
-        number: 2,
-        offset: 12,
-    })?;
-    lines.push(Line::Fault(link(b"x.data")?, 3))?;
-    lines.push(Line::Close(11, link(b"r")?))?;
-    lines.push(Line::End(link(b"r")?))?;
-    lines.push(Line::Take(u64::MAX, link(b"n1")?, 0))?;
-    lines.push(Line::End(link(b"n1")?))?;
-    assert!(rt; matches!(lines.pop(), Some(Line::End(_))));
-    let mut out = Vec::from_slice(alloc, b"#0 ..\n")?;
-    put_all(&lines, &mut out)?;
-    let want = b"#0 ..
+fn octets(alloc: Global, text: &str) -> Result<Octets, NoMemory> {
+    Octets::from_slice(alloc, text.as_bytes())
+}
+
+/// Whether the line is printed as this text and an LF, behind what is there.
+fn is_printed(alloc: Global, line: &Line, want: &str) -> Result<bool, NoMemory> {
+    let mut out = Vec::from_slice(alloc, b"..")?;
+    put_line(line, &mut out)?;
+    match out.as_slice() {
+        [b'.', b'.', printed @ .., b'\n'] => Ok(printed == want.as_bytes()),
+        _ => Ok(false),
+    }
+}
+
+// Entries of the history, in the order of the table below; behind them the last one again.
+fn entry_line(alloc: Global, row: usize) -> Result<Line, NoMemory> {
+    match row {
+        0 => Ok(Line::Admit(1, octets(alloc, "x.data")?, 1)),
+        1 => {
+            let words = words_from(alloc, "SET \\e \u{7f}")?;
+            Ok(Line::Run(10, octets(alloc, "n1")?, words))
+        }
+        2 => Ok(Line::Take(5, octets(alloc, "r")?, 19)),
+        3 => Ok(Line::Close(11, octets(alloc, "r")?)),
+        _ => Ok(Line::Take(u64::MAX, octets(alloc, "n1")?, 0)),
+    }
+}
+
+const ENTRY_LINES: &str = "\
 #1 admit x.data 1
 #10 run n1 SET \\\\e \\x7f
 #5 take r 19
-r < +OK\\r\\n$-1\\r\\n
-r bad 2 12
-x.data fault 3
 #11 close r
-r end
-#18446744073709551615 take n1 0
-";
-    assert_eq!(rt; out.as_slice(), want.as_slice());
-    Ok(())
+#18446744073709551615 take n1 0";
+
+// What is read at an end of a link, in the order of the table below.
+fn link_line(alloc: Global, row: usize) -> Result<Line, NoMemory> {
+    let link = octets(alloc, "r")?;
+    match row {
+        0 => Ok(Line::Read(link, octets(alloc, "+OK\r\n$-1\r\n")?)),
+        1 => Ok(Line::Bad {
+            link,
+            number: 2,
+            offset: 12,
+        }),
+        2 => Ok(Line::Fault(link, 3)),
+        _ => Ok(Line::End(link)),
+    }
 }
 
-#[test]
-fn what_a_client_answers_is_printed(rt: HostRuntime) -> Result<(), Fail> {
-    let alloc = rt.alloc();
-    let name = || Octets::from_slice(alloc, b"x");
-    let mut lines = Lines::new(alloc);
-    lines.push(Line::Hit {
-        client: name()?,
-        value: Value::Blob(Octets::from_slice(alloc, b"a b")?),
+const LINK_LINES: &str = "\
+r < +OK\\r\\n$-1\\r\\n
+r bad 2 12
+r fault 3
+r end";
+
+fn hit(client: Octets, value: Octets) -> Line {
+    Line::Hit {
+        client,
+        value: Value::Blob(value),
         entry: 9,
         point: 12,
-    })?;
-    lines.push(Line::Miss(name()?, 3))?;
-    lines.push(Line::Sent(name()?, 4))?;
-    lines.push(Line::Answer(name()?, 4, Value::Number(-7)))?;
-    lines.push(Line::Wait(name()?, 5))?;
-    lines.push(Line::Down(name()?))?;
-    lines.push(Line::NotReady(name()?))?;
-    let query = words_from(alloc, "HGET k f")?;
-    lines.push(Line::Holds(name()?, query, Value::Null, 20))?;
-    lines.push(Line::Complete(name()?, 21))?;
-    let mut out = Vec::new(alloc);
-    put_all(&lines, &mut out)?;
-    let want = b"x hit $3\\r\\na\\sb\\r\\n from 9 at 12
+    }
+}
+
+// What a client answers, in the order of the table below.
+fn client_line(alloc: Global, row: usize) -> Result<Line, NoMemory> {
+    let name = octets(alloc, "x")?;
+    match row {
+        0 => Ok(hit(name, octets(alloc, "a b")?)),
+        1 => Ok(Line::Miss(name, 3)),
+        2 => Ok(Line::Sent(name, 4)),
+        3 => Ok(Line::Answer(name, 4, Value::Number(-7))),
+        4 => Ok(Line::Wait(name, 5)),
+        5 => Ok(Line::Down(name)),
+        6 => Ok(Line::NotReady(name)),
+        7 => {
+            let query = words_from(alloc, "HGET k f")?;
+            Ok(Line::Holds(name, query, Value::Null, 20))
+        }
+        _ => Ok(Line::Complete(name, 21)),
+    }
+}
+
+const CLIENT_ANSWERS: &str = "\
+x hit $3\\r\\na\\sb\\r\\n from 9 at 12
 x miss 3
 x sent 4
 x answer 4 :-7\\r\\n
@@ -453,8 +479,51 @@ x wait 5
 x down
 x not-ready
 x holds HGET k f = _\\r\\n from 20
-x complete 21
-";
+x complete 21";
+
+#[test]
+fn an_entry_of_the_history_is_printed_with_its_number(rt: HostRuntime) -> Result<(), Fail> {
+    for (row, want) in ENTRY_LINES.lines().enumerate() {
+        let line = entry_line(rt.alloc(), row)?;
+        assert!(rt; is_printed(rt.alloc(), &line, want)?, "{want}");
+    }
+    Ok(())
+}
+
+#[test]
+fn what_is_read_of_a_link_is_printed(rt: HostRuntime) -> Result<(), Fail> {
+    for (row, want) in LINK_LINES.lines().enumerate() {
+        let line = link_line(rt.alloc(), row)?;
+        assert!(rt; is_printed(rt.alloc(), &line, want)?, "{want}");
+    }
+    Ok(())
+}
+
+#[test]
+fn what_a_client_answers_is_printed(rt: HostRuntime) -> Result<(), Fail> {
+    for (row, want) in CLIENT_ANSWERS.lines().enumerate() {
+        let line = client_line(rt.alloc(), row)?;
+        assert!(rt; is_printed(rt.alloc(), &line, want)?, "{want}");
+    }
+    Ok(())
+}
+
+fn entry_lines(alloc: Global) -> Result<Lines, NoMemory> {
+    let mut lines = Lines::new(alloc);
+    for row in 0..6 {
+        lines.push(entry_line(alloc, row)?)?;
+    }
+    Ok(lines)
+}
+
+#[test]
+fn lines_are_printed_one_after_the_other(rt: HostRuntime) -> Result<(), Fail> {
+    let mut lines = entry_lines(rt.alloc())?;
+    assert!(rt; matches!(lines.pop(), Some(Line::Take(_, _, 0))));
+    let mut out = Vec::new(rt.alloc());
+    put_all(&lines, &mut out)?;
+    let mut want = Vec::from_slice(rt.alloc(), ENTRY_LINES.as_bytes())?;
+    want.push(b'\n')?;
     assert_eq!(rt; out.as_slice(), want.as_slice());
     Ok(())
 }

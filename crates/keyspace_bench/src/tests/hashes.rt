@@ -1,7 +1,6 @@
 //! The rows of the commands on hashes, in the words of their pages.
-use super::rows::wrong_row;
-use keyspace::{Content, Held, Keyspace};
-use resp_value::Octets;
+use super::rows::{leaves_deadline, words_of, wrong_row};
+use keyspace::Keyspace;
 use std::test::Fail;
 
 // Fields that are missing, new and old, in the order in which they came.
@@ -70,37 +69,31 @@ HINCRBY k f 1: -WRONGTYPE Operation against a key holding the wrong kind of valu
 
 #[test]
 fn a_string_is_of_the_wrong_type(rt: HostRuntime) -> Result<(), Fail> {
-    let a = rt.alloc();
-    let mut space = Keyspace::new(a);
-    let content = Content::Text(Octets::from_slice(a, b"1")?);
-    space.put(
-        b"k",
-        Held {
-            content,
-            deadline: None,
-        },
-    )?;
-    assert_eq!(rt; wrong_row(a, &mut space, WRONG_TYPE_ROWS)?, None);
+    let mut space = Keyspace::new(rt.alloc());
+    space.put_texts(words_of(rt.alloc(), "k 1")?.as_slice())?;
+    assert_eq!(rt; wrong_row(rt.alloc(), &mut space, WRONG_TYPE_ROWS)?, None);
     Ok(())
 }
 
+// Each row with the deadline that the key then has.
+const DEADLINE_ROWS: &str = "\
+HSET h a 2 b 3: :1 | h; 9000
+HINCRBY h a 1: :3 | h; 9000
+HDEL h b: :1 | h; 9000";
+
 #[test]
 fn a_hash_keeps_its_deadline(rt: HostRuntime) -> Result<(), Fail> {
-    let a = rt.alloc();
-    let mut space = Keyspace::new(a);
-    assert_eq!(rt; wrong_row(a, &mut space, "HSET h a 1: :1 | h")?, None);
+    let mut space = Keyspace::new(rt.alloc());
+    assert_eq!(rt;
+        wrong_row(rt.alloc(), &mut space, "HSET h a 1: :1 | h")?,
+        None
+    );
     assert!(rt; space.set_deadline(b"h", Some(9000)));
-    for row in [
-        "HSET h a 2 b 3: :1 | h",
-        "HINCRBY h a 1: :3 | h",
-        "HDEL h b: :1 | h",
-    ] {
-        assert_eq!(rt; wrong_row(a, &mut space, row)?, None);
-        let Some(held) = space.get(b"h") else {
-            assert!(rt; false, "{row}");
-            return Ok(());
-        };
-        assert!(rt; held.deadline == Some(9000), "{row}");
+    for row in DEADLINE_ROWS.lines() {
+        assert!(rt;
+            leaves_deadline(rt.alloc(), &mut space, b"h", row)?,
+            "{row}"
+        );
     }
     Ok(())
 }

@@ -1,4 +1,4 @@
-//! What the sources, sinks, clocks and nets of this crate answer.
+//! What sources, sinks, clocks and nets answer, in memory and of the system.
 use edge_links::*;
 use std::alloc::{AllocError, Global};
 use std::io;
@@ -24,48 +24,87 @@ fn read_out<S: Source>(alloc: Global, source: &mut S, reads: usize) -> Result<St
     Ok(said)
 }
 
+/// The numbers of the reads or writes that fail.
+fn fails_of(alloc: Global, text: &str) -> Result<Vec<u64>, AllocError> {
+    let mut fails = Vec::new(alloc);
+    for word in text.split(' ') {
+        fails.push(word.parse().unwrap_or(0))?;
+    }
+    Ok(fails)
+}
+
+// The reads of a source of seven bytes that fail, and what five reads give.
+const READS: &str = "\
+0 0 = abc def g end end
+1 0 = failed abc def g end
+2 4 = abc failed def failed g
+4 5 = abc def g failed failed";
+
+fn gives(alloc: Global, row: &str) -> Result<bool, Fail> {
+    let Some((fails, want)) = row.split_once(" = ") else {
+        return Ok(false);
+    };
+    let bytes = Vec::from_array(alloc, *b"abcdefg")?;
+    let mut source = MemorySource::new(bytes, fails_of(alloc, fails)?);
+    let said = read_out(alloc, &mut source, 5)?;
+    Ok(said.as_str().trim_end() == want)
+}
+
 #[test]
 fn a_memory_source_fails_at_the_named_reads_and_loses_nothing(rt: HostRuntime) -> Result<(), Fail> {
-    for (fails, want) in [
-        ([0, 0], "abc def g end end "),
-        ([1, 0], "failed abc def g end "),
-        ([2, 4], "abc failed def failed g "),
-        ([4, 5], "abc def g failed failed "),
-    ] {
-        let bytes = Vec::from_array(rt.alloc(), *b"abcdefg")?;
-        let fails = Vec::from_array(rt.alloc(), fails)?;
-        let said = read_out(rt.alloc(), &mut MemorySource::new(bytes, fails), 5)?;
-        assert_eq!(rt; said.as_str(), want);
+    for row in READS.lines() {
+        assert!(rt; gives(rt.alloc(), row)?, "{row}");
     }
     Ok(())
+}
+
+/// What each of three writes of `abc` gave.
+fn write_out<S: Sink>(alloc: Global, sink: &mut S) -> Result<String, AllocError> {
+    let mut said = String::new(alloc);
+    for _ in 0..3u8 {
+        match sink.write(b"abc") {
+            Wrote::Took(3) => said.push_str("all ")?,
+            Wrote::Took(2) => said.push_str("two ")?,
+            Wrote::Took(_) => said.push_str("another ")?,
+            Wrote::Failed => said.push_str("failed ")?,
+        }
+    }
+    Ok(said)
+}
+
+// The room of a sink and the write that fails, then what three writes give, and what is kept.
+const WRITES: &str = "\
+0 0 = failed failed failed |
+5 0 = all two failed |abcab
+9 2 = all failed all |abcabc
+9 0 = all all all |abcabcabc";
+
+fn takes(alloc: Global, row: &str) -> Result<bool, Fail> {
+    let Some((asked, want)) = row.split_once(" = ") else {
+        return Ok(false);
+    };
+    let Some((room, fails)) = asked.split_once(' ') else {
+        return Ok(false);
+    };
+    let fails = fails_of(alloc, fails)?;
+    let mut sink = MemorySink::new(alloc, room.parse().unwrap_or(0), fails)?;
+    is_written(alloc, &mut sink, want)
+}
+
+fn is_written(alloc: Global, sink: &mut MemorySink, want: &str) -> Result<bool, Fail> {
+    let said = write_out(alloc, sink)?;
+    let Some((answers, kept)) = want.split_once('|') else {
+        return Ok(false);
+    };
+    Ok(said.as_str() == answers && sink.bytes() == kept.as_bytes())
 }
 
 #[test]
 fn a_memory_sink_takes_what_fits_and_fails_at_the_named_writes(
     rt: HostRuntime,
 ) -> Result<(), Fail> {
-    for (room, fails, want, kept) in [
-        (0, 0, [Wrote::Failed; 3], "".as_bytes()),
-        (
-            5,
-            0,
-            [Wrote::Took(3), Wrote::Took(2), Wrote::Failed],
-            b"abcab",
-        ),
-        (
-            9,
-            2,
-            [Wrote::Took(3), Wrote::Failed, Wrote::Took(3)],
-            b"abcabc",
-        ),
-        (9, 0, [Wrote::Took(3); 3], b"abcabcabc"),
-    ] {
-        let fails = Vec::from_array(rt.alloc(), [fails])?;
-        let mut sink = MemorySink::new(rt.alloc(), room, fails)?;
-        for answer in want {
-            assert!(rt; sink.write(b"abc") == answer, "room {room}");
-        }
-        assert!(rt; sink.bytes() == kept, "room {room}");
+    for row in WRITES.lines() {
+        assert!(rt; takes(rt.alloc(), row)?, "{row}");
     }
     Ok(())
 }
@@ -113,19 +152,28 @@ fn a_reader_source_passes_a_short_piece_on_and_goes_on_after_a_fault(
     let mut source = ReaderSource::new(rt.alloc(), Halting { calls: 0 })?;
     let said = read_out(rt.alloc(), &mut source, 5)?;
     assert_eq!(rt; said.as_str(), "ab failed c end end ");
+    Ok(())
+}
 
-    let mut source = ReaderSource::new(rt.alloc(), Halting { calls: 0 })?;
+/// What each of five reads of one byte gave.
+fn read_bytes<S: Source>(alloc: Global, source: &mut S) -> Result<String, AllocError> {
+    let mut said = String::new(alloc);
     let mut byte = [0u8; 1];
-    for (answer, want) in [
-        (SourceRead::Bytes(1), b'a'),
-        (SourceRead::Bytes(1), b'b'),
-        (SourceRead::Failed, b'b'),
-        (SourceRead::Bytes(1), b'c'),
-        (SourceRead::End, b'c'),
-    ] {
-        assert!(rt; source.read(&mut byte) == answer);
-        assert_eq!(rt; byte[0], want);
+    for _ in 0..5u8 {
+        match source.read(&mut byte) {
+            SourceRead::Bytes(_) => said.push(char::from(byte[0]))?,
+            SourceRead::End => said.push_str(" end")?,
+            SourceRead::Failed => said.push_str(" failed ")?,
+        }
     }
+    Ok(said)
+}
+
+#[test]
+fn a_reader_source_keeps_what_a_read_leaves(rt: HostRuntime) -> Result<(), Fail> {
+    let mut source = ReaderSource::new(rt.alloc(), Halting { calls: 0 })?;
+    let said = read_bytes(rt.alloc(), &mut source)?;
+    assert_eq!(rt; said.as_str(), "ab failed c end");
     Ok(())
 }
 

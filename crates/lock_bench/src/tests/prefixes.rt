@@ -1,5 +1,5 @@
 //! A table against worked examples.
-use super::PrefixTable;
+use prefix_table::PrefixTable;
 use std::alloc::Global;
 use std::test::Fail;
 

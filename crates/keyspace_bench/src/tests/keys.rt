@@ -1,9 +1,9 @@
 //! The rows of the commands on keys, in the words of their pages.
-use super::rows::words_of;
+use super::rows::{put_hash, words_of};
 use command_words::{Command, Signalled, read_command};
 use key_cmds::{is_key, run_key};
-use keyspace::{Content, Fields, Held, Keyspace};
-use resp_value::{NoMemory, Octets, Proto, put_value};
+use keyspace::Keyspace;
+use resp_value::{NoMemory, Proto, put_value};
 use std::alloc::Global;
 use std::test::Fail;
 
@@ -11,24 +11,12 @@ use std::test::Fail;
 /// tests is 1000.
 fn six_keys(alloc: Global) -> Result<Keyspace, NoMemory> {
     let mut space = Keyspace::new(alloc);
-    for name in [b"s", b"d", b"n", b"p"] {
-        let content = Content::Text(Octets::from_slice(alloc, b"1")?);
-        let held = Held {
-            content,
-            deadline: None,
-        };
-        space.put(name.as_slice(), held)?;
-    }
+    space.put_texts(words_of(alloc, "s 1 d 1 n 1 p 1")?.as_slice())?;
     space.set_deadline(b"d", Some(2000));
     space.set_deadline(b"n", Some(1000));
     space.set_deadline(b"p", Some(999));
-    for name in [b"h", b"i"] {
-        let held = Held {
-            content: Content::Fields(Fields::new(alloc)),
-            deadline: None,
-        };
-        space.put(name.as_slice(), held)?;
-    }
+    put_hash(alloc, &mut space, b"h")?;
+    put_hash(alloc, &mut space, b"i")?;
     Ok(space)
 }
 

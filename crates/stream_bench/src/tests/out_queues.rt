@@ -1,5 +1,5 @@
-//! A queue against worked examples.
-use super::OutQueue;
+//! A queue of messages against worked examples.
+use out_queue::OutQueue;
 use resp_value::{Proto, Value};
 use std::test::Fail;
 
@@ -30,7 +30,7 @@ fn bytes_are_taken_across_messages(rt: HostRuntime) -> Result<(), Fail> {
 }
 
 #[test]
-fn what_was_added_last_can_be_taken_back(rt: HostRuntime) -> Result<(), Fail> {
+fn the_message_that_was_added_last_can_be_taken_back(rt: HostRuntime) -> Result<(), Fail> {
     let mut queue = OutQueue::new(rt.alloc());
     queue.add(b"abc")?;
     queue.add(b"de")?;

@@ -96,93 +96,98 @@ fn put_word(bytes: &mut Vec<u8>, head: &[u8], length: usize) -> Result<(), NoMem
     Ok(())
 }
 
-fn fault_of(alloc: Global, bytes: &[u8]) -> Result<Option<StreamFault>, NoMemory> {
-    let mut reader = RequestReader::new(alloc);
-    reader.feed(bytes)?;
-    match reader.next_request() {
-        Ok(_) => Ok(None),
-        Err(fault) => Ok(Some(fault)),
+/// How many words a request has, or the offset and the number of what is too long.
+#[derive(Clone, Copy, PartialEq, Eq)]
+enum Size {
+    None,
+    Words(usize),
+    TooLong(u64, u64),
+    Other,
+}
+
+fn size_of(answer: &Result<Option<Words>, StreamFault>) -> Size {
+    match answer {
+        Ok(Some(words)) => Size::Words(words.as_slice().len()),
+        Ok(None) => Size::None,
+        Err(StreamFault::TooLong { offset, number }) => Size::TooLong(*offset, *number),
+        Err(_) => Size::Other,
     }
 }
 
-fn words_of(alloc: Global, bytes: &[u8]) -> Result<usize, NoMemory> {
+fn size_read(alloc: Global, bytes: &[u8]) -> Result<Size, NoMemory> {
     let mut reader = RequestReader::new(alloc);
     reader.feed(bytes)?;
-    match reader.next_request() {
-        Ok(Some(words)) => Ok(words.as_slice().len()),
-        _ => Ok(0),
-    }
+    Ok(size_of(&reader.next_request()))
+}
+
+fn size_of_word(alloc: Global, head: &[u8], length: usize) -> Result<Size, NoMemory> {
+    let mut bytes = Vec::new(alloc);
+    put_word(&mut bytes, head, length)?;
+    size_read(alloc, bytes.as_slice())
 }
 
 #[test]
-fn the_limits_of_a_word_and_of_their_number_are_exact(rt: HostRuntime) -> Result<(), Fail> {
-    let a = rt.alloc();
-    let mut bytes = Vec::new(a);
-    put_word(&mut bytes, b"*1\r\n$16777216\r\n", 16777216)?;
-    assert_eq!(rt; words_of(a, &bytes)?, 1);
-    let long = StreamFault::TooLong {
-        offset: 12,
-        number: 16777217,
-    };
-    assert!(rt; fault_of(a, b"*1\r\n$16777217")? == Some(long));
-    let mut bytes = Vec::from_slice(a, b"*65536\r\n")?;
-    for _ in 0..65536 {
+fn the_limit_of_a_word_is_exact(rt: HostRuntime) -> Result<(), Fail> {
+    let size = size_of_word(rt.alloc(), b"*1\r\n$16777216\r\n", 16777216)?;
+    assert!(rt; size == Size::Words(1));
+    let size = size_read(rt.alloc(), b"*1\r\n$16777217")?;
+    assert!(rt; size == Size::TooLong(12, 16777217));
+    Ok(())
+}
+
+fn empty_words(alloc: Global, head: &[u8], count: usize) -> Result<Size, NoMemory> {
+    let mut bytes = Vec::from_slice(alloc, head)?;
+    for _ in 0..count {
         bytes.extend_from_slice(b"$0\r\n\r\n")?;
     }
-    assert_eq!(rt; words_of(a, &bytes)?, 65536);
-    let many = StreamFault::TooLong {
-        offset: 5,
-        number: 65537,
-    };
-    assert!(rt; fault_of(a, b"*65537")? == Some(many));
+    size_read(alloc, bytes.as_slice())
+}
+
+#[test]
+fn the_limit_of_the_number_of_words_is_exact(rt: HostRuntime) -> Result<(), Fail> {
+    let size = empty_words(rt.alloc(), b"*65536\r\n", 65536)?;
+    assert!(rt; size == Size::Words(65536));
+    let size = size_read(rt.alloc(), b"*65537")?;
+    assert!(rt; size == Size::TooLong(5, 65537));
     Ok(())
 }
 
 #[test]
 fn the_limit_of_a_line_is_exact(rt: HostRuntime) -> Result<(), Fail> {
-    let a = rt.alloc();
-    let mut bytes = Vec::new(a);
-    put_word(&mut bytes, b"", 65536)?;
-    assert_eq!(rt; words_of(a, &bytes)?, 1);
-    let mut bytes = Vec::new(a);
-    put_word(&mut bytes, b"", 65537)?;
-    let long = StreamFault::TooLong {
-        offset: 65536,
-        number: 65537,
-    };
-    assert!(rt; fault_of(a, &bytes)? == Some(long));
+    assert!(rt; size_of_word(rt.alloc(), b"", 65536)? == Size::Words(1));
+    assert!(rt; size_of_word(rt.alloc(), b"", 65537)? == Size::TooLong(65536, 65537));
     Ok(())
 }
 
+fn feed_word(
+    alloc: Global,
+    reader: &mut RequestReader,
+    head: &[u8],
+    length: usize,
+) -> Result<(), NoMemory> {
+    let mut bytes = Vec::new(alloc);
+    put_word(&mut bytes, head, length)?;
+    reader.feed(bytes.as_slice())
+}
+
+/// The size of a request of three words of 16 MiB and one more.
+fn size_of_four(alloc: Global, head: &[u8], length: usize) -> Result<Size, NoMemory> {
+    let mut reader = RequestReader::new(alloc);
+    reader.feed(b"*4\r\n")?;
+    for _ in 0..3 {
+        feed_word(alloc, &mut reader, b"$16777216\r\n", 16777216)?;
+    }
+    feed_word(alloc, &mut reader, head, length)?;
+    Ok(size_of(&reader.next_request()))
+}
+
+// 67,108,864 bytes are a request, and one byte more is a fault.
 #[test]
 fn the_limit_of_a_whole_request_is_exact(rt: HostRuntime) -> Result<(), Fail> {
-    let a = rt.alloc();
-    let mut bytes = Vec::from_slice(a, b"*4\r\n")?;
-    for _ in 0..3 {
-        put_word(&mut bytes, b"$16777216\r\n", 16777216)?;
-    }
-    let mut reader = RequestReader::new(a);
-    reader.feed(&bytes)?;
-    let mut last = Vec::new(a);
-    put_word(&mut last, b"$16777160\r\n", 16777160)?;
-    reader.feed(&last)?;
-    match reader.next_request()? {
-        Some(words) => assert_eq!(rt; words.as_slice().len(), 4),
-        None => assert!(rt; false, "67,108,864 bytes are a request"),
-    }
-    let mut reader = RequestReader::new(a);
-    reader.feed(&bytes)?;
-    let mut last = Vec::new(a);
-    put_word(&mut last, b"$16777161\r\n", 16777161)?;
-    reader.feed(&last)?;
-    let long = StreamFault::TooLong {
-        offset: 67108864,
-        number: 67108865,
-    };
-    match reader.next_request() {
-        Ok(_) => assert!(rt; false, "one byte more is a fault"),
-        Err(fault) => assert!(rt; fault == long),
-    }
+    let size = size_of_four(rt.alloc(), b"$16777160\r\n", 16777160)?;
+    assert!(rt; size == Size::Words(4));
+    let size = size_of_four(rt.alloc(), b"$16777161\r\n", 16777161)?;
+    assert!(rt; size == Size::TooLong(67108864, 67108865));
     Ok(())
 }
 
@@ -353,27 +358,26 @@ fn nulls(alloc: Global, head: &[u8], count: usize) -> Result<Vec<u8>, NoMemory> 
     Ok(bytes)
 }
 
+fn reads_word(alloc: Global, head: &[u8], length: usize) -> Result<bool, NoMemory> {
+    let mut bytes = Vec::new(alloc);
+    put_word(&mut bytes, head, length)?;
+    reads(alloc, bytes.as_slice())
+}
+
 #[test]
-fn the_limits_of_values_are_exact(rt: HostRuntime) -> Result<(), Fail> {
-    let a = rt.alloc();
-    let mut bytes = Vec::new(a);
-    put_word(&mut bytes, b"$16777216\r\n", 16777216)?;
-    assert!(rt; reads(a, &bytes)?, "a blob of 16,777,216 bytes");
-    assert!(rt;
-        reads(a, &nulls(a, b"*65536\r\n", 65536)?)?,
-        "65,536 elements"
-    );
-    assert!(rt; reads(a, &nulls(a, b"%32768\r\n", 65536)?)?, "32,768 pairs");
-    let mut bytes = Vec::new(a);
-    for _ in 0..8 {
-        bytes.extend_from_slice(b"*1\r\n")?;
-    }
-    bytes.extend_from_slice(b":1\r\n")?;
-    assert!(rt; reads(a, &bytes)?, "eight levels");
-    for (length, whole) in [(65536, true), (65537, false)] {
-        let mut bytes = Vec::new(a);
-        put_word(&mut bytes, b"+", length)?;
-        assert_eq!(rt; reads(a, &bytes)?, whole, "a line of {length} bytes");
-    }
+fn the_limits_of_a_blob_and_of_a_line_are_exact(rt: HostRuntime) -> Result<(), Fail> {
+    assert!(rt; reads_word(rt.alloc(), b"$16777216\r\n", 16777216)?);
+    assert!(rt; reads_word(rt.alloc(), b"+", 65536)?);
+    assert!(rt; !reads_word(rt.alloc(), b"+", 65537)?);
+    Ok(())
+}
+
+const EIGHT_LEVELS: &[u8] = b"*1\r\n*1\r\n*1\r\n*1\r\n*1\r\n*1\r\n*1\r\n*1\r\n:1\r\n";
+
+#[test]
+fn the_limits_of_aggregates_are_exact(rt: HostRuntime) -> Result<(), Fail> {
+    assert!(rt; reads(rt.alloc(), &nulls(rt.alloc(), b"*65536\r\n", 65536)?)?);
+    assert!(rt; reads(rt.alloc(), &nulls(rt.alloc(), b"%32768\r\n", 65536)?)?);
+    assert!(rt; reads(rt.alloc(), EIGHT_LEVELS)?);
     Ok(())
 }

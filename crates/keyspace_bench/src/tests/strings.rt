@@ -1,6 +1,6 @@
 //! The rows of the commands on strings, in the words of their pages.
-use super::rows::wrong_row;
-use keyspace::{Content, Fields, Held, Keyspace};
+use super::rows::{leaves_deadline, put_hash, wrong_row};
+use keyspace::{Content, Held, Keyspace};
 use resp_value::{NoMemory, Octets};
 use std::alloc::Global;
 use std::test::Fail;
@@ -87,15 +87,6 @@ MGET h: *1 _ |
 DECRBY h -9223372036854775808: -ERR increment or decrement would overflow |
 SET h x: +OK | h";
 
-fn put_hash(alloc: Global, space: &mut Keyspace, key: &[u8]) -> Result<(), NoMemory> {
-    let content = Content::Fields(Fields::new(alloc));
-    let held = Held {
-        content,
-        deadline: None,
-    };
-    space.put(key, held)
-}
-
 #[test]
 fn a_hash_is_of_the_wrong_type(rt: HostRuntime) -> Result<(), Fail> {
     let a = rt.alloc();
@@ -110,27 +101,26 @@ fn a_hash_is_of_the_wrong_type(rt: HostRuntime) -> Result<(), Fail> {
     Ok(())
 }
 
+// Each row with the deadline that the key then has.
+const DEADLINE_ROWS: &str = "\
+SET d 1 EX 10: +OK | d; 11000
+SET d 2 KEEPTTL: +OK | d; 11000
+APPEND d 3: :2 | d; 11000
+INCR d: :24 | d; 11000
+SET d 5 PX 7: +OK | d; 1007
+SET d 6 EX 9 NX: _ |; 1007
+SET d 6 PX 9 XX: +OK | d; 1009
+SET d 6: +OK | d; none";
+
 #[test]
 fn set_leaves_the_deadline_of_its_option(rt: HostRuntime) -> Result<(), Fail> {
-    let a = rt.alloc();
-    let mut space = Keyspace::new(a);
-    put_hash(a, &mut space, b"d")?;
-    for (row, deadline) in [
-        ("SET d 1 EX 10: +OK | d", Some(11000)),
-        ("SET d 2 KEEPTTL: +OK | d", Some(11000)),
-        ("APPEND d 3: :2 | d", Some(11000)),
-        ("INCR d: :24 | d", Some(11000)),
-        ("SET d 5 PX 7: +OK | d", Some(1007)),
-        ("SET d 6 EX 9 NX: _ |", Some(1007)),
-        ("SET d 6 PX 9 XX: +OK | d", Some(1009)),
-        ("SET d 6: +OK | d", None),
-    ] {
-        assert_eq!(rt; wrong_row(a, &mut space, row)?, None);
-        let Some(held) = space.get(b"d") else {
-            assert!(rt; false, "{row}");
-            return Ok(());
-        };
-        assert!(rt; held.deadline == deadline, "{row}");
+    let mut space = Keyspace::new(rt.alloc());
+    put_hash(rt.alloc(), &mut space, b"d")?;
+    for row in DEADLINE_ROWS.lines() {
+        assert!(rt;
+            leaves_deadline(rt.alloc(), &mut space, b"d", row)?,
+            "{row}"
+        );
     }
     Ok(())
 }
@@ -141,22 +131,22 @@ APPEND big y: :1048577 | big
 STRLEN big: :1048577 |
 GETRANGE big -2 -1: $2 xy |";
 
-#[test]
-fn a_value_of_a_mebibyte_grows_by_one_byte(rt: HostRuntime) -> Result<(), Fail> {
-    let a = rt.alloc();
-    let mut space = Keyspace::new(a);
-    let mut bytes = Vec::new(a);
+fn put_mebibyte(alloc: Global, space: &mut Keyspace, key: &[u8]) -> Result<(), NoMemory> {
+    let mut bytes = Vec::new(alloc);
     for _byte in 0..1048576 {
         bytes.push(b'x')?;
     }
-    let content = Content::Text(Octets::from_vec(bytes));
-    space.put(
-        b"big",
-        Held {
-            content,
-            deadline: None,
-        },
-    )?;
-    assert_eq!(rt; wrong_row(a, &mut space, BIG_ROWS)?, None);
+    let held = Held {
+        content: Content::Text(Octets::from_vec(bytes)),
+        deadline: None,
+    };
+    space.put(key, held)
+}
+
+#[test]
+fn a_value_of_a_mebibyte_grows_by_one_byte(rt: HostRuntime) -> Result<(), Fail> {
+    let mut space = Keyspace::new(rt.alloc());
+    put_mebibyte(rt.alloc(), &mut space, b"big")?;
+    assert_eq!(rt; wrong_row(rt.alloc(), &mut space, BIG_ROWS)?, None);
     Ok(())
 }

@@ -4,7 +4,7 @@
 //! the line signals.
 use command_words::{Command, Signalled, read_command};
 use hash_cmds::{is_hash, run_hash};
-use keyspace::Keyspace;
+use keyspace::{Content, Fields, Held, Keyspace};
 use resp_value::{NoMemory, Octets, Proto, Value, Words, put_value};
 use std::alloc::Global;
 use string_cmds::{is_string, run_string};
@@ -83,4 +83,41 @@ pub fn wrong_row<'a>(
         }
     }
     Ok(None)
+}
+
+/// Puts a hash without fields under the key.
+pub fn put_hash(alloc: Global, space: &mut Keyspace, key: &[u8]) -> Result<(), NoMemory> {
+    let content = Content::Fields(Fields::new(alloc));
+    let held = Held {
+        content,
+        deadline: None,
+    };
+    space.put(key, held)
+}
+
+fn is_deadline(deadline: Option<u64>, wanted: &str) -> bool {
+    match (deadline, wanted.parse::<u64>()) {
+        (Some(at), Ok(wanted)) => at == wanted,
+        (None, Err(_)) => wanted == "none",
+        _ => false,
+    }
+}
+
+/// Runs a row, with the deadline that the key then has behind a semicolon.
+pub fn leaves_deadline(
+    alloc: Global,
+    space: &mut Keyspace,
+    key: &[u8],
+    row: &str,
+) -> Result<bool, NoMemory> {
+    let Some((row, wanted)) = row.split_once("; ") else {
+        return Ok(false);
+    };
+    if wrong_row(alloc, space, row)?.is_some() {
+        return Ok(false);
+    }
+    match space.get(key) {
+        Some(held) => Ok(is_deadline(held.deadline, wanted)),
+        None => Ok(false),
+    }
 }

@@ -18,6 +18,15 @@ enum Asked {
     IsQuery,
     IsControl,
     HowManyKeys,
+    Two(AskedOfTwo),
+}
+
+/// What two parts of a line are asked, with a stroke between them.
+#[derive(Clone, Copy)]
+enum AskedOfTwo {
+    AreSame,
+    HasKey,
+    Writes,
 }
 
 fn yes_or_no(is_so: bool) -> &'static str {
@@ -37,14 +46,49 @@ fn how_many_keys(alloc: Global, line: &str) -> Result<&'static str, NoMemory> {
     })
 }
 
+fn query_of(alloc: Global, line: &str) -> Result<Option<Query>, NoMemory> {
+    Query::read(alloc, &words(alloc, line)?)
+}
+
+/// Whether two lines are the same query; the second is read once more from its own words.
+fn are_same(alloc: Global, one: &str, other: &str) -> Result<bool, NoMemory> {
+    let (Some(one), Some(other)) = (query_of(alloc, one)?, query_of(alloc, other)?) else {
+        return Ok(false);
+    };
+    match Query::read(alloc, other.words())? {
+        Some(again) => Ok(one.is_same(&again)),
+        None => Ok(false),
+    }
+}
+
+fn has_key(alloc: Global, line: &str, key: &str) -> Result<bool, NoMemory> {
+    match query_of(alloc, line)? {
+        Some(query) => Ok(query.key() == key.as_bytes()),
+        None => Ok(false),
+    }
+}
+
+fn writes(alloc: Global, line: &str, key: &str) -> Result<bool, NoMemory> {
+    Ok(written_by(alloc, &words(alloc, line)?)?.names(key.as_bytes()))
+}
+
+fn answer_of_two(alloc: Global, asked: AskedOfTwo, parts: &str) -> Result<bool, NoMemory> {
+    let Some((one, other)) = parts.split_once(" | ") else {
+        return Ok(false);
+    };
+    match asked {
+        AskedOfTwo::AreSame => are_same(alloc, one, other),
+        AskedOfTwo::HasKey => has_key(alloc, one, other),
+        AskedOfTwo::Writes => writes(alloc, one, other),
+    }
+}
+
 fn answer(alloc: Global, asked: Asked, line: &str) -> Result<&'static str, NoMemory> {
     match asked {
-        Asked::IsQuery => {
-            let query = Query::read(alloc, &words(alloc, line)?)?;
-            Ok(yes_or_no(query.is_some()))
-        }
+        Asked::IsQuery => Ok(yes_or_no(query_of(alloc, line)?.is_some())),
         Asked::IsControl => Ok(yes_or_no(is_control(&words(alloc, line)?))),
         Asked::HowManyKeys => how_many_keys(alloc, line),
+        Asked::Two(asked) => Ok(yes_or_no(answer_of_two(alloc, asked, line)?)),
     }
 }
 
@@ -101,37 +145,44 @@ fn queries_controls_and_keys_are_told_from_the_words(rt: HostRuntime) -> Result<
     Ok(())
 }
 
+const SAME: &str = "\
+gEt a | get a: yes
+get a | gEt a: yes
+get a | get b: no
+get a | set a 1: no
+hmget k f g | HMGET k f g: yes
+hmget k f g | hmget k g f: no
+hmget k f g | hgetall k: no";
+
+const KEYS_OF_QUERIES: &str = "\
+gEt a | a: yes
+hmget k f g | k: yes
+hmget k f g | f: no";
+
 #[test]
-fn a_query_has_its_name_in_upper_case(rt: HostRuntime) -> Result<(), Fail> {
-    let alloc = rt.alloc();
-    let query = Query::read(alloc, &words(alloc, "gEt a")?)?.ok_or("no query")?;
-    assert_eq!(rt; query.key(), b"a".as_slice());
-    let same = Query::read(alloc, query.words())?.ok_or("no query")?;
-    assert!(rt; query.is_same(&same));
+fn a_query_is_its_words_with_the_name_in_upper_case(rt: HostRuntime) -> Result<(), Fail> {
+    let same = Asked::Two(AskedOfTwo::AreSame);
+    assert_eq!(rt; wrong_row(rt.alloc(), same, SAME)?, None);
+    let has_key = Asked::Two(AskedOfTwo::HasKey);
+    assert_eq!(rt; wrong_row(rt.alloc(), has_key, KEYS_OF_QUERIES)?, None);
     Ok(())
 }
 
-#[test]
-fn queries_of_two_commands_differ(rt: HostRuntime) -> Result<(), Fail> {
-    let alloc = rt.alloc();
-    let fields = Query::read(alloc, &words(alloc, "hmget k f g")?)?.ok_or("no query")?;
-    assert_eq!(rt; fields.key(), b"k".as_slice());
-    let all = Query::read(alloc, &words(alloc, "hgetall k")?)?.ok_or("no query")?;
-    assert!(rt; !fields.is_same(&all));
-    Ok(())
-}
-
-fn names(alloc: Global, line: &str, key: &[u8]) -> Result<bool, NoMemory> {
-    Ok(written_by(alloc, &words(alloc, line)?)?.names(key))
-}
+const WRITTEN: &str = "\
+set a 1 | a: yes
+set a 1 | b: no
+mset a 1 b 2 | b: yes
+mset a 1 b 2 | 1: no
+hset k a 1 | a: no
+hset k a 1 | k: yes
+rename a b | b: yes
+flushdb | b: yes
+mset a | a: no
+get a | a: no";
 
 #[test]
 fn what_is_written_is_named(rt: HostRuntime) -> Result<(), Fail> {
-    let alloc = rt.alloc();
-    assert!(rt; names(alloc, "set a 1", b"a")? && !names(alloc, "set a 1", b"b")?);
-    assert!(rt; names(alloc, "mset a 1 b 2", b"b")? && !names(alloc, "mset a 1 b 2", b"1")?);
-    assert!(rt; !names(alloc, "hset k a 1", b"a")? && names(alloc, "rename a b", b"b")?);
-    assert!(rt; names(alloc, "flushdb", b"b")? && !names(alloc, "mset a", b"a")?);
-    assert!(rt; !names(alloc, "get a", b"a")?);
+    let writes = Asked::Two(AskedOfTwo::Writes);
+    assert_eq!(rt; wrong_row(rt.alloc(), writes, WRITTEN)?, None);
     Ok(())
 }
