@@ -10,7 +10,7 @@ mod rounds;
 
 use calls::{content, flush, mode, welcome};
 use resp_value::NoMemory;
-use rounds::{StdMaps, changes, copies, fills, hits, notices, queries};
+use rounds::{StdMaps, asks, changes, contents, copies, fills, hits, notices, queries};
 use shared_cache::{ClientCall, ClientState, Wire};
 use std::alloc::Global;
 use std::rt::Runtime;
@@ -62,8 +62,48 @@ fn report<R: Runtime>(
     Ok(())
 }
 
-/// A round of turns on a client that holds every key below `keys`, and what std's maps take.
 fn measure<R: Runtime>(rt: &R, alloc: Global, keys: u64, times: u64) -> Result<(), Fault>
+    requires keys { (0 < keys) × (keys ≤ 1000000) }
+    requires times { 0 < times }
+{
+    measure_held(rt, alloc, keys, times)?;
+    measure_open(rt, alloc, keys, times)
+}
+
+/// Rounds of turns on a client that waits for the replies to so many queries.
+fn measure_open<R: Runtime>(rt: &R, alloc: Global, keys: u64, times: u64) -> Result<(), Fault>
+    requires keys { (0 < keys) × (keys ≤ 1000000) }
+    requires times { 0 < times }
+{
+    let mut client = ready_client(alloc, keys)?;
+    let began = Instant::now(rt)?;
+    let count = asks(alloc, &mut client, keys)?;
+    report(rt, "fetches left open", count, began.elapsed(rt)?, keys)?;
+    let times = times.min((keys + 1) / 2);
+    let changed = changes(alloc, keys - times, times)?;
+    let began = Instant::now(rt)?;
+    let count = notices(&mut client, changed);
+    report(
+        rt,
+        "invalidations among open fetches",
+        count,
+        began.elapsed(rt)?,
+        times,
+    )?;
+    let replies = contents(alloc, times)?;
+    let began = Instant::now(rt)?;
+    let count = notices(&mut client, replies);
+    report(
+        rt,
+        "replies among open fetches",
+        count,
+        began.elapsed(rt)?,
+        times,
+    )
+}
+
+/// A round of turns on a client that holds every key below `keys`, and what std's maps take.
+fn measure_held<R: Runtime>(rt: &R, alloc: Global, keys: u64, times: u64) -> Result<(), Fault>
     requires keys { (0 < keys) × (keys ≤ 1000000) }
     requires times { 0 < times }
 {

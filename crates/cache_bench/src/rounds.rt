@@ -44,6 +44,30 @@ pub fn fills(
     Ok(count)
 }
 
+/// The keys below that number are asked for, and their queries go out.
+pub fn asks(alloc: Global, client: &mut ClientState, keys: u64) -> Result<u64, NoMemory> {
+    let mut count = 0u64;
+    for number in 0..keys {
+        let Some(query) = query(alloc, number)? else {
+            return Ok(count);
+        };
+        if let ClientReply::Sent { .. } = client.turn(ClientCall::Ask(query)) {
+            count = count.saturating_add(1);
+        }
+        client.turn(ClientCall::TakeOut(Wire::Main, 4096));
+    }
+    Ok(count)
+}
+
+/// Replies to that many queries.
+pub fn contents(alloc: Global, times: u64) -> Result<Vec<Value>, NoMemory> {
+    let mut values = Vec::new(alloc);
+    for _ in 0..times {
+        values.push(content(alloc)?)?;
+    }
+    Ok(values)
+}
+
 /// Numbers below `keys`, far from one another.
 fn spread(place: u64, keys: u64) -> u64
     requires { 0 < keys }

@@ -110,7 +110,7 @@ module _ (s : Setup) (log : List LogEntry) (f : Fields) (k : Reflects s log f) w
       }
 
   -- a number without a reply waits
-  waits : (i : ℕ) → i < length f.pending → f.replied < i + 3 → get_or f.pending i Gone ≡ Waiting
+  pub waits : (i : ℕ) → i < length f.pending → f.replied < i + 3 → get_or f.pending i Gone ≡ Waiting
   waits i lt late =
       k.pending_is i lt
       ∙ ap (λ b. cond b Gone (there (reply_in (i + 3) (replies s.mode Main log))))

@@ -7,6 +7,7 @@ pub mod Filled
 pub mod HeldSteps
 pub mod MarkLists
 pub mod PendingLists
+pub mod PendingFront
 pub mod InPlace
 pub mod NewestFirst
 pub mod OtherTurns

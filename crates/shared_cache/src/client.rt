@@ -3,12 +3,12 @@ ghost use Rattle.std.specs.Prelude.{◌≡◌, ◌+◌, ◌<◌, ◌≤◌, ◌�
 ghost use Rattle.std.specs.Prelude.{length};
 
 use super::cache::{forget_all, invalidate, mark, refill};
-use super::entry::{CacheEntry, PendingReply};
+use super::entry::CacheEntry;
 use super::handshake::{HANDSHAKE, enqueue, greeting, is_welcome};
 use super::held_keys::HeldKeys;
 use super::log::{ClientCall, ClientMode, ClientRefusal, ClientReply, LogEntry, Wire};
 use super::notices::{Notice, invalidated, is_broken_by, kind_of};
-use super::pending::{Handed, hand_over, put_reply};
+use super::pending::{Handed, PendingReplies, put_reply};
 use byte_queue::ByteQueue;
 use command_words::{Query, is_control, written_by};
 use fill_mark::Marks;
@@ -32,7 +32,7 @@ pub struct ClientState {
     queued: ByteQueue,
     replied: u64,
     // by number, after the handshake's
-    pending: Vec<PendingReply>,
+    pending: PendingReplies,
     owed: usize,
     marks: Marks,
     keys: HeldKeys,
@@ -61,7 +61,7 @@ impl Model for ClientState {
           (record {
             queued = c.queued;
             replied = c.replied;
-            pending = c.pending.items;
+            pending = c.pending;
             owed = c.owed;
             marks = c.marks;
             keys = c.keys;
@@ -114,7 +114,7 @@ impl ClientState {
             log: Vec::with_capacity(alloc, 1)?,
             queued,
             replied: 0,
-            pending: Vec::new(alloc),
+            pending: PendingReplies::new(alloc),
             owed: 0,
             marks: Marks::new(alloc),
             keys,
@@ -222,7 +222,7 @@ impl ClientState {
             return ClientReply::Refused(ClientRefusal::NoNumber { number });
         }
         let place = (number - HANDSHAKE - 1) as usize;
-        match hand_over(&mut self.pending, place) {
+        match self.pending.hand_over(place) {
             Handed::Gone => ClientReply::Refused(ClientRefusal::NoNumber { number }),
             Handed::Waiting => {
                 if self.ended {
@@ -356,7 +356,7 @@ impl ClientState {
             Ok(()) => {}
             Err(_) => {
                 self.queued.keep(before);
-                let _ = self.pending.pop();
+                self.pending.take_back();
                 return Err(NoMemory);
             }
         }
@@ -433,6 +433,8 @@ impl ClientState {
         ensures ok { OnOk result (self.new ≡ added (entry.Got Main value) self.old) }
         ensures err { OnErr result (self.new ≡ self.old) }
     {
+        // so few numbers are awaited that the next is a number too
+        let _ = self.pending.len();
         let number = self.replied + 1;
         let logged = value.copy()?;
         self.log.reserve(self.owed + 2)?;

@@ -7,8 +7,8 @@ ghost use Rattle.shared_cache.specs.declared.log.Wire.TheVariants.{Main};
 ghost use Rattle.shared_cache.specs.Log.{handshake, is_ok_text};
 ghost use Rattle.shared_cache.specs.Steps.{is_map, is_welcome};
 
-use super::entry::PendingReply;
 use super::log::ClientMode;
+use super::pending::PendingReplies;
 use byte_queue::ByteQueue;
 use resp_value::{NoMemory, Octets, Value, Words, put_request};
 use std::alloc::Global;
@@ -21,19 +21,24 @@ pub fn enqueue(
     alloc: Global,
     words: &Words,
     queued: &mut ByteQueue,
-    pending: &mut Vec<PendingReply>,
+    pending: &mut PendingReplies,
 ) -> Result<(), NoMemory>
     ensures queued { OnOk result (queued.new ≡ queued.old ++ request_spelling words.now) }
-    ensures pending { OnOk result (pending.new.items ≡ pending.old.items ++ Waiting ∷ []) }
+    ensures pending { OnOk result (pending.new ≡ pending.old ++ Waiting ∷ []) }
     ensures err_queued { OnErr result (queued.new ≡ queued.old) }
-    ensures err_pending { OnErr result (pending.new.items ≡ pending.old.items) }
+    ensures err_pending { OnErr result (pending.new ≡ pending.old) }
 {
-    pending.reserve(1)?;
     let mut bytes = Vec::new(alloc);
     put_request(words, &mut bytes)?;
+    let before = queued.len();
     queued.add(&bytes)?;
-    pending.push_reserved(PendingReply::Waiting);
-    Ok(())
+    match pending.add() {
+        Ok(()) => Ok(()),
+        Err(_) => {
+            queued.keep(before);
+            Err(NoMemory)
+        }
+    }
 }
 
 fn is_map(value: &Value) -> bool

@@ -88,7 +88,7 @@ pub overflow_sub-self : goal.overflow_sub-self
 overflow_sub-self c =
     omega (
       arith,
-      owed_gone c.self.inside.pending.items
+      owed_gone c.self.inside.pending
           (c.args.number - 2 - 1) c.in-There.value c.in-There.ensures.0,
       c.self.invariant.reflects.owed_is,
     )
@@ -97,7 +97,7 @@ pub push_reserved-requires : goal.push_reserved-requires
 push_reserved-requires c =
     omega (
       arith,
-      owed_gone c.self.inside.pending.items
+      owed_gone c.self.inside.pending
           (c.args.number - 2 - 1) c.in-There.value c.in-There.ensures.0,
       c.self.invariant.reflects.owed_is,
       c.self.invariant.room,
@@ -111,7 +111,7 @@ invariant_of-self-in-There c =
     let one : i.owed ≡ i.owed - 1 + 1
     = omega (
       arith,
-      owed_gone i.pending.items place c.in-There.value c.in-There.ensures.0,
+      owed_gone i.pending place c.in-There.value c.in-There.ensures.0,
       k.owed_is,
     ) in
     record {

@@ -6,7 +6,7 @@ pub invariant_of-result : goal.invariant_of-result
 invariant_of-result c = record {
   reflects = rw (
     c.in_ok-with_capacity.ensures.items,
-    c.new-2.ensures.items,
+    c.new-2.ensures,
     c.new-3.ensures,
     c.in_ok-keys.ensures,
   ) (reflects_none _ _ c.requires.capacity.0 c.in_ok-queued.ensures);

@@ -1,4 +1,5 @@
-use Rattle.std.proofs.Common.{◌≡◌, ◌+◌, ◌++◌, ◌∷◌, [], length, reverse, arith, ap, ◌∙◌, refl, None}
+use Rattle.std.proofs.Common.{◌≡◌, ◌+◌, ◌-◌, ◌++◌, ◌∷◌, [], length, reverse, arith, ap, ◌∙◌, refl}
+use Rattle.std.proofs.Common.{None}
 use Rattle.shared_cache.specs.declared.log.Wire.TheVariants.{Main}
 use Rattle.shared_cache.specs.declared.log.LogEntry.TheVariants as entry
 use Rattle.shared_cache.specs.Log.{replies}
@@ -10,8 +11,16 @@ use Rattle.shared_cache.proofs.StepCases.{awaits}
 use Rattle.std.proofs.lemmas.Bool.{leb-false}
 use Rattle.fill_mark.specs.Marks.{query_marked}
 use Rattle.shared_cache.specs.HeldKeys.{refilled}
-use Rattle.shared_cache.proofs.Gots.{reflects_reply}
+use Rattle.shared_cache.proofs.Gots.{reflects_reply, waits}
 use Rattle.shared_cache.proofs.client.ClientState.settle.Goals as goal
+
+pub overflow_add-number : goal.overflow_add-number
+overflow_add-number c =
+    let k = c.self.invariant.reflects in
+    let within = k.replied_within in
+    let count = c.len.ensures.count in
+    let few = c.len.ensures.within in
+    omega (arith, within, count, few, k.pending_count)
 
 pub put_reply-requires : goal.put_reply-requires
 put_reply-requires c =
@@ -23,13 +32,17 @@ put_reply-requires c =
     ∙ c.requires.awaited in
     let a = awaits (record { mode = i.mode; capacity = i.capacity; log_max = i.log_max })
     (reverse i.log.items) c.args.value c.requires.reply fault in
-    omega (
+    λ big.
+    waits _ _ _ k (i.replied + 1 - 3)
+    (omega (
       arith,
+      big,
       leb-false (numbers (record { mode = i.mode; capacity = i.capacity; log_max = i.log_max })
           (reverse i.log.items)) (length (replies i.mode Main (reverse i.log.items))) a.0,
       k.replied_is,
       k.pending_count,
-    )
+    ))
+    (omega (arith, big))
 
 pub invariant_of-self-2 : goal.invariant_of-self-2
 invariant_of-self-2 c =

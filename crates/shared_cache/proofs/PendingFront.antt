@@ -1,0 +1,104 @@
+-- The replies behind those of the front, which were handed out.
+use Rattle.std.proofs.Common.{◌≡◌, ◌+◌, ◌-◌, ◌<◌, ◌≤◌, ◌++◌, ℕ, List, [], ◌∷◌, length}
+use Rattle.std.proofs.Common.{get_or, set, drop, replicate, Option, Some, None, sym, ap, ◌∙◌, arith}
+use Rattle.std.proofs.Common.{inl, inr, refl, append_assoc, append-nil}
+use Rattle.std.proofs.lemmas.Bool.{cases_lt}
+use Rattle.std.proofs.lemmas.List.{length-append, length-replicate, get_or-replicate, get_or_past}
+use Rattle.std.proofs.lemmas.List.{get_or_append_left, get_or-append_right, set-append_right}
+use Rattle.std.proofs.lemmas.List.{get_or_push, same_from_push, nil_from_length}
+use Rattle.std.proofs.lemmas.Grind.{replicate_next}
+use Rattle.std.specs.Option.{option_to_list}
+use Rattle.shared_cache.specs.declared.entry.PendingReply.{PendingReply}
+use Rattle.shared_cache.specs.declared.entry.PendingReply.TheVariants.{Waiting, Gone}
+use Rattle.shared_cache.specs.declared.pending.Handed.{Handed}
+use Rattle.shared_cache.specs.declared.pending.Handed.TheVariants as handed
+use Rattle.shared_cache.specs.PendingReplies.{HandsOver}
+
+gone_waits : Gone ≡ Waiting → ⊥
+gone_waits e = cc
+
+pub in_front : (gone : ℕ) (rest : List PendingReply) (i : ℕ) → i < gone
+    → get_or (replicate gone Gone ++ rest) i Gone ≡ Gone
+in_front gone rest i lt =
+    get_or_append_left (replicate gone Gone) rest Gone i
+    (omega (arith, length-replicate gone Gone))
+    ∙ get_or-replicate gone i Gone Gone lt
+
+pub behind : (gone : ℕ) (rest : List PendingReply) (i : ℕ) → gone ≤ i
+    → get_or (replicate gone Gone ++ rest) i Gone ≡ get_or rest (i - gone) Gone
+behind gone rest i le =
+    get_or-append_right (replicate gone Gone) rest gone i Gone (length-replicate gone Gone) le
+
+-- a number that waits is not of the front
+pub waits_behind : (gone : ℕ) (rest : List PendingReply) (i : ℕ)
+    → get_or (replicate gone Gone ++ rest) i Gone ≡ Waiting
+    → (gone ≤ i) × (i - gone < length rest)
+waits_behind gone rest i e = elim (cases_lt i gone) [
+  | inl lt ↦ absurd (gone_waits (sym (in_front gone rest i lt) ∙ e))
+  | inr le ↦ elim (cases_lt (i - gone) (length rest)) [
+    | inl short ↦ (le, short)
+    | inr past ↦
+        absurd (gone_waits (sym (behind gone rest i le ∙ get_or_past rest (i - gone) Gone past)
+        ∙ e))
+  ]
+]
+
+pub set_behind : (gone : ℕ) (rest : List PendingReply) (i : ℕ) (r : PendingReply) → gone ≤ i
+    → replicate gone Gone ++ set rest (i - gone) r ≡ set (replicate gone Gone ++ rest) i r
+set_behind gone rest i r le =
+    sym (set-append_right (replicate gone Gone) rest gone i r (length-replicate gone Gone) le)
+
+pub hands_behind : (gone : ℕ) (old : List PendingReply) (i : ℕ) (h : Handed)
+    (new : List PendingReply) → gone ≤ i → HandsOver old (i - gone) h new
+    → HandsOver (replicate gone Gone ++ old) i h (replicate gone Gone ++ new)
+hands_behind gone old i handed.Waiting new le p =
+    (behind gone old i le ∙ p.0, ap (λ l. replicate gone Gone ++ l) p.1)
+hands_behind gone old i handed.Gone new le p =
+    (behind gone old i le ∙ p.0, ap (λ l. replicate gone Gone ++ l) p.1)
+hands_behind gone old i (handed.There v) new le p = (
+  behind gone old i le ∙ p.0,
+  ap (λ l. replicate gone Gone ++ l) p.1 ∙ set_behind gone old i Gone le,
+)
+
+-- the last of those of the front does not wait
+none_waits : (gone : ℕ) (front : List PendingReply) → replicate gone Gone ≡ front ++ Waiting ∷ []
+    → ⊥
+none_waits gone front e =
+    let many : length front < gone
+    = omega (
+      arith,
+      ap length e,
+      length-replicate gone Gone,
+      length-append front (Waiting ∷ []),
+    ) in
+    gone_waits
+    (sym (get_or-replicate gone (length front) Gone Gone many)
+    ∙ ap (λ l. get_or l (length front) Gone) e
+    ∙ get_or_push front Waiting Gone (length front) refl)
+
+-- the first of the rest is counted alone
+pub one_more : (gone : ℕ) (old new : List PendingReply) → 0 < length old → get_or old 0 Gone ≡ Gone
+    → new ≡ drop 1 old → replicate (gone + 1) Gone ++ new ≡ replicate gone Gone ++ old
+one_more gone [] new some is e = absurd (omega arith)
+one_more gone (r ∷ old) new some is e =
+    ap (λ l. l ++ new) (replicate_next gone Gone)
+    ∙ append_assoc (replicate gone Gone) (Gone ∷ []) new
+    ∙ (λ i. replicate gone Gone ++ sym is i ∷ e i)
+
+-- the last goes
+pub last_goes : (gone : ℕ) (old new front : List PendingReply) (last : Option PendingReply)
+    → old ≡ new ++ option_to_list last → (last ≡ None → length new ≡ 0)
+    → replicate gone Gone ++ old ≡ front ++ Waiting ∷ [] → replicate gone Gone ++ new ≡ front
+last_goes gone old new front (Some r) e none is =
+    (same_from_push (replicate gone Gone ++ new) front r Waiting
+    (append_assoc (replicate gone Gone) new (r ∷ [])
+    ∙ ap (λ l. replicate gone Gone ++ l) (sym e) ∙ is)).0
+last_goes gone old new front None e none is =
+    absurd (none_waits gone front
+    (sym (append-nil (replicate gone Gone))
+    ∙ ap (λ l. replicate gone Gone ++ l)
+    (sym (e ∙ append-nil new ∙ nil_from_length new (none refl))) ∙ is))
+
+pub first_gone : (rest : List PendingReply) (r : PendingReply) → r ≡ Gone → r ≡ get_or rest 0 r
+    → get_or rest 0 Gone ≡ Gone
+first_gone rest r e at = ap (get_or rest 0) (sym e) ∙ sym at ∙ e
