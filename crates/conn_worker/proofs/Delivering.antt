@@ -4,7 +4,7 @@ use Rattle.std.proofs.Common.{min}
 use Rattle.std.proofs.Common.{true, false, cond, refl, sym, ap, subst, ◌∙◌, arith, append-nil, inl}
 use Rattle.std.proofs.Common.{inr}
 use Rattle.std.proofs.Common.{zero, suc, eq-eqb}
-use Rattle.std.specs.Prelude.{Option, ◌⊎◌, ◌==◌}
+use Rattle.std.specs.Prelude.{Option, ◌==◌}
 use Rattle.std.specs.List.{All}
 use Rattle.std.specs.Io.KnownBytes.{Appends}
 use Rattle.std.proofs.lemmas.List.Elements.{All-nil, All-cons}
@@ -21,12 +21,10 @@ use Rattle.shared_book.specs.Turns.{Place, Turn, Gives, Rests, Refuses, Takes, l
 use Rattle.shared_book.specs.declared.turns.Refusal.{Refusal}
 use Rattle.shared_book.specs.declared.turns.Refusal.TheVariants as refusal
 use Rattle.shared_book.proofs.Growing.{grows_none, grows_then, grows_past}
-use Rattle.shared_book.proofs.Histories.{begins_lift, admitted_more, stream_begins, taken_begins}
-use Rattle.conn_worker.specs.declared.report.Ended.{Ended}
+use Rattle.shared_book.proofs.Histories.{begins_lift, admitted_more, stream_begins}
 use Rattle.conn_worker.specs.declared.report.Ended.TheVariants as ended
 use Rattle.conn_worker.specs.Visits.{IsWork, IsEnd, ended_by, runs_in, gave, Delivers, DeliversPart}
-use Rattle.conn_worker.proofs.Bytes.{appends_none, appends_more, appends_as}
-use Rattle.conn_worker.proofs.Turning.{gave_append}
+use Rattle.edge_links.proofs.Bytes.{appends_none, appends_more, appends_as}
 
 -- what was taken and written so far
 pub record Delivering (id : ℕ) (link0 link1 : Option (List ℕ)) (old new : Place) : Type 0 where

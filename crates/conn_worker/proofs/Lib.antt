@@ -1,6 +1,6 @@
+mod Faults
 mod Reading
 mod Turning
 mod Running
-mod Bytes
 mod Delivering
 mod Serving

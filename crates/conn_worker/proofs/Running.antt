@@ -1,12 +1,11 @@
 -- The requests that a connection has read run, one after another.
-use Rattle.std.proofs.Common.{◌≡◌, ◌≤◌, ◌<◌, ◌+◌, ℕ, List, [], ◌∷◌, ◌++◌, length, true, false}
+use Rattle.std.proofs.Common.{◌≡◌, ◌≤◌, ◌<◌, ◌+◌, ℕ, List, [], ◌∷◌, ◌++◌, length, true}
 use Rattle.std.proofs.Common.{Some, None, refl, sym, ap, subst, ◌∙◌, arith, append_assoc}
 use Rattle.std.proofs.Common.{append-nil}
 use Rattle.std.proofs.Common.{length-append, Ok}
 use Rattle.std.specs.Prelude.{Option}
 use Rattle.std.specs.List.{All}
-use Rattle.std.proofs.lemmas.List.Elements.{All-nil, All-cons, All-append}
-use Rattle.resp_value.specs.Lists.{IsPrefix}
+use Rattle.std.proofs.lemmas.List.Elements.{All-nil, All-cons}
 use Rattle.resp_stream.specs.declared.fault.StreamFault.{StreamFault}
 use Rattle.resp_stream.specs.declared.fault.StreamFault.TheVariants as stream
 use Rattle.resp_stream.specs.Parsed.{Whole, More}
@@ -28,7 +27,6 @@ use Rattle.conn_worker.specs.declared.report.Ended.TheVariants.{NoMemory}
 use Rattle.conn_worker.specs.declared.connection.Connection.{Connection}
 use Rattle.conn_worker.specs.Visits.{IsWork, IsEnd, runs_in, gave, RunsOne, RunsNone, RunsPart}
 use Rattle.conn_worker.specs.Visits.{RunsAll}
-use Rattle.conn_worker.proofs.Turning.{runs_append, gave_append}
 
 -- what was read and ran so far, and what is left of it
 pub record Running (clock : Option ℕ) (before now : Connection) (old new : Place) : Type 0 where

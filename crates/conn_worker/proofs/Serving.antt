@@ -1,6 +1,6 @@
 -- A connection is served round by round: its link is read, its requests run, and what waits for it
 -- is written.
-use Rattle.std.proofs.Common.{◌≡◌, ◌≤◌, ◌<◌, ◌+◌, ℕ, List, [], ◌∷◌, ◌++◌, length, true, false}
+use Rattle.std.proofs.Common.{◌≡◌, ◌≤◌, ℕ, List, [], ◌∷◌, ◌++◌, length, true}
 use Rattle.std.proofs.Common.{Some, None, refl, sym, ap, subst, ◌∙◌, arith, append_assoc}
 use Rattle.std.proofs.Common.{append-nil}
 use Rattle.std.proofs.Common.{length-append, inl, inr}
@@ -8,8 +8,6 @@ use Rattle.std.specs.Prelude.{Option, ◌⊎◌}
 use Rattle.std.specs.List.{All}
 use Rattle.std.specs.Io.KnownBytes.{Appends, Consumes, Keeps}
 use Rattle.std.proofs.lemmas.List.Elements.{All-nil, All-append}
-use Rattle.std.proofs.lemmas.Option.{same_Some}
-use Rattle.resp_value.specs.Lists.{IsPrefix}
 use Rattle.resp_stream.specs.declared.fault.StreamFault.{StreamFault}
 use Rattle.resp_stream.specs.Parse.{parse, requests_of}
 use Rattle.resp_stream.specs.Stream.{begun, fed}
@@ -25,14 +23,14 @@ use Rattle.edge_links.specs.Counts.{Counted}
 use Rattle.conn_worker.specs.declared.report.Ended.{Ended}
 use Rattle.conn_worker.specs.declared.report.Ended.TheVariants as ended
 use Rattle.conn_worker.specs.declared.connection.Connection.{Connection}
-use Rattle.conn_worker.specs.Visits.{IsWork, IsEnd, IsTaken, IsWhole, IsOfLink, IsShown, MeetsFault}
+use Rattle.conn_worker.specs.Visits.{IsWork, IsEnd, IsTaken, IsWhole, IsOfLink, IsShown, fault_in}
 use Rattle.conn_worker.specs.Visits.{runs_in, gave, fed_connection, RunsAll, RunsPart, Delivers}
 use Rattle.conn_worker.specs.Visits.{DeliversPart, EndCounts, Hears, HearsPart, Works}
 use Rattle.conn_worker.specs.Visits.{Idle, Piece, Nothing, Part}
-use Rattle.conn_worker.proofs.Bytes.{appends_none, appends_more, appends_as, appends_kept}
-use Rattle.conn_worker.proofs.Bytes.{consumes_none, consumes_more, consumes_kept}
+use Rattle.edge_links.proofs.Bytes.{appends_none, appends_more, appends_as, appends_kept}
+use Rattle.edge_links.proofs.Bytes.{consumes_none, consumes_more, consumes_kept}
 use Rattle.conn_worker.proofs.Reading.{ReadsOn, reads_begun, reads_further, no_requests}
-use Rattle.conn_worker.proofs.Turning.{runs_append, gave_append, taken_more, all_taken, no_runs}
+use Rattle.conn_worker.proofs.Turning.{runs_append, gave_append, all_taken, no_runs}
 
 -- all that was read ran, and all that this gave was written
 pub record Serving (clock : Option ℕ) (id : ℕ) (c : Connection)
@@ -63,7 +61,7 @@ pub record Waiting (clock : Option ℕ) (id : ℕ) (fault : Option StreamFault) 
   pub heard : List ℕ
   pub read : Consumes left0 left1 heard
   pub reading : fault ≡ None → ReadsOn heard c.reader
-  pub met : (f : StreamFault) → fault ≡ Some f → MeetsFault heard f
+  pub met : (f : StreamFault) → fault ≡ Some f → fault_in heard ≡ Some f
   pub runs : runs_in turns ≡ requests_of heard
   pub wrote : Appends link0 link1 (gave (limits_of old) turns)
   pub admitted : is_admitted (past_of new) id ≡ true
@@ -132,14 +130,7 @@ module _ (clock : Option ℕ) (id : ℕ) (c : Connection) (left0 left1 link0 lin
         reading = λ none.
             subst (ReadsOn (s.heard ++ piece)) (sym (r.reader none))
             (reads_further s.heard piece c.reader s.reading (sym r.fault_is ∙ none));
-        met = λ f is. record {
-          earlier = s.heard;
-          piece = piece;
-          reader = c.reader;
-          parts = refl;
-          items = all;
-          met = sym r.fault_is ∙ is;
-        };
+        met = λ f is. s.reading.faults piece ∙ (sym r.fault_is ∙ is);
         runs = runs_append r.turns s.turns
             ∙ ap (λ z. z ++ runs_in r.turns) s.runs
             ∙ ap (λ z. requests_of s.heard ++ z) r.runs ∙ sym all;
@@ -224,7 +215,7 @@ module _ (clock : Option ℕ) (id : ℕ) (c : Connection) (left0 left1 link0 lin
       no_whole ended.Worn id new last e w = w
 
       shown_by : (cause : Ended) → IsEnd cause id last → IsShown cause id (s.heard ++ piece) last
-      shown_by ended.PeerEnd e = tt
+      shown_by ended.PeerEnd e = absurd e
       shown_by ended.Dropped e = e
       shown_by (ended.BadRequest f) e = absurd e
       shown_by ended.LinkFault e = tt
@@ -254,7 +245,7 @@ module _ (clock : Option ℕ) (id : ℕ) (c : Connection) (left0 left1 link0 lin
   }
     where
       shown_by : (cause : Ended) → IsOfLink cause → IsShown cause id s.heard new
-      shown_by ended.PeerEnd o = tt
+      shown_by ended.PeerEnd o = s.reading.none
       shown_by ended.Dropped o = absurd o
       shown_by (ended.BadRequest f) o = absurd o
       shown_by ended.LinkFault o = tt
@@ -408,7 +399,8 @@ module _ (clock : Option ℕ) (id : ℕ) (fault : Option StreamFault) (c : Conne
 
       shown_by : (cause : Ended) → (cause ≡ ended.LinkFault) ⊎ IsEnd cause id last
           → IsShown cause id s.heard last
-      shown_by ended.PeerEnd e = tt
+      shown_by ended.PeerEnd (inl e) = absurd (let no : ⊥ = cc in no)
+      shown_by ended.PeerEnd (inr e) = absurd e
       shown_by ended.Dropped (inl e) = absurd (let no : ⊥ = cc in no)
       shown_by ended.Dropped (inr e) = e
       shown_by (ended.BadRequest f) (inl e) = absurd (let no : ⊥ = cc in no)

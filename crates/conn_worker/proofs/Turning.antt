@@ -1,15 +1,14 @@
 -- What the turns of a connection ran and gave, one list after another.
-use Rattle.std.proofs.Common.{◌≡◌, ◌≤◌, ◌+◌, ℕ, List, [], ◌∷◌, ◌++◌, length, refl, sym, ap, subst}
+use Rattle.std.proofs.Common.{◌≡◌, ◌≤◌, ℕ, List, [], ◌∷◌, ◌++◌, length, refl, sym, ap}
 use Rattle.std.proofs.Common.{◌∙◌}
-use Rattle.std.proofs.Common.{append_assoc, append-nil, arith, length-append}
+use Rattle.std.proofs.Common.{append_assoc, append-nil, arith}
 use Rattle.std.specs.List.{All}
-use Rattle.std.proofs.lemmas.List.Elements.{All-nil, All-cons, All-tail, All-head}
-use Rattle.resp_value.specs.Lists.{IsPrefix}
+use Rattle.std.proofs.lemmas.List.Elements.{All-nil, All-cons}
 use Rattle.turn_lock.specs.History.{IsPrefix as IsBefore}
 use Rattle.serial_model.specs.declared.history.Limits.{Limits}
 use Rattle.serial_model.specs.declared.history.Entry.{Entry}
 use Rattle.serial_model.specs.declared.history.Entry.TheVariants.{Admit, Run, Take, Close}
-use Rattle.serial_model.specs.History.{stream, taken}
+use Rattle.serial_model.specs.History.{stream}
 use Rattle.shared_book.specs.Turns.{Turn}
 use Rattle.shared_book.proofs.Histories.{stream_begins}
 use Rattle.conn_worker.specs.Visits.{runs_in, run_in, gave, gave_in, IsTaken}

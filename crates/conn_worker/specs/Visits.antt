@@ -1,19 +1,19 @@
 -- What the service of one connection does to its seat and its link.
-use Rattle.std.specs.Prelude.{◌≡◌, ◌≢◌, ◌≤◌, ◌<◌, ◌+◌, ◌⊎◌, ℕ, List, [], ◌∷◌, ◌++◌, length, max}
+use Rattle.std.specs.Prelude.{◌≡◌, ◌≤◌, ◌+◌, ◌⊎◌, ℕ, List, [], ◌∷◌, ◌++◌, length, max}
 use Rattle.std.specs.Prelude.{take}
-use Rattle.std.specs.Prelude.{Option, Some, None, Result, Ok, Err, IfSome, ⊤, true, false}
+use Rattle.std.specs.Prelude.{Option, Some, None, Result, Ok, Err, IfSome, ⊤}
 use Rattle.std.specs.List.{All}
 use Rattle.std.specs.Io.KnownBytes.{Appends, Consumes}
 use Rattle.resp_value.specs.Lists.{IsPrefix}
-use Rattle.resp_stream.specs.Parse.{Batch, parse, requests_of}
-use Rattle.resp_stream.specs.Stream.{Stream, begun, fed}
+use Rattle.resp_stream.specs.Parse.{parse, requests_of}
+use Rattle.resp_stream.specs.Stream.{begun, fed}
 use Rattle.resp_stream.specs.declared.fault.StreamFault.{StreamFault}
 use Rattle.edge_links.specs.declared.counts.Counts.{Counts}
 use Rattle.edge_links.specs.Counts.{Counted, FaultCounted}
 use Rattle.serial_model.specs.declared.history.Limits.{Limits}
 use Rattle.serial_model.specs.declared.history.Entry.{Entry}
 use Rattle.serial_model.specs.declared.history.Entry.TheVariants as entry
-use Rattle.serial_model.specs.History.{latest, is_admitted, stream, taken, unsent}
+use Rattle.serial_model.specs.History.{latest, stream, taken, unsent}
 use Rattle.shared_book.specs.declared.turns.Refusal.{Refusal}
 use Rattle.shared_book.specs.declared.turns.Refusal.TheVariants as refusal
 use Rattle.shared_book.specs.Own.{past_of, Grows}
@@ -23,7 +23,6 @@ use Rattle.conn_worker.specs.declared.report.Report.{Report}
 use Rattle.conn_worker.specs.declared.report.Ended.{Ended}
 use Rattle.conn_worker.specs.declared.report.Ended.TheVariants as ended
 use Rattle.conn_worker.specs.declared.connection.Connection.{Connection}
-use Rattle.conn_worker.specs.declared.deliver.LinkFailed.{LinkFailed}
 
 abbrev pub ended_by : Refusal → Ended
 ended_by refusal.Dropped = ended.Dropped
@@ -131,15 +130,6 @@ pub record RunsAll (clock : Option ℕ) (fault : Option StreamFault) (before aft
 
 -- ---- what is written to a link
 
-abbrev pub WritesAll : Result ⊤ LinkFailed → Option (List ℕ) → Option (List ℕ) → List ℕ → Type 0
-WritesAll (Ok u) old new bytes = Appends old new bytes
-WritesAll (Err e) old new bytes =
-    (front : List ℕ) × Appends old new front × IsPrefix front bytes
-
-abbrev pub AllCounts : Result ⊤ LinkFailed → Counts → Counts → Type 0
-AllCounts (Ok u) old new = new ≡ old
-AllCounts (Err e) old new = FaultCounted old new
-
 -- what waited for the connection was taken and written, all of it
 pub record Delivers (id : ℕ) (link0 link1 : Option (List ℕ)) (old new : Place) : Type 0 where
   pub turns : List Turn
@@ -222,20 +212,15 @@ IsWhole ended.HistoryFull = ⊥
 IsWhole ended.NoMemory = ⊥
 IsWhole ended.Worn = ⊥
 
--- the fault is the one behind the requests in what was read: the reader met it in its last piece
-pub record MeetsFault (heard : List ℕ) (fault : StreamFault) : Type 0 where
-  pub earlier : List ℕ
-  pub piece : List ℕ
-  pub reader : Stream
-  pub parts : earlier ++ piece ≡ heard
-  pub items : requests_of heard ≡ requests_of earlier ++ (parse (fed reader piece)).items
-  pub met : (parse (fed reader piece)).fault ≡ Some fault
+-- the fault of a text, behind its requests
+abbrev pub fault_in : List ℕ → Option StreamFault
+fault_in heard = (parse (fed begun heard)).fault
 
 -- why the connection is served no longer, as the seat or what was read shows it
 abbrev pub IsShown : Ended → ℕ → List ℕ → Place → Type 0
-IsShown ended.PeerEnd id heard k = ⊤
+IsShown ended.PeerEnd id heard k = fault_in heard ≡ None
 IsShown ended.Dropped id heard k = IsEnd ended.Dropped id k
-IsShown (ended.BadRequest fault) id heard k = MeetsFault heard fault
+IsShown (ended.BadRequest fault) id heard k = fault_in heard ≡ Some fault
 IsShown ended.LinkFault id heard k = ⊤
 IsShown ended.HistoryFull id heard k = IsEnd ended.HistoryFull id k
 IsShown ended.NoMemory id heard k = ⊤

@@ -3,37 +3,13 @@ ghost use Rattle.std.specs.Prelude.{◌≡◌, true, IfErr, OnOk};
 ghost use Rattle.std.specs.Io.KnownBytes.{Keeps};
 ghost use Rattle.serial_model.specs.History.{is_admitted};
 ghost use Rattle.shared_book.specs.Own.{IsWithin, past_of};
-ghost use Rattle.conn_worker.specs.Visits.{WritesAll, AllCounts, Delivers, DeliversPart};
-ghost use Rattle.conn_worker.specs.Visits.{DeliveryCounts};
+ghost use Rattle.conn_worker.specs.Visits.{Delivers, DeliversPart, DeliveryCounts};
 
 use super::report::{Ended, ended_by};
-use edge_links::{Link, Wrote};
+use edge_links::{Link, LinkFailed, write_all};
 use shared_book::{MOST, SharedBook, take};
 use std::sync::Wait;
 use turn_lock::{Seat, TurnLock};
-
-/// The link failed.
-#[derive(Clone, Copy, Debug, PartialEq, Eq)]
-pub struct LinkFailed;
-
-// Writes all of the bytes, in as many writes as the link wants.
-fn write_all<L: Link>(link: &mut L, bytes: &[u8]) -> Result<(), LinkFailed>
-    ensures bytes { WritesAll result (L.contents link.old) (L.contents link.new) bytes.now }
-    ensures unread { Keeps (L.left link.old) (L.left link.new) }
-    ensures counts { AllCounts result (L.counts link.old) (L.counts link.new) }
-{
-    let mut rest = bytes;
-    while !rest.is_empty() {
-        match link.write(rest) {
-            Wrote::Took(n) => {
-                let (_, more) = rest.split_at(n);
-                rest = more;
-            }
-            Wrote::Failed => return Err(LinkFailed),
-        }
-    }
-    Ok(())
-}
 
 /// Takes what waits for the connection, until nothing waits, and writes it to the link.
 pub fn deliver<R: Wait, L: Link>(

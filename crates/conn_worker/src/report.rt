@@ -1,5 +1,6 @@
 //! What became of a connection.
 ghost use Rattle.std.specs.Prelude.{◌≡◌};
+ghost use Rattle.conn_worker.specs.Numbers.{end_number};
 ghost use Rattle.conn_worker.specs.Visits.{ended_by};
 
 use resp_stream::StreamFault;
@@ -21,6 +22,23 @@ pub enum Ended {
     NoMemory,
     /// No ticket of the lock was left.
     Worn,
+}
+
+impl Ended {
+    /// The number by which a report names it.
+    pub fn number(self) -> u8
+        ensures { result ≡ end_number self }
+    {
+        match self {
+            Ended::PeerEnd => 1,
+            Ended::Dropped => 3,
+            Ended::BadRequest(_) => 4,
+            Ended::LinkFault => 5,
+            Ended::HistoryFull => 6,
+            Ended::NoMemory => 7,
+            Ended::Worn => 8,
+        }
+    }
 }
 
 /// One connection that was served. Its id is 0 where it was not admitted.

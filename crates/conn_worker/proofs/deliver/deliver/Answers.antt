@@ -3,7 +3,7 @@ use Rattle.std.specs.Io.KnownBytes.{Appends}
 use Rattle.resp_value.specs.Lists.{IsPrefix}
 use Rattle.shared_book.specs.Turns.{most}
 use Rattle.conn_worker.specs.Visits.{DeliversPart}
-use Rattle.conn_worker.proofs.Bytes.{keeps_same, keeps_trans}
+use Rattle.edge_links.proofs.Bytes.{keeps_same, keeps_trans}
 use Rattle.conn_worker.proofs.Delivering.{delivering_none, delivering_more, delivers_short}
 use Rattle.conn_worker.proofs.Delivering.{delivers_failed, delivers_rests, delivers_refused}
 use Rattle.conn_worker.proofs.Delivering.{takes_at}

@@ -2,7 +2,7 @@ use Rattle.std.proofs.Common.{◌<◌, length, refl, sym, ap, subst, ◌∙◌}
 use Rattle.resp_stream.specs.Stream.{Stream}
 use Rattle.conn_worker.specs.declared.connection.Connection.{Connection}
 use Rattle.conn_worker.proofs.Running.{running_none, running_more, running_ends, running_bad}
-use Rattle.conn_worker.proofs.Running.{running_part, running_stops, running_less, gives_at}
+use Rattle.conn_worker.proofs.Running.{running_stops, running_less, gives_at}
 use Rattle.conn_worker.proofs.connection.Connection.run_read.Goals as goal
 
 pub requests-init : goal.requests-init

@@ -1,0 +1,16 @@
+use Rattle.conn_pool.specs.Desk.{still}
+use Rattle.conn_pool.proofs.serve.serve_all.Given as goal
+
+abbrev pub ghosts-serve_named-L-Ledger : goal.ghosts-serve_named-L-Ledger
+ghosts-serve_named-L-Ledger g a = record { name = a.links.name; parts = a.workers }
+
+abbrev pub ghosts-serve_named-E-Ledger : goal.ghosts-serve_named-E-Ledger
+ghosts-serve_named-E-Ledger g a = record { name = a.gone.name; parts = a.workers }
+
+abbrev pub ghosts-serve_named-L-Opening : goal.ghosts-serve_named-L-Opening
+ghosts-serve_named-L-Opening g a =
+    record {
+      before = g.A.Acceptor.counts a.acceptor;
+      left = still (g.A.Acceptor.left a.acceptor);
+      limit = a.connections;
+    }

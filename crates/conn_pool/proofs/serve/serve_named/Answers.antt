@@ -1,0 +1,44 @@
+use Rattle.std.proofs.Common.{rules, ◌≡◌, ◌<◌, ℕ, Some, sym, ap, subst, ◌∙◌}
+use Rattle.std.proofs.lemmas.Option.{same_Some}
+use Rattle.turn_lock.specs.Counts.{total}
+use Rattle.turn_lock.specs.History.{Legal, entries}
+use Rattle.shared_book.specs.Own.{turns_of}
+use Rattle.shared_book.specs.Turns.{TurnStep, Place}
+use Rattle.conn_pool.specs.Crew.{Team}
+use Rattle.conn_pool.specs.Shown.{AreShown}
+use Rattle.conn_pool.specs.Ties.{Tied, admits, names, requests}
+use Rattle.conn_pool.proofs.Once.{named_once, tied_admits, tied_runs, total_moved}
+use Rattle.conn_pool.proofs.Showing.{shown_closed}
+use Rattle.conn_pool.proofs.serve.serve_named.Goals as goal
+
+pub returns-clause-history : goal.returns-clause-history
+returns-clause-history g c =
+    let k = c.apart-seat.result.0 in
+    let found = c.in-Some.reports.items in
+    let rs = c.in_order-reports.result.items in
+    let moved = c.in_order-reports.ensures.same in
+    let setup : k.setup ≡ Some c.args.limits =
+    ap (λ (p : Place). p.setup) c.apart-seat.ensures.seat
+    ∙ (c.fan_out-crew.ensures.same.1
+    ∙ (ap (λ (t : Team). t.seat.setup) c.new-crew.ensures
+    ∙ ap (λ (p : Place). p.setup) c.in_ok-lock.ensures.seat)) in
+    let (u, is, legal) = c.in-Ok.ensures.sound.0 in
+    let law = subst (λ z. Legal TurnStep z k.seen) (same_Some u c.args.limits (sym is ∙ setup))
+    legal in
+    let tied : Tied found (turns_of k) = search rules in
+    let shown : AreShown found k = search rules in
+    let all = c.in-Ok.ensures.all.0 in
+    let admitted : (n : ℕ) → 0 < n → total (admits n) (entries k.seen) ≡ total (names n) rs =
+    λ n pos. tied_admits k all found tied n pos ∙ total_moved (names n) found rs moved in
+    record {
+      history = k.seen;
+      legal = law;
+      limits = same_Some _ _ (sym c.in-Ok.ensures.ok.2 ∙ setup);
+      past = c.in-Ok.ensures.ok.1;
+      admitted = admitted;
+      ran = λ n pos. tied_runs k all found tied n pos ∙ total_moved (requests n) found rs moved;
+      once = named_once c.args.limits k.seen rs law admitted;
+      shown = shown_closed found rs k c.args.limits _ _ setup c.in-Ok.ensures.ok.1
+          c.in-Ok.ensures.tickets.1 moved shown;
+      in_order = c.in_order-reports.ensures.order;
+    }

@@ -1,0 +1,29 @@
+-- What a worker, or several that were joined, have.
+use Rattle.std.specs.Prelude.{◌≡◌, ◌≤◌, ℕ, List, Bool}
+use Rattle.atomic_table.specs.Seated.{TableId}
+use Rattle.shared_book.specs.Turns.{Place}
+use Rattle.conn_worker.specs.declared.report.Report.{Report}
+
+-- its seat, the links that it took, how often it left the desk, its parts of the two ledgers, and
+-- its reports, where none was lost
+pub record Team : Type 0 where
+  pub seat : Place
+  pub links : ℕ
+  pub link_parts : ℕ
+  pub gone : ℕ
+  pub gone_parts : ℕ
+  pub reports : List Report
+  pub lost : Bool
+
+-- it has parts for so many workers
+abbrev pub Ready : TableId → ℕ → Team → Type 0
+Ready lock workers t =
+    (t.seat.lock ≡ lock) × (1 ≤ workers) × (workers ≤ t.seat.parts) × (workers ≡ t.link_parts)
+    × (workers ≡ t.gone_parts)
+
+-- it is of the same lock with the same parts
+abbrev pub Same : Team → Team → Type 0
+Same old new =
+    (new.seat.lock ≡ old.seat.lock) × (new.seat.setup ≡ old.seat.setup)
+    × (new.seat.parts ≡ old.seat.parts) × (new.link_parts ≡ old.link_parts)
+    × (new.gone_parts ≡ old.gone_parts)

@@ -1,0 +1,6 @@
+pub mod Desk
+pub mod Moves
+pub mod Ties
+pub mod Shown
+pub mod Crew
+pub mod Outcome

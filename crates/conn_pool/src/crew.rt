@@ -1,0 +1,249 @@
+//! The workers.
+ghost use Rattle.std.specs.Thread.{IsSync};
+ghost use Rattle.std.specs.Prelude.{◌≡◌, ◌+◌, ◌-◌, ◌<◌, ◌≤◌, [], false, length, IfSome};
+ghost use Rattle.shared_book.specs.Own.{IsWithin, turns_of};
+ghost use Rattle.conn_pool.specs.Ties.{Tied};
+ghost use Rattle.conn_pool.specs.Crew.{Ready, Same};
+ghost use Rattle.conn_pool.specs.Shown.{AreShown};
+
+use super::desk::{Desk, Next, Opening};
+use conn_worker::{Gate, Report, serve_link};
+use edge_links::{Acceptor, Clock};
+use shared_book::SharedBook;
+use std::alloc::Global;
+use std::marker::Model;
+use std::sync::ledger::{Ledger, Share};
+use std::sync::{Mutex, Wait};
+use std::thread::{Threads, join, yield_now};
+use turn_lock::{Seat, TurnLock};
+
+/// A worker, or several that were joined.
+#[derive(Drop)]
+pub struct Crew<L: Ledger, E: Ledger> {
+    seat: Seat<SharedBook>,
+    links: Share<L>,
+    gone: Share<E>,
+    reports: Vec<Report>,
+    lost: bool,
+}
+
+impl<L: Ledger, E: Ledger> Model for Crew<L, E> {
+    ghost use Rattle.std.specs.Prelude.{◌≡◌, false, length};
+    ghost use Rattle.shared_book.specs.Own.{IsWithin, turns_of};
+    ghost use Rattle.conn_pool.specs.Crew.{Team};
+    ghost use Rattle.conn_pool.specs.Ties.{Tied};
+    ghost use Rattle.conn_pool.specs.Shown.{AreShown};
+
+    ghost Value = { Team };
+
+    ghost view = { λ c. record {
+      seat = c.seat;
+      links = c.links.amount;
+      link_parts = c.links.parts;
+      gone = c.gone.amount;
+      gone_parts = c.gone.parts;
+      reports = c.reports.items;
+      lost = c.lost;
+    } };
+
+    ghost invariant = { λ c. IsWithin c.seat
+        × (c.lost ≡ false → c.links.amount ≡ length c.reports.items)
+        × (c.lost ≡ false → Tied c.reports.items (turns_of c.seat))
+        × (c.lost ≡ false → AreShown c.reports.items c.seat) };
+}
+
+impl<L: Opening, E: Ledger> Crew<L, E> {
+    /// Takes links from the desk, and serves each, until there are none any more.
+    fn work<A: Acceptor, C: Clock, G: Gate, R: Wait>(
+        self,
+        rt: &R,
+        alloc: Global,
+        desk: &Mutex<Desk<L, E, A>>,
+        lock: &TurnLock<SharedBook>,
+        clock: &C,
+        gate: &G,
+    ) -> Self
+        requires { Ready lock.now 1 self }
+        ensures same { Same self result }
+        ensures gone { result.gone ≡ self.gone + 1 }
+    {
+        let Crew {
+            mut seat,
+            mut links,
+            mut gone,
+            mut reports,
+            lost,
+        } = self;
+        for _ in rt.forever() {
+            if reports.reserve(1).is_err() {
+                desk.lock(rt).stop(&mut gone);
+                return Crew {
+                    seat,
+                    links,
+                    gone,
+                    reports,
+                    lost: true,
+                };
+            }
+            // The desk is let go before the link is served.
+            let next = desk.lock(rt).next(&mut links, &mut gone);
+            match next {
+                Next::Link(mut link) => {
+                    let report = serve_link(rt, alloc, lock, &mut seat, &mut link, clock, gate);
+                    reports.push_reserved(report);
+                }
+                Next::Wait => yield_now(),
+                Next::Over => {
+                    return Crew {
+                        seat,
+                        links,
+                        gone,
+                        reports,
+                        lost,
+                    };
+                }
+            }
+        }
+        unreachable!()
+    }
+}
+
+impl<L: Ledger, E: Ledger> Crew<L, E> {
+    /// A worker that has nothing yet.
+    #[tactic(auto, using(crate::proofs::Tying::beginning))]
+    pub fn new(alloc: Global, seat: Seat<SharedBook>, links: Share<L>, gone: Share<E>) -> Self
+        requires within { IsWithin seat }
+        requires own { seat.own ≡ [] }
+        requires links { links.amount ≡ 0 }
+        ensures { result ≡ record {
+          seat = seat;
+          links = links.amount;
+          link_parts = links.parts;
+          gone = gone.amount;
+          gone_parts = gone.parts;
+          reports = [];
+          lost = false;
+        } }
+    {
+        Crew {
+            seat,
+            links,
+            gone,
+            reports: Vec::new(alloc),
+            lost: false,
+        }
+    }
+
+    /// What it has, taken apart. None for the reports where some were lost.
+    pub fn apart(self) -> (Seat<SharedBook>, Share<L>, Share<E>, Option<Vec<Report>>)
+        ensures seat { result.0 ≡ self.seat }
+        ensures links { (result.1.amount ≡ self.links) × (result.1.parts ≡ self.link_parts) }
+        ensures gone { (result.2.amount ≡ self.gone) × (result.2.parts ≡ self.gone_parts) }
+        ensures reports { IfSome result.3
+            (λ v. (self.links ≡ length v.items) × Tied v.items (turns_of self.seat)
+            × AreShown v.items self.seat) }
+    {
+        let Crew {
+            seat,
+            links,
+            gone,
+            reports,
+            lost,
+        } = self;
+        (seat, links, gone, if lost { None } else { Some(reports) })
+    }
+
+    /// A new worker, with some of the parts.
+    #[tactic(auto, using(crate::proofs::Tying::splitting))]
+    fn split(&mut self, alloc: Global, lock: &TurnLock<SharedBook>, workers: u64) -> Self
+        requires lock { self.old.seat.lock ≡ lock.now }
+        requires parts { (1 ≤ workers) × (workers < self.old.seat.parts)
+            × (workers < self.old.link_parts) × (workers < self.old.gone_parts) }
+        ensures old { self.new ≡ record self.old {
+          seat = record self.old.seat { parts = self.old.seat.parts - workers };
+          link_parts = self.old.link_parts - workers;
+          gone_parts = self.old.gone_parts - workers;
+        } }
+        ensures new { Ready lock.now workers result × (result.seat.setup ≡ self.old.seat.setup)
+            × (result.seat.parts ≡ workers) × (result.gone ≡ 0) }
+    {
+        Crew {
+            seat: lock.split(&mut self.seat, workers),
+            links: self.links.split_off(workers, 0),
+            gone: self.gone.split_off(workers, 0),
+            reports: Vec::new(alloc),
+            lost: false,
+        }
+    }
+
+    /// Joins the other into this one. Where there is no memory, the reports are lost.
+    #[tactic(auto, using(crate::proofs::Tying::joining))]
+    fn join(&mut self, lock: &TurnLock<SharedBook>, other: Self)
+        requires lock { (self.old.seat.lock ≡ lock.now) × (other.seat.lock ≡ lock.now) }
+        requires setup { other.seat.setup ≡ self.old.seat.setup }
+        ensures seat { (self.new.seat.lock ≡ self.old.seat.lock)
+            × (self.new.seat.setup ≡ self.old.seat.setup)
+            × (self.new.seat.parts ≡ self.old.seat.parts + other.seat.parts) }
+        ensures parts { (self.new.link_parts ≡ self.old.link_parts + other.link_parts)
+            × (self.new.gone_parts ≡ self.old.gone_parts + other.gone_parts) }
+        ensures amounts { (self.new.links ≡ self.old.links + other.links)
+            × (self.new.gone ≡ self.old.gone + other.gone) }
+    {
+        let Crew {
+            seat,
+            links,
+            gone,
+            mut reports,
+            lost,
+        } = other;
+        lock.join(&mut self.seat, seat);
+        self.links.merge(links);
+        self.gone.merge(gone);
+        if self.reports.append(&mut reports).is_err() || lost {
+            self.lost = true;
+        }
+    }
+}
+
+/// So many workers, each in a thread of its own where one can be made.
+pub fn fan_out<
+    L: Opening + Send + Sync,
+    E: Ledger + Send + Sync,
+    A: Acceptor + Send,
+    C: Clock + Sync,
+    G: Gate + Sync,
+    R: Threads + Wait + Sync,
+>(
+    rt: &R,
+    alloc: Global,
+    desk: &Mutex<Desk<L, E, A>>,
+    lock: &TurnLock<SharedBook>,
+    clock: &C,
+    gate: &G,
+    mut crew: Crew<L, E>,
+    workers: u64,
+) -> Crew<L, E>
+    requires { Ready lock.now workers crew }
+    ensures same { Same crew result }
+    ensures gone { result.gone ≡ crew.gone + workers }
+{
+    if workers == 1 {
+        return crew.work(rt, alloc, desk, lock, clock, gate);
+    }
+    let theirs = workers / 2;
+    let ours = workers - theirs;
+    let other = crew.split(alloc, lock, theirs);
+    let (mut mine, others) = join(
+        rt,
+        || -> Crew<L, E>
+            requires { IsSync R.row × IsSync C.row × IsSync G.row × Ready lock.now ours crew }
+            ensures { Same crew result × (result.gone ≡ crew.gone + ours) }
+        { fan_out(rt, alloc, desk, lock, clock, gate, crew, ours) },
+        || -> Crew<L, E>
+            requires { IsSync R.row × IsSync C.row × IsSync G.row × Ready lock.now theirs other }
+            ensures { Same other result × (result.gone ≡ other.gone + theirs) }
+        { fan_out(rt, alloc, desk, lock, clock, gate, other, theirs) },
+    );
+    mine.join(lock, others);
+    mine
+}

@@ -1,0 +1,8 @@
+//! Workers that serve the connections of one acceptor, each in a thread, over one book.
+#![tactic(auto)]
+
+mod crew;
+mod desk;
+mod serve;
+
+pub use serve::{Served, serve_all};

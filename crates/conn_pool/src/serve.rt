@@ -1,0 +1,154 @@
+//! All workers, from the acceptor that is handed in to the book that comes back.
+ghost use Rattle.std.specs.Prelude.{◌≡◌, ◌<◌, ◌≤◌, ◌⊎◌, true, false, length, IfOk};
+ghost use Rattle.std.specs.List.Sorted.{IsPermutation};
+ghost use Rattle.edge_links.specs.Counts.{Counted};
+ghost use Rattle.serial_model.specs.Steps.{AreValid};
+ghost use Rattle.conn_pool.specs.Desk.{after_giving, still};
+ghost use Rattle.conn_pool.specs.Outcome.{AreInOrder, Stands};
+
+use super::crew::{Crew, fan_out};
+use super::desk::{Desk, Opening, Stage};
+use conn_worker::{Gate, Report};
+use edge_links::{Acceptor, Clock};
+use resp_value::NoMemory;
+use serial_model::Limits;
+use shared_book::{SharedBook, open};
+use std::alloc::Global;
+use std::marker::Brand;
+use std::sync::ledger::{Blank, Ledger};
+use std::sync::{Mutex, Wait};
+use std::thread::Threads;
+use turn_lock::Closed;
+
+/// What was served.
+#[derive(Drop)]
+pub struct Served<A> {
+    pub book: Closed<SharedBook>,
+    pub reports: Vec<Report>,
+    pub accept_failed: bool,
+    pub acceptor: A,
+}
+
+// The reports in order of their ids.
+fn in_order(mut reports: Vec<Report>) -> Vec<Report>
+    ensures same { IsPermutation reports.items result.items }
+    ensures length { length result.items ≡ length reports.items }
+    ensures order { AreInOrder result.items }
+{
+    reports.sort_unstable_by_key(|report| report.id);
+    reports
+}
+
+fn serve_named<
+    L: Opening + Send + Sync,
+    E: Ledger + Send + Sync,
+    A: Acceptor + Send + Drop,
+    C: Clock + Sync,
+    G: Gate + Sync,
+    R: Threads + Wait + Sync,
+>(
+    rt: &R,
+    alloc: Global,
+    limits: Limits,
+    acceptor: A,
+    clock: &C,
+    gate: &G,
+    links: Blank,
+    gone: Blank,
+    workers: u64,
+    connections: u64,
+) -> Result<Served<A>, NoMemory>
+    requires limits { AreValid limits }
+    requires workers { 1 ≤ workers }
+    requires links { (links.name ≡ L.name) × (links.parts ≡ L.parts) × (L.parts ≡ workers) }
+    requires gone { (gone.name ≡ E.name) × (gone.parts ≡ E.parts) × (E.parts ≡ workers) }
+    requires before { (A.counts acceptor ≡ L.before) × (still (A.left acceptor) ≡ L.left)
+        × (L.limit ≡ connections) }
+    ensures given { IfOk result (λ s. still (A.left acceptor)
+        ≡ after_giving (length s.reports.items) (still (A.left s.acceptor))) }
+    ensures failed { IfOk result (λ s. s.accept_failed ≡ true
+        → Counted (A.counts acceptor).faults (A.counts s.acceptor).faults) }
+    ensures sound { IfOk result (λ s. s.accept_failed ≡ false
+        → (A.counts s.acceptor).faults ≡ (A.counts acceptor).faults) }
+    ensures over { IfOk result (λ s.
+        Counted (A.counts acceptor).faults (A.counts s.acceptor).faults
+        ⊎ Counted (A.counts acceptor).ends (A.counts s.acceptor).ends
+        ⊎ (0 < connections) × (length s.reports.items ≡ connections)) }
+    ensures within { IfOk result
+        (λ s. 0 < connections → length s.reports.items ≤ connections) }
+    ensures history { IfOk result (λ s. Stands limits s.reports.items s.book) }
+{
+    let (book, share) = links.open::<L>();
+    let (left, leaving) = gone.open::<E>();
+    let (lock, seat) = open(alloc, limits)?;
+    let crew = Crew::new(alloc, seat, share, leaving);
+    let desk = Mutex::new(Desk::new(acceptor, connections, book, left));
+    let crew = fan_out(rt, alloc, &desk, &lock, clock, gate, crew, workers);
+    let (seat, mut share, mut leaving, reports) = crew.apart();
+    let (acceptor, stage) = desk.into_inner().end(&mut share, &mut leaving);
+    let Ok(book) = lock.close(seat) else {
+        unreachable!()
+    };
+    let Some(reports) = reports else {
+        return Err(NoMemory);
+    };
+    let reports = in_order(reports);
+    let accept_failed = match stage {
+        Stage::NoMemory => return Err(NoMemory),
+        Stage::Failed => true,
+        _ => false,
+    };
+    Ok(Served {
+        book,
+        reports,
+        accept_failed,
+        acceptor,
+    })
+}
+
+/// Serves the acceptor's links by so many workers, until it is closed or failed, or gave so many
+/// links; 0 is no limit.
+pub fn serve_all<
+    A: Acceptor + Send + Drop,
+    C: Clock + Sync,
+    G: Gate + Sync,
+    R: Threads + Wait + Sync,
+>(
+    rt: &R,
+    alloc: Global,
+    limits: Limits,
+    acceptor: A,
+    clock: &C,
+    gate: &G,
+    workers: u64,
+    connections: u64,
+) -> Result<Served<A>, NoMemory>
+    requires limits { AreValid limits }
+    requires workers { (1 ≤ workers) × (workers ≤ 64) }
+    ensures given { IfOk result (λ s. still (A.left acceptor)
+        ≡ after_giving (length s.reports.items) (still (A.left s.acceptor))) }
+    ensures failed { IfOk result (λ s. s.accept_failed ≡ true
+        → Counted (A.counts acceptor).faults (A.counts s.acceptor).faults) }
+    ensures sound { IfOk result (λ s. s.accept_failed ≡ false
+        → (A.counts s.acceptor).faults ≡ (A.counts acceptor).faults) }
+    ensures over { IfOk result (λ s.
+        Counted (A.counts acceptor).faults (A.counts s.acceptor).faults
+        ⊎ Counted (A.counts acceptor).ends (A.counts s.acceptor).ends
+        ⊎ (0 < connections) × (length s.reports.items ≡ connections)) }
+    ensures within { IfOk result
+        (λ s. 0 < connections → length s.reports.items ≤ connections) }
+    ensures history { IfOk result (λ s. Stands limits s.reports.items s.book) }
+{
+    serve_named::<Brand, Brand, A, C, G, R>(
+        rt,
+        alloc,
+        limits,
+        acceptor,
+        clock,
+        gate,
+        Blank::new(workers),
+        Blank::new(workers),
+        workers,
+        connections,
+    )
+}

@@ -1,0 +1,47 @@
+-- What the run of a server comes to.
+use Rattle.std.specs.Prelude.{◌≡◌, ◌<◌, ◌≤◌, ◌⊎◌, ℕ, List, [], length, true, false, Option}
+use Rattle.std.specs.declared.option.Option.TheVariants.{None, Some}
+use Rattle.resp_value.specs.Lists.{IsPrefix}
+use Rattle.edge_links.specs.declared.counts.Counts.{Counts}
+use Rattle.edge_links.specs.Counts.{Counted, FaultCounted, nought}
+use Rattle.serial_model.specs.declared.history.Limits.{Limits}
+use Rattle.conn_worker.specs.declared.report.Report.{Report}
+use Rattle.conn_pool.specs.declared.serve.Served.{Served}
+use Rattle.conn_pool.specs.Desk.{after_giving, still}
+use Rattle.conn_pool.specs.Outcome.{Stands}
+use Rattle.serve_run.specs.Reports.{report_text}
+use Rattle.serve_run.specs.declared.run.ServeEnd.{ServeEnd}
+use Rattle.serve_run.specs.declared.run.ServeEnd.TheVariants.{Done, NetFault, NoMemory}
+
+-- An acceptor that had counted nothing was served to its close or fault, or up to the limit. Each
+-- link that it gave has its report, and the reports tell of one legal history.
+pub record ServesAll {A L : Type 0} (limits : Limits) (connections : ℕ) (counts : A → Counts)
+    (left : A → Option (List L)) (s : Served A) : Type 0 where
+  pub acceptor : A
+  pub fresh : counts acceptor ≡ nought
+  pub given : still (left acceptor)
+      ≡ after_giving (length s.reports.items) (still (left s.acceptor))
+  pub failed : s.accept_failed ≡ true
+      → Counted (counts acceptor).faults (counts s.acceptor).faults
+  pub sound : s.accept_failed ≡ false
+      → (counts s.acceptor).faults ≡ (counts acceptor).faults
+  pub over : Counted (counts acceptor).faults (counts s.acceptor).faults
+      ⊎ Counted (counts acceptor).ends (counts s.acceptor).ends
+      ⊎ (0 < connections) × (length s.reports.items ≡ connections)
+  pub within : 0 < connections → length s.reports.items ≤ connections
+  pub history : Stands limits s.reports.items s.book
+
+-- the text has the lines of the reports, and the end says whether the net failed
+abbrev pub Runs : {A : Type 0} → Option (Served A) → List ℕ → ServeEnd → Type 0
+Runs None text Done = ⊥
+Runs None text NetFault = text ≡ []
+Runs None text NoMemory = text ≡ []
+Runs (Some s) text Done = (text ≡ report_text s.reports.items) × (s.accept_failed ≡ false)
+Runs (Some s) text NetFault = (text ≡ report_text s.reports.items) × (s.accept_failed ≡ true)
+Runs (Some s) text NoMemory =
+    (first : List Report) × IsPrefix first s.reports.items × (text ≡ report_text first)
+
+-- where nothing was served for a fault of the net, it counted one, and else none
+abbrev pub NetGave : {A : Type 0} → Option (Served A) → ServeEnd → Counts → Counts → Type 0
+NetGave None NetFault old new = FaultCounted old new
+NetGave served end old new = new ≡ old

@@ -1,0 +1,180 @@
+//! Servers at the ports of a net in memory, and workers side by side.
+use crate::{ServeEnd, serve};
+use conn_pool::serve_all;
+use conn_worker::{Ended, Gate};
+use edge_links::{
+    AcceptStep, FixedClock, LinkStep, ListedNet, Listening, MemoryAcceptor, MemoryLink, MemoryNet,
+};
+use resp_value::Words;
+use serial_model::Limits;
+use std::alloc::{AllocError, Global};
+use std::hint::spin_loop;
+use std::sync::atomic::{AtomicU64, Ordering};
+use std::test::Fail;
+
+const LIMITS: Limits = Limits {
+    table_max: 100,
+    out_max: 1_000_000,
+    history_max: 1_000,
+};
+
+/// A text in which `;` stands for this end of a line.
+fn bytes_of(alloc: Global, text: &str, line_end: &[u8]) -> Result<Vec<u8>, AllocError> {
+    let mut bytes = Vec::new(alloc);
+    for byte in text.bytes() {
+        match byte {
+            b';' => bytes.extend_from_slice(line_end)?,
+            _ => bytes.push(byte)?,
+        }
+    }
+    Ok(bytes)
+}
+
+/// A link that gives these bytes and then its end.
+fn link_of(alloc: Global, text: &str) -> Result<AcceptStep, AllocError> {
+    let mut steps = Vec::new(alloc);
+    steps.push(LinkStep::Bytes(bytes_of(alloc, text, b"\r\n")?))?;
+    match MemoryLink::new(alloc, 100, steps) {
+        Ok(link) => Ok(AcceptStep::Came(link)),
+        Err(_) => Err(AllocError),
+    }
+}
+
+/// Connections that send these bytes, where commas part them; `idle` is an accept at which nobody
+/// came, and `fail` one that failed.
+fn acceptor_of(alloc: Global, text: &str) -> Result<MemoryAcceptor, AllocError> {
+    let mut steps = Vec::new(alloc);
+    for part in text.split(',') {
+        match part {
+            "" => {}
+            "idle" => steps.push(AcceptStep::Idle)?,
+            "fail" => steps.push(AcceptStep::Fail)?,
+            bytes => steps.push(link_of(alloc, bytes)?)?,
+        }
+    }
+    Ok(MemoryAcceptor::new(steps))
+}
+
+/// A net where port 7000 gives this acceptor.
+fn net_with(alloc: Global, acceptor: MemoryAcceptor) -> Result<ListedNet, AllocError> {
+    let mut listens = Vec::new(alloc);
+    listens.push(Listening {
+        port: 7000,
+        acceptor: Some(acceptor),
+    })?;
+    Ok(ListedNet::new(listens, Vec::new(alloc)))
+}
+
+/// The connections, the workers, the most connections; how it ended, and what it printed.
+const ROWS: &str = " = 1 = 0 = Done = 
+GET a;,GET a;GET b;,idle,*1;$007 = 1 = 0 = Done = \
+connection 1 ended 1 requests 1;connection 2 ended 1 requests 2;connection 3 ended 4 requests 0;
+GET a;,GET a;,GET a; = 3 = 2 = Done = \
+connection 1 ended 1 requests 1;connection 2 ended 1 requests 1;
+GET a;,fail,GET a; = 1 = 0 = NetFault = connection 1 ended 1 requests 1;
+GET a;,GET a;,idle,GET a;,GET a; = 16 = 0 = Done = \
+connection 1 ended 1 requests 1;connection 2 ended 1 requests 1;\
+connection 3 ended 1 requests 1;connection 4 ended 1 requests 1;";
+
+#[test]
+fn each_connection_has_a_line_in_order_of_ids(rt: HostRuntime) -> Result<(), Fail> {
+    for row in ROWS.lines() {
+        let mut parts = row.split(" = ");
+        let acceptor = acceptor_of(rt.alloc(), parts.next().unwrap_or(""))?;
+        let workers = parts.next().unwrap_or("").parse::<u64>().unwrap_or(1);
+        let most = parts.next().unwrap_or("").parse::<u64>().unwrap_or(0);
+        let want = parts.next().unwrap_or("");
+        let printed = bytes_of(rt.alloc(), parts.next().unwrap_or(""), b"\n")?;
+        let mut net = net_with(rt.alloc(), acceptor)?;
+        let clock = FixedClock { ms: 0 };
+        let workers = workers.clamp(1, 64);
+        let run = serve(
+            &rt,
+            rt.alloc(),
+            LIMITS,
+            7000,
+            workers,
+            most,
+            &mut net,
+            &clock,
+        );
+        let end = format!(in rt.alloc(); "{:?}", run.end)?;
+        assert!(rt; end.as_str() == want, "{row}: {end}");
+        assert!(rt; run.served.is_some(), "{row}");
+        assert!(rt; run.text.as_slice() == printed.as_slice(), "{row}");
+    }
+    Ok(())
+}
+
+#[test]
+fn a_net_that_does_not_listen_is_a_fault(rt: HostRuntime) -> Result<(), Fail> {
+    let clock = FixedClock { ms: 0 };
+    let net = &mut MemoryNet::new();
+    let run = serve(&rt, rt.alloc(), LIMITS, 7000, 4, 0, net, &clock);
+    assert!(rt; run.end == ServeEnd::NetFault);
+    assert!(rt; run.served.is_none());
+    assert!(rt; run.text.is_empty());
+    Ok(())
+}
+
+/// Holds `GET b` until `SET b 2` was answered, and gives up at last.
+#[derive(Drop)]
+struct Turnstile {
+    setter: AtomicU64,
+    answered: AtomicU64,
+    gave_up: AtomicU64,
+}
+
+fn is_word(words: &Words, place: usize, text: &str) -> bool {
+    match words.as_slice().get(place) {
+        Some(word) => word.as_slice() == text.as_bytes(),
+        None => false,
+    }
+}
+
+impl Gate for Turnstile {
+    fn before(&self, id: u64, words: &Words) {
+        if !is_word(words, 1, "b") {
+            return;
+        }
+        if is_word(words, 0, "SET") {
+            self.setter.store(id, Ordering::SeqCst);
+            return;
+        }
+        for _ in 0..100_000_000u32 {
+            if self.answered.load(Ordering::SeqCst) == 1 {
+                return;
+            }
+            spin_loop();
+        }
+        self.gave_up.store(1, Ordering::SeqCst);
+    }
+
+    fn after(&self, id: u64, _requests: u64) {
+        if id == self.setter.load(Ordering::SeqCst) {
+            self.answered.store(1, Ordering::SeqCst);
+        }
+    }
+}
+
+#[test]
+fn a_request_waits_for_one_that_another_worker_answers(rt: HostRuntime) -> Result<(), Fail> {
+    let acceptor = acceptor_of(rt.alloc(), "SET a 1;GET b;,SET b 2;")?;
+    let gate = Turnstile {
+        setter: AtomicU64::new(0),
+        answered: AtomicU64::new(0),
+        gave_up: AtomicU64::new(0),
+    };
+    let clock = FixedClock { ms: 0 };
+    let served = serve_all(&rt, rt.alloc(), LIMITS, acceptor, &clock, &gate, 2, 0)?;
+    assert_eq!(rt; gate.gave_up.load(Ordering::SeqCst), 0);
+    assert!(rt; !served.accept_failed);
+    let mut requests = 0u64;
+    for report in served.reports.as_slice() {
+        assert!(rt; report.ended == Ended::PeerEnd);
+        requests = requests.saturating_add(report.requests);
+    }
+    assert_eq!(rt; served.reports.len(), 2);
+    assert_eq!(rt; requests, 3);
+    Ok(())
+}
