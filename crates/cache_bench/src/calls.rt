@@ -66,7 +66,9 @@ pub fn change(alloc: Global, number: u64) -> Result<Value, NoMemory> {
     invalidation(alloc, Value::Array(keys))
 }
 
-/// The invalidation of every key.
-pub fn flush(alloc: Global) -> Result<Value, NoMemory> {
-    invalidation(alloc, Value::Null)
+/// The invalidation of every key, alone in a list.
+pub fn change_of_all(alloc: Global) -> Result<Vec<Value>, NoMemory> {
+    let mut values = Vec::new(alloc);
+    values.push(invalidation(alloc, Value::Null)?)?;
+    Ok(values)
 }

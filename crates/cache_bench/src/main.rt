@@ -7,14 +7,17 @@ ghost use Rattle.std.specs.Prelude.{◌≤◌, ◌<◌};
 
 mod calls;
 mod rounds;
+#[cfg(test)]
+mod tests;
 
-use calls::{content, flush, mode, welcome};
-use resp_value::NoMemory;
+use calls::{change_of_all, content, mode, welcome};
+use command_words::Query;
+use resp_value::{NoMemory, Value};
 use rounds::{StdMaps, asks, changes, contents, copies, fills, hits, notices, queries};
 use shared_cache::{ClientCall, ClientState, Wire};
 use std::alloc::Global;
 use std::rt::Runtime;
-use std::time::{Duration, Instant};
+use std::time::Instant;
 use std::{env, io};
 
 #[derive(Drop)]
@@ -47,15 +50,18 @@ fn ready_client(alloc: Global, keys: u64) -> Result<ClientState, NoMemory>
     Ok(client)
 }
 
+/// Says how many of the calls of a round were answered as they were to be, and what each took since
+/// the round began.
 fn report<R: Runtime>(
     rt: &R,
     what: &str,
     count: u64,
-    took: Duration,
+    began: Instant,
     times: u64,
 ) -> Result<(), Fault>
     requires { 0 < times }
 {
+    let took = began.elapsed(rt)?;
     println!(rt; "{what} {count}")?;
     let each = took.as_nanos() / (times as u128);
     eprintln!(rt; "{what}: {each} ns each")?;
@@ -76,30 +82,57 @@ fn measure_open<R: Runtime>(rt: &R, alloc: Global, keys: u64, times: u64) -> Res
     requires times { 0 < times }
 {
     let mut client = ready_client(alloc, keys)?;
-    let began = Instant::now(rt)?;
-    let count = asks(alloc, &mut client, keys)?;
-    report(rt, "fetches left open", count, began.elapsed(rt)?, keys)?;
-    let times = times.min((keys + 1) / 2);
+    measure_waiting(rt, alloc, &mut client, keys, times.min((keys + 1) / 2))
+}
+
+fn measure_waiting<R: Runtime>(
+    rt: &R,
+    alloc: Global,
+    client: &mut ClientState,
+    keys: u64,
+    times: u64,
+) -> Result<(), Fault>
+    requires keys { 0 < keys }
+    requires times { (0 < times) × (times ≤ keys) }
+{
+    measure_asks(rt, alloc, client, keys)?;
     let changed = changes(alloc, keys - times, times)?;
-    let began = Instant::now(rt)?;
-    let count = notices(&mut client, changed);
-    report(
+    measure_notices(
         rt,
+        client,
         "invalidations among open fetches",
-        count,
-        began.elapsed(rt)?,
+        changed,
         times,
     )?;
     let replies = contents(alloc, times)?;
+    measure_notices(rt, client, "replies among open fetches", replies, times)
+}
+
+fn measure_asks<R: Runtime>(
+    rt: &R,
+    alloc: Global,
+    client: &mut ClientState,
+    keys: u64,
+) -> Result<(), Fault>
+    requires { 0 < keys }
+{
     let began = Instant::now(rt)?;
-    let count = notices(&mut client, replies);
-    report(
-        rt,
-        "replies among open fetches",
-        count,
-        began.elapsed(rt)?,
-        times,
-    )
+    let count = asks(alloc, client, keys)?;
+    report(rt, "fetches left open", count, began, keys)
+}
+
+fn measure_notices<R: Runtime>(
+    rt: &R,
+    client: &mut ClientState,
+    what: &str,
+    values: Vec<Value>,
+    times: u64,
+) -> Result<(), Fault>
+    requires { 0 < times }
+{
+    let began = Instant::now(rt)?;
+    let count = notices(client, values);
+    report(rt, what, count, began, times)
 }
 
 /// A round of turns on a client that holds every key below `keys`, and what std's maps take.
@@ -108,15 +141,42 @@ fn measure_held<R: Runtime>(rt: &R, alloc: Global, keys: u64, times: u64) -> Res
     requires times { 0 < times }
 {
     let mut client = ready_client(alloc, keys)?;
-    let began = Instant::now(rt)?;
-    let count = fills(alloc, &mut client, 0, keys)?;
-    report(rt, "first fills", count, began.elapsed(rt)?, keys)?;
-    measure_reads(rt, alloc, &mut client, keys, times)?;
-    measure_maps(rt, alloc, keys, times)?;
-    measure_changes(rt, alloc, &mut client, keys, times)
+    measure_client(rt, alloc, &mut client, keys, times)
 }
 
-fn measure_reads<R: Runtime>(
+fn measure_client<R: Runtime>(
+    rt: &R,
+    alloc: Global,
+    client: &mut ClientState,
+    keys: u64,
+    times: u64,
+) -> Result<(), Fault>
+    requires keys { 0 < keys }
+    requires times { 0 < times }
+{
+    measure_fills(rt, alloc, client, "first fills", 0, keys)?;
+    measure_hits(rt, alloc, client, keys, times)?;
+    measure_copies(rt, alloc, times)?;
+    measure_maps(rt, alloc, keys, times)?;
+    measure_changes(rt, alloc, client, keys, times)
+}
+
+fn measure_fills<R: Runtime>(
+    rt: &R,
+    alloc: Global,
+    client: &mut ClientState,
+    what: &str,
+    from: u64,
+    times: u64,
+) -> Result<(), Fault>
+    requires { 0 < times }
+{
+    let began = Instant::now(rt)?;
+    let count = fills(alloc, client, from, times)?;
+    report(rt, what, count, began, times)
+}
+
+fn measure_hits<R: Runtime>(
     rt: &R,
     alloc: Global,
     client: &mut ClientState,
@@ -129,11 +189,16 @@ fn measure_reads<R: Runtime>(
     let asked = queries(alloc, keys, times)?;
     let began = Instant::now(rt)?;
     let count = hits(client, asked);
-    report(rt, "hits", count, began.elapsed(rt)?, times)?;
+    report(rt, "hits", count, began, times)
+}
+
+fn measure_copies<R: Runtime>(rt: &R, alloc: Global, times: u64) -> Result<(), Fault>
+    requires { 0 < times }
+{
     let value = content(alloc)?;
     let began = Instant::now(rt)?;
     let count = copies(&value, times)?;
-    report(rt, "copies", count, began.elapsed(rt)?, times)
+    report(rt, "copies", count, began, times)
 }
 
 fn measure_maps<R: Runtime>(rt: &R, alloc: Global, keys: u64, times: u64) -> Result<(), Fault>
@@ -142,12 +207,23 @@ fn measure_maps<R: Runtime>(rt: &R, alloc: Global, keys: u64, times: u64) -> Res
 {
     let asked = queries(alloc, keys, times)?;
     let maps = StdMaps::new(alloc, keys)?;
+    measure_look_ups(rt, &maps, asked.as_slice(), times)
+}
+
+fn measure_look_ups<R: Runtime>(
+    rt: &R,
+    maps: &StdMaps,
+    asked: &[Query],
+    times: u64,
+) -> Result<(), Fault>
+    requires { 0 < times }
+{
     let began = Instant::now(rt)?;
-    let count = maps.hash_hits(&asked);
-    report(rt, "look-ups by hash", count, began.elapsed(rt)?, times)?;
+    let count = maps.hash_hits(asked);
+    report(rt, "look-ups by hash", count, began, times)?;
     let began = Instant::now(rt)?;
-    let count = maps.tree_hits(&asked);
-    report(rt, "look-ups in a tree", count, began.elapsed(rt)?, times)
+    let count = maps.tree_hits(asked);
+    report(rt, "look-ups in a tree", count, began, times)
 }
 
 fn measure_changes<R: Runtime>(
@@ -160,32 +236,11 @@ fn measure_changes<R: Runtime>(
     requires keys { 0 < keys }
     requires times { 0 < times }
 {
-    let began = Instant::now(rt)?;
-    let count = fills(alloc, client, keys, times)?;
-    report(
-        rt,
-        "fills of a full cache",
-        count,
-        began.elapsed(rt)?,
-        times,
-    )?;
+    measure_fills(rt, alloc, client, "fills of a full cache", keys, times)?;
     let changed = changes(alloc, keys, times)?;
-    let began = Instant::now(rt)?;
-    let count = notices(client, changed);
-    report(
-        rt,
-        "invalidations of a key",
-        count,
-        began.elapsed(rt)?,
-        times,
-    )?;
-    let mut all = Vec::new(alloc);
-    let Ok(()) = all.push(flush(alloc)?) else {
-        return Err(Fault::Memory);
-    };
-    let began = Instant::now(rt)?;
-    let count = notices(client, all);
-    report(rt, "invalidations of all", count, began.elapsed(rt)?, 1)
+    measure_notices(rt, client, "invalidations of a key", changed, times)?;
+    let all = change_of_all(alloc)?;
+    measure_notices(rt, client, "invalidations of all", all, 1)
 }
 
 fn number(word: Option<String>) -> Option<u64> {

@@ -8,24 +8,45 @@ use shared_cache::{ClientCall, ClientReply, ClientState, Wire};
 use std::alloc::Global;
 use std::collections::{BTreeMap, HashMap};
 
+/// The number of the command that a query is sent as.
+fn sent(client: &mut ClientState, query: Query) -> Option<u64> {
+    match client.turn(ClientCall::Ask(query)) {
+        ClientReply::Sent { number } => Some(number),
+        _ => None,
+    }
+}
+
+fn goes_out(client: &mut ClientState) -> bool {
+    matches!(
+        client.turn(ClientCall::TakeOut(Wire::Main, 4096)),
+        ClientReply::Bytes(_)
+    )
+}
+
+fn is_noted(client: &mut ClientState, value: Value) -> bool {
+    matches!(
+        client.turn(ClientCall::Got(Wire::Main, value)),
+        ClientReply::Noted
+    )
+}
+
+fn is_answered(client: &mut ClientState, number: u64) -> bool {
+    matches!(
+        client.turn(ClientCall::Poll(number)),
+        ClientReply::Answer { .. }
+    )
+}
+
 /// A miss, its reply, and the answer to the caller.
 fn fill(alloc: Global, client: &mut ClientState, number: u64) -> Result<bool, NoMemory> {
     let Some(query) = query(alloc, number)? else {
         return Ok(false);
     };
-    let ClientReply::Sent { number } = client.turn(ClientCall::Ask(query)) else {
+    let Some(number) = sent(client, query) else {
         return Ok(false);
     };
-    let ClientReply::Bytes(_) = client.turn(ClientCall::TakeOut(Wire::Main, 4096)) else {
-        return Ok(false);
-    };
-    let ClientReply::Noted = client.turn(ClientCall::Got(Wire::Main, content(alloc)?)) else {
-        return Ok(false);
-    };
-    let ClientReply::Answer { .. } = client.turn(ClientCall::Poll(number)) else {
-        return Ok(false);
-    };
-    Ok(true)
+    let value = content(alloc)?;
+    Ok(goes_out(client) && is_noted(client, value) && is_answered(client, number))
 }
 
 /// The keys of these numbers are asked for the first time.

@@ -9,12 +9,13 @@ mod rounds;
 #[cfg(test)]
 mod tests;
 
+use command_words::Command;
 use keyspace::Keyspace;
 use resp_value::NoMemory;
 use rounds::{Walk, commands, served};
 use std::alloc::Global;
 use std::rt::Runtime;
-use std::time::{Duration, Instant};
+use std::time::Instant;
 use std::{env, io};
 
 #[derive(Drop)]
@@ -40,10 +41,11 @@ fn report<R: Runtime>(
     line: &str,
     walk: Walk,
     count: u64,
-    took: Duration,
+    began: Instant,
 ) -> Result<(), Fault>
     requires { 0 < walk.times }
 {
+    let took = began.elapsed(rt)?;
     let name = walk.name;
     println!(rt; "{line}, {name}: {count}")?;
     let each = took.as_nanos() / (walk.times as u128);
@@ -63,9 +65,22 @@ fn measure<R: Runtime>(
     requires times { 0 < walk.times }
 {
     let commands = commands(alloc, line, walk)?;
+    measure_commands(rt, alloc, space, line, walk, commands.as_slice())
+}
+
+fn measure_commands<R: Runtime>(
+    rt: &R,
+    alloc: Global,
+    space: &mut Keyspace,
+    line: &str,
+    walk: Walk,
+    commands: &[Command],
+) -> Result<(), Fault>
+    requires { 0 < walk.times }
+{
     let began = Instant::now(rt)?;
-    let count = served(alloc, space, commands.as_slice())?;
-    report(rt, line, walk, count, began.elapsed(rt)?)
+    let count = served(alloc, space, commands)?;
+    report(rt, line, walk, count, began)
 }
 
 fn measure_lines<R: Runtime>(
@@ -153,9 +168,22 @@ fn measure_keys<R: Runtime>(rt: &R, alloc: Global, keys: u64, times: u64) -> Res
     requires times { 0 < times }
 {
     let mut space = Keyspace::new(alloc);
-    measure(rt, alloc, &mut space, "SET k# 1", each(keys))?;
-    measure_lines(rt, alloc, &mut space, ON_KEYS, near(keys, times))?;
-    measure_lines(rt, alloc, &mut space, ON_KEYS, far(keys, times))
+    measure_texts(rt, alloc, &mut space, keys, times)
+}
+
+fn measure_texts<R: Runtime>(
+    rt: &R,
+    alloc: Global,
+    space: &mut Keyspace,
+    keys: u64,
+    times: u64,
+) -> Result<(), Fault>
+    requires keys { 0 < keys }
+    requires times { 0 < times }
+{
+    measure(rt, alloc, space, "SET k# 1", each(keys))?;
+    measure_lines(rt, alloc, space, ON_KEYS, near(keys, times))?;
+    measure_lines(rt, alloc, space, ON_KEYS, far(keys, times))
 }
 
 const ON_FIELDS: &str = "\
@@ -168,10 +196,23 @@ fn measure_fields<R: Runtime>(rt: &R, alloc: Global, fields: u64, times: u64) ->
     requires times { 0 < times }
 {
     let mut space = Keyspace::new(alloc);
-    measure(rt, alloc, &mut space, "HSET fields f# 1", each(fields))?;
-    measure_lines(rt, alloc, &mut space, ON_FIELDS, near(fields, times))?;
-    measure_lines(rt, alloc, &mut space, ON_FIELDS, far(fields, times))?;
-    measure_removals(rt, alloc, &mut space, fields)
+    measure_hash(rt, alloc, &mut space, fields, times)
+}
+
+fn measure_hash<R: Runtime>(
+    rt: &R,
+    alloc: Global,
+    space: &mut Keyspace,
+    fields: u64,
+    times: u64,
+) -> Result<(), Fault>
+    requires fields { 0 < fields }
+    requires times { 0 < times }
+{
+    measure(rt, alloc, space, "HSET fields f# 1", each(fields))?;
+    measure_lines(rt, alloc, space, ON_FIELDS, near(fields, times))?;
+    measure_lines(rt, alloc, space, ON_FIELDS, far(fields, times))?;
+    measure_removals(rt, alloc, space, fields)
 }
 
 /// Fields go at the front, in the middle and at the end, once all were listed.

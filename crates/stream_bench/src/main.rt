@@ -12,6 +12,7 @@ mod tests;
 
 use resp_stream::{RequestReader, StreamFault, ValueReader};
 use std::alloc::Global;
+use std::rt::Runtime;
 use std::{env, io};
 
 /// How many bytes are fed at once, as a socket gives them.
@@ -66,21 +67,60 @@ fn feed_values(reader: &mut ValueReader, piece: &[u8]) -> Result<u64, StreamFaul
     Ok(count)
 }
 
+/// A reader of each kind.
+#[derive(Drop)]
+struct Readers {
+    requests: RequestReader,
+    values: ValueReader,
+}
+
+impl Readers {
+    fn new(alloc: Global) -> Readers {
+        Readers {
+            requests: RequestReader::new(alloc),
+            values: ValueReader::new(alloc),
+        }
+    }
+
+    /// Feeds one of them, and says how many requests or values it read.
+    fn feed(&mut self, requests: bool, bytes: &[u8]) -> Result<u64, StreamFault> {
+        if requests {
+            feed_requests(&mut self.requests, bytes)
+        } else {
+            feed_values(&mut self.values, bytes)
+        }
+    }
+
+    /// Feeds the piece so many times.
+    fn feed_often(&mut self, requests: bool, piece: &[u8], times: u64) -> Result<u64, StreamFault> {
+        let mut count = 0u64;
+        for _ in 0..times {
+            count = count.saturating_add(self.feed(requests, piece)?);
+        }
+        Ok(count)
+    }
+
+    /// Feeds a blob of 16 MiB, 64 KiB at a time.
+    fn feed_blob(&mut self, requests: bool, piece: &[u8]) -> Result<u64, StreamFault> {
+        let head = if requests {
+            "*1\r\n$16777216\r\n"
+        } else {
+            "$16777216\r\n"
+        };
+        self.feed(requests, head.as_bytes())?;
+        self.feed_often(requests, piece, 256)?;
+        self.feed(requests, b"\r\n")
+    }
+}
+
 /// So many MiB of one request or reply, pipelined.
 fn pipelined(alloc: Global, requests: bool, bytes: &[u8], size: u64) -> Result<u64, StreamFault> {
     let piece = repeated(alloc, bytes)?;
+    let mut readers = Readers::new(alloc);
     let mut count = 0u64;
-    let mut reader = RequestReader::new(alloc);
-    let mut values = ValueReader::new(alloc);
     for _ in 0..size {
-        for _ in 0..16 {
-            let more = if requests {
-                feed_requests(&mut reader, piece.as_slice())?
-            } else {
-                feed_values(&mut values, piece.as_slice())?
-            };
-            count = count.saturating_add(more);
-        }
+        let more = readers.feed_often(requests, piece.as_slice(), 16)?;
+        count = count.saturating_add(more);
     }
     Ok(count)
 }
@@ -88,28 +128,10 @@ fn pipelined(alloc: Global, requests: bool, bytes: &[u8], size: u64) -> Result<u
 /// So many blobs of 16 MiB, fed a piece at a time.
 fn blobs(alloc: Global, requests: bool, size: u64) -> Result<u64, StreamFault> {
     let piece = repeated(alloc, b"0123456789abcdef0123456789abcdef")?;
+    let mut readers = Readers::new(alloc);
     let mut count = 0u64;
-    let mut reader = RequestReader::new(alloc);
-    let mut values = ValueReader::new(alloc);
     for _ in 0..size {
-        if requests {
-            feed_requests(&mut reader, b"*1\r\n$16777216\r\n")?;
-        } else {
-            feed_values(&mut values, b"$16777216\r\n")?;
-        }
-        for _ in 0..256 {
-            if requests {
-                feed_requests(&mut reader, piece.as_slice())?;
-            } else {
-                feed_values(&mut values, piece.as_slice())?;
-            }
-        }
-        let more = if requests {
-            feed_requests(&mut reader, b"\r\n")?
-        } else {
-            feed_values(&mut values, b"\r\n")?
-        };
-        count = count.saturating_add(more);
+        count = count.saturating_add(readers.feed_blob(requests, piece.as_slice())?);
     }
     Ok(count)
 }
@@ -130,31 +152,30 @@ fn run(alloc: Global, word: &str, size: u64) -> Option<Result<u64, StreamFault>>
     }
 }
 
-fn main(rt: HostRuntime) -> io::Result<()> {
-    let alloc = rt.alloc();
-    let mut word = None;
-    let mut size = None;
-    for (place, given) in env::args(&rt)?.enumerate() {
-        if place == 1 {
-            word = Some(given);
-        } else if place == 2 {
-            size = given.parse::<u64>().ok();
-        }
+/// Prints how many were read in this way.
+fn report<R: Runtime>(rt: &R, alloc: Global, name: &str, size: u64) -> io::Result<()> {
+    match run(alloc, name, size) {
+        Some(Ok(count)) => println!(rt; "{name} {count}"),
+        Some(Err(_)) => println!(rt; "{name} failed"),
+        None => println!(rt; "{name} is unknown"),
     }
-    let size = size.unwrap_or(1);
-    let all = ["gets", "replies", "request_blobs", "reply_blobs"];
-    for name in all {
+}
+
+fn main(rt: HostRuntime) -> io::Result<()> {
+    let mut words = env::args(&rt)?;
+    words.next();
+    let word = words.next();
+    let size = match words.next() {
+        Some(size) => size.as_str().parse::<u64>().unwrap_or(1),
+        None => 1,
+    };
+    for name in ["gets", "replies", "request_blobs", "reply_blobs"] {
         let is_asked = match &word {
             Some(word) => word.as_str() == name || word.as_str() == "all",
             None => true,
         };
-        if !is_asked {
-            continue;
-        }
-        match run(alloc, name, size) {
-            Some(Ok(count)) => println!(rt; "{name} {count}")?,
-            Some(Err(_)) => println!(rt; "{name} failed")?,
-            None => println!(rt; "{name} is unknown")?,
+        if is_asked {
+            report(&rt, rt.alloc(), name, size)?;
         }
     }
     Ok(())

@@ -5,7 +5,7 @@ ghost use Rattle.serial_model.specs.Steps.{AreValid, IsCallable};
 use command_words::put_printed;
 use resp_value::{NoMemory, Octets, Words};
 use server_book::{Book, BookCall, BookRefusal, BookReply, Entry, Limits, Post, Posted};
-use std::alloc::Global;
+use std::alloc::{AllocError, Global};
 use std::test::Fail;
 
 fn words_of(alloc: Global, text: &str) -> Result<Words, NoMemory> {
@@ -67,43 +67,67 @@ fn number_of(text: &str) -> u64 {
     text.parse::<u64>().unwrap_or(0)
 }
 
-// Whether these are the posts: the id of each connection, and how many bytes it is sent.
+// Whether this is the post: the id of the connection, and how many bytes it is sent.
+fn is_post(post: &Post, text: &str) -> bool {
+    let Some((id, size)) = text.split_once(':') else {
+        return false;
+    };
+    let is_what = match post.what {
+        Posted::End => size == "end",
+        Posted::Message { length } => size != "end" && length == number_of(size),
+    };
+    post.id == number_of(id) && is_what
+}
+
+// Whether these are the posts, as commas part them.
 fn are_posts(posts: &[Post], text: &str) -> bool {
     if text == "-" {
         return posts.is_empty();
     }
     let mut wanted = text.split(',');
     for post in posts {
-        let (id, size) = wanted
-            .next()
-            .unwrap_or("")
-            .split_once(":")
-            .unwrap_or(("", ""));
-        let what = match post.what {
-            Posted::End => size == "end",
-            Posted::Message { length } => size != "end" && length == number_of(size),
-        };
-        if post.id != number_of(id) || !what {
-            return false;
+        match wanted.next() {
+            Some(text) if is_post(post, text) => {}
+            _ => return false,
         }
     }
     wanted.next().is_none()
 }
 
-// Plays the turn of a row: the id, a number and the call; then the number of its entry, the bytes
-// that it gave as they are printed, and its posts.
-fn is_played_so(alloc: Global, book: &mut Book, row: &str) -> Result<bool, NoMemory> {
-    let (asked, wanted) = row.split_once(": ").unwrap_or(("", ""));
-    let (id, asked) = asked.split_once(" ").unwrap_or(("", ""));
-    let (number, what) = asked.split_once(" ").unwrap_or(("", ""));
-    let (entry, wanted) = wanted.split_once(" ").unwrap_or(("", ""));
-    let (gave, posts) = wanted.split_once(" ").unwrap_or(("", ""));
-    let reply = book.turn(call_of(alloc, what, number_of(id), number_of(number))?);
-    let (added, bytes) = parts_of(&reply);
+// The id, a number and the call.
+fn asked_of(asked: &str) -> Option<(u64, u64, &str)> {
+    let (id, asked) = asked.split_once(' ')?;
+    let (number, what) = asked.split_once(' ')?;
+    Some((number_of(id), number_of(number), what))
+}
+
+// The number of the entry, the bytes that it gave as they are printed, and its posts.
+fn wanted_of(wanted: &str) -> Option<(u64, &str, &str)> {
+    let (entry, wanted) = wanted.split_once(' ')?;
+    let (gave, posts) = wanted.split_once(' ')?;
+    Some((number_of(entry), gave, posts))
+}
+
+fn is_reply(alloc: Global, reply: &BookReply, entry: u64, gave: &str) -> Result<bool, NoMemory> {
+    let (added, bytes) = parts_of(reply);
     let mut shown = Vec::new(alloc);
     put_printed(bytes, &mut shown)?;
-    let same = added == number_of(entry) && shown.as_slice() == gave.as_bytes();
-    Ok(same && are_posts(book.last_posts(), posts))
+    Ok(added == entry && shown.as_slice() == gave.as_bytes())
+}
+
+// Plays the turn of a row.
+fn is_played_so(alloc: Global, book: &mut Book, row: &str) -> Result<bool, NoMemory> {
+    let Some((asked, wanted)) = row.split_once(": ") else {
+        return Ok(false);
+    };
+    let Some((id, number, what)) = asked_of(asked) else {
+        return Ok(false);
+    };
+    let Some((entry, gave, posts)) = wanted_of(wanted) else {
+        return Ok(false);
+    };
+    let reply = book.turn(call_of(alloc, what, id, number)?);
+    Ok(is_reply(alloc, &reply, entry, gave)? && are_posts(book.last_posts(), posts))
 }
 
 // The first row whose turn is not what it says.
@@ -138,19 +162,24 @@ const TURNS: &str = "\
 2 0 close: 10 \\e 2:end
 2 8 GET foo: 0 gone -";
 
-#[test]
-fn a_book_answers_its_turns_and_keeps_their_entries(rt: HostRuntime) -> Result<(), Fail> {
-    let alloc = rt.alloc();
-    let mut book = Book::new(alloc, limits_of(10))?;
-    assert_eq!(rt; wrong_row(alloc, &mut book, TURNS)?, None);
-    assert_eq!(rt; book.entries(), 10);
+// The moments of the requests that ran.
+fn moments(alloc: Global, book: &Book) -> Result<Vec<u64>, AllocError> {
     let mut moments = Vec::new(alloc);
     for entry in book.history() {
         if let Entry::Run { moment, .. } = entry {
             moments.push(*moment)?;
         }
     }
-    assert_eq!(rt; moments.as_slice(), [7, 7, 7, 8].as_slice());
+    Ok(moments)
+}
+
+#[test]
+fn a_book_answers_its_turns_and_keeps_their_entries(rt: HostRuntime) -> Result<(), Fail> {
+    let alloc = rt.alloc();
+    let mut book = Book::new(alloc, limits_of(10))?;
+    assert_eq!(rt; wrong_row(alloc, &mut book, TURNS)?, None);
+    assert_eq!(rt; book.entries(), 10);
+    assert_eq!(rt; moments(alloc, &book)?.as_slice(), [7, 7, 7, 8].as_slice());
     Ok(())
 }
 

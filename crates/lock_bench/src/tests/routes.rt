@@ -59,16 +59,22 @@ CLIENT TRACKING ON REDIRECT 2; ended: nowhere, broken
 HELLO 3, CLIENT TRACKING ON; ended: push to 1
 HELLO 3; ended: nowhere";
 
+fn goes_so(alloc: Global, row: &str) -> Result<bool, NoMemory> {
+    let Some((ran, wanted)) = row.split_once(": ") else {
+        return Ok(false);
+    };
+    let Some((own, other)) = ran.split_once("; ") else {
+        return Ok(false);
+    };
+    let mode = mode_after(alloc, own)?;
+    let target = peer_after(alloc, other)?;
+    Ok(line_of(&mode, target) == wanted)
+}
+
 #[test]
 fn a_message_goes_where_the_two_connections_say(rt: HostRuntime) -> Result<(), Fail> {
-    for row in ROUTES.split('\n') {
-        if let Some((ran, wanted)) = row.split_once(": ") {
-            if let Some((own, other)) = ran.split_once("; ") {
-                let mode = mode_after(rt.alloc(), own)?;
-                let target = peer_after(rt.alloc(), other)?;
-                assert_eq!(rt; line_of(&mode, target), wanted, "{row}");
-            }
-        }
+    for row in ROUTES.lines() {
+        assert!(rt; goes_so(rt.alloc(), row)?, "{row}");
     }
     Ok(())
 }
@@ -79,16 +85,31 @@ fn spelled(alloc: Global, proto: Proto, value: &Value) -> Result<Vec<u8>, NoMemo
     Ok(out)
 }
 
+/// The invalidation of these keys on that route.
+fn told(
+    alloc: Global,
+    proto: Proto,
+    route: Route,
+    keys: Option<&str>,
+) -> Result<Vec<u8>, NoMemory> {
+    let value = match keys {
+        Some(line) => invalidation(alloc, &route, Some(&words_of(alloc, line)?))?,
+        None => invalidation(alloc, &route, None)?,
+    };
+    spelled(alloc, proto, &value)
+}
+
 #[test]
-fn an_invalidation_is_a_push_or_a_message_of_the_channel(rt: HostRuntime) -> Result<(), Fail> {
-    let alloc = rt.alloc();
-    let keys = words_of(alloc, "foo1 foo2")?;
-    let push = invalidation(alloc, &Route::Push(7), Some(&keys))?;
-    let bytes = spelled(alloc, Proto::Three, &push)?;
+fn an_invalidation_is_a_push(rt: HostRuntime) -> Result<(), Fail> {
+    let bytes = told(rt.alloc(), Proto::Three, Route::Push(7), Some("foo1 foo2"))?;
     let wanted = ">2\r\n$10\r\ninvalidate\r\n*2\r\n$4\r\nfoo1\r\n$4\r\nfoo2\r\n";
     assert_eq!(rt; bytes.as_slice(), wanted.as_bytes());
-    let message = invalidation(alloc, &Route::Message(7), Some(&keys))?;
-    let bytes = spelled(alloc, Proto::Two, &message)?;
+    Ok(())
+}
+
+#[test]
+fn an_invalidation_is_a_message_of_the_channel(rt: HostRuntime) -> Result<(), Fail> {
+    let bytes = told(rt.alloc(), Proto::Two, Route::Message(7), Some("foo1 foo2"))?;
     let wanted = "*3\r\n$7\r\nmessage\r\n$20\r\n__redis__:invalidate\r\n\
 *2\r\n$4\r\nfoo1\r\n$4\r\nfoo2\r\n";
     assert_eq!(rt; bytes.as_slice(), wanted.as_bytes());
@@ -97,15 +118,10 @@ fn an_invalidation_is_a_push_or_a_message_of_the_channel(rt: HostRuntime) -> Res
 
 #[test]
 fn a_flush_names_null(rt: HostRuntime) -> Result<(), Fail> {
-    let alloc = rt.alloc();
-    let push = invalidation(alloc, &Route::Push(7), None)?;
-    let bytes = spelled(alloc, Proto::Three, &push)?;
-    assert_eq!(rt;
-        bytes.as_slice(),
-        ">2\r\n$10\r\ninvalidate\r\n_\r\n".as_bytes()
-    );
-    let message = invalidation(alloc, &Route::Message(7), None)?;
-    let bytes = spelled(alloc, Proto::Two, &message)?;
+    let bytes = told(rt.alloc(), Proto::Three, Route::Push(7), None)?;
+    let wanted = ">2\r\n$10\r\ninvalidate\r\n_\r\n";
+    assert_eq!(rt; bytes.as_slice(), wanted.as_bytes());
+    let bytes = told(rt.alloc(), Proto::Two, Route::Message(7), None)?;
     let wanted = "*3\r\n$7\r\nmessage\r\n$20\r\n__redis__:invalidate\r\n$-1\r\n";
     assert_eq!(rt; bytes.as_slice(), wanted.as_bytes());
     Ok(())

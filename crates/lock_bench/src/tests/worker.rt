@@ -72,19 +72,22 @@ GET_a;GET_a; = 100 = 3 = LinkFault 2 = $-1
 GET_a; = 1 = 100 = HistoryFull 0 = 
 GET_a; = 2 = 100 = HistoryFull 1 = ";
 
+fn comes_to<R: Wait>(rt: &R, alloc: Global, row: &str) -> Result<bool, Fail> {
+    let mut parts = row.split(" = ");
+    let steps = steps_of(alloc, parts.next().unwrap_or(""))?;
+    let most = parts.next().unwrap_or("").parse().unwrap_or(0);
+    let room = parts.next().unwrap_or("").parse().unwrap_or(0);
+    let mut link = MemoryLink::new(alloc, room, steps)?;
+    let came = said(rt, alloc, most, &mut link, &OpenGate)?;
+    let is_end = came.as_str() == parts.next().unwrap_or("");
+    let written = bytes_of(alloc, parts.next().unwrap_or(""))?;
+    Ok(is_end && link.bytes() == written.as_slice())
+}
+
 #[test]
 fn a_connection_ends_as_its_link_does(rt: HostRuntime) -> Result<(), Fail> {
     for row in ROWS.lines() {
-        let mut parts = row.split(" = ");
-        let steps = steps_of(rt.alloc(), parts.next().unwrap_or(""))?;
-        let most = parts.next().unwrap_or("").parse::<u64>().unwrap_or(0);
-        let room = parts.next().unwrap_or("").parse::<usize>().unwrap_or(0);
-        let want = parts.next().unwrap_or("");
-        let written = bytes_of(rt.alloc(), parts.next().unwrap_or(""))?;
-        let mut link = MemoryLink::new(rt.alloc(), room, steps)?;
-        let came = said(&rt, rt.alloc(), most, &mut link, &OpenGate)?;
-        assert!(rt; came.as_str() == want, "{row}: {came}");
-        assert!(rt; link.bytes() == written.as_slice(), "{row}");
+        assert!(rt; comes_to(&rt, rt.alloc(), row)?, "{row}");
     }
     Ok(())
 }

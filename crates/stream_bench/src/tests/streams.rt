@@ -42,44 +42,64 @@ fn request_row(row: usize) -> (&'static [u8], Result<&'static [u8], StreamFault>
     }
 }
 
-fn is_request_in_pieces(
-    rt: &impl std::process::Abort,
-    a: Global,
+/// Whether the answer is nothing, or what is wanted.
+fn is_request_or_nothing(
+    alloc: Global,
+    answer: &Result<Option<Words>, StreamFault>,
+    want: &Result<&[u8], StreamFault>,
+) -> Result<bool, NoMemory> {
+    Ok(is_nothing(answer) || is_request(alloc, answer, want)?)
+}
+
+fn is_request_cut(
+    alloc: Global,
     bytes: &[u8],
     want: &Result<&[u8], StreamFault>,
-) -> Result<(), NoMemory> {
-    for cut in 0..bytes.len() {
-        let (front, back) = bytes.split_at(cut);
-        let mut reader = RequestReader::new(a);
-        reader.feed(front)?;
-        let early = reader.next_request();
-        assert!(rt;
-            is_nothing(&early) || is_request(a, &early, want)?,
-            "before the cut at {cut}"
-        );
-        reader.feed(back)?;
-        let answer = reader.next_request();
-        assert!(rt; is_request(a, &answer, want)?, "cut at {cut}");
+    cut: usize,
+) -> Result<bool, NoMemory> {
+    let (front, back) = bytes.split_at(cut.min(bytes.len()));
+    let mut reader = RequestReader::new(alloc);
+    reader.feed(front)?;
+    if !is_request_or_nothing(alloc, &reader.next_request(), want)? {
+        return Ok(false);
     }
-    let mut reader = RequestReader::new(a);
-    let mut answer = Ok(None);
+    reader.feed(back)?;
+    is_request(alloc, &reader.next_request(), want)
+}
+
+fn is_request_byte_by_byte(
+    alloc: Global,
+    bytes: &[u8],
+    want: &Result<&[u8], StreamFault>,
+) -> Result<bool, NoMemory> {
+    let mut reader = RequestReader::new(alloc);
     for byte in bytes {
-        assert!(rt;
-            is_nothing(&answer) || is_request(a, &answer, want)?,
-            "byte by byte"
-        );
+        if !is_request_or_nothing(alloc, &reader.next_request(), want)? {
+            return Ok(false);
+        }
         reader.feed(&[*byte])?;
-        answer = reader.next_request();
     }
-    assert!(rt; is_request(a, &answer, want)?, "byte by byte");
-    Ok(())
+    is_request(alloc, &reader.next_request(), want)
+}
+
+fn is_request_in_pieces(
+    alloc: Global,
+    bytes: &[u8],
+    want: &Result<&[u8], StreamFault>,
+) -> Result<bool, NoMemory> {
+    for cut in 0..bytes.len() {
+        if !is_request_cut(alloc, bytes, want, cut)? {
+            return Ok(false);
+        }
+    }
+    is_request_byte_by_byte(alloc, bytes, want)
 }
 
 #[test]
 fn requests_are_read_however_their_bytes_are_cut(rt: HostRuntime) -> Result<(), Fail> {
     for row in 0..5 {
         let (bytes, want) = request_row(row);
-        is_request_in_pieces(&rt, rt.alloc(), bytes, &want)?;
+        assert!(rt; is_request_in_pieces(rt.alloc(), bytes, &want)?, "{row}");
     }
     Ok(())
 }
@@ -216,37 +236,57 @@ fn is_no_value(answer: &Result<Option<Value>, StreamFault>) -> bool {
     }
 }
 
-fn is_read_in_pieces(
-    rt: &impl std::process::Abort,
-    a: Global,
+/// Whether the answer is nothing, or what is wanted.
+fn is_value_or_nothing(
+    alloc: Global,
+    answer: &Result<Option<Value>, StreamFault>,
+    want: &Result<&[u8], StreamFault>,
+) -> Result<bool, NoMemory> {
+    Ok(is_no_value(answer) || is_value(alloc, answer, want)?)
+}
+
+fn is_value_cut(
+    alloc: Global,
     bytes: &[u8],
     want: &Result<&[u8], StreamFault>,
-) -> Result<(), NoMemory> {
-    for cut in 0..bytes.len() {
-        let (front, back) = bytes.split_at(cut);
-        let mut reader = ValueReader::new(a);
-        reader.feed(front)?;
-        let early = reader.next_value();
-        assert!(rt;
-            is_no_value(&early) || is_value(a, &early, want)?,
-            "before the cut at {cut}"
-        );
-        reader.feed(back)?;
-        let answer = reader.next_value();
-        assert!(rt; is_value(a, &answer, want)?, "cut at {cut}");
+    cut: usize,
+) -> Result<bool, NoMemory> {
+    let (front, back) = bytes.split_at(cut.min(bytes.len()));
+    let mut reader = ValueReader::new(alloc);
+    reader.feed(front)?;
+    if !is_value_or_nothing(alloc, &reader.next_value(), want)? {
+        return Ok(false);
     }
-    let mut reader = ValueReader::new(a);
-    let mut answer = Ok(None);
+    reader.feed(back)?;
+    is_value(alloc, &reader.next_value(), want)
+}
+
+fn is_value_byte_by_byte(
+    alloc: Global,
+    bytes: &[u8],
+    want: &Result<&[u8], StreamFault>,
+) -> Result<bool, NoMemory> {
+    let mut reader = ValueReader::new(alloc);
     for byte in bytes {
-        assert!(rt;
-            is_no_value(&answer) || is_value(a, &answer, want)?,
-            "byte by byte"
-        );
+        if !is_value_or_nothing(alloc, &reader.next_value(), want)? {
+            return Ok(false);
+        }
         reader.feed(&[*byte])?;
-        answer = reader.next_value();
     }
-    assert!(rt; is_value(a, &answer, want)?, "byte by byte");
-    Ok(())
+    is_value(alloc, &reader.next_value(), want)
+}
+
+fn is_value_in_pieces(
+    alloc: Global,
+    bytes: &[u8],
+    want: &Result<&[u8], StreamFault>,
+) -> Result<bool, NoMemory> {
+    for cut in 0..bytes.len() {
+        if !is_value_cut(alloc, bytes, want, cut)? {
+            return Ok(false);
+        }
+    }
+    is_value_byte_by_byte(alloc, bytes, want)
 }
 
 // Bytes that are no value, and their fault.
@@ -304,7 +344,10 @@ fn fault_row(row: usize) -> (&'static [u8], StreamFault) {
 fn faults_of_values_are_found_however_their_bytes_are_cut(rt: HostRuntime) -> Result<(), Fail> {
     for row in 0..12 {
         let (bytes, fault) = fault_row(row);
-        is_read_in_pieces(&rt, rt.alloc(), bytes, &Err(fault))?;
+        assert!(rt;
+            is_value_in_pieces(rt.alloc(), bytes, &Err(fault))?,
+            "{row}"
+        );
     }
     Ok(())
 }
@@ -336,7 +379,7 @@ fn value_row(row: usize) -> (&'static [u8], &'static [u8]) {
 fn values_are_read_however_their_bytes_are_cut(rt: HostRuntime) -> Result<(), Fail> {
     for row in 0..11 {
         let (bytes, value) = value_row(row);
-        is_read_in_pieces(&rt, rt.alloc(), bytes, &Ok(value))?;
+        assert!(rt; is_value_in_pieces(rt.alloc(), bytes, &Ok(value))?, "{row}");
     }
     Ok(())
 }

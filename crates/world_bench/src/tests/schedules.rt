@@ -54,28 +54,52 @@ fn played(alloc: Global, limits: Limits, schedule: &str) -> Result<(Vec<u8>, u64
 {
     let mut world = World::new(alloc, limits)?;
     let mut text = Vec::new(alloc);
-    let mut fault = 0;
+    let fault = play_lines(alloc, &mut world, schedule, &mut text)?;
+    Ok((text, fault))
+}
+
+// Plays lines up to the first fault, and answers its number.
+fn play_lines(
+    alloc: Global,
+    world: &mut World,
+    schedule: &str,
+    text: &mut Vec<u8>,
+) -> Result<u64, NoMemory> {
     for line in schedule.split(';') {
-        if fault == 0 {
-            fault = play_line(alloc, &mut world, line.as_bytes(), &mut text)?;
+        let fault = play_line(alloc, world, line.as_bytes(), text)?;
+        if fault != 0 {
+            return Ok(fault);
         }
     }
-    Ok((text, fault))
+    Ok(0)
 }
 
 // The same, of the reference player.
 fn referred(alloc: Global, limits: Limits, schedule: &str) -> Result<(Vec<u8>, u64), NoMemory> {
     let mut player = ReferencePlayer::new(alloc, limits.table_max as usize);
-    let mut fault = 0;
+    let fault = refer_lines(alloc, &mut player, schedule)?;
+    Ok((Vec::from_slice(alloc, player.text())?, fault))
+}
+
+fn refer_line(alloc: Global, player: &mut ReferencePlayer, line: &str) -> Result<u64, NoMemory> {
+    match read_event(alloc, line.as_bytes())? {
+        Some(event) => player.play(&event),
+        None => Ok(NO_LINE),
+    }
+}
+
+fn refer_lines(
+    alloc: Global,
+    player: &mut ReferencePlayer,
+    schedule: &str,
+) -> Result<u64, NoMemory> {
     for line in schedule.split(';') {
-        if fault == 0 {
-            fault = match read_event(alloc, line.as_bytes())? {
-                Some(event) => player.play(&event)?,
-                None => NO_LINE,
-            };
+        let fault = refer_line(alloc, player, line)?;
+        if fault != 0 {
+            return Ok(fault);
         }
     }
-    Ok((Vec::from_slice(alloc, player.text())?, fault))
+    Ok(0)
 }
 
 /// Whether this was printed: the lines, each with an LF.
@@ -374,12 +398,23 @@ fn serve_piece(
 fn cut_at(alloc: Global, request: &[u8], at: usize) -> Result<Vec<u8>, NoMemory> {
     let mut world = World::new(alloc, LIMITS)?;
     let mut text = Vec::new(alloc);
-    let at = at.min(request.len());
-    play_line(alloc, &mut world, b"raw r", &mut text)?;
-    serve_piece(alloc, &mut world, &request[..at], &mut text)?;
-    serve_piece(alloc, &mut world, &request[at..], &mut text)?;
-    play_line(alloc, &mut world, b"flow r", &mut text)?;
+    serve_cut(alloc, &mut world, request, at, &mut text)?;
     Ok(text)
+}
+
+fn serve_cut(
+    alloc: Global,
+    world: &mut World,
+    request: &[u8],
+    at: usize,
+    text: &mut Vec<u8>,
+) -> Result<(), NoMemory> {
+    let (front, back) = request.split_at(at.min(request.len()));
+    play_line(alloc, world, b"raw r", text)?;
+    serve_piece(alloc, world, front, text)?;
+    serve_piece(alloc, world, back, text)?;
+    play_line(alloc, world, b"flow r", text)?;
+    Ok(())
 }
 
 const REQUEST: &[u8] = b"*2\r\n$3\r\nGET\r\n$3\r\nfoo\r\n";

@@ -1,0 +1,4 @@
+//! Tests of the marks of fetches, of a client, and of one as another language holds it.
+mod client;
+mod dialogues;
+mod marks;
