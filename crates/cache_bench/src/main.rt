@@ -42,12 +42,16 @@ impl From<io::Error> for Fault {
 fn ready_client(alloc: Global, keys: u64) -> Result<ClientState, NoMemory>
     requires { (0 < keys) × (keys ≤ 1000000) }
 {
-    let mut client = ClientState::new(alloc, mode(), keys, 4000000000)?;
     let (map, accepted) = welcome(alloc)?;
+    let mut client = ClientState::new(alloc, mode(), keys, 4000000000)?;
+    shake_hands(&mut client, map, accepted);
+    Ok(client)
+}
+
+fn shake_hands(client: &mut ClientState, map: Value, accepted: Value) {
     client.turn(ClientCall::TakeOut(Wire::Main, 4096));
     client.turn(ClientCall::Got(Wire::Main, map));
     client.turn(ClientCall::Got(Wire::Main, accepted));
-    Ok(client)
 }
 
 /// Says how many of the calls of a round were answered as they were to be, and what each took since
