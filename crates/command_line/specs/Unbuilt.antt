@@ -12,8 +12,9 @@ pub data Part : Type 0 where
 -- The one table of what is not built: words that name a part of it are refused.
 abbrev pub unbuilt : List Part
 unbuilt =
-    whole (codes "storm") ∷ whole (codes "serve") ∷ whole (codes "script")
-    ∷ option (codes "world") (codes "--table-max") ∷ option (codes "world") (codes "--out-max") ∷ []
+    whole (codes "storm") ∷ whole (codes "script")
+    ∷ option (codes "world") (codes "--table-max") ∷ option (codes "world") (codes "--out-max")
+    ∷ option (codes "serve") (codes "--table-max") ∷ option (codes "serve") (codes "--out-max") ∷ []
 
 -- the word is this option, and perhaps its value after a `=`
 abbrev pub writes_option : Word → Word → Bool

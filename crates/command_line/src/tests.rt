@@ -361,8 +361,13 @@ fn what_is_wrong_is_said_of_the_first_wrong_word(rt: HostRuntime) -> Result<(), 
         ("storm --number 1", "the command storm is not built yet"),
         (
             "world --table-max 05",
-            "--table-max and --out-max of world are not built yet",
+            "--table-max and --out-max are not built yet",
         ),
+        (
+            "serve --port 7000 --out-max=5",
+            "--table-max and --out-max are not built yet",
+        ),
+        ("serve --workers 5", "--port is missing"),
         (
             "world --table-mx 5",
             "\"--table-mx\" is no option of the command",

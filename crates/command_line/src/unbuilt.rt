@@ -8,8 +8,8 @@ pub fn is_unbuilt(command: &str, words: &[String]) -> bool
     ensures { result ≡ names_unbuilt command.now (map string_bytes words.now) }
 {
     match command {
-        "storm" | "serve" | "script" => true,
-        "world" => has_option(words, "--table-max") || has_option(words, "--out-max"),
+        "storm" | "script" => true,
+        "world" | "serve" => has_option(words, "--table-max") || has_option(words, "--out-max"),
         _ => false,
     }
 }

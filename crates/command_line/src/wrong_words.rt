@@ -7,6 +7,7 @@ use std::fmt;
 /// The one-line forms of the commands.
 pub const FORMS: &str = "\
 usage: zeovalki world [--history-max N] < SCHEDULE
+       zeovalki serve --port N [--workers N] [--connections N] [--history-max N]
 An option is --name value or --name=value, each at most once.
 ";
 
@@ -69,7 +70,7 @@ impl fmt::Display for WrongWords<'_> {
             WrongWords::UnknownCommand(word) => write!(f, "{word:?} is no command"),
             WrongWords::UnbuiltCommand(word) => write!(f, "the command {word} is not built yet"),
             WrongWords::UnbuiltOption => {
-                f.write_str("--table-max and --out-max of world are not built yet")
+                f.write_str("--table-max and --out-max are not built yet")
             }
             WrongWords::UnknownOption(word) => write!(f, "{word:?} is no option of the command"),
             WrongWords::NoOption(word) => write!(f, "{word:?} is no option, and no value of one"),

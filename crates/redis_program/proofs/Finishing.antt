@@ -19,7 +19,8 @@ use Rattle.redis_program.specs.declared.status.Ending.TheVariants.{NoMemory}
 use Rattle.redis_program.specs.Headline.{Comes, EndsAs, IsPlain, IsVerdict, Next, PlayedThen}
 use Rattle.redis_program.specs.Headline.{Writes, last_line, status_of, text_lines}
 use Rattle.redis_program.specs.Playing.{ComesTo, EndingRead, EndingWrote, LastGives, WritesBody}
-use Rattle.redis_program.proofs.Bytes.{appends_more, first_longer, first_then}
+use Rattle.edge_links.proofs.Bytes.{appends_more}
+use Rattle.edge_lines.proofs.Bytes.{first_longer, first_then}
 use Rattle.redis_program.proofs.Judging.{ends_as}
 
 body_written : (ending : Ending) (old new : Option (List ℕ)) (body : List ℕ)
@@ -140,6 +141,7 @@ writes_too P Q status.Usage old new f w = (w.0, w.1, w.2, f w.0 w.1 w.3, w.4)
 writes_too P Q status.BadLine old new f w = (w.0, w.1, w.2, f w.0 w.1 w.3, w.4)
 writes_too P Q status.ReadFault old new f w = (w.0, w.1, w.2, f w.0 w.1 w.3, w.4)
 writes_too P Q status.WriteFault old new f w = (w.0, w.1, f w.0 w.1 w.2, w.3)
+writes_too P Q status.NetFault old new f w = (w.0, w.1, w.2, f w.0 w.1 w.3, w.4)
 writes_too P Q status.Refused old new f w = (w.0, w.1, w.2, f w.0 w.1 w.3, w.4)
 writes_too P Q status.HistoryFull old new f w = (w.0, w.1, w.2, f w.0 w.1 w.3, w.4)
 writes_too P Q status.NoMemory old new f w = (w.0, w.1, w.2, f w.0 w.1 w.3, w.4)
@@ -173,6 +175,7 @@ module _ (limits : Limits) (lines : List (List ℕ)) where
   complete status.BadLine old new r w x = end_verdict x.0 x.1 status.BadLine x.2 r w x.3
   complete status.ReadFault old new r w x = absurd (r refl)
   complete status.WriteFault old new r w x = absurd (w refl)
+  complete status.NetFault old new r w x = end_verdict x.0 x.1 status.NetFault x.2 r w x.3
   complete status.Refused old new r w x = end_verdict x.0 x.1 status.Refused x.2 r w x.3
   complete status.HistoryFull old new r w x = end_verdict x.0 x.1 status.HistoryFull x.2 r w x.3
   complete status.NoMemory old new r w x = inl refl

@@ -1,5 +1,5 @@
 pub mod Asked
-pub mod Bytes
+pub mod Serving
 pub mod Splitting
 pub mod Scheduling
 pub mod LineTexts

@@ -8,6 +8,7 @@ use Rattle.std.specs.Io.KnownBytes.{Appends, Consumes, IsAtEnd}
 use Rattle.std.specs.Option.{option_map_or}
 use Rattle.resp_value.specs.Lists.{IsPrefix}
 use Rattle.serial_model.specs.declared.history.Limits.{Limits}
+pub use Rattle.edge_lines.specs.Streams.{AppendsFirst, IsPlain}
 use Rattle.script_text.specs.declared.event.Event.{Event}
 use Rattle.script_text.specs.declared.line.Line.{Line}
 use Rattle.script_text.specs.Events.{event_of, longest_line}
@@ -37,6 +38,7 @@ exit_number status.Usage = 2
 exit_number status.BadLine = 3
 exit_number status.ReadFault = 4
 exit_number status.WriteFault = 5
+exit_number status.NetFault = 6
 exit_number status.Refused = 7
 exit_number status.HistoryFull = 9
 exit_number status.NoMemory = 10
@@ -136,11 +138,6 @@ IsVerdict limits lines answer =
     (answer ≡ status.NoMemory) ⊎ (answer ≡ status_of (verdict limits lines))
 
 -- ---- what was read
-
--- no byte is an LF
-abbrev pub IsPlain : List ℕ → Type 0
-IsPlain [] = Unit {0}
-IsPlain (b ∷ bytes) = (b ≡ 10 → ⊥) × IsPlain bytes
 
 abbrev pub ArePlain : List (List ℕ) → Type 0
 ArePlain [] = Unit {0}
@@ -259,10 +256,6 @@ EndsAs limits lines ending body =
     (ending ≡ verdict limits lines) × (body ≡ text_of (transcript_of limits lines))
 
 -- ---- what was written
-
--- known bytes grow by the first of these bytes
-abbrev pub AppendsFirst : Option (List ℕ) → Option (List ℕ) → List ℕ → Type 0
-AppendsFirst old new bytes = (first : List ℕ) × IsPrefix first bytes × Appends old new first
 
 -- What was played was written, and then the last line of the ending, whose status is answered.
 -- Where the sink failed, the first bytes of that were written.

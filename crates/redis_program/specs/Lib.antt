@@ -1,3 +1,3 @@
 pub mod Headline
-pub mod Streams
 pub mod Playing
+pub mod Serving

@@ -4,15 +4,15 @@
 mod dispatch;
 mod kept;
 mod line_fault;
-mod lines;
 mod schedule;
+mod serve;
 mod status;
 #[cfg(test)]
 mod tests;
 
 use command_line::{FORMS, find_wrong};
 use dispatch::{refuse, run};
-use edge_links::{MemoryNet, ReaderSource, Sink, SystemClock, WriterSink};
+use edge_links::{ReaderSource, Sink, SystemClock, TcpNet, WriterSink};
 use kept::{KeptSink, KeptSource};
 use line_fault::{find_line_fault, find_refusal};
 use schedule::write_no_memory;
@@ -21,8 +21,8 @@ use std::env::{self, Env};
 use std::io::{self, ErrorKind};
 use std::process::ExitCode;
 
-/// Runs the program over the standard streams, the system's clock and a net that fails, and ends
-/// with the number of its status. Standard error says to a person what was wrong, if anything was;
+/// Runs the program over the standard streams, the system's clock and TCP, and ends with the number
+/// of its status. Standard error says to a person what was wrong, if anything was;
 /// where that can't be written, it is left out.
 fn main(rt: HostRuntime) -> ExitCode {
     let alloc = rt.alloc();
@@ -35,7 +35,7 @@ fn main(rt: HostRuntime) -> ExitCode {
         return end(&rt, write_no_memory(&mut output));
     };
     let mut input = KeptSource::new(alloc, input);
-    let mut net = MemoryNet::new();
+    let mut net = TcpNet::new(rt);
     let clock = SystemClock::new(rt);
     let words = words.as_slice();
     let outcome = run(&rt, alloc, words, &mut input, &mut output, &mut net, &clock);
@@ -82,6 +82,7 @@ fn end(rt: &impl Eprint, status: Status) -> ExitCode {
         Status::Usage => eprint!(rt; "{FORMS}"),
         Status::ReadFault => eprintln!(rt; "zeovalki: the input could not be read"),
         Status::WriteFault => eprintln!(rt; "zeovalki: the output could not be written"),
+        Status::NetFault => eprintln!(rt; "zeovalki: the port could not be listened at"),
         Status::HistoryFull => {
             eprintln!(rt; "zeovalki: the history has as many entries as --history-max allows")
         }

@@ -11,8 +11,8 @@ ghost use Rattle.redis_program.specs.Headline.{text_lines};
 ghost use Rattle.redis_program.specs.Playing.{ComesTo, EndingRead, EndingWrote, LastGives};
 ghost use Rattle.redis_program.specs.Playing.{LineCounted, LineGives, LineText};
 
-use super::lines::{LineRead, SinkFailed, read_line, write_all};
 use super::status::{Ending, Status};
+use edge_lines::{LineRead, SinkFailed, read_line, write_all};
 use edge_links::{Sink, Source};
 use resp_value::NoMemory;
 use script_text::{Event, Lines, put_line, read_event};

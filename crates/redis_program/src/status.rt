@@ -17,6 +17,8 @@ pub enum Status {
     BadLine,
     ReadFault,
     WriteFault,
+    /// The net, or an acceptor of it, failed.
+    NetFault,
     /// The event of a line can't be played.
     Refused,
     /// The history has as many entries as it may.
@@ -35,6 +37,7 @@ impl Status {
             Status::BadLine => 3,
             Status::ReadFault => 4,
             Status::WriteFault => 5,
+            Status::NetFault => 6,
             Status::Refused => 7,
             Status::HistoryFull => 9,
             Status::NoMemory => 10,

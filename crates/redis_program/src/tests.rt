@@ -3,7 +3,8 @@ use super::dispatch::run;
 use super::line_fault::{find_line_fault, find_refusal};
 use super::status::Status;
 use edge_links::{
-    FixedClock, MemoryNet, MemorySink, MemorySource, Sink, Source, SourceRead, Wrote,
+    AcceptStep, FixedClock, LinkStep, ListedNet, Listening, MemoryAcceptor, MemoryLink, MemoryNet,
+    MemorySink, MemorySource, Sink, Source, SourceRead, Wrote,
 };
 use std::alloc::{AllocError, Global};
 use std::cell::Cell;
@@ -70,7 +71,19 @@ fn a_run_writes_the_transcript_and_the_last_line_of_its_status(
             "usage\n",
         ),
         ("storm --number 1 --steps 0", "", Status::Usage, "usage\n"),
-        ("serve --port 7000", "", Status::Usage, "usage\n"),
+        ("serve --port 0", "", Status::Usage, "usage\n"),
+        (
+            "serve --port 7000 --table-max 5",
+            "",
+            Status::Usage,
+            "usage\n",
+        ),
+        (
+            "serve --port 7000",
+            "raw r\n",
+            Status::NetFault,
+            "net-fault\n",
+        ),
         ("script --connect h:1", "", Status::Usage, "usage\n"),
         (
             "world --history-max 2",
@@ -406,4 +419,37 @@ fn each_status_has_its_number(rt: HostRuntime) {
     ] {
         assert_eq!(rt; status.number(), number);
     }
+}
+
+/// A net where port 7000 gives a connection that sends these bytes and then its end.
+fn net_with(alloc: Global, requests: &str) -> Result<ListedNet, AllocError> {
+    let mut sends = Vec::new(alloc);
+    sends.push(LinkStep::Bytes(text_bytes(alloc, requests)?))?;
+    let mut comes = Vec::new(alloc);
+    match MemoryLink::new(alloc, 100, sends) {
+        Ok(link) => comes.push(AcceptStep::Came(link))?,
+        Err(_) => return Err(AllocError),
+    }
+    let mut listens = Vec::new(alloc);
+    listens.push(Listening {
+        port: 7000,
+        acceptor: Some(MemoryAcceptor::new(comes)),
+    })?;
+    Ok(ListedNet::new(listens, Vec::new(alloc)))
+}
+
+#[test]
+fn a_server_listens_at_its_port_and_writes_its_reports(rt: HostRuntime) -> Result<(), Fail> {
+    let alloc = rt.alloc();
+    let clock = FixedClock { ms: 0 };
+    let words = words_of(alloc, "serve --port 7000 --workers 1")?;
+    let mut net = net_with(alloc, "SET a 1\r\nGET a\r\n")?;
+    let mut source = MemorySource::new(text_bytes(alloc, "raw r\n")?, Vec::new(alloc));
+    let mut sink = MemorySink::new(alloc, 1000, Vec::new(alloc))?;
+    let words = words.as_slice();
+    let outcome = run(&rt, alloc, words, &mut source, &mut sink, &mut net, &clock);
+    assert!(rt; outcome.status == Status::Done);
+    assert!(rt; outcome.served.is_some());
+    assert_eq!(rt; sink.bytes(), b"connection 1 ended 1 requests 2\n");
+    Ok(())
 }

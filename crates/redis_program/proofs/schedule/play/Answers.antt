@@ -1,5 +1,6 @@
 use Rattle.std.proofs.Common.{◌∙◌, sym}
-use Rattle.redis_program.proofs.Bytes.{appends_as, first_as}
+use Rattle.edge_links.proofs.Bytes.{appends_as}
+use Rattle.edge_lines.proofs.Bytes.{first_as}
 use Rattle.redis_program.proofs.LineTexts.{line_written, line_uncounted, line_cut}
 use Rattle.redis_program.proofs.schedule.play.Goals as goal
 

@@ -4,12 +4,21 @@ use Rattle.std.specs.declared.option.Option.{Option}
 use Rattle.std.specs.Io.KnownBytes.{Appends, Consumes, IsAtEnd}
 use Rattle.edge_links.specs.declared.counts.Counts.{Counts}
 use Rattle.edge_links.specs.Counts.{EndCounted, FaultCounted}
+use Rattle.resp_value.specs.Lists.{IsPrefix}
 use Rattle.script_text.specs.Events.{longest_line}
-use Rattle.redis_program.specs.declared.lines.LineRead.{LineRead}
-use Rattle.redis_program.specs.declared.lines.LineRead.TheVariants.{Line, Last, End, TooLong}
-use Rattle.redis_program.specs.declared.lines.LineRead.TheVariants.{Failed, NoMemory}
-use Rattle.redis_program.specs.declared.lines.SinkFailed.{SinkFailed}
-use Rattle.redis_program.specs.Headline.{AppendsFirst, IsPlain}
+use Rattle.edge_lines.specs.declared.lines.LineRead.{LineRead}
+use Rattle.edge_lines.specs.declared.lines.LineRead.TheVariants.{Line, Last, End, TooLong}
+use Rattle.edge_lines.specs.declared.lines.LineRead.TheVariants.{Failed, NoMemory}
+use Rattle.edge_lines.specs.declared.lines.SinkFailed.{SinkFailed}
+
+-- no byte is an LF
+abbrev pub IsPlain : List ℕ → Type 0
+IsPlain [] = Unit {0}
+IsPlain (b ∷ bytes) = (b ≡ 10 → ⊥) × IsPlain bytes
+
+-- known bytes grow by the first of these bytes
+abbrev pub AppendsFirst : Option (List ℕ) → Option (List ℕ) → List ℕ → Type 0
+AppendsFirst old new bytes = (first : List ℕ) × IsPrefix first bytes × Appends old new first
 
 abbrev pub ReadsLine : LineRead → Option (List ℕ) → Option (List ℕ) → Type 0
 ReadsLine (Line line) old new = IsPlain line.items × Consumes old new (line.items ++ 10 ∷ [])

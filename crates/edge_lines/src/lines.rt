@@ -1,6 +1,6 @@
 //! Lines of a source, read byte by byte, and bytes written whole to a sink.
 ghost use Rattle.std.specs.Prelude.{◌≡◌};
-ghost use Rattle.redis_program.specs.Streams.{ReadsLine, LineCounts, WritesAll, AllCounts};
+ghost use Rattle.edge_lines.specs.Streams.{ReadsLine, LineCounts, WritesAll, AllCounts};
 
 use edge_links::{Sink, Source, SourceRead, Wrote};
 use script_text::LONGEST_LINE;

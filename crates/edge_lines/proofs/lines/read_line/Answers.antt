@@ -1,6 +1,6 @@
 use Rattle.std.proofs.Common.{◌≡◌, ◌++◌, ◌∷◌, [], length, slice_index_or, length-append, ◌∙◌, arith}
-use Rattle.redis_program.proofs.Bytes.{consumes_byte, plain_push, only_byte}
-use Rattle.redis_program.proofs.lines.read_line.Goals as goal
+use Rattle.edge_lines.proofs.Bytes.{consumes_byte, plain_push, only_byte}
+use Rattle.edge_lines.proofs.lines.read_line.Goals as goal
 
 pub returns-in-Err-clause-bytes : goal.returns-in-Err-clause-bytes
 returns-in-Err-clause-bytes g c =

@@ -1,7 +1,7 @@
 use Rattle.std.proofs.Common.{◌≡◌, length}
 use Rattle.std.specs.Io.KnownBytes.{Consumes}
-use Rattle.redis_program.specs.Headline.{IsPlain}
-use Rattle.redis_program.proofs.lines.read_line.Given as goal
+use Rattle.edge_lines.specs.Streams.{IsPlain}
+use Rattle.edge_lines.proofs.lines.read_line.Given as goal
 
 abbrev pub invariant-loop-count : goal.invariant-loop-count
 invariant-loop-count g l = record {

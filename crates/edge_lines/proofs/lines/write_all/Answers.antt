@@ -1,6 +1,6 @@
 use Rattle.std.proofs.Common.{◌++◌, take, ◌∙◌}
-use Rattle.redis_program.proofs.Bytes.{appends_more, moved}
-use Rattle.redis_program.proofs.lines.write_all.Goals as goal
+use Rattle.edge_links.proofs.Bytes.{appends_more, moved}
+use Rattle.edge_lines.proofs.lines.write_all.Goals as goal
 
 pub loop-rest-preserved : goal.loop-rest-preserved
 loop-rest-preserved g c =

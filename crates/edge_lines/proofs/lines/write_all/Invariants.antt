@@ -1,6 +1,6 @@
 use Rattle.std.proofs.Common.{◌≡◌, ◌++◌, ℕ, List, length}
 use Rattle.std.specs.Io.KnownBytes.{Appends}
-use Rattle.redis_program.proofs.lines.write_all.Given as goal
+use Rattle.edge_lines.proofs.lines.write_all.Given as goal
 
 abbrev pub invariant-loop-rest : goal.invariant-loop-rest
 invariant-loop-rest g l =

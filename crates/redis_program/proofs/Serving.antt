@@ -1,0 +1,117 @@
+-- What the status of a server's run rests on, and that no other run has it.
+use Rattle.std.proofs.Common.{◌≡◌, ℕ, List, [], Some, None, Ok, Err, Result, IfSome, OnErr, refl}
+use Rattle.std.proofs.Common.{sym, subst, ◌∙◌, inl, inr}
+use Rattle.std.specs.declared.option.Option.{Option}
+use Rattle.edge_links.specs.declared.counts.Counts.{Counts}
+use Rattle.edge_lines.specs.declared.lines.SinkFailed.{SinkFailed}
+use Rattle.command_line.specs.declared.settings.ServeSettings.{ServeSettings}
+use Rattle.conn_pool.specs.declared.serve.Served.{Served}
+use Rattle.serve_run.specs.declared.run.ServeEnd.{ServeEnd}
+use Rattle.serve_run.specs.declared.run.ServeEnd.TheVariants as end
+use Rattle.redis_program.specs.declared.status.Ending.{Ending}
+use Rattle.redis_program.specs.declared.status.Ending.TheVariants as ending
+use Rattle.redis_program.specs.declared.status.Status.{Status}
+use Rattle.redis_program.specs.declared.status.Status.TheVariants as status
+use Rattle.redis_program.specs.Headline.{UsageGives, Writes, status_of}
+use Rattle.redis_program.specs.Playing.{LastGives}
+use Rattle.redis_program.specs.Serving.{ServeGives, served_status}
+
+-- ---- a server's status
+
+pub net_status : (e : Result ServeEnd SinkFailed) → served_status e ≡ status.NetFault
+    → e ≡ Ok end.NetFault
+net_status (Ok end.Done) h = absurd (let no : ⊥ = cc in no)
+net_status (Ok end.NetFault) h = refl
+net_status (Ok end.NoMemory) h = absurd (let no : ⊥ = cc in no)
+net_status (Err failed) h = absurd (let no : ⊥ = cc in no)
+
+pub write_status : (P : Type 0) (e : Result ServeEnd SinkFailed) → OnErr e P
+    → served_status e ≡ status.WriteFault → P
+write_status P (Ok end.Done) p h = absurd (let no : ⊥ = cc in no)
+write_status P (Ok end.NetFault) p h = absurd (let no : ⊥ = cc in no)
+write_status P (Ok end.NoMemory) p h = absurd (let no : ⊥ = cc in no)
+write_status P (Err failed) p h = p
+
+pub not_usage : (e : Result ServeEnd SinkFailed) → served_status e ≡ status.Usage → ⊥
+not_usage (Ok end.Done) h = cc
+not_usage (Ok end.NetFault) h = cc
+not_usage (Ok end.NoMemory) h = cc
+not_usage (Err failed) h = cc
+
+pub not_read : (e : Result ServeEnd SinkFailed) → served_status e ≡ status.ReadFault → ⊥
+not_read (Ok end.Done) h = cc
+not_read (Ok end.NetFault) h = cc
+not_read (Ok end.NoMemory) h = cc
+not_read (Err failed) h = cc
+
+-- ---- the net's fault is no other's status
+
+pub usage_not_net : (answer : Status) (old new : Option (List ℕ)) → UsageGives answer old new
+    → answer ≡ status.NetFault → ⊥
+usage_not_net status.Done old new u e = cc
+usage_not_net status.Usage old new u e = cc
+usage_not_net status.BadLine old new u e = cc
+usage_not_net status.ReadFault old new u e = cc
+usage_not_net status.WriteFault old new u e = cc
+usage_not_net status.NetFault old new u e = u
+usage_not_net status.Refused old new u e = cc
+usage_not_net status.HistoryFull old new u e = cc
+usage_not_net status.NoMemory old new u e = cc
+
+ending_not_net : (e : Ending) → status_of e ≡ status.NetFault → ⊥
+ending_not_net ending.Done e = cc
+ending_not_net (ending.BadLine k) e = cc
+ending_not_net ending.ReadFault e = cc
+ending_not_net ending.WriteFault e = cc
+ending_not_net (ending.Refused k f) e = cc
+ending_not_net ending.HistoryFull e = cc
+ending_not_net ending.NoMemory e = cc
+
+pub world_not_net : (Ends : Ending → List ℕ → Type 0) (answer : Status) (old new : Option (List ℕ))
+    → Writes Ends answer old new → answer ≡ status.NetFault → ⊥
+world_not_net Ends answer old new w e =
+    let is : Writes Ends status.NetFault old new = subst (λ s. Writes Ends s old new) e w in
+    ending_not_net is.0 is.2
+
+-- ---- where memory for the words is wanting
+
+module _ (answer : Status) (old new : Option (List ℕ)) (k0 k1 : Counts)
+    (last : LastGives ending.NoMemory answer old new k0 k1) where
+  pub last_not_net : answer ≡ status.NetFault → ⊥
+  last_not_net f = elim last [
+    | inl h ↦ ending_not_net ending.NoMemory (sym h.0 ∙ f)
+    | inr (inl h) ↦ ending_not_net ending.NoMemory (sym h.0 ∙ f)
+    | inr (inr (inl h)) ↦ ending_not_net ending.WriteFault (sym h.0 ∙ f)
+    | inr (inr (inr h)) ↦ ending_not_net ending.WriteFault (sym h.0 ∙ f)
+  ]
+
+  -- what is answered then is what a server may come to as well
+  pub wordless : {A L : Type 0} (settings : ServeSettings) (counts : A → Counts)
+      (left : A → Option (List L)) (net : Counts)
+      → ServeGives settings counts left None answer old new net net
+  wordless settings counts left net = elim last [
+    | inl h ↦ record {
+      end = Ok end.NoMemory;
+      status = h.0;
+      writes = (end.NoMemory, [], refl, refl, (refl, h.1));
+      serves = tt;
+    }
+    | inr (inl h) ↦ record {
+      end = Ok end.NoMemory;
+      status = h.0;
+      writes = (end.NoMemory, [], refl, refl, (refl, h.1));
+      serves = tt;
+    }
+    | inr (inr (inl h)) ↦ record {
+      end = Err (record {});
+      status = h.0;
+      writes = (end.NoMemory, [], refl, refl, h.2);
+      serves = tt;
+    }
+    | inr (inr (inr h)) ↦ record {
+      end = Err (record {});
+      status = h.0;
+      writes = (end.NoMemory, [], refl, refl, h.2);
+      serves = tt;
+    }
+  ]
