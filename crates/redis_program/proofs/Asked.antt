@@ -6,7 +6,6 @@ use Rattle.std.proofs.Common.{List, [], ◌∷◌, None, Some, arith, sym, ap, s
 use Rattle.std.specs.declared.option.Option.{Option}
 use Rattle.std.specs.Option.{option_map}
 use Rattle.std.specs.Prelude.{nat_le, option_and_then, ◌⊎◌}
-use Rattle.std.specs.List.{list_any}
 use Rattle.std.specs.Str.{bytes_eq}
 use Rattle.serial_model.specs.Steps.{AreValid}
 use Rattle.command_line.specs.declared.settings.Asked.{Asked}
@@ -15,8 +14,7 @@ use Rattle.command_line.specs.declared.settings.LimitSettings.{LimitSettings}
 use Rattle.command_line.specs.declared.settings.ServeSettings.{ServeSettings}
 use Rattle.command_line.specs.Options.{Word, if_between, number_in, number_of, options_of}
 use Rattle.command_line.specs.Options.{option_value, value_of}
-use Rattle.command_line.specs.Unbuilt.{names_unbuilt}
-use Rattle.command_line.specs.Commands.{asked_of, command_of, limits, limits_from, script_of}
+use Rattle.command_line.specs.Commands.{command_of, limits, limits_from, script_of}
 use Rattle.command_line.specs.Commands.{serve, serve_from, serve_of, serve_options, storm_of}
 use Rattle.command_line.specs.Commands.{world_of, world_options}
 use Rattle.redis_program.specs.Headline.{limits_of}

@@ -1,5 +1,5 @@
 -- What a line comes to, once its text was written or the sink failed in it.
-use Rattle.std.proofs.Common.{◌≡◌, ◌++◌, ℕ, List, [], ◌∷◌, Some, Ok, Err, Result, refl, sym, ap}
+use Rattle.std.proofs.Common.{◌≡◌, ◌++◌, ℕ, List, [], Some, Ok, Err, Result, refl, sym, ap}
 use Rattle.std.proofs.Common.{subst}
 use Rattle.std.proofs.Common.{◌∙◌, inl, inr}
 use Rattle.std.specs.declared.option.Option.{Option}

@@ -19,7 +19,7 @@ use Rattle.redis_program.specs.declared.status.Ending.TheVariants.{Done, BadLine
 use Rattle.redis_program.specs.declared.status.Ending.TheVariants.{WriteFault, Refused, HistoryFull}
 use Rattle.redis_program.specs.declared.status.Ending.TheVariants.{NoMemory}
 use Rattle.redis_program.specs.Headline.{AppendsFirst, AreLinesOf, ArePlain, IsPlain, Next, Plays}
-use Rattle.redis_program.specs.Headline.{PlayedThen, PlaysPart, ReadsWhole, ended, event_at}
+use Rattle.redis_program.specs.Headline.{PlayedThen, PlaysPart, ReadsWhole, ended}
 use Rattle.redis_program.specs.Headline.{text_lines}
 use Rattle.redis_program.specs.Playing.{ComesTo, EndingRead, EndingWrote, LineCounted, LineGives}
 use Rattle.redis_program.specs.Playing.{PartPrinted}

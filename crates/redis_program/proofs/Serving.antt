@@ -1,11 +1,10 @@
 -- What the status of a server's run rests on, and that no other run has it.
-use Rattle.std.proofs.Common.{◌≡◌, ℕ, List, [], Some, None, Ok, Err, Result, IfSome, OnErr, refl}
+use Rattle.std.proofs.Common.{◌≡◌, ℕ, List, [], None, Ok, Err, Result, OnErr, refl}
 use Rattle.std.proofs.Common.{sym, subst, ◌∙◌, inl, inr}
 use Rattle.std.specs.declared.option.Option.{Option}
 use Rattle.edge_links.specs.declared.counts.Counts.{Counts}
 use Rattle.edge_lines.specs.declared.lines.SinkFailed.{SinkFailed}
 use Rattle.command_line.specs.declared.settings.ServeSettings.{ServeSettings}
-use Rattle.conn_pool.specs.declared.serve.Served.{Served}
 use Rattle.serve_run.specs.declared.run.ServeEnd.{ServeEnd}
 use Rattle.serve_run.specs.declared.run.ServeEnd.TheVariants as end
 use Rattle.redis_program.specs.declared.status.Ending.{Ending}

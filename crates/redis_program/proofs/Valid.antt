@@ -1,6 +1,6 @@
 -- The events that are played are valid.
 use Rattle.std.proofs.Common.{◌≡◌, ◌+◌, ℕ, List, [], ◌∷◌, Bool, true, false, Option, Some, None}
-use Rattle.std.proofs.Common.{cond, refl}
+use Rattle.std.proofs.Common.{cond}
 use Rattle.std.specs.Prelude.{nat_le}
 use Rattle.shared_cache.specs.Laws.{Every}
 use Rattle.script_text.specs.declared.event.Event.{Event}

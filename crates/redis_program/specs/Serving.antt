@@ -1,6 +1,6 @@
 -- What a run of the server writes, and what its status rests on.
 use Rattle.std.specs.Prelude.{◌≡◌, ℕ, List, Option, Result, Ok, Err, IfSome}
-use Rattle.std.specs.declared.option.Option.TheVariants.{None, Some}
+use Rattle.std.specs.declared.option.Option.TheVariants.{Some}
 use Rattle.edge_links.specs.declared.counts.Counts.{Counts}
 use Rattle.edge_lines.specs.declared.lines.SinkFailed.{SinkFailed}
 use Rattle.command_line.specs.declared.settings.Asked.TheVariants as asked

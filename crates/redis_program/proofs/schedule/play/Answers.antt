@@ -1,4 +1,4 @@
-use Rattle.std.proofs.Common.{◌∙◌, sym}
+use Rattle.std.proofs.Common.{◌∙◌}
 use Rattle.edge_links.proofs.Bytes.{appends_as}
 use Rattle.edge_lines.proofs.Bytes.{first_as}
 use Rattle.redis_program.proofs.LineTexts.{line_written, line_uncounted, line_cut}
