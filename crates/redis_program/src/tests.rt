@@ -450,6 +450,7 @@ fn a_server_listens_at_its_port_and_writes_its_reports(rt: HostRuntime) -> Resul
     let outcome = run(&rt, alloc, words, &mut source, &mut sink, &mut net, &clock);
     assert!(rt; outcome.status == Status::Done);
     assert!(rt; outcome.served.is_some());
-    assert_eq!(rt; sink.bytes(), b"connection 1 ended 1 requests 2\n");
+    let written = "connection 1 ended 1 requests 2\n";
+    assert_eq!(rt; sink.bytes(), written.as_bytes());
     Ok(())
 }
