@@ -1,4 +1,6 @@
 //! Routes and messages against worked examples.
+ghost use Rattle.redirect.specs.Messages.{HasMessage};
+
 use command_words::read_command;
 use redirect::{Route, invalidation, is_broken, notice, route};
 use resp_value::{NoMemory, Octets, Proto, Value, Words, put_value};
@@ -86,12 +88,9 @@ fn spelled(alloc: Global, proto: Proto, value: &Value) -> Result<Vec<u8>, NoMemo
 }
 
 /// The invalidation of these keys on that route.
-fn told(
-    alloc: Global,
-    proto: Proto,
-    route: Route,
-    keys: Option<&str>,
-) -> Result<Vec<u8>, NoMemory> {
+fn told(alloc: Global, proto: Proto, route: Route, keys: Option<&str>) -> Result<Vec<u8>, NoMemory>
+    requires { HasMessage route }
+{
     let value = match keys {
         Some(line) => invalidation(alloc, &route, Some(&words_of(alloc, line)?))?,
         None => invalidation(alloc, &route, None)?,
