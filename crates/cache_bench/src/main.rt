@@ -13,8 +13,10 @@ mod tests;
 use calls::{change_of_all, content, mode, welcome};
 use command_words::Query;
 use resp_value::{NoMemory, Value};
-use rounds::{StdMaps, asks, changes, contents, copies, fills, hits, notices, queries};
-use shared_cache::{ClientCall, ClientState, Wire};
+use rounds::{
+    StdMaps, asks, changes, contents, copies, fills, goes_out, hits, is_noted, notices, queries,
+};
+use shared_cache::ClientState;
 use std::alloc::Global;
 use std::rt::Runtime;
 use std::time::Instant;
@@ -38,20 +40,12 @@ impl From<io::Error> for Fault {
     }
 }
 
-/// A client with room for so many keys, whose handshake is answered.
-fn ready_client(alloc: Global, keys: u64) -> Result<ClientState, NoMemory>
-    requires { (0 < keys) × (keys ≤ 1000000) }
-{
+fn shake_hands(alloc: Global, client: &mut ClientState) -> Result<(), NoMemory> {
     let (map, accepted) = welcome(alloc)?;
-    let mut client = ClientState::new(alloc, mode(), keys, 4000000000)?;
-    shake_hands(&mut client, map, accepted);
-    Ok(client)
-}
-
-fn shake_hands(client: &mut ClientState, map: Value, accepted: Value) {
-    client.turn(ClientCall::TakeOut(Wire::Main, 4096));
-    client.turn(ClientCall::Got(Wire::Main, map));
-    client.turn(ClientCall::Got(Wire::Main, accepted));
+    goes_out(client);
+    is_noted(client, map);
+    is_noted(client, accepted);
+    Ok(())
 }
 
 /// Says how many of the calls of a round were answered as they were to be, and what each took since
@@ -76,19 +70,46 @@ fn measure<R: Runtime>(rt: &R, alloc: Global, keys: u64, times: u64) -> Result<(
     requires keys { (0 < keys) × (keys ≤ 1000000) }
     requires times { 0 < times }
 {
-    measure_held(rt, alloc, keys, times)?;
-    measure_open(rt, alloc, keys, times)
+    measure_client(rt, alloc, keys, times, false)?;
+    measure_client(rt, alloc, keys, times, true)
 }
 
-/// Rounds of turns on a client that waits for the replies to so many queries.
-fn measure_open<R: Runtime>(rt: &R, alloc: Global, keys: u64, times: u64) -> Result<(), Fault>
+/// Rounds of turns on a client with room for so many keys: one that leaves its fetches open, or one
+/// that holds every key.
+fn measure_client<R: Runtime>(
+    rt: &R,
+    alloc: Global,
+    keys: u64,
+    times: u64,
+    open: bool,
+) -> Result<(), Fault>
     requires keys { (0 < keys) × (keys ≤ 1000000) }
     requires times { 0 < times }
 {
-    let mut client = ready_client(alloc, keys)?;
-    measure_waiting(rt, alloc, &mut client, keys, times.min((keys + 1) / 2))
+    let mut client = ClientState::new(alloc, mode(), keys, 4000000000)?;
+    measure_rounds(rt, alloc, &mut client, keys, times, open)
 }
 
+fn measure_rounds<R: Runtime>(
+    rt: &R,
+    alloc: Global,
+    client: &mut ClientState,
+    keys: u64,
+    times: u64,
+    open: bool,
+) -> Result<(), Fault>
+    requires keys { (0 < keys) × (keys ≤ 1000000) }
+    requires times { 0 < times }
+{
+    shake_hands(alloc, client)?;
+    if open {
+        measure_waiting(rt, alloc, client, keys, times.min((keys + 1) / 2))
+    } else {
+        measure_held(rt, alloc, client, keys, times)
+    }
+}
+
+/// Rounds of turns on a client that waits for the replies to so many queries.
 fn measure_waiting<R: Runtime>(
     rt: &R,
     alloc: Global,
@@ -101,13 +122,8 @@ fn measure_waiting<R: Runtime>(
 {
     measure_asks(rt, alloc, client, keys)?;
     let changed = changes(alloc, keys - times, times)?;
-    measure_notices(
-        rt,
-        client,
-        "invalidations among open fetches",
-        changed,
-        times,
-    )?;
+    let what = "invalidations among open fetches";
+    measure_notices(rt, client, what, changed, times)?;
     let replies = contents(alloc, times)?;
     measure_notices(rt, client, "replies among open fetches", replies, times)
 }
@@ -139,16 +155,8 @@ fn measure_notices<R: Runtime>(
     report(rt, what, count, began, times)
 }
 
-/// A round of turns on a client that holds every key below `keys`, and what std's maps take.
-fn measure_held<R: Runtime>(rt: &R, alloc: Global, keys: u64, times: u64) -> Result<(), Fault>
-    requires keys { (0 < keys) × (keys ≤ 1000000) }
-    requires times { 0 < times }
-{
-    let mut client = ready_client(alloc, keys)?;
-    measure_client(rt, alloc, &mut client, keys, times)
-}
-
-fn measure_client<R: Runtime>(
+/// Rounds of turns on a client that holds every key below `keys`, and what std's maps take.
+fn measure_held<R: Runtime>(
     rt: &R,
     alloc: Global,
     client: &mut ClientState,
@@ -200,8 +208,14 @@ fn measure_copies<R: Runtime>(rt: &R, alloc: Global, times: u64) -> Result<(), F
     requires { 0 < times }
 {
     let value = content(alloc)?;
+    measure_copies_of(rt, &value, times)
+}
+
+fn measure_copies_of<R: Runtime>(rt: &R, value: &Value, times: u64) -> Result<(), Fault>
+    requires { 0 < times }
+{
     let began = Instant::now(rt)?;
-    let count = copies(&value, times)?;
+    let count = copies(value, times)?;
     report(rt, "copies", count, began, times)
 }
 

@@ -1,5 +1,6 @@
 //! Rounds of calls, each with how many of them were answered as they were to be.
 ghost use Rattle.std.specs.Prelude.{◌<◌, ◌≤◌};
+ghost use Rattle.shared_cache.specs.Laws.{IsCall};
 
 use super::calls::{change, content, key, query};
 use command_words::Query;
@@ -8,41 +9,72 @@ use shared_cache::{ClientCall, ClientReply, ClientState, Wire};
 use std::alloc::Global;
 use std::collections::{BTreeMap, HashMap};
 
+/// What an answer is, without what it holds.
+#[derive(Clone, Copy)]
+pub enum Told {
+    Hit,
+    Sent(u64),
+    Answer,
+    Bytes,
+    Noted,
+    Other,
+}
+
+/// Plays a turn.
+pub fn play(client: &mut ClientState, call: ClientCall) -> Told
+    requires { IsCall call }
+{
+    match client.turn(call) {
+        ClientReply::Hit { .. } => Told::Hit,
+        ClientReply::Sent { number } => Told::Sent(number),
+        ClientReply::Answer { .. } => Told::Answer,
+        ClientReply::Bytes(_) => Told::Bytes,
+        ClientReply::Noted => Told::Noted,
+        _ => Told::Other,
+    }
+}
+
 /// The number of the command that a query is sent as.
 fn sent(client: &mut ClientState, query: Query) -> Option<u64> {
-    match client.turn(ClientCall::Ask(query)) {
-        ClientReply::Sent { number } => Some(number),
+    match play(client, ClientCall::Ask(query)) {
+        Told::Sent(number) => Some(number),
         _ => None,
     }
 }
 
-fn goes_out(client: &mut ClientState) -> bool {
+fn is_hit(client: &mut ClientState, query: Query) -> bool {
+    matches!(play(client, ClientCall::Ask(query)), Told::Hit)
+}
+
+pub fn goes_out(client: &mut ClientState) -> bool {
     matches!(
-        client.turn(ClientCall::TakeOut(Wire::Main, 4096)),
-        ClientReply::Bytes(_)
+        play(client, ClientCall::TakeOut(Wire::Main, 4096)),
+        Told::Bytes
     )
 }
 
-fn is_noted(client: &mut ClientState, value: Value) -> bool {
+pub fn is_noted(client: &mut ClientState, value: Value) -> bool {
     matches!(
-        client.turn(ClientCall::Got(Wire::Main, value)),
-        ClientReply::Noted
+        play(client, ClientCall::Got(Wire::Main, value)),
+        Told::Noted
     )
 }
 
 fn is_answered(client: &mut ClientState, number: u64) -> bool {
-    matches!(
-        client.turn(ClientCall::Poll(number)),
-        ClientReply::Answer { .. }
-    )
+    matches!(play(client, ClientCall::Poll(number)), Told::Answer)
+}
+
+/// The query for the key of that number is sent.
+fn ask(alloc: Global, client: &mut ClientState, number: u64) -> Result<Option<u64>, NoMemory> {
+    match query(alloc, number)? {
+        Some(query) => Ok(sent(client, query)),
+        None => Ok(None),
+    }
 }
 
 /// A miss, its reply, and the answer to the caller.
 fn fill(alloc: Global, client: &mut ClientState, number: u64) -> Result<bool, NoMemory> {
-    let Some(query) = query(alloc, number)? else {
-        return Ok(false);
-    };
-    let Some(number) = sent(client, query) else {
+    let Some(number) = ask(alloc, client, number)? else {
         return Ok(false);
     };
     let value = content(alloc)?;
@@ -69,13 +101,10 @@ pub fn fills(
 pub fn asks(alloc: Global, client: &mut ClientState, keys: u64) -> Result<u64, NoMemory> {
     let mut count = 0u64;
     for number in 0..keys {
-        let Some(query) = query(alloc, number)? else {
-            return Ok(count);
-        };
-        if let ClientReply::Sent { .. } = client.turn(ClientCall::Ask(query)) {
+        if ask(alloc, client, number)?.is_some() {
             count = count.saturating_add(1);
         }
-        client.turn(ClientCall::TakeOut(Wire::Main, 4096));
+        goes_out(client);
     }
     Ok(count)
 }
@@ -113,19 +142,22 @@ pub fn queries(alloc: Global, keys: u64, times: u64) -> Result<Vec<Query>, NoMem
 pub fn hits(client: &mut ClientState, queries: Vec<Query>) -> u64 {
     let mut count = 0u64;
     for query in queries {
-        if let ClientReply::Hit { .. } = client.turn(ClientCall::Ask(query)) {
+        if is_hit(client, query) {
             count = count.saturating_add(1);
         }
     }
     count
 }
 
+fn is_blob(value: &Value) -> bool {
+    matches!(value, Value::Blob(_))
+}
+
 /// The value is copied so many times.
 pub fn copies(value: &Value, times: u64) -> Result<u64, NoMemory> {
     let mut count = 0u64;
     for _ in 0..times {
-        let copy = value.copy()?;
-        if let Value::Blob(_) = copy {
+        if is_blob(&value.copy()?) {
             count = count.saturating_add(1);
         }
     }
@@ -146,7 +178,7 @@ pub fn changes(alloc: Global, keys: u64, times: u64) -> Result<Vec<Value>, NoMem
 pub fn notices(client: &mut ClientState, values: Vec<Value>) -> u64 {
     let mut count = 0u64;
     for value in values {
-        if let ClientReply::Noted = client.turn(ClientCall::Got(Wire::Main, value)) {
+        if is_noted(client, value) {
             count = count.saturating_add(1);
         }
     }
@@ -162,13 +194,20 @@ pub struct StdMaps {
 
 impl StdMaps {
     pub fn new(alloc: Global, keys: u64) -> Result<StdMaps, NoMemory> {
-        let mut hash = HashMap::new(alloc);
-        let mut tree = BTreeMap::new(alloc);
+        let mut maps = StdMaps {
+            hash: HashMap::new(alloc),
+            tree: BTreeMap::new(alloc),
+        };
         for number in 0..keys {
-            hash.insert(key(alloc, number)?, number)?;
-            tree.insert(key(alloc, number)?, number)?;
+            maps.insert(alloc, number)?;
         }
-        Ok(StdMaps { hash, tree })
+        Ok(maps)
+    }
+
+    fn insert(&mut self, alloc: Global, number: u64) -> Result<(), NoMemory> {
+        self.hash.insert(key(alloc, number)?, number)?;
+        self.tree.insert(key(alloc, number)?, number)?;
+        Ok(())
     }
 
     pub fn hash_hits(&self, queries: &[Query]) -> u64 {

@@ -22,7 +22,8 @@ use Rattle.resp_value.specs.Tree.{in_turn}
 use Rattle.command_words.specs.KeyLists.{each_once}
 use Rattle.command_words.specs.Words.{reading}
 
--- reads whose reply depends on the content of one key alone (client-side caching reference)
+-- reads whose reply depends on the content of one key alone (client-side caching reference); EXISTS
+-- is one where it names one key
 abbrev pub is_cacheable : Command → Bool
 is_cacheable (Get key) = true
 is_cacheable (StrLen key) = true
@@ -34,6 +35,8 @@ is_cacheable (HLen key) = true
 is_cacheable (HExists key field) = true
 is_cacheable (HKeys key) = true
 is_cacheable (HVals key) = true
+is_cacheable (Exists (key ∷ [])) = true
+is_cacheable (KeyType key) = true
 is_cacheable _ = false
 
 abbrev pub reads_as_cacheable : Result Command WordFault → Bool

@@ -55,6 +55,8 @@ fn is_cacheable(command: &Command) -> bool
         Command::Get(_) | Command::StrLen(_) | Command::GetRange(_, _, _) => true,
         Command::HGet(_, _) | Command::HMGet(_, _) | Command::HGetAll(_) => true,
         Command::HLen(_) | Command::HExists(_, _) | Command::HKeys(_) | Command::HVals(_) => true,
+        Command::Exists(keys) => matches!(keys.as_slice(), [_]),
+        Command::KeyType(_) => true,
         _ => false,
     }
 }

@@ -1,3 +1,4 @@
+mod Crossing
 mod Showing
 mod Tying
 mod Once

@@ -12,7 +12,7 @@ use Rattle.turn_lock.specs.Counts.{times, total}
 use Rattle.turn_lock.specs.History.{entries, Legal}
 use Rattle.serial_model.specs.declared.history.Limits.{Limits}
 use Rattle.serial_model.specs.declared.history.Entry.{Entry}
-use Rattle.serial_model.specs.declared.history.Entry.TheVariants.{Admit, Run, Take, Close}
+use Rattle.serial_model.specs.declared.history.Entry.TheVariants.{Admit, Run, Tick, Take, Close}
 use Rattle.serial_model.specs.History.{admitted, IsLegal}
 use Rattle.serial_model.proofs.Turning.{by_step, step_legal}
 use Rattle.shared_book.specs.Own.{with_pasts, turns_of}
@@ -45,6 +45,9 @@ module _ (l : Limits) where
       let m = r.0 in
       (omega (arith, c, m), λ lt. let z = r.1 (omega (arith, lt)) in omega (arith, c, z)))
   once (Run k words moment ∷ past) (on, room, later, legal) n =
+      let r = once past legal n in
+      let m = r.0 in (omega (arith, m), λ lt. let z = r.1 lt in omega (arith, z))
+  once (Tick moment ∷ past) (due, room, later, legal) n =
       let r = once past legal n in
       let m = r.0 in (omega (arith, m), λ lt. let z = r.1 lt in omega (arith, z))
   once (Take k most ∷ past) (on, room, some, legal) n =

@@ -12,7 +12,7 @@ use Rattle.serial_model.specs.declared.history.Limits.{Limits}
 use Rattle.serial_model.specs.declared.history.Entry.{Entry}
 use Rattle.serial_model.specs.History.{has_ended}
 use Rattle.shared_book.specs.Own.{past_of, Grows}
-use Rattle.shared_book.specs.Turns.{Place, Turn, limits_in, limits_of, IsAdmissionCause, IsCause}
+use Rattle.shared_book.specs.Turns.{Place, Turn, limits_in, limits_of, IsServerCause, IsCause}
 use Rattle.shared_book.specs.declared.turns.Refusal.{Refusal}
 use Rattle.shared_book.specs.declared.turns.Refusal.TheVariants as refusal
 use Rattle.shared_book.proofs.Growing.{grows_past}
@@ -48,6 +48,7 @@ module _ (l : Limits) (a b : List Entry) (t u : ℕ) (more : IsPrefix a b) (le :
     cause = end_more r.ended r.id s.cause;
     over = λ pos. over_more r.id (s.over pos);
     refused = s.refused;
+    idle = s.idle;
   }
 
   pub all_more : (rs : List Report) → All (Shows l a t) rs → All (Shows l b u) rs
@@ -66,14 +67,14 @@ end_shown ended.HistoryFull id heard k h = h
 end_shown ended.NoMemory id heard k h = h
 end_shown ended.Worn id heard k h = h
 
-refusal_shown : (e : Refusal) (k : Place) → IsCause e 0 k → IsAdmissionCause e
+refusal_shown : (e : Refusal) (k : Place) → IsCause e 0 k → IsServerCause e
     → ShowsEnd (ended_by e) (limits_of k) (past_of k) k.tickets 0
 refusal_shown refusal.Dropped k h a = absurd a
 refusal_shown refusal.HistoryFull k h a = h
 refusal_shown refusal.NoMemory k h a = h
 refusal_shown refusal.Worn k h a = h
 
-refusal_unadmitted : (e : Refusal) → IsAdmissionCause e → IsUnadmitted (ended_by e)
+refusal_unadmitted : (e : Refusal) → IsServerCause e → IsUnadmitted (ended_by e)
 refusal_unadmitted refusal.Dropped a = absurd a
 refusal_unadmitted refusal.HistoryFull a = tt
 refusal_unadmitted refusal.NoMemory a = tt
@@ -92,6 +93,7 @@ module _ (clock : Option ℕ) (r : Report) (left0 left1 link0 link1 : Option (Li
         over = λ pos. absurd (omega (arith, pos, s.id));
         refused = λ is. subst IsUnadmitted (sym s.ended)
             (refusal_unadmitted s.refusal s.refuses.1);
+        idle = λ is. s.none;
       }
 
   served_shows : Served clock r left0 left1 link0 link1 old new
@@ -107,6 +109,7 @@ module _ (clock : Option ℕ) (r : Report) (left0 left1 link0 link1 : Option (Li
         over = λ pos. subst (λ l. (has_ended l r.id (past_of new) ≡ true)
             ⊎ (LAST_TICKET ≤ new.tickets)) (sym same) s.closes.over;
         refused = λ is. absurd (omega (arith, is, s.admits.next));
+        idle = λ is. absurd (omega (arith, is, s.admits.next));
       }
 
   visit_shows : Visits clock r left0 left1 link0 link1 old new

@@ -8,7 +8,7 @@ use Rattle.std.proofs.lemmas.List.Elements.{All-head, All-tail}
 use Rattle.turn_lock.specs.Counts.{times, total}
 use Rattle.turn_lock.specs.History.{IsPrefix}
 use Rattle.serial_model.specs.declared.history.Entry.{Entry}
-use Rattle.serial_model.specs.declared.history.Entry.TheVariants.{Admit, Run, Take, Close}
+use Rattle.serial_model.specs.declared.history.Entry.TheVariants.{Admit, Run, Tick, Take, Close}
 use Rattle.shared_book.specs.Own.{own_list, with_pasts, turns_of, IsWithin, Grows}
 use Rattle.shared_book.specs.Turns.{Place, Turn, closed_turns}
 use Rattle.shared_book.proofs.Owning.{own_joined, pasts_begins, pasts_within, total-append}
@@ -30,6 +30,11 @@ work_admits id n clock ((Run m words moment, past) ∷ ts) h =
       arith,
       work_admits id n clock ts
           (All-tail (IsWork id clock) (Run m words moment, past) ts h),
+    )
+work_admits id n clock ((Tick moment, past) ∷ ts) h =
+    omega (
+      arith,
+      work_admits id n clock ts (All-tail (IsWork id clock) (Tick moment, past) ts h),
     )
 work_admits id n clock ((Take m most, past) ∷ ts) h =
     omega (
@@ -61,6 +66,10 @@ work_runs id n clock ((Run m words moment, past) ∷ ts) h =
     ∙ (ap (λ k. cond {A = ℕ} (id == n) 1 0 + k) r
     ∙ (count_more (id == n) (length (runs_in ts))
     ∙ ap (λ k. cond {A = ℕ} (id == n) k 0) (sym (length-append (runs_in ts) (words ∷ [])))))
+work_runs id n clock ((Tick moment, past) ∷ ts) h =
+    let r = work_runs id n clock ts (All-tail (IsWork id clock) (Tick moment, past) ts h) in
+    let e = ap (λ z. cond {A = ℕ} (id == n) (length z) 0) (append-nil (runs_in ts)) in
+    omega (arith, r, e)
 work_runs id n clock ((Take m most, past) ∷ ts) h =
     let r = work_runs id n clock ts (All-tail (IsWork id clock) (Take m most, past) ts h) in
     let e = ap (λ z. cond {A = ℕ} (id == n) (length z) 0) (append-nil (runs_in ts)) in

@@ -38,6 +38,8 @@ pub record Shows (l : Limits) (past : List Entry) (tickets : ℕ) (r : Report) :
   pub cause : ShowsEnd r.ended l past tickets r.id
   pub over : 0 < r.id → (has_ended l r.id past ≡ true) ⊎ (LAST_TICKET ≤ tickets)
   pub refused : r.id ≡ 0 → IsUnadmitted r.ended
+  -- was refused, and ran nothing
+  pub idle : r.id ≡ 0 → r.requests ≡ 0
 
 -- what a seat has seen shows each of the reports
 unfoldable pub AreShown : List Report → Place → Type 0

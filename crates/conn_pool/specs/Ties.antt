@@ -2,7 +2,7 @@
 use Rattle.std.specs.Prelude.{◌≡◌, ◌<◌, ◌+◌, ℕ, ◌==◌, cond, List}
 use Rattle.turn_lock.specs.Counts.{total}
 use Rattle.serial_model.specs.declared.history.Entry.{Entry}
-use Rattle.serial_model.specs.declared.history.Entry.TheVariants.{Admit, Run, Take, Close}
+use Rattle.serial_model.specs.declared.history.Entry.TheVariants.{Admit, Run, Tick, Take, Close}
 use Rattle.shared_book.specs.Turns.{Turn}
 use Rattle.conn_worker.specs.declared.report.Report.{Report}
 
@@ -10,12 +10,14 @@ use Rattle.conn_worker.specs.declared.report.Report.{Report}
 abbrev pub admits : ℕ → Entry → ℕ
 admits n (Admit id) = cond (id == n) 1 0
 admits n (Run id words moment) = 0
+admits n (Tick moment) = 0
 admits n (Take id most) = 0
 admits n (Close id) = 0
 
 abbrev pub runs : ℕ → Entry → ℕ
 runs n (Admit id) = 0
 runs n (Run id words moment) = cond (id == n) 1 0
+runs n (Tick moment) = 0
 runs n (Take id most) = 0
 runs n (Close id) = 0
 

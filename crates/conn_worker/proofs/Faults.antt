@@ -1,36 +1,15 @@
 -- The fault that is met in pieces is the one of the bytes as a whole.
-use Rattle.std.proofs.Common.{◌≡◌, ℕ, zero, suc, ◌+◌, ◌-◌, ◌<◌, ◌≤◌, List, [], ◌∷◌, ◌++◌, refl, sym}
+use Rattle.std.proofs.Common.{◌≡◌, ℕ, zero, suc, ◌+◌, ◌-◌, ◌<◌, ◌≤◌, List, [], ◌++◌, refl, sym}
 use Rattle.std.proofs.Common.{ap, ◌∙◌, false, length, length-append, arith, Some, None}
 use Rattle.std.specs.Prelude.{Bool, Option}
 use Rattle.resp_stream.specs.declared.fault.StreamFault.{StreamFault}
 use Rattle.resp_stream.specs.Parsed.{Parsed, Whole, More, Bad}
 use Rattle.resp_stream.specs.Parse.{Batch, parse}
 use Rattle.resp_stream.specs.Readers.{skipped}
-use Rattle.resp_stream.specs.Request.{request_at, skip_by, skip_empty, skip_empty_in}
+use Rattle.resp_stream.specs.Request.{request_at, skip_empty}
 use Rattle.resp_stream.specs.Stream.{Stream, fed, moved_on, offset_by, stream_fault}
 use Rattle.resp_stream.proofs.Batches.{fed_rest}
-use Rattle.resp_stream.proofs.Parse.{parse_whole, parse_more, parse_bad, takes_requests}
-use Rattle.resp_stream.proofs.Skipping.{takes}
-
--- ---- what is passed over is no more than there is
-
-after_le : (b : List ℕ) (f : List ℕ → List ℕ) (a : Parsed (List (List ℕ)))
-    → ((r : List ℕ) → a ≡ Whole [] r → length (f r) ≤ length b) → length (skip_by b a f) ≤ length b
-after_le b f (Whole [] r) h = h r refl
-after_le b f (Whole (w ∷ ws) r) h = omega arith
-after_le b f More h = omega arith
-after_le b f (Bad g r) h = omega arith
-
-skip_in_le : (n : ℕ) (b : List ℕ) → length (skip_empty_in n b) ≤ length b
-unfolding skip_empty_in
-skip_in_le zero b = omega arith
-skip_in_le (suc n) b =
-    after_le b (λ r. skip_empty_in n r) (request_at b)
-    (λ r e. omega (arith, skip_in_le n r, takes b r [] e))
-
-skip_le : (b : List ℕ) → length (skip_empty b) ≤ length b
-unfolding skip_empty
-skip_le b = skip_in_le (length b) b
+use Rattle.resp_stream.proofs.Parse.{parse_whole, parse_more, parse_bad, skip_le, takes_requests}
 
 -- ---- offsets
 

@@ -2,5 +2,6 @@ mod Faults
 mod Reading
 mod Turning
 mod Running
+mod Ticking
 mod Delivering
 mod Serving

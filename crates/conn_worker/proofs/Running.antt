@@ -1,11 +1,11 @@
--- The requests that a connection has read run, one after another.
-use Rattle.std.proofs.Common.{◌≡◌, ◌≤◌, ◌<◌, ◌+◌, ℕ, List, [], ◌∷◌, ◌++◌, length, true}
-use Rattle.std.proofs.Common.{Some, None, refl, sym, ap, subst, ◌∙◌, arith, append_assoc}
-use Rattle.std.proofs.Common.{append-nil}
-use Rattle.std.proofs.Common.{length-append, Ok}
-use Rattle.std.specs.Prelude.{Option}
+-- The requests that a connection has read are read as calls, and run.
+use Rattle.std.proofs.Common.{◌≡◌, ◌≤◌, ◌<◌, ◌+◌, ℕ, zero, suc, List, [], ◌∷◌, ◌++◌, length, max}
+use Rattle.std.proofs.Common.{Some, None, refl, sym, ap, subst, ◌∙◌, arith, append_assoc, take}
+use Rattle.std.proofs.Common.{append-nil, drop, Ok}
+use Rattle.std.specs.Prelude.{Option, IfSome}
 use Rattle.std.specs.List.{All}
-use Rattle.std.proofs.lemmas.List.Elements.{All-nil, All-cons}
+use Rattle.std.proofs.lemmas.List.{take-append-drop}
+use Rattle.std.proofs.lemmas.List.Elements.{All-nil, All-cons, All-append}
 use Rattle.resp_stream.specs.declared.fault.StreamFault.{StreamFault}
 use Rattle.resp_stream.specs.declared.fault.StreamFault.TheVariants as stream
 use Rattle.resp_stream.specs.Parsed.{Whole, More}
@@ -16,64 +16,60 @@ use Rattle.resp_stream.specs.Request.{request_at, skip_empty}
 use Rattle.resp_stream.specs.Stream.{Stream, moved_on, fault_place}
 use Rattle.resp_stream.specs.declared.fault.FaultPlace.{FaultPlace}
 use Rattle.resp_stream.proofs.Parse.{parse_whole, parse_more, parse_bad, shorter}
-use Rattle.serial_model.specs.declared.history.Entry.TheVariants.{Run}
-use Rattle.serial_model.specs.History.{is_admitted}
-use Rattle.shared_book.specs.Own.{past_of, IsWithin, Grows}
-use Rattle.shared_book.specs.Turns.{Place, Turn, limits_in, limits_of}
-use Rattle.shared_book.proofs.Growing.{grows_none, grows_then, grows_past}
-use Rattle.shared_book.proofs.Histories.{begins_lift, admitted_more}
-use Rattle.conn_worker.specs.declared.report.Ended.{Ended}
+use Rattle.serial_model.specs.declared.history.Entry.{Entry}
+use Rattle.serial_model.specs.declared.history.Entry.TheVariants as entry
+use Rattle.serial_model.specs.declared.history.BookCall.{BookCall}
+use Rattle.serial_model.specs.declared.history.BookCall.TheVariants.{Admit, Run, Tick, Take}
+use Rattle.serial_model.specs.declared.history.BookCall.TheVariants.{Close}
+use Rattle.serial_model.specs.History.{latest}
+use Rattle.shared_book.specs.Own.{IsWithin, Grows}
+use Rattle.shared_book.specs.Turns.{Place, Turn, IsCause, limits_in, limits_of}
+use Rattle.shared_book.specs.Batches.{IsRunAt, requests_in, RunsEach, RunsFirst}
+use Rattle.shared_book.specs.declared.batch.Batch.{Batch as Told}
+use Rattle.shared_book.specs.declared.turns.Refusal.{Refusal}
+use Rattle.shared_book.specs.declared.turns.Refusal.TheVariants as refusal
+use Rattle.shared_book.proofs.Growing.{grows_none, grows_then}
 use Rattle.conn_worker.specs.declared.report.Ended.TheVariants.{NoMemory}
 use Rattle.conn_worker.specs.declared.connection.Connection.{Connection}
-use Rattle.conn_worker.specs.Visits.{IsWork, IsEnd, runs_in, gave, RunsOne, RunsNone, RunsPart}
+use Rattle.conn_worker.specs.Visits.{IsWork, IsEnd, runs_in, gave, ended_by, ReadsAll, RunsPart}
 use Rattle.conn_worker.specs.Visits.{RunsAll}
+use Rattle.conn_worker.proofs.Turning.{runs_append, gave_append}
 
--- what was read and ran so far, and what is left of it
-pub record Running (clock : Option ℕ) (before now : Connection) (old new : Place) : Type 0 where
-  pub turns : List Turn
-  pub grows : Grows old new turns
-  pub work : All (IsWork before.id clock) turns
-  pub gave_none : gave (limits_of old) turns ≡ []
+-- what was read so far, and what is left of it
+pub record Reading (before now : Connection) (calls : List BookCall) : Type 0 where
   pub id : now.id ≡ before.id
-  pub requests : now.requests ≡ before.requests + length (runs_in turns)
-  pub counted : now.requests ≤ length new.seen
-  pub items : (parse before.reader).items ≡ runs_in turns ++ (parse now.reader).items
+  pub requests : now.requests ≡ before.requests
+  pub items : (parse before.reader).items ≡ requests_in calls ++ (parse now.reader).items
   pub stream : (parse now.reader).stream ≡ (parse before.reader).stream
   pub fault : (parse now.reader).fault ≡ (parse before.reader).fault
-  pub admitted : is_admitted (past_of new) before.id ≡ true
 
-pub running_none : (clock : Option ℕ) (c : Connection) (k : Place) → IsWithin k
-    → c.requests ≤ length k.seen → is_admitted (past_of k) c.id ≡ true → Running clock c c k k
-running_none clock c k is counted on = record {
-  turns = [];
-  grows = grows_none k is;
-  work = All-nil (IsWork c.id clock);
-  gave_none = refl;
+pub reading_none : (c : Connection) (calls : List BookCall) → calls ≡ [] → Reading c c calls
+reading_none c calls none = record {
   id = refl;
-  requests = omega arith;
-  counted = counted;
-  items = refl;
+  requests = refl;
+  items = ap (λ z. requests_in z ++ (parse c.reader).items) (sym none);
   stream = refl;
   fault = refl;
-  admitted = on;
 }
 
-with_reader : Connection → Stream → Connection
-with_reader c s = record c { reader = s }
+requests_append : (calls : List BookCall) (id now : ℕ) (words : List (List ℕ))
+    → requests_in (calls ++ Run id words now ∷ []) ≡ requests_in calls ++ words ∷ []
+requests_append [] id now words = refl
+requests_append (Admit ∷ calls) id now words = requests_append calls id now words
+requests_append (Run n w m ∷ calls) id now words =
+    ap (λ z. w ∷ z) (requests_append calls id now words)
+requests_append (Tick m ∷ calls) id now words = requests_append calls id now words
+requests_append (Take n m ∷ calls) id now words = requests_append calls id now words
+requests_append (Close n ∷ calls) id now words = requests_append calls id now words
 
-module _ (clock : Option ℕ) (before now : Connection) (old new : Place)
-    (r : Running clock before now old new) where
-  limits_same : limits_of new ≡ limits_of old
-  limits_same = ap limits_in r.grows.setup
-
-  -- a request was read and ran
-  pub running_more : (words : List (List ℕ)) (s : Stream)
+module _ (before now : Connection) (calls : List BookCall) (r : Reading before now calls) where
+  -- one more was read
+  pub reading_more : (words : List (List ℕ)) (s : Stream) (moment : ℕ)
       → request_at (skip_empty now.reader.rest) ≡ Whole words s.rest
-      → s ≡ moved_on now.reader s.rest → (after : Connection) (last : Place)
-      → RunsOne clock words (record now { reader = s }) after new last
-      → Running clock before after old last
-  running_more words s is moved after last one =
-      let t : Turn = (Run now.id words one.moment, one.past) in
+      → s ≡ moved_on now.reader s.rest → (more : List BookCall)
+      → more ≡ calls ++ Run now.id words moment ∷ []
+      → Reading before (record now { reader = s }) more
+  reading_more words s moment is moved more same =
       let whole : parse now.reader
       ≡ record {
         items = words ∷ (parse s).items;
@@ -86,67 +82,38 @@ module _ (clock : Option ℕ) (before now : Connection) (old new : Place)
         stream = (parse q).stream;
         fault = (parse q).fault;
       }) (sym moved) in
-      let reader : after.reader ≡ s = ap (λ (c : Connection). c.reader) one.connection in
-      let there : parse after.reader ≡ parse s = ap parse reader in
-      let count : after.requests ≡ now.requests + 1
-      = ap (λ (c : Connection). c.requests) one.connection in
-      let long = length-append (runs_in r.turns) (words ∷ []) in
       record {
-        turns = t ∷ r.turns;
-        grows = grows_then old new last r.turns (t ∷ []) r.grows one.grows;
-        work = All-cons (IsWork before.id clock) t r.turns
-            (subst (λ n. IsWork n clock t) r.id one.work) r.work;
-        gave_none = append-nil (gave (limits_of old) r.turns) ∙ r.gave_none;
-        id = ap (λ (c : Connection). c.id) one.connection ∙ r.id;
-        requests = omega (arith, count, r.requests, long);
-        counted = one.counted;
-        items = r.items ∙ ap (λ (p : Batch (List (List ℕ))). runs_in r.turns ++ p.items) whole
-            ∙ ap (λ (p : Batch (List (List ℕ))). runs_in r.turns ++ words ∷ p.items) (sym there)
-            ∙ sym (append_assoc (runs_in r.turns) (words ∷ []) (parse after.reader).items);
-        stream = ap (λ (p : Batch (List (List ℕ))). p.stream) there
-            ∙ sym (ap (λ (p : Batch (List (List ℕ))). p.stream) whole) ∙ r.stream;
-        fault = ap (λ (p : Batch (List (List ℕ))). p.fault) there
-            ∙ sym (ap (λ (p : Batch (List (List ℕ))). p.fault) whole) ∙ r.fault;
-        admitted = begins_lift (λ past. is_admitted past before.id ≡ true)
-            (admitted_more before.id) (past_of new) (past_of last)
-            (grows_past new last (t ∷ []) one.grows) r.admitted;
+        id = r.id;
+        requests = r.requests;
+        items = r.items
+            ∙ ap (λ (p : Batch (List (List ℕ))). requests_in calls ++ p.items) whole
+            ∙ sym (append_assoc (requests_in calls) (words ∷ []) (parse s).items)
+            ∙ ap (λ z. z ++ (parse s).items)
+            (sym (ap requests_in same ∙ requests_append calls now.id moment words));
+        stream = sym (ap (λ (p : Batch (List (List ℕ))). p.stream) whole) ∙ r.stream;
+        fault = sym (ap (λ (p : Batch (List (List ℕ))). p.fault) whole) ∙ r.fault;
       }
 
   -- nothing whole is left
-  pub running_ends : (s : Stream) → request_at (skipped now.reader).rest ≡ More
-      → s ≡ skipped now.reader
-      → RunsAll clock None before (record now { reader = s }) old new
-  running_ends s more is =
+  pub reading_ends : (s : Stream) → request_at (skipped now.reader).rest ≡ More
+      → s ≡ skipped now.reader → ReadsAll None before (record now { reader = s }) calls
+  reading_ends s more is =
       let last = parse_more now.reader more in
       record {
-        turns = r.turns;
-        grows = r.grows;
-        work = r.work;
-        gave_none = r.gave_none;
-        id = r.id;
-        requests = r.requests;
-        counted = r.counted;
-        runs = sym (append-nil (runs_in r.turns))
-            ∙ ap (λ l. runs_in r.turns ++ l)
+        items = sym (append-nil (requests_in calls))
+            ∙ ap (λ l. requests_in calls ++ l)
             (sym (ap (λ (p : Batch (List (List ℕ))). p.items) last)) ∙ sym r.items;
         fault_is = sym (ap (λ (p : Batch (List (List ℕ))). p.fault) last) ∙ r.fault;
         reader = λ h. is ∙ sym (ap (λ (p : Batch (List (List ℕ))). p.stream) last) ∙ r.stream;
       }
 
   faulty : (s : Stream) (f : StreamFault) → IsFaultOf request_at (skipped now.reader) f
-      → RunsAll clock (Some f) before (record now { reader = s }) old new
+      → ReadsAll (Some f) before (record now { reader = s }) calls
   faulty s f bad =
       let last = parse_bad now.reader bad.fault bad.left bad.is in
       record {
-        turns = r.turns;
-        grows = r.grows;
-        work = r.work;
-        gave_none = r.gave_none;
-        id = r.id;
-        requests = r.requests;
-        counted = r.counted;
-        runs = sym (append-nil (runs_in r.turns))
-            ∙ ap (λ l. runs_in r.turns ++ l)
+        items = sym (append-nil (requests_in calls))
+            ∙ ap (λ l. requests_in calls ++ l)
             (sym (ap (λ (p : Batch (List (List ℕ))). p.items) last)) ∙ sym r.items;
         fault_is = ap Some bad.place ∙ sym (ap (λ (p : Batch (List (List ℕ))). p.fault) last)
             ∙ r.fault;
@@ -154,47 +121,139 @@ module _ (clock : Option ℕ) (before now : Connection) (old new : Place)
       }
 
   -- the bytes are at fault
-  pub running_bad : (s : Stream) (f : StreamFault) (place : FaultPlace)
+  pub reading_bad : (s : Stream) (f : StreamFault) (place : FaultPlace)
       → FaultGives request_at (skipped now.reader) now.reader s f → Some place ≡ fault_place f
-      → RunsAll clock (Some f) before (record now { reader = s }) old new
-  running_bad s stream.NoMemory place g at = absurd (let none : ⊥ = cc in none)
-  running_bad s (stream.BadByte o) place g at = faulty s (stream.BadByte o) g.0
-  running_bad s (stream.TooLong o n) place g at = faulty s (stream.TooLong o n) g.0
-  running_bad s (stream.TooDeep o) place g at = faulty s (stream.TooDeep o) g.0
-  running_bad s (stream.NotServed o b) place g at = faulty s (stream.NotServed o b) g.0
+      → ReadsAll (Some f) before (record now { reader = s }) calls
+  reading_bad s stream.NoMemory place g at = absurd (let none : ⊥ = cc in none)
+  reading_bad s (stream.BadByte o) place g at = faulty s (stream.BadByte o) g.0
+  reading_bad s (stream.TooLong o n) place g at = faulty s (stream.TooLong o n) g.0
+  reading_bad s (stream.TooDeep o) place g at = faulty s (stream.TooDeep o) g.0
+  reading_bad s (stream.NotServed o b) place g at = faulty s (stream.NotServed o b) g.0
 
-  -- some ran, and no more
-  pub running_part : (cause : Ended) (after : Connection) → after.id ≡ now.id
-      → after.requests ≡ now.requests → IsEnd cause before.id new
-      → RunsPart clock cause before after old new
-  running_part cause after id requests shown = record {
-    turns = r.turns;
-    grows = r.grows;
-    work = r.work;
-    gave_none = r.gave_none;
-    id = id ∙ r.id;
-    requests = requests ∙ r.requests;
-    runs = ((parse now.reader).items, sym r.items);
-    cause_is = shown;
-  }
+pub runs_more : (id now : ℕ) (calls more : List BookCall) (n : ℕ) (words : List (List ℕ))
+    → All (IsRunAt id now) calls → n ≡ id → more ≡ calls ++ Run n words now ∷ []
+    → All (IsRunAt id now) more
+runs_more id now calls more n words runs same is =
+    subst (All (IsRunAt id now)) (sym is)
+    (All-append (IsRunAt id now) calls (Run n words now ∷ []) runs
+    (All-cons (IsRunAt id now) (Run n words now) [] (same, refl) (All-nil (IsRunAt id now))))
 
-  pub running_stops : (cause : Ended) (s : Stream) (after : Connection) (last : Place)
-      → RunsNone cause (record now { reader = s }) after new last
-      → RunsPart clock cause before after old last
-  running_stops cause s after last h = record {
-    turns = r.turns;
-    grows = grows_then old new last r.turns [] r.grows h.grows;
-    work = r.work;
-    gave_none = r.gave_none;
-    id = ap (λ (c : Connection). c.id) h.connection ∙ r.id;
-    requests = ap (λ (c : Connection). c.requests) h.connection ∙ r.requests;
-    runs = ((parse now.reader).items, sym r.items);
-    cause_is = subst (λ n. IsEnd cause n last) r.id h.cause_is;
-  }
-
-pub running_less : (now new : Stream) (words : List (List ℕ))
+pub reading_less : (now new : Stream) (words : List (List ℕ))
     → request_at (skip_empty now.rest) ≡ Whole words new.rest → length new.rest < length now.rest
-running_less now new words is = shorter now.rest new.rest words is
+reading_less now new words is = shorter now.rest new.rest words is
+
+pub gives_at : (old new : Stream) (r s : Option Words) → RequestGives old new (Ok r) → r ≡ s
+    → RequestGives old new (Ok s)
+gives_at old new r s g e = subst (λ x. RequestGives old new (Ok x)) e g
+
+-- ---- what was read ran
+
+-- the turns that ran these requests
+record Ran (clock : Option ℕ) (id : ℕ) (ws : List (List (List ℕ))) (old new : Place) : Type 0
+  where
+    pub turns : List Turn
+    pub grows : Grows old new turns
+    pub work : All (IsWork id clock) turns
+    pub gave_none : gave (limits_of old) turns ≡ []
+    pub runs : runs_in turns ≡ ws
+
+pub at_clock : (clock : Option ℕ) (now : ℕ) (past : List Entry) → IfSome clock (λ m. now ≡ m)
+    → IfSome clock (λ m. max now (latest past) ≡ max m (latest past))
+at_clock None now past h = tt
+at_clock (Some m) now past h = ap (λ n. max n (latest past)) h
+
+each_ran : (clock : Option ℕ) (id now : ℕ) → IfSome clock (λ m. now ≡ m)
+    → (ws : List (List (List ℕ))) (old new : Place) → RunsEach id now ws old new
+    → Ran clock id ws old new
+each_ran clock id now is [] old new h = record {
+  turns = [];
+  grows = h;
+  work = All-nil (IsWork id clock);
+  gave_none = refl;
+  runs = refl;
+}
+each_ran clock id now is (w ∷ ws) old new (mid, run, rest) =
+    let r = each_ran clock id now is ws mid new rest in
+    let t : Turn = (entry.Run id w (max now (latest run.past)), run.past) in
+    record {
+      turns = r.turns ++ t ∷ [];
+      grows = grows_then old mid new (t ∷ []) r.turns run.grows r.grows;
+      work = All-append (IsWork id clock) r.turns (t ∷ []) r.work
+          (All-cons (IsWork id clock) t [] (refl, at_clock clock now run.past is)
+          (All-nil (IsWork id clock)));
+      gave_none = gave_append (limits_of old) r.turns (t ∷ [])
+          ∙ ap (λ l. gave l r.turns) (sym (ap limits_in run.grows.setup)) ∙ r.gave_none;
+      runs = runs_append r.turns (t ∷ []) ∙ ap (λ z. w ∷ z) r.runs;
+    }
+
+length_front : {A : Type 0} (n : ℕ) (xs : List A) → n ≤ length xs → length (take n xs) ≡ n
+length_front zero xs le = refl
+length_front (suc n) [] le = absurd (omega arith)
+length_front (suc n) (x ∷ xs) le = ap suc (length_front n xs (omega arith))
+
+take_whole : {A : Type 0} (n : ℕ) (xs : List A) → n ≡ length xs → take n xs ≡ xs
+take_whole zero [] is = refl
+take_whole zero (x ∷ xs) is = absurd (omega arith)
+take_whole (suc n) [] is = absurd (omega arith)
+take_whole (suc n) (x ∷ xs) is = ap (λ z. x ∷ z) (take_whole n xs (omega arith))
+
+-- what was read of `before`, as these calls, was run so far
+module _ (clock : Option ℕ) (now : ℕ) (before read : Connection) (calls : List BookCall)
+    (b : Told) (old new : Place) (is : IfSome clock (λ m. now ≡ m))
+    (same : (read.id ≡ before.id) × (read.requests ≡ before.requests))
+    (told : RunsFirst read.id now read.requests (requests_in calls) b old new) where
+  first : RunsFirst before.id now before.requests (requests_in calls) b old new
+  first = subst (λ (z : ℕ × ℕ). RunsFirst z.0 now z.1 (requests_in calls) b old new)
+      (λ i. (same.0 i, same.1 i)) told
+
+  ran : Ran clock before.id (take first.ran (requests_in calls)) old new
+  ran = each_ran clock before.id now is (take first.ran (requests_in calls)) old new first.each
+
+  ran_count : b.requests ≡ before.requests + length (runs_in ran.turns)
+  ran_count =
+      let long = ap length ran.runs in
+      let front = length_front first.ran (requests_in calls) first.within in
+      omega (arith, first.counted, long, front)
+
+  pub all_ran : (fault : Option StreamFault) → b.refusal ≡ None → ReadsAll fault before read calls
+      → RunsAll clock fault before (record read { requests = b.requests }) old new
+  all_ran fault none all = record {
+    turns = ran.turns;
+    grows = ran.grows;
+    work = ran.work;
+    gave_none = ran.gave_none;
+    id = same.0;
+    requests = ran_count;
+    counted = first.fits;
+    runs = ran.runs ∙ (take_whole first.ran (requests_in calls) (first.all none) ∙ all.items);
+    fault_is = all.fault_is;
+    reader = all.reader;
+  }
+
+  pub part_ran : (fault : Option StreamFault) (e : Refusal) → b.refusal ≡ Some e
+      → ReadsAll fault before read calls
+      → RunsPart clock (ended_by e) before (record read { requests = b.requests }) old new
+  part_ran fault e some all = record {
+    turns = ran.turns;
+    grows = ran.grows;
+    work = ran.work;
+    gave_none = ran.gave_none;
+    id = same.0;
+    requests = ran_count;
+    runs = (
+      drop first.ran (requests_in calls),
+      ap (λ z. z ++ drop first.ran (requests_in calls)) ran.runs
+          ∙ (take-append-drop first.ran (requests_in calls) ∙ all.items),
+    );
+    cause_is = cause_end e
+        (subst (λ o. IfSome o (λ x. IsCause x before.id new)) some first.cause_is);
+  }
+    where
+      cause_end : (e : Refusal) → IsCause e before.id new → IsEnd (ended_by e) before.id new
+      cause_end refusal.Dropped h = h
+      cause_end refusal.HistoryFull h = h
+      cause_end refusal.NoMemory h = h
+      cause_end refusal.Worn h = h
 
 -- memory ran out before anything ran
 pub part_none : (clock : Option ℕ) (before after : Connection) (k : Place) → IsWithin k
@@ -210,7 +269,3 @@ part_none clock before after k is id requests = record {
   runs = ((parse before.reader).items, refl);
   cause_is = tt;
 }
-
-pub gives_at : (old new : Stream) (r s : Option Words) → RequestGives old new (Ok r) → r ≡ s
-    → RequestGives old new (Ok s)
-gives_at old new r s g e = subst (λ x. RequestGives old new (Ok x)) e g

@@ -15,7 +15,8 @@ use Rattle.serial_model.specs.History.{is_admitted, stream, taken}
 use Rattle.shared_book.specs.Own.{past_of, IsWithin, Grows}
 use Rattle.shared_book.specs.Turns.{Place, Turn, limits_in, limits_of}
 use Rattle.shared_book.proofs.Growing.{grows_none, grows_then, grows_past, grows_stands}
-use Rattle.shared_book.specs.Turns.{Admits}
+use Rattle.shared_book.specs.Turns.{Admits, Refuses}
+use Rattle.shared_book.specs.declared.turns.Refusal.TheVariants as refusal
 use Rattle.serial_model.specs.declared.history.Entry.TheVariants.{Admit}
 use Rattle.shared_book.proofs.Histories.{begins_lift, admitted_more, admitted_now}
 use Rattle.edge_links.specs.declared.counts.Counts.{Counts}
@@ -26,11 +27,13 @@ use Rattle.conn_worker.specs.declared.connection.Connection.{Connection}
 use Rattle.conn_worker.specs.Visits.{IsWork, IsEnd, IsTaken, IsWhole, IsOfLink, IsShown, fault_in}
 use Rattle.conn_worker.specs.Visits.{runs_in, gave, fed_connection, RunsAll, RunsPart, Delivers}
 use Rattle.conn_worker.specs.Visits.{DeliversPart, EndCounts, Hears, HearsPart, Works}
-use Rattle.conn_worker.specs.Visits.{Idle, Piece, Nothing, Part}
+use Rattle.conn_worker.specs.Visits.{Idle, Piece, Nothing, Worn, Part, fault_of}
+use Rattle.conn_worker.specs.declared.serve.Heard.{Heard}
 use Rattle.edge_links.proofs.Bytes.{appends_none, appends_more, appends_as, appends_kept}
 use Rattle.edge_links.proofs.Bytes.{consumes_none, consumes_more, consumes_kept}
 use Rattle.conn_worker.proofs.Reading.{ReadsOn, reads_begun, reads_further, no_requests}
 use Rattle.conn_worker.proofs.Turning.{runs_append, gave_append, all_taken, no_runs}
+use Rattle.conn_worker.proofs.Ticking.{Passes, idles_pass, idles_faultless}
 
 -- all that was read ran, and all that this gave was written
 pub record Serving (clock : Option ℕ) (id : ℕ) (c : Connection)
@@ -139,36 +142,44 @@ module _ (clock : Option ℕ) (id : ℕ) (c : Connection) (left0 left1 link0 lin
         admitted = admitted_then last r.turns r.grows;
       }
 
-  -- the same at this place of the seat, and what the link has of both directions
-  idle_waits : (fault : Option StreamFault) (left2 link2 : Option (List ℕ)) → fault ≡ None
-      → Consumes left1 left2 [] → Keeps link1 link2
-      → Waiting clock id fault c left0 left2 link0 link2 old new
-  idle_waits fault left2 link2 none took kept = record {
-    turns = s.turns;
-    grows = s.grows;
-    work = s.work;
-    id_is = s.id_is;
-    counted = s.counted;
-    fits = s.fits;
-    heard = s.heard;
-    read = subst (Consumes left0 left2) (append-nil s.heard)
-        (consumes_more left0 left1 left2 s.heard [] s.read took);
-    reading = λ h. s.reading;
-    met = λ f is. absurd (let no : None ≡ Some f = sym none ∙ is in cc);
-    runs = s.runs;
-    wrote = appends_kept link0 link1 link2 _ s.wrote kept;
-    admitted = s.admitted;
-  }
+  -- nothing was read, and the keys that were due left
+  idle_waits : (fault : Option StreamFault) (last : Place) (left2 link2 : Option (List ℕ))
+      → fault ≡ None → Passes clock id new last → Consumes left1 left2 [] → Keeps link1 link2
+      → Waiting clock id fault c left0 left2 link0 link2 old last
+  idle_waits fault last left2 link2 none p took kept =
+      let runs : runs_in (p.turns ++ s.turns) ≡ runs_in s.turns
+      = runs_append p.turns s.turns ∙ ap (λ z. runs_in s.turns ++ z) p.runs_none
+      ∙ append-nil (runs_in s.turns) in
+      let long = ap length p.grows.seen.1 in
+      let both = length-append p.grows.seen.0 new.seen in
+      record {
+        turns = p.turns ++ s.turns;
+        grows = grows_then old new last s.turns p.turns s.grows p.grows;
+        work = All-append (IsWork id clock) p.turns s.turns p.work s.work;
+        id_is = s.id_is;
+        counted = s.counted ∙ ap length (sym runs);
+        fits = omega (arith, s.fits, long, both);
+        heard = s.heard;
+        read = subst (Consumes left0 left2) (append-nil s.heard)
+            (consumes_more left0 left1 left2 s.heard [] s.read took);
+        reading = λ h. s.reading;
+        met = λ f is. absurd (let no : None ≡ Some f = sym none ∙ is in cc);
+        runs = runs ∙ s.runs;
+        wrote = appends_as link0 link2 _ _ (sym (gave_more p.turns p.gave_none))
+            (appends_kept link0 link1 link2 _ s.wrote kept);
+        admitted = admitted_then last p.turns p.grows;
+      }
 
-  pub hears_waits : (fault : Option StreamFault) (after : Connection) (last : Place)
-      (left2 link2 : Option (List ℕ)) → Hears clock fault c after left1 left2 new last
-      → Keeps link1 link2 → Waiting clock id fault after left0 left2 link0 link2 old last
-  hears_waits fault after last left2 link2 (Idle none same still took) kept =
-      subst (λ k. Waiting clock id fault after left0 left2 link0 link2 old k) (sym still)
-      (subst (λ x. Waiting clock id fault x left0 left2 link0 link2 old new) (sym same)
-      (idle_waits fault left2 link2 none took kept))
-  hears_waits fault after last left2 link2 (Piece piece took r) kept =
-      piece_waits piece fault after last left2 link2 took kept r
+  pub hears_waits : (h : Heard) (after : Connection) (last : Place)
+      (left2 link2 : Option (List ℕ)) → Hears clock h c after left1 left2 new last
+      → Keeps link1 link2 → Waiting clock id (fault_of h) after left0 left2 link0 link2 old last
+  hears_waits h after last left2 link2 (Idle idles same took) kept =
+      subst (λ x. Waiting clock id (fault_of h) x left0 left2 link0 link2 old last) (sym same)
+      (idle_waits (fault_of h) last left2 link2 (idles_faultless clock id new last h idles)
+      (idles_pass clock id new last h idles) took kept)
+  hears_waits h after last left2 link2 (Piece fault is piece took r) kept =
+      subst (λ z. Waiting clock id (fault_of z) after left0 left2 link0 link2 old last) (sym is)
+      (piece_waits piece fault after last left2 link2 took kept r)
 
   part_works : (piece : List ℕ) (cause : Ended) (after : Connection) (last : Place)
       (left2 link2 : Option (List ℕ)) → Consumes left1 left2 piece → Keeps link1 link2
@@ -253,6 +264,28 @@ module _ (clock : Option ℕ) (id : ℕ) (c : Connection) (left0 left1 link0 lin
       shown_by ended.NoMemory o = absurd o
       shown_by ended.Worn o = absurd o
 
+  -- no ticket was left for the Tick
+  worn_works : (last : Place) (left2 link2 : Option (List ℕ)) → Refuses refusal.Worn 0 new last
+      → Consumes left1 left2 [] → Keeps link1 link2
+      → Works clock ended.Worn id c.requests left0 left2 link0 link2 old last
+  worn_works last left2 link2 r took kept = record {
+    turns = s.turns;
+    grows = grows_then old new last s.turns [] s.grows r.grows;
+    work = s.work;
+    counted = s.counted;
+    heard = s.heard;
+    read = subst (Consumes left0 left2) (append-nil s.heard)
+        (consumes_more left0 left1 left2 s.heard [] s.read took);
+    bytes = gave (limits_of old) s.turns;
+    wrote = appends_kept link0 link1 link2 _ s.wrote kept;
+    runs = ([], append-nil (runs_in s.turns) ∙ s.runs);
+    front = ([], append-nil (gave (limits_of old) s.turns));
+    all_ran = λ w. s.runs;
+    all_wrote = λ w. refl;
+    all_taken = λ w. absurd w;
+    shown = r.cause_is;
+  }
+
   pub hears_stops : (cause : Ended) (after : Connection) (last : Place)
       (left2 link2 : Option (List ℕ)) → HearsPart clock cause c after left1 left2 new last
       → Keeps link1 link2
@@ -261,6 +294,10 @@ module _ (clock : Option ℕ) (id : ℕ) (c : Connection) (left0 left1 link0 lin
       subst (λ k. Works clock cause id after.requests left0 left2 link0 link2 old k) (sym still)
       (subst (λ (x : Connection). Works clock cause id x.requests left0 left2 link0 link2 old new)
       (sym same) (nothing_works cause left2 link2 of took kept))
+  hears_stops cause after last left2 link2 (Worn is r same took) kept =
+      subst (λ e. Works clock e id after.requests left0 left2 link0 link2 old last) (sym is)
+      (subst (λ (x : Connection). Works clock ended.Worn id x.requests left0 left2 link0 link2 old
+      last) (sym same) (worn_works last left2 link2 r took kept))
   hears_stops cause after last left2 link2 (Part piece took r) kept =
       part_works piece cause after last left2 link2 took kept r
 
@@ -307,7 +344,7 @@ module _ (clock : Option ℕ) (id : ℕ) (fault : Option StreamFault) (c : Conne
     all_are_taken =
         let n = taken (limits_of old) id (past_of last) in
         All-append (IsTaken (limits_of old) id n) d.turns s.turns
-        (no_runs (limits_of old) id n d.turns d.runs_none)
+        (no_runs (limits_of old) id n d.turns d.work d.runs_none)
         (all_taken (limits_of old) id (past_of new) n s.turns there
         (grows_stands old new s.turns s.grows))
 

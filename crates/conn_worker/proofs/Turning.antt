@@ -1,17 +1,18 @@
 -- What the turns of a connection ran and gave, one list after another.
 use Rattle.std.proofs.Common.{◌≡◌, ◌≤◌, ℕ, List, [], ◌∷◌, ◌++◌, length, refl, sym, ap}
 use Rattle.std.proofs.Common.{◌∙◌}
-use Rattle.std.proofs.Common.{append_assoc, append-nil, arith}
+use Rattle.std.proofs.Common.{append_assoc, append-nil, arith, ◌+◌, Some}
+use Rattle.std.specs.Prelude.{Option}
 use Rattle.std.specs.List.{All}
-use Rattle.std.proofs.lemmas.List.Elements.{All-nil, All-cons}
+use Rattle.std.proofs.lemmas.List.Elements.{All-nil, All-cons, All-head, All-tail}
 use Rattle.turn_lock.specs.History.{IsPrefix as IsBefore}
 use Rattle.serial_model.specs.declared.history.Limits.{Limits}
 use Rattle.serial_model.specs.declared.history.Entry.{Entry}
-use Rattle.serial_model.specs.declared.history.Entry.TheVariants.{Admit, Run, Take, Close}
+use Rattle.serial_model.specs.declared.history.Entry.TheVariants.{Admit, Run, Tick, Take, Close}
 use Rattle.serial_model.specs.History.{stream}
 use Rattle.shared_book.specs.Turns.{Turn}
 use Rattle.shared_book.proofs.Histories.{stream_begins}
-use Rattle.conn_worker.specs.Visits.{runs_in, run_in, gave, gave_in, IsTaken}
+use Rattle.conn_worker.specs.Visits.{runs_in, run_in, gave, gave_in, IsTaken, IsWork}
 
 pub runs_append : (xs ys : List Turn) → runs_in (xs ++ ys) ≡ runs_in ys ++ runs_in xs
 runs_append [] ys = sym (append-nil (runs_in ys))
@@ -29,6 +30,7 @@ module _ (l : Limits) (id : ℕ) where
   taken_one : (a b : ℕ) (t : Turn) → a ≤ b → IsTaken l id a t → IsTaken l id b t
   taken_one a b (Admit n, past) le h = tt
   taken_one a b (Run n words moment, past) le h = omega (arith, le, h)
+  taken_one a b (Tick moment, past) le h = omega (arith, le, h)
   taken_one a b (Take n most, past) le h = tt
   taken_one a b (Close n, past) le h = tt
 
@@ -41,6 +43,8 @@ module _ (l : Limits) (id : ℕ) where
   stands_taken past n (Admit m, before) le h = tt
   stands_taken past n (Run m words moment, before) le h =
       omega (arith, le, stream_begins l id (Run m words moment ∷ before) past h)
+  stands_taken past n (Tick moment, before) le h =
+      omega (arith, le, stream_begins l id (Tick moment ∷ before) past h)
   stands_taken past n (Take m most, before) le h = tt
   stands_taken past n (Close m, before) le h = tt
 
@@ -49,11 +53,15 @@ module _ (l : Limits) (id : ℕ) where
       → All (λ t. IsBefore (t.0 ∷ t.1) past) ts → All (IsTaken l id n) ts
   all_taken past n ts le h k d lt = stands_taken past n _ le (h k d lt)
 
-  none_one : (n : ℕ) (t : Turn) → run_in t ≡ [] → IsTaken l id n t
-  none_one n (Admit m, past) h = tt
-  none_one n (Run m words moment, past) h = absurd (let no : ⊥ = cc in no)
-  none_one n (Take m most, past) h = tt
-  none_one n (Close m, past) h = tt
+  -- no Tick is at the moment of each clock
+  none_one : (n : ℕ) (t : Turn) → ((clock : Option ℕ) → IsWork id clock t) → run_in t ≡ []
+      → IsTaken l id n t
+  none_one n (Admit m, past) is h = tt
+  none_one n (Run m words moment, past) is h = absurd (let no : ⊥ = cc in no)
+  none_one n (Tick moment, past) is h =
+      absurd (let late = is (Some (moment + 1)) in omega (arith, late))
+  none_one n (Take m most, past) is h = tt
+  none_one n (Close m, past) is h = tt
 
   back_none : {A : Type 0} (xs ys : List A) → xs ++ ys ≡ [] → ys ≡ []
   back_none [] ys h = h
@@ -63,9 +71,12 @@ module _ (l : Limits) (id : ℕ) where
   front_none [] ys h = refl
   front_none (x ∷ xs) ys h = absurd (let no : ⊥ = cc in no)
 
-  -- turns that are no Runs
-  pub no_runs : (n : ℕ) (ts : List Turn) → runs_in ts ≡ [] → All (IsTaken l id n) ts
-  no_runs n [] h = All-nil (IsTaken l id n)
-  no_runs n (t ∷ ts) h = All-cons (IsTaken l id n) t ts
-      (none_one n t (back_none (runs_in ts) (run_in t) h))
-      (no_runs n ts (front_none (runs_in ts) (run_in t) h))
+  -- turns that are Takes
+  pub no_runs : (n : ℕ) (ts : List Turn) → ((clock : Option ℕ) → All (IsWork id clock) ts)
+      → runs_in ts ≡ [] → All (IsTaken l id n) ts
+  no_runs n [] is h = All-nil (IsTaken l id n)
+  no_runs n (t ∷ ts) is h = All-cons (IsTaken l id n) t ts
+      (none_one n t (λ clock. All-head (IsWork id clock) t ts (is clock))
+      (back_none (runs_in ts) (run_in t) h))
+      (no_runs n ts (λ clock. All-tail (IsWork id clock) t ts (is clock))
+      (front_none (runs_in ts) (run_in t) h))

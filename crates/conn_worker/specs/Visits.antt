@@ -16,13 +16,17 @@ use Rattle.serial_model.specs.declared.history.Entry.TheVariants as entry
 use Rattle.serial_model.specs.History.{latest, stream, taken, unsent}
 use Rattle.shared_book.specs.declared.turns.Refusal.{Refusal}
 use Rattle.shared_book.specs.declared.turns.Refusal.TheVariants as refusal
+use Rattle.serial_model.specs.declared.history.BookCall.{BookCall}
 use Rattle.shared_book.specs.Own.{past_of, Grows}
+use Rattle.shared_book.specs.Batches.{requests_in}
 use Rattle.shared_book.specs.Turns.{Place, Turn, IsCause, limits_of, Admits, Closes, Refuses}
-use Rattle.shared_book.specs.Turns.{IsAdmissionCause}
+use Rattle.shared_book.specs.Turns.{IsServerCause, Ticks}
 use Rattle.conn_worker.specs.declared.report.Report.{Report}
 use Rattle.conn_worker.specs.declared.report.Ended.{Ended}
 use Rattle.conn_worker.specs.declared.report.Ended.TheVariants as ended
 use Rattle.conn_worker.specs.declared.connection.Connection.{Connection}
+use Rattle.conn_worker.specs.declared.serve.Heard.{Heard}
+use Rattle.conn_worker.specs.declared.serve.Heard.TheVariants as came
 
 abbrev pub ended_by : Refusal → Ended
 ended_by refusal.Dropped = ended.Dropped
@@ -42,17 +46,20 @@ IsEnd ended.Worn id k = IsCause refusal.Worn id k
 
 -- ---- the turns of one connection, the newest first
 
--- a Run of the connection, at the greater of the clock's moment and the latest; or a Take of it
+-- a Run of the connection or a Tick, at the greater of the clock's moment and the latest; or a Take
+-- of the connection
 abbrev pub IsWork : ℕ → Option ℕ → Turn → Type 0
 IsWork id clock (entry.Admit n, past) = ⊥
 IsWork id clock (entry.Run n words moment, past) =
     (n ≡ id) × IfSome clock (λ now. moment ≡ max now (latest past))
+IsWork id clock (entry.Tick moment, past) = IfSome clock (λ now. moment ≡ max now (latest past))
 IsWork id clock (entry.Take n most, past) = n ≡ id
 IsWork id clock (entry.Close n, past) = ⊥
 
 abbrev pub run_in : Turn → List (List (List ℕ))
 run_in (entry.Admit n, past) = []
 run_in (entry.Run n words moment, past) = words ∷ []
+run_in (entry.Tick moment, past) = []
 run_in (entry.Take n most, past) = []
 run_in (entry.Close n, past) = []
 
@@ -64,6 +71,7 @@ runs_in (t ∷ ts) = runs_in ts ++ run_in t
 abbrev pub gave_in : Limits → Turn → List ℕ
 gave_in l (entry.Admit n, past) = []
 gave_in l (entry.Run n words moment, past) = []
+gave_in l (entry.Tick moment, past) = []
 gave_in l (entry.Take n most, past) = take most (unsent l n past)
 gave_in l (entry.Close n, past) = []
 
@@ -72,12 +80,14 @@ abbrev pub gave : Limits → List Turn → List ℕ
 gave l [] = []
 gave l (t ∷ ts) = gave l ts ++ gave_in l t
 
--- where the turn is a Run: of all that its connection was sent up to and with it, no byte is behind
--- those that were taken
+-- where the turn is a Run or a Tick: of all that the connection was sent up to and with it, no byte
+-- is behind those that were taken
 abbrev pub IsTaken : Limits → ℕ → ℕ → Turn → Type 0
 IsTaken l id count (entry.Admit n, past) = ⊤
 IsTaken l id count (entry.Run n words moment, past) =
     length (stream l id (entry.Run n words moment ∷ past)) ≤ count
+IsTaken l id count (entry.Tick moment, past) =
+    length (stream l id (entry.Tick moment ∷ past)) ≤ count
 IsTaken l id count (entry.Take n most, past) = ⊤
 IsTaken l id count (entry.Close n, past) = ⊤
 
@@ -86,21 +96,12 @@ IsTaken l id count (entry.Close n, past) = ⊤
 abbrev pub fed_connection : Connection → List ℕ → Connection
 fed_connection c piece = record c { reader = fed c.reader piece }
 
--- one request ran
-pub record RunsOne (clock : Option ℕ) (words : List (List ℕ)) (before after : Connection)
-    (old new : Place) : Type 0 where
-  pub moment : ℕ
-  pub past : List Entry
-  pub grows : Grows old new ((entry.Run before.id words moment, past) ∷ [])
-  pub work : IsWork before.id clock (entry.Run before.id words moment, past)
-  pub connection : after ≡ record before { requests = before.requests + 1 }
-  pub counted : after.requests ≤ length new.seen
-
--- a request did not run
-pub record RunsNone (cause : Ended) (before after : Connection) (old new : Place) : Type 0 where
-  pub grows : Grows old new []
-  pub connection : after ≡ before
-  pub cause_is : IsEnd cause before.id new
+-- the calls run all that the connection has read, up to this fault
+pub record ReadsAll (fault : Option StreamFault) (before after : Connection)
+    (calls : List BookCall) : Type 0 where
+  pub items : requests_in calls ≡ (parse before.reader).items
+  pub fault_is : fault ≡ (parse before.reader).fault
+  pub reader : fault ≡ None → after.reader ≡ (parse before.reader).stream
 
 -- some of the requests that the connection has read ran
 pub record RunsPart (clock : Option ℕ) (cause : Ended) (before after : Connection) (old new : Place)
@@ -178,26 +179,53 @@ IsOfLink ended.HistoryFull = ⊥
 IsOfLink ended.NoMemory = ⊥
 IsOfLink ended.Worn = ⊥
 
+abbrev pub fault_of : Heard → Option StreamFault
+fault_of came.Idle = None
+fault_of (came.Left e) = None
+fault_of (came.Piece fault) = fault
+
+-- a Tick at the clock's moment
+pub record TicksAt (clock : Option ℕ) (old new : Place) : Type 0 where
+  pub now : ℕ
+  pub at : IfSome clock (λ m. now ≡ m)
+  pub ticks : Ticks now old new
+
+-- a Tick that is refused so is left to the next read that brings nothing
+abbrev pub IsLeft : Refusal → Type 0
+IsLeft refusal.Dropped = ⊥
+IsLeft refusal.HistoryFull = ⊤
+IsLeft refusal.NoMemory = ⊤
+IsLeft refusal.Worn = ⊥
+
+-- what is due leaves where a read brings nothing, unless that is refused
+abbrev pub Idles : Option ℕ → Heard → Place → Place → Type 0
+Idles clock came.Idle old new = TicksAt clock old new
+Idles clock (came.Left e) old new = Refuses e 0 old new × IsLeft e
+Idles clock (came.Piece fault) old new = ⊥
+
 -- Nothing came; or a piece was read, and the requests that are whole by then ran.
-pub data Hears (clock : Option ℕ) (fault : Option StreamFault) (before after : Connection)
+pub data Hears (clock : Option ℕ) (heard : Heard) (before after : Connection)
     (left0 left1 : Option (List ℕ)) (old new : Place) : Type 0 where
-  Idle : fault ≡ None → after ≡ before → new ≡ old → Consumes left0 left1 []
-      → Hears clock fault before after left0 left1 old new
-  Piece : (piece : List ℕ) → Consumes left0 left1 piece
+  Idle : Idles clock heard old new → after ≡ before → Consumes left0 left1 []
+      → Hears clock heard before after left0 left1 old new
+  Piece : (fault : Option StreamFault) → heard ≡ came.Piece fault → (piece : List ℕ)
+      → Consumes left0 left1 piece
       → RunsAll clock fault (fed_connection before piece) after old new
-      → Hears clock fault before after left0 left1 old new
+      → Hears clock heard before after left0 left1 old new
 
 -- The link gave no bytes; or a piece was read, and some of the requests in it ran.
 pub data HearsPart (clock : Option ℕ) (cause : Ended) (before after : Connection)
     (left0 left1 : Option (List ℕ)) (old new : Place) : Type 0 where
   Nothing : IsOfLink cause → after ≡ before → new ≡ old → Consumes left0 left1 []
       → HearsPart clock cause before after left0 left1 old new
+  Worn : cause ≡ ended.Worn → Refuses refusal.Worn 0 old new → after ≡ before
+      → Consumes left0 left1 [] → HearsPart clock cause before after left0 left1 old new
   Part : (piece : List ℕ) → Consumes left0 left1 piece
       → RunsPart clock cause (fed_connection before piece) after old new
       → HearsPart clock cause before after left0 left1 old new
 
-abbrev pub HearingCounts : Result (Option StreamFault) Ended → Counts → Counts → Type 0
-HearingCounts (Ok fault) old new = (new.faults ≡ old.faults) × (new.ends ≡ old.ends)
+abbrev pub HearingCounts : Result Heard Ended → Counts → Counts → Type 0
+HearingCounts (Ok heard) old new = (new.faults ≡ old.faults) × (new.ends ≡ old.ends)
 HearingCounts (Err e) old new = EndCounts e old new
 
 -- ---- a connection that is served
@@ -269,7 +297,7 @@ pub record NotServed (r : Report) (left0 left1 link0 link1 : Option (List ℕ)) 
   pub none : r.requests ≡ 0
   pub refusal : Refusal
   pub ended : r.ended ≡ ended_by refusal
-  pub refuses : Refuses refusal 0 old new × IsAdmissionCause refusal
+  pub refuses : Refuses refusal 0 old new × IsServerCause refusal
   pub unread : left1 ≡ left0
   pub unwritten : link1 ≡ link0
 

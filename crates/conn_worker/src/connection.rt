@@ -1,17 +1,19 @@
 //! What is read of a connection's link, and the requests in it.
-ghost use Rattle.std.specs.Prelude.{◌≡◌, ◌≤◌, ◌+◌, true, false, length, IfOk, IfErr, OnOk};
+ghost use Rattle.std.specs.Prelude.{◌≡◌, ◌≤◌, [], true, length, IfOk, IfErr};
+ghost use Rattle.std.specs.List.{All};
 ghost use Rattle.resp_stream.specs.Stream.{begun, fed};
 ghost use Rattle.serial_model.specs.History.{is_admitted};
 ghost use Rattle.shared_book.specs.Own.{IsWithin, past_of};
-ghost use Rattle.conn_worker.specs.Visits.{RunsAll, RunsNone, RunsOne};
-ghost use Rattle.conn_worker.specs.Visits.{RunsPart, fed_connection};
+ghost use Rattle.shared_book.specs.Batches.{IsRunAt};
+ghost use Rattle.conn_worker.specs.Visits.{ReadsAll, RunsAll, RunsPart, fed_connection};
 
 use super::gate::Gate;
 use super::report::{Ended, ended_by};
 use edge_links::Clock;
 use resp_stream::{RequestReader, StreamFault};
-use resp_value::Words;
-use shared_book::{SharedBook, run};
+use resp_value::NoMemory;
+use serial_model::BookCall;
+use shared_book::{SharedBook, run_all};
 use std::alloc::Global;
 use std::sync::Wait;
 use turn_lock::{Seat, TurnLock};
@@ -41,6 +43,7 @@ impl Connection {
     pub fn hear<R: Wait, C: Clock, G: Gate>(
         &mut self,
         rt: &R,
+        alloc: Global,
         lock: &TurnLock<SharedBook>,
         seat: &mut Seat<SharedBook>,
         clock: &C,
@@ -59,13 +62,14 @@ impl Connection {
         if self.reader.feed(piece).is_err() {
             return Err(Ended::NoMemory);
         }
-        self.run_read(rt, lock, seat, clock, gate)
+        self.run_read(rt, alloc, lock, seat, clock, gate)
     }
 
-    // Runs each whole request that was read.
+    // Runs each whole request that was read, in one batch.
     fn run_read<R: Wait, C: Clock, G: Gate>(
         &mut self,
         rt: &R,
+        alloc: Global,
         lock: &TurnLock<SharedBook>,
         seat: &mut Seat<SharedBook>,
         clock: &C,
@@ -80,48 +84,50 @@ impl Connection {
         ensures err { IfErr result (λ e. RunsPart (C.moment clock.now) e
             self.old self.new seat.old seat.new) }
     {
+        let now = clock.now_ms();
+        let mut calls = Vec::new(alloc);
+        let fault = match self.read_calls(gate, now, &mut calls) {
+            Ok(fault) => fault,
+            Err(NoMemory) => return Err(Ended::NoMemory),
+        };
+        let batch = run_all(rt, alloc, lock, seat, self.id, self.requests, now, calls);
+        self.requests = batch.requests;
+        match batch.refusal {
+            None => Ok(fault),
+            Some(refusal) => Err(ended_by(refusal)),
+        }
+    }
+
+    // Reads each whole request that was fed, as the call that runs it.
+    fn read_calls<G: Gate>(
+        &mut self,
+        gate: &G,
+        now: u64,
+        calls: &mut Vec<BookCall>,
+    ) -> Result<Option<StreamFault>, NoMemory>
+        requires { calls.old.items ≡ [] }
+        ensures same { (self.new.id ≡ self.old.id) × (self.new.requests ≡ self.old.requests) }
+        ensures runs { All (IsRunAt self.old.id now) calls.new.items }
+        ensures ok { IfOk result (λ fault. ReadsAll fault self.old self.new calls.new.items) }
+    {
         'requests: loop {
             match self.reader.next_request() {
-                Ok(Some(words)) => match self.run_one(rt, lock, seat, clock, gate, words) {
-                    Ok(()) => {}
-                    Err(ended) => return Err(ended),
-                },
+                Ok(Some(words)) => {
+                    gate.before(self.id, &words);
+                    let id = self.id;
+                    match calls.push(BookCall::Run { id, words, now }) {
+                        Ok(()) => {}
+                        Err(_) => return Err(NoMemory),
+                    }
+                }
                 Ok(None) => return Ok(None),
                 Err(fault) => {
                     return match fault.place() {
                         Some(_) => Ok(Some(fault)),
-                        None => Err(Ended::NoMemory),
+                        None => Err(NoMemory),
                     };
                 }
             }
-        }
-    }
-
-    fn run_one<R: Wait, C: Clock, G: Gate>(
-        &mut self,
-        rt: &R,
-        lock: &TurnLock<SharedBook>,
-        seat: &mut Seat<SharedBook>,
-        clock: &C,
-        gate: &G,
-        words: Words,
-    ) -> Result<(), Ended>
-        requires lock { seat.old.lock ≡ lock.now }
-        requires within { IsWithin seat.old }
-        requires admitted { is_admitted (past_of seat.old) self.old.id ≡ true }
-        requires counted { self.old.requests ≤ length seat.old.seen }
-        ensures ok { OnOk result (RunsOne (C.moment clock.now) words
-            self.old self.new seat.old seat.new) }
-        ensures err { IfErr result (λ e. RunsNone e self.old self.new seat.old seat.new) }
-    {
-        gate.before(self.id, &words);
-        let now = clock.now_ms();
-        match run(rt, lock, seat, self.id, words, now) {
-            Ok(_) => {
-                self.requests += 1;
-                Ok(())
-            }
-            Err(refusal) => Err(ended_by(refusal)),
         }
     }
 }

@@ -4,7 +4,8 @@ use resp_value::Words;
 /// Is told of each request before it runs, and once its reply was written. It has no part in the
 /// answers; a test may hold a request by it.
 pub trait Gate {
-    /// The connection's next request runs once this returns.
+    /// The connection's next request runs once this returned for it and for each that was read
+    /// with it.
     fn before(&self, id: u64, words: &Words);
 
     /// The replies to the connection's first so many requests were written.

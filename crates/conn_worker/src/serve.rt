@@ -5,7 +5,7 @@ ghost use Rattle.resp_stream.specs.Stream.{begun};
 ghost use Rattle.serial_model.specs.History.{is_admitted};
 ghost use Rattle.shared_book.specs.Own.{IsWithin, past_of};
 ghost use Rattle.conn_worker.specs.Visits.{EndCounts, Hears, HearsPart, HearingCounts, Visits};
-ghost use Rattle.conn_worker.specs.Visits.{Works};
+ghost use Rattle.conn_worker.specs.Visits.{Works, fault_of};
 
 use super::connection::Connection;
 use super::deliver::deliver;
@@ -13,7 +13,7 @@ use super::gate::Gate;
 use super::report::{Ended, Report, ended_by};
 use edge_links::{Clock, Link, LinkRead};
 use resp_stream::StreamFault;
-use shared_book::{SharedBook, admit, close};
+use shared_book::{Refusal, SharedBook, admit, close, tick};
 use std::alloc::Global;
 use std::sync::Wait;
 use turn_lock::{Seat, TurnLock};
@@ -21,9 +21,34 @@ use turn_lock::{Seat, TurnLock};
 /// How many bytes are asked of a link at once.
 const PIECE: usize = 16_384;
 
-// Reads the link once, and runs the requests that are whole by then.
+/// What a read of a link brought.
+#[derive(Clone, Copy, Debug, Drop, PartialEq, Eq)]
+pub(crate) enum Heard {
+    /// Nothing. The keys that were due left.
+    Idle,
+    /// Nothing. The keys that were due stayed, since the history is full or memory ran out.
+    Left(Refusal),
+    /// A piece, and the fault behind its requests, if one is there.
+    Piece(Option<StreamFault>),
+}
+
+impl Heard {
+    fn fault(self) -> Option<StreamFault>
+        ensures { result ≡ fault_of self }
+    {
+        match self {
+            Heard::Idle => None,
+            Heard::Left(_) => None,
+            Heard::Piece(fault) => fault,
+        }
+    }
+}
+
+// Reads the link once, and runs the requests that are whole by then. Where nothing came, the keys
+// that are due leave.
 fn hear_once<R: Wait, L: Link, C: Clock, G: Gate>(
     rt: &R,
+    alloc: Global,
     lock: &TurnLock<SharedBook>,
     seat: &mut Seat<SharedBook>,
     link: &mut L,
@@ -31,14 +56,14 @@ fn hear_once<R: Wait, L: Link, C: Clock, G: Gate>(
     gate: &G,
     connection: &mut Connection,
     buffer: &mut [u8],
-) -> Result<Option<StreamFault>, Ended>
+) -> Result<Heard, Ended>
     requires lock { seat.old.lock ≡ lock.now }
     requires within { IsWithin seat.old }
     requires admitted { is_admitted (past_of seat.old) connection.old.id ≡ true }
     requires counted { connection.old.requests ≤ length seat.old.seen }
     requires buffer { 0 < length buffer.old }
     ensures buffer { length buffer.new ≡ length buffer.old }
-    ensures ok { IfOk result (λ fault. Hears (C.moment clock.now) fault connection.old
+    ensures ok { IfOk result (λ heard. Hears (C.moment clock.now) heard connection.old
         connection.new (L.left link.old) (L.left link.new) seat.old seat.new) }
     ensures err { IfErr result (λ e. HearsPart (C.moment clock.now) e connection.old
         connection.new (L.left link.old) (L.left link.new) seat.old seat.new) }
@@ -46,11 +71,25 @@ fn hear_once<R: Wait, L: Link, C: Clock, G: Gate>(
     ensures counts { HearingCounts result (L.counts link.old) (L.counts link.new) }
 {
     match link.read(buffer) {
-        LinkRead::Bytes(n) => match connection.hear(rt, lock, seat, clock, gate, &buffer[..n]) {
-            Ok(fault) => Ok(fault),
+        LinkRead::Bytes(n) => match connection.hear(
+            rt,
+            alloc,
+            lock,
+            seat,
+            clock,
+            gate,
+            &buffer[..n],
+        ) {
+            Ok(fault) => Ok(Heard::Piece(fault)),
             Err(ended) => Err(ended),
         },
-        LinkRead::Idle => Ok(None),
+        LinkRead::Idle => match tick(rt, lock, seat, clock.now_ms()) {
+            Ok(()) => Ok(Heard::Idle),
+            Err(Refusal::HistoryFull) => Ok(Heard::Left(Refusal::HistoryFull)),
+            Err(Refusal::NoMemory) => Ok(Heard::Left(Refusal::NoMemory)),
+            Err(Refusal::Worn) => Err(Ended::Worn),
+            Err(Refusal::Dropped) => unreachable!(),
+        },
         LinkRead::End => Err(Ended::PeerEnd),
         LinkRead::Failed => Err(Ended::LinkFault),
     }
@@ -59,6 +98,7 @@ fn hear_once<R: Wait, L: Link, C: Clock, G: Gate>(
 // Serves a connection that was admitted, until it ends.
 fn serve_admitted<R: Wait, L: Link, C: Clock, G: Gate>(
     rt: &R,
+    alloc: Global,
     lock: &TurnLock<SharedBook>,
     seat: &mut Seat<SharedBook>,
     link: &mut L,
@@ -82,9 +122,19 @@ fn serve_admitted<R: Wait, L: Link, C: Clock, G: Gate>(
 {
     let mut buffer = [0u8; PIECE];
     for _ in rt.forever() {
-        let heard = hear_once(rt, lock, seat, link, clock, gate, connection, &mut buffer);
+        let heard = hear_once(
+            rt,
+            alloc,
+            lock,
+            seat,
+            link,
+            clock,
+            gate,
+            connection,
+            &mut buffer,
+        );
         let fault = match heard {
-            Ok(fault) => fault,
+            Ok(heard) => heard.fault(),
             Err(ended) => return ended,
         };
         match deliver(rt, lock, seat, link, connection.id) {
@@ -100,7 +150,8 @@ fn serve_admitted<R: Wait, L: Link, C: Clock, G: Gate>(
 }
 
 /// Admits a connection, serves it over its link until it ends, and closes it. Each whole request
-/// that is read is one Run, and what waits for the connection is written before the next read.
+/// that is read is one Run, and what waits for the connection is written before the next read. A
+/// read that brings nothing is one Tick, where a key is due.
 pub fn serve_link<R: Wait, L: Link, C: Clock, G: Gate>(
     rt: &R,
     alloc: Global,
@@ -127,7 +178,7 @@ pub fn serve_link<R: Wait, L: Link, C: Clock, G: Gate>(
         }
     };
     let mut connection = Connection::new(alloc, id);
-    let ended = serve_admitted(rt, lock, seat, link, clock, gate, &mut connection);
+    let ended = serve_admitted(rt, alloc, lock, seat, link, clock, gate, &mut connection);
     close(rt, lock, seat, id);
     Report {
         id,

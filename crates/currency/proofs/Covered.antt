@@ -1,6 +1,6 @@
 -- From the run of an open fetch on, its connection is told of its key and the query's answer is
 -- what it was; or a message waits for the client.
-use Rattle.std.proofs.Common.{◌≡◌, ◌+◌, ◌-◌, ◌≤◌, ℕ, zero, suc, List, [], ◌∷◌, ◌++◌, length}
+use Rattle.std.proofs.Common.{◌≡◌, ◌+◌, ◌-◌, ◌<◌, ◌≤◌, ℕ, zero, suc, List, [], ◌∷◌, ◌++◌, length}
 use Rattle.std.proofs.Common.{Bool, true, false, cond, refl, ap, sym, ◌∙◌, arith, Some, subst}
 use Rattle.std.proofs.Common.{◌⊎◌, inl, inr, append_assoc, length-append, Result, Ok, Err}
 use Rattle.std.proofs.Common.{get_or}
@@ -20,7 +20,7 @@ use Rattle.command_words.specs.declared.command.WordFault.{WordFault}
 use Rattle.serial_model.specs.declared.mode.Mode.{Mode}
 use Rattle.serial_model.specs.declared.history.Limits.{Limits}
 use Rattle.serial_model.specs.declared.history.Entry.{Entry}
-use Rattle.serial_model.specs.declared.history.Entry.TheVariants.{Admit, Run, Take, Close}
+use Rattle.serial_model.specs.declared.history.Entry.TheVariants.{Admit, Run, Tick, Take, Close}
 use Rattle.serial_model.specs.Modes.{own_effect, remembers_read}
 use Rattle.serial_model.specs.Tracking.{push_of}
 use Rattle.serial_model.specs.History.{Sending, Message, End, sent, runs_of, mode, made_of}
@@ -188,7 +188,7 @@ module _ (l : Limits) (x : Client) (past : List Entry) (log : List LogEntry)
         subst (λ i. Older (Run i r.words r.moment ∷ r.up) past) (eqb-true r.id (x.id Main) r.own)
         r.older
 
-    ran_by_then : (up : List Entry) → Older up past → p ≤ length up
+    pub ran_by_then : (up : List Entry) → Older up past → p ≤ length up
         → 2 ≤ length (runs_of (x.id Main) up)
     ran_by_then up o le =
         let w = older_within (Run r.id r.words r.moment ∷ r.up) up past r.older o
@@ -201,30 +201,35 @@ module _ (l : Limits) (x : Client) (past : List Entry) (log : List LogEntry)
     pub before_then : 2 ≤ length (runs_of (x.id Main) r.up)
     before_then = omega (arith, r.place_is, number_least)
 
-    -- a message that tells of the key, sent from the run on, waits
+    -- a message that tells of the key, sent from the run on, was not got
+    pub not_got : (up : List Entry) (m : ℕ) → Older up past → p ≤ m
+        → (t : Told (x.id Main) l up m (key_of q)) → t.place < length (gots Main log) → ⊥
+    not_got up m o le t lt =
+        let s : ℕ × Sending = (m, Message Three (push_of t.keys)) in
+        let at = sent_older (x.id Main) l up past o t.place s t.there in
+        let v = get_or (gots Main log) t.place Null in
+        let got : slice_get (gots Main log) t.place ≡ Some v =
+        slice_get-get_or (gots Main log) t.place Null lt in
+        let c = got_at (gots Main log) (sent l (x.id Main) past) t.place v
+        (meet.came Main has_main) got in
+        let is = subst (λ (y : ℕ × Sending). IsGot v y.1)
+        (sending_same c.sending s (sym c.there ∙ at)) c.is in
+        let no = got_since l x past log n p q has_main meet.causal fetch run t.place v s got at
+        le in
+        let yes = voids x.setup.mode t.keys (key_of q) v is t.names in
+        both_ways (invalidates x.setup.mode Main v (key_of q)) no yes
+
+    -- so it waits
     told_pending : (up : List Entry) (m : ℕ) → Older up past → p ≤ m
         → Told (x.id Main) l up m (key_of q) → Pending m
     told_pending up m o le t =
         let s : ℕ × Sending = (m, Message Three (push_of t.keys)) in
-        let at = sent_older (x.id Main) l up past o t.place s t.there in
         elim (cases_lt t.place (length (gots Main log))) [
-          | inl lt ↦
-              let v = get_or (gots Main log) t.place Null in
-              let got : slice_get (gots Main log) t.place ≡ Some v =
-              slice_get-get_or (gots Main log) t.place Null lt in
-              let c = got_at (gots Main log) (sent l (x.id Main) past) t.place v
-              (meet.came Main has_main) got in
-              let is = subst (λ (y : ℕ × Sending). IsGot v y.1)
-              (sending_same c.sending s (sym c.there ∙ at)) c.is in
-              let no = got_since l x past log n p q has_main meet.causal fetch run t.place v s got
-              at
-              le in
-              let yes = voids x.setup.mode t.keys (key_of q) v is t.names in
-              absurd (both_ways (invalidates x.setup.mode Main v (key_of q)) no yes)
+          | inl lt ↦ absurd (not_got up m o le t lt)
           | inr ge ↦ record {
             place = t.place;
             sending = s;
-            there = at;
+            there = sent_older (x.id Main) l up past o t.place s t.there;
             waits = ge;
             by = omega arith;
           }
@@ -296,6 +301,7 @@ module _ (l : Limits) (x : Client) (past : List Entry) (log : List LogEntry)
           → 2 ≤ length (runs_of (x.id Main) up)
           → stops_tracking l e up (x.id Main) ≡ false
       stays_tracking (Admit id) up o two = refl
+      stays_tracking (Tick moment) up o two = refl
       stays_tracking (Take id max) up o two = refl
       stays_tracking (Close id) up o two = refl
       stays_tracking (Run id words moment) up o two =
@@ -326,7 +332,9 @@ module _ (l : Limits) (x : Client) (past : List Entry) (log : List LogEntry)
                 → Steady (e ∷ up) ⊎ Pending (length up + 1)) [
                   | true ↦ λ h. inr
                       (told_pending (e ∷ up) (length up + 1) o (omega (arith, le))
-                      (lands c l e up k (told_is_due l e up c k steady.0 h) (three_by up tail two)
+                      (lands c l e up k (told_is_due l e up c k
+                      (older_legal l tail.newer up (subst (IsLegal l) (sym tail.is) legal))
+                      steady.0 h) (three_by up tail two)
                       (three_by (e ∷ up) o two_more)))
                   | false ↦ λ h.
                       elim (is_told l (e ∷ up) c k) as (λ b. is_told l (e ∷ up) c k ≡ b

@@ -1,7 +1,7 @@
 -- The theorem on currency, on one link.
 use Rattle.std.proofs.Common.{◌≡◌, ◌+◌, ◌-◌, ◌<◌, ◌≤◌, ℕ, suc, List, [], ◌∷◌, length}
-use Rattle.std.proofs.Common.{Bool, true, false, cond, refl, ap, sym, ◌∙◌, arith, Some, subst}
-use Rattle.std.proofs.Common.{inl, inr, drop, take, max, get_or, Result, Ok, Err}
+use Rattle.std.proofs.Common.{true, false, cond, refl, ap, sym, ◌∙◌, arith, Some, subst}
+use Rattle.std.proofs.Common.{inl, inr, drop, take, max, get_or, Result}
 use Rattle.std.specs.Prelude.{slice_get}
 use Rattle.std.specs.List.{filter}
 use Rattle.std.proofs.lemmas.Bool.{cases_lt}
@@ -16,7 +16,6 @@ use Rattle.command_words.specs.Words.{reading}
 use Rattle.command_words.specs.Control.{is_control}
 use Rattle.command_words.specs.Queries.{key_of, reads_as_cacheable, writes}
 use Rattle.command_words.specs.Effects.{answer}
-use Rattle.command_words.specs.Laws.{SignalsAreWritten, signals}
 use Rattle.serial_model.specs.declared.mode.Mode.{Mode}
 use Rattle.serial_model.specs.declared.history.Limits.{Limits}
 use Rattle.serial_model.specs.declared.history.Entry.{Entry}
@@ -27,7 +26,7 @@ use Rattle.serial_model.specs.History.{IsLegal, served_reading, reply_of, reply_
 use Rattle.serial_model.specs.History as history
 use Rattle.command_words.specs.declared.command.Command.{Command}
 use Rattle.command_words.specs.declared.command.WordFault.{WordFault}
-use Rattle.serial_model.specs.Laws.{ChangeIsSignalled, signals_key}
+use Rattle.serial_model.specs.Laws.{ChangeIsSignalled, BeforeTheReply, is_told}
 use Rattle.serial_model.proofs.ReadLaws.{read_replies}
 use Rattle.serial_model.proofs.ServedRows.{served_is}
 use Rattle.shared_cache.specs.declared.log.Wire.{Wire}
@@ -47,17 +46,19 @@ use Rattle.serial_model.specs.History.{run_entries}
 use Rattle.currency.specs.Points.{up_to, before_first, complete_on, complete_by, complete, replied}
 use Rattle.currency.specs.Current.{IsAnswer, IsCurrent, HasPoint, point, Currency}
 use Rattle.currency.proofs.Lists.{get_dropped, nothing_dropped, get_front}
-use Rattle.currency.proofs.Named.{named_at, get_taken, get_drop, every_at, ran_written}
+use Rattle.currency.proofs.Named.{named_at, get_taken, get_drop, every_at}
 use Rattle.currency.proofs.Runs.{Older, older_tail, older_up_to, up_to_older, RanAt}
 use Rattle.currency.proofs.Runs.{ran_at, in_order}
 use Rattle.currency.proofs.Sent.{sent_le, sent_order, sent_pos}
 use Rattle.currency.proofs.Handshake.{made_same, is_no_control}
-use Rattle.currency.proofs.Replies.{replies_of, replies_are_of_runs}
+use Rattle.currency.proofs.Replies.{replies_of, replies_are_of_runs, is_reply_sent}
+use Rattle.currency.proofs.Ahead.{one_kept, told_ahead}
 use Rattle.currency.proofs.Gots.{sent_form, got_at, got_replies, got_kept}
 use Rattle.currency.proofs.Placed.{Placed, reply_at, reply_place}
 use Rattle.currency.proofs.Since.{got_since}
 use Rattle.currency.proofs.Covered.{has_main, Pending, covered, Steady, settled, words_are}
-use Rattle.currency.proofs.Covered.{before_then, both_ways, own, r, number_least}
+use Rattle.currency.proofs.Covered.{before_then, both_ways, own, r, number_least, ran_by_then}
+use Rattle.currency.proofs.Covered.{not_got}
 
 some_number : (a b : ℕ) → Some a ≡ Some b → a ≡ b
 some_number a b e = cc
@@ -174,11 +175,18 @@ module _ (l : Limits) (x : Client) (past : List Entry) (log : List LogEntry)
       (x.id Main) past)) refl in
       omega (arith, f, complete_is ended)
 
-  -- a reply that was got: the entry of its command's Run is complete, save perhaps its own
-  replied_complete : is_ended x.setup.mode Main log ≡ false → (j q : ℕ)
-      → j < length (replies x.setup.mode Main log)
-      → slice_get (run_entries (x.id Main) past) j ≡ Some q → q ≤ complete l x past log + 1
-  replied_complete ended j q lt e =
+  -- the reply to a command that ran at an entry was got
+  pub record ReplyGot (q : ℕ) : Type 0 where
+    pub place : ℕ
+    pub sending : ℕ × Sending
+    pub got : place < length (gots Main log)
+    pub there : slice_get (sent l (x.id Main) past) place ≡ Some sending
+    pub number : sending.0 ≡ q
+    pub is : is_reply_sent sending ≡ true
+
+  reply_got : (j q : ℕ) → j < length (replies x.setup.mode Main log)
+      → slice_get (run_entries (x.id Main) past) j ≡ Some q → ReplyGot q
+  reply_got j q lt e =
       let test = λ (u : Value). is_reply (kind_of u) in
       let kept = filter test (gots Main log) in
       let count : length kept ≡ length (replies x.setup.mode Main log) =
@@ -190,10 +198,23 @@ module _ (l : Limits) (x : Client) (past : List Entry) (log : List LogEntry)
       (slice_get-get_or kept j Null (omega (arith, count, lt))) in
       let p = reply_at l (x.id Main) past j k.sending
       (ap (λ ss. slice_get ss j) (sym (replies_are_of_runs l (x.id Main) past)) ∙ k.replied) in
-      let same : q ≡ length p.up + 1 = some_number q (length p.up + 1) (sym e ∙ p.entry) in
-      let le = got_complete ended k.place k.sending
-      (slice_get_within (gots Main log) k.place k.value k.got) k.there in
-      omega (arith, same, p.number, le)
+      record {
+        place = k.place;
+        sending = k.sending;
+        got = slice_get_within (gots Main log) k.place k.value k.got;
+        there = k.there;
+        number = p.number ∙ some_number (length p.up + 1) q (sym p.entry ∙ e);
+        is = one_kept is_reply_sent (sent l (x.id Main) past) j k.sending k.replied;
+      }
+
+  -- the entry of its command's Run is complete, save perhaps its own
+  replied_complete : is_ended x.setup.mode Main log ≡ false → (j q : ℕ)
+      → j < length (replies x.setup.mode Main log)
+      → slice_get (run_entries (x.id Main) past) j ≡ Some q → q ≤ complete l x past log + 1
+  replied_complete ended j q lt e =
+      let g = reply_got j q lt e in
+      let le = got_complete ended g.place g.sending g.got g.there in
+      omega (arith, g.number, le)
 
   module _ (h : CacheEntry) (fetch : IsFetch x.setup log h)
       (serves : reads_as_cacheable (served_reading h.query) ≡ true)
@@ -297,19 +318,30 @@ module _ (l : Limits) (x : Client) (past : List Entry) (log : List LogEntry)
 
     -- ---- current
 
-    steady : (law : ChangeIsSignalled) (n : ℕ) → at ≤ n → n ≤ complete l x past log
-        → IsAnswer l x past n h
-    steady law n le comp =
+    stands : (law : ChangeIsSignalled) (n : ℕ) → at ≤ n → n ≤ complete l x past log
+        → Steady l x past log served legal legal_log meet h.number at h.query fetch.fetch
+        ran_there (up_to n past)
+    stands law n le comp =
         let u = up_to_older n past (omega (arith, complete_le live, comp)) in
         elim (covered l x past log served legal legal_log meet h.number at h.query fetch.fetch
         ran_there
         serves cacheable law (up_to n past) u.0 (omega (arith, u.1, le))) [
-          | inl same ↦
-              value_at_run
-              ∙ ap (λ v. carried x.setup.mode.proto (tree_of v)) (sym (same_answer n same))
+          | inl same ↦ same
           | inr waits ↦
               absurd (none_pending (length (up_to n past)) live (omega (arith, u.1, comp)) waits)
         ]
+
+    steady : (law : ChangeIsSignalled) (n : ℕ) → at ≤ n → n ≤ complete l x past log
+        → IsAnswer l x past n h
+    steady law n le comp =
+        value_at_run
+        ∙ ap (λ v. carried x.setup.mode.proto (tree_of v))
+        (sym (same_answer n (stands law n le comp)))
+
+    still_told : (law : ChangeIsSignalled) (n : ℕ) → at ≤ n → n ≤ complete l x past log
+        → is_told l (up_to n past) (x.id Main) (key_of h.query) ≡ true
+    unfolding Steady
+    still_told law n le comp = (stands law n le comp).0
 
     pub current : (law : ChangeIsSignalled) → IsCurrent l x past log h
     current law p n run le comp =
@@ -338,7 +370,7 @@ module _ (l : Limits) (x : Client) (past : List Entry) (log : List LogEntry)
               ]
         ]
 
-    module _ (law : ChangeIsSignalled) (written : SignalsAreWritten) where
+    module _ (law : ChangeIsSignalled) (first : BeforeTheReply) where
       not_written : (j q : ℕ) → at < q → slice_get (run_entries (x.id Main) past) j ≡ Some q
           → (words : List (List ℕ)) → slice_get (runs_of (x.id Main) past) j ≡ Some words
           → writes words (key_of h.query) ≡ false
@@ -355,38 +387,47 @@ module _ (l : Limits) (x : Client) (past : List Entry) (log : List LogEntry)
           (ap (slice_get (commands x.setup Main log))
           (let n : h.number + (j - h.number) ≡ j = omega (arith, later) in n) ∙ at_command))
 
-      not_signalled : (id : ℕ) (words : List (List ℕ)) (moment : ℕ) (up : List Entry)
-          → writes words (key_of h.query) ≡ false
-          → signals_key l (Run id words moment) up (key_of h.query) ≡ false
-      not_signalled id words moment up none =
-          elim (signals (ran l up id words moment).signalled (key_of h.query)) as (λ b.
-          signals (ran l up id words moment).signalled (key_of h.query) ≡ b → b ≡ false) [
-            | true ↦ λ e.
-                absurd (both_ways (writes words (key_of h.query)) none
-                (ran_written written l up id words moment (key_of h.query) e))
-            | false ↦ λ e. refl
-          ] refl
-
       -- a command behind the fetch does not change its answer
-      after_command : (j q : ℕ) → at < q → slice_get (run_entries (x.id Main) past) j ≡ Some q
+      after_command : (j q : ℕ) → at < q → j < length (replies x.setup.mode Main log)
+          → slice_get (run_entries (x.id Main) past) j ≡ Some q
           → complete l x past log + 1 ≡ q → IsAnswer l x past q h
-      after_command j q lt e next =
-          let t = ran_at (x.id Main) past j q e in
+      after_command j q lt got e next =
+          let c = x.id Main in
+          let k = key_of h.query in
+          let t = ran_at c past j q e in
           let run = Run t.id t.words t.moment in
+          let tail = older_tail run t.up past t.older in
           let up_is : up_to (complete l x past log) past ≡ t.up =
           ap (λ n. up_to n past) (let n : complete l x past log ≡ length t.up =
           omega (arith, t.at, next) in n)
-          ∙ older_up_to t.up past (older_tail run t.up past t.older) in
+          ∙ older_up_to t.up past tail in
           let run_is : up_to q past ≡ run ∷ t.up =
           ap (λ n. up_to n past) (let n : q ≡ length (run ∷ t.up) = omega (arith, t.at) in n)
           ∙ older_up_to (run ∷ t.up) past t.older in
-          let quiet = not_signalled t.id t.words t.moment t.up
-          (not_written j q lt e t.words t.words_are) in
-          steady law (complete l x past log) (omega (arith, lt, next)) (omega arith)
-          ∙ ap (λ v. carried x.setup.mode.proto (tree_of v))
-          (ap (λ u. answer h.query (keyspace l u)) up_is
-          ∙ sym ((law l run t.up (key_of h.query) quiet).1 h.query cacheable refl)
-          ∙ ap (λ u. answer h.query (keyspace l u)) (sym run_is))
+          let told = ap (λ u. is_told l u c k) (sym up_is)
+          ∙ still_told law (complete l x past log) (omega (arith, lt, next)) (omega arith) in
+          elim (first l t.id t.moment t.words t.up c k told
+          (not_written j q lt e t.words t.words_are)) [
+            | inl same ↦
+                steady law (complete l x past log) (omega (arith, lt, next)) (omega arith)
+                ∙ ap (λ v. carried x.setup.mode.proto (tree_of v))
+                (ap (λ u. answer h.query (keyspace l u)) up_is
+                ∙ sym (same h.query cacheable refl)
+                ∙ ap (λ u. answer h.query (keyspace l u)) (sym run_is))
+            | inr early ↦
+                let g = reply_got j q got e in
+                let two = ran_by_then l x past log served legal legal_log meet h.number at h.query
+                fetch.fetch ran_there t.up tail (omega (arith, t.at, lt)) in
+                let three = ap (λ (m : Mode). m.proto)
+                (settled l x past log served legal legal_log meet h.number at h.query fetch.fetch
+                ran_there t.up tail two) in
+                let a = told_ahead c l past t.up t.id t.words t.moment t.older k early three
+                g.place g.sending g.there (g.number ∙ sym t.at) g.is in
+                absurd (not_got l x past log served legal legal_log meet h.number at h.query
+                fetch.fetch ran_there (run ∷ t.up) (length t.up + 1) t.older
+                (omega (arith, t.at, lt)) a.0 (let r = a.1 in let w = g.got in
+                omega (arith, r, w)))
+          ]
 
       point_is_at : complete l x past log < at → replied x past log (key_of h.query) ≤ at
           → point l x past log h at ≡ at
@@ -407,7 +448,8 @@ module _ (l : Limits) (x : Client) (past : List Entry) (log : List LogEntry)
                 let le = replied_complete live n.place q t.below n.entry in
                 let is : q ≡ point l x past log h at = omega (arith, lt) in
                 subst (λ k. IsAnswer l x past k h) is
-                (after_command n.place q (omega (arith, lt)) n.entry (omega (arith, lt, le)))
+                (after_command n.place q (omega (arith, lt)) t.below n.entry
+                (omega (arith, lt, le)))
             | inr le ↦
                 elim (cases_lt c at) [
                   | inl lt ↦
@@ -456,14 +498,14 @@ every_held : {A : Type 0} (P Q : A → Type 0) (f : (y : A) → P y → Q y) (xs
 every_held P Q f [] a = tt
 every_held P Q f (y ∷ xs) a = (f y a.0, every_held P Q f xs a.1)
 
-pub currency : ChangeIsSignalled → SignalsAreWritten → Currency
-currency law written l x past log served legal legal_log meet =
+pub currency : ChangeIsSignalled → BeforeTheReply → Currency
+currency law first l x past log served legal legal_log meet =
     every_held (IsFetch x.setup log)
     (λ h. reads_as_cacheable (served_reading h.query) ≡ true
     → IsCurrent l x past log h × HasPoint l x past log h)
     (λ h fetch serves.
     let cacheable = served_cacheable (reading h.query) serves in (
       current l x past log served legal legal_log meet h fetch serves cacheable law,
-      has_point l x past log served legal legal_log meet h fetch serves cacheable law written,
+      has_point l x past log served legal legal_log meet h fetch serves cacheable law first,
     ))
     (held x.setup log) (held_is_fetch x.setup log)

@@ -17,7 +17,7 @@ use Rattle.resp_value.specs.declared.value.Proto.TheVariants.{Two, Three}
 use Rattle.serial_model.specs.declared.mode.Mode.{Mode}
 use Rattle.serial_model.specs.declared.history.Limits.{Limits}
 use Rattle.serial_model.specs.declared.history.Entry.{Entry}
-use Rattle.serial_model.specs.declared.history.Entry.TheVariants.{Admit, Run, Take, Close}
+use Rattle.serial_model.specs.declared.history.Entry.TheVariants.{Admit, Run, Tick, Take, Close}
 use Rattle.serial_model.specs.Tracking.{Invalidation, push_of, drop_group}
 use Rattle.serial_model.specs.History.{Sending, Message, End, sends, sent_to, sent, modes}
 use Rattle.serial_model.specs.History.{by_proto, route, routed, expiry_group, own_group, drops}
@@ -260,6 +260,7 @@ reply_form l past id words m h =
 sends_form : (l : Limits) (e : Entry) (past : List Entry) → AllSent (sends l e past)
 unfolding AllSent IsSent
 sends_form l (Admit id) past = tt
+sends_form l (Tick m) past = routed_form (modes l past) (expiry_group l past m)
 sends_form l (Take id max) past = tt
 sends_form l (Close id) past = (tt, tt)
 sends_form l (Run id words m) past =

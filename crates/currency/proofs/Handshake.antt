@@ -20,7 +20,7 @@ use Rattle.command_words.specs.Control.{is_control, reads_as_control}
 use Rattle.serial_model.specs.declared.mode.Mode.{Mode}
 use Rattle.serial_model.specs.declared.history.Limits.{Limits}
 use Rattle.serial_model.specs.declared.history.Entry.{Entry}
-use Rattle.serial_model.specs.declared.history.Entry.TheVariants.{Admit, Run, Take, Close}
+use Rattle.serial_model.specs.declared.history.Entry.TheVariants.{Admit, Run, Tick, Take, Close}
 use Rattle.serial_model.specs.Modes.{first_mode, own_effect}
 use Rattle.serial_model.specs.History.{mode, made_of, runs_of, served, is_served}
 use Rattle.shared_cache.specs.declared.log.Wire.TheVariants.{Main}
@@ -138,6 +138,7 @@ module _ (s : Setup) where
   unfolding mode_by
   asked l c log h [] p = refl
   asked l c log h (Admit id ∷ up) p = asked l c log h up p
+  asked l c log h (Tick m ∷ up) p = asked l c log h up p
   asked l c log h (Take id max ∷ up) p = asked l c log h up p
   asked l c log h (Close id ∷ up) p = asked l c log h up p
   asked l c log h (Run id words m ∷ up) p =

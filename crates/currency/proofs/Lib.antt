@@ -5,6 +5,7 @@ pub mod Handshake
 pub mod PushReplies
 pub mod Replies
 pub mod Gots
+pub mod Ahead
 pub mod Since
 pub mod Voids
 pub mod Placed

@@ -1,22 +1,9 @@
--- The last reply to a command that names a key, and what a command signals.
+-- The last reply to a command that names a key.
 use Rattle.std.proofs.Common.{◌≡◌, ◌+◌, ◌<◌, ◌≤◌, ℕ, zero, suc, List, [], ◌∷◌}
 use Rattle.std.proofs.Common.{Bool, true, false, cond, refl, ap, sym, ◌∙◌, arith, Some, take}
-use Rattle.std.proofs.Common.{inl, inr, max, drop, Result, Ok, Err, subst}
+use Rattle.std.proofs.Common.{inl, inr, max, drop, subst}
 use Rattle.std.specs.Prelude.{slice_get}
 use Rattle.std.proofs.lemmas.Bool.{cases_lt}
-use Rattle.command_words.specs.declared.command.Command.{Command}
-use Rattle.command_words.specs.declared.command.Command.TheVariants.{Hello, ClientTracking}
-use Rattle.command_words.specs.declared.command.WordFault.{WordFault}
-use Rattle.command_words.specs.declared.command.WordFault.TheVariants.{Unknown}
-use Rattle.command_words.specs.Words.{reading}
-use Rattle.command_words.specs.Space.{Space}
-use Rattle.command_words.specs.Queries.{names, written_as, written_by, writes}
-use Rattle.command_words.specs.Laws.{SignalsAreWritten, signals}
-use Rattle.serial_model.specs.declared.mode.Runner.{Runner}
-use Rattle.serial_model.specs.declared.history.Limits.{Limits}
-use Rattle.serial_model.specs.declared.history.Entry.{Entry}
-use Rattle.serial_model.specs.History.{served, is_served, effect_of, ran, ran_over, runner}
-use Rattle.serial_model.specs.History.{keyspace}
 use Rattle.shared_cache.specs.Laws.{Every}
 use Rattle.currency.specs.Points.{names_key, last_named}
 
@@ -87,36 +74,3 @@ pub every_at : {A : Type 0} (P : A → Type 0) (xs : List A) (i : ℕ) (x : A) �
 every_at P [] i x a e = absurd (let no : ⊥ = cc in no)
 every_at P (y ∷ xs) zero x a e = let same : y ≡ x = cc in subst P same a.0
 every_at P (y ∷ xs) (suc i) x a e = every_at P xs i x a.1 e
-
--- ---- signals
-
-module _ (law : SignalsAreWritten) where
-  read_written : (by : Runner) (words : List (List ℕ)) (read : Result Command WordFault)
-      (space : Space) (m : ℕ) (k : List ℕ)
-      → signals (effect_of by words read space m).signalled k ≡ true
-      → names (written_as read) k ≡ true
-  read_written by words (Ok (Hello word)) space m k h = absurd (let no : ⊥ = cc in no)
-  read_written by words (Ok (ClientTracking options)) space m k h =
-      absurd (let no : ⊥ = cc in no)
-  read_written by words (Ok command) space m k h = law command space m k h
-  read_written by words (Err fault) space m k h = absurd (let no : ⊥ = cc in no)
-
-  effect_written : (by : Runner) (words : List (List ℕ)) (read : Result Command WordFault)
-      (space : Space) (m : ℕ) (k : List ℕ)
-      → signals (effect_of by words (served read) space m).signalled k ≡ true
-      → names (written_as read) k ≡ true
-  effect_written by words (Ok command) space m k h =
-      elim (is_served command) as (λ b.
-      signals (effect_of by words (cond b (Ok command) (Err Unknown)) space m).signalled k ≡ true
-      → names (written_as (Ok command)) k ≡ true) [
-        | true ↦ λ e. read_written by words (Ok command) space m k e
-        | false ↦ λ e. absurd (let no : ⊥ = cc in no)
-      ] h
-  effect_written by words (Err fault) space m k h = absurd (let no : ⊥ = cc in no)
-
-  pub ran_written : (l : Limits) (past : List Entry) (id : ℕ) (words : List (List ℕ)) (m : ℕ)
-      (k : List ℕ)
-      → signals (ran l past id words m).signalled k ≡ true → writes words k ≡ true
-  unfolding ran_over written_by
-  ran_written l past id words m k h =
-      effect_written (runner l past id) words (reading words) (keyspace l past) m k h

@@ -8,7 +8,7 @@ use Rattle.std.proofs.lemmas.List.{reverse-append, length-reverse}
 use Rattle.resp_value.specs.declared.value.Value.{Value}
 use Rattle.serial_model.specs.declared.history.Limits.{Limits}
 use Rattle.serial_model.specs.declared.history.Entry.{Entry}
-use Rattle.serial_model.specs.declared.history.Entry.TheVariants.{Admit, Run, Take, Close}
+use Rattle.serial_model.specs.declared.history.Entry.TheVariants.{Admit, Run, Tick, Take, Close}
 use Rattle.serial_model.specs.History.{Sending, reply_of}
 use Rattle.shared_cache.specs.Log.{reply_in}
 use Rattle.serial_model.specs.History.{run_entries}
@@ -32,6 +32,7 @@ module _ (l : Limits) (c : ℕ) where
   unfolding replies_of
   replies_count [] = refl
   replies_count (Admit id ∷ past) = replies_count past
+  replies_count (Tick moment ∷ past) = replies_count past
   replies_count (Take id max ∷ past) = replies_count past
   replies_count (Close id ∷ past) = replies_count past
   replies_count (Run id words moment ∷ past) =
@@ -70,6 +71,8 @@ module _ (l : Limits) (c : ℕ) where
   reply_at [] place s e = cc
   reply_at (Admit id ∷ past) place s e =
       newer_placed (Admit id) past place s (λ n h. h) (reply_at past place s e)
+  reply_at (Tick moment ∷ past) place s e =
+      newer_placed (Tick moment) past place s (λ n h. h) (reply_at past place s e)
   reply_at (Take id max ∷ past) place s e =
       newer_placed (Take id max) past place s (λ n h. h) (reply_at past place s e)
   reply_at (Close id ∷ past) place s e =

@@ -1,25 +1,25 @@
--- No command on strings or hashes replies a push.
+-- No data command replies a push.
 use Rattle.std.proofs.Common.{◌≡◌, refl, ℕ, ℤ, List, Bool, true, false, Option, None, Some}
 use Rattle.std.proofs.Common.{Result, Ok, Err, length, map}
 use Rattle.std.specs.Prelude.{◌+ℤ◌}
 use Rattle.std.specs.Prelude.{pos, negsuc, neg_ℤ, nat_lt, ◌==◌, ◌++◌, if◌then◌else◌, is_some}
 use Rattle.std.specs.FinMap.{contains_key}
+use Rattle.std.specs.Str.{bytes_eq}
 use Rattle.resp_value.specs.declared.value.Value.{Value}
 use Rattle.resp_value.specs.declared.value.Value.TheVariants.{Push, Number, Blob, Array, Map}
 use Rattle.resp_value.specs.ValueTree.{tree_of}
 use Rattle.resp_value.specs.Tree.{in_turn}
 use Rattle.command_words.specs.declared.command.Command.{Command}
 use Rattle.command_words.specs.declared.command.Command.TheVariants as command
-use Rattle.command_words.specs.Space.{Content, Text, Fields, Space, content_at}
+use Rattle.command_words.specs.Space.{Content, Text, Fields, Space, content_at, deadline_at}
 use Rattle.command_words.specs.Effect.{Effect, replied, wrong_type, blob_or_null}
 use Rattle.command_words.specs.Effect.{hash_not_integer, not_integer, overflow, number_in, sum_in}
-use Rattle.command_words.specs.Effects.{effect, string_effect, hash_effect}
+use Rattle.command_words.specs.Effects.{effect, string_effect, hash_effect, key_effect, has_row}
 use Rattle.command_words.specs.Hashes.{Pairs, on_fields, hset_row, hdel_row, hincrby_row}
 use Rattle.command_words.specs.Hashes.{field_get, field_sum, remove_all, set_all}
 use Rattle.command_words.specs.Integers.{fits_64}
 use Rattle.command_words.specs.Strings.{on_text, getdel_row, append_row, incrby_row}
 use Rattle.command_words.specs.Strings.{incrby_effect, is_least, or_empty, range_of, sets}
-use Rattle.serial_model.specs.History.{is_data}
 
 unfoldable pub is_push : Value → Bool
 is_push (Push ts) = true
@@ -101,9 +101,9 @@ incr_text key n s =
     (λ v. sums not_integer (number_in v) n refl (λ r. incrby_row key r s)
     (λ i. record { is = refl }) (λ e plain. record { is = plain }))
 
-pub no_push : (c : Command) (s : Space) (moment : ℕ) → is_data c ≡ true
+pub no_push : (c : Command) (s : Space) (moment : ℕ) → has_row c ≡ true
     → NoPush (effect c s moment)
-unfolding effect string_effect hash_effect is_push
+unfolding effect string_effect hash_effect key_effect is_push
 no_push (command.Get key) s moment h =
     record { is = text_reply (content_at key s) blob_or_null blob }
 no_push (command.Set key value when life) s moment h =
@@ -186,4 +186,25 @@ no_push (command.HIncrBy key field n) s moment h =
     (λ fs. sums hash_not_integer (number_in (field_get field fs)) n refl
     (λ r. hincrby_row key field r fs s) (λ i. record { is = refl })
     (λ e plain. record { is = plain }))
+no_push (command.Del keys) s moment h = record { is = refl }
+no_push (command.Exists keys) s moment h = record { is = refl }
+no_push (command.KeyType key) s moment h = record { is = refl }
+no_push (command.Rename a b) s moment h =
+    either (contains_key s a)
+    (either (bytes_eq a b) (record { is = refl }) (record { is = refl })) (record { is = refl })
+no_push (command.Expire key n) s moment h =
+    either (contains_key s key) (record { is = refl }) (record { is = refl })
+no_push (command.PExpire key n) s moment h =
+    either (contains_key s key) (record { is = refl }) (record { is = refl })
+no_push (command.ExpireAt key n) s moment h =
+    either (contains_key s key) (record { is = refl }) (record { is = refl })
+no_push (command.PExpireAt key n) s moment h =
+    either (contains_key s key) (record { is = refl }) (record { is = refl })
+no_push (command.Ttl key) s moment h = record { is = refl }
+no_push (command.PTtl key) s moment h = record { is = refl }
+no_push (command.Persist key) s moment h =
+    either (is_some (deadline_at key s)) (record { is = refl }) (record { is = refl })
+no_push command.DbSize s moment h = record { is = refl }
+no_push (command.FlushAll mode) s moment h = record { is = refl }
+no_push (command.FlushDb mode) s moment h = record { is = refl }
 no_push _ s moment h = absurd (let no : ⊥ = cc in no)

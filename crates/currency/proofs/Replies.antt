@@ -1,12 +1,11 @@
 -- What is no push of what was sent to a connection is the replies to its commands, in order.
 use Rattle.std.proofs.Common.{◌≡◌, ◌+◌, ℕ, List, [], ◌∷◌, ◌++◌, length}
-use Rattle.std.proofs.Common.{Bool, true, false, cond, refl, ap, ◌∙◌, Some, None}
+use Rattle.std.proofs.Common.{Bool, true, false, cond, refl, ap, ◌∙◌}
 use Rattle.std.proofs.Common.{append-nil, Ok, Err, Result}
-use Rattle.std.specs.Prelude.{◌==◌, Option}
+use Rattle.std.specs.Prelude.{◌==◌}
 use Rattle.std.specs.List.{filter}
 use Rattle.std.proofs.lemmas.List.Elements.{filter-append}
 use Rattle.resp_value.specs.declared.value.Value.{Value}
-use Rattle.resp_value.specs.declared.value.Value.TheVariants.{Push}
 use Rattle.resp_value.specs.declared.value.Proto.{Proto}
 use Rattle.resp_value.specs.declared.value.Proto.TheVariants.{Two, Three}
 use Rattle.command_words.specs.declared.command.Command.{Command}
@@ -14,11 +13,12 @@ use Rattle.command_words.specs.declared.command.WordFault.{WordFault}
 use Rattle.command_words.specs.Words.{reading}
 use Rattle.command_words.specs.Space.{Space}
 use Rattle.command_words.specs.Effect.{Effect}
+use Rattle.command_words.specs.Expiry.{without_due}
 use Rattle.serial_model.specs.declared.mode.Mode.{Mode}
 use Rattle.serial_model.specs.declared.mode.Runner.{Runner}
 use Rattle.serial_model.specs.declared.history.Limits.{Limits}
 use Rattle.serial_model.specs.declared.history.Entry.{Entry}
-use Rattle.serial_model.specs.declared.history.Entry.TheVariants.{Admit, Run, Take, Close}
+use Rattle.serial_model.specs.declared.history.Entry.TheVariants.{Admit, Run, Tick, Take, Close}
 use Rattle.serial_model.specs.Modes.{hello, hello_reply}
 use Rattle.serial_model.specs.Tracking.{Invalidation, push_of, drop_group}
 use Rattle.serial_model.specs.History.{Sending, Message, End, sends, sent_to, sent, modes, served}
@@ -50,7 +50,7 @@ pub reply_no_push : (l : Limits) (past : List Entry) (id : ℕ) (words : List (L
     → is_push (ran l past id words m).reply ≡ false
 unfolding ran_over
 reply_no_push l past id words m =
-    effect_no_push (runner l past id) words (reading words) (keyspace l past) m
+    effect_no_push (runner l past id) words (reading words) (without_due m (keyspace l past)) m
 
 -- ---- the replies among what was sent
 
@@ -65,6 +65,7 @@ replies_of l c (Admit id ∷ past) = replies_of l c past
 replies_of l c (Run id words moment ∷ past) =
     cond (id == c) (replies_of l c past
     ++ (length past + 1, (reply_of l past id words moment).1) ∷ []) (replies_of l c past)
+replies_of l c (Tick moment ∷ past) = replies_of l c past
 replies_of l c (Take id max ∷ past) = replies_of l c past
 replies_of l c (Close id ∷ past) = replies_of l c past
 
@@ -80,7 +81,7 @@ route_no_reply n c Three i =
     ) ∷ [])
     []) ≡ []) [ true ↦ refl | false ↦ refl ]
 
-routed_no_reply : (n c : ℕ) (of : ℕ → Mode) (told : List Invalidation)
+pub routed_no_reply : (n c : ℕ) (of : ℕ → Mode) (told : List Invalidation)
     → filter is_reply_sent (sent_to n c (routed of told)) ≡ []
 routed_no_reply n c of [] = refl
 routed_no_reply n c of (i ∷ told) =
@@ -145,6 +146,10 @@ unfolding replies_of
 replies_are_of_runs l c [] = refl
 replies_are_of_runs l c (Admit id ∷ past) =
     add_none l c (Admit id) past refl (replies_are_of_runs l c past)
+replies_are_of_runs l c (Tick m ∷ past) =
+    add_none l c (Tick m) past
+    (routed_no_reply (length past + 1) c (modes l past) (expiry_group l past m))
+    (replies_are_of_runs l c past)
 replies_are_of_runs l c (Take id max ∷ past) =
     add_none l c (Take id max) past refl (replies_are_of_runs l c past)
 replies_are_of_runs l c (Close id ∷ past) =

@@ -7,7 +7,7 @@ use Rattle.std.proofs.lemmas.Option.{slice_get_within}
 use Rattle.resp_value.specs.Lists.{IsPrefix}
 use Rattle.serial_model.specs.declared.history.Limits.{Limits}
 use Rattle.serial_model.specs.declared.history.Entry.{Entry}
-use Rattle.serial_model.specs.declared.history.Entry.TheVariants.{Admit, Run, Take, Close}
+use Rattle.serial_model.specs.declared.history.Entry.TheVariants.{Admit, Run, Tick, Take, Close}
 use Rattle.serial_model.specs.History.{runs_of, IsLegal}
 use Rattle.serial_model.specs.History.{run_entries}
 use Rattle.currency.specs.Points.{up_to}
@@ -88,6 +88,7 @@ pub older_legal : (l : Limits) (newer up : List Entry) → IsLegal l (newer ++ u
 older_legal l [] up h = h
 older_legal l (Admit id ∷ newer) up h = older_legal l newer up h.2
 older_legal l (Run id words moment ∷ newer) up h = older_legal l newer up h.3
+older_legal l (Tick moment ∷ newer) up h = older_legal l newer up h.3
 older_legal l (Take id max ∷ newer) up h = older_legal l newer up h.3
 older_legal l (Close id ∷ newer) up h = older_legal l newer up h.1
 
@@ -107,6 +108,7 @@ module _ (c : ℕ) where
         )
         | false ↦ runs_count past
       ]
+  runs_count (Tick moment ∷ past) = runs_count past
   runs_count (Take id max ∷ past) = runs_count past
   runs_count (Close id ∷ past) = runs_count past
 
@@ -126,6 +128,7 @@ module _ (c : ℕ) where
         | false ↦ λ e. let r = entry_le past place p e in omega (arith, r)
       ] e in
       omega (arith, r)
+  entry_le (Tick moment ∷ past) place p e = let r = entry_le past place p e in omega (arith, r)
   entry_le (Take id max ∷ past) place p e = let r = entry_le past place p e in omega (arith, r)
   entry_le (Close id ∷ past) place p e = let r = entry_le past place p e in omega (arith, r)
 
@@ -165,6 +168,7 @@ module _ (c : ℕ) where
             (get_parts (run_entries c past) ((length past + 1) ∷ []) j q f)
         | false ↦ λ e f. in_order past i j p q lt e f
       ] e f
+  in_order (Tick moment ∷ past) i j p q lt e f = in_order past i j p q lt e f
   in_order (Take id max ∷ past) i j p q lt e f = in_order past i j p q lt e f
   in_order (Close id ∷ past) i j p q lt e f = in_order past i j p q lt e f
 
@@ -172,6 +176,7 @@ module _ (c : ℕ) where
   pub runs_more : (newer up : List Entry) → IsPrefix (runs_of c up) (runs_of c (newer ++ up))
   runs_more [] up = ([], append-nil (runs_of c up))
   runs_more (Admit id ∷ newer) up = runs_more newer up
+  runs_more (Tick moment ∷ newer) up = runs_more newer up
   runs_more (Take id max ∷ newer) up = runs_more newer up
   runs_more (Close id ∷ newer) up = runs_more newer up
   runs_more (Run id words moment ∷ newer) up =
@@ -264,6 +269,8 @@ module _ (c : ℕ) where
             )
             (ran_at past place p e)
       ] refl e
+  ran_at (Tick moment ∷ past) place p e =
+      one_newer (Tick moment) past place p (same (runs_of c past)) (ran_at past place p e)
   ran_at (Take id max ∷ past) place p e =
       one_newer (Take id max) past place p (same (runs_of c past)) (ran_at past place p e)
   ran_at (Close id ∷ past) place p e =

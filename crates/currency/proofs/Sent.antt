@@ -3,6 +3,7 @@ use Rattle.std.proofs.Common.{◌≡◌, ◌+◌, ◌<◌, ◌≤◌, ℕ, zero,
 use Rattle.std.proofs.Common.{Bool, true, false, cond, refl, ap, sym, ◌∙◌, arith, Some}
 use Rattle.std.proofs.Common.{◌⊎◌, inl, inr, append_assoc, append-nil}
 use Rattle.std.specs.Prelude.{slice_get, ◌==◌, ◌&&◌, Option}
+use Rattle.std.specs.List.{list_any}
 use Rattle.std.proofs.lemmas.Option.{slice_get_within}
 use Rattle.std.proofs.lemmas.Bool.{eqb-true}
 use Rattle.resp_value.specs.Lists.{IsPrefix}
@@ -10,7 +11,7 @@ use Rattle.resp_value.specs.declared.value.Proto.TheVariants.{Three}
 use Rattle.serial_model.specs.declared.mode.Mode.{Mode}
 use Rattle.serial_model.specs.declared.history.Limits.{Limits}
 use Rattle.serial_model.specs.declared.history.Entry.{Entry}
-use Rattle.serial_model.specs.declared.history.Entry.TheVariants.{Admit, Run, Take, Close}
+use Rattle.serial_model.specs.declared.history.Entry.TheVariants.{Admit, Run, Tick, Take, Close}
 use Rattle.serial_model.specs.Tracking.{Invalidation, push_of, names_key, tells, drop_group}
 use Rattle.serial_model.specs.History.{Sending, Message, End, sends, sent_to, sent, mode, modes}
 use Rattle.serial_model.specs.History.{by_proto, route, routed, expiry_group, own_group, drops}
@@ -147,18 +148,18 @@ module _ (c : ℕ) where
       pub there : slice_get (sent l c past) place ≡ Some (n, Message Three (push_of keys))
       pub names : names_key keys key ≡ true
 
-    both : (a b : Bool) → (a && b) ≡ true → (a ≡ true) × (b ≡ true)
+    pub both : (a b : Bool) → (a && b) ≡ true → (a ≡ true) × (b ≡ true)
     both true b h = (refl, h)
     both false b h = absurd (let no : ⊥ = cc in no)
 
-    routed_at : (of : ℕ → Mode) (told : List Invalidation) (k : ℕ) (i : Invalidation)
+    pub routed_at : (of : ℕ → Mode) (told : List Invalidation) (k : ℕ) (i : Invalidation)
         → slice_get told k ≡ Some i → (of i.to).proto ≡ Three
         → (n : ℕ) × (slice_get (routed of told) n ≡ Some (i.to, Message Three (push_of i.keys)))
     routed_at of told k i e three =
         get_given (λ j. route (of j.to) j) told k i (i.to, Message Three (push_of i.keys)) 0 e
         (ap (λ p. slice_get (by_proto p i) 0) three)
 
-    told_by : (x : Entry) (up : List Entry) (key : List ℕ) (i : Invalidation) (k : ℕ)
+    pub told_by : (x : Entry) (up : List Entry) (key : List ℕ) (i : Invalidation) (k : ℕ)
         → slice_get (sends l x up) k ≡ Some (i.to, Message Three (push_of i.keys))
         → tells c key i ≡ true → Told (x ∷ up) (length up + 1) key
     told_by x up key i k e t =
@@ -171,13 +172,24 @@ module _ (c : ℕ) where
         → is_due l x up c key ≡ true → (mode l c up).proto ≡ Three
         → (mode l c (x ∷ up)).proto ≡ Three → Told (x ∷ up) (length up + 1) key
     lands (Admit id) up key h before after = absurd (let no : ⊥ = cc in no)
+    lands (Tick moment) up key h before after =
+        let early = expiry_group l up moment in
+        let p = one_passes (tells c key) early h in
+        let own : (p.one.to == c) ≡ true = (both (p.one.to == c) (names_key p.one.keys key)
+        p.passes).0 in
+        let r = routed_at (modes l up) early p.at p.one p.there
+        (ap (λ d. (mode l d up).proto) (eqb-true p.one.to c own) ∙ before) in
+        told_by (Tick moment) up key p.one r.0 r.1 p.passes
     lands (Take id max) up key h before after = absurd (let no : ⊥ = cc in no)
     lands (Close id) up key h before after = absurd (let no : ⊥ = cc in no)
     lands (Run id words moment) up key h before after =
         let x = Run id words moment in
         let early = expiry_group l up moment in
         let late = own_group l up id words moment ++ drop_group (drops l up id words moment) in
-        let p = one_passes (tells c key) (early ++ late) h in
+        let parted = sym (ap (list_any (tells c key))
+        (append_assoc early (own_group l up id words moment)
+        (drop_group (drops l up id words moment)))) ∙ h in
+        let p = one_passes (tells c key) (early ++ late) parted in
         let own : (p.one.to == c) ≡ true = (both (p.one.to == c) (names_key p.one.keys key)
         p.passes).0 in
         let of = modes l (x ∷ up) in

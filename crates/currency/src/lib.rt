@@ -4,8 +4,7 @@
 
 ghost use Rattle.currency.specs.Current.{Currency};
 
-use command_words::law_signals_are_written;
-use serial_model::law_change_is_signalled;
+use serial_model::{law_before_the_reply, law_change_is_signalled};
 
 /// For every legal history and every legal log that meet: each held entry is current, and a hit on
 /// it has its point.
@@ -13,5 +12,5 @@ pub fn law_currency()
     ensures { Currency }
 {
     law_change_is_signalled();
-    law_signals_are_written();
+    law_before_the_reply();
 }

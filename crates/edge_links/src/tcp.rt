@@ -13,6 +13,9 @@ use std::time::{Clock, Duration};
 /// How long a read waits before it answers `Idle`, in milliseconds.
 const READ_WAIT: u64 = 50;
 
+/// The same on a link that was dialled, where requests leave between two reads.
+const DIALLED_READ_WAIT: u64 = 1;
+
 /// How long a write waits for a peer that takes nothing before it fails, in milliseconds.
 const WRITE_WAIT: u64 = 10_000;
 
@@ -164,7 +167,10 @@ fn connect<R: net::Net<Listener = TcpListener, Stream = TcpStream>>(
 ) -> io::Result<TcpLink>
     ensures { IfOk result (λ l. ⟦<TcpLink as Link>⟧.counts l ≡ nought) }
 {
-    TcpLink::new(TcpStream::connect(rt, (host, port))?)
+    let link = TcpLink::new(TcpStream::connect(rt, (host, port))?)?;
+    let wait = Duration::from_millis(DIALLED_READ_WAIT);
+    link.stream.set_read_timeout(Some(wait))?;
+    Ok(link)
 }
 
 impl<R: net::Net<Listener = TcpListener, Stream = TcpStream> + Clock + Copy + Send + Drop> Net

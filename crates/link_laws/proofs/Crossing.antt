@@ -13,7 +13,7 @@ use Rattle.resp_value.specs.Carried.{carried}
 use Rattle.resp_stream.specs.Parse.{values_of}
 use Rattle.serial_model.specs.declared.history.Limits.{Limits}
 use Rattle.serial_model.specs.declared.history.Entry.{Entry}
-use Rattle.serial_model.specs.declared.history.Entry.TheVariants.{Admit, Run, Take, Close}
+use Rattle.serial_model.specs.declared.history.Entry.TheVariants.{Admit, Run, Tick, Take, Close}
 use Rattle.serial_model.specs.History.{Sending, Message, End, sent_to, sent, spelled}
 use Rattle.serial_model.specs.History.{sending_bytes, sent_bytes, stream, has_ended, IsLegal}
 use Rattle.serial_model.specs.Laws.{is_end, has_end}
@@ -110,6 +110,7 @@ module _ (l : Limits) (c : ℕ) where
   earlier : (entry : Entry) (past : List Entry) → IsLegal l (entry ∷ past) → IsLegal l past
   earlier (Admit id) past h = h.2
   earlier (Run id words m) past h = h.3
+  earlier (Tick m) past h = h.3
   earlier (Take id max) past h = h.3
   earlier (Close id) past h = h.1
 
@@ -121,6 +122,7 @@ module _ (l : Limits) (c : ℕ) where
   last_by (Admit id) past e = no_end_last (sent l c (Admit id ∷ past)) (unended (Admit id ∷ past) e)
   last_by (Run id words m) past e =
       no_end_last (sent l c (Run id words m ∷ past)) (unended (Run id words m ∷ past) e)
+  last_by (Tick m) past e = no_end_last (sent l c (Tick m ∷ past)) (unended (Tick m ∷ past) e)
   last_by (Take id max) past e =
       no_end_last (sent l c (Take id max ∷ past)) (unended (Take id max ∷ past) e)
   last_by (Close id) past e =

@@ -8,6 +8,7 @@ use Rattle.resp_value.specs.declared.value.Proto.TheVariants.{Two, Three}
 use Rattle.resp_value.specs.declared.value.Value.TheVariants.{Map}
 use Rattle.resp_value.specs.Tree.{blob}
 use Rattle.command_words.specs.declared.command.Command.{Command}
+use Rattle.command_words.specs.Expiry.{without_due}
 use Rattle.command_words.specs.declared.command.Command.TheVariants.{Hello, ClientTracking}
 use Rattle.command_words.specs.declared.command.WordFault.{WordFault}
 use Rattle.command_words.specs.declared.command.WordFault.TheVariants.{Arity, Unknown}
@@ -18,7 +19,7 @@ use Rattle.serial_model.specs.declared.mode.Mode.{Mode}
 use Rattle.serial_model.specs.declared.mode.Runner.{Runner}
 use Rattle.serial_model.specs.declared.history.Limits.{Limits}
 use Rattle.serial_model.specs.declared.history.Entry.{Entry}
-use Rattle.serial_model.specs.declared.history.Entry.TheVariants.{Admit, Run, Take, Close}
+use Rattle.serial_model.specs.declared.history.Entry.TheVariants.{Admit, Run, Tick, Take, Close}
 use Rattle.serial_model.specs.Modes.{greeting, hello, hello_reply}
 use Rattle.serial_model.specs.Tracking.{Invalidation, push_of, drop_group}
 use Rattle.serial_model.specs.History.{Sending, served, is_served, served_reading, effect_of}
@@ -82,7 +83,8 @@ pub reply_good : (l : Limits) (past : List Entry) (id moment : ℕ) (words : Lis
     → Replies (ran l past id words moment)
 unfolding ran_over
 reply_good l past id moment words =
-    effect_of_good (runner l past id) words (served_reading words) (keyspace l past) moment
+    effect_of_good (runner l past id) words (served_reading words)
+    (without_due moment (keyspace l past)) moment
     (λ e. served_arity (reading words) e)
 
 -- ---- invalidations
@@ -130,6 +132,8 @@ readable_sends l (Run id words m) past =
       reply_good l past id m words (reply_protocol l past id words),
       readable_both (routed after late) over (readable_routed after late) tt,
     )
+readable_sends l (Tick m) past =
+    readable_routed (modes l past) (expiry_group l past m)
 readable_sends l (Take id max) past = tt
 readable_sends l (Close id) past = (tt, tt)
 

@@ -90,22 +90,6 @@ batch_raised calls replies k l long raise same turned turns le =
       all = λ _. omega arith;
     }
 
--- no turn was played, and then some were
-pub raised_after_none : (asked : ℕ) (k l m : Known ℕ Raised)
-    → l ≡ record k { tickets = l.tickets } → k.tickets ≤ l.tickets → RaisedBy asked l m
-    → RaisedBy asked k m
-raised_after_none asked k l m is le r =
-    let own = ap (λ (z : Known ℕ Raised). length z.own) is in
-    let turns = ap (λ (z : Known ℕ Raised). z.turns) is in record {
-      lock = r.lock ∙ ap (λ (z : Known ℕ Raised). z.lock) is;
-      setup = r.setup ∙ ap (λ (z : Known ℕ Raised). z.setup) is;
-      parts = r.parts ∙ ap (λ (z : Known ℕ Raised). z.parts) is;
-      not_less = let n = r.not_less in omega arith;
-      raised = let n = r.raised in omega arith;
-      most = let n = r.most in omega arith;
-      all = λ small. let n = r.all small in omega arith;
-    }
-
 -- the tickets that all threads drew
 pub drawn_by_all : (asked tickets : ℕ) (before after : Known ℕ Raised) → RaisedBy asked before after
     → before.turns ≡ 0 → tickets ≡ after.turns → after.tickets ≤ tickets → tickets ≤ LAST_TICKET

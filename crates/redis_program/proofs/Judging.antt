@@ -28,7 +28,7 @@ use Rattle.redis_program.specs.Headline.{Begins, Comes, EndsAs, Next, PlayedThen
 use Rattle.redis_program.specs.Headline.{ReadsBad, ReadsWhole, ended, ending_at, event_at}
 use Rattle.redis_program.specs.Headline.{events_of, faulty_or, first_fault, text_lines}
 use Rattle.redis_program.specs.Headline.{transcript_of, verdict}
-use Rattle.redis_program.proofs.Splitting.{line_ended, lines_ended, line_alone, line_begun}
+use Rattle.edge_lines.proofs.Splitting.{line_ended, lines_ended, line_alone, line_begun}
 use Rattle.redis_program.proofs.Scheduling.{same_length, events_then, no_event, one_event}
 use Rattle.redis_program.proofs.Scheduling.{transcript_then, transcript_begins, fault_then}
 use Rattle.redis_program.proofs.Scheduling.{transcript_faulty, fault_first, too_long}

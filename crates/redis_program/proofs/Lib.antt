@@ -1,6 +1,5 @@
 pub mod Asked
 pub mod Serving
-pub mod Splitting
 pub mod Scheduling
 pub mod LineTexts
 pub mod Playing

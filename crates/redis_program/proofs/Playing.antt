@@ -25,7 +25,7 @@ use Rattle.redis_program.specs.Playing.{ComesTo, EndingRead, EndingWrote, LineCo
 use Rattle.redis_program.specs.Playing.{PartPrinted}
 use Rattle.edge_links.proofs.Bytes.{appends_none, appends_more, consumes_none, consumes_more}
 use Rattle.edge_lines.proofs.Bytes.{first_then}
-use Rattle.redis_program.proofs.Splitting.{lines_ended, line_alone, plain_more, ended_more}
+use Rattle.edge_lines.proofs.Splitting.{lines_ended, line_alone, plain_more, ended_more}
 use Rattle.redis_program.proofs.Scheduling.{are_more, after_then, transcript_then, after_played}
 use Rattle.redis_program.proofs.Scheduling.{transcript_one, text_more}
 use Rattle.redis_program.proofs.LineTexts.{all_printed}

@@ -9,6 +9,7 @@ use Rattle.std.specs.Option.{option_map_or}
 use Rattle.resp_value.specs.Lists.{IsPrefix}
 use Rattle.serial_model.specs.declared.history.Limits.{Limits}
 pub use Rattle.edge_lines.specs.Streams.{AppendsFirst, IsPlain}
+pub use Rattle.edge_lines.specs.TextLines.{ArePlain, Reads, ReadsBad, ReadsWhole, ended, text_lines}
 use Rattle.script_text.specs.declared.event.Event.{Event}
 use Rattle.script_text.specs.declared.line.Line.{Line}
 use Rattle.script_text.specs.Events.{event_of, longest_line}
@@ -64,17 +65,6 @@ last_line HistoryFull = codes "history-full\n"
 last_line NoMemory = codes "no-memory\n"
 
 -- ---- a schedule, as its lines
-
--- a byte goes before the first line, or is a line of its own
-abbrev pub with_byte : ℕ → List (List ℕ) → List (List ℕ)
-with_byte b [] = (b ∷ []) ∷ []
-with_byte b (line ∷ lines) = (b ∷ line) ∷ lines
-
--- the lines of a text: each ends in LF, but the last one may end with the text
-abbrev pub text_lines : List ℕ → List (List ℕ)
-text_lines [] = []
-text_lines (b ∷ bytes) =
-    if b == 10 then [] ∷ text_lines bytes else with_byte b (text_lines bytes)
 
 -- how many lines a schedule may have
 abbrev pub most_lines : ℕ
@@ -136,33 +126,6 @@ verdict limits lines =
 abbrev pub IsVerdict : Limits → List (List ℕ) → Status → Type 0
 IsVerdict limits lines answer =
     (answer ≡ status.NoMemory) ⊎ (answer ≡ status_of (verdict limits lines))
-
--- ---- what was read
-
-abbrev pub ArePlain : List (List ℕ) → Type 0
-ArePlain [] = Unit {0}
-ArePlain (line ∷ lines) = IsPlain line × ArePlain lines
-
--- lines one after the other, each with its LF
-abbrev pub ended : List (List ℕ) → List ℕ
-ended [] = []
-ended (line ∷ lines) = line ++ 10 ∷ ended lines
-
--- lines were read, each with its LF, and then more
-pub record Reads (in0 in1 : Option (List ℕ)) (lines : List (List ℕ)) (more : List ℕ) : Type 0 where
-  pub consumed : Consumes in0 in1 (ended lines ++ more)
-  pub plain : ArePlain lines
-
--- the line was read to its LF, or to the end of the source
-abbrev pub ReadsWhole : List ℕ → List ℕ → Option (List ℕ) → Type 0
-ReadsWhole line more in1 =
-    IsPlain line
-    × ((more ≡ line ++ 10 ∷ []) ⊎ ((line ≡ [] → ⊥) × (more ≡ line) × IsAtEnd in1))
-
--- the line was read whole, or so far that it is too long whatever follows
-abbrev pub ReadsBad : List ℕ → List ℕ → Option (List ℕ) → Type 0
-ReadsBad line more in1 =
-    ReadsWhole line more in1 ⊎ (IsPlain line × (more ≡ line) × (longest_line < length line))
 
 -- ---- what was played
 

@@ -37,7 +37,7 @@ skip_in_le (suc n) b =
     after_le b (λ r. skip_empty_in n r) (request_at b)
     (λ r e. omega (arith, skip_in_le n r, takes b r [] e))
 
-skip_le : (b : List ℕ) → length (skip_empty b) ≤ length b
+pub skip_le : (b : List ℕ) → length (skip_empty b) ≤ length b
 unfolding skip_empty
 skip_le b = skip_in_le (length b) b
 

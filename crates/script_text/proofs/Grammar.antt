@@ -16,7 +16,7 @@ use Rattle.shared_cache.specs.declared.log.ClientMode.{ClientMode}
 use Rattle.script_text.specs.declared.event.Event.{Event}
 use Rattle.script_text.specs.declared.event.Event.TheVariants.{Raw, Say, Bytes, Client, Out, Serve}
 use Rattle.script_text.specs.declared.event.Event.TheVariants.{Send, Recv, Flow, FlowAll, Cut, Ask}
-use Rattle.script_text.specs.declared.event.Event.TheVariants.{Do, Poll, Show}
+use Rattle.script_text.specs.declared.event.Event.TheVariants.{Do, Poll, Show, Now, Tick}
 use Rattle.script_text.specs.Words.{is_name, is_link, word_of, words_of, number_within, greatest}
 use Rattle.script_text.specs.Clients.{client_of}
 use Rattle.script_text.specs.Events.{event_of, event_of_parts, named_event, link_event, first_there}
@@ -40,17 +40,21 @@ use Rattle.script_text.proofs.ClientFields.{client-unbroken}
 use Rattle.script_text.proofs.Asking.{is_query-read, query_of-is_query, query_bytes, query-length}
 
 -- ---- from the event to its parts
-requested : (words : List (List ℕ)) → is_request words ≡ true
+pub requested : (words : List (List ℕ)) → is_request words ≡ true
     → request_of (map printed words) ≡ Some words
 requested [] h = cc
 requested (word ∷ words) h = words_of-printed (word ∷ words) (both_true _ _ h).1
 
 -- an event of a name
-of_name : (kind name : List ℕ) (rest : List (List ℕ)) (event : Event) → is_name name ≡ true
+of_name : (kind name : List ℕ) (rest : List (List ℕ)) (event : Event)
+    → bytes_eq kind (codes "now") ≡ false → is_name name ≡ true
     → named_event kind name rest ≡ Some event → event_of_parts (kind ∷ name ∷ rest) ≡ Some event
 unfolding event_of_parts
-of_name kind name rest event n e =
-    ap (λ o. first_there o (cond (is_link name) (link_event kind name rest) None))
+of_name kind name rest event later n e =
+    ap (λ b. cond b (option_map Now (polled_of (name ∷ rest)))
+    (first_there (cond (is_name name) (named_event kind name rest) None)
+    (cond (is_link name) (link_event kind name rest) None))) later
+    ∙ ap (λ o. first_there o (cond (is_link name) (link_event kind name rest) None))
     (named (is_name name) (named_event kind name rest) event n e)
 
 always_none : (t : Bool) (o : Option Event) → o ≡ None → cond t o None ≡ None
@@ -59,11 +63,14 @@ always_none false o h = refl
 
 -- an event of a link
 of_link : (kind link : List ℕ) (rest : List (List ℕ)) (event : Event)
-    → named_event kind link rest ≡ None → is_link link ≡ true
+    → bytes_eq kind (codes "now") ≡ false → named_event kind link rest ≡ None → is_link link ≡ true
     → link_event kind link rest ≡ Some event → event_of_parts (kind ∷ link ∷ rest) ≡ Some event
 unfolding event_of_parts
-of_link kind link rest event other n e =
-    ap (λ o. first_there o (cond (is_link link) (link_event kind link rest) None))
+of_link kind link rest event later other n e =
+    ap (λ b. cond b (option_map Now (polled_of (link ∷ rest)))
+    (first_there (cond (is_name link) (named_event kind link rest) None)
+    (cond (is_link link) (link_event kind link rest) None))) later
+    ∙ ap (λ o. first_there o (cond (is_link link) (link_event kind link rest) None))
     (always_none (is_name link) (named_event kind link rest) other)
     ∙ named (is_link link) (link_event kind link rest) event n e
 
@@ -72,61 +79,65 @@ asked_there : (client : List ℕ) (words query : List (List ℕ)) → is_name cl
     → event_of_parts (asking client words) ≡ Some (Ask client query)
 unfolding named_event
 asked_there client words query n q b =
-    of_name (codes "ask") client (map printed words) (Ask client query) n
+    of_name (codes "ask") client (map printed words) (Ask client query) refl n
     (ap (option_map (Ask client))
     (ap (option_and_then query_of) (words_of-printed words b) ∙ q))
 
 event_of_parts-parts : (event : Event) → has_fields event ≡ true
     → event_of_parts (parts_of event) ≡ Some event
 unfolding event_of_parts named_event link_event
-event_of_parts-parts (Raw link) h = of_name (codes "raw") link [] (Raw link) h refl
+event_of_parts-parts (Raw link) h = of_name (codes "raw") link [] (Raw link) refl h refl
 event_of_parts-parts (Say link words) h =
     let parts = both_true _ _ h in
-    of_name (codes "say") link (map printed words) (Say link words) parts.0
+    of_name (codes "say") link (map printed words) (Say link words) refl parts.0
     (ap (option_map (Say link)) (requested words parts.1))
 event_of_parts-parts (Bytes link bytes) h =
     let parts = both_true _ _ h in
-    of_name (codes "bytes") link (printed bytes ∷ []) (Bytes link bytes) parts.0
+    of_name (codes "bytes") link (printed bytes ∷ []) (Bytes link bytes) refl parts.0
     (ap (option_map (Bytes link)) (word_of-printed bytes (printed bytes) parts.1 refl))
 event_of_parts-parts (Client client mode keys) h =
     let parts = both_true _ _ h in
     let fields = both_true _ _ parts.1 in
-    of_name (codes "client") client (client_parts mode keys) (Client client mode keys) parts.0
+    of_name (codes "client") client (client_parts mode keys) (Client client mode keys) refl parts.0
     (ap (option_map (λ (made : ClientMode × ℕ). Client client made.0 made.1))
     (client_there mode keys fields.0 fields.1))
 event_of_parts-parts (Out link amount) h =
     let parts = both_true _ _ h in
-    of_link (codes "out") link (amount_parts amount) (Out link amount) refl parts.0
+    of_link (codes "out") link (amount_parts amount) (Out link amount) refl refl parts.0
     (ap (option_map (Out link)) (amount_of-parts amount parts.1))
 event_of_parts-parts (Serve link amount) h =
     let parts = both_true _ _ h in
-    of_link (codes "serve") link (amount_parts amount) (Serve link amount) refl parts.0
+    of_link (codes "serve") link (amount_parts amount) (Serve link amount) refl refl parts.0
     (ap (option_map (Serve link)) (amount_of-parts amount parts.1))
 event_of_parts-parts (Send link amount) h =
     let parts = both_true _ _ h in
-    of_link (codes "send") link (amount_parts amount) (Send link amount) refl parts.0
+    of_link (codes "send") link (amount_parts amount) (Send link amount) refl refl parts.0
     (ap (option_map (Send link)) (amount_of-parts amount parts.1))
 event_of_parts-parts (Recv link amount) h =
     let parts = both_true _ _ h in
-    of_link (codes "recv") link (amount_parts amount) (Recv link amount) refl parts.0
+    of_link (codes "recv") link (amount_parts amount) (Recv link amount) refl refl parts.0
     (ap (option_map (Recv link)) (amount_of-parts amount parts.1))
-event_of_parts-parts (Flow link) h = of_link (codes "flow") link [] (Flow link) refl h refl
+event_of_parts-parts (Flow link) h = of_link (codes "flow") link [] (Flow link) refl refl h refl
 event_of_parts-parts FlowAll h = refl
-event_of_parts-parts (Cut link) h = of_link (codes "cut") link [] (Cut link) refl h refl
+event_of_parts-parts (Cut link) h = of_link (codes "cut") link [] (Cut link) refl refl h refl
+event_of_parts-parts (Now moment) h =
+    ap (option_map Now) (number_within-decimal 0 greatest moment (decimal moment) h
+    (small_within 0 greatest moment (omega arith) h) refl)
+event_of_parts-parts Tick h = refl
 event_of_parts-parts (Ask client query) h =
     let parts = both_true _ _ h in
     let fields = both_true _ _ parts.1 in
     asked_there client query query parts.0 (query_of-is_query query fields.0) fields.1
 event_of_parts-parts (Do client words) h =
     let parts = both_true _ _ h in
-    of_name (codes "do") client (map printed words) (Do client words) parts.0
+    of_name (codes "do") client (map printed words) (Do client words) refl parts.0
     (ap (option_map (Do client)) (requested words parts.1))
 event_of_parts-parts (Poll client number) h =
     let parts = both_true _ _ h in
-    of_name (codes "poll") client (decimal number ∷ []) (Poll client number) parts.0
+    of_name (codes "poll") client (decimal number ∷ []) (Poll client number) refl parts.0
     (ap (option_map (Poll client)) (number_within-decimal 0 greatest number (decimal number) parts.1
     (small_within 0 greatest number (omega arith) parts.1) refl))
-event_of_parts-parts (Show client) h = of_name (codes "show") client [] (Show client) h refl
+event_of_parts-parts (Show client) h = of_name (codes "show") client [] (Show client) refl h refl
 
 -- ---- from the parts to their event
 -- the event asks for the query that these words are
@@ -308,6 +319,28 @@ link_back kind link rest event n =
     (λ k h. bare_back (Cut link) kind (codes "cut") link rest event k refl n h) (
     none_is_some R event))))))
 
+tick_back : (kind : List ℕ) (event : Event) → bytes_eq kind (codes "tick") ≡ true
+    → Some Tick ≡ Some event → ComesBack (kind ∷ []) event
+tick_back kind event k h =
+    let same : Tick ≡ event = cc in
+    subst (λ e. ComesBack (kind ∷ []) e) same
+    (record { parted = inl (ap (λ n. n ∷ []) (same_text kind (codes "tick") k)); fields = refl })
+
+now_back : (kind : List ℕ) (rest : List (List ℕ)) (event : Event)
+    → bytes_eq kind (codes "now") ≡ true
+    → option_map Now (polled_of rest) ≡ Some event → ComesBack (kind ∷ rest) event
+now_back kind [] event k h = cc
+now_back kind (text ∷ []) event k h =
+    let found = option_map-some Now (number_within 0 greatest text) event h in
+    let back = decimal-number_within 0 greatest found.0 text found.1.0 in
+    subst (λ e. ComesBack (kind ∷ text ∷ []) e) found.1.1
+    (record {
+      parted = inl (ap (λ w. w ∷ decimal found.0 ∷ []) (same_text kind (codes "now") k)
+          ∙ ap (λ t. kind ∷ t ∷ []) back.1);
+      fields = back.0;
+    })
+now_back kind (text ∷ next ∷ rest) event k h = cc
+
 all_back : (kind : List ℕ) (event : Event) → bytes_eq kind (codes "flow") ≡ true
     → Some FlowAll ≡ Some event → ComesBack (kind ∷ []) event
 all_back kind event k h =
@@ -325,16 +358,20 @@ parts_back : (parts : List (List ℕ)) (event : Event) → list_all are_bytes pa
 unfolding event_of_parts
 parts_back [] event b h = cc
 parts_back (kind ∷ []) event b h =
-    by_test (ComesBack (kind ∷ []) event) event (bytes_eq kind (codes "flow")) (Some FlowAll) None
-    (all_back kind event) (none_is_some _ event) h
+    let R = ComesBack (kind ∷ []) event in
+    by_test R event (bytes_eq kind (codes "flow")) (Some FlowAll) _ (all_back kind event) (
+    by_test R event (bytes_eq kind (codes "tick")) (Some Tick) None (tick_back kind event) (
+    none_is_some R event)) h
 parts_back (kind ∷ name ∷ rest) event b h =
     let bytes = (both_true _ _ (both_true _ _ b).1).1 in
-    elim (first_or_other _ _ event h) [
+    by_test (ComesBack (kind ∷ name ∷ rest) event) event (bytes_eq kind (codes "now"))
+    (option_map Now (polled_of (name ∷ rest))) _ (now_back kind (name ∷ rest) event)
+    (λ g. elim (first_or_other _ _ event g) [
       | inl e ↦ let found = when (is_name name) (named_event kind name rest) event e in
           named_back kind name rest event found.0 bytes found.1
       | inr e ↦ let found = when (is_link name) (link_event kind name rest) event e in
           link_back kind name rest event found.0 found.1
-    ]
+    ]) h
 
 -- ---- no part of an event's line holds a blank
 amount-unbroken : (amount : Option ℕ) → is_amount amount ≡ true
@@ -365,6 +402,9 @@ parts-unbroken (Recv link amount) h =
 parts-unbroken (Flow link) h = both _ _ (link-unbroken link h) refl
 parts-unbroken FlowAll h = refl
 parts-unbroken (Cut link) h = both _ _ (link-unbroken link h) refl
+parts-unbroken (Now moment) h =
+    both _ _ (decimal-unbroken moment (small_within 0 greatest moment (omega arith) h)) refl
+parts-unbroken Tick h = refl
 parts-unbroken (Ask client query) h =
     both _ _ (name-unbroken client (both_true _ _ h).0) (all_printed-unbroken query)
 parts-unbroken (Do client words) h =
@@ -375,7 +415,7 @@ parts-unbroken (Poll client number) h =
     (both _ _ (decimal-unbroken number (small_within 0 greatest number (omega arith) parts.1)) refl)
 parts-unbroken (Show client) h = both _ _ (name-unbroken client h) refl
 
-parted_again : (parts : List (List ℕ)) → list_all is_unbroken parts ≡ true → 0 < length parts
+pub parted_again : (parts : List (List ℕ)) → list_all is_unbroken parts ≡ true → 0 < length parts
     → slice_split (λ b. b == 32) (join_with_byte 32 parts) ≡ parts
 parted_again [] h l = absurd (omega arith)
 parted_again (part ∷ parts) h l = parted-joined part parts h
@@ -392,6 +432,8 @@ some_part (Recv link amount) = omega arith
 some_part (Flow link) = omega arith
 some_part FlowAll = omega arith
 some_part (Cut link) = omega arith
+some_part (Now moment) = omega arith
+some_part Tick = omega arith
 some_part (Ask client query) = omega arith
 some_part (Do client words) = omega arith
 some_part (Poll client number) = omega arith
@@ -412,6 +454,8 @@ own_line (Recv link amount) line h e = e
 own_line (Flow link) line h e = e
 own_line FlowAll line h e = e
 own_line (Cut link) line h e = e
+own_line (Now moment) line h e = e
+own_line Tick line h e = e
 own_line (Ask client query) line h e =
     let fields = both_true _ _ (both_true _ _ h).1 in
     (query, (query_of-is_query query fields.0, fields.1, e))
@@ -434,6 +478,8 @@ line_is (Recv link amount) line e = inl e
 line_is (Flow link) line e = inl e
 line_is FlowAll line e = inl e
 line_is (Cut link) line e = inl e
+line_is (Now moment) line e = inl e
+line_is Tick line e = inl e
 line_is (Ask client query) line e = inr (
   record {
     client = client;

@@ -9,3 +9,4 @@ pub mod ClientFields
 pub mod Asking
 pub mod Grammar
 pub mod Valid
+pub mod Scripts

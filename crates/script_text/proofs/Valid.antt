@@ -13,7 +13,7 @@ use Rattle.shared_cache.specs.declared.log.ClientMode.{ClientMode}
 use Rattle.script_text.specs.declared.event.Event.{Event}
 use Rattle.script_text.specs.declared.event.Event.TheVariants.{Raw, Say, Bytes, Client, Out, Serve}
 use Rattle.script_text.specs.declared.event.Event.TheVariants.{Send, Recv, Flow, FlowAll, Cut, Ask}
-use Rattle.script_text.specs.declared.event.Event.TheVariants.{Do, Poll, Show}
+use Rattle.script_text.specs.declared.event.Event.TheVariants.{Do, Poll, Show, Now, Tick}
 use Rattle.script_text.specs.Clients.{client_of, client_from, most_keys, with_keys}
 use Rattle.script_text.specs.Words.{is_link, is_name, is_within, number_within, word_of, words_of}
 use Rattle.script_text.specs.Words.{first_and_rest}
@@ -24,7 +24,7 @@ use Rattle.script_text.specs.Valid.{IsValid}
 use Rattle.script_text.proofs.Asking.{query_again}
 use Rattle.script_text.proofs.Numbers.{decimal-number_within}
 
-abbrev Of : {A : Type 0} → (A → Type 0) → Option A → Type 0
+abbrev pub Of : {A : Type 0} → (A → Type 0) → Option A → Type 0
 Of P None = Unit {0}
 Of P (Some a) = P a
 
@@ -46,7 +46,7 @@ choose : (b : Bool) (x y : Option Event) → Of IsValid x → Of IsValid y
 choose true x y h g = h
 choose false x y h g = g
 
-abbrev Some_words : List (List ℕ) → Type 0
+abbrev pub Some_words : List (List ℕ) → Type 0
 Some_words ws = 0 < length ws
 
 of_words : (o : Option (List ℕ)) (p : Option (List (List ℕ)))
@@ -55,11 +55,11 @@ of_words None p = tt
 of_words (Some w) None = tt
 of_words (Some w) (Some ws) = omega arith
 
-of_request : (rest : List (List ℕ)) → Of Some_words (request_of rest)
+pub of_request : (rest : List (List ℕ)) → Of Some_words (request_of rest)
 of_request [] = tt
 of_request (text ∷ texts) = of_words (word_of text) (words_of texts)
 
-abbrev IsQuery : List (List ℕ) → Type 0
+abbrev pub IsQuery : List (List ℕ) → Type 0
 IsQuery q = query_of q ≡ Some q
 
 of_query : (words : List (List ℕ)) → Of IsQuery (query_of words)
@@ -70,7 +70,7 @@ of_query words = elim (reads_as_cacheable (reading words)) as (λ b.
       | false ↦ λ e. tt
     ] refl
 
-of_asked : (o : Option (List (List ℕ))) → Of IsQuery (option_and_then query_of o)
+pub of_asked : (o : Option (List (List ℕ))) → Of IsQuery (option_and_then query_of o)
 of_asked None = tt
 of_asked (Some words) = of_query words
 
@@ -147,12 +147,17 @@ of_first (Some e) y h g = h
 of_parts : (parts : List (List ℕ)) → Of IsValid (event_of_parts parts)
 unfolding event_of_parts
 of_parts [] = tt
-of_parts (kind ∷ []) = choose (bytes_eq kind (codes "flow")) (Some FlowAll) None tt tt
+of_parts (kind ∷ []) =
+    choose (bytes_eq kind (codes "flow")) (Some FlowAll) _ tt
+    (choose (bytes_eq kind (codes "tick")) (Some Tick) None tt tt)
 of_parts (kind ∷ name ∷ rest) =
-    of_first (cond (is_name name) (named_event kind name rest) None)
+    choose (bytes_eq kind (codes "now")) (option_map Now (polled_of (name ∷ rest))) _
+    (of_map (λ n. Unit {0}) Now (λ n h. tt) (polled_of (name ∷ rest))
+    (any (polled_of (name ∷ rest))))
+    (of_first (cond (is_name name) (named_event kind name rest) None)
     (cond (is_link name) (link_event kind name rest) None)
     (choose (is_name name) (named_event kind name rest) None (of_named kind name rest) tt)
-    (choose (is_link name) (link_event kind name rest) None (of_link kind name rest) tt)
+    (choose (is_link name) (link_event kind name rest) None (of_link kind name rest) tt))
 
 pub events_are_valid : (line : List ℕ) (e : Event) → event_of line ≡ Some e → IsValid e
 unfolding event_of

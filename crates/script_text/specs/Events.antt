@@ -9,7 +9,7 @@ use Rattle.command_words.specs.Queries.{query_of}
 use Rattle.script_text.specs.declared.event.Event.{Event}
 use Rattle.script_text.specs.declared.event.Event.TheVariants.{Raw, Say, Bytes, Client, Out, Serve}
 use Rattle.script_text.specs.declared.event.Event.TheVariants.{Send, Recv, Flow, FlowAll, Cut, Ask}
-use Rattle.script_text.specs.declared.event.Event.TheVariants.{Do, Poll, Show}
+use Rattle.script_text.specs.declared.event.Event.TheVariants.{Do, Poll, Show, Now, Tick}
 use Rattle.script_text.specs.Words.{is_name, is_link, word_of, words_of, number_within, greatest}
 use Rattle.script_text.specs.Clients.{client_of}
 
@@ -33,7 +33,7 @@ bytes_of (text ∷ _ ∷ _) = None
 abbrev pub asked_of : List (List ℕ) → Option (List (List ℕ))
 asked_of texts = option_and_then query_of (words_of texts)
 
--- the number of a command may be any
+-- the number of a command may be any, and so may a moment
 abbrev pub polled_of : List (List ℕ) → Option ℕ
 polled_of [] = None
 polled_of (text ∷ []) = number_within 0 greatest text
@@ -75,11 +75,21 @@ abbrev pub first_there : Option Event → Option Event → Option Event
 first_there (Some event) other = Some event
 first_there None other = other
 
--- a line begins with the kind of its event and a name; `flow` may stand alone
+-- an event of which the line says the kind alone
+abbrev pub event_alone : List ℕ → Option Event
+event_alone kind =
+    if bytes_eq kind (codes "flow") then Some FlowAll else
+    if bytes_eq kind (codes "tick") then Some Tick else
+    None
+
+-- a line begins with the kind of its event and a name, save that `flow` and `tick` may stand alone,
+-- and `now` before a moment
 unfoldable pub event_of_parts : List (List ℕ) → Option Event
 event_of_parts [] = None
-event_of_parts (kind ∷ []) = if bytes_eq kind (codes "flow") then Some FlowAll else None
-event_of_parts (kind ∷ name ∷ rest) = first_there
+event_of_parts (kind ∷ []) = event_alone kind
+event_of_parts (kind ∷ name ∷ rest) =
+    if bytes_eq kind (codes "now") then option_map Now (polled_of (name ∷ rest)) else
+    first_there
     (if is_name name then named_event kind name rest else None)
     (if is_link name then link_event kind name rest else None)
 

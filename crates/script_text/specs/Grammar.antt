@@ -19,7 +19,7 @@ use Rattle.shared_cache.specs.declared.log.ClientMode.{ClientMode}
 use Rattle.script_text.specs.declared.event.Event.{Event}
 use Rattle.script_text.specs.declared.event.Event.TheVariants.{Raw, Say, Bytes, Client, Out, Serve}
 use Rattle.script_text.specs.declared.event.Event.TheVariants.{Send, Recv, Flow, FlowAll, Cut, Ask}
-use Rattle.script_text.specs.declared.event.Event.TheVariants.{Do, Poll, Show}
+use Rattle.script_text.specs.declared.event.Event.TheVariants.{Do, Poll, Show, Now, Tick}
 use Rattle.script_text.specs.Words.{is_name, is_link, is_byte, is_within, greatest}
 use Rattle.script_text.specs.Clients.{may_speak, most_keys}
 use Rattle.script_text.specs.Events.{event_of, longest_line}
@@ -79,6 +79,8 @@ parts_of (Recv link amount) = codes "recv" ∷ link ∷ amount_parts amount
 parts_of (Flow link) = codes "flow" ∷ link ∷ []
 parts_of FlowAll = codes "flow" ∷ []
 parts_of (Cut link) = codes "cut" ∷ link ∷ []
+parts_of (Now moment) = codes "now" ∷ decimal moment ∷ []
+parts_of Tick = codes "tick" ∷ []
 parts_of (Ask client query) = asking client query
 parts_of (Do client words) = codes "do" ∷ client ∷ map printed words
 parts_of (Poll client number) = codes "poll" ∷ client ∷ decimal number ∷ []
@@ -118,6 +120,8 @@ has_fields (Recv link amount) = is_link link && is_amount amount
 has_fields (Flow link) = is_link link
 has_fields FlowAll = true
 has_fields (Cut link) = is_link link
+has_fields (Now moment) = is_within 0 greatest moment
+has_fields Tick = true
 has_fields (Ask client query) = is_name client && (is_query query && list_all are_bytes query)
 has_fields (Do client words) = is_name client && is_request words
 has_fields (Poll client number) = is_name client && is_within 0 greatest number

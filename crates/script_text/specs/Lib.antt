@@ -5,3 +5,5 @@ pub mod Events
 pub mod Printed
 pub mod Grammar
 pub mod Valid
+pub mod Scripts
+pub mod Answered

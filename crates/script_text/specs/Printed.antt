@@ -11,6 +11,7 @@ use Rattle.script_text.specs.declared.line.Line.{Line}
 use Rattle.script_text.specs.declared.line.Line.TheVariants.{Admit, Run, Bad, Close, Take, Read}
 use Rattle.script_text.specs.declared.line.Line.TheVariants.{Fault, End, Hit, Miss, Sent, Answer}
 use Rattle.script_text.specs.declared.line.Line.TheVariants.{Wait, Down, NotReady, Holds, Complete}
+use Rattle.script_text.specs.declared.line.Line.TheVariants.{Tick}
 
 -- the number of an entry, what it is, and the link
 abbrev pub entry_text : ℕ → List ℕ → List ℕ → List ℕ
@@ -38,6 +39,7 @@ unended_text (Bad link fault offset) = number_text link (codes " bad ") fault ++
 unended_text (Close entry link) = entry_text entry (codes " close ") link
 unended_text (Take entry link count) = entry_text entry (codes " take ") link ++ codes " "
     ++ decimal count
+unended_text (Tick entry moment) = codes "#" ++ decimal entry ++ codes " tick " ++ decimal moment
 unended_text (Read link bytes) = link ++ codes " < " ++ printed bytes
 unended_text (Fault link number) = number_text link (codes " fault ") number
 unended_text (End link) = link ++ codes " end"

@@ -4,7 +4,7 @@ use Rattle.command_words.specs.Queries.{query_of}
 use Rattle.script_text.specs.declared.event.Event.{Event}
 use Rattle.script_text.specs.declared.event.Event.TheVariants.{Raw, Say, Bytes, Client, Out, Serve}
 use Rattle.script_text.specs.declared.event.Event.TheVariants.{Send, Recv, Flow, FlowAll, Cut, Ask}
-use Rattle.script_text.specs.declared.event.Event.TheVariants.{Do, Poll, Show}
+use Rattle.script_text.specs.declared.event.Event.TheVariants.{Do, Poll, Show, Now, Tick}
 use Rattle.script_text.specs.Clients.{most_keys}
 use Rattle.script_text.specs.Events.{event_of}
 
@@ -21,6 +21,8 @@ IsValid (Recv name count) = Unit {0}
 IsValid (Flow name) = Unit {0}
 IsValid FlowAll = Unit {0}
 IsValid (Cut name) = Unit {0}
+IsValid (Now n) = Unit {0}
+IsValid Tick = Unit {0}
 IsValid (Ask name q) = query_of q ≡ Some q
 IsValid (Do name words) = 0 < length words
 IsValid (Poll name n) = Unit {0}

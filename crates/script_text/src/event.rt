@@ -1,6 +1,7 @@
 //! The events of a schedule, and how they are read.
 ghost use Rattle.std.specs.Prelude.{◌≡◌, List, ℕ, IfOk, map};
-ghost use Rattle.script_text.specs.Events.{amount_of, asked_of, bare, bytes_of, event_of};
+ghost use Rattle.script_text.specs.Events.{amount_of, asked_of, bare, bytes_of, event_alone};
+ghost use Rattle.script_text.specs.Events.{event_of};
 ghost use Rattle.script_text.specs.Events.{event_of_parts, link_event, named_event, polled_of};
 ghost use Rattle.script_text.specs.Events.{request_of};
 
@@ -41,6 +42,10 @@ pub enum Event {
     FlowAll,
     /// `cut L`: what is on both ways is dropped, and both end.
     Cut(Octets),
+    /// `now N`: the clock's value in milliseconds; 0 at the start.
+    Now(u64),
+    /// `tick`: the server takes out the keys that are due by the clock.
+    Tick,
     /// `ask X WORD..`: the client is asked a query.
     Ask(Octets, Query),
     /// `do X WORD..`: the client sends any other command.
@@ -57,7 +62,7 @@ fn read_bare(event: Event, rest: &[&[u8]]) -> Option<Event>
     if rest.is_empty() { Some(event) } else { None }
 }
 
-fn read_request(alloc: Global, rest: &[&[u8]]) -> Result<Option<Words>, NoMemory>
+pub fn read_request(alloc: Global, rest: &[&[u8]]) -> Result<Option<Words>, NoMemory>
     ensures { IfOk result (λ o. o ≡ request_of (map (λ p. p.now) rest.now)) }
 {
     if rest.is_empty() {
@@ -75,7 +80,7 @@ fn read_bytes(alloc: Global, rest: &[&[u8]]) -> Result<Option<Octets>, NoMemory>
     }
 }
 
-fn read_query(alloc: Global, rest: &[&[u8]]) -> Result<Option<Query>, NoMemory>
+pub fn read_query(alloc: Global, rest: &[&[u8]]) -> Result<Option<Query>, NoMemory>
     ensures { IfOk result (λ o. o ≡ asked_of (map (λ p. p.now) rest.now)) }
 {
     match read_words(alloc, rest)? {
@@ -162,13 +167,28 @@ fn read_of_link(
     }
 }
 
+fn read_alone(kind: &[u8]) -> Option<Event>
+    ensures { result ≡ event_alone kind.now }
+{
+    if is_text(kind, b"flow") {
+        Some(Event::FlowAll)
+    } else if is_text(kind, b"tick") {
+        Some(Event::Tick)
+    } else {
+        None
+    }
+}
+
 #[tactic(auto, unfolding(crate::specs::Events::event_of_parts))]
 fn read_parts(alloc: Global, parts: &[&[u8]]) -> Result<Option<Event>, NoMemory>
     ensures { IfOk result (λ o. o ≡ event_of_parts (map (λ p. p.now) parts.now)) }
 {
     match parts {
         [] => Ok(None),
-        [kind] => Ok(is_text(kind, b"flow").then_some(Event::FlowAll)),
+        [kind] => Ok(read_alone(kind)),
+        [kind, rest @ ..] if is_text(kind, b"now") => {
+            Ok(read_polled(alloc, rest)?.map(Event::Now))
+        }
         [kind, name, rest @ ..] => {
             if is_name(name) {
                 let named = Octets::from_slice(alloc, name)?;

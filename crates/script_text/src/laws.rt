@@ -1,5 +1,6 @@
 //! Laws of the definitions, which hold of all texts.
 ghost use Rattle.script_text.specs.Grammar.{LinesComeBack};
+ghost use Rattle.script_text.specs.Scripts.{ScriptLinesComeBack, ScriptLinesAreValid};
 ghost use Rattle.script_text.specs.Valid.{EventsAreValid};
 ghost use Rattle.script_text.specs.Words.{WordsComeBack};
 
@@ -20,4 +21,17 @@ pub fn law_lines_come_back()
 /// an Ask read as the query, and a command has a word.
 pub fn law_events_are_valid()
     ensures { EventsAreValid }
+{}
+
+/// A text is read as a line of a script exactly where the line is valid, the text is not too long,
+/// and it is that line's: its parts joined by single spaces. The name of a query is read in any
+/// case.
+pub fn law_script_lines_come_back()
+    ensures { ScriptLinesComeBack }
+{}
+
+/// Each line of a script has a thread, and a query that its words read as, or a command that the
+/// client may send.
+pub fn law_script_lines_are_valid()
+    ensures { ScriptLinesAreValid }
 {}

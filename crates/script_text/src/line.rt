@@ -30,6 +30,8 @@ pub enum Line {
     Close(u64, Octets),
     /// `#E take L N`: N bytes were taken for the link.
     Take(u64, Octets, u64),
+    /// `#E tick N`: the keys that were due at the moment N left.
+    Tick(u64, u64),
     /// `L < TEXT`: the bytes that the client's end read.
     Read(Octets, Octets),
     /// `L fault N`: what the client read ended its link, by the client's refusal N.
@@ -116,7 +118,7 @@ impl Lines {
     }
 }
 
-fn append(out: &mut Vec<u8>, bytes: &[u8]) -> Result<(), NoMemory>
+pub fn append(out: &mut Vec<u8>, bytes: &[u8]) -> Result<(), NoMemory>
     ensures ok { OnOk result (out.new.items ≡ out.old.items ++ bytes.now) }
     ensures err { OnErr result (out.new.items ≡ out.old.items) }
 {
@@ -125,7 +127,7 @@ fn append(out: &mut Vec<u8>, bytes: &[u8]) -> Result<(), NoMemory>
 }
 
 /// Appends a number in decimal. Where memory runs out nothing is appended.
-fn put_number(number: u64, out: &mut Vec<u8>) -> Result<(), NoMemory>
+pub fn put_number(number: u64, out: &mut Vec<u8>) -> Result<(), NoMemory>
     ensures ok { OnOk result (out.new.items ≡ out.old.items ++ decimal number) }
     ensures err { OnErr result (out.new.items ≡ out.old.items) }
 {
@@ -167,7 +169,7 @@ fn put_words(words: &Words, out: &mut Vec<u8>) -> Result<(), NoMemory>
     Ok(())
 }
 
-fn put_shown(value: &Value, out: &mut Vec<u8>) -> Result<(), NoMemory>
+pub fn put_shown(value: &Value, out: &mut Vec<u8>) -> Result<(), NoMemory>
     ensures { OnOk result (out.new.items ≡ out.old.items ++ value_text value.now) }
 {
     let mut spelled = Vec::new(*out.allocator());
@@ -262,6 +264,11 @@ fn put_text(line: &Line, out: &mut Vec<u8>) -> Result<(), NoMemory>
         }
         Line::Close(entry, link) => put_entry(*entry, b" close ", link, out),
         Line::Take(entry, link, count) => put_entry_number(*entry, b" take ", link, *count, out),
+        Line::Tick(entry, moment) => {
+            append(out, b"#")?;
+            put_number(*entry, out)?;
+            put_last(b" tick ", *moment, out)
+        }
         Line::Read(link, bytes) => {
             put_named(link, b" < ", out)?;
             put_printed(bytes.as_slice(), out)

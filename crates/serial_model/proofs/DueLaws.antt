@@ -8,7 +8,7 @@ use Rattle.std.proofs.lemmas.List.Folds.{list_any-append}
 use Rattle.resp_value.specs.declared.value.Proto.{Proto}
 use Rattle.resp_value.specs.declared.value.Proto.TheVariants.{Two, Three}
 use Rattle.serial_model.specs.declared.mode.Mode.{Mode}
-use Rattle.serial_model.specs.declared.history.Entry.TheVariants.{Admit, Run, Take, Close}
+use Rattle.serial_model.specs.declared.history.Entry.TheVariants.{Admit, Run, Tick, Take, Close}
 use Rattle.serial_model.specs.Tracking.{Invalidation, push_of, tells, names_key, drop_group}
 use Rattle.serial_model.specs.History.{Sending, Message, sent_to, by_proto, route, routed}
 use Rattle.serial_model.specs.History.{modes, expiry_group, own_group, drops, reply_of, overgrown}
@@ -86,5 +86,7 @@ due_is_sent l (Run id words m) past c key before then due =
           (among_before n c key (routed now last) (overgrown l past id words m)
           (among_routed n c key now last then e)))
     ]
+due_is_sent l (Tick m) past c key before then due =
+    among_routed (length past + 1) c key (modes l past) (expiry_group l past m) before due
 due_is_sent l (Take id max) past c key before then due = absurd (let no : ⊥ = cc in no)
 due_is_sent l (Close id) past c key before then due = absurd (let no : ⊥ = cc in no)

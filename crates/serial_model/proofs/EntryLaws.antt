@@ -12,14 +12,17 @@ use Rattle.command_words.specs.Words.{reading}
 use Rattle.serial_model.specs.declared.mode.Runner.{Runner}
 use Rattle.serial_model.specs.declared.history.Limits.{Limits}
 use Rattle.serial_model.specs.declared.history.Entry.{Entry}
-use Rattle.serial_model.specs.declared.history.Entry.TheVariants.{Admit, Run, Take, Close}
+use Rattle.serial_model.specs.declared.history.Entry.TheVariants.{Admit, Run, Tick, Take, Close}
 use Rattle.serial_model.specs.History.{Sending, End, sends, sent_to, sent, has_ended}
 use Rattle.serial_model.specs.History.{IsLegal, served}
 use Rattle.serial_model.specs.History.{effect_of, ran_over, ran, keyspace, is_admitted}
 use Rattle.serial_model.specs.History.{runner}
-use Rattle.serial_model.specs.Laws.{AreOf}
+use Rattle.serial_model.specs.History.{expired}
+use Rattle.serial_model.specs.Laws.{AreOf, is_among}
+use Rattle.command_words.specs.Expiry.{without_due}
+use Rattle.serial_model.proofs.DueKeys.{not_due_stays}
 use Rattle.serial_model.proofs.ServedRows.{served_cases, data_effect, row_of}
-use Rattle.serial_model.proofs.Streams.{IsLive, live, run_sends_none}
+use Rattle.serial_model.proofs.Streams.{IsLive, live, run_sends_none, tick_sends_none}
 use Rattle.std.proofs.lemmas.Bool.{eqb-true}
 
 -- ---- what is sent
@@ -67,6 +70,9 @@ end_is_last l c (Run id words m) past h ended =
     adds_none l c (Run id words m) past
     (run_sends_none l (length past + 1) c past id words m h.3 h.0
     (λ k. live_other l past c k ended))
+end_is_last l c (Tick m) past h ended =
+    adds_none l c (Tick m) past
+    (tick_sends_none l (length past + 1) c past m h.3 (λ k. live_other l past c k ended))
 end_is_last l c (Take id max) past h ended = adds_none l c (Take id max) past refl
 end_is_last l c (Close id) past h ended =
     adds_none l c (Close id) past
@@ -94,11 +100,14 @@ change_of by words read space m q =
     (sym (data_effect by words c space m is)) ((row_of c space m is).others_stay q))
     (λ fault h. refl) read
 
--- a key that a Run does not signal holds what it held
+-- a key that a Run does not signal, by its deadline or its command, holds what it held
 pub held_same : (l : Limits) (id moment : ℕ) (words : List (List ℕ)) (key : List ℕ)
     (past : List Entry)
+    → is_among (expired l past moment) key ≡ false
     → signals (ran l past id words moment).signalled key ≡ false
     → held_at key (ran l past id words moment).space ≡ held_at key (keyspace l past)
 unfolding ran_over
-held_same l id moment words key past h =
-    change_of (runner l past id) words (reading words) (keyspace l past) moment key h
+held_same l id moment words key past none h =
+    change_of (runner l past id) words (reading words) (without_due moment (keyspace l past)) moment
+    key h
+    ∙ not_due_stays moment (keyspace l past) key none

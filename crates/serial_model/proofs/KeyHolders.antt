@@ -1,23 +1,28 @@
 -- What a step of the table leaves of a key's holders, and that these are told of it.
-use Rattle.std.proofs.Common.{◌≡◌, ℕ, List, [], ◌∷◌, Bool, true, false, cond, length, take, drop}
-use Rattle.std.proofs.Common.{refl, ap, sym, ◌∙◌, arith, inl, inr}
+use Rattle.std.proofs.Common.{◌≡◌, ◌<◌, ◌≤◌, ℕ, List, [], ◌∷◌, ◌++◌, Bool, true, false, cond}
+use Rattle.std.proofs.Common.{length, take, drop}
+use Rattle.std.proofs.Common.{refl, ap, sym, ◌∙◌, arith, inl, inr, None}
 use Rattle.std.specs.Prelude.{◌==◌, ◌&&◌, ◌||◌, not, nat_lt}
 use Prim.Native.Nat.{zero, suc}
 use Rattle.std.specs.List.{list_any}
 use Rattle.std.specs.Str.{bytes_eq}
 use Rattle.std.proofs.lemmas.Slice.Eq.{bytes_eq-Decides}
 use Rattle.std.proofs.lemmas.Bool.{eqb-true, eq-eqb, or_parts, or_left, or_right, or_cases}
-use Rattle.std.proofs.lemmas.Bool.{and_from}
+use Rattle.std.proofs.lemmas.Bool.{and_from, cases_lt}
 use Rattle.std.proofs.lemmas.Bool.Decides.{nat_tests}
 use Rattle.std.proofs.lemmas.List.Folds.{list_any-append}
+use Rattle.command_words.specs.declared.command.Signalled.{Signalled}
+use Rattle.command_words.specs.declared.command.Signalled.TheVariants as signalled
+use Rattle.command_words.specs.Laws.{signals}
 use Rattle.track_table.specs.declared.table.Held.{Held}
 use Rattle.id_set.specs.Ids.{with_id, without_id}
 use Rattle.track_table.specs.Table.{holders_of, is_held, remembered}
 use Rattle.track_table.specs.Table.{without_key, freed_of, without_connection, with_keys}
 use Rattle.track_table.proofs.Orders.{holders_remembered}
 use Rattle.serial_model.specs.Modes.{Memory, Remembers, Forgets}
-use Rattle.serial_model.specs.Tracking.{without_keys, remembering, told_of, group}
-use Rattle.serial_model.specs.Tracking.{drop_group, tells}
+use Rattle.serial_model.specs.Tracking.{without_keys, without_signalled, remembering, told_of}
+use Rattle.serial_model.specs.Tracking.{group, drop_group, told_to, signal_group, ids_where}
+use Rattle.serial_model.specs.Tracking.{tells}
 use Rattle.serial_model.specs.Laws.{is_among, is_forgets}
 
 abbrev pub holds : ℕ → List ℕ → Bool
@@ -96,6 +101,12 @@ module _ (c : ℕ) where
     keys_apart (k ∷ keys) rows h =
         let p = or_parts (bytes_eq key k) (is_among keys key) h in
         keys_apart keys (without_key k rows) p.1 ∙ key_apart k rows p.0
+
+    -- and so do those that a command signals
+    pub signalled_apart : (sig : Signalled) (rows : List Held) → signals sig key ≡ false
+        → holders_of key (without_signalled sig rows) ≡ holders_of key rows
+    signalled_apart (signalled.Keys keys) rows h = keys_apart keys rows h
+    signalled_apart signalled.All rows h = absurd (let no : ⊥ = cc in no)
 
     remembered_keeps : (id : ℕ) (k : List ℕ) (rows : List Held)
         → holds c (holders_of key rows) ≡ true
@@ -232,3 +243,45 @@ module _ (c : ℕ) where
           | false ↦ λ e g. or_right told rest (group_tells keys (without_key k rows) g
               (ap (holds c) (key_apart k rows e) ∙ h))
         ] refl among
+
+    flush_tells : (ids : List ℕ) → holds c ids ≡ true
+        → list_any (tells c key) (told_to None ids) ≡ true
+    flush_tells [] h = absurd (let no : ⊥ = cc in no)
+    flush_tells (x ∷ xs) h = elim (or_cases (x == c) (holds c xs) h) [
+      | inl e ↦ or_left ((x == c) && true) (list_any (tells c key) (told_to None xs))
+          (and_from (x == c) true e refl)
+      | inr e ↦ or_right ((x == c) && true) (list_any (tells c key) (told_to None xs))
+          (flush_tells xs e)
+    ]
+
+    pub signal_tells : (sig : Signalled) (ids : List ℕ) (rows : List Held)
+        → signals sig key ≡ true → holds c (holders_of key rows) ≡ true
+        → (sig ≡ signalled.All → holds c ids ≡ true)
+        → list_any (tells c key) (signal_group sig ids rows) ≡ true
+    signal_tells (signalled.Keys keys) ids rows h held among = group_tells keys rows h held
+    signal_tells signalled.All ids rows h held among = flush_tells ids (among refl)
+
+  holds_append : (xs ys : List ℕ) → holds c (xs ++ ys) ≡ (holds c xs || holds c ys)
+  holds_append xs ys = list_any-append (λ h. h == c) xs ys
+
+  -- an id for which a test holds is among those
+  pub among_ids : (test : ℕ → Bool) (n : ℕ) → 0 < c → c ≤ n → test c ≡ true
+      → holds c (ids_where test n) ≡ true
+  among_ids test zero some le h = absurd (let no : ⊥ = omega (arith, some, le) in no)
+  among_ids test (suc n) some le h = elim (cases_lt n c) [
+    | inl lt ↦
+        let is : suc n ≡ c = omega (arith, lt, le) in
+        ap (λ b. holds c (cond b (ids_where test n ++ suc n ∷ []) (ids_where test n)))
+        (ap test is ∙ h)
+        ∙ holds_append (ids_where test n) (suc n ∷ [])
+        ∙ or_right (holds c (ids_where test n)) (holds c (suc n ∷ []))
+        (or_left (suc n == c) false (eq-eqb (suc n) c is))
+    | inr ge ↦
+        let rest = among_ids test n some ge h in
+        elim (test (suc n)) as (λ b. holds c
+        (cond b (ids_where test n ++ suc n ∷ []) (ids_where test n)) ≡ true) [
+          | true ↦ holds_append (ids_where test n) (suc n ∷ [])
+              ∙ or_left (holds c (ids_where test n)) (holds c (suc n ∷ [])) rest
+          | false ↦ rest
+        ]
+  ]

@@ -1,14 +1,17 @@
 pub mod Tables
 pub mod TableSize
+pub mod DueKeys
 pub mod Streams
 pub mod Others
 pub mod Turning
 pub mod Posts
 pub mod ModeSteps
 pub mod ServedRows
+pub mod Trackers
 pub mod EntryLaws
 pub mod QueryKeys
 pub mod ReadLaws
 pub mod KeyHolders
 pub mod ToldLaws
+pub mod BeforeReply
 pub mod DueLaws

@@ -4,7 +4,7 @@ use Rattle.std.specs.Prelude.{◌==◌}
 use Rattle.std.proofs.lemmas.Bool.Decides.{nat_tests}
 use Rattle.serial_model.specs.declared.history.Limits.{Limits}
 use Rattle.serial_model.specs.declared.history.Entry.{Entry}
-use Rattle.serial_model.specs.declared.history.Entry.TheVariants.{Admit, Run, Take, Close}
+use Rattle.serial_model.specs.declared.history.Entry.TheVariants.{Admit, Run, Tick, Take, Close}
 use Rattle.serial_model.specs.Modes.{first_mode}
 use Rattle.serial_model.specs.History.{admitted, mode, made_of, IsLegal}
 use Rattle.serial_model.specs.Laws.{IsNoRun}
@@ -25,6 +25,7 @@ module _ (l : Limits) where
       → mode l c (entry ∷ past) ≡ mode l c past
   mode_by_own_runs c (Admit id) past h = refl
   mode_by_own_runs c (Run id words m) past h = mode_other c id m words past h
+  mode_by_own_runs c (Tick m) past h = refl
   mode_by_own_runs c (Take id max) past h = refl
   mode_by_own_runs c (Close id) past h = refl
 
@@ -36,5 +37,6 @@ module _ (l : Limits) where
   mode_fresh (Run id words m ∷ past) c h lt =
       let r = mode_fresh past c h.3 lt in let k = connected l past id h.0 in
       grind (arith, nat_tests)
+  mode_fresh (Tick m ∷ past) c h lt = mode_fresh past c h.3 lt
   mode_fresh (Take id max ∷ past) c h lt = mode_fresh past c h.3 lt
   mode_fresh (Close id ∷ past) c h lt = mode_fresh past c h.1 lt

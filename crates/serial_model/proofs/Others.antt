@@ -8,14 +8,16 @@ use Rattle.serial_model.specs.declared.history.Limits.{Limits}
 use Rattle.serial_model.specs.declared.history.Entry.{Entry}
 use Rattle.serial_model.specs.declared.history.Entry.TheVariants as entry
 use Rattle.serial_model.specs.declared.history.BookCall.{BookCall}
-use Rattle.serial_model.specs.declared.history.BookCall.TheVariants.{Admit, Run, Take, Close}
+use Rattle.serial_model.specs.declared.history.BookCall.TheVariants.{Admit, Run, Tick, Take}
+use Rattle.serial_model.specs.declared.history.BookCall.TheVariants.{Close}
 use Rattle.serial_model.specs.History.{admitted, is_admitted, runs_on, gives_on, reads_on}
 use Rattle.serial_model.specs.History.{has_ended}
 use Rattle.serial_model.specs.History.{latest, stream, taken, unsent, runs_of, is_full, sends}
 use Rattle.serial_model.specs.History.{sent_to}
 use Rattle.serial_model.specs.History.{sent_bytes}
 use Rattle.serial_model.specs.Steps.{Turn, book_step, taking, gone, full, unless_full, running}
-use Rattle.serial_model.specs.Steps.{closing}
+use Rattle.serial_model.specs.Steps.{closing, ticking}
+use Rattle.serial_model.specs.History.{expired}
 use Rattle.serial_model.specs.Steps.{admitting}
 use Rattle.serial_model.specs.Laws.{Extends, IsOther}
 use Rattle.serial_model.proofs.Streams.{stream_more, taken_other, ended_other}
@@ -89,6 +91,20 @@ module _ (l : Limits) (c : ℕ) where
         | false ↦ extends_none past
       ]
 
+  ticking_extends : (past : List Entry) (moment : ℕ) (keys : List (List ℕ))
+      → Extends l c past (ticking l past moment keys).past
+  ticking_extends past moment [] = extends_none past
+  ticking_extends past moment (key ∷ keys) =
+      by_limit l past _ (λ t. Extends l c past t.past) (extends_none past)
+      (extends_entry past (entry.Tick moment) (λ h. h) refl refl (λ h. h))
+
+  pub tick_extends : (now : ℕ) (past : List Entry)
+      → Extends l c past (book_step l past (Tick now)).past
+  unfolding book_step
+  tick_extends now past =
+      let moment = max now (latest past) in
+      ticking_extends past moment (expired l past moment)
+
   taking_extends : (id most : ℕ) (past : List Entry) (bytes : List ℕ) → (id == c) ≡ false
       → Extends l c past (taking l past id most bytes).past
   taking_extends id most past [] other = extends_none past
@@ -122,5 +138,6 @@ module _ (l : Limits) (c : ℕ) where
       → Extends l c past (book_step l past call).past
   others_extend past Admit other = admit_extends past
   others_extend past (Run id words now) other = run_extends id now words past other
+  others_extend past (Tick now) other = tick_extends now past
   others_extend past (Take id most) other = take_extends id most past other
   others_extend past (Close id) other = close_extends id past other

@@ -9,7 +9,7 @@ use Rattle.resp_value.specs.declared.value.Proto.{Proto}
 use Rattle.resp_value.specs.declared.value.Value.{Value}
 use Rattle.serial_model.specs.declared.history.Limits.{Limits}
 use Rattle.serial_model.specs.declared.history.Entry.{Entry}
-use Rattle.serial_model.specs.declared.history.Entry.TheVariants.{Admit, Run, Take, Close}
+use Rattle.serial_model.specs.declared.history.Entry.TheVariants.{Admit, Run, Tick, Take, Close}
 use Rattle.serial_model.specs.declared.history.Post.{Post}
 use Rattle.serial_model.specs.History.{Sending, End, sends, sent_to, sent, posts_of, posted}
 use Rattle.serial_model.specs.History.{posted_of}
@@ -146,6 +146,9 @@ end_is_sent l c (Admit id ∷ past) = no_end l c (Admit id) past refl (end_is_se
 end_is_sent l c (Run id words m ∷ past) =
     no_end l c (Run id words m) past refl (end_is_sent l c past)
     (run_no_end l (length past + 1) c id words m past)
+end_is_sent l c (Tick m ∷ past) =
+    no_end l c (Tick m) past refl (end_is_sent l c past)
+    (routed_no_end (length past + 1) c (modes l past) (expiry_group l past m))
 end_is_sent l c (Take id m ∷ past) = no_end l c (Take id m) past refl (end_is_sent l c past) refl
 end_is_sent l c (Close id ∷ past) =
     ap (λ x. cond (id == c) true x) (end_is_sent l c past)

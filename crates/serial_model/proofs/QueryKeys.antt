@@ -120,6 +120,12 @@ of_hincrby (key ∷ field ∷ []) = fault (key ∷ field ∷ [])
 of_hincrby (key ∷ field ∷ n ∷ []) = none (key ∷ field ∷ n ∷ []) _ (number n) (λ i. refl)
 of_hincrby (key ∷ field ∷ n ∷ m ∷ ws) = fault (key ∷ field ∷ n ∷ m ∷ ws)
 
+-- EXISTS of one key; of several it is no query
+of_exists : (ws : List (List ℕ)) → ReadsFirst ws (read_as command.Exists (at_least_one ws))
+of_exists [] = fault []
+of_exists (key ∷ []) = record { is = λ h. refl }
+of_exists (key ∷ k ∷ ws) = record { is = λ h. absurd (let no : ⊥ = cc in no) }
+
 of_strings : (name : List ℕ) (ws : List (List ℕ)) → ReadsFirst ws (string_reading name ws)
 unfolding string_reading
 of_strings name ws =
@@ -165,9 +171,8 @@ of_keys : (name : List ℕ) (ws : List (List ℕ)) → ReadsFirst ws (key_readin
 unfolding key_reading
 of_keys name ws =
     either ws (bytes_eq name (codes "del")) (none ws command.Del (at_least_one ws) (λ a. refl))
-    (either ws (bytes_eq name (codes "exists"))
-    (none ws command.Exists (at_least_one ws) (λ a. refl))
-    (either ws (bytes_eq name (codes "type")) (none ws command.KeyType (one ws) (λ a. refl))
+    (either ws (bytes_eq name (codes "exists")) (of_exists ws)
+    (either ws (bytes_eq name (codes "type")) (of_one command.KeyType ws (λ k. refl))
     (either ws (bytes_eq name (codes "rename"))
     (none ws (λ p. command.Rename p.0 p.1) (two ws) (λ a. refl))
     (either ws (bytes_eq name (codes "expire"))

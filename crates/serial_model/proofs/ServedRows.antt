@@ -1,22 +1,26 @@
--- What is served, case by case, and what each row that is served does: it signals keys, and leaves
--- each key that it does not signal.
+-- What is served, case by case, and what each row that is served does: it signals each key once,
+-- and leaves each key that it does not signal.
 use Rattle.std.proofs.Common.{◌≡◌, ◌∙◌, refl, sym, ap, ℕ, ℤ, List, [], ◌∷◌}
 use Rattle.std.proofs.Common.{Bool, true, false, cond, Option, None, Some, Result, Ok, Err}
-use Rattle.std.proofs.Common.{length, map, inl, inr, ◌⊎◌}
+use Rattle.std.proofs.Common.{length, map, inl, inr, ◌⊎◌, is_some}
 use Rattle.std.specs.Prelude.{pos, negsuc, neg_ℤ, nat_lt, not, ◌==◌, ◌++◌, ◌||◌}
-use Rattle.std.specs.Prelude.{if◌then◌else◌}
-use Rattle.std.specs.FinMap.{get, insert, remove, contains_key, get-insert, get-remove}
+use Rattle.std.specs.Prelude.{if◌then◌else◌, codes}
+use Rattle.std.specs.FinMap.{get, insert, remove, contains_key, empty, get-insert, get-remove}
 use Rattle.std.specs.FinMap.{same_map, slice_cmp-IsAntisymmetric, nat_cmp-IsAntisymmetric}
 use Rattle.std.specs.Cmp.Lexicographic.{nat_list_cmp_total, texts_ties}
 use Rattle.std.specs.Fmt.{signed_decimal}
 use Rattle.std.specs.List.{filter, list_any}
+use Rattle.std.specs.Option.{option_map_or}
 use Rattle.std.specs.Str.{bytes_eq}
 use Rattle.std.proofs.lemmas.Slice.Eq.{bytes_eq-Decides}
 use Rattle.resp_value.specs.declared.value.Value.{Value}
+use Rattle.resp_value.specs.declared.value.Value.TheVariants.{Simple}
 use Rattle.resp_value.specs.Tree.{in_turn}
 use Rattle.command_words.specs.declared.command.Command.{Command}
 use Rattle.command_words.specs.declared.command.Command.TheVariants as command
 use Rattle.command_words.specs.declared.command.TrackOptions.{TrackOptions}
+use Rattle.command_words.specs.declared.command.Signalled.{Signalled}
+use Rattle.command_words.specs.declared.command.Signalled.TheVariants.{Keys, All}
 use Rattle.command_words.specs.declared.command.WordFault.{WordFault}
 use Rattle.command_words.specs.declared.command.WordFault.TheVariants.{Unknown}
 use Rattle.command_words.specs.KeyLists.{each_once}
@@ -25,9 +29,13 @@ use Rattle.command_words.specs.Space.{Content, Text, Fields, Held, Space, conten
 use Rattle.command_words.specs.Space.{deadline_at}
 use Rattle.command_words.specs.Effect.{Effect, replied, wrote, wrong_type}
 use Rattle.command_words.specs.Effect.{not_integer, number_in, sum_in}
-use Rattle.command_words.specs.Effects.{effect, string_effect, hash_effect, read_reply, answer_as}
+use Rattle.command_words.specs.Effects.{effect, string_effect, hash_effect, key_effect, read_reply}
+use Rattle.command_words.specs.Effects.{answer_as, has_row}
 use Rattle.command_words.specs.Hashes.{Pairs, on_fields, put_fields, hset_row, hdel_row}
 use Rattle.command_words.specs.Hashes.{hincrby_row, set_all, remove_all, field_sum, field_set}
+use Rattle.command_words.specs.Keys.{there, remove_each, renamed, expiring, expire_effect}
+use Rattle.command_words.specs.Keys.{expiry_after, expiry_at, rename_effect}
+use Rattle.command_words.specs.Space.{changed_at}
 use Rattle.command_words.specs.Queries.{is_cacheable, reads_as_cacheable, read}
 use Rattle.command_words.specs.Strings.{on_text, getdel_row, append_row, incrby_row, put_all}
 use Rattle.command_words.specs.Strings.{incrby_effect, is_least, or_empty, sets, put_text}
@@ -36,32 +44,24 @@ use Rattle.serial_model.specs.declared.mode.Mode.{Mode}
 use Rattle.serial_model.specs.declared.mode.Runner.{Runner}
 use Rattle.serial_model.specs.Modes.{Remembers, own_effect, remembers_read, is_served_tracking}
 use Rattle.serial_model.specs.Tracking.{AreApart}
-use Rattle.serial_model.specs.History.{served, is_served, is_data, gives_no_deadline}
-use Rattle.serial_model.specs.History.{effect_of}
-use Rattle.serial_model.specs.History.{signalled_keys}
+use Rattle.serial_model.specs.History.{served, is_served, effect_of}
 use Rattle.serial_model.specs.Laws.{is_among}
 
 -- ---- what is served
 
--- what is served is HELLO, CLIENT TRACKING, a command on strings or on hashes, or a fault
+-- what is served is HELLO, CLIENT TRACKING, a data command, or a fault
 module _ (P : Result Command WordFault → Type 0)
     (hello : (word : Option (List ℕ)) → P (Ok (command.Hello word)))
     (tracking : (options : TrackOptions) → P (Ok (command.ClientTracking options)))
-    (data_command : (c : Command) → is_data c ≡ true → P (Ok c))
+    (data_command : (c : Command) → has_row c ≡ true → P (Ok c))
     (fault : (f : WordFault) → P (Err f)) where
   pub served_cases : (r : Result Command WordFault) → P (served r)
   served_cases (Ok (command.Hello word)) = hello word
   served_cases (Ok (command.ClientTracking options)) =
       elim (is_served_tracking options) as (λ b. P (cond b (Ok (command.ClientTracking options))
       (Err Unknown))) [ true ↦ tracking options | false ↦ fault Unknown ]
-  served_cases (Ok (command.Set key value when life)) =
-      elim (gives_no_deadline life) as (λ b. P (cond b (Ok (command.Set key value when life))
-      (Err Unknown))) [
-        | true ↦ data_command (command.Set key value when life) refl
-        | false ↦ fault Unknown
-      ]
   served_cases (Ok c) =
-      elim (is_data c) as (λ b. is_data c ≡ b → P (cond b (Ok c) (Err Unknown))) [
+      elim (has_row c) as (λ b. has_row c ≡ b → P (cond b (Ok c) (Err Unknown))) [
         | true ↦ λ e. data_command c e
         | false ↦ λ e. fault Unknown
       ] refl
@@ -79,7 +79,7 @@ served_is (Ok c) h =
 served_is (Err f) h = refl
 
 module _ (by : Runner) (words : List (List ℕ)) where
-  pub data_effect : (c : Command) (s : Space) (moment : ℕ) → is_data c ≡ true
+  pub data_effect : (c : Command) (s : Space) (moment : ℕ) → has_row c ≡ true
       → effect_of by words (Ok c) s moment ≡ effect c s moment
   data_effect (command.Hello word) s moment h = absurd (let no : ⊥ = cc in no)
   data_effect (command.ClientTracking options) s moment h = absurd (let no : ⊥ = cc in no)
@@ -88,7 +88,7 @@ module _ (by : Runner) (words : List (List ℕ)) where
   -- a cacheable query is answered, and nothing changes
   pub query_effect : (r : Result Command WordFault) (s : Space) (moment : ℕ)
       → reads_as_cacheable r ≡ true → effect_of by words r s moment ≡ replied (answer_as r s) s
-  unfolding effect string_effect hash_effect read_reply
+  unfolding effect string_effect hash_effect key_effect read_reply
   query_effect (Ok (command.Get key)) s moment h = refl
   query_effect (Ok (command.StrLen key)) s moment h = refl
   query_effect (Ok (command.GetRange key a b)) s moment h = refl
@@ -99,18 +99,20 @@ module _ (by : Runner) (words : List (List ℕ)) where
   query_effect (Ok (command.HExists key field)) s moment h = refl
   query_effect (Ok (command.HKeys key)) s moment h = refl
   query_effect (Ok (command.HVals key)) s moment h = refl
+  query_effect (Ok (command.Exists keys)) s moment h = refl
+  query_effect (Ok (command.KeyType key)) s moment h = refl
   query_effect (Ok _) s moment h = absurd (let no : ⊥ = cc in no)
   query_effect (Err f) s moment h = absurd (let no : ⊥ = cc in no)
 
--- a command on strings or hashes leaves its connection's mode, which remembers what it reads
-pub data_own : (c : Command) (mode : Mode) → is_data c ≡ true
+-- a data command leaves its connection's mode, which remembers what it reads
+pub data_own : (c : Command) (mode : Mode) → has_row c ≡ true
     → own_effect (Ok c) mode
     ≡ record { mode = mode; memory = Remembers (if remembers_read mode then read c else []) }
 data_own (command.Hello word) mode h = absurd (let no : ⊥ = cc in no)
 data_own (command.ClientTracking options) mode h = absurd (let no : ⊥ = cc in no)
 data_own _ mode h = refl
 
-pub query_data : (c : Command) → is_cacheable c ≡ true → is_data c ≡ true
+pub query_data : (c : Command) → is_cacheable c ≡ true → has_row c ≡ true
 query_data (command.Get key) h = refl
 query_data (command.StrLen key) h = refl
 query_data (command.GetRange key a b) h = refl
@@ -121,21 +123,26 @@ query_data (command.HLen key) h = refl
 query_data (command.HExists key field) h = refl
 query_data (command.HKeys key) h = refl
 query_data (command.HVals key) h = refl
+query_data (command.Exists keys) h = refl
+query_data (command.KeyType key) h = refl
 query_data _ h = absurd (let no : ⊥ = cc in no)
 
 -- ---- what a row does
 
+-- the keys that are signalled by name
+abbrev pub signalled_keys : Signalled → List (List ℕ)
+signalled_keys (Keys keys) = keys
+signalled_keys All = []
+
 pub record Row (s : Space) (e : Effect) : Type 0 where
-  pub signals_keys : (q : List ℕ) → signals e.signalled q ≡ is_among (signalled_keys e.signalled) q
   pub apart : AreApart (signalled_keys e.signalled)
   pub others_stay : (q : List ℕ) → signals e.signalled q ≡ false → held_at q e.space ≡ held_at q s
 
 -- where a row signals no key, nothing changes
-pub quiet_stays : (s : Space) (e : Effect) → Row s e → signalled_keys e.signalled ≡ []
-    → e.space ≡ s
+pub quiet_stays : (s : Space) (e : Effect) → Row s e → e.signalled ≡ Keys [] → e.space ≡ s
 quiet_stays s e row none =
     same_map nat_list_cmp_total (slice_cmp-IsAntisymmetric nat_cmp-IsAntisymmetric) _ _
-    (λ q. row.others_stay q (row.signals_keys q ∙ ap (λ keys. is_among keys q) none))
+    (λ q. row.others_stay q (ap (λ sig. signals sig q) none))
 
 left_false : (b c : Bool) → (b || c) ≡ false → b ≡ false
 left_false true c e = absurd (let no : ⊥ = cc in no)
@@ -147,7 +154,7 @@ right_false false c e = e
 
 module _ {s : Space} where
   none : {reply : Value} → Row s (replied reply s)
-  none = record { signals_keys = λ q. refl; apart = tt; others_stay = λ q apart. refl }
+  none = record { apart = tt; others_stay = λ q apart. refl }
 
   either : (b : Bool) {x y : Effect} → Row s x → Row s y → Row s (if b then x else y)
   either true one other = one
@@ -177,7 +184,6 @@ module _ (s : Space) (k : List ℕ) where
   -- one key is put
   put : {reply : Value} (held : Held) → Row s (wrote reply (k ∷ []) (insert s k held))
   put held = record {
-    signals_keys = λ q. refl;
     apart = (refl, tt);
     others_stay = λ q apart. put_other held q (left_false (bytes_eq q k) false apart);
   }
@@ -185,13 +191,21 @@ module _ (s : Space) (k : List ℕ) where
   -- one key goes
   gone : {reply : Value} → Row s (wrote reply (k ∷ []) (remove s k))
   gone = record {
-    signals_keys = λ q. refl;
     apart = (refl, tt);
     others_stay = λ q apart.
         get-remove nat_list_cmp_total s k q
         ∙ ap (λ b. cond b None (get s q))
         (sym (texts_ties q k) ∙ left_false (bytes_eq q k) false apart);
   }
+
+  -- what one key holds is changed, if it is there
+  change : {reply : Value} (f : Held → Held) → Row s (wrote reply (k ∷ []) (changed_at k f s))
+  change {reply} f =
+      elim (get s k) as (λ h. Row s (wrote reply (k ∷ [])
+      (option_map_or (λ held. insert s k (f held)) h s))) [
+        | None ↦ record { apart = (refl, tt); others_stay = λ q apart. refl }
+        | Some held ↦ put (f held)
+      ]
 
   put_hash : {reply : Value} (fs : Pairs) → Row s (wrote reply (k ∷ []) (put_fields k fs s))
   put_hash [] = gone
@@ -283,11 +297,108 @@ once_apart (k ∷ keys) = (
   apart_still (λ x. not (bytes_eq x k)) (each_once keys) (once_apart keys),
 )
 
+-- a key that passes a test and is none of those that pass it is none of them all
+passed : (p : List ℕ → Bool) (q : List ℕ) (keys : List (List ℕ)) → p q ≡ true
+    → is_among (filter p keys) q ≡ false → is_among keys q ≡ false
+passed p q [] is h = refl
+passed p q (x ∷ keys) is h =
+    elim (p x) as (λ b. p x ≡ b → is_among (cond b (x ∷ filter p keys) (filter p keys)) q ≡ false
+    → is_among (x ∷ keys) q ≡ false) [
+      | true ↦ λ e g.
+          ap (λ b. b || is_among keys q) (left_false (bytes_eq q x) _ g)
+          ∙ passed p q keys is (right_false (bytes_eq q x) _ g)
+      | false ↦ λ e g.
+          ap (λ b. b || is_among keys q) (other e) ∙ passed p q keys is g
+    ] refl h
+  where
+    other : p x ≡ false → bytes_eq q x ≡ false
+    other e =
+        elim (bytes_eq q x) as (λ b. bytes_eq q x ≡ b → b ≡ false) [
+          | true ↦ λ same.
+              let no : p q ≡ false = ap p ((bytes_eq-Decides q x).0 same) ∙ e in
+              absurd (let clash : true ≡ false = sym is ∙ no in cc)
+          | false ↦ λ same. refl
+        ] refl
+
+-- keys go
+get_removed : (keys : List (List ℕ)) (s : Space) (q : List ℕ)
+    → held_at q (remove_each keys s) ≡ cond (is_among keys q) None (held_at q s)
+get_removed [] s q = refl
+get_removed (k ∷ keys) s q =
+    get_removed keys (remove s k) q
+    ∙ ap (cond (is_among keys q) None)
+    (get-remove nat_list_cmp_total s k q
+    ∙ ap (λ b. cond b None (get s q)) (sym (texts_ties q k)))
+    ∙ by (bytes_eq q k) (is_among keys q)
+  where
+    by : (a b : Bool) → cond b None (cond a None (get s q)) ≡ cond (a || b) None (get s q)
+    by true true = refl
+    by true false = refl
+    by false b = refl
+
+del : {reply : Value} (keys : List (List ℕ)) (s : Space)
+    → Row s (wrote reply (there keys s) (remove_each keys s))
+del keys s = record {
+  apart = apart_still (contains_key s) (each_once keys) (once_apart keys);
+  others_stay = λ q apart. get_removed keys s q ∙ others q apart (held_at q s) refl;
+}
+  where
+    missing : (b : Bool) (h : Option Held) → h ≡ None → cond b None h ≡ h
+    missing true h e = sym e
+    missing false h e = refl
+
+    others : (q : List ℕ) → is_among (there keys s) q ≡ false → (h : Option Held)
+        → held_at q s ≡ h → cond (is_among keys q) None h ≡ h
+    others q apart None e = missing (is_among keys q) None refl
+    others q apart (Some held) e =
+        ap (λ b. cond b None (Some held))
+        (none_of q keys (passed (contains_key s) q (each_once keys) (ap is_some e) apart))
+
+rename : {reply : Value} (a b : List ℕ) (s : Space) → bytes_eq a b ≡ false
+    → Row s (wrote reply (a ∷ b ∷ []) (renamed a b s))
+rename {reply} a b s other = record {
+  apart = (ap (λ x. x || false) other, (refl, tt));
+  others_stay = λ q apart. moved q (left_false (bytes_eq q a) _ apart)
+      (left_false (bytes_eq q b) false (right_false (bytes_eq q a) _ apart)) (held_at a s);
+}
+  where
+    moved : (q : List ℕ) → bytes_eq q a ≡ false → bytes_eq q b ≡ false → (h : Option Held)
+        → held_at q (option_map_or (λ held. insert (remove s a) b held) h s) ≡ held_at q s
+    moved q not_a not_b None = refl
+    moved q not_a not_b (Some held) =
+        put_other (remove s a) b held q not_b
+        ∙ get-remove nat_list_cmp_total s a q
+        ∙ ap (λ x. cond x None (get s q)) (sym (texts_ties q a) ∙ not_a)
+
+renames : (a b : List ℕ) (s : Space) → Row s (rename_effect a b s)
+renames a b s =
+    either (contains_key s a)
+    (elim (bytes_eq a b) as (λ x. bytes_eq a b ≡ x
+    → Row s (cond x (replied (Simple (codes "OK")) s)
+    (wrote (Simple (codes "OK")) (a ∷ b ∷ []) (renamed a b s)))) [
+      | true ↦ λ e. none
+      | false ↦ λ e. rename a b s e
+    ] refl)
+    none
+
+expire_to : {reply : Value} (key : List ℕ) (expiry : Option ℕ) (s : Space)
+    → Row s (wrote reply (key ∷ []) (expiring key expiry s))
+expire_to key None s = gone s key
+expire_to key (Some deadline) s =
+    change s key (λ held. record held { deadline = Some deadline })
+
+expires : (key : List ℕ) (expiry : Option ℕ) (s : Space) → Row s (expire_effect key expiry s)
+expires key expiry s = either (contains_key s key) (expire_to key expiry s) none
+
+-- all keys go
+flushed : {reply : Value} (s : Space)
+    → Row s (record { space = empty; reply = reply; signalled = All })
+flushed s = record { apart = tt; others_stay = λ q apart. absurd (let no : ⊥ = cc in no) }
+
 -- keys are put in turn
 puts : {reply : Value} (ps : List (List ℕ × List ℕ)) (s : Space)
     → Row s (wrote reply (each_once (map (λ p. p.0) ps)) (put_all ps s))
 puts ps s = record {
-  signals_keys = λ q. refl;
   apart = once_apart (map (λ p. p.0) ps);
   others_stay = λ q apart. puts_other q ps s (none_of q (map (λ p. p.0) ps) apart);
 }
@@ -316,8 +427,8 @@ hincr : (key field : List ℕ) (sum : Result ℤ Value) (fs : Pairs) (s : Space)
 hincr key field (Ok n) fs s = put_hash s key (field_set field (signed_decimal n) fs)
 hincr key field (Err error) fs s = none
 
-pub row_of : (c : Command) (s : Space) (moment : ℕ) → is_data c ≡ true → Row s (effect c s moment)
-unfolding effect string_effect hash_effect
+pub row_of : (c : Command) (s : Space) (moment : ℕ) → has_row c ≡ true → Row s (effect c s moment)
+unfolding effect string_effect hash_effect key_effect
 row_of (command.Get key) s moment h = none
 row_of (command.Set key value when life) s moment h =
     either (sets when (contains_key s key))
@@ -358,12 +469,28 @@ row_of (command.HVals key) s moment h = none
 row_of (command.HIncrBy key field n) s moment h =
     fields (content_at key s) (λ fs. hincrby_row key field (field_sum field n fs) fs s)
     (λ fs. hincr key field (field_sum field n fs) fs s)
+row_of (command.Del keys) s moment h = del keys s
+row_of (command.Exists keys) s moment h = none
+row_of (command.KeyType key) s moment h = none
+row_of (command.Rename a b) s moment h = renames a b s
+row_of (command.Expire key n) s moment h = expires key (expiry_after moment 1000 n) s
+row_of (command.PExpire key n) s moment h = expires key (expiry_after moment 1 n) s
+row_of (command.ExpireAt key n) s moment h = expires key (expiry_at moment 1000 n) s
+row_of (command.PExpireAt key n) s moment h = expires key (expiry_at moment 1 n) s
+row_of (command.Ttl key) s moment h = none
+row_of (command.PTtl key) s moment h = none
+row_of (command.Persist key) s moment h =
+    either (is_some (deadline_at key s))
+    (change s key (λ held. record held { deadline = None })) none
+row_of command.DbSize s moment h = none
+row_of (command.FlushAll mode) s moment h = flushed s
+row_of (command.FlushDb mode) s moment h = flushed s
 row_of _ s moment h = absurd (let no : ⊥ = cc in no)
 
 -- a command that signals keys reads none
-pub reads_or_writes : (c : Command) (s : Space) (moment : ℕ) → is_data c ≡ true
-    → (signalled_keys (effect c s moment).signalled ≡ []) ⊎ (read c ≡ [])
-unfolding effect string_effect hash_effect
+pub reads_or_writes : (c : Command) (s : Space) (moment : ℕ) → has_row c ≡ true
+    → ((effect c s moment).signalled ≡ Keys []) ⊎ (read c ≡ [])
+unfolding effect string_effect hash_effect key_effect
 reads_or_writes (command.Get key) s moment h = inl refl
 reads_or_writes (command.StrLen key) s moment h = inl refl
 reads_or_writes (command.GetRange key a b) s moment h = inl refl
@@ -375,8 +502,8 @@ reads_or_writes (command.HLen key) s moment h = inl refl
 reads_or_writes (command.HExists key field) s moment h = inl refl
 reads_or_writes (command.HKeys key) s moment h = inl refl
 reads_or_writes (command.HVals key) s moment h = inl refl
-reads_or_writes (command.Exists keys) s moment h = absurd (let no : ⊥ = cc in no)
-reads_or_writes (command.KeyType key) s moment h = absurd (let no : ⊥ = cc in no)
-reads_or_writes (command.Ttl key) s moment h = absurd (let no : ⊥ = cc in no)
-reads_or_writes (command.PTtl key) s moment h = absurd (let no : ⊥ = cc in no)
+reads_or_writes (command.Exists keys) s moment h = inl refl
+reads_or_writes (command.KeyType key) s moment h = inl refl
+reads_or_writes (command.Ttl key) s moment h = inl refl
+reads_or_writes (command.PTtl key) s moment h = inl refl
 reads_or_writes _ s moment h = inr refl

@@ -12,15 +12,18 @@ use Rattle.std.proofs.lemmas.Bool.{cases_lt}
 use Rattle.std.proofs.lemmas.Bool.Decides.{nat_tests}
 use Rattle.serial_model.specs.declared.history.Limits.{Limits}
 use Rattle.serial_model.specs.declared.history.Entry.{Entry}
-use Rattle.serial_model.specs.declared.history.Entry.TheVariants.{Admit, Run, Take, Close}
+use Rattle.serial_model.specs.declared.history.Entry.TheVariants.{Admit, Run, Tick, Take, Close}
 use Rattle.track_table.specs.declared.table.Held.{Held}
 use Rattle.serial_model.specs.History.{admitted, is_admitted, runs_on, has_ended, made}
 use Rattle.serial_model.specs.History.{signals, expired, table, table_then, table_grown, drops}
 use Rattle.serial_model.specs.History.{expiry_group, own_group, routed, modes, reply_of}
-use Rattle.serial_model.specs.Tracking.{Invalidation, drop_group, without_keys}
+use Rattle.serial_model.specs.History.{is_tracking, tracking, mode}
+use Rattle.serial_model.specs.Tracking.{Invalidation, drop_group}
+use Rattle.serial_model.specs.Tracking.{without_signalled}
 use Rattle.serial_model.specs.History.{End, sends, sent_to, sent, sent_bytes}
 use Rattle.serial_model.specs.History.{sending_bytes, stream, taken, unsent, runs_of, IsLegal}
 use Rattle.serial_model.proofs.Tables.{AllRows, AllTo, all_rows, all_to, without_keys_all, kept_all}
+use Rattle.serial_model.proofs.Tables.{AllIn, ids_all, without_signalled_all, signal_group_all}
 use Rattle.serial_model.proofs.Tables.{dropped_all, to_append, group_all, drop_group_all}
 use Rattle.serial_model.proofs.Tables.{remembering_all, freed_all, sent_to-append, routed_none}
 
@@ -29,7 +32,7 @@ both_true true true h = absurd (let no : ⊥ = cc in no)
 both_true true false h = (refl, refl)
 both_true false b h = absurd (let no : ⊥ = cc in no)
 
-admitted_id : (past : List Entry) (id : ℕ) → is_admitted past id ≡ true
+pub admitted_id : (past : List Entry) (id : ℕ) → is_admitted past id ≡ true
     → (0 < id) × (id ≤ admitted past)
 admitted_id past id h = (grind (arith, nat_tests), grind (arith, nat_tests))
 
@@ -58,8 +61,10 @@ module _ (l : Limits) where
       → AllRows (IsLive past) (table_grown l past id words moment)
   grown_live past id words moment on a =
       remembering_all (IsLive past) (IsLive past) id (made l past id words).memory
-      (without_keys (signals l past id words moment) (table_then l past moment)) (live past id on)
-      (without_keys_all (IsLive past) (signals l past id words moment) (table_then l past moment)
+      (without_signalled (signals l past id words moment) (table_then l past moment))
+      (live past id on)
+      (without_signalled_all (IsLive past) (signals l past id words moment)
+      (table_then l past moment)
       (without_keys_all (IsLive past) (expired l past moment) (table l past) a))
 
   admit_live : (past : List Entry) (id h : ℕ) → IsLive past h → IsLive (Admit id ∷ past) h
@@ -80,6 +85,11 @@ module _ (l : Limits) where
   unfolding IsLive
   run_live past id words moment rows a = a
 
+  tick_live : (past : List Entry) (moment : ℕ) (rows : List Held)
+      → AllRows (IsLive past) rows → AllRows (IsLive (Tick moment ∷ past)) rows
+  unfolding IsLive
+  tick_live past moment rows a = a
+
   take_live : (past : List Entry) (id max : ℕ) (rows : List Held)
       → AllRows (IsLive past) rows → AllRows (IsLive (Take id max ∷ past)) rows
   unfolding IsLive
@@ -95,11 +105,26 @@ module _ (l : Limits) where
       run_live past id words moment (table l (Run id words moment ∷ past))
       (kept_all (IsLive past) l.table_max (table_grown l past id words moment)
       (grown_live past id words moment h.0 (table_live past h.3)))
+  table_live (Tick moment ∷ past) h =
+      tick_live past moment (table l (Tick moment ∷ past))
+      (without_keys_all (IsLive past) (expired l past moment) (table l past)
+      (table_live past h.3))
   table_live (Take id max ∷ past) h = take_live past id max (table l past) (table_live past h.3)
   table_live (Close id ∷ past) h =
       all_rows {P = λ k. IsLive past k × ((k == id) ≡ false)} {Q = IsLive (Close id ∷ past)}
       (close_live past id) (table l (Close id ∷ past))
       (freed_all (IsLive past) id (table l past) (table_live past h.1))
+
+  -- those that track have not ended
+  tracking_live : (past : List Entry) (id : ℕ) (words : List (List ℕ)) (moment : ℕ)
+      → AllIn (IsLive past) (tracking l (Run id words moment ∷ past))
+  unfolding IsLive
+  tracking_live past id words moment =
+      ids_all (IsLive past) (is_tracking l (Run id words moment ∷ past)) (admitted past)
+      (λ h some le e. (
+        grind (arith, nat_tests),
+        (both_true (mode l h (Run id words moment ∷ past)).tracking (has_ended l h past) e).1,
+      ))
 
   -- the groups of a Run behind its reply
   abbrev pub behind : List Entry → ℕ → List (List ℕ) → ℕ → List Invalidation
@@ -118,7 +143,9 @@ module _ (l : Limits) where
       let a = table_live past h in
       to_append (IsLive past) (own_group l past id words moment)
       (drop_group (drops l past id words moment))
-      (group_all (IsLive past) (signals l past id words moment) (table_then l past moment)
+      (signal_group_all (IsLive past) (signals l past id words moment)
+      (tracking l (Run id words moment ∷ past)) (table_then l past moment)
+      (tracking_live past id words moment)
       (without_keys_all (IsLive past) (expired l past moment) (table l past) a))
       (drop_group_all (IsLive past) (drops l past id words moment)
       (dropped_all (IsLive past) l.table_max (table_grown l past id words moment)
@@ -156,6 +183,14 @@ module _ (l : Limits) where
       (behind_live past id words moment h on))
       (not_c id (live past id on))
 
+  pub tick_sends_none : (n c : ℕ) (past : List Entry) (moment : ℕ)
+      → IsLegal l past → ((h : ℕ) → IsLive past h → (h == c) ≡ false)
+      → sent_to n c (sends l (Tick moment) past) ≡ []
+  tick_sends_none n c past moment h not_c =
+      routed_none n c (modes l past) (expiry_group l past moment)
+      (all_to {P = IsLive past} {Q = λ k. (k == c) ≡ false} not_c (expiry_group l past moment)
+      (expiry_live past moment h))
+
   -- ---- a connection that was not admitted
 
   fresh_other : (past : List Entry) (c h : ℕ) → admitted past < c → IsLive past h → (h == c) ≡ false
@@ -172,6 +207,10 @@ module _ (l : Limits) where
       (sent_fresh past c h.3 lt)
       ∙ run_sends_none (length past + 1) c past id words moment h.3 h.0
       (λ k. fresh_other past c k lt)
+  sent_fresh (Tick moment ∷ past) c h lt =
+      ap (λ xs. xs ++ sent_to (length past + 1) c (sends l (Tick moment) past))
+      (sent_fresh past c h.3 lt)
+      ∙ tick_sends_none (length past + 1) c past moment h.3 (λ k. fresh_other past c k lt)
   sent_fresh (Take id max ∷ past) c h lt = rw (sent_fresh past c h.3 lt) refl
   sent_fresh (Close id ∷ past) c h lt =
       let r = sent_fresh past c h.1 lt in let k = connected past id h.0 in grind (arith, nat_tests)
@@ -181,6 +220,7 @@ module _ (l : Limits) where
   ended_fresh [] c h lt = refl
   ended_fresh (Admit id ∷ past) c h lt = ended_fresh past c h.2 (omega arith)
   ended_fresh (Run id words moment ∷ past) c h lt = ended_fresh past c h.3 lt
+  ended_fresh (Tick moment ∷ past) c h lt = ended_fresh past c h.3 lt
   ended_fresh (Take id max ∷ past) c h lt = ended_fresh past c h.3 lt
   ended_fresh (Close id ∷ past) c h lt =
       let r = ended_fresh past c h.1 lt in let k = connected past id h.0 in grind (arith, nat_tests)
@@ -207,6 +247,7 @@ module _ (l : Limits) where
   runs_fresh (Admit id ∷ past) c h lt = runs_fresh past c h.2 (omega arith)
   runs_fresh (Run id words moment ∷ past) c h lt =
       let r = runs_fresh past c h.3 lt in let k = connected past id h.0 in grind (arith, nat_tests)
+  runs_fresh (Tick moment ∷ past) c h lt = runs_fresh past c h.3 lt
   runs_fresh (Take id max ∷ past) c h lt = runs_fresh past c h.3 lt
   runs_fresh (Close id ∷ past) c h lt = runs_fresh past c h.1 lt
 
@@ -250,6 +291,10 @@ module _ (l : Limits) where
   run_bytes past id words moment c =
       sent_bytes (sent_to (length past + 1) c (sends l (Run id words moment) past))
 
+  -- the bytes that a Tick sends to a connection
+  abbrev pub tick_bytes : List Entry → ℕ → ℕ → List ℕ
+  tick_bytes past moment c = sent_bytes (sent_to (length past + 1) c (sends l (Tick moment) past))
+
   -- ---- what was taken
 
   -- no more was taken than was sent
@@ -265,6 +310,15 @@ module _ (l : Limits) where
         r,
         length-append (stream l c past) (sent_bytes
             (sent_to (length past + 1) c (sends l (Run id words moment) past))),
+      ))
+  taken_le (Tick moment ∷ past) c =
+      let r = taken_le past c in
+      rw (stream_more past c (Tick moment))
+      (omega (
+        arith,
+        r,
+        length-append (stream l c past) (sent_bytes
+            (sent_to (length past + 1) c (sends l (Tick moment) past))),
       ))
   taken_le (Take id max ∷ past) c = let r = taken_le past c in
       rw (stream_take past c id max)
@@ -313,6 +367,12 @@ module _ (l : Limits) where
   unsent_run past c id moment words live =
       unsent_more past c (Run id words moment) (run_bytes past id words moment c) live refl refl
       (stream_more past c (Run id words moment))
+
+  pub unsent_tick : (past : List Entry) (c moment : ℕ) → has_ended l c past ≡ false
+      → unsent l c (Tick moment ∷ past) ≡ unsent l c past ++ tick_bytes past moment c
+  unsent_tick past c moment live =
+      unsent_more past c (Tick moment) (tick_bytes past moment c) live refl refl
+      (stream_more past c (Tick moment))
 
   pub unsent_ended : (past : List Entry) (c : ℕ) → has_ended l c past ≡ true → unsent l c past ≡ []
   unfolding unsent

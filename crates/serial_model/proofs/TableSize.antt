@@ -9,8 +9,10 @@ use Rattle.track_table.specs.declared.table.Held.{Held}
 use Rattle.track_table.specs.Table.{is_held, without_key, freed_of, without_connection, kept}
 use Rattle.serial_model.specs.declared.history.Limits.{Limits}
 use Rattle.serial_model.specs.declared.history.Entry.{Entry}
-use Rattle.serial_model.specs.declared.history.Entry.TheVariants.{Admit, Run, Take, Close}
-use Rattle.serial_model.specs.Tracking.{without_keys}
+use Rattle.serial_model.specs.declared.history.Entry.TheVariants.{Admit, Run, Tick, Take, Close}
+use Rattle.command_words.specs.declared.command.Signalled.{Signalled}
+use Rattle.command_words.specs.declared.command.Signalled.TheVariants as signalled
+use Rattle.serial_model.specs.Tracking.{without_keys, without_signalled}
 use Rattle.serial_model.specs.History.{table, table_then, table_grown, expired}
 
 module _ (p : Held → Bool) where
@@ -38,6 +40,11 @@ without_keys_within (key ∷ keys) rows =
     let f = filter_within (λ r. not (bytes_eq key r.key)) rows in
     let g = without_keys_within keys (without_key key rows) in omega arith
 
+pub without_signalled_within : (sig : Signalled) (rows : List Held)
+    → length (without_signalled sig rows) ≤ length rows
+without_signalled_within (signalled.Keys keys) rows = without_keys_within keys rows
+without_signalled_within signalled.All rows = omega arith
+
 module _ (l : Limits) where
   kept_within : (limit : ℕ) (rows : List Held) → length (kept limit rows) ≤ limit
   kept_within limit rows =
@@ -47,6 +54,9 @@ module _ (l : Limits) where
   table_within [] = omega arith
   table_within (Admit id ∷ past) = table_within past
   table_within (Run id words m ∷ past) = kept_within l.table_max (table_grown l past id words m)
+  table_within (Tick m ∷ past) =
+      let w = table_within past in
+      let f = without_keys_within (expired l past m) (table l past) in omega arith
   table_within (Take id max ∷ past) = table_within past
   table_within (Close id ∷ past) =
       let w = table_within past in let f = without_within id (table l past) in omega arith

@@ -1,11 +1,13 @@
 -- What holds of all holders of all remembered keys, and so of all who are told.
-use Rattle.std.proofs.Common.{◌≡◌, ◌-◌, ℕ, zero, suc, List, [], ◌∷◌, ◌++◌}
-use Rattle.std.proofs.Common.{Bool, true, false}
+use Rattle.std.proofs.Common.{◌≡◌, ◌-◌, ◌<◌, ◌≤◌, ℕ, zero, suc, List, [], ◌∷◌, ◌++◌, arith}
+use Rattle.std.proofs.Common.{Bool, true, false, Option, Some, None}
 use Rattle.std.proofs.Common.{cond, length, map, take, drop, refl, ap, ◌∙◌}
 use Rattle.std.specs.Prelude.{◌==◌, not, filter, nat_lt}
 use Rattle.std.specs.Str.{bytes_eq}
 use Rattle.resp_value.specs.declared.value.Proto.{Proto}
 use Rattle.resp_value.specs.declared.value.Proto.TheVariants.{Two, Three}
+use Rattle.command_words.specs.declared.command.Signalled.{Signalled}
+use Rattle.command_words.specs.declared.command.Signalled.TheVariants as signalled
 use Rattle.track_table.specs.declared.table.Held.{Held}
 use Rattle.id_set.specs.Ids.{with_id, without_id}
 use Rattle.track_table.specs.Table.{is_held, holders_of, remembered}
@@ -13,8 +15,9 @@ use Rattle.track_table.specs.Table.{without_key, freed_of, without_connection, w
 use Rattle.track_table.specs.Table.{dropped, kept}
 use Rattle.serial_model.specs.declared.mode.Mode.{Mode}
 use Rattle.serial_model.specs.Modes.{Memory, Remembers, Forgets}
-use Rattle.serial_model.specs.Tracking.{without_keys, remembering}
+use Rattle.serial_model.specs.Tracking.{without_keys, without_signalled, remembering, ids_where}
 use Rattle.serial_model.specs.Tracking.{Invalidation, told_of, group, drop_group, push_of}
+use Rattle.serial_model.specs.Tracking.{told_to, signal_group}
 use Rattle.serial_model.specs.History.{Sending, Message, sent_to, by_proto, route, routed}
 
 unfoldable pub AllIn : (ℕ → Type 0) → List ℕ → Type 0
@@ -70,7 +73,7 @@ module _ (P : ℕ → Type 0) where
       (r ∷ remembered id key rs)
       (with_holder_all id r.holders p a.0, a.1) (a.0, remembered_all id key rs p a.1)
 
-  with_keys_all : (id : ℕ) (keys : List (List ℕ)) (rows : List Held) → P id → AllRows P rows
+  pub with_keys_all : (id : ℕ) (keys : List (List ℕ)) (rows : List Held) → P id → AllRows P rows
       → AllRows P (with_keys id keys rows)
   with_keys_all id [] rows p a = a
   with_keys_all id (key ∷ keys) rows p a =
@@ -89,6 +92,34 @@ module _ (P : ℕ → Type 0) where
   without_keys_all (key ∷ keys) rows a =
       without_keys_all keys (without_key key rows)
       (filter_all (λ r. not (bytes_eq key r.key)) rows a)
+
+  pub without_signalled_all : (sig : Signalled) (rows : List Held) → AllRows P rows
+      → AllRows P (without_signalled sig rows)
+  unfolding AllRows
+  without_signalled_all (signalled.Keys keys) rows a = without_keys_all keys rows a
+  without_signalled_all signalled.All rows a = tt
+
+  in_append : (xs ys : List ℕ) → AllIn P xs → AllIn P ys → AllIn P (xs ++ ys)
+  unfolding AllIn
+  in_append [] ys a b = b
+  in_append (x ∷ xs) ys a b = (a.0, in_append xs ys a.1 b)
+
+  one_in : (h : ℕ) → P h → AllIn P (h ∷ [])
+  unfolding AllIn
+  one_in h p = (p, tt)
+
+  pub ids_all : (test : ℕ → Bool) (n : ℕ)
+      → ((h : ℕ) → 0 < h → h ≤ n → test h ≡ true → P h) → AllIn P (ids_where test n)
+  unfolding AllIn
+  ids_all test zero f = tt
+  ids_all test (suc n) f =
+      let rest = ids_all test n (λ h some le. f h some (omega (arith, le))) in
+      elim (test (suc n)) as (λ b. test (suc n) ≡ b
+      → AllIn P (cond b (ids_where test n ++ suc n ∷ []) (ids_where test n))) [
+        | true ↦ λ e. in_append (ids_where test n) (suc n ∷ []) rest
+            (one_in (suc n) (f (suc n) (omega arith) (omega arith) e))
+        | false ↦ λ e. rest
+      ] refl
 
   others : ℕ → ℕ → Type 0
   others id h = P h × ((h == id) ≡ false)
@@ -135,10 +166,10 @@ module _ (P : ℕ → Type 0) where
   holders_all key (r ∷ rs) a =
       in_if (bytes_eq key r.key) r.holders (holders_of key rs) a.0 (holders_all key rs a.1)
 
-  told_all : (key : List ℕ) (hs : List ℕ) → AllIn P hs → AllTo P (told_of key hs)
+  told_all : (keys : Option (List (List ℕ))) (hs : List ℕ) → AllIn P hs → AllTo P (told_to keys hs)
   unfolding AllIn AllTo
-  told_all key [] a = tt
-  told_all key (h ∷ hs) a = (a.0, told_all key hs a.1)
+  told_all keys [] a = tt
+  told_all keys (h ∷ hs) a = (a.0, told_all keys hs a.1)
 
   pub to_append : (xs ys : List Invalidation) → AllTo P xs → AllTo P ys → AllTo P (xs ++ ys)
   unfolding AllTo
@@ -151,14 +182,20 @@ module _ (P : ℕ → Type 0) where
   group_all [] rows a = tt
   group_all (key ∷ keys) rows a =
       to_append (told_of key (holders_of key rows)) (group keys (without_key key rows))
-      (told_all key (holders_of key rows) (holders_all key rows a))
+      (told_all (Some (key ∷ [])) (holders_of key rows) (holders_all key rows a))
       (group_all keys (without_key key rows) (filter_all (λ r. not (bytes_eq key r.key)) rows a))
+
+  pub signal_group_all : (sig : Signalled) (ids : List ℕ) (rows : List Held) → AllIn P ids
+      → AllRows P rows → AllTo P (signal_group sig ids rows)
+  signal_group_all (signalled.Keys keys) ids rows here a = group_all keys rows a
+  signal_group_all signalled.All ids rows here a = told_all None ids here
 
   pub drop_group_all : (rows : List Held) → AllRows P rows → AllTo P (drop_group rows)
   unfolding AllTo AllRows
   drop_group_all [] a = tt
   drop_group_all (r ∷ rs) a =
-      to_append (told_of r.key r.holders) (drop_group rs) (told_all r.key r.holders a.0)
+      to_append (told_of r.key r.holders) (drop_group rs)
+      (told_all (Some (r.key ∷ [])) r.holders a.0)
       (drop_group_all rs a.1)
 
 -- what a connection remembers after its command: all others as before

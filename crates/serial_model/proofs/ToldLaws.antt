@@ -1,64 +1,45 @@
 -- Whom an entry tells of a key, and what it leaves of who is to be told.
 use Rattle.std.proofs.Common.{◌≡◌, ◌≤◌, ◌-◌, ℕ, List, [], ◌∷◌, Bool, true, false, cond}
 use Rattle.std.proofs.Common.{length, take, drop, Result, Ok, Err, refl, ap, sym, subst, ◌∙◌, arith}
-use Rattle.std.proofs.Common.{inl, inr}
-use Rattle.std.specs.Prelude.{◌==◌, ◌&&◌, ◌||◌, not}
+use Rattle.std.proofs.Common.{inl, inr, append_assoc}
+use Rattle.std.specs.Prelude.{◌==◌, ◌&&◌, ◌||◌, ◌++◌, not}
+use Rattle.std.proofs.lemmas.Bool.{eqb-true, or_parts}
 use Rattle.std.specs.List.{list_any}
 use Rattle.std.specs.Str.{bytes_eq}
 use Rattle.std.proofs.lemmas.Bool.{and_parts, and_from, or_left, or_right, or_cases, both_ways}
 use Rattle.std.proofs.lemmas.List.Folds.{list_any-append}
 use Rattle.command_words.specs.declared.command.Command.{Command}
 use Rattle.command_words.specs.declared.command.WordFault.{WordFault}
-use Rattle.command_words.specs.Effect.{Effect}
 use Rattle.command_words.specs.Laws as laws
-use Rattle.command_words.specs.Space.{Space}
+use Rattle.command_words.specs.declared.command.Signalled.TheVariants.{All}
 use Rattle.command_words.specs.Words.{reading}
 use Rattle.command_words.specs.Queries.{reads_as_cacheable, key_of, read}
 use Rattle.track_table.specs.declared.table.Held.{Held}
 use Rattle.track_table.specs.Table.{holders_of, without_connection, dropped}
-use Rattle.serial_model.specs.declared.mode.Runner.{Runner}
 use Rattle.serial_model.specs.declared.mode.Mode.{Mode}
 use Rattle.serial_model.specs.declared.history.Limits.{Limits}
 use Rattle.serial_model.specs.declared.history.Entry.{Entry}
-use Rattle.serial_model.specs.declared.history.Entry.TheVariants.{Admit, Run, Take, Close}
+use Rattle.serial_model.specs.declared.history.Entry.TheVariants.{Admit, Run, Tick, Take, Close}
 use Rattle.serial_model.specs.Modes.{Memory, Remembers, Forgets, OwnEffect, own_effect}
 use Rattle.serial_model.specs.Modes.{remembers_read}
-use Rattle.serial_model.specs.Tracking.{without_keys, remembering, drop_group, tells}
-use Rattle.serial_model.specs.History.{effect_of, ran_over, ran, made_of, made, served}
-use Rattle.serial_model.specs.History.{runner, keyspace, mode, has_ended, table, signals}
-use Rattle.serial_model.specs.History.{signalled_keys, table_then, table_grown, own_group, drops}
+use Rattle.serial_model.specs.Tracking.{without_signalled, remembering, drop_group, tells}
+use Rattle.serial_model.specs.History.{made_of, made, served, admitted, is_admitted}
+use Rattle.serial_model.specs.History.{mode, has_ended, table, signals, IsLegal, is_tracking}
+use Rattle.serial_model.specs.History.{tracking, expired, table_then, table_grown, own_group}
+use Rattle.serial_model.specs.History.{expiry_group, drops}
 use Rattle.serial_model.specs.Laws.{is_among, is_told, drops_key}
 use Rattle.serial_model.specs.Laws.{is_forgets, ToldIsDue, ReadIsOwedOrTold, ToldEndsForCause}
 use Rattle.serial_model.proofs.KeyHolders.{holds, keys_apart, remembering_keeps, remembered_own}
 use Rattle.serial_model.proofs.KeyHolders.{dropped_or_kept, drop_tells, group_tells}
-use Rattle.serial_model.proofs.KeyHolders.{without_other}
-use Rattle.serial_model.proofs.TableSize.{without_within, without_keys_within, table_then_within}
-use Rattle.serial_model.proofs.Streams.{not_ended}
-use Rattle.serial_model.proofs.ServedRows.{served_cases, served_is, data_effect, row_of}
-use Rattle.serial_model.proofs.ServedRows.{data_own, query_data}
+use Rattle.serial_model.proofs.KeyHolders.{without_other, signalled_apart, signal_tells, among_ids}
+use Rattle.serial_model.proofs.TableSize.{without_within, table_then_within}
+use Rattle.serial_model.proofs.TableSize.{without_signalled_within}
+use Rattle.serial_model.proofs.Tables.{AllIn, AllRows}
+use Rattle.serial_model.proofs.Streams.{IsLive, not_ended, table_live, admitted_id}
+use Rattle.serial_model.proofs.ServedRows.{served_is, data_own, query_data}
+use Rattle.serial_model.proofs.ModeSteps.{mode_other, mode_own}
+use Rattle.serial_model.proofs.Trackers.{Tracks, table_tracks, flush_keeps}
 use Rattle.serial_model.proofs.QueryKeys.{keys_read, reads_its_key}
-
--- ---- no command that is served signals all
-
-signals_of : (by : Runner) (words : List (List ℕ)) (read : Result Command WordFault)
-    (space : Space) (m : ℕ) (q : List ℕ)
-    → (let does = effect_of by words (served read) space m in
-    laws.signals does.signalled q ≡ is_among (signalled_keys does.signalled) q)
-signals_of by words read space m q =
-    served_cases (λ r. laws.signals (effect_of by words r space m).signalled q
-    ≡ is_among (signalled_keys (effect_of by words r space m).signalled) q)
-    (λ word. refl) (λ options. refl)
-    (λ c is. subst (λ (e : Effect). laws.signals e.signalled q
-    ≡ is_among (signalled_keys e.signalled) q)
-    (sym (data_effect by words c space m is)) ((row_of c space m is).signals_keys q))
-    (λ fault. refl) read
-
-signalled_is_among : (l : Limits) (past : List Entry) (id m : ℕ) (words : List (List ℕ))
-    (key : List ℕ)
-    → laws.signals (ran l past id words m).signalled key ≡ is_among (signals l past id words m) key
-unfolding ran_over
-signalled_is_among l past id m words key =
-    signals_of (runner l past id) words (reading words) (keyspace l past) m key
 
 -- ---- what a command signals or drops
 
@@ -98,30 +79,119 @@ module _ (c : ℕ) (key : List ℕ) where
 
 -- ---- a connection that is told of a key gets its message
 
+-- a holder of a key has what all holders have
+holder_in : (P : ℕ → Type 0) (c : ℕ) (ids : List ℕ) → AllIn P ids → holds c ids ≡ true → P c
+unfolding AllIn
+holder_in P c [] a h = absurd (let no : ⊥ = cc in no)
+holder_in P c (x ∷ xs) a h = elim (or_cases (x == c) (holds c xs) h) [
+  | inl e ↦ subst P (eqb-true x c e) a.0
+  | inr e ↦ holder_in P c xs a.1 e
+]
+
+holder_of : (P : ℕ → Type 0) (c : ℕ) (key : List ℕ) (rows : List Held) → AllRows P rows
+    → holds c (holders_of key rows) ≡ true → P c
+unfolding AllRows
+holder_of P c key [] a h = absurd (let no : ⊥ = cc in no)
+holder_of P c key (r ∷ rs) a h =
+    elim (bytes_eq key r.key)
+    as (λ b. holds c (cond b r.holders (holders_of key rs)) ≡ true → P c) [
+      | true ↦ λ e. holder_in P c r.holders a.0 e
+      | false ↦ λ e. holder_of P c key rs a.1 e
+    ] h
+
+module _ (l : Limits) (past : List Entry) (c : ℕ) (key : List ℕ) (legal : IsLegal l past)
+    (told : is_told l past c key ≡ true) where
+  parts : (not (has_ended l c past) ≡ true) × (holds c (holders_of key (table l past)) ≡ true)
+  parts = and_parts (not (has_ended l c past)) (holds c (holders_of key (table l past))) told
+
+  was_admitted : is_admitted past c ≡ true
+  unfolding IsLive
+  was_admitted =
+      (holder_of (IsLive l past) c key (table l past) (table_live l past legal) parts.1).0
+
+  did_track : (mode l c past).tracking ≡ true
+  unfolding Tracks
+  did_track = holder_of (Tracks l past) c key (table l past) (table_tracks l past) parts.1
+
+  -- a connection that is told of a key tracks after a flush
+  still_tracks : (id moment : ℕ) (words : List (List ℕ)) → signals l past id words moment ≡ All
+      → is_tracking l (Run id words moment ∷ past) c ≡ true
+  still_tracks id moment words all =
+      and_from (mode l c (Run id words moment ∷ past)).tracking (not (has_ended l c past))
+      (ap (λ (m : Mode). m.tracking) (elim (id == c) as (λ b. (id == c) ≡ b
+      → mode l c (Run id words moment ∷ past) ≡ mode l c past) [
+        | true ↦ λ e.
+            mode_own l c id moment words past e
+            ∙ subst (λ i. (made l past i words).mode ≡ mode l i past) (eqb-true id c e)
+            (flush_keeps l past id moment words all)
+        | false ↦ λ e. mode_other l c id moment words past e
+      ] refl) ∙ did_track) parts.0
+
+  among_tracking : (id moment : ℕ) (words : List (List ℕ)) → signals l past id words moment ≡ All
+      → holds c (tracking l (Run id words moment ∷ past)) ≡ true
+  among_tracking id moment words all =
+      let i = admitted_id past c was_admitted in
+      among_ids c (is_tracking l (Run id words moment ∷ past)) (admitted past) i.0 i.1
+      (still_tracks id moment words all)
+
+-- whom a Run tells, group by group
+three_groups : (l : Limits) (past : List Entry) (c : ℕ) (key : List ℕ) (id : ℕ)
+    (words : List (List ℕ)) (m : ℕ)
+    → list_any (tells c key) (expiry_group l past m
+    ++ own_group l past id words m ++ drop_group (drops l past id words m))
+    ≡ (list_any (tells c key) (expiry_group l past m)
+    || (list_any (tells c key) (own_group l past id words m)
+    || list_any (tells c key) (drop_group (drops l past id words m))))
+three_groups l past c key id words m =
+    ap (list_any (tells c key)) (append_assoc (expiry_group l past m) (own_group l past id words m)
+    (drop_group (drops l past id words m)))
+    ∙ list_any-append (tells c key) (expiry_group l past m)
+    (own_group l past id words m ++ drop_group (drops l past id words m))
+    ∙ ap (λ b. list_any (tells c key) (expiry_group l past m) || b)
+    (list_any-append (tells c key) (own_group l past id words m)
+    (drop_group (drops l past id words m)))
+
 pub told_is_due : ToldIsDue
-told_is_due l (Admit id) past c key told h = absurd (let no : ⊥ = cc in no)
-told_is_due l (Run id words m) past c key told h =
-    let held = (and_parts (not (has_ended l c past)) (holds c (holders_of key (table l past)))
-    told).1 in
-    let keys = signals l past id words m in
+told_is_due l (Admit id) past c key legal told h = absurd (let no : ⊥ = cc in no)
+told_is_due l (Run id words m) past c key legal told h =
+    let held = (parts l past c key legal told).1 in
+    let sig = signals l past id words m in
+    let gone = is_among (expired l past m) key in
+    let then = table_then l past m in
+    let first = list_any (tells c key) (expiry_group l past m) in
     let own = list_any (tells c key) (own_group l past id words m) in
     let last = list_any (tells c key) (drop_group (drops l past id words m)) in
-    let signalled = laws.signals (ran l past id words m).signalled key in
+    let signalled = laws.signals sig key in
     let within = table_then_within l past m in
-    let fewer = without_keys_within keys (table_then l past m) in
-    list_any-append (tells c key) (own_group l past id words m)
-    (drop_group (drops l past id words m))
-    ∙ elim signalled as (λ b. signalled ≡ b
-    → (b || drops_key l (Run id words m) past key) ≡ true → (own || last) ≡ true) [
-      | true ↦ λ e f. or_left own last (group_tells c key keys (table_then l past m)
-          (sym (signalled_is_among l past id m words key) ∙ e) held)
-      | false ↦ λ e f. or_right own last (drop_due c key id (made l past id words).memory
-          l.table_max (without_keys keys (table_then l past m))
-          (ap (holds c) (keys_apart c key keys (table_then l past m)
-          (sym (signalled_is_among l past id m words key) ∙ e)) ∙ held) (omega arith) f)
+    let fewer = without_signalled_within sig then in
+    three_groups l past c key id words m
+    ∙ elim gone as (λ b. gone ≡ b
+    → ((b || signalled) || drops_key l (Run id words m) past key) ≡ true
+    → (first || (own || last)) ≡ true) [
+      | true ↦ λ e f. or_left first (own || last)
+          (group_tells c key (expired l past m) (table l past) e held)
+      | false ↦ λ e f.
+          let still = ap (holds c) (keys_apart c key (expired l past m) (table l past) e) ∙ held in
+          or_right first (own || last)
+          (elim signalled as (λ b. signalled ≡ b
+          → (b || drops_key l (Run id words m) past key) ≡ true → (own || last) ≡ true) [
+            | true ↦ λ s g. or_left own last (signal_tells c key sig
+                (tracking l (Run id words m ∷ past)) then s still
+                (among_tracking l past c key legal told id m words))
+            | false ↦ λ s g. or_right own last (drop_due c key id (made l past id words).memory
+                l.table_max (without_signalled sig then)
+                (ap (holds c) (signalled_apart c key sig then s) ∙ still) (omega arith) g)
+          ] refl f)
     ] refl h
-told_is_due l (Take id max) past c key told h = absurd (let no : ⊥ = cc in no)
-told_is_due l (Close id) past c key told h = absurd (let no : ⊥ = cc in no)
+told_is_due l (Tick m) past c key legal told h =
+    group_tells c key (expired l past m) (table l past)
+    (just (is_among (expired l past m) key) h) (parts l past c key legal told).1
+  where
+    just : (b : Bool) → (b || false) ≡ true → b ≡ true
+    just true e = refl
+    just false e = e
+told_is_due l (Take id max) past c key legal told h = absurd (let no : ⊥ = cc in no)
+told_is_due l (Close id) past c key legal told h = absurd (let no : ⊥ = cc in no)
 
 -- ---- a remembered read is owed or told
 
@@ -145,19 +215,21 @@ read_remembers l past c words key cacheable tracks is =
     ∙ ap Remembers (reads_its_key words (sym (ap reads_as_cacheable same) ∙ cacheable))
     ∙ ap (λ k. Remembers (k ∷ [])) is
 
-owed : (ended stays own last : Bool) → ended ≡ false → (stays || last) ≡ true
-    → (((not ended && stays) || (own || last)) || ended) ≡ true
-owed true stays own last live h = absurd (let no : ⊥ = cc in no)
-owed false true own last live h = refl
-owed false false true last live h = refl
-owed false false false true live h = refl
-owed false false false false live h = absurd (let no : ⊥ = cc in no)
+owed : (ended stays first own last : Bool) → ended ≡ false → (stays || last) ≡ true
+    → (((not ended && stays) || (first || (own || last))) || ended) ≡ true
+owed true stays first own last live h = absurd (let no : ⊥ = cc in no)
+owed false true first own last live h = refl
+owed false false true own last live h = refl
+owed false false false true last live h = refl
+owed false false false false true live h = refl
+owed false false false false false live h = absurd (let no : ⊥ = cc in no)
 
 pub read_is_owed_or_told : ReadIsOwedOrTold
 read_is_owed_or_told l c m words past key legal cacheable tracks is =
-    let keys = signals l past c words m in
-    let rows = without_keys keys (table_then l past m) in
+    let sig = signals l past c words m in
+    let rows = without_signalled sig (table_then l past m) in
     let grown = table_grown l past c words m in
+    let first = list_any (tells c key) (expiry_group l past m) in
     let own = list_any (tells c key) (own_group l past c words m) in
     let last = list_any (tells c key) (drop_group (drops l past c words m)) in
     let stays = holds c (holders_of key (drop (length grown - l.table_max) grown)) in
@@ -165,9 +237,8 @@ read_is_owed_or_told l c m words past key legal cacheable tracks is =
     (read_remembers l past c words key cacheable tracks is)
     ∙ remembered_own c key rows in
     ap (λ b. ((not (has_ended l c past) && stays) || b) || has_ended l c past)
-    (list_any-append (tells c key) (own_group l past c words m)
-    (drop_group (drops l past c words m)))
-    ∙ owed (has_ended l c past) stays own last (not_ended l past c legal.0)
+    (three_groups l past c key c words m)
+    ∙ owed (has_ended l c past) stays first own last (not_ended l past c legal.0)
     (kept_or_told c key (length grown - l.table_max) grown remembers)
 
 -- ---- being told ends for a cause
@@ -190,21 +261,33 @@ told_ends_for_cause l (Admit id) past c key told gone =
 told_ends_for_cause l (Run id words m) past c key told gone =
     let parts = and_parts (not (has_ended l c past)) (holds c (holders_of key (table l past)))
     told in
-    let keys = signals l past id words m in
-    let rows = without_keys keys (table_then l past m) in
+    let sig = signals l past id words m in
+    let then = table_then l past m in
+    let rows = without_signalled sig then in
     let memory = (made l past id words).memory in
     let grown = table_grown l past id words m in
     let n = length grown - l.table_max in
-    let signalled = laws.signals (ran l past id words m).signalled key in
+    let left = is_among (expired l past m) key in
+    let signalled = laws.signals sig key in
     let drops_it = list_any (λ r. bytes_eq key r.key) (drops l past id words m) in
-    cause signalled drops_it ((id == c) && is_forgets memory) (has_ended l c past)
+    cause (left || signalled) drops_it ((id == c) && is_forgets memory) (has_ended l c past)
     (λ quiet stays goes_on.
-    let held = ap (holds c) (keys_apart c key keys (table_then l past m)
-    (sym (signalled_is_among l past id m words key) ∙ quiet)) ∙ parts.1 in
+    let q = or_parts left signalled quiet in
+    let held = ap (holds c) (signalled_apart c key sig then q.1
+    ∙ keys_apart c key (expired l past m) (table l past) q.0) ∙ parts.1 in
     let still = stays_told drops_it (holds c (holders_of key (drop n grown))) stays
     (dropped_or_kept c key n grown (remembering_keeps c key id memory rows goes_on held)) in
     both_ways (is_told l (Run id words m ∷ past) c key) gone
     (and_from (not (has_ended l c past)) (holds c (holders_of key (drop n grown))) parts.0 still))
+told_ends_for_cause l (Tick m) past c key told gone =
+    let parts = and_parts (not (has_ended l c past)) (holds c (holders_of key (table l past)))
+    told in
+    let left = is_among (expired l past m) key in
+    cause left false false (has_ended l c past)
+    (λ quiet stays goes_on.
+    both_ways (is_told l (Tick m ∷ past) c key) gone
+    (and_from (not (has_ended l c past)) (holds c (holders_of key (table_then l past m))) parts.0
+    (ap (holds c) (keys_apart c key (expired l past m) (table l past) quiet) ∙ parts.1)))
 told_ends_for_cause l (Take id max) past c key told gone =
     absurd (both_ways (is_told l past c key) gone told)
 told_ends_for_cause l (Close id) past c key told gone =

@@ -2,7 +2,7 @@
 use Rattle.std.proofs.Common.{◌≡◌, ◌+◌, ◌-◌, ℕ, List, [], ◌∷◌, ◌++◌, length, take, drop, min, max}
 use Rattle.std.proofs.Common.{sym, ap, subst, ◌∙◌, refl, arith, true, false, cond, append-nil}
 use Rattle.std.proofs.Common.{append_assoc, inl, inr}
-use Rattle.std.specs.Prelude.{◌==◌, ◌↔◌, ◌<◌}
+use Rattle.std.specs.Prelude.{◌==◌, ◌↔◌, ◌<◌, ◌≤◌}
 use Prim.Native.Nat.{zero, suc}
 use Rattle.std.proofs.lemmas.List.{take-append-le, length-drop}
 use Rattle.std.proofs.Math.Seq.{take-add}
@@ -12,16 +12,18 @@ use Rattle.serial_model.specs.declared.history.Limits.{Limits}
 use Rattle.serial_model.specs.declared.history.Entry.{Entry}
 use Rattle.serial_model.specs.declared.history.Entry.TheVariants as entry
 use Rattle.serial_model.specs.declared.history.BookCall.{BookCall}
-use Rattle.serial_model.specs.declared.history.BookCall.TheVariants.{Admit, Run, Take, Close}
+use Rattle.serial_model.specs.declared.history.BookCall.TheVariants.{Admit, Run, Tick, Take}
+use Rattle.serial_model.specs.declared.history.BookCall.TheVariants.{Close}
 use Rattle.serial_model.specs.declared.history.BookReply.{BookReply}
-use Rattle.serial_model.specs.declared.history.BookReply.TheVariants.{Admitted, Ran, Quiet, Bytes}
-use Rattle.serial_model.specs.declared.history.BookReply.TheVariants.{Closed, Refused}
+use Rattle.serial_model.specs.declared.history.BookReply.TheVariants.{Admitted, Ran, Ticked, Quiet}
+use Rattle.serial_model.specs.declared.history.BookReply.TheVariants.{Bytes, Closed, Refused}
 use Rattle.serial_model.specs.declared.history.BookRefusal.TheVariants.{Gone, HistoryFull, NoMemory}
 use Rattle.serial_model.specs.History.{admitted, runs_on, reads_on, gives_on, has_ended, latest}
 use Rattle.serial_model.specs.History.{stream}
 use Rattle.serial_model.specs.History.{taken, unsent, runs_of, is_full, IsLegal}
 use Rattle.serial_model.specs.Steps.{Turn, taking, gone, full, unless_full, admitting, running}
-use Rattle.serial_model.specs.Steps.{closing}
+use Rattle.serial_model.specs.Steps.{closing, ticking}
+use Rattle.serial_model.specs.History.{expired}
 use Rattle.serial_model.specs.Steps.{book_step, BookStep, Turns, given_by, given, ran_by, answered}
 use Rattle.serial_model.specs.Laws.{IsAdded}
 use Rattle.serial_model.proofs.Streams.{stream_more, stream_take, taken_le, not_ended, unsent_live}
@@ -35,6 +37,7 @@ module _ (l : Limits) where
       → BookStep l past call reply new → P reply new
   by_step P past new call (Admitted e id) does none h =
       subst (λ (t : Turn). P t.reply t.past) h does
+  by_step P past new call (Ticked e) does none h = subst (λ (t : Turn). P t.reply t.past) h does
   by_step P past new call (Ran e) does none h = subst (λ (t : Turn). P t.reply t.past) h does
   by_step P past new call Quiet does none h = subst (λ (t : Turn). P t.reply t.past) h does
   by_step P past new call (Bytes e bytes) does none h =
@@ -101,6 +104,14 @@ module _ (l : Limits) where
       by_limit l past _ (Gives c past (Take id most)) (append-nil (first c past))
       (first_take c id most past (b ∷ bytes) live h)
 
+  gives_tick : (c now moment : ℕ) (past : List Entry) (keys : List (List ℕ))
+      → Gives c past (Tick now) (ticking l past moment keys)
+  unfolding Gives
+  gives_tick c now moment past [] = append-nil (first c past)
+  gives_tick c now moment past (key ∷ keys) =
+      by_limit l past _ (Gives c past (Tick now)) (append-nil (first c past))
+      (first_same c past (entry.Tick moment) refl)
+
   step_gives : (c : ℕ) (past : List Entry) (call : BookCall)
       → Gives c past call (book_step l past call)
   unfolding Gives book_step
@@ -116,6 +127,9 @@ module _ (l : Limits) where
             (first_same c past (entry.Run id words (max now (latest past))) refl)
         | false ↦ append-nil (first c past)
       ]
+  step_gives c past (Tick now) =
+      let moment = max now (latest past) in
+      gives_tick c now moment past (expired l past moment)
   step_gives c past (Take id most) =
       elim (gives_on l past id) as (λ b. gives_on l past id ≡ b
       → Gives c past (Take id most) (cond b
@@ -143,6 +157,7 @@ module _ (l : Limits) where
       → first c past ++ given_by c call (Refused NoMemory) ≡ first c past
   none_given c past Admit = append-nil _
   none_given c past (Run id words now) = append-nil _
+  none_given c past (Tick now) = append-nil _
   none_given c past (Take id most) = append-nil _
   none_given c past (Close id) = append-nil _
 
@@ -177,6 +192,13 @@ module _ (l : Limits) where
   runs_take c id most past (b ∷ bytes) =
       by_limit l past _ (Runs c past (Take id most)) (append-nil _) (append-nil _)
 
+  runs_tick : (c now moment : ℕ) (past : List Entry) (keys : List (List ℕ))
+      → Runs c past (Tick now) (ticking l past moment keys)
+  unfolding Runs
+  runs_tick c now moment past [] = append-nil _
+  runs_tick c now moment past (key ∷ keys) =
+      by_limit l past _ (Runs c past (Tick now)) (append-nil _) (append-nil _)
+
   runs_step : (c : ℕ) (past : List Entry) (call : BookCall)
       → Runs c past call (book_step l past call)
   unfolding Runs book_step
@@ -195,6 +217,9 @@ module _ (l : Limits) where
             ])
         | false ↦ append-nil _
       ]
+  runs_step c past (Tick now) =
+      let moment = max now (latest past) in
+      runs_tick c now moment past (expired l past moment)
   runs_step c past (Take id most) =
       elim (gives_on l past id) as (λ b. Runs c past (Take id most)
       (cond b (taking l past id most (take most (unsent l id past))) (gone past id))) [
@@ -215,6 +240,7 @@ module _ (l : Limits) where
       → runs_of c past ++ ran_by c call (Refused NoMemory) ≡ runs_of c past
   none_ran c past Admit = append-nil _
   none_ran c past (Run id words now) = append-nil _
+  none_ran c past (Tick now) = append-nil _
   none_ran c past (Take id most) = append-nil _
   none_ran c past (Close id) = append-nil _
 
@@ -252,6 +278,13 @@ module _ (l : Limits) where
   take_legal past id most (b ∷ bytes) h on e =
       by_room past _ h (λ room. (on, room, (λ n. absurd (let no : ⊥ = cc in no)), h))
 
+  tick_legal : (past : List Entry) (moment : ℕ) (keys : List (List ℕ)) → IsLegal l past
+      → latest past ≤ moment → expired l past moment ≡ keys
+      → IsLegal l (ticking l past moment keys).past
+  tick_legal past moment [] h le e = h
+  tick_legal past moment (key ∷ keys) h le e =
+      by_room past _ h (λ room. ((λ n. absurd (let no : ⊥ = cc in no)), room, le, h))
+
   -- a turn on a legal history leaves a legal one
   pub step_legal : (past : List Entry) (call : BookCall) → IsLegal l past
       → IsLegal l (book_step l past call).past
@@ -264,6 +297,9 @@ module _ (l : Limits) where
             (λ room. (on, room, omega arith, h))
         | false ↦ λ off. h
       ] refl
+  step_legal past (Tick now) h =
+      let moment = max now (latest past) in
+      tick_legal past moment (expired l past moment) h (omega arith) refl
   step_legal past (Take id most) h =
       elim (gives_on l past id) as (λ b. gives_on l past id ≡ b
       → IsLegal l (cond b (taking l past id most (take most (unsent l id past)))
@@ -300,6 +336,22 @@ module _ (l : Limits) where
   run_full past id now words on none =
       ap (λ v. cond v (unless_full l past (running past id words now)) (gone past id)) on
       ∙ ap (λ v. cond v (full past) (running past id words now)) none
+
+  pub tick_step : (past : List Entry) (now : ℕ) (key : List ℕ) (keys : List (List ℕ))
+      → expired l past (max now (latest past)) ≡ key ∷ keys → is_full l past ≡ false
+      → book_step l past (Tick now)
+      ≡ record {
+        reply = Ticked (length past + 1);
+        past = entry.Tick (max now (latest past)) ∷ past;
+      }
+  unfolding book_step
+  tick_step past now key keys e room =
+      ap (ticking l past (max now (latest past))) e
+      ∙ ap (λ v. cond v (full past)
+      (record {
+        reply = Ticked (length past + 1);
+        past = entry.Tick (max now (latest past)) ∷ past;
+      })) room
 
   pub take_step : (past : List Entry) (id most b : ℕ) (bytes : List ℕ) → gives_on l past id ≡ true
       → is_full l past ≡ false
@@ -352,6 +404,14 @@ module _ (l : Limits) where
   take_added past id most (b ∷ bytes) e some on room =
       ap (λ (t : Turn). t.past) (take_step past id most b bytes on room e)
 
+  tick_added : (past : List Entry) (now : ℕ) (keys : List (List ℕ))
+      → expired l past (max now (latest past)) ≡ keys → (keys ≡ [] → ⊥)
+      → is_full l past ≡ false
+      → (book_step l past (Tick now)).past ≡ entry.Tick (max now (latest past)) ∷ past
+  tick_added past now [] e some room = absurd (some refl)
+  tick_added past now (key ∷ keys) e some room =
+      ap (λ (t : Turn). t.past) (tick_step past now key keys e room)
+
   added : (past : List Entry) → IsLegal l past → IsAdded l past
   added [] h = tt
   added (entry.Admit id ∷ past) h = (
@@ -369,6 +429,14 @@ module _ (l : Limits) where
         ∙ ap (λ m. entry.Run id words m ∷ past) (let e : max moment (latest past)
         ≡ moment = omega arith in e),
   )
+  added (entry.Tick moment ∷ past) h =
+      let e : max moment (latest past) ≡ moment = let le = h.2 in omega (arith, le) in (
+        h.3,
+        Tick moment,
+        tt,
+        tick_added past moment (expired l past moment) (ap (expired l past) e) h.0 h.1
+            ∙ ap (λ m. entry.Tick m ∷ past) e,
+      )
   added (entry.Take id most ∷ past) h = (
     h.3,
     Take id most,

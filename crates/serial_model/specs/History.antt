@@ -1,6 +1,6 @@
 -- What a history says. A past is a list of entries, the newest first; entries, connections and the
 -- runs of words are numbered from 1, and 0 is no number.
-use Rattle.std.specs.Prelude.{◌≡◌, ◌+◌, ◌-◌, ◌≤◌, ◌&&◌, ◌||◌, ◌==◌, ℕ, List, [], ◌∷◌, ◌++◌, Bool}
+use Rattle.std.specs.Prelude.{◌≡◌, ◌+◌, ◌-◌, ◌≤◌, ◌&&◌, ◌==◌, ℕ, List, [], ◌∷◌, ◌++◌, Bool}
 use Rattle.std.specs.Prelude.{true, false, not, if◌then◌else◌, nat_lt, nat_le, length, min, take}
 use Rattle.std.specs.Prelude.{drop}
 use Rattle.std.specs.Prelude.{Ok, Err, Result, codes}
@@ -13,29 +13,27 @@ use Rattle.resp_value.specs.declared.value.Proto.TheVariants.{Two, Three}
 use Rattle.resp_value.specs.ValueTree.{tree_of}
 use Rattle.resp_value.specs.Spelling.{spelling}
 use Rattle.command_words.specs.declared.command.Command.{Command}
-use Rattle.command_words.specs.declared.command.Command.TheVariants.{Set, Hello}
-use Rattle.command_words.specs.declared.command.Command.TheVariants.{ClientTracking}
+use Rattle.command_words.specs.declared.command.Command.TheVariants.{Hello, ClientTracking}
 use Rattle.command_words.specs.declared.command.Signalled.{Signalled}
-use Rattle.command_words.specs.declared.command.Signalled.TheVariants as signalled
-use Rattle.command_words.specs.declared.command.SetLife.{SetLife}
-use Rattle.command_words.specs.declared.command.SetLife.TheVariants.{Cleared, Kept}
 use Rattle.command_words.specs.declared.command.WordFault.{WordFault}
 use Rattle.command_words.specs.declared.command.WordFault.TheVariants.{Unknown}
 use Rattle.command_words.specs.Words.{reading, fault_text}
 use Rattle.command_words.specs.Space.{Space}
 use Rattle.command_words.specs.Effect.{Effect, replied}
-use Rattle.command_words.specs.Effects.{effect, is_string, is_hash}
+use Rattle.command_words.specs.Effects.{effect, has_row}
+use Rattle.command_words.specs.Expiry.{without_due}
 use Rattle.serial_model.specs.declared.mode.Mode.{Mode}
 use Rattle.serial_model.specs.declared.mode.Runner.{Runner}
 use Rattle.track_table.specs.declared.table.Held.{Held}
 use Rattle.track_table.specs.Table.{without_connection, dropped, kept}
 use Rattle.serial_model.specs.Modes.{first_mode, hello, hello_reply, is_served_tracking}
 use Rattle.serial_model.specs.Modes.{OwnEffect, own_effect, Memory}
+use Rattle.serial_model.specs.Deadlines.{due_keys}
 use Rattle.serial_model.specs.Tracking.{Invalidation, group, drop_group, push_of, without_keys}
-use Rattle.serial_model.specs.Tracking.{remembering}
+use Rattle.serial_model.specs.Tracking.{without_signalled, remembering, ids_where, signal_group}
 use Rattle.serial_model.specs.declared.history.Limits.{Limits}
 use Rattle.serial_model.specs.declared.history.Entry.{Entry}
-use Rattle.serial_model.specs.declared.history.Entry.TheVariants.{Admit, Run, Take, Close}
+use Rattle.serial_model.specs.declared.history.Entry.TheVariants.{Admit, Run, Tick, Take, Close}
 use Rattle.serial_model.specs.declared.history.Post.{Post}
 use Rattle.serial_model.specs.declared.history.Posted.{Posted}
 use Rattle.serial_model.specs.declared.history.Posted.TheVariants as posted_as
@@ -45,6 +43,7 @@ abbrev pub admitted : List Entry → ℕ
 admitted [] = 0
 admitted (Admit id ∷ past) = admitted past + 1
 admitted (Run id words moment ∷ past) = admitted past
+admitted (Tick moment ∷ past) = admitted past
 admitted (Take id max ∷ past) = admitted past
 admitted (Close id ∷ past) = admitted past
 
@@ -56,28 +55,18 @@ abbrev pub latest : List Entry → ℕ
 latest [] = 0
 latest (Admit id ∷ past) = latest past
 latest (Run id words moment ∷ past) = moment
+latest (Tick moment ∷ past) = moment
 latest (Take id max ∷ past) = latest past
 latest (Close id ∷ past) = latest past
 
 -- ---- what words do
 
--- SET gives no deadline that the key did not have
-abbrev pub gives_no_deadline : SetLife → Bool
-gives_no_deadline Cleared = true
-gives_no_deadline Kept = true
-gives_no_deadline life = false
-
--- a command on strings or on hashes
-abbrev pub is_data : Command → Bool
-is_data command = is_string command || is_hash command
-
--- the commands that the server runs: those on strings and on hashes, but for SET with a new
--- deadline; HELLO; and CLIENT TRACKING without options
+-- the commands that the server runs: those on strings, on hashes and on keys; HELLO; and CLIENT
+-- TRACKING without options
 abbrev pub is_served : Command → Bool
 is_served (Hello word) = true
 is_served (ClientTracking options) = is_served_tracking options
-is_served (Set key value when life) = gives_no_deadline life
-is_served command = is_data command
+is_served command = has_row command
 
 -- words that read as another are unknown to it
 abbrev pub served : Result Command WordFault → Result Command WordFault
@@ -108,6 +97,7 @@ mode l c [] = first_mode
 mode l c (Admit id ∷ past) = mode l c past
 mode l c (Run id words moment ∷ past) =
     if id == c then (made_of words (mode l c past)).mode else mode l c past
+mode l c (Tick moment ∷ past) = mode l c past
 mode l c (Take id max ∷ past) = mode l c past
 mode l c (Close id ∷ past) = mode l c past
 
@@ -122,43 +112,42 @@ made l past id words = made_of words (mode l id past)
 abbrev pub runner : Limits → List Entry → ℕ → Runner
 runner l past id = record { id = id; mode = mode l id past }
 
--- the keyspace after all entries
+-- the keyspace after all entries: a Run and a Tick first take out the keys that are due
 abbrev pub keyspace : Limits → List Entry → Space
 keyspace l [] = empty
 keyspace l (Admit id ∷ past) = keyspace l past
 keyspace l (Run id words moment ∷ past) =
-    (ran_over (keyspace l past) (runner l past id) words moment).space
+    (ran_over (without_due moment (keyspace l past)) (runner l past id) words moment).space
+keyspace l (Tick moment ∷ past) = without_due moment (keyspace l past)
 keyspace l (Take id max ∷ past) = keyspace l past
 keyspace l (Close id ∷ past) = keyspace l past
 
 -- what a connection's words do after a past, at a moment
 abbrev pub ran : Limits → List Entry → ℕ → List (List ℕ) → ℕ → Effect
-ran l past id words moment = ran_over (keyspace l past) (runner l past id) words moment
+ran l past id words moment =
+    ran_over (without_due moment (keyspace l past)) (runner l past id) words moment
 
 -- ---- what is remembered and told, step by step. A Run goes in this order: keys that are past
 -- their deadline leave, its command runs, keys that it signals are told and forgotten, its
 -- connection remembers what it read, keys past the table's limit are dropped, and connections with
--- too much untaken output end.
+-- too much untaken output end. A Tick has the first of these steps: it remembers no key, so none is
+-- past the table's limit.
 
--- keys that are past their deadline: no command that is served sets one
+-- the keys that are past their deadline, in order
 abbrev pub expired : Limits → List Entry → ℕ → List (List ℕ)
-expired l past moment = []
+expired l past moment = due_keys moment (keyspace l past)
 
--- the keys that a command signals: none that is served signals all
-abbrev pub signalled_keys : Signalled → List (List ℕ)
-signalled_keys (signalled.Keys keys) = keys
-signalled_keys signalled.All = []
-
-abbrev pub signals : Limits → List Entry → ℕ → List (List ℕ) → ℕ → List (List ℕ)
-signals l past id words moment = signalled_keys (ran l past id words moment).signalled
+-- the keys that a command signals, or all
+abbrev pub signals : Limits → List Entry → ℕ → List (List ℕ) → ℕ → Signalled
+signals l past id words moment = (ran l past id words moment).signalled
 
 -- the remembered keys once those that left are forgotten
 abbrev pub after_expiry : List (List ℕ) → List Held → List Held
 after_expiry keys rows = without_keys keys rows
 
 -- the remembered keys once those of a command are forgotten, and it remembers what it read
-abbrev pub after_run : ℕ → Memory → List (List ℕ) → List Held → List Held
-after_run id memory keys rows = remembering id memory (without_keys keys rows)
+abbrev pub after_run : ℕ → Memory → Signalled → List Held → List Held
+after_run id memory signalled rows = remembering id memory (without_signalled signalled rows)
 
 -- the remembered keys after all entries, in order of age
 abbrev pub table : Limits → List Entry → List Held
@@ -168,6 +157,7 @@ table l (Run id words moment ∷ past) =
     kept l.table_max
     (after_run id (made l past id words).memory (signals l past id words moment)
     (after_expiry (expired l past moment) (table l past)))
+table l (Tick moment ∷ past) = after_expiry (expired l past moment) (table l past)
 table l (Take id max ∷ past) = table l past
 table l (Close id ∷ past) = without_connection id (table l past)
 
@@ -179,6 +169,25 @@ abbrev pub table_grown : Limits → List Entry → ℕ → List (List ℕ) → �
 table_grown l past id words moment =
     after_run id (made l past id words).memory (signals l past id words moment)
     (table_then l past moment)
+
+-- ---- who is told
+
+-- the end of a connection
+abbrev pub has_ended : Limits → ℕ → List Entry → Bool
+has_ended l c [] = false
+has_ended l c (Admit id ∷ past) = has_ended l c past
+has_ended l c (Run id words moment ∷ past) = has_ended l c past
+has_ended l c (Tick moment ∷ past) = has_ended l c past
+has_ended l c (Take id max ∷ past) = has_ended l c past
+has_ended l c (Close id ∷ past) = if id == c then true else has_ended l c past
+
+-- a connection that tracks and has not ended
+abbrev pub is_tracking : Limits → List Entry → ℕ → Bool
+is_tracking l past c = (mode l c past).tracking && not (has_ended l c past)
+
+-- the connections that track, in order of their ids
+abbrev pub tracking : Limits → List Entry → List ℕ
+tracking l past = ids_where (is_tracking l past) (admitted past)
 
 -- ---- what is sent
 
@@ -204,7 +213,8 @@ expiry_group l past moment = group (expired l past moment) (table l past)
 
 abbrev pub own_group : Limits → List Entry → ℕ → List (List ℕ) → ℕ → List Invalidation
 own_group l past id words moment =
-    group (signals l past id words moment) (table_then l past moment)
+    signal_group (signals l past id words moment) (tracking l (Run id words moment ∷ past))
+    (table_then l past moment)
 
 abbrev pub drops : Limits → List Entry → ℕ → List (List ℕ) → ℕ → List Held
 drops l past id words moment = dropped l.table_max (table_grown l past id words moment)
@@ -234,6 +244,7 @@ sends l (Run id words moment) past =
     ∷ (routed (modes l (Run id words moment ∷ past))
     (own_group l past id words moment ++ drop_group (drops l past id words moment))
     ++ overgrown l past id words moment)
+sends l (Tick moment) past = routed (modes l past) (expiry_group l past moment)
 sends l (Take id max) past = []
 sends l (Close id) past = (id, End) ∷ []
 
@@ -243,6 +254,7 @@ invalidations l (Admit id) past = []
 invalidations l (Run id words moment) past =
     expiry_group l past moment
     ++ own_group l past id words moment ++ drop_group (drops l past id words moment)
+invalidations l (Tick moment) past = expiry_group l past moment
 invalidations l (Take id max) past = []
 invalidations l (Close id) past = []
 
@@ -290,13 +302,6 @@ posted l (entry ∷ past) = posts_of (length past + 1) (sends l entry past)
 
 -- ---- what a connection may still do
 
-abbrev pub has_ended : Limits → ℕ → List Entry → Bool
-has_ended l c [] = false
-has_ended l c (Admit id ∷ past) = has_ended l c past
-has_ended l c (Run id words moment ∷ past) = has_ended l c past
-has_ended l c (Take id max ∷ past) = has_ended l c past
-has_ended l c (Close id ∷ past) = if id == c then true else has_ended l c past
-
 -- a Run of the connection is accepted
 abbrev pub runs_on : Limits → List Entry → ℕ → Bool
 runs_on l past c = is_admitted past c && not (has_ended l c past)
@@ -314,6 +319,7 @@ abbrev pub taken : Limits → ℕ → List Entry → ℕ
 taken l c [] = 0
 taken l c (Admit id ∷ past) = taken l c past
 taken l c (Run id words moment ∷ past) = taken l c past
+taken l c (Tick moment ∷ past) = taken l c past
 taken l c (Take id max ∷ past) =
     if id == c then taken l c past + min max (length (stream l c past) - taken l c past)
     else taken l c past
@@ -329,6 +335,7 @@ runs_of c [] = []
 runs_of c (Admit id ∷ past) = runs_of c past
 runs_of c (Run id words moment ∷ past) =
     if id == c then runs_of c past ++ words ∷ [] else runs_of c past
+runs_of c (Tick moment ∷ past) = runs_of c past
 runs_of c (Take id max ∷ past) = runs_of c past
 runs_of c (Close id ∷ past) = runs_of c past
 
@@ -338,6 +345,7 @@ run_entries c [] = []
 run_entries c (Admit id ∷ past) = run_entries c past
 run_entries c (Run id words moment ∷ past) =
     if id == c then run_entries c past ++ (length past + 1) ∷ [] else run_entries c past
+run_entries c (Tick moment ∷ past) = run_entries c past
 run_entries c (Take id max ∷ past) = run_entries c past
 run_entries c (Close id ∷ past) = run_entries c past
 
@@ -348,13 +356,17 @@ abbrev pub is_full : Limits → List Entry → Bool
 is_full l past = nat_le l.history_max (length past)
 
 -- each entry is one that a turn adds there: an Admit has the next id; a Run, a Take and a Close are
--- of a connection that may do so; moments never fall; a Take takes something; and the limit is kept
+-- of a connection that may do so; moments never fall; a Tick takes out a key, and a Take takes
+-- something; and the limit is kept
 abbrev pub IsLegal : Limits → List Entry → Type 0
 IsLegal l [] = Unit {0}
 IsLegal l (Admit id ∷ past) =
     (id ≡ admitted past + 1) × (is_full l past ≡ false) × IsLegal l past
 IsLegal l (Run id words moment ∷ past) =
     (runs_on l past id ≡ true) × (is_full l past ≡ false) × (latest past ≤ moment) × IsLegal l past
+IsLegal l (Tick moment ∷ past) =
+    (expired l past moment ≡ [] → ⊥) × (is_full l past ≡ false) × (latest past ≤ moment)
+    × IsLegal l past
 IsLegal l (Take id max ∷ past) =
     (gives_on l past id ≡ true) × (is_full l past ≡ false)
     × (take max (unsent l id past) ≡ [] → ⊥) × IsLegal l past

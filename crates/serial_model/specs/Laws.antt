@@ -1,5 +1,5 @@
 -- What holds of every history that turns make, read off the definitions alone.
-use Rattle.std.specs.Prelude.{◌≡◌, ◌==◌, ◌↔◌, ℕ, List, [], ◌∷◌, ◌++◌, Bool, true, false}
+use Rattle.std.specs.Prelude.{◌≡◌, ◌==◌, ◌↔◌, ◌⊎◌, ℕ, List, [], ◌∷◌, ◌++◌, Bool, true, false}
 use Rattle.std.specs.Prelude.{filter, ◌||◌, ◌&&◌, not}
 use Rattle.std.specs.Prelude.{take, length, All, ◌+◌, Option}
 use Rattle.std.specs.List.{list_any}
@@ -13,7 +13,8 @@ use Rattle.serial_model.specs.declared.history.Entry.{Entry}
 use Rattle.serial_model.specs.declared.history.Entry.TheVariants as entry
 use Rattle.serial_model.specs.declared.history.Post.{Post}
 use Rattle.serial_model.specs.declared.history.BookCall.{BookCall}
-use Rattle.serial_model.specs.declared.history.BookCall.TheVariants.{Admit, Run, Take, Close}
+use Rattle.serial_model.specs.declared.history.BookCall.TheVariants.{Admit, Run, Tick, Take}
+use Rattle.serial_model.specs.declared.history.BookCall.TheVariants.{Close}
 use Rattle.serial_model.specs.declared.history.BookReply.{BookReply}
 use Rattle.serial_model.specs.History.{is_admitted, has_ended, sent, Sending, Message, End}
 use Rattle.serial_model.specs.History.{stream, taken, runs_of, posted, posted_of, IsLegal, mode}
@@ -23,7 +24,7 @@ use Rattle.serial_model.specs.History.{served_reading, protocol, sent_to}
 use Rattle.serial_model.specs.Modes.{Memory, Remembers, Forgets, remembers_read}
 use Rattle.serial_model.specs.Tracking.{tells, names_key, push_of}
 use Rattle.track_table.specs.Table.{holders_of}
-use Rattle.command_words.specs.Queries.{key_of, reads_as_cacheable}
+use Rattle.command_words.specs.Queries.{key_of, reads_as_cacheable, writes}
 use Rattle.command_words.specs.Words.{reading}
 use Rattle.command_words.specs.Effects.{answer}
 use Rattle.serial_model.specs.Steps.{book_step, IsCallable, Turns, given, answered}
@@ -66,6 +67,7 @@ pub record Extends (l : Limits) (c : ℕ) (old new : List Entry) : Type 0 where
 abbrev pub IsNoRun : ℕ → Entry → Type 0
 IsNoRun c (entry.Admit id) = Unit {0}
 IsNoRun c (entry.Run id words moment) = (id == c) ≡ false
+IsNoRun c (entry.Tick moment) = Unit {0}
 IsNoRun c (entry.Take id max) = Unit {0}
 IsNoRun c (entry.Close id) = Unit {0}
 
@@ -79,6 +81,7 @@ ModeByOwnRuns =
 abbrev pub IsOther : ℕ → BookCall → Type 0
 IsOther c Admit = Unit {0}
 IsOther c (Run id words now) = (id == c) ≡ false
+IsOther c (Tick now) = Unit {0}
 IsOther c (Take id most) = (id == c) ≡ false
 IsOther c (Close id) = (id == c) ≡ false
 
@@ -159,6 +162,7 @@ is_among keys key = list_any (bytes_eq key) keys
 abbrev pub signals_key : Limits → Entry → List Entry → List ℕ → Bool
 signals_key l (entry.Run id words moment) past key =
     is_among (expired l past moment) key || signals (ran l past id words moment).signalled key
+signals_key l (entry.Tick moment) past key = is_among (expired l past moment) key
 signals_key l _ past key = false
 
 -- an entry drops a key from the table
@@ -207,9 +211,21 @@ ReadReplies =
 abbrev pub ToldIsDue : Type 0
 ToldIsDue =
     (l : Limits) (entry : Entry) (past : List Entry) (c : ℕ) (key : List ℕ)
-    → is_told l past c key ≡ true
+    → IsLegal l past → is_told l past c key ≡ true
     → (signals_key l entry past key || drops_key l entry past key) ≡ true
     → is_due l entry past c key ≡ true
+
+-- Where a Run's command does not write a key, each query on the key answers as before; or the key
+-- has left at its deadline, and a connection that is told of it is told before the reply.
+abbrev pub BeforeTheReply : Type 0
+BeforeTheReply =
+    (l : Limits) (id moment : ℕ) (words : List (List ℕ)) (past : List Entry) (c : ℕ)
+    (key : List ℕ)
+    → is_told l past c key ≡ true → writes words key ≡ false
+    → ((query : List (List ℕ)) → reads_as_cacheable (reading query) ≡ true → key_of query ≡ key
+    → answer query (keyspace l (entry.Run id words moment ∷ past))
+    ≡ answer query (keyspace l past))
+    ⊎ (list_any (tells c key) (expiry_group l past moment) ≡ true)
 
 -- A push that names the key is among these sendings of an entry.
 pub record PushIsAmong (key : List ℕ) (entry : ℕ) (ss : List (ℕ × Sending)) : Type 0 where

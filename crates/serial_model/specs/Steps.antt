@@ -5,13 +5,14 @@ use Rattle.serial_model.specs.declared.history.Limits.{Limits}
 use Rattle.serial_model.specs.declared.history.Entry.{Entry}
 use Rattle.serial_model.specs.declared.history.Entry.TheVariants as entry
 use Rattle.serial_model.specs.declared.history.BookCall.{BookCall}
-use Rattle.serial_model.specs.declared.history.BookCall.TheVariants.{Admit, Run, Take, Close}
+use Rattle.serial_model.specs.declared.history.BookCall.TheVariants.{Admit, Run, Tick, Take}
+use Rattle.serial_model.specs.declared.history.BookCall.TheVariants.{Close}
 use Rattle.serial_model.specs.declared.history.BookReply.{BookReply}
-use Rattle.serial_model.specs.declared.history.BookReply.TheVariants.{Admitted, Ran, Quiet, Bytes}
-use Rattle.serial_model.specs.declared.history.BookReply.TheVariants.{Closed, Refused}
+use Rattle.serial_model.specs.declared.history.BookReply.TheVariants.{Admitted, Ran, Ticked, Quiet}
+use Rattle.serial_model.specs.declared.history.BookReply.TheVariants.{Bytes, Closed, Refused}
 use Rattle.serial_model.specs.declared.history.BookRefusal.TheVariants.{Gone, HistoryFull, NoMemory}
 use Rattle.serial_model.specs.History.{admitted, runs_on, reads_on, gives_on, latest, unsent}
-use Rattle.serial_model.specs.History.{is_full}
+use Rattle.serial_model.specs.History.{is_full, expired}
 
 -- each limit is at least 1
 pub record AreValid (l : Limits) : Type 0 where
@@ -47,6 +48,16 @@ running past id words now =
       past = entry.Run id words (max now (latest past)) ∷ past;
     }
 
+-- a Tick at a moment at which these keys are due; where none is, it is Quiet and adds no entry
+abbrev pub ticking : Limits → List Entry → ℕ → List (List ℕ) → Turn
+ticking l past moment [] = record { reply = Quiet; past = past }
+ticking l past moment (key ∷ keys) =
+    unless_full l past
+    (record { reply = Ticked (length past + 1); past = entry.Tick moment ∷ past })
+
+abbrev pub tick_at : Limits → List Entry → ℕ → Turn
+tick_at l past moment = ticking l past moment (expired l past moment)
+
 -- nothing to take is Quiet, and adds no entry
 abbrev pub taking : Limits → List Entry → ℕ → ℕ → List ℕ → Turn
 taking l past id most [] = record { reply = Quiet; past = past }
@@ -62,6 +73,7 @@ unfoldable pub book_step : Limits → List Entry → BookCall → Turn
 book_step l past Admit = unless_full l past (admitting past)
 book_step l past (Run id words now) =
     if runs_on l past id then unless_full l past (running past id words now) else gone past id
+book_step l past (Tick now) = tick_at l past (max now (latest past))
 book_step l past (Take id most) =
     if gives_on l past id then taking l past id most (take most (unsent l id past))
     else gone past id
@@ -71,6 +83,7 @@ book_step l past (Close id) = if reads_on l past id then closing past id else go
 abbrev pub AddsEntry : BookReply → Type 0
 AddsEntry (Admitted e id) = Unit {0}
 AddsEntry (Ran e) = Unit {0}
+AddsEntry (Ticked e) = Unit {0}
 AddsEntry Quiet = ⊥
 AddsEntry (Bytes e bytes) = Unit {0}
 AddsEntry (Closed e) = Unit {0}
@@ -80,19 +93,27 @@ AddsEntry (Refused r) = ⊥
 abbrev pub TakesMemory : BookCall → Type 0
 TakesMemory Admit = Unit {0}
 TakesMemory (Run id words now) = Unit {0}
+TakesMemory (Tick now) = Unit {0}
 TakesMemory (Take id most) = Unit {0}
 TakesMemory (Close id) = ⊥
 
--- the turn is the step; or the step would have added an entry, memory ran out, and nothing changed
+-- memory runs out only where the step would have added an entry; at a Tick also before it is known
+-- whether a key is due
+abbrev pub MayRunOut : BookCall → BookReply → Type 0
+MayRunOut (Tick now) reply = Unit {0}
+MayRunOut call reply = AddsEntry reply
+
+-- the turn is the step; or memory ran out, and nothing changed
 abbrev pub BookStep : Limits → List Entry → BookCall → BookReply → List Entry → Type 0
 BookStep l past call (Refused NoMemory) new =
-    (new ≡ past) × AddsEntry (book_step l past call).reply × TakesMemory call
+    (new ≡ past) × MayRunOut call (book_step l past call).reply × TakesMemory call
 BookStep l past call reply new = book_step l past call ≡ record { reply = reply; past = new }
 
 -- a Take takes some bytes
 abbrev pub IsCallable : BookCall → Type 0
 IsCallable Admit = Unit {0}
 IsCallable (Run id words now) = Unit {0}
+IsCallable (Tick now) = Unit {0}
 IsCallable (Take id most) = 0 < most
 IsCallable (Close id) = Unit {0}
 

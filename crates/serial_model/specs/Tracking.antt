@@ -1,12 +1,14 @@
 -- Which keys the connections remember, and whom a change of them is told, in order (the client-side
 -- caching reference; the order inside a group is this project's).
-use Rattle.std.specs.Prelude.{◌≡◌, ◌==◌, ◌&&◌, ℕ, List, [], ◌∷◌, ◌++◌, Bool, true, false}
-use Rattle.std.specs.Prelude.{Option, Some, None, map, codes}
+use Rattle.std.specs.Prelude.{◌≡◌, ◌==◌, ◌&&◌, ℕ, zero, suc, List, [], ◌∷◌, ◌++◌, Bool, true}
+use Rattle.std.specs.Prelude.{false, Option, Some, None, map, codes, if◌then◌else◌}
 use Rattle.std.specs.List.{list_any}
 use Rattle.std.specs.Str.{bytes_eq}
 use Rattle.resp_value.specs.declared.value.Value.{Value}
 use Rattle.resp_value.specs.declared.value.Value.TheVariants.{Push}
 use Rattle.resp_value.specs.Tree.{Tree, blob, array, null, trees_of}
+use Rattle.command_words.specs.declared.command.Signalled.{Signalled}
+use Rattle.command_words.specs.declared.command.Signalled.TheVariants.{Keys, All}
 use Rattle.track_table.specs.declared.table.Held.{Held}
 use Rattle.track_table.specs.Table.{holders_of, with_keys, without_key, without_connection}
 use Rattle.serial_model.specs.Modes.{Memory, Remembers, Forgets}
@@ -16,6 +18,11 @@ use Rattle.serial_model.specs.Modes.{Memory, Remembers, Forgets}
 abbrev pub without_keys : List (List ℕ) → List Held → List Held
 without_keys [] rows = rows
 without_keys (key ∷ keys) rows = without_keys keys (without_key key rows)
+
+-- the remembered keys once those that a command signals are forgotten
+abbrev pub without_signalled : Signalled → List Held → List Held
+without_signalled (Keys keys) rows = without_keys keys rows
+without_signalled All rows = []
 
 -- what a connection remembers after its command
 abbrev pub remembering : ℕ → Memory → List Held → List Held
@@ -29,15 +36,31 @@ pub record Invalidation : Type 0 where
   pub to : ℕ
   pub keys : Option (List (List ℕ))
 
+-- each of these connections is told the same
+abbrev pub told_to : Option (List (List ℕ)) → List ℕ → List Invalidation
+told_to keys [] = []
+told_to keys (id ∷ ids) = record { to = id; keys = keys } ∷ told_to keys ids
+
 -- a key's holders are told of it, one key a message
 abbrev pub told_of : List ℕ → List ℕ → List Invalidation
-told_of key [] = []
-told_of key (id ∷ ids) = record { to = id; keys = Some (key ∷ []) } ∷ told_of key ids
+told_of key ids = told_to (Some (key ∷ [])) ids
 
 -- a group of keys: key by key its holders are told, and then it is forgotten
 abbrev pub group : List (List ℕ) → List Held → List Invalidation
 group [] rows = []
 group (key ∷ keys) rows = told_of key (holders_of key rows) ++ group keys (without_key key rows)
+
+-- those of the first n connections for which a test holds, in order of their ids
+abbrev pub ids_where : (ℕ → Bool) → ℕ → List ℕ
+ids_where test zero = []
+ids_where test (suc n) =
+    if test (suc n) then ids_where test n ++ suc n ∷ [] else ids_where test n
+
+-- the group of what a command signals: of its keys, or of all, which those that track are told by
+-- one message each
+abbrev pub signal_group : Signalled → List ℕ → List Held → List Invalidation
+signal_group (Keys keys) tracking rows = group keys rows
+signal_group All tracking rows = told_to None tracking
 
 -- each key is there once
 abbrev pub AreApart : List (List ℕ) → Type 0

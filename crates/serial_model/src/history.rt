@@ -19,6 +19,8 @@ pub enum Entry {
     Admit { id: u64 },
     /// A connection's request ran, at a moment in milliseconds.
     Run { id: u64, words: Words, moment: u64 },
+    /// Keys whose deadline is before the moment left.
+    Tick { moment: u64 },
     /// A connection took its next bytes, at most so many.
     Take { id: u64, max: u64 },
     /// A connection ended; what it had not taken is given up.
@@ -31,6 +33,8 @@ pub enum BookCall {
     Admit,
     /// `words` is the request, `now` the clock's value in milliseconds.
     Run { id: u64, words: Words, now: u64 },
+    /// `now` is the clock's value in milliseconds.
+    Tick { now: u64 },
     /// `max` is at least 1.
     Take { id: u64, max: u64 },
     /// It takes no memory.
@@ -52,7 +56,8 @@ pub enum BookRefusal {
 pub enum BookReply {
     Admitted { entry: u64, id: u64 },
     Ran { entry: u64 },
-    /// There is nothing to take, and no entry was added.
+    Ticked { entry: u64 },
+    /// There is nothing to take, or no key is due, and no entry was added.
     Quiet,
     Bytes { entry: u64, bytes: Octets },
     Closed { entry: u64 },

@@ -1,12 +1,12 @@
 //! What follows for any list of turns. Each function's contract is the law; none has work to do.
-ghost use Rattle.serial_model.specs.Laws.{ChangeIsSignalled, DueIsSent, EndIsLast};
+ghost use Rattle.serial_model.specs.Laws.{BeforeTheReply, ChangeIsSignalled, DueIsSent, EndIsLast};
 ghost use Rattle.serial_model.specs.Laws.{ReplyBehindExpiry, RunsLive, SentGrows};
 ghost use Rattle.serial_model.specs.Laws.{EachRunOnce, EndIsSent, GivenIsStream, LegalIsAdded};
 ghost use Rattle.serial_model.specs.Laws.{ModeByOwnRuns, OthersExtend, PostedIsSent};
 ghost use Rattle.serial_model.specs.Laws.{PostsAreNumbered, ReadIsOwedOrTold, ReadReplies};
 ghost use Rattle.serial_model.specs.Laws.{ToldEndsForCause, ToldIsDue};
 
-use command_words::law_replies_are_of_keys_read;
+use command_words::{law_replies_are_of_keys_read, law_signals_are_written};
 
 /// After any list of turns on an empty history, the bytes that each connection was given are the
 /// first bytes of what was sent to it.
@@ -86,6 +86,15 @@ pub fn law_read_replies()
 pub fn law_told_is_due()
     ensures { ToldIsDue }
 {}
+
+/// Where a command does not write a key, each query on the key answers as before, or the key has
+/// left at its deadline and a connection that is told of it is told before the reply.
+pub fn law_before_the_reply()
+    ensures { BeforeTheReply }
+{
+    law_replies_are_of_keys_read();
+    law_signals_are_written();
+}
 
 /// On the third protocol a connection is sent a push of each key that an entry tells it of.
 pub fn law_due_is_sent()

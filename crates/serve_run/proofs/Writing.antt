@@ -1,8 +1,7 @@
 -- What is written of a server's run, and what the fault of a net rests on.
-use Rattle.std.proofs.Common.{◌≡◌, ℕ, List, [], ◌++◌, Some, None, Ok, Err, Result, refl, sym, ap}
-use Rattle.std.proofs.Common.{subst, ◌∙◌}
+use Rattle.std.proofs.Common.{◌≡◌, ℕ, List, ◌++◌, Some, None, Ok, Result, refl, sym}
+use Rattle.std.proofs.Common.{subst}
 use Rattle.std.specs.declared.option.Option.{Option}
-use Rattle.std.specs.Io.KnownBytes.{Appends}
 use Rattle.resp_value.proofs.Prefixes.{prefix_by}
 use Rattle.edge_links.specs.declared.counts.Counts.{Counts}
 use Rattle.edge_lines.specs.declared.lines.SinkFailed.{SinkFailed}
@@ -10,9 +9,9 @@ use Rattle.edge_lines.specs.Streams.{AppendsFirst}
 use Rattle.edge_lines.proofs.Bytes.{first_longer}
 use Rattle.conn_pool.specs.declared.serve.Served.{Served}
 use Rattle.serve_run.specs.Runs.{NetGave, Runs}
-use Rattle.serve_run.specs.Written.{NetFailed, RunWrites, WritesRun, end_line}
+use Rattle.serve_run.specs.Written.{NetFailed, WritesRun, end_line}
 use Rattle.serve_run.specs.declared.run.ServeEnd.{ServeEnd}
-use Rattle.serve_run.specs.declared.run.ServeEnd.TheVariants.{Done, NetFault, NoMemory}
+use Rattle.serve_run.specs.declared.run.ServeEnd.TheVariants.{NetFault}
 
 -- the sink failed in the lines of the reports
 pub text_cut : (end : ServeEnd) (text : List ℕ) (old new : Option (List ℕ))

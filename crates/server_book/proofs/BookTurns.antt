@@ -18,8 +18,8 @@ use Rattle.serial_model.specs.declared.history.Entry.TheVariants as entry
 use Rattle.serial_model.specs.declared.history.BookCall.{BookCall}
 use Rattle.serial_model.specs.declared.history.BookCall.TheVariants.{Admit, Run, Take, Close}
 use Rattle.serial_model.specs.declared.history.BookReply.{BookReply}
-use Rattle.serial_model.specs.declared.history.BookReply.TheVariants.{Admitted, Ran, Quiet, Bytes}
-use Rattle.serial_model.specs.declared.history.BookReply.TheVariants.{Closed, Refused}
+use Rattle.serial_model.specs.declared.history.BookReply.TheVariants.{Admitted, Ran, Ticked, Quiet}
+use Rattle.serial_model.specs.declared.history.BookReply.TheVariants.{Bytes, Closed, Refused}
 use Rattle.serial_model.specs.declared.history.Post.{Post}
 use Rattle.serial_model.specs.declared.history.Posted.TheVariants.{End}
 use Rattle.serial_model.specs.History.{admitted, runs_on, gives_on, reads_on, has_ended, latest}
@@ -35,7 +35,7 @@ use Rattle.serial_model.proofs.Streams.{unsent_admit}
 use Rattle.serial_model.proofs.Streams.{unsent_take_own, unsent_take_other}
 use Rattle.server_book.specs.declared.connections.Connection.{Connection}
 use Rattle.server_book.specs.Connections.{IsId, connection_at, with_connection, fresh, is_open}
-use Rattle.server_book.specs.Sendings.{queued, unqueued, message_post, end_post}
+use Rattle.server_book.specs.Sendings.{queued, end_post}
 use Rattle.server_book.specs.Stores.{IsHeld}
 use Rattle.server_book.proofs.Sendings.{at_same, at_other, put_twice}
 use Rattle.server_book.proofs.Remembered.{table_of_past, rows_all}
@@ -80,35 +80,6 @@ switched_is cs id message left on =
     let c = connection_at cs id in
     put_over cs id (record c { queue = c.queue ++ message })
     (λ x. record x { mode = left }) on
-
--- the message is taken back, and the mode put back
-pub undone : (cs : List Connection) (id n : ℕ) (message : List ℕ) (left before : Mode)
-    → IsId cs id → before ≡ (connection_at cs id).mode
-    → (let three = unqueued (message_post n id (length message)) (switched cs id message left) in
-    with_connection three id (record (connection_at three id) { mode = before })) ≡ cs
-undone cs id n message left before on was =
-    let c = connection_at cs id in
-    let sent : Connection = record c { queue = c.queue ++ message; mode = left } in
-    let p = message_post n id (length message) in
-    let unsent : Connection = record sent {
-      queue = take (length sent.queue - length message) sent.queue;
-    } in
-    let back : unqueued p (switched cs id message left) ≡ with_connection cs id unsent =
-    ap (unqueued p) (switched_is cs id message left on)
-    ∙ put_over cs id sent
-    (λ x. record x { queue = take (length x.queue - length message) x.queue }) on in
-    let size : length (c.queue ++ message) - length message ≡ length c.queue =
-    omega (arith, length-append c.queue message) in
-    ap (λ x. with_connection x id (record (connection_at x id) { mode = before })) back
-    ∙ put_over cs id unsent (λ x. record x { mode = before }) on
-    ∙ ap (λ k. with_connection cs id (record c {
-      queue = take k (c.queue ++ message);
-      mode = before;
-    })) size
-    ∙ ap (λ q. with_connection cs id (record c { queue = q; mode = before }))
-    (take-append_seam c.queue message)
-    ∙ ap (λ m. with_connection cs id (record c { mode = m })) was
-    ∙ set-get_or cs (id - 1) fresh
 
 -- ---- room for closes
 
@@ -261,6 +232,8 @@ added : (l : Limits) (past : List Entry) (posts sent : List Post) (e : Entry) (c
 added l past posts sent e call (Admitted n id) adds step is =
     record { limits = refl; step = step; posts = is }
 added l past posts sent e call (Ran n) adds step is =
+    record { limits = refl; step = step; posts = is }
+added l past posts sent e call (Ticked n) adds step is =
     record { limits = refl; step = step; posts = is }
 added l past posts sent e call Quiet adds step is = absurd adds
 added l past posts sent e call (Bytes n bytes) adds step is =

@@ -2,7 +2,7 @@
 use Rattle.std.proofs.Common.{◌≡◌, ◌+◌, ◌<◌, ℕ, List, [], ◌∷◌, ◌++◌, length, take, refl, ap}
 use Rattle.std.proofs.Common.{sym}
 use Rattle.std.proofs.Common.{subst, ◌∙◌, arith, append-nil, append_assoc, false, true}
-use Rattle.std.proofs.Common.{slice_index_or}
+use Rattle.std.proofs.Common.{slice_index_or, Some}
 use Rattle.std.specs.Prelude.{◌||◌}
 use Prim.Native.Nat.{zero, suc}
 use Rattle.std.specs.Str.{bytes_eq}
@@ -98,7 +98,7 @@ rows_there : (cs : List Connection) (rows : List Held) → AreThere cs rows
 rows_there cs [] h = tt
 rows_there cs (r ∷ rows) h =
     told_append cs (told_of r.key r.holders) (drop_group rows)
-    (told_there cs r.key r.holders h.0) (rows_there cs rows h.1)
+    (told_there cs (Some (r.key ∷ [])) r.holders h.0) (rows_there cs rows h.1)
 
 pub each_there : (cs : List Connection) (keys : List (List ℕ)) (rows : List Held)
     → AreThere cs rows → AreThere cs (each_row keys rows)
@@ -117,6 +117,14 @@ row_there cs n [] h = tt
 row_there cs zero (r ∷ rows) h = h.0
 row_there cs (suc n) (r ∷ rows) h = row_there cs n rows h.1
 
+-- a group is told to those that are there
+pub group_to : (cs : List Connection) (keys : List (List ℕ)) (rows : List Held)
+    → AreThere cs rows → AreApart keys → AreTo cs (routed (modes_of cs) (group keys rows))
+group_to cs keys rows there apart =
+    routed_there cs (modes_of cs) (group keys rows)
+    (subst (AreToldThere cs) (sym (group_told keys rows apart))
+    (rows_there cs (each_row keys rows) (each_there cs keys rows there)))
+
 -- what a group was told is taken back
 pub group_back : (n : ℕ) (old now : ConnectionsState) (keys : List (List ℕ)) (rows : List Held)
     → AreThere old.items rows → AreApart keys
@@ -125,9 +133,7 @@ pub group_back : (n : ℕ) (old now : ConnectionsState) (keys : List (List ℕ))
 group_back n old now keys rows there apart told =
     ap (λ (s : ConnectionsState). before_posts s.posts s.items) told
     ∙ before_sendings n (routed (modes_of old.items) (group keys rows)) old
-    (routed_there old.items (modes_of old.items) (group keys rows)
-    (subst (AreToldThere old.items) (sym (group_told keys rows apart))
-    (rows_there old.items (each_row keys rows) (each_there old.items keys rows there))))
+    (group_to old.items keys rows there apart)
 
 routed_append : (m : ℕ → Mode) (xs ys : List Invalidation)
     → routed m (xs ++ ys) ≡ routed m xs ++ routed m ys
@@ -189,7 +195,7 @@ module _ (n : ℕ) (old now : ConnectionsState) (rows : List Held) (k : ℕ)
         ∙ ap (λ x. with_sendings n (routed (modes_of now.items) (told_of row.key x)) now) is
         ∙ ap (λ ss. with_sendings n ss now)
         (routed_same now.items (modes_of now.items) m at_row same_modes
-        (told_there now.items row.key row.holders holders_still))
+        (told_there now.items (Some (row.key ∷ [])) row.holders holders_still))
         ∙ ap (λ s. with_sendings n (routed m at_row) s) told
         ∙ sym (sendings_append n so_far (routed m at_row) old)
         ∙ ap (λ ss. with_sendings n ss old)

@@ -2,6 +2,8 @@ pub mod Refusals
 pub mod Sendings
 pub mod Remembered
 pub mod Groups
+pub mod Undoing
 pub mod BookTurns
 pub mod Runs
+pub mod Ticks
 pub mod Plans

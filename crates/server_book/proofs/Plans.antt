@@ -1,37 +1,46 @@
--- The plan of a command that the book does not run, and what a plan does after a past.
+-- The plans of commands, and what a plan does after a past.
 use Rattle.std.proofs.Common.{◌≡◌, ℕ, List, [], ◌∷◌, Result, Ok, Err, refl, ap, sym, subst}
 use Rattle.std.proofs.Common.{Option, ◌∙◌, Bool, true, false, cond, inl, inr}
-use Rattle.std.specs.Prelude.{IfOk, codes, if◌then◌else◌}
+use Rattle.std.specs.Prelude.{IfOk, OnOk, OnErr, codes, if◌then◌else◌, Some, None}
 use Rattle.resp_value.specs.declared.octets.NoMemory as memory
 use Rattle.resp_value.specs.declared.value.Value.TheVariants.{Simple}
 use Rattle.command_words.specs.declared.command.Command.{Command}
-use Rattle.command_words.specs.declared.command.Command.TheVariants.{Set, Hello}
-use Rattle.command_words.specs.declared.command.Command.TheVariants.{ClientTracking}
+use Rattle.command_words.specs.declared.command.Command.TheVariants.{Hello, ClientTracking}
 use Rattle.command_words.specs.declared.command.Signalled.{Signalled}
+use Rattle.command_words.specs.declared.command.Signalled.TheVariants.{Keys, All}
 use Rattle.command_words.specs.declared.command.TrackOptions.{TrackOptions}
 use Rattle.command_words.specs.Effect.{Effect}
-use Rattle.command_words.specs.Effects.{effect}
+use Rattle.command_words.specs.Effects.{effect, has_row}
+use Rattle.command_words.specs.Expiry.{without_due}
 use Rattle.command_words.specs.Queries.{read}
 use Rattle.command_words.specs.declared.command.WordFault.{WordFault}
 use Rattle.command_words.specs.declared.command.WordFault.TheVariants.{Unknown, Arity, Syntax}
 use Rattle.command_words.specs.declared.command.WordFault.TheVariants.{BadNumber, BadExpire}
 use Rattle.command_words.specs.declared.command.WordFault.TheVariants.{NoMemory}
 use Rattle.command_words.specs.Reading.{IsReading}
-use Rattle.command_words.specs.Space.{Space}
+use Rattle.command_words.specs.Space.{Space, deadline_at}
+use Rattle.command_set.specs.InStep as step
+use Rattle.command_set.specs.Runs.{AreDue, taken_back}
+use Rattle.expiry.specs.declared.index.Deadline.{Deadline}
+use Rattle.expiry.specs.Index.{has}
 use Rattle.serial_model.specs.declared.history.Entry.{Entry}
 use Rattle.serial_model.specs.declared.history.Limits.{Limits}
 use Rattle.serial_model.specs.declared.mode.Mode.{Mode}
 use Rattle.serial_model.specs.declared.mode.Runner.{Runner}
-use Rattle.serial_model.specs.Modes.{Memory, Remembers, OwnEffect, own_effect}
+use Rattle.serial_model.specs.Deadlines.{due_keys}
+use Rattle.serial_model.specs.Modes.{Memory, Remembers, OwnEffect, own_effect, is_served_tracking}
 use Rattle.serial_model.specs.Tracking.{AreApart}
 use Rattle.serial_model.specs.History.{served, served_reading, effect_of, ran_over, ran, made_of}
-use Rattle.serial_model.specs.History.{runner, keyspace, made, signals, signalled_keys, is_data}
-use Rattle.serial_model.specs.History.{is_served}
-use Rattle.serial_model.proofs.ServedRows.{data_effect, data_own, quiet_stays, row_of}
+use Rattle.serial_model.specs.History.{runner, keyspace, made, signals, expired}
+use Rattle.serial_model.proofs.DueKeys.{is_at, due_by_index}
+use Rattle.serial_model.proofs.ServedRows.{data_effect, data_own, row_of, signalled_keys}
 use Rattle.serial_model.proofs.ServedRows.{reads_or_writes}
+use Rattle.server_book.specs.declared.deed.Deed.{Deed}
 use Rattle.server_book.specs.declared.deed.Deed.TheVariants.{Nothing, Remember, Forget}
 use Rattle.server_book.specs.declared.plan.Plan.{Plan}
-use Rattle.server_book.specs.Plans.{IsPlan, IsSound, after_deed, signals_of, memory_of, deed_for}
+use Rattle.server_book.specs.declared.plan.Played.{Played}
+use Rattle.server_book.specs.Plans.{IsPlan, IsQuiet, IsSound, signals_of, memory_of, deed_for}
+use Rattle.server_book.specs.Played.{HasPlayed, IsPlayed}
 
 -- a fault that is answered is the reading
 pub known_fault : (fault : WordFault) (read : Result Command WordFault) → (fault ≡ NoMemory → ⊥)
@@ -62,22 +71,23 @@ if_planned (Err none) P Q more h = h
 
 -- the plan of a fault, where the words read so
 pub fault_planned : (r : Result Plan memory.NoMemory) (by : Runner) (words : List (List ℕ))
-    (fault : WordFault) (raw read : Result Command WordFault) (space : Space) (moment : ℕ)
-    → IfOk r (λ p. (raw read : Result Command WordFault) (s : Space) (m : ℕ)
-    → IsReading (Err fault) read → IsPlan p by words raw read s m)
-    → IsReading (Err fault) read → IfOk r (λ p. IsPlan p by words raw read space moment)
-fault_planned r by words fault raw read space moment h e =
-    if_planned r _ _ (λ p all. all raw read space moment e) h
+    (fault : WordFault) (read : Result Command WordFault)
+    → IfOk r (λ p. (read : Result Command WordFault) (s : Space) (m : ℕ)
+    → IsReading (Err fault) read → IsQuiet p by words read s m)
+    → IsReading (Err fault) read
+    → IfOk r (λ p. (s : Space) (m : ℕ) → IsQuiet p by words read s m)
+fault_planned r by words fault read h e =
+    if_planned r _ _ (λ p all s m. all read s m e) h
 
 -- the plan of HELLO, where the words read so
 pub hello_planned : (r : Result Plan memory.NoMemory) (by : Runner) (words : List (List ℕ))
-    (word : Option (List ℕ)) (raw read : Result Command WordFault) (space : Space) (moment : ℕ)
-    → IfOk r (λ p. (w : List (List ℕ)) (raw : Result Command WordFault) (s : Space) (m : ℕ)
-    → IsPlan p by w raw (Ok (Hello word)) s m)
-    → read ≡ Ok (Hello word) → IfOk r (λ p. IsPlan p by words raw read space moment)
-hello_planned r by words word raw read space moment h e =
-    if_planned r _ _ (λ p all. subst (λ x. IsPlan p by words raw x space moment) (sym e)
-    (all words raw space moment)) h
+    (word : Option (List ℕ)) (read : Result Command WordFault)
+    → IfOk r (λ p. (w : List (List ℕ)) (s : Space) (m : ℕ) → IsQuiet p by w (Ok (Hello word)) s m)
+    → read ≡ Ok (Hello word)
+    → IfOk r (λ p. (s : Space) (m : ℕ) → IsQuiet p by words read s m)
+hello_planned r by words word read h e =
+    if_planned r _ _ (λ p all s m. subst (λ x. IsQuiet p by words x s m) (sym e)
+    (all words s m)) h
 
 -- the plan of CLIENT TRACKING
 abbrev pub tracking_plan : Mode → Bool → Plan
@@ -88,162 +98,212 @@ tracking_plan mode on =
       mode = record mode { tracking = on };
     }
 
-tracks : (by : Runner) (words : List (List ℕ)) (o : TrackOptions) (on : Bool)
-    (raw : Result Command WordFault) (space : Space) (moment : ℕ)
+tracks : (by : Runner) (words : List (List ℕ)) (o : TrackOptions) (on : Bool) (space : Space)
+    (moment : ℕ)
     → (let options : TrackOptions = record o { on = on } in
-    IsPlan (tracking_plan by.mode on) by words raw (Ok (ClientTracking options)) space moment)
-tracks by words o true raw space moment =
+    IsQuiet (tracking_plan by.mode on) by words (Ok (ClientTracking options)) space moment)
+tracks by words o true space moment =
     record {
-      reply = refl;
-      space_is = refl;
-      signals = refl;
-      memory = refl;
-      mode = refl;
-      sound = tt;
+      planned = record { reply = refl; signals = refl; memory = refl; mode = refl; sound = tt };
+      stays = refl;
     }
-tracks by words o false raw space moment =
+tracks by words o false space moment =
     record {
-      reply = refl;
-      space_is = refl;
-      signals = refl;
-      memory = refl;
-      mode = refl;
-      sound = tt;
+      planned = record { reply = refl; signals = refl; memory = refl; mode = refl; sound = tt };
+      stays = refl;
     }
 
 pub tracking_planned : (r : Result Plan memory.NoMemory) (by : Runner) (words : List (List ℕ))
-    (options : TrackOptions) (raw read : Result Command WordFault) (space : Space) (moment : ℕ)
+    (options : TrackOptions) (read : Result Command WordFault)
     → IfOk r (λ p. p ≡ tracking_plan by.mode options.on) → read ≡ Ok (ClientTracking options)
-    → IfOk r (λ p. IsPlan p by words raw read space moment)
-tracking_planned r by words options raw read space moment h e =
-    if_planned r _ _ (λ p is. subst (λ x. IsPlan p by words raw x space moment) (sym e)
-    (subst (λ x. IsPlan x by words raw (Ok (ClientTracking options)) space moment) (sym is)
-    (tracks by words options options.on raw space moment))) h
+    → IfOk r (λ p. (s : Space) (m : ℕ) → IsQuiet p by words read s m)
+tracking_planned r by words options read h e =
+    if_planned r _ _ (λ p is s m. subst (λ x. IsQuiet p by words x s m) (sym e)
+    (subst (λ x. IsQuiet x by words (Ok (ClientTracking options)) s m) (sym is)
+    (tracks by words options options.on s m))) h
 
--- the plan of a command that is served as it was read
-pub data_served : (r : Result Plan memory.NoMemory) (by : Runner) (words : List (List ℕ))
-    (c : Command) (read : Result Command WordFault) (space : Space) (moment : ℕ)
-    → IfOk r (λ p. (w : List (List ℕ)) → IsPlan p by w (Ok c) (Ok c) space moment)
-    → read ≡ Ok c → IfOk r (λ p. IsPlan p by words (Ok c) read space moment)
-data_served r by words c read space moment h e =
-    if_planned r _ _ (λ p all. subst (λ x. IsPlan p by words (Ok c) x space moment) (sym e)
-    (all words)) h
+-- words that read so are served so
+pub served_as_tracking : (options : TrackOptions) → is_served_tracking options ≡ true
+    → served (Ok (ClientTracking options)) ≡ Ok (ClientTracking options)
+served_as_tracking options h = ap (λ b. cond b (Ok (ClientTracking options)) (Err Unknown)) h
 
--- ---- the plan of a command on strings or hashes
+pub tracking_unknown : (options : TrackOptions) → is_served_tracking options ≡ false
+    → served (Ok (ClientTracking options)) ≡ Err Unknown
+tracking_unknown options h = ap (λ b. cond b (Ok (ClientTracking options)) (Err Unknown)) h
+
+pub row_served : (c : Command) → has_row c ≡ true → served (Ok c) ≡ Ok c
+row_served (Hello word) h = absurd (let no : ⊥ = cc in no)
+row_served (ClientTracking options) h = absurd (let no : ⊥ = cc in no)
+row_served c h = ap (λ b. cond b (Ok c) (Err Unknown)) h
+
+pub other_unknown : (c : Command) → has_row c ≡ false
+    → ((word : Option (List ℕ)) → c ≡ Hello word → ⊥)
+    → ((options : TrackOptions) → c ≡ ClientTracking options → ⊥) → served (Ok c) ≡ Err Unknown
+other_unknown (Hello word) h no_hello no_tracking = absurd (no_hello word refl)
+other_unknown (ClientTracking options) h no_hello no_tracking = absurd (no_tracking options refl)
+other_unknown c h no_hello no_tracking = ap (λ b. cond b (Ok c) (Err Unknown)) h
+
+-- ---- the keys that are due
+
+same_at : (at : ℕ) (o : Option ℕ) → step.is_at at o ≡ is_at at o
+same_at at None = refl
+same_at at (Some d) = refl
+
+pub due_is : (moment : ℕ) (space : Space) (keys : List (List ℕ)) → AreDue moment space keys
+    → keys ≡ due_keys moment space
+due_is moment space keys h =
+    h.listed
+    ∙ due_by_index moment space h.index h.step.ordered
+    (λ d. h.step.each d ∙ same_at d.at (deadline_at d.key space))
+
+-- ---- the deed of a data command
 
 module _ (tracking : Bool) (c : Command) (space : Space) (moment : ℕ)
-    (data_is : is_data c ≡ true) where
+    (data_is : has_row c ≡ true) (reads : List (List ℕ))
+    (reads_is : reads ≡ cond tracking (read c) []) where
   does : Effect
   does = effect c space moment
 
-  deed_space : (keys : List (List ℕ)) → signalled_keys does.signalled ≡ keys
-      → after_deed (deed_for tracking c keys) (Ok c) space moment ≡ does.space
-  unfolding does
-  deed_space [] is =
-      elim tracking as (λ b. after_deed (cond b (Remember (read c)) Nothing) (Ok c) space moment
-      ≡ space) [ true ↦ refl | false ↦ refl ]
-      ∙ sym (quiet_stays space does (row_of c space moment data_is) is)
-  deed_space (key ∷ keys) is = refl
-
-  deed_signals : (keys : List (List ℕ)) → signals_of (deed_for tracking c keys) ≡ keys
-  deed_signals [] =
-      elim tracking as (λ b. signals_of (cond b (Remember (read c)) Nothing) ≡ [])
+  deed_signals : (sig : Signalled) → signals_of (deed_for tracking reads sig) ≡ sig
+  deed_signals (Keys []) =
+      elim tracking as (λ b. signals_of (cond b (Remember reads) Nothing) ≡ Keys [])
       [ true ↦ refl | false ↦ refl ]
-  deed_signals (key ∷ keys) = refl
+  deed_signals (Keys (key ∷ keys)) = refl
+  deed_signals All = refl
 
-  reads_none : (key : List ℕ) (keys : List (List ℕ)) → signalled_keys does.signalled ≡ key ∷ keys
-      → read c ≡ []
+  reads_none : (does.signalled ≡ Keys [] → ⊥) → read c ≡ []
   unfolding does
-  reads_none key keys is = elim (reads_or_writes c space moment data_is) [
-    | inl none ↦ absurd (let no : ⊥ = cc in no)
+  reads_none some = elim (reads_or_writes c space moment data_is) [
+    | inl none ↦ absurd (some none)
     | inr none ↦ none
   ]
 
-  deed_memory : (keys : List (List ℕ)) → signalled_keys does.signalled ≡ keys
-      → memory_of (deed_for tracking c keys) ≡ Remembers (cond tracking (read c) [])
-  deed_memory [] is =
-      elim tracking as (λ b. memory_of (cond b (Remember (read c)) Nothing)
-      ≡ Remembers (cond b (read c) [])) [ true ↦ refl | false ↦ refl ]
-  deed_memory (key ∷ keys) is =
+  no_reads : read c ≡ [] → ◌≡◌ {A = Memory} (Remembers []) (Remembers (cond tracking (read c) []))
+  no_reads none =
       elim tracking as (λ b. ◌≡◌ {A = Memory} (Remembers []) (Remembers (cond b (read c) []))) [
-        | true ↦ ap Remembers (sym (reads_none key keys is))
+        | true ↦ ap Remembers (sym none)
         | false ↦ refl
       ]
 
-  deed_sound : (keys : List (List ℕ)) → signalled_keys does.signalled ≡ keys
-      → IsSound (deed_for tracking c keys) (Ok c)
-  unfolding does
-  deed_sound [] is =
-      elim tracking as (λ b. IsSound (cond b (Remember (read c)) Nothing) (Ok c))
-      [ true ↦ tt | false ↦ tt ]
-  deed_sound (key ∷ keys) is =
-      (data_is, subst AreApart is (row_of c space moment data_is).apart)
+  deed_memory : (sig : Signalled) → does.signalled ≡ sig
+      → memory_of (deed_for tracking reads sig) ≡ Remembers (cond tracking (read c) [])
+  deed_memory (Keys []) is =
+      elim tracking as (λ b. reads ≡ cond b (read c) []
+      → memory_of (cond b (Remember reads) Nothing) ≡ Remembers (cond b (read c) [])) [
+        | true ↦ λ e. ap Remembers e
+        | false ↦ λ e. refl
+      ] reads_is
+  deed_memory (Keys (key ∷ keys)) is =
+      no_reads (reads_none (λ none. let no : ⊥ = cc in no))
+  deed_memory All is = no_reads (reads_none (λ none. let no : ⊥ = cc in no))
 
--- what the command replies, signals and does is its plan
-pub data_planned : (p : Plan) (by : Runner) (words : List (List ℕ)) (c : Command) (space : Space)
-    (moment : ℕ) (signalled : Signalled) → is_data c ≡ true
+  deed_sound : (sig : Signalled) → does.signalled ≡ sig → IsSound (deed_for tracking reads sig)
+  unfolding does
+  deed_sound (Keys []) is =
+      elim tracking as (λ b. IsSound (cond b (Remember reads) Nothing)) [ true ↦ tt | false ↦ tt ]
+  deed_sound (Keys (key ∷ keys)) is =
+      subst (λ sig. AreApart (signalled_keys sig)) is (row_of c space moment data_is).apart
+  deed_sound All is = tt
+
+-- what the command replies and signals is its plan
+data_planned : (p : Plan) (by : Runner) (words : List (List ℕ)) (c : Command) (space : Space)
+    (moment : ℕ) (signalled : Signalled) (reads : List (List ℕ)) → has_row c ≡ true
+    → reads ≡ cond by.mode.tracking (read c) []
     → p.reply ≡ (effect c space moment).reply → signalled ≡ (effect c space moment).signalled
-    → p.deed ≡ deed_for by.mode.tracking c (signalled_keys signalled) → p.mode ≡ by.mode
-    → IsPlan p by words (Ok c) (Ok c) space moment
+    → p.deed ≡ deed_for by.mode.tracking reads signalled → p.mode ≡ by.mode
+    → IsPlan p by words (Ok c) space moment
 unfolding does
-data_planned p by words c space moment signalled data_is reply signals deed mode =
+data_planned p by words c space moment signalled reads data_is reads_is reply signals deed mode =
     let t = by.mode.tracking in
-    let keys = signalled_keys (effect c space moment).signalled in
-    let is = deed ∙ ap (λ s. deed_for t c (signalled_keys s)) signals in
+    let sig = (effect c space moment).signalled in
+    let is = deed ∙ ap (deed_for t reads) signals in
     let same = data_effect by words c space moment data_is in
     let own = data_own c by.mode data_is in record {
       reply = reply ∙ sym (ap (λ (e : Effect). e.reply) same);
-      space_is =
-          ap (λ d. after_deed d (Ok c) space moment) is
-          ∙ deed_space t c space moment data_is keys refl
-          ∙ sym (ap (λ (e : Effect). e.space) same);
       signals =
-          ap signals_of is ∙ deed_signals t c space moment data_is keys
-          ∙ sym (ap (λ (e : Effect). signalled_keys e.signalled) same);
+          ap signals_of is ∙ deed_signals t c space moment data_is reads reads_is sig
+          ∙ sym (ap (λ (e : Effect). e.signalled) same);
       memory =
-          ap memory_of is ∙ deed_memory t c space moment data_is keys refl
+          ap memory_of is ∙ deed_memory t c space moment data_is reads reads_is sig refl
           ∙ sym (ap (λ (o : OwnEffect). o.memory) own);
       mode = mode ∙ sym (ap (λ (o : OwnEffect). o.mode) own);
       sound =
-          subst (λ d. IsSound d (Ok c)) (sym is)
-          (deed_sound t c space moment data_is keys refl);
+          subst IsSound (sym is)
+          (deed_sound t c space moment data_is reads reads_is sig refl);
     }
 
--- a command that is served, and is neither HELLO nor CLIENT TRACKING, is one on strings or hashes
-pub served_data : (c : Command) → is_served c ≡ true
-    → ((word : Option (List ℕ)) → c ≡ Hello word → ⊥)
-    → ((options : TrackOptions) → c ≡ ClientTracking options → ⊥) → is_data c ≡ true
-served_data (Hello word) h no_hello no_tracking = absurd (no_hello word refl)
-served_data (ClientTracking options) h no_hello no_tracking = absurd (no_tracking options refl)
-served_data (Set key value when life) h no_hello no_tracking = refl
-served_data _ h no_hello no_tracking = h
+pub data_played : (p : Played) (by : Runner) (words : List (List ℕ)) (c : Command)
+    (old new : Space) (moment : ℕ) (signalled : Signalled) (reads : List (List ℕ))
+    → has_row c ≡ true → reads ≡ cond by.mode.tracking (read c) []
+    → AreDue moment old p.expired
+    → p.plan.reply ≡ (effect c (without_due moment old) moment).reply
+    → signalled ≡ (effect c (without_due moment old) moment).signalled
+    → new ≡ (effect c (without_due moment old) moment).space
+    → p.plan.deed ≡ deed_for by.mode.tracking reads signalled → p.plan.mode ≡ by.mode
+    → taken_back p.undo new ≡ old
+    → HasPlayed by words (Ok c) moment p old new
+data_played p by words c old new moment signalled reads data_is reads_is due reply signals space
+    deed mode back = record {
+      expired = due_is moment old p.expired due;
+      plan =
+          data_planned p.plan by words c (without_due moment old) moment signalled reads data_is
+          reads_is reply signals deed mode;
+      space =
+          space
+          ∙ sym (ap (λ (e : Effect). e.space)
+          (data_effect by words c (without_due moment old) moment data_is));
+      undo = back;
+    }
 
-pub served_as : (c : Command) → is_served c ≡ true → served (Ok c) ≡ Ok c
-served_as c h = ap (λ b. cond b (Ok c) (Err Unknown)) h
+-- what was played of words that are served as they were read
+pub played_as : (r : Result Played memory.NoMemory) (by : Runner) (words : List (List ℕ))
+    (read : Result Command WordFault) (c : Command) (moment : ℕ) (old new : Space)
+    → ((w : List (List ℕ)) → IsPlayed by w (Ok c) moment r old new) → read ≡ Ok c
+    → IsPlayed by words read moment r old new
+played_as r by words read c moment old new h e =
+    subst (λ x. IsPlayed by words x moment r old new) (sym e) (h words)
 
-pub served_none : (c : Command) → is_served c ≡ false → served (Ok c) ≡ Err Unknown
-served_none c h = ap (λ b. cond b (Ok c) (Err Unknown)) h
+-- and of words that leave the keyspace
+pub quiet_played : (r : Result Played memory.NoMemory) (plan : Plan) (by : Runner)
+    (words : List (List ℕ)) (read : Result Command WordFault) (moment : ℕ) (old new : Space)
+    → ((s : Space) (m : ℕ) → IsQuiet plan by words read s m)
+    → IfOk r (λ p. p.plan ≡ plan) → OnOk r (new ≡ without_due moment old)
+    → IfOk r (λ p. p.expired ≡ due_keys moment old)
+    → IfOk r (λ p. taken_back p.undo new ≡ old) → OnErr r (new ≡ old)
+    → IsPlayed by words read moment r old new
+quiet_played (Ok p) plan by words read moment old new quiet same left due back err =
+    let q = quiet (without_due moment old) moment in record {
+      expired = due;
+      plan = subst (λ x. IsPlan x by words read (without_due moment old) moment) (sym same)
+          q.planned;
+      space = left ∙ sym q.stays;
+      undo = back;
+    }
+quiet_played (Err e) plan by words read moment old new quiet same left due back err = err
 
--- a plan does what the words do after the past
-pub plan_runs : (l : Limits) (p : Plan) (words : List (List ℕ))
-    (raw : Result Command WordFault) (space : Space) (m : ℕ)
+-- ---- a plan does what the words do after the past
+
+pub plan_runs : (l : Limits) (p : Played) (words : List (List ℕ)) (old new : Space) (m : ℕ)
     (past : List Entry) (id : ℕ) (by : Runner)
-    → IsPlan p by words raw (served_reading words) space m → by ≡ runner l past id
-    → space ≡ keyspace l past
-    → (p.reply ≡ (ran l past id words m).reply)
-    × (after_deed p.deed raw space m ≡ (ran l past id words m).space)
-    × (signals_of p.deed ≡ signals l past id words m)
-    × (memory_of p.deed ≡ (made l past id words).memory)
-    × (p.mode ≡ (made l past id words).mode)
+    → HasPlayed by words (served_reading words) m p old new → by ≡ runner l past id
+    → old ≡ keyspace l past
+    → (p.expired ≡ expired l past m)
+    × (p.plan.reply ≡ (ran l past id words m).reply)
+    × (new ≡ (ran l past id words m).space)
+    × (signals_of p.plan.deed ≡ signals l past id words m)
+    × (memory_of p.plan.deed ≡ (made l past id words).memory)
+    × (p.plan.mode ≡ (made l past id words).mode)
 unfolding ran_over made_of
-plan_runs l p words raw space m past id by plan who where_is =
-    let read = served_reading words in (
-      plan.reply ∙ ap (λ b. (effect_of b words read space m).reply) who
-          ∙ ap (λ s. (effect_of (runner l past id) words read s m).reply) where_is,
-      plan.space_is ∙ ap (λ b. (effect_of b words read space m).space) who
-          ∙ ap (λ s. (effect_of (runner l past id) words read s m).space) where_is,
-      plan.signals ∙ ap (λ b. signalled_keys (effect_of b words read space m).signalled) who
-          ∙ ap (λ s. signalled_keys (effect_of (runner l past id) words read s m).signalled)
+plan_runs l p words old new m past id by played who where_is =
+    let read = served_reading words in
+    let plan = played.plan in (
+      played.expired ∙ ap (due_keys m) where_is,
+      plan.reply ∙ ap (λ b. (effect_of b words read (without_due m old) m).reply) who
+          ∙ ap (λ s. (effect_of (runner l past id) words read (without_due m s) m).reply) where_is,
+      played.space ∙ ap (λ b. (effect_of b words read (without_due m old) m).space) who
+          ∙ ap (λ s. (effect_of (runner l past id) words read (without_due m s) m).space) where_is,
+      plan.signals ∙ ap (λ b. (effect_of b words read (without_due m old) m).signalled) who
+          ∙ ap (λ s. (effect_of (runner l past id) words read (without_due m s) m).signalled)
           where_is,
       plan.memory ∙ ap (λ (b : Runner). (own_effect read b.mode).memory) who,
       plan.mode ∙ ap (λ (b : Runner). (own_effect read b.mode).mode) who,

@@ -5,14 +5,15 @@ use Rattle.std.proofs.Common.{sym, ap, subst, ◌∙◌, refl, arith}
 use Prim.Native.Nat.{zero, suc}
 use Rattle.serial_model.specs.declared.history.Entry.TheVariants as entry
 use Rattle.serial_model.specs.declared.history.BookCall.{BookCall}
-use Rattle.serial_model.specs.declared.history.BookCall.TheVariants.{Admit, Run, Take, Close}
+use Rattle.serial_model.specs.declared.history.BookCall.TheVariants.{Admit, Run, Tick, Take}
+use Rattle.serial_model.specs.declared.history.BookCall.TheVariants.{Close}
 use Rattle.serial_model.specs.declared.history.BookReply.{BookReply}
 use Rattle.serial_model.specs.declared.history.BookReply.TheVariants.{Quiet, Bytes, Refused}
 use Rattle.serial_model.specs.declared.history.BookRefusal.TheVariants.{Gone}
 use Rattle.serial_model.specs.History.{runs_on, gives_on, reads_on, unsent, is_full}
 use Rattle.serial_model.specs.Steps.{Turn, full, unless_full, admitting, running, taking, closing}
 use Rattle.serial_model.specs.Steps.{gone}
-use Rattle.serial_model.specs.Steps.{book_step, BookStep, AddsEntry, IsCallable}
+use Rattle.serial_model.specs.Steps.{book_step, BookStep, AddsEntry, MayRunOut, IsCallable}
 use Rattle.server_book.specs.BookState.{BookState, IsAccepted, IsFullAnswer, IsRefusal, posts_after}
 
 -- a call that would add an entry, once its other questions are answered
@@ -126,9 +127,9 @@ module _ (b : BookState) where
             most ∷ b.past;
       })).reply) (sym room) tt
 
-  -- a call that is accepted adds an entry
+  -- at a call that is accepted memory may run out
   pub accepted_adds : (call : BookCall) → IsCallable call → IsAccepted b.limits b.past call
-      → AddsEntry (book_step b.limits b.past call).reply
+      → MayRunOut call (book_step b.limits b.past call).reply
   unfolding book_step
   accepted_adds Admit m h =
       subst (λ v. AddsEntry (cond v (full b.past) (admitting b.past)).reply) (sym h) tt
@@ -137,6 +138,7 @@ module _ (b : BookState) where
       subst (λ v. AddsEntry (cond v (unless_full b.limits b.past t) (gone b.past id)).reply)
       (sym h.0)
       (subst (λ v. AddsEntry (cond v (full b.past) t).reply) (sym h.1) tt)
+  accepted_adds (Tick now) m h = tt
   accepted_adds (Take id most) m h =
       let bytes = take most (unsent b.limits id b.past) in
       subst (λ v. AddsEntry (cond v (taking b.limits b.past id most bytes) (gone b.past id)).reply)

@@ -15,9 +15,12 @@ use Rattle.track_table.proofs.Orders.{table_remembered, table_without_key}
 use Rattle.track_table.proofs.Orders.{table_without_connection}
 use Rattle.serial_model.specs.declared.history.Limits.{Limits}
 use Rattle.serial_model.specs.declared.history.Entry.{Entry}
-use Rattle.serial_model.specs.declared.history.Entry.TheVariants.{Admit, Run, Take, Close}
+use Rattle.serial_model.specs.declared.history.Entry.TheVariants.{Admit, Run, Tick, Take, Close}
+use Rattle.command_words.specs.declared.command.Signalled.{Signalled}
+use Rattle.command_words.specs.declared.command.Signalled.TheVariants.{Keys, All}
 use Rattle.serial_model.specs.Modes.{Memory, Remembers, Forgets}
-use Rattle.serial_model.specs.Tracking.{Invalidation, without_keys, remembering}
+use Rattle.serial_model.specs.Tracking.{Invalidation, without_keys, without_signalled}
+use Rattle.serial_model.specs.Tracking.{remembering}
 use Rattle.serial_model.specs.History.{table, table_grown, table_then, made, signals, expired}
 use Rattle.serial_model.proofs.Tables.{AllIn, AllRows, AllTo}
 use Rattle.server_book.proofs.Sendings.{AreToldThere}
@@ -107,11 +110,16 @@ short_dropped limit rows short =
 
 -- ---- the remembered keys of a past are a table
 
-without_keys_table : (keys : List (List ℕ)) (rows : List Held) → IsTable rows
+pub without_keys_table : (keys : List (List ℕ)) (rows : List Held) → IsTable rows
     → IsTable (without_keys keys rows)
 without_keys_table [] rows h = h
 without_keys_table (key ∷ keys) rows h =
     without_keys_table keys (without_key key rows) (table_without_key key rows h)
+
+without_signalled_table : (sig : Signalled) (rows : List Held) → IsTable rows
+    → IsTable (without_signalled sig rows)
+without_signalled_table (Keys keys) rows h = without_keys_table keys rows h
+without_signalled_table All rows h = record { ordered = tt; held = tt }
 
 with_keys_table : (id : ℕ) (keys : List (List ℕ)) (rows : List Held) → IsTable rows
     → IsTable (with_keys id keys rows)
@@ -137,9 +145,11 @@ table_of_past l (Run id words moment ∷ past) =
     drop_table (length (table_grown l past id words moment) - l.table_max)
     (table_grown l past id words moment)
     (remembering_table id (made l past id words).memory
-    (without_keys (signals l past id words moment) (table_then l past moment))
-    (without_keys_table (signals l past id words moment) (table_then l past moment)
+    (without_signalled (signals l past id words moment) (table_then l past moment))
+    (without_signalled_table (signals l past id words moment) (table_then l past moment)
     (without_keys_table (expired l past moment) (table l past) (table_of_past l past))))
+table_of_past l (Tick moment ∷ past) =
+    without_keys_table (expired l past moment) (table l past) (table_of_past l past)
 table_of_past l (Take id max ∷ past) = table_of_past l past
 table_of_past l (Close id ∷ past) =
     table_without_connection id (table l past) (table_of_past l past)
@@ -172,3 +182,20 @@ pub there_longer : (cs ds : List Connection) (rows : List Held) → length cs �
 there_longer cs ds [] le h = tt
 there_longer cs ds (r ∷ rows) le h =
     (ids_longer cs ds r.holders le h.0, there_longer cs ds rows le h.1)
+
+-- ---- holders that are there, where keys leave
+
+without_key_there : (cs : List Connection) (key : List ℕ) (rows : List Held) → AreThere cs rows
+    → AreThere cs (without_key key rows)
+without_key_there cs key [] h = tt
+without_key_there cs key (r ∷ rows) h =
+    let rest = without_key_there cs key rows h.1 in
+    elim (bytes_eq key r.key) as (λ b. AreThere cs
+    (cond (not b) (r ∷ without_key key rows) (without_key key rows)))
+    [ true ↦ rest | false ↦ (h.0, rest) ]
+
+pub without_keys_there : (cs : List Connection) (keys : List (List ℕ)) (rows : List Held)
+    → AreThere cs rows → AreThere cs (without_keys keys rows)
+without_keys_there cs [] rows h = h
+without_keys_there cs (key ∷ keys) rows h =
+    without_keys_there cs keys (without_key key rows) (without_key_there cs key rows h)

@@ -1,9 +1,9 @@
 -- What sendings do to each connection, and that taking them back undoes them.
 use Rattle.std.proofs.Common.{◌≡◌, ◌+◌, ◌-◌, ◌<◌, ◌≤◌, ℕ, List, [], ◌∷◌, ◌++◌, length, take}
-use Rattle.std.proofs.Common.{sym, ap, subst, ◌∙◌, refl, arith, true, false, cond, Some}
+use Rattle.std.proofs.Common.{sym, ap, subst, ◌∙◌, refl, arith, true, false, cond, Bool}
 use Rattle.std.proofs.Common.{length-append, length-set, slice_index_or, slice_set, append_assoc}
 use Rattle.std.proofs.Common.{append-nil, inl, inr, eq-eqb, ne_eqb, Result, Ok, Err, OnErr}
-use Rattle.std.proofs.Common.{OnOk}
+use Rattle.std.proofs.Common.{OnOk, Option}
 use Rattle.std.specs.Prelude.{◌==◌}
 use Prim.Native.Nat.{zero, suc}
 use Rattle.std.proofs.lemmas.Bool.{cases_eq}
@@ -13,12 +13,14 @@ use Rattle.resp_value.specs.declared.value.Proto.{Proto}
 use Rattle.resp_value.specs.declared.value.Proto.TheVariants.{Two, Three}
 use Rattle.serial_model.specs.declared.mode.Mode.{Mode}
 use Rattle.serial_model.specs.declared.history.Post.{Post}
-use Rattle.serial_model.specs.Tracking.{Invalidation, told_of, push_of}
+use Rattle.serial_model.specs.declared.history.Posted.{Posted}
+use Rattle.serial_model.specs.Tracking.{Invalidation, told_to, push_of, ids_where}
 use Rattle.serial_model.specs.History.{Sending, Message, End, sending_bytes, posted_of, spelled}
 use Rattle.serial_model.specs.History.{sent_bytes, sent_to, routed, route, posts_of}
 use Rattle.server_book.specs.declared.connections.Connection.{Connection}
 use Rattle.server_book.specs.Connections.{ConnectionsState, IsId, connection_at, with_connection}
 use Rattle.server_book.specs.Connections.{fresh, ArePosted}
+use Rattle.server_book.specs.RunSendings.{with_mode}
 use Rattle.server_book.specs.Sendings.{AreIds, modes_of, queued, with_sending, with_sendings}
 use Rattle.server_book.specs.Sendings.{unqueued, before_posts, size_of, message_post}
 
@@ -30,6 +32,10 @@ on_err (Err error) P h = h
 pub on_ok : {A E : Type 0} (r : Result A E) (P : Type 0) → P → OnOk r P
 on_ok (Ok value) P h = h
 on_ok (Err error) P h = tt
+
+pub on_err_then : {A E : Type 0} (r : Result A E) (P Q : Type 0) → (P → Q) → OnErr r P → OnErr r Q
+on_err_then (Ok value) P Q f h = tt
+on_err_then (Err error) P Q f h = f h
 
 pub on_ok_then : {A E : Type 0} (r : Result A E) (P Q : Type 0) → (P → Q) → OnOk r P → OnOk r Q
 on_ok_then (Ok value) P Q f h = f h
@@ -122,7 +128,7 @@ pub to_longer : (cs ds : List Connection) (ss : List (ℕ × Sending)) → lengt
 to_longer cs ds [] le h = tt
 to_longer cs ds (s ∷ ss) le h = ((h.0.0, omega (arith, h.0.1)), to_longer cs ds ss le h.1)
 
-length_queued : (cs : List Connection) (id : ℕ) (bytes : List ℕ)
+pub length_queued : (cs : List Connection) (id : ℕ) (bytes : List ℕ)
     → length (queued cs id bytes) ≡ length cs
 length_queued cs id bytes =
     let c = connection_at cs id in length-set cs (id - 1) (record c { queue = c.queue ++ bytes })
@@ -148,6 +154,92 @@ before_sendings n [] state h = refl
 before_sendings n (s ∷ ss) state h =
     before_sendings n ss (with_sending n s state) (to_next n s ss state h.1)
     ∙ before_sending n s state h.0
+
+-- each post of them is to one that is there
+pub posted_sendings : (n : ℕ) (ss : List (ℕ × Sending)) (state : ConnectionsState)
+    → AreTo state.items ss → ArePosted state.items state.posts
+    → ArePosted (with_sendings n ss state).items (with_sendings n ss state).posts
+posted_sendings n [] state to h = h
+posted_sendings n (s ∷ ss) state to h =
+    let p : Post = record { entry = n; id = s.0; what = posted_of s.1 } in
+    let next = with_sending n s state in
+    posted_sendings n ss next (to_next n s ss state to.1)
+    (posted_longer state.items next.items (state.posts ++ p ∷ [])
+    (omega (arith, length_queued state.items s.0 (sending_bytes s.1)))
+    (posted_more state.items state.posts p h to.0))
+
+-- ---- taking back where a mode was changed
+
+set_swap : (cs : List Connection) (i j : ℕ) (a b : Connection) → (i ≡ j → ⊥)
+    → slice_set (slice_set cs i a) j b ≡ slice_set (slice_set cs j b) i a
+set_swap [] i j a b ne = refl
+set_swap (c ∷ cs) zero zero a b ne = absurd (ne refl)
+set_swap (c ∷ cs) zero (suc j) a b ne = refl
+set_swap (c ∷ cs) (suc i) zero a b ne = refl
+set_swap (c ∷ cs) (suc i) (suc j) a b ne =
+    ap (λ l. c ∷ l) (set_swap cs i j a b (λ e. ne (ap suc e)))
+
+abbrev shorter : Posted → Connection → Connection
+shorter what c = record c { queue = take (length c.queue - size_of what) c.queue }
+
+unqueue_mode : (cs : List Connection) (p : Post) (id : ℕ) (m : Mode) → IsId cs p.id → IsId cs id
+    → unqueued p (with_mode id m cs) ≡ with_mode id m (unqueued p cs)
+unqueue_mode cs p id m on there =
+    let c = connection_at cs id in
+    let d = connection_at cs p.id in
+    elim (cases_eq id p.id) [
+      | inl e ↦
+          subst (λ k. (let x = connection_at (with_mode id m cs) k in
+          with_connection (with_mode id m cs) k (shorter p.what x))
+          ≡ with_mode id m (with_connection cs k (shorter p.what (connection_at cs k)))) e
+          (ap (λ x. with_connection (with_mode id m cs) id (shorter p.what x))
+          (at_same cs id (record c { mode = m }) there)
+          ∙ put_twice cs (id - 1) (record c { mode = m }) (shorter p.what (record c { mode = m }))
+          ∙ sym (ap (λ (x : Connection). with_connection (with_connection cs id (shorter p.what c))
+          id (record x { mode = m })) (at_same cs id (shorter p.what c) there)
+          ∙ put_twice cs (id - 1) (shorter p.what c) (record (shorter p.what c) { mode = m })))
+      | inr ne ↦
+          ap (λ x. with_connection (with_mode id m cs) p.id (shorter p.what x))
+          (at_other cs id p.id (record c { mode = m }) there.0 on.0 ne)
+          ∙ set_swap cs (id - 1) (p.id - 1) (record c { mode = m }) (shorter p.what d)
+          (λ e. ne (let a = there.0 in let b = on.0 in omega (arith, a, b, e)))
+          ∙ ap (λ (x : Connection). with_connection (with_connection cs p.id (shorter p.what d)) id
+          (record x { mode = m }))
+          (sym (at_other cs p.id id (shorter p.what d) on.0 there.0 (λ e. ne (sym e))))
+    ]
+
+length_unqueued : (cs : List Connection) (p : Post) → length (unqueued p cs) ≡ length cs
+length_unqueued cs p =
+    length-set cs (p.id - 1) (shorter p.what (connection_at cs p.id))
+
+length_before : (ps : List Post) (cs : List Connection) → length (before_posts ps cs) ≡ length cs
+length_before [] cs = refl
+length_before (p ∷ ps) cs = length_unqueued (before_posts ps cs) p ∙ length_before ps cs
+
+-- where a mode was changed is taken back as if it was not
+pub before_mode : (ps : List Post) (cs : List Connection) (id : ℕ) (m : Mode) → ArePosted cs ps
+    → IsId cs id → before_posts ps (with_mode id m cs) ≡ with_mode id m (before_posts ps cs)
+before_mode [] cs id m posted there = refl
+before_mode (p ∷ ps) cs id m posted there =
+    let same = length_before ps cs in
+    ap (unqueued p) (before_mode ps cs id m posted.1 there)
+    ∙ unqueue_mode (before_posts ps cs) p id m
+    (posted.0.0, (let le = posted.0.1 in omega (arith, same, le)))
+    (there.0, (let le = there.1 in omega (arith, same, le)))
+
+-- a mode is changed, and changed back
+pub mode_back : (cs : List Connection) (id : ℕ) (m : Mode) → IsId cs id
+    → with_mode id (connection_at cs id).mode (with_mode id m cs) ≡ cs
+mode_back cs id m there =
+    let c = connection_at cs id in
+    ap (λ (x : Connection). with_connection (with_mode id m cs) id (record x { mode = c.mode }))
+    (at_same cs id (record c { mode = m }) there)
+    ∙ put_twice cs (id - 1) (record c { mode = m }) c
+    ∙ set-get_or cs (id - 1) fresh
+
+pub mode_same : (cs : List Connection) (id : ℕ) → IsId cs id
+    → with_mode id (connection_at cs id).mode cs ≡ cs
+mode_same cs id there = set-get_or cs (id - 1) fresh
 
 -- ---- what sendings do
 
@@ -222,10 +314,10 @@ pub told_longer : (cs ds : List Connection) (is : List Invalidation) → length 
 told_longer cs ds [] le h = tt
 told_longer cs ds (i ∷ is) le h = ((h.0.0, omega (arith, h.0.1)), told_longer cs ds is le h.1)
 
-pub told_there : (cs : List Connection) (key : List ℕ) (ids : List ℕ) → AreIds cs ids
-    → AreToldThere cs (told_of key ids)
-told_there cs key [] h = tt
-told_there cs key (id ∷ ids) h = (h.0, told_there cs key ids h.1)
+pub told_there : (cs : List Connection) (keys : Option (List (List ℕ))) (ids : List ℕ)
+    → AreIds cs ids → AreToldThere cs (told_to keys ids)
+told_there cs keys [] h = tt
+told_there cs keys (id ∷ ids) h = (h.0, told_there cs keys ids h.1)
 
 to_append : (cs : List Connection) (xs ys : List (ℕ × Sending)) → AreTo cs xs → AreTo cs ys
     → AreTo cs (xs ++ ys)
@@ -258,23 +350,24 @@ routed_same cs m n (i ∷ is) same h =
 
 -- ---- telling one holder after another
 
-pub told_next : (m : ℕ → Mode) (key : List ℕ) (ids : List ℕ) (n : ℕ) → n < length ids
+pub told_next : (m : ℕ → Mode) (keys : Option (List (List ℕ))) (ids : List ℕ) (n : ℕ)
+    → n < length ids
     → (let id = slice_index_or ids n 0 in
-    routed m (told_of key (take (n + 1) ids))
-    ≡ routed m (told_of key (take n ids))
-    ++ route (m id) (record { to = id; keys = Some (key ∷ []) }))
-told_next m key [] n lt = absurd (omega arith)
-told_next m key (id ∷ ids) zero lt =
-    append-nil (route (m id) (record { to = id; keys = Some (key ∷ []) }))
-told_next m key (id ∷ ids) (suc n) lt =
+    routed m (told_to keys (take (n + 1) ids))
+    ≡ routed m (told_to keys (take n ids))
+    ++ route (m id) (record { to = id; keys = keys }))
+told_next m keys [] n lt = absurd (omega arith)
+told_next m keys (id ∷ ids) zero lt =
+    append-nil (route (m id) (record { to = id; keys = keys }))
+told_next m keys (id ∷ ids) (suc n) lt =
     let at = slice_index_or ids n 0 in
-    ap (λ k. routed m (told_of key (take k (id ∷ ids))))
+    ap (λ k. routed m (told_to keys (take k (id ∷ ids))))
     (let e : suc n + 1 ≡ suc (n + 1) = omega arith in e)
-    ∙ ap (λ x. route (m id) (record { to = id; keys = Some (key ∷ []) }) ++ x)
-    (told_next m key ids n (omega arith))
-    ∙ sym (append_assoc (route (m id) (record { to = id; keys = Some (key ∷ []) }))
-    (routed m (told_of key (take n ids)))
-    (route (m at) (record { to = at; keys = Some (key ∷ []) })))
+    ∙ ap (λ x. route (m id) (record { to = id; keys = keys }) ++ x)
+    (told_next m keys ids n (omega arith))
+    ∙ sym (append_assoc (route (m id) (record { to = id; keys = keys }))
+    (routed m (told_to keys (take n ids)))
+    (route (m at) (record { to = at; keys = keys })))
 
 pub ids_at : (cs : List Connection) (ids : List ℕ) (n : ℕ) → AreIds cs ids → n < length ids
     → IsId cs (slice_index_or ids n 0)
@@ -289,25 +382,27 @@ ids_take cs [] (suc n) h = tt
 ids_take cs (id ∷ ids) (suc n) h = (h.0, ids_take cs ids n h.1)
 
 -- what the first holders of a key are sent
-abbrev pub told_first : List Connection → List ℕ → List ℕ → ℕ → List (ℕ × Sending)
-told_first cs key ids k = routed (modes_of cs) (told_of key (take k ids))
+abbrev pub told_first : List Connection → Option (List (List ℕ)) → List ℕ → ℕ → List (ℕ × Sending)
+told_first cs keys ids k = routed (modes_of cs) (told_to keys (take k ids))
 
-pub first_there : (cs : List Connection) (key ids : List ℕ) (k : ℕ) → AreIds cs ids
-    → AreTo cs (told_first cs key ids k)
-first_there cs key ids k h =
-    routed_there cs (modes_of cs) (told_of key (take k ids))
-    (told_there cs key (take k ids) (ids_take cs ids k h))
+pub first_there : (cs : List Connection) (keys : Option (List (List ℕ))) (ids : List ℕ) (k : ℕ)
+    → AreIds cs ids
+    → AreTo cs (told_first cs keys ids k)
+first_there cs keys ids k h =
+    routed_there cs (modes_of cs) (told_to keys (take k ids))
+    (told_there cs keys (take k ids) (ids_take cs ids k h))
 
-module _ (n : ℕ) (key ids : List ℕ) (k : ℕ) (old now : ConnectionsState) (lt : k < length ids)
+module _ (n : ℕ) (keys : Option (List (List ℕ))) (ids : List ℕ) (k : ℕ)
+    (old now : ConnectionsState) (lt : k < length ids)
     (there : AreIds old.items ids)
-    (so_far : now ≡ with_sendings n (told_first old.items key ids k) old) where
+    (so_far : now ≡ with_sendings n (told_first old.items keys ids k) old) where
   -- the next holder is there, and its mode is as before
   pub next_there : IsId now.items (slice_index_or ids k 0)
   next_there =
       let on = ids_at old.items ids k there lt in
       let same : length now.items ≡ length old.items =
       ap (λ (s : ConnectionsState). length s.items) so_far
-      ∙ length_sendings n (told_first old.items key ids k) old in
+      ∙ length_sendings n (told_first old.items keys ids k) old in
       (on.0, omega (arith, on.1))
 
   mode_then : (connection_at now.items (slice_index_or ids k 0)).mode
@@ -315,46 +410,46 @@ module _ (n : ℕ) (key ids : List ℕ) (k : ℕ) (old now : ConnectionsState) (
   mode_then =
       let id = slice_index_or ids k 0 in
       ap (λ (s : ConnectionsState). (connection_at s.items id).mode) so_far
-      ∙ ap (λ (c : Connection). c.mode) (sent_at n id (told_first old.items key ids k) old
-      (ids_at old.items ids k there lt) (first_there old.items key ids k there))
+      ∙ ap (λ (c : Connection). c.mode) (sent_at n id (told_first old.items keys ids k) old
+      (ids_at old.items ids k there lt) (first_there old.items keys ids k there))
 
   told_step : (next : ConnectionsState) (m : Mode)
       → m ≡ (connection_at now.items (slice_index_or ids k 0)).mode
       → (let i : Invalidation = record {
         to = slice_index_or ids k 0;
-        keys = Some (key ∷ []);
+        keys = keys;
       } in next ≡ with_sendings n (route m i) now)
-      → next ≡ with_sendings n (told_first old.items key ids (k + 1)) old
+      → next ≡ with_sendings n (told_first old.items keys ids (k + 1)) old
   told_step next m is sent =
-      let i : Invalidation = record { to = slice_index_or ids k 0; keys = Some (key ∷ []) } in
-      let first = told_first old.items key ids k in
+      let i : Invalidation = record { to = slice_index_or ids k 0; keys = keys } in
+      let first = told_first old.items keys ids k in
       sent
       ∙ ap (λ x. with_sendings n (route x i) now) (is ∙ mode_then)
       ∙ ap (with_sendings n (route (modes_of old.items i.to) i)) so_far
       ∙ sym (sendings_append n first (route (modes_of old.items i.to) i) old)
-      ∙ ap (λ ss. with_sendings n ss old) (sym (told_next (modes_of old.items) key ids k lt))
+      ∙ ap (λ ss. with_sendings n ss old) (sym (told_next (modes_of old.items) keys ids k lt))
 
   -- it is on the second protocol
   pub told_nothing : (next : ConnectionsState) (m : Mode)
       → m ≡ (connection_at now.items (slice_index_or ids k 0)).mode → m.proto ≡ Two → next ≡ now
-      → next ≡ with_sendings n (told_first old.items key ids (k + 1)) old
+      → next ≡ with_sendings n (told_first old.items keys ids (k + 1)) old
   told_nothing next m is two same =
-      let i : Invalidation = record { to = slice_index_or ids k 0; keys = Some (key ∷ []) } in
+      let i : Invalidation = record { to = slice_index_or ids k 0; keys = keys } in
       told_step next m is
       (same ∙ ap (λ p. with_sendings n (route (record m { proto = p }) i) now) (sym two))
 
   -- it is on the third
   pub told_push : (next : ConnectionsState) (m : Mode) (push : List ℕ)
       → m ≡ (connection_at now.items (slice_index_or ids k 0)).mode → m.proto ≡ Three
-      → push ≡ spelled Three (push_of (Some (key ∷ [])))
+      → push ≡ spelled Three (push_of keys)
       → (let id = slice_index_or ids k 0 in next ≡ record {
         items = queued now.items id push;
         posts = now.posts ++ message_post n id (length push) ∷ [];
       })
-      → next ≡ with_sendings n (told_first old.items key ids (k + 1)) old
+      → next ≡ with_sendings n (told_first old.items keys ids (k + 1)) old
   told_push next m push is three spelling sent =
       let id = slice_index_or ids k 0 in
-      let i : Invalidation = record { to = id; keys = Some (key ∷ []) } in
+      let i : Invalidation = record { to = id; keys = keys } in
       told_step next m is
       (sent
       ∙ ap (λ b. record {
@@ -362,6 +457,41 @@ module _ (n : ℕ) (key ids : List ℕ) (k : ℕ) (old now : ConnectionsState) (
         posts = now.posts ++ message_post n id (length b) ∷ [];
       }) spelling
       ∙ ap (λ p. with_sendings n (route (record m { proto = p }) i) now) (sym three))
+
+-- ---- those that track
+
+pub ids_next : (test : ℕ → Bool) (n : ℕ)
+    → ids_where test (n + 1)
+    ≡ cond (test (n + 1)) (ids_where test n ++ (n + 1) ∷ []) (ids_where test n)
+ids_next test n =
+    let e : n + 1 ≡ suc n = omega arith in
+    ap (ids_where test) e
+    ∙ ap (λ k. cond (test k) (ids_where test n ++ k ∷ []) (ids_where test n)) (sym e)
+
+pub ids_same : (f g : ℕ → Bool) (n : ℕ) → ((i : ℕ) → 0 < i → i ≤ n → f i ≡ g i)
+    → ids_where f n ≡ ids_where g n
+ids_same f g zero same = refl
+ids_same f g (suc n) same =
+    let rest = ids_same f g n (λ i some le. same i some (omega (arith, le))) in
+    ap (λ b. cond b (ids_where f n ++ suc n ∷ []) (ids_where f n))
+    (same (suc n) (omega arith) (omega arith))
+    ∙ ap (λ ids. cond (g (suc n)) (ids ++ suc n ∷ []) ids) rest
+
+ids_more : (cs : List Connection) (xs : List ℕ) (id : ℕ) → AreIds cs xs → IsId cs id
+    → AreIds cs (xs ++ id ∷ [])
+ids_more cs [] id h on = (on, tt)
+ids_more cs (x ∷ xs) id h on = (h.0, ids_more cs xs id h.1 on)
+
+pub ids_there : (cs : List Connection) (test : ℕ → Bool) (n : ℕ) → n ≤ length cs
+    → AreIds cs (ids_where test n)
+ids_there cs test zero le = tt
+ids_there cs test (suc n) le =
+    let rest = ids_there cs test n (omega (arith, le)) in
+    elim (test (suc n)) as (λ b. AreIds cs
+    (cond b (ids_where test n ++ suc n ∷ []) (ids_where test n))) [
+      | true ↦ ids_more cs (ids_where test n) (suc n) rest (omega arith, omega (arith, le))
+      | false ↦ rest
+    ]
 
 -- ---- the last post
 

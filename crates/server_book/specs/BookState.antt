@@ -6,10 +6,11 @@ use Rattle.serial_model.specs.declared.history.Limits.{Limits}
 use Rattle.serial_model.specs.declared.history.Post.{Post}
 use Rattle.serial_model.specs.declared.history.Entry.{Entry}
 use Rattle.serial_model.specs.declared.history.BookCall.{BookCall}
-use Rattle.serial_model.specs.declared.history.BookCall.TheVariants.{Admit, Run, Take, Close}
+use Rattle.serial_model.specs.declared.history.BookCall.TheVariants.{Admit, Run, Tick, Take}
+use Rattle.serial_model.specs.declared.history.BookCall.TheVariants.{Close}
 use Rattle.serial_model.specs.declared.history.BookReply.{BookReply}
-use Rattle.serial_model.specs.declared.history.BookReply.TheVariants.{Admitted, Ran, Quiet, Bytes}
-use Rattle.serial_model.specs.declared.history.BookReply.TheVariants.{Closed, Refused}
+use Rattle.serial_model.specs.declared.history.BookReply.TheVariants.{Admitted, Ran, Ticked, Quiet}
+use Rattle.serial_model.specs.declared.history.BookReply.TheVariants.{Bytes, Closed, Refused}
 use Rattle.serial_model.specs.History.{admitted, has_ended, keyspace, unsent, posted, IsLegal}
 use Rattle.serial_model.specs.History.{runs_on}
 use Rattle.serial_model.specs.History.{gives_on, reads_on, is_full, mode}
@@ -31,6 +32,7 @@ pub record BookState : Type 0 where
 abbrev pub posts_after : Limits → BookReply → List Entry → List Post
 posts_after l (Admitted e id) past = posted l past
 posts_after l (Ran e) past = posted l past
+posts_after l (Ticked e) past = posted l past
 posts_after l Quiet past = []
 posts_after l (Bytes e bytes) past = posted l past
 posts_after l (Closed e) past = posted l past
@@ -58,10 +60,11 @@ pub record IsBook (l : Limits) (log : LogState) (stores : Stores) : Type 0 where
   pub agrees : Agrees l log.past stores.space stores.table stores.connections.items
   pub room : HasRoom log.room stores.connections.items
 
--- the call is one that adds an entry
+-- the call is one that adds an entry; of a Tick it is not known yet whether a key is due
 abbrev pub IsAccepted : Limits → List Entry → BookCall → Type 0
 IsAccepted l past Admit = is_full l past ≡ false
 IsAccepted l past (Run id words now) = (runs_on l past id ≡ true) × (is_full l past ≡ false)
+IsAccepted l past (Tick now) = Unit {0}
 IsAccepted l past (Take id most) =
     (gives_on l past id ≡ true) × (is_full l past ≡ false) × (0 < length (unsent l id past))
 IsAccepted l past (Close id) = reads_on l past id ≡ true

@@ -1,4 +1,6 @@
 pub mod Plans
+pub mod Played
+pub mod RunSendings
 pub mod Log
 pub mod Connections
 pub mod Sendings

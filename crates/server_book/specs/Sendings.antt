@@ -1,15 +1,31 @@
 -- What sendings do to the connections, and what taking them back does.
-use Rattle.std.specs.Prelude.{◌-◌, ℕ, List, [], ◌∷◌, ◌++◌, length, take}
+use Rattle.std.specs.Prelude.{◌-◌, ◌&&◌, ℕ, List, [], ◌∷◌, ◌++◌, Bool, not, length, take}
+use Rattle.std.specs.Prelude.{Option, Some, None}
 use Rattle.serial_model.specs.declared.mode.Mode.{Mode}
 use Rattle.serial_model.specs.declared.history.Post.{Post}
 use Rattle.serial_model.specs.declared.history.Posted.{Posted}
 use Rattle.serial_model.specs.declared.history.Posted.TheVariants.{Message, End}
+use Rattle.serial_model.specs.Tracking.{ids_where}
 use Rattle.serial_model.specs.History.{Sending, sending_bytes, posted_of}
 use Rattle.server_book.specs.declared.connections.Connection.{Connection}
 use Rattle.server_book.specs.Connections.{ConnectionsState, IsId, connection_at, with_connection}
 
 abbrev pub modes_of : List Connection → ℕ → Mode
 modes_of connections id = (connection_at connections id).mode
+
+-- the one key that is told of, or none for all
+abbrev pub told_keys : Option (List ℕ) → Option (List (List ℕ))
+told_keys None = None
+told_keys (Some key) = Some (key ∷ [])
+
+-- a connection that tracks and has not ended
+abbrev pub tracks : List Connection → ℕ → Bool
+tracks connections id =
+    let c = connection_at connections id in c.mode.tracking && not c.ended
+
+-- those that do, in order of their ids
+abbrev pub tracking_ids : List Connection → List ℕ
+tracking_ids connections = ids_where (tracks connections) (length connections)
 
 abbrev pub AreIds : List Connection → List ℕ → Type 0
 AreIds connections [] = Unit {0}

@@ -4,7 +4,7 @@ ghost use Rattle.std.specs.Prelude.{reverse};
 ghost use Rattle.command_words.specs.Reading.{IsReading};
 ghost use Rattle.command_words.specs.Words.{reading};
 ghost use Rattle.serial_model.specs.declared.history.BookCall.TheVariants as call;
-ghost use Rattle.serial_model.specs.History.{IsLegal, gives_on, is_full, reads_on};
+ghost use Rattle.serial_model.specs.History.{IsLegal, gives_on, is_full, latest, reads_on};
 ghost use Rattle.serial_model.specs.History.{runs_on};
 ghost use Rattle.serial_model.specs.History.{unsent};
 ghost use Rattle.serial_model.specs.Steps.{AreValid, BookStep, IsCallable};
@@ -12,8 +12,9 @@ ghost use Rattle.server_book.specs.BookState.{IsAccepted, IsFullAnswer, IsRefusa
 ghost use Rattle.server_book.specs.BookState.{posts_after};
 
 use super::log::Log;
-use super::plan::{Plan, plan_of};
+use super::plan::{Played, play};
 use super::stores::Stores;
+use command_set::Expired;
 use command_words::{Command, WordFault, read_command};
 use resp_value::{NoMemory, Words};
 use serial_model::{BookCall, BookRefusal, BookReply, Entry, Limits, Post, Runner};
@@ -61,6 +62,13 @@ impl Book {
         ensures { result ≡ length self.now.past }
     {
         self.log.len()
+    }
+
+    /// The greatest moment so far, in milliseconds.
+    pub fn moment(&self) -> u64
+        ensures { result ≡ latest self.now.past }
+    {
+        self.log.moment()
     }
 
     /// The history, the first entry first.
@@ -139,6 +147,8 @@ impl Book {
                     Some(BookReply::Refused(BookRefusal::Gone { id: *id }))
                 }
             }
+            // Whether a key is due is not known yet.
+            BookCall::Tick { .. } => None,
             BookCall::Take { id, .. } => {
                 if self.gives_on(*id) {
                     if self.waiting(*id) > 0 {
@@ -175,7 +185,7 @@ impl Book {
         Ok(BookReply::Admitted { entry, id })
     }
 
-    // What was sent can be taken back, so what grows for good goes last.
+    // The room for the entry comes first; a run and what was sent can be taken back.
     fn run_read(
         &mut self,
         id: u64,
@@ -189,28 +199,27 @@ impl Book {
         ensures ok { IfOk result (λ reply. IsTurn self.old (call.Run id words now) reply self.new) }
         ensures err { OnErr result (self.new ≡ self.old) }
     {
-        let alloc = self.stores.alloc;
-        let count = self.stores.connections.count();
         let entry = self.log.len() + 1;
         let moment = now.max(self.log.moment());
-        let before = self.stores.connections.mode(id);
-        let by = Runner { id, mode: before };
-        let Plan { reply, deed, mode } = plan_of(
-            alloc,
-            &self.stores.space,
+        let mode = self.stores.connections.mode(id);
+        let by = Runner { id, mode };
+        self.log.reserve(self.stores.connections.count() + 1)?;
+        let Played {
+            expired,
+            plan,
+            undo,
+        } = play(
+            self.stores.alloc,
+            &mut self.stores.space,
             by,
             &words,
             read,
             moment,
         )?;
-        self.log.reserve(count + 1)?;
-        self.stores.connections.send(entry, id, mode.proto, &reply)?;
-        self.stores.connections.set_mode(id, mode);
-        match self.stores.carry_out(entry, id, deed, read, moment) {
+        match self.stores.send_run(entry, id, expired.as_slice(), &plan) {
             Ok(()) => {}
             Err(_) => {
-                self.stores.connections.take_back();
-                self.stores.connections.set_mode(id, before);
+                self.stores.space.undo_due(undo);
                 return Err(NoMemory);
             }
         }
@@ -226,6 +235,37 @@ impl Book {
     {
         let read = read_command(self.stores.alloc, &words);
         self.run_read(id, words, &read, now)
+    }
+
+    // Where no key is due, nothing was taken out.
+    fn tick(&mut self, now: u64) -> Result<BookReply, NoMemory>
+        requires none { self.old.posts ≡ [] }
+        ensures ok { IfOk result (λ reply. IsTurn self.old (call.Tick now) reply self.new) }
+        ensures err { OnErr result (self.new ≡ self.old) }
+    {
+        let is_full = self.is_full();
+        let entries = self.log.len();
+        let moment = now.max(self.log.moment());
+        self.log.reserve(self.stores.connections.count() + 1)?;
+        let Expired { keys, undo } = self.stores.space.expire_due(moment)?;
+        if keys.as_slice().is_empty() {
+            return Ok(BookReply::Quiet);
+        }
+        if is_full {
+            self.stores.space.undo_due(undo);
+            return Ok(BookReply::Refused(BookRefusal::HistoryFull { entries }));
+        }
+        let entry = entries + 1;
+        match self.stores.send_tick(entry, keys.as_slice()) {
+            Ok(()) => {
+                self.log.push(Entry::Tick { moment });
+                Ok(BookReply::Ticked { entry })
+            }
+            Err(_) => {
+                self.stores.space.undo_due(undo);
+                Err(NoMemory)
+            }
+        }
     }
 
     fn take(&mut self, id: u64, most: u64) -> Result<BookReply, NoMemory>
@@ -270,6 +310,7 @@ impl Book {
         let turned = match call {
             BookCall::Admit => self.admit(),
             BookCall::Run { id, words, now } => self.run(id, words, now),
+            BookCall::Tick { now } => self.tick(now),
             BookCall::Take { id, max } => self.take(id, max),
             BookCall::Close { id } => return self.close(id),
         };

@@ -2,10 +2,11 @@
 ghost use Rattle.std.specs.Prelude.{◌≡◌, ◌++◌, ◌∷◌, [], ◌+◌, ◌^◌, ◌<◌, ◌≤◌, true, false, OnOk};
 ghost use Rattle.std.specs.Prelude.{OnErr, IfOk, length, take, drop};
 ghost use Rattle.serial_model.specs.History.{routed, spelled};
-ghost use Rattle.serial_model.specs.Tracking.{told_of};
+ghost use Rattle.serial_model.specs.Tracking.{told_to};
 ghost use Rattle.server_book.specs.Connections.{IsId, ConnectionsState, connection_at, fresh};
 ghost use Rattle.server_book.specs.Connections.{is_live, with_connection};
 ghost use Rattle.server_book.specs.Sendings.{AreIds, before_posts, modes_of, queued, size_of};
+ghost use Rattle.server_book.specs.Sendings.{told_keys, tracking_ids};
 ghost use Rattle.server_book.specs.Sendings.{message_post, end_post, with_sendings};
 
 use super::messages::push_of;
@@ -178,19 +179,32 @@ impl Connections {
         Ok(())
     }
 
-    /// Tells connections that a key is not what it was: those on the third protocol are sent a
-    /// push, those on the second nothing. Where memory runs out, some of them were sent theirs.
+    /// Those that track and have not ended, in order of their ids.
+    pub fn tracking(&self, alloc: Global) -> Result<Vec<u64>, NoMemory>
+        ensures { IfOk result (λ ids. ids.items ≡ tracking_ids self.now.items) }
+    {
+        let mut ids = Vec::new(alloc);
+        for (place, connection) in self.items.iter().enumerate() {
+            if connection.mode.tracking && !connection.ended {
+                ids.push(place as u64 + 1)?;
+            }
+        }
+        Ok(ids)
+    }
+
+    /// Tells connections that a key is not what it was, or that no key is: those on the third
+    /// protocol are sent a push, those on the second nothing. Where memory runs out, some of them
+    /// were sent theirs.
     pub fn tell(
         &mut self,
         alloc: Global,
         entry: u64,
-        key: &[u8],
+        key: Option<Octets>,
         to: &[u64],
     ) -> Result<(), NoMemory>
         requires { AreIds self.old.items to.now }
-        ensures ok { OnOk result (self.new
-            ≡ with_sendings entry (routed (modes_of self.old.items) (told_of key.now to.now))
-            self.old) }
+        ensures ok { OnOk result (self.new ≡ with_sendings entry
+            (routed (modes_of self.old.items) (told_to (told_keys key) to.now)) self.old) }
         ensures err { OnErr result
             (before_posts self.new.posts self.new.items
             ≡ before_posts self.old.posts self.old.items) }

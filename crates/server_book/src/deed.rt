@@ -1,12 +1,14 @@
 //! What a request does besides its reply.
 use resp_value::Words;
 
-/// What a request does to keys, and to what its connection remembers.
+/// Whom a request tells, and what its connection remembers by it.
 #[derive(Drop)]
 pub enum Deed {
     Nothing,
-    /// The command runs, and the holders of these keys are told.
-    Write(Words),
+    /// The holders of these keys are told.
+    Tell(Words),
+    /// All that track are told that no key is what it was.
+    TellAll,
     /// The connection remembers these keys.
     Remember(Words),
     /// The connection forgets all keys.

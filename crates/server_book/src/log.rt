@@ -78,8 +78,9 @@ impl Log {
         ensures past { self.new.past ≡ entry ∷ self.old.past }
         ensures room { self.new.room + 1 ≡ self.old.room }
     {
-        if let Entry::Run { moment, .. } = &entry {
-            self.moment = *moment;
+        match &entry {
+            Entry::Run { moment, .. } | Entry::Tick { moment } => self.moment = *moment,
+            Entry::Admit { .. } | Entry::Take { .. } | Entry::Close { .. } => {}
         }
         self.entries.push_reserved(entry);
     }

@@ -1,18 +1,32 @@
 //! What connections are sent beside replies.
-ghost use Rattle.std.specs.Prelude.{◌≡◌, [], ◌∷◌, IfOk, Some};
-ghost use Rattle.serial_model.specs.Tracking.{push_of};
+ghost use Rattle.std.specs.Prelude.{◌≡◌, IfOk};
+ghost use Rattle.resp_value.specs.ValueTree.{tree_of};
+ghost use Rattle.serial_model.specs.Tracking.{named, push_of};
+ghost use Rattle.server_book.specs.Sendings.{told_keys};
 
 use resp_value::{NoMemory, Octets, Value, Values};
 use std::alloc::Global;
 
-/// What a connection that tracks is sent where a key is not what it was.
-pub fn push_of(alloc: Global, key: &[u8]) -> Result<Value, NoMemory>
-    ensures { IfOk result (λ v. v ≡ push_of (Some (key.now ∷ []))) }
+// The key alone, or null for all.
+fn named(alloc: Global, key: Option<Octets>) -> Result<Value, NoMemory>
+    ensures { IfOk result (λ v. tree_of v ≡ named (told_keys key)) }
 {
-    let mut keys = Values::new(alloc);
-    keys.push(Value::Blob(Octets::from_slice(alloc, key)?))?;
+    match key {
+        Some(key) => {
+            let mut keys = Values::new(alloc);
+            keys.push(Value::Blob(key))?;
+            Ok(Value::Array(keys))
+        }
+        None => Ok(Value::Null),
+    }
+}
+
+/// What a connection that tracks is sent where a key is not what it was, or no key is.
+pub fn push_of(alloc: Global, key: Option<Octets>) -> Result<Value, NoMemory>
+    ensures { IfOk result (λ v. v ≡ push_of (told_keys key)) }
+{
     let mut parts = Values::new(alloc);
     parts.push(Value::Blob(Octets::from_slice(alloc, b"invalidate")?))?;
-    parts.push(Value::Array(keys))?;
+    parts.push(named(alloc, key)?)?;
     Ok(Value::Push(parts))
 }

@@ -1,31 +1,32 @@
-//! What a request will do: its reply, its deed, and what it makes of its connection.
-ghost use Rattle.std.specs.Prelude.{◌≡◌, ◌<◌, ◌^◌, IfOk, Result, Ok, Err, List, [], ℕ, true, codes};
-ghost use Rattle.std.specs.Prelude.{if◌then◌else◌};
+//! What a request does: to the keyspace, and what is planned of its reply, whom it tells and what
+//! it makes of its connection.
+ghost use Rattle.std.specs.Prelude.{◌≡◌, ◌<◌, ◌^◌, IfOk, OnOk, OnErr, Result, Ok, Err, List, []};
+ghost use Rattle.std.specs.Prelude.{ℕ, true, false, codes, if◌then◌else◌};
 ghost use Rattle.resp_value.specs.declared.value.Value.TheVariants.{Simple};
 ghost use Rattle.command_words.specs.declared.command.Command.TheVariants.{Hello};
 ghost use Rattle.command_words.specs.declared.command.WordFault.{WordFault};
-ghost use Rattle.command_words.specs.Effects.{effect};
+ghost use Rattle.command_words.specs.Effects.{has_row};
+ghost use Rattle.command_words.specs.Expiry.{without_due};
+ghost use Rattle.command_words.specs.Queries.{read};
 ghost use Rattle.command_words.specs.Space.{Space};
 ghost use Rattle.command_words.specs.Reading.{IsReading};
 ghost use Rattle.command_words.specs.Words.{reading};
 ghost use Rattle.command_words.specs.declared.command.Command.{Command};
+ghost use Rattle.command_set.specs.Runs.{taken_back};
+ghost use Rattle.serial_model.specs.Deadlines.{due_keys};
 ghost use Rattle.serial_model.specs.Modes.{is_served_tracking};
-ghost use Rattle.serial_model.specs.History.{gives_no_deadline, is_data, is_served, served};
-ghost use Rattle.serial_model.specs.History.{served_reading, signalled_keys};
+ghost use Rattle.serial_model.specs.History.{served, served_reading};
 ghost use Rattle.server_book.specs.declared.deed.Deed.TheVariants.{Nothing, Forget};
-ghost use Rattle.server_book.specs.Plans.{IsPlan, deed_for};
+ghost use Rattle.server_book.specs.Plans.{IsQuiet, deed_for};
+ghost use Rattle.server_book.specs.Played.{IsPlayed};
 
 use super::deed::Deed;
 use super::hello::{greeting, hello};
-use command_words::{
-    Command, Done, SetLife, Signalled, TrackOptions, WordFault, fault_text, keys_read, read_command,
-};
-use hash_cmds::{foresee_hash, is_hash};
-use keyspace::Keyspace;
+use command_set::{Database, Expired, Turned, Undo, has_row};
+use command_words::{Command, Signalled, TrackOptions, WordFault, fault_text, keys_read};
 use resp_value::{NoMemory, Octets, Value, Words};
 use serial_model::{Mode, Runner};
 use std::alloc::Global;
-use string_cmds::{foresee_string, is_string};
 
 #[derive(Drop)]
 pub struct Plan {
@@ -35,31 +36,59 @@ pub struct Plan {
     pub mode: Mode,
 }
 
-/// The plan of a request over a keyspace at a moment. The keyspace stays as it is.
-pub fn plan_of(
+/// What was played of a request: the keys that were due and left, the plan of the rest, and how the
+/// keyspace is put back.
+#[derive(Drop)]
+pub struct Played {
+    pub expired: Words,
+    pub plan: Plan,
+    pub undo: Undo,
+}
+
+/// Plays a request on a keyspace at a moment: the keys that are due leave, and then its command
+/// runs. Where memory runs out the keyspace is as before.
+pub fn play(
     alloc: Global,
-    space: &Keyspace,
+    space: &mut Database,
     by: Runner,
     words: &Words,
     read: &Result<Command, WordFault>,
     moment: u64,
-) -> Result<Plan, NoMemory>
+) -> Result<Played, NoMemory>
     requires id { by.id < 2 ^ 63 }
     requires reading { IsReading read.now (reading words.now) }
-    ensures { IfOk result (λ p.
-        IsPlan p by words.now read.now (served_reading words.now) space.now moment) }
+    ensures { IsPlayed by words.now (served_reading words.now) moment result space.old space.new }
 {
     match read {
-        Ok(command) => plan_command(alloc, space, by, words, command, moment),
-        Err(fault) => plan_fault(alloc, by, words, *fault),
+        Ok(command) => {
+            if has_row(command) {
+                play_data(alloc, space, by, command, moment)
+            } else {
+                let plan = plan_command(alloc, by, words, command)?;
+                play_expiry(space, plan, moment)
+            }
+        }
+        Err(fault) => {
+            let plan = plan_fault(alloc, by, words, *fault)?;
+            play_expiry(space, plan, moment)
+        }
     }
 }
 
-// SET gives no deadline that the key did not have.
-fn gives_no_deadline(life: SetLife) -> bool
-    ensures { result ≡ gives_no_deadline life }
+// The keys that are due leave, beside a plan that does not concern the keyspace.
+fn play_expiry(space: &mut Database, plan: Plan, moment: u64) -> Result<Played, NoMemory>
+    ensures plan { IfOk result (λ p. p.plan ≡ plan) }
+    ensures left { OnOk result (space.new ≡ without_due moment space.old) }
+    ensures expired { IfOk result (λ p. p.expired ≡ due_keys moment space.old) }
+    ensures undo { IfOk result (λ p. taken_back p.undo space.new ≡ space.old) }
+    ensures err { OnErr result (space.new ≡ space.old) }
 {
-    matches!(life, SetLife::Cleared | SetLife::Kept)
+    let Expired { keys, undo } = space.expire_due(moment)?;
+    Ok(Played {
+        expired: keys,
+        plan,
+        undo,
+    })
 }
 
 // CLIENT TRACKING without options, or OFF.
@@ -75,88 +104,63 @@ fn is_served_tracking(options: &TrackOptions) -> bool
     !options.on || none
 }
 
-// A command that the server runs.
-fn is_served(command: &Command) -> bool
-    ensures { result ≡ is_served command.now }
-{
-    match command {
-        Command::Hello(_) => true,
-        Command::ClientTracking(options) => is_served_tracking(options),
-        Command::Set(_, _, _, life) => gives_no_deadline(*life),
-        _ => is_string(command) || is_hash(command),
-    }
-}
-
-// What a command on strings or hashes replies, and which keys it signals.
-fn foresee(
-    alloc: Global,
-    space: &Keyspace,
-    command: &Command,
-    moment: u64,
-) -> Result<Done, NoMemory>
-    requires { is_data command.now ≡ true }
-    ensures reply { IfOk result (λ d. d.reply ≡ (effect command.now space.now moment).reply) }
-    ensures signals { IfOk result (λ d.
-        d.signalled ≡ (effect command.now space.now moment).signalled) }
-{
-    if is_hash(command) {
-        foresee_hash(alloc, space, command, moment)
-    } else {
-        foresee_string(alloc, space, command, moment)
-    }
-}
-
-// What a command that signals no key does: a connection that tracks remembers the keys that it
-// reads.
-fn read_deed(alloc: Global, mode: Mode, command: &Command) -> Result<Deed, NoMemory>
-    ensures { IfOk result (λ d. d ≡ deed_for mode.tracking command.now []) }
+// The keys that a command's connection remembers by it, where it signals none.
+fn reads_of(alloc: Global, mode: Mode, command: &Command) -> Result<Words, NoMemory>
+    ensures { IfOk result (λ w. w ≡ if mode.tracking then read command.now else []) }
 {
     if mode.tracking {
-        Ok(Deed::Remember(keys_read(alloc, command)?))
+        keys_read(alloc, command)
     } else {
-        Ok(Deed::Nothing)
+        Ok(Words::new(alloc))
     }
 }
 
-// What a command does that signals these keys.
-fn deed_of(
-    alloc: Global,
-    mode: Mode,
-    command: &Command,
-    signalled: Signalled,
-) -> Result<Deed, NoMemory>
-    ensures { IfOk result (λ d.
-        d ≡ deed_for mode.tracking command.now (signalled_keys signalled)) }
+// What a command does that signals this, and reads these keys.
+fn deed_of(mode: Mode, reads: Words, signalled: Signalled) -> Deed
+    ensures { result ≡ deed_for mode.tracking reads signalled }
 {
     match signalled {
         Signalled::Keys(keys) => {
-            if keys.as_slice().is_empty() {
-                return read_deed(alloc, mode, command);
+            if !keys.as_slice().is_empty() {
+                Deed::Tell(keys)
+            } else if mode.tracking {
+                Deed::Remember(reads)
+            } else {
+                Deed::Nothing
             }
-            Ok(Deed::Write(keys))
         }
-        Signalled::All => read_deed(alloc, mode, command),
+        Signalled::All => Deed::TellAll,
     }
 }
 
-// The plan of a command on strings or hashes.
-fn plan_data(
+// A data command runs, once the keys that are due have left.
+fn play_data(
     alloc: Global,
-    space: &Keyspace,
+    space: &mut Database,
     by: Runner,
     command: &Command,
     moment: u64,
-) -> Result<Plan, NoMemory>
-    requires { is_data command.now ≡ true }
-    ensures { IfOk result (λ p. (words : List (List ℕ))
-        → IsPlan p by words (Ok command.now) (Ok command.now) space.now moment) }
+) -> Result<Played, NoMemory>
+    requires { has_row command.now ≡ true }
+    ensures { (words : List (List ℕ))
+        → IsPlayed by words (Ok command.now) moment result space.old space.new }
 {
-    let done = foresee(alloc, space, command, moment)?;
-    let deed = deed_of(alloc, by.mode, command, done.signalled)?;
-    Ok(Plan {
+    let reads = reads_of(alloc, by.mode, command)?;
+    let Turned {
+        expired,
+        done,
+        undo,
+    } = space.run_due(command, moment)?;
+    let deed = deed_of(by.mode, reads, done.signalled);
+    let plan = Plan {
         reply: done.reply,
         deed,
         mode: by.mode,
+    };
+    Ok(Played {
+        expired,
+        plan,
+        undo,
     })
 }
 
@@ -178,26 +182,28 @@ fn plan_tracking(alloc: Global, mode: Mode, on: bool) -> Result<Plan, NoMemory>
     })
 }
 
-// The plan of words that read as a command.
+// The plan of words that read as a command that is none on data.
 fn plan_command(
     alloc: Global,
-    space: &Keyspace,
     by: Runner,
     words: &Words,
     command: &Command,
-    moment: u64,
 ) -> Result<Plan, NoMemory>
-    requires { by.id < 2 ^ 63 }
-    ensures { IfOk result (λ p.
-        IsPlan p by words.now (Ok command.now) (served (Ok command.now)) space.now moment) }
+    requires id { by.id < 2 ^ 63 }
+    requires other { has_row command.now ≡ false }
+    ensures { IfOk result (λ p. (space : Space) (moment : ℕ)
+        → IsQuiet p by words.now (served (Ok command.now)) space moment) }
 {
-    if !is_served(command) {
-        return plan_fault(alloc, by, words, WordFault::Unknown);
-    }
     match command {
         Command::Hello(word) => plan_hello(alloc, by, word),
-        Command::ClientTracking(options) => plan_tracking(alloc, by.mode, options.on),
-        _ => plan_data(alloc, space, by, command, moment),
+        Command::ClientTracking(options) => {
+            if is_served_tracking(options) {
+                plan_tracking(alloc, by.mode, options.on)
+            } else {
+                plan_fault(alloc, by, words, WordFault::Unknown)
+            }
+        }
+        _ => plan_fault(alloc, by, words, WordFault::Unknown),
     }
 }
 
@@ -205,8 +211,8 @@ fn plan_command(
 fn plan_hello(alloc: Global, by: Runner, word: &Option<Octets>) -> Result<Plan, NoMemory>
     requires { by.id < 2 ^ 63 }
     ensures { IfOk result (λ p.
-        (words : List (List ℕ)) (raw : Result Command WordFault) (space : Space) (moment : ℕ)
-        → IsPlan p by words raw (Ok (Hello word.now)) space moment) }
+        (words : List (List ℕ)) (space : Space) (moment : ℕ)
+        → IsQuiet p by words (Ok (Hello word.now)) space moment) }
 {
     match hello(word, by.mode.proto) {
         Ok(proto) => {
@@ -231,8 +237,8 @@ fn plan_hello(alloc: Global, by: Runner, word: &Option<Octets>) -> Result<Plan, 
 // The plan of words that are no command that is served.
 fn plan_fault(alloc: Global, by: Runner, words: &Words, fault: WordFault) -> Result<Plan, NoMemory>
     ensures { IfOk result (λ p.
-        (raw read : Result Command WordFault) (space : Space) (moment : ℕ)
-        → IsReading (Err fault) read → IsPlan p by words.now raw read space moment) }
+        (read : Result Command WordFault) (space : Space) (moment : ℕ)
+        → IsReading (Err fault) read → IsQuiet p by words.now read space moment) }
 {
     match fault {
         WordFault::NoMemory => Err(NoMemory),

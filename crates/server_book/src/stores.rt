@@ -1,58 +1,34 @@
 //! What the server keeps beside its history, all of which follows from it.
-ghost use Rattle.std.specs.Prelude.{◌≡◌, ◌<◌, [], OnOk, OnErr, IfOk, true};
+ghost use Rattle.std.specs.Prelude.{◌≡◌, ◌<◌, ◌⊎◌, [], OnOk, OnErr, IfOk, None};
 ghost use Rattle.std.specs.FinMap.{empty};
-ghost use Rattle.command_words.specs.Effects.{effect};
 ghost use Rattle.track_table.specs.Table.{dropped, kept, with_keys};
-ghost use Rattle.serial_model.specs.History.{is_data, routed};
-ghost use Rattle.serial_model.specs.Tracking.{AreApart, drop_group, group, without_keys};
+ghost use Rattle.serial_model.specs.History.{routed};
+ghost use Rattle.serial_model.specs.Tracking.{AreApart, drop_group, group, told_to, without_keys};
 ghost use Rattle.server_book.specs.Connections.{IsId};
-ghost use Rattle.server_book.specs.Plans.{IsSound, after_deed, kept_by, told_by};
-ghost use Rattle.server_book.specs.Sendings.{before_posts, modes_of, with_sendings};
+ghost use Rattle.server_book.specs.Plans.{IsSound, kept_by, told_by};
+ghost use Rattle.server_book.specs.RunSendings.{IsAside, before_run, run_sendings};
+ghost use Rattle.server_book.specs.Sendings.{before_posts, modes_of, tracking_ids, with_sendings};
 ghost use Rattle.server_book.specs.Stores.{AreThere, IsHeld};
 
 use super::connections::Connections;
 use super::deed::Deed;
-use command_words::{Command, WordFault};
-use hash_cmds::{is_hash, run_hash};
-use keyspace::Keyspace;
+use super::plan::Plan;
+use command_set::Database;
 use resp_value::{NoMemory, Octets};
 use std::alloc::Global;
-use string_cmds::run_string;
 use track_table::{Held, TrackTable};
 
 /// The keys, who remembers which of them, and the connections.
 #[derive(Drop)]
 pub struct Stores {
     pub alloc: Global,
-    pub space: Keyspace,
+    pub space: Database,
     pub table: TrackTable,
     pub connections: Connections,
 }
 
-// Runs a command on strings or hashes in place.
-fn run_data(
-    alloc: Global,
-    space: &mut Keyspace,
-    command: &Command,
-    moment: u64,
-) -> Result<(), NoMemory>
-    requires { is_data command.now ≡ true }
-    ensures ok { OnOk result (space.new ≡ (effect command.now space.old moment).space) }
-    ensures err { OnErr result (space.new ≡ space.old) }
-{
-    let run = if is_hash(command) {
-        run_hash(alloc, space, command, moment)
-    } else {
-        run_string(alloc, space, command, moment)
-    };
-    match run {
-        Ok(_) => Ok(()),
-        Err(_) => Err(NoMemory),
-    }
-}
-
-// No connection holds these keys any more.
-fn forget_keys(table: &mut TrackTable, keys: &[Octets])
+/// No connection holds these keys any more. It takes no memory.
+pub fn forget_keys(table: &mut TrackTable, keys: &[Octets])
     ensures { table.new ≡ record table.old { rows = without_keys keys.now table.old.rows } }
 {
     let mut left = keys;
@@ -78,7 +54,8 @@ fn tell_rows(
         ≡ before_posts connections.old.posts connections.old.items) }
 {
     for (place, row) in rows.iter().enumerate() {
-        connections.tell(alloc, entry, row.key(), row.holders())?;
+        let key = Octets::from_slice(alloc, row.key())?;
+        connections.tell(alloc, entry, Some(key), row.holders())?;
     }
     Ok(())
 }
@@ -93,7 +70,7 @@ impl Stores {
     {
         Ok(Stores {
             alloc,
-            space: Keyspace::new(alloc),
+            space: Database::new(alloc),
             table: TrackTable::new(alloc, table_max),
             connections: Connections::new(alloc)?,
         })
@@ -132,8 +109,8 @@ impl Stores {
         }
     }
 
-    // Tells the holders of these keys, key by key; they hold them still.
-    fn tell_keys(&mut self, entry: u64, keys: &[Octets]) -> Result<(), NoMemory>
+    /// Tells the holders of these keys, key by key; they hold them still.
+    pub fn tell_keys(&mut self, entry: u64, keys: &[Octets]) -> Result<(), NoMemory>
         requires there { AreThere self.old.connections.items self.old.table.rows }
         requires apart { AreApart keys.now }
         ensures space { self.new.space ≡ self.old.space }
@@ -149,25 +126,18 @@ impl Stores {
     {
         for (place, key) in keys.iter().enumerate() {
             let holders = self.table.holders(key.as_slice());
+            let key = key.copy()?;
             self.connections
-                .tell(self.alloc, entry, key.as_slice(), holders)?;
+                .tell(self.alloc, entry, Some(key), holders)?;
         }
         Ok(())
     }
 
-    // The command runs, and the holders of its keys are told, and hold them no more.
-    fn write(
-        &mut self,
-        entry: u64,
-        command: &Command,
-        keys: &[Octets],
-        moment: u64,
-    ) -> Result<(), NoMemory>
+    // Tells the holders of these keys, which hold them no more.
+    fn tell_and_forget(&mut self, entry: u64, keys: &[Octets]) -> Result<(), NoMemory>
         requires there { AreThere self.old.connections.items self.old.table.rows }
-        requires data { is_data command.now ≡ true }
         requires apart { AreApart keys.now }
-        ensures space { OnOk result
-            (self.new.space ≡ (effect command.now self.old.space moment).space) }
+        ensures space { self.new.space ≡ self.old.space }
         ensures table { OnOk result (self.new.table
             ≡ record self.old.table { rows = without_keys keys.now self.old.table.rows }) }
         ensures told { OnOk result
@@ -175,57 +145,178 @@ impl Stores {
             self.new.connections
             ≡ with_sendings entry (routed (modes_of self.old.connections.items) group)
             self.old.connections) }
-        ensures err { OnErr result ((self.new.table ≡ self.old.table)
-            × (self.new.space ≡ self.old.space)) }
+        ensures err { OnErr result (self.new.table ≡ self.old.table) }
         ensures back { OnErr result
             (before_posts self.new.connections.posts self.new.connections.items
             ≡ before_posts self.old.connections.posts self.old.connections.items) }
     {
         self.tell_keys(entry, keys)?;
-        run_data(self.alloc, &mut self.space, command, moment)?;
         forget_keys(&mut self.table, keys);
         Ok(())
     }
 
-    /// Does what a request does, and tells those whom it concerns. Where memory runs out all is as
-    /// before, but for what was sent.
-    pub fn carry_out(
-        &mut self,
-        entry: u64,
-        id: u64,
-        deed: Deed,
-        read: &Result<Command, WordFault>,
-        moment: u64,
-    ) -> Result<(), NoMemory>
-        requires held { IsHeld self.old.table.limit self.old.table.rows self.old.connections.items }
-        requires id { IsId self.old.connections.items id }
-        requires sound { IsSound deed read.now }
-        ensures space { OnOk result
-            (self.new.space ≡ after_deed deed read.now self.old.space moment) }
-        ensures table { OnOk result
-            (let rows = kept_by self.old.table.limit id deed self.old.table.rows in
-            self.new.table ≡ record self.old.table { rows = rows }) }
+    // Tells those that track that no key is what it was; none is remembered any more.
+    fn tell_flush(&mut self, entry: u64) -> Result<(), NoMemory>
+        ensures space { self.new.space ≡ self.old.space }
+        ensures table { OnOk result (self.new.table ≡ record self.old.table { rows = [] }) }
         ensures told { OnOk result
-            (let group = told_by self.old.table.limit id deed self.old.table.rows in
+            (let group = told_to None (tracking_ids self.old.connections.items) in
             self.new.connections
             ≡ with_sendings entry (routed (modes_of self.old.connections.items) group)
             self.old.connections) }
-        ensures err { OnErr result ((self.new.table ≡ self.old.table)
-            × (self.new.space ≡ self.old.space)) }
+        ensures err { OnErr result (self.new.table ≡ self.old.table) }
+        ensures back { OnErr result
+            (before_posts self.new.connections.posts self.new.connections.items
+            ≡ before_posts self.old.connections.posts self.old.connections.items) }
+    {
+        let tracking = self.connections.tracking(self.alloc)?;
+        self.connections
+            .tell(self.alloc, entry, None, tracking.as_slice())?;
+        self.table.clear();
+        Ok(())
+    }
+
+    // Tells those whom a request concerns, and remembers what it remembers. Where memory runs out
+    // all is as before, but for what was sent.
+    fn carry_out(&mut self, entry: u64, id: u64, deed: &Deed) -> Result<(), NoMemory>
+        requires held { IsHeld self.old.table.limit self.old.table.rows self.old.connections.items }
+        requires id { IsId self.old.connections.items id }
+        requires sound { IsSound deed.now }
+        ensures space { self.new.space ≡ self.old.space }
+        ensures table { OnOk result
+            (let rows = kept_by self.old.table.limit id deed.now self.old.table.rows in
+            self.new.table ≡ record self.old.table { rows = rows }) }
+        ensures told { OnOk result
+            (let tracking = tracking_ids self.old.connections.items in
+            let group = told_by self.old.table.limit id deed.now tracking self.old.table.rows in
+            self.new.connections
+            ≡ with_sendings entry (routed (modes_of self.old.connections.items) group)
+            self.old.connections) }
+        ensures err { OnErr result (self.new.table ≡ self.old.table) }
         ensures back { OnErr result
             (before_posts self.new.connections.posts self.new.connections.items
             ≡ before_posts self.old.connections.posts self.old.connections.items) }
     {
         match deed {
             Deed::Nothing => Ok(()),
-            Deed::Write(keys) => match read {
-                Ok(command) => self.write(entry, command, keys.as_slice(), moment),
-                Err(_) => unreachable!(),
-            },
+            Deed::Tell(keys) => self.tell_and_forget(entry, keys.as_slice()),
+            Deed::TellAll => self.tell_flush(entry),
             Deed::Remember(keys) => self.remember(entry, id, keys.as_slice()),
             Deed::Forget => {
                 self.table.forget_connection(id);
                 Ok(())
+            }
+        }
+    }
+
+    // A copy of the table as it is, where keys leave it before the rest of a Run can fail.
+    fn set_aside(&self, expired: &[Octets]) -> Result<Option<TrackTable>, NoMemory>
+        ensures { IfOk result (IsAside expired.now self.now.table) }
+    {
+        if expired.is_empty() {
+            Ok(None)
+        } else {
+            Ok(Some(self.table.copy()?))
+        }
+    }
+
+    // What a Run sends, in order: the holders of the keys that left are told, then comes its reply,
+    // then whom it tells itself.
+    fn send_groups(
+        &mut self,
+        entry: u64,
+        id: u64,
+        expired: &[Octets],
+        plan: &Plan,
+    ) -> Result<(), NoMemory>
+        requires held { IsHeld self.old.table.limit self.old.table.rows self.old.connections.items }
+        requires id { IsId self.old.connections.items id }
+        requires none { self.old.connections.posts ≡ [] }
+        requires apart { AreApart expired.now }
+        requires sound { IsSound plan.now.deed }
+        ensures space { self.new.space ≡ self.old.space }
+        ensures table { OnOk result
+            (let left = without_keys expired.now self.old.table.rows in
+            let rows = kept_by self.old.table.limit id plan.now.deed left in
+            self.new.table ≡ record self.old.table { rows = rows }) }
+        ensures sent { OnOk result (self.new.connections
+            ≡ run_sendings entry id expired.now plan.now self.old.table self.old.connections) }
+        ensures err { OnErr result (self.new.table
+            ≡ record self.old.table { rows = without_keys expired.now self.old.table.rows }
+            ⊎ self.new.table ≡ self.old.table) }
+        ensures back { OnErr result
+            (before_run id (modes_of self.old.connections.items id) self.new.connections
+            ≡ self.old.connections.items) }
+    {
+        self.tell_keys(entry, expired)?;
+        forget_keys(&mut self.table, expired);
+        self.connections
+            .send(entry, id, plan.mode.proto, &plan.reply)?;
+        self.connections.set_mode(id, plan.mode);
+        self.carry_out(entry, id, &plan.deed)
+    }
+
+    /// Sends what a Run sends, and remembers what it remembers. Where memory runs out all is as
+    /// before.
+    pub fn send_run(
+        &mut self,
+        entry: u64,
+        id: u64,
+        expired: &[Octets],
+        plan: &Plan,
+    ) -> Result<(), NoMemory>
+        requires held { IsHeld self.old.table.limit self.old.table.rows self.old.connections.items }
+        requires id { IsId self.old.connections.items id }
+        requires none { self.old.connections.posts ≡ [] }
+        requires apart { AreApart expired.now }
+        requires sound { IsSound plan.now.deed }
+        ensures space { self.new.space ≡ self.old.space }
+        ensures table { OnOk result
+            (let left = without_keys expired.now self.old.table.rows in
+            let rows = kept_by self.old.table.limit id plan.now.deed left in
+            self.new.table ≡ record self.old.table { rows = rows }) }
+        ensures sent { OnOk result (self.new.connections
+            ≡ run_sendings entry id expired.now plan.now self.old.table self.old.connections) }
+        ensures err_table { OnErr result (self.new.table ≡ self.old.table) }
+        ensures err_connections { OnErr result (self.new.connections ≡ self.old.connections) }
+    {
+        let before = self.connections.mode(id);
+        let aside = self.set_aside(expired)?;
+        match self.send_groups(entry, id, expired, plan) {
+            Ok(()) => Ok(()),
+            Err(_) => {
+                self.connections.take_back();
+                self.connections.set_mode(id, before);
+                if let Some(table) = aside {
+                    self.table = table;
+                }
+                Err(NoMemory)
+            }
+        }
+    }
+
+    /// Sends what a Tick sends: the holders of the keys that left are told, and hold them no more.
+    /// Where memory runs out all is as before.
+    pub fn send_tick(&mut self, entry: u64, expired: &[Octets]) -> Result<(), NoMemory>
+        requires there { AreThere self.old.connections.items self.old.table.rows }
+        requires none { self.old.connections.posts ≡ [] }
+        requires apart { AreApart expired.now }
+        ensures space { self.new.space ≡ self.old.space }
+        ensures table { OnOk result (self.new.table
+            ≡ record self.old.table { rows = without_keys expired.now self.old.table.rows }) }
+        ensures sent { OnOk result
+            (let group = group expired.now self.old.table.rows in
+            self.new.connections
+            ≡ with_sendings entry (routed (modes_of self.old.connections.items) group)
+            self.old.connections) }
+        ensures err_table { OnErr result (self.new.table ≡ self.old.table) }
+        ensures err_connections { OnErr result (self.new.connections ≡ self.old.connections) }
+    {
+        match self.tell_and_forget(entry, expired) {
+            Ok(()) => Ok(()),
+            Err(_) => {
+                self.connections.take_back();
+                Err(NoMemory)
             }
         }
     }

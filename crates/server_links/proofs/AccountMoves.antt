@@ -10,13 +10,13 @@ use Rattle.serial_model.specs.declared.history.Limits.{Limits}
 use Rattle.serial_model.specs.declared.history.Entry.{Entry}
 use Rattle.serial_model.specs.declared.history.BookCall.TheVariants as call
 use Rattle.serial_model.specs.declared.history.BookReply.{BookReply}
-use Rattle.serial_model.specs.declared.history.BookReply.TheVariants.{Admitted, Ran, Quiet, Bytes}
-use Rattle.serial_model.specs.declared.history.BookReply.TheVariants.{Closed, Refused}
+use Rattle.serial_model.specs.declared.history.BookReply.TheVariants.{Admitted, Ran, Ticked, Quiet}
+use Rattle.serial_model.specs.declared.history.BookReply.TheVariants.{Bytes, Closed, Refused}
 use Rattle.serial_model.specs.History.{reads_on, gives_on, stream, taken}
 use Rattle.serial_model.specs.History.{unsent, runs_of}
 use Rattle.serial_model.specs.Steps.{Turn, book_step, given_by}
 use Rattle.serial_model.proofs.Turning.{step_gave, step_runs}
-use Rattle.server_links.specs.LinkEvent.{LinkEvent, Raw, Put, Over}
+use Rattle.server_links.specs.LinkEvent.{LinkEvent, Raw, Put, Over, Now, Tick}
 use Rattle.server_links.specs.declared.link.LinkMove.{LinkMove}
 use Rattle.server_links.specs.declared.link.LinkMove.TheVariants as moves
 use Rattle.server_links.specs.declared.direction.Direction.{Direction}
@@ -62,6 +62,7 @@ put_open more eof.Read bytes h = absurd (let no : ⊥ = cc in no)
 given_is : (c most : ℕ) (reply : BookReply) → given_by c (call.Take c most) reply ≡ bytes_of reply
 given_is c most (Admitted e id) = refl
 given_is c most (Ran e) = refl
+given_is c most (Ticked e) = refl
 given_is c most Quiet = refl
 given_is c most (Bytes e bytes) = ap (λ b. cond b bytes []) (same_id c)
 given_is c most (Closed e) = refl
@@ -413,11 +414,15 @@ unfoldable pub piece_of : LinkEvent → Session → List ℕ
 piece_of (Raw name) s = []
 piece_of (Put name bytes) s = []
 piece_of (Over name move) s = piece_over move s
+piece_of (Now moment) s = []
+piece_of Tick s = []
 
 unfoldable pub bytes_said : LinkEvent → List ℕ
 bytes_said (Raw name) = []
 bytes_said (Put name bytes) = bytes
 bytes_said (Over name move) = []
+bytes_said (Now moment) = []
+bytes_said Tick = []
 
 -- nothing was said, or nothing heard
 module _ (heard said : List ℕ) (s : Session) (m : Outcome Session) where
@@ -463,3 +468,5 @@ move_keeps heard said (Raw name) s = neither heard said s _ (account_stays heard
 move_keeps heard said (Put name bytes) s =
     none_heard heard said s _ bytes (say_keeps heard said bytes s)
 move_keeps heard said (Over name move) s = moved_keeps heard said move s
+move_keeps heard said (Now moment) s = neither heard said s _ (account_stays heard said s)
+move_keeps heard said Tick s = neither heard said s _ (account_stays heard said s)

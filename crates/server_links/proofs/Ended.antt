@@ -43,6 +43,7 @@ ended_more : (l : Limits) (c : ℕ) (e : Entry) (past : List Entry) → has_ende
     → has_ended l c (e ∷ past) ≡ true
 ended_more l c (entry.Admit id) past h = h
 ended_more l c (entry.Run id words moment) past h = h
+ended_more l c (entry.Tick moment) past h = h
 ended_more l c (entry.Take id most) past h = h
 ended_more l c (entry.Close id) past h =
     elim (id == c) as (λ b. cond b true (has_ended l c past) ≡ true) [ true ↦ refl | false ↦ h ]

@@ -16,7 +16,7 @@ use Rattle.serial_model.specs.declared.history.BookRefusal.TheVariants as refusa
 use Rattle.serial_model.specs.History.{admitted, is_full}
 use Rattle.serial_model.specs.Steps.{Turn, book_step, admitting, full}
 use Rattle.serial_model.proofs.Turning.{admit_step}
-use Rattle.server_links.specs.LinkEvent.{LinkEvent, Raw, Put, Over}
+use Rattle.server_links.specs.LinkEvent.{LinkEvent, Raw, Put, Over, Now, Tick}
 use Rattle.server_links.specs.declared.link.LinkMove.TheVariants as moves
 use Rattle.script_text.specs.declared.line.Line.{Line}
 use Rattle.server_links.specs.declared.fault.WorldFault.TheVariants.{NoName, NameTaken, HistoryFull}
@@ -28,13 +28,14 @@ use Rattle.server_links.specs.Moves.{move_of}
 use Rattle.server_links.specs.Transcript.{is_place, heard_at, heard, unless_fault}
 use Rattle.server_links.specs.Transcript.{transcript, after}
 use Rattle.server_links.specs.LinkSteps.{Stepped, place_of, over, over_named, raw_step}
-use Rattle.server_links.specs.LinkSteps.{link_named, step}
+use Rattle.server_links.specs.LinkSteps.{link_named, step, tick}
 use Rattle.server_links.specs.LinkSteps.{admitting as admitting_link}
 use Rattle.server_links.specs.LinksState.{LinksState, start, at_place, fresh_link}
 use Rattle.server_links.proofs.Names.{placed, unplaced}
-use Rattle.server_links.proofs.Outcomes.{Meets, meets_once, meets_refuses}
+use Rattle.server_links.proofs.Outcomes.{Meets, meets_once, meets_refuses, meets_stays}
 use Rattle.server_links.proofs.Outcomes.{meets_weaker, meets_within, reached_within}
-use Rattle.server_links.proofs.Outcomes.{Fronts, fronts_refuses, fronts_once}
+use Rattle.server_links.proofs.Outcomes.{Fronts, fronts_refuses, fronts_once, fronts_stays}
+use Rattle.server_links.proofs.Moments.{clock_stands, still_stands, tick_goes_on, tick_stands}
 use Rattle.server_links.proofs.Outcomes.{fronts_within, fronts_reached}
 use Rattle.resp_value.specs.Lists.{IsPrefix}
 use Rattle.server_links.proofs.Moving.{Every, every_move}
@@ -158,7 +159,7 @@ pub stands_step : (l : Limits) (heard : ℕ → List ℕ) (said : List ℕ
     → List ℕ) (lines : List Line) (w : LinksState) (s : Stands l heard said lines w)
     (event : LinkEvent)
     → Meets (Ends l heard said lines w s event) (Stops l heard said lines w s event) (step w event)
-unfolding step piece_of piece_over bytes_said reads_of
+unfolding step piece_of piece_over bytes_said reads_of Ends Stops
 stands_step l heard said lines w s (Raw name) = raw_stands l heard said lines w s name
 stands_step l heard said lines w s (Put name bytes) =
     named_stands l heard said lines w s name (Put name bytes)
@@ -181,6 +182,11 @@ stands_step l heard said lines w s (Over name moves.HangUp) =
 stands_step l heard said lines w s (Over name moves.Cut) =
     named_stands l heard said lines w s name (Over name moves.Cut) (λ i. refl)
     (λ n. nothing (bytes_eq name n))
+stands_step l heard said lines w s (Now moment) =
+    let c = still_stands l heard said lines _ (clock_stands l heard said lines w s moment) in
+    meets_stays (Ends l heard said lines w s (Now moment))
+    (Stops l heard said lines w s (Now moment)) _ c (stands_part l _ _ _ _ c)
+stands_step l heard said lines w s Tick = tick_stands l heard said lines w s
 
 -- ---- a schedule
 
@@ -223,10 +229,12 @@ raw_grows name None w = elim (is_full w.limits w.past) as (λ b. is_full w.limit
     ] refl
 
 step_grows : (event : LinkEvent) (w : LinksState) → Meets (Grows w) (Grows w) (step w event)
-unfolding step
+unfolding step Grows
 step_grows (Raw name) w = raw_grows name (place_of name w) w
 step_grows (Put name bytes) w = named_grows (place_of name w) (Put name bytes) w
 step_grows (Over name move) w = named_grows (place_of name w) (Over name move) w
+step_grows (Now moment) w = meets_stays (Grows w) (Grows w) _ ([], refl) ([], refl)
+step_grows Tick w = tick_goes_on w (Grows w) ([], refl) (λ moment e. (entry.Tick moment ∷ [], refl))
 
 grown : (event : LinkEvent) (w new : LinksState) (printed : List Line)
     → Reached (step w event) new printed → (es : List Entry) × (new.past ≡ es ++ w.past)
@@ -250,10 +258,12 @@ raw_fronts name (Some at) w = fronts_refuses w NameTaken
 raw_fronts name None w = fronts_once w _ _ _
 
 pub step_fronts : (event : LinkEvent) (w : LinksState) → Fronts (step w event)
-unfolding step
+unfolding step tick
 step_fronts (Raw name) w = raw_fronts name (place_of name w) w
 step_fronts (Put name bytes) w = named_fronts (place_of name w) (Put name bytes) w
 step_fronts (Over name move) w = named_fronts (place_of name w) (Over name move) w
+step_fronts (Now moment) w = fronts_stays _
+step_fronts Tick w = fronts_once w _ _ _
 
 pub printed_first : (w : LinksState) (event : LinkEvent) (new : LinksState) (printed : List Line)
     → Reached (step w event) new printed → IsPrefix printed (step w event).lines
@@ -276,6 +286,8 @@ pub step_is : (w : LinksState) (name : List ℕ) (event : LinkEvent) → link_na
     → step w event ≡ over_named (place_of name w) (move_of event) w
 unfolding step
 step_is w name (Raw n) h = absurd (let no : ⊥ = cc in no)
+step_is w name (Now moment) h = absurd (let no : ⊥ = cc in no)
+step_is w name Tick h = absurd (let no : ⊥ = cc in no)
 step_is w name (Put n bytes) h =
     ap (λ x. over_named (place_of x w) (move_of (Put n bytes)) w) (let e : n ≡ name = cc in e)
 step_is w name (Over n move) h =

@@ -1,5 +1,6 @@
 pub mod Outcomes
 pub mod Carries
+pub mod Moments
 pub mod Moving
 pub mod Accounts
 pub mod AccountRuns

@@ -131,7 +131,7 @@ reads_before l c past new on e h =
     live (is_admitted past c) (has_ended l c past) on
     (λ ended. both_hold (is_admitted new c) (has_ended l c new) h (e.stays_ended ended))
 
-other_account : (heard said read : List ℕ) (s : Session) (past : List Entry)
+pub other_account : (heard said read : List ℕ) (s : Session) (past : List Entry)
     → is_admitted s.past s.link.id ≡ true → Extends s.limits s.link.id s.past past
     → Account heard said read s → Account heard said read (with_past s past)
 other_account heard said read s past on e a = record {
@@ -159,7 +159,8 @@ module _ (l : Limits) (heard : ℕ → List ℕ) (said : List ℕ
   here : Session
   here = session_at at w
 
-  admitted_there : (i : ℕ) → i < length w.links → is_admitted w.past (at_place w.links i).id ≡ true
+  pub admitted_there : (i : ℕ) → i < length w.links
+      → is_admitted w.past (at_place w.links i).id ≡ true
   admitted_there i lt = ap (is_admitted w.past) (s.history.ids i lt)
       ∙ grind (arith, nat_tests, s.history.links, lt)
 
@@ -413,6 +414,8 @@ names_front l ns name (entry.Run id words m ∷ past) legal le =
     (name_front ns name id k.0 (omega (arith, k.1, le)))
     ∙ ap (λ x. x ++ line.Run (length past + 1) (name_of ns id) words ∷ [])
     (names_front l ns name past legal.3 le)
+names_front l ns name (entry.Tick m ∷ past) legal le =
+    ap (λ x. x ++ line.Tick (length past + 1) m ∷ []) (names_front l ns name past legal.3 le)
 names_front l ns name (entry.Take id max ∷ past) legal le =
     let k = connected l past id legal.0 in
     let n = taken l id (entry.Take id max ∷ past) - taken l id past in

@@ -16,13 +16,15 @@ use Rattle.serial_model.specs.declared.history.Entry.{Entry}
 use Rattle.serial_model.specs.declared.history.Entry.TheVariants as entry
 use Rattle.serial_model.specs.declared.history.Post.{Post}
 use Rattle.serial_model.specs.declared.history.BookCall.{BookCall}
-use Rattle.serial_model.specs.declared.history.BookCall.TheVariants.{Admit, Run, Take, Close}
+use Rattle.serial_model.specs.declared.history.BookCall.TheVariants.{Admit, Run, Tick, Take}
+use Rattle.serial_model.specs.declared.history.BookCall.TheVariants.{Close}
 use Rattle.serial_model.specs.declared.history.BookReply.{BookReply}
 use Rattle.serial_model.specs.History.{Sending, admitted, gives_on, latest, posts_of, posted}
-use Rattle.serial_model.specs.History.{reads_on}
+use Rattle.serial_model.specs.History.{expired, reads_on}
 use Rattle.serial_model.specs.History.{run_entries, runs_on, sends, sent, sent_to, unsent}
 use Rattle.serial_model.specs.History.{IsLegal}
-use Rattle.serial_model.specs.Steps.{admitting, closing, gone, running, taking, unless_full}
+use Rattle.serial_model.specs.Steps.{admitting, closing, gone, running, taking, ticking}
+use Rattle.serial_model.specs.Steps.{unless_full}
 use Rattle.serial_model.specs.Steps.{book_step, BookStep}
 use Rattle.serial_model.proofs.Others.{by_limit}
 use Rattle.serial_model.proofs.Streams.{sent_fresh, connected}
@@ -120,6 +122,7 @@ runs_none l (entry.Admit id ∷ past) c h lt = runs_none l past c h.2 (omega ari
 runs_none l (entry.Run id words moment ∷ past) c h lt =
     let r = runs_none l past c h.3 lt in let k = connected l past id h.0 in
     grind (arith, nat_tests)
+runs_none l (entry.Tick moment ∷ past) c h lt = runs_none l past c h.3 lt
 runs_none l (entry.Take id max ∷ past) c h lt = runs_none l past c h.3 lt
 runs_none l (entry.Close id ∷ past) c h lt = runs_none l past c h.1 lt
 
@@ -220,6 +223,14 @@ module _ (l : Limits) (past : List Entry) (ts : List TrailState) (noted : IsNote
       by_limit l past _ (λ t. Noted (Take id most) t.reply t.past) noted
       (quiet_noted l past ts noted (entry.Take id most) refl (λ c. refl))
 
+  ticking_noted : (now moment : ℕ) (keys : List (List ℕ)) →
+      let t = ticking l past moment keys in Noted (Tick now) t.reply t.past
+  unfolding posted Noted
+  ticking_noted now moment [] = noted
+  ticking_noted now moment (key ∷ keys) =
+      by_limit l past _ (λ t. Noted (Tick now) t.reply t.past) noted
+      (quiet_noted l past ts noted (entry.Tick moment) refl (λ c. refl))
+
   step_noted : (call : BookCall)
       → Noted call (book_step l past call).reply (book_step l past call).past
   unfolding book_step posted Noted
@@ -235,6 +246,8 @@ module _ (l : Limits) (past : List Entry) (ts : List TrailState) (noted : IsNote
             (run_noted l past ts noted id (max now (latest past)) words)
         | false ↦ noted
       ]
+  step_noted (Tick now) =
+      let moment = max now (latest past) in ticking_noted now moment (expired l past moment)
   step_noted (Take id most) =
       elim (gives_on l past id) as (λ b.
       let t = cond b (taking l past id most (take most (unsent l id past))) (gone past id) in

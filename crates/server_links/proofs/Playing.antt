@@ -9,8 +9,8 @@ use Rattle.serial_model.specs.declared.history.Entry.{Entry}
 use Rattle.serial_model.specs.declared.history.BookCall.{BookCall}
 use Rattle.serial_model.specs.declared.history.BookCall.TheVariants as call
 use Rattle.serial_model.specs.declared.history.BookReply.{BookReply}
-use Rattle.serial_model.specs.declared.history.BookReply.TheVariants.{Admitted, Ran, Quiet, Bytes}
-use Rattle.serial_model.specs.declared.history.BookReply.TheVariants.{Closed, Refused}
+use Rattle.serial_model.specs.declared.history.BookReply.TheVariants.{Admitted, Ran, Ticked, Quiet}
+use Rattle.serial_model.specs.declared.history.BookReply.TheVariants.{Bytes, Closed, Refused}
 use Rattle.serial_model.specs.History.{runs_on, reads_on, gives_on, is_full, unsent}
 use Rattle.serial_model.specs.Steps.{Turn, book_step, gone, full, taking}
 use Rattle.serial_model.proofs.Turning.{run_step, run_full, close_step}
@@ -221,6 +221,7 @@ pub only_given : (entry : ℕ) (bytes : List ℕ) (reply : BookReply) → IsGive
     → ((e : ℕ) (given : List ℕ) → reply ≡ Bytes e given → ⊥) → ⊥
 only_given entry bytes (Admitted e id) is gave = is
 only_given entry bytes (Ran e) is gave = is
+only_given entry bytes (Ticked e) is gave = is
 only_given entry bytes Quiet is gave = is
 only_given entry bytes (Bytes e given) is gave = gave e given refl
 only_given entry bytes (Closed e) is gave = is
@@ -257,6 +258,7 @@ pub given_line : (entry count : ℕ) (bytes name : List ℕ) (reply : BookReply)
     → reply_lines name [] reply ≡ line.Take entry name count ∷ []
 given_line entry count bytes name (Admitted e id) is size = absurd is
 given_line entry count bytes name (Ran e) is size = absurd is
+given_line entry count bytes name (Ticked e) is size = absurd is
 given_line entry count bytes name Quiet is size = absurd is
 given_line entry count bytes name (Bytes e given) is size =
     ap (λ n. line.Take n name (length given) ∷ []) is.0

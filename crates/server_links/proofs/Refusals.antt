@@ -6,11 +6,11 @@ use Rattle.std.proofs.lemmas.List.{set-get_or}
 use Rattle.resp_stream.specs.declared.fault.FaultPlace.{FaultPlace}
 use Rattle.resp_stream.specs.Parse.{parse}
 use Rattle.serial_model.specs.declared.history.BookReply.{BookReply}
-use Rattle.serial_model.specs.declared.history.BookReply.TheVariants.{Admitted, Ran, Quiet, Bytes}
-use Rattle.serial_model.specs.declared.history.BookReply.TheVariants.{Closed, Refused}
+use Rattle.serial_model.specs.declared.history.BookReply.TheVariants.{Admitted, Ran, Ticked, Quiet}
+use Rattle.serial_model.specs.declared.history.BookReply.TheVariants.{Bytes, Closed, Refused}
 use Rattle.serial_model.specs.declared.history.BookRefusal.TheVariants as refusal
 use Rattle.serial_model.specs.History.{reads_on, gives_on, unsent}
-use Rattle.server_links.specs.LinkEvent.{LinkEvent, Raw, Put, Over}
+use Rattle.server_links.specs.LinkEvent.{LinkEvent, Raw, Put, Over, Now, Tick}
 use Rattle.server_links.specs.declared.link.LinkMove.{LinkMove}
 use Rattle.server_links.specs.declared.link.LinkMove.TheVariants as moves
 use Rattle.server_links.specs.declared.fault.WorldFault.{WorldFault}
@@ -28,7 +28,7 @@ use Rattle.server_links.specs.Moves.{send_all}
 use Rattle.server_links.specs.Moves.{receive_all, flow, move_of, moved}
 use Rattle.server_links.specs.Outcome.{Outcome, stays, refuses, then_by, and_then, within}
 use Rattle.server_links.specs.Session.{Session, session_at, with_session, with_link, with_down}
-use Rattle.server_links.specs.LinkSteps.{over, over_named, place_of, raw_step, step}
+use Rattle.server_links.specs.LinkSteps.{over, over_named, place_of, raw_step, step, tick}
 use Rattle.server_links.specs.LinksState.{LinksState, fresh_link}
 
 -- ---- what is never refused
@@ -42,6 +42,7 @@ none f e r = absurd (let no : ⊥ = cc in no)
 by_reply : (reply : BookReply) (f : WorldFault) → reply_fault reply ≡ Some f → IsRefusal f → ⊥
 by_reply (Admitted e id) f is r = none f is r
 by_reply (Ran e) f is r = none f is r
+by_reply (Ticked e) f is r = none f is r
 by_reply Quiet f is r = none f is r
 by_reply (Bytes e bytes) f is r = none f is r
 by_reply (Closed e) f is r = none f is r
@@ -164,6 +165,8 @@ unfolding Unrefused
 unchanged_move (Raw name) s = still s s
 unchanged_move (Put name bytes) s = accepted s _ none
 unchanged_move (Over name move) s = unchanged_moved move s
+unchanged_move (Now moment) s = still s s
+unchanged_move Tick s = still s s
 
 unchanged_over : (at : ℕ) (e : LinkEvent) (w : LinksState) → Unchanged w (over at (move_of e) w)
 unfolding over within Unchanged
@@ -186,10 +189,12 @@ unchanged_raw name (Some at) w = refused w NameTaken
 unchanged_raw name None w = accepted w _ (by_reply _)
 
 unchanged : (e : LinkEvent) (w : LinksState) → Unchanged w (step w e)
-unfolding step
+unfolding step tick Unrefused
 unchanged (Raw name) w = unchanged_raw name (place_of name w) w
 unchanged (Put name bytes) w = unchanged_named (place_of name w) (Put name bytes) w
 unchanged (Over name move) w = unchanged_named (place_of name w) (Over name move) w
+unchanged (Now moment) w = accepted w _ none
+unchanged Tick w = accepted w _ (by_reply _)
 
 pub faults_none : (w : LinksState) (e : LinkEvent) (fault : WorldFault)
     → (step w e).fault ≡ Some fault

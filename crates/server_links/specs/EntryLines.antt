@@ -7,8 +7,8 @@ use Rattle.serial_model.specs.declared.history.Limits.{Limits}
 use Rattle.serial_model.specs.declared.history.Entry.{Entry}
 use Rattle.serial_model.specs.declared.history.Entry.TheVariants as entry
 use Rattle.serial_model.specs.declared.history.BookReply.{BookReply}
-use Rattle.serial_model.specs.declared.history.BookReply.TheVariants.{Admitted, Ran, Quiet, Bytes}
-use Rattle.serial_model.specs.declared.history.BookReply.TheVariants.{Closed, Refused}
+use Rattle.serial_model.specs.declared.history.BookReply.TheVariants.{Admitted, Ran, Ticked, Quiet}
+use Rattle.serial_model.specs.declared.history.BookReply.TheVariants.{Bytes, Closed, Refused}
 use Rattle.serial_model.specs.declared.history.BookRefusal.TheVariants as refusal
 use Rattle.serial_model.specs.History.{taken}
 use Rattle.script_text.specs.declared.line.Line.{Line}
@@ -18,10 +18,11 @@ use Rattle.script_text.specs.declared.line.Line.TheVariants as line
 use Rattle.server_links.specs.declared.fault.WorldFault.{WorldFault}
 use Rattle.server_links.specs.declared.fault.WorldFault.TheVariants.{HistoryFull}
 
--- what a turn prints, of the link of this name
+-- what a turn of a link prints, of this name
 abbrev pub reply_lines : List ℕ → List (List ℕ) → BookReply → List Line
 reply_lines link words (Admitted e id) = Admit e link id ∷ []
 reply_lines link words (Ran e) = Run e link words ∷ []
+reply_lines link words (Ticked e) = []
 reply_lines link words Quiet = []
 reply_lines link words (Bytes e bytes) = Take e link (length bytes) ∷ []
 reply_lines link words (Closed e) = Close e link ∷ []
@@ -31,6 +32,7 @@ reply_lines link words (Refused r) = []
 abbrev pub reply_fault : BookReply → Option WorldFault
 reply_fault (Admitted e id) = None
 reply_fault (Ran e) = None
+reply_fault (Ticked e) = None
 reply_fault Quiet = None
 reply_fault (Bytes e bytes) = None
 reply_fault (Closed e) = None
@@ -45,6 +47,7 @@ is_entry_line (Run e link words) = true
 is_entry_line (Bad link fault offset) = false
 is_entry_line (Close e link) = true
 is_entry_line (Take e link count) = true
+is_entry_line (line.Tick e moment) = true
 is_entry_line (Read link bytes) = false
 is_entry_line (line.Fault link number) = false
 is_entry_line (End link) = false
@@ -70,6 +73,8 @@ entry_lines l names (entry.Admit id ∷ past) =
     entry_lines l names past ++ Admit (length past + 1) (name_of names id) id ∷ []
 entry_lines l names (entry.Run id words moment ∷ past) =
     entry_lines l names past ++ Run (length past + 1) (name_of names id) words ∷ []
+entry_lines l names (entry.Tick moment ∷ past) =
+    entry_lines l names past ++ line.Tick (length past + 1) moment ∷ []
 entry_lines l names (entry.Take id max ∷ past) =
     entry_lines l names past
     ++ Take (length past + 1) (name_of names id)

@@ -1,14 +1,16 @@
 -- What an event does to a world, and what it prints.
-use Rattle.std.specs.Prelude.{ℕ, List, [], ◌∷◌, ◌++◌, position, Result}
+use Rattle.std.specs.Prelude.{ℕ, List, [], ◌∷◌, ◌++◌, max, position, Result}
 use Rattle.std.specs.declared.option.Option.{Option}
 use Rattle.std.specs.declared.option.Option.TheVariants.{None, Some}
 use Rattle.std.specs.Str.{bytes_eq}
 use Rattle.serial_model.specs.declared.history.Entry.{Entry}
 use Rattle.serial_model.specs.declared.history.BookCall.TheVariants as call
 use Rattle.serial_model.specs.declared.history.BookReply.{BookReply}
-use Rattle.serial_model.specs.declared.history.BookReply.TheVariants.{Admitted}
+use Rattle.serial_model.specs.declared.history.BookReply.TheVariants.{Admitted, Ticked}
 use Rattle.serial_model.specs.Steps.{Turn, book_step}
-use Rattle.server_links.specs.LinkEvent.{LinkEvent, Raw, Put, Over}
+use Rattle.server_links.specs.LinkEvent.{LinkEvent, Raw, Put, Over, Now, Tick}
+use Rattle.serial_model.specs.History.{latest}
+use Rattle.script_text.specs.declared.line.Line.TheVariants as line
 use Rattle.script_text.specs.declared.line.Line.{Line}
 use Rattle.server_links.specs.declared.fault.WorldFault.{WorldFault}
 use Rattle.server_links.specs.declared.fault.WorldFault.TheVariants.{NoName, NameTaken}
@@ -16,7 +18,7 @@ use Rattle.server_links.specs.declared.link.Link.{Link}
 use Rattle.server_links.specs.LinksState.{LinksState, fresh_link}
 use Rattle.server_links.specs.EntryLines.{reply_fault, reply_lines}
 use Rattle.server_links.specs.Moves.{move_of}
-use Rattle.server_links.specs.Outcome.{Outcome, Gives, refuses, within}
+use Rattle.server_links.specs.Outcome.{Outcome, Gives, refuses, stays, within}
 use Rattle.server_links.specs.Session.{Session, session_at, with_session}
 
 abbrev pub Stepped : Type 0
@@ -58,16 +60,38 @@ abbrev pub raw_step : LinksState → List ℕ → Option ℕ → Stepped
 raw_step w name (Some at) = refuses w NameTaken
 raw_step w name None = admitting w name (book_step w.limits w.past call.Admit)
 
+-- the line of a Tick at a moment; a quiet one prints none
+abbrev pub tick_lines : ℕ → BookReply → List Line
+tick_lines moment (Ticked e) = line.Tick e moment ∷ []
+tick_lines moment reply = []
+
+abbrev pub ticking : LinksState → Turn → Stepped
+ticking w t = record {
+  state = record { limits = w.limits; now = w.now; past = t.past; links = w.links };
+  lines = tick_lines (max w.now (latest w.past)) t.reply;
+  fault = reply_fault t.reply;
+  points = (w, []) ∷ [];
+}
+
+-- the keys that are due by the clock leave
+unfoldable pub tick : LinksState → Stepped
+tick w = ticking w (book_step w.limits w.past (call.Tick w.now))
+
 -- the link that an event names, where it is an event of one link that there is
 abbrev pub link_named : LinkEvent → Option (List ℕ)
 link_named (Raw name) = None
 link_named (Put name bytes) = Some name
 link_named (Over name move) = Some name
+link_named (Now moment) = None
+link_named Tick = None
 
 unfoldable pub step : LinksState → LinkEvent → Stepped
 step w (Raw name) = raw_step w name (place_of name w)
 step w (Put name bytes) = over_named (place_of name w) (move_of (Put name bytes)) w
 step w (Over name move) = over_named (place_of name w) (move_of (Over name move)) w
+step w (Now moment) =
+    stays (record { limits = w.limits; now = moment; past = w.past; links = w.links })
+step w Tick = tick w
 
 -- What was done is the step, and its lines were appended. Where memory ran out, the world and the
 -- lines are those of a point on the way: a move over a link leaves all other links as they were,

@@ -12,11 +12,11 @@ use Rattle.resp_stream.specs.Parse.{parse}
 use Rattle.serial_model.specs.declared.history.BookCall.{BookCall}
 use Rattle.serial_model.specs.declared.history.BookCall.TheVariants as call
 use Rattle.serial_model.specs.declared.history.BookReply.{BookReply}
-use Rattle.serial_model.specs.declared.history.BookReply.TheVariants.{Admitted, Ran, Quiet, Bytes}
-use Rattle.serial_model.specs.declared.history.BookReply.TheVariants.{Closed, Refused}
+use Rattle.serial_model.specs.declared.history.BookReply.TheVariants.{Admitted, Ran, Ticked, Quiet}
+use Rattle.serial_model.specs.declared.history.BookReply.TheVariants.{Bytes, Closed, Refused}
 use Rattle.serial_model.specs.History.{reads_on, gives_on, unsent}
 use Rattle.serial_model.specs.Steps.{Turn, book_step}
-use Rattle.server_links.specs.LinkEvent.{LinkEvent, Raw, Put, Over}
+use Rattle.server_links.specs.LinkEvent.{LinkEvent, Raw, Put, Over, Now, Tick}
 use Rattle.server_links.specs.declared.link.LinkMove.{LinkMove}
 use Rattle.server_links.specs.declared.link.LinkMove.TheVariants as moves
 use Rattle.script_text.specs.declared.line.Line.{Line}
@@ -122,6 +122,7 @@ serve (Some n) s =
 abbrev pub bytes_of : BookReply → List ℕ
 bytes_of (Admitted e id) = []
 bytes_of (Ran e) = []
+bytes_of (Ticked e) = []
 bytes_of Quiet = []
 bytes_of (Bytes e bytes) = bytes
 bytes_of (Closed e) = []
@@ -210,3 +211,5 @@ abbrev pub move_of : LinkEvent → Session → Outcome Session
 move_of (Raw name) s = stays s
 move_of (Put name bytes) s = say bytes s
 move_of (Over name move) s = moved move s
+move_of (Now moment) s = stays s
+move_of Tick s = stays s

@@ -8,10 +8,11 @@ use Rattle.serial_model.specs.declared.history.Entry.{Entry}
 use Rattle.serial_model.specs.declared.history.Entry.TheVariants as entry
 use Rattle.serial_model.specs.declared.history.Post.{Post}
 use Rattle.serial_model.specs.declared.history.BookCall.{BookCall}
-use Rattle.serial_model.specs.declared.history.BookCall.TheVariants.{Admit, Run, Take, Close}
+use Rattle.serial_model.specs.declared.history.BookCall.TheVariants.{Admit, Run, Tick, Take}
+use Rattle.serial_model.specs.declared.history.BookCall.TheVariants.{Close}
 use Rattle.serial_model.specs.declared.history.BookReply.{BookReply}
-use Rattle.serial_model.specs.declared.history.BookReply.TheVariants.{Admitted, Ran, Quiet, Bytes}
-use Rattle.serial_model.specs.declared.history.BookReply.TheVariants.{Closed, Refused}
+use Rattle.serial_model.specs.declared.history.BookReply.TheVariants.{Admitted, Ran, Ticked, Quiet}
+use Rattle.serial_model.specs.declared.history.BookReply.TheVariants.{Bytes, Closed, Refused}
 use Rattle.serial_model.specs.History.{admitted, run_entries, sent}
 
 -- of one connection, in order
@@ -53,6 +54,7 @@ sent_entries l c past = map (λ s. s.0) (sent l c past)
 abbrev pub words_of : Entry → Option (List (List ℕ))
 words_of (entry.Admit id) = None
 words_of (entry.Run id words moment) = Some words
+words_of (entry.Tick moment) = None
 words_of (entry.Take id max) = None
 words_of (entry.Close id) = None
 
@@ -83,6 +85,7 @@ AreNotes l past notes = notes.whole ≡ true → IsNoted l past notes.trails
 abbrev pub runner_of : BookCall → Option ℕ
 runner_of Admit = None
 runner_of (Run id words now) = Some id
+runner_of (Tick now) = None
 runner_of (Take id most) = None
 runner_of (Close id) = None
 
@@ -93,6 +96,7 @@ noted_run (Some id) n ts = changed (with_run n) id ts
 abbrev pub noted_reply : Option ℕ → BookReply → List TrailState → List TrailState
 noted_reply runner (Admitted e id) ts = noted_admit ts
 noted_reply runner (Ran e) ts = noted_run runner e ts
+noted_reply runner (Ticked e) ts = ts
 noted_reply runner Quiet ts = ts
 noted_reply runner (Bytes e bytes) ts = ts
 noted_reply runner (Closed e) ts = ts

@@ -11,7 +11,7 @@ use Rattle.resp_stream.specs.Parse.{requests_of}
 use Rattle.serial_model.specs.declared.history.Limits.{Limits}
 use Rattle.serial_model.specs.declared.history.Entry.{Entry}
 use Rattle.serial_model.specs.History.{admitted, reads_on, runs_of, stream, taken, unsent, IsLegal}
-use Rattle.server_links.specs.LinkEvent.{LinkEvent, Raw, Put, Over}
+use Rattle.server_links.specs.LinkEvent.{LinkEvent, Raw, Put, Over, Now, Tick}
 use Rattle.script_text.specs.declared.line.Line.{Line}
 use Rattle.script_text.specs.declared.line.Line.TheVariants as line
 use Rattle.server_links.specs.declared.fault.WorldFault.{WorldFault}
@@ -31,6 +31,8 @@ abbrev pub said_by : List ℕ → LinkEvent → List ℕ
 said_by link (Raw name) = []
 said_by link (Put name bytes) = if bytes_eq name link then bytes else []
 said_by link (Over name move) = []
+said_by link (Now moment) = []
+said_by link Tick = []
 
 -- the bytes that the client of a link put on it, in order
 abbrev pub said_to : List ℕ → List LinkEvent → List ℕ
@@ -42,6 +44,7 @@ read_by link (line.Run e name words) = []
 read_by link (line.Bad name number offset) = []
 read_by link (line.Close e name) = []
 read_by link (line.Take e name count) = []
+read_by link (line.Tick e moment) = []
 read_by link (line.Read name bytes) = if bytes_eq name link then bytes else []
 read_by link (line.Fault name number) = []
 read_by link (line.End name) = []

@@ -4,7 +4,7 @@ use Rattle.std.specs.Prelude.{take}
 use Rattle.std.specs.declared.option.Option.{Option}
 use Rattle.std.specs.declared.option.Option.TheVariants.{None, Some}
 use Rattle.serial_model.specs.History.{reads_on}
-use Rattle.server_links.specs.LinkEvent.{LinkEvent, Raw, Put, Over}
+use Rattle.server_links.specs.LinkEvent.{LinkEvent, Raw, Put, Over, Now, Tick}
 use Rattle.server_links.specs.declared.link.LinkMove.{LinkMove}
 use Rattle.server_links.specs.declared.link.LinkMove.TheVariants as moves
 use Rattle.script_text.specs.declared.line.Line.{Line}
@@ -55,6 +55,8 @@ move_heard w at moves.Cut = []
 abbrev pub heard_at : LinksState → ℕ → LinkEvent → List ℕ
 heard_at w at (Raw name) = []
 heard_at w at (Put name bytes) = []
+heard_at w at (Now moment) = []
+heard_at w at Tick = []
 heard_at w at (Over name move) = if is_place (place_of name w) at then move_heard w at move else []
 
 -- and in a schedule, up to the first event that meets a fault

@@ -6,7 +6,9 @@ ghost use Rattle.serial_model.specs.declared.history.BookCall.TheVariants as cal
 ghost use Rattle.serial_model.specs.History.{gives_on, reads_on, run_entries, unsent};
 ghost use Rattle.serial_model.specs.Steps.{AreValid, BookStep, IsCallable};
 ghost use Rattle.server_links.specs.Notes.{noted_turn, runner_of, sent_entries, words_at};
-ghost use Rattle.server_links.specs.Turns.{TurnGives};
+ghost use Rattle.server_links.specs.LinkSteps.{tick};
+ghost use Rattle.server_links.specs.Outcome.{Gives};
+ghost use Rattle.server_links.specs.Turns.{EndsTick, TurnGives, links_of};
 
 use super::fault::WorldFault;
 use super::notes::Notes;
@@ -48,7 +50,8 @@ fn runner_of(call: &BookCall) -> Option<u64>
 {
     match call {
         BookCall::Run { id, .. } => Some(*id),
-        BookCall::Admit | BookCall::Take { .. } | BookCall::Close { .. } => None,
+        BookCall::Admit | BookCall::Tick { .. } => None,
+        BookCall::Take { .. } | BookCall::Close { .. } => None,
     }
 }
 
@@ -94,6 +97,12 @@ impl Server {
         ensures { result ≡ self.now.clock }
     {
         self.clock
+    }
+
+    pub fn set_clock(&mut self, now: u64)
+        ensures { self.new ≡ record self.old { clock = now } }
+    {
+        self.clock = now;
     }
 
     /// How many entries the history has.
@@ -166,7 +175,8 @@ impl Server {
         let place = entry.checked_sub(1)? as usize;
         match self.book.history().get(place)? {
             Entry::Run { words, .. } => Some(words),
-            Entry::Admit { .. } | Entry::Take { .. } | Entry::Close { .. } => None,
+            Entry::Admit { .. } | Entry::Tick { .. } => None,
+            Entry::Take { .. } | Entry::Close { .. } => None,
         }
     }
 
@@ -218,6 +228,39 @@ impl Server {
             }
             reply => Ok(reply),
         }
+    }
+}
+
+impl Server {
+    /// The keys that are due by the clock leave. Where none is, nothing is printed.
+    pub fn tick(&mut self, lines: &mut Lines) -> Result<(), WorldFault>
+        ensures limits { self.new.book.limits ≡ self.old.book.limits }
+        ensures clock { self.new.clock ≡ self.old.clock }
+        ensures gives { Gives (tick (links_of self.old)) lines.old result (links_of self.new)
+            lines.new }
+    {
+        let now = self.clock;
+        let moment = now.max(self.book.moment());
+        lines.push(Line::Tick(self.next_entry()?, moment))?;
+        let reply = self.play(BookCall::Tick { now });
+        if let BookReply::Ticked { .. } = reply {
+            return Ok(());
+        }
+        take_back(lines);
+        without_entry(&reply)
+    }
+}
+
+// What a Tick comes to that is no entry.
+fn without_entry(reply: &BookReply) -> Result<(), WorldFault>
+    ensures { EndsTick reply.now result }
+{
+    match reply {
+        BookReply::Refused(BookRefusal::NoMemory) => Err(WorldFault::NoMemory),
+        BookReply::Refused(BookRefusal::HistoryFull { entries }) => {
+            Err(WorldFault::HistoryFull { entries: *entries })
+        }
+        _ => Ok(()),
     }
 }
 

@@ -7,7 +7,7 @@ ghost use Rattle.serial_model.specs.declared.history.BookCall.TheVariants as cal
 ghost use Rattle.serial_model.specs.History.{run_entries};
 ghost use Rattle.serial_model.specs.Steps.{AreValid};
 ghost use Rattle.server_links.specs.Directions.{is_queued};
-ghost use Rattle.server_links.specs.LinkEvent.{Over, Put, Raw};
+ghost use Rattle.server_links.specs.LinkEvent.{Over, Put, Raw, Tick};
 ghost use Rattle.server_links.specs.LinkSteps.{StepGives, place_of};
 ghost use Rattle.server_links.specs.LinksState.{AreApart, IsOver, at_place, names, start};
 ghost use Rattle.server_links.specs.Notes.{sent_entries, words_at};
@@ -122,6 +122,20 @@ impl ServerLinks {
             result self.new lines.new }
     {
         self.links[at].play(self.alloc, &mut self.server, movement, lines)
+    }
+
+    /// The clock's value, in milliseconds.
+    pub fn set_clock(&mut self, now: u64)
+        ensures { self.new ≡ record self.old { now = now } }
+    {
+        self.server.set_clock(now);
+    }
+
+    /// The keys that are due by the clock leave.
+    pub fn tick(&mut self, lines: &mut Lines) -> Result<(), WorldFault>
+        ensures { StepGives self.old Tick lines.old result self.new lines.new }
+    {
+        self.server.tick(lines)
     }
 
     pub fn limits(&self) -> Limits

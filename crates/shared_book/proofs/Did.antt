@@ -1,22 +1,23 @@
 -- What each reply to a connection's turn says of it.
-use Rattle.std.proofs.Common.{◌≡◌, ◌≤◌, ◌<◌, ◌+◌, ℕ, List, [], ◌∷◌, ◌++◌, length, max, take, map}
-use Rattle.std.proofs.Common.{Bool, true, false, cond, refl, sym, ap, subst, ◌∙◌, arith, Some, None}
-use Rattle.std.proofs.Common.{inl, inr}
-use Rattle.std.specs.Prelude.{Option, ⊤, ◌⊎◌}
-use Rattle.turn_lock.specs.History.{entries, IsPrefix, past_after}
+use Rattle.std.proofs.Common.{◌≡◌, ◌<◌, ◌+◌, ℕ, List, [], ◌∷◌, length, max, take}
+use Rattle.std.proofs.Common.{Bool, true, false, cond, refl, sym, ap, subst, ◌∙◌, arith, Some}
+use Rattle.std.proofs.Common.{None}
+use Rattle.std.specs.Prelude.{Option}
+use Rattle.turn_lock.specs.History.{past_after}
 use Rattle.serial_model.specs.declared.history.Limits.{Limits}
 use Rattle.serial_model.specs.declared.history.Entry.{Entry}
 use Rattle.serial_model.specs.declared.history.Entry.TheVariants as entry
 use Rattle.serial_model.specs.declared.history.BookCall.{BookCall}
-use Rattle.serial_model.specs.declared.history.BookCall.TheVariants.{Admit, Run, Take, Close}
+use Rattle.serial_model.specs.declared.history.BookCall.TheVariants.{Admit, Run, Tick, Take}
+use Rattle.serial_model.specs.declared.history.BookCall.TheVariants.{Close}
 use Rattle.serial_model.specs.declared.history.BookReply.{BookReply}
-use Rattle.serial_model.specs.declared.history.BookReply.TheVariants.{Admitted, Ran, Quiet, Bytes}
-use Rattle.serial_model.specs.declared.history.BookReply.TheVariants.{Closed, Refused}
+use Rattle.serial_model.specs.declared.history.BookReply.TheVariants.{Admitted, Ran, Ticked, Quiet}
+use Rattle.serial_model.specs.declared.history.BookReply.TheVariants.{Bytes, Closed, Refused}
 use Rattle.serial_model.specs.declared.history.BookRefusal.TheVariants.{Gone, HistoryFull, NoMemory}
-use Rattle.serial_model.specs.History.{admitted, is_admitted, has_ended, is_full, latest, unsent}
-use Rattle.serial_model.specs.History.{runs_on, reads_on, gives_on, taken, stream}
+use Rattle.serial_model.specs.History.{admitted, expired, is_full, latest, unsent}
+use Rattle.serial_model.specs.History.{runs_on, reads_on, gives_on}
 use Rattle.serial_model.specs.Steps.{Turn as Stepped, book_step, BookStep, gone, full, unless_full}
-use Rattle.serial_model.specs.Steps.{admitting, running, taking, closing}
+use Rattle.serial_model.specs.Steps.{admitting, running, taking, ticking, closing}
 use Rattle.serial_model.proofs.Turning.{by_step}
 use Rattle.shared_book.specs.Turns.{TurnStep}
 
@@ -46,6 +47,7 @@ module _ (l : Limits) (past : List Entry) where
   AdmitSays (Admitted n id) new =
       (id ≡ admitted past + 1) × (new ≡ entry.Admit (admitted past + 1) ∷ past)
   AdmitSays (Ran n) new = ⊥
+  AdmitSays (Ticked n) new = ⊥
   AdmitSays Quiet new = ⊥
   AdmitSays (Bytes n bytes) new = ⊥
   AdmitSays (Closed n) new = ⊥
@@ -65,6 +67,7 @@ module _ (l : Limits) (past : List Entry) where
   RunSays id words now (Admitted n i) new = ⊥
   RunSays id words now (Ran n) new =
       (n ≡ length past + 1) × (new ≡ entry.Run id words (max now (latest past)) ∷ past)
+  RunSays id words now (Ticked n) new = ⊥
   RunSays id words now Quiet new = ⊥
   RunSays id words now (Bytes n bytes) new = ⊥
   RunSays id words now (Closed n) new = ⊥
@@ -87,6 +90,7 @@ module _ (l : Limits) (past : List Entry) where
   unfoldable pub TakeSays : ℕ → ℕ → BookReply → List Entry → Type 0
   TakeSays id most (Admitted n i) new = ⊥
   TakeSays id most (Ran n) new = ⊥
+  TakeSays id most (Ticked n) new = ⊥
   TakeSays id most Quiet new =
       (new ≡ past) × (take most (unsent l id past) ≡ []) × (gives_on l past id ≡ true)
   TakeSays id most (Bytes n bytes) new =
@@ -119,9 +123,42 @@ module _ (l : Limits) (past : List Entry) where
       (λ on. taking_says id most on (take most (unsent l id past)) refl) (λ off. (refl, off))) refl
       does
 
+  unfoldable pub TickSays : ℕ → BookReply → List Entry → Type 0
+  TickSays now (Admitted n i) new = ⊥
+  TickSays now (Ran n) new = ⊥
+  TickSays now (Ticked n) new =
+      (new ≡ entry.Tick (max now (latest past)) ∷ past)
+      × (expired l past (max now (latest past)) ≡ [] → ⊥)
+  TickSays now Quiet new = (new ≡ past) × (expired l past (max now (latest past)) ≡ [])
+  TickSays now (Bytes n bytes) new = ⊥
+  TickSays now (Closed n) new = ⊥
+  TickSays now (Refused (Gone i)) new = ⊥
+  TickSays now (Refused (HistoryFull n)) new = (new ≡ past) × (is_full l past ≡ true)
+  TickSays now (Refused NoMemory) new = new ≡ past
+
+  ticking_says : (now : ℕ) (keys : List (List ℕ)) → expired l past (max now (latest past)) ≡ keys
+      → TickSays now (ticking l past (max now (latest past)) keys).reply
+      (ticking l past (max now (latest past)) keys).past
+  unfolding TickSays
+  ticking_says now [] is = (refl, is)
+  ticking_says now (key ∷ keys) is =
+      by_test (λ (t : Stepped). TickSays now t.reply t.past) (is_full l past) (full past)
+      (record {
+        reply = Ticked (length past + 1);
+        past = entry.Tick (max now (latest past)) ∷ past;
+      }) (λ h. (refl, h)) (λ h. (refl, λ none. absurd (omega (arith, ap length (sym is ∙ none)))))
+
+  pub tick_says : (now : ℕ) (reply : BookReply) (new : List Entry)
+      → BookStep l past (Tick now) reply new → TickSays now reply new
+  unfolding book_step TickSays
+  tick_says now reply new does =
+      by_step l (TickSays now) past new (Tick now) reply
+      (ticking_says now (expired l past (max now (latest past))) refl) refl does
+
   unfoldable pub CloseSays : ℕ → BookReply → List Entry → Type 0
   CloseSays id (Admitted n i) new = ⊥
   CloseSays id (Ran n) new = ⊥
+  CloseSays id (Ticked n) new = ⊥
   CloseSays id Quiet new = ⊥
   CloseSays id (Bytes n bytes) new = ⊥
   CloseSays id (Closed n) new = new ≡ entry.Close id ∷ past
@@ -142,6 +179,8 @@ module _ (l : Limits) (past : List Entry) where
   close_says id (Admitted n i) new does =
       subst (λ (t : Stepped). CloseSays id t.reply t.past) does (closing_says id)
   close_says id (Ran n) new does =
+      subst (λ (t : Stepped). CloseSays id t.reply t.past) does (closing_says id)
+  close_says id (Ticked n) new does =
       subst (λ (t : Stepped). CloseSays id t.reply t.past) does (closing_says id)
   close_says id Quiet new does =
       subst (λ (t : Stepped). CloseSays id t.reply t.past) does (closing_says id)
@@ -169,6 +208,15 @@ module _ (l : Limits) (past : List Entry) where
       (λ on. by_test (λ (t : Stepped). Grown t.past) (is_full l past) (full past)
       (running past id words now) (λ h. (None, refl))
       (λ h. (Some (entry.Run id words (max now (latest past))), refl))) (λ off. (None, refl))
+  grown (Tick now) = by_due (expired l past (max now (latest past)))
+    where
+      by_due : (keys : List (List ℕ)) → Grown (ticking l past (max now (latest past)) keys).past
+      by_due [] = (None, refl)
+      by_due (key ∷ keys) = by_test (λ (t : Stepped). Grown t.past) (is_full l past) (full past)
+          (record {
+            reply = Ticked (length past + 1);
+            past = entry.Tick (max now (latest past)) ∷ past;
+          }) (λ h. (None, refl)) (λ h. (Some (entry.Tick (max now (latest past))), refl))
   grown (Take id most) = by_test (λ (t : Stepped). Grown t.past) (gives_on l past id)
       (taking l past id most (take most (unsent l id past))) (gone past id)
       (λ on. by_bytes (take most (unsent l id past))) (λ off. (None, refl))

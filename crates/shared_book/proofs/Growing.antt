@@ -1,5 +1,5 @@
 -- What a seat adds, turn after turn, and where its turns stand.
-use Rattle.std.proofs.Common.{◌≡◌, ◌≤◌, ◌+◌, ◌∷◌, ◌++◌, ℕ, List, [], length, Bool, true, false}
+use Rattle.std.proofs.Common.{◌∷◌, ◌++◌, ℕ, List, [], length, Bool, true, false}
 use Rattle.std.proofs.Common.{cond}
 use Rattle.std.proofs.Common.{refl, sym, ap, subst, ◌∙◌, arith, append_assoc}
 use Rattle.std.specs.Prelude.{◌==◌}

@@ -1,5 +1,5 @@
 -- What stays true of a server's history, whatever is added to it.
-use Rattle.std.proofs.Common.{◌≡◌, ◌≤◌, ◌<◌, ◌+◌, ℕ, List, [], ◌∷◌, ◌++◌, length, min, Bool, true}
+use Rattle.std.proofs.Common.{◌≡◌, ◌≤◌, ◌+◌, ℕ, List, [], ◌∷◌, ◌++◌, length, Bool, true}
 use Rattle.std.proofs.Common.{false, cond, refl, sym, ap, subst, ◌∙◌, arith, length-append}
 use Rattle.std.proofs.Common.{eq-eqb}
 use Rattle.std.specs.Prelude.{◌==◌, ◌&&◌, not, nat_lt, nat_le}
@@ -7,8 +7,8 @@ use Rattle.std.proofs.lemmas.Bool.Decides.{nat_tests}
 use Rattle.turn_lock.specs.History.{IsPrefix}
 use Rattle.serial_model.specs.declared.history.Limits.{Limits}
 use Rattle.serial_model.specs.declared.history.Entry.{Entry}
-use Rattle.serial_model.specs.declared.history.Entry.TheVariants.{Admit, Run, Take, Close}
-use Rattle.serial_model.specs.History.{admitted, is_admitted, has_ended, is_full, runs_on, reads_on}
+use Rattle.serial_model.specs.declared.history.Entry.TheVariants.{Admit, Run, Tick, Take, Close}
+use Rattle.serial_model.specs.History.{admitted, is_admitted, has_ended, is_full, runs_on}
 use Rattle.serial_model.specs.History.{sends, sent_bytes, sent_to, stream, taken}
 use Rattle.serial_model.proofs.Streams.{stream_more}
 
@@ -29,6 +29,7 @@ both false b h = absurd (let no : ⊥ = cc in no)
 admitted_one : (e : Entry) (past : List Entry) → admitted past ≤ admitted (e ∷ past)
 admitted_one (Admit id) past = omega arith
 admitted_one (Run id words moment) past = omega arith
+admitted_one (Tick moment) past = omega arith
 admitted_one (Take id most) past = omega arith
 admitted_one (Close id) past = omega arith
 
@@ -59,6 +60,7 @@ module _ (l : Limits) (c : ℕ) where
       → has_ended l c (e ∷ past) ≡ true
   ended_more (Admit id) past h = h
   ended_more (Run id words moment) past h = h
+  ended_more (Tick moment) past h = h
   ended_more (Take id most) past h = h
   ended_more (Close id) past h = ended_if (id == c) past h
 
@@ -89,6 +91,7 @@ module _ (l : Limits) (c : ℕ) where
   taken_one : (e : Entry) (past : List Entry) → taken l c past ≤ taken l c (e ∷ past)
   taken_one (Admit id) past = omega arith
   taken_one (Run id words moment) past = omega arith
+  taken_one (Tick moment) past = omega arith
   taken_one (Take id most) past = taken_if (id == c) (taken l c past) _
   taken_one (Close id) past = omega arith
 

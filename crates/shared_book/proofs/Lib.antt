@@ -4,3 +4,4 @@ pub mod Growing
 pub mod Histories
 pub mod Did
 pub mod Outcomes
+pub mod Batches

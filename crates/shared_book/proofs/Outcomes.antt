@@ -1,27 +1,29 @@
 -- From a turn that was played, what its call's function promises.
-use Rattle.std.proofs.Common.{◌≡◌, ◌≤◌, ◌<◌, ◌+◌, ℕ, List, [], ◌∷◌, ◌++◌, length, max, take, map}
-use Rattle.std.proofs.Common.{true, false, refl, sym, ap, subst, ◌∙◌, arith, Some, None}
+use Rattle.std.proofs.Common.{◌≡◌, ◌≤◌, ◌<◌, ◌+◌, ℕ, List, [], ◌∷◌, length, max, take}
+use Rattle.std.proofs.Common.{true, refl, sym, ap, subst, ◌∙◌, arith, Some, None}
 use Rattle.std.proofs.Common.{inl, inr, zero, suc}
-use Rattle.std.specs.Prelude.{Option}
-use Rattle.turn_lock.specs.History.{entries, IsPrefix, past_after}
+use Rattle.turn_lock.specs.History.{entries, past_after}
 use Rattle.turn_lock.specs.declared.rule.TheConstants.{LAST_TICKET}
-use Rattle.serial_model.specs.declared.history.Limits.{Limits}
 use Rattle.serial_model.specs.declared.history.Entry.{Entry}
 use Rattle.serial_model.specs.declared.history.Entry.TheVariants as entry
 use Rattle.serial_model.specs.declared.history.BookCall.{BookCall}
-use Rattle.serial_model.specs.declared.history.BookCall.TheVariants.{Admit, Run, Take, Close}
+use Rattle.serial_model.specs.declared.history.BookCall.TheVariants.{Admit, Run, Tick, Take}
+use Rattle.serial_model.specs.declared.history.BookCall.TheVariants.{Close}
 use Rattle.serial_model.specs.declared.history.BookReply.{BookReply}
-use Rattle.serial_model.specs.declared.history.BookReply.TheVariants.{Admitted, Ran, Quiet, Bytes}
-use Rattle.serial_model.specs.declared.history.BookReply.TheVariants.{Closed, Refused}
+use Rattle.serial_model.specs.declared.history.BookReply.TheVariants.{Admitted, Ran, Ticked, Quiet}
+use Rattle.serial_model.specs.declared.history.BookReply.TheVariants.{Bytes, Closed, Refused}
 use Rattle.serial_model.specs.declared.history.BookRefusal.TheVariants.{Gone, HistoryFull, NoMemory}
-use Rattle.serial_model.specs.History.{admitted, is_admitted, has_ended, is_full, latest, unsent}
+use Rattle.serial_model.specs.History.{admitted, is_admitted, expired, has_ended, is_full, latest}
+use Rattle.serial_model.specs.History.{unsent}
 use Rattle.shared_book.specs.Own.{past_of, Grows}
 use Rattle.shared_book.specs.Turns.{Place, Plays, limits_of, limits_in, turns_added}
-use Rattle.shared_book.specs.Turns.{Refuses, Admits, Runs, Gives, Rests, Closes}
+use Rattle.shared_book.specs.Turns.{Refuses, Admits, Runs, Gives, Rests, Closes, Expires, Quiets}
+use Rattle.shared_book.specs.Turns.{Ticks}
 use Rattle.shared_book.specs.declared.turns.Refusal.TheVariants as refusal
 use Rattle.shared_book.proofs.Histories.{ended_or, live_of, ended_now, begins_lift, admitted_more}
-use Rattle.shared_book.proofs.Did.{AdmitSays, RunSays, TakeSays, CloseSays, admit_says, run_says}
-use Rattle.shared_book.proofs.Did.{take_says, close_says, added_one, added_none}
+use Rattle.shared_book.proofs.Did.{AdmitSays, RunSays, TakeSays, TickSays, CloseSays, admit_says}
+use Rattle.shared_book.proofs.Did.{run_says, take_says, tick_says, close_says, added_one}
+use Rattle.shared_book.proofs.Did.{added_none}
 
 nothing_waits : (n : ℕ) (xs : List ℕ) → 0 < n → take n xs ≡ [] → xs ≡ []
 nothing_waits n [] lt h = refl
@@ -120,6 +122,11 @@ module _ (before after : Place) where
   unfolding AdmitSays
   admit_ran n p = admit_says (limits_of before) p.past (Ran n) (past_after p.past p.added) p.step
 
+  pub admit_ticked : (n : ℕ) → Plays Admit (Ticked n) before after → ⊥
+  unfolding AdmitSays
+  admit_ticked n p =
+      admit_says (limits_of before) p.past (Ticked n) (past_after p.past p.added) p.step
+
   pub admit_quiet : Plays Admit Quiet before after → ⊥
   unfolding AdmitSays
   admit_quiet p = admit_says (limits_of before) p.past Quiet (past_after p.past p.added) p.step
@@ -203,6 +210,11 @@ module _ (before after : Place) where
     pub run_admitted : (n i : ℕ) → Plays (Run id words now) (Admitted n i) before after → ⊥
     unfolding RunSays
     run_admitted n i p = run_says (limits_of before) p.past id words now (Admitted n i)
+        (past_after p.past p.added) p.step
+
+    pub run_ticked : (n : ℕ) → Plays (Run id words now) (Ticked n) before after → ⊥
+    unfolding RunSays
+    run_ticked n p = run_says (limits_of before) p.past id words now (Ticked n)
         (past_after p.past p.added) p.step
 
     pub run_quiet : Plays (Run id words now) Quiet before after → ⊥
@@ -307,10 +319,83 @@ module _ (before after : Place) where
     take_ran n p = take_says (limits_of before) p.past id most (Ran n)
         (past_after p.past p.added) p.step
 
+    pub take_ticked : (n : ℕ) → Plays (Take id most) (Ticked n) before after → ⊥
+    unfolding TakeSays
+    take_ticked n p = take_says (limits_of before) p.past id most (Ticked n)
+        (past_after p.past p.added) p.step
+
     pub take_closed : (n : ℕ) → Plays (Take id most) (Closed n) before after → ⊥
     unfolding TakeSays
     take_closed n p = take_says (limits_of before) p.past id most (Closed n)
         (past_after p.past p.added) p.step
+
+  -- ---- Tick
+
+  module _ (now : ℕ) where
+    tick_did : (reply : BookReply) (p : Plays (Tick now) reply before after)
+        → TickSays (limits_of before) p.past now reply (past_after p.past p.added)
+    tick_did reply p =
+        tick_says (limits_of before) p.past now reply (past_after p.past p.added) p.step
+
+    pub tick_ticked : (n : ℕ) → Plays (Tick now) (Ticked n) before after → Ticks now before after
+    unfolding TickSays
+    tick_ticked n p =
+        let s = tick_did (Ticked n) p in
+        let x = entry.Tick (max now (latest p.past)) in
+        let is = added_one p.past p.added x s.0 in
+        inl (record {
+          past = p.past;
+          begins = p.begins;
+          due = s.1;
+          grows = grows_one before after (Tick now) (Ticked n) p x is;
+          ends = ends_one before after (Tick now) (Ticked n) p x is;
+        })
+
+    pub tick_quiet : Plays (Tick now) Quiet before after → Ticks now before after
+    unfolding TickSays
+    tick_quiet p =
+        let s = tick_did Quiet p in
+        let none = added_none p.past p.added s.0 in
+        let ends = ends_same before after (Tick now) Quiet p none in
+        inr (record {
+          none = ap (λ past. expired (limits_of before) past (max now (latest past))) ends ∙ s.1;
+          grows = grows_same before after (Tick now) Quiet p none;
+        })
+
+    pub tick_full : (n : ℕ) → Plays (Tick now) (Refused (HistoryFull n)) before after
+        → Refuses refusal.HistoryFull 0 before after
+    unfolding TickSays
+    tick_full n p =
+        let s = tick_did (Refused (HistoryFull n)) p in
+        refused_full before after (Tick now) (Refused (HistoryFull n)) p
+        (added_none p.past p.added s.0) 0 s.1
+
+    pub tick_memory : Plays (Tick now) (Refused NoMemory) before after
+        → Refuses refusal.NoMemory 0 before after
+    unfolding TickSays
+    tick_memory p =
+        refused_memory before after (Tick now) (Refused NoMemory) p
+        (added_none p.past p.added (tick_did (Refused NoMemory) p)) 0
+
+    pub tick_gone : (n : ℕ) → Plays (Tick now) (Refused (Gone n)) before after → ⊥
+    unfolding TickSays
+    tick_gone n p = tick_did (Refused (Gone n)) p
+
+    pub tick_admitted : (n i : ℕ) → Plays (Tick now) (Admitted n i) before after → ⊥
+    unfolding TickSays
+    tick_admitted n i p = tick_did (Admitted n i) p
+
+    pub tick_ran : (n : ℕ) → Plays (Tick now) (Ran n) before after → ⊥
+    unfolding TickSays
+    tick_ran n p = tick_did (Ran n) p
+
+    pub tick_bytes : (n : ℕ) (bytes : List ℕ) → Plays (Tick now) (Bytes n bytes) before after → ⊥
+    unfolding TickSays
+    tick_bytes n bytes p = tick_did (Bytes n bytes) p
+
+    pub tick_closed : (n : ℕ) → Plays (Tick now) (Closed n) before after → ⊥
+    unfolding TickSays
+    tick_closed n p = tick_did (Closed n) p
 
   -- ---- Close
 
@@ -346,6 +431,8 @@ module _ (before after : Place) where
         (Admitted n i) (past_after p.past p.added) p.step)
     close_closes (Ran n) on p = absurd (close_says (limits_of before) p.past id (Ran n)
         (past_after p.past p.added) p.step)
+    close_closes (Ticked n) on p = absurd (close_says (limits_of before) p.past id (Ticked n)
+        (past_after p.past p.added) p.step)
     close_closes Quiet on p = absurd (close_says (limits_of before) p.past id Quiet
         (past_after p.past p.added) p.step)
     close_closes (Bytes n bytes) on p = absurd (close_says (limits_of before) p.past id
@@ -363,6 +450,7 @@ pub ruleset admitting = (
   admit_full,
   admit_memory,
   admit_ran,
+  admit_ticked,
   admit_quiet,
   admit_bytes,
   admit_closed,
@@ -377,6 +465,7 @@ pub ruleset running = (
   run_full,
   run_memory,
   run_admitted,
+  run_ticked,
   run_quiet,
   run_bytes,
   run_closed,
@@ -389,7 +478,21 @@ pub ruleset taking = (
   take_memory,
   take_admitted,
   take_ran,
+  take_ticked,
   take_closed,
+  refused_worn,
+)
+
+pub ruleset ticking = (
+  tick_ticked,
+  tick_quiet,
+  tick_full,
+  tick_memory,
+  tick_gone,
+  tick_admitted,
+  tick_ran,
+  tick_bytes,
+  tick_closed,
   refused_worn,
 )
 

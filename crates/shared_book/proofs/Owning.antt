@@ -1,5 +1,5 @@
 -- The entries of a seat's own, as its history grows and as seats are joined.
-use Rattle.std.proofs.Common.{◌≡◌, ◌≢◌, ℕ, zero, suc, ◌+◌, ◌<◌, ◌≤◌, Bool, true, false, cond, List}
+use Rattle.std.proofs.Common.{◌≡◌, ℕ, suc, ◌+◌, ◌<◌, ◌≤◌, Bool, true, false, cond, List}
 use Rattle.std.proofs.Common.{[], ◌∷◌, ◌++◌, length, sym, refl, ap, ◌∙◌, subst, arith, eq-eqb}
 use Rattle.std.proofs.Common.{ne_eqb, length-append, append_assoc}
 use Rattle.std.specs.Prelude.{Option, Some, None, nat_lt, ◌==◌}

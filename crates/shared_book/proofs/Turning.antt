@@ -1,18 +1,17 @@
 -- A turn of a seat, as what it adds to the seat's own.
-use Rattle.std.proofs.Common.{◌≡◌, ◌≤◌, ◌+◌, ℕ, List, [], ◌∷◌, ◌++◌, length, Some, None}
-use Rattle.std.proofs.Common.{refl, sym, ap, subst, ◌∙◌, arith}
+use Rattle.std.proofs.Common.{◌≡◌, ◌≤◌, ℕ, List, [], ◌∷◌, ◌++◌, length, Some, None}
+use Rattle.std.proofs.Common.{refl, sym, ap, subst, ◌∙◌}
 use Rattle.std.specs.Prelude.{Option}
-use Rattle.std.proofs.lemmas.Option.{same_Some}
 use Rattle.turn_lock.specs.History.{entries, IsPrefix, past_after, history_after, own_after}
 use Rattle.atomic_table.specs.Seated.{TableId}
 use Rattle.turn_lock.specs.Counts.{times}
-use Rattle.turn_lock.specs.Seats.{Known, Turned, IsSound, first_seat}
+use Rattle.turn_lock.specs.Seats.{Turned, IsSound, first_seat}
 use Rattle.serial_model.specs.declared.history.Limits.{Limits}
 use Rattle.serial_model.specs.declared.history.Entry.{Entry}
 use Rattle.serial_model.specs.declared.history.BookCall.{BookCall}
 use Rattle.serial_model.specs.declared.history.BookReply.{BookReply}
-use Rattle.shared_book.specs.Own.{own_list, with_pasts, IsWithin, Within, turns_of, past_of, Grows}
-use Rattle.shared_book.specs.Turns.{Place, Turn, TurnStep, Plays, limits_in, limits_of, turns_added}
+use Rattle.shared_book.specs.Own.{own_list, with_pasts, IsWithin, Within, turns_of, Grows}
+use Rattle.shared_book.specs.Turns.{Place, TurnStep, Plays, limits_in, limits_of, turns_added}
 use Rattle.shared_book.proofs.Owning.{own_begins, own_turn, pasts_begins, pasts_length}
 use Rattle.shared_book.proofs.Owning.{within_owns}
 use Rattle.shared_book.proofs.Owning.{pasts_within}

@@ -1,5 +1,5 @@
 -- The entries at a seat's own places, each with the entries that stood before it.
-use Rattle.std.specs.Prelude.{◌≡◌, ◌≤◌, ◌==◌, cond, ℕ, List, [], ◌∷◌, ◌++◌, length, map}
+use Rattle.std.specs.Prelude.{◌≡◌, ◌≤◌, ◌==◌, cond, ℕ, List, [], ◌∷◌, ◌++◌, length}
 use Rattle.turn_lock.specs.Counts.{times}
 use Rattle.turn_lock.specs.History.{entries, IsPrefix}
 use Rattle.turn_lock.specs.Seats.{Known}

@@ -1,7 +1,7 @@
 -- The server's turns, as a seat of the lock takes them.
 use Rattle.std.specs.Prelude.{◌≡◌, ◌+◌, ◌<◌, ◌≤◌, ◌⊎◌, ℕ, List, [], ◌∷◌, length, max, take}
 use Rattle.std.specs.Prelude.{Option, Some, None, true, false, ⊤}
-use Rattle.turn_lock.specs.History.{entries, IsPrefix, past_after}
+use Rattle.turn_lock.specs.History.{IsPrefix, past_after}
 use Rattle.turn_lock.specs.Seats.{Known}
 use Rattle.turn_lock.specs.declared.rule.TheConstants.{LAST_TICKET}
 use Rattle.resp_value.specs.declared.octets.Octets.{Octets}
@@ -10,7 +10,7 @@ use Rattle.serial_model.specs.declared.history.Entry.{Entry}
 use Rattle.serial_model.specs.declared.history.Entry.TheVariants as entry
 use Rattle.serial_model.specs.declared.history.BookCall.{BookCall}
 use Rattle.serial_model.specs.declared.history.BookReply.{BookReply}
-use Rattle.serial_model.specs.History.{admitted, has_ended, is_admitted, is_full, latest, unsent}
+use Rattle.serial_model.specs.History.{admitted, expired, has_ended, is_full, latest, unsent}
 use Rattle.serial_model.specs.Steps.{BookStep}
 use Rattle.shared_book.specs.Own.{past_of, Grows}
 use Rattle.shared_book.specs.declared.turns.Refusal.{Refusal}
@@ -67,12 +67,12 @@ pub record Refuses (cause : Refusal) (id : ℕ) (before after : Place) : Type 0 
   pub grows : Grows before after []
   pub cause_is : IsCause cause id after
 
--- an Admit is not refused for its connection
-abbrev pub IsAdmissionCause : Refusal → Type 0
-IsAdmissionCause refusal.Dropped = ⊥
-IsAdmissionCause refusal.HistoryFull = ⊤
-IsAdmissionCause refusal.NoMemory = ⊤
-IsAdmissionCause refusal.Worn = ⊤
+-- a turn that is of no connection that was admitted is not refused for one
+abbrev pub IsServerCause : Refusal → Type 0
+IsServerCause refusal.Dropped = ⊥
+IsServerCause refusal.HistoryFull = ⊤
+IsServerCause refusal.NoMemory = ⊤
+IsServerCause refusal.Worn = ⊤
 
 pub record Admits (id : ℕ) (before after : Place) : Type 0 where
   pub past : List Entry
@@ -100,6 +100,22 @@ pub record Rests (id : ℕ) (before after : Place) : Type 0 where
   pub none : unsent (limits_of before) id (past_of after) ≡ []
   pub live : has_ended (limits_of before) id (past_of after) ≡ false
   pub grows : Grows before after []
+
+-- a Tick that found these keys due, and took them out
+pub record Expires (now : ℕ) (before after : Place) : Type 0 where
+  pub past : List Entry
+  pub begins : IsPrefix (past_of before) past
+  pub due : expired (limits_of before) past (max now (latest past)) ≡ [] → ⊥
+  pub grows : Grows before after ((entry.Tick (max now (latest past)), past) ∷ [])
+  pub ends : past_of after ≡ entry.Tick (max now (latest past)) ∷ past
+
+-- a Tick that found no key due
+pub record Quiets (now : ℕ) (before after : Place) : Type 0 where
+  pub none : expired (limits_of before) (past_of after) (max now (latest (past_of after))) ≡ []
+  pub grows : Grows before after []
+
+abbrev pub Ticks : ℕ → Place → Place → Type 0
+Ticks now before after = Expires now before after ⊎ Quiets now before after
 
 abbrev pub closed_turns : ℕ → Option (List Entry) → List Turn
 closed_turns id None = []

@@ -3,26 +3,31 @@ ghost use Rattle.std.specs.Prelude.{◌≡◌, [], IfOk};
 ghost use Rattle.serial_model.specs.Steps.{AreValid, IsCallable};
 ghost use Rattle.shared_book.specs.Own.{IsWithin};
 ghost use Rattle.shared_book.specs.Turns.{TurnStep};
+ghost use Rattle.shared_book.specs.Batches.{IsRun, RefusesRun, is_refusal};
 ghost use Rattle.turn_lock.specs.Seats.{first_seat};
 
 use resp_value::NoMemory;
-use server_book::{Book, BookCall, BookReply, Entry, Limits};
+use server_book::{Book, BookCall, BookRefusal, BookReply, Entry, Limits};
 use std::alloc::Global;
 use std::marker::Model;
-use turn_lock::{Logged, Seat, TurnLock};
+use turn_lock::{Logged, Refusing, Seat, TurnLock};
 
 /// A book that threads take turns on. Contracts see its limits and its history.
 #[derive(Drop)]
 pub struct SharedBook {
+    limits: Limits,
     book: Book,
 }
 
 impl Model for SharedBook {
+    ghost use Rattle.std.specs.Prelude.{◌≡◌};
     ghost use Rattle.shared_book.specs.Turns.{Shared};
 
     ghost Value = { Shared };
 
     ghost view = { λ s. record { limits = s.book.limits; past = s.book.past } };
+
+    ghost invariant = { λ s. s.limits ≡ s.book.limits };
 }
 
 impl SharedBook {
@@ -32,6 +37,7 @@ impl SharedBook {
         ensures { IfOk result (λ s. s ≡ record { limits = limits; past = [] }) }
     {
         Ok(SharedBook {
+            limits,
             book: Book::new(alloc, limits)?,
         })
     }
@@ -41,6 +47,21 @@ impl SharedBook {
         ensures past { result.now.past ≡ self.now.past }
     {
         &self.book
+    }
+
+    // The refusal of a Run that is not to be played: for want of memory, where it would be played.
+    #[tactic(auto, using(crate::proofs::Batches::refusing))]
+    fn refuse_run(&self, id: u64) -> BookRefusal
+        ensures { RefusesRun self.now id result }
+    {
+        if !self.book.runs_on(id) {
+            return BookRefusal::Gone { id };
+        }
+        let entries = self.book.entries();
+        if entries >= self.limits.history_max {
+            return BookRefusal::HistoryFull { entries };
+        }
+        BookRefusal::NoMemory
     }
 }
 
@@ -64,6 +85,26 @@ impl Logged for SharedBook {
     #[tactic(auto, using(crate::proofs::Did::turned))]
     fn turn(&mut self, call: BookCall) -> BookReply {
         self.book.turn(call)
+    }
+}
+
+impl Refusing for SharedBook {
+    ghost refuses = { is_refusal };
+
+    ghost refusable = { IsRun };
+
+    fn is_refusal(reply: &BookReply) -> bool {
+        matches!(reply, BookReply::Refused(_))
+    }
+
+    fn refuse(&self, call: BookCall) -> BookReply {
+        match call {
+            BookCall::Run { id, .. } => BookReply::Refused(self.refuse_run(id)),
+            BookCall::Admit => unreachable!(),
+            BookCall::Tick { .. } => unreachable!(),
+            BookCall::Take { .. } => unreachable!(),
+            BookCall::Close { .. } => unreachable!(),
+        }
     }
 }
 

@@ -1,12 +1,12 @@
 //! One connection's turns under the lock.
 ghost use Rattle.std.specs.Prelude.{◌≡◌, ◌≤◌, [], true, length, IfOk, IfErr};
-ghost use Rattle.std.specs.Prelude.{OnErr};
+ghost use Rattle.std.specs.Prelude.{OnErr, OnOk};
 ghost use Rattle.turn_lock.specs.declared.rule.TheConstants.{LAST_TICKET};
 ghost use Rattle.serial_model.specs.History.{is_admitted};
 ghost use Rattle.serial_model.specs.Steps.{IsCallable};
 ghost use Rattle.shared_book.specs.Own.{IsWithin, past_of, Grows};
-ghost use Rattle.shared_book.specs.Turns.{Admits, Closes, IsAdmissionCause, Plays, Refuses};
-ghost use Rattle.shared_book.specs.Turns.{Runs, Takes};
+ghost use Rattle.shared_book.specs.Turns.{Admits, Closes, IsServerCause, Plays, Refuses};
+ghost use Rattle.shared_book.specs.Turns.{Runs, Takes, Ticks};
 
 use super::logged::SharedBook;
 use resp_value::{Octets, Words};
@@ -59,7 +59,7 @@ pub fn admit<R: Wait>(
     requires lock { seat.old.lock ≡ lock.now }
     requires within { IsWithin seat.old }
     ensures ok { IfOk result (λ id. Admits id seat.old seat.new) }
-    ensures err { IfErr result (λ e. Refuses e 0 seat.old seat.new × IsAdmissionCause e) }
+    ensures err { IfErr result (λ e. Refuses e 0 seat.old seat.new × IsServerCause e) }
 {
     match play(rt, lock, seat, BookCall::Admit) {
         Ok(BookReply::Admitted { id, .. }) => Ok(id),
@@ -69,6 +69,7 @@ pub fn admit<R: Wait>(
         Ok(BookReply::Quiet) => unreachable!(),
         Ok(BookReply::Bytes { .. }) => unreachable!(),
         Ok(BookReply::Closed { .. }) => unreachable!(),
+        Ok(BookReply::Ticked { .. }) => unreachable!(),
         Ok(BookReply::Refused(BookRefusal::Gone { .. })) => unreachable!(),
         Err(_) => Err(Refusal::Worn),
     }
@@ -100,6 +101,7 @@ pub fn run<R: Wait>(
         Ok(BookReply::Quiet) => unreachable!(),
         Ok(BookReply::Bytes { .. }) => unreachable!(),
         Ok(BookReply::Closed { .. }) => unreachable!(),
+        Ok(BookReply::Ticked { .. }) => unreachable!(),
         Err(_) => Err(Refusal::Worn),
     }
 }
@@ -127,6 +129,35 @@ pub fn take<R: Wait>(
         Ok(BookReply::Admitted { .. }) => unreachable!(),
         Ok(BookReply::Ran { .. }) => unreachable!(),
         Ok(BookReply::Closed { .. }) => unreachable!(),
+        Ok(BookReply::Ticked { .. }) => unreachable!(),
+        Err(_) => Err(Refusal::Worn),
+    }
+}
+
+/// Takes out the keys that are due at this moment, and tells the connections that remember them;
+/// there may be none.
+#[tactic(auto, using(crate::proofs::Outcomes::ticking))]
+pub fn tick<R: Wait>(
+    rt: &R,
+    lock: &TurnLock<SharedBook>,
+    seat: &mut Seat<SharedBook>,
+    now: u64,
+) -> Result<(), Refusal>
+    requires lock { seat.old.lock ≡ lock.now }
+    requires within { IsWithin seat.old }
+    ensures ok { OnOk result (Ticks now seat.old seat.new) }
+    ensures err { IfErr result (λ e. Refuses e 0 seat.old seat.new × IsServerCause e) }
+{
+    match play(rt, lock, seat, BookCall::Tick { now }) {
+        Ok(BookReply::Ticked { .. }) => Ok(()),
+        Ok(BookReply::Quiet) => Ok(()),
+        Ok(BookReply::Refused(BookRefusal::HistoryFull { .. })) => Err(Refusal::HistoryFull),
+        Ok(BookReply::Refused(BookRefusal::NoMemory)) => Err(Refusal::NoMemory),
+        Ok(BookReply::Admitted { .. }) => unreachable!(),
+        Ok(BookReply::Ran { .. }) => unreachable!(),
+        Ok(BookReply::Bytes { .. }) => unreachable!(),
+        Ok(BookReply::Closed { .. }) => unreachable!(),
+        Ok(BookReply::Refused(BookRefusal::Gone { .. })) => unreachable!(),
         Err(_) => Err(Refusal::Worn),
     }
 }

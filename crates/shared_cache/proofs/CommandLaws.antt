@@ -67,6 +67,8 @@ cacheable_reads (command.HLen key) k e = (refl, refl)
 cacheable_reads (command.HExists key field) k e = (refl, refl)
 cacheable_reads (command.HKeys key) k e = (refl, refl)
 cacheable_reads (command.HVals key) k e = (refl, refl)
+cacheable_reads (command.Exists keys) k e = (refl, refl)
+cacheable_reads (command.KeyType key) k e = (refl, refl)
 cacheable_reads _ k e = absurd (let no : false ≡ true = e in cc)
 
 reads_write_none : (r : Result Command WordFault) (k : Key) → reads_as_cacheable r ≡ true

@@ -21,6 +21,14 @@ pub struct Held {
 }
 
 impl Held {
+    fn copy(&self) -> Result<Held, NoMemory>
+        ensures { IfOk result (λ h. h ≡ self.now) }
+    {
+        let key = self.key.copy()?;
+        let holders = self.holders.copy()?;
+        Ok(Held { key, holders })
+    }
+
     pub fn key(&self) -> &[u8]
         ensures { result.now ≡ self.now.key }
     {
@@ -33,6 +41,16 @@ impl Held {
     {
         self.holders.as_slice()
     }
+}
+
+fn copies(alloc: Global, rows: &[Held]) -> Result<Vec<Held>, NoMemory>
+    ensures { IfOk result (λ v. v.items ≡ rows.now) }
+{
+    let mut out = Vec::new(alloc);
+    for row in rows {
+        out.push(row.copy()?)?;
+    }
+    Ok(out)
 }
 
 /// Which connections hold which keys. The keys stand in order of age: a key is as old as the time
@@ -67,6 +85,18 @@ impl TrackTable {
             limit,
             rows: Vec::new(alloc),
         }
+    }
+
+    /// An equal table.
+    pub fn copy(&self) -> Result<TrackTable, NoMemory>
+        ensures { IfOk result (λ t. t ≡ self.now) }
+    {
+        let rows = copies(self.alloc, &self.rows)?;
+        Ok(TrackTable {
+            alloc: self.alloc,
+            limit: self.limit,
+            rows,
+        })
     }
 
     /// How many keys have a holder.

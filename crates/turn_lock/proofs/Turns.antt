@@ -54,7 +54,7 @@ module _ {U E C R : Type 0} (step : U → List E → C → R → Option E → Ty
       (next, same, one, turned_more calls replies call reply next l after rest same' turn)
 
   -- the tickets were drawn before the first turn
-  drawn_before : (calls : List C) (replies : List R) (k l : Known U E) (tickets turns : ℕ)
+  pub drawn_before : (calls : List C) (replies : List R) (k l : Known U E) (tickets turns : ℕ)
       → TurnedAll step calls replies (record k { tickets = tickets; turns = turns }) l
       → TurnedAll step calls replies k l
   drawn_before [] [] k l tickets turns is = is

@@ -1,6 +1,7 @@
 -- What a seat knows, and what the calls of a lock say of it.
 use Rattle.std.specs.Prelude.{◌≡◌, ℕ, ◌+◌, ◌≤◌, max, cond, nat_lt, List, [], ◌∷◌, ◌++◌}
-use Rattle.std.specs.Prelude.{length, Option, Some}
+use Rattle.std.specs.Prelude.{length, Option, Some, Bool, true, ⊤}
+use Rattle.std.specs.List.{All}
 use Rattle.atomic_table.specs.Seated.{TableId}
 use Rattle.turn_lock.specs.Counts.{times}
 use Rattle.turn_lock.specs.History.{entries, IsPrefix, history_after, own_after, Legal, Owns}
@@ -115,3 +116,9 @@ module _ {U E C R : Type 0} (step : U → List E → C → R → Option E → Ty
   TurnedAll (call ∷ calls) (reply ∷ replies) before after =
       (next : Known U E) × IsSameSeat before next × Turned call reply before next
       × TurnedAll calls replies next after
+
+-- behind a refusal there are only refusals
+abbrev pub StopsAt : {R : Type 0} → (R → Bool) → List R → Type 0
+StopsAt refuses [] = ⊤
+StopsAt refuses (reply ∷ replies) =
+    (refuses reply ≡ true → All (λ r. refuses r ≡ true) replies) × StopsAt refuses replies

@@ -2,11 +2,12 @@
 //! history.
 #![tactic(auto)]
 
+mod batch;
 mod lock;
 mod logged;
 mod rule;
 mod steps;
 
 pub use lock::{Closed, NoMemory, Patience, Seat, TurnLock, Unplayed, Worn};
-pub use logged::Logged;
+pub use logged::{Logged, Refusing};
 pub use rule::{ALL_PARTS, LAST_TICKET};

@@ -1,19 +1,17 @@
 //! The lock, its seats and its calls.
 ghost use Rattle.std.specs.Prelude.{◌≡◌, ℕ, ◌+◌, ◌-◌, ◌<◌, ◌≤◌, [], length, Some};
-ghost use Rattle.std.specs.Prelude.{IfSome, IfOk, IfErr, OnOk, OnErr, Err};
+ghost use Rattle.std.specs.Prelude.{IfSome, IfOk, IfErr, OnOk, OnErr};
 ghost use Rattle.std.specs.List.{All};
 ghost use Rattle.turn_lock.specs.Counts.{times};
 ghost use Rattle.turn_lock.specs.History.{entries, IsPrefix};
 ghost use Rattle.turn_lock.specs.Seats.{first_seat, split_seat, joined_seat, IsSameSeat, IsSound};
-ghost use Rattle.turn_lock.specs.Seats.{Turned, TurnedAll};
-ghost use Rattle.turn_lock.specs.declared.lock.Unplayed.{Unplayed};
-ghost use Rattle.turn_lock.specs.declared.lock.Worn.{Worn};
+ghost use Rattle.turn_lock.specs.Seats.{StopsAt, Turned, TurnedAll};
+ghost use Rattle.turn_lock.specs.Batches.{IsUnplayed};
 
-use crate::logged::Logged;
+use crate::batch::take_turns;
+use crate::logged::{Logged, Refusing};
 use crate::rule::{ALL_PARTS, InTurn, LAST_TICKET, View};
-use crate::steps::{
-    Place, cut, find_number, merge, next_tickets, take_turn, take_turns, wait_turn, wake_next,
-};
+use crate::steps::{Place, cut, find_number, merge, next_tickets, take_turn, wait_turn, wake_next};
 use atomic_table::Table;
 use std::alloc::Global;
 use std::marker::{Brand, Model};
@@ -30,11 +28,12 @@ pub struct Worn {
     pub tickets: u64,
 }
 
-/// Why no call of several was played: there was no memory for the replies, or fewer tickets are
-/// left than calls.
+/// Why no call of several was played.
 #[derive(Debug, Drop)]
 pub enum Unplayed {
+    /// There was no memory for the replies.
     NoMemory,
+    /// Fewer tickets are left than calls.
     Worn(Worn),
 }
 
@@ -258,58 +257,6 @@ impl<S: Logged> TurnLock<S> {
         }
     }
 
-    /// One turn for each call, in their order. It waits once, for the first. Memory for the replies
-    /// is taken before, and where it is not to be had, or fewer tickets are left than calls, no
-    /// call is played.
-    pub fn play_all<R: Wait>(
-        &self,
-        rt: &R,
-        alloc: Global,
-        seat: &mut Seat<S>,
-        calls: Vec<S::Call>,
-    ) -> Result<Vec<S::Reply>, Unplayed>
-        requires seat { seat.old.lock ≡ self.now }
-        requires calls { IfSome seat.old.setup (λ u. All (S.fits u) calls.items) }
-        ensures same { IsSameSeat seat.old seat.new }
-        ensures all { IfOk result
-            (λ replies. TurnedAll S.step calls.items replies.items seat.old seat.new) }
-        ensures turns { OnOk result (seat.new.turns ≡ seat.old.turns + length calls.items) }
-        ensures tickets { OnOk result (seat.new.tickets + length calls.items ≤ LAST_TICKET) }
-        ensures err { OnErr result (seat.new ≡ record seat.old { tickets = seat.new.tickets }) }
-        ensures no_memory { result ≡ Err Unplayed.NoMemory → seat.new ≡ seat.old }
-        ensures worn { (w : Worn) → result ≡ Err (Unplayed.Worn w)
-            → (w.tickets ≤ LAST_TICKET) × (LAST_TICKET < w.tickets + length calls.items)
-            × (seat.new ≡ record seat.old { tickets = w.tickets }) }
-        ensures not_less { seat.old.tickets ≤ seat.new.tickets }
-        ensures sound { IsSound S.step seat.new }
-    {
-        let board = &self.table.shared;
-        let Seat {
-            place,
-            parts: _,
-            tickets,
-        } = seat;
-        let Ok(mut replies) = Vec::with_capacity(alloc, calls.len()) else {
-            return Err(Unplayed::NoMemory);
-        };
-        if calls.is_empty() {
-            return Ok(replies);
-        }
-        match next_tickets(rt, board, place, &self.patience, calls.len() as u64 - 1) {
-            Ok(at) => {
-                *tickets = at;
-                take_turns(rt, board, place, at, calls, &mut replies);
-                wake_next(board);
-                Ok(replies)
-            }
-            Err(worn) => {
-                *tickets = worn.tickets;
-                replies.destroy_empty();
-                Err(Unplayed::Worn(worn))
-            }
-        }
-    }
-
     /// Ends the lock and hands back its state. While another seat is not joined, the lock and the
     /// seat come back.
     pub fn close(self, seat: Seat<S>) -> Result<Closed<S>, (TurnLock<S>, Seat<S>)>
@@ -342,6 +289,59 @@ impl<S: Logged> TurnLock<S> {
                 Ok(Closed { state, tickets })
             }
             None => unreachable!(),
+        }
+    }
+}
+
+impl<S: Refusing> TurnLock<S> {
+    /// One turn for each call, in their order. It waits once, for the first. Calls behind one that
+    /// was refused are refused. Memory for the replies is taken before, and where it is not to be
+    /// had, or fewer tickets are left than calls, no call is played, and all come back.
+    pub fn play_all<R: Wait>(
+        &self,
+        rt: &R,
+        alloc: Global,
+        seat: &mut Seat<S>,
+        calls: Vec<S::Call>,
+    ) -> Result<Vec<S::Reply>, (Unplayed, Vec<S::Call>)>
+        requires seat { seat.old.lock ≡ self.now }
+        requires calls { IfSome seat.old.setup (λ u. All (S.fits u) calls.items) }
+        requires refusable { All S.refusable calls.items }
+        ensures same { IsSameSeat seat.old seat.new }
+        ensures all { IfOk result
+            (λ replies. TurnedAll S.step calls.items replies.items seat.old seat.new) }
+        ensures stops { IfOk result (λ replies. StopsAt S.refuses replies.items) }
+        ensures turns { OnOk result (seat.new.turns ≡ seat.old.turns + length calls.items) }
+        ensures tickets { OnOk result (seat.new.tickets + length calls.items ≤ LAST_TICKET) }
+        ensures err { IfErr result (λ e. (e.1.items ≡ calls.items)
+            × IsUnplayed e.0 (length calls.items) seat.old seat.new) }
+        ensures not_less { seat.old.tickets ≤ seat.new.tickets }
+        ensures sound { IsSound S.step seat.new }
+    {
+        let board = &self.table.shared;
+        let Seat {
+            place,
+            parts: _,
+            tickets,
+        } = seat;
+        let Ok(mut replies) = Vec::with_capacity(alloc, calls.len()) else {
+            return Err((Unplayed::NoMemory, calls));
+        };
+        if calls.is_empty() {
+            return Ok(replies);
+        }
+        match next_tickets(rt, board, place, &self.patience, calls.len() as u64 - 1) {
+            Ok(at) => {
+                *tickets = at;
+                take_turns(rt, board, place, at, calls, &mut replies);
+                wake_next(board);
+                Ok(replies)
+            }
+            Err(worn) => {
+                *tickets = worn.tickets;
+                replies.destroy_empty();
+                Err((Unplayed::Worn(worn), calls))
+            }
         }
     }
 }

@@ -192,7 +192,7 @@ fn rest_a_while<S: Logged, R: Wait>(
 }
 
 /// Serves the next: the state goes back into the slot, and the turn's entry into the history.
-fn serve_next<S: Logged, W: Said<S::Call>, X: Said<S::Reply>>(
+pub fn serve_next<S: Logged, W: Said<S::Call>, X: Said<S::Reply>>(
     board: &Board<S>,
     place: &mut Place<S>,
     at: u64,
@@ -250,39 +250,6 @@ pub fn take_turn<S: Logged, W: Said<S::Call>>(
             reply
         }
         None => unreachable!(),
-    }
-}
-
-/// One turn for each call, in their order, with the tickets that the seat has for them.
-pub fn take_turns<S: Logged, R: Wait>(
-    rt: &R,
-    board: &Board<S>,
-    place: &mut Place<S>,
-    first: u64,
-    calls: Vec<S::Call>,
-    replies: &mut Vec<S::Reply>,
-)
-    requires table { IsSeatOf place.old.table_id board.now.table_id }
-    requires ready { IsReady place.old.me.0 first (vec_len calls) }
-    requires small { first + vec_len calls ≤ LAST_TICKET }
-    requires none_out { place.old.me.1 ≡ [] }
-    requires sound { IsSoundView S.step place.old.me.0 }
-    requires fits { IfSome place.old.me.0.setup (λ u. All (S.fits u) calls.items) }
-    requires room { (replies.old.items ≡ []) × (vec_len calls ≤ vec_capacity replies.old) }
-    ensures same { (place.new.table_id ≡ place.old.table_id) × (place.new.id ≡ place.old.id) }
-    ensures kept { IsSameView place.old.me.0 place.new.me.0 }
-    ensures turns { TurnedAll S.step calls.items replies.new.items
-        (known place.old.table_id place.old.me.0) (known place.new.table_id place.new.me.0) }
-    ensures idle { (place.new.me.0.stage ≡ Stage.Idle) × (place.new.me.1 ≡ []) }
-    ensures sound { IsSoundView S.step place.new.me.0 }
-{
-    let mut at = first;
-    let mut rest = calls.into_iter();
-    'turns: while let Some(call) = rest.next() {
-        wait_turn(rt, board, place, at);
-        let reply = take_turn::<S, Brand>(board, place, at, call);
-        replies.push_reserved(reply);
-        at += 1;
     }
 }
 

@@ -81,6 +81,7 @@ runs_size c (entry.Run id words moment ∷ past) =
           ∙ sym (length-append (runs_of c past) (words ∷ []))
       | false ↦ runs_size c past
     ]
+runs_size c (entry.Tick moment ∷ past) = runs_size c past
 runs_size c (entry.Take id max ∷ past) = runs_size c past
 runs_size c (entry.Close id ∷ past) = runs_size c past
 
@@ -102,6 +103,7 @@ run_later c (entry.Run id words moment ∷ es) past place r e =
       ]
       | false ↦ λ f. run_later c es past place r f
     ] e
+run_later c (entry.Tick moment ∷ es) past place r e = run_later c es past place r e
 run_later c (entry.Take id max ∷ es) past place r e = run_later c es past place r e
 run_later c (entry.Close id ∷ es) past place r e = run_later c es past place r e
 

@@ -8,8 +8,8 @@ use Rattle.resp_value.specs.declared.value.Value.{Value}
 use Rattle.resp_stream.specs.declared.fault.FaultPlace.{FaultPlace}
 use Rattle.resp_stream.specs.Parse.{parse, parse_values}
 use Rattle.serial_model.specs.declared.history.BookReply.{BookReply}
-use Rattle.serial_model.specs.declared.history.BookReply.TheVariants.{Admitted, Ran, Quiet, Bytes}
-use Rattle.serial_model.specs.declared.history.BookReply.TheVariants.{Closed, Refused}
+use Rattle.serial_model.specs.declared.history.BookReply.TheVariants.{Admitted, Ran, Ticked, Quiet}
+use Rattle.serial_model.specs.declared.history.BookReply.TheVariants.{Bytes, Closed, Refused}
 use Rattle.serial_model.specs.History.{gives_on, reads_on, unsent}
 use Rattle.serial_model.specs.declared.history.BookCall.{BookCall}
 use Rattle.serial_model.specs.declared.history.BookCall.TheVariants as book
@@ -34,9 +34,10 @@ use Rattle.server_links.specs.declared.link.LinkMove.TheVariants as moves
 use Rattle.server_links.specs.Directions.{finished, is_open, is_queued, past_eof, without}
 use Rattle.server_links.specs.Directions.{without_bytes}
 use Rattle.server_links.specs.EntryLines.{reply_lines}
-use Rattle.server_links.specs.LinkEvent.{LinkEvent, Raw, Put, Over}
+use Rattle.server_links.specs.LinkEvent.{LinkEvent, Raw, Put, Over, Now, Tick}
 use Rattle.server_links.specs.LinksState.{LinksState}
 use Rattle.server_links.specs.LinkSteps.{over, over_named, place_of, raw_step, step}
+use Rattle.server_links.specs.LinkSteps.{tick, tick_lines}
 use Rattle.server_links.specs.Moves.{all_bytes, stopped_at, turned, run_one, run_all, run_requests}
 use Rattle.server_links.specs.Moves.{run_fed, serve_all, serve, take_down, send_all, send}
 use Rattle.server_links.specs.Moves.{eof_lines}
@@ -89,6 +90,7 @@ h_reply : (link : List ℕ) (words : List (List ℕ)) (r : BookReply)
     → NoHits (reply_lines link words r)
 h_reply link words (Admitted e id) = (tt, tt)
 h_reply link words (Ran e) = (tt, tt)
+h_reply link words (Ticked e) = tt
 h_reply link words Quiet = tt
 h_reply link words (Bytes e bytes) = (tt, tt)
 h_reply link words (Closed e) = (tt, tt)
@@ -205,6 +207,8 @@ h_move : (event : LinkEvent) (s : Session) → Hitless (move_of event s)
 h_move (Raw name) s = tt
 h_move (Put name bytes) s = tt
 h_move (Over name move) s = h_moved move s
+h_move (Now moment) s = tt
+h_move Tick s = tt
 
 h_named : (p : Option ℕ) (event : LinkEvent) (w : LinksState)
     → Hitless (over_named p (move_of event) w)
@@ -217,11 +221,22 @@ h_raw : (name : List ℕ) (p : Option ℕ) (w : LinksState) → Hitless (raw_ste
 h_raw name (Some at) w = tt
 h_raw name None w = h_reply name [] _
 
+h_ticked : (moment : ℕ) (r : BookReply) → NoHits (tick_lines moment r)
+h_ticked moment (Admitted e id) = tt
+h_ticked moment (Ran e) = tt
+h_ticked moment (Ticked e) = (tt, tt)
+h_ticked moment Quiet = tt
+h_ticked moment (Bytes e bytes) = tt
+h_ticked moment (Closed e) = tt
+h_ticked moment (Refused r) = tt
+
 pub h_step : (event : LinkEvent) (w : LinksState) → Hitless (step w event)
-unfolding step
+unfolding step tick
 h_step (Raw name) w = h_raw name (place_of name w) w
 h_step (Put name bytes) w = h_named (place_of name w) (Put name bytes) w
 h_step (Over name move) w = h_named (place_of name w) (Over name move) w
+h_step (Now moment) w = tt
+h_step Tick w = h_ticked _ _
 
 -- ---- clients
 

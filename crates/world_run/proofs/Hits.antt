@@ -21,7 +21,7 @@ use Rattle.currency.specs.Current.{HasPoint, IsCurrent}
 use Rattle.script_text.specs.declared.event.Event.{Event}
 use Rattle.script_text.specs.declared.event.Event.TheVariants.{Raw, Say, Bytes, Client, Out, Serve}
 use Rattle.script_text.specs.declared.event.Event.TheVariants.{Send, Recv, Flow, FlowAll, Cut, Ask}
-use Rattle.script_text.specs.declared.event.Event.TheVariants.{Do, Poll, Show}
+use Rattle.script_text.specs.declared.event.Event.TheVariants.{Do, Poll, Show, Now, Tick}
 use Rattle.script_text.specs.declared.line.Line.{Line}
 use Rattle.script_text.specs.declared.line.Line.TheVariants as line
 use Rattle.server_links.specs.declared.fault.WorldFault.TheVariants.{NameTaken, Refused}
@@ -237,6 +237,8 @@ hits_stand (Recv name count) w a =
 hits_stand (Flow name) w a = none_stand w _ (h_flow (client_of_link name w.members) name w)
 hits_stand FlowAll w a = none_stand w _ (h_first (length w.links.links) w)
 hits_stand (Cut name) w a = none_stand w _ (h_event (link_event.Over name moves.Cut) w)
+hits_stand (Now moment) w a = none_stand w _ (h_event (link_event.Now moment) w)
+hits_stand Tick w a = none_stand w _ (h_event link_event.Tick w)
 hits_stand (Ask name q) w a = ask_named name q w a
 hits_stand (Do name words) w a =
     none_stand w _ (h_named (client_named name w.members) (turn (call.Send words))

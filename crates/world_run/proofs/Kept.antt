@@ -11,6 +11,7 @@ use Rattle.resp_value.specs.declared.value.Value.{Value}
 use Rattle.resp_stream.specs.declared.fault.FaultPlace.{FaultPlace}
 use Rattle.resp_stream.specs.Parse.{parse_values}
 use Rattle.serial_model.specs.declared.history.Entry.{Entry}
+use Rattle.serial_model.specs.declared.history.Entry.TheVariants as entry
 use Rattle.shared_cache.specs.declared.log.ClientCall.{ClientCall}
 use Rattle.shared_cache.specs.declared.log.ClientCall.TheVariants as call
 use Rattle.shared_cache.specs.declared.log.Wire.TheVariants.{Main}
@@ -63,6 +64,33 @@ links_same w name = record {
   grows = refl;
   others = λ i n. refl;
   stay = over_same w;
+}
+
+-- the clock is set, or a Tick takes out keys
+pub clock_kept : (w : LinksState) (now : ℕ) → LinksKept w []
+    (record { limits = w.limits; now = now; past = w.past; links = w.links })
+clock_kept w now = record {
+  size = refl;
+  entries = [];
+  grows = refl;
+  others = λ i n. refl;
+  stay = record {
+    over = λ at is. record { ended = is.ended; read = is.read };
+    named = λ at lt. refl;
+  };
+}
+
+pub tick_kept : (w : LinksState) (moment : ℕ) → LinksKept w []
+    (record { limits = w.limits; now = w.now; past = entry.Tick moment ∷ w.past; links = w.links })
+tick_kept w moment = record {
+  size = refl;
+  entries = entry.Tick moment ∷ [];
+  grows = refl;
+  others = λ i n. refl;
+  stay = record {
+    over = λ at is. record { ended = is.ended; read = is.read };
+    named = λ at lt. refl;
+  };
 }
 
 links_both : (w u v : LinksState) (name : List ℕ) → LinksKept w name u → LinksKept u name v

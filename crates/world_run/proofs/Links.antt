@@ -12,8 +12,8 @@ use Rattle.resp_stream.specs.Parse.{parse}
 use Rattle.serial_model.specs.declared.history.Entry.{Entry}
 use Rattle.serial_model.specs.declared.history.Entry.TheVariants as entry
 use Rattle.serial_model.specs.declared.history.BookReply.{BookReply}
-use Rattle.serial_model.specs.declared.history.BookReply.TheVariants.{Admitted, Ran, Quiet, Bytes}
-use Rattle.serial_model.specs.declared.history.BookReply.TheVariants.{Closed, Refused}
+use Rattle.serial_model.specs.declared.history.BookReply.TheVariants.{Admitted, Ran, Ticked, Quiet}
+use Rattle.serial_model.specs.declared.history.BookReply.TheVariants.{Bytes, Closed, Refused}
 use Rattle.serial_model.specs.History.{admitted, is_full, reads_on, gives_on, unsent}
 use Rattle.serial_model.specs.Steps.{Turn, book_step, unless_full}
 use Rattle.serial_model.specs.Steps as steps
@@ -26,7 +26,7 @@ use Rattle.server_links.specs.declared.link.LinkMove.TheVariants as moves
 use Rattle.server_links.specs.Directions.{is_open, is_queued, past_eof, without, without_bytes}
 use Rattle.server_links.specs.Directions.{finished}
 use Rattle.server_links.specs.EntryLines.{reply_lines}
-use Rattle.server_links.specs.LinkEvent.{LinkEvent, Raw, Put, Over}
+use Rattle.server_links.specs.LinkEvent.{LinkEvent, Raw, Put, Over, Now, Tick}
 use Rattle.server_links.specs.LinksState.{LinksState, at_place, fresh_link}
 use Rattle.server_links.specs.LinkSteps.{Stepped, admitting, over, over_named, place_of, raw_step}
 use Rattle.server_links.specs.LinkSteps.{step}
@@ -42,6 +42,7 @@ use Rattle.server_links.proofs.Carries.{read_more}
 use Rattle.server_links.proofs.Names.{names_itself, placed, unplaced}
 use Rattle.server_links.proofs.Outcomes.{Meets, meets_stays, meets_once, meets_refuses}
 use Rattle.server_links.proofs.Outcomes.{meets_then, meets_weaker, meets_within}
+use Rattle.server_links.proofs.Moments.{tick_goes_on}
 use Rattle.server_links.proofs.Moving.{every_move}
 use Rattle.world_run.proofs.Members.{LinkGrows}
 
@@ -183,10 +184,29 @@ raw_moved name w = elim (place_of name w) as (λ p. place_of name w ≡ p
           ]
     ] refl
 
+-- the links are the same ones
+same_grows : (w : LinksState) (now : ℕ) (entries : List Entry) → LinkGrows w (record {
+  limits = w.limits;
+  now = now;
+  past = entries ++ w.past;
+  links = w.links;
+})
+same_grows w now entries = record {
+  limits = refl;
+  size = omega arith;
+  names = λ i lt. refl;
+  entries = entries;
+  grows = refl;
+  unique = λ u. u;
+}
+
+-- an event that is of no link has the empty name
 unfoldable pub name_of_event : LinkEvent → List ℕ
 name_of_event (Raw name) = name
 name_of_event (Put name bytes) = name
 name_of_event (Over name move) = name
+name_of_event (Now moment) = []
+name_of_event Tick = []
 
 pub step_moved : (w : LinksState) (event : LinkEvent)
     → Meets (LinkMoved w (name_of_event event)) (LinkMoved w (name_of_event event)) (step w event)
@@ -194,6 +214,17 @@ unfolding step name_of_event
 step_moved w (Raw name) = raw_moved name w
 step_moved w (Put name bytes) = named_moved name (Put name bytes) w
 step_moved w (Over name move) = named_moved name (Over name move) w
+step_moved w (Now moment) =
+    let v : LinksState =
+    record { limits = w.limits; now = moment; past = w.past; links = w.links } in
+    let m : LinkMoved w [] v [] = record { grows = same_grows w moment []; mute = λ n e. refl } in
+    meets_stays (LinkMoved w []) (LinkMoved w []) v m m
+step_moved w Tick =
+    tick_goes_on w (LinkMoved w []) (moved_none w [])
+    (λ moment e. record {
+      grows = same_grows w w.now (entry.Tick moment ∷ []);
+      mute = λ n q. refl;
+    })
 
 -- ---- nothing is read
 
@@ -240,6 +271,7 @@ mute_reply : (link : List ℕ) (words : List (List ℕ)) (reply : BookReply)
 unfolding Mute
 mute_reply link words (Admitted e id) n = refl
 mute_reply link words (Ran e) n = refl
+mute_reply link words (Ticked e) n = refl
 mute_reply link words Quiet n = refl
 mute_reply link words (Bytes e bytes) n = refl
 mute_reply link words (Closed e) n = refl
@@ -329,6 +361,8 @@ IsUnread (Over name (moves.Recv count)) = ⊥
 IsUnread (Over name moves.Flow) = ⊥
 IsUnread (Over name moves.HangUp) = Unit {0}
 IsUnread (Over name moves.Cut) = Unit {0}
+IsUnread (Now moment) = Unit {0}
+IsUnread Tick = Unit {0}
 
 mutes_move : (event : LinkEvent) (s : Session) → IsUnread event → Mutes (move_of event s)
 unfolding IsUnread
@@ -340,6 +374,8 @@ mutes_move (Over name (moves.Recv count)) s h = absurd h
 mutes_move (Over name moves.Flow) s h = absurd h
 mutes_move (Over name moves.HangUp) s h = mutes_stays _
 mutes_move (Over name moves.Cut) s h = mutes_stays _
+mutes_move (Now moment) s h = mutes_stays s
+mutes_move Tick s h = mutes_stays s
 
 mutes_named : (p : Option ℕ) (event : LinkEvent) (w : LinksState) → IsUnread event
     → Mutes (over_named p (move_of event) w)
@@ -354,10 +390,12 @@ mutes_raw name (Some at) w = mutes_refuses w NameTaken
 mutes_raw name None w = mutes_once w _ _ _ (mute_reply name [] _)
 
 pub step_mutes : (w : LinksState) (event : LinkEvent) → IsUnread event → Mutes (step w event)
-unfolding step
+unfolding step Mutes Mute
 step_mutes w (Raw name) h = mutes_raw name (place_of name w) w
 step_mutes w (Put name bytes) h = mutes_named (place_of name w) (Put name bytes) w h
 step_mutes w (Over name move) h = mutes_named (place_of name w) (Over name move) w h
+step_mutes w (Now moment) h = mutes_stays _
+step_mutes w Tick h = tick_goes_on w (λ t ls. Mute ls) nothing_read (λ moment e n. refl)
 
 -- ---- what is read
 

@@ -12,7 +12,7 @@ use Rattle.shared_cache.specs.declared.log.ClientMode.{ClientMode}
 use Rattle.script_text.specs.declared.event.Event.{Event}
 use Rattle.script_text.specs.declared.event.Event.TheVariants.{Raw, Say, Bytes, Client, Out, Serve}
 use Rattle.script_text.specs.declared.event.Event.TheVariants.{Send, Recv, Flow, FlowAll, Cut, Ask}
-use Rattle.script_text.specs.declared.event.Event.TheVariants.{Do, Poll, Show}
+use Rattle.script_text.specs.declared.event.Event.TheVariants.{Do, Poll, Show, Now, Tick}
 use Rattle.script_text.specs.declared.line.Line.{Line}
 use Rattle.server_links.specs.declared.fault.WorldFault.{WorldFault}
 use Rattle.server_links.specs.declared.fault.WorldFault.TheVariants.{NameTaken, NoName}
@@ -129,6 +129,8 @@ event_fronts (Recv name count) w = f_recv (client_of_link name w.members) name c
 event_fronts (Flow name) w = f_flow (client_of_link name w.members) name w
 event_fronts FlowAll w = f_first (length w.links.links) w
 event_fronts (Cut name) w = f_event (link_event.Over name moves.Cut) w
+event_fronts (Now moment) w = f_event (link_event.Now moment) w
+event_fronts Tick w = f_event link_event.Tick w
 event_fronts (Ask name q) w =
     f_named (client_named name w.members) (turn (call.Ask q)) (o_turn (call.Ask q)) w
 event_fronts (Do name words) w =
@@ -273,6 +275,8 @@ module _ (l : Limits) (heard : ℕ → List ℕ) (raw : List ℕ → List ℕ) (
       (a_by n (λ c. flow_step c n w) (a_over n moves.Flow w)
       (λ at is. a_linked n client.flow (stays w) o_flow at is))
   apart_then FlowAll name e = absurd (let no : ⊥ = cc in no)
+  apart_then (Now moment) name e = absurd (let no : ⊥ = cc in no)
+  apart_then Tick name e = absurd (let no : ⊥ = cc in no)
   apart_then (Cut n) name e =
       subst (λ x. Leaves w x (step w (Cut n))) (let i : n ≡ name = cc in i)
       (a_over n moves.Cut w)

@@ -27,7 +27,7 @@ use Rattle.shared_cache.specs.Steps.{polling, read_number, refusing}
 use Rattle.script_text.specs.declared.event.Event.{Event}
 use Rattle.script_text.specs.declared.event.Event.TheVariants.{Raw, Say, Bytes, Client, Out, Serve}
 use Rattle.script_text.specs.declared.event.Event.TheVariants.{Send, Recv, Flow, FlowAll, Cut, Ask}
-use Rattle.script_text.specs.declared.event.Event.TheVariants.{Do, Poll, Show}
+use Rattle.script_text.specs.declared.event.Event.TheVariants.{Do, Poll, Show, Now, Tick}
 use Rattle.script_text.specs.declared.line.Line.{Line}
 use Rattle.server_links.specs.declared.fault.WorldFault.{WorldFault}
 use Rattle.server_links.specs.declared.fault.WorldFault.TheVariants.{NameTaken, NoName}
@@ -397,6 +397,8 @@ unchanged FlowAll w h =
     let m = flow_first (length w.links.links) w in
     accepted w m (first_flows (length w.links.links) w h (omega arith)).unrefused
 unchanged (Cut name) w h = event_leaves (link_event.Over name moves.Cut) w
+unchanged (Now moment) w h = event_leaves (link_event.Now moment) w
+unchanged Tick w h = event_leaves link_event.Tick w
 unchanged (Ask name q) w h =
     named_leaves (client_named name w.members) (turn (call.Ask q))
     (λ s. turn_leaves (call.Ask q) s (ask_leaves q s)) w

@@ -51,6 +51,17 @@ unfolding links_step
 links_give e old new members lines r lines' g =
     gives_within (on_links (world old members)) (links.step old e) lines r new lines' g
 
+-- the clock is set
+pub clock_gives : (old new : LinksState) (members : List MemberState) (lines : List Line)
+    (moment : ℕ)
+    → new ≡ record { limits = old.limits; now = moment; past = old.past; links = old.links }
+    → Gives {A = Unit {0}} (links_step (link_event.Now moment) (world old members)) lines
+    (Ok (tt {0})) (world new members) lines
+unfolding links.step
+clock_gives old new members lines moment is =
+    links_give (link_event.Now moment) old new members lines (Ok (tt {0})) lines
+    (refl, is, sym (append-nil lines))
+
 pub client_gives : {A : Type 0} → (at : ℕ) (move : Seat → Outcome Seat) (old new : LinksState)
     (members : List MemberState) (m m' : MemberState) (lines : List Line)
     (r : Result A WorldFault) (lines' : List Line) → at < length members

@@ -10,7 +10,7 @@ use Rattle.shared_cache.specs.declared.log.ClientCall.TheVariants as call
 use Rattle.script_text.specs.declared.event.Event.{Event}
 use Rattle.script_text.specs.declared.event.Event.TheVariants.{Raw, Say, Bytes, Client, Out, Serve}
 use Rattle.script_text.specs.declared.event.Event.TheVariants.{Send, Recv, Flow, FlowAll, Cut, Ask}
-use Rattle.script_text.specs.declared.event.Event.TheVariants.{Do, Poll, Show}
+use Rattle.script_text.specs.declared.event.Event.TheVariants.{Do, Poll, Show, Now, Tick}
 use Rattle.script_text.specs.declared.line.Line.{Line}
 use Rattle.script_text.specs.Valid.{IsValid}
 use Rattle.server_links.specs.declared.fault.WorldFault.TheVariants.{NoName, NothingThere}
@@ -19,6 +19,7 @@ use Rattle.server_links.specs.LinkEvent as link_event
 use Rattle.server_links.specs.LinkEvent.{LinkEvent}
 use Rattle.server_links.specs.LinkSteps.{place_of}
 use Rattle.server_links.specs.Outcome.{Outcome}
+use Rattle.server_links.specs.OneHistory as links_said
 use Rattle.server_links.specs.Transcript as links_heard
 use Rattle.server_links.specs.Transcript.{is_place, reads_at}
 use Rattle.server_links.proofs.LinksStand.{not_equal}
@@ -104,6 +105,16 @@ module _ (l : Limits) (heard : ℕ → List ℕ) (raw : List ℕ → List ℕ) (
       raw raw lines (links_step (link_event.Over name move) w)
       (λ i. ap (λ x. heard i ++ x) (hears i) ∙ append-nil (heard i)) (λ n. refl)
       (over_comes name move none)
+
+  -- an event of no link
+  clock_comes : (event : LinkEvent) → IsUnread event
+      → ((i : ℕ) → links_heard.heard_at w.links i event ≡ [])
+      → ((n : List ℕ) → links_said.said_by n event ≡ [])
+      → Comes l heard raw lines (links_step event w)
+  clock_comes event none hears says =
+      comes_as l (λ i. heard i ++ links_heard.heard_at w.links i event) heard raw raw lines
+      (links_step event w) (λ i. ap (λ x. heard i ++ x) (hears i) ∙ append-nil (heard i))
+      (λ n. refl) (comes_unread l heard raw lines w h event none says)
 
   raw_out_comes : (p : Option ℕ) (count : Option ℕ) → Comes l heard raw lines (raw_out p count w)
   raw_out_comes None count =
@@ -232,6 +243,12 @@ module _ (l : Limits) (heard : ℕ → List ℕ) (raw : List ℕ → List ℕ) (
   event_comes (Cut name) valid =
       silent (Cut name) (λ i. refl) (λ n. refl)
       (quiet_over name moves.Cut tt (λ i. nothing (is_place (place_of name w.links) i)))
+  event_comes (Now moment) valid =
+      silent (Now moment) (λ i. refl) (λ n. refl)
+      (clock_comes (link_event.Now moment) tt (λ i. refl) (λ n. refl))
+  event_comes Tick valid =
+      silent Tick (λ i. refl) (λ n. refl)
+      (clock_comes link_event.Tick tt (λ i. refl) (λ n. refl))
   event_comes (Ask name q) valid =
       silent (Ask name q) (λ i. refl) (λ n. refl)
       (named_comes name (turn (call.Ask q))

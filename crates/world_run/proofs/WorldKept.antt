@@ -9,7 +9,7 @@ use Rattle.shared_cache.specs.declared.log.ClientMode.{ClientMode}
 use Rattle.script_text.specs.declared.event.Event.{Event}
 use Rattle.script_text.specs.declared.event.Event.TheVariants.{Raw, Say, Bytes, Client, Out, Serve}
 use Rattle.script_text.specs.declared.event.Event.TheVariants.{Send, Recv, Flow, FlowAll, Cut, Ask}
-use Rattle.script_text.specs.declared.event.Event.TheVariants.{Do, Poll, Show}
+use Rattle.script_text.specs.declared.event.Event.TheVariants.{Do, Poll, Show, Now, Tick}
 use Rattle.script_text.specs.declared.line.Line.{Line}
 use Rattle.server_links.specs.declared.fault.WorldFault.{WorldFault}
 use Rattle.server_links.specs.declared.fault.WorldFault.TheVariants.{NameTaken, NoName}
@@ -36,7 +36,9 @@ use Rattle.world_run.specs.World.{Stepped, client_does, client_step, flow_at, fl
 use Rattle.world_run.specs.World.{is_served, is_taken, join, links_step, named_does, not_served}
 use Rattle.world_run.specs.World.{out_step, raw_out, recv_step, said_step, setup_by, step}
 use Rattle.world_run.specs.World.{on_links}
+use Rattle.server_links.proofs.Moments.{tick_goes_on}
 use Rattle.world_run.proofs.Kept.{Kept, LinksKept, Orderly, named_kept, o_flow, o_out}
+use Rattle.world_run.proofs.Kept.{clock_kept, links_same, tick_kept}
 use Rattle.world_run.proofs.Kept.{o_receive, o_show, o_turn}
 use Rattle.world_run.proofs.Links.{step_moved}
 use Rattle.world_run.proofs.Names.{client_more, client_set}
@@ -130,6 +132,20 @@ unfolding links.step
 goes_over name move w =
     goes_linked (link_event.Over name move) name w
     (named_kept (link_event.Over name move) w.links name)
+
+goes_clock : (moment : ℕ) (w : WorldState) → Goes w (links_step (link_event.Now moment) w)
+unfolding links.step
+goes_clock moment w =
+    let k = clock_kept w.links moment in
+    goes_linked (link_event.Now moment) [] w
+    (meets_stays (λ v ls. LinksKept w.links [] v) (λ v ls. LinksKept w.links [] v) _ k k)
+
+goes_tick : (w : WorldState) → Goes w (links_step link_event.Tick w)
+unfolding links.step
+goes_tick w =
+    goes_linked link_event.Tick [] w
+    (tick_goes_on w.links (λ v ls. LinksKept w.links [] v) (links_same w.links [])
+    (λ moment e. tick_kept w.links moment))
 
 goes_put : (name bytes : List ℕ) (w : WorldState)
     → Goes w (links_step (link_event.Put name bytes) w)
@@ -298,6 +314,8 @@ step_grows (Recv name count) w =
 step_grows (Flow name) w = as_growing w _ (goes_flow (client_of_link name w.members) name w)
 step_grows FlowAll w = as_growing w _ (goes_first (length w.links.links) w)
 step_grows (Cut name) w = as_growing w _ (goes_over name moves.Cut w)
+step_grows (Now moment) w = as_growing w _ (goes_clock moment w)
+step_grows Tick w = as_growing w _ (goes_tick w)
 step_grows (Ask name q) w =
     as_growing w _ (named_goes (client_named name w.members) (turn (call.Ask q))
     (o_turn (call.Ask q)) w)

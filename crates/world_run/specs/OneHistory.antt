@@ -24,7 +24,7 @@ use Rattle.currency.specs.Current.{HasPoint, IsCurrent}
 use Rattle.script_text.specs.declared.event.Event.{Event}
 use Rattle.script_text.specs.declared.event.Event.TheVariants.{Raw, Say, Bytes, Client, Out, Serve}
 use Rattle.script_text.specs.declared.event.Event.TheVariants.{Send, Recv, Flow, FlowAll, Cut, Ask}
-use Rattle.script_text.specs.declared.event.Event.TheVariants.{Do, Poll, Show}
+use Rattle.script_text.specs.declared.event.Event.TheVariants.{Do, Poll, Show, Now, Tick}
 use Rattle.script_text.specs.Valid.{IsValid}
 use Rattle.script_text.specs.declared.line.Line.{Line}
 use Rattle.script_text.specs.declared.line.Line.TheVariants as line
@@ -56,6 +56,8 @@ said_by link (Recv name count) = []
 said_by link (Flow name) = []
 said_by link FlowAll = []
 said_by link (Cut name) = []
+said_by link (Now moment) = []
+said_by link Tick = []
 said_by link (Ask name q) = []
 said_by link (Do name words) = []
 said_by link (Poll name n) = []
@@ -142,6 +144,8 @@ link_named (Recv name count) = Some name
 link_named (Flow name) = Some name
 link_named FlowAll = None
 link_named (Cut name) = Some name
+link_named (Now moment) = None
+link_named Tick = None
 link_named (Ask name q) = Some (data_link name)
 link_named (Do name words) = Some (data_link name)
 link_named (Poll name n) = Some (data_link name)

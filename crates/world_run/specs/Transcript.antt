@@ -5,7 +5,7 @@ use Rattle.std.specs.declared.option.Option.TheVariants.{None, Some}
 use Rattle.script_text.specs.declared.event.Event.{Event}
 use Rattle.script_text.specs.declared.event.Event.TheVariants.{Raw, Say, Bytes, Client, Out, Serve}
 use Rattle.script_text.specs.declared.event.Event.TheVariants.{Send, Recv, Flow, FlowAll, Cut, Ask}
-use Rattle.script_text.specs.declared.event.Event.TheVariants.{Do, Poll, Show}
+use Rattle.script_text.specs.declared.event.Event.TheVariants.{Do, Poll, Show, Now, Tick}
 use Rattle.script_text.specs.declared.line.Line.{Line}
 use Rattle.server_links.specs.LinksState.{at_place}
 use Rattle.server_links.specs.LinkSteps.{place_of}
@@ -53,6 +53,8 @@ heard_at w at (Flow name) = if is_place (place_of name w.links) at then flow_hea
 heard_at w at FlowAll =
     if nat_lt at (length w.links.links) then flow_heard at (flow_first at w).state else []
 heard_at w at (Cut name) = []
+heard_at w at (Now moment) = []
+heard_at w at Tick = []
 heard_at w at (Ask name q) = []
 heard_at w at (Do name words) = []
 heard_at w at (Poll name n) = []

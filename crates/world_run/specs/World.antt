@@ -10,7 +10,7 @@ use Rattle.resp_value.specs.Spelling.{request_spelling}
 use Rattle.script_text.specs.declared.event.Event.{Event}
 use Rattle.script_text.specs.declared.event.Event.TheVariants.{Raw, Say, Bytes, Client, Out, Serve}
 use Rattle.script_text.specs.declared.event.Event.TheVariants.{Send, Recv, Flow, FlowAll, Cut, Ask}
-use Rattle.script_text.specs.declared.event.Event.TheVariants.{Do, Poll, Show}
+use Rattle.script_text.specs.declared.event.Event.TheVariants.{Do, Poll, Show, Now, Tick}
 use Rattle.script_text.specs.declared.line.Line.{Line}
 use Rattle.shared_cache.specs.declared.log.ClientMode.{ClientMode}
 use Rattle.shared_cache.specs.declared.log.Shape.{Shape}
@@ -159,6 +159,8 @@ step w (Recv name count) = recv_step (client_of_link name w.members) name count 
 step w (Flow name) = flow_step (client_of_link name w.members) name w
 step w FlowAll = flow_first (length w.links.links) w
 step w (Cut name) = links_step (link_event.Over name moves.Cut) w
+step w (Now moment) = links_step (link_event.Now moment) w
+step w Tick = links_step link_event.Tick w
 step w (Ask name q) = named_does (client_named name w.members) (turn (call.Ask q)) w
 step w (Do name words) = named_does (client_named name w.members) (turn (call.Send words)) w
 step w (Poll name n) = named_does (client_named name w.members) (turn (call.Poll n)) w

@@ -1,24 +1,28 @@
 //! Where in the history a client's answers stand: counted, where the definitions look at all of it.
-ghost use Rattle.std.specs.Prelude.{◌≡◌, IfOk, max};
+ghost use Rattle.std.specs.Prelude.{◌≡◌, IfOk, Ok, max};
 ghost use Rattle.command_words.specs.Words.{reading};
 ghost use Rattle.currency.specs.Points.{names_key, reads_key, replied};
 ghost use Rattle.world_run.specs.ClientMoves.{complete_at, ran_at};
 ghost use Rattle.world_run.specs.Members.{client_of, seat};
 
 use super::member::Member;
-use command_words::{WordFault, Written, keys_read, read_command, written_by};
+use command_words::{Command, WordFault, Written, keys_read, read_command, written_by};
 use resp_value::{NoMemory, Words};
 use server_links::ServerLinks;
 use std::alloc::Global;
+
+fn is_read(alloc: Global, command: &Command, key: &[u8]) -> Result<bool, NoMemory>
+    ensures { IfOk result (λ b. b ≡ reads_key (Ok command.now) key.now) }
+{
+    let keys = keys_read(alloc, command)?;
+    Ok(Written::Keys(keys).names(key))
+}
 
 fn reads_key(alloc: Global, words: &Words, key: &[u8]) -> Result<bool, NoMemory>
     ensures { IfOk result (λ b. b ≡ reads_key (reading words.now) key.now) }
 {
     match read_command(alloc, words) {
-        Ok(command) => {
-            let keys = keys_read(alloc, &command)?;
-            Ok(Written::Keys(keys).names(key))
-        }
+        Ok(command) => is_read(alloc, &command, key),
         Err(WordFault::NoMemory) => Err(NoMemory),
         Err(_) => Ok(false),
     }

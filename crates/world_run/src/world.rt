@@ -77,6 +77,11 @@ impl World {
             Event::Flow(name) => self.flow(name, lines),
             Event::FlowAll => self.flow_all(lines),
             Event::Cut(name) => self.play(name, LinkMove::Cut, lines),
+            Event::Now(moment) => {
+                self.links.set_clock(*moment);
+                Ok(())
+            }
+            Event::Tick => self.links.tick(lines),
             Event::Ask(name, query) => self.ask(name, query, lines),
             Event::Do(name, words) => self.send(name, words, lines),
             Event::Poll(name, number) => self.poll(name, *number, lines),
@@ -179,6 +184,11 @@ impl World {
         if self.is_taken(name) {
             return Err(WorldFault::NameTaken);
         }
+        // the client comes last: each way out lets go of all that is there
+        let link = data_link(self.alloc, name)?;
+        let called = name.copy()?;
+        let reached = link.copy()?;
+        self.members.reserve(1)?;
         let mode = ClientMode {
             shape: Shape::Single,
             proto: Proto::Three,
@@ -186,10 +196,8 @@ impl World {
             noloop: false,
         };
         let state = ClientState::new(self.alloc, mode, capacity, self.links.limits().history_max)?;
-        let link = data_link(self.alloc, name)?;
         let place = self.links.count();
-        let member = Member::new(self.alloc, name.copy()?, link.copy()?, place, state);
-        self.members.reserve(1)?;
+        let member = Member::new(self.alloc, called, reached, place, state);
         self.links.raw(&link, lines)?;
         self.members.push_reserved(member);
         Ok(())

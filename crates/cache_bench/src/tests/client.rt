@@ -1,13 +1,11 @@
 //! A client over tables: each line is a call and its answer.
 ghost use Rattle.std.specs.Prelude.{◌≡◌, ◌<◌, IfOk, length};
-ghost use Rattle.shared_cache.specs.ClientFields.{IsServed};
 ghost use Rattle.shared_cache.specs.Laws.{IsCall};
 
+use super::super::calls::mode;
 use command_words::Query;
-use resp_value::{NoMemory, Octets, Pairs, Proto, Value, Values, Words};
-use shared_cache::{
-    Caching, ClientCall, ClientMode, ClientRefusal, ClientReply, ClientState, Shape, Wire,
-};
+use resp_value::{NoMemory, Octets, Pairs, Value, Values, Words};
+use shared_cache::{ClientCall, ClientRefusal, ClientReply, ClientState, Wire};
 use std::alloc::Global;
 use std::process::Abort;
 use std::test::Fail;
@@ -149,13 +147,32 @@ get a: hit 3
 invalidate a: noted
 get a: sent 4";
 
-// What comes between a fetch and its reply, and the number of the next fetch.
+// What comes between a fetch and its reply, and the next fetch.
 const BETWEEN: &str = "\
-invalidate a: noted; 4
-flush: noted; 4
-flush-array: noted; 4
-broken: noted; 4
-set a: sent 4; 5";
+get a: sent 3
+invalidate a: noted
+blob 1: noted
+get a: sent 4
+
+get a: sent 3
+flush: noted
+blob 1: noted
+get a: sent 4
+
+get a: sent 3
+flush-array: noted
+blob 1: noted
+get a: sent 4
+
+get a: sent 3
+broken: noted
+blob 1: noted
+get a: sent 4
+
+get a: sent 3
+set a: sent 4
+blob 1: noted
+get a: sent 5";
 
 const LATER_FETCH: &str = "\
 get a: sent 3
@@ -251,6 +268,13 @@ get Z: sent 4
 blob 1: noted
 blob 2: noted";
 
+fn told(client: &mut ClientState, call: ClientCall) -> (&'static str, u64)
+    requires { IsCall call }
+{
+    let reply = client.turn(call);
+    parts_of(&reply)
+}
+
 fn play_line<R: Abort>(
     rt: &R,
     alloc: Global,
@@ -259,8 +283,8 @@ fn play_line<R: Abort>(
 ) -> Result<(), Fail> {
     let (call, wanted) = line.split_once(": ").ok_or("a line without an answer")?;
     let (name, number) = wanted.split_once(" ").unwrap_or((wanted, "0"));
-    let reply = client.turn(call_of(alloc, call)?);
-    let (is, of) = parts_of(&reply);
+    let call = call_of(alloc, call)?;
+    let (is, of) = told(client, call);
     assert_eq!(rt; is, name, "{line}");
     assert_eq!(rt; of, number_of(number), "{line}");
     Ok(())
@@ -278,18 +302,31 @@ fn play<R: Abort>(
     Ok(())
 }
 
-fn mode() -> ClientMode
-    ensures { IsServed result }
+// Tables are played one after the other on a client whose log holds so many entries.
+fn plays_within<R: Abort>(
+    rt: &R,
+    alloc: Global,
+    log_max: u64,
+    first: &str,
+    table: &str,
+) -> Result<(), Fail>
+    requires { 0 < log_max }
 {
-    ClientMode {
-        shape: Shape::Single,
-        proto: Proto::Three,
-        caching: Caching::Default,
-        noloop: false,
-    }
+    let mut client = ClientState::new(alloc, mode(), 2, log_max)?;
+    play_both(rt, alloc, &mut client, first, table)
 }
 
-// A table is played on a client whose log holds so many entries.
+fn play_both<R: Abort>(
+    rt: &R,
+    alloc: Global,
+    client: &mut ClientState,
+    first: &str,
+    table: &str,
+) -> Result<(), Fail> {
+    play(rt, alloc, client, first)?;
+    play(rt, alloc, client, table)
+}
+
 fn plays_from_the_start<R: Abort>(
     rt: &R,
     alloc: Global,
@@ -298,68 +335,47 @@ fn plays_from_the_start<R: Abort>(
 ) -> Result<(), Fail>
     requires { 0 < log_max }
 {
-    let mut client = ClientState::new(alloc, mode(), 1, log_max)?;
-    play(rt, alloc, &mut client, table)
+    plays_within(rt, alloc, log_max, "", table)
 }
 
 // A client whose handshake is answered, and which then answers so.
-fn plays<R: Abort>(rt: &R, alloc: Global, table: &str) -> Result<ClientState, Fail> {
-    let mut client = ClientState::new(alloc, mode(), 2, 100)?;
-    play(rt, alloc, &mut client, SET_UP)?;
-    play(rt, alloc, &mut client, table)?;
-    Ok(client)
+fn plays<R: Abort>(rt: &R, alloc: Global, table: &str) -> Result<(), Fail> {
+    plays_within(rt, alloc, 100, SET_UP, table)
 }
 
 #[test]
 fn a_reply_is_held_until_its_key_is_invalidated(rt: HostRuntime) -> Result<(), Fail> {
-    let _ = plays(&rt, rt.alloc(), HELD_UNTIL_INVALIDATED)?;
-    Ok(())
-}
-
-fn leaves_nothing<R: Abort>(rt: &R, alloc: Global, row: &str) -> Result<(), Fail> {
-    let (between, next) = row.split_once("; ").ok_or("a row without a number")?;
-    let mut client = plays(rt, alloc, "get a: sent 3")?;
-    play_line(rt, alloc, &mut client, between)?;
-    play_line(rt, alloc, &mut client, "blob 1: noted")?;
-    let reply = client.turn(ClientCall::Ask(query(alloc, "a")?));
-    let (is, of) = parts_of(&reply);
-    assert_eq!(rt; is, "sent", "{row}");
-    assert_eq!(rt; of, number_of(next), "{row}");
-    Ok(())
+    plays(&rt, rt.alloc(), HELD_UNTIL_INVALIDATED)
 }
 
 #[test]
 fn what_comes_between_a_fetch_and_its_reply_leaves_nothing_held(
     rt: HostRuntime,
 ) -> Result<(), Fail> {
-    for row in BETWEEN.lines() {
-        leaves_nothing(&rt, rt.alloc(), row)?;
+    for table in BETWEEN.split("\n\n") {
+        plays(&rt, rt.alloc(), table)?;
     }
     Ok(())
 }
 
 #[test]
 fn a_later_fetch_of_the_query_ends_the_older(rt: HostRuntime) -> Result<(), Fail> {
-    let _ = plays(&rt, rt.alloc(), LATER_FETCH)?;
-    Ok(())
+    plays(&rt, rt.alloc(), LATER_FETCH)
 }
 
 #[test]
 fn a_flush_empties_and_errors_and_nulls_are_held(rt: HostRuntime) -> Result<(), Fail> {
-    let _ = plays(&rt, rt.alloc(), FLUSH_OF_ALL)?;
-    Ok(())
+    plays(&rt, rt.alloc(), FLUSH_OF_ALL)
 }
 
 #[test]
 fn the_key_used_earliest_leaves_at_the_capacity(rt: HostRuntime) -> Result<(), Fail> {
-    let _ = plays(&rt, rt.alloc(), LEAST_RECENT)?;
-    Ok(())
+    plays(&rt, rt.alloc(), LEAST_RECENT)
 }
 
 #[test]
 fn a_reply_is_handed_out_once_in_any_order(rt: HostRuntime) -> Result<(), Fail> {
-    let _ = plays(&rt, rt.alloc(), HANDED_OUT_ONCE)?;
-    Ok(())
+    plays(&rt, rt.alloc(), HANDED_OUT_ONCE)
 }
 
 #[test]
@@ -372,14 +388,12 @@ fn another_answer_to_the_handshake_ends_the_link(rt: HostRuntime) -> Result<(), 
     let a = rt.alloc();
     plays_from_the_start(&rt, a, 100, FIRST_ANSWER_IS_AN_ERROR)?;
     plays_from_the_start(&rt, a, 100, SECOND_ANSWER_IS_ANOTHER)?;
-    let _ = plays(&rt, a, THIRD_ANSWER_IS_NOT_AWAITED)?;
-    Ok(())
+    plays(&rt, a, THIRD_ANSWER_IS_NOT_AWAITED)
 }
 
 #[test]
 fn the_bytes_of_the_commands_are_taken_in_order(rt: HostRuntime) -> Result<(), Fail> {
-    let _ = plays(&rt, rt.alloc(), BYTES_TAKEN_OUT)?;
-    Ok(())
+    plays(&rt, rt.alloc(), BYTES_TAKEN_OUT)
 }
 
 fn is_held<R: Abort>(
@@ -395,12 +409,21 @@ fn is_held<R: Abort>(
     Ok(())
 }
 
-#[test]
-fn what_is_held_is_in_byte_order_of_the_printed_words(rt: HostRuntime) -> Result<(), Fail> {
-    let client = plays(&rt, rt.alloc(), TWO_HELD)?;
-    is_held(&rt, &client, 0, b"Z", 4)?;
-    is_held(&rt, &client, 1, b"\0", 3)?;
+fn holds_two<R: Abort>(rt: &R, client: &ClientState) -> Result<(), Fail> {
+    is_held(rt, client, 0, b"Z", 4)?;
+    is_held(rt, client, 1, b"\0", 3)?;
     assert!(rt; client.held(2).is_none());
     assert_eq!(rt; client.log().len(), 6);
     Ok(())
+}
+
+fn fill_and_look<R: Abort>(rt: &R, alloc: Global, client: &mut ClientState) -> Result<(), Fail> {
+    play_both(rt, alloc, client, SET_UP, TWO_HELD)?;
+    holds_two(rt, client)
+}
+
+#[test]
+fn what_is_held_is_in_byte_order_of_the_printed_words(rt: HostRuntime) -> Result<(), Fail> {
+    let mut client = ClientState::new(rt.alloc(), mode(), 2, 100)?;
+    fill_and_look(&rt, rt.alloc(), &mut client)
 }

@@ -1,5 +1,6 @@
 //! A client as a program of another language holds it, over tables of calls.
 use client_library::{ForeignClient, LibraryClient, status};
+use resp_value::NoMemory;
 use std::alloc::{AllocError, Global};
 use std::process::Abort;
 use std::test::Fail;
@@ -93,12 +94,24 @@ fn is_told(
     Ok(status == status_of(wanted) && told(alloc, client, want)?)
 }
 
-fn plays<R: Abort>(rt: &R, alloc: Global, piece: usize, table: &str) -> Result<(), Fail> {
-    let mut client = ForeignClient::new(alloc, 100, 1000)?.ok_or("no client")?;
+fn play<R: Abort>(
+    rt: &R,
+    alloc: Global,
+    client: &mut ForeignClient,
+    piece: usize,
+    table: &str,
+) -> Result<(), Fail> {
     for line in table.lines() {
-        assert!(rt; is_told(alloc, &mut client, line, piece)?, "{line}");
+        assert!(rt; is_told(alloc, client, line, piece)?, "{line}");
     }
     Ok(())
+}
+
+fn plays<R: Abort>(rt: &R, alloc: Global, piece: usize, table: &str) -> Result<(), Fail> {
+    match ForeignClient::new(alloc, 100, 1000)? {
+        Some(mut client) => play(rt, alloc, &mut client, piece, table),
+        None => Err("no client".into()),
+    }
 }
 
 const FETCH: &str = "\
@@ -163,18 +176,21 @@ fn each_end_is_told(rt: HostRuntime) -> Result<(), Fail> {
     Ok(())
 }
 
-#[test]
-fn a_limit_that_is_none_is_refused(rt: HostRuntime) -> Result<(), Fail> {
-    for capacity in [0, 1000001] {
-        assert!(rt; ForeignClient::new(rt.alloc(), capacity, 1)?.is_none());
-    }
-    assert!(rt; ForeignClient::new(rt.alloc(), 1, 0)?.is_none());
-    Ok(())
+fn is_refused(alloc: Global, capacity: u64, log_max: u64) -> Result<bool, NoMemory> {
+    let client = ForeignClient::new(alloc, capacity, log_max)?;
+    Ok(client.is_none())
 }
 
 #[test]
-fn a_full_log_ends_the_link_at_a_value(rt: HostRuntime) -> Result<(), Fail> {
-    let mut client = LibraryClient::new(rt.alloc(), 1, 2)?;
+fn a_limit_that_is_none_is_refused(rt: HostRuntime) -> Result<(), Fail> {
+    for capacity in [0, 1000001] {
+        assert!(rt; is_refused(rt.alloc(), capacity, 1)?);
+    }
+    assert!(rt; is_refused(rt.alloc(), 1, 0)?);
+    Ok(())
+}
+
+fn is_full_at_a_value<R: Abort>(rt: &R, client: &mut LibraryClient) -> Result<(), Fail> {
     client.feed(b"%0\r\n+OK\r\n")?;
     assert!(rt; !client.has_ended());
     assert_eq!(rt; client.log().len(), 2);
@@ -182,4 +198,10 @@ fn a_full_log_ends_the_link_at_a_value(rt: HostRuntime) -> Result<(), Fail> {
     assert!(rt; client.has_ended());
     assert_eq!(rt; client.log().len(), 3);
     Ok(())
+}
+
+#[test]
+fn a_full_log_ends_the_link_at_a_value(rt: HostRuntime) -> Result<(), Fail> {
+    let mut client = LibraryClient::new(rt.alloc(), 1, 2)?;
+    is_full_at_a_value(&rt, &mut client)
 }

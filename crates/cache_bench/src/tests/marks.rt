@@ -53,12 +53,16 @@ fn gives(alloc: Global, marks: &mut Marks, row: &str) -> Result<bool, Fail> {
     Ok(given.as_slice() == wanted.as_bytes())
 }
 
-fn plays<R: Abort>(rt: &R, alloc: Global, table: &str) -> Result<(), Fail> {
-    let mut marks = Marks::new(alloc);
+fn play_rows<R: Abort>(rt: &R, alloc: Global, marks: &mut Marks, table: &str) -> Result<(), Fail> {
     for row in table.lines() {
-        assert!(rt; gives(alloc, &mut marks, row)?, "{row}");
+        assert!(rt; gives(alloc, marks, row)?, "{row}");
     }
     Ok(())
+}
+
+fn plays<R: Abort>(rt: &R, alloc: Global, table: &str) -> Result<(), Fail> {
+    let mut marks = Marks::new(alloc);
+    play_rows(rt, alloc, &mut marks, table)
 }
 
 // A step with a number and a key, and the key of the query that it gives.

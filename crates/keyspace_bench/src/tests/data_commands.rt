@@ -1,15 +1,12 @@
 //! Commands with the deadlines after each, the keys that were due, and runs that are taken back.
-use super::rows::words_of;
+use super::rows::commands_of;
 use command_set::{Database, Turned, has_row};
-use command_words::read_command;
 use resp_value::{NoMemory, Proto, Words, put_value};
 use std::alloc::Global;
 use std::process::Abort;
 use std::test::Fail;
 
-/// The words, parted by spaces; `-` where there are none.
-fn joined(alloc: Global, words: &Words) -> Result<Vec<u8>, NoMemory> {
-    let mut text = Vec::new(alloc);
+fn put_joined(words: &Words, text: &mut Vec<u8>) -> Result<(), NoMemory> {
     for word in words.as_slice() {
         if !text.is_empty() {
             text.push(b' ')?;
@@ -19,6 +16,13 @@ fn joined(alloc: Global, words: &Words) -> Result<Vec<u8>, NoMemory> {
     if text.is_empty() {
         text.push(b'-')?;
     }
+    Ok(())
+}
+
+/// The words, parted by spaces; `-` where there are none.
+fn joined(alloc: Global, words: &Words) -> Result<Vec<u8>, NoMemory> {
+    let mut text = Vec::new(alloc);
+    put_joined(words, &mut text)?;
     Ok(text)
 }
 
@@ -30,13 +34,34 @@ fn run(
     line: &str,
     moment: u64,
 ) -> Result<Turned, NoMemory> {
-    let Ok(command) = read_command(alloc, &words_of(alloc, line)?) else {
+    let commands = commands_of(alloc, line)?;
+    let Some(command) = commands.first() else {
         panic!(rt; "{line}");
     };
-    if !has_row(&command) {
+    if !has_row(command) {
         panic!(rt; "{line}");
     }
-    database.run_due(&command, moment)
+    database.run_due(command, moment)
+}
+
+/// Runs data commands.
+fn run_all(
+    rt: &impl Abort,
+    alloc: Global,
+    database: &mut Database,
+    lines: &str,
+    moment: u64,
+) -> Result<(), NoMemory> {
+    for line in lines.lines() {
+        let _ = run(rt, alloc, database, line, moment)?;
+    }
+    Ok(())
+}
+
+/// The keys with deadlines, in order.
+fn listed(alloc: Global, database: &mut Database) -> Result<Vec<u8>, NoMemory> {
+    let keys = database.due_keys(u64::MAX)?;
+    joined(alloc, &keys)
 }
 
 /// Runs a command and compares the keys with deadlines after it, in order.
@@ -49,8 +74,8 @@ fn lists(
     let Some((line, want)) = row.split_once(": ") else {
         panic!(rt; "{row}");
     };
-    run(rt, alloc, database, line, 1000)?;
-    let listed = joined(alloc, &database.due_keys(u64::MAX)?)?;
+    run_all(rt, alloc, database, line, 1000)?;
+    let listed = listed(alloc, database)?;
     assert_eq!(rt; listed.as_slice(), want.as_bytes(), "{row}");
     Ok(())
 }
@@ -113,13 +138,17 @@ RENAME s h: h d
 RENAME i d: h
 FLUSHDB: -";
 
+fn all_list(rt: &impl Abort, alloc: Global, database: &mut Database) -> Result<(), Fail> {
+    for row in LISTED.lines() {
+        lists(rt, alloc, database, row)?;
+    }
+    Ok(())
+}
+
 #[test]
 fn the_deadlines_follow_each_command(rt: HostRuntime) -> Result<(), Fail> {
     let mut database = Database::new(rt.alloc());
-    for row in LISTED.lines() {
-        lists(&rt, rt.alloc(), &mut database, row)?;
-    }
-    Ok(())
+    all_list(&rt, rt.alloc(), &mut database)
 }
 
 const LIVES: &str = "\
@@ -130,6 +159,17 @@ SET n 1
 SET c 1 PX 6
 SET d 1 PX 7";
 
+fn expire_and_undo(database: &mut Database, moment: u64) -> Result<(), NoMemory> {
+    let expired = database.expire_due(moment)?;
+    database.undo_due(expired.undo);
+    Ok(())
+}
+
+fn expired(alloc: Global, database: &mut Database, moment: u64) -> Result<Vec<u8>, NoMemory> {
+    let expired = database.expire_due(moment)?;
+    joined(alloc, &expired.keys)
+}
+
 fn expires(
     rt: &impl Abort,
     alloc: Global,
@@ -137,11 +177,21 @@ fn expires(
     moment: u64,
     want: &str,
 ) -> Result<(), NoMemory> {
-    let first = database.expire_due(moment)?;
-    database.undo_due(first.undo);
-    let expired = database.expire_due(moment)?;
-    assert_eq!(rt; joined(alloc, &expired.keys)?.as_slice(), want.as_bytes());
+    expire_and_undo(database, moment)?;
+    let keys = expired(alloc, database, moment)?;
+    assert_eq!(rt; keys.as_slice(), want.as_bytes());
     Ok(())
+}
+
+/// Runs a command, and gives the keys that were due.
+fn found_due(
+    rt: &impl Abort,
+    alloc: Global,
+    database: &mut Database,
+    line: &str,
+) -> Result<Vec<u8>, NoMemory> {
+    let turned = run(rt, alloc, database, line, 7)?;
+    joined(alloc, &turned.expired)
 }
 
 /// Runs a command and compares the keys that were due.
@@ -152,24 +202,25 @@ fn finds_due(
     line: &str,
     want: &str,
 ) -> Result<(), NoMemory> {
-    let turned = run(rt, alloc, database, line, 7)?;
-    assert_eq!(rt; joined(alloc, &turned.expired)?.as_slice(), want.as_bytes());
+    let keys = found_due(rt, alloc, database, line)?;
+    assert_eq!(rt; keys.as_slice(), want.as_bytes());
+    Ok(())
+}
+
+fn go_in_turn(rt: &impl Abort, alloc: Global, database: &mut Database) -> Result<(), Fail> {
+    run_all(rt, alloc, database, LIVES, 0)?;
+    expires(rt, alloc, database, 4, "-")?;
+    expires(rt, alloc, database, 6, "z a b")?;
+    finds_due(rt, alloc, database, "SET c 2 KEEPTTL", "c")?;
+    finds_due(rt, alloc, database, "SET d 2 KEEPTTL", "-")?;
+    expires(rt, alloc, database, u64::MAX, "d")?;
     Ok(())
 }
 
 #[test]
 fn keys_go_after_their_deadlines(rt: HostRuntime) -> Result<(), Fail> {
-    let a = rt.alloc();
-    let mut database = Database::new(a);
-    for line in LIVES.lines() {
-        run(&rt, a, &mut database, line, 0)?;
-    }
-    expires(&rt, a, &mut database, 4, "-")?;
-    expires(&rt, a, &mut database, 6, "z a b")?;
-    finds_due(&rt, a, &mut database, "SET c 2 KEEPTTL", "c")?;
-    finds_due(&rt, a, &mut database, "SET d 2 KEEPTTL", "-")?;
-    expires(&rt, a, &mut database, u64::MAX, "d")?;
-    Ok(())
+    let mut database = Database::new(rt.alloc());
+    go_in_turn(&rt, rt.alloc(), &mut database)
 }
 
 const READS: &str = "\
@@ -182,14 +233,31 @@ TTL h
 EXISTS a s t h i
 DBSIZE";
 
+fn put_reply(
+    rt: &impl Abort,
+    alloc: Global,
+    database: &mut Database,
+    line: &str,
+    bytes: &mut Vec<u8>,
+) -> Result<(), NoMemory> {
+    let turned = run(rt, alloc, database, line, 1000)?;
+    put_value(Proto::Three, &turned.done.reply, bytes)
+}
+
 /// The replies to some reads, which say all that the keys of the test hold.
 fn replies(rt: &impl Abort, alloc: Global, database: &mut Database) -> Result<Vec<u8>, NoMemory> {
     let mut bytes = Vec::new(alloc);
     for line in READS.lines() {
-        let turned = run(rt, alloc, database, line, 1000)?;
-        put_value(Proto::Three, &turned.done.reply, &mut bytes)?;
+        put_reply(rt, alloc, database, line, &mut bytes)?;
     }
     Ok(bytes)
+}
+
+/// Runs a command, where memory is there for it, and takes it back.
+fn run_and_undo(rt: &impl Abort, alloc: Global, database: &mut Database, line: &str) {
+    if let Ok(turned) = run(rt, alloc, database, line, 2000) {
+        database.undo_due(turned.undo);
+    }
 }
 
 /// After a run that is taken back, or that found no memory, all keys hold what they held.
@@ -200,9 +268,7 @@ fn leads_back(
     line: &str,
 ) -> Result<(), NoMemory> {
     let before = replies(rt, alloc, database)?;
-    if let Ok(turned) = run(rt, alloc, database, line, 2000) {
-        database.undo_due(turned.undo);
-    }
+    run_and_undo(rt, alloc, database, line);
     let after = replies(rt, alloc, database)?;
     assert_eq!(rt; after.as_slice(), before.as_slice(), "{line}");
     Ok(())
@@ -234,17 +300,18 @@ EXPIRE t 0
 FLUSHALL
 FLUSHDB";
 
-#[test]
-fn a_run_that_is_taken_back_leaves_what_was(rt: HostRuntime) -> Result<(), Fail> {
-    let a = rt.alloc();
-    let mut database = Database::new(a);
-    for line in HELD.lines() {
-        run(&rt, a, &mut database, line, 1000)?;
-    }
+fn all_lead_back(rt: &impl Abort, alloc: Global, database: &mut Database) -> Result<(), Fail> {
+    run_all(rt, alloc, database, HELD, 1000)?;
     for line in TAKEN_BACK.lines() {
-        leads_back(&rt, a, &mut database, line)?;
+        leads_back(rt, alloc, database, line)?;
     }
     Ok(())
+}
+
+#[test]
+fn a_run_that_is_taken_back_leaves_what_was(rt: HostRuntime) -> Result<(), Fail> {
+    let mut database = Database::new(rt.alloc());
+    all_lead_back(&rt, rt.alloc(), &mut database)
 }
 
 /// Two commands run and are taken back, the last one first.
@@ -256,21 +323,22 @@ fn lead_back(
     second: &str,
 ) -> Result<(), NoMemory> {
     let first = run(rt, alloc, database, first, 2000)?;
-    if let Ok(second) = run(rt, alloc, database, second, 2000) {
-        database.undo_due(second.undo);
-    }
+    run_and_undo(rt, alloc, database, second);
     database.undo_due(first.undo);
+    Ok(())
+}
+
+fn two_lead_back(rt: &impl Abort, alloc: Global, database: &mut Database) -> Result<(), Fail> {
+    run_all(rt, alloc, database, "MSET s one t two", 1000)?;
+    let before = replies(rt, alloc, database)?;
+    lead_back(rt, alloc, database, "SET t three", "DEL s t")?;
+    let after = replies(rt, alloc, database)?;
+    assert_eq!(rt; after.as_slice(), before.as_slice());
     Ok(())
 }
 
 #[test]
 fn runs_are_taken_back_the_last_one_first(rt: HostRuntime) -> Result<(), Fail> {
-    let a = rt.alloc();
-    let mut database = Database::new(a);
-    run(&rt, a, &mut database, "MSET s one t two", 1000)?;
-    let before = replies(&rt, a, &mut database)?;
-    lead_back(&rt, a, &mut database, "SET t three", "DEL s t")?;
-    let after = replies(&rt, a, &mut database)?;
-    assert_eq!(rt; after.as_slice(), before.as_slice());
-    Ok(())
+    let mut database = Database::new(rt.alloc());
+    two_lead_back(&rt, rt.alloc(), &mut database)
 }

@@ -2,6 +2,7 @@
 use expiry::DeadlineIndex;
 use resp_value::NoMemory;
 use std::alloc::Global;
+use std::process::Abort;
 use std::test::Fail;
 
 // What is done in turn, and the keys with a deadline before 9, each behind its deadline; behind the
@@ -33,13 +34,17 @@ fn put_first(index: &DeadlineIndex, moment: u64, line: &mut Vec<u8>) -> Result<(
     Ok(())
 }
 
+fn put_all(index: &DeadlineIndex, line: &mut Vec<u8>) -> Result<(), NoMemory> {
+    for deadline in index.due(9) {
+        put_deadline(deadline.at, deadline.key.as_slice(), line)?;
+    }
+    put_first(index, 3, line)?;
+    put_first(index, 4, line)
+}
+
 fn shown(alloc: Global, index: &DeadlineIndex) -> Result<Vec<u8>, NoMemory> {
     let mut line = Vec::new(alloc);
-    for deadline in index.due(9) {
-        put_deadline(deadline.at, deadline.key.as_slice(), &mut line)?;
-    }
-    put_first(index, 3, &mut line)?;
-    put_first(index, 4, &mut line)?;
+    put_all(index, &mut line)?;
     Ok(line)
 }
 
@@ -70,12 +75,16 @@ fn is_shown(alloc: Global, index: &mut DeadlineIndex, row: &str) -> Result<bool,
     Ok(shown(alloc, index)?.as_slice() == wanted.as_bytes())
 }
 
-#[test]
-fn deadlines_come_by_moment_and_then_by_key(rt: HostRuntime) -> Result<(), Fail> {
-    let mut index = DeadlineIndex::new(rt.alloc());
+fn all_are_shown<R: Abort>(rt: &R, alloc: Global, index: &mut DeadlineIndex) -> Result<(), Fail> {
     for row in STEPS.lines() {
-        assert!(rt; is_shown(rt.alloc(), &mut index, row)?, "{row}");
+        assert!(rt; is_shown(alloc, index, row)?, "{row}");
     }
     assert_eq!(rt; index.due(u64::MAX).len(), 0);
     Ok(())
+}
+
+#[test]
+fn deadlines_come_by_moment_and_then_by_key(rt: HostRuntime) -> Result<(), Fail> {
+    let mut index = DeadlineIndex::new(rt.alloc());
+    all_are_shown(&rt, rt.alloc(), &mut index)
 }

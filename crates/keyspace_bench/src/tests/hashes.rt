@@ -1,6 +1,8 @@
 //! The rows of the commands on hashes, in the words of their pages.
-use super::rows::{leaves_deadline, words_of, wrong_row};
+use super::rows::{all_leave_deadlines, holds, words_of};
 use keyspace::Keyspace;
+use std::alloc::Global;
+use std::process::Abort;
 use std::test::Fail;
 
 // Fields that are missing, new and old, in the order in which they came.
@@ -28,12 +30,17 @@ HINCRBY i m 1: -ERR increment or decrement would overflow |
 HINCRBY i x 1: -ERR hash value is not an integer |
 HVALS i: *3 $2 -2 $19 9223372036854775807 $2 01 |";
 
+// The hash under `h`, without a field, goes.
+fn replies<R: Abort>(rt: &R, alloc: Global, space: &mut Keyspace) -> Result<(), Fail> {
+    holds(rt, alloc, space, ROWS)?;
+    assert!(rt; space.get(b"h").is_none(), "a hash without fields goes");
+    Ok(())
+}
+
 #[test]
 fn each_command_replies_and_signals_by_its_row(rt: HostRuntime) -> Result<(), Fail> {
     let mut space = Keyspace::new(rt.alloc());
-    assert_eq!(rt; wrong_row(rt.alloc(), &mut space, ROWS)?, None);
-    assert!(rt; space.get(b"h").is_none(), "a hash without fields goes");
-    Ok(())
+    replies(&rt, rt.alloc(), &mut space)
 }
 
 // A missing key is a hash without fields.
@@ -46,12 +53,16 @@ HLEN h: :0 |
 HEXISTS h a: :0 |
 HDEL h a: :0 |";
 
+fn stays_empty<R: Abort>(rt: &R, alloc: Global, space: &mut Keyspace) -> Result<(), Fail> {
+    holds(rt, alloc, space, MISSING_ROWS)?;
+    assert_eq!(rt; space.len(), 0);
+    Ok(())
+}
+
 #[test]
 fn a_missing_key_is_a_hash_without_fields(rt: HostRuntime) -> Result<(), Fail> {
     let mut space = Keyspace::new(rt.alloc());
-    assert_eq!(rt; wrong_row(rt.alloc(), &mut space, MISSING_ROWS)?, None);
-    assert_eq!(rt; space.len(), 0);
-    Ok(())
+    stays_empty(&rt, rt.alloc(), &mut space)
 }
 
 // A string is under `k`.
@@ -67,12 +78,15 @@ HKEYS k: -WRONGTYPE Operation against a key holding the wrong kind of value |
 HVALS k: -WRONGTYPE Operation against a key holding the wrong kind of value |
 HINCRBY k f 1: -WRONGTYPE Operation against a key holding the wrong kind of value |";
 
+fn refuses_a_string<R: Abort>(rt: &R, alloc: Global, space: &mut Keyspace) -> Result<(), Fail> {
+    space.put_texts(words_of(alloc, "k 1")?.as_slice())?;
+    holds(rt, alloc, space, WRONG_TYPE_ROWS)
+}
+
 #[test]
 fn a_string_is_of_the_wrong_type(rt: HostRuntime) -> Result<(), Fail> {
     let mut space = Keyspace::new(rt.alloc());
-    space.put_texts(words_of(rt.alloc(), "k 1")?.as_slice())?;
-    assert_eq!(rt; wrong_row(rt.alloc(), &mut space, WRONG_TYPE_ROWS)?, None);
-    Ok(())
+    refuses_a_string(&rt, rt.alloc(), &mut space)
 }
 
 // Each row with the deadline that the key then has.
@@ -81,19 +95,14 @@ HSET h a 2 b 3: :1 | h; 9000
 HINCRBY h a 1: :3 | h; 9000
 HDEL h b: :1 | h; 9000";
 
+fn keeps_deadline<R: Abort>(rt: &R, alloc: Global, space: &mut Keyspace) -> Result<(), Fail> {
+    holds(rt, alloc, space, "HSET h a 1: :1 | h")?;
+    assert!(rt; space.set_deadline(b"h", Some(9000)));
+    all_leave_deadlines(rt, alloc, space, b"h", DEADLINE_ROWS)
+}
+
 #[test]
 fn a_hash_keeps_its_deadline(rt: HostRuntime) -> Result<(), Fail> {
     let mut space = Keyspace::new(rt.alloc());
-    assert_eq!(rt;
-        wrong_row(rt.alloc(), &mut space, "HSET h a 1: :1 | h")?,
-        None
-    );
-    assert!(rt; space.set_deadline(b"h", Some(9000)));
-    for row in DEADLINE_ROWS.lines() {
-        assert!(rt;
-            leaves_deadline(rt.alloc(), &mut space, b"h", row)?,
-            "{row}"
-        );
-    }
-    Ok(())
+    keeps_deadline(&rt, rt.alloc(), &mut space)
 }

@@ -1,6 +1,6 @@
 //! The rows of the commands on keys, in the words of their pages.
-use super::rows::{put_hash, words_of};
-use command_words::{Command, Signalled, read_command};
+use super::rows::{commands_of, put_hash, words_of};
+use command_words::{Command, Done, Signalled};
 use key_cmds::{is_key, run_key};
 use keyspace::Keyspace;
 use resp_value::{NoMemory, Proto, put_value};
@@ -9,30 +9,17 @@ use std::test::Fail;
 
 /// Strings with no deadline, one to come, one now and one past, and two hashes: the moment of the
 /// tests is 1000.
-fn six_keys(alloc: Global) -> Result<Keyspace, NoMemory> {
-    let mut space = Keyspace::new(alloc);
+fn put_six_keys(alloc: Global, space: &mut Keyspace) -> Result<(), NoMemory> {
     space.put_texts(words_of(alloc, "s 1 d 1 n 1 p 1")?.as_slice())?;
     space.set_deadline(b"d", Some(2000));
     space.set_deadline(b"n", Some(1000));
     space.set_deadline(b"p", Some(999));
-    put_hash(alloc, &mut space, b"h")?;
-    put_hash(alloc, &mut space, b"i")?;
-    Ok(space)
+    put_hash(alloc, space, b"h")?;
+    put_hash(alloc, space, b"i")
 }
 
-/// The reply and the signalled keys of a command at the moment 1000, in one line.
-fn outcome(
-    alloc: Global,
-    space: &mut Keyspace,
-    command: &Command,
-    shown: &mut Vec<u8>,
-) -> Result<(), NoMemory> {
-    if !is_key(command) {
-        return Ok(());
-    }
-    let done = run_key(alloc, space, command, 1000)?;
-    put_value(Proto::Three, &done.reply, shown)?;
-    match &done.signalled {
+fn put_signalled(signalled: &Signalled, shown: &mut Vec<u8>) -> Result<(), NoMemory> {
+    match signalled {
         Signalled::Keys(words) => {
             for word in words.as_slice() {
                 shown.push(b' ')?;
@@ -42,6 +29,25 @@ fn outcome(
         Signalled::All => shown.extend_from_slice(b" all")?,
     }
     Ok(())
+}
+
+fn put_done(done: &Done, shown: &mut Vec<u8>) -> Result<(), NoMemory> {
+    put_value(Proto::Three, &done.reply, shown)?;
+    put_signalled(&done.signalled, shown)
+}
+
+/// The reply and the signalled keys of a command at the moment 1000, in one line.
+fn put_outcome(
+    alloc: Global,
+    space: &mut Keyspace,
+    command: &Command,
+    shown: &mut Vec<u8>,
+) -> Result<(), NoMemory> {
+    if !is_key(command) {
+        return Ok(());
+    }
+    let done = run_key(alloc, space, command, 1000)?;
+    put_done(&done, shown)
 }
 
 /// The bytes but CR and LF.
@@ -55,12 +61,23 @@ fn plain(alloc: Global, shown: &[u8]) -> Result<Vec<u8>, NoMemory> {
     Ok(text)
 }
 
+fn put_line(
+    alloc: Global,
+    space: &mut Keyspace,
+    line: &str,
+    shown: &mut Vec<u8>,
+) -> Result<(), NoMemory> {
+    let commands = commands_of(alloc, line)?;
+    match commands.first() {
+        Some(command) => put_outcome(alloc, space, command, shown),
+        None => Ok(()),
+    }
+}
+
 /// What a line shows; nothing where it is no command on keys.
 fn played(alloc: Global, space: &mut Keyspace, line: &str) -> Result<Vec<u8>, NoMemory> {
     let mut shown = Vec::new(alloc);
-    if let Ok(command) = read_command(alloc, &words_of(alloc, line)?) {
-        outcome(alloc, space, &command, &mut shown)?;
-    }
+    put_line(alloc, space, line, &mut shown)?;
     plain(alloc, shown.as_slice())
 }
 
@@ -74,15 +91,20 @@ fn row_holds(alloc: Global, space: &mut Keyspace, row: &str) -> Result<bool, NoM
     Ok(shown.as_slice() == want.as_bytes())
 }
 
-/// Whether each row of a table holds, where they run one after another.
-fn holds(alloc: Global, table: &str) -> Result<bool, NoMemory> {
-    let mut space = six_keys(alloc)?;
+fn all_hold(alloc: Global, space: &mut Keyspace, table: &str) -> Result<bool, NoMemory> {
+    put_six_keys(alloc, space)?;
     for row in table.lines() {
-        if !row_holds(alloc, &mut space, row)? {
+        if !row_holds(alloc, space, row)? {
             return Ok(false);
         }
     }
     Ok(true)
+}
+
+/// Whether each row of a table holds, where they run one after another.
+fn holds(alloc: Global, table: &str) -> Result<bool, NoMemory> {
+    let mut space = Keyspace::new(alloc);
+    all_hold(alloc, &mut space, table)
 }
 
 const KEYS: &str = "\

@@ -3,6 +3,7 @@ use super::rows::words_of;
 use keyspace::{Content, Fields, Held, Keyspace};
 use resp_value::{NoMemory, Octets};
 use std::alloc::Global;
+use std::process::Abort;
 use std::test::Fail;
 
 /// A step and what it has to show, where the step is two words or more and a colon ends it.
@@ -57,23 +58,37 @@ fn put_fields(fields: &Fields, line: &mut Vec<u8>) -> Result<(), NoMemory> {
     Ok(())
 }
 
+fn put_step(
+    alloc: Global,
+    fields: &mut Fields,
+    name: &str,
+    words: &str,
+    line: &mut Vec<u8>,
+) -> Result<(), NoMemory> {
+    put_digit(play_fields(alloc, fields, name, words)?, line)?;
+    put_fields(fields, line)
+}
+
 fn shows_fields(alloc: Global, fields: &mut Fields, row: &str) -> Result<bool, NoMemory> {
     let Some((name, words, wanted)) = parts_of(row) else {
         return Ok(false);
     };
     let mut line = Vec::new(alloc);
-    put_digit(play_fields(alloc, fields, name, words)?, &mut line)?;
-    put_fields(fields, &mut line)?;
+    put_step(alloc, fields, name, words, &mut line)?;
     Ok(line.as_slice() == wanted.as_bytes())
+}
+
+fn all_show_fields<R: Abort>(rt: &R, alloc: Global, fields: &mut Fields) -> Result<(), Fail> {
+    for row in FIELD_STEPS.lines() {
+        assert!(rt; shows_fields(alloc, fields, row)?, "{row}");
+    }
+    Ok(())
 }
 
 #[test]
 fn a_removal_keeps_the_order_of_the_others(rt: HostRuntime) -> Result<(), Fail> {
     let mut fields = Fields::new(rt.alloc());
-    for row in FIELD_STEPS.lines() {
-        assert!(rt; shows_fields(rt.alloc(), &mut fields, row)?, "{row}");
-    }
-    Ok(())
+    all_show_fields(&rt, rt.alloc(), &mut fields)
 }
 
 // What is done in turn to a keyspace, how many keys it then has, and what `k`, `l` and `m` hold: a
@@ -129,24 +144,32 @@ fn put_key(space: &Keyspace, key: &[u8], line: &mut Vec<u8>) -> Result<(), NoMem
     put_held(held, line)
 }
 
+fn put_keys(space: &Keyspace, line: &mut Vec<u8>) -> Result<(), NoMemory> {
+    put_digit(space.len(), line)?;
+    put_key(space, b"k", line)?;
+    put_key(space, b"l", line)?;
+    put_key(space, b"m", line)
+}
+
 fn shows_keys(alloc: Global, space: &mut Keyspace, row: &str) -> Result<bool, NoMemory> {
     let Some((name, words, wanted)) = parts_of(row) else {
         return Ok(false);
     };
     play_keys(alloc, space, name, words)?;
     let mut line = Vec::new(alloc);
-    put_digit(space.len(), &mut line)?;
-    put_key(space, b"k", &mut line)?;
-    put_key(space, b"l", &mut line)?;
-    put_key(space, b"m", &mut line)?;
+    put_keys(space, &mut line)?;
     Ok(line.as_slice() == wanted.as_bytes())
+}
+
+fn all_show_keys<R: Abort>(rt: &R, alloc: Global, space: &mut Keyspace) -> Result<(), Fail> {
+    for row in KEY_STEPS.lines() {
+        assert!(rt; shows_keys(alloc, space, row)?, "{row}");
+    }
+    Ok(())
 }
 
 #[test]
 fn a_key_holds_what_was_put_last(rt: HostRuntime) -> Result<(), Fail> {
     let mut space = Keyspace::new(rt.alloc());
-    for row in KEY_STEPS.lines() {
-        assert!(rt; shows_keys(rt.alloc(), &mut space, row)?, "{row}");
-    }
-    Ok(())
+    all_show_keys(&rt, rt.alloc(), &mut space)
 }

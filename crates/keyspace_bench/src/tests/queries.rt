@@ -1,5 +1,6 @@
 //! Queries, keys and control commands, with ample memory.
-use command_words::{Query, is_control, keys_read, read_command, written_by};
+use super::rows::commands_of;
+use command_words::{Command, Query, is_control, keys_read, written_by};
 use resp_value::{NoMemory, Octets, Words};
 use std::alloc::Global;
 use std::test::Fail;
@@ -33,11 +34,9 @@ fn yes_or_no(is_so: bool) -> &'static str {
     if is_so { "yes" } else { "no" }
 }
 
-fn how_many_keys(alloc: Global, line: &str) -> Result<&'static str, NoMemory> {
-    let Ok(command) = read_command(alloc, &words(alloc, line)?) else {
-        return Ok("no command");
-    };
-    Ok(match keys_read(alloc, &command)?.as_slice().len() {
+fn how_many_are_read(alloc: Global, command: &Command) -> Result<&'static str, NoMemory> {
+    let keys = keys_read(alloc, command)?;
+    Ok(match keys.as_slice().len() {
         0 => "0",
         1 => "1",
         2 => "2",
@@ -46,17 +45,37 @@ fn how_many_keys(alloc: Global, line: &str) -> Result<&'static str, NoMemory> {
     })
 }
 
+fn how_many_keys(alloc: Global, line: &str) -> Result<&'static str, NoMemory> {
+    let commands = commands_of(alloc, line)?;
+    match commands.first() {
+        Some(command) => how_many_are_read(alloc, command),
+        None => Ok("no command"),
+    }
+}
+
 fn query_of(alloc: Global, line: &str) -> Result<Option<Query>, NoMemory> {
     Query::read(alloc, &words(alloc, line)?)
 }
 
-/// Whether two lines are the same query; the second is read once more from its own words.
-fn are_same(alloc: Global, one: &str, other: &str) -> Result<bool, NoMemory> {
-    let (Some(one), Some(other)) = (query_of(alloc, one)?, query_of(alloc, other)?) else {
-        return Ok(false);
-    };
+/// Whether the other query, read once more from its own words, is the same.
+fn is_same_read(alloc: Global, one: &Query, other: &Query) -> Result<bool, NoMemory> {
     match Query::read(alloc, other.words())? {
         Some(again) => Ok(one.is_same(&again)),
+        None => Ok(false),
+    }
+}
+
+fn is_same(alloc: Global, one: &Query, other: &str) -> Result<bool, NoMemory> {
+    match query_of(alloc, other)? {
+        Some(other) => is_same_read(alloc, one, &other),
+        None => Ok(false),
+    }
+}
+
+/// Whether two lines are the same query.
+fn are_same(alloc: Global, one: &str, other: &str) -> Result<bool, NoMemory> {
+    match query_of(alloc, one)? {
+        Some(one) => is_same(alloc, &one, other),
         None => Ok(false),
     }
 }
@@ -115,7 +134,9 @@ hmget k f g: yes
 set a 1: no
 mget a: no
 ttl a: no
-exists a: no
+exists a: yes
+exists a b: no
+type a: yes
 getrange a 0 x: no";
 
 const CONTROLS: &str = "\

@@ -2,11 +2,13 @@
 //!
 //! A row is `LINE: REPLY | KEYS`: the reply with a space for each end of a line, and the keys that
 //! the line signals.
-use command_words::{Command, Signalled, read_command};
+use command_words::{Command, Done, Signalled, read_command};
 use hash_cmds::{is_hash, run_hash};
 use keyspace::{Content, Fields, Held, Keyspace};
 use resp_value::{NoMemory, Octets, Proto, Value, Words, put_value};
 use std::alloc::Global;
+use std::process::Abort;
+use std::test::Fail;
 use string_cmds::{is_string, run_string};
 
 /// The words of a line; two quotes are the empty word.
@@ -17,6 +19,21 @@ pub fn words_of(alloc: Global, line: &str) -> Result<Words, NoMemory> {
         words.push(Octets::from_slice(alloc, word.as_bytes())?)?;
     }
     Ok(words)
+}
+
+fn put_command(alloc: Global, words: &Words, commands: &mut Vec<Command>) -> Result<(), NoMemory> {
+    if let Ok(command) = read_command(alloc, words) {
+        commands.push(command)?;
+    }
+    Ok(())
+}
+
+/// The command of a line, where it is one. A list lets go of it by one call.
+pub fn commands_of(alloc: Global, line: &str) -> Result<Vec<Command>, NoMemory> {
+    let words = words_of(alloc, line)?;
+    let mut commands = Vec::new(alloc);
+    put_command(alloc, &words, &mut commands)?;
+    Ok(commands)
 }
 
 fn put_reply(alloc: Global, reply: &Value, shown: &mut Vec<u8>) -> Result<(), NoMemory> {
@@ -40,6 +57,12 @@ fn put_keys(signalled: &Signalled, shown: &mut Vec<u8>) -> Result<(), NoMemory> 
     Ok(())
 }
 
+fn put_done(alloc: Global, done: &Done, shown: &mut Vec<u8>) -> Result<(), NoMemory> {
+    put_reply(alloc, &done.reply, shown)?;
+    shown.push(b'|')?;
+    put_keys(&done.signalled, shown)
+}
+
 /// Runs a command on strings or hashes at the moment 1000; any other shows nothing.
 fn put_outcome(
     alloc: Global,
@@ -47,29 +70,39 @@ fn put_outcome(
     command: &Command,
     shown: &mut Vec<u8>,
 ) -> Result<(), NoMemory> {
-    let done = if is_string(command) {
-        run_string(alloc, space, command, 1000)?
-    } else if is_hash(command) {
-        run_hash(alloc, space, command, 1000)?
-    } else {
-        return Ok(());
-    };
-    put_reply(alloc, &done.reply, shown)?;
-    shown.push(b'|')?;
-    put_keys(&done.signalled, shown)
+    if is_string(command) {
+        let done = run_string(alloc, space, command, 1000)?;
+        return put_done(alloc, &done, shown);
+    }
+    if is_hash(command) {
+        let done = run_hash(alloc, space, command, 1000)?;
+        return put_done(alloc, &done, shown);
+    }
+    Ok(())
+}
+
+fn put_answer(
+    alloc: Global,
+    space: &mut Keyspace,
+    line: &str,
+    shown: &mut Vec<u8>,
+) -> Result<(), NoMemory> {
+    let commands = commands_of(alloc, line)?;
+    match commands.first() {
+        Some(command) => put_outcome(alloc, space, command, shown),
+        None => Ok(()),
+    }
 }
 
 /// The reply and the keys of a line.
 fn answer(alloc: Global, space: &mut Keyspace, line: &str) -> Result<Vec<u8>, NoMemory> {
     let mut shown = Vec::new(alloc);
-    if let Ok(command) = read_command(alloc, &words_of(alloc, line)?) {
-        put_outcome(alloc, space, &command, &mut shown)?;
-    }
+    put_answer(alloc, space, line, &mut shown)?;
     Ok(shown)
 }
 
 /// Runs the rows, and answers the first that gives something else.
-pub fn wrong_row<'a>(
+fn wrong_row<'a>(
     alloc: Global,
     space: &mut Keyspace,
     table: &'a str,
@@ -83,6 +116,23 @@ pub fn wrong_row<'a>(
         }
     }
     Ok(None)
+}
+
+/// Runs the rows, which give what they say.
+pub fn holds<R: Abort>(
+    rt: &R,
+    alloc: Global,
+    space: &mut Keyspace,
+    table: &str,
+) -> Result<(), Fail> {
+    assert_eq!(rt; wrong_row(alloc, space, table)?, None);
+    Ok(())
+}
+
+/// Runs the rows on a keyspace without keys.
+pub fn holds_anew<R: Abort>(rt: &R, alloc: Global, table: &str) -> Result<(), Fail> {
+    let mut space = Keyspace::new(alloc);
+    holds(rt, alloc, &mut space, table)
 }
 
 /// Puts a hash without fields under the key.
@@ -104,7 +154,7 @@ fn is_deadline(deadline: Option<u64>, wanted: &str) -> bool {
 }
 
 /// Runs a row, with the deadline that the key then has behind a semicolon.
-pub fn leaves_deadline(
+fn leaves_deadline(
     alloc: Global,
     space: &mut Keyspace,
     key: &[u8],
@@ -120,4 +170,18 @@ pub fn leaves_deadline(
         Some(held) => Ok(is_deadline(held.deadline, wanted)),
         None => Ok(false),
     }
+}
+
+/// Runs rows, each with the deadline that the key then has.
+pub fn all_leave_deadlines<R: Abort>(
+    rt: &R,
+    alloc: Global,
+    space: &mut Keyspace,
+    key: &[u8],
+    table: &str,
+) -> Result<(), Fail> {
+    for row in table.lines() {
+        assert!(rt; leaves_deadline(alloc, space, key, row)?, "{row}");
+    }
+    Ok(())
 }

@@ -1,8 +1,9 @@
 //! The rows of the commands on strings, in the words of their pages.
-use super::rows::{leaves_deadline, put_hash, wrong_row};
+use super::rows::{all_leave_deadlines, holds, holds_anew, put_hash};
 use keyspace::{Content, Held, Keyspace};
 use resp_value::{NoMemory, Octets};
 use std::alloc::Global;
+use std::process::Abort;
 use std::test::Fail;
 
 // Keys that are missing, and keys that hold a string.
@@ -37,9 +38,7 @@ MGET p k: *2 $1 4 $1 w |";
 
 #[test]
 fn each_command_replies_and_signals_by_its_row(rt: HostRuntime) -> Result<(), Fail> {
-    let mut space = Keyspace::new(rt.alloc());
-    assert_eq!(rt; wrong_row(rt.alloc(), &mut space, ROWS)?, None);
-    Ok(())
+    holds_anew(&rt, rt.alloc(), ROWS)
 }
 
 // Both ends of 64 bits, and what is no number.
@@ -64,9 +63,7 @@ DECRBY p 3: :-3 | p";
 
 #[test]
 fn numbers_end_at_64_bits(rt: HostRuntime) -> Result<(), Fail> {
-    let mut space = Keyspace::new(rt.alloc());
-    assert_eq!(rt; wrong_row(rt.alloc(), &mut space, NUMBER_ROWS)?, None);
-    Ok(())
+    holds_anew(&rt, rt.alloc(), NUMBER_ROWS)
 }
 
 // A hash is under `h`; SET and MSET overwrite it.
@@ -87,18 +84,17 @@ MGET h: *1 _ |
 DECRBY h -9223372036854775808: -ERR increment or decrement would overflow |
 SET h x: +OK | h";
 
+fn refuses_a_hash<R: Abort>(rt: &R, alloc: Global, space: &mut Keyspace) -> Result<(), Fail> {
+    put_hash(alloc, space, b"h")?;
+    holds(rt, alloc, space, WRONG_TYPE_ROWS)?;
+    put_hash(alloc, space, b"h")?;
+    holds(rt, alloc, space, "MSET h x: +OK | h\nGET h: $1 x |")
+}
+
 #[test]
 fn a_hash_is_of_the_wrong_type(rt: HostRuntime) -> Result<(), Fail> {
-    let a = rt.alloc();
-    let mut space = Keyspace::new(a);
-    put_hash(a, &mut space, b"h")?;
-    assert_eq!(rt; wrong_row(a, &mut space, WRONG_TYPE_ROWS)?, None);
-    put_hash(a, &mut space, b"h")?;
-    assert_eq!(rt;
-        wrong_row(a, &mut space, "MSET h x: +OK | h\nGET h: $1 x |")?,
-        None
-    );
-    Ok(())
+    let mut space = Keyspace::new(rt.alloc());
+    refuses_a_hash(&rt, rt.alloc(), &mut space)
 }
 
 // Each row with the deadline that the key then has.
@@ -112,17 +108,15 @@ SET d 6 EX 9 NX: _ |; 1007
 SET d 6 PX 9 XX: +OK | d; 1009
 SET d 6: +OK | d; none";
 
+fn leaves_deadlines<R: Abort>(rt: &R, alloc: Global, space: &mut Keyspace) -> Result<(), Fail> {
+    put_hash(alloc, space, b"d")?;
+    all_leave_deadlines(rt, alloc, space, b"d", DEADLINE_ROWS)
+}
+
 #[test]
 fn set_leaves_the_deadline_of_its_option(rt: HostRuntime) -> Result<(), Fail> {
     let mut space = Keyspace::new(rt.alloc());
-    put_hash(rt.alloc(), &mut space, b"d")?;
-    for row in DEADLINE_ROWS.lines() {
-        assert!(rt;
-            leaves_deadline(rt.alloc(), &mut space, b"d", row)?,
-            "{row}"
-        );
-    }
-    Ok(())
+    leaves_deadlines(&rt, rt.alloc(), &mut space)
 }
 
 // A mebibyte under `big`.
@@ -131,22 +125,29 @@ APPEND big y: :1048577 | big
 STRLEN big: :1048577 |
 GETRANGE big -2 -1: $2 xy |";
 
-fn put_mebibyte(alloc: Global, space: &mut Keyspace, key: &[u8]) -> Result<(), NoMemory> {
+fn mebibyte(alloc: Global) -> Result<Octets, NoMemory> {
     let mut bytes = Vec::new(alloc);
     for _byte in 0..1048576 {
         bytes.push(b'x')?;
     }
+    Ok(Octets::from_vec(bytes))
+}
+
+fn put_mebibyte(alloc: Global, space: &mut Keyspace, key: &[u8]) -> Result<(), NoMemory> {
     let held = Held {
-        content: Content::Text(Octets::from_vec(bytes)),
+        content: Content::Text(mebibyte(alloc)?),
         deadline: None,
     };
     space.put(key, held)
 }
 
+fn grows<R: Abort>(rt: &R, alloc: Global, space: &mut Keyspace) -> Result<(), Fail> {
+    put_mebibyte(alloc, space, b"big")?;
+    holds(rt, alloc, space, BIG_ROWS)
+}
+
 #[test]
 fn a_value_of_a_mebibyte_grows_by_one_byte(rt: HostRuntime) -> Result<(), Fail> {
     let mut space = Keyspace::new(rt.alloc());
-    put_mebibyte(rt.alloc(), &mut space, b"big")?;
-    assert_eq!(rt; wrong_row(rt.alloc(), &mut space, BIG_ROWS)?, None);
-    Ok(())
+    grows(&rt, rt.alloc(), &mut space)
 }

@@ -43,16 +43,21 @@ fn show(read: &Result<Command, WordFault>) -> (&'static str, &'static str) {
     }
 }
 
+fn is_shown(read: &Result<Command, WordFault>, wanted: &str) -> bool {
+    let (kind, detail) = show(read);
+    match wanted.split_once(' ') {
+        Some((wanted_kind, wanted_detail)) => kind == wanted_kind && detail == wanted_detail,
+        None => false,
+    }
+}
+
 fn is_read_so(alloc: Global, row: &str) -> Result<bool, NoMemory> {
     let Some((line, wanted)) = row.split_once(": ") else {
         return Ok(false);
     };
-    let read = read_command(alloc, &words_of(alloc, line)?);
-    let (kind, detail) = show(&read);
-    let Some((wanted_kind, wanted_detail)) = wanted.split_once(' ') else {
-        return Ok(false);
-    };
-    Ok(kind == wanted_kind && detail == wanted_detail)
+    let words = words_of(alloc, line)?;
+    let read = read_command(alloc, &words);
+    Ok(is_shown(&read, wanted))
 }
 
 /// The first row whose words are not read as it says.
@@ -203,15 +208,26 @@ SET a b c: ERR syntax error
 INCRBY a b: ERR value is not an integer or out of range
 EXPIRE a 9223372036854775807: ERR invalid expire time";
 
+fn fault_of(alloc: Global, words: &Words) -> Option<WordFault> {
+    match read_command(alloc, words) {
+        Ok(_) => None,
+        Err(fault) => Some(fault),
+    }
+}
+
+fn have_text(alloc: Global, words: &Words, wanted: &str) -> Result<bool, NoMemory> {
+    match fault_of(alloc, words) {
+        None => Ok(false),
+        Some(fault) => Ok(fault_text(alloc, words, fault)?.as_slice() == wanted.as_bytes()),
+    }
+}
+
 fn has_text(alloc: Global, row: &str) -> Result<bool, NoMemory> {
     let Some((line, wanted)) = row.split_once(": ") else {
         return Ok(false);
     };
     let words = words_of(alloc, line)?;
-    match read_command(alloc, &words) {
-        Ok(_) => Ok(false),
-        Err(fault) => Ok(fault_text(alloc, &words, fault)?.as_slice() == wanted.as_bytes()),
-    }
+    have_text(alloc, &words, wanted)
 }
 
 #[test]

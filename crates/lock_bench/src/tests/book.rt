@@ -16,8 +16,8 @@ fn words_of(alloc: Global, text: &str) -> Result<Words, NoMemory> {
     Ok(words)
 }
 
-// The turn that `what` names: an admit, a close, a take of at most `number` bytes, or a request at
-// that moment.
+// The turn that `what` names: an admit, a close, a take of at most `number` bytes, or a tick or a
+// request at that moment.
 fn call_of(alloc: Global, what: &str, id: u64, number: u64) -> Result<BookCall, NoMemory>
     ensures { IfOk result (λ call. IsCallable call) }
 {
@@ -25,6 +25,8 @@ fn call_of(alloc: Global, what: &str, id: u64, number: u64) -> Result<BookCall, 
         Ok(BookCall::Admit)
     } else if what == "close" {
         Ok(BookCall::Close { id })
+    } else if what == "tick" {
+        Ok(BookCall::Tick { now: number })
     } else if what == "take" {
         let max = number.max(1);
         Ok(BookCall::Take { id, max })
@@ -54,6 +56,7 @@ fn parts_of(reply: &BookReply) -> (u64, &[u8]) {
     match reply {
         BookReply::Admitted { entry, .. } => (*entry, b""),
         BookReply::Ran { entry } => (*entry, b""),
+        BookReply::Ticked { entry } => (*entry, b""),
         BookReply::Bytes { entry, bytes } => (*entry, bytes.as_slice()),
         BookReply::Closed { entry } => (*entry, b""),
         BookReply::Quiet => (0, b"quiet"),
@@ -292,7 +295,7 @@ const STRINGS_AND_HASHES: &str = "\
 2 0 SET n 9223372036854775807: 5 \\e 2:5
 2 0 SET n 1 NX: 6 \\e 2:5
 2 0 SET m 5 XX KEEPTTL: 7 \\e 2:5
-2 0 SET m 5 EX 10: 8 \\e 2:22
+2 0 SET m 5 EX 10: 8 \\e 2:5
 1 0 GET n: 9 \\e 1:26
 1 0 STRLEN m: 10 \\e 1:4
 2 0 INCR n: 11 \\e 2:44
@@ -315,7 +318,7 @@ const STRINGS_AND_HASHES: &str = "\
 2 0 DECRBY n 1: 28 \\e 2:46
 2 0 HEXISTS n a: 29 \\e 2:68
 2 0 HMGET h a b: 30 \\e 2:14
-2 0 DEL n: 31 \\e 2:22";
+2 0 DEL n: 31 \\e 2:4,1:32";
 
 #[test]
 fn strings_and_hashes_are_served_and_told(rt: HostRuntime) -> Result<(), Fail> {
@@ -352,5 +355,30 @@ fn a_read_of_several_keys_remembers_each(rt: HostRuntime) -> Result<(), Fail> {
     let alloc = rt.alloc();
     let mut book = Book::new(alloc, limits_of(100))?;
     assert_eq!(rt; wrong_row(alloc, &mut book, SEVERAL_KEYS)?, None);
+    Ok(())
+}
+
+// Keys that are due leave before a reply and at a tick, and a flush is told by null.
+const TICKS: &str = "\
+0 0 admit: 1 \\e -
+0 0 admit: 2 \\e -
+1 0 HELLO 3: 3 \\e 1:144
+1 0 CLIENT TRACKING ON: 4 \\e 1:5
+2 0 SET a 1 PX 5: 5 \\e 2:5
+1 0 GET a: 6 \\e 1:7
+0 5 tick: 0 quiet -
+0 6 tick: 7 \\e 1:32
+0 9 tick: 0 quiet -
+2 0 SET a 1 PX 5: 8 \\e 2:5
+1 0 GET a: 9 \\e 1:7
+1 12 GET a: 10 \\e 1:32,1:3
+2 0 FLUSHALL: 11 \\e 2:5,1:24
+0 99 tick: 0 quiet -";
+
+#[test]
+fn a_book_tells_of_keys_that_leave_and_of_a_flush(rt: HostRuntime) -> Result<(), Fail> {
+    let alloc = rt.alloc();
+    let mut book = Book::new(alloc, limits_of(20))?;
+    assert_eq!(rt; wrong_row(alloc, &mut book, TICKS)?, None);
     Ok(())
 }

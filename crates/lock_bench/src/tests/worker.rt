@@ -1,7 +1,9 @@
 //! One connection over a link in memory: how it ends, how many of its requests ran, and what was
-//! written to it.
+//! written to it, in how many writes.
+ghost use Rattle.std.specs.declared.option.Option.TheVariants.{None};
+
 use conn_worker::*;
-use edge_links::{FixedClock, LinkStep, MemoryLink};
+use edge_links::{Clock, FixedClock, Link, LinkRead, LinkStep, MemoryLink, Wrote};
 use resp_value::Words;
 use server_book::Limits;
 use shared_book::open;
@@ -36,12 +38,38 @@ fn steps_of(alloc: Global, text: &str) -> Result<Vec<LinkStep>, AllocError> {
     Ok(steps)
 }
 
-/// What a row of the table comes to over a new server.
-fn said<R: Wait, G: Gate>(
+/// A link that counts the writes to it.
+#[derive(Drop)]
+struct CountedLink {
+    link: MemoryLink,
+    writes: u64,
+}
+
+impl Link for CountedLink {
+    ghost left = { λ l. ⟦<MemoryLink as Link>⟧.left l.link };
+
+    ghost contents = { λ l. ⟦<MemoryLink as Link>⟧.contents l.link };
+
+    ghost counts = { λ l. ⟦<MemoryLink as Link>⟧.counts l.link };
+
+    fn read(&mut self, buf: &mut [u8]) -> LinkRead {
+        self.link.read(buf)
+    }
+
+    fn write(&mut self, bytes: &[u8]) -> Wrote {
+        self.writes = self.writes.saturating_add(1);
+        self.link.write(bytes)
+    }
+}
+
+/// How a row of the table ends over a new server, how many of its requests ran, and in how many
+/// writes they were answered.
+fn said<R: Wait, C: Clock, G: Gate>(
     rt: &R,
     alloc: Global,
     history_max: u64,
-    link: &mut MemoryLink,
+    link: &mut CountedLink,
+    clock: &C,
     gate: &G,
 ) -> Result<String, AllocError> {
     let limits = Limits {
@@ -52,42 +80,103 @@ fn said<R: Wait, G: Gate>(
     let Ok((lock, mut seat)) = open(alloc, limits) else {
         return Err(AllocError);
     };
-    let clock = FixedClock { ms: 7 };
-    let report = serve_link(rt, alloc, &lock, &mut seat, link, &clock, gate);
-    format!(in alloc; "{:?} {}", report.ended, report.requests)
+    let report = serve_link(rt, alloc, &lock, &mut seat, link, clock, gate);
+    format!(in alloc; "{:?} {} in {}", report.ended, report.requests, link.writes)
 }
 
-/// The steps of a link, the most entries, how much of what is written fits; the end and the
-/// requests; and what was written.
-const ROWS: &str = " = 100 = 100 = PeerEnd 0 = 
-fail = 100 = 100 = LinkFault 0 = 
-GET_a; = 100 = 100 = PeerEnd 1 = $-1;
-GET_a;,fail = 100 = 100 = LinkFault 1 = $-1;
-GET_a;,GET_ = 100 = 100 = PeerEnd 1 = $-1;
-G,idle,E,idle,T_a;,idle = 100 = 100 = PeerEnd 1 = $-1;
-SET_a_v;GET_a;,GET_a; = 100 = 100 = PeerEnd 3 = +OK;$1;v;$1;v;
-*1;$007 = 100 = 100 = BadRequest(BadByte { offset: 6 }) 0 = 
-GET_a;*1;$007 = 100 = 100 = BadRequest(BadByte { offset: 13 }) 1 = $-1;
-GET_a;GET_a; = 100 = 3 = LinkFault 2 = $-1
-GET_a; = 1 = 100 = HistoryFull 0 = 
-GET_a; = 2 = 100 = HistoryFull 1 = ";
+/// The steps of a link, the most entries, how much of what is written fits; the end, the requests
+/// and the writes; and what was written.
+const ROWS: &str = " = 100 = 100 = PeerEnd 0 in 0 = 
+fail = 100 = 100 = LinkFault 0 in 0 = 
+GET_a; = 100 = 100 = PeerEnd 1 in 1 = $-1;
+GET_a;,fail = 100 = 100 = LinkFault 1 in 1 = $-1;
+GET_a;,GET_ = 100 = 100 = PeerEnd 1 in 1 = $-1;
+G,idle,E,idle,T_a;,idle = 100 = 100 = PeerEnd 1 in 1 = $-1;
+SET_a_v;GET_a;,GET_a; = 100 = 100 = PeerEnd 3 in 2 = +OK;$1;v;$1;v;
+SET_a_v;GET_a;GET_b;SET_a_w;GET_a; = 100 = 100 = PeerEnd 5 in 1 = +OK;$1;v;$-1;+OK;$1;w;
+GET_a;GET_a;GE,T_a;GET_a; = 100 = 100 = PeerEnd 4 in 2 = $-1;$-1;$-1;$-1;
+*1;$007 = 100 = 100 = BadRequest(BadByte { offset: 6 }) 0 in 0 = 
+GET_a;*1;$007 = 100 = 100 = BadRequest(BadByte { offset: 13 }) 1 in 1 = $-1;
+SET_a_v;GET_a;*1;$007 = 100 = 100 = BadRequest(BadByte { offset: 22 }) 2 in 1 = +OK;$1;v;
+GET_a;GET_a; = 100 = 3 = LinkFault 2 in 2 = $-1
+GET_a; = 1 = 100 = HistoryFull 0 in 0 = 
+GET_a; = 2 = 100 = HistoryFull 1 in 0 = 
+GET_a;GET_a;GET_a;GET_a; = 3 = 100 = HistoryFull 2 in 0 = ";
+
+fn link_of(alloc: Global, steps: &str, room: usize) -> Result<CountedLink, AllocError> {
+    let Ok(link) = MemoryLink::new(alloc, room, steps_of(alloc, steps)?) else {
+        return Err(AllocError);
+    };
+    Ok(CountedLink { link, writes: 0 })
+}
 
 fn comes_to<R: Wait>(rt: &R, alloc: Global, row: &str) -> Result<bool, Fail> {
     let mut parts = row.split(" = ");
-    let steps = steps_of(alloc, parts.next().unwrap_or(""))?;
+    let steps = parts.next().unwrap_or("");
     let most = parts.next().unwrap_or("").parse().unwrap_or(0);
     let room = parts.next().unwrap_or("").parse().unwrap_or(0);
-    let mut link = MemoryLink::new(alloc, room, steps)?;
-    let came = said(rt, alloc, most, &mut link, &OpenGate)?;
+    let mut link = link_of(alloc, steps, room)?;
+    let clock = FixedClock { ms: 7 };
+    let came = said(rt, alloc, most, &mut link, &clock, &OpenGate)?;
     let is_end = came.as_str() == parts.next().unwrap_or("");
     let written = bytes_of(alloc, parts.next().unwrap_or(""))?;
-    Ok(is_end && link.bytes() == written.as_slice())
+    Ok(is_end && link.link.bytes() == written.as_slice())
 }
 
 #[test]
 fn a_connection_ends_as_its_link_does(rt: HostRuntime) -> Result<(), Fail> {
     for row in ROWS.lines() {
         assert!(rt; comes_to(&rt, rt.alloc(), row)?, "{row}");
+    }
+    Ok(())
+}
+
+/// Is three milliseconds later at each look.
+#[derive(Drop)]
+struct LaterClock {
+    ms: AtomicU64,
+}
+
+impl Clock for LaterClock {
+    ghost moment = { λ _. None };
+
+    fn now_ms(&self) -> u64 {
+        self.ms.fetch_add(3, Ordering::SeqCst)
+    }
+}
+
+/// A key with a deadline leaves at the first idle read behind it, and its holder is told. The
+/// steps of a link, the most entries; the end, the requests and the writes; and how what was
+/// written ends.
+const TICKS: &str = "\
+SET_a_v_PX_4;,idle,GET_a; = 100 = PeerEnd 2 in 2 = +OK;$-1;
+SET_a_v_PX_4;,idle,idle,idle,GET_a; = 100 = PeerEnd 2 in 2 = +OK;$-1;
+HELLO_3;CLIENT_TRACKING_ON;SET_a_v_PX_4;GET_a; = 100 = PeerEnd 4 in 1 = +OK;+OK;$1;v;
+HELLO_3;CLIENT_TRACKING_ON;SET_a_v_PX_4;GET_a;,idle = 100 = PeerEnd 4 in 1 = +OK;+OK;$1;v;
+HELLO_3;CLIENT_TRACKING_ON;SET_a_v_PX_4;GET_a;,idle,idle = 100 = PeerEnd 4 in 2 = \
+    $1;v;>2;$10;invalidate;*1;$1;a;
+HELLO_3;CLIENT_TRACKING_ON;SET_a_v_PX_4;GET_a;,idle,idle,idle,EXISTS_a; = 100 = PeerEnd 5 in 3 = \
+    $1;v;>2;$10;invalidate;*1;$1;a;:0;
+HELLO_3;CLIENT_TRACKING_ON;SET_a_v_PX_4;GET_a;,idle,idle = 6 = PeerEnd 4 in 1 = $1;v;
+HELLO_3;CLIENT_TRACKING_ON;SET_a_v_PX_4;GET_a;,idle,idle = 7 = HistoryFull 4 in 1 = $1;v;";
+
+fn ticks_so<R: Wait>(rt: &R, alloc: Global, row: &str) -> Result<bool, Fail> {
+    let mut parts = row.split(" = ");
+    let mut link = link_of(alloc, parts.next().unwrap_or(""), 1000)?;
+    let most = parts.next().unwrap_or("").parse().unwrap_or(0);
+    let clock = LaterClock {
+        ms: AtomicU64::new(0),
+    };
+    let came = said(rt, alloc, most, &mut link, &clock, &OpenGate)?;
+    let is_end = came.as_str() == parts.next().unwrap_or("");
+    let written = bytes_of(alloc, parts.next().unwrap_or(""))?;
+    Ok(is_end && link.link.bytes().ends_with(written.as_slice()))
+}
+
+#[test]
+fn a_key_that_is_due_leaves_at_an_idle_read(rt: HostRuntime) -> Result<(), Fail> {
+    for row in TICKS.lines() {
+        assert!(rt; ticks_so(&rt, rt.alloc(), row)?, "{row}");
     }
     Ok(())
 }
@@ -118,9 +207,15 @@ fn a_gate_is_told_of_each_request_and_of_those_that_were_answered(
         begun: AtomicU64::new(0),
         answered: AtomicU64::new(0),
     };
-    let steps = steps_of(rt.alloc(), "SET_a_v;GET_a;,GET_a;")?;
-    let mut link = MemoryLink::new(rt.alloc(), 100, steps)?;
-    said(&rt, rt.alloc(), 100, &mut link, &gate)?;
+    let mut link = link_of(rt.alloc(), "SET_a_v;GET_a;,GET_a;", 100)?;
+    said(
+        &rt,
+        rt.alloc(),
+        100,
+        &mut link,
+        &FixedClock { ms: 7 },
+        &gate,
+    )?;
     assert_eq!(rt; gate.begun.load(Ordering::SeqCst), 7);
     assert_eq!(rt; gate.answered.load(Ordering::SeqCst), 3);
     Ok(())

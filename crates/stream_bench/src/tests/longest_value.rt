@@ -28,12 +28,16 @@ fn fault_of_four(alloc: Global, head: &[u8], count: usize) -> Result<Option<u64>
 
 fn fault_of(alloc: Global, longest: &[u8], last: &[u8]) -> Result<Option<u64>, NoMemory> {
     let mut reader = ValueReader::new(alloc);
+    feed_four(&mut reader, longest, last)?;
+    Ok(offset_of(&reader.next_value()))
+}
+
+fn feed_four(reader: &mut ValueReader, longest: &[u8], last: &[u8]) -> Result<(), NoMemory> {
     reader.feed(b"*4\r\n")?;
     for _ in 0..3 {
         reader.feed(longest)?;
     }
-    reader.feed(last)?;
-    Ok(offset_of(&reader.next_value()))
+    reader.feed(last)
 }
 
 fn offset_of(answer: &Result<Option<Value>, StreamFault>) -> Option<u64> {

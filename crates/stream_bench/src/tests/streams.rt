@@ -42,13 +42,42 @@ fn request_row(row: usize) -> (&'static [u8], Result<&'static [u8], StreamFault>
     }
 }
 
-/// Whether the answer is nothing, or what is wanted.
-fn is_request_or_nothing(
+/// Whether what is read next is wanted.
+fn next_is_request(
     alloc: Global,
-    answer: &Result<Option<Words>, StreamFault>,
+    reader: &mut RequestReader,
     want: &Result<&[u8], StreamFault>,
 ) -> Result<bool, NoMemory> {
-    Ok(is_nothing(answer) || is_request(alloc, answer, want)?)
+    let answer = reader.next_request();
+    is_request(alloc, &answer, want)
+}
+
+/// Whether nothing is read next, or what is wanted.
+fn next_may_be_request(
+    alloc: Global,
+    reader: &mut RequestReader,
+    want: &Result<&[u8], StreamFault>,
+) -> Result<bool, NoMemory> {
+    let answer = reader.next_request();
+    if is_nothing(&answer) {
+        return Ok(true);
+    }
+    is_request(alloc, &answer, want)
+}
+
+fn is_request_in_two(
+    alloc: Global,
+    reader: &mut RequestReader,
+    front: &[u8],
+    back: &[u8],
+    want: &Result<&[u8], StreamFault>,
+) -> Result<bool, NoMemory> {
+    reader.feed(front)?;
+    if !next_may_be_request(alloc, reader, want)? {
+        return Ok(false);
+    }
+    reader.feed(back)?;
+    next_is_request(alloc, reader, want)
 }
 
 fn is_request_cut(
@@ -59,12 +88,22 @@ fn is_request_cut(
 ) -> Result<bool, NoMemory> {
     let (front, back) = bytes.split_at(cut.min(bytes.len()));
     let mut reader = RequestReader::new(alloc);
-    reader.feed(front)?;
-    if !is_request_or_nothing(alloc, &reader.next_request(), want)? {
-        return Ok(false);
+    is_request_in_two(alloc, &mut reader, front, back, want)
+}
+
+fn is_request_in_bytes(
+    alloc: Global,
+    reader: &mut RequestReader,
+    bytes: &[u8],
+    want: &Result<&[u8], StreamFault>,
+) -> Result<bool, NoMemory> {
+    for byte in bytes {
+        if !next_may_be_request(alloc, reader, want)? {
+            return Ok(false);
+        }
+        reader.feed(&[*byte])?;
     }
-    reader.feed(back)?;
-    is_request(alloc, &reader.next_request(), want)
+    next_is_request(alloc, reader, want)
 }
 
 fn is_request_byte_by_byte(
@@ -73,13 +112,7 @@ fn is_request_byte_by_byte(
     want: &Result<&[u8], StreamFault>,
 ) -> Result<bool, NoMemory> {
     let mut reader = RequestReader::new(alloc);
-    for byte in bytes {
-        if !is_request_or_nothing(alloc, &reader.next_request(), want)? {
-            return Ok(false);
-        }
-        reader.feed(&[*byte])?;
-    }
-    is_request(alloc, &reader.next_request(), want)
+    is_request_in_bytes(alloc, &mut reader, bytes, want)
 }
 
 fn is_request_in_pieces(
@@ -190,14 +223,23 @@ fn feed_word(
     reader.feed(bytes.as_slice())
 }
 
+fn feed_four(
+    alloc: Global,
+    reader: &mut RequestReader,
+    head: &[u8],
+    length: usize,
+) -> Result<(), NoMemory> {
+    reader.feed(b"*4\r\n")?;
+    for _ in 0..3 {
+        feed_word(alloc, reader, b"$16777216\r\n", 16777216)?;
+    }
+    feed_word(alloc, reader, head, length)
+}
+
 /// The size of a request of three words of 16 MiB and one more.
 fn size_of_four(alloc: Global, head: &[u8], length: usize) -> Result<Size, NoMemory> {
     let mut reader = RequestReader::new(alloc);
-    reader.feed(b"*4\r\n")?;
-    for _ in 0..3 {
-        feed_word(alloc, &mut reader, b"$16777216\r\n", 16777216)?;
-    }
-    feed_word(alloc, &mut reader, head, length)?;
+    feed_four(alloc, &mut reader, head, length)?;
     Ok(size_of(&reader.next_request()))
 }
 
@@ -236,13 +278,42 @@ fn is_no_value(answer: &Result<Option<Value>, StreamFault>) -> bool {
     }
 }
 
-/// Whether the answer is nothing, or what is wanted.
-fn is_value_or_nothing(
+/// Whether what is read next is wanted.
+fn next_is_value(
     alloc: Global,
-    answer: &Result<Option<Value>, StreamFault>,
+    reader: &mut ValueReader,
     want: &Result<&[u8], StreamFault>,
 ) -> Result<bool, NoMemory> {
-    Ok(is_no_value(answer) || is_value(alloc, answer, want)?)
+    let answer = reader.next_value();
+    is_value(alloc, &answer, want)
+}
+
+/// Whether nothing is read next, or what is wanted.
+fn next_may_be_value(
+    alloc: Global,
+    reader: &mut ValueReader,
+    want: &Result<&[u8], StreamFault>,
+) -> Result<bool, NoMemory> {
+    let answer = reader.next_value();
+    if is_no_value(&answer) {
+        return Ok(true);
+    }
+    is_value(alloc, &answer, want)
+}
+
+fn is_value_in_two(
+    alloc: Global,
+    reader: &mut ValueReader,
+    front: &[u8],
+    back: &[u8],
+    want: &Result<&[u8], StreamFault>,
+) -> Result<bool, NoMemory> {
+    reader.feed(front)?;
+    if !next_may_be_value(alloc, reader, want)? {
+        return Ok(false);
+    }
+    reader.feed(back)?;
+    next_is_value(alloc, reader, want)
 }
 
 fn is_value_cut(
@@ -253,12 +324,22 @@ fn is_value_cut(
 ) -> Result<bool, NoMemory> {
     let (front, back) = bytes.split_at(cut.min(bytes.len()));
     let mut reader = ValueReader::new(alloc);
-    reader.feed(front)?;
-    if !is_value_or_nothing(alloc, &reader.next_value(), want)? {
-        return Ok(false);
+    is_value_in_two(alloc, &mut reader, front, back, want)
+}
+
+fn is_value_in_bytes(
+    alloc: Global,
+    reader: &mut ValueReader,
+    bytes: &[u8],
+    want: &Result<&[u8], StreamFault>,
+) -> Result<bool, NoMemory> {
+    for byte in bytes {
+        if !next_may_be_value(alloc, reader, want)? {
+            return Ok(false);
+        }
+        reader.feed(&[*byte])?;
     }
-    reader.feed(back)?;
-    is_value(alloc, &reader.next_value(), want)
+    next_is_value(alloc, reader, want)
 }
 
 fn is_value_byte_by_byte(
@@ -267,13 +348,7 @@ fn is_value_byte_by_byte(
     want: &Result<&[u8], StreamFault>,
 ) -> Result<bool, NoMemory> {
     let mut reader = ValueReader::new(alloc);
-    for byte in bytes {
-        if !is_value_or_nothing(alloc, &reader.next_value(), want)? {
-            return Ok(false);
-        }
-        reader.feed(&[*byte])?;
-    }
-    is_value(alloc, &reader.next_value(), want)
+    is_value_in_bytes(alloc, &mut reader, bytes, want)
 }
 
 fn is_value_in_pieces(
@@ -384,13 +459,17 @@ fn values_are_read_however_their_bytes_are_cut(rt: HostRuntime) -> Result<(), Fa
     Ok(())
 }
 
+fn is_one(answer: &Result<Option<Value>, StreamFault>) -> bool {
+    match answer {
+        Ok(Some(_)) => true,
+        _ => false,
+    }
+}
+
 fn reads(alloc: Global, bytes: &[u8]) -> Result<bool, NoMemory> {
     let mut reader = ValueReader::new(alloc);
     reader.feed(bytes)?;
-    match reader.next_value() {
-        Ok(Some(_)) => Ok(true),
-        _ => Ok(false),
-    }
+    Ok(is_one(&reader.next_value()))
 }
 
 fn nulls(alloc: Global, head: &[u8], count: usize) -> Result<Vec<u8>, NoMemory> {

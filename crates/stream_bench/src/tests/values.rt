@@ -111,29 +111,47 @@ fn aggregate_row(a: Global, row: usize) -> Result<Row, NoMemory> {
     Ok(Row { value, two, three })
 }
 
-fn is_row(alloc: Global, row: &Row) -> Result<bool, NoMemory> {
-    let copy = row.value.copy()?;
-    Ok(
-        is_spelled(alloc, Proto::Two, &row.value, row.two)?
-            && is_spelled(alloc, Proto::Three, &copy, row.three)?,
-    )
+fn row_of(a: Global, number: usize) -> Result<Row, NoMemory> {
+    match number / 5 {
+        0 => text_row(a, number),
+        1 => Ok(plain_row(number - 5)),
+        _ => aggregate_row(a, number - 10),
+    }
+}
+
+fn is_copy_spelled(alloc: Global, value: &Value, wanted: &[u8]) -> Result<bool, NoMemory> {
+    let copy = value.copy()?;
+    is_spelled(alloc, Proto::Three, &copy, wanted)
+}
+
+fn is_spelled_so(alloc: Global, row: &Row) -> Result<bool, NoMemory> {
+    if !is_spelled(alloc, Proto::Two, &row.value, row.two)? {
+        return Ok(false);
+    }
+    is_copy_spelled(alloc, &row.value, row.three)
+}
+
+fn is_row(alloc: Global, number: usize) -> Result<bool, NoMemory> {
+    let row = row_of(alloc, number)?;
+    is_spelled_so(alloc, &row)
 }
 
 #[test]
 fn each_value_has_its_spelling(rt: HostRuntime) -> Result<(), Fail> {
-    let a = rt.alloc();
-    for row in 0..5 {
-        assert!(rt; is_row(a, &text_row(a, row)?)?, "text {row}");
-        assert!(rt; is_row(a, &plain_row(row))?, "plain {row}");
-        assert!(rt; is_row(a, &aggregate_row(a, row)?)?, "aggregate {row}");
+    for number in 0..15 {
+        assert!(rt; is_row(rt.alloc(), number)?, "{number}");
     }
     Ok(())
 }
 
+fn put_get_foo(alloc: Global, words: &mut Words) -> Result<(), NoMemory> {
+    words.push(text(alloc, b"GET")?)?;
+    words.push(text(alloc, b"foo")?.copy()?)
+}
+
 fn get_foo(alloc: Global) -> Result<Words, NoMemory> {
     let mut words = Words::new(alloc);
-    words.push(text(alloc, b"GET")?)?;
-    words.push(text(alloc, b"foo")?.copy()?)?;
+    put_get_foo(alloc, &mut words)?;
     Ok(words)
 }
 

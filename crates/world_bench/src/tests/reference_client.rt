@@ -213,16 +213,21 @@ impl Client {
     /// The bytes of all its commands.
     pub fn written(&self) -> Result<Vec<u8>, NoMemory> {
         let mut out = Vec::new(self.alloc);
+        self.put_written(&mut out)?;
+        Ok(out)
+    }
+
+    fn put_written(&self, out: &mut Vec<u8>) -> Result<(), NoMemory> {
         out.extend_from_slice(b"*2\r\n$5\r\nHELLO\r\n$1\r\n3\r\n")?;
         out.extend_from_slice(b"*3\r\n$6\r\nCLIENT\r\n$8\r\nTRACKING\r\n$2\r\nON\r\n")?;
         for deed in self.deeds.iter() {
             match deed {
-                Deed::Fetch(query) => put_request(query.words(), &mut out)?,
-                Deed::Command(words) => put_request(words, &mut out)?,
+                Deed::Fetch(query) => put_request(query.words(), out)?,
+                Deed::Command(words) => put_request(words, out)?,
                 _ => {}
             }
         }
-        Ok(out)
+        Ok(())
     }
 
     /// How many of them went onto its link.
@@ -290,15 +295,20 @@ impl Client {
     /// What it holds.
     pub fn held(&self) -> Result<Vec<Held>, NoMemory> {
         let mut held = Vec::new(self.alloc);
+        self.put_held(&mut held)?;
+        Ok(held)
+    }
+
+    fn put_held(&self, held: &mut Vec<Held>) -> Result<(), NoMemory> {
         for place in 0..self.deeds.len() {
             let deed = &self.deeds[place];
             match deed {
-                Deed::Hit(query) => use_key(query.key(), place, &mut held),
-                Deed::Got(value) if is_reply(value) => self.fill(place, value, &mut held)?,
+                Deed::Hit(query) => use_key(query.key(), place, held),
+                Deed::Got(value) if is_reply(value) => self.fill(place, value, held)?,
                 _ => held.retain(|entry| !ends(deed, entry.query.key())),
             }
         }
-        Ok(held)
+        Ok(())
     }
 }
 

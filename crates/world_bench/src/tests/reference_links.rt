@@ -39,6 +39,10 @@ pub struct Wire {
 pub struct Past {
     pub alloc: Global,
     pub table_max: usize,
+    /// What the clock shows.
+    pub now: u64,
+    /// The greatest moment of the entries.
+    pub moment: u64,
     pub entries: Vec<Entry>,
     pub text: Vec<u8>,
 }
@@ -119,6 +123,10 @@ impl Wire {
 fn process(alloc: Global, client: &mut Client) -> Result<(), NoMemory> {
     let mut reader = ValueReader::new(alloc);
     reader.feed(client.heard.as_slice())?;
+    process_values(&mut reader, client)
+}
+
+fn process_values(reader: &mut ValueReader, client: &mut Client) -> Result<(), NoMemory> {
     let mut before = client.got();
     for _ in 0..client.heard.len().saturating_add(1) {
         match reader.next_value() {
@@ -133,6 +141,12 @@ fn process(alloc: Global, client: &mut Client) -> Result<(), NoMemory> {
         }
     }
     Ok(())
+}
+
+// What a client has to send.
+fn waiting_bytes(alloc: Global, client: &Client) -> Result<Vec<u8>, NoMemory> {
+    let written = client.written()?;
+    rest_of(alloc, written.as_slice(), client.taken() as usize)
 }
 
 impl Past {
@@ -191,12 +205,19 @@ impl Past {
         self.print(Line::Close(entry, wire.name.copy()?))
     }
 
+    fn print_run(&mut self, wire: &Wire, words: &Words) -> Result<(), NoMemory> {
+        let entry = (self.entries.len() as u64).saturating_add(1);
+        let link = wire.name.copy()?;
+        self.print(Line::Run(entry, link, words.copy()?))
+    }
+
     fn run(&mut self, wire: &Wire, words: Words) -> Result<(), NoMemory> {
-        let shown = words.copy()?;
+        self.print_run(wire, &words)?;
         let id = wire.id;
-        let moment = 0;
-        let entry = self.add(Entry::Run { id, words, moment })?;
-        self.print(Line::Run(entry, wire.name.copy()?, shown))
+        let moment = self.moment.max(self.now);
+        self.moment = moment;
+        self.add(Entry::Run { id, words, moment })?;
+        Ok(())
     }
 
     fn break_off(&mut self, wire: &Wire, place: FaultPlace) -> Result<(), NoMemory> {
@@ -214,6 +235,15 @@ impl Past {
     fn hear(&mut self, wire: &Wire, eof: bool) -> Result<(), NoMemory> {
         let mut reader = RequestReader::new(self.alloc);
         reader.feed(wire.heard.as_slice())?;
+        self.run_requests(&mut reader, wire, eof)
+    }
+
+    fn run_requests(
+        &mut self,
+        reader: &mut RequestReader,
+        wire: &Wire,
+        eof: bool,
+    ) -> Result<(), NoMemory> {
         let mut before = ran(wire.id, self.entries.as_slice());
         for _ in 0..wire.heard.len().saturating_add(1) {
             match reader.next_request() {
@@ -254,14 +284,22 @@ impl Past {
         Ok(0)
     }
 
+    fn first_unsent(&self, id: u64, max: u64) -> Result<Vec<u8>, NoMemory> {
+        let waiting = self.unsent(id)?;
+        front_of(self.alloc, waiting.as_slice(), max as usize)
+    }
+
+    fn add_take(&mut self, wire: &Wire, max: u64, count: u64) -> Result<(), NoMemory> {
+        let entry = self.add(Entry::Take { id: wire.id, max })?;
+        self.print(Line::Take(entry, wire.name.copy()?, count))
+    }
+
     fn take(&mut self, wire: &mut Wire, max: u64) -> Result<(), NoMemory> {
-        let waiting = self.unsent(wire.id)?;
-        let bytes = front_of(self.alloc, waiting.as_slice(), max as usize)?;
+        let bytes = self.first_unsent(wire.id, max)?;
         if bytes.is_empty() {
             return Ok(());
         }
-        let entry = self.add(Entry::Take { id: wire.id, max })?;
-        self.print(Line::Take(entry, wire.name.copy()?, bytes.len() as u64))?;
+        self.add_take(wire, max, bytes.len() as u64)?;
         wire.down.put(bytes.as_slice())
     }
 
@@ -335,8 +373,7 @@ impl Past {
         let Some(client) = &mut wire.client else {
             return Ok(missing);
         };
-        let written = client.written()?;
-        let waiting = rest_of(self.alloc, written.as_slice(), client.taken() as usize)?;
+        let waiting = waiting_bytes(self.alloc, client)?;
         let most = count.unwrap_or(waiting.len() as u64);
         if client.has_ended() || most > waiting.len() as u64 {
             return Ok(missing);
@@ -344,8 +381,8 @@ impl Past {
         if most > 0 {
             client.deeds.push(Deed::Out(most))?;
         }
-        let bytes = front_of(self.alloc, waiting.as_slice(), most as usize)?;
-        wire.up.put(bytes.as_slice())?;
+        wire.up
+            .put(&waiting.as_slice()[..waiting.len().min(most as usize)])?;
         Ok(0)
     }
 

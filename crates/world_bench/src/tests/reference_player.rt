@@ -70,16 +70,31 @@ fn hit(past: &mut Past, id: u64, client: &mut Client, held: &Held) -> Result<(),
     })
 }
 
-fn ask(past: &mut Past, id: u64, client: &mut Client, query: &Query) -> Result<u64, NoMemory> {
-    if refuse(past, client)? {
-        return Ok(0);
-    }
-    let held = client.held()?;
-    for entry in held.iter() {
+// Answers from what is held, if that has the query.
+fn answer(
+    past: &mut Past,
+    id: u64,
+    client: &mut Client,
+    held: &[Held],
+    query: &Query,
+) -> Result<bool, NoMemory> {
+    for entry in held {
         if entry.query.is_same(query) {
             hit(past, id, client, entry)?;
-            return Ok(0);
+            return Ok(true);
         }
+    }
+    Ok(false)
+}
+
+fn is_hit(past: &mut Past, id: u64, client: &mut Client, query: &Query) -> Result<bool, NoMemory> {
+    let held = client.held()?;
+    answer(past, id, client, held.as_slice(), query)
+}
+
+fn ask(past: &mut Past, id: u64, client: &mut Client, query: &Query) -> Result<u64, NoMemory> {
+    if refuse(past, client)? || is_hit(past, id, client, query)? {
+        return Ok(0);
     }
     client.deeds.push(Deed::Fetch(query.copy()?))?;
     past.print(Line::Miss(client.name.copy()?, client.last_number()))?;
@@ -98,22 +113,22 @@ fn command(past: &mut Past, client: &mut Client, words: &Words) -> Result<u64, N
     Ok(0)
 }
 
+fn print_reply(past: &mut Past, client: &Client, number: u64) -> Result<(), NoMemory> {
+    let name = client.name.copy()?;
+    match client.reply(number) {
+        Some(value) => past.print(Line::Answer(name, number, value.copy()?)),
+        None if client.has_ended() => past.print(Line::Down(name)),
+        None => past.print(Line::Wait(name, number)),
+    }
+}
+
 fn poll(past: &mut Past, client: &mut Client, number: u64) -> Result<u64, NoMemory> {
     if !client.is_wanted(number) {
         return Ok(5);
     }
-    let reply = match client.reply(number) {
-        Some(value) => Some(value.copy()?),
-        None => None,
-    };
-    let name = client.name.copy()?;
-    match reply {
-        Some(value) => {
-            client.deeds.push(Deed::Handed(number))?;
-            past.print(Line::Answer(name, number, value))?;
-        }
-        None if client.has_ended() => past.print(Line::Down(name))?,
-        None => past.print(Line::Wait(name, number))?,
+    print_reply(past, client, number)?;
+    if client.reply(number).is_some() {
+        client.deeds.push(Deed::Handed(number))?;
     }
     Ok(0)
 }
@@ -137,18 +152,36 @@ fn next_shown<'a>(
     Ok(next)
 }
 
-fn show(past: &mut Past, id: u64, client: &Client) -> Result<u64, NoMemory> {
-    let held = client.held()?;
+fn print_held(past: &mut Past, id: u64, client: &Client, held: &Held) -> Result<(), NoMemory> {
+    let ran = past.run_entry(id, held.number);
+    let words = held.query.words().copy()?;
+    let name = client.name.copy()?;
+    past.print(Line::Holds(name, words, held.value.copy()?, ran))
+}
+
+fn print_all_held(
+    past: &mut Past,
+    id: u64,
+    client: &Client,
+    held: &[Held],
+) -> Result<(), NoMemory> {
     let mut last = Vec::new(past.alloc);
     for _ in 0..held.len() {
-        if let Some(entry) = next_shown(past.alloc, held.as_slice(), last.as_slice())? {
+        if let Some(entry) = next_shown(past.alloc, held, last.as_slice())? {
             last = shown(past.alloc, &entry.query)?;
-            let ran = past.run_entry(id, entry.number);
-            let words = entry.query.words().copy()?;
-            let value = entry.value.copy()?;
-            past.print(Line::Holds(client.name.copy()?, words, value, ran))?;
+            print_held(past, id, client, entry)?;
         }
     }
+    Ok(())
+}
+
+fn show_held(past: &mut Past, id: u64, client: &Client) -> Result<(), NoMemory> {
+    let held = client.held()?;
+    print_all_held(past, id, client, held.as_slice())
+}
+
+fn show(past: &mut Past, id: u64, client: &Client) -> Result<u64, NoMemory> {
+    show_held(past, id, client)?;
     let entries = complete(past, id, client)?;
     past.print(Line::Complete(client.name.copy()?, entries))?;
     Ok(0)
@@ -178,14 +211,16 @@ fn say(wire: &mut Wire, bytes: &[u8]) -> Result<u64, NoMemory> {
     Ok(0)
 }
 
+fn say_words(alloc: Global, wire: &mut Wire, words: &Words) -> Result<u64, NoMemory> {
+    let mut bytes = Vec::new(alloc);
+    put_request(words, &mut bytes)?;
+    say(wire, bytes.as_slice())
+}
+
 // Plays an event of this link, and answers the number of its fault, 0 for none.
 fn play_wire(past: &mut Past, wire: &mut Wire, event: &Event) -> Result<u64, NoMemory> {
     match event {
-        Event::Say(_, words) => {
-            let mut bytes = Vec::new(past.alloc);
-            put_request(words, &mut bytes)?;
-            return say(wire, bytes.as_slice());
-        }
+        Event::Say(_, words) => return say_words(past.alloc, wire, words),
         Event::Bytes(_, bytes) => return say(wire, bytes.as_slice()),
         Event::Out(_, count) => return past.out(wire, *count),
         Event::Serve(_, None) => past.serve(wire)?,
@@ -210,6 +245,8 @@ impl ReferencePlayer {
             past: Past {
                 alloc,
                 table_max,
+                now: 0,
+                moment: 0,
                 entries: Vec::new(alloc),
                 text: Vec::new(alloc),
             },
@@ -234,20 +271,32 @@ impl ReferencePlayer {
         })
     }
 
-    fn link(&mut self, name: &Octets, client: Option<Client>) -> Result<u64, NoMemory> {
-        let id = (self.wires.len() as u64).saturating_add(1);
-        let wire = Wire::new(self.past.alloc, id, name.copy()?, client);
+    // The number of the next connection.
+    fn next_id(&self) -> u64 {
+        (self.wires.len() as u64).saturating_add(1)
+    }
+
+    fn link(&mut self, name: &Octets, wire: Wire) -> Result<u64, NoMemory> {
+        let id = wire.id;
         self.wires.push(wire)?;
         let entry = self.past.add(Entry::Admit { id })?;
         self.past.print(Line::Admit(entry, name.copy()?, id))?;
         Ok(0)
     }
 
+    fn raw(&mut self, name: &Octets) -> Result<u64, NoMemory> {
+        let own = name.copy()?;
+        let wire = Wire::new(self.past.alloc, self.next_id(), own, None);
+        self.link(name, wire)
+    }
+
     fn client(&mut self, name: &Octets, capacity: u64) -> Result<u64, NoMemory> {
-        let client = Client::new(self.past.alloc, name.copy()?, capacity);
         let mut link = name.copy()?;
         link.append(b".data")?;
-        self.link(&link, Some(client))
+        let own = link.copy()?;
+        let client = Client::new(self.past.alloc, name.copy()?, capacity);
+        let wire = Wire::new(self.past.alloc, self.next_id(), own, Some(client));
+        self.link(&link, wire)
     }
 
     // Plays an event of one link.
@@ -284,9 +333,15 @@ impl ReferencePlayer {
     pub fn play(&mut self, event: &Event) -> Result<u64, NoMemory> {
         match event {
             Event::Raw(name) | Event::Client(name, _, _) if self.is_there(name) => Ok(2),
-            Event::Raw(name) => self.link(name, None),
+            Event::Raw(name) => self.raw(name),
             Event::Client(name, _, capacity) => self.client(name, *capacity),
             Event::FlowAll => self.flow_all(),
+            // no command that it knows gives a deadline, so no key is ever due
+            Event::Now(moment) => {
+                self.past.now = *moment;
+                Ok(0)
+            }
+            Event::Tick => Ok(0),
             Event::Ask(name, _) | Event::Do(name, _) | Event::Poll(name, _) | Event::Show(name) =>
                 self.play_member(name, event),
             Event::Say(name, _)

@@ -121,10 +121,15 @@ fn value_of<'a>(key: &[u8], past: &'a [Entry]) -> Option<&'a [u8]> {
     None
 }
 
-fn put_blob(bytes: &[u8], out: &mut Vec<u8>) -> Result<(), NoMemory> {
-    let digits = bytes.len().to_string(*out.allocator())?;
-    out.extend_from_slice(b"$")?;
+fn put_number(number: u64, out: &mut Vec<u8>) -> Result<(), NoMemory> {
+    let digits = number.to_string(*out.allocator())?;
     out.extend_from_slice(digits.as_bytes())?;
+    Ok(())
+}
+
+fn put_blob(bytes: &[u8], out: &mut Vec<u8>) -> Result<(), NoMemory> {
+    out.extend_from_slice(b"$")?;
+    put_number(bytes.len() as u64, out)?;
     out.extend_from_slice(b"\r\n")?;
     out.extend_from_slice(bytes)?;
     out.extend_from_slice(b"\r\n")?;
@@ -132,7 +137,6 @@ fn put_blob(bytes: &[u8], out: &mut Vec<u8>) -> Result<(), NoMemory> {
 }
 
 fn put_greeting(proto: Proto, id: u64, out: &mut Vec<u8>) -> Result<(), NoMemory> {
-    let digits = id.to_string(*out.allocator())?;
     let (head, version): (&[u8], &[u8]) = match proto {
         Proto::Two => (b"*14\r\n", b":2\r\n"),
         Proto::Three => (b"%7\r\n", b":3\r\n"),
@@ -142,7 +146,7 @@ fn put_greeting(proto: Proto, id: u64, out: &mut Vec<u8>) -> Result<(), NoMemory
     out.extend_from_slice(b"$5\r\nproto\r\n")?;
     out.extend_from_slice(version)?;
     out.extend_from_slice(b"$2\r\nid\r\n:")?;
-    out.extend_from_slice(digits.as_bytes())?;
+    put_number(id, out)?;
     out.extend_from_slice(b"\r\n$4\r\nmode\r\n$10\r\nstandalone\r\n")?;
     out.extend_from_slice(b"$4\r\nrole\r\n$6\r\nmaster\r\n$7\r\nmodules\r\n*0\r\n")?;
     Ok(())
@@ -185,9 +189,9 @@ fn remember(alloc: Global, id: u64, key: &[u8], rows: &mut Vec<Row>) -> Result<(
             return Ok(());
         }
     }
+    let key = Octets::from_slice(alloc, key)?;
     let mut holders = Vec::new(alloc);
     holders.push(id)?;
-    let key = Octets::from_slice(alloc, key)?;
     rows.push(Row { key, holders })?;
     Ok(())
 }
@@ -222,27 +226,23 @@ fn run_rows(
     }
 }
 
-// The rows of which the first are dropped where there are too many, and what a connection is told.
-fn within(
-    alloc: Global,
+// The first rows are dropped where there are too many; what a connection is told.
+fn drop_first(
     table_max: usize,
     to: u64,
-    rows: Vec<Row>,
+    rows: &mut Vec<Row>,
     told: &mut Vec<u8>,
-) -> Result<Vec<Row>, NoMemory> {
-    let mut kept = Vec::new(alloc);
-    let mut over = rows.len().saturating_sub(table_max);
-    for row in rows {
-        if over == 0 {
-            kept.push(row)?;
-        } else {
-            over -= 1;
-            if holds(&row, to) {
-                put_invalidation(row.key.as_slice(), told)?;
-            }
+) -> Result<(), NoMemory> {
+    let over = rows.len().saturating_sub(table_max);
+    for row in rows.iter().take(over) {
+        if holds(row, to) {
+            put_invalidation(row.key.as_slice(), told)?;
         }
     }
-    Ok(kept)
+    rows.reverse();
+    rows.truncate(table_max);
+    rows.reverse();
+    Ok(())
 }
 
 // What a connection is told of the key that a Run wrote.
@@ -259,6 +259,87 @@ fn tell_written(to: u64, words: &Words, rows: &[Row], told: &mut Vec<u8>) -> Res
 
 // ---- what is sent
 
+/// A connection, and what entries sent to it.
+#[derive(Drop)]
+struct Listener {
+    alloc: Global,
+    table_max: usize,
+    id: u64,
+    rows: Vec<Row>,
+    sent: Vec<Sent>,
+}
+
+impl Listener {
+    fn push(&mut self, entry: usize, bytes: Vec<u8>) -> Result<(), NoMemory> {
+        let entry = entry as u64;
+        self.sent.push(Sent { entry, bytes })?;
+        Ok(())
+    }
+
+    // The reply to its own request.
+    fn hear_reply(&mut self, words: &Words, past: &[Entry]) -> Result<(), NoMemory> {
+        let mut bytes = Vec::new(self.alloc);
+        put_reply(self.id, words, past, &mut bytes)?;
+        self.push(past.len().saturating_add(1), bytes)
+    }
+
+    // What a Run tells it.
+    fn put_told(
+        &mut self,
+        by: u64,
+        words: &Words,
+        past: &[Entry],
+        told: &mut Vec<u8>,
+    ) -> Result<(), NoMemory> {
+        tell_written(self.id, words, self.rows.as_slice(), told)?;
+        run_rows(self.alloc, past, by, words, &mut self.rows)?;
+        drop_first(self.table_max, self.id, &mut self.rows, told)
+    }
+
+    fn hear_told(
+        &mut self,
+        by: u64,
+        words: &Words,
+        past: &[Entry],
+        is_told: bool,
+    ) -> Result<(), NoMemory> {
+        let mut bytes = Vec::new(self.alloc);
+        self.put_told(by, words, past, &mut bytes)?;
+        if bytes.is_empty() || !is_told {
+            return Ok(());
+        }
+        self.push(past.len().saturating_add(1), bytes)
+    }
+
+    // An entry behind those before it; the protocol is the one that it leaves.
+    fn hear(&mut self, entry: &Entry, past: &[Entry], proto: Proto) -> Result<(), NoMemory> {
+        match entry {
+            Entry::Run { id, words, .. } => {
+                if *id == self.id {
+                    self.hear_reply(words, past)?;
+                }
+                self.hear_told(*id, words, past, matches!(proto, Proto::Three))
+            }
+            Entry::Close { id } => {
+                let_go(*id, &mut self.rows);
+                if *id == self.id {
+                    return self.push(past.len().saturating_add(1), Vec::new(self.alloc));
+                }
+                Ok(())
+            }
+            _ => Ok(()),
+        }
+    }
+
+    fn hear_all(&mut self, past: &[Entry]) -> Result<(), NoMemory> {
+        for place in 0..past.len() {
+            let proto = proto_of(self.id, &past[..=place]);
+            self.hear(&past[place], &past[..place], proto)?;
+        }
+        Ok(())
+    }
+}
+
 /// All that was sent to a connection, in order: each reply, then what its entry tells it. A Run
 /// tells a connection of at most one key, since one that writes remembers none.
 pub fn all_sent(
@@ -267,38 +348,22 @@ pub fn all_sent(
     to: u64,
     past: &[Entry],
 ) -> Result<Vec<Sent>, NoMemory> {
-    let mut rows = Vec::new(alloc);
-    let mut sent = Vec::new(alloc);
-    for place in 0..past.len() {
-        let before = &past[..place];
-        let entry = (place as u64).saturating_add(1);
-        match &past[place] {
-            Entry::Run { id, words, .. } => {
-                if *id == to {
-                    let mut bytes = Vec::new(alloc);
-                    put_reply(*id, words, before, &mut bytes)?;
-                    sent.push(Sent { entry, bytes })?;
-                }
-                let mut bytes = Vec::new(alloc);
-                tell_written(to, words, rows.as_slice(), &mut bytes)?;
-                run_rows(alloc, before, *id, words, &mut rows)?;
-                rows = within(alloc, table_max, to, rows, &mut bytes)?;
-                let speaks_three = matches!(proto_of(to, &past[..=place]), Proto::Three);
-                if !bytes.is_empty() && speaks_three {
-                    sent.push(Sent { entry, bytes })?;
-                }
-            }
-            Entry::Close { id } => {
-                let_go(*id, &mut rows);
-                if *id == to {
-                    let bytes = Vec::new(alloc);
-                    sent.push(Sent { entry, bytes })?;
-                }
-            }
-            _ => {}
-        }
+    let mut listener = Listener {
+        alloc,
+        table_max,
+        id: to,
+        rows: Vec::new(alloc),
+        sent: Vec::new(alloc),
+    };
+    listener.hear_all(past)?;
+    Ok(listener.sent)
+}
+
+fn put_stream(sent: &[Sent], out: &mut Vec<u8>) -> Result<(), NoMemory> {
+    for message in sent {
+        out.extend_from_slice(message.bytes.as_slice())?;
     }
-    Ok(sent)
+    Ok(())
 }
 
 /// The bytes of all that was sent to a connection.
@@ -308,11 +373,9 @@ pub fn stream(
     to: u64,
     past: &[Entry],
 ) -> Result<Vec<u8>, NoMemory> {
-    let mut out = Vec::new(alloc);
     let sent = all_sent(alloc, table_max, to, past)?;
-    for message in sent.iter() {
-        out.extend_from_slice(message.bytes.as_slice())?;
-    }
+    let mut out = Vec::new(alloc);
+    put_stream(sent.as_slice(), &mut out)?;
     Ok(out)
 }
 

@@ -4,13 +4,14 @@
 //! A table of transcripts has a block for each schedule, with an empty line between blocks: the
 //! number of the fault that it ends by, 0 for none, and the schedule; then what is printed.
 ghost use Rattle.std.specs.Prelude.{◌<◌};
+ghost use Rattle.script_text.specs.Valid.{IsValid};
 ghost use Rattle.serial_model.specs.Steps.{AreValid};
 
 use super::reference_player::ReferencePlayer;
 use super::schedule_table::{SCHEDULES, SMALL_TABLE};
 use command_words::put_printed;
 use resp_value::NoMemory;
-use script_text::{Lines, law_events_are_valid, put_line, read_event};
+use script_text::{Event, Lines, law_events_are_valid, put_line, read_event};
 use server_book::Limits;
 use std::alloc::Global;
 use std::process::Abort;
@@ -26,6 +27,31 @@ const LIMITS: Limits = Limits {
 /// In place of the number of a fault: the line is none of a schedule.
 const NO_LINE: u64 = 99;
 
+fn put_lines(lines: &Lines, text: &mut Vec<u8>) -> Result<(), NoMemory> {
+    for line in lines.as_slice() {
+        put_line(line, text)?;
+    }
+    Ok(())
+}
+
+// Plays an event, and answers the number of its fault, 0 for none.
+fn play_event(
+    alloc: Global,
+    world: &mut World,
+    event: &Event,
+    text: &mut Vec<u8>,
+) -> Result<u64, NoMemory>
+    requires { IsValid event.now }
+{
+    let mut lines = Lines::new(alloc);
+    let number = match world.step(event, &mut lines) {
+        Ok(()) => 0,
+        Err(fault) => fault.number(),
+    };
+    put_lines(&lines, text)?;
+    Ok(number)
+}
+
 // Plays a line, and answers the number of its fault, 0 for none.
 fn play_line(
     alloc: Global,
@@ -34,28 +60,19 @@ fn play_line(
     text: &mut Vec<u8>,
 ) -> Result<u64, NoMemory> {
     law_events_are_valid();
-    let Some(event) = read_event(alloc, line)? else {
-        return Ok(NO_LINE);
-    };
-    let mut lines = Lines::new(alloc);
-    let stepped = world.step(&event, &mut lines);
-    for line in lines.as_slice() {
-        put_line(line, text)?;
-    }
-    match stepped {
-        Ok(()) => Ok(0),
-        Err(fault) => Ok(fault.number()),
+    match read_event(alloc, line)? {
+        Some(event) => play_event(alloc, world, &event, text),
+        None => Ok(NO_LINE),
     }
 }
 
-// What a world prints for a schedule, and the number of the fault that it ends by, 0 for none.
-fn played(alloc: Global, limits: Limits, schedule: &str) -> Result<(Vec<u8>, u64), NoMemory>
+// Puts what a world prints for a schedule, and answers the number of the fault that it ends by, 0
+// for none.
+fn play(alloc: Global, limits: Limits, schedule: &str, text: &mut Vec<u8>) -> Result<u64, NoMemory>
     requires { AreValid limits }
 {
     let mut world = World::new(alloc, limits)?;
-    let mut text = Vec::new(alloc);
-    let fault = play_lines(alloc, &mut world, schedule, &mut text)?;
-    Ok((text, fault))
+    play_lines(alloc, &mut world, schedule, text)
 }
 
 // Plays lines up to the first fault, and answers its number.
@@ -75,10 +92,25 @@ fn play_lines(
 }
 
 // The same, of the reference player.
-fn referred(alloc: Global, limits: Limits, schedule: &str) -> Result<(Vec<u8>, u64), NoMemory> {
+fn refer(
+    alloc: Global,
+    limits: Limits,
+    schedule: &str,
+    text: &mut Vec<u8>,
+) -> Result<u64, NoMemory> {
     let mut player = ReferencePlayer::new(alloc, limits.table_max as usize);
-    let fault = refer_lines(alloc, &mut player, schedule)?;
-    Ok((Vec::from_slice(alloc, player.text())?, fault))
+    refer_schedule(alloc, &mut player, schedule, text)
+}
+
+fn refer_schedule(
+    alloc: Global,
+    player: &mut ReferencePlayer,
+    schedule: &str,
+    text: &mut Vec<u8>,
+) -> Result<u64, NoMemory> {
+    let fault = refer_lines(alloc, player, schedule)?;
+    text.extend_from_slice(player.text())?;
+    Ok(fault)
 }
 
 fn refer_line(alloc: Global, player: &mut ReferencePlayer, line: &str) -> Result<u64, NoMemory> {
@@ -125,7 +157,8 @@ fn is_printed(alloc: Global, limits: Limits, block: &str) -> Result<bool, NoMemo
     let Some((number, schedule, want)) = parts_of(block) else {
         return Ok(false);
     };
-    let (text, fault) = played(alloc, limits, schedule)?;
+    let mut text = Vec::new(alloc);
+    let fault = play(alloc, limits, schedule, &mut text)?;
     Ok(fault == number && is_text(text.as_slice(), want))
 }
 
@@ -136,16 +169,23 @@ fn prints<R: Abort>(rt: &R, alloc: Global, table: &str) -> Result<(), Fail> {
     Ok(())
 }
 
-// A world and the reference player print the same for each line of the table.
+// A world and the reference player print the same, and end by the same fault.
+fn plays_alike(alloc: Global, limits: Limits, schedule: &str) -> Result<bool, NoMemory>
+    requires { AreValid limits }
+{
+    let mut want = Vec::new(alloc);
+    let number = refer(alloc, limits, schedule, &mut want)?;
+    let mut text = Vec::new(alloc);
+    let fault = play(alloc, limits, schedule, &mut text)?;
+    Ok(text.as_slice() == want.as_slice() && fault == number && fault != NO_LINE)
+}
+
+// They do so for each line of the table.
 fn agree<R: Abort>(rt: &R, alloc: Global, limits: Limits, table: &str) -> Result<(), Fail>
     requires { AreValid limits }
 {
     for schedule in table.lines() {
-        let (want, number) = referred(alloc, limits, schedule)?;
-        let (text, fault) = played(alloc, limits, schedule)?;
-        assert_eq!(rt; text.as_slice(), want.as_slice(), "{schedule}");
-        assert_eq!(rt; fault, number, "{schedule}");
-        assert!(rt; fault != NO_LINE, "{schedule}");
+        assert!(rt; plays_alike(alloc, limits, schedule)?, "{schedule}");
     }
     Ok(())
 }
@@ -162,6 +202,119 @@ fn a_small_table_tells_what_it_drops(rt: HostRuntime) -> Result<(), Fail> {
         ..LIMITS
     };
     agree(&rt, rt.alloc(), limits, SMALL_TABLE)
+}
+
+// Keys leave at their deadlines, a moment does not fall, and a flush is told by null.
+const MOMENTS: &str = "\
+0 raw r;say r HELLO 3;say r CLIENT TRACKING ON;say r SET b 1 PX 5;say r SET a 1 PX 5;\
+say r MGET b a;flow r;now 6;tick;flow r
+#1 admit r 1
+#2 run r HELLO 3
+#3 run r CLIENT TRACKING ON
+#4 run r SET b 1 PX 5
+#5 run r SET a 1 PX 5
+#6 run r MGET b a
+#7 take r 177
+r < %7\\r\\n$6\\r\\nserver\\r\\n$5\\r\\nredis\\r\\n$7\\r\\nversion\\r\\n$5\\r\\n7.0.0\\r\\n\
+$5\\r\\nproto\\r\\n:3\\r\\n$2\\r\\nid\\r\\n:1\\r\\n$4\\r\\nmode\\r\\n$10\\r\\nstandalone\\r\\n\
+$4\\r\\nrole\\r\\n$6\\r\\nmaster\\r\\n\
+$7\\r\\nmodules\\r\\n*0\\r\\n+OK\\r\\n+OK\\r\\n+OK\\r\\n*2\\r\\n$1\\r\\n1\\r\\n$1\\r\\n1\\r\\n
+#8 tick 6
+#9 take r 64
+r < >2\\r\\n$10\\r\\ninvalidate\\r\\n*1\\r\\n$1\\r\\na\\r\\n>2\\r\\n\
+$10\\r\\ninvalidate\\r\\n*1\\r\\n$1\\r\\nb\\r\\n
+
+0 raw w;say w HSET user:1 name Ann city Oslo;say w EXPIRE user:1 300;flow w;\
+client a single 3 default 100;client b single 3 default 100;flow;ask a HGETALL user:1;\
+ask b HGET user:1 city;flow;ask a HGETALL user:1;do b HSET user:1 city Rome;flow;flow;\
+ask a HGETALL user:1;flow;now 300001;tick;flow;show a
+#1 admit w 1
+#2 run w HSET user:1 name Ann city Oslo
+#3 run w EXPIRE user:1 300
+#4 take w 8
+w < :2\\r\\n:1\\r\\n
+#5 admit a.data 2
+#6 admit b.data 3
+#7 run a.data HELLO 3
+#8 run a.data CLIENT TRACKING ON
+#9 take a.data 149
+a.data < %7\\r\\n$6\\r\\nserver\\r\\n$5\\r\\nredis\\r\\n$7\\r\\nversion\\r\\n$5\\r\\n7.0.0\\r\\n\
+$5\\r\\nproto\\r\\n:3\\r\\n$2\\r\\nid\\r\\n:2\\r\\n$4\\r\\nmode\\r\\n$10\\r\\nstandalone\\r\\n\
+$4\\r\\nrole\\r\\n$6\\r\\nmaster\\r\\n$7\\r\\nmodules\\r\\n*0\\r\\n+OK\\r\\n
+#10 run b.data HELLO 3
+#11 run b.data CLIENT TRACKING ON
+#12 take b.data 149
+b.data < %7\\r\\n$6\\r\\nserver\\r\\n$5\\r\\nredis\\r\\n$7\\r\\nversion\\r\\n$5\\r\\n7.0.0\\r\\n\
+$5\\r\\nproto\\r\\n:3\\r\\n$2\\r\\nid\\r\\n:3\\r\\n$4\\r\\nmode\\r\\n$10\\r\\nstandalone\\r\\n\
+$4\\r\\nrole\\r\\n$6\\r\\nmaster\\r\\n$7\\r\\nmodules\\r\\n*0\\r\\n+OK\\r\\n
+a miss 3
+b miss 3
+#13 run a.data HGETALL user:1
+#14 take a.data 43
+a.data < %2\\r\\n$4\\r\\nname\\r\\n$3\\r\\nAnn\\r\\n$4\\r\\ncity\\r\\n$4\\r\\nOslo\\r\\n
+#15 run b.data HGET user:1 city
+#16 take b.data 10
+b.data < $4\\r\\nOslo\\r\\n
+a hit %2\\r\\n$4\\r\\nname\\r\\n$3\\r\\nAnn\\r\\n$4\\r\\ncity\\r\\n\
+$4\\r\\nOslo\\r\\n from 13 at 16
+b sent 4
+#17 run b.data HSET user:1 city Rome
+#18 take b.data 41
+b.data < :0\\r\\n>2\\r\\n$10\\r\\ninvalidate\\r\\n*1\\r\\n$6\\r\\nuser:1\\r\\n
+#19 take a.data 37
+a.data < >2\\r\\n$10\\r\\ninvalidate\\r\\n*1\\r\\n$6\\r\\nuser:1\\r\\n
+a miss 4
+#20 run a.data HGETALL user:1
+#21 take a.data 43
+a.data < %2\\r\\n$4\\r\\nname\\r\\n$3\\r\\nAnn\\r\\n$4\\r\\ncity\\r\\n$4\\r\\nRome\\r\\n
+#22 tick 300001
+#23 take a.data 37
+a.data < >2\\r\\n$10\\r\\ninvalidate\\r\\n*1\\r\\n$6\\r\\nuser:1\\r\\n
+a complete 23
+
+0 raw r;say r SET a 1 PX 5;flow r;now 5;tick;say r GET a;flow r;now 6;say r GET a;flow r;now 0;\
+say r SET b 1 PX 1;flow r;now 7;tick;flow r;now 8;tick;tick
+#1 admit r 1
+#2 run r SET a 1 PX 5
+#3 take r 5
+r < +OK\\r\\n
+#4 run r GET a
+#5 take r 7
+r < $1\\r\\n1\\r\\n
+#6 run r GET a
+#7 take r 5
+r < $-1\\r\\n
+#8 run r SET b 1 PX 1
+#9 take r 5
+r < +OK\\r\\n
+#10 tick 8
+
+0 client x single 3 default 9;raw w;flow;ask x GET k;flow;say w FLUSHALL;flow w;ask x GET k;\
+flow x.data;show x;ask x GET k
+#1 admit x.data 1
+#2 admit w 2
+#3 run x.data HELLO 3
+#4 run x.data CLIENT TRACKING ON
+#5 take x.data 149
+x.data < %7\\r\\n$6\\r\\nserver\\r\\n$5\\r\\nredis\\r\\n$7\\r\\nversion\\r\\n$5\\r\\n7.0.0\\r\\n\
+$5\\r\\nproto\\r\\n:3\\r\\n$2\\r\\nid\\r\\n:1\\r\\n$4\\r\\nmode\\r\\n$10\\r\\nstandalone\\r\\n\
+$4\\r\\nrole\\r\\n$6\\r\\nmaster\\r\\n$7\\r\\nmodules\\r\\n*0\\r\\n+OK\\r\\n
+x miss 3
+#6 run x.data GET k
+#7 take x.data 3
+x.data < _\\r\\n
+#8 run w FLUSHALL
+#9 take w 5
+w < +OK\\r\\n
+x hit _\\r\\n from 6 at 7
+#10 take x.data 24
+x.data < >2\\r\\n$10\\r\\ninvalidate\\r\\n_\\r\\n
+x complete 10
+x miss 4";
+
+#[test]
+fn due_keys_are_told_at_a_tick_and_a_flush_by_null(rt: HostRuntime) -> Result<(), Fail> {
+    prints(&rt, rt.alloc(), MOMENTS)
 }
 
 const RAW_LINKS: &str = "\
@@ -312,7 +465,8 @@ fn goes_on(alloc: Global, block: &str) -> Result<bool, NoMemory> {
     let Some((number, schedule, want)) = parts_of(block) else {
         return Ok(false);
     };
-    let (text, fault) = played(alloc, LIMITS, schedule)?;
+    let mut text = Vec::new(alloc);
+    let fault = play(alloc, LIMITS, schedule, &mut text)?;
     let (front, rest) = text.as_slice().split_at(SET_UP.len().min(text.len()));
     Ok(fault == number && front == SET_UP.as_bytes() && is_text(rest, want))
 }
@@ -394,12 +548,16 @@ fn serve_piece(
     Ok(())
 }
 
-// What is printed where a request comes in two pieces, each followed by a reading of all.
-fn cut_at(alloc: Global, request: &[u8], at: usize) -> Result<Vec<u8>, NoMemory> {
-    let mut world = World::new(alloc, LIMITS)?;
+// Whether a request that comes in two pieces, each followed by a reading of all, runs once.
+fn runs_once(alloc: Global, request: &[u8], at: usize) -> Result<bool, NoMemory> {
     let mut text = Vec::new(alloc);
-    serve_cut(alloc, &mut world, request, at, &mut text)?;
-    Ok(text)
+    cut_at(alloc, request, at, &mut text)?;
+    Ok(is_text(text.as_slice(), RUN_ONCE))
+}
+
+fn cut_at(alloc: Global, request: &[u8], at: usize, text: &mut Vec<u8>) -> Result<(), NoMemory> {
+    let mut world = World::new(alloc, LIMITS)?;
+    serve_cut(alloc, &mut world, request, at, text)
 }
 
 fn serve_cut(
@@ -429,8 +587,7 @@ r < $-1\\r\\n";
 fn a_request_cut_anywhere_runs_once(rt: HostRuntime) -> Result<(), Fail> {
     assert_eq!(rt; REQUEST.len(), 22);
     for at in 0..22 {
-        let text = cut_at(rt.alloc(), REQUEST, at)?;
-        assert!(rt; is_text(text.as_slice(), RUN_ONCE), "{at}");
+        assert!(rt; runs_once(rt.alloc(), REQUEST, at)?, "{at}");
     }
     Ok(())
 }
@@ -457,6 +614,14 @@ const FULL: &str = "\
 
 1 0 raw r;flow r
 #1 admit r 1
+
+2 6 raw r;say r SET a 1 PX 5;serve r;now 6;tick
+#1 admit r 1
+#2 run r SET a 1 PX 5
+
+2 0 raw r;say r SET a 1 PX 5;serve r;now 5;tick
+#1 admit r 1
+#2 run r SET a 1 PX 5
 
 3 6 client x single 3 default 1;flow x.data
 #1 admit x.data 1

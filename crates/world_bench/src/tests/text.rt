@@ -4,6 +4,7 @@ use resp_value::{NoMemory, Octets, Proto, Value, Words};
 use script_text::{Event, LONGEST_LINE, Line, Lines, put_line, read_event};
 use shared_cache::{Caching, ClientMode, Shape};
 use std::alloc::Global;
+use std::process::Abort;
 use std::test::Fail;
 
 fn put(out: &mut Vec<u8>, bytes: &[u8]) -> Result<(), NoMemory> {
@@ -87,50 +88,68 @@ fn put_client(
     }
 }
 
-// The line that an event is read from.
-fn line_of(alloc: Global, event: &Event) -> Result<Vec<u8>, NoMemory> {
-    let mut out = Vec::new(alloc);
-    match event {
-        Event::Raw(link) => put_link(b"raw", link, &mut out)?,
-        Event::Say(link, words) => put_request(b"say", link, words, &mut out)?,
-        Event::Bytes(link, bytes) => {
-            put_link(b"bytes", link, &mut out)?;
-            put(&mut out, b" ")?;
-            put_printed(bytes.as_slice(), &mut out)?;
-        }
-        Event::Client(name, mode, keys) => put_client(name, mode, *keys, &mut out)?,
-        Event::Out(link, amount) => put_move(b"out", link, amount, &mut out)?,
-        Event::Serve(link, amount) => put_move(b"serve", link, amount, &mut out)?,
-        Event::Send(link, amount) => put_move(b"send", link, amount, &mut out)?,
-        Event::Recv(link, amount) => put_move(b"recv", link, amount, &mut out)?,
-        Event::Flow(link) => put_link(b"flow", link, &mut out)?,
-        Event::FlowAll => put(&mut out, b"flow")?,
-        Event::Cut(link) => put_link(b"cut", link, &mut out)?,
-        Event::Ask(name, query) => put_request(b"ask", name, query.words(), &mut out)?,
-        Event::Do(name, words) => put_request(b"do", name, words, &mut out)?,
-        Event::Poll(name, number) => {
-            put_link(b"poll", name, &mut out)?;
-            put_number(*number, &mut out)?;
-        }
-        Event::Show(name) => put_link(b"show", name, &mut out)?,
-    }
-    Ok(out)
+fn put_bytes(link: &Octets, bytes: &Octets, out: &mut Vec<u8>) -> Result<(), NoMemory> {
+    put_link(b"bytes", link, out)?;
+    put(out, b" ")?;
+    put_printed(bytes.as_slice(), out)
 }
 
-fn comes_back(alloc: Global, line: &str) -> Result<bool, NoMemory> {
+fn put_now(moment: u64, out: &mut Vec<u8>) -> Result<(), NoMemory> {
+    put(out, b"now")?;
+    put_number(moment, out)
+}
+
+fn put_poll(name: &Octets, number: u64, out: &mut Vec<u8>) -> Result<(), NoMemory> {
+    put_link(b"poll", name, out)?;
+    put_number(number, out)
+}
+
+// The line that an event is read from.
+fn put_event(event: &Event, out: &mut Vec<u8>) -> Result<(), NoMemory> {
+    match event {
+        Event::Raw(link) => put_link(b"raw", link, out),
+        Event::Say(link, words) => put_request(b"say", link, words, out),
+        Event::Bytes(link, bytes) => put_bytes(link, bytes, out),
+        Event::Client(name, mode, keys) => put_client(name, mode, *keys, out),
+        Event::Out(link, amount) => put_move(b"out", link, amount, out),
+        Event::Serve(link, amount) => put_move(b"serve", link, amount, out),
+        Event::Send(link, amount) => put_move(b"send", link, amount, out),
+        Event::Recv(link, amount) => put_move(b"recv", link, amount, out),
+        Event::Flow(link) => put_link(b"flow", link, out),
+        Event::FlowAll => put(out, b"flow"),
+        Event::Cut(link) => put_link(b"cut", link, out),
+        Event::Now(moment) => put_now(*moment, out),
+        Event::Tick => put(out, b"tick"),
+        Event::Ask(name, query) => put_request(b"ask", name, query.words(), out),
+        Event::Do(name, words) => put_request(b"do", name, words, out),
+        Event::Poll(name, number) => put_poll(name, *number, out),
+        Event::Show(name) => put_link(b"show", name, out),
+    }
+}
+
+fn has_line(alloc: Global, event: &Event, line: &str) -> Result<bool, NoMemory> {
+    let mut out = Vec::new(alloc);
+    put_event(event, &mut out)?;
+    Ok(out.as_slice() == line.as_bytes())
+}
+
+/// Whether a line is read as the event of the other line.
+fn is_read_as(alloc: Global, line: &str, other: &str) -> Result<bool, NoMemory> {
     match read_event(alloc, line.as_bytes())? {
-        Some(event) => {
-            let text = line_of(alloc, &event)?;
-            Ok(text.as_slice() == line.as_bytes())
-        }
+        Some(event) => has_line(alloc, &event, other),
         None => Ok(false),
     }
+}
+
+fn is_read(alloc: Global, line: &[u8]) -> Result<bool, NoMemory> {
+    let event = read_event(alloc, line)?;
+    Ok(event.is_some())
 }
 
 /// The first line of a table that is not read as the event whose line it is.
 fn first_changed<'a>(alloc: Global, table: &'a str) -> Result<Option<&'a str>, NoMemory> {
     for line in table.split('\n') {
-        if !comes_back(alloc, line)? {
+        if !is_read_as(alloc, line, line)? {
             return Ok(Some(line));
         }
     }
@@ -140,7 +159,7 @@ fn first_changed<'a>(alloc: Global, table: &'a str) -> Result<Option<&'a str>, N
 /// The first line of a table that is read.
 fn first_read<'a>(alloc: Global, table: &'a str) -> Result<Option<&'a str>, NoMemory> {
     for line in table.split('\n') {
-        if read_event(alloc, line.as_bytes())?.is_some() {
+        if is_read(alloc, line.as_bytes())? {
             return Ok(Some(line));
         }
     }
@@ -175,6 +194,9 @@ flow r
 flow flow
 flow
 cut r
+now 0
+now 18446744073709551615
+tick
 out x.data
 serve x.inv 21
 send 0.data 1
@@ -260,7 +282,16 @@ out r 1 1
 serve r 18446744073709551616
 send r 99999999999999999999999
 recv r \u{663}
-tick
+now
+now 
+now 01
+now -1
+now 1 1
+now 18446744073709551616
+tick 
+tick 1
+tick r
+Tick
  
  raw r
 ";
@@ -342,32 +373,40 @@ fn a_line_outside_the_grammar_has_no_event(rt: HostRuntime) -> Result<(), Fail> 
 
 #[test]
 fn a_query_is_read_in_any_case(rt: HostRuntime) -> Result<(), Fail> {
-    let event = read_event(rt.alloc(), b"ask x hGetAll K")?.ok_or("a line that is refused")?;
-    let line = line_of(rt.alloc(), &event)?;
-    assert_eq!(rt; line.as_slice(), b"ask x HGETALL K".as_slice());
+    assert!(rt; is_read_as(rt.alloc(), "ask x hGetAll K", "ask x HGETALL K")?);
     Ok(())
+}
+
+fn are_bytes(alloc: Global, line: &[u8], want: &[u8]) -> Result<bool, NoMemory> {
+    match read_event(alloc, line)? {
+        Some(Event::Bytes(_, bytes)) => Ok(bytes.as_slice() == want),
+        _ => Ok(false),
+    }
 }
 
 #[test]
 fn an_escape_is_read_as_its_byte(rt: HostRuntime) -> Result<(), Fail> {
     let line = b"bytes r \\r\\n\\s\\\\e\\\\x41\\x00\\x09\\x7f\\xff!~\\xabc";
     let want: &[u8] = b"\r\n \\e\\x41\x00\t\x7f\xff!~\xabc";
-    let event = read_event(rt.alloc(), line)?;
-    assert!(rt; matches!(&event, Some(Event::Bytes(_, bytes)) if bytes.as_slice() == want));
-    let event = read_event(rt.alloc(), b"bytes r \\e")?;
-    assert!(rt; matches!(&event, Some(Event::Bytes(_, bytes)) if bytes.as_slice().is_empty()));
+    assert!(rt; are_bytes(rt.alloc(), line, want)?);
+    assert!(rt; are_bytes(rt.alloc(), b"bytes r \\e", b"")?);
+    Ok(())
+}
+
+fn put_longest(line: &mut Vec<u8>) -> Result<(), NoMemory> {
+    for _ in line.len()..LONGEST_LINE {
+        line.push(b'a')?;
+    }
     Ok(())
 }
 
 #[test]
 fn the_longest_line_is_read_and_a_longer_one_is_not(rt: HostRuntime) -> Result<(), Fail> {
     let mut line = Vec::from_slice(rt.alloc(), b"say r ")?;
-    for _ in line.len()..LONGEST_LINE {
-        line.push(b'a')?;
-    }
-    assert!(rt; read_event(rt.alloc(), line.as_slice())?.is_some());
+    put_longest(&mut line)?;
+    assert!(rt; is_read(rt.alloc(), line.as_slice())?);
     line.push(b'a')?;
-    assert!(rt; read_event(rt.alloc(), line.as_slice())?.is_none());
+    assert!(rt; !is_read(rt.alloc(), line.as_slice())?);
     Ok(())
 }
 
@@ -414,6 +453,11 @@ fn entry_line(alloc: Global, row: usize) -> Result<Line, NoMemory> {
     }
 }
 
+fn is_entry_printed(alloc: Global, row: usize, want: &str) -> Result<bool, NoMemory> {
+    let line = entry_line(alloc, row)?;
+    is_printed(alloc, &line, want)
+}
+
 const ENTRY_LINES: &str = "\
 #1 admit x.data 1
 #10 run n1 SET \\\\e \\x7f
@@ -434,6 +478,11 @@ fn link_line(alloc: Global, row: usize) -> Result<Line, NoMemory> {
         2 => Ok(Line::Fault(link, 3)),
         _ => Ok(Line::End(link)),
     }
+}
+
+fn is_link_printed(alloc: Global, row: usize, want: &str) -> Result<bool, NoMemory> {
+    let line = link_line(alloc, row)?;
+    is_printed(alloc, &line, want)
 }
 
 const LINK_LINES: &str = "\
@@ -470,6 +519,11 @@ fn client_line(alloc: Global, row: usize) -> Result<Line, NoMemory> {
     }
 }
 
+fn is_client_printed(alloc: Global, row: usize, want: &str) -> Result<bool, NoMemory> {
+    let line = client_line(alloc, row)?;
+    is_printed(alloc, &line, want)
+}
+
 const CLIENT_ANSWERS: &str = "\
 x hit $3\\r\\na\\sb\\r\\n from 9 at 12
 x miss 3
@@ -484,8 +538,7 @@ x complete 21";
 #[test]
 fn an_entry_of_the_history_is_printed_with_its_number(rt: HostRuntime) -> Result<(), Fail> {
     for (row, want) in ENTRY_LINES.lines().enumerate() {
-        let line = entry_line(rt.alloc(), row)?;
-        assert!(rt; is_printed(rt.alloc(), &line, want)?, "{want}");
+        assert!(rt; is_entry_printed(rt.alloc(), row, want)?, "{want}");
     }
     Ok(())
 }
@@ -493,8 +546,7 @@ fn an_entry_of_the_history_is_printed_with_its_number(rt: HostRuntime) -> Result
 #[test]
 fn what_is_read_of_a_link_is_printed(rt: HostRuntime) -> Result<(), Fail> {
     for (row, want) in LINK_LINES.lines().enumerate() {
-        let line = link_line(rt.alloc(), row)?;
-        assert!(rt; is_printed(rt.alloc(), &line, want)?, "{want}");
+        assert!(rt; is_link_printed(rt.alloc(), row, want)?, "{want}");
     }
     Ok(())
 }
@@ -502,28 +554,41 @@ fn what_is_read_of_a_link_is_printed(rt: HostRuntime) -> Result<(), Fail> {
 #[test]
 fn what_a_client_answers_is_printed(rt: HostRuntime) -> Result<(), Fail> {
     for (row, want) in CLIENT_ANSWERS.lines().enumerate() {
-        let line = client_line(rt.alloc(), row)?;
-        assert!(rt; is_printed(rt.alloc(), &line, want)?, "{want}");
+        assert!(rt; is_client_printed(rt.alloc(), row, want)?, "{want}");
     }
     Ok(())
 }
 
-fn entry_lines(alloc: Global) -> Result<Lines, NoMemory> {
-    let mut lines = Lines::new(alloc);
+fn push_entry_lines(alloc: Global, lines: &mut Lines) -> Result<(), NoMemory> {
     for row in 0..6 {
         lines.push(entry_line(alloc, row)?)?;
     }
-    Ok(lines)
+    Ok(())
+}
+
+fn pops_last(lines: &mut Lines) -> bool {
+    matches!(lines.pop(), Some(Line::Take(_, _, 0)))
+}
+
+/// Whether the lines are printed as these, each with an LF.
+fn are_printed(alloc: Global, lines: &Lines, want: &str) -> Result<bool, NoMemory> {
+    let mut out = Vec::new(alloc);
+    put_all(lines, &mut out)?;
+    match out.as_slice() {
+        [printed @ .., b'\n'] => Ok(printed == want.as_bytes()),
+        _ => Ok(false),
+    }
+}
+
+fn print_entries<R: Abort>(rt: &R, alloc: Global, lines: &mut Lines) -> Result<(), Fail> {
+    push_entry_lines(alloc, lines)?;
+    assert!(rt; pops_last(lines));
+    assert!(rt; are_printed(alloc, lines, ENTRY_LINES)?);
+    Ok(())
 }
 
 #[test]
 fn lines_are_printed_one_after_the_other(rt: HostRuntime) -> Result<(), Fail> {
-    let mut lines = entry_lines(rt.alloc())?;
-    assert!(rt; matches!(lines.pop(), Some(Line::Take(_, _, 0))));
-    let mut out = Vec::new(rt.alloc());
-    put_all(&lines, &mut out)?;
-    let mut want = Vec::from_slice(rt.alloc(), ENTRY_LINES.as_bytes())?;
-    want.push(b'\n')?;
-    assert_eq!(rt; out.as_slice(), want.as_slice());
-    Ok(())
+    let mut lines = Lines::new(rt.alloc());
+    print_entries(&rt, rt.alloc(), &mut lines)
 }

@@ -2,7 +2,7 @@ use Rattle.std.proofs.Common.{◌≡◌, true, refl, sym, ap, subst, ◌∙◌}
 use Rattle.edge_links.specs.declared.counts.Counts.{Counts}
 use Rattle.serial_model.specs.History.{is_admitted}
 use Rattle.shared_book.specs.Own.{past_of}
-use Rattle.conn_worker.specs.Visits.{Delivers, DeliversPart}
+use Rattle.conn_worker.specs.Visits.{Delivers, DeliversPart, fault_of}
 use Rattle.conn_worker.proofs.Serving.{serving_none, hears_waits, hears_stops, delivered_serves}
 use Rattle.conn_worker.proofs.Serving.{delivered_ends, delivery_stops, end_counts_from}
 use Rattle.conn_worker.proofs.serve.serve_admitted.Goals as goal
@@ -39,7 +39,7 @@ deliver-requires-clause-lock g c =
     c.loop.connection
     (g.L.Link.left c.args.link.now) (g.L.Link.left c.loop.link)
     (g.L.Link.contents c.args.link.now) (g.L.Link.contents c.loop.link)
-    c.args.seat.now c.loop.seat c.loop.invariant.2 c.in-Ok.fault
+    c.args.seat.now c.loop.seat c.loop.invariant.2 c.in-Ok.heard
     c.hear_once-heard.new.connection c.hear_once-heard.new.seat
     (g.L.Link.left c.hear_once-heard.new.link) (g.L.Link.contents c.hear_once-heard.new.link)
     c.in-Ok.ensures.ok c.in-Ok.ensures.written in
@@ -51,7 +51,7 @@ deliver-requires-clause-within g c =
     c.loop.connection
     (g.L.Link.left c.args.link.now) (g.L.Link.left c.loop.link)
     (g.L.Link.contents c.args.link.now) (g.L.Link.contents c.loop.link)
-    c.args.seat.now c.loop.seat c.loop.invariant.2 c.in-Ok.fault
+    c.args.seat.now c.loop.seat c.loop.invariant.2 c.in-Ok.heard
     c.hear_once-heard.new.connection c.hear_once-heard.new.seat
     (g.L.Link.left c.hear_once-heard.new.link) (g.L.Link.contents c.hear_once-heard.new.link)
     c.in-Ok.ensures.ok c.in-Ok.ensures.written in
@@ -63,7 +63,7 @@ deliver-requires-clause-admitted g c =
     c.loop.connection
     (g.L.Link.left c.args.link.now) (g.L.Link.left c.loop.link)
     (g.L.Link.contents c.args.link.now) (g.L.Link.contents c.loop.link)
-    c.args.seat.now c.loop.seat c.loop.invariant.2 c.in-Ok.fault
+    c.args.seat.now c.loop.seat c.loop.invariant.2 c.in-Ok.heard
     c.hear_once-heard.new.connection c.hear_once-heard.new.seat
     (g.L.Link.left c.hear_once-heard.new.link) (g.L.Link.contents c.hear_once-heard.new.link)
     c.in-Ok.ensures.ok c.in-Ok.ensures.written in
@@ -75,11 +75,12 @@ returns-in-Err-deliver-clause-works g c =
     c.loop.connection
     (g.L.Link.left c.args.link.now) (g.L.Link.left c.loop.link)
     (g.L.Link.contents c.args.link.now) (g.L.Link.contents c.loop.link)
-    c.args.seat.now c.loop.seat c.loop.invariant.2 c.in-Ok.fault
+    c.args.seat.now c.loop.seat c.loop.invariant.2 c.in-Ok.heard
     c.hear_once-heard.new.connection c.hear_once-heard.new.seat
     (g.L.Link.left c.hear_once-heard.new.link) (g.L.Link.contents c.hear_once-heard.new.link)
     c.in-Ok.ensures.ok c.in-Ok.ensures.written in
-    delivery_stops (g.C.Clock.moment c.args.clock.now) c.args.connection.now.id c.in-Ok.fault
+    delivery_stops (g.C.Clock.moment c.args.clock.now) c.args.connection.now.id
+    (fault_of c.in-Ok.heard)
     c.hear_once-heard.new.connection (g.L.Link.left c.args.link.now)
     (g.L.Link.left c.hear_once-heard.new.link) (g.L.Link.contents c.args.link.now)
     (g.L.Link.contents c.hear_once-heard.new.link) c.args.seat.now c.hear_once-heard.new.seat w
@@ -96,11 +97,12 @@ returns-in-Some-fault-clause-works g c =
     c.loop.connection
     (g.L.Link.left c.args.link.now) (g.L.Link.left c.loop.link)
     (g.L.Link.contents c.args.link.now) (g.L.Link.contents c.loop.link)
-    c.args.seat.now c.loop.seat c.loop.invariant.2 c.in-Ok.fault
+    c.args.seat.now c.loop.seat c.loop.invariant.2 c.in-Ok.heard
     c.hear_once-heard.new.connection c.hear_once-heard.new.seat
     (g.L.Link.left c.hear_once-heard.new.link) (g.L.Link.contents c.hear_once-heard.new.link)
     c.in-Ok.ensures.ok c.in-Ok.ensures.written in
-    delivered_ends (g.C.Clock.moment c.args.clock.now) c.args.connection.now.id c.in-Ok.fault
+    delivered_ends (g.C.Clock.moment c.args.clock.now) c.args.connection.now.id
+    (fault_of c.in-Ok.heard)
     c.hear_once-heard.new.connection (g.L.Link.left c.args.link.now)
     (g.L.Link.left c.hear_once-heard.new.link) (g.L.Link.contents c.args.link.now)
     (g.L.Link.contents c.hear_once-heard.new.link) c.args.seat.now c.hear_once-heard.new.seat w
@@ -109,7 +111,7 @@ returns-in-Some-fault-clause-works g c =
     c.hear_once-heard.new.link)
     (g.L.Link.contents c.deliver.new.link) c.hear_once-heard.new.seat c.deliver.new.seat) w.id_is
     c.in-Ok-deliver.ensures.ok)
-    c.in-Some-fault.fault c.in-Some-fault.is
+    c.in-Some-fault.fault (sym c.fault-fault.ensures ∙ c.in-Some-fault.is)
 
 pub loop-preserved : goal.loop-preserved
 loop-preserved g c =
@@ -117,14 +119,15 @@ loop-preserved g c =
     c.loop.connection
     (g.L.Link.left c.args.link.now) (g.L.Link.left c.loop.link)
     (g.L.Link.contents c.args.link.now) (g.L.Link.contents c.loop.link)
-    c.args.seat.now c.loop.seat c.loop.invariant.2 c.in-Ok.fault
+    c.args.seat.now c.loop.seat c.loop.invariant.2 c.in-Ok.heard
     c.hear_once-heard.new.connection c.hear_once-heard.new.seat
     (g.L.Link.left c.hear_once-heard.new.link) (g.L.Link.contents c.hear_once-heard.new.link)
     c.in-Ok.ensures.ok c.in-Ok.ensures.written in
     let same = c.in-Ok-deliver.ensures.counts in (
       tt,
       tt,
-      delivered_serves (g.C.Clock.moment c.args.clock.now) c.args.connection.now.id c.in-Ok.fault
+      delivered_serves (g.C.Clock.moment c.args.clock.now) c.args.connection.now.id
+          (fault_of c.in-Ok.heard)
           c.hear_once-heard.new.connection (g.L.Link.left c.args.link.now)
           (g.L.Link.left c.hear_once-heard.new.link) (g.L.Link.contents c.args.link.now)
           (g.L.Link.contents c.hear_once-heard.new.link) c.args.seat.now c.hear_once-heard.new.seat
@@ -134,7 +137,7 @@ loop-preserved g c =
           (g.L.Link.contents c.hear_once-heard.new.link)
           (g.L.Link.contents c.deliver.new.link) c.hear_once-heard.new.seat c.deliver.new.seat)
           w.id_is
-          c.in-Ok-deliver.ensures.ok) c.in-None-fault.is,
+          c.in-Ok-deliver.ensures.ok) (sym c.fault-fault.ensures ∙ c.in-None-fault.is),
       ap (λ (k : Counts). k.faults) same ∙ (c.in-Ok.ensures.counts.0 ∙ c.loop.invariant.3),
       ap (λ (k : Counts). k.ends) same ∙ (c.in-Ok.ensures.counts.1 ∙ c.loop.invariant.4),
     )

@@ -1,18 +1,26 @@
-use Rattle.std.proofs.Common.{◌≡◌, Ok, ap, sym, ◌∙◌, true}
-use Rattle.serial_model.specs.History.{is_served}
-use Rattle.server_book.proofs.Plans.{data_served, hello_planned, served_as}
+use Rattle.std.proofs.Common.{ap, sym, ◌∙◌, Ok}
+use Rattle.command_words.specs.declared.command.WordFault.TheVariants.{Unknown}
+use Rattle.serial_model.specs.History.{served}
+use Rattle.server_book.proofs.Plans.{fault_planned, hello_planned, other_unknown, tracking_unknown}
 use Rattle.server_book.proofs.plan.plan_command.Goals as goal
 
 pub returns-in-Hello : goal.returns-in-Hello
 returns-in-Hello c =
-    let command = c.args.command.now in
-    let on : is_served command ≡ true = sym c.is_served.ensures ∙ c.if-not-is_served.false in
-    hello_planned c.plan_hello.result c.args.by c.args.words.now c.in-Hello.word (Ok command) _
-    c.args.space.now c.args.moment c.plan_hello.ensures (served_as command on ∙ ap Ok c.in-Hello.is)
+    hello_planned c.plan_hello.result c.args.by c.args.words.now c.in-Hello.word
+    (served (Ok c.args.command.now)) c.plan_hello.ensures
+    (ap (λ x. served (Ok x)) c.in-Hello.is)
+
+pub returns-else-is_served_tracking : goal.returns-else-is_served_tracking
+returns-else-is_served_tracking c =
+    fault_planned c.plan_fault.result c.args.by c.args.words.now Unknown
+    (served (Ok c.args.command.now)) c.plan_fault.ensures
+    (ap (λ x. served (Ok x)) c.in-ClientTracking.is
+    ∙ tracking_unknown c.in-ClientTracking.options
+    (sym c.is_served_tracking.ensures ∙ c.if-is_served_tracking.false))
 
 pub returns-in_default : goal.returns-in_default
 returns-in_default c =
-    let command = c.args.command.now in
-    let on : is_served command ≡ true = sym c.is_served.ensures ∙ c.if-not-is_served.false in
-    data_served c.plan_data.result c.args.by c.args.words.now command _ c.args.space.now
-    c.args.moment c.plan_data.ensures (served_as command on)
+    fault_planned c.plan_fault-in_default.result c.args.by c.args.words.now Unknown
+    (served (Ok c.args.command.now)) c.plan_fault-in_default.ensures
+    (other_unknown c.args.command.now c.requires.other c.in_default.not-Hello
+    c.in_default.not-ClientTracking)

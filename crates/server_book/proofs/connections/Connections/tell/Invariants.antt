@@ -1,11 +1,12 @@
 use Rattle.std.proofs.Common.{◌≡◌, take}
 use Rattle.serial_model.specs.History.{routed}
-use Rattle.serial_model.specs.Tracking.{told_of}
-use Rattle.server_book.specs.Sendings.{modes_of, with_sendings}
+use Rattle.serial_model.specs.Tracking.{told_to}
+use Rattle.server_book.specs.Sendings.{modes_of, told_keys, with_sendings}
 use Rattle.server_book.proofs.connections.Connections.tell.Given as goal
 
 abbrev pub invariant-loop-place : goal.invariant-loop-place
 invariant-loop-place l =
     l.self
     ≡ with_sendings l.entry
-    (routed (modes_of l.initial.self.items) (told_of l.key (take l.place l.to))) l.initial.self
+    (routed (modes_of l.initial.self.items) (told_to (told_keys l.fn.key) (take l.place l.to)))
+    l.initial.self

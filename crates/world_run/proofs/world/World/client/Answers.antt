@@ -35,40 +35,31 @@ returns-then-is_taken c =
     (sym c.is_served.ensures ∙ c.if-not-is_served.false)
     (sym c.is_taken.ensures ∙ c.if-is_taken.true))
 
-pub returns-in_err-state : goal.returns-in_err-state
-unfolding step
-returns-in_err-state c =
-    let p = err_from_is_err_and c.from_residual.result c.from_residual.ensures.1 in
-    rw p.1 (rw p.2
-    (code.client_before c.args.name.now c.args.mode.now c.args.capacity c.args.self.now
-    (sym c.is_served.ensures ∙ c.if-not-is_served.false)
-    (sym c.is_taken.ensures ∙ c.if-is_taken.false) c.args.lines.now))
-
 pub returns-in_err-link : goal.returns-in_err-link
 unfolding step
 returns-in_err-link c =
-    let p = err_from_is_err_and c.from_residual-in_err-link.result
-    c.from_residual-in_err-link.ensures.1 in
+    let p = err_from_is_err_and c.from_residual.result
+    c.from_residual.ensures.1 in
     rw p.1 (rw p.2
     (code.client_before c.args.name.now c.args.mode.now c.args.capacity c.args.self.now
     (sym c.is_served.ensures ∙ c.if-not-is_served.false)
     (sym c.is_taken.ensures ∙ c.if-is_taken.false) c.args.lines.now))
 
-pub returns-in_err-copy : goal.returns-in_err-copy
+pub returns-in_err-called : goal.returns-in_err-called
 unfolding step
-returns-in_err-copy c =
-    let p = err_from_is_err_and c.from_residual-in_err-copy.result
-    c.from_residual-in_err-copy.ensures.1 in
+returns-in_err-called c =
+    let p = err_from_is_err_and c.from_residual-in_err-called.result
+    c.from_residual-in_err-called.ensures.1 in
     rw p.1 (rw p.2
     (code.client_before c.args.name.now c.args.mode.now c.args.capacity c.args.self.now
     (sym c.is_served.ensures ∙ c.if-not-is_served.false)
     (sym c.is_taken.ensures ∙ c.if-is_taken.false) c.args.lines.now))
 
-pub returns-in_err-copy-2 : goal.returns-in_err-copy-2
+pub returns-in_err-reached : goal.returns-in_err-reached
 unfolding step
-returns-in_err-copy-2 c =
-    let p = err_from_is_err_and c.from_residual-in_err-copy-2.result
-    c.from_residual-in_err-copy-2.ensures.1 in
+returns-in_err-reached c =
+    let p = err_from_is_err_and c.from_residual-in_err-reached.result
+    c.from_residual-in_err-reached.ensures.1 in
     rw p.1 (rw p.2
     (code.client_before c.args.name.now c.args.mode.now c.args.capacity c.args.self.now
     (sym c.is_served.ensures ∙ c.if-not-is_served.false)
@@ -86,6 +77,26 @@ returns-in_err-reserve c =
     let free = ap (is_taken name) c.self.view_is ∙ sym c.is_taken.ensures ∙ c.if-is_taken.false in
     let p = err_from_is_err_and c.from_residual-in_err-reserve.result
     c.from_residual-in_err-reserve.ensures.1 in
+    rw p.1 (rw p.2
+    (subst (λ (v : WorldState). Stops (client_step name mode capacity v) lines NoMemory
+    (world i.links c.reserve.new.self.items) lines) c.self.view_is
+    (subst (λ ms. Stops (client_step name mode capacity w) lines NoMemory (world i.links ms) lines)
+    (sym c.reserve.ensures.items)
+    (code.client_before name mode capacity w
+    (sym c.is_served.ensures ∙ c.if-not-is_served.false) free lines))))
+
+pub returns-in_err-state : goal.returns-in_err-state
+unfolding step
+returns-in_err-state c =
+    let i = c.self.inside in
+    let name = c.args.name.now in
+    let mode = c.args.mode.now in
+    let capacity = c.args.capacity in
+    let lines = c.args.lines.now in
+    let w = world i.links i.members.items in
+    let free = ap (is_taken name) c.self.view_is ∙ sym c.is_taken.ensures ∙ c.if-is_taken.false in
+    let p = err_from_is_err_and c.from_residual-in_err-state.result
+    c.from_residual-in_err-state.ensures.1 in
     rw p.1 (rw p.2
     (subst (λ (v : WorldState). Stops (client_step name mode capacity v) lines NoMemory
     (world i.links c.reserve.new.self.items) lines) c.self.view_is
@@ -145,18 +156,18 @@ returns c =
     c.new-member.ensures
     ∙ ap (λ n. record {
       name = n;
-      link = c.in_ok-copy-2.field-0;
+      link = c.in_ok-reached.reached;
       place = c.count-place.result;
       state = c.in_ok-state.state;
       reader = begun;
-    }) c.in_ok-copy.ensures
+    }) c.in_ok-called.ensures
     ∙ ap (λ l. record {
       name = name;
       link = l;
       place = c.count-place.result;
       state = c.in_ok-state.state;
       reader = begun;
-    }) (c.in_ok-copy-2.ensures ∙ c.in_ok-link.ensures)
+    }) (c.in_ok-reached.ensures ∙ c.in_ok-link.ensures)
     ∙ ap (λ p. record {
       name = name;
       link = data_link name;
@@ -183,6 +194,12 @@ returns c =
 
 pub invariant_of-self : goal.invariant_of-self
 invariant_of-self c =
+    let i = c.self.inside in
+    subst (λ ms. AreOver i.living (world i.links ms)) (sym c.reserve.ensures.items)
+    c.self.invariant
+
+pub invariant_of-self-in_err-state : goal.invariant_of-self-in_err-state
+invariant_of-self-in_err-state c =
     let i = c.self.inside in
     subst (λ ms. AreOver i.living (world i.links ms)) (sym c.reserve.ensures.items)
     c.self.invariant
@@ -236,18 +253,18 @@ invariant_of-self-2 c =
     c.new-member.ensures
     ∙ ap (λ n. record {
       name = n;
-      link = c.in_ok-copy-2.field-0;
+      link = c.in_ok-reached.reached;
       place = c.count-place.result;
       state = c.in_ok-state.state;
       reader = begun;
-    }) c.in_ok-copy.ensures
+    }) c.in_ok-called.ensures
     ∙ ap (λ l. record {
       name = name;
       link = l;
       place = c.count-place.result;
       state = c.in_ok-state.state;
       reader = begun;
-    }) (c.in_ok-copy-2.ensures ∙ c.in_ok-link.ensures)
+    }) (c.in_ok-reached.ensures ∙ c.in_ok-link.ensures)
     ∙ ap (λ p. record {
       name = name;
       link = data_link name;

@@ -1,6 +1,11 @@
-use Rattle.std.proofs.Common.{subst, sym}
+use Rattle.std.proofs.Common.{Ok, subst, sym}
 use Rattle.script_text.specs.declared.event.Event.{Event}
+use Rattle.script_text.specs.declared.event.Event.TheVariants.{Now, Tick}
+use Rattle.server_links.specs.LinkEvent as link_event
+use Rattle.world_run.specs.Members.{world}
 use Rattle.world_run.specs.World.{StepGives, step}
+use Rattle.world_run.specs.WorldState.{WorldState}
+use Rattle.world_run.proofs.WorldCode.{clock_gives, links_give, over_step}
 use Rattle.world_run.proofs.world.World.step.Goals as goal
 
 pub returns-in-Serve : goal.returns-in-Serve
@@ -20,3 +25,45 @@ unfolding step
 returns-in-Cut c =
     subst (λ (e : Event). StepGives c.args.self.now e c.args.lines.now c.play-in-Cut.result
     c.play-in-Cut.new.self c.play-in-Cut.new.lines) (sym c.in-Cut.is) c.play-in-Cut.ensures
+
+pub invariant_of-self : goal.invariant_of-self
+unfolding step
+invariant_of-self c =
+    let i = c.self.inside in
+    over_step i.living (Now c.in-Now.moment) (world i.links i.members.items)
+    (world c.set_clock.new.self i.members.items) c.args.lines.now (Ok (tt {0})) c.args.lines.now
+    (clock_gives i.links c.set_clock.new.self i.members.items c.args.lines.now c.in-Now.moment
+    c.set_clock.ensures) c.self.invariant
+
+pub returns-in-Now : goal.returns-in-Now
+unfolding step
+returns-in-Now c =
+    let i = c.self.inside in
+    let v = world c.set_clock.new.self i.members.items in
+    subst (λ (e : Event). StepGives c.args.self.now e c.args.lines.now (Ok (tt {0})) v
+    c.args.lines.now) (sym c.in-Now.is)
+    (subst (λ (w : WorldState). StepGives w (Now c.in-Now.moment) c.args.lines.now (Ok (tt {0})) v
+    c.args.lines.now) c.self.view_is
+    (clock_gives i.links c.set_clock.new.self i.members.items c.args.lines.now c.in-Now.moment
+    c.set_clock.ensures))
+
+pub invariant_of-self-in-Tick : goal.invariant_of-self-in-Tick
+unfolding step
+invariant_of-self-in-Tick c =
+    let i = c.self-in-Tick.inside in
+    over_step i.living Tick (world i.links i.members.items)
+    (world c.tick.new.self i.members.items) c.args.lines.now c.tick.result c.tick.new.lines
+    (links_give link_event.Tick i.links c.tick.new.self i.members.items c.args.lines.now
+    c.tick.result c.tick.new.lines c.tick.ensures) c.self-in-Tick.invariant
+
+pub returns-in-Tick : goal.returns-in-Tick
+unfolding step
+returns-in-Tick c =
+    let i = c.self-in-Tick.inside in
+    let v = world c.tick.new.self i.members.items in
+    subst (λ (e : Event). StepGives c.args.self.now e c.args.lines.now c.tick.result v
+    c.tick.new.lines) (sym c.in-Tick.is)
+    (subst (λ (w : WorldState). StepGives w Tick c.args.lines.now c.tick.result v
+    c.tick.new.lines) c.self-in-Tick.view_is
+    (links_give link_event.Tick i.links c.tick.new.self i.members.items c.args.lines.now
+    c.tick.result c.tick.new.lines c.tick.ensures))

@@ -1,0 +1,231 @@
+-- The values that a link gave are got, one after another.
+use Rattle.std.proofs.Common.{◌≡◌, ◌<◌, ℕ, List, [], ◌∷◌, ◌++◌, length, true, Some, Ok}
+use Rattle.std.proofs.Common.{refl, sym, ap, subst, ◌∙◌, append_assoc, append-nil}
+use Rattle.std.specs.Prelude.{Option}
+use Rattle.std.specs.List.{All}
+use Rattle.std.proofs.lemmas.List.Elements.{All-nil, All-cons}
+use Rattle.resp_value.specs.Tree.{Tree}
+use Rattle.resp_value.specs.ValueTree.{tree_of}
+use Rattle.resp_value.specs.declared.value.Value.{Value}
+use Rattle.resp_stream.specs.declared.fault.StreamFault.{StreamFault}
+use Rattle.resp_stream.specs.declared.fault.StreamFault.TheVariants as stream
+use Rattle.resp_stream.specs.declared.fault.FaultPlace.{FaultPlace}
+use Rattle.resp_stream.specs.Parsed.{Whole, More}
+use Rattle.resp_stream.specs.Parse.{Batch, parse_values}
+use Rattle.resp_stream.specs.Readers.{IsFaultOf, FaultGives, ValueGives}
+use Rattle.resp_stream.specs.Stream.{Stream, moved_on, fault_place}
+use Rattle.resp_stream.specs.Value.{value_at}
+use Rattle.resp_stream.proofs.Parse.{takes_values}
+use Rattle.seat_turns.specs.Own.{past_of, IsWithin, Grows}
+use Rattle.seat_turns.proofs.Growing.{grows_none, grows_then}
+use Rattle.shared_cache.specs.declared.log.Wire.{Wire}
+use Rattle.shared_cache.specs.declared.log.Wire.TheVariants.{Main}
+use Rattle.shared_cache.specs.declared.log.LogEntry.TheVariants as entry
+use Rattle.shared_cache.specs.declared.log.ClientCall.TheVariants as call
+use Rattle.shared_cache.specs.declared.log.ClientReply.TheVariants as reply
+use Rattle.shared_cache.specs.declared.log.ClientRefusal.{ClientRefusal}
+use Rattle.shared_cache.specs.declared.log.ClientRefusal.TheVariants as refusal
+use Rattle.shared_cache.specs.Log.{is_ended}
+use Rattle.shared_cache.specs.Steps.{client_step, is_log_full}
+use Rattle.shared_client.specs.Turns.{Place, Turn, setup_in, setup_at, Gets, GetsNot, EndsBy}
+use Rattle.shared_client.specs.Turns.{Refuses}
+use Rattle.client_link.specs.declared.pump_end.PumpEnd.{PumpEnd}
+use Rattle.client_link.specs.declared.pump_end.PumpEnd.TheVariants as ended
+use Rattle.client_link.specs.Pumps.{IsWork, IsStop, end_by, gots_in, gave}
+use Rattle.client_link.specs.Pumps.{GetsAll, GetsPart, GettingStops}
+use Rattle.client_link.proofs.Values.{values_whole, values_more, values_bad}
+use Rattle.client_link.proofs.Steps.{got_down, got_full}
+
+-- what was got so far, and what is left of the stream
+pub record Getting (before now : Stream) (old new : Place) : Type 0 where
+  pub turns : List Turn
+  pub grows : Grows old new turns
+  pub work : All IsWork turns
+  pub gave_none : gave (setup_at old) turns ≡ []
+  pub items : (parse_values before).items ≡ gots_in turns ++ (parse_values now).items
+  pub stream_is : (parse_values now).stream ≡ (parse_values before).stream
+  pub fault_is : (parse_values now).fault ≡ (parse_values before).fault
+
+pub getting_none : (s : Stream) (k : Place) → IsWithin k → Getting s s k k
+getting_none s k is = record {
+  turns = [];
+  grows = grows_none k is;
+  work = All-nil IsWork;
+  gave_none = refl;
+  items = refl;
+  stream_is = refl;
+  fault_is = refl;
+}
+
+module _ (before now : Stream) (old new : Place) (r : Getting before now old new) where
+  setup_same : setup_at new ≡ setup_at old
+  setup_same = ap setup_in r.grows.setup
+
+  module _ (value : Value) (s : Stream) (is : value_at now.rest ≡ Whole (tree_of value) s.rest)
+      (moved : s ≡ moved_on now s.rest) where
+    whole : parse_values now ≡ record {
+      items = tree_of value ∷ (parse_values s).items;
+      stream =
+          (parse_values s).stream;
+      fault = (parse_values s).fault;
+    }
+    whole = values_whole now (tree_of value) s.rest is
+        ∙ ap (λ q. record {
+          items = tree_of value ∷ (parse_values q).items;
+          stream =
+              (parse_values q).stream;
+          fault = (parse_values q).fault;
+        }) (sym moved)
+
+    items_then : (parse_values before).items
+        ≡ (gots_in r.turns ++ tree_of value ∷ []) ++ (parse_values s).items
+    items_then = r.items
+        ∙ ap (λ (p : Batch Tree). gots_in r.turns ++ p.items) whole
+        ∙ sym (append_assoc (gots_in r.turns) (tree_of value ∷ []) (parse_values s).items)
+
+    -- the value was got
+    pub getting_more : (last : Place) → Gets value new last → Getting before s old last
+    getting_more last g =
+        let t : Turn = (entry.Got Main value, g.past) in
+        record {
+          turns = t ∷ r.turns;
+          grows = grows_then old new last r.turns (t ∷ []) r.grows g.grows;
+          work = All-cons IsWork t r.turns refl r.work;
+          gave_none = append-nil (gave (setup_at old) r.turns) ∙ r.gave_none;
+          items = items_then;
+          stream_is = sym (ap (λ (p : Batch Tree). p.stream) whole) ∙ r.stream_is;
+          fault_is = sym (ap (λ (p : Batch Tree). p.fault) whole) ∙ r.fault_is;
+        }
+
+    -- the value ended the link
+    ends : (c : ClientRefusal) (last : Place) → EndsBy value c new last
+        → GetsPart (ended.Refused c) before old last
+    ends c last g =
+        let t : Turn = (entry.Bad Main value, g.past) in
+        record {
+          turns = r.turns;
+          ending = t ∷ [];
+          grows = grows_then old new last r.turns (t ∷ []) r.grows g.grows;
+          work = r.work;
+          gave_none = r.gave_none;
+          gots = ((parse_values s).items, sym items_then);
+          stops = record {
+            value = value;
+            past = g.past;
+            turns_are = refl;
+            step = subst (λ u. client_step u g.past (call.Got Main value)
+                ≡ record { reply = reply.Refused c; past = entry.Bad Main value ∷ g.past })
+                setup_same g.step;
+          };
+        }
+
+    -- the value was not taken
+    left : (cause : PumpEnd) (last : Place) → Grows new last []
+        → GettingStops cause before [] r.turns (setup_at old) last
+        → GetsPart cause before old last
+    left cause last g stop = record {
+      turns = r.turns;
+      ending = [];
+      grows = grows_then old new last r.turns [] r.grows g;
+      work = r.work;
+      gave_none = r.gave_none;
+      gots = ((parse_values now).items, sym r.items);
+      stops = stop;
+    }
+
+    down : (w : Wire) (last : Place) → Refuses (call.Got Main value) (refusal.Down w) new last
+        → IsStop ended.Done last
+    down w last h =
+        subst (λ s. is_ended s.mode Main (past_of last) ≡ true)
+        (sym (ap setup_in h.1.grows.setup))
+        (got_down (setup_at new) (past_of last) value w h.1.step)
+
+    full : (n : ℕ) (last : Place) → Refuses (call.Got Main value) (refusal.LogFull n) new last
+        → IsStop ended.LogFull last
+    full n last h =
+        subst (λ s. is_log_full s (past_of last) ≡ true)
+        (sym (ap setup_in h.1.grows.setup))
+        (got_full (setup_at new) (past_of last) value n h.1.step)
+
+    pub getting_stops : (c : ClientRefusal) (last : Place) → GetsNot value c new last
+        → GetsPart (end_by c) before old last
+    getting_stops (refusal.Down w) last h =
+        left ended.Done last h.1.grows (refl, down w last h)
+    getting_stops (refusal.LogFull n) last h =
+        left ended.LogFull last h.1.grows (refl, full n last h)
+    getting_stops refusal.NoMemory last h = left ended.NoMemory last h.1.grows (refl, tt)
+    getting_stops refusal.Worn last h = left ended.Worn last h.1.grows (refl, h.1.tickets)
+    getting_stops (refusal.Unexpected w) last h = ends (refusal.Unexpected w) last h
+    getting_stops (refusal.BadPush w) last h = ends (refusal.BadPush w) last h
+    getting_stops (refusal.SetupRefused w) last h = ends (refusal.SetupRefused w) last h
+    getting_stops refusal.NotReady last h = absurd h.0
+    getting_stops refusal.Control last h = absurd h.0
+    getting_stops (refusal.NoNumber n) last h = absurd h.0
+
+  -- nothing whole is left
+  pub gets_all : (s : Stream) → value_at now.rest ≡ More → s ≡ now → GetsAll before s old new
+  gets_all s more is =
+      let last = values_more now more in
+      record {
+        turns = r.turns;
+        grows = r.grows;
+        work = r.work;
+        gave_none = r.gave_none;
+        gots = sym (append-nil (gots_in r.turns))
+            ∙ ap (λ l. gots_in r.turns ++ l)
+            (sym (ap (λ (p : Batch Tree). p.items) last)) ∙ sym r.items;
+        fault = sym r.fault_is ∙ ap (λ (p : Batch Tree). p.fault) last;
+        reader = is ∙ sym (ap (λ (p : Batch Tree). p.stream) last) ∙ r.stream_is;
+      }
+
+  faulty : (f : StreamFault) → IsFaultOf value_at now f
+      → GetsPart (ended.BadStream f) before old new
+  faulty f bad =
+      let last = values_bad now bad.fault bad.left bad.is in
+      let none = ap (λ (p : Batch Tree). p.items) last in
+      record {
+        turns = r.turns;
+        ending = [];
+        grows = r.grows;
+        work = r.work;
+        gave_none = r.gave_none;
+        gots = ((parse_values now).items, sym r.items);
+        stops = (
+          refl,
+          sym (append-nil (gots_in r.turns)) ∙ ap (λ l. gots_in r.turns ++ l) (sym none)
+              ∙ sym r.items,
+          sym r.fault_is ∙ ap (λ (p : Batch Tree). p.fault) last ∙ ap Some (sym bad.place),
+        );
+      }
+
+  -- the bytes are at fault
+  pub gets_bad : (s : Stream) (f : StreamFault) (place : FaultPlace)
+      → FaultGives value_at now now s f → Some place ≡ fault_place f
+      → GetsPart (ended.BadStream f) before old new
+  gets_bad s stream.NoMemory place g at = absurd (let none : ⊥ = cc in none)
+  gets_bad s (stream.BadByte o) place g at = faulty (stream.BadByte o) g.0
+  gets_bad s (stream.TooLong o n) place g at = faulty (stream.TooLong o n) g.0
+  gets_bad s (stream.TooDeep o) place g at = faulty (stream.TooDeep o) g.0
+  gets_bad s (stream.NotServed o b) place g at = faulty (stream.NotServed o b) g.0
+
+  pub gets_part : GetsPart ended.NoMemory before old new
+  gets_part = record {
+    turns = r.turns;
+    ending = [];
+    grows = r.grows;
+    work = r.work;
+    gave_none = r.gave_none;
+    gots = ((parse_values now).items, sym r.items);
+    stops = (refl, tt);
+  }
+
+pub getting_less : (now new : Stream) (value : Value)
+    → value_at now.rest ≡ Whole (tree_of value) new.rest → length new.rest < length now.rest
+getting_less now new value is = takes_values.some now (tree_of value) new.rest is
+
+pub part_none : (before : Stream) (k : Place) → IsWithin k → GetsPart ended.NoMemory before k k
+part_none before k is = gets_part before before k k (getting_none before k is)
+
+pub gives_at : (old new : Stream) (r s : Option Value) → ValueGives old new (Ok r) → r ≡ s
+    → ValueGives old new (Ok s)
+gives_at old new r s g e = subst (λ x. ValueGives old new (Ok x)) e g

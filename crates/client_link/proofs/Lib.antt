@@ -1,0 +1,9 @@
+pub mod Steps
+pub mod Values
+pub mod Faults
+pub mod Reading
+pub mod Turning
+pub mod Delivering
+pub mod Getting
+pub mod Pumping
+pub mod Calling

@@ -1,0 +1,55 @@
+-- What the turns of a pump got and gave, one list after another.
+use Rattle.std.proofs.Common.{◌≡◌, ◌≤◌, ℕ, List, [], ◌∷◌, ◌++◌, length, sym, ap}
+use Rattle.std.proofs.Common.{◌∙◌, append_assoc, append-nil, arith}
+use Rattle.std.specs.List.{All}
+use Rattle.turn_lock.specs.History.{IsPrefix as IsBefore}
+use Rattle.shared_cache.specs.declared.log.Wire.TheVariants.{Main}
+use Rattle.shared_cache.specs.declared.log.LogEntry.{LogEntry}
+use Rattle.shared_cache.specs.declared.log.LogEntry.TheVariants as entry
+use Rattle.shared_cache.specs.Held.{Setup}
+use Rattle.shared_cache.specs.Out.{out}
+use Rattle.shared_client.specs.Turns.{Turn}
+use Rattle.client_link.specs.Pumps.{got_in, gots_in, gave_in, gave, IsTaken}
+use Rattle.client_link.proofs.Steps.{out_begins}
+
+pub gots_append : (xs ys : List Turn) → gots_in (xs ++ ys) ≡ gots_in ys ++ gots_in xs
+gots_append [] ys = sym (append-nil (gots_in ys))
+gots_append (x ∷ xs) ys =
+    ap (λ z. z ++ got_in x) (gots_append xs ys)
+    ∙ append_assoc (gots_in ys) (gots_in xs) (got_in x)
+
+pub gave_append : (s : Setup) (xs ys : List Turn) → gave s (xs ++ ys) ≡ gave s ys ++ gave s xs
+gave_append s [] ys = sym (append-nil (gave s ys))
+gave_append s (x ∷ xs) ys =
+    ap (λ z. z ++ gave_in s x) (gave_append s xs ys)
+    ∙ append_assoc (gave s ys) (gave s xs) (gave_in s x)
+
+module _ (s : Setup) where
+  taken_one : (a b : ℕ) (t : Turn) → a ≤ b → IsTaken s a t → IsTaken s b t
+  taken_one a b (entry.Got w v, past) le h = omega (arith, le, h)
+  taken_one a b (entry.TakeOut w n, past) le h = tt
+  taken_one a b (entry.Ask q, past) le h = tt
+  taken_one a b (entry.Send ws, past) le h = tt
+  taken_one a b (entry.Poll n, past) le h = tt
+  taken_one a b (entry.End w, past) le h = tt
+  taken_one a b (entry.Bad w v, past) le h = tt
+
+  pub taken_more : (a b : ℕ) → a ≤ b → (ts : List Turn) → All (IsTaken s a) ts
+      → All (IsTaken s b) ts
+  taken_more a b le ts h k d lt = taken_one a b _ le (h k d lt)
+
+  stands_taken : (past : List LogEntry) (n : ℕ) (t : Turn) → length (out s Main past) ≤ n
+      → IsBefore (t.0 ∷ t.1) past → IsTaken s n t
+  stands_taken past n (entry.Got w v, before) le h =
+      let o = out_begins s (entry.Got w v ∷ before) past h in omega (arith, le, o)
+  stands_taken past n (entry.TakeOut w m, before) le h = tt
+  stands_taken past n (entry.Ask q, before) le h = tt
+  stands_taken past n (entry.Send ws, before) le h = tt
+  stands_taken past n (entry.Poll m, before) le h = tt
+  stands_taken past n (entry.End w, before) le h = tt
+  stands_taken past n (entry.Bad w v, before) le h = tt
+
+  -- turns of a log all of whose bytes were taken
+  pub all_taken : (past : List LogEntry) (n : ℕ) (ts : List Turn) → length (out s Main past) ≤ n
+      → All (λ t. IsBefore (t.0 ∷ t.1) past) ts → All (IsTaken s n) ts
+  all_taken past n ts le h k d lt = stands_taken past n _ le (h k d lt)

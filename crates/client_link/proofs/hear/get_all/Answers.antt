@@ -1,0 +1,40 @@
+use Rattle.std.proofs.Common.{sym, subst}
+use Rattle.client_link.specs.Pumps.{GetsPart}
+use Rattle.client_link.proofs.Getting.{getting_none, getting_more, getting_stops, gets_all}
+use Rattle.client_link.proofs.Getting.{gets_bad, getting_less, gives_at}
+use Rattle.client_link.proofs.hear.get_all.Goals as goal
+
+pub values-init : goal.values-init
+values-init g c = getting_none c.args.reader.now c.args.seat.now c.requires.within
+
+pub values-smaller : goal.values-smaller
+values-smaller g c =
+    let given = gives_at _ _ _ _ c.in-Ok-Some.ensures.gives c.in-Ok-Some.field-0-is in
+    getting_less c.values.reader c.next_value.new.self c.in-Ok-Some.value given.0
+
+pub values-preserved : goal.values-preserved
+values-preserved g c =
+    let given = gives_at _ _ _ _ c.in-Ok-Some.ensures.gives c.in-Ok-Some.field-0-is in
+    getting_more c.args.reader.now c.values.reader c.args.seat.now c.values.seat
+    c.values.invariant c.in-Ok-Some.value c.next_value.new.self given.0 given.1
+    c.got.new.seat c.in-Ok.ensures.ok
+
+pub returns-in-Err-got-clause-err : goal.returns-in-Err-got-clause-err
+returns-in-Err-got-clause-err g c =
+    let given = gives_at _ _ _ _ c.in-Ok-Some.ensures.gives c.in-Ok-Some.field-0-is in
+    subst (λ e. GetsPart e c.args.reader.now c.args.seat.now c.got.new.seat) (sym c.end_by.ensures)
+    (getting_stops c.args.reader.now c.values.reader c.args.seat.now c.values.seat
+    c.values.invariant c.in-Ok-Some.value c.next_value.new.self given.0 given.1
+    c.in-Err-got.refusal c.got.new.seat c.in-Err-got.ensures.err)
+
+pub returns-in-Ok-None-clause-ok : goal.returns-in-Ok-None-clause-ok
+returns-in-Ok-None-clause-ok g c =
+    let given = gives_at _ _ _ _ c.in-Ok-None.ensures.gives c.in-Ok-None.field-0-is in
+    gets_all c.args.reader.now c.values.reader c.args.seat.now c.values.seat
+    c.values.invariant c.next_value.new.self given.0 given.1
+
+pub returns-in-Some-clause-err : goal.returns-in-Some-clause-err
+returns-in-Some-clause-err g c =
+    gets_bad c.args.reader.now c.values.reader c.args.seat.now c.values.seat
+    c.values.invariant c.next_value.new.self c.in-Err.fault c.in-Some.field-0
+    c.in-Err.ensures.gives c.in-Some.ensures

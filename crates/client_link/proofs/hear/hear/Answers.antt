@@ -1,0 +1,8 @@
+use Rattle.client_link.specs.Pumps.{Piece, Part}
+use Rattle.client_link.proofs.hear.hear.Goals as goal
+
+pub returns-in-Ok-clause-ok : goal.returns-in-Ok-clause-ok
+returns-in-Ok-clause-ok g c = Piece _ c.in-Bytes.ensures.bytes.2 c.in-Ok.ensures.ok
+
+pub returns-in-Err-clause-err : goal.returns-in-Err-clause-err
+returns-in-Err-clause-err g c = Part _ c.in-Bytes.ensures.bytes.2 c.in-Err.ensures.err

@@ -1,0 +1,15 @@
+use Rattle.client_link.proofs.Pumping.{closes_pumps, closes_counts}
+use Rattle.client_link.proofs.link_pump.pump.Goals as goal
+
+pub returns-clause-pumps : goal.returns-clause-pumps
+returns-clause-pumps g c =
+    closes_pumps c.run-ended.result c.close-ended.result (g.L.Link.left c.args.link.now)
+    (g.L.Link.left c.run-ended.new.link) (g.L.Link.contents c.args.link.now)
+    (g.L.Link.contents c.run-ended.new.link) c.args.seat.now c.run-ended.new.seat
+    c.close-ended.new.seat c.run-ended.ensures.runs c.close-ended.ensures
+
+pub returns-clause-counts : goal.returns-clause-counts
+returns-clause-counts g c =
+    closes_counts c.run-ended.result c.close-ended.result (g.L.Link.counts c.args.link.now)
+    (g.L.Link.counts c.run-ended.new.link) c.run-ended.new.seat c.close-ended.new.seat
+    c.close-ended.ensures c.run-ended.ensures.counts

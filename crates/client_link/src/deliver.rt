@@ -1,0 +1,40 @@
+//! What is queued for a client's link is taken out and written.
+ghost use Rattle.std.specs.Prelude.{◌≡◌, IfErr, OnOk};
+ghost use Rattle.std.specs.Io.KnownBytes.{Keeps};
+ghost use Rattle.seat_turns.specs.Own.{IsWithin};
+ghost use Rattle.client_link.specs.Pumps.{Delivers, DeliversPart, DeliveryCounts};
+
+use super::pump_end::{PumpEnd, end_by};
+use edge_links::{Link, LinkFailed, write_all};
+use shared_client::{SharedClient, take_out};
+use std::sync::Wait;
+use turn_lock::{Seat, TurnLock};
+
+/// Takes out what is queued, until nothing is, and writes it to the link.
+pub fn deliver<R: Wait, L: Link>(
+    rt: &R,
+    lock: &TurnLock<SharedClient>,
+    seat: &mut Seat<SharedClient>,
+    link: &mut L,
+) -> Result<(), PumpEnd>
+    requires lock { seat.old.lock ≡ lock.now }
+    requires within { IsWithin seat.old }
+    ensures ok { OnOk result
+        (Delivers (L.contents link.old) (L.contents link.new) seat.old seat.new) }
+    ensures err { IfErr result
+        (λ e. DeliversPart e (L.contents link.old) (L.contents link.new) seat.old seat.new) }
+    ensures unread { Keeps (L.left link.old) (L.left link.new) }
+    ensures counts { DeliveryCounts result (L.counts link.old) (L.counts link.new) }
+{
+    for _ in rt.forever() {
+        match take_out(rt, lock, seat) {
+            Ok(Some(bytes)) => match write_all(link, bytes.as_slice()) {
+                Ok(()) => {}
+                Err(LinkFailed) => return Err(PumpEnd::LinkFault),
+            },
+            Ok(None) => return Ok(()),
+            Err(refusal) => return Err(end_by(refusal)),
+        }
+    }
+    unreachable!()
+}

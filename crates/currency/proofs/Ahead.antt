@@ -1,0 +1,143 @@
+-- What a Run tells of before its reply stands ahead of the reply.
+use Rattle.std.proofs.Common.{◌≡◌, ◌+◌, ◌<◌, ◌≤◌, ℕ, zero, suc, List, [], ◌∷◌, ◌++◌, length}
+use Rattle.std.proofs.Common.{Bool, true, false, cond, refl, ap, sym, ◌∙◌, arith, Some}
+use Rattle.std.proofs.Common.{inl, inr, get_or, length-append}
+use Rattle.std.specs.Prelude.{slice_get, ◌==◌}
+use Rattle.std.specs.List.{filter, list_any}
+use Rattle.std.proofs.lemmas.Bool.{both_ways, cases_lt, eqb-true}
+use Rattle.std.proofs.lemmas.Option.{slice_get_within, slice_get-get_or}
+use Rattle.resp_value.specs.declared.value.Proto.TheVariants.{Three}
+use Rattle.serial_model.specs.declared.history.Limits.{Limits}
+use Rattle.serial_model.specs.declared.history.Entry.{Entry}
+use Rattle.serial_model.specs.declared.history.Entry.TheVariants.{Run}
+use Rattle.serial_model.specs.Tracking.{push_of, names_key, tells, drop_group}
+use Rattle.serial_model.specs.History.{Sending, Message, End, sent_to, sent, mode, modes, routed}
+use Rattle.serial_model.specs.History.{expiry_group, own_group, drops, reply_of}
+use Rattle.serial_model.proofs.Tables.{sent_to-append}
+use Rattle.currency.proofs.Lists.{get_parts, get_front, get_behind, one_passes}
+use Rattle.currency.proofs.Runs.{Older}
+use Rattle.currency.proofs.Sent.{Told, both, is_sent_to, routed_at, sent_le, sent_older}
+use Rattle.currency.proofs.Replies.{is_reply_sent, routed_no_reply}
+
+-- none of those passes the test
+none_kept : {A : Type 0} (p : A → Bool) (xs : List A) → filter p xs ≡ [] → (i : ℕ) (y : A)
+    → slice_get xs i ≡ Some y → p y ≡ false
+none_kept p [] e i y at = cc
+none_kept p (x ∷ xs) e zero y at =
+    let same : x ≡ y = cc in
+    elim (p x) as (λ b. p x ≡ b → cond b (x ∷ filter p xs) (filter p xs) ≡ [] → p y ≡ false) [
+      | true ↦ λ h f. absurd (let no : ⊥ = cc in no)
+      | false ↦ λ h f. ap p (sym same) ∙ h
+    ] refl e
+none_kept p (x ∷ xs) e (suc i) y at =
+    elim (p x) as (λ b. cond b (x ∷ filter p xs) (filter p xs) ≡ [] → p y ≡ false) [
+      | true ↦ λ f. absurd (let no : ⊥ = cc in no)
+      | false ↦ λ f. none_kept p xs f i y at
+    ] e
+
+-- one of those that pass it
+pub one_kept : {A : Type 0} (p : A → Bool) (xs : List A) (i : ℕ) (y : A)
+    → slice_get (filter p xs) i ≡ Some y → p y ≡ true
+one_kept p [] i y at = cc
+one_kept p (x ∷ xs) zero y at =
+    elim (p x) as (λ b. p x ≡ b → slice_get (cond b (x ∷ filter p xs) (filter p xs)) 0 ≡ Some y
+    → p y ≡ true) [
+      | true ↦ λ h e. let same : x ≡ y = cc in ap p (sym same) ∙ h
+      | false ↦ λ h e. one_kept p xs 0 y e
+    ] refl at
+one_kept p (x ∷ xs) (suc i) y at =
+    elim (p x) as (λ b. slice_get (cond b (x ∷ filter p xs) (filter p xs)) (suc i) ≡ Some y
+    → p y ≡ true) [
+      | true ↦ λ e. one_kept p xs i y e
+      | false ↦ λ e. one_kept p xs (suc i) y e
+    ] at
+
+some_same : (a b : ℕ × Sending) → Some a ≡ Some b → a ≡ b
+some_same a b e = cc
+
+module _ (c : ℕ) (l : Limits) (past up : List Entry) (id : ℕ) (words : List (List ℕ)) (m : ℕ)
+    (o : Older (Run id words m ∷ up) past) where
+  abbrev n : ℕ
+  n = length up + 1
+
+  abbrev before : List (ℕ × Sending)
+  before = routed (modes l up) (expiry_group l up m)
+
+  abbrev behind : List (ℕ × Sending)
+  behind =
+      reply_of l up id words m
+      ∷ (routed (modes l (Run id words m ∷ up))
+      (own_group l up id words m ++ drop_group (drops l up id words m)) ++ [])
+
+  abbrev early : List (ℕ × Sending)
+  early = sent_to n c before
+
+  abbrev late : List (ℕ × Sending)
+  late = sent_to n c behind
+
+  sent_is : sent l c (Run id words m ∷ up) ≡ sent l c up ++ (early ++ late)
+  sent_is = ap (λ ss. sent l c up ++ ss) (sent_to-append n c before behind)
+
+  -- no reply of the entry stands among those
+  reply_behind : (place : ℕ) (s : ℕ × Sending)
+      → slice_get (sent l c (Run id words m ∷ up)) place ≡ Some s
+      → s.0 ≡ n → is_reply_sent s ≡ true → length (sent l c up) + length early ≤ place
+  reply_behind place s at number reply =
+      elim (get_parts (sent l c up) (early ++ late) place s
+      (ap (λ ss. slice_get ss place) (sym sent_is) ∙ at)) [
+        | inl h ↦
+            let le = sent_le c l up place s h in
+            absurd (let no : ⊥ = omega (arith, le, number) in no)
+        | inr b ↦
+            elim (get_parts early late b.at s b.there) [
+              | inl e ↦
+                  absurd (both_ways (is_reply_sent s)
+                  (none_kept is_reply_sent early
+                  (routed_no_reply n c (modes l up) (expiry_group l up m)) b.at s e) reply)
+              | inr d ↦ omega (arith, b.is, d.is)
+            ]
+      ]
+
+  reply_is_behind : (place : ℕ) (s : ℕ × Sending) → slice_get (sent l c past) place ≡ Some s
+      → s.0 ≡ n → is_reply_sent s ≡ true → length (sent l c up) + length early ≤ place
+  reply_is_behind place s at number reply =
+      let all = sent l c (Run id words m ∷ up) in
+      elim (cases_lt place (length all)) [
+        | inl lt ↦
+            let d = get_or all place (0, End) in
+            let there : slice_get all place ≡ Some d = slice_get-get_or all place (0, End) lt in
+            let same = some_same d s
+            (sym (sent_older c l (Run id words m ∷ up) past o place d there) ∙ at) in
+            reply_behind place d there (ap (λ (y : ℕ × Sending). y.0) same ∙ number)
+            (ap is_reply_sent same ∙ reply)
+        | inr ge ↦
+            let count = ap length sent_is in
+            let a = length-append (sent l c up) (early ++ late) in
+            let b = length-append early late in
+            omega (arith, count, a, b, ge)
+      ]
+
+  -- whom it tells in its first group has a push of it ahead of each reply of the entry
+  pub told_ahead : (key : List ℕ) → list_any (tells c key) (expiry_group l up m) ≡ true
+      → (mode l c up).proto ≡ Three → (place : ℕ) (s : ℕ × Sending)
+      → slice_get (sent l c past) place ≡ Some s → s.0 ≡ n → is_reply_sent s ≡ true
+      → (t : Told c l (Run id words m ∷ up) n key) × (t.place < place)
+  told_ahead key told three place s at number reply =
+      let p = one_passes (tells c key) (expiry_group l up m) told in
+      let h = both c l (p.one.to == c) (names_key p.one.keys key) p.passes in
+      let r = routed_at c l (modes l up) (expiry_group l up m) p.at p.one p.there
+      (ap (λ d. (mode l d up).proto) (eqb-true p.one.to c h.0) ∙ three) in
+      let push : Sending = Message Three (push_of p.one.keys) in
+      let e = is_sent_to c n before r.0 (p.one.to, push) r.1 h.0 in
+      let within = slice_get_within early e.0 (n, push) e.1 in
+      let le = reply_is_behind place s at number reply in (
+        record {
+          place = length (sent l c up) + e.0;
+          keys = p.one.keys;
+          there = ap (λ ss. slice_get ss (length (sent l c up) + e.0)) sent_is
+              ∙ get_behind (sent l c up) (early ++ late) e.0 (n, push)
+              (get_front early late e.0 (n, push) e.1);
+          names = h.1;
+        },
+        omega (arith, within, le),
+      )

@@ -1,0 +1,227 @@
+-- Some lines of a script that were read, and more.
+use Rattle.std.proofs.Common.{◌≡◌, ◌<◌, ◌≤◌, ◌+◌, ℕ, List, [], ◌∷◌, ◌++◌, Some, None, Ok, Err}
+use Rattle.std.proofs.Common.{refl, sym, ap, subst, ◌∙◌, append_assoc, append-nil, length, arith}
+use Rattle.std.proofs.Common.{Bool, true, false, cond, leb-true, length-append, Result}
+use Rattle.std.specs.Prelude.{nat_le, ◌==◌, IfSome, ⊤}
+use Rattle.std.proofs.lemmas.List.Elements.{All-append, All-cons, All-nil}
+use Rattle.std.specs.List.{All, slice_split}
+use Rattle.std.specs.declared.option.Option.{Option}
+use Rattle.std.specs.Io.KnownBytes.{Consumes, IsAtEnd}
+use Rattle.edge_links.proofs.Bytes.{consumes_none, consumes_more}
+use Rattle.edge_lines.specs.Streams.{IsPlain}
+use Rattle.edge_lines.specs.TextLines.{ArePlain, ended, text_lines}
+use Rattle.edge_lines.proofs.Splitting.{lines_ended, line_alone, line_begun, plain_more, ended_more}
+use Rattle.edge_lines.proofs.Splitting.{line_ended}
+use Rattle.script_text.specs.Events.{longest_line}
+use Rattle.script_text.specs.declared.script_line.ScriptLine.{ScriptLine}
+use Rattle.script_text.specs.Scripts.{IsValidLine, script_line_of, script_line_of_parts}
+use Rattle.script_text.proofs.Scripts.{script_lines_are_valid}
+use Rattle.script_program.specs.declared.read.ScriptRead.{ScriptRead}
+use Rattle.script_program.specs.declared.read.ScriptRead.TheVariants as read
+use Rattle.script_program.specs.Pushed.{Pushes}
+use Rattle.script_program.specs.Scripts.{ReadsAs, line_at, line_then, most_lines, script_of}
+
+too_long : (n : ℕ) (line : List ℕ) → longest_line < length line → line_at n line ≡ None
+unfolding script_line_of
+too_long n line h =
+    let P : Bool → Type 0 = λ b. nat_le (length line) longest_line ≡ b
+    → nat_le (length line) longest_line ≡ false in
+    let test : nat_le (length line) longest_line ≡ false =
+    elim (nat_le (length line) longest_line) as P [
+      | true ↦ λ t. absurd
+          (let le : length line ≤ longest_line = leb-true (length line) longest_line t in
+          omega arith)
+      | false ↦ λ t. t
+    ] refl in
+    let out : script_line_of line ≡ None =
+    ap (λ b. cond b (script_line_of_parts (slice_split (λ b. b == 32) line)) None) test in
+    elim (nat_le n most_lines) as
+    (λ b. cond b (script_line_of line) None ≡ None) [ true ↦ out | false ↦ refl ]
+
+-- ---- the lines so far, and more behind them
+
+abbrev pub all_then : List ScriptLine → Result (List ScriptLine) ℕ → Result (List ScriptLine) ℕ
+all_then calls (Ok more) = Ok (calls ++ more)
+all_then calls (Err bad) = Err bad
+
+all_none : (r : Result (List ScriptLine) ℕ) → all_then [] r ≡ r
+all_none (Ok more) = refl
+all_none (Err bad) = refl
+
+all_more : (calls : List ScriptLine) (line : ScriptLine) (n : ℕ) (r : Result (List ScriptLine) ℕ)
+    → all_then calls (line_then (Some line) n r) ≡ all_then (calls ++ line ∷ []) r
+all_more calls line n (Ok more) = ap Ok (sym (append_assoc calls (line ∷ []) more))
+all_more calls line n (Err bad) = refl
+
+-- these lines were read, each with its LF, and are these calls; the next has this number
+pub record Standing (number : ℕ) (calls : List ScriptLine) (in0 in1 : Option (List ℕ)) : Type 0
+  where
+    pub lines : List (List ℕ)
+    pub consumed : Consumes in0 in1 (ended lines)
+    pub plain : ArePlain lines
+    pub then : (more : List (List ℕ))
+        → script_of 1 (lines ++ more) ≡ all_then calls (script_of number more)
+
+pub standing_none : (input : Option (List ℕ)) (calls : List ScriptLine) → calls ≡ []
+    → Standing 1 calls input input
+standing_none input calls none = record {
+  lines = [];
+  consumed = consumes_none input;
+  plain = tt;
+  then = λ more. sym (ap (λ c. all_then c (script_of 1 more)) none
+      ∙ all_none (script_of 1 more));
+}
+
+module _ (number : ℕ) (calls : List ScriptLine) (in0 in1 in2 : Option (List ℕ))
+    (s : Standing number calls in0 in1) where
+  -- one more line, with what may follow it
+  line_then_more : (text : List ℕ) (line : ScriptLine) (more : List (List ℕ))
+      → line_at number text ≡ Some line
+      → script_of 1 (s.lines ++ text ∷ more)
+      ≡ all_then (calls ++ line ∷ []) (script_of (number + 1) more)
+  line_then_more text line more is =
+      let rest = script_of (number + 1) more in
+      s.then (text ∷ more) ∙ ap (λ o. all_then calls (line_then o number rest)) is
+      ∙ all_more calls line number rest
+
+  pub standing_more : (text items : List ℕ) (line : ScriptLine) (new : List ScriptLine)
+      → text ≡ items → IsPlain items → Consumes in1 in2 (items ++ 10 ∷ [])
+      → line_at number text ≡ Some line → new ≡ calls ++ line ∷ []
+      → Standing (number + 1) new in0 in2
+  standing_more text items line new same p c is new_is = record {
+    lines = s.lines ++ items ∷ [];
+    consumed = subst (λ l. Consumes in0 in2 l) (sym (ended_more s.lines items))
+        (consumes_more in0 in1 in2 (ended s.lines) (items ++ 10 ∷ []) s.consumed c);
+    plain = plain_more s.lines items s.plain p;
+    then = λ more. ap (script_of 1) (append_assoc s.lines (items ∷ []) more)
+        ∙ line_then_more items line more (subst (λ t. line_at number t ≡ Some line) same is)
+        ∙ ap (λ z. all_then z (script_of (number + 1) more)) (sym new_is);
+  }
+
+  -- the whole input, where it is known
+  whole_lines : (more : List ℕ) → Consumes in1 in2 more → (P : List (List ℕ) → Type 0)
+      → ((rest : List ℕ) → (IsAtEnd in2 → rest ≡ []) → P (s.lines ++ text_lines (more ++ rest)))
+      → IfSome in0 (λ text. P (text_lines text))
+  whole_lines more c P p =
+      by_input in0 in2 (consumes_more in0 in1 in2 (ended s.lines) more s.consumed c) p
+    where
+      by_input : (a b : Option (List ℕ)) → Consumes a b (ended s.lines ++ more)
+          → ((rest : List ℕ) → (IsAtEnd b → rest ≡ []) → P (s.lines ++ text_lines (more ++ rest)))
+          → IfSome a (λ text. P (text_lines text))
+      by_input None b k q = tt
+      by_input (Some x) None k q = absurd k
+      by_input (Some x) (Some y) k q =
+          subst P (sym (ap text_lines (k ∙ append_assoc (ended s.lines) more y)
+          ∙ lines_ended s.lines (more ++ y) s.plain)) (q y (λ e. e))
+
+  pub ends_here : Consumes in1 in2 [] → IsAtEnd in2
+      → IfSome in0 (λ text. script_of 1 (text_lines text) ≡ Ok calls)
+  ends_here c end = whole_lines [] c (λ ls. script_of 1 ls ≡ Ok calls)
+      (λ rest none. ap (λ r. script_of 1 (s.lines ++ text_lines r)) (none end)
+      ∙ s.then [] ∙ ap Ok (append-nil calls))
+
+  pub ends_last : (text items : List ℕ) (line : ScriptLine) (new : List ScriptLine)
+      → text ≡ items → IsPlain items → (items ≡ [] → ⊥) → Consumes in1 in2 items → IsAtEnd in2
+      → line_at number text ≡ Some line → new ≡ calls ++ line ∷ []
+      → IfSome in0 (λ t. script_of 1 (text_lines t) ≡ Ok new)
+  ends_last text items line new same p some c end is new_is =
+      whole_lines items c (λ ls. script_of 1 ls ≡ Ok new)
+      (λ rest none. ap (λ r. script_of 1 (s.lines ++ text_lines (items ++ r))) (none end)
+      ∙ ap (λ r. script_of 1 (s.lines ++ text_lines r)) (append-nil items)
+      ∙ ap (λ ls. script_of 1 (s.lines ++ ls)) (line_alone items p some)
+      ∙ line_then_more items line [] (subst (λ t. line_at number t ≡ Some line) same is)
+      ∙ ap Ok (append-nil (calls ++ line ∷ [])) ∙ ap Ok (sym new_is))
+
+  -- the next line, and what is behind it, where it is outside the grammar
+  bad_next : (line : List ℕ) (more : List (List ℕ)) → line_at number line ≡ None
+      → script_of 1 (s.lines ++ line ∷ more) ≡ Err number
+  bad_next line more none =
+      s.then (line ∷ more)
+      ∙ ap (λ o. all_then calls (line_then o number (script_of (number + 1) more))) none
+
+  pub bad_line : (text items : List ℕ) → text ≡ items → IsPlain items
+      → Consumes in1 in2 (items ++ 10 ∷ []) → line_at number text ≡ None
+      → IfSome in0 (λ t. script_of 1 (text_lines t) ≡ Err number)
+  bad_line text items same p c none =
+      whole_lines (items ++ 10 ∷ []) c (λ ls. script_of 1 ls ≡ Err number)
+      (λ rest end. ap (λ l. script_of 1 (s.lines ++ text_lines l))
+      (append_assoc items (10 ∷ []) rest)
+      ∙ ap (λ ls. script_of 1 (s.lines ++ ls)) (line_ended items rest p)
+      ∙ bad_next items (text_lines rest) (subst (λ t. line_at number t ≡ None) same none))
+
+  pub bad_last : (text items : List ℕ) → text ≡ items → IsPlain items → (items ≡ [] → ⊥)
+      → Consumes in1 in2 items → IsAtEnd in2 → line_at number text ≡ None
+      → IfSome in0 (λ t. script_of 1 (text_lines t) ≡ Err number)
+  bad_last text items same p some c end none =
+      whole_lines items c (λ ls. script_of 1 ls ≡ Err number)
+      (λ rest at. ap (λ r. script_of 1 (s.lines ++ text_lines (items ++ r))) (at end)
+      ∙ ap (λ r. script_of 1 (s.lines ++ text_lines r)) (append-nil items)
+      ∙ ap (λ ls. script_of 1 (s.lines ++ ls)) (line_alone items p some)
+      ∙ bad_next items [] (subst (λ t. line_at number t ≡ None) same none))
+
+  pub bad_long : (part : List ℕ) → IsPlain part → longest_line < length part
+      → Consumes in1 in2 part → IfSome in0 (λ t. script_of 1 (text_lines t) ≡ Err number)
+  bad_long part p long c =
+      whole_lines part c (λ ls. script_of 1 ls ≡ Err number)
+      (λ rest at.
+      let some : part ≡ [] → ⊥ = λ e. (let n : length part ≡ 0 = ap length e in omega arith) in
+      let k = line_begun part rest p some in
+      ap (λ ls. script_of 1 (s.lines ++ ls)) k.2
+      ∙ bad_next (part ++ k.0) k.1 (too_long number (part ++ k.0)
+      (let n = length-append part k.0 in omega arith)))
+
+-- ---- one line
+
+pub line_valid : (n : ℕ) (text : List ℕ) (line : ScriptLine) → line_at n text ≡ Some line
+    → IsValidLine line
+line_valid n text line is = by_case (nat_le n most_lines) is
+  where
+    by_case : (b : Bool) → cond b (script_line_of text) None ≡ Some line → IsValidLine line
+    by_case true e = script_lines_are_valid text line e
+    by_case false e = absurd (let no : ⊥ = cc in no)
+
+-- a line of the grammar is not past the last number
+pub numbered : (n : ℕ) (text : List ℕ) (line : ScriptLine) → line_at n text ≡ Some line
+    → n ≤ most_lines
+numbered n text line is = by_case (nat_le n most_lines) refl is
+  where
+    by_case : (b : Bool) → nat_le n most_lines ≡ b → cond b (script_line_of text) None ≡ Some line
+        → n ≤ most_lines
+    by_case true t e = leb-true n most_lines t
+    by_case false t e = absurd (let no : ⊥ = cc in no)
+
+pub pushed_valid : (n : ℕ) (text : List ℕ) (line : ScriptLine) (calls new : List ScriptLine)
+    → line_at n text ≡ Some line → new ≡ calls ++ line ∷ [] → All IsValidLine calls
+    → All IsValidLine new
+pushed_valid n text line calls new is new_is all =
+    subst (All IsValidLine) (sym new_is)
+    (All-append IsValidLine calls (line ∷ []) all
+    (All-cons IsValidLine line [] (line_valid n text line is) (All-nil IsValidLine)))
+
+-- ---- a line that was not added
+
+always : (o : Option (List ℕ)) → IfSome o (λ t. ⊤)
+always None = tt
+always (Some x) = tt
+
+module _ (number : ℕ) (calls : List ScriptLine) (in0 in1 in2 : Option (List ℕ))
+    (s : Standing number calls in0 in1) where
+  pub line_refused : (r : ScriptRead) (text items : List ℕ) (new : List ScriptLine)
+      → text ≡ items → IsPlain items → Consumes in1 in2 (items ++ 10 ∷ [])
+      → Pushes (Some r) number text calls new → IfSome in0 (λ t. ReadsAs r (text_lines t))
+  line_refused (read.BadLine bad) text items new same p c h =
+      subst (λ n. IfSome in0 (λ t. script_of 1 (text_lines t) ≡ Err n)) (sym h.0)
+      (bad_line number calls in0 in1 in2 s text items same p c h.1)
+  line_refused read.NoMemory text items new same p c h = always in0
+  line_refused (read.Lines lines) text items new same p c h = absurd h
+  line_refused read.Failed text items new same p c h = absurd h
+
+  pub last_refused : (r : ScriptRead) (text items : List ℕ) (new : List ScriptLine)
+      → text ≡ items → IsPlain items → (items ≡ [] → ⊥) → Consumes in1 in2 items → IsAtEnd in2
+      → Pushes (Some r) number text calls new → IfSome in0 (λ t. ReadsAs r (text_lines t))
+  last_refused (read.BadLine bad) text items new same p some c end h =
+      subst (λ n. IfSome in0 (λ t. script_of 1 (text_lines t) ≡ Err n)) (sym h.0)
+      (bad_last number calls in0 in1 in2 s text items same p some c end h.1)
+  last_refused read.NoMemory text items new same p some c end h = always in0
+  last_refused (read.Lines lines) text items new same p some c end h = absurd h
+  last_refused read.Failed text items new same p some c end h = absurd h

@@ -1,0 +1,63 @@
+-- What is written of a script's run.
+use Rattle.std.proofs.Common.{◌≡◌, ℕ, List, [], ◌++◌, Some, None, Ok, Err, Result, refl, append-nil}
+use Rattle.std.specs.Prelude.{IfSome}
+use Rattle.std.specs.declared.option.Option.{Option}
+use Rattle.resp_value.proofs.Prefixes.{prefix_by}
+use Rattle.edge_links.specs.declared.counts.Counts.{Counts}
+use Rattle.edge_links.specs.Counts.{EndCounted}
+use Rattle.edge_lines.specs.declared.lines.SinkFailed.{SinkFailed}
+use Rattle.edge_lines.specs.Streams.{AppendsFirst}
+use Rattle.edge_lines.specs.TextLines.{text_lines}
+use Rattle.edge_lines.proofs.Bytes.{first_longer}
+use Rattle.client_link.specs.declared.pump_end.PumpEnd.{PumpEnd}
+use Rattle.client_link.specs.Pumps.{end_number}
+use Rattle.script_text.specs.declared.script_line.ScriptLine.{ScriptLine}
+use Rattle.script_run.specs.declared.answer.Answer.{Answer}
+use Rattle.script_run.specs.declared.reports.SessionEnd.{SessionEnd}
+use Rattle.script_run.specs.declared.reports.SessionEnd.TheVariants as ended
+use Rattle.script_run.specs.Reports.{end_text, ends_of, no_tally, session_end, tally_after}
+use Rattle.script_run.specs.Reports.{text_after}
+use Rattle.script_program.specs.declared.run.ScriptEnd.{ScriptEnd}
+use Rattle.script_program.specs.declared.run.ScriptEnd.TheVariants as end
+use Rattle.script_program.specs.declared.run.ScriptSession.{ScriptSession}
+use Rattle.script_program.specs.Scripts.{script_of}
+use Rattle.script_program.specs.Written.{Reports, SessionWrites, WritesScript}
+
+-- the sink failed in the answers
+pub text_cut : (e : SessionEnd) (text : List ℕ) (old new : Option (List ℕ))
+    → AppendsFirst old new text → AppendsFirst old new (text ++ end_text e)
+text_cut e text old new a =
+    first_longer old new text (text ++ end_text e)
+    (prefix_by text (text ++ end_text e) (end_text e) refl) a
+
+pub reported : (lines : List ScriptLine) (answers : List (List Answer)) (pump : PumpEnd)
+    (e : SessionEnd) (text : List ℕ) → text ≡ text_after no_tally 1 (ends_of lines answers)
+    → e ≡ session_end (tally_after no_tally (ends_of lines answers)) (end_number pump)
+    → Reports lines answers pump e text
+reported lines answers pump ended.NoMemory text t e =
+    (ends_of lines answers, ([], append-nil (ends_of lines answers)), t)
+reported lines answers pump ended.Done text t e = (t, e)
+reported lines answers pump (ended.LinkEnded n) text t e = (t, e)
+reported lines answers pump ended.HistoryFull text t e = (t, e)
+reported lines answers pump ended.Worn text t e = (t, e)
+
+pub played_writes : {L : Type 0} (left contents : L → Option (List ℕ)) (counts : L → Counts)
+    (capacity : ℕ) (lines : List ScriptLine) (input : Option (List ℕ))
+    (session : Option (ScriptSession L)) (answer : Result ScriptEnd SinkFailed)
+    (in0 in1 net0 net1 : Counts) (out0 out1 : Option (List ℕ))
+    → SessionWrites left contents counts capacity lines session answer out0 out1
+    → IfSome input (λ bytes. script_of 1 (text_lines bytes) ≡ Ok lines) → EndCounted in0 in1
+    → net1 ≡ net0
+    → WritesScript left contents counts capacity input session answer in0 in1 net0 net1 out0 out1
+played_writes left contents counts capacity lines input None answer in0 in1 net0 net1 out0 out1 w
+    known counted net =
+    record { end = end.NoMemory; text = []; comes = refl; rests = (counted.1, net); writes = w }
+played_writes left contents counts capacity lines input (Some s) answer in0 in1 net0 net1 out0 out1
+    w known counted net =
+    record {
+      end = end.Played w.0;
+      text = w.1;
+      comes = (lines, w.2, known);
+      rests = (counted.0, net);
+      writes = w.3;
+    }

@@ -1,0 +1,188 @@
+//! The run of a script with what it writes.
+ghost use Rattle.std.specs.Prelude.{◌≡◌, ◌<◌, ◌≤◌, [], None, OnErr};
+ghost use Rattle.std.specs.List.{All};
+ghost use Rattle.edge_links.specs.Counts.{Counted, nought};
+ghost use Rattle.script_text.specs.Scripts.{IsValidLine};
+ghost use Rattle.shared_client.specs.Setups.{setup_of};
+ghost use Rattle.script_program.specs.declared.run.ScriptEnd.TheVariants as ended;
+ghost use Rattle.script_program.specs.Written.{client_of, end_line, EndWrites, NoneWritten};
+ghost use Rattle.script_program.specs.Written.{NotPlayed, SessionWrites, WritesScript};
+
+use super::read::{ScriptRead, read_script};
+use client_link::PumpEnd;
+use edge_lines::{SinkFailed, write_all};
+use edge_links::{Link, Net, NetFailed, Sink, Source};
+use resp_value::{NoMemory, Proto};
+use script_run::{Played, SessionEnd, play_script, report};
+use script_text::ScriptLine;
+use shared_cache::{Caching, ClientMode, Shape};
+use shared_client::{ClientSetup, SharedClient};
+use std::alloc::Global;
+use std::sync::Wait;
+use std::thread::Threads;
+use turn_lock::Closed;
+
+/// How the run of a script ends.
+#[derive(Clone, Copy, Debug, PartialEq, Eq)]
+pub enum ScriptEnd {
+    /// The session was played, and ended so.
+    Played(SessionEnd),
+    /// The first line outside the grammar; nothing was played.
+    BadLine(u64),
+    ReadFault,
+    NetFault,
+    /// Memory ran out before a session was played.
+    NoMemory,
+}
+
+/// A session that was played.
+#[derive(Drop)]
+pub struct ScriptSession<L> {
+    /// The client, with its log.
+    pub client: Closed<SharedClient>,
+    pub link: L,
+    /// Why the link's pump has ended.
+    pub pump: PumpEnd,
+}
+
+/// What a script came to that wrote of it.
+#[derive(Drop)]
+pub struct WrittenScript<L> {
+    pub session: Option<ScriptSession<L>>,
+    pub end: Result<ScriptEnd, SinkFailed>,
+}
+
+/// The most entries of a client's log.
+const LOG_MAX: u64 = 4_000_000;
+
+// The setup of the client: one link, RESP3, default mode.
+fn setup(capacity: u64) -> ClientSetup
+    ensures { setup_of result ≡ client_of capacity }
+{
+    ClientSetup {
+        mode: ClientMode {
+            shape: Shape::Single,
+            proto: Proto::Three,
+            caching: Caching::Default,
+            noloop: false,
+        },
+        capacity,
+        log_max: LOG_MAX,
+    }
+}
+
+/// Reads the script of the source, plays it over a link that the net dials, and writes the answers
+/// and then the last line. Nothing is dialled unless all lines are in the grammar.
+pub fn play_and_write<R: Threads + Wait + Sync, S: Source, K: Sink, N: Net>(
+    rt: &R,
+    alloc: Global,
+    capacity: u64,
+    host: &str,
+    port: u16,
+    input: &mut S,
+    output: &mut K,
+    net: &mut N,
+) -> WrittenScript<N::Link>
+    requires { (0 < capacity) × (capacity ≤ 1000000) }
+    ensures writes { WritesScript N.Link.left N.Link.contents N.Link.counts capacity
+        (S.left input.old) result.session result.end (S.counts input.old) (S.counts input.new)
+        (N.counts net.old) (N.counts net.new) (K.contents output.old) (K.contents output.new) }
+    ensures write { OnErr result.end
+        (Counted (K.counts output.old).faults (K.counts output.new).faults) }
+{
+    let lines = match read_script(alloc, input) {
+        ScriptRead::Lines(lines) => lines,
+        ScriptRead::BadLine(number) => return unplayed(alloc, ScriptEnd::BadLine(number), output),
+        ScriptRead::Failed => return unplayed(alloc, ScriptEnd::ReadFault, output),
+        ScriptRead::NoMemory => return unplayed(alloc, ScriptEnd::NoMemory, output),
+    };
+    match net.dial(host, port) {
+        Ok(link) => play_over(rt, alloc, capacity, lines, link, output),
+        Err(NetFailed) => unplayed(alloc, ScriptEnd::NetFault, output),
+    }
+}
+
+// Writes the last line of a run that played nothing.
+fn unplayed<K: Sink, L>(alloc: Global, end: ScriptEnd, output: &mut K) -> WrittenScript<L>
+    requires { NotPlayed end }
+    ensures none { result.session ≡ None }
+    ensures writes { NoneWritten end result.end (K.contents output.old) (K.contents output.new) }
+    ensures write { OnErr result.end
+        (Counted (K.counts output.old).faults (K.counts output.new).faults) }
+{
+    let end = match end {
+        ScriptEnd::BadLine(number) => match format!(in alloc; "bad-line {number}\n") {
+            Ok(line) => write_last(end, line.as_bytes(), output),
+            Err(_) => write_last(ScriptEnd::NoMemory, b"no-memory\n", output),
+        },
+        ScriptEnd::ReadFault => write_last(end, b"read-fault\n", output),
+        ScriptEnd::NetFault => write_last(end, b"net-fault\n", output),
+        _ => write_last(ScriptEnd::NoMemory, b"no-memory\n", output),
+    };
+    WrittenScript { session: None, end }
+}
+
+// Writes the last line of that end.
+fn write_last<K: Sink>(end: ScriptEnd, line: &[u8], output: &mut K) -> Result<ScriptEnd, SinkFailed>
+    requires { line.now ≡ end_line end }
+    ensures bytes { EndWrites result end [] (K.contents output.old) (K.contents output.new) }
+    ensures counts { OnErr result
+        (Counted (K.counts output.old).faults (K.counts output.new).faults) }
+{
+    write_all(output, line)?;
+    Ok(end)
+}
+
+// Plays the lines over the link, and writes the answers and the last line.
+fn play_over<R: Threads + Wait + Sync, K: Sink, L: Link + Send + Drop>(
+    rt: &R,
+    alloc: Global,
+    capacity: u64,
+    lines: Vec<ScriptLine>,
+    link: L,
+    output: &mut K,
+) -> WrittenScript<L>
+    requires capacity { (0 < capacity) × (capacity ≤ 1000000) }
+    requires lines { All IsValidLine lines.items }
+    requires fresh { L.counts link ≡ nought }
+    ensures writes { SessionWrites L.left L.contents L.counts capacity lines.items result.session
+        result.end (K.contents output.old) (K.contents output.new) }
+    ensures write { OnErr result.end
+        (Counted (K.counts output.old).faults (K.counts output.new).faults) }
+{
+    let Ok(played) = play_script(rt, alloc, setup(capacity), lines, link) else {
+        return unplayed(alloc, ScriptEnd::NoMemory, output);
+    };
+    let Played {
+        client,
+        link,
+        pump,
+        mut answers,
+        lines,
+    } = played;
+    let mut text = Vec::new(alloc);
+    let end = match report(lines.as_slice(), &mut answers, pump, &mut text) {
+        Ok(end) => end,
+        Err(NoMemory) => SessionEnd::NoMemory,
+    };
+    let end = write_report(text.as_slice(), end, output);
+    WrittenScript {
+        session: Some(ScriptSession { client, link, pump }),
+        end,
+    }
+}
+
+fn write_report<K: Sink>(
+    text: &[u8],
+    end: SessionEnd,
+    output: &mut K,
+) -> Result<ScriptEnd, SinkFailed>
+    ensures bytes { EndWrites result (ended.Played end) text.now (K.contents output.old)
+        (K.contents output.new) }
+    ensures counts { OnErr result
+        (Counted (K.counts output.old).faults (K.counts output.new).faults) }
+{
+    write_all(output, text)?;
+    write_all(output, end.line())?;
+    Ok(ScriptEnd::Played(end))
+}

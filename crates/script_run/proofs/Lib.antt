@@ -1,0 +1,6 @@
+pub mod Closing
+pub mod Crossing
+pub mod Lines
+pub mod Reporting
+pub mod Sessions
+pub mod Threads

@@ -1,0 +1,224 @@
+-- One line of a script: its turns, and how its answer came by them.
+use Rattle.std.proofs.Common.{◌≡◌, ℕ, List, [], ◌∷◌, true, false, Some}
+use Rattle.std.proofs.Common.{refl, sym, ap, subst}
+use Rattle.turn_lock.specs.History.{IsPrefix}
+use Rattle.seat_turns.specs.Own.{past_of, Grows}
+use Rattle.seat_turns.proofs.Growing.{grows_then, grows_past}
+use Rattle.seat_turns.proofs.Turning.{begins_trans}
+use Rattle.resp_value.specs.declared.value.Value.{Value}
+use Rattle.shared_cache.specs.declared.log.LogEntry.{LogEntry}
+use Rattle.shared_cache.specs.declared.log.LogEntry.TheVariants as entry
+use Rattle.shared_cache.specs.declared.log.ClientCall.{ClientCall}
+use Rattle.shared_cache.specs.declared.log.ClientCall.TheVariants as call
+use Rattle.shared_cache.specs.declared.log.ClientReply.{ClientReply}
+use Rattle.shared_cache.specs.declared.log.ClientRefusal.{ClientRefusal}
+use Rattle.shared_cache.specs.declared.log.ClientRefusal.TheVariants as refusal
+use Rattle.shared_cache.specs.Log.{reply as reply_of}
+use Rattle.shared_client.specs.Turns.{Place, Turn, setup_at, setup_in, Adds, Refuses}
+use Rattle.script_text.specs.declared.script_line.ScriptCall.{ScriptCall}
+use Rattle.script_text.specs.declared.script_line.ScriptCall.TheVariants.{Ask, Do}
+use Rattle.client_link.specs.declared.callers.Fetched.{Fetched}
+use Rattle.client_link.specs.Callers.{Fails, Hits, Reads, Fetches, Unanswered, FetchFails}
+use Rattle.client_link.specs.Callers.{NotAsked, NoReply, Sends, SendFails, NotSent, Unreplied}
+use Rattle.script_run.specs.declared.answer.Answer.TheVariants.{Hit, Read, Reply, Refused}
+use Rattle.script_run.specs.Lines.{call_for, entry_for, Between, RefusedSo, RefusedBy}
+use Rattle.script_run.specs.Lines.{PlaysLine}
+use Rattle.script_run.specs.Lines.{Unplayed, NoAnswer}
+
+-- ---- logs that grow
+
+here : {A : Type 0} (a b : List A) → b ≡ a → IsPrefix a b
+here a b e = ([], sym e)
+
+-- the entry that a call added is in what was seen behind it
+added : (c : ClientCall) (e : LogEntry) (old new : Place) (past : List LogEntry)
+    → past_of new ≡ e ∷ past → IsPrefix (e ∷ past) (past_of new)
+added c e old new past is = here (e ∷ past) (past_of new) is
+
+-- ---- one turn, or two
+
+module _ (c : ClientCall) (e : LogEntry) (old k new : Place) where
+  -- a turn alone
+  one : {r : ClientReply} (a : Adds c r e old new)
+      → Between (past_of old) ((e, a.past) ∷ []) (past_of new)
+  one a = (here (e ∷ a.past) (past_of new) a.ends, a.begins)
+
+  -- a turn, and what came behind it added nothing
+  one_then : {r : ClientReply} (a : Adds c r e old k) → Grows k new []
+      → Between (past_of old) ((e, a.past) ∷ []) (past_of new)
+  one_then a g = (
+    begins_trans (e ∷ a.past) (past_of k) (past_of new) (here (e ∷ a.past) (past_of k) a.ends)
+        (grows_past k new [] g),
+    a.begins,
+  )
+
+  -- a turn, and a second one
+  two : {r s : ClientReply} {d : ClientCall} {f : LogEntry} (a : Adds c r e old k)
+      (b : Adds d s f k new)
+      → Between (past_of old) ((f, b.past) ∷ (e, a.past) ∷ []) (past_of new)
+  two {f = f} a b = (
+    here (f ∷ b.past) (past_of new) b.ends,
+    (subst (λ l. IsPrefix l b.past) a.ends b.begins, a.begins),
+  )
+
+-- ---- why a call was refused
+
+record WhyNot (c : ClientCall) (r : ClientRefusal) (old new : Place) : Type 0 where
+  grows : Grows old new []
+  why : RefusedSo (setup_at old) c r (past_of new) new.tickets
+
+why_fails : (c : ClientCall) (r : ClientRefusal) (old new : Place) → Fails c r old new
+    → WhyNot c r old new
+why_fails c refusal.NotReady old new h = absurd h
+why_fails c refusal.NoMemory old new h = record { grows = h; why = tt }
+why_fails c refusal.Worn old new h = record { grows = h.1.grows; why = h.1.tickets }
+why_fails c (refusal.Down w) old new h = record { grows = h.1.grows; why = (h.0, h.1.step) }
+why_fails c (refusal.Unexpected w) old new h = record { grows = h.1.grows; why = (h.0, h.1.step) }
+why_fails c (refusal.BadPush w) old new h = record { grows = h.1.grows; why = (h.0, h.1.step) }
+why_fails c (refusal.LogFull n) old new h = record { grows = h.1.grows; why = (h.0, h.1.step) }
+why_fails c (refusal.SetupRefused w) old new h =
+    record { grows = h.1.grows; why = (h.0, h.1.step) }
+why_fails c refusal.Control old new h = record { grows = h.1.grows; why = (h.0, h.1.step) }
+why_fails c (refusal.NoNumber n) old new h = record { grows = h.1.grows; why = (h.0, h.1.step) }
+
+why_poll : (n : ℕ) (r : ClientRefusal) (old new : Place) → Refuses (call.Poll n) r old new
+    → WhyNot (call.Poll n) r old new
+why_poll n refusal.NotReady old new h = absurd h.0
+why_poll n refusal.NoMemory old new h = absurd h.0
+why_poll n refusal.Worn old new h = record { grows = h.1.grows; why = h.1.tickets }
+why_poll n (refusal.Down w) old new h = record { grows = h.1.grows; why = (h.0, h.1.step) }
+why_poll n (refusal.Unexpected w) old new h = absurd h.0
+why_poll n (refusal.BadPush w) old new h = absurd h.0
+why_poll n (refusal.LogFull m) old new h = absurd h.0
+why_poll n (refusal.SetupRefused w) old new h = absurd h.0
+why_poll n refusal.Control old new h = absurd h.0
+why_poll n (refusal.NoNumber m) old new h = record { grows = h.1.grows; why = (h.0, h.1.step) }
+
+-- ---- the answers
+
+setup_kept : (old new : Place) (ts : List Turn) → Grows old new ts
+    → setup_at new ≡ setup_at old
+setup_kept old new ts g = ap setup_in g.setup
+
+hit_line : (q : List (List ℕ)) (f : Fetched) (old new : Place) → Hits q f old new
+    → PlaysLine (Ask q) (Hit f.number f.value) old new
+hit_line q f old new h = record {
+  turns = (entry.Ask q, h.asks.past) ∷ [];
+  grows = h.asks.grows;
+  between = one (call.Ask q) (entry.Ask q) old new new h.asks;
+  came = record {
+    past = h.asks.past;
+    turns_are = refl;
+    entry_held = h.entry_held;
+    is_held = h.is_held;
+    value_is = h.value_is;
+    number_is = h.number_is;
+  };
+}
+
+read_line : (q : List (List ℕ)) (f : Fetched) (old new : Place) → Reads q f old new
+    → PlaysLine (Ask q) (Read f.number f.value) old new
+read_line q f old new h =
+    let polls = h.answers.polls in
+    let n = f.number in
+    record {
+      turns = (entry.Poll n, polls.past) ∷ (entry.Ask q, h.asks.past) ∷ [];
+      grows = grows_then old h.sent new ((entry.Ask q, h.asks.past) ∷ [])
+          ((entry.Poll n, polls.past) ∷ []) h.asks.grows polls.grows;
+      between = two (call.Ask q) (entry.Ask q) old h.sent new h.asks polls;
+      came = record {
+        past = h.asks.past;
+        later = polls.past;
+        turns_are = refl;
+        not_held = h.not_held;
+        number_is = h.number_is;
+        reply_is = subst (λ s. reply_of s.mode polls.past n ≡ Some f.value)
+            (setup_kept old h.sent _ h.asks.grows) h.answers.reply_is;
+      };
+    }
+
+pub fetched_hit : (q : List (List ℕ)) (f : Fetched) (old new : Place) → Fetches q f old new
+    → f.from_cache ≡ true → PlaysLine (Ask q) (Hit f.number f.value) old new
+fetched_hit q f old new h is = hit_line q f old new (h.0 is)
+
+pub fetched_read : (q : List (List ℕ)) (f : Fetched) (old new : Place) → Fetches q f old new
+    → f.from_cache ≡ false → PlaysLine (Ask q) (Read f.number f.value) old new
+fetched_read q f old new h is = read_line q f old new (h.1 is)
+
+pub sent_line : (ws : List (List ℕ)) (v : Value) (old new : Place) → Sends ws v old new
+    → PlaysLine (Do ws) (Reply v) old new
+sent_line ws v old new h =
+    let polls = h.answers.polls in
+    let n = h.number in
+    record {
+      turns = (entry.Poll n, polls.past) ∷ (entry.Send ws, h.sends.past) ∷ [];
+      grows = grows_then old h.sent new ((entry.Send ws, h.sends.past) ∷ [])
+          ((entry.Poll n, polls.past) ∷ []) h.sends.grows polls.grows;
+      between = two (call.Send ws) (entry.Send ws) old h.sent new h.sends polls;
+      came = record {
+        number = n;
+        past = h.sends.past;
+        later = polls.past;
+        turns_are = refl;
+        number_is = h.number_is;
+        reply_is = subst (λ s. reply_of s.mode polls.past n ≡ Some v)
+            (setup_kept old h.sent _ h.sends.grows) h.answers.reply_is;
+      };
+    }
+
+record RefusedLine (c : ScriptCall) (r : ClientRefusal) (old new : Place) : Type 0 where
+  turns : List Turn
+  grows : Grows old new turns
+  between : Between (past_of old) turns (past_of new)
+  how : RefusedBy (setup_at old) c r turns (past_of new) new.tickets
+
+unplayed : (c : ScriptCall) (r : ClientRefusal) (old new : Place)
+    → Fails (call_for c) r old new → RefusedLine c r old new
+unplayed c r old new h =
+    let w = why_fails (call_for c) r old new h in
+    record {
+      turns = [];
+      grows = w.grows;
+      between = grows_past old new [] w.grows;
+      how = Unplayed refl w.why;
+    }
+
+unanswered : (c : ScriptCall) (r : ClientRefusal) (old new : Place)
+    → Unanswered (call_for c) (entry_for c) r old new → RefusedLine c r old new
+unanswered c r old new h =
+    let w = why_poll h.number r h.sent new h.refuses in
+    let past = h.sends.past in
+    record {
+      turns = (entry_for c, past) ∷ [];
+      grows = grows_then old h.sent new ((entry_for c, past) ∷ []) [] h.sends.grows w.grows;
+      between = one_then (call_for c) (entry_for c) old h.sent new h.sends w.grows;
+      how = NoAnswer h.number past refl h.sends.step
+          (subst (λ s. RefusedSo s (call.Poll h.number) r (past_of new) new.tickets)
+          (setup_kept old h.sent _ h.sends.grows) w.why);
+    }
+
+asked_refused : (q : List (List ℕ)) (r : ClientRefusal) (old new : Place)
+    → RefusedLine (Ask q) r old new → PlaysLine (Ask q) (Refused r) old new
+asked_refused q r old new l =
+    record { turns = l.turns; grows = l.grows; between = l.between; came = l.how }
+
+done_refused : (ws : List (List ℕ)) (r : ClientRefusal) (old new : Place)
+    → RefusedLine (Do ws) r old new → PlaysLine (Do ws) (Refused r) old new
+done_refused ws r old new l =
+    record { turns = l.turns; grows = l.grows; between = l.between; came = l.how }
+
+pub fetch_refused : (q : List (List ℕ)) (r : ClientRefusal) (old new : Place)
+    → FetchFails q r old new → PlaysLine (Ask q) (Refused r) old new
+fetch_refused q r old new (NotAsked h) =
+    asked_refused q r old new (unplayed (Ask q) r old new h)
+fetch_refused q r old new (NoReply h) =
+    asked_refused q r old new (unanswered (Ask q) r old new h)
+
+pub send_refused : (ws : List (List ℕ)) (r : ClientRefusal) (old new : Place)
+    → SendFails ws r old new → PlaysLine (Do ws) (Refused r) old new
+send_refused ws r old new (NotSent h) =
+    done_refused ws r old new (unplayed (Do ws) r old new h)
+send_refused ws r old new (Unreplied h) =
+    done_refused ws r old new (unanswered (Do ws) r old new h)
+
+pub ruleset line_outcomes = (fetched_hit, fetched_read, sent_line, fetch_refused, send_refused)

@@ -1,0 +1,395 @@
+-- All turns of a session are those of its callers, of its pump and the last, and where a caller was
+-- told that the link is down the pump had ended it.
+use Rattle.std.proofs.Common.{◌≡◌, ◌≤◌, ◌<◌, ◌+◌, inl, inr, ℕ, suc, List, [], ◌∷◌, ◌++◌}
+use Rattle.std.proofs.Common.{Bool, true, false, cond, length, refl, sym, ap, subst, ◌∙◌, arith}
+use Rattle.std.proofs.Common.{length-append}
+use Rattle.std.specs.Prelude.{Option, Some, None, nat_lt, ◌&&◌, ◌||◌, not}
+use Rattle.std.specs.List.{All}
+use Rattle.std.proofs.lemmas.Bool.Decides.{nat_tests}
+use Rattle.std.proofs.lemmas.List.Elements.{All-head, All-tail}
+use Rattle.turn_lock.specs.Counts.{times, total}
+use Rattle.turn_lock.specs.History.{entries, IsPrefix, Legal}
+use Rattle.seat_turns.specs.Own.{with_pasts, past_of, turns_of}
+use Rattle.seat_turns.proofs.Owning.{own_all, pasts_length, total-append}
+use Rattle.seat_turns.proofs.Turning.{begins_trans}
+use Rattle.shared_cache.specs.declared.log.Wire.{Wire}
+use Rattle.shared_cache.specs.declared.log.Wire.TheVariants.{Main}
+use Rattle.shared_cache.specs.declared.log.ClientMode.{ClientMode}
+use Rattle.shared_cache.specs.declared.log.LogEntry.{LogEntry}
+use Rattle.shared_cache.specs.declared.log.LogEntry.TheVariants as entry
+use Rattle.shared_cache.specs.declared.log.ClientCall.TheVariants as call
+use Rattle.shared_cache.specs.declared.log.ClientReply.{ClientReply}
+use Rattle.shared_cache.specs.declared.log.ClientReply.TheVariants as reply
+use Rattle.shared_cache.specs.declared.log.ClientRefusal.{ClientRefusal}
+use Rattle.shared_cache.specs.declared.log.ClientRefusal.TheVariants as refusal
+use Rattle.resp_value.specs.declared.value.Value.{Value}
+use Rattle.command_words.specs.Control.{is_control}
+use Rattle.shared_cache.specs.Held.{Setup, held, held_for}
+use Rattle.shared_cache.specs.Laws.{LegalLog}
+use Rattle.shared_cache.specs.Log.{is_ended, is_ready, is_wire, reply as reply_of}
+use Rattle.shared_cache.specs.Out.{is_wanted}
+use Rattle.shared_cache.specs.Steps.{ClientTurn, client_step, refusing, is_log_full, answer_ask}
+use Rattle.shared_cache.specs.Steps.{read_number, command_number, polling}
+use Rattle.shared_client.specs.declared.logged.ClientSetup.{ClientSetup}
+use Rattle.shared_client.specs.Setups.{TurnStep, setup_of}
+use Rattle.shared_client.specs.Turns.{Place, Turn, setup_at}
+use Rattle.script_text.specs.declared.script_line.ScriptCall.{ScriptCall}
+use Rattle.script_text.specs.declared.script_line.ScriptCall.TheVariants.{Ask, Do}
+use Rattle.script_text.specs.declared.script_line.ScriptLine.{ScriptLine}
+use Rattle.client_link.specs.declared.pump_end.PumpEnd.{PumpEnd}
+use Rattle.client_link.specs.declared.pump_end.PumpEnd.TheVariants as ended
+use Rattle.client_link.specs.Pumps.{IsWork, Finishes}
+use Rattle.script_run.specs.declared.answer.Answer.{Answer}
+use Rattle.script_run.specs.declared.answer.Answer.TheVariants.{Hit, Read, Reply, Refused}
+use Rattle.script_run.specs.Lines.{call_for, RefusedBy, Unplayed, NoAnswer, Came}
+use Rattle.script_run.specs.Lines.{AllCame, ThreadsCame, calls_of}
+use Rattle.script_run.specs.Session.{turns_in, IsDown, AnyDown, HasDown, EndsLink, PumpedBy}
+use Rattle.script_run.specs.Session.{ClosedBy, LastEnd, Over, NoTicket}
+
+-- ---- each turn once
+
+turns_are : (h : List (ℕ × LogEntry)) → turns_in (entries h) ≡ entries (with_pasts h)
+turns_are [] = refl
+turns_are (e ∷ h) = ap (λ z. (e.1, entries h) ∷ z) (turns_are h)
+
+-- where the seat has each place once, its turns are all
+pub every_turn : (k : Place) → ((p : ℕ) → p < length k.seen → times p k.own ≡ 1)
+    → (f : Turn → ℕ) → total f (turns_in (past_of k)) ≡ total f (turns_of k)
+unfolding turns_of
+every_turn k once f =
+    ap (total f) (turns_are k.seen)
+    ∙ sym (own_all f (with_pasts k.seen) k.own
+    (λ p lt. once p (subst (λ n. p < n) (pasts_length k.seen) lt)))
+
+pub legal_log : (u : ClientSetup) (h : List (ℕ × LogEntry)) → Legal TurnStep u h
+    → LegalLog (setup_of u) (entries h)
+legal_log u [] l = tt
+legal_log u (e ∷ h) l = l.1.2.1 (legal_log u h l.0)
+
+-- ---- the ends in a log
+
+abbrev ends_main : Turn → Bool
+ends_main (entry.Ask q, past) = false
+ends_main (entry.Send ws, past) = false
+ends_main (entry.Poll n, past) = false
+ends_main (entry.TakeOut w n, past) = false
+ends_main (entry.Got w v, past) = false
+ends_main (entry.End w, past) = is_wire w Main
+ends_main (entry.Bad w v, past) = is_wire w Main
+
+-- 1 for an end that has fewer entries before it
+abbrev early_end : ℕ → Turn → ℕ
+early_end n t = cond (ends_main t && nat_lt (length t.1) n) 1 0
+
+prefix_total : (f : Turn → ℕ) (more k : List LogEntry)
+    → total f (turns_in k) ≤ total f (turns_in (more ++ k))
+prefix_total f [] k = omega arith
+prefix_total f (e ∷ more) k =
+    let r = prefix_total f more k in
+    let step : total f (turns_in (e ∷ more ++ k)) ≡ f (e, more ++ k)
+    + total f (turns_in (more ++ k)) = refl in
+    omega (arith, r, step)
+
+more_weight : (f : Turn → ℕ) (t : Turn) (ts : List Turn) → 1 ≤ total f ts
+    → 1 ≤ total f (t ∷ ts)
+more_weight f t ts h = let e : total f (t ∷ ts) ≡ f t + total f ts = refl in omega (arith, h, e)
+
+end_or : (b over : Bool) (n : ℕ) (past : List LogEntry) (rest : ℕ) → (b || over) ≡ true
+    → length past < n → (over ≡ true → 1 ≤ rest)
+    → 1 ≤ cond (b && nat_lt (length past) n) 1 0 + rest
+end_or true over n past rest is lt r =
+    let e : cond {A = ℕ} (nat_lt (length past) n) 1 0 ≡ 1 = grind (arith, nat_tests, lt) in
+    omega (arith, e)
+end_or false over n past rest is lt r = let e = r is in omega (arith, e)
+
+-- a log that is ended has an end
+has_end : (m : ClientMode) (n : ℕ) (k : List LogEntry) → length k ≤ n
+    → is_ended m Main k ≡ true → 1 ≤ total (early_end n) (turns_in k)
+has_end m n [] le is = absurd (let z : ⊥ = cc in z)
+has_end m n (entry.Ask q ∷ k) le is =
+    more_weight (early_end n) (entry.Ask q, k) (turns_in k) (has_end m n k (omega (arith, le)) is)
+has_end m n (entry.Send ws ∷ k) le is =
+    more_weight (early_end n) (entry.Send ws, k) (turns_in k)
+    (has_end m n k (omega (arith, le)) is)
+has_end m n (entry.Poll p ∷ k) le is =
+    more_weight (early_end n) (entry.Poll p, k) (turns_in k) (has_end m n k (omega (arith, le)) is)
+has_end m n (entry.TakeOut w p ∷ k) le is =
+    more_weight (early_end n) (entry.TakeOut w p, k) (turns_in k)
+    (has_end m n k (omega (arith, le)) is)
+has_end m n (entry.Got w v ∷ k) le is =
+    more_weight (early_end n) (entry.Got w v, k) (turns_in k)
+    (has_end m n k (omega (arith, le)) is)
+has_end m n (entry.End w ∷ k) le is =
+    end_or (is_wire w Main) (is_ended m Main k) n k (total (early_end n) (turns_in k)) is
+    (omega (arith, le)) (λ over. has_end m n k (omega (arith, le)) over)
+has_end m n (entry.Bad w v ∷ k) le is =
+    end_or (is_wire w Main) (is_ended m Main k) n k (total (early_end n) (turns_in k)) is
+    (omega (arith, le)) (λ over. has_end m n k (omega (arith, le)) over)
+
+-- ---- no end is a caller's
+
+module _ (n : ℕ) where
+  abbrev f : Turn → ℕ
+  f = early_end n
+
+  refused_none : (s : Setup) (c : ScriptCall) (r : ClientRefusal) (ts : List Turn)
+      (seen : List LogEntry) (t : ℕ) → RefusedBy s c r ts seen t → total f ts ≡ 0
+  refused_none s c r ts seen t (Unplayed e why) = ap (total f) e
+  refused_none s (Ask q) r ts seen t (NoAnswer m past e step why) = ap (total f) e
+  refused_none s (Do ws) r ts seen t (NoAnswer m past e step why) = ap (total f) e
+
+  came_none : (s : Setup) (c : ScriptCall) (a : Answer) (ts : List Turn) (seen : List LogEntry)
+      (t : ℕ) → Came s c a ts seen t → total f ts ≡ 0
+  came_none s (Ask q) (Hit m v) ts seen t h = ap (total f) h.turns_are
+  came_none s (Ask q) (Read m v) ts seen t h = ap (total f) h.turns_are
+  came_none s (Ask q) (Reply v) ts seen t h = absurd h
+  came_none s (Ask q) (Refused r) ts seen t h = refused_none s (Ask q) r ts seen t h
+  came_none s (Do ws) (Hit m v) ts seen t h = absurd h
+  came_none s (Do ws) (Read m v) ts seen t h = absurd h
+  came_none s (Do ws) (Reply v) ts seen t h = ap (total f) h.turns_are
+  came_none s (Do ws) (Refused r) ts seen t h = refused_none s (Do ws) r ts seen t h
+
+  two_none : (ts mine rest : List Turn) → ts ≡ rest ++ mine → total f rest ≡ 0
+      → total f mine ≡ 0 → total f ts ≡ 0
+  two_none ts mine rest e r m =
+      let w : total f ts ≡ total f rest + total f mine = ap (total f) e
+      ∙ total-append f rest mine in omega (arith, w, r, m)
+
+  all_none : (s : Setup) (cs : List ScriptCall) (rs : List Answer) (ts : List Turn)
+      (log : List LogEntry) (t : ℕ) → AllCame s cs rs ts log t → total f ts ≡ 0
+  all_none s [] [] ts log t h = ap (total f) h
+  all_none s (c ∷ cs) [] ts log t h = ap (total f) h
+  all_none s [] (a ∷ rs) ts log t h = absurd h
+  all_none s (c ∷ cs) (a ∷ rs) ts log t h =
+      let i = h.3 in
+      two_none ts h.0 h.1 h.2 (all_none s cs rs h.1 log t h.4)
+      (came_none s c a h.0 i.seen i.ticket i.came)
+
+  threads_none : (s : Setup) (lines : List ScriptLine) (thread : ℕ) (all : List (List Answer))
+      (ts : List Turn) (log : List LogEntry) (t : ℕ) → ThreadsCame s lines thread all ts log t
+      → total f ts ≡ 0
+  threads_none s lines thread [] ts log t h = ap (total f) h
+  threads_none s lines thread (rs ∷ all) ts log t h =
+      two_none ts h.0 h.1 h.2
+      (threads_none s lines (suc thread) all h.1 log t h.4)
+      (all_none s (calls_of thread lines) rs h.0 log t h.3.came)
+
+  -- nor an earlier one the last
+  not_early : (b : Bool) (m : ℕ) → n ≤ m → cond {A = ℕ} (b && nat_lt m n) 1 0 ≡ 0
+  not_early true m le = grind (arith, nat_tests, le)
+  not_early false m le = refl
+
+  prefix_length : (a b : List LogEntry) → IsPrefix a b → length a ≤ length b
+  prefix_length a b p =
+      let e : length (p.0 ++ a) ≡ length b = ap length p.1 in
+      omega (arith, e, length-append p.0 a)
+
+  closing_none : (s : Setup) (ts : List Turn) (seen log : List LogEntry) (t : ℕ)
+      → n ≤ length seen → ClosedBy s ts seen log t → total f ts ≡ 0
+  closing_none s ts seen log t le (LastEnd past e p) =
+      let l = prefix_length seen past p in
+      let z = not_early true (length past) (omega (arith, le, l)) in
+      let w : total f ts ≡ cond {A = ℕ} (true && nat_lt (length past) n) 1 0 + 0 =
+      ap (total f) e in omega (arith, w, z)
+  closing_none s ts seen log t le (Over later e p is) = ap (total f) e
+  closing_none s ts seen log t le (NoTicket e worn) = ap (total f) e
+
+  work_none : (e : LogEntry) (past : List LogEntry) → IsWork (e, past) → f (e, past) ≡ 0
+  work_none (entry.TakeOut w m) past h = refl
+  work_none (entry.Got w v) past h = refl
+  work_none (entry.Ask q) past h = absurd h
+  work_none (entry.Send ws) past h = absurd h
+  work_none (entry.Poll m) past h = absurd h
+  work_none (entry.End w) past h = absurd h
+  work_none (entry.Bad w v) past h = absurd h
+
+  works_none : (ts : List Turn) → All IsWork ts → total f ts ≡ 0
+  works_none [] h = refl
+  works_none (t ∷ ts) h =
+      let a : f t ≡ 0 = work_none t.0 t.1 (All-head IsWork t ts h) in
+      let b = works_none ts (All-tail IsWork t ts h) in
+      let e : total f (t ∷ ts) ≡ f t + total f ts = refl in omega (arith, a, b, e)
+
+  none_but_works : (ending ts : List Turn) → ending ≡ [] → All IsWork ts
+      → total f (ending ++ ts) ≡ 0
+  none_but_works ending ts e w = ap (λ z. total f (z ++ ts)) e ∙ works_none ts w
+
+  -- who has an early end has ended the link
+  ends_link : (end : PumpEnd) (s : Setup) (ending ts : List Turn) (k : Place)
+      → Finishes end s ending k → All IsWork ts → 1 ≤ total f (ending ++ ts) → EndsLink end
+  ends_link ended.PeerEnd s ending ts k h w le = tt
+  ends_link ended.LinkFault s ending ts k h w le = tt
+  ends_link (ended.BadStream fault) s ending ts k h w le = tt
+  ends_link (ended.Refused r) s ending ts k h w le = tt
+  ends_link ended.NoMemory s ending ts k h w le = tt
+  ends_link ended.LogFull s ending ts k h w le = tt
+  ends_link ended.Done s ending ts k h w le =
+      absurd (omega (arith, le, none_but_works ending ts h.0 w))
+  ends_link ended.Worn s ending ts k h w le =
+      absurd (omega (arith, le, none_but_works ending ts h.0 w))
+
+-- ---- who was told that the link is down has seen its end
+
+abbrev Answered : ClientTurn → ClientRefusal → List LogEntry → Type 0
+Answered turn r log = turn ≡ record { reply = reply.Refused r; past = log }
+
+longer : (e : LogEntry) (log : List LogEntry) (turn : ClientTurn) (r : ClientRefusal)
+    → turn.past ≡ e ∷ log → Answered turn r log → ⊥
+longer e log turn r p is =
+    let l : length (e ∷ log) ≡ length log =
+    ap length (sym p ∙ ap (λ (t : ClientTurn). t.past) is) in omega (arith, l)
+
+other : (a b : ClientReply) (log new : List LogEntry)
+    → ◌≡◌ {A = ClientTurn} (record { reply = a; past = log }) (record { reply = b; past = new })
+    → a ≡ b
+other a b log new is = ap (λ (t : ClientTurn). t.reply) is
+
+module _ (log : List LogEntry) (w : Wire) where
+  ask_down_in : (over ready full : Bool) (turn : ClientTurn) (e : LogEntry) → turn.past ≡ e ∷ log
+      → Answered (cond over (refusing (refusal.Down Main) log)
+      (cond (not ready) (refusing refusal.NotReady log)
+      (cond full (refusing (refusal.LogFull (length log)) log) turn))) (refusal.Down w) log
+      → over ≡ true
+  ask_down_in true ready full turn e p is = refl
+  ask_down_in false false full turn e p is =
+      absurd (let x = other _ _ log log is in let no : ⊥ = cc in no)
+  ask_down_in false true true turn e p is =
+      absurd (let x = other _ _ log log is in let no : ⊥ = cc in no)
+  ask_down_in false true false turn e p is = absurd (longer e log turn (refusal.Down w) p is)
+
+  send_down_in : (over ready control full : Bool) (turn : ClientTurn) (e : LogEntry)
+      → turn.past ≡ e ∷ log
+      → Answered (cond over (refusing (refusal.Down Main) log)
+      (cond (not ready) (refusing refusal.NotReady log)
+      (cond control (refusing refusal.Control log)
+      (cond full (refusing (refusal.LogFull (length log)) log) turn)))) (refusal.Down w) log
+      → over ≡ true
+  send_down_in true ready control full turn e p is = refl
+  send_down_in false false control full turn e p is =
+      absurd (let x = other _ _ log log is in let no : ⊥ = cc in no)
+  send_down_in false true true full turn e p is =
+      absurd (let x = other _ _ log log is in let no : ⊥ = cc in no)
+  send_down_in false true false true turn e p is =
+      absurd (let x = other _ _ log log is in let no : ⊥ = cc in no)
+  send_down_in false true false false turn e p is =
+      absurd (longer e log turn (refusal.Down w) p is)
+
+  poll_down_in : (wanted over : Bool) (o : Option Value) (n : ℕ)
+      → Answered (cond (not wanted) (refusing (refusal.NoNumber n) log) (polling o n over log))
+      (refusal.Down w) log → over ≡ true
+  poll_down_in false over o n is =
+      absurd (let x = other _ _ log log is in let no : ⊥ = cc in no)
+  poll_down_in true over (Some v) n is =
+      absurd (longer (entry.Poll n) log _ (refusal.Down w) refl is)
+  poll_down_in true true None n is = refl
+  poll_down_in true false None n is =
+      absurd (let x = other _ _ log log is in let no : ⊥ = cc in no)
+
+call_down : (s : Setup) (log : List LogEntry) (w : Wire) (c : ScriptCall)
+    → Answered (client_step s log (call_for c)) (refusal.Down w) log
+    → is_ended s.mode Main log ≡ true
+unfolding client_step
+call_down s log w (Ask q) is =
+    ask_down_in log w (is_ended s.mode Main log) (is_ready s.mode log) (is_log_full s log)
+    (record {
+      reply = answer_ask (held_for q (held s log)) (read_number s log q);
+      past = entry.Ask q ∷ log;
+    }) (entry.Ask q) refl is
+call_down s log w (Do ws) is =
+    send_down_in log w (is_ended s.mode Main log) (is_ready s.mode log) (is_control ws)
+    (is_log_full s log)
+    (record { reply = reply.Sent (command_number s log ws); past = entry.Send ws ∷ log })
+    (entry.Send ws) refl is
+
+poll_down : (s : Setup) (log : List LogEntry) (w : Wire) (n : ℕ)
+    → Answered (client_step s log (call.Poll n)) (refusal.Down w) log
+    → is_ended s.mode Main log ≡ true
+unfolding client_step
+poll_down s log w n is =
+    poll_down_in log w (is_wanted s log n) (is_ended s.mode Main log) (reply_of s.mode log n) n is
+
+refused_down : (s : Setup) (c : ScriptCall) (w : Wire) (ts : List Turn) (seen : List LogEntry)
+    (t : ℕ) → RefusedBy s c (refusal.Down w) ts seen t → is_ended s.mode Main seen ≡ true
+refused_down s c w ts seen t (Unplayed e why) = call_down s seen w c why.1
+refused_down s c w ts seen t (NoAnswer n past e step why) = poll_down s seen w n why.1
+
+by_refusal : (s : Setup) (c : ScriptCall) (r : ClientRefusal) (ts : List Turn)
+    (seen : List LogEntry) (t : ℕ) → RefusedBy s c r ts seen t → IsDown (Refused r)
+    → is_ended s.mode Main seen ≡ true
+by_refusal s c (refusal.Down w) ts seen t h d = refused_down s c w ts seen t h
+by_refusal s c (refusal.Unexpected w) ts seen t h d = absurd d
+by_refusal s c (refusal.BadPush w) ts seen t h d = absurd d
+by_refusal s c refusal.NoMemory ts seen t h d = absurd d
+by_refusal s c (refusal.LogFull n) ts seen t h d = absurd d
+by_refusal s c (refusal.SetupRefused w) ts seen t h d = absurd d
+by_refusal s c refusal.NotReady ts seen t h d = absurd d
+by_refusal s c refusal.Control ts seen t h d = absurd d
+by_refusal s c (refusal.NoNumber n) ts seen t h d = absurd d
+by_refusal s c refusal.Worn ts seen t h d = absurd d
+
+came_down : (s : Setup) (c : ScriptCall) (a : Answer) (ts : List Turn) (seen : List LogEntry)
+    (t : ℕ) → Came s c a ts seen t → IsDown a → is_ended s.mode Main seen ≡ true
+came_down s c (Hit m v) ts seen t h d = absurd d
+came_down s c (Read m v) ts seen t h d = absurd d
+came_down s c (Reply v) ts seen t h d = absurd d
+came_down s (Ask q) (Refused r) ts seen t h d = by_refusal s (Ask q) r ts seen t h d
+came_down s (Do ws) (Refused r) ts seen t h d = by_refusal s (Do ws) r ts seen t h d
+
+record SawEnd (s : Setup) (log : List LogEntry) : Type 0 where
+  seen : List LogEntry
+  begins : IsPrefix seen log
+  over : is_ended s.mode Main seen ≡ true
+
+all_down : (s : Setup) (cs : List ScriptCall) (rs : List Answer) (ts : List Turn)
+    (log : List LogEntry) (t : ℕ) → AllCame s cs rs ts log t → AnyDown rs → SawEnd s log
+all_down s cs [] ts log t h d = absurd d
+all_down s [] (a ∷ rs) ts log t h d = absurd h
+all_down s (c ∷ cs) (a ∷ rs) ts log t h d =
+    let i = h.3 in
+    elim d [
+      | inl is ↦ record {
+        seen = i.seen;
+        begins = i.begins;
+        over = came_down s c a h.0 i.seen i.ticket i.came is;
+      }
+      | inr is ↦ all_down s cs rs h.1 log t h.4 is
+    ]
+
+threads_down : (s : Setup) (lines : List ScriptLine) (thread : ℕ) (all : List (List Answer))
+    (ts : List Turn) (log : List LogEntry) (t : ℕ) → ThreadsCame s lines thread all ts log t
+    → HasDown all → SawEnd s log
+threads_down s lines thread [] ts log t h d = absurd d
+threads_down s lines thread (rs ∷ all) ts log t h d =
+    elim d [
+      | inl is ↦ all_down s (calls_of thread lines) rs h.0 log t h.3.came is
+      | inr is ↦ threads_down s lines (suc thread) all h.1 log t h.4 is
+    ]
+
+-- ---- so the pump had ended it
+
+pub down_ends : (s : Setup) (lines : List ScriptLine) (answers : List (List Answer))
+    (end : PumpEnd) (left0 left1 link0 link1 : Option (List ℕ)) (called pumped closing : List Turn)
+    (seen log : List LogEntry) (t : ℕ) → IsPrefix seen log
+    → ThreadsCame s lines 1 answers called seen t
+    → PumpedBy s end left0 left1 link0 link1 pumped log t → ClosedBy s closing seen log t
+    → ((f : Turn → ℕ) → total f (turns_in log)
+    ≡ total f pumped + (total f closing + total f called))
+    → HasDown answers → EndsLink end
+down_ends s lines answers end left0 left1 link0 link1 called pumped closing seen log t begins came
+    pumps closes all d =
+    let saw = threads_down s lines 1 answers called seen t came d in
+    let n = length saw.seen in
+    let f = early_end n in
+    let there = has_end s.mode n saw.seen (omega arith) saw.over in
+    let whole : IsPrefix saw.seen log = begins_trans saw.seen seen log saw.begins begins in
+    let more : total f (turns_in saw.seen) ≤ total f (turns_in log) =
+    subst (λ l. total f (turns_in saw.seen) ≤ total f (turns_in l)) whole.1
+    (prefix_total f whole.0 saw.seen) in
+    let le = prefix_length n saw.seen seen saw.begins in
+    let z = threads_none n s lines 1 answers called seen t came in
+    let y = closing_none n s closing seen log t le closes in
+    let p : total f pumped ≡ total f (pumps.pumps.ending ++ pumps.pumps.works.turns) =
+    ap (total f) pumps.turns_are in
+    let sum = all f in
+    ends_link n end (setup_at pumps.before) pumps.pumps.ending pumps.pumps.works.turns pumps.after
+    pumps.pumps.finishes pumps.pumps.works.work (omega (arith, there, more, z, y, p, sum))

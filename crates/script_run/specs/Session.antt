@@ -1,0 +1,92 @@
+-- What a session of a script comes to: one log, of which each entry is a turn of a caller, of the
+-- pump, or the end at the last.
+use Rattle.std.specs.Prelude.{◌≡◌, ◌≤◌, ◌⊎◌, ◌+◌, ℕ, ⊤, List, [], ◌∷◌, ◌++◌, length, Option, true}
+use Rattle.turn_lock.specs.Counts.{total}
+use Rattle.turn_lock.specs.History.{IsPrefix}
+use Rattle.turn_lock.specs.declared.rule.TheConstants.{LAST_TICKET}
+use Rattle.seat_turns.specs.Own.{past_of}
+use Rattle.shared_cache.specs.declared.log.Wire.TheVariants.{Main}
+use Rattle.shared_cache.specs.declared.log.LogEntry.{LogEntry}
+use Rattle.shared_cache.specs.declared.log.LogEntry.TheVariants as entry
+use Rattle.shared_cache.specs.declared.log.ClientRefusal.TheVariants as refusal
+use Rattle.shared_cache.specs.Held.{Setup}
+use Rattle.shared_cache.specs.Laws.{LegalLog}
+use Rattle.shared_cache.specs.Log.{is_ended}
+use Rattle.shared_client.specs.Turns.{Place, Turn, setup_at}
+use Rattle.script_text.specs.declared.script_line.ScriptLine.{ScriptLine}
+use Rattle.script_text.specs.Scripts.{most_threads}
+use Rattle.client_link.specs.declared.pump_end.PumpEnd.{PumpEnd}
+use Rattle.client_link.specs.declared.pump_end.PumpEnd.TheVariants as ended
+use Rattle.client_link.specs.Pumps.{Pumps}
+use Rattle.script_run.specs.declared.answer.Answer.{Answer}
+use Rattle.script_run.specs.declared.answer.Answer.TheVariants.{Hit, Read, Reply, Refused}
+use Rattle.script_run.specs.Lines.{ThreadsCame}
+
+-- each entry of a log, with the entries before it
+abbrev pub turns_in : List LogEntry → List Turn
+turns_in [] = []
+turns_in (e ∷ log) = (e, log) ∷ turns_in log
+
+-- the client was told of the end of its link
+abbrev pub IsDown : Answer → Type 0
+IsDown (Refused (refusal.Down w)) = ⊤
+IsDown (Refused r) = ⊥
+IsDown (Hit number value) = ⊥
+IsDown (Read number value) = ⊥
+IsDown (Reply value) = ⊥
+
+abbrev pub AnyDown : List Answer → Type 0
+AnyDown [] = ⊥
+AnyDown (answer ∷ answers) = IsDown answer ⊎ AnyDown answers
+
+abbrev pub HasDown : List (List Answer) → Type 0
+HasDown [] = ⊥
+HasDown (answers ∷ others) = AnyDown answers ⊎ HasDown others
+
+-- the pump ended the link, and neither found it ended nor had no ticket
+abbrev pub EndsLink : PumpEnd → Type 0
+EndsLink ended.Done = ⊥
+EndsLink ended.Worn = ⊥
+EndsLink e = ⊤
+
+-- the pump's turns on this log, from its start on
+pub record PumpedBy (s : Setup) (end : PumpEnd) (left0 left1 link0 link1 : Option (List ℕ))
+    (turns : List Turn) (log : List LogEntry) (tickets : ℕ) : Type 0 where
+  pub before : Place
+  pub after : Place
+  pub from_start : past_of before ≡ []
+  pub setup_is : setup_at before ≡ s
+  pub begins : IsPrefix (past_of after) log
+  pub not_more : after.tickets ≤ tickets
+  pub pumps : Pumps end left0 left1 link0 link1 before after
+  pub turns_are : turns ≡ pumps.ending ++ pumps.works.turns
+
+-- the end at the last, behind all that the callers saw; or the link had ended, or no ticket was
+-- left
+pub data ClosedBy (s : Setup) (turns : List Turn) (seen log : List LogEntry) (tickets : ℕ) : Type 0
+  where
+    LastEnd : (past : List LogEntry) → turns ≡ (entry.End Main, past) ∷ [] → IsPrefix seen past
+        → ClosedBy s turns seen log tickets
+    Over : (later : List LogEntry) → turns ≡ [] → IsPrefix later log
+        → is_ended s.mode Main later ≡ true → ClosedBy s turns seen log tickets
+    NoTicket : turns ≡ [] → LAST_TICKET ≤ tickets → ClosedBy s turns seen log tickets
+
+pub record Session (s : Setup) (lines : List ScriptLine) (answers : List (List Answer))
+    (end : PumpEnd) (left0 left1 link0 link1 : Option (List ℕ)) (log : List LogEntry) (tickets : ℕ)
+    : Type 0 where
+  -- the turns of the callers, of the pump, and the last
+  pub called : List Turn
+  pub pumped : List Turn
+  pub closing : List Turn
+  -- what the callers have seen of the log in the end
+  pub seen : List LogEntry
+  pub begins : IsPrefix seen log
+  pub many : length answers ≡ most_threads
+  pub came : ThreadsCame s lines 1 answers called seen tickets
+  pub pumps : PumpedBy s end left0 left1 link0 link1 pumped log tickets
+  pub closes : ClosedBy s closing seen log tickets
+  -- these are the log's entries, each once, however they are weighed
+  pub all : (f : Turn → ℕ) → total f (turns_in log)
+      ≡ total f pumped + (total f closing + total f called)
+  pub legal : LegalLog s log
+  pub down : HasDown answers → EndsLink end

@@ -1,0 +1,12 @@
+//! A script: threads that ask one client over one link, and what their lines came to.
+#![tactic(auto)]
+
+mod answer;
+mod callers;
+mod reports;
+mod session;
+
+pub use answer::Answer;
+pub use callers::Answers;
+pub use reports::{SessionEnd, report};
+pub use session::{Played, play_script};

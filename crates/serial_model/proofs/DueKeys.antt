@@ -1,0 +1,284 @@
+-- The keys that are due, by the keyspace: exactly those whose deadline is past, each once.
+use Rattle.std.proofs.Common.{◌≡◌, ◌∙◌, refl, sym, ap, ℕ, List, [], ◌∷◌, Bool, true, false, cond}
+use Rattle.std.proofs.Common.{Option, None, Some, not, map, is_some, eq-eqb}
+use Rattle.std.specs.declared.cmp.Ordering.TheVariants.{Equal}
+use Rattle.std.specs.Prelude.{◌&&◌, ◌||◌, ◌==◌, nat_lt}
+use Rattle.std.specs.Cmp.{both_ways}
+use Rattle.std.specs.Cmp.Lexicographic.{slice_cmp, nat_list_cmp_total, texts_ties}
+use Rattle.std.specs.FinMap.{get, keys, contains_key-keys, get-retain_keys, same_map}
+use Rattle.std.specs.FinMap.{slice_cmp-IsAntisymmetric, nat_cmp-IsAntisymmetric}
+use Rattle.std.specs.List.{list_any}
+use Rattle.std.specs.Option.{option_and_then}
+use Rattle.std.specs.Ordering.{nat_cmp, eq_by_cmp}
+use Rattle.std.specs.Str.{bytes_eq}
+use Rattle.std.proofs.lemmas.Bool.{eqb-true}
+use Rattle.std.proofs.lemmas.Slice.Eq.{bytes_eq-Decides}
+use Rattle.command_words.specs.Expiry.{is_past, without_due}
+use Rattle.command_words.specs.Space.{Held, Space, held_at, deadline_at}
+use Rattle.expiry.specs.declared.index.Deadline.{Deadline}
+use Rattle.expiry.specs.Index.{has, is_same, is_due, due, comes_before}
+use Rattle.expiry.specs.Order.{IsBeforeAll, IsOrdered}
+use Rattle.expiry.proofs.Orders.{same_deadline, ordered_with, not_before_itself}
+use Rattle.expiry.proofs.Members.{setting_adds_one, one_index}
+use Rattle.serial_model.specs.Deadlines.{with_deadline, deadlines, due_keys}
+use Rattle.serial_model.specs.Tracking.{AreApart}
+use Rattle.serial_model.specs.Laws.{is_among}
+
+abbrev pub is_at : ℕ → Option ℕ → Bool
+is_at at None = false
+is_at at (Some deadline) = at == deadline
+
+abbrev keys_of : List Deadline → List (List ℕ)
+keys_of ds = map (λ d. d.key) ds
+
+abbrev life : Option Held → Option ℕ
+life held = option_and_then (λ h. h.deadline) held
+
+-- an index has the deadlines of a keyspace
+abbrev pub AreOfSpace : List Deadline → Space → Type 0
+AreOfSpace index space = (d : Deadline) → has d index ≡ is_at d.at (deadline_at d.key space)
+
+at_is : (at : ℕ) (o : Option ℕ) → is_at at o ≡ true → o ≡ Some at
+at_is at None e = absurd cc
+at_is at (Some y) e = ap Some (sym (eqb-true at y e))
+
+at_itself : (at : ℕ) → is_at at (Some at) ≡ true
+at_itself at = eq-eqb at at refl
+
+right_true : (b c : Bool) → c ≡ true → (b || c) ≡ true
+right_true true c e = refl
+right_true false c e = e
+
+-- ---- the deadlines of a keyspace
+
+skips : (b a x : Bool) → (b ≡ true → x ≡ false) → (a && x) ≡ ((b || a) && x)
+skips true true x f = refl
+skips true false x f = sym (f refl)
+skips false a x f = refl
+
+adds : (b a x y : Bool) → (b ≡ true → x ≡ y) → ((y && b) || (a && x)) ≡ ((b || a) && x)
+adds true a x true f = sym (f refl)
+adds true true x false f = refl
+adds true false x false f = sym (f refl)
+adds false a x true f = refl
+adds false a x false f = refl
+
+ties : (q : List ℕ) (ks : List (List ℕ))
+    → list_any (eq_by_cmp (slice_cmp nat_cmp) q) ks ≡ list_any (bytes_eq q) ks
+ties q [] = refl
+ties q (k ∷ ks) =
+    ap (λ b. b || list_any (eq_by_cmp (slice_cmp nat_cmp) q) ks) (sym (texts_ties q k))
+    ∙ ap (λ b. bytes_eq q k || b) (ties q ks)
+
+module _ (space : Space) where
+  same_life : (d : Deadline) (k : List ℕ) (o : Option ℕ) → deadline_at k space ≡ o
+      → bytes_eq d.key k ≡ true → is_at d.at (deadline_at d.key space) ≡ is_at d.at o
+  same_life d k o e same =
+      ap (λ q. is_at d.at (deadline_at q space)) ((bytes_eq-Decides d.key k).0 same)
+      ∙ ap (is_at d.at) e
+
+  listed : (d : Deadline) (ks : List (List ℕ))
+      → has d (deadlines space ks)
+      ≡ (is_among ks d.key && is_at d.at (deadline_at d.key space))
+  unfolding deadlines
+  listed d [] = refl
+  listed d (k ∷ ks) =
+      let x = is_at d.at (deadline_at d.key space) in
+      elim (deadline_at k space) as (λ o. deadline_at k space ≡ o
+      → has d (with_deadline k o (deadlines space ks))
+      ≡ ((bytes_eq d.key k || is_among ks d.key) && x)) [
+        | None ↦ λ e.
+            listed d ks
+            ∙ skips (bytes_eq d.key k) (is_among ks d.key) x (same_life d k None e)
+        | Some at ↦ λ e.
+            setting_adds_one d (record { at = at; key = k }) (deadlines space ks)
+            ∙ ap (λ b. is_same d (record { at = at; key = k }) || b) (listed d ks)
+            ∙ adds (bytes_eq d.key k) (is_among ks d.key) x (d.at == at)
+            (same_life d k (Some at) e)
+      ] refl
+
+  pub deadlines_are : AreOfSpace (deadlines space (keys space)) space
+  deadlines_are d =
+      listed d (keys space)
+      ∙ ap (λ b. b && is_at d.at (deadline_at d.key space))
+      (sym (ties d.key (keys space)) ∙ sym (contains_key-keys space d.key))
+      ∙ by (held_at d.key space)
+    where
+      by : (h : Option Held) → (is_some h && is_at d.at (life h)) ≡ is_at d.at (life h)
+      by None = refl
+      by (Some h) = refl
+
+  pub deadlines_ordered : (ks : List (List ℕ)) → IsOrdered (deadlines space ks)
+  unfolding deadlines
+  deadlines_ordered [] = tt
+  deadlines_ordered (k ∷ ks) =
+      elim (deadline_at k space) as (λ o. IsOrdered (with_deadline k o (deadlines space ks))) [
+        | None ↦ deadlines_ordered ks
+        | Some at ↦ ordered_with (record { at = at; key = k }) (deadlines space ks)
+            (deadlines_ordered ks)
+      ]
+
+-- ---- those that are due
+
+module _ (moment : ℕ) (q : List ℕ) where
+  abbrev named : List Deadline → Bool
+  named ds = is_among (keys_of (due moment ds)) q
+
+  -- a deadline of the key that is due
+  abbrev IsDueAt : List Deadline → Type 0
+  IsDueAt ds = (at : ℕ) × (has (record { at = at; key = q }) ds ≡ true) × (nat_lt at moment ≡ true)
+
+  further : (d : Deadline) (ds : List Deadline) → IsDueAt ds → IsDueAt (d ∷ ds)
+  further d ds f = (f.0, right_true _ _ f.1, f.2)
+
+  found : (ds : List Deadline) → named ds ≡ true → IsDueAt ds
+  found [] e = absurd cc
+  found (d ∷ ds) e =
+      elim (is_due moment d) as (λ b. is_due moment d ≡ b
+      → list_any (bytes_eq q) (keys_of (cond b (d ∷ due moment ds) (due moment ds))) ≡ true
+      → IsDueAt (d ∷ ds)) [
+        | true ↦ λ past h. elim (bytes_eq q d.key) as (λ b. bytes_eq q d.key ≡ b
+            → (b || named ds) ≡ true → IsDueAt (d ∷ ds)) [
+              | true ↦ λ is g. (
+                d.at,
+                (λ i. (eq-eqb d.at d.at refl i && is i)
+                    || has (record { at = d.at; key = q }) ds),
+                past,
+              )
+              | false ↦ λ is g. further d ds (found ds g)
+            ] refl h
+        | false ↦ λ past h. further d ds (found ds h)
+      ] refl e
+
+  among_due : (at : ℕ) (ds : List Deadline) → has (record { at = at; key = q }) ds ≡ true
+      → nat_lt at moment ≡ true → named ds ≡ true
+  among_due at [] e past = absurd cc
+  among_due at (d ∷ ds) e past =
+      elim (is_same (record { at = at; key = q }) d)
+      as (λ b. is_same (record { at = at; key = q }) d ≡ b
+      → (b || has (record { at = at; key = q }) ds) ≡ true → named (d ∷ ds) ≡ true) [
+        | true ↦ λ s h.
+            let one = same_deadline (record { at = at; key = q }) d s in
+            ap (λ b. list_any (bytes_eq q) (keys_of (cond b (d ∷ due moment ds) (due moment ds))))
+            (ap (is_due moment) (sym one) ∙ past)
+            ∙ ap (λ b. b || named ds)
+            (ap (λ x. bytes_eq q x.key) (sym one) ∙ (bytes_eq-Decides q q).1 refl)
+        | false ↦ λ s h.
+            let rest = among_due at ds h past in
+            elim (is_due moment d) as (λ b.
+            list_any (bytes_eq q) (keys_of (cond b (d ∷ due moment ds) (due moment ds))) ≡ true)
+            [ true ↦ right_true _ _ rest | false ↦ rest ]
+      ] refl e
+
+  -- a key is named exactly where its deadline is past
+  named_past : (index : List Deadline) (s : Space) → AreOfSpace index s
+      → named index ≡ is_past moment (deadline_at q s)
+  named_past index s each = both_ways (named index) (is_past moment (deadline_at q s)) forth
+      (back (deadline_at q s) refl)
+    where
+      forth : named index ≡ true → is_past moment (deadline_at q s) ≡ true
+      forth e =
+          let f = found index e in
+          ap (is_past moment) (at_is f.0 (deadline_at q s)
+          (sym (each (record { at = f.0; key = q })) ∙ f.1)) ∙ f.2
+
+      back : (r : Option ℕ) → deadline_at q s ≡ r → is_past moment r ≡ true → named index ≡ true
+      back None is e = absurd cc
+      back (Some at) is e =
+          among_due at index
+          (each (record { at = at; key = q }) ∙ (ap (is_at at) is ∙ at_itself at)) e
+
+pub due_is_past : (moment : ℕ) (space : Space) (q : List ℕ)
+    → is_among (due_keys moment space) q ≡ is_past moment (deadline_at q space)
+unfolding due_keys
+due_is_past moment space q =
+    named_past moment q (deadlines space (keys space)) space (deadlines_are space)
+
+-- the keys that are due by any index of the keyspace are those
+pub due_by_index : (moment : ℕ) (space : Space) (index : List Deadline) → IsOrdered index
+    → AreOfSpace index space → keys_of (due moment index) ≡ due_keys moment space
+unfolding due_keys
+due_by_index moment space index ordered each =
+    ap (λ ds. keys_of (due moment ds))
+    (one_index index (deadlines space (keys space)) ordered
+    (deadlines_ordered space (keys space)) (λ d. each d ∙ sym (deadlines_are space d)))
+
+-- ---- each once
+
+-- one that comes before all is none of them
+not_among : (d : Deadline) (ds : List Deadline) → IsBeforeAll d ds → has d ds ≡ false
+not_among d [] h = refl
+not_among d (e ∷ es) h =
+    elim (is_same d e) as (λ b. is_same d e ≡ b → (b || has d es) ≡ false) [
+      | true ↦ λ s.
+          let no : comes_before d e ≡ false =
+          ap (comes_before d) (sym (same_deadline d e s)) ∙ not_before_itself d in
+          absurd (let clash : true ≡ false = sym h.0 ∙ no in cc)
+      | false ↦ λ s. not_among d es h.1
+    ] refl
+
+module _ (moment : ℕ) (space : Space) where
+  abbrev AreCurrent : List Deadline → Type 0
+  AreCurrent ds = (d : Deadline) → has d ds ≡ true → deadline_at d.key space ≡ Some d.at
+
+  some_same : (a b : ℕ) → Some a ≡ Some b → a ≡ b
+  some_same a b e = cc
+
+  -- a key has one deadline
+  once : (d : Deadline) (ds : List Deadline) → IsBeforeAll d ds → AreCurrent (d ∷ ds)
+      → is_among (keys_of (due moment ds)) d.key ≡ false
+  once d ds before current =
+      elim (is_among (keys_of (due moment ds)) d.key) as (λ b.
+      is_among (keys_of (due moment ds)) d.key ≡ b → b ≡ false) [
+        | true ↦ λ e.
+            let f = found moment d.key ds e in
+            let other : deadline_at d.key space ≡ Some f.0 =
+            current (record { at = f.0; key = d.key }) (right_true _ _ f.1) in
+            let own : deadline_at d.key space ≡ Some d.at = current d (first d) in
+            let one : f.0 ≡ d.at = some_same f.0 d.at (sym other ∙ own) in
+            let there : has d ds ≡ true =
+            ap (λ at. has (record { at = at; key = d.key }) ds) (sym one) ∙ f.1 in
+            absurd (let clash : true ≡ false = sym there ∙ not_among d ds before in cc)
+        | false ↦ λ e. refl
+      ] refl
+    where
+      first : (d : Deadline) → has d (d ∷ ds) ≡ true
+      first d =
+          λ i. (eq-eqb d.at d.at refl i && (bytes_eq-Decides d.key d.key).1 refl i) || has d ds
+
+  apart : (ds : List Deadline) → IsOrdered ds → AreCurrent ds → AreApart (keys_of (due moment ds))
+  apart [] ordered current = tt
+  apart (d ∷ ds) ordered current =
+      let rest = apart ds ordered.1 (λ e h. current e (right_true _ _ h)) in
+      elim (is_due moment d) as (λ b. AreApart (keys_of (cond b (d ∷ due moment ds)
+      (due moment ds)))) [
+        | true ↦ (once d ds ordered.0 current, rest)
+        | false ↦ rest
+      ]
+
+  pub due_apart : AreApart (due_keys moment space)
+  unfolding due_keys
+  due_apart =
+      apart (deadlines space (keys space)) (deadlines_ordered space (keys space))
+      (λ d h. at_is d.at (deadline_at d.key space) (sym (deadlines_are space d) ∙ h))
+
+  -- ---- what they leave
+
+  alike : (q x : List ℕ) → slice_cmp nat_cmp q x ≡ Equal
+      → not (is_past moment (deadline_at x space)) ≡ not (is_past moment (deadline_at q space))
+  alike q x tied =
+      ap (λ key. not (is_past moment (deadline_at key space)))
+      (sym (slice_cmp-IsAntisymmetric nat_cmp-IsAntisymmetric q x tied))
+
+  -- a key that is not due holds what it held
+  pub not_due_stays : (q : List ℕ) → is_among (due_keys moment space) q ≡ false
+      → held_at q (without_due moment space) ≡ held_at q space
+  not_due_stays q none =
+      get-retain_keys space (λ key. not (is_past moment (deadline_at key space))) q
+      (λ x tied. alike q x tied)
+      ∙ ap (λ b. cond (not b) (get space q) None) (sym (due_is_past moment space q) ∙ none)
+
+  pub none_due : due_keys moment space ≡ [] → without_due moment space ≡ space
+  none_due none =
+      same_map nat_list_cmp_total (slice_cmp-IsAntisymmetric nat_cmp-IsAntisymmetric) _ _
+      (λ q. not_due_stays q (ap (λ ks. is_among ks q) none))

@@ -1,0 +1,173 @@
+-- Each connection that remembers a key tracks.
+use Rattle.std.proofs.Common.{◌≡◌, ℕ, List, [], ◌∷◌, true, false, cond, Result}
+use Rattle.std.proofs.Common.{refl, ap, sym, subst, ◌∙◌, eq-eqb}
+use Rattle.std.specs.Prelude.{◌==◌}
+use Rattle.std.proofs.lemmas.Bool.{eqb-true}
+use Rattle.command_words.specs.declared.command.Command.{Command}
+use Rattle.command_words.specs.declared.command.Signalled.TheVariants.{All}
+use Rattle.command_words.specs.declared.command.WordFault.{WordFault}
+use Rattle.command_words.specs.Expiry.{without_due}
+use Rattle.command_words.specs.Queries.{read}
+use Rattle.command_words.specs.Space.{Space}
+use Rattle.command_words.specs.Words.{reading}
+use Rattle.track_table.specs.declared.table.Held.{Held}
+use Rattle.track_table.specs.Table.{with_keys, without_connection}
+use Rattle.serial_model.specs.declared.mode.Mode.{Mode}
+use Rattle.serial_model.specs.declared.mode.Runner.{Runner}
+use Rattle.serial_model.specs.declared.history.Limits.{Limits}
+use Rattle.serial_model.specs.declared.history.Entry.{Entry}
+use Rattle.serial_model.specs.declared.history.Entry.TheVariants.{Admit, Run, Tick, Take, Close}
+use Rattle.serial_model.specs.Modes.{Memory, Remembers, Forgets, OwnEffect, own_effect}
+use Rattle.serial_model.specs.Tracking.{remembering, without_signalled}
+use Rattle.serial_model.specs.History.{effect_of, ran_over, made_of, made, served, mode}
+use Rattle.serial_model.specs.History.{table, table_then, table_grown, expired, signals, keyspace}
+use Rattle.serial_model.specs.History.{runner}
+use Rattle.serial_model.proofs.Tables.{AllRows, all_rows, with_keys_all, without_keys_all, kept_all}
+use Rattle.serial_model.proofs.Tables.{without_signalled_all, freed_all}
+use Rattle.serial_model.proofs.ServedRows.{served_cases, data_own}
+use Rattle.serial_model.proofs.ModeSteps.{mode_other, mode_own}
+
+-- one that comes to remember a key tracks, and one that stops tracking forgets
+OwnTracks : Mode → Mode → Memory → Type 0
+OwnTracks before after (Remembers []) = before.tracking ≡ true → after.tracking ≡ true
+OwnTracks before after (Remembers (key ∷ keys)) = after.tracking ≡ true
+OwnTracks before after Forgets = Unit {0}
+
+abbrev Keeps : Mode → OwnEffect → Type 0
+Keeps before own = OwnTracks before own.mode own.memory
+
+reads_track : (m : Mode) (keys : List (List ℕ)) → m.tracking ≡ true
+    → OwnTracks m m (Remembers keys)
+unfolding OwnTracks
+reads_track m [] e = λ h. h
+reads_track m (key ∷ keys) e = e
+
+data_tracks : (c : Command) (m : Mode) → OwnTracks m m (Remembers (cond m.tracking (read c) []))
+unfolding OwnTracks
+data_tracks c m =
+    elim m.tracking as (λ b. m.tracking ≡ b → OwnTracks m m (Remembers (cond b (read c) []))) [
+      | true ↦ λ e. reads_track m (read c) e
+      | false ↦ λ e h. h
+    ] refl
+
+own_tracks : (r : Result Command WordFault) (m : Mode) → Keeps m (own_effect (served r) m)
+unfolding OwnTracks
+own_tracks r m =
+    served_cases (λ x. Keeps m (own_effect x m))
+    (λ word h. h)
+    (λ options. elim options.on as (λ b. OwnTracks m (record m { tracking = b })
+    (cond b (Remembers []) Forgets)) [ true ↦ λ h. refl | false ↦ tt ])
+    (λ c is. subst (Keeps m) (sym (data_own c m is)) (data_tracks c m))
+    (λ fault h. h) r
+
+module _ (P Q : ℕ → Type 0) (id : ℕ) (f : (h : ℕ) → (h == id) ≡ false → P h → Q h) where
+  by_id : (P id → Q id) → (h : ℕ) → P h → Q h
+  by_id own h p =
+      elim (h == id) as (λ b. (h == id) ≡ b → Q h) [
+        | true ↦ λ e.
+            let is = eqb-true h id e in subst Q (sym is) (own (subst P is p))
+        | false ↦ λ e. f h e p
+      ] refl
+
+  some_remember : (keys : List (List ℕ)) (rows : List Held) → AllRows P rows → Q id
+      → AllRows Q (with_keys id keys rows)
+  some_remember keys rows a q =
+      with_keys_all Q id keys rows q (all_rows {P = P} {Q = Q} (by_id (λ p. q)) rows a)
+
+  all_forget : (rows : List Held) → AllRows P rows → AllRows Q (without_connection id rows)
+  all_forget rows a =
+      all_rows {P = λ h. P h × ((h == id) ≡ false)} {Q = Q} (λ h x. f h x.1 x.0)
+      (without_connection id rows) (freed_all P id rows a)
+
+module _ (l : Limits) where
+  unfoldable pub Tracks : List Entry → ℕ → Type 0
+  Tracks past h = (mode l h past).tracking ≡ true
+
+  turned : (a b : ℕ) → (a == b) ≡ false → (b == a) ≡ false
+  turned a b e =
+      elim (b == a) as (λ x. (b == a) ≡ x → x ≡ false) [
+        | true ↦ λ h.
+            let no : (a == b) ≡ true = ap (λ z. a == z) (eqb-true b a h) ∙ itself a in
+            absurd (let clash : true ≡ false = sym no ∙ e in cc)
+        | false ↦ λ h. refl
+      ] refl
+    where
+      itself : (z : ℕ) → (z == z) ≡ true
+      itself z = eq-eqb z z refl
+
+  others_track : (past : List Entry) (id : ℕ) (words : List (List ℕ)) (moment h : ℕ)
+      → (h == id) ≡ false → Tracks past h → Tracks (Run id words moment ∷ past) h
+  unfolding Tracks
+  others_track past id words moment h other t =
+      ap (λ (m : Mode). m.tracking) (mode_other l h id moment words past (turned h id other)) ∙ t
+
+  own_is : (past : List Entry) (id : ℕ) (words : List (List ℕ)) (moment : ℕ)
+      → (made l past id words).mode.tracking ≡ true → Tracks (Run id words moment ∷ past) id
+  unfolding Tracks
+  own_is past id words moment e =
+      ap (λ (m : Mode). m.tracking) (mode_own l id id moment words past (eq-eqb id id refl)) ∙ e
+
+  own_made : (past : List Entry) (id : ℕ) (words : List (List ℕ))
+      → Keeps (mode l id past) (made l past id words)
+  unfolding made_of
+  own_made past id words = own_tracks (reading words) (mode l id past)
+
+  remembering_tracks : (past : List Entry) (id : ℕ) (words : List (List ℕ)) (moment : ℕ)
+      (rows : List Held) (memory : Memory)
+      → OwnTracks (mode l id past) (made l past id words).mode memory
+      → AllRows (Tracks past) rows
+      → AllRows (Tracks (Run id words moment ∷ past)) (remembering id memory rows)
+  unfolding OwnTracks Tracks
+  remembering_tracks past id words moment rows (Remembers []) own a =
+      let after = Run id words moment ∷ past in
+      all_rows {P = Tracks past} {Q = Tracks after}
+      (by_id (Tracks past) (Tracks after) id (others_track past id words moment)
+      (λ p. own_is past id words moment (own p))) rows a
+  remembering_tracks past id words moment rows (Remembers (key ∷ keys)) own a =
+      some_remember (Tracks past) (Tracks (Run id words moment ∷ past)) id
+      (others_track past id words moment) (key ∷ keys) rows a (own_is past id words moment own)
+  remembering_tracks past id words moment rows Forgets own a =
+      all_forget (Tracks past) (Tracks (Run id words moment ∷ past)) id
+      (others_track past id words moment) rows a
+
+  pub table_tracks : (past : List Entry) → AllRows (Tracks past) (table l past)
+  unfolding AllRows Tracks
+  table_tracks [] = tt
+  table_tracks (Admit id ∷ past) = table_tracks past
+  table_tracks (Run id words moment ∷ past) =
+      let then = table_then l past moment in
+      let sig = signals l past id words moment in
+      kept_all (Tracks (Run id words moment ∷ past)) l.table_max
+      (table_grown l past id words moment)
+      (remembering_tracks past id words moment (without_signalled sig then)
+      (made l past id words).memory (own_made past id words)
+      (without_signalled_all (Tracks past) sig then
+      (without_keys_all (Tracks past) (expired l past moment) (table l past)
+      (table_tracks past))))
+  table_tracks (Tick moment ∷ past) =
+      without_keys_all (Tracks past) (expired l past moment) (table l past) (table_tracks past)
+  table_tracks (Take id max ∷ past) = table_tracks past
+  table_tracks (Close id ∷ past) =
+      all_rows {P = λ h. Tracks past h × ((h == id) ≡ false)} {Q = Tracks past} (λ h x. x.0)
+      (table l (Close id ∷ past)) (freed_all (Tracks past) id (table l past) (table_tracks past))
+
+-- ---- a flush leaves its connection's mode
+
+all_keeps : (by : Runner) (words : List (List ℕ)) (r : Result Command WordFault) (s : Space)
+    (moment : ℕ) (m : Mode)
+    → (effect_of by words (served r) s moment).signalled ≡ All
+    → (own_effect (served r) m).mode ≡ m
+all_keeps by words r s moment m =
+    served_cases (λ x. (effect_of by words x s moment).signalled ≡ All
+    → (own_effect x m).mode ≡ m)
+    (λ word h. absurd (let no : ⊥ = cc in no))
+    (λ options h. absurd (let no : ⊥ = cc in no))
+    (λ c is h. ap (λ (o : OwnEffect). o.mode) (data_own c m is))
+    (λ fault h. absurd (let no : ⊥ = cc in no)) r
+
+pub flush_keeps : (l : Limits) (past : List Entry) (id moment : ℕ) (words : List (List ℕ))
+    → signals l past id words moment ≡ All → (made l past id words).mode ≡ mode l id past
+unfolding ran_over made_of
+flush_keeps l past id moment words h =
+    all_keeps (runner l past id) words (reading words) (without_due moment (keyspace l past)) moment
+    (mode l id past) h

@@ -1,0 +1,137 @@
+-- A Tick sends what its entry sends, and leaves what the history says.
+use Rattle.std.proofs.Common.{◌≡◌, ◌≢◌, ◌+◌, ◌≤◌, ℕ, List, [], ◌∷◌, ◌++◌, length, sym, ap, ◌∙◌}
+use Rattle.std.proofs.Common.{refl, arith, true, false, inl, inr, append-nil, max, cond}
+use Rattle.std.proofs.Common.{ne_eqb}
+use Rattle.std.specs.Prelude.{◌==◌}
+use Rattle.std.proofs.lemmas.Bool.{cases_eq}
+use Rattle.command_words.specs.Expiry.{without_due}
+use Rattle.command_words.specs.Space.{Space}
+use Rattle.track_table.specs.Table.{TableState}
+use Rattle.serial_model.specs.declared.history.BookCall.TheVariants.{Tick}
+use Rattle.serial_model.specs.declared.history.BookReply.TheVariants.{Ticked, Quiet}
+use Rattle.serial_model.specs.declared.history.Limits.{Limits}
+use Rattle.serial_model.specs.declared.history.Entry.{Entry}
+use Rattle.serial_model.specs.declared.history.Entry.TheVariants as entry
+use Rattle.serial_model.specs.Tracking.{without_keys}
+use Rattle.serial_model.specs.History.{is_full, latest, has_ended, unsent, posted, modes, routed}
+use Rattle.serial_model.specs.History.{sends, sent_to, sent_bytes, posts_of, expired, expiry_group}
+use Rattle.serial_model.specs.History.{table}
+use Rattle.serial_model.specs.Steps.{book_step, full, ticking}
+use Rattle.serial_model.proofs.Streams.{IsLive, tick_bytes, tick_sends_none, unsent_tick}
+use Rattle.serial_model.proofs.Streams.{unsent_ended}
+use Rattle.serial_model.proofs.Turning.{tick_step}
+use Rattle.server_book.specs.declared.connections.Connection.{Connection}
+use Rattle.server_book.specs.Connections.{IsId, connection_at}
+use Rattle.server_book.specs.BookState.{Agrees, connection_of}
+use Rattle.server_book.proofs.Runs.{early, early_is, first, first_at, first_posts, length_first}
+use Rattle.server_book.proofs.BookTurns.{same_parts}
+
+module _ (l : Limits) (past : List Entry) (space : Space) (keys : TableState)
+    (cs : List Connection) (k : Agrees l past space keys cs) (m n : ℕ) (gone : List (List ℕ))
+    (gone_is : gone ≡ expired l past m) (number : n ≡ length past + 1) where
+  abbrev told : List Connection
+  told = (first l past space keys cs k m gone gone_is n).items
+
+  ended_none : (c : ℕ) → has_ended l c past ≡ true
+      → sent_to (length past + 1) c (sends l (entry.Tick m) past) ≡ []
+  unfolding IsLive
+  ended_none c over =
+      tick_sends_none l (length past + 1) c past m k.legal
+      (λ h live. elim (cases_eq h c) [
+        | inl e ↦ absurd (let both : false ≡ true = sym live.1
+            ∙ ap (λ x. has_ended l x past) e ∙ over in let no : ⊥ = cc in no)
+        | inr ne ↦ ne_eqb h c ne
+      ])
+
+  unsent_after : (c : ℕ) → unsent l c (entry.Tick m ∷ past)
+      ≡ unsent l c past ++ tick_bytes l past m c
+  unsent_after c =
+      elim (has_ended l c past) as (λ b. has_ended l c past ≡ b
+      → unsent l c (entry.Tick m ∷ past) ≡ unsent l c past ++ tick_bytes l past m c) [
+        | true ↦ λ over.
+            unsent_ended l (entry.Tick m ∷ past) c over
+            ∙ sym (ap (λ x. unsent l c past ++ sent_bytes x) (ended_none c over)
+            ∙ append-nil (unsent l c past) ∙ unsent_ended l past c over)
+        | false ↦ λ live. unsent_tick l past c m live
+      ] refl
+
+  bytes_are : (c : ℕ) → sent_bytes (sent_to n c (early l past space keys cs k m gone gone_is))
+      ≡ tick_bytes l past m c
+  bytes_are c =
+      ap (λ x. sent_bytes (sent_to n c x)) (early_is l past space keys cs k m gone gone_is)
+      ∙ ap (λ x. sent_bytes (sent_to x c (sends l (entry.Tick m) past))) number
+
+  each : (i : ℕ) → IsId cs i → connection_at told i ≡ connection_of l (entry.Tick m ∷ past) i
+  each i there =
+      first_at l past space keys cs k m gone gone_is n i there
+      ∙ same_parts
+      (ap (λ x. unsent l i past ++ x) (bytes_are i) ∙ sym (unsent_after i)) refl refl
+
+  pub length_told : length told ≡ length cs
+  length_told = length_first l past space keys cs k m gone gone_is n
+
+  pub agrees_tick : (new : Space) → (gone ≡ [] → ⊥) → is_full l past ≡ false → latest past ≤ m
+      → new ≡ without_due m space
+      → Agrees l (entry.Tick m ∷ past) new (record keys { rows = without_keys gone keys.rows }) told
+  agrees_tick new some room later s = record {
+    legal = ((λ none. some (gone_is ∙ none)), room, later, k.legal);
+    space_is = s ∙ ap (without_due m) k.space_is;
+    table_is =
+        ap (λ g. record { limit = keys.limit; rows = without_keys g keys.rows }) gone_is
+        ∙ ap (λ (t : TableState). record {
+          limit = t.limit;
+          rows = without_keys (expired l past m) t.rows;
+        }) k.table_is;
+    count = length_told ∙ k.count;
+    each = λ i there.
+        each i (there.0, let le = there.1 in omega (arith, le, length_told));
+  }
+
+  pub posted_tick : (first l past space keys cs k m gone gone_is n).posts
+      ≡ posted l (entry.Tick m ∷ past)
+  unfolding posted
+  posted_tick =
+      first_posts l past space keys cs k m gone gone_is n
+      ∙ ap (posts_of n) (early_is l past space keys cs k m gone gone_is)
+      ∙ ap (λ x. posts_of x (sends l (entry.Tick m) past)) number
+
+-- whether keys are due, by their number
+pub none_of : (keys : List (List ℕ)) → length keys ≡ 0 → keys ≡ []
+none_of [] e = refl
+none_of (key ∷ keys) e = absurd (omega arith)
+
+pub some_of : (keys : List (List ℕ)) → length keys ≢ 0 → keys ≡ [] → ⊥
+some_of keys ne none = ne (ap length none)
+
+-- the answers of a Tick
+pub tick_turned : (l : Limits) (past : List Entry) (now m n : ℕ) (gone : List (List ℕ))
+    → gone ≡ expired l past m → (gone ≡ [] → ⊥) → is_full l past ≡ false
+    → n ≡ length past → m ≡ max now (latest past)
+    → book_step l past (Tick now) ≡ record { reply = Ticked (n + 1); past = entry.Tick m ∷ past }
+tick_turned l past now m n [] is some room h moment = absurd (some refl)
+tick_turned l past now m n (key ∷ gone) is some room h moment =
+    tick_step l past now key gone (ap (expired l past) (sym moment) ∙ sym is) room
+    ∙ ap (λ x. record {
+      reply = Ticked (x + 1);
+      past = entry.Tick (max now (latest past)) ∷ past;
+    }) (sym h)
+    ∙ ap (λ x. record { reply = Ticked (n + 1); past = entry.Tick x ∷ past }) (sym moment)
+
+pub tick_quiet : (l : Limits) (past : List Entry) (now m : ℕ) → expired l past m ≡ []
+    → m ≡ max now (latest past)
+    → book_step l past (Tick now) ≡ record { reply = Quiet; past = past }
+unfolding book_step
+tick_quiet l past now m none moment =
+    ap (λ x. ticking l past x (expired l past x)) (sym moment) ∙ ap (ticking l past m) none
+
+pub tick_full : (l : Limits) (past : List Entry) (now m : ℕ) (gone : List (List ℕ))
+    → gone ≡ expired l past m → (gone ≡ [] → ⊥) → is_full l past ≡ true
+    → m ≡ max now (latest past)
+    → book_step l past (Tick now) ≡ full past
+unfolding book_step
+tick_full l past now m [] is some none moment = absurd (some refl)
+tick_full l past now m (key ∷ gone) is some none moment =
+    ap (λ x. ticking l past x (expired l past x)) (sym moment)
+    ∙ ap (ticking l past m) (sym is)
+    ∙ ap (λ v. cond v (full past)
+    (record { reply = Ticked (length past + 1); past = entry.Tick m ∷ past })) none

@@ -1,0 +1,87 @@
+-- A Run that memory broke off is taken back.
+use Rattle.std.proofs.Common.{◌≡◌, ◌<◌, ◌≤◌, ℕ, List, [], ◌∷◌, ◌++◌, length, sym, ap, subst, ◌∙◌}
+use Rattle.std.proofs.Common.{◌-◌, refl, arith, length-set}
+use Rattle.track_table.specs.declared.table.Held.{Held}
+use Rattle.serial_model.specs.declared.history.Post.{Post}
+use Rattle.serial_model.specs.declared.mode.Mode.{Mode}
+use Rattle.serial_model.specs.History.{Sending, routed}
+use Rattle.serial_model.specs.Tracking.{AreApart, group, without_keys}
+use Rattle.serial_model.proofs.TableSize.{without_keys_within}
+use Rattle.server_book.specs.declared.connections.Connection.{Connection}
+use Rattle.server_book.specs.Connections.{ArePosted, ConnectionsState, IsId, connection_at}
+use Rattle.server_book.specs.RunSendings.{with_mode}
+use Rattle.server_book.specs.Sendings.{before_posts, message_post, modes_of, queued, with_sendings}
+use Rattle.server_book.specs.Stores.{AreThere, IsHeld}
+use Rattle.server_book.proofs.Groups.{group_back, group_to}
+use Rattle.server_book.proofs.Remembered.{there_longer, without_keys_table, without_keys_there}
+use Rattle.server_book.proofs.Sendings.{before_last, before_mode, length_queued, length_sendings}
+use Rattle.server_book.proofs.Sendings.{mode_back, mode_same, posted_longer, posted_more}
+use Rattle.server_book.proofs.Sendings.{posted_sendings, unqueued_queued}
+
+-- the table is one of connections that are there, where keys leave it
+pub held_left : (limit : ℕ) (keys : List (List ℕ)) (rows : List Held) (cs ds : List Connection)
+    → length cs ≤ length ds → IsHeld limit rows cs → IsHeld limit (without_keys keys rows) ds
+held_left limit keys rows cs ds le h = record {
+  table = without_keys_table keys rows h.table;
+  short = omega (arith, h.short, without_keys_within keys rows);
+  there = there_longer cs ds (without_keys keys rows) le
+      (without_keys_there cs keys rows h.there);
+}
+
+-- the holders of the keys that left were told
+module _ (n id : ℕ) (old now : ConnectionsState) (keys : List (List ℕ)) (rows : List Held)
+    (there : AreThere old.items rows) (apart : AreApart keys) (on : IsId old.items id)
+    (none : old.posts ≡ [])
+    (told : now ≡ with_sendings n (routed (modes_of old.items) (group keys rows)) old) where
+  abbrev sent : List (ℕ × Sending)
+  sent = routed (modes_of old.items) (group keys rows)
+
+  pub length_told : length now.items ≡ length old.items
+  length_told =
+      ap (λ (s : ConnectionsState). length s.items) told ∙ length_sendings n sent old
+
+  pub on_told : IsId now.items id
+  on_told = (on.0, let le = on.1 in omega (arith, le, length_told))
+
+  told_none : before_posts now.posts now.items ≡ old.items
+  told_none =
+      group_back n old now keys rows there apart told
+      ∙ ap (λ ps. before_posts ps old.items) none
+
+  pub told_back : with_mode id (modes_of old.items id) (before_posts now.posts now.items)
+      ≡ old.items
+  told_back = ap (with_mode id (modes_of old.items id)) told_none ∙ mode_same old.items id on
+
+  -- and the reply was sent, and the mode set
+  module _ (mode : Mode) (message : List ℕ) where
+    abbrev post : Post
+    post = message_post n id (length message)
+
+    abbrev replied : List Connection
+    replied = queued now.items id message
+
+    pub length_replied : length replied ≡ length now.items
+    length_replied = length_queued now.items id message
+
+    pub length_switched : length (with_mode id mode replied) ≡ length old.items
+    length_switched = length-set replied (id - 1)
+        (record (connection_at replied id) { mode = mode }) ∙ length_replied ∙ length_told
+
+    posted : ArePosted replied (now.posts ++ post ∷ [])
+    posted =
+        posted_longer now.items replied (now.posts ++ post ∷ []) (omega (arith, length_replied))
+        (posted_more now.items now.posts post
+        (subst (λ (s : ConnectionsState). ArePosted s.items s.posts) (sym told)
+        (posted_sendings n sent old (group_to old.items keys rows there apart)
+        (subst (ArePosted old.items) (sym none) tt))) on_told)
+
+    pub replied_back : with_mode id (modes_of old.items id)
+        (before_posts (now.posts ++ post ∷ []) (with_mode id mode replied)) ≡ old.items
+    replied_back =
+        ap (with_mode id (modes_of old.items id))
+        (before_mode (now.posts ++ post ∷ []) replied id mode posted
+        (on.0, let le = on_told.1 in omega (arith, le, length_replied))
+        ∙ ap (with_mode id mode) (before_last now.posts post replied
+        ∙ ap (before_posts now.posts) (unqueued_queued now.items post message on_told refl)
+        ∙ told_none))
+        ∙ mode_back old.items id mode on

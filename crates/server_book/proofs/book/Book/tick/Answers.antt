@@ -1,0 +1,192 @@
+use Rattle.std.proofs.Common.{◌≡◌, ◌+◌, ◌∷◌, [], length, sym, ap, subst, ◌∙◌, arith, max, true}
+use Rattle.std.proofs.Common.{false, refl, eqb-true}
+use Rattle.std.proofs.lemmas.Bool.{eqb-false}
+use Rattle.serial_model.specs.declared.history.Entry.TheVariants as entry
+use Rattle.serial_model.specs.declared.history.BookCall.TheVariants.{Tick}
+use Rattle.serial_model.specs.declared.history.BookReply.TheVariants.{Quiet, Refused}
+use Rattle.serial_model.specs.declared.history.BookRefusal.TheVariants.{HistoryFull}
+use Rattle.serial_model.specs.Deadlines.{due_keys}
+use Rattle.serial_model.specs.History.{expired, is_full, routed}
+use Rattle.serial_model.specs.Steps.{BookStep}
+use Rattle.serial_model.specs.Tracking.{AreApart, group, without_keys}
+use Rattle.serial_model.proofs.DueKeys.{due_apart, none_due}
+use Rattle.server_book.specs.BookState.{Agrees, BookState, IsTurn}
+use Rattle.server_book.specs.Connections.{ConnectionsState}
+use Rattle.server_book.specs.Sendings.{modes_of, with_sendings}
+use Rattle.server_book.proofs.Plans.{due_is}
+use Rattle.server_book.proofs.BookTurns.{is_held, is_turn, room_more}
+use Rattle.server_book.proofs.Ticks.{agrees_tick, length_told, posted_tick, tick_full, tick_quiet}
+use Rattle.server_book.proofs.Ticks.{none_of, some_of, tick_turned}
+use Rattle.server_book.proofs.book.Book.tick.Goals as goal
+
+pub invariant_of-self-then-is_empty : goal.invariant_of-self-then-is_empty
+invariant_of-self-then-is_empty c =
+    let i = c.self.inside in
+    let l = i.limits in
+    let space = i.stores.space in
+    let m = c.max-moment.result in
+    let due = c.as_slice.ensures
+    ∙ due_is m space c.in_ok-keys.field-0.keys c.in_ok-keys.ensures.keys in
+    let none = none_of c.as_slice.result.now
+    (eqb-true (length c.as_slice.result.now) 0 (sym c.is_empty.ensures ∙ c.if-is_empty.true)) in
+    record {
+      agrees = subst (λ s. Agrees l c.reserve.new.self.past s i.stores.table
+          i.stores.connections.items)
+          (sym (c.in_ok-keys.ensures.ok ∙ none_due m space (sym due ∙ none)))
+          (subst (λ p. Agrees l p space i.stores.table i.stores.connections.items)
+          (sym c.reserve.ensures.past) c.self.invariant.agrees);
+      room = omega (arith, c.self.invariant.room, c.reserve.ensures.room);
+    }
+
+pub returns-then-is_empty-clause-ok : goal.returns-then-is_empty-clause-ok
+returns-then-is_empty-clause-ok c =
+    let i = c.self.inside in
+    let l = i.limits in
+    let past = i.log.past in
+    let space = i.stores.space in
+    let m = c.max-moment.result in
+    let posts = i.stores.connections.posts in
+    let due = c.as_slice.ensures
+    ∙ due_is m space c.in_ok-keys.field-0.keys c.in_ok-keys.ensures.keys in
+    let none = none_of c.as_slice.result.now
+    (eqb-true (length c.as_slice.result.now) 0 (sym c.is_empty.ensures ∙ c.if-is_empty.true)) in
+    let nobody : posts ≡ [] = ap (λ (b : BookState). b.posts) c.self.view_is ∙ c.requires.none in
+    let after : BookState = record { limits = l; past = c.reserve.new.self.past; posts = posts } in
+    subst (λ b. IsTurn b (Tick c.args.now) Quiet after) c.self.view_is
+    (record {
+      limits = refl;
+      step = subst (λ p. BookStep l past (Tick c.args.now) Quiet p) (sym c.reserve.ensures.past)
+          (tick_quiet l past c.args.now m
+          (ap (due_keys m) (sym c.self.invariant.agrees.space_is) ∙ sym due ∙ none)
+          (c.max-moment.ensures ∙ ap (max c.args.now) c.moment.ensures));
+      posts = nobody;
+    })
+
+pub returns-then-is_full-clause-ok : goal.returns-then-is_full-clause-ok
+returns-then-is_full-clause-ok c =
+    let i = c.self.inside in
+    let l = i.limits in
+    let past = i.log.past in
+    let space = i.stores.space in
+    let m = c.max-moment.result in
+    let posts = i.stores.connections.posts in
+    let gone = c.as_slice.result.now in
+    let due = c.as_slice.ensures
+    ∙ due_is m space c.in_ok-keys.field-0.keys c.in_ok-keys.ensures.keys
+    ∙ ap (due_keys m) c.self.invariant.agrees.space_is in
+    let full = subst (λ (b : BookState). is_full b.limits b.past ≡ true) (sym c.self.view_is)
+    (sym c.is_full-is_full.ensures ∙ c.if-is_full.true) in
+    let some = some_of gone
+    (eqb-false (length gone) 0 (sym c.is_empty.ensures ∙ c.if-is_empty.false)) in
+    let nobody : posts ≡ [] = ap (λ (b : BookState). b.posts) c.self.view_is ∙ c.requires.none in
+    let reply = Refused (HistoryFull c.len-entries.result) in
+    let after : BookState = record { limits = l; past = c.reserve.new.self.past; posts = posts } in
+    subst (λ b. IsTurn b (Tick c.args.now) reply after) c.self.view_is
+    (record {
+      limits = refl;
+      step = subst (λ p. BookStep l past (Tick c.args.now) reply p) (sym c.reserve.ensures.past)
+          (subst (λ n. BookStep l past (Tick c.args.now) (Refused (HistoryFull n)) past)
+          (sym c.len-entries.ensures.len)
+          (tick_full l past c.args.now m gone due some full
+          (c.max-moment.ensures ∙ ap (max c.args.now) c.moment.ensures)));
+      posts = nobody;
+    })
+
+pub send_tick-requires-clause-there : goal.send_tick-requires-clause-there
+send_tick-requires-clause-there c =
+    let i = c.self.inside in
+    (is_held i.limits i.log.past i.stores.space i.stores.table i.stores.connections.items
+    c.self.invariant.agrees).there
+
+pub send_tick-requires-clause-apart : goal.send_tick-requires-clause-apart
+send_tick-requires-clause-apart c =
+    let space = c.self.inside.stores.space in
+    let m = c.max-moment.result in
+    subst AreApart (sym (c.as_slice-2.ensures
+    ∙ due_is m space c.in_ok-keys.field-0.keys c.in_ok-keys.ensures.keys)) (due_apart m space)
+
+pub invariant_of-self-in-Ok : goal.invariant_of-self-in-Ok
+invariant_of-self-in-Ok c =
+    let i = c.self.inside in
+    let l = i.limits in
+    let past = i.log.past in
+    let space = i.stores.space in
+    let keys = i.stores.table in
+    let cs = i.stores.connections.items in
+    let k = c.self.invariant.agrees in
+    let m = c.max-moment.result in
+    let n = c.len-entries.result + 1 in
+    let e = entry.Tick m in
+    let number : n ≡ length past + 1 = omega (arith, c.len-entries.ensures.len) in
+    let gone = c.as_slice-2.result.now in
+    let due : gone ≡ expired l past m = c.as_slice-2.ensures
+    ∙ due_is m space c.in_ok-keys.field-0.keys c.in_ok-keys.ensures.keys
+    ∙ ap (due_keys m) k.space_is in
+    let first = c.as_slice.result.now in
+    let some : gone ≡ [] → ⊥ = λ none. some_of first
+    (eqb-false (length first) 0 (sym c.is_empty.ensures ∙ c.if-is_empty.false))
+    (c.as_slice.ensures ∙ sym c.as_slice-2.ensures ∙ none) in
+    let room = subst (λ (b : BookState). is_full b.limits b.past ≡ false) (sym c.self.view_is)
+    (sym c.is_full-is_full.ensures ∙ c.if-is_full.false) in
+    let nobody : i.stores.connections.posts ≡ [] =
+    ap (λ (b : BookState). b.posts) c.self.view_is ∙ c.requires.none in
+    let final = c.in-Ok.ensures.sent
+    ∙ ap (λ ps. with_sendings n (routed (modes_of cs) (group gone keys.rows))
+    (record { items = cs; posts = ps })) nobody in
+    let grown = c.push.ensures.past ∙ ap (λ x. e ∷ x) c.reserve.ensures.past in
+    record {
+      agrees = subst (λ x. Agrees l x c.send_tick.new.self.space c.send_tick.new.self.table
+          c.send_tick.new.self.connections.items) (sym grown)
+          (subst (λ t. Agrees l (e ∷ past) c.send_tick.new.self.space t
+          c.send_tick.new.self.connections.items) (sym c.in-Ok.ensures.table)
+          (subst (λ (s : ConnectionsState). Agrees l (e ∷ past) c.send_tick.new.self.space
+          (record keys { rows = without_keys gone keys.rows }) s.items) (sym final)
+          (agrees_tick l past space keys cs k m n gone due number c.send_tick.new.self.space some
+          room (omega (arith, c.max-moment.ensures, c.moment.ensures))
+          (c.in-Ok.ensures.space ∙ c.in_ok-keys.ensures.ok))));
+      room = room_more c.push.new.self.room cs c.send_tick.new.self.connections.items
+          (ap (λ (s : ConnectionsState). length s.items) final
+          ∙ length_told l past space keys cs k m n gone due number)
+          (omega (
+            arith,
+            c.in_ok-reserve.ensures.ok,
+            c.push.ensures.room,
+            c.count.ensures.count,
+          ));
+    }
+
+pub returns-in-Ok-clause-ok : goal.returns-in-Ok-clause-ok
+returns-in-Ok-clause-ok c =
+    let i = c.self.inside in
+    let l = i.limits in
+    let past = i.log.past in
+    let space = i.stores.space in
+    let keys = i.stores.table in
+    let cs = i.stores.connections.items in
+    let k = c.self.invariant.agrees in
+    let m = c.max-moment.result in
+    let n = c.len-entries.result + 1 in
+    let e = entry.Tick m in
+    let number : n ≡ length past + 1 = omega (arith, c.len-entries.ensures.len) in
+    let gone = c.as_slice-2.result.now in
+    let due : gone ≡ expired l past m = c.as_slice-2.ensures
+    ∙ due_is m space c.in_ok-keys.field-0.keys c.in_ok-keys.ensures.keys
+    ∙ ap (due_keys m) k.space_is in
+    let first = c.as_slice.result.now in
+    let some : gone ≡ [] → ⊥ = λ none. some_of first
+    (eqb-false (length first) 0 (sym c.is_empty.ensures ∙ c.if-is_empty.false))
+    (c.as_slice.ensures ∙ sym c.as_slice-2.ensures ∙ none) in
+    let room = subst (λ (b : BookState). is_full b.limits b.past ≡ false) (sym c.self.view_is)
+    (sym c.is_full-is_full.ensures ∙ c.if-is_full.false) in
+    let nobody : i.stores.connections.posts ≡ [] =
+    ap (λ (b : BookState). b.posts) c.self.view_is ∙ c.requires.none in
+    let final = c.in-Ok.ensures.sent
+    ∙ ap (λ ps. with_sendings n (routed (modes_of cs) (group gone keys.rows))
+    (record { items = cs; posts = ps })) nobody in
+    let grown = c.push.ensures.past ∙ ap (λ x. e ∷ x) c.reserve.ensures.past in
+    is_turn c.args.self.now l past c.push.new.self.past i.stores.connections.posts
+    c.send_tick.new.self.connections.posts e (Tick c.args.now) _ c.self.view_is tt grown
+    (tick_turned l past c.args.now m c.len-entries.result gone due some room
+    c.len-entries.ensures.len (c.max-moment.ensures ∙ ap (max c.args.now) c.moment.ensures))
+    (ap (λ (s : ConnectionsState). s.posts) final
+    ∙ posted_tick l past space keys cs k m n gone due number)

@@ -1,0 +1,12 @@
+use Rattle.std.proofs.Common.{refl}
+use Rattle.server_book.proofs.Plans.{data_played}
+use Rattle.server_book.proofs.plan.play_data.Goals as goal
+
+pub returns : goal.returns
+returns c =
+    let turned = c.in_ok-expired.field-0 in
+    let ran = c.in_ok-expired.ensures in
+    λ words. data_played _ c.args.by words c.args.command.now c.args.space.now
+    c.run_due.new.self c.args.moment turned.done.signalled c.in_ok-reads.reads c.requires
+    c.in_ok-reads.ensures ran.expired ran.turn.0 ran.turn.1 ran.turn.2 c.deed_of-deed.ensures refl
+    ran.undo

@@ -1,0 +1,342 @@
+-- What stands of a world once its clock is set, and after a Tick.
+use Rattle.std.proofs.Common.{◌≡◌, ◌+◌, ◌<◌, ℕ, List, [], ◌∷◌, ◌++◌, true, false, cond, None, Some}
+use Rattle.std.proofs.Common.{length, refl, sym, ap, subst, ◌∙◌, append-nil, Bool, Ok, inl, Result}
+use Rattle.std.specs.Prelude.{max}
+use Rattle.serial_model.specs.declared.history.Limits.{Limits}
+use Rattle.serial_model.specs.declared.history.Entry.{Entry}
+use Rattle.serial_model.specs.declared.history.Entry.TheVariants as entry
+use Rattle.serial_model.specs.declared.history.BookCall.TheVariants as call
+use Rattle.serial_model.specs.declared.history.BookReply.{BookReply}
+use Rattle.serial_model.specs.declared.history.BookReply.TheVariants.{Admitted, Ran, Ticked, Quiet}
+use Rattle.serial_model.specs.declared.history.BookReply.TheVariants.{Bytes, Closed, Refused}
+use Rattle.serial_model.specs.declared.history.BookRefusal.TheVariants as refusal
+use Rattle.serial_model.specs.History.{IsLegal, expired, is_full, latest}
+use Rattle.serial_model.specs.Laws.{Extends}
+use Rattle.serial_model.specs.Steps.{BookStep, Turn, book_step, full}
+use Rattle.serial_model.specs.Steps.{ticking as turned}
+use Rattle.serial_model.proofs.Others.{tick_extends}
+use Rattle.serial_model.proofs.Turning.{step_legal, tick_step}
+use Rattle.script_text.specs.declared.line.Line.{Line}
+use Rattle.script_text.specs.declared.line.Line.TheVariants as line
+use Rattle.server_links.specs.declared.fault.WorldFault.{WorldFault}
+use Rattle.server_links.specs.declared.fault.WorldFault.TheVariants.{HistoryFull, NoMemory}
+use Rattle.server_links.specs.EntryLines.{reply_fault}
+use Rattle.server_links.specs.LinkSteps.{tick, tick_lines, ticking}
+use Rattle.server_links.specs.declared.link.Link.{Link}
+use Rattle.server_links.specs.LinksState.{Fits, LinksState, at_place}
+use Rattle.server_links.specs.OneHistory.{read_on}
+use Rattle.server_links.specs.Outcome.{Gives, Stops, within}
+use Rattle.server_links.specs.ServerState.{ServerState}
+use Rattle.server_links.specs.Session.{Session, session_at, with_past, world}
+use Rattle.server_links.specs.Turns.{EndsTick, links_of}
+use Rattle.server_links.proofs.Accounts.{Account}
+use Rattle.server_links.proofs.Carries.{read_more, entries_more}
+use Rattle.server_links.proofs.LinksStand.{Stands, PartStands, stands_part, stands_same}
+use Rattle.server_links.proofs.LinksStand.{admitted_there, other_account, parts_same}
+use Rattle.server_links.proofs.Outcomes.{Meets, gives_reached, gives_within, meets_once}
+
+-- the clock is no part of what is kept of a link
+clock_account : (heard said read : List ℕ) (s : Session) (now : ℕ) → Account heard said read s
+    → Account heard said read
+    (record { limits = s.limits; now = now; past = s.past; link = s.link })
+clock_account heard said read s now a = record {
+  bytes = record {
+    up_lost = a.bytes.up_lost;
+    all_said = a.bytes.all_said;
+    none_up = a.bytes.none_up;
+    down_lost = a.bytes.down_lost;
+    all_taken = a.bytes.all_taken;
+    none_down = a.bytes.none_down;
+  };
+  runs = a.runs;
+  reading = a.reading;
+}
+
+module _ (l : Limits) (heard : ℕ → List ℕ) (said : List ℕ
+    → List ℕ) (lines : List Line) (w : LinksState) (s : Stands l heard said lines w) where
+  pub still_stands : Stands l (λ i. heard i ++ []) (λ n. said n ++ []) (lines ++ []) w
+  still_stands =
+      subst (λ x. Stands l (λ i. heard i ++ []) (λ n. said n ++ []) x w) (sym (append-nil lines))
+      (stands_same l heard (λ i. heard i ++ []) said (λ n. said n ++ []) lines w
+      (λ i. sym (append-nil (heard i))) (λ n. sym (append-nil (said n))) s)
+
+  pub still_part : PartStands l (λ n. said n ++ []) (lines ++ []) w
+  still_part = stands_part l _ _ _ _ still_stands
+
+  abbrev pub clocked : ℕ → LinksState
+  clocked now = record { limits = w.limits; now = now; past = w.past; links = w.links }
+
+  pub clock_stands : (now : ℕ) → Stands l heard said lines (clocked now)
+  clock_stands now = record {
+    history = record {
+      limits = s.history.limits;
+      legal = s.history.legal;
+      links = s.history.links;
+      ids = s.history.ids;
+      printed = s.history.printed;
+    };
+    unique = s.unique;
+    accounts = λ i lt.
+        let name = (at_place w.links i).name in
+        clock_account (heard i) (said name) (read_on name lines) (session_at i w) now
+        (s.accounts i lt);
+    unread = s.unread;
+    unsaid = s.unsaid;
+    unheard = s.unheard;
+  }
+
+  -- a Tick that takes out a key
+  module _ (moment : ℕ) (legal : IsLegal w.limits (entry.Tick moment ∷ w.past))
+      (extends : (c : ℕ) → Extends w.limits c w.past (entry.Tick moment ∷ w.past)) where
+    abbrev pub ticked : LinksState
+    ticked = record {
+      limits = w.limits;
+      now = w.now;
+      past = entry.Tick moment ∷ w.past;
+      links = w.links;
+    }
+
+    abbrev pub tick_line : List Line
+    tick_line = line.Tick (length w.past + 1) moment ∷ []
+
+    same_lines : (n : List ℕ) → read_on n (lines ++ tick_line) ≡ read_on n lines
+    same_lines n = read_more n lines tick_line ∙ append-nil (read_on n lines)
+
+    ticked_account : (i : ℕ) → i < length w.links
+        → Account (heard i ++ []) (said (at_place w.links i).name ++ [])
+        (read_on (at_place w.links i).name (lines ++ tick_line)) (session_at i ticked)
+    ticked_account i lt =
+        let x = at_place w.links i in
+        let t : Session = with_past (session_at i w) (entry.Tick moment ∷ w.past) in
+        subst (λ h. Account h (said x.name ++ []) (read_on x.name (lines ++ tick_line)) t)
+        (sym (append-nil (heard i)))
+        (subst (λ d. Account (heard i) d (read_on x.name (lines ++ tick_line)) t)
+        (sym (append-nil (said x.name)))
+        (subst (λ r. Account (heard i) (said x.name) r t) (sym (same_lines x.name))
+        (other_account (heard i) (said x.name) (read_on x.name lines) (session_at i w)
+        (entry.Tick moment ∷ w.past) (admitted_there l heard said lines w s i lt i lt)
+        (extends x.id) (s.accounts i lt))))
+
+    pub ticked_stands : Stands l (λ i. heard i ++ []) (λ n. said n ++ []) (lines ++ tick_line)
+        ticked
+    ticked_stands = record {
+      history = record {
+        limits = s.history.limits;
+        legal = legal;
+        links = s.history.links;
+        ids = s.history.ids;
+        printed = entries_more lines tick_line ∙ ap (λ x. x ++ tick_line) s.history.printed;
+      };
+      unique = s.unique;
+      accounts = ticked_account;
+      unread = λ n none. same_lines n ∙ s.unread n none;
+      unsaid = λ n none. append-nil (said n) ∙ s.unsaid n none;
+      unheard = λ i le. append-nil (heard i) ∙ s.unheard i le;
+    }
+
+  ByTick : LinksState → List Line → Type 0
+  ByTick v ls = Stands l (λ i. heard i ++ []) (λ n. said n ++ []) (lines ++ ls) v
+
+  PartByTick : LinksState → List Line → Type 0
+  PartByTick v ls = PartStands l (λ n. said n ++ []) (lines ++ ls) v
+
+  due_stands : (key : List ℕ) (keys : List (List ℕ))
+      → expired w.limits w.past (max w.now (latest w.past)) ≡ key ∷ keys
+      → is_full w.limits w.past ≡ false
+      → Meets ByTick PartByTick (ticking w (record {
+        reply = Ticked (length w.past + 1);
+        past = entry.Tick (max w.now (latest w.past)) ∷ w.past;
+      }))
+  unfolding ByTick PartByTick
+  due_stands key keys due room =
+      let moment = max w.now (latest w.past) in
+      let is = tick_step w.limits w.past w.now key keys due room in
+      let m = ticked_stands moment
+      (subst (λ (t : Turn). IsLegal w.limits t.past) is
+      (step_legal w.limits w.past (call.Tick w.now) s.history.legal))
+      (λ c. subst (λ (t : Turn). Extends w.limits c w.past t.past) is
+      (tick_extends w.limits c w.now w.past)) in
+      meets_once ByTick PartByTick w _ _ None (λ e. m) still_part (stands_part l _ _ _ _ m)
+
+  turn_stands : (keys : List (List ℕ))
+      → expired w.limits w.past (max w.now (latest w.past)) ≡ keys
+      → Meets ByTick PartByTick
+      (ticking w (turned w.limits w.past (max w.now (latest w.past)) keys))
+  unfolding ByTick PartByTick
+  turn_stands [] none =
+      meets_once ByTick PartByTick w w [] None (λ e. still_stands) still_part still_part
+  turn_stands (key ∷ keys) due =
+      elim (is_full w.limits w.past) as (λ b. is_full w.limits w.past ≡ b
+      → Meets ByTick PartByTick (ticking w (cond b (full w.past) (record {
+        reply = Ticked (length w.past + 1);
+        past = entry.Tick (max w.now (latest w.past)) ∷ w.past;
+      })))) [
+        | true ↦ λ none. meets_once ByTick PartByTick w w [] (Some (HistoryFull (length w.past)))
+            (λ e. absurd (let no : ⊥ = cc in no)) still_part still_part
+        | false ↦ λ room. due_stands key keys due room
+      ] refl
+
+  pub tick_stands : Meets
+      (λ v ls. Stands l (λ i. heard i ++ []) (λ n. said n ++ []) (lines ++ ls) v)
+      (λ v ls. PartStands l (λ n. said n ++ []) (lines ++ ls) v) (tick w)
+  unfolding tick book_step ByTick PartByTick
+  tick_stands = turn_stands (expired w.limits w.past (max w.now (latest w.past))) refl
+
+-- the entries of a history go in front
+pub tick_goes_on : (w : LinksState) (P : LinksState → List Line → Type 0)
+    → P w [] → ((moment : ℕ) (e : ℕ) → P (record {
+      limits = w.limits;
+      now = w.now;
+      past = entry.Tick moment ∷ w.past;
+      links = w.links;
+    }) (line.Tick e moment ∷ [])) → Meets P P (tick w)
+unfolding tick book_step
+tick_goes_on w P same more =
+    let moment = max w.now (latest w.past) in
+    elim (expired w.limits w.past moment) as (λ keys. Meets P P
+    (ticking w (turned w.limits w.past moment keys))) [
+      | [] ↦ meets_once P P w w [] None (λ e. same) same same
+      | key ∷ keys ↦
+          elim (is_full w.limits w.past) as (λ b. Meets P P
+          (ticking w (cond b (full w.past) (record {
+            reply = Ticked (length w.past + 1);
+            past = entry.Tick moment ∷ w.past;
+          })))) [
+            | true ↦ meets_once P P w w [] (Some (HistoryFull (length w.past)))
+                (λ e. absurd (let no : ⊥ = cc in no)) same same
+            | false ↦ meets_once P P w _ _ None (λ e. more moment (length w.past + 1)) same
+                (more moment (length w.past + 1))
+          ]
+    ]
+
+-- ---- a Tick as it is played
+
+ticked_as : BookReply → ℕ
+ticked_as (Ticked e) = e
+ticked_as reply = 0
+
+is_ticked : BookReply → Bool
+is_ticked (Ticked e) = true
+is_ticked reply = false
+
+module _ (w : LinksState) where
+  abbrev pub after : List Entry → LinksState
+  after past = record { limits = w.limits; now = w.now; past = past; links = w.links }
+
+  abbrev due : List (List ℕ) → Turn
+  due keys = turned w.limits w.past (max w.now (latest w.past)) keys
+
+  abbrev pub played : BookReply → List Entry → Type 0
+  played reply past =
+      book_step w.limits w.past (call.Tick w.now) ≡ record { reply = reply; past = past }
+
+  number_is : (keys : List (List ℕ)) (e : ℕ) (past : List Entry)
+      → due keys ≡ record { reply = Ticked e; past = past } → length w.past + 1 ≡ e
+  unfolding is_ticked ticked_as
+  number_is [] e past is =
+      absurd (let no : false ≡ true = ap (λ (t : Turn). is_ticked t.reply) is in cc)
+  number_is (key ∷ keys) e past is =
+      elim (is_full w.limits w.past) as (λ b. cond b (full w.past) (record {
+        reply = Ticked (length w.past + 1);
+        past = entry.Tick (max w.now (latest w.past)) ∷ w.past;
+      }) ≡ record { reply = Ticked e; past = past } → length w.past + 1 ≡ e) [
+        | true ↦ λ h. absurd (let no : false ≡ true = ap (λ (t : Turn). is_ticked t.reply) h in cc)
+        | false ↦ λ h. ap (λ (t : Turn). ticked_as t.reply) h
+      ] is
+
+  -- it is an entry
+  pub tick_ticked : (e n m : ℕ) (past : List Entry) (lines : List Line) → played (Ticked e) past
+      → n ≡ length w.past + 1 → m ≡ max w.now (latest w.past)
+      → Gives {A = Unit {0}} (tick w) lines (Ok tt) (after past) (lines ++ line.Tick n m ∷ [])
+  unfolding tick book_step
+  tick_ticked e n m past lines is number moment =
+      let same : n ≡ e =
+      number ∙ number_is (expired w.limits w.past (max w.now (latest w.past))) e past is in
+      subst (λ t. Gives {A = Unit {0}} (ticking w t) lines (Ok tt) (after past)
+      (lines ++ line.Tick n m ∷ [])) (sym is) (
+        refl,
+        refl,
+        ap (λ x. lines ++ line.Tick x m ∷ []) same ∙ ap (λ x. lines ++ line.Tick e x ∷ []) moment,
+      )
+
+  -- memory ran out before it
+  pub tick_before : (lines : List Line) → Stops (tick w) lines NoMemory w lines
+  unfolding tick
+  tick_before lines = ([], inl (refl, refl), sym (append-nil lines))
+
+  -- the history is full
+  pub tick_is_full : (n : ℕ) (past : List Entry) (lines : List Line)
+      → played (Refused (refusal.HistoryFull n)) past
+      → Stops (tick w) lines (HistoryFull n) (after past) lines
+  unfolding tick
+  tick_is_full n past lines is =
+      subst (λ t. Stops (ticking w t) lines (HistoryFull n) (after past) lines) (sym is)
+      (refl, refl, sym (append-nil lines))
+
+  no_entry : (reply : BookReply) (past : List Entry) (lines : List Line) → played reply past
+      → reply_fault reply ≡ None
+      → tick_lines (max w.now (latest w.past)) reply ≡ []
+      → Gives {A = Unit {0}} (tick w) lines (Ok tt) (after past) lines
+  unfolding tick
+  no_entry reply past lines is sound quiet =
+      subst (λ t. Gives {A = Unit {0}} (ticking w t) lines (Ok tt) (after past) lines) (sym is)
+      (sound, refl, sym (append-nil lines) ∙ ap (λ x. lines ++ x) (sym quiet))
+
+  -- it is no entry
+  pub tick_other : (reply : BookReply) (past : List Entry) (lines : List Line)
+      (r : Result (Unit {0}) WorldFault) → BookStep w.limits w.past (call.Tick w.now) reply past
+      → ((e : ℕ) → reply ≡ Ticked e → ⊥) → EndsTick reply r
+      → Gives (tick w) lines r (after past) lines
+  tick_other (Admitted e id) past lines r is a ends =
+      subst (λ x. Gives (tick w) lines x (after past) lines) (sym ends)
+      (no_entry (Admitted e id) past lines is refl refl)
+  tick_other (Ran e) past lines r is a ends =
+      subst (λ x. Gives (tick w) lines x (after past) lines) (sym ends)
+      (no_entry (Ran e) past lines is refl refl)
+  tick_other (Ticked e) past lines r is a ends = absurd (a e refl)
+  tick_other Quiet past lines r is a ends =
+      subst (λ x. Gives (tick w) lines x (after past) lines) (sym ends)
+      (no_entry Quiet past lines is refl refl)
+  tick_other (Bytes e bytes) past lines r is a ends =
+      subst (λ x. Gives (tick w) lines x (after past) lines) (sym ends)
+      (no_entry (Bytes e bytes) past lines is refl refl)
+  tick_other (Closed e) past lines r is a ends =
+      subst (λ x. Gives (tick w) lines x (after past) lines) (sym ends)
+      (no_entry (Closed e) past lines is refl refl)
+  tick_other (Refused (refusal.Gone id)) past lines r is a ends =
+      subst (λ x. Gives (tick w) lines x (after past) lines) (sym ends)
+      (no_entry (Refused (refusal.Gone id)) past lines is refl refl)
+  tick_other (Refused (refusal.HistoryFull n)) past lines r is a ends =
+      subst (λ x. Gives (tick w) lines x (after past) lines) (sym ends)
+      (tick_is_full n past lines is)
+  tick_other (Refused refusal.NoMemory) past lines r is a ends =
+      subst (λ x. Gives (tick w) lines x (after past) lines) (sym ends)
+      (subst (λ p. Stops (tick w) lines NoMemory (after p) lines) (sym is.0) (tick_before lines))
+
+-- a server that played a turn, as its links see it
+pub played_links : (old new : ServerState) → new.book.limits ≡ old.book.limits
+    → new.clock ≡ old.clock → links_of new ≡ after (links_of old) new.book.past
+played_links old new limits clock =
+    ap (λ l. record { limits = l; now = new.clock; past = new.book.past; links = [] }) limits
+    ∙ ap (λ n. record { limits = old.book.limits; now = n; past = new.book.past; links = [] }) clock
+
+-- ---- beside links
+
+module _ (server new : ServerState) (links : List Link) {A : Type 0} (lines lines' : List Line)
+    (r : Result A WorldFault)
+    (gives : Gives (tick (links_of server)) lines r (links_of new) lines') where
+  pub tick_gives : Gives (tick (world server links)) lines r (world new links) lines'
+  unfolding tick within
+  tick_gives =
+      gives_within (λ (w : LinksState). record {
+        limits = w.limits;
+        now = w.now;
+        past = w.past;
+        links = links;
+      }) (tick (links_of server)) lines r (links_of new) lines' gives
+
+  pub tick_fits : Fits server.book.past links → Fits new.book.past links
+  tick_fits f =
+      let g = gives_reached (tick (links_of server)) lines r (links_of new) lines' gives in
+      (tick_goes_on (links_of server) (λ v ls. Fits v.past links) f
+      (λ moment e. record { count = f.count; ids = f.ids })).all (links_of new) g.0 g.1

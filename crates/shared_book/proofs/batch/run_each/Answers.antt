@@ -1,0 +1,43 @@
+use Rattle.std.proofs.Common.{◌≡◌, ◌∷◌, rules, refl, ap, ◌∙◌}
+use Rattle.std.specs.Vec.Iter.{into_iter_items}
+use Rattle.shared_book.specs.Batches.{requests_in}
+use Rattle.shared_book.proofs.Batches.{running_begins, running_more, running_refused, runs_alone}
+use Rattle.shared_book.proofs.batch.run_each.Goals as goal
+
+pub calls-init : goal.calls-init
+calls-init g c = (
+  running_begins c.args.id c.args.now c.args.requests c.args.calls.items
+      (into_iter_items c.into_iter-rest.result) c.args.seat.now c.into_iter-rest.ensures.rest
+      c.requires.runs c.requires.within c.requires.admitted c.requires.counted,
+  refl,
+)
+
+pub calls-preserved : goal.calls-preserved
+calls-preserved g c =
+    let items : into_iter_items c.calls.rest ≡ c.in-Some.call ∷ into_iter_items c.next.new.self
+    = search rules in
+    let left = into_iter_items c.next.new.self in (
+      running_more c.args.id c.args.now c.args.requests (requests_in c.args.calls.items)
+          c.calls.requests (into_iter_items c.calls.rest) c.args.seat.now c.calls.seat
+          c.calls.invariant.0 c.in-Run.id c.in-Run.now c.in-Run.words left
+          (items ∙ ap (λ z. z ∷ left) c.in-Run.is) c.run.new.seat c.in-Ok.ensures.ok.0,
+      c.in-Ok.ensures.ok.0.grows.lock ∙ c.calls.invariant.1,
+    )
+
+pub unreachable-requires : goal.unreachable-requires
+unreachable-requires g c =
+    let items : into_iter_items c.calls.rest ≡ c.in-Some.call ∷ into_iter_items c.next.new.self
+    = search rules in
+    runs_alone c.args.id c.args.now (into_iter_items c.calls.rest) (into_iter_items c.next.new.self)
+    c.in-Some.call c.calls.invariant.0.runs items c.in_default-call.not-Run
+
+pub returns-in-Err : goal.returns-in-Err
+returns-in-Err g c =
+    let items : into_iter_items c.calls.rest ≡ c.in-Some.call ∷ into_iter_items c.next.new.self
+    = search rules in
+    let left = into_iter_items c.next.new.self in
+    running_refused c.args.id c.args.now c.args.requests (requests_in c.args.calls.items)
+    c.calls.requests (into_iter_items c.calls.rest) c.args.seat.now c.calls.seat
+    c.calls.invariant.0 c.in-Run.id c.in-Run.now c.in-Run.words left
+    (items ∙ ap (λ z. z ∷ left) c.in-Run.is) c.in-Err.refusal c.run.new.seat _
+    c.in-Err.ensures.err refl

@@ -1,0 +1,3 @@
+pub mod Crossing
+pub mod Did
+pub mod Outcomes
