@@ -1,13 +1,13 @@
 -- What waits for a connection is taken and written, Take after Take.
 use Rattle.std.proofs.Common.{◌≡◌, ◌≤◌, ◌<◌, ◌+◌, ◌-◌, ℕ, List, [], ◌∷◌, ◌++◌, length, take, drop}
-use Rattle.std.proofs.Common.{min}
+use Rattle.std.proofs.Common.{append_assoc, min}
 use Rattle.std.proofs.Common.{true, false, cond, refl, sym, ap, subst, ◌∙◌, arith, append-nil, inl}
 use Rattle.std.proofs.Common.{inr}
 use Rattle.std.proofs.Common.{zero, suc, eq-eqb}
-use Rattle.std.specs.Prelude.{Option, ◌==◌}
+use Rattle.std.specs.Prelude.{Option, Some, None, Result, Ok, Err, OnOk, ◌==◌}
 use Rattle.std.specs.List.{All}
 use Rattle.std.specs.Io.KnownBytes.{Appends}
-use Rattle.std.proofs.lemmas.List.Elements.{All-nil, All-cons}
+use Rattle.std.proofs.lemmas.List.Elements.{All-nil, All-cons, All-append}
 use Rattle.std.proofs.lemmas.List.{length-drop}
 use Rattle.resp_value.specs.Lists.{IsPrefix}
 use Rattle.serial_model.specs.declared.history.Limits.{Limits}
@@ -18,13 +18,18 @@ use Rattle.serial_model.proofs.Streams.{stream_take}
 use Rattle.shared_book.specs.Own.{past_of, IsWithin, Grows}
 use Rattle.resp_value.specs.declared.octets.Octets.{Octets}
 use Rattle.shared_book.specs.Turns.{Place, Turn, Gives, Rests, Refuses, Takes, limits_in, limits_of}
+use Rattle.shared_book.specs.Turns.{most}
 use Rattle.shared_book.specs.declared.turns.Refusal.{Refusal}
 use Rattle.shared_book.specs.declared.turns.Refusal.TheVariants as refusal
 use Rattle.shared_book.proofs.Growing.{grows_none, grows_then, grows_past}
 use Rattle.shared_book.proofs.Histories.{begins_lift, admitted_more, stream_begins}
 use Rattle.conn_worker.specs.declared.report.Ended.TheVariants as ended
+use Rattle.conn_worker.specs.declared.report.Ended.{Ended}
 use Rattle.conn_worker.specs.Visits.{IsWork, IsEnd, ended_by, runs_in, gave, Delivers, DeliversPart}
+use Rattle.conn_worker.specs.Visits.{Begins}
+use Rattle.conn_worker.specs.declared.deliver.Front.TheVariants.{Taken}
 use Rattle.edge_links.proofs.Bytes.{appends_none, appends_more, appends_as}
+use Rattle.conn_worker.proofs.Turning.{runs_append, gave_append}
 
 -- what was taken and written so far
 pub record Delivering (id : ℕ) (link0 link1 : Option (List ℕ)) (old new : Place) : Type 0 where
@@ -216,3 +221,90 @@ module _ (id : ℕ) (link0 link1 : Option (List ℕ)) (old new : Place)
 pub takes_at : (id : ℕ) (r s : Option Octets) (old new : Place) → Takes id r old new → r ≡ s
     → Takes id s old new
 takes_at id r s old new t e = subst (λ x. Takes id x old new) e t
+
+-- what was taken and written, and then the rest of it
+module _ (id : ℕ) (link0 link1 link2 : Option (List ℕ)) (old mid new : Place)
+    (d : Delivering id link0 link1 old mid) where
+  mid_limits : limits_of mid ≡ limits_of old
+  mid_limits = ap limits_in d.grows.setup
+
+  both_gave : (ts : List Turn) → gave (limits_of old) (ts ++ d.turns)
+      ≡ gave (limits_of old) d.turns ++ gave (limits_of mid) ts
+  both_gave ts =
+      gave_append (limits_of old) ts d.turns
+      ∙ ap (λ l. gave (limits_of old) d.turns ++ gave l ts) (sym mid_limits)
+
+  both_run : (ts : List Turn) → runs_in ts ≡ [] → runs_in (ts ++ d.turns) ≡ []
+  both_run ts none =
+      runs_append ts d.turns ∙ ap (λ z. runs_in d.turns ++ z) none
+      ∙ append-nil (runs_in d.turns) ∙ d.runs_none
+
+  pub delivers_then : Delivers id link1 link2 mid new → Delivers id link0 link2 old new
+  delivers_then e =
+      let l = limits_of old in
+      let first = stream_begins l id (past_of old) (past_of mid)
+      (grows_past old mid d.turns d.grows) in
+      let all : length (stream l id (past_of mid)) ≤ taken l id (past_of new)
+      = subst (λ z. length (stream z id (past_of mid)) ≤ taken z id (past_of new)) mid_limits
+      e.taken_all in
+      record {
+        turns = e.turns ++ d.turns;
+        grows = grows_then old mid new d.turns e.turns d.grows e.grows;
+        work = λ clock. All-append (IsWork id clock) e.turns d.turns (e.work clock) (d.work clock);
+        runs_none = both_run e.turns e.runs_none;
+        wrote = appends_as link0 link2 _ _ (sym (both_gave e.turns))
+            (appends_more link0 link1 link2 (gave l d.turns) (gave (limits_of mid) e.turns) d.wrote
+            e.wrote);
+        taken_all = omega (arith, first, all);
+      }
+
+  pub delivers_part_then : (cause : Ended) → DeliversPart cause id link1 link2 mid new
+      → DeliversPart cause id link0 link2 old new
+  delivers_part_then cause e =
+      let l = limits_of old in
+      record {
+        turns = e.turns ++ d.turns;
+        grows = grows_then old mid new d.turns e.turns d.grows e.grows;
+        work = λ clock. All-append (IsWork id clock) e.turns d.turns (e.work clock) (d.work clock);
+        runs_none = both_run e.turns e.runs_none;
+        bytes = gave l d.turns ++ e.bytes;
+        wrote = appends_more link0 link1 link2 (gave l d.turns) e.bytes d.wrote e.wrote;
+        front = (
+          e.front.0,
+          append_assoc (gave l d.turns) e.bytes e.front.0
+              ∙ ap (λ z. gave l d.turns ++ z) e.front.1 ∙ sym (both_gave e.turns),
+        );
+        cause_is = e.cause_is;
+      }
+
+-- the first bytes were taken
+module _ (id : ℕ) (link : Option (List ℕ)) (before now : Place) where
+  none_written : (taken : Option Octets) → Begins id (Taken taken) before now
+      → Delivering id link link before before
+  none_written taken b = delivering_none id link before b.0 b.1
+
+  pub begun_none : Begins id (Taken None) before now → Delivers id link link before now
+  begun_none b = delivers_rests id link link before before (none_written None b) now b.2
+
+  module _ (bytes : Octets) (b : Begins id (Taken (Some bytes)) before now) where
+    pub begun_more : (link1 : Option (List ℕ)) → Appends link link1 bytes
+        → Delivering id link link1 before now
+    begun_more link1 w =
+        delivering_more id link link before before (none_written (Some bytes) b) most bytes now
+        b.2.0 link1 w
+
+    pub begun_short : (link1 : Option (List ℕ)) → Appends link link1 bytes
+        → length bytes < most → Delivers id link link1 before now
+    begun_short link1 w short =
+        delivers_short id link link before before (none_written (Some bytes) b) most bytes now
+        b.2.0 link1 w short
+
+    pub begun_failed : (link1 : Option (List ℕ)) (part : List ℕ) → Appends link link1 part
+        → IsPrefix part bytes → DeliversPart ended.LinkFault id link link1 before now
+    begun_failed link1 part w is =
+        delivers_failed id link link before before (none_written (Some bytes) b) most bytes now
+        b.2.0 link1 part w is
+
+pub on_ok : {A E P Q : Type 0} (r : Result A E) → (P → Q) → OnOk r P → OnOk r Q
+on_ok (Ok a) f h = f h
+on_ok (Err e) f h = tt

@@ -1,5 +1,5 @@
 -- The requests that a connection has read are read as calls, and run.
-use Rattle.std.proofs.Common.{◌≡◌, ◌≤◌, ◌<◌, ◌+◌, ℕ, zero, suc, List, [], ◌∷◌, ◌++◌, length, max}
+use Rattle.std.proofs.Common.{◌≡◌, ◌≤◌, ◌<◌, ℕ, zero, suc, List, [], ◌∷◌, ◌++◌, length, max}
 use Rattle.std.proofs.Common.{Some, None, refl, sym, ap, subst, ◌∙◌, arith, append_assoc, take}
 use Rattle.std.proofs.Common.{append-nil, drop, Ok}
 use Rattle.std.specs.Prelude.{Option, IfSome}
@@ -24,15 +24,15 @@ use Rattle.serial_model.specs.declared.history.BookCall.TheVariants.{Close}
 use Rattle.serial_model.specs.History.{latest}
 use Rattle.shared_book.specs.Own.{IsWithin, Grows}
 use Rattle.shared_book.specs.Turns.{Place, Turn, IsCause, limits_in, limits_of}
-use Rattle.shared_book.specs.Batches.{IsRunAt, requests_in, RunsEach, RunsFirst}
-use Rattle.shared_book.specs.declared.batch.Batch.{Batch as Told}
+use Rattle.shared_book.specs.Batches.{IsRunAt, requests_in, RunsEach, RunsAndTakes, RunsFirst}
+use Rattle.resp_value.specs.declared.octets.Octets.{Octets}
 use Rattle.shared_book.specs.declared.turns.Refusal.{Refusal}
 use Rattle.shared_book.specs.declared.turns.Refusal.TheVariants as refusal
 use Rattle.shared_book.proofs.Growing.{grows_none, grows_then}
 use Rattle.conn_worker.specs.declared.report.Ended.TheVariants.{NoMemory}
 use Rattle.conn_worker.specs.declared.connection.Connection.{Connection}
 use Rattle.conn_worker.specs.Visits.{IsWork, IsEnd, runs_in, gave, ended_by, ReadsAll, RunsPart}
-use Rattle.conn_worker.specs.Visits.{RunsAll}
+use Rattle.conn_worker.specs.Visits.{HearsAll}
 use Rattle.conn_worker.proofs.Turning.{runs_append, gave_append}
 
 -- what was read so far, and what is left of it
@@ -191,63 +191,64 @@ length_front zero xs le = refl
 length_front (suc n) [] le = absurd (omega arith)
 length_front (suc n) (x ∷ xs) le = ap suc (length_front n xs (omega arith))
 
-take_whole : {A : Type 0} (n : ℕ) (xs : List A) → n ≡ length xs → take n xs ≡ xs
-take_whole zero [] is = refl
-take_whole zero (x ∷ xs) is = absurd (omega arith)
-take_whole (suc n) [] is = absurd (omega arith)
-take_whole (suc n) (x ∷ xs) is = ap (λ z. x ∷ z) (take_whole n xs (omega arith))
-
 -- what was read of `before`, as these calls, was run so far
 module _ (clock : Option ℕ) (now : ℕ) (before read : Connection) (calls : List BookCall)
-    (b : Told) (old new : Place) (is : IfSome clock (λ m. now ≡ m))
-    (same : (read.id ≡ before.id) × (read.requests ≡ before.requests))
-    (told : RunsFirst read.id now read.requests (requests_in calls) b old new) where
-  first : RunsFirst before.id now before.requests (requests_in calls) b old new
-  first = subst (λ (z : ℕ × ℕ). RunsFirst z.0 now z.1 (requests_in calls) b old new)
-      (λ i. (same.0 i, same.1 i)) told
-
-  ran : Ran clock before.id (take first.ran (requests_in calls)) old new
-  ran = each_ran clock before.id now is (take first.ran (requests_in calls)) old new first.each
-
-  ran_count : b.requests ≡ before.requests + length (runs_in ran.turns)
-  ran_count =
-      let long = ap length ran.runs in
-      let front = length_front first.ran (requests_in calls) first.within in
-      omega (arith, first.counted, long, front)
-
-  pub all_ran : (fault : Option StreamFault) → b.refusal ≡ None → ReadsAll fault before read calls
-      → RunsAll clock fault before (record read { requests = b.requests }) old new
-  all_ran fault none all = record {
-    turns = ran.turns;
-    grows = ran.grows;
-    work = ran.work;
-    gave_none = ran.gave_none;
-    id = same.0;
-    requests = ran_count;
-    counted = first.fits;
-    runs = ran.runs ∙ (take_whole first.ran (requests_in calls) (first.all none) ∙ all.items);
-    fault_is = all.fault_is;
-    reader = all.reader;
-  }
-
-  pub part_ran : (fault : Option StreamFault) (e : Refusal) → b.refusal ≡ Some e
+    (count : ℕ) (old new : Place) (is : IfSome clock (λ m. now ≡ m))
+    (same : (read.id ≡ before.id) × (read.requests ≡ before.requests)) where
+  pub all_ran : (fault : Option StreamFault) (front : Option Octets)
+      → RunsAndTakes read.id now read.requests (requests_in calls) count front old new
       → ReadsAll fault before read calls
-      → RunsPart clock (ended_by e) before (record read { requests = b.requests }) old new
-  part_ran fault e some all = record {
-    turns = ran.turns;
-    grows = ran.grows;
-    work = ran.work;
-    gave_none = ran.gave_none;
-    id = same.0;
-    requests = ran_count;
-    runs = (
-      drop first.ran (requests_in calls),
-      ap (λ z. z ++ drop first.ran (requests_in calls)) ran.runs
-          ∙ (take-append-drop first.ran (requests_in calls) ∙ all.items),
-    );
-    cause_is = cause_end e
-        (subst (λ o. IfSome o (λ x. IsCause x before.id new)) some first.cause_is);
-  }
+      → HearsAll clock (record { fault = fault; front = front }) before
+      (record read { requests = count }) old new
+  all_ran fault front told all =
+      let t : RunsAndTakes before.id now before.requests (requests_in calls) count front old new
+      = subst (λ (z : ℕ × ℕ). RunsAndTakes z.0 now z.1 (requests_in calls) count front old new)
+      (λ i. (same.0 i, same.1 i)) told in
+      let ran = each_ran clock before.id now is (requests_in calls) old t.middle t.each in
+      let long = ap length ran.runs in
+      record {
+        middle = t.middle;
+        runs = record {
+          turns = ran.turns;
+          grows = ran.grows;
+          work = ran.work;
+          gave_none = ran.gave_none;
+          id = same.0;
+          requests = omega (arith, t.counted, long);
+          counted = t.fits;
+          runs = ran.runs ∙ all.items;
+          fault_is = all.fault_is;
+          reader = all.reader;
+        };
+        takes = t.takes;
+      }
+
+  pub part_ran : (fault : Option StreamFault) (e : Refusal)
+      → RunsFirst read.id now read.requests (requests_in calls) count e old new
+      → ReadsAll fault before read calls
+      → RunsPart clock (ended_by e) before (record read { requests = count }) old new
+  part_ran fault e told all =
+      let t : RunsFirst before.id now before.requests (requests_in calls) count e old new
+      = subst (λ (z : ℕ × ℕ). RunsFirst z.0 now z.1 (requests_in calls) count e old new)
+      (λ i. (same.0 i, same.1 i)) told in
+      let some = take t.number (requests_in calls) in
+      let ran = each_ran clock before.id now is some old new t.each in
+      let long = ap length ran.runs in
+      let front = length_front t.number (requests_in calls) t.within in
+      record {
+        turns = ran.turns;
+        grows = ran.grows;
+        work = ran.work;
+        gave_none = ran.gave_none;
+        id = same.0;
+        requests = omega (arith, t.counted, long, front);
+        runs = (
+          drop t.number (requests_in calls),
+          ap (λ z. z ++ drop t.number (requests_in calls)) ran.runs
+              ∙ (take-append-drop t.number (requests_in calls) ∙ all.items),
+        );
+        cause_is = cause_end e t.cause_is;
+      }
     where
       cause_end : (e : Refusal) → IsCause e before.id new → IsEnd (ended_by e) before.id new
       cause_end refusal.Dropped h = h

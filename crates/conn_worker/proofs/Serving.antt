@@ -4,7 +4,7 @@ use Rattle.std.proofs.Common.{◌≡◌, ◌≤◌, ℕ, List, [], ◌∷◌, �
 use Rattle.std.proofs.Common.{Some, None, refl, sym, ap, subst, ◌∙◌, arith, append_assoc}
 use Rattle.std.proofs.Common.{append-nil}
 use Rattle.std.proofs.Common.{length-append, inl, inr}
-use Rattle.std.specs.Prelude.{Option, ◌⊎◌}
+use Rattle.std.specs.Prelude.{Option, Err, ◌⊎◌}
 use Rattle.std.specs.List.{All}
 use Rattle.std.specs.Io.KnownBytes.{Appends, Consumes, Keeps}
 use Rattle.std.proofs.lemmas.List.Elements.{All-nil, All-append}
@@ -15,7 +15,7 @@ use Rattle.serial_model.specs.History.{is_admitted, stream, taken}
 use Rattle.shared_book.specs.Own.{past_of, IsWithin, Grows}
 use Rattle.shared_book.specs.Turns.{Place, Turn, limits_in, limits_of}
 use Rattle.shared_book.proofs.Growing.{grows_none, grows_then, grows_past, grows_stands}
-use Rattle.shared_book.specs.Turns.{Admits, Refuses}
+use Rattle.shared_book.specs.Turns.{Admits, Refuses, Takes}
 use Rattle.shared_book.specs.declared.turns.Refusal.TheVariants as refusal
 use Rattle.serial_model.specs.declared.history.Entry.TheVariants.{Admit}
 use Rattle.shared_book.proofs.Histories.{begins_lift, admitted_more, admitted_now}
@@ -27,13 +27,18 @@ use Rattle.conn_worker.specs.declared.connection.Connection.{Connection}
 use Rattle.conn_worker.specs.Visits.{IsWork, IsEnd, IsTaken, IsWhole, IsOfLink, IsShown, fault_in}
 use Rattle.conn_worker.specs.Visits.{runs_in, gave, fed_connection, RunsAll, RunsPart, Delivers}
 use Rattle.conn_worker.specs.Visits.{DeliversPart, EndCounts, Hears, HearsPart, Works}
-use Rattle.conn_worker.specs.Visits.{Idle, Piece, Nothing, Worn, Part, fault_of}
+use Rattle.conn_worker.specs.Visits.{Idle, Piece, Nothing, Worn, Part, fault_of, front_of}
+use Rattle.conn_worker.specs.Visits.{Begins, HearsAll, DeliveryCounts}
+use Rattle.resp_value.specs.declared.octets.Octets.{Octets}
+use Rattle.conn_worker.specs.declared.connection.Behind.{Behind}
+use Rattle.conn_worker.specs.declared.deliver.Front.{Front}
+use Rattle.conn_worker.specs.declared.deliver.Front.TheVariants as front
 use Rattle.conn_worker.specs.declared.serve.Heard.{Heard}
 use Rattle.edge_links.proofs.Bytes.{appends_none, appends_more, appends_as, appends_kept}
 use Rattle.edge_links.proofs.Bytes.{consumes_none, consumes_more, consumes_kept}
 use Rattle.conn_worker.proofs.Reading.{ReadsOn, reads_begun, reads_further, no_requests}
 use Rattle.conn_worker.proofs.Turning.{runs_append, gave_append, all_taken, no_runs}
-use Rattle.conn_worker.proofs.Ticking.{Passes, idles_pass, idles_faultless}
+use Rattle.conn_worker.proofs.Ticking.{Passes, idles_pass, idles_faultless, idles_untaken}
 
 -- all that was read ran, and all that this gave was written
 pub record Serving (clock : Option ℕ) (id : ℕ) (c : Connection)
@@ -69,6 +74,16 @@ pub record Waiting (clock : Option ℕ) (id : ℕ) (fault : Option StreamFault) 
   pub wrote : Appends link0 link1 (gave (limits_of old) turns)
   pub admitted : is_admitted (past_of new) id ≡ true
 
+-- the same, and what waits was not asked for yet, or its first bytes were taken
+pub record Begun (clock : Option ℕ) (id : ℕ) (fault : Option StreamFault) (front : Front)
+    (c : Connection) (left0 left1 link0 link1 : Option (List ℕ)) (old new : Place) : Type 0 where
+  pub middle : Place
+  pub waits : Waiting clock id fault c left0 left1 link0 link1 old middle
+  pub begins : Begins id front middle new
+  pub lock : new.lock ≡ old.lock
+  pub within : IsWithin new
+  pub admitted : is_admitted (past_of new) id ≡ true
+
 pub serving_none : (clock : Option ℕ) (c : Connection) (left link : Option (List ℕ)) (k : Place)
     → c ≡ record { id = c.id; requests = 0; reader = begun }
     → IsWithin k → is_admitted (past_of k) c.id ≡ true
@@ -90,6 +105,11 @@ serving_none clock c left link k new is on =
       was_taken = All-nil (IsTaken (limits_of k) c.id (taken (limits_of k) c.id (past_of k)));
       admitted = on;
     }
+
+takes_grows : (id : ℕ) (front : Option Octets) (k l : Place) → Takes id front k l
+    → (ts : List Turn) × Grows k l ts
+takes_grows id None k l t = ([], t.grows)
+takes_grows id (Some bytes) k l t = (_, t.0.grows)
 
 module _ (clock : Option ℕ) (id : ℕ) (c : Connection) (left0 left1 link0 link1 : Option (List ℕ))
     (old new : Place) (s : Serving clock id c left0 left1 link0 link1 old new) where
@@ -170,16 +190,56 @@ module _ (clock : Option ℕ) (id : ℕ) (c : Connection) (left0 left1 link0 lin
         admitted = admitted_then last p.turns p.grows;
       }
 
-  pub hears_waits : (h : Heard) (after : Connection) (last : Place)
+  -- nothing was asked for yet
+  untaken_begins : (fault : Option StreamFault) (after : Connection) (last : Place)
+      (left2 link2 : Option (List ℕ))
+      → Waiting clock id fault after left0 left2 link0 link2 old last
+      → Begun clock id fault front.Untaken after left0 left2 link0 link2 old last
+  untaken_begins fault after last left2 link2 w = record {
+    middle = last;
+    waits = w;
+    begins = refl;
+    lock = w.grows.lock;
+    within = w.grows.within;
+    admitted = w.admitted;
+  }
+
+  -- the first bytes that wait were taken
+  taken_begins : (piece : List ℕ) (behind : Behind) (after : Connection) (last : Place)
+      (left2 link2 : Option (List ℕ)) → Consumes left1 left2 piece → Keeps link1 link2
+      → HearsAll clock behind (fed_connection c piece) after new last
+      → Begun clock id behind.fault (front.Taken behind.front) after left0 left2 link0 link2 old
+      last
+  taken_begins piece behind after last left2 link2 took kept h =
+      let w = piece_waits piece behind.fault after h.middle left2 link2 took kept h.runs in
+      let t : Takes id behind.front h.middle last
+      = subst (λ n. Takes n behind.front h.middle last) s.id_is h.takes in
+      let (ts, g) = takes_grows id behind.front h.middle last t in
+      record {
+        middle = h.middle;
+        waits = w;
+        begins = (w.grows.within, w.admitted, t);
+        lock = g.lock ∙ w.grows.lock;
+        within = g.within;
+        admitted = begins_lift (λ past. is_admitted past id ≡ true) (admitted_more id)
+            (past_of h.middle) (past_of last) (grows_past h.middle last ts g) w.admitted;
+      }
+
+  pub hears_begins : (h : Heard) (after : Connection) (last : Place)
       (left2 link2 : Option (List ℕ)) → Hears clock h c after left1 left2 new last
-      → Keeps link1 link2 → Waiting clock id (fault_of h) after left0 left2 link0 link2 old last
-  hears_waits h after last left2 link2 (Idle idles same took) kept =
-      subst (λ x. Waiting clock id (fault_of h) x left0 left2 link0 link2 old last) (sym same)
+      → Keeps link1 link2
+      → Begun clock id (fault_of h) (front_of h) after left0 left2 link0 link2 old last
+  hears_begins h after last left2 link2 (Idle idles same took) kept =
+      subst (λ x. Begun clock id (fault_of h) (front_of h) x left0 left2 link0 link2 old last)
+      (sym same)
+      (subst (λ f. Begun clock id (fault_of h) f c left0 left2 link0 link2 old last)
+      (sym (idles_untaken clock id new last h idles))
+      (untaken_begins (fault_of h) c last left2 link2
       (idle_waits (fault_of h) last left2 link2 (idles_faultless clock id new last h idles)
-      (idles_pass clock id new last h idles) took kept)
-  hears_waits h after last left2 link2 (Piece fault is piece took r) kept =
-      subst (λ z. Waiting clock id (fault_of z) after left0 left2 link0 link2 old last) (sym is)
-      (piece_waits piece fault after last left2 link2 took kept r)
+      (idles_pass clock id new last h idles) took kept)))
+  hears_begins h after last left2 link2 (Piece behind is piece took r) kept =
+      subst (λ z. Begun clock id (fault_of z) (front_of z) after left0 left2 link0 link2 old last)
+      (sym is) (taken_begins piece behind after last left2 link2 took kept r)
 
   part_works : (piece : List ℕ) (cause : Ended) (after : Connection) (last : Place)
       (left2 link2 : Option (List ℕ)) → Consumes left1 left2 piece → Keeps link1 link2
@@ -461,6 +521,26 @@ end_counts_from ended.LinkFault a b c f e h =
 end_counts_from ended.HistoryFull a b c f e h = (h.0 ∙ f, h.1 ∙ e)
 end_counts_from ended.NoMemory a b c f e h = (h.0 ∙ f, h.1 ∙ e)
 end_counts_from ended.Worn a b c f e h = (h.0 ∙ f, h.1 ∙ e)
+
+-- an end of a delivery is no end of the link
+pub part_counts : (cause : Ended) (id : ℕ) (link0 link1 : Option (List ℕ)) (old new : Place)
+    (a b : Counts) → DeliversPart cause id link0 link1 old new → DeliveryCounts (Err cause) a b
+    → EndCounts cause a b
+part_counts cause id link0 link1 old new a b d h = by_case cause d.cause_is h
+  where
+    same : b ≡ a → (b.faults ≡ a.faults) × (b.ends ≡ a.ends)
+    same is = (ap (λ (k : Counts). k.faults) is, ap (λ (k : Counts). k.ends) is)
+
+    by_case : (cause : Ended) → (cause ≡ ended.LinkFault) ⊎ IsEnd cause id new
+        → DeliveryCounts (Err cause) a b → EndCounts cause a b
+    by_case ended.PeerEnd (inl e) h = absurd (let no : ⊥ = cc in no)
+    by_case ended.PeerEnd (inr e) h = absurd e
+    by_case ended.Dropped e h = same h
+    by_case (ended.BadRequest f) e h = same h
+    by_case ended.LinkFault e h = (h.0, h.2)
+    by_case ended.HistoryFull e h = same h
+    by_case ended.NoMemory e h = same h
+    by_case ended.Worn e h = same h
 
 pub admits_admitted : (id : ℕ) (old first : Place) → Admits id old first
     → is_admitted (past_of first) id ≡ true

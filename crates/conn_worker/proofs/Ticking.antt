@@ -9,7 +9,8 @@ use Rattle.shared_book.specs.Own.{Grows}
 use Rattle.shared_book.specs.Turns.{Place, Turn, Ticks, limits_of}
 use Rattle.conn_worker.specs.declared.serve.Heard.{Heard}
 use Rattle.conn_worker.specs.declared.serve.Heard.TheVariants as came
-use Rattle.conn_worker.specs.Visits.{IsWork, Idles, fault_of, gave, runs_in}
+use Rattle.conn_worker.specs.declared.deliver.Front.TheVariants as front
+use Rattle.conn_worker.specs.Visits.{IsWork, Idles, fault_of, front_of, gave, runs_in}
 use Rattle.conn_worker.proofs.Running.{at_clock}
 
 -- turns that are no Runs and no Takes
@@ -47,9 +48,14 @@ module _ (clock : Option ℕ) (id : ℕ) (old new : Place) where
   pub idles_pass : (h : Heard) → Idles clock h old new → Passes clock id old new
   idles_pass came.Idle t = ticks_pass t.now t.at t.ticks
   idles_pass (came.Left e) r = passes_none r.0.grows
-  idles_pass (came.Piece fault) none = absurd none
+  idles_pass (came.Piece behind) none = absurd none
 
   pub idles_faultless : (h : Heard) → Idles clock h old new → fault_of h ≡ None
   idles_faultless came.Idle t = refl
   idles_faultless (came.Left e) r = refl
-  idles_faultless (came.Piece fault) none = absurd none
+  idles_faultless (came.Piece behind) none = absurd none
+
+  pub idles_untaken : (h : Heard) → Idles clock h old new → front_of h ≡ front.Untaken
+  idles_untaken came.Idle t = refl
+  idles_untaken (came.Left e) r = refl
+  idles_untaken (came.Piece behind) none = absurd none

@@ -1,7 +1,7 @@
 -- What the service of one connection does to its seat and its link.
 use Rattle.std.specs.Prelude.{◌≡◌, ◌≤◌, ◌+◌, ◌⊎◌, ℕ, List, [], ◌∷◌, ◌++◌, length, max}
 use Rattle.std.specs.Prelude.{take}
-use Rattle.std.specs.Prelude.{Option, Some, None, Result, Ok, Err, IfSome, ⊤}
+use Rattle.std.specs.Prelude.{Option, Some, None, Result, Ok, Err, IfSome, true, ⊤}
 use Rattle.std.specs.List.{All}
 use Rattle.std.specs.Io.KnownBytes.{Appends, Consumes}
 use Rattle.resp_value.specs.Lists.{IsPrefix}
@@ -13,18 +13,21 @@ use Rattle.edge_links.specs.Counts.{Counted, FaultCounted}
 use Rattle.serial_model.specs.declared.history.Limits.{Limits}
 use Rattle.serial_model.specs.declared.history.Entry.{Entry}
 use Rattle.serial_model.specs.declared.history.Entry.TheVariants as entry
-use Rattle.serial_model.specs.History.{latest, stream, taken, unsent}
+use Rattle.serial_model.specs.History.{is_admitted, latest, stream, taken, unsent}
 use Rattle.shared_book.specs.declared.turns.Refusal.{Refusal}
 use Rattle.shared_book.specs.declared.turns.Refusal.TheVariants as refusal
 use Rattle.serial_model.specs.declared.history.BookCall.{BookCall}
-use Rattle.shared_book.specs.Own.{past_of, Grows}
+use Rattle.shared_book.specs.Own.{past_of, IsWithin, Grows}
 use Rattle.shared_book.specs.Batches.{requests_in}
 use Rattle.shared_book.specs.Turns.{Place, Turn, IsCause, limits_of, Admits, Closes, Refuses}
-use Rattle.shared_book.specs.Turns.{IsServerCause, Ticks}
+use Rattle.shared_book.specs.Turns.{IsServerCause, Takes, Ticks}
 use Rattle.conn_worker.specs.declared.report.Report.{Report}
 use Rattle.conn_worker.specs.declared.report.Ended.{Ended}
 use Rattle.conn_worker.specs.declared.report.Ended.TheVariants as ended
 use Rattle.conn_worker.specs.declared.connection.Connection.{Connection}
+use Rattle.conn_worker.specs.declared.connection.Behind.{Behind}
+use Rattle.conn_worker.specs.declared.deliver.Front.{Front}
+use Rattle.conn_worker.specs.declared.deliver.Front.TheVariants as front
 use Rattle.conn_worker.specs.declared.serve.Heard.{Heard}
 use Rattle.conn_worker.specs.declared.serve.Heard.TheVariants as came
 
@@ -129,7 +132,20 @@ pub record RunsAll (clock : Option ℕ) (fault : Option StreamFault) (before aft
   pub fault_is : fault ≡ (parse before.reader).fault
   pub reader : fault ≡ None → after.reader ≡ (parse before.reader).stream
 
+-- all of them ran, up to the fault behind them, and the first bytes that wait were taken
+pub record HearsAll (clock : Option ℕ) (behind : Behind) (before after : Connection)
+    (old new : Place) : Type 0 where
+  pub middle : Place
+  pub runs : RunsAll clock behind.fault before after old middle
+  pub takes : Takes before.id behind.front middle new
+
 -- ---- what is written to a link
+
+-- what waited for the connection was not asked for yet, or its first bytes were taken
+abbrev pub Begins : ℕ → Front → Place → Place → Type 0
+Begins id front.Untaken before now = now ≡ before
+Begins id (front.Taken bytes) before now =
+    IsWithin before × (is_admitted (past_of before) id ≡ true) × Takes id bytes before now
 
 -- what waited for the connection was taken and written, all of it
 pub record Delivers (id : ℕ) (link0 link1 : Option (List ℕ)) (old new : Place) : Type 0 where
@@ -182,7 +198,12 @@ IsOfLink ended.Worn = ⊥
 abbrev pub fault_of : Heard → Option StreamFault
 fault_of came.Idle = None
 fault_of (came.Left e) = None
-fault_of (came.Piece fault) = fault
+fault_of (came.Piece behind) = behind.fault
+
+abbrev pub front_of : Heard → Front
+front_of came.Idle = front.Untaken
+front_of (came.Left e) = front.Untaken
+front_of (came.Piece behind) = front.Taken behind.front
 
 -- a Tick at the clock's moment
 pub record TicksAt (clock : Option ℕ) (old new : Place) : Type 0 where
@@ -201,16 +222,16 @@ IsLeft refusal.Worn = ⊥
 abbrev pub Idles : Option ℕ → Heard → Place → Place → Type 0
 Idles clock came.Idle old new = TicksAt clock old new
 Idles clock (came.Left e) old new = Refuses e 0 old new × IsLeft e
-Idles clock (came.Piece fault) old new = ⊥
+Idles clock (came.Piece behind) old new = ⊥
 
 -- Nothing came; or a piece was read, and the requests that are whole by then ran.
 pub data Hears (clock : Option ℕ) (heard : Heard) (before after : Connection)
     (left0 left1 : Option (List ℕ)) (old new : Place) : Type 0 where
   Idle : Idles clock heard old new → after ≡ before → Consumes left0 left1 []
       → Hears clock heard before after left0 left1 old new
-  Piece : (fault : Option StreamFault) → heard ≡ came.Piece fault → (piece : List ℕ)
+  Piece : (behind : Behind) → heard ≡ came.Piece behind → (piece : List ℕ)
       → Consumes left0 left1 piece
-      → RunsAll clock fault (fed_connection before piece) after old new
+      → HearsAll clock behind (fed_connection before piece) after old new
       → Hears clock heard before after left0 left1 old new
 
 -- The link gave no bytes; or a piece was read, and some of the requests in it ran.

@@ -5,18 +5,27 @@ ghost use Rattle.resp_stream.specs.Stream.{begun, fed};
 ghost use Rattle.serial_model.specs.History.{is_admitted};
 ghost use Rattle.shared_book.specs.Own.{IsWithin, past_of};
 ghost use Rattle.shared_book.specs.Batches.{IsRunAt};
-ghost use Rattle.conn_worker.specs.Visits.{ReadsAll, RunsAll, RunsPart, fed_connection};
+ghost use Rattle.conn_worker.specs.Visits.{HearsAll, ReadsAll, RunsPart, fed_connection};
 
 use super::gate::Gate;
 use super::report::{Ended, ended_by};
 use edge_links::Clock;
 use resp_stream::{RequestReader, StreamFault};
-use resp_value::NoMemory;
+use resp_value::{NoMemory, Octets};
 use serial_model::BookCall;
 use shared_book::{SharedBook, run_all};
 use std::alloc::Global;
 use std::sync::Wait;
 use turn_lock::{Seat, TurnLock};
+
+/// What is behind the requests that were read and ran.
+#[derive(Debug, Drop)]
+pub struct Behind {
+    /// The fault of the bytes, if one is there.
+    pub fault: Option<StreamFault>,
+    /// The first bytes that wait for the connection, which were taken, if any do.
+    pub front: Option<Octets>,
+}
 
 /// A connection that is served: what was read of its link, and how many of its requests ran.
 #[derive(Drop)]
@@ -38,8 +47,8 @@ impl Connection {
         }
     }
 
-    /// Runs each whole request that is read with this piece, and answers the fault behind them, if
-    /// one is there.
+    /// Runs each whole request that is read with this piece, and takes the first bytes that wait
+    /// for the connection.
     pub fn hear<R: Wait, C: Clock, G: Gate>(
         &mut self,
         rt: &R,
@@ -49,12 +58,12 @@ impl Connection {
         clock: &C,
         gate: &G,
         piece: &[u8],
-    ) -> Result<Option<StreamFault>, Ended>
+    ) -> Result<Behind, Ended>
         requires lock { seat.old.lock ≡ lock.now }
         requires within { IsWithin seat.old }
         requires admitted { is_admitted (past_of seat.old) self.old.id ≡ true }
         requires counted { self.old.requests ≤ length seat.old.seen }
-        ensures ok { IfOk result (λ fault. RunsAll (C.moment clock.now) fault
+        ensures ok { IfOk result (λ behind. HearsAll (C.moment clock.now) behind
             (fed_connection self.old piece.now) self.new seat.old seat.new) }
         ensures err { IfErr result (λ e. RunsPart (C.moment clock.now) e
             (fed_connection self.old piece.now) self.new seat.old seat.new) }
@@ -65,7 +74,7 @@ impl Connection {
         self.run_read(rt, alloc, lock, seat, clock, gate)
     }
 
-    // Runs each whole request that was read, in one batch.
+    // Runs each whole request that was read, with the Take behind them, in one batch.
     fn run_read<R: Wait, C: Clock, G: Gate>(
         &mut self,
         rt: &R,
@@ -74,12 +83,12 @@ impl Connection {
         seat: &mut Seat<SharedBook>,
         clock: &C,
         gate: &G,
-    ) -> Result<Option<StreamFault>, Ended>
+    ) -> Result<Behind, Ended>
         requires lock { seat.old.lock ≡ lock.now }
         requires within { IsWithin seat.old }
         requires admitted { is_admitted (past_of seat.old) self.old.id ≡ true }
         requires counted { self.old.requests ≤ length seat.old.seen }
-        ensures ok { IfOk result (λ fault. RunsAll (C.moment clock.now) fault
+        ensures ok { IfOk result (λ behind. HearsAll (C.moment clock.now) behind
             self.old self.new seat.old seat.new) }
         ensures err { IfErr result (λ e. RunsPart (C.moment clock.now) e
             self.old self.new seat.old seat.new) }
@@ -92,9 +101,9 @@ impl Connection {
         };
         let batch = run_all(rt, alloc, lock, seat, self.id, self.requests, now, calls);
         self.requests = batch.requests;
-        match batch.refusal {
-            None => Ok(fault),
-            Some(refusal) => Err(ended_by(refusal)),
+        match batch.front {
+            Ok(front) => Ok(Behind { fault, front }),
+            Err(refusal) => Err(ended_by(refusal)),
         }
     }
 

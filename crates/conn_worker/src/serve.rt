@@ -5,10 +5,10 @@ ghost use Rattle.resp_stream.specs.Stream.{begun};
 ghost use Rattle.serial_model.specs.History.{is_admitted};
 ghost use Rattle.shared_book.specs.Own.{IsWithin, past_of};
 ghost use Rattle.conn_worker.specs.Visits.{EndCounts, Hears, HearsPart, HearingCounts, Visits};
-ghost use Rattle.conn_worker.specs.Visits.{Works, fault_of};
+ghost use Rattle.conn_worker.specs.Visits.{Works, fault_of, front_of};
 
-use super::connection::Connection;
-use super::deliver::deliver;
+use super::connection::{Behind, Connection};
+use super::deliver::{Front, deliver_from};
 use super::gate::Gate;
 use super::report::{Ended, Report, ended_by};
 use edge_links::{Clock, Link, LinkRead};
@@ -22,24 +22,25 @@ use turn_lock::{Seat, TurnLock};
 const PIECE: usize = 16_384;
 
 /// What a read of a link brought.
-#[derive(Clone, Copy, Debug, Drop, PartialEq, Eq)]
+#[derive(Drop)]
 pub(crate) enum Heard {
     /// Nothing. The keys that were due left.
     Idle,
     /// Nothing. The keys that were due stayed, since the history is full or memory ran out.
     Left(Refusal),
-    /// A piece, and the fault behind its requests, if one is there.
-    Piece(Option<StreamFault>),
+    /// A piece, and what is behind its requests.
+    Piece(Behind),
 }
 
 impl Heard {
-    fn fault(self) -> Option<StreamFault>
-        ensures { result ≡ fault_of self }
+    // The fault of the bytes, and what was taken already of what waits.
+    fn behind(self) -> (Option<StreamFault>, Front)
+        ensures { (result.0 ≡ fault_of self) × (result.1 ≡ front_of self) }
     {
         match self {
-            Heard::Idle => None,
-            Heard::Left(_) => None,
-            Heard::Piece(fault) => fault,
+            Heard::Idle => (None, Front::Untaken),
+            Heard::Left(_) => (None, Front::Untaken),
+            Heard::Piece(Behind { fault, front }) => (fault, Front::Taken(front)),
         }
     }
 }
@@ -80,7 +81,7 @@ fn hear_once<R: Wait, L: Link, C: Clock, G: Gate>(
             gate,
             &buffer[..n],
         ) {
-            Ok(fault) => Ok(Heard::Piece(fault)),
+            Ok(behind) => Ok(Heard::Piece(behind)),
             Err(ended) => Err(ended),
         },
         LinkRead::Idle => match tick(rt, lock, seat, clock.now_ms()) {
@@ -133,11 +134,11 @@ fn serve_admitted<R: Wait, L: Link, C: Clock, G: Gate>(
             connection,
             &mut buffer,
         );
-        let fault = match heard {
-            Ok(heard) => heard.fault(),
+        let (fault, front) = match heard {
+            Ok(heard) => heard.behind(),
             Err(ended) => return ended,
         };
-        match deliver(rt, lock, seat, link, connection.id) {
+        match deliver_from(rt, lock, seat, link, connection.id, front) {
             Ok(()) => gate.after(connection.id, connection.requests),
             Err(ended) => return ended,
         }

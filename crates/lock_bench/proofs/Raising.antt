@@ -1,18 +1,16 @@
 -- What turns that raise a register add up to.
 use Rattle.std.proofs.Common.{◌≡◌, ℕ, ◌+◌, ◌-◌, ◌*◌, ◌<◌, ◌≤◌, ◌%◌, ◌^◌, List, [], ◌∷◌, length}
-use Rattle.std.proofs.Common.{suc, refl, sym, ap, subst, ◌∙◌, arith, length-append}
+use Rattle.std.proofs.Common.{sym, ap, subst, ◌∙◌, arith, length-append}
 use Rattle.std.proofs.Math.Nat.{add-mul}
-use Rattle.std.specs.Prelude.{Option, Some, None, min}
+use Rattle.std.specs.Prelude.{Option, Some, min}
 use Rattle.std.proofs.lemmas.Option.{same_Some}
-use Rattle.std.specs.List.{All}
-use Rattle.lock_bench.specs.Register.{value_of, IsRaise, RegisterStep, RaisedBy}
+use Rattle.lock_bench.specs.Register.{value_of, RegisterStep, RaisedBy}
 use Rattle.lock_bench.specs.declared.register.Ask.{Ask}
 use Rattle.lock_bench.specs.declared.register.Ask.TheVariants.{Raise, Read}
 use Rattle.lock_bench.specs.declared.register.Raised.{Raised}
 use Rattle.lock_bench.specs.declared.register.Register.{Register}
-use Rattle.turn_lock.specs.History.{entries, own_after, Legal}
-use Rattle.turn_lock.specs.Seats.{Known, split_seat, joined_seat, IsSameSeat}
-use Rattle.turn_lock.specs.Seats.{TurnedAll}
+use Rattle.turn_lock.specs.History.{entries, Legal}
+use Rattle.turn_lock.specs.Seats.{Known, split_seat, joined_seat}
 use Rattle.turn_lock.specs.declared.rule.TheConstants.{LAST_TICKET}
 
 -- what one thread and the others raised
@@ -36,58 +34,6 @@ both_raised threads turns number seat one others mine theirs after two enough is
           let x = a.raised in let y = b.raised in omega arith;
       most = let x = a.most in let y = b.most in omega arith;
       all = λ small. let x = a.all (grind arith) in let y = b.all (grind arith) in omega arith;
-    }
-
--- some turns and then some more
-pub raised_more : (asked more all : ℕ) (before mid after : Known ℕ Raised)
-    → RaisedBy asked before mid → RaisedBy more mid after → all ≡ asked + more
-    → RaisedBy all before after
-raised_more asked more all before mid after a b sum = record {
-  lock = b.lock ∙ a.lock;
-  setup = b.setup ∙ a.setup;
-  parts = b.parts ∙ a.parts;
-  not_less = let p = a.not_less in let q = b.not_less in omega arith;
-  raised = let p = a.raised in let q = b.raised in omega arith;
-  most = let p = a.most in let q = b.most in omega arith;
-  all = λ small. let n = b.not_less in let p = a.all (omega arith) in let q = b.all small in
-      omega arith;
-}
-
-one_raise : (start : ℕ) (past : List Raised) (ask : Ask) (reply : ℕ) (e : Option Raised)
-    (own : List ℕ) (place : ℕ) → IsRaise ask → RegisterStep start past ask reply e
-    → length (own_after own place e) ≡ suc (length own)
-one_raise start past (Raise number) reply None own place is (same, entry) = absurd cc
-one_raise start past (Raise number) reply (Some e) own place is step = refl
-one_raise start past Read reply e own place is step = absurd is
-
--- turns that all raise add an entry each
-pub all_raise : (calls : List Ask) (replies : List ℕ) (k l : Known ℕ Raised) → All IsRaise calls
-    → TurnedAll RegisterStep calls replies k l → length l.own ≡ length k.own + length calls
-all_raise [] [] k l raise (same, seen, own) =
-    let same_length : length l.own ≡ length k.own = ap length own in omega arith
-all_raise [] (r ∷ replies) k l raise bad = absurd bad
-all_raise (c ∷ calls) [] k l raise bad = absurd bad
-all_raise (c ∷ calls) (r ∷ replies) k l raise
-    (next, same, (u, h, e, has, begins, step, seen, own), rest) =
-    let one = one_raise u (entries h) c r e k.own (length h) (raise 0 c (omega arith)) step in
-    let first : length next.own ≡ length (own_after k.own (length h) e) = ap length own in
-    let later = all_raise calls replies next l
-    (λ n d lt. raise (suc n) d (omega arith)) rest in
-    omega arith
-
-pub batch_raised : (calls : List Ask) (replies : List ℕ) (k l : Known ℕ Raised)
-    → length calls ≡ 16 → All IsRaise calls → IsSameSeat k l
-    → TurnedAll RegisterStep calls replies k l → l.turns ≡ k.turns + length calls
-    → k.tickets ≤ l.tickets → RaisedBy 16 k l
-batch_raised calls replies k l long raise same turned turns le =
-    let more = all_raise calls replies k l raise turned in record {
-      lock = same.0;
-      setup = same.1;
-      parts = same.4;
-      not_less = le;
-      raised = omega arith;
-      most = omega arith;
-      all = λ _. omega arith;
     }
 
 -- the tickets that all threads drew

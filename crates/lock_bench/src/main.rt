@@ -1,6 +1,6 @@
 //! Raises a register in threads, and says whether it has the right value at the end:
-//! `lock_bench turn 4 1000`, or `batch` or `mutex` for `turn`. Two further numbers are the rounds
-//! of work in a turn and before one.
+//! `lock_bench turn 4 1000`, or `mutex` for `turn`. Two further numbers are the rounds of work in a
+//! turn and before one.
 #![tactic(auto)]
 
 mod drive;
@@ -32,10 +32,9 @@ fn number_or_none(word: Option<String>) -> Option<u64> {
 }
 
 fn read_words(words: &mut env::Args) -> Option<Run> {
-    let (mutex, batches) = match words.next()?.as_str() {
-        "turn" => (false, false),
-        "batch" => (false, true),
-        "mutex" => (true, false),
+    let mutex = match words.next()?.as_str() {
+        "turn" => false,
+        "mutex" => true,
         _ => return None,
     };
     let threads = number(words.next())?;
@@ -45,11 +44,7 @@ fn read_words(words: &mut env::Args) -> Option<Run> {
     Some(Run {
         mutex,
         threads,
-        share: Share {
-            turns,
-            batches,
-            own_rounds,
-        },
+        share: Share { turns, own_rounds },
         rounds,
     })
 }
@@ -58,7 +53,7 @@ fn main(rt: HostRuntime) -> io::Result<()> {
     let mut words = env::args(&rt)?;
     words.next();
     let Some(run) = read_words(&mut words) else {
-        println!(rt; "usage: lock_bench turn|batch|mutex THREADS TURNS [ROUNDS [OWN_ROUNDS]]")?;
+        println!(rt; "usage: lock_bench turn|mutex THREADS TURNS [ROUNDS [OWN_ROUNDS]]")?;
         return Ok(());
     };
     if run.threads == 0 {

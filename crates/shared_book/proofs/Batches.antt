@@ -1,11 +1,10 @@
--- Several requests of a connection, in one batch or a turn each.
+-- Several requests of a connection and the Take behind them, in one batch or a turn each.
 use Rattle.std.proofs.Common.{◌≡◌, ◌≤◌, ◌<◌, ◌+◌, ℕ, suc, List, [], ◌∷◌, ◌++◌, length}
-use Rattle.std.proofs.Common.{take, true, false, cond, refl, sym, ap, subst, ◌∙◌, arith}
+use Rattle.std.proofs.Common.{take, true, cond, refl, sym, ap, subst, ◌∙◌, arith}
 use Rattle.std.proofs.Common.{Some, None, length-append, append-nil, append_assoc, ne_eqb}
-use Rattle.std.specs.Prelude.{Option, IfSome, ◌==◌, if◌then◌else◌}
+use Rattle.std.specs.Prelude.{Option, Result, Ok, Err, IfOk, IfErr, ◌==◌}
 use Rattle.std.specs.List.{All}
 use Rattle.std.proofs.lemmas.List.Elements.{All-nil, All-cons, All-head, All-tail}
-use Rattle.std.proofs.lemmas.Bool.Decides.{nat_tests}
 use Rattle.turn_lock.specs.History.{entries, IsPrefix, history_after, own_after}
 use Rattle.turn_lock.specs.Seats.{IsSameSeat, Turned, TurnedAll, StopsAt}
 use Rattle.turn_lock.specs.Batches.{IsUnplayed}
@@ -21,18 +20,17 @@ use Rattle.serial_model.specs.declared.history.BookReply.TheVariants.{Admitted, 
 use Rattle.serial_model.specs.declared.history.BookReply.TheVariants.{Bytes, Closed, Refused}
 use Rattle.serial_model.specs.declared.history.BookRefusal.{BookRefusal}
 use Rattle.serial_model.specs.declared.history.BookRefusal.TheVariants.{Gone, HistoryFull, NoMemory}
-use Rattle.serial_model.specs.History.{is_admitted, has_ended, is_full, runs_on}
-use Rattle.serial_model.specs.Steps.{Turn as Stepped, book_step, AddsEntry, full, gone, running}
-use Rattle.serial_model.specs.Steps.{unless_full}
+use Rattle.serial_model.specs.History.{is_admitted, has_ended, is_full}
 use Rattle.shared_book.specs.Own.{past_of, own_list, with_pasts, turns_of, IsWithin, Within}
 use Rattle.shared_book.specs.Own.{Grows}
-use Rattle.shared_book.specs.Turns.{Shared, Place, Turn, Plays, TurnStep, Runs, IsCause, Refuses}
-use Rattle.shared_book.specs.Turns.{limits_in, limits_of}
+use Rattle.resp_value.specs.declared.octets.Octets.{Octets}
+use Rattle.shared_book.specs.Turns.{Place, Turn, Plays, TurnStep, Runs, Takes, IsCause, Refuses}
+use Rattle.shared_book.specs.Turns.{limits_in, limits_of, most}
 use Rattle.shared_book.specs.declared.turns.Refusal.{Refusal}
 use Rattle.shared_book.specs.declared.turns.Refusal.TheVariants as refusal
 use Rattle.shared_book.specs.declared.batch.Batch.{Batch}
-use Rattle.shared_book.specs.Batches.{RefusesRun, IsRunAt, requests_in, RunsEach, RunsFirst}
-use Rattle.shared_book.specs.Batches.{refusal_by, ran_in, refusal_in, IsRunReply, is_refusal}
+use Rattle.shared_book.specs.Batches.{IsRunAt, requests_in, RunsEach, RunsAndTakes, RunsFirst}
+use Rattle.shared_book.specs.Batches.{refusal_by, ran_in, taken_in, IsOfBatch, adds_none}
 use Rattle.shared_book.specs.Batches.{Counts}
 use Rattle.shared_book.proofs.Owning.{within_begins}
 use Rattle.shared_book.proofs.Turning.{plays, begins_trans, grows_worn}
@@ -40,41 +38,9 @@ use Rattle.shared_book.proofs.Growing.{grows_none, grows_then, grows_past}
 use Rattle.shared_book.proofs.Histories.{begins_lift, admitted_more, ended_more, full_begins}
 use Rattle.shared_book.proofs.Outcomes.{run_runs, run_number, run_gone, run_full, run_memory}
 use Rattle.shared_book.proofs.Outcomes.{run_admitted, run_ticked, run_quiet, run_bytes, run_closed}
-
--- ---- a Run that is refused unplayed
-
-module _ (s : Shared) (id : ℕ) where
-  pub refuse_gone : runs_on s.limits s.past id ≡ false → RefusesRun s id (Gone id)
-  unfolding book_step
-  refuse_gone off words now =
-      ap (λ b. if b then unless_full s.limits s.past (running s.past id words now)
-      else gone s.past id) off
-
-  on_step : (words : List (List ℕ)) (now : ℕ) → runs_on s.limits s.past id ≡ true
-      → book_step s.limits s.past (Run id words now)
-      ≡ unless_full s.limits s.past (running s.past id words now)
-  unfolding book_step
-  on_step words now on =
-      ap (λ b. if b then unless_full s.limits s.past (running s.past id words now)
-      else gone s.past id) on
-
-  pub refuse_full : (n : ℕ) → runs_on s.limits s.past id ≡ true → n ≡ length s.past
-      → s.limits.history_max ≤ n → RefusesRun s id (HistoryFull n)
-  refuse_full n on is le words now =
-      let there : is_full s.limits s.past ≡ true = grind (arith, nat_tests, is, le) in
-      on_step words now on
-      ∙ ap (λ b. if b then full s.past else running s.past id words now) there
-      ∙ ap (λ k. record { reply = Refused (HistoryFull k); past = s.past }) (sym is)
-
-  pub refuse_memory : (n : ℕ) → runs_on s.limits s.past id ≡ true → n ≡ length s.past
-      → n < s.limits.history_max → RefusesRun s id NoMemory
-  refuse_memory n on is lt words now =
-      let there : is_full s.limits s.past ≡ false = grind (arith, nat_tests, is, lt) in
-      let runs = on_step words now on
-      ∙ ap (λ b. if b then full s.past else running s.past id words now) there in
-      (refl, subst (λ (t : Stepped). AddsEntry t.reply) (sym runs) tt, tt)
-
-pub ruleset refusing = (refuse_gone, refuse_full, refuse_memory)
+use Rattle.shared_book.proofs.Outcomes.{take_gives, take_some, take_rests, take_gone, take_full}
+use Rattle.shared_book.proofs.Outcomes.{take_memory, take_admitted, take_ran, take_ticked}
+use Rattle.shared_book.proofs.Outcomes.{take_closed}
 
 -- ---- the turns of a batch
 
@@ -107,6 +73,17 @@ each_then : (id now : ℕ) (ws : List (List (List ℕ))) (a b c : Place) → Run
 each_then id now [] a b c h g = grows_into a b c h g
 each_then id now (w ∷ ws) a b c (mid, run, rest) g =
     (mid, run, each_then id now ws mid b c rest g)
+
+-- what follows for a value, or for an error, follows where there is one
+pub if_ok : {A E : Type 0} {P Q : A → Type 0} (r : Result A E) → ((a : A) → P a → Q a) → IfOk r P
+    → IfOk r Q
+if_ok (Ok a) f h = f a h
+if_ok (Err e) f h = tt
+
+pub if_err : {A E : Type 0} {P Q : E → Type 0} (r : Result A E) → ((e : E) → P e → Q e)
+    → IfErr r P → IfErr r Q
+if_err (Ok a) f h = tt
+if_err (Err e) f h = f e h
 
 with_tickets : Place → ℕ → Place
 with_tickets k t = record k { tickets = t }
@@ -174,60 +151,95 @@ module _ (id now : ℕ) where
         (λ i. (seen i, own i));
   }
 
-  refused_is : (reply : BookReply) → is_refusal reply ≡ true
-      → (r : BookRefusal) × (reply ≡ Refused r)
-  refused_is (Admitted n i) h = absurd (let no : ⊥ = cc in no)
-  refused_is (Ran n) h = absurd (let no : ⊥ = cc in no)
-  refused_is (Ticked n) h = absurd (let no : ⊥ = cc in no)
-  refused_is Quiet h = absurd (let no : ⊥ = cc in no)
-  refused_is (Bytes n bytes) h = absurd (let no : ⊥ = cc in no)
-  refused_is (Closed n) h = absurd (let no : ⊥ = cc in no)
-  refused_is (Refused r) h = (r, refl)
+  -- the last turn of a batch
+  last_plays : (call : BookCall) (reply : BookReply) (k next after : Place) → IsWithin k
+      → k.tickets ≤ after.tickets → IsSameSeat k next → Turned TurnStep call reply k next
+      → IsSameSeat next after → after.seen ≡ next.seen → after.own ≡ next.own
+      → Plays call reply k after
+  unfolding IsWithin
+  last_plays call reply k next after is le one turn two seen own =
+      let (u, h, e, has, begins, step, ends, owns) = turn in
+      let here = seen ∙ ends in
+      let mine = own ∙ owns in
+      plays call reply k after is
+      (subst (λ (z : List (ℕ × Entry) × List ℕ). Within z.0 z.1) (λ i. (sym here i, sym mine i))
+      (within_turn k.number k.seen h k.own e begins is))
+      (two.0 ∙ one.0) (two.1 ∙ one.1) (two.4 ∙ one.4) le
+      (u, h, e, has, begins, step, here, mine)
 
-  -- behind a refusal nothing is added
-  all_refused : (calls : List BookCall) (replies : List BookReply) (k after : Place)
+  take_refused : (r : BookRefusal) (k l : Place) → is_admitted (past_of k) id ≡ true
+      → Plays (Take id most) (Refused r) k l → Refuses (refusal_by r) id k l
+  take_refused (Gone n) k l on p = take_gone k l id most n on p
+  take_refused (HistoryFull n) k l on p = take_full k l id most n p
+  take_refused NoMemory k l on p = take_memory k l id most p
+
+  take_passed : (reply : BookReply) (k l : Place) → is_admitted (past_of k) id ≡ true
+      → Plays (Take id most) reply k l → adds_none reply ≡ true
+      → Grows k l [] × IsOfBatch reply
+  take_passed (Admitted n i) k l on p h = absurd (let no : ⊥ = cc in no)
+  take_passed (Ran n) k l on p h = absurd (let no : ⊥ = cc in no)
+  take_passed (Ticked n) k l on p h = absurd (let no : ⊥ = cc in no)
+  take_passed Quiet k l on p h = ((take_rests k l id most (omega arith) p).grows, tt)
+  take_passed (Bytes n bytes) k l on p h = absurd (let no : ⊥ = cc in no)
+  take_passed (Closed n) k l on p h = absurd (let no : ⊥ = cc in no)
+  take_passed (Refused r) k l on p h = ((take_refused r k l on p).grows, tt)
+
+  run_passed : (words : List (List ℕ)) (reply : BookReply) (k l : Place)
+      → is_admitted (past_of k) id ≡ true → Plays (Run id words now) reply k l
+      → adds_none reply ≡ true → Grows k l [] × IsOfBatch reply
+  run_passed words (Admitted n i) k l on p h = absurd (let no : ⊥ = cc in no)
+  run_passed words (Ran n) k l on p h = absurd (let no : ⊥ = cc in no)
+  run_passed words (Ticked n) k l on p h = absurd (let no : ⊥ = cc in no)
+  run_passed words Quiet k l on p h = absurd (run_quiet k l id words now p)
+  run_passed words (Bytes n bytes) k l on p h = absurd (let no : ⊥ = cc in no)
+  run_passed words (Closed n) k l on p h = absurd (let no : ⊥ = cc in no)
+  run_passed words (Refused r) k l on p h = ((step_refused r words k l on p).grows, tt)
+
+  -- behind an answer that added no entry, none is added
+  all_passed : (calls : List BookCall) (replies : List BookReply) (k after : Place)
       → All (IsRunAt id now) calls → IsWithin k → is_admitted (past_of k) id ≡ true
-      → k.tickets ≤ after.tickets → TurnedAll TurnStep calls replies k after
-      → All (λ r. is_refusal r ≡ true) replies → Grows k after [] × All IsRunReply replies
-  all_refused [] [] k after runs is on le t all =
-      (same_grows k after is le t.0 t.1 t.2, All-nil IsRunReply)
-  all_refused [] (reply ∷ replies) k after runs is on le t all = absurd t
-  all_refused (call ∷ calls) [] k after runs is on le t all = absurd t
-  all_refused (Admit ∷ calls) (reply ∷ replies) k after runs is on le t all =
+      → k.tickets ≤ after.tickets → TurnedAll TurnStep (calls ++ Take id most ∷ []) replies k after
+      → All (λ r. adds_none r ≡ true) replies → Grows k after [] × All IsOfBatch replies
+  all_passed [] [] k after runs is on le t all = absurd t
+  all_passed [] (reply ∷ []) k after runs is on le t all =
+      let (next, one, turn, two) = t in
+      let did = take_passed reply k after on
+      (last_plays (Take id most) reply k next after is le one turn two.0 two.1 two.2)
+      (All-head (λ x. adds_none x ≡ true) reply [] all) in
+      (did.0, All-cons IsOfBatch reply [] did.1 (All-nil IsOfBatch))
+  all_passed [] (reply ∷ more ∷ replies) k after runs is on le t all =
+      let (next, one, turn, two) = t in absurd two
+  all_passed (call ∷ calls) [] k after runs is on le t all = absurd t
+  all_passed (Admit ∷ calls) (reply ∷ replies) k after runs is on le t all =
       absurd (All-head (IsRunAt id now) Admit calls runs)
-  all_refused (Tick moment ∷ calls) (reply ∷ replies) k after runs is on le t all =
+  all_passed (Tick moment ∷ calls) (reply ∷ replies) k after runs is on le t all =
       absurd (All-head (IsRunAt id now) (Tick moment) calls runs)
-  all_refused (Take n most ∷ calls) (reply ∷ replies) k after runs is on le t all =
-      absurd (All-head (IsRunAt id now) (Take n most) calls runs)
-  all_refused (Close n ∷ calls) (reply ∷ replies) k after runs is on le t all =
+  all_passed (Take n many ∷ calls) (reply ∷ replies) k after runs is on le t all =
+      absurd (All-head (IsRunAt id now) (Take n many) calls runs)
+  all_passed (Close n ∷ calls) (reply ∷ replies) k after runs is on le t all =
       absurd (All-head (IsRunAt id now) (Close n) calls runs)
-  all_refused (Run n words moment ∷ calls) (reply ∷ replies) k after runs is on le t all =
+  all_passed (Run n words moment ∷ calls) (reply ∷ replies) k after runs is on le t all =
       let (next, same, turn, rest) = t in
       let l = with_tickets next k.tickets in
-      let (r, was) = refused_is reply (All-head (λ x. is_refusal x ≡ true) reply replies all) in
       let at = All-head (IsRunAt id now) (Run n words moment) calls runs in
       let p = run_plays n moment words reply k next at is same turn in
-      let one = step_refused r words k l on
-      (subst (λ z. Plays (Run id words now) z k l) was p) in
-      let more = all_refused calls replies l after
-      (All-tail (IsRunAt id now) (Run n words moment) calls runs) one.grows.within
+      let one = run_passed words reply k l on p
+      (All-head (λ x. adds_none x ≡ true) reply replies all) in
+      let more = all_passed calls replies l after
+      (All-tail (IsRunAt id now) (Run n words moment) calls runs) one.0.within
       (on_at k l (Run id words now) reply p on) (less_at next after k.tickets le)
-      (rest_of calls replies next after k.tickets rest)
-      (All-tail (λ x. is_refusal x ≡ true) reply replies all) in (
-        grows_into k l after one.grows more.0,
-        All-cons IsRunReply reply replies (subst IsRunReply (sym was) tt) more.1,
-      )
+      (rest_of (calls ++ Take id most ∷ []) replies next after k.tickets rest)
+      (All-tail (λ x. adds_none x ≡ true) reply replies all) in
+      (grows_into k l after one.0 more.0, All-cons IsOfBatch reply replies one.1 more.1)
 
   -- what the replies of a batch tell
   pub record Told (requests : List (List (List ℕ))) (replies : List BookReply) (k after : Place)
       : Type 0 where
-    pub within : ran_in replies ≤ length requests
-    pub each : RunsEach id now (take (ran_in replies) requests) k after
-    pub all : refusal_in replies ≡ None → ran_in replies ≡ length requests
-    pub less : (e : Refusal) → refusal_in replies ≡ Some e → ran_in replies < length requests
-    pub cause_is : IfSome (refusal_in replies) (λ e. IsCause e id after)
-    pub are : All IsRunReply replies
-    pub fits : (count : ℕ) → count ≤ length k.seen → count + ran_in replies ≤ length after.seen
+    pub ok : IfOk (taken_in replies) (λ front. (count : ℕ) → count ≤ length k.seen
+        → RunsAndTakes id now count requests (count + ran_in replies) front k after)
+    pub err : IfErr (taken_in replies) (λ e. (count : ℕ)
+        → RunsFirst id now count requests (count + ran_in replies) e k after)
+    pub are : All IsOfBatch replies
     pub counts : (count : ℕ) → count ≤ length k.seen → Counts count replies
 
   seen_more : (k l : Place) (ts : List Turn) → Grows k l ts → length k.seen ≤ length l.seen
@@ -249,38 +261,59 @@ module _ (id now : ℕ) where
       let a = entries_long k.seen in
       let b = entries_long l.seen in omega (arith, long, more, both, a, b)
 
+  all_more : (words : List (List ℕ)) (requests : List (List (List ℕ))) (count ran : ℕ)
+      (front : Option Octets) (k l after : Place) → Runs id words now k l
+      → RunsAndTakes id now (suc count) requests (suc count + ran) front l after
+      → RunsAndTakes id now count (words ∷ requests) (count + suc ran) front k after
+  all_more words requests count ran front k l after run h = record {
+    middle = h.middle;
+    each = (l, run, h.each);
+    counted = let c = h.counted in omega (arith, c);
+    fits = let f = h.fits in omega (arith, f);
+    takes = h.takes;
+  }
+
+  first_more : (words : List (List ℕ)) (requests : List (List (List ℕ))) (count ran : ℕ)
+      (e : Refusal) (k l after : Place) → Runs id words now k l
+      → RunsFirst id now (suc count) requests (suc count + ran) e l after
+      → RunsFirst id now count (words ∷ requests) (count + suc ran) e k after
+  first_more words requests count ran e k l after run h = record {
+    number = suc h.number;
+    counted = let c = h.counted in omega (arith, c);
+    within = let w = h.within in omega (arith, w);
+    each = (l, run, h.each);
+    cause_is = h.cause_is;
+  }
+
   told_ran : (m : ℕ) (words : List (List ℕ)) (requests : List (List (List ℕ)))
       (replies : List BookReply) (k l after : Place) → m ≡ length l.seen → Runs id words now k l
       → Told requests replies l after → Told (words ∷ requests) (Ran m ∷ replies) k after
   told_ran m words requests replies k l after number run t =
       let longer = seen_longer words k l run in
       record {
-        within = let w = t.within in omega arith;
-        each = (l, run, t.each);
-        all = λ none. ap suc (t.all none);
-        less = λ e some. let l = t.less e some in omega (arith, l);
-        cause_is = t.cause_is;
-        are = All-cons IsRunReply (Ran m) replies tt t.are;
-        fits = λ count le. let f = t.fits (suc count) (omega (arith, le, longer)) in
-            omega (arith, f);
+        ok = if_ok (taken_in replies) (λ front h count le.
+            all_more words requests count (ran_in replies) front k l after run
+            (h (suc count) (omega (arith, le, longer)))) t.ok;
+        err = if_err (taken_in replies) (λ e h count.
+            first_more words requests count (ran_in replies) e k l after run (h (suc count))) t.err;
+        are = All-cons IsOfBatch (Ran m) replies tt t.are;
         counts = λ count le.
             (omega (arith, le, longer, number), t.counts (suc count) (omega (arith, le, longer)));
       }
 
-  told_refused : (r : BookRefusal) (words : List (List ℕ)) (requests : List (List (List ℕ)))
-      (replies : List BookReply) (k l after : Place) → Refuses (refusal_by r) id k l
-      → Grows l after [] → All IsRunReply replies
-      → Told (words ∷ requests) (Refused r ∷ replies) k after
-  told_refused r words requests replies k l after one more are = record {
-    within = omega arith;
-    each = grows_into k l after one.grows more;
-    all = λ none. absurd (let no : ⊥ = cc in no);
-    less = λ e some. omega arith;
-    cause_is = cause_more (refusal_by r) id l after more one.cause_is;
-    are = All-cons IsRunReply (Refused r) replies tt are;
-    fits = λ count le.
-        let a = seen_more k l [] one.grows in
-        let b = seen_more l after [] more in omega (arith, le, a, b);
+  told_refused : (r : BookRefusal) (requests : List (List (List ℕ))) (replies : List BookReply)
+      (k l after : Place) → Refuses (refusal_by r) id k l → Grows l after []
+      → All IsOfBatch replies → Told requests (Refused r ∷ replies) k after
+  told_refused r requests replies k l after one more are = record {
+    ok = tt;
+    err = λ count. record {
+      number = 0;
+      counted = refl;
+      within = omega arith;
+      each = grows_into k l after one.grows more;
+      cause_is = cause_more (refusal_by r) id l after more one.cause_is;
+    };
+    are = All-cons IsOfBatch (Refused r) replies tt are;
     counts = λ count le. tt;
   }
 
@@ -288,8 +321,9 @@ module _ (id now : ℕ) where
   tells_one : (words : List (List ℕ)) (calls : List BookCall) (reply : BookReply)
       (replies : List BookReply) (k l after : Place) → Plays (Run id words now) reply k l
       → All (IsRunAt id now) calls → is_admitted (past_of k) id ≡ true
-      → l.tickets ≤ after.tickets → TurnedAll TurnStep calls replies l after
-      → StopsAt is_refusal (reply ∷ replies)
+      → l.tickets ≤ after.tickets
+      → TurnedAll TurnStep (calls ++ Take id most ∷ []) replies l after
+      → StopsAt adds_none (reply ∷ replies)
       → (IsWithin l → is_admitted (past_of l) id ≡ true → Told (requests_in calls) replies l after)
       → Told (words ∷ requests_in calls) (reply ∷ replies) k after
   tells_one words calls (Ran m) replies k l after p runs on le rest stops behind =
@@ -298,9 +332,9 @@ module _ (id now : ℕ) where
       (behind p.grows.within (on_at k l (Run id words now) (Ran m) p on))
   tells_one words calls (Refused r) replies k l after p runs on le rest stops behind =
       let one = step_refused r words k l on p in
-      let more = all_refused calls replies l after runs one.grows.within
+      let more = all_passed calls replies l after runs one.grows.within
       (on_at k l (Run id words now) (Refused r) p on) le rest (stops.0 refl) in
-      told_refused r words (requests_in calls) replies k l after one more.0 more.1
+      told_refused r (words ∷ requests_in calls) replies k l after one more.0 more.1
   tells_one words calls (Admitted n i) replies k l after p runs on le rest stops behind =
       absurd (run_admitted k l id words now n i p)
   tells_one words calls (Ticked n) replies k l after p runs on le rest stops behind =
@@ -312,28 +346,63 @@ module _ (id now : ℕ) where
   tells_one words calls (Closed n) replies k l after p runs on le rest stops behind =
       absurd (run_closed k l id words now n p)
 
+  -- what was taken, where all ran
+  told_front : (front : Option Octets) (reply : BookReply) (k after : Place) → IsWithin k
+      → taken_in (reply ∷ []) ≡ Ok front → ran_in (reply ∷ []) ≡ 0 → Takes id front k after
+      → IsOfBatch reply → ((count : ℕ) → Counts count (reply ∷ []))
+      → Told [] (reply ∷ []) k after
+  told_front front reply k after is taken none takes of counts = record {
+    ok = subst (λ z. IfOk z (λ f. (count : ℕ) → count ≤ length k.seen
+        → RunsAndTakes id now count [] (count + ran_in (reply ∷ [])) f k after)) (sym taken)
+        (λ count le. record {
+          middle = k;
+          each = grows_none k is;
+          counted = omega (arith, none);
+          fits = omega (arith, none, le);
+          takes = takes;
+        });
+    err = subst (λ z. IfErr z (λ e. (count : ℕ)
+        → RunsFirst id now count [] (count + ran_in (reply ∷ [])) e k after)) (sym taken) tt;
+    are = All-cons IsOfBatch reply [] of (All-nil IsOfBatch);
+    counts = λ count le. counts count;
+  }
+
+  tells_take : (reply : BookReply) (k after : Place) → IsWithin k
+      → is_admitted (past_of k) id ≡ true → Plays (Take id most) reply k after
+      → Told [] (reply ∷ []) k after
+  tells_take (Bytes n bytes) k after is on p =
+      told_front (Some bytes) (Bytes n bytes) k after is refl refl
+      (take_gives k after id most n bytes p, take_some k after id most n bytes p) tt (λ count. tt)
+  tells_take Quiet k after is on p =
+      told_front None Quiet k after is refl refl (take_rests k after id most (omega arith) p) tt
+      (λ count. tt)
+  tells_take (Refused r) k after is on p =
+      let one = take_refused r k after on p in
+      told_refused r [] [] k after after one (grows_none after one.grows.within)
+      (All-nil IsOfBatch)
+  tells_take (Admitted n i) k after is on p = absurd (take_admitted k after id most n i p)
+  tells_take (Ran n) k after is on p = absurd (take_ran k after id most n p)
+  tells_take (Ticked n) k after is on p = absurd (take_ticked k after id most n p)
+  tells_take (Closed n) k after is on p = absurd (take_closed k after id most n p)
+
   pub tells : (calls : List BookCall) (replies : List BookReply) (k after : Place)
       → All (IsRunAt id now) calls → IsWithin k → is_admitted (past_of k) id ≡ true
-      → k.tickets ≤ after.tickets → TurnedAll TurnStep calls replies k after
-      → StopsAt is_refusal replies → Told (requests_in calls) replies k after
-  tells [] [] k after runs is on le t stops = record {
-    within = omega arith;
-    each = same_grows k after is le t.0 t.1 t.2;
-    all = λ none. refl;
-    less = λ e some. absurd (let no : ⊥ = cc in no);
-    cause_is = tt;
-    are = All-nil IsRunReply;
-    fits = λ count less. omega (arith, less, ap length t.1);
-    counts = λ count less. tt;
-  }
-  tells [] (reply ∷ replies) k after runs is on le t stops = absurd t
+      → k.tickets ≤ after.tickets → TurnedAll TurnStep (calls ++ Take id most ∷ []) replies k after
+      → StopsAt adds_none replies → Told (requests_in calls) replies k after
+  tells [] [] k after runs is on le t stops = absurd t
+  tells [] (reply ∷ []) k after runs is on le t stops =
+      let (next, one, turn, two) = t in
+      tells_take reply k after is on
+      (last_plays (Take id most) reply k next after is le one turn two.0 two.1 two.2)
+  tells [] (reply ∷ more ∷ replies) k after runs is on le t stops =
+      let (next, one, turn, two) = t in absurd two
   tells (call ∷ calls) [] k after runs is on le t stops = absurd t
   tells (Admit ∷ calls) (reply ∷ replies) k after runs is on le t stops =
       absurd (All-head (IsRunAt id now) Admit calls runs)
   tells (Tick moment ∷ calls) (reply ∷ replies) k after runs is on le t stops =
       absurd (All-head (IsRunAt id now) (Tick moment) calls runs)
-  tells (Take n most ∷ calls) (reply ∷ replies) k after runs is on le t stops =
-      absurd (All-head (IsRunAt id now) (Take n most) calls runs)
+  tells (Take n many ∷ calls) (reply ∷ replies) k after runs is on le t stops =
+      absurd (All-head (IsRunAt id now) (Take n many) calls runs)
   tells (Close n ∷ calls) (reply ∷ replies) k after runs is on le t stops =
       absurd (All-head (IsRunAt id now) (Close n) calls runs)
   tells (Run n words moment ∷ calls) (reply ∷ replies) k after runs is on le t stops =
@@ -342,31 +411,43 @@ module _ (id now : ℕ) where
       let at = All-head (IsRunAt id now) (Run n words moment) calls runs in
       let p = run_plays n moment words reply k next at is same turn in
       let less = less_at next after k.tickets le in
-      let behind = rest_of calls replies next after k.tickets rest in
+      let behind = rest_of (calls ++ Take id most ∷ []) replies next after k.tickets rest in
       let left = All-tail (IsRunAt id now) (Run n words moment) calls runs in
       tells_one words calls reply replies k l after p left on less behind stops
       (λ within there. tells calls replies l after left within there less behind stops.1)
 
-  pub told_first : (count : ℕ) (requests : List (List (List ℕ))) (replies : List BookReply)
+  -- what is told of a batch, with the requests that ran before
+  pub told_ok : (count : ℕ) (requests : List (List (List ℕ))) (replies : List BookReply)
       (k after : Place) (b : Batch) → Told requests replies k after → count ≤ length k.seen
-      → b.requests ≡ count + ran_in replies → b.refusal ≡ refusal_in replies
-      → RunsFirst id now count requests b k after
-  told_first count requests replies k after b t le ran because = record {
-    ran = ran_in replies;
-    counted = ran;
-    fits = subst (λ n. n ≤ length after.seen) (sym ran) (t.fits count le);
-    within = t.within;
-    each = t.each;
-    all = λ none. t.all (sym because ∙ none);
-    less = λ e some. t.less e (sym because ∙ some);
-    cause_is = subst (λ o. IfSome o (λ e. IsCause e id after)) (sym because) t.cause_is;
-  }
+      → b.requests ≡ count + ran_in replies → b.front ≡ taken_in replies
+      → IfOk b.front (λ front. RunsAndTakes id now count requests b.requests front k after)
+  told_ok count requests replies k after b t le ran front =
+      subst (λ z. IfOk z (λ f. RunsAndTakes id now count requests b.requests f k after))
+      (sym front)
+      (subst (λ n. IfOk (taken_in replies) (λ f. RunsAndTakes id now count requests n f k after))
+      (sym ran) (if_ok (taken_in replies) (λ f h. h count le) t.ok))
+
+  pub told_err : (count : ℕ) (requests : List (List (List ℕ))) (replies : List BookReply)
+      (k after : Place) (b : Batch) → Told requests replies k after
+      → b.requests ≡ count + ran_in replies → b.front ≡ taken_in replies
+      → IfErr b.front (λ e. RunsFirst id now count requests b.requests e k after)
+  told_err count requests replies k after b t ran front =
+      subst (λ z. IfErr z (λ e. RunsFirst id now count requests b.requests e k after))
+      (sym front)
+      (subst (λ n. IfErr (taken_in replies) (λ e. RunsFirst id now count requests n e k after))
+      (sym ran) (if_err (taken_in replies) (λ e h. h count) t.err))
 
 -- ---- a turn each
 
 take_front : {A : Type 0} (xs ys : List A) → take (length xs) (xs ++ ys) ≡ xs
 take_front [] ys = refl
 take_front (x ∷ xs) ys = ap (λ z. x ∷ z) (take_front xs ys)
+
+pub last_off : {A : Type 0} (xs ys : List A) (x : A) (last : List A)
+    → xs ++ x ∷ [] ≡ ys ++ last → length ys ≡ length xs → ys ≡ xs
+last_off xs ys x last is long =
+    sym (take_front ys last) ∙ ap (λ n. take n (ys ++ last)) long
+    ∙ ap (take (length xs)) (sym is) ∙ take_front xs (x ∷ [])
 
 module _ (id now : ℕ) where
   runs_from : (words : List (List ℕ)) (a b c : Place) → Grows a b [] → Runs id words now b c
@@ -384,17 +465,25 @@ module _ (id now : ℕ) where
   each_from (w ∷ ws) a b c g (mid, run, rest) = (mid, runs_from w a b mid g run, rest)
 
   -- nothing was played before the first turn
-  pub first_from : (count : ℕ) (requests : List (List (List ℕ))) (batch : Batch) (a b c : Place)
-      → Grows a b [] → RunsFirst id now count requests batch b c
-      → RunsFirst id now count requests batch a c
-  first_from count requests batch a b c g f = record {
-    ran = f.ran;
+  pub all_from : (count : ℕ) (requests : List (List (List ℕ))) (ran : ℕ) (front : Option Octets)
+      (a b c : Place) → Grows a b [] → RunsAndTakes id now count requests ran front b c
+      → RunsAndTakes id now count requests ran front a c
+  all_from count requests ran front a b c g h = record {
+    middle = h.middle;
+    each = each_from requests a b h.middle g h.each;
+    counted = h.counted;
+    fits = h.fits;
+    takes = h.takes;
+  }
+
+  pub first_from : (count : ℕ) (requests : List (List (List ℕ))) (ran : ℕ) (e : Refusal)
+      (a b c : Place) → Grows a b [] → RunsFirst id now count requests ran e b c
+      → RunsFirst id now count requests ran e a c
+  first_from count requests ran e a b c g f = record {
+    number = f.number;
     counted = f.counted;
-    fits = f.fits;
     within = f.within;
-    each = each_from (take f.ran requests) a b c g f.each;
-    all = f.all;
-    less = f.less;
+    each = each_from (take f.number requests) a b c g f.each;
     cause_is = f.cause_is;
   }
 
@@ -438,40 +527,44 @@ module _ (id now : ℕ) where
 
     -- the next one was refused
     pub running_refused : (n moment : ℕ) (words : List (List ℕ)) (left : List BookCall)
-        → rest ≡ Run n words moment ∷ left → (e : Refusal) (l : Place) (b : Batch)
-        → Refuses e id k l → b ≡ record { requests = ran; refusal = Some e }
-        → RunsFirst id now count requests b old l
-    running_refused n moment words left next e l b stops is =
+        → rest ≡ Run n words moment ∷ left → (e : Refusal) (l : Place) → Refuses e id k l
+        → RunsFirst id now count requests ran e old l
+    running_refused n moment words left next e l stops =
         let long = ap length (r.parts ∙ ap (λ z. r.done ++ requests_in z) next) in
         let both = length-append r.done (words ∷ requests_in left) in
-        let more = seen_more id now k l [] stops.grows in
-        subst (λ z. RunsFirst id now count requests z old l) (sym is) (record {
-          ran = length r.done;
+        record {
+          number = length r.done;
           counted = r.counted;
-          fits = omega (arith, r.fits, more);
           within = omega (arith, long, both);
           each = subst (λ z. RunsEach id now z old l) (sym all_done)
               (each_then id now r.done old k l r.each stops.grows);
-          all = λ none. absurd (let no : ⊥ = cc in no);
-          less = λ x some. omega (arith, long, both);
           cause_is = stops.cause_is;
-        })
+        }
 
-    pub running_ends : (b : Batch) → rest ≡ [] → b ≡ record { requests = ran; refusal = None }
-        → RunsFirst id now count requests b old k
-    running_ends b none is =
-        let same : requests ≡ r.done = r.parts ∙ (ap (λ z. r.done ++ requests_in z) none
-        ∙ append-nil r.done) in
-        subst (λ z. RunsFirst id now count requests z old k) (sym is) (record {
-          ran = length r.done;
-          counted = r.counted;
-          fits = r.fits;
-          within = let long = ap length same in omega (arith, long);
-          each = subst (λ z. RunsEach id now z old k) (sym all_done) r.each;
-          all = λ h. ap length (sym same);
-          less = λ x some. absurd (let no : ⊥ = cc in no);
-          cause_is = tt;
-        })
+    none_left : rest ≡ [] → requests ≡ r.done
+    none_left none = r.parts ∙ (ap (λ z. r.done ++ requests_in z) none ∙ append-nil r.done)
+
+    -- all ran, and what waits behind them was taken
+    pub running_takes : rest ≡ [] → (front : Option Octets) (l : Place) → Takes id front k l
+        → RunsAndTakes id now count requests ran front old l
+    running_takes none front l takes = record {
+      middle = k;
+      each = subst (λ z. RunsEach id now z old k) (sym (none_left none)) r.each;
+      counted = let long = ap length (none_left none) in omega (arith, r.counted, long);
+      fits = r.fits;
+      takes = takes;
+    }
+
+    pub running_ends : rest ≡ [] → (e : Refusal) (l : Place) → Refuses e id k l
+        → RunsFirst id now count requests ran e old l
+    running_ends none e l stops = record {
+      number = length r.done;
+      counted = r.counted;
+      within = let long = ap length (none_left none) in omega (arith, long);
+      each = subst (λ z. RunsEach id now z old l) (sym all_done)
+          (each_then id now r.done old k l r.each stops.grows);
+      cause_is = stops.cause_is;
+    }
 
     pub running_more : (n moment : ℕ) (words : List (List ℕ)) (left : List BookCall)
         → rest ≡ Run n words moment ∷ left → (l : Place) → Runs id words now k l
@@ -505,7 +598,7 @@ runs_alone id now rest left call runs is other =
     by_case Admit at other = at
     by_case (Run n words moment) at other = other n words moment refl
     by_case (Tick moment) at other = at
-    by_case (Take n most) at other = at
+    by_case (Take n many) at other = at
     by_case (Close n) at other = at
 
 -- the lock played none of them

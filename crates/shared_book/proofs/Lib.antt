@@ -4,4 +4,5 @@ pub mod Growing
 pub mod Histories
 pub mod Did
 pub mod Outcomes
+pub mod Passing
 pub mod Batches

@@ -17,7 +17,7 @@ use Rattle.serial_model.specs.History.{admitted, is_admitted, expired, has_ended
 use Rattle.serial_model.specs.History.{unsent}
 use Rattle.shared_book.specs.Own.{past_of, Grows}
 use Rattle.shared_book.specs.Turns.{Place, Plays, limits_of, limits_in, turns_added}
-use Rattle.shared_book.specs.Turns.{Refuses, Admits, Runs, Gives, Rests, Closes, Expires, Quiets}
+use Rattle.shared_book.specs.Turns.{Refuses, Admits, Runs, Gives, Rests, Closes}
 use Rattle.shared_book.specs.Turns.{Ticks}
 use Rattle.shared_book.specs.declared.turns.Refusal.TheVariants as refusal
 use Rattle.shared_book.proofs.Histories.{ended_or, live_of, ended_now, begins_lift, admitted_more}

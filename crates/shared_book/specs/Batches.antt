@@ -1,6 +1,7 @@
--- Several requests of one connection, in one batch.
+-- Several requests of one connection and the Take behind them, in one batch.
 use Rattle.std.specs.Prelude.{◌≡◌, ◌≤◌, ◌<◌, ◌+◌, ℕ, suc, List, [], ◌∷◌, length, take}
-use Rattle.std.specs.Prelude.{Option, Some, None, IfSome, Bool, true, false, ⊤}
+use Rattle.std.specs.Prelude.{Option, Some, None, Result, Ok, Err, Bool, true, false, ⊤}
+use Rattle.resp_value.specs.declared.octets.Octets.{Octets}
 use Rattle.serial_model.specs.declared.history.BookCall.{BookCall}
 use Rattle.serial_model.specs.declared.history.BookCall.TheVariants as call
 use Rattle.serial_model.specs.declared.history.BookReply.{BookReply}
@@ -10,33 +11,39 @@ use Rattle.serial_model.specs.declared.history.BookRefusal.{BookRefusal}
 use Rattle.serial_model.specs.declared.history.BookRefusal.TheVariants as because
 use Rattle.serial_model.specs.Steps.{BookStep}
 use Rattle.shared_book.specs.Own.{Grows}
-use Rattle.shared_book.specs.Turns.{Shared, Place, Runs, IsCause}
+use Rattle.shared_book.specs.Turns.{Shared, Place, Runs, Takes, IsCause}
 use Rattle.shared_book.specs.declared.turns.Refusal.{Refusal}
 use Rattle.shared_book.specs.declared.turns.Refusal.TheVariants as refusal
-use Rattle.shared_book.specs.declared.batch.Batch.{Batch}
 
--- a Run alone is refused unplayed
-abbrev pub IsRun : BookCall → Type 0
-IsRun call.Admit = ⊥
-IsRun (call.Run id words now) = ⊤
-IsRun (call.Tick now) = ⊥
-IsRun (call.Take id most) = ⊥
-IsRun (call.Close id) = ⊥
+-- a Run and a Take may be passed unplayed
+abbrev pub MayPass : BookCall → Type 0
+MayPass call.Admit = ⊥
+MayPass (call.Run id words now) = ⊤
+MayPass (call.Tick now) = ⊥
+MayPass (call.Take id most) = ⊤
+MayPass (call.Close id) = ⊥
 
-abbrev pub is_refusal : BookReply → Bool
-is_refusal (Admitted n id) = false
-is_refusal (Ran n) = false
-is_refusal (Ticked n) = false
-is_refusal Quiet = false
-is_refusal (Bytes n bytes) = false
-is_refusal (Closed n) = false
-is_refusal (Refused r) = true
+-- the answer of a turn that added no entry: behind one, the rest of a batch is passed
+abbrev pub adds_none : BookReply → Bool
+adds_none (Admitted n id) = false
+adds_none (Ran n) = false
+adds_none (Ticked n) = false
+adds_none Quiet = true
+adds_none (Bytes n bytes) = false
+adds_none (Closed n) = false
+adds_none (Refused r) = true
 
 -- the step may refuse a Run of the connection so
 abbrev pub RefusesRun : Shared → ℕ → BookRefusal → Type 0
 RefusesRun s id because =
     (words : List (List ℕ)) (now : ℕ)
     → BookStep s.limits s.past (call.Run id words now) (Refused because) s.past
+
+-- the step may answer a Take of the connection so, and it adds no entry
+abbrev pub PassesTake : Shared → ℕ → BookReply → Type 0
+PassesTake s id reply =
+    (adds_none reply ≡ true)
+    × ((most : ℕ) → 0 < most → BookStep s.limits s.past (call.Take id most) reply s.past)
 
 -- a call that runs a request of the connection at this moment
 abbrev pub IsRunAt : ℕ → ℕ → BookCall → Type 0
@@ -60,17 +67,23 @@ RunsEach id now [] before after = Grows before after []
 RunsEach id now (words ∷ requests) before after =
     (mid : Place) × Runs id words now before mid × RunsEach id now requests mid after
 
--- The first of the requests run, and none behind one that is refused. So many ran before.
-pub record RunsFirst (id now count : ℕ) (requests : List (List (List ℕ))) (b : Batch)
-    (before after : Place) : Type 0 where
-  pub ran : ℕ
-  pub counted : b.requests ≡ count + ran
-  pub fits : b.requests ≤ length after.seen
-  pub within : ran ≤ length requests
-  pub each : RunsEach id now (take ran requests) before after
-  pub all : b.refusal ≡ None → ran ≡ length requests
-  pub less : (e : Refusal) → b.refusal ≡ Some e → ran < length requests
-  pub cause_is : IfSome b.refusal (λ e. IsCause e id after)
+-- All requests run, one after another, and what waits behind them is taken. So many ran before.
+pub record RunsAndTakes (id now count : ℕ) (requests : List (List (List ℕ))) (ran : ℕ)
+    (front : Option Octets) (before after : Place) : Type 0 where
+  pub middle : Place
+  pub each : RunsEach id now requests before middle
+  pub counted : ran ≡ count + length requests
+  pub fits : ran ≤ length middle.seen
+  pub takes : Takes id front middle after
+
+-- The first of the requests run, and the one behind them is refused, or the Take where all ran.
+pub record RunsFirst (id now count : ℕ) (requests : List (List (List ℕ))) (ran : ℕ)
+    (cause : Refusal) (before after : Place) : Type 0 where
+  pub number : ℕ
+  pub counted : ran ≡ count + number
+  pub within : number ≤ length requests
+  pub each : RunsEach id now (take number requests) before after
+  pub cause_is : IsCause cause id after
 
 abbrev pub refusal_by : BookRefusal → Refusal
 refusal_by (because.Gone id) = refusal.Dropped
@@ -88,26 +101,26 @@ ran_in (Bytes n bytes ∷ replies) = 0
 ran_in (Closed n ∷ replies) = 0
 ran_in (Refused r ∷ replies) = 0
 
--- the first refusal, if there is one
-abbrev pub refusal_in : List BookReply → Option Refusal
-refusal_in [] = None
-refusal_in (Admitted n id ∷ replies) = None
-refusal_in (Ran n ∷ replies) = refusal_in replies
-refusal_in (Ticked n ∷ replies) = None
-refusal_in (Quiet ∷ replies) = None
-refusal_in (Bytes n bytes ∷ replies) = None
-refusal_in (Closed n ∷ replies) = None
-refusal_in (Refused r ∷ replies) = Some (refusal_by r)
+-- what the Take behind the Runs was answered, or the first refusal
+abbrev pub taken_in : List BookReply → Result (Option Octets) Refusal
+taken_in [] = Ok None
+taken_in (Admitted n id ∷ replies) = Ok None
+taken_in (Ran n ∷ replies) = taken_in replies
+taken_in (Ticked n ∷ replies) = Ok None
+taken_in (Quiet ∷ replies) = Ok None
+taken_in (Bytes n bytes ∷ replies) = Ok (Some bytes)
+taken_in (Closed n ∷ replies) = Ok None
+taken_in (Refused r ∷ replies) = Err (refusal_by r)
 
--- what a Run is answered
-abbrev pub IsRunReply : BookReply → Type 0
-IsRunReply (Admitted n id) = ⊥
-IsRunReply (Ran n) = ⊤
-IsRunReply (Ticked n) = ⊥
-IsRunReply Quiet = ⊥
-IsRunReply (Bytes n bytes) = ⊥
-IsRunReply (Closed n) = ⊥
-IsRunReply (Refused r) = ⊤
+-- what a Run or a Take is answered
+abbrev pub IsOfBatch : BookReply → Type 0
+IsOfBatch (Admitted n id) = ⊥
+IsOfBatch (Ran n) = ⊤
+IsOfBatch (Ticked n) = ⊥
+IsOfBatch Quiet = ⊤
+IsOfBatch (Bytes n bytes) = ⊤
+IsOfBatch (Closed n) = ⊥
+IsOfBatch (Refused r) = ⊤
 
 -- the numbers of the Runs' entries are past the number of requests that ran before each
 abbrev pub Counts : ℕ → List BookReply → Type 0

@@ -1,25 +1,27 @@
-//! Several requests of one connection, in one batch of turns.
-ghost use Rattle.std.specs.Prelude.{◌≡◌, ◌≤◌, ◌<◌, ◌+◌, true, length};
+//! Several requests of one connection and the Take behind them, in one batch of turns.
+ghost use Rattle.std.specs.Prelude.{◌≡◌, ◌≤◌, ◌<◌, ◌+◌, true, length, IfOk, IfErr};
 ghost use Rattle.std.specs.List.{All};
 ghost use Rattle.serial_model.specs.History.{is_admitted};
 ghost use Rattle.shared_book.specs.Own.{IsWithin, past_of};
-ghost use Rattle.shared_book.specs.Batches.{Counts, IsRunAt, IsRunReply, RunsFirst, ran_in};
-ghost use Rattle.shared_book.specs.Batches.{refusal_by, refusal_in, requests_in};
+ghost use Rattle.shared_book.specs.Batches.{Counts, IsOfBatch, IsRunAt, RunsAndTakes, RunsFirst};
+ghost use Rattle.shared_book.specs.Batches.{ran_in, refusal_by, requests_in, taken_in};
 
 use super::logged::SharedBook;
-use super::turns::{Refusal, run};
+use super::turns::{MOST, Refusal, run, take};
+use resp_value::Octets;
 use server_book::{BookCall, BookRefusal, BookReply};
 use std::alloc::Global;
 use std::sync::Wait;
 use turn_lock::{Seat, TurnLock};
 
-/// What became of several requests.
-#[derive(Clone, Copy, Debug, Drop, PartialEq, Eq)]
+/// What became of several requests, and of the Take behind them.
+#[derive(Drop)]
 pub struct Batch {
     /// How many requests of the connection ran, with those before.
     pub requests: u64,
-    /// Why the next one did not run.
-    pub refusal: Option<Refusal>,
+    /// The first bytes that wait behind them, if any do; or why the next request did not run, or
+    /// the Take.
+    pub front: Result<Option<Octets>, Refusal>,
 }
 
 fn refusal_by(refusal: BookRefusal) -> Refusal
@@ -40,37 +42,37 @@ fn one_more(count: u64, most: u64) -> u64
     count + 1
 }
 
-// What the replies tell, up to the first refusal.
-fn told(requests: u64, replies: &[BookReply]) -> Batch
-    requires replies { All IsRunReply replies.now }
-    requires counted { Counts requests replies.now }
-    ensures requests { result.requests ≡ requests + ran_in replies.now }
-    ensures refusal { result.refusal ≡ refusal_in replies.now }
+// What the replies tell, up to that of the Take or the first refusal.
+fn told(requests: u64, replies: Vec<BookReply>) -> Batch
+    requires replies { All IsOfBatch replies.items }
+    requires counted { Counts requests replies.items }
+    ensures requests { result.requests ≡ requests + ran_in replies.items }
+    ensures front { result.front ≡ taken_in replies.items }
 {
     let mut requests = requests;
-    for reply in replies {
-        match reply {
-            BookReply::Ran { entry } => requests = one_more(requests, *entry),
-            BookReply::Refused(refusal) => {
-                return Batch {
-                    requests,
-                    refusal: Some(refusal_by(*refusal)),
-                };
+    let mut rest = replies.into_iter();
+    'replies: while let Some(reply) = rest.next() {
+        let front = match reply {
+            BookReply::Ran { entry } => {
+                requests = one_more(requests, entry);
+                continue 'replies;
             }
+            BookReply::Bytes { bytes, .. } => Ok(Some(bytes)),
+            BookReply::Quiet => Ok(None),
+            BookReply::Refused(refusal) => Err(refusal_by(refusal)),
             BookReply::Admitted { .. } => unreachable!(),
             BookReply::Ticked { .. } => unreachable!(),
-            BookReply::Quiet => unreachable!(),
-            BookReply::Bytes { .. } => unreachable!(),
             BookReply::Closed { .. } => unreachable!(),
-        }
+        };
+        return Batch { requests, front };
     }
     Batch {
         requests,
-        refusal: None,
+        front: Ok(None),
     }
 }
 
-// Runs the requests by a turn each, where they can be no batch.
+// Runs the requests by a turn each, where they can be no batch, and takes what waits behind them.
 fn run_each<R: Wait>(
     rt: &R,
     lock: &TurnLock<SharedBook>,
@@ -85,7 +87,10 @@ fn run_each<R: Wait>(
     requires admitted { is_admitted (past_of seat.old) id ≡ true }
     requires counted { requests ≤ length seat.old.seen }
     requires runs { All (IsRunAt id now) calls.items }
-    ensures { RunsFirst id now requests (requests_in calls.items) result seat.old seat.new }
+    ensures ok { IfOk result.front (λ front. RunsAndTakes id now requests (requests_in calls.items)
+        result.requests front seat.old seat.new) }
+    ensures err { IfErr result.front (λ e. RunsFirst id now requests (requests_in calls.items)
+        result.requests e seat.old seat.new) }
 {
     let mut requests = requests;
     let mut rest = calls.into_iter();
@@ -98,19 +103,20 @@ fn run_each<R: Wait>(
             Err(refusal) => {
                 return Batch {
                     requests,
-                    refusal: Some(refusal),
+                    front: Err(refusal),
                 };
             }
         }
     }
     Batch {
         requests,
-        refusal: None,
+        front: take(rt, lock, seat, id),
     }
 }
 
-/// Runs the requests of a connection at this moment, one after another, up to the first that is
-/// refused. The lock is waited for once. So many of its requests ran before.
+/// Runs the requests of a connection at this moment, one after another, and takes the first bytes
+/// that wait behind them, `MOST` or fewer. What is behind one that is refused does not run. The
+/// lock is waited for once. So many of its requests ran before.
 pub fn run_all<R: Wait>(
     rt: &R,
     alloc: Global,
@@ -119,17 +125,27 @@ pub fn run_all<R: Wait>(
     id: u64,
     requests: u64,
     now: u64,
-    calls: Vec<BookCall>,
+    mut calls: Vec<BookCall>,
 ) -> Batch
     requires lock { seat.old.lock ≡ lock.now }
     requires within { IsWithin seat.old }
     requires admitted { is_admitted (past_of seat.old) id ≡ true }
     requires counted { requests ≤ length seat.old.seen }
     requires runs { All (IsRunAt id now) calls.items }
-    ensures { RunsFirst id now requests (requests_in calls.items) result seat.old seat.new }
+    ensures ok { IfOk result.front (λ front. RunsAndTakes id now requests (requests_in calls.items)
+        result.requests front seat.old seat.new) }
+    ensures err { IfErr result.front (λ e. RunsFirst id now requests (requests_in calls.items)
+        result.requests e seat.old seat.new) }
 {
+    match calls.push(BookCall::Take { id, max: MOST }) {
+        Ok(()) => {}
+        Err(_) => return run_each(rt, lock, seat, id, requests, now, calls),
+    }
     match lock.play_all(rt, alloc, seat, calls) {
-        Ok(replies) => told(requests, replies.as_slice()),
-        Err((_, calls)) => run_each(rt, lock, seat, id, requests, now, calls),
+        Ok(replies) => told(requests, replies),
+        Err((_, mut calls)) => {
+            calls.pop();
+            run_each(rt, lock, seat, id, requests, now, calls)
+        }
     }
 }

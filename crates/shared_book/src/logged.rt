@@ -3,7 +3,7 @@ ghost use Rattle.std.specs.Prelude.{◌≡◌, [], IfOk};
 ghost use Rattle.serial_model.specs.Steps.{AreValid, IsCallable};
 ghost use Rattle.shared_book.specs.Own.{IsWithin};
 ghost use Rattle.shared_book.specs.Turns.{TurnStep};
-ghost use Rattle.shared_book.specs.Batches.{IsRun, RefusesRun, is_refusal};
+ghost use Rattle.shared_book.specs.Batches.{MayPass, PassesTake, RefusesRun, adds_none};
 ghost use Rattle.turn_lock.specs.Seats.{first_seat};
 
 use resp_value::NoMemory;
@@ -50,7 +50,7 @@ impl SharedBook {
     }
 
     // The refusal of a Run that is not to be played: for want of memory, where it would be played.
-    #[tactic(auto, using(crate::proofs::Batches::refusing))]
+    #[tactic(auto, using(crate::proofs::Passing::refusing))]
     fn refuse_run(&self, id: u64) -> BookRefusal
         ensures { RefusesRun self.now id result }
     {
@@ -62,6 +62,24 @@ impl SharedBook {
             return BookRefusal::HistoryFull { entries };
         }
         BookRefusal::NoMemory
+    }
+
+    // The answer to a Take that is not to be played: that nothing waits, where that is so.
+    #[tactic(auto, using(crate::proofs::Passing::passing))]
+    fn pass_take(&self, id: u64) -> BookReply
+        ensures { PassesTake self.now id result }
+    {
+        if !self.book.gives_on(id) {
+            return BookReply::Refused(BookRefusal::Gone { id });
+        }
+        if self.book.waiting(id) == 0 {
+            return BookReply::Quiet;
+        }
+        let entries = self.book.entries();
+        if entries >= self.limits.history_max {
+            return BookReply::Refused(BookRefusal::HistoryFull { entries });
+        }
+        BookReply::Refused(BookRefusal::NoMemory)
     }
 }
 
@@ -89,20 +107,20 @@ impl Logged for SharedBook {
 }
 
 impl Refusing for SharedBook {
-    ghost refuses = { is_refusal };
+    ghost refuses = { adds_none };
 
-    ghost refusable = { IsRun };
+    ghost refusable = { MayPass };
 
     fn is_refusal(reply: &BookReply) -> bool {
-        matches!(reply, BookReply::Refused(_))
+        matches!(reply, BookReply::Refused(_) | BookReply::Quiet)
     }
 
     fn refuse(&self, call: BookCall) -> BookReply {
         match call {
             BookCall::Run { id, .. } => BookReply::Refused(self.refuse_run(id)),
+            BookCall::Take { id, .. } => self.pass_take(id),
             BookCall::Admit => unreachable!(),
             BookCall::Tick { .. } => unreachable!(),
-            BookCall::Take { .. } => unreachable!(),
             BookCall::Close { .. } => unreachable!(),
         }
     }

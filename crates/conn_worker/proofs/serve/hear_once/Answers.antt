@@ -1,5 +1,5 @@
 use Rattle.std.proofs.Common.{refl}
-use Rattle.conn_worker.specs.Visits.{Idle, Piece, Part, Worn}
+use Rattle.conn_worker.specs.Visits.{Piece, Part}
 use Rattle.conn_worker.proofs.serve.hear_once.Goals as goal
 
 pub returns-in-Ok-clause-ok : goal.returns-in-Ok-clause-ok

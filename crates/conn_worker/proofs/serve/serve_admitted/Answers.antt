@@ -1,11 +1,17 @@
-use Rattle.std.proofs.Common.{◌≡◌, true, refl, sym, ap, subst, ◌∙◌}
+use Rattle.std.proofs.Common.{◌≡◌, ℕ, true, refl, sym, ap, subst, ◌∙◌}
 use Rattle.edge_links.specs.declared.counts.Counts.{Counts}
 use Rattle.serial_model.specs.History.{is_admitted}
 use Rattle.shared_book.specs.Own.{past_of}
-use Rattle.conn_worker.specs.Visits.{Delivers, DeliversPart, fault_of}
-use Rattle.conn_worker.proofs.Serving.{serving_none, hears_waits, hears_stops, delivered_serves}
+use Rattle.conn_worker.specs.Visits.{Begins, Delivers, DeliversPart, fault_of, front_of}
+use Rattle.conn_worker.proofs.Serving.{Begun, serving_none, hears_begins, hears_stops}
+use Rattle.conn_worker.proofs.Serving.{delivered_serves}
 use Rattle.conn_worker.proofs.Serving.{delivered_ends, delivery_stops, end_counts_from}
+use Rattle.conn_worker.proofs.Serving.{part_counts}
+use Rattle.conn_worker.specs.declared.deliver.Front.{Front}
+use Rattle.shared_book.specs.Turns.{Place}
 use Rattle.conn_worker.proofs.serve.serve_admitted.Goals as goal
+use Rattle.conn_worker.proofs.serve.serve_admitted.Goals.{In-Ok}
+use Rattle.conn_worker.proofs.serve.serve_admitted.Given as given
 
 pub loop-init : goal.loop-init
 loop-init g c = (
@@ -33,111 +39,111 @@ returns-in-Err-clause-counts g c =
     (g.L.Link.counts c.loop.link) (g.L.Link.counts c.hear_once-heard.new.link)
     c.loop.invariant.3 c.loop.invariant.4 c.in-Err.ensures.counts
 
-pub deliver-requires-clause-lock : goal.deliver-requires-clause-lock
-deliver-requires-clause-lock g c =
-    let w = hears_waits (g.C.Clock.moment c.args.clock.now) c.args.connection.now.id
+-- what was heard, with what of the rest was asked for
+begun : (g : given.Over) → (c : goal.In-Ok g)
+    → Begun (g.C.Clock.moment c.args.clock.now) c.args.connection.now.id (fault_of c.in-Ok.heard)
+    (front_of c.in-Ok.heard) c.hear_once-heard.new.connection (g.L.Link.left c.args.link.now)
+    (g.L.Link.left c.hear_once-heard.new.link) (g.L.Link.contents c.args.link.now)
+    (g.L.Link.contents c.hear_once-heard.new.link) c.args.seat.now c.hear_once-heard.new.seat
+begun g c =
+    hears_begins (g.C.Clock.moment c.args.clock.now) c.args.connection.now.id
     c.loop.connection
     (g.L.Link.left c.args.link.now) (g.L.Link.left c.loop.link)
     (g.L.Link.contents c.args.link.now) (g.L.Link.contents c.loop.link)
     c.args.seat.now c.loop.seat c.loop.invariant.2 c.in-Ok.heard
     c.hear_once-heard.new.connection c.hear_once-heard.new.seat
     (g.L.Link.left c.hear_once-heard.new.link) (g.L.Link.contents c.hear_once-heard.new.link)
-    c.in-Ok.ensures.ok c.in-Ok.ensures.written in
-    w.grows.lock ∙ c.requires.lock
+    c.in-Ok.ensures.ok c.in-Ok.ensures.written
 
-pub deliver-requires-clause-within : goal.deliver-requires-clause-within
-deliver-requires-clause-within g c =
-    let w = hears_waits (g.C.Clock.moment c.args.clock.now) c.args.connection.now.id
-    c.loop.connection
-    (g.L.Link.left c.args.link.now) (g.L.Link.left c.loop.link)
-    (g.L.Link.contents c.args.link.now) (g.L.Link.contents c.loop.link)
-    c.args.seat.now c.loop.seat c.loop.invariant.2 c.in-Ok.heard
-    c.hear_once-heard.new.connection c.hear_once-heard.new.seat
-    (g.L.Link.left c.hear_once-heard.new.link) (g.L.Link.contents c.hear_once-heard.new.link)
-    c.in-Ok.ensures.ok c.in-Ok.ensures.written in
-    w.grows.within
+pub deliver_from-requires-clause-lock : goal.deliver_from-requires-clause-lock
+deliver_from-requires-clause-lock g c =
+    (begun g (goal.at.deliver_from-requires-clause-lock g c).In-Ok).lock ∙ c.requires.lock
 
-pub deliver-requires-clause-admitted : goal.deliver-requires-clause-admitted
-deliver-requires-clause-admitted g c =
-    let w = hears_waits (g.C.Clock.moment c.args.clock.now) c.args.connection.now.id
-    c.loop.connection
-    (g.L.Link.left c.args.link.now) (g.L.Link.left c.loop.link)
-    (g.L.Link.contents c.args.link.now) (g.L.Link.contents c.loop.link)
-    c.args.seat.now c.loop.seat c.loop.invariant.2 c.in-Ok.heard
-    c.hear_once-heard.new.connection c.hear_once-heard.new.seat
-    (g.L.Link.left c.hear_once-heard.new.link) (g.L.Link.contents c.hear_once-heard.new.link)
-    c.in-Ok.ensures.ok c.in-Ok.ensures.written in
-    subst (λ n. is_admitted (past_of c.hear_once-heard.new.seat) n ≡ true) (sym w.id_is) w.admitted
+pub deliver_from-requires-clause-within : goal.deliver_from-requires-clause-within
+deliver_from-requires-clause-within g c =
+    (begun g (goal.at.deliver_from-requires-clause-within g c).In-Ok).within
 
-pub returns-in-Err-deliver-clause-works : goal.returns-in-Err-deliver-clause-works
-returns-in-Err-deliver-clause-works g c =
-    let w = hears_waits (g.C.Clock.moment c.args.clock.now) c.args.connection.now.id
-    c.loop.connection
-    (g.L.Link.left c.args.link.now) (g.L.Link.left c.loop.link)
-    (g.L.Link.contents c.args.link.now) (g.L.Link.contents c.loop.link)
-    c.args.seat.now c.loop.seat c.loop.invariant.2 c.in-Ok.heard
-    c.hear_once-heard.new.connection c.hear_once-heard.new.seat
-    (g.L.Link.left c.hear_once-heard.new.link) (g.L.Link.contents c.hear_once-heard.new.link)
-    c.in-Ok.ensures.ok c.in-Ok.ensures.written in
+pub deliver_from-requires-clause-admitted : goal.deliver_from-requires-clause-admitted
+deliver_from-requires-clause-admitted g c =
+    let b = begun g (goal.at.deliver_from-requires-clause-admitted g c).In-Ok in
+    subst (λ n. is_admitted (past_of c.hear_once-heard.new.seat) n ≡ true) (sym b.waits.id_is)
+    b.admitted
+
+-- the place before the first bytes were taken, as the delivery wants it
+begins_at : (id name : ℕ) (f h : Front) (before now : Place) → name ≡ id → f ≡ h
+    → Begins id h before now → Begins name f before now
+begins_at id name f h before now same is b =
+    subst (λ (z : ℕ × Front). Begins z.0 z.1 before now) (λ i. (sym same i, sym is i)) b
+
+pub returns-in-Err-deliver_from-clause-works : goal.returns-in-Err-deliver_from-clause-works
+returns-in-Err-deliver_from-clause-works g c =
+    let b = begun g (goal.at.returns-in-Err-deliver_from-clause-works g c).In-Ok in
     delivery_stops (g.C.Clock.moment c.args.clock.now) c.args.connection.now.id
     (fault_of c.in-Ok.heard)
     c.hear_once-heard.new.connection (g.L.Link.left c.args.link.now)
     (g.L.Link.left c.hear_once-heard.new.link) (g.L.Link.contents c.args.link.now)
-    (g.L.Link.contents c.hear_once-heard.new.link) c.args.seat.now c.hear_once-heard.new.seat w
-    (g.L.Link.left c.deliver.new.link) (g.L.Link.contents c.deliver.new.link)
-    c.in-Err-deliver.ensures.unread c.deliver.new.seat c.in-Err-deliver.ended
-    (subst (λ n. DeliversPart c.in-Err-deliver.ended n (g.L.Link.contents
+    (g.L.Link.contents c.hear_once-heard.new.link) c.args.seat.now b.middle b.waits
+    (g.L.Link.left c.deliver_from.new.link) (g.L.Link.contents c.deliver_from.new.link)
+    c.in-Err-deliver_from.ensures.unread c.deliver_from.new.seat c.in-Err-deliver_from.ended
+    (subst (λ n. DeliversPart c.in-Err-deliver_from.ended n (g.L.Link.contents
     c.hear_once-heard.new.link)
-    (g.L.Link.contents c.deliver.new.link) c.hear_once-heard.new.seat c.deliver.new.seat) w.id_is
-    c.in-Err-deliver.ensures.err)
+    (g.L.Link.contents c.deliver_from.new.link) b.middle c.deliver_from.new.seat) b.waits.id_is
+    (c.in-Err-deliver_from.ensures.err b.middle
+    (begins_at c.args.connection.now.id c.hear_once-heard.new.connection.id _ _ b.middle
+    c.hear_once-heard.new.seat b.waits.id_is c.behind.ensures.1 b.begins)))
+
+pub returns-in-Err-deliver_from-clause-counts : goal.returns-in-Err-deliver_from-clause-counts
+returns-in-Err-deliver_from-clause-counts g c =
+    let b = begun g (goal.at.returns-in-Err-deliver_from-clause-counts g c).In-Ok in
+    end_counts_from c.in-Err-deliver_from.ended (g.L.Link.counts c.args.link.now)
+    (g.L.Link.counts c.hear_once-heard.new.link) (g.L.Link.counts c.deliver_from.new.link)
+    (c.in-Ok.ensures.counts.0 ∙ c.loop.invariant.3) (c.in-Ok.ensures.counts.1 ∙ c.loop.invariant.4)
+    (part_counts c.in-Err-deliver_from.ended c.hear_once-heard.new.connection.id
+    (g.L.Link.contents c.hear_once-heard.new.link) (g.L.Link.contents c.deliver_from.new.link)
+    b.middle c.deliver_from.new.seat (g.L.Link.counts c.hear_once-heard.new.link)
+    (g.L.Link.counts c.deliver_from.new.link)
+    (c.in-Err-deliver_from.ensures.err b.middle
+    (begins_at c.args.connection.now.id c.hear_once-heard.new.connection.id _ _ b.middle
+    c.hear_once-heard.new.seat b.waits.id_is c.behind.ensures.1 b.begins))
+    c.in-Err-deliver_from.ensures.counts)
 
 pub returns-in-Some-fault-clause-works : goal.returns-in-Some-fault-clause-works
 returns-in-Some-fault-clause-works g c =
-    let w = hears_waits (g.C.Clock.moment c.args.clock.now) c.args.connection.now.id
-    c.loop.connection
-    (g.L.Link.left c.args.link.now) (g.L.Link.left c.loop.link)
-    (g.L.Link.contents c.args.link.now) (g.L.Link.contents c.loop.link)
-    c.args.seat.now c.loop.seat c.loop.invariant.2 c.in-Ok.heard
-    c.hear_once-heard.new.connection c.hear_once-heard.new.seat
-    (g.L.Link.left c.hear_once-heard.new.link) (g.L.Link.contents c.hear_once-heard.new.link)
-    c.in-Ok.ensures.ok c.in-Ok.ensures.written in
+    let b = begun g (goal.at.returns-in-Some-fault-clause-works g c).In-Ok in
     delivered_ends (g.C.Clock.moment c.args.clock.now) c.args.connection.now.id
     (fault_of c.in-Ok.heard)
     c.hear_once-heard.new.connection (g.L.Link.left c.args.link.now)
     (g.L.Link.left c.hear_once-heard.new.link) (g.L.Link.contents c.args.link.now)
-    (g.L.Link.contents c.hear_once-heard.new.link) c.args.seat.now c.hear_once-heard.new.seat w
-    (g.L.Link.left c.deliver.new.link) (g.L.Link.contents c.deliver.new.link)
-    c.in-Ok-deliver.ensures.unread c.deliver.new.seat (subst (λ n. Delivers n (g.L.Link.contents
-    c.hear_once-heard.new.link)
-    (g.L.Link.contents c.deliver.new.link) c.hear_once-heard.new.seat c.deliver.new.seat) w.id_is
-    c.in-Ok-deliver.ensures.ok)
-    c.in-Some-fault.fault (sym c.fault-fault.ensures ∙ c.in-Some-fault.is)
+    (g.L.Link.contents c.hear_once-heard.new.link) c.args.seat.now b.middle b.waits
+    (g.L.Link.left c.deliver_from.new.link) (g.L.Link.contents c.deliver_from.new.link)
+    c.in-Ok-deliver_from.ensures.unread c.deliver_from.new.seat
+    (subst (λ n. Delivers n (g.L.Link.contents c.hear_once-heard.new.link)
+    (g.L.Link.contents c.deliver_from.new.link) b.middle c.deliver_from.new.seat) b.waits.id_is
+    (c.in-Ok-deliver_from.ensures.ok b.middle
+    (begins_at c.args.connection.now.id c.hear_once-heard.new.connection.id _ _ b.middle
+    c.hear_once-heard.new.seat b.waits.id_is c.behind.ensures.1 b.begins)))
+    c.in-Some-fault.fault (sym c.behind.ensures.0 ∙ c.in-Some-fault.is)
 
 pub loop-preserved : goal.loop-preserved
 loop-preserved g c =
-    let w = hears_waits (g.C.Clock.moment c.args.clock.now) c.args.connection.now.id
-    c.loop.connection
-    (g.L.Link.left c.args.link.now) (g.L.Link.left c.loop.link)
-    (g.L.Link.contents c.args.link.now) (g.L.Link.contents c.loop.link)
-    c.args.seat.now c.loop.seat c.loop.invariant.2 c.in-Ok.heard
-    c.hear_once-heard.new.connection c.hear_once-heard.new.seat
-    (g.L.Link.left c.hear_once-heard.new.link) (g.L.Link.contents c.hear_once-heard.new.link)
-    c.in-Ok.ensures.ok c.in-Ok.ensures.written in
-    let same = c.in-Ok-deliver.ensures.counts in (
+    let b = begun g (goal.at.loop-preserved g c).In-Ok in
+    let same = c.in-Ok-deliver_from.ensures.counts in (
       tt,
       tt,
       delivered_serves (g.C.Clock.moment c.args.clock.now) c.args.connection.now.id
           (fault_of c.in-Ok.heard)
           c.hear_once-heard.new.connection (g.L.Link.left c.args.link.now)
           (g.L.Link.left c.hear_once-heard.new.link) (g.L.Link.contents c.args.link.now)
-          (g.L.Link.contents c.hear_once-heard.new.link) c.args.seat.now c.hear_once-heard.new.seat
-          w
-          (g.L.Link.left c.deliver.new.link) (g.L.Link.contents c.deliver.new.link)
-          c.in-Ok-deliver.ensures.unread c.deliver.new.seat (subst (λ n. Delivers n
-          (g.L.Link.contents c.hear_once-heard.new.link)
-          (g.L.Link.contents c.deliver.new.link) c.hear_once-heard.new.seat c.deliver.new.seat)
-          w.id_is
-          c.in-Ok-deliver.ensures.ok) (sym c.fault-fault.ensures ∙ c.in-None-fault.is),
+          (g.L.Link.contents c.hear_once-heard.new.link) c.args.seat.now b.middle b.waits
+          (g.L.Link.left c.deliver_from.new.link) (g.L.Link.contents c.deliver_from.new.link)
+          c.in-Ok-deliver_from.ensures.unread c.deliver_from.new.seat
+          (subst (λ n. Delivers n (g.L.Link.contents c.hear_once-heard.new.link)
+          (g.L.Link.contents c.deliver_from.new.link) b.middle c.deliver_from.new.seat)
+          b.waits.id_is
+          (c.in-Ok-deliver_from.ensures.ok b.middle
+          (begins_at c.args.connection.now.id c.hear_once-heard.new.connection.id _ _ b.middle
+          c.hear_once-heard.new.seat b.waits.id_is c.behind.ensures.1 b.begins)))
+          (sym c.behind.ensures.0 ∙ c.in-None-fault.is),
       ap (λ (k : Counts). k.faults) same ∙ (c.in-Ok.ensures.counts.0 ∙ c.loop.invariant.3),
       ap (λ (k : Counts). k.ends) same ∙ (c.in-Ok.ensures.counts.1 ∙ c.loop.invariant.4),
     )

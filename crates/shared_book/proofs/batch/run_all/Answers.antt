@@ -1,53 +1,90 @@
-use Rattle.std.proofs.Common.{[], sym, ap, subst, ◌∙◌, ◌+◌, length}
-use Rattle.std.specs.List.{All}
+use Rattle.std.proofs.Common.{List, [], sym, subst, ◌∙◌, ◌≡◌, length, rules}
+use Rattle.serial_model.specs.declared.history.BookCall.{BookCall}
+use Rattle.serial_model.specs.declared.history.BookCall.TheVariants.{Take}
+use Rattle.turn_lock.specs.Seats.{TurnedAll}
 use Rattle.shared_book.specs.Own.{Grows}
-use Rattle.shared_book.specs.Batches.{Counts, IsRunReply, RunsFirst, ran_in, refusal_in}
-use Rattle.shared_book.specs.Batches.{requests_in}
-use Rattle.shared_book.proofs.Batches.{Told, tells, told_first, first_from, unplayed_grows}
+use Rattle.shared_book.specs.Turns.{TurnStep, most}
+use Rattle.shared_book.specs.Batches.{RunsAndTakes, RunsFirst, requests_in}
+use Rattle.shared_book.proofs.Batches.{Told, tells, told_ok, told_err, all_from, first_from}
+use Rattle.shared_book.proofs.Batches.{unplayed_grows, last_off, if_ok, if_err}
+use Rattle.std.specs.Option.{option_to_list}
 use Rattle.shared_book.proofs.batch.run_all.Goals as goal
-use Rattle.shared_book.proofs.batch.run_all.Goals.{In-Ok, In-Err}
+use Rattle.shared_book.proofs.batch.run_all.Goals.{In-Ok-play_all, In-Err-play_all}
 use Rattle.shared_book.proofs.batch.run_all.Given as given
 
-told_all : (g : given.Over) → (c : goal.In-Ok g) → Told c.args.id c.args.now
-    (requests_in c.args.calls.items) c.in-Ok.replies.items c.args.seat.now c.play_all.new.seat
+told_all : (g : given.Over) → (c : goal.In-Ok-play_all g) → Told c.args.id c.args.now
+    (requests_in c.args.calls.items) c.in-Ok-play_all.replies.items c.args.seat.now
+    c.play_all.new.seat
 told_all g c =
-    tells c.args.id c.args.now c.args.calls.items c.in-Ok.replies.items c.args.seat.now
+    tells c.args.id c.args.now c.args.calls.items c.in-Ok-play_all.replies.items c.args.seat.now
     c.play_all.new.seat c.requires.runs c.requires.within c.requires.admitted
-    c.in-Ok.ensures.not_less c.in-Ok.ensures.all c.in-Ok.ensures.stops
+    c.in-Ok-play_all.ensures.not_less
+    (subst (λ (z : List BookCall). TurnedAll TurnStep z c.in-Ok-play_all.replies.items
+    c.args.seat.now c.play_all.new.seat) c.in-Ok.ensures.items c.in-Ok-play_all.ensures.all)
+    c.in-Ok-play_all.ensures.stops
 
-none_played : (g : given.Over) → (c : goal.In-Err g)
+none_played : (g : given.Over) → (c : goal.In-Err-play_all g)
     → Grows c.args.seat.now c.play_all.new.seat []
 none_played g c =
-    unplayed_grows c.in-Err.field-0-0 (length c.args.calls.items) c.args.seat.now
-    c.play_all.new.seat c.requires.within c.in-Err.ensures.not_less c.in-Err.ensures.err.1
+    unplayed_grows c.in-Err-play_all.field-0-0 (length c.push.new.self.items) c.args.seat.now
+    c.play_all.new.seat c.requires.within c.in-Err-play_all.ensures.not_less
+    c.in-Err-play_all.ensures.err.1
 
 pub told-requires-clause-replies : goal.told-requires-clause-replies
 told-requires-clause-replies g c =
-    subst (All IsRunReply) (sym c.as_slice.ensures.value)
-    (told_all g (goal.at.told-requires-clause-replies g c).In-Ok).are
+    (told_all g (goal.at.told-requires-clause-replies g c).In-Ok-play_all).are
 
 pub told-requires-clause-counted : goal.told-requires-clause-counted
 told-requires-clause-counted g c =
-    subst (Counts c.args.requests) (sym c.as_slice.ensures.value)
-    ((told_all g (goal.at.told-requires-clause-counted g c).In-Ok).counts c.args.requests
-    c.requires.counted)
+    (told_all g (goal.at.told-requires-clause-counted g c).In-Ok-play_all).counts c.args.requests
+    c.requires.counted
 
-pub run_each-requires-clause-within : goal.run_each-requires-clause-within
-run_each-requires-clause-within g c =
-    (none_played g (goal.at.run_each-requires-clause-within g c).In-Err).within
+pub run_each-requires-in-Err-play_all-clause-within :
+    goal.run_each-requires-in-Err-play_all-clause-within
+run_each-requires-in-Err-play_all-clause-within g c =
+    let at = goal.at.run_each-requires-in-Err-play_all-clause-within g c in
+    (none_played g at.In-Err-play_all).within
 
-pub returns-in-Ok : goal.returns-in-Ok
-returns-in-Ok g c =
-    told_first c.args.id c.args.now c.args.requests (requests_in c.args.calls.items)
-    c.in-Ok.replies.items c.args.seat.now c.play_all.new.seat c.told.result
-    (told_all g (goal.at.returns-in-Ok g c).In-Ok) c.requires.counted
-    (c.told.ensures.requests ∙ ap (λ z. c.args.requests + ran_in z) c.as_slice.ensures.value)
-    (c.told.ensures.refusal ∙ ap refusal_in c.as_slice.ensures.value)
+pub returns-in-Ok-play_all-clause-ok : goal.returns-in-Ok-play_all-clause-ok
+returns-in-Ok-play_all-clause-ok g c =
+    told_ok c.args.id c.args.now c.args.requests (requests_in c.args.calls.items)
+    c.in-Ok-play_all.replies.items c.args.seat.now c.play_all.new.seat c.told.result
+    (told_all g (goal.at.returns-in-Ok-play_all-clause-ok g c).In-Ok-play_all) c.requires.counted
+    c.told.ensures.requests c.told.ensures.front
 
-pub returns-in-Err : goal.returns-in-Err
-returns-in-Err g c =
-    first_from c.args.id c.args.now c.args.requests (requests_in c.args.calls.items)
-    c.run_each.result c.args.seat.now c.play_all.new.seat c.run_each.new.seat
-    (none_played g (goal.at.returns-in-Err g c).In-Err)
-    (subst (λ z. RunsFirst c.args.id c.args.now c.args.requests (requests_in z) c.run_each.result
-    c.play_all.new.seat c.run_each.new.seat) c.in-Err.ensures.err.0 c.run_each.ensures)
+pub returns-in-Ok-play_all-clause-err : goal.returns-in-Ok-play_all-clause-err
+returns-in-Ok-play_all-clause-err g c =
+    told_err c.args.id c.args.now c.args.requests (requests_in c.args.calls.items)
+    c.in-Ok-play_all.replies.items c.args.seat.now c.play_all.new.seat c.told.result
+    (told_all g (goal.at.returns-in-Ok-play_all-clause-err g c).In-Ok-play_all)
+    c.told.ensures.requests c.told.ensures.front
+
+pub returns-in-Err-play_all-clause-ok : goal.returns-in-Err-play_all-clause-ok
+returns-in-Err-play_all-clause-ok g c =
+    let long : length c.pop.new.self.items ≡ length c.args.calls.items = search rules in
+    let same = last_off c.args.calls.items c.pop.new.self.items (Take c.args.id most)
+    (option_to_list c.pop.result) (sym c.in-Ok.ensures.items ∙ (sym c.in-Err-play_all.ensures.err.0
+    ∙ c.pop.ensures.items)) long in
+    let each = c.run_each-in-Err-play_all in
+    if_ok each.result.front (λ front h. all_from c.args.id c.args.now c.args.requests
+    (requests_in c.args.calls.items) each.result.requests front c.args.seat.now
+    c.play_all.new.seat each.new.seat
+    (none_played g (goal.at.returns-in-Err-play_all-clause-ok g c).In-Err-play_all)
+    (subst (λ (z : List BookCall). RunsAndTakes c.args.id c.args.now c.args.requests
+    (requests_in z) each.result.requests front c.play_all.new.seat each.new.seat) same h))
+    each.ensures.ok
+
+pub returns-in-Err-play_all-clause-err : goal.returns-in-Err-play_all-clause-err
+returns-in-Err-play_all-clause-err g c =
+    let long : length c.pop.new.self.items ≡ length c.args.calls.items = search rules in
+    let same = last_off c.args.calls.items c.pop.new.self.items (Take c.args.id most)
+    (option_to_list c.pop.result) (sym c.in-Ok.ensures.items ∙ (sym c.in-Err-play_all.ensures.err.0
+    ∙ c.pop.ensures.items)) long in
+    let each = c.run_each-in-Err-play_all in
+    if_err each.result.front (λ e h. first_from c.args.id c.args.now c.args.requests
+    (requests_in c.args.calls.items) each.result.requests e c.args.seat.now
+    c.play_all.new.seat each.new.seat
+    (none_played g (goal.at.returns-in-Err-play_all-clause-err g c).In-Err-play_all)
+    (subst (λ (z : List BookCall). RunsFirst c.args.id c.args.now c.args.requests
+    (requests_in z) each.result.requests e c.play_all.new.seat each.new.seat) same h))
+    each.ensures.err

@@ -1,0 +1,60 @@
+use Rattle.std.proofs.Common.{arith, ap, subst, length, ◌∙◌}
+use Rattle.std.specs.Prelude.{Some}
+use Rattle.std.specs.Io.KnownBytes.{Appends}
+use Rattle.shared_book.specs.Turns.{Place}
+use Rattle.conn_worker.specs.Visits.{Begins}
+use Rattle.conn_worker.specs.declared.deliver.Front.TheVariants.{Taken}
+use Rattle.conn_worker.proofs.Delivering.{begun_none, begun_more, begun_short, delivers_then}
+use Rattle.conn_worker.proofs.Delivering.{delivers_part_then, on_ok}
+use Rattle.shared_book.proofs.Batches.{if_err}
+use Rattle.conn_worker.proofs.deliver.deliver_from.Goals as goal
+use Rattle.conn_worker.proofs.deliver.deliver_from.Goals.{In-Taken-Some}
+use Rattle.conn_worker.proofs.deliver.deliver_from.Given as given
+
+pub returns-in-Taken-None-clause-ok : goal.returns-in-Taken-None-clause-ok
+returns-in-Taken-None-clause-ok g c = λ before b.
+    begun_none c.args.id (g.L.Link.contents c.args.link.now) before c.args.seat.now
+    (subst (λ f. Begins c.args.id f before c.args.seat.now)
+    (c.in-Taken-None.is ∙ ap Taken c.in-Taken-None.field-0-is) b)
+
+-- what was taken are these bytes
+some_taken : (g : given.Over) → (c : goal.In-Taken-Some g) → (before : Place)
+    → Begins c.args.id c.args.front before c.args.seat.now
+    → Begins c.args.id (Taken (Some c.in-Taken-Some.bytes)) before c.args.seat.now
+some_taken g c before b =
+    subst (λ f. Begins c.args.id f before c.args.seat.now)
+    (c.in-Taken-Some.is ∙ ap Taken c.in-Taken-Some.field-0-is) b
+
+pub returns-then-as_slice-lt-MOST-clause-ok : goal.returns-then-as_slice-lt-MOST-clause-ok
+returns-then-as_slice-lt-MOST-clause-ok g c = λ before b.
+    let long = ap length c.as_slice-2.ensures in
+    begun_short c.args.id (g.L.Link.contents c.args.link.now) before c.args.seat.now
+    c.in-Taken-Some.bytes
+    (some_taken g (goal.at.returns-then-as_slice-lt-MOST-clause-ok g c).In-Taken-Some before b)
+    (g.L.Link.contents c.write_all.new.link)
+    (subst (Appends _ _) c.as_slice.ensures c.in-Ok.ensures.bytes)
+    (omega (arith, long, c.if-as_slice-lt-MOST.true))
+
+pub returns-clause-ok : goal.returns-clause-ok
+returns-clause-ok g c =
+    on_ok c.deliver-2.result (λ d before b.
+    delivers_then c.args.id (g.L.Link.contents c.args.link.now)
+    (g.L.Link.contents c.write_all.new.link) (g.L.Link.contents c.deliver-2.new.link) before
+    c.args.seat.now c.deliver-2.new.seat
+    (begun_more c.args.id (g.L.Link.contents c.args.link.now) before c.args.seat.now
+    c.in-Taken-Some.bytes
+    (some_taken g (goal.at.returns-clause-ok g c).In-Taken-Some before b)
+    (g.L.Link.contents c.write_all.new.link)
+    (subst (Appends _ _) c.as_slice.ensures c.in-Ok.ensures.bytes)) d) c.deliver-2.ensures.ok
+
+pub returns-clause-err : goal.returns-clause-err
+returns-clause-err g c =
+    if_err c.deliver-2.result (λ e d before b.
+    delivers_part_then c.args.id (g.L.Link.contents c.args.link.now)
+    (g.L.Link.contents c.write_all.new.link) (g.L.Link.contents c.deliver-2.new.link) before
+    c.args.seat.now c.deliver-2.new.seat
+    (begun_more c.args.id (g.L.Link.contents c.args.link.now) before c.args.seat.now
+    c.in-Taken-Some.bytes
+    (some_taken g (goal.at.returns-clause-err g c).In-Taken-Some before b)
+    (g.L.Link.contents c.write_all.new.link)
+    (subst (Appends _ _) c.as_slice.ensures c.in-Ok.ensures.bytes)) e d) c.deliver-2.ensures.err

@@ -1,0 +1,131 @@
+-- A call of a batch that is passed unplayed, behind one that added no entry.
+use Rattle.std.proofs.Common.{◌≡◌, ◌≤◌, ◌<◌, ◌+◌, ℕ, zero, suc, List, [], ◌∷◌, length, take}
+use Rattle.std.proofs.Common.{true, false, refl, sym, ap, subst, ◌∙◌, arith}
+use Rattle.std.specs.Prelude.{if◌then◌else◌}
+use Rattle.std.proofs.lemmas.Bool.Decides.{nat_tests}
+use Rattle.serial_model.specs.declared.history.BookCall.TheVariants.{Run, Take}
+use Rattle.serial_model.specs.declared.history.BookReply.TheVariants.{Quiet, Bytes, Refused}
+use Rattle.serial_model.specs.declared.history.Entry.TheVariants as entry
+use Rattle.serial_model.specs.declared.history.BookRefusal.TheVariants.{Gone, HistoryFull, NoMemory}
+use Rattle.serial_model.specs.History.{gives_on, is_full, runs_on, unsent}
+use Rattle.serial_model.specs.Steps.{Turn as Stepped, book_step, AddsEntry, full, gone, running}
+use Rattle.serial_model.specs.Steps.{taking, unless_full}
+use Rattle.shared_book.specs.Turns.{Shared}
+use Rattle.shared_book.specs.Batches.{PassesTake, RefusesRun}
+
+-- ---- a Run
+
+module _ (s : Shared) (id : ℕ) where
+  pub refuse_gone : runs_on s.limits s.past id ≡ false → RefusesRun s id (Gone id)
+  unfolding book_step
+  refuse_gone off words now =
+      ap (λ b. if b then unless_full s.limits s.past (running s.past id words now)
+      else gone s.past id) off
+
+  on_step : (words : List (List ℕ)) (now : ℕ) → runs_on s.limits s.past id ≡ true
+      → book_step s.limits s.past (Run id words now)
+      ≡ unless_full s.limits s.past (running s.past id words now)
+  unfolding book_step
+  on_step words now on =
+      ap (λ b. if b then unless_full s.limits s.past (running s.past id words now)
+      else gone s.past id) on
+
+  pub refuse_full : (n : ℕ) → runs_on s.limits s.past id ≡ true → n ≡ length s.past
+      → s.limits.history_max ≤ n → RefusesRun s id (HistoryFull n)
+  refuse_full n on is le words now =
+      let there : is_full s.limits s.past ≡ true = grind (arith, nat_tests, is, le) in
+      on_step words now on
+      ∙ ap (λ b. if b then full s.past else running s.past id words now) there
+      ∙ ap (λ k. record { reply = Refused (HistoryFull k); past = s.past }) (sym is)
+
+  pub refuse_memory : (n : ℕ) → runs_on s.limits s.past id ≡ true → n ≡ length s.past
+      → n < s.limits.history_max → RefusesRun s id NoMemory
+  refuse_memory n on is lt words now =
+      let there : is_full s.limits s.past ≡ false = grind (arith, nat_tests, is, lt) in
+      let runs = on_step words now on
+      ∙ ap (λ b. if b then full s.past else running s.past id words now) there in
+      (refl, subst (λ (t : Stepped). AddsEntry t.reply) (sym runs) tt, tt)
+
+pub ruleset refusing = (refuse_gone, refuse_full, refuse_memory)
+
+-- ---- a Take
+
+take_some : (n : ℕ) (xs : List ℕ) → 0 < n → 0 < length xs
+    → (b : ℕ) × (bytes : List ℕ) × (take n xs ≡ b ∷ bytes)
+take_some zero xs lt some = absurd (omega arith)
+take_some (suc n) [] lt some = absurd (omega arith)
+take_some (suc n) (x ∷ xs) lt some = (x, take n xs, refl)
+
+take_nothing : (n : ℕ) (xs : List ℕ) → length xs ≡ 0 → take n xs ≡ []
+take_nothing zero xs none = refl
+take_nothing (suc n) [] none = refl
+take_nothing (suc n) (x ∷ xs) none = absurd (omega arith)
+
+module _ (s : Shared) (id : ℕ) where
+  pub pass_gone : gives_on s.limits s.past id ≡ false → PassesTake s id (Refused (Gone id))
+  unfolding book_step
+  pass_gone off = (
+    refl,
+    λ most pos. ap (λ b. if b then taking s.limits s.past id most
+        (take most (unsent s.limits id s.past)) else gone s.past id) off,
+  )
+
+  gives_step : (most : ℕ) → gives_on s.limits s.past id ≡ true
+      → book_step s.limits s.past (Take id most)
+      ≡ taking s.limits s.past id most (take most (unsent s.limits id s.past))
+  unfolding book_step
+  gives_step most on =
+      ap (λ b. if b then taking s.limits s.past id most
+      (take most (unsent s.limits id s.past)) else gone s.past id) on
+
+  pub pass_quiet : (n : ℕ) → gives_on s.limits s.past id ≡ true
+      → n ≡ length (unsent s.limits id s.past) → n ≡ 0 → PassesTake s id Quiet
+  pass_quiet n on is none = (
+    refl,
+    λ most pos. gives_step most on
+        ∙ ap (taking s.limits s.past id most)
+        (take_nothing most (unsent s.limits id s.past) (sym is ∙ none)),
+  )
+
+  -- there is something to take
+  some_step : (most : ℕ) → 0 < most → gives_on s.limits s.past id ≡ true
+      → 0 < length (unsent s.limits id s.past)
+      → (b : ℕ) × (bytes : List ℕ) × (book_step s.limits s.past (Take id most)
+      ≡ taking s.limits s.past id most (b ∷ bytes))
+  some_step most pos on some =
+      let (b, bytes, is) = take_some most (unsent s.limits id s.past) pos some in
+      (b, bytes, gives_step most on ∙ ap (taking s.limits s.past id most) is)
+
+  pub pass_full : (n k : ℕ) → gives_on s.limits s.past id ≡ true
+      → k ≡ length (unsent s.limits id s.past) → (k ≡ 0 → ⊥) → n ≡ length s.past
+      → s.limits.history_max ≤ n → PassesTake s id (Refused (HistoryFull n))
+  pass_full n k on waits some is le =
+      let there : is_full s.limits s.past ≡ true = grind (arith, nat_tests, is, le) in (
+        refl,
+        λ most pos.
+            let (b, bytes, takes) = some_step most pos on (omega (arith, waits, some)) in
+            takes
+            ∙ ap (λ t. if t then full s.past else record {
+              reply = Bytes (length s.past + 1) (b ∷ bytes);
+              past = entry.Take id most ∷ s.past;
+            }) there
+            ∙ ap (λ k. record { reply = Refused (HistoryFull k); past = s.past }) (sym is),
+      )
+
+  pub pass_memory : (n k : ℕ) → gives_on s.limits s.past id ≡ true
+      → k ≡ length (unsent s.limits id s.past) → (k ≡ 0 → ⊥) → n ≡ length s.past
+      → n < s.limits.history_max → PassesTake s id (Refused NoMemory)
+  pass_memory n k on waits some is lt =
+      let there : is_full s.limits s.past ≡ false = grind (arith, nat_tests, is, lt) in (
+        refl,
+        λ most pos.
+            let (b, bytes, takes) = some_step most pos on (omega (arith, waits, some)) in
+            let played = takes
+            ∙ ap (λ t. if t then full s.past else record {
+              reply = Bytes (length s.past + 1) (b ∷ bytes);
+              past = entry.Take id most ∷ s.past;
+            }) there in
+            (refl, subst (λ (t : Stepped). AddsEntry t.reply) (sym played) tt, tt),
+      )
+
+pub ruleset passing = (pass_gone, pass_quiet, pass_full, pass_memory)
