@@ -12,7 +12,10 @@ pub data Part : Type 0 where
 -- The one table of what is not built: words that name a part of it are refused.
 abbrev pub unbuilt : List Part
 unbuilt =
-    whole (codes "storm") ∷ whole (codes "script")
+    whole (codes "storm")
+    ∷ option (codes "script") (codes "--resp") ∷ option (codes "script") (codes "--mode")
+    ∷ option (codes "script") (codes "--prefix") ∷ option (codes "script") (codes "--noloop")
+    ∷ option (codes "script") (codes "--redirect")
     ∷ option (codes "world") (codes "--table-max") ∷ option (codes "world") (codes "--out-max")
     ∷ option (codes "serve") (codes "--table-max") ∷ option (codes "serve") (codes "--out-max") ∷ []
 

@@ -351,6 +351,55 @@ fn values_are_those_of_the_words_or_the_defaults(rt: HostRuntime) -> Result<(), 
     Ok(())
 }
 
+// Words that are in the definition, with what is not built among them.
+const UNBUILT: &str = "\
+storm --number 0 --steps 0
+world --table-max 1
+world --out-max=1
+serve --port 1 --table-max=1
+serve --port 1 --out-max 1
+script --connect h:1 --resp 3
+script --connect h:1 --resp=3
+script --mode default --connect h:1
+script --mode=default --connect h:1
+script --prefix a --mode bcast --connect h:1
+script --connect h:1 --noloop
+script --redirect --connect h:1";
+
+const BUILT: &str = "\
+world
+world --history-max 5
+serve --port 1 --workers 2 --connections 3 --history-max=5
+script --connect h:1
+script --connect=h:1 --capacity=5
+script --connect=--mode:1";
+
+/// Whether each row asks for something that is built, or does not.
+fn are_built(alloc: Global, rows: &str, is_built: bool) -> Result<bool, NoMemory> {
+    for row in rows.split('\n') {
+        let words = words_of(alloc, row)?;
+        if read_words(alloc, words.as_slice())?.is_some() != is_built {
+            return Ok(false);
+        }
+    }
+    Ok(true)
+}
+
+#[test]
+fn words_that_name_what_is_not_built_ask_for_nothing(rt: HostRuntime) -> Result<(), Fail> {
+    let alloc = rt.alloc();
+    assert!(rt; are_built(alloc, BUILT, true)?, "a row of BUILT is refused");
+    assert!(rt;
+        are_judged(alloc, UNBUILT, true)?,
+        "a row of UNBUILT is outside the definition"
+    );
+    assert!(rt;
+        are_built(alloc, UNBUILT, false)?,
+        "a row of UNBUILT is taken"
+    );
+    Ok(())
+}
+
 #[test]
 fn what_is_wrong_is_said_of_the_first_wrong_word(rt: HostRuntime) -> Result<(), Fail> {
     let alloc = rt.alloc();
@@ -367,7 +416,20 @@ fn what_is_wrong_is_said_of_the_first_wrong_word(rt: HostRuntime) -> Result<(), 
             "serve --port 7000 --out-max=5",
             "--table-max and --out-max are not built yet",
         ),
+        (
+            "script --connect h:1 --mode optin",
+            "--resp, --mode, --prefix, --noloop and --redirect are not built yet",
+        ),
+        (
+            "script --noloop",
+            "--resp, --mode, --prefix, --noloop and --redirect are not built yet",
+        ),
         ("serve --workers 5", "--port is missing"),
+        ("script --capacity 5", "--connect is missing"),
+        (
+            "script --connect h",
+            "\"h\" is no value of --connect, which takes HOST:PORT, with a port of 1 to 65535",
+        ),
         (
             "world --table-mx 5",
             "\"--table-mx\" is no option of the command",

@@ -1,5 +1,5 @@
 //! The one table of what the words can ask for and the program does not do yet.
-ghost use Rattle.std.specs.Prelude.{◌≡◌, map, string_bytes};
+ghost use Rattle.std.specs.Prelude.{◌≡◌, codes, map, string_bytes};
 ghost use Rattle.std.specs.List.{list_any};
 ghost use Rattle.command_line.specs.Unbuilt.{names_unbuilt, writes_option};
 
@@ -8,10 +8,29 @@ pub fn is_unbuilt(command: &str, words: &[String]) -> bool
     ensures { result ≡ names_unbuilt command.now (map string_bytes words.now) }
 {
     match command {
-        "storm" | "script" => true,
+        "storm" => true,
+        "script" => names_script_option(words),
         "world" | "serve" => has_option(words, "--table-max") || has_option(words, "--out-max"),
         _ => false,
     }
+}
+
+/// The options of a command that are not built, as a person is told them.
+pub fn unbuilt_options(command: &str) -> &'static str {
+    match command {
+        "script" => "--resp, --mode, --prefix, --noloop and --redirect",
+        _ => "--table-max and --out-max",
+    }
+}
+
+fn names_script_option(words: &[String]) -> bool
+    ensures { result ≡ names_unbuilt (codes "script") (map string_bytes words.now) }
+{
+    has_option(words, "--resp")
+        || has_option(words, "--mode")
+        || has_option(words, "--prefix")
+        || has_option(words, "--noloop")
+        || has_option(words, "--redirect")
 }
 
 fn has_option(words: &[String], name: &str) -> bool

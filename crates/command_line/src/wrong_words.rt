@@ -8,6 +8,7 @@ use std::fmt;
 pub const FORMS: &str = "\
 usage: zeovalki world [--history-max N] < SCHEDULE
        zeovalki serve --port N [--workers N] [--connections N] [--history-max N]
+       zeovalki script --connect HOST:PORT [--capacity N] < SCRIPT
 An option is --name value or --name=value, each at most once.
 ";
 
@@ -17,7 +18,7 @@ pub enum WrongWords<'a> {
     NoCommand,
     UnknownCommand(&'a str),
     UnbuiltCommand(&'a str),
-    UnbuiltOption,
+    UnbuiltOption(&'static str),
     UnknownOption(&'a str),
     NoOption(&'a str),
     WrittenTwice(&'a str),
@@ -69,9 +70,7 @@ impl fmt::Display for WrongWords<'_> {
             WrongWords::NoCommand => f.write_str("no command is named"),
             WrongWords::UnknownCommand(word) => write!(f, "{word:?} is no command"),
             WrongWords::UnbuiltCommand(word) => write!(f, "the command {word} is not built yet"),
-            WrongWords::UnbuiltOption => {
-                f.write_str("--table-max and --out-max are not built yet")
-            }
+            WrongWords::UnbuiltOption(options) => write!(f, "{options} are not built yet"),
             WrongWords::UnknownOption(word) => write!(f, "{word:?} is no option of the command"),
             WrongWords::NoOption(word) => write!(f, "{word:?} is no option, and no value of one"),
             WrongWords::WrittenTwice(option) => write!(f, "--{option} is written twice"),

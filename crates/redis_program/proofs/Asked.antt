@@ -1,5 +1,5 @@
--- Words ask for a world or a server alone, as the table of what is not built stands, and their
--- settings are valid.
+-- Words ask for a world, a server or a script alone, as the table of what is not built stands, and
+-- their settings are valid.
 use Rattle.std.proofs.Common.{◌≡◌, ◌<◌, ◌≤◌, ◌&&◌, ◌||◌, ◌∙◌, ℕ, Bool, true, false, cond, codes}
 use Rattle.std.proofs.Common.{refl, inl, inr}
 use Rattle.std.proofs.Common.{List, [], ◌∷◌, None, Some, arith, sym, ap, subst, leb-true}
@@ -7,42 +7,40 @@ use Rattle.std.specs.declared.option.Option.{Option}
 use Rattle.std.specs.Option.{option_map}
 use Rattle.std.specs.Prelude.{nat_le, option_and_then, ◌⊎◌}
 use Rattle.std.specs.Str.{bytes_eq}
+use Rattle.resp_value.specs.declared.value.Proto.{Proto}
 use Rattle.serial_model.specs.Steps.{AreValid}
 use Rattle.command_line.specs.declared.settings.Asked.{Asked}
 use Rattle.command_line.specs.declared.settings.Asked.TheVariants.{World, Storm, Serve, Script}
+use Rattle.command_line.specs.declared.settings.Caching.{Caching}
+use Rattle.command_line.specs.declared.settings.Connection.{Connection}
 use Rattle.command_line.specs.declared.settings.LimitSettings.{LimitSettings}
+use Rattle.command_line.specs.declared.settings.ScriptSettings.{ScriptSettings}
 use Rattle.command_line.specs.declared.settings.ServeSettings.{ServeSettings}
-use Rattle.command_line.specs.Options.{Word, if_between, number_in, number_of, options_of}
-use Rattle.command_line.specs.Options.{option_value, value_of}
-use Rattle.command_line.specs.Commands.{command_of, limits, limits_from, script_of}
-use Rattle.command_line.specs.Commands.{serve, serve_from, serve_of, serve_options, storm_of}
-use Rattle.command_line.specs.Commands.{world_of, world_options}
+use Rattle.command_line.specs.Options.{Word, if_between, is_true, number_in, number_of}
+use Rattle.command_line.specs.Options.{option_value, options_of, value_of}
+use Rattle.command_line.specs.Commands.{command_of, has_pushes, limits, limits_from, script}
+use Rattle.command_line.specs.Commands.{script_from, script_of, script_options, serve, serve_from}
+use Rattle.command_line.specs.Commands.{serve_of, serve_options, storm_of, takes_prefix, world_of}
+use Rattle.command_line.specs.Commands.{world_options}
 use Rattle.redis_program.specs.Headline.{limits_of}
 
 -- ---- the commands that are not built
 
 module _ (a : Asked) (rest : Bool) where
+  some_of : (b : Bool) (o : Option Asked) → cond b None o ≡ Some a → o ≡ Some a
+  some_of true o h = absurd (let no : ⊥ = cc in no)
+  some_of false o h = h
+
   by_names : (world storm serve script : Bool) (w x y z : Option Asked)
-      → cond (storm || (script || rest)) None
+      → cond (storm || rest) None
       (cond world w (cond storm x (cond serve y (cond script z None)))) ≡ Some a
-      → (w ≡ Some a) ⊎ (y ≡ Some a)
+      → (w ≡ Some a) ⊎ (y ≡ Some a) ⊎ (z ≡ Some a)
   by_names world true serve script w x y z e = absurd (let no : ⊥ = cc in no)
-  by_names world false serve true w x y z e = absurd (let no : ⊥ = cc in no)
-  by_names true false serve false w x y z e = inl (go rest e)
-    where
-      go : (b : Bool) → cond b None w ≡ Some a → w ≡ Some a
-      go true h = absurd (let no : ⊥ = cc in no)
-      go false h = h
-  by_names false false true false w x y z e = inr (go rest e)
-    where
-      go : (b : Bool) → cond b None y ≡ Some a → y ≡ Some a
-      go true h = absurd (let no : ⊥ = cc in no)
-      go false h = h
-  by_names false false false false w x y z e = go rest e
-    where
-      go : (b : Bool) → cond b None None ≡ Some a → (w ≡ Some a) ⊎ (y ≡ Some a)
-      go true h = absurd (let no : ⊥ = cc in no)
-      go false h = absurd (let no : ⊥ = cc in no)
+  by_names true false serve script w x y z e = inl (some_of rest w e)
+  by_names false false true script w x y z e = inr (inl (some_of rest y e))
+  by_names false false false true w x y z e = inr (inr (some_of rest z e))
+  by_names false false false false w x y z e =
+      absurd (let no : None ≡ Some a = some_of rest None e in (let none : ⊥ = cc in none))
 
 is_world : (o : Option LimitSettings) (a : Asked) → option_map World o ≡ Some a
     → (s : LimitSettings) × (a ≡ World s) × (o ≡ Some s)
@@ -54,15 +52,24 @@ is_serve : (o : Option ServeSettings) (a : Asked) → option_map Serve o ≡ Som
 is_serve None a e = absurd (let no : ⊥ = cc in no)
 is_serve (Some s) a e = (s, cc, refl)
 
--- words that are understood ask for a world or for a server
+is_script : (o : Option ScriptSettings) (a : Asked) → option_map Script o ≡ Some a
+    → (s : ScriptSettings) × (a ≡ Script s) × (o ≡ Some s)
+is_script None a e = absurd (let no : ⊥ = cc in no)
+is_script (Some s) a e = (s, cc, refl)
+
+-- words that are understood ask for a world, a server or a script
 abbrev AsksWorld : Asked → Type 0
 AsksWorld a = (s : LimitSettings) × (a ≡ World s) × (rest : List Word) × (world_of rest ≡ Some s)
 
 abbrev AsksServe : Asked → Type 0
 AsksServe a = (s : ServeSettings) × (a ≡ Serve s) × (rest : List Word) × (serve_of rest ≡ Some s)
 
+abbrev AsksScript : Asked → Type 0
+AsksScript a =
+    (s : ScriptSettings) × (a ≡ Script s) × (rest : List Word) × (script_of rest ≡ Some s)
+
 pub only_built : (words : List Word) (a : Asked) → command_of words ≡ Some a
-    → AsksWorld a ⊎ AsksServe a
+    → AsksWorld a ⊎ AsksServe a ⊎ AsksScript a
 only_built [] a e = absurd (let no : ⊥ = cc in no)
 only_built (command ∷ words) a e =
     by_part (by_names a _ (bytes_eq command (codes "world")) (bytes_eq command (codes "storm"))
@@ -71,9 +78,14 @@ only_built (command ∷ words) a e =
     (option_map Serve (serve_of words)) (option_map Script (script_of words)) e)
   where
     by_part : (option_map World (world_of words) ≡ Some a)
-        ⊎ (option_map Serve (serve_of words) ≡ Some a) → AsksWorld a ⊎ AsksServe a
+        ⊎ (option_map Serve (serve_of words) ≡ Some a)
+        ⊎ (option_map Script (script_of words) ≡ Some a)
+        → AsksWorld a ⊎ AsksServe a ⊎ AsksScript a
     by_part (inl h) = let is = is_world (world_of words) a h in inl (is.0, is.1, words, is.2)
-    by_part (inr h) = let is = is_serve (serve_of words) a h in inr (is.0, is.1, words, is.2)
+    by_part (inr (inl h)) =
+        let is = is_serve (serve_of words) a h in inr (inl (is.0, is.1, words, is.2))
+    by_part (inr (inr h)) =
+        let is = is_script (script_of words) a h in inr (inr (is.0, is.1, words, is.2))
 
 -- ---- the limits
 
@@ -138,10 +150,12 @@ pub limits_valid : (words : List Word) (s : LimitSettings) → command_of words 
     → AreValid (limits_of s)
 limits_valid words s e = by_part (only_built words (World s) e)
   where
-    by_part : AsksWorld (World s) ⊎ AsksServe (World s) → AreValid (limits_of s)
+    by_part : AsksWorld (World s) ⊎ AsksServe (World s) ⊎ AsksScript (World s)
+        → AreValid (limits_of s)
     by_part (inl (t, is, rest, h)) =
         let same : s ≡ t = cc in world_valid rest s (h ∙ ap Some (sym same))
-    by_part (inr (t, is, rest, h)) = absurd (let no : ⊥ = cc in no)
+    by_part (inr (inl (t, is, rest, h))) = absurd (let no : ⊥ = cc in no)
+    by_part (inr (inr (t, is, rest, h))) = absurd (let no : ⊥ = cc in no)
 
 -- ---- the settings of a server
 
@@ -188,7 +202,76 @@ pub settings_valid : (words : List Word) (s : ServeSettings) → command_of word
     → IsServable s
 settings_valid words s e = by_part (only_built words (Serve s) e)
   where
-    by_part : AsksWorld (Serve s) ⊎ AsksServe (Serve s) → IsServable s
+    by_part : AsksWorld (Serve s) ⊎ AsksServe (Serve s) ⊎ AsksScript (Serve s) → IsServable s
     by_part (inl (t, is, rest, h)) = absurd (let no : ⊥ = cc in no)
-    by_part (inr (t, is, rest, h)) =
+    by_part (inr (inr (t, is, rest, h))) = absurd (let no : ⊥ = cc in no)
+    by_part (inr (inl (t, is, rest, h))) =
         let same : s ≡ t = cc in serve_valid rest s (h ∙ ap Some (sym same))
+
+-- ---- the settings of a script
+
+-- the client holds as many keys as a client may
+abbrev IsPlayable : ScriptSettings → Type 0
+IsPlayable s = (0 < s.capacity) × (s.capacity ≤ 1000000)
+
+allowed_is : (b : Bool) (s t : ScriptSettings) → cond b (Some s) None ≡ Some t → s ≡ t
+allowed_is true s t e = cc
+allowed_is false s t e = absurd (let no : ⊥ = cc in no)
+
+all_playable : (connect : Option Connection) (resp : Option Proto) (caching : Option Caching)
+    (prefix : Option (Option Word)) (capacity : Option ℕ) (noloop redirect : Bool)
+    (s : ScriptSettings) → ((m : ℕ) → capacity ≡ Some m → (0 < m) × (m ≤ 1000000))
+    → script connect resp caching prefix capacity noloop redirect ≡ Some s → IsPlayable s
+all_playable (Some c) (Some r) (Some k) (Some p) (Some n) noloop redirect s q e =
+    let all : ScriptSettings = record {
+      connect = c;
+      resp = r;
+      caching = k;
+      prefix = p;
+      capacity = n;
+      noloop = noloop;
+      redirect = redirect;
+    } in
+    subst (λ (x : ScriptSettings). IsPlayable x)
+    (allowed_is (has_pushes r redirect && takes_prefix k p) all s e) (q n refl)
+all_playable None resp caching prefix capacity noloop redirect s q e =
+    absurd (let no : ⊥ = cc in no)
+all_playable (Some c) None caching prefix capacity noloop redirect s q e =
+    absurd (let no : ⊥ = cc in no)
+all_playable (Some c) (Some r) None prefix capacity noloop redirect s q e =
+    absurd (let no : ⊥ = cc in no)
+all_playable (Some c) (Some r) (Some k) None capacity noloop redirect s q e =
+    absurd (let no : ⊥ = cc in no)
+all_playable (Some c) (Some r) (Some k) (Some p) None noloop redirect s q e =
+    absurd (let no : ⊥ = cc in no)
+
+from_playable : (value : Word → Option Word) (is_set : Word → Bool) (s : ScriptSettings)
+    → script_from value is_set ≡ Some s → IsPlayable s
+from_playable value is_set s e =
+    all_playable _ _ _ _ _ _ _ s
+    (λ m h. number_within 1000000 1024 m (value (codes "capacity")) (omega arith) (omega arith) h)
+    e
+
+script_valid : (words : List Word) (s : ScriptSettings) → script_of words ≡ Some s → IsPlayable s
+unfolding script_of
+script_valid words s e = go (options_of script_options words) e
+  where
+    go : (o : Option (List (Word × Word)))
+        → option_and_then
+        (λ seen. script_from (option_value script_options (λ n. value_of n seen))
+        (λ n. is_true (value_of n seen)))
+        o ≡ Some s → IsPlayable s
+    go None h = absurd (let no : ⊥ = cc in no)
+    go (Some seen) h =
+        from_playable (option_value script_options (λ n. value_of n seen))
+        (λ n. is_true (value_of n seen)) s h
+
+pub capacity_valid : (words : List Word) (s : ScriptSettings)
+    → command_of words ≡ Some (Script s) → (0 < s.capacity) × (s.capacity ≤ 1000000)
+capacity_valid words s e = by_part (only_built words (Script s) e)
+  where
+    by_part : AsksWorld (Script s) ⊎ AsksServe (Script s) ⊎ AsksScript (Script s) → IsPlayable s
+    by_part (inl (t, is, rest, h)) = absurd (let no : ⊥ = cc in no)
+    by_part (inr (inl (t, is, rest, h))) = absurd (let no : ⊥ = cc in no)
+    by_part (inr (inr (t, is, rest, h))) =
+        let same : s ≡ t = cc in script_valid rest s (h ∙ ap Some (sym same))

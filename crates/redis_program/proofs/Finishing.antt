@@ -143,8 +143,10 @@ writes_too P Q status.ReadFault old new f w = (w.0, w.1, w.2, f w.0 w.1 w.3, w.4
 writes_too P Q status.WriteFault old new f w = (w.0, w.1, f w.0 w.1 w.2, w.3)
 writes_too P Q status.NetFault old new f w = (w.0, w.1, w.2, f w.0 w.1 w.3, w.4)
 writes_too P Q status.Refused old new f w = (w.0, w.1, w.2, f w.0 w.1 w.3, w.4)
+writes_too P Q status.LinkEnded old new f w = (w.0, w.1, w.2, f w.0 w.1 w.3, w.4)
 writes_too P Q status.HistoryFull old new f w = (w.0, w.1, w.2, f w.0 w.1 w.3, w.4)
 writes_too P Q status.NoMemory old new f w = (w.0, w.1, w.2, f w.0 w.1 w.3, w.4)
+writes_too P Q status.Worn old new f w = (w.0, w.1, w.2, f w.0 w.1 w.3, w.4)
 
 -- the same of the whole input, where it is known
 pub writes_known : (limits : Limits) (in0 in1 out0 out1 : Option (List ℕ)) (result : Status)
@@ -177,8 +179,10 @@ module _ (limits : Limits) (lines : List (List ℕ)) where
   complete status.WriteFault old new r w x = absurd (w refl)
   complete status.NetFault old new r w x = end_verdict x.0 x.1 status.NetFault x.2 r w x.3
   complete status.Refused old new r w x = end_verdict x.0 x.1 status.Refused x.2 r w x.3
+  complete status.LinkEnded old new r w x = end_verdict x.0 x.1 status.LinkEnded x.2 r w x.3
   complete status.HistoryFull old new r w x = end_verdict x.0 x.1 status.HistoryFull x.2 r w x.3
   complete status.NoMemory old new r w x = inl refl
+  complete status.Worn old new r w x = end_verdict x.0 x.1 status.Worn x.2 r w x.3
 
 -- where neither fault is the answer
 pub complete_known : (limits : Limits) (in0 out0 out1 : Option (List ℕ)) (result : Status)

@@ -1,4 +1,5 @@
 pub mod Asked
+pub mod Scripting
 pub mod Serving
 pub mod Scheduling
 pub mod LineTexts

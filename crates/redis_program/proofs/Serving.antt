@@ -54,8 +54,10 @@ usage_not_net status.ReadFault old new u e = cc
 usage_not_net status.WriteFault old new u e = cc
 usage_not_net status.NetFault old new u e = u
 usage_not_net status.Refused old new u e = cc
+usage_not_net status.LinkEnded old new u e = cc
 usage_not_net status.HistoryFull old new u e = cc
 usage_not_net status.NoMemory old new u e = cc
+usage_not_net status.Worn old new u e = cc
 
 ending_not_net : (e : Ending) → status_of e ≡ status.NetFault → ⊥
 ending_not_net ending.Done e = cc

@@ -41,8 +41,10 @@ exit_number status.ReadFault = 4
 exit_number status.WriteFault = 5
 exit_number status.NetFault = 6
 exit_number status.Refused = 7
+exit_number status.LinkEnded = 8
 exit_number status.HistoryFull = 9
 exit_number status.NoMemory = 10
+exit_number status.Worn = 11
 
 abbrev pub status_of : Ending → Status
 status_of Done = status.Done

@@ -1,3 +1,4 @@
 pub mod Headline
 pub mod Playing
+pub mod Scripting
 pub mod Serving

@@ -3,15 +3,18 @@ ghost use Rattle.std.specs.Prelude.{◌≡◌, None, Some, IfSome, map, string_b
 ghost use Rattle.edge_links.specs.Counts.{Counted};
 ghost use Rattle.command_line.specs.declared.settings.Asked.TheVariants as asked;
 ghost use Rattle.command_line.specs.declared.settings.LimitSettings.{LimitSettings};
+ghost use Rattle.command_line.specs.declared.settings.ScriptSettings.{ScriptSettings};
 ghost use Rattle.command_line.specs.declared.settings.ServeSettings.{ServeSettings};
 ghost use Rattle.command_line.specs.Commands.{command_of};
 ghost use Rattle.serve_run.specs.Written.{NetFailed};
 ghost use Rattle.redis_program.specs.declared.status.Status.TheVariants as status;
 ghost use Rattle.redis_program.specs.Headline.{Comes, EndsAs, IsVerdict, UsageGives, Writes};
 ghost use Rattle.redis_program.specs.Headline.{limits_of, text_lines};
+ghost use Rattle.redis_program.specs.Scripting.{AsksForScript, ScriptGives};
 ghost use Rattle.redis_program.specs.Serving.{AsksToServe, ServeGives};
 
 use super::schedule::{run_world, write_no_memory};
+use super::script::run_script;
 use super::serve::run_serve;
 use super::status::Status;
 use command_line::{Asked, LimitSettings, read_words};
@@ -19,23 +22,26 @@ use conn_pool::Served;
 use edge_lines::{SinkFailed, write_all};
 use edge_links::{Clock, Net, Sink, Source};
 use resp_value::NoMemory;
+use script_program::ScriptSession;
 use serial_model::Limits;
 use std::alloc::Global;
 use std::sync::Wait;
 use std::thread::Threads;
 use world_run::law_one_history;
 
-/// What a run of the program came to, and what a server served.
+/// What a run of the program came to, with what a server served and the session of a script.
 #[derive(Drop)]
 pub struct Outcome<N: Net> {
     pub status: Status,
     pub served: Option<Served<N::Acceptor>>,
+    pub session: Option<ScriptSession<N::Link>>,
 }
 
 /// Runs the program on the words behind its name. Those that ask for `world` have the schedule on
-/// the input played, which is `run_world`, and those that ask for `serve` have what connects served
-/// over the net, which is `run_serve`. Words outside the definition, or that name what is not built
-/// yet, are answered by the line `usage`, and nothing is read.
+/// the input played, which is `run_world`; those that ask for `serve` have what connects served
+/// over the net, which is `run_serve`; and those that ask for `script` have the script on the input
+/// played over a link that the net dials, which is `run_script`. Words outside the definition, or
+/// that name what is not built yet, are answered by the line `usage`, and nothing is read.
 ///
 /// What is promised of bytes holds where the source and the sink make theirs known, as those in
 /// memory do. The body is the same over every source and sink, so over the standard streams it
@@ -55,7 +61,10 @@ pub fn run<R: Threads + Wait + Sync, S: Source, K: Sink, N: Net, C: Clock + Sync
     ensures usage_only { result.status ≡ status.Usage
         → command_of (map string_bytes words.now) ≡ None }
     ensures unread { command_of (map string_bytes words.now) ≡ None → input.new ≡ input.old }
-    ensures offline { ¬ AsksToServe (map string_bytes words.now) → net.new ≡ net.old }
+    ensures offline { ¬ AsksToServe (map string_bytes words.now)
+        → ¬ AsksForScript (map string_bytes words.now) → net.new ≡ net.old }
+    ensures unserved { ¬ AsksToServe (map string_bytes words.now) → result.served ≡ None }
+    ensures unplayed { ¬ AsksForScript (map string_bytes words.now) → result.session ≡ None }
     ensures world { (settings : LimitSettings)
         → command_of (map string_bytes words.now) ≡ Some (asked.World settings)
         → Writes (Comes (limits_of settings) (S.left input.old) (S.left input.new)) result.status
@@ -75,6 +84,12 @@ pub fn run<R: Threads + Wait + Sync, S: Source, K: Sink, N: Net, C: Clock + Sync
         → command_of (map string_bytes words.now) ≡ Some (asked.Serve settings)
         → ServeGives settings N.Acceptor.counts N.Acceptor.left result.served result.status
         (K.contents output.old) (K.contents output.new) (N.counts net.old) (N.counts net.new) }
+    ensures script { (settings : ScriptSettings)
+        → command_of (map string_bytes words.now) ≡ Some (asked.Script settings)
+        → ScriptGives settings.capacity N.Link.left N.Link.contents N.Link.counts
+        (S.left input.old) result.session result.status
+        (S.counts input.old) (S.counts input.new) (N.counts net.old) (N.counts net.new)
+        (K.contents output.old) (K.contents output.new) }
     ensures net { result.status ≡ status.NetFault
         → NetFailed result.served (N.counts net.old) (N.counts net.new) }
     ensures done { ¬ AsksToServe (map string_bytes words.now) → result.status ≡ status.Done
@@ -89,6 +104,7 @@ pub fn run<R: Threads + Wait + Sync, S: Source, K: Sink, N: Net, C: Clock + Sync
         Ok(None) => return Outcome {
             status: refuse(output),
             served: None,
+            session: None,
         },
         Err(NoMemory) => {
             // of no line too
@@ -96,6 +112,7 @@ pub fn run<R: Threads + Wait + Sync, S: Source, K: Sink, N: Net, C: Clock + Sync
             return Outcome {
                 status: write_no_memory(output),
                 served: None,
+                session: None,
             };
         }
     };
@@ -103,8 +120,10 @@ pub fn run<R: Threads + Wait + Sync, S: Source, K: Sink, N: Net, C: Clock + Sync
         Asked::World(settings) => Outcome {
             status: run_world(alloc, limits_of(settings), input, output),
             served: None,
+            session: None,
         },
         Asked::Serve(settings) => run_serve(rt, alloc, settings, output, net, clock),
+        Asked::Script(settings) => run_script(rt, alloc, &settings, input, output, net),
         // The table of what is not built yet refuses the others.
         _ => unreachable!(),
     }

@@ -42,7 +42,7 @@ pub enum Refusal<'a> {
 
 /// At most forty bytes of a word, those that are no visible ASCII as `\xHH`.
 #[derive(Clone, Copy)]
-struct Shown<'a>(&'a [u8]);
+pub struct Shown<'a>(pub &'a [u8]);
 
 impl fmt::Display for Shown<'_> {
     fn fmt<W: fmt::Write>(&self, f: &mut fmt::Formatter<W>) -> fmt::Result {
@@ -137,20 +137,13 @@ pub fn find_line_fault(number: u64, line: &[u8]) -> LineFault<'_> {
     if number > MOST_LINES {
         return LineFault::TooMany;
     }
-    if line.len() > LONGEST_LINE {
-        return LineFault::TooLong;
-    }
     match line {
         [] => return LineFault::Empty,
-        [.., b'\r'] => return LineFault::CarriageReturn,
         [b'#', ..] => return LineFault::Comment,
         _ => {}
     }
-    if line.contains(&b'\t') {
-        return LineFault::Tab;
-    }
-    if has_loose_space(line) {
-        return LineFault::Spaces;
+    if let Some(fault) = find_loose_byte(line) {
+        return fault;
     }
     let (kind, rest) = first_word(line);
     let Some(form) = form_of(kind) else {
@@ -170,6 +163,23 @@ pub fn find_line_fault(number: u64, line: &[u8]) -> LineFault<'_> {
         return LineFault::BadCount(rest);
     }
     LineFault::Form(form)
+}
+
+/// The first thing that no line may have, whatever it says.
+pub fn find_loose_byte<'a>(line: &[u8]) -> Option<LineFault<'a>> {
+    if line.len() > LONGEST_LINE {
+        return Some(LineFault::TooLong);
+    }
+    if let [.., b'\r'] = line {
+        return Some(LineFault::CarriageReturn);
+    }
+    if line.contains(&b'\t') {
+        return Some(LineFault::Tab);
+    }
+    if has_loose_space(line) {
+        return Some(LineFault::Spaces);
+    }
+    None
 }
 
 /// Why the event of the line was refused, by the digit that was written of it.
@@ -230,7 +240,7 @@ fn has_loose_space(line: &[u8]) -> bool {
 }
 
 /// What comes before the first space, and what comes after it.
-fn first_word(text: &[u8]) -> (&[u8], &[u8]) {
+pub fn first_word(text: &[u8]) -> (&[u8], &[u8]) {
     for place in 0..text.len() {
         if text[place] == b' ' {
             return (&text[..place], &text[place + 1..]);

@@ -5,6 +5,8 @@ mod dispatch;
 mod kept;
 mod line_fault;
 mod schedule;
+mod script;
+mod script_fault;
 mod serve;
 mod status;
 #[cfg(test)]
@@ -12,10 +14,11 @@ mod tests;
 
 use command_line::{FORMS, find_wrong};
 use dispatch::{refuse, run};
-use edge_links::{ReaderSource, Sink, SystemClock, TcpNet, WriterSink};
+use edge_links::{ReaderSource, Sink, Source, SystemClock, TcpNet, WriterSink};
 use kept::{KeptSink, KeptSource};
 use line_fault::{find_line_fault, find_refusal};
 use schedule::write_no_memory;
+use script_fault::find_script_fault;
 use status::Status;
 use std::env::{self, Env};
 use std::io::{self, ErrorKind};
@@ -29,29 +32,34 @@ fn main(rt: HostRuntime) -> ExitCode {
     let mut output = KeptSink::new(WriterSink::new(rt.stdout()));
     let words = match words_of(&rt) {
         Ok(words) => words,
-        Err(error) => return end(&rt, refuse_words(&rt, &error, &mut output)),
+        Err(error) => return end(&rt, refuse_words(&rt, &error, &mut output), false),
     };
+    let words = words.as_slice();
+    let is_script = asks_for(words, "script");
     let Ok(input) = ReaderSource::new(alloc, rt.stdin()) else {
-        return end(&rt, write_no_memory(&mut output));
+        return end(&rt, write_no_memory(&mut output), is_script);
     };
     let mut input = KeptSource::new(alloc, input);
     let mut net = TcpNet::new(rt);
     let clock = SystemClock::new(rt);
-    let words = words.as_slice();
     let outcome = run(&rt, alloc, words, &mut input, &mut output, &mut net, &clock);
     match outcome.status {
         Status::Usage => explain_words(&rt, words),
-        Status::BadLine => {
-            let fault = find_line_fault(input.number(), input.line());
-            let _ = eprintln!(rt; "zeovalki: line {}: {fault}", input.number());
-        }
+        Status::BadLine => explain_line(&rt, &input, is_script),
         Status::Refused => {
             let refusal = find_refusal(output.last_byte(), input.line());
             let _ = eprintln!(rt; "zeovalki: line {}: {refusal}", input.number());
         }
         _ => {}
     }
-    end(&rt, outcome.status)
+    end(&rt, outcome.status, is_script)
+}
+
+fn asks_for(words: &[String], command: &str) -> bool {
+    match words {
+        [word, ..] => word.as_str() == command,
+        [] => false,
+    }
 }
 
 /// The words behind the program's name.
@@ -74,19 +82,41 @@ fn explain_words(rt: &impl Eprint, words: &[String]) {
     }
 }
 
+/// Says why the last line that was read is outside the grammar.
+fn explain_line<S: Source + Drop>(rt: &impl Eprint, input: &KeptSource<S>, is_script: bool) {
+    let number = input.number();
+    let _ = if is_script {
+        let fault = find_script_fault(number, input.line());
+        eprintln!(rt; "zeovalki: line {number}: {fault}")
+    } else {
+        let fault = find_line_fault(number, input.line());
+        eprintln!(rt; "zeovalki: line {number}: {fault}")
+    };
+}
+
 /// Says what a status means where its line on standard output says too little, and gives its
 /// number to the system.
-fn end(rt: &impl Eprint, status: Status) -> ExitCode {
+fn end(rt: &impl Eprint, status: Status, is_script: bool) -> ExitCode {
     let _ = match status {
         Status::Done | Status::BadLine | Status::Refused => Ok(()),
         Status::Usage => eprint!(rt; "{FORMS}"),
         Status::ReadFault => eprintln!(rt; "zeovalki: the input could not be read"),
         Status::WriteFault => eprintln!(rt; "zeovalki: the output could not be written"),
+        Status::NetFault if is_script => {
+            eprintln!(rt; "zeovalki: the server could not be reached")
+        }
         Status::NetFault => eprintln!(rt; "zeovalki: the port could not be listened at"),
+        Status::LinkEnded => {
+            eprintln!(rt; "zeovalki: the link to the server ended before each line was answered")
+        }
+        Status::HistoryFull if is_script => {
+            eprintln!(rt; "zeovalki: the client's log has as many entries as it may have")
+        }
         Status::HistoryFull => {
             eprintln!(rt; "zeovalki: the history has as many entries as --history-max allows")
         }
         Status::NoMemory => eprintln!(rt; "zeovalki: memory ran out"),
+        Status::Worn => eprintln!(rt; "zeovalki: no ticket of the client's lock is left"),
     };
     ExitCode::from(status.number())
 }

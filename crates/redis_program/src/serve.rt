@@ -1,5 +1,5 @@
 //! The run of a server, by its settings, and its status.
-ghost use Rattle.std.specs.Prelude.{◌≡◌, ◌≤◌};
+ghost use Rattle.std.specs.Prelude.{◌≡◌, ◌≤◌, None};
 ghost use Rattle.edge_links.specs.Counts.{Counted};
 ghost use Rattle.serial_model.specs.Steps.{AreValid};
 ghost use Rattle.serve_run.specs.Written.{NetFailed};
@@ -34,6 +34,7 @@ pub fn run_serve<R: Threads + Wait + Sync, K: Sink, N: Net, C: Clock + Sync>(
         (N.counts net.old) (N.counts net.new) }
     ensures net { result.status ≡ status.NetFault
         → NetFailed result.served (N.counts net.old) (N.counts net.new) }
+    ensures unplayed { result.session ≡ None }
     ensures write { result.status ≡ status.WriteFault
         → Counted (K.counts output.old).faults (K.counts output.new).faults }
 {
@@ -51,6 +52,7 @@ pub fn run_serve<R: Threads + Wait + Sync, K: Sink, N: Net, C: Clock + Sync>(
     Outcome {
         status: status_of(end),
         served,
+        session: None,
     }
 }
 

@@ -9,7 +9,7 @@ use world_run::WorldFault;
 /// What a run of the program answers.
 #[derive(Clone, Copy, Debug, PartialEq, Eq)]
 pub enum Status {
-    /// The input was read to its end, and all of it was played.
+    /// The input was read to its end, and all of it was played; or a server's connections ended.
     Done,
     /// The words of the command line are not understood.
     Usage,
@@ -21,9 +21,13 @@ pub enum Status {
     NetFault,
     /// The event of a line can't be played.
     Refused,
-    /// The history has as many entries as it may.
+    /// A client's link ended, and a line of the script has no answer.
+    LinkEnded,
+    /// The history, or a client's log, has as many entries as it may.
     HistoryFull,
     NoMemory,
+    /// No ticket of the client's lock was left.
+    Worn,
 }
 
 impl Status {
@@ -39,8 +43,10 @@ impl Status {
             Status::WriteFault => 5,
             Status::NetFault => 6,
             Status::Refused => 7,
+            Status::LinkEnded => 8,
             Status::HistoryFull => 9,
             Status::NoMemory => 10,
+            Status::Worn => 11,
         }
     }
 }

@@ -1,4 +1,6 @@
 //! The program over streams in memory, against worked examples.
+mod scripts;
+
 use super::dispatch::run;
 use super::line_fault::{find_line_fault, find_refusal};
 use super::status::Status;
@@ -84,7 +86,32 @@ fn a_run_writes_the_transcript_and_the_last_line_of_its_status(
             Status::NetFault,
             "net-fault\n",
         ),
-        ("script --connect h:1", "", Status::Usage, "usage\n"),
+        ("script", "", Status::Usage, "usage\n"),
+        ("script --connect h", "", Status::Usage, "usage\n"),
+        (
+            "script --connect h:1 --capacity 0",
+            "",
+            Status::Usage,
+            "usage\n",
+        ),
+        (
+            "script --connect h:1 --mode optin",
+            "",
+            Status::Usage,
+            "usage\n",
+        ),
+        (
+            "script --connect h:1",
+            "raw r\n",
+            Status::BadLine,
+            "bad-line 1\n",
+        ),
+        (
+            "script --connect h:1",
+            "1 ask GET foo\n",
+            Status::NetFault,
+            "net-fault\n",
+        ),
         (
             "world --history-max 2",
             "raw r\nraw s\nraw t\n",
@@ -250,6 +277,23 @@ fn a_fault_of_a_stream_ends_the_run_where_it_comes(rt: HostRuntime) -> Result<()
         ("world", 0, 2, 1000, Status::WriteFault, "#1 admit r 1\n"),
         ("world", 0, 0, 5, Status::WriteFault, "#1 ad"),
         ("world", 1, 1, 1000, Status::WriteFault, ""),
+        (
+            "script --connect h:1",
+            1,
+            0,
+            1000,
+            Status::ReadFault,
+            "read-fault\n",
+        ),
+        (
+            "script --connect h:1",
+            9,
+            0,
+            1000,
+            Status::BadLine,
+            "bad-line 1\n",
+        ),
+        ("script --connect h:1", 0, 0, 5, Status::WriteFault, "bad-l"),
         ("worlds", 0, 1, 1000, Status::WriteFault, ""),
     ] {
         let words = words_of(rt.alloc(), words)?;
@@ -413,9 +457,12 @@ fn each_status_has_its_number(rt: HostRuntime) {
         (Status::BadLine, 3),
         (Status::ReadFault, 4),
         (Status::WriteFault, 5),
+        (Status::NetFault, 6),
         (Status::Refused, 7),
+        (Status::LinkEnded, 8),
         (Status::HistoryFull, 9),
         (Status::NoMemory, 10),
+        (Status::Worn, 11),
     ] {
         assert_eq!(rt; status.number(), number);
     }

@@ -1,2 +1,6 @@
-pub mod Kept
+pub mod Asking
 pub mod Crossing
+pub mod Filling
+pub mod Keys
+pub mod Lines
+pub mod Mapped

@@ -1,7 +1,12 @@
 //! A client under its lock, with every key in its cache, and threads that ask it.
-ghost use Rattle.std.specs.Prelude.{◌≡◌, ◌≤◌, ◌<◌, IfOk};
+ghost use Rattle.std.specs.Prelude.{◌≡◌, ◌≤◌, ◌<◌, ◌*◌, ◌-◌, ℕ, max, IfOk, OnOk};
 ghost use Rattle.std.specs.Thread.{IsSync};
+ghost use Rattle.turn_lock.specs.Seats.{split_seat};
 ghost use Rattle.seat_turns.specs.Own.{IsWithin};
+ghost use Rattle.shared_cache.specs.ClientFields.{IsServed};
+ghost use Rattle.script_bench.specs.Asks.{key_of, query_for, spread_of, IsKeyQuery, Asks};
+ghost use Rattle.script_bench.specs.Filled.{content_is, client_for, GrowsBy, greeting};
+ghost use Rattle.script_bench.specs.Filled.{answered, fetched, IsReady};
 
 use command_words::Query;
 use resp_value::{NoMemory, Octets, Pairs, Proto, Value, Words};
@@ -12,11 +17,23 @@ use std::sync::Wait;
 use std::thread::{Threads, join};
 use turn_lock::{Seat, TurnLock};
 
+/// Memory ran out, or the client refused a call.
+#[derive(Drop)]
+pub struct Unready;
+
+impl From<NoMemory> for Unready {
+    fn from(_: NoMemory) -> Self {
+        Unready
+    }
+}
+
 /// The key of that number, of 16 bytes.
-pub fn key(alloc: Global, number: u64) -> Result<Vec<u8>, NoMemory> {
+pub fn key(alloc: Global, number: u64) -> Result<Vec<u8>, NoMemory>
+    ensures { IfOk result (λ k. k.items ≡ key_of number) }
+{
     let mut bytes = Vec::from_slice(alloc, b"key:")?;
     let mut rest = number;
-    for _ in 0..12 {
+    for _ in 0..12u64 {
         let digit = (rest % 10) as u8;
         bytes.push(b'0' + digit)?;
         rest /= 10;
@@ -24,23 +41,31 @@ pub fn key(alloc: Global, number: u64) -> Result<Vec<u8>, NoMemory> {
     Ok(bytes)
 }
 
-fn query(alloc: Global, number: u64) -> Result<Option<Query>, NoMemory> {
+fn query(alloc: Global, number: u64) -> Result<Query, NoMemory>
+    ensures { IfOk result (λ q. q ≡ query_for number) }
+{
     let mut words = Words::new(alloc);
     words.push(Octets::from_slice(alloc, b"GET")?)?;
     words.push(Octets::from_vec(key(alloc, number)?))?;
-    Query::read(alloc, &words)
+    match Query::read(alloc, &words)? {
+        Some(query) => Ok(query),
+        None => unreachable!(),
+    }
 }
 
 /// What each key has: 64 bytes.
-const CONTENT: &[u8] = b"0123456789abcdef0123456789abcdef0123456789abcdef0123456789abcdef";
-
-pub fn content(alloc: Global) -> Result<Value, NoMemory> {
-    Ok(Value::Blob(Octets::from_slice(alloc, CONTENT)?))
+pub fn content(alloc: Global) -> Result<Value, NoMemory>
+    ensures { IfOk result (λ v. v ≡ content_is) }
+{
+    let bytes = b"0123456789abcdef0123456789abcdef0123456789abcdef0123456789abcdef";
+    Ok(Value::Blob(Octets::from_slice(alloc, bytes)?))
 }
 
 /// Numbers below `keys`, far from one another.
 pub fn spread(place: u64, keys: u64) -> u64
     requires { 0 < keys }
+    ensures value { result ≡ spread_of place keys }
+    ensures below { result < keys }
 {
     place.wrapping_mul(2654435761) % keys
 }
@@ -52,14 +77,21 @@ fn answer<R: Wait>(
     seat: &mut Seat<SharedClient>,
     number: u64,
     value: Value,
-)
+) -> Result<(), Unready>
     requires lock { seat.old.lock ≡ lock.now }
     requires within { IsWithin seat.old }
-    ensures same { (seat.new.lock ≡ seat.old.lock) × IsWithin seat.new }
+    ensures { OnOk result (GrowsBy (answered number value) seat.old seat.new) }
 {
-    let _ = take_out(rt, lock, seat);
-    let _ = got(rt, lock, seat, value);
-    let _ = poll(rt, lock, seat, number);
+    let Ok(Some(_)) = take_out(rt, lock, seat) else {
+        return Err(Unready);
+    };
+    let Ok(()) = got(rt, lock, seat, value) else {
+        return Err(Unready);
+    };
+    let Ok(Some(_)) = poll(rt, lock, seat, number) else {
+        return Err(Unready);
+    };
+    Ok(())
 }
 
 // A miss of the key of that number, and its answer.
@@ -68,21 +100,19 @@ fn fill<R: Wait>(
     alloc: Global,
     lock: &TurnLock<SharedClient>,
     seat: &mut Seat<SharedClient>,
-    number: u64,
-) -> Result<(), NoMemory>
+    key: u64,
+) -> Result<(), Unready>
     requires lock { seat.old.lock ≡ lock.now }
     requires within { IsWithin seat.old }
-    ensures same { (seat.new.lock ≡ seat.old.lock) × IsWithin seat.new }
+    ensures { OnOk result ((number : ℕ) × GrowsBy (fetched key number) seat.old seat.new) }
 {
-    let Some(query) = query(alloc, number)? else {
-        return Ok(());
-    };
+    let query = query(alloc, key)?;
     let value = content(alloc)?;
     match ask(rt, lock, seat, query) {
         Ok(Asked::Sent { number }) => answer(rt, lock, seat, number, value),
-        _ => {}
+        Ok(Asked::Hit { .. }) => Err(Unready),
+        Err(_) => Err(Unready),
     }
-    Ok(())
 }
 
 // The handshake goes out, and is answered.
@@ -91,28 +121,29 @@ fn greet<R: Wait>(
     alloc: Global,
     lock: &TurnLock<SharedClient>,
     seat: &mut Seat<SharedClient>,
-) -> Result<(), NoMemory>
+) -> Result<(), Unready>
     requires lock { seat.old.lock ≡ lock.now }
     requires within { IsWithin seat.old }
-    ensures same { (seat.new.lock ≡ seat.old.lock) × IsWithin seat.new }
+    ensures { OnOk result (GrowsBy greeting seat.old seat.new) }
 {
     let accepted = Octets::from_slice(alloc, b"OK")?;
-    let _ = take_out(rt, lock, seat);
-    let _ = got(rt, lock, seat, Value::Map(Pairs::new(alloc)));
-    let _ = got(rt, lock, seat, Value::Simple(accepted));
-    Ok(())
+    let Ok(Some(_)) = take_out(rt, lock, seat) else {
+        return Err(Unready);
+    };
+    let Ok(()) = got(rt, lock, seat, Value::Map(Pairs::new(alloc))) else {
+        return Err(Unready);
+    };
+    match got(rt, lock, seat, Value::Simple(accepted)) {
+        Ok(()) => Ok(()),
+        Err(_) => Err(Unready),
+    }
 }
 
-/// A client whose handshake is answered, and that holds the keys below that number.
-pub fn ready_client<R: Wait>(
-    rt: &R,
-    alloc: Global,
-    keys: u64,
-) -> Result<(TurnLock<SharedClient>, Seat<SharedClient>), NoMemory>
-    requires { (0 < keys) × (keys ≤ 1000000) }
-    ensures { IfOk result (λ r. (r.1.lock ≡ r.0) × IsWithin r.1) }
+fn setup(keys: u64) -> ClientSetup
+    ensures setup { result ≡ client_for keys }
+    ensures served { IsServed result.mode }
 {
-    let setup = ClientSetup {
+    ClientSetup {
         mode: ClientMode {
             shape: Shape::Single,
             proto: Proto::Three,
@@ -121,11 +152,22 @@ pub fn ready_client<R: Wait>(
         },
         capacity: keys,
         log_max: 4_000_000_000,
-    };
-    let (lock, mut seat) = open(alloc, setup)?;
+    }
+}
+
+/// A client whose handshake is answered, and that was answered each key below that number.
+pub fn ready_client<R: Wait>(
+    rt: &R,
+    alloc: Global,
+    keys: u64,
+) -> Result<(TurnLock<SharedClient>, Seat<SharedClient>), Unready>
+    requires { (0 < keys) × (keys ≤ 1000000) }
+    ensures { IfOk result (λ r. IsReady r.0 keys keys r.1) }
+{
+    let (lock, mut seat) = open(alloc, setup(keys))?;
     greet(rt, alloc, &lock, &mut seat)?;
-    for number in 0..keys {
-        fill(rt, alloc, &lock, &mut seat, number)?;
+    for key in 0..keys {
+        fill(rt, alloc, &lock, &mut seat, key)?;
     }
     Ok((lock, seat))
 }
@@ -135,6 +177,24 @@ pub fn ready_client<R: Wait>(
 pub struct Asking {
     pub seat: Seat<SharedClient>,
     pub hits: u64,
+}
+
+// Asks once; the answer is 1 for a hit.
+fn ask_once<R: Wait>(
+    rt: &R,
+    lock: &TurnLock<SharedClient>,
+    seat: &mut Seat<SharedClient>,
+    query: Query,
+) -> u64
+    requires lock { seat.old.lock ≡ lock.now }
+    requires within { IsWithin seat.old }
+    ensures { Asks (λ q. q ≡ query) 1 result seat.old seat.new }
+{
+    match ask(rt, lock, seat, query) {
+        Ok(Asked::Hit { .. }) => 1,
+        Ok(Asked::Sent { .. }) => 0,
+        Err(_) => 0,
+    }
 }
 
 fn ask_often<R: Wait>(
@@ -148,16 +208,14 @@ fn ask_often<R: Wait>(
     requires lock { seat.lock ≡ lock.now }
     requires within { IsWithin seat }
     requires keys { 0 < keys }
-    ensures { result.seat.lock ≡ seat.lock }
+    ensures { Asks (IsKeyQuery keys) times result.hits seat result.seat }
 {
     let mut hits = 0u64;
     for place in 0..times {
-        let Ok(Some(query)) = query(alloc, spread(place, keys)) else {
+        let Ok(query) = query(alloc, spread(place, keys)) else {
             break;
         };
-        if let Ok(Asked::Hit { .. }) = ask(rt, lock, &mut seat, query) {
-            hits = hits.saturating_add(1);
-        }
+        hits = hits.saturating_add(ask_once(rt, lock, &mut seat, query));
     }
     Asking { seat, hits }
 }
@@ -167,7 +225,8 @@ fn split_off(lock: &TurnLock<SharedClient>, seat: &mut Seat<SharedClient>) -> Se
     requires lock { seat.old.lock ≡ lock.now }
     requires within { IsWithin seat.old }
     requires parts { 2 ≤ seat.old.parts }
-    ensures locks { (seat.new.lock ≡ seat.old.lock) × (result.lock ≡ seat.old.lock) }
+    ensures old { seat.new ≡ record seat.old { parts = seat.old.parts - 1 } }
+    ensures new { result ≡ split_seat seat.old result.number 1 }
     ensures within { IsWithin seat.new × IsWithin result }
 {
     lock.split(seat, 1)
@@ -186,7 +245,7 @@ pub fn ask_in_threads<R: Threads + Wait + Sync>(
     requires lock { seat.lock ≡ lock.now }
     requires within { IsWithin seat }
     requires keys { 0 < keys }
-    ensures { result.seat.lock ≡ seat.lock }
+    ensures { Asks (IsKeyQuery keys) (max threads 1 * times) result.hits seat result.seat }
 {
     if threads <= 1 || seat.parts() < 2 {
         return ask_often(rt, alloc, lock, seat, keys, times);
@@ -197,17 +256,17 @@ pub fn ask_in_threads<R: Threads + Wait + Sync>(
         rt,
         || -> Asking
             requires { IsSync R.row × (other.lock ≡ lock.now) × IsWithin other × (0 < keys) }
-            ensures { result.seat.lock ≡ other.lock }
+            ensures { Asks (IsKeyQuery keys) times result.hits other result.seat }
         { ask_often(rt, alloc, lock, other, keys, times) },
         || -> Asking
             requires { IsSync R.row × (seat.lock ≡ lock.now) × IsWithin seat × (0 < keys) }
-            ensures { result.seat.lock ≡ seat.lock }
+            ensures { Asks (IsKeyQuery keys) (max left 1 * times) result.hits seat result.seat }
         { ask_in_threads(rt, alloc, lock, seat, keys, times, left) },
     );
-    let Asking { mut seat, hits } = others;
-    lock.join(&mut seat, mine.seat);
+    let Asking { mut seat, hits } = mine;
+    lock.join(&mut seat, others.seat);
     Asking {
         seat,
-        hits: hits.saturating_add(mine.hits),
+        hits: hits.saturating_add(others.hits),
     }
 }

@@ -7,8 +7,10 @@ ghost use Rattle.std.specs.Prelude.{◌≤◌, ◌<◌};
 
 mod client;
 mod map;
+#[cfg(test)]
+mod tests;
 
-use client::{ask_in_threads, ready_client};
+use client::{Unready, ask_in_threads, ready_client};
 use map::{find_in_threads, map_of};
 use resp_value::NoMemory;
 use std::alloc::Global;
@@ -21,12 +23,19 @@ use std::{env, io};
 #[derive(Drop)]
 enum Fault {
     Memory,
+    Unready,
     System(io::Error),
 }
 
 impl From<NoMemory> for Fault {
     fn from(_: NoMemory) -> Self {
         Fault::Memory
+    }
+}
+
+impl From<Unready> for Fault {
+    fn from(_: Unready) -> Self {
+        Fault::Unready
     }
 }
 
@@ -93,6 +102,7 @@ fn main(rt: HostRuntime) -> io::Result<()> {
             Ok(()) => {}
             Err(Fault::System(error)) => return Err(error),
             Err(Fault::Memory) => println!(rt; "memory ran out")?,
+            Err(Fault::Unready) => println!(rt; "no client was made ready")?,
         }
     }
     Ok(())

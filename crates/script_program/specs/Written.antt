@@ -1,7 +1,7 @@
 -- What the run of a script comes to, what it writes, and what its end rests on.
-use Rattle.std.specs.Prelude.{◌≡◌, ◌++◌, ◌⊎◌, ⊤, ℕ, List, [], codes, Option, Some, None}
+use Rattle.std.specs.Prelude.{◌≡◌, ◌≤◌, ◌++◌, ◌⊎◌, ⊤, ℕ, List, [], codes, Option, Some, None}
 use Rattle.std.specs.Prelude.{Result, Ok, Err}
-use Rattle.std.specs.Prelude.{IfSome, false}
+use Rattle.std.specs.Prelude.{IfSome, false, true}
 use Rattle.std.specs.Fmt.{decimal}
 use Rattle.std.specs.Io.KnownBytes.{Appends}
 use Rattle.resp_value.specs.Lists.{IsPrefix}
@@ -11,7 +11,10 @@ use Rattle.edge_links.specs.Counts.{Counted, FaultCounted, nought}
 use Rattle.edge_lines.specs.declared.lines.SinkFailed.{SinkFailed}
 use Rattle.edge_lines.specs.Streams.{AppendsFirst}
 use Rattle.edge_lines.specs.TextLines.{text_lines}
+use Rattle.turn_lock.specs.declared.rule.TheConstants.{LAST_TICKET}
 use Rattle.shared_cache.specs.Held.{Setup}
+use Rattle.shared_cache.specs.Steps.{is_log_full}
+use Rattle.shared_cache.specs.declared.log.LogEntry.{LogEntry}
 use Rattle.shared_cache.specs.declared.log.Shape.TheVariants.{Single}
 use Rattle.shared_cache.specs.declared.log.Caching.TheVariants.{Default}
 use Rattle.client_link.specs.declared.pump_end.PumpEnd.{PumpEnd}
@@ -70,6 +73,14 @@ Reports lines answers pump e text =
     (text ≡ text_after no_tally 1 (ends_of lines answers))
     × (e ≡ session_end (tally_after no_tally (ends_of lines answers)) (end_number pump))
 
+-- a full log ends a session only where the log is full, and a worn lock where no ticket is left
+abbrev pub EndShows : SessionEnd → Setup → List LogEntry → ℕ → Type 0
+EndShows ended.HistoryFull s log tickets = is_log_full s log ≡ true
+EndShows ended.Worn s log tickets = LAST_TICKET ≤ tickets
+EndShows ended.Done s log tickets = ⊤
+EndShows (ended.LinkEnded number) s log tickets = ⊤
+EndShows ended.NoMemory s log tickets = ⊤
+
 -- These lines were played over a link that was new, and the text tells of it.
 pub record PlaysScript {L : Type 0} (left contents : L → Option (List ℕ)) (counts : L → Counts)
     (capacity : ℕ) (lines : List ScriptLine) (s : ScriptSession L) (e : SessionEnd) (text : List ℕ)
@@ -81,6 +92,7 @@ pub record PlaysScript {L : Type 0} (left contents : L → Option (List ℕ)) (c
       (contents link) (contents s.link) s.client.state.past s.client.tickets
   pub counted : EndCounts s.pump (counts link) (counts s.link)
   pub reported : Reports lines answers s.pump e text
+  pub shown : EndShows e (client_of capacity) s.client.state.past s.client.tickets
 
 -- an end before anything is played
 abbrev pub NotPlayed : ScriptEnd → Type 0

@@ -5,4 +5,4 @@ mod read;
 mod run;
 
 pub use read::{MOST_LINES, ScriptRead, read_script};
-pub use run::{ScriptEnd, WrittenScript, play_and_write};
+pub use run::{ScriptEnd, ScriptSession, WrittenScript, play_and_write};

@@ -1,6 +1,5 @@
-use Rattle.std.proofs.Common.{◌≡◌}
-use Rattle.seat_turns.specs.Own.{IsWithin}
+use Rattle.script_bench.specs.Filled.{IsReady}
 use Rattle.script_bench.proofs.client.ready_client.Given as goal
 
-abbrev pub invariant-loop-number : goal.invariant-loop-number
-invariant-loop-number g l = (l.seat.lock ≡ l.initial.seat.lock) × IsWithin l.seat
+abbrev pub invariant-loop-key : goal.invariant-loop-key
+invariant-loop-key g l = IsReady l.initial.seat.lock l.keys l.key l.seat

@@ -1,4 +1,4 @@
-use Rattle.script_bench.proofs.Kept.{kept_within, split_within}
+use Rattle.script_bench.proofs.Asking.{kept_within, split_within}
 use Rattle.script_bench.proofs.client.split_off.Goals as goal
 
 pub returns-clause-within : goal.returns-clause-within

@@ -3,8 +3,9 @@ use Rattle.client_link.specs.Pumps.{end_number}
 use Rattle.script_run.specs.Session.{Session}
 use Rattle.script_run.specs.Reports.{ends_of, no_tally, session_end, tally_after, text_after}
 use Rattle.script_program.specs.declared.run.ScriptEnd.TheVariants as ended
-use Rattle.script_program.specs.Written.{EndWrites, Reports}
-use Rattle.script_program.proofs.Writing.{reported}
+use Rattle.script_program.specs.Written.{EndWrites, Reports, client_of}
+use Rattle.script_program.proofs.Ending.{end_shows}
+use Rattle.script_program.proofs.Writing.{reported as reports_of}
 use Rattle.script_program.proofs.run.play_over.Goals as goal
 use Rattle.script_program.proofs.run.play_over.Goals.{in-Ok-report, in-Err}
 
@@ -19,7 +20,7 @@ returns-clause-writes g c =
     let told : Reports said answers played.pump c.match-report.end text =
     elim c.match-report.branch [
       | in-Ok-report w ↦
-          reported said answers played.pump c.match-report.end text
+          reports_of said answers played.pump c.match-report.end text
           (w.in-Ok-report.ensures.text
           ∙ ap (λ t. t ++ text_after no_tally 1 (ends_of said answers)) c.new-text.ensures.items)
           (w.end-is ∙ w.in-Ok-report.ensures.end)
@@ -31,19 +32,29 @@ returns-clause-writes g c =
             cut.2 ∙ ap (λ t. t ++ text_after no_tally 1 cut.0)
                 c.new-text.ensures.items,
           )
-    ] in (
+    ] in
+    let reported : Reports c.args.lines.items answers played.pump c.match-report.end text =
+    subst (λ ls. Reports ls answers played.pump c.match-report.end text) same told in
+    let session : Session (client_of c.args.capacity) c.args.lines.items answers played.pump
+    (g.L.Link.left c.args.link) (g.L.Link.left played.link) (g.L.Link.contents c.args.link)
+    (g.L.Link.contents played.link) played.client.state.past played.client.tickets =
+    subst (λ s. Session s c.args.lines.items answers played.pump (g.L.Link.left c.args.link)
+    (g.L.Link.left played.link) (g.L.Link.contents c.args.link) (g.L.Link.contents played.link)
+    played.client.state.past played.client.tickets) c.setup.ensures known.session in (
       c.match-report.end,
       text,
       record {
         link = c.args.link;
         fresh = c.requires.fresh;
         answers = answers;
-        session = subst (λ s. Session s c.args.lines.items answers played.pump
+        session = session;
+        counted = known.counts;
+        reported = reported;
+        shown = end_shows (client_of c.args.capacity) c.args.lines.items answers played.pump
             (g.L.Link.left c.args.link) (g.L.Link.left played.link)
             (g.L.Link.contents c.args.link) (g.L.Link.contents played.link)
-            played.client.state.past played.client.tickets) c.setup.ensures known.session;
-        counted = known.counts;
-        reported = subst (λ ls. Reports ls answers played.pump c.match-report.end text) same told;
+            played.client.state.past played.client.tickets session c.match-report.end text
+            reported;
       },
       subst (λ t. EndWrites c.write_report-end.result (ended.Played c.match-report.end) t
           (g.K.Sink.contents c.args.output.now) (g.K.Sink.contents c.write_report-end.new.output))

@@ -1,0 +1,42 @@
+-- What a run of a script comes to, and what its status rests on.
+use Rattle.std.specs.Prelude.{◌≡◌, ℕ, List, Option, Some, Result, Ok, Err}
+use Rattle.edge_links.specs.declared.counts.Counts.{Counts}
+use Rattle.edge_lines.specs.declared.lines.SinkFailed.{SinkFailed}
+use Rattle.command_line.specs.declared.settings.Asked.TheVariants as asked
+use Rattle.command_line.specs.declared.settings.ScriptSettings.{ScriptSettings}
+use Rattle.command_line.specs.Commands.{command_of}
+use Rattle.script_run.specs.declared.reports.SessionEnd.TheVariants as ended
+use Rattle.script_program.specs.declared.run.ScriptEnd.{ScriptEnd}
+use Rattle.script_program.specs.declared.run.ScriptEnd.TheVariants as end
+use Rattle.script_program.specs.declared.run.ScriptSession.{ScriptSession}
+use Rattle.script_program.specs.Written.{WritesScript}
+use Rattle.redis_program.specs.declared.status.Status.{Status}
+use Rattle.redis_program.specs.declared.status.Status.TheVariants as status
+
+-- the words ask for a script
+abbrev pub AsksForScript : List (List ℕ) → Type 0
+AsksForScript words =
+    (settings : ScriptSettings) × (command_of words ≡ Some (asked.Script settings))
+
+-- the status of what was written of a script
+abbrev pub script_status : Result ScriptEnd SinkFailed → Status
+script_status (Ok (end.Played ended.Done)) = status.Done
+script_status (Ok (end.Played (ended.LinkEnded number))) = status.LinkEnded
+script_status (Ok (end.Played ended.HistoryFull)) = status.HistoryFull
+script_status (Ok (end.Played ended.NoMemory)) = status.NoMemory
+script_status (Ok (end.Played ended.Worn)) = status.Worn
+script_status (Ok (end.BadLine number)) = status.BadLine
+script_status (Ok end.ReadFault) = status.ReadFault
+script_status (Ok end.NetFault) = status.NetFault
+script_status (Ok end.NoMemory) = status.NoMemory
+script_status (Err failed) = status.WriteFault
+
+-- What a run of a script comes to. `WritesScript` says what was read, played and written, and what
+-- the source and the net have counted.
+pub record ScriptGives {L : Type 0} (capacity : ℕ) (left contents : L → Option (List ℕ))
+    (counts : L → Counts) (input : Option (List ℕ)) (session : Option (ScriptSession L))
+    (answer : Status) (in0 in1 net0 net1 : Counts) (out0 out1 : Option (List ℕ)) : Type 0 where
+  pub end : Result ScriptEnd SinkFailed
+  pub status : answer ≡ script_status end
+  pub writes : WritesScript left contents counts capacity input session end in0 in1 net0 net1 out0
+      out1

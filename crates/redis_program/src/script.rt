@@ -1,0 +1,70 @@
+//! The run of a script, by its settings, and its status.
+ghost use Rattle.std.specs.Prelude.{◌≡◌, ◌<◌, ◌≤◌, None};
+ghost use Rattle.edge_links.specs.Counts.{Counted};
+ghost use Rattle.redis_program.specs.declared.status.Status.TheVariants as status;
+ghost use Rattle.redis_program.specs.Scripting.{ScriptGives, script_status};
+
+use super::dispatch::Outcome;
+use super::status::Status;
+use command_line::ScriptSettings;
+use edge_lines::SinkFailed;
+use edge_links::{Net, Sink, Source};
+use script_program::{ScriptEnd, WrittenScript, play_and_write};
+use script_run::SessionEnd;
+use std::alloc::Global;
+use std::sync::Wait;
+use std::thread::Threads;
+
+/// Reads the script on the input, plays it over a link that the net dials, and writes the answers
+/// in the order of the lines. The last line of what is written says how the run ended, unless each
+/// line was answered or the sink failed.
+pub fn run_script<R: Threads + Wait + Sync, S: Source, K: Sink, N: Net>(
+    rt: &R,
+    alloc: Global,
+    settings: &ScriptSettings,
+    input: &mut S,
+    output: &mut K,
+    net: &mut N,
+) -> Outcome<N>
+    requires some { 0 < settings.now.capacity }
+    requires most { settings.now.capacity ≤ 1000000 }
+    ensures script { ScriptGives settings.now.capacity N.Link.left N.Link.contents N.Link.counts
+        (S.left input.old) result.session result.status (S.counts input.old) (S.counts input.new)
+        (N.counts net.old) (N.counts net.new) (K.contents output.old) (K.contents output.new) }
+    ensures unserved { result.served ≡ None }
+    ensures write { result.status ≡ status.WriteFault
+        → Counted (K.counts output.old).faults (K.counts output.new).faults }
+{
+    let WrittenScript { session, end } = play_and_write(
+        rt,
+        alloc,
+        settings.capacity,
+        settings.connect.host.as_str(),
+        settings.connect.port,
+        input,
+        output,
+        net,
+    );
+    Outcome {
+        status: status_of(end),
+        served: None,
+        session,
+    }
+}
+
+fn status_of(end: Result<ScriptEnd, SinkFailed>) -> Status
+    ensures { result ≡ script_status end }
+{
+    match end {
+        Ok(ScriptEnd::Played(SessionEnd::Done)) => Status::Done,
+        Ok(ScriptEnd::Played(SessionEnd::LinkEnded(_))) => Status::LinkEnded,
+        Ok(ScriptEnd::Played(SessionEnd::HistoryFull)) => Status::HistoryFull,
+        Ok(ScriptEnd::Played(SessionEnd::NoMemory)) => Status::NoMemory,
+        Ok(ScriptEnd::Played(SessionEnd::Worn)) => Status::Worn,
+        Ok(ScriptEnd::BadLine(_)) => Status::BadLine,
+        Ok(ScriptEnd::ReadFault) => Status::ReadFault,
+        Ok(ScriptEnd::NetFault) => Status::NetFault,
+        Ok(ScriptEnd::NoMemory) => Status::NoMemory,
+        Err(SinkFailed) => Status::WriteFault,
+    }
+}

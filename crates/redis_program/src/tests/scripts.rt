@@ -1,0 +1,235 @@
+//! Scripts over a link in memory that answers as a server would.
+use super::super::dispatch::{Outcome, run};
+use super::super::script_fault::find_script_fault;
+use super::{text_bytes, words_of};
+use edge_links::{
+    Dialled, FixedClock, LinkStep, ListedNet, MemoryLink, MemorySink, MemorySource, Net,
+};
+use std::alloc::{AllocError, Global};
+use std::sync::Wait;
+use std::test::Fail;
+use std::thread::Threads;
+
+/// A text in which `;` stands for the end of a line of the protocol.
+fn bytes_of(alloc: Global, text: &str) -> Result<Vec<u8>, AllocError> {
+    let mut bytes = Vec::new(alloc);
+    for byte in text.bytes() {
+        match byte {
+            b';' => bytes.extend_from_slice(b"\r\n")?,
+            _ => bytes.push(byte)?,
+        }
+    }
+    Ok(bytes)
+}
+
+/// The steps of a link, as commas part them: waits for so many bytes, a failure, and pieces. `both`
+/// awaits 100 bytes for 10,000,000 reads.
+fn steps_of(alloc: Global, text: &str) -> Result<Vec<LinkStep>, AllocError> {
+    let mut steps = Vec::new(alloc);
+    for word in text.split(',') {
+        steps.push(match word {
+            "fail" => LinkStep::Fail,
+            "both" => LinkStep::Await {
+                bytes: 100,
+                reads: 10_000_000,
+            },
+            _ => match word.parse::<u64>() {
+                Ok(count) => LinkStep::Wait(count),
+                Err(_) => LinkStep::Bytes(bytes_of(alloc, word)?),
+            },
+        })?;
+    }
+    Ok(steps)
+}
+
+/// A net where the host `cache:a` gives a link at port 7 with these steps; where they are `none`
+/// the dial fails.
+fn net_with(alloc: Global, steps: &str) -> Result<ListedNet, AllocError> {
+    let link = match steps {
+        "none" => None,
+        _ => match MemoryLink::new(alloc, 1000, steps_of(alloc, steps)?) {
+            Ok(link) => Some(link),
+            Err(_) => return Err(AllocError),
+        },
+    };
+    let mut host = String::new(alloc);
+    host.push_str("cache:a")?;
+    let mut dials = Vec::new(alloc);
+    dials.push(Dialled {
+        host,
+        port: 7,
+        link,
+    })?;
+    Ok(ListedNet::new(Vec::new(alloc), dials))
+}
+
+/// A script whose lines commas part here.
+fn source_of(alloc: Global, script: &str) -> Result<MemorySource, AllocError> {
+    let mut bytes = text_bytes(alloc, script)?;
+    for byte in bytes.as_mut_slice() {
+        if *byte == b',' {
+            *byte = b'\n';
+        }
+    }
+    Ok(MemorySource::new(bytes, Vec::new(alloc)))
+}
+
+/// What a run came to: its status, what it printed, and what it wrote to the link behind the
+/// handshake: `none` where no session was played, and `nothing` where that is no byte.
+#[derive(Drop)]
+struct Came {
+    status: u8,
+    printed: String,
+    sent: String,
+}
+
+const HANDSHAKE: usize = 60;
+
+/// A text in which `;` stands for the end of a line.
+fn told(alloc: Global, bytes: &[u8]) -> Result<String, AllocError> {
+    let mut text = String::new(alloc);
+    for byte in bytes {
+        match *byte {
+            b'\r' => {}
+            b'\n' => text.push(';')?,
+            byte => text.push(char::from(byte))?,
+        }
+    }
+    Ok(text)
+}
+
+fn came_of(
+    alloc: Global,
+    outcome: &Outcome<ListedNet>,
+    printed: &[u8],
+) -> Result<Came, AllocError> {
+    let sent = match &outcome.session {
+        Some(session) => session.link.bytes().get(HANDSHAKE..).unwrap_or(b""),
+        None => b"none",
+    };
+    let sent = if sent.is_empty() { b"nothing" } else { sent };
+    Ok(Came {
+        status: outcome.status.number(),
+        printed: told(alloc, printed)?,
+        sent: told(alloc, sent)?,
+    })
+}
+
+fn play<R: Threads + Wait + Sync>(
+    rt: &R,
+    alloc: Global,
+    options: &str,
+    script: &str,
+    net: &mut ListedNet,
+) -> Result<Came, Fail> {
+    let line = format!(in alloc; "script {options}")?;
+    let words = words_of(alloc, line.as_str())?;
+    let words = words.as_slice();
+    let clock = FixedClock { ms: 0 };
+    let mut source = source_of(alloc, script)?;
+    let mut sink = MemorySink::new(alloc, 1000, Vec::new(alloc))?;
+    let outcome = run(rt, alloc, words, &mut source, &mut sink, net, &clock);
+    Ok(came_of(alloc, &outcome, sink.bytes())?)
+}
+
+/// Options, a script, the steps of its link, the status, what is printed, and what is sent behind
+/// the handshake.
+const ROWS: &str = "\
+--connect cache:a:7 = 1 ask GET foo,1 ask GET foo = 60,%0;+OK;,82,_;,83 = 0 \
+= 1 answer 3 _\\r\\n;2 hit 3 _\\r\\n; = *2;$3;GET;$3;foo;
+--connect cache:a:7 = 1 do SET a 1,1 ask GET a = 60,%0;+OK;,87,+OK;,107,$1;1;,108 = 0 \
+= 1 answer +OK\\r\\n;2 answer 4 $1\\r\\n1\\r\\n; = *3;$3;SET;$1;a;$1;1;*2;$3;GET;$1;a;
+--connect cache:a:7 = 1 ask GET a,1 do PING,1 ask GET a \
+= 60,%0;+OK;,80,$1;1;,94,>2;$10;invalidate;*1;$1;a;+PONG;,114,$1;2;,115 = 0 \
+= 1 answer 3 $1\\r\\n1\\r\\n;2 answer +PONG\\r\\n;3 answer 5 $1\\r\\n2\\r\\n; \
+= *2;$3;GET;$1;a;*1;$4;PING;*2;$3;GET;$1;a;
+--connect=cache:a:7 --capacity=1 = 1 ask GET a,1 ask GET b,1 ask GET a \
+= 60,%0;+OK;,80,_;,100,_;,120,_;,121 = 0 \
+= 1 answer 3 _\\r\\n;2 answer 4 _\\r\\n;3 answer 5 _\\r\\n; \
+= *2;$3;GET;$1;a;*2;$3;GET;$1;b;*2;$3;GET;$1;a;
+--connect cache:a:7 = 1 do GET a,2 do GET a = 60,%0;+OK;,both,$1;1;$1;1;,101 = 0 \
+= 1 answer $1\\r\\n1\\r\\n;2 answer $1\\r\\n1\\r\\n; = *2;$3;GET;$1;a;*2;$3;GET;$1;a;
+--connect cache:a:7 = 1 ask GET foo,1 ask GET foo = 60,%0;+OK;,82 = 8 \
+= 1 down;2 down;link-ended main 1; = *2;$3;GET;$3;foo;
+--connect cache:a:7 = 1 ask GET foo = 60,%0;+OK;,82,fail = 8 = 1 down;link-ended main 2; \
+= *2;$3;GET;$3;foo;
+--connect cache:a:7 = 1 ask GET foo = 60,%0;+OK;,82,*x = 8 = 1 down;link-ended main 3; \
+= *2;$3;GET;$3;foo;
+--connect cache:a:7 = 1 ask GET foo = 60,$5;hello; = 8 = 1 down;link-ended main 4; = nothing
+--connect cache:a:7 = 1 ask GET foo = none = 6 = net-fault; = none
+--connect cache:7 = 1 ask GET foo = 60,%0;+OK;,82,_;,83 = 6 = net-fault; = none
+--connect cache:a:8 = 1 ask GET foo = 60,%0;+OK;,82,_;,83 = 6 = net-fault; = none
+--connect cache:a:7 = 1 do SET a 1,9 ask GET a = 60,%0;+OK;,87,+OK;,88 = 3 = bad-line 2; = none
+--connect cache:a:7 = 1 do SET a 1,1 ask SET a 1 = 60,%0;+OK;,87,+OK;,88 = 3 = bad-line 2; = none
+--connect cache:a:7 = 1 do SET a 1,1 do HELLO 3 = 60,%0;+OK;,87,+OK;,88 = 3 = bad-line 2; = none
+--connect cache:a:7 --resp 3 = 1 do SET a 1 = 60,%0;+OK;,87,+OK;,88 = 2 = usage; = none
+--connect cache:a:7 --noloop = 1 do SET a 1 = 60,%0;+OK;,87,+OK;,88 = 2 = usage; = none
+--capacity 5 = 1 do SET a 1 = 60,%0;+OK;,87,+OK;,88 = 2 = usage; = none";
+
+#[test]
+fn a_script_is_played_once_over_the_link_that_its_words_name(rt: HostRuntime) -> Result<(), Fail> {
+    let alloc = rt.alloc();
+    for row in ROWS.lines() {
+        let mut parts = row.split(" = ");
+        let options = parts.next().unwrap_or("");
+        let script = parts.next().unwrap_or("");
+        let mut net = net_with(alloc, parts.next().unwrap_or(""))?;
+        let status = parts.next().unwrap_or("").parse::<u8>().unwrap_or(1);
+        let printed = parts.next().unwrap_or("");
+        let came = play(&rt, alloc, options, script, &mut net)?;
+        assert!(rt; came.status == status, "{row}: {}", came.status);
+        assert!(rt; came.printed.as_str() == printed, "{row}: {}", came.printed);
+        let sent = parts.next().unwrap_or("");
+        assert!(rt; came.sent.as_str() == sent, "{row}: {}", came.sent);
+        // What is not played has dialled nothing.
+        let is_there = net.dial("cache:a", 7).is_ok();
+        assert!(rt; is_there == (status == 2 || status == 3), "{row}");
+    }
+    Ok(())
+}
+
+#[test]
+fn a_script_of_no_lines_prints_nothing(rt: HostRuntime) -> Result<(), Fail> {
+    let alloc = rt.alloc();
+    let mut net = net_with(alloc, "60,%0;+OK;,61")?;
+    let came = play(&rt, alloc, "--connect cache:a:7", "", &mut net)?;
+    assert_eq!(rt; came.status, 0);
+    assert!(rt; came.sent.as_str() != "none");
+    assert!(rt; came.printed.is_empty());
+    Ok(())
+}
+
+#[test]
+fn a_person_is_told_what_is_wrong_with_a_line_of_a_script(rt: HostRuntime) -> Result<(), Fail> {
+    let alloc = rt.alloc();
+    for (line, wanted) in [
+        ("", "it is empty, and a script has no empty lines"),
+        ("# first", "a script has no comments"),
+        (
+            "1 do PING\r",
+            "it ends in a carriage return, and lines end in a line feed alone",
+        ),
+        ("1  do PING", "one space, and no more, parts its words"),
+        ("9 do PING", "`9` is no thread, which is a number of 1 to 8"),
+        ("raw r", "`raw` is no thread, which is a number of 1 to 8"),
+        (
+            "1 say PING",
+            "`say` is no kind of line; kinds are ask and do",
+        ),
+        (
+            "1 ask SET foo bar",
+            "its form is `N ask WORD..`, the words of a query that the cache may hold, as \
+             1 ask GET foo",
+        ),
+        (
+            "1 do HELLO 3",
+            "its form is `N do WORD..`, each word in its printed form, and the command none that \
+             sets a connection up, as HELLO does",
+        ),
+    ] {
+        let fault = find_script_fault(1, line.as_bytes());
+        let told = format!(in alloc; "{fault}")?;
+        assert!(rt; told.as_str() == wanted, "{line}: {told}");
+    }
+    Ok(())
+}

@@ -1,0 +1,41 @@
+//! A client's pump, and sessions of scripts, over links in memory.
+ghost use Rattle.std.specs.Prelude.{◌≡◌, ◌<◌};
+ghost use Rattle.shared_cache.specs.ClientFields.{IsServed};
+
+mod pumps;
+mod sessions;
+
+use resp_value::Proto;
+use shared_cache::{Caching, ClientMode, Shape};
+use shared_client::ClientSetup;
+use std::alloc::{AllocError, Global};
+
+/// A text in which `;` stands for the end of a line.
+fn bytes_of(alloc: Global, text: &str) -> Result<Vec<u8>, AllocError> {
+    let mut bytes = Vec::new(alloc);
+    for byte in text.bytes() {
+        match byte {
+            b';' => bytes.extend_from_slice(b"\r\n")?,
+            _ => bytes.push(byte)?,
+        }
+    }
+    Ok(bytes)
+}
+
+/// A client of ten keys, with a log of so many entries.
+fn setup_of(log_max: u64) -> ClientSetup
+    ensures mode { IsServed result.mode }
+    ensures capacity { result.capacity ≡ 10 }
+    ensures log_max { 0 < result.log_max }
+{
+    ClientSetup {
+        mode: ClientMode {
+            shape: Shape::Single,
+            proto: Proto::Three,
+            caching: Caching::Default,
+            noloop: false,
+        },
+        capacity: 10,
+        log_max: log_max.max(1),
+    }
+}

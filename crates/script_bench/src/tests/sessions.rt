@@ -1,0 +1,117 @@
+//! Sessions of scripts over a link in memory.
+ghost use Rattle.std.specs.Prelude.{◌≡◌, IfOk, length};
+ghost use Rattle.std.specs.List.{All};
+ghost use Rattle.script_text.specs.Scripts.{IsValidLine, most_threads};
+
+use super::{bytes_of, setup_of};
+use edge_links::{LinkStep, MemoryLink};
+use script_run::*;
+use script_text::{ScriptLine, read_script_line};
+use std::alloc::{AllocError, Global};
+use std::test::Fail;
+
+/// The steps of a link, as commas part them: waits for so many bytes, and pieces. `both` awaits 100
+/// bytes for 10,000,000 reads.
+fn steps_of(alloc: Global, text: &str) -> Result<Vec<LinkStep>, AllocError> {
+    let mut steps = Vec::new(alloc);
+    for word in text.split(',') {
+        steps.push(match word {
+            "fail" => LinkStep::Fail,
+            "both" => LinkStep::Await {
+                bytes: 100,
+                reads: 10_000_000,
+            },
+            _ => match word.parse::<u64>() {
+                Ok(count) => LinkStep::Wait(count),
+                Err(_) => LinkStep::Bytes(bytes_of(alloc, word)?),
+            },
+        })?;
+    }
+    Ok(steps)
+}
+
+fn lines_of(alloc: Global, text: &str) -> Result<Vec<ScriptLine>, AllocError>
+    ensures { IfOk result (λ lines. All IsValidLine lines.items) }
+{
+    let mut lines = Vec::new(alloc);
+    for line in text.split(',') {
+        let Ok(Some(line)) = read_script_line(alloc, line.as_bytes()) else {
+            return Err(AllocError);
+        };
+        lines.push(line)?;
+    }
+    Ok(lines)
+}
+
+/// Scripts, the steps of their links, the most entries, what is printed, how the session ends and
+/// the number of its pump's end.
+const ROWS: &str = "\
+1 ask GET foo,1 ask GET foo = 60,%0;+OK;,82,_;,83 = 100 \
+= 1 answer 3 _\\r\\n;2 hit 3 _\\r\\n; = Done 5
+1 ask GET foo = 60,$5;hello; = 100 = 1 down; = LinkEnded(4) 4
+1 ask GET foo = 60,%0;+OK;,82 = 100 = 1 down; = LinkEnded(1) 1
+1 ask GET foo = 60,%0;+OK;,82,fail = 100 = 1 down; = LinkEnded(2) 2
+1 ask GET foo = 60,%0;+OK;,82,*x = 100 = 1 down; = LinkEnded(3) 3
+1 do GET a,2 do GET a = 60,%0;+OK;,both,$1;1;$1;1;,101 = 100 \
+= 1 answer $1\\r\\n1\\r\\n;2 answer $1\\r\\n1\\r\\n; = Done 5
+1 ask GET foo = 60,%0;+OK;,82,_; = 1 = 1 down; = HistoryFull 7";
+
+/// A text in which each LF is a `;`.
+fn shown(alloc: Global, text: &[u8]) -> Result<String, AllocError> {
+    let mut printed = String::new(alloc);
+    for byte in text {
+        printed.push(if *byte == b'\n' {
+            ';'
+        } else {
+            char::from(*byte)
+        })?;
+    }
+    Ok(printed)
+}
+
+/// What a session prints, how it ends, and by what number its pump did.
+fn told(alloc: Global, played: &mut Played<MemoryLink>) -> Result<(String, String), Fail>
+    requires lines { All IsValidLine played.old.lines.items }
+    requires answers { length played.old.answers.items ≡ most_threads }
+{
+    let mut text = Vec::new(alloc);
+    let end = report(
+        played.lines.as_slice(),
+        &mut played.answers,
+        played.pump,
+        &mut text,
+    )?;
+    let number = played.pump.number();
+    let end = format!(in alloc; "{end:?} {number}")?;
+    Ok((shown(alloc, text.as_slice())?, end))
+}
+
+/// The same of a script over a link that steps so.
+fn said<R: std::thread::Threads + std::sync::Wait + Sync>(
+    rt: &R,
+    alloc: Global,
+    script: &str,
+    steps: &str,
+    log_max: u64,
+) -> Result<(String, String), Fail> {
+    let lines = lines_of(alloc, script)?;
+    let link = MemoryLink::new(alloc, 1000, steps_of(alloc, steps)?)?;
+    let mut played = play_script(rt, alloc, setup_of(log_max), lines, link)?;
+    told(alloc, &mut played)
+}
+
+#[test]
+fn a_session_prints_what_its_lines_came_to(rt: HostRuntime) -> Result<(), Fail> {
+    for row in ROWS.lines() {
+        let mut parts = row.split(" = ");
+        let script = parts.next().unwrap_or("");
+        let steps = parts.next().unwrap_or("");
+        let most = parts.next().unwrap_or("").parse::<u64>().unwrap_or(0);
+        let want = parts.next().unwrap_or("");
+        let end = parts.next().unwrap_or("");
+        let came = said(&rt, rt.alloc(), script, steps, most)?;
+        assert!(rt; came.0.as_str() == want, "{row}: {}", came.0);
+        assert!(rt; came.1.as_str() == end, "{row}: {}", came.1);
+    }
+    Ok(())
+}

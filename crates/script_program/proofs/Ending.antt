@@ -1,0 +1,355 @@
+-- What the end of a session shows of its log and of its tickets.
+use Rattle.std.proofs.Common.{◌≡◌, ◌≤◌, ◌+◌, ◌∙◌, inl, inr, ℕ, suc, zero, List, [], ◌∷◌, Bool}
+use Rattle.std.proofs.Common.{true, false, cond, length, refl, sym, ap, subst, arith}
+use Rattle.std.specs.Prelude.{Option, Some, None, ◌⊎◌, ◌||◌, ◌==◌, ◌-◌, not, ⊤}
+use Rattle.command_words.specs.Control.{is_control}
+use Rattle.turn_lock.specs.History.{IsPrefix, entries}
+use Rattle.turn_lock.specs.declared.rule.TheConstants.{LAST_TICKET}
+use Rattle.shared_cache.specs.declared.log.Wire.TheVariants.{Main}
+use Rattle.shared_cache.specs.declared.log.LogEntry.{LogEntry}
+use Rattle.shared_cache.specs.declared.log.LogEntry.TheVariants as entry
+use Rattle.shared_cache.specs.declared.log.ClientReply.{ClientReply}
+use Rattle.shared_cache.specs.declared.log.ClientReply.TheVariants as reply
+use Rattle.shared_cache.specs.declared.log.ClientRefusal.{ClientRefusal}
+use Rattle.shared_cache.specs.declared.log.ClientRefusal.TheVariants as refusal
+use Rattle.shared_cache.specs.Held.{Setup, held, held_for}
+use Rattle.shared_cache.specs.Log.{is_ended, is_ready}
+use Rattle.shared_cache.specs.Steps.{ClientTurn, answer_ask, client_step, command_number}
+use Rattle.shared_cache.specs.Steps.{is_log_full, read_number, refusing}
+use Rattle.shared_client.specs.Turns.{Turn, setup_at, setup_in}
+use Rattle.client_link.specs.declared.pump_end.PumpEnd.{PumpEnd}
+use Rattle.client_link.specs.declared.pump_end.PumpEnd.TheVariants as pumped
+use Rattle.client_link.specs.Pumps.{end_number}
+use Rattle.client_link.proofs.Steps.{full_begins}
+use Rattle.script_text.specs.declared.answer_line.ScriptAnswer.TheVariants as said
+use Rattle.script_text.specs.declared.script_line.ScriptCall.{ScriptCall}
+use Rattle.script_text.specs.declared.script_line.ScriptCall.TheVariants.{Ask, Do}
+use Rattle.script_text.specs.declared.script_line.ScriptLine.{ScriptLine}
+use Rattle.script_run.specs.declared.answer.Answer.{Answer}
+use Rattle.script_run.specs.declared.answer.Answer.TheVariants.{Hit, Read, Reply, Refused}
+use Rattle.script_run.specs.declared.reports.LineEnd.{LineEnd}
+use Rattle.script_run.specs.declared.reports.LineEnd.TheVariants as line
+use Rattle.script_run.specs.declared.reports.SessionEnd.{SessionEnd}
+use Rattle.script_run.specs.declared.reports.SessionEnd.TheVariants as ended
+use Rattle.script_run.specs.declared.reports.Tally.{Tally}
+use Rattle.script_run.specs.Lines.{AllCame, Came, NoAnswer, RefusedBy, ThreadsCame, Unplayed}
+use Rattle.script_run.specs.Lines.{call_for, calls_of}
+use Rattle.script_run.specs.Reports.{ends_of, first_at, first_of, is_printing, line_end, no_tally}
+use Rattle.script_run.specs.Reports.{note_end, refused_end, rest_at, rest_of, session_end}
+use Rattle.script_run.specs.Reports.{tally_after}
+use Rattle.script_run.specs.Session.{PumpedBy, Session}
+use Rattle.script_program.specs.Written.{EndShows, Reports}
+
+-- ---- who was told that the log is full has seen it so
+
+abbrev Answered : ClientTurn → ClientRefusal → List LogEntry → Type 0
+Answered turn r log = turn ≡ record { reply = reply.Refused r; past = log }
+
+longer : (e : LogEntry) (log : List LogEntry) (turn : ClientTurn) (r : ClientRefusal)
+    → turn.past ≡ e ∷ log → Answered turn r log → ⊥
+longer e log turn r p is =
+    let l : length (e ∷ log) ≡ length log =
+    ap length (sym p ∙ ap (λ (t : ClientTurn). t.past) is) in omega (arith, l)
+
+other : (a b : ClientReply) (log new : List LogEntry)
+    → ◌≡◌ {A = ClientTurn} (record { reply = a; past = log }) (record { reply = b; past = new })
+    → a ≡ b
+other a b log new is = ap (λ (t : ClientTurn). t.reply) is
+
+module _ (log : List LogEntry) (n : ℕ) where
+  ask_full_in : (over ready full : Bool) (turn : ClientTurn) (e : LogEntry) → turn.past ≡ e ∷ log
+      → Answered (cond over (refusing (refusal.Down Main) log)
+      (cond (not ready) (refusing refusal.NotReady log)
+      (cond full (refusing (refusal.LogFull (length log)) log) turn))) (refusal.LogFull n) log
+      → full ≡ true
+  ask_full_in true ready full turn e p is =
+      absurd (let x = other _ _ log log is in let no : ⊥ = cc in no)
+  ask_full_in false false full turn e p is =
+      absurd (let x = other _ _ log log is in let no : ⊥ = cc in no)
+  ask_full_in false true true turn e p is = refl
+  ask_full_in false true false turn e p is = absurd (longer e log turn (refusal.LogFull n) p is)
+
+  send_full_in : (over ready control full : Bool) (turn : ClientTurn) (e : LogEntry)
+      → turn.past ≡ e ∷ log
+      → Answered (cond over (refusing (refusal.Down Main) log)
+      (cond (not ready) (refusing refusal.NotReady log)
+      (cond control (refusing refusal.Control log)
+      (cond full (refusing (refusal.LogFull (length log)) log) turn)))) (refusal.LogFull n) log
+      → full ≡ true
+  send_full_in true ready control full turn e p is =
+      absurd (let x = other _ _ log log is in let no : ⊥ = cc in no)
+  send_full_in false false control full turn e p is =
+      absurd (let x = other _ _ log log is in let no : ⊥ = cc in no)
+  send_full_in false true true full turn e p is =
+      absurd (let x = other _ _ log log is in let no : ⊥ = cc in no)
+  send_full_in false true false true turn e p is = refl
+  send_full_in false true false false turn e p is =
+      absurd (longer e log turn (refusal.LogFull n) p is)
+
+call_full : (s : Setup) (log : List LogEntry) (n : ℕ) (c : ScriptCall)
+    → Answered (client_step s log (call_for c)) (refusal.LogFull n) log
+    → is_log_full s log ≡ true
+unfolding client_step
+call_full s log n (Ask q) is =
+    ask_full_in log n (is_ended s.mode Main log) (is_ready s.mode log) (is_log_full s log)
+    (record {
+      reply = answer_ask (held_for q (held s log)) (read_number s log q);
+      past = entry.Ask q ∷ log;
+    }) (entry.Ask q) refl is
+call_full s log n (Do ws) is =
+    send_full_in log n (is_ended s.mode Main log) (is_ready s.mode log) (is_control ws)
+    (is_log_full s log)
+    (record { reply = reply.Sent (command_number s log ws); past = entry.Send ws ∷ log })
+    (entry.Send ws) refl is
+
+-- ---- what the end of a line shows
+
+abbrev LineShows : LineEnd → Setup → List LogEntry → ℕ → Type 0
+LineShows line.LogFull s log tickets = is_log_full s log ≡ true
+LineShows line.Worn s log tickets = LAST_TICKET ≤ tickets
+LineShows (line.Said a) s log tickets = ⊤
+LineShows line.NoMemory s log tickets = ⊤
+
+shows_more : (x : LineEnd) (s : Setup) (seen log : List LogEntry) (t tickets : ℕ)
+    → IsPrefix seen log → t ≤ tickets → LineShows x s seen t → LineShows x s log tickets
+shows_more line.LogFull s seen log t tickets p le h = full_begins s seen log p h
+shows_more line.Worn s seen log t tickets p le h = omega (arith, le, h)
+shows_more (line.Said a) s seen log t tickets p le h = tt
+shows_more line.NoMemory s seen log t tickets p le h = tt
+
+refused_full : (s : Setup) (c : ScriptCall) (n : ℕ) (ts : List Turn) (seen : List LogEntry) (t : ℕ)
+    → RefusedBy s c (refusal.LogFull n) ts seen t → is_log_full s seen ≡ true
+refused_full s c n ts seen t (Unplayed e why) = call_full s seen n c why.1
+refused_full s c n ts seen t (NoAnswer m past e step why) = absurd why.0
+
+refused_worn : (s : Setup) (c : ScriptCall) (ts : List Turn) (seen : List LogEntry) (t : ℕ)
+    → RefusedBy s c refusal.Worn ts seen t → LAST_TICKET ≤ t
+refused_worn s c ts seen t (Unplayed e why) = why
+refused_worn s c ts seen t (NoAnswer m past e step why) = why
+
+refused_shows : (s : Setup) (c : ScriptCall) (r : ClientRefusal) (ts : List Turn)
+    (seen : List LogEntry) (t : ℕ) → RefusedBy s c r ts seen t
+    → LineShows (refused_end r) s seen t
+refused_shows s c (refusal.LogFull n) ts seen t h = refused_full s c n ts seen t h
+refused_shows s c refusal.Worn ts seen t h = refused_worn s c ts seen t h
+refused_shows s c (refusal.Down w) ts seen t h = tt
+refused_shows s c (refusal.Unexpected w) ts seen t h = tt
+refused_shows s c (refusal.BadPush w) ts seen t h = tt
+refused_shows s c refusal.NoMemory ts seen t h = tt
+refused_shows s c (refusal.SetupRefused w) ts seen t h = tt
+refused_shows s c refusal.NotReady ts seen t h = tt
+refused_shows s c refusal.Control ts seen t h = tt
+refused_shows s c (refusal.NoNumber n) ts seen t h = tt
+
+came_shows : (s : Setup) (c : ScriptCall) (a : Answer) (ts : List Turn) (seen : List LogEntry)
+    (t : ℕ) → Came s c a ts seen t → LineShows (line_end (Some a)) s seen t
+came_shows s c (Hit m v) ts seen t h = tt
+came_shows s c (Read m v) ts seen t h = tt
+came_shows s c (Reply v) ts seen t h = tt
+came_shows s (Ask q) (Refused r) ts seen t h = refused_shows s (Ask q) r ts seen t h
+came_shows s (Do ws) (Refused r) ts seen t h = refused_shows s (Do ws) r ts seen t h
+
+-- ---- the answers that end a line so
+
+module _ (x : LineEnd) where
+  abbrev AnyEnds : List Answer → Type 0
+  AnyEnds [] = ⊥
+  AnyEnds (a ∷ rs) = (line_end (Some a) ≡ x) ⊎ AnyEnds rs
+
+  abbrev HasEnds : List (List Answer) → Type 0
+  HasEnds [] = ⊥
+  HasEnds (rs ∷ all) = AnyEnds rs ⊎ HasEnds all
+
+  abbrev AnyLine : List LineEnd → Type 0
+  AnyLine [] = ⊥
+  AnyLine (e ∷ ends) = (e ≡ x) ⊎ AnyLine ends
+
+  all_show : (s : Setup) (cs : List ScriptCall) (rs : List Answer) (ts : List Turn)
+      (log : List LogEntry) (t : ℕ) → AllCame s cs rs ts log t → AnyEnds rs → LineShows x s log t
+  all_show s cs [] ts log t h d = absurd d
+  all_show s [] (a ∷ rs) ts log t h d = absurd h
+  all_show s (c ∷ cs) (a ∷ rs) ts log t h d =
+      let i = h.3 in
+      elim d [
+        | inl is ↦ shows_more x s i.seen log i.ticket t i.begins i.not_more
+            (subst (λ y. LineShows y s i.seen i.ticket) is
+            (came_shows s c a h.0 i.seen i.ticket i.came))
+        | inr is ↦ all_show s cs rs h.1 log t h.4 is
+      ]
+
+  threads_show : (s : Setup) (lines : List ScriptLine) (thread : ℕ) (all : List (List Answer))
+      (ts : List Turn) (log : List LogEntry) (t : ℕ) → ThreadsCame s lines thread all ts log t
+      → HasEnds all → LineShows x s log t
+  threads_show s lines thread [] ts log t h d = absurd d
+  threads_show s lines thread (rs ∷ all) ts log t h d =
+      elim d [
+        | inl is ↦ all_show s (calls_of thread lines) rs h.0 log t h.3.came is
+        | inr is ↦ threads_show s lines (suc thread) all h.1 log t h.4 is
+      ]
+
+  module _ (some : x ≡ line.NoMemory → ⊥) where
+    first_ends : (rs : List Answer) → line_end (first_of rs) ≡ x → AnyEnds rs
+    first_ends [] h = absurd (some (sym h))
+    first_ends (a ∷ rs) h = inl h
+
+    first_has : (place : ℕ) (all : List (List Answer)) → line_end (first_at place all) ≡ x
+        → HasEnds all
+    first_has place [] h = absurd (some (sym h))
+    first_has zero (rs ∷ all) h = inl (first_ends rs h)
+    first_has (suc place) (rs ∷ all) h = inr (first_has place all h)
+
+    rest_ends : (rs : List Answer) → AnyEnds (rest_of rs) → AnyEnds rs
+    rest_ends [] h = h
+    rest_ends (a ∷ rs) h = inr h
+
+    rest_has : (place : ℕ) (all : List (List Answer)) → HasEnds (rest_at place all) → HasEnds all
+    rest_has place [] h = h
+    rest_has zero (rs ∷ all) h = elim h [ inl i ↦ inl (rest_ends rs i) | inr i ↦ inr i ]
+    rest_has (suc place) (rs ∷ all) h =
+        elim h [ inl i ↦ inl i | inr i ↦ inr (rest_has place all i) ]
+
+    lines_have : (lines : List ScriptLine) (all : List (List Answer)) → AnyLine (ends_of lines all)
+        → HasEnds all
+    lines_have [] all h = absurd h
+    lines_have (l ∷ lines) all h = elim h [
+      | inl i ↦ first_has (l.thread - 1) all i
+      | inr i ↦ rest_has (l.thread - 1) all (lines_have lines (rest_at (l.thread - 1) all) i)
+    ]
+
+-- ---- what a tally has noted
+
+module _ (flag : Tally → Bool) (x : LineEnd)
+    (noted : (t : Tally) (e : LineEnd) → flag (note_end t e) ≡ true
+    → (flag t ≡ true) ⊎ (e ≡ x)) where
+  tally_noted : (t : Tally) (ends : List LineEnd) → flag (tally_after t ends) ≡ true
+      → (flag t ≡ true) ⊎ AnyLine x ends
+  tally_noted t [] h = inl h
+  tally_noted t (e ∷ ends) h = elim (tally_noted (note_end t e) ends h) [
+    | inl k ↦ elim (noted t e k) [ inl m ↦ inl m | inr m ↦ inr (inl m) ]
+    | inr k ↦ inr (inr k)
+  ]
+
+full_noted : (t : Tally) (e : LineEnd) → (note_end t e).log_full ≡ true
+    → (t.log_full ≡ true) ⊎ (e ≡ line.LogFull)
+full_noted t (line.Said (said.Hit n v)) h = inl h
+full_noted t (line.Said (said.Read n v)) h = inl h
+full_noted t (line.Said (said.Reply v)) h = inl h
+full_noted t (line.Said said.Down) h = inl h
+full_noted t line.NoMemory h = inl h
+full_noted t line.LogFull h = inr refl
+full_noted t line.Worn h = inl h
+
+worn_noted : (t : Tally) (e : LineEnd) → (note_end t e).worn ≡ true
+    → (t.worn ≡ true) ⊎ (e ≡ line.Worn)
+worn_noted t (line.Said (said.Hit n v)) h = inl h
+worn_noted t (line.Said (said.Read n v)) h = inl h
+worn_noted t (line.Said (said.Reply v)) h = inl h
+worn_noted t (line.Said said.Down) h = inl h
+worn_noted t line.NoMemory h = inl h
+worn_noted t line.LogFull h = inl h
+worn_noted t line.Worn h = inr refl
+
+-- ---- why a session ends so
+
+full_in : (all some full by worn : Bool) (n : ℕ)
+    → cond all ended.Done (cond some ended.NoMemory (cond (full || by) ended.HistoryFull
+    (cond worn ended.Worn (ended.LinkEnded n)))) ≡ ended.HistoryFull
+    → (full ≡ true) ⊎ (by ≡ true)
+full_in true some full by worn n h = absurd (let no : ⊥ = cc in no)
+full_in false true full by worn n h = absurd (let no : ⊥ = cc in no)
+full_in false false true by worn n h = inl refl
+full_in false false false true worn n h = inr refl
+full_in false false false false true n h = absurd (let no : ⊥ = cc in no)
+full_in false false false false false n h = absurd (let no : ⊥ = cc in no)
+
+worn_in : (all some full worn by : Bool) (n : ℕ)
+    → cond all ended.Done (cond some ended.NoMemory (cond full ended.HistoryFull
+    (cond (worn || by) ended.Worn (ended.LinkEnded n)))) ≡ ended.Worn
+    → (worn ≡ true) ⊎ (by ≡ true)
+worn_in true some full worn by n h = absurd (let no : ⊥ = cc in no)
+worn_in false true full worn by n h = absurd (let no : ⊥ = cc in no)
+worn_in false false true worn by n h = absurd (let no : ⊥ = cc in no)
+worn_in false false false true by n h = inl refl
+worn_in false false false false true n h = inr refl
+worn_in false false false false false n h = absurd (let no : ⊥ = cc in no)
+
+module _ (s : Setup) (left0 left1 link0 link1 : Option (List ℕ)) (turns : List Turn)
+    (log : List LogEntry) (tickets : ℕ) where
+  abbrev By : PumpEnd → Type 0
+  By end = PumpedBy s end left0 left1 link0 link1 turns log tickets
+
+  full_pump : By pumped.LogFull → is_log_full s log ≡ true
+  full_pump k =
+      let is : setup_at k.after ≡ s = ap setup_in k.pumps.works.grows.setup ∙ k.setup_is in
+      let seen : List LogEntry = entries k.after.seen in
+      full_begins s seen log k.begins
+      (subst (λ z. is_log_full z seen ≡ true) is k.pumps.finishes.2)
+
+  worn_pump : By pumped.Worn → LAST_TICKET ≤ tickets
+  worn_pump k =
+      let le = k.not_more in let last = k.pumps.finishes.1 in omega (arith, le, last)
+
+  by_full : (end : PumpEnd) → (end_number end == 7) ≡ true → By end → is_log_full s log ≡ true
+  by_full pumped.PeerEnd h k = absurd (let no : ⊥ = cc in no)
+  by_full pumped.LinkFault h k = absurd (let no : ⊥ = cc in no)
+  by_full (pumped.BadStream f) h k = absurd (let no : ⊥ = cc in no)
+  by_full (pumped.Refused r) h k = absurd (let no : ⊥ = cc in no)
+  by_full pumped.Done h k = absurd (let no : ⊥ = cc in no)
+  by_full pumped.NoMemory h k = absurd (let no : ⊥ = cc in no)
+  by_full pumped.LogFull h k = full_pump k
+  by_full pumped.Worn h k = absurd (let no : ⊥ = cc in no)
+
+  by_worn : (end : PumpEnd) → (end_number end == 8) ≡ true → By end → LAST_TICKET ≤ tickets
+  by_worn pumped.PeerEnd h k = absurd (let no : ⊥ = cc in no)
+  by_worn pumped.LinkFault h k = absurd (let no : ⊥ = cc in no)
+  by_worn (pumped.BadStream f) h k = absurd (let no : ⊥ = cc in no)
+  by_worn (pumped.Refused r) h k = absurd (let no : ⊥ = cc in no)
+  by_worn pumped.Done h k = absurd (let no : ⊥ = cc in no)
+  by_worn pumped.NoMemory h k = absurd (let no : ⊥ = cc in no)
+  by_worn pumped.LogFull h k = absurd (let no : ⊥ = cc in no)
+  by_worn pumped.Worn h k = worn_pump k
+
+module _ (s : Setup) (lines : List ScriptLine) (answers : List (List Answer)) (pump : PumpEnd)
+    (left0 left1 link0 link1 : Option (List ℕ)) (log : List LogEntry) (tickets : ℕ)
+    (k : Session s lines answers pump left0 left1 link0 link1 log tickets) where
+  abbrev all : Tally
+  all = tally_after no_tally (ends_of lines answers)
+
+  line_shows : (x : LineEnd) → (x ≡ line.NoMemory → ⊥) → AnyLine x (ends_of lines answers)
+      → LineShows x s log tickets
+  line_shows x some any =
+      shows_more x s k.seen log tickets tickets k.begins (omega arith)
+      (threads_show x s lines 1 answers k.called k.seen tickets k.came
+      (lines_have x some lines answers any))
+
+  told_full : all.log_full ≡ true → is_log_full s log ≡ true
+  told_full h =
+      elim (tally_noted (λ t. t.log_full) line.LogFull full_noted no_tally
+      (ends_of lines answers) h) [
+        | inl off ↦ absurd (let clash : ⊥ = cc in clash)
+        | inr any ↦ line_shows line.LogFull (λ e. cc) any
+      ]
+
+  told_worn : all.worn ≡ true → LAST_TICKET ≤ tickets
+  told_worn h =
+      elim (tally_noted (λ t. t.worn) line.Worn worn_noted no_tally
+      (ends_of lines answers) h) [
+        | inl off ↦ absurd (let clash : ⊥ = cc in clash)
+        | inr any ↦ line_shows line.Worn (λ e. cc) any
+      ]
+
+  pub end_shows : (e : SessionEnd) (text : List ℕ) → Reports lines answers pump e text
+      → EndShows e s log tickets
+  end_shows ended.Done text h = tt
+  end_shows (ended.LinkEnded n) text h = tt
+  end_shows ended.NoMemory text h = tt
+  end_shows ended.HistoryFull text h =
+      elim (full_in _ _ all.log_full (end_number pump == 7) _ _ (sym h.1)) [
+        | inl told ↦ told_full told
+        | inr by ↦ by_full s left0 left1 link0 link1 k.pumped log tickets pump by k.pumps
+      ]
+  end_shows ended.Worn text h =
+      elim (worn_in _ _ _ all.worn (end_number pump == 8) _ (sym h.1)) [
+        | inl told ↦ told_worn told
+        | inr by ↦ by_worn s left0 left1 link0 link1 k.pumped log tickets pump by k.pumps
+      ]
