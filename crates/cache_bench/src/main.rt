@@ -14,7 +14,8 @@ use calls::{change_of_all, content, mode, welcome};
 use command_words::Query;
 use resp_value::{NoMemory, Value};
 use rounds::{
-    StdMaps, asks, changes, contents, copies, fills, goes_out, hits, is_noted, notices, queries,
+    StdMaps, asks, changes, contents, copies, copies_far_apart, fills, goes_out, hits, is_noted,
+    notices, queries,
 };
 use shared_cache::ClientState;
 use std::alloc::Global;
@@ -155,7 +156,8 @@ fn measure_notices<R: Runtime>(
     report(rt, what, count, began, times)
 }
 
-/// Rounds of turns on a client that holds every key below `keys`, and what std's maps take.
+/// Rounds of turns on a client that holds every key below `keys`, and what copies of values and
+/// std's maps take.
 fn measure_held<R: Runtime>(
     rt: &R,
     alloc: Global,
@@ -169,6 +171,7 @@ fn measure_held<R: Runtime>(
     measure_fills(rt, alloc, client, "first fills", 0, keys)?;
     measure_hits(rt, alloc, client, keys, times)?;
     measure_copies(rt, alloc, times)?;
+    measure_copies_far_apart(rt, alloc, keys, times)?;
     measure_maps(rt, alloc, keys, times)?;
     measure_changes(rt, alloc, client, keys, times)
 }
@@ -217,6 +220,34 @@ fn measure_copies_of<R: Runtime>(rt: &R, value: &Value, times: u64) -> Result<()
     let began = Instant::now(rt)?;
     let count = copies(value, times)?;
     report(rt, "copies", count, began, times)
+}
+
+/// Copies as hits make them: each of another value, which may have left the processor's caches.
+fn measure_copies_far_apart<R: Runtime>(
+    rt: &R,
+    alloc: Global,
+    keys: u64,
+    times: u64,
+) -> Result<(), Fault>
+    requires keys { 0 < keys }
+    requires times { 0 < times }
+{
+    let values = contents(alloc, keys)?;
+    measure_copies_among(rt, values.as_slice(), keys, times)
+}
+
+fn measure_copies_among<R: Runtime>(
+    rt: &R,
+    values: &[Value],
+    keys: u64,
+    times: u64,
+) -> Result<(), Fault>
+    requires keys { 0 < keys }
+    requires times { 0 < times }
+{
+    let began = Instant::now(rt)?;
+    let count = copies_far_apart(values, keys, times)?;
+    report(rt, "copies of values far apart", count, began, times)
 }
 
 fn measure_maps<R: Runtime>(rt: &R, alloc: Global, keys: u64, times: u64) -> Result<(), Fault>

@@ -109,7 +109,7 @@ pub fn asks(alloc: Global, client: &mut ClientState, keys: u64) -> Result<u64, N
     Ok(count)
 }
 
-/// Replies to that many queries.
+/// That many values.
 pub fn contents(alloc: Global, times: u64) -> Result<Vec<Value>, NoMemory> {
     let mut values = Vec::new(alloc);
     for _ in 0..times {
@@ -159,6 +159,21 @@ pub fn copies(value: &Value, times: u64) -> Result<u64, NoMemory> {
     for _ in 0..times {
         if is_blob(&value.copy()?) {
             count = count.saturating_add(1);
+        }
+    }
+    Ok(count)
+}
+
+/// Values far from one another are copied, in the order of `queries`.
+pub fn copies_far_apart(values: &[Value], keys: u64, times: u64) -> Result<u64, NoMemory>
+    requires { 0 < keys }
+{
+    let mut count = 0u64;
+    for place in 0..times {
+        if let Some(value) = values.get(spread(place, keys) as usize) {
+            if is_blob(&value.copy()?) {
+                count = count.saturating_add(1);
+            }
         }
     }
     Ok(count)

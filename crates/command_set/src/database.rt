@@ -7,12 +7,13 @@ ghost use Rattle.command_set.specs.Runs.{AreDue, IsTurn, taken_back};
 
 use super::due;
 use super::prior::Prior;
-use super::run_due::{expire, run_flush, run_keys};
+use super::run_due::{expire, one_written, run_flush, run_keys};
 use super::waiting::{Parts, Waiting, push_waiting, settle};
 use command_words::{Command, Done, Written, keys_written};
 use resp_value::{NoMemory, Words};
 use std::alloc::Global;
 use std::marker::Model;
+use std::slice;
 
 /// All keys with what they hold and the deadlines in order; contracts see a finite map. A run that
 /// was taken back waits in it until memory is there to put its keys back.
@@ -109,6 +110,10 @@ impl Database {
         ensures undo { IfOk result (λ turned. taken_back turned.undo self.new ≡ self.old) }
     {
         settle(self.alloc, &mut self.parts)?;
+        if let Some(key) = one_written(command) {
+            let keys = slice::from_ref(key);
+            return run_keys(self.alloc, &mut self.parts, command, moment, keys);
+        }
         match keys_written(self.alloc, command)? {
             Written::All => run_flush(self.alloc, &mut self.parts, command, moment),
             Written::Keys(keys) => {

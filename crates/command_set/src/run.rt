@@ -65,7 +65,7 @@ fn run_flush(
 
 /// A command that writes these keys. The new deadline goes into the index first, since that may
 /// fail; what is not current leaves it last, which takes no memory.
-fn run_on(
+pub(crate) fn run_on(
     alloc: Global,
     space: &mut Keyspace,
     index: &mut DeadlineIndex,

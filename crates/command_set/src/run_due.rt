@@ -1,5 +1,5 @@
 //! A run of a command together with the keys that are due.
-ghost use Rattle.std.specs.Prelude.{◌≡◌, [], true, IfOk, OnOk, OnErr};
+ghost use Rattle.std.specs.Prelude.{◌≡◌, [], ◌∷◌, true, IfOk, IfSome, OnOk, OnErr};
 ghost use Rattle.command_words.specs.declared.written.Written.TheVariants.{All, Keys};
 ghost use Rattle.command_words.specs.Effects.{effect, has_row};
 ghost use Rattle.command_words.specs.Expiry.{without_due};
@@ -11,7 +11,7 @@ ghost use Rattle.command_set.specs.Runs.{AreDue, IsTurn, taken_back};
 use super::database::{Change, Database, Expired, Turned, Undo};
 use super::due::{drop_due, due_keys};
 use super::prior::push_priors;
-use super::run::run_data;
+use super::run::{run_data, run_on};
 use super::waiting::{Parts, Waiting, push_waiting};
 use command_words::Command;
 use resp_value::{NoMemory, Octets};
@@ -37,6 +37,22 @@ pub(crate) fn expire(alloc: Global, parts: &mut Parts, moment: u64) -> Result<Ex
     let change = Change::Keys(priors, place);
     let undo = Undo { change };
     Ok(Expired { keys, undo })
+}
+
+/// The key that the command can change, where that is one alone.
+pub(crate) fn one_written(command: &Command) -> Option<&Octets>
+    ensures { IfSome result (λ key. written command.now ≡ Keys (key.now ∷ [])) }
+{
+    match command {
+        Command::Set(key, _, _, _) | Command::SetNx(key, _) | Command::Append(key, _) => Some(key),
+        Command::GetDel(key) | Command::Incr(key) | Command::Decr(key) => Some(key),
+        Command::IncrBy(key, _) | Command::DecrBy(key, _) => Some(key),
+        Command::HSet(key, _) | Command::HDel(key, _) => Some(key),
+        Command::HIncrBy(key, _, _) | Command::Persist(key) => Some(key),
+        Command::Expire(key, _) | Command::PExpire(key, _) => Some(key),
+        Command::ExpireAt(key, _) | Command::PExpireAt(key, _) => Some(key),
+        _ => None,
+    }
 }
 
 /// A command that writes these keys. What they and the due keys hold is copied first, so that the
@@ -65,7 +81,14 @@ pub(crate) fn run_keys(
     push_priors(&parts.space, keys, &mut priors)?;
     let place = Box::new(alloc, Waiting::Nothing)?;
     drop_due(&mut parts.space, &mut parts.index, moment);
-    match run_data(alloc, &mut parts.space, &mut parts.index, command, moment) {
+    match run_on(
+        alloc,
+        &mut parts.space,
+        &mut parts.index,
+        command,
+        moment,
+        keys,
+    ) {
         Ok(done) => {
             let change = Change::Keys(priors, place);
             let undo = Undo { change };

@@ -1,7 +1,7 @@
 -- What the end of a session shows of its log and of its tickets.
-use Rattle.std.proofs.Common.{◌≡◌, ◌≤◌, ◌+◌, ◌∙◌, inl, inr, ℕ, suc, zero, List, [], ◌∷◌, Bool}
+use Rattle.std.proofs.Common.{◌≡◌, ◌≤◌, ◌∙◌, inl, inr, ℕ, suc, zero, List, [], ◌∷◌, Bool}
 use Rattle.std.proofs.Common.{true, false, cond, length, refl, sym, ap, subst, arith}
-use Rattle.std.specs.Prelude.{Option, Some, None, ◌⊎◌, ◌||◌, ◌==◌, ◌-◌, not, ⊤}
+use Rattle.std.specs.Prelude.{Option, Some, ◌⊎◌, ◌&&◌, ◌||◌, ◌==◌, ◌-◌, not, ⊤}
 use Rattle.command_words.specs.Control.{is_control}
 use Rattle.turn_lock.specs.History.{IsPrefix, entries}
 use Rattle.turn_lock.specs.declared.rule.TheConstants.{LAST_TICKET}
@@ -34,10 +34,10 @@ use Rattle.script_run.specs.declared.reports.SessionEnd.TheVariants as ended
 use Rattle.script_run.specs.declared.reports.Tally.{Tally}
 use Rattle.script_run.specs.Lines.{AllCame, Came, NoAnswer, RefusedBy, ThreadsCame, Unplayed}
 use Rattle.script_run.specs.Lines.{call_for, calls_of}
-use Rattle.script_run.specs.Reports.{ends_of, first_at, first_of, is_printing, line_end, no_tally}
-use Rattle.script_run.specs.Reports.{note_end, refused_end, rest_at, rest_of, session_end}
+use Rattle.script_run.specs.Reports.{ends_of, first_at, first_of, line_end, no_tally}
+use Rattle.script_run.specs.Reports.{note_end, refused_end, rest_at, rest_of}
 use Rattle.script_run.specs.Reports.{tally_after}
-use Rattle.script_run.specs.Session.{PumpedBy, Session}
+use Rattle.script_run.specs.Session.{AnyDown, EndsLink, HasDown, PumpedBy, Session}
 use Rattle.script_program.specs.Written.{EndShows, Reports}
 
 -- ---- who was told that the log is full has seen it so
@@ -249,7 +249,58 @@ worn_noted t line.NoMemory h = inl h
 worn_noted t line.LogFull h = inl h
 worn_noted t line.Worn h = inr refl
 
+down_noted : (t : Tally) (e : LineEnd) → (note_end t e).down ≡ true
+    → (t.down ≡ true) ⊎ (e ≡ line.Said said.Down)
+down_noted t (line.Said (said.Hit n v)) h = inl h
+down_noted t (line.Said (said.Read n v)) h = inl h
+down_noted t (line.Said (said.Reply v)) h = inl h
+down_noted t (line.Said said.Down) h = inr refl
+down_noted t line.NoMemory h = inl h
+down_noted t line.LogFull h = inl h
+down_noted t line.Worn h = inl h
+
+any_down : (rs : List Answer) → AnyEnds (line.Said said.Down) rs → AnyDown rs
+any_down [] h = h
+any_down (a ∷ rs) h = elim h [ inl is ↦ inl is | inr is ↦ inr (any_down rs is) ]
+
+has_down : (all : List (List Answer)) → HasEnds (line.Said said.Down) all → HasDown all
+has_down [] h = h
+has_down (rs ∷ all) h = elim h [ inl is ↦ inl (any_down rs is) | inr is ↦ inr (has_down all is) ]
+
 -- ---- why a session ends so
+
+-- a line was down, and the pump's end is none of 6 and 7
+link_in : (down some six full seven worn eight : Bool) (n m : ℕ)
+    → cond (not down && (not some && (not full && not worn))) ended.Done
+    (cond (some || six) ended.NoMemory (cond (full || seven) ended.HistoryFull
+    (cond (worn || eight) ended.Worn (ended.LinkEnded n)))) ≡ ended.LinkEnded m
+    → (down ≡ true) × (six ≡ false) × (seven ≡ false) × (n ≡ m)
+link_in true true six full seven worn eight n m h = absurd (let no : ⊥ = cc in no)
+link_in true false true full seven worn eight n m h = absurd (let no : ⊥ = cc in no)
+link_in true false false true seven worn eight n m h = absurd (let no : ⊥ = cc in no)
+link_in true false false false true worn eight n m h = absurd (let no : ⊥ = cc in no)
+link_in true false false false false true eight n m h = absurd (let no : ⊥ = cc in no)
+link_in true false false false false false true n m h = absurd (let no : ⊥ = cc in no)
+link_in true false false false false false false n m h =
+    (refl, refl, refl, let same : n ≡ m = cc in same)
+link_in false true six full seven worn eight n m h = absurd (let no : ⊥ = cc in no)
+link_in false false true true seven worn eight n m h = absurd (let no : ⊥ = cc in no)
+link_in false false false true seven worn eight n m h = absurd (let no : ⊥ = cc in no)
+link_in false false true false seven true eight n m h = absurd (let no : ⊥ = cc in no)
+link_in false false false false true true eight n m h = absurd (let no : ⊥ = cc in no)
+link_in false false false false false true eight n m h = absurd (let no : ⊥ = cc in no)
+link_in false false six false seven false eight n m h = absurd (let no : ⊥ = cc in no)
+
+by_link : (end : PumpEnd) → EndsLink end → (end_number end == 6) ≡ false
+    → (end_number end == 7) ≡ false → (1 ≤ end_number end) × (end_number end ≤ 4)
+by_link pumped.PeerEnd e six seven = (omega arith, omega arith)
+by_link pumped.LinkFault e six seven = (omega arith, omega arith)
+by_link (pumped.BadStream f) e six seven = (omega arith, omega arith)
+by_link (pumped.Refused r) e six seven = (omega arith, omega arith)
+by_link pumped.Done e six seven = absurd e
+by_link pumped.NoMemory e six seven = absurd (let no : ⊥ = cc in no)
+by_link pumped.LogFull e six seven = absurd (let no : ⊥ = cc in no)
+by_link pumped.Worn e six seven = absurd e
 
 full_in : (all some full by worn : Bool) (n : ℕ)
     → cond all ended.Done (cond some ended.NoMemory (cond (full || by) ended.HistoryFull
@@ -338,10 +389,26 @@ module _ (s : Setup) (lines : List ScriptLine) (answers : List (List Answer)) (p
         | inr any ↦ line_shows line.Worn (λ e. cc) any
       ]
 
+  told_down : all.down ≡ true → EndsLink pump
+  told_down h =
+      elim (tally_noted (λ t. t.down) (line.Said said.Down) down_noted no_tally
+      (ends_of lines answers) h) [
+        | inl off ↦ absurd (let clash : ⊥ = cc in clash)
+        | inr any ↦ k.down (has_down answers (lines_have (line.Said said.Down) (λ e. cc) lines
+            answers any))
+      ]
+
   pub end_shows : (e : SessionEnd) (text : List ℕ) → Reports lines answers pump e text
       → EndShows e s log tickets
   end_shows ended.Done text h = tt
-  end_shows (ended.LinkEnded n) text h = tt
+  end_shows (ended.LinkEnded n) text h =
+      let why = link_in all.down all.no_memory (end_number pump == 6) all.log_full
+      (end_number pump == 7) all.worn (end_number pump == 8) (end_number pump) n (sym h.1) in
+      let by = by_link pump (told_down why.0) why.1 why.2 in
+      let same = why.3 in (
+        subst (λ i. 1 ≤ i) same by.0,
+        subst (λ i. i ≤ 4) same by.1,
+      )
   end_shows ended.NoMemory text h = tt
   end_shows ended.HistoryFull text h =
       elim (full_in _ _ all.log_full (end_number pump == 7) _ _ (sym h.1)) [

@@ -73,12 +73,13 @@ Reports lines answers pump e text =
     (text ≡ text_after no_tally 1 (ends_of lines answers))
     × (e ≡ session_end (tally_after no_tally (ends_of lines answers)) (end_number pump))
 
--- a full log ends a session only where the log is full, and a worn lock where no ticket is left
+-- a full log ends a session only where the log is full, a worn lock where no ticket is left, and
+-- the link's end where the pump ended by one of 1 to 4
 abbrev pub EndShows : SessionEnd → Setup → List LogEntry → ℕ → Type 0
 EndShows ended.HistoryFull s log tickets = is_log_full s log ≡ true
 EndShows ended.Worn s log tickets = LAST_TICKET ≤ tickets
 EndShows ended.Done s log tickets = ⊤
-EndShows (ended.LinkEnded number) s log tickets = ⊤
+EndShows (ended.LinkEnded number) s log tickets = (1 ≤ number) × (number ≤ 4)
 EndShows ended.NoMemory s log tickets = ⊤
 
 -- These lines were played over a link that was new, and the text tells of it.

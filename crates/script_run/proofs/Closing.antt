@@ -3,6 +3,7 @@ use Rattle.std.proofs.Common.{◌≡◌, ◌≤◌, ◌<◌, ◌+◌, ◌-◌, �
 use Rattle.std.proofs.Common.{Bool, length, refl, sym, ap, subst, ◌∙◌, arith, append-nil, Some}
 use Rattle.std.proofs.Common.{inl, inr}
 use Rattle.std.specs.Prelude.{Option, max}
+use Rattle.std.specs.List.{All}
 use Rattle.std.proofs.Math.Nat.{le-max_left, le-max_right}
 use Rattle.atomic_table.specs.Seated.{TableId}
 use Rattle.turn_lock.specs.Counts.{times, total}
@@ -25,6 +26,7 @@ use Rattle.shared_client.specs.declared.logged.ClientSetup.{ClientSetup}
 use Rattle.shared_client.specs.Setups.{TurnStep, setup_of}
 use Rattle.shared_client.specs.Turns.{Place, Turn, setup_at, setup_in, Ends, WornOut}
 use Rattle.script_text.specs.declared.script_line.ScriptLine.{ScriptLine}
+use Rattle.script_text.specs.Scripts.{IsValidLine}
 use Rattle.client_link.specs.declared.pump_end.PumpEnd.{PumpEnd}
 use Rattle.client_link.specs.Pumps.{Pumps}
 use Rattle.script_run.specs.declared.answer.Answer.{Answer}
@@ -170,10 +172,11 @@ module _ (u : ClientSetup) (lines : List ScriptLine) (answers : List (List Answe
       let same : sound.0.0 ≡ u = cc in
       subst (λ v. Legal TurnStep v j.seen) same sound.0.2
 
-  pub session : (log : List LogEntry) (t : ℕ) → log ≡ past_of j → j.tickets ≤ t
+  pub session : (log : List LogEntry) (t : ℕ) → All IsValidLine lines → log ≡ past_of j
+      → j.tickets ≤ t
       → ((p : ℕ) → p < length j.seen → times p j.own ≡ 1) → IsSound TurnStep j
       → Session s lines answers end left0 left1 link0 link1 log t
-  session log t log_is le once sound =
+  session log t valid log_is le once sound =
       let in_log = λ (x : List LogEntry) (p : IsPrefix x (past_of j)).
       subst (λ z. IsPrefix x z) (sym log_is) p in
       let le_p : calls.played.tickets ≤ t = omega (arith, last.grows.tickets, tickets_b, le) in
@@ -213,5 +216,5 @@ module _ (u : ClientSetup) (lines : List ScriptLine) (answers : List (List Answe
         all = all;
         legal = subst (LegalLog s) (sym log_is) (legal_log u j.seen (legal_j sound));
         down = down_ends s lines answers end left0 left1 link0 link1 calls.plays.turns pumped
-            last.turns (past_of calls.played) log t seen came by closes all;
+            last.turns (past_of calls.played) log t seen came by closes all valid;
       }

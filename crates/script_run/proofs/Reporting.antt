@@ -1,6 +1,6 @@
 -- The answers of the threads in the order of the lines, and what is printed of them.
 use Rattle.std.proofs.Common.{◌≡◌, ◌<◌, ◌+◌, ◌-◌, ℕ, zero, suc, List, [], ◌∷◌, ◌++◌}
-use Rattle.std.proofs.Common.{true, false, cond, length, drop, refl, sym, ap, ◌∙◌, arith}
+use Rattle.std.proofs.Common.{cond, length, drop, refl, sym, ap, ◌∙◌, arith}
 use Rattle.std.proofs.Common.{append_assoc, append-nil, length-append, slice_index_or, slice_set}
 use Rattle.std.proofs.lemmas.List.{drop_more}
 use Rattle.script_text.specs.declared.script_line.ScriptLine.{ScriptLine}

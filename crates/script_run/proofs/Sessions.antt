@@ -2,15 +2,14 @@
 -- told that the link is down the pump had ended it.
 use Rattle.std.proofs.Common.{◌≡◌, ◌≤◌, ◌<◌, ◌+◌, inl, inr, ℕ, suc, List, [], ◌∷◌, ◌++◌}
 use Rattle.std.proofs.Common.{Bool, true, false, cond, length, refl, sym, ap, subst, ◌∙◌, arith}
-use Rattle.std.proofs.Common.{length-append}
-use Rattle.std.specs.Prelude.{Option, Some, None, nat_lt, ◌&&◌, ◌||◌, not}
+use Rattle.std.specs.Prelude.{Option, Some, None, nat_lt, ◌&&◌, ◌||◌, ◌==◌, ◌⊎◌, not}
 use Rattle.std.specs.List.{All}
 use Rattle.std.proofs.lemmas.Bool.Decides.{nat_tests}
-use Rattle.std.proofs.lemmas.List.Elements.{All-head, All-tail}
+use Rattle.std.proofs.lemmas.List.Elements.{All-cons, All-head, All-nil, All-tail}
 use Rattle.turn_lock.specs.Counts.{times, total}
 use Rattle.turn_lock.specs.History.{entries, IsPrefix, Legal}
 use Rattle.seat_turns.specs.Own.{with_pasts, past_of, turns_of}
-use Rattle.seat_turns.proofs.Owning.{own_all, pasts_length, total-append}
+use Rattle.seat_turns.proofs.Owning.{own_all, pasts_length}
 use Rattle.seat_turns.proofs.Turning.{begins_trans}
 use Rattle.shared_cache.specs.declared.log.Wire.{Wire}
 use Rattle.shared_cache.specs.declared.log.Wire.TheVariants.{Main}
@@ -18,7 +17,6 @@ use Rattle.shared_cache.specs.declared.log.ClientMode.{ClientMode}
 use Rattle.shared_cache.specs.declared.log.LogEntry.{LogEntry}
 use Rattle.shared_cache.specs.declared.log.LogEntry.TheVariants as entry
 use Rattle.shared_cache.specs.declared.log.ClientCall.TheVariants as call
-use Rattle.shared_cache.specs.declared.log.ClientReply.{ClientReply}
 use Rattle.shared_cache.specs.declared.log.ClientReply.TheVariants as reply
 use Rattle.shared_cache.specs.declared.log.ClientRefusal.{ClientRefusal}
 use Rattle.shared_cache.specs.declared.log.ClientRefusal.TheVariants as refusal
@@ -36,15 +34,21 @@ use Rattle.shared_client.specs.Turns.{Place, Turn, setup_at}
 use Rattle.script_text.specs.declared.script_line.ScriptCall.{ScriptCall}
 use Rattle.script_text.specs.declared.script_line.ScriptCall.TheVariants.{Ask, Do}
 use Rattle.script_text.specs.declared.script_line.ScriptLine.{ScriptLine}
+use Rattle.script_text.specs.Scripts.{IsValidCall, IsValidLine}
 use Rattle.client_link.specs.declared.pump_end.PumpEnd.{PumpEnd}
 use Rattle.client_link.specs.declared.pump_end.PumpEnd.TheVariants as ended
 use Rattle.client_link.specs.Pumps.{IsWork, Finishes}
 use Rattle.script_run.specs.declared.answer.Answer.{Answer}
 use Rattle.script_run.specs.declared.answer.Answer.TheVariants.{Hit, Read, Reply, Refused}
-use Rattle.script_run.specs.Lines.{call_for, RefusedBy, Unplayed, NoAnswer, Came}
+use Rattle.script_run.specs.Lines.{call_for, Between, RefusedBy, Unplayed, NoAnswer, Came}
 use Rattle.script_run.specs.Lines.{AllCame, ThreadsCame, calls_of}
 use Rattle.script_run.specs.Session.{turns_in, IsDown, AnyDown, HasDown, EndsLink, PumpedBy}
 use Rattle.script_run.specs.Session.{ClosedBy, LastEnd, Over, NoTicket}
+use Rattle.script_run.proofs.Totals.{more_weight, prefix_length, prefix_total, two_none}
+use Rattle.script_run.proofs.Totals.{works_none}
+use Rattle.script_run.proofs.Numbers.{one_answer, polls, pump_polls, closing_polls, all_fair}
+use Rattle.script_run.proofs.Numbers.{came_fair, threads_fair, Missed, refused_missed}
+use Rattle.script_run.proofs.Numbers.{missed_first, missed_last, none_missed}
 
 -- ---- each turn once
 
@@ -80,19 +84,6 @@ ends_main (entry.Bad w v, past) = is_wire w Main
 -- 1 for an end that has fewer entries before it
 abbrev early_end : ℕ → Turn → ℕ
 early_end n t = cond (ends_main t && nat_lt (length t.1) n) 1 0
-
-prefix_total : (f : Turn → ℕ) (more k : List LogEntry)
-    → total f (turns_in k) ≤ total f (turns_in (more ++ k))
-prefix_total f [] k = omega arith
-prefix_total f (e ∷ more) k =
-    let r = prefix_total f more k in
-    let step : total f (turns_in (e ∷ more ++ k)) ≡ f (e, more ++ k)
-    + total f (turns_in (more ++ k)) = refl in
-    omega (arith, r, step)
-
-more_weight : (f : Turn → ℕ) (t : Turn) (ts : List Turn) → 1 ≤ total f ts
-    → 1 ≤ total f (t ∷ ts)
-more_weight f t ts h = let e : total f (t ∷ ts) ≡ f t + total f ts = refl in omega (arith, h, e)
 
 end_or : (b over : Bool) (n : ℕ) (past : List LogEntry) (rest : ℕ) → (b || over) ≡ true
     → length past < n → (over ≡ true → 1 ≤ rest)
@@ -149,12 +140,6 @@ module _ (n : ℕ) where
   came_none s (Do ws) (Reply v) ts seen t h = ap (total f) h.turns_are
   came_none s (Do ws) (Refused r) ts seen t h = refused_none s (Do ws) r ts seen t h
 
-  two_none : (ts mine rest : List Turn) → ts ≡ rest ++ mine → total f rest ≡ 0
-      → total f mine ≡ 0 → total f ts ≡ 0
-  two_none ts mine rest e r m =
-      let w : total f ts ≡ total f rest + total f mine = ap (total f) e
-      ∙ total-append f rest mine in omega (arith, w, r, m)
-
   all_none : (s : Setup) (cs : List ScriptCall) (rs : List Answer) (ts : List Turn)
       (log : List LogEntry) (t : ℕ) → AllCame s cs rs ts log t → total f ts ≡ 0
   all_none s [] [] ts log t h = ap (total f) h
@@ -162,7 +147,7 @@ module _ (n : ℕ) where
   all_none s [] (a ∷ rs) ts log t h = absurd h
   all_none s (c ∷ cs) (a ∷ rs) ts log t h =
       let i = h.3 in
-      two_none ts h.0 h.1 h.2 (all_none s cs rs h.1 log t h.4)
+      two_none f ts h.0 h.1 h.2 (all_none s cs rs h.1 log t h.4)
       (came_none s c a h.0 i.seen i.ticket i.came)
 
   threads_none : (s : Setup) (lines : List ScriptLine) (thread : ℕ) (all : List (List Answer))
@@ -170,7 +155,7 @@ module _ (n : ℕ) where
       → total f ts ≡ 0
   threads_none s lines thread [] ts log t h = ap (total f) h
   threads_none s lines thread (rs ∷ all) ts log t h =
-      two_none ts h.0 h.1 h.2
+      two_none f ts h.0 h.1 h.2
       (threads_none s lines (suc thread) all h.1 log t h.4)
       (all_none s (calls_of thread lines) rs h.0 log t h.3.came)
 
@@ -178,11 +163,6 @@ module _ (n : ℕ) where
   not_early : (b : Bool) (m : ℕ) → n ≤ m → cond {A = ℕ} (b && nat_lt m n) 1 0 ≡ 0
   not_early true m le = grind (arith, nat_tests, le)
   not_early false m le = refl
-
-  prefix_length : (a b : List LogEntry) → IsPrefix a b → length a ≤ length b
-  prefix_length a b p =
-      let e : length (p.0 ++ a) ≡ length b = ap length p.1 in
-      omega (arith, e, length-append p.0 a)
 
   closing_none : (s : Setup) (ts : List Turn) (seen log : List LogEntry) (t : ℕ)
       → n ≤ length seen → ClosedBy s ts seen log t → total f ts ≡ 0
@@ -203,16 +183,9 @@ module _ (n : ℕ) where
   work_none (entry.End w) past h = absurd h
   work_none (entry.Bad w v) past h = absurd h
 
-  works_none : (ts : List Turn) → All IsWork ts → total f ts ≡ 0
-  works_none [] h = refl
-  works_none (t ∷ ts) h =
-      let a : f t ≡ 0 = work_none t.0 t.1 (All-head IsWork t ts h) in
-      let b = works_none ts (All-tail IsWork t ts h) in
-      let e : total f (t ∷ ts) ≡ f t + total f ts = refl in omega (arith, a, b, e)
-
   none_but_works : (ending ts : List Turn) → ending ≡ [] → All IsWork ts
       → total f (ending ++ ts) ≡ 0
-  none_but_works ending ts e w = ap (λ z. total f (z ++ ts)) e ∙ works_none ts w
+  none_but_works ending ts e w = ap (λ z. total f (z ++ ts)) e ∙ works_none f work_none ts w
 
   -- who has an early end has ended the link
   ends_link : (end : PumpEnd) (s : Setup) (ending ts : List Turn) (k : Place)
@@ -239,11 +212,6 @@ longer e log turn r p is =
     let l : length (e ∷ log) ≡ length log =
     ap length (sym p ∙ ap (λ (t : ClientTurn). t.past) is) in omega (arith, l)
 
-other : (a b : ClientReply) (log new : List LogEntry)
-    → ◌≡◌ {A = ClientTurn} (record { reply = a; past = log }) (record { reply = b; past = new })
-    → a ≡ b
-other a b log new is = ap (λ (t : ClientTurn). t.reply) is
-
 module _ (log : List LogEntry) (w : Wire) where
   ask_down_in : (over ready full : Bool) (turn : ClientTurn) (e : LogEntry) → turn.past ≡ e ∷ log
       → Answered (cond over (refusing (refusal.Down Main) log)
@@ -252,9 +220,9 @@ module _ (log : List LogEntry) (w : Wire) where
       → over ≡ true
   ask_down_in true ready full turn e p is = refl
   ask_down_in false false full turn e p is =
-      absurd (let x = other _ _ log log is in let no : ⊥ = cc in no)
+      absurd (let x = one_answer _ _ log log is in let no : ⊥ = cc in no)
   ask_down_in false true true turn e p is =
-      absurd (let x = other _ _ log log is in let no : ⊥ = cc in no)
+      absurd (let x = one_answer _ _ log log is in let no : ⊥ = cc in no)
   ask_down_in false true false turn e p is = absurd (longer e log turn (refusal.Down w) p is)
 
   send_down_in : (over ready control full : Bool) (turn : ClientTurn) (e : LogEntry)
@@ -266,11 +234,11 @@ module _ (log : List LogEntry) (w : Wire) where
       → over ≡ true
   send_down_in true ready control full turn e p is = refl
   send_down_in false false control full turn e p is =
-      absurd (let x = other _ _ log log is in let no : ⊥ = cc in no)
+      absurd (let x = one_answer _ _ log log is in let no : ⊥ = cc in no)
   send_down_in false true true full turn e p is =
-      absurd (let x = other _ _ log log is in let no : ⊥ = cc in no)
+      absurd (let x = one_answer _ _ log log is in let no : ⊥ = cc in no)
   send_down_in false true false true turn e p is =
-      absurd (let x = other _ _ log log is in let no : ⊥ = cc in no)
+      absurd (let x = one_answer _ _ log log is in let no : ⊥ = cc in no)
   send_down_in false true false false turn e p is =
       absurd (longer e log turn (refusal.Down w) p is)
 
@@ -278,12 +246,12 @@ module _ (log : List LogEntry) (w : Wire) where
       → Answered (cond (not wanted) (refusing (refusal.NoNumber n) log) (polling o n over log))
       (refusal.Down w) log → over ≡ true
   poll_down_in false over o n is =
-      absurd (let x = other _ _ log log is in let no : ⊥ = cc in no)
+      absurd (let x = one_answer _ _ log log is in let no : ⊥ = cc in no)
   poll_down_in true over (Some v) n is =
       absurd (longer (entry.Poll n) log _ (refusal.Down w) refl is)
   poll_down_in true true None n is = refl
   poll_down_in true false None n is =
-      absurd (let x = other _ _ log log is in let no : ⊥ = cc in no)
+      absurd (let x = one_answer _ _ log log is in let no : ⊥ = cc in no)
 
 call_down : (s : Setup) (log : List LogEntry) (w : Wire) (c : ScriptCall)
     → Answered (client_step s log (call_for c)) (refusal.Down w) log
@@ -313,27 +281,63 @@ refused_down : (s : Setup) (c : ScriptCall) (w : Wire) (ts : List Turn) (seen : 
 refused_down s c w ts seen t (Unplayed e why) = call_down s seen w c why.1
 refused_down s c w ts seen t (NoAnswer n past e step why) = poll_down s seen w n why.1
 
+not_control : (s : Setup) (ws : List (List ℕ)) (log : List LogEntry) → is_control ws ≡ false
+    → Answered (client_step s log (call.Send ws)) refusal.Control log → ⊥
+unfolding client_step
+not_control s ws log valid is =
+    plain (is_ended s.mode Main log) (is_ready s.mode log) (is_control ws) (is_log_full s log)
+    valid is
+  where
+    turn : ClientTurn
+    turn = record { reply = reply.Sent (command_number s log ws); past = entry.Send ws ∷ log }
+
+    plain : (over ready control full : Bool) → control ≡ false
+        → Answered (cond over (refusing (refusal.Down Main) log)
+        (cond (not ready) (refusing refusal.NotReady log)
+        (cond control (refusing refusal.Control log)
+        (cond full (refusing (refusal.LogFull (length log)) log) turn)))) refusal.Control log → ⊥
+    plain true ready control full v h = let x = one_answer _ _ log log h in let no : ⊥ = cc in no
+    plain false false control full v h = let x = one_answer _ _ log log h in let no : ⊥ = cc in no
+    plain false true true full v h = let no : ⊥ = cc in no
+    plain false true false true v h = let x = one_answer _ _ log log h in let no : ⊥ = cc in no
+    plain false true false false v h = longer (entry.Send ws) log turn refusal.Control refl h
+
+-- a line that is down has seen the link's end, or its number was unknown
+abbrev Told : Setup → List Turn → List LogEntry → Type 0
+Told s ts seen = (is_ended s.mode Main seen ≡ true) ⊎ Missed s seen ts
+
 by_refusal : (s : Setup) (c : ScriptCall) (r : ClientRefusal) (ts : List Turn)
-    (seen : List LogEntry) (t : ℕ) → RefusedBy s c r ts seen t → IsDown (Refused r)
-    → is_ended s.mode Main seen ≡ true
-by_refusal s c (refusal.Down w) ts seen t h d = refused_down s c w ts seen t h
-by_refusal s c (refusal.Unexpected w) ts seen t h d = absurd d
-by_refusal s c (refusal.BadPush w) ts seen t h d = absurd d
-by_refusal s c refusal.NoMemory ts seen t h d = absurd d
-by_refusal s c (refusal.LogFull n) ts seen t h d = absurd d
-by_refusal s c (refusal.SetupRefused w) ts seen t h d = absurd d
-by_refusal s c refusal.NotReady ts seen t h d = absurd d
-by_refusal s c refusal.Control ts seen t h d = absurd d
-by_refusal s c (refusal.NoNumber n) ts seen t h d = absurd d
-by_refusal s c refusal.Worn ts seen t h d = absurd d
+    (seen : List LogEntry) (t : ℕ) → IsValidCall c → Between [] ts seen
+    → RefusedBy s c r ts seen t → IsDown (Refused r) → Told s ts seen
+by_refusal s c (refusal.Down w) ts seen t v b h d = inl (refused_down s c w ts seen t h)
+by_refusal s (Ask q) (refusal.Unexpected w) ts seen t v b (Unplayed e why) d = absurd why.0
+by_refusal s (Do ws) (refusal.Unexpected w) ts seen t v b (Unplayed e why) d = absurd why.0
+by_refusal s c (refusal.Unexpected w) ts seen t v b (NoAnswer n past e step why) d = absurd why.0
+by_refusal s (Ask q) (refusal.BadPush w) ts seen t v b (Unplayed e why) d = absurd why.0
+by_refusal s (Do ws) (refusal.BadPush w) ts seen t v b (Unplayed e why) d = absurd why.0
+by_refusal s c (refusal.BadPush w) ts seen t v b (NoAnswer n past e step why) d = absurd why.0
+by_refusal s (Ask q) (refusal.SetupRefused w) ts seen t v b (Unplayed e why) d = absurd why.0
+by_refusal s (Do ws) (refusal.SetupRefused w) ts seen t v b (Unplayed e why) d = absurd why.0
+by_refusal s c (refusal.SetupRefused w) ts seen t v b (NoAnswer n past e step why) d = absurd why.0
+by_refusal s c refusal.NoMemory ts seen t v b h d = absurd (let no : ⊥ = cc in no)
+by_refusal s c (refusal.LogFull n) ts seen t v b h d = absurd (let no : ⊥ = cc in no)
+by_refusal s c refusal.Worn ts seen t v b h d = absurd (let no : ⊥ = cc in no)
+by_refusal s c refusal.NotReady ts seen t v b (Unplayed e why) d = absurd why
+by_refusal s c refusal.NotReady ts seen t v b (NoAnswer n past e step why) d = absurd why
+by_refusal s (Ask q) refusal.Control ts seen t v b (Unplayed e why) d = absurd why.0
+by_refusal s (Do ws) refusal.Control ts seen t v b (Unplayed e why) d =
+    absurd (not_control s ws seen v.1 why.1)
+by_refusal s c refusal.Control ts seen t v b (NoAnswer n past e step why) d = absurd why.0
+by_refusal s c (refusal.NoNumber n) ts seen t v b h d = inr (refused_missed s c n ts seen t b h)
 
 came_down : (s : Setup) (c : ScriptCall) (a : Answer) (ts : List Turn) (seen : List LogEntry)
-    (t : ℕ) → Came s c a ts seen t → IsDown a → is_ended s.mode Main seen ≡ true
-came_down s c (Hit m v) ts seen t h d = absurd d
-came_down s c (Read m v) ts seen t h d = absurd d
-came_down s c (Reply v) ts seen t h d = absurd d
-came_down s (Ask q) (Refused r) ts seen t h d = by_refusal s (Ask q) r ts seen t h d
-came_down s (Do ws) (Refused r) ts seen t h d = by_refusal s (Do ws) r ts seen t h d
+    (t : ℕ) → IsValidCall c → Between [] ts seen → Came s c a ts seen t → IsDown a
+    → Told s ts seen
+came_down s c (Hit m v) ts seen t ok b h d = absurd (let no : ⊥ = cc in no)
+came_down s c (Read m v) ts seen t ok b h d = absurd (let no : ⊥ = cc in no)
+came_down s c (Reply v) ts seen t ok b h d = absurd (let no : ⊥ = cc in no)
+came_down s (Ask q) (Refused r) ts seen t ok b h d = by_refusal s (Ask q) r ts seen t ok b h d
+came_down s (Do ws) (Refused r) ts seen t ok b h d = by_refusal s (Do ws) r ts seen t ok b h d
 
 record SawEnd (s : Setup) (log : List LogEntry) : Type 0 where
   seen : List LogEntry
@@ -341,55 +345,102 @@ record SawEnd (s : Setup) (log : List LogEntry) : Type 0 where
   over : is_ended s.mode Main seen ≡ true
 
 all_down : (s : Setup) (cs : List ScriptCall) (rs : List Answer) (ts : List Turn)
-    (log : List LogEntry) (t : ℕ) → AllCame s cs rs ts log t → AnyDown rs → SawEnd s log
-all_down s cs [] ts log t h d = absurd d
-all_down s [] (a ∷ rs) ts log t h d = absurd h
-all_down s (c ∷ cs) (a ∷ rs) ts log t h d =
+    (log : List LogEntry) (t : ℕ) → All IsValidCall cs → AllCame s cs rs ts log t → AnyDown rs
+    → SawEnd s log ⊎ Missed s log ts
+all_down s cs [] ts log t ok h d = absurd d
+all_down s [] (a ∷ rs) ts log t ok h d = absurd h
+all_down s (c ∷ cs) (a ∷ rs) ts log t ok h d =
     let i = h.3 in
     elim d [
-      | inl is ↦ record {
-        seen = i.seen;
-        begins = i.begins;
-        over = came_down s c a h.0 i.seen i.ticket i.came is;
-      }
-      | inr is ↦ all_down s cs rs h.1 log t h.4 is
+      | inl is ↦ elim (came_down s c a h.0 i.seen i.ticket (All-head IsValidCall c cs ok)
+          i.in_order i.came is) [
+            | inl over ↦ inl (record { seen = i.seen; begins = i.begins; over = over })
+            | inr m ↦ inr (missed_last s i.seen log ts h.0 h.1 h.2 i.begins
+                (λ n. all_fair s n cs rs h.1 log t h.4) m)
+          ]
+      | inr is ↦ elim (all_down s cs rs h.1 log t (All-tail IsValidCall c cs ok) h.4 is) [
+        | inl saw ↦ inl saw
+        | inr m ↦ inr (missed_first s log ts h.0 h.1 h.2
+            (λ n. came_fair s n c a h.0 i.seen i.ticket i.came) m)
+      ]
     ]
 
-threads_down : (s : Setup) (lines : List ScriptLine) (thread : ℕ) (all : List (List Answer))
-    (ts : List Turn) (log : List LogEntry) (t : ℕ) → ThreadsCame s lines thread all ts log t
-    → HasDown all → SawEnd s log
-threads_down s lines thread [] ts log t h d = absurd d
-threads_down s lines thread (rs ∷ all) ts log t h d =
+-- the calls of a thread are valid where the lines are
+valid_calls : (thread : ℕ) (lines : List ScriptLine) → All IsValidLine lines
+    → All IsValidCall (calls_of thread lines)
+valid_calls thread [] ok = All-nil IsValidCall
+valid_calls thread (line ∷ lines) ok =
+    by_case (line.thread == thread)
+    (valid_calls thread lines (All-tail IsValidLine line lines ok))
+  where
+    by_case : (b : Bool) → All IsValidCall (calls_of thread lines)
+        → All IsValidCall (cond b (line.call ∷ calls_of thread lines) (calls_of thread lines))
+    by_case true rest = All-cons IsValidCall line.call (calls_of thread lines)
+        (All-head IsValidLine line lines ok).2 rest
+    by_case false rest = rest
+
+threads_down : (s : Setup) (lines : List ScriptLine) → All IsValidLine lines → (thread : ℕ)
+    (all : List (List Answer)) (ts : List Turn) (log : List LogEntry) (t : ℕ)
+    → ThreadsCame s lines thread all ts log t → HasDown all → SawEnd s log ⊎ Missed s log ts
+threads_down s lines ok thread [] ts log t h d = absurd d
+threads_down s lines ok thread (rs ∷ all) ts log t h d =
+    let mine = h.3.came in
+    let cs = calls_of thread lines in
     elim d [
-      | inl is ↦ all_down s (calls_of thread lines) rs h.0 log t h.3.came is
-      | inr is ↦ threads_down s lines (suc thread) all h.1 log t h.4 is
+      | inl is ↦ elim (all_down s cs rs h.0 log t (valid_calls thread lines ok) mine is) [
+        | inl saw ↦ inl saw
+        | inr m ↦ inr (missed_last s log log ts h.0 h.1 h.2 ([], refl)
+            (λ n. threads_fair s n lines (suc thread) all h.1 log t h.4) m)
+      ]
+      | inr is ↦ elim (threads_down s lines ok (suc thread) all h.1 log t h.4 is) [
+        | inl saw ↦ inl saw
+        | inr m ↦ inr (missed_first s log ts h.0 h.1 h.2
+            (λ n. all_fair s n cs rs h.0 log t mine) m)
+      ]
     ]
 
 -- ---- so the pump had ended it
 
-pub down_ends : (s : Setup) (lines : List ScriptLine) (answers : List (List Answer))
-    (end : PumpEnd) (left0 left1 link0 link1 : Option (List ℕ)) (called pumped closing : List Turn)
-    (seen log : List LogEntry) (t : ℕ) → IsPrefix seen log
-    → ThreadsCame s lines 1 answers called seen t
-    → PumpedBy s end left0 left1 link0 link1 pumped log t → ClosedBy s closing seen log t
-    → ((f : Turn → ℕ) → total f (turns_in log)
-    ≡ total f pumped + (total f closing + total f called))
-    → HasDown answers → EndsLink end
-down_ends s lines answers end left0 left1 link0 link1 called pumped closing seen log t begins came
-    pumps closes all d =
-    let saw = threads_down s lines 1 answers called seen t came d in
-    let n = length saw.seen in
-    let f = early_end n in
-    let there = has_end s.mode n saw.seen (omega arith) saw.over in
-    let whole : IsPrefix saw.seen log = begins_trans saw.seen seen log saw.begins begins in
-    let more : total f (turns_in saw.seen) ≤ total f (turns_in log) =
-    subst (λ l. total f (turns_in saw.seen) ≤ total f (turns_in l)) whole.1
-    (prefix_total f whole.0 saw.seen) in
-    let le = prefix_length n saw.seen seen saw.begins in
-    let z = threads_none n s lines 1 answers called seen t came in
-    let y = closing_none n s closing seen log t le closes in
-    let p : total f pumped ≡ total f (pumps.pumps.ending ++ pumps.pumps.works.turns) =
-    ap (total f) pumps.turns_are in
-    let sum = all f in
-    ends_link n end (setup_at pumps.before) pumps.pumps.ending pumps.pumps.works.turns pumps.after
-    pumps.pumps.finishes pumps.pumps.works.work (omega (arith, there, more, z, y, p, sum))
+module _ (s : Setup) (lines : List ScriptLine) (answers : List (List Answer)) (end : PumpEnd)
+    (left0 left1 link0 link1 : Option (List ℕ)) (called pumped closing : List Turn)
+    (seen log : List LogEntry) (t : ℕ) (begins : IsPrefix seen log)
+    (came : ThreadsCame s lines 1 answers called seen t)
+    (pumps : PumpedBy s end left0 left1 link0 link1 pumped log t)
+    (closes : ClosedBy s closing seen log t)
+    (all : (f : Turn → ℕ) → total f (turns_in log)
+    ≡ total f pumped + (total f closing + total f called)) where
+  saw_ends : SawEnd s seen → EndsLink end
+  saw_ends saw =
+      let n = length saw.seen in
+      let f = early_end n in
+      let there = has_end s.mode n saw.seen (omega arith) saw.over in
+      let whole : IsPrefix saw.seen log = begins_trans saw.seen seen log saw.begins begins in
+      let more : total f (turns_in saw.seen) ≤ total f (turns_in log) =
+      subst (λ l. total f (turns_in saw.seen) ≤ total f (turns_in l)) whole.1
+      (prefix_total f whole.0 saw.seen) in
+      let le = prefix_length saw.seen seen saw.begins in
+      let z = threads_none n s lines 1 answers called seen t came in
+      let y = closing_none n s closing seen log t le closes in
+      let p : total f pumped ≡ total f (pumps.pumps.ending ++ pumps.pumps.works.turns) =
+      ap (total f) pumps.turns_are in
+      let sum = all f in
+      let reached : 1 ≤ total f (pumps.pumps.ending ++ pumps.pumps.works.turns) =
+      omega (arith, there, more, z, y, p, sum) in
+      ends_link n end (setup_at pumps.before) pumps.pumps.ending pumps.pumps.works.turns
+      pumps.after pumps.pumps.finishes pumps.pumps.works.work reached
+
+  none_polled : (n : ℕ) → total (polls n) pumped ≡ 0
+  none_polled n = ap (total (polls n)) pumps.turns_are
+      ∙ pump_polls n end (setup_at pumps.before) pumps.pumps.ending pumps.pumps.works.turns
+      pumps.after pumps.pumps.finishes pumps.pumps.works.work
+
+  none_missing : Missed s seen called → ⊥
+  none_missing m = none_missed s log called pumped closing all none_polled
+      (λ n. closing_polls n s closing seen log t closes)
+      (missed_last s seen log called called [] refl begins (λ n. omega arith) m)
+
+  pub down_ends : All IsValidLine lines → HasDown answers → EndsLink end
+  down_ends ok d = elim (threads_down s lines ok 1 answers called seen t came d) [
+    | inl saw ↦ saw_ends saw
+    | inr m ↦ absurd (none_missing m)
+  ]

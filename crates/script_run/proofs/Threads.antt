@@ -63,6 +63,7 @@ module _ (s : Setup) where
   in_more c a ts log more t u h p le = record {
     seen = h.seen;
     ticket = h.ticket;
+    in_order = h.in_order;
     begins = begins_trans h.seen log more h.begins p;
     not_more = omega (arith, h.not_more, le);
     came = h.came;
@@ -137,6 +138,7 @@ line_then cs rs c a old k new h e l =
           h.came p l.grows.tickets) e (record {
             seen = past_of new;
             ticket = new.tickets;
+            in_order = between_all (past_of k) l.turns (past_of new) l.between;
             begins = ([], refl);
             not_more = omega arith;
             came = subst (λ s. Came s c a l.turns (past_of new) new.tickets) same l.came;

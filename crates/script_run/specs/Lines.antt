@@ -113,11 +113,12 @@ calls_of thread [] = []
 calls_of thread (line ∷ lines) =
     cond (line.thread == thread) (line.call ∷ calls_of thread lines) (calls_of thread lines)
 
--- what was seen of the log and the ticket word is part of this
+-- what was seen of the log and the ticket word is part of this; the turns are in what was seen
 pub record CameIn (s : Setup) (c : ScriptCall) (answer : Answer) (turns : List Turn)
     (log : List LogEntry) (tickets : ℕ) : Type 0 where
   pub seen : List LogEntry
   pub ticket : ℕ
+  pub in_order : Between [] turns seen
   pub begins : IsPrefix seen log
   pub not_more : ticket ≤ tickets
   pub came : Came s c answer turns seen ticket

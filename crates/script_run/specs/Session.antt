@@ -1,6 +1,7 @@
 -- What a session of a script comes to: one log, of which each entry is a turn of a caller, of the
 -- pump, or the end at the last.
 use Rattle.std.specs.Prelude.{◌≡◌, ◌≤◌, ◌⊎◌, ◌+◌, ℕ, ⊤, List, [], ◌∷◌, ◌++◌, length, Option, true}
+use Rattle.std.specs.Prelude.{Some}
 use Rattle.turn_lock.specs.Counts.{total}
 use Rattle.turn_lock.specs.History.{IsPrefix}
 use Rattle.turn_lock.specs.declared.rule.TheConstants.{LAST_TICKET}
@@ -8,32 +9,29 @@ use Rattle.seat_turns.specs.Own.{past_of}
 use Rattle.shared_cache.specs.declared.log.Wire.TheVariants.{Main}
 use Rattle.shared_cache.specs.declared.log.LogEntry.{LogEntry}
 use Rattle.shared_cache.specs.declared.log.LogEntry.TheVariants as entry
-use Rattle.shared_cache.specs.declared.log.ClientRefusal.TheVariants as refusal
 use Rattle.shared_cache.specs.Held.{Setup}
 use Rattle.shared_cache.specs.Laws.{LegalLog}
 use Rattle.shared_cache.specs.Log.{is_ended}
 use Rattle.shared_client.specs.Turns.{Place, Turn, setup_at}
+use Rattle.script_text.specs.declared.answer_line.ScriptAnswer.TheVariants as said
 use Rattle.script_text.specs.declared.script_line.ScriptLine.{ScriptLine}
 use Rattle.script_text.specs.Scripts.{most_threads}
 use Rattle.client_link.specs.declared.pump_end.PumpEnd.{PumpEnd}
 use Rattle.client_link.specs.declared.pump_end.PumpEnd.TheVariants as ended
 use Rattle.client_link.specs.Pumps.{Pumps}
 use Rattle.script_run.specs.declared.answer.Answer.{Answer}
-use Rattle.script_run.specs.declared.answer.Answer.TheVariants.{Hit, Read, Reply, Refused}
+use Rattle.script_run.specs.declared.reports.LineEnd.TheVariants as line
 use Rattle.script_run.specs.Lines.{ThreadsCame}
+use Rattle.script_run.specs.Reports.{line_end}
 
 -- each entry of a log, with the entries before it
 abbrev pub turns_in : List LogEntry → List Turn
 turns_in [] = []
 turns_in (e ∷ log) = (e, log) ∷ turns_in log
 
--- the client was told of the end of its link
+-- the line is printed as down
 abbrev pub IsDown : Answer → Type 0
-IsDown (Refused (refusal.Down w)) = ⊤
-IsDown (Refused r) = ⊥
-IsDown (Hit number value) = ⊥
-IsDown (Read number value) = ⊥
-IsDown (Reply value) = ⊥
+IsDown answer = line_end (Some answer) ≡ line.Said said.Down
 
 abbrev pub AnyDown : List Answer → Type 0
 AnyDown [] = ⊥

@@ -1,6 +1,6 @@
 //! What the server keeps of its connections, by their ids, and what it sends them.
 ghost use Rattle.std.specs.Prelude.{◌≡◌, ◌++◌, ◌∷◌, [], ◌+◌, ◌^◌, ◌<◌, ◌≤◌, true, false, OnOk};
-ghost use Rattle.std.specs.Prelude.{OnErr, IfOk, length, take, drop};
+ghost use Rattle.std.specs.Prelude.{OnErr, IfOk, length, take, drop, option_map};
 ghost use Rattle.serial_model.specs.History.{routed, spelled};
 ghost use Rattle.serial_model.specs.Tracking.{told_to};
 ghost use Rattle.server_book.specs.Connections.{IsId, ConnectionsState, connection_at, fresh};
@@ -199,16 +199,20 @@ impl Connections {
         &mut self,
         alloc: Global,
         entry: u64,
-        key: Option<Octets>,
+        key: Option<&[u8]>,
         to: &[u64],
     ) -> Result<(), NoMemory>
         requires { AreIds self.old.items to.now }
-        ensures ok { OnOk result (self.new ≡ with_sendings entry
-            (routed (modes_of self.old.items) (told_to (told_keys key) to.now)) self.old) }
+        ensures ok { OnOk result (let keys = told_keys (option_map (λ k. k.now) key.entry) in
+            self.new ≡ with_sendings entry
+            (routed (modes_of self.old.items) (told_to keys to.now)) self.old) }
         ensures err { OnErr result
             (before_posts self.new.posts self.new.items
             ≡ before_posts self.old.posts self.old.items) }
     {
+        if to.is_empty() {
+            return Ok(());
+        }
         let push = push_of(alloc, key)?;
         let message = &push;
         for (place, id) in to.iter().enumerate() {

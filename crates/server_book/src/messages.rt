@@ -1,5 +1,5 @@
 //! What connections are sent beside replies.
-ghost use Rattle.std.specs.Prelude.{◌≡◌, IfOk};
+ghost use Rattle.std.specs.Prelude.{◌≡◌, IfOk, option_map};
 ghost use Rattle.resp_value.specs.ValueTree.{tree_of};
 ghost use Rattle.serial_model.specs.Tracking.{named, push_of};
 ghost use Rattle.server_book.specs.Sendings.{told_keys};
@@ -8,13 +8,14 @@ use resp_value::{NoMemory, Octets, Value, Values};
 use std::alloc::Global;
 
 // The key alone, or null for all.
-fn named(alloc: Global, key: Option<Octets>) -> Result<Value, NoMemory>
-    ensures { IfOk result (λ v. tree_of v ≡ named (told_keys key)) }
+fn named(alloc: Global, key: Option<&[u8]>) -> Result<Value, NoMemory>
+    ensures { IfOk result (λ v.
+        tree_of v ≡ named (told_keys (option_map (λ k. k.now) key.entry))) }
 {
     match key {
         Some(key) => {
             let mut keys = Values::new(alloc);
-            keys.push(Value::Blob(key))?;
+            keys.push(Value::Blob(Octets::from_slice(alloc, key)?))?;
             Ok(Value::Array(keys))
         }
         None => Ok(Value::Null),
@@ -22,8 +23,8 @@ fn named(alloc: Global, key: Option<Octets>) -> Result<Value, NoMemory>
 }
 
 /// What a connection that tracks is sent where a key is not what it was, or no key is.
-pub fn push_of(alloc: Global, key: Option<Octets>) -> Result<Value, NoMemory>
-    ensures { IfOk result (λ v. v ≡ push_of (told_keys key)) }
+pub fn push_of(alloc: Global, key: Option<&[u8]>) -> Result<Value, NoMemory>
+    ensures { IfOk result (λ v. v ≡ push_of (told_keys (option_map (λ k. k.now) key.entry))) }
 {
     let mut parts = Values::new(alloc);
     parts.push(Value::Blob(Octets::from_slice(alloc, b"invalidate")?))?;

@@ -54,8 +54,7 @@ fn tell_rows(
         ≡ before_posts connections.old.posts connections.old.items) }
 {
     for (place, row) in rows.iter().enumerate() {
-        let key = Octets::from_slice(alloc, row.key())?;
-        connections.tell(alloc, entry, Some(key), row.holders())?;
+        connections.tell(alloc, entry, Some(row.key()), row.holders())?;
     }
     Ok(())
 }
@@ -126,9 +125,8 @@ impl Stores {
     {
         for (place, key) in keys.iter().enumerate() {
             let holders = self.table.holders(key.as_slice());
-            let key = key.copy()?;
             self.connections
-                .tell(self.alloc, entry, Some(key), holders)?;
+                .tell(self.alloc, entry, Some(key.as_slice()), holders)?;
         }
         Ok(())
     }

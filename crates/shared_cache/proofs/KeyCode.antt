@@ -15,13 +15,7 @@ use Rattle.shared_cache.proofs.KeyTests.{same_bytes, bytes_same}
 use Rattle.shared_cache.proofs.PlainKeys.{plain, value_plain, put_plain}
 
 abbrev pub Kept : Type 0
-Kept = List (Vec ℕ Global × Vec CacheEntry Global)
-
-items_or : (q : Words) (o : Option (Vec CacheEntry Global))
-    → option_map_or (λ v. held_for q v.items) o None ≡ option_map_or (held_for q)
-    (option_map (λ v. v.items) o) None
-items_or q None = refl
-items_or q (Some v) = refl
+Kept = List (Vec ℕ Global × List CacheEntry)
 
 pair_or : (q : Words) (o : Option (Key × List CacheEntry))
     → option_map_or (held_for q) (option_map (λ p. p.1) o) None ≡ option_map_or
@@ -29,39 +23,26 @@ pair_or : (q : Words) (o : Option (Key × List CacheEntry))
 pair_or q None = refl
 pair_or q (Some p) = refl
 
-pub found_plain : (q : Words) (k : Key) (es : Kept) (o : Option (Vec CacheEntry Global))
+pub found_plain : (q : Words) (k : Key) (es : Kept) (o : Option (List CacheEntry))
     → k ≡ key_of q → o ≡ lookup (λ y. bytes_eq k y.items) es
-    → option_map_or (λ v. held_for q v.items) o None ≡ found_in q (map plain es)
+    → option_map_or (held_for q) o None ≡ found_in q (map plain es)
 found_plain q k es o e f =
-    items_or q o
-    ∙ ap (λ x. option_map_or (held_for q) x None)
-    (ap (option_map (λ (v : Vec CacheEntry Global). v.items)) f ∙ value_plain (bytes_eq k) es)
+    ap (λ x. option_map_or (held_for q) x None) (f ∙ value_plain (bytes_eq k) es)
     ∙ pair_or q (lookup_entry (bytes_eq k) (map plain es))
     ∙ ap (λ j. option_map_or (λ (p : Key × List CacheEntry). held_for q p.1)
     (lookup_entry (bytes_eq j) (map plain es)) None) e
-
-list_or : (o : Option (Vec CacheEntry Global))
-    → option_map_or (λ v. v.items) o [] ≡ option_map_or (λ l. l) (option_map (λ v. v.items) o) []
-list_or None = refl
-list_or (Some v) = refl
 
 pair_list : (o : Option (Key × List CacheEntry))
     → option_map_or (λ l. l) (option_map (λ p. p.1) o) [] ≡ option_map_or (λ p. p.1) o []
 pair_list None = refl
 pair_list (Some p) = refl
 
-pub entries_plain : (k : Key) (es : Kept) (o : Option (Vec CacheEntry Global))
+pub entries_plain : (k : Key) (es : Kept) (o : Option (List CacheEntry))
     → o ≡ lookup (λ y. bytes_eq k y.items) es
-    → option_map_or (λ v. v.items) o [] ≡ entries_of k (map plain es)
+    → option_map_or (λ l. l) o [] ≡ entries_of k (map plain es)
 entries_plain k es o f =
-    list_or o
-    ∙ ap (λ x. option_map_or (λ (l : List CacheEntry). l) x [])
-    (ap (option_map (λ (v : Vec CacheEntry Global). v.items)) f ∙ value_plain (bytes_eq k) es)
+    ap (λ x. option_map_or (λ (l : List CacheEntry). l) x []) (f ∙ value_plain (bytes_eq k) es)
     ∙ pair_list (lookup_entry (bytes_eq k) (map plain es))
-
-some_or : (o : Option (Vec CacheEntry Global)) → is_some o ≡ is_some (option_map (λ v. v.items) o)
-some_or None = refl
-some_or (Some v) = refl
 
 some_pair : (o : Option (Key × List CacheEntry)) → is_some (option_map (λ p. p.1) o) ≡ is_some o
 some_pair None = refl
@@ -71,12 +52,11 @@ pub some_plain : (k : Key) (es : Kept)
     → is_some (lookup (λ y. bytes_eq k y.items) es) ≡ is_some
     (lookup_entry (bytes_eq k) (map plain es))
 some_plain k es =
-    some_or (lookup (λ y. bytes_eq k y.items) es) ∙ ap is_some (value_plain (bytes_eq k) es)
-    ∙ some_pair (lookup_entry (bytes_eq k) (map plain es))
+    ap is_some (value_plain (bytes_eq k) es) ∙ some_pair (lookup_entry (bytes_eq k) (map plain es))
 
 -- the pair that is found has the key
-key_is : (k : Key) (ps : Pairs) (p : Key × List CacheEntry) → lookup_entry (bytes_eq k) ps ≡ Some p
-    → k ≡ p.0
+pub key_is : (k : Key) (ps : Pairs) (p : Key × List CacheEntry)
+    → lookup_entry (bytes_eq k) ps ≡ Some p → k ≡ p.0
 key_is k [] p e = cc
 key_is k (r ∷ ps) p e = elim (cases_Bool (bytes_eq k r.0)) [
   | inl same ↦
@@ -96,13 +76,13 @@ put_cases k vs most ps None e = refl
 put_cases k vs most ps (Some p) e =
     ap (λ j. (j, vs) ∷ remove_entry (bytes_eq k) ps) (sym (key_is k ps p e))
 
-pub put_others : (es : Kept) (k : Vec ℕ Global) (v : Vec CacheEntry Global) (most : ℕ)
+pub put_others : (es : Kept) (k : Vec ℕ Global) (v : List CacheEntry) (most : ℕ)
     → map plain (option_map_or (λ e. (e.0, v) ∷ remove_entry (λ y. bytes_eq k.items y.items) es)
     (lookup_entry (λ y. bytes_eq k.items y.items) es) ((k, v) ∷ take (most - 1) es))
-    ≡ (k.items, v.items) ∷ others k.items most (map plain es)
+    ≡ (k.items, v) ∷ others k.items most (map plain es)
 put_others es k v most =
     put_plain (bytes_eq k.items) es k v (most - 1)
-    ∙ put_cases k.items v.items most (map plain es)
+    ∙ put_cases k.items v most (map plain es)
     (lookup_entry (bytes_eq k.items) (map plain es)) refl
 
 some_others : (k : Key) (most : ℕ) (ps : Pairs) (o : Option (Key × List CacheEntry))
@@ -126,3 +106,13 @@ first_there k vs ps =
 pub without_first : (k : Key) (vs : List CacheEntry) (ps : Pairs)
     → remove_entry (bytes_eq k) ((k, vs) ∷ ps) ≡ ps
 without_first k vs ps = ap (λ b. cond b ps ((k, vs) ∷ remove_entry (bytes_eq k) ps)) (same_bytes k)
+
+none_by : (o : Option (Key × List CacheEntry)) → is_some o ≡ false
+    → option_map_or (λ p. p.1) o [] ≡ []
+none_by None s = refl
+none_by (Some p) s = let no : true ≡ false = s in cc
+
+-- nothing is held of a key that is not there
+pub none_of : (k : Key) (ps : Pairs) → is_some (lookup_entry (bytes_eq k) ps) ≡ false
+    → entries_of k ps ≡ []
+none_of k ps s = none_by (lookup_entry (bytes_eq k) ps) s

@@ -27,3 +27,4 @@ pub mod LastUses
 pub mod Keeps
 pub mod Places
 pub mod Listing
+pub mod KeyReads

@@ -6,10 +6,10 @@ use Rattle.std.specs.Map.{lookup, lookup_entry, remove_entry}
 use Rattle.std.specs.Option.{option_map_or}
 
 module _ {X : Type 0} where
-  abbrev pub plain : Vec ℕ Global × Vec X Global → List ℕ × List X
-  plain p = (p.0.items, p.1.items)
+  abbrev pub plain : Vec ℕ Global × X → List ℕ × X
+  plain p = (p.0.items, p.1)
 
-  pub entry_plain : (t : List ℕ → Bool) (es : List (Vec ℕ Global × Vec X Global))
+  pub entry_plain : (t : List ℕ → Bool) (es : List (Vec ℕ Global × X))
       → option_map plain (lookup_entry (λ k. t k.items) es) ≡ lookup_entry t (map plain es)
   entry_plain t [] = refl
   entry_plain t (e ∷ es) =
@@ -18,18 +18,16 @@ module _ {X : Type 0} where
       (Some (plain e)) (lookup_entry t (map plain es)))
       [ true ↦ refl | false ↦ entry_plain t es ]
 
-  pub value_plain : (t : List ℕ → Bool) (es : List (Vec ℕ Global × Vec X Global))
-      → option_map (λ v. v.items) (lookup (λ k. t k.items) es) ≡ option_map (λ p. p.1)
-      (lookup_entry t (map plain es))
+  pub value_plain : (t : List ℕ → Bool) (es : List (Vec ℕ Global × X))
+      → lookup (λ k. t k.items) es ≡ option_map (λ p. p.1) (lookup_entry t (map plain es))
   value_plain t [] = refl
   value_plain t (e ∷ es) =
       elim (t e.0.items) as
-      (λ b. option_map (λ v. v.items)
-      (cond b (Some e.1) (lookup (λ k. t k.items) es)) ≡ option_map (λ p. p.1)
+      (λ b. cond b (Some e.1) (lookup (λ k. t k.items) es) ≡ option_map (λ p. p.1)
       (cond b (Some (plain e)) (lookup_entry t (map plain es))))
       [ true ↦ refl | false ↦ value_plain t es ]
 
-  pub remove_plain : (t : List ℕ → Bool) (es : List (Vec ℕ Global × Vec X Global))
+  pub remove_plain : (t : List ℕ → Bool) (es : List (Vec ℕ Global × X))
       → map plain (remove_entry (λ k. t k.items) es) ≡ remove_entry t (map plain es)
   remove_plain t [] = refl
   remove_plain t (e ∷ es) =
@@ -38,14 +36,14 @@ module _ {X : Type 0} where
       (plain e ∷ remove_entry t (map plain es)))
       [ true ↦ refl | false ↦ ap (λ r. plain e ∷ r) (remove_plain t es) ]
 
-  first_plain : (o : Option (Vec ℕ Global × Vec X Global))
-      (rest es : List (Vec ℕ Global × Vec X Global))
+  first_plain : (o : Option (Vec ℕ Global × X))
+      (rest es : List (Vec ℕ Global × X))
       → map plain (option_map_or (λ e. e ∷ rest) o es) ≡ option_map_or (λ e. e ∷ map plain rest)
       (option_map plain o) (map plain es)
   first_plain (Some e) rest es = refl
   first_plain None rest es = refl
 
-  pub promoted_plain : (t : List ℕ → Bool) (es : List (Vec ℕ Global × Vec X Global))
+  pub promoted_plain : (t : List ℕ → Bool) (es : List (Vec ℕ Global × X))
       → map plain (option_map_or (λ e. e ∷ remove_entry (λ k. t k.items) es)
       (lookup_entry (λ k. t k.items) es) es)
       ≡ option_map_or (λ e. e ∷ remove_entry t (map plain es)) (lookup_entry t (map plain es))
@@ -57,28 +55,28 @@ module _ {X : Type 0} where
       ∙ ap (λ o. option_map_or (λ e. e ∷ remove_entry t (map plain es)) o (map plain es))
       (entry_plain t es)
 
-  pub take_plain : (n : ℕ) (es : List (Vec ℕ Global × Vec X Global))
+  pub take_plain : (n : ℕ) (es : List (Vec ℕ Global × X))
       → map plain (take n es) ≡ take n (map plain es)
   take_plain zero es = refl
   take_plain (suc n) [] = refl
   take_plain (suc n) (e ∷ es) = ap (λ r. plain e ∷ r) (take_plain n es)
 
-  put_by : (t : List ℕ → Bool) (es : List (Vec ℕ Global × Vec X Global)) (k : Vec ℕ Global)
-      (v : Vec X Global) (n : ℕ) (o : Option (Vec ℕ Global × Vec X Global))
+  put_by : (t : List ℕ → Bool) (es : List (Vec ℕ Global × X)) (k : Vec ℕ Global)
+      (v : X) (n : ℕ) (o : Option (Vec ℕ Global × X))
       → map plain (option_map_or (λ e. (e.0, v) ∷ remove_entry (λ y. t y.items) es) o
       ((k, v) ∷ take n es))
-      ≡ option_map_or (λ e. (e.0, v.items) ∷ remove_entry t (map plain es)) (option_map plain o)
-      ((k.items, v.items) ∷ take n (map plain es))
-  put_by t es k v n None = ap (λ r. (k.items, v.items) ∷ r) (take_plain n es)
-  put_by t es k v n (Some e) = ap (λ r. (e.0.items, v.items) ∷ r) (remove_plain t es)
+      ≡ option_map_or (λ e. (e.0, v) ∷ remove_entry t (map plain es)) (option_map plain o)
+      ((k.items, v) ∷ take n (map plain es))
+  put_by t es k v n None = ap (λ r. (k.items, v) ∷ r) (take_plain n es)
+  put_by t es k v n (Some e) = ap (λ r. (e.0.items, v) ∷ r) (remove_plain t es)
 
-  pub put_plain : (t : List ℕ → Bool) (es : List (Vec ℕ Global × Vec X Global)) (k : Vec ℕ Global)
-      (v : Vec X Global) (n : ℕ)
+  pub put_plain : (t : List ℕ → Bool) (es : List (Vec ℕ Global × X)) (k : Vec ℕ Global)
+      (v : X) (n : ℕ)
       → map plain (option_map_or (λ e. (e.0, v) ∷ remove_entry (λ y. t y.items) es)
       (lookup_entry (λ y. t y.items) es) ((k, v) ∷ take n es))
-      ≡ option_map_or (λ e. (e.0, v.items) ∷ remove_entry t (map plain es))
-      (lookup_entry t (map plain es)) ((k.items, v.items) ∷ take n (map plain es))
+      ≡ option_map_or (λ e. (e.0, v) ∷ remove_entry t (map plain es))
+      (lookup_entry t (map plain es)) ((k.items, v) ∷ take n (map plain es))
   put_plain t es k v n =
       put_by t es k v n (lookup_entry (λ y. t y.items) es)
-      ∙ ap (λ o. option_map_or (λ e. (e.0, v.items) ∷ remove_entry t (map plain es)) o
-      ((k.items, v.items) ∷ take n (map plain es))) (entry_plain t es)
+      ∙ ap (λ o. option_map_or (λ e. (e.0, v) ∷ remove_entry t (map plain es)) o
+      ((k.items, v) ∷ take n (map plain es))) (entry_plain t es)

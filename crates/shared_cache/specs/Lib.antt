@@ -7,3 +7,5 @@ pub mod ClientFields
 pub mod PendingReplies
 pub mod Laws
 pub mod HeldKeys
+pub mod Slots
+pub mod KeyReads

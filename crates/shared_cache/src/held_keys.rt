@@ -1,17 +1,20 @@
 //! What is held, by key: a look-up, a use, a fill and an invalidation cost the same however many
 //! keys are held.
-ghost use Rattle.std.specs.Prelude.{◌≡◌, ◌==◌, ◌<◌, ◌≤◌, ◌+◌, ◌++◌, ◌∷◌, [], IfOk, OnOk, OnErr};
+ghost use Rattle.std.specs.Prelude.{◌≡◌, ◌==◌, ◌<◌, ◌≤◌, ◌++◌, ◌∷◌, [], IfOk, OnOk, OnErr};
 ghost use Rattle.std.specs.Prelude.{length};
-ghost use Rattle.std.specs.Prelude.{is_some, true, option_copied, vec_len, vec_capacity};
+ghost use Rattle.std.specs.Prelude.{is_some, true, false, option_copied, vec_capacity};
+ghost use Rattle.command_words.specs.Queries.{key_of};
 ghost use Rattle.std.specs.Map.{lookup_entry, remove_entry};
 ghost use Rattle.std.specs.Str.{bytes_eq};
 ghost use Rattle.lru.specs.LruCache.{promoted};
 ghost use Rattle.shared_cache.specs.Held.{held_for, rank, ranked, held_in_place};
 ghost use Rattle.shared_cache.specs.HeldKeys.{found_in, entries_of, others, stored, with_pairs};
 ghost use Rattle.shared_cache.specs.HeldKeys.{forgotten, listed, seen, IsSortedAs};
+ghost use Rattle.shared_cache.specs.KeyReads.{AreOfKey};
 
 use super::entry::CacheEntry;
-use super::slot::Slot;
+use super::slot::{Slot, is_get};
+use super::slots::Slots;
 use command_words::{Query, Written};
 use lru::LruCache;
 use resp_value::NoMemory;
@@ -22,7 +25,7 @@ use std::num::NonZeroUsize;
 /// The keys that are held, the one used last first, each with its entries in order of the fetches.
 #[derive(Drop)]
 pub struct HeldKeys {
-    keys: LruCache<Vec<u8>, Vec<Slot>>,
+    keys: LruCache<Vec<u8>, Slots>,
 }
 
 impl Model for HeldKeys {
@@ -36,16 +39,22 @@ impl Model for HeldKeys {
     ghost coded = { Prim.hlevel (codes, tree_code) };
 
     ghost view = { λ h. record {
-      pairs = map (λ p. (p.0.items, p.1.items)) h.keys.entries;
+      pairs = map (λ p. (p.0.items, p.1)) h.keys.entries;
       most = h.keys.cap;
     } };
+
+    ghost use Rattle.shared_cache.specs.KeyReads.{AreOfKeys};
+
+    ghost invariant = { λ h. AreOfKeys (map (λ p. (p.0.items, p.1)) h.keys.entries) };
 }
 
 fn entry_for<'a>(entries: &'a [Slot], query: &Query) -> Option<&'a CacheEntry>
+    requires { AreOfKey (key_of query.now) entries.now }
     ensures { option_copied result ≡ held_for query.now entries.now }
 {
+    let get = is_get(query);
     for slot in entries {
-        if slot.entry().query.is_same(query) {
+        if slot.is_of(query, get) {
             return Some(slot.entry());
         }
     }
@@ -95,16 +104,6 @@ fn with_room(alloc: Global, entries: &[Slot]) -> Result<Vec<Slot>, NoMemory>
     Ok(room)
 }
 
-fn move_all(old: Vec<Slot>, entries: &mut Vec<Slot>)
-    requires { vec_len entries.old + vec_len old < vec_capacity entries.old }
-    ensures items { entries.new.items ≡ entries.old.items ++ old.items }
-    ensures room { vec_len entries.new < vec_capacity entries.new }
-{
-    for entry in old {
-        entries.push_reserved(entry);
-    }
-}
-
 impl HeldKeys {
     /// No key; so many may be held.
     pub fn new(alloc: Global, capacity: u64) -> Result<HeldKeys, NoMemory>
@@ -125,7 +124,7 @@ impl HeldKeys {
         ensures { option_copied result ≡ found_in query.now self.now.pairs }
     {
         let entries = self.keys.peek(query.key())?;
-        entry_for(entries, query)
+        entry_for(entries.as_slice(), query)
     }
 
     /// The key was used.
@@ -169,7 +168,7 @@ impl HeldKeys {
     {
         let mut count = 0;
         for (_, entries) in self.keys.iter() {
-            let more = rank(slot, entries);
+            let more = rank(slot, entries.as_slice());
             if more > place - count {
                 return false;
             }
@@ -195,7 +194,7 @@ impl HeldKeys {
         ensures { option_copied result ≡ held_in_place place (listed self.now.pairs) }
     {
         for (_, entries) in self.keys.iter() {
-            match self.entry_among(place, entries) {
+            match self.entry_among(place, entries.as_slice()) {
                 Some(entry) => return Some(entry),
                 None => {}
             }
@@ -209,7 +208,7 @@ impl HeldKeys {
     {
         let mut slots = Vec::new(alloc);
         for (_, entries) in self.keys.iter() {
-            put_slots(entries, &mut slots)?;
+            put_slots(entries.as_slice(), &mut slots)?;
         }
         Ok(slots)
     }
@@ -230,22 +229,23 @@ impl HeldKeys {
             (λ v. length (entries_of key.now self.now.pairs) < vec_capacity v) }
     {
         match self.keys.peek(key) {
-            Some(entries) => with_room(alloc, entries),
+            Some(entries) => with_room(alloc, entries.as_slice()),
             None => with_room(alloc, &[]),
         }
     }
 
     // The entries of the key go out, and it is the one used last.
-    fn take_entries(&mut self, alloc: Global, key: Vec<u8>) -> Result<Vec<Slot>, NoMemory>
-        ensures entries { IfOk result (λ v. v.items ≡ entries_of key.items self.old.pairs) }
+    fn take_entries(&mut self, alloc: Global, key: Vec<u8>) -> Result<Slots, NoMemory>
+        ensures entries { IfOk result (λ s. s ≡ entries_of key.items self.old.pairs) }
+        ensures of_key { IfOk result (λ s. AreOfKey key.items s) }
         ensures ok { OnOk result (self.new ≡ with_pairs
             ((key.items, []) ∷ others key.items self.old.most self.old.pairs) self.old) }
         ensures err { OnErr result (self.new ≡ self.old) }
     {
-        match self.keys.put(key, Vec::new(alloc)) {
+        match self.keys.put(key, Slots::none(alloc)) {
             Ok(old) => match old {
                 Some(entries) => Ok(entries),
-                None => Ok(Vec::new(alloc)),
+                None => Ok(Slots::none(alloc)),
             },
             Err(_) => Err(NoMemory),
         }
@@ -253,19 +253,40 @@ impl HeldKeys {
 
     // The key, which is there, has these entries, and is the one used last.
     fn give_entries(&mut self, key: Vec<u8>, entries: Vec<Slot>)
-        requires { is_some (lookup_entry (bytes_eq key.items) self.old.pairs) ≡ true }
+        requires of_key { AreOfKey key.items entries.items }
+        requires there { is_some (lookup_entry (bytes_eq key.items) self.old.pairs) ≡ true }
         ensures { self.new ≡ with_pairs ((key.items, entries.items)
             ∷ remove_entry (bytes_eq key.items) self.old.pairs) self.old }
     {
-        match self.keys.put(key, entries) {
+        match self.keys.put(key, Slots::many(entries)) {
             Ok(_) => {}
             Err(_) => unreachable!(),
         }
     }
 
-    /// The entry is held, and its key is the one used last. Where as many keys are held as may be,
-    /// and this is none of them, the one used earliest leaves.
-    pub fn put(&mut self, alloc: Global, entry: CacheEntry) -> Result<(), NoMemory>
+    fn has_key(&self, key: &[u8]) -> bool
+        ensures { result ≡ is_some (lookup_entry (bytes_eq key.now) self.now.pairs) }
+    {
+        self.keys.contains(key)
+    }
+
+    // The first entry of a key.
+    fn put_first(&mut self, alloc: Global, entry: CacheEntry) -> Result<(), NoMemory>
+        requires { is_some (lookup_entry (bytes_eq (key_of entry.query)) self.old.pairs) ≡ false }
+        ensures ok { OnOk result
+            (self.new ≡ with_pairs (stored self.old.most entry self.old.pairs) self.old) }
+        ensures err { OnErr result (self.new ≡ self.old) }
+    {
+        let key = Vec::from_slice(alloc, entry.query.key())?;
+        let slot = Slot::new(alloc, entry)?;
+        match self.keys.put(key, Slots::one(slot)) {
+            Ok(_) => Ok(()),
+            Err(_) => Err(NoMemory),
+        }
+    }
+
+    // An entry behind those that its key has.
+    fn put_behind(&mut self, alloc: Global, entry: CacheEntry) -> Result<(), NoMemory>
         ensures ok { OnOk result
             (self.new ≡ with_pairs (stored self.old.most entry self.old.pairs) self.old) }
         ensures err { OnErr result (self.new ≡ self.old) }
@@ -275,9 +296,23 @@ impl HeldKeys {
         let second = Vec::from_slice(alloc, entry.query.key())?;
         let slot = Slot::new(alloc, entry)?;
         let old = self.take_entries(alloc, first)?;
-        move_all(old, &mut entries);
+        old.move_to(&mut entries);
         entries.push_reserved(slot);
         self.give_entries(second, entries);
         Ok(())
+    }
+
+    /// The entry is held, and its key is the one used last. Where as many keys are held as may be,
+    /// and this is none of them, the one used earliest leaves.
+    pub fn put(&mut self, alloc: Global, entry: CacheEntry) -> Result<(), NoMemory>
+        ensures ok { OnOk result
+            (self.new ≡ with_pairs (stored self.old.most entry self.old.pairs) self.old) }
+        ensures err { OnErr result (self.new ≡ self.old) }
+    {
+        if self.has_key(entry.query.key()) {
+            self.put_behind(alloc, entry)
+        } else {
+            self.put_first(alloc, entry)
+        }
     }
 }

@@ -11,6 +11,7 @@ mod log;
 mod notices;
 mod pending;
 mod slot;
+mod slots;
 
 pub use client::ClientState;
 pub use entry::{CacheEntry, PendingReply};

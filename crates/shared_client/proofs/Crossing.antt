@@ -21,6 +21,9 @@ use Rattle.shared_cache.specs.contracts.entry.PendingReply as pending
 use Rattle.shared_cache.specs.contracts.log.LogEntry as log
 use Rattle.shared_cache.specs.contracts.slot.Slot as slot
 use Rattle.shared_cache.specs.contracts.slot.Slot.TheInside as slot_parts
+use Rattle.shared_cache.specs.contracts.slots.SlotList as list
+use Rattle.shared_cache.specs.contracts.slots.Slots as slots
+use Rattle.shared_cache.specs.contracts.slots.Slots.TheInside as slots_parts
 use Rattle.shared_cache.specs.contracts.held_keys.HeldKeys as keys
 use Rattle.shared_cache.specs.contracts.pending.PendingReplies as replies
 use Rattle.shared_cache.specs.contracts.pending.PendingReplies.TheInside as replies_parts
@@ -55,15 +58,25 @@ ruleset of_slot = (sendable, entry_send, octets.the_send, as_row_send)
 slot_inside : IsSend slot_parts.the_row
 slot_inside = declared_send slot_parts.the_type (
   search of_slot depth 10,
-  (search of_slot depth 10, tt),
+  (search of_slot depth 10, (search of_slot depth 10, tt)),
 )
 
 slot_send : IsSend slot.the_row
 slot_send = view_send _ _ _ _ _ slot_inside
 
+list_send : IsSend list.the_row
+list_send = search (sendable, vectors, slot_send) depth 20
+
+slots_inside : IsSend slots_parts.the_row
+slots_inside =
+    declared_send slots_parts.the_type (search (sendable, list_send) depth 10, tt)
+
+slots_send : IsSend slots.the_row
+slots_send = view_send _ _ _ _ _ slots_inside
+
 keys_send : IsSend keys.the_row
 keys_send =
-    search (sendable, vectors, slot_send, builder.the_send, hasher.the_send, lru.the_send) depth 20
+    search (sendable, vectors, slots_send, builder.the_send, hasher.the_send, lru.the_send) depth 20
 
 ruleset of_replies = (sendable, deque.the_send, heap.the_send, frees, pending_send, as_row_send)
 

@@ -9,7 +9,7 @@ ghost use Rattle.string_cmds.specs.Counted.{IsAdditionAt};
 
 use super::keys::each_key_once;
 use super::reads::{get, getrange, mget, strlen};
-use super::writes::{MOST_BYTES, sets};
+use super::writes::{MOST_BYTES, is_set};
 use command_rows::{
     Addition, add, not_integer, ok, only, overflow, replied, too_long, wrong_type, wrote,
 };
@@ -32,7 +32,7 @@ fn foresee_set(
     ensures signals { IfOk result (λ d.
         d.signalled ≡ (set_effect key.now value.now when life space.now moment).signalled) }
 {
-    if sets(when, space.get(key).is_some()) {
+    if is_set(space, key, when) {
         Ok(wrote(ok(alloc)?, only(alloc, key)?))
     } else {
         Ok(replied(alloc, Value::Null))

@@ -2,6 +2,7 @@
 //!
 //! All that may fail comes before the keyspace changes.
 ghost use Rattle.std.specs.Prelude.{◌≡◌, OnOk, OnErr, None};
+ghost use Rattle.std.specs.FinMap.{contains_key};
 ghost use Rattle.command_words.specs.Space.{content_at, deadline_at};
 ghost use Rattle.command_words.specs.Strings.{moment_after, set_deadline, set_effect, sets};
 ghost use Rattle.command_words.specs.Strings.{setnx_effect, getdel_effect, append_effect};
@@ -21,14 +22,14 @@ use std::alloc::Global;
 /// The most bytes of a string.
 pub(crate) const MOST_BYTES: usize = 16_777_216;
 
-/// Whether SET with this option sets a key that is there, or one that is not.
-pub(crate) fn sets(when: SetWhen, there: bool) -> bool
-    ensures { result ≡ sets when there }
+/// Whether SET with this option sets the key, which is looked up only where that decides it.
+pub(crate) fn is_set(space: &Keyspace, key: &[u8], when: SetWhen) -> bool
+    ensures { result ≡ sets when (contains_key space.now key.now) }
 {
     match when {
         SetWhen::Always => true,
-        SetWhen::Nx => !there,
-        SetWhen::Xx => there,
+        SetWhen::Nx => space.get(key).is_none(),
+        SetWhen::Xx => space.get(key).is_some(),
     }
 }
 
@@ -44,18 +45,6 @@ pub fn moment_after(moment: u64, unit: u64, number: i64) -> u64
     }
 }
 
-/// The deadline that SET leaves, from the one that the key had.
-fn deadline(life: SetLife, moment: u64, had: Option<u64>) -> Option<u64>
-    ensures { result ≡ set_deadline life moment had }
-{
-    match life {
-        SetLife::Cleared => None,
-        SetLife::Seconds(number) => Some(moment_after(moment, 1000, number)),
-        SetLife::Millis(number) => Some(moment_after(moment, 1, number)),
-        SetLife::Kept => had,
-    }
-}
-
 /// The deadline of the key.
 pub(crate) fn deadline_of(space: &Keyspace, key: &[u8]) -> Option<u64>
     ensures { result ≡ deadline_at key.now space.now }
@@ -63,6 +52,18 @@ pub(crate) fn deadline_of(space: &Keyspace, key: &[u8]) -> Option<u64>
     match space.get(key) {
         None => None,
         Some(held) => held.deadline,
+    }
+}
+
+/// The deadline that SET leaves; the one that the key had is looked up only where it stays.
+fn deadline_after(space: &Keyspace, key: &[u8], life: SetLife, moment: u64) -> Option<u64>
+    ensures { result ≡ set_deadline life moment (deadline_at key.now space.now) }
+{
+    match life {
+        SetLife::Cleared => None,
+        SetLife::Seconds(number) => Some(moment_after(moment, 1000, number)),
+        SetLife::Millis(number) => Some(moment_after(moment, 1, number)),
+        SetLife::Kept => deadline_of(space, key),
     }
 }
 
@@ -92,12 +93,12 @@ pub(crate) fn set(
     ensures { IsRow (set_effect key.now value.now when life space.old moment)
         result space.old space.new }
 {
-    if !sets(when, space.get(key).is_some()) {
+    if !is_set(space, key, when) {
         return Ok(replied(alloc, Value::Null));
     }
     let reply = ok(alloc)?;
     let keys = only(alloc, key)?;
-    let deadline = deadline(life, moment, deadline_of(space, key));
+    let deadline = deadline_after(space, key, life, moment);
     put_text(space, key, value.copy()?, deadline)?;
     Ok(wrote(reply, keys))
 }

@@ -1,7 +1,6 @@
-use Rattle.std.proofs.Common.{List, ℕ, ◌++◌, ◌≡◌, subst, ap, ◌∙◌, sym}
-use Rattle.client_link.specs.Pumps.{end_number}
+use Rattle.std.proofs.Common.{◌++◌, ◌≡◌, subst, ap, ◌∙◌, sym}
 use Rattle.script_run.specs.Session.{Session}
-use Rattle.script_run.specs.Reports.{ends_of, no_tally, session_end, tally_after, text_after}
+use Rattle.script_run.specs.Reports.{ends_of, no_tally, text_after}
 use Rattle.script_program.specs.declared.run.ScriptEnd.TheVariants as ended
 use Rattle.script_program.specs.Written.{EndWrites, Reports, client_of}
 use Rattle.script_program.proofs.Ending.{end_shows}

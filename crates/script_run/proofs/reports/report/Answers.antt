@@ -1,6 +1,6 @@
 use Rattle.std.proofs.Common.{ap, sym, ◌∙◌, ◌+◌, ◌-◌, ◌++◌, [], cond, append-nil, length}
 use Rattle.std.proofs.lemmas.Result.{err_from_is_err_and}
-use Rattle.script_run.specs.Reports.{is_printing, said_text, line_end, ends_of}
+use Rattle.script_run.specs.Reports.{said_text, line_end}
 use Rattle.script_run.proofs.Reporting.{line_printed, rest_length}
 use Rattle.script_run.proofs.reports.report.Goals as goal
 use Rattle.script_run.proofs.reports.report.Goals.{then-is_printing+in_ok-put_said}

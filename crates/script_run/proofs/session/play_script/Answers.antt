@@ -11,5 +11,5 @@ returns-clause-session g c =
     c.in_ok-lock.ensures.seat cut.ensures.old cut.ensures.new both.result.0.0
     both.result.1.seat c.join.new.seat c.join.ensures.both c.join.ensures.seen.0
     c.join.ensures.seen.1 both.ensures.pumps both.ensures.calls closed.client.state.past
-    closed.client.tickets closed.ensures.ok.1 closed.ensures.tickets.1 closed.ensures.all.0
-    c.close.ensures.sound
+    closed.client.tickets c.requires.lines closed.ensures.ok.1 closed.ensures.tickets.1
+    closed.ensures.all.0 c.close.ensures.sound

@@ -22,15 +22,9 @@ tell-requires c =
 
 pub returns-in_err-tell-clause-back : goal.returns-in_err-tell-clause-back
 returns-in_err-tell-clause-back c =
-    on_err c.from_residual-in_err-tell.result _
+    on_err c.from_residual.result _
     (c.in_err-tell.ensures.err
     ∙ back_still c.args.entry c.args.connections.now c.loop-place.connections c.args.rows.now
-    c.loop-place.place c.requires c.loop-place.invariant)
-
-pub returns-in_err-key-clause-back : goal.returns-in_err-key-clause-back
-returns-in_err-key-clause-back c =
-    on_err c.from_residual.result _
-    (back_still c.args.entry c.args.connections.now c.loop-place.connections c.args.rows.now
     c.loop-place.place c.requires c.loop-place.invariant)
 
 pub loop-place-preserved : goal.loop-place-preserved
@@ -40,8 +34,8 @@ loop-place-preserved c =
     let lt : k < length rows = omega (arith, c.loop-place-test.true) in
     let row = get_or_read rows k c.index-rows-place.result lt c.index-rows-place.is nobody in
     told_more c.args.entry c.args.connections.now c.loop-place.connections rows k c.requires
-    c.loop-place.invariant c.in_ok-key.key c.holders.result.now c.tell.new.self lt
-    (c.in_ok-key.ensures ∙ c.key.ensures ∙ ap (λ (r : Held). r.key) row)
+    c.loop-place.invariant c.key.result.now c.holders.result.now c.tell.new.self lt
+    (c.key.ensures ∙ ap (λ (r : Held). r.key) row)
     (c.holders.ensures ∙ ap (λ (r : Held). r.holders) row)
     c.in_ok-tell.ensures.ok
 

@@ -1,4 +1,5 @@
 use Rattle.std.proofs.Common.{ap, ◌∙◌, arith, length, ◌<◌}
+use Rattle.std.specs.Option.{option_map}
 use Rattle.resp_value.specs.declared.value.Proto.TheVariants.{Three}
 use Rattle.serial_model.specs.History.{spelled}
 use Rattle.server_book.specs.Connections.{ConnectionsState}
@@ -11,20 +12,22 @@ use Rattle.server_book.proofs.connections.Connections.tell.Goals.{in-Three+in_ok
 
 pub mode-requires : goal.mode-requires
 mode-requires c =
+    let keys = told_keys (option_map (λ k. k.now) c.args.key) in
     let lt : c.loop-place.place < length c.args.to.now = omega (arith, c.loop-place-test.true) in
-    next_there c.args.entry (told_keys c.args.key) c.args.to.now c.loop-place.place c.args.self.now
+    next_there c.args.entry keys c.args.to.now c.loop-place.place c.args.self.now
     c.loop-place.self lt c.requires c.loop-place.invariant
 
 pub send-requires : goal.send-requires
 send-requires c =
+    let keys = told_keys (option_map (λ k. k.now) c.args.key) in
     let lt : c.loop-place.place < length c.args.to.now = omega (arith, c.loop-place-test.true) in
-    next_there c.args.entry (told_keys c.args.key) c.args.to.now c.loop-place.place c.args.self.now
+    next_there c.args.entry keys c.args.to.now c.loop-place.place c.args.self.now
     c.loop-place.self lt c.requires c.loop-place.invariant
 
 pub returns-in_err-send-in-Three-clause-err : goal.returns-in_err-send-in-Three-clause-err
 returns-in_err-send-in-Three-clause-err c =
     let old = c.args.self.now in
-    let keys = told_keys c.args.key in
+    let keys = told_keys (option_map (λ k. k.now) c.args.key) in
     let ids = c.args.to.now in
     let k = c.loop-place.place in
     on_err c.from_residual-in_err-send-in-Three.result _
@@ -37,7 +40,7 @@ pub loop-place-preserved : goal.loop-place-preserved
 loop-place-preserved c =
     let old = c.args.self.now in
     let now = c.loop-place.self in
-    let keys = told_keys c.args.key in
+    let keys = told_keys (option_map (λ k. k.now) c.args.key) in
     let ids = c.args.to.now in
     let k = c.loop-place.place in
     let lt : k < length ids = omega (arith, c.loop-place-test.true) in

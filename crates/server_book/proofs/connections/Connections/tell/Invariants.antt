@@ -1,4 +1,5 @@
 use Rattle.std.proofs.Common.{◌≡◌, take}
+use Rattle.std.specs.Option.{option_map}
 use Rattle.serial_model.specs.History.{routed}
 use Rattle.serial_model.specs.Tracking.{told_to}
 use Rattle.server_book.specs.Sendings.{modes_of, told_keys, with_sendings}
@@ -8,5 +9,6 @@ abbrev pub invariant-loop-place : goal.invariant-loop-place
 invariant-loop-place l =
     l.self
     ≡ with_sendings l.entry
-    (routed (modes_of l.initial.self.items) (told_to (told_keys l.fn.key) (take l.place l.to)))
+    (routed (modes_of l.initial.self.items)
+    (told_to (told_keys (option_map (λ k. k.now) l.fn.key)) (take l.place l.to)))
     l.initial.self

@@ -32,19 +32,9 @@ pub returns-in_err-tell-clause-back : goal.returns-in_err-tell-clause-back
 returns-in_err-tell-clause-back c =
     let s = c.args.self.now in
     let keys = c.args.keys.now in
-    on_err c.from_residual-in_err-tell.result _
+    on_err c.from_residual.result _
     (c.in_err-tell.ensures.err
     ∙ back_still c.args.entry s.connections c.loop-place.self.connections
-    (each_row keys s.table.rows) c.loop-place.place
-    (each_there s.connections.items keys s.table.rows c.requires.there)
-    c.loop-place.invariant.told)
-
-pub returns-in_err-key-clause-back : goal.returns-in_err-key-clause-back
-returns-in_err-key-clause-back c =
-    let s = c.args.self.now in
-    let keys = c.args.keys.now in
-    on_err c.from_residual.result _
-    (back_still c.args.entry s.connections c.loop-place.self.connections
     (each_row keys s.table.rows) c.loop-place.place
     (each_there s.connections.items keys s.table.rows c.requires.there)
     c.loop-place.invariant.told)
@@ -55,10 +45,10 @@ loop-place-preserved c =
     let keys = c.args.keys.now in
     let rows = s.table.rows in
     let k = c.loop-place.place in
-    let key = c.in_ok-key.key in
+    let key = c.as_slice-in-loop-place.result.now in
     let lt : k < length keys = omega (arith, c.loop-place-test.true) in
-    let is = c.in_ok-key.ensures
-    ∙ get_or_read keys k c.index-keys-place.result lt c.index-keys-place.is [] in
+    let at = get_or_read keys k c.index-keys-place.result lt c.index-keys-place.is [] in
+    let is = c.as_slice-in-loop-place.ensures ∙ at in
     let row = each_at keys rows k lt in record {
       table = c.loop-place.invariant.table;
       space = c.loop-place.invariant.space;
@@ -68,10 +58,9 @@ loop-place-preserved c =
           c.tell.new.self (omega (arith, lt, each_length keys rows))
           (is ∙ sym (ap (λ (r : Held). r.key) row))
           (c.holders-holders.ensures.list
-          ∙ ap (λ x. holders_of x c.loop-place.self.table.rows)
-          (c.as_slice.ensures ∙ sym c.in_ok-key.ensures)
-          ∙ ap (λ (t : TableState). holders_of key t.rows) c.loop-place.invariant.table
-          ∙ ap (λ x. holders_of x rows) is
+          ∙ ap (λ (t : TableState). holders_of c.as_slice.result.now t.rows)
+          c.loop-place.invariant.table
+          ∙ ap (λ x. holders_of x rows) (c.as_slice.ensures ∙ at)
           ∙ sym (ap (λ (r : Held). r.holders) row))
           c.in_ok-tell.ensures.ok;
     }

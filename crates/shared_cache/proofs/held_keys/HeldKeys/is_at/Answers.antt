@@ -13,9 +13,9 @@ returns-then-more-place c =
     let step : rank slot (listed (map plain c.loop-entries.entries-iterator))
     ≡ c.rank-more.result + rank slot left =
     ap (λ l. rank slot (listed (map plain l))) c.in-Some.ensures.steps
-    ∙ rank_append slot c.in-Some.entries.now.items left
+    ∙ rank_append slot c.in-Some.entries.now left
     ∙ ap (λ n. n + rank slot left)
-    (sym (c.rank-more.ensures.count ∙ ap (rank slot) c.deref.ensures.value)) in
+    (sym (c.rank-more.ensures.count ∙ ap (rank slot) c.as_slice.ensures)) in
     let total = c.loop-entries.invariant.count_is in
     let more = c.if-more-place.true in
     sym (ne_eqb (rank slot all) c.args.place (λ e. omega (arith, step, total, more, e)))
@@ -27,9 +27,9 @@ loop-entries-preserved c =
     let step : rank slot (listed (map plain c.loop-entries.entries-iterator))
     ≡ c.rank-more.result + rank slot left =
     ap (λ l. rank slot (listed (map plain l))) c.in-Some.ensures.steps
-    ∙ rank_append slot c.in-Some.entries.now.items left
+    ∙ rank_append slot c.in-Some.entries.now left
     ∙ ap (λ n. n + rank slot left)
-    (sym (c.rank-more.ensures.count ∙ ap (rank slot) c.deref.ensures.value)) in
+    (sym (c.rank-more.ensures.count ∙ ap (rank slot) c.as_slice.ensures)) in
     let total = c.loop-entries.invariant.count_is in
     let within = c.loop-entries.invariant.within in
     let fits = c.if-more-place.false in

@@ -6,7 +6,7 @@ use Rattle.shared_cache.proofs.held_keys.HeldKeys.room_beside.Goals as goal
 pub returns-in-Some-clause-room : goal.returns-in-Some-clause-room
 returns-in-Some-clause-room c =
     subst (λ l. IfOk c.with_room.result (λ v. length l < vec_capacity v))
-    (c.deref.ensures.value
+    (c.as_slice.ensures
     ∙ entries_plain c.args.key.now c.self.inside.keys.entries
     (Some c.in-Some.entries.now) c.in-Some.ensures
     ∙ ap (λ k. entries_of c.args.key.now k.pairs) c.self.view_is)

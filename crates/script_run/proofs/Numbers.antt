@@ -1,0 +1,517 @@
+-- No caller is told that there is no such number: each number is issued once in a log, and its
+-- caller alone asks for the reply, once.
+use Rattle.std.proofs.Common.{◌≡◌, ◌≤◌, ◌<◌, ◌+◌, ◌-◌, ◌==◌, ◌&&◌, ◌||◌, ℕ, suc, List, []}
+use Rattle.std.proofs.Common.{◌∷◌, ◌++◌, Bool, true, false, not, cond, length, Option, Some, None}
+use Rattle.std.proofs.Common.{inl, inr, refl, sym, ap, subst, ◌∙◌, arith, append-nil, append_assoc}
+use Rattle.std.proofs.Common.{length-append, ne_eqb}
+use Rattle.std.specs.Prelude.{nat_lt, nat_le}
+use Rattle.std.specs.List.{All, slice_get}
+use Rattle.std.proofs.lemmas.Bool.Decides.{nat_tests}
+use mathlib.Core.Logic.{dite}
+use native.Mathlib.Decide.{ℕ_discrete}
+use Rattle.turn_lock.specs.Counts.{total}
+use Rattle.turn_lock.specs.History.{IsPrefix}
+use Rattle.seat_turns.proofs.Owning.{total-append}
+use Rattle.seat_turns.proofs.Turning.{begins_trans}
+use Rattle.resp_value.specs.declared.value.Value.{Value}
+use Rattle.command_words.specs.Control.{is_control}
+use Rattle.command_words.specs.Queries.{key_of}
+use Rattle.shared_cache.specs.declared.log.Wire.TheVariants.{Main}
+use Rattle.shared_cache.specs.declared.log.LogEntry.{LogEntry}
+use Rattle.shared_cache.specs.declared.log.LogEntry.TheVariants as entry
+use Rattle.shared_cache.specs.declared.log.ClientCall.TheVariants as call
+use Rattle.shared_cache.specs.declared.log.ClientReply.{ClientReply}
+use Rattle.shared_cache.specs.declared.log.ClientReply.TheVariants as reply
+use Rattle.shared_cache.specs.declared.log.ClientRefusal.{ClientRefusal}
+use Rattle.shared_cache.specs.declared.log.ClientRefusal.TheVariants as refusal
+use Rattle.shared_cache.specs.declared.entry.CacheEntry.{CacheEntry}
+use Rattle.shared_cache.specs.Log.{caching_on_for, is_ended, is_ready, reply as reply_of}
+use Rattle.shared_cache.specs.Held.{Setup, Words, SentCommand, Caller, put_ask, put_command}
+use Rattle.shared_cache.specs.Held.{held, held_for, numbers, sent}
+use Rattle.shared_cache.specs.Out.{is_polled, is_wanted, was_given, is_callers}
+use Rattle.shared_cache.specs.Steps.{ClientTurn, client_step, refusing, is_log_full, answer_ask}
+use Rattle.shared_cache.specs.Steps.{read_number, command_number, polling}
+use Rattle.shared_cache.proofs.HeldSteps.{sent_miss}
+use Rattle.shared_client.specs.Turns.{Place, Turn}
+use Rattle.script_text.specs.declared.script_line.ScriptCall.{ScriptCall}
+use Rattle.script_text.specs.declared.script_line.ScriptCall.TheVariants.{Ask, Do}
+use Rattle.script_text.specs.declared.script_line.ScriptLine.{ScriptLine}
+use Rattle.client_link.specs.declared.pump_end.PumpEnd.{PumpEnd}
+use Rattle.client_link.specs.declared.pump_end.PumpEnd.TheVariants as ended
+use Rattle.client_link.specs.Pumps.{IsWork, IsEnd, Finishes}
+use Rattle.script_run.specs.declared.answer.Answer.{Answer}
+use Rattle.script_run.specs.declared.answer.Answer.TheVariants.{Hit, Read, Reply, Refused}
+use Rattle.script_run.specs.Lines.{call_for, entry_for, Between, RefusedBy, Unplayed, NoAnswer}
+use Rattle.script_run.specs.Lines.{Came, AllCame, ThreadsCame, calls_of}
+use Rattle.script_run.specs.Session.{turns_in, ClosedBy, LastEnd, Over, NoTicket}
+use Rattle.script_run.proofs.Totals.{more_weight, prefix_total, works_none}
+
+-- turns that are one have one answer
+pub one_answer : (a b : ClientReply) (log new : List LogEntry)
+    → ◌≡◌ {A = ClientTurn} (record { reply = a; past = log }) (record { reply = b; past = new })
+    → a ≡ b
+one_answer a b log new is = ap (λ (t : ClientTurn). t.reply) is
+
+-- ---- how often a number is asked for
+
+abbrev pub polls : ℕ → Turn → ℕ
+polls n (entry.Poll m, past) = cond (m == n) 1 0
+polls n (entry.Ask q, past) = 0
+polls n (entry.Send ws, past) = 0
+polls n (entry.TakeOut w m, past) = 0
+polls n (entry.Got w v, past) = 0
+polls n (entry.End w, past) = 0
+polls n (entry.Bad w v, past) = 0
+
+poll_or : (b more : Bool) (rest : ℕ) → (b || more) ≡ true → (more ≡ true → 1 ≤ rest)
+    → 1 ≤ cond b 1 0 + rest
+poll_or true more rest is r = omega arith
+poll_or false more rest is r = let e = r is in omega (arith, e)
+
+-- a number that was polled is asked for in the log
+polled_there : (n : ℕ) (k : List LogEntry) → is_polled k n ≡ true
+    → 1 ≤ total (polls n) (turns_in k)
+polled_there n [] is = absurd (let z : ⊥ = cc in z)
+polled_there n (entry.Poll m ∷ k) is =
+    poll_or (m == n) (is_polled k n) (total (polls n) (turns_in k)) is (polled_there n k)
+polled_there n (entry.Ask q ∷ k) is =
+    more_weight (polls n) (entry.Ask q, k) (turns_in k) (polled_there n k is)
+polled_there n (entry.Send ws ∷ k) is =
+    more_weight (polls n) (entry.Send ws, k) (turns_in k) (polled_there n k is)
+polled_there n (entry.TakeOut w m ∷ k) is =
+    more_weight (polls n) (entry.TakeOut w m, k) (turns_in k) (polled_there n k is)
+polled_there n (entry.Got w v ∷ k) is =
+    more_weight (polls n) (entry.Got w v, k) (turns_in k) (polled_there n k is)
+polled_there n (entry.End w ∷ k) is =
+    more_weight (polls n) (entry.End w, k) (turns_in k) (polled_there n k is)
+polled_there n (entry.Bad w v ∷ k) is =
+    more_weight (polls n) (entry.Bad w v, k) (turns_in k) (polled_there n k is)
+
+-- a pump asks for none
+module _ (n : ℕ) where
+  abbrev f : Turn → ℕ
+  f = polls n
+
+  work_polls : (e : LogEntry) (past : List LogEntry) → IsWork (e, past) → f (e, past) ≡ 0
+  work_polls (entry.TakeOut w m) past h = refl
+  work_polls (entry.Got w v) past h = refl
+  work_polls (entry.Ask q) past h = refl
+  work_polls (entry.Send ws) past h = refl
+  work_polls (entry.Poll m) past h = absurd h
+  work_polls (entry.End w) past h = refl
+  work_polls (entry.Bad w v) past h = refl
+
+  end_polls : (ending : List Turn) → IsEnd ending → total f ending ≡ 0
+  end_polls ending h = elim h [
+    | inl none ↦ ap (total f) none
+    | inr is ↦ ap (total f) is.1
+  ]
+
+  finish_polls : (end : PumpEnd) (s : Setup) (ending : List Turn) (k : Place)
+      → Finishes end s ending k → total f ending ≡ 0
+  finish_polls ended.PeerEnd s ending k h = end_polls ending h.0
+  finish_polls ended.LinkFault s ending k h = end_polls ending h.0
+  finish_polls (ended.BadStream fault) s ending k h = end_polls ending h.0
+  finish_polls (ended.Refused r) s ending k h = ap (total f) h.0.turns_are
+  finish_polls ended.Done s ending k h = ap (total f) h.0
+  finish_polls ended.NoMemory s ending k h = end_polls ending h.0
+  finish_polls ended.LogFull s ending k h = end_polls ending h.0
+  finish_polls ended.Worn s ending k h = ap (total f) h.0
+
+  pub pump_polls : (end : PumpEnd) (s : Setup) (ending ts : List Turn) (k : Place)
+      → Finishes end s ending k → All IsWork ts → total f (ending ++ ts) ≡ 0
+  pump_polls end s ending ts k h w =
+      let all = total-append f ending ts in
+      let last = finish_polls end s ending k h in
+      let works = works_none f work_polls ts w in
+      omega (arith, all, last, works)
+
+  pub closing_polls : (s : Setup) (ts : List Turn) (seen log : List LogEntry) (t : ℕ)
+      → ClosedBy s ts seen log t → total f ts ≡ 0
+  closing_polls s ts seen log t (LastEnd past e p) = ap (total f) e
+  closing_polls s ts seen log t (Over later e p is) = ap (total f) e
+  closing_polls s ts seen log t (NoTicket e worn) = ap (total f) e
+
+-- ---- how often a number is issued
+
+get_behind : (xs ys : List SentCommand) (c : SentCommand)
+    → slice_get (xs ++ c ∷ ys) (length xs) ≡ Some c
+get_behind [] ys c = refl
+get_behind (x ∷ xs) ys c = get_behind xs ys c
+
+module _ (s : Setup) where
+  sent_step : (e : LogEntry) (log : List LogEntry)
+      → (new : List SentCommand) × (sent s (e ∷ log) ≡ sent s log ++ new)
+  sent_step (entry.Ask q) log =
+      (put_ask (held_for q (held s log)) s.mode (caching_on_for s.mode log (key_of q)) q, refl)
+  sent_step (entry.Send ws) log = (put_command s.mode ws, refl)
+  sent_step (entry.Poll n) log = ([], sym (append-nil (sent s log)))
+  sent_step (entry.TakeOut w n) log = ([], sym (append-nil (sent s log)))
+  sent_step (entry.Got w v) log = ([], sym (append-nil (sent s log)))
+  sent_step (entry.End w) log = ([], sym (append-nil (sent s log)))
+  sent_step (entry.Bad w v) log = ([], sym (append-nil (sent s log)))
+
+  sent_more : (more log : List LogEntry)
+      → (new : List SentCommand) × (sent s (more ++ log) ≡ sent s log ++ new)
+  sent_more [] log = ([], sym (append-nil (sent s log)))
+  sent_more (e ∷ more) log =
+      let r = sent_more more log in
+      let t = sent_step e (more ++ log) in
+      (r.0 ++ t.0, t.1 ∙ ap (λ z. z ++ t.0) r.1 ∙ append_assoc (sent s log) r.0 t.0)
+
+  numbers_grow : (e : LogEntry) (log : List LogEntry) → numbers s log ≤ numbers s (e ∷ log)
+  numbers_grow e log =
+      let t = sent_step e log in
+      let l : length (sent s (e ∷ log)) ≡ length (sent s log) + length t.0 =
+      ap length t.1 ∙ length-append (sent s log) t.0 in
+      omega (arith, l)
+
+  -- the turn puts one command on the wire, with that number
+  record Issues (e : LogEntry) (past : List LogEntry) (number : ℕ) : Type 0 where
+    words : Words
+    sends : sent s (e ∷ past)
+        ≡ sent s past ++ (record { words = words; origin = Caller }) ∷ []
+    number_is : number ≡ numbers s past + 1
+
+  -- 1 for a turn that issues the number
+  abbrev pub issues : ℕ → Turn → ℕ
+  issues n t = cond (nat_lt (numbers s t.1) n && nat_le n (numbers s (t.0 ∷ t.1))) 1 0
+
+  issues_one : (e : LogEntry) (past : List LogEntry) (number : ℕ) → Issues e past number
+      → issues number (e, past) ≡ 1
+  issues_one e past number i =
+      let l : length (sent s (e ∷ past)) ≡ length (sent s past) + 1 =
+      ap length i.sends ∙ length-append (sent s past) _ in
+      let k = i.number_is in
+      let one : nat_lt (numbers s past) number ≡ true = grind (arith, nat_tests, k) in
+      let two : nat_le number (numbers s (e ∷ past)) ≡ true = grind (arith, nat_tests, k, l) in
+      ap (λ b. cond {A = ℕ} (b && nat_le number (numbers s (e ∷ past))) 1 0) one
+      ∙ ap (λ b. cond {A = ℕ} b 1 0) two
+
+  within_one : (b : Bool) → cond {A = ℕ} b 1 0 ≤ 1
+  within_one true = omega arith
+  within_one false = omega arith
+
+  not_late : (a n : ℕ) (b : Bool) → n ≤ a → cond {A = ℕ} (nat_lt a n && b) 1 0 ≡ 0
+  not_late a n b le =
+      let z : nat_lt a n ≡ false = grind (arith, nat_tests, le) in
+      ap (λ x. cond {A = ℕ} (x && b) 1 0) z
+
+  not_early : (a : Bool) (b n : ℕ) → b < n → cond {A = ℕ} (a && nat_le n b) 1 0 ≡ 0
+  not_early true b n lt =
+      let z : nat_le n b ≡ false = grind (arith, nat_tests, lt) in
+      ap (λ x. cond {A = ℕ} x 1 0) z
+  not_early false b n lt = refl
+
+  -- a number is issued once in a log, and only up to the last
+  issued_once : (n : ℕ) (log : List LogEntry)
+      → (numbers s log < n → total (issues n) (turns_in log) ≡ 0)
+      × (total (issues n) (turns_in log) ≤ 1)
+  issued_once n [] = (λ lt. refl, omega arith)
+  issued_once n (e ∷ log) = by_case (issued_once n log) (nat_lt (numbers s log) n) refl
+    where
+      whole : total (issues n) (turns_in (e ∷ log))
+          ≡ issues n (e, log) + total (issues n) (turns_in log)
+      whole = refl
+
+      by_case : (numbers s log < n → total (issues n) (turns_in log) ≡ 0)
+          × (total (issues n) (turns_in log) ≤ 1) → (b : Bool) → nat_lt (numbers s log) n ≡ b
+          → (numbers s (e ∷ log) < n → total (issues n) (turns_in (e ∷ log)) ≡ 0)
+          × (total (issues n) (turns_in (e ∷ log)) ≤ 1)
+      by_case r true is =
+          let lt : numbers s log < n = grind (arith, nat_tests, is) in
+          let none = r.0 lt in
+          let one = within_one (nat_lt (numbers s log) n && nat_le n (numbers s (e ∷ log))) in (
+            λ late. let z = not_early (nat_lt (numbers s log) n) (numbers s (e ∷ log)) n late in
+                omega (arith, whole, none, z),
+            omega (arith, whole, none, one),
+          )
+      by_case r false is =
+          let le : n ≤ numbers s log = grind (arith, nat_tests, is) in
+          let z = not_late (numbers s log) n (nat_le n (numbers s (e ∷ log))) le in
+          let one = r.1 in (
+            λ late. let g = numbers_grow e log in absurd (omega (arith, le, late, g)),
+            omega (arith, whole, one, z),
+          )
+
+  -- who was issued a number was given it from then on
+  given : (e : LogEntry) (past seen : List LogEntry) (number : ℕ) → Issues e past number
+      → IsPrefix (e ∷ past) seen → was_given s seen number ≡ true
+  given e past seen number i p =
+      let c : SentCommand = record { words = i.words; origin = Caller } in
+      let m = sent_more p.0 (e ∷ past) in
+      let all : sent s seen ≡ sent s past ++ c ∷ m.0 =
+      ap (sent s) (sym p.1) ∙ m.1 ∙ ap (λ z. z ++ m.0) i.sends
+      ∙ append_assoc (sent s past) (c ∷ []) m.0 in
+      let k = i.number_is in
+      let place : number - 3 ≡ length (sent s past) = omega (arith, k) in
+      let some : slice_get (sent s seen) (number - 3) ≡ Some c =
+      ap (λ z. slice_get z (number - 3)) all
+      ∙ ap (slice_get (sent s past ++ c ∷ m.0)) place ∙ get_behind (sent s past) m.0 c in
+      let late : nat_lt 2 number ≡ true = grind (arith, nat_tests, k) in
+      ap (λ b. b && is_callers (slice_get (sent s seen) (number - 3))) late
+      ∙ ap is_callers some
+
+  -- ---- a command that was sent
+
+  send_issues : (ws : Words) (past : List LogEntry) (number : ℕ)
+      → number ≡ command_number s past ws → Issues (entry.Send ws) past number
+  send_issues ws past number is = record { words = ws; sends = refl; number_is = is }
+
+  read_issues : (q : Words) (past : List LogEntry) (number : ℕ) → held_for q (held s past) ≡ None
+      → number ≡ read_number s past q → Issues (entry.Ask q) past number
+  read_issues q past number none is =
+      record { words = q; sends = sent_miss s past q none; number_is = is }
+
+  module _ (log new : List LogEntry) (n : ℕ) where
+    asked_in : (over ready full : Bool) (o : Option CacheEntry) (m : ℕ)
+        → cond over (refusing (refusal.Down Main) log)
+        (cond (not ready) (refusing refusal.NotReady log)
+        (cond full (refusing (refusal.LogFull (length log)) log)
+        (record { reply = answer_ask o m; past = new })))
+        ≡ record { reply = reply.Sent n; past = new } → (o ≡ None) × (n ≡ m)
+    asked_in true ready full o m is =
+        absurd (let x = one_answer _ _ _ _ is in let no : ⊥ = cc in no)
+    asked_in false false full o m is =
+        absurd (let x = one_answer _ _ _ _ is in let no : ⊥ = cc in no)
+    asked_in false true true o m is =
+        absurd (let x = one_answer _ _ _ _ is in let no : ⊥ = cc in no)
+    asked_in false true false (Some h) m is =
+        absurd (let x = one_answer _ _ _ _ is in let no : ⊥ = cc in no)
+    asked_in false true false None m is =
+        (refl, let x = one_answer _ _ _ _ is in let same : n ≡ m = cc in same)
+
+    sent_in : (over ready control full : Bool) (m : ℕ)
+        → cond over (refusing (refusal.Down Main) log)
+        (cond (not ready) (refusing refusal.NotReady log)
+        (cond control (refusing refusal.Control log)
+        (cond full (refusing (refusal.LogFull (length log)) log)
+        (record { reply = reply.Sent m; past = new }))))
+        ≡ record { reply = reply.Sent n; past = new } → n ≡ m
+    sent_in true ready control full m is =
+        absurd (let x = one_answer _ _ _ _ is in let no : ⊥ = cc in no)
+    sent_in false false control full m is =
+        absurd (let x = one_answer _ _ _ _ is in let no : ⊥ = cc in no)
+    sent_in false true true full m is =
+        absurd (let x = one_answer _ _ _ _ is in let no : ⊥ = cc in no)
+    sent_in false true false true m is =
+        absurd (let x = one_answer _ _ _ _ is in let no : ⊥ = cc in no)
+    sent_in false true false false m is =
+        let x = one_answer _ _ _ _ is in let same : n ≡ m = cc in same
+
+  step_issues : (c : ScriptCall) (past : List LogEntry) (number : ℕ)
+      → client_step s past (call_for c)
+      ≡ record { reply = reply.Sent number; past = entry_for c ∷ past }
+      → Issues (entry_for c) past number
+  unfolding client_step
+  step_issues (Ask q) past number is =
+      let b = asked_in past (entry.Ask q ∷ past) number (is_ended s.mode Main past)
+      (is_ready s.mode past) (is_log_full s past) (held_for q (held s past))
+      (read_number s past q) is in
+      read_issues q past number b.0 b.1
+  step_issues (Do ws) past number is =
+      send_issues ws past number
+      (sent_in past (entry.Send ws ∷ past) number (is_ended s.mode Main past)
+      (is_ready s.mode past) (is_control ws) (is_log_full s past) (command_number s past ws) is)
+
+  -- ---- no line asks for a number more often than it is issued one
+
+  abbrev pub Fair : ℕ → List Turn → Type 0
+  Fair n ts = total (polls n) ts ≤ total (issues n) ts
+
+  fair_by : (n : ℕ) (ts us : List Turn) → ts ≡ us → Fair n us → Fair n ts
+  fair_by n ts us e h = subst (Fair n) (sym e) h
+
+  fair_pair : (n number : ℕ) (e : LogEntry) (past later : List LogEntry)
+      → Issues e past number → polls n (e, past) ≡ 0
+      → Fair n ((entry.Poll number, later) ∷ (e, past) ∷ [])
+  fair_pair n number e past later i none = dite (ℕ_discrete number n)
+      (λ is. let one : issues n (e, past) ≡ 1 =
+      subst (λ m. issues m (e, past) ≡ 1) is (issues_one e past number i) in
+      let within = within_one (number == n) in omega (arith, one, none, within))
+      (λ ne. let zero_ : polls n (entry.Poll number, later) ≡ 0 =
+      ap (λ b. cond {A = ℕ} b 1 0) (ne_eqb number n ne) in omega (arith, zero_, none))
+
+  refused_fair : (n : ℕ) (c : ScriptCall) (r : ClientRefusal) (ts : List Turn)
+      (seen : List LogEntry) (t : ℕ) → RefusedBy s c r ts seen t → total (polls n) ts ≡ 0
+  refused_fair n c r ts seen t (Unplayed e why) = ap (total (polls n)) e
+  refused_fair n (Ask q) r ts seen t (NoAnswer m past e step why) = ap (total (polls n)) e
+  refused_fair n (Do ws) r ts seen t (NoAnswer m past e step why) = ap (total (polls n)) e
+
+  pub came_fair : (n : ℕ) (c : ScriptCall) (a : Answer) (ts : List Turn) (seen : List LogEntry)
+      (t : ℕ) → Came s c a ts seen t → Fair n ts
+  came_fair n (Ask q) (Hit m v) ts seen t h =
+      let z : total (polls n) ts ≡ 0 = ap (total (polls n)) h.turns_are in omega (arith, z)
+  came_fair n (Ask q) (Read m v) ts seen t h =
+      fair_by n ts _ h.turns_are (fair_pair n m (entry.Ask q) h.past h.later
+      (read_issues q h.past m h.not_held h.number_is) refl)
+  came_fair n (Ask q) (Reply v) ts seen t h = absurd h
+  came_fair n (Ask q) (Refused r) ts seen t h =
+      let z = refused_fair n (Ask q) r ts seen t h in omega (arith, z)
+  came_fair n (Do ws) (Hit m v) ts seen t h = absurd h
+  came_fair n (Do ws) (Read m v) ts seen t h = absurd h
+  came_fair n (Do ws) (Reply v) ts seen t h =
+      fair_by n ts _ h.turns_are (fair_pair n h.number (entry.Send ws) h.past h.later
+      (send_issues ws h.past h.number h.number_is) refl)
+  came_fair n (Do ws) (Refused r) ts seen t h =
+      let z = refused_fair n (Do ws) r ts seen t h in omega (arith, z)
+
+  fair_both : (n : ℕ) (ts mine rest : List Turn) → ts ≡ rest ++ mine → Fair n rest → Fair n mine
+      → Fair n ts
+  fair_both n ts mine rest e r m =
+      let p : total (polls n) ts ≡ total (polls n) rest + total (polls n) mine =
+      ap (total (polls n)) e ∙ total-append (polls n) rest mine in
+      let i : total (issues n) ts ≡ total (issues n) rest + total (issues n) mine =
+      ap (total (issues n)) e ∙ total-append (issues n) rest mine in
+      omega (arith, p, i, r, m)
+
+  pub all_fair : (n : ℕ) (cs : List ScriptCall) (rs : List Answer) (ts : List Turn)
+      (log : List LogEntry) (t : ℕ) → AllCame s cs rs ts log t → Fair n ts
+  all_fair n cs [] ts log t h =
+      let z : total (polls n) ts ≡ 0 = ap (total (polls n)) (none_came cs h) in omega (arith, z)
+    where
+      none_came : (ds : List ScriptCall) → AllCame s ds [] ts log t → ts ≡ []
+      none_came [] g = g
+      none_came (d ∷ ds) g = g
+  all_fair n [] (a ∷ rs) ts log t h = absurd h
+  all_fair n (c ∷ cs) (a ∷ rs) ts log t h =
+      let i = h.3 in
+      fair_both n ts h.0 h.1 h.2 (all_fair n cs rs h.1 log t h.4)
+      (came_fair n c a h.0 i.seen i.ticket i.came)
+
+  pub threads_fair : (n : ℕ) (lines : List ScriptLine) (thread : ℕ) (all : List (List Answer))
+      (ts : List Turn) (log : List LogEntry) (t : ℕ) → ThreadsCame s lines thread all ts log t
+      → Fair n ts
+  threads_fair n lines thread [] ts log t h =
+      let z : total (polls n) ts ≡ 0 = ap (total (polls n)) h in omega (arith, z)
+  threads_fair n lines thread (rs ∷ all) ts log t h =
+      fair_both n ts h.0 h.1 h.2 (threads_fair n lines (suc thread) all h.1 log t h.4)
+      (all_fair n (calls_of thread lines) rs h.0 log t h.3.came)
+
+  -- ---- a line that was told that there is no such number
+
+  -- A number that was given is wanted no more, and these turns issue it once more than they ask
+  -- for it.
+  pub record Missed (log : List LogEntry) (ts : List Turn) : Type 0 where
+    pub number : ℕ
+    pub seen : List LogEntry
+    pub begins : IsPrefix seen log
+    pub was : was_given s seen number ≡ true
+    pub unwanted : is_wanted s seen number ≡ false
+    pub fewer : total (polls number) ts + 1 ≤ total (issues number) ts
+
+  module _ (log : List LogEntry) (n m : ℕ) where
+    unwanted_in : (wanted over : Bool) (o : Option Value)
+        → cond (not wanted) (refusing (refusal.NoNumber n) log) (polling o n over log)
+        ≡ record { reply = reply.Refused (refusal.NoNumber m); past = log } → wanted ≡ false
+    unwanted_in false over o is = refl
+    unwanted_in true over (Some v) is =
+        absurd (let x = one_answer _ _ _ _ is in let no : ⊥ = cc in no)
+    unwanted_in true true None is =
+        absurd (let x = one_answer _ _ _ _ is in let no : ⊥ = cc in no)
+    unwanted_in true false None is =
+        absurd (let x = one_answer _ _ _ _ is in let no : ⊥ = cc in no)
+
+  poll_unwanted : (log : List LogEntry) (n m : ℕ)
+      → client_step s log (call.Poll n)
+      ≡ record { reply = reply.Refused (refusal.NoNumber m); past = log }
+      → is_wanted s log n ≡ false
+  unfolding client_step
+  poll_unwanted log n m is =
+      unwanted_in log n m (is_wanted s log n) (is_ended s.mode Main log) (reply_of s.mode log n) is
+
+  unanswered : (c : ScriptCall) (n m : ℕ) (past : List LogEntry) (ts : List Turn)
+      (seen : List LogEntry) → Between [] ts seen → ts ≡ (entry_for c, past) ∷ []
+      → polls n (entry_for c, past) ≡ 0
+      → client_step s past (call_for c)
+      ≡ record { reply = reply.Sent n; past = entry_for c ∷ past }
+      → client_step s seen (call.Poll n)
+      ≡ record { reply = reply.Refused (refusal.NoNumber m); past = seen } → Missed seen ts
+  unanswered c n m past ts seen b e none step why =
+      let i = step_issues c past n step in
+      let there : IsPrefix (entry_for c ∷ past) seen = (subst (λ z. Between [] z seen) e b).0 in
+      record {
+        number = n;
+        seen = seen;
+        begins = ([], refl);
+        was = given (entry_for c) past seen n i there;
+        unwanted = poll_unwanted seen n m why;
+        fewer = let one = issues_one (entry_for c) past n i in
+            let p : total (polls n) ts ≡ polls n (entry_for c, past) + 0 =
+            ap (total (polls n)) e in
+            let k : total (issues n) ts ≡ issues n (entry_for c, past) + 0 =
+            ap (total (issues n)) e in
+            omega (arith, p, k, one, none);
+      }
+
+  pub refused_missed : (c : ScriptCall) (m : ℕ) (ts : List Turn) (seen : List LogEntry) (t : ℕ)
+      → Between [] ts seen → RefusedBy s c (refusal.NoNumber m) ts seen t → Missed seen ts
+  refused_missed (Ask q) m ts seen t b (Unplayed e why) = absurd why.0
+  refused_missed (Do ws) m ts seen t b (Unplayed e why) = absurd why.0
+  refused_missed (Ask q) m ts seen t b (NoAnswer n past e step why) =
+      unanswered (Ask q) n m past ts seen b e refl step why.1
+  refused_missed (Do ws) m ts seen t b (NoAnswer n past e step why) =
+      unanswered (Do ws) n m past ts seen b e refl step why.1
+
+  fewer_in : (n : ℕ) (ts mine rest : List Turn) → ts ≡ rest ++ mine
+      → total (polls n) rest + total (polls n) mine + 1
+      ≤ total (issues n) rest + total (issues n) mine
+      → total (polls n) ts + 1 ≤ total (issues n) ts
+  fewer_in n ts mine rest e h =
+      let p : total (polls n) ts ≡ total (polls n) rest + total (polls n) mine =
+      ap (total (polls n)) e ∙ total-append (polls n) rest mine in
+      let i : total (issues n) ts ≡ total (issues n) rest + total (issues n) mine =
+      ap (total (issues n)) e ∙ total-append (issues n) rest mine in
+      omega (arith, p, i, h)
+
+  -- it stands among turns that are fair
+  pub missed_last : (log more : List LogEntry) (ts mine rest : List Turn) → ts ≡ rest ++ mine
+      → IsPrefix log more → ((n : ℕ) → Fair n rest) → Missed log mine → Missed more ts
+  missed_last log more ts mine rest e p fair m = record {
+    number = m.number;
+    seen = m.seen;
+    begins = begins_trans m.seen log more m.begins p;
+    was = m.was;
+    unwanted = m.unwanted;
+    fewer = let a = fair m.number in let b = m.fewer in
+        fewer_in m.number ts mine rest e (omega (arith, a, b));
+  }
+
+  pub missed_first : (log : List LogEntry) (ts mine rest : List Turn) → ts ≡ rest ++ mine
+      → ((n : ℕ) → Fair n mine) → Missed log rest → Missed log ts
+  missed_first log ts mine rest e fair m = record {
+    number = m.number;
+    seen = m.seen;
+    begins = m.begins;
+    was = m.was;
+    unwanted = m.unwanted;
+    fewer = let a = fair m.number in let b = m.fewer in
+        fewer_in m.number ts mine rest e (omega (arith, a, b));
+  }
+
+  was_polled : (given_ polled : Bool) → given_ ≡ true → (given_ && not polled) ≡ false
+      → polled ≡ true
+  was_polled true true g w = refl
+  was_polled true false g w = sym w
+  was_polled false polled g w = absurd (let no : ⊥ = cc in no)
+
+  -- but no session has such a line
+  pub none_missed : (log : List LogEntry) (called pumped closing : List Turn)
+      → ((f : Turn → ℕ) → total f (turns_in log)
+      ≡ total f pumped + (total f closing + total f called))
+      → ((n : ℕ) → total (polls n) pumped ≡ 0) → ((n : ℕ) → total (polls n) closing ≡ 0)
+      → Missed log called → ⊥
+  none_missed log called pumped closing all p c m =
+      let n = m.number in
+      let once = (issued_once n log).1 in
+      let issued = all (issues n) in
+      let polled = all (polls n) in
+      let few = m.fewer in
+      let more : total (polls n) (turns_in m.seen) ≤ total (polls n) (turns_in log) =
+      subst (λ l. total (polls n) (turns_in m.seen) ≤ total (polls n) (turns_in l)) m.begins.1
+      (prefix_total (polls n) m.begins.0 m.seen) in
+      let was = was_polled (was_given s m.seen n) (is_polled m.seen n) m.was m.unwanted in
+      let there = polled_there n m.seen was in
+      let no_pump = p n in
+      let no_end = c n in
+      omega (arith, once, issued, polled, few, more, there, no_pump, no_end)

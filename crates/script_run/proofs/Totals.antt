@@ -1,0 +1,45 @@
+-- Sums over the turns in a log.
+use Rattle.std.proofs.Common.{◌≡◌, ◌≤◌, ◌+◌, ℕ, List, [], ◌∷◌, ◌++◌, length, refl, ap, ◌∙◌, arith}
+use Rattle.std.proofs.Common.{length-append}
+use Rattle.std.specs.List.{All}
+use Rattle.std.proofs.lemmas.List.Elements.{All-head, All-tail}
+use Rattle.turn_lock.specs.Counts.{total}
+use Rattle.turn_lock.specs.History.{IsPrefix}
+use Rattle.seat_turns.proofs.Owning.{total-append}
+use Rattle.shared_cache.specs.declared.log.LogEntry.{LogEntry}
+use Rattle.shared_client.specs.Turns.{Turn}
+use Rattle.client_link.specs.Pumps.{IsWork}
+use Rattle.script_run.specs.Session.{turns_in}
+
+pub prefix_length : (a b : List LogEntry) → IsPrefix a b → length a ≤ length b
+prefix_length a b p =
+    let e : length (p.0 ++ a) ≡ length b = ap length p.1 in
+    omega (arith, e, length-append p.0 a)
+
+module _ (f : Turn → ℕ) where
+  pub prefix_total : (more k : List LogEntry)
+      → total f (turns_in k) ≤ total f (turns_in (more ++ k))
+  prefix_total [] k = omega arith
+  prefix_total (e ∷ more) k =
+      let r = prefix_total more k in
+      let step : total f (turns_in (e ∷ more ++ k)) ≡ f (e, more ++ k)
+      + total f (turns_in (more ++ k)) = refl in
+      omega (arith, r, step)
+
+  pub more_weight : (t : Turn) (ts : List Turn) → 1 ≤ total f ts → 1 ≤ total f (t ∷ ts)
+  more_weight t ts h = let e : total f (t ∷ ts) ≡ f t + total f ts = refl in omega (arith, h, e)
+
+  pub two_none : (ts mine rest : List Turn) → ts ≡ rest ++ mine → total f rest ≡ 0
+      → total f mine ≡ 0 → total f ts ≡ 0
+  two_none ts mine rest e r m =
+      let w : total f ts ≡ total f rest + total f mine = ap (total f) e
+      ∙ total-append f rest mine in omega (arith, w, r, m)
+
+  -- a pump's work has no weight, where no TakeOut and no Got has
+  pub works_none : ((e : LogEntry) (past : List LogEntry) → IsWork (e, past) → f (e, past) ≡ 0)
+      → (ts : List Turn) → All IsWork ts → total f ts ≡ 0
+  works_none none [] h = refl
+  works_none none (t ∷ ts) h =
+      let a : f t ≡ 0 = none t.0 t.1 (All-head IsWork t ts h) in
+      let b = works_none none ts (All-tail IsWork t ts h) in
+      let e : total f (t ∷ ts) ≡ f t + total f ts = refl in omega (arith, a, b, e)

@@ -1,0 +1,99 @@
+-- What is held of each key stays of that key.
+use Rattle.std.proofs.Common.{◌≡◌, ◌-◌, ◌++◌, ℕ, zero, suc, List, [], ◌∷◌, Bool, true, false, cond}
+use Rattle.std.proofs.Common.{Vec, Global, Option, Some, None, option_map, map, take, sym, ap}
+use Rattle.std.proofs.Common.{◌∙◌, refl, subst}
+use Rattle.std.specs.Map.{lookup, lookup_entry, remove_entry}
+use Rattle.std.specs.Option.{option_map_or}
+use Rattle.std.specs.Str.{bytes_eq}
+use Rattle.std.proofs.lemmas.List.Elements.{All-nil, All-cons, All-append}
+use Rattle.command_words.specs.Queries.{key_of}
+use Rattle.lru.specs.LruCache.{promoted}
+use Rattle.shared_cache.specs.declared.entry.CacheEntry.{CacheEntry}
+use Rattle.shared_cache.specs.Held.{Key}
+use Rattle.shared_cache.specs.HeldKeys.{Pairs, others, entries_of}
+use Rattle.shared_cache.specs.Laws.{Every}
+use Rattle.shared_cache.specs.KeyReads.{AreOfKey, AreOfKeys}
+use Rattle.shared_cache.proofs.KeyCode.{Kept, key_is, entries_plain, put_others}
+use Rattle.shared_cache.proofs.PlainKeys.{plain}
+
+-- ---- the entries of each key stay of that key
+
+pub of_keys_without : (t : Key → Bool) (ps : Pairs) → AreOfKeys ps → AreOfKeys (remove_entry t ps)
+of_keys_without t [] a = tt
+of_keys_without t (p ∷ ps) a =
+    elim (t p.0) as (λ b. AreOfKeys (cond b ps (p ∷ remove_entry t ps)))
+    [ true ↦ a.1 | false ↦ (a.0, of_keys_without t ps a.1) ]
+
+found_of_key : (t : Key → Bool) (ps : Pairs) (p : Key × List CacheEntry)
+    → lookup_entry t ps ≡ Some p → AreOfKeys ps → AreOfKey p.0 p.1
+found_of_key t [] p e a = cc
+found_of_key t (r ∷ ps) p e a = (elim (t r.0) as (λ b. t r.0 ≡ b → AreOfKey p.0 p.1) [
+  | true ↦ λ same. let is : Some r ≡ Some p
+      = sym (ap (λ b. cond b (Some r) (lookup_entry t ps)) same) ∙ e in
+      let is_ : r ≡ p = cc in
+      subst (λ (x : Key × List CacheEntry). AreOfKey x.0 x.1) is_ a.0
+  | false ↦ λ other. found_of_key t ps p
+      (sym (ap (λ b. cond b (Some r) (lookup_entry t ps)) other) ∙ e) a.1
+]) refl
+
+promoted_by : (t : Key → Bool) (ps : Pairs) (o : Option (Key × List CacheEntry))
+    → lookup_entry t ps ≡ o → AreOfKeys ps
+    → AreOfKeys (option_map_or (λ e. e ∷ remove_entry t ps) o ps)
+promoted_by t ps None e a = a
+promoted_by t ps (Some p) e a = (found_of_key t ps p e a, of_keys_without t ps a)
+
+pub of_keys_promoted : (t : Key → Bool) (ps : Pairs) → AreOfKeys ps → AreOfKeys (promoted t ps)
+of_keys_promoted t ps a = promoted_by t ps (lookup_entry t ps) refl a
+
+of_keys_first : (n : ℕ) (ps : Pairs) → AreOfKeys ps → AreOfKeys (take n ps)
+of_keys_first zero ps a = tt
+of_keys_first (suc n) [] a = tt
+of_keys_first (suc n) (p ∷ ps) a = (a.0, of_keys_first n ps a.1)
+
+others_by : (k : Key) (most : ℕ) (ps : Pairs) (o : Option (Key × List CacheEntry)) → AreOfKeys ps
+    → AreOfKeys (option_map_or (λ p. remove_entry (bytes_eq k) ps) o (take (most - 1) ps))
+others_by k most ps None a = of_keys_first (most - 1) ps a
+others_by k most ps (Some p) a = of_keys_without (bytes_eq k) ps a
+
+pub of_keys_others : (k : Key) (most : ℕ) (ps : Pairs) → AreOfKeys ps → AreOfKeys (others k most ps)
+of_keys_others k most ps a = others_by k most ps (lookup_entry (bytes_eq k) ps) a
+
+-- ---- what is found is of the key
+
+entries_by : (k : Key) (ps : Pairs) (o : Option (Key × List CacheEntry))
+    → lookup_entry (bytes_eq k) ps ≡ o → AreOfKeys ps
+    → AreOfKey k (option_map_or (λ p. p.1) o [])
+entries_by k ps None e a = All-nil (λ (h : CacheEntry). key_of h.query ≡ k)
+entries_by k ps (Some p) e a =
+    subst (λ j. AreOfKey j p.1) (sym (key_is k ps p e)) (found_of_key (bytes_eq k) ps p e a)
+
+pub entries_of_key : (k : Key) (ps : Pairs) → AreOfKeys ps → AreOfKey k (entries_of k ps)
+entries_of_key k ps a = entries_by k ps (lookup_entry (bytes_eq k) ps) refl a
+
+pub found_is_of_key : (k : Key) (es : Kept) (vs : List CacheEntry)
+    → Some vs ≡ lookup (λ y. bytes_eq k y.items) es → AreOfKeys (map plain es) → AreOfKey k vs
+found_is_of_key k es vs e a =
+    subst (AreOfKey k) (sym (entries_plain k es (Some vs) e)) (entries_of_key k (map plain es) a)
+
+pub one_of_key : (k : Key) (h : CacheEntry) → key_of h.query ≡ k → AreOfKey k (h ∷ [])
+one_of_key k h e =
+    All-cons (λ (o : CacheEntry). key_of o.query ≡ k) h [] e
+    (All-nil (λ (o : CacheEntry). key_of o.query ≡ k))
+
+pub more_of_key : (k : Key) (hs : List CacheEntry) (h : CacheEntry) → AreOfKey k hs
+    → key_of h.query ≡ k → AreOfKey k (hs ++ h ∷ [])
+more_of_key k hs h a e =
+    All-append (λ (o : CacheEntry). key_of o.query ≡ k) hs (h ∷ []) a (one_of_key k h e)
+
+pub none_of_key : (k : Key) → AreOfKey k []
+none_of_key k = All-nil (λ (o : CacheEntry). key_of o.query ≡ k)
+
+-- what a put of these entries of the key leaves
+pub put_of_keys : (es : Kept) (k : Vec ℕ Global) (v : List CacheEntry) (most : ℕ)
+    → AreOfKeys (map plain es) → AreOfKey k.items v
+    → AreOfKeys (map plain (option_map_or (λ e. (e.0, v)
+    ∷ remove_entry (λ y. bytes_eq k.items y.items) es)
+    (lookup_entry (λ y. bytes_eq k.items y.items) es) ((k, v) ∷ take (most - 1) es)))
+put_of_keys es k v most a b =
+    subst AreOfKeys (sym (put_others es k v most))
+    (b, of_keys_others k.items most (map plain es) a)
