@@ -8,7 +8,6 @@ use Rattle.turn_lock.specs.declared.rule.TheConstants.{LAST_TICKET}
 use Rattle.shared_cache.specs.declared.log.Wire.TheVariants.{Main}
 use Rattle.shared_cache.specs.declared.log.LogEntry.{LogEntry}
 use Rattle.shared_cache.specs.declared.log.LogEntry.TheVariants as entry
-use Rattle.shared_cache.specs.declared.log.ClientReply.{ClientReply}
 use Rattle.shared_cache.specs.declared.log.ClientReply.TheVariants as reply
 use Rattle.shared_cache.specs.declared.log.ClientRefusal.{ClientRefusal}
 use Rattle.shared_cache.specs.declared.log.ClientRefusal.TheVariants as refusal
@@ -26,7 +25,7 @@ use Rattle.script_text.specs.declared.script_line.ScriptCall.{ScriptCall}
 use Rattle.script_text.specs.declared.script_line.ScriptCall.TheVariants.{Ask, Do}
 use Rattle.script_text.specs.declared.script_line.ScriptLine.{ScriptLine}
 use Rattle.script_run.specs.declared.answer.Answer.{Answer}
-use Rattle.script_run.specs.declared.answer.Answer.TheVariants.{Hit, Read, Reply, Refused}
+use Rattle.script_run.specs.declared.answer.Answer.TheVariants.{Refused}
 use Rattle.script_run.specs.declared.reports.LineEnd.{LineEnd}
 use Rattle.script_run.specs.declared.reports.LineEnd.TheVariants as line
 use Rattle.script_run.specs.declared.reports.SessionEnd.{SessionEnd}
@@ -38,23 +37,10 @@ use Rattle.script_run.specs.Reports.{ends_of, first_at, first_of, line_end, no_t
 use Rattle.script_run.specs.Reports.{note_end, refused_end, rest_at, rest_of}
 use Rattle.script_run.specs.Reports.{tally_after}
 use Rattle.script_run.specs.Session.{AnyDown, EndsLink, HasDown, PumpedBy, Session}
+use Rattle.script_run.proofs.Sessions.{Answered}
 use Rattle.script_program.specs.Written.{EndShows, Reports}
 
 -- ---- who was told that the log is full has seen it so
-
-abbrev Answered : ClientTurn → ClientRefusal → List LogEntry → Type 0
-Answered turn r log = turn ≡ record { reply = reply.Refused r; past = log }
-
-longer : (e : LogEntry) (log : List LogEntry) (turn : ClientTurn) (r : ClientRefusal)
-    → turn.past ≡ e ∷ log → Answered turn r log → ⊥
-longer e log turn r p is =
-    let l : length (e ∷ log) ≡ length log =
-    ap length (sym p ∙ ap (λ (t : ClientTurn). t.past) is) in omega (arith, l)
-
-other : (a b : ClientReply) (log new : List LogEntry)
-    → ◌≡◌ {A = ClientTurn} (record { reply = a; past = log }) (record { reply = b; past = new })
-    → a ≡ b
-other a b log new is = ap (λ (t : ClientTurn). t.reply) is
 
 module _ (log : List LogEntry) (n : ℕ) where
   ask_full_in : (over ready full : Bool) (turn : ClientTurn) (e : LogEntry) → turn.past ≡ e ∷ log
@@ -62,12 +48,7 @@ module _ (log : List LogEntry) (n : ℕ) where
       (cond (not ready) (refusing refusal.NotReady log)
       (cond full (refusing (refusal.LogFull (length log)) log) turn))) (refusal.LogFull n) log
       → full ≡ true
-  ask_full_in true ready full turn e p is =
-      absurd (let x = other _ _ log log is in let no : ⊥ = cc in no)
-  ask_full_in false false full turn e p is =
-      absurd (let x = other _ _ log log is in let no : ⊥ = cc in no)
-  ask_full_in false true true turn e p is = refl
-  ask_full_in false true false turn e p is = absurd (longer e log turn (refusal.LogFull n) p is)
+  ask_full_in over ready full turn e p is = grind arith
 
   send_full_in : (over ready control full : Bool) (turn : ClientTurn) (e : LogEntry)
       → turn.past ≡ e ∷ log
@@ -76,15 +57,7 @@ module _ (log : List LogEntry) (n : ℕ) where
       (cond control (refusing refusal.Control log)
       (cond full (refusing (refusal.LogFull (length log)) log) turn)))) (refusal.LogFull n) log
       → full ≡ true
-  send_full_in true ready control full turn e p is =
-      absurd (let x = other _ _ log log is in let no : ⊥ = cc in no)
-  send_full_in false false control full turn e p is =
-      absurd (let x = other _ _ log log is in let no : ⊥ = cc in no)
-  send_full_in false true true full turn e p is =
-      absurd (let x = other _ _ log log is in let no : ⊥ = cc in no)
-  send_full_in false true false true turn e p is = refl
-  send_full_in false true false false turn e p is =
-      absurd (longer e log turn (refusal.LogFull n) p is)
+  send_full_in over ready control full turn e p is = grind arith
 
 call_full : (s : Setup) (log : List LogEntry) (n : ℕ) (c : ScriptCall)
     → Answered (client_step s log (call_for c)) (refusal.LogFull n) log
@@ -117,37 +90,18 @@ shows_more line.Worn s seen log t tickets p le h = omega (arith, le, h)
 shows_more (line.Said a) s seen log t tickets p le h = tt
 shows_more line.NoMemory s seen log t tickets p le h = tt
 
-refused_full : (s : Setup) (c : ScriptCall) (n : ℕ) (ts : List Turn) (seen : List LogEntry) (t : ℕ)
-    → RefusedBy s c (refusal.LogFull n) ts seen t → is_log_full s seen ≡ true
-refused_full s c n ts seen t (Unplayed e why) = call_full s seen n c why.1
-refused_full s c n ts seen t (NoAnswer m past e step why) = absurd why.0
-
-refused_worn : (s : Setup) (c : ScriptCall) (ts : List Turn) (seen : List LogEntry) (t : ℕ)
-    → RefusedBy s c refusal.Worn ts seen t → LAST_TICKET ≤ t
-refused_worn s c ts seen t (Unplayed e why) = why
-refused_worn s c ts seen t (NoAnswer m past e step why) = why
-
 refused_shows : (s : Setup) (c : ScriptCall) (r : ClientRefusal) (ts : List Turn)
     (seen : List LogEntry) (t : ℕ) → RefusedBy s c r ts seen t
     → LineShows (refused_end r) s seen t
-refused_shows s c (refusal.LogFull n) ts seen t h = refused_full s c n ts seen t h
-refused_shows s c refusal.Worn ts seen t h = refused_worn s c ts seen t h
-refused_shows s c (refusal.Down w) ts seen t h = tt
-refused_shows s c (refusal.Unexpected w) ts seen t h = tt
-refused_shows s c (refusal.BadPush w) ts seen t h = tt
-refused_shows s c refusal.NoMemory ts seen t h = tt
-refused_shows s c (refusal.SetupRefused w) ts seen t h = tt
-refused_shows s c refusal.NotReady ts seen t h = tt
-refused_shows s c refusal.Control ts seen t h = tt
-refused_shows s c (refusal.NoNumber n) ts seen t h = tt
+refused_shows s c (refusal.LogFull n) ts seen t (Unplayed e why) = call_full s seen n c why.1
+refused_shows s c (refusal.LogFull n) ts seen t (NoAnswer m past e step why) = absurd why.0
+refused_shows s c r ts seen t h = grind arith
 
 came_shows : (s : Setup) (c : ScriptCall) (a : Answer) (ts : List Turn) (seen : List LogEntry)
     (t : ℕ) → Came s c a ts seen t → LineShows (line_end (Some a)) s seen t
-came_shows s c (Hit m v) ts seen t h = tt
-came_shows s c (Read m v) ts seen t h = tt
-came_shows s c (Reply v) ts seen t h = tt
 came_shows s (Ask q) (Refused r) ts seen t h = refused_shows s (Ask q) r ts seen t h
 came_shows s (Do ws) (Refused r) ts seen t h = refused_shows s (Do ws) r ts seen t h
+came_shows s c a ts seen t h = tt
 
 -- ---- the answers that end a line so
 
@@ -231,33 +185,15 @@ module _ (flag : Tally → Bool) (x : LineEnd)
 
 full_noted : (t : Tally) (e : LineEnd) → (note_end t e).log_full ≡ true
     → (t.log_full ≡ true) ⊎ (e ≡ line.LogFull)
-full_noted t (line.Said (said.Hit n v)) h = inl h
-full_noted t (line.Said (said.Read n v)) h = inl h
-full_noted t (line.Said (said.Reply v)) h = inl h
-full_noted t (line.Said said.Down) h = inl h
-full_noted t line.NoMemory h = inl h
-full_noted t line.LogFull h = inr refl
-full_noted t line.Worn h = inl h
+full_noted t e h = grind arith
 
 worn_noted : (t : Tally) (e : LineEnd) → (note_end t e).worn ≡ true
     → (t.worn ≡ true) ⊎ (e ≡ line.Worn)
-worn_noted t (line.Said (said.Hit n v)) h = inl h
-worn_noted t (line.Said (said.Read n v)) h = inl h
-worn_noted t (line.Said (said.Reply v)) h = inl h
-worn_noted t (line.Said said.Down) h = inl h
-worn_noted t line.NoMemory h = inl h
-worn_noted t line.LogFull h = inl h
-worn_noted t line.Worn h = inr refl
+worn_noted t e h = grind arith
 
 down_noted : (t : Tally) (e : LineEnd) → (note_end t e).down ≡ true
     → (t.down ≡ true) ⊎ (e ≡ line.Said said.Down)
-down_noted t (line.Said (said.Hit n v)) h = inl h
-down_noted t (line.Said (said.Read n v)) h = inl h
-down_noted t (line.Said (said.Reply v)) h = inl h
-down_noted t (line.Said said.Down) h = inr refl
-down_noted t line.NoMemory h = inl h
-down_noted t line.LogFull h = inl h
-down_noted t line.Worn h = inl h
+down_noted t e h = grind arith
 
 any_down : (rs : List Answer) → AnyEnds (line.Said said.Down) rs → AnyDown rs
 any_down [] h = h
@@ -275,54 +211,29 @@ link_in : (down some six full seven worn eight : Bool) (n m : ℕ)
     (cond (some || six) ended.NoMemory (cond (full || seven) ended.HistoryFull
     (cond (worn || eight) ended.Worn (ended.LinkEnded n)))) ≡ ended.LinkEnded m
     → (down ≡ true) × (six ≡ false) × (seven ≡ false) × (n ≡ m)
-link_in true true six full seven worn eight n m h = absurd (let no : ⊥ = cc in no)
-link_in true false true full seven worn eight n m h = absurd (let no : ⊥ = cc in no)
-link_in true false false true seven worn eight n m h = absurd (let no : ⊥ = cc in no)
-link_in true false false false true worn eight n m h = absurd (let no : ⊥ = cc in no)
-link_in true false false false false true eight n m h = absurd (let no : ⊥ = cc in no)
-link_in true false false false false false true n m h = absurd (let no : ⊥ = cc in no)
-link_in true false false false false false false n m h =
-    (refl, refl, refl, let same : n ≡ m = cc in same)
-link_in false true six full seven worn eight n m h = absurd (let no : ⊥ = cc in no)
-link_in false false true true seven worn eight n m h = absurd (let no : ⊥ = cc in no)
-link_in false false false true seven worn eight n m h = absurd (let no : ⊥ = cc in no)
-link_in false false true false seven true eight n m h = absurd (let no : ⊥ = cc in no)
-link_in false false false false true true eight n m h = absurd (let no : ⊥ = cc in no)
-link_in false false false false false true eight n m h = absurd (let no : ⊥ = cc in no)
-link_in false false six false seven false eight n m h = absurd (let no : ⊥ = cc in no)
+link_in down some six full seven worn eight n m h = grind arith
 
 by_link : (end : PumpEnd) → EndsLink end → (end_number end == 6) ≡ false
     → (end_number end == 7) ≡ false → (1 ≤ end_number end) × (end_number end ≤ 4)
-by_link pumped.PeerEnd e six seven = (omega arith, omega arith)
-by_link pumped.LinkFault e six seven = (omega arith, omega arith)
-by_link (pumped.BadStream f) e six seven = (omega arith, omega arith)
-by_link (pumped.Refused r) e six seven = (omega arith, omega arith)
-by_link pumped.Done e six seven = absurd e
-by_link pumped.NoMemory e six seven = absurd (let no : ⊥ = cc in no)
-by_link pumped.LogFull e six seven = absurd (let no : ⊥ = cc in no)
-by_link pumped.Worn e six seven = absurd e
+by_link end e six seven = grind arith
 
 full_in : (all some full by worn : Bool) (n : ℕ)
     → cond all ended.Done (cond some ended.NoMemory (cond (full || by) ended.HistoryFull
     (cond worn ended.Worn (ended.LinkEnded n)))) ≡ ended.HistoryFull
     → (full ≡ true) ⊎ (by ≡ true)
-full_in true some full by worn n h = absurd (let no : ⊥ = cc in no)
-full_in false true full by worn n h = absurd (let no : ⊥ = cc in no)
-full_in false false true by worn n h = inl refl
-full_in false false false true worn n h = inr refl
-full_in false false false false true n h = absurd (let no : ⊥ = cc in no)
-full_in false false false false false n h = absurd (let no : ⊥ = cc in no)
+full_in all some full by worn n h = grind arith
 
 worn_in : (all some full worn by : Bool) (n : ℕ)
     → cond all ended.Done (cond some ended.NoMemory (cond full ended.HistoryFull
     (cond (worn || by) ended.Worn (ended.LinkEnded n)))) ≡ ended.Worn
     → (worn ≡ true) ⊎ (by ≡ true)
-worn_in true some full worn by n h = absurd (let no : ⊥ = cc in no)
-worn_in false true full worn by n h = absurd (let no : ⊥ = cc in no)
-worn_in false false true worn by n h = absurd (let no : ⊥ = cc in no)
-worn_in false false false true by n h = inl refl
-worn_in false false false false true n h = inr refl
-worn_in false false false false false n h = absurd (let no : ⊥ = cc in no)
+worn_in all some full worn by n h = grind arith
+
+seven_full : (end : PumpEnd) → (end_number end == 7) ≡ true → end ≡ pumped.LogFull
+seven_full end is = grind arith
+
+eight_worn : (end : PumpEnd) → (end_number end == 8) ≡ true → end ≡ pumped.Worn
+eight_worn end is = grind arith
 
 module _ (s : Setup) (left0 left1 link0 link1 : Option (List ℕ)) (turns : List Turn)
     (log : List LogEntry) (tickets : ℕ) where
@@ -341,24 +252,10 @@ module _ (s : Setup) (left0 left1 link0 link1 : Option (List ℕ)) (turns : List
       let le = k.not_more in let last = k.pumps.finishes.1 in omega (arith, le, last)
 
   by_full : (end : PumpEnd) → (end_number end == 7) ≡ true → By end → is_log_full s log ≡ true
-  by_full pumped.PeerEnd h k = absurd (let no : ⊥ = cc in no)
-  by_full pumped.LinkFault h k = absurd (let no : ⊥ = cc in no)
-  by_full (pumped.BadStream f) h k = absurd (let no : ⊥ = cc in no)
-  by_full (pumped.Refused r) h k = absurd (let no : ⊥ = cc in no)
-  by_full pumped.Done h k = absurd (let no : ⊥ = cc in no)
-  by_full pumped.NoMemory h k = absurd (let no : ⊥ = cc in no)
-  by_full pumped.LogFull h k = full_pump k
-  by_full pumped.Worn h k = absurd (let no : ⊥ = cc in no)
+  by_full end is k = full_pump (subst By (seven_full end is) k)
 
   by_worn : (end : PumpEnd) → (end_number end == 8) ≡ true → By end → LAST_TICKET ≤ tickets
-  by_worn pumped.PeerEnd h k = absurd (let no : ⊥ = cc in no)
-  by_worn pumped.LinkFault h k = absurd (let no : ⊥ = cc in no)
-  by_worn (pumped.BadStream f) h k = absurd (let no : ⊥ = cc in no)
-  by_worn (pumped.Refused r) h k = absurd (let no : ⊥ = cc in no)
-  by_worn pumped.Done h k = absurd (let no : ⊥ = cc in no)
-  by_worn pumped.NoMemory h k = absurd (let no : ⊥ = cc in no)
-  by_worn pumped.LogFull h k = absurd (let no : ⊥ = cc in no)
-  by_worn pumped.Worn h k = worn_pump k
+  by_worn end is k = worn_pump (subst By (eight_worn end is) k)
 
 module _ (s : Setup) (lines : List ScriptLine) (answers : List (List Answer)) (pump : PumpEnd)
     (left0 left1 link0 link1 : Option (List ℕ)) (log : List LogEntry) (tickets : ℕ)
@@ -373,30 +270,26 @@ module _ (s : Setup) (lines : List ScriptLine) (answers : List (List Answer)) (p
       (threads_show x s lines 1 answers k.called k.seen tickets k.came
       (lines_have x some lines answers any))
 
-  told_full : all.log_full ≡ true → is_log_full s log ≡ true
-  told_full h =
-      elim (tally_noted (λ t. t.log_full) line.LogFull full_noted no_tally
+  noted_line : (flag : Tally → Bool) (x : LineEnd) → ((t : Tally) (e : LineEnd)
+      → flag (note_end t e) ≡ true → (flag t ≡ true) ⊎ (e ≡ x)) → flag no_tally ≡ false
+      → flag all ≡ true → AnyLine x (ends_of lines answers)
+  noted_line flag x noted off h = elim (tally_noted flag x noted no_tally
       (ends_of lines answers) h) [
-        | inl off ↦ absurd (let clash : ⊥ = cc in clash)
-        | inr any ↦ line_shows line.LogFull (λ e. cc) any
+        | inl on ↦ absurd (let clash : ⊥ = cc in clash)
+        | inr any ↦ any
       ]
 
+  told_full : all.log_full ≡ true → is_log_full s log ≡ true
+  told_full h =
+      line_shows line.LogFull (λ e. cc) (noted_line (λ t. t.log_full) _ full_noted refl h)
+
   told_worn : all.worn ≡ true → LAST_TICKET ≤ tickets
-  told_worn h =
-      elim (tally_noted (λ t. t.worn) line.Worn worn_noted no_tally
-      (ends_of lines answers) h) [
-        | inl off ↦ absurd (let clash : ⊥ = cc in clash)
-        | inr any ↦ line_shows line.Worn (λ e. cc) any
-      ]
+  told_worn h = line_shows line.Worn (λ e. cc) (noted_line (λ t. t.worn) _ worn_noted refl h)
 
   told_down : all.down ≡ true → EndsLink pump
   told_down h =
-      elim (tally_noted (λ t. t.down) (line.Said said.Down) down_noted no_tally
-      (ends_of lines answers) h) [
-        | inl off ↦ absurd (let clash : ⊥ = cc in clash)
-        | inr any ↦ k.down (has_down answers (lines_have (line.Said said.Down) (λ e. cc) lines
-            answers any))
-      ]
+      let any = noted_line (λ t. t.down) (line.Said said.Down) down_noted refl h in
+      k.down (has_down answers (lines_have _ (λ e. cc) lines answers any))
 
   pub end_shows : (e : SessionEnd) (text : List ℕ) → Reports lines answers pump e text
       → EndShows e s log tickets

@@ -1,8 +1,8 @@
 -- No caller is told that there is no such number: each number is issued once in a log, and its
 -- caller alone asks for the reply, once.
-use Rattle.std.proofs.Common.{◌≡◌, ◌≤◌, ◌<◌, ◌+◌, ◌-◌, ◌==◌, ◌&&◌, ◌||◌, ℕ, suc, List, []}
+use Rattle.std.proofs.Common.{◌≡◌, ◌≤◌, ◌<◌, ◌+◌, ◌-◌, ◌==◌, ◌&&◌, ℕ, suc, List, []}
 use Rattle.std.proofs.Common.{◌∷◌, ◌++◌, Bool, true, false, not, cond, length, Option, Some, None}
-use Rattle.std.proofs.Common.{inl, inr, refl, sym, ap, subst, ◌∙◌, arith, append-nil, append_assoc}
+use Rattle.std.proofs.Common.{refl, sym, ap, subst, ◌∙◌, arith, append-nil, append_assoc}
 use Rattle.std.proofs.Common.{length-append, ne_eqb}
 use Rattle.std.specs.Prelude.{nat_lt, nat_le}
 use Rattle.std.specs.List.{All, slice_get}
@@ -37,14 +37,13 @@ use Rattle.script_text.specs.declared.script_line.ScriptCall.{ScriptCall}
 use Rattle.script_text.specs.declared.script_line.ScriptCall.TheVariants.{Ask, Do}
 use Rattle.script_text.specs.declared.script_line.ScriptLine.{ScriptLine}
 use Rattle.client_link.specs.declared.pump_end.PumpEnd.{PumpEnd}
-use Rattle.client_link.specs.declared.pump_end.PumpEnd.TheVariants as ended
 use Rattle.client_link.specs.Pumps.{IsWork, IsEnd, Finishes}
 use Rattle.script_run.specs.declared.answer.Answer.{Answer}
 use Rattle.script_run.specs.declared.answer.Answer.TheVariants.{Hit, Read, Reply, Refused}
 use Rattle.script_run.specs.Lines.{call_for, entry_for, Between, RefusedBy, Unplayed, NoAnswer}
 use Rattle.script_run.specs.Lines.{Came, AllCame, ThreadsCame, calls_of}
-use Rattle.script_run.specs.Session.{turns_in, ClosedBy, LastEnd, Over, NoTicket}
-use Rattle.script_run.proofs.Totals.{more_weight, prefix_total, works_none}
+use Rattle.script_run.specs.Session.{turns_in, ClosedBy}
+use Rattle.script_run.proofs.Totals.{parts_total, prefix_total, works_none}
 
 -- turns that are one have one answer
 pub one_answer : (a b : ClientReply) (log new : List LogEntry)
@@ -63,29 +62,16 @@ polls n (entry.Got w v, past) = 0
 polls n (entry.End w, past) = 0
 polls n (entry.Bad w v, past) = 0
 
-poll_or : (b more : Bool) (rest : ℕ) → (b || more) ≡ true → (more ≡ true → 1 ≤ rest)
-    → 1 ≤ cond b 1 0 + rest
-poll_or true more rest is r = omega arith
-poll_or false more rest is r = let e = r is in omega (arith, e)
+poll_step : (n : ℕ) (e : LogEntry) (k : List LogEntry)
+    → (is_polled k n ≡ true → 1 ≤ total (polls n) (turns_in k)) → is_polled (e ∷ k) n ≡ true
+    → 1 ≤ total (polls n) (turns_in (e ∷ k))
+poll_step n e k r is = grind arith
 
 -- a number that was polled is asked for in the log
 polled_there : (n : ℕ) (k : List LogEntry) → is_polled k n ≡ true
     → 1 ≤ total (polls n) (turns_in k)
 polled_there n [] is = absurd (let z : ⊥ = cc in z)
-polled_there n (entry.Poll m ∷ k) is =
-    poll_or (m == n) (is_polled k n) (total (polls n) (turns_in k)) is (polled_there n k)
-polled_there n (entry.Ask q ∷ k) is =
-    more_weight (polls n) (entry.Ask q, k) (turns_in k) (polled_there n k is)
-polled_there n (entry.Send ws ∷ k) is =
-    more_weight (polls n) (entry.Send ws, k) (turns_in k) (polled_there n k is)
-polled_there n (entry.TakeOut w m ∷ k) is =
-    more_weight (polls n) (entry.TakeOut w m, k) (turns_in k) (polled_there n k is)
-polled_there n (entry.Got w v ∷ k) is =
-    more_weight (polls n) (entry.Got w v, k) (turns_in k) (polled_there n k is)
-polled_there n (entry.End w ∷ k) is =
-    more_weight (polls n) (entry.End w, k) (turns_in k) (polled_there n k is)
-polled_there n (entry.Bad w v ∷ k) is =
-    more_weight (polls n) (entry.Bad w v, k) (turns_in k) (polled_there n k is)
+polled_there n (e ∷ k) is = poll_step n e k (polled_there n k) is
 
 -- a pump asks for none
 module _ (n : ℕ) where
@@ -93,30 +79,14 @@ module _ (n : ℕ) where
   f = polls n
 
   work_polls : (e : LogEntry) (past : List LogEntry) → IsWork (e, past) → f (e, past) ≡ 0
-  work_polls (entry.TakeOut w m) past h = refl
-  work_polls (entry.Got w v) past h = refl
-  work_polls (entry.Ask q) past h = refl
-  work_polls (entry.Send ws) past h = refl
-  work_polls (entry.Poll m) past h = absurd h
-  work_polls (entry.End w) past h = refl
-  work_polls (entry.Bad w v) past h = refl
+  work_polls e past h = grind arith
 
   end_polls : (ending : List Turn) → IsEnd ending → total f ending ≡ 0
-  end_polls ending h = elim h [
-    | inl none ↦ ap (total f) none
-    | inr is ↦ ap (total f) is.1
-  ]
+  end_polls ending h = grind arith
 
   finish_polls : (end : PumpEnd) (s : Setup) (ending : List Turn) (k : Place)
       → Finishes end s ending k → total f ending ≡ 0
-  finish_polls ended.PeerEnd s ending k h = end_polls ending h.0
-  finish_polls ended.LinkFault s ending k h = end_polls ending h.0
-  finish_polls (ended.BadStream fault) s ending k h = end_polls ending h.0
-  finish_polls (ended.Refused r) s ending k h = ap (total f) h.0.turns_are
-  finish_polls ended.Done s ending k h = ap (total f) h.0
-  finish_polls ended.NoMemory s ending k h = end_polls ending h.0
-  finish_polls ended.LogFull s ending k h = end_polls ending h.0
-  finish_polls ended.Worn s ending k h = ap (total f) h.0
+  finish_polls end s ending k h = grind (arith, end_polls)
 
   pub pump_polls : (end : PumpEnd) (s : Setup) (ending ts : List Turn) (k : Place)
       → Finishes end s ending k → All IsWork ts → total f (ending ++ ts) ≡ 0
@@ -128,9 +98,7 @@ module _ (n : ℕ) where
 
   pub closing_polls : (s : Setup) (ts : List Turn) (seen log : List LogEntry) (t : ℕ)
       → ClosedBy s ts seen log t → total f ts ≡ 0
-  closing_polls s ts seen log t (LastEnd past e p) = ap (total f) e
-  closing_polls s ts seen log t (Over later e p is) = ap (total f) e
-  closing_polls s ts seen log t (NoTicket e worn) = ap (total f) e
+  closing_polls s ts seen log t h = grind arith
 
 -- ---- how often a number is issued
 
@@ -270,16 +238,7 @@ module _ (s : Setup) where
         (cond full (refusing (refusal.LogFull (length log)) log)
         (record { reply = answer_ask o m; past = new })))
         ≡ record { reply = reply.Sent n; past = new } → (o ≡ None) × (n ≡ m)
-    asked_in true ready full o m is =
-        absurd (let x = one_answer _ _ _ _ is in let no : ⊥ = cc in no)
-    asked_in false false full o m is =
-        absurd (let x = one_answer _ _ _ _ is in let no : ⊥ = cc in no)
-    asked_in false true true o m is =
-        absurd (let x = one_answer _ _ _ _ is in let no : ⊥ = cc in no)
-    asked_in false true false (Some h) m is =
-        absurd (let x = one_answer _ _ _ _ is in let no : ⊥ = cc in no)
-    asked_in false true false None m is =
-        (refl, let x = one_answer _ _ _ _ is in let same : n ≡ m = cc in same)
+    asked_in over ready full o m is = grind arith
 
     sent_in : (over ready control full : Bool) (m : ℕ)
         → cond over (refusing (refusal.Down Main) log)
@@ -288,16 +247,7 @@ module _ (s : Setup) where
         (cond full (refusing (refusal.LogFull (length log)) log)
         (record { reply = reply.Sent m; past = new }))))
         ≡ record { reply = reply.Sent n; past = new } → n ≡ m
-    sent_in true ready control full m is =
-        absurd (let x = one_answer _ _ _ _ is in let no : ⊥ = cc in no)
-    sent_in false false control full m is =
-        absurd (let x = one_answer _ _ _ _ is in let no : ⊥ = cc in no)
-    sent_in false true true full m is =
-        absurd (let x = one_answer _ _ _ _ is in let no : ⊥ = cc in no)
-    sent_in false true false true m is =
-        absurd (let x = one_answer _ _ _ _ is in let no : ⊥ = cc in no)
-    sent_in false true false false m is =
-        let x = one_answer _ _ _ _ is in let same : n ≡ m = cc in same
+    sent_in over ready control full m is = grind arith
 
   step_issues : (c : ScriptCall) (past : List LogEntry) (number : ℕ)
       → client_step s past (call_for c)
@@ -334,9 +284,7 @@ module _ (s : Setup) where
 
   refused_fair : (n : ℕ) (c : ScriptCall) (r : ClientRefusal) (ts : List Turn)
       (seen : List LogEntry) (t : ℕ) → RefusedBy s c r ts seen t → total (polls n) ts ≡ 0
-  refused_fair n c r ts seen t (Unplayed e why) = ap (total (polls n)) e
-  refused_fair n (Ask q) r ts seen t (NoAnswer m past e step why) = ap (total (polls n)) e
-  refused_fair n (Do ws) r ts seen t (NoAnswer m past e step why) = ap (total (polls n)) e
+  refused_fair n c r ts seen t h = grind arith
 
   pub came_fair : (n : ℕ) (c : ScriptCall) (a : Answer) (ts : List Turn) (seen : List LogEntry)
       (t : ℕ) → Came s c a ts seen t → Fair n ts
@@ -359,10 +307,8 @@ module _ (s : Setup) where
   fair_both : (n : ℕ) (ts mine rest : List Turn) → ts ≡ rest ++ mine → Fair n rest → Fair n mine
       → Fair n ts
   fair_both n ts mine rest e r m =
-      let p : total (polls n) ts ≡ total (polls n) rest + total (polls n) mine =
-      ap (total (polls n)) e ∙ total-append (polls n) rest mine in
-      let i : total (issues n) ts ≡ total (issues n) rest + total (issues n) mine =
-      ap (total (issues n)) e ∙ total-append (issues n) rest mine in
+      let p = parts_total (polls n) ts mine rest e in
+      let i = parts_total (issues n) ts mine rest e in
       omega (arith, p, i, r, m)
 
   pub all_fair : (n : ℕ) (cs : List ScriptCall) (rs : List Answer) (ts : List Turn)
@@ -404,13 +350,7 @@ module _ (s : Setup) where
     unwanted_in : (wanted over : Bool) (o : Option Value)
         → cond (not wanted) (refusing (refusal.NoNumber n) log) (polling o n over log)
         ≡ record { reply = reply.Refused (refusal.NoNumber m); past = log } → wanted ≡ false
-    unwanted_in false over o is = refl
-    unwanted_in true over (Some v) is =
-        absurd (let x = one_answer _ _ _ _ is in let no : ⊥ = cc in no)
-    unwanted_in true true None is =
-        absurd (let x = one_answer _ _ _ _ is in let no : ⊥ = cc in no)
-    unwanted_in true false None is =
-        absurd (let x = one_answer _ _ _ _ is in let no : ⊥ = cc in no)
+    unwanted_in wanted over o is = grind arith
 
   poll_unwanted : (log : List LogEntry) (n m : ℕ)
       → client_step s log (call.Poll n)
@@ -458,10 +398,8 @@ module _ (s : Setup) where
       ≤ total (issues n) rest + total (issues n) mine
       → total (polls n) ts + 1 ≤ total (issues n) ts
   fewer_in n ts mine rest e h =
-      let p : total (polls n) ts ≡ total (polls n) rest + total (polls n) mine =
-      ap (total (polls n)) e ∙ total-append (polls n) rest mine in
-      let i : total (issues n) ts ≡ total (issues n) rest + total (issues n) mine =
-      ap (total (issues n)) e ∙ total-append (issues n) rest mine in
+      let p = parts_total (polls n) ts mine rest e in
+      let i = parts_total (issues n) ts mine rest e in
       omega (arith, p, i, h)
 
   -- it stands among turns that are fair
@@ -491,9 +429,7 @@ module _ (s : Setup) where
 
   was_polled : (given_ polled : Bool) → given_ ≡ true → (given_ && not polled) ≡ false
       → polled ≡ true
-  was_polled true true g w = refl
-  was_polled true false g w = sym w
-  was_polled false polled g w = absurd (let no : ⊥ = cc in no)
+  was_polled given_ polled g w = grind arith
 
   -- but no session has such a line
   pub none_missed : (log : List LogEntry) (called pumped closing : List Turn)

@@ -2,7 +2,7 @@
 -- told that the link is down the pump had ended it.
 use Rattle.std.proofs.Common.{◌≡◌, ◌≤◌, ◌<◌, ◌+◌, inl, inr, ℕ, suc, List, [], ◌∷◌, ◌++◌}
 use Rattle.std.proofs.Common.{Bool, true, false, cond, length, refl, sym, ap, subst, ◌∙◌, arith}
-use Rattle.std.specs.Prelude.{Option, Some, None, nat_lt, ◌&&◌, ◌||◌, ◌==◌, ◌⊎◌, not}
+use Rattle.std.specs.Prelude.{Option, nat_lt, ◌&&◌, ◌==◌, ◌⊎◌, not}
 use Rattle.std.specs.List.{All}
 use Rattle.std.proofs.lemmas.Bool.Decides.{nat_tests}
 use Rattle.std.proofs.lemmas.List.Elements.{All-cons, All-head, All-nil, All-tail}
@@ -36,17 +36,16 @@ use Rattle.script_text.specs.declared.script_line.ScriptCall.TheVariants.{Ask, D
 use Rattle.script_text.specs.declared.script_line.ScriptLine.{ScriptLine}
 use Rattle.script_text.specs.Scripts.{IsValidCall, IsValidLine}
 use Rattle.client_link.specs.declared.pump_end.PumpEnd.{PumpEnd}
-use Rattle.client_link.specs.declared.pump_end.PumpEnd.TheVariants as ended
 use Rattle.client_link.specs.Pumps.{IsWork, Finishes}
 use Rattle.script_run.specs.declared.answer.Answer.{Answer}
-use Rattle.script_run.specs.declared.answer.Answer.TheVariants.{Hit, Read, Reply, Refused}
+use Rattle.script_run.specs.declared.answer.Answer.TheVariants.{Refused}
 use Rattle.script_run.specs.Lines.{call_for, Between, RefusedBy, Unplayed, NoAnswer, Came}
 use Rattle.script_run.specs.Lines.{AllCame, ThreadsCame, calls_of}
 use Rattle.script_run.specs.Session.{turns_in, IsDown, AnyDown, HasDown, EndsLink, PumpedBy}
 use Rattle.script_run.specs.Session.{ClosedBy, LastEnd, Over, NoTicket}
-use Rattle.script_run.proofs.Totals.{more_weight, prefix_length, prefix_total, two_none}
+use Rattle.script_run.proofs.Totals.{prefix_length, prefix_total, two_none}
 use Rattle.script_run.proofs.Totals.{works_none}
-use Rattle.script_run.proofs.Numbers.{one_answer, polls, pump_polls, closing_polls, all_fair}
+use Rattle.script_run.proofs.Numbers.{polls, pump_polls, closing_polls, all_fair}
 use Rattle.script_run.proofs.Numbers.{came_fair, threads_fair, Missed, refused_missed}
 use Rattle.script_run.proofs.Numbers.{missed_first, missed_last, none_missed}
 
@@ -85,37 +84,16 @@ ends_main (entry.Bad w v, past) = is_wire w Main
 abbrev early_end : ℕ → Turn → ℕ
 early_end n t = cond (ends_main t && nat_lt (length t.1) n) 1 0
 
-end_or : (b over : Bool) (n : ℕ) (past : List LogEntry) (rest : ℕ) → (b || over) ≡ true
-    → length past < n → (over ≡ true → 1 ≤ rest)
-    → 1 ≤ cond (b && nat_lt (length past) n) 1 0 + rest
-end_or true over n past rest is lt r =
-    let e : cond {A = ℕ} (nat_lt (length past) n) 1 0 ≡ 1 = grind (arith, nat_tests, lt) in
-    omega (arith, e)
-end_or false over n past rest is lt r = let e = r is in omega (arith, e)
+end_step : (m : ClientMode) (n : ℕ) (e : LogEntry) (k : List LogEntry) → length k < n
+    → (is_ended m Main k ≡ true → 1 ≤ total (early_end n) (turns_in k))
+    → is_ended m Main (e ∷ k) ≡ true → 1 ≤ total (early_end n) (turns_in (e ∷ k))
+end_step m n e k lt r is = grind (arith, nat_tests)
 
 -- a log that is ended has an end
 has_end : (m : ClientMode) (n : ℕ) (k : List LogEntry) → length k ≤ n
     → is_ended m Main k ≡ true → 1 ≤ total (early_end n) (turns_in k)
 has_end m n [] le is = absurd (let z : ⊥ = cc in z)
-has_end m n (entry.Ask q ∷ k) le is =
-    more_weight (early_end n) (entry.Ask q, k) (turns_in k) (has_end m n k (omega (arith, le)) is)
-has_end m n (entry.Send ws ∷ k) le is =
-    more_weight (early_end n) (entry.Send ws, k) (turns_in k)
-    (has_end m n k (omega (arith, le)) is)
-has_end m n (entry.Poll p ∷ k) le is =
-    more_weight (early_end n) (entry.Poll p, k) (turns_in k) (has_end m n k (omega (arith, le)) is)
-has_end m n (entry.TakeOut w p ∷ k) le is =
-    more_weight (early_end n) (entry.TakeOut w p, k) (turns_in k)
-    (has_end m n k (omega (arith, le)) is)
-has_end m n (entry.Got w v ∷ k) le is =
-    more_weight (early_end n) (entry.Got w v, k) (turns_in k)
-    (has_end m n k (omega (arith, le)) is)
-has_end m n (entry.End w ∷ k) le is =
-    end_or (is_wire w Main) (is_ended m Main k) n k (total (early_end n) (turns_in k)) is
-    (omega (arith, le)) (λ over. has_end m n k (omega (arith, le)) over)
-has_end m n (entry.Bad w v ∷ k) le is =
-    end_or (is_wire w Main) (is_ended m Main k) n k (total (early_end n) (turns_in k)) is
-    (omega (arith, le)) (λ over. has_end m n k (omega (arith, le)) over)
+has_end m n (e ∷ k) le is = end_step m n e k (omega arith) (has_end m n k (omega arith)) is
 
 -- ---- no end is a caller's
 
@@ -125,20 +103,11 @@ module _ (n : ℕ) where
 
   refused_none : (s : Setup) (c : ScriptCall) (r : ClientRefusal) (ts : List Turn)
       (seen : List LogEntry) (t : ℕ) → RefusedBy s c r ts seen t → total f ts ≡ 0
-  refused_none s c r ts seen t (Unplayed e why) = ap (total f) e
-  refused_none s (Ask q) r ts seen t (NoAnswer m past e step why) = ap (total f) e
-  refused_none s (Do ws) r ts seen t (NoAnswer m past e step why) = ap (total f) e
+  refused_none s c r ts seen t h = grind arith
 
   came_none : (s : Setup) (c : ScriptCall) (a : Answer) (ts : List Turn) (seen : List LogEntry)
       (t : ℕ) → Came s c a ts seen t → total f ts ≡ 0
-  came_none s (Ask q) (Hit m v) ts seen t h = ap (total f) h.turns_are
-  came_none s (Ask q) (Read m v) ts seen t h = ap (total f) h.turns_are
-  came_none s (Ask q) (Reply v) ts seen t h = absurd h
-  came_none s (Ask q) (Refused r) ts seen t h = refused_none s (Ask q) r ts seen t h
-  came_none s (Do ws) (Hit m v) ts seen t h = absurd h
-  came_none s (Do ws) (Read m v) ts seen t h = absurd h
-  came_none s (Do ws) (Reply v) ts seen t h = ap (total f) h.turns_are
-  came_none s (Do ws) (Refused r) ts seen t h = refused_none s (Do ws) r ts seen t h
+  came_none s c a ts seen t h = grind (arith, refused_none)
 
   all_none : (s : Setup) (cs : List ScriptCall) (rs : List Answer) (ts : List Turn)
       (log : List LogEntry) (t : ℕ) → AllCame s cs rs ts log t → total f ts ≡ 0
@@ -175,13 +144,7 @@ module _ (n : ℕ) where
   closing_none s ts seen log t le (NoTicket e worn) = ap (total f) e
 
   work_none : (e : LogEntry) (past : List LogEntry) → IsWork (e, past) → f (e, past) ≡ 0
-  work_none (entry.TakeOut w m) past h = refl
-  work_none (entry.Got w v) past h = refl
-  work_none (entry.Ask q) past h = absurd h
-  work_none (entry.Send ws) past h = absurd h
-  work_none (entry.Poll m) past h = absurd h
-  work_none (entry.End w) past h = absurd h
-  work_none (entry.Bad w v) past h = absurd h
+  work_none e past h = grind arith
 
   none_but_works : (ending ts : List Turn) → ending ≡ [] → All IsWork ts
       → total f (ending ++ ts) ≡ 0
@@ -190,27 +153,12 @@ module _ (n : ℕ) where
   -- who has an early end has ended the link
   ends_link : (end : PumpEnd) (s : Setup) (ending ts : List Turn) (k : Place)
       → Finishes end s ending k → All IsWork ts → 1 ≤ total f (ending ++ ts) → EndsLink end
-  ends_link ended.PeerEnd s ending ts k h w le = tt
-  ends_link ended.LinkFault s ending ts k h w le = tt
-  ends_link (ended.BadStream fault) s ending ts k h w le = tt
-  ends_link (ended.Refused r) s ending ts k h w le = tt
-  ends_link ended.NoMemory s ending ts k h w le = tt
-  ends_link ended.LogFull s ending ts k h w le = tt
-  ends_link ended.Done s ending ts k h w le =
-      absurd (omega (arith, le, none_but_works ending ts h.0 w))
-  ends_link ended.Worn s ending ts k h w le =
-      absurd (omega (arith, le, none_but_works ending ts h.0 w))
+  ends_link end s ending ts k h w le = grind (arith, none_but_works)
 
 -- ---- who was told that the link is down has seen its end
 
-abbrev Answered : ClientTurn → ClientRefusal → List LogEntry → Type 0
+abbrev pub Answered : ClientTurn → ClientRefusal → List LogEntry → Type 0
 Answered turn r log = turn ≡ record { reply = reply.Refused r; past = log }
-
-longer : (e : LogEntry) (log : List LogEntry) (turn : ClientTurn) (r : ClientRefusal)
-    → turn.past ≡ e ∷ log → Answered turn r log → ⊥
-longer e log turn r p is =
-    let l : length (e ∷ log) ≡ length log =
-    ap length (sym p ∙ ap (λ (t : ClientTurn). t.past) is) in omega (arith, l)
 
 module _ (log : List LogEntry) (w : Wire) where
   ask_down_in : (over ready full : Bool) (turn : ClientTurn) (e : LogEntry) → turn.past ≡ e ∷ log
@@ -218,12 +166,7 @@ module _ (log : List LogEntry) (w : Wire) where
       (cond (not ready) (refusing refusal.NotReady log)
       (cond full (refusing (refusal.LogFull (length log)) log) turn))) (refusal.Down w) log
       → over ≡ true
-  ask_down_in true ready full turn e p is = refl
-  ask_down_in false false full turn e p is =
-      absurd (let x = one_answer _ _ log log is in let no : ⊥ = cc in no)
-  ask_down_in false true true turn e p is =
-      absurd (let x = one_answer _ _ log log is in let no : ⊥ = cc in no)
-  ask_down_in false true false turn e p is = absurd (longer e log turn (refusal.Down w) p is)
+  ask_down_in over ready full turn e p is = grind arith
 
   send_down_in : (over ready control full : Bool) (turn : ClientTurn) (e : LogEntry)
       → turn.past ≡ e ∷ log
@@ -232,26 +175,12 @@ module _ (log : List LogEntry) (w : Wire) where
       (cond control (refusing refusal.Control log)
       (cond full (refusing (refusal.LogFull (length log)) log) turn)))) (refusal.Down w) log
       → over ≡ true
-  send_down_in true ready control full turn e p is = refl
-  send_down_in false false control full turn e p is =
-      absurd (let x = one_answer _ _ log log is in let no : ⊥ = cc in no)
-  send_down_in false true true full turn e p is =
-      absurd (let x = one_answer _ _ log log is in let no : ⊥ = cc in no)
-  send_down_in false true false true turn e p is =
-      absurd (let x = one_answer _ _ log log is in let no : ⊥ = cc in no)
-  send_down_in false true false false turn e p is =
-      absurd (longer e log turn (refusal.Down w) p is)
+  send_down_in over ready control full turn e p is = grind arith
 
   poll_down_in : (wanted over : Bool) (o : Option Value) (n : ℕ)
       → Answered (cond (not wanted) (refusing (refusal.NoNumber n) log) (polling o n over log))
       (refusal.Down w) log → over ≡ true
-  poll_down_in false over o n is =
-      absurd (let x = one_answer _ _ log log is in let no : ⊥ = cc in no)
-  poll_down_in true over (Some v) n is =
-      absurd (longer (entry.Poll n) log _ (refusal.Down w) refl is)
-  poll_down_in true true None n is = refl
-  poll_down_in true false None n is =
-      absurd (let x = one_answer _ _ log log is in let no : ⊥ = cc in no)
+  poll_down_in wanted over o n is = grind arith
 
 call_down : (s : Setup) (log : List LogEntry) (w : Wire) (c : ScriptCall)
     → Answered (client_step s log (call_for c)) (refusal.Down w) log
@@ -296,11 +225,7 @@ not_control s ws log valid is =
         (cond (not ready) (refusing refusal.NotReady log)
         (cond control (refusing refusal.Control log)
         (cond full (refusing (refusal.LogFull (length log)) log) turn)))) refusal.Control log → ⊥
-    plain true ready control full v h = let x = one_answer _ _ log log h in let no : ⊥ = cc in no
-    plain false false control full v h = let x = one_answer _ _ log log h in let no : ⊥ = cc in no
-    plain false true true full v h = let no : ⊥ = cc in no
-    plain false true false true v h = let x = one_answer _ _ log log h in let no : ⊥ = cc in no
-    plain false true false false v h = longer (entry.Send ws) log turn refusal.Control refl h
+    plain over ready control full v h = grind arith
 
 -- a line that is down has seen the link's end, or its number was unknown
 abbrev Told : Setup → List Turn → List LogEntry → Type 0
@@ -310,34 +235,18 @@ by_refusal : (s : Setup) (c : ScriptCall) (r : ClientRefusal) (ts : List Turn)
     (seen : List LogEntry) (t : ℕ) → IsValidCall c → Between [] ts seen
     → RefusedBy s c r ts seen t → IsDown (Refused r) → Told s ts seen
 by_refusal s c (refusal.Down w) ts seen t v b h d = inl (refused_down s c w ts seen t h)
-by_refusal s (Ask q) (refusal.Unexpected w) ts seen t v b (Unplayed e why) d = absurd why.0
-by_refusal s (Do ws) (refusal.Unexpected w) ts seen t v b (Unplayed e why) d = absurd why.0
-by_refusal s c (refusal.Unexpected w) ts seen t v b (NoAnswer n past e step why) d = absurd why.0
-by_refusal s (Ask q) (refusal.BadPush w) ts seen t v b (Unplayed e why) d = absurd why.0
-by_refusal s (Do ws) (refusal.BadPush w) ts seen t v b (Unplayed e why) d = absurd why.0
-by_refusal s c (refusal.BadPush w) ts seen t v b (NoAnswer n past e step why) d = absurd why.0
-by_refusal s (Ask q) (refusal.SetupRefused w) ts seen t v b (Unplayed e why) d = absurd why.0
-by_refusal s (Do ws) (refusal.SetupRefused w) ts seen t v b (Unplayed e why) d = absurd why.0
-by_refusal s c (refusal.SetupRefused w) ts seen t v b (NoAnswer n past e step why) d = absurd why.0
-by_refusal s c refusal.NoMemory ts seen t v b h d = absurd (let no : ⊥ = cc in no)
-by_refusal s c (refusal.LogFull n) ts seen t v b h d = absurd (let no : ⊥ = cc in no)
-by_refusal s c refusal.Worn ts seen t v b h d = absurd (let no : ⊥ = cc in no)
-by_refusal s c refusal.NotReady ts seen t v b (Unplayed e why) d = absurd why
-by_refusal s c refusal.NotReady ts seen t v b (NoAnswer n past e step why) d = absurd why
-by_refusal s (Ask q) refusal.Control ts seen t v b (Unplayed e why) d = absurd why.0
+by_refusal s c (refusal.NoNumber n) ts seen t v b h d = inr (refused_missed s c n ts seen t b h)
 by_refusal s (Do ws) refusal.Control ts seen t v b (Unplayed e why) d =
     absurd (not_control s ws seen v.1 why.1)
 by_refusal s c refusal.Control ts seen t v b (NoAnswer n past e step why) d = absurd why.0
-by_refusal s c (refusal.NoNumber n) ts seen t v b h d = inr (refused_missed s c n ts seen t b h)
+by_refusal s c r ts seen t v b h d = grind arith
 
 came_down : (s : Setup) (c : ScriptCall) (a : Answer) (ts : List Turn) (seen : List LogEntry)
     (t : ℕ) → IsValidCall c → Between [] ts seen → Came s c a ts seen t → IsDown a
     → Told s ts seen
-came_down s c (Hit m v) ts seen t ok b h d = absurd (let no : ⊥ = cc in no)
-came_down s c (Read m v) ts seen t ok b h d = absurd (let no : ⊥ = cc in no)
-came_down s c (Reply v) ts seen t ok b h d = absurd (let no : ⊥ = cc in no)
 came_down s (Ask q) (Refused r) ts seen t ok b h d = by_refusal s (Ask q) r ts seen t ok b h d
 came_down s (Do ws) (Refused r) ts seen t ok b h d = by_refusal s (Do ws) r ts seen t ok b h d
+came_down s c a ts seen t ok b h d = absurd (let no : ⊥ = cc in no)
 
 record SawEnd (s : Setup) (log : List LogEntry) : Type 0 where
   seen : List LogEntry

@@ -26,14 +26,13 @@ module _ (f : Turn → ℕ) where
       + total f (turns_in (more ++ k)) = refl in
       omega (arith, r, step)
 
-  pub more_weight : (t : Turn) (ts : List Turn) → 1 ≤ total f ts → 1 ≤ total f (t ∷ ts)
-  more_weight t ts h = let e : total f (t ∷ ts) ≡ f t + total f ts = refl in omega (arith, h, e)
+  pub parts_total : (ts mine rest : List Turn) → ts ≡ rest ++ mine
+      → total f ts ≡ total f rest + total f mine
+  parts_total ts mine rest e = ap (total f) e ∙ total-append f rest mine
 
   pub two_none : (ts mine rest : List Turn) → ts ≡ rest ++ mine → total f rest ≡ 0
       → total f mine ≡ 0 → total f ts ≡ 0
-  two_none ts mine rest e r m =
-      let w : total f ts ≡ total f rest + total f mine = ap (total f) e
-      ∙ total-append f rest mine in omega (arith, w, r, m)
+  two_none ts mine rest e r m = let w = parts_total ts mine rest e in omega (arith, w, r, m)
 
   -- a pump's work has no weight, where no TakeOut and no Got has
   pub works_none : ((e : LogEntry) (past : List LogEntry) → IsWork (e, past) → f (e, past) ≡ 0)
