@@ -2,9 +2,10 @@
 use Rattle.std.proofs.Common.{◌≡◌, ◌<◌, ◌≤◌, ◌+◌, ℕ, List, [], ◌∷◌, ◌++◌, Some, None, Ok, Err}
 use Rattle.std.proofs.Common.{refl, sym, ap, subst, ◌∙◌, append_assoc, append-nil, length, arith}
 use Rattle.std.proofs.Common.{Bool, true, false, cond, leb-true, length-append, Result}
-use Rattle.std.specs.Prelude.{nat_le, ◌==◌, IfSome, ⊤}
+use Rattle.std.specs.Prelude.{nat_le, IfSome, ⊤}
+use Rattle.std.proofs.lemmas.Bool.Decides.{nat_tests}
 use Rattle.std.proofs.lemmas.List.Elements.{All-append, All-cons, All-nil}
-use Rattle.std.specs.List.{All, slice_split}
+use Rattle.std.specs.List.{All}
 use Rattle.std.specs.declared.option.Option.{Option}
 use Rattle.std.specs.Io.KnownBytes.{Consumes, IsAtEnd}
 use Rattle.edge_links.proofs.Bytes.{consumes_none, consumes_more}
@@ -14,7 +15,7 @@ use Rattle.edge_lines.proofs.Splitting.{lines_ended, line_alone, line_begun, pla
 use Rattle.edge_lines.proofs.Splitting.{line_ended}
 use Rattle.script_text.specs.Events.{longest_line}
 use Rattle.script_text.specs.declared.script_line.ScriptLine.{ScriptLine}
-use Rattle.script_text.specs.Scripts.{IsValidLine, script_line_of, script_line_of_parts}
+use Rattle.script_text.specs.Scripts.{IsValidLine, script_line_of}
 use Rattle.script_text.proofs.Scripts.{script_lines_are_valid}
 use Rattle.script_program.specs.declared.read.ScriptRead.{ScriptRead}
 use Rattle.script_program.specs.declared.read.ScriptRead.TheVariants as read
@@ -23,20 +24,7 @@ use Rattle.script_program.specs.Scripts.{ReadsAs, line_at, line_then, most_lines
 
 too_long : (n : ℕ) (line : List ℕ) → longest_line < length line → line_at n line ≡ None
 unfolding script_line_of
-too_long n line h =
-    let P : Bool → Type 0 = λ b. nat_le (length line) longest_line ≡ b
-    → nat_le (length line) longest_line ≡ false in
-    let test : nat_le (length line) longest_line ≡ false =
-    elim (nat_le (length line) longest_line) as P [
-      | true ↦ λ t. absurd
-          (let le : length line ≤ longest_line = leb-true (length line) longest_line t in
-          omega arith)
-      | false ↦ λ t. t
-    ] refl in
-    let out : script_line_of line ≡ None =
-    ap (λ b. cond b (script_line_of_parts (slice_split (λ b. b == 32) line)) None) test in
-    elim (nat_le n most_lines) as
-    (λ b. cond b (script_line_of line) None ≡ None) [ true ↦ out | false ↦ refl ]
+too_long n line h = grind (arith, nat_tests)
 
 -- ---- the lines so far, and more behind them
 
