@@ -15,7 +15,6 @@ use Rattle.command_words.specs.Expiry.{without_due}
 use Rattle.command_words.specs.Queries.{read}
 use Rattle.command_words.specs.declared.command.WordFault.{WordFault}
 use Rattle.command_words.specs.declared.command.WordFault.TheVariants.{Unknown}
-use Rattle.command_words.specs.declared.command.WordFault.TheVariants.{NoMemory}
 use Rattle.command_words.specs.Reading.{IsReading}
 use Rattle.command_words.specs.Space.{Space}
 use Rattle.command_set.specs.Runs.{AreDue, taken_back}
