@@ -1,9 +1,8 @@
 -- The keys that are due, by the index and by the keyspace.
 use Rattle.std.proofs.Common.{◌≡◌, ◌∙◌, refl, sym, ap, ℕ, List, [], ◌∷◌, Bool, true, false, cond}
-use Rattle.std.proofs.Common.{Option, None, Some, not, arith, eq-eqb}
+use Rattle.std.proofs.Common.{Option, None, Some, not, arith}
 use Rattle.std.specs.declared.cmp.Ordering.TheVariants.{Equal}
 use Rattle.std.specs.Prelude.{◌&&◌, ◌||◌, ◌==◌, nat_lt}
-use Rattle.std.specs.Cmp.{both_ways}
 use Rattle.std.specs.Cmp.Lexicographic.{slice_cmp, nat_list_cmp_total}
 use Rattle.std.specs.FinMap.{get, remove, get-retain_keys, same_map}
 use Rattle.std.specs.FinMap.{slice_cmp-IsAntisymmetric, nat_cmp-IsAntisymmetric}
@@ -15,13 +14,13 @@ use Rattle.std.proofs.lemmas.Bool.Decides.{nat_tests}
 use Rattle.command_words.specs.Expiry.{is_past, without_due}
 use Rattle.command_words.specs.Keys.{remove_each}
 use Rattle.command_words.specs.Space.{Held, Space, deadline_at}
-use Rattle.std.proofs.lemmas.Slice.Eq.{bytes_eq-Decides}
+use Rattle.std.proofs.lemmas.Map.Views.{any-filter_same}
 use Rattle.expiry.specs.declared.index.Deadline.{Deadline}
-use Rattle.expiry.specs.Index.{has, is_same, is_due, due, left}
+use Rattle.expiry.specs.Index.{has, is_same, is_due, due, left, is_at, keys_of}
+use Rattle.expiry.proofs.DueKeys.{named_past as due_past}
 use Rattle.expiry.proofs.Orders.{ordered_filter, same_deadline}
-use Rattle.command_set.specs.InStep.{InStep, is_at, keys_of}
+use Rattle.command_set.specs.InStep.{InStep}
 use Rattle.command_set.proofs.Moves.{at_remove}
-use Rattle.command_set.proofs.Steps.{at_is, is_at_itself}
 
 abbrev life : Option Held → Option ℕ
 life held = option_and_then (λ h. h.deadline) held
@@ -39,77 +38,12 @@ get_removed (k ∷ ks) s q =
     by true false = refl
     by false b = refl
 
-right_true : (b c : Bool) → c ≡ true → (b || c) ≡ true
-right_true true c e = refl
-right_true false c e = e
-
-module _ (moment : ℕ) (q : List ℕ) where
-  abbrev named : List Deadline → Bool
-  named ds = list_any (bytes_eq q) (keys_of (due moment ds))
-
-  -- a deadline of the key that is due
-  abbrev IsDueAt : List Deadline → Type 0
-  IsDueAt ds = (at : ℕ) × (has (record { at = at; key = q }) ds ≡ true) × (nat_lt at moment ≡ true)
-
-  further : (d : Deadline) (ds : List Deadline) → IsDueAt ds → IsDueAt (d ∷ ds)
-  further d ds f = (f.0, right_true _ _ f.1, f.2)
-
-  found : (ds : List Deadline) → named ds ≡ true → IsDueAt ds
-  found [] e = absurd cc
-  found (d ∷ ds) e =
-      elim (is_due moment d) as (λ b. is_due moment d ≡ b
-      → list_any (bytes_eq q) (keys_of (cond b (d ∷ due moment ds) (due moment ds))) ≡ true
-      → IsDueAt (d ∷ ds)) [
-        | true ↦ λ past h. elim (bytes_eq q d.key) as (λ b. bytes_eq q d.key ≡ b
-            → (b || named ds) ≡ true → IsDueAt (d ∷ ds)) [
-              | true ↦ λ is g. (
-                d.at,
-                (λ i. (eq-eqb d.at d.at refl i && is i)
-                    || has (record { at = d.at; key = q }) ds),
-                past,
-              )
-              | false ↦ λ is g. further d ds (found ds g)
-            ] refl h
-        | false ↦ λ past h. further d ds (found ds h)
-      ] refl e
-
-  among_due : (at : ℕ) (ds : List Deadline) → has (record { at = at; key = q }) ds ≡ true
-      → nat_lt at moment ≡ true → named ds ≡ true
-  among_due at [] e past = absurd cc
-  among_due at (d ∷ ds) e past =
-      elim (is_same (record { at = at; key = q }) d)
-      as (λ b. is_same (record { at = at; key = q }) d ≡ b
-      → (b || has (record { at = at; key = q }) ds) ≡ true → named (d ∷ ds) ≡ true) [
-        | true ↦ λ s h.
-            let one = same_deadline (record { at = at; key = q }) d s in
-            ap (λ b. list_any (bytes_eq q) (keys_of (cond b (d ∷ due moment ds) (due moment ds))))
-            (ap (is_due moment) (sym one) ∙ past)
-            ∙ ap (λ b. b || named ds)
-            (ap (λ x. bytes_eq q x.key) (sym one) ∙ (bytes_eq-Decides q q).1 refl)
-        | false ↦ λ s h.
-            let rest = among_due at ds h past in
-            elim (is_due moment d) as (λ b.
-            list_any (bytes_eq q) (keys_of (cond b (d ∷ due moment ds) (due moment ds))) ≡ true)
-            [ true ↦ right_true _ _ rest | false ↦ rest ]
-      ] refl e
-
-  -- a key is named exactly where its deadline is past
-  pub named_past : (index : List Deadline) (s : Space) → InStep index s
-      → named index ≡ is_past moment (deadline_at q s)
-  named_past index s step = both_ways (named index) (is_past moment (deadline_at q s)) forth
-      (back (deadline_at q s) refl)
-    where
-      forth : named index ≡ true → is_past moment (deadline_at q s) ≡ true
-      forth e =
-          let f = found index e in
-          ap (is_past moment) (at_is f.0 (deadline_at q s)
-          (sym (step.each (record { at = f.0; key = q })) ∙ f.1)) ∙ f.2
-
-      back : (r : Option ℕ) → deadline_at q s ≡ r → is_past moment r ≡ true → named index ≡ true
-      back None is e = absurd cc
-      back (Some at) is e =
-          among_due at index
-          (step.each (record { at = at; key = q }) ∙ (ap (is_at at) is ∙ is_at_itself at)) e
+-- a key is named exactly where its deadline is past
+pub named_past : (moment : ℕ) (q : List ℕ) (index : List Deadline) (s : Space) → InStep index s
+    → list_any (bytes_eq q) (keys_of (due moment index)) ≡ is_past moment (deadline_at q s)
+named_past moment q index s step =
+    due_past moment q index (deadline_at q s) (is_past moment)
+    (λ at. step.each (record { at = at; key = q })) refl (λ at. refl)
 
 module _ (moment : ℕ) (s : Space) where
   alike : (q x : List ℕ) → slice_cmp nat_cmp q x ≡ Equal
@@ -141,32 +75,11 @@ module _ (moment : ℕ) (s : Space) where
   none_at true = refl
   none_at false = refl
 
-  gone_too : (p b h : Bool) → (b ≡ true → p ≡ true) → (not p && h) ≡ (not p && (b || h))
-  gone_too true b h f = refl
-  gone_too false true h f = absurd (let no : false ≡ true = f refl in cc)
-  gone_too false false h f = refl
-
-  left_too : (p b h : Bool) → (b ≡ true → p ≡ false) → (b || (not p && h)) ≡ (not p && (b || h))
-  left_too false b h f = refl
-  left_too true true h f = absurd (let no : true ≡ false = f refl in cc)
-  left_too true false h f = refl
-
   has_left : (d : Deadline) (ds : List Deadline)
       → has d (left moment ds) ≡ (not (is_due moment d) && has d ds)
-  has_left d [] = sym (none_at (is_due moment d))
-  has_left d (e ∷ es) =
-      elim (is_due moment e) as (λ b. is_due moment e ≡ b
-      → has d (cond (not b) (e ∷ left moment es) (left moment es))
-      ≡ (not (is_due moment d) && (is_same d e || has d es))) [
-        | true ↦ λ past.
-            has_left d es
-            ∙ gone_too (is_due moment d) (is_same d e) (has d es)
-            (λ same. ap (is_due moment) (same_deadline d e same) ∙ past)
-        | false ↦ λ still.
-            ap (λ b. is_same d e || b) (has_left d es)
-            ∙ left_too (is_due moment d) (is_same d e) (has d es)
-            (λ same. ap (is_due moment) (same_deadline d e same) ∙ still)
-      ] refl
+  has_left d ds =
+      any-filter_same (is_same d) (λ e. not (is_due moment e)) (not (is_due moment d))
+      (λ e same. ap (λ x. not (is_due moment x)) (sym (same_deadline d e same))) ds
 
   shown : (at : ℕ) (b : Bool) (held : Held)
       → is_at at (life (cond b (Some held) None)) ≡ (b && is_at at held.deadline)

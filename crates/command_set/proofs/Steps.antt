@@ -1,7 +1,6 @@
 -- The index stays in step with the keyspace.
 use Rattle.std.proofs.Common.{◌≡◌, ◌∙◌, refl, sym, ap, subst, ℕ, List, [], ◌∷◌, Bool, true, false}
 use Rattle.std.proofs.Common.{Option, None, Some, Result, Ok, Err, OnErr, not, ◌⊎◌, inl, inr, cond}
-use Rattle.std.proofs.Common.{eq-eqb, arith}
 use Rattle.std.specs.Prelude.{◌&&◌, ◌||◌}
 use Rattle.std.specs.FinMap.{get-empty}
 use Rattle.std.specs.Cmp.Lexicographic.{slice_cmp}
@@ -9,7 +8,6 @@ use Rattle.std.specs.List.{list_any}
 use Rattle.std.specs.Option.{option_and_then}
 use Rattle.std.specs.Ordering.{nat_cmp}
 use Rattle.std.specs.Str.{bytes_eq}
-use Rattle.std.proofs.lemmas.Bool.Decides.{nat_tests}
 use Rattle.std.proofs.lemmas.Slice.Eq.{bytes_eq-Decides}
 use Rattle.resp_value.specs.declared.octets.NoMemory.{NoMemory}
 use Rattle.command_words.specs.declared.command.Command.{Command}
@@ -21,11 +19,12 @@ use Rattle.command_words.specs.Queries.{written}
 use Rattle.command_words.specs.Space.{Space, deadline_at}
 use Rattle.command_rows.specs.Rows.{IsRow}
 use Rattle.expiry.specs.declared.index.Deadline.{Deadline}
-use Rattle.expiry.specs.Index.{has, is_same, without}
+use Rattle.expiry.specs.Index.{has, is_same, is_at, without}
 use Rattle.expiry.specs.Order.{IsOrdered}
+use Rattle.expiry.proofs.DueKeys.{at_is, at_itself, right_true}
 use Rattle.expiry.proofs.Members.{one_index, setting_adds_one, removal_takes_one}
 use Rattle.expiry.proofs.Orders.{ordered_with, ordered_filter, same_deadline, is_itself}
-use Rattle.command_set.specs.InStep.{InStep, is_at, is_current, with_one, deadlines_of, settled}
+use Rattle.command_set.specs.InStep.{InStep, is_current, with_one, deadlines_of, settled}
 use Rattle.command_set.specs.InStep.{with_new, listed}
 use Rattle.command_set.specs.Laws.{Moves, NothingIsInStep, OneIndexIsInStep}
 use Rattle.command_set.specs.NewDeadlines.{new_deadline}
@@ -41,14 +40,6 @@ nothing_is_in_step = record {
 pub one_index_is_in_step : OneIndexIsInStep
 one_index_is_in_step ds es space a b =
     one_index ds es a.ordered b.ordered (λ d. a.each d ∙ sym (b.each d))
-
-pub at_is : (moment : ℕ) (r : Option ℕ) → is_at moment r ≡ true → r ≡ Some moment
-at_is moment None e = absurd cc
-at_is moment (Some at) e =
-    let one : at ≡ moment = grind (arith, nat_tests) in ap Some one
-
-pub is_at_itself : (moment : ℕ) → is_at moment (Some moment) ≡ true
-is_at_itself moment = eq-eqb moment moment refl
 
 -- what is settled has the members that are current, and those that were not looked at
 module _ (x : Deadline) (t : Space) where
@@ -113,10 +104,6 @@ has_new x (Some d) index = setting_adds_one x d index ∙ by (is_same x d)
     by true = refl
     by false = refl
 
-right_true : (b c : Bool) → c ≡ true → (b || c) ≡ true
-right_true true c e = refl
-right_true false c e = e
-
 -- the deadline of a key among these is listed
 covered : (x : Deadline) (s : Space) (keys : List (List ℕ))
     → list_any (bytes_eq x.key) keys ≡ true → deadline_at x.key s ≡ Some x.at
@@ -154,7 +141,7 @@ module _ (index : List Deadline) (s t : Space) (keys : List (List ℕ)) (new : O
           → (has x (listed new) || has x index) ≡ true
       by (inl e) =
           right_true (has x (listed new)) (has x index)
-          (step.each x ∙ (ap (is_at x.at) e ∙ is_at_itself x.at))
+          (step.each x ∙ (ap (is_at x.at) e ∙ at_itself x.at))
       by (inr e) =
           ap (λ n. has x (listed n) || has x index) e
           ∙ ap (λ b. (b || false) || has x index) (is_itself x)

@@ -23,8 +23,7 @@ use Rattle.command_set.specs.InStep.{InStep, due_keys, deadlines_of, settled, wi
 use Rattle.command_set.specs.Laws.{Moves}
 use Rattle.command_set.specs.NewDeadlines.{deadline, new_deadline}
 use Rattle.command_set.specs.Priors.{Priors, again, put_back, what_held, life_of, concerns}
-use Rattle.command_set.specs.Priors.{AgreeBeside, prior_of, priors_of}
-use Rattle.command_set.specs.declared.prior.Prior.{Prior}
+use Rattle.command_set.specs.Priors.{AgreeBeside}
 use Rattle.command_set.proofs.Moves.{at_insert, at_remove, left_false, right_false, put, gone, same}
 use Rattle.command_set.proofs.PastDeadlines.{get_without, named_past}
 use Rattle.command_set.proofs.Steps.{in_step, moved, nothing_is_in_step}
@@ -152,33 +151,6 @@ beside_again p ps a t rest x apart =
     rest x (right_false (bytes_eq x p.0) (concerns ps x) apart)
     ∙ (at_again p.0 p.1 a x
     ∙ ap (λ d. cond d p.1 (get a x)) (left_false (bytes_eq x p.0) (concerns ps x) apart))
-
-not_in_first : (a b : Priors) (x : List ℕ) → concerns (a ++ b) x ≡ false → concerns a x ≡ false
-not_in_first [] b x e = refl
-not_in_first (p ∷ ps) b x e =
-    let one = left_false (bytes_eq x p.0) (concerns (ps ++ b) x) e in
-    let two = not_in_first ps b x (right_false (bytes_eq x p.0) (concerns (ps ++ b) x) e) in
-    (λ i. one i || two i)
-
-not_in_second : (a b : Priors) (x : List ℕ) → concerns (a ++ b) x ≡ false → concerns b x ≡ false
-not_in_second [] b x e = e
-not_in_second (p ∷ ps) b x e =
-    not_in_second ps b x (right_false (bytes_eq x p.0) (concerns (ps ++ b) x) e)
-
-pub beside_first : (a b : Priors) (s t : Space) → AgreeBeside a s t → AgreeBeside (a ++ b) s t
-beside_first a b s t one x apart = one x (not_in_first a b x apart)
-
-pub beside_both : (a b : Priors) (s m t : Space) → AgreeBeside a s m → AgreeBeside b m t
-    → AgreeBeside (a ++ b) s t
-beside_both a b s m t one two x apart =
-    two x (not_in_second a b x apart) ∙ one x (not_in_first a b x apart)
-
--- one more key is copied
-pub next_prior : (xs : List Prior) (x : Prior) (key : List ℕ) (rest : List (List ℕ)) (s : Space)
-    → prior_of x ≡ (key, get s key)
-    → priors_of (xs ++ x ∷ []) ++ what_held rest s ≡ priors_of xs ++ what_held (key ∷ rest) s
-next_prior [] x key rest s e = ap (λ p. p ∷ what_held rest s) e
-next_prior (y ∷ ys) x key rest s e = ap (λ r. prior_of y ∷ r) (next_prior ys x key rest s e)
 
 pub on_ok : {A P Q : Type 0} (r : Result A NoMemory) → (P → Q) → OnOk r P → OnOk r Q
 on_ok (Ok x) f p = f p

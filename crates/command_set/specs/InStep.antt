@@ -1,16 +1,12 @@
 -- The index of deadlines and the keyspace in step: the index is the ordered list of the keyspace's
 -- deadlines.
-use Rattle.std.specs.Prelude.{◌≡◌, ◌==◌, ◌++◌, ℕ, List, [], ◌∷◌, Bool, false}
+use Rattle.std.specs.Prelude.{◌≡◌, ◌++◌, ℕ, List, [], ◌∷◌, Bool}
 use Rattle.std.specs.Prelude.{if◌then◌else◌}
-use Rattle.std.specs.Prelude.{Option, Some, None, map}
+use Rattle.std.specs.Prelude.{Option, Some, None}
 use Rattle.command_words.specs.Space.{Space, deadline_at}
 use Rattle.expiry.specs.declared.index.Deadline.{Deadline}
-use Rattle.expiry.specs.Index.{has, due, with, without}
+use Rattle.expiry.specs.Index.{has, is_at, keys_of, due, with, without}
 use Rattle.expiry.specs.Order.{IsOrdered}
-
-abbrev pub is_at : ℕ → Option ℕ → Bool
-is_at moment None = false
-is_at moment (Some deadline) = moment == deadline
 
 -- the key is there with this deadline
 abbrev pub is_current : Deadline → Space → Bool
@@ -19,9 +15,6 @@ is_current d space = is_at d.at (deadline_at d.key space)
 pub record InStep (index : List Deadline) (space : Space) : Type 0 where
   pub ordered : IsOrdered index
   pub each : (d : Deadline) → has d index ≡ is_current d space
-
-abbrev pub keys_of : List Deadline → List (List ℕ)
-keys_of ds = map (λ d. d.key) ds
 
 -- the keys that are due, in order of deadline and key
 abbrev pub due_keys : ℕ → List Deadline → List (List ℕ)

@@ -2,8 +2,8 @@
 ghost use Rattle.std.specs.Prelude.{◌≡◌, IfOk, OnOk, OnErr};
 ghost use Rattle.command_words.specs.Expiry.{without_due};
 ghost use Rattle.command_words.specs.Keys.{remove_each};
-ghost use Rattle.expiry.specs.Index.{left};
-ghost use Rattle.command_set.specs.InStep.{InStep, due_keys, keys_of};
+ghost use Rattle.expiry.specs.Index.{keys_of, left};
+ghost use Rattle.command_set.specs.InStep.{InStep, due_keys};
 
 use expiry::{Deadline, DeadlineIndex};
 use keyspace::Keyspace;

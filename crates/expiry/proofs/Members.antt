@@ -1,12 +1,14 @@
 -- The members of an index after a change, and that they determine it.
 use Rattle.std.proofs.Common.{subst}
 use Rattle.std.proofs.Common.{◌≡◌, List, [], ◌∷◌, Bool, true, false, cond, refl, ap, sym, ◌∙◌}
-use Rattle.std.specs.Prelude.{◌&&◌, ◌||◌, not}
+use Rattle.std.specs.Prelude.{◌||◌, not}
+use Rattle.std.proofs.lemmas.Map.Views.{any-filter_same}
 use Rattle.expiry.specs.declared.index.Deadline.{Deadline}
-use Rattle.expiry.specs.Index.{has, is_same, comes_before, with, without}
+use Rattle.expiry.specs.Index.{has, is_same, comes_before, with}
 use Rattle.expiry.specs.Order.{IsBeforeAll, IsOrdered}
 use Rattle.expiry.specs.Laws.{OneIndex, SettingAddsOne, RemovalTakesOne}
-use Rattle.expiry.proofs.Orders.{same_deadline, is_itself, not_before_itself, before_trans}
+use Rattle.expiry.proofs.Orders.{same_deadline, is_itself, same_turned, not_before_itself}
+use Rattle.expiry.proofs.Orders.{before_trans}
 
 swapped : (a b c : Bool) → (a || (b || c)) ≡ (b || (a || c))
 swapped true true c = refl
@@ -35,39 +37,14 @@ setting_adds_one d e (x ∷ xs) =
           ] refl
     ]
 
-left_out : (a b c : Bool) → (a ≡ true → b ≡ true) → (not b && c) ≡ (not b && (a || c))
-left_out true true c f = refl
-left_out true false c f = absurd (let no : false ≡ true = f refl in cc)
-left_out false b c f = refl
-
-kept_in : (a b c d : Bool) → (b ≡ true → a ≡ false) → d ≡ (not b && c)
-    → (a || d) ≡ (not b && (a || c))
-kept_in true true c d f e = absurd (let no : true ≡ false = f refl in cc)
-kept_in true false c d f e = refl
-kept_in false b c d f e = e
-
 pub removal_takes_one : RemovalTakesOne
-removal_takes_one d e [] = by (is_same d e)
-  where
-    by : (b : Bool) → false ≡ (not b && false)
-    by true = refl
-    by false = refl
-removal_takes_one d e (x ∷ xs) =
-    elim (is_same e x) as (λ b. is_same e x ≡ b
-    → has d (cond (not b) (x ∷ without e xs) (without e xs))
-    ≡ (not (is_same d e) && (is_same d x || has d xs))) [
-      | true ↦ λ s.
-          removal_takes_one d e xs
-          ∙ left_out (is_same d x) (is_same d e) (has d xs)
-          (λ same. ap (is_same d) (same_deadline e x s) ∙ same)
-      | false ↦ λ s.
-          kept_in (is_same d x) (is_same d e) (has d xs) (has d (without e xs))
-          (λ same. ap (λ y. is_same y x) (same_deadline d e same) ∙ s)
-          (removal_takes_one d e xs)
-    ] refl
+removal_takes_one d e ds =
+    any-filter_same (is_same d) (λ x. not (is_same e x)) (not (is_same d e))
+    (λ x same. ap not
+    (ap (is_same e) (sym (same_deadline d x same)) ∙ same_turned e d)) ds
 
 -- one that comes before all is none of them
-not_among : (d : Deadline) (ds : List Deadline) → IsBeforeAll d ds → has d ds ≡ false
+pub not_among : (d : Deadline) (ds : List Deadline) → IsBeforeAll d ds → has d ds ≡ false
 not_among d [] h = refl
 not_among d (e ∷ es) h =
     elim (is_same d e) as (λ b. is_same d e ≡ b → (b || has d es) ≡ false) [

@@ -5,6 +5,7 @@ use Rattle.std.specs.declared.cmp.Ordering.{Ordering}
 use Rattle.std.specs.declared.cmp.Ordering.TheVariants.{Less, Equal, Greater}
 use Rattle.std.specs.Ordering.{is_lt, nat_cmp, ordering_then}
 use Rattle.std.specs.Ordering.{ordering_reverse}
+use Rattle.std.specs.Cmp.{both_ways}
 use Rattle.std.specs.Cmp.Lexicographic.{slice_cmp, nat_list_cmp_total}
 use Rattle.std.specs.FinMap.{slice_cmp-IsAntisymmetric, nat_cmp-IsAntisymmetric}
 use Rattle.std.specs.Str.{bytes_eq}
@@ -61,6 +62,10 @@ is_itself d =
 
 of_same : (d e : Deadline) → d ≡ e → is_same d e ≡ true
 of_same d e same = ap (is_same d) (sym same) ∙ is_itself d
+
+pub same_turned : (d e : Deadline) → is_same d e ≡ is_same e d
+same_turned d e = both_ways (is_same d e) (is_same e d)
+    (λ s. of_same e d (sym (same_deadline d e s))) (λ s. of_same d e (sym (same_deadline e d s)))
 
 is_equal : (d e : Deadline) → order e d ≡ Equal → d ≡ e
 is_equal d e r =

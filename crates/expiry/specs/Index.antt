@@ -1,6 +1,6 @@
 -- Deadlines as a list in order, the earliest first, and at one moment in byte order of the keys.
 use Rattle.std.specs.Prelude.{◌==◌, ◌&&◌, ◌||◌, ℕ, List, [], ◌∷◌, Bool, not, nat_lt}
-use Rattle.std.specs.Prelude.{if◌then◌else◌, Option, Some, None}
+use Rattle.std.specs.Prelude.{if◌then◌else◌, Option, Some, None, false, map}
 use Rattle.std.specs.List.{filter, list_any}
 use Rattle.std.specs.Ordering.{is_lt, nat_cmp}
 use Rattle.std.specs.Cmp.Lexicographic.{slice_cmp}
@@ -39,3 +39,11 @@ left moment ds = filter (λ d. not (is_due moment d)) ds
 abbrev pub first_of : List Deadline → Option Deadline
 first_of [] = None
 first_of (d ∷ ds) = Some d
+
+-- a key's deadline, if it has one, is at this moment
+abbrev pub is_at : ℕ → Option ℕ → Bool
+is_at moment None = false
+is_at moment (Some deadline) = moment == deadline
+
+abbrev pub keys_of : List Deadline → List (List ℕ)
+keys_of ds = map (λ d. d.key) ds

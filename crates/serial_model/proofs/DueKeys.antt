@@ -1,9 +1,8 @@
 -- The keys that are due, by the keyspace: exactly those whose deadline is past, each once.
 use Rattle.std.proofs.Common.{◌≡◌, ◌∙◌, refl, sym, ap, ℕ, List, [], ◌∷◌, Bool, true, false, cond}
-use Rattle.std.proofs.Common.{Option, None, Some, not, map, is_some, eq-eqb}
+use Rattle.std.proofs.Common.{Option, None, Some, not, is_some, eq-eqb}
 use Rattle.std.specs.declared.cmp.Ordering.TheVariants.{Equal}
-use Rattle.std.specs.Prelude.{◌&&◌, ◌||◌, ◌==◌, nat_lt}
-use Rattle.std.specs.Cmp.{both_ways}
+use Rattle.std.specs.Prelude.{◌&&◌, ◌||◌, ◌==◌}
 use Rattle.std.specs.Cmp.Lexicographic.{slice_cmp, nat_list_cmp_total, texts_ties}
 use Rattle.std.specs.FinMap.{get, keys, contains_key-keys, get-retain_keys, same_map}
 use Rattle.std.specs.FinMap.{slice_cmp-IsAntisymmetric, nat_cmp-IsAntisymmetric}
@@ -11,25 +10,18 @@ use Rattle.std.specs.List.{list_any}
 use Rattle.std.specs.Option.{option_and_then}
 use Rattle.std.specs.Ordering.{nat_cmp, eq_by_cmp}
 use Rattle.std.specs.Str.{bytes_eq}
-use Rattle.std.proofs.lemmas.Bool.{eqb-true}
 use Rattle.std.proofs.lemmas.Slice.Eq.{bytes_eq-Decides}
 use Rattle.command_words.specs.Expiry.{is_past, without_due}
 use Rattle.command_words.specs.Space.{Held, Space, held_at, deadline_at}
 use Rattle.expiry.specs.declared.index.Deadline.{Deadline}
-use Rattle.expiry.specs.Index.{has, is_same, is_due, due, comes_before}
+use Rattle.expiry.specs.Index.{has, is_same, is_at, is_due, due, keys_of}
 use Rattle.expiry.specs.Order.{IsBeforeAll, IsOrdered}
-use Rattle.expiry.proofs.Orders.{same_deadline, ordered_with, not_before_itself}
-use Rattle.expiry.proofs.Members.{setting_adds_one, one_index}
+use Rattle.expiry.proofs.Orders.{ordered_with}
+use Rattle.expiry.proofs.Members.{not_among, setting_adds_one, one_index}
+use Rattle.expiry.proofs.DueKeys.{at_is, found, named_past, right_true}
 use Rattle.serial_model.specs.Deadlines.{with_deadline, deadlines, due_keys}
 use Rattle.serial_model.specs.Tracking.{AreApart}
 use Rattle.serial_model.specs.Laws.{is_among}
-
-abbrev pub is_at : ℕ → Option ℕ → Bool
-is_at at None = false
-is_at at (Some deadline) = at == deadline
-
-abbrev keys_of : List Deadline → List (List ℕ)
-keys_of ds = map (λ d. d.key) ds
 
 abbrev life : Option Held → Option ℕ
 life held = option_and_then (λ h. h.deadline) held
@@ -37,17 +29,6 @@ life held = option_and_then (λ h. h.deadline) held
 -- an index has the deadlines of a keyspace
 abbrev pub AreOfSpace : List Deadline → Space → Type 0
 AreOfSpace index space = (d : Deadline) → has d index ≡ is_at d.at (deadline_at d.key space)
-
-at_is : (at : ℕ) (o : Option ℕ) → is_at at o ≡ true → o ≡ Some at
-at_is at None e = absurd cc
-at_is at (Some y) e = ap Some (sym (eqb-true at y e))
-
-at_itself : (at : ℕ) → is_at at (Some at) ≡ true
-at_itself at = eq-eqb at at refl
-
-right_true : (b c : Bool) → c ≡ true → (b || c) ≡ true
-right_true true c e = refl
-right_true false c e = e
 
 -- ---- the deadlines of a keyspace
 
@@ -120,79 +101,12 @@ module _ (space : Space) where
 
 -- ---- those that are due
 
-module _ (moment : ℕ) (q : List ℕ) where
-  abbrev named : List Deadline → Bool
-  named ds = is_among (keys_of (due moment ds)) q
-
-  -- a deadline of the key that is due
-  abbrev IsDueAt : List Deadline → Type 0
-  IsDueAt ds = (at : ℕ) × (has (record { at = at; key = q }) ds ≡ true) × (nat_lt at moment ≡ true)
-
-  further : (d : Deadline) (ds : List Deadline) → IsDueAt ds → IsDueAt (d ∷ ds)
-  further d ds f = (f.0, right_true _ _ f.1, f.2)
-
-  found : (ds : List Deadline) → named ds ≡ true → IsDueAt ds
-  found [] e = absurd cc
-  found (d ∷ ds) e =
-      elim (is_due moment d) as (λ b. is_due moment d ≡ b
-      → list_any (bytes_eq q) (keys_of (cond b (d ∷ due moment ds) (due moment ds))) ≡ true
-      → IsDueAt (d ∷ ds)) [
-        | true ↦ λ past h. elim (bytes_eq q d.key) as (λ b. bytes_eq q d.key ≡ b
-            → (b || named ds) ≡ true → IsDueAt (d ∷ ds)) [
-              | true ↦ λ is g. (
-                d.at,
-                (λ i. (eq-eqb d.at d.at refl i && is i)
-                    || has (record { at = d.at; key = q }) ds),
-                past,
-              )
-              | false ↦ λ is g. further d ds (found ds g)
-            ] refl h
-        | false ↦ λ past h. further d ds (found ds h)
-      ] refl e
-
-  among_due : (at : ℕ) (ds : List Deadline) → has (record { at = at; key = q }) ds ≡ true
-      → nat_lt at moment ≡ true → named ds ≡ true
-  among_due at [] e past = absurd cc
-  among_due at (d ∷ ds) e past =
-      elim (is_same (record { at = at; key = q }) d)
-      as (λ b. is_same (record { at = at; key = q }) d ≡ b
-      → (b || has (record { at = at; key = q }) ds) ≡ true → named (d ∷ ds) ≡ true) [
-        | true ↦ λ s h.
-            let one = same_deadline (record { at = at; key = q }) d s in
-            ap (λ b. list_any (bytes_eq q) (keys_of (cond b (d ∷ due moment ds) (due moment ds))))
-            (ap (is_due moment) (sym one) ∙ past)
-            ∙ ap (λ b. b || named ds)
-            (ap (λ x. bytes_eq q x.key) (sym one) ∙ (bytes_eq-Decides q q).1 refl)
-        | false ↦ λ s h.
-            let rest = among_due at ds h past in
-            elim (is_due moment d) as (λ b.
-            list_any (bytes_eq q) (keys_of (cond b (d ∷ due moment ds) (due moment ds))) ≡ true)
-            [ true ↦ right_true _ _ rest | false ↦ rest ]
-      ] refl e
-
-  -- a key is named exactly where its deadline is past
-  named_past : (index : List Deadline) (s : Space) → AreOfSpace index s
-      → named index ≡ is_past moment (deadline_at q s)
-  named_past index s each = both_ways (named index) (is_past moment (deadline_at q s)) forth
-      (back (deadline_at q s) refl)
-    where
-      forth : named index ≡ true → is_past moment (deadline_at q s) ≡ true
-      forth e =
-          let f = found index e in
-          ap (is_past moment) (at_is f.0 (deadline_at q s)
-          (sym (each (record { at = f.0; key = q })) ∙ f.1)) ∙ f.2
-
-      back : (r : Option ℕ) → deadline_at q s ≡ r → is_past moment r ≡ true → named index ≡ true
-      back None is e = absurd cc
-      back (Some at) is e =
-          among_due at index
-          (each (record { at = at; key = q }) ∙ (ap (is_at at) is ∙ at_itself at)) e
-
 pub due_is_past : (moment : ℕ) (space : Space) (q : List ℕ)
     → is_among (due_keys moment space) q ≡ is_past moment (deadline_at q space)
 unfolding due_keys
 due_is_past moment space q =
-    named_past moment q (deadlines space (keys space)) space (deadlines_are space)
+    named_past moment q (deadlines space (keys space)) (deadline_at q space) (is_past moment)
+    (λ at. deadlines_are space (record { at = at; key = q })) refl (λ at. refl)
 
 -- the keys that are due by any index of the keyspace are those
 pub due_by_index : (moment : ℕ) (space : Space) (index : List Deadline) → IsOrdered index
@@ -204,18 +118,6 @@ due_by_index moment space index ordered each =
     (deadlines_ordered space (keys space)) (λ d. each d ∙ sym (deadlines_are space d)))
 
 -- ---- each once
-
--- one that comes before all is none of them
-not_among : (d : Deadline) (ds : List Deadline) → IsBeforeAll d ds → has d ds ≡ false
-not_among d [] h = refl
-not_among d (e ∷ es) h =
-    elim (is_same d e) as (λ b. is_same d e ≡ b → (b || has d es) ≡ false) [
-      | true ↦ λ s.
-          let no : comes_before d e ≡ false =
-          ap (comes_before d) (sym (same_deadline d e s)) ∙ not_before_itself d in
-          absurd (let clash : true ≡ false = sym h.0 ∙ no in cc)
-      | false ↦ λ s. not_among d es h.1
-    ] refl
 
 module _ (moment : ℕ) (space : Space) where
   abbrev AreCurrent : List Deadline → Type 0

@@ -7,10 +7,11 @@ use Prim.Native.Nat.{zero, suc}
 use Rattle.std.specs.List.{list_any}
 use Rattle.std.specs.Str.{bytes_eq}
 use Rattle.std.proofs.lemmas.Slice.Eq.{bytes_eq-Decides}
-use Rattle.std.proofs.lemmas.Bool.{eqb-true, eq-eqb, or_parts, or_left, or_right, or_cases}
+use Rattle.std.proofs.lemmas.Bool.{eq-eqb, or_parts, or_left, or_right, or_cases}
 use Rattle.std.proofs.lemmas.Bool.{and_from, cases_lt}
 use Rattle.std.proofs.lemmas.Bool.Decides.{nat_tests}
 use Rattle.std.proofs.lemmas.List.Folds.{list_any-append}
+use Rattle.std.proofs.lemmas.Map.Views.{any-filter_same}
 use Rattle.command_words.specs.declared.command.Signalled.{Signalled}
 use Rattle.command_words.specs.declared.command.Signalled.TheVariants as signalled
 use Rattle.command_words.specs.Laws.{signals}
@@ -66,15 +67,9 @@ module _ (c : ℕ) where
 
   without_keeps : (id : ℕ) (ids : List ℕ) → (id == c) ≡ false → holds c ids ≡ true
       → holds c (without_id id ids) ≡ true
-  without_keeps id [] other h = absurd (let no : ⊥ = cc in no)
-  without_keeps id (x ∷ xs) other h =
-      elim (x == id) as (λ b. (x == id) ≡ b
-      → holds c (cond (not b) (x ∷ without_id id xs) (without_id id xs)) ≡ true) [
-        | true ↦ λ e. without_keeps id xs other
-            (sym (ap (λ b. b || holds c xs) (ap (λ i. i == c) (eqb-true x id e) ∙ other)) ∙ h)
-        | false ↦ λ e. or_keeps (x == c) (holds c xs) (holds c (without_id id xs))
-            (without_keeps id xs other) h
-      ] refl
+  without_keeps id ids other h =
+      any-filter_same (λ x. x == c) (λ x. not (x == id)) true
+      (λ x is. let apart : not (x == id) ≡ true = grind (arith, nat_tests) in apart) ids ∙ h
 
   some_held : (ids : List ℕ) → holds c ids ≡ true → not (length ids == 0) ≡ true
   some_held [] h = absurd (let no : ⊥ = cc in no)

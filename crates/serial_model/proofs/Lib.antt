@@ -1,7 +1,9 @@
+pub mod Each
 pub mod Tables
 pub mod TableSize
 pub mod DueKeys
 pub mod Streams
+pub mod StepCases
 pub mod Others
 pub mod Turning
 pub mod Posts

@@ -1,8 +1,7 @@
 -- What a turn of one connection leaves of the others.
-use Rattle.std.proofs.Common.{◌≡◌, ◌+◌, ℕ, List, [], ◌∷◌, ◌++◌, true, false, cond, length, take}
+use Rattle.std.proofs.Common.{◌≡◌, ◌+◌, ℕ, List, [], ◌∷◌, ◌++◌, true, false, cond, length}
 use Rattle.std.proofs.Common.{max, refl}
 use Rattle.std.proofs.Common.{sym, ap, ◌∙◌, append-nil, append_assoc, arith}
-use Rattle.std.specs.Prelude.{◌==◌}
 use Rattle.std.proofs.lemmas.Bool.Decides.{nat_tests}
 use Rattle.serial_model.specs.declared.history.Limits.{Limits}
 use Rattle.serial_model.specs.declared.history.Entry.{Entry}
@@ -10,16 +9,14 @@ use Rattle.serial_model.specs.declared.history.Entry.TheVariants as entry
 use Rattle.serial_model.specs.declared.history.BookCall.{BookCall}
 use Rattle.serial_model.specs.declared.history.BookCall.TheVariants.{Admit, Run, Tick, Take}
 use Rattle.serial_model.specs.declared.history.BookCall.TheVariants.{Close}
-use Rattle.serial_model.specs.History.{admitted, is_admitted, runs_on, gives_on, reads_on}
+use Rattle.serial_model.specs.History.{admitted, is_admitted}
 use Rattle.serial_model.specs.History.{has_ended}
-use Rattle.serial_model.specs.History.{latest, stream, taken, unsent, runs_of, is_full, sends}
+use Rattle.serial_model.specs.History.{latest, stream, taken, runs_of, is_full, sends}
 use Rattle.serial_model.specs.History.{sent_to}
 use Rattle.serial_model.specs.History.{sent_bytes}
-use Rattle.serial_model.specs.Steps.{Turn, book_step, taking, gone, full, unless_full, running}
-use Rattle.serial_model.specs.Steps.{closing, ticking}
-use Rattle.serial_model.specs.History.{expired}
-use Rattle.serial_model.specs.Steps.{admitting}
+use Rattle.serial_model.specs.Steps.{Turn, book_step, full, unless_full}
 use Rattle.serial_model.specs.Laws.{Extends, IsOther}
+use Rattle.serial_model.proofs.StepCases.{by_admit, by_run, by_tick, by_take, by_close}
 use Rattle.serial_model.proofs.Streams.{stream_more, taken_other, ended_other}
 
 -- the turn of a limit is the turn or none
@@ -71,73 +68,28 @@ module _ (l : Limits) (c : ℕ) where
       → is_admitted (entry.Admit id ∷ past) c ≡ true
   one_more_admitted past id h = grind (arith, nat_tests)
 
-  pub admit_extends : (past : List Entry) → Extends l c past (book_step l past Admit).past
-  unfolding book_step
-  admit_extends past =
-      by_limit l past (admitting past) (λ t. Extends l c past t.past) (extends_none past)
-      (extends_entry past (entry.Admit (admitted past + 1))
-      (one_more_admitted past (admitted past + 1)) refl refl (λ h. h))
-
-  pub run_extends : (id now : ℕ) (words : List (List ℕ)) (past : List Entry) → (id == c) ≡ false
-      → Extends l c past (book_step l past (Run id words now)).past
-  unfolding book_step
-  run_extends id now words past other =
-      elim (runs_on l past id) as (λ b. Extends l c past
-      (cond b (unless_full l past (running past id words now)) (gone past id)).past) [
-        | true ↦ by_limit l past (running past id words now) (λ t. Extends l c past t.past)
-            (extends_none past)
-            (extends_entry past (entry.Run id words (max now (latest past))) (λ h. h) refl
-            (ap (λ b. cond b (runs_of c past ++ words ∷ []) (runs_of c past)) other) (λ h. h))
-        | false ↦ extends_none past
-      ]
-
-  ticking_extends : (past : List Entry) (moment : ℕ) (keys : List (List ℕ))
-      → Extends l c past (ticking l past moment keys).past
-  ticking_extends past moment [] = extends_none past
-  ticking_extends past moment (key ∷ keys) =
-      by_limit l past _ (λ t. Extends l c past t.past) (extends_none past)
-      (extends_entry past (entry.Tick moment) (λ h. h) refl refl (λ h. h))
-
-  pub tick_extends : (now : ℕ) (past : List Entry)
-      → Extends l c past (book_step l past (Tick now)).past
-  unfolding book_step
-  tick_extends now past =
-      let moment = max now (latest past) in
-      ticking_extends past moment (expired l past moment)
-
-  taking_extends : (id most : ℕ) (past : List Entry) (bytes : List ℕ) → (id == c) ≡ false
-      → Extends l c past (taking l past id most bytes).past
-  taking_extends id most past [] other = extends_none past
-  taking_extends id most past (b ∷ bytes) other =
-      by_limit l past _ (λ t. Extends l c past t.past) (extends_none past)
-      (extends_entry past (entry.Take id most) (λ h. h) (taken_other l past c id most other) refl
-      (λ h. h))
-
-  pub take_extends : (id most : ℕ) (past : List Entry) → (id == c) ≡ false
-      → Extends l c past (book_step l past (Take id most)).past
-  unfolding book_step
-  take_extends id most past other =
-      elim (gives_on l past id) as (λ b. Extends l c past
-      (cond b (taking l past id most (take most (unsent l id past))) (gone past id)).past) [
-        | true ↦ taking_extends id most past (take most (unsent l id past)) other
-        | false ↦ extends_none past
-      ]
-
-  pub close_extends : (id : ℕ) (past : List Entry) → (id == c) ≡ false
-      → Extends l c past (book_step l past (Close id)).past
-  unfolding book_step
-  close_extends id past other =
-      elim (reads_on l past id) as (λ b. Extends l c past
-      (cond b (closing past id) (gone past id)).past) [
-        | true ↦ extends_entry past (entry.Close id) (λ h. h) refl refl
-            (λ h. ended_other l past c id other ∙ h)
-        | false ↦ extends_none past
-      ]
+  abbrev Grown : List Entry → Turn → Type 0
+  Grown past turn = Extends l c past turn.past
 
   pub others_extend : (past : List Entry) (call : BookCall) → IsOther c call
       → Extends l c past (book_step l past call).past
-  others_extend past Admit other = admit_extends past
-  others_extend past (Run id words now) other = run_extends id now words past other
-  others_extend past (Tick now) other = tick_extends now past
-  others_extend past (Take id most) other = take_extends id most past other
-  others_extend past (Close id) other = close_extends id past other
+  others_extend past Admit other =
+      by_admit l past (Grown past) (extends_none past)
+      (λ room. extends_entry past (entry.Admit (admitted past + 1))
+      (one_more_admitted past (admitted past + 1)) refl refl (λ h. h))
+  others_extend past (Run id words now) other =
+      by_run l past (Grown past) id words now (extends_none past) (extends_none past)
+      (λ on room. extends_entry past (entry.Run id words (max now (latest past))) (λ h. h) refl
+      (ap (λ b. cond b (runs_of c past ++ words ∷ []) (runs_of c past)) other) (λ h. h))
+  others_extend past (Tick now) other =
+      by_tick l past (Grown past) now (extends_none past) (extends_none past)
+      (λ some room. extends_entry past (entry.Tick (max now (latest past))) (λ h. h) refl refl
+      (λ h. h))
+  others_extend past (Take id most) other =
+      by_take l past (Grown past) id most (extends_none past) (extends_none past)
+      (extends_none past) (λ on some room. extends_entry past (entry.Take id most) (λ h. h)
+      (taken_other l past c id most other) refl (λ h. h))
+  others_extend past (Close id) other =
+      by_close l past (Grown past) id (extends_none past)
+      (λ on. extends_entry past (entry.Close id) (λ h. h) refl refl
+      (λ h. ended_other l past c id other ∙ h))

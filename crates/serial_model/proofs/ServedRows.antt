@@ -3,15 +3,15 @@
 use Rattle.std.proofs.Common.{◌≡◌, ◌∙◌, refl, sym, ap, ℕ, ℤ, List, [], ◌∷◌}
 use Rattle.std.proofs.Common.{Bool, true, false, cond, Option, None, Some, Result, Ok, Err}
 use Rattle.std.proofs.Common.{length, map, inl, inr, ◌⊎◌, is_some}
-use Rattle.std.specs.Prelude.{pos, negsuc, neg_ℤ, nat_lt, not, ◌==◌, ◌++◌, ◌||◌}
+use Rattle.std.specs.Prelude.{pos, negsuc, neg_ℤ, nat_lt, not, ◌==◌, ◌++◌, ◌||◌, ◌&&◌}
 use Rattle.std.specs.Prelude.{if◌then◌else◌, codes}
 use Rattle.std.specs.FinMap.{get, insert, remove, contains_key, empty, get-insert, get-remove}
-use Rattle.std.specs.FinMap.{same_map, slice_cmp-IsAntisymmetric, nat_cmp-IsAntisymmetric}
 use Rattle.std.specs.Cmp.Lexicographic.{nat_list_cmp_total, texts_ties}
 use Rattle.std.specs.Fmt.{signed_decimal}
 use Rattle.std.specs.List.{filter, list_any}
 use Rattle.std.specs.Option.{option_map_or}
 use Rattle.std.specs.Str.{bytes_eq}
+use Rattle.std.proofs.lemmas.Map.Views.{any-filter_same}
 use Rattle.std.proofs.lemmas.Slice.Eq.{bytes_eq-Decides}
 use Rattle.resp_value.specs.declared.value.Value.{Value}
 use Rattle.resp_value.specs.declared.value.Value.TheVariants.{Simple}
@@ -138,12 +138,6 @@ pub record Row (s : Space) (e : Effect) : Type 0 where
   pub apart : AreApart (signalled_keys e.signalled)
   pub others_stay : (q : List ℕ) → signals e.signalled q ≡ false → held_at q e.space ≡ held_at q s
 
--- where a row signals no key, nothing changes
-pub quiet_stays : (s : Space) (e : Effect) → Row s e → e.signalled ≡ Keys [] → e.space ≡ s
-quiet_stays s e row none =
-    same_map nat_list_cmp_total (slice_cmp-IsAntisymmetric nat_cmp-IsAntisymmetric) _ _
-    (λ q. row.others_stay q (ap (λ sig. signals sig q) none))
-
 left_false : (b c : Bool) → (b || c) ≡ false → b ≡ false
 left_false true c e = absurd (let no : ⊥ = cc in no)
 left_false false c e = refl
@@ -174,12 +168,36 @@ module _ {s : Space} where
   fields (Some (Text v)) rows all = none
   fields (Some (Fields fs)) rows all = all fs
 
+at_insert : (s : Space) (k : List ℕ) (held : Held) (q : List ℕ)
+    → held_at q (insert s k held) ≡ cond (bytes_eq q k) (Some held) (held_at q s)
+at_insert s k held q =
+    get-insert nat_list_cmp_total s k held q
+    ∙ ap (λ b. cond b (Some held) (get s q)) (sym (texts_ties q k))
+
+at_remove : (s : Space) (k q : List ℕ)
+    → held_at q (remove s k) ≡ cond (bytes_eq q k) None (held_at q s)
+at_remove s k q =
+    get-remove nat_list_cmp_total s k q
+    ∙ ap (λ b. cond b None (get s q)) (sym (texts_ties q k))
+
+at_remove_each : (keys : List (List ℕ)) (s : Space) (q : List ℕ)
+    → held_at q (remove_each keys s) ≡ cond (is_among keys q) None (held_at q s)
+at_remove_each [] s q = refl
+at_remove_each (k ∷ keys) s q =
+    at_remove_each keys (remove s k) q
+    ∙ ap (cond (is_among keys q) None) (at_remove s k q)
+    ∙ by (bytes_eq q k) (is_among keys q)
+  where
+    by : (a b : Bool) → cond b None (cond a None (get s q)) ≡ cond (a || b) None (get s q)
+    by true true = refl
+    by true false = refl
+    by false b = refl
+
 module _ (s : Space) (k : List ℕ) where
   put_other : (held : Held) (q : List ℕ) → bytes_eq q k ≡ false
       → held_at q (insert s k held) ≡ held_at q s
   put_other held q apart =
-      get-insert nat_list_cmp_total s k held q
-      ∙ ap (λ b. cond b (Some held) (get s q)) (sym (texts_ties q k) ∙ apart)
+      at_insert s k held q ∙ ap (λ b. cond b (Some held) (held_at q s)) apart
 
   -- one key is put
   put : {reply : Value} (held : Held) → Row s (wrote reply (k ∷ []) (insert s k held))
@@ -193,9 +211,8 @@ module _ (s : Space) (k : List ℕ) where
   gone = record {
     apart = (refl, tt);
     others_stay = λ q apart.
-        get-remove nat_list_cmp_total s k q
-        ∙ ap (λ b. cond b None (get s q))
-        (sym (texts_ties q k) ∙ left_false (bytes_eq q k) false apart);
+        at_remove s k q
+        ∙ ap (λ b. cond b None (held_at q s)) (left_false (bytes_eq q k) false apart);
   }
 
   -- what one key holds is changed, if it is there
@@ -211,32 +228,27 @@ module _ (s : Space) (k : List ℕ) where
   put_hash [] = gone
   put_hash (f ∷ fs) = put (record { content = Fields (f ∷ fs); deadline = deadline_at k s })
 
--- a key that is none of those met first is none of them
-module _ (q : List ℕ) where
-  apart_from : (k : List ℕ) (keys : List (List ℕ)) → bytes_eq q k ≡ false
-      → list_any (bytes_eq q) (filter (λ x. not (bytes_eq x k)) keys) ≡ false
-      → list_any (bytes_eq q) keys ≡ false
-  apart_from k [] apart h = refl
-  apart_from k (x ∷ keys) apart h =
-      elim (bytes_eq x k) as (λ b. bytes_eq x k ≡ b
-      → list_any (bytes_eq q) (cond (not b) (x ∷ filter (λ y. not (bytes_eq y k)) keys)
-      (filter (λ y. not (bytes_eq y k)) keys)) ≡ false
-      → list_any (bytes_eq q) (x ∷ keys) ≡ false) [
-        | true ↦ λ e g.
-            ap (λ b. b || list_any (bytes_eq q) keys)
-            (ap (bytes_eq q) ((bytes_eq-Decides x k).0 e) ∙ apart) ∙ apart_from k keys apart g
-        | false ↦ λ e g.
-            ap (λ b. b || list_any (bytes_eq q) keys) (left_false (bytes_eq q x) _ g)
-            ∙ apart_from k keys apart (right_false (bytes_eq q x) _ g)
-      ] refl h
+-- of keys that a test leaves a key is one where it passes the test and was one
+any_left : (p : List ℕ → Bool) (q : List ℕ) (keys : List (List ℕ))
+    → is_among (filter p keys) q ≡ (p q && is_among keys q)
+any_left p q =
+    any-filter_same (bytes_eq q) p (p q) (λ x same. ap p (sym ((bytes_eq-Decides q x).0 same)))
 
-  none_of : (keys : List (List ℕ)) → list_any (bytes_eq q) (each_once keys) ≡ false
-      → list_any (bytes_eq q) keys ≡ false
+-- a key that passes a test and is none of those that pass it is none of them all
+passed : (p : List ℕ → Bool) (q : List ℕ) (keys : List (List ℕ)) → p q ≡ true
+    → is_among (filter p keys) q ≡ false → is_among keys q ≡ false
+passed p q keys is h =
+    sym (ap (λ b. b && is_among keys q) is) ∙ (sym (any_left p q keys) ∙ h)
+
+module _ (q : List ℕ) where
+  -- a key that is none of those met first is none of them
+  none_of : (keys : List (List ℕ)) → is_among (each_once keys) q ≡ false → is_among keys q ≡ false
   none_of [] h = refl
   none_of (k ∷ keys) h =
       let apart = left_false (bytes_eq q k) _ h in
-      ap (λ b. b || list_any (bytes_eq q) keys) apart
-      ∙ none_of keys (apart_from k (each_once keys) apart (right_false (bytes_eq q k) _ h))
+      ap (λ b. b || is_among keys q) apart
+      ∙ none_of keys (passed (λ x. not (bytes_eq x k)) q (each_once keys) (ap not apart)
+      (right_false (bytes_eq q k) _ h))
 
   puts_other : (ps : List (List ℕ × List ℕ)) (s : Space)
       → list_any (bytes_eq q) (map (λ p. p.0) ps) ≡ false
@@ -248,99 +260,35 @@ module _ (q : List ℕ) where
       (left_false (bytes_eq q p.0) _ h)
 
 -- and each of those met first is there once
-fewer : (p : List ℕ → Bool) (k : List ℕ) (keys : List (List ℕ)) → is_among keys k ≡ false
-    → is_among (filter p keys) k ≡ false
-fewer p k [] h = refl
-fewer p k (x ∷ keys) h =
-    elim (p x) as (λ b. is_among (cond b (x ∷ filter p keys) (filter p keys)) k ≡ false) [
-      | true ↦
-          ap (λ b. b || is_among (filter p keys) k) (left_false (bytes_eq k x) _ h)
-          ∙ fewer p k keys (right_false (bytes_eq k x) _ h)
-      | false ↦ fewer p k keys (right_false (bytes_eq k x) _ h)
-    ]
+and_false : (b : Bool) → (b && false) ≡ false
+and_false true = refl
+and_false false = refl
 
 apart_still : (p : List ℕ → Bool) (keys : List (List ℕ)) → AreApart keys → AreApart (filter p keys)
 apart_still p [] h = tt
 apart_still p (x ∷ keys) h =
     elim (p x) as (λ b. AreApart (cond b (x ∷ filter p keys) (filter p keys))) [
-      | true ↦ (fewer p x keys h.0, apart_still p keys h.1)
+      | true ↦ (
+        any_left p x keys ∙ (ap (λ b. p x && b) h.0 ∙ and_false (p x)),
+        apart_still p keys h.1,
+      )
       | false ↦ apart_still p keys h.1
     ]
-
-turned : (a b : List ℕ) → bytes_eq a b ≡ false → bytes_eq b a ≡ false
-turned a b apart =
-    elim (bytes_eq b a) as (λ c. bytes_eq b a ≡ c → c ≡ false) [
-      | true ↦ λ e.
-          let same : bytes_eq a b ≡ true = (bytes_eq-Decides a b).1
-          (sym ((bytes_eq-Decides b a).0 e)) in
-          absurd (let no : ⊥ = cc in no)
-      | false ↦ λ e. refl
-    ] refl
-
-none_left : (k : List ℕ) (keys : List (List ℕ))
-    → is_among (filter (λ x. not (bytes_eq x k)) keys) k ≡ false
-none_left k [] = refl
-none_left k (x ∷ keys) =
-    elim (bytes_eq x k) as (λ b. bytes_eq x k ≡ b
-    → is_among (cond (not b) (x ∷ filter (λ y. not (bytes_eq y k)) keys)
-    (filter (λ y. not (bytes_eq y k)) keys)) k ≡ false) [
-      | true ↦ λ e. none_left k keys
-      | false ↦ λ e.
-          ap (λ b. b || is_among (filter (λ y. not (bytes_eq y k)) keys) k) (turned x k e)
-          ∙ none_left k keys
-    ] refl
 
 once_apart : (keys : List (List ℕ)) → AreApart (each_once keys)
 once_apart [] = tt
 once_apart (k ∷ keys) = (
-  none_left k (each_once keys),
+  any_left (λ x. not (bytes_eq x k)) k (each_once keys)
+      ∙ ap (λ b. not b && is_among (each_once keys) k) ((bytes_eq-Decides k k).1 refl),
   apart_still (λ x. not (bytes_eq x k)) (each_once keys) (once_apart keys),
 )
 
--- a key that passes a test and is none of those that pass it is none of them all
-passed : (p : List ℕ → Bool) (q : List ℕ) (keys : List (List ℕ)) → p q ≡ true
-    → is_among (filter p keys) q ≡ false → is_among keys q ≡ false
-passed p q [] is h = refl
-passed p q (x ∷ keys) is h =
-    elim (p x) as (λ b. p x ≡ b → is_among (cond b (x ∷ filter p keys) (filter p keys)) q ≡ false
-    → is_among (x ∷ keys) q ≡ false) [
-      | true ↦ λ e g.
-          ap (λ b. b || is_among keys q) (left_false (bytes_eq q x) _ g)
-          ∙ passed p q keys is (right_false (bytes_eq q x) _ g)
-      | false ↦ λ e g.
-          ap (λ b. b || is_among keys q) (other e) ∙ passed p q keys is g
-    ] refl h
-  where
-    other : p x ≡ false → bytes_eq q x ≡ false
-    other e =
-        elim (bytes_eq q x) as (λ b. bytes_eq q x ≡ b → b ≡ false) [
-          | true ↦ λ same.
-              let no : p q ≡ false = ap p ((bytes_eq-Decides q x).0 same) ∙ e in
-              absurd (let clash : true ≡ false = sym is ∙ no in cc)
-          | false ↦ λ same. refl
-        ] refl
-
 -- keys go
-get_removed : (keys : List (List ℕ)) (s : Space) (q : List ℕ)
-    → held_at q (remove_each keys s) ≡ cond (is_among keys q) None (held_at q s)
-get_removed [] s q = refl
-get_removed (k ∷ keys) s q =
-    get_removed keys (remove s k) q
-    ∙ ap (cond (is_among keys q) None)
-    (get-remove nat_list_cmp_total s k q
-    ∙ ap (λ b. cond b None (get s q)) (sym (texts_ties q k)))
-    ∙ by (bytes_eq q k) (is_among keys q)
-  where
-    by : (a b : Bool) → cond b None (cond a None (get s q)) ≡ cond (a || b) None (get s q)
-    by true true = refl
-    by true false = refl
-    by false b = refl
-
 del : {reply : Value} (keys : List (List ℕ)) (s : Space)
     → Row s (wrote reply (there keys s) (remove_each keys s))
 del keys s = record {
   apart = apart_still (contains_key s) (each_once keys) (once_apart keys);
-  others_stay = λ q apart. get_removed keys s q ∙ others q apart (held_at q s) refl;
+  others_stay = λ q apart. at_remove_each keys s q ∙ others q apart (held_at q s) refl;
 }
   where
     missing : (b : Bool) (h : Option Held) → h ≡ None → cond b None h ≡ h
@@ -367,8 +315,7 @@ rename {reply} a b s other = record {
     moved q not_a not_b None = refl
     moved q not_a not_b (Some held) =
         put_other (remove s a) b held q not_b
-        ∙ get-remove nat_list_cmp_total s a q
-        ∙ ap (λ x. cond x None (get s q)) (sym (texts_ties q a) ∙ not_a)
+        ∙ at_remove s a q ∙ ap (λ x. cond x None (held_at q s)) not_a
 
 renames : (a b : List ℕ) (s : Space) → Row s (rename_effect a b s)
 renames a b s =

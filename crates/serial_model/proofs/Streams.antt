@@ -16,14 +16,15 @@ use Rattle.serial_model.specs.declared.history.Entry.TheVariants.{Admit, Run, Ti
 use Rattle.track_table.specs.declared.table.Held.{Held}
 use Rattle.serial_model.specs.History.{admitted, is_admitted, runs_on, has_ended, made}
 use Rattle.serial_model.specs.History.{signals, expired, table, table_then, table_grown, drops}
-use Rattle.serial_model.specs.History.{expiry_group, own_group, routed, modes, reply_of}
+use Rattle.serial_model.specs.History.{expiry_group, own_group, routed, modes}
 use Rattle.serial_model.specs.History.{is_tracking, tracking, mode}
 use Rattle.serial_model.specs.Tracking.{Invalidation, drop_group}
 use Rattle.serial_model.specs.Tracking.{without_signalled}
 use Rattle.serial_model.specs.History.{End, sends, sent_to, sent, sent_bytes}
 use Rattle.serial_model.specs.History.{sending_bytes, stream, taken, unsent, runs_of, IsLegal}
-use Rattle.serial_model.proofs.Tables.{AllRows, AllTo, all_rows, all_to, without_keys_all, kept_all}
-use Rattle.serial_model.proofs.Tables.{AllIn, ids_all, without_signalled_all, signal_group_all}
+use Rattle.serial_model.specs.Each.{AllIn, AllRows, AllTo}
+use Rattle.serial_model.proofs.Tables.{all_rows, all_to, without_keys_all, kept_all}
+use Rattle.serial_model.proofs.Tables.{ids_all, without_signalled_all, signal_group_all}
 use Rattle.serial_model.proofs.Tables.{dropped_all, to_append, group_all, drop_group_all}
 use Rattle.serial_model.proofs.Tables.{remembering_all, freed_all, sent_to-append, routed_none}
 
@@ -96,7 +97,6 @@ module _ (l : Limits) where
   take_live past id max rows a = a
 
   pub table_live : (past : List Entry) → IsLegal l past → AllRows (IsLive past) (table l past)
-  unfolding AllRows
   table_live [] h = tt
   table_live (Admit id ∷ past) h =
       all_rows {P = IsLive past} {Q = IsLive (Admit id ∷ past)} (admit_live past id) (table l past)
@@ -157,19 +157,13 @@ module _ (l : Limits) where
       → AllTo (λ h. (h == c) ≡ false) (behind past id words moment)
       → (id == c) ≡ false → sent_to n c (sends l (Run id words moment) past) ≡ []
   run_none n c past id words moment before after other =
-      sent_to-append n c (routed (modes l past) (expiry_group l past moment))
-      (reply_of l past id words moment
-      ∷ (routed (modes l (Run id words moment ∷ past)) (behind past id words moment) ++ []))
-      ∙ ap (λ xs. xs ++ sent_to n c (reply_of l past id words moment
-      ∷ (routed (modes l (Run id words moment ∷ past)) (behind past id words moment) ++ [])))
-      (routed_none n c (modes l past) (expiry_group l past moment) before)
-      ∙ ap (λ b. cond b ((n, (reply_of l past id words moment).1) ∷ sent_to n c
-      (routed (modes l (Run id words moment ∷ past)) (behind past id words moment) ++ []))
-      (sent_to n c
-      (routed (modes l (Run id words moment ∷ past)) (behind past id words moment) ++ []))) other
-      ∙ ap (sent_to n c)
+      rw (
+        sent_to-append n c (routed (modes l past) (expiry_group l past moment)),
+        routed_none n c (modes l past) (expiry_group l past moment) before,
+        other,
+      ) (ap (sent_to n c)
       (append-nil (routed (modes l (Run id words moment ∷ past)) (behind past id words moment)))
-      ∙ routed_none n c (modes l (Run id words moment ∷ past)) (behind past id words moment) after
+      ∙ routed_none n c (modes l (Run id words moment ∷ past)) (behind past id words moment) after)
 
   -- nothing is sent by a Run to one that is not live, but for its own reply
   pub run_sends_none : (n c : ℕ) (past : List Entry) (id : ℕ) (words : List (List ℕ)) (moment : ℕ)
@@ -298,28 +292,18 @@ module _ (l : Limits) where
   -- ---- what was taken
 
   -- no more was taken than was sent
+  taken_more : (past : List Entry) (c : ℕ) (entry : Entry)
+      → taken l c past ≤ length (stream l c past)
+      → taken l c past ≤ length (stream l c (entry ∷ past))
+  taken_more past c entry le = rw (stream_more past c entry, length-append) (omega arith)
+
   pub taken_le : (past : List Entry) (c : ℕ) → taken l c past ≤ length (stream l c past)
   unfolding stream
   taken_le [] c = omega arith
-  taken_le (Admit id ∷ past) c = rw (stream_admit past c id) (taken_le past c)
+  taken_le (Admit id ∷ past) c = taken_more past c (Admit id) (taken_le past c)
   taken_le (Run id words moment ∷ past) c =
-      let r = taken_le past c in
-      rw (stream_more past c (Run id words moment))
-      (omega (
-        arith,
-        r,
-        length-append (stream l c past) (sent_bytes
-            (sent_to (length past + 1) c (sends l (Run id words moment) past))),
-      ))
-  taken_le (Tick moment ∷ past) c =
-      let r = taken_le past c in
-      rw (stream_more past c (Tick moment))
-      (omega (
-        arith,
-        r,
-        length-append (stream l c past) (sent_bytes
-            (sent_to (length past + 1) c (sends l (Tick moment) past))),
-      ))
+      taken_more past c (Run id words moment) (taken_le past c)
+  taken_le (Tick moment ∷ past) c = taken_more past c (Tick moment) (taken_le past c)
   taken_le (Take id max ∷ past) c = let r = taken_le past c in
       rw (stream_take past c id max)
       (elim (id == c) as (λ b. cond b (taken l c past + min max
@@ -327,7 +311,7 @@ module _ (l : Limits) where
         | true ↦ omega arith
         | false ↦ r
       ])
-  taken_le (Close id ∷ past) c = rw (stream_close past c id) (taken_le past c)
+  taken_le (Close id ∷ past) c = taken_more past c (Close id) (taken_le past c)
 
   -- ---- what is unsent after an entry
 

@@ -1,8 +1,8 @@
 -- What holds of all holders of all remembered keys, and so of all who are told.
 use Rattle.std.proofs.Common.{◌≡◌, ◌-◌, ◌<◌, ◌≤◌, ℕ, zero, suc, List, [], ◌∷◌, ◌++◌, arith}
 use Rattle.std.proofs.Common.{Bool, true, false, Option, Some, None}
-use Rattle.std.proofs.Common.{cond, length, map, take, drop, refl, ap, ◌∙◌}
-use Rattle.std.specs.Prelude.{◌==◌, not, filter, nat_lt}
+use Rattle.std.proofs.Common.{cond, length, map, refl, ap, ◌∙◌}
+use Rattle.std.specs.Prelude.{◌==◌, not, nat_lt}
 use Rattle.std.specs.Str.{bytes_eq}
 use Rattle.resp_value.specs.declared.value.Proto.{Proto}
 use Rattle.resp_value.specs.declared.value.Proto.TheVariants.{Two, Three}
@@ -18,58 +18,35 @@ use Rattle.serial_model.specs.Modes.{Memory, Remembers, Forgets}
 use Rattle.serial_model.specs.Tracking.{without_keys, without_signalled, remembering, ids_where}
 use Rattle.serial_model.specs.Tracking.{Invalidation, told_of, group, drop_group, push_of}
 use Rattle.serial_model.specs.Tracking.{told_to, signal_group}
+use Rattle.serial_model.specs.Each.{AllIn, AllRows, AllTo}
+use Rattle.serial_model.proofs.Each.{all_in, in_if, in_append, in_filter, in_take, in_drop}
 use Rattle.serial_model.specs.History.{Sending, Message, sent_to, by_proto, route, routed}
 
-unfoldable pub AllIn : (ℕ → Type 0) → List ℕ → Type 0
-AllIn P [] = Unit {0}
-AllIn P (h ∷ hs) = P h × AllIn P hs
-
-unfoldable pub AllRows : (ℕ → Type 0) → List Held → Type 0
-AllRows P [] = Unit {0}
-AllRows P (r ∷ rs) = AllIn P r.holders × AllRows P rs
-
-unfoldable pub AllTo : (ℕ → Type 0) → List Invalidation → Type 0
-AllTo P [] = Unit {0}
-AllTo P (i ∷ told) = P i.to × AllTo P told
-
 module _ {P Q : ℕ → Type 0} (f : (h : ℕ) → P h → Q h) where
-  all_in : (hs : List ℕ) → AllIn P hs → AllIn Q hs
-  unfolding AllIn
-  all_in [] a = tt
-  all_in (h ∷ hs) a = (f h a.0, all_in hs a.1)
-
   pub all_rows : (rows : List Held) → AllRows P rows → AllRows Q rows
-  unfolding AllRows
-  all_rows [] a = tt
-  all_rows (r ∷ rs) a = (all_in r.holders a.0, all_rows rs a.1)
+  all_rows rows a =
+      all_in {A = Held} {P = λ r. AllIn P r.holders} {Q = λ r. AllIn Q r.holders}
+      (λ r. all_in {P = P} {Q = Q} f r.holders) rows a
 
   pub all_to : (told : List Invalidation) → AllTo P told → AllTo Q told
-  unfolding AllTo
-  all_to [] a = tt
-  all_to (i ∷ told) a = (f i.to a.0, all_to told a.1)
+  all_to told a =
+      all_in {A = Invalidation} {P = λ i. P i.to} {Q = λ i. Q i.to} (λ i. f i.to) told a
 
 module _ (P : ℕ → Type 0) where
-  in_if : (b : Bool) (xs ys : List ℕ) → AllIn P xs → AllIn P ys → AllIn P (cond b xs ys)
-  in_if true xs ys a b = a
-  in_if false xs ys a b = b
+  abbrev AllHeld : Held → Type 0
+  AllHeld r = AllIn P r.holders
 
   with_holder_all : (id : ℕ) (hs : List ℕ) → P id → AllIn P hs → AllIn P (with_id id hs)
-  unfolding AllIn
   with_holder_all id [] p a = (p, tt)
   with_holder_all id (h ∷ hs) p a =
-      in_if (nat_lt h id) (h ∷ with_id id hs) (cond (h == id) (h ∷ hs) (id ∷ h ∷ hs))
-      (a.0, with_holder_all id hs p a.1) (in_if (h == id) (h ∷ hs) (id ∷ h ∷ hs) a (p, a))
-
-  rows_if : (b : Bool) (xs ys : List Held) → AllRows P xs → AllRows P ys → AllRows P (cond b xs ys)
-  rows_if true xs ys a b = a
-  rows_if false xs ys a b = b
+      in_if P (nat_lt h id) (h ∷ with_id id hs) (cond (h == id) (h ∷ hs) (id ∷ h ∷ hs))
+      (a.0, with_holder_all id hs p a.1) (in_if P (h == id) (h ∷ hs) (id ∷ h ∷ hs) a (p, a))
 
   remembered_all : (id : ℕ) (key : List ℕ) (rows : List Held) → P id → AllRows P rows
       → AllRows P (remembered id key rows)
-  unfolding AllRows AllIn
   remembered_all id key [] p a = ((p, tt), tt)
   remembered_all id key (r ∷ rs) p a =
-      rows_if (bytes_eq key r.key) (record r { holders = with_id id r.holders } ∷ rs)
+      in_if AllHeld (bytes_eq key r.key) (record r { holders = with_id id r.holders } ∷ rs)
       (r ∷ remembered id key rs)
       (with_holder_all id r.holders p a.0, a.1) (a.0, remembered_all id key rs p a.1)
 
@@ -79,45 +56,27 @@ module _ (P : ℕ → Type 0) where
   with_keys_all id (key ∷ keys) rows p a =
       with_keys_all id keys (remembered id key rows) p (remembered_all id key rows p a)
 
-  filter_all : (p : Held → Bool) (rows : List Held) → AllRows P rows → AllRows P (filter p rows)
-  unfolding AllRows
-  filter_all p [] a = tt
-  filter_all p (r ∷ rs) a =
-      rows_if (p r) (r ∷ filter p rs) (filter p rs) (a.0, filter_all p rs a.1)
-      (filter_all p rs a.1)
-
   pub without_keys_all : (keys : List (List ℕ)) (rows : List Held) → AllRows P rows
       → AllRows P (without_keys keys rows)
   without_keys_all [] rows a = a
   without_keys_all (key ∷ keys) rows a =
       without_keys_all keys (without_key key rows)
-      (filter_all (λ r. not (bytes_eq key r.key)) rows a)
+      (in_filter AllHeld (λ r. not (bytes_eq key r.key)) rows a)
 
   pub without_signalled_all : (sig : Signalled) (rows : List Held) → AllRows P rows
       → AllRows P (without_signalled sig rows)
-  unfolding AllRows
   without_signalled_all (signalled.Keys keys) rows a = without_keys_all keys rows a
   without_signalled_all signalled.All rows a = tt
 
-  in_append : (xs ys : List ℕ) → AllIn P xs → AllIn P ys → AllIn P (xs ++ ys)
-  unfolding AllIn
-  in_append [] ys a b = b
-  in_append (x ∷ xs) ys a b = (a.0, in_append xs ys a.1 b)
-
-  one_in : (h : ℕ) → P h → AllIn P (h ∷ [])
-  unfolding AllIn
-  one_in h p = (p, tt)
-
   pub ids_all : (test : ℕ → Bool) (n : ℕ)
       → ((h : ℕ) → 0 < h → h ≤ n → test h ≡ true → P h) → AllIn P (ids_where test n)
-  unfolding AllIn
   ids_all test zero f = tt
   ids_all test (suc n) f =
       let rest = ids_all test n (λ h some le. f h some (omega (arith, le))) in
       elim (test (suc n)) as (λ b. test (suc n) ≡ b
       → AllIn P (cond b (ids_where test n ++ suc n ∷ []) (ids_where test n))) [
-        | true ↦ λ e. in_append (ids_where test n) (suc n ∷ []) rest
-            (one_in (suc n) (f (suc n) (omega arith) (omega arith) e))
+        | true ↦ λ e. in_append P (ids_where test n) (suc n ∷ []) rest
+            (f (suc n) (omega arith) (omega arith) e, tt)
         | false ↦ λ e. rest
       ] refl
 
@@ -125,7 +84,7 @@ module _ (P : ℕ → Type 0) where
   others id h = P h × ((h == id) ≡ false)
 
   freed_in : (id : ℕ) (hs : List ℕ) → AllIn P hs → AllIn (others id) (without_id id hs)
-  unfolding AllIn others
+  unfolding others
   freed_in id [] a = tt
   freed_in id (h ∷ hs) a =
       elim (h == id) as (λ b. (h == id) ≡ b
@@ -136,54 +95,39 @@ module _ (P : ℕ → Type 0) where
 
   freed_rows : (id : ℕ) (rows : List Held) → AllRows P rows
       → AllRows (others id) (map (freed_of id) rows)
-  unfolding AllRows
   freed_rows id [] a = tt
   freed_rows id (r ∷ rs) a = (freed_in id r.holders a.0, freed_rows id rs a.1)
 
-  drop_rows : (n : ℕ) (rows : List Held) → AllRows P rows → AllRows P (drop n rows)
-  unfolding AllRows
-  drop_rows zero rows a = a
-  drop_rows (suc n) [] a = tt
-  drop_rows (suc n) (r ∷ rs) a = drop_rows n rs a.1
-
-  take_rows : (n : ℕ) (rows : List Held) → AllRows P rows → AllRows P (take n rows)
-  unfolding AllRows
-  take_rows zero rows a = tt
-  take_rows (suc n) [] a = tt
-  take_rows (suc n) (r ∷ rs) a = (a.0, take_rows n rs a.1)
-
   pub kept_all : (limit : ℕ) (rows : List Held) → AllRows P rows → AllRows P (kept limit rows)
-  kept_all limit rows a = drop_rows (length rows - limit) rows a
+  kept_all limit rows a = in_drop AllHeld (length rows - limit) rows a
 
   pub dropped_all : (limit : ℕ) (rows : List Held) → AllRows P rows → AllRows P (dropped limit rows)
-  dropped_all limit rows a = take_rows (length rows - limit) rows a
+  dropped_all limit rows a = in_take AllHeld (length rows - limit) rows a
 
   -- ---- who is told
 
-  holders_all : (key : List ℕ) (rows : List Held) → AllRows P rows → AllIn P (holders_of key rows)
-  unfolding AllRows AllIn
+  pub holders_all : (key : List ℕ) (rows : List Held) → AllRows P rows
+      → AllIn P (holders_of key rows)
   holders_all key [] a = tt
   holders_all key (r ∷ rs) a =
-      in_if (bytes_eq key r.key) r.holders (holders_of key rs) a.0 (holders_all key rs a.1)
+      in_if P (bytes_eq key r.key) r.holders (holders_of key rs) a.0 (holders_all key rs a.1)
 
-  told_all : (keys : Option (List (List ℕ))) (hs : List ℕ) → AllIn P hs → AllTo P (told_to keys hs)
-  unfolding AllIn AllTo
+  pub told_all : (keys : Option (List (List ℕ))) (hs : List ℕ) → AllIn P hs
+      → AllTo P (told_to keys hs)
   told_all keys [] a = tt
   told_all keys (h ∷ hs) a = (a.0, told_all keys hs a.1)
 
   pub to_append : (xs ys : List Invalidation) → AllTo P xs → AllTo P ys → AllTo P (xs ++ ys)
-  unfolding AllTo
-  to_append [] ys a b = b
-  to_append (x ∷ xs) ys a b = (a.0, to_append xs ys a.1 b)
+  to_append xs ys a b = in_append (λ (i : Invalidation). P i.to) xs ys a b
 
   pub group_all : (keys : List (List ℕ)) (rows : List Held) → AllRows P rows
       → AllTo P (group keys rows)
-  unfolding AllTo
   group_all [] rows a = tt
   group_all (key ∷ keys) rows a =
       to_append (told_of key (holders_of key rows)) (group keys (without_key key rows))
       (told_all (Some (key ∷ [])) (holders_of key rows) (holders_all key rows a))
-      (group_all keys (without_key key rows) (filter_all (λ r. not (bytes_eq key r.key)) rows a))
+      (group_all keys (without_key key rows)
+      (in_filter AllHeld (λ r. not (bytes_eq key r.key)) rows a))
 
   pub signal_group_all : (sig : Signalled) (ids : List ℕ) (rows : List Held) → AllIn P ids
       → AllRows P rows → AllTo P (signal_group sig ids rows)
@@ -191,27 +135,26 @@ module _ (P : ℕ → Type 0) where
   signal_group_all signalled.All ids rows here a = told_all None ids here
 
   pub drop_group_all : (rows : List Held) → AllRows P rows → AllTo P (drop_group rows)
-  unfolding AllTo AllRows
   drop_group_all [] a = tt
   drop_group_all (r ∷ rs) a =
       to_append (told_of r.key r.holders) (drop_group rs)
       (told_all (Some (r.key ∷ [])) r.holders a.0)
       (drop_group_all rs a.1)
 
--- what a connection remembers after its command: all others as before
-pub remembering_all : (P Q : ℕ → Type 0) (id : ℕ) (memory : Memory) (rows : List Held)
-    → P id → AllRows P rows → AllRows P (remembering id memory rows)
-unfolding others
-remembering_all P Q id (Remembers keys) rows p a = with_keys_all P id keys rows p a
-remembering_all P Q id Forgets rows p a =
-    all_rows {P = others P id} {Q = P} (λ h x. x.0) (without_connection id rows)
-    (filter_all (others P id) is_held (map (freed_of id) rows) (freed_rows P id rows a))
-
 pub freed_all : (P : ℕ → Type 0) (id : ℕ) (rows : List Held) → AllRows P rows
     → AllRows (λ h. P h × ((h == id) ≡ false)) (without_connection id rows)
 unfolding others
 freed_all P id rows a =
-    filter_all (others P id) is_held (map (freed_of id) rows) (freed_rows P id rows a)
+    in_filter (λ (r : Held). AllIn (others P id) r.holders) is_held (map (freed_of id) rows)
+    (freed_rows P id rows a)
+
+-- what a connection remembers after its command: all others as before
+pub remembering_all : (P Q : ℕ → Type 0) (id : ℕ) (memory : Memory) (rows : List Held)
+    → P id → AllRows P rows → AllRows P (remembering id memory rows)
+remembering_all P Q id (Remembers keys) rows p a = with_keys_all P id keys rows p a
+remembering_all P Q id Forgets rows p a =
+    all_rows {P = λ h. P h × ((h == id) ≡ false)} {Q = P} (λ h x. x.0)
+    (without_connection id rows) (freed_all P id rows a)
 
 -- ---- what is sent to one
 
@@ -233,7 +176,6 @@ route_none n c Three i h = ap (λ b. cond b ((n, Message Three (push_of i.keys))
 -- one that none of these are for is sent nothing
 pub routed_none : (n c : ℕ) (modes : ℕ → Mode) (told : List Invalidation)
     → AllTo (λ h. (h == c) ≡ false) told → sent_to n c (routed modes told) ≡ []
-unfolding AllTo
 routed_none n c modes [] a = refl
 routed_none n c modes (i ∷ told) a =
     sent_to-append n c (route (modes i.to) i) (routed modes told)

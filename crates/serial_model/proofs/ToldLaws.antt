@@ -34,7 +34,7 @@ use Rattle.serial_model.proofs.KeyHolders.{dropped_or_kept, drop_tells, group_te
 use Rattle.serial_model.proofs.KeyHolders.{without_other, signalled_apart, signal_tells, among_ids}
 use Rattle.serial_model.proofs.TableSize.{without_within, table_then_within}
 use Rattle.serial_model.proofs.TableSize.{without_signalled_within}
-use Rattle.serial_model.proofs.Tables.{AllIn, AllRows}
+use Rattle.serial_model.specs.Each.{AllIn, AllRows}
 use Rattle.serial_model.proofs.Streams.{IsLive, not_ended, table_live, admitted_id}
 use Rattle.serial_model.proofs.ServedRows.{served_is, data_own, query_data}
 use Rattle.serial_model.proofs.ModeSteps.{mode_other, mode_own}
@@ -81,7 +81,6 @@ module _ (c : ℕ) (key : List ℕ) where
 
 -- a holder of a key has what all holders have
 holder_in : (P : ℕ → Type 0) (c : ℕ) (ids : List ℕ) → AllIn P ids → holds c ids ≡ true → P c
-unfolding AllIn
 holder_in P c [] a h = absurd (let no : ⊥ = cc in no)
 holder_in P c (x ∷ xs) a h = elim (or_cases (x == c) (holds c xs) h) [
   | inl e ↦ subst P (eqb-true x c e) a.0
@@ -90,7 +89,6 @@ holder_in P c (x ∷ xs) a h = elim (or_cases (x == c) (holds c xs) h) [
 
 holder_of : (P : ℕ → Type 0) (c : ℕ) (key : List ℕ) (rows : List Held) → AllRows P rows
     → holds c (holders_of key rows) ≡ true → P c
-unfolding AllRows
 holder_of P c key [] a h = absurd (let no : ⊥ = cc in no)
 holder_of P c key (r ∷ rs) a h =
     elim (bytes_eq key r.key)

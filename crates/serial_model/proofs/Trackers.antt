@@ -1,8 +1,9 @@
 -- Each connection that remembers a key tracks.
 use Rattle.std.proofs.Common.{◌≡◌, ℕ, List, [], ◌∷◌, true, false, cond, Result}
-use Rattle.std.proofs.Common.{refl, ap, sym, subst, ◌∙◌, eq-eqb}
+use Rattle.std.proofs.Common.{refl, ap, sym, subst, ◌∙◌, arith, eq-eqb}
 use Rattle.std.specs.Prelude.{◌==◌}
 use Rattle.std.proofs.lemmas.Bool.{eqb-true}
+use Rattle.std.proofs.lemmas.Bool.Decides.{nat_tests}
 use Rattle.command_words.specs.declared.command.Command.{Command}
 use Rattle.command_words.specs.declared.command.Signalled.TheVariants.{All}
 use Rattle.command_words.specs.declared.command.WordFault.{WordFault}
@@ -22,7 +23,8 @@ use Rattle.serial_model.specs.Tracking.{remembering, without_signalled}
 use Rattle.serial_model.specs.History.{effect_of, ran_over, made_of, made, served, mode}
 use Rattle.serial_model.specs.History.{table, table_then, table_grown, expired, signals, keyspace}
 use Rattle.serial_model.specs.History.{runner}
-use Rattle.serial_model.proofs.Tables.{AllRows, all_rows, with_keys_all, without_keys_all, kept_all}
+use Rattle.serial_model.specs.Each.{AllRows}
+use Rattle.serial_model.proofs.Tables.{all_rows, with_keys_all, without_keys_all, kept_all}
 use Rattle.serial_model.proofs.Tables.{without_signalled_all, freed_all}
 use Rattle.serial_model.proofs.ServedRows.{served_cases, data_own}
 use Rattle.serial_model.proofs.ModeSteps.{mode_other, mode_own}
@@ -84,16 +86,7 @@ module _ (l : Limits) where
   Tracks past h = (mode l h past).tracking ≡ true
 
   turned : (a b : ℕ) → (a == b) ≡ false → (b == a) ≡ false
-  turned a b e =
-      elim (b == a) as (λ x. (b == a) ≡ x → x ≡ false) [
-        | true ↦ λ h.
-            let no : (a == b) ≡ true = ap (λ z. a == z) (eqb-true b a h) ∙ itself a in
-            absurd (let clash : true ≡ false = sym no ∙ e in cc)
-        | false ↦ λ h. refl
-      ] refl
-    where
-      itself : (z : ℕ) → (z == z) ≡ true
-      itself z = eq-eqb z z refl
+  turned a b e = grind (arith, nat_tests)
 
   others_track : (past : List Entry) (id : ℕ) (words : List (List ℕ)) (moment h : ℕ)
       → (h == id) ≡ false → Tracks past h → Tracks (Run id words moment ∷ past) h
@@ -131,7 +124,7 @@ module _ (l : Limits) where
       (others_track past id words moment) rows a
 
   pub table_tracks : (past : List Entry) → AllRows (Tracks past) (table l past)
-  unfolding AllRows Tracks
+  unfolding Tracks
   table_tracks [] = tt
   table_tracks (Admit id ∷ past) = table_tracks past
   table_tracks (Run id words moment ∷ past) =

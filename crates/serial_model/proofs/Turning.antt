@@ -2,7 +2,7 @@
 use Rattle.std.proofs.Common.{◌≡◌, ◌+◌, ◌-◌, ℕ, List, [], ◌∷◌, ◌++◌, length, take, drop, min, max}
 use Rattle.std.proofs.Common.{sym, ap, subst, ◌∙◌, refl, arith, true, false, cond, append-nil}
 use Rattle.std.proofs.Common.{append_assoc, inl, inr}
-use Rattle.std.specs.Prelude.{◌==◌, ◌↔◌, ◌<◌, ◌≤◌}
+use Rattle.std.specs.Prelude.{◌==◌, ◌↔◌, ◌<◌}
 use Prim.Native.Nat.{zero, suc}
 use Rattle.std.proofs.lemmas.List.{take-append-le, length-drop}
 use Rattle.std.proofs.Math.Seq.{take-add}
@@ -27,7 +27,7 @@ use Rattle.serial_model.specs.History.{expired}
 use Rattle.serial_model.specs.Steps.{book_step, BookStep, Turns, given_by, given, ran_by, answered}
 use Rattle.serial_model.specs.Laws.{IsAdded}
 use Rattle.serial_model.proofs.Streams.{stream_more, stream_take, taken_le, not_ended, unsent_live}
-use Rattle.serial_model.proofs.Others.{by_limit}
+use Rattle.serial_model.proofs.StepCases.{by_admit, by_run, by_tick, by_take, by_close}
 
 module _ (l : Limits) where
   -- what holds of the step, and of a turn that memory refused, holds of the turn
@@ -95,55 +95,28 @@ module _ (l : Limits) where
       ] refl
       ∙ ap (take (taken l c (entry.Take id most ∷ past))) (sym (stream_take l past c id most))
 
-  gives_take : (c id most : ℕ) (past : List Entry) (bytes : List ℕ) → has_ended l id past ≡ false
-      → take most (unsent l id past) ≡ bytes
-      → Gives c past (Take id most) (taking l past id most bytes)
-  unfolding Gives
-  gives_take c id most past [] live h = append-nil (first c past)
-  gives_take c id most past (b ∷ bytes) live h =
-      by_limit l past _ (Gives c past (Take id most)) (append-nil (first c past))
-      (first_take c id most past (b ∷ bytes) live h)
-
-  gives_tick : (c now moment : ℕ) (past : List Entry) (keys : List (List ℕ))
-      → Gives c past (Tick now) (ticking l past moment keys)
-  unfolding Gives
-  gives_tick c now moment past [] = append-nil (first c past)
-  gives_tick c now moment past (key ∷ keys) =
-      by_limit l past _ (Gives c past (Tick now)) (append-nil (first c past))
-      (first_same c past (entry.Tick moment) refl)
-
   step_gives : (c : ℕ) (past : List Entry) (call : BookCall)
       → Gives c past call (book_step l past call)
-  unfolding Gives book_step
+  unfolding Gives
   step_gives c past Admit =
-      by_limit l past (admitting past) (Gives c past Admit) (append-nil (first c past))
-      (first_same c past (entry.Admit (admitted past + 1)) refl)
+      by_admit l past (Gives c past Admit) (append-nil (first c past))
+      (λ room. first_same c past (entry.Admit (admitted past + 1)) refl)
   step_gives c past (Run id words now) =
-      let call = Run id words now in
-      elim (runs_on l past id) as (λ b. Gives c past call
-      (cond b (unless_full l past (running past id words now)) (gone past id))) [
-        | true ↦ by_limit l past (running past id words now) (Gives c past call)
-            (append-nil (first c past))
-            (first_same c past (entry.Run id words (max now (latest past))) refl)
-        | false ↦ append-nil (first c past)
-      ]
+      by_run l past (Gives c past (Run id words now)) id words now (append-nil (first c past))
+      (append-nil (first c past))
+      (λ on room. first_same c past (entry.Run id words (max now (latest past))) refl)
   step_gives c past (Tick now) =
-      let moment = max now (latest past) in
-      gives_tick c now moment past (expired l past moment)
+      by_tick l past (Gives c past (Tick now)) now (append-nil (first c past))
+      (append-nil (first c past))
+      (λ some room. first_same c past (entry.Tick (max now (latest past))) refl)
   step_gives c past (Take id most) =
-      elim (gives_on l past id) as (λ b. gives_on l past id ≡ b
-      → Gives c past (Take id most) (cond b
-      (taking l past id most (take most (unsent l id past))) (gone past id))) [
-        | true ↦ λ on. gives_take c id most past (take most (unsent l id past))
-            (not_ended l past id on) refl
-        | false ↦ λ off. append-nil (first c past)
-      ] refl
+      by_take l past (Gives c past (Take id most)) id most (append-nil (first c past))
+      (append-nil (first c past)) (append-nil (first c past))
+      (λ on some room. first_take c id most past (take most (unsent l id past))
+      (not_ended l past id on) refl)
   step_gives c past (Close id) =
-      elim (reads_on l past id) as (λ b. Gives c past (Close id)
-      (cond b (closing past id) (gone past id))) [
-        | true ↦ first_same c past (entry.Close id) refl
-        | false ↦ append-nil (first c past)
-      ]
+      by_close l past (Gives c past (Close id)) id (append-nil (first c past))
+      (λ on. first_same c past (entry.Close id) refl)
 
   -- a turn's reply gives what it takes of the stream
   pub step_gave : (c : ℕ) (past : List Entry) (call : BookCall)
@@ -185,50 +158,24 @@ module _ (l : Limits) where
   Runs : ℕ → List Entry → BookCall → Turn → Type 0
   Runs c past call turn = runs_of c past ++ ran_by c call turn.reply ≡ runs_of c turn.past
 
-  runs_take : (c id most : ℕ) (past : List Entry) (bytes : List ℕ)
-      → Runs c past (Take id most) (taking l past id most bytes)
-  unfolding Runs
-  runs_take c id most past [] = append-nil _
-  runs_take c id most past (b ∷ bytes) =
-      by_limit l past _ (Runs c past (Take id most)) (append-nil _) (append-nil _)
-
-  runs_tick : (c now moment : ℕ) (past : List Entry) (keys : List (List ℕ))
-      → Runs c past (Tick now) (ticking l past moment keys)
-  unfolding Runs
-  runs_tick c now moment past [] = append-nil _
-  runs_tick c now moment past (key ∷ keys) =
-      by_limit l past _ (Runs c past (Tick now)) (append-nil _) (append-nil _)
-
   runs_step : (c : ℕ) (past : List Entry) (call : BookCall)
       → Runs c past call (book_step l past call)
-  unfolding Runs book_step
+  unfolding Runs
   runs_step c past Admit =
-      by_limit l past (admitting past) (Runs c past Admit) (append-nil _) (append-nil _)
+      by_admit l past (Runs c past Admit) (append-nil _) (λ room. append-nil _)
   runs_step c past (Run id words now) =
-      let call = Run id words now in
-      elim (runs_on l past id) as (λ b. Runs c past call
-      (cond b (unless_full l past (running past id words now)) (gone past id))) [
-        | true ↦ by_limit l past (running past id words now) (Runs c past call) (append-nil _)
-            (elim (id == c) as (λ b. runs_of c past ++ (cond b (words ∷ []) [])
-            ≡ cond b (runs_of c past ++ words ∷ []) (runs_of c past)) [
-              | true ↦ refl
-              | false ↦
-                  append-nil _
-            ])
-        | false ↦ append-nil _
-      ]
+      by_run l past (Runs c past (Run id words now)) id words now (append-nil _) (append-nil _)
+      (λ on room. elim (id == c) as (λ b. runs_of c past ++ (cond b (words ∷ []) [])
+      ≡ cond b (runs_of c past ++ words ∷ []) (runs_of c past))
+      [ true ↦ refl | false ↦ append-nil _ ])
   runs_step c past (Tick now) =
-      let moment = max now (latest past) in
-      runs_tick c now moment past (expired l past moment)
+      by_tick l past (Runs c past (Tick now)) now (append-nil _) (append-nil _)
+      (λ some room. append-nil _)
   runs_step c past (Take id most) =
-      elim (gives_on l past id) as (λ b. Runs c past (Take id most)
-      (cond b (taking l past id most (take most (unsent l id past))) (gone past id))) [
-        | true ↦ runs_take c id most past (take most (unsent l id past))
-        | false ↦ append-nil _
-      ]
+      by_take l past (Runs c past (Take id most)) id most (append-nil _) (append-nil _)
+      (append-nil _) (λ on some room. append-nil _)
   runs_step c past (Close id) =
-      elim (reads_on l past id) as (λ b. Runs c past (Close id)
-      (cond b (closing past id) (gone past id))) [ true ↦ append-nil _ | false ↦ append-nil _ ]
+      by_close l past (Runs c past (Close id)) id (append-nil _) (λ on. append-nil _)
 
   pub step_runs : (c : ℕ) (past : List Entry) (call : BookCall)
       → runs_of c past ++ ran_by c call (book_step l past call).reply
@@ -264,55 +211,21 @@ module _ (l : Limits) where
 
   -- ---- legal histories
 
-  -- what a limit keeps
-  by_room : (past : List Entry) (turn : Turn) → IsLegal l past
-      → (is_full l past ≡ false → IsLegal l turn.past) → IsLegal l (unless_full l past turn).past
-  by_room past turn h does =
-      elim (is_full l past) as (λ b. is_full l past ≡ b
-      → IsLegal l (cond b (full past) turn).past) [ true ↦ λ e. h | false ↦ does ] refl
-
-  take_legal : (past : List Entry) (id most : ℕ) (bytes : List ℕ) → IsLegal l past
-      → gives_on l past id ≡ true
-      → take most (unsent l id past) ≡ bytes → IsLegal l (taking l past id most bytes).past
-  take_legal past id most [] h on e = h
-  take_legal past id most (b ∷ bytes) h on e =
-      by_room past _ h (λ room. (on, room, (λ n. absurd (let no : ⊥ = cc in no)), h))
-
-  tick_legal : (past : List Entry) (moment : ℕ) (keys : List (List ℕ)) → IsLegal l past
-      → latest past ≤ moment → expired l past moment ≡ keys
-      → IsLegal l (ticking l past moment keys).past
-  tick_legal past moment [] h le e = h
-  tick_legal past moment (key ∷ keys) h le e =
-      by_room past _ h (λ room. ((λ n. absurd (let no : ⊥ = cc in no)), room, le, h))
-
   -- a turn on a legal history leaves a legal one
   pub step_legal : (past : List Entry) (call : BookCall) → IsLegal l past
       → IsLegal l (book_step l past call).past
-  unfolding book_step
-  step_legal past Admit h = by_room past (admitting past) h (λ room. (refl, room, h))
+  step_legal past Admit h =
+      by_admit l past (λ t. IsLegal l t.past) h (λ room. (refl, room, h))
   step_legal past (Run id words now) h =
-      elim (runs_on l past id) as (λ b. runs_on l past id ≡ b
-      → IsLegal l (cond b (unless_full l past (running past id words now)) (gone past id)).past) [
-        | true ↦ λ on. by_room past (running past id words now) h
-            (λ room. (on, room, omega arith, h))
-        | false ↦ λ off. h
-      ] refl
+      by_run l past (λ t. IsLegal l t.past) id words now h h
+      (λ on room. (on, room, omega arith, h))
   step_legal past (Tick now) h =
-      let moment = max now (latest past) in
-      tick_legal past moment (expired l past moment) h (omega arith) refl
+      by_tick l past (λ t. IsLegal l t.past) now h h
+      (λ some room. (some, room, omega arith, h))
   step_legal past (Take id most) h =
-      elim (gives_on l past id) as (λ b. gives_on l past id ≡ b
-      → IsLegal l (cond b (taking l past id most (take most (unsent l id past)))
-      (gone past id)).past) [
-        | true ↦ λ on. take_legal past id most (take most (unsent l id past)) h on refl
-        | false ↦ λ off. h
-      ] refl
+      by_take l past (λ t. IsLegal l t.past) id most h h h (λ on some room. (on, room, some, h))
   step_legal past (Close id) h =
-      elim (reads_on l past id) as (λ b. reads_on l past id ≡ b
-      → IsLegal l (cond b (closing past id) (gone past id)).past) [
-        | true ↦ λ on. (on, h)
-        | false ↦ λ off. h
-      ] refl
+      by_close l past (λ t. IsLegal l t.past) id h (λ on. (on, h))
 
   -- ---- the step, where its questions are answered
 
@@ -372,23 +285,6 @@ module _ (l : Limits) where
       → book_step l past (Close id) ≡ closing past id
   unfolding book_step
   close_step past id on = ap (λ v. cond v (closing past id) (gone past id)) on
-
-  taking_count : (past : List Entry) (id most : ℕ) (bytes : List ℕ)
-      → admitted (taking l past id most bytes).past ≡ admitted past
-  taking_count past id most [] = refl
-  taking_count past id most (b ∷ bytes) = by_limit l past _ (λ t. admitted t.past
-      ≡ admitted past) refl refl
-
-  pub take_count : (past : List Entry) (id most : ℕ)
-      → admitted (book_step l past (Take id most)).past ≡ admitted past
-  unfolding book_step
-  take_count past id most =
-      elim (gives_on l past id) as (λ b. admitted
-      (cond b (taking l past id most (take most (unsent l id past))) (gone past id)).past
-      ≡ admitted past) [
-        | true ↦ taking_count past id most (take most (unsent l id past))
-        | false ↦ refl
-      ]
 
   -- ---- a legal history is what steps add
 

@@ -5,11 +5,9 @@ use Rattle.std.proofs.Common.{length-append, inl, inr, slice_index_or, eq-eqb, n
 use Rattle.std.proofs.Common.{length-set}
 use Rattle.std.specs.Prelude.{◌==◌, not}
 use Rattle.std.specs.List.{count_by}
-use Rattle.std.proofs.lemmas.List.Sums.{sum_by-set, sum_by_push, get_or-le-sum_by}
+use Rattle.std.proofs.lemmas.List.Sums.{sum_by-set, sum_by_push}
 use Rattle.std.proofs.lemmas.List.Sums.{count_by-le-length}
 use Rattle.std.proofs.lemmas.List.{get_or_push, get_or_append_left}
-use Rattle.std.proofs.lemmas.List.{set-get_or}
-use Rattle.std.proofs.Math.Seq.{take-append_seam}
 use Rattle.std.proofs.lemmas.Bool.{cases_eq}
 use Rattle.command_words.specs.Space.{Space}
 use Rattle.serial_model.specs.declared.history.Limits.{Limits}
@@ -38,8 +36,9 @@ use Rattle.server_book.specs.Connections.{IsId, connection_at, with_connection, 
 use Rattle.server_book.specs.Sendings.{queued, end_post}
 use Rattle.server_book.specs.Stores.{IsHeld}
 use Rattle.server_book.proofs.Sendings.{at_same, at_other, put_twice}
-use Rattle.server_book.proofs.Remembered.{table_of_past, rows_all}
+use Rattle.server_book.proofs.Remembered.{table_of_past}
 use Rattle.track_table.specs.Table.{TableState}
+use Rattle.serial_model.proofs.Tables.{all_rows}
 use Rattle.serial_model.proofs.TableSize.{table_within}
 use Rattle.serial_model.proofs.Streams.{IsLive, table_live}
 use Rattle.std.proofs.lemmas.Bool.Decides.{nat_tests}
@@ -106,12 +105,6 @@ room_close room left id cs h on live e =
     let c : Connection = record (connection_at cs id) { queue = []; ended = true } in
     omega (arith, h, sum_by-set one_open cs (id - 1) c fresh (omega arith))
 
-pub room_there : (room id : ℕ) (cs : List Connection) → HasRoom room cs → IsId cs id
-    → (connection_at cs id).ended ≡ false → 0 < room
-room_there room id cs h on live =
-    let was : one_open (connection_at cs id) ≡ 1 = ap (λ b. cond (not b) 1 0) live in
-    omega (arith, h, get_or-le-sum_by one_open cs (id - 1) fresh (omega arith))
-
 module _ (l : Limits) (past : List Entry) (space : Space) (keys : TableState)
     (cs : List Connection) (k : Agrees l past space keys cs) where
   -- a connection that may do something is there
@@ -171,7 +164,8 @@ module _ (l : Limits) (past : List Entry) (space : Space) (keys : TableState)
   is_held = subst (λ (t : TableState). IsHeld t.limit t.rows cs) (sym k.table_is) (record {
     table = table_of_past l past;
     short = table_within l past;
-    there = rows_all {P = IsLive l past} cs there_live (table l past) (table_live l past k.legal);
+    there = all_rows {P = IsLive l past} {Q = IsId cs} there_live (table l past)
+        (table_live l past k.legal);
   })
 
   abbrev pub took : ℕ → ℕ → Connection

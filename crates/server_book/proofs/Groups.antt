@@ -16,14 +16,15 @@ use Rattle.serial_model.specs.Laws.{is_among}
 use Rattle.serial_model.specs.History.{Sending, route, routed}
 use Rattle.serial_model.specs.Tracking.{AreApart, Invalidation, drop_group, group, told_of}
 use Rattle.serial_model.proofs.KeyHolders.{keys_apart}
+use Rattle.serial_model.proofs.Each.{in_take}
+use Rattle.serial_model.proofs.Tables.{drop_group_all, holders_all, told_all}
 use Rattle.server_book.specs.declared.connections.Connection.{Connection}
 use Rattle.server_book.specs.Connections.{ConnectionsState, IsId}
 use Rattle.server_book.specs.Sendings.{AreIds, before_posts, modes_of, with_sendings}
 use Rattle.server_book.specs.Stores.{AreThere}
-use Rattle.server_book.proofs.Remembered.{holders_there, there_longer}
+use Rattle.server_book.proofs.Remembered.{there_longer}
 use Rattle.server_book.proofs.Sendings.{AreTo, AreToldThere, before_sendings, length_sendings}
 use Rattle.server_book.proofs.Sendings.{routed_same, routed_there, sendings_append, sent_at}
-use Rattle.server_book.proofs.Sendings.{told_there}
 
 -- the holders of each key, by a table that stays
 abbrev pub each_row : List (List ℕ) → List Held → List Held
@@ -88,28 +89,10 @@ rows_next (r ∷ rows) (suc n) lt =
     ∙ sym (append_assoc (told_of r.key r.holders) (drop_group (take n rows))
     (told_of row.key row.holders))
 
-told_append : (cs : List Connection) (xs ys : List Invalidation) → AreToldThere cs xs
-    → AreToldThere cs ys → AreToldThere cs (xs ++ ys)
-told_append cs [] ys h k = k
-told_append cs (x ∷ xs) ys h k = (h.0, told_append cs xs ys h.1 k)
-
-rows_there : (cs : List Connection) (rows : List Held) → AreThere cs rows
-    → AreToldThere cs (drop_group rows)
-rows_there cs [] h = tt
-rows_there cs (r ∷ rows) h =
-    told_append cs (told_of r.key r.holders) (drop_group rows)
-    (told_there cs (Some (r.key ∷ [])) r.holders h.0) (rows_there cs rows h.1)
-
 pub each_there : (cs : List Connection) (keys : List (List ℕ)) (rows : List Held)
     → AreThere cs rows → AreThere cs (each_row keys rows)
 each_there cs [] rows h = tt
-each_there cs (k ∷ keys) rows h = (holders_there cs k rows h, each_there cs keys rows h)
-
-pub take_there : (cs : List Connection) (n : ℕ) (rows : List Held) → AreThere cs rows
-    → AreThere cs (take n rows)
-take_there cs zero rows h = tt
-take_there cs (suc n) [] h = tt
-take_there cs (suc n) (r ∷ rows) h = (h.0, take_there cs n rows h.1)
+each_there cs (k ∷ keys) rows h = (holders_all (IsId cs) k rows h, each_there cs keys rows h)
 
 row_there : (cs : List Connection) (n : ℕ) (rows : List Held) → AreThere cs rows
     → AreIds cs (slice_index_or rows n nobody).holders
@@ -123,7 +106,7 @@ pub group_to : (cs : List Connection) (keys : List (List ℕ)) (rows : List Held
 group_to cs keys rows there apart =
     routed_there cs (modes_of cs) (group keys rows)
     (subst (AreToldThere cs) (sym (group_told keys rows apart))
-    (rows_there cs (each_row keys rows) (each_there cs keys rows there)))
+    (drop_group_all (IsId cs) (each_row keys rows) (each_there cs keys rows there)))
 
 -- what a group was told is taken back
 pub group_back : (n : ℕ) (old now : ConnectionsState) (keys : List (List ℕ)) (rows : List Held)
@@ -151,7 +134,8 @@ module _ (n : ℕ) (old now : ConnectionsState) (rows : List Held) (k : ℕ)
   pub so_far_there : AreTo old.items so_far
   so_far_there =
       routed_there old.items (modes_of old.items) (drop_group (take k rows))
-      (rows_there old.items (take k rows) (take_there old.items k rows there))
+      (drop_group_all (IsId old.items) (take k rows)
+      (in_take (λ (r : Held). AreIds old.items r.holders) k rows there))
 
   module _ (told : now ≡ with_sendings n so_far old) where
     same_length : length now.items ≡ length old.items
@@ -195,7 +179,7 @@ module _ (n : ℕ) (old now : ConnectionsState) (rows : List Held) (k : ℕ)
         ∙ ap (λ x. with_sendings n (routed (modes_of now.items) (told_of row.key x)) now) is
         ∙ ap (λ ss. with_sendings n ss now)
         (routed_same now.items (modes_of now.items) m at_row same_modes
-        (told_there now.items (Some (row.key ∷ [])) row.holders holders_still))
+        (told_all (IsId now.items) (Some (row.key ∷ [])) row.holders holders_still))
         ∙ ap (λ s. with_sendings n (routed m at_row) s) told
         ∙ sym (sendings_append n so_far (routed m at_row) old)
         ∙ ap (λ ss. with_sendings n ss old)

@@ -1,7 +1,7 @@
 -- The plans of commands, and what a plan does after a past.
 use Rattle.std.proofs.Common.{◌≡◌, ℕ, List, [], ◌∷◌, Result, Ok, Err, refl, ap, sym, subst}
 use Rattle.std.proofs.Common.{Option, ◌∙◌, Bool, true, false, cond, inl, inr}
-use Rattle.std.specs.Prelude.{IfOk, OnOk, OnErr, codes, if◌then◌else◌, Some, None}
+use Rattle.std.specs.Prelude.{IfOk, codes, if◌then◌else◌}
 use Rattle.resp_value.specs.declared.octets.NoMemory as memory
 use Rattle.resp_value.specs.declared.value.Value.TheVariants.{Simple}
 use Rattle.command_words.specs.declared.command.Command.{Command}
@@ -14,15 +14,10 @@ use Rattle.command_words.specs.Effects.{effect, has_row}
 use Rattle.command_words.specs.Expiry.{without_due}
 use Rattle.command_words.specs.Queries.{read}
 use Rattle.command_words.specs.declared.command.WordFault.{WordFault}
-use Rattle.command_words.specs.declared.command.WordFault.TheVariants.{Unknown, Arity, Syntax}
-use Rattle.command_words.specs.declared.command.WordFault.TheVariants.{BadNumber, BadExpire}
-use Rattle.command_words.specs.declared.command.WordFault.TheVariants.{NoMemory}
+use Rattle.command_words.specs.declared.command.WordFault.TheVariants.{Unknown}
 use Rattle.command_words.specs.Reading.{IsReading}
-use Rattle.command_words.specs.Space.{Space, deadline_at}
-use Rattle.command_set.specs.InStep as step
+use Rattle.command_words.specs.Space.{Space}
 use Rattle.command_set.specs.Runs.{AreDue, taken_back}
-use Rattle.expiry.specs.declared.index.Deadline.{Deadline}
-use Rattle.expiry.specs.Index.{has}
 use Rattle.serial_model.specs.declared.history.Entry.{Entry}
 use Rattle.serial_model.specs.declared.history.Limits.{Limits}
 use Rattle.serial_model.specs.declared.mode.Mode.{Mode}
@@ -32,36 +27,14 @@ use Rattle.serial_model.specs.Modes.{Memory, Remembers, OwnEffect, own_effect, i
 use Rattle.serial_model.specs.Tracking.{AreApart}
 use Rattle.serial_model.specs.History.{served, served_reading, effect_of, ran_over, ran, made_of}
 use Rattle.serial_model.specs.History.{runner, keyspace, made, signals, expired}
-use Rattle.serial_model.proofs.DueKeys.{is_at, due_by_index}
+use Rattle.serial_model.proofs.DueKeys.{due_by_index}
 use Rattle.serial_model.proofs.ServedRows.{data_effect, data_own, row_of, signalled_keys}
 use Rattle.serial_model.proofs.ServedRows.{reads_or_writes}
-use Rattle.server_book.specs.declared.deed.Deed.{Deed}
 use Rattle.server_book.specs.declared.deed.Deed.TheVariants.{Nothing, Remember, Forget}
 use Rattle.server_book.specs.declared.plan.Plan.{Plan}
 use Rattle.server_book.specs.declared.plan.Played.{Played}
 use Rattle.server_book.specs.Plans.{IsPlan, IsQuiet, IsSound, signals_of, memory_of, deed_for}
 use Rattle.server_book.specs.Played.{HasPlayed, IsPlayed}
-
--- a fault that is answered is the reading
-pub known_fault : (fault : WordFault) (read : Result Command WordFault) → (fault ≡ NoMemory → ⊥)
-    → IsReading (Err fault) read → read ≡ Err fault
-known_fault Unknown read other h = h
-known_fault Arity read other h = h
-known_fault Syntax read other h = h
-known_fault BadNumber read other h = h
-known_fault BadExpire read other h = h
-known_fault NoMemory read other h = absurd (other refl)
-
--- words that read as no command are none that is served
-pub served_fault : (fault : WordFault) (read : Result Command WordFault)
-    → IsReading (Err fault) read
-    → IsReading (Err fault) (served read)
-served_fault Unknown read h = ap served h
-served_fault Arity read h = ap served h
-served_fault Syntax read h = ap served h
-served_fault BadNumber read h = ap served h
-served_fault BadExpire read h = ap served h
-served_fault NoMemory read h = tt
 
 -- what follows for a plan follows where there is one
 pub if_planned : (r : Result Plan memory.NoMemory) (P Q : Plan → Type 0) → ((p : Plan) → P p → Q p)
@@ -113,20 +86,6 @@ tracks by words o false space moment =
       stays = refl;
     }
 
-pub tracking_planned : (r : Result Plan memory.NoMemory) (by : Runner) (words : List (List ℕ))
-    (options : TrackOptions) (read : Result Command WordFault)
-    → IfOk r (λ p. p ≡ tracking_plan by.mode options.on) → read ≡ Ok (ClientTracking options)
-    → IfOk r (λ p. (s : Space) (m : ℕ) → IsQuiet p by words read s m)
-tracking_planned r by words options read h e =
-    if_planned r _ _ (λ p is s m. subst (λ x. IsQuiet p by words x s m) (sym e)
-    (subst (λ x. IsQuiet x by words (Ok (ClientTracking options)) s m) (sym is)
-    (tracks by words options options.on s m))) h
-
--- words that read so are served so
-pub served_as_tracking : (options : TrackOptions) → is_served_tracking options ≡ true
-    → served (Ok (ClientTracking options)) ≡ Ok (ClientTracking options)
-served_as_tracking options h = ap (λ b. cond b (Ok (ClientTracking options)) (Err Unknown)) h
-
 pub tracking_unknown : (options : TrackOptions) → is_served_tracking options ≡ false
     → served (Ok (ClientTracking options)) ≡ Err Unknown
 tracking_unknown options h = ap (λ b. cond b (Ok (ClientTracking options)) (Err Unknown)) h
@@ -145,16 +104,10 @@ other_unknown c h no_hello no_tracking = ap (λ b. cond b (Ok c) (Err Unknown)) 
 
 -- ---- the keys that are due
 
-same_at : (at : ℕ) (o : Option ℕ) → step.is_at at o ≡ is_at at o
-same_at at None = refl
-same_at at (Some d) = refl
-
 pub due_is : (moment : ℕ) (space : Space) (keys : List (List ℕ)) → AreDue moment space keys
     → keys ≡ due_keys moment space
 due_is moment space keys h =
-    h.listed
-    ∙ due_by_index moment space h.index h.step.ordered
-    (λ d. h.step.each d ∙ same_at d.at (deadline_at d.key space))
+    h.listed ∙ due_by_index moment space h.index h.step.ordered h.step.each
 
 -- ---- the deed of a data command
 
@@ -262,24 +215,6 @@ pub played_as : (r : Result Played memory.NoMemory) (by : Runner) (words : List 
     → IsPlayed by words read moment r old new
 played_as r by words read c moment old new h e =
     subst (λ x. IsPlayed by words x moment r old new) (sym e) (h words)
-
--- and of words that leave the keyspace
-pub quiet_played : (r : Result Played memory.NoMemory) (plan : Plan) (by : Runner)
-    (words : List (List ℕ)) (read : Result Command WordFault) (moment : ℕ) (old new : Space)
-    → ((s : Space) (m : ℕ) → IsQuiet plan by words read s m)
-    → IfOk r (λ p. p.plan ≡ plan) → OnOk r (new ≡ without_due moment old)
-    → IfOk r (λ p. p.expired ≡ due_keys moment old)
-    → IfOk r (λ p. taken_back p.undo new ≡ old) → OnErr r (new ≡ old)
-    → IsPlayed by words read moment r old new
-quiet_played (Ok p) plan by words read moment old new quiet same left due back err =
-    let q = quiet (without_due moment old) moment in record {
-      expired = due;
-      plan = subst (λ x. IsPlan x by words read (without_due moment old) moment) (sym same)
-          q.planned;
-      space = left ∙ sym q.stays;
-      undo = back;
-    }
-quiet_played (Err e) plan by words read moment old new quiet same left due back err = err
 
 -- ---- a plan does what the words do after the past
 

@@ -1,6 +1,6 @@
 -- A Run sends what its entry sends, and leaves what the history says.
 use Rattle.std.proofs.Common.{◌≡◌, ◌+◌, ◌-◌, ◌<◌, ◌≤◌, ℕ, List, [], ◌∷◌, ◌++◌, length, sym, ap}
-use Rattle.std.proofs.Common.{subst, ◌∙◌, Bool}
+use Rattle.std.proofs.Common.{subst, ◌∙◌}
 use Rattle.std.proofs.Common.{refl, arith, true, false, cond, inl, inr, append-nil, length-set}
 use Rattle.std.proofs.Common.{append_assoc, eq-eqb, ne_eqb}
 use Rattle.std.specs.Prelude.{◌==◌, ◌&&◌, not}
@@ -12,7 +12,6 @@ use Rattle.track_table.specs.Table.{TableState, dropped, kept}
 use Rattle.serial_model.specs.declared.history.Limits.{Limits}
 use Rattle.serial_model.specs.declared.history.Entry.{Entry}
 use Rattle.serial_model.specs.declared.history.Entry.TheVariants as entry
-use Rattle.serial_model.specs.declared.history.Post.{Post}
 use Rattle.serial_model.specs.declared.mode.Mode.{Mode}
 use Rattle.serial_model.specs.Modes.{Memory}
 use Rattle.serial_model.specs.Tracking.{Invalidation, drop_group, group, ids_where, signal_group}
@@ -24,21 +23,19 @@ use Rattle.serial_model.specs.History.{ran, signals, after_run, table, table_the
 use Rattle.serial_model.specs.History.{expiry_group, is_tracking, tracking, admitted}
 use Rattle.serial_model.proofs.Streams.{behind, behind_live, expiry_live, run_bytes, run_sends_none}
 use Rattle.serial_model.proofs.Streams.{IsLive, unsent_run, unsent_ended}
-use Rattle.serial_model.proofs.Tables.{sent_to-append}
+use Rattle.serial_model.proofs.Tables.{all_to, sent_to-append}
 use Rattle.serial_model.proofs.ModeSteps.{mode_own, mode_other}
 use Rattle.server_book.specs.declared.connections.Connection.{Connection}
-use Rattle.server_book.specs.declared.deed.Deed.{Deed}
 use Rattle.server_book.specs.declared.plan.Plan.{Plan}
 use Rattle.server_book.specs.Connections.{ConnectionsState, IsId, connection_at, with_connection}
 use Rattle.server_book.specs.Plans.{signals_of, memory_of, told_by, kept_by}
-use Rattle.server_book.specs.RunSendings.{expiry_told, reply_sent, command_told, run_sendings}
-use Rattle.server_book.specs.Sendings.{modes_of, with_sendings, message_post, tracks, tracking_ids}
+use Rattle.server_book.specs.RunSendings.{expiry_told, reply_sent, command_told}
+use Rattle.server_book.specs.Sendings.{modes_of, message_post, tracks, tracking_ids}
 use Rattle.server_book.specs.BookState.{Agrees, connection_of}
 use Rattle.server_book.proofs.Sendings.{at_same, at_other, AreToldThere, AreTo, sent_at, more}
 use Rattle.server_book.proofs.Sendings.{length_sendings, posts_sendings, routed_there, routed_same}
 use Rattle.server_book.proofs.Sendings.{told_longer, ids_same}
-use Rattle.server_book.proofs.Remembered.{told_all}
-use Rattle.server_book.proofs.BookTurns.{is_id, kept_of, there_live, switched_is, same_parts}
+use Rattle.server_book.proofs.BookTurns.{is_id, there_live, switched_is, same_parts}
 
 pub posts_append : (n : ℕ) (xs ys : List (ℕ × Sending))
     → posts_of n (xs ++ ys) ≡ posts_of n xs ++ posts_of n ys
@@ -71,7 +68,7 @@ module _ (l : Limits) (past : List Entry) (space : Space) (keys : TableState)
   pub first_there : AreToldThere cs first_told
   first_there =
       subst (AreToldThere cs) (sym first_is)
-      (told_all {P = IsLive l past} cs (there_live l past space keys cs k)
+      (all_to {P = IsLive l past} {Q = IsId cs} (there_live l past space keys cs k)
       (expiry_group l past m) (expiry_live l past m k.legal))
 
   abbrev pub early : List (ℕ × Sending)
@@ -232,7 +229,7 @@ module _ (l : Limits) (past : List Entry) (space : Space) (keys : TableState)
       told_there =
           told_longer cs second.items told (omega (arith, length_second))
           (subst (AreToldThere cs) (sym told_is)
-          (told_all {P = IsLive l past} cs (there_live l past space keys cs k)
+          (all_to {P = IsLive l past} {Q = IsId cs} (there_live l past space keys cs k)
           (behind l past id words m) (behind_live l past id words m k.legal on)))
 
       abbrev pub sent : List (ℕ × Sending)

@@ -17,6 +17,9 @@ use Rattle.serial_model.specs.declared.history.Posted.{Posted}
 use Rattle.serial_model.specs.Tracking.{Invalidation, told_to, push_of, ids_where}
 use Rattle.serial_model.specs.History.{Sending, Message, End, sending_bytes, posted_of, spelled}
 use Rattle.serial_model.specs.History.{sent_bytes, sent_to, routed, route, posts_of}
+use Rattle.serial_model.specs.Each.{AllIn, AllTo}
+use Rattle.serial_model.proofs.Each.{all_in, in_append, in_at, in_front, in_take}
+use Rattle.serial_model.proofs.Tables.{ids_all, told_all}
 use Rattle.server_book.specs.declared.connections.Connection.{Connection}
 use Rattle.server_book.specs.Connections.{ConnectionsState, IsId, connection_at, with_connection}
 use Rattle.server_book.specs.Connections.{fresh, ArePosted}
@@ -61,10 +64,16 @@ put_twice (c ∷ cs) (suc at) a b = ap (λ l. c ∷ l) (put_twice cs at a b)
 
 -- ---- posts are of connections that are there
 
+-- an id of a list of connections is one of a longer list
+pub id_longer : (cs ds : List Connection) → length cs ≤ length ds → (id : ℕ) → IsId cs id
+    → IsId ds id
+id_longer cs ds le id on = (on.0, omega (arith, on.1))
+
 pub posted_longer : (cs ds : List Connection) (ps : List Post) → length cs ≤ length ds
     → ArePosted cs ps → ArePosted ds ps
-posted_longer cs ds [] le h = tt
-posted_longer cs ds (p ∷ ps) le h = ((h.0.0, omega (arith, h.0.1)), posted_longer cs ds ps le h.1)
+posted_longer cs ds ps le h =
+    all_in {A = Post} {P = λ p. IsId cs p.id} {Q = λ p. IsId ds p.id}
+    (λ p. id_longer cs ds le p.id) ps h
 
 pub posted_set : (cs : List Connection) (at : ℕ) (c : Connection) (ps : List Post)
     → ArePosted cs ps → ArePosted (slice_set cs at c) ps
@@ -73,8 +82,7 @@ posted_set cs at c ps h =
 
 pub posted_more : (cs : List Connection) (ps : List Post) (p : Post) → ArePosted cs ps
     → IsId cs p.id → ArePosted cs (ps ++ p ∷ [])
-posted_more cs [] p h on = (on, tt)
-posted_more cs (q ∷ ps) p h on = (h.0, posted_more cs ps p h.1 on)
+posted_more cs ps p h on = in_append (λ (p : Post). IsId cs p.id) ps (p ∷ []) h (on, tt)
 
 pub posted_last : (cs : List Connection) (ps : List Post) (p : Post) → ArePosted cs (ps ++ p ∷ [])
     → ArePosted cs ps × IsId cs p.id
@@ -120,13 +128,13 @@ before_sending n s state on =
 
 -- sendings to connections that are there
 abbrev pub AreTo : List Connection → List (ℕ × Sending) → Type 0
-AreTo cs [] = Unit {0}
-AreTo cs (s ∷ ss) = IsId cs s.0 × AreTo cs ss
+AreTo cs ss = AllIn (λ (s : ℕ × Sending). IsId cs s.0) ss
 
 pub to_longer : (cs ds : List Connection) (ss : List (ℕ × Sending)) → length cs ≤ length ds
     → AreTo cs ss → AreTo ds ss
-to_longer cs ds [] le h = tt
-to_longer cs ds (s ∷ ss) le h = ((h.0.0, omega (arith, h.0.1)), to_longer cs ds ss le h.1)
+to_longer cs ds ss le h =
+    all_in {A = ℕ × Sending} {P = λ s. IsId cs s.0} {Q = λ s. IsId ds s.0}
+    (λ s. id_longer cs ds le s.0) ss h
 
 pub length_queued : (cs : List Connection) (id : ℕ) (bytes : List ℕ)
     → length (queued cs id bytes) ≡ length cs
@@ -306,23 +314,13 @@ sent_at n i (s ∷ ss) state on h =
 -- ---- whom a key's holders' group goes to
 
 abbrev pub AreToldThere : List Connection → List Invalidation → Type 0
-AreToldThere cs [] = Unit {0}
-AreToldThere cs (i ∷ is) = IsId cs i.to × AreToldThere cs is
+AreToldThere cs is = AllTo (IsId cs) is
 
 pub told_longer : (cs ds : List Connection) (is : List Invalidation) → length cs ≤ length ds
     → AreToldThere cs is → AreToldThere ds is
-told_longer cs ds [] le h = tt
-told_longer cs ds (i ∷ is) le h = ((h.0.0, omega (arith, h.0.1)), told_longer cs ds is le h.1)
-
-pub told_there : (cs : List Connection) (keys : Option (List (List ℕ))) (ids : List ℕ)
-    → AreIds cs ids → AreToldThere cs (told_to keys ids)
-told_there cs keys [] h = tt
-told_there cs keys (id ∷ ids) h = (h.0, told_there cs keys ids h.1)
-
-to_append : (cs : List Connection) (xs ys : List (ℕ × Sending)) → AreTo cs xs → AreTo cs ys
-    → AreTo cs (xs ++ ys)
-to_append cs [] ys h k = k
-to_append cs (x ∷ xs) ys h k = (h.0, to_append cs xs ys h.1 k)
+told_longer cs ds is le h =
+    all_in {A = Invalidation} {P = λ i. IsId cs i.to} {Q = λ i. IsId ds i.to}
+    (λ i. id_longer cs ds le i.to) is h
 
 route_there : (cs : List Connection) (m : Mode) (i : Invalidation) → IsId cs i.to
     → AreTo cs (route m i)
@@ -336,8 +334,8 @@ pub routed_there : (cs : List Connection) (m : ℕ → Mode) (is : List Invalida
     → AreToldThere cs is → AreTo cs (routed m is)
 routed_there cs m [] h = tt
 routed_there cs m (i ∷ is) h =
-    to_append cs (route (m i.to) i) (routed m is) (route_there cs (m i.to) i h.0)
-    (routed_there cs m is h.1)
+    in_append (λ (s : ℕ × Sending). IsId cs s.0) (route (m i.to) i) (routed m is)
+    (route_there cs (m i.to) i h.0) (routed_there cs m is h.1)
 
 -- routes by modes that agree on those that are there
 pub routed_same : (cs : List Connection) (m n : ℕ → Mode) (is : List Invalidation)
@@ -369,18 +367,6 @@ told_next m keys (id ∷ ids) (suc n) lt =
     (routed m (told_to keys (take n ids)))
     (route (m at) (record { to = at; keys = keys })))
 
-pub ids_at : (cs : List Connection) (ids : List ℕ) (n : ℕ) → AreIds cs ids → n < length ids
-    → IsId cs (slice_index_or ids n 0)
-ids_at cs [] n h lt = absurd (omega arith)
-ids_at cs (id ∷ ids) zero h lt = h.0
-ids_at cs (id ∷ ids) (suc n) h lt = ids_at cs ids n h.1 (omega arith)
-
-pub ids_take : (cs : List Connection) (ids : List ℕ) (n : ℕ) → AreIds cs ids
-    → AreIds cs (take n ids)
-ids_take cs ids zero h = tt
-ids_take cs [] (suc n) h = tt
-ids_take cs (id ∷ ids) (suc n) h = (h.0, ids_take cs ids n h.1)
-
 -- what the first holders of a key are sent
 abbrev pub told_first : List Connection → Option (List (List ℕ)) → List ℕ → ℕ → List (ℕ × Sending)
 told_first cs keys ids k = routed (modes_of cs) (told_to keys (take k ids))
@@ -390,7 +376,7 @@ pub first_there : (cs : List Connection) (keys : Option (List (List ℕ))) (ids 
     → AreTo cs (told_first cs keys ids k)
 first_there cs keys ids k h =
     routed_there cs (modes_of cs) (told_to keys (take k ids))
-    (told_there cs keys (take k ids) (ids_take cs ids k h))
+    (told_all (IsId cs) keys (take k ids) (in_take (IsId cs) k ids h))
 
 module _ (n : ℕ) (keys : Option (List (List ℕ))) (ids : List ℕ) (k : ℕ)
     (old now : ConnectionsState) (lt : k < length ids)
@@ -399,7 +385,7 @@ module _ (n : ℕ) (keys : Option (List (List ℕ))) (ids : List ℕ) (k : ℕ)
   -- the next holder is there, and its mode is as before
   pub next_there : IsId now.items (slice_index_or ids k 0)
   next_there =
-      let on = ids_at old.items ids k there lt in
+      let on = in_at (IsId old.items) ids k 0 there lt in
       let same : length now.items ≡ length old.items =
       ap (λ (s : ConnectionsState). length s.items) so_far
       ∙ length_sendings n (told_first old.items keys ids k) old in
@@ -411,7 +397,7 @@ module _ (n : ℕ) (keys : Option (List (List ℕ))) (ids : List ℕ) (k : ℕ)
       let id = slice_index_or ids k 0 in
       ap (λ (s : ConnectionsState). (connection_at s.items id).mode) so_far
       ∙ ap (λ (c : Connection). c.mode) (sent_at n id (told_first old.items keys ids k) old
-      (ids_at old.items ids k there lt) (first_there old.items keys ids k there))
+      (in_at (IsId old.items) ids k 0 there lt) (first_there old.items keys ids k there))
 
   told_step : (next : ConnectionsState) (m : Mode)
       → m ≡ (connection_at now.items (slice_index_or ids k 0)).mode
@@ -460,14 +446,6 @@ module _ (n : ℕ) (keys : Option (List (List ℕ))) (ids : List ℕ) (k : ℕ)
 
 -- ---- those that track
 
-pub ids_next : (test : ℕ → Bool) (n : ℕ)
-    → ids_where test (n + 1)
-    ≡ cond (test (n + 1)) (ids_where test n ++ (n + 1) ∷ []) (ids_where test n)
-ids_next test n =
-    let e : n + 1 ≡ suc n = omega arith in
-    ap (ids_where test) e
-    ∙ ap (λ k. cond (test k) (ids_where test n ++ k ∷ []) (ids_where test n)) (sym e)
-
 pub ids_same : (f g : ℕ → Bool) (n : ℕ) → ((i : ℕ) → 0 < i → i ≤ n → f i ≡ g i)
     → ids_where f n ≡ ids_where g n
 ids_same f g zero same = refl
@@ -477,28 +455,16 @@ ids_same f g (suc n) same =
     (same (suc n) (omega arith) (omega arith))
     ∙ ap (λ ids. cond (g (suc n)) (ids ++ suc n ∷ []) ids) rest
 
-ids_more : (cs : List Connection) (xs : List ℕ) (id : ℕ) → AreIds cs xs → IsId cs id
-    → AreIds cs (xs ++ id ∷ [])
-ids_more cs [] id h on = (on, tt)
-ids_more cs (x ∷ xs) id h on = (h.0, ids_more cs xs id h.1 on)
-
 pub ids_there : (cs : List Connection) (test : ℕ → Bool) (n : ℕ) → n ≤ length cs
     → AreIds cs (ids_where test n)
-ids_there cs test zero le = tt
-ids_there cs test (suc n) le =
-    let rest = ids_there cs test n (omega (arith, le)) in
-    elim (test (suc n)) as (λ b. AreIds cs
-    (cond b (ids_where test n ++ suc n ∷ []) (ids_where test n))) [
-      | true ↦ ids_more cs (ids_where test n) (suc n) rest (omega arith, omega (arith, le))
-      | false ↦ rest
-    ]
+ids_there cs test n le =
+    ids_all (IsId cs) test n (λ id some most _. (some, omega (arith, le, most)))
 
 -- ---- the last post
 
 pub posted_front : (cs : List Connection) (ps qs : List Post) → ArePosted cs (ps ++ qs)
     → ArePosted cs ps
-posted_front cs [] qs h = tt
-posted_front cs (p ∷ ps) qs h = (h.0, posted_front cs ps qs h.1)
+posted_front cs ps qs h = in_front (λ (p : Post). IsId cs p.id) ps qs h
 
 pub unqueued_is : (cs : List Connection) (p : Post) (c : Connection) (queue : List ℕ) (left : ℕ)
     → c ≡ connection_at cs p.id → left ≡ length c.queue - size_of p.what

@@ -1,11 +1,12 @@
 -- A Run that memory broke off is taken back.
-use Rattle.std.proofs.Common.{◌≡◌, ◌<◌, ◌≤◌, ℕ, List, [], ◌∷◌, ◌++◌, length, sym, ap, subst, ◌∙◌}
+use Rattle.std.proofs.Common.{◌≡◌, ◌≤◌, ℕ, List, [], ◌∷◌, ◌++◌, length, sym, ap, subst, ◌∙◌}
 use Rattle.std.proofs.Common.{◌-◌, refl, arith, length-set}
 use Rattle.track_table.specs.declared.table.Held.{Held}
 use Rattle.serial_model.specs.declared.history.Post.{Post}
 use Rattle.serial_model.specs.declared.mode.Mode.{Mode}
 use Rattle.serial_model.specs.History.{Sending, routed}
 use Rattle.serial_model.specs.Tracking.{AreApart, group, without_keys}
+use Rattle.serial_model.proofs.Tables.{without_keys_all}
 use Rattle.serial_model.proofs.TableSize.{without_keys_within}
 use Rattle.server_book.specs.declared.connections.Connection.{Connection}
 use Rattle.server_book.specs.Connections.{ArePosted, ConnectionsState, IsId, connection_at}
@@ -13,7 +14,7 @@ use Rattle.server_book.specs.RunSendings.{with_mode}
 use Rattle.server_book.specs.Sendings.{before_posts, message_post, modes_of, queued, with_sendings}
 use Rattle.server_book.specs.Stores.{AreThere, IsHeld}
 use Rattle.server_book.proofs.Groups.{group_back, group_to}
-use Rattle.server_book.proofs.Remembered.{there_longer, without_keys_table, without_keys_there}
+use Rattle.server_book.proofs.Remembered.{there_longer, without_keys_table}
 use Rattle.server_book.proofs.Sendings.{before_last, before_mode, length_queued, length_sendings}
 use Rattle.server_book.proofs.Sendings.{mode_back, mode_same, posted_longer, posted_more}
 use Rattle.server_book.proofs.Sendings.{posted_sendings, unqueued_queued}
@@ -25,7 +26,7 @@ held_left limit keys rows cs ds le h = record {
   table = without_keys_table keys rows h.table;
   short = omega (arith, h.short, without_keys_within keys rows);
   there = there_longer cs ds (without_keys keys rows) le
-      (without_keys_there cs keys rows h.there);
+      (without_keys_all (IsId cs) keys rows h.there);
 }
 
 -- the holders of the keys that left were told

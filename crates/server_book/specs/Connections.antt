@@ -1,7 +1,8 @@
 -- Connections by their ids, which begin at 1.
-use Rattle.std.specs.Prelude.{◌-◌, ◌<◌, ◌≤◌, ◌&&◌, ℕ, List, [], ◌∷◌, Bool, false, not, nat_lt}
+use Rattle.std.specs.Prelude.{◌-◌, ◌<◌, ◌≤◌, ◌&&◌, ℕ, List, [], Bool, false, not, nat_lt}
 use Rattle.std.specs.Prelude.{length, nat_le}
 use Rattle.std.specs.Prelude.{slice_index_or, slice_set}
+use Rattle.serial_model.specs.Each.{AllIn}
 use Rattle.serial_model.specs.Modes.{first_mode}
 use Rattle.serial_model.specs.declared.history.Post.{Post}
 use Rattle.server_book.specs.declared.connections.Connection.{Connection}
@@ -34,8 +35,7 @@ is_open connection = not connection.ended
 
 -- each post is of a connection that is there
 abbrev pub ArePosted : List Connection → List Post → Type 0
-ArePosted connections [] = Unit {0}
-ArePosted connections (post ∷ posts) = IsId connections post.id × ArePosted connections posts
+ArePosted connections posts = AllIn (λ (post : Post). IsId connections post.id) posts
 
 -- and there is room for one
 pub record HoldsPosts (connections : List Connection) (posts : List Post) (room : ℕ) : Type 0 where

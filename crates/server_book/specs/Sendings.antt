@@ -5,6 +5,7 @@ use Rattle.serial_model.specs.declared.mode.Mode.{Mode}
 use Rattle.serial_model.specs.declared.history.Post.{Post}
 use Rattle.serial_model.specs.declared.history.Posted.{Posted}
 use Rattle.serial_model.specs.declared.history.Posted.TheVariants.{Message, End}
+use Rattle.serial_model.specs.Each.{AllIn}
 use Rattle.serial_model.specs.Tracking.{ids_where}
 use Rattle.serial_model.specs.History.{Sending, sending_bytes, posted_of}
 use Rattle.server_book.specs.declared.connections.Connection.{Connection}
@@ -28,8 +29,7 @@ abbrev pub tracking_ids : List Connection → List ℕ
 tracking_ids connections = ids_where (tracks connections) (length connections)
 
 abbrev pub AreIds : List Connection → List ℕ → Type 0
-AreIds connections [] = Unit {0}
-AreIds connections (id ∷ ids) = IsId connections id × AreIds connections ids
+AreIds connections ids = AllIn (IsId connections) ids
 
 -- bytes behind those that a connection has not taken
 abbrev pub queued : List Connection → ℕ → List ℕ → List Connection

@@ -19,8 +19,7 @@ use Rattle.serial_model.specs.History.{IsLegal}
 use Rattle.serial_model.specs.Steps.{Turn, book_step, gone, full, running, taking, closing}
 use Rattle.serial_model.specs.Steps.{unless_full}
 use Rattle.serial_model.specs.Laws.{Extends}
-use Rattle.serial_model.proofs.Others.{by_limit, extends_none, extends_more, run_extends}
-use Rattle.serial_model.proofs.Others.{take_extends, close_extends}
+use Rattle.serial_model.proofs.Others.{by_limit, extends_none, extends_more, others_extend}
 use Rattle.serial_model.proofs.Streams.{not_ended, unsent_live}
 use Rattle.serial_model.proofs.Turning.{step_legal}
 use Rattle.script_text.specs.declared.line.Line.{Line}
@@ -262,18 +261,18 @@ pub run_carries : (s : Session) (now : ℕ) (words : List (List ℕ)) →
 run_carries s now words =
     carries_turn s (call.Run s.link.id words now) words
     (run_adds s.limits s.past s.link.id now words)
-    (λ d n. run_extends s.limits d s.link.id now words s.past n)
+    (λ d n. others_extend s.limits d s.past (call.Run s.link.id words now) n)
 
 pub take_carries : (s : Session) (most : ℕ) →
     let t : Turn = book_step s.limits s.past (call.Take s.link.id most) in
     Carries s (with_past s t.past) (reply_lines s.link.name [] t.reply)
 take_carries s most =
     carries_turn s (call.Take s.link.id most) [] (take_adds s.limits s.past s.link.id most)
-    (λ d n. take_extends s.limits d s.link.id most s.past n)
+    (λ d n. others_extend s.limits d s.past (call.Take s.link.id most) n)
 
 pub close_carries : (s : Session) →
     let t : Turn = book_step s.limits s.past (call.Close s.link.id) in
     Carries s (with_past s t.past) (reply_lines s.link.name [] t.reply)
 close_carries s =
     carries_turn s (call.Close s.link.id) [] (close_adds s.limits s.past s.link.id)
-    (λ d n. close_extends s.limits d s.link.id s.past n)
+    (λ d n. others_extend s.limits d s.past (call.Close s.link.id) n)

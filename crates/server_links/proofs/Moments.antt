@@ -14,7 +14,7 @@ use Rattle.serial_model.specs.History.{IsLegal, expired, is_full, latest}
 use Rattle.serial_model.specs.Laws.{Extends}
 use Rattle.serial_model.specs.Steps.{BookStep, Turn, book_step, full}
 use Rattle.serial_model.specs.Steps.{ticking as turned}
-use Rattle.serial_model.proofs.Others.{tick_extends}
+use Rattle.serial_model.proofs.Others.{others_extend}
 use Rattle.serial_model.proofs.Turning.{step_legal, tick_step}
 use Rattle.script_text.specs.declared.line.Line.{Line}
 use Rattle.script_text.specs.declared.line.Line.TheVariants as line
@@ -155,7 +155,7 @@ module _ (l : Limits) (heard : ℕ → List ℕ) (said : List ℕ
       (subst (λ (t : Turn). IsLegal w.limits t.past) is
       (step_legal w.limits w.past (call.Tick w.now) s.history.legal))
       (λ c. subst (λ (t : Turn). Extends w.limits c w.past t.past) is
-      (tick_extends w.limits c w.now w.past)) in
+      (others_extend w.limits c w.past (call.Tick w.now) tt)) in
       meets_once ByTick PartByTick w _ _ None (λ e. m) still_part (stands_part l _ _ _ _ m)
 
   turn_stands : (keys : List (List ℕ))

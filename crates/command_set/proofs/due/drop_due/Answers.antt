@@ -1,8 +1,8 @@
 use Rattle.std.proofs.Common.{◌≡◌, ap, sym, subst, ◌∙◌}
 use Rattle.command_words.specs.Expiry.{without_due}
 use Rattle.command_words.specs.Keys.{remove_each}
-use Rattle.expiry.specs.Index.{left}
-use Rattle.command_set.specs.InStep.{InStep, keys_of}
+use Rattle.expiry.specs.Index.{keys_of, left}
+use Rattle.command_set.specs.InStep.{InStep}
 use Rattle.command_set.proofs.PastDeadlines.{dropped, left_in_step}
 use Rattle.command_set.proofs.due.drop_due.Goals as goal
 

@@ -1,5 +1,5 @@
 use Rattle.std.proofs.Common.{◌≡◌, take}
-use Rattle.command_set.specs.InStep.{keys_of}
+use Rattle.expiry.specs.Index.{keys_of}
 use Rattle.command_set.proofs.due.due_keys.Given as goal
 
 abbrev pub invariant-loop-deadline : goal.invariant-loop-deadline

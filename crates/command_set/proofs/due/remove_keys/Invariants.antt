@@ -1,6 +1,6 @@
 use Rattle.std.proofs.Common.{◌≡◌, drop}
 use Rattle.command_words.specs.Keys.{remove_each}
-use Rattle.command_set.specs.InStep.{keys_of}
+use Rattle.expiry.specs.Index.{keys_of}
 use Rattle.command_set.proofs.due.remove_keys.Given as goal
 
 abbrev pub invariant-loop-deadline : goal.invariant-loop-deadline

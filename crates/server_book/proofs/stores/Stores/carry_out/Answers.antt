@@ -2,12 +2,11 @@ use Rattle.std.proofs.Common.{◌≤◌, ◌++◌, ap, ◌∙◌, sym, arith, le
 use Rattle.track_table.specs.Table.{without_connection}
 use Rattle.serial_model.specs.History.{routed}
 use Rattle.serial_model.specs.Tracking.{drop_group, group, told_to, without_keys}
-use Rattle.serial_model.proofs.TableSize.{without_keys_within}
+use Rattle.serial_model.proofs.TableSize.{without_keys_within, without_within}
 use Rattle.server_book.specs.Plans.{kept_by, told_by}
 use Rattle.server_book.specs.Sendings.{with_sendings, modes_of, tracking_ids}
 use Rattle.server_book.proofs.Sendings.{on_ok_then}
-use Rattle.server_book.proofs.Remembered.{short_kept, short_dropped}
-use Rattle.server_book.proofs.Remembered.{without_connection_le, same_table}
+use Rattle.server_book.proofs.Remembered.{same_table, short_kept, short_dropped}
 use Rattle.server_book.proofs.stores.Stores.carry_out.Goals as goal
 
 pub returns-in-Tell-clause-table : goal.returns-in-Tell-clause-table
@@ -75,7 +74,7 @@ returns-in-Forget-clause-table c =
     let t = c.args.self.now.table in
     let left = without_connection c.args.id t.rows in
     let short : length left ≤ t.limit =
-    omega (arith, c.requires.held.short, without_connection_le c.args.id t.rows) in
+    omega (arith, c.requires.held.short, without_within c.args.id t.rows) in
     same_table c.forget_connection.new.self t.limit _ c.forget_connection.ensures.limit
     (c.forget_connection.ensures.rows ∙ sym (short_kept t.limit left short)
     ∙ ap (λ d. kept_by t.limit c.args.id d t.rows) (sym c.in-Forget.is))
@@ -86,7 +85,7 @@ returns-in-Forget-clause-told c =
     let t = s.table in
     let left = without_connection c.args.id t.rows in
     let short : length left ≤ t.limit =
-    omega (arith, c.requires.held.short, without_connection_le c.args.id t.rows) in
+    omega (arith, c.requires.held.short, without_within c.args.id t.rows) in
     let modes = modes_of s.connections.items in
     let tracking = tracking_ids s.connections.items in
     ap (λ d. with_sendings c.args.entry (routed modes (drop_group d)) s.connections)

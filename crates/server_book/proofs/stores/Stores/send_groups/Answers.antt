@@ -1,4 +1,4 @@
-use Rattle.std.proofs.Common.{◌≡◌, ◌≤◌, ◌++◌, ◌∷◌, [], length, sym, ap, subst, ◌∙◌, arith}
+use Rattle.std.proofs.Common.{◌≡◌, ◌++◌, ◌∷◌, [], length, sym, ap, subst, ◌∙◌, arith}
 use Rattle.track_table.specs.Table.{TableState}
 use Rattle.serial_model.specs.History.{spelled}
 use Rattle.serial_model.specs.Tracking.{without_keys}
@@ -7,7 +7,7 @@ use Rattle.server_book.specs.RunSendings.{with_mode}
 use Rattle.server_book.specs.Sendings.{before_posts, message_post, modes_of, queued}
 use Rattle.server_book.specs.Stores.{IsHeld}
 use Rattle.server_book.proofs.Sendings.{mode_same, on_err, on_err_then}
-use Rattle.server_book.proofs.Undoing.{held_left, length_replied, length_switched, length_told}
+use Rattle.server_book.proofs.Undoing.{held_left, length_replied, length_switched}
 use Rattle.server_book.proofs.Undoing.{on_told, replied_back, told_back}
 use Rattle.server_book.proofs.stores.Stores.send_groups.Goals as goal
 
@@ -54,8 +54,8 @@ set_mode-requires c =
     (spelled plan.mode.proto plan.reply) in
     (on.0, let le = on.1 in omega (arith, le, same))
 
-pub carry_out-requires-clause-held : goal.carry_out-requires-clause-held
-carry_out-requires-clause-held c =
+pub carry_out-requires : goal.carry_out-requires
+carry_out-requires c =
     let s = c.args.self.now in
     let now = c.tell_keys.new.self.connections in
     let keys = c.args.expired.now in
@@ -72,33 +72,18 @@ carry_out-requires-clause-held c =
     ∙ length_switched c.args.entry id s.connections now keys s.table.rows c.requires.held.there
     c.requires.apart c.requires.id c.requires.none c.in_ok-tell_keys.ensures.told plan.mode
     (spelled plan.mode.proto plan.reply) in
-    subst (λ (t : TableState). IsHeld t.limit t.rows ds)
-    (sym (c.forget_keys.ensures
-    ∙ ap (λ (t : TableState). record {
-      limit = t.limit;
-      rows = without_keys keys t.rows;
-    }) c.in_ok-tell_keys.ensures.table))
-    (held_left s.table.limit keys s.table.rows s.connections.items ds (omega (arith, same))
-    c.requires.held)
-
-pub carry_out-requires-clause-id : goal.carry_out-requires-clause-id
-carry_out-requires-clause-id c =
-    let s = c.args.self.now in
-    let now = c.tell_keys.new.self.connections in
-    let keys = c.args.expired.now in
-    let plan = c.args.plan.now in
-    let id = c.args.id in
-    let same : length c.set_mode.new.self.items ≡ length s.connections.items =
-    ap (λ (x : ConnectionsState). length x.items)
-    (c.set_mode.ensures
-    ∙ ap (λ (x : ConnectionsState). record {
-      items = with_mode id plan.mode x.items;
-      posts = x.posts;
-    }) c.in_ok-send.ensures.ok)
-    ∙ length_switched c.args.entry id s.connections now keys s.table.rows c.requires.held.there
-    c.requires.apart c.requires.id c.requires.none c.in_ok-tell_keys.ensures.told plan.mode
-    (spelled plan.mode.proto plan.reply) in
-    (c.requires.id.0, let le = c.requires.id.1 in omega (arith, le, same))
+    record {
+      held = subst (λ (t : TableState). IsHeld t.limit t.rows ds)
+          (sym (c.forget_keys.ensures
+          ∙ ap (λ (t : TableState). record {
+            limit = t.limit;
+            rows = without_keys keys t.rows;
+          }) c.in_ok-tell_keys.ensures.table))
+          (held_left s.table.limit keys s.table.rows s.connections.items ds (omega (arith, same))
+          c.requires.held);
+      id = (c.requires.id.0, let le = c.requires.id.1 in omega (arith, le, same));
+      sound = c.requires.sound;
+    }
 
 pub returns-clause-back : goal.returns-clause-back
 returns-clause-back c =

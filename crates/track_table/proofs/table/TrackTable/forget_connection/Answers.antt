@@ -1,9 +1,9 @@
-use Rattle.std.proofs.Common.{◌≡◌, ◌<◌, ◌++◌, length, get_or, set, map, take, drop}
-use Rattle.std.proofs.Common.{rules, ap, sym, subst, ◌∙◌, arith, append-nil, ◌≤◌}
+use Rattle.std.proofs.Common.{◌≡◌, ◌<◌, length, get_or, set}
+use Rattle.std.proofs.Common.{rules, ap, sym, subst, ◌∙◌, arith}
 use Rattle.std.specs.Prelude.{filter}
 use Rattle.std.proofs.lemmas.Fn.{filter_same}
-use Rattle.std.proofs.lemmas.List.{take_all, drop_all}
 use Rattle.std.proofs.lemmas.List.Edits.{map_over_more}
+use Rattle.id_set.proofs.Rows.{changed_all}
 use Rattle.track_table.specs.declared.table.Held.{Held}
 use Rattle.track_table.specs.Table.{TableState, freed_of, is_held, without_connection}
 use Rattle.track_table.specs.Order.{IsTable}
@@ -35,35 +35,17 @@ loop-row-preserved c =
 left : (c : After-retain) → c.retain.new.self.items
     ≡ without_connection c.args.id c.args.self.now.rows
 left c =
-    let rows = c.args.self.now.rows in
-    let i = c.loop-row.row-index in
     let items = c.loop-row.row-items in
     let inside = c.self.inside.rows in
-    let all : length rows ≤ i = omega (
-      arith,
-      c.deref_mut-row-items.ensures.len,
-      ap length c.deref_mut-row-items.ensures.value,
-      ap (λ (t : TableState). length t.rows) c.self.view_is,
-    ) in
+    let at_first = ap length c.deref_mut-row-items.ensures.value in
+    let viewed = ap (λ (t : TableState). length t.rows) c.self.view_is in
     filter_same _ _ _ (λ x b f' k. search rules) _ _ c.retain.ensures.filtered
-    ∙ ap (λ l. filter is_held (take inside.len (items ++ l)))
-    (drop_all (length items) inside.items (omega (
-      arith,
-      c.loop-row.auto.row-items,
-      ap length c.deref_mut-row-items.ensures.value,
-    )))
-    ∙ ap (λ l. filter is_held (take inside.len l)) (append-nil items)
-    ∙ ap (filter is_held) (take_all inside.len items
-    (omega (
-      arith,
-      inside.ok.0,
-      c.loop-row.auto.row-items,
-      ap length c.deref_mut-row-items.ensures.value,
-    )))
-    ∙ ap (filter is_held) c.loop-row.invariant
-    ∙ ap (λ l. filter is_held (map (freed_of c.args.id) l ++ drop i rows)) (take_all i rows all)
-    ∙ ap (λ l. filter is_held (map (freed_of c.args.id) rows ++ l)) (drop_all i rows all)
-    ∙ ap (filter is_held) (append-nil (map (freed_of c.args.id) rows))
+    ∙ ap (filter is_held) (changed_all (freed_of c.args.id) c.args.self.now.rows items inside.items
+    c.loop-row.row-index inside.len
+    (omega (arith, c.deref_mut-row-items.ensures.len))
+    (omega (arith, c.loop-row.auto.row-items))
+    (omega (arith, inside.ok.0, c.loop-row.auto.row-items))
+    c.loop-row.invariant)
 
 pub invariant_of-self : goal.invariant_of-self
 invariant_of-self c =

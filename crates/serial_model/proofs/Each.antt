@@ -1,0 +1,44 @@
+-- What holds of each of several things holds of each of some of them, and of others like them.
+use Rattle.std.proofs.Common.{◌<◌, ℕ, zero, suc, List, [], ◌∷◌, ◌++◌, Bool, true, false, cond}
+use Rattle.std.proofs.Common.{arith, length, take, drop, slice_index_or}
+use Rattle.std.specs.Prelude.{filter}
+use Rattle.serial_model.specs.Each.{AllIn}
+
+module _ {A : Type 0} {P Q : A → Type 0} (f : (x : A) → P x → Q x) where
+  pub all_in : (xs : List A) → AllIn P xs → AllIn Q xs
+  all_in [] a = tt
+  all_in (x ∷ xs) a = (f x a.0, all_in xs a.1)
+
+module _ {A : Type 0} (P : A → Type 0) where
+  pub in_if : (b : Bool) (xs ys : List A) → AllIn P xs → AllIn P ys → AllIn P (cond b xs ys)
+  in_if true xs ys a b = a
+  in_if false xs ys a b = b
+
+  pub in_append : (xs ys : List A) → AllIn P xs → AllIn P ys → AllIn P (xs ++ ys)
+  in_append [] ys a b = b
+  in_append (x ∷ xs) ys a b = (a.0, in_append xs ys a.1 b)
+
+  pub in_front : (xs ys : List A) → AllIn P (xs ++ ys) → AllIn P xs
+  in_front [] ys a = tt
+  in_front (x ∷ xs) ys a = (a.0, in_front xs ys a.1)
+
+  pub in_filter : (p : A → Bool) (xs : List A) → AllIn P xs → AllIn P (filter p xs)
+  in_filter p [] a = tt
+  in_filter p (x ∷ xs) a =
+      let rest = in_filter p xs a.1 in in_if (p x) (x ∷ filter p xs) (filter p xs) (a.0, rest) rest
+
+  pub in_take : (n : ℕ) (xs : List A) → AllIn P xs → AllIn P (take n xs)
+  in_take zero xs a = tt
+  in_take (suc n) [] a = tt
+  in_take (suc n) (x ∷ xs) a = (a.0, in_take n xs a.1)
+
+  pub in_drop : (n : ℕ) (xs : List A) → AllIn P xs → AllIn P (drop n xs)
+  in_drop zero xs a = a
+  in_drop (suc n) [] a = tt
+  in_drop (suc n) (x ∷ xs) a = in_drop n xs a.1
+
+  pub in_at : (xs : List A) (n : ℕ) (d : A) → AllIn P xs → n < length xs
+      → P (slice_index_or xs n d)
+  in_at [] n d a lt = absurd (omega arith)
+  in_at (x ∷ xs) zero d a lt = a.0
+  in_at (x ∷ xs) (suc n) d a lt = in_at xs n d a.1 (omega arith)
