@@ -1,17 +1,17 @@
 -- What is held, sorted: each entry stands at its place.
-use Rattle.std.proofs.Common.{◌≡◌, ◌==◌, ◌+◌, ◌<◌, ◌≤◌, ◌++◌, ◌⊎◌, ℕ, zero, suc, List, [], ◌∷◌}
-use Rattle.std.proofs.Common.{length, get_or, map, true, false, cond, not, Option, Some, None, sym}
+use Rattle.std.proofs.Common.{◌≡◌, ◌==◌, ◌+◌, ◌<◌, ◌≤◌, ℕ, zero, suc, List, [], ◌∷◌}
+use Rattle.std.proofs.Common.{length, get_or, true, false, cond, not, Some, sym}
 use Rattle.std.proofs.Common.{ap, ◌∙◌, refl, inl, inr, subst, arith, eq-eqb, ne_eqb, Bool}
 use denote.Param.Members.{Mut}
 use denote.Ref.{Bor}
 use Rattle.std.specs.declared.cmp.Ordering.{Ordering}
 use Rattle.std.specs.Cmp.{IsStrictWeakOrder}
 use Rattle.std.specs.Fn.{Called, ComparesAs}
-use Rattle.std.specs.List.{slice_get, sum_by, All}
+use Rattle.std.specs.List.{slice_get, sum_by}
 use Rattle.std.specs.List.Sorted.{IsPermutation, IsSortedBy}
 use Rattle.std.specs.Ordering.{is_lt}
 use Rattle.std.specs.Str.{bytes_eq}
-use Rattle.std.proofs.lemmas.Bool.{cases_Bool, cases_eq, eqb-true}
+use Rattle.std.proofs.lemmas.Bool.{cases_eq}
 use Rattle.std.proofs.lemmas.List.Sums.{sum_by-cons, sum_by-append}
 use Rattle.std.proofs.lemmas.List.Sorted.{sum_by-IsPermutation, All-permutation}
 use Rattle.std.proofs.lemmas.List.Sorted.{IsPermutation-map, ranks_by, answers_always, sorted_far}
@@ -26,7 +26,7 @@ use Rattle.shared_cache.specs.Held.{open_fetch, left}
 use Rattle.shared_cache.specs.HeldKeys.{Pairs, ArePairsOf, listed, of_key, but_key, IsSortedAs}
 use Rattle.shared_cache.specs.HeldKeys.{seen}
 use Rattle.shared_cache.specs.Laws.{Every}
-use Rattle.shared_cache.proofs.Order.{Among, Apart, ranked_some, ranked_is, same_ranked, every_at}
+use Rattle.shared_cache.proofs.Order.{Among, Apart, ranked_some, ranked_is, same_ranked}
 use Rattle.shared_cache.proofs.Order.{every_of, before_not, before_self, before_other, rank_more}
 use Rattle.shared_cache.proofs.Order.{rank_same, no_place, order_total, held_apart}
 use Rattle.shared_cache.proofs.Places.{listed_held}
