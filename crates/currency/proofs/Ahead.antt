@@ -4,8 +4,8 @@ use Rattle.std.proofs.Common.{Bool, true, false, cond, refl, ap, sym, ◌∙◌,
 use Rattle.std.proofs.Common.{inl, inr, get_or, length-append}
 use Rattle.std.specs.Prelude.{slice_get, ◌==◌}
 use Rattle.std.specs.List.{filter, list_any}
-use Rattle.std.proofs.lemmas.Bool.{both_ways, cases_lt, eqb-true}
-use Rattle.std.proofs.lemmas.Option.{slice_get_within, slice_get-get_or}
+use Rattle.std.proofs.lemmas.Bool.{and_parts, both_ways, cases_lt, eqb-true}
+use Rattle.std.proofs.lemmas.Option.{same_Some, slice_get_within, slice_get-get_or}
 use Rattle.resp_value.specs.declared.value.Proto.TheVariants.{Three}
 use Rattle.serial_model.specs.declared.history.Limits.{Limits}
 use Rattle.serial_model.specs.declared.history.Entry.{Entry}
@@ -16,7 +16,7 @@ use Rattle.serial_model.specs.History.{expiry_group, own_group, drops, reply_of}
 use Rattle.serial_model.proofs.Tables.{sent_to-append}
 use Rattle.currency.proofs.Lists.{get_parts, get_front, get_behind, one_passes}
 use Rattle.currency.proofs.Runs.{Older}
-use Rattle.currency.proofs.Sent.{Told, both, is_sent_to, routed_at, sent_le, sent_older}
+use Rattle.currency.proofs.Sent.{Told, is_sent_to, routed_at, sent_le, sent_older}
 use Rattle.currency.proofs.Replies.{is_reply_sent, routed_no_reply}
 
 -- none of those passes the test
@@ -51,9 +51,6 @@ one_kept p (x ∷ xs) (suc i) y at =
       | true ↦ λ e. one_kept p xs i y e
       | false ↦ λ e. one_kept p xs (suc i) y e
     ] at
-
-some_same : (a b : ℕ × Sending) → Some a ≡ Some b → a ≡ b
-some_same a b e = cc
 
 module _ (c : ℕ) (l : Limits) (past up : List Entry) (id : ℕ) (words : List (List ℕ)) (m : ℕ)
     (o : Older (Run id words m ∷ up) past) where
@@ -106,7 +103,7 @@ module _ (c : ℕ) (l : Limits) (past up : List Entry) (id : ℕ) (words : List 
         | inl lt ↦
             let d = get_or all place (0, End) in
             let there : slice_get all place ≡ Some d = slice_get-get_or all place (0, End) lt in
-            let same = some_same d s
+            let same = same_Some d s
             (sym (sent_older c l (Run id words m ∷ up) past o place d there) ∙ at) in
             reply_behind place d there (ap (λ (y : ℕ × Sending). y.0) same ∙ number)
             (ap is_reply_sent same ∙ reply)
@@ -124,7 +121,7 @@ module _ (c : ℕ) (l : Limits) (past up : List Entry) (id : ℕ) (words : List 
       → (t : Told c l (Run id words m ∷ up) n key) × (t.place < place)
   told_ahead key told three place s at number reply =
       let p = one_passes (tells c key) (expiry_group l up m) told in
-      let h = both c l (p.one.to == c) (names_key p.one.keys key) p.passes in
+      let h = and_parts (p.one.to == c) (names_key p.one.keys key) p.passes in
       let r = routed_at c l (modes l up) (expiry_group l up m) p.at p.one p.there
       (ap (λ d. (mode l d up).proto) (eqb-true p.one.to c h.0) ∙ three) in
       let push : Sending = Message Three (push_of p.one.keys) in

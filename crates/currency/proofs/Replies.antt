@@ -5,6 +5,8 @@ use Rattle.std.proofs.Common.{append-nil, Ok, Err, Result}
 use Rattle.std.specs.Prelude.{◌==◌}
 use Rattle.std.specs.List.{filter}
 use Rattle.std.proofs.lemmas.List.Elements.{filter-append}
+use Rattle.std.proofs.Common.{arith}
+use Rattle.std.proofs.lemmas.Grind.{common_steps}
 use Rattle.resp_value.specs.declared.value.Value.{Value}
 use Rattle.resp_value.specs.declared.value.Proto.{Proto}
 use Rattle.resp_value.specs.declared.value.Proto.TheVariants.{Two, Three}
@@ -133,12 +135,10 @@ add_none l c e past none before =
 
 close_none : (n : ℕ) (b : Bool) → filter is_reply_sent (cond b ((n, End) ∷ []) []) ≡ []
 unfolding is_reply_sent
-close_none n true = refl
-close_none n false = refl
+close_none n b = grind (arith, common_steps)
 
 out_of : (b : Bool) (xs ys : List (ℕ × Sending)) → xs ++ cond b ys [] ≡ cond b (xs ++ ys) xs
-out_of true xs ys = refl
-out_of false xs ys = append-nil xs
+out_of b xs ys = grind (arith, common_steps)
 
 pub replies_are_of_runs : (l : Limits) (c : ℕ) (past : List Entry)
     → filter is_reply_sent (sent l c past) ≡ replies_of l c past
