@@ -2,13 +2,13 @@
 use Rattle.std.proofs.Common.{◌≡◌, ℕ, zero, suc, List, [], ◌∷◌, ◌++◌, length}
 use Rattle.std.proofs.Common.{true, false, cond, refl, ap, sym, ◌∙◌, arith, Some, map}
 use Rattle.std.proofs.Common.{append_assoc, length-append, codes, Ok, Err, Result}
+use Rattle.std.proofs.lemmas.Grind.{common_steps}
 use Rattle.std.specs.Prelude.{slice_get, ◌==◌}
 use Rattle.resp_value.specs.Lists.{IsPrefix}
 use Rattle.resp_value.specs.declared.value.Proto.TheVariants.{Three}
 use Rattle.command_words.specs.declared.command.Command.{Command}
 use Rattle.command_words.specs.declared.command.Command.TheVariants.{Hello, ClientTracking}
 use Rattle.command_words.specs.declared.command.WordFault.{WordFault}
-use Rattle.command_words.specs.declared.command.WordFault.TheVariants.{Unknown}
 use Rattle.command_words.specs.Words.{reading}
 use Rattle.command_words.specs.StringWords.{string_reading}
 use Rattle.command_words.specs.HashWords.{hash_reading}
@@ -22,7 +22,7 @@ use Rattle.serial_model.specs.declared.history.Limits.{Limits}
 use Rattle.serial_model.specs.declared.history.Entry.{Entry}
 use Rattle.serial_model.specs.declared.history.Entry.TheVariants.{Admit, Run, Tick, Take, Close}
 use Rattle.serial_model.specs.Modes.{first_mode, own_effect}
-use Rattle.serial_model.specs.History.{mode, made_of, runs_of, served, is_served}
+use Rattle.serial_model.specs.History.{mode, made_of, runs_of, served}
 use Rattle.shared_cache.specs.declared.log.Wire.TheVariants.{Main}
 use Rattle.shared_cache.specs.declared.log.LogEntry.{LogEntry}
 use Rattle.shared_cache.specs.Held.{Setup, SentCommand, Caller, sent, commands}
@@ -42,9 +42,7 @@ mode_by (suc (suc n)) = record { proto = Three; tracking = true }
 -- words that read as no control command are served as none
 pub served_no_control : (read : Result Command WordFault) → reads_as_control read ≡ false
     → reads_as_control (served read) ≡ false
-served_no_control (Ok command) h =
-    elim (is_served command) as (λ b. reads_as_control (cond b (Ok command) (Err Unknown)) ≡ false)
-    [ true ↦ h | false ↦ refl ]
+served_no_control (Ok command) h = grind (arith, common_steps)
 served_no_control (Err fault) h = refl
 
 -- a command that is no control command leaves its connection's mode
