@@ -1,4 +1,1 @@
-mod Alone
-mod Steps
-mod WithBytes
-mod WithNumber
+mod Exports

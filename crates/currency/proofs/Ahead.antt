@@ -1,11 +1,12 @@
 -- What a Run tells of before its reply stands ahead of the reply.
 use Rattle.std.proofs.Common.{◌≡◌, ◌+◌, ◌<◌, ◌≤◌, ℕ, zero, suc, List, [], ◌∷◌, ◌++◌, length}
-use Rattle.std.proofs.Common.{Bool, true, false, cond, refl, ap, sym, ◌∙◌, arith, Some}
+use Rattle.std.proofs.Common.{Bool, true, false, ap, sym, ◌∙◌, arith, Some}
 use Rattle.std.proofs.Common.{inl, inr, get_or, length-append}
 use Rattle.std.specs.Prelude.{slice_get, ◌==◌}
 use Rattle.std.specs.List.{filter, list_any}
-use Rattle.std.proofs.lemmas.Bool.{both_ways, cases_lt, eqb-true}
-use Rattle.std.proofs.lemmas.Option.{slice_get_within, slice_get-get_or}
+use Rattle.std.proofs.lemmas.Bool.{and_parts, both_ways, cases_lt, eqb-true}
+use Rattle.std.proofs.lemmas.Option.{same_Some, slice_get_within, slice_get-get_or}
+use Rattle.std.proofs.lemmas.Grind.{common_steps}
 use Rattle.resp_value.specs.declared.value.Proto.TheVariants.{Three}
 use Rattle.serial_model.specs.declared.history.Limits.{Limits}
 use Rattle.serial_model.specs.declared.history.Entry.{Entry}
@@ -16,44 +17,23 @@ use Rattle.serial_model.specs.History.{expiry_group, own_group, drops, reply_of}
 use Rattle.serial_model.proofs.Tables.{sent_to-append}
 use Rattle.currency.proofs.Lists.{get_parts, get_front, get_behind, one_passes}
 use Rattle.currency.proofs.Runs.{Older}
-use Rattle.currency.proofs.Sent.{Told, both, is_sent_to, routed_at, sent_le, sent_older}
+use Rattle.currency.proofs.Sent.{Told, is_sent_to, routed_at, sent_le, sent_older}
 use Rattle.currency.proofs.Replies.{is_reply_sent, routed_no_reply}
 
 -- none of those passes the test
 none_kept : {A : Type 0} (p : A → Bool) (xs : List A) → filter p xs ≡ [] → (i : ℕ) (y : A)
     → slice_get xs i ≡ Some y → p y ≡ false
 none_kept p [] e i y at = cc
-none_kept p (x ∷ xs) e zero y at =
-    let same : x ≡ y = cc in
-    elim (p x) as (λ b. p x ≡ b → cond b (x ∷ filter p xs) (filter p xs) ≡ [] → p y ≡ false) [
-      | true ↦ λ h f. absurd (let no : ⊥ = cc in no)
-      | false ↦ λ h f. ap p (sym same) ∙ h
-    ] refl e
-none_kept p (x ∷ xs) e (suc i) y at =
-    elim (p x) as (λ b. cond b (x ∷ filter p xs) (filter p xs) ≡ [] → p y ≡ false) [
-      | true ↦ λ f. absurd (let no : ⊥ = cc in no)
-      | false ↦ λ f. none_kept p xs f i y at
-    ] e
+none_kept p (x ∷ xs) e zero y at = grind (arith, common_steps)
+none_kept p (x ∷ xs) e (suc i) y at = grind (arith, common_steps, none_kept p xs)
 
 -- one of those that pass it
 pub one_kept : {A : Type 0} (p : A → Bool) (xs : List A) (i : ℕ) (y : A)
     → slice_get (filter p xs) i ≡ Some y → p y ≡ true
 one_kept p [] i y at = cc
-one_kept p (x ∷ xs) zero y at =
-    elim (p x) as (λ b. p x ≡ b → slice_get (cond b (x ∷ filter p xs) (filter p xs)) 0 ≡ Some y
-    → p y ≡ true) [
-      | true ↦ λ h e. let same : x ≡ y = cc in ap p (sym same) ∙ h
-      | false ↦ λ h e. one_kept p xs 0 y e
-    ] refl at
+one_kept p (x ∷ xs) zero y at = grind (arith, common_steps, one_kept p xs 0 y)
 one_kept p (x ∷ xs) (suc i) y at =
-    elim (p x) as (λ b. slice_get (cond b (x ∷ filter p xs) (filter p xs)) (suc i) ≡ Some y
-    → p y ≡ true) [
-      | true ↦ λ e. one_kept p xs i y e
-      | false ↦ λ e. one_kept p xs (suc i) y e
-    ] at
-
-some_same : (a b : ℕ × Sending) → Some a ≡ Some b → a ≡ b
-some_same a b e = cc
+    grind (arith, common_steps, one_kept p xs i y, one_kept p xs (suc i) y)
 
 module _ (c : ℕ) (l : Limits) (past up : List Entry) (id : ℕ) (words : List (List ℕ)) (m : ℕ)
     (o : Older (Run id words m ∷ up) past) where
@@ -106,7 +86,7 @@ module _ (c : ℕ) (l : Limits) (past up : List Entry) (id : ℕ) (words : List 
         | inl lt ↦
             let d = get_or all place (0, End) in
             let there : slice_get all place ≡ Some d = slice_get-get_or all place (0, End) lt in
-            let same = some_same d s
+            let same = same_Some d s
             (sym (sent_older c l (Run id words m ∷ up) past o place d there) ∙ at) in
             reply_behind place d there (ap (λ (y : ℕ × Sending). y.0) same ∙ number)
             (ap is_reply_sent same ∙ reply)
@@ -124,7 +104,7 @@ module _ (c : ℕ) (l : Limits) (past up : List Entry) (id : ℕ) (words : List 
       → (t : Told c l (Run id words m ∷ up) n key) × (t.place < place)
   told_ahead key told three place s at number reply =
       let p = one_passes (tells c key) (expiry_group l up m) told in
-      let h = both c l (p.one.to == c) (names_key p.one.keys key) p.passes in
+      let h = and_parts (p.one.to == c) (names_key p.one.keys key) p.passes in
       let r = routed_at c l (modes l up) (expiry_group l up m) p.at p.one p.there
       (ap (λ d. (mode l d up).proto) (eqb-true p.one.to c h.0) ∙ three) in
       let push : Sending = Message Three (push_of p.one.keys) in

@@ -1,12 +1,13 @@
 -- From the run of an open fetch on, its connection is told of its key and the query's answer is
 -- what it was; or a message waits for the client.
 use Rattle.std.proofs.Common.{◌≡◌, ◌+◌, ◌-◌, ◌<◌, ◌≤◌, ℕ, zero, suc, List, [], ◌∷◌, ◌++◌, length}
-use Rattle.std.proofs.Common.{Bool, true, false, cond, refl, ap, sym, ◌∙◌, arith, Some, subst}
+use Rattle.std.proofs.Common.{true, false, cond, refl, ap, sym, ◌∙◌, arith, Some, subst}
 use Rattle.std.proofs.Common.{◌⊎◌, inl, inr, append_assoc, length-append, Result, Ok, Err}
 use Rattle.std.proofs.Common.{get_or}
 use Rattle.std.specs.Prelude.{slice_get, ◌==◌, ◌&&◌, ◌||◌}
-use Rattle.std.proofs.lemmas.Bool.{cases_lt, eqb-true}
-use Rattle.std.proofs.lemmas.Option.{slice_get-get_or}
+use Rattle.std.proofs.lemmas.Bool.{both_ways, cases_lt, eqb-true, or_cases, or_from}
+use Rattle.std.proofs.lemmas.Bool.{or_parts}
+use Rattle.std.proofs.lemmas.Option.{same_Some, slice_get-get_or}
 use Rattle.resp_value.specs.Lists.{IsPrefix}
 use Rattle.resp_value.specs.declared.value.Value.TheVariants.{Null}
 use Rattle.resp_value.specs.declared.value.Proto.TheVariants.{Three}
@@ -73,27 +74,6 @@ prefix_le xs ys p = omega (arith, length-append xs p.0, ap length p.1)
 prefix_more : {A : Type 0} (xs ys zs : List A) → IsPrefix xs ys → IsPrefix ys zs → IsPrefix xs zs
 prefix_more xs ys zs p q =
     (p.0 ++ q.0, sym (append_assoc xs p.0 q.0) ∙ ap (λ l. l ++ q.0) p.1 ∙ q.1)
-
-either : (a b : Bool) → (a || b) ≡ true → (a ≡ true) ⊎ (b ≡ true)
-either true b h = inl refl
-either false b h = inr h
-
-or_no : (a b : Bool) → a ≡ false → b ≡ false → (a || b) ≡ false
-or_no true b h g = absurd (let no : ⊥ = cc in no)
-or_no false b h g = g
-
-neither : (a b : Bool) → (a || b) ≡ false → (a ≡ false) × (b ≡ false)
-neither true b h = absurd (let no : ⊥ = cc in no)
-neither false b h = (refl, h)
-
-some_same : (a b : List (List ℕ)) → Some a ≡ Some b → a ≡ b
-some_same a b e = cc
-
-pub both_ways : (b : Bool) → b ≡ false → b ≡ true → ⊥
-both_ways b f t = cc
-
-pub sending_same : (a b : ℕ × Sending) → Some a ≡ Some b → a ≡ b
-sending_same a b e = cc
 
 length_more : (e : Entry) (up : List Entry) → length (e ∷ up) ≡ length up + 1
 length_more e up = omega arith
@@ -173,7 +153,7 @@ module _ (l : Limits) (x : Client) (past : List Entry) (log : List LogEntry)
         let d : slice_get (commands x.setup Main log) (n - 1) ≡ Some r.words =
         ap (λ cs. slice_get cs (n - 1)) (sym m.1)
         ∙ get_front (runs_of (x.id Main) past) m.0 (n - 1) r.words r.words_are in
-        some_same r.words q (sym d ∙ c.1)
+        same_Some r.words q (sym d ∙ c.1)
 
     -- from the run on, and just before it, the connection is on the third protocol and tracks
     pub settled : (up : List Entry) → Older up past → 2 ≤ length (runs_of (x.id Main) up)
@@ -213,7 +193,7 @@ module _ (l : Limits) (x : Client) (past : List Entry) (log : List LogEntry)
         let c = got_at (gots Main log) (sent l (x.id Main) past) t.place v
         (meet.came Main has_main) got in
         let is = subst (λ (y : ℕ × Sending). IsGot v y.1)
-        (sending_same c.sending s (sym c.there ∙ at)) c.is in
+        (same_Some c.sending s (sym c.there ∙ at)) c.is in
         let no = got_since l x past log n p q has_main meet.causal fetch run t.place v s got at
         le in
         let yes = voids x.setup.mode t.keys (key_of q) v is t.names in
@@ -260,9 +240,9 @@ module _ (l : Limits) (x : Client) (past : List Entry) (log : List LogEntry)
           let is_here = is_told l (e ∷ r.up) (x.id Main) (key_of q) in
           let is_told_now = is_due l e r.up (x.id Main) (key_of q) in
           let is_over = has_ended l (x.id Main) (e ∷ r.up) in
-          elim (either (is_here || is_told_now) is_over read) [
+          elim (or_cases (is_here || is_told_now) is_over read) [
             | inl rest ↦
-                elim (either is_here is_told_now rest) [
+                elim (or_cases is_here is_told_now rest) [
                   | inl here ↦
                       inl (
                         here,
@@ -341,7 +321,7 @@ module _ (l : Limits) (x : Client) (past : List Entry) (log : List LogEntry)
                       → Steady (e ∷ up) ⊎ Pending (length up + 1)) [
                         | true ↦ λ here. inl (
                           here,
-                          (law l e up k (neither sig dropped h).0).1 q cacheable refl
+                          (law l e up k (or_parts sig dropped h).0).1 q cacheable refl
                               ∙ steady.1,
                         )
                         | false ↦ λ gone.
@@ -349,9 +329,9 @@ module _ (l : Limits) (x : Client) (past : List Entry) (log : List LogEntry)
                             absurd (both_ways
                             (((sig || dropped) || stops_tracking l e up c)
                             || has_ended l c (e ∷ up))
-                            (or_no ((sig || dropped) || stops_tracking l e up c)
+                            (or_from ((sig || dropped) || stops_tracking l e up c)
                             (has_ended l c (e ∷ up))
-                            (or_no (sig || dropped) (stops_tracking l e up c) h
+                            (or_from (sig || dropped) (stops_tracking l e up c) h
                             (stays_tracking e up o two)) lives) cause)
                       ] refl
                 ] refl

@@ -4,8 +4,8 @@ use Rattle.std.proofs.Common.{true, false, cond, refl, ap, sym, ◌∙◌, arith
 use Rattle.std.proofs.Common.{inl, inr, drop, take, max, get_or, Result}
 use Rattle.std.specs.Prelude.{slice_get}
 use Rattle.std.specs.List.{filter}
-use Rattle.std.proofs.lemmas.Bool.{cases_lt}
-use Rattle.std.proofs.lemmas.Option.{slice_get_within, slice_get-get_or}
+use Rattle.std.proofs.lemmas.Bool.{both_ways, cases_lt}
+use Rattle.std.proofs.lemmas.Option.{same_Some, slice_get_within, slice_get-get_or}
 use Rattle.std.proofs.lemmas.List.{length-reverse}
 use Rattle.resp_value.specs.ValueTree.{tree_of}
 use Rattle.resp_value.specs.Carried.{carried}
@@ -37,10 +37,11 @@ use Rattle.shared_cache.specs.ClientFields.{IsServed}
 use Rattle.shared_cache.specs.Notices.{invalidates, is_reply, kind_of}
 use Rattle.shared_cache.specs.Log.{reply, replies, is_ended}
 use Rattle.shared_cache.specs.Held.{commands, held}
-use Rattle.shared_cache.specs.Laws.{gots, LegalLog, IsFetch, Every}
+use Rattle.shared_cache.specs.Laws.{gots, LegalLog, IsFetch}
 use Rattle.shared_cache.proofs.FetchLaws.{open_wires, held_is_fetch, place_is_query}
 use Rattle.shared_cache.proofs.CommandLists.{replies_are_gots}
 use Rattle.shared_cache.proofs.CommandLaws.{no_later_write}
+use Rattle.shared_cache.proofs.Every.{every_weaker}
 use Rattle.currency.specs.Links.{Client, HasWire, Meet, run_of, IsGot, AreGot}
 use Rattle.serial_model.specs.History.{run_entries}
 use Rattle.currency.specs.Points.{up_to, before_first, complete_on, complete_by, complete, replied}
@@ -57,11 +58,8 @@ use Rattle.currency.proofs.Gots.{sent_form, got_at, got_replies, got_kept}
 use Rattle.currency.proofs.Placed.{Placed, reply_at, reply_place}
 use Rattle.currency.proofs.Since.{got_since}
 use Rattle.currency.proofs.Covered.{has_main, Pending, covered, Steady, settled, words_are}
-use Rattle.currency.proofs.Covered.{before_then, both_ways, own, r, number_least, ran_by_then}
+use Rattle.currency.proofs.Covered.{before_then, own, r, number_least, ran_by_then}
 use Rattle.currency.proofs.Covered.{not_got}
-
-some_number : (a b : ℕ) → Some a ≡ Some b → a ≡ b
-some_number a b e = cc
 
 -- a value is the reply of the newest entry
 Answered : Limits → List Entry → Value → Type 0
@@ -203,7 +201,7 @@ module _ (l : Limits) (x : Client) (past : List Entry) (log : List LogEntry)
         sending = k.sending;
         got = slice_get_within (gots Main log) k.place k.value k.got;
         there = k.there;
-        number = p.number ∙ some_number (length p.up + 1) q (sym p.entry ∙ e);
+        number = p.number ∙ same_Some (length p.up + 1) q (sym p.entry ∙ e);
         is = one_kept is_reply_sent (sent l (x.id Main) past) j k.sending k.replied;
       }
 
@@ -345,7 +343,7 @@ module _ (l : Limits) (x : Client) (past : List Entry) (log : List LogEntry)
 
     pub current : (law : ChangeIsSignalled) → IsCurrent l x past log h
     current law p n run le comp =
-        let same : at ≡ p = some_number at p (sym ran_there ∙ run) in
+        let same : at ≡ p = same_Some at p (sym ran_there ∙ run) in
         steady law n (omega (arith, same, le)) comp
 
     -- ---- the point of a hit
@@ -364,7 +362,7 @@ module _ (l : Limits) (x : Client) (past : List Entry) (log : List LogEntry)
                 | inr le ↦
                     let same : j ≡ h.number - 1 = omega (arith, ge, le) in
                     let f : q ≡ at =
-                    some_number q at (sym e ∙ ap (slice_get (run_entries (x.id Main) past)) same
+                    same_Some q at (sym e ∙ ap (slice_get (run_entries (x.id Main) past)) same
                     ∙ ran_there) in
                     absurd (let gone : ⊥ = omega (arith, f, lt) in gone)
               ]
@@ -493,19 +491,15 @@ served_cacheable : (read : Result Command WordFault) → reads_as_cacheable (his
     → reads_as_cacheable read ≡ true
 served_cacheable read h = sym (ap reads_as_cacheable (served_is read h)) ∙ h
 
-every_held : {A : Type 0} (P Q : A → Type 0) (f : (y : A) → P y → Q y) (xs : List A) → Every P xs
-    → Every Q xs
-every_held P Q f [] a = tt
-every_held P Q f (y ∷ xs) a = (f y a.0, every_held P Q f xs a.1)
-
 pub currency : ChangeIsSignalled → BeforeTheReply → Currency
 currency law first l x past log served legal legal_log meet =
-    every_held (IsFetch x.setup log)
+    every_weaker (IsFetch x.setup log)
     (λ h. reads_as_cacheable (served_reading h.query) ≡ true
     → IsCurrent l x past log h × HasPoint l x past log h)
+    (held x.setup log)
     (λ h fetch serves.
     let cacheable = served_cacheable (reading h.query) serves in (
       current l x past log served legal legal_log meet h fetch serves cacheable law,
       has_point l x past log served legal legal_log meet h fetch serves cacheable law first,
     ))
-    (held x.setup log) (held_is_fetch x.setup log)
+    (held_is_fetch x.setup log)

@@ -2,6 +2,7 @@
 use Rattle.std.proofs.Common.{◌≡◌, ◌+◌, ◌<◌, ℕ, zero, suc, List, [], ◌∷◌, ◌++◌, length}
 use Rattle.std.proofs.Common.{Bool, true, false, cond, refl, ap, sym, ◌∙◌, arith, Some}
 use Rattle.std.proofs.Common.{codes, subst}
+use Rattle.std.proofs.lemmas.Grind.{common_steps}
 use Rattle.std.specs.Prelude.{slice_get, ◌==◌, Option}
 use Rattle.std.specs.List.{filter}
 use Rattle.std.specs.Str.{bytes_eq}
@@ -97,8 +98,7 @@ invalidation_no_reply (t ∷ u ∷ ts) = refl
 
 if_no_reply : (b : Bool) (x y : Notice) → is_reply x ≡ false → is_reply y ≡ false
     → is_reply (cond b x y) ≡ false
-if_no_reply true x y h g = h
-if_no_reply false x y h g = g
+if_no_reply b x y h g = grind (arith, common_steps)
 
 push_no_reply : (ts : List Tree) → is_reply (push ts) ≡ false
 push_no_reply [] = refl

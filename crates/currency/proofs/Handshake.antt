@@ -1,14 +1,14 @@
 -- What the commands of a client make of its connection.
 use Rattle.std.proofs.Common.{◌≡◌, ℕ, zero, suc, List, [], ◌∷◌, ◌++◌, length}
-use Rattle.std.proofs.Common.{Bool, true, false, cond, refl, ap, sym, ◌∙◌, arith, Some, None, map}
+use Rattle.std.proofs.Common.{true, false, cond, refl, ap, sym, ◌∙◌, arith, Some, map}
 use Rattle.std.proofs.Common.{append_assoc, length-append, codes, Ok, Err, Result}
-use Rattle.std.specs.Prelude.{slice_get, ◌==◌, Option}
+use Rattle.std.proofs.lemmas.Grind.{common_steps}
+use Rattle.std.specs.Prelude.{slice_get, ◌==◌}
 use Rattle.resp_value.specs.Lists.{IsPrefix}
 use Rattle.resp_value.specs.declared.value.Proto.TheVariants.{Three}
 use Rattle.command_words.specs.declared.command.Command.{Command}
 use Rattle.command_words.specs.declared.command.Command.TheVariants.{Hello, ClientTracking}
 use Rattle.command_words.specs.declared.command.WordFault.{WordFault}
-use Rattle.command_words.specs.declared.command.WordFault.TheVariants.{Unknown}
 use Rattle.command_words.specs.Words.{reading}
 use Rattle.command_words.specs.StringWords.{string_reading}
 use Rattle.command_words.specs.HashWords.{hash_reading}
@@ -22,18 +22,13 @@ use Rattle.serial_model.specs.declared.history.Limits.{Limits}
 use Rattle.serial_model.specs.declared.history.Entry.{Entry}
 use Rattle.serial_model.specs.declared.history.Entry.TheVariants.{Admit, Run, Tick, Take, Close}
 use Rattle.serial_model.specs.Modes.{first_mode, own_effect}
-use Rattle.serial_model.specs.History.{mode, made_of, runs_of, served, is_served}
+use Rattle.serial_model.specs.History.{mode, made_of, runs_of, served}
 use Rattle.shared_cache.specs.declared.log.Wire.TheVariants.{Main}
 use Rattle.shared_cache.specs.declared.log.LogEntry.{LogEntry}
-use Rattle.shared_cache.specs.declared.log.LogEntry.TheVariants.{Ask, Send, Poll, TakeOut, Got}
-use Rattle.shared_cache.specs.declared.log.LogEntry.TheVariants.{End, Bad}
-use Rattle.shared_cache.specs.declared.entry.CacheEntry.{CacheEntry}
-use Rattle.shared_cache.specs.Log.{caching_on_for}
-use Rattle.shared_cache.specs.Held.{Setup, SentCommand, Caller, sent, commands, held, held_for}
-use Rattle.shared_cache.specs.Held.{put_ask}
+use Rattle.shared_cache.specs.Held.{Setup, SentCommand, Caller, sent, commands}
 use Rattle.shared_cache.specs.Laws.{Every, LegalLog}
 use Rattle.shared_cache.proofs.CommandLaws.{no_control}
-use Rattle.command_words.specs.Queries.{key_of}
+use Rattle.shared_cache.proofs.StepCases.{sent_callers}
 use Rattle.currency.proofs.Lists.{get_front, get_last}
 
 -- the mode of a client's connection after so many of its commands
@@ -47,9 +42,7 @@ mode_by (suc (suc n)) = record { proto = Three; tracking = true }
 -- words that read as no control command are served as none
 pub served_no_control : (read : Result Command WordFault) → reads_as_control read ≡ false
     → reads_as_control (served read) ≡ false
-served_no_control (Ok command) h =
-    elim (is_served command) as (λ b. reads_as_control (cond b (Ok command) (Err Unknown)) ≡ false)
-    [ true ↦ h | false ↦ refl ]
+served_no_control (Ok command) h = grind (arith, common_steps)
 served_no_control (Err fault) h = refl
 
 -- a command that is no control command leaves its connection's mode
@@ -77,31 +70,6 @@ unfolding made_of reading string_reading hash_reading key_reading connection_rea
 tracking_made = refl
 
 module _ (s : Setup) where
-  put_by_caller : (h : Option CacheEntry) (on : Bool) (q : List (List ℕ))
-      → Every (λ (c : SentCommand). c.origin ≡ Caller) (put_ask h s.mode on q)
-  put_by_caller None on q = (refl, tt)
-  put_by_caller (Some h) on q = tt
-
-  every_append : (xs ys : List SentCommand) → Every (λ (c : SentCommand). c.origin ≡ Caller) xs
-      → Every (λ (c : SentCommand). c.origin ≡ Caller) ys
-      → Every (λ (c : SentCommand). c.origin ≡ Caller) (xs ++ ys)
-  every_append [] ys a b = b
-  every_append (x ∷ xs) ys a b = (a.0, every_append xs ys a.1 b)
-
-  callers : (log : List LogEntry) → Every (λ (c : SentCommand). c.origin ≡ Caller) (sent s log)
-  callers [] = tt
-  callers (Ask q ∷ log) =
-      every_append (sent s log)
-      (put_ask (held_for q (held s log)) s.mode (caching_on_for s.mode log (key_of q)) q)
-      (callers log)
-      (put_by_caller (held_for q (held s log)) (caching_on_for s.mode log (key_of q)) q)
-  callers (Send ws ∷ log) = every_append (sent s log) _ (callers log) (refl, tt)
-  callers (Poll n ∷ log) = callers log
-  callers (TakeOut w n ∷ log) = callers log
-  callers (Got w v ∷ log) = callers log
-  callers (End w ∷ log) = callers log
-  callers (Bad w v ∷ log) = callers log
-
   no_control_at : (cs : List SentCommand) (k : ℕ) (words : List (List ℕ))
       → Every (λ (c : SentCommand). c.origin ≡ Caller) cs
       → Every (λ (c : SentCommand). c.origin ≡ Caller → is_control c.words ≡ false) cs
@@ -115,7 +83,7 @@ module _ (s : Setup) where
   -- no command behind the handshake is a control command
   pub is_no_control : (log : List LogEntry) → LegalLog s log → (k : ℕ) (words : List (List ℕ))
       → slice_get (commands s Main log) (suc (suc k)) ≡ Some words → is_control words ≡ false
-  is_no_control log h k words e = no_control_at (sent s log) k words (callers log)
+  is_no_control log h k words e = no_control_at (sent s log) k words (sent_callers s log)
       (no_control s log h) e
 
   next_mode : (log : List LogEntry) → LegalLog s log → (n : ℕ) (words : List (List ℕ))

@@ -1,9 +1,10 @@
 -- The last reply to a command that names a key.
-use Rattle.std.proofs.Common.{◌≡◌, ◌+◌, ◌<◌, ◌≤◌, ℕ, zero, suc, List, [], ◌∷◌}
-use Rattle.std.proofs.Common.{Bool, true, false, cond, refl, ap, sym, ◌∙◌, arith, Some, take}
+use Rattle.std.proofs.Common.{◌≡◌, ◌+◌, ◌<◌, ℕ, zero, suc, List, [], ◌∷◌}
+use Rattle.std.proofs.Common.{Bool, cond, refl, ap, sym, ◌∙◌, arith, Some, take}
 use Rattle.std.proofs.Common.{inl, inr, max, drop, subst}
 use Rattle.std.specs.Prelude.{slice_get}
 use Rattle.std.proofs.lemmas.Bool.{cases_lt}
+use Rattle.std.proofs.lemmas.Grind.{common_steps}
 use Rattle.shared_cache.specs.Laws.{Every}
 use Rattle.currency.specs.Points.{names_key, last_named}
 
@@ -15,15 +16,8 @@ pub record NamedAt (runs : List (List (List ℕ))) (entries : List ℕ) (last : 
   pub there : slice_get runs place ≡ Some words
   pub entry : slice_get entries place ≡ Some last
 
-greater_left : (a b : ℕ) → b ≤ a → max a b ≡ a
-greater_left a b h = omega (arith, h)
-
-greater_right : (a b : ℕ) → a < b → max a b ≡ b
-greater_right a b h = omega (arith, h)
-
 names_it : (b : Bool) (r : ℕ) → 0 < cond b r 0 → cond b r 0 ≡ r
-names_it true r h = refl
-names_it false r h = absurd (let no : ⊥ = omega (arith, h) in no)
+names_it b r h = grind (arith, common_steps)
 
 pub named_at : (key : List ℕ) (runs : List (List (List ℕ))) (entries : List ℕ)
     → 0 < last_named key runs entries → NamedAt runs entries (last_named key runs entries)
@@ -32,7 +26,8 @@ named_at key (w ∷ runs) [] h = absurd (let no : ⊥ = omega (arith, h) in no)
 named_at key (w ∷ runs) (r ∷ entries) h =
     elim (cases_lt (cond (names_key w key) r 0) (last_named key runs entries)) [
       | inl lt ↦
-          let m = greater_right (cond (names_key w key) r 0) (last_named key runs entries) lt in
+          let m : max (cond (names_key w key) r 0) (last_named key runs entries)
+              ≡ last_named key runs entries = omega (arith, lt) in
           let rest = named_at key runs entries (omega (arith, lt)) in record {
             place = suc rest.place;
             words = rest.words;
@@ -40,7 +35,8 @@ named_at key (w ∷ runs) (r ∷ entries) h =
             entry = rest.entry ∙ ap Some (sym m);
           }
       | inr le ↦
-          let m = greater_left (cond (names_key w key) r 0) (last_named key runs entries) le in
+          let m : max (cond (names_key w key) r 0) (last_named key runs entries)
+              ≡ cond (names_key w key) r 0 = omega (arith, le) in
           let pos : 0 < cond (names_key w key) r 0 = omega (arith, m, h) in record {
             place = 0;
             words = w;

@@ -1,10 +1,11 @@
 -- The reply of a place, and the Run that it replies to.
 use Rattle.std.proofs.Common.{◌≡◌, ◌+◌, ◌-◌, ◌<◌, ℕ, List, [], ◌∷◌, ◌++◌, length}
 use Rattle.std.proofs.Common.{true, false, cond, refl, ap, sym, ◌∙◌, arith, Some}
-use Rattle.std.proofs.Common.{inl, inr, length-append, reverse}
+use Rattle.std.proofs.Common.{inl, inr, reverse}
 use Rattle.std.specs.Prelude.{slice_get, ◌==◌}
 use Rattle.std.proofs.lemmas.Bool.{eqb-true}
 use Rattle.std.proofs.lemmas.List.{reverse-append, length-reverse}
+use Rattle.std.proofs.lemmas.Grind.{common_steps}
 use Rattle.resp_value.specs.declared.value.Value.{Value}
 use Rattle.serial_model.specs.declared.history.Limits.{Limits}
 use Rattle.serial_model.specs.declared.history.Entry.{Entry}
@@ -35,19 +36,7 @@ module _ (l : Limits) (c : ℕ) where
   replies_count (Tick moment ∷ past) = replies_count past
   replies_count (Take id max ∷ past) = replies_count past
   replies_count (Close id ∷ past) = replies_count past
-  replies_count (Run id words moment ∷ past) =
-      elim (id == c) as (λ b. length (cond b (replies_of l c past
-      ++ (length past + 1, (reply_of l past id words moment).1) ∷ []) (replies_of l c past))
-      ≡ length (cond b (run_entries c past ++ (length past + 1) ∷ []) (run_entries c past))) [
-        | true ↦ omega (
-          arith,
-          replies_count past,
-          length-append (replies_of l c past)
-              ((length past + 1, (reply_of l past id words moment).1) ∷ []),
-          length-append (run_entries c past) ((length past + 1) ∷ []),
-        )
-        | false ↦ replies_count past
-      ]
+  replies_count (Run id words moment ∷ past) = grind (arith, common_steps, replies_count past)
 
   newer_placed : (e : Entry) (past : List Entry) (place : ℕ) (s : ℕ × Sending)
       → ((n : ℕ) → slice_get (run_entries c past) place ≡ Some n
@@ -122,12 +111,6 @@ module _ (l : Limits) (c : ℕ) where
 
 -- ---- replies by number
 
-reverse_end : (v : Value) (vs : List Value) → reverse (v ∷ vs) ≡ reverse vs ++ v ∷ []
-reverse_end v vs = reverse-append (v ∷ []) vs
-
-reverse_count : (vs : List Value) → length (reverse vs) ≡ length vs
-reverse_count vs = length-reverse vs
-
 pub reply_place : (n : ℕ) (vs : List Value) (v : Value) → reply_in n vs ≡ Some v
     → (0 < n) × (slice_get (reverse vs) (n - 1) ≡ Some v)
 reply_place n [] v e = absurd (let no : ⊥ = cc in no)
@@ -140,14 +123,14 @@ reply_place n (u ∷ vs) v e =
           let at : n ≡ length vs + 1 = eqb-true n (length vs + 1) h in (
             omega (arith, at),
             ap (slice_get (reverse (u ∷ vs)))
-                (let k : n - 1 ≡ length (reverse vs) = omega (arith, at, reverse_count vs) in k)
-                ∙ ap (λ l. slice_get l (length (reverse vs))) (reverse_end u vs)
+                (let k : n - 1 ≡ length (reverse vs) = omega (arith, at, length-reverse vs) in k)
+                ∙ ap (λ l. slice_get l (length (reverse vs))) (reverse-append (u ∷ []) vs)
                 ∙ get_last (reverse vs) u ∙ ap Some same,
           )
       | false ↦ λ h e.
           let r = reply_place n vs v e in (
             r.0,
-            ap (λ l. slice_get l (n - 1)) (reverse_end u vs)
+            ap (λ l. slice_get l (n - 1)) (reverse-append (u ∷ []) vs)
                 ∙ get_front (reverse vs) (u ∷ []) (n - 1) v r.1,
           )
     ] refl e

@@ -5,6 +5,8 @@ use Rattle.std.proofs.Common.{append-nil, Ok, Err, Result}
 use Rattle.std.specs.Prelude.{◌==◌}
 use Rattle.std.specs.List.{filter}
 use Rattle.std.proofs.lemmas.List.Elements.{filter-append}
+use Rattle.std.proofs.Common.{arith}
+use Rattle.std.proofs.lemmas.Grind.{common_steps}
 use Rattle.resp_value.specs.declared.value.Value.{Value}
 use Rattle.resp_value.specs.declared.value.Proto.{Proto}
 use Rattle.resp_value.specs.declared.value.Proto.TheVariants.{Two, Three}
@@ -20,7 +22,7 @@ use Rattle.serial_model.specs.declared.history.Limits.{Limits}
 use Rattle.serial_model.specs.declared.history.Entry.{Entry}
 use Rattle.serial_model.specs.declared.history.Entry.TheVariants.{Admit, Run, Tick, Take, Close}
 use Rattle.serial_model.specs.Modes.{hello, hello_reply}
-use Rattle.serial_model.specs.Tracking.{Invalidation, push_of, drop_group}
+use Rattle.serial_model.specs.Tracking.{Invalidation, drop_group}
 use Rattle.serial_model.specs.History.{Sending, Message, End, sends, sent_to, sent, modes, served}
 use Rattle.serial_model.specs.History.{by_proto, route, routed, expiry_group, own_group, drops}
 use Rattle.serial_model.specs.History.{reply_of, reply_protocol, ran, ran_over, effect_of}
@@ -73,13 +75,7 @@ route_no_reply : (n c : ℕ) (p : Proto) (i : Invalidation)
     → filter is_reply_sent (sent_to n c (by_proto p i)) ≡ []
 unfolding is_reply_sent is_push
 route_no_reply n c Two i = refl
-route_no_reply n c Three i =
-    elim (i.to == c) as (λ b. filter is_reply_sent (cond b ((
-      n,
-      Message Three
-          (push_of i.keys),
-    ) ∷ [])
-    []) ≡ []) [ true ↦ refl | false ↦ refl ]
+route_no_reply n c Three i = grind (arith, common_steps)
 
 pub routed_no_reply : (n c : ℕ) (of : ℕ → Mode) (told : List Invalidation)
     → filter is_reply_sent (sent_to n c (routed of told)) ≡ []
@@ -95,10 +91,7 @@ reply_kept : (b : Bool) (n : ℕ) (p : Proto) (v : Value) (ss : List (ℕ × Sen
     → is_push v ≡ false → filter is_reply_sent ss ≡ []
     → filter is_reply_sent (cond b ((n, Message p v) ∷ ss) ss) ≡ cond b ((n, Message p v) ∷ []) []
 unfolding is_reply_sent
-reply_kept true n p v ss h none =
-    ap (λ b. cond (cond b false true) ((n, Message p v) ∷ filter is_reply_sent ss)
-    (filter is_reply_sent ss)) h ∙ ap (λ xs. (n, Message p v) ∷ xs) none
-reply_kept false n p v ss h none = none
+reply_kept b n p v ss h none = grind (arith, common_steps)
 
 run_reply : (l : Limits) (n c : ℕ) (past : List Entry) (id : ℕ) (words : List (List ℕ)) (m : ℕ)
     → filter is_reply_sent (sent_to n c (sends l (Run id words m) past))
@@ -133,12 +126,10 @@ add_none l c e past none before =
 
 close_none : (n : ℕ) (b : Bool) → filter is_reply_sent (cond b ((n, End) ∷ []) []) ≡ []
 unfolding is_reply_sent
-close_none n true = refl
-close_none n false = refl
+close_none n b = grind (arith, common_steps)
 
 out_of : (b : Bool) (xs ys : List (ℕ × Sending)) → xs ++ cond b ys [] ≡ cond b (xs ++ ys) xs
-out_of true xs ys = refl
-out_of false xs ys = append-nil xs
+out_of b xs ys = grind (arith, common_steps)
 
 pub replies_are_of_runs : (l : Limits) (c : ℕ) (past : List Entry)
     → filter is_reply_sent (sent l c past) ≡ replies_of l c past

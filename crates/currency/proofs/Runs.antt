@@ -4,6 +4,7 @@ use Rattle.std.proofs.Common.{true, false, cond, drop, refl, ap, sym, ◌∙◌,
 use Rattle.std.proofs.Common.{◌⊎◌, inl, inr, append_assoc, length-append, append-nil, subst}
 use Rattle.std.specs.Prelude.{slice_get, ◌==◌}
 use Rattle.std.proofs.lemmas.Option.{slice_get_within}
+use Rattle.std.proofs.lemmas.Grind.{common_steps}
 use Rattle.resp_value.specs.Lists.{IsPrefix}
 use Rattle.serial_model.specs.declared.history.Limits.{Limits}
 use Rattle.serial_model.specs.declared.history.Entry.{Entry}
@@ -96,18 +97,7 @@ module _ (c : ℕ) where
   pub runs_count : (past : List Entry) → length (run_entries c past) ≡ length (runs_of c past)
   runs_count [] = refl
   runs_count (Admit id ∷ past) = runs_count past
-  runs_count (Run id words moment ∷ past) =
-      elim (id == c) as (λ b. length (cond b (run_entries c past ++ (length past + 1) ∷ [])
-      (run_entries c past))
-      ≡ length (cond b (runs_of c past ++ words ∷ []) (runs_of c past))) [
-        | true ↦ omega (
-          arith,
-          runs_count past,
-          length-append (run_entries c past) ((length past + 1) ∷ []),
-          length-append (runs_of c past) (words ∷ []),
-        )
-        | false ↦ runs_count past
-      ]
+  runs_count (Run id words moment ∷ past) = grind (arith, common_steps, runs_count past)
   runs_count (Tick moment ∷ past) = runs_count past
   runs_count (Take id max ∷ past) = runs_count past
   runs_count (Close id ∷ past) = runs_count past

@@ -1,11 +1,11 @@
 -- What was sent to a connection, by its places and by the numbers of its entries.
 use Rattle.std.proofs.Common.{◌≡◌, ◌+◌, ◌<◌, ◌≤◌, ℕ, zero, suc, List, [], ◌∷◌, ◌++◌, length}
-use Rattle.std.proofs.Common.{Bool, true, false, cond, refl, ap, sym, ◌∙◌, arith, Some}
+use Rattle.std.proofs.Common.{true, false, cond, refl, ap, sym, ◌∙◌, arith, Some}
 use Rattle.std.proofs.Common.{◌⊎◌, inl, inr, append_assoc, append-nil}
-use Rattle.std.specs.Prelude.{slice_get, ◌==◌, ◌&&◌, Option}
+use Rattle.std.specs.Prelude.{slice_get, ◌==◌, Option}
 use Rattle.std.specs.List.{list_any}
 use Rattle.std.proofs.lemmas.Option.{slice_get_within}
-use Rattle.std.proofs.lemmas.Bool.{eqb-true}
+use Rattle.std.proofs.lemmas.Bool.{and_parts, eqb-true}
 use Rattle.resp_value.specs.Lists.{IsPrefix}
 use Rattle.resp_value.specs.declared.value.Proto.TheVariants.{Three}
 use Rattle.serial_model.specs.declared.mode.Mode.{Mode}
@@ -148,10 +148,6 @@ module _ (c : ℕ) where
       pub there : slice_get (sent l c past) place ≡ Some (n, Message Three (push_of keys))
       pub names : names_key keys key ≡ true
 
-    pub both : (a b : Bool) → (a && b) ≡ true → (a ≡ true) × (b ≡ true)
-    both true b h = (refl, h)
-    both false b h = absurd (let no : ⊥ = cc in no)
-
     pub routed_at : (of : ℕ → Mode) (told : List Invalidation) (k : ℕ) (i : Invalidation)
         → slice_get told k ≡ Some i → (of i.to).proto ≡ Three
         → (n : ℕ) × (slice_get (routed of told) n ≡ Some (i.to, Message Three (push_of i.keys)))
@@ -163,7 +159,7 @@ module _ (c : ℕ) where
         → slice_get (sends l x up) k ≡ Some (i.to, Message Three (push_of i.keys))
         → tells c key i ≡ true → Told (x ∷ up) (length up + 1) key
     told_by x up key i k e t =
-        let h = both (i.to == c) (names_key i.keys key) t in
+        let h = and_parts (i.to == c) (names_key i.keys key) t in
         let r = sent_at x up k (i.to, Message Three (push_of i.keys)) e h.0 in
         record { place = r.0; keys = i.keys; there = r.1; names = h.1 }
 
@@ -175,7 +171,7 @@ module _ (c : ℕ) where
     lands (Tick moment) up key h before after =
         let early = expiry_group l up moment in
         let p = one_passes (tells c key) early h in
-        let own : (p.one.to == c) ≡ true = (both (p.one.to == c) (names_key p.one.keys key)
+        let own : (p.one.to == c) ≡ true = (and_parts (p.one.to == c) (names_key p.one.keys key)
         p.passes).0 in
         let r = routed_at (modes l up) early p.at p.one p.there
         (ap (λ d. (mode l d up).proto) (eqb-true p.one.to c own) ∙ before) in
@@ -190,7 +186,7 @@ module _ (c : ℕ) where
         (append_assoc early (own_group l up id words moment)
         (drop_group (drops l up id words moment)))) ∙ h in
         let p = one_passes (tells c key) (early ++ late) parted in
-        let own : (p.one.to == c) ≡ true = (both (p.one.to == c) (names_key p.one.keys key)
+        let own : (p.one.to == c) ≡ true = (and_parts (p.one.to == c) (names_key p.one.keys key)
         p.passes).0 in
         let of = modes l (x ∷ up) in
         let reply = reply_of l up id words moment in

@@ -1,11 +1,12 @@
 -- Lists of marks, what is among them and what a filter leaves.
 use Rattle.std.proofs.Common.{◌≡◌, ◌==◌, ◌<◌, ◌++◌, ◌⊎◌, ℕ, List, [], ◌∷◌, Bool, true, false, cond}
-use Rattle.std.proofs.Common.{not, Option, Some, None, sym, ap, ◌∙◌, refl, inl, inr, subst, arith}
-use Rattle.std.proofs.Common.{eq-eqb, ne_eqb}
+use Rattle.std.proofs.Common.{Option, Some, None, sym, ap, ◌∙◌, refl, inl, inr, subst, arith}
+use Rattle.std.proofs.Common.{eq-eqb}
 use Rattle.std.specs.List.{filter}
 use Rattle.std.specs.Bool.{OnTrue}
 use Rattle.std.specs.Option.{is_some, option_or}
 use Rattle.std.proofs.lemmas.Bool.{eqb-true}
+use Rattle.std.proofs.lemmas.Grind.{common_steps}
 use Rattle.fill_mark.specs.declared.marks.Mark.{Mark}
 use Rattle.fill_mark.specs.Marks.{query_marked}
 use Rattle.fill_mark.specs.Tables.{Among}
@@ -13,10 +14,6 @@ use Rattle.fill_mark.specs.Tables.{Among}
 or_right : {P Q R : Type 0} → (Q → R) → P ⊎ Q → P ⊎ R
 or_right f (inl x) = inl x
 or_right f (inr y) = inr (f y)
-
-pub not_true : (b : Bool) → not b ≡ true → b ≡ false
-not_true true e = cc
-not_true false e = refl
 
 -- ---- what is among a list
 
@@ -52,50 +49,34 @@ among_either m (x ∷ xs) ys (inr a) = elim (among_either m xs ys a) [
 pub filter_keeps : (p : Mark → Bool) (ms : List Mark) → ((m : Mark) → Among m ms → p m ≡ true)
     → filter p ms ≡ ms
 filter_keeps p [] all = refl
-filter_keeps p (o ∷ os) all =
-    ap (λ b. cond b (o ∷ filter p os) (filter p os)) (all o (inl refl))
-    ∙ ap (λ l. o ∷ l) (filter_keeps p os (λ m a. all m (inr a)))
+filter_keeps p (o ∷ os) all = grind (arith, common_steps, all o (inl refl),
+    filter_keeps p os (λ m a. all m (inr a)))
 
 pub filter_alike : (p q : Mark → Bool) (ms : List Mark)
     → ((m : Mark) → Among m ms → p m ≡ q m) → filter p ms ≡ filter q ms
 filter_alike p q [] e = refl
-filter_alike p q (o ∷ os) e =
-    ap (λ b. cond b (o ∷ filter p os) (filter p os)) (e o (inl refl))
-    ∙ ap (λ l. cond (q o) (o ∷ l) l) (filter_alike p q os (λ m a. e m (inr a)))
+filter_alike p q (o ∷ os) e = grind (arith, common_steps, e o (inl refl),
+    filter_alike p q os (λ m a. e m (inr a)))
 
 -- what another filter took would not have passed
 pub filter_twice : (p r : Mark → Bool) (ms : List Mark)
     → ((m : Mark) → Among m ms → r m ≡ false → p m ≡ false)
     → filter p (filter r ms) ≡ filter p ms
 filter_twice p r [] h = refl
-filter_twice p r (o ∷ os) h =
-    by (filter_twice p r os (λ m a. h m (inr a))) (r o) refl
-  where
-    by : filter p (filter r os) ≡ filter p os → (b : Bool) → r o ≡ b
-        → filter p (cond b (o ∷ filter r os) (filter r os)) ≡ filter p (o ∷ os)
-    by rest true e = ap (λ l. cond (p o) (o ∷ l) l) rest
-    by rest false e =
-        rest ∙ sym (ap (λ b. cond b (o ∷ filter p os) (filter p os)) (h o (inl refl) e))
+filter_twice p r (o ∷ os) h = grind (arith, common_steps, h o (inl refl),
+    filter_twice p r os (λ m a. h m (inr a)))
 
 -- ---- marks by number
 
 pub marked_append : (n : ℕ) (xs ys : List Mark) (q : List (List ℕ))
     → query_marked n xs ≡ Some q → query_marked n (xs ++ ys) ≡ Some q
 marked_append n [] ys q e = cc
-marked_append n (x ∷ xs) ys q e =
-    elim (x.number == n) as
-    (λ b. cond b (Some x.query) (query_marked n xs) ≡ Some q
-    → cond b (Some x.query) (query_marked n (xs ++ ys)) ≡ Some q)
-    [ true ↦ λ f. f | false ↦ marked_append n xs ys q ] e
+marked_append n (x ∷ xs) ys q e = grind (arith, common_steps, marked_append n xs ys q)
 
 pub marked_behind : (n : ℕ) (xs ys : List Mark) → query_marked n xs ≡ None
     → query_marked n (xs ++ ys) ≡ query_marked n ys
 marked_behind n [] ys e = refl
-marked_behind n (x ∷ xs) ys e =
-    elim (x.number == n) as
-    (λ b. cond b (Some x.query) (query_marked n xs) ≡ None
-    → cond b (Some x.query) (query_marked n (xs ++ ys)) ≡ query_marked n ys)
-    [ true ↦ λ f. cc | false ↦ marked_behind n xs ys ] e
+marked_behind n (x ∷ xs) ys e = grind (arith, common_steps, marked_behind n xs ys)
 
 pub mark_is : (n : ℕ) (q : List (List ℕ)) (o : Mark) → o.number ≡ n → o.query ≡ q
     → ◌≡◌ {A = Mark} (record { number = n; query = q }) o
@@ -150,11 +131,8 @@ found_filter p ms each m a =
 pub none_above : (n : ℕ) (ms : List Mark) → ((m : Mark) → Among m ms → m.number < n)
     → query_marked n ms ≡ None
 none_above n [] below = refl
-none_above n (o ∷ os) below =
-    let lt : o.number < n = below o (inl refl) in
-    ap (λ b. cond b (Some o.query) (query_marked n os))
-    (ne_eqb o.number n (λ e. omega (arith, lt, e)))
-    ∙ none_above n os (λ m a. below m (inr a))
+none_above n (o ∷ os) below = grind (arith, common_steps, below o (inl refl),
+    none_above n os (λ m a. below m (inr a)))
 
 pub found_more : (n : ℕ) (q : List (List ℕ)) (ms : List Mark) → EachFound ms
     → ((m : Mark) → Among m ms → m.number < n)
@@ -188,8 +166,4 @@ below_as n ms os e b below = subst (λ l. OnTrue b ((m : Mark) → Among m l →
 pub marked_or : (n : ℕ) (xs ys : List Mark)
     → query_marked n (xs ++ ys) ≡ option_or (query_marked n xs) (query_marked n ys)
 marked_or n [] ys = refl
-marked_or n (x ∷ xs) ys =
-    elim (x.number == n) as
-    (λ b. cond b (Some x.query) (query_marked n (xs ++ ys))
-    ≡ option_or (cond b (Some x.query) (query_marked n xs)) (query_marked n ys))
-    [ true ↦ refl | false ↦ marked_or n xs ys ]
+marked_or n (x ∷ xs) ys = grind (arith, common_steps, marked_or n xs ys)

@@ -1,11 +1,13 @@
 -- Finding a mark by its number, and what stays when it goes.
-use Rattle.std.proofs.Common.{◌≡◌, ◌==◌, ◌+◌, ◌<◌, ◌++◌, ℕ, zero, suc, List, [], ◌∷◌, length, take}
-use Rattle.std.proofs.Common.{drop, get_or, Bool, true, false, cond, not, Some, None, sym}
+use Rattle.std.proofs.Common.{◌≡◌, ◌+◌, ◌<◌, ◌++◌, ℕ, zero, suc, List, [], ◌∷◌, length, take}
+use Rattle.std.proofs.Common.{drop, get_or, Bool, false, cond, Some, None, sym}
 use Rattle.std.proofs.Common.{ap, ◌∙◌, refl, eq-eqb}
 use Rattle.std.proofs.Common.{Bor, Option}
 use Rattle.std.specs.List.{filter, slice_get}
 use Rattle.std.specs.Option.{option_copied, IfNone}
 use Rattle.std.proofs.lemmas.List.{at_drop_more}
+use Rattle.std.proofs.Common.{arith}
+use Rattle.std.proofs.lemmas.Grind.{common_steps}
 use Rattle.fill_mark.specs.declared.marks.Mark.{Mark}
 use Rattle.fill_mark.specs.Marks.{query_marked, without_number}
 
@@ -22,13 +24,7 @@ found n marks i m lt e is =
 pub none_goes : (n : ℕ) (marks : List Mark) → query_marked n marks ≡ None
     → marks ≡ without_number n marks
 none_goes n [] h = refl
-none_goes n (m ∷ marks) h =
-    elim (m.number == n) as
-    (λ b. cond b (Some m.query) (query_marked n marks) ≡ None
-    → m ∷ marks ≡ cond (not b) (m ∷ without_number n marks) (without_number n marks)) [
-      | true ↦ λ e. cc
-      | false ↦ λ e. ap (λ l. m ∷ l) (none_goes n marks e)
-    ] h
+none_goes n (m ∷ marks) h = grind (arith, common_steps, none_goes n marks)
 
 pub none_found : (n : ℕ) (marks : List Mark) (r : Option (Bor (List (List ℕ))))
     → option_copied r ≡ query_marked n marks → IfNone r (marks ≡ without_number n marks)

@@ -2,14 +2,15 @@
 -- found as before.
 use Rattle.std.proofs.Common.{◌≡◌, ◌==◌, ◌<◌, ◌++◌, ◌⊎◌, ℕ, List, [], ◌∷◌, Bool, true, false, cond}
 use Rattle.std.proofs.Common.{not, Option, Some, None, sym, ap, ◌∙◌, refl, inl, inr, subst, arith}
-use Rattle.std.proofs.Common.{eq-eqb, ne_eqb, ◌||◌}
+use Rattle.std.proofs.Common.{eq-eqb, ne_eqb}
 use Rattle.std.specs.List.{filter, list_any}
 use Rattle.std.specs.Option.{is_some}
 use Rattle.std.specs.FinMap.{insert, remove}
 use Rattle.std.specs.Str.{bytes_eq}
-use Rattle.std.proofs.lemmas.Bool.{cases_Bool, eqb-true}
+use Rattle.std.proofs.lemmas.Bool.{cases_Bool, eqb-true, not-false, not-true, or_cases}
 use Rattle.std.proofs.lemmas.List.Elements.{filter-append}
 use Rattle.std.proofs.lemmas.Slice.Eq.{bytes_eq-Decides, slice_eq-Decides}
+use Rattle.std.proofs.lemmas.Grind.{common_steps}
 use Rattle.command_words.specs.Queries.{key_of, same_query}
 use Rattle.fill_mark.specs.declared.marks.Mark.{Mark}
 use Rattle.fill_mark.specs.Marks.{query_marked, without_number, without_query, without_key}
@@ -19,7 +20,7 @@ use Rattle.fill_mark.specs.Tables.{asks_of, number_of, without_listed, AreIndexe
 use Rattle.fill_mark.specs.Tables.{without_some}
 use Rattle.fill_mark.proofs.Amongst.{among_filter, passes, among_either, filter_keeps}
 use Rattle.fill_mark.proofs.Amongst.{filter_alike, filter_twice, marked_one, EachFound}
-use Rattle.fill_mark.proofs.Amongst.{found_filter, found_more, not_true}
+use Rattle.fill_mark.proofs.Amongst.{found_filter, found_more}
 use Rattle.fill_mark.proofs.Keyed.{numbers_put, numbers_taken}
 
 abbrev Words : Type 0
@@ -43,57 +44,29 @@ same_bytes a b e = (bytes_eq-Decides a b).0 e
 bytes_same : (a b : List ℕ) → a ≡ b → bytes_eq a b ≡ true
 bytes_same a b e = (bytes_eq-Decides a b).1 e
 
--- what is listed is the first or among the others
-either_or : (a b : Bool) → (a || b) ≡ true → (a ≡ true) ⊎ (b ≡ true)
-either_or true b e = inl refl
-either_or false b e = inr e
-
-or_left : (a b : Bool) → a ≡ true → (a || b) ≡ true
-or_left a b e = ap (λ x. x || b) e
-
-or_right : (a b : Bool) → b ≡ true → (a || b) ≡ true
-or_right true b e = refl
-or_right false b e = e
-
 -- a number that is listed passes what the list has none of
 any_of : (p : ℕ → Bool) (k : ℕ) (ns : List ℕ) → list_any (is_at k) ns ≡ true → p k ≡ true
     → list_any p ns ≡ true
 any_of p k [] l t = cc
-any_of p k (n ∷ ns) l t = elim (either_or (n == k) (list_any (is_at k) ns) l) [
-  | inl e ↦ or_left (p n) (list_any p ns) (ap p (eqb-true n k e) ∙ t)
-  | inr r ↦ or_right (p n) (list_any p ns) (any_of p k ns r t)
-]
+any_of p k (n ∷ ns) l t = grind (arith, common_steps, any_of p k ns, eqb-true n k)
 
 listed_kept : (p : ℕ → Bool) (k : ℕ) (ns : List ℕ) → list_any (is_at k) ns ≡ true → p k ≡ true
     → list_any (is_at k) (filter p ns) ≡ true
 listed_kept p k [] l t = cc
-listed_kept p k (n ∷ ns) l t = elim (either_or (n == k) (list_any (is_at k) ns) l) [
-  | inl e ↦
-      ap (λ b. list_any (is_at k) (cond b (n ∷ filter p ns) (filter p ns)))
-      (ap p (eqb-true n k e) ∙ t)
-      ∙ or_left (n == k) (list_any (is_at k) (filter p ns)) e
-  | inr r ↦
-      elim (p n) as (λ b. list_any (is_at k) (cond b (n ∷ filter p ns) (filter p ns)) ≡ true) [
-        | true ↦ or_right (n == k) (list_any (is_at k) (filter p ns)) (listed_kept p k ns r t)
-        | false ↦ listed_kept p k ns r t
-      ]
-]
+listed_kept p k (n ∷ ns) l t = grind (arith, common_steps, listed_kept p k ns, eqb-true n k)
 
 listed_left : (k : ℕ) (ns ms : List ℕ) → list_any (is_at k) ns ≡ true
     → list_any (is_at k) (ns ++ ms) ≡ true
 listed_left k [] ms l = cc
-listed_left k (n ∷ ns) ms l = elim (either_or (n == k) (list_any (is_at k) ns) l) [
-  | inl e ↦ or_left (n == k) (list_any (is_at k) (ns ++ ms)) e
-  | inr r ↦ or_right (n == k) (list_any (is_at k) (ns ++ ms)) (listed_left k ns ms r)
-]
+listed_left k (n ∷ ns) ms l = grind (arith, common_steps, listed_left k ns ms)
 
 listed_last : (k : ℕ) (ns : List ℕ) → list_any (is_at k) (ns ++ k ∷ []) ≡ true
-listed_last k [] = or_left (k == k) false (eq-eqb k k refl)
-listed_last k (n ∷ ns) = or_right (n == k) (list_any (is_at k) (ns ++ k ∷ [])) (listed_last k ns)
+listed_last k [] = grind (arith, common_steps)
+listed_last k (n ∷ ns) = grind (arith, common_steps, listed_last k ns)
 
 other_mark : (m : Mark) (n : ℕ) → not (m.number == n) ≡ true → (n == m.number) ≡ true → ⊥
 other_mark m n p e =
-    clash (m.number == n) (eq-eqb m.number n (sym (eqb-true n m.number e))) (not_true _ p)
+    clash (m.number == n) (eq-eqb m.number n (sym (eqb-true n m.number e))) (not-true _ p)
 
 pub indexed_as : (keys now : KeyIndex) (ms os : List Mark) → now ≡ keys → os ≡ ms
     → AreIndexed keys ms → AreIndexed now os
@@ -129,7 +102,7 @@ pub indexed_void : (key : List ℕ) (keys : KeyIndex) (ms : List Mark) → AreIn
 indexed_void key keys ms are =
     let p : Mark → Bool = λ m. not (bytes_eq (key_of m.query) key) in
     indexed_taken key keys (without_key key ms) (indexed_filter p keys ms are)
-    (λ m a. not_true _ (passes p m ms a))
+    (λ m a. not-true _ (passes p m ms a))
 
 -- where no number of a key is marked, none of the marks is of that key
 pub indexed_settled : (key : List ℕ) (keys : KeyIndex) (ms : List Mark) → AreIndexed keys ms
@@ -172,22 +145,18 @@ void_listed key (n ∷ ns) ms each all = elim (cases_Bool (asks_of key (query_ma
   | inl t ↦
       ap (λ b. without_listed key ns (cond b (without_number n ms) ms)) t
       ∙ void_listed key ns (without_number n ms) (found_filter (λ m. not (m.number == n)) ms each)
-      (λ m a e. by_other m a (either_or (n == m.number) (list_any (is_at m.number) ns)
+      (λ m a e. by_other m a (or_cases (n == m.number) (list_any (is_at m.number) ns)
       (all m (among_filter _ m ms a) e)))
       ∙ filter_twice (λ m. not (bytes_eq (key_of m.query) key)) (λ m. not (m.number == n)) ms
       (λ m a e. ap not (ap (asks_of key) (sym (each m a))
-      ∙ ap (λ k. asks_of key (query_marked k ms)) (eqb-true m.number n (not_false _ e)) ∙ t))
+      ∙ ap (λ k. asks_of key (query_marked k ms)) (eqb-true m.number n (not-false _ e)) ∙ t))
   | inr f ↦
       ap (λ b. without_listed key ns (cond b (without_number n ms) ms)) f
       ∙ void_listed key ns ms each
-      (λ m a e. by_number m a e f (either_or (n == m.number) (list_any (is_at m.number) ns)
+      (λ m a e. by_number m a e f (or_cases (n == m.number) (list_any (is_at m.number) ns)
       (all m a e)))
 ]
   where
-    not_false : (b : Bool) → not b ≡ false → b ≡ true
-    not_false true e = refl
-    not_false false e = cc
-
     by_other : (m : Mark) → Among m (without_number n ms)
         → ((n == m.number) ≡ true) ⊎ (list_any (is_at m.number) ns ≡ true)
         → list_any (is_at m.number) ns ≡ true
@@ -219,7 +188,7 @@ none_listed : (q : Words) (ms : List Mark) (ns : List ℕ) → EachFound ms
 none_listed q ms [] each e m a l = cc
 none_listed q ms (n ∷ ns) each e m a l =
     by (none_listed q ms ns each) (asks q (query_marked n ms)) refl e
-    (either_or (n == m.number) (list_any (is_at m.number) ns) l)
+    (or_cases (n == m.number) (list_any (is_at m.number) ns) l)
   where
     by : (number_of q ms ns ≡ None → (m : Mark) → Among m ms
         → list_any (is_at m.number) ns ≡ true → same_query m.query q ≡ false)
@@ -236,14 +205,7 @@ none_listed q ms (n ∷ ns) each e m a l =
 some_asks : (q : Words) (ms : List Mark) (ns : List ℕ) (n : ℕ) → number_of q ms ns ≡ Some n
     → asks q (query_marked n ms) ≡ true
 some_asks q ms [] n e = cc
-some_asks q ms (k ∷ ns) n e = by (some_asks q ms ns n) (asks q (query_marked k ms)) refl e
-  where
-    by : (number_of q ms ns ≡ Some n → asks q (query_marked n ms) ≡ true) → (b : Bool)
-        → asks q (query_marked k ms) ≡ b → cond b (Some k) (number_of q ms ns) ≡ Some n
-        → asks q (query_marked n ms) ≡ true
-    by rest true t h =
-        let same : k ≡ n = cc in ap (λ x. asks q (query_marked x ms)) (sym same) ∙ t
-    by rest false f h = rest h
+some_asks q ms (k ∷ ns) n e = grind (arith, common_steps, some_asks q ms ns n)
 
 asked : (q : Words) (o : Option Words) → asks q o ≡ true
     → (p : Words) × (o ≡ Some p) × (same_query p q ≡ true)
@@ -352,7 +314,7 @@ module _ (q : Words) (number : ℕ) (keys : KeyIndex) (ms : List Mark) (are : Ar
   one = record { number = number; query = q } ∷ []
 
   gone : (m : Mark) → Among m (without_query q ms) → same_query m.query q ≡ false
-  gone m a = not_true _ (passes (λ o. not (same_query o.query q)) m ms a)
+  gone m a = not-true _ (passes (λ o. not (same_query o.query q)) m ms a)
 
   pub indexed_with : AreIndexed now (with_mark number q ms)
   indexed_with = record {

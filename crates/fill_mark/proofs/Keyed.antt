@@ -11,6 +11,8 @@ use Rattle.std.specs.FinMap.{find, get, insert, remove, from_entries, get-from_e
 use Rattle.std.specs.FinMap.{get-insert, get-remove, same_map}
 use Rattle.std.specs.FinMap.{slice_cmp-IsAntisymmetric, nat_cmp-IsAntisymmetric}
 use Rattle.std.proofs.lemmas.Slice.Eq.{bytes_eq-Decides}
+use Rattle.std.proofs.Common.{arith}
+use Rattle.std.proofs.lemmas.Grind.{common_steps}
 use Rattle.indexmap.specs.IndexMap.{IndexMap}
 use Rattle.fill_mark.specs.Tables.{KeyIndex, numbers_at}
 
@@ -56,8 +58,7 @@ module _ {S : Type 0} (bs : List ℕ) (m n : IndexMap (Vec ℕ Global) (Vec ℕ 
 
 picked : (b : Bool) (x : Vec ℕ Global) (r : Option (Vec ℕ Global))
     → cond b (Some x.items) (option_map shown r) ≡ option_map shown (cond b (Some x) r)
-picked true x r = refl
-picked false x r = refl
+picked b x r = grind (arith, common_steps)
 
 find_lookup : (q : List ℕ) (es : Entries)
     → find (slice_cmp nat_cmp) q (map seen es) ≡ option_map shown (lookup (is_key q) es)
@@ -80,8 +81,7 @@ numbers_seen es keys view q r at =
 
 changed : (b : Bool) (w r : Option (Vec ℕ Global))
     → option_map shown (cond b w r) ≡ cond b (option_map shown w) (option_map shown r)
-changed true w r = refl
-changed false w r = refl
+changed b w r = grind (arith, common_steps)
 
 module _ {S : Type 0} (bs : List ℕ) (m n : IndexMap (Vec ℕ Global) (Vec ℕ Global) S) where
   get_after : (w : Option (Vec ℕ Global)) → UpdatesBy key_eq (is_key bs) m n w → (q : List ℕ)

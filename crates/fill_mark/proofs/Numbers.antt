@@ -12,6 +12,7 @@ use Rattle.std.specs.Ordering.{nat_cmp, is_eq, is_lt, match_ordering}
 use Rattle.std.specs.Cmp.{nat_cmp_is}
 use Rattle.std.specs.declared.cmp.Ordering.TheVariants.{Less, Equal, Greater}
 use Rattle.std.proofs.lemmas.Bool.{cases_eq, cases_lt, cases_Bool, eqb-true, ltb-true}
+use Rattle.std.proofs.lemmas.Grind.{common_steps}
 use Rattle.command_words.specs.Queries.{same_query}
 use Rattle.fill_mark.specs.declared.marks.Mark.{Mark}
 use Rattle.fill_mark.specs.Marks.{query_marked, without_number, without_query}
@@ -120,10 +121,4 @@ if_below last n es all ms view = by (nat_lt last n) refl
 pub filtered_entries : (q : List (List ℕ)) (es : Entries)
     → map mark_of (filter (λ e. not (same_query e.1 q)) es) ≡ without_query q (map mark_of es)
 filtered_entries q [] = refl
-filtered_entries q (e ∷ es) =
-    elim (same_query e.1 q) as
-    (λ b. map mark_of (cond (not b) (e ∷ filter (λ x. not (same_query x.1 q)) es)
-    (filter (λ x. not (same_query x.1 q)) es))
-    ≡ cond (not b) (mark_of e ∷ without_query q (map mark_of es))
-    (without_query q (map mark_of es)))
-    [ true ↦ filtered_entries q es | false ↦ ap (λ l. mark_of e ∷ l) (filtered_entries q es) ]
+filtered_entries q (e ∷ es) = grind (arith, common_steps, filtered_entries q es)

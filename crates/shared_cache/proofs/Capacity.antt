@@ -5,8 +5,9 @@ use Rattle.std.proofs.Common.{not, Option, Some, None, sym, ap, ◌∙◌, refl,
 use Rattle.std.specs.Prelude.{nat_lt}
 use Rattle.std.specs.List.{filter}
 use Rattle.std.specs.Str.{bytes_eq}
-use Rattle.std.proofs.lemmas.Bool.{cases_lt, cases_Bool, lt-ltb, le-ltb, or_parts}
+use Rattle.std.proofs.lemmas.Bool.{cases_lt, cases_Bool, lt-ltb, le-ltb}
 use Rattle.std.proofs.lemmas.Option.{same_Some}
+use Rattle.std.proofs.lemmas.Grind.{common_steps}
 use Rattle.resp_value.specs.declared.value.Value.{Value}
 use Rattle.command_words.specs.Queries.{key_of, writes}
 use Rattle.shared_cache.specs.declared.log.Wire.TheVariants.{Main}
@@ -39,12 +40,7 @@ module _ (use_of : Key → ℕ) where
 
   earlier_least : (h b : CacheEntry) → (used (earlier use_of h b) ≤ used h)
       × (used (earlier use_of h b) ≤ used b)
-  earlier_least h b = elim (cases_lt (used h) (used b)) [
-    | inl lt ↦ subst (λ t. (used (cond t h b) ≤ used h) × (used (cond t h b) ≤ used b))
-        (sym (lt-ltb (used h) (used b) lt)) (omega arith, omega arith)
-    | inr le ↦ subst (λ t. (used (cond t h b) ≤ used h) × (used (cond t h b) ≤ used b))
-        (sym (le-ltb (used h) (used b) le)) (omega arith, omega arith)
-  ]
+  earlier_least h b = (grind (arith, common_steps), grind (arith, common_steps))
 
   least_from : (b : CacheEntry) (hs : List CacheEntry) → (used (earliest_from use_of b hs) ≤ used b)
       × Every (λ h. used (earliest_from use_of b hs) ≤ used h) hs
@@ -55,21 +51,9 @@ module _ (use_of : Key → ℕ) where
       let x = r.0 in let y = e.0 in let z = e.1 in
       (omega (arith, x, z), (omega (arith, x, y), r.1))
 
-  or_second : (a b c : Bool) → (a || c) ≡ true → (a || (b || c)) ≡ true
-  or_second true b c e = refl
-  or_second false true c e = refl
-  or_second false false c e = e
-
-  or_first : (a b c : Bool) → (b || c) ≡ true → (a || (b || c)) ≡ true
-  or_first true b c e = refl
-  or_first false b c e = e
-
   earlier_has : (t : Bool) (k : Key) (h b : CacheEntry) (hs : List CacheEntry)
       → has_key k (cond t h b ∷ hs) ≡ true → has_key k (b ∷ h ∷ hs) ≡ true
-  earlier_has true k h b hs e =
-      or_first (bytes_eq (key_of b.query) k) (bytes_eq (key_of h.query) k) (has_key k hs) e
-  earlier_has false k h b hs e =
-      or_second (bytes_eq (key_of b.query) k) (bytes_eq (key_of h.query) k) (has_key k hs) e
+  earlier_has t k h b hs e = grind (arith, common_steps)
 
   has_from : (b : CacheEntry) (hs : List CacheEntry) → ((k : Key) → bytes_eq k k ≡ true)
       → has_key (key_of (earliest_from use_of b hs).query) (b ∷ hs) ≡ true
@@ -92,9 +76,7 @@ module _ (use_of : Key → ℕ) where
       )
 
 leaves : (a b : Bool) (o : Option Key) (k : Key) → cond a None (cond b None o) ≡ Some k → o ≡ Some k
-leaves true b o k e = cc
-leaves false true o k e = cc
-leaves false false o k e = e
+leaves a b o k e = grind (arith, common_steps)
 
 pub earliest_leaves : EarliestLeaves
 earliest_leaves s log q k e =
@@ -108,162 +90,47 @@ earliest_leaves s log q k e =
 pub has_kept : (t : Key → Bool) (k : Key) (hs : List CacheEntry) → t k ≡ false
     → has_key k (filter (λ h. not (t (key_of h.query))) hs) ≡ has_key k hs
 has_kept t k [] e = refl
-has_kept t k (h ∷ hs) e = elim (cases_Bool (bytes_eq (key_of h.query) k)) [
-  | inl same ↦
-      let stays : t (key_of h.query) ≡ false = ap t (bytes_same (key_of h.query) k same) ∙ e in
-      ap (λ b. has_key k
-      (cond (not b) (h ∷ filter (λ g. not (t (key_of g.query))) hs)
-      (filter (λ g. not (t (key_of g.query))) hs))) stays
-      ∙ ap (λ b. bytes_eq (key_of h.query) k || b) (has_kept t k hs e)
-  | inr other ↦
-      elim (t (key_of h.query)) as
-      (λ b. has_key k
-      (cond (not b) (h ∷ filter (λ g. not (t (key_of g.query))) hs)
-      (filter (λ g. not (t (key_of g.query))) hs)) ≡ has_key k (h ∷ hs)) [
-        | true ↦ has_kept t k hs e ∙ ap (λ b. b || has_key k hs) (sym other)
-        | false ↦ ap (λ b. bytes_eq (key_of h.query) k || b) (has_kept t k hs e)
-      ]
-]
-
-one_more : (b : Bool) (n : ℕ) → (n ≤ cond b n (n + 1)) × (cond b n (n + 1) ≤ n + 1)
-one_more true n = (omega arith, omega arith)
-one_more false n = (omega arith, omega arith)
-
-each_more : (b : Bool) (m n : ℕ) → m ≤ n → cond b m (m + 1) ≤ cond b n (n + 1)
-each_more true m n le = le
-each_more false m n le = omega arith
+has_kept t k (h ∷ hs) e =
+    grind (arith, common_steps, has_kept t k hs e, bytes_same (key_of h.query) k)
 
 pub kept_keys : (t : Key → Bool) (hs : List CacheEntry)
     → keys_held (filter (λ h. not (t (key_of h.query))) hs) ≤ keys_held hs
 kept_keys t [] = omega arith
-kept_keys t (h ∷ hs) = elim (cases_Bool (t (key_of h.query))) [
-  | inl goes ↦
-      let w = kept_keys t hs in
-      let o = (one_more (has_key (key_of h.query) hs) (keys_held hs)).0 in
-      subst (λ b. keys_held
-      (cond (not b) (h ∷ filter (λ g. not (t (key_of g.query))) hs)
-      (filter (λ g. not (t (key_of g.query))) hs)) ≤ keys_held (h ∷ hs)) (sym goes)
-      (omega (arith, w, o))
-  | inr stays ↦
-      subst (λ b. keys_held
-      (cond (not b) (h ∷ filter (λ g. not (t (key_of g.query))) hs)
-      (filter (λ g. not (t (key_of g.query))) hs)) ≤ keys_held (h ∷ hs)) (sym stays)
-      (subst (λ b. cond b (keys_held (filter (λ g. not (t (key_of g.query))) hs))
-      (keys_held (filter (λ g. not (t (key_of g.query))) hs) + 1) ≤ keys_held (h ∷ hs))
-      (sym (has_kept t (key_of h.query) hs stays))
-      (each_more (has_key (key_of h.query) hs)
-      (keys_held (filter (λ g. not (t (key_of g.query))) hs)) (keys_held hs) (kept_keys t hs)))
-]
+kept_keys t (h ∷ hs) =
+    grind (arith, common_steps, kept_keys t hs, has_kept t (key_of h.query) hs)
 
 pub but_none : (k : Key) (hs : List CacheEntry) → has_key k hs ≡ false
     → filter (λ h. not (bytes_eq (key_of h.query) k)) hs ≡ hs
 but_none k [] e = refl
-but_none k (h ∷ hs) e =
-    let p = or_parts (bytes_eq (key_of h.query) k) (has_key k hs) e in
-    let rest = filter (λ (g : CacheEntry). not (bytes_eq (key_of g.query) k)) hs in
-    ap (λ b. cond (not b) (h ∷ rest) rest) p.0 ∙ ap (λ l. h ∷ l) (but_none k hs p.1)
+but_none k (h ∷ hs) e = grind (arith, common_steps, but_none k hs)
 
 pub less_key : (k : Key) (hs : List CacheEntry) → has_key k hs ≡ true
     → keys_held (filter (λ h. not (bytes_eq (key_of h.query) k)) hs) + 1 ≡ keys_held hs
 less_key k [] e = cc
-less_key k (h ∷ hs) e =
-    let rest = filter (λ (g : CacheEntry). not (bytes_eq (key_of g.query) k)) hs in
-    elim (cases_Bool (bytes_eq (key_of h.query) k)) [
-      | inl same ↦
-          ap (λ b. keys_held (cond (not b) (h ∷ rest) rest) + 1) same
-          ∙ elim (cases_Bool (has_key k hs)) [
-            | inl again ↦
-                less_key k hs again
-                ∙ ap (λ b. cond b (keys_held hs) (keys_held hs + 1))
-                (sym (ap (λ j. has_key j hs) (bytes_same (key_of h.query) k same) ∙ again))
-            | inr last ↦
-                ap (λ l. keys_held l + 1) (but_none k hs last)
-                ∙ ap (λ b. cond b (keys_held hs) (keys_held hs + 1))
-                (sym (ap (λ j. has_key j hs) (bytes_same (key_of h.query) k same) ∙ last))
-          ]
-      | inr other ↦
-          let there : has_key k hs ≡ true = ap (λ b. b || has_key k hs) (sym other) ∙ e in
-          ap (λ b. keys_held (cond (not b) (h ∷ rest) rest) + 1) other
-          ∙ ap (λ b. cond b (keys_held rest) (keys_held rest + 1) + 1)
-          (has_kept (λ j. bytes_eq j k) (key_of h.query) hs other)
-          ∙ step (has_key (key_of h.query) hs) (keys_held rest) (keys_held hs) (less_key k hs there)
-    ]
-  where
-    step : (b : Bool) (m n : ℕ) → m + 1 ≡ n → cond b m (m + 1) + 1 ≡ cond b n (n + 1)
-    step true m n e = e
-    step false m n e = ap (λ x. x + 1) e
+less_key k (h ∷ hs) e = grind (arith, common_steps, less_key k hs, but_none k hs,
+    bytes_same (key_of h.query) k, has_kept (λ j. bytes_eq j k) (key_of h.query) hs)
 
 -- ---- how many keys are held where one comes
 
 more_has : (k : Key) (hs : List CacheEntry) (e : CacheEntry) → has_key k hs ≡ true
     → has_key k (hs ++ e ∷ []) ≡ true
 more_has k [] e h = cc
-more_has k (g ∷ hs) e h = elim (cases_Bool (bytes_eq (key_of g.query) k)) [
-  | inl same ↦ ap (λ b. b || has_key k (hs ++ e ∷ [])) same
-  | inr other ↦ ap (λ b. b || has_key k (hs ++ e ∷ [])) other
-      ∙ more_has k hs e (ap (λ b. b || has_key k hs) (sym other) ∙ h)
-]
+more_has k (g ∷ hs) e h = grind (arith, common_steps, more_has k hs e)
 
 pub last_has : (hs : List CacheEntry) (e : CacheEntry)
     → has_key (key_of e.query) (hs ++ e ∷ []) ≡ true
-last_has [] e = ap (λ b. b || false) (same_bytes (key_of e.query))
-last_has (g ∷ hs) e = or_from_right (bytes_eq (key_of g.query) (key_of e.query)) (last_has hs e)
-  where
-    or_from_right : (a : Bool) → has_key (key_of e.query) (hs ++ e ∷ []) ≡ true
-        → (a || has_key (key_of e.query) (hs ++ e ∷ [])) ≡ true
-    or_from_right true h = refl
-    or_from_right false h = h
+last_has [] e = grind (arith, common_steps, same_bytes (key_of e.query))
+last_has (g ∷ hs) e = grind (arith, common_steps, last_has hs e)
 
 add_key : (hs : List CacheEntry) (e : CacheEntry) → keys_held (hs ++ e ∷ []) ≤ keys_held hs + 1
 add_key [] e = omega arith
-add_key (h ∷ hs) e =
-    let w = add_key hs e in
-    elim (cases_Bool (has_key (key_of h.query) hs)) [
-      | inl again ↦
-          subst (λ b. cond b (keys_held (hs ++ e ∷ [])) (keys_held (hs ++ e ∷ []) + 1) ≤ keys_held
-          (h ∷ hs) + 1) (sym (more_has (key_of h.query) hs e again))
-          (subst (λ b. keys_held (hs ++ e ∷ []) ≤ cond b (keys_held hs) (keys_held hs + 1) + 1)
-          (sym again) w)
-      | inr first ↦
-          let o = (one_more (has_key (key_of h.query) (hs ++ e ∷ [])) (keys_held (hs ++ e ∷ []))).1
-          in
-          subst (λ b. keys_held (h ∷ (hs ++ e ∷ [])) ≤ cond b (keys_held hs) (keys_held hs + 1) + 1)
-          (sym first) (omega (arith, w, o))
-    ]
+add_key (h ∷ hs) e = grind (arith, common_steps, add_key hs e, more_has (key_of h.query) hs e)
 
 same_keys : (hs : List CacheEntry) (e : CacheEntry) → has_key (key_of e.query) hs ≡ true
     → keys_held (hs ++ e ∷ []) ≤ keys_held hs
 same_keys [] e is = cc
-same_keys (h ∷ hs) e is = elim (cases_Bool (has_key (key_of e.query) hs)) [
-  | inl again ↦
-      let w = same_keys hs e again in
-      elim (cases_Bool (has_key (key_of h.query) hs)) [
-        | inl twice ↦
-            subst (λ b. cond b (keys_held (hs ++ e ∷ [])) (keys_held (hs ++ e ∷ []) + 1) ≤ keys_held
-            (h ∷ hs)) (sym (more_has (key_of h.query) hs e twice))
-            (subst (λ b. keys_held (hs ++ e ∷ []) ≤ cond b (keys_held hs) (keys_held hs + 1))
-            (sym twice) w)
-        | inr once ↦
-            let o = (one_more (has_key (key_of h.query) (hs ++ e ∷ []))
-            (keys_held (hs ++ e ∷ []))).1 in
-            subst (λ b. keys_held (h ∷ (hs ++ e ∷ [])) ≤ cond b (keys_held hs) (keys_held hs + 1))
-            (sym once) (omega (arith, w, o))
-      ]
-  | inr not_ ↦
-      let w = add_key hs e in
-      let same : key_of h.query ≡ key_of e.query
-      = bytes_same (key_of h.query) (key_of e.query)
-      (left_true (bytes_eq (key_of h.query) (key_of e.query)) (has_key (key_of e.query) hs) is not_)
-      in
-      subst (λ b. cond b (keys_held (hs ++ e ∷ [])) (keys_held (hs ++ e ∷ []) + 1) ≤ keys_held
-      (h ∷ hs)) (sym (ap (λ k. has_key k (hs ++ e ∷ [])) same ∙ last_has hs e))
-      (subst (λ b. keys_held (hs ++ e ∷ []) ≤ cond b (keys_held hs) (keys_held hs + 1))
-      (sym (ap (λ k. has_key k hs) same ∙ not_)) w)
-]
-  where
-    left_true : (a b : Bool) → (a || b) ≡ true → b ≡ false → a ≡ true
-    left_true true b e n = refl
-    left_true false b e n = let no : true ≡ false = sym e ∙ n in cc
+same_keys (h ∷ hs) e is = grind (arith, common_steps, same_keys hs e, add_key hs e,
+    more_has (key_of h.query) hs e, bytes_same (key_of h.query) (key_of e.query), last_has hs e)
 
 -- ---- a fill
 

@@ -1,8 +1,9 @@
 -- How what is held changes with its fetches.
-use Rattle.std.proofs.Common.{◌≡◌, ◌+◌, ◌≤◌, ◌++◌, ℕ, List, [], ◌∷◌, length, Bool, true, false}
-use Rattle.std.proofs.Common.{cond, not, Option, Some, None, sym, ap, ◌∙◌, refl, arith, append-nil}
+use Rattle.std.proofs.Common.{◌≡◌, ◌+◌, ◌≤◌, ◌++◌, ℕ, List, [], ◌∷◌, length, Bool}
+use Rattle.std.proofs.Common.{not, Option, Some, None, sym, ◌∙◌, refl, arith, append-nil}
 use Rattle.std.specs.List.{filter}
 use Rattle.std.proofs.lemmas.List.Elements.{filter-append}
+use Rattle.std.proofs.lemmas.Grind.{common_steps}
 use Rattle.resp_value.specs.declared.value.Value.{Value}
 use Rattle.command_words.specs.Queries.{key_of, same_query}
 use Rattle.shared_cache.specs.declared.entry.CacheEntry.{CacheEntry}
@@ -41,37 +42,16 @@ held_none left_of (v ∷ vs) = append-nil (held_by (λ n. None) left_of vs) ∙ 
 pub hold_unless : (t : Key → Bool) (o : Option Words) (gone : Bool) (v : Value) (n : ℕ)
     → hold (unless t o) gone v n ≡ filter (λ h. not (t (key_of h.query))) (hold o gone v n)
 hold_unless t None gone v n = refl
-hold_unless t (Some q) true v n =
-    elim (t (key_of q)) as
-    (λ b. hold (cond b None (Some q)) true v n ≡ []) [ true ↦ refl | false ↦ refl ]
-hold_unless t (Some q) false v n =
-    let h : CacheEntry = record { query = q; value = v; number = n } in
-    elim (t (key_of q)) as
-    (λ b. hold (cond b None (Some q)) false v n ≡ cond (not b) (h ∷ []) [])
-    [ true ↦ refl | false ↦ refl ]
+hold_unless t (Some q) gone v n = grind (arith, common_steps)
 
 -- of another query nothing goes
 pub hold_other : (q : Words) (o : Option Words) (gone : Bool) (v : Value) (n : ℕ)
     → hold (other_than q o) gone v n ≡ filter (λ h. not (same_query h.query q)) (hold o gone v n)
 hold_other q None gone v n = refl
-hold_other q (Some p) true v n =
-    elim (same_query p q) as
-    (λ b. hold (cond b None (Some p)) true v n ≡ []) [ true ↦ refl | false ↦ refl ]
-hold_other q (Some p) false v n =
-    let h : CacheEntry = record { query = p; value = v; number = n } in
-    elim (same_query p q) as
-    (λ b. hold (cond b None (Some p)) false v n ≡ cond (not b) (h ∷ []) [])
-    [ true ↦ refl | false ↦ refl ]
+hold_other q (Some p) gone v n = grind (arith, common_steps)
 
 -- what is not held does not go
 pub none_held : (q : Words) (hs : List CacheEntry) → held_for q hs ≡ None
     → filter (λ h. not (same_query h.query q)) hs ≡ hs
 none_held q [] e = refl
-none_held q (h ∷ hs) e =
-    elim (same_query h.query q) as
-    (λ b. cond b (Some h) (held_for q hs) ≡ None
-    → cond (not b) (h ∷ filter (λ o. not (same_query o.query q)) hs)
-    (filter (λ o. not (same_query o.query q)) hs) ≡ h ∷ hs) [
-      | true ↦ λ f. cc
-      | false ↦ λ f. ap (λ l. h ∷ l) (none_held q hs f)
-    ] e
+none_held q (h ∷ hs) e = grind (arith, common_steps, none_held q hs)

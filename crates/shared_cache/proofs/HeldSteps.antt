@@ -1,12 +1,12 @@
 -- What each entry of the log does to what is held, to the fetches and to the replies.
-use Rattle.std.proofs.Common.{◌≡◌, ◌==◌, ◌+◌, ◌≤◌, ◌++◌, ◌&&◌, ◌||◌, ℕ, suc, List, [], ◌∷◌, length}
+use Rattle.std.proofs.Common.{◌≡◌, ◌==◌, ◌+◌, ◌≤◌, ◌++◌, ◌&&◌, ◌||◌, ℕ, suc, List, ◌∷◌, length}
 use Rattle.std.proofs.Common.{Bool, true, false, cond, not, Option, Some, None, ap, ◌∙◌, refl}
 use Rattle.std.proofs.Common.{arith}
 use Rattle.std.proofs.Common.{append-nil, ne_eqb, eq-eqb}
 use Rattle.std.specs.Prelude.{nat_le}
 use Rattle.std.specs.List.{filter}
-use Rattle.std.specs.Str.{bytes_eq}
 use Rattle.std.proofs.lemmas.Bool.{lt-leb, le-leb}
+use Rattle.std.proofs.lemmas.Grind.{common_steps}
 use Rattle.resp_value.specs.declared.value.Value.{Value}
 use Rattle.command_words.specs.Queries.{key_of, same_query, writes}
 use Rattle.shared_cache.specs.declared.log.Wire.{Wire}
@@ -107,9 +107,7 @@ held_send s log ws =
 -- ---- a value that fills nothing
 
 or_nothing : (a b : Bool) → (a || (b && false)) ≡ a
-or_nothing true b = refl
-or_nothing false true = refl
-or_nothing false false = refl
+or_nothing a b = grind (arith, common_steps)
 
 module _ (s : Setup) (log : List LogEntry) (w : Wire) (v : Value)
     (none : filled_by w (kind_of v)
@@ -188,12 +186,8 @@ hold_leaves : (l : Option Key) (o : Option Words) (gone : Bool) (u : Value) (n :
     → hold o (gone || is_key l o) u n ≡ filter (λ h. not (is_gone l (key_of h.query)))
     (hold o gone u n)
 hold_leaves l None gone u n = refl
-hold_leaves l (Some p) true u n = refl
-hold_leaves None (Some p) false u n = refl
-hold_leaves (Some j) (Some p) false u n =
-    let h : CacheEntry = record { query = p; value = u; number = n } in
-    elim (bytes_eq (key_of p) j) as
-    (λ b. cond b [] (h ∷ []) ≡ cond (not b) (h ∷ []) []) [ true ↦ refl | false ↦ refl ]
+hold_leaves None (Some p) gone u n = grind (arith, common_steps)
+hold_leaves (Some j) (Some p) gone u n = grind (arith, common_steps)
 
 module _ (s : Setup) (log : List LogEntry) (v : Value) (e : kind_of v ≡ Reply) where
   pub replies_reply : replies s.mode Main (Got Main v ∷ log) ≡ v ∷ replies s.mode Main log

@@ -5,6 +5,8 @@ use Rattle.std.specs.List.{filter, list_any}
 use Rattle.std.specs.Str.{bytes_eq}
 use Rattle.std.proofs.lemmas.List.{take_more}
 use Rattle.std.proofs.lemmas.List.Folds.{list_any-append}
+use Rattle.std.proofs.Common.{arith}
+use Rattle.std.proofs.lemmas.Grind.{common_steps}
 
 pub all_stay : {X : Type 0} → (xs : List X) → filter (λ x. true) xs ≡ xs
 all_stay [] = refl
@@ -24,18 +26,10 @@ filter_same_test p q (x ∷ xs) e =
 pub filter_twice : {X : Type 0} → (p q : X → Bool) (xs : List X)
     → filter q (filter p xs) ≡ filter (λ x. p x && q x) xs
 filter_twice p q [] = refl
-filter_twice p q (x ∷ xs) =
-    elim (p x) as
-    (λ b. filter q (cond b (x ∷ filter p xs) (filter p xs)) ≡ cond (b && q x)
-    (x ∷ filter (λ y. p y && q y) xs) (filter (λ y. p y && q y) xs)) [
-      | true ↦ ap (λ l. cond (q x) (x ∷ l) l) (filter_twice p q xs)
-      | false ↦ filter_twice p q xs
-    ]
+filter_twice p q (x ∷ xs) = grind (arith, common_steps, filter_twice p q xs)
 
 not_or : (a b : Bool) → (not a && not b) ≡ not (a || (b || false))
-not_or true b = refl
-not_or false true = refl
-not_or false false = refl
+not_or a b = grind (arith, common_steps)
 
 -- one key more
 pub without_more : {X : Type 0}

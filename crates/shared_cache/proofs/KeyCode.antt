@@ -1,12 +1,13 @@
 -- What the calls of the map of keys do, as the definitions of the cache by key say it.
 use Rattle.std.proofs.Common.{◌≡◌, ◌-◌, ℕ, List, [], ◌∷◌, map, take, true, false, cond}
 use Rattle.std.proofs.Common.{Vec}
-use Rattle.std.proofs.Common.{Global, Option, Some, None, option_map, sym, ap, ◌∙◌, refl, inl, inr}
+use Rattle.std.proofs.Common.{Global, Option, Some, None, option_map, sym, ap, ◌∙◌, refl}
 use Rattle.std.specs.Prelude.{is_some}
 use Rattle.std.specs.Map.{lookup, lookup_entry, remove_entry}
 use Rattle.std.specs.Option.{option_map_or}
 use Rattle.std.specs.Str.{bytes_eq}
-use Rattle.std.proofs.lemmas.Bool.{cases_Bool}
+use Rattle.std.proofs.Common.{arith}
+use Rattle.std.proofs.lemmas.Grind.{common_steps}
 use Rattle.command_words.specs.Queries.{key_of}
 use Rattle.shared_cache.specs.declared.entry.CacheEntry.{CacheEntry}
 use Rattle.shared_cache.specs.Held.{Key, Words, held_for}
@@ -58,15 +59,7 @@ some_plain k es =
 pub key_is : (k : Key) (ps : Pairs) (p : Key × List CacheEntry)
     → lookup_entry (bytes_eq k) ps ≡ Some p → k ≡ p.0
 key_is k [] p e = cc
-key_is k (r ∷ ps) p e = elim (cases_Bool (bytes_eq k r.0)) [
-  | inl same ↦
-      let is : Some r ≡ Some p
-      = sym (ap (λ b. cond b (Some r) (lookup_entry (bytes_eq k) ps)) same) ∙ e in
-      let is_ : r ≡ p = cc in
-      bytes_same k r.0 same ∙ ap (λ (x : Key × List CacheEntry). x.0) is_
-  | inr other ↦ key_is k ps p
-      (sym (ap (λ b. cond b (Some r) (lookup_entry (bytes_eq k) ps)) other) ∙ e)
-]
+key_is k (r ∷ ps) p e = grind (arith, common_steps, bytes_same k r.0, key_is k ps p)
 
 put_cases : (k : Key) (vs : List CacheEntry) (most : ℕ) (ps : Pairs)
     (o : Option (Key × List CacheEntry)) → lookup_entry (bytes_eq k) ps ≡ o

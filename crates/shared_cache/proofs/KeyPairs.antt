@@ -1,5 +1,5 @@
 -- The keys of the cache hold what is held.
-use Rattle.std.proofs.Common.{◌≡◌, ◌-◌, ◌<◌, ◌≤◌, ◌++◌, ◌&&◌, ◌||◌, ◌⊎◌, ℕ, zero, suc, List}
+use Rattle.std.proofs.Common.{◌≡◌, ◌-◌, ◌<◌, ◌≤◌, ◌++◌, ◌&&◌, ◌⊎◌, ℕ, zero, suc, List}
 use Rattle.std.proofs.Common.{[], ◌∷◌}
 use Rattle.std.proofs.Common.{length, take, Bool, true, false, cond, not, Option, Some, None, sym}
 use Rattle.std.proofs.Common.{ap}
@@ -10,9 +10,10 @@ use Rattle.std.specs.Option.{option_map_or}
 use Rattle.std.specs.Str.{bytes_eq}
 use Rattle.std.specs.Prelude.{nat_lt}
 use Rattle.std.proofs.lemmas.List.{take_all}
-use Rattle.std.proofs.lemmas.Bool.{cases_Bool, cases_lt, and_parts, or_parts, lt-ltb, le-ltb}
+use Rattle.std.proofs.lemmas.Bool.{cases_Bool, cases_lt, and_parts, lt-ltb, le-ltb}
 use Rattle.resp_value.specs.declared.value.Value.{Value}
 use Rattle.std.proofs.lemmas.List.Elements.{filter-append}
+use Rattle.std.proofs.lemmas.Grind.{common_steps}
 use Rattle.lru.specs.LruCache.{promoted}
 use Rattle.command_words.specs.Queries.{key_of, same_query}
 use Rattle.shared_cache.specs.declared.entry.CacheEntry.{CacheEntry}
@@ -26,58 +27,28 @@ use Rattle.shared_cache.specs.HeldKeys.{Pairs, found_in, entries_of, others, sto
 use Rattle.shared_cache.specs.HeldKeys.{but_key}
 use Rattle.shared_cache.specs.HeldKeys.{ArePairsOf, IsByUse}
 use Rattle.shared_cache.proofs.KeyTests.{same_bytes, bytes_same}
-use Rattle.shared_cache.proofs.InPlace.{filter_same_test, filter_twice}
 use Rattle.shared_cache.proofs.Capacity.{has_kept, but_none, less_key, last_has, least, none_goes}
 
 -- ---- filters by key
 
-bytes_turn : (j k : Key) → bytes_eq j k ≡ true → bytes_eq k j ≡ true
-bytes_turn j k e = ap (λ x. bytes_eq k x) (bytes_same j k e) ∙ same_bytes k
-
 bytes_turn_not : (j k : Key) → bytes_eq j k ≡ false → bytes_eq k j ≡ false
-bytes_turn_not j k e = elim (cases_Bool (bytes_eq k j)) [
-  | inl yes_ ↦ let no : true ≡ false = sym (bytes_turn k j yes_) ∙ e in cc
-  | inr not_ ↦ not_
-]
-
-and_turn : (a b : Bool) → (a && b) ≡ (b && a)
-and_turn true true = refl
-and_turn true false = refl
-and_turn false true = refl
-and_turn false false = refl
+bytes_turn_not j k e = grind (arith, common_steps, bytes_same k j, same_bytes k)
 
 filters_turn : (p q : CacheEntry → Bool) (hs : List CacheEntry)
     → filter p (filter q hs) ≡ filter q (filter p hs)
-filters_turn p q hs =
-    filter_twice q p hs
-    ∙ filter_same_test (λ h. q h && p h) (λ h. p h && q h) hs (λ h. and_turn (q h) (p h))
-    ∙ sym (filter_twice p q hs)
+filters_turn p q [] = refl
+filters_turn p q (h ∷ hs) = grind (arith, common_steps, filters_turn p q hs)
 
 -- what is of one key is not of another
 of_other : (j k : Key) (hs : List CacheEntry) → bytes_eq j k ≡ false
     → of_key j (but_key k hs) ≡ of_key j hs
 of_other j k [] e = refl
-of_other j k (h ∷ hs) e = elim (cases_Bool (bytes_eq (key_of h.query) k)) [
-  | inl same ↦
-      let apart : bytes_eq (key_of h.query) j ≡ false
-      = ap (λ x. bytes_eq x j) (bytes_same (key_of h.query) k same) ∙ bytes_turn_not j k e in
-      ap (λ b. of_key j (cond (not b) (h ∷ but_key k hs) (but_key k hs))) same
-      ∙ of_other j k hs e
-      ∙ ap (λ b. cond b (h ∷ of_key j hs) (of_key j hs)) (sym apart)
-  | inr other ↦
-      ap (λ b. of_key j (cond (not b) (h ∷ but_key k hs) (but_key k hs))) other
-      ∙ ap (λ l. cond (bytes_eq (key_of h.query) j) (h ∷ l) l) (of_other j k hs e)
-]
+of_other j k (h ∷ hs) e = grind (arith, common_steps, of_other j k hs e,
+    bytes_same (key_of h.query) k, bytes_turn_not j k e)
 
 none_but : (k : Key) (hs : List CacheEntry) → has_key k (but_key k hs) ≡ false
 none_but k [] = refl
-none_but k (h ∷ hs) = elim (cases_Bool (bytes_eq (key_of h.query) k)) [
-  | inl same ↦ ap (λ b. has_key k (cond (not b) (h ∷ but_key k hs) (but_key k hs))) same
-      ∙ none_but k hs
-  | inr other ↦
-      ap (λ b. has_key k (cond (not b) (h ∷ but_key k hs) (but_key k hs))) other
-      ∙ ap (λ b. b || has_key k (but_key k hs)) other ∙ none_but k hs
-]
+none_but k (h ∷ hs) = grind (arith, common_steps, none_but k hs)
 
 -- ---- a query
 
@@ -86,19 +57,9 @@ same_key [] [] e = refl
 same_key [] (w ∷ ws) e = cc
 same_key (n ∷ []) [] e = cc
 same_key (n ∷ []) (m ∷ []) e = refl
-same_key (n ∷ []) (m ∷ k ∷ ws) e = let no : false ≡ true =
-    sym (ap (λ b. b) (and_right_false (bytes_eq n m))) ∙ e in cc
-  where
-    and_right_false : (a : Bool) → (a && false) ≡ false
-    and_right_false true = refl
-    and_right_false false = refl
+same_key (n ∷ []) (m ∷ k ∷ ws) e = grind (arith, common_steps)
 same_key (n ∷ j ∷ us) [] e = cc
-same_key (n ∷ j ∷ us) (m ∷ []) e = let no : false ≡ true = sym (and_right_false (bytes_eq n m))
-    ∙ e in cc
-  where
-    and_right_false : (a : Bool) → (a && false) ≡ false
-    and_right_false true = refl
-    and_right_false false = refl
+same_key (n ∷ j ∷ us) (m ∷ []) e = grind (arith, common_steps)
 same_key (n ∷ j ∷ us) (m ∷ k ∷ ws) e =
     (and_parts (bytes_eq j k) (same_query us ws)
     (and_parts (bytes_eq n m) (bytes_eq j k && same_query us ws) e).1).0
@@ -107,18 +68,7 @@ held_kept : (t : CacheEntry → Bool) (q : Words) (hs : List CacheEntry)
     → ((h : CacheEntry) → same_query h.query q ≡ true → t h ≡ true)
     → held_for q (filter t hs) ≡ held_for q hs
 held_kept t q [] stays = refl
-held_kept t q (h ∷ hs) stays = elim (cases_Bool (same_query h.query q)) [
-  | inl same ↦
-      ap (λ b. held_for q (cond b (h ∷ filter t hs) (filter t hs))) (stays h same)
-      ∙ ap (λ b. cond b (Some h) (held_for q (filter t hs))) same
-      ∙ sym (ap (λ b. cond b (Some h) (held_for q hs)) same)
-  | inr other ↦
-      elim (t h) as (λ b. held_for q (cond b (h ∷ filter t hs) (filter t hs)) ≡ held_for q hs) [
-        | true ↦ ap (λ b. cond b (Some h) (held_for q (filter t hs))) other ∙ held_kept t q hs stays
-        | false ↦ held_kept t q hs stays
-      ]
-      ∙ sym (ap (λ b. cond b (Some h) (held_for q hs)) other)
-]
+held_kept t q (h ∷ hs) stays = grind (arith, common_steps, held_kept t q hs stays, stays h)
 
 pub pairs_found : (q : Words) (pairs : Pairs) (hs : List CacheEntry) → ArePairsOf pairs hs
     → found_in q pairs ≡ held_for q hs
@@ -196,14 +146,8 @@ pair_is k (r ∷ pairs) hs p s e = elim (cases_Bool (bytes_eq k r.0)) [
 pub pair_of : (k : Key) (pairs : Pairs) (hs : List CacheEntry) → ArePairsOf pairs hs
     → lookup_entry (bytes_eq k) pairs ≡ None → has_key k hs ≡ false
 pair_of k [] hs s e = ap (has_key k) s
-pair_of k (r ∷ pairs) hs s e = elim (cases_Bool (bytes_eq k r.0)) [
-  | inl same ↦ let no : Some r ≡ None =
-      sym (ap (λ b. cond b (Some r) (lookup_entry (bytes_eq k) pairs)) same) ∙ e in cc
-  | inr other ↦
-      sym (has_kept (λ j. bytes_eq j r.0) k hs other)
-      ∙ pair_of k pairs (but_key r.0 hs) s.2
-      (sym (ap (λ b. cond b (Some r) (lookup_entry (bytes_eq k) pairs)) other) ∙ e)
-]
+pair_of k (r ∷ pairs) hs s e = grind (arith, common_steps, has_kept (λ j. bytes_eq j r.0) k hs,
+    pair_of k pairs (but_key r.0 hs) s.2)
 
 -- ---- a key is used
 
@@ -239,30 +183,16 @@ abbrev pub last_key : Key → Pairs → Key
 last_key k [] = k
 last_key k (p ∷ pairs) = last_key p.0 pairs
 
+kept_has : (k j : Key) (hs : List CacheEntry) → has_key j (but_key k hs) ≡ true
+    → has_key j hs ≡ true
+kept_has k j [] e = e
+kept_has k j (h ∷ hs) e = grind (arith, common_steps, kept_has k j hs)
+
 last_held : (k : Key) (pairs : Pairs) (hs : List CacheEntry) → has_key k hs ≡ true
     → ArePairsOf pairs (but_key k hs) → has_key (last_key k pairs) hs ≡ true
 last_held k [] hs h s = h
 last_held k (p ∷ pairs) hs h s =
-    still p.0 k (last_key p.0 pairs) (last_held p.0 pairs (but_key k hs) s.1 s.2)
-  where
-    kept_has : (j : Key) (gs : List CacheEntry) → has_key j (but_key k gs) ≡ true
-        → has_key j gs ≡ true
-    kept_has j [] e = e
-    kept_has j (g ∷ gs) e = elim (cases_Bool (bytes_eq (key_of g.query) j)) [
-      | inl same ↦ ap (λ b. b || has_key j gs) same
-      | inr other ↦
-          ap (λ b. b || has_key j gs) other
-          ∙ kept_has j gs
-          (elim (bytes_eq (key_of g.query) k) as
-          (λ b. has_key j (cond (not b) (g ∷ but_key k gs) (but_key k gs)) ≡ true
-          → has_key j (but_key k gs) ≡ true) [
-            | true ↦ λ f. f
-            | false ↦ λ f. ap (λ b. b || has_key j (but_key k gs)) (sym other) ∙ f
-          ] e)
-    ]
-
-    still : (i j l : Key) → has_key l (but_key k hs) ≡ true → has_key l hs ≡ true
-    still i j l e = kept_has l hs e
+    kept_has k (last_key p.0 pairs) hs (last_held p.0 pairs (but_key k hs) s.1 s.2)
 
 -- without its last key
 pub pairs_shorter : (p : Key × List CacheEntry) (pairs : Pairs) (hs : List CacheEntry)
@@ -273,12 +203,8 @@ pairs_shorter p (r ∷ pairs) hs s =
     let l = last_key r.0 pairs in
     let rest = pairs_shorter r pairs (but_key p.0 hs) s.2 in
     let there = last_held r.0 pairs (but_key p.0 hs) s.2.1 s.2.2 in
-    let apart : bytes_eq p.0 l ≡ false = elim (cases_Bool (bytes_eq p.0 l)) [
-      | inl same ↦ let no : true ≡ false = sym there
-          ∙ ap (λ j. has_key j (but_key p.0 hs)) (sym (bytes_same p.0 l same)) ∙ none_but p.0 hs in
-          cc
-      | inr not_ ↦ not_
-    ] in (
+    let apart : bytes_eq p.0 l ≡ false =
+    grind (arith, common_steps, there, bytes_same p.0 l, none_but p.0 hs) in (
       s.0 ∙ sym (of_other p.0 l hs apart),
       has_kept (λ j. bytes_eq j l) p.0 hs apart ∙ s.1,
       subst (ArePairsOf (take (length pairs) (r ∷ pairs)))
@@ -304,9 +230,7 @@ of_new k hs h e =
 
 of_none : (k : Key) (hs : List CacheEntry) → has_key k hs ≡ false → of_key k hs ≡ []
 of_none k [] e = refl
-of_none k (h ∷ hs) e =
-    let p = or_parts (bytes_eq (key_of h.query) k) (has_key k hs) e in
-    ap (λ b. cond b (h ∷ of_key k hs) (of_key k hs)) p.0 ∙ of_none k hs p.1
+of_none k (h ∷ hs) e = grind (arith, common_steps, of_none k hs)
 
 -- to a key that is there
 stored_again : (most : ℕ) (h : CacheEntry) (pairs : Pairs) (hs : List CacheEntry)
@@ -364,10 +288,8 @@ every_has : (use_of : Key → ℕ) (n : ℕ) (k : Key) (hs : List CacheEntry)
     → Every (λ (h : CacheEntry). n ≤ use_of (key_of h.query)) hs → has_key k hs ≡ true
     → n ≤ use_of k
 every_has use_of n k [] all h = cc
-every_has use_of n k (g ∷ hs) all h = elim (cases_Bool (bytes_eq (key_of g.query) k)) [
-  | inl same ↦ subst (λ j. n ≤ use_of j) (bytes_same (key_of g.query) k same) all.0
-  | inr other ↦ every_has use_of n k hs all.1 (ap (λ b. b || has_key k hs) (sym other) ∙ h)
-]
+every_has use_of n k (g ∷ hs) all h = grind (arith, common_steps, all.0,
+    every_has use_of n k hs all.1, bytes_same (key_of g.query) k)
 
 last_is : (use_of : Key → ℕ) (p : Key × List CacheEntry) (pairs : Pairs) (hs : List CacheEntry)
     (o : Option Key)
@@ -394,13 +316,7 @@ last_is use_of p pairs hs (Some j) s u e =
 has_fewer : (k l : Key) (hs : List CacheEntry) → has_key k hs ≡ false
     → has_key k (but_key l hs) ≡ false
 has_fewer k l [] e = refl
-has_fewer k l (h ∷ hs) e =
-    let p = or_parts (bytes_eq (key_of h.query) k) (has_key k hs) e in
-    elim (bytes_eq (key_of h.query) l) as
-    (λ b. has_key k (cond (not b) (h ∷ but_key l hs) (but_key l hs)) ≡ false) [
-      | true ↦ has_fewer k l hs p.1
-      | false ↦ ap (λ b. b || has_key k (but_key l hs)) p.0 ∙ has_fewer k l hs p.1
-    ]
+has_fewer k l (h ∷ hs) e = grind (arith, common_steps, has_fewer k l hs)
 
 module _ (most : ℕ) (use_of : Key → ℕ) (q : Words) (n : ℕ) (v : Value) (hs : List CacheEntry) where
   abbrev entry : CacheEntry
@@ -483,10 +399,7 @@ every_without : (P : Key × List CacheEntry → Type 0) (t : Key → Bool) (pair
     → Every P pairs → Every P (remove_entry t pairs)
 every_without P t [] all = tt
 every_without P t (p ∷ pairs) all =
-    elim (t p.0) as (λ b. Every P (cond b pairs (p ∷ remove_entry t pairs))) [
-      | true ↦ all.1
-      | false ↦ (all.0, every_without P t pairs all.1)
-    ]
+    grind (arith, common_steps, all, every_without P t pairs all.1)
 
 every_front : (P : Key × List CacheEntry → Type 0) (n : ℕ) (pairs : Pairs) → Every P pairs
     → Every P (take n pairs)
@@ -497,14 +410,8 @@ every_front P (suc n) (p ∷ pairs) all = (all.0, every_front P n pairs all.1)
 pub by_use_without : (use_of : Key → ℕ) (t : Key → Bool) (pairs : Pairs) → IsByUse use_of pairs
     → IsByUse use_of (remove_entry t pairs)
 by_use_without use_of t [] u = tt
-by_use_without use_of t (p ∷ pairs) u =
-    elim (t p.0) as (λ b. IsByUse use_of (cond b pairs (p ∷ remove_entry t pairs))) [
-      | true ↦ u.1
-      | false ↦ (
-        every_without (λ r. use_of r.0 < use_of p.0) t pairs u.0,
-        by_use_without use_of t pairs u.1,
-      )
-    ]
+by_use_without use_of t (p ∷ pairs) u = grind (arith, common_steps, u,
+    every_without (λ r. use_of r.0 < use_of p.0) t pairs u.0, by_use_without use_of t pairs u.1)
 
 by_use_front : (use_of : Key → ℕ) (n : ℕ) (pairs : Pairs) → IsByUse use_of pairs
     → IsByUse use_of (take n pairs)
@@ -531,24 +438,12 @@ apart_without use_of k (p ∷ pairs) u = elim (cases_Bool (bytes_eq k p.0)) [
   where
     apart_by : (r : Key × List CacheEntry) → use_of r.0 < use_of p.0 → k ≡ p.0
         → bytes_eq k r.0 ≡ false
-    apart_by r lt e = elim (cases_Bool (bytes_eq k r.0)) [
-      | inl yes_ ↦ let f = ap use_of (sym (bytes_same k r.0 yes_) ∙ e) in
-          absurd (omega (arith, lt, f))
-      | inr not_ ↦ not_
-    ]
+    apart_by r lt e = grind (arith, common_steps, bytes_same k r.0)
 
 apart_none : (k : Key) (pairs : Pairs) → lookup_entry (bytes_eq k) pairs ≡ None
     → Every (λ r. bytes_eq k r.0 ≡ false) pairs
 apart_none k [] e = tt
-apart_none k (p ∷ pairs) e = elim (cases_Bool (bytes_eq k p.0)) [
-  | inl same ↦ let no : Some p ≡ None =
-      sym (ap (λ b. cond b (Some p) (lookup_entry (bytes_eq k) pairs)) same) ∙ e in cc
-  | inr other ↦ (
-    other,
-    apart_none k pairs
-        (sym (ap (λ b. cond b (Some p) (lookup_entry (bytes_eq k) pairs)) other) ∙ e),
-  )
-]
+apart_none k (p ∷ pairs) e = grind (arith, common_steps, apart_none k pairs)
 
 module _ (use_of : Key → ℕ) (q : Words) (now : ℕ) (bound : (k : Key) → use_of k < now) where
   abbrev later : Key → ℕ

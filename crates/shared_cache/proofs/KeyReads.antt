@@ -1,17 +1,18 @@
 -- What is held of each key stays of that key.
 use Rattle.std.proofs.Common.{◌≡◌, ◌-◌, ◌++◌, ℕ, zero, suc, List, [], ◌∷◌, Bool, true, false, cond}
-use Rattle.std.proofs.Common.{Vec, Global, Option, Some, None, option_map, map, take, sym, ap}
+use Rattle.std.proofs.Common.{Vec, Global, Option, Some, None, map, take, sym, ap}
 use Rattle.std.proofs.Common.{◌∙◌, refl, subst}
 use Rattle.std.specs.Map.{lookup, lookup_entry, remove_entry}
 use Rattle.std.specs.Option.{option_map_or}
 use Rattle.std.specs.Str.{bytes_eq}
 use Rattle.std.proofs.lemmas.List.Elements.{All-nil, All-cons, All-append}
+use Rattle.std.proofs.Common.{arith}
+use Rattle.std.proofs.lemmas.Grind.{common_steps}
 use Rattle.command_words.specs.Queries.{key_of}
 use Rattle.lru.specs.LruCache.{promoted}
 use Rattle.shared_cache.specs.declared.entry.CacheEntry.{CacheEntry}
 use Rattle.shared_cache.specs.Held.{Key}
 use Rattle.shared_cache.specs.HeldKeys.{Pairs, others, entries_of}
-use Rattle.shared_cache.specs.Laws.{Every}
 use Rattle.shared_cache.specs.KeyReads.{AreOfKey, AreOfKeys}
 use Rattle.shared_cache.proofs.KeyCode.{Kept, key_is, entries_plain, put_others}
 use Rattle.shared_cache.proofs.PlainKeys.{plain}
@@ -20,9 +21,7 @@ use Rattle.shared_cache.proofs.PlainKeys.{plain}
 
 pub of_keys_without : (t : Key → Bool) (ps : Pairs) → AreOfKeys ps → AreOfKeys (remove_entry t ps)
 of_keys_without t [] a = tt
-of_keys_without t (p ∷ ps) a =
-    elim (t p.0) as (λ b. AreOfKeys (cond b ps (p ∷ remove_entry t ps)))
-    [ true ↦ a.1 | false ↦ (a.0, of_keys_without t ps a.1) ]
+of_keys_without t (p ∷ ps) a = grind (arith, common_steps, a, of_keys_without t ps a.1)
 
 found_of_key : (t : Key → Bool) (ps : Pairs) (p : Key × List CacheEntry)
     → lookup_entry t ps ≡ Some p → AreOfKeys ps → AreOfKey p.0 p.1

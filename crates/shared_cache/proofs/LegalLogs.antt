@@ -30,18 +30,16 @@ use Rattle.shared_cache.specs.declared.notices.Notice.TheVariants.{Malformed}
 use Rattle.shared_cache.specs.Notices.{notice_of}
 use Rattle.shared_cache.specs.Log.{replies, with_reply, is_wire, is_ended}
 use Rattle.shared_cache.specs.Log.{is_ready, caching_on_for, reply}
-use Rattle.shared_cache.specs.Held.{Setup, Words, put_ask}
+use Rattle.shared_cache.specs.Held.{Setup, put_ask}
 use Rattle.shared_cache.specs.Held.{put_command, held_for}
 use Rattle.shared_cache.specs.Held.{numbers, sent, held}
 use Rattle.shared_cache.specs.Out.{untaken, is_wanted}
 use Rattle.shared_cache.specs.Steps.{ClientTurn, refusing, is_log_full, polling, taking_out}
 use Rattle.shared_cache.specs.Steps.{is_welcome}
 use Rattle.shared_cache.specs.Steps.{judged_reply, judged, getting, fault_of, client_step}
-use Rattle.std.proofs.lemmas.Bool.{leb-false}
+use Rattle.std.proofs.lemmas.Bool.{leb-false, not-false}
 use Rattle.shared_cache.specs.Laws.{IsQuery, IsCall, AsksQuery, LegalLog}
 use Rattle.shared_cache.specs.Laws.{LegalStep}
-use Rattle.shared_cache.proofs.StepCases.{ask_down, ask_unready, ask_full, ask_ok, send_down}
-use Rattle.shared_cache.proofs.StepCases.{send_unready, send_control, send_full, send_ok}
 
 -- ---- what a turn adds
 
@@ -62,102 +60,66 @@ is_head : (log : List LogEntry) (e f : LogEntry) (P : LogEntry → Type 0) → e
     → P f
 is_head log e f P h p = let g : e ≡ f = cc in subst P g p
 
-polling_known : (s : Setup) (o : Option Value) (n : ℕ) (over : Bool) (log : List LogEntry)
-    (e : LogEntry) → (polling o n over log).past ≡ e ∷ log → Known s log e
-polling_known s (Some v) n over log e h = is_head log (Poll n) e (Known s log) h tt
-polling_known s None n true log e h = absurd (no_entry log e h)
-polling_known s None n false log e h = absurd (no_entry log e h)
+-- a turn adds nothing, or an entry of which this is known
+abbrev Adds : Setup → List LogEntry → ClientTurn → Type 0
+Adds s log t = (t.past ≡ log) ⊎ ((e : LogEntry) × (t.past ≡ e ∷ log) × Known s log e)
 
-taking_known : (s : Setup) (w : Wire) (most : ℕ) (bytes : List ℕ) (full : Bool)
-    (log : List LogEntry) (e : LogEntry) → (taking_out w most bytes full log).past ≡ e ∷ log
-    → Known s log e
-taking_known s w most [] full log e h = absurd (no_entry log e h)
-taking_known s w most (b ∷ bytes) true log e h = absurd (no_entry log e h)
-taking_known s w most (b ∷ bytes) false log e h = is_head log (TakeOut w most) e (Known s log) h tt
+unless_refused : (s : Setup) (log : List LogEntry) (b : Bool) (r : ClientRefusal) (t : ClientTurn)
+    → (b ≡ false → Adds s log t) → Adds s log (cond b (refusing r log) t)
+unless_refused s log true r t adds = inl refl
+unless_refused s log false r t adds = adds refl
 
-getting_known : (s : Setup) (o : Option ClientRefusal) (w : Wire) (v : Value) (full : Bool)
-    (log : List LogEntry) (e : LogEntry)
-    → w ≡ Main → fault_of s log w v ≡ o → (getting o w v full log).past ≡ e ∷ log → Known s log e
-getting_known s (Some r) w v full log e is f h = is_head log (Bad w v) e (Known s log) h tt
-getting_known s None w v true log e is f h = absurd (no_entry log e h)
-getting_known s None w v false log e is f h = is_head log (Got w v) e (Known s log) h (is, f)
+polling_adds : (s : Setup) (o : Option Value) (n : ℕ) (over : Bool) (log : List LogEntry)
+    → Adds s log (polling o n over log)
+polling_adds s (Some v) n over log = inr (Poll n, refl, tt)
+polling_adds s None n over log = unless_refused s log over (Down Main) _ (λ up. inl refl)
 
-ask_known : (s : Setup) (log : List LogEntry) (q : Words) (e : LogEntry) → IsQuery q
-    → (client_step s log (call.Ask q)).past ≡ e ∷ log → Known s log e
-ask_known s log q e is h = elim (cases_Bool (is_ended s.mode Main log)) [
-  | inl down ↦ absurd
-      (no_entry log e (ap (λ (t : ClientTurn). t.past) (sym (ask_down s log q down)) ∙ h))
-  | inr up ↦ elim (cases_Bool (is_ready s.mode log)) [
-    | inr unready ↦ absurd
-        (no_entry log e
-        (ap (λ (t : ClientTurn). t.past) (sym (ask_unready s log q up unready)) ∙ h))
-    | inl ready ↦ elim (cases_Bool (is_log_full s log)) [
-      | inl full ↦ absurd
-          (no_entry log e
-          (ap (λ (t : ClientTurn). t.past) (sym (ask_full s log q up ready full)) ∙ h))
-      | inr room ↦ is_head log (Ask q) e (Known s log)
-          (ap (λ (t : ClientTurn). t.past) (sym (ask_ok s log q up ready room)) ∙ h) (is, ready)
-    ]
-  ]
-]
+taking_adds : (s : Setup) (w : Wire) (most : ℕ) (bytes : List ℕ) (full : Bool)
+    (log : List LogEntry) → Adds s log (taking_out w most bytes full log)
+taking_adds s w most [] full log = inl refl
+taking_adds s w most (b ∷ bytes) full log =
+    unless_refused s log full (LogFull (length log)) _ (λ room. inr (TakeOut w most, refl, tt))
 
-send_known : (s : Setup) (log : List LogEntry) (ws : Words) (e : LogEntry) → 0 < length ws
-    → (client_step s log (call.Send ws)).past ≡ e ∷ log → Known s log e
-send_known s log ws e some h = elim (cases_Bool (is_ended s.mode Main log)) [
-  | inl down ↦ absurd
-      (no_entry log e (ap (λ (t : ClientTurn). t.past) (sym (send_down s log ws down)) ∙ h))
-  | inr up ↦ elim (cases_Bool (is_ready s.mode log)) [
-    | inr unready ↦ absurd
-        (no_entry log e
-        (ap (λ (t : ClientTurn). t.past) (sym (send_unready s log ws up unready)) ∙ h))
-    | inl ready ↦ elim (cases_Bool (is_control ws)) [
-      | inl control ↦ absurd
-          (no_entry log e
-          (ap (λ (t : ClientTurn). t.past) (sym (send_control s log ws up ready control)) ∙ h))
-      | inr plain ↦ elim (cases_Bool (is_log_full s log)) [
-        | inl full ↦ absurd
-            (no_entry log e
-            (ap (λ (t : ClientTurn). t.past) (sym (send_full s log ws up ready plain full)) ∙ h))
-        | inr room ↦ is_head log (Send ws) e (Known s log)
-            (ap (λ (t : ClientTurn). t.past) (sym (send_ok s log ws up ready plain room)) ∙ h)
-            (plain, ready, some)
-      ]
-    ]
-  ]
-]
+getting_adds : (s : Setup) (o : Option ClientRefusal) (w : Wire) (v : Value) (full : Bool)
+    (log : List LogEntry) → w ≡ Main → fault_of s log w v ≡ o → Adds s log (getting o w v full log)
+getting_adds s (Some r) w v full log is f = inr (Bad w v, refl, tt)
+getting_adds s None w v full log is f =
+    unless_refused s log full (LogFull (length log)) _ (λ room. inr (Got w v, refl, (is, f)))
+
+step_adds : (s : Setup) (log : List LogEntry) (c : ClientCall) → IsCall c → AsksQuery c
+    → Adds s log (client_step s log c)
+unfolding client_step
+step_adds s log (call.Ask q) is query =
+    unless_refused s log (is_ended s.mode Main log) _ _ (λ up.
+    unless_refused s log (not (is_ready s.mode log)) _ _ (λ ready.
+    unless_refused s log (is_log_full s log) _ _ (λ room.
+    inr (Ask q, refl, (query, not-false _ ready)))))
+step_adds s log (call.Send ws) is query =
+    unless_refused s log (is_ended s.mode Main log) _ _ (λ up.
+    unless_refused s log (not (is_ready s.mode log)) _ _ (λ ready.
+    unless_refused s log (is_control ws) _ _ (λ plain.
+    unless_refused s log (is_log_full s log) _ _ (λ room.
+    inr (Send ws, refl, (plain, not-false _ ready, is))))))
+step_adds s log (call.Poll n) is query =
+    unless_refused s log (not (is_wanted s log n)) _ _ (λ wanted.
+    polling_adds s (reply s.mode log n) n (is_ended s.mode Main log) log)
+step_adds s log (call.TakeOut w n) is query =
+    unless_refused s log (is_ended s.mode w log) _ _ (λ up.
+    taking_adds s w n (untaken s w log) (is_log_full s log) log)
+step_adds s log (call.Got w v) is query =
+    unless_refused s log (is_ended s.mode w log) _ _ (λ up.
+    getting_adds s (fault_of s log w v) w v (is_log_full s log) log is refl)
+step_adds s log (call.End w) is query =
+    elim (is_ended s.mode w log) as
+    (λ b. Adds s log (record { reply = Noted; past = cond b log (End w ∷ log) }))
+    [ true ↦ inl refl | false ↦ inr (End w, refl, tt) ]
 
 known : (s : Setup) (log : List LogEntry) (c : ClientCall) (e : LogEntry) → IsCall c → AsksQuery c
     → (client_step s log c).past ≡ e ∷ log → Known s log e
-unfolding client_step
-known s log (call.Ask q) e is query h = ask_known s log q e query h
-known s log (call.Send ws) e is query h = send_known s log ws e is h
-known s log (call.Poll n) e is query h =
-    elim (is_wanted s log n) as
-    (λ b. (cond (not b) (refusing (NoNumber n) log)
-    (polling (reply s.mode log n) n (is_ended s.mode Main log) log)).past ≡ e ∷ log
-    → Known s log e) [
-      | true ↦ polling_known s (reply s.mode log n) n (is_ended s.mode Main log) log e
-      | false ↦ λ x. absurd (no_entry log e x)
-    ] h
-known s log (call.TakeOut w n) e is query h =
-    elim (is_ended s.mode w log) as
-    (λ b. (cond b (refusing (Down w) log)
-    (taking_out w n (untaken s w log) (is_log_full s log) log)).past ≡ e ∷ log → Known s log e) [
-      | true ↦ λ x. absurd (no_entry log e x)
-      | false ↦ taking_known s w n (untaken s w log) (is_log_full s log) log e
-    ] h
-known s log (call.Got w v) e is query h =
-    elim (is_ended s.mode w log) as
-    (λ b. (cond b (refusing (Down w) log)
-    (getting (fault_of s log w v) w v (is_log_full s log) log)).past ≡ e ∷ log → Known s log e) [
-      | true ↦ λ x. absurd (no_entry log e x)
-      | false ↦ getting_known s (fault_of s log w v) w v (is_log_full s log) log e is refl
-    ] h
-known s log (call.End w) e is query h =
-    elim (is_ended s.mode w log) as (λ b. cond b log (End w ∷ log) ≡ e ∷ log → Known s log e) [
-      | true ↦ λ x. absurd (no_entry log e x)
-      | false ↦ λ x. is_head log (End w) e (Known s log) x tt
-    ] h
+known s log c e is query h = elim (step_adds s log c is query) [
+  | inl same ↦ absurd (no_entry log e (sym same ∙ h))
+  | inr new ↦ is_head log new.0 e (Known s log) (sym new.1 ∙ h) new.2
+]
 
 pub newest : (s : Setup) (log : List LogEntry) (e : LogEntry) → LegalLog s (e ∷ log) → Known s log e
 newest s log e l = known s log l.1.0 e l.1.1 l.1.2 l.1.3
@@ -216,64 +178,12 @@ replies_within s (Bad w v ∷ log) l = replies_within s log l.0
 
 -- ---- a turn leaves a legal log legal
 
-abbrev Adds : List LogEntry → ClientTurn → Type 0
-Adds log t = (t.past ≡ log) ⊎ ((e : LogEntry) × (t.past ≡ e ∷ log))
-
-polling_adds : (o : Option Value) (n : ℕ) (over : Bool) (log : List LogEntry)
-    → Adds log (polling o n over log)
-polling_adds (Some v) n over log = inr (Poll n, refl)
-polling_adds None n true log = inl refl
-polling_adds None n false log = inl refl
-
-taking_adds : (w : Wire) (most : ℕ) (bytes : List ℕ) (full : Bool) (log : List LogEntry)
-    → Adds log (taking_out w most bytes full log)
-taking_adds w most [] full log = inl refl
-taking_adds w most (b ∷ bytes) true log = inl refl
-taking_adds w most (b ∷ bytes) false log = inr (TakeOut w most, refl)
-
-getting_adds : (o : Option ClientRefusal) (w : Wire) (v : Value) (full : Bool) (log : List LogEntry)
-    → Adds log (getting o w v full log)
-getting_adds (Some r) w v full log = inr (Bad w v, refl)
-getting_adds None w v true log = inl refl
-getting_adds None w v false log = inr (Got w v, refl)
-
-if_adds : (log : List LogEntry) (b : Bool) (t u : ClientTurn) → Adds log t → Adds log u
-    → Adds log (cond b t u)
-if_adds log true t u a c = a
-if_adds log false t u a c = c
-
-step_adds : (s : Setup) (log : List LogEntry) (c : ClientCall) → Adds log (client_step s log c)
-unfolding client_step
-step_adds s log (call.Ask q) =
-    if_adds log (is_ended s.mode Main log) _ _ (inl refl)
-    (if_adds log (not (is_ready s.mode log)) _ _ (inl refl)
-    (if_adds log (is_log_full s log) _ _ (inl refl) (inr (Ask q, refl))))
-step_adds s log (call.Send ws) =
-    if_adds log (is_ended s.mode Main log) _ _ (inl refl)
-    (if_adds log (not (is_ready s.mode log)) _ _ (inl refl)
-    (if_adds log (is_control ws) _ _ (inl refl)
-    (if_adds log (is_log_full s log) _ _ (inl refl) (inr (Send ws, refl)))))
-step_adds s log (call.Poll n) =
-    if_adds log (not (is_wanted s log n)) _ _ (inl refl)
-    (polling_adds (reply s.mode log n) n (is_ended s.mode Main log) log)
-step_adds s log (call.TakeOut w n) =
-    if_adds log (is_ended s.mode w log) _ _ (inl refl)
-    (taking_adds w n (untaken s w log) (is_log_full s log) log)
-step_adds s log (call.Got w v) =
-    if_adds log (is_ended s.mode w log) _ _ (inl refl)
-    (getting_adds (fault_of s log w v) w v (is_log_full s log) log)
-step_adds s log (call.End w) =
-    elim (is_ended s.mode w log) as
-    (λ b. (cond b log (End w ∷ log) ≡ log)
-    ⊎ ((e : LogEntry) × (cond b log (End w ∷ log) ≡ e ∷ log)))
-    [ true ↦ inl refl | false ↦ inr (End w, refl) ]
-
 legal_after : (s : Setup) (log new : List LogEntry) (c : ClientCall) (r : ClientReply)
     → LegalLog s log → IsCall c → AsksQuery c
     → client_step s log c ≡ record { reply = r; past = new } → LegalLog s new
 legal_after s log new c r l is query e =
     let past_is : (client_step s log c).past ≡ new = ap (λ (t : ClientTurn). t.past) e in
-    elim (step_adds s log c) [
+    elim (step_adds s log c is query) [
       | inl same ↦ subst (LegalLog s) (sym same ∙ past_is) l
       | inr x ↦ subst (LegalLog s) (sym x.1 ∙ past_is) (l, (c, is, query, x.1))
     ]

@@ -1,22 +1,21 @@
 -- What is held, sorted: each entry stands at its place.
-use Rattle.std.proofs.Common.{◌≡◌, ◌==◌, ◌+◌, ◌<◌, ◌≤◌, ◌++◌, ◌⊎◌, ℕ, zero, suc, List, [], ◌∷◌}
-use Rattle.std.proofs.Common.{length, get_or, map, true, false, cond, not, Option, Some, None, sym}
+use Rattle.std.proofs.Common.{◌≡◌, ◌==◌, ◌+◌, ◌<◌, ◌≤◌, ℕ, zero, suc, List, [], ◌∷◌}
+use Rattle.std.proofs.Common.{length, get_or, true, false, cond, Some, sym}
 use Rattle.std.proofs.Common.{ap, ◌∙◌, refl, inl, inr, subst, arith, eq-eqb, ne_eqb, Bool}
 use denote.Param.Members.{Mut}
 use denote.Ref.{Bor}
 use Rattle.std.specs.declared.cmp.Ordering.{Ordering}
 use Rattle.std.specs.Cmp.{IsStrictWeakOrder}
 use Rattle.std.specs.Fn.{Called, ComparesAs}
-use Rattle.std.specs.List.{slice_get, sum_by, All}
+use Rattle.std.specs.List.{slice_get, sum_by}
 use Rattle.std.specs.List.Sorted.{IsPermutation, IsSortedBy}
 use Rattle.std.specs.Ordering.{is_lt}
-use Rattle.std.specs.Str.{bytes_eq}
-use Rattle.std.proofs.lemmas.Bool.{cases_Bool, cases_eq, eqb-true}
+use Rattle.std.proofs.lemmas.Bool.{cases_eq}
 use Rattle.std.proofs.lemmas.List.Sums.{sum_by-cons, sum_by-append}
 use Rattle.std.proofs.lemmas.List.Sorted.{sum_by-IsPermutation, All-permutation}
 use Rattle.std.proofs.lemmas.List.Sorted.{IsPermutation-map, ranks_by, answers_always, sorted_far}
 use Rattle.std.proofs.lemmas.Option.{slice_get_cases}
-use Rattle.command_words.specs.Queries.{key_of}
+use Rattle.std.proofs.lemmas.Grind.{common_steps}
 use Rattle.shared_cache.specs.declared.entry.CacheEntry.{CacheEntry}
 use Rattle.shared_cache.specs.declared.log.LogEntry.{LogEntry}
 use Rattle.shared_cache.specs.declared.log.Wire.TheVariants.{Main}
@@ -26,9 +25,10 @@ use Rattle.shared_cache.specs.Held.{open_fetch, left}
 use Rattle.shared_cache.specs.HeldKeys.{Pairs, ArePairsOf, listed, of_key, but_key, IsSortedAs}
 use Rattle.shared_cache.specs.HeldKeys.{seen}
 use Rattle.shared_cache.specs.Laws.{Every}
-use Rattle.shared_cache.proofs.Order.{Among, Apart, ranked_some, ranked_is, same_ranked, every_at}
+use Rattle.shared_cache.proofs.Order.{Among, Apart, ranked_some, ranked_is, same_ranked}
 use Rattle.shared_cache.proofs.Order.{every_of, before_not, before_self, before_other, rank_more}
 use Rattle.shared_cache.proofs.Order.{rank_same, no_place, order_total, held_apart}
+use Rattle.shared_cache.proofs.Every.{every_both}
 use Rattle.shared_cache.proofs.Places.{listed_held}
 
 -- ---- sums over what is held, one key after the other
@@ -36,15 +36,8 @@ use Rattle.shared_cache.proofs.Places.{listed_held}
 sum_parts : (f : CacheEntry → ℕ) (k : Key) (hs : List CacheEntry)
     → sum_by f (of_key k hs) + sum_by f (but_key k hs) ≡ sum_by f hs
 sum_parts f k [] = refl
-sum_parts f k (g ∷ gs) =
-    let e = sum_parts f k gs in
-    let c = sum_by-cons f g gs in
-    elim (bytes_eq (key_of g.query) k) as
-    (λ b. sum_by f (cond b (g ∷ of_key k gs) (of_key k gs))
-    + sum_by f (cond (not b) (g ∷ but_key k gs) (but_key k gs)) ≡ sum_by f (g ∷ gs)) [
-      | true ↦ omega (arith, e, c, sum_by-cons f g (of_key k gs))
-      | false ↦ omega (arith, e, c, sum_by-cons f g (but_key k gs))
-    ]
+sum_parts f k (g ∷ gs) = grind (arith, common_steps, sum_parts f k gs, sum_by-cons f g gs,
+    sum_by-cons f g (of_key k gs), sum_by-cons f g (but_key k gs))
 
 sum_listed : (f : CacheEntry → ℕ) (pairs : Pairs) (hs : List CacheEntry) → ArePairsOf pairs hs
     → sum_by f (listed pairs) ≡ sum_by f hs
@@ -63,11 +56,7 @@ one_before h o = cond (is_before o h) 1 0
 rank_sum : (h : CacheEntry) (os : List CacheEntry) → rank h os ≡ sum_by (one_before h) os
 rank_sum h [] = refl
 rank_sum h (o ∷ os) =
-    let e = rank_sum h os in
-    elim (is_before o h) as
-    (λ b. cond b (rank h os + 1) (rank h os) ≡ cond b 1 0 + sum_by (one_before h) os)
-    [ true ↦ omega (arith, e) | false ↦ omega (arith, e) ]
-    ∙ sym (sum_by-cons (one_before h) o os)
+    grind (arith, common_steps, rank_sum h os, sum_by-cons (one_before h) o os)
 
 length_sum : (hs : List CacheEntry) → sum_by (λ o. 1) hs ≡ length hs
 length_sum [] = refl
@@ -161,15 +150,10 @@ every_get P d [] e k lt = absurd (let no : ⊥ = omega (arith, lt) in no)
 every_get P d (y ∷ ys) e zero lt = e.0
 every_get P d (y ∷ ys) e (suc k) lt = every_get P d ys e.1 k (omega (arith, lt))
 
-every_two : (P Q R : CacheEntry → Type 0) (ys : List CacheEntry)
-    → ((z : CacheEntry) → P z → Q z → R z) → Every P ys → Every Q ys → Every R ys
-every_two P Q R [] f p q = tt
-every_two P Q R (y ∷ ys) f p q = (f y p.0 q.0, every_two P Q R ys f p.1 q.1)
-
 up_of : (ys : List CacheEntry) → Apart ys → Far ys → Up ys
 up_of [] apart far = tt
 up_of (y ∷ ys) apart far = (
-  every_two (λ z. z.number ≡ y.number → ⊥) (λ z. is_before z y ≡ false)
+  every_both (λ z. z.number ≡ y.number → ⊥) (λ z. is_before z y ≡ false)
       (λ z. is_before y z ≡ true) ys (λ z ne not_. before_other z y ne not_) apart.0
       (every_index (λ z. is_before z y ≡ false) y ys
       (λ j lt. far 0 (suc j) y (omega arith) (omega (arith, lt)))),

@@ -1,12 +1,13 @@
 -- How the marks change with the fetches.
 use Rattle.std.proofs.Common.{◌≡◌, ◌==◌, ◌<◌, ◌≤◌, ◌++◌, ℕ, zero, suc, List, [], ◌∷◌, Bool, true}
 use Rattle.std.proofs.Common.{false, cond, not, Option, Some, None, sym, ap, ◌∙◌, refl, arith}
-use Rattle.std.proofs.Common.{eq-eqb, ne_eqb, inl, inr, subst}
+use Rattle.std.proofs.Common.{ne_eqb, inl, inr, subst}
 use Rattle.std.specs.Prelude.{nat_lt}
 use Rattle.std.specs.List.{filter}
 use Rattle.std.proofs.lemmas.List.Elements.{filter-append}
 use Rattle.std.proofs.lemmas.Bool.{cases_lt, cases_eq, lt-ltb, le-ltb}
-use Rattle.command_words.specs.Queries.{key_of, same_query}
+use Rattle.std.proofs.lemmas.Grind.{common_steps}
+use Rattle.command_words.specs.Queries.{key_of}
 use Rattle.fill_mark.specs.declared.marks.Mark.{Mark}
 use Rattle.fill_mark.specs.Marks.{query_marked, without_number, without_query}
 use Rattle.shared_cache.specs.Held.{Key, Words, unless, other_than}
@@ -43,33 +44,23 @@ marks_none replied (suc n) =
 pub mark_unless : (t : Key → Bool) (n : ℕ) (o : Option Words)
     → fetch_mark n (unless t o) ≡ filter (λ m. not (t (key_of m.query))) (fetch_mark n o)
 mark_unless t n None = refl
-mark_unless t n (Some q) =
-    let m : Mark = record { number = n; query = q } in
-    elim (t (key_of q)) as
-    (λ b. fetch_mark n (cond b None (Some q)) ≡ cond (not b) (m ∷ []) [])
-    [ true ↦ refl | false ↦ refl ]
+mark_unless t n (Some q) = grind (arith, common_steps)
 
 pub mark_other : (q : Words) (n : ℕ) (o : Option Words)
     → fetch_mark n (other_than q o) ≡ without_query q (fetch_mark n o)
 mark_other q n None = refl
-mark_other q n (Some p) =
-    let m : Mark = record { number = n; query = p } in
-    elim (same_query p q) as
-    (λ b. fetch_mark n (cond b None (Some p)) ≡ cond (not b) (m ∷ []) [])
-    [ true ↦ refl | false ↦ refl ]
+mark_other q n (Some p) = grind (arith, common_steps)
 
 -- ---- the mark of the next reply
 
 one_less : (n k : ℕ) (o : Option Words) → (n ≡ k → ⊥)
     → without_number k (fetch_mark n o) ≡ fetch_mark n o
 one_less n k None ne = refl
-one_less n k (Some q) ne = let m : Mark = record { number = n; query = q } in
-    ap (λ b. cond (not b) (m ∷ []) []) (ne_eqb n k ne)
+one_less n k (Some q) ne = grind (arith, common_steps)
 
 one_gone : (n : ℕ) (o : Option Words) → without_number n (fetch_mark n o) ≡ []
 one_gone n None = refl
-one_gone n (Some q) = let m : Mark = record { number = n; query = q } in
-    ap (λ b. cond (not b) (m ∷ []) []) (eq-eqb n n refl)
+one_gone n (Some q) = grind (arith, common_steps)
 
 -- the last part of the marks, where the next number goes
 last_next : (open_of : ℕ → Option Words) (replied n : ℕ)
@@ -118,13 +109,7 @@ or_else (Some q) o = Some q
 found_in : (n : ℕ) (xs ys : List Mark)
     → query_marked n (xs ++ ys) ≡ or_else (query_marked n xs) (query_marked n ys)
 found_in n [] ys = refl
-found_in n (m ∷ xs) ys =
-    elim (m.number == n) as
-    (λ b. cond b (Some m.query) (query_marked n (xs ++ ys)) ≡ or_else
-    (cond b (Some m.query) (query_marked n xs)) (query_marked n ys)) [
-      | true ↦ refl
-      | false ↦ found_in n xs ys
-    ]
+found_in n (m ∷ xs) ys = grind (arith, common_steps, found_in n xs ys)
 
 not_here : (n k : ℕ) (o : Option Words) (b : Bool) → (k ≡ n → ⊥)
     → query_marked n (cond b (fetch_mark k o) []) ≡ None
@@ -134,7 +119,7 @@ not_here n k o false ne = refl
 
 is_here : (n : ℕ) (o : Option Words) → query_marked n (fetch_mark n o) ≡ o
 is_here n None = refl
-is_here n (Some q) = ap (λ b. cond b (Some q) None) (eq-eqb n n refl)
+is_here n (Some q) = grind (arith, common_steps)
 
 none_past : (open_of : ℕ → Option Words) (replied n m : ℕ) → n < m
     → query_marked m (marks_by open_of replied n) ≡ None

@@ -11,6 +11,7 @@ use Rattle.std.proofs.lemmas.Bool.{cases_eq, cases_lt, cases_Bool}
 use Rattle.std.proofs.lemmas.Cmp.{nat_cmp_total, nat_list_cmp_total, then_total}
 use Rattle.std.proofs.lemmas.Map.Lookups.{exact_unsigned}
 use Rattle.std.proofs.lemmas.Option.{same_Some}
+use Rattle.std.proofs.lemmas.Grind.{common_steps}
 use Rattle.resp_value.specs.declared.value.Value.{Value}
 use Rattle.shared_cache.specs.declared.entry.CacheEntry.{CacheEntry}
 use Rattle.shared_cache.specs.declared.log.Wire.TheVariants.{Main}
@@ -111,40 +112,25 @@ pub rank_same : (h o : CacheEntry) (os : List CacheEntry) → is_before o h ≡ 
 rank_same h o os is = ap (λ b. cond b (rank h os + 1) (rank h os)) is
 
 rank_step : (h o : CacheEntry) (os : List CacheEntry) → rank h os ≤ rank h (o ∷ os)
-rank_step h o os = elim (cases_Bool (is_before o h)) [
-  | inl yes_ ↦ let e = rank_more h o os yes_ in omega (e, arith)
-  | inr not_ ↦ let e = rank_same h o os not_ in omega (e, arith)
-]
+rank_step h o os = grind (arith, common_steps)
 
 rank_within : (h : CacheEntry) (os : List CacheEntry) → rank h os ≤ length os
 rank_within h [] = omega arith
-rank_within h (o ∷ os) = let w = rank_within h os in elim (cases_Bool (is_before o h)) [
-  | inl yes_ ↦ let e = rank_more h o os yes_ in omega (e, w, arith)
-  | inr not_ ↦ let e = rank_same h o os not_ in omega (e, w, arith)
-]
+rank_within h (o ∷ os) = grind (arith, common_steps, rank_within h os)
 
 rank_below : (h : CacheEntry) (os : List CacheEntry) → Among h os → rank h os < length os
 rank_below h [] a = absurd a
 rank_below h (o ∷ os) (inl is) =
     let e = rank_same h o os (subst (λ x. is_before x h ≡ false) is (before_self h)) in
     let w = rank_within h os in omega (e, w, arith)
-rank_below h (o ∷ os) (inr a) = let w = rank_below h os a in elim (cases_Bool (is_before o h)) [
-  | inl yes_ ↦ let e = rank_more h o os yes_ in omega (e, w, arith)
-  | inr not_ ↦ let e = rank_same h o os not_ in omega (e, w, arith)
-]
+rank_below h (o ∷ os) (inr a) = grind (arith, common_steps, rank_below h os a)
 
 -- what comes before has no more before it
 rank_grows : (a b : CacheEntry) (os : List CacheEntry) → is_before a b ≡ true
     → rank a os ≤ rank b os
 rank_grows a b [] ab = omega arith
-rank_grows a b (o ∷ os) ab = let w = rank_grows a b os ab in elim (cases_Bool (is_before o a)) [
-  | inl yes_ ↦
-      let e = rank_more a o os yes_ in
-      let f = rank_more b o os (before_then o a b yes_ ab) in omega (e, f, w, arith)
-  | inr not_ ↦
-      let e = rank_same a o os not_ in
-      let f = rank_step b o os in omega (e, f, w, arith)
-]
+rank_grows a b (o ∷ os) ab =
+    grind (arith, common_steps, rank_grows a b os ab, before_then o a b)
 
 rank_less : (a b : CacheEntry) (os : List CacheEntry) → is_before a b ≡ true → Among a os
     → rank a os < rank b os
@@ -153,15 +139,8 @@ rank_less a b (o ∷ os) ab (inl is) =
     let w = rank_grows a b os ab in
     let e = rank_same a o os (subst (λ x. is_before x a ≡ false) is (before_self a)) in
     let f = rank_more b o os (subst (λ x. is_before x b ≡ true) is ab) in omega (e, f, w, arith)
-rank_less a b (o ∷ os) ab (inr i) = let w = rank_less a b os ab i in
-    elim (cases_Bool (is_before o a)) [
-      | inl yes_ ↦
-          let e = rank_more a o os yes_ in
-          let f = rank_more b o os (before_then o a b yes_ ab) in omega (e, f, w, arith)
-      | inr not_ ↦
-          let e = rank_same a o os not_ in
-          let f = rank_step b o os in omega (e, f, w, arith)
-    ]
+rank_less a b (o ∷ os) ab (inr i) =
+    grind (arith, common_steps, rank_less a b os ab i, before_then o a b)
 
 -- each place has one
 pub record Placed (hs : List CacheEntry) (place : ℕ) : Type 0 where

@@ -2,7 +2,7 @@
 use Rattle.std.proofs.Common.{subst}
 use Rattle.std.proofs.Common.{◌≡◌, ◌==◌, ◌+◌, ◌-◌, ◌<◌, ◌≤◌, ◌++◌, ◌||◌, ℕ, suc, List, [], ◌∷◌}
 use Rattle.std.proofs.Common.{length}
-use Rattle.std.proofs.Common.{set, get_or, drop, true, false, cond, not, Option}
+use Rattle.std.proofs.Common.{set, get_or, drop, Bool, true, false, cond, not, Option, Some}
 use Rattle.std.proofs.Common.{None, sym}
 use Rattle.std.proofs.Common.{ap, ◌∙◌, refl, arith, append-nil, length-append, ne_eqb, eq-eqb, inl}
 use Rattle.std.proofs.Common.{inr}
@@ -45,6 +45,13 @@ use Rattle.shared_cache.proofs.HeldSteps.{held_send}
 use Rattle.shared_cache.proofs.MarkLists.{marks_none, marks_filter, mark_unless}
 use Rattle.shared_cache.proofs.Bytes.{untaken_one, untaken_same, untaken_took, untaken_none}
 use Rattle.shared_cache.proofs.PendingLists.{no_reply, has_reply, owed_push, owed_gone}
+use Rattle.shared_cache.proofs.PendingLists.{gone_is, waits_is, there_is}
+use Rattle.shared_cache.proofs.StepCases.{poll_unwanted, poll_wanted, handed, high, wanted}
+use Rattle.shared_cache.specs.Log.{reply}
+use Rattle.shared_cache.specs.Steps.{client_step, polling, refusing}
+use Rattle.shared_cache.specs.declared.log.ClientCall.TheVariants as call
+use Rattle.shared_cache.specs.declared.log.ClientReply.TheVariants.{Answer}
+use Rattle.shared_cache.specs.declared.log.ClientRefusal.TheVariants.{NoNumber}
 
 -- marks of one number more, which has no fetch
 pub marks_plus_none : (open_of : ℕ → Option Words) (replied n m : ℕ) → m ≡ suc n
@@ -240,6 +247,39 @@ module _ (s : Setup) (log : List LogEntry) (f : Fields) (k : Reflects s log f) w
     side_is = k.side_is;
     broken_is = k.broken_is;
   }
+
+  -- a Poll, by what stands for its number
+  standing : (n : ℕ) → handshake_length s.mode < n → n ≤ length f.pending + handshake_length s.mode
+      → get_or f.pending (n - 2 - 1) Gone ≡ pending_at s.mode log n
+  standing n low within = k.pending_is (n - 2 - 1) (omega arith)
+      ∙ ap (pending_at s.mode log) (let e : n - 2 - 1 + 3 ≡ n = omega arith in e)
+
+  pub poll_past : (n : ℕ) → length f.pending + handshake_length s.mode < n
+      → client_step s log (call.Poll n) ≡ refusing (NoNumber n) log
+  poll_past n past = poll_unwanted s log n (high s log n (omega (arith, k.pending_count)))
+
+  module _ (n : ℕ) (low : handshake_length s.mode < n)
+      (within : n ≤ length f.pending + handshake_length s.mode) where
+    pub poll_gone : get_or f.pending (n - 2 - 1) Gone ≡ Gone
+        → client_step s log (call.Poll n) ≡ refusing (NoNumber n) log
+    poll_gone e = poll_unwanted s log n
+        (handed s log n (gone_is _ (reply s.mode log n) (sym (standing n low within) ∙ e)))
+
+    pub poll_waits : (over : Bool) → get_or f.pending (n - 2 - 1) Gone ≡ Waiting → f.ended ≡ over
+        → client_step s log (call.Poll n) ≡ polling None n over log
+    poll_waits over e ended =
+        let says = waits_is (is_polled log n) (reply s.mode log n)
+        (sym (standing n low within) ∙ e) in
+        poll_wanted s log n None over
+        (wanted s log n low (omega (arith, k.pending_count)) says.0) says.1 (sym k.ended_is ∙ ended)
+
+    pub poll_there : (v : Value) → get_or f.pending (n - 2 - 1) Gone ≡ There v
+        → client_step s log (call.Poll n) ≡ record { reply = Answer v; past = Poll n ∷ log }
+    poll_there v e =
+        let says = there_is (is_polled log n) (reply s.mode log n) v
+        (sym (standing n low within) ∙ e) in
+        poll_wanted s log n (Some v) (is_ended s.mode Main log)
+        (wanted s log n low (omega (arith, k.pending_count)) says.0) says.1 refl
 
   -- what the keys say of what is held
   pub query_found : (q : Words) (keys : KeysHeld) → keys ≡ f.keys

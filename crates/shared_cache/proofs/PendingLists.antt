@@ -1,8 +1,8 @@
 -- The replies that wait for their callers, by the log.
 use Rattle.std.proofs.Common.{◌≡◌, ◌+◌, ◌<◌, ◌≤◌, ◌++◌, ℕ, zero, suc, List, [], ◌∷◌, length}
-use Rattle.std.proofs.Common.{set, get_or, Bool, true, false, cond, Option, Some, None, sym, ap}
-use Rattle.std.proofs.Common.{◌∙◌, refl, arith, ne_eqb, inl, inr}
-use Rattle.std.proofs.lemmas.Bool.{cases_eq}
+use Rattle.std.proofs.Common.{set, get_or, Bool, true, false, cond, Option, Some, None, ap}
+use Rattle.std.proofs.Common.{refl, arith}
+use Rattle.std.proofs.lemmas.Grind.{common_steps}
 use Rattle.resp_value.specs.declared.value.Value.{Value}
 use Rattle.shared_cache.specs.declared.entry.PendingReply.{PendingReply}
 use Rattle.shared_cache.specs.declared.entry.PendingReply.TheVariants.{Waiting, There, Gone}
@@ -12,22 +12,12 @@ use Rattle.shared_cache.specs.ClientFields.{there, owed_in}
 -- a number past the replies has none
 pub no_reply : (n : ℕ) (vs : List Value) → length vs < n → reply_in n vs ≡ None
 no_reply n [] lt = refl
-no_reply n (v ∷ vs) lt =
-    ap (λ b. cond b (Some v) (reply_in n vs)) (ne_eqb n (length vs + 1) (λ e. omega arith))
-    ∙ no_reply n vs (omega arith)
+no_reply n (v ∷ vs) lt = grind (arith, common_steps, no_reply n vs)
 
 pub has_reply : (n : ℕ) (vs : List Value) (v : Value) → there (reply_in n vs) ≡ There v
     → n ≤ length vs
 has_reply n [] v e = cc
-has_reply n (u ∷ vs) v e =
-    elim (cases_eq n (length vs + 1)) [
-      | inl same ↦ omega arith
-      | inr other ↦
-          let h : n ≤ length vs
-          = has_reply n vs v
-          (ap (λ b. there (cond b (Some u) (reply_in n vs))) (sym (ne_eqb n (length vs + 1) other))
-          ∙ e) in omega arith
-    ]
+has_reply n (u ∷ vs) v e = grind (arith, common_steps, has_reply n vs v)
 
 pub owed_push : (ds : List PendingReply) → owed_in (ds ++ Waiting ∷ []) ≡ owed_in ds + 1
 owed_push [] = refl

@@ -1,9 +1,9 @@
 -- The places of what is held are the same in the order of the keys.
-use Rattle.std.proofs.Common.{◌≡◌, ◌==◌, ◌+◌, ◌++◌, ◌⊎◌, ℕ, List, [], ◌∷◌, true, false}
+use Rattle.std.proofs.Common.{◌≡◌, ◌+◌, ◌++◌, ◌⊎◌, ℕ, List, [], ◌∷◌, true, false}
 use Rattle.std.proofs.Common.{Bool, cond, not}
 use Rattle.std.proofs.Common.{Option, Some, None, sym, ap, ◌∙◌, refl, subst, inl, inr, arith}
 use Rattle.std.specs.Str.{bytes_eq}
-use Rattle.std.proofs.lemmas.Bool.{cases_Bool}
+use Rattle.std.proofs.lemmas.Grind.{common_steps}
 use Rattle.command_words.specs.Queries.{key_of}
 use Rattle.shared_cache.specs.declared.entry.CacheEntry.{CacheEntry}
 use Rattle.shared_cache.specs.declared.log.Wire.TheVariants.{Main}
@@ -94,11 +94,7 @@ held_listed (r ∷ pairs) hs h p a = elim (among_parts r.0 h hs a) [
 pub rank_append : (h : CacheEntry) (xs ys : List CacheEntry)
     → rank h (xs ++ ys) ≡ rank h xs + rank h ys
 rank_append h [] ys = omega arith
-rank_append h (x ∷ xs) ys = let e = rank_append h xs ys in
-    elim (is_before x h) as
-    (λ b. cond b (rank h (xs ++ ys) + 1) (rank h (xs ++ ys))
-    ≡ cond b (rank h xs + 1) (rank h xs) + rank h ys)
-    [ true ↦ omega (arith, e) | false ↦ e ]
+rank_append h (x ∷ xs) ys = grind (arith, common_steps, rank_append h xs ys)
 
 rank_parts : (k : Key) (h : CacheEntry) (hs : List CacheEntry)
     → rank h (of_key k hs) + rank h (but_key k hs) ≡ rank h hs
@@ -112,12 +108,10 @@ rank_parts k h (g ∷ gs) = let e = rank_parts k h gs in
     ]
   where
     one : (b : Bool) (l m n : ℕ) → l + m ≡ n → cond b (l + 1) l + m ≡ cond b (n + 1) n
-    one true l m n e = omega (arith, e)
-    one false l m n e = e
+    one b l m n e = grind (arith, common_steps)
 
     two : (b : Bool) (l m n : ℕ) → l + m ≡ n → l + cond b (m + 1) m ≡ cond b (n + 1) n
-    two true l m n e = omega (arith, e)
-    two false l m n e = e
+    two b l m n e = grind (arith, common_steps)
 
 pub rank_listed : (pairs : Pairs) (hs : List CacheEntry) (h : CacheEntry) → ArePairsOf pairs hs
     → rank h (listed pairs) ≡ rank h hs
@@ -166,22 +160,11 @@ pairs_placed s log place pairs p =
 pub ranked_append : (place : ℕ) (all xs ys : List CacheEntry) → ranked place all xs ≡ None
     → ranked place all (xs ++ ys) ≡ ranked place all ys
 ranked_append place all [] ys e = refl
-ranked_append place all (x ∷ xs) ys e = elim (cases_Bool (rank x all == place)) [
-  | inl same ↦ let no : Some x ≡ None
-      = sym (ap (λ b. cond b (Some x) (ranked place all xs)) same) ∙ e in
-      absurd (let not_ : ⊥ = cc in not_)
-  | inr other ↦ ap (λ b. cond b (Some x) (ranked place all (xs ++ ys))) other
-      ∙ ranked_append place all xs ys
-      (sym (ap (λ b. cond b (Some x) (ranked place all xs)) other) ∙ e)
-]
+ranked_append place all (x ∷ xs) ys e =
+    grind (arith, common_steps, ranked_append place all xs ys)
 
 pub ranked_found : (place : ℕ) (all xs ys : List CacheEntry) (h : CacheEntry)
     → ranked place all xs ≡ Some h → ranked place all (xs ++ ys) ≡ Some h
-ranked_found place all [] ys h e = absurd (let not_ : ⊥ = cc in not_)
-ranked_found place all (x ∷ xs) ys h e = elim (cases_Bool (rank x all == place)) [
-  | inl same ↦ ap (λ b. cond b (Some x) (ranked place all (xs ++ ys))) same
-      ∙ sym (ap (λ b. cond b (Some x) (ranked place all xs)) same) ∙ e
-  | inr other ↦ ap (λ b. cond b (Some x) (ranked place all (xs ++ ys))) other
-      ∙ ranked_found place all xs ys h
-      (sym (ap (λ b. cond b (Some x) (ranked place all xs)) other) ∙ e)
-]
+ranked_found place all [] ys h e = cc
+ranked_found place all (x ∷ xs) ys h e =
+    grind (arith, common_steps, ranked_found place all xs ys h)

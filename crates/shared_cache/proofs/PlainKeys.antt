@@ -1,7 +1,9 @@
 -- Look-ups in a list with `Vec<u8>` keys, and in the list of plain pairs that it is to contracts.
-use Rattle.std.proofs.Common.{◌≡◌, ℕ, zero, suc, Bool, true, false, cond, List, [], ◌∷◌}
+use Rattle.std.proofs.Common.{◌≡◌, ℕ, zero, suc, Bool, List, [], ◌∷◌}
 use Rattle.std.proofs.Common.{Option}
 use Rattle.std.proofs.Common.{Some, None, option_map, take, Vec, Global, map, refl, ap, ◌∙◌}
+use Rattle.std.proofs.Common.{arith}
+use Rattle.std.proofs.lemmas.Grind.{common_steps}
 use Rattle.std.specs.Map.{lookup, lookup_entry, remove_entry}
 use Rattle.std.specs.Option.{option_map_or}
 
@@ -12,29 +14,17 @@ module _ {X : Type 0} where
   pub entry_plain : (t : List ℕ → Bool) (es : List (Vec ℕ Global × X))
       → option_map plain (lookup_entry (λ k. t k.items) es) ≡ lookup_entry t (map plain es)
   entry_plain t [] = refl
-  entry_plain t (e ∷ es) =
-      elim (t e.0.items) as
-      (λ b. option_map plain (cond b (Some e) (lookup_entry (λ k. t k.items) es)) ≡ cond b
-      (Some (plain e)) (lookup_entry t (map plain es)))
-      [ true ↦ refl | false ↦ entry_plain t es ]
+  entry_plain t (e ∷ es) = grind (arith, common_steps, entry_plain t es)
 
   pub value_plain : (t : List ℕ → Bool) (es : List (Vec ℕ Global × X))
       → lookup (λ k. t k.items) es ≡ option_map (λ p. p.1) (lookup_entry t (map plain es))
   value_plain t [] = refl
-  value_plain t (e ∷ es) =
-      elim (t e.0.items) as
-      (λ b. cond b (Some e.1) (lookup (λ k. t k.items) es) ≡ option_map (λ p. p.1)
-      (cond b (Some (plain e)) (lookup_entry t (map plain es))))
-      [ true ↦ refl | false ↦ value_plain t es ]
+  value_plain t (e ∷ es) = grind (arith, common_steps, value_plain t es)
 
   pub remove_plain : (t : List ℕ → Bool) (es : List (Vec ℕ Global × X))
       → map plain (remove_entry (λ k. t k.items) es) ≡ remove_entry t (map plain es)
   remove_plain t [] = refl
-  remove_plain t (e ∷ es) =
-      elim (t e.0.items) as
-      (λ b. map plain (cond b es (e ∷ remove_entry (λ k. t k.items) es)) ≡ cond b (map plain es)
-      (plain e ∷ remove_entry t (map plain es)))
-      [ true ↦ refl | false ↦ ap (λ r. plain e ∷ r) (remove_plain t es) ]
+  remove_plain t (e ∷ es) = grind (arith, common_steps, remove_plain t es)
 
   first_plain : (o : Option (Vec ℕ Global × X))
       (rest es : List (Vec ℕ Global × X))

@@ -26,7 +26,8 @@ use Rattle.shared_cache.specs.declared.notices.Notice.TheVariants.{Malformed}
 use Rattle.shared_cache.specs.Notices.{kind_of, IsPush}
 use Rattle.shared_cache.specs.Log.{handshake_length, first_number, replies, reply, is_ended}
 use Rattle.shared_cache.specs.Log.{is_ready, caching_on_for}
-use Rattle.shared_cache.specs.Held.{Setup, Words, SentCommand, sent, put_ask, put_command, held}
+use Rattle.shared_cache.specs.Held.{Setup, Words, Caller, SentCommand, sent, put_ask, put_command}
+use Rattle.shared_cache.specs.Held.{held}
 use Rattle.shared_cache.specs.Held.{held_for, numbers}
 use Rattle.shared_cache.specs.Out.{untaken, is_polled, is_caller, is_callers, was_given, is_wanted}
 use Rattle.shared_cache.specs.Laws.{Every}
@@ -37,7 +38,7 @@ use Rattle.command_words.specs.Queries.{key_of}
 use Rattle.shared_cache.specs.declared.log.ClientMode.{ClientMode}
 use Rattle.shared_cache.specs.Steps.{refusing, is_log_full, read_number, command_number, answer_ask}
 use Rattle.shared_cache.specs.Steps.{polling, taking_out, is_welcome, judged, fault_of, getting}
-use Rattle.shared_cache.specs.Steps.{client_step, ClientStep}
+use Rattle.shared_cache.specs.Steps.{client_step, ClientStep, ClientTurn, MayRunOut, NeedsRoom}
 
 -- an answer to an Ask is the step's
 pub stepped : (s : Setup) (log new : List LogEntry) (call : ClientCall) (o : Option CacheEntry)
@@ -47,23 +48,31 @@ pub stepped : (s : Setup) (log new : List LogEntry) (call : ClientCall) (o : Opt
 stepped s log new call (Some h) n r e f = subst (λ x. ClientStep s log call x new) (sym f) e
 stepped s log new call None n r e f = subst (λ x. ClientStep s log call x new) (sym f) e
 
+-- memory ran out where the step would have added an entry
+pub ran_out : (s : Setup) (log new : List LogEntry) (call : ClientCall) (e : LogEntry)
+    (r : ClientReply) → NeedsRoom e
+    → client_step s log call ≡ record { reply = r; past = e ∷ log } → new ≡ log
+    → MayRunOut s log call × (new ≡ log)
+ran_out s log new call e r room is same =
+    ((e, room, ap (λ (t : ClientTurn). t.past) is), same)
+
 -- ---- each command after the handshake is a caller's
 
 ask_callers : (o : Option CacheEntry) (m : ClientMode) (on : Bool) (q : Words)
-    → Every (λ (c : SentCommand). is_caller c.origin ≡ true) (put_ask o m on q)
+    → Every (λ (c : SentCommand). c.origin ≡ Caller) (put_ask o m on q)
 ask_callers (Some h) m on q = tt
 ask_callers None m on q = (refl, tt)
 
-sent_callers : (s : Setup) (log : List LogEntry)
-    → Every (λ (c : SentCommand). is_caller c.origin ≡ true) (sent s log)
+pub sent_callers : (s : Setup) (log : List LogEntry)
+    → Every (λ (c : SentCommand). c.origin ≡ Caller) (sent s log)
 sent_callers s [] = tt
 sent_callers s (entry.Ask q ∷ log) =
-    every_append (λ (c : SentCommand). is_caller c.origin ≡ true) (sent s log)
+    every_append (λ (c : SentCommand). c.origin ≡ Caller) (sent s log)
     (put_ask (held_for q (held s log)) s.mode (caching_on_for s.mode log (key_of q)) q)
     (sent_callers s log)
     (ask_callers (held_for q (held s log)) s.mode (caching_on_for s.mode log (key_of q)) q)
 sent_callers s (entry.Send ws ∷ log) =
-    every_append (λ (c : SentCommand). is_caller c.origin ≡ true) (sent s log)
+    every_append (λ (c : SentCommand). c.origin ≡ Caller) (sent s log)
     (put_command s.mode ws) (sent_callers s log) (refl, tt)
 sent_callers s (entry.Poll n ∷ log) = sent_callers s log
 sent_callers s (entry.TakeOut w n ∷ log) = sent_callers s log
@@ -72,10 +81,10 @@ sent_callers s (entry.End w ∷ log) = sent_callers s log
 sent_callers s (entry.Bad w v ∷ log) = sent_callers s log
 
 callers_at : (cs : List SentCommand) (i : ℕ)
-    → Every (λ (c : SentCommand). is_caller c.origin ≡ true) cs → i < length cs
+    → Every (λ (c : SentCommand). c.origin ≡ Caller) cs → i < length cs
     → is_callers (slice_get cs i) ≡ true
 callers_at [] i all lt = absurd (omega arith)
-callers_at (c ∷ cs) zero all lt = all.0
+callers_at (c ∷ cs) zero all lt = ap is_caller all.0
 callers_at (c ∷ cs) (suc i) all lt = callers_at cs i all.1 (omega arith)
 
 module _ (s : Setup) (log : List LogEntry) where

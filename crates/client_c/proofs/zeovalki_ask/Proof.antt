@@ -1,7 +1,8 @@
 -- `zeovalki_ask` meets its contract.
-use Rattle.client_c.proofs.WithBytes.{exported}
+use Rattle.client_c.proofs.Exports.{bytes_exported}
 use Rattle.client_library.specs.Foreign.{OnOpen}
 use Rattle.client_library.specs.Handles.{Asks}
+use Rattle.client_library.specs.contracts.foreign.ForeignClient.{the_row}
 use Rattle.client_library.proofs.foreign.ForeignClient.ask.Met as of_thm
 use Rattle.client_library.proofs.foreign.ForeignClient.ask.Symbol.{name as #callee}
 use Rattle.client_c.specs.contracts.zeovalki_ask.Key.{name as key}
@@ -10,6 +11,6 @@ use Rattle.client_c.proofs.zeovalki_ask.Code as code
 
 pub zeovalki_ask_spec : {M : Type 1} → statement M
 zeovalki_ask_spec 𝓤 𝓛 𝓜 𝓡 wired =
-    exported (λ request. OnOpen (Asks request)) 𝓛 𝓜 𝓡 _ _ key #callee
+    bytes_exported the_row 𝓛 𝓜 𝓡 _ _ key #callee (λ request. OnOpen (Asks request))
     (code.unfolded 𝓤 𝓛.H 𝓜 𝓡 wired)
     (of_thm.met 𝓤 𝓛 𝓜 𝓡 (code.calls-client_library::foreign::ForeignClient::ask 𝓡.env wired))

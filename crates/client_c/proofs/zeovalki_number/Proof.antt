@@ -1,6 +1,7 @@
 -- `zeovalki_number` meets its contract.
-use Rattle.client_c.proofs.Alone.{exported}
+use Rattle.client_c.proofs.Exports.{alone_exported}
 use Rattle.client_library.specs.Foreign.{TellsNumber}
+use Rattle.client_library.specs.contracts.foreign.ForeignClient.{the_row}
 use Rattle.client_library.proofs.foreign.ForeignClient.number.Met as of_thm
 use Rattle.client_library.proofs.foreign.ForeignClient.number.Symbol.{name as #callee}
 use Rattle.client_c.specs.contracts.zeovalki_number.Key.{name as key}
@@ -9,5 +10,6 @@ use Rattle.client_c.proofs.zeovalki_number.Code as code
 
 pub zeovalki_number_spec : {M : Type 1} → statement M
 zeovalki_number_spec 𝓤 𝓛 𝓜 𝓡 wired =
-    exported TellsNumber 𝓛 𝓜 𝓡 _ _ key #callee (code.unfolded 𝓤 𝓛.H 𝓜 𝓡 wired)
+    alone_exported the_row 𝓛 𝓜 𝓡 _ _ key #callee TellsNumber
+    (code.unfolded 𝓤 𝓛.H 𝓜 𝓡 wired)
     (of_thm.met 𝓤 𝓛 𝓜 𝓡 (code.calls-client_library::foreign::ForeignClient::number 𝓡.env wired))

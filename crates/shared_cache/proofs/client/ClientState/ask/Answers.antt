@@ -3,8 +3,8 @@ use Rattle.shared_cache.specs.declared.log.ClientRefusal.TheVariants.{LogFull}
 use Rattle.shared_cache.specs.Held.{held, held_for}
 use Rattle.shared_cache.specs.declared.log.LogEntry.TheVariants as entry
 use Rattle.shared_cache.specs.ClientFields.{Client}
-use Rattle.shared_cache.specs.Steps.{ClientTurn, refusing, answer_ask, read_number}
-use Rattle.shared_cache.proofs.StepCases.{stepped, ask_down, ask_unready, ask_full, ask_ok}
+use Rattle.shared_cache.specs.Steps.{refusing, answer_ask, read_number}
+use Rattle.shared_cache.proofs.StepCases.{stepped, ask_down, ask_unready, ask_full, ask_ok, ran_out}
 use Rattle.shared_cache.proofs.client.ClientState.ask.Goals as goal
 
 pub returns-then-has_ended-clause-step : goal.returns-then-has_ended-clause-step
@@ -40,14 +40,9 @@ returns-in-Ok-clause-step c =
     c.in-Ok.ensures.reply
 
 pub returns-in-Err-clause-step : goal.returns-in-Err-clause-step
-returns-in-Err-clause-step c = (
-  (
-    entry.Ask c.args.query,
-    tt,
-    ap (λ (t : ClientTurn). t.past)
-        (ask_ok _ _ c.args.query (sym c.has_ended.ensures ∙ c.if-has_ended.false)
-        (sym c.is_ready.ensures ∙ c.if-not-is_ready.false)
-        (sym c.is_log_full.ensures ∙ c.if-is_log_full.false)),
-  ),
-  ap (λ (st : Client). st.past) c.in-Err.ensures.err,
-)
+returns-in-Err-clause-step c =
+    ran_out _ _ _ _ (entry.Ask c.args.query) _ tt
+    (ask_ok _ _ c.args.query (sym c.has_ended.ensures ∙ c.if-has_ended.false)
+    (sym c.is_ready.ensures ∙ c.if-not-is_ready.false)
+    (sym c.is_log_full.ensures ∙ c.if-is_log_full.false))
+    (ap (λ (st : Client). st.past) c.in-Err.ensures.err)

@@ -4,8 +4,8 @@ use Rattle.shared_cache.specs.declared.log.ClientRefusal.TheVariants.{LogFull}
 use Rattle.shared_cache.specs.ClientFields.{Client}
 use Rattle.shared_cache.specs.declared.log.LogEntry.TheVariants as entry
 use Rattle.shared_cache.specs.declared.log.Wire.TheVariants.{Main}
-use Rattle.shared_cache.specs.Steps.{ClientTurn, refusing}
-use Rattle.shared_cache.proofs.StepCases.{got_full, got_ok, fault_push}
+use Rattle.shared_cache.specs.Steps.{refusing}
+use Rattle.shared_cache.proofs.StepCases.{got_full, got_ok, fault_push, ran_out}
 use Rattle.shared_cache.proofs.client.ClientState.got_push.Goals as goal
 
 pub returns-then-is_log_full-clause-step : goal.returns-then-is_log_full-clause-step
@@ -23,14 +23,9 @@ returns-in-Ok-clause-step c =
     ∙ ap (λ (st : Client). record { reply = Noted; past = st.past }) (sym c.in-Ok.ensures.ok)
 
 pub returns-in-Err-clause-step : goal.returns-in-Err-clause-step
-returns-in-Err-clause-step c = (
-  (
-    entry.Got Main c.args.value,
-    tt,
-    ap (λ (t : ClientTurn). t.past)
-        (got_ok _ _ c.args.value c.requires.open
-        (fault_push _ _ c.args.value c.args.notice c.requires.notice c.requires.push)
-        (sym c.is_log_full.ensures ∙ c.if-is_log_full.false)),
-  ),
-  ap (λ (st : Client). st.past) c.in-Err.ensures.err,
-)
+returns-in-Err-clause-step c =
+    ran_out _ _ _ _ (entry.Got Main c.args.value) _ tt
+    (got_ok _ _ c.args.value c.requires.open
+    (fault_push _ _ c.args.value c.args.notice c.requires.notice c.requires.push)
+    (sym c.is_log_full.ensures ∙ c.if-is_log_full.false))
+    (ap (λ (st : Client). st.past) c.in-Err.ensures.err)

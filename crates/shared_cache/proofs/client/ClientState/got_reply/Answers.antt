@@ -6,8 +6,8 @@ use Rattle.shared_cache.specs.declared.log.ClientRefusal.TheVariants.{LogFull, U
 use Rattle.shared_cache.specs.declared.log.ClientRefusal.TheVariants.{SetupRefused}
 use Rattle.shared_cache.specs.ClientFields.{Client}
 use Rattle.shared_cache.specs.declared.log.LogEntry.TheVariants as entry
-use Rattle.shared_cache.specs.Steps.{ClientTurn, refusing}
-use Rattle.shared_cache.proofs.StepCases.{got_bad, got_full, got_ok, fault_unexpected}
+use Rattle.shared_cache.specs.Steps.{refusing}
+use Rattle.shared_cache.proofs.StepCases.{got_bad, got_full, got_ok, fault_unexpected, ran_out}
 use Rattle.shared_cache.proofs.StepCases.{fault_refused, fault_none}
 use Rattle.shared_cache.proofs.client.ClientState.got_reply.Goals as goal
 
@@ -53,16 +53,11 @@ returns-in-Ok-clause-step c =
     ∙ ap (λ (st : Client). record { reply = Noted; past = st.past }) (sym c.in-Ok.ensures.ok)
 
 pub returns-in-Err-clause-step : goal.returns-in-Err-clause-step
-returns-in-Err-clause-step c = (
-  (
-    entry.Got Main c.args.value,
-    tt,
-    ap (λ (t : ClientTurn). t.past)
-        (got_ok _ _ c.args.value c.requires.open
-        (fault_none _ _ c.args.value c.requires.reply
-        (not-true _ (sym c.is_awaiting.ensures ∙ c.if-not-is_awaiting.false))
-        (sym c.welcomes.ensures ∙ c.if-not-welcomes.false))
-        (sym c.is_log_full.ensures ∙ c.if-is_log_full.false)),
-  ),
-  ap (λ (st : Client). st.past) c.in-Err.ensures.err,
-)
+returns-in-Err-clause-step c =
+    ran_out _ _ _ _ (entry.Got Main c.args.value) _ tt
+    (got_ok _ _ c.args.value c.requires.open
+    (fault_none _ _ c.args.value c.requires.reply
+    (not-true _ (sym c.is_awaiting.ensures ∙ c.if-not-is_awaiting.false))
+    (sym c.welcomes.ensures ∙ c.if-not-welcomes.false))
+    (sym c.is_log_full.ensures ∙ c.if-is_log_full.false))
+    (ap (λ (st : Client). st.past) c.in-Err.ensures.err)

@@ -3,8 +3,9 @@ use Rattle.shared_cache.specs.declared.log.ClientReply.TheVariants.{Sent}
 use Rattle.shared_cache.specs.declared.log.ClientRefusal.TheVariants.{LogFull}
 use Rattle.shared_cache.specs.declared.log.LogEntry.TheVariants as entry
 use Rattle.shared_cache.specs.ClientFields.{Client}
-use Rattle.shared_cache.specs.Steps.{ClientTurn, refusing}
+use Rattle.shared_cache.specs.Steps.{refusing}
 use Rattle.shared_cache.proofs.StepCases.{send_down, send_unready, send_control, send_full, send_ok}
+use Rattle.shared_cache.proofs.StepCases.{ran_out}
 use Rattle.shared_cache.proofs.client.ClientState.send.Goals as goal
 
 pub returns-then-has_ended-clause-step : goal.returns-then-has_ended-clause-step
@@ -40,15 +41,10 @@ returns-in-Ok-clause-step c =
     { reply = Sent (sym c.in-Ok.ensures.number i); past = (sym c.in-Ok.ensures.ok i).past })
 
 pub returns-in-Err-clause-step : goal.returns-in-Err-clause-step
-returns-in-Err-clause-step c = (
-  (
-    entry.Send c.args.words,
-    tt,
-    ap (λ (t : ClientTurn). t.past)
-        (send_ok _ _ c.args.words (sym c.has_ended.ensures ∙ c.if-has_ended.false)
-        (sym c.is_ready.ensures ∙ c.if-not-is_ready.false)
-        (sym c.is_control.ensures ∙ c.if-is_control.false)
-        (sym c.is_log_full.ensures ∙ c.if-is_log_full.false)),
-  ),
-  ap (λ (st : Client). st.past) c.in-Err.ensures.err,
-)
+returns-in-Err-clause-step c =
+    ran_out _ _ _ _ (entry.Send c.args.words) _ tt
+    (send_ok _ _ c.args.words (sym c.has_ended.ensures ∙ c.if-has_ended.false)
+    (sym c.is_ready.ensures ∙ c.if-not-is_ready.false)
+    (sym c.is_control.ensures ∙ c.if-is_control.false)
+    (sym c.is_log_full.ensures ∙ c.if-is_log_full.false))
+    (ap (λ (st : Client). st.past) c.in-Err.ensures.err)

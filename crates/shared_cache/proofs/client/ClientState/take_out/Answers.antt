@@ -4,8 +4,8 @@ use Rattle.shared_cache.specs.declared.log.ClientRefusal.TheVariants.{LogFull}
 use Rattle.shared_cache.specs.declared.log.LogEntry.TheVariants as entry
 use Rattle.shared_cache.specs.declared.log.Wire.TheVariants.{Main}
 use Rattle.shared_cache.specs.ClientFields.{Client}
-use Rattle.shared_cache.specs.Steps.{ClientTurn, refusing}
-use Rattle.shared_cache.proofs.StepCases.{take_down, take_quiet, take_full, take_ok}
+use Rattle.shared_cache.specs.Steps.{refusing}
+use Rattle.shared_cache.proofs.StepCases.{take_down, take_quiet, take_full, take_ok, ran_out}
 use Rattle.shared_cache.proofs.client.ClientState.take_out.Goals as goal
 
 pub returns-then-has_ended-clause-step : goal.returns-then-has_ended-clause-step
@@ -33,14 +33,9 @@ returns-in-Ok-clause-step c =
     { reply = Bytes (sym c.in-Ok.ensures.bytes i); past = (sym c.in-Ok.ensures.ok i).past })
 
 pub returns-in-Err-clause-step : goal.returns-in-Err-clause-step
-returns-in-Err-clause-step c = (
-  (
-    entry.TakeOut Main c.args.most,
-    tt,
-    ap (λ (t : ClientTurn). t.past)
-        (take_ok _ _ c.args.most (sym c.has_ended.ensures ∙ c.if-has_ended.false)
-        (sym c.is_drained.ensures ∙ c.if-is_drained.false)
-        (sym c.is_log_full.ensures ∙ c.if-is_log_full.false)),
-  ),
-  ap (λ (st : Client). st.past) c.in-Err.ensures.err,
-)
+returns-in-Err-clause-step c =
+    ran_out _ _ _ _ (entry.TakeOut Main c.args.most) _ tt
+    (take_ok _ _ c.args.most (sym c.has_ended.ensures ∙ c.if-has_ended.false)
+    (sym c.is_drained.ensures ∙ c.if-is_drained.false)
+    (sym c.is_log_full.ensures ∙ c.if-is_log_full.false))
+    (ap (λ (st : Client). st.past) c.in-Err.ensures.err)

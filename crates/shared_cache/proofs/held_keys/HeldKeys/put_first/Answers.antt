@@ -1,6 +1,6 @@
 use Rattle.std.proofs.Common.{ap, sym, subst, ◌∙◌, ◌∷◌, ◌++◌, [], map}
 use Rattle.command_words.specs.Queries.{key_of}
-use Rattle.shared_cache.specs.HeldKeys.{entries_of, others, with_pairs}
+use Rattle.shared_cache.specs.HeldKeys.{others, with_pairs}
 use Rattle.shared_cache.proofs.PlainKeys.{plain}
 use Rattle.shared_cache.proofs.KeyCode.{put_others, none_of}
 use Rattle.shared_cache.specs.KeyReads.{AreOfKey, AreOfKeys}
