@@ -1,26 +1,23 @@
 -- The keys in order of first occurrence are the keys.
 use Rattle.std.proofs.Common.{◌≡◌, ◌∙◌, refl, sym, ap, ℕ, List, [], ◌∷◌, Bool, true, false, not}
-use Rattle.std.proofs.Common.{cond, map, ◌||◌, rules}
+use Rattle.std.proofs.Common.{map, ◌||◌, ◌&&◌}
 use Rattle.std.specs.List.{filter, list_any}
 use Rattle.std.specs.Str.{bytes_eq}
-use Rattle.std.proofs.lemmas.Map.Made.{alike_from_same}
+use Rattle.std.proofs.lemmas.Map.Views.{any-filter_same}
 use Rattle.std.proofs.lemmas.Slice.Eq.{bytes_eq-Decides}
 use Rattle.command_words.specs.KeyLists.{each_once}
 
-without_one : (k x e : List ℕ) (b : Bool) (es fs : List (List ℕ)) →
-    (bytes_eq e x ≡ b) → bytes_eq k x ≡ false →
-    list_any (bytes_eq k) fs ≡ list_any (bytes_eq k) es →
-    list_any (bytes_eq k) (cond (not b) (e ∷ fs) fs) ≡ list_any (bytes_eq k) (e ∷ es)
-without_one k x e true es fs same apart rest =
-    rest ∙ ap (λ b. b || list_any (bytes_eq k) es)
-    (sym (alike_from_same bytes_eq-Decides (bytes_eq k) e x same ∙ apart))
-without_one k x e false es fs same apart rest = ap (λ b. bytes_eq k e || b) rest
+-- of keys that a test leaves a key is one where it passes the test and was one
+pub any_left : (p : List ℕ → Bool) (k : List ℕ) (keys : List (List ℕ)) →
+    list_any (bytes_eq k) (filter p keys) ≡ (p k && list_any (bytes_eq k) keys)
+any_left p k =
+    any-filter_same (bytes_eq k) p (p k) (λ x same. ap p (sym ((bytes_eq-Decides k x).0 same)))
 
 any_apart : (k x : List ℕ) (es : List (List ℕ)) → bytes_eq k x ≡ false →
     list_any (bytes_eq k) (filter (λ e. not (bytes_eq e x)) es) ≡ list_any (bytes_eq k) es
-any_apart k x [] apart = refl
-any_apart k x (e ∷ es) apart =
-    without_one k x e (bytes_eq e x) es _ refl apart (any_apart k x es apart)
+any_apart k x es apart =
+    any_left (λ e. not (bytes_eq e x)) k es
+    ∙ ap (λ b. not b && list_any (bytes_eq k) es) apart
 
 either_way : (b : Bool) (c d : Bool) → (b ≡ false → c ≡ d) → (b || c) ≡ (b || d)
 either_way true c d e = refl
@@ -34,14 +31,21 @@ any_once k (x ∷ ks) =
     either_way (bytes_eq k x) _ _ (λ apart. any_apart k x (each_once ks) apart ∙ any_once k ks)
 
 pub is_itself : (k : List ℕ) → bytes_eq k k ≡ true
-is_itself [] = refl
-is_itself (b ∷ bs) = search rules
+is_itself k = (bytes_eq-Decides k k).1 refl
 
-or_true : (b c : Bool) → c ≡ true → (b || c) ≡ true
+pub or_true : (b c : Bool) → c ≡ true → (b || c) ≡ true
 or_true true c e = refl
 or_true false c e = e
 
-first : (b c : Bool) → b ≡ true → (b || c) ≡ true
+pub left_false : (b c : Bool) → (b || c) ≡ false → b ≡ false
+left_false true c e = absurd cc
+left_false false c e = refl
+
+pub right_false : (b c : Bool) → (b || c) ≡ false → c ≡ false
+right_false true c e = absurd cc
+right_false false c e = e
+
+pub first : (b c : Bool) → b ≡ true → (b || c) ≡ true
 first true c e = refl
 first false c e = cc
 

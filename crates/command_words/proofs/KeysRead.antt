@@ -1,5 +1,5 @@
 -- The reply to a read is that of the contents of the keys that it reads.
-use Rattle.std.proofs.Common.{◌≡◌, ◌∙◌, refl, ap, ℕ, List, [], ◌∷◌, Bool, true, false, ◌||◌}
+use Rattle.std.proofs.Common.{◌≡◌, ◌∙◌, refl, ap, ℕ, List, [], ◌∷◌, Bool, true}
 use Rattle.std.proofs.Common.{Option, None, Some, cond, length}
 use Rattle.std.specs.Prelude.{pos, is_some}
 use Rattle.std.specs.FinMap.{contains_key, get}
@@ -14,15 +14,7 @@ use Rattle.command_words.specs.Effect.{blob_or_null}
 use Rattle.command_words.specs.Effects.{read_reply}
 use Rattle.command_words.specs.Laws.{RepliesAreOfKeysRead}
 use Rattle.command_words.specs.Strings.{on_text}
-use Rattle.command_words.proofs.KeysOnce.{any_once, is_itself, map_alike}
-
-first : (b c : Bool) → b ≡ true → (b || c) ≡ true
-first true c e = refl
-first false c e = cc
-
-last : (b c : Bool) → c ≡ true → (b || c) ≡ true
-last true c e = refl
-last false c e = e
+use Rattle.command_words.proofs.KeysOnce.{any_once, first, is_itself, map_alike, or_true}
 
 -- two keyspaces that agree at a command's one key
 at_one : (key : List ℕ) (space other : Space) →
@@ -48,7 +40,7 @@ passing_alike p q (k ∷ keys) same =
     ap (λ b. cond b (k ∷ filter p keys) (filter p keys))
     (same k (first (bytes_eq k k) _ (is_itself k)))
     ∙ ap (λ r. cond (q k) (k ∷ r) r)
-    (passing_alike p q keys (λ j among. same j (last (bytes_eq j k) _ among)))
+    (passing_alike p q keys (λ j among. same j (or_true (bytes_eq j k) _ among)))
 
 pub replies_alike : RepliesAreOfKeysRead
 unfolding read_reply

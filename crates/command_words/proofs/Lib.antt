@@ -1,7 +1,8 @@
-mod NoneOf
+pub mod Readings
 mod PairKeys
 mod Once
-mod KeysOnce
+pub mod KeysOnce
+pub mod HeldAt
 mod SignalledKeys
 mod KeysRead
 mod Numbers

@@ -7,7 +7,7 @@ use Rattle.std.specs.Str.{str_to_ascii_lowercase, str_to_ascii_uppercase}
 use Rattle.std.proofs.lemmas.Str.Ascii.{lowercase-uppercase, uppercase-uppercase}
 use Rattle.command_words.specs.Words.{reading}
 use Rattle.command_words.specs.Queries.{reads_as_cacheable, with_upper_name, query_of, key_of}
-use Rattle.command_words.proofs.NoneOf.{no_query}
+use Rattle.command_words.proofs.Readings.{no_query}
 
 lower_of_upper : (name : List ℕ) →
     str_to_ascii_lowercase (str_to_ascii_uppercase name) ≡ str_to_ascii_lowercase name

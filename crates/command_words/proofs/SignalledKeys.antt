@@ -1,8 +1,8 @@
 -- What each row signals is among the keys that its command writes.
-use Rattle.std.proofs.Common.{◌≡◌, ◌∙◌, refl, sym, ℕ, List, [], ◌∷◌, Bool, true, false}
+use Rattle.std.proofs.Common.{◌≡◌, ◌∙◌, sym, ℕ, List, [], ◌∷◌, Bool, true, false}
 use Rattle.std.proofs.Common.{Option, None, Some, Result, Ok, Err, length, ◌==◌, ℤ}
 use Rattle.std.specs.Prelude.{pos, negsuc, neg_ℤ}
-use Rattle.std.specs.Prelude.{if◌then◌else◌, nat_lt, ◌++◌, ◌||◌}
+use Rattle.std.specs.Prelude.{if◌then◌else◌, nat_lt, ◌++◌, ◌&&◌}
 use Rattle.std.specs.FinMap.{contains_key}
 use Rattle.std.specs.List.{filter, list_any}
 use Rattle.std.specs.Option.{is_some}
@@ -25,7 +25,7 @@ use Rattle.command_words.specs.Laws.{signals}
 use Rattle.command_words.specs.Queries.{written, names, keys_in_turn}
 use Rattle.command_words.specs.Strings.{on_text, getdel_row, append_row, incrby_row}
 use Rattle.command_words.specs.Strings.{incrby_effect, is_least, or_empty, sets}
-use Rattle.command_words.proofs.KeysOnce.{any_once}
+use Rattle.command_words.proofs.KeysOnce.{any_left, any_once}
 
 pub record Only (written : Written) (e : Effect) : Type 0 where
   pub is : (k : List ℕ) → signals e.signalled k ≡ true → names written k ≡ true
@@ -85,32 +85,14 @@ expire : (key : List ℕ) (expiry : Option ℕ) (space : Space) →
     Only (Keys (key ∷ [])) (expire_effect key expiry space)
 expire key expiry space = either (contains_key space key) own none
 
-right_true : (b c : Bool) → c ≡ true → (b || c) ≡ true
-right_true true c e = refl
-right_true false c e = e
-
-left_true : (b c : Bool) → b ≡ true → (b || c) ≡ true
-left_true true c e = refl
-left_true false c e = cc
-
-also : (b : Bool) (k key : List ℕ) (some keys : List (List ℕ)) →
-    (list_any (bytes_eq k) some ≡ true → list_any (bytes_eq k) keys ≡ true) →
-    list_any (bytes_eq k) (if b then key ∷ some else some) ≡ true →
-    (bytes_eq k key || list_any (bytes_eq k) keys) ≡ true
-also false k key some keys rest e = right_true _ _ (rest e)
-also true k key some keys rest e = by (bytes_eq k key) e
-  where
-    by : (b : Bool) → (b || list_any (bytes_eq k) some) ≡ true →
-        (b || list_any (bytes_eq k) keys) ≡ true
-    by true e = refl
-    by false e = rest e
-
 -- a key that is among some of the keys is among them
 among : (p : List ℕ → Bool) (k : List ℕ) (keys : List (List ℕ)) →
     list_any (bytes_eq k) (filter p keys) ≡ true → list_any (bytes_eq k) keys ≡ true
-among p k [] some = some
-among p k (key ∷ keys) some =
-    also (p key) k key (filter p keys) keys (among p k keys) some
+among p k keys some = by (p k) (list_any (bytes_eq k) keys) (sym (any_left p k keys) ∙ some)
+  where
+    by : (b c : Bool) → (b && c) ≡ true → c ≡ true
+    by true c e = e
+    by false c e = cc
 
 pub signalled_only : (c : Command) (space : Space) (moment : ℕ) →
     Only (written c) (effect c space moment)

@@ -14,6 +14,7 @@ use Rattle.command_words.specs.KeyWords.{key_name_text, key_reading}
 use Rattle.command_words.specs.declared.connection_words.ConnectionName.{ConnectionName}
 use Rattle.command_words.specs.declared.connection_words.ConnectionName.TheVariants as connection
 use Rattle.command_words.specs.ConnectionWords.{connection_name_text, connection_reading}
+use Rattle.command_words.specs.Words.{reading_of}
 use Rattle.command_words.specs.declared.client_words.ClientName.{ClientName}
 use Rattle.command_words.specs.declared.client_words.ClientName.TheVariants as client
 use Rattle.command_words.specs.ClientWords.{client_name_text, client_reading}
@@ -108,3 +109,17 @@ no_client_name name words none =
       none client.GetRedir,
       none client.TrackingInfo,
     ) refl
+
+-- the names of a connection's commands are none of another family's
+pub connection_alone : (n : ConnectionName) (ws : List (List ℕ)) →
+    reading_of (connection_name_text n) ws ≡ connection_reading (connection_name_text n) ws
+unfolding string_reading hash_reading key_reading
+connection_alone connection.Ping ws = refl
+connection_alone connection.Echo ws = refl
+connection_alone connection.Hello ws = refl
+connection_alone connection.Reset ws = refl
+connection_alone connection.Quit ws = refl
+connection_alone connection.Shutdown ws = refl
+connection_alone connection.Client ws = refl
+connection_alone connection.Subscribe ws = refl
+connection_alone connection.Unsubscribe ws = refl

@@ -1,10 +1,9 @@
 -- The keys that are due, by the keyspace: exactly those whose deadline is past, each once.
 use Rattle.std.proofs.Common.{◌≡◌, ◌∙◌, refl, sym, ap, ℕ, List, [], ◌∷◌, Bool, true, false, cond}
 use Rattle.std.proofs.Common.{Option, None, Some, not, is_some, eq-eqb}
-use Rattle.std.specs.declared.cmp.Ordering.TheVariants.{Equal}
 use Rattle.std.specs.Prelude.{◌&&◌, ◌||◌, ◌==◌}
 use Rattle.std.specs.Cmp.Lexicographic.{slice_cmp, nat_list_cmp_total, texts_ties}
-use Rattle.std.specs.FinMap.{get, keys, contains_key-keys, get-retain_keys, same_map}
+use Rattle.std.specs.FinMap.{keys, contains_key-keys, same_map}
 use Rattle.std.specs.FinMap.{slice_cmp-IsAntisymmetric, nat_cmp-IsAntisymmetric}
 use Rattle.std.specs.List.{list_any}
 use Rattle.std.specs.Option.{option_and_then}
@@ -13,6 +12,7 @@ use Rattle.std.specs.Str.{bytes_eq}
 use Rattle.std.proofs.lemmas.Slice.Eq.{bytes_eq-Decides}
 use Rattle.command_words.specs.Expiry.{is_past, without_due}
 use Rattle.command_words.specs.Space.{Held, Space, held_at, deadline_at}
+use Rattle.command_words.proofs.HeldAt.{at_without_due}
 use Rattle.expiry.specs.declared.index.Deadline.{Deadline}
 use Rattle.expiry.specs.Index.{has, is_same, is_at, is_due, due, keys_of}
 use Rattle.expiry.specs.Order.{IsBeforeAll, IsOrdered}
@@ -166,19 +166,12 @@ module _ (moment : ℕ) (space : Space) where
 
   -- ---- what they leave
 
-  alike : (q x : List ℕ) → slice_cmp nat_cmp q x ≡ Equal
-      → not (is_past moment (deadline_at x space)) ≡ not (is_past moment (deadline_at q space))
-  alike q x tied =
-      ap (λ key. not (is_past moment (deadline_at key space)))
-      (sym (slice_cmp-IsAntisymmetric nat_cmp-IsAntisymmetric q x tied))
-
   -- a key that is not due holds what it held
   pub not_due_stays : (q : List ℕ) → is_among (due_keys moment space) q ≡ false
       → held_at q (without_due moment space) ≡ held_at q space
   not_due_stays q none =
-      get-retain_keys space (λ key. not (is_past moment (deadline_at key space))) q
-      (λ x tied. alike q x tied)
-      ∙ ap (λ b. cond (not b) (get space q) None) (sym (due_is_past moment space q) ∙ none)
+      at_without_due moment space q
+      ∙ ap (λ b. cond (not b) (held_at q space) None) (sym (due_is_past moment space q) ∙ none)
 
   pub none_due : due_keys moment space ≡ [] → without_due moment space ≡ space
   none_due none =

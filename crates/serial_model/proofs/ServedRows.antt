@@ -5,13 +5,11 @@ use Rattle.std.proofs.Common.{Bool, true, false, cond, Option, None, Some, Resul
 use Rattle.std.proofs.Common.{length, map, inl, inr, ◌⊎◌, is_some}
 use Rattle.std.specs.Prelude.{pos, negsuc, neg_ℤ, nat_lt, not, ◌==◌, ◌++◌, ◌||◌, ◌&&◌}
 use Rattle.std.specs.Prelude.{if◌then◌else◌, codes}
-use Rattle.std.specs.FinMap.{get, insert, remove, contains_key, empty, get-insert, get-remove}
-use Rattle.std.specs.Cmp.Lexicographic.{nat_list_cmp_total, texts_ties}
+use Rattle.std.specs.FinMap.{get, insert, remove, contains_key, empty}
 use Rattle.std.specs.Fmt.{signed_decimal}
 use Rattle.std.specs.List.{filter, list_any}
 use Rattle.std.specs.Option.{option_map_or}
 use Rattle.std.specs.Str.{bytes_eq}
-use Rattle.std.proofs.lemmas.Map.Views.{any-filter_same}
 use Rattle.std.proofs.lemmas.Slice.Eq.{bytes_eq-Decides}
 use Rattle.resp_value.specs.declared.value.Value.{Value}
 use Rattle.resp_value.specs.declared.value.Value.TheVariants.{Simple}
@@ -40,6 +38,8 @@ use Rattle.command_words.specs.Queries.{is_cacheable, reads_as_cacheable, read}
 use Rattle.command_words.specs.Strings.{on_text, getdel_row, append_row, incrby_row, put_all}
 use Rattle.command_words.specs.Strings.{incrby_effect, is_least, or_empty, sets, put_text}
 use Rattle.command_words.specs.Strings.{set_deadline}
+use Rattle.command_words.proofs.HeldAt.{at_insert, at_remove, at_remove_each}
+use Rattle.command_words.proofs.KeysOnce.{any_left, any_once, left_false, right_false}
 use Rattle.serial_model.specs.declared.mode.Mode.{Mode}
 use Rattle.serial_model.specs.declared.mode.Runner.{Runner}
 use Rattle.serial_model.specs.Modes.{Remembers, own_effect, remembers_read, is_served_tracking}
@@ -138,14 +138,6 @@ pub record Row (s : Space) (e : Effect) : Type 0 where
   pub apart : AreApart (signalled_keys e.signalled)
   pub others_stay : (q : List ℕ) → signals e.signalled q ≡ false → held_at q e.space ≡ held_at q s
 
-left_false : (b c : Bool) → (b || c) ≡ false → b ≡ false
-left_false true c e = absurd (let no : ⊥ = cc in no)
-left_false false c e = refl
-
-right_false : (b c : Bool) → (b || c) ≡ false → c ≡ false
-right_false true c e = absurd (let no : ⊥ = cc in no)
-right_false false c e = e
-
 module _ {s : Space} where
   none : {reply : Value} → Row s (replied reply s)
   none = record { apart = tt; others_stay = λ q apart. refl }
@@ -167,31 +159,6 @@ module _ {s : Space} where
   fields None rows all = all []
   fields (Some (Text v)) rows all = none
   fields (Some (Fields fs)) rows all = all fs
-
-at_insert : (s : Space) (k : List ℕ) (held : Held) (q : List ℕ)
-    → held_at q (insert s k held) ≡ cond (bytes_eq q k) (Some held) (held_at q s)
-at_insert s k held q =
-    get-insert nat_list_cmp_total s k held q
-    ∙ ap (λ b. cond b (Some held) (get s q)) (sym (texts_ties q k))
-
-at_remove : (s : Space) (k q : List ℕ)
-    → held_at q (remove s k) ≡ cond (bytes_eq q k) None (held_at q s)
-at_remove s k q =
-    get-remove nat_list_cmp_total s k q
-    ∙ ap (λ b. cond b None (get s q)) (sym (texts_ties q k))
-
-at_remove_each : (keys : List (List ℕ)) (s : Space) (q : List ℕ)
-    → held_at q (remove_each keys s) ≡ cond (is_among keys q) None (held_at q s)
-at_remove_each [] s q = refl
-at_remove_each (k ∷ keys) s q =
-    at_remove_each keys (remove s k) q
-    ∙ ap (cond (is_among keys q) None) (at_remove s k q)
-    ∙ by (bytes_eq q k) (is_among keys q)
-  where
-    by : (a b : Bool) → cond b None (cond a None (get s q)) ≡ cond (a || b) None (get s q)
-    by true true = refl
-    by true false = refl
-    by false b = refl
 
 module _ (s : Space) (k : List ℕ) where
   put_other : (held : Held) (q : List ℕ) → bytes_eq q k ≡ false
@@ -228,12 +195,6 @@ module _ (s : Space) (k : List ℕ) where
   put_hash [] = gone
   put_hash (f ∷ fs) = put (record { content = Fields (f ∷ fs); deadline = deadline_at k s })
 
--- of keys that a test leaves a key is one where it passes the test and was one
-any_left : (p : List ℕ → Bool) (q : List ℕ) (keys : List (List ℕ))
-    → is_among (filter p keys) q ≡ (p q && is_among keys q)
-any_left p q =
-    any-filter_same (bytes_eq q) p (p q) (λ x same. ap p (sym ((bytes_eq-Decides q x).0 same)))
-
 -- a key that passes a test and is none of those that pass it is none of them all
 passed : (p : List ℕ → Bool) (q : List ℕ) (keys : List (List ℕ)) → p q ≡ true
     → is_among (filter p keys) q ≡ false → is_among keys q ≡ false
@@ -243,12 +204,7 @@ passed p q keys is h =
 module _ (q : List ℕ) where
   -- a key that is none of those met first is none of them
   none_of : (keys : List (List ℕ)) → is_among (each_once keys) q ≡ false → is_among keys q ≡ false
-  none_of [] h = refl
-  none_of (k ∷ keys) h =
-      let apart = left_false (bytes_eq q k) _ h in
-      ap (λ b. b || is_among keys q) apart
-      ∙ none_of keys (passed (λ x. not (bytes_eq x k)) q (each_once keys) (ap not apart)
-      (right_false (bytes_eq q k) _ h))
+  none_of keys h = sym (any_once q keys) ∙ h
 
   puts_other : (ps : List (List ℕ × List ℕ)) (s : Space)
       → list_any (bytes_eq q) (map (λ p. p.0) ps) ≡ false

@@ -39,7 +39,7 @@ use Rattle.serial_model.proofs.Streams.{IsLive, not_ended, table_live, admitted_
 use Rattle.serial_model.proofs.ServedRows.{served_is, data_own, query_data}
 use Rattle.serial_model.proofs.ModeSteps.{mode_other, mode_own}
 use Rattle.serial_model.proofs.Trackers.{Tracks, table_tracks, flush_keeps}
-use Rattle.serial_model.proofs.QueryKeys.{keys_read, reads_its_key}
+use Rattle.command_words.proofs.Readings.{keys_read, reads_its_key}
 
 -- ---- what a command signals or drops
 

@@ -1,8 +1,8 @@
 use Rattle.std.proofs.Common.{ap, sym, ◌∙◌}
 use Rattle.command_words.specs.Control.{reads_as_control}
 use Rattle.command_words.specs.Words.{reading_of}
-use Rattle.command_words.proofs.NoneOf.{no_control, connection_alone}
-use Rattle.command_words.proofs.UnknownNames.{no_connection_name}
+use Rattle.command_words.proofs.Readings.{no_control}
+use Rattle.command_words.proofs.UnknownNames.{connection_alone, no_connection_name}
 use Rattle.command_words.proofs.control.is_named_control.Goals as goal
 
 pub returns-in-None : goal.returns-in-None

@@ -1,0 +1,284 @@
+-- What a name and the words after it read as: a cacheable query reads the first of these words
+-- alone, and no command on strings, hashes or keys is a control command.
+use Rattle.std.proofs.Common.{◌≡◌, ◌∙◌, sym, ap, subst, refl, ℕ, List, [], ◌∷◌, Bool, true, false}
+use Rattle.std.proofs.Common.{Ok, Err, not, ◌&&◌, ◌||◌}
+use Rattle.std.specs.Prelude.{if◌then◌else◌, codes}
+use Rattle.std.specs.Str.{bytes_eq, str_to_ascii_lowercase}
+use Rattle.command_words.specs.declared.command.Command.{Command}
+use Rattle.command_words.specs.declared.command.Command.TheVariants as command
+use Rattle.command_words.specs.declared.command.WordFault.{WordFault}
+use Rattle.command_words.specs.declared.command.WordFault.TheVariants.{Unknown, Arity, Syntax}
+use Rattle.command_words.specs.declared.command.WordFault.TheVariants.{BadNumber, BadExpire}
+use Rattle.command_words.specs.declared.command.WordFault.TheVariants.{NoMemory}
+use Rattle.command_words.specs.ClientWords.{client_words, client_reading, yes_or_no}
+use Rattle.command_words.specs.ConnectionWords.{connection_reading, hello_version, save_mode}
+use Rattle.command_words.specs.Control.{is_control_command, reads_as_control}
+use Rattle.command_words.specs.TrackingWords.{tracking}
+use Rattle.command_words.specs.HashWords.{hash_reading, hincrby_reading}
+use Rattle.command_words.specs.KeyWords.{key_reading, flush_mode, one_and_seconds}
+use Rattle.command_words.specs.Queries.{is_cacheable, reads_as_cacheable, read, key_of}
+use Rattle.command_words.specs.Reading.{Read, read_as, read_then}
+use Rattle.command_words.specs.SetOptions.{set_reading, set_options}
+use Rattle.command_words.specs.StringWords.{string_reading, range_reading}
+use Rattle.command_words.specs.WordCounts.{no_word, one, two, at_least_one, at_most_one}
+use Rattle.command_words.specs.WordCounts.{one_and_more, in_pairs, one_and_pairs, number}
+use Rattle.command_words.specs.WordCounts.{one_and_number}
+use Rattle.command_words.proofs.KeysOnce.{left_false, right_false}
+use Rattle.command_words.specs.Words.{or_else, reading_of, reading}
+
+-- the keys that what was read as a command reads
+abbrev pub keys_read : Read Command → List (List ℕ)
+keys_read (Ok command) = read command
+keys_read (Err fault) = []
+
+-- these keys are the first of the words alone
+abbrev AreFirst : List (List ℕ) → List (List ℕ) → Type 0
+AreFirst [] keys = ⊥
+AreFirst (word ∷ words) keys = keys ≡ word ∷ []
+
+-- a command on data that reads the first word alone
+abbrev Own : List (List ℕ) → Command → Type 0
+Own words c = AreFirst words (read c) × (is_control_command c ≡ false)
+
+-- where it is a cacheable query, it reads the first word alone; and it is a control command only
+-- where that may be
+record Reads (may_control : Bool) (words : List (List ℕ)) (r : Read Command) : Type 0 where
+  first : reads_as_cacheable r ≡ true → AreFirst words (keys_read r)
+  control : (reads_as_control r && not may_control) ≡ false
+
+module _ {may : Bool} {ws : List (List ℕ)} where
+  either : (b : Bool) {x y : Read Command} → Reads may ws x → Reads may ws y →
+      Reads may ws (if b then x else y)
+  either true reads rest = reads
+  either false reads rest = rest
+
+  fault : {f : WordFault} → Reads may ws (Err f)
+  fault = record { first = λ h. absurd (let no : ⊥ = cc in no); control = refl }
+
+  both : (x y : Read Command) → Reads may ws x → Reads may ws y → Reads may ws (or_else x y)
+  both (Ok command) y reads rest = reads
+  both (Err Unknown) y reads rest = rest
+  both (Err Arity) y reads rest = fault
+  both (Err Syntax) y reads rest = fault
+  both (Err BadNumber) y reads rest = fault
+  both (Err BadExpire) y reads rest = fault
+  both (Err NoMemory) y reads rest = fault
+
+  -- no cacheable query is made
+  none : {A : Type 0} (f : A → Command) (r : Read A) →
+      ((a : A) → (is_cacheable (f a) || (is_control_command (f a) && not may)) ≡ false) →
+      Reads may ws (read_as f r)
+  none f (Ok a) other =
+      let not_cacheable = left_false (is_cacheable (f a)) _ (other a) in
+      record {
+        first = λ h. absurd (let no : true ≡ false = sym h ∙ not_cacheable in cc);
+        control = right_false (is_cacheable (f a)) _ (other a);
+      }
+  none f (Err e) other = fault
+
+  then_reads : {A : Type 0} (r : Read A) (f : A → Read Command) →
+      ((a : A) → Reads may ws (f a)) → Reads may ws (read_then r f)
+  then_reads (Ok a) f reads = reads a
+  then_reads (Err e) f reads = fault
+
+  own : (c : Command) → Own ws c → Reads may ws (Ok c)
+  own c h = record { first = λ _. h.0; control = ap (λ b. b && not may) h.1 }
+
+  made : {A : Type 0} (f : A → Command) (r : Read A) → ((a : A) → Own ws (f a)) →
+      Reads may ws (read_as f r)
+  made f (Ok a) owns = own (f a) (owns a)
+  made f (Err e) owns = fault
+
+module _ {may : Bool} where
+  of_one : (f : List ℕ → Command) (ws : List (List ℕ)) → ((k : List ℕ) → Own (k ∷ []) (f k)) →
+      Reads may ws (read_as f (one ws))
+  of_one f [] owns = fault
+  of_one f (a ∷ []) owns = own (f a) (owns a)
+  of_one f (a ∷ b ∷ ws) owns = fault
+
+  of_two : (f : List ℕ × List ℕ → Command) (ws : List (List ℕ)) →
+      ((p : List ℕ × List ℕ) → Own (p.0 ∷ []) (f p)) → Reads may ws (read_as f (two ws))
+  of_two f [] owns = fault
+  of_two f (a ∷ []) owns = fault
+  of_two f (a ∷ b ∷ []) owns = own (f (a, b)) (owns (a, b))
+  of_two f (a ∷ b ∷ d ∷ ws) owns = fault
+
+  of_more : (f : List ℕ × List (List ℕ) → Command) (ws : List (List ℕ)) →
+      ((p : List ℕ × List (List ℕ)) → Own (p.0 ∷ []) (f p)) →
+      Reads may ws (read_as f (one_and_more ws))
+  of_more f [] owns = fault
+  of_more f (a ∷ []) owns = fault
+  of_more f (a ∷ b ∷ ws) owns = own (f (a, b ∷ ws)) (owns (a, b ∷ ws))
+
+  of_range : (ws : List (List ℕ)) → Reads may ws (range_reading ws)
+  of_range [] = fault
+  of_range (key ∷ []) = fault
+  of_range (key ∷ a ∷ []) = fault
+  of_range (key ∷ a ∷ b ∷ []) =
+      then_reads (number a) _
+      (λ i. made (λ j. command.GetRange key i j) (number b) (λ j. (refl, refl)))
+  of_range (key ∷ a ∷ b ∷ d ∷ ws) = fault
+
+  of_set : (ws : List (List ℕ)) → Reads may ws (set_reading ws)
+  unfolding set_reading
+  of_set [] = fault
+  of_set (key ∷ []) = fault
+  of_set (key ∷ value ∷ options) = none _ (set_options _ _ options) (λ o. refl)
+
+  of_hincrby : (ws : List (List ℕ)) → Reads may ws (hincrby_reading ws)
+  of_hincrby [] = fault
+  of_hincrby (key ∷ []) = fault
+  of_hincrby (key ∷ field ∷ []) = fault
+  of_hincrby (key ∷ field ∷ n ∷ []) = none _ (number n) (λ i. refl)
+  of_hincrby (key ∷ field ∷ n ∷ m ∷ ws) = fault
+
+  -- EXISTS of one key; of several it is no query
+  of_exists : (ws : List (List ℕ)) → Reads may ws (read_as command.Exists (at_least_one ws))
+  of_exists [] = fault
+  of_exists (key ∷ []) = own (command.Exists (key ∷ [])) (refl, refl)
+  of_exists (key ∷ k ∷ ws) =
+      record { first = λ h. absurd (let no : ⊥ = cc in no); control = refl }
+
+  of_strings : (name : List ℕ) (ws : List (List ℕ)) → Reads may ws (string_reading name ws)
+  unfolding string_reading
+  of_strings name ws =
+      either (bytes_eq name (codes "get")) (of_one command.Get ws (λ k. (refl, refl)))
+      (either (bytes_eq name (codes "set")) (of_set ws)
+      (either (bytes_eq name (codes "setnx"))
+      (none (λ p. command.SetNx p.0 p.1) (two ws) (λ a. refl))
+      (either (bytes_eq name (codes "getdel")) (none command.GetDel (one ws) (λ a. refl))
+      (either (bytes_eq name (codes "append"))
+      (none (λ p. command.Append p.0 p.1) (two ws) (λ a. refl))
+      (either (bytes_eq name (codes "strlen")) (of_one command.StrLen ws (λ k. (refl, refl)))
+      (either (bytes_eq name (codes "getrange")) (of_range ws)
+      (either (bytes_eq name (codes "incr")) (none command.Incr (one ws) (λ a. refl))
+      (either (bytes_eq name (codes "decr")) (none command.Decr (one ws) (λ a. refl))
+      (either (bytes_eq name (codes "incrby"))
+      (none (λ p. command.IncrBy p.0 p.1) (one_and_number ws) (λ a. refl))
+      (either (bytes_eq name (codes "decrby"))
+      (none (λ p. command.DecrBy p.0 p.1) (one_and_number ws) (λ a. refl))
+      (either (bytes_eq name (codes "mget")) (none command.MGet (at_least_one ws) (λ a. refl))
+      (either (bytes_eq name (codes "mset")) (none command.MSet (in_pairs ws) (λ a. refl))
+      fault))))))))))))
+
+  of_hashes : (name : List ℕ) (ws : List (List ℕ)) → Reads may ws (hash_reading name ws)
+  unfolding hash_reading
+  of_hashes name ws =
+      either (bytes_eq name (codes "hset"))
+      (none (λ p. command.HSet p.0 p.1) (one_and_pairs ws) (λ a. refl))
+      (either (bytes_eq name (codes "hget"))
+      (of_two (λ p. command.HGet p.0 p.1) ws (λ p. (refl, refl)))
+      (either (bytes_eq name (codes "hmget"))
+      (of_more (λ p. command.HMGet p.0 p.1) ws (λ p. (refl, refl)))
+      (either (bytes_eq name (codes "hgetall")) (of_one command.HGetAll ws (λ k. (refl, refl)))
+      (either (bytes_eq name (codes "hdel"))
+      (none (λ p. command.HDel p.0 p.1) (one_and_more ws) (λ a. refl))
+      (either (bytes_eq name (codes "hlen")) (of_one command.HLen ws (λ k. (refl, refl)))
+      (either (bytes_eq name (codes "hexists"))
+      (of_two (λ p. command.HExists p.0 p.1) ws (λ p. (refl, refl)))
+      (either (bytes_eq name (codes "hkeys")) (of_one command.HKeys ws (λ k. (refl, refl)))
+      (either (bytes_eq name (codes "hvals")) (of_one command.HVals ws (λ k. (refl, refl)))
+      (either (bytes_eq name (codes "hincrby")) (of_hincrby ws)
+      fault)))))))))
+
+  of_keys : (name : List ℕ) (ws : List (List ℕ)) → Reads may ws (key_reading name ws)
+  unfolding key_reading
+  of_keys name ws =
+      either (bytes_eq name (codes "del")) (none command.Del (at_least_one ws) (λ a. refl))
+      (either (bytes_eq name (codes "exists")) (of_exists ws)
+      (either (bytes_eq name (codes "type")) (of_one command.KeyType ws (λ k. (refl, refl)))
+      (either (bytes_eq name (codes "rename"))
+      (none (λ p. command.Rename p.0 p.1) (two ws) (λ a. refl))
+      (either (bytes_eq name (codes "expire"))
+      (none (λ p. command.Expire p.0 p.1) (one_and_seconds ws) (λ a. refl))
+      (either (bytes_eq name (codes "pexpire"))
+      (none (λ p. command.PExpire p.0 p.1) (one_and_number ws) (λ a. refl))
+      (either (bytes_eq name (codes "expireat"))
+      (none (λ p. command.ExpireAt p.0 p.1) (one_and_seconds ws) (λ a. refl))
+      (either (bytes_eq name (codes "pexpireat"))
+      (none (λ p. command.PExpireAt p.0 p.1) (one_and_number ws) (λ a. refl))
+      (either (bytes_eq name (codes "ttl")) (none command.Ttl (one ws) (λ a. refl))
+      (either (bytes_eq name (codes "pttl")) (none command.PTtl (one ws) (λ a. refl))
+      (either (bytes_eq name (codes "persist")) (none command.Persist (one ws) (λ a. refl))
+      (either (bytes_eq name (codes "dbsize"))
+      (none (λ _. command.DbSize) (no_word ws) (λ a. refl))
+      (either (bytes_eq name (codes "flushall"))
+      (none command.FlushAll (flush_mode ws) (λ a. refl))
+      (either (bytes_eq name (codes "flushdb"))
+      (none command.FlushDb (flush_mode ws) (λ a. refl))
+      fault)))))))))))))
+
+-- ---- of a connection's own commands, some are control commands
+
+of_client : (name : List ℕ) (vs ws : List (List ℕ)) → Reads true vs (client_reading name ws)
+unfolding client_reading
+of_client name vs ws =
+    either (bytes_eq name (codes "id"))
+    (none (λ _. command.ClientId) (no_word ws) (λ a. refl))
+    (either (bytes_eq name (codes "tracking"))
+    (none command.ClientTracking (tracking ws) (λ a. refl))
+    (either (bytes_eq name (codes "caching"))
+    (none command.ClientCaching (yes_or_no ws) (λ a. refl))
+    (either (bytes_eq name (codes "getredir"))
+    (none (λ _. command.ClientGetRedir) (no_word ws) (λ a. refl))
+    (either (bytes_eq name (codes "trackinginfo"))
+    (none (λ _. command.ClientTrackingInfo) (no_word ws) (λ a. refl))
+    fault))))
+
+of_client_words : (ws : List (List ℕ)) → Reads true ws (client_words ws)
+of_client_words [] = fault
+of_client_words (name ∷ words) = of_client (str_to_ascii_lowercase name) (name ∷ words) words
+
+of_connection : (name : List ℕ) (ws : List (List ℕ)) → Reads true ws (connection_reading name ws)
+unfolding connection_reading
+of_connection name ws =
+    either (bytes_eq name (codes "ping")) (none command.Ping (at_most_one ws) (λ a. refl))
+    (either (bytes_eq name (codes "echo")) (none command.Echo (one ws) (λ a. refl))
+    (either (bytes_eq name (codes "hello"))
+    (none command.Hello (hello_version ws) (λ a. refl))
+    (either (bytes_eq name (codes "reset"))
+    (none (λ _. command.Reset) (no_word ws) (λ a. refl))
+    (either (bytes_eq name (codes "quit")) (none (λ _. command.Quit) (no_word ws) (λ a. refl))
+    (either (bytes_eq name (codes "shutdown"))
+    (none command.Shutdown (save_mode ws) (λ a. refl))
+    (either (bytes_eq name (codes "client")) (of_client_words ws)
+    (either (bytes_eq name (codes "subscribe")) (none command.Subscribe (one ws) (λ a. refl))
+    (either (bytes_eq name (codes "unsubscribe"))
+    (none command.Unsubscribe (at_most_one ws) (λ a. refl))
+    fault))))))))
+
+of_data : (may : Bool) (name : List ℕ) (ws : List (List ℕ)) →
+    Reads may ws (connection_reading name ws) → Reads may ws (reading_of name ws)
+of_data may name ws rest =
+    both _ _ (of_strings name ws)
+    (both _ _ (of_hashes name ws) (both _ _ (of_keys name ws) rest))
+
+of_name : (name : List ℕ) (ws : List (List ℕ)) → Reads true ws (reading_of name ws)
+of_name name ws = of_data true name ws (of_connection name ws)
+
+-- a name that is none of the connection's has no control command
+pub no_control : (name : List ℕ) (ws : List (List ℕ)) →
+    connection_reading name ws ≡ Err Unknown → reads_as_control (reading_of name ws) ≡ false
+no_control name ws unknown =
+    by (reads_as_control (reading_of name ws))
+    (of_data false name ws (subst (Reads false ws) (sym unknown) fault)).control
+  where
+    by : (b : Bool) → (b && true) ≡ false → b ≡ false
+    by true e = e
+    by false e = refl
+
+-- no cacheable query is read of no words
+pub no_query : (name : List ℕ) → reads_as_cacheable (reading_of name []) ≡ false
+no_query name = by (reads_as_cacheable (reading_of name [])) (of_name name []).first
+  where
+    by : (b : Bool) → (b ≡ true → ⊥) → b ≡ false
+    by true none = absurd (none refl)
+    by false none = refl
+
+-- a cacheable query reads the key of its words alone
+pub reads_its_key : (words : List (List ℕ)) → reads_as_cacheable (reading words) ≡ true →
+    keys_read (reading words) ≡ key_of words ∷ []
+unfolding reading
+reads_its_key [] h = absurd (let no : ⊥ = cc in no)
+reads_its_key (name ∷ []) h = absurd ((of_name (str_to_ascii_lowercase name) []).first h)
+reads_its_key (name ∷ key ∷ words) h = (of_name (str_to_ascii_lowercase name) (key ∷ words)).first h
