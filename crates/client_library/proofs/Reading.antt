@@ -1,5 +1,5 @@
 -- Values of the server's bytes, got one after another.
-use Rattle.std.proofs.Common.{◌≡◌, ◌<◌, ◌-◌, ℕ, List, [], ◌∷◌, ◌++◌, true, false, cond, length}
+use Rattle.std.proofs.Common.{◌≡◌, ◌<◌, ℕ, List, [], ◌∷◌, ◌++◌, true, false, cond, length}
 use Rattle.std.proofs.Common.{Option, Some, None, take, refl, sym, ap, subst, ◌∙◌, append_assoc}
 use Rattle.std.proofs.Common.{append-nil, Result, Ok, Err}
 use Rattle.std.proofs.Math.Seq.{take-append_seam}
@@ -8,45 +8,21 @@ use Rattle.resp_value.specs.declared.value.Value.{Value}
 use Rattle.resp_value.specs.Tree.{Tree}
 use Rattle.resp_value.specs.ValueTree.{tree_of, value_of}
 use Rattle.resp_value.proofs.OneToOne.{value_back}
-use Rattle.resp_stream.specs.declared.fault.Fault.{Fault}
 use Rattle.resp_stream.specs.declared.fault.StreamFault.{StreamFault}
 use Rattle.resp_stream.specs.declared.fault.StreamFault.TheVariants as stream
-use Rattle.resp_stream.specs.Parsed.{Whole, More, Bad}
+use Rattle.resp_stream.specs.Parsed.{Whole, More}
 use Rattle.resp_stream.specs.Parse.{Batch, parse_values}
-use Rattle.resp_stream.specs.Readers.{FaultGives, IsFaultOf, ValueGives}
-use Rattle.resp_stream.specs.Stream.{Stream, fed, moved_on, offset_by, stream_fault}
+use Rattle.resp_stream.specs.Readers.{FaultGives, IsFaultOf}
+use Rattle.resp_stream.specs.Stream.{Stream, fed, moved_on}
 use Rattle.resp_stream.specs.Value.{value_at}
-use Rattle.resp_stream.proofs.Batches.{batch_bad, batch_more, batch_whole}
 use Rattle.resp_stream.proofs.Parse.{takes_values}
+use Rattle.resp_stream.proofs.Values.{values_bad, values_more, values_whole}
 use Rattle.shared_cache.specs.declared.log.LogEntry.{LogEntry}
 use Rattle.shared_cache.specs.ClientFields.{Client}
 use Rattle.shared_cache.specs.Held.{Setup}
 use Rattle.shared_cache.specs.Laws.{LegalLog}
 use Rattle.client_library.specs.Library.{CutShort, FeedGives, IsToldBy, Library, ReadGives, closed}
 use Rattle.client_library.specs.Library.{feed, got, got_all, has_ended, read_all, stopped, with_log}
-
-values_whole : (s : Stream) (t : Tree) (r : List ℕ) → value_at s.rest ≡ Whole t r
-    → parse_values s ≡ record {
-      items = t ∷ (parse_values (moved_on s r)).items;
-      stream = (parse_values (moved_on s r)).stream;
-      fault = (parse_values (moved_on s r)).fault;
-    }
-unfolding parse_values
-values_whole s t r e = batch_whole value_at (λ q. q) takes_values s t r e
-
-values_more : (s : Stream) → value_at s.rest ≡ More
-    → parse_values s ≡ record { items = []; stream = s; fault = None }
-unfolding parse_values
-values_more s e = batch_more value_at (λ q. q) takes_values s e
-
-values_bad : (s : Stream) (g : Fault) (r : List ℕ) → value_at s.rest ≡ Bad g r
-    → parse_values s ≡ record {
-      items = [];
-      stream = record s { failed = true };
-      fault = Some (stream_fault g (offset_by s.before (length s.rest - length r)));
-    }
-unfolding parse_values
-values_bad s g r e = batch_bad value_at (λ q. q) takes_values s g r e
 
 pub reads_less : (now new : Stream) (t : Tree) → value_at now.rest ≡ Whole t new.rest
     → length new.rest < length now.rest
@@ -234,10 +210,6 @@ module _ (c0 : Library) (state : Client) (reader : Stream) (h : Getting c0 state
   getting_told f r next e g t =
       subst (λ (x : Client). ReadGives c0 (parse_values c0.reader) r (library x new)) (sym e)
       (ends_told c0 (library state reader) h.reads new f r g t)
-
-pub gives_at : (old new : Stream) (r s : Option Value) → ValueGives old new (Ok r) → r ≡ s
-    → ValueGives old new (Ok s)
-gives_at old new r s g e = subst (λ x. ValueGives old new (Ok x)) e g
 
 -- ---- what is fed
 

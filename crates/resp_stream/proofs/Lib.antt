@@ -4,6 +4,7 @@ pub mod Capped
 pub mod Closing
 pub mod Compose
 pub mod Line
+pub mod Onward
 pub mod Opening
 pub mod Parse
 pub mod Places
@@ -18,4 +19,5 @@ pub mod StackSteps
 pub mod ValueFaults
 pub mod ValueLaws
 pub mod ValueLimits
+pub mod Values
 pub mod Words

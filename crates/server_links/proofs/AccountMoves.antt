@@ -5,7 +5,8 @@ use Rattle.std.proofs.Common.{append_assoc, append-nil}
 use Rattle.std.specs.Prelude.{◌&&◌, nat_le}
 use Rattle.std.proofs.lemmas.Slice.Eq.{bytes_eq-Decides}
 use Rattle.std.proofs.lemmas.List.{take-append-drop}
-use Rattle.resp_stream.specs.Parse.{requests_of}
+use Rattle.resp_stream.specs.Parse.{parse, requests_of}
+use Rattle.resp_stream.proofs.Onward.{GoesOn}
 use Rattle.serial_model.specs.declared.history.Limits.{Limits}
 use Rattle.serial_model.specs.declared.history.Entry.{Entry}
 use Rattle.serial_model.specs.declared.history.BookCall.TheVariants as call
@@ -43,7 +44,7 @@ use Rattle.server_links.proofs.Moving.{every_turned}
 use Rattle.server_links.proofs.Moving.{every_read, every_serve_all}
 use Rattle.server_links.proofs.Moving.{every_send_all}
 use Rattle.server_links.proofs.Carries.{take_carries}
-use Rattle.server_links.proofs.Accounts.{gave, ReadsOn, Account, Part}
+use Rattle.server_links.proofs.Accounts.{gave, Account, Part}
 use Rattle.server_links.proofs.Accounts.{account_part}
 use Rattle.server_links.proofs.Accounts.{Keeps, keeps_then, keeps_stays}
 use Rattle.server_links.proofs.Accounts.{keeps_once, keeps_quiet}
@@ -91,7 +92,7 @@ record InHand (given heard said read : List ℕ) (s : Session) : Type 0 where
   opened : is_open s.link.down.eof ≡ true
   all_given : (read ++ s.link.down.bytes) ++ given ≡ gave s.limits s.link.id s.past
   runs : runs_of s.link.id s.past ≡ requests_of heard
-  reading : reads_on s.limits s.past s.link.id ≡ true → ReadsOn heard s.link.reader
+  reading : reads_on s.limits s.past s.link.id ≡ true → GoesOn parse heard s.link.reader
 
 module _ (heard said : List ℕ) where
   hand_part : (given read : List ℕ) (s : Session) → InHand given heard said read s

@@ -1,18 +1,14 @@
 -- What is heard and runs, in the account of a link.
-use Rattle.std.proofs.Common.{◌≡◌, ◌+◌, ℕ, List, [], ◌∷◌, ◌++◌, Bool, true, false, cond, zero, suc}
+use Rattle.std.proofs.Common.{◌≡◌, ℕ, List, [], ◌∷◌, ◌++◌, Bool, true, false, cond}
 use Rattle.std.proofs.Common.{Some, None, Option, length, take, refl, sym, ap, subst, ◌∙◌}
 use Rattle.std.proofs.Common.{append_assoc, append-nil, eq-eqb}
 use Rattle.std.specs.Prelude.{◌==◌, ◌&&◌, not, nat_le}
 use Rattle.std.proofs.lemmas.List.{take-append-drop}
-use Rattle.resp_stream.specs.declared.fault.Fault.TheVariants as fault
 use Rattle.resp_stream.specs.declared.fault.StreamFault.{StreamFault}
 use Rattle.resp_stream.specs.declared.fault.FaultPlace.{FaultPlace}
-use Rattle.resp_stream.specs.Parsed.{Parsed, Whole, More, Bad}
-use Rattle.resp_stream.specs.Request.{request_at}
-use Rattle.resp_stream.specs.Readers.{skipped}
-use Rattle.resp_stream.specs.Stream.{Stream, fed, moved_on}
-use Rattle.resp_stream.specs.Parse.{Batch, batch, batch_by, batch_in, parse, requests_of}
-use Rattle.resp_stream.proofs.Parse.{parse_joined, parse_rest, parse_unfailed}
+use Rattle.resp_stream.specs.Stream.{Stream, fed}
+use Rattle.resp_stream.specs.Parse.{parse}
+use Rattle.resp_stream.proofs.Onward.{GoesOn, goes_further, requests_join}
 use Rattle.serial_model.specs.declared.history.Limits.{Limits}
 use Rattle.serial_model.specs.declared.history.Entry.{Entry}
 use Rattle.serial_model.specs.declared.history.BookCall.TheVariants as call
@@ -35,13 +31,14 @@ use Rattle.server_links.specs.Moves.{turned, turn, next_read, run_one, run_all, 
 use Rattle.server_links.specs.Moves.{rest_read, run_requests, run_fed, stopped_at}
 use Rattle.server_links.specs.Moves.{feed, serve_all, serve}
 use Rattle.server_links.proofs.Outcomes.{Meets}
+use Rattle.server_links.proofs.FaultPlaces.{parse_met}
 use Rattle.server_links.proofs.Carries.{mute_reply}
 use Rattle.server_links.specs.Transcript.{up_to}
 use Rattle.server_links.proofs.Moving.{every_quiet, every_does, every_run_one}
 use Rattle.server_links.proofs.Moving.{every_run_all}
 use Rattle.server_links.proofs.Moving.{every_run_requests}
 use Rattle.server_links.proofs.Carries.{carries_link}
-use Rattle.server_links.proofs.Accounts.{gave, InFlight, ReadsOn, Account, Running, Halted, Part}
+use Rattle.server_links.proofs.Accounts.{gave, InFlight, Account, Running, Halted, Part}
 use Rattle.server_links.proofs.Accounts.{account_part}
 use Rattle.server_links.proofs.Accounts.{running_part, halted_part, Keeps, keeps_then, keeps_stays}
 use Rattle.server_links.proofs.Accounts.{keeps_refuses, keeps_quiet}
@@ -162,7 +159,7 @@ module _ (heard said : List ℕ) where
       (every_run_one words s) (run_one_keeps words todo s) (run_all_keeps todo)
 
   run_requests_keeps : (s : Session) → ((parse s.link.reader).fault ≡ None
-      → ReadsOn heard (parse s.link.reader).stream)
+      → GoesOn parse heard (parse s.link.reader).stream)
       → Keeps (Running (parse s.link.reader).items heard said)
       (Halted (parse s.link.reader).fault heard said) (Part said) s (run_requests s)
   unfolding run_requests
@@ -235,30 +232,8 @@ module _ (heard said : List ℕ) where
       record { bytes = h.bytes; runs = h.runs; reading = λ on. h.reading (met refl) } in
       (a, account_part heard said read s a))
 
-  by_front : (s : Stream) (a : Parsed (List (List ℕ))) (f : List ℕ → Batch (List (List ℕ)))
-      → ((r : List ℕ) → stopped_at (f r).fault ≡ None → (f r).fault ≡ None)
-      → stopped_at (batch_by s a f).fault ≡ None → (batch_by s a f).fault ≡ None
-  by_front s (Whole words r) f more e = more r e
-  by_front s More f more e = refl
-  by_front s (Bad fault.BadByte r) f more e = absurd (let no : ⊥ = cc in no)
-  by_front s (Bad (fault.TooLong k) r) f more e = absurd (let no : ⊥ = cc in no)
-  by_front s (Bad fault.TooDeep r) f more e = absurd (let no : ⊥ = cc in no)
-  by_front s (Bad (fault.NotServed k) r) f more e = absurd (let no : ⊥ = cc in no)
-
-  place_met : (n : ℕ) (s : Stream) → stopped_at (batch_in request_at skipped n s).fault ≡ None
-      → (batch_in request_at skipped n s).fault ≡ None
-  unfolding batch_in
-  place_met zero s e = refl
-  place_met (suc n) s e =
-      by_front (skipped s) (request_at (skipped s).rest)
-      (λ r. batch_in request_at skipped n (moved_on s r)) (λ r. place_met n (moved_on s r)) e
-
-  parse_met : (s : Stream) → stopped_at (parse s).fault ≡ None → (parse s).fault ≡ None
-  unfolding parse batch
-  parse_met s e = place_met (length s.rest + 1) s e
-
   run_fed_keeps : (eof : Bool) (s : Session) → ((parse s.link.reader).fault ≡ None
-      → ReadsOn heard (parse s.link.reader).stream)
+      → GoesOn parse heard (parse s.link.reader).stream)
       → Keeps (Running (parse s.link.reader).items heard said) (Account heard said) (Part said) s
       (run_fed eof s)
   unfolding run_fed
@@ -278,29 +253,6 @@ keeps_at P Q W s next k t read r =
     (k read (subst (P read) r.0 r.1))
 
 -- ---- the server's end reads
-
-fed_twice : (s : Stream) (a b : List ℕ) → s.failed ≡ false
-    → (fed s (a ++ b)).rest ≡ (fed (fed s a) b).rest
-fed_twice s a b t =
-    ap (λ v. cond v s.rest (s.rest ++ (a ++ b))) t ∙ sym (append_assoc s.rest a b)
-    ∙ sym (ap (λ v. cond v (cond v s.rest (s.rest ++ a)) (cond v s.rest (s.rest ++ a) ++ b)) t)
-
--- where what was fed is no fault, it is read on from there
-reads_further : (heard piece : List ℕ) (reader : Stream) → ReadsOn heard reader
-    → (parse (fed reader piece)).fault ≡ None → ReadsOn (heard
-    ++ piece) (parse (fed reader piece)).stream
-reads_further heard piece reader r none =
-    let p : Batch (List (List ℕ)) = parse (fed reader piece) in
-    record {
-      untold = parse_unfailed (fed reader piece) r.untold none;
-      further = λ m.
-          ap requests_of (append_assoc heard piece m) ∙ r.further (piece ++ m)
-          ∙ ap (λ l. requests_of heard
-          ++ l) (parse_rest (fed reader (piece ++ m)) (fed (fed reader piece) m)
-          (fed_twice reader piece m r.untold) ∙ parse_joined (fed reader piece) m r.untold none)
-          ∙ sym (append_assoc (requests_of heard) p.items (parse (fed p.stream m)).items)
-          ∙ ap (λ l. l ++ (parse (fed p.stream m)).items) (sym (r.further piece));
-    }
 
 module _ (heard said piece : List ℕ) (up : Direction) (eof : Bool) (s : Session)
     (on : reads_on s.limits s.past s.link.id ≡ true)
@@ -336,7 +288,7 @@ module _ (heard said piece : List ℕ) (up : Direction) (eof : Bool) (s : Sessio
   Fed read t = (t ≡ fed_session) × Running (parse (fed s.link.reader piece)).items (heard
       ++ piece) said read fed_session
       × ((parse (fed s.link.reader piece)).fault ≡ None
-      → ReadsOn (heard ++ piece) (parse (fed s.link.reader piece)).stream)
+      → GoesOn parse (heard ++ piece) (parse (fed s.link.reader piece)).stream)
 
   fed_run : (t : Session) → Keeps Fed (Account (heard ++ piece) said) (Part said) t (run_fed eof t)
   unfolding Keeps Fed fed_session
@@ -357,7 +309,8 @@ module _ (heard said piece : List ℕ) (up : Direction) (eof : Bool) (s : Sessio
       (keeps_quiet (Account heard said) Fed (Part said) s fed_session [] None refl
       (λ read a. let r = fed_running read a in (
         account_part heard said read s a,
-        (λ e. (refl, r, reads_further heard piece s.link.reader (a.reading on))),
+        (λ e. (refl, r, goes_further parse heard piece s.link.reader requests_join
+      (a.reading on))),
         running_part p.items (heard ++ piece) said read fed_session r,
       )))
       fed_run

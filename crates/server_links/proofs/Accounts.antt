@@ -7,8 +7,8 @@ use Rattle.std.proofs.Common.{◌≡◌, ℕ, List, [], ◌∷◌, ◌++◌, tru
 use Rattle.std.proofs.Common.{None, Option, take, sym, ap, subst, ◌∙◌, append_assoc, append-nil}
 use Rattle.resp_value.specs.Lists.{IsPrefix}
 use Rattle.resp_stream.specs.declared.fault.StreamFault.{StreamFault}
-use Rattle.resp_stream.specs.Stream.{Stream, fed}
 use Rattle.resp_stream.specs.Parse.{parse, requests_of}
+use Rattle.resp_stream.proofs.Onward.{GoesOn}
 use Rattle.serial_model.specs.declared.history.Limits.{Limits}
 use Rattle.serial_model.specs.declared.history.Entry.{Entry}
 use Rattle.serial_model.specs.History.{reads_on, stream, taken, runs_of}
@@ -35,16 +35,10 @@ pub record InFlight (heard said read : List ℕ) (s : Session) : Type 0 where
   pub all_taken : (read ++ s.link.down.bytes) ++ down_lost ≡ gave s.limits s.link.id s.past
   pub none_down : is_open s.link.down.eof ≡ true → down_lost ≡ []
 
--- what will be heard is read on from the reader
-pub record ReadsOn (heard : List ℕ) (reader : Stream) : Type 0 where
-  pub untold : reader.failed ≡ false
-  pub further : (m : List ℕ) → requests_of (heard ++ m)
-      ≡ requests_of heard ++ (parse (fed reader m)).items
-
 pub record Account (heard said read : List ℕ) (s : Session) : Type 0 where
   pub bytes : InFlight heard said read s
   pub runs : runs_of s.link.id s.past ≡ requests_of heard
-  pub reading : reads_on s.limits s.past s.link.id ≡ true → ReadsOn heard s.link.reader
+  pub reading : reads_on s.limits s.past s.link.id ≡ true → GoesOn parse heard s.link.reader
 
 -- these requests are still to run
 pub record Running (todo : List (List (List ℕ))) (heard said read : List ℕ) (s : Session) : Type 0
@@ -59,7 +53,7 @@ pub record Halted (fault : Option StreamFault) (heard said read : List ℕ) (s :
     pub bytes : InFlight heard said read s
     pub on : reads_on s.limits s.past s.link.id ≡ true
     pub runs : runs_of s.link.id s.past ≡ requests_of heard
-    pub reading : fault ≡ None → ReadsOn heard s.link.reader
+    pub reading : fault ≡ None → GoesOn parse heard s.link.reader
 
 unfoldable pub Part : List ℕ → List ℕ → Session → Type 0
 Part said read s = PartServes s.limits said read s.past s.link

@@ -348,7 +348,7 @@ stands_after l (d ∷ more) before said lines v w s e =
           (heard t.state i more)) (λ n. append_assoc (said n) (said_by n d) (said_to n more)) k)
     ] refl e
 
-serves : (heard said read : List ℕ) (s : Session) → Account heard said read s
+pub serves : (heard said read : List ℕ) (s : Session) → Account heard said read s
     → Serves s.limits heard said read s.past s.link
 unfolding gave
 serves heard said read s a = record {

@@ -2,6 +2,7 @@ pub mod Outcomes
 pub mod Carries
 pub mod Moments
 pub mod Moving
+pub mod FaultPlaces
 pub mod Accounts
 pub mod AccountRuns
 pub mod AccountMoves
@@ -11,6 +12,7 @@ pub mod LinksStand
 pub mod Events
 pub mod Delivery
 pub mod Playing
+pub mod Items
 pub mod Serving
 pub mod Refusals
 pub mod History

@@ -22,10 +22,7 @@ use Rattle.serial_model.proofs.Streams.{taken_le}
 use Rattle.script_text.specs.declared.line.Line.{Line}
 use Rattle.script_text.specs.declared.line.Line.TheVariants as line
 use Rattle.std.proofs.Math.Seq.{take-nil}
-use Rattle.resp_stream.specs.Stream.{fed, begun}
-use Rattle.resp_stream.specs.Request.{skip_empty, skip_empty_in, request_at, request_begun}
-use Rattle.resp_stream.specs.Parse.{Batch, parse, requests_of}
-use Rattle.resp_stream.proofs.Parse.{parse_more}
+use Rattle.resp_stream.proofs.Onward.{no_requests, requests_begun}
 use Rattle.serial_model.specs.declared.history.Entry.TheVariants as entry
 use Rattle.serial_model.proofs.Streams.{connected, stream_admit, stream_fresh, runs_fresh}
 use Rattle.server_links.specs.declared.link.Link.{Link}
@@ -363,10 +360,6 @@ module _ (l : Limits) (heard : ℕ → List ℕ) (said : List ℕ
 
 -- ---- a link is made
 
-no_requests : requests_of [] ≡ []
-unfolding skip_empty skip_empty_in request_at request_begun
-no_requests = ap (λ (p : Batch (List (List ℕ))). p.items) (parse_more (fed begun []) refl)
-
 fresh_account : (c : ℕ) (name : List ℕ) (l : Limits) (now : ℕ) (past : List Entry) → IsLegal l past
     → admitted past < c →
     Account [] [] []
@@ -385,11 +378,7 @@ fresh_account c name l now past legal above =
         none_down = λ h. refl;
       };
       runs = none ∙ sym no_requests;
-      reading = λ on. record {
-        untold = refl;
-        further = λ m. ap (λ l. l
-            ++ (parse (fed begun m)).items) (sym no_requests);
-      };
+      reading = λ on. requests_begun;
     }
 
 -- names of links that a longer list of names has too

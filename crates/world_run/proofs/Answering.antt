@@ -267,41 +267,13 @@ stops_by m (fault.HistoryFull n) t lines has e is none =
 pub turned_is : (s : Seat) (m : MemberState) → Turned s.member m
     → seat s.links m ≡ with_log s m.state.past
 turned_is s m t =
-    ap (λ x. seat s.links (record {
-      name = x;
-      link = m.link;
-      place = m.place;
-      state = m.state;
-      reader = m.reader;
-    })) t.name
-    ∙ ap (λ x. seat s.links (record {
-      name = s.member.name;
-      link = x;
-      place = m.place;
-      state = m.state;
-      reader = m.reader;
-    })) t.link
-    ∙ ap (λ x. seat s.links (record {
-      name = s.member.name;
-      link = s.member.link;
-      place = x;
-      state = m.state;
-      reader = m.reader;
-    })) t.place
-    ∙ ap (λ x. seat s.links (record {
-      name = s.member.name;
-      link = s.member.link;
-      place = s.member.place;
-      state = record { setup = x; past = m.state.past };
-      reader = m.reader;
-    })) t.setup
-    ∙ ap (λ x. seat s.links (record {
-      name = s.member.name;
-      link = s.member.link;
-      place = s.member.place;
-      state = record { setup = s.member.state.setup; past = m.state.past };
-      reader = x;
-    })) t.reader
+    λ i. seat s.links (record {
+      name = t.name i;
+      link = t.link i;
+      place = t.place i;
+      state = record { setup = t.setup i; past = m.state.past };
+      reader = t.reader i;
+    })
 
 pub turned_like : (i old : MemberState) (new : Client) → i ≡ old → new.setup ≡ i.state.setup
     → Turned old (record {
@@ -362,16 +334,17 @@ module _ (s : Seat) (c : ClientCall) where
     there : seat s.links m ≡ with_log s (client_step (setup_of s) (log_of s) c).past
     there = turned_is s m like ∙ ap (λ (t : ClientTurn). with_log s t.past) (sym is)
 
-    pub turn_after : (lines : List Line)
-        → Stops (turn c s) lines fault.NoMemory (seat s.links m) lines
+    pub turn_after : (lines lines' : List Line) → lines' ≡ lines
+        → Stops (turn c s) lines fault.NoMemory (seat s.links m) lines'
     unfolding turn
-    turn_after lines =
+    turn_after lines lines' same =
         let t = client_step (setup_of s) (log_of s) c in
         let n = seat s.links m in
         let next = answers (lines_of s c t.reply) (fault_of t.reply) in
-        after_stops (does s (with_log s t.past) []) next lines n lines fault.NoMemory n lines
+        subst (λ l. Stops (turn c s) lines fault.NoMemory n l) (sym same)
+        (after_stops (does s (with_log s t.past) []) next lines n lines fault.NoMemory n lines
         (refl, there, sym (append-nil lines))
-        (stops_here (next n) n lines refl)
+        (stops_here (next n) n lines refl))
 
     pub turn_ends : (lines lines' : List Line) → fault_of reply ≡ None
         → lines' ≡ lines ++ lines_of s c reply → Ends (turn c s) lines (seat s.links m) lines'

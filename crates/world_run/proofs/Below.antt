@@ -1,14 +1,8 @@
 -- What the crates below prove, as it is cited here.
-use Rattle.std.proofs.Common.{◌≡◌, ℕ, List, [], ◌++◌, None, refl, ap}
+use Rattle.std.proofs.Common.{◌≡◌, ℕ, List, ◌++◌, refl}
 use Rattle.std.proofs.lemmas.Slice.Eq.{bytes_eq-Decides, slice_eq-Decides}
 use Rattle.std.specs.Prelude.{true, false}
 use Rattle.command_words.specs.Queries.{same_query}
-use Rattle.resp_value.specs.Tree.{Tree}
-use Rattle.resp_stream.specs.Stream.{Stream, begun, fed}
-use Rattle.resp_stream.specs.Parse.{Batch, parse_values, values_of}
-use Rattle.resp_stream.specs.Value.{value_at, value_in}
-use Rattle.resp_stream.proofs.Batches.{batch_more, batch_rest, batch_unfailed}
-use Rattle.resp_stream.proofs.Parse.{takes_values}
 use Rattle.serial_model.specs.declared.history.Limits.{Limits}
 use Rattle.script_text.specs.declared.line.Line.{Line}
 use Rattle.server_links.specs.LinkEvent.{LinkEvent}
@@ -30,23 +24,6 @@ pub stands_step : (l : Limits) (heard : ℕ → List ℕ) (said : List ℕ
     (λ v ls. PartStands l (λ n. said n ++ said_by n event) (lines ++ ls) v) (step w event)
 unfolding Ends Stops
 stands_step l heard said lines w s event = events.stands_step l heard said lines w s event
-
--- ---- values in a stream
-
-pub values_unfailed : (s : Stream) → s.failed ≡ false → (parse_values s).fault ≡ None
-    → (parse_values s).stream.failed ≡ false
-unfolding parse_values
-values_unfailed s t e = batch_unfailed value_at (λ q. q) takes_values s t e
-
-pub values_rest : (s t : Stream) → s.rest ≡ t.rest → (parse_values s).items ≡ (parse_values t).items
-unfolding parse_values
-values_rest s t e = batch_rest value_at (λ q. q) takes_values s t e
-
-pub no_values : values_of [] ≡ []
-unfolding parse_values value_at value_in
-no_values =
-    ap (λ (p : Batch Tree). p.items)
-    (batch_more value_at (λ q. q) takes_values (fed begun []) refl)
 
 -- ---- queries
 

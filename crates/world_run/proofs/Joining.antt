@@ -8,6 +8,7 @@ use Rattle.std.proofs.lemmas.List.{get_or_push, get_or_append_left}
 use Rattle.resp_value.specs.declared.value.Proto.{Proto}
 use Rattle.resp_value.specs.declared.value.Proto.TheVariants.{Two, Three}
 use Rattle.resp_stream.specs.Parse.{values_of}
+use Rattle.resp_stream.proofs.Onward.{no_values, values_begun}
 use Rattle.serial_model.specs.declared.history.Limits.{Limits}
 use Rattle.serial_model.specs.History.{is_full, admitted}
 use Rattle.serial_model.specs.Steps.{Turn, book_step}
@@ -36,12 +37,10 @@ use Rattle.world_run.specs.WorldState.{no_setup}
 use Rattle.world_run.specs.World.{client_step, is_default, is_served, is_single, is_taken, is_third}
 use Rattle.world_run.specs.World.{join, links_step, not_served, setup_by, on_links}
 use Rattle.world_run.specs.World as world
-use Rattle.world_run.proofs.Below.{no_values}
 use Rattle.world_run.proofs.LinkEvents.{Comes, comes_refused, comes_unread, part_of, part_here}
 use Rattle.world_run.proofs.LinkEvents.{stands_again}
 use Rattle.world_run.proofs.Links.{IsUnread, Mute, Mutes, step_mutes}
 use Rattle.world_run.proofs.Members.{MemberPart}
-use Rattle.world_run.proofs.Readings.{values_begun}
 use Rattle.world_run.proofs.Worlds.{NoneHas, Stable, WorldPart, WorldStands}
 
 -- ---- a mode that is served

@@ -5,7 +5,6 @@ pub mod Received
 pub mod Replied
 mod Below
 mod Causal
-mod Readings
 mod Members
 mod Turns
 mod Links

@@ -11,6 +11,7 @@ use Rattle.resp_stream.specs.declared.fault.FaultPlace.{FaultPlace}
 use Rattle.resp_stream.specs.declared.fault.StreamFault.{StreamFault}
 use Rattle.resp_stream.specs.Parse.{Batch, parse_values, values_of}
 use Rattle.resp_stream.specs.Stream.{Stream, fed}
+use Rattle.resp_stream.proofs.Onward.{GoesOn, goes_further, values_join}
 use Rattle.serial_model.specs.declared.history.Limits.{Limits}
 use Rattle.shared_cache.specs.declared.log.ClientCall.TheVariants as call
 use Rattle.shared_cache.specs.declared.log.Wire.TheVariants.{Main}
@@ -22,12 +23,12 @@ use Rattle.server_links.specs.LinksState.{LinksState}
 use Rattle.server_links.specs.Moves.{stopped_at}
 use Rattle.server_links.specs.OneHistory.{read_on}
 use Rattle.server_links.specs.Outcome.{and_then, does, stays}
+use Rattle.server_links.proofs.FaultPlaces.{values_met}
 use Rattle.world_run.specs.WorldState.{WorldState, MemberState, member_at}
 use Rattle.world_run.specs.Members.{seat_at}
 use Rattle.world_run.specs.ClientMoves.{feed, got, got_all, got_one, has_ended, next_read}
 use Rattle.world_run.specs.ClientMoves.{read_values, rest_read, stop, turn}
 use Rattle.world_run.proofs.Links.{Mute}
-use Rattle.world_run.proofs.Readings.{ValuesOn, values_further, values_met}
 use Rattle.world_run.proofs.Seats.{One, Seating, Working, one_then}
 use Rattle.world_run.proofs.SeatTurns.{one_prints, one_reader, one_stays, one_turn, works_as}
 use Rattle.world_run.proofs.Turns.{end_ends, got_gets}
@@ -52,21 +53,22 @@ abbrev pub Fed : (LinksState → ℕ → Type 0) → Working
 Fed D ls read m =
     (Going m → (map tree_of (gots Main m.state.past) ++ (parse_values m.reader).items
     ≡ values_of read)
-    × ((parse_values m.reader).fault ≡ None → ValuesOn read (parse_values m.reader).stream))
+    × ((parse_values m.reader).fault ≡ None
+    → GoesOn parse_values read (parse_values m.reader).stream))
     × D ls m.place
 
 -- these values are still to be got, and the reader goes on from there
 abbrev pub Getting : (LinksState → ℕ → Type 0) → List Tree → Stream → Option StreamFault → Working
 Getting D todo next fault ls read m =
     (Going m → (map tree_of (gots Main m.state.past) ++ todo ≡ values_of read)
-    × (fault ≡ None → ValuesOn read next))
+    × (fault ≡ None → GoesOn parse_values read next))
     × D ls m.place
 
 -- all were got, up to this fault
 abbrev pub Halted : (LinksState → ℕ → Type 0) → Option StreamFault → Working
 Halted D fault ls read m =
     (Going m → (map tree_of (gots Main m.state.past) ≡ values_of read)
-    × (fault ≡ None → ValuesOn read m.reader))
+    × (fault ≡ None → GoesOn parse_values read m.reader))
     × D ls m.place
 
 abbrev pub Done : (LinksState → ℕ → Type 0) → Working
@@ -83,14 +85,14 @@ module _ (l : Limits) (heard : ℕ → List ℕ) (raw : List ℕ → List ℕ) (
       → Going m
       → let p = parse_values (fed m.reader piece) in
       (map tree_of (gots Main m.state.past) ++ p.items ≡ values_of read)
-      × (p.fault ≡ None → ValuesOn read p.stream)
+      × (p.fault ≡ None → GoesOn parse_values read p.stream)
   fed_reads piece old read m is reads going =
       let r = reads going in
       let p : Batch Tree = parse_values (fed m.reader piece) in (
         ap (λ x. x ++ p.items) r.gots_are ∙ sym (r.reading.further piece)
             ∙ ap values_of (sym is),
-        λ none. subst (λ x. ValuesOn x p.stream) (sym is)
-            (values_further old piece m.reader r.reading none),
+        λ none. subst (λ x. GoesOn parse_values x p.stream) (sym is)
+            (goes_further parse_values old piece m.reader values_join r.reading none),
       )
 
   pub feed_reads : (piece : List ℕ) (lines : List Line) (w : WorldState)

@@ -10,9 +10,10 @@ use Rattle.script_text.specs.declared.line.Line.{Line}
 use Rattle.script_text.specs.Valid.{IsValid}
 use Rattle.server_links.specs.LinksState.{at_place}
 use Rattle.server_links.specs.OneHistory.{PartServes, Serves, read_on}
-use Rattle.server_links.specs.Session.{Session, session_at}
+use Rattle.server_links.specs.Session.{session_at}
 use Rattle.server_links.specs.Transcript.{unless_fault}
-use Rattle.server_links.proofs.Accounts.{Account, Part, gave}
+use Rattle.server_links.proofs.Accounts.{Part}
+use Rattle.server_links.proofs.Events.{serves}
 use Rattle.server_links.proofs.Names.{unplaced}
 use Rattle.world_run.specs.WorldState.{WorldState, client_of_link, member_at, start}
 use Rattle.world_run.specs.Members.{client_of}
@@ -150,18 +151,6 @@ pub stands_then : (l : Limits) (events : List Event) (w : WorldState) → Every 
     (transcript (start l) events) w
 stands_then l events w valid e =
     stands_after l events (λ i. []) (λ n. []) [] (start l) w valid (stands_start l) e
-
-serves : (heard said read : List ℕ) (s : Session) → Account heard said read s
-    → Serves s.limits heard said read s.past s.link
-unfolding gave
-serves heard said read s a = record {
-  up = record { lost = a.bytes.up_lost; all_said = a.bytes.all_said };
-  up_lost = a.bytes.none_up;
-  down = record { lost = a.bytes.down_lost; all_taken = a.bytes.all_taken };
-  down_lost = a.bytes.none_down;
-  runs_front = ([], append-nil _ ∙ a.runs);
-  runs_all = λ e. a.runs;
-}
 
 pub whole_history : Currency → (l : Limits) (events : List Event) (w : WorldState)
     → Every IsValid events → after (start l) events ≡ Some w

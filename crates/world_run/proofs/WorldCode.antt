@@ -37,6 +37,7 @@ use Rattle.world_run.specs.WorldState.{AreOver, IsOver, MemberState, WorldState,
 use Rattle.world_run.specs.WorldState.{client_of_link}
 use Rattle.world_run.specs.WorldState.{data_link, fresh_member, member_at, no_setup}
 use Rattle.world_run.specs.Members.{Seat, seat, seat_at, with_seat, world}
+use Rattle.world_run.specs.World.{StepGives}
 use Rattle.world_run.specs.World.{Stepped, client_does, client_step, flow_at, flow_first, flow_step}
 use Rattle.world_run.specs.World.{is_served, is_taken, join, links_step, named_does, on_links}
 use Rattle.world_run.specs.World.{said_step, setup_by, step}
@@ -121,6 +122,20 @@ named_gives name move old new members at m m' lines r lines' found is g =
     (client_gives at move old new members m m' lines r lines'
     (client_there name members at found).0 is g)
 
+-- of the world as its code has it
+pub named_turn : {A : Type 0} → (name : List ℕ) (move : Seat → Outcome Seat) (now : WorldState)
+    (old new : LinksState) (members : List MemberState) (at : ℕ) (m m' : MemberState)
+    (lines : List Line) (r : Result A WorldFault) (lines' : List Line) → world old members ≡ now
+    → client_named name now.members ≡ Some at → m ≡ slice_index_or members at m
+    → Gives (move (seat old m)) lines r (seat new m') lines'
+    → Gives (named_does (client_named name now.members) move now) lines r
+    (world new (slice_set members at m')) lines'
+named_turn name move now old new members at m m' lines r lines' view found is g =
+    subst (λ (v : WorldState). client_named name v.members ≡ Some at
+    → Gives (named_does (client_named name v.members) move v) lines r
+    (world new (slice_set members at m')) lines') view
+    (λ there. named_gives name move old new members at m m' lines r lines' there is g) found
+
 -- a client that stays as it is
 pub named_shows : {A : Type 0} → (name : List ℕ) (move : Seat → Outcome Seat)
     (links : LinksState) (members : List MemberState) (at : ℕ) (m : MemberState)
@@ -142,27 +157,31 @@ named_shows name move links members at m lines r lines' found is g =
 -- ---- a link is named
 
 pub owned : {A : Type 0} → (f : Option ℕ → Stepped) (link : List ℕ) (move : Seat → Outcome Seat)
-    (old new : LinksState) (members : List MemberState) (at : ℕ) (m m' : MemberState)
-    (lines : List Line) (r : Result A WorldFault) (lines' : List Line)
-    → client_of_link link members ≡ Some at → f (Some at) ≡ client_does at move (world old members)
-    → m ≡ slice_index_or members at m
+    (now : WorldState) (old new : LinksState) (members : List MemberState) (at : ℕ)
+    (m m' : MemberState) (lines : List Line) (r : Result A WorldFault) (lines' : List Line)
+    → world old members ≡ now → client_of_link link now.members ≡ Some at
+    → f (Some at) ≡ client_does at move now → m ≡ slice_index_or members at m
     → Gives (move (seat old m)) lines r (seat new m') lines'
-    → Gives (f (client_of_link link members)) lines r (world new (slice_set members at m')) lines'
-owned f link move old new members at m m' lines r lines' found what is g =
-    subst (λ (x : Stepped). Gives x lines r (world new (slice_set members at m')) lines')
-    (sym (ap f found ∙ what))
+    → Gives (f (client_of_link link now.members)) lines r (world new (slice_set members at m'))
+    lines'
+owned f link move now old new members at m m' lines r lines' view found what is g =
+    let t = world new (slice_set members at m') in
+    let there = ap (λ (v : WorldState). client_of_link link v.members) view ∙ found in
+    subst (λ (x : Stepped). Gives x lines r t lines') (sym (ap f found ∙ what))
+    (subst (λ (v : WorldState). Gives (client_does at move v) lines r t lines') view
     (client_gives at move old new members m m' lines r lines'
-    (link_there link members at found).0 is g)
+    (link_there link members at there).0 is g))
 
 pub unowned : {A : Type 0} → (f : Option ℕ → Stepped) (link : List ℕ) (e : LinkEvent)
-    (old new : LinksState) (members : List MemberState)
+    (now : WorldState) (old new : LinksState) (members : List MemberState)
     (lines : List Line) (r : Result A WorldFault) (lines' : List Line)
-    → client_of_link link members ≡ None → f None ≡ links_step e (world old members)
-    → Gives (links.step old e) lines r new lines'
-    → Gives (f (client_of_link link members)) lines r (world new members) lines'
-unowned f link e old new members lines r lines' none what g =
+    → world old members ≡ now → client_of_link link now.members ≡ None
+    → f None ≡ links_step e now → Gives (links.step old e) lines r new lines'
+    → Gives (f (client_of_link link now.members)) lines r (world new members) lines'
+unowned f link e now old new members lines r lines' view none what g =
     subst (λ (x : Stepped). Gives x lines r (world new members) lines') (sym (ap f none ∙ what))
-    (links_give e old new members lines r lines' g)
+    (subst (λ (v : WorldState). Gives (links_step e v) lines r (world new members) lines') view
+    (links_give e old new members lines r lines' g))
 
 -- ---- a raw link is told what to say
 
@@ -261,42 +280,61 @@ module _ (name : List ℕ) (mode : ClientMode) (capacity : ℕ) (w : WorldState)
           (cond (is_taken name w) (refuses w NameTaken) making)) served
           ∙ ap (λ b. cond b (refuses w NameTaken) making) free
 
-      -- memory runs out before its link is made
-      pub client_before : (lines : List Line)
-          → Stops (client_step name mode capacity w) lines NoMemory w lines
-      client_before lines =
-          subst (λ (x : Stepped). Stops x lines NoMemory w lines) (sym client_making)
-          (stops_first (does w w []) _ lines NoMemory w lines
-          (stops_here (does w w []) w lines refl))
+      -- of the world as its code has it
+      module _ (old : WorldState) (view : old ≡ w) (lines : List Line)
+          (members : List MemberState) where
+        -- memory runs out before its link is made
+        pub client_before : members ≡ old.members
+            → Stops (client_step name mode capacity w) lines NoMemory (world old.links members)
+            lines
+        client_before same =
+            subst (λ v. Stops (client_step name mode capacity w) lines NoMemory v lines)
+            (sym (ap (world old.links) same ∙ view))
+            (subst (λ (x : Stepped). Stops x lines NoMemory w lines) (sym client_making)
+            (stops_first (does w w []) _ lines NoMemory w lines
+            (stops_here (does w w []) w lines refl)))
 
-      module _ (lines : List Line) (new : LinksState) (lines' : List Line) where
-        pub client_stops : (fault : WorldFault)
-            → Stops (links.step w.links (link_event.Raw (data_link name))) lines fault new lines'
-            → Stops (client_step name mode capacity w) lines fault (world new w.members) lines'
-        client_stops fault g =
-            let r : Result (Unit {0}) WorldFault = Err fault in
-            let raw = link_event.Raw (data_link name) in
-            let t = world new w.members in
-            subst (λ (x : Stepped). Stops x lines fault t lines') (sym client_making)
-            (after_stops (does w w []) _ lines w lines fault t lines'
-            (refl, refl, sym (append-nil lines))
-            (stops_first (links_step raw w) _ lines fault t lines'
-            (links_give raw w.links new w.members lines r lines' g)))
+        module _ (new : LinksState) (lines' : List Line) (m : MemberState)
+            (is : m ≡ fresh_member name (length w.links.links) (setup_by w mode capacity)) where
+          made : {A : Type 0} → (r : Result A WorldFault)
+              → Gives (links.step old.links (link_event.Raw m.link)) lines r new lines'
+              → Gives (links_step (link_event.Raw (data_link name)) w) lines r
+              (world new w.members) lines'
+          made r g =
+              links_give (link_event.Raw (data_link name)) w.links new w.members lines r lines'
+              (subst (λ (v : WorldState). Gives (links.step v.links
+              (link_event.Raw (data_link name))) lines r new lines') view
+              (subst (λ (x : MemberState). Gives (links.step old.links (link_event.Raw x.link))
+              lines r new lines') is g))
 
-        pub client_ends : (m : MemberState)
-            → m ≡ fresh_member name (length w.links.links) (setup_by w mode capacity)
-            → Ends (links.step w.links (link_event.Raw (data_link name))) lines new lines'
-            → Ends (client_step name mode capacity w) lines (world new (w.members ++ m ∷ [])) lines'
-        client_ends m is g =
-            let r : Result (Unit {0}) WorldFault = Ok (tt {0}) in
-            let raw = link_event.Raw (data_link name) in
-            let t = world new (w.members ++ m ∷ []) in
-            subst (λ (x : Stepped). Ends x lines t lines') (sym client_making)
-            (after_ends (does w w []) _ lines w lines t lines'
-            (refl, refl, sym (append-nil lines))
-            (after_ends (links_step raw w) _ lines (world new w.members) lines' t lines'
-            (links_give raw w.links new w.members lines r lines' g)
-            (refl, ap (λ x. world new (w.members ++ x ∷ [])) is, sym (append-nil lines'))))
+          pub client_stops : (fault : WorldFault) → members ≡ old.members
+              → Stops (links.step old.links (link_event.Raw m.link)) lines fault new lines'
+              → Stops (client_step name mode capacity w) lines fault (world new members) lines'
+          client_stops fault same g =
+              let r : Result (Unit {0}) WorldFault = Err fault in
+              let raw = link_event.Raw (data_link name) in
+              let t = world new w.members in
+              subst (λ ms. Stops (client_step name mode capacity w) lines fault (world new ms)
+              lines') (sym (same ∙ ap (λ (v : WorldState). v.members) view))
+              (subst (λ (x : Stepped). Stops x lines fault t lines') (sym client_making)
+              (after_stops (does w w []) _ lines w lines fault t lines'
+              (refl, refl, sym (append-nil lines))
+              (stops_first (links_step raw w) _ lines fault t lines' (made r g))))
+
+          pub client_ends : members ≡ old.members ++ m ∷ []
+              → Ends (links.step old.links (link_event.Raw m.link)) lines new lines'
+              → Ends (client_step name mode capacity w) lines (world new members) lines'
+          client_ends more g =
+              let r : Result (Unit {0}) WorldFault = Ok (tt {0}) in
+              let raw = link_event.Raw (data_link name) in
+              let t = world new members in
+              let all = more ∙ ap (λ (v : WorldState). v.members ++ m ∷ []) view
+              ∙ ap (λ x. w.members ++ x ∷ []) is in
+              subst (λ (x : Stepped). Ends x lines t lines') (sym client_making)
+              (after_ends (does w w []) _ lines w lines t lines'
+              (refl, refl, sym (append-nil lines))
+              (after_ends (links_step raw w) _ lines (world new w.members) lines' t lines'
+              (made r g) (refl, ap (world new) all, sym (append-nil lines'))))
 
 -- ---- all links flow
 
@@ -369,6 +407,13 @@ pub over_step : {A : Type 0} → (next : List ℕ) (e : Event) (w v : WorldState
 over_step next e w v lines r lines' g are from at order below =
     let h = gives_reached (step w e) lines r v lines' g in
     (((step_grows e w).all v h.0 h.1).2 at (are from at order below)).0
+
+-- of the world as its code has it
+pub still_over : (next : List ℕ) (e : Event) (old now new : WorldState) (lines : List Line)
+    (r : Result (Unit {0}) WorldFault) (lines' : List Line) → old ≡ now
+    → StepGives now e lines r new lines' → AreOver next old → AreOver next new
+still_over next e old now new lines r lines' view g are =
+    over_step next e now new lines r lines' g (subst (AreOver next) view are)
 
 pub over_links : {A : Type 0} → (next : List ℕ) (name : List ℕ) (move : LinkMove)
     (w v : WorldState) (lines : List Line) (r : Result A WorldFault) (lines' : List Line)

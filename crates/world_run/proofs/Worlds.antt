@@ -4,7 +4,8 @@ use Rattle.std.proofs.Common.{None, length, map, sym, ap, subst, ◌∙◌}
 use Rattle.std.proofs.Common.{append-nil}
 use Rattle.resp_value.specs.Lists.{IsPrefix}
 use Rattle.resp_value.specs.ValueTree.{tree_of}
-use Rattle.resp_stream.specs.Parse.{values_of}
+use Rattle.resp_stream.specs.Parse.{parse_values, values_of}
+use Rattle.resp_stream.proofs.Onward.{GoesOn}
 use Rattle.serial_model.specs.declared.history.Limits.{Limits}
 use Rattle.shared_cache.specs.declared.log.Wire.TheVariants.{Main}
 use Rattle.shared_cache.specs.Laws.{gots}
@@ -27,12 +28,11 @@ use Rattle.world_run.specs.World.{on_links}
 use Rattle.world_run.proofs.Below.{stands_step}
 use Rattle.world_run.proofs.Links.{step_moved}
 use Rattle.world_run.proofs.Members.{MemberPart, LinkGrows, meet_of, member_grown}
-use Rattle.world_run.proofs.Readings.{ValuesOn}
 
 -- while its link has not ended, a client got all values in what its end has read
 pub record ReadsOn (read : List ℕ) (m : MemberState) : Type 0 where
   pub gots_are : map tree_of (gots Main m.state.past) ≡ values_of read
-  pub reading : ValuesOn read m.reader
+  pub reading : GoesOn parse_values read m.reader
 
 abbrev pub Reads : List ℕ → MemberState → Type 0
 Reads read m = is_ended m.state.setup.mode Main m.state.past ≡ false → ReadsOn read m

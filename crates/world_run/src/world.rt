@@ -7,9 +7,9 @@ ghost use Rattle.server_links.specs.LinkEvent.{Over};
 ghost use Rattle.server_links.specs.LinksState.{AreApart, names};
 ghost use Rattle.server_links.specs.Outcome.{Gives};
 ghost use Rattle.world_run.specs.World.{StepGives, flow_at, is_served, is_taken};
-ghost use Rattle.world_run.specs.World.{links_step};
+ghost use Rattle.world_run.specs.World.{links_step, setup_by};
 ghost use Rattle.world_run.specs.WorldState.{IsOver, client_named, client_of_link, data_link};
-ghost use Rattle.world_run.specs.WorldState.{start};
+ghost use Rattle.world_run.specs.WorldState.{fresh_member, start};
 
 use super::living::Living;
 use super::member::Member;
@@ -185,10 +185,27 @@ impl World {
             return Err(WorldFault::NameTaken);
         }
         // the client comes last: each way out lets go of all that is there
+        let member = self.fresh_member(name, mode, capacity)?;
+        self.members.reserve(1)?;
+        self.links.raw(member.link(), lines)?;
+        self.members.push_reserved(member);
+        Ok(())
+    }
+
+    // A client whose log is empty, at the place of the next link.
+    fn fresh_member(
+        &self,
+        name: &Octets,
+        mode: &ClientMode,
+        capacity: u64,
+    ) -> Result<Member, NoMemory>
+        requires mode { is_served mode.now ≡ true }
+        requires capacity { (0 < capacity) × (capacity ≤ 1000000) }
+        ensures { IfOk result (λ m. m ≡ fresh_member name.now (length self.now.links.links)
+            (setup_by self.now mode.now capacity)) }
+    {
         let link = data_link(self.alloc, name)?;
         let called = name.copy()?;
-        let reached = link.copy()?;
-        self.members.reserve(1)?;
         let mode = ClientMode {
             shape: Shape::Single,
             proto: Proto::Three,
@@ -197,10 +214,8 @@ impl World {
         };
         let state = ClientState::new(self.alloc, mode, capacity, self.links.limits().history_max)?;
         let place = self.links.count();
-        let member = Member::new(self.alloc, called, reached, place, state);
-        self.links.raw(&link, lines)?;
-        self.members.push_reserved(member);
-        Ok(())
+        let member = Member::new(self.alloc, called, link, place, state);
+        Ok(member)
     }
 
     /// The client's end of a link puts what it has to send onto the way up.

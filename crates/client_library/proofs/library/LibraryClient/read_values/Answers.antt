@@ -1,6 +1,7 @@
 use Rattle.resp_value.specs.ValueTree.{tree_of}
+use Rattle.resp_stream.proofs.Values.{value_gives_at}
 use Rattle.client_library.proofs.Reading.{getting_cut, getting_ends, getting_more, getting_none}
-use Rattle.client_library.proofs.Reading.{getting_told, gives_at, reads_less}
+use Rattle.client_library.proofs.Reading.{getting_told, reads_less}
 use Rattle.client_library.proofs.library.LibraryClient.read_values.Goals as goal
 
 pub values-init : goal.values-init
@@ -10,13 +11,13 @@ values-init c =
 
 pub values-smaller : goal.values-smaller
 values-smaller c =
-    let g = gives_at _ _ _ _ c.in-Ok-Some.ensures.gives c.in-Ok-Some.field-0-is in
+    let g = value_gives_at _ _ _ _ c.in-Ok-Some.ensures.gives c.in-Ok-Some.field-0-is in
     reads_less c.values.self-inside.reader c.next_value.new.self (tree_of c.in-Ok-Some.value) g.0
 
 pub values-preserved : goal.values-preserved
 values-preserved c =
     let i = c.values.self-inside in
-    let g = gives_at _ _ _ _ c.in-Ok-Some.ensures.gives c.in-Ok-Some.field-0-is in
+    let g = value_gives_at _ _ _ _ c.in-Ok-Some.ensures.gives c.in-Ok-Some.field-0-is in
     getting_more c.args.self.now i.state i.reader c.values.invariant c.next_value.new.self
     c.in-Ok-Some.value g.0 g.1 c.get.new.state c.in-Ok.ensures.ok
     (c.get.ensures.legal c.values.invariant.legal)
@@ -36,7 +37,7 @@ invariant_of-self-in-Ok-None c = c.values.invariant.legal
 pub returns-in-Ok-None : goal.returns-in-Ok-None
 returns-in-Ok-None c =
     let i = c.values.self-inside in
-    let g = gives_at _ _ _ _ c.in-Ok-None.ensures.gives c.in-Ok-None.field-0-is in
+    let g = value_gives_at _ _ _ _ c.in-Ok-None.ensures.gives c.in-Ok-None.field-0-is in
     getting_ends c.args.self.now i.state i.reader c.values.invariant c.next_value.new.self g.0 g.1
 
 pub invariant_of-self-in-Err : goal.invariant_of-self-in-Err

@@ -3,8 +3,10 @@ use Rattle.std.proofs.lemmas.Result.{err_from_is_err_and}
 use Rattle.resp_stream.specs.Stream.{Stream}
 use Rattle.resp_stream.specs.Readers.{RequestGives}
 use Rattle.server_links.specs.Session.{session}
-use Rattle.server_links.proofs.Serving.{reads_none, reads_more, reads_stop, reads_short, ends_more}
-use Rattle.server_links.proofs.Serving.{ends_bad, reads_less}
+use Rattle.server_links.specs.Moves.{run_requests}
+use Rattle.server_links.proofs.Items.{ends_bad, ends_more, reads_short, reads_stop}
+use Rattle.server_links.proofs.Serving.{reads_less, reads_more, reads_none, requests}
+use Rattle.server_links.proofs.Serving.{requests_run}
 use Rattle.server_links.proofs.link.Link.run_requests.Goals as goal
 
 gives_at : (old new : Stream) (r s : Option _) → RequestGives old new (Ok r) → r ≡ s
@@ -27,33 +29,40 @@ requests-preserved c =
 
 pub returns-in_err-run_one-in-Ok-Some-clause-gives :
     goal.returns-in_err-run_one-in-Ok-Some-clause-gives
+unfolding run_requests
 returns-in_err-run_one-in-Ok-Some-clause-gives c =
     let g = gives_at _ _ _ _ c.in-Ok-Some.ensures.gives c.in-Ok-Some.field-0-is in
     let p = err_from_is_err_and c.from_residual.result c.from_residual.ensures.1 in
-    rw p.1 (rw p.2 (reads_stop _ _ _ _ c.requests.invariant c.in-Ok-Some.words
-    c.next_request.new.self g.0 g.1 _ _ _ c.in_err-run_one-in-Ok-Some.ensures))
+    rw p.1 (rw p.2 (reads_stop requests requests_run _ _ _ _ c.requests.invariant.reads
+    c.in-Ok-Some.words c.next_request.new.self g.0 g.1 _ _ _
+    c.in_err-run_one-in-Ok-Some.ensures))
 
 pub returns-in-Ok-None-clause-gives : goal.returns-in-Ok-None-clause-gives
+unfolding run_requests
 returns-in-Ok-None-clause-gives c =
     let g = gives_at _ _ _ _ c.in-Ok-None.ensures.gives c.in-Ok-None.field-0-is in
-    (ends_more _ _ _ _ c.requests.invariant c.next_request.new.self g.0 g.1).0
+    (ends_more requests requests_run _ _ _ _ c.requests.invariant.reads c.next_request.new.self
+    g.0 g.1).0
 
 pub returns-in-Ok-None-clause-fault : goal.returns-in-Ok-None-clause-fault
 returns-in-Ok-None-clause-fault c =
     let g = gives_at _ _ _ _ c.in-Ok-None.ensures.gives c.in-Ok-None.field-0-is in
-    (ends_more _ _ _ _ c.requests.invariant c.next_request.new.self g.0 g.1).1
+    (ends_more requests requests_run _ _ _ _ c.requests.invariant.reads c.next_request.new.self
+    g.0 g.1).1
 
 pub returns-in-Some-clause-gives : goal.returns-in-Some-clause-gives
+unfolding run_requests
 returns-in-Some-clause-gives c =
-    (ends_bad _ _ _ _ c.requests.invariant c.next_request.new.self c.in-Err.fault c.in-Some.place
-    c.in-Err.ensures.gives c.in-Some.ensures).0
+    (ends_bad requests requests_run _ _ _ _ c.requests.invariant.reads c.next_request.new.self
+    c.in-Err.fault c.in-Some.place c.in-Err.ensures.gives c.in-Some.ensures).0
 
 pub returns-in-Some-clause-fault : goal.returns-in-Some-clause-fault
 returns-in-Some-clause-fault c =
-    (ends_bad _ _ _ _ c.requests.invariant c.next_request.new.self c.in-Err.fault c.in-Some.place
-    c.in-Err.ensures.gives c.in-Some.ensures).1
+    (ends_bad requests requests_run _ _ _ _ c.requests.invariant.reads c.next_request.new.self
+    c.in-Err.fault c.in-Some.place c.in-Err.ensures.gives c.in-Some.ensures).1
 
 pub returns-in-None-clause-gives : goal.returns-in-None-clause-gives
+unfolding run_requests
 returns-in-None-clause-gives c =
-    reads_short _ _ _ _ c.requests.invariant c.next_request.new.self c.in-Err.fault
-    c.in-Err.ensures.gives c.in-None.ensures
+    reads_short requests requests_run _ _ _ _ c.requests.invariant.reads c.next_request.new.self
+    c.in-Err.fault c.in-Err.ensures.gives c.in-None.ensures

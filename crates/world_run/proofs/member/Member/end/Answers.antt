@@ -29,13 +29,6 @@ pub returns : goal.returns
 returns c =
     let i = c.self.inside in
     let old = c.args.self.now in
-    let m : MemberState = record {
-      name = i.name;
-      link = i.link;
-      place = i.place;
-      state = i.state;
-      reader = i.reader;
-    } in
     let new : MemberState = record {
       name = i.name;
       link = i.link;
@@ -43,8 +36,8 @@ returns c =
       state = c.turn.new.state;
       reader = i.reader;
     } in
-    let like = turned_like m old c.turn.new.state c.self.view_is c.turn.ensures.setup in
-    let is = step_like m old (call.End Main) c.in-Ok.field-0 new.state.past c.self.view_is
+    let like = turned_like _ old c.turn.new.state c.self.view_is c.turn.ensures.setup in
+    let is = step_like _ old (call.End Main) c.in-Ok.field-0 new.state.past c.self.view_is
     c.in-Ok.ensures.step in
     let none = end_fault i.state.setup i.state.past new.state.past c.in-Ok.field-0
     c.in-Ok.ensures.step in

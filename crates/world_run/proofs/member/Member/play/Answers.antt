@@ -4,15 +4,17 @@ use Rattle.shared_cache.specs.declared.log.Wire.TheVariants.{Main}
 use Rattle.shared_cache.specs.ClientFields.{Client, IsServed}
 use Rattle.shared_cache.specs.Held.{Setup}
 use Rattle.shared_cache.specs.Laws.{gots}
-use Rattle.shared_cache.specs.Steps.{ClientTurn, client_step}
+use Rattle.shared_cache.specs.Steps.{ClientTurn}
 use Rattle.server_links.specs.declared.fault.WorldFault.TheVariants.{NoMemory}
 use Rattle.server_links.specs.Outcome.{Stops}
 use Rattle.world_run.specs.ClientMoves.{turn}
 use Rattle.world_run.specs.Members.{seat}
 use Rattle.world_run.specs.WorldState.{MemberState}
 use Rattle.world_run.specs.MemberTurns.{Turned}
-use Rattle.world_run.proofs.Answering.{gots_kept, turn_before, turn_stops}
+use Rattle.world_run.proofs.Answering.{gots_kept, step_like, turn_before, turn_stops}
+use Rattle.world_run.proofs.Answering.{turned_like}
 use Rattle.world_run.proofs.member.Member.play.Goals as goal
+use Rattle.world_run.proofs.member.Member.play.Goals.{In_ok-reply}
 
 pub returns-in_err-reply : goal.returns-in_err-reply
 returns-in_err-reply c =
@@ -29,8 +31,9 @@ returns-in_err-reply c =
     subst (λ (m : MemberState). Stops (turn c.args.call (seat links c.args.self.now)) lines NoMemory
     (seat links m) lines) (sym same) (turn_before (seat links c.args.self.now) c.args.call lines)))
 
-pub invariant_of-self-in-Some : goal.invariant_of-self-in-Some
-invariant_of-self-in-Some c =
+kept : (c : In_ok-reply) → IsServed c.turn.new.state.setup.mode
+    × (c.self.inside.got ≡ length (gots Main c.turn.new.state.past))
+kept c =
     let i = c.self.inside in (
       subst (λ (x : Setup). IsServed x.mode) (sym c.turn.ensures.setup) c.self.invariant.0,
       c.self.invariant.1
@@ -38,6 +41,9 @@ invariant_of-self-in-Some c =
           (sym (ap (λ (t : ClientTurn). gots Main t.past) (sym c.in_ok-reply.ensures.step)
           ∙ gots_kept i.state.setup i.state.past c.args.call c.requires.no_value)),
     )
+
+pub invariant_of-self-in-Some : goal.invariant_of-self-in-Some
+invariant_of-self-in-Some c = kept (goal.at.invariant_of-self-in-Some c).In_ok-reply
 
 pub returns-in-Some : goal.returns-in-Some
 returns-in-Some c =
@@ -50,25 +56,12 @@ returns-in-Some c =
       state = c.turn.new.state;
       reader = i.reader;
     } in
-    let like : Turned old new = record {
-      name = ap (λ (m : MemberState). m.name) c.self.view_is;
-      link = ap (λ (m : MemberState). m.link) c.self.view_is;
-      place = ap (λ (m : MemberState). m.place) c.self.view_is;
-      setup = c.turn.ensures.setup ∙ ap (λ (m : MemberState). m.state.setup) c.self.view_is;
-      reader = ap (λ (m : MemberState). m.reader) c.self.view_is;
-    } in
-    let is = subst (λ (m : MemberState). client_step m.state.setup m.state.past c.args.call
-    ≡ record { reply = c.in_ok-reply.reply; past = new.state.past }) c.self.view_is
+    let like : Turned old new =
+    turned_like _ old c.turn.new.state c.self.view_is c.turn.ensures.setup in
+    let is = step_like _ old c.args.call c.in_ok-reply.reply new.state.past c.self.view_is
     c.in_ok-reply.ensures.step in
     λ links lines. turn_stops (seat links old) c.args.call new c.in_ok-reply.reply like is lines
     c.in-Some.fault (sym c.fault_of.ensures ∙ c.in-Some.is)
 
 pub invariant_of-self-2 : goal.invariant_of-self-2
-invariant_of-self-2 c =
-    let i = c.self.inside in (
-      subst (λ (x : Setup). IsServed x.mode) (sym c.turn.ensures.setup) c.self.invariant.0,
-      c.self.invariant.1
-          ∙ ap length
-          (sym (ap (λ (t : ClientTurn). gots Main t.past) (sym c.in_ok-reply.ensures.step)
-          ∙ gots_kept i.state.setup i.state.past c.args.call c.requires.no_value)),
-    )
+invariant_of-self-2 c = kept (goal.at.invariant_of-self-2 c).In_ok-reply

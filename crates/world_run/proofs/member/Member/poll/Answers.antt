@@ -1,9 +1,6 @@
-use Rattle.std.proofs.Common.{◌++◌, ap, subst, sym, ◌∙◌}
+use Rattle.std.proofs.Common.{◌++◌, refl, ap, ◌∙◌}
 use Rattle.std.proofs.lemmas.Result.{err_from_is_err_and}
 use Rattle.shared_cache.specs.declared.log.ClientCall.TheVariants as call
-use Rattle.server_links.specs.declared.fault.WorldFault.TheVariants.{NoMemory}
-use Rattle.server_links.specs.Outcome.{Stops}
-use Rattle.world_run.specs.ClientMoves.{turn}
 use Rattle.world_run.specs.Members.{seat}
 use Rattle.world_run.proofs.Answering.{turn_after, turn_ends}
 use Rattle.world_run.proofs.Printing.{polled_before}
@@ -16,20 +13,17 @@ returns-in_err-line c =
     let p = err_from_is_err_and c.from_residual-in_err-line.result
     c.from_residual-in_err-line.ensures.1 in
     rw p.1 (rw p.2 (turn_after s (call.Poll c.args.number) c.play.new.self
-    c.in_ok-reply.reply g.0 g.1 c.args.lines.now))
+    c.in_ok-reply.reply g.0 g.1 c.args.lines.now c.args.lines.now refl))
 
 pub returns-in_err-put_line : goal.returns-in_err-put_line
 returns-in_err-put_line c =
     let s = seat c.args.links.now c.args.self.now in
-    let t = seat c.args.links.now c.play.new.self in
     let g = c.in_ok-reply.ensures in
     let p = err_from_is_err_and c.from_residual-in_err-put_line.result
     c.from_residual-in_err-put_line.ensures.1 in
-    rw p.1 (rw p.2
-    (subst (λ l. Stops (turn (call.Poll c.args.number) s) c.args.lines.now NoMemory t l)
-    (sym c.in_err-put_line.ensures.err)
-    (turn_after s (call.Poll c.args.number) c.play.new.self
-    c.in_ok-reply.reply g.0 g.1 c.args.lines.now)))
+    rw p.1 (rw p.2 (turn_after s (call.Poll c.args.number) c.play.new.self
+    c.in_ok-reply.reply g.0 g.1 c.args.lines.now c.put_line.new.lines
+    c.in_err-put_line.ensures.err))
 
 pub returns : goal.returns
 returns c =

@@ -4,14 +4,15 @@ use Rattle.server_links.specs.Outcome.{Gives}
 use Rattle.server_links.proofs.Outcomes.{gives_then, stops_first}
 use Rattle.world_run.specs.ClientMoves.{read_values, stop}
 use Rattle.world_run.specs.Members.{seat}
-use Rattle.world_run.proofs.Received.{read_all}
+use Rattle.server_links.proofs.Items.{read_all}
+use Rattle.world_run.proofs.Received.{values}
 use Rattle.world_run.proofs.member.Member.read_values.Goals as goal
 
 pub returns-in_err-fault : goal.returns-in_err-fault
 unfolding read_values
 returns-in_err-fault c =
     let p = err_from_is_err_and c.from_residual.result c.from_residual.ensures.1 in
-    rw p.1 (rw p.2 (stops_first (read_all (seat c.args.links.now c.args.self.now)) _
+    rw p.1 (rw p.2 (stops_first (read_all values (seat c.args.links.now c.args.self.now)) _
     c.args.lines.now _ _ _ c.in_err-fault.ensures.gives))
 
 pub returns : goal.returns
@@ -19,7 +20,7 @@ unfolding read_values
 returns c =
     let s = seat c.args.links.now c.args.self.now in
     let s1 = seat c.args.links.now c.got_all.new.self in
-    gives_then (read_all s) _ c.args.lines.now c.in_ok-fault.fault s1 c.got_all.new.lines
+    gives_then (read_all values s) _ c.args.lines.now c.in_ok-fault.fault s1 c.got_all.new.lines
     c.stop.result _ c.stop.new.lines c.in_ok-fault.ensures.gives
     (subst (λ p. Gives (stop p s1) c.got_all.new.lines c.stop.result
     (seat c.args.links.now c.stop.new.self) c.stop.new.lines)

@@ -1,4 +1,4 @@
-use Rattle.std.proofs.Common.{Some, take, append-nil, refl, ap, subst, sym, ◌∙◌}
+use Rattle.std.proofs.Common.{◌≡◌, Some, take, append-nil, refl, ap, subst, sym, ◌∙◌}
 use Rattle.std.proofs.lemmas.Result.{err_from_is_err_and}
 use Rattle.resp_stream.specs.Stream.{Stream, fed}
 use Rattle.server_links.specs.declared.fault.WorldFault.TheVariants.{NoMemory}
@@ -8,9 +8,10 @@ use Rattle.server_links.specs.LinksState.{at_place}
 use Rattle.server_links.specs.Outcome.{Stops}
 use Rattle.server_links.proofs.Outcomes.{after_stops, gives_then, stops_first, stops_here}
 use Rattle.world_run.specs.ClientMoves.{feed, hang_up, read_values, receive_bytes}
-use Rattle.world_run.specs.Members.{link_of, links_do, seat, with_reader}
+use Rattle.world_run.specs.Members.{Seat, link_of, links_do, seat, with_reader}
 use Rattle.world_run.specs.WorldState.{MemberState}
 use Rattle.world_run.proofs.member.Member.receive_bytes.Goals as goal
+use Rattle.world_run.proofs.member.Member.receive_bytes.Goals.{In_ok-feed}
 
 pub returns-in_err-over-clause-gives : goal.returns-in_err-over-clause-gives
 unfolding receive_bytes
@@ -63,80 +64,70 @@ returns-in_err-feed-clause-gives c =
     (stops_first (feed piece s1) _ c.over.new.lines NoMemory s1 c.over.new.lines
     (stops_here (feed piece s1) s1 c.over.new.lines refl)))))
 
+-- its reader was fed what was read
+abbrev fed_seat : In_ok-feed → Seat
+fed_seat c = seat c.over.new.links (record {
+  name = c.self.inside.name;
+  link = c.self.inside.link;
+  place = c.self.inside.place;
+  state = c.self.inside.state;
+  reader = c.feed.new.self;
+})
+
+is_fed : (c : In_ok-feed) → fed_seat c
+    ≡ with_reader (seat c.over.new.links c.args.self.now) (fed c.args.self.now.reader
+    (take c.args.count (link_of (seat c.args.links.now c.args.self.now)).down.bytes))
+is_fed c =
+    let n = c.args.count in
+    let now = c.args.self.now in
+    let view = c.self.view_is in
+    let read : c.feed.new.self
+    ≡ fed now.reader (take n (at_place c.args.links.now.links now.place).down.bytes) =
+    c.in_ok-feed.ensures.ok
+    ∙ ap (fed c.self.inside.reader) (c.as_slice.ensures ∙ c.in_ok-piece.ensures
+    ∙ ap (take n) c.in_flight.ensures)
+    ∙ ap (λ (m : MemberState). fed m.reader
+    (take n (at_place c.args.links.now.links m.place).down.bytes)) view in
+    λ k. seat c.over.new.links (record {
+      name = (view k).name;
+      link = (view k).link;
+      place = (view k).place;
+      state = (view k).state;
+      reader = read k;
+    })
+
 pub returns-in_err-read_values-clause-gives : goal.returns-in_err-read_values-clause-gives
 unfolding receive_bytes
 returns-in_err-read_values-clause-gives c =
-    let i = c.self.inside in
-    let ls = c.args.links.now in
-    let n = c.args.count in
-    let s = seat ls c.args.self.now in
+    let at = (goal.at.returns-in_err-read_values-clause-gives c).In_ok-feed in
+    let s = seat c.args.links.now c.args.self.now in
     let s1 = seat c.over.new.links c.args.self.now in
-    let recv = Over s.member.link (moves.Recv (Some n)) in
-    let piece = take n (link_of s).down.bytes in
-    let m1 : MemberState = record {
-      name = i.name;
-      link = i.link;
-      place = i.place;
-      state = i.state;
-      reader = c.feed.new.self;
-    } in
-    let read = c.in_ok-feed.ensures.ok
-    ∙ ap (fed i.reader) (c.as_slice.ensures ∙ c.in_ok-piece.ensures
-    ∙ ap (take n) c.in_flight.ensures)
-    ∙ ap (λ (m : MemberState). fed m.reader (take n (at_place ls.links m.place).down.bytes))
-    c.self.view_is in
-    let same = ap (λ (m : MemberState). seat c.over.new.links (record {
-      name = m.name;
-      link = m.link;
-      place = m.place;
-      state = m.state;
-      reader = c.feed.new.self;
-    })) c.self.view_is ∙ ap (λ r. with_reader s1 r) read in
+    let recv = Over s.member.link (moves.Recv (Some c.args.count)) in
+    let piece = take c.args.count (link_of s).down.bytes in
     let p = err_from_is_err_and c.from_residual-in_err-read_values.result
     c.from_residual-in_err-read_values.ensures.1 in
     rw p.1 (rw p.2
     (after_stops (links_do recv s) _ c.args.lines.now s1 c.over.new.lines _ _ _
     c.in_ok-over.ensures.gives
-    (after_stops (feed piece s1) _ c.over.new.lines (seat c.over.new.links m1) c.over.new.lines _ _
-    _ (refl, same, sym (append-nil c.over.new.lines))
-    (stops_first (read_values (seat c.over.new.links m1)) hang_up c.over.new.lines _ _ _
+    (after_stops (feed piece s1) _ c.over.new.lines (fed_seat at) c.over.new.lines _ _ _
+    (refl, is_fed at, sym (append-nil c.over.new.lines))
+    (stops_first (read_values (fed_seat at)) hang_up c.over.new.lines _ _ _
     c.in_err-read_values.ensures))))
 
 pub returns-clause-gives : goal.returns-clause-gives
 unfolding receive_bytes
 returns-clause-gives c =
-    let i = c.self.inside in
-    let ls = c.args.links.now in
-    let n = c.args.count in
-    let s = seat ls c.args.self.now in
+    let at = (goal.at.returns-clause-gives c).In_ok-feed in
+    let s = seat c.args.links.now c.args.self.now in
     let s1 = seat c.over.new.links c.args.self.now in
-    let recv = Over s.member.link (moves.Recv (Some n)) in
-    let piece = take n (link_of s).down.bytes in
-    let m1 : MemberState = record {
-      name = i.name;
-      link = i.link;
-      place = i.place;
-      state = i.state;
-      reader = c.feed.new.self;
-    } in
-    let read = c.in_ok-feed.ensures.ok
-    ∙ ap (fed i.reader) (c.as_slice.ensures ∙ c.in_ok-piece.ensures
-    ∙ ap (take n) c.in_flight.ensures)
-    ∙ ap (λ (m : MemberState). fed m.reader (take n (at_place ls.links m.place).down.bytes))
-    c.self.view_is in
-    let same = ap (λ (m : MemberState). seat c.over.new.links (record {
-      name = m.name;
-      link = m.link;
-      place = m.place;
-      state = m.state;
-      reader = c.feed.new.self;
-    })) c.self.view_is ∙ ap (λ r. with_reader s1 r) read in
-    let t1 = seat c.over.new.links m1 in
+    let recv = Over s.member.link (moves.Recv (Some c.args.count)) in
+    let piece = take c.args.count (link_of s).down.bytes in
+    let t1 = fed_seat at in
     let t2 = seat c.over.new.links c.read_values.new.self in
     let t = seat c.hang_up.new.links c.read_values.new.self in
     gives_then (links_do recv s) _ c.args.lines.now (tt {0}) s1 c.over.new.lines c.hang_up.result t
     c.hang_up.new.lines c.in_ok-over.ensures.gives
     (gives_then (feed piece s1) _ c.over.new.lines (tt {0}) t1 c.over.new.lines c.hang_up.result t
-    c.hang_up.new.lines (refl, same, sym (append-nil c.over.new.lines))
+    c.hang_up.new.lines (refl, is_fed at, sym (append-nil c.over.new.lines))
     (gives_then (read_values t1) hang_up c.over.new.lines (tt {0}) t2 c.read_values.new.lines
     c.hang_up.result t c.hang_up.new.lines c.in_ok-read_values.ensures c.hang_up.ensures.gives))

@@ -10,6 +10,7 @@ use Rattle.world_run.specs.Members.{seat}
 use Rattle.world_run.specs.WorldState.{MemberState}
 use Rattle.world_run.proofs.Printing.{show_ends, show_stops}
 use Rattle.world_run.proofs.member.Member.show.Goals as goal
+use Rattle.world_run.proofs.member.Member.show.Goals.{In_ok-put_held}
 
 pub returns-in_err-put_held : goal.returns-in_err-put_held
 returns-in_err-put_held c =
@@ -20,36 +21,35 @@ returns-in_err-put_held c =
     (subst (λ l. Stops (show s) c.args.lines.now NoMemory s l) (sym x.2)
     (show_stops s x.0 c.args.lines.now x.1)))
 
-pub returns-in_err-complete : goal.returns-in_err-complete
-returns-in_err-complete c =
+-- all that it holds was printed
+held_shown : (c : In_ok-put_held) → let s = seat c.args.links.now c.args.self.now in
+    Stops (show s) c.args.lines.now NoMemory s c.put_held.new.lines
+held_shown c =
     let m = c.args.self.now in
     let s = seat c.args.links.now m in
+    subst (λ l. Stops (show s) c.args.lines.now NoMemory s l) (sym c.in_ok-put_held.ensures.ok)
+    (show_stops s (length (held m.state.setup m.state.past)) c.args.lines.now (omega arith))
+
+pub returns-in_err-complete : goal.returns-in_err-complete
+returns-in_err-complete c =
     let p = err_from_is_err_and c.from_residual-in_err-complete.result
     c.from_residual-in_err-complete.ensures.1 in
-    rw p.1 (rw p.2
-    (subst (λ l. Stops (show s) c.args.lines.now NoMemory s l) (sym c.in_ok-put_held.ensures.ok)
-    (show_stops s (length (held m.state.setup m.state.past)) c.args.lines.now (omega arith))))
+    rw p.1 (rw p.2 (held_shown (goal.at.returns-in_err-complete c).In_ok-put_held))
 
 pub returns-in_err-copy : goal.returns-in_err-copy
 returns-in_err-copy c =
-    let m = c.args.self.now in
-    let s = seat c.args.links.now m in
     let p = err_from_is_err_and c.from_residual-in_err-copy.result
     c.from_residual-in_err-copy.ensures.1 in
-    rw p.1 (rw p.2
-    (subst (λ l. Stops (show s) c.args.lines.now NoMemory s l) (sym c.in_ok-put_held.ensures.ok)
-    (show_stops s (length (held m.state.setup m.state.past)) c.args.lines.now (omega arith))))
+    rw p.1 (rw p.2 (held_shown (goal.at.returns-in_err-copy c).In_ok-put_held))
 
 pub returns-in_err-push : goal.returns-in_err-push
 returns-in_err-push c =
-    let m = c.args.self.now in
-    let s = seat c.args.links.now m in
+    let s = seat c.args.links.now c.args.self.now in
     let p = err_from_is_err_and c.from_residual-in_err-push.result
     c.from_residual-in_err-push.ensures.1 in
     rw p.1 (rw p.2
-    (subst (λ l. Stops (show s) c.args.lines.now NoMemory s l)
-    (sym (c.in_err-push.ensures.err ∙ c.in_ok-put_held.ensures.ok))
-    (show_stops s (length (held m.state.setup m.state.past)) c.args.lines.now (omega arith))))
+    (subst (λ l. Stops (show s) c.args.lines.now NoMemory s l) (sym c.in_err-push.ensures.err)
+    (held_shown (goal.at.returns-in_err-push c).In_ok-put_held)))
 
 pub returns : goal.returns
 returns c =

@@ -66,13 +66,6 @@ pub returns-after-refused_fault : goal.returns-after-refused_fault
 returns-after-refused_fault c =
     let i = c.self.inside in
     let old = c.args.self.now in
-    let m : MemberState = record {
-      name = i.name;
-      link = i.link;
-      place = i.place;
-      state = i.state;
-      reader = i.reader;
-    } in
     let new : MemberState = record {
       name = i.name;
       link = i.link;
@@ -82,8 +75,8 @@ returns-after-refused_fault c =
     } in
     let v = c.args.value in
     let reply = Refused c.in-Refused.refusal in
-    let like = turned_like m old c.turn.new.state c.self.view_is c.turn.ensures.setup in
-    let is = step_like m old (call.Got Main v) reply new.state.past c.self.view_is
+    let like = turned_like _ old c.turn.new.state c.self.view_is c.turn.ensures.setup in
+    let is = step_like _ old (call.Got Main v) reply new.state.past c.self.view_is
     (subst (λ (r : ClientReply). client_step i.state.setup i.state.past (call.Got Main v)
     ≡ record { reply = r; past = c.turn.new.state.past }) c.in-Refused.is
     c.in_ok-turn.ensures.step) in

@@ -1,22 +1,12 @@
-use Rattle.std.proofs.Common.{◌≡◌, ◌++◌, [], ◌∷◌, true, false}
-use Rattle.std.proofs.Common.{Result, Ok, Err, length, sym, ap, subst, ◌∙◌}
+use Rattle.std.proofs.Common.{◌++◌, [], ◌∷◌, Ok, Err, refl, sym, ap, subst, ◌∙◌}
 use Rattle.std.proofs.lemmas.Result.{err_from_is_err_and}
-use Rattle.resp_stream.specs.Stream.{begun}
-use Rattle.shared_cache.specs.declared.log.ClientMode.{ClientMode}
-use Rattle.shared_cache.specs.ClientFields as fields
 use Rattle.script_text.specs.declared.event.Event.TheVariants as event
-use Rattle.server_links.specs.declared.fault.WorldFault.{WorldFault}
-use Rattle.server_links.specs.declared.fault.WorldFault.TheVariants.{NoMemory}
-use Rattle.server_links.specs.LinkEvent.{Raw}
-use Rattle.server_links.specs.LinkSteps as links
-use Rattle.server_links.specs.Outcome.{Stops}
-use Rattle.server_links.proofs.Outcomes.{Ends}
-use Rattle.serial_model.specs.declared.history.Limits.{Limits}
 use Rattle.world_run.specs.Members.{world}
-use Rattle.world_run.specs.World.{client_step, is_served, is_taken, setup_by, step}
-use Rattle.world_run.specs.WorldState.{AreOver, WorldState, data_link, fresh_member}
+use Rattle.world_run.specs.World.{StepGives, client_step, step}
+use Rattle.world_run.specs.WorldState.{AreOver}
 use Rattle.world_run.proofs.WorldCode as code
 use Rattle.world_run.proofs.world.World.client.Goals as goal
+use Rattle.world_run.proofs.world.World.client.Goals.{After-push_reserved, In_err-raw}
 
 pub returns-then-not-is_served : goal.returns-then-not-is_served
 unfolding step
@@ -35,162 +25,67 @@ returns-then-is_taken c =
     (sym c.is_served.ensures ∙ c.if-not-is_served.false)
     (sym c.is_taken.ensures ∙ c.if-is_taken.true))
 
-pub returns-in_err-link : goal.returns-in_err-link
-unfolding step
-returns-in_err-link c =
-    let p = err_from_is_err_and c.from_residual.result
-    c.from_residual.ensures.1 in
-    rw p.1 (rw p.2
-    (code.client_before c.args.name.now c.args.mode.now c.args.capacity c.args.self.now
-    (sym c.is_served.ensures ∙ c.if-not-is_served.false)
-    (sym c.is_taken.ensures ∙ c.if-is_taken.false) c.args.lines.now))
+pub fresh_member-requires-clause-mode : goal.fresh_member-requires-clause-mode
+fresh_member-requires-clause-mode c = sym c.is_served.ensures ∙ c.if-not-is_served.false
 
-pub returns-in_err-called : goal.returns-in_err-called
+pub returns-in_err-member : goal.returns-in_err-member
 unfolding step
-returns-in_err-called c =
-    let p = err_from_is_err_and c.from_residual-in_err-called.result
-    c.from_residual-in_err-called.ensures.1 in
+returns-in_err-member c =
+    let w = c.args.self.now in
+    let p = err_from_is_err_and c.from_residual.result c.from_residual.ensures.1 in
     rw p.1 (rw p.2
-    (code.client_before c.args.name.now c.args.mode.now c.args.capacity c.args.self.now
+    (code.client_before c.args.name.now c.args.mode.now c.args.capacity w
     (sym c.is_served.ensures ∙ c.if-not-is_served.false)
-    (sym c.is_taken.ensures ∙ c.if-is_taken.false) c.args.lines.now))
-
-pub returns-in_err-reached : goal.returns-in_err-reached
-unfolding step
-returns-in_err-reached c =
-    let p = err_from_is_err_and c.from_residual-in_err-reached.result
-    c.from_residual-in_err-reached.ensures.1 in
-    rw p.1 (rw p.2
-    (code.client_before c.args.name.now c.args.mode.now c.args.capacity c.args.self.now
-    (sym c.is_served.ensures ∙ c.if-not-is_served.false)
-    (sym c.is_taken.ensures ∙ c.if-is_taken.false) c.args.lines.now))
+    (sym c.is_taken.ensures ∙ c.if-is_taken.false) w refl c.args.lines.now w.members refl))
 
 pub returns-in_err-reserve : goal.returns-in_err-reserve
 unfolding step
 returns-in_err-reserve c =
     let i = c.self.inside in
-    let name = c.args.name.now in
-    let mode = c.args.mode.now in
-    let capacity = c.args.capacity in
-    let lines = c.args.lines.now in
-    let w = world i.links i.members.items in
-    let free = ap (is_taken name) c.self.view_is ∙ sym c.is_taken.ensures ∙ c.if-is_taken.false in
     let p = err_from_is_err_and c.from_residual-in_err-reserve.result
     c.from_residual-in_err-reserve.ensures.1 in
     rw p.1 (rw p.2
-    (subst (λ (v : WorldState). Stops (client_step name mode capacity v) lines NoMemory
-    (world i.links c.reserve.new.self.items) lines) c.self.view_is
-    (subst (λ ms. Stops (client_step name mode capacity w) lines NoMemory (world i.links ms) lines)
-    (sym c.reserve.ensures.items)
-    (code.client_before name mode capacity w
-    (sym c.is_served.ensures ∙ c.if-not-is_served.false) free lines))))
+    (code.client_before c.args.name.now c.args.mode.now c.args.capacity c.args.self.now
+    (sym c.is_served.ensures ∙ c.if-not-is_served.false)
+    (sym c.is_taken.ensures ∙ c.if-is_taken.false) (world i.links i.members.items) c.self.view_is
+    c.args.lines.now c.reserve.new.self.items c.reserve.ensures.items))
 
-pub returns-in_err-state : goal.returns-in_err-state
+-- its link was not made, or made
+stopped : (c : In_err-raw) → StepGives c.args.self.now
+    (event.Client c.args.name.now c.args.mode.now c.args.capacity) c.args.lines.now
+    (Err c.in_err-raw.field-0.0) (world c.raw.new.self c.reserve.new.self.items) c.raw.new.lines
 unfolding step
-returns-in_err-state c =
+stopped c =
     let i = c.self.inside in
-    let name = c.args.name.now in
-    let mode = c.args.mode.now in
-    let capacity = c.args.capacity in
-    let lines = c.args.lines.now in
-    let w = world i.links i.members.items in
-    let free = ap (is_taken name) c.self.view_is ∙ sym c.is_taken.ensures ∙ c.if-is_taken.false in
-    let p = err_from_is_err_and c.from_residual-in_err-state.result
-    c.from_residual-in_err-state.ensures.1 in
-    rw p.1 (rw p.2
-    (subst (λ (v : WorldState). Stops (client_step name mode capacity v) lines NoMemory
-    (world i.links c.reserve.new.self.items) lines) c.self.view_is
-    (subst (λ ms. Stops (client_step name mode capacity w) lines NoMemory (world i.links ms) lines)
-    (sym c.reserve.ensures.items)
-    (code.client_before name mode capacity w
-    (sym c.is_served.ensures ∙ c.if-not-is_served.false) free lines))))
+    code.client_stops c.args.name.now c.args.mode.now c.args.capacity c.args.self.now
+    (sym c.is_served.ensures ∙ c.if-not-is_served.false)
+    (sym c.is_taken.ensures ∙ c.if-is_taken.false) (world i.links i.members.items) c.self.view_is
+    c.args.lines.now c.reserve.new.self.items c.raw.new.self c.raw.new.lines c.in_ok-member.member
+    c.in_ok-member.ensures c.in_err-raw.field-0.0 c.reserve.ensures.items
+    (rw (← c.link.ensures) c.in_err-raw.ensures)
+
+made : (c : After-push_reserved) → StepGives c.args.self.now
+    (event.Client c.args.name.now c.args.mode.now c.args.capacity) c.args.lines.now
+    (Ok (tt {0})) (world c.raw.new.self c.push_reserved.new.self.items) c.raw.new.lines
+unfolding step
+made c =
+    let i = c.self.inside in
+    code.client_ends c.args.name.now c.args.mode.now c.args.capacity c.args.self.now
+    (sym c.is_served.ensures ∙ c.if-not-is_served.false)
+    (sym c.is_taken.ensures ∙ c.if-is_taken.false) (world i.links i.members.items) c.self.view_is
+    c.args.lines.now c.push_reserved.new.self.items c.raw.new.self c.raw.new.lines
+    c.in_ok-member.member c.in_ok-member.ensures
+    (c.push_reserved.ensures.items ∙ ap (λ l. l ++ c.in_ok-member.member ∷ [])
+    c.reserve.ensures.items) (rw (← c.link.ensures) c.in_ok-raw.ensures)
 
 pub returns-in_err-raw : goal.returns-in_err-raw
-unfolding step
 returns-in_err-raw c =
-    let i = c.self.inside in
-    let name = c.args.name.now in
-    let mode = c.args.mode.now in
-    let capacity = c.args.capacity in
-    let lines = c.args.lines.now in
-    let fault = c.in_err-raw.field-0.0 in
-    let w = world i.links i.members.items in
-    let free = ap (is_taken name) c.self.view_is ∙ sym c.is_taken.ensures ∙ c.if-is_taken.false in
     let p = err_from_is_err_and c.from_residual-in_err-raw.result
     c.from_residual-in_err-raw.ensures.1 in
-    rw p.1 (rw p.2
-    (subst (λ (v : WorldState). Stops (client_step name mode capacity v) lines fault
-    (world c.raw.new.self c.reserve.new.self.items) c.raw.new.lines) c.self.view_is
-    (subst (λ ms. Stops (client_step name mode capacity w) lines fault
-    (world c.raw.new.self ms) c.raw.new.lines) (sym c.reserve.ensures.items)
-    (code.client_stops name mode capacity w
-    (sym c.is_served.ensures ∙ c.if-not-is_served.false) free lines c.raw.new.self c.raw.new.lines
-    fault
-    (subst (λ l. Stops (links.step i.links (Raw l)) lines fault c.raw.new.self c.raw.new.lines)
-    c.in_ok-link.ensures c.in_err-raw.ensures)))))
+    rw p.1 (rw p.2 (stopped (goal.at.returns-in_err-raw c).In_err-raw))
 
 pub returns : goal.returns
-unfolding step
-returns c =
-    let i = c.self.inside in
-    let name = c.args.name.now in
-    let mode = c.args.mode.now in
-    let capacity = c.args.capacity in
-    let lines = c.args.lines.now in
-    let w = world i.links i.members.items in
-    let served = sym c.is_served.ensures ∙ c.if-not-is_served.false in
-    let free = ap (is_taken name) c.self.view_is ∙ sym c.is_taken.ensures ∙ c.if-is_taken.false in
-    let m = c.new-member.result in
-    let setup = c.in_ok-state.ensures
-    ∙ ap (λ (l : Limits). record {
-      setup = record {
-        mode = code.one_mode;
-        capacity = capacity;
-        log_max = l.history_max;
-      };
-      past = [];
-    }) c.limits.ensures.same
-    ∙ ap (λ (k : ClientMode). record { setup = setup_by w k capacity; past = [] })
-    (sym (code.served_mode mode served)) in
-    let is : m ≡ fresh_member name (length i.links.links) (setup_by w mode capacity) =
-    c.new-member.ensures
-    ∙ ap (λ n. record {
-      name = n;
-      link = c.in_ok-reached.reached;
-      place = c.count-place.result;
-      state = c.in_ok-state.state;
-      reader = begun;
-    }) c.in_ok-called.ensures
-    ∙ ap (λ l. record {
-      name = name;
-      link = l;
-      place = c.count-place.result;
-      state = c.in_ok-state.state;
-      reader = begun;
-    }) (c.in_ok-reached.ensures ∙ c.in_ok-link.ensures)
-    ∙ ap (λ p. record {
-      name = name;
-      link = data_link name;
-      place = p;
-      state = c.in_ok-state.state;
-      reader = begun;
-    }) c.count-place.ensures.count
-    ∙ ap (λ (s : fields.Client). record {
-      name = name;
-      link = data_link name;
-      place = length i.links.links;
-      state = s;
-      reader = begun;
-    }) setup in
-    let more : c.push_reserved.new.self.items ≡ i.members.items ++ m ∷ [] =
-    c.push_reserved.ensures.items ∙ ap (λ l. l ++ m ∷ []) c.reserve.ensures.items in
-    subst (λ (v : WorldState). Ends (client_step name mode capacity v) lines
-    (world c.raw.new.self c.push_reserved.new.self.items) c.raw.new.lines) c.self.view_is
-    (subst (λ ms. Ends (client_step name mode capacity w) lines (world c.raw.new.self ms)
-    c.raw.new.lines) (sym more)
-    (code.client_ends name mode capacity w served free lines c.raw.new.self c.raw.new.lines m is
-    (subst (λ l. Ends (links.step i.links (Raw l)) lines c.raw.new.self c.raw.new.lines)
-    c.in_ok-link.ensures c.in_ok-raw.ensures)))
+returns c = made (goal.at.returns c).After-push_reserved
 
 pub invariant_of-self : goal.invariant_of-self
 invariant_of-self c =
@@ -198,94 +93,14 @@ invariant_of-self c =
     subst (λ ms. AreOver i.living (world i.links ms)) (sym c.reserve.ensures.items)
     c.self.invariant
 
-pub invariant_of-self-in_err-state : goal.invariant_of-self-in_err-state
-invariant_of-self-in_err-state c =
-    let i = c.self.inside in
-    subst (λ ms. AreOver i.living (world i.links ms)) (sym c.reserve.ensures.items)
-    c.self.invariant
-
 pub invariant_of-self-in_err-raw : goal.invariant_of-self-in_err-raw
-unfolding step
 invariant_of-self-in_err-raw c =
-    let i = c.self.inside in
-    let name = c.args.name.now in
-    let mode = c.args.mode.now in
-    let capacity = c.args.capacity in
-    let lines = c.args.lines.now in
-    let fault = c.in_err-raw.field-0.0 in
-    let w = world i.links i.members.items in
-    let free = ap (is_taken name) c.self.view_is ∙ sym c.is_taken.ensures ∙ c.if-is_taken.false in
-    let r : Result (Unit {0}) WorldFault = Err fault in
-    code.over_step i.living (event.Client name mode capacity) w
-    (world c.raw.new.self c.reserve.new.self.items) lines r c.raw.new.lines
-    (subst (λ ms. Stops (client_step name mode capacity w) lines fault
-    (world c.raw.new.self ms) c.raw.new.lines) (sym c.reserve.ensures.items)
-    (code.client_stops name mode capacity w
-    (sym c.is_served.ensures ∙ c.if-not-is_served.false) free lines c.raw.new.self c.raw.new.lines
-    fault
-    (subst (λ l. Stops (links.step i.links (Raw l)) lines fault c.raw.new.self c.raw.new.lines)
-    c.in_ok-link.ensures c.in_err-raw.ensures))) c.self.invariant
+    code.still_over _ (event.Client c.args.name.now c.args.mode.now c.args.capacity) _ _ _
+    c.args.lines.now (Err c.in_err-raw.field-0.0) c.raw.new.lines c.self.view_is
+    (stopped (goal.at.invariant_of-self-in_err-raw c).In_err-raw) c.self.invariant
 
 pub invariant_of-self-2 : goal.invariant_of-self-2
-unfolding step
 invariant_of-self-2 c =
-    let i = c.self.inside in
-    let name = c.args.name.now in
-    let mode = c.args.mode.now in
-    let capacity = c.args.capacity in
-    let lines = c.args.lines.now in
-    let w = world i.links i.members.items in
-    let served = sym c.is_served.ensures ∙ c.if-not-is_served.false in
-    let free = ap (is_taken name) c.self.view_is ∙ sym c.is_taken.ensures ∙ c.if-is_taken.false in
-    let m = c.new-member.result in
-    let setup = c.in_ok-state.ensures
-    ∙ ap (λ (l : Limits). record {
-      setup = record {
-        mode = code.one_mode;
-        capacity = capacity;
-        log_max = l.history_max;
-      };
-      past = [];
-    }) c.limits.ensures.same
-    ∙ ap (λ (k : ClientMode). record { setup = setup_by w k capacity; past = [] })
-    (sym (code.served_mode mode served)) in
-    let is : m ≡ fresh_member name (length i.links.links) (setup_by w mode capacity) =
-    c.new-member.ensures
-    ∙ ap (λ n. record {
-      name = n;
-      link = c.in_ok-reached.reached;
-      place = c.count-place.result;
-      state = c.in_ok-state.state;
-      reader = begun;
-    }) c.in_ok-called.ensures
-    ∙ ap (λ l. record {
-      name = name;
-      link = l;
-      place = c.count-place.result;
-      state = c.in_ok-state.state;
-      reader = begun;
-    }) (c.in_ok-reached.ensures ∙ c.in_ok-link.ensures)
-    ∙ ap (λ p. record {
-      name = name;
-      link = data_link name;
-      place = p;
-      state = c.in_ok-state.state;
-      reader = begun;
-    }) c.count-place.ensures.count
-    ∙ ap (λ (s : fields.Client). record {
-      name = name;
-      link = data_link name;
-      place = length i.links.links;
-      state = s;
-      reader = begun;
-    }) setup in
-    let more : c.push_reserved.new.self.items ≡ i.members.items ++ m ∷ [] =
-    c.push_reserved.ensures.items ∙ ap (λ l. l ++ m ∷ []) c.reserve.ensures.items in
-    let r : Result (Unit {0}) WorldFault = Ok (tt {0}) in
-    code.over_step i.living (event.Client name mode capacity) w
-    (world c.raw.new.self c.push_reserved.new.self.items) lines r c.raw.new.lines
-    (subst (λ ms. Ends (client_step name mode capacity w) lines (world c.raw.new.self ms)
-    c.raw.new.lines) (sym more)
-    (code.client_ends name mode capacity w served free lines c.raw.new.self c.raw.new.lines m is
-    (subst (λ l. Ends (links.step i.links (Raw l)) lines c.raw.new.self c.raw.new.lines)
-    c.in_ok-link.ensures c.in_ok-raw.ensures))) c.self.invariant
+    code.still_over _ (event.Client c.args.name.now c.args.mode.now c.args.capacity) _ _ _
+    c.args.lines.now (Ok (tt {0})) c.raw.new.lines c.self.view_is
+    (made (goal.at.invariant_of-self-2 c).After-push_reserved) c.self.invariant

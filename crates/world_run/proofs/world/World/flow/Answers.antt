@@ -1,70 +1,51 @@
-use Rattle.std.proofs.Common.{slice_set, refl, sym, ap, subst, ◌∙◌}
+use Rattle.std.proofs.Common.{slice_set, refl, sym, ◌∙◌}
 use Rattle.script_text.specs.declared.event.Event.TheVariants as event
 use Rattle.server_links.specs.declared.link.LinkMove.TheVariants as moves
 use Rattle.server_links.specs.LinkEvent.{Over}
 use Rattle.world_run.specs.ClientMoves as client
 use Rattle.world_run.specs.Members.{world}
-use Rattle.world_run.specs.World.{StepGives, flow_step}
-use Rattle.world_run.specs.World.{step}
-use Rattle.world_run.specs.WorldState.{WorldState, client_of_link}
+use Rattle.world_run.specs.World.{StepGives, flow_step, step}
 use Rattle.world_run.proofs.WorldCode as code
 use Rattle.world_run.proofs.world.World.flow.Goals as goal
+use Rattle.world_run.proofs.world.World.flow.Goals.{After-flow, After-play}
+
+gave : (c : After-flow) → StepGives c.args.self.now (event.Flow c.args.name.now)
+    c.args.lines.now c.flow.result (world c.flow.new.links
+    (slice_set c.self.inside.members.items c.in-Some.at c.flow.new.self)) c.flow.new.lines
+unfolding step
+gave c =
+    let i = c.self.inside in
+    let w = c.args.self.now in
+    code.owned (λ o. flow_step o c.args.name.now w) c.args.name.now client.flow w
+    i.links c.flow.new.links i.members.items c.in-Some.at c.index_mut.result.now c.flow.new.self
+    c.args.lines.now c.flow.result c.flow.new.lines c.self.view_is
+    (sym c.client_of_link.ensures ∙ c.in-Some.is) refl c.index_mut.ensures.value
+    c.flow.ensures.gives
+
+played : (c : After-play) → StepGives c.args.self.now (event.Flow c.args.name.now)
+    c.args.lines.now c.play.result (world c.play.new.self c.self.inside.members.items)
+    c.play.new.lines
+unfolding step
+played c =
+    let i = c.self.inside in
+    let w = c.args.self.now in
+    code.unowned (λ o. flow_step o c.args.name.now w) c.args.name.now
+    (Over c.args.name.now moves.Flow) w i.links c.play.new.self i.members.items c.args.lines.now
+    c.play.result c.play.new.lines c.self.view_is (sym c.client_of_link.ensures ∙ c.in-None.is) refl
+    c.play.ensures
 
 pub returns-in-Some : goal.returns-in-Some
-unfolding step
-returns-in-Some c =
-    let i = c.self.inside in
-    let w = world i.links i.members.items in
-    let name = c.args.name.now in
-    let owner = ap (λ (v : WorldState). client_of_link name v.members) c.self.view_is
-    ∙ sym c.client_of_link.ensures ∙ c.in-Some.is in
-    subst (λ (v : WorldState). StepGives v (event.Flow name) c.args.lines.now c.flow.result
-    (world c.flow.new.links (slice_set i.members.items c.in-Some.at c.flow.new.self))
-    c.flow.new.lines) c.self.view_is
-    (code.owned (λ o. flow_step o name w) name client.flow
-    i.links c.flow.new.links i.members.items c.in-Some.at c.index_mut.result.now
-    c.flow.new.self c.args.lines.now c.flow.result c.flow.new.lines owner refl
-    c.index_mut.ensures.value c.flow.ensures.gives)
+returns-in-Some c = gave (goal.at.returns-in-Some c).After-flow
 
 pub returns-in-None : goal.returns-in-None
-unfolding step
-returns-in-None c =
-    let i = c.self.inside in
-    let w = world i.links i.members.items in
-    let name = c.args.name.now in
-    let none = ap (λ (v : WorldState). client_of_link name v.members) c.self.view_is
-    ∙ sym c.client_of_link.ensures ∙ c.in-None.is in
-    subst (λ (v : WorldState). StepGives v (event.Flow name) c.args.lines.now c.play.result
-    (world c.play.new.self i.members.items) c.play.new.lines) c.self.view_is
-    (code.unowned (λ o. flow_step o name w) name (Over name moves.Flow) i.links c.play.new.self
-    i.members.items c.args.lines.now c.play.result c.play.new.lines none refl c.play.ensures)
+returns-in-None c = played (goal.at.returns-in-None c).After-play
 
 pub invariant_of-self : goal.invariant_of-self
-unfolding step
 invariant_of-self c =
-    let i = c.self.inside in
-    let w = world i.links i.members.items in
-    let name = c.args.name.now in
-    let owner = ap (λ (v : WorldState). client_of_link name v.members) c.self.view_is
-    ∙ sym c.client_of_link.ensures ∙ c.in-Some.is in
-    code.over_step i.living (event.Flow name) w
-    (world c.flow.new.links (slice_set i.members.items c.in-Some.at c.flow.new.self))
-    c.args.lines.now c.flow.result c.flow.new.lines
-    (code.owned (λ o. flow_step o name w) name client.flow
-    i.links c.flow.new.links i.members.items c.in-Some.at c.index_mut.result.now
-    c.flow.new.self c.args.lines.now c.flow.result c.flow.new.lines owner refl
-    c.index_mut.ensures.value c.flow.ensures.gives) c.self.invariant
+    code.still_over _ _ _ _ _ _ _ _ c.self.view_is
+    (gave (goal.at.invariant_of-self c).After-flow) c.self.invariant
 
 pub invariant_of-self-in-None : goal.invariant_of-self-in-None
-unfolding step
 invariant_of-self-in-None c =
-    let i = c.self.inside in
-    let w = world i.links i.members.items in
-    let name = c.args.name.now in
-    let none = ap (λ (v : WorldState). client_of_link name v.members) c.self.view_is
-    ∙ sym c.client_of_link.ensures ∙ c.in-None.is in
-    code.over_step i.living (event.Flow name) w (world c.play.new.self i.members.items)
-    c.args.lines.now c.play.result c.play.new.lines
-    (code.unowned (λ o. flow_step o name w) name (Over name moves.Flow) i.links
-    c.play.new.self i.members.items c.args.lines.now c.play.result c.play.new.lines none refl
-    c.play.ensures) c.self.invariant
+    code.still_over _ _ _ _ _ _ _ _ c.self.view_is
+    (played (goal.at.invariant_of-self-in-None c).After-play) c.self.invariant

@@ -10,9 +10,13 @@ use Rattle.world_run.specs.WorldState.{WorldState, client_of_link}
 use Rattle.world_run.proofs.Linked.{over_kept}
 use Rattle.world_run.proofs.WorldCode as code
 use Rattle.world_run.proofs.world.World.flow_at.Goals as goal
+use Rattle.world_run.proofs.world.World.flow_at.Goals.{After-flow, After-play_at}
 
-pub returns-in-Some-clause-gives : goal.returns-in-Some-clause-gives
-returns-in-Some-clause-gives c =
+gave : (c : After-flow) → let i = c.self.inside in
+    Gives (flow_at c.args.at (world i.links i.members.items)) c.args.lines.now c.flow.result
+    (world c.flow.new.links (slice_set i.members.items c.in-Some.client c.flow.new.self))
+    c.flow.new.lines
+gave c =
     let i = c.self.inside in
     let ms = i.members.items in
     let w = world i.links ms in
@@ -20,19 +24,14 @@ returns-in-Some-clause-gives c =
     let owner = ap (λ n. client_of_link n ms) (sym c.name_at.ensures)
     ∙ ap (λ (v : WorldState). client_of_link c.name_at.result.now v.members) c.self.view_is
     ∙ sym c.client_of_link.ensures ∙ c.in-Some.is in
-    subst (λ (v : WorldState). Gives (flow_at c.args.at v) c.args.lines.now c.flow.result
-    (world c.flow.new.links (slice_set ms c.in-Some.client c.flow.new.self)) c.flow.new.lines)
-    c.self.view_is
-    (code.owned (λ o. flow_step o name w) name client.flow i.links c.flow.new.links ms
+    code.owned (λ o. flow_step o name w) name client.flow w i.links c.flow.new.links ms
     c.in-Some.client c.index_mut.result.now c.flow.new.self c.args.lines.now c.flow.result
-    c.flow.new.lines owner refl c.index_mut.ensures.value c.flow.ensures.gives)
+    c.flow.new.lines refl owner refl c.index_mut.ensures.value c.flow.ensures.gives
 
-pub returns-in-Some-clause-count : goal.returns-in-Some-clause-count
-returns-in-Some-clause-count c =
-    c.flow.ensures.count ∙ ap (λ (v : WorldState). length v.links.links) c.self.view_is
-
-pub returns-in-None-clause-gives : goal.returns-in-None-clause-gives
-returns-in-None-clause-gives c =
+played : (c : After-play_at) → let i = c.self.inside in
+    Gives (flow_at c.args.at (world i.links i.members.items)) c.args.lines.now c.play_at.result
+    (world c.play_at.new.self i.members.items) c.play_at.new.lines
+played c =
     let i = c.self.inside in
     let ms = i.members.items in
     let w = world i.links ms in
@@ -40,10 +39,25 @@ returns-in-None-clause-gives c =
     let none = ap (λ n. client_of_link n ms) (sym c.name_at.ensures)
     ∙ ap (λ (v : WorldState). client_of_link c.name_at.result.now v.members) c.self.view_is
     ∙ sym c.client_of_link.ensures ∙ c.in-None.is in
+    code.unowned (λ o. flow_step o name w) name (Over name moves.Flow) w i.links c.play_at.new.self
+    ms c.args.lines.now c.play_at.result c.play_at.new.lines refl none refl c.play_at.ensures
+
+pub returns-in-Some-clause-gives : goal.returns-in-Some-clause-gives
+returns-in-Some-clause-gives c =
+    subst (λ (v : WorldState). Gives (flow_at c.args.at v) c.args.lines.now c.flow.result
+    (world c.flow.new.links (slice_set c.self.inside.members.items c.in-Some.client
+    c.flow.new.self)) c.flow.new.lines) c.self.view_is
+    (gave (goal.at.returns-in-Some-clause-gives c).After-flow)
+
+pub returns-in-Some-clause-count : goal.returns-in-Some-clause-count
+returns-in-Some-clause-count c =
+    c.flow.ensures.count ∙ ap (λ (v : WorldState). length v.links.links) c.self.view_is
+
+pub returns-in-None-clause-gives : goal.returns-in-None-clause-gives
+returns-in-None-clause-gives c =
     subst (λ (v : WorldState). Gives (flow_at c.args.at v) c.args.lines.now c.play_at.result
-    (world c.play_at.new.self ms) c.play_at.new.lines) c.self.view_is
-    (code.unowned (λ o. flow_step o name w) name (Over name moves.Flow) i.links c.play_at.new.self
-    ms c.args.lines.now c.play_at.result c.play_at.new.lines none refl c.play_at.ensures)
+    (world c.play_at.new.self c.self.inside.members.items) c.play_at.new.lines) c.self.view_is
+    (played (goal.at.returns-in-None-clause-gives c).After-play_at)
 
 pub returns-in-None-clause-count : goal.returns-in-None-clause-count
 returns-in-None-clause-count c =
@@ -55,31 +69,9 @@ returns-in-None-clause-count c =
 
 pub invariant_of-self : goal.invariant_of-self
 invariant_of-self c =
-    let i = c.self.inside in
-    let ms = i.members.items in
-    let w = world i.links ms in
-    let name = (at_place i.links.links c.args.at).name in
-    let owner = ap (λ n. client_of_link n ms) (sym c.name_at.ensures)
-    ∙ ap (λ (v : WorldState). client_of_link c.name_at.result.now v.members) c.self.view_is
-    ∙ sym c.client_of_link.ensures ∙ c.in-Some.is in
-    code.over_flow i.living c.args.at w
-    (world c.flow.new.links (slice_set ms c.in-Some.client c.flow.new.self)) c.args.lines.now
-    c.flow.result c.flow.new.lines
-    (code.owned (λ o. flow_step o name w) name client.flow i.links c.flow.new.links ms
-    c.in-Some.client c.index_mut.result.now c.flow.new.self c.args.lines.now c.flow.result
-    c.flow.new.lines owner refl c.index_mut.ensures.value c.flow.ensures.gives) c.self.invariant
+    code.over_flow _ _ _ _ _ _ _ (gave (goal.at.invariant_of-self c).After-flow) c.self.invariant
 
 pub invariant_of-self-in-None : goal.invariant_of-self-in-None
 invariant_of-self-in-None c =
-    let i = c.self.inside in
-    let ms = i.members.items in
-    let w = world i.links ms in
-    let name = (at_place i.links.links c.args.at).name in
-    let none = ap (λ n. client_of_link n ms) (sym c.name_at.ensures)
-    ∙ ap (λ (v : WorldState). client_of_link c.name_at.result.now v.members) c.self.view_is
-    ∙ sym c.client_of_link.ensures ∙ c.in-None.is in
-    code.over_flow i.living c.args.at w (world c.play_at.new.self ms) c.args.lines.now
-    c.play_at.result c.play_at.new.lines
-    (code.unowned (λ o. flow_step o name w) name (Over name moves.Flow) i.links c.play_at.new.self
-    ms c.args.lines.now c.play_at.result c.play_at.new.lines none refl c.play_at.ensures)
+    code.over_flow _ _ _ _ _ _ _ (played (goal.at.invariant_of-self-in-None c).After-play_at)
     c.self.invariant

@@ -13,24 +13,24 @@ use Rattle.world_run.specs.World.{StepGives, out_step, raw_out, step}
 use Rattle.world_run.specs.WorldState.{WorldState, client_of_link}
 use Rattle.world_run.proofs.WorldCode as code
 use Rattle.world_run.proofs.world.World.out.Goals as goal
-use Rattle.world_run.proofs.world.World.out.Goals.{in-None-count, in-Some-count}
+use Rattle.world_run.proofs.world.World.out.Goals.{After-out, in-None-count, in-Some-count}
+
+gave : (c : After-out) → StepGives c.args.self.now (event.Out c.args.name.now c.args.count)
+    c.args.lines.now c.out.result (world c.out.new.links
+    (slice_set c.self.inside.members.items c.in-Some.at c.out.new.self)) c.out.new.lines
+unfolding step
+gave c =
+    let i = c.self.inside in
+    let w = c.args.self.now in
+    code.owned (λ o. out_step o c.args.name.now c.args.count w) c.args.name.now
+    (client.out c.args.count) w i.links c.out.new.links i.members.items c.in-Some.at
+    c.index_mut.result.now c.out.new.self
+    c.args.lines.now c.out.result c.out.new.lines c.self.view_is
+    (sym c.client_of_link.ensures ∙ c.in-Some.is) refl c.index_mut.ensures.value
+    c.out.ensures.gives
 
 pub returns-in-Some : goal.returns-in-Some
-unfolding step
-returns-in-Some c =
-    let i = c.self.inside in
-    let w = world i.links i.members.items in
-    let name = c.args.name.now in
-    let owner = ap (λ (v : WorldState). client_of_link name v.members) c.self.view_is
-    ∙ sym c.client_of_link.ensures ∙ c.in-Some.is in
-    subst (λ (v : WorldState). StepGives v (event.Out name c.args.count) c.args.lines.now
-    c.out.result
-    (world c.out.new.links (slice_set i.members.items c.in-Some.at c.out.new.self))
-    c.out.new.lines) c.self.view_is
-    (code.owned (λ o. out_step o name c.args.count w) name (client.out c.args.count)
-    i.links c.out.new.links i.members.items c.in-Some.at c.index_mut.result.now
-    c.out.new.self c.args.lines.now c.out.result c.out.new.lines owner refl
-    c.index_mut.ensures.value c.out.ensures.gives)
+returns-in-Some c = gave (goal.at.returns-in-Some c).After-out
 
 module _ (w : WorldState) (name : List ℕ) (lines : List Line)
     (free : client_of_link name w.members ≡ None) where
@@ -88,17 +88,6 @@ returns-after-count c =
     ]
 
 pub invariant_of-self : goal.invariant_of-self
-unfolding step
 invariant_of-self c =
-    let i = c.self.inside in
-    let w = world i.links i.members.items in
-    let name = c.args.name.now in
-    let owner = ap (λ (v : WorldState). client_of_link name v.members) c.self.view_is
-    ∙ sym c.client_of_link.ensures ∙ c.in-Some.is in
-    code.over_step i.living (event.Out name c.args.count) w
-    (world c.out.new.links (slice_set i.members.items c.in-Some.at c.out.new.self))
-    c.args.lines.now c.out.result c.out.new.lines
-    (code.owned (λ o. out_step o name c.args.count w) name (client.out c.args.count)
-    i.links c.out.new.links i.members.items c.in-Some.at c.index_mut.result.now
-    c.out.new.self c.args.lines.now c.out.result c.out.new.lines owner refl
-    c.index_mut.ensures.value c.out.ensures.gives) c.self.invariant
+    code.still_over _ _ _ _ _ _ _ _ c.self.view_is
+    (gave (goal.at.invariant_of-self c).After-out) c.self.invariant

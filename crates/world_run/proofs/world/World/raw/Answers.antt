@@ -10,6 +10,7 @@ use Rattle.world_run.specs.World.{raw_step, step}
 use Rattle.world_run.specs.WorldState.{WorldState}
 use Rattle.world_run.proofs.WorldCode as code
 use Rattle.world_run.proofs.world.World.raw.Goals as goal
+use Rattle.world_run.proofs.world.World.raw.Goals.{After-raw}
 
 pub returns-then-is_taken : goal.returns-then-is_taken
 unfolding step
@@ -20,33 +21,27 @@ returns-then-is_taken c =
     (ap (λ b. cond b (refuses w taken.NameTaken) (links_step (Raw name) w))
     (sym c.is_taken.ensures ∙ c.if-is_taken.true))
 
-pub returns : goal.returns
+gave : (c : After-raw) → StepGives c.args.self.now (event.Raw c.args.name.now) c.args.lines.now
+    c.raw.result (world c.raw.new.self c.self.inside.members.items) c.raw.new.lines
 unfolding step
-returns c =
+gave c =
     let i = c.self.inside in
-    let w = world i.links i.members.items in
+    let e = Raw c.args.name.now in
     let t = world c.raw.new.self i.members.items in
-    let name = c.args.name.now in
-    let free = ap (is_taken name) c.self.view_is ∙ sym c.is_taken.ensures ∙ c.if-is_taken.false in
-    subst (λ (v : WorldState). StepGives v (event.Raw name) c.args.lines.now c.raw.result t
-    c.raw.new.lines) c.self.view_is
-    (subst (λ b. Gives (cond b (refuses w taken.NameTaken) (links_step
-    (Raw name) w)) c.args.lines.now
-    c.raw.result t c.raw.new.lines) (sym free)
-    (code.links_give (Raw name) i.links c.raw.new.self i.members.items c.args.lines.now
-    c.raw.result c.raw.new.lines c.raw.ensures))
+    subst (λ (v : WorldState). Gives (cond (is_taken c.args.name.now v)
+    (refuses v taken.NameTaken) (links_step e v)) c.args.lines.now c.raw.result t c.raw.new.lines)
+    c.self.view_is
+    (subst (λ b. Gives (cond b (refuses (world i.links i.members.items) taken.NameTaken)
+    (links_step e (world i.links i.members.items))) c.args.lines.now c.raw.result t c.raw.new.lines)
+    (sym (ap (is_taken c.args.name.now) c.self.view_is ∙ sym c.is_taken.ensures
+    ∙ c.if-is_taken.false))
+    (code.links_give e i.links c.raw.new.self i.members.items c.args.lines.now c.raw.result
+    c.raw.new.lines c.raw.ensures))
+
+pub returns : goal.returns
+returns c = gave (goal.at.returns c).After-raw
 
 pub invariant_of-self : goal.invariant_of-self
-unfolding step
 invariant_of-self c =
-    let i = c.self.inside in
-    let w = world i.links i.members.items in
-    let t = world c.raw.new.self i.members.items in
-    let name = c.args.name.now in
-    let free = ap (is_taken name) c.self.view_is ∙ sym c.is_taken.ensures ∙ c.if-is_taken.false in
-    code.over_step i.living (event.Raw name) w t c.args.lines.now c.raw.result c.raw.new.lines
-    (subst (λ b. Gives (cond b (refuses w taken.NameTaken) (links_step
-    (Raw name) w)) c.args.lines.now
-    c.raw.result t c.raw.new.lines) (sym free)
-    (code.links_give (Raw name) i.links c.raw.new.self i.members.items c.args.lines.now
-    c.raw.result c.raw.new.lines c.raw.ensures)) c.self.invariant
+    code.still_over _ _ _ _ _ _ _ _ c.self.view_is
+    (gave (goal.at.invariant_of-self c).After-raw) c.self.invariant

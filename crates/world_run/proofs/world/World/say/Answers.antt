@@ -15,6 +15,7 @@ use Rattle.world_run.specs.World.{said_step, step}
 use Rattle.world_run.specs.WorldState.{WorldState, client_of_link}
 use Rattle.world_run.proofs.WorldCode as code
 use Rattle.world_run.proofs.world.World.say.Goals as goal
+use Rattle.world_run.proofs.world.World.say.Goals.{After-put}
 
 pub returns-then-is_some : goal.returns-then-is_some
 unfolding step
@@ -57,42 +58,28 @@ returns-in_err-put_request c =
     (ap (λ (v : WorldState). place_of name v.links) (sym c.self.view_is)
     ∙ sym c.place_of.ensures ∙ at.1))))
 
-pub returns : goal.returns
+gave : (c : After-put) → StepGives c.args.self.now
+    (event.Say c.args.name.now c.args.words.now) c.args.lines.now c.put.result
+    (world c.put.new.self c.self.inside.members.items) c.put.new.lines
 unfolding step
-returns c =
+gave c =
     let i = c.self.inside in
-    let w = world i.links i.members.items in
-    let t = world c.put.new.self i.members.items in
+    let w = c.args.self.now in
     let name = c.args.name.now in
     let bytes = request_spelling c.args.words.now in
-    let none = ap (λ (v : WorldState). client_of_link name v.members) c.self.view_is
-    ∙ sym c.client_of_link.ensures
-    ∙ code.a_none c.client_of_link.result (sym c.is_some.ensures ∙ c.if-is_some.false) in
     let written : c.as_slice.result.now ≡ bytes = c.as_slice.ensures.value
     ∙ c.in_ok-put_request.ensures.ok ∙ ap (λ l. l ++ bytes) c.new-request.ensures.items in
-    subst (λ (v : WorldState). StepGives v (event.Say name c.args.words.now) c.args.lines.now
-    c.put.result t c.put.new.lines) c.self.view_is
-    (code.unowned (λ o. said_step o name bytes w) name (Put name bytes) i.links c.put.new.self
-    i.members.items c.args.lines.now c.put.result c.put.new.lines none refl
+    code.unowned (λ o. said_step o name bytes w) name (Put name bytes) w i.links c.put.new.self
+    i.members.items c.args.lines.now c.put.result c.put.new.lines c.self.view_is
+    (sym c.client_of_link.ensures
+    ∙ code.a_none c.client_of_link.result (sym c.is_some.ensures ∙ c.if-is_some.false)) refl
     (subst (λ b. Gives (links.step i.links (Put name b)) c.args.lines.now c.put.result
-    c.put.new.self c.put.new.lines) written c.put.ensures))
+    c.put.new.self c.put.new.lines) written c.put.ensures)
+
+pub returns : goal.returns
+returns c = gave (goal.at.returns c).After-put
 
 pub invariant_of-self : goal.invariant_of-self
-unfolding step
 invariant_of-self c =
-    let i = c.self.inside in
-    let w = world i.links i.members.items in
-    let t = world c.put.new.self i.members.items in
-    let name = c.args.name.now in
-    let bytes = request_spelling c.args.words.now in
-    let none = ap (λ (v : WorldState). client_of_link name v.members) c.self.view_is
-    ∙ sym c.client_of_link.ensures
-    ∙ code.a_none c.client_of_link.result (sym c.is_some.ensures ∙ c.if-is_some.false) in
-    let written : c.as_slice.result.now ≡ bytes = c.as_slice.ensures.value
-    ∙ c.in_ok-put_request.ensures.ok ∙ ap (λ l. l ++ bytes) c.new-request.ensures.items in
-    code.over_step i.living (event.Say name c.args.words.now) w t c.args.lines.now c.put.result
-    c.put.new.lines
-    (code.unowned (λ o. said_step o name bytes w) name (Put name bytes) i.links c.put.new.self
-    i.members.items c.args.lines.now c.put.result c.put.new.lines none refl
-    (subst (λ b. Gives (links.step i.links (Put name b)) c.args.lines.now c.put.result
-    c.put.new.self c.put.new.lines) written c.put.ensures)) c.self.invariant
+    code.still_over _ _ _ _ _ _ _ _ c.self.view_is
+    (gave (goal.at.invariant_of-self c).After-put) c.self.invariant
