@@ -345,8 +345,8 @@ module _ (clock : Option ℕ) (id : ℕ) (c : Connection) (left0 left1 link0 lin
   hears_stops cause after last left2 link2 (Worn is r same took) kept =
       subst (λ e. Works clock e id after.requests left0 left2 link0 link2 old last) (sym is)
       (subst (λ (x : Connection). Works clock ended.Worn id x.requests left0 left2 link0 link2 old
-      last) (sym same) (rest_works ended.Worn last left2 link2 r.grows r.cause_is (λ w. absurd w) took
-      kept))
+      last) (sym same) (rest_works ended.Worn last left2 link2 r.grows r.cause_is (λ w. absurd w)
+      took kept))
   hears_stops cause after last left2 link2 (Part piece took r) kept =
       part_works piece cause after last left2 link2 took kept r
 
