@@ -15,9 +15,9 @@ use Rattle.serial_model.specs.declared.history.Entry.{Entry}
 use Rattle.serial_model.specs.declared.history.Entry.TheVariants.{Admit, Run, Tick, Take, Close}
 use Rattle.serial_model.specs.History.{admitted, IsLegal}
 use Rattle.serial_model.proofs.Turning.{by_step, step_legal}
-use Rattle.shared_book.specs.Own.{with_pasts, turns_of}
+use Rattle.seat_turns.specs.Own.{with_pasts, turns_of}
 use Rattle.shared_book.specs.Turns.{Place, Turn, TurnStep}
-use Rattle.shared_book.proofs.Owning.{own_all, pasts_length}
+use Rattle.seat_turns.proofs.Owning.{own_all, pasts_length}
 use Rattle.conn_worker.specs.declared.report.Report.{Report}
 use Rattle.conn_pool.specs.Ties.{admits, runs, names, requests, Tied}
 

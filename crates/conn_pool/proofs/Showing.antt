@@ -11,13 +11,13 @@ use Rattle.turn_lock.specs.declared.rule.TheConstants.{LAST_TICKET}
 use Rattle.serial_model.specs.declared.history.Limits.{Limits}
 use Rattle.serial_model.specs.declared.history.Entry.{Entry}
 use Rattle.serial_model.specs.History.{has_ended}
-use Rattle.shared_book.specs.Own.{past_of, Grows}
+use Rattle.seat_turns.specs.Own.{past_of, Grows}
 use Rattle.shared_book.specs.Turns.{Place, Turn, limits_in, limits_of, IsServerCause, IsCause}
 use Rattle.shared_book.specs.declared.turns.Refusal.{Refusal}
 use Rattle.shared_book.specs.declared.turns.Refusal.TheVariants as refusal
-use Rattle.shared_book.proofs.Growing.{grows_past}
+use Rattle.seat_turns.proofs.Growing.{grows_past}
 use Rattle.shared_book.proofs.Histories.{begins_lift, ended_more, full_begins}
-use Rattle.shared_book.proofs.Turning.{entries_begin}
+use Rattle.seat_turns.proofs.Turning.{entries_begin}
 use Rattle.conn_worker.specs.declared.report.Report.{Report}
 use Rattle.conn_worker.specs.declared.report.Ended.{Ended}
 use Rattle.conn_worker.specs.declared.report.Ended.TheVariants as ended

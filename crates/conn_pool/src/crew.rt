@@ -1,7 +1,7 @@
 //! The workers.
 ghost use Rattle.std.specs.Thread.{IsSync};
 ghost use Rattle.std.specs.Prelude.{◌≡◌, ◌+◌, ◌-◌, ◌<◌, ◌≤◌, [], false, length, IfSome};
-ghost use Rattle.shared_book.specs.Own.{IsWithin, turns_of};
+ghost use Rattle.seat_turns.specs.Own.{IsWithin, turns_of};
 ghost use Rattle.conn_pool.specs.Ties.{Tied};
 ghost use Rattle.conn_pool.specs.Crew.{Ready, Same};
 ghost use Rattle.conn_pool.specs.Shown.{AreShown};
@@ -29,7 +29,7 @@ pub struct Crew<L: Ledger, E: Ledger> {
 
 impl<L: Ledger, E: Ledger> Model for Crew<L, E> {
     ghost use Rattle.std.specs.Prelude.{◌≡◌, false, length};
-    ghost use Rattle.shared_book.specs.Own.{IsWithin, turns_of};
+    ghost use Rattle.seat_turns.specs.Own.{IsWithin, turns_of};
     ghost use Rattle.conn_pool.specs.Crew.{Team};
     ghost use Rattle.conn_pool.specs.Ties.{Tied};
     ghost use Rattle.conn_pool.specs.Shown.{AreShown};

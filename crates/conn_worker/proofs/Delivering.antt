@@ -8,20 +8,20 @@ use Rattle.std.specs.Prelude.{Option, Some, None, Result, Ok, Err, OnOk, ◌==�
 use Rattle.std.specs.List.{All}
 use Rattle.std.specs.Io.KnownBytes.{Appends}
 use Rattle.std.proofs.lemmas.List.Elements.{All-nil, All-cons, All-append}
-use Rattle.std.proofs.lemmas.List.{length-drop}
+use Rattle.std.proofs.lemmas.List.{length-drop, length-take}
 use Rattle.resp_value.specs.Lists.{IsPrefix}
 use Rattle.serial_model.specs.declared.history.Limits.{Limits}
 use Rattle.serial_model.specs.declared.history.Entry.{Entry}
 use Rattle.serial_model.specs.declared.history.Entry.TheVariants.{Take}
 use Rattle.serial_model.specs.History.{has_ended, is_admitted, stream, taken, unsent}
 use Rattle.serial_model.proofs.Streams.{stream_take}
-use Rattle.shared_book.specs.Own.{past_of, IsWithin, Grows}
+use Rattle.seat_turns.specs.Own.{past_of, IsWithin, Grows}
 use Rattle.resp_value.specs.declared.octets.Octets.{Octets}
 use Rattle.shared_book.specs.Turns.{Place, Turn, Gives, Rests, Refuses, Takes, limits_in, limits_of}
 use Rattle.shared_book.specs.Turns.{most}
 use Rattle.shared_book.specs.declared.turns.Refusal.{Refusal}
 use Rattle.shared_book.specs.declared.turns.Refusal.TheVariants as refusal
-use Rattle.shared_book.proofs.Growing.{grows_none, grows_then, grows_past}
+use Rattle.seat_turns.proofs.Growing.{grows_none, grows_then, grows_past}
 use Rattle.shared_book.proofs.Histories.{begins_lift, admitted_more, stream_begins}
 use Rattle.conn_worker.specs.declared.report.Ended.TheVariants as ended
 use Rattle.conn_worker.specs.declared.report.Ended.{Ended}
@@ -50,11 +50,6 @@ delivering_none id link k is on = record {
   wrote = appends_none link;
   admitted = on;
 }
-
-length_take : (n : ℕ) (xs : List ℕ) → length (take n xs) ≡ min n (length xs)
-length_take zero xs = omega arith
-length_take (suc n) [] = omega arith
-length_take (suc n) (x ∷ xs) = let r = length_take n xs in omega (arith, r)
 
 module _ (l : Limits) (id : ℕ) where
   own_take : (n m : ℕ) → cond (id == id) (n + m) n ≡ n + m
@@ -87,7 +82,7 @@ module _ (l : Limits) (id : ℕ) where
       let s = ap length (stream_take l past id id most) in
       let own : taken l id (Take id most ∷ past) ≡ n + min most (length all - n) =
       own_take (taken l id past) (min most (length all - n)) in
-      let cut = length_take most (drop n all) in
+      let cut = length-take most (drop n all) in
       omega (arith, t, d, s, own, cut, short)
 
 module _ (id : ℕ) (link0 link1 : Option (List ℕ)) (old new : Place)
@@ -171,15 +166,11 @@ module _ (id : ℕ) (link0 link1 : Option (List ℕ)) (old new : Place)
       wrote = appends_more link0 link1 link2 (gave (limits_of old) d.turns) front d.wrote w;
       front = (
         part.0,
-        front_behind (gave (limits_of old) d.turns) front part.0
+        append_assoc (gave (limits_of old) d.turns) front part.0
             ∙ ap (λ z. gave (limits_of old) d.turns ++ z) part.1 ∙ sym gave_is,
       );
       cause_is = inl refl;
     }
-      where
-        front_behind : (xs ys zs : List ℕ) → (xs ++ ys) ++ zs ≡ xs ++ (ys ++ zs)
-        front_behind [] ys zs = refl
-        front_behind (x ∷ xs) ys zs = ap (λ z. x ∷ z) (front_behind xs ys zs)
 
   -- nothing waits
   pub delivers_rests : (last : Place) → Rests id new last → Delivers id link0 link1 old last
@@ -304,7 +295,3 @@ module _ (id : ℕ) (link : Option (List ℕ)) (before now : Place) where
     begun_failed link1 part w is =
         delivers_failed id link link before before (none_written (Some bytes) b) most bytes now
         b.2.0 link1 part w is
-
-pub on_ok : {A E P Q : Type 0} (r : Result A E) → (P → Q) → OnOk r P → OnOk r Q
-on_ok (Ok a) f h = f h
-on_ok (Err e) f h = tt

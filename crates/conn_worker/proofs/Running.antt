@@ -4,7 +4,7 @@ use Rattle.std.proofs.Common.{Some, None, refl, sym, ap, subst, ◌∙◌, arith
 use Rattle.std.proofs.Common.{append-nil, drop, Ok}
 use Rattle.std.specs.Prelude.{Option, IfSome}
 use Rattle.std.specs.List.{All}
-use Rattle.std.proofs.lemmas.List.{take-append-drop}
+use Rattle.std.proofs.lemmas.List.{take-append-drop, length-take-le}
 use Rattle.std.proofs.lemmas.List.Elements.{All-nil, All-cons, All-append}
 use Rattle.resp_stream.specs.declared.fault.StreamFault.{StreamFault}
 use Rattle.resp_stream.specs.declared.fault.StreamFault.TheVariants as stream
@@ -22,13 +22,13 @@ use Rattle.serial_model.specs.declared.history.BookCall.{BookCall}
 use Rattle.serial_model.specs.declared.history.BookCall.TheVariants.{Admit, Run, Tick, Take}
 use Rattle.serial_model.specs.declared.history.BookCall.TheVariants.{Close}
 use Rattle.serial_model.specs.History.{latest}
-use Rattle.shared_book.specs.Own.{IsWithin, Grows}
+use Rattle.seat_turns.specs.Own.{IsWithin, Grows}
 use Rattle.shared_book.specs.Turns.{Place, Turn, IsCause, limits_in, limits_of}
 use Rattle.shared_book.specs.Batches.{IsRunAt, requests_in, RunsEach, RunsAndTakes, RunsFirst}
 use Rattle.resp_value.specs.declared.octets.Octets.{Octets}
 use Rattle.shared_book.specs.declared.turns.Refusal.{Refusal}
 use Rattle.shared_book.specs.declared.turns.Refusal.TheVariants as refusal
-use Rattle.shared_book.proofs.Growing.{grows_none, grows_then}
+use Rattle.seat_turns.proofs.Growing.{grows_none, grows_then}
 use Rattle.conn_worker.specs.declared.report.Ended.TheVariants.{NoMemory}
 use Rattle.conn_worker.specs.declared.connection.Connection.{Connection}
 use Rattle.conn_worker.specs.Visits.{IsWork, IsEnd, runs_in, gave, ended_by, ReadsAll, RunsPart}
@@ -186,11 +186,6 @@ each_ran clock id now is (w ∷ ws) old new (mid, run, rest) =
       runs = runs_append r.turns (t ∷ []) ∙ ap (λ z. w ∷ z) r.runs;
     }
 
-length_front : {A : Type 0} (n : ℕ) (xs : List A) → n ≤ length xs → length (take n xs) ≡ n
-length_front zero xs le = refl
-length_front (suc n) [] le = absurd (omega arith)
-length_front (suc n) (x ∷ xs) le = ap suc (length_front n xs (omega arith))
-
 -- what was read of `before`, as these calls, was run so far
 module _ (clock : Option ℕ) (now : ℕ) (before read : Connection) (calls : List BookCall)
     (count : ℕ) (old new : Place) (is : IfSome clock (λ m. now ≡ m))
@@ -234,7 +229,7 @@ module _ (clock : Option ℕ) (now : ℕ) (before read : Connection) (calls : Li
       let some = take t.number (requests_in calls) in
       let ran = each_ran clock before.id now is some old new t.each in
       let long = ap length ran.runs in
-      let front = length_front t.number (requests_in calls) t.within in
+      let front = length-take-le t.number (requests_in calls) t.within in
       record {
         turns = ran.turns;
         grows = ran.grows;

@@ -12,9 +12,9 @@ use Rattle.resp_stream.specs.declared.fault.StreamFault.{StreamFault}
 use Rattle.resp_stream.specs.Parse.{parse, requests_of}
 use Rattle.resp_stream.specs.Stream.{begun, fed}
 use Rattle.serial_model.specs.History.{is_admitted, stream, taken}
-use Rattle.shared_book.specs.Own.{past_of, IsWithin, Grows}
+use Rattle.seat_turns.specs.Own.{past_of, IsWithin, Grows}
 use Rattle.shared_book.specs.Turns.{Place, Turn, limits_in, limits_of}
-use Rattle.shared_book.proofs.Growing.{grows_none, grows_then, grows_past, grows_stands}
+use Rattle.seat_turns.proofs.Growing.{grows_none, grows_then, grows_past, grows_stands}
 use Rattle.shared_book.specs.Turns.{Admits, Refuses, Takes}
 use Rattle.shared_book.specs.declared.turns.Refusal.TheVariants as refusal
 use Rattle.serial_model.specs.declared.history.Entry.TheVariants.{Admit}
@@ -110,6 +110,30 @@ takes_grows : (id : ℕ) (front : Option Octets) (k l : Place) → Takes id fron
     → (ts : List Turn) × Grows k l ts
 takes_grows id None k l t = ([], t.grows)
 takes_grows id (Some bytes) k l t = (_, t.0.grows)
+
+-- ---- an end by a fault of the link, or as the seat shows it
+
+no_whole : (cause : Ended) (id : ℕ) (k : Place) → (cause ≡ ended.LinkFault) ⊎ IsEnd cause id k
+    → IsWhole cause → ⊥
+no_whole cause id k (inl is) w = subst IsWhole is w
+no_whole ended.PeerEnd id k (inr e) w = e
+no_whole ended.Dropped id k (inr e) w = w
+no_whole (ended.BadRequest f) id k (inr e) w = e
+no_whole ended.LinkFault id k (inr e) w = w
+no_whole ended.HistoryFull id k (inr e) w = w
+no_whole ended.NoMemory id k (inr e) w = w
+no_whole ended.Worn id k (inr e) w = w
+
+shown_by : (cause : Ended) (id : ℕ) (heard : List ℕ) (k : Place)
+    → (cause ≡ ended.LinkFault) ⊎ IsEnd cause id k → IsShown cause id heard k
+shown_by cause id heard k (inl is) = subst (λ e. IsShown e id heard k) (sym is) tt
+shown_by ended.PeerEnd id heard k (inr e) = absurd e
+shown_by ended.Dropped id heard k (inr e) = e
+shown_by (ended.BadRequest f) id heard k (inr e) = absurd e
+shown_by ended.LinkFault id heard k (inr e) = tt
+shown_by ended.HistoryFull id heard k (inr e) = e
+shown_by ended.NoMemory id heard k (inr e) = tt
+shown_by ended.Worn id heard k (inr e) = e
 
 module _ (clock : Option ℕ) (id : ℕ) (c : Connection) (left0 left1 link0 link1 : Option (List ℕ))
     (old new : Place) (s : Serving clock id c left0 left1 link0 link1 old new) where
@@ -246,11 +270,11 @@ module _ (clock : Option ℕ) (id : ℕ) (c : Connection) (left0 left1 link0 lin
       → RunsPart clock cause (fed_connection c piece) after new last
       → Works clock cause id after.requests left0 left2 link0 link2 old last
   part_works piece cause after last left2 link2 took kept r =
-      let p = parse (fed c.reader piece) in
       let long = ap length (runs_append r.turns s.turns) in
       let both = length-append (runs_in s.turns) (runs_in r.turns) in
       let front : runs_in (r.turns ++ s.turns) ≡ requests_of s.heard ++ runs_in r.turns
       = runs_append r.turns s.turns ∙ ap (λ z. z ++ runs_in r.turns) s.runs in
+      let is : IsEnd cause id last = subst (λ n. IsEnd cause n last) s.id_is r.cause_is in
       record {
         turns = r.turns ++ s.turns;
         grows = grows_then old new last s.turns r.turns s.grows r.grows;
@@ -269,37 +293,22 @@ module _ (clock : Option ℕ) (id : ℕ) (c : Connection) (left0 left1 link0 lin
               ∙ ap (λ z. requests_of s.heard ++ z) r.runs.1 ∙ sym (s.reading.further piece),
         );
         front = ([], append-nil (gave (limits_of old) (r.turns ++ s.turns)));
-        all_ran = λ w. absurd (no_whole cause id new last r.cause_is w);
+        all_ran = λ w. absurd (no_whole cause id last (inr is) w);
         all_wrote = λ w. refl;
-        all_taken = λ w. absurd (no_whole cause id new last r.cause_is w);
-        shown = shown_by cause (subst (λ n. IsEnd cause n last) s.id_is r.cause_is);
+        all_taken = λ w. absurd (no_whole cause id last (inr is) w);
+        shown = shown_by cause id (s.heard ++ piece) last (inr is);
       }
-    where
-      no_whole : (cause : Ended) (id : ℕ) (new last : Place) → IsEnd cause c.id last → IsWhole cause
-          → ⊥
-      no_whole ended.PeerEnd id new last e w = e
-      no_whole ended.Dropped id new last e w = w
-      no_whole (ended.BadRequest f) id new last e w = e
-      no_whole ended.LinkFault id new last e w = w
-      no_whole ended.HistoryFull id new last e w = w
-      no_whole ended.NoMemory id new last e w = w
-      no_whole ended.Worn id new last e w = w
 
-      shown_by : (cause : Ended) → IsEnd cause id last → IsShown cause id (s.heard ++ piece) last
-      shown_by ended.PeerEnd e = absurd e
-      shown_by ended.Dropped e = e
-      shown_by (ended.BadRequest f) e = absurd e
-      shown_by ended.LinkFault e = tt
-      shown_by ended.HistoryFull e = e
-      shown_by ended.NoMemory e = tt
-      shown_by ended.Worn e = e
-
-  nothing_works : (cause : Ended) (left2 link2 : Option (List ℕ)) → IsOfLink cause
+  -- nothing more was read, and no turn was added
+  rest_works : (cause : Ended) (last : Place) (left2 link2 : Option (List ℕ)) → Grows new last []
+      → IsShown cause id s.heard last
+      → (IsWhole cause
+      → All (IsTaken (limits_of old) id (taken (limits_of old) id (past_of last))) s.turns)
       → Consumes left1 left2 [] → Keeps link1 link2
-      → Works clock cause id c.requests left0 left2 link0 link2 old new
-  nothing_works cause left2 link2 of took kept = record {
+      → Works clock cause id c.requests left0 left2 link0 link2 old last
+  rest_works cause last left2 link2 g shown all took kept = record {
     turns = s.turns;
-    grows = s.grows;
+    grows = grows_then old new last s.turns [] s.grows g;
     work = s.work;
     counted = s.counted;
     heard = s.heard;
@@ -311,40 +320,18 @@ module _ (clock : Option ℕ) (id : ℕ) (c : Connection) (left0 left1 link0 lin
     front = ([], append-nil (gave (limits_of old) s.turns));
     all_ran = λ w. s.runs;
     all_wrote = λ w. refl;
-    all_taken = λ w. s.was_taken;
-    shown = shown_by cause of;
+    all_taken = all;
+    shown = shown;
   }
-    where
-      shown_by : (cause : Ended) → IsOfLink cause → IsShown cause id s.heard new
-      shown_by ended.PeerEnd o = s.reading.none
-      shown_by ended.Dropped o = absurd o
-      shown_by (ended.BadRequest f) o = absurd o
-      shown_by ended.LinkFault o = tt
-      shown_by ended.HistoryFull o = absurd o
-      shown_by ended.NoMemory o = absurd o
-      shown_by ended.Worn o = absurd o
 
-  -- no ticket was left for the Tick
-  worn_works : (last : Place) (left2 link2 : Option (List ℕ)) → Refuses refusal.Worn 0 new last
-      → Consumes left1 left2 [] → Keeps link1 link2
-      → Works clock ended.Worn id c.requests left0 left2 link0 link2 old last
-  worn_works last left2 link2 r took kept = record {
-    turns = s.turns;
-    grows = grows_then old new last s.turns [] s.grows r.grows;
-    work = s.work;
-    counted = s.counted;
-    heard = s.heard;
-    read = subst (Consumes left0 left2) (append-nil s.heard)
-        (consumes_more left0 left1 left2 s.heard [] s.read took);
-    bytes = gave (limits_of old) s.turns;
-    wrote = appends_kept link0 link1 link2 _ s.wrote kept;
-    runs = ([], append-nil (runs_in s.turns) ∙ s.runs);
-    front = ([], append-nil (gave (limits_of old) s.turns));
-    all_ran = λ w. s.runs;
-    all_wrote = λ w. refl;
-    all_taken = λ w. absurd w;
-    shown = r.cause_is;
-  }
+  shown_link : (cause : Ended) → IsOfLink cause → IsShown cause id s.heard new
+  shown_link ended.PeerEnd o = s.reading.none
+  shown_link ended.Dropped o = absurd o
+  shown_link (ended.BadRequest f) o = absurd o
+  shown_link ended.LinkFault o = tt
+  shown_link ended.HistoryFull o = absurd o
+  shown_link ended.NoMemory o = absurd o
+  shown_link ended.Worn o = absurd o
 
   pub hears_stops : (cause : Ended) (after : Connection) (last : Place)
       (left2 link2 : Option (List ℕ)) → HearsPart clock cause c after left1 left2 new last
@@ -353,11 +340,13 @@ module _ (clock : Option ℕ) (id : ℕ) (c : Connection) (left0 left1 link0 lin
   hears_stops cause after last left2 link2 (Nothing of same still took) kept =
       subst (λ k. Works clock cause id after.requests left0 left2 link0 link2 old k) (sym still)
       (subst (λ (x : Connection). Works clock cause id x.requests left0 left2 link0 link2 old new)
-      (sym same) (nothing_works cause left2 link2 of took kept))
+      (sym same) (rest_works cause new left2 link2 (grows_none new s.grows.within)
+      (shown_link cause of) (λ w. s.was_taken) took kept))
   hears_stops cause after last left2 link2 (Worn is r same took) kept =
       subst (λ e. Works clock e id after.requests left0 left2 link0 link2 old last) (sym is)
       (subst (λ (x : Connection). Works clock ended.Worn id x.requests left0 left2 link0 link2 old
-      last) (sym same) (worn_works last left2 link2 r took kept))
+      last) (sym same) (rest_works ended.Worn last left2 link2 r.grows r.cause_is (λ w. absurd w)
+      took kept))
   hears_stops cause after last left2 link2 (Part piece took r) kept =
       part_works piece cause after last left2 link2 took kept r
 
@@ -368,28 +357,31 @@ module _ (clock : Option ℕ) (id : ℕ) (fault : Option StreamFault) (c : Conne
   limits_kept : limits_of new ≡ limits_of old
   limits_kept = ap limits_in s.grows.setup
 
+  -- the turns of a delivery
+  module _ (ts : List Turn) (grows : Grows new last ts)
+      (work : (clock : Option ℕ) → All (IsWork id clock) ts) (none : runs_in ts ≡ []) where
+    all_grows : Grows old last (ts ++ s.turns)
+    all_grows = grows_then old new last s.turns ts s.grows grows
+
+    all_work : All (IsWork id clock) (ts ++ s.turns)
+    all_work = All-append (IsWork id clock) ts s.turns (work clock) s.work
+
+    all_runs : runs_in (ts ++ s.turns) ≡ runs_in s.turns
+    all_runs = runs_append ts s.turns ∙ ap (λ z. runs_in s.turns ++ z) none
+        ∙ append-nil (runs_in s.turns)
+
+    all_gave : gave (limits_of old) (ts ++ s.turns)
+        ≡ gave (limits_of old) s.turns ++ gave (limits_of new) ts
+    all_gave = gave_append (limits_of old) ts s.turns
+        ∙ ap (λ l. gave (limits_of old) s.turns ++ gave l ts) (sym limits_kept)
+
   module _ (d : Delivers id link1 link2 new last) where
     all_turns : List Turn
     all_turns = d.turns ++ s.turns
 
-    all_grows : Grows old last all_turns
+    all_wrote : Appends link0 link2 (gave (limits_of old) all_turns)
     unfolding all_turns
-    all_grows = grows_then old new last s.turns d.turns s.grows d.grows
-
-    all_work : All (IsWork id clock) all_turns
-    unfolding all_turns
-    all_work = All-append (IsWork id clock) d.turns s.turns (d.work clock) s.work
-
-    all_runs : runs_in all_turns ≡ runs_in s.turns
-    unfolding all_turns
-    all_runs = runs_append d.turns s.turns ∙ ap (λ z. runs_in s.turns ++ z) d.runs_none
-        ∙ append-nil (runs_in s.turns)
-
-    all_gave : Appends link0 link2 (gave (limits_of old) all_turns)
-    unfolding all_turns
-    all_gave = appends_as link0 link2 _ _
-        (ap (λ l. gave (limits_of old) s.turns ++ gave l d.turns) limits_kept
-        ∙ sym (gave_append (limits_of old) d.turns s.turns))
+    all_wrote = appends_as link0 link2 _ _ (sym (all_gave d.turns d.grows d.work d.runs_none))
         (appends_more link0 link1 link2 (gave (limits_of old) s.turns)
         (gave (limits_of new) d.turns) s.wrote d.wrote)
 
@@ -409,22 +401,24 @@ module _ (clock : Option ℕ) (id : ℕ) (fault : Option StreamFault) (c : Conne
         (grows_stands old new s.turns s.grows))
 
     pub delivered_serves : fault ≡ None → Serving clock id c left0 left2 link0 link2 old last
+    unfolding all_turns
     delivered_serves none =
+        let runs = all_runs d.turns d.grows d.work d.runs_none in
         let more = d.grows.seen in
         let long = ap length more.1 in
         let both = length-append more.0 new.seen in
         record {
           turns = all_turns;
-          grows = all_grows;
-          work = all_work;
+          grows = all_grows d.turns d.grows d.work d.runs_none;
+          work = all_work d.turns d.grows d.work d.runs_none;
           id_is = s.id_is;
-          counted = s.counted ∙ ap length (sym all_runs);
+          counted = s.counted ∙ ap length (sym runs);
           fits = omega (arith, s.fits, long, both);
           heard = s.heard;
           read = consumes_kept left0 left1 left2 s.heard s.read kept;
           reading = s.reading none;
-          runs = all_runs ∙ s.runs;
-          wrote = all_gave;
+          runs = runs ∙ s.runs;
+          wrote = all_wrote;
           was_taken = all_are_taken;
           admitted = begins_lift (λ past. is_admitted past id ≡ true) (admitted_more id)
               (past_of new) (past_of last) (grows_past new last d.turns d.grows) s.admitted;
@@ -432,37 +426,35 @@ module _ (clock : Option ℕ) (id : ℕ) (fault : Option StreamFault) (c : Conne
 
     pub delivered_ends : (f : StreamFault) → fault ≡ Some f
         → Works clock (ended.BadRequest f) id c.requests left0 left2 link0 link2 old last
-    delivered_ends f is = record {
-      turns = all_turns;
-      grows = all_grows;
-      work = all_work;
-      counted = s.counted ∙ ap length (sym all_runs);
-      heard = s.heard;
-      read = consumes_kept left0 left1 left2 s.heard s.read kept;
-      bytes = gave (limits_of old) all_turns;
-      wrote = all_gave;
-      runs = ([], append-nil (runs_in all_turns) ∙ (all_runs ∙ s.runs));
-      front = ([], append-nil (gave (limits_of old) all_turns));
-      all_ran = λ w. all_runs ∙ s.runs;
-      all_wrote = λ w. refl;
-      all_taken = λ w. all_are_taken;
-      shown = s.met f is;
-    }
+    unfolding all_turns
+    delivered_ends f is =
+        let runs = all_runs d.turns d.grows d.work d.runs_none in
+        record {
+          turns = all_turns;
+          grows = all_grows d.turns d.grows d.work d.runs_none;
+          work = all_work d.turns d.grows d.work d.runs_none;
+          counted = s.counted ∙ ap length (sym runs);
+          heard = s.heard;
+          read = consumes_kept left0 left1 left2 s.heard s.read kept;
+          bytes = gave (limits_of old) all_turns;
+          wrote = all_wrote;
+          runs = ([], append-nil (runs_in all_turns) ∙ (runs ∙ s.runs));
+          front = ([], append-nil (gave (limits_of old) all_turns));
+          all_ran = λ w. runs ∙ s.runs;
+          all_wrote = λ w. refl;
+          all_taken = λ w. all_are_taken;
+          shown = s.met f is;
+        }
 
   pub delivery_stops : (cause : Ended) → DeliversPart cause id link1 link2 new last
       → Works clock cause id c.requests left0 left2 link0 link2 old last
   delivery_stops cause d =
       let all = d.turns ++ s.turns in
-      let runs : runs_in all ≡ runs_in s.turns
-      = runs_append d.turns s.turns ∙ ap (λ z. runs_in s.turns ++ z) d.runs_none
-      ∙ append-nil (runs_in s.turns) in
-      let gave_is : gave (limits_of old) all ≡ gave (limits_of old) s.turns
-      ++ gave (limits_of old) d.turns
-      = gave_append (limits_of old) d.turns s.turns in
+      let runs = all_runs d.turns d.grows d.work d.runs_none in
       record {
         turns = all;
-        grows = grows_then old new last s.turns d.turns s.grows d.grows;
-        work = All-append (IsWork id clock) d.turns s.turns (d.work clock) s.work;
+        grows = all_grows d.turns d.grows d.work d.runs_none;
+        work = all_work d.turns d.grows d.work d.runs_none;
         counted = s.counted ∙ ap length (sym runs);
         heard = s.heard;
         read = consumes_kept left0 left1 left2 s.heard s.read kept;
@@ -473,41 +465,14 @@ module _ (clock : Option ℕ) (id : ℕ) (fault : Option StreamFault) (c : Conne
         front = (
           d.front.0,
           append_assoc (gave (limits_of old) s.turns) d.bytes d.front.0
-              ∙ ap (λ z. gave (limits_of old) s.turns ++ z)
-              (d.front.1 ∙ ap (λ l. gave l d.turns) limits_kept) ∙ sym gave_is,
+              ∙ ap (λ z. gave (limits_of old) s.turns ++ z) d.front.1
+              ∙ sym (all_gave d.turns d.grows d.work d.runs_none),
         );
         all_ran = λ w. runs ∙ s.runs;
-        all_wrote = λ w. absurd (no_whole cause d.cause_is w);
-        all_taken = λ w. absurd (no_whole cause d.cause_is w);
-        shown = shown_by cause d.cause_is;
+        all_wrote = λ w. absurd (no_whole cause id last d.cause_is w);
+        all_taken = λ w. absurd (no_whole cause id last d.cause_is w);
+        shown = shown_by cause id s.heard last d.cause_is;
       }
-    where
-      no_whole : (cause : Ended) → (cause ≡ ended.LinkFault) ⊎ IsEnd cause id last → IsWhole cause
-          → ⊥
-      no_whole ended.PeerEnd (inl e) w = cc
-      no_whole ended.PeerEnd (inr e) w = e
-      no_whole ended.Dropped e w = w
-      no_whole (ended.BadRequest f) (inl e) w = cc
-      no_whole (ended.BadRequest f) (inr e) w = e
-      no_whole ended.LinkFault e w = w
-      no_whole ended.HistoryFull e w = w
-      no_whole ended.NoMemory e w = w
-      no_whole ended.Worn e w = w
-
-      shown_by : (cause : Ended) → (cause ≡ ended.LinkFault) ⊎ IsEnd cause id last
-          → IsShown cause id s.heard last
-      shown_by ended.PeerEnd (inl e) = absurd (let no : ⊥ = cc in no)
-      shown_by ended.PeerEnd (inr e) = absurd e
-      shown_by ended.Dropped (inl e) = absurd (let no : ⊥ = cc in no)
-      shown_by ended.Dropped (inr e) = e
-      shown_by (ended.BadRequest f) (inl e) = absurd (let no : ⊥ = cc in no)
-      shown_by (ended.BadRequest f) (inr e) = absurd e
-      shown_by ended.LinkFault e = tt
-      shown_by ended.HistoryFull (inl e) = absurd (let no : ⊥ = cc in no)
-      shown_by ended.HistoryFull (inr e) = e
-      shown_by ended.NoMemory e = tt
-      shown_by ended.Worn (inl e) = absurd (let no : ⊥ = cc in no)
-      shown_by ended.Worn (inr e) = e
 
 -- counts over two steps, the first of which left faults and ends as they were
 pub end_counts_from : (cause : Ended) (a b c : Counts) → b.faults ≡ a.faults → b.ends ≡ a.ends

@@ -5,7 +5,7 @@ use Rattle.std.specs.List.{All}
 use Rattle.std.proofs.lemmas.List.Elements.{All-nil, All-cons}
 use Rattle.serial_model.specs.declared.history.Entry.TheVariants as entry
 use Rattle.serial_model.specs.History.{latest}
-use Rattle.shared_book.specs.Own.{Grows}
+use Rattle.seat_turns.specs.Own.{Grows}
 use Rattle.shared_book.specs.Turns.{Place, Turn, Ticks, limits_of}
 use Rattle.conn_worker.specs.declared.serve.Heard.{Heard}
 use Rattle.conn_worker.specs.declared.serve.Heard.TheVariants as came

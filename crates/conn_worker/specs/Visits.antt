@@ -17,7 +17,7 @@ use Rattle.serial_model.specs.History.{is_admitted, latest, stream, taken, unsen
 use Rattle.shared_book.specs.declared.turns.Refusal.{Refusal}
 use Rattle.shared_book.specs.declared.turns.Refusal.TheVariants as refusal
 use Rattle.serial_model.specs.declared.history.BookCall.{BookCall}
-use Rattle.shared_book.specs.Own.{past_of, IsWithin, Grows}
+use Rattle.seat_turns.specs.Own.{past_of, IsWithin, Grows}
 use Rattle.shared_book.specs.Batches.{requests_in}
 use Rattle.shared_book.specs.Turns.{Place, Turn, IsCause, limits_of, Admits, Closes, Refuses}
 use Rattle.shared_book.specs.Turns.{IsServerCause, Takes, Ticks}

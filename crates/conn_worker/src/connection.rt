@@ -3,7 +3,7 @@ ghost use Rattle.std.specs.Prelude.{◌≡◌, ◌≤◌, [], true, length, IfOk
 ghost use Rattle.std.specs.List.{All};
 ghost use Rattle.resp_stream.specs.Stream.{begun, fed};
 ghost use Rattle.serial_model.specs.History.{is_admitted};
-ghost use Rattle.shared_book.specs.Own.{IsWithin, past_of};
+ghost use Rattle.seat_turns.specs.Own.{IsWithin, past_of};
 ghost use Rattle.shared_book.specs.Batches.{IsRunAt};
 ghost use Rattle.conn_worker.specs.Visits.{HearsAll, ReadsAll, RunsPart, fed_connection};
 

@@ -2,7 +2,7 @@
 ghost use Rattle.std.specs.Prelude.{◌≡◌, true, IfErr, OnOk};
 ghost use Rattle.std.specs.Io.KnownBytes.{Keeps};
 ghost use Rattle.serial_model.specs.History.{is_admitted};
-ghost use Rattle.shared_book.specs.Own.{IsWithin, past_of};
+ghost use Rattle.seat_turns.specs.Own.{IsWithin, past_of};
 ghost use Rattle.shared_book.specs.Turns.{Place};
 ghost use Rattle.conn_worker.specs.Visits.{Begins, Delivers, DeliversPart, DeliveryCounts};
 

@@ -3,7 +3,7 @@ ghost use Rattle.std.specs.Prelude.{◌≡◌, ◌≤◌, ◌<◌, true, length,
 ghost use Rattle.std.specs.Io.KnownBytes.{Keeps};
 ghost use Rattle.resp_stream.specs.Stream.{begun};
 ghost use Rattle.serial_model.specs.History.{is_admitted};
-ghost use Rattle.shared_book.specs.Own.{IsWithin, past_of};
+ghost use Rattle.seat_turns.specs.Own.{IsWithin, past_of};
 ghost use Rattle.conn_worker.specs.Visits.{EndCounts, Hears, HearsPart, HearingCounts, Visits};
 ghost use Rattle.conn_worker.specs.Visits.{Works, fault_of, front_of};
 

@@ -1,12 +1,13 @@
 -- A turn of a seat, as what it adds to the seat's own.
 use Rattle.std.proofs.Common.{◌≡◌, ◌≤◌, ℕ, List, [], ◌∷◌, ◌++◌, length, Some, None}
-use Rattle.std.proofs.Common.{refl, sym, ap, subst, ◌∙◌}
+use Rattle.std.proofs.Common.{refl, sym, ap, subst, ◌∙◌, arith}
 use Rattle.std.specs.Prelude.{Option}
 use Rattle.turn_lock.specs.History.{entries, IsPrefix, past_after, history_after, own_after}
 use Rattle.atomic_table.specs.Seated.{TableId}
 use Rattle.turn_lock.specs.Counts.{times}
 use Rattle.turn_lock.specs.Seats.{Known, Turned, IsSound, first_seat}
-use Rattle.seat_turns.specs.Own.{own_list, with_pasts, IsWithin, Within, turns_of, Grows}
+use Rattle.seat_turns.specs.Own.{own_list, with_pasts, IsWithin, Within, turns_of, past_of}
+use Rattle.seat_turns.specs.Own.{Grows}
 use Rattle.seat_turns.specs.Turns.{Plays, turns_added}
 use Rattle.seat_turns.proofs.Owning.{own_begins, own_turn, pasts_begins, pasts_length}
 use Rattle.seat_turns.proofs.Owning.{within_owns, pasts_within}
@@ -41,6 +42,13 @@ module _ {E : Type 0} where
       → entries (history_after n h e) ≡ past_after (entries h) e
   entries_after n h None = refl
   entries_after n h (Some x) = refl
+
+  -- the entry that was added is known by the entries with it
+  added_is : (past : List E) (a b : Option E) → past_after past a ≡ past_after past b → a ≡ b
+  added_is past None None h = refl
+  added_is past None (Some y) h = absurd (omega (arith, ap length h))
+  added_is past (Some x) None h = absurd (omega (arith, ap length h))
+  added_is past (Some x) (Some y) h = cc
 
 append_more : {A : Type 0} (b c more : List A) → IsPrefix b (more ++ c)
     → (first : List A) → IsPrefix b (first ++ (more ++ c))
@@ -110,3 +118,14 @@ module _ {U E C R : Type 0} (step : U → List E → C → R → Option E → Ty
               ∙ turns_turn before.number before.seen h before.own e more is);
         };
       }
+
+-- a turn by which the entries grew so
+module _ {U E C R : Type 0} {step : U → List E → C → R → Option E → Type 0} {call : C} {reply : R}
+    {before after : Known U E} (p : Plays step call reply before after) (e : Option E)
+    (is : past_after p.past p.added ≡ past_after p.past e) where
+  pub grows_by : Grows before after (turns_added p.past e)
+  grows_by = subst (λ z. Grows before after (turns_added p.past z)) (added_is p.past p.added e is)
+      p.grows
+
+  pub ends_by : past_of after ≡ past_after p.past e
+  ends_by = p.ends ∙ is

@@ -2,10 +2,12 @@
 use Rattle.std.proofs.Common.{◌≡◌, ◌≤◌, ◌<◌, ◌+◌, ℕ, suc, List, [], ◌∷◌, ◌++◌, length}
 use Rattle.std.proofs.Common.{take, true, cond, refl, sym, ap, subst, ◌∙◌, arith}
 use Rattle.std.proofs.Common.{Some, None, length-append, append-nil, append_assoc, ne_eqb}
-use Rattle.std.specs.Prelude.{Option, Result, Ok, Err, IfOk, IfErr, ◌==◌}
+use Rattle.std.specs.Prelude.{Option, Ok, IfOk, IfErr, ◌==◌}
 use Rattle.std.specs.List.{All}
+use Rattle.std.proofs.lemmas.List.{take-append-le, take_all}
+use Rattle.std.proofs.lemmas.Result.{IfOk-weaker, IfErr-weaker}
 use Rattle.std.proofs.lemmas.List.Elements.{All-nil, All-cons, All-head, All-tail}
-use Rattle.turn_lock.specs.History.{entries, IsPrefix, history_after, own_after}
+use Rattle.turn_lock.specs.History.{IsPrefix, history_after, own_after}
 use Rattle.turn_lock.specs.Seats.{IsSameSeat, Turned, TurnedAll, StopsAt}
 use Rattle.turn_lock.specs.Batches.{IsUnplayed}
 use Rattle.turn_lock.specs.declared.lock.Unplayed.{Unplayed}
@@ -21,10 +23,11 @@ use Rattle.serial_model.specs.declared.history.BookReply.TheVariants.{Bytes, Clo
 use Rattle.serial_model.specs.declared.history.BookRefusal.{BookRefusal}
 use Rattle.serial_model.specs.declared.history.BookRefusal.TheVariants.{Gone, HistoryFull, NoMemory}
 use Rattle.serial_model.specs.History.{is_admitted, has_ended, is_full}
-use Rattle.shared_book.specs.Own.{past_of, own_list, with_pasts, turns_of, IsWithin, Within}
-use Rattle.shared_book.specs.Own.{Grows}
+use Rattle.seat_turns.specs.Own.{past_of, own_list, with_pasts, turns_of, IsWithin, Within}
+use Rattle.seat_turns.specs.Own.{Grows}
+use Rattle.seat_turns.specs.Turns.{Plays}
 use Rattle.resp_value.specs.declared.octets.Octets.{Octets}
-use Rattle.shared_book.specs.Turns.{Place, Turn, Plays, TurnStep, Runs, Takes, IsCause, Refuses}
+use Rattle.shared_book.specs.Turns.{Place, Turn, TurnStep, Runs, Takes, IsCause, Refuses}
 use Rattle.shared_book.specs.Turns.{limits_in, limits_of, most}
 use Rattle.shared_book.specs.declared.turns.Refusal.{Refusal}
 use Rattle.shared_book.specs.declared.turns.Refusal.TheVariants as refusal
@@ -32,15 +35,13 @@ use Rattle.shared_book.specs.declared.batch.Batch.{Batch}
 use Rattle.shared_book.specs.Batches.{IsRunAt, requests_in, RunsEach, RunsAndTakes, RunsFirst}
 use Rattle.shared_book.specs.Batches.{refusal_by, ran_in, taken_in, IsOfBatch, adds_none}
 use Rattle.shared_book.specs.Batches.{Counts}
-use Rattle.shared_book.proofs.Owning.{within_begins}
-use Rattle.shared_book.proofs.Turning.{plays, begins_trans, grows_worn}
-use Rattle.shared_book.proofs.Growing.{grows_none, grows_then, grows_past}
+use Rattle.seat_turns.proofs.Owning.{within_begins}
+use Rattle.seat_turns.proofs.Turning.{plays, begins_trans, grows_worn}
+use Rattle.seat_turns.proofs.Growing.{grows_none, grows_then, grows_past}
 use Rattle.shared_book.proofs.Histories.{begins_lift, admitted_more, ended_more, full_begins}
-use Rattle.shared_book.proofs.Outcomes.{run_runs, run_number, run_gone, run_full, run_memory}
-use Rattle.shared_book.proofs.Outcomes.{run_admitted, run_ticked, run_quiet, run_bytes, run_closed}
-use Rattle.shared_book.proofs.Outcomes.{take_gives, take_some, take_rests, take_gone, take_full}
-use Rattle.shared_book.proofs.Outcomes.{take_memory, take_admitted, take_ran, take_ticked}
-use Rattle.shared_book.proofs.Outcomes.{take_closed}
+use Rattle.shared_book.proofs.Did.{named}
+use Rattle.shared_book.proofs.Outcomes.{entries_long, refuses, never, runs, run_number, gives}
+use Rattle.shared_book.proofs.Outcomes.{rests}
 
 -- ---- the turns of a batch
 
@@ -74,33 +75,10 @@ each_then id now [] a b c h g = grows_into a b c h g
 each_then id now (w ∷ ws) a b c (mid, run, rest) g =
     (mid, run, each_then id now ws mid b c rest g)
 
--- what follows for a value, or for an error, follows where there is one
-pub if_ok : {A E : Type 0} {P Q : A → Type 0} (r : Result A E) → ((a : A) → P a → Q a) → IfOk r P
-    → IfOk r Q
-if_ok (Ok a) f h = f a h
-if_ok (Err e) f h = tt
-
-pub if_err : {A E : Type 0} {P Q : E → Type 0} (r : Result A E) → ((e : E) → P e → Q e)
-    → IfErr r P → IfErr r Q
-if_err (Ok a) f h = tt
-if_err (Err e) f h = f e h
-
 with_tickets : Place → ℕ → Place
 with_tickets k t = record k { tickets = t }
 
 module _ (id now : ℕ) where
-  -- one turn of the batch, at a place whose tickets are those before it
-  one_plays : (call : BookCall) (reply : BookReply) (k next : Place) → IsWithin k
-      → IsSameSeat k next → Turned TurnStep call reply k next
-      → Plays call reply k (with_tickets next k.tickets)
-  unfolding IsWithin with_tickets
-  one_plays call reply k next is same turn =
-      let (u, h, e, has, begins, step, seen, own) = turn in
-      plays call reply k (record next { tickets = k.tickets }) is
-      (subst (λ (z : List (ℕ × Entry) × List ℕ). Within z.0 z.1) (λ i. (sym seen i, sym own i))
-      (within_turn k.number k.seen h k.own e begins is))
-      same.0 same.1 same.4 (omega arith) turn
-
   rest_of : (calls : List BookCall) (replies : List BookReply) (next after : Place) (t : ℕ)
       → TurnedAll TurnStep calls replies next after
       → TurnedAll TurnStep calls replies (with_tickets next t) after
@@ -109,27 +87,11 @@ module _ (id now : ℕ) where
       drawn_before TurnStep calls replies (record next { tickets = t }) after next.tickets
       next.turns is
 
-  on_at : (k l : Place) (call : BookCall) (reply : BookReply) → Plays call reply k l
+  on_at : (k l : Place) (call : BookCall) (reply : BookReply) → Plays TurnStep call reply k l
       → is_admitted (past_of k) id ≡ true → is_admitted (past_of l) id ≡ true
   on_at k l call reply p on =
       begins_lift (λ past. is_admitted past id ≡ true) (admitted_more id) (past_of k) (past_of l)
       (grows_past k l _ p.grows) on
-
-  step_refused : (r : BookRefusal) (words : List (List ℕ)) (k l : Place)
-      → is_admitted (past_of k) id ≡ true → Plays (Run id words now) (Refused r) k l
-      → Refuses (refusal_by r) id k l
-  step_refused (Gone n) words k l on p = run_gone k l id words now n on p
-  step_refused (HistoryFull n) words k l on p = run_full k l id words now n p
-  step_refused NoMemory words k l on p = run_memory k l id words now p
-
-  -- the turn of a call that runs a request here
-  run_plays : (n moment : ℕ) (words : List (List ℕ)) (reply : BookReply) (k next : Place)
-      → (n ≡ id) × (moment ≡ now) → IsWithin k → IsSameSeat k next
-      → Turned TurnStep (Run n words moment) reply k next
-      → Plays (Run id words now) reply k (with_tickets next k.tickets)
-  run_plays n moment words reply k next at is same turn =
-      subst (λ (z : ℕ × ℕ). Plays (Run z.0 words z.1) reply k (with_tickets next k.tickets))
-      (λ i. (at.0 i, at.1 i)) (one_plays (Run n words moment) reply k next is same turn)
 
   less_at : (next after : Place) (t : ℕ) → t ≤ after.tickets
       → (with_tickets next t).tickets ≤ after.tickets
@@ -155,80 +117,101 @@ module _ (id now : ℕ) where
   last_plays : (call : BookCall) (reply : BookReply) (k next after : Place) → IsWithin k
       → k.tickets ≤ after.tickets → IsSameSeat k next → Turned TurnStep call reply k next
       → IsSameSeat next after → after.seen ≡ next.seen → after.own ≡ next.own
-      → Plays call reply k after
+      → Plays TurnStep call reply k after
   unfolding IsWithin
   last_plays call reply k next after is le one turn two seen own =
       let (u, h, e, has, begins, step, ends, owns) = turn in
       let here = seen ∙ ends in
       let mine = own ∙ owns in
-      plays call reply k after is
+      plays TurnStep call reply k after is
       (subst (λ (z : List (ℕ × Entry) × List ℕ). Within z.0 z.1) (λ i. (sym here i, sym mine i))
       (within_turn k.number k.seen h k.own e begins is))
       (two.0 ∙ one.0) (two.1 ∙ one.1) (two.4 ∙ one.4) le
       (u, h, e, has, begins, step, here, mine)
 
-  take_refused : (r : BookRefusal) (k l : Place) → is_admitted (past_of k) id ≡ true
-      → Plays (Take id most) (Refused r) k l → Refuses (refusal_by r) id k l
-  take_refused (Gone n) k l on p = take_gone k l id most n on p
-  take_refused (HistoryFull n) k l on p = take_full k l id most n p
-  take_refused NoMemory k l on p = take_memory k l id most p
+  -- one turn of the batch, at a place whose tickets are those before it
+  one_plays : (call : BookCall) (reply : BookReply) (k next : Place) → IsWithin k
+      → IsSameSeat k next → Turned TurnStep call reply k next
+      → Plays TurnStep call reply k (with_tickets next k.tickets)
+  unfolding with_tickets
+  one_plays call reply k next is same turn =
+      last_plays call reply k next (record next { tickets = k.tickets }) is (omega arith) same turn
+      (refl, refl, refl, refl, refl) refl refl
 
-  take_passed : (reply : BookReply) (k l : Place) → is_admitted (past_of k) id ≡ true
-      → Plays (Take id most) reply k l → adds_none reply ≡ true
-      → Grows k l [] × IsOfBatch reply
-  take_passed (Admitted n i) k l on p h = absurd (let no : ⊥ = cc in no)
-  take_passed (Ran n) k l on p h = absurd (let no : ⊥ = cc in no)
-  take_passed (Ticked n) k l on p h = absurd (let no : ⊥ = cc in no)
-  take_passed Quiet k l on p h = ((take_rests k l id most (omega arith) p).grows, tt)
-  take_passed (Bytes n bytes) k l on p h = absurd (let no : ⊥ = cc in no)
-  take_passed (Closed n) k l on p h = absurd (let no : ⊥ = cc in no)
-  take_passed (Refused r) k l on p h = ((take_refused r k l on p).grows, tt)
+  refused : (call : BookCall) (r : BookRefusal) (k l : Place) → named call ≡ id
+      → is_admitted (past_of k) id ≡ true → Plays TurnStep call (Refused r) k l
+      → Refuses (refusal_by r) id k l
+  refused call (Gone n) k l at on p = refuses k l call (Gone n) id (at, on) p
+  refused call (HistoryFull n) k l at on p = refuses k l call (HistoryFull n) id tt p
+  refused call NoMemory k l at on p = refuses k l call NoMemory id tt p
 
-  run_passed : (words : List (List ℕ)) (reply : BookReply) (k l : Place)
-      → is_admitted (past_of k) id ≡ true → Plays (Run id words now) reply k l
-      → adds_none reply ≡ true → Grows k l [] × IsOfBatch reply
-  run_passed words (Admitted n i) k l on p h = absurd (let no : ⊥ = cc in no)
-  run_passed words (Ran n) k l on p h = absurd (let no : ⊥ = cc in no)
-  run_passed words (Ticked n) k l on p h = absurd (let no : ⊥ = cc in no)
-  run_passed words Quiet k l on p h = absurd (run_quiet k l id words now p)
-  run_passed words (Bytes n bytes) k l on p h = absurd (let no : ⊥ = cc in no)
-  run_passed words (Closed n) k l on p h = absurd (let no : ⊥ = cc in no)
-  run_passed words (Refused r) k l on p h = ((step_refused r words k l on p).grows, tt)
+  -- what was taken of a Quiet adds none, and no Run is Quiet
+  passed : (call : BookCall) (reply : BookReply) (k l : Place) → named call ≡ id
+      → (Plays TurnStep call Quiet k l → Grows k l []) → is_admitted (past_of k) id ≡ true
+      → Plays TurnStep call reply k l → adds_none reply ≡ true → Grows k l [] × IsOfBatch reply
+  passed call (Admitted n i) k l at quiet on p h = absurd (let no : ⊥ = cc in no)
+  passed call (Ran n) k l at quiet on p h = absurd (let no : ⊥ = cc in no)
+  passed call (Ticked n) k l at quiet on p h = absurd (let no : ⊥ = cc in no)
+  passed call Quiet k l at quiet on p h = (quiet p, tt)
+  passed call (Bytes n bytes) k l at quiet on p h = absurd (let no : ⊥ = cc in no)
+  passed call (Closed n) k l at quiet on p h = absurd (let no : ⊥ = cc in no)
+  passed call (Refused r) k l at quiet on p h = ((refused call r k l at on p).grows, tt)
+
+  -- a call that runs a request here
+  pub by_run : (P : BookCall → Type 0) (call : BookCall) → IsRunAt id now call
+      → ((words : List (List ℕ)) → P (Run id words now)) → P call
+  by_run P Admit at f = absurd at
+  by_run P (Run n words moment) at f =
+      subst (λ (z : ℕ × ℕ). P (Run z.0 words z.1)) (λ i. (sym at.0 i, sym at.1 i)) (f words)
+  by_run P (Tick moment) at f = absurd at
+  by_run P (Take n many) at f = absurd at
+  by_run P (Close n) at f = absurd at
+
+  runs_at : List (List (List ℕ)) → List BookCall
+  runs_at [] = []
+  runs_at (words ∷ requests) = Run id words now ∷ runs_at requests
+
+  are_runs : (calls : List BookCall) → All (IsRunAt id now) calls
+      → calls ≡ runs_at (requests_in calls)
+  unfolding runs_at
+  are_runs [] runs = refl
+  are_runs (call ∷ calls) runs =
+      let rest = are_runs calls (All-tail (IsRunAt id now) call calls runs) in
+      by_run (λ c. c ∷ calls ≡ runs_at (requests_in (c ∷ calls))) call
+      (All-head (IsRunAt id now) call calls runs) (λ words. ap (λ z. Run id words now ∷ z) rest)
+
+  -- the turns of a batch
+  IsPlayed : List (List (List ℕ)) → List BookReply → Place → Place → Type 0
+  IsPlayed requests replies k after =
+      TurnedAll TurnStep (runs_at requests ++ Take id most ∷ []) replies k after
 
   -- behind an answer that added no entry, none is added
-  all_passed : (calls : List BookCall) (replies : List BookReply) (k after : Place)
-      → All (IsRunAt id now) calls → IsWithin k → is_admitted (past_of k) id ≡ true
-      → k.tickets ≤ after.tickets → TurnedAll TurnStep (calls ++ Take id most ∷ []) replies k after
-      → All (λ r. adds_none r ≡ true) replies → Grows k after [] × All IsOfBatch replies
-  all_passed [] [] k after runs is on le t all = absurd t
-  all_passed [] (reply ∷ []) k after runs is on le t all =
+  all_passed : (requests : List (List (List ℕ))) (replies : List BookReply) (k after : Place)
+      → IsWithin k → is_admitted (past_of k) id ≡ true → k.tickets ≤ after.tickets
+      → IsPlayed requests replies k after → All (λ r. adds_none r ≡ true) replies
+      → Grows k after [] × All IsOfBatch replies
+  unfolding runs_at IsPlayed
+  all_passed [] [] k after is on le t all = absurd t
+  all_passed [] (reply ∷ []) k after is on le t all =
       let (next, one, turn, two) = t in
-      let did = take_passed reply k after on
+      let did = passed (Take id most) reply k after refl
+      (λ p. (rests k after id most (omega arith) p).grows) on
       (last_plays (Take id most) reply k next after is le one turn two.0 two.1 two.2)
       (All-head (λ x. adds_none x ≡ true) reply [] all) in
       (did.0, All-cons IsOfBatch reply [] did.1 (All-nil IsOfBatch))
-  all_passed [] (reply ∷ more ∷ replies) k after runs is on le t all =
+  all_passed [] (reply ∷ more ∷ replies) k after is on le t all =
       let (next, one, turn, two) = t in absurd two
-  all_passed (call ∷ calls) [] k after runs is on le t all = absurd t
-  all_passed (Admit ∷ calls) (reply ∷ replies) k after runs is on le t all =
-      absurd (All-head (IsRunAt id now) Admit calls runs)
-  all_passed (Tick moment ∷ calls) (reply ∷ replies) k after runs is on le t all =
-      absurd (All-head (IsRunAt id now) (Tick moment) calls runs)
-  all_passed (Take n many ∷ calls) (reply ∷ replies) k after runs is on le t all =
-      absurd (All-head (IsRunAt id now) (Take n many) calls runs)
-  all_passed (Close n ∷ calls) (reply ∷ replies) k after runs is on le t all =
-      absurd (All-head (IsRunAt id now) (Close n) calls runs)
-  all_passed (Run n words moment ∷ calls) (reply ∷ replies) k after runs is on le t all =
+  all_passed (words ∷ requests) [] k after is on le t all = absurd t
+  all_passed (words ∷ requests) (reply ∷ replies) k after is on le t all =
       let (next, same, turn, rest) = t in
+      let call = Run id words now in
       let l = with_tickets next k.tickets in
-      let at = All-head (IsRunAt id now) (Run n words moment) calls runs in
-      let p = run_plays n moment words reply k next at is same turn in
-      let one = run_passed words reply k l on p
+      let p = one_plays call reply k next is same turn in
+      let one = passed call reply k l refl (λ q. absurd (never k l call Quiet q refl)) on p
       (All-head (λ x. adds_none x ≡ true) reply replies all) in
-      let more = all_passed calls replies l after
-      (All-tail (IsRunAt id now) (Run n words moment) calls runs) one.0.within
-      (on_at k l (Run id words now) reply p on) (less_at next after k.tickets le)
-      (rest_of (calls ++ Take id most ∷ []) replies next after k.tickets rest)
+      let more = all_passed requests replies l after one.0.within (on_at k l call reply p on)
+      (less_at next after k.tickets le)
+      (rest_of (runs_at requests ++ Take id most ∷ []) replies next after k.tickets rest)
       (All-tail (λ x. adds_none x ≡ true) reply replies all) in
       (grows_into k l after one.0 more.0, All-cons IsOfBatch reply replies one.1 more.1)
 
@@ -246,10 +229,6 @@ module _ (id now : ℕ) where
   seen_more k l ts g =
       let long = ap length g.seen.1 in
       let both = length-append g.seen.0 k.seen in omega (arith, long, both)
-
-  entries_long : (h : List (ℕ × Entry)) → length (entries h) ≡ length h
-  entries_long [] = refl
-  entries_long (e ∷ h) = ap suc (entries_long h)
 
   -- a Run makes the history longer
   seen_longer : (words : List (List ℕ)) (k l : Place) → Runs id words now k l
@@ -291,10 +270,10 @@ module _ (id now : ℕ) where
   told_ran m words requests replies k l after number run t =
       let longer = seen_longer words k l run in
       record {
-        ok = if_ok (taken_in replies) (λ front h count le.
+        ok = IfOk-weaker (taken_in replies) _ _ (λ front h count le.
             all_more words requests count (ran_in replies) front k l after run
             (h (suc count) (omega (arith, le, longer)))) t.ok;
-        err = if_err (taken_in replies) (λ e h count.
+        err = IfErr-weaker (taken_in replies) _ _ (λ e h count.
             first_more words requests count (ran_in replies) e k l after run (h (suc count))) t.err;
         are = All-cons IsOfBatch (Ran m) replies tt t.are;
         counts = λ count le.
@@ -318,33 +297,32 @@ module _ (id now : ℕ) where
   }
 
   -- the first reply is given, and what those behind it tell
-  tells_one : (words : List (List ℕ)) (calls : List BookCall) (reply : BookReply)
-      (replies : List BookReply) (k l after : Place) → Plays (Run id words now) reply k l
-      → All (IsRunAt id now) calls → is_admitted (past_of k) id ≡ true
-      → l.tickets ≤ after.tickets
-      → TurnedAll TurnStep (calls ++ Take id most ∷ []) replies l after
+  tells_one : (words : List (List ℕ)) (requests : List (List (List ℕ))) (reply : BookReply)
+      (replies : List BookReply) (k l after : Place)
+      → Plays TurnStep (Run id words now) reply k l → is_admitted (past_of k) id ≡ true
+      → l.tickets ≤ after.tickets → IsPlayed requests replies l after
       → StopsAt adds_none (reply ∷ replies)
-      → (IsWithin l → is_admitted (past_of l) id ≡ true → Told (requests_in calls) replies l after)
-      → Told (words ∷ requests_in calls) (reply ∷ replies) k after
-  tells_one words calls (Ran m) replies k l after p runs on le rest stops behind =
-      told_ran m words (requests_in calls) replies k l after (run_number k l id words now m p)
-      (run_runs k l id words now m p)
+      → (IsWithin l → is_admitted (past_of l) id ≡ true → Told requests replies l after)
+      → Told (words ∷ requests) (reply ∷ replies) k after
+  tells_one words requests (Ran m) replies k l after p on le rest stops behind =
+      told_ran m words requests replies k l after (run_number k l id words now m p)
+      (runs k l id words now m p)
       (behind p.grows.within (on_at k l (Run id words now) (Ran m) p on))
-  tells_one words calls (Refused r) replies k l after p runs on le rest stops behind =
-      let one = step_refused r words k l on p in
-      let more = all_passed calls replies l after runs one.grows.within
+  tells_one words requests (Refused r) replies k l after p on le rest stops behind =
+      let one = refused (Run id words now) r k l refl on p in
+      let more = all_passed requests replies l after one.grows.within
       (on_at k l (Run id words now) (Refused r) p on) le rest (stops.0 refl) in
-      told_refused r (words ∷ requests_in calls) replies k l after one more.0 more.1
-  tells_one words calls (Admitted n i) replies k l after p runs on le rest stops behind =
-      absurd (run_admitted k l id words now n i p)
-  tells_one words calls (Ticked n) replies k l after p runs on le rest stops behind =
-      absurd (run_ticked k l id words now n p)
-  tells_one words calls Quiet replies k l after p runs on le rest stops behind =
-      absurd (run_quiet k l id words now p)
-  tells_one words calls (Bytes n bytes) replies k l after p runs on le rest stops behind =
-      absurd (run_bytes k l id words now n bytes p)
-  tells_one words calls (Closed n) replies k l after p runs on le rest stops behind =
-      absurd (run_closed k l id words now n p)
+      told_refused r (words ∷ requests) replies k l after one more.0 more.1
+  tells_one words requests (Admitted n i) replies k l after p on le rest stops behind =
+      absurd (never k l (Run id words now) (Admitted n i) p refl)
+  tells_one words requests (Ticked n) replies k l after p on le rest stops behind =
+      absurd (never k l (Run id words now) (Ticked n) p refl)
+  tells_one words requests Quiet replies k l after p on le rest stops behind =
+      absurd (never k l (Run id words now) Quiet p refl)
+  tells_one words requests (Bytes n bytes) replies k l after p on le rest stops behind =
+      absurd (never k l (Run id words now) (Bytes n bytes) p refl)
+  tells_one words requests (Closed n) replies k l after p on le rest stops behind =
+      absurd (never k l (Run id words now) (Closed n) p refl)
 
   -- what was taken, where all ran
   told_front : (front : Option Octets) (reply : BookReply) (k after : Place) → IsWithin k
@@ -368,53 +346,56 @@ module _ (id now : ℕ) where
   }
 
   tells_take : (reply : BookReply) (k after : Place) → IsWithin k
-      → is_admitted (past_of k) id ≡ true → Plays (Take id most) reply k after
+      → is_admitted (past_of k) id ≡ true → Plays TurnStep (Take id most) reply k after
       → Told [] (reply ∷ []) k after
   tells_take (Bytes n bytes) k after is on p =
       told_front (Some bytes) (Bytes n bytes) k after is refl refl
-      (take_gives k after id most n bytes p, take_some k after id most n bytes p) tt (λ count. tt)
+      (gives k after id most n bytes p) tt (λ count. tt)
   tells_take Quiet k after is on p =
-      told_front None Quiet k after is refl refl (take_rests k after id most (omega arith) p) tt
+      told_front None Quiet k after is refl refl (rests k after id most (omega arith) p) tt
       (λ count. tt)
   tells_take (Refused r) k after is on p =
-      let one = take_refused r k after on p in
+      let one = refused (Take id most) r k after refl on p in
       told_refused r [] [] k after after one (grows_none after one.grows.within)
       (All-nil IsOfBatch)
-  tells_take (Admitted n i) k after is on p = absurd (take_admitted k after id most n i p)
-  tells_take (Ran n) k after is on p = absurd (take_ran k after id most n p)
-  tells_take (Ticked n) k after is on p = absurd (take_ticked k after id most n p)
-  tells_take (Closed n) k after is on p = absurd (take_closed k after id most n p)
+  tells_take (Admitted n i) k after is on p =
+      absurd (never k after (Take id most) (Admitted n i) p refl)
+  tells_take (Ran n) k after is on p = absurd (never k after (Take id most) (Ran n) p refl)
+  tells_take (Ticked n) k after is on p = absurd (never k after (Take id most) (Ticked n) p refl)
+  tells_take (Closed n) k after is on p = absurd (never k after (Take id most) (Closed n) p refl)
+
+  tells_all : (requests : List (List (List ℕ))) (replies : List BookReply) (k after : Place)
+      → IsWithin k → is_admitted (past_of k) id ≡ true → k.tickets ≤ after.tickets
+      → IsPlayed requests replies k after → StopsAt adds_none replies
+      → Told requests replies k after
+  unfolding runs_at IsPlayed
+  tells_all [] [] k after is on le t stops = absurd t
+  tells_all [] (reply ∷ []) k after is on le t stops =
+      let (next, one, turn, two) = t in
+      tells_take reply k after is on
+      (last_plays (Take id most) reply k next after is le one turn two.0 two.1 two.2)
+  tells_all [] (reply ∷ more ∷ replies) k after is on le t stops =
+      let (next, one, turn, two) = t in absurd two
+  tells_all (words ∷ requests) [] k after is on le t stops = absurd t
+  tells_all (words ∷ requests) (reply ∷ replies) k after is on le t stops =
+      let (next, same, turn, rest) = t in
+      let l = with_tickets next k.tickets in
+      let less = less_at next after k.tickets le in
+      let behind =
+      rest_of (runs_at requests ++ Take id most ∷ []) replies next after k.tickets rest in
+      tells_one words requests reply replies k l after
+      (one_plays (Run id words now) reply k next is same turn) on less behind stops
+      (λ within there. tells_all requests replies l after within there less behind stops.1)
 
   pub tells : (calls : List BookCall) (replies : List BookReply) (k after : Place)
       → All (IsRunAt id now) calls → IsWithin k → is_admitted (past_of k) id ≡ true
       → k.tickets ≤ after.tickets → TurnedAll TurnStep (calls ++ Take id most ∷ []) replies k after
       → StopsAt adds_none replies → Told (requests_in calls) replies k after
-  tells [] [] k after runs is on le t stops = absurd t
-  tells [] (reply ∷ []) k after runs is on le t stops =
-      let (next, one, turn, two) = t in
-      tells_take reply k after is on
-      (last_plays (Take id most) reply k next after is le one turn two.0 two.1 two.2)
-  tells [] (reply ∷ more ∷ replies) k after runs is on le t stops =
-      let (next, one, turn, two) = t in absurd two
-  tells (call ∷ calls) [] k after runs is on le t stops = absurd t
-  tells (Admit ∷ calls) (reply ∷ replies) k after runs is on le t stops =
-      absurd (All-head (IsRunAt id now) Admit calls runs)
-  tells (Tick moment ∷ calls) (reply ∷ replies) k after runs is on le t stops =
-      absurd (All-head (IsRunAt id now) (Tick moment) calls runs)
-  tells (Take n many ∷ calls) (reply ∷ replies) k after runs is on le t stops =
-      absurd (All-head (IsRunAt id now) (Take n many) calls runs)
-  tells (Close n ∷ calls) (reply ∷ replies) k after runs is on le t stops =
-      absurd (All-head (IsRunAt id now) (Close n) calls runs)
-  tells (Run n words moment ∷ calls) (reply ∷ replies) k after runs is on le t stops =
-      let (next, same, turn, rest) = t in
-      let l = with_tickets next k.tickets in
-      let at = All-head (IsRunAt id now) (Run n words moment) calls runs in
-      let p = run_plays n moment words reply k next at is same turn in
-      let less = less_at next after k.tickets le in
-      let behind = rest_of (calls ++ Take id most ∷ []) replies next after k.tickets rest in
-      let left = All-tail (IsRunAt id now) (Run n words moment) calls runs in
-      tells_one words calls reply replies k l after p left on less behind stops
-      (λ within there. tells calls replies l after left within there less behind stops.1)
+  unfolding IsPlayed
+  tells calls replies k after runs is on le t =
+      tells_all (requests_in calls) replies k after is on le
+      (subst (λ z. TurnedAll TurnStep (z ++ Take id most ∷ []) replies k after)
+      (are_runs calls runs) t)
 
   -- what is told of a batch, with the requests that ran before
   pub told_ok : (count : ℕ) (requests : List (List (List ℕ))) (replies : List BookReply)
@@ -422,26 +403,20 @@ module _ (id now : ℕ) where
       → b.requests ≡ count + ran_in replies → b.front ≡ taken_in replies
       → IfOk b.front (λ front. RunsAndTakes id now count requests b.requests front k after)
   told_ok count requests replies k after b t le ran front =
-      subst (λ z. IfOk z (λ f. RunsAndTakes id now count requests b.requests f k after))
-      (sym front)
-      (subst (λ n. IfOk (taken_in replies) (λ f. RunsAndTakes id now count requests n f k after))
-      (sym ran) (if_ok (taken_in replies) (λ f h. h count le) t.ok))
+      rw (front, ran) (IfOk-weaker (taken_in replies) _ _ (λ f h. h count le) t.ok)
 
   pub told_err : (count : ℕ) (requests : List (List (List ℕ))) (replies : List BookReply)
       (k after : Place) (b : Batch) → Told requests replies k after
       → b.requests ≡ count + ran_in replies → b.front ≡ taken_in replies
       → IfErr b.front (λ e. RunsFirst id now count requests b.requests e k after)
   told_err count requests replies k after b t ran front =
-      subst (λ z. IfErr z (λ e. RunsFirst id now count requests b.requests e k after))
-      (sym front)
-      (subst (λ n. IfErr (taken_in replies) (λ e. RunsFirst id now count requests n e k after))
-      (sym ran) (if_err (taken_in replies) (λ e h. h count) t.err))
+      rw (front, ran) (IfErr-weaker (taken_in replies) _ _ (λ e h. h count) t.err)
 
 -- ---- a turn each
 
 take_front : {A : Type 0} (xs ys : List A) → take (length xs) (xs ++ ys) ≡ xs
-take_front [] ys = refl
-take_front (x ∷ xs) ys = ap (λ z. x ∷ z) (take_front xs ys)
+take_front xs ys =
+    take-append-le (length xs) xs ys (omega arith) ∙ take_all (length xs) xs (omega arith)
 
 pub last_off : {A : Type 0} (xs ys : List A) (x : A) (last : List A)
     → xs ++ x ∷ [] ≡ ys ++ last → length ys ≡ length xs → ys ≡ xs
@@ -591,15 +566,9 @@ pub runs_alone : (id now : ℕ) (rest left : List BookCall) (call : BookCall)
     → All (IsRunAt id now) rest → rest ≡ call ∷ left
     → ((n : ℕ) (words : List (List ℕ)) (moment : ℕ) → call ≡ Run n words moment → ⊥) → ⊥
 runs_alone id now rest left call runs is other =
-    by_case call (All-head (IsRunAt id now) call left (subst (All (IsRunAt id now)) is runs)) other
-  where
-    by_case : (call : BookCall) → IsRunAt id now call
-        → ((n : ℕ) (words : List (List ℕ)) (moment : ℕ) → call ≡ Run n words moment → ⊥) → ⊥
-    by_case Admit at other = at
-    by_case (Run n words moment) at other = other n words moment refl
-    by_case (Tick moment) at other = at
-    by_case (Take n many) at other = at
-    by_case (Close n) at other = at
+    by_run id now (λ c. c ≡ call → ⊥) call
+    (All-head (IsRunAt id now) call left (subst (All (IsRunAt id now)) is runs))
+    (λ words same. other id words now (sym same)) refl
 
 -- the lock played none of them
 pub unplayed_grows : (e : Unplayed) (n : ℕ) (k l : Place) → IsWithin k → k.tickets ≤ l.tickets

@@ -1,6 +1,3 @@
-pub mod Owning
-pub mod Turning
-pub mod Growing
 pub mod Histories
 pub mod Did
 pub mod Outcomes

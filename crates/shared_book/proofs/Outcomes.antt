@@ -1,9 +1,14 @@
 -- From a turn that was played, what its call's function promises.
-use Rattle.std.proofs.Common.{◌≡◌, ◌≤◌, ◌<◌, ◌+◌, ℕ, List, [], ◌∷◌, length, max, take}
-use Rattle.std.proofs.Common.{true, refl, sym, ap, subst, ◌∙◌, arith, Some, None}
+use Rattle.std.proofs.Common.{◌≡◌, ◌≤◌, ◌<◌, ℕ, List, [], ◌∷◌, length, max, take}
+use Rattle.std.proofs.Common.{true, false, refl, sym, ap, subst, ◌∙◌, arith, Some, None}
 use Rattle.std.proofs.Common.{inl, inr, zero, suc}
+use Rattle.std.specs.Prelude.{⊤}
 use Rattle.turn_lock.specs.History.{entries, past_after}
 use Rattle.turn_lock.specs.declared.rule.TheConstants.{LAST_TICKET}
+use Rattle.seat_turns.specs.Own.{past_of, Grows}
+use Rattle.seat_turns.specs.Turns.{Plays}
+use Rattle.seat_turns.proofs.Turning.{grows_by, ends_by}
+use Rattle.serial_model.specs.declared.history.Limits.{Limits}
 use Rattle.serial_model.specs.declared.history.Entry.{Entry}
 use Rattle.serial_model.specs.declared.history.Entry.TheVariants as entry
 use Rattle.serial_model.specs.declared.history.BookCall.{BookCall}
@@ -11,489 +16,252 @@ use Rattle.serial_model.specs.declared.history.BookCall.TheVariants.{Admit, Run,
 use Rattle.serial_model.specs.declared.history.BookCall.TheVariants.{Close}
 use Rattle.serial_model.specs.declared.history.BookReply.{BookReply}
 use Rattle.serial_model.specs.declared.history.BookReply.TheVariants.{Admitted, Ran, Ticked, Quiet}
-use Rattle.serial_model.specs.declared.history.BookReply.TheVariants.{Bytes, Closed, Refused}
+use Rattle.serial_model.specs.declared.history.BookReply.TheVariants.{Bytes, Refused}
+use Rattle.serial_model.specs.declared.history.BookRefusal.{BookRefusal}
 use Rattle.serial_model.specs.declared.history.BookRefusal.TheVariants.{Gone, HistoryFull, NoMemory}
-use Rattle.serial_model.specs.History.{admitted, is_admitted, expired, has_ended, is_full, latest}
+use Rattle.serial_model.specs.History.{is_admitted, expired, has_ended, is_full, latest}
 use Rattle.serial_model.specs.History.{unsent}
-use Rattle.shared_book.specs.Own.{past_of, Grows}
-use Rattle.shared_book.specs.Turns.{Place, Plays, limits_of, limits_in, turns_added}
-use Rattle.shared_book.specs.Turns.{Refuses, Admits, Runs, Gives, Rests, Closes}
-use Rattle.shared_book.specs.Turns.{Ticks}
+use Rattle.serial_model.specs.Steps.{BookStep}
+use Rattle.shared_book.specs.Turns.{Place, TurnStep, limits_of, limits_in, Refuses}
+use Rattle.shared_book.specs.Turns.{Admits, Runs, Gives, Rests, Ticks, Closes}
+use Rattle.shared_book.specs.Batches.{refusal_by}
+use Rattle.shared_book.specs.declared.turns.Refusal.{Refusal}
 use Rattle.shared_book.specs.declared.turns.Refusal.TheVariants as refusal
 use Rattle.shared_book.proofs.Histories.{ended_or, live_of, ended_now, begins_lift, admitted_more}
-use Rattle.shared_book.proofs.Did.{AdmitSays, RunSays, TakeSays, TickSays, CloseSays, admit_says}
-use Rattle.shared_book.proofs.Did.{run_says, take_says, tick_says, close_says, added_one}
-use Rattle.shared_book.proofs.Did.{added_none}
+use Rattle.shared_book.proofs.Did.{Said, says, close_says, comes, named}
 
 nothing_waits : (n : ℕ) (xs : List ℕ) → 0 < n → take n xs ≡ [] → xs ≡ []
 nothing_waits n [] lt h = refl
 nothing_waits zero (x ∷ xs) lt h = absurd (omega arith)
 nothing_waits (suc n) (x ∷ xs) lt h = absurd (let no : ⊥ = cc in no)
 
-entries_long : {E : Type 0} (h : List (ℕ × E)) → length (entries h) ≡ length h
+pub entries_long : {E : Type 0} (h : List (ℕ × E)) → length (entries h) ≡ length h
 entries_long [] = refl
 entries_long (e ∷ h) = ap suc (entries_long h)
 
-module _ (before after : Place) (call : BookCall) (reply : BookReply)
-    (p : Plays call reply before after) where
-  limits_same : limits_of after ≡ limits_of before
-  limits_same = ap limits_in p.grows.setup
+module _ {before after : Place} {call : BookCall} {reply : BookReply}
+    (p : Plays TurnStep call reply before after) where
+  did_here : BookStep (limits_of before) p.past call reply (past_after p.past p.added)
+  did_here = subst (λ l. TurnStep l p.past call reply p.added) (ap limits_in (sym p.setup_is)) p.did
+
+  said : Said (limits_of before) p.past call reply (past_after p.past p.added)
+  said = says (limits_of before) p.past call reply (past_after p.past p.added) did_here
 
   now_admitted : (id : ℕ) → is_admitted (past_of before) id ≡ true → is_admitted p.past id ≡ true
   now_admitted id on = begins_lift (λ past. is_admitted past id ≡ true) (admitted_more id)
       (past_of before) p.past p.begins on
 
-  -- this entry was added
-  module _ (x : Entry) (is : p.added ≡ Some x) where
-    grows_one : Grows before after ((x, p.past) ∷ [])
-    grows_one = subst (λ z. Grows before after (turns_added p.past z)) is p.grows
-
-    ends_one : past_of after ≡ x ∷ p.past
-    ends_one = p.ends ∙ ap (past_after p.past) is
-
   -- none was added
-  module _ (none : p.added ≡ None) where
-    grows_same : Grows before after []
-    grows_same = subst (λ z. Grows before after (turns_added p.past z)) none p.grows
+  module _ (none : past_after p.past p.added ≡ p.past) where
+    stays : Grows before after []
+    stays = grows_by p None none
+
+    -- what is shown where the turn was played, the seat shows after it
+    seen_after : (P : Limits → List Entry → Type 0) → P (limits_of before) p.past
+        → P (limits_of after) (past_of after)
+    seen_after P h = subst (λ l. P l (past_of after)) (sym (ap limits_in p.grows.setup))
+        (subst (P (limits_of before)) (sym (ends_by p None none)) h)
 
     ends_same : past_of after ≡ p.past
-    ends_same = p.ends ∙ ap (past_after p.past) none
+    ends_same = ends_by p None none
 
-    refused_full : (id : ℕ) → is_full (limits_of before) p.past ≡ true
-        → Refuses refusal.HistoryFull id before after
-    refused_full id h = record {
-      grows = grows_same;
-      cause_is = ap (λ l. is_full l (past_of after)) limits_same
-          ∙ ap (is_full (limits_of before)) ends_same ∙ h;
-    }
+module _ (before after : Place) (call : BookCall) where
+  -- ---- refusals
 
-    refused_gone : (id : ℕ) → has_ended (limits_of before) id p.past ≡ true
-        → Refuses refusal.Dropped id before after
-    refused_gone id h = record {
-      grows = grows_same;
-      cause_is = ap (λ l. has_ended l id (past_of after)) limits_same
-          ∙ ap (has_ended (limits_of before) id) ends_same ∙ h;
-    }
+  -- a turn is refused for its connection where it is of one that was admitted
+  abbrev pub IsOf : Refusal → ℕ → Type 0
+  IsOf refusal.Dropped id = (named call ≡ id) × (is_admitted (past_of before) id ≡ true)
+  IsOf cause id = ⊤
 
-    refused_memory : (id : ℕ) → Refuses refusal.NoMemory id before after
-    refused_memory id = record { grows = grows_same; cause_is = tt }
-
-pub refused_worn : (id : ℕ) (before after : Place) → Grows before after []
-    → LAST_TICKET ≤ after.tickets → Refuses refusal.Worn id before after
-refused_worn id before after g worn = record { grows = g; cause_is = worn }
-
-module _ (before after : Place) where
-  -- ---- Admit
-
-  pub admit_admitted : (n id : ℕ) → Plays Admit (Admitted n id) before after
-      → Admits id before after
-  unfolding AdmitSays
-  admit_admitted n id p =
-      let s = admit_says (limits_of before) p.past (Admitted n id) (past_after p.past p.added)
-      p.step in
-      let is : p.added ≡ Some (entry.Admit id) =
-      added_one p.past p.added (entry.Admit (admitted p.past + 1)) s.1
-      ∙ ap (λ k. Some (entry.Admit k)) (sym s.0) in
+  pub refuses : (r : BookRefusal) (id : ℕ) → IsOf (refusal_by r) id
+      → Plays TurnStep call (Refused r) before after → Refuses (refusal_by r) id before after
+  refuses (HistoryFull n) id of p =
+      let (known, e, s, is) = said p in
+      let none = is ∙ ap (past_after p.past) s.0 in
+      record { grows = stays p none; cause_is = seen_after p none (λ l x. is_full l x ≡ true) s.1 }
+  refuses NoMemory id of p =
+      let (known, e, s, is) = said p in
+      record { grows = stays p (is ∙ ap (past_after p.past) s); cause_is = tt }
+  refuses (Gone n) id of p =
+      let (known, e, s, is) = said p in
+      let none = is ∙ ap (past_after p.past) s.0 in
       record {
-        past = p.past;
-        next = s.0;
-        grows = grows_one before after Admit (Admitted n id) p (entry.Admit id) is;
-        ends = ends_one before after Admit (Admitted n id) p (entry.Admit id) is;
+        grows = stays p none;
+        cause_is = seen_after p none (λ l x. has_ended l id x ≡ true)
+            (ended_or (limits_of before) id p.past (now_admitted p id of.1) (rw of.0 at s.1));
       }
 
-  pub admit_full : (n : ℕ) → Plays Admit (Refused (HistoryFull n)) before after
+  pub refused_worn : (id : ℕ) → Grows before after [] → LAST_TICKET ≤ after.tickets
+      → Refuses refusal.Worn id before after
+  refused_worn id g worn = record { grows = g; cause_is = worn }
+
+  -- a reply that does not come
+  pub never : (reply : BookReply) → Plays TurnStep call reply before after
+      → comes call reply ≡ false → ⊥
+  never reply p not = let known = (said p).0 in cc
+
+module _ (before after : Place) where
+  pub admit_full : (n : ℕ) → Plays TurnStep Admit (Refused (HistoryFull n)) before after
       → Refuses refusal.HistoryFull 0 before after
-  unfolding AdmitSays
-  admit_full n p =
-      let s = admit_says (limits_of before) p.past (Refused (HistoryFull n))
-      (past_after p.past p.added) p.step in
-      refused_full before after Admit (Refused (HistoryFull n)) p
-      (added_none p.past p.added s.0) 0 s.1
+  admit_full n p = refuses before after Admit (HistoryFull n) 0 tt p
 
-  pub admit_memory : Plays Admit (Refused NoMemory) before after
+  pub admit_memory : Plays TurnStep Admit (Refused NoMemory) before after
       → Refuses refusal.NoMemory 0 before after
-  unfolding AdmitSays
-  admit_memory p =
-      let s = admit_says (limits_of before) p.past (Refused NoMemory) (past_after p.past p.added)
-      p.step in
-      refused_memory before after Admit (Refused NoMemory) p (added_none p.past p.added s) 0
+  admit_memory p = refuses before after Admit NoMemory 0 tt p
 
-  pub admit_ran : (n : ℕ) → Plays Admit (Ran n) before after → ⊥
-  unfolding AdmitSays
-  admit_ran n p = admit_says (limits_of before) p.past (Ran n) (past_after p.past p.added) p.step
+  pub tick_full : (now n : ℕ) → Plays TurnStep (Tick now) (Refused (HistoryFull n)) before after
+      → Refuses refusal.HistoryFull 0 before after
+  tick_full now n p = refuses before after (Tick now) (HistoryFull n) 0 tt p
 
-  pub admit_ticked : (n : ℕ) → Plays Admit (Ticked n) before after → ⊥
-  unfolding AdmitSays
-  admit_ticked n p =
-      admit_says (limits_of before) p.past (Ticked n) (past_after p.past p.added) p.step
+  pub tick_memory : (now : ℕ) → Plays TurnStep (Tick now) (Refused NoMemory) before after
+      → Refuses refusal.NoMemory 0 before after
+  tick_memory now p = refuses before after (Tick now) NoMemory 0 tt p
 
-  pub admit_quiet : Plays Admit Quiet before after → ⊥
-  unfolding AdmitSays
-  admit_quiet p = admit_says (limits_of before) p.past Quiet (past_after p.past p.added) p.step
+  pub run_gone : (id : ℕ) (words : List (List ℕ)) (now n : ℕ)
+      → is_admitted (past_of before) id ≡ true
+      → Plays TurnStep (Run id words now) (Refused (Gone n)) before after
+      → Refuses refusal.Dropped id before after
+  run_gone id words now n on p = refuses before after (Run id words now) (Gone n) id (refl, on) p
 
-  pub admit_bytes : (n : ℕ) (bytes : List ℕ) → Plays Admit (Bytes n bytes) before after → ⊥
-  unfolding AdmitSays
-  admit_bytes n bytes p =
-      admit_says (limits_of before) p.past (Bytes n bytes) (past_after p.past p.added) p.step
+  pub run_full : (id : ℕ) (words : List (List ℕ)) (now n : ℕ)
+      → Plays TurnStep (Run id words now) (Refused (HistoryFull n)) before after
+      → Refuses refusal.HistoryFull id before after
+  run_full id words now n p = refuses before after (Run id words now) (HistoryFull n) id tt p
 
-  pub admit_closed : (n : ℕ) → Plays Admit (Closed n) before after → ⊥
-  unfolding AdmitSays
-  admit_closed n p =
-      admit_says (limits_of before) p.past (Closed n) (past_after p.past p.added) p.step
+  pub run_memory : (id : ℕ) (words : List (List ℕ)) (now : ℕ)
+      → Plays TurnStep (Run id words now) (Refused NoMemory) before after
+      → Refuses refusal.NoMemory id before after
+  run_memory id words now p = refuses before after (Run id words now) NoMemory id tt p
 
-  pub admit_gone : (n : ℕ) → Plays Admit (Refused (Gone n)) before after → ⊥
-  unfolding AdmitSays
-  admit_gone n p =
-      admit_says (limits_of before) p.past (Refused (Gone n)) (past_after p.past p.added) p.step
+  pub take_gone : (id most n : ℕ) → is_admitted (past_of before) id ≡ true
+      → Plays TurnStep (Take id most) (Refused (Gone n)) before after
+      → Refuses refusal.Dropped id before after
+  take_gone id most n on p = refuses before after (Take id most) (Gone n) id (refl, on) p
 
-  -- ---- Run
+  pub take_full : (id most n : ℕ)
+      → Plays TurnStep (Take id most) (Refused (HistoryFull n)) before after
+      → Refuses refusal.HistoryFull id before after
+  take_full id most n p = refuses before after (Take id most) (HistoryFull n) id tt p
 
-  module _ (id : ℕ) (words : List (List ℕ)) (now : ℕ) where
-    run_ran : (n : ℕ) → Plays (Run id words now) (Ran n) before after
-        → Runs id words now before after × (n ≡ length after.seen)
-    unfolding RunSays
-    run_ran n p =
-        let s = run_says (limits_of before) p.past id words now (Ran n)
-        (past_after p.past p.added) p.step in
-        let x = entry.Run id words (max now (latest p.past)) in
-        let is = added_one p.past p.added x s.1 in
-        let ends = ends_one before after (Run id words now) (Ran n) p x is in
-        let long = ap length ends in
-        let same = entries_long after.seen in (
-          record {
-            past = p.past;
-            begins = p.begins;
-            grows = grows_one before after (Run id words now) (Ran n) p x is;
-            ends = ends;
-          },
-          omega (arith, s.0, long, same),
-        )
+  pub take_memory : (id most : ℕ)
+      → Plays TurnStep (Take id most) (Refused NoMemory) before after
+      → Refuses refusal.NoMemory id before after
+  take_memory id most p = refuses before after (Take id most) NoMemory id tt p
 
-    pub run_runs : (n : ℕ) → Plays (Run id words now) (Ran n) before after
-        → Runs id words now before after
-    run_runs n p = (run_ran n p).0
+  pub admits : (n id : ℕ) → Plays TurnStep Admit (Admitted n id) before after
+      → Admits id before after
+  admits n id p =
+      let (known, e, s, is) = said p in
+      let one = is ∙ ap (past_after p.past) s.0 in
+      record {
+        past = p.past;
+        next = s.1;
+        grows = grows_by p (Some (entry.Admit id)) one;
+        ends = ends_by p (Some (entry.Admit id)) one;
+      }
 
-    pub run_number : (n : ℕ) → Plays (Run id words now) (Ran n) before after
-        → n ≡ length after.seen
-    run_number n p = (run_ran n p).1
+  pub runs : (id : ℕ) (words : List (List ℕ)) (now n : ℕ)
+      → Plays TurnStep (Run id words now) (Ran n) before after → Runs id words now before after
+  runs id words now n p =
+      let (known, e, s, is) = said p in
+      let one = is ∙ ap (past_after p.past) s.0 in
+      let x = entry.Run id words (max now (latest p.past)) in
+      record {
+        past = p.past;
+        begins = p.begins;
+        grows = grows_by p (Some x) one;
+        ends = ends_by p (Some x) one;
+      }
 
-    pub run_gone : (n : ℕ) → is_admitted (past_of before) id ≡ true
-        → Plays (Run id words now) (Refused (Gone n)) before after
-        → Refuses refusal.Dropped id before after
-    unfolding RunSays
-    run_gone n on p =
-        let call = Run id words now in
-        let s = run_says (limits_of before) p.past id words now (Refused (Gone n))
-        (past_after p.past p.added) p.step in
-        refused_gone before after call (Refused (Gone n)) p (added_none p.past p.added s.0) id
-        (ended_or (limits_of before) id p.past
-        (now_admitted before after call (Refused (Gone n)) p id on) s.1)
+  pub run_number : (id : ℕ) (words : List (List ℕ)) (now n : ℕ)
+      → Plays TurnStep (Run id words now) (Ran n) before after → n ≡ length after.seen
+  run_number id words now n p =
+      let (known, e, s, is) = said p in
+      let x = entry.Run id words (max now (latest p.past)) in
+      let long = ap length (ends_by p (Some x) (is ∙ ap (past_after p.past) s.0)) in
+      let same = entries_long after.seen in omega (arith, s.1, long, same)
 
-    pub run_full : (n : ℕ) → Plays (Run id words now) (Refused (HistoryFull n)) before after
-        → Refuses refusal.HistoryFull id before after
-    unfolding RunSays
-    run_full n p =
-        let s = run_says (limits_of before) p.past id words now (Refused (HistoryFull n))
-        (past_after p.past p.added) p.step in
-        refused_full before after (Run id words now) (Refused (HistoryFull n)) p
-        (added_none p.past p.added s.0) id s.1
-
-    pub run_memory : Plays (Run id words now) (Refused NoMemory) before after
-        → Refuses refusal.NoMemory id before after
-    unfolding RunSays
-    run_memory p =
-        let s = run_says (limits_of before) p.past id words now (Refused NoMemory)
-        (past_after p.past p.added) p.step in
-        refused_memory before after (Run id words now) (Refused NoMemory) p
-        (added_none p.past p.added s) id
-
-    pub run_admitted : (n i : ℕ) → Plays (Run id words now) (Admitted n i) before after → ⊥
-    unfolding RunSays
-    run_admitted n i p = run_says (limits_of before) p.past id words now (Admitted n i)
-        (past_after p.past p.added) p.step
-
-    pub run_ticked : (n : ℕ) → Plays (Run id words now) (Ticked n) before after → ⊥
-    unfolding RunSays
-    run_ticked n p = run_says (limits_of before) p.past id words now (Ticked n)
-        (past_after p.past p.added) p.step
-
-    pub run_quiet : Plays (Run id words now) Quiet before after → ⊥
-    unfolding RunSays
-    run_quiet p = run_says (limits_of before) p.past id words now Quiet
-        (past_after p.past p.added) p.step
-
-    pub run_bytes : (n : ℕ) (bytes : List ℕ)
-        → Plays (Run id words now) (Bytes n bytes) before after → ⊥
-    unfolding RunSays
-    run_bytes n bytes p = run_says (limits_of before) p.past id words now (Bytes n bytes)
-        (past_after p.past p.added) p.step
-
-    pub run_closed : (n : ℕ) → Plays (Run id words now) (Closed n) before after → ⊥
-    unfolding RunSays
-    run_closed n p = run_says (limits_of before) p.past id words now (Closed n)
-        (past_after p.past p.added) p.step
-
-  -- ---- Take
-
-  module _ (id most : ℕ) where
-    take_bytes : (n : ℕ) (bytes : List ℕ) → Plays (Take id most) (Bytes n bytes) before after
-        → Gives id most bytes before after × (0 < length bytes)
-    unfolding TakeSays
-    take_bytes n bytes p =
-        let call = Take id most in
-        let s = take_says (limits_of before) p.past id most (Bytes n bytes)
-        (past_after p.past p.added) p.step in
-        let x = entry.Take id most in
-        let is = added_one p.past p.added x s.1 in (
-          record {
-            past = p.past;
-            begins = p.begins;
-            given = s.0;
-            live = live_of (limits_of before) id p.past s.2;
-            grows = grows_one before after call (Bytes n bytes) p x is;
-            ends = ends_one before after call (Bytes n bytes) p x is;
-          },
-          s.3,
-        )
-
-    pub take_gives : (n : ℕ) (bytes : List ℕ) → Plays (Take id most) (Bytes n bytes) before after
-        → Gives id most bytes before after
-    take_gives n bytes p = (take_bytes n bytes p).0
-
-    pub take_some : (n : ℕ) (bytes : List ℕ) → Plays (Take id most) (Bytes n bytes) before after
-        → 0 < length bytes
-    take_some n bytes p = (take_bytes n bytes p).1
-
-    pub take_rests : 0 < most → Plays (Take id most) Quiet before after → Rests id before after
-    unfolding TakeSays
-    take_rests pos p =
-        let s = take_says (limits_of before) p.past id most Quiet (past_after p.past p.added)
-        p.step in
-        let none = added_none p.past p.added s.0 in
-        let ends = ends_same before after (Take id most) Quiet p none in
+  pub gives : (id most n : ℕ) (bytes : List ℕ)
+      → Plays TurnStep (Take id most) (Bytes n bytes) before after
+      → Gives id most bytes before after × (0 < length bytes)
+  gives id most n bytes p =
+      let (known, e, s, is) = said p in
+      let one = is ∙ ap (past_after p.past) s.0 in (
         record {
-          none = ap (unsent (limits_of before) id) ends
-              ∙ nothing_waits most (unsent (limits_of before) id p.past) pos s.1;
-          live = ap (has_ended (limits_of before) id) ends
-              ∙ live_of (limits_of before) id p.past s.2;
-          grows = grows_same before after (Take id most) Quiet p none;
-        }
-
-    pub take_gone : (n : ℕ) → is_admitted (past_of before) id ≡ true
-        → Plays (Take id most) (Refused (Gone n)) before after
-        → Refuses refusal.Dropped id before after
-    unfolding TakeSays
-    take_gone n on p =
-        let call = Take id most in
-        let s = take_says (limits_of before) p.past id most (Refused (Gone n))
-        (past_after p.past p.added) p.step in
-        refused_gone before after call (Refused (Gone n)) p (added_none p.past p.added s.0) id
-        (ended_or (limits_of before) id p.past
-        (now_admitted before after call (Refused (Gone n)) p id on) s.1)
-
-    pub take_full : (n : ℕ) → Plays (Take id most) (Refused (HistoryFull n)) before after
-        → Refuses refusal.HistoryFull id before after
-    unfolding TakeSays
-    take_full n p =
-        let s = take_says (limits_of before) p.past id most (Refused (HistoryFull n))
-        (past_after p.past p.added) p.step in
-        refused_full before after (Take id most) (Refused (HistoryFull n)) p
-        (added_none p.past p.added s.0) id s.1
-
-    pub take_memory : Plays (Take id most) (Refused NoMemory) before after
-        → Refuses refusal.NoMemory id before after
-    unfolding TakeSays
-    take_memory p =
-        let s = take_says (limits_of before) p.past id most (Refused NoMemory)
-        (past_after p.past p.added) p.step in
-        refused_memory before after (Take id most) (Refused NoMemory) p
-        (added_none p.past p.added s) id
-
-    pub take_admitted : (n i : ℕ) → Plays (Take id most) (Admitted n i) before after → ⊥
-    unfolding TakeSays
-    take_admitted n i p = take_says (limits_of before) p.past id most (Admitted n i)
-        (past_after p.past p.added) p.step
-
-    pub take_ran : (n : ℕ) → Plays (Take id most) (Ran n) before after → ⊥
-    unfolding TakeSays
-    take_ran n p = take_says (limits_of before) p.past id most (Ran n)
-        (past_after p.past p.added) p.step
-
-    pub take_ticked : (n : ℕ) → Plays (Take id most) (Ticked n) before after → ⊥
-    unfolding TakeSays
-    take_ticked n p = take_says (limits_of before) p.past id most (Ticked n)
-        (past_after p.past p.added) p.step
-
-    pub take_closed : (n : ℕ) → Plays (Take id most) (Closed n) before after → ⊥
-    unfolding TakeSays
-    take_closed n p = take_says (limits_of before) p.past id most (Closed n)
-        (past_after p.past p.added) p.step
-
-  -- ---- Tick
-
-  module _ (now : ℕ) where
-    tick_did : (reply : BookReply) (p : Plays (Tick now) reply before after)
-        → TickSays (limits_of before) p.past now reply (past_after p.past p.added)
-    tick_did reply p =
-        tick_says (limits_of before) p.past now reply (past_after p.past p.added) p.step
-
-    pub tick_ticked : (n : ℕ) → Plays (Tick now) (Ticked n) before after → Ticks now before after
-    unfolding TickSays
-    tick_ticked n p =
-        let s = tick_did (Ticked n) p in
-        let x = entry.Tick (max now (latest p.past)) in
-        let is = added_one p.past p.added x s.0 in
-        inl (record {
           past = p.past;
           begins = p.begins;
-          due = s.1;
-          grows = grows_one before after (Tick now) (Ticked n) p x is;
-          ends = ends_one before after (Tick now) (Ticked n) p x is;
-        })
+          given = s.1;
+          live = live_of (limits_of before) id p.past s.2;
+          grows = grows_by p (Some (entry.Take id most)) one;
+          ends = ends_by p (Some (entry.Take id most)) one;
+        },
+        s.3,
+      )
 
-    pub tick_quiet : Plays (Tick now) Quiet before after → Ticks now before after
-    unfolding TickSays
-    tick_quiet p =
-        let s = tick_did Quiet p in
-        let none = added_none p.past p.added s.0 in
-        let ends = ends_same before after (Tick now) Quiet p none in
-        inr (record {
-          none = ap (λ past. expired (limits_of before) past (max now (latest past))) ends ∙ s.1;
-          grows = grows_same before after (Tick now) Quiet p none;
-        })
+  pub rests : (id most : ℕ) → 0 < most → Plays TurnStep (Take id most) Quiet before after
+      → Rests id before after
+  rests id most pos p =
+      let (known, e, s, is) = said p in
+      let none = is ∙ ap (past_after p.past) s.0 in
+      let l = limits_of before in
+      record {
+        none = ap (unsent l id) (ends_same p none)
+            ∙ nothing_waits most (unsent l id p.past) pos s.1;
+        live = ap (has_ended l id) (ends_same p none) ∙ live_of l id p.past s.2;
+        grows = stays p none;
+      }
 
-    pub tick_full : (n : ℕ) → Plays (Tick now) (Refused (HistoryFull n)) before after
-        → Refuses refusal.HistoryFull 0 before after
-    unfolding TickSays
-    tick_full n p =
-        let s = tick_did (Refused (HistoryFull n)) p in
-        refused_full before after (Tick now) (Refused (HistoryFull n)) p
-        (added_none p.past p.added s.0) 0 s.1
+  pub ticks : (now n : ℕ) → Plays TurnStep (Tick now) (Ticked n) before after
+      → Ticks now before after
+  ticks now n p =
+      let (known, e, s, is) = said p in
+      let one = is ∙ ap (past_after p.past) s.0 in
+      let x = entry.Tick (max now (latest p.past)) in
+      inl (record {
+        past = p.past;
+        begins = p.begins;
+        due = s.1;
+        grows = grows_by p (Some x) one;
+        ends = ends_by p (Some x) one;
+      })
 
-    pub tick_memory : Plays (Tick now) (Refused NoMemory) before after
-        → Refuses refusal.NoMemory 0 before after
-    unfolding TickSays
-    tick_memory p =
-        refused_memory before after (Tick now) (Refused NoMemory) p
-        (added_none p.past p.added (tick_did (Refused NoMemory) p)) 0
+  pub ticks_not : (now : ℕ) → Plays TurnStep (Tick now) Quiet before after → Ticks now before after
+  ticks_not now p =
+      let (known, e, s, is) = said p in
+      let none = is ∙ ap (past_after p.past) s.0 in
+      inr (record {
+        none = ap (λ x. expired (limits_of before) x (max now (latest x))) (ends_same p none) ∙ s.1;
+        grows = stays p none;
+      })
 
-    pub tick_gone : (n : ℕ) → Plays (Tick now) (Refused (Gone n)) before after → ⊥
-    unfolding TickSays
-    tick_gone n p = tick_did (Refused (Gone n)) p
+  pub closes : (id : ℕ) (reply : BookReply) → is_admitted (past_of before) id ≡ true
+      → Plays TurnStep (Close id) reply before after → Closes id before after
+  closes id reply on p =
+      elim (close_says (limits_of before) p.past id reply _ (did_here p)) [
+        | inl one ↦ record {
+            close = Some p.past;
+            grows = grows_by p (Some (entry.Close id)) one;
+            over = inl (ap (has_ended (limits_of before) id)
+                (ends_by p (Some (entry.Close id)) one) ∙ ended_now (limits_of before) id p.past);
+          }
+        | inr same ↦ record {
+            close = None;
+            grows = stays p same.0;
+            over = inl (ap (has_ended (limits_of before) id) (ends_same p same.0)
+                ∙ ended_or (limits_of before) id p.past (now_admitted p id on) same.1);
+          }
+      ]
 
-    pub tick_admitted : (n i : ℕ) → Plays (Tick now) (Admitted n i) before after → ⊥
-    unfolding TickSays
-    tick_admitted n i p = tick_did (Admitted n i) p
+  pub close_worn : (id : ℕ) → Grows before after [] → LAST_TICKET ≤ after.tickets
+      → Closes id before after
+  close_worn id g worn = record { close = None; grows = g; over = inr worn }
 
-    pub tick_ran : (n : ℕ) → Plays (Tick now) (Ran n) before after → ⊥
-    unfolding TickSays
-    tick_ran n p = tick_did (Ran n) p
+pub ruleset admitting = (admits, admit_full, admit_memory, refused_worn, never)
 
-    pub tick_bytes : (n : ℕ) (bytes : List ℕ) → Plays (Tick now) (Bytes n bytes) before after → ⊥
-    unfolding TickSays
-    tick_bytes n bytes p = tick_did (Bytes n bytes) p
+pub ruleset running = (runs, run_number, run_gone, run_full, run_memory, refused_worn, never)
 
-    pub tick_closed : (n : ℕ) → Plays (Tick now) (Closed n) before after → ⊥
-    unfolding TickSays
-    tick_closed n p = tick_did (Closed n) p
+pub ruleset taking = (take_gone, take_full, take_memory, refused_worn, never)
 
-  -- ---- Close
+pub ruleset ticking = (ticks, ticks_not, tick_full, tick_memory, refused_worn, never)
 
-  module _ (id : ℕ) where
-    pub close_closes : (reply : BookReply) → is_admitted (past_of before) id ≡ true
-        → Plays (Close id) reply before after → Closes id before after
-    unfolding CloseSays
-    close_closes (Closed n) on p =
-        let s = close_says (limits_of before) p.past id (Closed n) (past_after p.past p.added)
-        p.step in
-        let x = entry.Close id in
-        let is = added_one p.past p.added x s in
-        record {
-          close = Some p.past;
-          grows = grows_one before after (Close id) (Closed n) p x is;
-          over = inl (ap (has_ended (limits_of before) id)
-              (ends_one before after (Close id) (Closed n) p x is)
-              ∙ ended_now (limits_of before) id p.past);
-        }
-    close_closes (Refused (Gone n)) on p =
-        let reply = Refused (Gone n) in
-        let s = close_says (limits_of before) p.past id reply (past_after p.past p.added) p.step in
-        let none = added_none p.past p.added s.0 in
-        record {
-          close = None;
-          grows = grows_same before after (Close id) reply p none;
-          over = inl (ap (has_ended (limits_of before) id)
-              (ends_same before after (Close id) reply p none)
-              ∙ ended_or (limits_of before) id p.past
-              (now_admitted before after (Close id) reply p id on) s.1);
-        }
-    close_closes (Admitted n i) on p = absurd (close_says (limits_of before) p.past id
-        (Admitted n i) (past_after p.past p.added) p.step)
-    close_closes (Ran n) on p = absurd (close_says (limits_of before) p.past id (Ran n)
-        (past_after p.past p.added) p.step)
-    close_closes (Ticked n) on p = absurd (close_says (limits_of before) p.past id (Ticked n)
-        (past_after p.past p.added) p.step)
-    close_closes Quiet on p = absurd (close_says (limits_of before) p.past id Quiet
-        (past_after p.past p.added) p.step)
-    close_closes (Bytes n bytes) on p = absurd (close_says (limits_of before) p.past id
-        (Bytes n bytes) (past_after p.past p.added) p.step)
-    close_closes (Refused (HistoryFull n)) on p = absurd (close_says (limits_of before) p.past id
-        (Refused (HistoryFull n)) (past_after p.past p.added) p.step)
-    close_closes (Refused NoMemory) on p = absurd (close_says (limits_of before) p.past id
-        (Refused NoMemory) (past_after p.past p.added) p.step)
-
-    pub close_worn : Grows before after [] → LAST_TICKET ≤ after.tickets → Closes id before after
-    close_worn g worn = record { close = None; grows = g; over = inr worn }
-
-pub ruleset admitting = (
-  admit_admitted,
-  admit_full,
-  admit_memory,
-  admit_ran,
-  admit_ticked,
-  admit_quiet,
-  admit_bytes,
-  admit_closed,
-  admit_gone,
-  refused_worn,
-)
-
-pub ruleset running = (
-  run_runs,
-  run_number,
-  run_gone,
-  run_full,
-  run_memory,
-  run_admitted,
-  run_ticked,
-  run_quiet,
-  run_bytes,
-  run_closed,
-  refused_worn,
-)
-
-pub ruleset taking = (
-  take_gone,
-  take_full,
-  take_memory,
-  take_admitted,
-  take_ran,
-  take_ticked,
-  take_closed,
-  refused_worn,
-)
-
-pub ruleset ticking = (
-  tick_ticked,
-  tick_quiet,
-  tick_full,
-  tick_memory,
-  tick_gone,
-  tick_admitted,
-  tick_ran,
-  tick_bytes,
-  tick_closed,
-  refused_worn,
-)
-
-pub ruleset closing = (close_closes, close_worn)
+pub ruleset closing = (closes, close_worn)

@@ -10,7 +10,7 @@ use Rattle.serial_model.specs.declared.history.BookReply.TheVariants.{Bytes, Clo
 use Rattle.serial_model.specs.declared.history.BookRefusal.{BookRefusal}
 use Rattle.serial_model.specs.declared.history.BookRefusal.TheVariants as because
 use Rattle.serial_model.specs.Steps.{BookStep}
-use Rattle.shared_book.specs.Own.{Grows}
+use Rattle.seat_turns.specs.Own.{Grows}
 use Rattle.shared_book.specs.Turns.{Shared, Place, Runs, Takes, IsCause}
 use Rattle.shared_book.specs.declared.turns.Refusal.{Refusal}
 use Rattle.shared_book.specs.declared.turns.Refusal.TheVariants as refusal

@@ -12,7 +12,7 @@ use Rattle.serial_model.specs.declared.history.BookCall.{BookCall}
 use Rattle.serial_model.specs.declared.history.BookReply.{BookReply}
 use Rattle.serial_model.specs.History.{admitted, expired, has_ended, is_full, latest, unsent}
 use Rattle.serial_model.specs.Steps.{BookStep}
-use Rattle.shared_book.specs.Own.{past_of, Grows}
+use Rattle.seat_turns.specs.Own.{past_of, Grows}
 use Rattle.shared_book.specs.declared.turns.Refusal.{Refusal}
 use Rattle.shared_book.specs.declared.turns.Refusal.TheVariants as refusal
 
@@ -40,20 +40,6 @@ limits_in (Some l) = l
 -- the limits of the seat's server
 abbrev pub limits_of : Place → Limits
 limits_of k = limits_in k.setup
-
--- the turns that add this entry, or none, on a past
-abbrev pub turns_added : List Entry → Option Entry → List Turn
-turns_added past None = []
-turns_added past (Some e) = (e, past) ∷ []
-
--- one turn of the seat with this call and reply, on the entries that it found
-pub record Plays (call : BookCall) (reply : BookReply) (before after : Place) : Type 0 where
-  pub past : List Entry
-  pub added : Option Entry
-  pub begins : IsPrefix (past_of before) past
-  pub step : TurnStep (limits_of before) past call reply added
-  pub ends : past_of after ≡ past_after past added
-  pub grows : Grows before after (turns_added past added)
 
 -- why a connection's turn was not taken, as the seat shows it
 abbrev pub IsCause : Refusal → ℕ → Place → Type 0

@@ -2,7 +2,7 @@
 ghost use Rattle.std.specs.Prelude.{◌≡◌, ◌≤◌, ◌<◌, ◌+◌, true, length, IfOk, IfErr};
 ghost use Rattle.std.specs.List.{All};
 ghost use Rattle.serial_model.specs.History.{is_admitted};
-ghost use Rattle.shared_book.specs.Own.{IsWithin, past_of};
+ghost use Rattle.seat_turns.specs.Own.{IsWithin, past_of};
 ghost use Rattle.shared_book.specs.Batches.{Counts, IsOfBatch, IsRunAt, RunsAndTakes, RunsFirst};
 ghost use Rattle.shared_book.specs.Batches.{ran_in, refusal_by, requests_in, taken_in};
 

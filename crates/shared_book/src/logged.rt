@@ -1,7 +1,7 @@
 //! The server's state, as it is kept under the turn lock.
 ghost use Rattle.std.specs.Prelude.{◌≡◌, [], IfOk};
 ghost use Rattle.serial_model.specs.Steps.{AreValid, IsCallable};
-ghost use Rattle.shared_book.specs.Own.{IsWithin};
+ghost use Rattle.seat_turns.specs.Own.{IsWithin};
 ghost use Rattle.shared_book.specs.Turns.{TurnStep};
 ghost use Rattle.shared_book.specs.Batches.{MayPass, PassesTake, RefusesRun, adds_none};
 ghost use Rattle.turn_lock.specs.Seats.{first_seat};

@@ -1,18 +1,19 @@
 //! One connection's turns under the lock.
 ghost use Rattle.std.specs.Prelude.{◌≡◌, ◌≤◌, [], true, length, IfOk, IfErr};
-ghost use Rattle.std.specs.Prelude.{OnErr, OnOk};
+ghost use Rattle.std.specs.Prelude.{OnOk};
 ghost use Rattle.turn_lock.specs.declared.rule.TheConstants.{LAST_TICKET};
 ghost use Rattle.serial_model.specs.History.{is_admitted};
 ghost use Rattle.serial_model.specs.Steps.{IsCallable};
-ghost use Rattle.shared_book.specs.Own.{IsWithin, past_of, Grows};
-ghost use Rattle.shared_book.specs.Turns.{Admits, Closes, IsServerCause, Plays, Refuses};
+ghost use Rattle.seat_turns.specs.Own.{IsWithin, past_of};
+ghost use Rattle.shared_book.specs.Turns.{Admits, Closes, IsServerCause, Refuses};
 ghost use Rattle.shared_book.specs.Turns.{Runs, Takes, Ticks};
 
 use super::logged::SharedBook;
 use resp_value::{Octets, Words};
+use seat_turns::play;
 use server_book::{BookCall, BookRefusal, BookReply};
 use std::sync::Wait;
-use turn_lock::{Seat, TurnLock, Worn};
+use turn_lock::{Seat, TurnLock};
 
 /// Why a connection's turn was not taken.
 #[derive(Clone, Copy, Debug, Drop, PartialEq, Eq)]
@@ -28,26 +29,6 @@ pub enum Refusal {
 
 /// The most bytes of one Take.
 pub const MOST: u64 = 65_536;
-
-// A turn, and what it adds to the seat's own entries.
-#[tactic(auto, using(crate::proofs::Turning::playing))]
-fn play<R: Wait>(
-    rt: &R,
-    lock: &TurnLock<SharedBook>,
-    seat: &mut Seat<SharedBook>,
-    call: BookCall,
-) -> Result<BookReply, Worn>
-    requires lock { seat.old.lock ≡ lock.now }
-    requires within { IsWithin seat.old }
-    requires call { IsCallable call }
-    ensures ok { IfOk result (λ reply. Plays call reply seat.old seat.new) }
-    ensures err { OnErr result (Grows seat.old seat.new [] × (LAST_TICKET ≤ seat.new.tickets)) }
-{
-    match lock.play(rt, seat, call) {
-        Ok(reply) => Ok(reply),
-        Err(worn) => Err(worn),
-    }
-}
 
 /// Admits a connection; its id is at least 1.
 #[tactic(auto, using(crate::proofs::Outcomes::admitting))]

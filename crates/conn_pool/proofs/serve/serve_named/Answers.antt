@@ -2,7 +2,7 @@ use Rattle.std.proofs.Common.{rules, ◌≡◌, ◌<◌, ℕ, Some, sym, ap, sub
 use Rattle.std.proofs.lemmas.Option.{same_Some}
 use Rattle.turn_lock.specs.Counts.{total}
 use Rattle.turn_lock.specs.History.{Legal, entries}
-use Rattle.shared_book.specs.Own.{turns_of}
+use Rattle.seat_turns.specs.Own.{turns_of}
 use Rattle.shared_book.specs.Turns.{TurnStep, Place}
 use Rattle.conn_pool.specs.Crew.{Team}
 use Rattle.conn_pool.specs.Shown.{AreShown}

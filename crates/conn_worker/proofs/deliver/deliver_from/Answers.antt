@@ -1,12 +1,12 @@
 use Rattle.std.proofs.Common.{arith, ap, subst, length, ◌∙◌}
 use Rattle.std.specs.Prelude.{Some}
+use Rattle.std.proofs.lemmas.Result.{IfErr-weaker, on_ok_weaker}
 use Rattle.std.specs.Io.KnownBytes.{Appends}
 use Rattle.shared_book.specs.Turns.{Place}
 use Rattle.conn_worker.specs.Visits.{Begins}
 use Rattle.conn_worker.specs.declared.deliver.Front.TheVariants.{Taken}
 use Rattle.conn_worker.proofs.Delivering.{begun_none, begun_more, begun_short, delivers_then}
-use Rattle.conn_worker.proofs.Delivering.{delivers_part_then, on_ok}
-use Rattle.shared_book.proofs.Batches.{if_err}
+use Rattle.conn_worker.proofs.Delivering.{delivers_part_then}
 use Rattle.conn_worker.proofs.deliver.deliver_from.Goals as goal
 use Rattle.conn_worker.proofs.deliver.deliver_from.Goals.{In-Taken-Some}
 use Rattle.conn_worker.proofs.deliver.deliver_from.Given as given
@@ -37,7 +37,7 @@ returns-then-as_slice-lt-MOST-clause-ok g c = λ before b.
 
 pub returns-clause-ok : goal.returns-clause-ok
 returns-clause-ok g c =
-    on_ok c.deliver-2.result (λ d before b.
+    on_ok_weaker c.deliver-2.result (λ d before b.
     delivers_then c.args.id (g.L.Link.contents c.args.link.now)
     (g.L.Link.contents c.write_all.new.link) (g.L.Link.contents c.deliver-2.new.link) before
     c.args.seat.now c.deliver-2.new.seat
@@ -49,7 +49,7 @@ returns-clause-ok g c =
 
 pub returns-clause-err : goal.returns-clause-err
 returns-clause-err g c =
-    if_err c.deliver-2.result (λ e d before b.
+    IfErr-weaker c.deliver-2.result _ _ (λ e d before b.
     delivers_part_then c.args.id (g.L.Link.contents c.args.link.now)
     (g.L.Link.contents c.write_all.new.link) (g.L.Link.contents c.deliver-2.new.link) before
     c.args.seat.now c.deliver-2.new.seat

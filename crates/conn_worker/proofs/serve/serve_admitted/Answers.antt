@@ -1,7 +1,7 @@
 use Rattle.std.proofs.Common.{◌≡◌, ℕ, true, refl, sym, ap, subst, ◌∙◌}
 use Rattle.edge_links.specs.declared.counts.Counts.{Counts}
 use Rattle.serial_model.specs.History.{is_admitted}
-use Rattle.shared_book.specs.Own.{past_of}
+use Rattle.seat_turns.specs.Own.{past_of}
 use Rattle.conn_worker.specs.Visits.{Begins, Delivers, DeliversPart, fault_of, front_of}
 use Rattle.conn_worker.proofs.Serving.{Begun, serving_none, hears_begins, hears_stops}
 use Rattle.conn_worker.proofs.Serving.{delivered_serves}

@@ -2,11 +2,12 @@ use Rattle.std.proofs.Common.{List, [], sym, subst, ◌∙◌, ◌≡◌, length
 use Rattle.serial_model.specs.declared.history.BookCall.{BookCall}
 use Rattle.serial_model.specs.declared.history.BookCall.TheVariants.{Take}
 use Rattle.turn_lock.specs.Seats.{TurnedAll}
-use Rattle.shared_book.specs.Own.{Grows}
+use Rattle.seat_turns.specs.Own.{Grows}
 use Rattle.shared_book.specs.Turns.{TurnStep, most}
 use Rattle.shared_book.specs.Batches.{RunsAndTakes, RunsFirst, requests_in}
+use Rattle.std.proofs.lemmas.Result.{IfOk-weaker, IfErr-weaker}
 use Rattle.shared_book.proofs.Batches.{Told, tells, told_ok, told_err, all_from, first_from}
-use Rattle.shared_book.proofs.Batches.{unplayed_grows, last_off, if_ok, if_err}
+use Rattle.shared_book.proofs.Batches.{unplayed_grows, last_off}
 use Rattle.std.specs.Option.{option_to_list}
 use Rattle.shared_book.proofs.batch.run_all.Goals as goal
 use Rattle.shared_book.proofs.batch.run_all.Goals.{In-Ok-play_all, In-Err-play_all}
@@ -66,7 +67,7 @@ returns-in-Err-play_all-clause-ok g c =
     (option_to_list c.pop.result) (sym c.in-Ok.ensures.items ∙ (sym c.in-Err-play_all.ensures.err.0
     ∙ c.pop.ensures.items)) long in
     let each = c.run_each-in-Err-play_all in
-    if_ok each.result.front (λ front h. all_from c.args.id c.args.now c.args.requests
+    IfOk-weaker each.result.front _ _ (λ front h. all_from c.args.id c.args.now c.args.requests
     (requests_in c.args.calls.items) each.result.requests front c.args.seat.now
     c.play_all.new.seat each.new.seat
     (none_played g (goal.at.returns-in-Err-play_all-clause-ok g c).In-Err-play_all)
@@ -81,7 +82,7 @@ returns-in-Err-play_all-clause-err g c =
     (option_to_list c.pop.result) (sym c.in-Ok.ensures.items ∙ (sym c.in-Err-play_all.ensures.err.0
     ∙ c.pop.ensures.items)) long in
     let each = c.run_each-in-Err-play_all in
-    if_err each.result.front (λ e h. first_from c.args.id c.args.now c.args.requests
+    IfErr-weaker each.result.front _ _ (λ e h. first_from c.args.id c.args.now c.args.requests
     (requests_in c.args.calls.items) each.result.requests e c.args.seat.now
     c.play_all.new.seat each.new.seat
     (none_played g (goal.at.returns-in-Err-play_all-clause-err g c).In-Err-play_all)

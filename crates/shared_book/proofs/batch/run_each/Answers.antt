@@ -1,8 +1,9 @@
 use Rattle.std.proofs.Common.{◌≡◌, ◌∷◌, rules, refl, ap, ◌∙◌, [], List, length, arith}
 use Rattle.std.specs.Vec.Iter.{into_iter_items}
 use Rattle.shared_book.specs.Batches.{requests_in}
+use Rattle.std.proofs.lemmas.Result.{IfOk-weaker, IfErr-weaker}
 use Rattle.shared_book.proofs.Batches.{running_begins, running_more, running_refused, runs_alone}
-use Rattle.shared_book.proofs.Batches.{running_takes, running_ends, if_ok, if_err}
+use Rattle.shared_book.proofs.Batches.{running_takes, running_ends}
 use Rattle.shared_book.proofs.batch.run_each.Goals as goal
 
 empty_of : {A : Type 0} (xs : List A) → length xs ≡ 0 → xs ≡ []
@@ -50,7 +51,7 @@ returns-in-Err-clause-err g c =
 pub returns-clause-ok : goal.returns-clause-ok
 returns-clause-ok g c =
     let none : length (into_iter_items c.calls.rest) ≡ 0 = search rules in
-    if_ok c.take.result (λ front t. running_takes c.args.id c.args.now c.args.requests
+    IfOk-weaker c.take.result _ _ (λ front t. running_takes c.args.id c.args.now c.args.requests
     (requests_in c.args.calls.items) c.calls.requests (into_iter_items c.calls.rest)
     c.args.seat.now c.calls.seat c.calls.invariant.0
     (empty_of (into_iter_items c.calls.rest) none) front c.take.new.seat t)
@@ -59,7 +60,7 @@ returns-clause-ok g c =
 pub returns-clause-err : goal.returns-clause-err
 returns-clause-err g c =
     let none : length (into_iter_items c.calls.rest) ≡ 0 = search rules in
-    if_err c.take.result (λ e r. running_ends c.args.id c.args.now c.args.requests
+    IfErr-weaker c.take.result _ _ (λ e r. running_ends c.args.id c.args.now c.args.requests
     (requests_in c.args.calls.items) c.calls.requests (into_iter_items c.calls.rest)
     c.args.seat.now c.calls.seat c.calls.invariant.0
     (empty_of (into_iter_items c.calls.rest) none) e c.take.new.seat r)

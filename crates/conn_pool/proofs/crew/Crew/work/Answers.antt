@@ -1,6 +1,6 @@
 use Rattle.std.proofs.Common.{◌≡◌, ◌∷◌, ◌++◌, [], length, sym, ap, subst, ◌∙◌, arith}
 use Rattle.std.proofs.Common.{length-append}
-use Rattle.shared_book.specs.Own.{turns_of}
+use Rattle.seat_turns.specs.Own.{turns_of}
 use Rattle.conn_pool.specs.Ties.{Tied}
 use Rattle.conn_pool.specs.Shown.{AreShown}
 use Rattle.conn_pool.proofs.Tying.{tied_visit, shown_after, visit_lock, visit_setup, visit_parts}

@@ -1,5 +1,5 @@
 use Rattle.std.proofs.Common.{◌≡◌, false, length}
-use Rattle.shared_book.specs.Own.{turns_of, IsWithin}
+use Rattle.seat_turns.specs.Own.{turns_of, IsWithin}
 use Rattle.conn_pool.specs.Ties.{Tied}
 use Rattle.conn_pool.specs.Shown.{AreShown}
 use Rattle.conn_pool.proofs.crew.Crew.work.Given as goal
