@@ -2,7 +2,9 @@
 ghost use Rattle.std.specs.Prelude.{◌≡◌, ◌++◌, [], List, IfOk, OnOk, OnErr, IfSome};
 ghost use Rattle.edge_links.specs.Counts.{Counted};
 ghost use Rattle.resp_value.specs.Lists.{IsPrefix};
+ghost use Rattle.serial_model.specs.declared.history.Limits.{Limits};
 ghost use Rattle.serial_model.specs.Steps.{AreValid};
+ghost use Rattle.world_run.specs.WorldState.{start};
 ghost use Rattle.script_text.specs.declared.line.Line.{Line};
 ghost use Rattle.script_text.specs.Printed.{text_of};
 ghost use Rattle.redis_program.specs.declared.status.Status.TheVariants as status;
@@ -68,17 +70,36 @@ fn play_schedule<S: Source, K: Sink>(
     ensures wrote { EndingWrote result (K.counts output.old) (K.counts output.new) }
 {
     law_one_history();
-    let mut world = match World::new(alloc, limits) {
-        Ok(world) => world,
-        Err(_) => return Ending::NoMemory,
-    };
+    match World::new(alloc, limits) {
+        Ok(mut world) => play_lines(alloc, &mut world, input, output),
+        Err(_) => Ending::NoMemory,
+    }
+}
+
+/// Plays line after line on a world where nothing was played. The world is lent, since each way out
+/// of the loop would let it go.
+fn play_lines<S: Source, K: Sink>(
+    alloc: Global,
+    world: &mut World,
+    input: &mut S,
+    output: &mut K,
+) -> Ending
+    ghost limits: { Limits }
+    requires valid { AreValid limits }
+    requires fresh { world.old ≡ start limits }
+    ensures gives { ComesTo limits (S.left input.old) (S.left input.new) result
+        (K.contents output.old) (K.contents output.new) }
+    ensures read { EndingRead result (S.counts input.old) (S.counts input.new) }
+    ensures wrote { EndingWrote result (K.counts output.old) (K.counts output.new) }
+{
+    law_one_history();
     for number in 1..MOST_LINES + 2 {
         match read_line(alloc, input) {
-            LineRead::Line(line) => match play(alloc, &mut world, number, line.as_slice(), output) {
+            LineRead::Line(line) => match play(alloc, world, number, line.as_slice(), output) {
                 Ok(()) => {}
                 Err(ending) => return ending,
             },
-            LineRead::Last(last) => match play(alloc, &mut world, number, last.as_slice(), output) {
+            LineRead::Last(last) => match play(alloc, world, number, last.as_slice(), output) {
                 Ok(()) => return Ending::Done,
                 Err(ending) => return ending,
             },

@@ -1,16 +1,4 @@
-use Rattle.std.proofs.Common.{◌≡◌, ◌≤◌, ◌+◌}
-use Rattle.redis_program.specs.Headline.{most_lines}
-use Rattle.redis_program.proofs.Playing.{Standing}
 use Rattle.redis_program.proofs.schedule.play_schedule.Given as goal
 
-abbrev pub invariant-loop-number : goal.invariant-loop-number
-invariant-loop-number g l =
-    let left = g.S.Source.left in
-    let contents = g.K.Sink.contents in
-    record {
-      standing : Standing l.fn.limits l.number l.world (left l.initial.input) (left l.input)
-          (contents l.initial.output) (contents l.output);
-      read : g.S.Source.counts l.input ≡ g.S.Source.counts l.initial.input;
-      wrote : g.K.Sink.counts l.output ≡ g.K.Sink.counts l.initial.output;
-      few : l.number ≤ most_lines + 1;
-    }
+abbrev pub ghost-play_lines : goal.ghost-play_lines
+ghost-play_lines g a = a.world.now.links.limits
