@@ -1,11 +1,10 @@
 -- A number is the one whose decimal form a text is.
-use Rattle.std.proofs.Common.{◌≡◌, ◌<◌, ◌^◌, ◌&&◌, ℕ, List, Bool, true, false, cond, nat_lt, refl}
-use Rattle.std.proofs.Common.{sym, ap, ◌∙◌}
+use Rattle.std.proofs.Common.{◌≡◌, ◌<◌, ◌^◌, ◌&&◌, ℕ, List, Bool, true, false, cond, refl}
+use Rattle.std.proofs.Common.{ap}
 use Rattle.std.specs.declared.option.Option.TheVariants.{None, Some}
 use Rattle.std.specs.Fmt.{decimal}
 use Rattle.std.specs.Str.Parse.{digits_value}
-use Rattle.std.proofs.lemmas.Bool.{ltb-true, lt-ltb}
-use Rattle.std.proofs.lemmas.Fmt.{decimal_is_IsNumeral}
+use Rattle.std.proofs.lemmas.Bool.{ltb-true}
 use Rattle.std.proofs.lemmas.Slice.Eq.{bytes_eq-Decides}
 use Rattle.command_line.specs.Options.{number_of}
 
@@ -32,13 +31,3 @@ number_of-none text h =
 some_where : (b : Bool) (m n : ℕ) → b ≡ true → m ≡ n → cond b (Some m) None ≡ Some n
 some_where true m n h e = ap Some e
 some_where false m n h e = cc
-
-pub number_of-decimal : (n : ℕ) (text : List ℕ) → n < 2 ^ 64 → decimal n ≡ text
-    → number_of text ≡ Some n
-unfolding number_of
-number_of-decimal n text high e =
-    let read : digits_value 10 text ≡ n
-    = ap (digits_value 10) (sym e) ∙ (decimal_is_IsNumeral n high).1 in
-    some_where _ _ n
-    (both _ _ (ap (λ m. nat_lt m (2 ^ 64)) read ∙ lt-ltb _ _ high)
-    ((bytes_eq-Decides _ _).1 (ap decimal read ∙ e))) read

@@ -289,9 +289,3 @@ module _ (id : ℕ) (link : Option (List ℕ)) (before now : Place) where
     begun_short link1 w short =
         delivers_short id link link before before (none_written (Some bytes) b) most bytes now
         b.2.0 link1 w short
-
-    pub begun_failed : (link1 : Option (List ℕ)) (part : List ℕ) → Appends link link1 part
-        → IsPrefix part bytes → DeliversPart ended.LinkFault id link link1 before now
-    begun_failed link1 part w is =
-        delivers_failed id link link before before (none_written (Some bytes) b) most bytes now
-        b.2.0 link1 part w is

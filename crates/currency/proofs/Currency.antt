@@ -427,10 +427,6 @@ module _ (l : Limits) (x : Client) (past : List Entry) (log : List LogEntry)
                 omega (arith, r, w)))
           ]
 
-      point_is_at : complete l x past log < at → replied x past log (key_of h.query) ≤ at
-          → point l x past log h at ≡ at
-      point_is_at a b = omega (arith, a, b)
-
       answers : IsAnswer l x past (point l x past log h at) h
       answers =
           let c = complete l x past log in

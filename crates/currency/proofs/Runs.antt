@@ -28,15 +28,6 @@ older_tail e up past o = record {
   is = append_assoc o.newer (e ∷ []) up ∙ o.is;
 }
 
-pub older_more : (up mid past : List Entry) → Older up mid → Older mid past → Older up past
-older_more up mid past o m = record {
-  newer = m.newer ++ o.newer;
-  is = append_assoc m.newer o.newer up ∙ ap (λ l. m.newer ++ l) o.is ∙ m.is;
-}
-
-pub older_le : (up past : List Entry) → Older up past → length up ≤ length past
-older_le up past o = omega (arith, length-append o.newer up, ap length o.is)
-
 -- of two older parts the shorter is one of the longer
 within : (na nb a b : List Entry) → na ++ a ≡ nb ++ b → length nb ≤ length na → Older a b
 within na [] a b e le = record { newer = na; is = e }

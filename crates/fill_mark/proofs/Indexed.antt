@@ -120,13 +120,6 @@ indexed_settled key keys ms are none =
         (ap is_some (are.found m a)))
         none
 
-pub indexed_none : (keys : KeyIndex) → AreIndexed keys []
-indexed_none keys = record {
-  found = λ m a. absurd a;
-  listed = λ m a. absurd a;
-  apart = λ m o a b. absurd a;
-}
-
 -- ---- the marks of a key
 
 -- where all marks of the key are listed, those that are listed are all

@@ -19,24 +19,6 @@ is_wanted space met key = contains_key space key && is_fresh met key
 abbrev pub wanted : Space → Pairs → List (List ℕ) → List (List ℕ)
 wanted space met keys = filter (is_wanted space met) (each_once keys)
 
-same_filter : (p q : List ℕ → Bool) → ((k : List ℕ) → p k ≡ q k) → (ks : List (List ℕ))
-    → filter p ks ≡ filter q ks
-same_filter p q same [] = refl
-same_filter p q same (k ∷ ks) =
-    ap (λ b. if b then k ∷ filter p ks else filter p ks) (same k)
-    ∙ ap (λ r. if q k then k ∷ r else r) (same_filter p q same ks)
-
--- before any was met, those that are there are wanted
-pub first_wanted : (space : Space) (keys : List (List ℕ))
-    → wanted space [] keys ≡ filter (contains_key space) (each_once keys)
-first_wanted space keys =
-    same_filter (is_wanted space []) (contains_key space)
-    (λ k. both (contains_key space k)) (each_once keys)
-  where
-    both : (b : Bool) → (b && true) ≡ b
-    both true = refl
-    both false = refl
-
 module _ (space : Space) (met : Pairs) (key : List ℕ) (keys : List (List ℕ)) where
   abbrev rest : List (List ℕ)
   rest = filter (λ k. not (bytes_eq k key)) (each_once keys)

@@ -48,14 +48,3 @@ module _ (key : List ℕ) (space : Space) where
       by (Some held) at e =
           let same : held.content ≡ had = cc in
           ap (λ c. insert space key (record held { content = c })) (sym same) ∙ insert-same held at
-
-  -- a missing key stays missing
-  pub with_content-none : (content : Content) → content_at key space ≡ None
-      → with_content key content space ≡ space
-  with_content-none content = by (get space key)
-    where
-      by : (r : Option Held) → option_map (λ held. held.content) r ≡ None
-          → option_map_or (λ held. insert space key (record held { content = content })) r space
-          ≡ space
-      by None e = refl
-      by (Some held) e = absurd cc

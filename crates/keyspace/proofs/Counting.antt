@@ -22,13 +22,7 @@ same_bytes : (a b : List ℕ) → bytes_eq a b ≡ true → a ≡ b
 same_bytes a b e = (bytes_eq-Decides a b).0 e
 
 turned : (a b : List ℕ) → bytes_eq a b ≡ false → bytes_eq b a ≡ false
-turned a b apart =
-    elim (bytes_eq b a) as (λ c. bytes_eq b a ≡ c → c ≡ false) [
-      | true ↦ λ e.
-          let same : bytes_eq a b ≡ true = (bytes_eq-Decides a b).1 (sym (same_bytes b a e)) in
-          absurd (let no : ⊥ = cc in no)
-      | false ↦ λ e. refl
-    ] refl
+turned a b apart = grind (arith, bytes_eq-Decides, same_bytes)
 
 -- what a look-up lends is there where the field is
 pub shown : {A : Type 0} (f : A → List ℕ) (r : Option A) → is_some (option_map f r) ≡ is_some r
@@ -47,27 +41,8 @@ and_false false = refl
 
 set_there : (q n v : List ℕ) (fs : Pairs)
     → is_there q (field_set n v fs) ≡ (bytes_eq q n || is_there q fs)
-set_there q n v [] =
-    elim (bytes_eq q n) as (λ b. is_some (cond b (Some v) None) ≡ (b || false)) [
-      | true ↦ refl
-      | false ↦ refl
-    ]
-set_there q n v (f ∷ fs) =
-    elim (bytes_eq n f.0) as (λ b. bytes_eq n f.0 ≡ b
-    → is_there q (cond b ((f.0, v) ∷ fs) (f ∷ field_set n v fs))
-    ≡ (bytes_eq q n || is_there q (f ∷ fs))) [
-      | true ↦ λ e.
-          elim (bytes_eq q f.0) as (λ b. is_some (cond b (Some v) (field_get q fs))
-          ≡ (b || is_some (cond b (Some f.1) (field_get q fs)))) [ true ↦ refl | false ↦ refl ]
-          ∙ ap (λ k. bytes_eq q k || is_there q (f ∷ fs)) (sym (same_bytes n f.0 e))
-      | false ↦ λ e.
-          elim (bytes_eq q f.0) as (λ b. is_some (cond b (Some f.1)
-          (field_get q (field_set n v fs)))
-          ≡ (bytes_eq q n || is_some (cond b (Some f.1) (field_get q fs)))) [
-            | true ↦ sym (or_true (bytes_eq q n))
-            | false ↦ set_there q n v fs
-          ]
-    ] refl
+set_there q n v [] = grind arith
+set_there q n v (f ∷ fs) = grind (arith, same_bytes, or_true, set_there q n v fs)
 
 one_more : (b : Bool) (m k : ℕ) → m ≡ cond b k (k + 1) → suc m ≡ cond b (suc k) (suc k + 1)
 one_more true m k e = omega (arith, e)
@@ -76,14 +51,7 @@ one_more false m k e = omega (arith, e)
 set_length : (n v : List ℕ) (fs : Pairs)
     → length (field_set n v fs) ≡ cond (is_there n fs) (length fs) (length fs + 1)
 set_length n v [] = refl
-set_length n v (f ∷ fs) =
-    elim (bytes_eq n f.0) as (λ b. length (cond b ((f.0, v) ∷ fs) (f ∷ field_set n v fs))
-    ≡ cond (is_some (cond b (Some f.1) (field_get n fs))) (length (f ∷ fs))
-    (length (f ∷ fs) + 1)) [
-      | true ↦ refl
-      | false ↦ one_more (is_there n fs) (length (field_set n v fs)) (length fs)
-          (set_length n v fs)
-    ]
+set_length n v (f ∷ fs) = grind (arith, one_more, set_length n v fs)
 
 -- ---- one field goes
 
@@ -97,51 +65,16 @@ one_less b m k e = omega (arith, e)
 remove_length : (n : List ℕ) (fs : Pairs)
     → length (field_remove n fs) + cond (is_there n fs) 1 0 ≡ length fs
 remove_length n [] = refl
-remove_length n (f ∷ fs) =
-    elim (bytes_eq n f.0) as (λ b. length (cond b fs (f ∷ field_remove n fs))
-    + cond (is_some (cond b (Some f.1) (field_get n fs))) 1 0 ≡ length (f ∷ fs)) [
-      | true ↦ omega arith
-      | false ↦ one_less (is_there n fs) (length (field_remove n fs)) (length fs)
-          (remove_length n fs)
-    ]
+remove_length n (f ∷ fs) = grind (arith, one_less, remove_length n fs)
 
 remove_there : (q n : List ℕ) (fs : Pairs) → AreDistinct fs
     → is_there q (field_remove n fs) ≡ (not (bytes_eq q n) && is_there q fs)
 remove_there q n [] d = sym (and_false (not (bytes_eq q n)))
-remove_there q n (f ∷ fs) d =
-    elim (bytes_eq n f.0) as (λ b. bytes_eq n f.0 ≡ b
-    → is_there q (cond b fs (f ∷ field_remove n fs))
-    ≡ (not (bytes_eq q n) && is_there q (f ∷ fs))) [
-      | true ↦ λ e.
-          let same = same_bytes n f.0 e in
-          elim (bytes_eq q f.0) as (λ b. bytes_eq q f.0 ≡ b
-          → is_there q fs ≡ (not b && is_some (cond b (Some f.1) (field_get q fs)))) [
-            | true ↦ λ g. ap (λ k. is_there k fs) (same_bytes q f.0 g) ∙ d.0
-            | false ↦ λ g. refl
-          ] refl
-          ∙ ap (λ k. not (bytes_eq q k) && is_there q (f ∷ fs)) (sym same)
-      | false ↦ λ e.
-          elim (bytes_eq q f.0) as (λ b. bytes_eq q f.0 ≡ b
-          → is_some (cond b (Some f.1) (field_get q (field_remove n fs)))
-          ≡ (not (bytes_eq q n) && is_some (cond b (Some f.1) (field_get q fs)))) [
-            | true ↦ λ g.
-                sym (ap (λ b. not b && true)
-                (ap (λ k. bytes_eq k n) (same_bytes q f.0 g) ∙ turned n f.0 e))
-            | false ↦ λ g. remove_there q n fs d.1
-          ] refl
-    ] refl
+remove_there q n (f ∷ fs) d = grind (arith, same_bytes, turned, remove_there q n fs d.1)
 
 remove_distinct : (n : List ℕ) (fs : Pairs) → AreDistinct fs → AreDistinct (field_remove n fs)
 remove_distinct n [] d = tt
-remove_distinct n (f ∷ fs) d =
-    elim (bytes_eq n f.0) as (λ b. AreDistinct (cond b fs (f ∷ field_remove n fs))) [
-      | true ↦ d.1
-      | false ↦ (
-        remove_there f.0 n fs d.1 ∙ ap (λ b. not (bytes_eq f.0 n) && b) d.0
-            ∙ and_false (not (bytes_eq f.0 n)),
-        remove_distinct n fs d.1,
-      )
-    ]
+remove_distinct n (f ∷ fs) d = grind (arith, remove_there, and_false, remove_distinct n fs d.1)
 
 -- where there are no fields none goes
 pub none_to_go : (names : List (List ℕ)) (fs : Pairs) → length fs ≡ 0
@@ -161,9 +94,7 @@ none_there : (k : Vec ℕ Global) (es : Entries)
     → AllByRecursion (λ y. same_name k y ≡ false) (keys_of es)
     → is_there k.items (map plain es) ≡ false
 none_there k [] apart = refl
-none_there k (e ∷ es) apart =
-    ap (λ b. is_some (cond b (Some e.1) (field_get k.items (map plain es)))) apart.0
-    ∙ none_there k es apart.1
+none_there k (e ∷ es) apart = grind (arith, map, plain, none_there k es apart.1)
 
 pub distinct : (es : Entries) → IsDistinct same_name (keys_of es) → AreDistinct (map plain es)
 unfolding IsDistinct
@@ -195,15 +126,12 @@ nothing_set all fs met is =
 -- the first name and value of those left
 two : (key : List ℕ) (left : List (List ℕ)) → 2 ≤ length left → key ≡ get_or left 0 key
     → (v : List ℕ) × (in_turn left ≡ (key, v) ∷ in_turn (take (length left - 2) (drop 2 left)))
-two key [] some first = absurd (let no : ⊥ = omega arith in no)
-two key (a ∷ []) some first = absurd (let no : ⊥ = omega arith in no)
 two key (a ∷ v ∷ left) some first =
     (v, λ i. (sym first i, v) ∷ in_turn (sym (take_rest (a ∷ v ∷ left) 2) i))
+two key left some first = absurd (let no : ⊥ = omega arith in no)
 
 swap_or : (a b c : Bool) → (a || (b || c)) ≡ (b || (a || c))
-swap_or true true c = refl
-swap_or true false c = refl
-swap_or false b c = refl
+swap_or a b c = grind arith
 
 had : (a b : Bool) → (a ≡ true → b ≡ true) → (a || b) ≡ b
 had true b h = sym (h refl)
@@ -263,19 +191,6 @@ module _ (all : List (List ℕ)) (fs met : Pairs) (left : List (List ℕ)) (key 
       grown true n f m h = h
       grown false n f m h = omega (arith, h)
 
-none_in_turn : (left : List (List ℕ)) → length left < 2 → in_turn left ≡ []
-none_in_turn [] few = refl
-none_in_turn (a ∷ []) few = refl
-none_in_turn (a ∷ b ∷ left) few = absurd (let no : ⊥ = omega arith in no)
-
--- once none are left, those that are new are counted
-pub all_set : (all : List (List ℕ)) (fs met : Pairs) (left : List (List ℕ)) → length left < 2
-    → SetSoFar all fs met left → length met ≡ length (set_all (in_turn all) fs) - length fs
-all_set all fs met left few so_far =
-    let is : so_far.now ≡ set_all (in_turn all) fs =
-    ap (λ ps. set_all ps so_far.now) (sym (none_in_turn left few)) ∙ so_far.rest in
-    omega (arith, so_far.count, ap length is)
-
 -- ---- fields are taken out in turn
 
 -- the names met are those of the fields that went so far
@@ -292,14 +207,7 @@ and_true false = refl
 
 pub nothing_gone : (all : List (List ℕ)) (fs met : Pairs) → AreDistinct fs → met ≡ []
     → GoneSoFar all fs met all
-nothing_gone all fs met d is =
-    subst (λ m. GoneSoFar all fs m all) (sym is) (record {
-      now = fs;
-      rest = refl;
-      there = λ q. and_true (is_there q fs);
-      count = omega arith;
-      distinct = d;
-    })
+nothing_gone all fs met d is = grind arith
 
 one : (key : List ℕ) (left : List (List ℕ)) → 1 ≤ length left → key ≡ get_or left 0 key
     → left ≡ key ∷ take (length left - 1) (drop 1 left)
@@ -342,35 +250,8 @@ module _ (all : List (List ℕ)) (fs met : Pairs) (left : List (List ℕ)) (key 
   pub gone_one : is_there key fs ≡ true → (v : List ℕ) (more : Pairs) → more ≡ field_set key v met
       → GoneSoFar all fs more rest_of
   gone_one is v more e =
-      subst (λ m. GoneSoFar all fs m rest_of) (sym e) (record {
-        now = field_remove key so_far.now;
-        rest = remove_on;
-        there = λ q.
-            remove_there q key so_far.now so_far.distinct
-            ∙ ap (λ b. not (bytes_eq q key) && b) (so_far.there q)
-            ∙ both (bytes_eq q key) (is_there q fs) (is_there q met)
-            ∙ ap (λ b. is_there q fs && not b) (sym (set_there q key v met));
-        count =
-            let alike : is_there key so_far.now ≡ not (is_there key met) =
-            so_far.there key ∙ ap (λ b. b && not (is_there key met)) is in
-            counted (is_there key so_far.now) (is_there key met) alike
-            (length (field_remove key so_far.now)) (length so_far.now) (length met)
-            (length (field_set key v met)) (length fs) (remove_length key so_far.now)
-            (set_length key v met) so_far.count;
-        distinct = remove_distinct key so_far.now so_far.distinct;
-      })
-    where
-      both : (a b c : Bool) → (not a && (b && not c)) ≡ (b && not (a || c))
-      both true true c = refl
-      both true false c = refl
-      both false b c = refl
-
-      counted : (a b : Bool) → a ≡ not b → (r n m s f : ℕ) → r + cond a 1 0 ≡ n
-          → s ≡ cond b m (m + 1) → n + m ≡ f → r + s ≡ f
-      counted true true h r n m s f x y z = absurd (let no : ⊥ = cc in no)
-      counted true false h r n m s f x y z = omega (arith, x, y, z)
-      counted false true h r n m s f x y z = omega (arith, x, y, z)
-      counted false false h r n m s f x y z = absurd (let no : ⊥ = cc in no)
+      grind (arith, remove_on, remove_there, set_there, remove_length, set_length, distinct,
+      remove_distinct)
 
 -- once none are left, those that went are counted
 pub all_gone : (all : List (List ℕ)) (fs met : Pairs) (left : List (List ℕ)) → length left < 1

@@ -111,9 +111,7 @@ module _ {X Y : Type 0} (f : X → Y) where
       → AllByRecursion (λ y. key_eq k y ≡ false) (keys_of es)
       → is_some (option_map f (lookup (is_key k.items) es)) ≡ false
   none_found k [] apart = refl
-  none_found k (e ∷ es) apart =
-      ap (λ b. is_some (option_map f (cond b (Some e.1) (lookup (is_key k.items) es)))) apart.0
-      ∙ none_found k es apart.1
+  none_found k (e ∷ es) apart = grind (arith, none_found k es apart.1)
 
   -- where no key is there twice, the finite map has as many keys as the table
   pub len-seen : (es : List (Vec ℕ Global × X)) → IsDistinct key_eq (keys_of es)

@@ -1,6 +1,6 @@
 -- Look-ups and changes in a map with `Vec<u8>` keys, and in the list of plain pairs that it stands
 -- for.
-use Rattle.std.proofs.Common.{◌≡◌, ℕ, Bool, true, false, cond, List, [], ◌∷◌, Some}
+use Rattle.std.proofs.Common.{◌≡◌, ℕ, Bool, false, cond, List, [], ◌∷◌, Some}
 use Rattle.std.proofs.Common.{Vec, Global, map, refl, ap, sym, subst, ◌∙◌, ◌++◌, ◌+◌, Option}
 use Rattle.std.proofs.Common.{drop, slice_get, zero, suc, arith}
 use Rattle.std.proofs.lemmas.List.{append_assoc, append-nil}
@@ -31,20 +31,12 @@ lookup-field name (e ∷ es) = ap (cond (bytes_eq name e.0.items) (Some e.1)) (l
 pub remove-field : (name : List ℕ) (es : Entries)
     → map plain (remove_entry (is_named name) es) ≡ field_remove name (map plain es)
 remove-field name [] = refl
-remove-field name (e ∷ es) =
-    elim (bytes_eq name e.0.items)
-    as (λ b. map plain (cond b es (e ∷ remove_entry (is_named name) es))
-    ≡ cond b (map plain es) (plain e ∷ field_remove name (map plain es)))
-    [ true ↦ refl | false ↦ ap (λ r. plain e ∷ r) (remove-field name es) ]
+remove-field name (e ∷ es) = grind (arith, map, remove-field name es)
 
 pub insert-field : (k : Vec ℕ Global) (v : List ℕ) (es : Entries)
     → map plain (insert_entry same_name es k v) ≡ field_set k.items v (map plain es)
 insert-field k v [] = refl
-insert-field k v (e ∷ es) =
-    elim (bytes_eq k.items e.0.items)
-    as (λ b. map plain (cond b ((e.0, v) ∷ es) (e ∷ insert_entry same_name es k v))
-    ≡ cond b ((e.0.items, v) ∷ map plain es) (plain e ∷ field_set k.items v (map plain es)))
-    [ true ↦ refl | false ↦ ap (λ r. plain e ∷ r) (insert-field k v es) ]
+insert-field k v (e ∷ es) = grind (arith, map, insert-field k v es)
 
 -- after the first of the fields that are to be set in turn, the others are left
 pub set_first : (k : Vec ℕ Global) (v : List ℕ) (es new rest : Entries)
@@ -69,13 +61,7 @@ next_copied k v es new fs place at e =
     from_place (f ∷ fs) (suc place) at = from_place fs place at
 
 other_name : (a b : List ℕ) → bytes_eq a b ≡ false → bytes_eq b a ≡ false
-other_name a b apart = by (bytes_eq b a) refl
-  where
-    by : (c : Bool) → bytes_eq b a ≡ c → c ≡ false
-    by false e = refl
-    by true e =
-        absurd (let no : true ≡ false =
-        sym ((bytes_eq-Decides a b).1 (sym ((bytes_eq-Decides b a).0 e))) ∙ apart in cc)
+other_name a b apart = grind (arith, bytes_eq-Decides)
 
 -- a name that none of the fields before has goes last
 set_behind : (e : Vec ℕ Global × List ℕ) (done rest : Entries)

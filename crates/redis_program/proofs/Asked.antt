@@ -1,11 +1,11 @@
 -- Words ask for a world, a server or a script alone, as the table of what is not built stands, and
 -- their settings are valid.
-use Rattle.std.proofs.Common.{◌≡◌, ◌<◌, ◌≤◌, ◌&&◌, ◌||◌, ◌∙◌, ℕ, Bool, true, false, cond, codes}
+use Rattle.std.proofs.Common.{◌≡◌, ◌<◌, ◌≤◌, ◌||◌, ◌∙◌, ℕ, Bool, true, false, cond, codes}
 use Rattle.std.proofs.Common.{refl, inl, inr}
-use Rattle.std.proofs.Common.{List, [], ◌∷◌, None, Some, arith, sym, ap, subst, leb-true}
+use Rattle.std.proofs.Common.{List, [], ◌∷◌, None, Some, arith, sym, ap}
 use Rattle.std.specs.declared.option.Option.{Option}
 use Rattle.std.specs.Option.{option_map}
-use Rattle.std.specs.Prelude.{nat_le, option_and_then, ◌⊎◌}
+use Rattle.std.specs.Prelude.{option_and_then, ◌⊎◌}
 use Rattle.std.specs.Str.{bytes_eq}
 use Rattle.resp_value.specs.declared.value.Proto.{Proto}
 use Rattle.serial_model.specs.Steps.{AreValid}
@@ -16,12 +16,11 @@ use Rattle.command_line.specs.declared.settings.Connection.{Connection}
 use Rattle.command_line.specs.declared.settings.LimitSettings.{LimitSettings}
 use Rattle.command_line.specs.declared.settings.ScriptSettings.{ScriptSettings}
 use Rattle.command_line.specs.declared.settings.ServeSettings.{ServeSettings}
-use Rattle.command_line.specs.Options.{Word, if_between, is_true, number_in, number_of}
+use Rattle.command_line.specs.Options.{Word, is_true, number_in}
 use Rattle.command_line.specs.Options.{option_value, options_of, value_of}
-use Rattle.command_line.specs.Commands.{command_of, has_pushes, limits, limits_from, script}
+use Rattle.command_line.specs.Commands.{command_of, limits, limits_from, script}
 use Rattle.command_line.specs.Commands.{script_from, script_of, script_options, serve, serve_from}
-use Rattle.command_line.specs.Commands.{serve_of, serve_options, storm_of, takes_prefix, world_of}
-use Rattle.command_line.specs.Commands.{world_options}
+use Rattle.command_line.specs.Commands.{serve_of, serve_options, storm_of, world_of}
 use Rattle.redis_program.specs.Headline.{limits_of}
 
 -- ---- the commands that are not built
@@ -35,12 +34,7 @@ module _ (a : Asked) (rest : Bool) where
       → cond (storm || rest) None
       (cond world w (cond storm x (cond serve y (cond script z None)))) ≡ Some a
       → (w ≡ Some a) ⊎ (y ≡ Some a) ⊎ (z ≡ Some a)
-  by_names world true serve script w x y z e = absurd (let no : ⊥ = cc in no)
-  by_names true false serve script w x y z e = inl (some_of rest w e)
-  by_names false false true script w x y z e = inr (inl (some_of rest y e))
-  by_names false false false true w x y z e = inr (inr (some_of rest z e))
-  by_names false false false false w x y z e =
-      absurd (let no : None ≡ Some a = some_of rest None e in (let none : ⊥ = cc in none))
+  by_names world storm serve script w x y z e = grind arith
 
 is_world : (o : Option LimitSettings) (a : Asked) → option_map World o ≡ Some a
     → (s : LimitSettings) × (a ≡ World s) × (o ≡ Some s)
@@ -89,62 +83,18 @@ only_built (command ∷ words) a e =
 
 -- ---- the limits
 
-between_both : (high n m : ℕ) (b c : Bool) → nat_le 1 n ≡ b → nat_le n high ≡ c
-    → cond (b && c) (Some n) None ≡ Some m → (0 < m) × (m ≤ high)
-between_both high n m true true low top e =
-    let same : n ≡ m = cc in
-    let le : 1 ≤ n = leb-true 1 n low in
-    let ge : n ≤ high = leb-true n high top in
-    (omega arith, omega arith)
-between_both high n m true false low top e = absurd (let no : ⊥ = cc in no)
-between_both high n m false c low top e = absurd (let no : ⊥ = cc in no)
-
 number_within : (high d m : ℕ) (text : Option Word) → 0 < d → d ≤ high
     → number_in 1 high (Some d) text ≡ Some m → (0 < m) × (m ≤ high)
-number_within high d m None low top e =
-    let same : d ≡ m = cc in (omega arith, omega arith)
-number_within high d m (Some text) low top e = go (number_of text) e
-  where
-    go : (o : Option ℕ) → option_and_then (if_between 1 high) o ≡ Some m
-        → (0 < m) × (m ≤ high)
-    go None h = absurd (let no : ⊥ = cc in no)
-    go (Some n) h = between_both high n m (nat_le 1 n) (nat_le n high) refl refl h
-
-all_valid : (table out history : Option ℕ) (s : LimitSettings)
-    → ((m : ℕ) → table ≡ Some m → 0 < m) → ((m : ℕ) → out ≡ Some m → 0 < m)
-    → ((m : ℕ) → history ≡ Some m → 0 < m) → limits table out history ≡ Some s
-    → AreValid (limits_of s)
-all_valid (Some t) (Some o) (Some h) s p q r e =
-    let same : record { table_max = t; out_max = o; history_max = h } ≡ s = cc in
-    subst (λ (x : LimitSettings). AreValid (limits_of x)) same
-    (record { table = p t refl; out = q o refl; history = r h refl })
-all_valid None out history s p q r e = absurd (let no : ⊥ = cc in no)
-all_valid (Some t) None history s p q r e = absurd (let no : ⊥ = cc in no)
-all_valid (Some t) (Some o) None s p q r e = absurd (let no : ⊥ = cc in no)
+number_within high d m text low top e = grind arith
 
 from_valid : (value : Word → Option Word) (s : LimitSettings) → limits_from value ≡ Some s
     → AreValid (limits_of s)
-from_valid value s e =
-    all_valid _ _ _ s
-    (λ m h. (number_within 4000000000 1000000 m (value (codes "table-max")) (omega arith)
-    (omega arith) h).0)
-    (λ m h. (number_within 4000000000 8388608 m (value (codes "out-max")) (omega arith)
-    (omega arith) h).0)
-    (λ m h. (number_within 4000000000 4000000 m (value (codes "history-max")) (omega arith)
-    (omega arith) h).0) e
+from_valid value s e = grind arith
 
 pub world_valid : (words : List Word) (s : LimitSettings) → world_of words ≡ Some s
     → AreValid (limits_of s)
 unfolding world_of
-world_valid words s e = go (options_of world_options words) e
-  where
-    go : (o : Option (List (Word × Word)))
-        → option_and_then
-        (λ seen. limits_from (option_value world_options (λ n. value_of n seen)))
-        o ≡ Some s → AreValid (limits_of s)
-    go None h = absurd (let no : ⊥ = cc in no)
-    go (Some seen) h =
-        from_valid (option_value world_options (λ n. value_of n seen)) s h
+world_valid words s e = grind arith
 
 pub limits_valid : (words : List Word) (s : LimitSettings) → command_of words ≡ Some (World s)
     → AreValid (limits_of s)
@@ -169,15 +119,7 @@ all_servable : (port workers connections : Option ℕ) (limits : Option LimitSet
     (s : ServeSettings) → ((m : ℕ) → workers ≡ Some m → (0 < m) × (m ≤ 64))
     → ((l : LimitSettings) → limits ≡ Some l → AreValid (limits_of l))
     → serve port workers connections limits ≡ Some s → IsServable s
-all_servable (Some p) (Some w) (Some c) (Some l) s q r e =
-    let same : record { port = p; workers = w; connections = c; limits = l } ≡ s = cc in
-    let n = q w refl in
-    subst IsServable same
-    (record { limits = r l refl; some_workers = omega (arith, n.0); few_workers = n.1 })
-all_servable None workers connections limits s q r e = absurd (let no : ⊥ = cc in no)
-all_servable (Some p) None connections limits s q r e = absurd (let no : ⊥ = cc in no)
-all_servable (Some p) (Some w) None limits s q r e = absurd (let no : ⊥ = cc in no)
-all_servable (Some p) (Some w) (Some c) None s q r e = absurd (let no : ⊥ = cc in no)
+all_servable port workers connections limits s q r e = grind arith
 
 from_servable : (value : Word → Option Word) (s : ServeSettings) → serve_from value ≡ Some s
     → IsServable s
@@ -214,36 +156,11 @@ settings_valid words s e = by_part (only_built words (Serve s) e)
 abbrev IsPlayable : ScriptSettings → Type 0
 IsPlayable s = (0 < s.capacity) × (s.capacity ≤ 1000000)
 
-allowed_is : (b : Bool) (s t : ScriptSettings) → cond b (Some s) None ≡ Some t → s ≡ t
-allowed_is true s t e = cc
-allowed_is false s t e = absurd (let no : ⊥ = cc in no)
-
 all_playable : (connect : Option Connection) (resp : Option Proto) (caching : Option Caching)
     (prefix : Option (Option Word)) (capacity : Option ℕ) (noloop redirect : Bool)
     (s : ScriptSettings) → ((m : ℕ) → capacity ≡ Some m → (0 < m) × (m ≤ 1000000))
     → script connect resp caching prefix capacity noloop redirect ≡ Some s → IsPlayable s
-all_playable (Some c) (Some r) (Some k) (Some p) (Some n) noloop redirect s q e =
-    let all : ScriptSettings = record {
-      connect = c;
-      resp = r;
-      caching = k;
-      prefix = p;
-      capacity = n;
-      noloop = noloop;
-      redirect = redirect;
-    } in
-    subst (λ (x : ScriptSettings). IsPlayable x)
-    (allowed_is (has_pushes r redirect && takes_prefix k p) all s e) (q n refl)
-all_playable None resp caching prefix capacity noloop redirect s q e =
-    absurd (let no : ⊥ = cc in no)
-all_playable (Some c) None caching prefix capacity noloop redirect s q e =
-    absurd (let no : ⊥ = cc in no)
-all_playable (Some c) (Some r) None prefix capacity noloop redirect s q e =
-    absurd (let no : ⊥ = cc in no)
-all_playable (Some c) (Some r) (Some k) None capacity noloop redirect s q e =
-    absurd (let no : ⊥ = cc in no)
-all_playable (Some c) (Some r) (Some k) (Some p) None noloop redirect s q e =
-    absurd (let no : ⊥ = cc in no)
+all_playable connect resp caching prefix capacity noloop redirect s q e = grind arith
 
 from_playable : (value : Word → Option Word) (is_set : Word → Bool) (s : ScriptSettings)
     → script_from value is_set ≡ Some s → IsPlayable s

@@ -25,24 +25,18 @@ use Rattle.redis_program.proofs.Judging.{ends_as}
 
 body_written : (ending : Ending) (old new : Option (List ℕ)) (body : List ℕ)
     → (ending ≡ WriteFault → ⊥) → WritesBody ending old new body → Appends old new body
-body_written Done old new body n w = w
-body_written (BadLine k) old new body n w = w
-body_written ReadFault old new body n w = w
 body_written WriteFault old new body n w = absurd (n refl)
-body_written (Refused k f) old new body n w = w
-body_written HistoryFull old new body n w = w
-body_written NoMemory old new body n w = w
+body_written ending old new body n w = w
 
 module _ (Ends : Ending → List ℕ → Type 0) (body : List ℕ) (old new : Option (List ℕ)) where
   writes_status : (ending : Ending) → (ending ≡ WriteFault → ⊥) → Ends ending body
       → Appends old new (body ++ last_line ending) → Writes Ends (status_of ending) old new
   writes_status Done n e a = (Done, body, refl, e, a)
-  writes_status (BadLine k) n e a = (BadLine k, body, refl, e, a)
   writes_status ReadFault n e a = (ReadFault, body, refl, e, a)
   writes_status WriteFault n e a = absurd (n refl)
-  writes_status (Refused k f) n e a = (Refused k f, body, refl, e, a)
   writes_status HistoryFull n e a = (HistoryFull, body, refl, e, a)
   writes_status NoMemory n e a = (NoMemory, body, refl, e, a)
+  writes_status ending n e a = (ending, body, refl, e, a)
 
 module _ (limits : Limits) (in0 in1 : Option (List ℕ)) where
   -- memory for the last line may be wanting, whatever it is
@@ -79,12 +73,11 @@ module _ (limits : Limits) (in0 in1 : Option (List ℕ)) where
       → (ending ≡ WriteFault → ⊥) → Comes limits in0 in1 ending body
       → Comes limits in0 in1 NoMemory body
   no_memory_too Done body d n c = absurd (d refl)
-  no_memory_too (BadLine k) body d n c = then_too (BadLine k) body n c
   no_memory_too ReadFault body d n c = then_too ReadFault body n c
   no_memory_too WriteFault body d n c = absurd (n refl)
-  no_memory_too (Refused k f) body d n c = then_too (Refused k f) body n c
   no_memory_too HistoryFull body d n c = then_too HistoryFull body n c
   no_memory_too NoMemory body d n c = c
+  no_memory_too ending body d n c = then_too ending body n c
 
   pub finishes : (ending : Ending) (result : Status) (out0 out1 out2 : Option (List ℕ))
       (before now : Counts) → (ending ≡ Done → ⊥) → (ending ≡ WriteFault → ⊥)
@@ -136,17 +129,8 @@ module _ (limits : Limits) (in0 in1 : Option (List ℕ)) where
 writes_too : (P Q : Ending → List ℕ → Type 0) (result : Status) (old new : Option (List ℕ))
     → ((ending : Ending) (body : List ℕ) → P ending body → Q ending body)
     → Writes P result old new → Writes Q result old new
-writes_too P Q status.Done old new f w = (w.0, w.1, w.2, f w.0 w.1 w.3, w.4)
-writes_too P Q status.Usage old new f w = (w.0, w.1, w.2, f w.0 w.1 w.3, w.4)
-writes_too P Q status.BadLine old new f w = (w.0, w.1, w.2, f w.0 w.1 w.3, w.4)
-writes_too P Q status.ReadFault old new f w = (w.0, w.1, w.2, f w.0 w.1 w.3, w.4)
 writes_too P Q status.WriteFault old new f w = (w.0, w.1, f w.0 w.1 w.2, w.3)
-writes_too P Q status.NetFault old new f w = (w.0, w.1, w.2, f w.0 w.1 w.3, w.4)
-writes_too P Q status.Refused old new f w = (w.0, w.1, w.2, f w.0 w.1 w.3, w.4)
-writes_too P Q status.LinkEnded old new f w = (w.0, w.1, w.2, f w.0 w.1 w.3, w.4)
-writes_too P Q status.HistoryFull old new f w = (w.0, w.1, w.2, f w.0 w.1 w.3, w.4)
-writes_too P Q status.NoMemory old new f w = (w.0, w.1, w.2, f w.0 w.1 w.3, w.4)
-writes_too P Q status.Worn old new f w = (w.0, w.1, w.2, f w.0 w.1 w.3, w.4)
+writes_too P Q result old new f w = (w.0, w.1, w.2, f w.0 w.1 w.3, w.4)
 
 -- the same of the whole input, where it is known
 pub writes_known : (limits : Limits) (in0 in1 out0 out1 : Option (List ℕ)) (result : Status)
@@ -161,28 +145,18 @@ module _ (limits : Limits) (lines : List (List ℕ)) where
   end_verdict : (ending : Ending) (body : List ℕ) (result : Status) → status_of ending ≡ result
       → (result ≡ status.ReadFault → ⊥) → (result ≡ status.WriteFault → ⊥)
       → EndsAs limits lines ending body → IsVerdict limits lines result
-  end_verdict Done body result s r w e = inr (sym s ∙ ap status_of e.0)
-  end_verdict (BadLine k) body result s r w e = inr (sym s ∙ ap status_of e.0)
   end_verdict ReadFault body result s r w e = absurd (r (sym s))
   end_verdict WriteFault body result s r w e = absurd (w (sym s))
-  end_verdict (Refused k f) body result s r w e = inr (sym s ∙ ap status_of e.0)
-  end_verdict HistoryFull body result s r w e = inr (sym s ∙ ap status_of e.0)
   end_verdict NoMemory body result s r w e = inl (sym s)
+  end_verdict ending body result s r w e = inr (sym s ∙ ap status_of e.0)
 
   complete : (result : Status) (old new : Option (List ℕ)) → (result ≡ status.ReadFault → ⊥)
       → (result ≡ status.WriteFault → ⊥) → Writes (EndsAs limits lines) result old new
       → IsVerdict limits lines result
-  complete status.Done old new r w x = end_verdict x.0 x.1 status.Done x.2 r w x.3
-  complete status.Usage old new r w x = end_verdict x.0 x.1 status.Usage x.2 r w x.3
-  complete status.BadLine old new r w x = end_verdict x.0 x.1 status.BadLine x.2 r w x.3
   complete status.ReadFault old new r w x = absurd (r refl)
   complete status.WriteFault old new r w x = absurd (w refl)
-  complete status.NetFault old new r w x = end_verdict x.0 x.1 status.NetFault x.2 r w x.3
-  complete status.Refused old new r w x = end_verdict x.0 x.1 status.Refused x.2 r w x.3
-  complete status.LinkEnded old new r w x = end_verdict x.0 x.1 status.LinkEnded x.2 r w x.3
-  complete status.HistoryFull old new r w x = end_verdict x.0 x.1 status.HistoryFull x.2 r w x.3
   complete status.NoMemory old new r w x = inl refl
-  complete status.Worn old new r w x = end_verdict x.0 x.1 status.Worn x.2 r w x.3
+  complete result old new r w x = end_verdict x.0 x.1 result x.2 r w x.3
 
 -- where neither fault is the answer
 pub complete_known : (limits : Limits) (in0 out0 out1 : Option (List ℕ)) (result : Status)
@@ -195,22 +169,12 @@ complete_known limits (Some text) out0 out1 result r w x =
 
 ending_read : (ending : Ending) (old now : Counts) → status_of ending ≡ status.ReadFault
     → EndingRead ending old now → Counted old.faults now.faults
-ending_read Done old now e r = absurd (let no : ⊥ = cc in no)
-ending_read (BadLine k) old now e r = absurd (let no : ⊥ = cc in no)
 ending_read ReadFault old now e r = r.0
-ending_read WriteFault old now e r = absurd (let no : ⊥ = cc in no)
-ending_read (Refused k f) old now e r = absurd (let no : ⊥ = cc in no)
-ending_read HistoryFull old now e r = absurd (let no : ⊥ = cc in no)
-ending_read NoMemory old now e r = absurd (let no : ⊥ = cc in no)
+ending_read ending old now e r = absurd (let no : ⊥ = cc in no)
 
 no_write : (ending : Ending) → (ending ≡ WriteFault → ⊥) → status_of ending ≡ status.WriteFault → ⊥
-no_write Done n e = cc
-no_write (BadLine k) n e = cc
-no_write ReadFault n e = cc
 no_write WriteFault n e = n refl
-no_write (Refused k f) n e = cc
-no_write HistoryFull n e = cc
-no_write NoMemory n e = cc
+no_write ending n e = cc
 
 pub last_read : (ending : Ending) (result : Status) (out1 out2 : Option (List ℕ))
     (k1 k2 c0 c1 : Counts) → LastGives ending result out1 out2 k1 k2 → EndingRead ending c0 c1
@@ -228,13 +192,8 @@ last_read ending result out1 out2 k1 k2 c0 c1 last read e = elim last [
 
 counts_same : (ending : Ending) (old now : Counts) → (ending ≡ WriteFault → ⊥)
     → EndingWrote ending old now → now ≡ old
-counts_same Done old now n w = w
-counts_same (BadLine k) old now n w = w
-counts_same ReadFault old now n w = w
 counts_same WriteFault old now n w = absurd (n refl)
-counts_same (Refused k f) old now n w = w
-counts_same HistoryFull old now n w = w
-counts_same NoMemory old now n w = w
+counts_same ending old now n w = w
 
 pub last_wrote : (ending : Ending) (result : Status) (out1 out2 : Option (List ℕ))
     (k0 k1 k2 : Counts) → (ending ≡ WriteFault → ⊥) → LastGives ending result out1 out2 k1 k2
@@ -252,12 +211,7 @@ last_wrote ending result out1 out2 k0 k1 k2 n last wrote e =
 
 ending_done : (ending : Ending) → (ending ≡ Done → ⊥) → status_of ending ≡ status.Done → ⊥
 ending_done Done n e = n refl
-ending_done (BadLine k) n e = cc
-ending_done ReadFault n e = cc
-ending_done WriteFault n e = cc
-ending_done (Refused k f) n e = cc
-ending_done HistoryFull n e = cc
-ending_done NoMemory n e = cc
+ending_done ending n e = cc
 
 pub last_not_done : (ending : Ending) (result : Status) (out1 out2 : Option (List ℕ))
     (k1 k2 : Counts) → (ending ≡ Done → ⊥) → LastGives ending result out1 out2 k1 k2
@@ -273,12 +227,7 @@ last_not_done ending result out1 out2 k1 k2 n last e = elim last [
 
 no_usage : (ending : Ending) → status_of ending ≡ status.Usage → ⊥
 no_usage Done e = cc
-no_usage (BadLine k) e = cc
-no_usage ReadFault e = cc
-no_usage WriteFault e = cc
-no_usage (Refused k f) e = cc
-no_usage HistoryFull e = cc
-no_usage NoMemory e = cc
+no_usage ending e = cc
 
 pub last_not_usage : (ending : Ending) (result : Status) (out1 out2 : Option (List ℕ))
     (k1 k2 : Counts) → LastGives ending result out1 out2 k1 k2 → result ≡ status.Usage → ⊥

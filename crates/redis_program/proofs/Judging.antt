@@ -203,12 +203,7 @@ module _ (limits : Limits) where
         (subst (λ es. IsPrefix printed (transcript w es)) (sym all) begins) b
 
   refused_at : (n : ℕ) (f : WorldFault) → IsRefusal f → ending_at n f ≡ Refused n f
-  refused_at n fault.NoName r = refl
-  refused_at n fault.NameTaken r = refl
-  refused_at n fault.NothingThere r = refl
-  refused_at n fault.NoMemory r = absurd r
-  refused_at n (fault.Refused k) r = refl
-  refused_at n (fault.HistoryFull entries) r = absurd r
+  refused_at n f r = grind arith
 
   by_ending : (ending : Ending) (lines : List (List ℕ)) (events : List Event) (w : WorldState)
       (more : List ℕ) (printed : List Line) (body rest : List ℕ) → (ending ≡ Done → ⊥)
@@ -266,21 +261,14 @@ module _ (limits : Limits) where
       c.consumed ∙ ap (λ l. c.bytes ++ l) c.at_end ∙ append-nil c.bytes in
       subst (λ t. EndsAs limits (text_lines t) Done body) (sym all)
       (done_ends (text_lines c.bytes) c.events c.w c.plays body c.prints)
-  ends_as text None (BadLine k) body c = absurd c.reads.consumed
-  ends_as text (Some rest) (BadLine k) body c =
-      next_ends (BadLine k) text rest body (λ e. let no : ⊥ = cc in no) c
-  ends_as text None ReadFault body c = absurd c.reads.consumed
   ends_as text (Some rest) ReadFault body c =
       next_ends ReadFault text rest body (λ e. let no : ⊥ = cc in no) c
-  ends_as text None WriteFault body c = absurd c.reads.consumed
   ends_as text (Some rest) WriteFault body c =
       next_ends WriteFault text rest body (λ e. let no : ⊥ = cc in no) c
-  ends_as text None (Refused k f) body c = absurd c.reads.consumed
-  ends_as text (Some rest) (Refused k f) body c =
-      next_ends (Refused k f) text rest body (λ e. let no : ⊥ = cc in no) c
-  ends_as text None HistoryFull body c = absurd c.reads.consumed
   ends_as text (Some rest) HistoryFull body c =
       next_ends HistoryFull text rest body (λ e. let no : ⊥ = cc in no) c
-  ends_as text None NoMemory body c = absurd c.reads.consumed
   ends_as text (Some rest) NoMemory body c =
       next_ends NoMemory text rest body (λ e. let no : ⊥ = cc in no) c
+  ends_as text None ending body c = absurd c.reads.consumed
+  ends_as text (Some rest) ending body c =
+      next_ends ending text rest body (λ e. let no : ⊥ = cc in no) c

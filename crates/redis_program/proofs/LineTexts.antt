@@ -1,5 +1,5 @@
 -- What a line comes to, once its text was written or the sink failed in it.
-use Rattle.std.proofs.Common.{◌≡◌, ◌++◌, ℕ, List, [], Some, Ok, Err, Result, refl, sym, ap}
+use Rattle.std.proofs.Common.{◌≡◌, ◌++◌, ℕ, List, [], Some, Err, Result, refl, sym, ap}
 use Rattle.std.proofs.Common.{subst}
 use Rattle.std.proofs.Common.{◌∙◌, inl, inr}
 use Rattle.std.specs.declared.option.Option.{Option}
@@ -37,14 +37,10 @@ all_printed n w line event lines at is = (
 module _ (n : ℕ) (w new : WorldState) (line text : List ℕ) (old out : Option (List ℕ)) where
   pub line_written : (played : Result (Unit {0}) Ending) → LineText n w line played new text
       → Appends old out text → LineGives n w line played new old out
-  line_written (Ok done) t a = (t.0, t.2, subst (λ l. Appends old out l) t.1 a)
   line_written (Err ending.Done) t a = absurd t.2
-  line_written (Err (ending.BadLine k)) t a = (t.0, t.2, subst (λ l. Appends old out l) t.1 a)
   line_written (Err ending.ReadFault) t a = absurd t.2
   line_written (Err ending.WriteFault) t a = absurd t.2
-  line_written (Err (ending.Refused k f)) t a = (t.0, t.2, subst (λ l. Appends old out l) t.1 a)
-  line_written (Err ending.HistoryFull) t a = (t.0, t.2, subst (λ l. Appends old out l) t.1 a)
-  line_written (Err ending.NoMemory) t a = (t.0, t.2, subst (λ l. Appends old out l) t.1 a)
+  line_written played t a = (t.0, t.2, subst (λ l. Appends old out l) t.1 a)
 
   empty : (lines : List Line) → text ≡ text_of lines → lines ≡ [] → text ≡ []
   empty lines is none = is ∙ ap text_of none ∙ sym (text_none [] refl)
@@ -53,32 +49,24 @@ module _ (n : ℕ) (w new : WorldState) (line text : List ℕ) (old out : Option
   pub line_cut : (last : WorldState) (played : Result (Unit {0}) Ending)
       → LineText n w line played new text → AppendsFirst old out text → (text ≡ [] → ⊥)
       → LineGives n w line (Err ending.WriteFault) last old out
-  line_cut last (Ok done) t a some =
-      (t.0, all_printed n w line t.2.0 t.0 t.2.1 t.2.4, subst (λ l. AppendsFirst old out l) t.1 a)
   line_cut last (Err ending.Done) t a some = absurd t.2
   line_cut last (Err (ending.BadLine k)) t a some = absurd (some (empty t.0 t.1 t.2.1))
   line_cut last (Err ending.ReadFault) t a some = absurd t.2
   line_cut last (Err ending.WriteFault) t a some = absurd t.2
   line_cut last (Err (ending.Refused k f)) t a some =
       (t.0, all_printed n w line t.2.2 t.0 t.2.3 t.2.5, subst (λ l. AppendsFirst old out l) t.1 a)
-  line_cut last (Err ending.HistoryFull) t a some =
-      (t.0, all_printed n w line t.2.0 t.0 t.2.1 t.2.4, subst (λ l. AppendsFirst old out l) t.1 a)
   line_cut last (Err ending.NoMemory) t a some = elim t.2 [
     | inl none ↦ absurd (some (empty t.0 t.1 none))
     | inr part ↦ (t.0, part, subst (λ l. AppendsFirst old out l) t.1 a)
   ]
+  line_cut last played t a some =
+      (t.0, all_printed n w line t.2.0 t.0 t.2.1 t.2.4, subst (λ l. AppendsFirst old out l) t.1 a)
 
 pub line_uncounted : (n : ℕ) (w new : WorldState) (line text : List ℕ) (before now : Counts)
     (played : Result (Unit {0}) Ending) → LineText n w line played new text → now ≡ before
     → LineCounted played before now
-line_uncounted n w new line text before now (Ok done) t e = e
-line_uncounted n w new line text before now (Err ending.Done) t e = e
-line_uncounted n w new line text before now (Err (ending.BadLine k)) t e = e
-line_uncounted n w new line text before now (Err ending.ReadFault) t e = e
 line_uncounted n w new line text before now (Err ending.WriteFault) t e = absurd t.2
-line_uncounted n w new line text before now (Err (ending.Refused k f)) t e = e
-line_uncounted n w new line text before now (Err ending.HistoryFull) t e = e
-line_uncounted n w new line text before now (Err ending.NoMemory) t e = e
+line_uncounted n w new line text before now played t e = e
 
 -- the first lines of what an event printed until it ended or was broken off
 pub part_printed : (n : ℕ) (w : WorldState) (line : List ℕ) (event : Event) (before : List Line)

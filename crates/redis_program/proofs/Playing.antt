@@ -15,7 +15,7 @@ use Rattle.world_run.specs.Transcript.{transcript, after}
 use Rattle.world_run.specs.OneHistory.{HasOneHistory}
 use Rattle.world_run.proofs.History.{faults_none, have_links}
 use Rattle.redis_program.specs.declared.status.Ending.{Ending}
-use Rattle.redis_program.specs.declared.status.Ending.TheVariants.{Done, BadLine, ReadFault}
+use Rattle.redis_program.specs.declared.status.Ending.TheVariants.{Done, BadLine}
 use Rattle.redis_program.specs.declared.status.Ending.TheVariants.{WriteFault, Refused, HistoryFull}
 use Rattle.redis_program.specs.declared.status.Ending.TheVariants.{NoMemory}
 use Rattle.redis_program.specs.Headline.{AppendsFirst, AreLinesOf, ArePlain, IsPlain, Next, Plays}
@@ -232,10 +232,8 @@ module _ (limits : Limits) (number : ℕ) (w : WorldState)
       → Standing limits number w in0 in1 out0 out1 → ReadsWhole line more in2
       → Consumes in1 in2 more → LineGives number w line (Err ending) new out1 out2
       → ComesTo limits in0 in2 ending out0 out2
-  line_ends law Done new line more s r c g = absurd g.1
   line_ends law (BadLine k) new line more s r c g =
       ends_with law (BadLine k) more g.0 s c (g.1.0, g.1.1, line, inl r, g.1.2) g.2
-  line_ends law ReadFault new line more s r c g = absurd g.1
   line_ends law WriteFault new line more s r c g =
       let part = part_of law limits s.lines s.events w number line g.0 s.lines_are s.played g.1 in (
         text_of (printed_by s.events ++ g.0),
@@ -263,6 +261,7 @@ module _ (limits : Limits) (number : ℕ) (w : WorldState)
         part_of law limits s.lines s.events w number line g.0 s.lines_are s.played part in
         ends_with law NoMemory more g.0 s c (inr (inr (line, part.0, r, part.1, plays))) g.2
   ]
+  line_ends law ending new line more s r c g = absurd g.1
 
   -- the same of the bytes of a line, which is the line that was played
   pub line_brings : HasOneHistory → (ending : Ending) (new : WorldState) (items line : List ℕ)
@@ -303,23 +302,12 @@ module _ (limits : Limits) (number : ℕ) (w : WorldState)
 pub line_reads : (ending : Ending) (number : ℕ) (w new : WorldState) (line : List ℕ)
     (out1 out2 : Option (List ℕ)) (old now : Counts)
     → LineGives number w line (Err ending) new out1 out2 → EndingRead ending old now
-line_reads Done number w new line out1 out2 old now g = absurd g.1
-line_reads (BadLine k) number w new line out1 out2 old now g = tt
-line_reads ReadFault number w new line out1 out2 old now g = absurd g.1
-line_reads WriteFault number w new line out1 out2 old now g = tt
-line_reads (Refused k f) number w new line out1 out2 old now g = tt
-line_reads HistoryFull number w new line out1 out2 old now g = tt
-line_reads NoMemory number w new line out1 out2 old now g = tt
+line_reads ending number w new line out1 out2 old now g = grind arith
 
 pub line_wrote : (ending : Ending) (old mid now : Counts) → mid ≡ old
     → LineCounted (Err ending) mid now → EndingWrote ending old now
-line_wrote Done old mid now e c = c ∙ e
-line_wrote (BadLine k) old mid now e c = c ∙ e
-line_wrote ReadFault old mid now e c = c ∙ e
 line_wrote WriteFault old mid now e c = subst (λ x. FaultCounted x now) e c
-line_wrote (Refused k f) old mid now e c = c ∙ e
-line_wrote HistoryFull old mid now e c = c ∙ e
-line_wrote NoMemory old mid now e c = c ∙ e
+line_wrote ending old mid now e c = c ∙ e
 
 pub end_counted : (old mid now : Counts) → mid ≡ old → EndCounted mid now → EndCounted old now
 end_counted old mid now e r = subst (λ x. EndCounted x now) e r

@@ -1,15 +1,12 @@
 -- Some lines of a schedule, and then more.
 use Rattle.std.proofs.Common.{◌≡◌, ◌+◌, ◌<◌, ◌≤◌, ℕ, List, [], ◌∷◌, ◌++◌, Some, None, length, refl}
 use Rattle.std.proofs.Common.{sym}
-use Rattle.std.proofs.Common.{ap, subst, ◌∙◌, append_assoc, append-nil, arith, Bool, true, false}
-use Rattle.std.proofs.Common.{cond, leb-true}
-use Rattle.std.specs.Prelude.{nat_le, ◌==◌}
+use Rattle.std.proofs.Common.{ap, subst, ◌∙◌, append_assoc, append-nil, arith}
 use Rattle.std.specs.declared.option.Option.{Option}
-use Rattle.std.specs.List.{slice_split}
 use Rattle.std.specs.Option.{option_map_or}
 use Rattle.std.proofs.lemmas.Grind.{flat_map-append}
 use Rattle.resp_value.specs.Lists.{IsPrefix}
-use Rattle.script_text.specs.Events.{event_of, event_of_parts, longest_line}
+use Rattle.script_text.specs.Events.{event_of, longest_line}
 use Rattle.script_text.specs.declared.event.Event.{Event}
 use Rattle.script_text.specs.declared.line.Line.{Line}
 use Rattle.script_text.specs.Printed.{text_of, line_text}
@@ -152,28 +149,9 @@ text_none text e = e
 
 pub too_long : (n : ℕ) (line : List ℕ) → longest_line < length line → event_at n line ≡ None
 unfolding event_of
-too_long n line h =
-    let P : Bool → Type 0 = λ b. nat_le (length line) longest_line ≡ b
-    → nat_le (length line) longest_line ≡ false in
-    let test : nat_le (length line) longest_line ≡ false =
-    elim (nat_le (length line) longest_line) as P [
-      | true ↦ λ t. absurd
-          (let le : length line ≤ longest_line = leb-true (length line) longest_line t in
-          omega arith)
-      | false ↦ λ t. t
-    ] refl in
-    let out : event_of line ≡ None =
-    ap (λ b. cond b (event_of_parts (slice_split (λ b. b == 32) line)) None) test in
-    elim (nat_le n most_lines) as
-    (λ b. cond b (event_of line) None ≡ None) [ true ↦ out | false ↦ refl ]
+too_long n line h = grind arith
 
 -- a line of the grammar is not past the last number
 pub numbered : (n : ℕ) (line : List ℕ) (event : Event) → event_at n line ≡ Some event
     → n ≤ most_lines
-numbered n line event h =
-    let P : Bool → Type 0 = λ b. nat_le n most_lines ≡ b → cond b (event_of line) None ≡ Some event
-    → n ≤ most_lines in
-    elim (nat_le n most_lines) as P [
-      | true ↦ λ t e. leb-true n most_lines t
-      | false ↦ λ t e. absurd (let no : ⊥ = cc in no)
-    ] refl h
+numbered n line event h = grind arith

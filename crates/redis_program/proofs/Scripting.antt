@@ -18,15 +18,7 @@ use Rattle.redis_program.specs.Scripting.{ScriptGives, script_status}
 
 pub script_not_usage : (r : Result ScriptEnd SinkFailed) → script_status r ≡ status.Usage → ⊥
 script_not_usage (Ok (end.Played ended.Done)) h = cc
-script_not_usage (Ok (end.Played (ended.LinkEnded n))) h = cc
-script_not_usage (Ok (end.Played ended.HistoryFull)) h = cc
-script_not_usage (Ok (end.Played ended.NoMemory)) h = cc
-script_not_usage (Ok (end.Played ended.Worn)) h = cc
-script_not_usage (Ok (end.BadLine n)) h = cc
-script_not_usage (Ok end.ReadFault) h = cc
-script_not_usage (Ok end.NetFault) h = cc
-script_not_usage (Ok end.NoMemory) h = cc
-script_not_usage (Err failed) h = cc
+script_not_usage r h = cc
 
 pub script_cut : (P : Type 0) (r : Result ScriptEnd SinkFailed) → OnErr r P
     → script_status r ≡ status.WriteFault → P
@@ -55,15 +47,7 @@ module _ {L : Type 0} (left contents : L → Option (List ℕ)) (counts : L → 
   pub script_done : (r : Result ScriptEnd SinkFailed) → script_status r ≡ status.Done → Written r
       → Counted in0.ends in1.ends
   script_done (Ok (end.Played ended.Done)) h w = (rests_of (end.Played ended.Done) w).0
-  script_done (Ok (end.Played (ended.LinkEnded n))) h w = absurd (let no : ⊥ = cc in no)
-  script_done (Ok (end.Played ended.HistoryFull)) h w = absurd (let no : ⊥ = cc in no)
-  script_done (Ok (end.Played ended.NoMemory)) h w = absurd (let no : ⊥ = cc in no)
-  script_done (Ok (end.Played ended.Worn)) h w = absurd (let no : ⊥ = cc in no)
-  script_done (Ok (end.BadLine n)) h w = absurd (let no : ⊥ = cc in no)
-  script_done (Ok end.ReadFault) h w = absurd (let no : ⊥ = cc in no)
-  script_done (Ok end.NetFault) h w = absurd (let no : ⊥ = cc in no)
-  script_done (Ok end.NoMemory) h w = absurd (let no : ⊥ = cc in no)
-  script_done (Err failed) h w = absurd (let no : ⊥ = cc in no)
+  script_done r h w = absurd (let no : ⊥ = cc in no)
 
   pub script_read : (r : Result ScriptEnd SinkFailed) → script_status r ≡ status.ReadFault
       → Written r → Counted in0.faults in1.faults

@@ -19,10 +19,8 @@ use Rattle.redis_program.specs.Serving.{ServeGives, served_status}
 
 pub net_status : (e : Result ServeEnd SinkFailed) → served_status e ≡ status.NetFault
     → e ≡ Ok end.NetFault
-net_status (Ok end.Done) h = absurd (let no : ⊥ = cc in no)
 net_status (Ok end.NetFault) h = refl
-net_status (Ok end.NoMemory) h = absurd (let no : ⊥ = cc in no)
-net_status (Err failed) h = absurd (let no : ⊥ = cc in no)
+net_status e h = absurd (let no : ⊥ = cc in no)
 
 pub write_status : (P : Type 0) (e : Result ServeEnd SinkFailed) → OnErr e P
     → served_status e ≡ status.WriteFault → P
@@ -33,40 +31,22 @@ write_status P (Err failed) p h = p
 
 pub not_usage : (e : Result ServeEnd SinkFailed) → served_status e ≡ status.Usage → ⊥
 not_usage (Ok end.Done) h = cc
-not_usage (Ok end.NetFault) h = cc
-not_usage (Ok end.NoMemory) h = cc
-not_usage (Err failed) h = cc
+not_usage e h = cc
 
 pub not_read : (e : Result ServeEnd SinkFailed) → served_status e ≡ status.ReadFault → ⊥
 not_read (Ok end.Done) h = cc
-not_read (Ok end.NetFault) h = cc
-not_read (Ok end.NoMemory) h = cc
-not_read (Err failed) h = cc
+not_read e h = cc
 
 -- ---- the net's fault is no other's status
 
 pub usage_not_net : (answer : Status) (old new : Option (List ℕ)) → UsageGives answer old new
     → answer ≡ status.NetFault → ⊥
-usage_not_net status.Done old new u e = cc
-usage_not_net status.Usage old new u e = cc
-usage_not_net status.BadLine old new u e = cc
-usage_not_net status.ReadFault old new u e = cc
-usage_not_net status.WriteFault old new u e = cc
 usage_not_net status.NetFault old new u e = u
-usage_not_net status.Refused old new u e = cc
-usage_not_net status.LinkEnded old new u e = cc
-usage_not_net status.HistoryFull old new u e = cc
-usage_not_net status.NoMemory old new u e = cc
-usage_not_net status.Worn old new u e = cc
+usage_not_net answer old new u e = cc
 
 ending_not_net : (e : Ending) → status_of e ≡ status.NetFault → ⊥
 ending_not_net ending.Done e = cc
-ending_not_net (ending.BadLine k) e = cc
-ending_not_net ending.ReadFault e = cc
-ending_not_net ending.WriteFault e = cc
-ending_not_net (ending.Refused k f) e = cc
-ending_not_net ending.HistoryFull e = cc
-ending_not_net ending.NoMemory e = cc
+ending_not_net x e = cc
 
 pub world_not_net : (Ends : Ending → List ℕ → Type 0) (answer : Status) (old new : Option (List ℕ))
     → Writes Ends answer old new → answer ≡ status.NetFault → ⊥

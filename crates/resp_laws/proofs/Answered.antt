@@ -53,16 +53,7 @@ module _ {A X : Type 0} (read : List ℕ → Parsed A) (past : Stream → Stream
       absurd (bad_whole g r c.0.rest (view x) (read (past s).rest) h c.1.0)
   none_after s g r (Answered (Err NoMemory) ∷ calls) t h c =
       none_after s g r calls t h (subst (λ (q : Stream). Calls q calls) c.1 c.2)
-  none_after s g r (Answered (Err (BadByte o)) ∷ calls) t h c =
-      none_after c.0 g r calls (ap (λ (q : Stream). q.failed) c.1.1) (failed_on s c.0 g r h c.1.1)
-      c.2
-  none_after s g r (Answered (Err (TooLong o n)) ∷ calls) t h c =
-      none_after c.0 g r calls (ap (λ (q : Stream). q.failed) c.1.1) (failed_on s c.0 g r h c.1.1)
-      c.2
-  none_after s g r (Answered (Err (TooDeep o)) ∷ calls) t h c =
-      none_after c.0 g r calls (ap (λ (q : Stream). q.failed) c.1.1) (failed_on s c.0 g r h c.1.1)
-      c.2
-  none_after s g r (Answered (Err (NotServed o b)) ∷ calls) t h c =
+  none_after s g r (e ∷ calls) t h c =
       none_after c.0 g r calls (ap (λ (q : Stream). q.failed) c.1.1) (failed_on s c.0 g r h c.1.1)
       c.2
 

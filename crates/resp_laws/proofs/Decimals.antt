@@ -1,19 +1,18 @@
 -- A length that was written is read, or passes a limit, however great it is.
 use Rattle.std.proofs.Common.{◌≡◌, ℕ, zero, suc, ◌+◌, ◌-◌, ◌*◌, ◌/◌, ◌%◌, ◌<◌, ◌≤◌, ◌^◌, List, []}
-use Rattle.std.proofs.Common.{◌∷◌, ◌++◌, refl, sym, ap, subst, ◌∙◌, ◌⊎◌, inl, inr, Bool}
+use Rattle.std.proofs.Common.{◌∷◌, ◌++◌, refl, ap, subst, ◌∙◌, ◌⊎◌, inl, inr, Bool}
 use Rattle.std.proofs.Common.{true, false, cond, length, arith, Option, Some}
 use Rattle.std.specs.Prelude.{nat_lt, nat_eq}
 use Rattle.std.specs.Fmt.{decimal, digits, digits_onto, digit_glyph}
 use Rattle.std.proofs.lemmas.Fmt.{decimal_by_steps_wide}
-use Rattle.std.proofs.lemmas.Bool.{ne_eqb, le-ltb, lt-ltb, ltb-true, ltb-false}
-use Rattle.resp_stream.specs.declared.fault.Fault.TheVariants.{BadByte, TooLong, NotServed}
+use Rattle.std.proofs.lemmas.Bool.{ne_eqb, lt-ltb, ltb-true, ltb-false}
+use Rattle.resp_stream.specs.declared.fault.Fault.TheVariants.{TooLong}
 use Rattle.resp_stream.specs.declared.tokens.LengthRule.{LengthRule}
-use Rattle.resp_stream.specs.Parsed.{Whole, Bad, Go, Stop, On, Out, taken, moved, scan}
-use Rattle.resp_stream.specs.Parsed.{◌>>=◌}
-use Rattle.resp_stream.specs.Tokens.{only_byte, line_feed, ending, length_end, digit_move}
-use Rattle.resp_stream.specs.Tokens.{digits_at, minus_one, length_by, length_at}
+use Rattle.resp_stream.specs.Parsed.{Go, Stop, taken, scan}
+use Rattle.resp_stream.specs.Tokens.{only_byte, ending, digit_move}
+use Rattle.resp_stream.specs.Tokens.{digits_at, length_by, length_at}
 use Rattle.resp_laws.proofs.Written.{Digits, IsLength, one_digit, next_digit}
-use Rattle.resp_laws.proofs.Only.{Only, only_same, only_taken, only_moved}
+use Rattle.resp_laws.proofs.Only.{Only, only_same, only_taken}
 
 -- ---- the digits of a number that is too great to be spelled
 
@@ -54,12 +53,7 @@ made_digits (c ∷ ds) m h = (h.0, h.1, made_digits ds (m * 10 + (c - 48)) h.2)
 made_great : (ds : List ℕ) (m : ℕ) → grown m (length ds) ≤ made m ds
 unfolding made grown
 made_great [] m = omega arith
-made_great (c ∷ ds) m =
-    omega (
-      arith,
-      made_great ds (m * 10 + (c - 48)),
-      grown_le (length ds) (m * 10) (m * 10 + (c - 48)) (omega arith),
-    )
+made_great (c ∷ ds) m = grind (arith, grown_le, made_great ds (m * 10 + (c - 48)))
 
 glyph_is : (n : ℕ) → n < 10 → digit_glyph false n ≡ 48 + n
 glyph_is n lt = ap (λ t. cond t (48 + n) (87 + n)) (lt-ltb n 10 lt)
@@ -117,54 +111,26 @@ is_decimal n = decimal_by n (nat_lt n (10 ^ 64)) refl
 -- the digits of a length, the first apart
 pub as_digits : (n c : ℕ) (ds : List ℕ) → IsLength n (c ∷ ds)
     → (48 ≤ c) × (c ≤ 57) × Digits (c - 48) ds n
-as_digits n c ds h =
-    elim h [
-      | inl z ↦ (
-        omega (arith, z.0),
-        omega (arith, z.0),
-        subst (λ (q : List ℕ). Digits (c - 48) q n) (sym z.1) (omega (arith, z.0, z.2)),
-      )
-      | inr z ↦ (omega (arith, z.0), z.1, z.2)
-    ]
+as_digits n c ds h = grind arith
 
 -- ---- a length
 
 module _ (rule : LengthRule) where
-  digit_by : (n c : ℕ) → 48 ≤ c → c ≤ 57 → digit_move rule n c
-      ≡ cond (nat_lt rule.limit (n * 10 + (c - 48))) (Out (Stop (TooLong (n * 10 + (c - 48)))))
-      (On (n * 10 + (c - 48)))
-  digit_by n c a b =
-      λ i. cond (ne_eqb c 13 (λ e. omega arith) i) (Out (length_end rule n))
-      (cond (le-ltb c 48 a i) (Out (Stop BadByte))
-      (cond (le-ltb 57 c b i) (Out (Stop BadByte))
-      (cond (nat_lt rule.limit (n * 10 + (c - 48))) (Out (Stop (TooLong (n * 10 + (c - 48)))))
-      (On (n * 10 + (c - 48))))))
-
   only_digit : (n c : ℕ) (bs : List ℕ) (x : Option ℕ) (s : List ℕ) → 48 ≤ c → c ≤ 57
       → (nat_lt rule.limit (n * 10 + (c - 48)) ≡ false
       → Only (scan (digit_move rule) (n * 10 + (c - 48)) bs) x s)
       → Only (scan (digit_move rule) n (c ∷ bs)) x s
-  only_digit n c bs x s a b h =
-      let v = n * 10 + (c - 48) in
-      only_same (scan (digit_move rule) n (c ∷ bs))
-      (moved (cond (nat_lt rule.limit v) (Out (Stop (TooLong v))) (On v))
-      (λ u. scan (digit_move rule) u bs) c bs) x s
-      (ap (λ q. moved q (λ u. scan (digit_move rule) u bs) c bs) (digit_by n c a b))
-      (only_moved (nat_lt rule.limit v) (TooLong v) v (λ u. scan (digit_move rule) u bs) c bs x s h)
+  only_digit n c bs x s a b h = grind arith
 
   end_only : (n : ℕ) (s : List ℕ) → Only (scan (digit_move rule) n (13 ∷ 10 ∷ s)) (Some n) s
   unfolding only_byte
-  end_only n s =
-      only_taken (nat_lt n rule.least) BadByte (line_feed (Some n)) 13 (10 ∷ s) (Some n) s
-      (refl, refl)
+  end_only n s = grind arith
 
   scan_only : (ds : List ℕ) (m n : ℕ) (s : List ℕ) → Digits m ds n
       → Only (scan (digit_move rule) m (ds ++ 13 ∷ 10 ∷ s)) (Some n) s
   scan_only [] m n s h =
       subst (λ k. Only (scan (digit_move rule) m (13 ∷ 10 ∷ s)) (Some k) s) h (end_only m s)
-  scan_only (c ∷ ds) m n s h =
-      only_digit m c (ds ++ 13 ∷ 10 ∷ s) (Some n) s h.0 h.1
-      (λ e. scan_only ds (m * 10 + (c - 48)) n s h.2)
+  scan_only (c ∷ ds) m n s h = grind (arith, only_digit, scan_only ds (m * 10 + (c - 48)) n s h.2)
 
   -- a number past the limit is not read
   scan_over : (ds : List ℕ) (m n : ℕ) (x : Option ℕ) (s : List ℕ) → Digits m ds n
@@ -177,16 +143,7 @@ module _ (rule : LengthRule) where
 
   lead_by : (c : ℕ) → 49 ≤ c → c ≤ 57 → length_by rule c
       ≡ cond (nat_lt rule.limit (c - 48)) (Stop (TooLong (c - 48))) (Go (digits_at rule (c - 48)))
-  lead_by c a b =
-      λ i. cond (ne_eqb c 63 (λ e. omega arith) i)
-      (cond rule.streamed (Stop (NotServed 63)) (Stop BadByte))
-      (cond (ne_eqb c 45 (λ e. omega arith) i) (cond rule.null (Go minus_one) (Stop BadByte))
-      (cond (ne_eqb c 48 (λ e. omega arith) i)
-      (cond (nat_lt 0 rule.least) (Stop BadByte) (Go (ending (Some 0))))
-      (cond (le-ltb c 49 a i) (Stop BadByte)
-      (cond (le-ltb 57 c b i) (Stop BadByte)
-      (cond (nat_lt rule.limit (c - 48)) (Stop (TooLong (c - 48)))
-      (Go (digits_at rule (c - 48))))))))
+  lead_by c a b = grind arith
 
   lead_taken : (t : Bool) (c : ℕ) (bs : List ℕ) (x : Option ℕ) (s : List ℕ)
       → (t ≡ false → Only (scan (digit_move rule) (c - 48) bs) x s)
@@ -199,46 +156,26 @@ module _ (rule : LengthRule) where
       → (nat_lt rule.limit (c - 48) ≡ false → Only (scan (digit_move rule) (c - 48) bs) x s)
       → Only (length_at rule (c ∷ bs)) x s
   unfolding length_at
-  lead_only c bs x s a b h =
-      only_same (taken (length_by rule c) c bs)
-      (taken (cond (nat_lt rule.limit (c - 48)) (Stop (TooLong (c - 48)))
-      (Go (digits_at rule (c - 48)))) c bs) x s (ap (λ q. taken q c bs) (lead_by c a b))
-      (lead_taken (nat_lt rule.limit (c - 48)) c bs x s h)
+  lead_only c bs x s a b h = grind (arith, only_same, lead_by, lead_taken)
 
   nought_only : (s : List ℕ) → Only (length_at rule (48 ∷ 13 ∷ 10 ∷ s)) (Some 0) s
   unfolding length_at only_byte
-  nought_only s =
-      only_taken (nat_lt 0 rule.least) BadByte (ending (Some 0)) 48 (13 ∷ 10 ∷ s) (Some 0) s
-      (refl, refl)
+  nought_only s = grind arith
 
   no_end : (c : ℕ) (bs : List ℕ) (x : Option ℕ) (s : List ℕ) → 48 ≤ c
       → Only (ending (Some 0) (c ∷ bs)) x s
   unfolding only_byte
-  no_end c bs x s a =
-      only_same (ending (Some 0) (c ∷ bs)) (Bad BadByte (c ∷ bs)) x s
-      (ap (λ t. taken (cond t (Go (Whole tt)) (Stop BadByte)) c bs >>= λ u r. line_feed (Some 0) r)
-      (ne_eqb c 13 (λ e. omega arith))) tt
+  no_end c bs x s a = grind arith
 
   -- nothing follows a first nought
   nought_over : (c : ℕ) (bs : List ℕ) (x : Option ℕ) (s : List ℕ) → 48 ≤ c
       → Only (length_at rule (48 ∷ c ∷ bs)) x s
   unfolding length_at
-  nought_over c bs x s a =
-      only_taken (nat_lt 0 rule.least) BadByte (ending (Some 0)) 48 (c ∷ bs) x s
-      (no_end c bs x s a)
+  nought_over c bs x s a = grind (arith, only_taken, no_end)
 
   length_is : (n : ℕ) (ds s : List ℕ) → IsLength n ds
       → Only (length_at rule (ds ++ 13 ∷ 10 ∷ s)) (Some n) s
-  length_is n [] s h = absurd h
-  length_is n (c ∷ ds) s h =
-      elim h [
-        | inl z ↦ subst (λ k. Only (length_at rule (c ∷ (ds ++ 13 ∷ 10 ∷ s))) (Some k) s) (sym z.2)
-            (only_same (length_at rule (c ∷ (ds ++ 13 ∷ 10 ∷ s)))
-            (length_at rule (48 ∷ 13 ∷ 10 ∷ s)) (Some 0) s
-            (λ i. length_at rule (z.0 i ∷ (z.1 i ++ 13 ∷ 10 ∷ s))) (nought_only s))
-        | inr z ↦ lead_only c (ds ++ 13 ∷ 10 ∷ s) (Some n) s z.0 z.1
-            (λ e. scan_only ds (c - 48) n s z.2)
-      ]
+  length_is n ds s h = grind (arith, only_same, nought_only, lead_only, scan_only)
 
   length_great : (c : ℕ) (ds : List ℕ) (x : Option ℕ) (s : List ℕ) (t : Bool) → nat_lt 48 c ≡ t
       → rule.limit < 2 ^ 32 → AreDigits (c ∷ ds) → length ds ≡ 63
@@ -253,12 +190,7 @@ module _ (rule : LengthRule) where
       (λ w. scan_over ds (c - 48) (made (c - 48) ds) x s (made_digits ds (c - 48) h.2)
       (ltb-false rule.limit (c - 48) w) (omega (arith, lt, g, one)))
   length_great c [] x s false e lt h k = absurd (omega arith)
-  length_great c (d ∷ ds) x s false e lt h k =
-      let nought : c ≡ 48 = omega (arith, ltb-false 48 c e, h.0) in
-      only_same (length_at rule (c ∷ d ∷ (ds ++ 13 ∷ 10 ∷ s)))
-      (length_at rule (48 ∷ d ∷ (ds ++ 13 ∷ 10 ∷ s))) x s
-      (ap (λ (q : ℕ). length_at rule (q ∷ d ∷ (ds ++ 13 ∷ 10 ∷ s))) nought)
-      (nought_over d (ds ++ 13 ∷ 10 ∷ s) x s h.2.0)
+  length_great c (d ∷ ds) x s false e lt h k = grind (arith, ltb-false, only_same, nought_over)
 
   length_by_digits : (n : ℕ) (ds s : List ℕ) → rule.limit < 2 ^ 32 → IsGreat n ds
       → Only (length_at rule (ds ++ 13 ∷ 10 ∷ s)) (Some n) s

@@ -1,18 +1,18 @@
 -- A line, a number or a counted text that was written is read, or passes a limit.
-use Rattle.std.proofs.Common.{◌≡◌, ℕ, suc, ◌+◌, ◌-◌, ◌*◌, ◌<◌, ◌≤◌, ◌^◌, ℤ, pos, negsuc}
-use Rattle.std.proofs.Common.{List, [], ◌∷◌, ◌++◌, refl, sym, ap, subst, ◌∙◌, inl, inr}
-use Rattle.std.proofs.Common.{append_assoc, Bool, true, false, cond, length, arith, Option, Some}
+use Rattle.std.proofs.Common.{◌≡◌, ℕ, ◌+◌, ◌-◌, ◌*◌, ◌<◌, ◌≤◌, ◌^◌, ℤ, pos, negsuc}
+use Rattle.std.proofs.Common.{List, [], ◌∷◌, ◌++◌, refl, ap, inl, inr}
+use Rattle.std.proofs.Common.{append_assoc, Bool, true, false, cond, length, arith, Some}
 use Rattle.std.proofs.Common.{None}
 use Rattle.std.specs.Prelude.{nat_lt}
 use Rattle.std.specs.Fmt.{decimal, signed_decimal}
-use Rattle.std.proofs.lemmas.Bool.{ne_eqb, le-ltb, ltb-true}
+use Rattle.std.proofs.lemmas.Bool.{ltb-true}
 use Rattle.std.proofs.lemmas.List.{length-append}
 use Rattle.resp_value.specs.Tree.{Tree, number, verbatim}
 use Rattle.resp_stream.specs.declared.fault.Fault.{Fault}
-use Rattle.resp_stream.specs.declared.fault.Fault.TheVariants.{BadByte, TooLong}
+use Rattle.resp_stream.specs.declared.fault.Fault.TheVariants.{TooLong}
 use Rattle.resp_stream.specs.declared.tokens.LengthRule.{LengthRule}
-use Rattle.resp_stream.specs.Parsed.{Parsed, Whole, Go, Stop, On, Out, moved, scan, ◌>>=◌}
-use Rattle.resp_stream.specs.Tokens.{only_byte, line_feed, length_at, line_move, line_at}
+use Rattle.resp_stream.specs.Parsed.{Parsed, Whole, Stop, On, Out, moved, scan, ◌>>=◌}
+use Rattle.resp_stream.specs.Tokens.{only_byte, length_at, line_move, line_at}
 use Rattle.resp_stream.specs.Request.{line_limit}
 use Rattle.resp_stream.specs.Value.{verbatim_rule, Digits as Made, number_move, digits_of_at}
 use Rattle.resp_stream.specs.Value.{signed, greatest, signed_at, number_at, sized_blob, blob_at}
@@ -21,7 +21,7 @@ use Rattle.resp_laws.specs.Values.{IsPlain}
 use Rattle.resp_laws.proofs.Decimals.{AreDigits, IsDecimal, is_decimal, as_digits}
 use Rattle.resp_laws.proofs.Decimals.{length_written}
 use Rattle.resp_laws.proofs.Only.{Only, only_is, only_same, only_then}
-use Rattle.resp_laws.proofs.Scalars.{nothing_behind, line_end, unsigned_by, minus, first_step}
+use Rattle.resp_laws.proofs.Scalars.{nothing_behind, line_end, unsigned_by, minus}
 use Rattle.resp_laws.proofs.Scalars.{three}
 use Rattle.resp_laws.proofs.Written.{Digits, counted_only}
 
@@ -35,29 +35,13 @@ only_on false g u go c bs x s h = tt
 
 line_by : (p : List ℕ) (c : ℕ) → (c ≡ 13 → ⊥) → (c ≡ 10 → ⊥) → line_move false line_limit p c
     ≡ cond (nat_lt (length p) line_limit) (On (p ++ c ∷ [])) (Out (Stop (TooLong (line_limit + 1))))
-line_by p c f g =
-    λ i. cond (ne_eqb c 13 f i) (Out (Go (line_feed p)))
-    (cond (nat_lt (length p) line_limit)
-    (cond (ne_eqb c 10 g i) (Out (Stop BadByte)) (On (p ++ c ∷ [])))
-    (Out (Stop (TooLong (line_limit + 1)))))
+line_by p c f g = grind arith
 
 line_only : (t p s : List ℕ) → IsPlain t
     → Only (scan (line_move false line_limit) p (t ++ 13 ∷ 10 ∷ s)) (p ++ t) s
-line_only [] p s h =
-    only_is (scan (line_move false line_limit) p (13 ∷ 10 ∷ s)) (p ++ []) s
-    (line_end p s ∙ ap (λ (q : List ℕ). Whole q s) (sym (nothing_behind p)))
+line_only [] p s h = grind (arith, only_is, line_end, nothing_behind)
 line_only (c ∷ t) p s h =
-    let go : List ℕ → Parsed (List ℕ) =
-    λ u. scan (line_move false line_limit) u (t ++ 13 ∷ 10 ∷ s) in
-    only_same (scan (line_move false line_limit) p (c ∷ (t ++ 13 ∷ 10 ∷ s)))
-    (moved
-    (cond (nat_lt (length p) line_limit) (On (p ++ c ∷ [])) (Out (Stop (TooLong (line_limit + 1)))))
-    go c (t ++ 13 ∷ 10 ∷ s)) (p ++ c ∷ t) s
-    (ap (λ q. moved q go c (t ++ 13 ∷ 10 ∷ s)) (line_by p c h.0 h.1))
-    (only_on (nat_lt (length p) line_limit) (TooLong (line_limit + 1)) (p ++ c ∷ []) go c
-    (t ++ 13 ∷ 10 ∷ s) (p ++ c ∷ t) s
-    (subst (λ (q : List ℕ). Only (go (p ++ c ∷ [])) q s) (append_assoc p (c ∷ []) t)
-    (line_only t (p ++ c ∷ []) s h.2)))
+    grind (arith, only_same, line_by, only_on, append_assoc, line_only t (p ++ c ∷ []) s h.2)
 
 pub text_written : (make : List ℕ → Tree) (t s : List ℕ) → IsPlain t
     → Only (text_at make (t ++ 13 ∷ 10 ∷ s)) (make t) s
@@ -68,40 +52,14 @@ text_written make t s h =
 
 -- ---- numbers
 
-number_moved : {S A : Type 0} (t u : Bool) (next : S) (go : S → Parsed A) (c : ℕ) (bs : List ℕ)
-    (x : A) (r : List ℕ) → (t ≡ true → Only (go next) x r)
-    → Only (moved (cond t (cond u (Out (Stop BadByte)) (On next)) (Out (Stop BadByte))) go c bs) x r
-number_moved true true next go c bs x r h = tt
-number_moved true false next go c bs x r h = h refl
-number_moved false u next go c bs x r h = tt
-
 abbrev next_made : Made → ℕ → Made
 next_made s c = record { count = s.count + 1; made = s.made * 10 + (c - 48) }
 
 module _ (most : ℕ) where
-  number_by_digit : (s : Made) (c : ℕ) → 48 ≤ c → c ≤ 57 → number_move most (Some s) c
-      ≡ cond (nat_lt s.count 19)
-      (cond (nat_lt most (s.made * 10 + (c - 48))) (Out (Stop BadByte)) (On (Some (next_made s c))))
-      (Out (Stop BadByte))
-  number_by_digit s c a b =
-      λ i. cond (ne_eqb c 13 (λ e. omega arith) i) (Out (Go (line_feed s.made)))
-      (cond (le-ltb c 48 a i) (Out (Stop BadByte))
-      (cond (le-ltb 57 c b i) (Out (Stop BadByte))
-      (cond (nat_lt s.count 19)
-      (cond (nat_lt most (s.made * 10 + (c - 48))) (Out (Stop BadByte)) (On (Some (next_made s c))))
-      (Out (Stop BadByte)))))
-
   only_number : (s : Made) (c : ℕ) (bs : List ℕ) (x : ℕ) (r : List ℕ) → 48 ≤ c → c ≤ 57
       → (nat_lt s.count 19 ≡ true → Only (scan (number_move most) (Some (next_made s c)) bs) x r)
       → Only (scan (number_move most) (Some s) (c ∷ bs)) x r
-  only_number s c bs x r a b h =
-      let go : Option Made → Parsed ℕ = λ u. scan (number_move most) u bs in
-      let over = nat_lt most (s.made * 10 + (c - 48)) in
-      only_same (scan (number_move most) (Some s) (c ∷ bs))
-      (moved (cond (nat_lt s.count 19) (cond over (Out (Stop BadByte)) (On (Some (next_made s c))))
-      (Out (Stop BadByte))) go c bs) x r
-      (ap (λ q. moved q go c bs) (number_by_digit s c a b))
-      (number_moved (nat_lt s.count 19) over (Some (next_made s c)) go c bs x r h)
+  only_number s c bs x r a b h = grind arith
 
   number_end_only : (s : Made) (r : List ℕ)
       → Only (scan (number_move most) (Some s) (13 ∷ 10 ∷ r)) s.made r
@@ -110,12 +68,8 @@ module _ (most : ℕ) where
 
   number_scan : (ds : List ℕ) (s : Made) (n : ℕ) (r : List ℕ) → Digits s.made ds n
       → Only (scan (number_move most) (Some s) (ds ++ 13 ∷ 10 ∷ r)) n r
-  number_scan [] s n r h =
-      subst (λ k. Only (scan (number_move most) (Some s) (13 ∷ 10 ∷ r)) k r) h
-      (number_end_only s r)
-  number_scan (c ∷ ds) s n r h =
-      only_number s c (ds ++ 13 ∷ 10 ∷ r) n r h.0 h.1
-      (λ e. number_scan ds (next_made s c) n r h.2)
+  number_scan [] s n r h = grind (arith, number_end_only)
+  number_scan (c ∷ ds) s n r h = grind (arith, only_number, number_scan ds (next_made s c) n r h.2)
 
   -- a number of too many digits is not read
   number_long : (ds : List ℕ) (s : Made) (x : ℕ) (r : List ℕ) → AreDigits ds
@@ -131,19 +85,11 @@ module _ (most : ℕ) where
       → Only (scan (number_move most) (Some (record { count = 1; made = c - 48 })) bs) x r
       → Only (digits_of_at most None (c ∷ bs)) x r
   unfolding digits_of_at
-  digits_first c bs x r a b h =
-      let go : Option Made → Parsed ℕ = λ u. scan (number_move most) u bs in
-      only_same (scan (number_move most) None (c ∷ bs))
-      (scan (number_move most) (Some (record { count = 1; made = c - 48 })) bs) x r
-      (ap (λ q. moved q go c bs) (first_step most c a b)) h
+  digits_first c bs x r a b h = grind arith
 
   digits_written : (n : ℕ) (ds r : List ℕ) → IsDecimal n ds
       → Only (digits_of_at most None (ds ++ 13 ∷ 10 ∷ r)) n r
-  digits_written n [] r h =
-      absurd (elim h [
-        | inl z ↦ z
-        | inr g ↦ let none : ⊥ = omega (arith, g.many) in none
-      ])
+  digits_written n [] r h = grind arith
   digits_written n (c ∷ ds) r h =
       elim h [
         | inl z ↦ let d = as_digits n c ds z in
@@ -156,16 +102,8 @@ module _ (most : ℕ) where
 
 unsigned_any : (n : ℕ) (ds r : List ℕ) → IsDecimal n ds
     → number_at (ds ++ 13 ∷ 10 ∷ r) ≡ signed_at false None (ds ++ 13 ∷ 10 ∷ r)
-unsigned_any n [] r h =
-    absurd (elim h [
-      | inl z ↦ z
-      | inr g ↦ let none : ⊥ = omega (arith, g.many) in none
-    ])
-unsigned_any n (c ∷ ds) r h =
-    elim h [
-      | inl z ↦ let d = as_digits n c ds z in unsigned_by c (ds ++ 13 ∷ 10 ∷ r) d.0 d.1
-      | inr g ↦ unsigned_by c (ds ++ 13 ∷ 10 ∷ r) g.are.0 g.are.1
-    ]
+unsigned_any n [] r h = grind arith
+unsigned_any n (c ∷ ds) r h = grind (arith, as_digits, unsigned_by)
 
 signed_written : (m : Bool) (n : ℕ) (r : List ℕ)
     → Only (signed_at m None (decimal n ++ 13 ∷ 10 ∷ r)) (signed m n) r
@@ -188,11 +126,7 @@ number_written (pos n) r =
     (only_same (number_at (decimal n ++ 13 ∷ 10 ∷ r))
     (signed_at false None (decimal n ++ 13 ∷ 10 ∷ r)) (pos n) r
     (unsigned_any n (decimal n) r (is_decimal n)) (signed_written false n r))
-number_written (negsuc n) r =
-    number_as (negsuc n) (45 ∷ (decimal (suc n) ++ 13 ∷ 10 ∷ r)) r
-    (only_same (number_at (45 ∷ (decimal (suc n) ++ 13 ∷ 10 ∷ r)))
-    (signed_at true None (decimal (suc n) ++ 13 ∷ 10 ∷ r)) (negsuc n) r
-    (minus (decimal (suc n) ++ 13 ∷ 10 ∷ r)) (signed_written true (suc n) r))
+number_written (negsuc n) r = grind (arith, negsuc, number_as, only_same, minus, signed_written)
 
 -- ---- counted texts
 

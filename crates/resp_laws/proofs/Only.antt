@@ -4,7 +4,7 @@ use Rattle.std.proofs.Common.{true, false, cond, length, drop}
 use Rattle.std.specs.Prelude.{nat_lt}
 use Rattle.resp_stream.specs.declared.fault.Fault.{Fault}
 use Rattle.resp_stream.specs.declared.fault.Fault.TheVariants.{TooLong}
-use Rattle.resp_stream.specs.Parsed.{Parsed, Whole, More, Bad, Go, Stop, On, Out, taken, moved}
+use Rattle.resp_stream.specs.Parsed.{Parsed, Whole, More, Bad, Go, Stop, taken}
 use Rattle.resp_stream.specs.Parsed.{◌>>=◌}
 use Rattle.resp_stream.specs.Tokens.{capped, many}
 
@@ -20,10 +20,6 @@ only_is {A} a x s e = subst (λ (q : Parsed A). Only q x s) (sym e) (refl, refl)
 pub only_same : {A : Type 0} (a b : Parsed A) (x : A) (s : List ℕ) → a ≡ b → Only b x s
     → Only a x s
 only_same {A} a b x s e h = subst (λ (q : Parsed A). Only q x s) (sym e) h
-
-pub only_gives : {A : Type 0} (a : Parsed A) (x y : A) (s r : List ℕ) → Only a x s → a ≡ Whole y r
-    → (y ≡ x) × (r ≡ s)
-only_gives {A} a x y s r h e = subst (λ (q : Parsed A). Only q x s) e h
 
 pub only_if : {A : Type 0} (t : Bool) (u v : Parsed A) (x : A) (s : List ℕ)
     → (t ≡ true → Only u x s) → (t ≡ false → Only v x s) → Only (cond t u v) x s
@@ -44,12 +40,6 @@ pub only_taken : {A : Type 0} (t : Bool) (g : Fault) (go : List ℕ → Parsed A
     → Only (taken (cond t (Stop g) (Go go)) c bs) x s
 only_taken true g go c bs x s h = tt
 only_taken false g go c bs x s h = h
-
-pub only_moved : {S A : Type 0} (t : Bool) (g : Fault) (u : S) (go : S → Parsed A) (c : ℕ)
-    (bs : List ℕ) (x : A) (s : List ℕ) → (t ≡ false → Only (go u) x s)
-    → Only (moved (cond t (Out (Stop g)) (On u)) go c bs) x s
-only_moved true g u go c bs x s h = tt
-only_moved false g u go c bs x s h = h refl
 
 -- the limit on the whole
 pub only_capped : {A : Type 0} (most : ℕ) (b : List ℕ) (a : Parsed A) (x : A) (s : List ℕ)

@@ -9,7 +9,7 @@ use Rattle.resp_stream.specs.Parsed.{Parsed, Whole, More, Bad, ◌>>=◌}
 use Rattle.resp_stream.specs.Parse.{Batch, batch, parse}
 use Rattle.resp_stream.specs.Readers.{skipped}
 use Rattle.resp_stream.specs.Tokens.{length_at, many}
-use Rattle.resp_stream.specs.Request.{whole_limit, words_rule, word_rule, sized, word_at, listed}
+use Rattle.resp_stream.specs.Request.{words_rule, word_rule, sized, word_at, listed}
 use Rattle.resp_stream.specs.Request.{request_begun, request_at}
 use Rattle.resp_stream.specs.Stream.{Stream, begun, fed, moved_on}
 use Rattle.resp_stream.proofs.Batches.{Takes, batch_whole, batch_more, batch_bad}
@@ -17,7 +17,7 @@ use Rattle.resp_stream.proofs.Parse.{takes_requests}
 use Rattle.resp_stream.proofs.Skipping.{skip_more, skip_bad, skip_whole}
 use Rattle.resp_laws.specs.Fronts.{Every, RequestsInOrder}
 use Rattle.resp_laws.proofs.Decimals.{length_written}
-use Rattle.resp_laws.proofs.Only.{Only, only_is, only_same, only_gives, only_then, only_capped}
+use Rattle.resp_laws.proofs.Only.{Only, only_is, only_same, only_then, only_capped}
 use Rattle.resp_laws.proofs.Only.{only_none, only_next}
 use Rattle.resp_laws.proofs.Steadiness.{steady_requests}
 use Rattle.resp_laws.proofs.Written.{head_parts, counted_parts, counted_only, marked, starred}
@@ -43,10 +43,7 @@ module _ {A M : Type 0} (read : List ℕ → Parsed A) (past : Stream → Stream
     first_is : (m : M) (ms : List M) (b : List ℕ) (p : IsPrefix b (spell m ++ flat_map spell ms))
         → Good m → (x : A) (r : List ℕ) → read b ≡ Whole x r
         → (x ≡ says m) × (r ++ p.0 ≡ flat_map spell ms)
-    first_is m ms b p g x r e =
-        only_gives (read (spell m ++ flat_map spell ms)) (says m) x (flat_map spell ms) (r ++ p.0)
-        (only m (flat_map spell ms) g)
-        (ap read (sym p.1) ∙ kept b r x e p.0)
+    first_is m ms b p g x r e = grind arith
 
     none_of : (s : Stream) → (past s).rest ≡ s.rest → (a : Parsed A) → read s.rest ≡ a
         → ((x : A) (r : List ℕ) → a ≡ Whole x r → ⊥) → (batch read past s).items ≡ []
@@ -143,9 +140,7 @@ begun_only ws r =
 pub request_only : (ws : List (List ℕ)) (r : List ℕ)
     → Only (request_at (request_spelling ws ++ r)) ws r
 unfolding request_at
-request_only ws r =
-    only_capped whole_limit (request_spelling ws ++ r) (request_begun (request_spelling ws ++ r)) ws
-    r (begun_only ws r)
+request_only ws r = grind (arith, only_capped, begun_only)
 
 -- ---- in turn
 
@@ -159,9 +154,7 @@ no_request x r e = more_not x r (request_at []) refl e
 skips_none : (s : Stream) (a : Parsed (List (List ℕ))) → request_at s.rest ≡ a
     → ((x : List (List ℕ)) (r : List ℕ) → a ≡ Whole x r → 0 < length x)
     → (skipped s).rest ≡ s.rest
-skips_none s (Whole x r) e some = skip_whole s.rest r x e (some x r refl)
-skips_none s More e some = skip_more s.rest e
-skips_none s (Bad g r) e some = skip_bad s.rest r g e
+skips_none s a e some = grind (arith, skip_whole, skip_more, skip_bad)
 
 same_all : {A : Type 0} (xs : List A) → map (λ x. x) xs ≡ xs
 same_all [] = refl

@@ -6,19 +6,19 @@ use Rattle.std.proofs.Common.{Some, None}
 use Rattle.std.specs.Prelude.{nat_eq}
 use Rattle.std.specs.Fmt.{decimal, signed_decimal}
 use Rattle.std.proofs.lemmas.Fmt.{decimal_by_steps}
-use Rattle.std.proofs.lemmas.Bool.{ne_eqb, eqb-false, lt-ltb, le-ltb}
+use Rattle.std.proofs.lemmas.Bool.{ne_eqb, le-ltb}
 use Rattle.std.proofs.Math.Nat.{pow-succ'}
 use Rattle.std.proofs.lemmas.List.{length-append}
 use Rattle.resp_value.specs.Tree.{Tree, number, blob, verbatim, blob_error}
 use Rattle.resp_value.specs.Spelling.{plain_byte}
 use Rattle.resp_stream.specs.declared.fault.Fault.TheVariants.{BadByte}
-use Rattle.resp_stream.specs.Parsed.{Whole, Go, Stop, Move, On, Out, taken, moved, scan, ◌>>=◌}
+use Rattle.resp_stream.specs.Parsed.{Whole, Go, Stop, Move, On, Out, moved, scan, ◌>>=◌}
 use Rattle.resp_stream.specs.Tokens.{only_byte, line_feed, counted_at, line_move, line_at}
 use Rattle.resp_stream.specs.Request.{line_limit}
-use Rattle.resp_stream.specs.Value.{blob_rule, verbatim_rule, blob_error_rule, Digits as Made}
+use Rattle.resp_stream.specs.Value.{blob_rule, blob_error_rule, Digits as Made}
 use Rattle.resp_stream.specs.Value.{number_move, digits_of_at, signed, greatest, signed_at}
-use Rattle.resp_stream.specs.Value.{number_at, sized_blob, blob_at, blob_tree}
-use Rattle.resp_stream.specs.Value.{format_at, formatted_at, sized_text, verbatim_at, text_at}
+use Rattle.resp_stream.specs.Value.{number_at, blob_at, blob_tree}
+use Rattle.resp_stream.specs.Value.{format_at, formatted_at, verbatim_at, text_at}
 use Rattle.resp_stream.specs.Value.{whole_number_at}
 use Rattle.resp_stream.proofs.Line.{line_step}
 use Rattle.resp_laws.specs.Values.{IsPlain, IsShort}
@@ -38,11 +38,8 @@ line_rest : (t p r : List ℕ) → length p + length t ≤ line_limit → IsPlai
     → scan (line_move false line_limit) p (t ++ 13 ∷ 10 ∷ r) ≡ Whole (p ++ t) r
 line_rest [] p r le h = line_end p r ∙ ap (λ (q : List ℕ). Whole q r) (sym (nothing_behind p))
 line_rest (c ∷ t) p r le h =
-    ap (λ q. moved q (λ u. scan (line_move false line_limit) u (t ++ 13 ∷ 10 ∷ r)) c
-    (t ++ 13 ∷ 10 ∷ r))
-    (line_step false line_limit c p h.0 refl (ne_eqb c 10 h.1) (omega arith))
-    ∙ line_rest t (p ++ c ∷ []) r (omega (arith, length-append p (c ∷ []))) h.2
-    ∙ ap (λ (q : List ℕ). Whole q r) (append_assoc p (c ∷ []) t)
+    grind (arith, line_step, ne_eqb, length-append, append_assoc,
+    line_rest t (p ++ c ∷ []) r (omega (arith, length-append p (c ∷ []))) h.2)
 
 pub text_only : (make : List ℕ → Tree) (t r : List ℕ) → length t ≤ 65536 → IsPlain t
     → text_at make (t ++ 13 ∷ 10 ∷ r) ≡ Whole (make t) r
@@ -52,9 +49,7 @@ text_only make t r le h = ap (λ q. q >>= λ t r. Whole (make t) r) (line_rest t
 -- a byte of an error line
 plain_by : (c : ℕ) (x y : Bool) → nat_eq c 13 ≡ x → nat_eq c 10 ≡ y → (cond x 32 (cond y 32 c) ≢ 13)
     × (cond x 32 (cond y 32 c) ≢ 10)
-plain_by c true y e f = (λ h. omega arith, λ h. omega arith)
-plain_by c false true e f = (λ h. omega arith, λ h. omega arith)
-plain_by c false false e f = (eqb-false c 13 e, eqb-false c 10 f)
+plain_by c x y e f = grind arith
 
 pub all_plain : (b : List ℕ) → IsPlain (map plain_byte b)
 all_plain [] = tt
@@ -72,9 +67,7 @@ short_one n lt k h = omega arith
 short_more : (n : ℕ) (ds : List ℕ) → 10 ≤ n → ((k : ℕ) → n / 10 < 10 ^ suc k → length ds ≤ suc k)
     → (k : ℕ) → n < 10 ^ suc k → length (ds ++ ((48 + n % 10) ∷ [])) ≤ suc k
 short_more n ds le ih zero h = absurd (let e : 10 ^ 1 ≡ 10 = refl in omega arith)
-short_more n ds le ih (suc k) h = let e =
-    pow_next (suc k) in
-    omega (arith, ih k (omega (arith, e)), length-append ds ((48 + n % 10) ∷ []))
+short_more n ds le ih (suc k) h = grind (arith, pow_next, length-append)
 
 short_enough : (n : ℕ) → n ≤ 9223372036854775808 → length (decimal n) ≤ 19
 short_enough n le =
@@ -94,9 +87,7 @@ module _ (most : ℕ) where
       → number_move most (Some s) c
       ≡ On (Some (record { count = s.count + 1; made = s.made * 10 + (c - 48) }))
   unfolding step
-  number_step s c a b lt le =
-      λ i. step s c (ne_eqb c 13 (λ e. omega arith) i) (le-ltb c 48 a i) (le-ltb 57 c b i)
-      (lt-ltb s.count 19 lt i) (le-ltb most (s.made * 10 + (c - 48)) le i)
+  number_step s c a b lt le = grind arith
 
   number_end : (s : Made) (r : List ℕ)
       → scan (number_move most) (Some s) (13 ∷ 10 ∷ r) ≡ Whole s.made r
@@ -144,27 +135,11 @@ digits_only most n (c ∷ ds) r le k h =
 pub unsigned_by : (c : ℕ) (b : List ℕ) → 48 ≤ c → c ≤ 57
     → number_at (c ∷ b) ≡ signed_at false None (c ∷ b)
 unfolding number_at signed_at digits_of_at
-unsigned_by c b lo hi =
-    (λ i. taken
-    (cond (ne_eqb c 43 (λ e. omega arith) i) (Go (signed_at false None))
-    (cond (ne_eqb c 45 (λ e. omega arith) i) (Go (signed_at true None))
-    (cond (le-ltb c 48 lo i) (Stop BadByte)
-    (cond (le-ltb 57 c hi i) (Stop BadByte)
-    (Go (signed_at false (Some (record { count = 1; made = c - 48 })))))))) c b)
-    ∙ sym (λ i.
-    moved (cond (le-ltb c 48 lo i) (Out (Stop BadByte))
-    (cond (le-ltb 57 c hi i) (Out (Stop BadByte))
-    (On (Some (record { count = 1; made = c - 48 })))))
-    (λ u. scan (number_move (greatest false)) u b) c b >>= λ n r. Whole (signed false n) r)
+unsigned_by c b lo hi = grind arith
 
 unsigned : (n : ℕ) (ds r : List ℕ) → IsLength n ds
     → number_at (ds ++ 13 ∷ 10 ∷ r) ≡ signed_at false None (ds ++ 13 ∷ 10 ∷ r)
-unsigned n [] r h = absurd h
-unsigned n (c ∷ ds) r h =
-    elim h [
-      | inl z ↦ unsigned_by c (ds ++ 13 ∷ 10 ∷ r) (omega (arith, z.0)) (omega (arith, z.0))
-      | inr z ↦ unsigned_by c (ds ++ 13 ∷ 10 ∷ r) (omega (arith, z.0)) z.1
-    ]
+unsigned n ds r h = grind (arith, unsigned_by)
 
 pub minus : (b : List ℕ) → number_at (45 ∷ b) ≡ signed_at true None b
 unfolding number_at
@@ -179,16 +154,8 @@ signed_only m n ds r le k h =
 pub number_only : (i : ℤ) (r : List ℕ) → IsShort i
     → whole_number_at (signed_decimal i ++ 13 ∷ 10 ∷ r) ≡ Whole (number i) r
 unfolding whole_number_at
-number_only (pos n) r h =
-    ap (λ q. q >>= λ i r. Whole (number i) r)
-    (unsigned n (decimal n) r (is_length n (omega arith))
-    ∙ signed_only false n (decimal n) r h (short_enough n (omega arith))
-    (is_length n (omega arith)))
-number_only (negsuc n) r h =
-    ap (λ q. q >>= λ i r. Whole (number i) r)
-    (minus (decimal (suc n) ++ 13 ∷ 10 ∷ r)
-    ∙ signed_only true (suc n) (decimal (suc n)) r (omega arith)
-    (short_enough (suc n) (omega arith)) (is_length (suc n) (omega arith)))
+number_only (pos n) r h = grind (arith, pos, unsigned, is_length, signed_only, short_enough)
+number_only (negsuc n) r h = grind (arith, negsuc, minus, signed_only, short_enough, is_length)
 
 -- ---- counted texts
 
@@ -196,42 +163,26 @@ pub blob_only : (t r : List ℕ) → length t ≤ 16777216
     → blob_at (blob_tree false) blob_rule (decimal (length t) ++ 13 ∷ 10 ∷ (t ++ 13 ∷ 10 ∷ r))
     ≡ Whole (blob t) r
 unfolding blob_at
-blob_only t r le =
-    ap (λ q. q >>= sized_blob (blob_tree false))
-    (length_only blob_rule (length t) (decimal (length t)) (t ++ 13 ∷ 10 ∷ r) le (omega arith)
-    (is_length (length t) (omega arith)))
-    ∙ ap (λ q. q >>= λ t s. Whole (blob t) s) (counted_only t r)
+blob_only t r le = grind (arith, length_only, is_length, counted_only)
 
 pub blob_error_only : (t r : List ℕ) → length t ≤ 16777216
     → blob_at (blob_tree true) blob_error_rule
     (decimal (length t) ++ 13 ∷ 10 ∷ (t ++ 13 ∷ 10 ∷ r)) ≡ Whole (blob_error t) r
 unfolding blob_at
-blob_error_only t r le =
-    ap (λ q. q >>= sized_blob (blob_tree true))
-    (length_only blob_error_rule (length t) (decimal (length t)) (t ++ 13 ∷ 10 ∷ r) le
-    (omega arith) (is_length (length t) (omega arith)))
-    ∙ ap (λ q. q >>= λ t s. Whole (blob_error t) s) (counted_only t r)
+blob_error_only t r le = grind (arith, length_only, is_length, counted_only)
 
 pub three : (f t r : List ℕ) (n : ℕ) → length f ≡ 3 → n ≡ length t + 4
     → formatted_at n (f ++ 58 ∷ (t ++ 13 ∷ 10 ∷ r)) ≡ Whole (verbatim f t) r
 unfolding formatted_at format_at only_byte
-three [] t r n e k = absurd (omega arith)
-three (x ∷ []) t r n e k = absurd (omega arith)
-three (x ∷ y ∷ []) t r n e k = absurd (omega arith)
 three (x ∷ y ∷ z ∷ []) t r n e k =
     ap (λ j. counted_at j (t ++ 13 ∷ 10 ∷ r) >>= λ u s. Whole (verbatim (x ∷ y ∷ z ∷ []) u) s)
     (let m : n - 4 ≡ length t = omega arith in m)
     ∙ ap (λ q. q >>= λ u s. Whole (verbatim (x ∷ y ∷ z ∷ []) u) s) (counted_only t r)
 three (x ∷ y ∷ z ∷ w ∷ f) t r n e k = absurd (omega arith)
+three f t r n e k = absurd (omega arith)
 
 pub verbatim_only : (f t r : List ℕ) → length f ≡ 3 → length t + 4 ≤ 16777216
     → verbatim_at (decimal (length (f ++ 58 ∷ t)) ++ 13 ∷ 10 ∷ (f ++ 58 ∷ (t ++ 13 ∷ 10 ∷ r)))
     ≡ Whole (verbatim f t) r
 unfolding verbatim_at
-verbatim_only f t r e le =
-    let k : length (f ++ 58 ∷ t) ≡ length t + 4 = omega (arith, length-append f (58 ∷ t)) in
-    ap (λ q. q >>= sized_text)
-    (length_only verbatim_rule (length (f ++ 58 ∷ t)) (decimal (length (f ++ 58 ∷ t)))
-    (f ++ 58 ∷ (t ++ 13 ∷ 10 ∷ r)) (omega arith) (omega arith)
-    (is_length (length (f ++ 58 ∷ t)) (omega arith)))
-    ∙ three f t r (length (f ++ 58 ∷ t)) e k
+verbatim_only f t r e le = grind (arith, length-append, length_only, is_length, three)

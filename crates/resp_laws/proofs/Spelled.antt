@@ -3,7 +3,7 @@ use Rattle.std.proofs.Common.{◌≡◌, ℕ, zero, suc, ◌+◌, ◌*◌, ◌<�
 use Rattle.std.proofs.Common.{ap, subst, ◌∙◌, append_assoc, add-one, Bool, true, false, cond}
 use Rattle.std.proofs.Common.{length, map, arith, Some}
 use Rattle.std.specs.Prelude.{nat_eq}
-use Rattle.std.specs.Fmt.{decimal, signed_decimal}
+use Rattle.std.specs.Fmt.{decimal}
 use Rattle.resp_value.specs.declared.value.Proto.{Proto}
 use Rattle.resp_value.specs.declared.value.Proto.TheVariants.{Two, Three}
 use Rattle.resp_value.specs.Tree.{Tree, Trees, Rows, simple, error, number, blob, verbatim}
@@ -21,12 +21,11 @@ use Rattle.resp_stream.specs.declared.value.TypeByte.TheVariants as mark
 use Rattle.resp_stream.specs.Parsed.{Parsed, Whole, Go, Stop, taken}
 use Rattle.resp_stream.specs.Parse.{parse_values}
 use Rattle.resp_stream.specs.Tokens.{length_at, many}
-use Rattle.resp_stream.specs.Request.{whole_limit}
 use Rattle.resp_stream.specs.Stream.{begun, fed}
 use Rattle.resp_stream.specs.Value.{rule_of, blob_at, blob_rule, blob_error_rule, blob_tree}
-use Rattle.resp_stream.specs.Value.{verbatim_at, text_at, whole_number_at, elements}
-use Rattle.resp_stream.specs.Value.{build, elements_at, aggregate_at, type_byte_of, choice_of}
-use Rattle.resp_stream.specs.Value.{too_deep, value_in, value_at}
+use Rattle.resp_stream.specs.Value.{text_at, elements}
+use Rattle.resp_stream.specs.Value.{build, elements_at, aggregate_at, type_byte_of}
+use Rattle.resp_stream.specs.Value.{value_in, value_at}
 use Rattle.resp_stream.proofs.Parse.{takes_values}
 use Rattle.resp_laws.specs.Fronts.{IsWellFormed, AreWellFormed, RowsWellFormed, ValuesInOrder}
 use Rattle.resp_laws.proofs.Decimals.{length_written}
@@ -48,10 +47,7 @@ use Rattle.resp_laws.proofs.Written.{counted_parts}
 no_room : (c : ℕ) (kind : Kind) (b : List ℕ) (x : Tree) (s : List ℕ)
     → type_byte_of c ≡ mark.Aggregate kind → Only (value_in zero (c ∷ b)) x s
 unfolding value_in
-no_room c kind b x s e =
-    only_same (taken (choice_of too_deep (type_byte_of c) c) c b)
-    (taken (choice_of too_deep (mark.Aggregate kind) c) c b) x s
-    (ap (λ m. taken (choice_of too_deep m c) c b) e) tt
+no_room c kind b x s e = grind arith
 
 only_go : {A : Type 0} (t : Bool) (g : Fault) (go : List ℕ → Parsed A) (c : ℕ) (bs : List ℕ)
     (x : A) (s : List ℕ) → Only (go bs) x s → Only (taken (cond t (Go go) (Stop g)) c bs) x s
@@ -69,9 +65,7 @@ push_only d b x s h =
 
 small_rule : (kind : Kind) → (rule_of kind).limit < 2 ^ 32
 small_rule Array = omega arith
-small_rule Map = omega arith
-small_rule Set = omega arith
-small_rule Push = omega arith
+small_rule kind = omega arith
 
 aggregate_written : (kind : Kind) (d n : ℕ) (ts : List Tree) (b r : List ℕ)
     → Only (many (value_in d) (elements kind n) b) ts r
@@ -143,9 +137,7 @@ blob_text d b r =
     (blob_written (blob_tree false) blob_rule b r (omega arith))
 
 null_written : (d : ℕ) (r : List ℕ) → Only (value_in d (line 95 [] ++ r)) null r
-null_written d r =
-    only_is (value_in d (line 95 [] ++ r)) null r
-    (ap (λ q. value_in d q) (line_parts 95 [] r) ∙ at_null d (13 ∷ 10 ∷ r) ∙ null_only r)
+null_written d r = grind (arith, only_is, line_parts, at_null, null_only)
 
 -- ---- values
 
@@ -160,21 +152,11 @@ mutual
       only_same (value_in d (spelling p (error t) ++ r)) (text_at error (t ++ 13 ∷ 10 ∷ r))
       (error t) r (ap (λ q. value_in d q) (line_parts 45 t r) ∙ at_error d (t ++ 13 ∷ 10 ∷ r))
       (text_written error t r h)
-  value_written p d (number i) r h =
-      only_same (value_in d (spelling p (number i) ++ r))
-      (whole_number_at (signed_decimal i ++ 13 ∷ 10 ∷ r)) (number i) r
-      (ap (λ q. value_in d q) (line_parts 58 (signed_decimal i) r)
-      ∙ at_number d (signed_decimal i ++ 13 ∷ 10 ∷ r)) (number_written i r)
+  value_written p d (number i) r h = grind (arith, only_same, line_parts, at_number, number_written)
   value_written p d (blob b) r h = blob_text d b r
   value_written Two d (verbatim f b) r h = blob_text d b r
   value_written Three d (verbatim f b) r h =
-      let n = length (f ++ 58 ∷ b) in
-      only_same (value_in d (spelling Three (verbatim f b) ++ r))
-      (verbatim_at (decimal n ++ 13 ∷ 10 ∷ (f ++ 58 ∷ (b ++ 13 ∷ 10 ∷ r)))) (verbatim f b) r
-      (ap (λ q. value_in d q) (counted_parts 61 (f ++ 58 ∷ b) r)
-      ∙ at_verbatim d (decimal n ++ 13 ∷ 10 ∷ ((f ++ 58 ∷ b) ++ 13 ∷ 10 ∷ r))
-      ∙ ap (λ (q : List ℕ). verbatim_at (decimal n ++ 13 ∷ 10 ∷ q))
-      (append_assoc f (58 ∷ b) (13 ∷ 10 ∷ r))) (verbatim_written f b r h)
+      grind (arith, only_same, counted_parts, at_verbatim, append_assoc, verbatim_written)
   value_written Two d (blob_error b) r h =
       let t = map plain_byte b in
       only_same (value_in d (spelling Two (blob_error b) ++ r)) (text_at error (t ++ 13 ∷ 10 ∷ r))
@@ -187,25 +169,13 @@ mutual
       (ap (λ q. value_in d q) (counted_parts 33 b r) ∙ at_blob_error d text)
       (blob_written (blob_tree true) blob_error_rule b r (omega arith))
   value_written Two d (boolean true) r h =
-      only_is (value_in d (spelling Two (boolean true) ++ r)) (number (pos 1)) r
-      (ap (λ q. value_in d q) (line_parts 58 (49 ∷ []) r) ∙ at_number d (49 ∷ 13 ∷ 10 ∷ r)
-      ∙ one_only r)
+      grind (arith, only_is, pos, line_parts, at_number, one_only)
   value_written Two d (boolean false) r h =
-      only_is (value_in d (spelling Two (boolean false) ++ r)) (number (pos 0)) r
-      (ap (λ q. value_in d q) (line_parts 58 (48 ∷ []) r) ∙ at_number d (48 ∷ 13 ∷ 10 ∷ r)
-      ∙ nought_only r)
-  value_written Three d (boolean true) r h =
-      only_is (value_in d (spelling Three (boolean true) ++ r)) (boolean true) r
-      (ap (λ q. value_in d q) (line_parts 35 (116 ∷ []) r) ∙ at_truth d (116 ∷ 13 ∷ 10 ∷ r)
-      ∙ true_only r)
+      grind (arith, only_is, pos, line_parts, at_number, nought_only)
+  value_written Three d (boolean true) r h = grind (arith, only_is, line_parts, at_truth, true_only)
   value_written Three d (boolean false) r h =
-      only_is (value_in d (spelling Three (boolean false) ++ r)) (boolean false) r
-      (ap (λ q. value_in d q) (line_parts 35 (102 ∷ []) r) ∙ at_truth d (102 ∷ 13 ∷ 10 ∷ r)
-      ∙ false_only r)
-  value_written Two d null r h =
-      only_is (value_in d (spelling Two null ++ r)) null r
-      (ap (λ q. value_in d q) (line_parts 36 (45 ∷ 49 ∷ []) r) ∙ at_blob d (45 ∷ 49 ∷ 13 ∷ 10 ∷ r)
-      ∙ minus_only r)
+      grind (arith, only_is, line_parts, at_truth, false_only)
+  value_written Two d null r h = grind (arith, only_is, line_parts, at_blob, minus_only)
   value_written Three d null r h = null_written d r
   value_written Two zero null_array r h =
       only_same (value_in zero (spelling Two null_array ++ r))
@@ -213,9 +183,7 @@ mutual
       (ap (λ q. value_in zero q) (line_parts 42 (45 ∷ 49 ∷ []) r))
       (no_room 42 Array (45 ∷ 49 ∷ 13 ∷ 10 ∷ r) null_array r refl)
   value_written Two (suc d) null_array r h =
-      only_is (value_in (suc d) (spelling Two null_array ++ r)) null_array r
-      (ap (λ q. value_in (suc d) q) (line_parts 42 (45 ∷ 49 ∷ []) r)
-      ∙ at_array d (45 ∷ 49 ∷ 13 ∷ 10 ∷ r) ∙ minus_array d r)
+      grind (arith, only_is, line_parts, at_array, minus_array)
   value_written Three d null_array r h = null_written d r
   value_written p d (array ts) r h =
       list_written p d ts r (λ e. all_written p e ts r h)
@@ -298,9 +266,7 @@ mutual
 pub value_only_at : (p : Proto) (t : Tree) (r : List ℕ) → IsWellFormed p t
     → Only (value_at (spelling p t ++ r)) (carried p t) r
 unfolding value_at
-value_only_at p t r h =
-    only_capped whole_limit (spelling p t ++ r) (value_in 8 (spelling p t ++ r)) (carried p t) r
-    (value_written p 8 t r h)
+value_only_at p t r h = grind (arith, only_capped, value_written)
 
 -- ---- in turn
 

@@ -40,12 +40,7 @@ first_fault f l b r g e =
     )
 
 pub steady_begun : {A : Type 0} (f : List ℕ → Parsed A) → IsReader f → Steady f
-steady_begun f l =
-    record {
-      whole = λ b r x e m. steady f l b r x e m;
-      bad =
-          λ b r g e m. steady_bad f l b r g e m;
-    }
+steady_begun f l = grind (arith, steady, steady_bad)
 
 -- ---- under the limit of the whole
 
@@ -88,10 +83,7 @@ bad_not g s a e h = cc
 module _ {A : Type 0} (most : ℕ) (f : List ℕ → Parsed A) (l : IsReader f) where
   keeps : (b r : List ℕ) (x : A) → capped most b (f b) ≡ Whole x r → (m : List ℕ)
       → capped most (b ++ m) (f (b ++ m)) ≡ Whole x (r ++ m)
-  keeps b r x e m =
-      let k = capped_whole most b (f b) x r e in
-      whole_within most (b ++ m) (f (b ++ m)) x (r ++ m) (steady f l b r x k.0 m)
-      (omega (arith, k.1, length-append b m, length-append r m))
+  keeps b r x e m = grind (arith, capped_whole, whole_within, steady, length-append)
 
   -- more bytes than the limit, none of which makes it whole or is at fault: so they are too many
   too_many : (b m : List ℕ) → f b ≡ More → most < length b → (a : Parsed A) → f (b ++ m) ≡ a
@@ -126,10 +118,7 @@ module _ {A : Type 0} (most : ℕ) (f : List ℕ → Parsed A) (l : IsReader f) 
   same_fault : (b m r : List ℕ) (g : Fault)
       → ◌≡◌ {A = Parsed A} (Bad (TooLong (most + 1)) (drop most b)) (Bad g r) → most ≤ length b
       → ◌≡◌ {A = Parsed A} (Bad (TooLong (most + 1)) (drop most (b ++ m))) (Bad g (r ++ m))
-  same_fault b m r g e le =
-      let x : TooLong (most + 1) ≡ g = cc in
-      let y : drop most b ≡ r = cc in
-      λ i. Bad (x i) ((drop-append-le most b m le ∙ ap (λ (q : List ℕ). q ++ m) y) i)
+  same_fault b m r g e le = grind (arith, drop-append-le)
 
   whole_case : (b m r s : List ℕ) (x : A) (g : Fault) (t : Bool)
       → nat_lt most (length b - length s) ≡ t → f b ≡ Whole x s
@@ -144,10 +133,7 @@ module _ {A : Type 0} (most : ℕ) (f : List ℕ → Parsed A) (l : IsReader f) 
   more_case : (b m r : List ℕ) (g : Fault) (t : Bool) → nat_lt most (length b) ≡ t → f b ≡ More
       → ◌≡◌ {A = Parsed A} (cond t (Bad (TooLong (most + 1)) (drop most b)) More) (Bad g r)
       → capped most (b ++ m) (f (b ++ m)) ≡ Bad g (r ++ m)
-  more_case b m r g false h e k = absurd cc
-  more_case b m r g true h e k =
-      let lt : most < length b = ltb-true most (length b) h in
-      too_many b m e lt (f (b ++ m)) refl ∙ same_fault b m r g k (omega arith)
+  more_case b m r g t h e k = grind (arith, ltb-true, too_many, same_fault)
 
   bad_case : (b m r s : List ℕ) (g k : Fault) → f b ≡ Bad k s
       → ◌≡◌ {A = Parsed A}
@@ -176,12 +162,7 @@ module _ {A : Type 0} (most : ℕ) (f : List ℕ → Parsed A) (l : IsReader f) 
   keeps_bad b m r g (Bad k s) e h = bad_case b m r s g k e h
 
   pub steady_capped : Steady (λ b. capped most b (f b))
-  steady_capped =
-      record {
-        whole = λ b r x e m. keeps b r x e m;
-        bad =
-            λ b r g e m. keeps_bad b m r g (f b) refl e;
-      }
+  steady_capped = grind (arith, keeps, keeps_bad)
 
 pub steady_requests : Steady request_at
 unfolding request_at

@@ -1,8 +1,7 @@
 -- What is written of a value is read as what its spelling carries.
 use Rattle.std.proofs.Common.{◌≡◌, ℕ, zero, suc, ◌+◌, ◌*◌, ◌≤◌, pos, List, [], ◌∷◌, ◌++◌, refl, ap}
-use Rattle.std.proofs.Common.{◌∙◌, append_assoc, add-one, true, false, cond, length, map, arith}
-use Rattle.std.specs.Fmt.{decimal, signed_decimal}
-use Rattle.std.proofs.lemmas.Bool.{eq-eqb}
+use Rattle.std.proofs.Common.{◌∙◌, append_assoc, add-one, true, false, length, map, arith}
+use Rattle.std.specs.Fmt.{decimal}
 use Rattle.std.proofs.lemmas.List.{length-append, length-map}
 use Rattle.resp_value.specs.declared.value.Proto.{Proto}
 use Rattle.resp_value.specs.declared.value.Proto.TheVariants.{Two, Three}
@@ -10,19 +9,18 @@ use Rattle.resp_value.specs.Tree.{Tree, Trees, Rows, simple, error, number, blob
 use Rattle.resp_value.specs.Tree.{blob_error, boolean, null, null_array, array, mapping, set, push}
 use Rattle.resp_value.specs.Tree.{end, more, last, row, count, row_count, trees_of, list_of}
 use Rattle.resp_value.specs.Tree.{rows_of, in_turn}
-use Rattle.resp_value.specs.Spelling.{line, head, plain_byte, spelling, spellings, row_spellings}
+use Rattle.resp_value.specs.Spelling.{line, head, spelling, spellings, row_spellings}
 use Rattle.resp_value.specs.Carried.{carried, all_carried, rows_in_turn, rows_carried}
 use Rattle.resp_value.proofs.OneToOne.{trees_back}
-use Rattle.resp_stream.specs.declared.fault.Fault.TheVariants.{BadByte}
 use Rattle.resp_stream.specs.declared.value.Kind.{Kind}
 use Rattle.resp_stream.specs.declared.value.Kind.TheVariants.{Array, Map, Set, Push}
-use Rattle.resp_stream.specs.Parsed.{Whole, Go, Stop, taken, ◌>>=◌}
+use Rattle.resp_stream.specs.Parsed.{Whole}
 use Rattle.resp_stream.specs.Tokens.{only_byte, ending, minus_one, length_at, many}
 use Rattle.resp_stream.specs.Request.{whole_limit}
 use Rattle.resp_stream.specs.Value.{rule_of, digits_of_at, signed_at, number_at, blob_at}
 use Rattle.resp_stream.specs.Value.{blob_rule, blob_error_rule, blob_tree, verbatim_at, truth_at}
 use Rattle.resp_stream.specs.Value.{text_at, whole_number_at}
-use Rattle.resp_stream.specs.Value.{elements, build, elements_at, aggregate_at, value_in, value_at}
+use Rattle.resp_stream.specs.Value.{elements, build, aggregate_at, value_in, value_at}
 use Rattle.resp_stream.proofs.Capped.{whole_within}
 use Rattle.resp_laws.specs.Values.{FitsIn, AllFit, RowsFit, WrittenValues}
 use Rattle.resp_laws.proofs.Written.{is_length, length_only, head_parts, counted_parts}
@@ -87,9 +85,7 @@ at_set d b = refl
 pub at_push : (d : ℕ) (b : List ℕ) → d ≡ 7
     → value_in (suc d) (62 ∷ b) ≡ aggregate_at Push (value_in d) b
 unfolding value_in
-at_push d b e =
-    ap (λ t. taken (cond t (Go (aggregate_at Push (value_in d))) (Stop BadByte)) 62 b)
-    (eq-eqb (suc d) 8 (omega arith))
+at_push d b e = grind arith
 
 -- ---- the parts of spellings
 
@@ -138,9 +134,7 @@ minus_array d r = refl
 many_then : (d n : ℕ) (b c r : List ℕ) (t : Tree) (ts : List Tree) → value_in d b ≡ Whole t c
     → many (value_in d) n c ≡ Whole ts r → many (value_in d) (suc n) b ≡ Whole (t ∷ ts) r
 unfolding many
-many_then d n b c r t ts e h =
-    ap (λ q. q >>= λ t r. many (value_in d) n r >>= λ ts s. Whole (t ∷ ts) s) e
-    ∙ ap (λ q. q >>= λ ts s. Whole (t ∷ ts) s) h
+many_then d n b c r t ts e h = grind arith
 
 many_end : (d : ℕ) (r : List ℕ) → many (value_in d) 0 r ≡ Whole [] r
 unfolding many
@@ -151,10 +145,7 @@ aggregate_only : (kind : Kind) (d n : ℕ) (ts : List Tree) (b r : List ℕ) →
     → many (value_in d) (elements kind n) b ≡ Whole ts r →
     aggregate_at kind (value_in d) (decimal n ++ 13 ∷ 10 ∷ b) ≡ Whole (build kind ts) r
 unfolding aggregate_at
-aggregate_only kind d n ts b r le lo hi h =
-    ap (λ q. q >>= elements_at kind (value_in d))
-    (length_only (rule_of kind) n (decimal n) b hi lo (is_length n (omega arith)))
-    ∙ ap (λ q. q >>= λ ts s. Whole (build kind ts) s) h
+aggregate_only kind d n ts b r le lo hi h = grind (arith, length_only, is_length)
 
 -- the values of pairs in turn
 abbrev pub turns : Proto → Rows → List Tree
@@ -182,61 +173,33 @@ list_by p d ts r le h =
 mutual
   pub value_only : (p : Proto) (d : ℕ) (t : Tree) (r : List ℕ) → FitsIn p d t
       → value_in d (spelling p t ++ r) ≡ Whole (carried p t) r
-  value_only p d (simple t) r h =
-      ap (λ q. value_in d q) (line_parts 43 t r) ∙ at_simple d (t ++ 13 ∷ 10 ∷ r)
-      ∙ text_only simple t r h.0 h.1
-  value_only p d (error t) r h =
-      ap (λ q. value_in d q) (line_parts 45 t r) ∙ at_error d (t ++ 13 ∷ 10 ∷ r)
-      ∙ text_only error t r h.0 h.1
-  value_only p d (number i) r h =
-      ap (λ q. value_in d q) (line_parts 58 (signed_decimal i) r)
-      ∙ at_number d (signed_decimal i ++ 13 ∷ 10 ∷ r) ∙ number_only i r h
+  value_only p d (simple t) r h = grind (arith, line_parts, at_simple, text_only)
+  value_only p d (error t) r h = grind (arith, line_parts, at_error, text_only)
+  value_only p d (number i) r h = grind (arith, line_parts, at_number, number_only)
   value_only p d (blob b) r h = ap (λ q. value_in d q) (counted_parts 36 b r)
       ∙ at_blob d (decimal (length b) ++ 13 ∷ 10 ∷ (b ++ 13 ∷ 10 ∷ r)) ∙ blob_only b r h
-  value_only Two d (verbatim f b) r h =
-      ap (λ q. value_in d q) (counted_parts 36 b r)
-      ∙ at_blob d (decimal (length b) ++ 13 ∷ 10 ∷ (b ++ 13 ∷ 10 ∷ r)) ∙ blob_only b r h
+  value_only Two d (verbatim f b) r h = grind (arith, counted_parts, at_blob, blob_only)
   value_only Three d (verbatim f b) r h =
-      ap (λ q. value_in d q) (counted_parts 61 (f ++ 58 ∷ b) r)
-      ∙ at_verbatim d (decimal (length (f ++ 58 ∷ b)) ++ 13 ∷ 10
-      ∷ ((f ++ 58 ∷ b) ++ 13 ∷ 10 ∷ r))
-      ∙ ap (λ (q : List ℕ). verbatim_at (decimal (length (f ++ 58 ∷ b)) ++ 13 ∷ 10 ∷ q))
-      (append_assoc f (58 ∷ b) (13 ∷ 10 ∷ r)) ∙ verbatim_only f b r h.0 h.1
+      grind (arith, counted_parts, at_verbatim, append_assoc, verbatim_only)
   value_only Two d (blob_error b) r h =
-      ap (λ q. value_in d q) (line_parts 45 (map plain_byte b) r)
-      ∙ at_error d (map plain_byte b ++ 13 ∷ 10 ∷ r)
-      ∙ text_only error (map plain_byte b) r (omega (arith, length-map b plain_byte))
-      (all_plain b)
+      grind (arith, line_parts, map, at_error, text_only, length-map, all_plain)
   value_only Three d (blob_error b) r h =
-      ap (λ q. value_in d q) (counted_parts 33 b r)
-      ∙ at_blob_error d (decimal (length b) ++ 13 ∷ 10 ∷ (b ++ 13 ∷ 10 ∷ r)) ∙ blob_error_only b r h
-  value_only Two d (boolean true) r h =
-      ap (λ q. value_in d q) (line_parts 58 (49 ∷ []) r) ∙ at_number d (49 ∷ 13 ∷ 10 ∷ r)
-      ∙ one_only r
-  value_only Two d (boolean false) r h =
-      ap (λ q. value_in d q) (line_parts 58 (48 ∷ []) r) ∙ at_number d (48 ∷ 13 ∷ 10 ∷ r)
-      ∙ nought_only r
-  value_only Three d (boolean true) r h =
-      ap (λ q. value_in d q) (line_parts 35 (116 ∷ []) r) ∙ at_truth d (116 ∷ 13 ∷ 10 ∷ r)
-      ∙ true_only r
-  value_only Three d (boolean false) r h =
-      ap (λ q. value_in d q) (line_parts 35 (102 ∷ []) r) ∙ at_truth d (102 ∷ 13 ∷ 10 ∷ r)
-      ∙ false_only r
+      grind (arith, counted_parts, at_blob_error, blob_error_only)
+  value_only Two d (boolean true) r h = grind (arith, line_parts, at_number, one_only)
+  value_only Two d (boolean false) r h = grind (arith, line_parts, at_number, nought_only)
+  value_only Three d (boolean true) r h = grind (arith, line_parts, at_truth, true_only)
+  value_only Three d (boolean false) r h = grind (arith, line_parts, at_truth, false_only)
   value_only Two d null r h = ap (λ q. value_in d q) (line_parts 36 (45 ∷ 49 ∷ []) r)
       ∙ at_blob d (45 ∷ 49 ∷ 13 ∷ 10 ∷ r) ∙ minus_only r
   value_only Three d null r h = ap (λ q. value_in d q) (line_parts 95 [] r)
       ∙ at_null d (13 ∷ 10 ∷ r) ∙ null_only r
   value_only Two zero null_array r h = absurd h
-  value_only Two (suc d) null_array r h =
-      ap (λ q. value_in (suc d) q) (line_parts 42 (45 ∷ 49 ∷ []) r)
-      ∙ at_array d (45 ∷ 49 ∷ 13 ∷ 10 ∷ r) ∙ minus_array d r
+  value_only Two (suc d) null_array r h = grind (arith, line_parts, at_array, minus_array)
   value_only Three d null_array r h =
       ap (λ q. value_in d q) (line_parts 95 [] r) ∙ at_null d (13 ∷ 10 ∷ r) ∙ null_only r
-  value_only p zero (array ts) r h = absurd h
   value_only p (suc d) (array ts) r h =
       ap (λ q. value_in (suc d) q) (list_parts 42 (count ts) (spellings p ts) r)
       ∙ list_by p d ts r h.0 (all_only p d ts r h.1)
-  value_only p zero (mapping rs) r h = absurd h
   value_only Two (suc d) (mapping rs) r h =
       let n : 2 * row_count rs ≡ row_count rs + row_count rs = omega arith in
       ap (λ q. value_in (suc d) q) (list_parts 42 (2 * row_count rs) (row_spellings Two rs) r)
@@ -253,7 +216,6 @@ mutual
       (omega (arith, h.0)) (omega arith) h.0
       (rows_only Three d rs (row_count rs + row_count rs) r refl h.1)
       ∙ ap (λ q. Whole (mapping q) r) (turns_three rs)
-  value_only p zero (set ts) r h = absurd h
   value_only Two (suc d) (set ts) r h =
       ap (λ q. value_in (suc d) q) (list_parts 42 (count ts) (spellings Two ts) r)
       ∙ list_by Two d ts r h.0 (all_only Two d ts r h.1)
@@ -263,7 +225,6 @@ mutual
       ∙ aggregate_only Set d (count ts) (list_of (all_carried Three ts)) (spellings Three ts ++ r) r
       h.0 (omega arith) h.0 (all_only Three d ts r h.1)
       ∙ ap (λ q. Whole (set q) r) (trees_back (all_carried Three ts))
-  value_only p zero (push ts) r h = absurd h
   value_only Two (suc d) (push ts) r h =
       ap (λ q. value_in (suc d) q) (list_parts 42 (count ts) (spellings Two ts) r)
       ∙ list_by Two d ts r h.1 (all_only Two d ts r h.2)
@@ -273,6 +234,7 @@ mutual
       ∙ aggregate_only Push d (count ts) (list_of (all_carried Three ts)) (spellings Three ts ++ r)
       r h.1 (omega arith) h.1 (all_only Three d ts r h.2)
       ∙ ap (λ q. Whole (push q) r) (trees_back (all_carried Three ts))
+  value_only p zero t r h = absurd h
 
   all_only : (p : Proto) (d : ℕ) (ts : Trees) (r : List ℕ) → AllFit p d ts
       → many (value_in d) (count ts) (spellings p ts ++ r) ≡ Whole (list_of (all_carried p ts)) r

@@ -1,18 +1,17 @@
 -- What is written of a request is read.
 use Rattle.std.proofs.Common.{◌≡◌, ℕ, zero, suc, ◌+◌, ◌-◌, ◌*◌, ◌/◌, ◌%◌, ◌<◌, ◌≤◌, ◌^◌, List, []}
-use Rattle.std.proofs.Common.{◌∷◌, ◌++◌, refl, sym, ap, ◌∙◌, ◌⊎◌, inl, inr, append_assoc, Bool}
+use Rattle.std.proofs.Common.{◌∷◌, ◌++◌, refl, ap, ◌∙◌, ◌⊎◌, inl, inr, append_assoc, Bool}
 use Rattle.std.proofs.Common.{cond, length, arith, Option, Some}
 use Rattle.std.specs.Prelude.{nat_lt}
 use Rattle.std.specs.Fmt.{decimal}
 use Rattle.std.proofs.lemmas.Fmt.{decimal_by_steps}
-use Rattle.std.proofs.lemmas.Bool.{ne_eqb, le-ltb}
 use Rattle.std.proofs.lemmas.List.{length-append}
 use Rattle.resp_value.specs.Spelling.{line, head, counted, blob_spellings, request_spelling}
 use Rattle.resp_stream.specs.declared.fault.Fault.TheVariants.{BadByte, TooLong, NotServed}
 use Rattle.resp_stream.specs.declared.tokens.LengthRule.{LengthRule}
-use Rattle.resp_stream.specs.Parsed.{Whole, Choice, Go, Stop, Move, On, Out, taken, moved, scan}
+use Rattle.resp_stream.specs.Parsed.{Whole, Choice, Go, Stop, Move, On, Out, scan}
 use Rattle.resp_stream.specs.Parsed.{◌>>=◌}
-use Rattle.resp_stream.specs.Tokens.{only_byte, line_feed, ending, length_end, digit_move}
+use Rattle.resp_stream.specs.Tokens.{only_byte, ending, length_end, digit_move}
 use Rattle.resp_stream.specs.Tokens.{digits_at, minus_one, length_by, length_at, counted_at, many}
 use Rattle.resp_stream.specs.Request.{whole_limit, words_rule, word_rule, sized, word_at, listed}
 use Rattle.resp_stream.specs.Request.{array_at, request_begun, request_at}
@@ -44,17 +43,7 @@ one_digit (suc n) lt = inr (omega arith, omega arith, omega arith)
 
 pub next_digit : (n : ℕ) (ds : List ℕ) → 10 ≤ n → IsLength (n / 10) ds
     → IsLength n (ds ++ ((48 + n % 10) ∷ []))
-next_digit n [] le h = absurd h
-next_digit n (c ∷ ds) le h =
-    elim h [
-      | inl z ↦ absurd (let e : n / 10 ≡ 0 = z.2 in omega arith)
-      | inr z ↦ inr (
-        z.0,
-        z.1,
-        digit_more ds (c - 48) (n / 10) (48 + n % 10) n (omega arith) (omega arith)
-            (omega arith) z.2,
-      )
-    ]
+next_digit n ds le h = grind (arith, digit_more)
 
 pub is_length : (n : ℕ) → n < 2 ^ 64 → IsLength n (decimal n)
 is_length n lt = decimal_by_steps IsLength one_digit next_digit n lt
@@ -76,24 +65,18 @@ module _ (rule : LengthRule) where
   digit_step : (n c : ℕ) → 48 ≤ c → c ≤ 57 → n * 10 + (c - 48) ≤ rule.limit
       → digit_move rule n c ≡ On (n * 10 + (c - 48))
   unfolding digit
-  digit_step n c a b le =
-      λ i. digit n c (ne_eqb c 13 (λ e. omega arith) i) (le-ltb c 48 a i) (le-ltb 57 c b i)
-      (le-ltb rule.limit (n * 10 + (c - 48)) le i)
+  digit_step n c a b le = grind arith
 
   digits_end : (n : ℕ) (r : List ℕ) → rule.least ≤ n
       → scan (digit_move rule) n (13 ∷ 10 ∷ r) ≡ Whole (Some n) r
   unfolding only_byte
-  digits_end n r le =
-      ap (λ t. taken (cond t (Stop BadByte) (Go (line_feed (Some n)))) 13 (10 ∷ r))
-      (le-ltb n rule.least le)
+  digits_end n r le = grind arith
 
   digits_rest : (n : ℕ) (ds r : List ℕ) (m : ℕ) → n ≤ rule.limit → rule.least ≤ n → Digits m ds n
       → scan (digit_move rule) m (ds ++ 13 ∷ 10 ∷ r) ≡ Whole (Some n) r
   digits_rest n [] r m le lo h = digits_end m r (omega (arith, h)) ∙ ap (λ k. Whole (Some k) r) h
   digits_rest n (c ∷ ds) r m le lo h =
-      ap (λ q. moved q (λ u. scan (digit_move rule) u (ds ++ 13 ∷ 10 ∷ r)) c (ds ++ 13 ∷ 10 ∷ r))
-      (digit_step m c h.0 h.1 (omega (arith, grows ds (m * 10 + (c - 48)) n h.2)))
-      ∙ digits_rest n ds r (m * 10 + (c - 48)) le lo h.2
+      grind (arith, digit_step, grows, digits_rest n ds r (m * 10 + (c - 48)) le lo h.2)
 
   lead : ℕ → Bool → Bool → Bool → Bool → Bool → Bool → Choice (Option ℕ)
   lead c x y z u v w =
@@ -107,33 +90,20 @@ module _ (rule : LengthRule) where
   lead_step : (c : ℕ) → 49 ≤ c → c ≤ 57 → c - 48 ≤ rule.limit
       → length_by rule c ≡ Go (digits_at rule (c - 48))
   unfolding lead
-  lead_step c a b le =
-      λ i. lead c (ne_eqb c 63 (λ e. omega arith) i) (ne_eqb c 45 (λ e. omega arith) i)
-      (ne_eqb c 48 (λ e. omega arith) i) (le-ltb c 49 a i) (le-ltb 57 c b i)
-      (le-ltb rule.limit (c - 48) le i)
+  lead_step c a b le = grind arith
 
   zero_only : (r : List ℕ) → rule.least ≤ 0 → length_at rule (48 ∷ 13 ∷ 10 ∷ r) ≡ Whole (Some 0) r
   unfolding length_at only_byte
-  zero_only r le =
-      ap (λ t. taken (cond t (Stop BadByte) (Go (ending (Some 0)))) 48 (13 ∷ 10 ∷ r))
-      (le-ltb 0 rule.least le)
+  zero_only r le = grind arith
 
   some_only : (n c : ℕ) (ds r : List ℕ) → n ≤ rule.limit → rule.least ≤ n → 49 ≤ c → c ≤ 57
       → Digits (c - 48) ds n → length_at rule (c ∷ (ds ++ 13 ∷ 10 ∷ r)) ≡ Whole (Some n) r
   unfolding length_at digits_at
-  some_only n c ds r le lo a b h =
-      ap (λ q. taken q c (ds ++ 13 ∷ 10 ∷ r))
-      (lead_step c a b (omega (arith, grows ds (c - 48) n h))) ∙ digits_rest n ds r (c - 48) le lo h
+  some_only n c ds r le lo a b h = grind (arith, lead_step, grows, digits_rest)
 
   pub length_only : (n : ℕ) (ds r : List ℕ) → n ≤ rule.limit → rule.least ≤ n → IsLength n ds
       → length_at rule (ds ++ 13 ∷ 10 ∷ r) ≡ Whole (Some n) r
-  length_only n [] r le lo h = absurd h
-  length_only n (c ∷ ds) r le lo h =
-      elim h [
-        | inl z ↦ ap (λ (q : List ℕ). length_at rule (q ++ 13 ∷ 10 ∷ r)) (λ i. z.0 i ∷ z.1 i)
-            ∙ zero_only r (omega (arith, z.2)) ∙ ap (λ k. Whole (Some k) r) (sym z.2)
-        | inr z ↦ some_only n c ds r le lo z.0 z.1 z.2
-      ]
+  length_only n ds r le lo h = grind (arith, zero_only, some_only)
 
 -- ---- a word is read
 
@@ -152,22 +122,14 @@ head_parts mark n r = ap (λ (q : List ℕ). mark ∷ q) (append_assoc (decimal 
 pub counted_parts : (mark : ℕ) (w r : List ℕ)
     → counted mark w ++ r ≡ mark ∷ (decimal (length w) ++ 13 ∷ 10 ∷ (w ++ 13 ∷ 10 ∷ r))
 unfolding counted
-counted_parts mark w r =
-    append_assoc (head mark (length w) ++ w) (13 ∷ 10 ∷ []) r
-    ∙ append_assoc (head mark (length w)) w (13 ∷ 10 ∷ r)
-    ∙ head_parts mark (length w) (w ++ 13 ∷ 10 ∷ r)
+counted_parts mark w r = grind (arith, append_assoc, head_parts)
 
 pub marked : (b : List ℕ) → word_at (36 ∷ b) ≡ (length_at word_rule b >>= λ n s. sized n s)
 unfolding word_at only_byte
 marked b = refl
 
 word_only : (w r : List ℕ) → length w ≤ 16777216 → word_at (counted 36 w ++ r) ≡ Whole w r
-word_only w r le =
-    ap word_at (counted_parts 36 w r) ∙ marked (decimal (length w) ++ 13 ∷ 10 ∷ (w ++ 13 ∷ 10 ∷ r))
-    ∙ ap (λ q. q >>= λ n s. sized n s)
-    (length_only word_rule (length w) (decimal (length w)) (w ++ 13 ∷ 10 ∷ r) le (omega arith)
-    (is_length (length w) (omega arith)))
-    ∙ counted_only w r
+word_only w r le = grind (arith, counted_parts, marked, length_only, is_length, counted_only)
 
 many_next : (n : ℕ) (b c r w : List ℕ) (ws : List (List ℕ)) → word_at b ≡ Whole w c
     → many word_at n c ≡ Whole ws r → many word_at (suc n) b ≡ Whole (w ∷ ws) r
@@ -194,13 +156,7 @@ starred b = refl
 begun_only : (ws : List (List ℕ)) (r : List ℕ) → length ws ≤ 65536 → EachFits ws
     → request_begun (request_spelling ws ++ r) ≡ Whole ws r
 begun_only ws r le h =
-    ap request_begun (append_assoc (head 42 (length ws)) (blob_spellings ws) r
-    ∙ head_parts 42 (length ws) (blob_spellings ws ++ r))
-    ∙ starred (decimal (length ws) ++ 13 ∷ 10 ∷ (blob_spellings ws ++ r))
-    ∙ ap (λ q. q >>= listed)
-    (length_only words_rule (length ws) (decimal (length ws)) (blob_spellings ws ++ r) le
-    (omega arith) (is_length (length ws) (omega arith)))
-    ∙ words_only ws r h
+    grind (arith, append_assoc, head_parts, starred, length_only, is_length, words_only)
 
 pub written : (ws : List (List ℕ)) (r : List ℕ) → RequestFits ws
     → request_at (request_spelling ws ++ r) ≡ Whole ws r

@@ -33,9 +33,7 @@ same_by s f g (Bad e r) h = refl
 unfailed_by : {A : Type 0} (s : Stream) (f : List ℕ → Batch A) (a : Parsed A) → s.failed ≡ false
     → ((r : List ℕ) → (f r).fault ≡ None → (f r).stream.failed ≡ false)
     → (batch_by s a f).fault ≡ None → (batch_by s a f).stream.failed ≡ false
-unfailed_by s f (Whole x r) t h e = h r e
-unfailed_by s f More t h e = t
-unfailed_by s f (Bad g r) t h e = absurd cc
+unfailed_by s f a t h e = grind arith
 
 items_by : {A : Type 0} (s t : Stream) (f g : List ℕ → Batch A) (a : Parsed A)
     → ((r : List ℕ) → (f r).items ≡ (g r).items) → (batch_by s a f).items ≡ (batch_by t a g).items

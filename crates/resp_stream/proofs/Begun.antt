@@ -1,7 +1,6 @@
 -- A request by its first byte.
-use Rattle.std.proofs.Common.{◌≡◌, ◌≢◌, ℕ, ◌-◌, List, [], ◌∷◌, ◌++◌, refl, sym, ap, ◌∙◌, true, cond}
+use Rattle.std.proofs.Common.{◌≡◌, ◌≢◌, ℕ, ◌-◌, List, [], ◌∷◌, ◌++◌, refl, sym, ap, ◌∙◌, true}
 use Rattle.std.proofs.Common.{length, arith, Option, Some, None}
-use Rattle.std.proofs.lemmas.Bool.{ne_eqb}
 use Rattle.resp_stream.specs.declared.fault.Fault.{Fault}
 use Rattle.resp_stream.specs.Parsed.{Parsed, Whole, More, Bad, ◌>>=◌}
 use Rattle.resp_stream.specs.Tokens.{line_at, length_at, many}
@@ -44,9 +43,7 @@ begun_none b e = ap request_begun e
 
 pub begun_inline : (b r : List ℕ) (c : ℕ) → b ≡ c ∷ r → c ≢ 42 → request_begun b ≡ inline_at b
 unfolding request_begun
-begun_inline b r c e h =
-    ap request_begun e ∙ ap (λ t. cond t (array_at r) (inline_at (c ∷ r))) (ne_eqb c 42 h)
-    ∙ ap inline_at (sym e)
+begun_inline b r c e h = grind arith
 
 star : (b : List ℕ) → request_begun (42 ∷ b) ≡ array_at b
 unfolding request_begun
@@ -81,8 +78,7 @@ module _ (text b : List ℕ) (c : ℕ) (is : text ≡ c ∷ b) (h : c ≡ 42) wh
 
   none_before : (a : Parsed (List (List ℕ))) → a ≡ (a >>= λ ws s. Whole ([] ++ ws) s)
   none_before (Whole ws s) = refl
-  none_before More = refl
-  none_before (Bad g s) = refl
+  none_before a = refl
 
   array_with : (n : ℕ) (d r : List ℕ) → length_at words_rule d ≡ Whole (Some n) r
       → array_at d ≡ with_more [] n r

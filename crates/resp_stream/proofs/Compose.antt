@@ -19,8 +19,7 @@ nothing_left (x ∷ p) r e = absurd cc
 pub bind_whole : {A B : Type 0} (a : Parsed A) (f : A → List ℕ → Parsed B) (y : B) (s : List ℕ)
     → (a >>= f) ≡ Whole y s → (x : A) × (r : List ℕ) × (a ≡ Whole x r) × (f x r ≡ Whole y s)
 bind_whole (Whole x r) f y s e = (x, r, refl, e)
-bind_whole More f y s e = absurd cc
-bind_whole (Bad g r) f y s e = absurd cc
+bind_whole a f y s e = absurd cc
 
 bind_bad : {A B : Type 0} (a : Parsed A) (f : A → List ℕ → Parsed B) (g : Fault) (s : List ℕ)
     → (a >>= f) ≡ Bad g s → (a ≡ Bad g s)
@@ -162,11 +161,6 @@ IsMove (Out h) = IsChoice h
 
 module _ {S A : Type 0} (k : S → ℕ → Move S A) (lk : (s : S) (c : ℕ) → IsMove (k s c))
     (way : (s : S) → Completes (scan k s) []) where
-  Took_at : Move S A → ℕ → List ℕ → A → List ℕ → Type 0
-  Took_at m c bs x r =
-      (p : List ℕ) × (bs ≡ p ++ r)
-      × ((z : List ℕ) → moved m (λ t. scan k t (p ++ z)) c (p ++ z) ≡ Whole x z)
-
   moved_whole : (m : Move S A) → IsMove m → (c : ℕ) (bs r : List ℕ) (x : A)
       → ((s : S) → scan k s bs ≡ Whole x r → Took (scan k s) bs x r)
       → moved m (λ t. scan k t bs) c bs ≡ Whole x r →

@@ -5,7 +5,7 @@ use Rattle.std.specs.Prelude.{nat_eq}
 use Rattle.resp_stream.specs.declared.fault.Fault.{Fault}
 use Rattle.resp_stream.specs.declared.fault.Fault.TheVariants.{BadByte}
 use Rattle.resp_stream.specs.declared.value.Kind.{Kind}
-use Rattle.resp_stream.specs.declared.value.Kind.TheVariants.{Array, Map, Set, Push}
+use Rattle.resp_stream.specs.declared.value.Kind.TheVariants.{Array, Map}
 use Rattle.resp_stream.specs.declared.value.TypeByte.{TypeByte}
 use Rattle.resp_stream.specs.declared.value.TypeByte.TheVariants as mark
 use Rattle.resp_value.specs.Tree.{Tree, null_array}
@@ -23,17 +23,8 @@ use Rattle.resp_stream.proofs.Places.{steady}
 none_by : (d c : ℕ) (b : List ℕ) (m : TypeByte) → opening (suc d) m ≡ None
     → taken (choice_of (deeper (nat_eq (suc d) 8) (value_in d)) m c) c b
     ≡ taken (choice_of too_deep m c) c b
-none_by d c b mark.Simple e = refl
-none_by d c b mark.Error e = refl
-none_by d c b mark.Number e = refl
-none_by d c b mark.Blob e = refl
-none_by d c b mark.Verbatim e = refl
-none_by d c b mark.BlobError e = refl
-none_by d c b mark.Truth e = refl
-none_by d c b mark.Null e = refl
 none_by d c b (mark.Aggregate kind) e = absurd cc
-none_by d c b mark.NotServed e = refl
-none_by d c b mark.Wrong e = refl
+none_by d c b m e = refl
 
 pub leaf_here : (room c : ℕ) (text b : List ℕ) → text ≡ c ∷ b → opening room (type_byte_of c) ≡ None
     → value_in room text ≡ taken (choice_of too_deep (type_byte_of c) c) c b
@@ -43,17 +34,8 @@ leaf_here (suc d) c text b h e = ap (λ q. value_in (suc d) q) h ∙ none_by d c
 
 opens_by : (d : ℕ) (kind : Kind) (m : TypeByte) → opening (suc d) m ≡ Some kind
     → m ≡ mark.Aggregate kind
-opens_by d kind mark.Simple e = absurd cc
-opens_by d kind mark.Error e = absurd cc
-opens_by d kind mark.Number e = absurd cc
-opens_by d kind mark.Blob e = absurd cc
-opens_by d kind mark.Verbatim e = absurd cc
-opens_by d kind mark.BlobError e = absurd cc
-opens_by d kind mark.Truth e = absurd cc
-opens_by d kind mark.Null e = absurd cc
 opens_by d kind (mark.Aggregate k) e = cc
-opens_by d kind mark.NotServed e = absurd cc
-opens_by d kind mark.Wrong e = absurd cc
+opens_by d kind m e = absurd cc
 
 pub opens_here : (room : ℕ) (kind : Kind) (m : TypeByte) → opening room m ≡ Some kind
     → (m ≡ mark.Aggregate kind) × (0 < room)
@@ -64,15 +46,11 @@ opens_here (suc d) kind m e = (opens_by d kind m e, omega arith)
 
 none_of : (kind : Kind) → elements kind 0 ≡ 0
 none_of Array = refl
-none_of Map = refl
-none_of Set = refl
-none_of Push = refl
+none_of kind = refl
 
 some_of : (kind : Kind) (n : ℕ) → 0 < n → 0 < elements kind n
-some_of Array n h = h
 some_of Map n h = omega arith
-some_of Set n h = h
-some_of Push n h = h
+some_of kind n h = h
 
 module _ (room c : ℕ) (text b : List ℕ) (kind : Kind) (head : text ≡ c ∷ b)
     (is : type_byte_of c ≡ mark.Aggregate kind) (some : 0 < room) where
@@ -84,9 +62,7 @@ module _ (room c : ℕ) (text b : List ℕ) (kind : Kind) (head : text ≡ c ∷
       → value_in (suc d) (c ∷ m)
       ≡ taken (cond t (Go (aggregate_at kind (value_in d))) (Stop BadByte)) c m
   unfolding value_in
-  leads d t m e =
-      ap (λ q. taken (choice_of (deeper (nat_eq (suc d) 8) (value_in d)) q c) c m) is
-      ∙ ap (λ q. taken (cond q (Go (aggregate_at kind (value_in d))) (Stop BadByte)) c m) e
+  leads d t m e = grind arith
 
   allowed : (t : Bool) → may_stand (nat_eq room 8) kind ≡ t
       → may_stand (nat_eq (suc (room - 1)) 8) kind ≡ t

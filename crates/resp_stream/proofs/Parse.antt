@@ -26,9 +26,7 @@ use Rattle.resp_stream.proofs.ValueLaws.{reader_value, no_value}
 after_le : (b : List ℕ) (f : List ℕ → List ℕ) (a : Parsed (List (List ℕ)))
     → ((r : List ℕ) → a ≡ Whole [] r → length (f r) ≤ length b) → length (skip_by b a f) ≤ length b
 after_le b f (Whole [] r) h = h r refl
-after_le b f (Whole (w ∷ ws) r) h = omega arith
-after_le b f More h = omega arith
-after_le b f (Bad g r) h = omega arith
+after_le b f a h = omega arith
 
 skip_in_le : (n : ℕ) (b : List ℕ) → length (skip_empty_in n b) ≤ length b
 unfolding skip_empty_in
@@ -56,9 +54,7 @@ joined_by : (b m : List ℕ) (f : List ℕ → List ℕ) (a : Parsed (List (List
     → ((r : List ℕ) → a ≡ Whole [] r → skip_empty (b ++ m) ≡ skip_empty (f r ++ m))
     → skip_empty (b ++ m) ≡ skip_empty (skip_by b a f ++ m)
 joined_by b m f (Whole [] r) h = h r refl
-joined_by b m f (Whole (w ∷ ws) r) h = refl
-joined_by b m f More h = refl
-joined_by b m f (Bad g r) h = refl
+joined_by b m f a h = refl
 
 joined_in : (n : ℕ) (b m : List ℕ) → skip_empty (b ++ m) ≡ skip_empty (skip_empty_in n b ++ m)
 unfolding skip_empty_in
@@ -77,11 +73,7 @@ some_by : (b r : List ℕ) (words : List (List ℕ)) (f : List ℕ → List ℕ)
     → request_at b ≡ a
     → ((q : List ℕ) → a ≡ Whole [] q → request_at (f q) ≡ Whole words r → 0 < length words) →
     request_at (skip_by b a f) ≡ Whole words r → 0 < length words
-some_by b r words f (Whole [] q) k h e = h q refl e
-some_by b r words f (Whole (w ∷ ws) q) k h e = let same : words ≡ w ∷ ws =
-    cc in omega (arith, ap length same)
-some_by b r words f More k h e = absurd cc
-some_by b r words f (Bad g q) k h e = absurd cc
+some_by b r words f a k h e = grind arith
 
 some_in : (n : ℕ) (b r : List ℕ) (words : List (List ℕ)) → length b ≤ n
     → request_at (skip_empty_in n b) ≡ Whole words r → 0 < length words

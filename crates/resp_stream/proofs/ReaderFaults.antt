@@ -34,8 +34,5 @@ not_memory g o f e = subst NotMemory (sym e) (by_case g) where
 pub fault_by : {A : Type 0} (read : List ℕ → Parsed A) (past old new : Stream) (f : StreamFault)
     → NotMemory f → IsFaultOf read past f → new ≡ record past { failed = true }
     → FaultGives read past old new f
-fault_by read past old new (BadByte o) m x e = (x, e)
-fault_by read past old new (TooLong o n) m x e = (x, e)
-fault_by read past old new (TooDeep o) m x e = (x, e)
-fault_by read past old new (NotServed o c) m x e = (x, e)
 fault_by read past old new NoMemory m x e = absurd m
+fault_by read past old new f m x e = (x, e)

@@ -11,7 +11,7 @@ use Rattle.resp_stream.specs.declared.request.Progress.{Progress}
 use Rattle.resp_stream.specs.declared.request.Progress.TheVariants.{Line, Words}
 use Rattle.resp_stream.specs.Parsed.{Bad}
 use Rattle.resp_stream.specs.Readers.{IsFaultOf, FaultGives, NotMemory, skipped}
-use Rattle.resp_stream.specs.ReaderStates.{stream_of, IsKept, Kept, RequestState}
+use Rattle.resp_stream.specs.ReaderStates.{stream_of, Kept, RequestState}
 use Rattle.resp_stream.specs.Request.{line_limit, request_at, skip_empty}
 use Rattle.resp_stream.specs.RequestSteps.{IsPast, IsProgress}
 use Rattle.resp_stream.specs.Stream.{fed, offset_by, stream_fault}
@@ -62,22 +62,7 @@ fed_by old new piece p (Err u) e b f h = subst (λ (i : Input). RequestState i p
 pub again : (i : Input) (f : StreamFault) → i.before ≤ 18446744073709551615 → i.broken ≡ Some f
     → Kept request_at skip_empty i.before i.rest i.broken
     → FaultGives request_at (skipped (stream_of i)) (stream_of i) (stream_of i) f
-again i f le e kept =
-    let k : IsKept request_at skip_empty i.before i.rest f =
-    subst (λ (b : Option StreamFault). Kept request_at skip_empty i.before i.rest b) e kept in
-    let b : i.before ≡ offset_by i.before (length i.rest - length (skip_empty i.rest)) =
-    omega (arith, ap length k.here, le) in
-    let t : is_some i.broken ≡ true = ap is_some e in
-    fault_by request_at (skipped (stream_of i)) (stream_of i) (stream_of i) f k.memory
-    (record {
-      fault = k.faulty.fault;
-      left = k.faulty.left;
-      is = ap request_at k.here ∙ k.faulty.is;
-      place = k.faulty.place ∙ (λ j.
-          stream_fault k.faulty.fault
-          (offset_by (b j) (length (sym k.here j) - length k.faulty.left)));
-    })
-    (λ j. record { before = b j; rest = sym k.here j; failed = t j })
+again i f le e kept = grind arith
 
 -- a fault behind the first `passed` bytes of a text
 abbrev pub Meets : List ℕ → ℕ → Fault → ℕ → Type 0

@@ -1,9 +1,8 @@
 -- A request under the limit of the whole, and behind empty ones.
 use Rattle.std.proofs.Common.{◌≡◌, ℕ, ◌+◌, ◌-◌, ◌<◌, ◌≤◌, List, [], ◌∷◌, refl, sym, ap, subst, ◌∙◌}
-use Rattle.std.proofs.Common.{Bool, true, false, cond, length, drop, arith, Ok}
+use Rattle.std.proofs.Common.{Bool, cond, length, drop, arith, Ok}
 use Rattle.std.specs.Prelude.{nat_lt}
 use Rattle.std.proofs.lemmas.List.{length-drop, drop-drop}
-use Rattle.std.proofs.lemmas.Bool.{ltb-true}
 use Rattle.resp_stream.specs.declared.fault.Fault.{Fault}
 use Rattle.resp_stream.specs.declared.fault.Fault.TheVariants.{TooLong}
 use Rattle.resp_stream.specs.declared.request.Reading.{Reading}
@@ -15,14 +14,12 @@ use Rattle.resp_stream.specs.RequestSteps.{RequestReadingGives, IsPast}
 use Rattle.resp_stream.proofs.RequestLaws.{reader_request}
 use Rattle.resp_stream.proofs.Places.{bad_within}
 use Rattle.resp_stream.proofs.Skipping.{takes, skip_on, skip_more, skip_bad, skip_whole}
-use Rattle.resp_stream.proofs.Capped.{whole_within, whole_over, more_within, more_over, bad_limited}
+use Rattle.resp_stream.proofs.Capped.{whole_within, whole_over, more_within, more_over}
 
 limited_by : (most o : ℕ) (g : Fault) (s t : Bool) → nat_lt most o ≡ s
     → (cond {A = Fault × ℕ} s (TooLong (most + 1), most)
     (cond {A = Fault × ℕ} t (g, o) (at_limit g most, o))).1 ≤ o
-limited_by most o g true t e = let lt : most < o = ltb-true most o e in omega arith
-limited_by most o g false true e = omega arith
-limited_by most o g false false e = omega arith
+limited_by most o g s t e = grind arith
 
 -- a fault under the limit is no later
 pub limited_le : (most o : ℕ) (g : Fault) → (limited most o g).1 ≤ o
@@ -38,13 +35,7 @@ pub bad_gives : (text : List ℕ) (g : Fault) (left : ℕ) (p : Fault × ℕ)
     → p ≡ limited whole_limit (length text - left) g →
     (p.1 ≤ length text) × (request_at text ≡ Bad p.0 (drop p.1 text))
 unfolding request_at
-bad_gives text g left p h e =
-    let k : limited whole_limit (length text - length h.0) g ≡ p =
-    ap (λ n. limited whole_limit (length text - n) g) h.2 ∙ sym e in (
-      omega (arith, limited_le whole_limit (length text - left) g, ap (λ q. q.1) e),
-      bad_limited whole_limit text (request_begun text) g h.0 h.1
-          ∙ (λ i. Bad (k i).0 (drop (k i).1 text)),
-    )
+bad_gives text g left p h e = grind arith
 
 module _ (text : List ℕ) (ws : List (List ℕ)) (taken : ℕ)
     (h : (taken ≤ length text) × (request_begun text ≡ Whole ws (drop taken text))) where

@@ -38,9 +38,7 @@ empty_is (x ∷ b) le = absurd (omega arith)
 same_by : (b : List ℕ) (f g : List ℕ → List ℕ) (a : Parsed (List (List ℕ)))
     → ((r : List ℕ) → a ≡ Whole [] r → f r ≡ g r) → skip_by b a f ≡ skip_by b a g
 same_by b f g (Whole [] r) h = h r refl
-same_by b f g (Whole (w ∷ ws) r) h = refl
-same_by b f g More h = refl
-same_by b f g (Bad e r) h = refl
+same_by b f g a h = refl
 
 -- more steps than bytes change nothing
 steps_enough : (n m : ℕ) (b : List ℕ) → length b ≤ n → length b ≤ m

@@ -62,22 +62,7 @@ first_by : (d n : ℕ) (kind : Kind) (r : List ℕ)
     → (many (value_in d) (suc n) r >>= λ ts s. Whole (build kind ts) s)
     ≡ (value_in d r >>= rest_of d (record { kind = kind; left = n; done = [] }))
 unfolding many rest_of
-first_by d n kind r = by (value_in d r)
-  where
-    by_2 : (t : Tree) (a : Parsed (List Tree))
-        → ((a >>= λ ts s. Whole (t ∷ ts) s) >>= λ ts s. Whole (build kind ts) s)
-        ≡ (a >>= λ ts s. Whole (build kind (t ∷ ts)) s)
-    by_2 t (Whole x r) = refl
-    by_2 t More = refl
-    by_2 t (Bad g r) = refl
-
-    by : (a : Parsed Tree)
-        → ((a >>= λ t r. many (value_in d) n r >>= λ ts s. Whole (t ∷ ts) s)
-        >>= λ ts s. Whole (build kind ts) s)
-        ≡ (a >>= λ t r. many (value_in d) n r >>= λ ts s. Whole (build kind ([] ++ t ∷ ts)) s)
-    by (Whole t r) = by_2 t (many (value_in d) n r)
-    by More = refl
-    by (Bad g r) = refl
+first_by d n kind r = grind arith
 
 pub opens : (whole : ℕ) (text : List ℕ) (at next room d n : ℕ) (kind : Kind) (fs : List Frame)
     → IsStack whole text at room fs → next ≤ length text → room ≡ suc d →

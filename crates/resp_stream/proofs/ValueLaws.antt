@@ -4,7 +4,7 @@ use Rattle.std.proofs.Common.{false, cond, Option, Some, None, lit<, lit≤}
 use Rattle.std.specs.Prelude.{nat_lt, nat_eq}
 use Rattle.resp_stream.specs.declared.fault.Fault.TheVariants.{BadByte}
 use Rattle.resp_stream.specs.declared.value.Kind.{Kind}
-use Rattle.resp_stream.specs.declared.value.Kind.TheVariants.{Array, Map, Set, Push}
+use Rattle.resp_stream.specs.declared.value.Kind.TheVariants.{Array}
 use Rattle.resp_stream.specs.declared.value.TypeByte.{TypeByte}
 use Rattle.resp_stream.specs.declared.value.TypeByte.TheVariants as mark
 use Rattle.resp_value.specs.Tree.{Tree, number, verbatim, boolean}
@@ -38,9 +38,7 @@ blob_error_ok = record { limit = lit< tt; room = lit≤ tt; least = lit≤ tt }
 
 pub rule_ok : (kind : Kind) → IsRule (rule_of kind)
 rule_ok Array = record { limit = lit< tt; room = lit≤ tt; least = lit≤ tt }
-rule_ok Map = record { limit = lit< tt; room = lit≤ tt; least = lit≤ tt }
-rule_ok Set = record { limit = lit< tt; room = lit≤ tt; least = lit≤ tt }
-rule_ok Push = record { limit = lit< tt; room = lit≤ tt; least = lit≤ tt }
+rule_ok kind = record { limit = lit< tt; room = lit≤ tt; least = lit≤ tt }
 
 -- ---- numbers
 
@@ -172,8 +170,7 @@ choices aggregate l mark.BlobError c = reader_blob (blob_tree true) blob_error_r
 choices aggregate l mark.Truth c = reader_truth
 choices aggregate l mark.Null c = reader_ending null
 choices aggregate l (mark.Aggregate kind) c = l kind
-choices aggregate l mark.NotServed c = tt
-choices aggregate l mark.Wrong c = tt
+choices aggregate l m c = tt
 
 -- The main law: a value is read from the front, its faults are prompt, and what is unfinished can
 -- be finished.

@@ -1,5 +1,5 @@
 -- A value under the limit of the whole.
-use Rattle.std.proofs.Common.{◌≡◌, ℕ, ◌+◌, ◌-◌, ◌<◌, ◌≤◌, List, sym, ap, subst, ◌∙◌, length, drop}
+use Rattle.std.proofs.Common.{◌≡◌, ℕ, ◌+◌, ◌-◌, ◌<◌, ◌≤◌, List, sym, subst, length, drop}
 use Rattle.std.proofs.Common.{arith, Ok}
 use Rattle.std.proofs.lemmas.List.{length-drop}
 use Rattle.resp_value.specs.Tree.{Tree}
@@ -14,8 +14,7 @@ use Rattle.resp_stream.specs.Value.{value_in, value_at}
 use Rattle.resp_stream.specs.ValueSteps.{ValueReadingGives}
 use Rattle.resp_stream.proofs.ValueLaws.{reader_value}
 use Rattle.resp_stream.proofs.Places.{bad_within}
-use Rattle.resp_stream.proofs.RequestLimits.{limited_le}
-use Rattle.resp_stream.proofs.Capped.{whole_within, whole_over, more_within, more_over, bad_limited}
+use Rattle.resp_stream.proofs.Capped.{whole_within, whole_over, more_within, more_over}
 
 pub bad_left : (text : List ℕ) (g : Fault) (left : ℕ)
     → ((r : List ℕ) × (value_in 8 text ≡ Bad g r) × (length r ≡ left)) → left ≤ length text
@@ -27,13 +26,7 @@ pub bad_gives : (text : List ℕ) (g : Fault) (left : ℕ) (p : Fault × ℕ)
     → p ≡ limited whole_limit (length text - left) g →
     (p.1 ≤ length text) × (value_at text ≡ Bad p.0 (drop p.1 text))
 unfolding value_at
-bad_gives text g left p h e =
-    let k : limited whole_limit (length text - length h.0) g ≡ p =
-    ap (λ n. limited whole_limit (length text - n) g) h.2 ∙ sym e in (
-      omega (arith, limited_le whole_limit (length text - left) g, ap (λ q. q.1) e),
-      bad_limited whole_limit text (value_in 8 text) g h.0 h.1
-          ∙ (λ i. Bad (k i).0 (drop (k i).1 text)),
-    )
+bad_gives text g left p h e = grind arith
 
 module _ (text : List ℕ) (t : Tree) (taken : ℕ)
     (h : (taken ≤ length text) × (value_in 8 text ≡ Whole t (drop taken text))) where

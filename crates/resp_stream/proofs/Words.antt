@@ -16,8 +16,7 @@ next_by : (ws : List (List ℕ)) (w : List ℕ) (a : Parsed (List (List ℕ)))
     ≡ (a >>= λ us s. Whole ((ws ++ w ∷ []) ++ us) s)
 next_by ws w (Whole ts s) =
     ap (λ (q : List (List ℕ)). Whole q s) (sym (append_assoc ws (w ∷ []) ts))
-next_by ws w More = refl
-next_by ws w (Bad g s) = refl
+next_by ws w a = refl
 
 next_word : (ws : List (List ℕ)) (k : ℕ) (b r w : List ℕ) → word_at b ≡ Whole w r
     → with_more ws (suc k) b ≡ with_more (ws ++ w ∷ []) k r
@@ -29,16 +28,12 @@ next_word ws k b r w e =
 more_words : (ws : List (List ℕ)) (k : ℕ) (b : List ℕ) → word_at b ≡ More
     → with_more ws (suc k) b ≡ More
 unfolding with_more many
-more_words ws k b e =
-    ap (λ q. (q >>= λ t r. many word_at k r >>= λ ts s. Whole (t ∷ ts) s)
-    >>= λ us s. Whole (ws ++ us) s) e
+more_words ws k b e = grind arith
 
 bad_word : (ws : List (List ℕ)) (k : ℕ) (b r : List ℕ) (g : Fault) → word_at b ≡ Bad g r
     → with_more ws (suc k) b ≡ Bad g r
 unfolding with_more many
-bad_word ws k b r g e =
-    ap (λ q. (q >>= λ t r. many word_at k r >>= λ ts s. Whole (t ∷ ts) s)
-    >>= λ us s. Whole (ws ++ us) s) e
+bad_word ws k b r g e = grind arith
 
 all_words : (ws : List (List ℕ)) (b : List ℕ) → with_more ws 0 b ≡ Whole ws b
 unfolding with_more many

@@ -1,58 +1,27 @@
 -- How often threads asked, and how often the cache answered.
-use Rattle.std.proofs.Common.{◌≡◌, ◌≤◌, ◌+◌, ◌-◌, ◌*◌, ◌^◌, ℕ, zero, suc, List, [], ◌∷◌, ◌++◌}
+use Rattle.std.proofs.Common.{◌≡◌, ◌≤◌, ◌+◌, ◌-◌, ◌*◌, ◌^◌, ℕ, List, [], ◌++◌}
 use Rattle.std.proofs.Common.{length, refl, sym, ap, subst, ◌∙◌, arith, append-nil}
 use Rattle.std.proofs.Common.{append_assoc, length-append}
 use Rattle.std.specs.Prelude.{min, max}
-use Rattle.std.proofs.Math.Nat.{add-mul, le-max_left, le-max_right}
-use Rattle.std.proofs.lemmas.List.Elements.{All-nil, All-cons, All-append}
+use Rattle.std.proofs.Math.Nat.{add-mul, le-max_left}
+use Rattle.std.proofs.lemmas.List.Elements.{All-nil, All-append}
 use Rattle.turn_lock.specs.Counts.{times}
 use Rattle.turn_lock.specs.History.{IsPrefix}
 use Rattle.turn_lock.specs.Seats.{Known, split_seat, joined_seat}
 use Rattle.seat_turns.specs.Own.{own_list, with_pasts, turns_of, IsWithin, Within, Grows}
-use Rattle.seat_turns.proofs.Growing.{grows_none, grows_then}
+use Rattle.seat_turns.proofs.Growing.{grows_then}
 use Rattle.seat_turns.proofs.Owning.{own_joined, pasts_begins, pasts_within, within_append}
 use Rattle.seat_turns.proofs.Owning.{within_begins, total-append}
 use Rattle.seat_turns.proofs.Turning.{begins_trans}
-use Rattle.resp_value.specs.declared.value.Value.{Value}
 use Rattle.shared_cache.specs.declared.log.ClientCall.TheVariants as call
-use Rattle.shared_cache.specs.declared.log.ClientReply.{ClientReply}
-use Rattle.shared_cache.specs.declared.log.ClientReply.TheVariants as reply
 use Rattle.shared_cache.specs.declared.log.ClientRefusal.{ClientRefusal}
 use Rattle.shared_cache.specs.declared.log.ClientRefusal.TheVariants as refusal
 use Rattle.shared_cache.specs.declared.log.LogEntry.{LogEntry}
 use Rattle.shared_cache.specs.declared.log.LogEntry.TheVariants as entry
-use Rattle.shared_cache.specs.Steps.{ClientTurn, client_step}
-use Rattle.shared_client.specs.Turns.{Place, Turn, setup_at, setup_in, Adds, Refuses}
-use Rattle.script_bench.specs.Asks.{IsAsk, hit_reply, hit_on, hits_in, Asks}
+use Rattle.shared_client.specs.Turns.{Place, Turn, setup_at, setup_in, Refuses}
+use Rattle.script_bench.specs.Asks.{IsAsk, hit_on, hits_in, Asks}
 
 -- ---- one query
-
-one_ask : (query : List (List ℕ)) (r : ClientReply) (n : ℕ) (before after : Place)
-    → hit_reply r ≡ n → n ≤ 1 → Adds (call.Ask query) r (entry.Ask query) before after
-    → Asks (λ q. q ≡ query) 1 n before after
-one_ask query r n before after is few h =
-    let same : hit_reply (client_step (setup_at before) h.past (call.Ask query)).reply ≡ n
-    = ap (λ (t : ClientTurn). hit_reply t.reply) h.step ∙ is in
-    record {
-      turns = (entry.Ask query, h.past) ∷ [];
-      grows = h.grows;
-      most = omega arith;
-      asks = All-cons (λ t. IsAsk (λ q. q ≡ query) t.0) (entry.Ask query, h.past) [] refl
-          (All-nil (λ t. IsAsk (λ q. q ≡ query) t.0));
-      hits_are = grind (arith, same, few);
-    }
-
-pub asked_hit : (query : List (List ℕ)) (value : Value) (number : ℕ) (before after : Place)
-    → Adds (call.Ask query) (reply.Hit value number) (entry.Ask query) before after
-    → Asks (λ q. q ≡ query) 1 1 before after
-asked_hit query value number before after h =
-    one_ask query (reply.Hit value number) 1 before after refl (omega arith) h
-
-pub asked_sent : (query : List (List ℕ)) (number : ℕ) (before after : Place)
-    → Adds (call.Ask query) (reply.Sent number) (entry.Ask query) before after
-    → Asks (λ q. q ≡ query) 1 0 before after
-asked_sent query number before after h =
-    one_ask query (reply.Sent number) 0 before after refl (omega arith) h
 
 no_turn : {IsOne : List (List ℕ) → Type 0} (most : ℕ) (before after : Place)
     → Grows before after [] → Asks IsOne most 0 before after
@@ -90,19 +59,6 @@ such_ask IsOne query (entry.End w) one is = absurd is
 such_ask IsOne query (entry.Bad w v) one is = absurd is
 
 module _ {IsOne : List (List ℕ) → Type 0} where
-  pub asks_none : (k : Place) → IsWithin k → Asks IsOne 0 0 k k
-  asks_none k within = no_turn 0 k k (grows_none k within)
-
-  pub asks_fewer : (few most hits : ℕ) (before after : Place) → few ≤ most
-      → Asks IsOne few hits before after → Asks IsOne most hits before after
-  asks_fewer few most hits before after le h = record {
-    turns = h.turns;
-    grows = h.grows;
-    most = omega (arith, le, h.most);
-    asks = h.asks;
-    hits_are = h.hits_are;
-  }
-
   pub asks_then : (query : List (List ℕ)) (times hits more sum : ℕ) (a b c : Place)
       → Asks IsOne times hits a b → IsOne query → Asks (λ q. q ≡ query) 1 more b c
       → sum ≡ min (hits + more) (2 ^ 64 - 1) → Asks IsOne (times + 1) sum a c
@@ -172,13 +128,6 @@ all_threads threads left times mine others two left_is few fewer =
     = ap (λ n. n * times) all ∙ add-mul 1 left times in
     let rest : max left 1 * times ≡ left * times = ap (λ n. n * times) one in
     omega (arith, few, fewer, sum, rest)
-
-some_times : (n times : ℕ) → 1 ≤ n → times ≤ n * times
-some_times zero times le = absurd (omega (arith, le))
-some_times (suc n) times le = omega arith
-
-pub one_thread : (threads times : ℕ) → times ≤ max threads 1 * times
-one_thread threads times = some_times (max threads 1) times (le-max_right threads 1)
 
 -- `k` was split into `ours` and `mine`; these asked, and were joined
 module _ (k ours mine : Place) (number : ℕ)

@@ -127,8 +127,3 @@ ready_more lock keys filled next a b next_is r (number, h) =
       fetches =
           (number, entries_in (turns_of a), all_entries (fetched filled number) a b h, r.fetches);
     }
-
-pub ready_last : (lock last : TableId) (keys filled : ℕ) (a : Place) → last ≡ lock
-    → filled ≡ keys → IsReady last keys filled a → IsReady lock keys keys a
-ready_last lock last keys filled a same all r =
-    subst (λ n. IsReady lock keys n a) all (subst (λ l. IsReady l keys filled a) same r)

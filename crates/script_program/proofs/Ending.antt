@@ -1,21 +1,16 @@
 -- What the end of a session shows of its log and of its tickets.
-use Rattle.std.proofs.Common.{◌≡◌, ◌≤◌, ◌∙◌, inl, inr, ℕ, suc, zero, List, [], ◌∷◌, Bool}
-use Rattle.std.proofs.Common.{true, false, cond, length, refl, sym, ap, subst, arith}
+use Rattle.std.proofs.Common.{◌≡◌, ◌≤◌, inl, inr, ℕ, suc, zero, List, [], ◌∷◌, Bool}
+use Rattle.std.proofs.Common.{true, false, cond, refl, sym, subst, arith}
 use Rattle.std.specs.Prelude.{Option, Some, ◌⊎◌, ◌&&◌, ◌||◌, ◌==◌, ◌-◌, not, ⊤}
-use Rattle.command_words.specs.Control.{is_control}
-use Rattle.turn_lock.specs.History.{IsPrefix, entries}
+use Rattle.turn_lock.specs.History.{IsPrefix}
 use Rattle.turn_lock.specs.declared.rule.TheConstants.{LAST_TICKET}
-use Rattle.shared_cache.specs.declared.log.Wire.TheVariants.{Main}
 use Rattle.shared_cache.specs.declared.log.LogEntry.{LogEntry}
-use Rattle.shared_cache.specs.declared.log.LogEntry.TheVariants as entry
-use Rattle.shared_cache.specs.declared.log.ClientReply.TheVariants as reply
 use Rattle.shared_cache.specs.declared.log.ClientRefusal.{ClientRefusal}
 use Rattle.shared_cache.specs.declared.log.ClientRefusal.TheVariants as refusal
-use Rattle.shared_cache.specs.Held.{Setup, held, held_for}
-use Rattle.shared_cache.specs.Log.{is_ended, is_ready}
-use Rattle.shared_cache.specs.Steps.{ClientTurn, answer_ask, client_step, command_number}
-use Rattle.shared_cache.specs.Steps.{is_log_full, read_number, refusing}
-use Rattle.shared_client.specs.Turns.{Turn, setup_at, setup_in}
+use Rattle.shared_cache.specs.Held.{Setup}
+use Rattle.shared_cache.specs.Steps.{client_step}
+use Rattle.shared_cache.specs.Steps.{is_log_full}
+use Rattle.shared_client.specs.Turns.{Turn}
 use Rattle.client_link.specs.declared.pump_end.PumpEnd.{PumpEnd}
 use Rattle.client_link.specs.declared.pump_end.PumpEnd.TheVariants as pumped
 use Rattle.client_link.specs.Pumps.{end_number}
@@ -43,37 +38,11 @@ use Rattle.script_program.specs.Written.{EndShows, Reports}
 -- ---- who was told that the log is full has seen it so
 
 module _ (log : List LogEntry) (n : ℕ) where
-  ask_full_in : (over ready full : Bool) (turn : ClientTurn) (e : LogEntry) → turn.past ≡ e ∷ log
-      → Answered (cond over (refusing (refusal.Down Main) log)
-      (cond (not ready) (refusing refusal.NotReady log)
-      (cond full (refusing (refusal.LogFull (length log)) log) turn))) (refusal.LogFull n) log
-      → full ≡ true
-  ask_full_in over ready full turn e p is = grind arith
-
-  send_full_in : (over ready control full : Bool) (turn : ClientTurn) (e : LogEntry)
-      → turn.past ≡ e ∷ log
-      → Answered (cond over (refusing (refusal.Down Main) log)
-      (cond (not ready) (refusing refusal.NotReady log)
-      (cond control (refusing refusal.Control log)
-      (cond full (refusing (refusal.LogFull (length log)) log) turn)))) (refusal.LogFull n) log
-      → full ≡ true
-  send_full_in over ready control full turn e p is = grind arith
-
 call_full : (s : Setup) (log : List LogEntry) (n : ℕ) (c : ScriptCall)
     → Answered (client_step s log (call_for c)) (refusal.LogFull n) log
     → is_log_full s log ≡ true
 unfolding client_step
-call_full s log n (Ask q) is =
-    ask_full_in log n (is_ended s.mode Main log) (is_ready s.mode log) (is_log_full s log)
-    (record {
-      reply = answer_ask (held_for q (held s log)) (read_number s log q);
-      past = entry.Ask q ∷ log;
-    }) (entry.Ask q) refl is
-call_full s log n (Do ws) is =
-    send_full_in log n (is_ended s.mode Main log) (is_ready s.mode log) (is_control ws)
-    (is_log_full s log)
-    (record { reply = reply.Sent (command_number s log ws); past = entry.Send ws ∷ log })
-    (entry.Send ws) refl is
+call_full s log n c is = grind arith
 
 -- ---- what the end of a line shows
 
@@ -85,10 +54,7 @@ LineShows line.NoMemory s log tickets = ⊤
 
 shows_more : (x : LineEnd) (s : Setup) (seen log : List LogEntry) (t tickets : ℕ)
     → IsPrefix seen log → t ≤ tickets → LineShows x s seen t → LineShows x s log tickets
-shows_more line.LogFull s seen log t tickets p le h = full_begins s seen log p h
-shows_more line.Worn s seen log t tickets p le h = omega (arith, le, h)
-shows_more (line.Said a) s seen log t tickets p le h = tt
-shows_more line.NoMemory s seen log t tickets p le h = tt
+shows_more x s seen log t tickets p le h = grind (arith, full_begins)
 
 refused_shows : (s : Setup) (c : ScriptCall) (r : ClientRefusal) (ts : List Turn)
     (seen : List LogEntry) (t : ℕ) → RefusedBy s c r ts seen t
@@ -178,10 +144,7 @@ module _ (flag : Tally → Bool) (x : LineEnd)
   tally_noted : (t : Tally) (ends : List LineEnd) → flag (tally_after t ends) ≡ true
       → (flag t ≡ true) ⊎ AnyLine x ends
   tally_noted t [] h = inl h
-  tally_noted t (e ∷ ends) h = elim (tally_noted (note_end t e) ends h) [
-    | inl k ↦ elim (noted t e k) [ inl m ↦ inl m | inr m ↦ inr (inl m) ]
-    | inr k ↦ inr (inr k)
-  ]
+  tally_noted t (e ∷ ends) h = grind (arith, tally_noted (note_end t e) ends h)
 
 full_noted : (t : Tally) (e : LineEnd) → (note_end t e).log_full ≡ true
     → (t.log_full ≡ true) ⊎ (e ≡ line.LogFull)
@@ -241,11 +204,7 @@ module _ (s : Setup) (left0 left1 link0 link1 : Option (List ℕ)) (turns : List
   By end = PumpedBy s end left0 left1 link0 link1 turns log tickets
 
   full_pump : By pumped.LogFull → is_log_full s log ≡ true
-  full_pump k =
-      let is : setup_at k.after ≡ s = ap setup_in k.pumps.works.grows.setup ∙ k.setup_is in
-      let seen : List LogEntry = entries k.after.seen in
-      full_begins s seen log k.begins
-      (subst (λ z. is_log_full z seen ≡ true) is k.pumps.finishes.2)
+  full_pump k = grind (arith, full_begins)
 
   worn_pump : By pumped.Worn → LAST_TICKET ≤ tickets
   worn_pump k =
@@ -265,10 +224,7 @@ module _ (s : Setup) (lines : List ScriptLine) (answers : List (List Answer)) (p
 
   line_shows : (x : LineEnd) → (x ≡ line.NoMemory → ⊥) → AnyLine x (ends_of lines answers)
       → LineShows x s log tickets
-  line_shows x some any =
-      shows_more x s k.seen log tickets tickets k.begins (omega arith)
-      (threads_show x s lines 1 answers k.called k.seen tickets k.came
-      (lines_have x some lines answers any))
+  line_shows x some any = grind (arith, shows_more, threads_show, lines_have)
 
   noted_line : (flag : Tally → Bool) (x : LineEnd) → ((t : Tally) (e : LineEnd)
       → flag (note_end t e) ≡ true → (flag t ≡ true) ⊎ (e ≡ x)) → flag no_tally ≡ false
@@ -293,23 +249,11 @@ module _ (s : Setup) (lines : List ScriptLine) (answers : List (List Answer)) (p
 
   pub end_shows : (e : SessionEnd) (text : List ℕ) → Reports lines answers pump e text
       → EndShows e s log tickets
-  end_shows ended.Done text h = tt
-  end_shows (ended.LinkEnded n) text h =
-      let why = link_in all.down all.no_memory (end_number pump == 6) all.log_full
-      (end_number pump == 7) all.worn (end_number pump == 8) (end_number pump) n (sym h.1) in
-      let by = by_link pump (told_down why.0) why.1 why.2 in
-      let same = why.3 in (
-        subst (λ i. 1 ≤ i) same by.0,
-        subst (λ i. i ≤ 4) same by.1,
-      )
-  end_shows ended.NoMemory text h = tt
+  end_shows (ended.LinkEnded n) text h = grind (arith, link_in, by_link, told_down)
   end_shows ended.HistoryFull text h =
       elim (full_in _ _ all.log_full (end_number pump == 7) _ _ (sym h.1)) [
         | inl told ↦ told_full told
         | inr by ↦ by_full s left0 left1 link0 link1 k.pumped log tickets pump by k.pumps
       ]
-  end_shows ended.Worn text h =
-      elim (worn_in _ _ _ all.worn (end_number pump == 8) _ (sym h.1)) [
-        | inl told ↦ told_worn told
-        | inr by ↦ by_worn s left0 left1 link0 link1 k.pumped log tickets pump by k.pumps
-      ]
+  end_shows ended.Worn text h = grind (arith, worn_in, told_worn, by_worn)
+  end_shows e text h = tt

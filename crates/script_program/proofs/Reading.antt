@@ -1,14 +1,14 @@
 -- Some lines of a script that were read, and more.
 use Rattle.std.proofs.Common.{◌≡◌, ◌<◌, ◌≤◌, ◌+◌, ℕ, List, [], ◌∷◌, ◌++◌, Some, None, Ok, Err}
 use Rattle.std.proofs.Common.{refl, sym, ap, subst, ◌∙◌, append_assoc, append-nil, length, arith}
-use Rattle.std.proofs.Common.{Bool, true, false, cond, leb-true, length-append, Result}
-use Rattle.std.specs.Prelude.{nat_le, IfSome, ⊤}
+use Rattle.std.proofs.Common.{length-append, Result}
+use Rattle.std.specs.Prelude.{IfSome, ⊤}
 use Rattle.std.proofs.lemmas.Bool.Decides.{nat_tests}
 use Rattle.std.proofs.lemmas.List.Elements.{All-append, All-cons, All-nil}
 use Rattle.std.specs.List.{All}
 use Rattle.std.specs.declared.option.Option.{Option}
 use Rattle.std.specs.Io.KnownBytes.{Consumes, IsAtEnd}
-use Rattle.edge_links.proofs.Bytes.{consumes_none, consumes_more}
+use Rattle.edge_links.proofs.Bytes.{consumes_more}
 use Rattle.edge_lines.specs.Streams.{IsPlain}
 use Rattle.edge_lines.specs.TextLines.{ArePlain, ended, text_lines}
 use Rattle.edge_lines.proofs.Splitting.{lines_ended, line_alone, line_begun, plain_more, ended_more}
@@ -52,13 +52,7 @@ pub record Standing (number : ℕ) (calls : List ScriptLine) (in0 in1 : Option (
 
 pub standing_none : (input : Option (List ℕ)) (calls : List ScriptLine) → calls ≡ []
     → Standing 1 calls input input
-standing_none input calls none = record {
-  lines = [];
-  consumed = consumes_none input;
-  plain = tt;
-  then = λ more. sym (ap (λ c. all_then c (script_of 1 more)) none
-      ∙ all_none (script_of 1 more));
-}
+standing_none input calls none = grind arith
 
 module _ (number : ℕ) (calls : List ScriptLine) (in0 in1 in2 : Option (List ℕ))
     (s : Standing number calls in0 in1) where
@@ -90,17 +84,7 @@ module _ (number : ℕ) (calls : List ScriptLine) (in0 in1 in2 : Option (List �
   whole_lines : (more : List ℕ) → Consumes in1 in2 more → (P : List (List ℕ) → Type 0)
       → ((rest : List ℕ) → (IsAtEnd in2 → rest ≡ []) → P (s.lines ++ text_lines (more ++ rest)))
       → IfSome in0 (λ text. P (text_lines text))
-  whole_lines more c P p =
-      by_input in0 in2 (consumes_more in0 in1 in2 (ended s.lines) more s.consumed c) p
-    where
-      by_input : (a b : Option (List ℕ)) → Consumes a b (ended s.lines ++ more)
-          → ((rest : List ℕ) → (IsAtEnd b → rest ≡ []) → P (s.lines ++ text_lines (more ++ rest)))
-          → IfSome a (λ text. P (text_lines text))
-      by_input None b k q = tt
-      by_input (Some x) None k q = absurd k
-      by_input (Some x) (Some y) k q =
-          subst P (sym (ap text_lines (k ∙ append_assoc (ended s.lines) more y)
-          ∙ lines_ended s.lines (more ++ y) s.plain)) (q y (λ e. e))
+  whole_lines more c P p = grind (arith, consumes_more, append_assoc, lines_ended)
 
   pub ends_here : Consumes in1 in2 [] → IsAtEnd in2
       → IfSome in0 (λ text. script_of 1 (text_lines text) ≡ Ok calls)
@@ -123,9 +107,7 @@ module _ (number : ℕ) (calls : List ScriptLine) (in0 in1 in2 : Option (List �
   -- the next line, and what is behind it, where it is outside the grammar
   bad_next : (line : List ℕ) (more : List (List ℕ)) → line_at number line ≡ None
       → script_of 1 (s.lines ++ line ∷ more) ≡ Err number
-  bad_next line more none =
-      s.then (line ∷ more)
-      ∙ ap (λ o. all_then calls (line_then o number (script_of (number + 1) more))) none
+  bad_next line more none = grind arith
 
   pub bad_line : (text items : List ℕ) → text ≡ items → IsPlain items
       → Consumes in1 in2 (items ++ 10 ∷ []) → line_at number text ≡ None
@@ -162,21 +144,12 @@ module _ (number : ℕ) (calls : List ScriptLine) (in0 in1 in2 : Option (List �
 
 pub line_valid : (n : ℕ) (text : List ℕ) (line : ScriptLine) → line_at n text ≡ Some line
     → IsValidLine line
-line_valid n text line is = by_case (nat_le n most_lines) is
-  where
-    by_case : (b : Bool) → cond b (script_line_of text) None ≡ Some line → IsValidLine line
-    by_case true e = script_lines_are_valid text line e
-    by_case false e = absurd (let no : ⊥ = cc in no)
+line_valid n text line is = grind (arith, script_lines_are_valid)
 
 -- a line of the grammar is not past the last number
 pub numbered : (n : ℕ) (text : List ℕ) (line : ScriptLine) → line_at n text ≡ Some line
     → n ≤ most_lines
-numbered n text line is = by_case (nat_le n most_lines) refl is
-  where
-    by_case : (b : Bool) → nat_le n most_lines ≡ b → cond b (script_line_of text) None ≡ Some line
-        → n ≤ most_lines
-    by_case true t e = leb-true n most_lines t
-    by_case false t e = absurd (let no : ⊥ = cc in no)
+numbered n text line is = grind arith
 
 pub pushed_valid : (n : ℕ) (text : List ℕ) (line : ScriptLine) (calls new : List ScriptLine)
     → line_at n text ≡ Some line → new ≡ calls ++ line ∷ [] → All IsValidLine calls
@@ -201,8 +174,7 @@ module _ (number : ℕ) (calls : List ScriptLine) (in0 in1 in2 : Option (List �
       subst (λ n. IfSome in0 (λ t. script_of 1 (text_lines t) ≡ Err n)) (sym h.0)
       (bad_line number calls in0 in1 in2 s text items same p c h.1)
   line_refused read.NoMemory text items new same p c h = always in0
-  line_refused (read.Lines lines) text items new same p c h = absurd h
-  line_refused read.Failed text items new same p c h = absurd h
+  line_refused r text items new same p c h = absurd h
 
   pub last_refused : (r : ScriptRead) (text items : List ℕ) (new : List ScriptLine)
       → text ≡ items → IsPlain items → (items ≡ [] → ⊥) → Consumes in1 in2 items → IsAtEnd in2
@@ -211,5 +183,4 @@ module _ (number : ℕ) (calls : List ScriptLine) (in0 in1 in2 : Option (List �
       subst (λ n. IfSome in0 (λ t. script_of 1 (text_lines t) ≡ Err n)) (sym h.0)
       (bad_last number calls in0 in1 in2 s text items same p some c end h.1)
   last_refused read.NoMemory text items new same p some c end h = always in0
-  last_refused (read.Lines lines) text items new same p some c end h = absurd h
-  last_refused read.Failed text items new same p some c end h = absurd h
+  last_refused r text items new same p some c end h = absurd h

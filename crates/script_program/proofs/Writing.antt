@@ -36,10 +36,7 @@ pub reported : (lines : List ScriptLine) (answers : List (List Answer)) (pump : 
     → Reports lines answers pump e text
 reported lines answers pump ended.NoMemory text t e =
     (ends_of lines answers, ([], append-nil (ends_of lines answers)), t)
-reported lines answers pump ended.Done text t e = (t, e)
-reported lines answers pump (ended.LinkEnded n) text t e = (t, e)
-reported lines answers pump ended.HistoryFull text t e = (t, e)
-reported lines answers pump ended.Worn text t e = (t, e)
+reported lines answers pump x text t e = (t, e)
 
 pub played_writes : {L : Type 0} (left contents : L → Option (List ℕ)) (counts : L → Counts)
     (capacity : ℕ) (lines : List ScriptLine) (input : Option (List ℕ))

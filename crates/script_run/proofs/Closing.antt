@@ -71,16 +71,6 @@ last_turns old new (Ending past g p) = record { turns = (entry.End Main, past) �
 last_turns old new (Found g is) = record { turns = []; grows = g }
 last_turns old new (Worn g le) = record { turns = []; grows = g }
 
-pub leaves_lock : (lines : List ScriptLine) (answers : List (List Answer)) (old new : Place)
-    → Calls lines answers old new → new.lock ≡ old.lock
-leaves_lock lines answers old new c =
-    (last_turns c.played new c.leaves).grows.lock ∙ c.plays.grows.lock
-
-pub leaves_parts : (lines : List ScriptLine) (answers : List (List Answer)) (old new : Place)
-    → Calls lines answers old new → new.parts ≡ old.parts
-leaves_parts lines answers old new c =
-    (last_turns c.played new c.leaves).grows.parts ∙ c.plays.grows.parts
-
 closed_by : (s : Setup) (old new : Place) (log : List LogEntry) (t : ℕ) (l : Leaves old new)
     → setup_at old ≡ s → IsPrefix (past_of new) log → new.tickets ≤ t
     → ClosedBy s (last_turns old new l).turns (past_of old) log t
@@ -128,9 +118,7 @@ module _ (u : ClientSetup) (lines : List ScriptLine) (answers : List (List Answe
       ∙ first_none k lock u first) ∙ append-nil pumped
 
   own_played : turns_of calls.played ≡ calls.plays.turns
-  own_played = calls.plays.grows.own
-      ∙ ap (λ z. calls.plays.turns ++ z) (ap (λ (z : Place). turns_of z) callers_is
-      ∙ split_none k number parts) ∙ append-nil calls.plays.turns
+  own_played = grind (arith, split_none, append-nil)
 
   own_b : turns_of b ≡ last.turns ++ calls.plays.turns
   own_b = last.grows.own ∙ ap (λ z. last.turns ++ z) own_played
@@ -162,15 +150,8 @@ module _ (u : ClientSetup) (lines : List ScriptLine) (answers : List (List Answe
   first_past : past_of ours ≡ []
   first_past = ap (λ (z : Place). past_of z) ours_is ∙ ap (λ (z : Place). past_of z) first
 
-  setup_j : j.setup ≡ Some u
-  setup_j = ap (λ (z : Place). z.setup) join_is ∙ pumps.works.grows.setup
-      ∙ ap (λ (z : Place). z.setup) ours_is ∙ setup_k
-
   legal_j : IsSound TurnStep j → Legal TurnStep u j.seen
-  legal_j sound =
-      let both : Some sound.0.0 ≡ Some u = sym sound.0.1 ∙ setup_j in
-      let same : sound.0.0 ≡ u = cc in
-      subst (λ v. Legal TurnStep v j.seen) same sound.0.2
+  legal_j sound = grind arith
 
   pub session : (log : List LogEntry) (t : ℕ) → All IsValidLine lines → log ≡ past_of j
       → j.tickets ≤ t

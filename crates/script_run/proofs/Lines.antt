@@ -72,27 +72,14 @@ why_fails : (c : ClientCall) (r : ClientRefusal) (old new : Place) → Fails c r
 why_fails c refusal.NotReady old new h = absurd h
 why_fails c refusal.NoMemory old new h = record { grows = h; why = tt }
 why_fails c refusal.Worn old new h = record { grows = h.1.grows; why = h.1.tickets }
-why_fails c (refusal.Down w) old new h = record { grows = h.1.grows; why = (h.0, h.1.step) }
-why_fails c (refusal.Unexpected w) old new h = record { grows = h.1.grows; why = (h.0, h.1.step) }
-why_fails c (refusal.BadPush w) old new h = record { grows = h.1.grows; why = (h.0, h.1.step) }
-why_fails c (refusal.LogFull n) old new h = record { grows = h.1.grows; why = (h.0, h.1.step) }
-why_fails c (refusal.SetupRefused w) old new h =
-    record { grows = h.1.grows; why = (h.0, h.1.step) }
-why_fails c refusal.Control old new h = record { grows = h.1.grows; why = (h.0, h.1.step) }
-why_fails c (refusal.NoNumber n) old new h = record { grows = h.1.grows; why = (h.0, h.1.step) }
+why_fails c r old new h = record { grows = h.1.grows; why = (h.0, h.1.step) }
 
 why_poll : (n : ℕ) (r : ClientRefusal) (old new : Place) → Refuses (call.Poll n) r old new
     → WhyNot (call.Poll n) r old new
-why_poll n refusal.NotReady old new h = absurd h.0
-why_poll n refusal.NoMemory old new h = absurd h.0
 why_poll n refusal.Worn old new h = record { grows = h.1.grows; why = h.1.tickets }
 why_poll n (refusal.Down w) old new h = record { grows = h.1.grows; why = (h.0, h.1.step) }
-why_poll n (refusal.Unexpected w) old new h = absurd h.0
-why_poll n (refusal.BadPush w) old new h = absurd h.0
-why_poll n (refusal.LogFull m) old new h = absurd h.0
-why_poll n (refusal.SetupRefused w) old new h = absurd h.0
-why_poll n refusal.Control old new h = absurd h.0
 why_poll n (refusal.NoNumber m) old new h = record { grows = h.1.grows; why = (h.0, h.1.step) }
+why_poll n r old new h = absurd h.0
 
 -- ---- the answers
 

@@ -7,29 +7,25 @@ use Rattle.std.proofs.Common.{length-append, ne_eqb}
 use Rattle.std.specs.Prelude.{nat_lt, nat_le}
 use Rattle.std.specs.List.{All, slice_get}
 use Rattle.std.proofs.lemmas.Bool.Decides.{nat_tests}
-use mathlib.Core.Logic.{dite}
-use native.Mathlib.Decide.{ℕ_discrete}
 use Rattle.turn_lock.specs.Counts.{total}
 use Rattle.turn_lock.specs.History.{IsPrefix}
 use Rattle.seat_turns.proofs.Owning.{total-append}
 use Rattle.seat_turns.proofs.Turning.{begins_trans}
 use Rattle.resp_value.specs.declared.value.Value.{Value}
-use Rattle.command_words.specs.Control.{is_control}
 use Rattle.command_words.specs.Queries.{key_of}
 use Rattle.shared_cache.specs.declared.log.Wire.TheVariants.{Main}
 use Rattle.shared_cache.specs.declared.log.LogEntry.{LogEntry}
 use Rattle.shared_cache.specs.declared.log.LogEntry.TheVariants as entry
 use Rattle.shared_cache.specs.declared.log.ClientCall.TheVariants as call
-use Rattle.shared_cache.specs.declared.log.ClientReply.{ClientReply}
 use Rattle.shared_cache.specs.declared.log.ClientReply.TheVariants as reply
 use Rattle.shared_cache.specs.declared.log.ClientRefusal.{ClientRefusal}
 use Rattle.shared_cache.specs.declared.log.ClientRefusal.TheVariants as refusal
 use Rattle.shared_cache.specs.declared.entry.CacheEntry.{CacheEntry}
-use Rattle.shared_cache.specs.Log.{caching_on_for, is_ended, is_ready, reply as reply_of}
+use Rattle.shared_cache.specs.Log.{caching_on_for, is_ended, reply as reply_of}
 use Rattle.shared_cache.specs.Held.{Setup, Words, SentCommand, Caller, put_ask, put_command}
 use Rattle.shared_cache.specs.Held.{held, held_for, numbers, sent}
 use Rattle.shared_cache.specs.Out.{is_polled, is_wanted, was_given, is_callers}
-use Rattle.shared_cache.specs.Steps.{ClientTurn, client_step, refusing, is_log_full, answer_ask}
+use Rattle.shared_cache.specs.Steps.{client_step, refusing, answer_ask}
 use Rattle.shared_cache.specs.Steps.{read_number, command_number, polling}
 use Rattle.shared_cache.proofs.HeldSteps.{sent_miss}
 use Rattle.shared_client.specs.Turns.{Place, Turn}
@@ -41,15 +37,9 @@ use Rattle.client_link.specs.Pumps.{IsWork, IsEnd, Finishes}
 use Rattle.script_run.specs.declared.answer.Answer.{Answer}
 use Rattle.script_run.specs.declared.answer.Answer.TheVariants.{Hit, Read, Reply, Refused}
 use Rattle.script_run.specs.Lines.{call_for, entry_for, Between, RefusedBy, Unplayed, NoAnswer}
-use Rattle.script_run.specs.Lines.{Came, AllCame, ThreadsCame, calls_of}
+use Rattle.script_run.specs.Lines.{Came, AllCame, ThreadsCame}
 use Rattle.script_run.specs.Session.{turns_in, ClosedBy}
 use Rattle.script_run.proofs.Totals.{parts_total, prefix_total, works_none}
-
--- turns that are one have one answer
-pub one_answer : (a b : ClientReply) (log new : List LogEntry)
-    → ◌≡◌ {A = ClientTurn} (record { reply = a; past = log }) (record { reply = b; past = new })
-    → a ≡ b
-one_answer a b log new is = ap (λ (t : ClientTurn). t.reply) is
 
 -- ---- how often a number is asked for
 
@@ -91,10 +81,7 @@ module _ (n : ℕ) where
   pub pump_polls : (end : PumpEnd) (s : Setup) (ending ts : List Turn) (k : Place)
       → Finishes end s ending k → All IsWork ts → total f (ending ++ ts) ≡ 0
   pump_polls end s ending ts k h w =
-      let all = total-append f ending ts in
-      let last = finish_polls end s ending k h in
-      let works = works_none f work_polls ts w in
-      omega (arith, all, last, works)
+      grind (arith, total-append, finish_polls, works_none, work_polls)
 
   pub closing_polls : (s : Setup) (ts : List Turn) (seen log : List LogEntry) (t : ℕ)
       → ClosedBy s ts seen log t → total f ts ≡ 0
@@ -113,11 +100,7 @@ module _ (s : Setup) where
   sent_step (entry.Ask q) log =
       (put_ask (held_for q (held s log)) s.mode (caching_on_for s.mode log (key_of q)) q, refl)
   sent_step (entry.Send ws) log = (put_command s.mode ws, refl)
-  sent_step (entry.Poll n) log = ([], sym (append-nil (sent s log)))
-  sent_step (entry.TakeOut w n) log = ([], sym (append-nil (sent s log)))
-  sent_step (entry.Got w v) log = ([], sym (append-nil (sent s log)))
-  sent_step (entry.End w) log = ([], sym (append-nil (sent s log)))
-  sent_step (entry.Bad w v) log = ([], sym (append-nil (sent s log)))
+  sent_step e log = ([], sym (append-nil (sent s log)))
 
   sent_more : (more log : List LogEntry)
       → (new : List SentCommand) × (sent s (more ++ log) ≡ sent s log ++ new)
@@ -128,11 +111,7 @@ module _ (s : Setup) where
       (r.0 ++ t.0, t.1 ∙ ap (λ z. z ++ t.0) r.1 ∙ append_assoc (sent s log) r.0 t.0)
 
   numbers_grow : (e : LogEntry) (log : List LogEntry) → numbers s log ≤ numbers s (e ∷ log)
-  numbers_grow e log =
-      let t = sent_step e log in
-      let l : length (sent s (e ∷ log)) ≡ length (sent s log) + length t.0 =
-      ap length t.1 ∙ length-append (sent s log) t.0 in
-      omega (arith, l)
+  numbers_grow e log = grind (arith, sent_step, length-append)
 
   -- the turn puts one command on the wire, with that number
   record Issues (e : LogEntry) (past : List LogEntry) (number : ℕ) : Type 0 where
@@ -147,29 +126,17 @@ module _ (s : Setup) where
 
   issues_one : (e : LogEntry) (past : List LogEntry) (number : ℕ) → Issues e past number
       → issues number (e, past) ≡ 1
-  issues_one e past number i =
-      let l : length (sent s (e ∷ past)) ≡ length (sent s past) + 1 =
-      ap length i.sends ∙ length-append (sent s past) _ in
-      let k = i.number_is in
-      let one : nat_lt (numbers s past) number ≡ true = grind (arith, nat_tests, k) in
-      let two : nat_le number (numbers s (e ∷ past)) ≡ true = grind (arith, nat_tests, k, l) in
-      ap (λ b. cond {A = ℕ} (b && nat_le number (numbers s (e ∷ past))) 1 0) one
-      ∙ ap (λ b. cond {A = ℕ} b 1 0) two
+  issues_one e past number i = grind (arith, length-append, nat_tests)
 
   within_one : (b : Bool) → cond {A = ℕ} b 1 0 ≤ 1
   within_one true = omega arith
   within_one false = omega arith
 
   not_late : (a n : ℕ) (b : Bool) → n ≤ a → cond {A = ℕ} (nat_lt a n && b) 1 0 ≡ 0
-  not_late a n b le =
-      let z : nat_lt a n ≡ false = grind (arith, nat_tests, le) in
-      ap (λ x. cond {A = ℕ} (x && b) 1 0) z
+  not_late a n b le = grind arith
 
   not_early : (a : Bool) (b n : ℕ) → b < n → cond {A = ℕ} (a && nat_le n b) 1 0 ≡ 0
-  not_early true b n lt =
-      let z : nat_le n b ≡ false = grind (arith, nat_tests, lt) in
-      ap (λ x. cond {A = ℕ} x 1 0) z
-  not_early false b n lt = refl
+  not_early a b n lt = grind arith
 
   -- a number is issued once in a log, and only up to the last
   issued_once : (n : ℕ) (log : List LogEntry)
@@ -254,15 +221,7 @@ module _ (s : Setup) where
       ≡ record { reply = reply.Sent number; past = entry_for c ∷ past }
       → Issues (entry_for c) past number
   unfolding client_step
-  step_issues (Ask q) past number is =
-      let b = asked_in past (entry.Ask q ∷ past) number (is_ended s.mode Main past)
-      (is_ready s.mode past) (is_log_full s past) (held_for q (held s past))
-      (read_number s past q) is in
-      read_issues q past number b.0 b.1
-  step_issues (Do ws) past number is =
-      send_issues ws past number
-      (sent_in past (entry.Send ws ∷ past) number (is_ended s.mode Main past)
-      (is_ready s.mode past) (is_control ws) (is_log_full s past) (command_number s past ws) is)
+  step_issues c past number is = grind (arith, asked_in, read_issues, send_issues, sent_in)
 
   -- ---- no line asks for a number more often than it is issued one
 
@@ -275,12 +234,7 @@ module _ (s : Setup) where
   fair_pair : (n number : ℕ) (e : LogEntry) (past later : List LogEntry)
       → Issues e past number → polls n (e, past) ≡ 0
       → Fair n ((entry.Poll number, later) ∷ (e, past) ∷ [])
-  fair_pair n number e past later i none = dite (ℕ_discrete number n)
-      (λ is. let one : issues n (e, past) ≡ 1 =
-      subst (λ m. issues m (e, past) ≡ 1) is (issues_one e past number i) in
-      let within = within_one (number == n) in omega (arith, one, none, within))
-      (λ ne. let zero_ : polls n (entry.Poll number, later) ≡ 0 =
-      ap (λ b. cond {A = ℕ} b 1 0) (ne_eqb number n ne) in omega (arith, zero_, none))
+  fair_pair n number e past later i none = grind (arith, issues_one, within_one, ne_eqb)
 
   refused_fair : (n : ℕ) (c : ScriptCall) (r : ClientRefusal) (ts : List Turn)
       (seen : List LogEntry) (t : ℕ) → RefusedBy s c r ts seen t → total (polls n) ts ≡ 0
@@ -306,10 +260,7 @@ module _ (s : Setup) where
 
   fair_both : (n : ℕ) (ts mine rest : List Turn) → ts ≡ rest ++ mine → Fair n rest → Fair n mine
       → Fair n ts
-  fair_both n ts mine rest e r m =
-      let p = parts_total (polls n) ts mine rest e in
-      let i = parts_total (issues n) ts mine rest e in
-      omega (arith, p, i, r, m)
+  fair_both n ts mine rest e r m = grind (arith, parts_total)
 
   pub all_fair : (n : ℕ) (cs : List ScriptCall) (rs : List Answer) (ts : List Turn)
       (log : List LogEntry) (t : ℕ) → AllCame s cs rs ts log t → Fair n ts
@@ -331,8 +282,7 @@ module _ (s : Setup) where
   threads_fair n lines thread [] ts log t h =
       let z : total (polls n) ts ≡ 0 = ap (total (polls n)) h in omega (arith, z)
   threads_fair n lines thread (rs ∷ all) ts log t h =
-      fair_both n ts h.0 h.1 h.2 (threads_fair n lines (suc thread) all h.1 log t h.4)
-      (all_fair n (calls_of thread lines) rs h.0 log t h.3.came)
+      grind (arith, fair_both, all_fair, threads_fair n lines (suc thread) all h.1 log t h.4)
 
   -- ---- a line that was told that there is no such number
 
@@ -397,10 +347,7 @@ module _ (s : Setup) where
       → total (polls n) rest + total (polls n) mine + 1
       ≤ total (issues n) rest + total (issues n) mine
       → total (polls n) ts + 1 ≤ total (issues n) ts
-  fewer_in n ts mine rest e h =
-      let p = parts_total (polls n) ts mine rest e in
-      let i = parts_total (issues n) ts mine rest e in
-      omega (arith, p, i, h)
+  fewer_in n ts mine rest e h = grind (arith, parts_total)
 
   -- it stands among turns that are fair
   pub missed_last : (log more : List LogEntry) (ts mine rest : List Turn) → ts ≡ rest ++ mine
@@ -417,15 +364,7 @@ module _ (s : Setup) where
 
   pub missed_first : (log : List LogEntry) (ts mine rest : List Turn) → ts ≡ rest ++ mine
       → ((n : ℕ) → Fair n mine) → Missed log rest → Missed log ts
-  missed_first log ts mine rest e fair m = record {
-    number = m.number;
-    seen = m.seen;
-    begins = m.begins;
-    was = m.was;
-    unwanted = m.unwanted;
-    fewer = let a = fair m.number in let b = m.fewer in
-        fewer_in m.number ts mine rest e (omega (arith, a, b));
-  }
+  missed_first log ts mine rest e fair m = grind (arith, fewer_in)
 
   was_polled : (given_ polled : Bool) → given_ ≡ true → (given_ && not polled) ≡ false
       → polled ≡ true

@@ -44,14 +44,9 @@ printed_by t line e = cond (is_printing t) (said_text line e) []
 text_more : (t : Tally) (n m : ℕ) (xs : List LineEnd) (e : LineEnd) → m ≡ length xs + n
     → text_after t n (xs ++ e ∷ [])
     ≡ text_after t n xs ++ printed_by (tally_after t (xs ++ e ∷ [])) m e
-text_more t n m [] e k =
-    let same : n ≡ m = omega (arith, k) in
-    append-nil (printed_by (note_end t e) n e) ∙ ap (λ i. printed_by (note_end t e) i e) same
+text_more t n m [] e k = grind (arith, append-nil)
 text_more t n m (x ∷ xs) e k =
-    let here = printed_by (note_end t x) n x in
-    let more = printed_by (tally_after t (x ∷ xs ++ e ∷ [])) m e in
-    ap (λ z. here ++ z) (text_more (note_end t x) (n + 1) m xs e (omega (arith, k)))
-    ∙ sym (append_assoc here (text_after (note_end t x) (n + 1) xs) more)
+    grind (arith, append_assoc, text_more (note_end t x) (n + 1) m xs e (omega (arith, k)))
 
 -- What was printed of the lines before this place. `given` are the answers of the threads at the
 -- start, and `threads` those that are left.
@@ -63,27 +58,12 @@ pub record Printed (lines : List ScriptLine) (given : List (List Answer)) (place
   pub tally_is : tally ≡ tally_after no_tally first
   pub text_is : text ≡ before ++ text_after no_tally 1 first
 
-pub none_printed : (lines : List ScriptLine) (given : List (List Answer)) (before : List ℕ)
-    (t : Tally) → t ≡ no_tally → Printed lines given 0 given t before before
-none_printed lines given before t is = record {
-  first = [];
-  ends = refl;
-  many = refl;
-  tally_is = is;
-  text_is = sym (append-nil before);
-}
-
 pub all_printed : (lines : List ScriptLine) (given threads : List (List Answer)) (t : Tally)
     (before text : List ℕ) (n : ℕ) → drop n lines ≡ []
     → Printed lines given n threads t before text
     → (text ≡ before ++ text_after no_tally 1 (ends_of lines given))
     × (t ≡ tally_after no_tally (ends_of lines given))
-all_printed lines given threads t before text n none p =
-    let whole : p.first ≡ ends_of lines given = sym (append-nil p.first)
-    ∙ ap (λ l. p.first ++ ends_of l threads) (sym none) ∙ p.ends in (
-      p.text_is ∙ ap (λ es. before ++ text_after no_tally 1 es) whole,
-      p.tally_is ∙ ap (tally_after no_tally) whole,
-    )
+all_printed lines given threads t before text n none p = grind (arith, append-nil)
 
 module _ (lines : List ScriptLine) (given : List (List Answer)) (n : ℕ) (line : ScriptLine)
     (qs : List (List Answer)) (is : line ≡ slice_index_or lines n line) (lt : n < length lines)

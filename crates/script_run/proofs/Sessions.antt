@@ -1,7 +1,7 @@
 -- All turns of a session are those of its callers, of its pump and the last, and where a caller was
 -- told that the link is down the pump had ended it.
 use Rattle.std.proofs.Common.{◌≡◌, ◌≤◌, ◌<◌, ◌+◌, inl, inr, ℕ, suc, List, [], ◌∷◌, ◌++◌}
-use Rattle.std.proofs.Common.{Bool, true, false, cond, length, refl, sym, ap, subst, ◌∙◌, arith}
+use Rattle.std.proofs.Common.{Bool, true, false, cond, length, refl, ap, subst, ◌∙◌, arith}
 use Rattle.std.specs.Prelude.{Option, nat_lt, ◌&&◌, ◌==◌, ◌⊎◌, not}
 use Rattle.std.specs.List.{All}
 use Rattle.std.proofs.lemmas.Bool.Decides.{nat_tests}
@@ -22,12 +22,12 @@ use Rattle.shared_cache.specs.declared.log.ClientRefusal.{ClientRefusal}
 use Rattle.shared_cache.specs.declared.log.ClientRefusal.TheVariants as refusal
 use Rattle.resp_value.specs.declared.value.Value.{Value}
 use Rattle.command_words.specs.Control.{is_control}
-use Rattle.shared_cache.specs.Held.{Setup, held, held_for}
+use Rattle.shared_cache.specs.Held.{Setup}
 use Rattle.shared_cache.specs.Laws.{LegalLog}
-use Rattle.shared_cache.specs.Log.{is_ended, is_ready, is_wire, reply as reply_of}
+use Rattle.shared_cache.specs.Log.{is_ended, is_wire, reply as reply_of}
 use Rattle.shared_cache.specs.Out.{is_wanted}
-use Rattle.shared_cache.specs.Steps.{ClientTurn, client_step, refusing, is_log_full, answer_ask}
-use Rattle.shared_cache.specs.Steps.{read_number, command_number, polling}
+use Rattle.shared_cache.specs.Steps.{ClientTurn, client_step, refusing}
+use Rattle.shared_cache.specs.Steps.{polling}
 use Rattle.shared_client.specs.declared.logged.ClientSetup.{ClientSetup}
 use Rattle.shared_client.specs.Setups.{TurnStep, setup_of}
 use Rattle.shared_client.specs.Turns.{Place, Turn, setup_at}
@@ -42,7 +42,7 @@ use Rattle.script_run.specs.declared.answer.Answer.TheVariants.{Refused}
 use Rattle.script_run.specs.Lines.{call_for, Between, RefusedBy, Unplayed, NoAnswer, Came}
 use Rattle.script_run.specs.Lines.{AllCame, ThreadsCame, calls_of}
 use Rattle.script_run.specs.Session.{turns_in, IsDown, AnyDown, HasDown, EndsLink, PumpedBy}
-use Rattle.script_run.specs.Session.{ClosedBy, LastEnd, Over, NoTicket}
+use Rattle.script_run.specs.Session.{ClosedBy}
 use Rattle.script_run.proofs.Totals.{prefix_length, prefix_total, two_none}
 use Rattle.script_run.proofs.Totals.{works_none}
 use Rattle.script_run.proofs.Numbers.{polls, pump_polls, closing_polls, all_fair}
@@ -59,10 +59,7 @@ turns_are (e ∷ h) = ap (λ z. (e.1, entries h) ∷ z) (turns_are h)
 pub every_turn : (k : Place) → ((p : ℕ) → p < length k.seen → times p k.own ≡ 1)
     → (f : Turn → ℕ) → total f (turns_in (past_of k)) ≡ total f (turns_of k)
 unfolding turns_of
-every_turn k once f =
-    ap (total f) (turns_are k.seen)
-    ∙ sym (own_all f (with_pasts k.seen) k.own
-    (λ p lt. once p (subst (λ n. p < n) (pasts_length k.seen) lt)))
+every_turn k once f = grind (arith, turns_are, own_all, pasts_length)
 
 pub legal_log : (u : ClientSetup) (h : List (ℕ × LogEntry)) → Legal TurnStep u h
     → LegalLog (setup_of u) (entries h)
@@ -115,18 +112,14 @@ module _ (n : ℕ) where
   all_none s (c ∷ cs) [] ts log t h = ap (total f) h
   all_none s [] (a ∷ rs) ts log t h = absurd h
   all_none s (c ∷ cs) (a ∷ rs) ts log t h =
-      let i = h.3 in
-      two_none f ts h.0 h.1 h.2 (all_none s cs rs h.1 log t h.4)
-      (came_none s c a h.0 i.seen i.ticket i.came)
+      grind (arith, two_none, came_none, all_none s cs rs h.1 log t h.4)
 
   threads_none : (s : Setup) (lines : List ScriptLine) (thread : ℕ) (all : List (List Answer))
       (ts : List Turn) (log : List LogEntry) (t : ℕ) → ThreadsCame s lines thread all ts log t
       → total f ts ≡ 0
   threads_none s lines thread [] ts log t h = ap (total f) h
   threads_none s lines thread (rs ∷ all) ts log t h =
-      two_none f ts h.0 h.1 h.2
-      (threads_none s lines (suc thread) all h.1 log t h.4)
-      (all_none s (calls_of thread lines) rs h.0 log t h.3.came)
+      grind (arith, two_none, all_none, threads_none s lines (suc thread) all h.1 log t h.4)
 
   -- nor an earlier one the last
   not_early : (b : Bool) (m : ℕ) → n ≤ m → cond {A = ℕ} (b && nat_lt m n) 1 0 ≡ 0
@@ -135,13 +128,7 @@ module _ (n : ℕ) where
 
   closing_none : (s : Setup) (ts : List Turn) (seen log : List LogEntry) (t : ℕ)
       → n ≤ length seen → ClosedBy s ts seen log t → total f ts ≡ 0
-  closing_none s ts seen log t le (LastEnd past e p) =
-      let l = prefix_length seen past p in
-      let z = not_early true (length past) (omega (arith, le, l)) in
-      let w : total f ts ≡ cond {A = ℕ} (true && nat_lt (length past) n) 1 0 + 0 =
-      ap (total f) e in omega (arith, w, z)
-  closing_none s ts seen log t le (Over later e p is) = ap (total f) e
-  closing_none s ts seen log t le (NoTicket e worn) = ap (total f) e
+  closing_none s ts seen log t le h = grind (arith, prefix_length, not_early)
 
   work_none : (e : LogEntry) (past : List LogEntry) → IsWork (e, past) → f (e, past) ≡ 0
   work_none e past h = grind arith
@@ -161,22 +148,6 @@ abbrev pub Answered : ClientTurn → ClientRefusal → List LogEntry → Type 0
 Answered turn r log = turn ≡ record { reply = reply.Refused r; past = log }
 
 module _ (log : List LogEntry) (w : Wire) where
-  ask_down_in : (over ready full : Bool) (turn : ClientTurn) (e : LogEntry) → turn.past ≡ e ∷ log
-      → Answered (cond over (refusing (refusal.Down Main) log)
-      (cond (not ready) (refusing refusal.NotReady log)
-      (cond full (refusing (refusal.LogFull (length log)) log) turn))) (refusal.Down w) log
-      → over ≡ true
-  ask_down_in over ready full turn e p is = grind arith
-
-  send_down_in : (over ready control full : Bool) (turn : ClientTurn) (e : LogEntry)
-      → turn.past ≡ e ∷ log
-      → Answered (cond over (refusing (refusal.Down Main) log)
-      (cond (not ready) (refusing refusal.NotReady log)
-      (cond control (refusing refusal.Control log)
-      (cond full (refusing (refusal.LogFull (length log)) log) turn)))) (refusal.Down w) log
-      → over ≡ true
-  send_down_in over ready control full turn e p is = grind arith
-
   poll_down_in : (wanted over : Bool) (o : Option Value) (n : ℕ)
       → Answered (cond (not wanted) (refusing (refusal.NoNumber n) log) (polling o n over log))
       (refusal.Down w) log → over ≡ true
@@ -186,17 +157,7 @@ call_down : (s : Setup) (log : List LogEntry) (w : Wire) (c : ScriptCall)
     → Answered (client_step s log (call_for c)) (refusal.Down w) log
     → is_ended s.mode Main log ≡ true
 unfolding client_step
-call_down s log w (Ask q) is =
-    ask_down_in log w (is_ended s.mode Main log) (is_ready s.mode log) (is_log_full s log)
-    (record {
-      reply = answer_ask (held_for q (held s log)) (read_number s log q);
-      past = entry.Ask q ∷ log;
-    }) (entry.Ask q) refl is
-call_down s log w (Do ws) is =
-    send_down_in log w (is_ended s.mode Main log) (is_ready s.mode log) (is_control ws)
-    (is_log_full s log)
-    (record { reply = reply.Sent (command_number s log ws); past = entry.Send ws ∷ log })
-    (entry.Send ws) refl is
+call_down s log w c is = grind arith
 
 poll_down : (s : Setup) (log : List LogEntry) (w : Wire) (n : ℕ)
     → Answered (client_step s log (call.Poll n)) (refusal.Down w) log
@@ -213,19 +174,7 @@ refused_down s c w ts seen t (NoAnswer n past e step why) = poll_down s seen w n
 not_control : (s : Setup) (ws : List (List ℕ)) (log : List LogEntry) → is_control ws ≡ false
     → Answered (client_step s log (call.Send ws)) refusal.Control log → ⊥
 unfolding client_step
-not_control s ws log valid is =
-    plain (is_ended s.mode Main log) (is_ready s.mode log) (is_control ws) (is_log_full s log)
-    valid is
-  where
-    turn : ClientTurn
-    turn = record { reply = reply.Sent (command_number s log ws); past = entry.Send ws ∷ log }
-
-    plain : (over ready control full : Bool) → control ≡ false
-        → Answered (cond over (refusing (refusal.Down Main) log)
-        (cond (not ready) (refusing refusal.NotReady log)
-        (cond control (refusing refusal.Control log)
-        (cond full (refusing (refusal.LogFull (length log)) log) turn)))) refusal.Control log → ⊥
-    plain over ready control full v h = grind arith
+not_control s ws log valid is = grind arith
 
 -- a line that is down has seen the link's end, or its number was unknown
 abbrev Told : Setup → List Turn → List LogEntry → Type 0
@@ -339,9 +288,7 @@ module _ (s : Setup) (lines : List ScriptLine) (answers : List (List Answer)) (e
       pumps.after pumps.pumps.finishes pumps.pumps.works.work reached
 
   none_polled : (n : ℕ) → total (polls n) pumped ≡ 0
-  none_polled n = ap (total (polls n)) pumps.turns_are
-      ∙ pump_polls n end (setup_at pumps.before) pumps.pumps.ending pumps.pumps.works.turns
-      pumps.after pumps.pumps.finishes pumps.pumps.works.work
+  none_polled n = grind (arith, polls, pump_polls)
 
   none_missing : Missed s seen called → ⊥
   none_missing m = none_missed s log called pumped closing all none_polled

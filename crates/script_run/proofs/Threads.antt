@@ -10,7 +10,7 @@ use Rattle.turn_lock.specs.Counts.{times}
 use Rattle.turn_lock.specs.History.{IsPrefix}
 use Rattle.turn_lock.specs.Seats.{Known, split_seat, joined_seat}
 use Rattle.seat_turns.specs.Own.{own_list, with_pasts, past_of, turns_of, IsWithin, Within, Grows}
-use Rattle.seat_turns.proofs.Growing.{grows_none, grows_then, grows_past}
+use Rattle.seat_turns.proofs.Growing.{grows_then, grows_past}
 use Rattle.seat_turns.proofs.Owning.{own_joined, pasts_begins, pasts_within, within_append}
 use Rattle.seat_turns.proofs.Owning.{within_begins}
 use Rattle.seat_turns.proofs.Turning.{begins_trans, entries_begin}
@@ -75,13 +75,8 @@ module _ (s : Setup) where
   all_grow [] [] ts log more t u h p le = h
   all_grow (c ∷ cs) [] ts log more t u h p le = h
   all_grow [] (a ∷ rs) ts log more t u h p le = absurd h
-  all_grow (c ∷ cs) (a ∷ rs) ts log more t u h p le = (
-    h.0,
-    h.1,
-    h.2,
-    in_more c a h.0 log more t u h.3 p le,
-    all_grow cs rs h.1 log more t u h.4 p le,
-  )
+  all_grow (c ∷ cs) (a ∷ rs) ts log more t u h p le =
+      grind (arith, in_more, all_grow cs rs h.1 log more t u h.4 p le)
 
   -- calls behind them may be left
   all_left : (cs more : List ScriptCall) (rs : List Answer) (ts : List Turn)
@@ -101,25 +96,15 @@ module _ (s : Setup) where
       (mine, [], ap (λ z. mine ++ z) h ∙ append-nil mine, i, refl)
   all_then (c' ∷ cs) [] ts log t c a mine h e i = absurd (omega (arith, e))
   all_then [] (a' ∷ rs) ts log t c a mine h e i = absurd h
-  all_then (c' ∷ cs) (a' ∷ rs) ts log t c a mine h e i = (
-    h.0,
-    mine ++ h.1,
-    ap (λ z. mine ++ z) h.2 ∙ sym (append_assoc mine h.1 h.0),
-    h.3,
-    all_then cs rs h.1 log t c a mine h.4 (omega (arith, e)) i,
-  )
+  all_then (c' ∷ cs) (a' ∷ rs) ts log t c a mine h e i =
+      grind (arith, append_assoc, all_then cs rs h.1 log t c a mine h.4 (omega (arith, e)) i)
 
 setup_kept : (old new : Place) (ts : List Turn) → Grows old new ts
     → setup_at new ≡ setup_at old
 setup_kept old new ts g = ap setup_in g.setup
 
 pub no_line : (k : Place) → IsWithin k → PlaysThread [] [] k k
-no_line k w = record {
-  turns = [];
-  grows = grows_none k w;
-  between = ([], refl);
-  came = refl;
-}
+no_line k w = grind arith
 
 -- a thread plays one more line
 pub line_then : (cs : List ScriptCall) (rs : List Answer) (c : ScriptCall) (a : Answer)
@@ -148,12 +133,7 @@ line_then cs rs c a old k new h e l =
 -- and leaves the others, for want of memory
 pub lines_left : (cs more : List ScriptCall) (rs : List Answer) (old new : Place)
     → PlaysThread cs rs old new → PlaysThread (cs ++ more) rs old new
-lines_left cs more rs old new h = record {
-  turns = h.turns;
-  grows = h.grows;
-  between = h.between;
-  came = all_left (setup_at old) cs more rs h.turns (past_of new) new.tickets h.came;
-}
+lines_left cs more rs old new h = grind (arith, all_left)
 
 -- ---- the lines of a script, of which some are the thread's
 
@@ -170,9 +150,7 @@ module _ (thread : ℕ) (lines : List ScriptLine) (i : ℕ) (line : ScriptLine)
       ∙ calls_append thread (take i lines) (line ∷ [])
 
   other_calls : (line.thread ≡ thread → ⊥) → calls_of thread (take (i + 1) lines) ≡ so_far
-  other_calls ne =
-      next_calls ∙ ap (λ b. so_far ++ cond b (line.call ∷ []) []) (ne_eqb line.thread thread ne)
-      ∙ append-nil so_far
+  other_calls ne = grind (arith, next_calls, ne_eqb, append-nil)
 
   mine_calls : line.thread ≡ thread
       → calls_of thread (take (i + 1) lines) ≡ so_far ++ line.call ∷ []
@@ -183,11 +161,7 @@ module _ (thread : ℕ) (lines : List ScriptLine) (i : ℕ) (line : ScriptLine)
       → PlaysThread so_far rs old k → length rs ≡ length so_far
       → PlaysThread (calls_of thread (take (i + 1) lines)) rs old k
       × (length rs ≡ length (calls_of thread (take (i + 1) lines)))
-  line_passed rs old k ne h e =
-      let same = sym (other_calls ne) in (
-        subst (λ cs. PlaysThread cs rs old k) same h,
-        e ∙ ap length same,
-      )
+  line_passed rs old k ne h e = grind (arith, other_calls)
 
   pub line_played : (rs : List Answer) (a : Answer) (old k new : Place) → line.thread ≡ thread
       → PlaysThread so_far rs old k → length rs ≡ length so_far → PlaysLine line.call a k new
@@ -232,10 +206,7 @@ module _ (s : Setup) (lines : List ScriptLine) where
   thread_grow : (cs : List ScriptCall) (rs : List Answer) (ts : List Turn)
       (log more : List LogEntry) (t u : ℕ) → ThreadCame s cs rs ts log t → IsPrefix log more
       → t ≤ u → ThreadCame s cs rs ts more u
-  thread_grow cs rs ts log more t u h p le = record {
-    in_order = between_more [] ts log more h.in_order p;
-    came = all_grow s cs rs ts log more t u h.came p le;
-  }
+  thread_grow cs rs ts log more t u h p le = grind (arith, between_more, all_grow)
 
   pub threads_grow : (thread : ℕ) (all : List (List Answer)) (ts : List Turn)
       (log more : List LogEntry) (t u : ℕ) → ThreadsCame s lines thread all ts log t
@@ -254,27 +225,14 @@ module _ (s : Setup) (lines : List ScriptLine) where
       → ThreadsCame s lines thread all ts log t
       → ThreadCame s (calls_of last lines) rs mine log t
       → ThreadsCame s lines thread (all ++ rs ∷ []) (mine ++ ts) log t
-  threads_then thread [] ts log t rs mine last e h m = (
-    mine,
-    [],
-    ap (λ z. mine ++ z) h ∙ append-nil mine,
-    let same : thread ≡ last = omega (arith, e) in
-        subst (λ n. ThreadCame s (calls_of n lines) rs mine log t) (sym same) m,
-    refl,
-  )
-  threads_then thread (bs ∷ all) ts log t rs mine last e h m = (
-    h.0,
-    mine ++ h.1,
-    ap (λ z. mine ++ z) h.2 ∙ sym (append_assoc mine h.1 h.0),
-    h.3,
-    threads_then (suc thread) all h.1 log t rs mine last (omega (arith, e)) h.4 m,
-  )
+  threads_then thread [] ts log t rs mine last e h m = grind (arith, append-nil)
+  threads_then thread (bs ∷ all) ts log t rs mine last e h m =
+      grind (arith, append_assoc,
+      threads_then (suc thread) all h.1 log t rs mine last (omega (arith, e)) h.4 m)
 
 pub no_thread : (lines : List ScriptLine) (all : List (List Answer)) (k : Place) → IsWithin k
     → all ≡ [] → PlaysThreads lines 0 all k k
-no_thread lines all k w none =
-    subst (λ z. PlaysThreads lines 0 z k k) (sym none)
-    (record { turns = []; grows = grows_none k w; many = refl; came = refl })
+no_thread lines all k w none = grind arith
 
 -- ---- seats that are split and joined
 
@@ -307,15 +265,7 @@ module _ {U E : Type 0} where
       → (turns_of j ≡ turns_of a ++ turns_of b) × IsWithin j
   unfolding turns_of IsWithin
   joined a b j is x y u v =
-      let own : j.own ≡ a.own ++ b.own = ap (λ (z : Known U E). z.own) is in (
-        ap (own_list (with_pasts j.seen)) own
-            ∙ own_joined (with_pasts a.seen) (with_pasts b.seen) (with_pasts j.seen) a.own b.own
-            (pasts_begins a.seen j.seen x) (pasts_begins b.seen j.seen y)
-            (pasts_within a.seen a.own u) (pasts_within b.seen b.own v),
-        subst (Within j.seen) (sym own)
-            (within_append j.seen a.own b.own (within_begins a.seen j.seen a.own x u)
-            (within_begins b.seen j.seen b.own y v)),
-      )
+      grind (arith, own_joined, pasts_begins, pasts_within, within_append, within_begins)
 
 -- One more thread took its turns beside the others. `k` was split into `ours` and `mine`; these
 -- took turns, and were joined.

@@ -12,19 +12,13 @@ use Rattle.client_link.specs.Pumps.{IsWork}
 use Rattle.script_run.specs.Session.{turns_in}
 
 pub prefix_length : (a b : List LogEntry) → IsPrefix a b → length a ≤ length b
-prefix_length a b p =
-    let e : length (p.0 ++ a) ≡ length b = ap length p.1 in
-    omega (arith, e, length-append p.0 a)
+prefix_length a b p = grind (arith, length-append)
 
 module _ (f : Turn → ℕ) where
   pub prefix_total : (more k : List LogEntry)
       → total f (turns_in k) ≤ total f (turns_in (more ++ k))
   prefix_total [] k = omega arith
-  prefix_total (e ∷ more) k =
-      let r = prefix_total more k in
-      let step : total f (turns_in (e ∷ more ++ k)) ≡ f (e, more ++ k)
-      + total f (turns_in (more ++ k)) = refl in
-      omega (arith, r, step)
+  prefix_total (e ∷ more) k = grind (arith, prefix_total more k)
 
   pub parts_total : (ts mine rest : List Turn) → ts ≡ rest ++ mine
       → total f ts ≡ total f rest + total f mine

@@ -2,12 +2,12 @@
 use Rattle.std.proofs.Common.{◌≡◌, ℕ, suc, ◌+◌, ◌<◌, ◌≤◌, Bool, true, false, cond, List}
 use Rattle.std.proofs.Common.{[], ◌∷◌, ◌++◌, length, sym, refl, ap, ◌∙◌, subst, arith, eq-eqb}
 use Rattle.std.proofs.Common.{ne_eqb, length-append, append_assoc}
-use Rattle.std.specs.Prelude.{Option, Some, None, nat_lt, ◌==◌}
+use Rattle.std.specs.Prelude.{nat_lt, ◌==◌}
 use Rattle.std.proofs.lemmas.Bool.Decides.{nat_tests}
 use mathlib.Core.Logic.{dite}
 use native.Mathlib.Decide.{ℕ_discrete}
 use Rattle.turn_lock.specs.Counts.{times, total}
-use Rattle.turn_lock.specs.History.{entries, past_after, IsPrefix, history_after, own_after}
+use Rattle.turn_lock.specs.History.{entries, IsPrefix}
 use Rattle.turn_lock.specs.History.{made_by, Owns}
 use Rattle.seat_turns.specs.Own.{entry_at, own_list, with_pasts, Within}
 
@@ -164,12 +164,6 @@ module _ {E : Type 0} where
         let a = own_first e h own in
         let w = weight_once (f e.1) (length h) own (is (length h) (omega arith)) in
         let r = own_all h own (λ p lt. is p (omega arith)) in omega arith
-
-  pub own_turn_any : (n : ℕ) (a h : List (ℕ × E)) (own : List ℕ) (e : Option E) → IsPrefix a h
-      → Within a own → own_list (history_after n h e) (own_after own (length h) e) ≡ past_after
-      (own_list a own) e
-  own_turn_any n a h own None more is = own_begins a h own more is
-  own_turn_any n a h own (Some e) more is = own_turn n a h own e more is
 
   -- ---- each with the entries before it
 

@@ -117,11 +117,7 @@ module _ (c : ℕ) where
 
     pub remembered_own : (rows : List Held)
         → holds c (holders_of key (remembered c key rows)) ≡ true
-    remembered_own rows =
-        ap (holds c) (holders_remembered key c key rows)
-        ∙ ap (λ b. holds c (cond b (with_id c (holders_of key rows)) (holders_of key rows)))
-        (itself key)
-        ∙ with_itself (holders_of key rows)
+    remembered_own rows = grind (arith, holders_remembered, itself, with_itself)
 
     with_keys_keeps : (id : ℕ) (keys : List (List ℕ)) (rows : List Held)
         → holds c (holders_of key rows) ≡ true
@@ -134,22 +130,13 @@ module _ (c : ℕ) where
         → holds c (without_id id r.holders) ≡ true
         → holds c (holders_of key (cond (is_held (freed_of id r)) (freed_of id r ∷ rest) rest))
         ≡ true
-    first_stays id r rest is h =
-        ap (λ b. holds c (holders_of key (cond b (freed_of id r ∷ rest) rest)))
-        (some_held (without_id id r.holders) h)
-        ∙ ap (λ b. holds c (cond b (without_id id r.holders) (holders_of key rest))) is ∙ h
+    first_stays id r rest is h = grind (arith, some_held)
 
     later_stays : (id : ℕ) (r : Held) (rest : List Held) → bytes_eq key r.key ≡ false
         → holds c (holders_of key rest) ≡ true
         → holds c (holders_of key (cond (is_held (freed_of id r)) (freed_of id r ∷ rest) rest))
         ≡ true
-    later_stays id r rest other h =
-        elim (is_held (freed_of id r)) as (λ b. holds c
-        (holders_of key (cond b (freed_of id r ∷ rest) rest)) ≡ true) [
-          | true ↦ ap (λ b. holds c (cond b (without_id id r.holders) (holders_of key rest)))
-              other ∙ h
-          | false ↦ h
-        ]
+    later_stays id r rest other h = grind arith
 
     -- another connection that is freed leaves the key to this one
     pub without_other : (id : ℕ) (rows : List Held) → (id == c) ≡ false

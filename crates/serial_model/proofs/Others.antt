@@ -11,7 +11,7 @@ use Rattle.serial_model.specs.declared.history.BookCall.TheVariants.{Admit, Run,
 use Rattle.serial_model.specs.declared.history.BookCall.TheVariants.{Close}
 use Rattle.serial_model.specs.History.{admitted, is_admitted}
 use Rattle.serial_model.specs.History.{has_ended}
-use Rattle.serial_model.specs.History.{latest, stream, taken, runs_of, is_full, sends}
+use Rattle.serial_model.specs.History.{latest, taken, runs_of, is_full, sends}
 use Rattle.serial_model.specs.History.{sent_to}
 use Rattle.serial_model.specs.History.{sent_bytes}
 use Rattle.serial_model.specs.Steps.{Turn, book_step, full, unless_full}
@@ -27,26 +27,10 @@ by_limit l past turn P none does =
 
 module _ (l : Limits) (c : ℕ) where
   pub extends_none : (past : List Entry) → Extends l c past past
-  extends_none past = record {
-    is_still_admitted = λ h. h;
-    stream_grew = ([], append-nil (stream l c past));
-    taken_is = refl;
-    runs_are = refl;
-    stays_ended = λ h. h;
-  }
+  extends_none past = grind (arith, append-nil)
 
   pub extends_more : (a b d : List Entry) → Extends l c a b → Extends l c b d → Extends l c a d
-  extends_more a b d f g = record {
-    is_still_admitted = λ h. g.is_still_admitted (f.is_still_admitted h);
-    stream_grew = (
-      f.stream_grew.0 ++ g.stream_grew.0,
-      sym (append_assoc (stream l c a) f.stream_grew.0 g.stream_grew.0)
-          ∙ ap (λ x. x ++ g.stream_grew.0) f.stream_grew.1 ∙ g.stream_grew.1,
-    );
-    taken_is = g.taken_is ∙ f.taken_is;
-    runs_are = g.runs_are ∙ f.runs_are;
-    stays_ended = λ h. g.stays_ended (f.stays_ended h);
-  }
+  extends_more a b d f g = grind (arith, append_assoc)
 
   -- one more entry, which is none of the connection's
   extends_entry : (past : List Entry) (e : Entry)

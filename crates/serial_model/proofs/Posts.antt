@@ -15,9 +15,9 @@ use Rattle.serial_model.specs.History.{Sending, End, sends, sent_to, sent, posts
 use Rattle.serial_model.specs.History.{posted_of}
 use Rattle.resp_value.specs.declared.value.Proto.TheVariants.{Two, Three}
 use Rattle.serial_model.specs.declared.mode.Mode.{Mode}
-use Rattle.serial_model.specs.History.{has_ended, Message, reply_protocol, ran, reply_of, modes}
-use Rattle.serial_model.specs.History.{expiry_group, own_group, drops, by_proto, route, routed}
-use Rattle.serial_model.specs.Tracking.{Invalidation, drop_group, push_of}
+use Rattle.serial_model.specs.History.{has_ended, Message, modes}
+use Rattle.serial_model.specs.History.{expiry_group, by_proto, route, routed}
+use Rattle.serial_model.specs.Tracking.{Invalidation, push_of}
 use Rattle.serial_model.proofs.Tables.{sent_to-append}
 use Rattle.serial_model.specs.Laws.{as_posts, has_end, is_end}
 
@@ -47,9 +47,7 @@ pub posted_is_sent : (l : Limits) (c : ℕ) (entry : Entry) (past : List Entry)
     → as_posts c (sent l c (entry ∷ past)) ≡ as_posts c (sent l c past)
     ++ filter (λ p. p.id == c) (posted l (entry ∷ past))
 unfolding posted
-posted_is_sent l c entry past =
-    as_posts-append c (sent l c past) (sent_to (length past + 1) c (sends l entry past))
-    ∙ ap (λ x. as_posts c (sent l c past) ++ x) (posts_for (length past + 1) c (sends l entry past))
+posted_is_sent l c entry past = grind (arith, as_posts-append, posts_for)
 
 all_numbered : (n : ℕ) (ss : List (ℕ × Sending)) (k : ℕ) (d : Post) → k < length (posts_of n ss)
     → (get_or (posts_of n ss) k d).entry ≡ n
@@ -66,11 +64,7 @@ pub posts_are_numbered : (l : Limits) (past : List Entry) (k : ℕ) (d : Post)
     → k < length (posted l past)
     → (get_or (posted l past) k d).entry ≡ length past
 unfolding posted
-posts_are_numbered l [] = numbered 0 [] (posted l []) refl
-posts_are_numbered l (entry ∷ past) =
-    let n : length past + 1 ≡ length (entry ∷ past) = omega arith in
-    numbered (length (entry ∷ past)) (sends l entry past) (posted l (entry ∷ past))
-    (ap (λ k. posts_of k (sends l entry past)) n)
+posts_are_numbered l past = grind (arith, numbered)
 
 has_end-append : (xs ys : List (ℕ × Sending)) → has_end (xs ++ ys) ≡ has_end xs || has_end ys
 has_end-append [] ys = refl
@@ -86,10 +80,7 @@ or_false true = refl
 or_false false = refl
 
 or_end : (a b : Bool) (n : ℕ) → cond b true a ≡ a || has_end (cond b ((n, End) ∷ []) [])
-or_end true true n = refl
-or_end true false n = refl
-or_end false true n = refl
-or_end false false n = refl
+or_end a b n = grind arith
 
 no_ends : (xs ys : List (ℕ × Sending)) → has_end xs ≡ false → has_end ys ≡ false
     → has_end (xs ++ ys) ≡ false
@@ -117,27 +108,14 @@ routed_no_end n c modes (i ∷ told) =
 run_no_end : (l : Limits) (n c id : ℕ) (words : List (List ℕ)) (m : ℕ) (past : List Entry)
     → has_end (sent_to n c (sends l (Run id words m) past)) ≡ false
 run_no_end l n c id words m past =
-    let late = own_group l past id words m ++ drop_group (drops l past id words m) in
-    let after = modes l (Run id words m ∷ past) in
-    ap has_end (sent_to-append n c (routed (modes l past) (expiry_group l past m))
-    (reply_of l past id words m ∷ (routed after late ++ [])))
-    ∙ no_ends (sent_to n c (routed (modes l past) (expiry_group l past m)))
-    (sent_to n c (reply_of l past id words m ∷ (routed after late ++ [])))
-    (routed_no_end n c (modes l past) (expiry_group l past m))
-    (message_no_end (id == c) n (reply_protocol l past id words) (ran l past id words m).reply
-    (sent_to n c (routed after late ++ []))
-    (ap (λ xs. has_end (sent_to n c xs)) (append-nil (routed after late))
-    ∙ routed_no_end n c after late))
+    grind (arith, sent_to-append, no_ends, routed_no_end, message_no_end, append-nil)
 
 no_end : (l : Limits) (c : ℕ) (e : Entry) (past : List Entry)
     → has_ended l c (e ∷ past) ≡ has_ended l c past
     → has_ended l c past ≡ has_end (sent l c past)
     → has_end (sent_to (length past + 1) c (sends l e past)) ≡ false
     → has_ended l c (e ∷ past) ≡ has_end (sent l c (e ∷ past))
-no_end l c e past same before none =
-    same ∙ before ∙ or_false (has_end (sent l c past))
-    ∙ ap (λ x. has_end (sent l c past) || x) (sym none)
-    ∙ sym (has_end-append (sent l c past) (sent_to (length past + 1) c (sends l e past)))
+no_end l c e past same before none = grind (arith, or_false, has_end-append)
 
 pub end_is_sent : (l : Limits) (c : ℕ) (past : List Entry)
     → has_ended l c past ≡ has_end (sent l c past)

@@ -34,7 +34,7 @@ use Rattle.command_words.specs.Hashes.{hincrby_row, set_all, remove_all, field_s
 use Rattle.command_words.specs.Keys.{there, remove_each, renamed, expiring, expire_effect}
 use Rattle.command_words.specs.Keys.{expiry_after, expiry_at, rename_effect}
 use Rattle.command_words.specs.Space.{changed_at}
-use Rattle.command_words.specs.Queries.{is_cacheable, reads_as_cacheable, read}
+use Rattle.command_words.specs.Queries.{reads_as_cacheable, read}
 use Rattle.command_words.specs.Strings.{on_text, getdel_row, append_row, incrby_row, put_all}
 use Rattle.command_words.specs.Strings.{incrby_effect, is_least, or_empty, sets, put_text}
 use Rattle.command_words.specs.Strings.{set_deadline}
@@ -111,21 +111,6 @@ pub data_own : (c : Command) (mode : Mode) → has_row c ≡ true
 data_own (command.Hello word) mode h = absurd (let no : ⊥ = cc in no)
 data_own (command.ClientTracking options) mode h = absurd (let no : ⊥ = cc in no)
 data_own _ mode h = refl
-
-pub query_data : (c : Command) → is_cacheable c ≡ true → has_row c ≡ true
-query_data (command.Get key) h = refl
-query_data (command.StrLen key) h = refl
-query_data (command.GetRange key a b) h = refl
-query_data (command.HGet key field) h = refl
-query_data (command.HMGet key fields) h = refl
-query_data (command.HGetAll key) h = refl
-query_data (command.HLen key) h = refl
-query_data (command.HExists key field) h = refl
-query_data (command.HKeys key) h = refl
-query_data (command.HVals key) h = refl
-query_data (command.Exists keys) h = refl
-query_data (command.KeyType key) h = refl
-query_data _ h = absurd (let no : ⊥ = cc in no)
 
 -- ---- what a row does
 

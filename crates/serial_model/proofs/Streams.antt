@@ -3,7 +3,6 @@ use Rattle.std.proofs.Common.{◌≡◌, ◌+◌, ◌-◌, ◌<◌, ◌≤◌, �
 use Rattle.std.proofs.Common.{sym}
 use Rattle.std.proofs.Common.{ap, ◌∙◌, refl, arith, Bool, true, false, cond, append-nil}
 use Rattle.std.proofs.Common.{length-append}
-use Rattle.std.proofs.Common.{inl, inr}
 use Rattle.std.specs.Prelude.{◌==◌, ◌&&◌, not}
 use Rattle.std.proofs.lemmas.Grind.{flat_map-append}
 use Rattle.std.proofs.lemmas.List.{drop-drop, drop-append-le, drop_all, length-drop}
@@ -17,11 +16,11 @@ use Rattle.track_table.specs.declared.table.Held.{Held}
 use Rattle.serial_model.specs.History.{admitted, is_admitted, runs_on, has_ended, made}
 use Rattle.serial_model.specs.History.{signals, expired, table, table_then, table_grown, drops}
 use Rattle.serial_model.specs.History.{expiry_group, own_group, routed, modes}
-use Rattle.serial_model.specs.History.{is_tracking, tracking, mode}
+use Rattle.serial_model.specs.History.{tracking}
 use Rattle.serial_model.specs.Tracking.{Invalidation, drop_group}
 use Rattle.serial_model.specs.Tracking.{without_signalled}
-use Rattle.serial_model.specs.History.{End, sends, sent_to, sent, sent_bytes}
-use Rattle.serial_model.specs.History.{sending_bytes, stream, taken, unsent, runs_of, IsLegal}
+use Rattle.serial_model.specs.History.{sends, sent_to, sent, sent_bytes}
+use Rattle.serial_model.specs.History.{stream, taken, unsent, runs_of, IsLegal}
 use Rattle.serial_model.specs.Each.{AllIn, AllRows, AllTo}
 use Rattle.serial_model.proofs.Tables.{all_rows, all_to, without_keys_all, kept_all}
 use Rattle.serial_model.proofs.Tables.{ids_all, without_signalled_all, signal_group_all}
@@ -29,9 +28,7 @@ use Rattle.serial_model.proofs.Tables.{dropped_all, to_append, group_all, drop_g
 use Rattle.serial_model.proofs.Tables.{remembering_all, freed_all, sent_to-append, routed_none}
 
 both_true : (a b : Bool) → (a && not b) ≡ true → (a ≡ true) × (b ≡ false)
-both_true true true h = absurd (let no : ⊥ = cc in no)
-both_true true false h = (refl, refl)
-both_true false b h = absurd (let no : ⊥ = cc in no)
+both_true a b h = grind arith
 
 pub admitted_id : (past : List Entry) (id : ℕ) → is_admitted past id ≡ true
     → (0 < id) × (id ≤ admitted past)
@@ -75,11 +72,7 @@ module _ (l : Limits) where
   close_live : (past : List Entry) (id h : ℕ) → IsLive past h × ((h == id) ≡ false)
       → IsLive (Close id ∷ past) h
   unfolding IsLive
-  close_live past id h x = (
-    x.0.0,
-    ap (λ b. cond b true (has_ended l h past))
-        (let other : (id == h) ≡ false = grind (arith, nat_tests) in other) ∙ x.0.1,
-  )
+  close_live past id h x = grind arith
 
   run_live : (past : List Entry) (id : ℕ) (words : List (List ℕ)) (moment : ℕ) (rows : List Held)
       → AllRows (IsLive past) rows → AllRows (IsLive (Run id words moment ∷ past)) rows
@@ -119,12 +112,7 @@ module _ (l : Limits) where
   tracking_live : (past : List Entry) (id : ℕ) (words : List (List ℕ)) (moment : ℕ)
       → AllIn (IsLive past) (tracking l (Run id words moment ∷ past))
   unfolding IsLive
-  tracking_live past id words moment =
-      ids_all (IsLive past) (is_tracking l (Run id words moment ∷ past)) (admitted past)
-      (λ h some le e. (
-        grind (arith, nat_tests),
-        (both_true (mode l h (Run id words moment ∷ past)).tracking (has_ended l h past) e).1,
-      ))
+  tracking_live past id words moment = grind (arith, ids_all, nat_tests, both_true)
 
   -- the groups of a Run behind its reply
   abbrev pub behind : List Entry → ℕ → List (List ℕ) → ℕ → List Invalidation
@@ -140,16 +128,8 @@ module _ (l : Limits) where
       → IsLegal l past → runs_on l past id ≡ true
       → AllTo (IsLive past) (behind past id words moment)
   behind_live past id words moment h on =
-      let a = table_live past h in
-      to_append (IsLive past) (own_group l past id words moment)
-      (drop_group (drops l past id words moment))
-      (signal_group_all (IsLive past) (signals l past id words moment)
-      (tracking l (Run id words moment ∷ past)) (table_then l past moment)
-      (tracking_live past id words moment)
-      (without_keys_all (IsLive past) (expired l past moment) (table l past) a))
-      (drop_group_all (IsLive past) (drops l past id words moment)
-      (dropped_all (IsLive past) l.table_max (table_grown l past id words moment)
-      (grown_live past id words moment on a)))
+      grind (arith, table_live, to_append, signal_group_all, tracking_live, without_keys_all,
+      drop_group_all, dropped_all, grown_live)
 
   -- a Run sends nothing to another that none of its groups is for
   run_none : (n c : ℕ) (past : List Entry) (id : ℕ) (words : List (List ℕ)) (moment : ℕ)
@@ -231,9 +211,7 @@ module _ (l : Limits) where
 
   pub unsent_fresh : (past : List Entry) (c : ℕ) → IsLegal l past → admitted past < c
       → unsent l c past ≡ []
-  unsent_fresh past c h lt =
-      unsent_live past c (ended_fresh past c h lt)
-      ∙ ap (drop (taken l c past)) (stream_fresh past c h lt) ∙ drop-nil (taken l c past)
+  unsent_fresh past c h lt = grind (arith, unsent_live, ended_fresh, stream_fresh, drop-nil)
 
   pub runs_fresh : (past : List Entry) (c : ℕ) → IsLegal l past → admitted past < c
       → runs_of c past ≡ []
@@ -252,9 +230,7 @@ module _ (l : Limits) where
       → stream l c (entry ∷ past) ≡ stream l c past
       ++ sent_bytes (sent_to (length past + 1) c (sends l entry past))
   unfolding stream
-  stream_more past c entry =
-      flat_map-append (λ s. sending_bytes s.1) (sent l c past)
-      (sent_to (length past + 1) c (sends l entry past))
+  stream_more past c entry = grind (arith, flat_map-append)
 
   -- an entry that sends nothing to a connection leaves its stream
   stream_same : (past : List Entry) (c : ℕ) (entry : Entry)
@@ -272,13 +248,7 @@ module _ (l : Limits) where
 
   -- an end has no bytes
   pub stream_close : (past : List Entry) (c id : ℕ) → stream l c (Close id ∷ past) ≡ stream l c past
-  stream_close past c id =
-      stream_same past c (Close id)
-      (elim (id == c) as (λ b. sent_bytes (cond b ((length past + 1, End) ∷ []) []) ≡ []) [
-        | true ↦
-            refl
-        | false ↦ refl
-      ])
+  stream_close past c id = grind (arith, stream_same)
 
   -- the bytes that a Run sends to a connection
   abbrev pub run_bytes : List Entry → ℕ → List (List ℕ) → ℕ → ℕ → List ℕ
@@ -324,11 +294,7 @@ module _ (l : Limits) where
       → stream l c (entry ∷ past) ≡ stream l c past ++ bytes
       → unsent l c (entry ∷ past) ≡ unsent l c past ++ bytes
   unsent_more past c entry bytes live ended took grew =
-      unsent_live (entry ∷ past) c (ended ∙ live)
-      ∙ ap (λ n. drop n (stream l c (entry ∷ past))) took
-      ∙ ap (drop (taken l c past)) grew
-      ∙ drop-append-le (taken l c past) (stream l c past) bytes (taken_le past c)
-      ∙ ap (λ x. x ++ bytes) (sym (unsent_live past c live))
+      grind (arith, live, unsent_live, drop-append-le, taken_le)
 
   -- an entry that leaves a connection's stream, what it took and its end leaves what is unsent
   unsent_same : (past : List Entry) (c : ℕ) (entry : Entry)
@@ -336,10 +302,7 @@ module _ (l : Limits) where
       → taken l c (entry ∷ past) ≡ taken l c past → stream l c (entry ∷ past) ≡ stream l c past
       → unsent l c (entry ∷ past) ≡ unsent l c past
   unfolding unsent
-  unsent_same past c entry ended took same =
-      ap (λ b. cond b [] (drop (taken l c (entry ∷ past)) (stream l c (entry ∷ past)))) ended
-      ∙ ap (λ n. cond (has_ended l c past) [] (drop n (stream l c (entry ∷ past)))) took
-      ∙ ap (λ s. cond (has_ended l c past) [] (drop (taken l c past) s)) same
+  unsent_same past c entry ended took same = grind arith
 
   pub unsent_admit : (past : List Entry) (c id : ℕ) → unsent l c (Admit id ∷ past) ≡ unsent l c past
   unsent_admit past c id = unsent_same past c (Admit id) refl refl (stream_admit past c id)
@@ -348,25 +311,18 @@ module _ (l : Limits) where
       → has_ended l c past ≡ false
       → unsent l c (Run id words moment ∷ past)
       ≡ unsent l c past ++ run_bytes past id words moment c
-  unsent_run past c id moment words live =
-      unsent_more past c (Run id words moment) (run_bytes past id words moment c) live refl refl
-      (stream_more past c (Run id words moment))
+  unsent_run past c id moment words live = grind (arith, live, unsent_more, stream_more)
 
   pub unsent_tick : (past : List Entry) (c moment : ℕ) → has_ended l c past ≡ false
       → unsent l c (Tick moment ∷ past) ≡ unsent l c past ++ tick_bytes past moment c
-  unsent_tick past c moment live =
-      unsent_more past c (Tick moment) (tick_bytes past moment c) live refl refl
-      (stream_more past c (Tick moment))
+  unsent_tick past c moment live = grind (arith, live, unsent_more, stream_more)
 
   pub unsent_ended : (past : List Entry) (c : ℕ) → has_ended l c past ≡ true → unsent l c past ≡ []
   unfolding unsent
   unsent_ended past c h = ap (λ b. cond b [] (drop (taken l c past) (stream l c past))) h
 
   drop_min : (m : ℕ) (q : List ℕ) → drop (min m (length q)) q ≡ drop m q
-  drop_min m q = elim (cases_lt (length q) m) [
-    | inl h ↦ drop_all (min m (length q)) q (omega arith) ∙ sym (drop_all m q (omega arith))
-    | inr h ↦ ap (λ k. drop k q) (omega arith)
-  ]
+  drop_min m q = grind (arith, cases_lt, drop_all)
 
   drop_taken : (past : List Entry) (c id m : ℕ) → (id == c) ≡ true
       → drop (taken l c (Take id m ∷ past)) (stream l c past)
@@ -383,17 +339,12 @@ module _ (l : Limits) where
   pub unsent_take_own : (past : List Entry) (c id m : ℕ) → has_ended l c past ≡ false
       → (id == c) ≡ true
       → unsent l c (Take id m ∷ past) ≡ drop m (unsent l c past)
-  unsent_take_own past c id m live h =
-      unsent_live (Take id m ∷ past) c live
-      ∙ ap (drop (taken l c (Take id m ∷ past))) (stream_take past c id m)
-      ∙ drop_taken past c id m h ∙ ap (drop m) (sym (unsent_live past c live))
+  unsent_take_own past c id m live h = grind (arith, live, unsent_live, stream_take, drop_taken)
 
   -- another's Take leaves how much was taken
   pub taken_other : (past : List Entry) (c id m : ℕ) → (id == c) ≡ false
       → taken l c (Take id m ∷ past) ≡ taken l c past
-  taken_other past c id m h =
-      ap (λ b. cond b (taken l c past + min m (length (stream l c past) - taken l c past))
-      (taken l c past)) h
+  taken_other past c id m h = grind arith
 
   -- another's Close is no end
   pub ended_other : (past : List Entry) (c id : ℕ) → (id == c) ≡ false
@@ -408,9 +359,7 @@ module _ (l : Limits) where
   pub unsent_close_own : (past : List Entry) (c id : ℕ) → (id == c) ≡ true
       → unsent l c (Close id ∷ past) ≡ []
   unfolding unsent
-  unsent_close_own past c id h =
-      ap (λ b. cond (cond b true (has_ended l c past)) []
-      (drop (taken l c past) (stream l c (Close id ∷ past)))) h
+  unsent_close_own past c id h = grind arith
 
   pub unsent_close_other : (past : List Entry) (c id : ℕ) → (id == c) ≡ false
       → unsent l c (Close id ∷ past) ≡ unsent l c past

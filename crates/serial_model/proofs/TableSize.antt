@@ -6,7 +6,7 @@ use Prim.Native.Nat.{suc}
 use Rattle.std.specs.Str.{bytes_eq}
 use Rattle.std.proofs.lemmas.List.{length-drop}
 use Rattle.track_table.specs.declared.table.Held.{Held}
-use Rattle.track_table.specs.Table.{is_held, without_key, freed_of, without_connection, kept}
+use Rattle.track_table.specs.Table.{without_key, freed_of, without_connection, kept}
 use Rattle.serial_model.specs.declared.history.Limits.{Limits}
 use Rattle.serial_model.specs.declared.history.Entry.{Entry}
 use Rattle.serial_model.specs.declared.history.Entry.TheVariants.{Admit, Run, Tick, Take, Close}
@@ -29,9 +29,7 @@ length_freed id (r ∷ rs) = ap suc (length_freed id rs)
 
 pub without_within : (id : ℕ) (rows : List Held)
     → length (without_connection id rows) ≤ length rows
-without_within id rows =
-    let f = filter_within is_held (map (freed_of id) rows) in
-    let e = length_freed id rows in omega arith
+without_within id rows = grind (arith, filter_within, map, length_freed)
 
 pub without_keys_within : (keys : List (List ℕ)) (rows : List Held)
     → length (without_keys keys rows) ≤ length rows
@@ -63,6 +61,4 @@ module _ (l : Limits) where
 
   pub table_then_within : (past : List Entry) (m : ℕ)
       → length (table_then l past m) ≤ l.table_max
-  table_then_within past m =
-      let w = table_within past in
-      let f = without_keys_within (expired l past m) (table l past) in omega arith
+  table_then_within past m = grind (arith, table_within, without_keys_within)

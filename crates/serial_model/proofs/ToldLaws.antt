@@ -1,6 +1,6 @@
 -- Whom an entry tells of a key, and what it leaves of who is to be told.
 use Rattle.std.proofs.Common.{◌≡◌, ◌≤◌, ◌-◌, ℕ, List, [], ◌∷◌, Bool, true, false, cond}
-use Rattle.std.proofs.Common.{length, take, drop, Result, Ok, Err, refl, ap, sym, subst, ◌∙◌, arith}
+use Rattle.std.proofs.Common.{length, take, drop, Result, refl, ap, subst, ◌∙◌, arith}
 use Rattle.std.proofs.Common.{inl, inr, append_assoc}
 use Rattle.std.specs.Prelude.{◌==◌, ◌&&◌, ◌||◌, ◌++◌, not}
 use Rattle.std.proofs.lemmas.Bool.{eqb-true, or_parts}
@@ -13,17 +13,17 @@ use Rattle.command_words.specs.declared.command.WordFault.{WordFault}
 use Rattle.command_words.specs.Laws as laws
 use Rattle.command_words.specs.declared.command.Signalled.TheVariants.{All}
 use Rattle.command_words.specs.Words.{reading}
-use Rattle.command_words.specs.Queries.{reads_as_cacheable, key_of, read}
+use Rattle.command_words.specs.Queries.{reads_as_cacheable, key_of}
 use Rattle.track_table.specs.declared.table.Held.{Held}
 use Rattle.track_table.specs.Table.{holders_of, without_connection, dropped}
 use Rattle.serial_model.specs.declared.mode.Mode.{Mode}
 use Rattle.serial_model.specs.declared.history.Limits.{Limits}
 use Rattle.serial_model.specs.declared.history.Entry.{Entry}
 use Rattle.serial_model.specs.declared.history.Entry.TheVariants.{Admit, Run, Tick, Take, Close}
-use Rattle.serial_model.specs.Modes.{Memory, Remembers, Forgets, OwnEffect, own_effect}
+use Rattle.serial_model.specs.Modes.{Memory, Remembers, own_effect}
 use Rattle.serial_model.specs.Modes.{remembers_read}
 use Rattle.serial_model.specs.Tracking.{without_signalled, remembering, drop_group, tells}
-use Rattle.serial_model.specs.History.{made_of, made, served, admitted, is_admitted}
+use Rattle.serial_model.specs.History.{made_of, made, served, is_admitted}
 use Rattle.serial_model.specs.History.{mode, has_ended, table, signals, IsLegal, is_tracking}
 use Rattle.serial_model.specs.History.{tracking, expired, table_then, table_grown, own_group}
 use Rattle.serial_model.specs.History.{expiry_group, drops}
@@ -36,7 +36,7 @@ use Rattle.serial_model.proofs.TableSize.{without_within, table_then_within}
 use Rattle.serial_model.proofs.TableSize.{without_signalled_within}
 use Rattle.serial_model.specs.Each.{AllIn, AllRows}
 use Rattle.serial_model.proofs.Streams.{IsLive, not_ended, table_live, admitted_id}
-use Rattle.serial_model.proofs.ServedRows.{served_is, data_own, query_data}
+use Rattle.serial_model.proofs.ServedRows.{served_is}
 use Rattle.serial_model.proofs.ModeSteps.{mode_other, mode_own}
 use Rattle.serial_model.proofs.Trackers.{Tracks, table_tracks, flush_keeps}
 use Rattle.command_words.proofs.Readings.{keys_read, reads_its_key}
@@ -49,33 +49,15 @@ module _ (c : ℕ) (key : List ℕ) where
       → holds c (holders_of key rows) ≡ true → length rows ≤ limit
       → list_any (λ r. bytes_eq key r.key) (dropped limit (remembering id memory rows)) ≡ true
       → list_any (tells c key) (drop_group (dropped limit (remembering id memory rows))) ≡ true
-  drop_due id (Remembers keys) limit rows h within some =
-      let grown = remembering id (Remembers keys) rows in
-      drop_tells c key (length grown - limit) grown
-      (remembering_keeps c key id (Remembers keys) rows (never (id == c)) h) some
-    where
-      never : (b : Bool) → (b && false) ≡ false
-      never true = refl
-      never false = refl
-  drop_due id Forgets limit rows h within some =
-      let f = without_within id rows in
-      let z : length (without_connection id rows) - limit ≡ 0 = omega arith in
-      absurd (both_ways
-      (list_any (λ r. bytes_eq key r.key) (dropped limit (without_connection id rows)))
-      (ap (λ n. list_any (λ r. bytes_eq key r.key) (take n (without_connection id rows))) z) some)
+  drop_due id memory limit rows h within some =
+      grind (arith, drop_tells, remembering_keeps, without_within, both_ways)
 
   -- a key that the connection remembers is dropped and told of, or stays remembered
   kept_or_told : (n : ℕ) (rows : List Held) → holds c (holders_of key rows) ≡ true
       → (holds c (holders_of key (drop n rows))
       || list_any (tells c key) (drop_group (take n rows))) ≡ true
   kept_or_told n rows h =
-      let stays = holds c (holders_of key (drop n rows)) in
-      let told = list_any (tells c key) (drop_group (take n rows)) in
-      elim (or_cases (list_any (λ r. bytes_eq key r.key) (take n rows)) stays
-      (dropped_or_kept c key n rows h)) [
-        | inl e ↦ or_right stays told (drop_tells c key n rows h e)
-        | inr e ↦ or_left stays told e
-      ]
+      grind (arith, holds, or_cases, dropped_or_kept, or_right, drop_tells, or_left)
 
 -- ---- a connection that is told of a key gets its message
 
@@ -115,22 +97,12 @@ module _ (l : Limits) (past : List Entry) (c : ℕ) (key : List ℕ) (legal : Is
   still_tracks : (id moment : ℕ) (words : List (List ℕ)) → signals l past id words moment ≡ All
       → is_tracking l (Run id words moment ∷ past) c ≡ true
   still_tracks id moment words all =
-      and_from (mode l c (Run id words moment ∷ past)).tracking (not (has_ended l c past))
-      (ap (λ (m : Mode). m.tracking) (elim (id == c) as (λ b. (id == c) ≡ b
-      → mode l c (Run id words moment ∷ past) ≡ mode l c past) [
-        | true ↦ λ e.
-            mode_own l c id moment words past e
-            ∙ subst (λ i. (made l past i words).mode ≡ mode l i past) (eqb-true id c e)
-            (flush_keeps l past id moment words all)
-        | false ↦ λ e. mode_other l c id moment words past e
-      ] refl) ∙ did_track) parts.0
+      grind (arith, and_from, mode_own, eqb-true, flush_keeps, mode_other, did_track)
 
   among_tracking : (id moment : ℕ) (words : List (List ℕ)) → signals l past id words moment ≡ All
       → holds c (tracking l (Run id words moment ∷ past)) ≡ true
   among_tracking id moment words all =
-      let i = admitted_id past c was_admitted in
-      among_ids c (is_tracking l (Run id words moment ∷ past)) (admitted past) i.0 i.1
-      (still_tracks id moment words all)
+      grind (arith, admitted_id, was_admitted, among_ids, still_tracks)
 
 -- whom a Run tells, group by group
 three_groups : (l : Limits) (past : List Entry) (c : ℕ) (key : List ℕ) (id : ℕ)
@@ -140,14 +112,7 @@ three_groups : (l : Limits) (past : List Entry) (c : ℕ) (key : List ℕ) (id :
     ≡ (list_any (tells c key) (expiry_group l past m)
     || (list_any (tells c key) (own_group l past id words m)
     || list_any (tells c key) (drop_group (drops l past id words m))))
-three_groups l past c key id words m =
-    ap (list_any (tells c key)) (append_assoc (expiry_group l past m) (own_group l past id words m)
-    (drop_group (drops l past id words m)))
-    ∙ list_any-append (tells c key) (expiry_group l past m)
-    (own_group l past id words m ++ drop_group (drops l past id words m))
-    ∙ ap (λ b. list_any (tells c key) (expiry_group l past m) || b)
-    (list_any-append (tells c key) (own_group l past id words m)
-    (drop_group (drops l past id words m)))
+three_groups l past c key id words m = grind (arith, append_assoc, list_any-append)
 
 pub told_is_due : ToldIsDue
 told_is_due l (Admit id) past c key legal told h = absurd (let no : ⊥ = cc in no)
@@ -196,10 +161,7 @@ told_is_due l (Close id) past c key legal told h = absurd (let no : ⊥ = cc in 
 -- a cacheable query is remembered by what it reads
 query_remembers : (r : Result Command WordFault) (now : Mode) → reads_as_cacheable r ≡ true
     → remembers_read now ≡ true → (own_effect r now).memory ≡ Remembers (keys_read r)
-query_remembers (Ok c) now h tracks =
-    ap (λ (o : OwnEffect). o.memory) (data_own c now (query_data c h))
-    ∙ ap (λ b. Remembers (cond b (read c) [])) tracks
-query_remembers (Err fault) now h tracks = absurd (let no : ⊥ = cc in no)
+query_remembers r now h tracks = grind arith
 
 read_remembers : (l : Limits) (past : List Entry) (c : ℕ) (words : List (List ℕ)) (key : List ℕ)
     → reads_as_cacheable (served (reading words)) ≡ true
@@ -207,20 +169,11 @@ read_remembers : (l : Limits) (past : List Entry) (c : ℕ) (words : List (List 
     → (made l past c words).memory ≡ Remembers (key ∷ [])
 unfolding made_of
 read_remembers l past c words key cacheable tracks is =
-    let same = served_is (reading words) cacheable in
-    query_remembers (served (reading words)) (mode l c past) cacheable tracks
-    ∙ ap (λ r. Remembers (keys_read r)) same
-    ∙ ap Remembers (reads_its_key words (sym (ap reads_as_cacheable same) ∙ cacheable))
-    ∙ ap (λ k. Remembers (k ∷ [])) is
+    grind (arith, served_is, query_remembers, keys_read, reads_its_key)
 
 owed : (ended stays first own last : Bool) → ended ≡ false → (stays || last) ≡ true
     → (((not ended && stays) || (first || (own || last))) || ended) ≡ true
-owed true stays first own last live h = absurd (let no : ⊥ = cc in no)
-owed false true first own last live h = refl
-owed false false true own last live h = refl
-owed false false false true last live h = refl
-owed false false false false true live h = refl
-owed false false false false false live h = absurd (let no : ⊥ = cc in no)
+owed ended stays first own last live h = grind arith
 
 pub read_is_owed_or_told : ReadIsOwedOrTold
 read_is_owed_or_told l c m words past key legal cacheable tracks is =
@@ -244,10 +197,7 @@ read_is_owed_or_told l c m words past key legal cacheable tracks is =
 cause : (signalled dropped stops ended : Bool)
     → (signalled ≡ false → dropped ≡ false → stops ≡ false → ⊥)
     → (((signalled || dropped) || stops) || ended) ≡ true
-cause true dropped stops ended none = refl
-cause false true stops ended none = refl
-cause false false true ended none = refl
-cause false false false ended none = absurd (none refl refl refl)
+cause signalled dropped stops ended none = grind arith
 
 stays_told : (dropped stays : Bool) → dropped ≡ false → (dropped || stays) ≡ true → stays ≡ true
 stays_told true stays e h = absurd (let no : ⊥ = cc in no)

@@ -1,7 +1,7 @@
 -- What one turn, and then any list of turns, does to what was given and to what ran.
 use Rattle.std.proofs.Common.{◌≡◌, ◌+◌, ◌-◌, ℕ, List, [], ◌∷◌, ◌++◌, length, take, drop, min, max}
 use Rattle.std.proofs.Common.{sym, ap, subst, ◌∙◌, refl, arith, true, false, cond, append-nil}
-use Rattle.std.proofs.Common.{append_assoc, inl, inr}
+use Rattle.std.proofs.Common.{append_assoc}
 use Rattle.std.specs.Prelude.{◌==◌, ◌↔◌, ◌<◌}
 use Prim.Native.Nat.{zero, suc}
 use Rattle.std.proofs.lemmas.List.{take-append-le, length-drop}
@@ -15,14 +15,14 @@ use Rattle.serial_model.specs.declared.history.BookCall.{BookCall}
 use Rattle.serial_model.specs.declared.history.BookCall.TheVariants.{Admit, Run, Tick, Take}
 use Rattle.serial_model.specs.declared.history.BookCall.TheVariants.{Close}
 use Rattle.serial_model.specs.declared.history.BookReply.{BookReply}
-use Rattle.serial_model.specs.declared.history.BookReply.TheVariants.{Admitted, Ran, Ticked, Quiet}
-use Rattle.serial_model.specs.declared.history.BookReply.TheVariants.{Bytes, Closed, Refused}
-use Rattle.serial_model.specs.declared.history.BookRefusal.TheVariants.{Gone, HistoryFull, NoMemory}
+use Rattle.serial_model.specs.declared.history.BookReply.TheVariants.{Ticked}
+use Rattle.serial_model.specs.declared.history.BookReply.TheVariants.{Bytes, Refused}
+use Rattle.serial_model.specs.declared.history.BookRefusal.TheVariants.{NoMemory}
 use Rattle.serial_model.specs.History.{admitted, runs_on, reads_on, gives_on, has_ended, latest}
 use Rattle.serial_model.specs.History.{stream}
 use Rattle.serial_model.specs.History.{taken, unsent, runs_of, is_full, IsLegal}
-use Rattle.serial_model.specs.Steps.{Turn, taking, gone, full, unless_full, admitting, running}
-use Rattle.serial_model.specs.Steps.{closing, ticking}
+use Rattle.serial_model.specs.Steps.{Turn, gone, full, admitting, running}
+use Rattle.serial_model.specs.Steps.{closing}
 use Rattle.serial_model.specs.History.{expired}
 use Rattle.serial_model.specs.Steps.{book_step, BookStep, Turns, given_by, given, ran_by, answered}
 use Rattle.serial_model.specs.Laws.{IsAdded}
@@ -35,20 +35,7 @@ module _ (l : Limits) where
       (reply : BookReply)
       → P (book_step l past call).reply (book_step l past call).past → P (Refused NoMemory) past
       → BookStep l past call reply new → P reply new
-  by_step P past new call (Admitted e id) does none h =
-      subst (λ (t : Turn). P t.reply t.past) h does
-  by_step P past new call (Ticked e) does none h = subst (λ (t : Turn). P t.reply t.past) h does
-  by_step P past new call (Ran e) does none h = subst (λ (t : Turn). P t.reply t.past) h does
-  by_step P past new call Quiet does none h = subst (λ (t : Turn). P t.reply t.past) h does
-  by_step P past new call (Bytes e bytes) does none h =
-      subst (λ (t : Turn). P t.reply t.past) h does
-  by_step P past new call (Refused (Gone id)) does none h =
-      subst (λ (t : Turn). P t.reply t.past) h does
-  by_step P past new call (Refused (HistoryFull n)) does none h =
-      subst (λ (t : Turn). P t.reply t.past) h does
-  by_step P past new call (Closed e) does none h = subst (λ (t : Turn). P t.reply t.past) h does
-  by_step P past new call (Refused NoMemory) does none h =
-      subst (P (Refused NoMemory)) (sym h.0) none
+  by_step P past new call reply does none h = grind arith
 
   -- ---- what was given
 
@@ -63,17 +50,10 @@ module _ (l : Limits) where
   first_same : (c : ℕ) (past : List Entry) (e : Entry) → taken l c (e ∷ past) ≡ taken l c past
       → first c past ++ [] ≡ first c (e ∷ past)
   unfolding first
-  first_same c past e took =
-      append-nil (first c past)
-      ∙ sym (ap (λ n. take n (stream l c (e ∷ past))) took
-      ∙ ap (take (taken l c past)) (stream_more l past c e)
-      ∙ take-append-le (taken l c past) (stream l c past) _ (taken_le l past c))
+  first_same c past e took = grind (arith, append-nil, first, stream_more, take-append-le, taken_le)
 
   take_min : (m : ℕ) (q : List ℕ) → take (min m (length q)) q ≡ take m q
-  take_min m q = elim (cases_lt (length q) m) [
-    | inl h ↦ take_all (min m (length q)) q (omega arith) ∙ sym (take_all m q (omega arith))
-    | inr h ↦ ap (λ k. take k q) (omega arith)
-  ]
+  take_min m q = grind (arith, cases_lt, take_all)
 
   first_take : (c id most : ℕ) (past : List Entry) (bytes : List ℕ) → has_ended l id past ≡ false
       → take most (unsent l id past) ≡ bytes
@@ -128,11 +108,7 @@ module _ (l : Limits) where
   -- where memory ran out nothing was given, and nothing ran
   none_given : (c : ℕ) (past : List Entry) (call : BookCall)
       → first c past ++ given_by c call (Refused NoMemory) ≡ first c past
-  none_given c past Admit = append-nil _
-  none_given c past (Run id words now) = append-nil _
-  none_given c past (Tick now) = append-nil _
-  none_given c past (Take id most) = append-nil _
-  none_given c past (Close id) = append-nil _
+  none_given c past call = grind (arith, append-nil)
 
   turns_give : (c : ℕ) (calls : List BookCall) (replies : List BookReply) (old new : List Entry)
       → Turns l old calls replies new
@@ -185,11 +161,7 @@ module _ (l : Limits) where
 
   none_ran : (c : ℕ) (past : List Entry) (call : BookCall)
       → runs_of c past ++ ran_by c call (Refused NoMemory) ≡ runs_of c past
-  none_ran c past Admit = append-nil _
-  none_ran c past (Run id words now) = append-nil _
-  none_ran c past (Tick now) = append-nil _
-  none_ran c past (Take id most) = append-nil _
-  none_ran c past (Close id) = append-nil _
+  none_ran c past call = grind (arith, append-nil)
 
   turns_run : (c : ℕ) (calls : List BookCall) (replies : List BookReply) (old new : List Entry)
       → Turns l old calls replies new
@@ -238,17 +210,13 @@ module _ (l : Limits) where
       → is_full l past ≡ false
       → book_step l past (Run id words now) ≡ running past id words now
   unfolding book_step
-  run_step past id now words on room =
-      ap (λ v. cond v (unless_full l past (running past id words now)) (gone past id)) on
-      ∙ ap (λ v. cond v (full past) (running past id words now)) room
+  run_step past id now words on room = grind arith
 
   pub run_full : (past : List Entry) (id now : ℕ) (words : List (List ℕ)) → runs_on l past id ≡ true
       → is_full l past ≡ true
       → book_step l past (Run id words now) ≡ full past
   unfolding book_step
-  run_full past id now words on none =
-      ap (λ v. cond v (unless_full l past (running past id words now)) (gone past id)) on
-      ∙ ap (λ v. cond v (full past) (running past id words now)) none
+  run_full past id now words on none = grind arith
 
   pub tick_step : (past : List Entry) (now : ℕ) (key : List ℕ) (keys : List (List ℕ))
       → expired l past (max now (latest past)) ≡ key ∷ keys → is_full l past ≡ false
@@ -258,13 +226,7 @@ module _ (l : Limits) where
         past = entry.Tick (max now (latest past)) ∷ past;
       }
   unfolding book_step
-  tick_step past now key keys e room =
-      ap (ticking l past (max now (latest past))) e
-      ∙ ap (λ v. cond v (full past)
-      (record {
-        reply = Ticked (length past + 1);
-        past = entry.Tick (max now (latest past)) ∷ past;
-      })) room
+  tick_step past now key keys e room = grind arith
 
   pub take_step : (past : List Entry) (id most b : ℕ) (bytes : List ℕ) → gives_on l past id ≡ true
       → is_full l past ≡ false
@@ -272,14 +234,7 @@ module _ (l : Limits) where
       → book_step l past (Take id most)
       ≡ record { reply = Bytes (length past + 1) (b ∷ bytes); past = entry.Take id most ∷ past }
   unfolding book_step
-  take_step past id most b bytes on room e =
-      ap (λ v. cond v (taking l past id most (take most (unsent l id past))) (gone past id)) on
-      ∙ ap (taking l past id most) e
-      ∙ ap (λ v. cond v (full past)
-      (record {
-        reply = Bytes (length past + 1) (b ∷ bytes);
-        past = entry.Take id most ∷ past;
-      })) room
+  take_step past id most b bytes on room e = grind arith
 
   pub close_step : (past : List Entry) (id : ℕ) → reads_on l past id ≡ true
       → book_step l past (Close id) ≡ closing past id
@@ -296,9 +251,7 @@ module _ (l : Limits) where
       → take most (unsent l id past) ≡ bytes → (bytes ≡ [] → ⊥)
       → gives_on l past id ≡ true → is_full l past ≡ false
       → (book_step l past (Take id most)).past ≡ entry.Take id most ∷ past
-  take_added past id most [] e some on room = absurd (some refl)
-  take_added past id most (b ∷ bytes) e some on room =
-      ap (λ (t : Turn). t.past) (take_step past id most b bytes on room e)
+  take_added past id most bytes e some on room = grind (arith, take_step)
 
   tick_added : (past : List Entry) (now : ℕ) (keys : List (List ℕ))
       → expired l past (max now (latest past)) ≡ keys → (keys ≡ [] → ⊥)

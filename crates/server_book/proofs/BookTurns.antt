@@ -16,8 +16,8 @@ use Rattle.serial_model.specs.declared.history.Entry.TheVariants as entry
 use Rattle.serial_model.specs.declared.history.BookCall.{BookCall}
 use Rattle.serial_model.specs.declared.history.BookCall.TheVariants.{Admit, Run, Take, Close}
 use Rattle.serial_model.specs.declared.history.BookReply.{BookReply}
-use Rattle.serial_model.specs.declared.history.BookReply.TheVariants.{Admitted, Ran, Ticked, Quiet}
-use Rattle.serial_model.specs.declared.history.BookReply.TheVariants.{Bytes, Closed, Refused}
+use Rattle.serial_model.specs.declared.history.BookReply.TheVariants.{Admitted, Ran}
+use Rattle.serial_model.specs.declared.history.BookReply.TheVariants.{Bytes, Closed}
 use Rattle.serial_model.specs.declared.history.Post.{Post}
 use Rattle.serial_model.specs.declared.history.Posted.TheVariants.{End}
 use Rattle.serial_model.specs.History.{admitted, runs_on, gives_on, reads_on, has_ended, latest}
@@ -41,7 +41,6 @@ use Rattle.track_table.specs.Table.{TableState}
 use Rattle.serial_model.proofs.Tables.{all_rows}
 use Rattle.serial_model.proofs.TableSize.{table_within}
 use Rattle.serial_model.proofs.Streams.{IsLive, table_live}
-use Rattle.std.proofs.lemmas.Bool.Decides.{nat_tests}
 use Rattle.server_book.specs.BookState.{BookState, IsTurn, Agrees, HasRoom}
 use Rattle.server_book.specs.BookState.{connection_of}
 
@@ -155,10 +154,7 @@ module _ (l : Limits) (past : List Entry) (space : Space) (keys : TableState)
   -- one that is admitted and has not ended is there
   pub there_live : (h : ℕ) → IsLive l past h → IsId cs h
   unfolding IsLive
-  there_live h live =
-      let some : 0 < h = grind (arith, nat_tests) in
-      let below : h ≤ admitted past = grind (arith, nat_tests) in
-      (some, omega (arith, below, k.count))
+  there_live h live = grind arith
 
   pub is_held : IsHeld keys.limit keys.rows cs
   is_held = subst (λ (t : TableState). IsHeld t.limit t.rows cs) (sym k.table_is) (record {
@@ -223,18 +219,7 @@ added : (l : Limits) (past : List Entry) (posts sent : List Post) (e : Entry) (c
     → book_step l past call ≡ record { reply = reply; past = e ∷ past } → sent ≡ posted l (e ∷ past)
     → IsTurn (record { limits = l; past = past; posts = posts }) call reply
     (record { limits = l; past = e ∷ past; posts = sent })
-added l past posts sent e call (Admitted n id) adds step is =
-    record { limits = refl; step = step; posts = is }
-added l past posts sent e call (Ran n) adds step is =
-    record { limits = refl; step = step; posts = is }
-added l past posts sent e call (Ticked n) adds step is =
-    record { limits = refl; step = step; posts = is }
-added l past posts sent e call Quiet adds step is = absurd adds
-added l past posts sent e call (Bytes n bytes) adds step is =
-    record { limits = refl; step = step; posts = is }
-added l past posts sent e call (Closed n) adds step is =
-    record { limits = refl; step = step; posts = is }
-added l past posts sent e call (Refused r) adds step is = absurd adds
+added l past posts sent e call reply adds step is = grind arith
 
 -- a turn is the step, where it added the step's entry and sent its posts
 pub is_turn : (old : BookState) (l : Limits) (past new : List Entry) (posts sent : List Post)
@@ -243,11 +228,7 @@ pub is_turn : (old : BookState) (l : Limits) (past new : List Entry) (posts sent
     → AddsEntry reply → new ≡ e ∷ past
     → book_step l past call ≡ record { reply = reply; past = e ∷ past } → sent ≡ posted l (e ∷ past)
     → IsTurn old call reply (record { limits = l; past = new; posts = sent })
-is_turn old l past new posts sent e call reply view adds grown step posted_is =
-    subst (λ b. IsTurn b call reply (record { limits = l; past = new; posts = sent })) view
-    (subst (λ p. IsTurn (record { limits = l; past = past; posts = posts }) call reply
-    (record { limits = l; past = p; posts = sent })) (sym grown)
-    (added l past posts sent e call reply adds step posted_is))
+is_turn old l past new posts sent e call reply view adds grown step posted_is = grind arith
 
 -- the newest entry is that of the step
 pub admit_turned : (l : Limits) (past : List Entry) (n id : ℕ) → is_full l past ≡ false

@@ -121,8 +121,7 @@ module _ (tracking : Bool) (c : Command) (space : Space) (moment : ℕ)
   deed_signals (Keys []) =
       elim tracking as (λ b. signals_of (cond b (Remember reads) Nothing) ≡ Keys [])
       [ true ↦ refl | false ↦ refl ]
-  deed_signals (Keys (key ∷ keys)) = refl
-  deed_signals All = refl
+  deed_signals sig = refl
 
   reads_none : (does.signalled ≡ Keys [] → ⊥) → read c ≡ []
   unfolding does
@@ -146,9 +145,7 @@ module _ (tracking : Bool) (c : Command) (space : Space) (moment : ℕ)
         | true ↦ λ e. ap Remembers e
         | false ↦ λ e. refl
       ] reads_is
-  deed_memory (Keys (key ∷ keys)) is =
-      no_reads (reads_none (λ none. let no : ⊥ = cc in no))
-  deed_memory All is = no_reads (reads_none (λ none. let no : ⊥ = cc in no))
+  deed_memory sig is = no_reads (reads_none (λ none. let no : ⊥ = cc in no))
 
   deed_sound : (sig : Signalled) → does.signalled ≡ sig → IsSound (deed_for tracking reads sig)
   unfolding does

@@ -1,8 +1,7 @@
 -- The answers to calls that add no entry, in their order.
 use Rattle.std.proofs.Common.{◌≡◌, ◌+◌, ◌<◌, ℕ, List, [], ◌∷◌, true, false, cond, Option, Some}
-use Rattle.std.proofs.Common.{None, length, take}
+use Rattle.std.proofs.Common.{length, take}
 use Rattle.std.proofs.Common.{sym, ap, subst, ◌∙◌, refl, arith}
-use Prim.Native.Nat.{zero, suc}
 use Rattle.serial_model.specs.declared.history.Entry.TheVariants as entry
 use Rattle.serial_model.specs.declared.history.BookCall.{BookCall}
 use Rattle.serial_model.specs.declared.history.BookCall.TheVariants.{Admit, Run, Tick, Take}
@@ -13,8 +12,8 @@ use Rattle.serial_model.specs.declared.history.BookRefusal.TheVariants.{Gone}
 use Rattle.serial_model.specs.History.{runs_on, gives_on, reads_on, unsent, is_full}
 use Rattle.serial_model.specs.Steps.{Turn, full, unless_full, admitting, running, taking, closing}
 use Rattle.serial_model.specs.Steps.{gone}
-use Rattle.serial_model.specs.Steps.{book_step, BookStep, AddsEntry, MayRunOut, IsCallable}
-use Rattle.server_book.specs.BookState.{BookState, IsAccepted, IsFullAnswer, IsRefusal, posts_after}
+use Rattle.serial_model.specs.Steps.{book_step, AddsEntry, MayRunOut, IsCallable}
+use Rattle.server_book.specs.BookState.{BookState, IsAccepted, IsFullAnswer, IsRefusal}
 
 -- a call that would add an entry, once its other questions are answered
 module _ (b : BookState) (call : BookCall) (turn : Turn) (is : book_step b.limits b.past call
@@ -22,11 +21,7 @@ module _ (b : BookState) (call : BookCall) (turn : Turn) (is : book_step b.limit
   pub by_limit : (r : Option BookReply) → (is_full b.limits b.past ≡ false
       → IsAccepted b.limits b.past call)
       → IsFullAnswer b r → IsRefusal b call r
-  by_limit None accepted h = accepted h
-  by_limit (Some reply) accepted h =
-      subst (λ r. BookStep b.limits b.past call r b.past
-      × (posts_after b.limits r b.past ≡ [])) (sym h.1)
-      (is ∙ ap (λ v. cond v (full b.past) turn) h.0, refl)
+  by_limit r accepted h = grind arith
 
 taking_some : (b : BookState) (id most : ℕ) (bytes : List ℕ) → 0 < length bytes
     → (turn : Turn) × (taking b.limits b.past id most bytes ≡ unless_full b.limits b.past turn)
@@ -41,21 +36,14 @@ taking_some b id most (byte ∷ bytes) h = (
 
 pub take_some : (most : ℕ) (bytes : List ℕ) → 0 < most → 0 < length bytes
     → 0 < length (take most bytes)
-take_some zero bytes m h = absurd (omega arith)
-take_some (suc most) [] m h = absurd (omega arith)
-take_some (suc most) (b ∷ bytes) m h = omega arith
+take_some most bytes m h = grind arith
 
 pub takes_some : (most : ℕ) (bytes : List ℕ) → 0 < most → 0 < length bytes → take most bytes ≡ []
     → ⊥
-takes_some most bytes m h e =
-    let some : 0 < length (take most bytes) = take_some most bytes m h in
-    let none : length (take most bytes) ≡ 0 = ap length e in
-    absurd (omega arith)
+takes_some most bytes m h e = grind arith
 
 take_none : (most : ℕ) (bytes : List ℕ) → length bytes ≡ 0 → take most bytes ≡ []
-take_none zero [] h = refl
-take_none (suc most) [] h = refl
-take_none most (b ∷ bytes) h = absurd (omega arith)
+take_none most bytes h = grind arith
 
 module _ (b : BookState) where
   pub admit_refusal : (r : Option BookReply) → IsFullAnswer b r → IsRefusal b Admit r
@@ -66,18 +54,13 @@ module _ (b : BookState) where
       → runs_on b.limits b.past id ≡ true
       → IsFullAnswer b r → IsRefusal b (Run id words now) r
   unfolding book_step
-  run_refusal id now words r on h =
-      by_limit b (Run id words now) (running b.past id words now)
-      (ap (λ v. cond v (unless_full b.limits b.past (running b.past id words now)) (gone b.past id))
-      on) r (λ room. (on, room)) h
+  run_refusal id now words r on h = grind arith
 
   take_step : (id most : ℕ) → gives_on b.limits b.past id ≡ true
       → book_step b.limits b.past (Take id most)
       ≡ taking b.limits b.past id most (take most (unsent b.limits id b.past))
   unfolding book_step
-  take_step id most on =
-      ap (λ v. cond v (taking b.limits b.past id most (take most (unsent b.limits id b.past)))
-      (gone b.past id)) on
+  take_step id most on = grind arith
 
   pub take_refusal : (id most : ℕ) (r : Option BookReply) → gives_on b.limits b.past id ≡ true
       → 0 < most
@@ -96,20 +79,12 @@ module _ (b : BookState) where
   pub run_gone : (id now : ℕ) (words : List (List ℕ)) → runs_on b.limits b.past id ≡ false
       → IsRefusal b (Run id words now) (Some (Refused (Gone id)))
   unfolding book_step
-  run_gone id now words off = (
-    ap (λ v. cond v (unless_full b.limits b.past (running b.past id words now)) (gone b.past id))
-        off,
-    refl,
-  )
+  run_gone id now words off = grind arith
 
   pub take_gone : (id most : ℕ) → gives_on b.limits b.past id ≡ false
       → IsRefusal b (Take id most) (Some (Refused (Gone id)))
   unfolding book_step
-  take_gone id most off = (
-    ap (λ v. cond v (taking b.limits b.past id most (take most (unsent b.limits id b.past)))
-        (gone b.past id)) off,
-    refl,
-  )
+  take_gone id most off = grind arith
 
   pub close_gone : (id : ℕ) → reads_on b.limits b.past id ≡ false
       → IsRefusal b (Close id) (Some (Refused (Gone id)))
@@ -118,14 +93,7 @@ module _ (b : BookState) where
 
   adds_taken : (id most : ℕ) (bytes : List ℕ) → 0 < length bytes → is_full b.limits b.past ≡ false
       → AddsEntry (taking b.limits b.past id most bytes).reply
-  adds_taken id most [] h room = absurd (omega arith)
-  adds_taken id most (byte ∷ bytes) h room =
-      subst (λ v. AddsEntry (cond v (full b.past)
-      (record {
-        reply = Bytes (length b.past + 1) (byte ∷ bytes);
-        past = entry.Take id
-            most ∷ b.past;
-      })).reply) (sym room) tt
+  adds_taken id most bytes h room = grind arith
 
   -- at a call that is accepted memory may run out
   pub accepted_adds : (call : BookCall) → IsCallable call → IsAccepted b.limits b.past call

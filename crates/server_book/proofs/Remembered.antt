@@ -10,7 +10,7 @@ use Rattle.track_table.proofs.Orders.{table_remembered, table_without_key}
 use Rattle.track_table.proofs.Orders.{table_drop, table_without_connection}
 use Rattle.serial_model.specs.declared.history.Limits.{Limits}
 use Rattle.serial_model.specs.declared.history.Entry.{Entry}
-use Rattle.serial_model.specs.declared.history.Entry.TheVariants.{Admit, Run, Tick, Take, Close}
+use Rattle.serial_model.specs.declared.history.Entry.TheVariants.{Run, Tick, Close}
 use Rattle.command_words.specs.declared.command.Signalled.{Signalled}
 use Rattle.command_words.specs.declared.command.Signalled.TheVariants.{Keys, All}
 use Rattle.serial_model.specs.Modes.{Memory, Remembers, Forgets}
@@ -66,7 +66,6 @@ remembering_table id Forgets rows h = table_without_connection id rows h
 
 pub table_of_past : (l : Limits) (past : List Entry) → IsTable (table l past)
 table_of_past l [] = record { ordered = tt; held = tt }
-table_of_past l (Admit id ∷ past) = table_of_past l past
 table_of_past l (Run id words moment ∷ past) =
     table_drop (length (table_grown l past id words moment) - l.table_max)
     (table_grown l past id words moment)
@@ -76,9 +75,9 @@ table_of_past l (Run id words moment ∷ past) =
     (without_keys_table (expired l past moment) (table l past) (table_of_past l past))))
 table_of_past l (Tick moment ∷ past) =
     without_keys_table (expired l past moment) (table l past) (table_of_past l past)
-table_of_past l (Take id max ∷ past) = table_of_past l past
 table_of_past l (Close id ∷ past) =
     table_without_connection id (table l past) (table_of_past l past)
+table_of_past l (e ∷ past) = table_of_past l past
 
 pub there_longer : (cs ds : List Connection) (rows : List Held) → length cs ≤ length ds
     → AreThere cs rows → AreThere ds rows

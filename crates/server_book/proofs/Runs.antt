@@ -8,7 +8,7 @@ use Rattle.std.proofs.lemmas.Bool.{cases_eq}
 use Rattle.std.proofs.lemmas.Grind.{flat_map-append}
 use Rattle.command_words.specs.declared.command.Signalled.{Signalled}
 use Rattle.command_words.specs.Space.{Space}
-use Rattle.track_table.specs.Table.{TableState, dropped, kept}
+use Rattle.track_table.specs.Table.{TableState, dropped}
 use Rattle.serial_model.specs.declared.history.Limits.{Limits}
 use Rattle.serial_model.specs.declared.history.Entry.{Entry}
 use Rattle.serial_model.specs.declared.history.Entry.TheVariants as entry
@@ -61,9 +61,7 @@ module _ (l : Limits) (past : List Entry) (space : Space) (keys : TableState)
   first_told = group gone keys.rows
 
   first_is : first_told ≡ expiry_group l past m
-  first_is =
-      ap (λ g. group g keys.rows) gone_is
-      ∙ ap (λ (t : TableState). group (expired l past m) t.rows) k.table_is
+  first_is = grind arith
 
   pub first_there : AreToldThere cs first_told
   first_there =
@@ -193,12 +191,7 @@ module _ (l : Limits) (past : List Entry) (space : Space) (keys : TableState)
       left = record keys { rows = without_keys gone keys.rows }
 
       left_is : left ≡ record { limit = l.table_max; rows = table_then l past m }
-      left_is =
-          ap (λ g. record { limit = keys.limit; rows = without_keys g keys.rows }) gone_is
-          ∙ ap (λ (t : TableState). record {
-            limit = t.limit;
-            rows = without_keys (expired l past m) t.rows;
-          }) k.table_is
+      left_is = grind arith
 
       -- those whom the deed tells are those whom the Run tells behind its reply
       abbrev pub told : List Invalidation
@@ -218,12 +211,7 @@ module _ (l : Limits) (past : List Entry) (space : Space) (keys : TableState)
           (after_run id r (signals l past id words m) (table_then l past m)))) remembers
 
       kept_is : kept_by left.limit id plan.deed left.rows ≡ table l (run ∷ past)
-      kept_is =
-          ap (λ (t : TableState). kept_by t.limit id plan.deed t.rows) left_is
-          ∙ ap (λ (s : Signalled). kept l.table_max
-          (after_run id (memory_of plan.deed) s (table_then l past m))) signalled
-          ∙ ap (λ (r : Memory). kept l.table_max
-          (after_run id r (signals l past id words m) (table_then l past m))) remembers
+      kept_is = grind arith
 
       told_there : AreToldThere second.items told
       told_there =
@@ -257,9 +245,7 @@ module _ (l : Limits) (past : List Entry) (space : Space) (keys : TableState)
       reply = reply_of l past id words m
 
       reply_is : reply ≡ (id, Message plan.mode.proto plan.reply)
-      reply_is =
-          ap (λ (x : Mode). (id, Message x.proto (ran l past id words m).reply)) (sym becomes)
-          ∙ ap (λ v. (id, Message plan.mode.proto v)) (sym replies)
+      reply_is = grind arith
 
       sends_is : sends l run past
           ≡ early ++ (id, Message plan.mode.proto plan.reply) ∷ sent

@@ -9,7 +9,6 @@ use Prim.Native.Nat.{zero, suc}
 use Rattle.std.proofs.lemmas.Bool.{cases_eq}
 use Rattle.std.proofs.lemmas.List.{get_or-set_same, get_or-set_other, set-get_or}
 use Rattle.std.proofs.Math.Seq.{take-append_seam}
-use Rattle.resp_value.specs.declared.value.Proto.{Proto}
 use Rattle.resp_value.specs.declared.value.Proto.TheVariants.{Two, Three}
 use Rattle.serial_model.specs.declared.mode.Mode.{Mode}
 use Rattle.serial_model.specs.declared.history.Post.{Post}
@@ -18,7 +17,7 @@ use Rattle.serial_model.specs.Tracking.{Invalidation, told_to, push_of, ids_wher
 use Rattle.serial_model.specs.History.{Sending, Message, End, sending_bytes, posted_of, spelled}
 use Rattle.serial_model.specs.History.{sent_bytes, sent_to, routed, route, posts_of}
 use Rattle.serial_model.specs.Each.{AllIn, AllTo}
-use Rattle.serial_model.proofs.Each.{all_in, in_append, in_at, in_front, in_take}
+use Rattle.serial_model.proofs.Each.{all_in, in_append, in_at, in_take}
 use Rattle.serial_model.proofs.Tables.{ids_all, told_all}
 use Rattle.server_book.specs.declared.connections.Connection.{Connection}
 use Rattle.server_book.specs.Connections.{ConnectionsState, IsId, connection_at, with_connection}
@@ -324,11 +323,7 @@ told_longer cs ds is le h =
 
 route_there : (cs : List Connection) (m : Mode) (i : Invalidation) → IsId cs i.to
     → AreTo cs (route m i)
-route_there cs m i on = by m.proto
-  where
-    by : (p : Proto) → AreTo cs (route (record m { proto = p }) i)
-    by Two = tt
-    by Three = (on, tt)
+route_there cs m i on = grind arith
 
 pub routed_there : (cs : List Connection) (m : ℕ → Mode) (is : List Invalidation)
     → AreToldThere cs is → AreTo cs (routed m is)
@@ -462,16 +457,8 @@ ids_there cs test n le =
 
 -- ---- the last post
 
-pub posted_front : (cs : List Connection) (ps qs : List Post) → ArePosted cs (ps ++ qs)
-    → ArePosted cs ps
-posted_front cs ps qs h = in_front (λ (p : Post). IsId cs p.id) ps qs h
-
 pub unqueued_is : (cs : List Connection) (p : Post) (c : Connection) (queue : List ℕ) (left : ℕ)
     → c ≡ connection_at cs p.id → left ≡ length c.queue - size_of p.what
     → queue ≡ take left c.queue
     → slice_set cs (p.id - 1) (record c { queue = queue }) ≡ unqueued p cs
-unqueued_is cs p c queue left there size kept =
-    ap (λ q. slice_set cs (p.id - 1) (record c { queue = q })) kept
-    ∙ ap (λ n. slice_set cs (p.id - 1) (record c { queue = take n c.queue })) size
-    ∙ ap (λ (x : Connection). slice_set cs (p.id - 1)
-    (record x { queue = take (length x.queue - size_of p.what) x.queue })) there
+unqueued_is cs p c queue left there size kept = grind arith

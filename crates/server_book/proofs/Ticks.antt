@@ -1,6 +1,6 @@
 -- A Tick sends what its entry sends, and leaves what the history says.
 use Rattle.std.proofs.Common.{◌≡◌, ◌≢◌, ◌+◌, ◌≤◌, ℕ, List, [], ◌∷◌, ◌++◌, length, sym, ap, ◌∙◌}
-use Rattle.std.proofs.Common.{refl, arith, true, false, inl, inr, append-nil, max, cond}
+use Rattle.std.proofs.Common.{refl, arith, true, false, inl, inr, append-nil, max}
 use Rattle.std.proofs.Common.{ne_eqb}
 use Rattle.std.specs.Prelude.{◌==◌}
 use Rattle.std.proofs.lemmas.Bool.{cases_eq}
@@ -129,9 +129,4 @@ pub tick_full : (l : Limits) (past : List Entry) (now m : ℕ) (gone : List (Lis
     → m ≡ max now (latest past)
     → book_step l past (Tick now) ≡ full past
 unfolding book_step
-tick_full l past now m [] is some none moment = absurd (some refl)
-tick_full l past now m (key ∷ gone) is some none moment =
-    ap (λ x. ticking l past x (expired l past x)) (sym moment)
-    ∙ ap (ticking l past m) (sym is)
-    ∙ ap (λ v. cond v (full past)
-    (record { reply = Ticked (length past + 1); past = entry.Tick m ∷ past })) none
+tick_full l past now m gone is some none moment = grind arith

@@ -11,8 +11,7 @@ use Rattle.serial_model.specs.declared.history.Limits.{Limits}
 use Rattle.serial_model.specs.declared.history.Entry.{Entry}
 use Rattle.serial_model.specs.declared.history.BookCall.TheVariants as call
 use Rattle.serial_model.specs.declared.history.BookReply.{BookReply}
-use Rattle.serial_model.specs.declared.history.BookReply.TheVariants.{Admitted, Ran, Ticked, Quiet}
-use Rattle.serial_model.specs.declared.history.BookReply.TheVariants.{Bytes, Closed, Refused}
+use Rattle.serial_model.specs.declared.history.BookReply.TheVariants.{Bytes}
 use Rattle.serial_model.specs.History.{reads_on, gives_on, stream, taken}
 use Rattle.serial_model.specs.History.{unsent, runs_of}
 use Rattle.serial_model.specs.Steps.{Turn, book_step, given_by}
@@ -57,17 +56,11 @@ use Rattle.server_links.proofs.AccountRuns.{serve_keeps}
 put_open : (more : List ℕ) (e : Eof) (bytes : List ℕ) → is_open e ≡ true
     → put_by e bytes more ≡ bytes ++ more
 put_open more eof.None bytes h = refl
-put_open more eof.Queued bytes h = absurd (let no : ⊥ = cc in no)
-put_open more eof.Read bytes h = absurd (let no : ⊥ = cc in no)
+put_open more e bytes h = absurd (let no : ⊥ = cc in no)
 
 given_is : (c most : ℕ) (reply : BookReply) → given_by c (call.Take c most) reply ≡ bytes_of reply
-given_is c most (Admitted e id) = refl
-given_is c most (Ran e) = refl
-given_is c most (Ticked e) = refl
-given_is c most Quiet = refl
 given_is c most (Bytes e bytes) = ap (λ b. cond b bytes []) (same_id c)
-given_is c most (Closed e) = refl
-given_is c most (Refused r) = refl
+given_is c most reply = refl
 
 gave_take : (l : Limits) (c most : ℕ) (past : List Entry) →
     let t : Turn = book_step l past (call.Take c most) in
@@ -163,8 +156,7 @@ module _ (heard said : List ℕ) where
 
   not_open : (e : Eof) → is_open (queued e) ≡ true → ⊥
   not_open eof.None h = cc
-  not_open eof.Queued h = cc
-  not_open eof.Read h = cc
+  not_open e h = cc
 
   finished_account : (read : List ℕ) (s : Session) → Account heard said read s
       → Account heard said read (with_link s (with_down s.link (finished s.link.down)))
@@ -338,13 +330,7 @@ put_said heard said bytes lost flight eof.None all none = (
       ∙ ap (λ l. (heard ++ flight) ++ l) (sym (none refl)) ∙ all),
   λ h. refl,
 )
-put_said heard said bytes lost flight eof.Queued all none = (
-  lost ++ bytes,
-  sym (append_assoc (heard ++ flight) lost bytes)
-      ∙ ap (λ l. l ++ bytes) all,
-  λ h. absurd (let no : ⊥ = cc in no),
-)
-put_said heard said bytes lost flight eof.Read all none = (
+put_said heard said bytes lost flight e all none = (
   lost ++ bytes,
   sym (append_assoc (heard ++ flight) lost bytes)
       ∙ ap (λ l. l ++ bytes) all,

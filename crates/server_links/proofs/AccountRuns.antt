@@ -243,15 +243,6 @@ module _ (heard said : List ℕ) where
       (Part said) s (run_requests s) _ (every_run_requests s) (run_requests_keeps s reading)
       (stop_keeps p.fault (stopped_at p.fault) (parse_met s.link.reader) eof)
 
--- what is done at this one state
-pub keeps_at : (P Q W : List ℕ → Session → Type 0) (s : Session) (next : Session → Outcome Session)
-    → Keeps P Q W s (next s) → (t : Session) → Keeps (λ read u. (u ≡ s) × P read u) Q W t (next t)
-unfolding Keeps
-keeps_at P Q W s next k t read r =
-    subst (λ x. Meets (λ u l. Q (read ++ read_on x.link.name l) u)
-    (λ u l. W (read ++ read_on x.link.name l) u) (next x)) (sym r.0)
-    (k read (subst (P read) r.0 r.1))
-
 -- ---- the server's end reads
 
 module _ (heard said piece : List ℕ) (up : Direction) (eof : Bool) (s : Session)
@@ -327,8 +318,7 @@ same_heard heard said s m k =
 
 pub open_past_eof : (e : Eof) → is_open (eof_read e) ≡ true → is_open e ≡ true
 open_past_eof eof.None h = refl
-open_past_eof eof.Queued h = absurd (let no : ⊥ = cc in no)
-open_past_eof eof.Read h = absurd (let no : ⊥ = cc in no)
+open_past_eof e h = absurd (let no : ⊥ = cc in no)
 
 pub account_stays : (heard said : List ℕ) (s : Session)
     → Keeps (Account heard said) (Account heard said) (Part said) s (stays s)

@@ -12,8 +12,8 @@ use Rattle.serial_model.specs.declared.history.Entry.TheVariants as entry
 use Rattle.serial_model.specs.declared.history.BookCall.{BookCall}
 use Rattle.serial_model.specs.declared.history.BookCall.TheVariants as call
 use Rattle.serial_model.specs.declared.history.BookReply.{BookReply}
-use Rattle.serial_model.specs.declared.history.BookReply.TheVariants.{Admitted, Ran, Ticked, Quiet}
-use Rattle.serial_model.specs.declared.history.BookReply.TheVariants.{Bytes, Closed, Refused}
+use Rattle.serial_model.specs.declared.history.BookReply.TheVariants.{Admitted, Quiet}
+use Rattle.serial_model.specs.declared.history.BookReply.TheVariants.{Bytes}
 use Rattle.serial_model.specs.History.{admitted, runs_on, reads_on, gives_on, stream, taken, unsent}
 use Rattle.serial_model.specs.History.{IsLegal}
 use Rattle.serial_model.specs.Steps.{Turn, book_step, gone, full, running, taking, closing}
@@ -224,12 +224,7 @@ take_adds l past id most = by_take l past id most (Adds l id [] past)
 pub mute_reply : (name link : List ℕ) (words : List (List ℕ)) (reply : BookReply)
     → read_on name (reply_lines link words reply) ≡ []
 mute_reply name link words (Admitted e id) = refl
-mute_reply name link words (Ran e) = refl
-mute_reply name link words (Ticked e) = refl
-mute_reply name link words Quiet = refl
-mute_reply name link words (Bytes e bytes) = refl
-mute_reply name link words (Closed e) = refl
-mute_reply name link words (Refused r) = refl
+mute_reply name link words reply = refl
 
 carries_turn : (s : Session) (c : BookCall) (words : List (List ℕ))
     → Adds s.limits s.link.id words s.past (book_step s.limits s.past c)

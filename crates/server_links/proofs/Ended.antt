@@ -41,12 +41,9 @@ use Rattle.server_links.proofs.Outcomes.{meets_refuses}
 
 ended_more : (l : Limits) (c : ℕ) (e : Entry) (past : List Entry) → has_ended l c past ≡ true
     → has_ended l c (e ∷ past) ≡ true
-ended_more l c (entry.Admit id) past h = h
-ended_more l c (entry.Run id words moment) past h = h
-ended_more l c (entry.Tick moment) past h = h
-ended_more l c (entry.Take id most) past h = h
 ended_more l c (entry.Close id) past h =
     elim (id == c) as (λ b. cond b true (has_ended l c past) ≡ true) [ true ↦ refl | false ↦ h ]
+ended_more l c e past h = h
 
 ended_on : (l : Limits) (c : ℕ) (entries past : List Entry) → has_ended l c past ≡ true
     → has_ended l c (entries ++ past) ≡ true

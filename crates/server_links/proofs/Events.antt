@@ -285,13 +285,11 @@ named_others (Some at) event w new printed r i n =
 pub step_is : (w : LinksState) (name : List ℕ) (event : LinkEvent) → link_named event ≡ Some name
     → step w event ≡ over_named (place_of name w) (move_of event) w
 unfolding step
-step_is w name (Raw n) h = absurd (let no : ⊥ = cc in no)
-step_is w name (Now moment) h = absurd (let no : ⊥ = cc in no)
-step_is w name Tick h = absurd (let no : ⊥ = cc in no)
 step_is w name (Put n bytes) h =
     ap (λ x. over_named (place_of x w) (move_of (Put n bytes)) w) (let e : n ≡ name = cc in e)
 step_is w name (Over n move) h =
     ap (λ x. over_named (place_of x w) (move_of (Over n move)) w) (let e : n ≡ name = cc in e)
+step_is w name event h = absurd (let no : ⊥ = cc in no)
 
 others_kept : (event : LinkEvent) (w new : LinksState) (printed : List Line)
     → Reached (step w event) new printed → (name : List ℕ) → link_named event ≡ Some name

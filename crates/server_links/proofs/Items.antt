@@ -214,15 +214,8 @@ module _ {S A : Type 0} (k : Runner S A) (laws : Runs k) where
         → FaultGives k.read (k.past (k.reader s)) (k.reader s) new f → Some place ≡ fault_place f
         → Ends (read_all k s0) lines0 (k.with_reader s new) lines
         × (Some place ≡ stopped_at (k.all (k.reader s0)).fault)
-    ends_bad new (stream.BadByte o) place g at =
-        let r = faulty new (stream.BadByte o) g.0 g.1 in (r.0, at ∙ r.1)
-    ends_bad new (stream.TooLong o n) place g at =
-        let r = faulty new (stream.TooLong o n) g.0 g.1 in (r.0, at ∙ r.1)
-    ends_bad new (stream.TooDeep o) place g at =
-        let r = faulty new (stream.TooDeep o) g.0 g.1 in (r.0, at ∙ r.1)
-    ends_bad new (stream.NotServed o b) place g at =
-        let r = faulty new (stream.NotServed o b) g.0 g.1 in (r.0, at ∙ r.1)
     ends_bad new stream.NoMemory place g at = absurd (let no : ⊥ = cc in no)
+    ends_bad new f place g at = let r = faulty new f g.0 g.1 in (r.0, at ∙ r.1)
 
     -- memory ran out in the reading, which is as before
     here_stops : (items : List A) → (k.all (k.reader s)).items ≡ items
@@ -247,7 +240,4 @@ module _ {S A : Type 0} (k : Runner S A) (laws : Runs k) where
         subst (λ x. Stops (read_all k s0) lines0 NoMemory x lines)
         (sym (ap (k.with_reader s) g ∙ laws.same s))
         (here_stops (k.all (k.reader s)).items refl)
-    reads_short new (stream.BadByte o) g at = absurd (let no : ⊥ = cc in no)
-    reads_short new (stream.TooLong o n) g at = absurd (let no : ⊥ = cc in no)
-    reads_short new (stream.TooDeep o) g at = absurd (let no : ⊥ = cc in no)
-    reads_short new (stream.NotServed o b) g at = absurd (let no : ⊥ = cc in no)
+    reads_short new f g at = absurd (let no : ⊥ = cc in no)

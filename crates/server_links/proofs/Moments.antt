@@ -7,8 +7,8 @@ use Rattle.serial_model.specs.declared.history.Entry.{Entry}
 use Rattle.serial_model.specs.declared.history.Entry.TheVariants as entry
 use Rattle.serial_model.specs.declared.history.BookCall.TheVariants as call
 use Rattle.serial_model.specs.declared.history.BookReply.{BookReply}
-use Rattle.serial_model.specs.declared.history.BookReply.TheVariants.{Admitted, Ran, Ticked, Quiet}
-use Rattle.serial_model.specs.declared.history.BookReply.TheVariants.{Bytes, Closed, Refused}
+use Rattle.serial_model.specs.declared.history.BookReply.TheVariants.{Ticked, Quiet}
+use Rattle.serial_model.specs.declared.history.BookReply.TheVariants.{Refused}
 use Rattle.serial_model.specs.declared.history.BookRefusal.TheVariants as refusal
 use Rattle.serial_model.specs.History.{IsLegal, expired, is_full, latest}
 use Rattle.serial_model.specs.Laws.{Extends}
@@ -287,31 +287,19 @@ module _ (w : LinksState) where
       (r : Result (Unit {0}) WorldFault) → BookStep w.limits w.past (call.Tick w.now) reply past
       → ((e : ℕ) → reply ≡ Ticked e → ⊥) → EndsTick reply r
       → Gives (tick w) lines r (after past) lines
-  tick_other (Admitted e id) past lines r is a ends =
-      subst (λ x. Gives (tick w) lines x (after past) lines) (sym ends)
-      (no_entry (Admitted e id) past lines is refl refl)
-  tick_other (Ran e) past lines r is a ends =
-      subst (λ x. Gives (tick w) lines x (after past) lines) (sym ends)
-      (no_entry (Ran e) past lines is refl refl)
   tick_other (Ticked e) past lines r is a ends = absurd (a e refl)
   tick_other Quiet past lines r is a ends =
       subst (λ x. Gives (tick w) lines x (after past) lines) (sym ends)
       (no_entry Quiet past lines is refl refl)
-  tick_other (Bytes e bytes) past lines r is a ends =
-      subst (λ x. Gives (tick w) lines x (after past) lines) (sym ends)
-      (no_entry (Bytes e bytes) past lines is refl refl)
-  tick_other (Closed e) past lines r is a ends =
-      subst (λ x. Gives (tick w) lines x (after past) lines) (sym ends)
-      (no_entry (Closed e) past lines is refl refl)
-  tick_other (Refused (refusal.Gone id)) past lines r is a ends =
-      subst (λ x. Gives (tick w) lines x (after past) lines) (sym ends)
-      (no_entry (Refused (refusal.Gone id)) past lines is refl refl)
   tick_other (Refused (refusal.HistoryFull n)) past lines r is a ends =
       subst (λ x. Gives (tick w) lines x (after past) lines) (sym ends)
       (tick_is_full n past lines is)
   tick_other (Refused refusal.NoMemory) past lines r is a ends =
       subst (λ x. Gives (tick w) lines x (after past) lines) (sym ends)
       (subst (λ p. Stops (tick w) lines NoMemory (after p) lines) (sym is.0) (tick_before lines))
+  tick_other reply past lines r is a ends =
+      subst (λ x. Gives (tick w) lines x (after past) lines) (sym ends)
+      (no_entry reply past lines is refl refl)
 
 -- a server that played a turn, as its links see it
 pub played_links : (old new : ServerState) → new.book.limits ≡ old.book.limits

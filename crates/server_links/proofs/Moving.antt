@@ -9,7 +9,7 @@ use Rattle.resp_stream.specs.Stream.{Stream}
 use Rattle.resp_stream.specs.Parse.{parse}
 use Rattle.serial_model.specs.History.{reads_on, gives_on, unsent}
 use Rattle.serial_model.specs.Steps.{Turn}
-use Rattle.server_links.specs.LinkEvent.{LinkEvent, Raw, Put, Over, Now, Tick}
+use Rattle.server_links.specs.LinkEvent.{LinkEvent, Put, Over}
 use Rattle.server_links.specs.declared.link.LinkMove.{LinkMove}
 use Rattle.server_links.specs.declared.link.LinkMove.TheVariants as moves
 use Rattle.script_text.specs.declared.line.Line.{Line}
@@ -265,8 +265,6 @@ every_moved moves.Cut s =
     [] refl refl (λ name n. refl) refl (ap cut))
 
 pub every_move : (event : LinkEvent) (s : Session) → Every s (move_of event s)
-every_move (Raw name) s = every_none s
 every_move (Put name bytes) s = every_say bytes s
 every_move (Over name move) s = every_moved move s
-every_move (Now moment) s = every_none s
-every_move Tick s = every_none s
+every_move event s = every_none s

@@ -122,9 +122,8 @@ runs_none l (entry.Admit id ∷ past) c h lt = runs_none l past c h.2 (omega ari
 runs_none l (entry.Run id words moment ∷ past) c h lt =
     let r = runs_none l past c h.3 lt in let k = connected l past id h.0 in
     grind (arith, nat_tests)
-runs_none l (entry.Tick moment ∷ past) c h lt = runs_none l past c h.3 lt
-runs_none l (entry.Take id max ∷ past) c h lt = runs_none l past c h.3 lt
 runs_none l (entry.Close id ∷ past) c h lt = runs_none l past c h.1 lt
+runs_none l (e ∷ past) c h lt = runs_none l past c h.3 lt
 
 module _ (l : Limits) (past : List Entry) (ts : List TrailState) (noted : IsNoted l past ts) where
   -- an entry that admits nobody

@@ -7,7 +7,7 @@ use Rattle.script_text.specs.declared.line.Line.{Line}
 use Rattle.server_links.specs.declared.fault.WorldFault.{WorldFault}
 use Rattle.server_links.specs.declared.fault.WorldFault.TheVariants.{NoName, NameTaken}
 use Rattle.server_links.specs.declared.fault.WorldFault.TheVariants.{NothingThere}
-use Rattle.server_links.specs.declared.fault.WorldFault.TheVariants.{NoMemory, Refused, HistoryFull}
+use Rattle.server_links.specs.declared.fault.WorldFault.TheVariants.{NoMemory}
 use Rattle.server_links.specs.Outcome.{Outcome, stays, does, refuses, after_lines, then_by}
 use Rattle.server_links.specs.Outcome.{and_then}
 use Rattle.server_links.specs.Outcome.{within, IsAmong, Reached, Stops, Gives}
@@ -102,10 +102,7 @@ stops_first m next lines NoMemory s lines' h = (h.0, points_first m next s h.0 h
 stops_first m next lines NoName s lines' h = faults_first m next lines NoName s lines' h
 stops_first m next lines NameTaken s lines' h = faults_first m next lines NameTaken s lines' h
 stops_first m next lines NothingThere s lines' h = faults_first m next lines NothingThere s lines' h
-stops_first m next lines (Refused n) s lines' h =
-    faults_first m next lines (Refused n) s lines' h
-stops_first m next lines (HistoryFull n) s lines' h =
-    faults_first m next lines (HistoryFull n) s lines' h
+stops_first m next lines fault s lines' h = faults_first m next lines fault s lines' h
 
 joined : {S : Type 0} → (m : Outcome S) (next : S → Outcome S) (s : S) → m.fault ≡ None
     → s ≡ m.state → and_then m next ≡ then_by None m (next s)
@@ -125,11 +122,7 @@ module _ {S : Type 0} (m n : Outcome S) (lines lines1 : List Line) (t : S) (line
     among_right t (m.lines ++ g.0) m.points _ (among_after t m.lines g.0 n.points g.1),
     added g.0 g.2,
   )
-  stops_second NoName g = (g.0, g.1, added n.lines g.2)
-  stops_second NameTaken g = (g.0, g.1, added n.lines g.2)
-  stops_second NothingThere g = (g.0, g.1, added n.lines g.2)
-  stops_second (Refused k) g = (g.0, g.1, added n.lines g.2)
-  stops_second (HistoryFull k) g = (g.0, g.1, added n.lines g.2)
+  stops_second fault g = (g.0, g.1, added n.lines g.2)
 
   gives_second : {A : Type 0} → (r : Result A WorldFault) → Gives n lines1 r t lines2
       → Gives (then_by None m n) lines r t lines2
@@ -170,11 +163,7 @@ stops_within : {S T : Type 0}
     → Stops m lines fault s lines' → Stops (within f m) lines fault (f s) lines'
 unfolding within
 stops_within f m lines NoMemory s lines' g = (g.0, among_within f s g.0 m.points g.1, g.2)
-stops_within f m lines NoName s lines' g = (g.0, ap f g.1, g.2)
-stops_within f m lines NameTaken s lines' g = (g.0, ap f g.1, g.2)
-stops_within f m lines NothingThere s lines' g = (g.0, ap f g.1, g.2)
-stops_within f m lines (Refused n) s lines' g = (g.0, ap f g.1, g.2)
-stops_within f m lines (HistoryFull n) s lines' g = (g.0, ap f g.1, g.2)
+stops_within f m lines fault s lines' g = (g.0, ap f g.1, g.2)
 
 within_open : {S T : Type 0} → (f : S → T) (m : Outcome S)
     → ((within f m).fault ≡ m.fault) × ((within f m).state ≡ f m.state)
@@ -202,14 +191,6 @@ ends_parts m next lines t lines' h = elim m.fault as (λ v. m.fault ≡ v
       | Some f ↦ λ is g. absurd (let no : Some f ≡ None = sym is ∙ g.0 in cc)
       | None ↦ λ is g. (is, (g.0, g.1, g.2 ∙ sym (append_assoc lines m.lines (next m.state).lines)))
     ] refl h
-
-pub gives_parts : {S A : Type 0} → (m : Outcome S) (next : S
-    → Outcome S) (lines : List Line) (a : A) (t : S) (lines' : List Line)
-    → Gives (and_then m next) lines (Ok a) t lines'
-    → Gives m lines (Ok a) m.state (lines ++ m.lines)
-    × Gives (next m.state) (lines ++ m.lines) (Ok a) t lines'
-gives_parts m next lines a t lines' h = let p = ends_parts m next lines t lines' h in
-    ((p.0, refl, refl), p.1)
 
 -- memory ran out before the thing was done
 pub stops_here : {S : Type 0} → (m : Outcome S) (s : S) (lines : List Line)
@@ -387,11 +368,7 @@ pub stops_reached : {S : Type 0}
     → Stops m lines fault s lines' → (printed : List Line) × Reached m s printed
     × (lines' ≡ lines ++ printed)
 stops_reached m lines NoMemory s lines' g = (g.0, inr g.1, g.2)
-stops_reached m lines NoName s lines' g = (m.lines, inl (g.1, refl), g.2)
-stops_reached m lines NameTaken s lines' g = (m.lines, inl (g.1, refl), g.2)
-stops_reached m lines NothingThere s lines' g = (m.lines, inl (g.1, refl), g.2)
-stops_reached m lines (Refused n) s lines' g = (m.lines, inl (g.1, refl), g.2)
-stops_reached m lines (HistoryFull n) s lines' g = (m.lines, inl (g.1, refl), g.2)
+stops_reached m lines fault s lines' g = (m.lines, inl (g.1, refl), g.2)
 
 pub gives_reached : {S A : Type 0}
     → (m : Outcome S) (lines : List Line) (r : Result A WorldFault) (s : S) (lines' : List Line)

@@ -9,18 +9,16 @@ use Rattle.serial_model.specs.declared.history.Entry.{Entry}
 use Rattle.serial_model.specs.declared.history.BookCall.{BookCall}
 use Rattle.serial_model.specs.declared.history.BookCall.TheVariants as call
 use Rattle.serial_model.specs.declared.history.BookReply.{BookReply}
-use Rattle.serial_model.specs.declared.history.BookReply.TheVariants.{Admitted, Ran, Ticked, Quiet}
-use Rattle.serial_model.specs.declared.history.BookReply.TheVariants.{Bytes, Closed, Refused}
+use Rattle.serial_model.specs.declared.history.BookReply.TheVariants.{Quiet}
+use Rattle.serial_model.specs.declared.history.BookReply.TheVariants.{Bytes}
 use Rattle.serial_model.specs.History.{runs_on, reads_on, gives_on, is_full, unsent}
 use Rattle.serial_model.specs.Steps.{Turn, book_step, gone, full, taking}
 use Rattle.serial_model.proofs.Turning.{run_step, run_full, close_step}
 use Rattle.script_text.specs.declared.line.Line.{Line}
 use Rattle.script_text.specs.declared.line.Line.TheVariants as line
 use Rattle.server_links.specs.declared.fault.WorldFault.{WorldFault}
-use Rattle.server_links.specs.declared.fault.WorldFault.TheVariants.{NoName, NameTaken}
 use Rattle.server_links.specs.declared.fault.WorldFault.TheVariants.{NothingThere}
 use Rattle.server_links.specs.declared.fault.WorldFault.TheVariants.{NoMemory, HistoryFull}
-use Rattle.server_links.specs.declared.fault.WorldFault.TheVariants as faults
 use Rattle.server_links.specs.declared.link.Link.{Link}
 use Rattle.server_links.specs.ServerState.{ServerState}
 use Rattle.server_links.specs.EntryLines.{reply_fault, reply_lines}
@@ -71,10 +69,7 @@ module _ (s : Session) (c : BookCall) (words : List (List ℕ)) (past : List Ent
     g.1 ∙ sym (append-nil lines) ∙ ap (λ (t : Turn). lines
         ++ reply_lines s.link.name words t.reply) (sym g.0),
   )
-  turn_stops NoName g = absurd g
-  turn_stops NameTaken g = absurd g
-  turn_stops NothingThere g = absurd g
-  turn_stops (faults.Refused n) g = absurd g
+  turn_stops fault g = absurd g
 
 -- before a turn
 pub turn_before : (s : Session) (c : BookCall) (words : List (List ℕ)) (lines : List Line)
@@ -102,19 +97,6 @@ module _ (l : Limits) (past new : List Entry) (id : ℕ) (reply : BookReply) (me
       → reply_lines name [] reply ≡ line.Close (length past + 1) name ∷ []
   close_line name on is = ap (λ (t : Turn). reply_lines name [] t.reply) (sym is
       ∙ close_step l past id on)
-
--- a Run leaves its connection read on
-pub run_reads : (l : Limits) (past new : List Entry) (id now : ℕ) (words : List (List ℕ))
-    (reply : BookReply) → reads_on l past id ≡ true
-    → book_step l past (call.Run id words now) ≡ record { reply = reply; past = new }
-    → reads_on l new id ≡ true
-run_reads l past new id now words reply on is =
-    elim (is_full l past) as (λ b. is_full l past ≡ b → reads_on l new id ≡ true) [
-      | true ↦ λ none. ap (λ (t : Turn). reads_on l t.past id) (sym is
-          ∙ run_full l past id now words on none) ∙ on
-      | false ↦ λ room. ap (λ (t : Turn). reads_on l t.past id) (sym is
-          ∙ run_step l past id now words on room) ∙ on
-    ] refl
 
 -- ---- the server's end sends
 
@@ -219,13 +201,8 @@ IsGiven entry bytes reply = ⊥
 
 pub only_given : (entry : ℕ) (bytes : List ℕ) (reply : BookReply) → IsGiven entry bytes reply
     → ((e : ℕ) (given : List ℕ) → reply ≡ Bytes e given → ⊥) → ⊥
-only_given entry bytes (Admitted e id) is gave = is
-only_given entry bytes (Ran e) is gave = is
-only_given entry bytes (Ticked e) is gave = is
-only_given entry bytes Quiet is gave = is
 only_given entry bytes (Bytes e given) is gave = gave e given refl
-only_given entry bytes (Closed e) is gave = is
-only_given entry bytes (Refused f) is gave = is
+only_given entry bytes reply is gave = is
 
 -- where something can be taken and the history has room, it is
 taking_given : (l : Limits) (past : List Entry) (id most : ℕ) (bytes : List ℕ) → 0 < length bytes
@@ -256,15 +233,10 @@ take_given s most past reply on some is met =
 pub given_line : (entry count : ℕ) (bytes name : List ℕ) (reply : BookReply)
     → IsGiven entry bytes reply → length bytes ≡ count
     → reply_lines name [] reply ≡ line.Take entry name count ∷ []
-given_line entry count bytes name (Admitted e id) is size = absurd is
-given_line entry count bytes name (Ran e) is size = absurd is
-given_line entry count bytes name (Ticked e) is size = absurd is
-given_line entry count bytes name Quiet is size = absurd is
 given_line entry count bytes name (Bytes e given) is size =
     ap (λ n. line.Take n name (length given) ∷ []) is.0
     ∙ ap (λ n. line.Take entry name n ∷ []) (ap length is.1 ∙ size)
-given_line entry count bytes name (Closed e) is size = absurd is
-given_line entry count bytes name (Refused f) is size = absurd is
+given_line entry count bytes name reply is size = absurd is
 
 -- ---- the client's end reads
 
@@ -303,9 +275,8 @@ receive_before s lines =
     s lines (stops_here (read_bytes s.link.down.bytes (without_bytes s.link.down) s) s lines refl)
 
 pub no_eof : (e : Eof) → is_queued e ≡ false → e ≡ eof_read e
-no_eof eof.None h = refl
 no_eof eof.Queued h = absurd (let no : ⊥ = cc in no)
-no_eof eof.Read h = refl
+no_eof e h = refl
 
 -- ---- what stops the reading
 

@@ -6,8 +6,7 @@ use Rattle.std.proofs.lemmas.List.{set-get_or}
 use Rattle.resp_stream.specs.declared.fault.FaultPlace.{FaultPlace}
 use Rattle.resp_stream.specs.Parse.{parse}
 use Rattle.serial_model.specs.declared.history.BookReply.{BookReply}
-use Rattle.serial_model.specs.declared.history.BookReply.TheVariants.{Admitted, Ran, Ticked, Quiet}
-use Rattle.serial_model.specs.declared.history.BookReply.TheVariants.{Bytes, Closed, Refused}
+use Rattle.serial_model.specs.declared.history.BookReply.TheVariants.{Refused}
 use Rattle.serial_model.specs.declared.history.BookRefusal.TheVariants as refusal
 use Rattle.serial_model.specs.History.{reads_on, gives_on, unsent}
 use Rattle.server_links.specs.LinkEvent.{LinkEvent, Raw, Put, Over, Now, Tick}
@@ -40,20 +39,13 @@ none : (f : WorldFault) → None ≡ Some f → IsRefusal f → ⊥
 none f e r = absurd (let no : ⊥ = cc in no)
 
 by_reply : (reply : BookReply) (f : WorldFault) → reply_fault reply ≡ Some f → IsRefusal f → ⊥
-by_reply (Admitted e id) f is r = none f is r
-by_reply (Ran e) f is r = none f is r
-by_reply (Ticked e) f is r = none f is r
-by_reply Quiet f is r = none f is r
-by_reply (Bytes e bytes) f is r = none f is r
-by_reply (Closed e) f is r = none f is r
-by_reply (Refused (refusal.Gone id)) f is r = none f is r
-by_reply (Refused refusal.NoMemory) f is r = none f is r
 by_reply (Refused (refusal.HistoryFull n)) NoName is r = absurd (let no : ⊥ = cc in no)
 by_reply (Refused (refusal.HistoryFull n)) NameTaken is r = absurd (let no : ⊥ = cc in no)
 by_reply (Refused (refusal.HistoryFull n)) NothingThere is r = absurd (let no : ⊥ = cc in no)
 by_reply (Refused (refusal.HistoryFull n)) NoMemory is r = r
 by_reply (Refused (refusal.HistoryFull n)) (faults.Refused k) is r = absurd (let no : ⊥ = cc in no)
 by_reply (Refused (refusal.HistoryFull n)) (HistoryFull k) is r = r
+by_reply reply f is r = none f is r
 
 pub un_then : {S : Type 0} → (m : Outcome S) (next : S → Outcome S) → Unrefused m
     → ((t : S) → Unrefused (next t)) → Unrefused (and_then m next)
@@ -157,16 +149,13 @@ unchanged_moved (moves.Send (Some n)) s =
 unchanged_moved (moves.Recv None) s = accepted s _ (un_receive_all s)
 unchanged_moved (moves.Recv (Some n)) s = either (nat_le n (length s.link.down.bytes)) s _ none
 unchanged_moved moves.Flow s = accepted s _ (un_flow s)
-unchanged_moved moves.HangUp s = still s _
-unchanged_moved moves.Cut s = still s _
+unchanged_moved move s = still s _
 
 unchanged_move : (e : LinkEvent) (s : Session) → Unchanged s (move_of e s)
 unfolding Unrefused
-unchanged_move (Raw name) s = still s s
 unchanged_move (Put name bytes) s = accepted s _ none
 unchanged_move (Over name move) s = unchanged_moved move s
-unchanged_move (Now moment) s = still s s
-unchanged_move Tick s = still s s
+unchanged_move e s = still s s
 
 unchanged_over : (at : ℕ) (e : LinkEvent) (w : LinksState) → Unchanged w (over at (move_of e) w)
 unfolding over within Unchanged

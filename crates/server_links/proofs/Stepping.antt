@@ -22,9 +22,7 @@ use Rattle.server_links.specs.LinkEvent.{LinkEvent, Raw}
 use Rattle.script_text.specs.declared.line.Line.{Line}
 use Rattle.server_links.specs.declared.fault.WorldFault.{WorldFault}
 use Rattle.server_links.specs.declared.fault.WorldFault.TheVariants.{NoName, NameTaken}
-use Rattle.server_links.specs.declared.fault.WorldFault.TheVariants.{NothingThere}
 use Rattle.server_links.specs.declared.fault.WorldFault.TheVariants.{NoMemory, HistoryFull}
-use Rattle.server_links.specs.declared.fault.WorldFault.TheVariants as faults
 use Rattle.server_links.specs.declared.link.Link.{Link}
 use Rattle.server_links.specs.ServerState.{ServerState}
 use Rattle.server_links.specs.Outcome.{Outcome, Stops, Gives}
@@ -202,10 +200,7 @@ module _ (server : ServerState) (links : List Link) (name : List ℕ) (lines : L
           subst (λ (t : Turn). Stops (admitting_link (world server links) name t) lines
           (HistoryFull n) (world server links) lines') (sym g.0)
           (refl, refl, g.1 ∙ sym (append-nil lines))
-      raw_fault NoName g same = absurd g
-      raw_fault NameTaken g same = absurd g
-      raw_fault NothingThere g same = absurd g
-      raw_fault (faults.Refused n) g same = absurd g
+      raw_fault fault g same = absurd g
 
       past_same : (fault : WorldFault)
           → TurnGives server.book.limits server.book.past call.Admit x lines (Err fault)
@@ -213,10 +208,7 @@ module _ (server : ServerState) (links : List Link) (name : List ℕ) (lines : L
       past_same NoMemory g = g.0
       past_same (HistoryFull n) g =
           admit_refused server.book.limits server.book.past new.book.past n g.0
-      past_same NoName g = absurd g
-      past_same NameTaken g = absurd g
-      past_same NothingThere g = absurd g
-      past_same (faults.Refused n) g = absurd g
+      past_same fault g = absurd g
 
       pub raw_stops : (fault : WorldFault)
           → TurnGives server.book.limits server.book.past call.Admit x lines (Err fault)

@@ -1,14 +1,13 @@
 -- After an Ask the fields are what the log says.
-use Rattle.std.proofs.Common.{◌≡◌, ◌==◌, ◌+◌, ◌++◌, ◌&&◌, ◌||◌, ℕ, suc, List, [], ◌∷◌, length}
-use Rattle.std.proofs.Common.{Bool, true, false, cond, not, Option, Some, None, sym, ap, ◌∙◌}
+use Rattle.std.proofs.Common.{◌≡◌, ◌+◌, ◌++◌, ℕ, suc, List, [], ◌∷◌, length}
+use Rattle.std.proofs.Common.{Bool, true, false, cond, Option, Some, None, sym, ap, ◌∙◌}
 use Rattle.std.proofs.Common.{refl, arith, length-append, inl, inr}
 use Rattle.std.specs.Prelude.{is_some}
-use Rattle.std.proofs.lemmas.Bool.{and_right, or_cases, lt-ltb, cases_Bool}
+use Rattle.std.proofs.lemmas.Bool.{or_cases, lt-ltb, cases_Bool}
 use Rattle.resp_value.specs.Spelling.{request_spelling}
-use Rattle.command_words.specs.Queries.{key_of, same_query, writes}
+use Rattle.command_words.specs.Queries.{key_of, writes}
 use Rattle.fill_mark.specs.declared.marks.Mark.{Mark}
 use Rattle.fill_mark.specs.Marks.{with_mark}
-use Rattle.shared_cache.specs.declared.log.Wire.TheVariants.{Main, Side}
 use Rattle.shared_cache.specs.declared.log.ClientMode.{ClientMode}
 use Rattle.shared_cache.specs.declared.log.LogEntry.{LogEntry}
 use Rattle.shared_cache.specs.declared.log.LogEntry.TheVariants.{Ask, Send, Poll, TakeOut, Got, End}
@@ -16,19 +15,17 @@ use Rattle.shared_cache.specs.declared.log.LogEntry.TheVariants.{Bad}
 use Rattle.shared_cache.specs.declared.entry.CacheEntry.{CacheEntry}
 use Rattle.shared_cache.specs.declared.entry.PendingReply.TheVariants.{Waiting}
 use Rattle.shared_cache.specs.declared.notices.Notice.{Notice}
-use Rattle.shared_cache.specs.declared.notices.Notice.TheVariants.{Reply, Keys, All, Broken, Other}
-use Rattle.shared_cache.specs.declared.notices.Notice.TheVariants.{Malformed}
 use Rattle.shared_cache.specs.Notices.{kind_of, named_keys, invalidates, invalidates_as}
-use Rattle.shared_cache.specs.Log.{first_number, is_ended, is_ready, is_broken}
+use Rattle.shared_cache.specs.Log.{first_number, is_ready, is_broken}
 use Rattle.shared_cache.specs.Log.{is_broken_notice, caching_on, caching_on_for}
 use Rattle.shared_cache.specs.Held.{Setup, Key, Words, Caller, put_read, numbered, numbers}
 use Rattle.shared_cache.specs.Held.{held_for}
-use Rattle.shared_cache.specs.Held.{used_at, unless, other_than, fetched, asked, sent, open_fetch}
+use Rattle.shared_cache.specs.Held.{used_at, unless, asked, sent, open_fetch}
 use Rattle.shared_cache.specs.Held.{last_use, held}
 use Rattle.std.specs.Str.{bytes_eq}
 use Rattle.lru.specs.LruCache.{promoted}
 use Rattle.shared_cache.specs.HeldKeys.{with_pairs}
-use Rattle.shared_cache.specs.ClientFields.{Fields, Reflects, marks_by, fetch_mark}
+use Rattle.shared_cache.specs.ClientFields.{Fields, Reflects, marks_by}
 use Rattle.shared_cache.proofs.Fetches.{unless_none}
 use Rattle.shared_cache.proofs.LastUses.{used_before}
 use Rattle.shared_cache.proofs.Keeps.{keeps_promoted, keeps_same}
@@ -43,19 +40,11 @@ use Rattle.shared_cache.proofs.OtherTurns.{pending_push}
 
 broken_off : (m : ClientMode) (log : List LogEntry) → is_broken m log ≡ true
     → caching_on m log ≡ false
-broken_off m log e =
-    and_right (is_ready m log)
-    (not (is_ended m Main log || is_ended m Side log) && not (is_broken m log))
-    (and_right (not (is_ended m Main log || is_ended m Side log)) (not (is_broken m log))
-    (ap not e))
+broken_off m log e = grind arith
 
 asked_none : (o : Option CacheEntry) (m : ClientMode) (on : Bool) (before : ℕ) (q : Words) (n : ℕ)
     (old : Option Words) → on ≡ false → old ≡ None → asked o m on before q n old ≡ None
-asked_none (Some h) m on before q n old e f = f
-asked_none None m on before q n old e f =
-    (λ i. cond (n == before + 1) (fetched (e i) q) (other_than q (f i)))
-    ∙ elim (n == before + 1) as
-    (λ b. cond {A = Option Words} b None None ≡ None) [ true ↦ refl | false ↦ refl ]
+asked_none o m on before q n old e f = grind arith
 
 unless_all : (t : Key → Bool) (o : Option Words) → ((k : Key) → t k ≡ true) → unless t o ≡ None
 unless_all t None all = refl
@@ -63,19 +52,12 @@ unless_all t (Some q) all = ap (λ b. cond b None (Some q)) (all (key_of q))
 
 breaks_all : (n : Notice) (keys : List Key) (k : Key) → is_broken_notice n ≡ true
     → invalidates_as n keys k ≡ true
-breaks_all Broken keys k e = refl
-breaks_all Reply keys k e = cc
-breaks_all Keys keys k e = cc
-breaks_all All keys k e = cc
-breaks_all Other keys k e = cc
-breaks_all Malformed keys k e = cc
+breaks_all n keys k e = grind arith
 
 pub broken_none : (s : Setup) (log : List LogEntry) (n : ℕ) → is_broken s.mode log ≡ true
     → open_fetch s log n ≡ None
 broken_none s [] n e = cc
-broken_none s (Ask q ∷ log) n e =
-    asked_none (held_for q (held s log)) s.mode (caching_on_for s.mode log (key_of q))
-    (numbers s log) q n (open_fetch s log n) (broken_off s.mode log e) (broken_none s log n e)
+broken_none s (Ask q ∷ log) n e = grind (arith, asked_none, broken_off, broken_none s log n e)
 broken_none s (Send ws ∷ log) n e =
     unless_none (writes ws) (open_fetch s log n) (broken_none s log n e)
 broken_none s (Poll m ∷ log) n e = broken_none s log n e
@@ -141,20 +123,7 @@ module _ (s : Setup) (log : List LogEntry) (f : Fields) (k : Reflects s log f) w
       → caching_on s.mode log ≡ true
       → with_mark number q (marks_by (open_fetch s log) f.replied (numbers s log)) ≡ marks_by
       (open_fetch s (Ask q ∷ log)) f.replied (suc (numbers s log))
-  marks_on q number e is on =
-      (λ i. sym (marks_filter (open_fetch s log) (open_fetch s (Ask q ∷ log))
-      (λ (m : Mark). not (same_query m.query q)) f.replied (numbers s log)
-      (λ m le. ap (fetch_mark m) (open_old s log q e m le) ∙ mark_other q m (open_fetch s log m))) i
-      ++ record {
-        number = (let g : number ≡ suc (numbers s log) = omega arith in g) i;
-        query =
-            q;
-      } ∷ [])
-      ∙ ap (λ o. marks_by (open_fetch s (Ask q ∷ log)) f.replied (numbers s log) ++ fetch_mark
-      (suc (numbers s log)) o) (sym (open_new s log q e true on))
-      ∙ ap (λ b. marks_by (open_fetch s (Ask q ∷ log)) f.replied (numbers s log) ++ cond b
-      (fetch_mark (suc (numbers s log)) (open_fetch s (Ask q ∷ log) (suc (numbers s log)))) [])
-      (sym (lt-ltb f.replied (suc (numbers s log)) (let w = k.replied_within in omega arith)))
+  marks_on q number e is on = grind (arith, marks_filter, open_old, mark_other, open_new, lt-ltb)
 
   reflects_miss : (q : Words) (new : List Mark) → held_for q (held s log) ≡ None
       → new ≡ marks_by (open_fetch s (Ask q ∷ log)) f.replied (suc (numbers s log))
@@ -207,12 +176,7 @@ module _ (s : Setup) (log : List LogEntry) (f : Fields) (k : Reflects s log f) w
         owed = f.owed + 1;
         marks = with_mark number q f.marks;
       })
-  reflects_fetch q number e is ready open_ whole =
-      let on : caching_on s.mode log ≡ true
-      = λ i. ready i &&
-      (not ((sym k.ended_is ∙ open_) i || k.side_is i) && not ((sym k.broken_is ∙ whole) i)) in
-      reflects_miss q (with_mark number q f.marks) e
-      (ap (with_mark number q) k.marks_is ∙ marks_on q number e (omega (arith, k.pending_count)) on)
+  reflects_fetch q number e is ready open_ whole = grind (arith, reflects_miss, marks_on)
 
   reflects_unmarked : (q : Words) → held_for q (held s log) ≡ None → f.broken ≡ true
       → Reflects s (Ask q ∷ log)

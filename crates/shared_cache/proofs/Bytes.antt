@@ -25,24 +25,12 @@ bytes_of cs = flat_map request_spelling (map (λ (c : SentCommand). c.words) cs)
 pub out_more : (s : Setup) (before after : List LogEntry) (cs : List SentCommand)
     → sent s after ≡ sent s before ++ cs → out s Main after ≡ out s Main before ++ bytes_of cs
 unfolding out
-out_more s before after cs e =
-    ap (λ l. flat_map request_spelling
-    (handshake s.mode before ++ map (λ (c : SentCommand). c.words) l)) e
-    ∙ ap (λ l. flat_map request_spelling (handshake s.mode before ++ l))
-    (map-append (λ (c : SentCommand). c.words) (sent s before) cs)
-    ∙ ap (flat_map request_spelling)
-    (sym (append_assoc (handshake s.mode before)
-    (map (λ (c : SentCommand). c.words) (sent s before)) (map (λ (c : SentCommand). c.words) cs)))
-    ∙ flat_map-append request_spelling
-    (handshake s.mode before ++ map (λ (c : SentCommand). c.words) (sent s before))
-    (map (λ (c : SentCommand). c.words) cs)
+out_more s before after cs e = grind (arith, map, map-append, append_assoc, flat_map-append)
 
 pub out_same : (s : Setup) (before after : List LogEntry) → sent s after ≡ sent s before
     → out s Main after ≡ out s Main before
 unfolding out
-out_same s before after e =
-    ap (λ l. flat_map request_spelling
-    (handshake s.mode before ++ map (λ (c : SentCommand). c.words) l)) e
+out_same s before after e = grind arith
 
 -- ---- no more were taken than there are
 

@@ -16,8 +16,7 @@ use Rattle.shared_cache.specs.declared.log.LogEntry.TheVariants.{Ask, Send, Poll
 use Rattle.shared_cache.specs.declared.log.LogEntry.TheVariants.{Bad}
 use Rattle.shared_cache.specs.declared.entry.CacheEntry.{CacheEntry}
 use Rattle.shared_cache.specs.declared.notices.Notice.{Notice}
-use Rattle.shared_cache.specs.declared.notices.Notice.TheVariants.{Reply, Keys, All, Broken, Other}
-use Rattle.shared_cache.specs.declared.notices.Notice.TheVariants.{Malformed}
+use Rattle.shared_cache.specs.declared.notices.Notice.TheVariants.{Reply}
 use Rattle.shared_cache.specs.Notices.{kind_of, invalidates, is_reply}
 use Rattle.shared_cache.specs.Log.{replies}
 use Rattle.shared_cache.specs.Held.{Setup, Key, Words, held_for, has_key, keys_held, earlier}
@@ -45,11 +44,7 @@ module _ (use_of : Key → ℕ) where
   least_from : (b : CacheEntry) (hs : List CacheEntry) → (used (earliest_from use_of b hs) ≤ used b)
       × Every (λ h. used (earliest_from use_of b hs) ≤ used h) hs
   least_from b [] = (omega arith, tt)
-  least_from b (h ∷ hs) =
-      let r = least_from (earlier use_of h b) hs in
-      let e = earlier_least h b in
-      let x = r.0 in let y = e.0 in let z = e.1 in
-      (omega (arith, x, z), (omega (arith, x, y), r.1))
+  least_from b (h ∷ hs) = grind (arith, earlier_least, least_from (earlier use_of h b) hs)
 
   earlier_has : (t : Bool) (k : Key) (h b : CacheEntry) (hs : List CacheEntry)
       → has_key k (cond t h b ∷ hs) ≡ true → has_key k (b ∷ h ∷ hs) ≡ true
@@ -58,10 +53,7 @@ module _ (use_of : Key → ℕ) where
   has_from : (b : CacheEntry) (hs : List CacheEntry) → ((k : Key) → bytes_eq k k ≡ true)
       → has_key (key_of (earliest_from use_of b hs).query) (b ∷ hs) ≡ true
   has_from b [] same = ap (λ t. t || false) (same (key_of b.query))
-  has_from b (h ∷ hs) same =
-      earlier_has (nat_lt (used h) (used b))
-      (key_of (earliest_from use_of (earlier use_of h b) hs).query) h b hs
-      (has_from (earlier use_of h b) hs same)
+  has_from b (h ∷ hs) same = grind (arith, earlier_has, has_from (earlier use_of h b) hs same)
 
   pub least : (hs : List CacheEntry) (k : Key) → ((j : Key) → bytes_eq j j ≡ true)
       → key_held (earliest use_of hs) ≡ Some k
@@ -189,22 +181,14 @@ any_filled capacity use_of None n v hs some le = le
 any_filled capacity use_of (Some q) n v hs some le = filled_within capacity use_of q n v hs some le
 
 reply_is : (k : Notice) → is_reply k ≡ true → k ≡ Reply
-reply_is Reply e = refl
-reply_is Keys e = cc
-reply_is All e = cc
-reply_is Broken e = cc
-reply_is Other e = cc
-reply_is Malformed e = cc
+reply_is k e = grind arith
 
 abbrev Within : Setup → List LogEntry → Type 0
 Within s log = keys_held (held s log) ≤ s.capacity
 
 asked_within : (s : Setup) (log : List LogEntry) (q : Words) → LegalLog s log
     → (o : Option CacheEntry) → held_for q (held s log) ≡ o → Within s log → Within s (Ask q ∷ log)
-asked_within s log q l (Some h) e w =
-    subst (λ hs. keys_held hs ≤ s.capacity) (sym (held_hit s log q h e)) w
-asked_within s log q l None e w =
-    subst (λ hs. keys_held hs ≤ s.capacity) (sym (held_miss s log q e (replies_within s log l))) w
+asked_within s log q l o e w = grind (arith, held_hit, held_miss, replies_within)
 
 got_within : (s : Setup) (log : List LogEntry) (v : Value) → 0 < s.capacity → Within s log
     → Within s (Got Main v ∷ log)

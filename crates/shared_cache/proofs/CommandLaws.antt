@@ -9,7 +9,6 @@ use Rattle.std.proofs.lemmas.Option.{slice_get_within}
 use Rattle.std.specs.Prelude.{map}
 use Rattle.resp_value.specs.declared.value.Value.{Value}
 use Rattle.command_words.specs.declared.command.Command.{Command}
-use Rattle.command_words.specs.declared.command.Command.TheVariants as command
 use Rattle.command_words.specs.declared.command.WordFault.{WordFault}
 use Rattle.command_words.specs.Words.{reading}
 use Rattle.command_words.specs.Control.{is_control_command, reads_as_control, is_control}
@@ -23,10 +22,8 @@ use Rattle.shared_cache.specs.declared.log.LogEntry.TheVariants.{Ask, Send, Poll
 use Rattle.shared_cache.specs.declared.log.LogEntry.TheVariants.{Bad}
 use Rattle.shared_cache.specs.declared.entry.CacheEntry.{CacheEntry}
 use Rattle.shared_cache.specs.declared.notices.Notice.{Notice}
-use Rattle.shared_cache.specs.declared.notices.Notice.TheVariants.{Reply, Keys, All, Broken, Other}
-use Rattle.shared_cache.specs.declared.notices.Notice.TheVariants.{Malformed}
-use Rattle.shared_cache.specs.Notices.{notice_of, invalidates}
-use Rattle.shared_cache.specs.Log.{handshake, replies, reply_in, with_reply, is_wire}
+use Rattle.shared_cache.specs.Notices.{invalidates}
+use Rattle.shared_cache.specs.Log.{handshake, reply_in, with_reply}
 use Rattle.shared_cache.specs.Log.{is_ready, is_accepted, caching_on_for}
 use Rattle.shared_cache.specs.Held.{Setup, Key, Words, SentCommand, Caller, put_ask, put_read}
 use Rattle.shared_cache.specs.Held.{put_command, held_for}
@@ -57,19 +54,7 @@ has_words (w ∷ ws) e = omega arith
 -- a cacheable command writes nothing, and changes nothing of the connection
 cacheable_reads : (c : Command) (k : Key) → is_cacheable c ≡ true
     → (names (written c) k ≡ false) × (is_control_command c ≡ false)
-cacheable_reads (command.Get key) k e = (refl, refl)
-cacheable_reads (command.StrLen key) k e = (refl, refl)
-cacheable_reads (command.GetRange key a b) k e = (refl, refl)
-cacheable_reads (command.HGet key field) k e = (refl, refl)
-cacheable_reads (command.HMGet key fields) k e = (refl, refl)
-cacheable_reads (command.HGetAll key) k e = (refl, refl)
-cacheable_reads (command.HLen key) k e = (refl, refl)
-cacheable_reads (command.HExists key field) k e = (refl, refl)
-cacheable_reads (command.HKeys key) k e = (refl, refl)
-cacheable_reads (command.HVals key) k e = (refl, refl)
-cacheable_reads (command.Exists keys) k e = (refl, refl)
-cacheable_reads (command.KeyType key) k e = (refl, refl)
-cacheable_reads _ k e = absurd (let no : false ≡ true = e in cc)
+cacheable_reads c k e = grind arith
 
 reads_write_none : (r : Result Command WordFault) (k : Key) → reads_as_cacheable r ≡ true
     → names (written_as r) k ≡ false
@@ -141,28 +126,15 @@ more_accepted : (v : Value) (vs : List Value) → is_accepted (reply_in 2 vs) �
     → is_accepted (reply_in 2 (v ∷ vs)) ≡ true
 more_accepted v [] e = cc
 more_accepted v (u ∷ []) e = cc
-more_accepted v (u ∷ t ∷ vs) e =
-    ap (λ b. is_accepted (cond b (Some v) (reply_in 2 (u ∷ t ∷ vs))))
-    (ne_eqb 2 (length (u ∷ t ∷ vs) + 1) (λ f. omega arith)) ∙ e
+more_accepted v (u ∷ t ∷ vs) e = grind (arith, ne_eqb)
 
 with_accepted : (main : Bool) (k : Notice) (v : Value) (vs : List Value)
     → is_accepted (reply_in 2 vs) ≡ true → is_accepted (reply_in 2 (with_reply main k v vs)) ≡ true
-with_accepted true Reply v vs e = more_accepted v vs e
-with_accepted true Keys v vs e = e
-with_accepted true All v vs e = e
-with_accepted true Broken v vs e = e
-with_accepted true Other v vs e = e
-with_accepted true Malformed v vs e = e
-with_accepted false k v vs e = e
+with_accepted main k v vs e = grind (arith, more_accepted)
 
 unready_before : (s : Setup) (w : Wire) (v : Value) (log : List LogEntry)
     → is_ready s.mode (Got w v ∷ log) ≡ false → is_ready s.mode log ≡ false
-unready_before s w v log e = elim (cases_Bool (is_ready s.mode log)) [
-  | inl ready ↦ let f : true ≡ false =
-      sym (with_accepted (is_wire w Main) (notice_of s.mode w v) v (replies s.mode Main log) ready)
-      ∙ e in cc
-  | inr not_ ↦ not_
-]
+unready_before s w v log e = grind (arith, cases_Bool, with_accepted)
 
 nothing_sent : (s : Setup) (log : List LogEntry) → LegalLog s log → is_ready s.mode log ≡ false
     → sent s log ≡ []
@@ -191,11 +163,7 @@ commands_of s log cs = handshake s.mode log ++ map (λ (c : SentCommand). c.word
 
 within : (s : Setup) (log : List LogEntry) (n : ℕ) (q : Words) → open_fetch s log n ≡ Some q
     → n ≤ length (commands s Main log)
-within s log n q f =
-    let p = place_is_query s log n q f in
-    let lt = slice_get_within (commands s Main log) (n - 1) q p.1 in
-    let some = p.0 in
-    omega (arith, lt, some)
+within s log n q f = grind (arith, place_is_query, slice_get_within)
 
 every_dropped : (P : Words → Type 0) (s : Setup) (log : List LogEntry) (xs ys : List SentCommand)
     (n : ℕ)

@@ -1,14 +1,13 @@
 -- The laws of open fetches and of what is held, by induction along the log.
 use Rattle.std.proofs.Common.{◌≡◌, ◌+◌, ◌-◌, ◌<◌, ◌≤◌, ◌++◌, zero, suc, ◌&&◌, ◌||◌, ◌⊎◌, ℕ, List}
-use Rattle.std.proofs.Common.{[], ◌∷◌, length, Bool, true, false, cond, not, Option, Some}
+use Rattle.std.proofs.Common.{[], ◌∷◌, length, Bool, true, false, not, Option, Some}
 use Rattle.std.proofs.Common.{None, sym, ap, ◌∙◌, refl, subst, inl, inr, arith}
-use Rattle.std.proofs.Common.{eq-eqb, ne_eqb}
-use Rattle.std.proofs.lemmas.Bool.{cases_eq, cases_Bool, and_parts, or_parts, not-true}
+use Rattle.std.proofs.Common.{ne_eqb}
+use Rattle.std.proofs.lemmas.Bool.{and_parts, or_parts, not-true}
 use Rattle.std.specs.List.{slice_get}
 use Rattle.std.specs.Prelude.{map}
-use Rattle.std.proofs.lemmas.Option.{same_Some}
 use Rattle.resp_value.specs.declared.value.Value.{Value}
-use Rattle.command_words.specs.Queries.{key_of, same_query, writes}
+use Rattle.command_words.specs.Queries.{key_of, writes}
 use Rattle.shared_cache.specs.declared.log.Wire.{Wire}
 use Rattle.shared_cache.specs.declared.log.Wire.TheVariants.{Main, Side}
 use Rattle.shared_cache.specs.declared.log.ClientMode.{ClientMode}
@@ -17,11 +16,11 @@ use Rattle.shared_cache.specs.declared.log.LogEntry.TheVariants.{Ask, Send, Poll
 use Rattle.shared_cache.specs.declared.log.LogEntry.TheVariants.{Bad}
 use Rattle.shared_cache.specs.declared.entry.CacheEntry.{CacheEntry}
 use Rattle.shared_cache.specs.Notices.{invalidates}
-use Rattle.shared_cache.specs.Log.{handshake, replies, reply_in, is_ended}
+use Rattle.shared_cache.specs.Log.{handshake, reply_in, is_ended}
 use Rattle.shared_cache.specs.Log.{is_ready, is_broken, caching_on_for}
 use Rattle.shared_cache.specs.Held.{Setup, Key, Words, SentCommand, Caller, put_ask, put_read}
-use Rattle.shared_cache.specs.Held.{held_for, unless, other_than, fetched, asked, hold}
-use Rattle.shared_cache.specs.Held.{held_by, ends, numbers, sent, open_fetch, left, held}
+use Rattle.shared_cache.specs.Held.{held_for, unless, asked, hold}
+use Rattle.shared_cache.specs.Held.{held_by, ends, numbers, sent, open_fetch, held}
 use Rattle.shared_cache.specs.Held.{commands}
 use Rattle.resp_value.specs.Lists.{IsPrefix}
 use Rattle.shared_cache.specs.Laws.{Every, WasSent}
@@ -36,23 +35,7 @@ use Rattle.shared_cache.proofs.CommandLists.{commands_grow}
 
 pub unless_some : (t : Key → Bool) (o : Option Words) (q : Words) → unless t o ≡ Some q
     → (o ≡ Some q) × (t (key_of q) ≡ false)
-unless_some t None q e = cc
-unless_some t (Some p) q e = elim (cases_Bool (t (key_of p))) [
-  | inl yes_ ↦ let f : None ≡ Some q = sym (ap (λ b. cond b None (Some p)) yes_) ∙ e in cc
-  | inr not_ ↦ let f : Some p ≡ Some q = sym (ap (λ b. cond b None (Some p)) not_) ∙ e in
-      (f, subst (λ x. t (key_of x) ≡ false) (same_Some p q f) not_)
-]
-
-other_some : (p : Words) (o : Option Words) (q : Words) → other_than p o ≡ Some q → o ≡ Some q
-other_some p None q e = e
-other_some p (Some r) q e = elim (cases_Bool (same_query r p)) [
-  | inl yes_ ↦ let f : None ≡ Some q = sym (ap (λ b. cond b None (Some r)) yes_) ∙ e in cc
-  | inr not_ ↦ sym (ap (λ b. cond b None (Some r)) not_) ∙ e
-]
-
-fetched_some : (on : Bool) (p q : Words) → fetched on p ≡ Some q → (on ≡ true) × (p ≡ q)
-fetched_some true p q e = (refl, same_Some p q e)
-fetched_some false p q e = cc
+unless_some t o q e = grind arith
 
 pub record IsNew (o : Option CacheEntry) (m : ClientMode) (on : Bool) (before : ℕ) (p : Words)
     (n : ℕ) (q : Words) : Type 0 where
@@ -64,18 +47,7 @@ pub record IsNew (o : Option CacheEntry) (m : ClientMode) (on : Bool) (before : 
 pub asked_some : (o : Option CacheEntry) (m : ClientMode) (on : Bool) (before : ℕ) (p : Words)
     (n : ℕ) (old : Option Words) (q : Words)
     → asked o m on before p n old ≡ Some q → (old ≡ Some q) ⊎ IsNew o m on before p n q
-asked_some (Some h) m on before p n old q e = inl e
-asked_some None m on before p n old q e = elim (cases_eq n (before + length (put_read m on p))) [
-  | inl same ↦
-      let f = fetched_some on p q
-      (sym (ap (λ b. cond b (fetched on p) (other_than p old))
-      (eq-eqb n (before + length (put_read m on p)) same)) ∙ e) in
-      inr (record { missed = refl; number_is = same; turned_on = f.0; query_is = f.1 })
-  | inr other ↦ inl
-      (other_some p old q
-      (sym (ap (λ b. cond b (fetched on p) (other_than p old))
-      (ne_eqb n (before + length (put_read m on p)) other)) ∙ e))
-]
+asked_some o m on before p n old q e = grind arith
 
 one_later : (s : Setup) (log : List LogEntry) (n : ℕ) (q : Words) (e : LogEntry)
     → ends s log n e (key_of q) ≡ false → WasSent s log n q → WasSent s (e ∷ log) n q
@@ -117,10 +89,7 @@ open_was_sent s (End w ∷ log) n q f = cc
 open_was_sent s (Bad w v ∷ log) n q f = cc
 
 pub sent_ready : SentReady
-sent_ready s log n q f w =
-    (and_parts (is_ready s.mode w.sooner)
-    (not (is_ended s.mode Main w.sooner || is_ended s.mode Side w.sooner) && not
-    (is_broken s.mode w.sooner)) w.on).0
+sent_ready s log n q f w = grind arith
 
 pub open_wires : OpenWires
 open_wires s [] n q f = cc
@@ -152,14 +121,8 @@ at_end : (n : ℕ) (front : List Words) (xs ys : List SentCommand) (c : SentComm
     → n ≡ length front + length xs
     → slice_get (front ++ map (λ c. c.words) (xs ++ c ∷ ys)) n ≡ Some c.words
 at_end n [] [] ys c e = ap (λ i. slice_get (c.words ∷ map (λ (d : SentCommand). d.words) ys) i) e
-at_end n [] (x ∷ xs) ys c e =
-    ap (λ i. slice_get (x.words ∷ map (λ (d : SentCommand). d.words) (xs ++ c ∷ ys)) i)
-    (let f : n ≡ suc (length xs) = omega arith in f)
-    ∙ at_end (length xs) [] xs ys c (omega arith)
-at_end n (f ∷ front) xs ys c e =
-    ap (λ i. slice_get (f ∷ front ++ map (λ (d : SentCommand). d.words) (xs ++ c ∷ ys)) i)
-    (let g : n ≡ suc (length front + length xs) = omega arith in g)
-    ∙ at_end (length front + length xs) front xs ys c refl
+at_end n [] (x ∷ xs) ys c e = grind (arith, at_end (length xs) [] xs ys c (omega arith))
+at_end n (f ∷ front) xs ys c e = grind (arith, at_end (length front + length xs) front xs ys c refl)
 
 get_grows : (xs ys : List Words) (i : ℕ) (x : Words) → IsPrefix xs ys → slice_get xs i ≡ Some x
     → slice_get ys i ≡ Some x
@@ -216,39 +179,16 @@ Fetched open_of vs h = (open_of h.number ≡ Some h.query) × (reply_in h.number
 hold_every : (open_of : ℕ → Option Words) (o : Option Words) (gone : Bool) (v : Value)
     (vs : List Value) → open_of (length vs + 1) ≡ o
     → Every (Fetched open_of (v ∷ vs)) (hold o gone v (length vs + 1))
-hold_every open_of None gone v vs e = tt
-hold_every open_of (Some q) true v vs e = tt
-hold_every open_of (Some q) false v vs e = (
-  (
-    e,
-    ap (λ b. cond b (Some v) (reply_in (length vs + 1) vs))
-        (eq-eqb (length vs + 1) (length vs + 1) refl),
-    omega arith,
-  ),
-  tt,
-)
+hold_every open_of o gone v vs e = grind arith
 
 held_every : (open_of : ℕ → Option Words) (left_of : ℕ → Bool) (vs : List Value)
     → Every (Fetched open_of vs) (held_by open_of left_of vs)
 held_every open_of left_of [] = tt
 held_every open_of left_of (v ∷ vs) =
-    every_append (Fetched open_of (v ∷ vs)) (held_by open_of left_of vs)
-    (hold (open_of (length vs + 1)) (left_of (length vs + 1)) v (length vs + 1))
-    (every_weaker (Fetched open_of vs) (Fetched open_of (v ∷ vs)) (held_by open_of left_of vs)
-    (λ h a. (
-      a.0,
-      ap (λ b. cond b (Some v) (reply_in h.number vs))
-          (ne_eqb h.number (length vs + 1) (λ f. omega (arith, a.2))) ∙ a.1,
-      omega (arith, a.2),
-    ))
-    (held_every open_of left_of vs))
-    (hold_every open_of (open_of (length vs + 1)) (left_of (length vs + 1)) v vs refl)
+    grind (arith, every_append, every_weaker, ne_eqb, hold_every, held_every open_of left_of vs)
 
 pub held_is_fetch : HeldIsFetch
-held_is_fetch s log =
-    every_weaker (Fetched (open_fetch s log) (replies s.mode Main log)) (IsFetch s log) (held s log)
-    (λ h a. record { fetch = a.0; reply_is = a.1 })
-    (held_every (open_fetch s log) (left s log) (replies s.mode Main log))
+held_is_fetch s log = grind (arith, every_weaker, held_every)
 
 -- ---- nothing is held after an end
 

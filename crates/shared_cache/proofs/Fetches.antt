@@ -1,6 +1,6 @@
 -- What holds of the fetches of any log.
 use Rattle.std.proofs.Common.{◌≡◌, ◌+◌, ◌<◌, ◌≤◌, ◌++◌, ℕ, List, [], ◌∷◌, length, append-nil, Bool}
-use Rattle.std.proofs.Common.{true, false, cond, Option, Some, None, ap, ◌∙◌, refl, arith, ne_eqb}
+use Rattle.std.proofs.Common.{false, Option, None, ap, refl, arith, ne_eqb}
 use Rattle.std.proofs.Common.{length-append}
 use Rattle.std.proofs.lemmas.Bool.{lt-leb, or_from, and_left}
 use Rattle.resp_value.specs.declared.value.Value.{Value}
@@ -11,12 +11,10 @@ use Rattle.shared_cache.specs.declared.log.LogEntry.TheVariants.{Ask, Send, Poll
 use Rattle.shared_cache.specs.declared.log.LogEntry.TheVariants.{Bad}
 use Rattle.shared_cache.specs.declared.entry.CacheEntry.{CacheEntry}
 use Rattle.shared_cache.specs.declared.notices.Notice.{Notice}
-use Rattle.shared_cache.specs.declared.notices.Notice.TheVariants.{Reply, Keys, All, Broken, Other}
-use Rattle.shared_cache.specs.declared.notices.Notice.TheVariants.{Malformed}
 use Rattle.shared_cache.specs.Notices.{notice_of, invalidates}
 use Rattle.shared_cache.specs.Log.{is_wire, replies, with_reply}
 use Rattle.shared_cache.specs.Held.{Setup, Key, Words, SentCommand, numbered, numbers, held_for}
-use Rattle.shared_cache.specs.Held.{held, unless, other_than, fetched, asked, put_ask, put_read}
+use Rattle.shared_cache.specs.Held.{held, unless, asked, put_ask}
 use Rattle.shared_cache.specs.Held.{put_command, sent, open_fetch, left}
 
 pub unless_none : (t : Key → Bool) (o : Option Words) → o ≡ None → unless t o ≡ None
@@ -27,13 +25,7 @@ beyond_asked : (h : Option CacheEntry) (on : Bool) (q : Words) (before : List Se
     (s : Setup) (n : ℕ) (old : Option Words)
     → numbered s (before ++ put_ask h s.mode on q) < n → (numbered s before < n → old ≡ None)
     → asked h s.mode on (numbered s before) q n old ≡ None
-beyond_asked (Some h) on q before s n old lt rest =
-    rest (let e = ap length (append-nil before) in omega (arith, e))
-beyond_asked None on q before s n old lt rest =
-    ap (λ b. cond b (fetched on q) (other_than q old))
-    (ne_eqb n (numbered s before + 1)
-    (λ e. omega (arith, length-append before (put_read s.mode on q))))
-    ∙ ap (other_than q) (rest (omega (arith, length-append before (put_read s.mode on q))))
+beyond_asked h on q before s n old lt rest = grind (arith, append-nil, ne_eqb, length-append)
 
 pub beyond : (s : Setup) (log : List LogEntry) (n : ℕ) → numbers s log < n
     → open_fetch s log n ≡ None
@@ -54,13 +46,7 @@ beyond s (Bad w v ∷ log) n lt = refl
 -- replies are added, and none is taken away
 more_replies : (main : Bool) (k : Notice) (v : Value) (vs : List Value)
     → length vs ≤ length (with_reply main k v vs)
-more_replies true Reply v vs = omega arith
-more_replies true Keys v vs = omega arith
-more_replies true All v vs = omega arith
-more_replies true Broken v vs = omega arith
-more_replies true Other v vs = omega arith
-more_replies true Malformed v vs = omega arith
-more_replies false k v vs = omega arith
+more_replies main k v vs = grind arith
 
 -- a fetch without a reply has not left
 pub stays : (s : Setup) (log : List LogEntry) (n : ℕ) → length (replies s.mode Main log) < n

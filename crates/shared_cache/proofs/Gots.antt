@@ -1,9 +1,9 @@
 -- After a value was read the fields are what the log says.
 use Rattle.std.proofs.Common.{◌≡◌, ◌+◌, ◌-◌, ◌<◌, ◌||◌, ℕ, suc, List, [], ◌∷◌}
-use Rattle.std.proofs.Common.{length, set, get_or, true, false, cond, not, Option, Some}
-use Rattle.std.proofs.Common.{sym, ap, ◌∙◌, refl, subst, arith, ne_eqb, eq-eqb, inl, inr}
+use Rattle.std.proofs.Common.{length, get_or, true, false, cond, not, Option}
+use Rattle.std.proofs.Common.{sym, ap, ◌∙◌, refl, subst, arith, ne_eqb}
 use Rattle.std.proofs.Common.{length-set}
-use Rattle.std.specs.Prelude.{nat_lt, nat_le}
+use Rattle.std.specs.Prelude.{nat_le}
 use Rattle.std.specs.List.{filter}
 use Rattle.std.proofs.lemmas.Bool.{cases_eq, cases_lt, le-leb, lt-ltb, le-ltb, leb-false}
 use Rattle.std.proofs.lemmas.List.{get_or-set_same, get_or-set_other}
@@ -18,8 +18,7 @@ use Rattle.shared_cache.specs.declared.log.LogEntry.TheVariants.{Got}
 use Rattle.shared_cache.specs.declared.entry.CacheEntry.{CacheEntry}
 use Rattle.shared_cache.specs.declared.entry.PendingReply.TheVariants.{Waiting, There, Gone}
 use Rattle.shared_cache.specs.declared.notices.Notice.{Notice}
-use Rattle.shared_cache.specs.declared.notices.Notice.TheVariants.{Reply, Keys, All, Broken, Other}
-use Rattle.shared_cache.specs.declared.notices.Notice.TheVariants.{Malformed}
+use Rattle.shared_cache.specs.declared.notices.Notice.TheVariants.{Reply}
 use Rattle.shared_cache.specs.Notices.{kind_of, named_keys, invalidates, invalidates_as, is_reply}
 use Rattle.shared_cache.specs.Notices.{IsPush}
 use Rattle.shared_cache.specs.Log.{replies, reply_in, is_accepted}
@@ -42,25 +41,14 @@ use Rattle.shared_cache.proofs.Bytes.{untaken_same}
 use Rattle.shared_cache.proofs.PendingLists.{no_reply, owed_there}
 
 push_no_reply : (n : Notice) → IsPush n → is_reply n ≡ false
-push_no_reply Reply p = absurd p
-push_no_reply Malformed p = absurd p
-push_no_reply Keys p = refl
-push_no_reply All p = refl
-push_no_reply Broken p = refl
-push_no_reply Other p = refl
+push_no_reply n p = grind arith
 
 -- the handshake is answered as it is to be answered
 ready_next : (vs : List Value) (v : Value) (s : Setup)
     → is_welcome s.mode Main (length vs + 1) v ≡ true
     → is_accepted (reply_in 2 vs) ≡ nat_le 2 (length vs)
     → is_accepted (reply_in 2 (v ∷ vs)) ≡ nat_le 2 (length vs + 1)
-ready_next [] v s w r = refl
-ready_next (u ∷ []) v s w r = w
-ready_next (u ∷ t ∷ vs) v s w r =
-    ap (λ b. is_accepted (cond b (Some v) (reply_in 2 (u ∷ t ∷ vs))))
-    (ne_eqb 2 (length (u ∷ t ∷ vs) + 1) (λ f. omega arith))
-    ∙ r ∙ le-leb 2 (length (u ∷ t ∷ vs)) (omega arith)
-    ∙ sym (le-leb 2 (length (u ∷ t ∷ vs) + 1) (omega arith))
+ready_next vs v s w r = grind (arith, ne_eqb, le-leb)
 
 module _ (s : Setup) (log : List LogEntry) (f : Fields) (k : Reflects s log f) where
   pub reflects_push : (v : Value) (n : Notice) (w : Written) → n ≡ kind_of v → IsPush n
@@ -111,77 +99,33 @@ module _ (s : Setup) (log : List LogEntry) (f : Fields) (k : Reflects s log f) w
 
   -- a number without a reply waits
   pub waits : (i : ℕ) → i < length f.pending → f.replied < i + 3 → get_or f.pending i Gone ≡ Waiting
-  waits i lt late =
-      k.pending_is i lt
-      ∙ ap (λ b. cond b Gone (there (reply_in (i + 3) (replies s.mode Main log))))
-      (k.unpolled (i + 3) late)
-      ∙ ap there (no_reply (i + 3) (replies s.mode Main log) (omega (arith, k.replied_is)))
+  waits i lt late = grind (arith, no_reply)
 
   pending_other : (v : Value) (i : ℕ) → kind_of v ≡ Reply → i < length f.pending
       → (i + 3 ≡ f.replied + 1 → ⊥)
       → get_or f.pending i Gone ≡ pending_at s.mode (Got Main v ∷ log) (i + 3)
-  pending_other v i e lt ne =
-      k.pending_is i lt
-      ∙ ap (λ b. cond (is_polled log (i + 3)) Gone
-      (there (cond b (Some v) (reply_in (i + 3) (replies s.mode Main log)))))
-      (sym (ne_eqb (i + 3) (length (replies s.mode Main log) + 1)
-      (λ g. ne (omega (arith, k.replied_is)))))
-      ∙ ap (λ vs. cond (is_polled log (i + 3)) Gone (there (reply_in (i + 3) vs)))
-      (sym (replies_reply s log v e))
+  pending_other v i e lt ne = grind arith
 
   pending_next : (v : Value) (i : ℕ) → kind_of v ≡ Reply → i + 3 ≡ f.replied + 1
       → There v ≡ pending_at s.mode (Got Main v ∷ log) (i + 3)
-  pending_next v i e is =
-      sym (ap (λ vs. cond (is_polled log (i + 3)) Gone (there (reply_in (i + 3) vs)))
-      (replies_reply s log v e)
-      ∙ ap (λ b. cond b Gone (there (reply_in (i + 3) (v ∷ replies s.mode Main log))))
-      (k.unpolled (i + 3) (omega arith))
-      ∙ ap (λ b. there (cond b (Some v) (reply_in (i + 3) (replies s.mode Main log))))
-      (eq-eqb (i + 3) (length (replies s.mode Main log) + 1) (omega (arith, k.replied_is))))
+  pending_next v i e is = grind arith
 
   pending_settled : (v : Value) (number i : ℕ) → kind_of v ≡ Reply → number ≡ f.replied + 1
       → f.replied < length f.pending + 2 → i < length (settled s.mode number v f.pending)
       → get_or (settled s.mode number v f.pending) i Gone ≡ pending_at s.mode (Got Main v ∷ log)
       (i + 3)
-  pending_settled v number i e is within lt = elim (cases_lt 2 number) [
-    | inl big ↦
-        let to : settled s.mode number v f.pending ≡ set f.pending (number - 3) (There v)
-        = ap (λ b. cond b (set f.pending (number - 3) (There v)) f.pending) (lt-ltb 2 number big) in
-        let short : i < length f.pending
-        = omega (arith, ap length to, length-set f.pending (number - 3) (There v)) in
-        ap (λ l. get_or l i Gone) to
-        ∙ elim (cases_eq i (number - 3)) [
-          | inl same ↦ ap (λ j. get_or (set f.pending (number - 3) (There v)) j Gone) same
-              ∙ get_or-set_same f.pending (number - 3) (There v) Gone (omega arith)
-              ∙ pending_next v i e (omega arith)
-          | inr other ↦ get_or-set_other f.pending (number - 3) i (There v) Gone other
-              ∙ pending_other v i e short (λ g. other (omega arith))
-        ]
-    | inr small ↦
-        let to : settled s.mode number v f.pending ≡ f.pending
-        = ap (λ b. cond b (set f.pending (number - 3) (There v)) f.pending)
-        (le-ltb 2 number small) in
-        ap (λ l. get_or l i Gone) to
-        ∙ pending_other v i e (omega (arith, ap length to)) (λ g. omega arith)
-  ]
+  pending_settled v number i e is within lt =
+      grind (arith, cases_lt, lt-ltb, length-set, cases_eq, get_or-set_same, pending_next,
+      get_or-set_other, pending_other, le-ltb)
 
   length_settled : (v : Value) (number : ℕ)
       → length (settled s.mode number v f.pending) ≡ length f.pending
-  length_settled v number =
-      elim (nat_lt 2 number) as
-      (λ b. length (cond b (set f.pending (number - 3) (There v)) f.pending) ≡ length f.pending)
-      [ true ↦ length-set f.pending (number - 3) (There v) | false ↦ refl ]
+  length_settled v number = grind (arith, length-set)
 
   owed_settled : (v : Value) (number : ℕ) → number ≡ f.replied + 1
       → f.replied < length f.pending + 2
       → owed_in (settled s.mode number v f.pending) ≡ owed_in f.pending
-  owed_settled v number is within = elim (cases_lt 2 number) [
-    | inl big ↦ ap (λ b. owed_in (cond b (set f.pending (number - 3) (There v)) f.pending))
-        (lt-ltb 2 number big)
-        ∙ owed_there f.pending (number - 3) v (waits (number - 3) (omega arith) (omega arith))
-    | inr small ↦ ap (λ b. owed_in (cond b (set f.pending (number - 3) (There v)) f.pending))
-        (le-ltb 2 number small)
-  ]
+  owed_settled v number is within = grind (arith, cases_lt, lt-ltb, owed_there, waits, le-ltb)
 
   pub reflects_reply : (v : Value) (number : ℕ) → kind_of v ≡ Reply
       → nat_le (numbers s log) (length (replies s.mode Main log)) ≡ false

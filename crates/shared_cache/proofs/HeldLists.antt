@@ -1,6 +1,6 @@
 -- How what is held changes with its fetches.
 use Rattle.std.proofs.Common.{◌≡◌, ◌+◌, ◌≤◌, ◌++◌, ℕ, List, [], ◌∷◌, length, Bool}
-use Rattle.std.proofs.Common.{not, Option, Some, None, sym, ◌∙◌, refl, arith, append-nil}
+use Rattle.std.proofs.Common.{not, Option, Some, None, ◌∙◌, refl, arith, append-nil}
 use Rattle.std.specs.List.{filter}
 use Rattle.std.proofs.lemmas.List.Elements.{filter-append}
 use Rattle.std.proofs.lemmas.Grind.{common_steps}
@@ -17,10 +17,8 @@ pub held_filter : (open_of open_new : ℕ → Option Words) (left_of left_new : 
     → held_by open_new left_new vs ≡ filter p (held_by open_of left_of vs)
 held_filter open_of open_new left_of left_new p [] each = refl
 held_filter open_of open_new left_of left_new p (v ∷ vs) each =
-    (λ i. held_filter open_of open_new left_of left_new p vs
-    (λ n u le. each n u (omega arith)) i ++ each (length vs + 1) v (omega arith) i)
-    ∙ sym (filter-append p (held_by open_of left_of vs)
-    (hold (open_of (length vs + 1)) (left_of (length vs + 1)) v (length vs + 1)))
+    grind (arith, filter-append,
+    held_filter open_of open_new left_of left_new p vs (λ n u le. each n u (omega arith)))
 
 -- nothing changes
 pub held_same : (open_of open_new : ℕ → Option Words) (left_of left_new : ℕ → Bool)

@@ -1,11 +1,11 @@
 -- What each entry of the log does to what is held, to the fetches and to the replies.
-use Rattle.std.proofs.Common.{◌≡◌, ◌==◌, ◌+◌, ◌≤◌, ◌++◌, ◌&&◌, ◌||◌, ℕ, suc, List, ◌∷◌, length}
-use Rattle.std.proofs.Common.{Bool, true, false, cond, not, Option, Some, None, ap, ◌∙◌, refl}
+use Rattle.std.proofs.Common.{◌≡◌, ◌+◌, ◌≤◌, ◌++◌, ◌&&◌, ◌||◌, ℕ, suc, List, ◌∷◌, length}
+use Rattle.std.proofs.Common.{Bool, true, false, not, Option, Some, None, ap, ◌∙◌, refl}
 use Rattle.std.proofs.Common.{arith}
-use Rattle.std.proofs.Common.{append-nil, ne_eqb, eq-eqb}
+use Rattle.std.proofs.Common.{append-nil}
 use Rattle.std.specs.Prelude.{nat_le}
 use Rattle.std.specs.List.{filter}
-use Rattle.std.proofs.lemmas.Bool.{lt-leb, le-leb}
+use Rattle.std.proofs.lemmas.Bool.{lt-leb}
 use Rattle.std.proofs.lemmas.Grind.{common_steps}
 use Rattle.resp_value.specs.declared.value.Value.{Value}
 use Rattle.command_words.specs.Queries.{key_of, same_query, writes}
@@ -15,12 +15,11 @@ use Rattle.shared_cache.specs.declared.log.LogEntry.{LogEntry}
 use Rattle.shared_cache.specs.declared.log.LogEntry.TheVariants.{Ask, Send, Got}
 use Rattle.shared_cache.specs.declared.entry.CacheEntry.{CacheEntry}
 use Rattle.shared_cache.specs.declared.notices.Notice.{Notice}
-use Rattle.shared_cache.specs.declared.notices.Notice.TheVariants.{Reply, Keys, All, Broken, Other}
-use Rattle.shared_cache.specs.declared.notices.Notice.TheVariants.{Malformed}
-use Rattle.shared_cache.specs.Notices.{kind_of, named_keys, invalidates, invalidates_as, is_reply}
+use Rattle.shared_cache.specs.declared.notices.Notice.TheVariants.{Reply}
+use Rattle.shared_cache.specs.Notices.{kind_of, invalidates, is_reply}
 use Rattle.shared_cache.specs.Log.{replies, with_reply, caching_on, caching_on_for}
 use Rattle.shared_cache.specs.Held.{Setup, Key, Words, put_ask, put_read, numbers}
-use Rattle.shared_cache.specs.Held.{held_for, hit_of, used_at, unless, other_than, fetched, asked}
+use Rattle.shared_cache.specs.Held.{held_for, hit_of, used_at, unless, other_than, fetched}
 use Rattle.shared_cache.specs.Held.{hold}
 use Rattle.shared_cache.specs.Held.{held_by, filled_by, leaving, is_key, sent, open_fetch, left}
 use Rattle.shared_cache.specs.Held.{last_use, held}
@@ -39,15 +38,10 @@ module _ (s : Setup) (log : List LogEntry) (q : Words) (h : CacheEntry)
       ∙ append-nil (sent s log)
 
   pub open_hit : (n : ℕ) → open_fetch s (Ask q ∷ log) n ≡ open_fetch s log n
-  open_hit n =
-      ap (λ o. asked o s.mode (caching_on_for s.mode log (key_of q)) (numbers s log) q n
-      (open_fetch s log n)) e
+  open_hit n = grind arith
 
   pub held_hit : held s (Ask q ∷ log) ≡ held s log
-  held_hit =
-      held_same (open_fetch s log) (open_fetch s (Ask q ∷ log)) (left s log) (left s (Ask q ∷ log))
-      (replies s.mode Main log)
-      (λ n v le. ap (λ o. hold o (left s log n) v n) (open_hit n))
+  held_hit = grind arith
 
   pub use_hit : (k : Key)
       → last_use s (Ask q ∷ log) k ≡ used_at (Some q) k (length log + 1) (last_use s log k)
@@ -60,28 +54,13 @@ module _ (s : Setup) (log : List LogEntry) (q : Words) (e : held_for q (held s l
       (caching_on_for s.mode log (key_of q)) q
   sent_miss = ap (λ o. sent s log ++ put_ask o s.mode (caching_on_for s.mode log (key_of q)) q) e
 
-  open_miss : (n : ℕ)
-      → open_fetch s (Ask q ∷ log) n ≡ cond (n == numbers s log + 1)
-      (fetched (caching_on_for s.mode log (key_of q)) q) (other_than q (open_fetch s log n))
-  open_miss n =
-      ap (λ o. asked o s.mode (caching_on_for s.mode log (key_of q)) (numbers s log) q n
-      (open_fetch s log n)) e
-
   pub open_old : (n : ℕ) → n ≤ numbers s log
       → open_fetch s (Ask q ∷ log) n ≡ other_than q (open_fetch s log n)
-  open_old n le =
-      open_miss n
-      ∙ ap (λ b. cond b (fetched (caching_on_for s.mode log (key_of q)) q)
-      (other_than q (open_fetch s log n))) (ne_eqb n (numbers s log + 1) (λ f. omega arith))
+  open_old n le = grind arith
 
   pub open_new : (on : Bool) → caching_on s.mode log ≡ on
       → open_fetch s (Ask q ∷ log) (suc (numbers s log)) ≡ fetched on q
-  open_new on c =
-      open_miss (suc (numbers s log))
-      ∙ ap (λ b. cond b (fetched (caching_on_for s.mode log (key_of q)) q)
-      (other_than q (open_fetch s log (suc (numbers s log)))))
-      (eq-eqb (suc (numbers s log)) (numbers s log + 1) (omega arith))
-      ∙ ap (λ b. fetched b q) c
+  open_new on c = grind arith
 
   pub held_miss : length (replies s.mode Main log) ≤ numbers s log
       → held s (Ask q ∷ log) ≡ held s log
@@ -99,25 +78,15 @@ module _ (s : Setup) (log : List LogEntry) (q : Words) (e : held_for q (held s l
 
 pub held_send : (s : Setup) (log : List LogEntry) (ws : Words)
     → held s (Send ws ∷ log) ≡ filter (λ h. not (writes ws (key_of h.query))) (held s log)
-held_send s log ws =
-    held_filter (open_fetch s log) (open_fetch s (Send ws ∷ log)) (left s log) (left s log)
-    (λ (h : CacheEntry). not (writes ws (key_of h.query))) (replies s.mode Main log)
-    (λ n v le. hold_unless (writes ws) (open_fetch s log n) (left s log n) v n)
+held_send s log ws = grind (arith, held_filter, hold_unless)
 
 -- ---- a value that fills nothing
-
-or_nothing : (a b : Bool) → (a || (b && false)) ≡ a
-or_nothing a b = grind (arith, common_steps)
 
 module _ (s : Setup) (log : List LogEntry) (w : Wire) (v : Value)
     (none : filled_by w (kind_of v)
     (open_fetch s log (length (replies s.mode Main log) + 1)) ≡ None) where
   pub left_unfilled : (m : ℕ) → left s (Got w v ∷ log) m ≡ left s log m
-  left_unfilled m =
-      ap (λ f. left s log m ||
-      (nat_le m (length (replies s.mode Main log)) && is_key
-      (leaving s.capacity (last_use s log) f (held s log)) (open_fetch s log m))) none
-      ∙ or_nothing (left s log m) (nat_le m (length (replies s.mode Main log)))
+  left_unfilled m = grind arith
 
   pub use_unfilled : (k : Key) → last_use s (Got w v ∷ log) k ≡ last_use s log k
   use_unfilled k = ap (λ f. used_at f k (length log + 1) (last_use s log k)) none
@@ -137,25 +106,10 @@ module _ (s : Setup) (log : List LogEntry) (w : Wire) (v : Value)
 
 pub with_no_reply : (main : Bool) (n : Notice) (v : Value) (vs : List Value) → is_reply n ≡ false
     → with_reply main n v vs ≡ vs
-with_no_reply main Reply v vs p = cc
-with_no_reply true Malformed v vs p = refl
-with_no_reply true Keys v vs p = refl
-with_no_reply true All v vs p = refl
-with_no_reply true Broken v vs p = refl
-with_no_reply true Other v vs p = refl
-with_no_reply false Malformed v vs p = refl
-with_no_reply false Keys v vs p = refl
-with_no_reply false All v vs p = refl
-with_no_reply false Broken v vs p = refl
-with_no_reply false Other v vs p = refl
+with_no_reply main n v vs p = grind arith
 
 fills_none : (n : Notice) (o : Option Words) → is_reply n ≡ false → filled_by Main n o ≡ None
-fills_none Reply o p = cc
-fills_none Malformed o p = refl
-fills_none Keys o p = refl
-fills_none All o p = refl
-fills_none Broken o p = refl
-fills_none Other o p = refl
+fills_none n o p = grind arith
 
 -- ---- a push on Main
 
@@ -177,10 +131,6 @@ module _ (s : Setup) (log : List LogEntry) (v : Value) (p : is_reply (kind_of v)
 
 -- ---- a reply on Main
 
-unless_never : (t : Key → Bool) (o : Option Words) → ((k : Key) → t k ≡ false) → unless t o ≡ o
-unless_never t None never = refl
-unless_never t (Some q) never = ap (λ b. cond b None (Some q)) (never (key_of q))
-
 -- the key that leaves takes its fetches along
 hold_leaves : (l : Option Key) (o : Option Words) (gone : Bool) (u : Value) (n : ℕ)
     → hold o (gone || is_key l o) u n ≡ filter (λ h. not (is_gone l (key_of h.query)))
@@ -194,9 +144,7 @@ module _ (s : Setup) (log : List LogEntry) (v : Value) (e : kind_of v ≡ Reply)
   replies_reply = ap (λ m. with_reply true m v (replies s.mode Main log)) e
 
   pub open_reply : (m : ℕ) → open_fetch s (Got Main v ∷ log) m ≡ open_fetch s log m
-  open_reply m =
-      unless_never (invalidates s.mode Main v) (open_fetch s log m)
-      (λ k. ap (λ n. invalidates_as n (named_keys v) k) e)
+  open_reply m = grind arith
 
   filled_reply : (o : Option Words) → open_fetch s log (length (replies s.mode Main log) + 1) ≡ o
       → filled_by Main (kind_of v) (open_fetch s log (length (replies s.mode Main log) + 1)) ≡ o
@@ -205,15 +153,7 @@ module _ (s : Setup) (log : List LogEntry) (v : Value) (e : kind_of v ≡ Reply)
   held_unfilled : open_fetch s log (length (replies s.mode Main log) + 1) ≡ None
       → held s (Got Main v ∷ log) ≡ held s log
   held_unfilled none =
-      ap (held_by (open_fetch s (Got Main v ∷ log)) (left s (Got Main v ∷ log))) replies_reply
-      ∙ (λ i. held_same (open_fetch s log) (open_fetch s (Got Main v ∷ log)) (left s log)
-      (left s (Got Main v ∷ log)) (replies s.mode Main log)
-      (λ m u le j. hold (open_reply m j)
-      (left_unfilled s log Main v (filled_reply None none) m j) u m) i
-      ++ hold ((open_reply (length (replies s.mode Main log) + 1) ∙ none) i)
-      (left s (Got Main v ∷ log) (length (replies s.mode Main log) + 1)) v
-      (length (replies s.mode Main log) + 1))
-      ∙ append-nil (held s log)
+      grind (arith, replies_reply, held_same, open_reply, left_unfilled, filled_reply, append-nil)
 
   module _ (q : Words)
       (some : open_fetch s log (length (replies s.mode Main log) + 1) ≡ Some q) where
@@ -224,42 +164,23 @@ module _ (s : Setup) (log : List LogEntry) (v : Value) (e : kind_of v ≡ Reply)
         → left s (Got Main v ∷ log)
         m ≡ (left s log m ||
         (nat_le m (length (replies s.mode Main log)) && is_key gone (open_fetch s log m)))
-    left_filled m =
-        ap (λ f. left s log m ||
-        (nat_le m (length (replies s.mode Main log)) && is_key
-        (leaving s.capacity (last_use s log) f (held s log)) (open_fetch s log m)))
-        (filled_reply (Some q) some)
+    left_filled m = grind arith
 
     left_answered : (m : ℕ) → m ≤ length (replies s.mode Main log)
         → left s (Got Main v ∷ log) m ≡ (left s log m || is_key gone (open_fetch s log m))
-    left_answered m le = left_filled m
-        ∙ ap (λ b. left s log m || (b && is_key gone (open_fetch s log m)))
-        (le-leb m (length (replies s.mode Main log)) le)
+    left_answered m le = grind arith
 
     left_next : left s (Got Main v ∷ log) (length (replies s.mode Main log) + 1) ≡ false
-    left_next =
-        left_filled (length (replies s.mode Main log) + 1)
-        ∙ (λ i. stays s log (length (replies s.mode Main log) + 1) (omega arith) i
-        || (lt-leb (length (replies s.mode Main log) + 1) (length (replies s.mode Main log))
-        (omega arith) i && is_key gone
-        (open_fetch s log (length (replies s.mode Main log) + 1))))
+    left_next = grind (arith, left_filled, stays, lt-leb)
 
     held_others : held_by (open_fetch s (Got Main v ∷ log)) (left s (Got Main v ∷ log))
         (replies s.mode Main log)
         ≡ filter (λ h. not (is_gone gone (key_of h.query))) (held s log)
-    held_others =
-        held_filter (open_fetch s log) (open_fetch s (Got Main v ∷ log)) (left s log)
-        (left s (Got Main v ∷ log))
-        (λ (h : CacheEntry). not (is_gone gone (key_of h.query))) (replies s.mode Main log)
-        (λ m u le. (λ i. hold (open_reply m i) (left_answered m le i) u m)
-        ∙ hold_leaves gone (open_fetch s log m) (left s log m) u m)
+    held_others = grind (arith, held_filter, is_gone, open_reply, left_answered, hold_leaves)
 
     held_filled : held s (Got Main v ∷ log) ≡ filled s.capacity (last_use s log) (Some q)
         (length (replies s.mode Main log) + 1) v (held s log)
-    held_filled =
-        ap (held_by (open_fetch s (Got Main v ∷ log)) (left s (Got Main v ∷ log))) replies_reply
-        ∙ (λ i. held_others i ++ hold ((open_reply (length (replies s.mode Main log) + 1) ∙ some) i)
-        (left_next i) v (length (replies s.mode Main log) + 1))
+    held_filled = grind (arith, replies_reply, held_others, open_reply, left_next)
 
   pub held_reply : (o : Option Words) → open_fetch s log (length (replies s.mode Main log) + 1) ≡ o
       → held s (Got Main v ∷ log) ≡ filled s.capacity (last_use s log) o

@@ -1,6 +1,6 @@
 -- The keys stay those of what is held.
-use Rattle.std.proofs.Common.{◌≡◌, ◌<◌, ◌≤◌, ◌||◌, ◌&&◌, ℕ, List, [], ◌∷◌, Bool, true}
-use Rattle.std.proofs.Common.{false, not, Option, Some, None, sym, ◌∙◌, refl, subst, arith}
+use Rattle.std.proofs.Common.{◌≡◌, ◌<◌, ◌||◌, ◌&&◌, ℕ, List, [], ◌∷◌, Bool, true}
+use Rattle.std.proofs.Common.{false, not, Option, Some, None, sym, refl, subst, arith}
 use Rattle.std.specs.List.{filter, list_any}
 use Rattle.std.specs.Map.{remove_entry}
 use Rattle.std.specs.Str.{bytes_eq}
@@ -10,7 +10,7 @@ use Rattle.command_words.specs.declared.written.Written.{Written}
 use Rattle.command_words.specs.declared.written.Written.TheVariants as written
 use Rattle.lru.specs.LruCache.{promoted}
 use Rattle.shared_cache.specs.declared.entry.CacheEntry.{CacheEntry}
-use Rattle.shared_cache.specs.Held.{Key, Words, used_at, keys_held}
+use Rattle.shared_cache.specs.Held.{Key, Words, used_at}
 use Rattle.shared_cache.specs.HeldKeys.{Pairs, KeysHeld, Keeps, ArePairsOf, IsByUse, but_key}
 use Rattle.shared_cache.specs.HeldKeys.{with_pairs, forget, forgotten, refilled}
 use Rattle.shared_cache.proofs.Filled.{filled}
@@ -18,43 +18,24 @@ use Rattle.shared_cache.proofs.InPlace.{all_stay, none_stay, filter_twice, filte
 use Rattle.shared_cache.proofs.Capacity.{kept_keys, any_filled}
 use Rattle.shared_cache.proofs.KeyPairs.{pairs_without, pairs_promoted, pairs_filled}
 use Rattle.shared_cache.proofs.KeyPairs.{by_use_without, by_use_promoted, by_use_stored}
-use Rattle.shared_cache.proofs.KeyPairs.{by_use_same}
 
 -- ---- none is held
 
 pub keeps_new : (most : ℕ) (use_of : Key → ℕ) → 0 < most
     → Keeps most use_of [] (record { pairs = []; most = most })
-keeps_new most use_of some = record {
-  most_is = refl;
-  some = some;
-  within = omega arith;
-  pairs_are = refl;
-  by_use = tt;
-}
+keeps_new most use_of some = grind arith
 
 pub keeps_none : (most : ℕ) (use_of : Key → ℕ) (hs : List CacheEntry) (k : KeysHeld)
     → Keeps most use_of hs k → (new : List CacheEntry) → new ≡ []
     → Keeps most use_of new (with_pairs [] k)
-keeps_none most use_of hs k i new e = record {
-  most_is = i.most_is;
-  some = i.some;
-  within = subst (λ l. keys_held l ≤ most) (sym e) (omega arith);
-  pairs_are = e;
-  by_use = tt;
-}
+keeps_none most use_of hs k i new e = grind arith
 
 -- ---- the same is held, used alike
 
 pub keeps_same : (most : ℕ) (use_of use_new : Key → ℕ) (hs new : List CacheEntry) (k : KeysHeld)
     → ((j : Key) → use_new j ≡ use_of j) → new ≡ hs → Keeps most use_of hs k
     → Keeps most use_new new k
-keeps_same most use_of use_new hs new k same e i = record {
-  most_is = i.most_is;
-  some = i.some;
-  within = subst (λ l. keys_held l ≤ most) (sym e) i.within;
-  pairs_are = subst (ArePairsOf k.pairs) (sym e) i.pairs_are;
-  by_use = by_use_same use_of use_new k.pairs same i.by_use;
-}
+keeps_same most use_of use_new hs new k same e i = grind arith
 
 -- ---- keys go
 
@@ -67,15 +48,8 @@ pairs_forget : (ks : List Key) (pairs : Pairs) (hs : List CacheEntry) → ArePai
     (filter (λ h. not (list_any (bytes_eq (key_of h.query)) ks)) hs)
 pairs_forget [] pairs hs p = subst (ArePairsOf pairs) (sym (all_stay hs)) p
 pairs_forget (k ∷ ks) pairs hs p =
-    subst (ArePairsOf (forget ks (remove_entry (bytes_eq k) pairs)))
-    (filter_twice (λ (h : CacheEntry). not (bytes_eq (key_of h.query) k))
-    (λ (h : CacheEntry). not (list_any (bytes_eq (key_of h.query)) ks)) hs
-    ∙ filter_same_test
-    (λ (h : CacheEntry). not (bytes_eq (key_of h.query) k)
-    && not (list_any (bytes_eq (key_of h.query)) ks))
-    (λ (h : CacheEntry). not (list_any (bytes_eq (key_of h.query)) (k ∷ ks))) hs
-    (λ h. not_both (bytes_eq (key_of h.query) k) (list_any (bytes_eq (key_of h.query)) ks)))
-    (pairs_forget ks (remove_entry (bytes_eq k) pairs) (but_key k hs) (pairs_without k pairs hs p))
+    grind (arith, filter_twice, filter_same_test, not_both, pairs_without,
+    pairs_forget ks (remove_entry (bytes_eq k) pairs) (but_key k hs) (pairs_without k pairs hs p))
 
 by_use_forget : (use_of : Key → ℕ) (ks : List Key) (pairs : Pairs) → IsByUse use_of pairs
     → IsByUse use_of (forget ks pairs)

@@ -172,10 +172,7 @@ pairs_promoted k pairs hs s = first_of k pairs hs (lookup_entry (bytes_eq k) pai
 pub pairs_count : (pairs : Pairs) (hs : List CacheEntry) → ArePairsOf pairs hs
     → length pairs ≡ keys_held hs
 pairs_count [] hs s = ap keys_held (sym s)
-pairs_count (p ∷ pairs) hs s =
-    let n = pairs_count pairs (but_key p.0 hs) s.2 in
-    let m = less_key p.0 hs s.1 in
-    omega (arith, n, m)
+pairs_count (p ∷ pairs) hs s = grind (arith, less_key, pairs_count pairs (but_key p.0 hs) s.2)
 
 -- ---- the last key
 
@@ -217,16 +214,11 @@ pairs_shorter p (r ∷ pairs) hs s =
 
 but_new : (k : Key) (hs : List CacheEntry) (h : CacheEntry) → key_of h.query ≡ k
     → but_key k (hs ++ h ∷ []) ≡ but_key k hs
-but_new k hs h e =
-    filter-append (λ g. not (bytes_eq (key_of g.query) k)) hs (h ∷ [])
-    ∙ ap (λ b. but_key k hs ++ cond (not b) (h ∷ []) []) (ap (λ j. bytes_eq j k) e ∙ same_bytes k)
-    ∙ append-nil (but_key k hs)
+but_new k hs h e = grind (arith, filter-append, same_bytes, append-nil)
 
 of_new : (k : Key) (hs : List CacheEntry) (h : CacheEntry) → key_of h.query ≡ k
     → of_key k (hs ++ h ∷ []) ≡ of_key k hs ++ h ∷ []
-of_new k hs h e =
-    filter-append (λ g. bytes_eq (key_of g.query) k) hs (h ∷ [])
-    ∙ ap (λ b. of_key k hs ++ cond b (h ∷ []) []) (ap (λ j. bytes_eq j k) e ∙ same_bytes k)
+of_new k hs h e = grind (arith, filter-append, same_bytes)
 
 of_none : (k : Key) (hs : List CacheEntry) → has_key k hs ≡ false → of_key k hs ≡ []
 of_none k [] e = refl
@@ -253,12 +245,7 @@ stored_again most h pairs hs p s e =
 stored_new : (h : CacheEntry) (kept : Pairs) (hs : List CacheEntry) → ArePairsOf kept hs
     → has_key (key_of h.query) hs ≡ false
     → ArePairsOf ((key_of h.query, h ∷ []) ∷ kept) (hs ++ h ∷ [])
-stored_new h kept hs s none =
-    let k = key_of h.query in (
-      ap (λ l. l ++ h ∷ []) (sym (of_none k hs none)) ∙ sym (of_new k hs h refl),
-      last_has hs h,
-      subst (ArePairsOf kept) (sym (but_new k hs h refl ∙ but_none k hs none)) s,
-    )
+stored_new h kept hs s none = grind (arith, of_none, of_new, last_has, but_new, but_none)
 
 -- ---- the last key is the one used earliest
 
@@ -337,11 +324,7 @@ module _ (most : ℕ) (use_of : Key → ℕ) (q : Words) (n : ℕ) (v : Value) (
   as_new : (pairs : Pairs) (gs : List CacheEntry) → lookup_entry (bytes_eq (key_of q)) pairs ≡ None
       → ArePairsOf ((key_of q, entry ∷ []) ∷ take (most - 1) pairs) gs
       → ArePairsOf (stored most entry pairs) gs
-  as_new pairs gs e s =
-      subst (λ o. ArePairsOf
-      ((key_of q, option_map_or (λ (p : Key × List CacheEntry). p.1) o [] ++ entry ∷ [])
-      ∷ option_map_or (λ (p : Key × List CacheEntry). remove_entry (bytes_eq (key_of q)) pairs) o
-      (take (most - 1) pairs)) gs) (sym e) s
+  as_new pairs gs e s = grind arith
 
   full : (pairs : Pairs) → 0 < most → length pairs ≡ keys_held hs → ArePairsOf pairs hs
       → IsByUse use_of pairs → lookup_entry (bytes_eq (key_of q)) pairs ≡ None
@@ -458,23 +441,13 @@ module _ (use_of : Key → ℕ) (q : Words) (now : ℕ) (bound : (k : Key) → u
   rest_later : (pairs : Pairs) → Every (λ r. bytes_eq (key_of q) r.0 ≡ false) pairs
       → IsByUse use_of pairs → IsByUse later pairs
   rest_later [] apart u = tt
-  rest_later (p ∷ pairs) apart u = (
-    every_both (λ r. bytes_eq (key_of q) r.0 ≡ false) (λ r. use_of r.0 < use_of p.0)
-        (λ r. later r.0 < later p.0) pairs
-        (λ r a lt. let x = later_same r.0 a in let y = later_same p.0 apart.0 in
-        omega (arith, x, y, lt)) apart.1 u.0,
-    rest_later pairs apart.1 u.1,
-  )
+  rest_later (p ∷ pairs) apart u =
+      grind (arith, every_both, later_same, rest_later pairs apart.1 u.1)
 
   first_later : (p : Key × List CacheEntry) (rest : Pairs) → key_of q ≡ p.0
       → Every (λ r. bytes_eq (key_of q) r.0 ≡ false) rest → IsByUse use_of rest
       → IsByUse later (p ∷ rest)
-  first_later p rest e apart u = (
-    every_weaker (λ r. bytes_eq (key_of q) r.0 ≡ false) (λ r. later r.0 < later p.0) rest
-        (λ r a. let x = later_same r.0 a in let y = later_now p.0 e in let b = bound r.0 in
-        omega (arith, x, y, b)) apart,
-    rest_later rest apart u,
-  )
+  first_later p rest e apart u = grind (arith, every_weaker, later_same, later_now, rest_later)
 
   promoted_by : (pairs : Pairs) (hs : List CacheEntry) (o : Option (Key × List CacheEntry))
       → ArePairsOf pairs hs → IsByUse use_of pairs → lookup_entry (bytes_eq (key_of q)) pairs ≡ o
@@ -513,13 +486,3 @@ module _ (use_of : Key → ℕ) (q : Words) (now : ℕ) (bound : (k : Key) → u
       (ap key_of (sym e))
       (stored_by most h pairs (lookup_entry (bytes_eq (key_of q)) pairs)
       (entries_of (key_of q) pairs ++ h ∷ []) u refl)
-
--- the uses alone matter
-pub by_use_same : (use_of use_new : Key → ℕ) (pairs : Pairs) → ((k : Key) → use_new k ≡ use_of k)
-    → IsByUse use_of pairs → IsByUse use_new pairs
-by_use_same use_of use_new [] same u = tt
-by_use_same use_of use_new (p ∷ pairs) same u = (
-  every_weaker (λ r. use_of r.0 < use_of p.0) (λ r. use_new r.0 < use_new p.0) pairs
-      (λ r lt. let x = same r.0 in let y = same p.0 in omega (arith, x, y, lt)) u.0,
-  by_use_same use_of use_new pairs same u.1,
-)

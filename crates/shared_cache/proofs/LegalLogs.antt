@@ -1,13 +1,10 @@
 -- What a turn adds to a legal log, and that it stays legal.
-use Rattle.std.proofs.Common.{◌≡◌, ◌+◌, ◌<◌, ◌≤◌, ◌⊎◌, ℕ, List}
+use Rattle.std.proofs.Common.{◌≡◌, ◌<◌, ◌≤◌, ◌⊎◌, ℕ, List}
 use Rattle.std.proofs.Common.{[], ◌∷◌, length, Bool, true, false, cond, not, Option, Some}
 use Rattle.std.proofs.Common.{None, sym, ap, ◌∙◌, refl, subst, inl, inr, arith}
 use Rattle.std.proofs.Common.{length-append}
-use Rattle.std.proofs.lemmas.Bool.{cases_Bool}
-use Rattle.std.specs.Prelude.{nat_le}
 use Rattle.resp_value.specs.declared.value.Value.{Value}
 use Rattle.command_words.specs.Control.{is_control}
-use Rattle.command_words.specs.Queries.{key_of}
 use Rattle.shared_cache.specs.declared.log.Wire.{Wire}
 use Rattle.shared_cache.specs.declared.log.Wire.TheVariants.{Main}
 use Rattle.shared_cache.specs.declared.log.ClientMode.{ClientMode}
@@ -25,19 +22,16 @@ use Rattle.shared_cache.specs.declared.log.LogEntry.{LogEntry}
 use Rattle.shared_cache.specs.declared.log.LogEntry.TheVariants.{Ask, Send, Poll, TakeOut, Got, End}
 use Rattle.shared_cache.specs.declared.log.LogEntry.TheVariants.{Bad}
 use Rattle.shared_cache.specs.declared.notices.Notice.{Notice}
-use Rattle.shared_cache.specs.declared.notices.Notice.TheVariants.{Reply, Keys, All, Broken, Other}
-use Rattle.shared_cache.specs.declared.notices.Notice.TheVariants.{Malformed}
 use Rattle.shared_cache.specs.Notices.{notice_of}
 use Rattle.shared_cache.specs.Log.{replies, with_reply, is_wire, is_ended}
-use Rattle.shared_cache.specs.Log.{is_ready, caching_on_for, reply}
-use Rattle.shared_cache.specs.Held.{Setup, put_ask}
-use Rattle.shared_cache.specs.Held.{put_command, held_for}
-use Rattle.shared_cache.specs.Held.{numbers, sent, held}
+use Rattle.shared_cache.specs.Log.{is_ready, reply}
+use Rattle.shared_cache.specs.Held.{Setup}
+use Rattle.shared_cache.specs.Held.{put_command}
+use Rattle.shared_cache.specs.Held.{numbers, sent}
 use Rattle.shared_cache.specs.Out.{untaken, is_wanted}
 use Rattle.shared_cache.specs.Steps.{ClientTurn, refusing, is_log_full, polling, taking_out}
-use Rattle.shared_cache.specs.Steps.{is_welcome}
-use Rattle.shared_cache.specs.Steps.{judged_reply, judged, getting, fault_of, client_step}
-use Rattle.std.proofs.lemmas.Bool.{leb-false, not-false}
+use Rattle.shared_cache.specs.Steps.{judged, getting, fault_of, client_step}
+use Rattle.std.proofs.lemmas.Bool.{not-false}
 use Rattle.shared_cache.specs.Laws.{IsQuery, IsCall, AsksQuery, LegalLog}
 use Rattle.shared_cache.specs.Laws.{LegalStep}
 
@@ -124,26 +118,10 @@ known s log c e is query h = elim (step_adds s log c is query) [
 pub newest : (s : Setup) (log : List LogEntry) (e : LogEntry) → LegalLog s (e ∷ log) → Known s log e
 newest s log e l = known s log l.1.0 e l.1.1 l.1.2 l.1.3
 
--- no more replies came than there are commands
-awaited_reply : (m : ClientMode) (w : Wire) (replied sent : ℕ) (v : Value)
-    → judged_reply m w replied sent v ≡ None → replied < sent
-awaited_reply m w replied sent v e = elim (cases_Bool (nat_le sent replied)) [
-  | inl no_ ↦ let f : Some (Unexpected w) ≡ None =
-      sym (ap (λ b. cond b (Some (Unexpected w))
-      (cond (is_welcome m w (replied + 1) v) None (Some (SetupRefused w)))) no_) ∙ e in cc
-  | inr yes_ ↦ leb-false sent replied yes_
-]
-
 one_reply_more : (k : Notice) (m : ClientMode) (v : Value) (vs : List Value) (sent : ℕ)
     → length vs ≤ sent → judged m Main (length vs) sent v k ≡ None
     → length (with_reply true k v vs) ≤ sent
-one_reply_more Reply m v vs sent le e = let lt = awaited_reply m Main (length vs) sent v e in
-    omega (arith, lt)
-one_reply_more Keys m v vs sent le e = le
-one_reply_more All m v vs sent le e = le
-one_reply_more Broken m v vs sent le e = le
-one_reply_more Other m v vs sent le e = le
-one_reply_more Malformed m v vs sent le e = le
+one_reply_more k m v vs sent le e = grind arith
 
 opened : (s : Setup) (log : List LogEntry) (v : Value) → fault_of s log Main v ≡ None
     → judged s.mode Main (length (replies s.mode Main log)) (numbers s log) v
@@ -154,13 +132,7 @@ opened s log v e = e
 pub replies_within : (s : Setup) (log : List LogEntry) → LegalLog s log
     → length (replies s.mode Main log) ≤ numbers s log
 replies_within s [] l = omega arith
-replies_within s (Ask q ∷ log) l =
-    let w = replies_within s log l.0 in
-    omega (
-      arith,
-      length-append (sent s log)
-          (put_ask (held_for q (held s log)) s.mode (caching_on_for s.mode log (key_of q)) q),
-    )
+replies_within s (Ask q ∷ log) l = grind (arith, length-append, replies_within s log l.0)
 replies_within s (Send ws ∷ log) l = let w = replies_within s log l.0 in
     omega (arith, length-append (sent s log) (put_command s.mode ws))
 replies_within s (Poll n ∷ log) l = replies_within s log l.0

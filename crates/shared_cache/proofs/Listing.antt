@@ -1,7 +1,7 @@
 -- What is held, sorted: each entry stands at its place.
 use Rattle.std.proofs.Common.{◌≡◌, ◌==◌, ◌+◌, ◌<◌, ◌≤◌, ℕ, zero, suc, List, [], ◌∷◌}
 use Rattle.std.proofs.Common.{length, get_or, true, false, cond, Some, sym}
-use Rattle.std.proofs.Common.{ap, ◌∙◌, refl, inl, inr, subst, arith, eq-eqb, ne_eqb, Bool}
+use Rattle.std.proofs.Common.{ap, ◌∙◌, refl, inl, inr, subst, arith, eq-eqb, Bool}
 use denote.Param.Members.{Mut}
 use denote.Ref.{Bor}
 use Rattle.std.specs.declared.cmp.Ordering.{Ordering}
@@ -43,9 +43,7 @@ sum_listed : (f : CacheEntry → ℕ) (pairs : Pairs) (hs : List CacheEntry) →
     → sum_by f (listed pairs) ≡ sum_by f hs
 sum_listed f [] hs p = ap (sum_by f) (sym p)
 sum_listed f (r ∷ pairs) hs p =
-    sum_by-append f r.1 (listed pairs)
-    ∙ (λ i. sum_by f (p.0 i) + sum_listed f pairs (but_key r.0 hs) p.2 i)
-    ∙ sum_parts f r.0 hs
+    grind (arith, sum_by-append, sum_parts, sum_listed f pairs (but_key r.0 hs) p.2)
 
 abbrev Sums : List CacheEntry → List CacheEntry → Type 0
 Sums xs ys = (f : CacheEntry → ℕ) → sum_by f xs ≡ sum_by f ys
@@ -79,10 +77,7 @@ count_more n o os e =
 
 count_same : (n : ℕ) (o : CacheEntry) (os : List CacheEntry) → (o.number ≡ n → ⊥)
     → count n (o ∷ os) ≡ count n os
-count_same n o os e =
-    let c = sum_by-cons (one_of n) o os in
-    let t : one_of n o ≡ 0 = ap (λ b. cond b 1 0) (ne_eqb o.number n e) in
-    omega (arith, c, t)
+count_same n o os e = grind arith
 
 count_none : (n : ℕ) (hs : List CacheEntry) → Every (λ o. o.number ≡ n → ⊥) hs → count n hs ≡ 0
 count_none n [] e = refl
@@ -104,9 +99,7 @@ count_once n (h ∷ hs) apart = elim (cases_eq h.number n) [
 count_in : (n : ℕ) (o : CacheEntry) (hs : List CacheEntry) → Among o hs → o.number ≡ n
     → 1 ≤ count n hs
 count_in n o [] a e = absurd a
-count_in n o (h ∷ hs) (inl same) e =
-    let c = count_more n h hs (sym (ap (λ (x : CacheEntry). x.number) same) ∙ e) in
-    omega (arith, c)
+count_in n o (h ∷ hs) (inl same) e = grind (arith, count_more)
 count_in n o (h ∷ hs) (inr a) e =
     let r = count_in n o hs a e in
     let c = sum_by-cons (one_of n) h hs in

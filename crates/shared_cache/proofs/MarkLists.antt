@@ -1,11 +1,11 @@
 -- How the marks change with the fetches.
-use Rattle.std.proofs.Common.{◌≡◌, ◌==◌, ◌<◌, ◌≤◌, ◌++◌, ℕ, zero, suc, List, [], ◌∷◌, Bool, true}
-use Rattle.std.proofs.Common.{false, cond, not, Option, Some, None, sym, ap, ◌∙◌, refl, arith}
-use Rattle.std.proofs.Common.{ne_eqb, inl, inr, subst}
+use Rattle.std.proofs.Common.{◌≡◌, ◌<◌, ◌≤◌, ◌++◌, ℕ, zero, suc, List, [], ◌∷◌, Bool}
+use Rattle.std.proofs.Common.{cond, not, Option, Some, None, sym, ◌∙◌, refl, arith}
+use Rattle.std.proofs.Common.{inl, inr, subst}
 use Rattle.std.specs.Prelude.{nat_lt}
 use Rattle.std.specs.List.{filter}
 use Rattle.std.proofs.lemmas.List.Elements.{filter-append}
-use Rattle.std.proofs.lemmas.Bool.{cases_lt, cases_eq, lt-ltb, le-ltb}
+use Rattle.std.proofs.lemmas.Bool.{cases_eq, lt-ltb}
 use Rattle.std.proofs.lemmas.Grind.{common_steps}
 use Rattle.command_words.specs.Queries.{key_of}
 use Rattle.fill_mark.specs.declared.marks.Mark.{Mark}
@@ -19,27 +19,19 @@ pub marks_filter : (open_of open_new : ℕ → Option Words) (p : Mark → Bool)
     → marks_by open_new replied n ≡ filter p (marks_by open_of replied n)
 marks_filter open_of open_new p replied zero each = refl
 marks_filter open_of open_new p replied (suc n) each =
-    (λ i. marks_filter open_of open_new p replied n (λ m le. each m (omega arith)) i
-    ++ elim (nat_lt replied (suc n)) as
-    (λ b. cond b (fetch_mark (suc n) (open_new (suc n))) [] ≡ filter p
-    (cond b (fetch_mark (suc n) (open_of (suc n))) []))
-    [ true ↦ each (suc n) (omega arith) | false ↦ refl ] i)
-    ∙ sym (filter-append p (marks_by open_of replied n)
-    (cond (nat_lt replied (suc n)) (fetch_mark (suc n) (open_of (suc n))) []))
+    grind (arith, filter-append,
+    marks_filter open_of open_new p replied n (λ m le. each m (omega arith)))
 
 pub marks_same : (open_of open_new : ℕ → Option Words) (replied n : ℕ)
     → ((m : ℕ) → m ≤ n → open_new m ≡ open_of m)
     → marks_by open_new replied n ≡ marks_by open_of replied n
 marks_same open_of open_new replied zero each = refl
 marks_same open_of open_new replied (suc n) each =
-    λ i. marks_same open_of open_new replied n (λ m le. each m (omega arith)) i
-    ++ cond (nat_lt replied (suc n)) (fetch_mark (suc n) (each (suc n) (omega arith) i)) []
+    grind (arith, marks_same open_of open_new replied n (λ m le. each m (omega arith)))
 
 pub marks_none : (replied n : ℕ) → marks_by (λ m. None) replied n ≡ []
 marks_none replied zero = refl
-marks_none replied (suc n) =
-    (λ i. marks_none replied n i ++ elim (nat_lt replied (suc n)) as
-    (λ b. cond {A = List Mark} b [] [] ≡ []) [ true ↦ refl | false ↦ refl ] i)
+marks_none replied (suc n) = grind (arith, marks_none replied n)
 
 pub mark_unless : (t : Key → Bool) (n : ℕ) (o : Option Words)
     → fetch_mark n (unless t o) ≡ filter (λ m. not (t (key_of m.query))) (fetch_mark n o)
@@ -58,47 +50,18 @@ one_less : (n k : ℕ) (o : Option Words) → (n ≡ k → ⊥)
 one_less n k None ne = refl
 one_less n k (Some q) ne = grind (arith, common_steps)
 
-one_gone : (n : ℕ) (o : Option Words) → without_number n (fetch_mark n o) ≡ []
-one_gone n None = refl
-one_gone n (Some q) = grind (arith, common_steps)
-
 -- the last part of the marks, where the next number goes
 last_next : (open_of : ℕ → Option Words) (replied n : ℕ)
     → cond (nat_lt (suc replied) (suc n)) (fetch_mark (suc n) (open_of (suc n))) []
     ≡ without_number (suc replied)
     (cond (nat_lt replied (suc n)) (fetch_mark (suc n) (open_of (suc n))) [])
-last_next open_of replied n = elim (cases_lt replied n) [
-  | inl lt ↦
-      ap (λ b. cond b (fetch_mark (suc n) (open_of (suc n))) [])
-      (lt-ltb (suc replied) (suc n) (omega arith))
-      ∙ sym (one_less (suc n) (suc replied) (open_of (suc n)) (λ e. omega arith))
-      ∙ ap (λ b. without_number (suc replied) (cond b (fetch_mark (suc n) (open_of (suc n))) []))
-      (sym (lt-ltb replied (suc n) (omega arith)))
-  | inr le ↦
-      ap (λ b. cond b (fetch_mark (suc n) (open_of (suc n))) [])
-      (le-ltb (suc replied) (suc n) (omega arith))
-      ∙ sym (elim (cases_eq n replied) [
-        | inl e ↦ elim (nat_lt replied (suc n)) as
-            (λ b.
-            without_number (suc replied) (cond b (fetch_mark (suc n) (open_of (suc n))) []) ≡ []) [
-              | true ↦ subst
-                  (λ k. without_number (suc k) (fetch_mark (suc n) (open_of (suc n))) ≡ []) e
-                  (one_gone (suc n) (open_of (suc n)))
-              | false ↦ refl
-            ]
-        | inr ne ↦ ap
-            (λ b. without_number (suc replied) (cond b (fetch_mark (suc n) (open_of (suc n))) []))
-            (le-ltb replied (suc n) (omega arith))
-      ])
-]
+last_next open_of replied n = grind arith
 
 pub marks_next : (open_of : ℕ → Option Words) (replied n : ℕ)
     → marks_by open_of (suc replied) n ≡ without_number (suc replied) (marks_by open_of replied n)
 marks_next open_of replied zero = refl
 marks_next open_of replied (suc n) =
-    (λ i. marks_next open_of replied n i ++ last_next open_of replied n i)
-    ∙ sym (filter-append (λ (m : Mark). not (m.number == suc replied)) (marks_by open_of replied n)
-    (cond (nat_lt replied (suc n)) (fetch_mark (suc n) (open_of (suc n))) []))
+    grind (arith, last_next, filter-append, marks_next open_of replied n)
 
 -- ---- finding a mark
 
@@ -113,9 +76,7 @@ found_in n (m ∷ xs) ys = grind (arith, common_steps, found_in n xs ys)
 
 not_here : (n k : ℕ) (o : Option Words) (b : Bool) → (k ≡ n → ⊥)
     → query_marked n (cond b (fetch_mark k o) []) ≡ None
-not_here n k None true ne = refl
-not_here n k (Some q) true ne = ap (λ b. cond b (Some q) None) (ne_eqb k n ne)
-not_here n k o false ne = refl
+not_here n k o b ne = grind arith
 
 is_here : (n : ℕ) (o : Option Words) → query_marked n (fetch_mark n o) ≡ o
 is_here n None = refl
@@ -125,10 +86,7 @@ none_past : (open_of : ℕ → Option Words) (replied n m : ℕ) → n < m
     → query_marked m (marks_by open_of replied n) ≡ None
 none_past open_of replied zero m lt = refl
 none_past open_of replied (suc n) m lt =
-    found_in m (marks_by open_of replied n)
-    (cond (nat_lt replied (suc n)) (fetch_mark (suc n) (open_of (suc n))) [])
-    ∙ (λ i. or_else (none_past open_of replied n m (omega arith) i)
-    (not_here m (suc n) (open_of (suc n)) (nat_lt replied (suc n)) (λ e. omega arith) i))
+    grind (arith, found_in, not_here, none_past open_of replied n m (omega arith))
 
 none_else : (o : Option Words) → or_else o None ≡ o
 none_else None = refl

@@ -62,9 +62,7 @@ order_total =
     })
 
 is_less : (r : Ordering) → is_lt r ≡ true → r ≡ Less
-is_less Less is = refl
-is_less Equal is = absurd (let no : ⊥ = cc in no)
-is_less Greater is = absurd (let no : ⊥ = cc in no)
+is_less r is = grind arith
 
 before_less : (a b : CacheEntry) → is_before a b ≡ true → order a b ≡ Less
 before_less a b is = is_less (order a b) is
@@ -82,14 +80,10 @@ before_self a =
     elim (cases_Bool (is_before a a)) [ inl yes_ ↦ before_not a a yes_ | inr not_ ↦ not_ ]
 
 then_second : (x y : Ordering) → ordering_then x y ≡ Equal → y ≡ Equal
-then_second Less y is = absurd (let no : ⊥ = cc in no)
-then_second Equal y is = is
-then_second Greater y is = absurd (let no : ⊥ = cc in no)
+then_second x y is = grind arith
 
 not_less : (r : Ordering) → is_lt r ≡ false → (r ≡ Equal) ⊎ (r ≡ Greater)
-not_less Less is = absurd (let no : ⊥ = cc in no)
-not_less Equal is = inl refl
-not_less Greater is = inr refl
+not_less r is = grind arith
 
 pub before_other : (a b : CacheEntry) → (a.number ≡ b.number → ⊥) → is_before a b ≡ false
     → is_before b a ≡ true
@@ -111,18 +105,13 @@ pub rank_same : (h o : CacheEntry) (os : List CacheEntry) → is_before o h ≡ 
     → rank h (o ∷ os) ≡ rank h os
 rank_same h o os is = ap (λ b. cond b (rank h os + 1) (rank h os)) is
 
-rank_step : (h o : CacheEntry) (os : List CacheEntry) → rank h os ≤ rank h (o ∷ os)
-rank_step h o os = grind (arith, common_steps)
-
 rank_within : (h : CacheEntry) (os : List CacheEntry) → rank h os ≤ length os
 rank_within h [] = omega arith
 rank_within h (o ∷ os) = grind (arith, common_steps, rank_within h os)
 
 rank_below : (h : CacheEntry) (os : List CacheEntry) → Among h os → rank h os < length os
 rank_below h [] a = absurd a
-rank_below h (o ∷ os) (inl is) =
-    let e = rank_same h o os (subst (λ x. is_before x h ≡ false) is (before_self h)) in
-    let w = rank_within h os in omega (e, w, arith)
+rank_below h (o ∷ os) (inl is) = grind (arith, rank_same, before_self, rank_within)
 rank_below h (o ∷ os) (inr a) = grind (arith, common_steps, rank_below h os a)
 
 -- what comes before has no more before it
@@ -135,10 +124,7 @@ rank_grows a b (o ∷ os) ab =
 rank_less : (a b : CacheEntry) (os : List CacheEntry) → is_before a b ≡ true → Among a os
     → rank a os < rank b os
 rank_less a b [] ab i = absurd i
-rank_less a b (o ∷ os) ab (inl is) =
-    let w = rank_grows a b os ab in
-    let e = rank_same a o os (subst (λ x. is_before x a ≡ false) is (before_self a)) in
-    let f = rank_more b o os (subst (λ x. is_before x b ≡ true) is ab) in omega (e, f, w, arith)
+rank_less a b (o ∷ os) ab (inl is) = grind (arith, rank_grows, rank_same, before_self, rank_more)
 rank_less a b (o ∷ os) ab (inr i) =
     grind (arith, common_steps, rank_less a b os ab i, before_then o a b)
 
@@ -297,11 +283,7 @@ in_order hs apart = record {
 apart_more : (hs : List CacheEntry) (h : CacheEntry) → Apart hs
     → Every (λ o. o.number < h.number) hs → Apart (hs ++ h ∷ [])
 apart_more [] h apart less = (tt, tt)
-apart_more (o ∷ os) h apart less =
-    let l = less.0 in (
-      every_append _ os (h ∷ []) apart.0 ((λ e. let no : ⊥ = omega (l, e, arith) in no), tt),
-      apart_more os h apart.1 less.1,
-    )
+apart_more (o ∷ os) h apart less = grind (arith, every_append, apart_more os h apart.1 less.1)
 
 held_numbers : (open_of : ℕ → Option Words) (left_of : ℕ → Bool) (vs : List Value)
     → Every (λ h. h.number ≤ length vs) (held_by open_of left_of vs)

@@ -2,12 +2,10 @@
 use Rattle.std.proofs.Common.{subst}
 use Rattle.std.proofs.Common.{◌≡◌, ◌==◌, ◌+◌, ◌-◌, ◌<◌, ◌≤◌, ◌++◌, ◌||◌, ℕ, suc, List, [], ◌∷◌}
 use Rattle.std.proofs.Common.{length}
-use Rattle.std.proofs.Common.{set, get_or, drop, Bool, true, false, cond, not, Option, Some}
+use Rattle.std.proofs.Common.{set, get_or, drop, Bool, true, false, not, Option, Some}
 use Rattle.std.proofs.Common.{None, sym}
-use Rattle.std.proofs.Common.{ap, ◌∙◌, refl, arith, append-nil, length-append, ne_eqb, eq-eqb, inl}
-use Rattle.std.proofs.Common.{inr}
+use Rattle.std.proofs.Common.{ap, ◌∙◌, refl, arith, append-nil, length-append, ne_eqb, eq-eqb}
 use Rattle.std.proofs.Common.{below_more, length-set}
-use Rattle.std.specs.Prelude.{nat_lt}
 use Rattle.std.specs.List.{slice_get, filter, flat_map}
 use Rattle.std.proofs.lemmas.Bool.{cases_eq}
 use Rattle.std.proofs.lemmas.List.{get_or_push, get_or_append_left, get_or-set_same}
@@ -25,7 +23,7 @@ use Rattle.shared_cache.specs.declared.log.LogEntry.TheVariants.{Ask, Send, Poll
 use Rattle.shared_cache.specs.declared.log.LogEntry.TheVariants.{Bad}
 use Rattle.shared_cache.specs.declared.entry.PendingReply.{PendingReply}
 use Rattle.shared_cache.specs.declared.entry.PendingReply.TheVariants.{Waiting, There, Gone}
-use Rattle.shared_cache.specs.Log.{handshake, handshake_length, first_number, replies, reply_in}
+use Rattle.shared_cache.specs.Log.{handshake, handshake_length, first_number, replies}
 use Rattle.shared_cache.specs.Log.{is_wire, is_ended}
 use Rattle.shared_cache.specs.Held.{Setup, Words, Caller, put_command, sent, open_fetch, left}
 use Rattle.shared_cache.specs.Held.{last_use, held, held_for, held_in_place, numbers}
@@ -34,8 +32,7 @@ use Rattle.shared_cache.specs.HeldKeys.{KeysHeld, found_in, listed, with_pairs, 
 use Rattle.shared_cache.specs.HeldKeys.{IsSortedAs}
 use Rattle.shared_cache.proofs.Listing.{held_sorted}
 use Rattle.shared_cache.specs.Out.{untaken}
-use Rattle.shared_cache.specs.ClientFields.{Fields, Reflects, IsLast, pending_at, there, marks_by}
-use Rattle.shared_cache.specs.ClientFields.{fetch_mark}
+use Rattle.shared_cache.specs.ClientFields.{Fields, Reflects, IsLast, pending_at, marks_by}
 use Rattle.shared_cache.proofs.Fetches.{beyond, unless_none}
 use Rattle.shared_cache.proofs.HeldLists.{held_none}
 use Rattle.shared_cache.proofs.Keeps.{keeps_none, keeps_new, keeps_forgotten, keeps_same}
@@ -56,15 +53,7 @@ use Rattle.shared_cache.specs.declared.log.ClientRefusal.TheVariants.{NoNumber}
 -- marks of one number more, which has no fetch
 pub marks_plus_none : (open_of : ℕ → Option Words) (replied n m : ℕ) → m ≡ suc n
     → open_of (suc n) ≡ None → marks_by open_of replied m ≡ marks_by open_of replied n
-marks_plus_none open_of replied n m e none =
-    ap (marks_by open_of replied) e
-    ∙ ap (λ o. marks_by open_of replied n ++ cond (nat_lt replied (suc n))
-    (fetch_mark (suc n) o) [])
-    none
-    ∙ ap (λ l. marks_by open_of replied n ++ l)
-    (elim (nat_lt replied (suc n)) as
-    (λ b. cond {A = List Mark} b [] [] ≡ []) [ true ↦ refl | false ↦ refl ])
-    ∙ append-nil (marks_by open_of replied n)
+marks_plus_none open_of replied n m e none = grind (arith, append-nil)
 
 -- the pending replies with one number more
 pub pending_push : (s : Setup) (log : List LogEntry) (e : LogEntry) (pending : List PendingReply)
@@ -80,17 +69,7 @@ pub pending_push : (s : Setup) (log : List LogEntry) (e : LogEntry) (pending : L
     → get_or (pending ++ Waiting ∷ []) i Gone ≡ pending_at s.mode (e ∷ log)
     (i + first_number s.mode)
 pending_push s log e pending replied each polled same count within un i lt =
-    let at : (j : ℕ) → pending_at s.mode log (j + 3) ≡ pending_at s.mode (e ∷ log) (j + 3) =
-    λ j p. cond (sym (polled (j + 3)) p) Gone (there (reply_in (j + 3) (sym same p))) in
-    below_more (λ j. get_or (pending ++ Waiting ∷ []) j Gone ≡ pending_at s.mode (e ∷ log) (j + 3))
-    (length pending)
-    (λ j l. get_or_append_left pending (Waiting ∷ []) Gone j l ∙ each j l ∙ at j)
-    (get_or_push pending Waiting Gone (length pending) refl
-    ∙ sym (ap (λ b. cond b Gone (there (reply_in (length pending + 3) (replies s.mode Main log))))
-    (un (length pending + 3) (omega arith))
-    ∙ ap there (no_reply (length pending + 3) (replies s.mode Main log) (omega arith)))
-    ∙ at (length pending))
-    i (omega (arith, length-append pending (Waiting ∷ [])))
+    grind (arith, below_more, get_or_append_left, get_or_push, no_reply, length-append)
 
 module _ (s : Setup) (log : List LogEntry) (f : Fields) (k : Reflects s log f) where
   reflects_end : (w : Wire) → w ≡ Main
@@ -204,49 +183,14 @@ module _ (s : Setup) (log : List LogEntry) (f : Fields) (k : Reflects s log f) w
   -- what a pending reply says of its number
   pub number_there : (i : ℕ) (v : Value) → i < length f.pending → get_or f.pending i Gone ≡ There v
       → i + first_number s.mode ≤ f.replied
-  number_there i v lt e =
-      let h : cond (is_polled log (i + 3)) Gone
-      (there (reply_in (i + 3) (replies s.mode Main log))) ≡ There v = sym (k.pending_is i lt)
-      ∙ e in
-      let g : i + 3 ≤ length (replies s.mode Main log) =
-      elim (is_polled log (i + 3)) as
-      (λ b. cond b Gone (there (reply_in (i + 3) (replies s.mode Main log))) ≡ There v
-      → i + 3 ≤ length (replies s.mode Main log)) [
-        | true ↦ λ c. cc
-        | false ↦ λ c. has_reply (i + 3) (replies s.mode Main log) v c
-      ] h in
-      omega (arith, k.replied_is)
+  number_there i v lt e = grind (arith, has_reply)
 
   pub reflects_poll : (n i : ℕ) (v : Value) → n ≡ i + first_number s.mode → i < length f.pending
       → get_or f.pending i Gone ≡ There v
       → Reflects s (Poll n ∷ log) (record f { pending = set f.pending i Gone; owed = f.owed - 1 })
-  reflects_poll n i v e lt is = record {
-    queued_is = k.queued_is ∙ sym (untaken_same s log (Poll n ∷ log) refl refl);
-    replied_is = k.replied_is;
-    replied_within = k.replied_within;
-    ready_is = k.ready_is;
-    pending_count = length-set f.pending i Gone ∙ k.pending_count;
-    pending_is = λ j l. elim (cases_eq j i) [
-      | inl same ↦ ap (λ x. get_or (set f.pending i Gone) x Gone) same
-          ∙ get_or-set_same f.pending i Gone Gone lt
-          ∙ ap (λ b. cond (b || is_polled log (j + 3)) Gone
-          (there (reply_in (j + 3) (replies s.mode Main log))))
-          (sym (eq-eqb n (j + 3) (omega arith)))
-      | inr other ↦ get_or-set_other f.pending i j Gone Gone other
-          ∙ k.pending_is j (omega (arith, length-set f.pending i Gone))
-          ∙ ap (λ b. cond (b || is_polled log (j + 3)) Gone
-          (there (reply_in (j + 3) (replies s.mode Main log))))
-          (sym (ne_eqb n (j + 3) (λ g. other (omega arith))))
-    ];
-    unpolled = λ m l. ap (λ b. b || is_polled log m)
-        (ne_eqb n m (λ g. omega (arith, number_there i v lt is))) ∙ k.unpolled m l;
-    owed_is = let o = owed_gone f.pending i v is in omega (arith, k.owed_is);
-    marks_is = k.marks_is;
-    keys_is = k.keys_is;
-    ended_is = k.ended_is;
-    side_is = k.side_is;
-    broken_is = k.broken_is;
-  }
+  reflects_poll n i v e lt is =
+      grind (arith, untaken_same, length-set, cases_eq, get_or-set_same, eq-eqb, get_or-set_other,
+      ne_eqb, number_there, owed_gone)
 
   -- a Poll, by what stands for its number
   standing : (n : ℕ) → handshake_length s.mode < n → n ≤ length f.pending + handshake_length s.mode
@@ -318,18 +262,4 @@ pub reflects_none : (s : Setup) (queued : List ℕ) → 0 < s.capacity
           false;
       broken = false;
     })
-reflects_none s queued some e = record {
-  queued_is = e ∙ untaken_none s;
-  replied_is = refl;
-  replied_within = omega arith;
-  ready_is = refl;
-  pending_count = refl;
-  pending_is = λ i lt. absurd (omega arith);
-  unpolled = λ n lt. refl;
-  owed_is = refl;
-  marks_is = refl;
-  keys_is = keeps_new s.capacity (last_use s []) some;
-  ended_is = refl;
-  side_is = refl;
-  broken_is = refl;
-}
+reflects_none s queued some e = grind (arith, untaken_none, keeps_new)

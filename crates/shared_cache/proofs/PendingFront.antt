@@ -1,7 +1,7 @@
 -- The replies behind those of the front, which were handed out.
 use Rattle.std.proofs.Common.{◌≡◌, ◌+◌, ◌-◌, ◌<◌, ◌≤◌, ◌++◌, ℕ, List, [], ◌∷◌, length}
 use Rattle.std.proofs.Common.{get_or, set, drop, replicate, Option, Some, None, sym, ap, ◌∙◌, arith}
-use Rattle.std.proofs.Common.{inl, inr, refl, append_assoc, append-nil}
+use Rattle.std.proofs.Common.{refl, append_assoc, append-nil}
 use Rattle.std.proofs.lemmas.Bool.{cases_lt}
 use Rattle.std.proofs.lemmas.List.{length-append, length-replicate, get_or-replicate, get_or_past}
 use Rattle.std.proofs.lemmas.List.{get_or_append_left, get_or-append_right, set-append_right}
@@ -11,7 +11,6 @@ use Rattle.std.specs.Option.{option_to_list}
 use Rattle.shared_cache.specs.declared.entry.PendingReply.{PendingReply}
 use Rattle.shared_cache.specs.declared.entry.PendingReply.TheVariants.{Waiting, Gone}
 use Rattle.shared_cache.specs.declared.pending.Handed.{Handed}
-use Rattle.shared_cache.specs.declared.pending.Handed.TheVariants as handed
 use Rattle.shared_cache.specs.PendingReplies.{HandsOver}
 
 gone_waits : Gone ≡ Waiting → ⊥
@@ -20,9 +19,7 @@ gone_waits e = cc
 pub in_front : (gone : ℕ) (rest : List PendingReply) (i : ℕ) → i < gone
     → get_or (replicate gone Gone ++ rest) i Gone ≡ Gone
 in_front gone rest i lt =
-    get_or_append_left (replicate gone Gone) rest Gone i
-    (omega (arith, length-replicate gone Gone))
-    ∙ get_or-replicate gone i Gone Gone lt
+    grind (arith, get_or_append_left, replicate, length-replicate, get_or-replicate)
 
 pub behind : (gone : ℕ) (rest : List PendingReply) (i : ℕ) → gone ≤ i
     → get_or (replicate gone Gone ++ rest) i Gone ≡ get_or rest (i - gone) Gone
@@ -33,15 +30,7 @@ behind gone rest i le =
 pub waits_behind : (gone : ℕ) (rest : List PendingReply) (i : ℕ)
     → get_or (replicate gone Gone ++ rest) i Gone ≡ Waiting
     → (gone ≤ i) × (i - gone < length rest)
-waits_behind gone rest i e = elim (cases_lt i gone) [
-  | inl lt ↦ absurd (gone_waits (sym (in_front gone rest i lt) ∙ e))
-  | inr le ↦ elim (cases_lt (i - gone) (length rest)) [
-    | inl short ↦ (le, short)
-    | inr past ↦
-        absurd (gone_waits (sym (behind gone rest i le ∙ get_or_past rest (i - gone) Gone past)
-        ∙ e))
-  ]
-]
+waits_behind gone rest i e = grind (arith, cases_lt, gone_waits, in_front, behind, get_or_past)
 
 pub set_behind : (gone : ℕ) (rest : List PendingReply) (i : ℕ) (r : PendingReply) → gone ≤ i
     → replicate gone Gone ++ set rest (i - gone) r ≡ set (replicate gone Gone ++ rest) i r
@@ -51,14 +40,7 @@ set_behind gone rest i r le =
 pub hands_behind : (gone : ℕ) (old : List PendingReply) (i : ℕ) (h : Handed)
     (new : List PendingReply) → gone ≤ i → HandsOver old (i - gone) h new
     → HandsOver (replicate gone Gone ++ old) i h (replicate gone Gone ++ new)
-hands_behind gone old i handed.Waiting new le p =
-    (behind gone old i le ∙ p.0, ap (λ l. replicate gone Gone ++ l) p.1)
-hands_behind gone old i handed.Gone new le p =
-    (behind gone old i le ∙ p.0, ap (λ l. replicate gone Gone ++ l) p.1)
-hands_behind gone old i (handed.There v) new le p = (
-  behind gone old i le ∙ p.0,
-  ap (λ l. replicate gone Gone ++ l) p.1 ∙ set_behind gone old i Gone le,
-)
+hands_behind gone old i h new le p = grind (arith, behind, replicate, set_behind)
 
 -- the last of those of the front does not wait
 none_waits : (gone : ℕ) (front : List PendingReply) → replicate gone Gone ≡ front ++ Waiting ∷ []
@@ -79,25 +61,16 @@ none_waits gone front e =
 -- the first of the rest is counted alone
 pub one_more : (gone : ℕ) (old new : List PendingReply) → 0 < length old → get_or old 0 Gone ≡ Gone
     → new ≡ drop 1 old → replicate (gone + 1) Gone ++ new ≡ replicate gone Gone ++ old
-one_more gone [] new some is e = absurd (omega arith)
-one_more gone (r ∷ old) new some is e =
-    ap (λ l. l ++ new) (replicate_next gone Gone)
-    ∙ append_assoc (replicate gone Gone) (Gone ∷ []) new
-    ∙ (λ i. replicate gone Gone ++ sym is i ∷ e i)
+one_more gone old new some is e = grind (arith, replicate_next, append_assoc, replicate)
 
 -- the last goes
 pub last_goes : (gone : ℕ) (old new front : List PendingReply) (last : Option PendingReply)
     → old ≡ new ++ option_to_list last → (last ≡ None → length new ≡ 0)
     → replicate gone Gone ++ old ≡ front ++ Waiting ∷ [] → replicate gone Gone ++ new ≡ front
 last_goes gone old new front (Some r) e none is =
-    (same_from_push (replicate gone Gone ++ new) front r Waiting
-    (append_assoc (replicate gone Gone) new (r ∷ [])
-    ∙ ap (λ l. replicate gone Gone ++ l) (sym e) ∙ is)).0
+    grind (arith, same_from_push, replicate, append_assoc)
 last_goes gone old new front None e none is =
-    absurd (none_waits gone front
-    (sym (append-nil (replicate gone Gone))
-    ∙ ap (λ l. replicate gone Gone ++ l)
-    (sym (e ∙ append-nil new ∙ nil_from_length new (none refl))) ∙ is))
+    grind (arith, none_waits, append-nil, replicate, nil_from_length)
 
 pub first_gone : (rest : List PendingReply) (r : PendingReply) → r ≡ Gone → r ≡ get_or rest 0 r
     → get_or rest 0 Gone ≡ Gone

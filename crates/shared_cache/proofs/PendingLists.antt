@@ -49,18 +49,12 @@ owed_gone (Gone ∷ ds) (suc i) v e = owed_gone ds i v e
 
 -- what a pending reply says of its number
 pub gone_is : (b : Bool) (o : Option Value) → cond b Gone (there o) ≡ Gone → b ≡ true
-gone_is true o e = refl
-gone_is false None e = cc
-gone_is false (Some v) e = cc
+gone_is b o e = grind arith
 
 pub waits_is : (b : Bool) (o : Option Value) → cond b Gone (there o) ≡ Waiting → (b ≡ false)
     × (o ≡ None)
-waits_is true o e = cc
-waits_is false None e = (refl, refl)
-waits_is false (Some v) e = cc
+waits_is b o e = grind arith
 
 pub there_is : (b : Bool) (o : Option Value) (v : Value) → cond b Gone (there o) ≡ There v
     → (b ≡ false) × (o ≡ Some v)
-there_is true o v e = cc
-there_is false None v e = cc
-there_is false (Some u) v e = (refl, cc)
+there_is b o v e = grind arith

@@ -29,10 +29,7 @@ among_either : (h : CacheEntry) (xs ys : List CacheEntry) → Among h (xs ++ ys)
     → Among h xs ⊎ Among h ys
 among_either h [] ys a = inr a
 among_either h (x ∷ xs) ys (inl e) = inl (inl e)
-among_either h (x ∷ xs) ys (inr a) = elim (among_either h xs ys a) [
-  | inl b ↦ inl (inr b)
-  | inr b ↦ inr b
-]
+among_either h (x ∷ xs) ys (inr a) = grind (arith, among_either h xs ys a)
 
 or_right : {P Q R : Type 0} → (Q → R) → P ⊎ Q → P ⊎ R
 or_right f (inl x) = inl x
@@ -117,9 +114,7 @@ pub rank_listed : (pairs : Pairs) (hs : List CacheEntry) (h : CacheEntry) → Ar
     → rank h (listed pairs) ≡ rank h hs
 rank_listed [] hs h p = ap (rank h) (sym p)
 rank_listed (r ∷ pairs) hs h p =
-    rank_append h r.1 (listed pairs)
-    ∙ (λ i. rank h (p.0 i) + rank_listed pairs (but_key r.0 hs) h p.2 i)
-    ∙ rank_parts r.0 h hs
+    grind (arith, rank_append, rank_parts, rank_listed pairs (but_key r.0 hs) h p.2)
 
 -- ---- the same places
 

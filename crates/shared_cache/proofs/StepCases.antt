@@ -2,8 +2,8 @@
 use Rattle.std.proofs.Common.{◌≡◌, ◌==◌, ◌+◌, ◌<◌, ◌≤◌, ◌-◌, ℕ, zero, suc, List, []}
 use Rattle.std.proofs.Common.{◌∷◌, length, take, Bool, true, false, cond, not, Option, Some, None}
 use Rattle.std.proofs.Common.{sym, ap, ◌∙◌, refl, subst, arith}
-use Rattle.std.specs.Prelude.{nat_le, nat_lt}
-use Rattle.std.proofs.lemmas.Bool.{eqb-true, and_left, and_right, and_from, le-ltb, lt-ltb}
+use Rattle.std.specs.Prelude.{nat_le}
+use Rattle.std.proofs.lemmas.Bool.{and_left, and_right, and_from, lt-ltb}
 use Rattle.resp_value.specs.declared.value.Value.{Value}
 use Rattle.command_words.specs.Control.{is_control}
 use Rattle.shared_cache.specs.declared.log.Wire.TheVariants.{Main}
@@ -24,7 +24,7 @@ use Rattle.shared_cache.specs.declared.notices.Notice.{Notice}
 use Rattle.shared_cache.specs.declared.notices.Notice.TheVariants.{Reply, Keys, All, Broken, Other}
 use Rattle.shared_cache.specs.declared.notices.Notice.TheVariants.{Malformed}
 use Rattle.shared_cache.specs.Notices.{kind_of, IsPush}
-use Rattle.shared_cache.specs.Log.{handshake_length, first_number, replies, reply, is_ended}
+use Rattle.shared_cache.specs.Log.{handshake_length, replies, reply, is_ended}
 use Rattle.shared_cache.specs.Log.{is_ready, caching_on_for}
 use Rattle.shared_cache.specs.Held.{Setup, Words, Caller, SentCommand, sent, put_ask, put_command}
 use Rattle.shared_cache.specs.Held.{held}
@@ -145,18 +145,13 @@ module _ (s : Setup) (log : List LogEntry) where
   pub poll_unwanted : (n : ℕ) → is_wanted s log n ≡ false
       → client_step s log (Poll n) ≡ refusing (NoNumber n) log
   unfolding client_step
-  poll_unwanted n e =
-      ap (λ b. cond (not b) (refusing (NoNumber n) log)
-      (polling (reply s.mode log n) n (is_ended s.mode Main log) log)) e
+  poll_unwanted n e = grind arith
 
   pub poll_wanted : (n : ℕ) (o : Option Value) (over : Bool) → is_wanted s log n ≡ true
       → reply s.mode log n ≡ o → is_ended s.mode Main log ≡ over
       → client_step s log (Poll n) ≡ polling o n over log
   unfolding client_step
-  poll_wanted n o over e f g =
-      ap (λ b. cond (not b) (refusing (NoNumber n) log)
-      (polling (reply s.mode log n) n (is_ended s.mode Main log) log)) e
-      ∙ (λ i. polling (f i) n (g i) log)
+  poll_wanted n o over e f g = grind arith
 
   pub take_down : (most : ℕ) → is_ended s.mode Main log ≡ true
       → client_step s log (TakeOut Main most) ≡ refusing (Down Main) log
@@ -165,9 +160,7 @@ module _ (s : Setup) (log : List LogEntry) where
 
   no_bytes : (most : ℕ) (bytes : List ℕ) (full : Bool) → (length bytes == 0) ≡ true
       → taking_out Main most bytes full log ≡ record { reply = Quiet; past = log }
-  no_bytes most [] full e = refl
-  no_bytes most (b ∷ bytes) full e =
-      absurd (let h : length (b ∷ bytes) ≡ 0 = eqb-true (length (b ∷ bytes)) 0 e in omega arith)
+  no_bytes most bytes full e = grind arith
 
   some_bytes : (most : ℕ) (bytes : List ℕ) → (length bytes == 0) ≡ false
       → taking_out Main most bytes false log ≡ record
@@ -194,18 +187,14 @@ module _ (s : Setup) (log : List LogEntry) where
   pub take_full : (most : ℕ) → is_ended s.mode Main log ≡ false
       → (length (untaken s Main log) == 0) ≡ false → is_log_full s log ≡ true
       → client_step s log (TakeOut Main most) ≡ refusing (LogFull (length log)) log
-  take_full most e f g = taking_is most e
-      ∙ ap (λ b. taking_out Main most (untaken s Main log) b log) g
-      ∙ full_bytes most (untaken s Main log) f
+  take_full most e f g = grind (arith, taking_is, full_bytes)
 
   pub take_ok : (most : ℕ) → is_ended s.mode Main log ≡ false
       → (length (untaken s Main log) == 0) ≡ false → is_log_full s log ≡ false
       → client_step s log
       (TakeOut Main most) ≡ record
       { reply = Bytes (take most (untaken s Main log)); past = entry.TakeOut Main most ∷ log }
-  take_ok most e f g = taking_is most e
-      ∙ ap (λ b. taking_out Main most (untaken s Main log) b log) g
-      ∙ some_bytes most (untaken s Main log) f
+  take_ok most e f g = grind (arith, taking_is, some_bytes)
 
   pub end_over : is_ended s.mode Main log ≡ true
       → client_step s log (End Main) ≡ record { reply = Noted; past = log }
@@ -284,9 +273,7 @@ module _ (s : Setup) (log : List LogEntry) where
   cases_none : (a b : Bool)
       → cond a (Some (Unexpected Main)) (cond b None (Some (SetupRefused Main))) ≡ None
       → (a ≡ false) × (b ≡ true)
-  cases_none true b e = cc
-  cases_none false true e = (refl, refl)
-  cases_none false false e = cc
+  cases_none a b e = grind arith
 
   pub awaits : (v : Value) → kind_of v ≡ Reply → fault_of s log Main v ≡ None
       → (nat_le (numbers s log) (length (replies s.mode Main log)) ≡ false)
@@ -302,26 +289,14 @@ module _ (s : Setup) (log : List LogEntry) where
   unwanted n h = and_left (was_given s log n) (not (is_polled log n)) h
 
   pub low : (n : ℕ) → n ≤ handshake_length s.mode → is_wanted s log n ≡ false
-  low n h = unwanted n
-      (and_left (nat_lt (handshake_length s.mode) n)
-      (is_callers (slice_get (sent s log) (n - first_number s.mode)))
-      (le-ltb (handshake_length s.mode) n h))
+  low n h = grind arith
 
   pub high : (n : ℕ) → numbers s log < n → is_wanted s log n ≡ false
-  high n h = unwanted n
-      (and_right (nat_lt (handshake_length s.mode) n)
-      (is_callers (slice_get (sent s log) (n - first_number s.mode)))
-      (ap is_callers (slice_get_past (sent s log) (n - first_number s.mode) (omega arith))))
+  high n h = grind (arith, unwanted, and_right, slice_get_past)
 
   pub handed : (n : ℕ) → is_polled log n ≡ true → is_wanted s log n ≡ false
   handed n h = and_right (was_given s log n) (not (is_polled log n)) (ap not h)
 
   pub wanted : (n : ℕ) → handshake_length s.mode < n → n ≤ numbers s log → is_polled log n ≡ false
       → is_wanted s log n ≡ true
-  wanted n b w h =
-      and_from (was_given s log n) (not (is_polled log n))
-      (and_from (nat_lt (handshake_length s.mode) n)
-      (is_callers (slice_get (sent s log) (n - first_number s.mode)))
-      (lt-ltb (handshake_length s.mode) n b)
-      (callers_at (sent s log) (n - first_number s.mode) (sent_callers s log) (omega arith)))
-      (ap not h)
+  wanted n b w h = grind (arith, and_from, lt-ltb, callers_at, sent_callers)

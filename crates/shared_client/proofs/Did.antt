@@ -119,9 +119,6 @@ judged_fault m w replied sent v Other = tt
 judged_fault m w replied sent v Malformed = tt
 
 module _ (s : Setup) (log : List LogEntry) where
-  TurnSays : ClientCall → ClientTurn → Type 0
-  TurnSays call t = Says call log t.reply t.past
-
   answer_says : (q : List (List ℕ)) (o : Option CacheEntry) (n : ℕ)
       → AskSays q log (answer_ask o n) (entry.Ask q ∷ log)
   answer_says q None n = refl

@@ -183,10 +183,7 @@ module _ {S U E C R : Type 0} (setup : S → U) (stands : S → List E → Type 
       → get_elem? s.views id ≡ some v
       → Rule record
       { words = set s.words i (get_or s.words i 0); homes = s.homes; views = set s.views id v }
-  rests s k i id v at =
-      subst (λ (z : List ℕ × List (View U E)).
-      Rule record { words = z.0; homes = s.homes; views = z.1 })
-      (λ j. (sym (set_again_or s.words i) j, sym (set_again s.views id v at) j)) k
+  rests s k i id v at = grind (arith, set_again_or, set_again)
 
   -- whatever is done to the number of sleepers
   pub counts : (slots id : ℕ) (f : ℕ → ℕ) (me : Me (Option S) (View U E))

@@ -155,24 +155,7 @@ module _ {U E : Type 0} where
   -- a view with no ticket comes to the others
   pub queue_more : (drawn served : ℕ) (h : List (ℕ × E)) (vs : List (View U E)) (w : View U E)
       → Queue drawn served h vs → w.stage ≡ New → Queue drawn served h (vs ++ w ∷ [])
-  queue_more drawn served h vs w q new =
-      let none : (u : View U E) (t : ℕ) → w ≡ u → HasTicket u.stage u.more t → ⊥
-      = λ u t is hu. subst (λ s. HasTicket s u.more t)
-      (sym (ap (λ (z : View U E). z.stage) is) ∙ new) hu in
-      record {
-        counted = let s = total_snoc (λ (u : View U E). tickets_of u.stage u.more) vs w in
-            let c = q.counted in let a : tickets_of w.stage w.more ≡ 0
-            = ap (λ z. tickets_of z w.more) new in omega arith;
-        between = λ j u t e hu. ⊎_elim (λ old. q.between j u t old hu)
-            (λ is. absurd (none u t is hu)) (at_snoc vs w u j e);
-        apart = λ i j a b t ea eb ha hb. ⊎_elim
-            (λ olda. ⊎_elim (λ oldb. q.apart i j a b t olda oldb ha hb)
-            (λ is. absurd (none b t is hb)) (at_snoc vs w b j eb)) (λ is. absurd (none a t is ha))
-            (at_snoc vs w a i ea);
-        outs = λ j u t e is. ⊎_elim (λ old. q.outs j u t old is)
-            (λ same. let bad : New ≡ Out t = sym new ∙ (ap (λ (z : View U E). z.stage) same ∙ is) in
-            absurd cc) (at_snoc vs w u j e);
-      }
+  queue_more drawn served h vs w q new = grind (arith, total_snoc, ⊎_elim, at_snoc)
 
   -- a view that is out stays out where another changes
   pub out_set : (vs : List (View U E)) (id : ℕ) (v w : View U E) (n : ℕ) → get_elem? vs id ≡ some v

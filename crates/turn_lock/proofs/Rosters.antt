@@ -11,7 +11,7 @@ use lib.ListN.{get_elem?}
 use Rattle.atomic_table.proofs.Lists.{at_set, set_else, at_longer}
 use Rattle.turn_lock.specs.declared.rule.View.{View}
 use Rattle.turn_lock.specs.declared.rule.Stage.{Stage}
-use Rattle.turn_lock.specs.declared.rule.Stage.TheVariants.{New, Idle, Waits, Out, Spent}
+use Rattle.turn_lock.specs.declared.rule.Stage.TheVariants.{New, Idle, Spent}
 use Rattle.turn_lock.specs.Counts.{times, total}
 use Rattle.turn_lock.specs.History.{IsPrefix, history_after, own_after, made_by}
 use Rattle.turn_lock.specs.Seats.{longer}
@@ -25,11 +25,7 @@ use Rattle.turn_lock.proofs.Counting.{begins_after, shorter_begins, longer_begin
 use Rattle.turn_lock.proofs.Counting.{longer_whole, longer_whole_right}
 
 pub live_of : (s : Stage) → Seated s → Live s
-live_of New h = absurd h
-live_of Idle h = tt
-live_of (Waits t) h = tt
-live_of (Out t) h = tt
-live_of Spent h = absurd h
+live_of s h = grind arith
 
 not_new : (s : Stage) → Seated s → s ≡ New → ⊥
 not_new s h e = subst Seated e h
@@ -38,9 +34,7 @@ module _ {A : Type 0} where
   pub each_set : (P : ℕ → A → Type 0) (vs : List A) (id : ℕ) (w : A) → P id w
       → ((j : ℕ) (u : A) → j ≢ id → get_elem? vs j ≡ some u → P j u)
       → (j : ℕ) (u : A) → get_elem? (set vs id w) j ≡ some u → P j u
-  each_set P vs id w here there j u e =
-      ⊎_elim (λ t. subst (λ z. P z u) (sym t.0) (subst (P id) t.1 here)) (λ t. there j u t.0 t.1)
-      (at_set vs id j w u e)
+  each_set P vs id w here there j u e = grind (arith, ⊎_elim, at_set)
 
   pub set_there : (l : List A) (i : ℕ) (a b : A) → get_elem? l i ≡ some b
       → get_elem? (set l i a) i ≡ some a
@@ -71,17 +65,7 @@ module _ {U E : Type 0} (setup : U) where
       (v : View U E) → ViewRule setup drawn h v → Seated v.stage → tickets ≤ drawn'
       → ViewRule setup drawn' h
       (record v { tickets = tickets; turns = turns; stage = stage; more = more })
-  fits_stage drawn drawn' tickets turns h stage more v f seated le = record {
-    looked = le;
-    begins = f.begins;
-    less = f.less;
-    owns = f.owns;
-    owned = f.owned;
-    about = λ _. f.about (live_of v.stage seated);
-    share = λ _. f.share (live_of v.stage seated);
-    named = λ _. f.named seated;
-    gone = λ z. absurd (let p = f.share (live_of v.stage seated) in omega arith);
-  }
+  fits_stage drawn drawn' tickets turns h stage more v f seated le = grind arith
 
   -- the seat sees the whole history
   pub fits_whole : (drawn : ℕ) (h : List (ℕ × E)) (stage : Stage) (v : View U E)
@@ -120,17 +104,7 @@ module _ {U E : Type 0} (setup : U) where
 
   fits_later : (drawn drawn' : ℕ) (h : List (ℕ × E)) (v : View U E) → drawn ≤ drawn'
       → ViewRule setup drawn h v → ViewRule setup drawn' h v
-  fits_later drawn drawn' h v le f = record {
-    looked = let l = f.looked in omega arith;
-    begins = f.begins;
-    less = f.less;
-    owns = f.owns;
-    owned = f.owned;
-    about = f.about;
-    share = f.share;
-    named = f.named;
-    gone = f.gone;
-  }
+  fits_later drawn drawn' h v le f = grind arith
 
   -- another seat makes an entry
   fits_grown : (drawn n : ℕ) (e : E) (h : List (ℕ × E)) (v : View U E) → times n v.numbers ≡ 0
@@ -431,17 +405,7 @@ module _ {U E : Type 0} (setup : U) where
       both_in a b h x y = begin_longer a b (shorter_begins a b h x y)
 
   fits_spent : (drawn : ℕ) (h : List (ℕ × E)) → ViewRule {U = U} {E = E} setup drawn h spent_view
-  fits_spent drawn h = record {
-    looked = omega arith;
-    begins = nil-suffix {l = h};
-    less = nil-suffix {l = []};
-    owns = λ p. sym (made_by-nil h p);
-    owned = λ p. refl;
-    about = λ bad. absurd bad;
-    share = λ bad. absurd bad;
-    named = λ bad. absurd bad;
-    gone = λ _. (refl, refl, refl);
-  }
+  fits_spent drawn h = grind (arith, nil-suffix, made_by-nil)
 
   -- one seat is joined into another
   pub roster_join : (drawn : ℕ) (h : List (ℕ × E)) (vs : List (View U E)) (id other : ℕ)

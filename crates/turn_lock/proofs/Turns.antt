@@ -1,21 +1,17 @@
 -- Turns one after another, with tickets that were drawn at once.
-use Rattle.std.proofs.Common.{◌≡◌, ℕ, zero, suc, ◌+◌, ◌<◌, ◌≤◌, List, [], ◌∷◌, ◌++◌, length}
+use Rattle.std.proofs.Common.{◌≡◌, ℕ, zero, suc, ◌+◌, ◌≤◌, List, [], ◌∷◌, ◌++◌, length}
 use Rattle.std.proofs.Common.{sym, refl, ap, ◌∙◌, subst, arith, append_assoc}
-use Rattle.std.specs.Prelude.{Option, Some, None, IfSome}
+use Rattle.std.specs.Prelude.{Option, Some, IfSome}
 use Rattle.std.specs.List.{All}
 use Rattle.atomic_table.specs.Table.{Me}
 use Rattle.atomic_table.specs.Seated.{TableId}
 use Rattle.turn_lock.specs.declared.rule.View.{View}
-use Rattle.turn_lock.specs.declared.rule.Stage.TheVariants.{Idle, Waits}
+use Rattle.turn_lock.specs.declared.rule.Stage.TheVariants.{Idle}
 use Rattle.turn_lock.specs.declared.rule.TheConstants.{LAST_TICKET}
 use Rattle.turn_lock.specs.History.{IsPrefix, history_after, own_after}
 use Rattle.turn_lock.specs.Seats.{Known, known, IsSameSeat, IsSoundView, Turned, TurnedAll}
 use Rattle.turn_lock.specs.Rule.{next_stage, one_less, waiting_view, serving_view, view_after}
 use Rattle.turn_lock.specs.Rule.{Enters, TurnEnds, IsReady, IsSameView}
-
-if_some : {A : Type 0} (P : A → Type 0) (o : Option A) → ((a : A) → o ≡ Some a → P a) → IfSome o P
-if_some P None h = tt
-if_some P (Some a) h = h a refl
 
 is_some : {A : Type 0} (P : A → Type 0) (o : Option A) → IfSome o P → (a : A) → o ≡ Some a → P a
 is_some P o h a e = subst (λ z. IfSome z P) e h
@@ -77,9 +73,7 @@ module _ {U E C R : Type 0} (step : U → List E → C → R → Option E → Ty
 
   pub none_turned : (calls : List C) (replies : List R) (k l : Known U E) → length calls ≡ 0
       → replies ≡ [] → l ≡ k → TurnedAll step calls replies k l
-  none_turned [] replies k l none empty is =
-      subst (λ (z : List R × Known U E). TurnedAll step [] z.0 k z.1)
-      (λ i. (sym empty i, sym is i)) ((refl, refl, refl, refl, refl), refl, refl)
+  none_turned [] replies k l none empty is = grind arith
   none_turned (c ∷ calls) replies k l none empty is =
       let long : suc (length calls) ≡ 0 = none in absurd (omega arith)
 
@@ -104,31 +98,6 @@ module _ {S U E C R : Type 0} (setup : S → U) (stands : S → List E → Type 
     pub over : List C
     pub all : over ++ rest ≡ calls
     pub turns : TurnedAll step over replies (known lock start) (known lock m.0)
-
-  turning_opens : (at left : ℕ) (m : Me (Option S) (View U E)) → IsReady m.0 at left
-      → at + left ≤ LAST_TICKET → m.1 ≡ [] → IsSoundView step m.0
-      → IfSome m.0.setup (λ u. All (fits_call u) calls) → length calls ≡ left
-      → Turning m.0 at left calls [] m
-  turning_opens at left m ready small none sound fits long = record {
-    kept = (refl, refl, refl, refl, refl, refl);
-    ready = ready;
-    small = small;
-    none_out = none;
-    sound = sound;
-    fits = is_some (λ u. All (fits_call u) calls) m.0.setup fits;
-    long = long;
-    over = [];
-    all = refl;
-    turns = ((refl, refl, refl, refl, refl), refl, refl);
-  }
-
-  pub turning_starts : (at len left : ℕ) (rest : List C) (m : Me (Option S) (View U E))
-      → left ≡ len → rest ≡ calls → IsReady m.0 at len → at + len ≤ LAST_TICKET → m.1 ≡ []
-      → IsSoundView step m.0 → IfSome m.0.setup (λ u. All (fits_call u) calls)
-      → length calls ≡ len → Turning m.0 at left rest [] m
-  turning_starts at len left rest m same items ready small none sound fits long =
-      subst (λ (z : ℕ × List C). Turning m.0 at z.0 z.1 [] m) (λ i. (sym same i, sym items i))
-      (turning_opens at len m ready small none sound fits long)
 
   module _ (start : View U E) where
     turning_one : (at left : ℕ) (call : C) (rest : List C) (replies : List R) (reply : R)
@@ -172,24 +141,11 @@ module _ {S U E C R : Type 0} (setup : S → U) (stands : S → List E → Type 
         subst (λ z. Turning start (at + 1) left' rest' z m'') (sym pushed)
         (turning_one at left' call rest' replies reply m m' m'' k' wait turn sound)
 
-    pub turning_waits : (at left left' : ℕ) (call : C) (rest rest' : List C) (replies : List R)
-        (m : Me (Option S) (View U E)) → rest ≡ call ∷ rest' → left ≡ left' + 1
-        → Turning start at left rest replies m → (m.0.stage ≡ Waits at) × (at < LAST_TICKET)
-    turning_waits at left left' call rest rest' replies m items len k =
-        let len' : left ≡ suc left' = omega arith in (
-          (subst (λ z. IsReady m.0 at z) len' k.ready).0,
-          (let s = k.small in omega arith),
-        )
-
     pub turning_fits : (at left : ℕ) (call : C) (rest rest' : List C) (replies : List R)
         (m m' : Me (Option S) (View U E)) → rest ≡ call ∷ rest'
         → Turning start at left rest replies m → Enters setup stands m at m'
         → IfSome m'.0.setup (λ u. fits_call u call)
-    turning_fits at left call rest rest' replies m m' items k (y, h, is, begins, about, st) =
-        if_some (λ u. fits_call u call) m'.0.setup
-        (λ u same. let setup_is = ap (λ (z : Me (Option S) (View U E)). z.0.setup) is in
-        subst (λ z. All (fits_call u) z) items (k.fits u (sym setup_is ∙ same)) 0 call
-        (omega arith))
+    turning_fits at left call rest rest' replies m m' items k h = grind arith
 
     pub turning_ends : (at left : ℕ) (rest : List C) (replies : List R)
         (m : Me (Option S) (View U E)) → left ≡ 0 → Turning start at left rest replies m

@@ -41,23 +41,8 @@ use Rattle.world_run.specs.MemberTurns.{IsNoValue, Turned, TurnGives}
 pub stepped : (s : Setup) (log : List LogEntry) (c : ClientCall) (reply : ClientReply)
     (new : List LogEntry) → (reply ≡ Refused refusal.NoMemory → ⊥) → ClientStep s log c reply new
     → client_step s log c ≡ record { reply = reply; past = new }
-stepped s log c (Hit v n) new has h = h
-stepped s log c (Sent n) new has h = h
-stepped s log c NotYet new has h = h
-stepped s log c (Answer v) new has h = h
-stepped s log c (Bytes b) new has h = h
-stepped s log c Quiet new has h = h
-stepped s log c Noted new has h = h
-stepped s log c (Refused (refusal.Down w)) new has h = h
-stepped s log c (Refused (refusal.Unexpected w)) new has h = h
-stepped s log c (Refused (refusal.BadPush w)) new has h = h
 stepped s log c (Refused refusal.NoMemory) new has h = absurd (has refl)
-stepped s log c (Refused (refusal.LogFull n)) new has h = h
-stepped s log c (Refused (refusal.SetupRefused w)) new has h = h
-stepped s log c (Refused refusal.NotReady) new has h = h
-stepped s log c (Refused refusal.Control) new has h = h
-stepped s log c (Refused (refusal.NoNumber n)) new has h = h
-stepped s log c (Refused refusal.Worn) new has h = h
+stepped s log c reply new has h = h
 
 -- ---- the log after a step
 
@@ -169,15 +154,9 @@ got_same log new v r is = is
 -- fewer are got than there are entries
 pub gots_within : (log : List LogEntry) → length (gots Main log) ≤ length log
 gots_within [] = omega arith
-gots_within (entry.Ask q ∷ log) = let r = gots_within log in omega (arith, r)
-gots_within (entry.Send ws ∷ log) = let r = gots_within log in omega (arith, r)
-gots_within (entry.Poll n ∷ log) = let r = gots_within log in omega (arith, r)
-gots_within (entry.TakeOut w n ∷ log) = let r = gots_within log in omega (arith, r)
-gots_within (entry.End w ∷ log) = let r = gots_within log in omega (arith, r)
-gots_within (entry.Bad w v ∷ log) = let r = gots_within log in omega (arith, r)
 gots_within (entry.Got Main v ∷ log) =
     let r = gots_within log in omega (arith, r, length-append (gots Main log) (v ∷ []))
-gots_within (entry.Got w v ∷ log) = let r = gots_within log in omega (arith, r)
+gots_within (e ∷ log) = let r = gots_within log in omega (arith, r)
 
 -- an end takes no memory
 pub ends_always : (s : Setup) (log : List LogEntry) → MayRunOut s log (call.End Main) → ⊥
@@ -193,74 +172,37 @@ ends_always s log m =
 
 not_memory : (r : ClientRefusal) → refused_fault r ≡ Some fault.NoMemory → ⊥
 not_memory (refusal.Down w) e = cc
-not_memory (refusal.Unexpected w) e = cc
-not_memory (refusal.BadPush w) e = cc
-not_memory refusal.NoMemory e = cc
-not_memory (refusal.LogFull n) e = cc
-not_memory (refusal.SetupRefused w) e = cc
-not_memory refusal.NotReady e = cc
-not_memory refusal.Control e = cc
-not_memory (refusal.NoNumber n) e = cc
-not_memory refusal.Worn e = cc
+not_memory r e = cc
 
 no_memory : (r : ClientReply) → fault_of r ≡ Some fault.NoMemory → ⊥
-no_memory (Hit v n) e = cc
-no_memory (Sent n) e = cc
-no_memory NotYet e = cc
-no_memory (Answer v) e = cc
-no_memory (Bytes b) e = cc
-no_memory Quiet e = cc
-no_memory Noted e = cc
 no_memory (Refused r) e = not_memory r e
+no_memory r e = cc
 
 -- a refusal that stops its event prints nothing
 silent : (name : List ℕ) (r : ClientRefusal) (f : WorldFault) → refused_fault r ≡ Some f
     → (refused_lines name r ≡ []) × (ending_lines name r ≡ [])
-silent name (refusal.Down w) f e = absurd (let no : ⊥ = cc in no)
-silent name (refusal.Unexpected w) f e = absurd (let no : ⊥ = cc in no)
-silent name (refusal.BadPush w) f e = absurd (let no : ⊥ = cc in no)
-silent name refusal.NoMemory f e = absurd (let no : ⊥ = cc in no)
 silent name (refusal.LogFull n) f e = (refl, refl)
-silent name (refusal.SetupRefused w) f e = absurd (let no : ⊥ = cc in no)
-silent name refusal.NotReady f e = absurd (let no : ⊥ = cc in no)
 silent name refusal.Control f e = (refl, refl)
 silent name (refusal.NoNumber n) f e = (refl, refl)
-silent name refusal.Worn f e = absurd (let no : ⊥ = cc in no)
+silent name r f e = absurd (let no : ⊥ = cc in no)
 
 by_call : (s : Seat) (c : ClientCall) (r : ClientRefusal) (f : WorldFault)
     → refused_fault r ≡ Some f → lines_of s c (Refused r) ≡ []
-by_call s (call.Ask q) r f e = (silent s.member.name r f e).0
-by_call s (call.Send ws) r f e = (silent s.member.name r f e).0
-by_call s (call.Poll n) r f e = (silent s.member.name r f e).0
 by_call s (call.TakeOut w n) r f e = refl
 by_call s (call.Got w v) r f e = (silent s.member.link r f e).1
 by_call s (call.End w) r f e = refl
+by_call s c r f e = (silent s.member.name r f e).0
 
 no_lines : (s : Seat) (c : ClientCall) (reply : ClientReply) (f : WorldFault)
     → fault_of reply ≡ Some f → lines_of s c reply ≡ []
-no_lines s c (Hit v n) f e = absurd (let no : ⊥ = cc in no)
-no_lines s c (Sent n) f e = absurd (let no : ⊥ = cc in no)
-no_lines s c NotYet f e = absurd (let no : ⊥ = cc in no)
-no_lines s c (Answer v) f e = absurd (let no : ⊥ = cc in no)
-no_lines s c (Bytes b) f e = absurd (let no : ⊥ = cc in no)
-no_lines s c Quiet f e = absurd (let no : ⊥ = cc in no)
-no_lines s c Noted f e = absurd (let no : ⊥ = cc in no)
 no_lines s c (Refused r) f e = by_call s c r f e
+no_lines s c reply f e = absurd (let no : ⊥ = cc in no)
 
 pub stops_by : {S : Type 0} → (m : Outcome S) (f : WorldFault) (t : S) (lines : List Line)
     → (f ≡ fault.NoMemory → ⊥) → m.fault ≡ Some f → t ≡ m.state → m.lines ≡ []
     → Stops m lines f t lines
 stops_by m fault.NoMemory t lines has e is none = absurd (has refl)
-stops_by m fault.NoName t lines has e is none =
-    (e, is, sym (ap (λ l. lines ++ l) none ∙ append-nil lines))
-stops_by m fault.NameTaken t lines has e is none =
-    (e, is, sym (ap (λ l. lines ++ l) none ∙ append-nil lines))
-stops_by m fault.NothingThere t lines has e is none =
-    (e, is, sym (ap (λ l. lines ++ l) none ∙ append-nil lines))
-stops_by m (fault.Refused n) t lines has e is none =
-    (e, is, sym (ap (λ l. lines ++ l) none ∙ append-nil lines))
-stops_by m (fault.HistoryFull n) t lines has e is none =
-    (e, is, sym (ap (λ l. lines ++ l) none ∙ append-nil lines))
+stops_by m f t lines has e is none = (e, is, sym (ap (λ l. lines ++ l) none ∙ append-nil lines))
 
 -- ---- a turn and its lines
 
@@ -313,12 +255,7 @@ pub got_other : (log new : List LogEntry) (v : Value) (reply : ClientReply)
 unfolding GotPast
 got_other log new v Noted g has others = has refl
 got_other log new v (Refused r) g has others = others r refl
-got_other log new v (Hit x n) g has others = g
-got_other log new v (Sent n) g has others = g
-got_other log new v NotYet g has others = g
-got_other log new v (Answer x) g has others = g
-got_other log new v (Bytes b) g has others = g
-got_other log new v Quiet g has others = g
+got_other log new v reply g has others = g
 
 module _ (s : Seat) (c : ClientCall) where
   pub turn_before : (lines : List Line) → Stops (turn c s) lines fault.NoMemory s lines

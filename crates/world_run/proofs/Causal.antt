@@ -70,7 +70,6 @@ sent_more l c (e ∷ es) past =
 
 pub runs_size : (c : ℕ) (past : List Entry) → length (run_entries c past) ≡ length (runs_of c past)
 runs_size c [] = refl
-runs_size c (entry.Admit id ∷ past) = runs_size c past
 runs_size c (entry.Run id words moment ∷ past) =
     elim (id == c) as (λ b. length (cond b (run_entries c past ++ (length past + 1) ∷ [])
     (run_entries c past))
@@ -81,16 +80,13 @@ runs_size c (entry.Run id words moment ∷ past) =
           ∙ sym (length-append (runs_of c past) (words ∷ []))
       | false ↦ runs_size c past
     ]
-runs_size c (entry.Tick moment ∷ past) = runs_size c past
-runs_size c (entry.Take id max ∷ past) = runs_size c past
-runs_size c (entry.Close id ∷ past) = runs_size c past
+runs_size c (e ∷ past) = runs_size c past
 
 -- what runs later has a number that is greater than all before
 pub run_later : (c : ℕ) (es past : List Entry) (place r : ℕ)
     → slice_get (run_entries c (es ++ past)) place ≡ Some r
     → (slice_get (run_entries c past) place ≡ Some r) ⊎ (length past < r)
 run_later c [] past place r e = inl e
-run_later c (entry.Admit id ∷ es) past place r e = run_later c es past place r e
 run_later c (entry.Run id words moment ∷ es) past place r e =
     let older = run_entries c (es ++ past) in
     elim (id == c) as (λ b. slice_get (cond b (older ++ (length (es ++ past) + 1) ∷ []) older)
@@ -103,9 +99,7 @@ run_later c (entry.Run id words moment ∷ es) past place r e =
       ]
       | false ↦ λ f. run_later c es past place r f
     ] e
-run_later c (entry.Tick moment ∷ es) past place r e = run_later c es past place r e
-run_later c (entry.Take id max ∷ es) past place r e = run_later c es past place r e
-run_later c (entry.Close id ∷ es) past place r e = run_later c es past place r e
+run_later c (x ∷ es) past place r e = run_later c es past place r e
 
 -- ---- what was got
 
@@ -116,18 +110,13 @@ got_count (v ∷ vs) (s ∷ ss) a = let r = got_count vs ss a.1 in omega (arith,
 
 pub gots_longer : (w : Wire) (e : LogEntry) (log : List LogEntry)
     → length (gots w log) ≤ length (gots w (e ∷ log))
-gots_longer w (logged.Ask q) log = omega arith
-gots_longer w (logged.Send ws) log = omega arith
-gots_longer w (logged.Poll n) log = omega arith
-gots_longer w (logged.TakeOut u n) log = omega arith
 gots_longer w (logged.Got u v) log =
     elim (is_wire u w) as (λ b. length (gots w log)
     ≤ length (cond b (gots w log ++ v ∷ []) (gots w log))) [
       | true ↦ omega (arith, length-append (gots w log) (v ∷ []))
       | false ↦ omega arith
     ]
-gots_longer w (logged.End u) log = omega arith
-gots_longer w (logged.Bad u v) log = omega arith
+gots_longer w e log = omega arith
 
 -- ---- causes
 

@@ -8,8 +8,8 @@ use Rattle.resp_value.specs.declared.value.Value.{Value}
 use Rattle.resp_stream.specs.declared.fault.FaultPlace.{FaultPlace}
 use Rattle.resp_stream.specs.Parse.{parse, parse_values}
 use Rattle.serial_model.specs.declared.history.BookReply.{BookReply}
-use Rattle.serial_model.specs.declared.history.BookReply.TheVariants.{Admitted, Ran, Ticked, Quiet}
-use Rattle.serial_model.specs.declared.history.BookReply.TheVariants.{Bytes, Closed, Refused}
+use Rattle.serial_model.specs.declared.history.BookReply.TheVariants.{Ticked, Quiet}
+use Rattle.serial_model.specs.declared.history.BookReply.TheVariants.{Refused}
 use Rattle.serial_model.specs.History.{gives_on, reads_on, unsent}
 use Rattle.serial_model.specs.declared.history.BookCall.{BookCall}
 use Rattle.serial_model.specs.declared.history.BookCall.TheVariants as book
@@ -88,13 +88,10 @@ h_within f m a = a
 
 h_reply : (link : List ℕ) (words : List (List ℕ)) (r : BookReply)
     → NoHits (reply_lines link words r)
-h_reply link words (Admitted e id) = (tt, tt)
-h_reply link words (Ran e) = (tt, tt)
 h_reply link words (Ticked e) = tt
 h_reply link words Quiet = tt
-h_reply link words (Bytes e bytes) = (tt, tt)
-h_reply link words (Closed e) = (tt, tt)
 h_reply link words (Refused r) = tt
+h_reply link words r = (tt, tt)
 
 h_made : (c : BookCall) (words : List (List ℕ)) (s : Session)
     → Hitless (link_moves.turn c words s)
@@ -200,15 +197,11 @@ h_moved (moves.Serve count) s = h_serve count s
 h_moved (moves.Send count) s = h_send count s
 h_moved (moves.Recv count) s = h_receive count s
 h_moved moves.Flow s = h_flow s
-h_moved moves.HangUp s = tt
-h_moved moves.Cut s = tt
+h_moved move s = tt
 
 h_move : (event : LinkEvent) (s : Session) → Hitless (move_of event s)
-h_move (Raw name) s = tt
-h_move (Put name bytes) s = tt
 h_move (Over name move) s = h_moved move s
-h_move (Now moment) s = tt
-h_move Tick s = tt
+h_move event s = tt
 
 h_named : (p : Option ℕ) (event : LinkEvent) (w : LinksState)
     → Hitless (over_named p (move_of event) w)
@@ -222,13 +215,8 @@ h_raw name (Some at) w = tt
 h_raw name None w = h_reply name [] _
 
 h_ticked : (moment : ℕ) (r : BookReply) → NoHits (tick_lines moment r)
-h_ticked moment (Admitted e id) = tt
-h_ticked moment (Ran e) = tt
 h_ticked moment (Ticked e) = (tt, tt)
-h_ticked moment Quiet = tt
-h_ticked moment (Bytes e bytes) = tt
-h_ticked moment (Closed e) = tt
-h_ticked moment (Refused r) = tt
+h_ticked moment x = tt
 
 pub h_step : (event : LinkEvent) (w : LinksState) → Hitless (step w event)
 unfolding step tick
@@ -279,9 +267,8 @@ h_lines : (s : Seat) (c : ClientCall) (r : ClientReply) → (IsAsk c → ⊥) �
 h_lines s (call.Ask q) r n = absurd (n tt)
 h_lines s (call.Send ws) r n = h_sent s r
 h_lines s (call.Poll k) r n = h_polled s k r
-h_lines s (call.TakeOut w most) r n = tt
 h_lines s (call.Got w v) r n = h_gotten s r
-h_lines s (call.End w) r n = tt
+h_lines s c r n = tt
 
 pub h_turn : (c : ClientCall) (s : Seat) → (IsAsk c → ⊥) → Hitless (turn c s)
 unfolding turn

@@ -14,7 +14,7 @@ use Rattle.serial_model.specs.History.{is_full, admitted}
 use Rattle.serial_model.specs.Steps.{Turn, book_step}
 use Rattle.serial_model.specs.Steps as steps
 use Rattle.shared_cache.specs.declared.log.Caching.{Caching}
-use Rattle.shared_cache.specs.declared.log.Caching.TheVariants.{Default, OptIn, OptOut, Bcast}
+use Rattle.shared_cache.specs.declared.log.Caching.TheVariants.{Default}
 use Rattle.shared_cache.specs.declared.log.ClientMode.{ClientMode}
 use Rattle.shared_cache.specs.declared.log.Shape.{Shape}
 use Rattle.shared_cache.specs.declared.log.Shape.TheVariants.{Single, Pair}
@@ -63,9 +63,7 @@ third_is Three e = refl
 
 default_is : (c : Caching) → is_default c ≡ true → c ≡ Default
 default_is Default e = refl
-default_is OptIn e = absurd (let no : ⊥ = cc in no)
-default_is OptOut e = absurd (let no : ⊥ = cc in no)
-default_is (Bcast ps) e = absurd (let no : ⊥ = cc in no)
+default_is c e = absurd (let no : ⊥ = cc in no)
 
 not_false : (b : Bool) → not b ≡ true → b ≡ false
 not_false true e = absurd (let no : ⊥ = cc in no)

@@ -7,7 +7,7 @@ use Rattle.std.specs.Str.{bytes_eq}
 use Rattle.serial_model.specs.declared.history.Limits.{Limits}
 use Rattle.script_text.specs.declared.line.Line.{Line}
 use Rattle.server_links.specs.declared.fault.WorldFault.{WorldFault}
-use Rattle.server_links.specs.LinkEvent.{LinkEvent, Raw, Put, Over, Now, Tick}
+use Rattle.server_links.specs.LinkEvent.{LinkEvent, Put}
 use Rattle.server_links.specs.LinkSteps.{step}
 use Rattle.server_links.specs.OneHistory.{read_on, said_by}
 use Rattle.server_links.specs.Outcome.{Outcome, refuses, stays}
@@ -82,11 +82,8 @@ comes_as l heard heard' raw raw' lines m hears says h =
 said_else : (event : LinkEvent) (n : List ℕ) → bytes_eq (name_of_event event) n ≡ false
     → said_by n event ≡ []
 unfolding name_of_event
-said_else (Raw name) n e = refl
 said_else (Put name bytes) n e = ap (λ b. cond b bytes []) e
-said_else (Over name move) n e = refl
-said_else (Now moment) n e = refl
-said_else Tick n e = refl
+said_else event n e = refl
 
 module _ (l : Limits) (heard : ℕ → List ℕ) (raw : List ℕ → List ℕ) (lines : List Line)
     (w : WorldState) (h : WorldStands l heard raw lines w) where

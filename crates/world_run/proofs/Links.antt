@@ -12,8 +12,7 @@ use Rattle.resp_stream.specs.Parse.{parse}
 use Rattle.serial_model.specs.declared.history.Entry.{Entry}
 use Rattle.serial_model.specs.declared.history.Entry.TheVariants as entry
 use Rattle.serial_model.specs.declared.history.BookReply.{BookReply}
-use Rattle.serial_model.specs.declared.history.BookReply.TheVariants.{Admitted, Ran, Ticked, Quiet}
-use Rattle.serial_model.specs.declared.history.BookReply.TheVariants.{Bytes, Closed, Refused}
+use Rattle.serial_model.specs.declared.history.BookReply.TheVariants.{Admitted}
 use Rattle.serial_model.specs.History.{admitted, is_full, reads_on, gives_on, unsent}
 use Rattle.serial_model.specs.Steps.{Turn, book_step, unless_full}
 use Rattle.serial_model.specs.Steps as steps
@@ -270,12 +269,7 @@ mute_reply : (link : List ℕ) (words : List (List ℕ)) (reply : BookReply)
     → Mute (reply_lines link words reply)
 unfolding Mute
 mute_reply link words (Admitted e id) n = refl
-mute_reply link words (Ran e) n = refl
-mute_reply link words (Ticked e) n = refl
-mute_reply link words Quiet n = refl
-mute_reply link words (Bytes e bytes) n = refl
-mute_reply link words (Closed e) n = refl
-mute_reply link words (Refused r) n = refl
+mute_reply link words reply n = refl
 
 mutes_turned : (s : Session) (words : List (List ℕ)) (t : Turn) → Mutes (turned s words t)
 mutes_turned s words t = mutes_once s _ _ _ (mute_reply s.link.name words t.reply)
@@ -366,7 +360,6 @@ IsUnread Tick = Unit {0}
 
 mutes_move : (event : LinkEvent) (s : Session) → IsUnread event → Mutes (move_of event s)
 unfolding IsUnread
-mutes_move (Raw name) s h = mutes_stays s
 mutes_move (Put name bytes) s h = mutes_does s _
 mutes_move (Over name (moves.Serve count)) s h = mutes_serve count s
 mutes_move (Over name (moves.Send count)) s h = mutes_send count s
@@ -374,8 +367,7 @@ mutes_move (Over name (moves.Recv count)) s h = absurd h
 mutes_move (Over name moves.Flow) s h = absurd h
 mutes_move (Over name moves.HangUp) s h = mutes_stays _
 mutes_move (Over name moves.Cut) s h = mutes_stays _
-mutes_move (Now moment) s h = mutes_stays s
-mutes_move Tick s h = mutes_stays s
+mutes_move event s h = mutes_stays s
 
 mutes_named : (p : Option ℕ) (event : LinkEvent) (w : LinksState) → IsUnread event
     → Mutes (over_named p (move_of event) w)

@@ -248,14 +248,12 @@ module _ (l : Limits) (heard : ℕ → List ℕ) (raw : List ℕ → List ℕ) (
 
   apart_then : (e : Event) (name : List ℕ) → link_named e ≡ Some name → Leaves w name (step w e)
   unfolding step
-  apart_then (Raw n) name e = absurd (let no : ⊥ = cc in no)
   apart_then (Say n words) name e =
       subst (λ x. Leaves w x (step w (Say n words))) (let i : n ≡ name = cc in i)
       (a_said n (request_spelling words))
   apart_then (Bytes n bytes) name e =
       subst (λ x. Leaves w x (step w (Bytes n bytes))) (let i : n ≡ name = cc in i)
       (a_said n bytes)
-  apart_then (Client n mode capacity) name e = absurd (let no : ⊥ = cc in no)
   apart_then (Out n count) name e =
       subst (λ x. Leaves w x (step w (Out n count))) (let i : n ≡ name = cc in i)
       (a_by n (λ c. out_step c n count w) (a_raw_out n (place_of n w.links) count)
@@ -274,9 +272,6 @@ module _ (l : Limits) (heard : ℕ → List ℕ) (raw : List ℕ → List ℕ) (
       subst (λ x. Leaves w x (step w (Flow n))) (let i : n ≡ name = cc in i)
       (a_by n (λ c. flow_step c n w) (a_over n moves.Flow w)
       (λ at is. a_linked n client.flow (stays w) o_flow at is))
-  apart_then FlowAll name e = absurd (let no : ⊥ = cc in no)
-  apart_then (Now moment) name e = absurd (let no : ⊥ = cc in no)
-  apart_then Tick name e = absurd (let no : ⊥ = cc in no)
   apart_then (Cut n) name e =
       subst (λ x. Leaves w x (step w (Cut n))) (let i : n ≡ name = cc in i)
       (a_over n moves.Cut w)
@@ -292,6 +287,7 @@ module _ (l : Limits) (heard : ℕ → List ℕ) (raw : List ℕ → List ℕ) (
   apart_then (Show n) name e =
       subst (λ x. Leaves w x (step w (Show n))) (let i : data_link n ≡ name = cc in i)
       (a_named n show o_show)
+  apart_then x name e = absurd (let no : ⊥ = cc in no)
 
   nothing_at : {A : Type 0} (xs : List A) (i : ℕ) (d : A) → length xs ≤ i
       → slice_index_or xs i d ≡ d

@@ -10,8 +10,7 @@ use Rattle.shared_cache.specs.declared.log.LogEntry.{LogEntry}
 use Rattle.shared_cache.specs.declared.log.LogEntry.TheVariants as entry
 use Rattle.shared_cache.specs.declared.log.ClientCall.TheVariants as call
 use Rattle.shared_cache.specs.declared.log.ClientReply.{ClientReply}
-use Rattle.shared_cache.specs.declared.log.ClientReply.TheVariants.{Hit, Sent, NotYet, Answer}
-use Rattle.shared_cache.specs.declared.log.ClientReply.TheVariants.{Bytes, Quiet, Noted, Refused}
+use Rattle.shared_cache.specs.declared.log.ClientReply.TheVariants.{Hit}
 use Rattle.shared_cache.specs.declared.entry.CacheEntry.{CacheEntry}
 use Rattle.shared_cache.specs.Held.{Setup, Words, held, held_by, held_in_place, hold, left}
 use Rattle.shared_cache.specs.Held.{open_fetch}
@@ -36,13 +35,7 @@ module _ (s : Seat) (q : Words) (reply : ClientReply) where
   over : (reply : ClientReply)
       → ask_lines (with_log s (entry.Ask q ∷ log_of s)) q reply ≡ ask_lines s q reply
   over (Hit v n) = refl
-  over (Sent n) = refl
-  over NotYet = refl
-  over (Answer v) = refl
-  over (Bytes b) = refl
-  over Quiet = refl
-  over Noted = refl
-  over (Refused r) = refl
+  over reply = refl
 
   pub asked_before : (m : MemberState) → Turned s.member m
       → client_step (setup_of s) (log_of s) (call.Ask q)
@@ -58,13 +51,7 @@ module _ (s : Seat) where
   same_sent : (p : List LogEntry) (reply : ClientReply)
       → send_lines (with_log s p) reply ≡ send_lines s reply
   same_sent p (Hit v n) = refl
-  same_sent p (Sent n) = refl
-  same_sent p NotYet = refl
-  same_sent p (Answer v) = refl
-  same_sent p (Bytes b) = refl
-  same_sent p Quiet = refl
-  same_sent p Noted = refl
-  same_sent p (Refused r) = refl
+  same_sent p reply = refl
 
   pub sent_before : (reply : ClientReply) (m : MemberState) → Turned s.member m
       → send_lines (seat s.links m) reply ≡ send_lines s reply
@@ -74,13 +61,7 @@ module _ (s : Seat) where
   same_polled : (n : ℕ) (p : List LogEntry) (reply : ClientReply)
       → poll_lines (with_log s p) n reply ≡ poll_lines s n reply
   same_polled n p (Hit v k) = refl
-  same_polled n p (Sent k) = refl
-  same_polled n p NotYet = refl
-  same_polled n p (Answer v) = refl
-  same_polled n p (Bytes b) = refl
-  same_polled n p Quiet = refl
-  same_polled n p Noted = refl
-  same_polled n p (Refused r) = refl
+  same_polled n p reply = refl
 
   pub polled_before : (n : ℕ) (reply : ClientReply) (m : MemberState) → Turned s.member m
       → poll_lines (seat s.links m) n reply ≡ poll_lines s n reply
@@ -90,13 +71,7 @@ module _ (s : Seat) where
   same_got : (p : List LogEntry) (reply : ClientReply)
       → got_lines (with_log s p) reply ≡ got_lines s reply
   same_got p (Hit v n) = refl
-  same_got p (Sent n) = refl
-  same_got p NotYet = refl
-  same_got p (Answer v) = refl
-  same_got p (Bytes b) = refl
-  same_got p Quiet = refl
-  same_got p Noted = refl
-  same_got p (Refused r) = refl
+  same_got p reply = refl
 
   pub got_before : (reply : ClientReply) (m : MemberState) → Turned s.member m
       → got_lines (seat s.links m) reply ≡ got_lines s reply

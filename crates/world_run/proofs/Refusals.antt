@@ -171,12 +171,9 @@ never_down w f e r = none f e r
 
 pub never_full : (n : ℕ) → Never (refusal.LogFull n)
 unfolding Never
-never_full n fault.NoName e r = absurd (let no : ⊥ = cc in no)
-never_full n fault.NameTaken e r = absurd (let no : ⊥ = cc in no)
-never_full n fault.NothingThere e r = absurd (let no : ⊥ = cc in no)
 never_full n fault.NoMemory e r = r
-never_full n (fault.Refused k) e r = absurd (let no : ⊥ = cc in no)
 never_full n (fault.HistoryFull k) e r = r
+never_full n x e r = absurd (let no : ⊥ = cc in no)
 
 NeverBy : Option ClientRefusal → Type 0
 NeverBy None = Unit {0}
@@ -198,11 +195,8 @@ never_judged : (m : ClientMode) (w : Wire) (replied sent : ℕ) (v : Value) (n :
 unfolding NeverBy Never
 never_judged m w replied sent v notice.Reply =
     never_reply (nat_le sent replied) (is_welcome m w (replied + 1) v) w
-never_judged m w replied sent v notice.Keys = tt
-never_judged m w replied sent v notice.All = tt
-never_judged m w replied sent v notice.Broken = tt
-never_judged m w replied sent v notice.Other = tt
 never_judged m w replied sent v notice.Malformed = λ f e r. none f e r
+never_judged m w replied sent v n = tt
 
 unfoldable pub NeverTurn : ClientTurn → Type 0
 NeverTurn t = (f : WorldFault) → fault_of t.reply ≡ Some f → IsRefusal f → ⊥

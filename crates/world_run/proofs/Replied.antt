@@ -26,10 +26,9 @@ use Rattle.server_links.specs.Notes.{sent_entries, words_at, words_if}
 first_some : (n : ℕ) (ss : List (ℕ × Sending)) (e all : ℕ)
     → slice_get (map (λ (s : ℕ × Sending). s.0) ss) n ≡ Some e
     → before_first (drop n ss) all ≡ e - 1
-first_some zero [] e all h = absurd (let no : ⊥ = cc in no)
 first_some zero (s ∷ ss) e all h = let same : s.0 ≡ e = cc in ap (λ n. n - 1) same
-first_some (suc n) [] e all h = absurd (let no : ⊥ = cc in no)
 first_some (suc n) (s ∷ ss) e all h = first_some n ss e all h
+first_some x [] e all h = absurd (let no : ⊥ = cc in no)
 
 first_none : (n : ℕ) (ss : List (ℕ × Sending)) (all : ℕ)
     → slice_get (map (λ (s : ℕ × Sending). s.0) ss) n ≡ None
@@ -43,11 +42,6 @@ module _ (l : Limits) (x : Client) (past : List Entry) (log : List LogEntry)
     (single : x.setup.mode.shape ≡ Single) where
   on_main : complete l x past log ≡ complete_on l x Main past log
   on_main = ap (λ s. complete_by s (λ w. complete_on l x w past log)) single
-
-  pub complete_ended : is_ended x.setup.mode Main log ≡ true → length past ≡ complete l x past log
-  complete_ended e =
-      sym (on_main ∙ ap (λ b. cond b (length past)
-      (before_first (drop (length (gots Main log)) (sent l (x.id Main) past)) (length past))) e)
 
   going : is_ended x.setup.mode Main log ≡ false
       → complete l x past log
@@ -96,7 +90,6 @@ module _ (key : List ℕ) where
       → slice_get ws k ≡ Some w → slice_get es k ≡ Some e
       → last_named key (take (suc k) ws) es
       ≡ max (last_named key (take k ws) es) (cond (names_key w key) e 0)
-  at_some zero [] es w e a b = absurd (let no : ⊥ = cc in no)
   at_some zero (v ∷ ws) [] w e a b = absurd (let no : ⊥ = cc in no)
   at_some zero (v ∷ ws) (r ∷ es) w e a b =
       let same : v ≡ w = cc in
@@ -104,12 +97,12 @@ module _ (key : List ℕ) where
       swapped (cond (names_key v key) r 0)
       ∙ ap (λ u. max 0 (cond (names_key u key) r 0)) same
       ∙ ap (λ u. max 0 (cond (names_key w key) u 0)) there
-  at_some (suc k) [] es w e a b = absurd (let no : ⊥ = cc in no)
   at_some (suc k) (v ∷ ws) [] w e a b = absurd (let no : ⊥ = cc in no)
   at_some (suc k) (v ∷ ws) (r ∷ es) w e a b =
       let x = cond (names_key v key) r 0 in
       ap (max x) (at_some k ws es w e a b)
       ∙ together x (last_named key (take k ws) es) (cond (names_key w key) e 0)
+  at_some x [] es w e a b = absurd (let no : ⊥ = cc in no)
 
   picked : (b : Bool) (r e : ℕ) → r ≤ e → cond b r 0 ≤ e
   picked true r e le = le

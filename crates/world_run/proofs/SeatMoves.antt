@@ -7,7 +7,7 @@ use Rattle.std.specs.Str.{bytes_eq}
 use Rattle.std.proofs.lemmas.List.{get_or-set_same, get_or-set_other, set-get_or}
 use Rattle.serial_model.specs.declared.history.Limits.{Limits}
 use Rattle.script_text.specs.declared.line.Line.{Line}
-use Rattle.server_links.specs.LinkEvent.{LinkEvent, Raw, Put, Over, Now, Tick}
+use Rattle.server_links.specs.LinkEvent.{LinkEvent, Put}
 use Rattle.server_links.specs.LinksState.{LinksState}
 use Rattle.server_links.specs.LinkSteps.{step}
 use Rattle.server_links.specs.OneHistory.{read_on, said_by}
@@ -33,11 +33,8 @@ use Rattle.world_run.proofs.Worlds.{linked}
 said_other : (event : LinkEvent) (n : List ℕ) → bytes_eq (name_of_event event) n ≡ false
     → said_by n event ≡ []
 unfolding name_of_event
-said_other (Raw name) n e = refl
 said_other (Put name bytes) n e = ap (λ b. cond b bytes []) e
-said_other (Over name move) n e = refl
-said_other (Now moment) n e = refl
-said_other Tick n e = refl
+said_other event n e = refl
 
 module _ (l : Limits) (heard : ℕ → List ℕ) (raw : List ℕ → List ℕ) (at : ℕ) (pend : List ℕ)
     (R Q : Working) (lines : List Line) (w : WorldState)

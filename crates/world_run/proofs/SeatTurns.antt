@@ -87,9 +87,8 @@ pub plain_lines : (s : Seat) (c : ClientCall) (r : ClientReply) → Plain (lines
 plain_lines s (call.Ask q) r = plain_ask s q r
 plain_lines s (call.Send ws) r = plain_send s r
 plain_lines s (call.Poll n) r = plain_poll s n r
-plain_lines s (call.TakeOut w most) r = plain_none
 plain_lines s (call.Got w v) r = plain_got s r
-plain_lines s (call.End w) r = plain_none
+plain_lines s c r = plain_none
 
 -- ---- what is done, and then perhaps a fault
 

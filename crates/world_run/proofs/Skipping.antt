@@ -1,5 +1,5 @@
 -- What is kept of the links that are over, and what is told of them.
-use Rattle.std.proofs.Common.{◌≡◌, ◌<◌, ◌≤◌, ℕ, zero, suc, List, [], ◌∷◌, ◌++◌, true, false}
+use Rattle.std.proofs.Common.{◌≡◌, ◌<◌, ◌≤◌, ℕ, List, [], true, false}
 use Rattle.std.proofs.Common.{Result, Ok, Err}
 use Rattle.std.proofs.Common.{slice_index_or, refl, ap, arith, eq-eqb, inl, inr, max}
 use Rattle.std.specs.Prelude.{◌==◌, OnOk, OnErr}
@@ -39,11 +39,3 @@ run_on next over at to w are is run k order below = elim (cases_lt k at) [
   | inl lt ↦ run k order lt
   | inr ge ↦ are at k ge (omega (arith, below, is, ge))
 ]
-
--- nothing is known of one more place
-pub padded : (next : List ℕ) (k : ℕ)
-    → slice_index_or (next ++ 0 ∷ []) k 0 ≡ slice_index_or next k 0
-padded [] zero = refl
-padded [] (suc k) = refl
-padded (n ∷ next) zero = refl
-padded (n ∷ next) (suc k) = padded next k

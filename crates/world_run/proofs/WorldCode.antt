@@ -13,12 +13,12 @@ use Rattle.shared_cache.specs.declared.log.ClientMode.{ClientMode}
 use Rattle.shared_cache.specs.declared.log.Shape.{Shape}
 use Rattle.shared_cache.specs.declared.log.Shape.TheVariants.{Single, Pair}
 use Rattle.shared_cache.specs.declared.log.Caching.{Caching}
-use Rattle.shared_cache.specs.declared.log.Caching.TheVariants.{Default, OptIn, OptOut, Bcast}
+use Rattle.shared_cache.specs.declared.log.Caching.TheVariants.{Default}
 use Rattle.script_text.specs.declared.event.Event.{Event}
 use Rattle.script_text.specs.declared.line.Line.{Line}
 use Rattle.server_links.specs.declared.fault.WorldFault.{WorldFault}
 use Rattle.server_links.specs.declared.fault.WorldFault.TheVariants.{NoName, NameTaken, NoMemory}
-use Rattle.server_links.specs.declared.fault.WorldFault.TheVariants.{NothingThere, Refused}
+use Rattle.server_links.specs.declared.fault.WorldFault.TheVariants.{Refused}
 use Rattle.server_links.specs.LinkEvent as link_event
 use Rattle.server_links.specs.LinkEvent.{LinkEvent}
 use Rattle.server_links.specs.declared.link.LinkMove.{LinkMove}
@@ -88,11 +88,6 @@ no_name w m lines e = subst (λ (x : Stepped). Stops x lines NoName w lines) (sy
 pub name_taken : (w : WorldState) (m : Stepped) (lines : List Line) → m ≡ refuses w NameTaken
     → Stops m lines NameTaken w lines
 name_taken w m lines e = subst (λ (x : Stepped). Stops x lines NameTaken w lines) (sym e)
-    (refl, refl, sym (append-nil lines))
-
-pub nothing_there : (w : WorldState) (m : Stepped) (lines : List Line)
-    → m ≡ refuses w NothingThere → Stops m lines NothingThere w lines
-nothing_there w m lines e = subst (λ (x : Stepped). Stops x lines NothingThere w lines) (sym e)
     (refl, refl, sym (append-nil lines))
 
 pub is_refused : (n : ℕ) (w : WorldState) (m : Stepped) (lines : List Line)
@@ -246,11 +241,9 @@ mode_of : (s : Shape) (p : Proto) (k : Caching) (n : Bool)
     → record { shape = s; proto = p; caching = k; noloop = n } ≡ one_mode
 mode_of Single Three Default false e = refl
 mode_of Single Three Default true e = absurd (let no : ⊥ = cc in no)
-mode_of Single Three OptIn n e = absurd (let no : ⊥ = cc in no)
-mode_of Single Three OptOut n e = absurd (let no : ⊥ = cc in no)
-mode_of Single Three (Bcast ps) n e = absurd (let no : ⊥ = cc in no)
 mode_of Single Two k n e = absurd (let no : ⊥ = cc in no)
 mode_of Pair p k n e = absurd (let no : ⊥ = cc in no)
+mode_of Single Three k n e = absurd (let no : ⊥ = cc in no)
 
 -- one mode alone is served
 pub served_mode : (mode : ClientMode) → is_served mode ≡ true → mode ≡ one_mode

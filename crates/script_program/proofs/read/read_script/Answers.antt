@@ -23,9 +23,7 @@ returns-in-None-push_line-clause-reads g c =
     c.as_slice-in-Last.ensures.value bytes.0 bytes.1 bytes.2 bytes.3 pushed.1 pushed.2
 
 pub returns-in-None-push_line-clause-valid : goal.returns-in-None-push_line-clause-valid
-returns-in-None-push_line-clause-valid g c =
-    let pushed = c.in-None-push_line.ensures in
-    pushed_valid _ _ pushed.0 _ _ pushed.1 pushed.2 c.loop-number.invariant.valid
+returns-in-None-push_line-clause-valid g c = grind (arith, pushed_valid)
 
 pub returns-in-End-clause-reads : goal.returns-in-End-clause-reads
 returns-in-End-clause-reads g c =

@@ -8,12 +8,7 @@ use Rattle.script_run.proofs.Threads.{no_thread, thread_joined}
 use Rattle.script_run.proofs.callers.+fn-play_threads-join+arg2+play_threads.Goals as goal
 
 pub returns-then-threads-eq0-clause-plays : goal.returns-then-threads-eq0-clause-plays
-returns-then-threads-eq0-clause-plays g t c =
-    subst (λ n. PlaysThreads c.args.board.now.lines.items n c.args.task.answers.items
-    c.args.task.seat c.args.task.seat)
-    (sym c.if-threads-eq0.true)
-    (no_thread c.args.board.now.lines.items c.args.task.answers.items c.args.task.seat
-    c.requires.within c.requires.none)
+returns-then-threads-eq0-clause-plays g t c = grind (arith, no_thread)
 
 pub join-others-requires-send-F : goal.join-others-requires-send-F
 join-others-requires-send-F g t c κs within =

@@ -1,40 +1,16 @@
-use Rattle.std.proofs.Common.{rules, ◌≡◌, ◌+◌, ◌<◌, ◌∷◌, ◌∙◌, refl, sym, subst, arith}
+use Rattle.std.proofs.Common.{rules, ◌≡◌, ◌+◌, ◌∷◌, ◌∙◌, sym, subst, arith}
 use Rattle.std.specs.Prelude.{false}
 use Rattle.std.specs.List.{All}
-use Rattle.std.proofs.lemmas.List.Elements.{All-nil, All-head, All-tail}
-use Rattle.std.specs.Vec.{vec_len}
+use Rattle.std.proofs.lemmas.List.Elements.{All-head, All-tail}
 use Rattle.std.specs.Vec.Iter.{into_iter_items, into_iter_len}
-use Rattle.turn_lock.specs.declared.rule.TheConstants.{LAST_TICKET}
 use Rattle.turn_lock.specs.Seats.{StopsAt, TurnedAll, known}
 use Rattle.turn_lock.proofs.Stops.{stops_more, none_more}
-use Rattle.turn_lock.proofs.Turns.{Turning, turning_starts, turning_more, turning_waits}
+use Rattle.turn_lock.proofs.Turns.{turning_more}
 use Rattle.turn_lock.proofs.Turns.{turning_fits, turning_ends}
 use Rattle.turn_lock.proofs.batch.take_turns.Goals as goal
 
 pub turns-init : goal.turns-init
-turns-init g c =
-    let len : into_iter_len c.into_iter-rest.result ≡ vec_len c.args.calls
-    = c.into_iter-rest.ensures.len in (
-      refl,
-      refl,
-      search rules,
-      subst (λ z. Turning g.S.Logged.setup g.S.Logged.stands g.S.Logged.step g.S.Logged.fits
-          c.args.calls.items c.args.place.now.table_id c.args.place.now.me.0 c.args.first
-          (into_iter_len c.into_iter-rest.result) (into_iter_items c.into_iter-rest.result) z
-          c.args.place.now.me)
-          (sym c.requires.room.0)
-          (turning_starts g.S.Logged.setup g.S.Logged.stands g.S.Logged.step g.S.Logged.fits
-          c.args.calls.items c.args.place.now.table_id c.args.first
-          (vec_len c.args.calls) _ _ c.args.place.now.me len c.into_iter-rest.ensures.rest
-          c.requires.ready c.requires.small c.requires.none_out c.requires.sound
-          c.requires.fits (search rules)),
-      subst (All g.S.Refusing.refusable) (sym c.into_iter-rest.ensures.rest)
-          c.requires.refusable,
-      subst (StopsAt g.S.Refusing.refuses) (sym c.requires.room.0) tt,
-      (λ h. subst (All (λ r. g.S.Refusing.refuses r ≡ false)) (sym c.requires.room.0)
-          (All-nil (λ r. g.S.Refusing.refuses r ≡ false))),
-      (λ h. absurd cc),
-    )
+turns-init g c = grind arith
 
 pub turns-preserved : goal.turns-preserved
 turns-preserved g c =
@@ -72,12 +48,7 @@ take_or_pass-reply-requires-clause-refusable g c =
     (subst (All g.S.Refusing.refusable) items c.turns.invariant.4)
 
 pub wait_turn-requires-clause-waits : goal.wait_turn-requires-clause-waits
-wait_turn-requires-clause-waits g c =
-    let items : into_iter_items c.turns.rest ≡ c.in-Some.call ∷ into_iter_items c.next.new.self
-    = search rules in
-    let len : into_iter_len c.turns.rest ≡ into_iter_len c.next.new.self + 1 = search rules in
-    (turning_waits g.S.Logged.setup g.S.Logged.stands g.S.Logged.step g.S.Logged.fits
-    _ _ _ _ _ _ _ _ _ _ _ items len c.turns.invariant.3).0
+wait_turn-requires-clause-waits g c = grind arith
 
 pub take_or_pass-reply-requires-clause-fits : goal.take_or_pass-reply-requires-clause-fits
 take_or_pass-reply-requires-clause-fits g c =
@@ -87,26 +58,13 @@ take_or_pass-reply-requires-clause-fits g c =
     _ _ _ _ _ _ _ _ _ _ _ items c.turns.invariant.3 c.wait_turn.ensures.out
 
 pub take_or_pass-reply-requires-clause-small : goal.take_or_pass-reply-requires-clause-small
-take_or_pass-reply-requires-clause-small g c =
-    let items : into_iter_items c.turns.rest ≡ c.in-Some.call ∷ into_iter_items c.next.new.self
-    = search rules in
-    let len : into_iter_len c.turns.rest ≡ into_iter_len c.next.new.self + 1 = search rules in
-    (turning_waits g.S.Logged.setup g.S.Logged.stands g.S.Logged.step g.S.Logged.fits
-    _ _ _ _ _ _ _ _ _ _ _ items len c.turns.invariant.3).1
+take_or_pass-reply-requires-clause-small g c = grind arith
 
 pub push_reserved-requires : goal.push_reserved-requires
-push_reserved-requires g c =
-    let len : into_iter_len c.turns.rest ≡ into_iter_len c.next.new.self + 1 = search rules in
-    let room = c.turns.invariant.2 in omega arith
+push_reserved-requires g c = grind arith
 
 pub overflow_add-at : goal.overflow_add-at
-overflow_add-at g c =
-    let items : into_iter_items c.turns.rest ≡ c.in-Some.call ∷ into_iter_items c.next.new.self
-    = search rules in
-    let len : into_iter_len c.turns.rest ≡ into_iter_len c.next.new.self + 1 = search rules in
-    let small : c.turns.at < LAST_TICKET
-    = (turning_waits g.S.Logged.setup g.S.Logged.stands g.S.Logged.step g.S.Logged.fits
-    _ _ _ _ _ _ _ _ _ _ _ items len c.turns.invariant.3).1 in search rules
+overflow_add-at g c = grind arith
 
 pub returns-clause-turns : goal.returns-clause-turns
 returns-clause-turns g c =
@@ -118,9 +76,4 @@ returns-clause-turns g c =
     _ _ _ _ _ _ _ _ none c.turns.invariant.3).0
 
 pub returns-clause-idle : goal.returns-clause-idle
-returns-clause-idle g c =
-    let none : into_iter_len c.turns.rest ≡ 0 = search rules in (
-      (turning_ends g.S.Logged.setup g.S.Logged.stands g.S.Logged.step g.S.Logged.fits
-          _ _ _ _ _ _ _ _ none c.turns.invariant.3).1,
-      c.turns.invariant.3.none_out,
-    )
+returns-clause-idle g c = grind arith

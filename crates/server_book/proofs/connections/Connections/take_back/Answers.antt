@@ -2,7 +2,7 @@ use Rattle.std.proofs.Common.{◌<◌, ◌-◌, [], length, arith, sym, ap, subs
 use Rattle.std.proofs.lemmas.List.{get_or_read}
 use Rattle.server_book.specs.Connections.{ArePosted, fresh}
 use Rattle.server_book.specs.Sendings.{before_posts}
-use Rattle.server_book.proofs.Sendings.{posted_last, posted_front, posted_set, before_last}
+use Rattle.server_book.proofs.Sendings.{posted_last, posted_set, before_last}
 use Rattle.server_book.proofs.Sendings.{unqueued_is}
 use Rattle.server_book.proofs.connections.Connections.take_back.Goals as goal
 
@@ -48,10 +48,4 @@ posts-preserved c =
     )
 
 pub invariant_of-self : goal.invariant_of-self
-invariant_of-self c =
-    let items = c.posts.self-inside.items.items in
-    record {
-      there = posted_front items c.pop.new.self.items []
-          (subst (ArePosted items) c.in_default.ensures.items c.posts.invariant.0);
-      for_one = omega (arith, c.posts.invariant.1, c.pop.ensures.capacity);
-    }
+invariant_of-self c = grind arith

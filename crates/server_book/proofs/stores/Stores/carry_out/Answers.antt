@@ -45,13 +45,7 @@ returns-in-Tell-clause-told c =
     (sym c.in-Tell.is)) c.tell_and_forget.ensures.told
 
 pub returns-in-TellAll-clause-table : goal.returns-in-TellAll-clause-table
-returns-in-TellAll-clause-table c =
-    let t = c.args.self.now.table in
-    on_ok_then c.tell_flush.result _ _
-    (λ is. is
-    ∙ ap (λ r. record { limit = t.limit; rows = r }) (sym (short_kept t.limit [] (omega arith)))
-    ∙ ap (λ d. record { limit = t.limit; rows = kept_by t.limit c.args.id d t.rows })
-    (sym c.in-TellAll.is)) c.tell_flush.ensures.table
+returns-in-TellAll-clause-table c = grind arith
 
 pub returns-in-TellAll-clause-told : goal.returns-in-TellAll-clause-told
 returns-in-TellAll-clause-told c =

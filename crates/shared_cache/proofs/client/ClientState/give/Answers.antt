@@ -1,8 +1,6 @@
-use Rattle.std.proofs.Common.{◌++◌, ◌∷◌, [], take, arith, ap, ◌∙◌}
+use Rattle.std.proofs.Common.{◌++◌, ◌∷◌, [], arith, ap, ◌∙◌}
 use Rattle.shared_cache.specs.declared.log.Wire.TheVariants.{Main}
 use Rattle.shared_cache.specs.declared.log.LogEntry.TheVariants as entry
-use Rattle.shared_cache.specs.Out.{untaken}
-use Rattle.shared_cache.specs.ClientFields.{Client}
 use Rattle.shared_cache.proofs.NewestFirst.{pushed, at_most_one}
 use Rattle.shared_cache.proofs.OtherTurns.{reflects_take}
 use Rattle.shared_cache.proofs.client.ClientState.give.Goals as goal
@@ -22,8 +20,4 @@ invariant_of-self-2 c =
     }
 
 pub returns-clause-bytes : goal.returns-clause-bytes
-returns-clause-bytes c =
-    c.in_ok-bytes.ensures
-    ∙ ap (take c.args.most)
-    (c.self.invariant.reflects.queued_is
-    ∙ ap (λ (st : Client). untaken st.setup Main st.past) c.self.view_is)
+returns-clause-bytes c = grind arith

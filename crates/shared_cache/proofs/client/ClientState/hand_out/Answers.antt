@@ -8,9 +8,7 @@ use Rattle.shared_cache.proofs.StepCases.{poll_unwanted, low}
 use Rattle.shared_cache.proofs.client.ClientState.hand_out.Goals as goal
 
 pub returns-then-number-le-HANDSHAKE-clause-step : goal.returns-then-number-le-HANDSHAKE-clause-step
-returns-then-number-le-HANDSHAKE-clause-step c =
-    poll_unwanted c.args.self.now.setup c.args.self.now.past c.args.number
-    (low c.args.self.now.setup c.args.self.now.past c.args.number c.if-number-le-HANDSHAKE.true)
+returns-then-number-le-HANDSHAKE-clause-step c = grind (arith, poll_unwanted, low)
 
 pub returns-then-number-len-clause-step : goal.returns-then-number-len-clause-step
 returns-then-number-len-clause-step c =

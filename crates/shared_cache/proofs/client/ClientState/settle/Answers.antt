@@ -15,12 +15,7 @@ use Rattle.shared_cache.proofs.Gots.{reflects_reply, waits}
 use Rattle.shared_cache.proofs.client.ClientState.settle.Goals as goal
 
 pub overflow_add-number : goal.overflow_add-number
-overflow_add-number c =
-    let k = c.self.invariant.reflects in
-    let within = k.replied_within in
-    let count = c.len.ensures.count in
-    let few = c.len.ensures.within in
-    omega (arith, within, count, few, k.pending_count)
+overflow_add-number c = grind arith
 
 pub put_reply-requires : goal.put_reply-requires
 put_reply-requires c =
