@@ -9,7 +9,7 @@ use Rattle.std.proofs.vec.Vec.TheSendSync as vec
 use Rattle.std.proofs.sync.Mutex.TheSendSync as mutex
 use Rattle.std.proofs.sync.ledger.Share.TheSendSync as share
 use Rattle.conn_worker.proofs.report.Report.TheSendSync as report
-use Rattle.conn_pool.proofs.desk.Desk.TheSendSync as desk
+use Rattle.conn_pool.proofs.dispatcher.Dispatcher.TheSendSync as dispatcher
 use Rattle.std.proofs.alloc.Global.TheSendSync as heap
 use Rattle.command_set.proofs.waiting.Waiting.TheLaws.TheKnot.{crosses}
 use Rattle.keyspace.proofs.space.Keyspace.TheSendSync as space
@@ -28,8 +28,8 @@ use Rattle.turn_lock.proofs.lock.TurnLock.TheSendSync as lock
 use Rattle.conn_pool.specs.contracts.crew.Crew as crew
 use Rattle.conn_pool.specs.contracts.crew.Crew.TheInside as crew_parts
 use Rattle.std.specs.contracts.sync.Mutex as mutex_row
-use Rattle.conn_pool.specs.contracts.desk.Desk as desk_row
-use Rattle.conn_pool.specs.declared.desk.Opening as opening
+use Rattle.conn_pool.specs.contracts.dispatcher.Dispatcher as dispatcher_row
+use Rattle.conn_pool.specs.declared.dispatcher.Opening as opening
 use Rattle.edge_links.specs.declared.links.Acceptor as acceptor
 use Rattle.edge_links.specs.declared.links.Link as link
 use Rattle.turn_lock.specs.contracts.lock.TurnLock as lock_row
@@ -107,9 +107,9 @@ module _ (L E : RattleType) (g : Ghosts L.Denot) (h : Ghosts E.Denot) (l : IsSen
 
 module _ (L E A K : RattleType) (o : opening.Ghosts L.Denot) (a : acceptor.Ghosts A.Denot K.Denot)
     (k : link.Ghosts K.Denot) (g : Ghosts L.Denot) (h : Ghosts E.Denot) where
-  pub desk_sync : IsSend A
-      → IsSync (mutex_row.the_row (desk_row.the_row L E A K o a k g h))
-  desk_sync s = search (sendable, desk.the_send, mutex.the_sync) depth 20
+  pub dispatcher_sync : IsSend A
+      → IsSync (mutex_row.the_row (dispatcher_row.the_row L E A K o a k g h))
+  dispatcher_sync s = search (sendable, dispatcher.the_send, mutex.the_sync) depth 20
 
 pub lock_sync : IsSync (lock_row.the_row shared.the_row limits.the_row entry.the_row call.the_row
     reply.the_row logged.ghosts)
@@ -119,7 +119,7 @@ pub ruleset crossing = (
   sendable,
   heap.the_send,
   heap.the_sync,
-  desk_sync,
+  dispatcher_sync,
   crew_send,
   lock_sync,
 )

@@ -4,8 +4,8 @@ use Rattle.atomic_table.specs.Seated.{TableId}
 use Rattle.shared_book.specs.Turns.{Place}
 use Rattle.conn_worker.specs.declared.report.Report.{Report}
 
--- its seat, the links that it took, how often it left the desk, its parts of the two ledgers, and
--- its reports, where none was lost
+-- its seat, the links that it took, how often it left the dispatcher, its parts of the two ledgers,
+-- and its reports, where none was lost
 pub record Team : Type 0 where
   pub seat : Place
   pub links : ℕ

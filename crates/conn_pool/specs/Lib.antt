@@ -1,4 +1,4 @@
-pub mod Desk
+pub mod Dispatcher
 pub mod Moves
 pub mod Ties
 pub mod Shown

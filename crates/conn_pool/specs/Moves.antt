@@ -1,11 +1,12 @@
--- What a turn at the desk adds to a worker's shares.
+-- What a turn at the dispatcher adds to a worker's shares.
 use Rattle.std.specs.Prelude.{◌≡◌, ◌<◌, ℕ}
 use Rattle.edge_links.specs.declared.counts.Counts.{Counts}
 use Rattle.edge_links.specs.Counts.{Counted}
-use Rattle.conn_pool.specs.declared.desk.Next.{Next}
-use Rattle.conn_pool.specs.declared.desk.Next.TheVariants.{Link, Wait, Over}
-use Rattle.conn_pool.specs.declared.desk.Stage.{Stage}
-use Rattle.conn_pool.specs.declared.desk.Stage.TheVariants.{Open, Failed, Closed, Full, NoMemory}
+use Rattle.conn_pool.specs.declared.dispatcher.Next.{Next}
+use Rattle.conn_pool.specs.declared.dispatcher.Next.TheVariants.{Link, Wait, Over}
+use Rattle.conn_pool.specs.declared.dispatcher.Stage.{Stage}
+use Rattle.conn_pool.specs.declared.dispatcher.Stage.TheVariants.{Open, Failed, Closed, Full}
+use Rattle.conn_pool.specs.declared.dispatcher.Stage.TheVariants.{NoMemory}
 
 abbrev pub links_in : {K : Type 0} → Next K → ℕ
 links_in (Link k) = 1

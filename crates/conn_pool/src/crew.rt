@@ -6,7 +6,7 @@ ghost use Rattle.conn_pool.specs.Ties.{Tied};
 ghost use Rattle.conn_pool.specs.Crew.{Ready, Same};
 ghost use Rattle.conn_pool.specs.Shown.{AreShown};
 
-use super::desk::{Desk, Next, Opening};
+use super::dispatcher::{Dispatcher, Next, Opening};
 use conn_worker::{Gate, Report, serve_link};
 use edge_links::{Acceptor, Clock};
 use shared_book::SharedBook;
@@ -53,12 +53,12 @@ impl<L: Ledger, E: Ledger> Model for Crew<L, E> {
 }
 
 impl<L: Opening, E: Ledger> Crew<L, E> {
-    /// Takes links from the desk, and serves each, until there are none any more.
+    /// Takes links from the dispatcher, and serves each, until there are none any more.
     fn work<A: Acceptor, C: Clock, G: Gate, R: Wait>(
         self,
         rt: &R,
         alloc: Global,
-        desk: &Mutex<Desk<L, E, A>>,
+        dispatcher: &Mutex<Dispatcher<L, E, A>>,
         lock: &TurnLock<SharedBook>,
         clock: &C,
         gate: &G,
@@ -76,7 +76,7 @@ impl<L: Opening, E: Ledger> Crew<L, E> {
         } = self;
         for _ in rt.forever() {
             if reports.reserve(1).is_err() {
-                desk.lock(rt).stop(&mut gone);
+                dispatcher.lock(rt).stop(&mut gone);
                 return Crew {
                     seat,
                     links,
@@ -85,8 +85,8 @@ impl<L: Opening, E: Ledger> Crew<L, E> {
                     lost: true,
                 };
             }
-            // The desk is let go before the link is served.
-            let next = desk.lock(rt).next(&mut links, &mut gone);
+            // The dispatcher is let go before the link is served.
+            let next = dispatcher.lock(rt).next(&mut links, &mut gone);
             match next {
                 Next::Link(mut link) => {
                     let report = serve_link(rt, alloc, lock, &mut seat, &mut link, clock, gate);
@@ -216,7 +216,7 @@ pub fn fan_out<
 >(
     rt: &R,
     alloc: Global,
-    desk: &Mutex<Desk<L, E, A>>,
+    dispatcher: &Mutex<Dispatcher<L, E, A>>,
     lock: &TurnLock<SharedBook>,
     clock: &C,
     gate: &G,
@@ -228,7 +228,7 @@ pub fn fan_out<
     ensures gone { result.gone ≡ crew.gone + workers }
 {
     if workers == 1 {
-        return crew.work(rt, alloc, desk, lock, clock, gate);
+        return crew.work(rt, alloc, dispatcher, lock, clock, gate);
     }
     let theirs = workers / 2;
     let ours = workers - theirs;
@@ -238,11 +238,11 @@ pub fn fan_out<
         || -> Crew<L, E>
             requires { IsSync R.row × IsSync C.row × IsSync G.row × Ready lock.now ours crew }
             ensures { Same crew result × (result.gone ≡ crew.gone + ours) }
-        { fan_out(rt, alloc, desk, lock, clock, gate, crew, ours) },
+        { fan_out(rt, alloc, dispatcher, lock, clock, gate, crew, ours) },
         || -> Crew<L, E>
             requires { IsSync R.row × IsSync C.row × IsSync G.row × Ready lock.now theirs other }
             ensures { Same other result × (result.gone ≡ other.gone + theirs) }
-        { fan_out(rt, alloc, desk, lock, clock, gate, other, theirs) },
+        { fan_out(rt, alloc, dispatcher, lock, clock, gate, other, theirs) },
     );
     mine.join(lock, others);
     mine

@@ -2,7 +2,7 @@
 #![tactic(auto)]
 
 mod crew;
-mod desk;
+mod dispatcher;
 mod serve;
 
 pub use serve::{Served, serve_all};

@@ -3,11 +3,11 @@ ghost use Rattle.std.specs.Prelude.{◌≡◌, ◌<◌, ◌≤◌, ◌⊎◌, tr
 ghost use Rattle.std.specs.List.Sorted.{IsPermutation};
 ghost use Rattle.edge_links.specs.Counts.{Counted};
 ghost use Rattle.serial_model.specs.Steps.{AreValid};
-ghost use Rattle.conn_pool.specs.Desk.{after_giving, still};
+ghost use Rattle.conn_pool.specs.Dispatcher.{after_giving, still};
 ghost use Rattle.conn_pool.specs.Outcome.{AreInOrder, Stands};
 
 use super::crew::{Crew, fan_out};
-use super::desk::{Desk, Opening, Stage};
+use super::dispatcher::{Dispatcher, Opening, Stage};
 use conn_worker::{Gate, Report};
 use edge_links::{Acceptor, Clock};
 use resp_value::NoMemory;
@@ -82,10 +82,10 @@ fn serve_named<
     let (left, leaving) = gone.open::<E>();
     let (lock, seat) = open(alloc, limits)?;
     let crew = Crew::new(alloc, seat, share, leaving);
-    let desk = Mutex::new(Desk::new(acceptor, connections, book, left));
-    let crew = fan_out(rt, alloc, &desk, &lock, clock, gate, crew, workers);
+    let dispatcher = Mutex::new(Dispatcher::new(acceptor, connections, book, left));
+    let crew = fan_out(rt, alloc, &dispatcher, &lock, clock, gate, crew, workers);
     let (seat, mut share, mut leaving, reports) = crew.apart();
-    let (acceptor, stage) = desk.into_inner().end(&mut share, &mut leaving);
+    let (acceptor, stage) = dispatcher.into_inner().end(&mut share, &mut leaving);
     let Ok(book) = lock.close(seat) else {
         unreachable!()
     };

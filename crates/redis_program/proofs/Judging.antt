@@ -17,7 +17,7 @@ use Rattle.server_links.specs.declared.fault.WorldFault.TheVariants as fault
 use Rattle.server_links.specs.Faults.{IsRefusal}
 use Rattle.world_run.specs.WorldState.{WorldState, start}
 use Rattle.world_run.specs.World.{step}
-use Rattle.world_run.specs.Transcript.{transcript}
+use Rattle.world_run.specs.WorldTranscript.{transcript}
 use Rattle.world_run.proofs.History.{faults_none, have_links, step_lines}
 use Rattle.redis_program.proofs.Valid.{lines_valid}
 use Rattle.redis_program.specs.declared.status.Ending.{Ending}

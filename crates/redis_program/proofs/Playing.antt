@@ -11,8 +11,8 @@ use Rattle.script_text.specs.declared.line.Line.{Line}
 use Rattle.script_text.specs.Printed.{text_of}
 use Rattle.world_run.specs.WorldState.{WorldState, start}
 use Rattle.world_run.specs.World.{step}
-use Rattle.world_run.specs.Transcript.{transcript, after}
-use Rattle.world_run.specs.OneHistory.{HasOneHistory}
+use Rattle.world_run.specs.WorldTranscript.{transcript, after}
+use Rattle.world_run.specs.WorldHistory.{HasOneHistory}
 use Rattle.world_run.proofs.History.{faults_none, have_links}
 use Rattle.redis_program.specs.declared.status.Ending.{Ending}
 use Rattle.redis_program.specs.declared.status.Ending.TheVariants.{Done, BadLine}

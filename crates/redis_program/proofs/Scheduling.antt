@@ -14,7 +14,7 @@ use Rattle.server_links.specs.declared.fault.WorldFault.{WorldFault}
 use Rattle.server_links.specs.Transcript.{unless_fault}
 use Rattle.world_run.specs.WorldState.{WorldState}
 use Rattle.world_run.specs.World.{step}
-use Rattle.world_run.specs.Transcript.{transcript, after}
+use Rattle.world_run.specs.WorldTranscript.{transcript, after}
 use Rattle.redis_program.specs.Headline.{AreLinesOf, at_fault, event_at, events_of, first_fault}
 use Rattle.redis_program.specs.Headline.{most_lines}
 

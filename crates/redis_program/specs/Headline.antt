@@ -21,8 +21,8 @@ use Rattle.server_links.specs.Faults.{IsRefusal, number_of}
 use Rattle.server_links.specs.Outcome.{Reached}
 use Rattle.world_run.specs.WorldState.{WorldState, start}
 use Rattle.world_run.specs.World.{step}
-use Rattle.world_run.specs.Transcript.{after, transcript}
-use Rattle.world_run.specs.OneHistory.{AllHitsStand, FlowDelivers, Follows, OneHistory}
+use Rattle.world_run.specs.WorldTranscript.{after, transcript}
+use Rattle.world_run.specs.WorldHistory.{AllHitsStand, FlowDelivers, Follows, OneHistory}
 use Rattle.redis_program.specs.declared.status.Status.{Status}
 use Rattle.redis_program.specs.declared.status.Status.TheVariants as status
 use Rattle.redis_program.specs.declared.status.Ending.{Ending}

@@ -7,7 +7,7 @@ use Rattle.edge_links.specs.Counts.{Counted, FaultCounted, nought}
 use Rattle.serial_model.specs.declared.history.Limits.{Limits}
 use Rattle.conn_worker.specs.declared.report.Report.{Report}
 use Rattle.conn_pool.specs.declared.serve.Served.{Served}
-use Rattle.conn_pool.specs.Desk.{after_giving, still}
+use Rattle.conn_pool.specs.Dispatcher.{after_giving, still}
 use Rattle.conn_pool.specs.Outcome.{Stands}
 use Rattle.serve_run.specs.Reports.{report_text}
 use Rattle.serve_run.specs.declared.run.ServeEnd.{ServeEnd}

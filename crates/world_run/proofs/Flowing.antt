@@ -18,7 +18,7 @@ use Rattle.world_run.specs.WorldState.{WorldState, client_of_link, member_at}
 use Rattle.world_run.specs.Members.{Seat, seat_at, with_seat}
 use Rattle.world_run.specs.ClientMoves as client
 use Rattle.world_run.specs.World.{client_does, flow_at, flow_first, flow_step, links_step}
-use Rattle.world_run.specs.Transcript.{flow_heard, flowing}
+use Rattle.world_run.specs.WorldTranscript.{flow_heard, flowing}
 use Rattle.world_run.proofs.Clients.{flow_stands, out_link, out_place, out_stands, place_is}
 use Rattle.world_run.proofs.LinkEvents.{Comes, comes_apart, comes_as, comes_client, comes_same}
 use Rattle.world_run.proofs.LinkEvents.{stands_again}

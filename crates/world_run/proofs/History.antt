@@ -12,9 +12,9 @@ use Rattle.script_text.specs.Valid.{IsValid}
 use Rattle.server_links.specs.Outcome.{Reached}
 use Rattle.server_links.specs.Transcript.{unless_fault}
 use Rattle.world_run.specs.WorldState.{WorldState, member_at, start}
-use Rattle.world_run.specs.OneHistory.{AllHitsStand, AllServiced, Follows, HasOneHistory}
-use Rattle.world_run.specs.OneHistory.{HaveLinks, RefusalsChangeNothing, said_by, said_to}
-use Rattle.world_run.specs.Transcript.{after, heard, heard_at, transcript}
+use Rattle.world_run.specs.WorldHistory.{AllHitsStand, AllServiced, Follows, HasOneHistory}
+use Rattle.world_run.specs.WorldHistory.{HaveLinks, RefusalsChangeNothing, said_by, said_to}
+use Rattle.world_run.specs.WorldTranscript.{after, heard, heard_at, transcript}
 use Rattle.world_run.specs.World.{step}
 use Rattle.server_links.proofs.Delivery.{flow_delivers}
 use Rattle.world_run.proofs.Clients.{place_is}

@@ -37,7 +37,7 @@ use Rattle.world_run.specs.WorldState.{member_at}
 use Rattle.world_run.specs.Members.{Seat, client_of, seat_at, with_seat}
 use Rattle.world_run.specs.ClientMoves as client
 use Rattle.world_run.specs.ClientMoves.{ask_lines, point_at, ran_at, refused_lines, show, turn}
-use Rattle.world_run.specs.OneHistory.{AllServiced, HitStands, HoldsCurrent}
+use Rattle.world_run.specs.WorldHistory.{AllServiced, HitStands, HoldsCurrent}
 use Rattle.world_run.specs.World.{client_does, client_step as make_client, flow_at, flow_first}
 use Rattle.world_run.specs.World.{flow_step, is_served, is_taken, join, links_step, named_does}
 use Rattle.world_run.specs.World.{not_served, out_step, raw_out, recv_step, said_step}

@@ -17,7 +17,7 @@ use Rattle.server_links.proofs.Outcomes.{Meets, meets_refuses, meets_stays, meet
 use Rattle.server_links.proofs.Outcomes.{meets_within}
 use Rattle.world_run.specs.WorldState.{WorldState, member_at}
 use Rattle.world_run.specs.Members.{Seat, seat_at, with_seat}
-use Rattle.world_run.specs.OneHistory.{taken_bytes}
+use Rattle.world_run.specs.WorldHistory.{taken_bytes}
 use Rattle.world_run.specs.World.{Stepped, client_does, links_step, on_links}
 use Rattle.world_run.proofs.Links.{IsUnread, Mute, Mutes, name_of_event, step_moved, step_mutes}
 use Rattle.world_run.proofs.Seats.{One, Seating, Steady, seated, unseated}

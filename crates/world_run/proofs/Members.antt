@@ -22,7 +22,7 @@ use Rattle.server_links.specs.LinksState.{LinksState, at_place}
 use Rattle.server_links.specs.OneHistory.{PartServes}
 use Rattle.world_run.specs.WorldState.{MemberState, data_link}
 use Rattle.world_run.specs.Members.{client_of}
-use Rattle.world_run.specs.OneHistory.{taken_bytes}
+use Rattle.world_run.specs.WorldHistory.{taken_bytes}
 use Rattle.link_laws.proofs.Crossing.{heard_was_commanded, read_was_sent}
 use Rattle.resp_laws.proofs.Longer.{values_grow}
 use Rattle.world_run.proofs.Causal.{GotsWithin, RunsWithin, causal_entries, got_count, runs_size}

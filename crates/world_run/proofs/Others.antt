@@ -35,7 +35,7 @@ use Rattle.world_run.specs.WorldState.{data_link, fresh_member, member_at, no_se
 use Rattle.world_run.specs.Members.{Seat, seat_at, with_seat}
 use Rattle.world_run.specs.ClientMoves as client
 use Rattle.world_run.specs.ClientMoves.{show, turn}
-use Rattle.world_run.specs.OneHistory.{OthersKept, link_named}
+use Rattle.world_run.specs.WorldHistory.{OthersKept, link_named}
 use Rattle.world_run.specs.World.{Stepped, client_does, client_step, flow_at, flow_first, flow_step}
 use Rattle.world_run.specs.World.{is_served, is_taken, join, links_step, named_does, not_served}
 use Rattle.world_run.specs.World.{out_step, raw_out, recv_step, said_step, setup_by, step}

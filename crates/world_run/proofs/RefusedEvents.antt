@@ -50,7 +50,7 @@ use Rattle.world_run.specs.WorldState.{data_link, fresh_member, member_at, no_se
 use Rattle.world_run.specs.Members.{Seat, link_of, seat_at, with_log, with_seat}
 use Rattle.world_run.specs.ClientMoves as client
 use Rattle.world_run.specs.ClientMoves.{fault_of, has_ended, lines_of, print, show, shown, turn}
-use Rattle.world_run.specs.OneHistory.{HaveLinks}
+use Rattle.world_run.specs.WorldHistory.{HaveLinks}
 use Rattle.world_run.specs.World.{Stepped, client_does, client_step as make_client, flow_at}
 use Rattle.world_run.specs.World.{flow_first, flow_step, is_served, is_taken, join, links_step}
 use Rattle.world_run.specs.World.{named_does, not_served, out_step, raw_out, recv_step, said_step}

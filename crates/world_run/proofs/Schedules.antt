@@ -17,9 +17,10 @@ use Rattle.server_links.proofs.Events.{serves}
 use Rattle.server_links.proofs.Names.{unplaced}
 use Rattle.world_run.specs.WorldState.{WorldState, client_of_link, member_at, start}
 use Rattle.world_run.specs.Members.{client_of}
-use Rattle.world_run.specs.OneHistory.{AllServiced, HoldsCurrent, OneHistory, PartHistory, Serviced}
-use Rattle.world_run.specs.OneHistory.{put_by, put_on, said_by, said_to, taken_bytes}
-use Rattle.world_run.specs.Transcript.{after, heard, heard_at, transcript}
+use Rattle.world_run.specs.WorldHistory.{AllServiced, HoldsCurrent, OneHistory, PartHistory}
+use Rattle.world_run.specs.WorldHistory.{Serviced}
+use Rattle.world_run.specs.WorldHistory.{put_by, put_on, said_by, said_to, taken_bytes}
+use Rattle.world_run.specs.WorldTranscript.{after, heard, heard_at, transcript}
 use Rattle.world_run.specs.World.{step}
 use Rattle.world_run.proofs.Clients.{place_is}
 use Rattle.world_run.proofs.LinkEvents.{part_of, stands_again}

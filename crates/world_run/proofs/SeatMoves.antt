@@ -19,7 +19,7 @@ use Rattle.world_run.specs.WorldState.{WorldState, MemberState, fresh_member, me
 use Rattle.world_run.specs.Members.{Seat, client_of, links_do, log_of, seat_at, setup_of}
 use Rattle.world_run.specs.Members.{with_log, with_reader, with_seat}
 use Rattle.world_run.specs.Members as members
-use Rattle.world_run.specs.OneHistory.{taken_bytes}
+use Rattle.world_run.specs.WorldHistory.{taken_bytes}
 use Rattle.world_run.specs.World as world
 use Rattle.world_run.proofs.Links.{name_of_event, step_moved}
 use Rattle.world_run.proofs.Members.{MemberPart}

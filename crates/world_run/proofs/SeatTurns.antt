@@ -30,7 +30,7 @@ use Rattle.world_run.specs.Members.{Seat, client_of, seat_at, with_log}
 use Rattle.world_run.specs.Members.{with_reader, with_seat}
 use Rattle.world_run.specs.ClientMoves.{answers, fault_of, lines_of, turn, refused_lines}
 use Rattle.world_run.specs.ClientMoves.{ask_lines, send_lines, poll_lines, got_lines, ending_lines}
-use Rattle.world_run.specs.OneHistory.{taken_bytes}
+use Rattle.world_run.specs.WorldHistory.{taken_bytes}
 use Rattle.world_run.proofs.Causal.{causal_log}
 use Rattle.world_run.proofs.Links.{Mute}
 use Rattle.world_run.proofs.Members.{MemberPart, runs_within}

@@ -20,7 +20,7 @@ use Rattle.server_links.proofs.LinksStand.{Stands, PartStands}
 use Rattle.server_links.proofs.Outcomes.{Meets, meets_then, meets_weaker}
 use Rattle.world_run.specs.WorldState.{WorldState, MemberState, fresh_member, member_at, no_setup}
 use Rattle.world_run.specs.Members.{Seat, seat_at, with_seat}
-use Rattle.world_run.specs.OneHistory.{taken_bytes}
+use Rattle.world_run.specs.WorldHistory.{taken_bytes}
 use Rattle.world_run.proofs.Links.{Mute}
 use Rattle.world_run.proofs.Members.{MemberPart}
 use Rattle.world_run.proofs.Worlds.{Each, Holds, Reads, Stable, WorldPart}

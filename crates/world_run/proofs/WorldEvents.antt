@@ -29,8 +29,8 @@ use Rattle.world_run.specs.WorldState.{member_at}
 use Rattle.world_run.specs.Members.{Seat, seat_at}
 use Rattle.world_run.specs.ClientMoves as client
 use Rattle.world_run.specs.ClientMoves.{show, turn}
-use Rattle.world_run.specs.OneHistory.{said_by}
-use Rattle.world_run.specs.Transcript.{flow_heard, heard_at}
+use Rattle.world_run.specs.WorldHistory.{said_by}
+use Rattle.world_run.specs.WorldTranscript.{flow_heard, heard_at}
 use Rattle.world_run.specs.World.{flow_step, links_step, named_does, out_step, raw_out}
 use Rattle.world_run.specs.World.{recv_step, said_step, step}
 use Rattle.world_run.proofs.Clients.{ask_stands, out_stands, poll_stands, receive_stands}

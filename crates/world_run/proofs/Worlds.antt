@@ -23,7 +23,7 @@ use Rattle.server_links.proofs.LinksStand.{Stands, PartStands, stands_part}
 use Rattle.server_links.proofs.Outcomes.{Meets}
 use Rattle.world_run.specs.WorldState.{WorldState, MemberState, member_at}
 use Rattle.world_run.specs.Members.{client_of}
-use Rattle.world_run.specs.OneHistory.{taken_bytes}
+use Rattle.world_run.specs.WorldHistory.{taken_bytes}
 use Rattle.world_run.specs.World.{on_links}
 use Rattle.world_run.proofs.Below.{stands_step}
 use Rattle.world_run.proofs.Links.{step_moved}

@@ -3,5 +3,5 @@ pub mod Members
 pub mod ClientMoves
 pub mod MemberTurns
 pub mod World
-pub mod Transcript
-pub mod OneHistory
+pub mod WorldTranscript
+pub mod WorldHistory

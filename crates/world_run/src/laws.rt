@@ -1,5 +1,5 @@
 //! What holds of every schedule.
-ghost use Rattle.world_run.specs.OneHistory.{HasOneHistory, RefusalsChangeNothing};
+ghost use Rattle.world_run.specs.WorldHistory.{HasOneHistory, RefusalsChangeNothing};
 
 use currency::law_currency;
 

@@ -1,4 +1,4 @@
-use Rattle.conn_pool.specs.Desk.{still}
+use Rattle.conn_pool.specs.Dispatcher.{still}
 use Rattle.conn_pool.proofs.serve.serve_all.Given as goal
 
 abbrev pub ghosts-serve_named-L-Ledger : goal.ghosts-serve_named-L-Ledger

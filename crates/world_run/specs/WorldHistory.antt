@@ -39,7 +39,7 @@ use Rattle.world_run.specs.WorldState.{WorldState, client_named, client_of_link,
 use Rattle.world_run.specs.WorldState.{MemberState, member_at, start}
 use Rattle.world_run.specs.Members.{client_of, seat_at}
 use Rattle.world_run.specs.ClientMoves.{point_at}
-use Rattle.world_run.specs.Transcript.{after, heard, transcript}
+use Rattle.world_run.specs.WorldTranscript.{after, heard, transcript}
 use Rattle.world_run.specs.World.{step}
 
 -- ---- what is put on a link

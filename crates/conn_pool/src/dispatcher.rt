@@ -2,8 +2,8 @@
 ghost use Rattle.std.specs.Prelude.{◌≡◌, ◌≢◌, ℕ, ◌+◌, ◌<◌, ◌≤◌, true, false, Option, if◌then◌else◌};
 ghost use Rattle.edge_links.specs.declared.counts.Counts.{Counts};
 ghost use Rattle.edge_links.specs.Counts.{Counted, nought};
-ghost use Rattle.conn_pool.specs.Desk.{still, after_giving};
-ghost use Rattle.conn_pool.specs.declared.desk.Stage.{Stage};
+ghost use Rattle.conn_pool.specs.Dispatcher.{still, after_giving};
+ghost use Rattle.conn_pool.specs.declared.dispatcher.Stage.{Stage};
 ghost use Rattle.conn_pool.specs.Moves.{links_in, leaves_by, EndedBy};
 
 use edge_links::{Accepted, Acceptor};
@@ -41,7 +41,7 @@ pub enum Stage {
 
 /// The acceptor, with the books of the links that it gave and of the workers that left.
 #[derive(Drop)]
-pub struct Desk<L: Opening, E: Ledger, A: Acceptor> {
+pub struct Dispatcher<L: Opening, E: Ledger, A: Acceptor> {
     acceptor: A,
     limited: bool,
     room: u64,
@@ -59,7 +59,7 @@ pub struct Desk<L: Opening, E: Ledger, A: Acceptor> {
     ghost over: { 0 < gone.total → stage ≢ Stage.Open },
 }
 
-/// What the desk has for a worker.
+/// What the dispatcher has for a worker.
 #[derive(Drop)]
 pub enum Next<K> {
     Link(K),
@@ -67,7 +67,7 @@ pub enum Next<K> {
     Over,
 }
 
-impl<L: Opening, E: Ledger, A: Acceptor> Desk<L, E, A> {
+impl<L: Opening, E: Ledger, A: Acceptor> Dispatcher<L, E, A> {
     /// The next link, where one came and links are still given.
     pub fn next(&mut self, mine: &mut Share<L>, gone: &mut Share<E>) -> Next<A::Link>
         requires { (0 < mine.old.parts) × (0 < gone.old.parts) }
@@ -75,7 +75,7 @@ impl<L: Opening, E: Ledger, A: Acceptor> Desk<L, E, A> {
         ensures mine { mine.new.amount ≡ mine.old.amount + links_in result }
         ensures gone { gone.new.amount ≡ gone.old.amount + leaves_by result }
     {
-        let Desk {
+        let Dispatcher {
             acceptor,
             limited,
             room,
@@ -121,7 +121,7 @@ impl<L: Opening, E: Ledger, A: Acceptor> Desk<L, E, A> {
         ensures parts { gone.new.parts ≡ gone.old.parts }
         ensures gone { gone.new.amount ≡ gone.old.amount + 1 }
     {
-        let Desk {
+        let Dispatcher {
             stage,
             gone: left,
             ..
@@ -132,14 +132,14 @@ impl<L: Opening, E: Ledger, A: Acceptor> Desk<L, E, A> {
         left.add(gone, 1);
     }
 
-    /// A desk that is open.
+    /// A dispatcher that is open.
     pub fn new(acceptor: A, connections: u64, links: Book<L>, gone: Book<E>) -> Self
         requires counts { A.counts acceptor ≡ L.before }
         requires left { still (A.left acceptor) ≡ L.left }
         requires limit { L.limit ≡ connections }
         requires none { (links.total ≡ 0) × (gone.total ≡ 0) }
     {
-        Desk {
+        Dispatcher {
             acceptor,
             limited: connections != 0,
             room: connections,
@@ -158,7 +158,7 @@ impl<L: Opening, E: Ledger, A: Acceptor> Desk<L, E, A> {
         ensures stage { EndedBy result.1 L.before (A.counts result.0) L.limit mine.old.amount }
         ensures within { 0 < L.limit → mine.old.amount ≤ L.limit }
     {
-        let Desk {
+        let Dispatcher {
             acceptor,
             stage,
             mut links,

@@ -1,4 +1,4 @@
--- What the desk of the workers has counted, and why it is over.
+-- What the dispatcher of the workers has counted, and why it is over.
 use Rattle.std.specs.Prelude.{◌+◌, ℕ, List, length, Option}
 use Rattle.std.specs.Option.{option_map}
 
