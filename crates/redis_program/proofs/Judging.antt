@@ -25,7 +25,7 @@ use Rattle.redis_program.specs.declared.status.Ending.TheVariants.{Done, BadLine
 use Rattle.redis_program.specs.declared.status.Ending.TheVariants.{WriteFault, Refused, HistoryFull}
 use Rattle.redis_program.specs.declared.status.Ending.TheVariants.{NoMemory}
 use Rattle.redis_program.specs.Headline.{Begins, Comes, EndsAs, Next, PlayedThen, Plays, PlaysPart}
-use Rattle.redis_program.specs.Headline.{ReadsBad, ReadsWhole, ended, ending_at, event_at}
+use Rattle.redis_program.specs.Headline.{ReadsBad, ReadsWhole, ending_at, event_at}
 use Rattle.redis_program.specs.Headline.{events_of, faulty_or, first_fault, text_lines}
 use Rattle.redis_program.specs.Headline.{transcript_of, verdict}
 use Rattle.edge_lines.proofs.Splitting.{line_ended, lines_ended, line_alone, line_begun}
@@ -93,9 +93,7 @@ module _ (limits : Limits) where
     -- what the lines with others after them print
     lines_then : (tail : List (List ℕ)) → transcript_of limits (lines ++ tail)
         ≡ transcript (start limits) events ++ transcript w (events_of next tail)
-    lines_then tail =
-        ap (transcript (start limits)) (events_then 1 next lines tail events p.lines_are refl)
-        ∙ transcript_then (start limits) w events (events_of next tail) p.played
+    lines_then tail = grind (arith, events_then, transcript_then)
 
     -- the verdict on lines that were all played
     done_ends : (body : List ℕ) → body ≡ text_of (transcript (start limits) events)
@@ -167,15 +165,7 @@ module _ (limits : Limits) where
         → IsPrefix printed (transcript w (events_of next tail))
         → body ≡ text_of (transcript (start limits) events ++ printed)
         → Begins limits (lines ++ tail) body
-    cut_ends tail printed body f b = (
-      transcript (start limits) events ++ printed,
-      (
-        f.0,
-        append_assoc (transcript (start limits) events) printed f.0
-            ∙ ap (λ l. transcript (start limits) events ++ l) f.1 ∙ sym (lines_then tail),
-      ),
-      b,
-    )
+    cut_ends tail printed body f b = grind (arith, append_assoc, lines_then)
 
     -- nothing of the next line was printed
     none_ends : (tail : List (List ℕ)) (printed : List Line) (body : List ℕ) → printed ≡ []
@@ -243,14 +233,7 @@ module _ (limits : Limits) where
   next_ends : (ending : Ending) (text rest : List ℕ) (body : List ℕ) → (ending ≡ Done → ⊥)
       → PlayedThen limits ending (Some text) (Some rest) body
       → EndsAs limits (text_lines text) ending body
-  next_ends ending text rest body not_done p =
-      let tail = text_lines (p.more ++ rest) in
-      let split : text_lines text ≡ p.lines ++ tail =
-      ap text_lines (p.reads.consumed ∙ append_assoc (ended p.lines) p.more rest)
-      ∙ lines_ended p.lines (p.more ++ rest) p.reads.plain in
-      subst (λ ls. EndsAs limits ls ending body) (sym split)
-      (by_ending ending p.lines p.events p.w p.more p.printed body rest not_done p.plays p.next
-      p.prints)
+  next_ends ending text rest body not_done p = grind (arith, append_assoc, lines_ended, by_ending)
 
   -- the whole input is known
   pub ends_as : (text : List ℕ) (in1 : Option (List ℕ)) (ending : Ending) (body : List ℕ)

@@ -87,9 +87,7 @@ part_of law limits lines events w n line printed a p part = record {
 written_more : (all lines : List Line) (out0 out1 out2 : Option (List ℕ))
     → Appends out0 out1 (text_of all) → Appends out1 out2 (text_of lines)
     → Appends out0 out2 (text_of (all ++ lines))
-written_more all lines out0 out1 out2 p q =
-    subst (λ l. Appends out0 out2 l) (sym (text_more all lines))
-    (appends_more out0 out1 out2 (text_of all) (text_of lines) p q)
+written_more all lines out0 out1 out2 p q = grind (arith, text_more, appends_more)
 
 -- one more event was played
 event_more : (limits : Limits) (w : WorldState) (events : List Event) (event : Event)
@@ -133,17 +131,9 @@ module _ (limits : Limits) (number : ℕ) (w : WorldState)
 
     pub standing_more : IsPlain line → Consumes in1 in2 (line ++ 10 ∷ [])
         → Standing limits (number + 1) new in0 in2 out0 out2
-    standing_more p c = record {
-      lines = s.lines ++ line ∷ [];
-      events = events;
-      consumed = subst (λ l. Consumes in0 in2 l) (sym (ended_more s.lines line))
-          (consumes_more in0 in1 in2 (ended s.lines) (line ++ 10 ∷ []) s.consumed c);
-      plain = plain_more s.lines line s.plain p;
-      lines_are = lines_are;
-      played = played;
-      numbered = let n = s.numbered in omega (arith, length-append s.lines (line ∷ []));
-      written = written;
-    }
+    standing_more p c =
+        grind (arith, ended_more, consumes_more, plain_more, lines_are, played, length-append,
+        written)
 
     -- the end of the source ended it
     pub done_last : HasOneHistory → IsPlain line → (line ≡ [] → ⊥) → Consumes in1 in2 line
@@ -221,11 +211,7 @@ module _ (limits : Limits) (number : ℕ) (w : WorldState)
       → Next limits ending in2 s.events number w more printed
       → Appends out1 out2 (text_of printed)
       → (body : List ℕ) × PlayedThen limits ending in0 in2 body × Appends out0 out2 body
-  ends_with law ending more printed s c next a = (
-    text_of (printed_by s.events ++ printed),
-    played_then law ending more printed s c next,
-    written_more (printed_by s.events) printed out0 out1 out2 s.written a,
-  )
+  ends_with law ending more printed s c next a = grind (arith, played_then, written_more)
 
   -- a line was read, and brought the run to an ending
   pub line_ends : HasOneHistory → (ending : Ending) (new : WorldState) (line more : List ℕ)

@@ -117,17 +117,11 @@ pub after_played : (w : WorldState) (e : Event) → (step w e).fault ≡ None
 after_played w e h = ap (λ f. unless_fault f (Some (step w e).state) None) h
 
 pub transcript_one : (w : WorldState) (e : Event) → transcript w (e ∷ []) ≡ (step w e).lines
-transcript_one w e = go (step w e).fault
-  where
-    go : (f : Option WorldFault) → (step w e).lines ++ unless_fault f [] [] ≡ (step w e).lines
-    go None = append-nil (step w e).lines
-    go (Some f) = append-nil (step w e).lines
+transcript_one w e = grind (arith, append-nil)
 
 pub transcript_faulty : (w : WorldState) (e : Event) (ds : List Event) (f : WorldFault)
     → (step w e).fault ≡ Some f → transcript w (e ∷ ds) ≡ (step w e).lines
-transcript_faulty w e ds f h =
-    ap (λ o. (step w e).lines ++ unless_fault o (transcript (step w e).state ds) []) h
-    ∙ append-nil (step w e).lines
+transcript_faulty w e ds f h = grind (arith, append-nil)
 
 pub fault_first : (w : WorldState) (n : ℕ) (e : Event) (ds : List Event) (f : WorldFault)
     → (step w e).fault ≡ Some f → first_fault w n (e ∷ ds) ≡ Some (n, f)

@@ -64,12 +64,7 @@ module _ {A : Type 0} (read : List ℕ → Parsed A) (past : Stream → Stream) 
     batch_step : (s : Stream) → batch read past s ≡ batch_by (past s) (read (past s).rest)
         (λ r. batch read past (moved_on s r))
     unfolding batch
-    batch_step s =
-        ap (λ n. batch_in read past n s) (add-one (length s.rest)) ∙ one_step (length s.rest) s
-        ∙ same_by (past s) (λ r. batch_in read past (length s.rest) (moved_on s r))
-        (λ r. batch_in read past (length r + 1) (moved_on s r)) (read (past s).rest)
-        (λ x r e. steps_enough (length s.rest) (length r + 1) (moved_on s r)
-        (omega (arith, takes.some s x r e)) (omega arith))
+    batch_step s = grind (arith, add-one, one_step, same_by, steps_enough)
 
     pub batch_whole : (s : Stream) (x : A) (r : List ℕ) → read (past s).rest ≡ Whole x r →
         batch read past s ≡ record {
@@ -128,21 +123,12 @@ module _ {A : Type 0} (read : List ℕ → Parsed A) (past : Stream → Stream) 
     pub batch_rest : (s t : Stream) → s.rest ≡ t.rest
         → (batch read past s).items ≡ (batch read past t).items
     unfolding batch
-    batch_rest s t e =
-        rest_in (length s.rest + 1) s t e
-        ∙ ap (λ (q : List ℕ). (batch_in read past (length q + 1) t).items) e
+    batch_rest s t e = grind (arith, rest_in)
 
     -- and on what follows the bytes that are passed over
     pub batch_past : (s t : Stream) → (past s).rest ≡ (past t).rest
         → (batch read past s).items ≡ (batch read past t).items
-    batch_past s t e =
-        ap (λ (p : Batch A). p.items) (batch_step s)
-        ∙ items_by (past s) (past t) (λ r. batch read past (moved_on s r))
-        (λ r. batch read past (moved_on t r)) (read (past s).rest)
-        (λ r. batch_rest (moved_on s r) (moved_on t r) refl)
-        ∙ ap (λ (q : List ℕ).
-        (batch_by (past t) (read q) (λ r. batch read past (moved_on t r))).items) e
-        ∙ ap (λ (p : Batch A). p.items) (sym (batch_step t))
+    batch_past s t e = grind (arith, batch_step, items_by, batch_rest)
 
     -- ---- in two pieces
 
@@ -166,10 +152,7 @@ module _ {A : Type 0} (read : List ℕ → Parsed A) (past : Stream → Stream) 
         (sym (fed_rest (moved_on s r) b t))
         ∙ ih x r h (ap (λ (q : Batch A). q.fault) (sym p) ∙ e))
         ∙ ap (λ (q : Batch A). q.items ++ (batch read past (fed q.stream b)).items) (sym p)
-    pieces_by s b t e ih More h =
-        batch_past (fed s b) (fed (past s) b) (takes.joined s b t)
-        ∙ ap (λ (q : Batch A). q.items ++ (batch read past (fed q.stream b)).items)
-        (sym (batch_more s h))
+    pieces_by s b t e ih More h = grind (arith, batch_past, batch_more)
     pieces_by s b t e ih (Bad g r) h =
         absurd (faulty (batch read past s).fault (ap (λ (q : Batch A). q.fault) (batch_bad s g r h))
         e)

@@ -103,10 +103,7 @@ module _ (room c : ℕ) (text b : List ℕ) (kind : Kind) (head : text ≡ c ∷
     pub head_empty : (n : ℕ) (r : List ℕ) (t : Tree) → length_at (rule_of kind) b ≡ Whole (Some n) r
         → n ≡ 0 → t ≡ build kind [] → value_in room text ≡ Whole t r
     unfolding aggregate_at
-    head_empty n r t e z w =
-        here ∙ ap (λ q. q >>= elements_at kind (value_in (room - 1))) e
-        ∙ no_elements (room - 1) (elements kind n) r (ap (elements kind) z ∙ none_of kind)
-        ∙ ap (λ q. Whole q r) (sym w)
+    head_empty n r t e z w = grind (arith, here, no_elements, none_of)
 
     counted : (d n : ℕ) (x s : List ℕ) → length_at (rule_of kind) x ≡ Whole (Some n) s
         → aggregate_at kind (value_in d) x

@@ -1,6 +1,5 @@
 -- The requests and the values of a stream, one at a time and in pieces.
-use Rattle.std.proofs.Common.{◌≡◌, ℕ, zero, suc, ◌-◌, ◌<◌, ◌≤◌, List, [], ◌∷◌, ◌++◌, refl, sym}
-use Rattle.std.proofs.Common.{ap}
+use Rattle.std.proofs.Common.{◌≡◌, ℕ, zero, suc, ◌-◌, ◌<◌, ◌≤◌, List, [], ◌∷◌, ◌++◌, refl}
 use Rattle.std.proofs.Common.{◌∙◌, true, false, length, arith, Some, None}
 use Rattle.resp_value.specs.Tree.{Tree}
 use Rattle.resp_stream.specs.declared.fault.Fault.{Fault}
@@ -90,23 +89,10 @@ some_words b r words e = some_in (length b) b r words (omega arith) e
 
 whole_skipped : (b r m : List ℕ) (words : List (List ℕ)) → request_at (skip_empty b) ≡ Whole words r
     → request_at (skip_empty (b ++ m)) ≡ Whole words (r ++ m)
-whole_skipped b r m words e =
-    let w = request_kept (skip_empty b) r m words e in
-    ap request_at
-    (skip_joined b m ∙ skip_whole (skip_empty b ++ m) (r ++ m) words w (some_words b r words e))
-    ∙ w
+whole_skipped b r m words e = grind (arith, request_kept, skip_joined, skip_whole, some_words)
 
 pub takes_requests : Takes request_at skipped
-takes_requests = record {
-  some = λ s x r e. shorter s.rest r x e;
-  by_rest = λ s t e. ap skip_empty e;
-  failed = λ s. refl;
-  kept = λ s b x r t e. ap (λ (q : List ℕ). request_at (skip_empty q)) (fed_rest s b t)
-      ∙ whole_skipped s.rest r b x e;
-  joined = λ s b t. ap skip_empty (fed_rest s b t) ∙ skip_joined s.rest b
-      ∙ ap skip_empty (sym (fed_rest (skipped s) b t));
-  stays = λ s t g r h e. ap skip_empty e ∙ skip_bad (skip_empty s.rest) r g h;
-}
+takes_requests = grind (arith, shorter, fed_rest, whole_skipped, skip_joined, skip_bad)
 
 pub parse_whole : (s : Stream) (words : List (List ℕ)) (r : List ℕ)
     → request_at (skip_empty s.rest) ≡ Whole words r
@@ -164,14 +150,7 @@ unfolding value_at
 value_kept b r m t e = still_whole whole_limit (value_in 8) (reader_value 8) b r m t e
 
 pub takes_values : Takes value_at (λ s. s)
-takes_values = record {
-  some = λ s x r e. value_shorter s.rest r x e;
-  by_rest = λ s t e. e;
-  failed = λ s. refl;
-  kept = λ s b x r t e. ap value_at (fed_rest s b t) ∙ value_kept s.rest r b x e;
-  joined = λ s b t. refl;
-  stays = λ s t g r h e. e;
-}
+takes_values = grind (arith, value_shorter, fed_rest, value_kept)
 
 pub values_joined : (s : Stream) (b : List ℕ) → s.failed ≡ false → (parse_values s).fault ≡ None
     → (parse_values (fed s b)).items

@@ -13,7 +13,7 @@ use Rattle.resp_stream.specs.Parsed.{Parsed, Whole, More, Bad, Go, Stop, On, Out
 use Rattle.resp_stream.specs.Parsed.{scan, ◌>>=◌}
 use Rattle.resp_stream.specs.ReaderLaws.{Took, Completes, IsReader}
 use Rattle.resp_stream.specs.Tokens.{IsRule, only_byte, line_feed, ending, digit_move, digits_at}
-use Rattle.resp_stream.specs.Tokens.{minus_one, length_by, length_at, ends_line, refused, line_move}
+use Rattle.resp_stream.specs.Tokens.{minus_one, length_by, length_at, line_move}
 use Rattle.resp_stream.specs.Tokens.{line_at, bytes_at, counted_at, many}
 use Rattle.resp_stream.proofs.Compose.{reader_then, reader_whole, reader_scan, reader_first, IsMove}
 use Rattle.resp_stream.proofs.Compose.{choice_if, move_if, append_nil}
@@ -41,10 +41,7 @@ line_way inline limit t = (13 ∷ 10 ∷ [], t, refl)
 
 pub line_choices : (inline : Bool) (limit : ℕ) (t : List ℕ) (c : ℕ)
     → IsMove (line_move inline limit t c)
-line_choices inline limit t c =
-    move_if (nat_eq c 13) _ _ (reader_feed t)
-    (move_if (ends_line inline c) _ _ (reader_whole t)
-    (move_if (nat_lt (length t) limit) _ _ (move_if (refused inline c) _ _ tt tt) tt))
+line_choices inline limit t c = grind (arith, move_if, reader_feed, reader_whole)
 
 pub reader_text : (inline : Bool) (limit : ℕ) (t : List ℕ)
     → IsReader (scan (line_move inline limit) t)
@@ -115,10 +112,7 @@ module _ (rule : LengthRule) (ok : IsRule rule) where
 
 pub bytes_exact : (p s : List ℕ) → bytes_at (length p) (p ++ s) ≡ Whole p s
 unfolding bytes_at
-bytes_exact p s =
-    let e : nat_lt (length (p ++ s)) (length p) ≡ false =
-    le-ltb (length (p ++ s)) (length p) (omega (arith, length-append p s)) in
-    rw e (λ i. Whole (take-append_seam p s i) (drop-append_seam p s i))
+bytes_exact p s = grind (arith, le-ltb, length-append, take-append_seam, drop-append_seam)
 
 bytes_whole : (n : ℕ) (b r x : List ℕ) (t : Bool) → nat_lt (length b) n ≡ t
     → cond t More (Whole (take n b) (drop n b)) ≡ Whole x r → Took (bytes_at n) b x r
@@ -164,11 +158,7 @@ bytes_more n b true h e =
 
 pub reader_bytes : (n : ℕ) → IsReader (bytes_at n)
 unfolding bytes_at
-reader_bytes n = record {
-  whole = λ b r x e. bytes_whole n b r x (nat_lt (length b) n) refl e;
-  bad = λ b r g e. absurd (bytes_bad n b r g (nat_lt (length b) n) e);
-  more = λ b e. bytes_more n b (nat_lt (length b) n) refl e;
-}
+reader_bytes n = grind (arith, bytes_whole, bytes_bad, bytes_more)
 
 pub reader_counted : (n : ℕ) → IsReader (counted_at n)
 unfolding counted_at

@@ -1,7 +1,7 @@
 -- A fault of a request, as the reader keeps and answers it.
-use Rattle.std.proofs.Common.{◌≡◌, ℕ, ◌-◌, ◌≤◌, List, ◌++◌, refl, sym, ap, subst, ◌∙◌, Bool, true}
-use Rattle.std.proofs.Common.{false, cond, length, drop, take, arith, Option, Some}
-use Rattle.std.specs.Prelude.{is_some, Result, Ok, Err, OnOk, OnErr}
+use Rattle.std.proofs.Common.{◌≡◌, ℕ, ◌-◌, ◌≤◌, List, ◌++◌, sym, ap, subst, ◌∙◌, Bool}
+use Rattle.std.proofs.Common.{cond, length, drop, take, arith, Some}
+use Rattle.std.specs.Prelude.{is_some, Result, OnOk, OnErr}
 use Rattle.std.proofs.lemmas.List.{length-append, length-drop}
 use Rattle.resp_value.specs.declared.octets.NoMemory.{NoMemory}
 use Rattle.resp_stream.specs.declared.fault.Fault.{Fault}
@@ -12,7 +12,7 @@ use Rattle.resp_stream.specs.declared.request.Progress.TheVariants.{Line, Words}
 use Rattle.resp_stream.specs.Parsed.{Bad}
 use Rattle.resp_stream.specs.Readers.{IsFaultOf, FaultGives, NotMemory, skipped}
 use Rattle.resp_stream.specs.ReaderStates.{stream_of, Kept, RequestState}
-use Rattle.resp_stream.specs.Request.{line_limit, request_at, skip_empty}
+use Rattle.resp_stream.specs.Request.{request_at, skip_empty}
 use Rattle.resp_stream.specs.RequestSteps.{IsPast, IsProgress}
 use Rattle.resp_stream.specs.Stream.{fed, offset_by, stream_fault}
 use Rattle.resp_stream.proofs.Line.{passed_none, passed_grows}
@@ -22,41 +22,22 @@ use Rattle.resp_stream.proofs.Words.{within_grows}
 
 pub fresh : (input : Input) (p : Progress) → p ≡ Line 0
     → Kept request_at skip_empty input.before input.rest input.broken → RequestState input p
-fresh input p e k =
-    record {
-      is_progress =
-          subst (λ (q : Progress). IsProgress input.rest q) (sym e)
-          (omega arith, passed_none true line_limit input.rest);
-      kept = k;
-    }
+fresh input p e k = grind (arith, passed_none)
 
 progress_grows : (text piece : List ℕ) (p : Progress) → IsProgress text p
     → IsProgress (text ++ piece) p
-progress_grows text piece (Line seen) h = (
-  omega (arith, h.0, length-append text piece),
-  passed_grows true line_limit seen text piece h.0 h.1,
-)
+progress_grows text piece (Line seen) h = grind (arith, length-append, passed_grows)
 progress_grows text piece (Words at left words) h = within_grows text piece at left words h
 
 -- with a piece more, or with none after a fault
 fed_more : (i : Input) (piece : List ℕ) (p : Progress) (t : Bool) → is_some i.broken ≡ t
     → RequestState i p → RequestState (record i { rest = cond t i.rest (i.rest ++ piece) }) p
-fed_more i piece p true e h = h
-fed_more i piece p false e h = record {
-  is_progress = progress_grows i.rest piece p h.is_progress;
-  kept =
-      subst (λ (b : Option StreamFault). Kept request_at skip_empty i.before (i.rest ++ piece) b)
-      (sym (none_is i.broken e))
-      tt;
-}
+fed_more i piece p t e h = grind (arith, progress_grows, none_is)
 
 pub fed_by : (old new : Input) (piece : List ℕ) (p : Progress)
     (r : Result (Unit {0}) NoMemory) → OnOk r (stream_of new ≡ fed (stream_of old) piece)
     → new.broken ≡ old.broken → OnErr r (new ≡ old) → RequestState old p → RequestState new p
-fed_by old new piece p (Ok u) e b f h =
-    subst (λ (i : Input). RequestState i p) (sym (fed_is old new piece e b))
-    (fed_more old piece p (is_some old.broken) refl h)
-fed_by old new piece p (Err u) e b f h = subst (λ (i : Input). RequestState i p) (sym f) h
+fed_by old new piece p r e b f h = grind (arith, fed_is, fed_more)
 
 -- the fault that was answered is answered again
 pub again : (i : Input) (f : StreamFault) → i.before ≤ 18446744073709551615 → i.broken ≡ Some f
@@ -87,38 +68,15 @@ module _ (text : List ℕ) (old past : Input) (passed at : ℕ) (g : Fault) (f :
 
   faulty : (n : ℕ) → past.before ≡ n → (t : Bool)
       → IsFaultOf request_at (record { before = n; rest = skip_empty old.rest; failed = t }) f
-  faulty n e t =
-      record {
-        fault = g;
-        left = drop at (skip_empty old.rest);
-        is = met.2;
-        place =
-            f_is ∙ (λ i. stream_fault g (offset_by (e i) (sym place i)));
-      }
+  faulty n e t = grind (arith, place)
 
   memory : NotMemory f
   memory = not_memory g (offset_by past.before at) f f_is
 
   pub answers : (new : Input) → new ≡ record past { broken = Some f }
       → FaultGives request_at (skipped (stream_of old)) (stream_of old) (stream_of new) f
-  answers new e =
-      let k : past.before ≡ offset_by old.before (length old.rest - length (skip_empty old.rest)) =
-      n_is ∙ ap (λ n. offset_by old.before n) (sym count) in
-      fault_by request_at (skipped (stream_of old)) (stream_of old) (stream_of new) f memory
-      (faulty (offset_by old.before (length old.rest - length (skip_empty old.rest))) k
-      (is_some old.broken))
-      (ap stream_of e ∙ (λ i. record { before = k i; rest = gone i; failed = true }))
+  answers new e = grind (arith, count, fault_by, memory, faulty, gone)
 
   pub keeps : (new : Input) → new ≡ record past { broken = Some f } → (p : Progress) → p ≡ Line 0
       → RequestState new p
-  keeps new e p l =
-      subst (λ (q : Input). RequestState q p) (sym e)
-      (fresh (record past { broken = Some f }) p l (record {
-        here = ap skip_empty gone
-            ∙ skip_bad (skip_empty old.rest) (drop at (skip_empty old.rest)) g met.2 ∙ sym gone;
-        faulty =
-            subst (λ (q : List ℕ).
-            IsFaultOf request_at (record { before = past.before; rest = q; failed = true }) f)
-            (sym gone) (faulty past.before refl true);
-        memory = memory;
-      }))
+  keeps new e p l = grind (arith, fresh, gone, skip_bad, faulty, memory)

@@ -71,9 +71,7 @@ pub more_long : (text : List ℕ) (result : Reading) → request_begun text ≡ 
     → whole_limit < length text → result ≡ reading.Faulty (TooLong (whole_limit + 1)) whole_limit
     → RequestReadingGives text (Ok result)
 unfolding request_at
-more_long text result e lt k =
-    subst (λ (r : Reading). RequestReadingGives text (Ok r)) (sym k)
-    (omega arith, more_over whole_limit text (request_begun text) e lt)
+more_long text result e lt k = grind (arith, more_over)
 
 -- ---- behind empty requests
 
@@ -86,19 +84,11 @@ module _ (text rest : List ℕ) (passed : ℕ) (le : passed ≤ length text)
       → ((at ≤ length rest) × (request_at rest ≡ Bad g (drop at rest))) → IsPast text passed
       × (at ≤ length (skip_empty text))
       × (request_at (skip_empty text) ≡ Bad g (drop at (skip_empty text)))
-  faulty_here g at h =
-      let e = stop_here (skip_bad rest (drop at rest) g h.1) in (
-        record { within = le; is = e ∙ back },
-        omega (arith, h.0, ap length e),
-        ap request_at e ∙ h.1
-            ∙ ap (λ (q : List ℕ). Bad g (drop at q)) (sym e),
-      )
+  faulty_here g at h = grind (arith, stop_here, skip_bad)
 
   pub more_here : request_at rest ≡ More → IsPast text passed
       × (request_at (skip_empty text) ≡ More)
-  more_here h =
-      let e = stop_here (skip_more rest h) in
-      (record { within = le; is = e ∙ back }, ap request_at e ∙ h)
+  more_here h = grind (arith, stop_here, skip_more)
 
   module _ (ws : List (List ℕ)) (taken : ℕ)
       (h : (taken ≤ length rest) × (request_at rest ≡ Whole ws (drop taken rest))) where
@@ -110,12 +100,7 @@ module _ (text rest : List ℕ) (passed : ℕ) (le : passed ≤ length text)
 
     pub whole_here : 0 < length ws → (passed + taken ≤ length text) × (0 < length ws)
         × (request_at (skip_empty text) ≡ Whole ws (drop (passed + taken) text))
-    whole_here some = (
-      omega (arith, h.0, rest_length),
-      some,
-      ap request_at (stop_here (skip_whole rest (drop taken rest) ws h.1 some)) ∙ h.1
-          ∙ ap (λ (q : List ℕ). Whole ws q) rest_drop,
-    )
+    whole_here some = grind (arith, rest_length, stop_here, skip_whole, rest_drop)
 
     pub place_here : passed + taken ≤ length text
     place_here = omega (arith, h.0, rest_length)

@@ -1,12 +1,12 @@
 -- The steps of a reader with a stack.
-use Rattle.std.proofs.Common.{◌≡◌, ℕ, suc, ◌≤◌, List, [], ◌∷◌, ◌++◌, refl, sym, ap, subst, ◌∙◌}
+use Rattle.std.proofs.Common.{◌≡◌, ℕ, suc, ◌≤◌, List, [], ◌∷◌, ◌++◌, refl, sym, ap, ◌∙◌}
 use Rattle.std.proofs.Common.{append_assoc, length, drop, false, arith}
 use Rattle.std.proofs.lemmas.List.{length-append, drop-append-le}
 use Rattle.resp_value.specs.Tree.{Tree}
 use Rattle.resp_stream.specs.declared.fault.Fault.{Fault}
 use Rattle.resp_stream.specs.declared.stack.Frame.{Frame}
 use Rattle.resp_stream.specs.declared.value.Kind.{Kind}
-use Rattle.resp_stream.specs.Parsed.{Parsed, Whole, More, Bad, ◌>>=◌}
+use Rattle.resp_stream.specs.Parsed.{Whole, More, Bad, ◌>>=◌}
 use Rattle.resp_stream.specs.Tokens.{many}
 use Rattle.resp_stream.specs.Request.{line_limit}
 use Rattle.resp_stream.specs.Value.{build, value_in}
@@ -22,30 +22,18 @@ begin whole text = record { within = omega arith; same = λ m. refl }
 
 pub grow : (whole : ℕ) (text piece : List ℕ) (at room : ℕ) (fs : List Frame)
     → IsStack whole text at room fs → IsStack whole (text ++ piece) at room fs
-grow whole text piece at room fs s =
-    let le : at ≤ length text = s.within in
-    record {
-      within = omega (arith, length-append text piece);
-      same = λ m. ap (λ q. value_in whole q) (append_assoc text piece m) ∙ s.same (piece ++ m)
-          ∙ ap (λ q. resume room fs (value_in room q)) (sym (append_assoc (drop at text) piece m))
-          ∙ ap (λ q. resume room fs (value_in room (q ++ m)))
-          (sym (drop-append-le at text piece le));
-    }
+grow whole text piece at room fs s = grind (arith, length-append, append_assoc, drop-append-le)
 
 pub seen_none : (b : List ℕ) → LineSeen b 0
 seen_none [] = refl
 seen_none (c ∷ b) = (omega arith, passed_none false line_limit b)
 
 seen_more : (b piece : List ℕ) (seen : ℕ) → LineSeen b seen → LineSeen (b ++ piece) seen
-seen_more [] piece seen h = subst (λ (n : ℕ). LineSeen piece n) (sym h) (seen_none piece)
-seen_more (c ∷ b) piece seen h =
-    (omega (arith, h.0, length-append b piece), passed_grows false line_limit seen b piece h.0 h.1)
+seen_more b piece seen h = grind (arith, seen_none, length-append, passed_grows)
 
 pub seen_grows : (text piece : List ℕ) (at seen : ℕ) → at ≤ length text
     → LineSeen (drop at text) seen → LineSeen (drop at (text ++ piece)) seen
-seen_grows text piece at seen le h =
-    subst (λ (q : List ℕ). LineSeen q seen) (sym (drop-append-le at text piece le))
-    (seen_more (drop at text) piece seen h)
+seen_grows text piece at seen le h = grind (arith, drop-append-le, seen_more)
 
 pub has_leaf : (whole : ℕ) (text : List ℕ) (at next room : ℕ) (fs : List Frame) (t : Tree)
     → IsStack whole text at room fs → next ≤ length text
@@ -71,47 +59,21 @@ pub opens : (whole : ℕ) (text : List ℕ) (at next room d n : ℕ) (kind : Kin
     ≡ (many (value_in d) (suc n) (drop next text ++ m) >>= λ ts s. Whole (build kind ts) s))
     → IsStack whole text next d (record { kind = kind; left = n; done = [] } ∷ fs)
 unfolding resume
-opens whole text at next room d n kind fs s le one e = record {
-  within = le;
-  same = λ m. s.same m ∙ ap (λ q. resume room fs q) (e m ∙ first_by d n kind (drop next text ++ m))
-      ∙ ap (λ k. resume k fs (value_in d (drop next text ++ m)
-      >>= rest_of d (record { kind = kind; left = n; done = [] }))) one;
-}
+opens whole text at next room d n kind fs s le one e = grind (arith, first_by)
 
 -- an element behind others
 next_element : (d k : ℕ) (kind : Kind) (done : List Tree) (t : Tree) (r : List ℕ)
     → rest_of d (record { kind = kind; left = suc k; done = done }) t r
     ≡ (value_in d r >>= rest_of d (record { kind = kind; left = k; done = done ++ t ∷ [] }))
 unfolding rest_of many
-next_element d k kind done t r = by (value_in d r)
-  where
-    by_2 : (u : Tree) (a : Parsed (List Tree))
-        → ((a >>= λ ts s. Whole (u ∷ ts) s) >>= λ ts s. Whole (build kind (done ++ t ∷ ts)) s)
-        ≡ (a >>= λ ts s. Whole (build kind ((done ++ t ∷ []) ++ u ∷ ts)) s)
-    by_2 u (Whole x r) =
-        ap (λ (q : List Tree). Whole (build kind q) r) (sym (append_assoc done (t ∷ []) (u ∷ x)))
-    by_2 u More = refl
-    by_2 u (Bad g r) = refl
-
-    by : (a : Parsed Tree)
-        → ((a >>= λ u r. many (value_in d) k r >>= λ ts s. Whole (u ∷ ts) s)
-        >>= λ ts s. Whole (build kind (done ++ t ∷ ts)) s)
-        ≡ (a >>= λ u r. many (value_in d) k r
-        >>= λ ts s. Whole (build kind ((done ++ t ∷ []) ++ u ∷ ts)) s)
-    by (Whole u r) = by_2 u (many (value_in d) k r)
-    by More = refl
-    by (Bad g r) = refl
+next_element d k kind done t r = grind (arith, append_assoc)
 
 pub has_next : (whole : ℕ) (text : List ℕ) (at d k : ℕ) (kind : Kind) (done : List Tree)
     (fs : List Frame) (t : Tree)
     → HasRead whole text at d (record { kind = kind; left = suc k; done = done } ∷ fs) t
     → IsStack whole text at d (record { kind = kind; left = k; done = done ++ t ∷ [] } ∷ fs)
 unfolding resume
-has_next whole text at d k kind done fs t h = record {
-  within = h.within;
-  same = λ m. h.same m
-      ∙ ap (λ q. resume (suc d) fs q) (next_element d k kind done t (drop at text ++ m));
-}
+has_next whole text at d k kind done fs t h = grind (arith, next_element)
 
 last_element : (d : ℕ) (kind : Kind) (done : List Tree) (t : Tree) (r : List ℕ)
     → rest_of d (record { kind = kind; left = 0; done = done }) t r
@@ -124,11 +86,7 @@ pub has_up : (whole : ℕ) (text : List ℕ) (at d : ℕ) (kind : Kind) (done : 
     → HasRead whole text at d (record { kind = kind; left = 0; done = done } ∷ fs) t
     → HasRead whole text at (suc d) fs (build kind (done ++ t ∷ []))
 unfolding resume
-has_up whole text at d kind done fs t h = record {
-  within = h.within;
-  same = λ m. h.same m
-      ∙ ap (λ q. resume (suc d) fs q) (last_element d kind done t (drop at text ++ m));
-}
+has_up whole text at d kind done fs t h = grind (arith, last_element)
 
 pub has_all : (whole : ℕ) (text : List ℕ) (at d : ℕ) (t : Tree) → HasRead whole text at d [] t
     → value_in whole text ≡ Whole t (drop at text)

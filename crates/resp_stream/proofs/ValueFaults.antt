@@ -1,5 +1,5 @@
 -- A fault of a value, as the reader keeps and answers it.
-use Rattle.std.proofs.Common.{◌≡◌, ℕ, ◌-◌, ◌≤◌, List, [], ◌++◌, refl, sym, ap, subst, ◌∙◌, Bool}
+use Rattle.std.proofs.Common.{◌≡◌, ℕ, ◌-◌, ◌≤◌, List, [], ◌++◌, refl, sym, ap, subst, Bool}
 use Rattle.std.proofs.Common.{true, false, cond, length, drop, reverse, arith, Option, Some}
 use Rattle.std.specs.Prelude.{is_some, Result, Ok, Err, OnOk, OnErr}
 use Rattle.resp_value.specs.declared.octets.NoMemory.{NoMemory}
@@ -71,22 +71,14 @@ module _ (text : List ℕ) (i : Input) (at : ℕ) (g : Fault) (f : StreamFault)
 
   faulty : (t : Bool)
       → IsFaultOf value_at (record { before = i.before; rest = i.rest; failed = t }) f
-  faulty t =
-      record {
-        fault = g;
-        left = drop at i.rest;
-        is = met.1;
-        place = f_is ∙ ap (λ n. stream_fault g (offset_by i.before n)) (sym place);
-      }
+  faulty t = grind (arith, place)
 
   memory : NotMemory f
   memory = not_memory g (offset_by i.before at) f f_is
 
   pub answers : (new : Input) → new ≡ record i { broken = Some f }
       → FaultGives value_at (stream_of i) (stream_of i) (stream_of new) f
-  answers new e =
-      fault_by value_at (stream_of i) (stream_of i) (stream_of new) f memory
-      (faulty (is_some i.broken)) (ap stream_of e)
+  answers new e = grind (arith, fault_by, memory, faulty)
 
   pub keeps : (new : Input) → new ≡ record i { broken = Some f } → (p : ValueProgress) → p.at ≡ 0
       → p.room ≡ 8 → p.seen ≡ 0 → p.stack.items ≡ [] → ValueState new p

@@ -62,6 +62,4 @@ pub more_long : (text : List ℕ) (result : ValueReading) → value_in 8 text �
     → whole_limit < length text → result ≡ reading.Faulty (TooLong (whole_limit + 1)) whole_limit
     → ValueReadingGives text (Ok result)
 unfolding value_at
-more_long text result e lt k =
-    subst (λ (r : ValueReading). ValueReadingGives text (Ok r)) (sym k)
-    (omega arith, more_over whole_limit text (value_in 8 text) e lt)
+more_long text result e lt k = grind (arith, more_over)

@@ -1,5 +1,5 @@
 -- The words of a request, one after the other.
-use Rattle.std.proofs.Common.{◌≡◌, ℕ, suc, ◌-◌, ◌<◌, ◌≤◌, List, [], ◌∷◌, ◌++◌, refl, sym, ap, ◌∙◌}
+use Rattle.std.proofs.Common.{◌≡◌, ℕ, suc, ◌-◌, ◌<◌, List, [], ◌∷◌, ◌++◌, refl, sym, ap, ◌∙◌}
 use Rattle.std.proofs.Common.{append_assoc, length, drop, arith}
 use Rattle.std.proofs.lemmas.List.{length-append, drop-append-le}
 use Rattle.resp_stream.specs.declared.fault.Fault.{Fault}
@@ -14,16 +14,12 @@ use Rattle.resp_stream.proofs.Places.{steady, Goes, reads_on}
 next_by : (ws : List (List ℕ)) (w : List ℕ) (a : Parsed (List (List ℕ)))
     → ((a >>= λ ts s. Whole (w ∷ ts) s) >>= λ us s. Whole (ws ++ us) s)
     ≡ (a >>= λ us s. Whole ((ws ++ w ∷ []) ++ us) s)
-next_by ws w (Whole ts s) =
-    ap (λ (q : List (List ℕ)). Whole q s) (sym (append_assoc ws (w ∷ []) ts))
-next_by ws w a = refl
+next_by ws w a = grind (arith, append_assoc)
 
 next_word : (ws : List (List ℕ)) (k : ℕ) (b r w : List ℕ) → word_at b ≡ Whole w r
     → with_more ws (suc k) b ≡ with_more (ws ++ w ∷ []) k r
 unfolding with_more many
-next_word ws k b r w e =
-    ap (λ q. (q >>= λ t r. many word_at k r >>= λ ts s. Whole (t ∷ ts) s)
-    >>= λ us s. Whole (ws ++ us) s) e ∙ next_by ws w (many word_at k r)
+next_word ws k b r w e = grind (arith, next_by)
 
 more_words : (ws : List (List ℕ)) (k : ℕ) (b : List ℕ) → word_at b ≡ More
     → with_more ws (suc k) b ≡ More
@@ -49,14 +45,7 @@ no_word = refl
 
 pub within_grows : (text piece : List ℕ) (at left : ℕ) (ws : List (List ℕ))
     → HasWords text at left ws → HasWords (text ++ piece) at left ws
-within_grows text piece at left ws h =
-    let le : at ≤ length text = h.within in
-    record {
-      within = omega (arith, length-append text piece);
-      same = λ m. ap request_begun (append_assoc text piece m) ∙ h.same (piece ++ m)
-          ∙ ap (λ q. with_more ws left q) (sym (append_assoc (drop at text) piece m))
-          ∙ ap (λ (q : List ℕ). with_more ws left (q ++ m)) (sym (drop-append-le at text piece le));
-    }
+within_grows text piece at left ws h = grind (arith, length-append, append_assoc, drop-append-le)
 
 module _ (text rest : List ℕ) (at left : ℕ) (ws : List (List ℕ)) (h : HasWords text at left ws)
     (back : rest ≡ drop at text) where

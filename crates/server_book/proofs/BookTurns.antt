@@ -1,9 +1,9 @@
 -- How each turn keeps what a book knows of its history.
 use Rattle.std.proofs.Common.{◌≡◌, ◌+◌, ◌-◌, ◌<◌, ◌≤◌, ℕ, List, [], ◌∷◌, ◌++◌, length, take, drop}
-use Rattle.std.proofs.Common.{max, sym, ap, subst, ◌∙◌, refl, arith, Bool, true, false, cond}
-use Rattle.std.proofs.Common.{length-append, inl, inr, slice_index_or, eq-eqb, ne_eqb}
+use Rattle.std.proofs.Common.{max, ap, ◌∙◌, refl, arith, Bool, true, false, cond}
+use Rattle.std.proofs.Common.{length-append, slice_index_or, eq-eqb, ne_eqb}
 use Rattle.std.proofs.Common.{length-set}
-use Rattle.std.specs.Prelude.{◌==◌, not}
+use Rattle.std.specs.Prelude.{◌==◌}
 use Rattle.std.specs.List.{count_by}
 use Rattle.std.proofs.lemmas.List.Sums.{sum_by-set, sum_by_push}
 use Rattle.std.proofs.lemmas.List.Sums.{count_by-le-length}
@@ -20,7 +20,7 @@ use Rattle.serial_model.specs.declared.history.BookReply.TheVariants.{Admitted, 
 use Rattle.serial_model.specs.declared.history.BookReply.TheVariants.{Bytes, Closed}
 use Rattle.serial_model.specs.declared.history.Post.{Post}
 use Rattle.serial_model.specs.declared.history.Posted.TheVariants.{End}
-use Rattle.serial_model.specs.History.{admitted, runs_on, gives_on, reads_on, has_ended, latest}
+use Rattle.serial_model.specs.History.{admitted, runs_on, gives_on, reads_on, latest}
 use Rattle.serial_model.specs.History.{unsent, posted, is_full}
 use Rattle.serial_model.specs.Steps.{book_step, AddsEntry}
 use Rattle.serial_model.proofs.ModeSteps.{mode_fresh}
@@ -60,9 +60,7 @@ put_over : (cs : List Connection) (id : ℕ) (x : Connection) (f : Connection �
     → IsId cs id
     → (let one = with_connection cs id x in with_connection one id (f (connection_at one id)))
     ≡ with_connection cs id (f x)
-put_over cs id x f on =
-    ap (λ y. with_connection (with_connection cs id x) id (f y)) (at_same cs id x on)
-    ∙ put_twice cs (id - 1) x (f x)
+put_over cs id x f on = grind (arith, at_same, put_twice)
 
 -- a connection that was sent a message and then switched
 abbrev pub switched : List Connection → ℕ → List ℕ → Mode → List Connection
@@ -99,10 +97,7 @@ pub room_close : (room left id : ℕ) (cs : List Connection) → HasRoom room cs
     → (connection_at cs id).ended ≡ false → left + 1 ≡ room
     → (let c = connection_at cs id in
     HasRoom left (with_connection cs id (record c { queue = []; ended = true })))
-room_close room left id cs h on live e =
-    let was : one_open (connection_at cs id) ≡ 1 = ap (λ b. cond (not b) 1 0) live in
-    let c : Connection = record (connection_at cs id) { queue = []; ended = true } in
-    omega (arith, h, sum_by-set one_open cs (id - 1) c fresh (omega arith))
+room_close room left id cs h on live e = grind (arith, sum_by-set)
 
 module _ (l : Limits) (past : List Entry) (space : Space) (keys : TableState)
     (cs : List Connection) (k : Agrees l past space keys cs) where
@@ -117,25 +112,9 @@ module _ (l : Limits) (past : List Entry) (space : Space) (keys : TableState)
   -- the new connection has nothing
   pub agrees_admit : (id : ℕ) → id ≡ length cs + 1 → is_full l past ≡ false
       → Agrees l (entry.Admit id ∷ past) space keys (cs ++ fresh ∷ [])
-  agrees_admit id e room = record {
-    legal = (omega (arith, k.count), room, k.legal);
-    space_is = k.space_is;
-    table_is = k.table_is;
-    count = omega (arith, k.count, length-append cs (fresh ∷ []));
-    each = λ i on. elim (cases_eq i id) [
-      | inl same ↦
-          let new : admitted past < i = omega (arith, k.count) in
-          ap (λ j. slice_index_or (cs ++ fresh ∷ []) j fresh) (let j : i - 1
-          ≡ length cs = omega arith in j)
-          ∙ get_or_push cs fresh fresh (length cs) refl
-          ∙ sym (same_parts (unsent_admit l past i id ∙ unsent_fresh l past i k.legal new)
-          (ended_fresh l past i k.legal new) (mode_fresh l past i k.legal new))
-      | inr ne ↦ get_or_append_left cs (fresh ∷ []) fresh (i - 1)
-          (omega (arith, length-append cs (fresh ∷ [])))
-          ∙ k.each i (on.0, omega (arith, length-append cs (fresh ∷ [])))
-          ∙ same_parts (sym (unsent_admit l past i id)) refl refl
-    ];
-  }
+  agrees_admit id e room =
+      grind (arith, length-append, cases_eq, slice_index_or, get_or_push, same_parts, unsent_admit,
+      unsent_fresh, ended_fresh, mode_fresh, get_or_append_left)
 
   -- where the connection of an id was written, and the others stay
   each_with : (new : List Entry) (id : ℕ) (c : Connection) → IsId cs id → c ≡ connection_of l new id
@@ -143,13 +122,8 @@ module _ (l : Limits) (past : List Entry) (space : Space) (keys : TableState)
       ≡ connection_of l past other)
       → (i : ℕ) → IsId (with_connection cs id c) i
       → connection_at (with_connection cs id c) i ≡ connection_of l new i
-  each_with new id c on own others i h = elim (cases_eq id i) [
-    | inl e ↦ ap (connection_at (with_connection cs id c)) (sym e) ∙ at_same cs id c on ∙ own
-        ∙ ap (connection_of l new) e
-    | inr ne ↦
-        let there : i ≤ length cs = omega (arith, length-set cs (id - 1) c) in
-        at_other cs id i c on.0 h.0 ne ∙ k.each i (h.0, there) ∙ sym (others i (ne_eqb id i ne))
-  ]
+  each_with new id c on own others i h =
+      grind (arith, cases_eq, at_same, length-set, at_other, ne_eqb)
 
   -- one that is admitted and has not ended is there
   pub there_live : (h : ℕ) → IsLive l past h → IsId cs h
@@ -157,12 +131,7 @@ module _ (l : Limits) (past : List Entry) (space : Space) (keys : TableState)
   there_live h live = grind arith
 
   pub is_held : IsHeld keys.limit keys.rows cs
-  is_held = subst (λ (t : TableState). IsHeld t.limit t.rows cs) (sym k.table_is) (record {
-    table = table_of_past l past;
-    short = table_within l past;
-    there = all_rows {P = IsLive l past} {Q = IsId cs} there_live (table l past)
-        (table_live l past k.legal);
-  })
+  is_held = grind (arith, table_of_past, table_within, all_rows, there_live, table_live)
 
   abbrev pub took : ℕ → ℕ → Connection
   took id m = let c = connection_at cs id in record c { queue = drop m c.queue }
@@ -171,21 +140,8 @@ module _ (l : Limits) (past : List Entry) (space : Space) (keys : TableState)
       → (take m (unsent l id past) ≡ [] → ⊥)
       → Agrees l (entry.Take id m ∷ past) space keys (with_connection cs id (took id m))
   agrees_take id m on room some =
-      let c = took id m in
-      let own = eq-eqb id id refl in
-      let kept = kept_of id on in
-      record {
-        legal = (on, room, some, k.legal);
-        space_is = k.space_is;
-        table_is = k.table_is;
-        count = length-set cs (id - 1) c ∙ k.count;
-        each = each_with (entry.Take id m ∷ past) id c (is_id id on)
-            (same_parts
-            (ap (λ x. drop m x.queue) kept
-            ∙ sym (unsent_take_own l past id id m (not_ended l past id on) own))
-            (ap (λ x. x.ended) kept) (ap (λ x. x.mode) kept))
-            (λ i n. same_parts (unsent_take_other l past i id m n) refl refl);
-      }
+      grind (arith, eq-eqb, kept_of, length-set, each_with, is_id, same_parts, unsent_take_own,
+      not_ended, unsent_take_other)
 
   pub live_at : (id : ℕ) → reads_on l past id ≡ true → (connection_at cs id).ended ≡ false
   live_at id on = ap (λ x. x.ended) (kept_of id on) ∙ not_ended l past id on
@@ -198,19 +154,8 @@ module _ (l : Limits) (past : List Entry) (space : Space) (keys : TableState)
       Agrees l (entry.Close id ∷ past) space (record { limit = l.table_max; rows = rows })
       (with_connection cs id (closed id)))
   agrees_close id on =
-      let c = closed id in
-      let own = eq-eqb id id refl in
-      record {
-        legal = (on, k.legal);
-        space_is = k.space_is;
-        table_is = refl;
-        count = length-set cs (id - 1) c ∙ k.count;
-        each = each_with (entry.Close id ∷ past) id c (is_id id on)
-            (same_parts (sym (unsent_close_own l past id id own))
-            (ap (λ b. cond b true (has_ended l id past)) (sym own))
-            (ap (λ x. x.mode) (kept_of id on)))
-            (λ i n. same_parts (unsent_close_other l past i id n) (ended_other l past i id n) refl);
-      }
+      grind (arith, eq-eqb, length-set, each_with, is_id, same_parts, unsent_close_own, kept_of,
+      unsent_close_other, ended_other)
 
 -- ---- turns as they are played
 
@@ -234,46 +179,26 @@ is_turn old l past new posts sent e call reply view adds grown step posted_is = 
 pub admit_turned : (l : Limits) (past : List Entry) (n id : ℕ) → is_full l past ≡ false
     → n ≡ length past → id ≡ admitted past + 1
     → book_step l past Admit ≡ record { reply = Admitted (n + 1) id; past = entry.Admit id ∷ past }
-admit_turned l past n id room h i =
-    admit_step l past room
-    ∙ ap (λ m. record {
-      reply = Admitted (m + 1) (admitted past + 1);
-      past = entry.Admit
-          (admitted past + 1) ∷ past;
-    }) (sym h)
-    ∙ ap (λ j. record { reply = Admitted (n + 1) j; past = entry.Admit j ∷ past }) (sym i)
+admit_turned l past n id room h i = grind (arith, admit_step)
 
 pub run_turned : (l : Limits) (past : List Entry) (id now m n : ℕ) (words : List (List ℕ))
     → runs_on l past id ≡ true → is_full l past ≡ false
     → n ≡ length past → m ≡ max now (latest past)
     → book_step l past (Run id words now)
     ≡ record { reply = Ran (n + 1); past = entry.Run id words m ∷ past }
-run_turned l past id now m n words on room h moment =
-    run_step l past id now words on room
-    ∙ ap (λ x. record {
-      reply = Ran (x + 1);
-      past = entry.Run id words
-          (max now (latest past)) ∷ past;
-    }) (sym h)
-    ∙ ap (λ x. record { reply = Ran (n + 1); past = entry.Run id words x ∷ past }) (sym moment)
+run_turned l past id now m n words on room h moment = grind (arith, run_step)
 
 pub take_turned : (l : Limits) (past : List Entry) (id most n : ℕ) (bytes : List ℕ)
     → gives_on l past id ≡ true → is_full l past ≡ false
     → n ≡ length past → bytes ≡ take most (unsent l id past) → 0 < length bytes
     → book_step l past (Take id most)
     ≡ record { reply = Bytes (n + 1) bytes; past = entry.Take id most ∷ past }
-take_turned l past id most n [] on room h e some = absurd (omega arith)
-take_turned l past id most n (b ∷ bytes) on room h e some =
-    take_step l past id most b bytes on room (sym e)
-    ∙ ap (λ x. record { reply = Bytes (x + 1) (b ∷ bytes); past = entry.Take id most ∷ past })
-    (sym h)
+take_turned l past id most n bytes on room h e some = grind (arith, take_step)
 
 pub close_turned : (l : Limits) (past : List Entry) (id n : ℕ) → reads_on l past id ≡ true
     → n ≡ length past
     → book_step l past (Close id) ≡ record { reply = Closed (n + 1); past = entry.Close id ∷ past }
-close_turned l past id n on h =
-    close_step l past id on
-    ∙ ap (λ x. record { reply = Closed (x + 1); past = entry.Close id ∷ past }) (sym h)
+close_turned l past id n on h = grind (arith, close_step)
 
 -- what each entry sends
 pub posted_close : (l : Limits) (past : List Entry) (id n : ℕ) → n ≡ length past

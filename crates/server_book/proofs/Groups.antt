@@ -1,7 +1,7 @@
 -- Telling the holders of one key after another.
 use Rattle.std.proofs.Common.{◌≡◌, ◌+◌, ◌<◌, ℕ, List, [], ◌∷◌, ◌++◌, length, take, refl, ap}
 use Rattle.std.proofs.Common.{sym}
-use Rattle.std.proofs.Common.{subst, ◌∙◌, arith, append-nil, append_assoc, false, true}
+use Rattle.std.proofs.Common.{subst, ◌∙◌, arith, append-nil, append_assoc, false}
 use Rattle.std.proofs.Common.{slice_index_or, Some}
 use Rattle.std.specs.Prelude.{◌||◌}
 use Prim.Native.Nat.{zero, suc}
@@ -13,7 +13,7 @@ use Rattle.track_table.specs.Places.{nobody}
 use Rattle.track_table.specs.Table.{holders_of, without_key}
 use Rattle.serial_model.specs.declared.mode.Mode.{Mode}
 use Rattle.serial_model.specs.Laws.{is_among}
-use Rattle.serial_model.specs.History.{Sending, route, routed}
+use Rattle.serial_model.specs.History.{Sending, routed}
 use Rattle.serial_model.specs.Tracking.{AreApart, Invalidation, drop_group, group, told_of}
 use Rattle.serial_model.proofs.KeyHolders.{keys_apart}
 use Rattle.serial_model.proofs.Each.{in_take}
@@ -23,7 +23,7 @@ use Rattle.server_book.specs.Connections.{ConnectionsState, IsId}
 use Rattle.server_book.specs.Sendings.{AreIds, before_posts, modes_of, with_sendings}
 use Rattle.server_book.specs.Stores.{AreThere}
 use Rattle.server_book.proofs.Remembered.{there_longer}
-use Rattle.server_book.proofs.Sendings.{AreTo, AreToldThere, before_sendings, length_sendings}
+use Rattle.server_book.proofs.Sendings.{AreTo, before_sendings, length_sendings}
 use Rattle.server_book.proofs.Sendings.{routed_same, routed_there, sendings_append, sent_at}
 
 -- the holders of each key, by a table that stays
@@ -36,14 +36,7 @@ abbrev pub each_told : List (List ℕ) → List Held → List Invalidation
 each_told keys rows = drop_group (each_row keys rows)
 
 turned : (a b : List ℕ) → bytes_eq a b ≡ false → bytes_eq b a ≡ false
-turned a b apart =
-    elim (bytes_eq b a) as (λ c. bytes_eq b a ≡ c → c ≡ false) [
-      | true ↦ λ e.
-          let same : bytes_eq a b ≡ true = (bytes_eq-Decides a b).1
-          (sym ((bytes_eq-Decides b a).0 e)) in
-          absurd (let no : ⊥ = cc in no)
-      | false ↦ λ e. refl
-    ] refl
+turned a b apart = grind (arith, bytes_eq-Decides)
 
 each_apart : (k : List ℕ) (keys : List (List ℕ)) (rows : List Held) → is_among keys k ≡ false
     → each_told keys (without_key k rows) ≡ each_told keys rows
@@ -82,12 +75,7 @@ rows_next : (rows : List Held) (n : ℕ) → n < length rows
 rows_next [] n lt = absurd (let no : ⊥ = omega arith in no)
 rows_next (r ∷ rows) zero lt = append-nil (told_of r.key r.holders)
 rows_next (r ∷ rows) (suc n) lt =
-    let row = slice_index_or rows n nobody in
-    ap (λ m. drop_group (take m (r ∷ rows)))
-    (let e : suc n + 1 ≡ suc (n + 1) = omega arith in e)
-    ∙ ap (λ t. told_of r.key r.holders ++ t) (rows_next rows n (omega arith))
-    ∙ sym (append_assoc (told_of r.key r.holders) (drop_group (take n rows))
-    (told_of row.key row.holders))
+    grind (arith, slice_index_or, append_assoc, rows_next rows n (omega arith))
 
 pub each_there : (cs : List Connection) (keys : List (List ℕ)) (rows : List Held)
     → AreThere cs rows → AreThere cs (each_row keys rows)
@@ -104,9 +92,7 @@ row_there cs (suc n) (r ∷ rows) h = row_there cs n rows h.1
 pub group_to : (cs : List Connection) (keys : List (List ℕ)) (rows : List Held)
     → AreThere cs rows → AreApart keys → AreTo cs (routed (modes_of cs) (group keys rows))
 group_to cs keys rows there apart =
-    routed_there cs (modes_of cs) (group keys rows)
-    (subst (AreToldThere cs) (sym (group_told keys rows apart))
-    (drop_group_all (IsId cs) (each_row keys rows) (each_there cs keys rows there)))
+    grind (arith, routed_there, group_told, drop_group_all, each_there)
 
 -- what a group was told is taken back
 pub group_back : (n : ℕ) (old now : ConnectionsState) (keys : List (List ℕ)) (rows : List Held)
@@ -121,9 +107,7 @@ group_back n old now keys rows there apart told =
 routed_append : (m : ℕ → Mode) (xs ys : List Invalidation)
     → routed m (xs ++ ys) ≡ routed m xs ++ routed m ys
 routed_append m [] ys = refl
-routed_append m (x ∷ xs) ys =
-    ap (λ t. route (m x.to) x ++ t) (routed_append m xs ys)
-    ∙ sym (append_assoc (route (m x.to) x) (routed m xs) (routed m ys))
+routed_append m (x ∷ xs) ys = grind (arith, append_assoc, routed_append m xs ys)
 
 -- the holders of row after row are told
 module _ (n : ℕ) (old now : ConnectionsState) (rows : List Held) (k : ℕ)
@@ -132,10 +116,7 @@ module _ (n : ℕ) (old now : ConnectionsState) (rows : List Held) (k : ℕ)
   so_far = routed (modes_of old.items) (drop_group (take k rows))
 
   pub so_far_there : AreTo old.items so_far
-  so_far_there =
-      routed_there old.items (modes_of old.items) (drop_group (take k rows))
-      (drop_group_all (IsId old.items) (take k rows)
-      (in_take (λ (r : Held). AreIds old.items r.holders) k rows there))
+  so_far_there = grind (arith, routed_there, drop_group_all, in_take)
 
   module _ (told : now ≡ with_sendings n so_far old) where
     same_length : length now.items ≡ length old.items
@@ -143,9 +124,7 @@ module _ (n : ℕ) (old now : ConnectionsState) (rows : List Held) (k : ℕ)
 
     -- the holders are there still
     holders_still : AreIds now.items (slice_index_or rows k nobody).holders
-    holders_still =
-        row_there now.items k rows
-        (there_longer old.items now.items rows (omega (arith, same_length)) there)
+    holders_still = grind (arith, row_there, there_longer, same_length)
 
     pub ids_still : (ids : List ℕ) → ids ≡ (slice_index_or rows k nobody).holders
         → AreIds now.items ids
@@ -158,10 +137,7 @@ module _ (n : ℕ) (old now : ConnectionsState) (rows : List Held) (k : ℕ)
         ∙ before_sendings n so_far old so_far_there
 
     same_modes : (i : ℕ) → IsId now.items i → modes_of now.items i ≡ modes_of old.items i
-    same_modes i on =
-        let on_old : IsId old.items i = (on.0, omega (arith, on.1, same_length)) in
-        ap (λ (s : ConnectionsState). modes_of s.items i) told
-        ∙ ap (λ (c : Connection). c.mode) (sent_at n i so_far old on_old so_far_there)
+    same_modes i on = grind (arith, same_length, sent_at, so_far_there)
 
     -- one row more
     pub told_more : (key ids : List ℕ) (next : ConnectionsState) → k < length rows

@@ -1,16 +1,16 @@
 -- The answers to calls that add no entry, in their order.
 use Rattle.std.proofs.Common.{◌≡◌, ◌+◌, ◌<◌, ℕ, List, [], ◌∷◌, true, false, cond, Option, Some}
 use Rattle.std.proofs.Common.{length, take}
-use Rattle.std.proofs.Common.{sym, ap, subst, ◌∙◌, refl, arith}
+use Rattle.std.proofs.Common.{ap, ◌∙◌, refl, arith}
 use Rattle.serial_model.specs.declared.history.Entry.TheVariants as entry
 use Rattle.serial_model.specs.declared.history.BookCall.{BookCall}
-use Rattle.serial_model.specs.declared.history.BookCall.TheVariants.{Admit, Run, Tick, Take}
+use Rattle.serial_model.specs.declared.history.BookCall.TheVariants.{Admit, Run, Take}
 use Rattle.serial_model.specs.declared.history.BookCall.TheVariants.{Close}
 use Rattle.serial_model.specs.declared.history.BookReply.{BookReply}
 use Rattle.serial_model.specs.declared.history.BookReply.TheVariants.{Quiet, Bytes, Refused}
 use Rattle.serial_model.specs.declared.history.BookRefusal.TheVariants.{Gone}
 use Rattle.serial_model.specs.History.{runs_on, gives_on, reads_on, unsent, is_full}
-use Rattle.serial_model.specs.Steps.{Turn, full, unless_full, admitting, running, taking, closing}
+use Rattle.serial_model.specs.Steps.{Turn, unless_full, admitting, taking, closing}
 use Rattle.serial_model.specs.Steps.{gone}
 use Rattle.serial_model.specs.Steps.{book_step, AddsEntry, MayRunOut, IsCallable}
 use Rattle.server_book.specs.BookState.{BookState, IsAccepted, IsFullAnswer, IsRefusal}
@@ -99,18 +99,4 @@ module _ (b : BookState) where
   pub accepted_adds : (call : BookCall) → IsCallable call → IsAccepted b.limits b.past call
       → MayRunOut call (book_step b.limits b.past call).reply
   unfolding book_step
-  accepted_adds Admit m h =
-      subst (λ v. AddsEntry (cond v (full b.past) (admitting b.past)).reply) (sym h) tt
-  accepted_adds (Run id words now) m h =
-      let t = running b.past id words now in
-      subst (λ v. AddsEntry (cond v (unless_full b.limits b.past t) (gone b.past id)).reply)
-      (sym h.0)
-      (subst (λ v. AddsEntry (cond v (full b.past) t).reply) (sym h.1) tt)
-  accepted_adds (Tick now) m h = tt
-  accepted_adds (Take id most) m h =
-      let bytes = take most (unsent b.limits id b.past) in
-      subst (λ v. AddsEntry (cond v (taking b.limits b.past id most bytes) (gone b.past id)).reply)
-      (sym h.0)
-      (adds_taken id most bytes (take_some most _ m h.2) h.1)
-  accepted_adds (Close id) m h =
-      subst (λ v. AddsEntry (cond v (closing b.past id) (gone b.past id)).reply) (sym h) tt
+  accepted_adds call m h = grind (arith, adds_taken, take_some)

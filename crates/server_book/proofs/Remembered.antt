@@ -16,7 +16,7 @@ use Rattle.command_words.specs.declared.command.Signalled.TheVariants.{Keys, All
 use Rattle.serial_model.specs.Modes.{Memory, Remembers, Forgets}
 use Rattle.serial_model.specs.Tracking.{without_keys, without_signalled}
 use Rattle.serial_model.specs.Tracking.{remembering}
-use Rattle.serial_model.specs.History.{table, table_grown, table_then, made, signals, expired}
+use Rattle.serial_model.specs.History.{table, expired}
 use Rattle.serial_model.proofs.Tables.{all_rows}
 use Rattle.server_book.proofs.Sendings.{id_longer}
 use Rattle.server_book.specs.declared.connections.Connection.{Connection}
@@ -67,12 +67,8 @@ remembering_table id Forgets rows h = table_without_connection id rows h
 pub table_of_past : (l : Limits) (past : List Entry) → IsTable (table l past)
 table_of_past l [] = record { ordered = tt; held = tt }
 table_of_past l (Run id words moment ∷ past) =
-    table_drop (length (table_grown l past id words moment) - l.table_max)
-    (table_grown l past id words moment)
-    (remembering_table id (made l past id words).memory
-    (without_signalled (signals l past id words moment) (table_then l past moment))
-    (without_signalled_table (signals l past id words moment) (table_then l past moment)
-    (without_keys_table (expired l past moment) (table l past) (table_of_past l past))))
+    grind (arith, table_drop, remembering_table, without_signalled_table, without_keys_table,
+    table_of_past l past)
 table_of_past l (Tick moment ∷ past) =
     without_keys_table (expired l past moment) (table l past) (table_of_past l past)
 table_of_past l (Close id ∷ past) =

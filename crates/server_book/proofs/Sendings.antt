@@ -70,9 +70,7 @@ id_longer cs ds le id on = (on.0, omega (arith, on.1))
 
 pub posted_longer : (cs ds : List Connection) (ps : List Post) → length cs ≤ length ds
     → ArePosted cs ps → ArePosted ds ps
-posted_longer cs ds ps le h =
-    all_in {A = Post} {P = λ p. IsId cs p.id} {Q = λ p. IsId ds p.id}
-    (λ p. id_longer cs ds le p.id) ps h
+posted_longer cs ds ps le h = grind (arith, all_in, id_longer)
 
 pub posted_set : (cs : List Connection) (at : ℕ) (c : Connection) (ps : List Post)
     → ArePosted cs ps → ArePosted (slice_set cs at c) ps
@@ -131,9 +129,7 @@ AreTo cs ss = AllIn (λ (s : ℕ × Sending). IsId cs s.0) ss
 
 pub to_longer : (cs ds : List Connection) (ss : List (ℕ × Sending)) → length cs ≤ length ds
     → AreTo cs ss → AreTo ds ss
-to_longer cs ds ss le h =
-    all_in {A = ℕ × Sending} {P = λ s. IsId cs s.0} {Q = λ s. IsId ds s.0}
-    (λ s. id_longer cs ds le s.0) ss h
+to_longer cs ds ss le h = grind (arith, all_in, id_longer)
 
 pub length_queued : (cs : List Connection) (id : ℕ) (bytes : List ℕ)
     → length (queued cs id bytes) ≡ length cs
@@ -144,8 +140,7 @@ pub length_sendings : (n : ℕ) (ss : List (ℕ × Sending)) (state : Connection
     → length (with_sendings n ss state).items ≡ length state.items
 length_sendings n [] state = refl
 length_sendings n (s ∷ ss) state =
-    length_sendings n ss (with_sending n s state)
-    ∙ length_queued state.items s.0 (sending_bytes s.1)
+    grind (arith, length_queued, length_sendings n ss (with_sending n s state))
 
 to_next : (n : ℕ) (s : ℕ × Sending) (ss : List (ℕ × Sending)) (state : ConnectionsState)
     → AreTo state.items ss → AreTo (with_sending n s state).items ss
@@ -191,29 +186,7 @@ shorter what c = record c { queue = take (length c.queue - size_of what) c.queue
 
 unqueue_mode : (cs : List Connection) (p : Post) (id : ℕ) (m : Mode) → IsId cs p.id → IsId cs id
     → unqueued p (with_mode id m cs) ≡ with_mode id m (unqueued p cs)
-unqueue_mode cs p id m on there =
-    let c = connection_at cs id in
-    let d = connection_at cs p.id in
-    elim (cases_eq id p.id) [
-      | inl e ↦
-          subst (λ k. (let x = connection_at (with_mode id m cs) k in
-          with_connection (with_mode id m cs) k (shorter p.what x))
-          ≡ with_mode id m (with_connection cs k (shorter p.what (connection_at cs k)))) e
-          (ap (λ x. with_connection (with_mode id m cs) id (shorter p.what x))
-          (at_same cs id (record c { mode = m }) there)
-          ∙ put_twice cs (id - 1) (record c { mode = m }) (shorter p.what (record c { mode = m }))
-          ∙ sym (ap (λ (x : Connection). with_connection (with_connection cs id (shorter p.what c))
-          id (record x { mode = m })) (at_same cs id (shorter p.what c) there)
-          ∙ put_twice cs (id - 1) (shorter p.what c) (record (shorter p.what c) { mode = m })))
-      | inr ne ↦
-          ap (λ x. with_connection (with_mode id m cs) p.id (shorter p.what x))
-          (at_other cs id p.id (record c { mode = m }) there.0 on.0 ne)
-          ∙ set_swap cs (id - 1) (p.id - 1) (record c { mode = m }) (shorter p.what d)
-          (λ e. ne (let a = there.0 in let b = on.0 in omega (arith, a, b, e)))
-          ∙ ap (λ (x : Connection). with_connection (with_connection cs p.id (shorter p.what d)) id
-          (record x { mode = m }))
-          (sym (at_other cs p.id id (shorter p.what d) on.0 there.0 (λ e. ne (sym e))))
-    ]
+unqueue_mode cs p id m on there = grind (arith, cases_eq, at_same, put_twice, at_other, set_swap)
 
 length_unqueued : (cs : List Connection) (p : Post) → length (unqueued p cs) ≡ length cs
 length_unqueued cs p =
@@ -228,11 +201,7 @@ pub before_mode : (ps : List Post) (cs : List Connection) (id : ℕ) (m : Mode) 
     → IsId cs id → before_posts ps (with_mode id m cs) ≡ with_mode id m (before_posts ps cs)
 before_mode [] cs id m posted there = refl
 before_mode (p ∷ ps) cs id m posted there =
-    let same = length_before ps cs in
-    ap (unqueued p) (before_mode ps cs id m posted.1 there)
-    ∙ unqueue_mode (before_posts ps cs) p id m
-    (posted.0.0, (let le = posted.0.1 in omega (arith, same, le)))
-    (there.0, (let le = there.1 in omega (arith, same, le)))
+    grind (arith, length_before, unqueue_mode, before_mode ps cs id m posted.1 there)
 
 -- a mode is changed, and changed back
 pub mode_back : (cs : List Connection) (id : ℕ) (m : Mode) → IsId cs id
@@ -259,9 +228,7 @@ pub posts_sendings : (n : ℕ) (ss : List (ℕ × Sending)) (state : Connections
     → (with_sendings n ss state).posts ≡ state.posts ++ posts_of n ss
 posts_sendings n [] state = sym (append-nil state.posts)
 posts_sendings n (s ∷ ss) state =
-    posts_sendings n ss (with_sending n s state)
-    ∙ append_assoc state.posts (record { entry = n; id = s.0; what = posted_of s.1 } ∷ [])
-    (posts_of n ss)
+    grind (arith, append_assoc, posts_sendings n ss (with_sending n s state))
 
 -- a connection with bytes behind its queue
 abbrev pub more : Connection → List ℕ → Connection
@@ -317,9 +284,7 @@ AreToldThere cs is = AllTo (IsId cs) is
 
 pub told_longer : (cs ds : List Connection) (is : List Invalidation) → length cs ≤ length ds
     → AreToldThere cs is → AreToldThere ds is
-told_longer cs ds is le h =
-    all_in {A = Invalidation} {P = λ i. IsId cs i.to} {Q = λ i. IsId ds i.to}
-    (λ i. id_longer cs ds le i.to) is h
+told_longer cs ds is le h = grind (arith, all_in, id_longer)
 
 route_there : (cs : List Connection) (m : Mode) (i : Invalidation) → IsId cs i.to
     → AreTo cs (route m i)
@@ -328,18 +293,14 @@ route_there cs m i on = grind arith
 pub routed_there : (cs : List Connection) (m : ℕ → Mode) (is : List Invalidation)
     → AreToldThere cs is → AreTo cs (routed m is)
 routed_there cs m [] h = tt
-routed_there cs m (i ∷ is) h =
-    in_append (λ (s : ℕ × Sending). IsId cs s.0) (route (m i.to) i) (routed m is)
-    (route_there cs (m i.to) i h.0) (routed_there cs m is h.1)
+routed_there cs m (i ∷ is) h = grind (arith, in_append, route_there, routed_there cs m is h.1)
 
 -- routes by modes that agree on those that are there
 pub routed_same : (cs : List Connection) (m n : ℕ → Mode) (is : List Invalidation)
     → ((id : ℕ) → IsId cs id → m id ≡ n id) → AreToldThere cs is
     → routed m is ≡ routed n is
 routed_same cs m n [] same h = refl
-routed_same cs m n (i ∷ is) same h =
-    ap (λ x. route x i ++ routed m is) (same i.to h.0)
-    ∙ ap (λ x. route (n i.to) i ++ x) (routed_same cs m n is same h.1)
+routed_same cs m n (i ∷ is) same h = grind (arith, routed_same cs m n is same h.1)
 
 -- ---- telling one holder after another
 
@@ -353,14 +314,7 @@ told_next m keys [] n lt = absurd (omega arith)
 told_next m keys (id ∷ ids) zero lt =
     append-nil (route (m id) (record { to = id; keys = keys }))
 told_next m keys (id ∷ ids) (suc n) lt =
-    let at = slice_index_or ids n 0 in
-    ap (λ k. routed m (told_to keys (take k (id ∷ ids))))
-    (let e : suc n + 1 ≡ suc (n + 1) = omega arith in e)
-    ∙ ap (λ x. route (m id) (record { to = id; keys = keys }) ++ x)
-    (told_next m keys ids n (omega arith))
-    ∙ sym (append_assoc (route (m id) (record { to = id; keys = keys }))
-    (routed m (told_to keys (take n ids)))
-    (route (m at) (record { to = at; keys = keys })))
+    grind (arith, slice_index_or, append_assoc, told_next m keys ids n (omega arith))
 
 -- what the first holders of a key are sent
 abbrev pub told_first : List Connection → Option (List (List ℕ)) → List ℕ → ℕ → List (ℕ × Sending)
@@ -369,9 +323,7 @@ told_first cs keys ids k = routed (modes_of cs) (told_to keys (take k ids))
 pub first_there : (cs : List Connection) (keys : Option (List (List ℕ))) (ids : List ℕ) (k : ℕ)
     → AreIds cs ids
     → AreTo cs (told_first cs keys ids k)
-first_there cs keys ids k h =
-    routed_there cs (modes_of cs) (told_to keys (take k ids))
-    (told_all (IsId cs) keys (take k ids) (in_take (IsId cs) k ids h))
+first_there cs keys ids k h = grind (arith, routed_there, told_all, in_take)
 
 module _ (n : ℕ) (keys : Option (List (List ℕ))) (ids : List ℕ) (k : ℕ)
     (old now : ConnectionsState) (lt : k < length ids)
@@ -379,20 +331,11 @@ module _ (n : ℕ) (keys : Option (List (List ℕ))) (ids : List ℕ) (k : ℕ)
     (so_far : now ≡ with_sendings n (told_first old.items keys ids k) old) where
   -- the next holder is there, and its mode is as before
   pub next_there : IsId now.items (slice_index_or ids k 0)
-  next_there =
-      let on = in_at (IsId old.items) ids k 0 there lt in
-      let same : length now.items ≡ length old.items =
-      ap (λ (s : ConnectionsState). length s.items) so_far
-      ∙ length_sendings n (told_first old.items keys ids k) old in
-      (on.0, omega (arith, on.1))
+  next_there = grind (arith, in_at, length_sendings)
 
   mode_then : (connection_at now.items (slice_index_or ids k 0)).mode
       ≡ modes_of old.items (slice_index_or ids k 0)
-  mode_then =
-      let id = slice_index_or ids k 0 in
-      ap (λ (s : ConnectionsState). (connection_at s.items id).mode) so_far
-      ∙ ap (λ (c : Connection). c.mode) (sent_at n id (told_first old.items keys ids k) old
-      (in_at (IsId old.items) ids k 0 there lt) (first_there old.items keys ids k there))
+  mode_then = grind (arith, slice_index_or, sent_at, in_at, first_there)
 
   told_step : (next : ConnectionsState) (m : Mode)
       → m ≡ (connection_at now.items (slice_index_or ids k 0)).mode
@@ -401,14 +344,7 @@ module _ (n : ℕ) (keys : Option (List (List ℕ))) (ids : List ℕ) (k : ℕ)
         keys = keys;
       } in next ≡ with_sendings n (route m i) now)
       → next ≡ with_sendings n (told_first old.items keys ids (k + 1)) old
-  told_step next m is sent =
-      let i : Invalidation = record { to = slice_index_or ids k 0; keys = keys } in
-      let first = told_first old.items keys ids k in
-      sent
-      ∙ ap (λ x. with_sendings n (route x i) now) (is ∙ mode_then)
-      ∙ ap (with_sendings n (route (modes_of old.items i.to) i)) so_far
-      ∙ sym (sendings_append n first (route (modes_of old.items i.to) i) old)
-      ∙ ap (λ ss. with_sendings n ss old) (sym (told_next (modes_of old.items) keys ids k lt))
+  told_step next m is sent = grind (arith, slice_index_or, mode_then, sendings_append, told_next)
 
   -- it is on the second protocol
   pub told_nothing : (next : ConnectionsState) (m : Mode)
@@ -445,10 +381,7 @@ pub ids_same : (f g : ℕ → Bool) (n : ℕ) → ((i : ℕ) → 0 < i → i ≤
     → ids_where f n ≡ ids_where g n
 ids_same f g zero same = refl
 ids_same f g (suc n) same =
-    let rest = ids_same f g n (λ i some le. same i some (omega (arith, le))) in
-    ap (λ b. cond b (ids_where f n ++ suc n ∷ []) (ids_where f n))
-    (same (suc n) (omega arith) (omega arith))
-    ∙ ap (λ ids. cond (g (suc n)) (ids ++ suc n ∷ []) ids) rest
+    grind (arith, ids_same f g n (λ i some le. same i some (omega (arith, le))))
 
 pub ids_there : (cs : List Connection) (test : ℕ → Bool) (n : ℕ) → n ≤ length cs
     → AreIds cs (ids_where test n)

@@ -1,6 +1,6 @@
 -- A Tick sends what its entry sends, and leaves what the history says.
 use Rattle.std.proofs.Common.{◌≡◌, ◌≢◌, ◌+◌, ◌≤◌, ℕ, List, [], ◌∷◌, ◌++◌, length, sym, ap, ◌∙◌}
-use Rattle.std.proofs.Common.{refl, arith, true, false, inl, inr, append-nil, max}
+use Rattle.std.proofs.Common.{refl, arith, true, false, append-nil, max}
 use Rattle.std.proofs.Common.{ne_eqb}
 use Rattle.std.specs.Prelude.{◌==◌}
 use Rattle.std.proofs.lemmas.Bool.{cases_eq}
@@ -14,7 +14,7 @@ use Rattle.serial_model.specs.declared.history.Entry.{Entry}
 use Rattle.serial_model.specs.declared.history.Entry.TheVariants as entry
 use Rattle.serial_model.specs.Tracking.{without_keys}
 use Rattle.serial_model.specs.History.{is_full, latest, has_ended, unsent, posted, modes, routed}
-use Rattle.serial_model.specs.History.{sends, sent_to, sent_bytes, posts_of, expired, expiry_group}
+use Rattle.serial_model.specs.History.{sends, sent_to, sent_bytes, expired, expiry_group}
 use Rattle.serial_model.specs.History.{table}
 use Rattle.serial_model.specs.Steps.{book_step, full, ticking}
 use Rattle.serial_model.proofs.Streams.{IsLive, tick_bytes, tick_sends_none, unsent_tick}
@@ -35,31 +35,15 @@ module _ (l : Limits) (past : List Entry) (space : Space) (keys : TableState)
   ended_none : (c : ℕ) → has_ended l c past ≡ true
       → sent_to (length past + 1) c (sends l (entry.Tick m) past) ≡ []
   unfolding IsLive
-  ended_none c over =
-      tick_sends_none l (length past + 1) c past m k.legal
-      (λ h live. elim (cases_eq h c) [
-        | inl e ↦ absurd (let both : false ≡ true = sym live.1
-            ∙ ap (λ x. has_ended l x past) e ∙ over in let no : ⊥ = cc in no)
-        | inr ne ↦ ne_eqb h c ne
-      ])
+  ended_none c over = grind (arith, tick_sends_none, cases_eq, ne_eqb)
 
   unsent_after : (c : ℕ) → unsent l c (entry.Tick m ∷ past)
       ≡ unsent l c past ++ tick_bytes l past m c
-  unsent_after c =
-      elim (has_ended l c past) as (λ b. has_ended l c past ≡ b
-      → unsent l c (entry.Tick m ∷ past) ≡ unsent l c past ++ tick_bytes l past m c) [
-        | true ↦ λ over.
-            unsent_ended l (entry.Tick m ∷ past) c over
-            ∙ sym (ap (λ x. unsent l c past ++ sent_bytes x) (ended_none c over)
-            ∙ append-nil (unsent l c past) ∙ unsent_ended l past c over)
-        | false ↦ λ live. unsent_tick l past c m live
-      ] refl
+  unsent_after c = grind (arith, tick_bytes, unsent_ended, ended_none, append-nil, unsent_tick)
 
   bytes_are : (c : ℕ) → sent_bytes (sent_to n c (early l past space keys cs k m gone gone_is))
       ≡ tick_bytes l past m c
-  bytes_are c =
-      ap (λ x. sent_bytes (sent_to n c x)) (early_is l past space keys cs k m gone gone_is)
-      ∙ ap (λ x. sent_bytes (sent_to x c (sends l (entry.Tick m) past))) number
+  bytes_are c = grind (arith, early_is)
 
   each : (i : ℕ) → IsId cs i → connection_at told i ≡ connection_of l (entry.Tick m ∷ past) i
   each i there =
@@ -90,10 +74,7 @@ module _ (l : Limits) (past : List Entry) (space : Space) (keys : TableState)
   pub posted_tick : (first l past space keys cs k m gone gone_is n).posts
       ≡ posted l (entry.Tick m ∷ past)
   unfolding posted
-  posted_tick =
-      first_posts l past space keys cs k m gone gone_is n
-      ∙ ap (posts_of n) (early_is l past space keys cs k m gone gone_is)
-      ∙ ap (λ x. posts_of x (sends l (entry.Tick m) past)) number
+  posted_tick = grind (arith, first_posts, early_is)
 
 -- whether keys are due, by their number
 pub none_of : (keys : List (List ℕ)) → length keys ≡ 0 → keys ≡ []
@@ -109,13 +90,7 @@ pub tick_turned : (l : Limits) (past : List Entry) (now m n : ℕ) (gone : List 
     → n ≡ length past → m ≡ max now (latest past)
     → book_step l past (Tick now) ≡ record { reply = Ticked (n + 1); past = entry.Tick m ∷ past }
 tick_turned l past now m n [] is some room h moment = absurd (some refl)
-tick_turned l past now m n (key ∷ gone) is some room h moment =
-    tick_step l past now key gone (ap (expired l past) (sym moment) ∙ sym is) room
-    ∙ ap (λ x. record {
-      reply = Ticked (x + 1);
-      past = entry.Tick (max now (latest past)) ∷ past;
-    }) (sym h)
-    ∙ ap (λ x. record { reply = Ticked (n + 1); past = entry.Tick x ∷ past }) (sym moment)
+tick_turned l past now m n (key ∷ gone) is some room h moment = grind (arith, tick_step)
 
 pub tick_quiet : (l : Limits) (past : List Entry) (now m : ℕ) → expired l past m ≡ []
     → m ≡ max now (latest past)

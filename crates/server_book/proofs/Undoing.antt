@@ -1,5 +1,5 @@
 -- A Run that memory broke off is taken back.
-use Rattle.std.proofs.Common.{◌≡◌, ◌≤◌, ℕ, List, [], ◌∷◌, ◌++◌, length, sym, ap, subst, ◌∙◌}
+use Rattle.std.proofs.Common.{◌≡◌, ◌≤◌, ℕ, List, [], ◌∷◌, ◌++◌, length, ap, ◌∙◌}
 use Rattle.std.proofs.Common.{◌-◌, refl, arith, length-set}
 use Rattle.track_table.specs.declared.table.Held.{Held}
 use Rattle.serial_model.specs.declared.history.Post.{Post}
@@ -22,12 +22,8 @@ use Rattle.server_book.proofs.Sendings.{posted_sendings, unqueued_queued}
 -- the table is one of connections that are there, where keys leave it
 pub held_left : (limit : ℕ) (keys : List (List ℕ)) (rows : List Held) (cs ds : List Connection)
     → length cs ≤ length ds → IsHeld limit rows cs → IsHeld limit (without_keys keys rows) ds
-held_left limit keys rows cs ds le h = record {
-  table = without_keys_table keys rows h.table;
-  short = omega (arith, h.short, without_keys_within keys rows);
-  there = there_longer cs ds (without_keys keys rows) le
-      (without_keys_all (IsId cs) keys rows h.there);
-}
+held_left limit keys rows cs ds le h =
+    grind (arith, without_keys_table, without_keys_within, there_longer, without_keys_all)
 
 -- the holders of the keys that left were told
 module _ (n id : ℕ) (old now : ConnectionsState) (keys : List (List ℕ)) (rows : List Held)
@@ -70,11 +66,8 @@ module _ (n id : ℕ) (old now : ConnectionsState) (keys : List (List ℕ)) (row
 
     posted : ArePosted replied (now.posts ++ post ∷ [])
     posted =
-        posted_longer now.items replied (now.posts ++ post ∷ []) (omega (arith, length_replied))
-        (posted_more now.items now.posts post
-        (subst (λ (s : ConnectionsState). ArePosted s.items s.posts) (sym told)
-        (posted_sendings n sent old (group_to old.items keys rows there apart)
-        (subst (ArePosted old.items) (sym none) tt))) on_told)
+        grind (arith, posted_longer, length_replied, posted_more, posted_sendings, group_to,
+        on_told)
 
     pub replied_back : with_mode id (modes_of old.items id)
         (before_posts (now.posts ++ post ∷ []) (with_mode id mode replied)) ≡ old.items

@@ -160,18 +160,7 @@ module _ (heard said : List ℕ) where
 
   finished_account : (read : List ℕ) (s : Session) → Account heard said read s
       → Account heard said read (with_link s (with_down s.link (finished s.link.down)))
-  finished_account read s a = record {
-    bytes = record {
-      up_lost = a.bytes.up_lost;
-      all_said = a.bytes.all_said;
-      none_up = a.bytes.none_up;
-      down_lost = a.bytes.down_lost;
-      all_taken = a.bytes.all_taken;
-      none_down = λ h. absurd (not_open s.link.down.eof h);
-    };
-    runs = a.runs;
-    reading = a.reading;
-  }
+  finished_account read s a = grind arith
 
   send_all_keeps : (s : Session)
       → Keeps (Account heard said) (Account heard said) (Part said) s (send_all s)

@@ -14,10 +14,9 @@ use Rattle.serial_model.specs.declared.history.BookCall.TheVariants as call
 use Rattle.serial_model.specs.declared.history.BookReply.{BookReply}
 use Rattle.serial_model.specs.declared.history.BookReply.TheVariants.{Admitted, Quiet}
 use Rattle.serial_model.specs.declared.history.BookReply.TheVariants.{Bytes}
-use Rattle.serial_model.specs.History.{admitted, runs_on, reads_on, gives_on, stream, taken, unsent}
+use Rattle.serial_model.specs.History.{admitted, gives_on, stream, taken, unsent}
 use Rattle.serial_model.specs.History.{IsLegal}
 use Rattle.serial_model.specs.Steps.{Turn, book_step, gone, full, running, taking, closing}
-use Rattle.serial_model.specs.Steps.{unless_full}
 use Rattle.serial_model.specs.Laws.{Extends}
 use Rattle.serial_model.proofs.Others.{by_limit, extends_none, extends_more, others_extend}
 use Rattle.serial_model.proofs.Streams.{not_ended, unsent_live}
@@ -122,22 +121,12 @@ pub by_run : (l : Limits) (past : List Entry) (id now : ℕ) (words : List (List
     → P (gone past id) → P (full past) → P (running past id words now)
     → P (book_step l past (call.Run id words now))
 unfolding book_step
-by_run l past id now words P g f r =
-    elim (runs_on l past id) as (λ b. P (cond b (unless_full l past (running past id words now))
-    (gone past id))) [
-      | true ↦ by_limit l past (running past id words now) P f r
-      | false ↦ g
-    ]
+by_run l past id now words P g f r = grind arith
 
 pub by_close : (l : Limits) (past : List Entry) (id : ℕ) (P : Turn → Type 0) → P (gone past id)
     → P (closing past id) → P (book_step l past (call.Close id))
 unfolding book_step
-by_close l past id P g c =
-    elim (reads_on l past id) as (λ b. P (cond b (closing past id) (gone past id))) [
-      | true ↦
-          c
-      | false ↦ g
-    ]
+by_close l past id P g c = grind arith
 
 unfoldable pub took : List Entry → ℕ → ℕ → List ℕ → Turn
 took past id most bytes =

@@ -1,6 +1,6 @@
 -- A link that flows has nothing in flight then, and nothing left to send.
 use Rattle.std.proofs.Common.{◌≡◌, ◌+◌, ◌<◌, ◌≤◌, ℕ, List, [], ◌∷◌, Bool, true, false, cond}
-use Rattle.std.proofs.Common.{Some, None, Option, length, take, drop, length-take, refl, sym, ap}
+use Rattle.std.proofs.Common.{Some, None, Option, length, take, length-take, refl, sym, ap}
 use Rattle.std.proofs.Common.{subst, ◌∙◌, arith, eq-eqb}
 use Rattle.std.specs.Prelude.{◌&&◌, not, nat_lt, nat_le, slice_set}
 use Rattle.std.proofs.lemmas.List.{drop_all, length-drop, get_or-set_same}
@@ -23,7 +23,7 @@ use Rattle.server_links.specs.Moves.{rest_read, run_requests, run_fed, stopped_a
 use Rattle.server_links.specs.Moves.{feed, serve_all, take_down, all_bytes, send_all, receive_all}
 use Rattle.server_links.specs.Moves.{flow, read_bytes, read_eof}
 use Rattle.server_links.specs.OneHistory.{FlowDelivers}
-use Rattle.server_links.specs.Outcome.{Outcome, and_then, does, stays, within, then_by}
+use Rattle.server_links.specs.Outcome.{Outcome, and_then, does, stays, within}
 use Rattle.server_links.specs.Session.{Session, session_at, with_link, with_down}
 use Rattle.server_links.proofs.Moving.{every_serve_all, every_flow}
 use Rattle.server_links.proofs.AccountRuns.{both}
@@ -37,11 +37,7 @@ Ends Q m = m.fault ≡ None → Q m.state
 ends_then : (P Q : Session → Type 0) (m : Outcome Session) (next : Session → Outcome Session)
     → Ends P m → ((t : Session) → P t → Ends Q (next t)) → Ends Q (and_then m next)
 unfolding and_then Ends
-ends_then P Q m next h g = elim m.fault as (λ v. m.fault ≡ v
-    → (then_by v m (next m.state)).fault ≡ None → Q (then_by v m (next m.state)).state) [
-      | Some f ↦ λ is e. absurd (let no : Some f ≡ None = sym is ∙ e in cc)
-      | None ↦ λ is e. g m.state (h is) e
-    ] refl
+ends_then P Q m next h g = grind arith
 
 -- nothing is in flight to the server, and the way back is open
 Heard : Session → Type 0
@@ -141,16 +137,12 @@ given_take s none on =
     (λ u g e. g)
 
 shut : (a b : Bool) → a ≡ true → (a && not b) ≡ false → b ≡ true
-shut true true h e = refl
-shut true false h e = absurd (let no : ⊥ = cc in no)
-shut false b h e = absurd (let no : ⊥ = cc in no)
+shut a b h e = grind arith
 
 ended_given : (l : Limits) (past : List Entry) (id : ℕ) → is_admitted past id ≡ true
     → gives_on l past id ≡ false → unsent l id past ≡ []
 unfolding unsent
-ended_given l past id on off =
-    ap (λ b. cond b [] (drop (taken l id past) (stream l id past)))
-    (shut (is_admitted past id) (has_ended l id past) on off)
+ended_given l past id on off = grind arith
 
 given_send : (s : Session) → Heard s → is_admitted s.past s.link.id ≡ true → Ends Given (send_all s)
 unfolding Heard Ends Given

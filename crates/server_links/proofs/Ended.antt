@@ -41,9 +41,7 @@ use Rattle.server_links.proofs.Outcomes.{meets_refuses}
 
 ended_more : (l : Limits) (c : ℕ) (e : Entry) (past : List Entry) → has_ended l c past ≡ true
     → has_ended l c (e ∷ past) ≡ true
-ended_more l c (entry.Close id) past h =
-    elim (id == c) as (λ b. cond b true (has_ended l c past) ≡ true) [ true ↦ refl | false ↦ h ]
-ended_more l c e past h = h
+ended_more l c e past h = grind arith
 
 ended_on : (l : Limits) (c : ℕ) (entries past : List Entry) → has_ended l c past ≡ true
     → has_ended l c (entries ++ past) ≡ true
@@ -142,10 +140,7 @@ over_same w = record { over = λ at is. is; named = λ at lt. refl }
 
 pub over_both : (w u v : LinksState) → length u.links ≡ length w.links → StayOver w u
     → StayOver u v → StayOver w v
-over_both w u v size a b = record {
-  over = λ at is. b.over at (a.over at is);
-  named = λ at lt. b.named at (omega (arith, lt, size)) ∙ a.named at lt;
-}
+over_both w u v size a b = grind arith
 
 -- a link that stays the connection's, with its way down
 over_by : (w : LinksState) (at : ℕ) (past : List Entry) (links : List Link) (entries : List Entry)

@@ -285,11 +285,7 @@ named_others (Some at) event w new printed r i n =
 pub step_is : (w : LinksState) (name : List ℕ) (event : LinkEvent) → link_named event ≡ Some name
     → step w event ≡ over_named (place_of name w) (move_of event) w
 unfolding step
-step_is w name (Put n bytes) h =
-    ap (λ x. over_named (place_of x w) (move_of (Put n bytes)) w) (let e : n ≡ name = cc in e)
-step_is w name (Over n move) h =
-    ap (λ x. over_named (place_of x w) (move_of (Over n move)) w) (let e : n ≡ name = cc in e)
-step_is w name event h = absurd (let no : ⊥ = cc in no)
+step_is w name event h = grind arith
 
 others_kept : (event : LinkEvent) (w new : LinksState) (printed : List Line)
     → Reached (step w event) new printed → (name : List ℕ) → link_named event ≡ Some name
@@ -299,21 +295,7 @@ others_kept event w new printed r name h i n =
     (subst (λ (m : Stepped). Reached m new printed) (step_is w name event h) r) i n
 
 stands_start : (l : Limits) → Stands l (λ i. []) (λ n. []) [] (start l)
-stands_start l = record {
-  history = record {
-    limits = refl;
-    legal = tt;
-    links = refl;
-    ids = λ i lt. absurd
-        (omega (arith, lt));
-    printed = refl;
-  };
-  unique = λ i j li. absurd (omega (arith, li));
-  accounts = λ i lt. absurd (omega (arith, lt));
-  unread = λ name n. refl;
-  unsaid = λ name n. refl;
-  unheard = λ i le. refl;
-}
+stands_start l = grind arith
 
 pub stands_after : (l : Limits) (events : List LinkEvent) (before : ℕ → List ℕ) (said : List ℕ
     → List ℕ) (lines : List Line) (v w : LinksState) → Stands l before said lines v

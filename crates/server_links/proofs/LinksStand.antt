@@ -6,16 +6,16 @@ use Rattle.std.proofs.Common.{None, length, take, filter, slice_index_or, refl, 
 use Rattle.std.proofs.Common.{subst, ◌∙◌}
 use Rattle.std.proofs.Common.{arith, append-nil, length-append, length-set, inl, inr, eq-eqb}
 use Rattle.std.proofs.Common.{ne_eqb}
-use Rattle.std.specs.Prelude.{◌==◌, ◌&&◌, not, nat_lt, nat_le}
+use Rattle.std.specs.Prelude.{◌==◌, ◌&&◌, not}
 use Rattle.std.specs.Str.{bytes_eq}
-use Rattle.std.proofs.lemmas.Bool.{eqb-true, cases_lt}
+use Rattle.std.proofs.lemmas.Bool.{cases_lt}
 use Rattle.std.proofs.lemmas.Slice.Eq.{bytes_eq-Decides}
 use Rattle.std.proofs.lemmas.Bool.Decides.{nat_tests}
 use Rattle.std.proofs.lemmas.List.{get_or-set_same, get_or-set_other, get_or_push}
 use Rattle.std.proofs.lemmas.List.{get_or_append_left, take-append-le}
 use Rattle.serial_model.specs.declared.history.Limits.{Limits}
 use Rattle.serial_model.specs.declared.history.Entry.{Entry}
-use Rattle.serial_model.specs.History.{admitted, is_admitted, is_full, has_ended, reads_on, stream}
+use Rattle.serial_model.specs.History.{admitted, is_admitted, is_full, reads_on, stream}
 use Rattle.serial_model.specs.History.{taken, runs_of, IsLegal}
 use Rattle.serial_model.specs.Laws.{Extends}
 use Rattle.serial_model.proofs.Streams.{taken_le}
@@ -80,28 +80,12 @@ pub stands_same : (l : Limits) (heard heard' : ℕ → List ℕ) (said said' : L
     → List ℕ) (lines : List Line) (w : LinksState)
     → ((i : ℕ) → heard i ≡ heard' i) → ((name : List ℕ) → said name ≡ said' name)
     → Stands l heard said lines w → Stands l heard' said' lines w
-stands_same l heard heard' said said' lines w h d s = record {
-  history = s.history;
-  unique = s.unique;
-  accounts = λ i lt.
-      let name = (at_place w.links i).name in
-      subst (λ x. Account x (said' name) (read_on name lines) (session_at i w)) (h i)
-      (subst (λ x. Account (heard i) x (read_on name lines) (session_at i w)) (d name)
-      (s.accounts i lt));
-  unread = s.unread;
-  unsaid = λ name none. sym (d name) ∙ s.unsaid name none;
-  unheard = λ i le. sym (h i) ∙ s.unheard i le;
-}
+stands_same l heard heard' said said' lines w h d s = grind arith
 
 pub parts_same : (l : Limits) (said said' : List ℕ → List ℕ) (lines : List Line) (w : LinksState)
     → ((i : ℕ) → i < length w.links → said (at_place w.links i).name
     ≡ said' (at_place w.links i).name) → PartStands l said lines w → PartStands l said' lines w
-parts_same l said said' lines w d s = record {
-  history = s.history;
-  parts = λ i lt. subst (λ x. Part x (read_on (at_place w.links i).name lines) (session_at i w))
-      (d i lt) (s.parts i lt);
-  unread = s.unread;
-}
+parts_same l said said' lines w d s = grind arith
 
 -- ---- another connection's turn
 
@@ -112,21 +96,12 @@ gave_other l c past new e =
     ap (λ n. take n (stream l c new)) e.taken_is ∙ ap (take (taken l c past)) (sym e.stream_grew.1)
     ∙ take-append-le (taken l c past) (stream l c past) e.stream_grew.0 (taken_le l past c)
 
-both_hold : (a b : Bool) → (a && not b) ≡ true → b ≡ true → ⊥
-both_hold true true h e = cc
-both_hold true false h e = cc
-both_hold false b h e = cc
-
 live : (a b : Bool) → a ≡ true → (b ≡ true → ⊥) → (a && not b) ≡ true
-live a true h n = absurd (n refl)
-live true false h n = refl
-live false false h n = absurd (let no : ⊥ = cc in no)
+live a b h n = grind arith
 
 reads_before : (l : Limits) (c : ℕ) (past new : List Entry) → is_admitted past c ≡ true
     → Extends l c past new → reads_on l new c ≡ true → reads_on l past c ≡ true
-reads_before l c past new on e h =
-    live (is_admitted past c) (has_ended l c past) on
-    (λ ended. both_hold (is_admitted new c) (has_ended l c new) h (e.stays_ended ended))
+reads_before l c past new on e h = grind arith
 
 pub other_account : (heard said read : List ℕ) (s : Session) (past : List Entry)
     → is_admitted s.past s.link.id ≡ true → Extends s.limits s.link.id s.past past
@@ -184,10 +159,7 @@ module _ (l : Limits) (heard : ℕ → List ℕ) (said : List ℕ
     theirs i n = get_or-set_other w.links at i t.link (fresh_link 0 []) (λ e. n (sym e))
 
     either : (P : ℕ → Type 0) (i : ℕ) → P at → ((at ≡ i → ⊥) → P i) → P i
-    either P i is other = elim (at == i) as (λ b. (at == i) ≡ b → P i) [
-      | true ↦ λ e. subst P (eqb-true at i e) is
-      | false ↦ λ e. other (λ q. let t : (at == i) ≡ true = eq-eqb at i q in cc)
-    ] refl
+    either P i is other = grind arith
 
     mine_link : at_place moved.links at ≡ t.link
     mine_link = ap (λ (x : Session). x.link) mine
@@ -484,10 +456,7 @@ module _ (l : Limits) (heard : ℕ → List ℕ) (said : List ℕ
   still_there : (c : ℕ) → 0 < c → c ≤ admitted w.past
       → reads_on w.limits (entry.Admit (admitted w.past + 1) ∷ w.past) c
       ≡ reads_on w.limits w.past c
-  still_there c more le =
-      let a : nat_le c (admitted w.past + 1) ≡ true = grind (arith, nat_tests) in
-      let b : nat_le c (admitted w.past) ≡ true = grind (arith, nat_tests) in
-      ap (λ v. (nat_lt 0 c && v) && not (has_ended w.limits c w.past)) (a ∙ sym b)
+  still_there c more le = grind arith
 
   made_history : History l (lines ++ made_lines) made
   made_history =

@@ -1,9 +1,9 @@
 -- What the calls of the code give, as outcomes.
-use Rattle.std.proofs.Common.{◌≡◌, ◌+◌, ◌<◌, ℕ, List, [], ◌∷◌, ◌++◌, Bool, true, false, cond, Some}
+use Rattle.std.proofs.Common.{◌≡◌, ◌+◌, ◌<◌, ℕ, List, [], ◌∷◌, ◌++◌, Bool, true, false, Some}
 use Rattle.std.proofs.Common.{None, Option}
 use Rattle.std.proofs.Common.{Result, Ok, Err, length, take, min, refl, sym, ap, subst, ◌∙◌, arith}
 use Rattle.std.proofs.Common.{inl, append-nil, length-take}
-use Rattle.std.specs.Prelude.{◌&&◌, nat_le}
+use Rattle.std.specs.Prelude.{nat_le}
 use Rattle.serial_model.specs.declared.history.Limits.{Limits}
 use Rattle.serial_model.specs.declared.history.Entry.{Entry}
 use Rattle.serial_model.specs.declared.history.BookCall.{BookCall}
@@ -12,17 +12,15 @@ use Rattle.serial_model.specs.declared.history.BookReply.{BookReply}
 use Rattle.serial_model.specs.declared.history.BookReply.TheVariants.{Quiet}
 use Rattle.serial_model.specs.declared.history.BookReply.TheVariants.{Bytes}
 use Rattle.serial_model.specs.History.{runs_on, reads_on, gives_on, is_full, unsent}
-use Rattle.serial_model.specs.Steps.{Turn, book_step, gone, full, taking}
+use Rattle.serial_model.specs.Steps.{Turn, book_step, taking}
 use Rattle.serial_model.proofs.Turning.{run_step, run_full, close_step}
 use Rattle.script_text.specs.declared.line.Line.{Line}
 use Rattle.script_text.specs.declared.line.Line.TheVariants as line
 use Rattle.server_links.specs.declared.fault.WorldFault.{WorldFault}
-use Rattle.server_links.specs.declared.fault.WorldFault.TheVariants.{NothingThere}
 use Rattle.server_links.specs.declared.fault.WorldFault.TheVariants.{NoMemory, HistoryFull}
 use Rattle.server_links.specs.declared.link.Link.{Link}
 use Rattle.server_links.specs.ServerState.{ServerState}
 use Rattle.server_links.specs.EntryLines.{reply_fault, reply_lines}
-use Rattle.serial_model.specs.declared.history.Entry.TheVariants as entry
 use Rattle.server_links.specs.declared.direction.Direction.{Direction}
 use Rattle.server_links.specs.declared.direction.Eof.{Eof}
 use Rattle.server_links.specs.declared.direction.Eof.TheVariants as eof
@@ -34,16 +32,14 @@ use Rattle.server_links.specs.Moves.{serve, serve_all}
 use Rattle.resp_stream.specs.declared.fault.FaultPlace.{FaultPlace}
 use Rattle.server_links.proofs.Outcomes.{Ends, after_ends, after_stops, gives_then, stops_first}
 use Rattle.server_links.proofs.Outcomes.{stops_here}
-use Rattle.server_links.specs.Outcome.{Outcome, Stops, Gives, and_then, does, refuses, stays}
+use Rattle.server_links.specs.Outcome.{Outcome, Stops, Gives, and_then, does, stays}
 use Rattle.server_links.specs.Session.{Session, session, with_past, with_link, with_down}
 use Rattle.server_links.specs.Turns.{TurnGives}
 
 -- a turn changes the history of a server, and no more
 pub server_turned : (old new : ServerState) (link : Link) → new.book.limits ≡ old.book.limits
     → new.clock ≡ old.clock → session new link ≡ with_past (session old link) new.book.past
-server_turned old new link l c =
-    ap (λ (x : Limits). record { limits = x; now = new.clock; past = new.book.past; link = link }) l
-    ∙ ap (λ x. record { limits = old.book.limits; now = x; past = new.book.past; link = link }) c
+server_turned old new link l c = grind arith
 
 module _ (s : Session) (c : BookCall) (words : List (List ℕ)) (past : List Entry) (x : Line)
     (lines lines' : List Line) where
@@ -51,12 +47,7 @@ module _ (s : Session) (c : BookCall) (words : List (List ℕ)) (past : List Ent
       → reply_lines s.link.name words reply ≡ x ∷ []
       → Ends (turn c words s) lines (with_past s past) lines'
   unfolding turn
-  turn_gives reply g is = (
-    ap (λ (t : Turn). reply_fault t.reply) g.0 ∙ g.1,
-    ap (λ (t : Turn). with_past s t.past) (sym g.0),
-    g.2 ∙ ap (λ l. lines ++ l) (sym is
-        ∙ ap (λ (t : Turn). reply_lines s.link.name words t.reply) (sym g.0)),
-  )
+  turn_gives reply g is = grind arith
 
   pub turn_stops : (fault : WorldFault)
       → TurnGives s.limits s.past c x lines (Err fault) past lines'
@@ -112,9 +103,7 @@ take_is : (s : Session) (most : ℕ) → gives_on s.limits s.past s.link.id ≡ 
     → book_step s.limits s.past (call.Take s.link.id most)
     ≡ taking s.limits s.past s.link.id most (take most (unsent s.limits s.link.id s.past))
 unfolding book_step
-take_is s most on =
-    ap (λ v. cond v (taking s.limits s.past s.link.id most
-    (take most (unsent s.limits s.link.id s.past))) (gone s.past s.link.id)) on
+take_is s most on = grind arith
 
 module _ (most : ℕ) (s : Session) (lines : List Line) where
   -- there is nothing to take
@@ -208,14 +197,7 @@ only_given entry bytes reply is gave = is
 taking_given : (l : Limits) (past : List Entry) (id most : ℕ) (bytes : List ℕ) → 0 < length bytes
     → reply_fault (taking l past id most bytes).reply ≡ None
     → IsGiven (length past + 1) bytes (taking l past id most bytes).reply
-taking_given l past id most [] some = λ met. absurd (let no : ⊥ = omega (arith, some) in no)
-taking_given l past id most (b ∷ bytes) some =
-    elim (is_full l past) as (λ v. let t : Turn = cond v (full past)
-    (record { reply = Bytes (length past + 1) (b ∷ bytes); past = entry.Take id most ∷ past }) in
-    reply_fault t.reply ≡ None → IsGiven (length past + 1) (b ∷ bytes) t.reply) [
-      | true ↦ λ met. absurd (let no : ⊥ = cc in no)
-      | false ↦ λ met. (refl, refl)
-    ]
+taking_given l past id most bytes some = grind arith
 
 pub take_given : (s : Session) (most : ℕ) (past : List Entry) (reply : BookReply)
     → gives_on s.limits s.past s.link.id ≡ true
@@ -233,10 +215,7 @@ take_given s most past reply on some is met =
 pub given_line : (entry count : ℕ) (bytes name : List ℕ) (reply : BookReply)
     → IsGiven entry bytes reply → length bytes ≡ count
     → reply_lines name [] reply ≡ line.Take entry name count ∷ []
-given_line entry count bytes name (Bytes e given) is size =
-    ap (λ n. line.Take n name (length given) ∷ []) is.0
-    ∙ ap (λ n. line.Take entry name n ∷ []) (ap length is.1 ∙ size)
-given_line entry count bytes name reply is size = absurd is
+given_line entry count bytes name reply is size = grind arith
 
 -- ---- the client's end reads
 
@@ -321,27 +300,17 @@ fed_gives piece up s s1 next lines r t lines1 is g =
 
 pub serve_off : (s : Session) → reads_on s.limits s.past s.link.id ≡ false → serve_all s ≡ stays s
 unfolding serve_all
-serve_off s off =
-    ap (λ b. cond b (and_then (feed s.link.up.bytes (past_eof (without_bytes s.link.up)) s)
-    (run_fed (is_queued s.link.up.eof))) (stays s)) off
+serve_off s off = grind arith
 
 pub serve_on : (s : Session) → reads_on s.limits s.past s.link.id ≡ true
     → serve_all s
     ≡ and_then (feed s.link.up.bytes (past_eof (without_bytes s.link.up)) s)
     (run_fed (is_queued s.link.up.eof))
 unfolding serve_all
-serve_on s on =
-    ap (λ b. cond b (and_then (feed s.link.up.bytes (past_eof (without_bytes s.link.up)) s)
-    (run_fed (is_queued s.link.up.eof))) (stays s)) on
+serve_on s on = grind arith
 
 pub serve_some : (count : Option ℕ) (n : ℕ) (s : Session) → count ≡ Some n
     → reads_on s.limits s.past s.link.id ≡ true → nat_le n (length s.link.up.bytes) ≡ true
     → serve count s
     ≡ and_then (feed (take n s.link.up.bytes) (without n s.link.up) s) (run_fed false)
-serve_some count n s is on le =
-    ap (λ x. serve x s) is
-    ∙ ap (λ b. cond (b && nat_le n (length s.link.up.bytes))
-    (and_then (feed (take n s.link.up.bytes) (without n s.link.up) s) (run_fed false))
-    (refuses s NothingThere)) on
-    ∙ ap (λ b. cond b (and_then (feed (take n s.link.up.bytes) (without n s.link.up) s)
-    (run_fed false)) (refuses s NothingThere)) le
+serve_some count n s is on le = grind arith

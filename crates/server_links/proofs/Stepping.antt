@@ -182,14 +182,7 @@ module _ (server : ServerState) (links : List Link) (name : List ℕ) (lines : L
             links =
                 ls;
           }
-      same_world ls =
-          ap (λ l. record { limits = l; now = new.clock; past = new.book.past; links = ls }) limits
-          ∙ ap (λ n. record {
-            limits = server.book.limits;
-            now = n;
-            past = new.book.past;
-            links = ls;
-          }) clock
+      same_world ls = grind arith
 
       raw_fault : (fault : WorldFault)
           → TurnGives server.book.limits server.book.past call.Admit x lines (Err fault)

@@ -1,7 +1,7 @@
 -- What each reply to a client's turn says of its entry.
 use Rattle.std.proofs.Common.{◌≡◌, ◌+◌, ℕ, List, [], ◌∷◌, length, Bool, true, false, cond}
 use Rattle.std.proofs.Common.{refl, sym, ap, subst, arith, Some, None, inl, inr}
-use Rattle.std.specs.Prelude.{Option, ◌⊎◌, not}
+use Rattle.std.specs.Prelude.{Option, ◌⊎◌, ⊤, not}
 use Rattle.turn_lock.specs.History.{past_after}
 use Rattle.resp_value.specs.declared.value.Value.{Value}
 use Rattle.shared_cache.specs.declared.log.Wire.{Wire}
@@ -37,58 +37,57 @@ use Rattle.shared_cache.specs.Steps.{is_welcome}
 use Rattle.shared_client.specs.Setups.{made_with, TurnStep}
 use Rattle.shared_client.specs.Turns.{Allows}
 
--- a refusal that leaves the log as it was; none is want of a ticket
-abbrev pub Keeps : ClientCall → ClientRefusal → List LogEntry → List LogEntry → Type 0
-Keeps call Worn log new = ⊥
-Keeps call r log new = Allows call r × (new ≡ log)
+-- the replies that a call may get, but for which refusals
+abbrev pub comes : ClientCall → ClientReply → Bool
+comes (Ask q) (Hit v n) = true
+comes (Ask q) (Sent n) = true
+comes (Send ws) (Sent n) = true
+comes (Poll n) (Answer v) = true
+comes (Poll n) NotYet = true
+comes (TakeOut w most) (Bytes b) = true
+comes (TakeOut w most) Quiet = true
+comes (Got w v) Noted = true
+comes (End w) Noted = true
+comes (End w) (Refused r) = false
+comes call (Refused r) = true
+comes call r = false
 
-abbrev pub GotKeeps : ClientRefusal → Wire → Value → List LogEntry → List LogEntry → Type 0
-GotKeeps (Unexpected u) w v log new = new ≡ entry.Bad w v ∷ log
-GotKeeps (BadPush u) w v log new = new ≡ entry.Bad w v ∷ log
-GotKeeps (SetupRefused u) w v log new = new ≡ entry.Bad w v ∷ log
-GotKeeps Worn w v log new = ⊥
-GotKeeps r w v log new = Allows (Got w v) r × (new ≡ log)
+abbrev IsWorn : ClientRefusal → Type 0
+IsWorn Worn = ⊤
+IsWorn r = ⊥
 
--- the log after a call's reply
-abbrev pub AskSays : List (List ℕ) → List LogEntry → ClientReply → List LogEntry → Type 0
-AskSays q log (Hit v n) new = new ≡ entry.Ask q ∷ log
-AskSays q log (Sent n) new = new ≡ entry.Ask q ∷ log
-AskSays q log (Refused r) new = Keeps (Ask q) r log new
-AskSays q log r new = ⊥
+abbrev pub is_no_memory : ClientReply → Bool
+is_no_memory (Refused NoMemory) = true
+is_no_memory r = false
 
-abbrev pub SendSays : List (List ℕ) → List LogEntry → ClientReply → List LogEntry → Type 0
-SendSays ws log (Sent n) new = new ≡ entry.Send ws ∷ log
-SendSays ws log (Refused r) new = Keeps (Send ws) r log new
-SendSays ws log r new = ⊥
+-- a refusal is one that the call may meet, and not want of a ticket
+abbrev pub Meets : ClientCall → ClientReply → Type 0
+Meets call (Refused r) = Allows call r × (IsWorn r → ⊥)
+Meets call r = ⊤
 
-abbrev pub PollSays : ℕ → List LogEntry → ClientReply → List LogEntry → Type 0
-PollSays n log (Answer v) new = new ≡ entry.Poll n ∷ log
-PollSays n log NotYet new = new ≡ log
-PollSays n log (Refused r) new = Keeps (Poll n) r log new
-PollSays n log r new = ⊥
+-- the entry that a call adds which is answered so, if it adds one
+abbrev pub entry_by : ClientCall → ClientReply → Option LogEntry
+entry_by (Ask q) (Hit v n) = Some (entry.Ask q)
+entry_by (Ask q) (Sent n) = Some (entry.Ask q)
+entry_by (Send ws) (Sent n) = Some (entry.Send ws)
+entry_by (Poll n) (Answer v) = Some (entry.Poll n)
+entry_by (TakeOut w most) (Bytes b) = Some (entry.TakeOut w most)
+entry_by (Got w v) Noted = Some (entry.Got w v)
+entry_by (Got w v) (Refused (Unexpected u)) = Some (entry.Bad w v)
+entry_by (Got w v) (Refused (BadPush u)) = Some (entry.Bad w v)
+entry_by (Got w v) (Refused (SetupRefused u)) = Some (entry.Bad w v)
+entry_by call r = None
 
-abbrev pub TakeSays : Wire → ℕ → List LogEntry → ClientReply → List LogEntry → Type 0
-TakeSays w most log (Bytes b) new = new ≡ entry.TakeOut w most ∷ log
-TakeSays w most log Quiet new = new ≡ log
-TakeSays w most log (Refused r) new = Keeps (TakeOut w most) r log new
-TakeSays w most log r new = ⊥
+-- an End adds none where the link has ended
+abbrev pub Adding : ClientCall → ClientReply → Option LogEntry → Type 0
+Adding (End w) r e = (e ≡ Some (entry.End w)) ⊎ (e ≡ None)
+Adding call r e = e ≡ entry_by call r
 
-abbrev pub GotSays : Wire → Value → List LogEntry → ClientReply → List LogEntry → Type 0
-GotSays w v log Noted new = new ≡ entry.Got w v ∷ log
-GotSays w v log (Refused r) new = GotKeeps r w v log new
-GotSays w v log r new = ⊥
-
-abbrev pub EndSays : Wire → List LogEntry → ClientReply → List LogEntry → Type 0
-EndSays w log Noted new = (new ≡ entry.End w ∷ log) ⊎ (new ≡ log)
-EndSays w log r new = ⊥
-
-unfoldable pub Says : ClientCall → List LogEntry → ClientReply → List LogEntry → Type 0
-Says (Ask q) log r new = AskSays q log r new
-Says (Send ws) log r new = SendSays ws log r new
-Says (Poll n) log r new = PollSays n log r new
-Says (TakeOut w most) log r new = TakeSays w most log r new
-Says (Got w v) log r new = GotSays w v log r new
-Says (End w) log r new = EndSays w log r new
+-- a call's reply, and the log after it
+abbrev pub Says : ClientCall → List LogEntry → ClientReply → List LogEntry → Type 0
+Says call log r new =
+    (comes call r ≡ true) × Meets call r × (e : Option LogEntry) × Adding call r e
+    × (new ≡ past_after log e)
 
 -- by the case of a test, which is known in each
 by_test : {X : Type 0} (P : X → Type 0) (b : Bool) (x y : X) → (b ≡ true → P x)
@@ -119,31 +118,35 @@ judged_fault m w replied sent v Other = tt
 judged_fault m w replied sent v Malformed = tt
 
 module _ (s : Setup) (log : List LogEntry) where
-  answer_says : (q : List (List ℕ)) (o : Option CacheEntry) (n : ℕ)
-      → AskSays q log (answer_ask o n) (entry.Ask q ∷ log)
-  answer_says q None n = refl
-  answer_says q (Some h) n = refl
+  abbrev TurnSays : ClientCall → ClientTurn → Type 0
+  TurnSays call t = Says call log t.reply t.past
 
-  poll_says : (n : ℕ) (o : Option Value) (over : Bool)
-      → PollSays n log (polling o n over log).reply (polling o n over log).past
-  poll_says n (Some v) over = refl
-  poll_says n None true = (tt, refl)
-  poll_says n None false = refl
+  ask_says : (q : List (List ℕ)) (o : Option CacheEntry) (n : ℕ)
+      → Says (Ask q) log (answer_ask o n) (entry.Ask q ∷ log)
+  ask_says q None n = (refl, tt, Some (entry.Ask q), refl, refl)
+  ask_says q (Some h) n = (refl, tt, Some (entry.Ask q), refl, refl)
+
+  poll_says : (n : ℕ) (o : Option Value) (over : Bool) → TurnSays (Poll n) (polling o n over log)
+  poll_says n (Some v) over = (refl, tt, Some (entry.Poll n), refl, refl)
+  poll_says n None true = (refl, (tt, λ w. w), None, refl, refl)
+  poll_says n None false = (refl, tt, None, refl, refl)
 
   take_says : (w : Wire) (most : ℕ) (bytes : List ℕ) (full : Bool)
-      → TakeSays w most log (taking_out w most bytes full log).reply
-      (taking_out w most bytes full log).past
-  take_says w most [] full = refl
-  take_says w most (b ∷ bytes) true = (tt, refl)
-  take_says w most (b ∷ bytes) false = refl
+      → TurnSays (TakeOut w most) (taking_out w most bytes full log)
+  take_says w most [] full = (refl, tt, None, refl, refl)
+  take_says w most (b ∷ bytes) true = (refl, (tt, λ w. w), None, refl, refl)
+  take_says w most (b ∷ bytes) false = (refl, tt, Some (entry.TakeOut w most), refl, refl)
 
   got_says : (w : Wire) (v : Value) (o : Option ClientRefusal) (full : Bool) → IsFault o
-      → GotSays w v log (getting o w v full log).reply (getting o w v full log).past
-  got_says w v None true is = (tt, refl)
-  got_says w v None false is = refl
-  got_says w v (Some (Unexpected u)) full is = refl
-  got_says w v (Some (BadPush u)) full is = refl
-  got_says w v (Some (SetupRefused u)) full is = refl
+      → TurnSays (Got w v) (getting o w v full log)
+  got_says w v None true is = (refl, (tt, λ w. w), None, refl, refl)
+  got_says w v None false is = (refl, tt, Some (entry.Got w v), refl, refl)
+  got_says w v (Some (Unexpected u)) full is =
+      (refl, (tt, λ w. w), Some (entry.Bad w v), refl, refl)
+  got_says w v (Some (BadPush u)) full is =
+      (refl, (tt, λ w. w), Some (entry.Bad w v), refl, refl)
+  got_says w v (Some (SetupRefused u)) full is =
+      (refl, (tt, λ w. w), Some (entry.Bad w v), refl, refl)
   got_says w v (Some (Down u)) full is = absurd is
   got_says w v (Some NoMemory) full is = absurd is
   got_says w v (Some (LogFull n)) full is = absurd is
@@ -153,43 +156,46 @@ module _ (s : Setup) (log : List LogEntry) where
   got_says w v (Some Worn) full is = absurd is
 
   end_says : (w : Wire) (over : Bool)
-      → (cond over log (entry.End w ∷ log) ≡ entry.End w ∷ log)
-      ⊎ (cond over log (entry.End w ∷ log) ≡ log)
-  end_says w true = inr refl
-  end_says w false = inl refl
+      → Says (End w) log Noted (cond over log (entry.End w ∷ log))
+  end_says w true = (refl, tt, None, inr refl, refl)
+  end_says w false = (refl, tt, Some (entry.End w), inl refl, refl)
 
   faults : (w : Wire) (v : Value) → IsFault (fault_of s log w v)
   unfolding fault_of
   faults w v = judged_fault s.mode w (length (replies s.mode w log)) (numbers s log) v
       (notice_of s.mode w v)
 
-  step_says : (call : ClientCall) → Says call log (client_step s log call).reply
-      (client_step s log call).past
-  unfolding client_step Says
+  step_says : (call : ClientCall) → TurnSays call (client_step s log call)
+  unfolding client_step
   step_says (Ask q) =
-      let P : ClientTurn → Type 0 = λ t. AskSays q log t.reply t.past in
-      by_test P (is_ended s.mode Main log) (refusing (Down Main) log) _ (λ h. (tt, refl))
-      (λ h. by_test P (not (is_ready s.mode log)) (refusing NotReady log) _ (λ e. (tt, refl))
-      (λ e. by_test P (is_log_full s log) (refusing (LogFull (length log)) log) _ (λ f. (tt, refl))
-      (λ f. answer_says q (held_for q (held s log)) (read_number s log q))))
+      by_test (TurnSays (Ask q)) (is_ended s.mode Main log) (refusing (Down Main) log) _
+      (λ h. (refl, (tt, λ w. w), None, refl, refl))
+      (λ h. by_test (TurnSays (Ask q)) (not (is_ready s.mode log)) (refusing NotReady log) _
+      (λ e. (refl, (tt, λ w. w), None, refl, refl))
+      (λ e. by_test (TurnSays (Ask q)) (is_log_full s log) (refusing (LogFull (length log)) log) _
+      (λ f. (refl, (tt, λ w. w), None, refl, refl))
+      (λ f. ask_says q (held_for q (held s log)) (read_number s log q))))
   step_says (Send ws) =
-      let P : ClientTurn → Type 0 = λ t. SendSays ws log t.reply t.past in
-      by_test P (is_ended s.mode Main log) (refusing (Down Main) log) _ (λ h. (tt, refl))
-      (λ h. by_test P (not (is_ready s.mode log)) (refusing NotReady log) _ (λ e. (tt, refl))
-      (λ e. by_test P (is_control ws) (refusing Control log) _ (λ f. (tt, refl))
-      (λ f. by_test P (is_log_full s log) (refusing (LogFull (length log)) log) _ (λ g. (tt, refl))
-      (λ g. refl))))
+      by_test (TurnSays (Send ws)) (is_ended s.mode Main log) (refusing (Down Main) log) _
+      (λ h. (refl, (tt, λ w. w), None, refl, refl))
+      (λ h. by_test (TurnSays (Send ws)) (not (is_ready s.mode log)) (refusing NotReady log) _
+      (λ e. (refl, (tt, λ w. w), None, refl, refl))
+      (λ e. by_test (TurnSays (Send ws)) (is_control ws) (refusing Control log) _
+      (λ f. (refl, (tt, λ w. w), None, refl, refl))
+      (λ f. by_test (TurnSays (Send ws)) (is_log_full s log) (refusing (LogFull (length log)) log) _
+      (λ g. (refl, (tt, λ w. w), None, refl, refl))
+      (λ g. (refl, tt, Some (entry.Send ws), refl, refl)))))
   step_says (Poll n) =
-      by_test (λ (t : ClientTurn). PollSays n log t.reply t.past) (not (is_wanted s log n))
-      (refusing (NoNumber n) log) _ (λ h. (tt, refl))
+      by_test (TurnSays (Poll n)) (not (is_wanted s log n)) (refusing (NoNumber n) log) _
+      (λ h. (refl, (tt, λ w. w), None, refl, refl))
       (λ h. poll_says n (reply s.mode log n) (is_ended s.mode Main log))
   step_says (TakeOut w most) =
-      by_test (λ (t : ClientTurn). TakeSays w most log t.reply t.past) (is_ended s.mode w log)
-      (refusing (Down w) log) _ (λ h. (tt, refl))
+      by_test (TurnSays (TakeOut w most)) (is_ended s.mode w log) (refusing (Down w) log) _
+      (λ h. (refl, (tt, λ w. w), None, refl, refl))
       (λ h. take_says w most (untaken s w log) (is_log_full s log))
   step_says (Got w v) =
-      by_test (λ (t : ClientTurn). GotSays w v log t.reply t.past) (is_ended s.mode w log)
-      (refusing (Down w) log) _ (λ h. (tt, refl))
+      by_test (TurnSays (Got w v)) (is_ended s.mode w log) (refusing (Down w) log) _
+      (λ h. (refl, (tt, λ w. w), None, refl, refl))
       (λ h. got_says w v (fault_of s log w v) (is_log_full s log) (faults w v))
   step_says (End w) = end_says w (is_ended s.mode w log)
 
@@ -216,145 +222,56 @@ module _ (s : Setup) (log : List LogEntry) where
 
   -- a Poll and an End take no memory
   memory_says : (call : ClientCall) → MayRunOut s log call → Says call log (Refused NoMemory) log
-  unfolding client_step Says
-  memory_says (Ask q) m = (tt, refl)
-  memory_says (Send ws) m = (tt, refl)
+  unfolding client_step
+  memory_says (Ask q) m = (refl, (tt, λ w. w), None, refl, refl)
+  memory_says (Send ws) m = (refl, (tt, λ w. w), None, refl, refl)
   memory_says (Poll n) m =
       absurd (no_room_number n (not (is_wanted s log n))
       (polling (reply s.mode log n) n (is_ended s.mode Main log) log) m.0 m.1
       (no_room_poll n (reply s.mode log n) (is_ended s.mode Main log) m.0 m.1) m.2)
-  memory_says (TakeOut w most) m = (tt, refl)
-  memory_says (Got w v) m = (tt, refl)
-  memory_says (End w) m = no_room_end w (is_ended s.mode w log) m.0 m.1 m.2
+  memory_says (TakeOut w most) m = (refl, (tt, λ w. w), None, refl, refl)
+  memory_says (Got w v) m = (refl, (tt, λ w. w), None, refl, refl)
+  memory_says (End w) m = absurd (no_room_end w (is_ended s.mode w log) m.0 m.1 m.2)
+
+  abbrev At : (ClientReply → List LogEntry → Type 0) → ClientTurn → Type 0
+  At P t = P t.reply t.past
 
   -- what the step says, a turn says
   by_step : (P : ClientReply → List LogEntry → Type 0) (call : ClientCall)
       → P (client_step s log call).reply (client_step s log call).past
       → (MayRunOut s log call → P (Refused NoMemory) log)
       → (reply : ClientReply) (new : List LogEntry) → ClientStep s log call reply new → P reply new
-  by_step P call p m (Hit v n) new is = subst (λ (t : ClientTurn). P t.reply t.past) is p
-  by_step P call p m (Sent n) new is = subst (λ (t : ClientTurn). P t.reply t.past) is p
-  by_step P call p m NotYet new is = subst (λ (t : ClientTurn). P t.reply t.past) is p
-  by_step P call p m (Answer v) new is = subst (λ (t : ClientTurn). P t.reply t.past) is p
-  by_step P call p m (Bytes b) new is = subst (λ (t : ClientTurn). P t.reply t.past) is p
-  by_step P call p m Quiet new is = subst (λ (t : ClientTurn). P t.reply t.past) is p
-  by_step P call p m Noted new is = subst (λ (t : ClientTurn). P t.reply t.past) is p
-  by_step P call p m (Refused (Down w)) new is =
-      subst (λ (t : ClientTurn). P t.reply t.past) is p
-  by_step P call p m (Refused (Unexpected w)) new is =
-      subst (λ (t : ClientTurn). P t.reply t.past) is p
-  by_step P call p m (Refused (BadPush w)) new is =
-      subst (λ (t : ClientTurn). P t.reply t.past) is p
+  by_step P call p m (Hit v n) new is = subst (At P) is p
+  by_step P call p m (Sent n) new is = subst (At P) is p
+  by_step P call p m NotYet new is = subst (At P) is p
+  by_step P call p m (Answer v) new is = subst (At P) is p
+  by_step P call p m (Bytes b) new is = subst (At P) is p
+  by_step P call p m Quiet new is = subst (At P) is p
+  by_step P call p m Noted new is = subst (At P) is p
+  by_step P call p m (Refused (Down w)) new is = subst (At P) is p
+  by_step P call p m (Refused (Unexpected w)) new is = subst (At P) is p
+  by_step P call p m (Refused (BadPush w)) new is = subst (At P) is p
   by_step P call p m (Refused NoMemory) new is =
       subst (λ z. P (Refused NoMemory) z) (sym is.1) (m is.0)
-  by_step P call p m (Refused (LogFull n)) new is =
-      subst (λ (t : ClientTurn). P t.reply t.past) is p
-  by_step P call p m (Refused (SetupRefused w)) new is =
-      subst (λ (t : ClientTurn). P t.reply t.past) is p
-  by_step P call p m (Refused NotReady) new is =
-      subst (λ (t : ClientTurn). P t.reply t.past) is p
-  by_step P call p m (Refused Control) new is =
-      subst (λ (t : ClientTurn). P t.reply t.past) is p
-  by_step P call p m (Refused (NoNumber n)) new is =
-      subst (λ (t : ClientTurn). P t.reply t.past) is p
-  by_step P call p m (Refused Worn) new is =
-      subst (λ (t : ClientTurn). P t.reply t.past) is p
+  by_step P call p m (Refused (LogFull n)) new is = subst (At P) is p
+  by_step P call p m (Refused (SetupRefused w)) new is = subst (At P) is p
+  by_step P call p m (Refused NotReady) new is = subst (At P) is p
+  by_step P call p m (Refused Control) new is = subst (At P) is p
+  by_step P call p m (Refused (NoNumber n)) new is = subst (At P) is p
+  by_step P call p m (Refused Worn) new is = subst (At P) is p
 
   pub says : (call : ClientCall) (reply : ClientReply) (new : List LogEntry)
       → ClientStep s log call reply new → Says call log reply new
-  says call reply new is =
-      by_step (λ r n. Says call log r n) call (step_says call) (memory_says call) reply new is
+  says call = by_step (λ r n. Says call log r n) call (step_says call) (memory_says call)
 
-  -- ---- the entry that a turn adds, if it adds one
-
-  unfoldable Grown : List LogEntry → Type 0
-  Grown new = (e : Option LogEntry) × (new ≡ past_after log e)
-
-  grown_kept : (c : ClientCall) (r : ClientRefusal) (new : List LogEntry) → Keeps c r log new
-      → Grown new
-  unfolding Grown
-  grown_kept c Worn new is = absurd is
-  grown_kept c (Down w) new is = (None, is.1)
-  grown_kept c (Unexpected w) new is = (None, is.1)
-  grown_kept c (BadPush w) new is = (None, is.1)
-  grown_kept c NoMemory new is = (None, is.1)
-  grown_kept c (LogFull n) new is = (None, is.1)
-  grown_kept c (SetupRefused w) new is = (None, is.1)
-  grown_kept c NotReady new is = (None, is.1)
-  grown_kept c Control new is = (None, is.1)
-  grown_kept c (NoNumber n) new is = (None, is.1)
-
-  grown_got : (w : Wire) (v : Value) (r : ClientRefusal) (new : List LogEntry)
-      → GotKeeps r w v log new → Grown new
-  unfolding Grown
-  grown_got w v Worn new is = absurd is
-  grown_got w v (Down u) new is = (None, is.1)
-  grown_got w v (Unexpected u) new is = (Some (entry.Bad w v), is)
-  grown_got w v (BadPush u) new is = (Some (entry.Bad w v), is)
-  grown_got w v NoMemory new is = (None, is.1)
-  grown_got w v (LogFull n) new is = (None, is.1)
-  grown_got w v (SetupRefused u) new is = (Some (entry.Bad w v), is)
-  grown_got w v NotReady new is = (None, is.1)
-  grown_got w v Control new is = (None, is.1)
-  grown_got w v (NoNumber n) new is = (None, is.1)
-
-  grown : (call : ClientCall) (r : ClientReply) (new : List LogEntry) → Says call log r new
-      → Grown new
-  unfolding Grown Says
-  grown (Ask q) (Hit v n) new is = (Some (entry.Ask q), is)
-  grown (Ask q) (Sent n) new is = (Some (entry.Ask q), is)
-  grown (Ask q) (Refused r) new is = grown_kept (Ask q) r new is
-  grown (Ask q) NotYet new is = absurd is
-  grown (Ask q) (Answer v) new is = absurd is
-  grown (Ask q) (Bytes b) new is = absurd is
-  grown (Ask q) Quiet new is = absurd is
-  grown (Ask q) Noted new is = absurd is
-  grown (Send ws) (Sent n) new is = (Some (entry.Send ws), is)
-  grown (Send ws) (Refused r) new is = grown_kept (Send ws) r new is
-  grown (Send ws) (Hit v n) new is = absurd is
-  grown (Send ws) NotYet new is = absurd is
-  grown (Send ws) (Answer v) new is = absurd is
-  grown (Send ws) (Bytes b) new is = absurd is
-  grown (Send ws) Quiet new is = absurd is
-  grown (Send ws) Noted new is = absurd is
-  grown (Poll n) (Answer v) new is = (Some (entry.Poll n), is)
-  grown (Poll n) NotYet new is = (None, is)
-  grown (Poll n) (Refused r) new is = grown_kept (Poll n) r new is
-  grown (Poll n) (Hit v m) new is = absurd is
-  grown (Poll n) (Sent m) new is = absurd is
-  grown (Poll n) (Bytes b) new is = absurd is
-  grown (Poll n) Quiet new is = absurd is
-  grown (Poll n) Noted new is = absurd is
-  grown (TakeOut w m) (Bytes b) new is = (Some (entry.TakeOut w m), is)
-  grown (TakeOut w m) Quiet new is = (None, is)
-  grown (TakeOut w m) (Refused r) new is = grown_kept (TakeOut w m) r new is
-  grown (TakeOut w m) (Hit v n) new is = absurd is
-  grown (TakeOut w m) (Sent n) new is = absurd is
-  grown (TakeOut w m) NotYet new is = absurd is
-  grown (TakeOut w m) (Answer v) new is = absurd is
-  grown (TakeOut w m) Noted new is = absurd is
-  grown (Got w v) Noted new is = (Some (entry.Got w v), is)
-  grown (Got w v) (Refused r) new is = grown_got w v r new is
-  grown (Got w v) (Hit u n) new is = absurd is
-  grown (Got w v) (Sent n) new is = absurd is
-  grown (Got w v) NotYet new is = absurd is
-  grown (Got w v) (Answer u) new is = absurd is
-  grown (Got w v) (Bytes b) new is = absurd is
-  grown (Got w v) Quiet new is = absurd is
-  grown (End w) Noted new (inl is) = (Some (entry.End w), is)
-  grown (End w) Noted new (inr is) = (None, is)
-  grown (End w) (Refused r) new is = absurd is
-  grown (End w) (Hit v n) new is = absurd is
-  grown (End w) (Sent n) new is = absurd is
-  grown (End w) NotYet new is = absurd is
-  grown (End w) (Answer v) new is = absurd is
-  grown (End w) (Bytes b) new is = absurd is
-  grown (End w) Quiet new is = absurd is
-
-  pub entry_added : (call : ClientCall) (reply : ClientReply) (new : List LogEntry)
-      → ClientStep s log call reply new → (e : Option LogEntry) × (new ≡ past_after log e)
-  unfolding Grown
-  entry_added call reply new is = grown call reply new (says call reply new is)
+  -- but for want of memory a turn is the step
+  pub stepped : (call : ClientCall) (reply : ClientReply) (new : List LogEntry)
+      → ClientStep s log call reply new → is_no_memory reply ≡ false
+      → client_step s log call ≡ record { reply = reply; past = new }
+  stepped call =
+      by_step (λ r n. is_no_memory r ≡ false
+      → client_step s log call ≡ record { reply = r; past = n }) call (λ h. refl)
+      (λ m h. absurd (let no : ⊥ = cc in no))
 
 -- a turn of a client is one that the lock's step allows
 pub turned : (s u : Setup) (old past new : List LogEntry) (call : ClientCall) (reply : ClientReply)
@@ -362,13 +279,13 @@ pub turned : (s u : Setup) (old past new : List LogEntry) (call : ClientCall) (r
     → (e : Option LogEntry) × TurnStep (made_with s) past call reply e × (new ≡ past_after past e)
 turned s u old past new call reply does legal setup same =
     let here = subst (λ p. ClientStep s p call reply new) same does in
-    let g = entry_added s past call reply new here in
+    let (known, meets, e, adding, is) = says s past call reply new here in
     let lawful : LegalLog s past → LegalLog s new = λ l.
     subst (λ z. LegalLog z new) setup (legal (subst (LegalLog s) (sym same) l)) in (
-      g.0,
+      e,
       (
-        subst (λ n. ClientStep s past call reply n) g.1 here,
-        λ l. subst (LegalLog s) g.1 (lawful l),
+        subst (λ n. ClientStep s past call reply n) is here,
+        λ l. subst (LegalLog s) is (lawful l),
       ),
-      g.1,
+      is,
     )

@@ -29,7 +29,7 @@ pub enum Asked {
 pub const MOST: u64 = 65_536;
 
 /// Asks a query, which is answered from the cache where it is held.
-#[tactic(auto, using(crate::proofs::Outcomes::asking))]
+#[tactic(auto, using(crate::proofs::Outcomes::outcomes))]
 pub fn ask<R: Wait>(
     rt: &R,
     lock: &TurnLock<SharedClient>,
@@ -56,7 +56,7 @@ pub fn ask<R: Wait>(
 }
 
 /// Sends a command; its reply comes by the number that is answered.
-#[tactic(auto, using(crate::proofs::Outcomes::sending))]
+#[tactic(auto, using(crate::proofs::Outcomes::outcomes))]
 pub fn send<R: Wait>(
     rt: &R,
     lock: &TurnLock<SharedClient>,
@@ -84,7 +84,7 @@ pub fn send<R: Wait>(
 }
 
 /// The reply to the command of that number, handed out once; none where it has not come yet.
-#[tactic(auto, using(crate::proofs::Outcomes::polling))]
+#[tactic(auto, using(crate::proofs::Outcomes::outcomes))]
 pub fn poll<R: Wait>(
     rt: &R,
     lock: &TurnLock<SharedClient>,
@@ -110,7 +110,7 @@ pub fn poll<R: Wait>(
 }
 
 /// The next bytes for the link, `MOST` or fewer; none where nothing is queued.
-#[tactic(auto, using(crate::proofs::Outcomes::taking_out))]
+#[tactic(auto, using(crate::proofs::Outcomes::outcomes))]
 pub fn take_out<R: Wait>(
     rt: &R,
     lock: &TurnLock<SharedClient>,
@@ -135,7 +135,7 @@ pub fn take_out<R: Wait>(
 }
 
 /// Processes a value that was read on the link.
-#[tactic(auto, using(crate::proofs::Outcomes::getting))]
+#[tactic(auto, using(crate::proofs::Outcomes::outcomes))]
 pub fn got<R: Wait>(
     rt: &R,
     lock: &TurnLock<SharedClient>,
@@ -161,7 +161,7 @@ pub fn got<R: Wait>(
 }
 
 /// Ends the link, where it has not ended.
-#[tactic(auto, using(crate::proofs::Outcomes::ending))]
+#[tactic(auto, using(crate::proofs::Outcomes::outcomes))]
 pub fn end<R: Wait>(
     rt: &R,
     lock: &TurnLock<SharedClient>,

@@ -1,10 +1,9 @@
 -- What a turn of a client comes to in the code.
 use Rattle.std.proofs.Common.{◌≡◌, ◌+◌, ℕ, List, [], ◌∷◌, ◌++◌, Bool, true, false, cond}
-use Rattle.std.proofs.Common.{not, length}
+use Rattle.std.proofs.Common.{length}
 use Rattle.std.proofs.Common.{Option, Some, None, Result, Ok, Err, refl, sym, ap, subst, ◌∙◌, arith}
 use Rattle.std.proofs.Common.{◌≤◌, append-nil, length-append, ◌⊎◌, inl, inr}
 use Rattle.resp_value.specs.declared.value.Value.{Value}
-use Rattle.command_words.specs.Control.{is_control}
 use Rattle.shared_cache.specs.declared.log.Wire.{Wire}
 use Rattle.shared_cache.specs.declared.log.Wire.TheVariants.{Main}
 use Rattle.shared_cache.specs.declared.log.LogEntry.{LogEntry}
@@ -19,11 +18,10 @@ use Rattle.shared_cache.specs.declared.log.ClientRefusal.TheVariants as refusal
 use Rattle.shared_cache.specs.ClientFields.{Client}
 use Rattle.shared_cache.specs.Held.{Setup, Words}
 use Rattle.shared_cache.specs.Laws.{gots}
-use Rattle.shared_cache.specs.Log.{is_ended, is_ready, reply as reply_to}
-use Rattle.shared_cache.specs.Out.{is_wanted, untaken}
-use Rattle.shared_cache.specs.Steps.{ClientStep, ClientTurn, MayRunOut, client_step, getting}
-use Rattle.shared_cache.specs.Steps.{fault_of as ending_of, is_log_full, polling, refusing}
-use Rattle.shared_cache.specs.Steps.{taking_out, NeedsRoom}
+use Rattle.shared_cache.specs.Log.{is_ended}
+use Rattle.shared_cache.specs.Steps.{ClientStep, ClientTurn, MayRunOut, client_step}
+use Rattle.shared_cache.specs.Steps.{polling, refusing}
+use Rattle.shared_cache.specs.Steps.{NeedsRoom}
 use Rattle.script_text.specs.declared.line.Line.{Line}
 use Rattle.server_links.specs.declared.fault.WorldFault.{WorldFault}
 use Rattle.server_links.specs.declared.fault.WorldFault.TheVariants as fault
@@ -56,43 +54,24 @@ module _ (P : List LogEntry → Type 0) (s : Setup) (log : List LogEntry) (same 
 
   pub ask_past : (q : Words) → P (entry.Ask q ∷ log) → P (client_step s log (call.Ask q)).past
   unfolding client_step Q
-  ask_past q one =
-      by_if Q (is_ended s.mode Main log) _ _ same
-      (by_if Q (not (is_ready s.mode log)) _ _ same
-      (by_if Q (is_log_full s log) _ _ same one))
+  ask_past q one = grind arith
 
   send_past : (ws : Words) → P (entry.Send ws ∷ log) → P (client_step s log (call.Send ws)).past
   unfolding client_step Q
-  send_past ws one =
-      by_if Q (is_ended s.mode Main log) _ _ same
-      (by_if Q (not (is_ready s.mode log)) _ _ same
-      (by_if Q (is_control ws) _ _ same
-      (by_if Q (is_log_full s log) _ _ same one)))
+  send_past ws one = grind arith
 
   by_reply : (o : Option Value) (n : ℕ) (b : Bool) → P (entry.Poll n ∷ log)
       → P (polling o n b log).past
-  by_reply None n true one = same
-  by_reply None n false one = same
-  by_reply (Some v) n b one = one
+  by_reply o n b one = grind arith
 
   poll_past : (n : ℕ) → P (entry.Poll n ∷ log) → P (client_step s log (call.Poll n)).past
   unfolding client_step Q
-  poll_past n one =
-      by_if Q (not (is_wanted s log n)) _ _ same
-      (by_reply (reply_to s.mode log n) n (is_ended s.mode Main log) one)
-
-  by_bytes : (w : Wire) (most : ℕ) (bytes : List ℕ) (b : Bool) → P (entry.TakeOut w most ∷ log)
-      → P (taking_out w most bytes b log).past
-  by_bytes w most [] b one = same
-  by_bytes w most (x ∷ bytes) true one = same
-  by_bytes w most (x ∷ bytes) false one = one
+  poll_past n one = grind arith
 
   take_past : (w : Wire) (most : ℕ) → P (entry.TakeOut w most ∷ log)
       → P (client_step s log (call.TakeOut w most)).past
   unfolding client_step Q
-  take_past w most one =
-      by_if Q (is_ended s.mode w log) _ _ same
-      (by_bytes w most (untaken s w log) (is_log_full s log) one)
+  take_past w most one = grind arith
 
   by_end : (w : Wire) (b : Bool) → P (entry.End w ∷ log) → P (cond b log (entry.End w ∷ log))
   by_end w true one = same
@@ -128,16 +107,7 @@ pub got_past : (s : Setup) (log : List LogEntry) (v : Value) (reply : ClientRepl
     (new : List LogEntry) → client_step s log (call.Got Main v)
     ≡ record { reply = reply; past = new } → GotPast log v reply new
 unfolding GotPast client_step
-got_past s log v reply new is =
-    subst (λ (t : ClientTurn). GotPast log v t.reply t.past) is
-    (by_if (λ (t : ClientTurn). GotPast log v t.reply t.past) (is_ended s.mode Main log) _ _ refl
-    (elim (ending_of s log Main v) as (λ o. GotPast log v
-    (getting o Main v (is_log_full s log) log).reply
-    (getting o Main v (is_log_full s log) log).past) [
-      | Some r ↦ refl
-      | None ↦
-          by_if (λ (t : ClientTurn). GotPast log v t.reply t.past) (is_log_full s log) _ _ refl refl
-    ]))
+got_past s log v reply new is = grind arith
 
 pub got_more : (log new : List LogEntry) (v : Value) → GotPast log v Noted new
     → (length (gots Main new) ≡ length (gots Main log) + 1) × (length new ≡ length log + 1)
@@ -181,17 +151,11 @@ no_memory r e = cc
 -- a refusal that stops its event prints nothing
 silent : (name : List ℕ) (r : ClientRefusal) (f : WorldFault) → refused_fault r ≡ Some f
     → (refused_lines name r ≡ []) × (ending_lines name r ≡ [])
-silent name (refusal.LogFull n) f e = (refl, refl)
-silent name refusal.Control f e = (refl, refl)
-silent name (refusal.NoNumber n) f e = (refl, refl)
-silent name r f e = absurd (let no : ⊥ = cc in no)
+silent name r f e = grind arith
 
 by_call : (s : Seat) (c : ClientCall) (r : ClientRefusal) (f : WorldFault)
     → refused_fault r ≡ Some f → lines_of s c (Refused r) ≡ []
-by_call s (call.TakeOut w n) r f e = refl
-by_call s (call.Got w v) r f e = (silent s.member.link r f e).1
-by_call s (call.End w) r f e = refl
-by_call s c r f e = (silent s.member.name r f e).0
+by_call s c r f e = grind arith
 
 no_lines : (s : Seat) (c : ClientCall) (reply : ClientReply) (f : WorldFault)
     → fault_of reply ≡ Some f → lines_of s c reply ≡ []
@@ -208,14 +172,7 @@ stops_by m f t lines has e is none = (e, is, sym (ap (λ l. lines ++ l) none ∙
 
 pub turned_is : (s : Seat) (m : MemberState) → Turned s.member m
     → seat s.links m ≡ with_log s m.state.past
-turned_is s m t =
-    λ i. seat s.links (record {
-      name = t.name i;
-      link = t.link i;
-      place = t.place i;
-      state = record { setup = t.setup i; past = m.state.past };
-      reader = t.reader i;
-    })
+turned_is s m t = grind arith
 
 pub turned_like : (i old : MemberState) (new : Client) → i ≡ old → new.setup ≡ i.state.setup
     → Turned old (record {
@@ -225,21 +182,13 @@ pub turned_like : (i old : MemberState) (new : Client) → i ≡ old → new.set
       state = new;
       reader = i.reader;
     })
-turned_like i old new e setup = record {
-  name = ap (λ (m : MemberState). m.name) e;
-  link = ap (λ (m : MemberState). m.link) e;
-  place = ap (λ (m : MemberState). m.place) e;
-  setup = setup ∙ ap (λ (m : MemberState). m.state.setup) e;
-  reader = ap (λ (m : MemberState). m.reader) e;
-}
+turned_like i old new e setup = grind arith
 
 pub step_like : (i old : MemberState) (c : ClientCall) (reply : ClientReply)
     (past : List LogEntry) → i ≡ old
     → client_step i.state.setup i.state.past c ≡ record { reply = reply; past = past }
     → client_step old.state.setup old.state.past c ≡ record { reply = reply; past = past }
-step_like i old c reply past e is =
-    subst (λ (m : MemberState). client_step m.state.setup m.state.past c
-    ≡ record { reply = reply; past = past }) e is
+step_like i old c reply past e is = grind arith
 
 -- an end is noted
 pub end_fault : (s : Setup) (log past : List LogEntry) (reply : ClientReply)
@@ -253,9 +202,7 @@ pub got_other : (log new : List LogEntry) (v : Value) (reply : ClientReply)
     → GotPast log v reply new → (reply ≡ Noted → ⊥)
     → ((r : ClientRefusal) → reply ≡ Refused r → ⊥) → ⊥
 unfolding GotPast
-got_other log new v Noted g has others = has refl
-got_other log new v (Refused r) g has others = others r refl
-got_other log new v reply g has others = g
+got_other log new v reply g has others = grind arith
 
 module _ (s : Seat) (c : ClientCall) where
   pub turn_before : (lines : List Line) → Stops (turn c s) lines fault.NoMemory s lines

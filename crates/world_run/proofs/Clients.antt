@@ -26,9 +26,8 @@ use Rattle.server_links.specs.LinksState.{LinksState, at_place}
 use Rattle.server_links.specs.LinkSteps.{place_of, step}
 use Rattle.server_links.specs.Moves.{all_bytes}
 use Rattle.server_links.specs.OneHistory.{read_on, said_by}
-use Rattle.server_links.specs.Outcome.{Outcome, and_then, does, refuses, stays, then_by, within}
+use Rattle.server_links.specs.Outcome.{Outcome, and_then, does, refuses, stays, within}
 use Rattle.server_links.specs.Transcript.{heard_at, is_place}
-use Rattle.server_links.proofs.LinksStand.{stands_same}
 use Rattle.server_links.proofs.Names.{names_itself, placed, unplaced}
 use Rattle.world_run.specs.WorldState.{WorldState, MemberState, member_at}
 use Rattle.world_run.specs.Members.{Seat, link_of, links_do, seat_at, with_seat}
@@ -44,28 +43,12 @@ use Rattle.world_run.proofs.SeatTurns.{works_as}
 use Rattle.world_run.proofs.Turns.{TurnKeeps, ask_keeps, poll_keeps, send_keeps, take_takes}
 use Rattle.world_run.proofs.Worlds.{Holds, Reads, ReadsOn, Each}
 
--- the same bytes were heard
-pub holds_heard : (l : Limits) (heard heard' : ℕ → List ℕ) (raw : List ℕ → List ℕ) (M : Each)
-    (lines : List Line) (w : WorldState) → ((i : ℕ) → heard i ≡ heard' i)
-    → Holds l heard raw M lines w → Holds l heard' raw M lines w
-holds_heard l heard heard' raw M lines w same h = record {
-  said = h.said;
-  links = stands_same l heard heard' h.said h.said lines w.links same (λ n. refl) h.links;
-  each = h.each;
-  distinct = h.distinct;
-  rest = h.rest;
-}
-
 pub one_heard : (l : Limits) (heard heard' : ℕ → List ℕ) (raw : List ℕ → List ℕ) (at : ℕ)
     (M : Each) (lines : List Line) (w : WorldState) (m : Outcome Seat)
     → ((i : ℕ) → heard i ≡ heard' i)
     → One l raw at (λ ls u. Holds l heard raw M ls u) lines w m
     → One l raw at (λ ls u. Holds l heard' raw M ls u) lines w m
-one_heard l heard heard' raw at M lines w m same h = record {
-  ends = λ none. holds_heard l heard heard' raw M (lines ++ m.lines) (with_seat at w m.state) same
-      (h.ends none);
-  all = h.all;
-}
+one_heard l heard heard' raw at M lines w m same h = grind arith
 
 -- a link is found by its name
 pub place_is : (ls : LinksState)
@@ -93,11 +76,7 @@ if_same f false x y v p q = q
 then_same : {X : Type 0} → (f : MemberState → X) (m : Outcome Seat) (e : LinkEvent)
     → f (and_then m (links_do e)).state.member ≡ f m.state.member
 unfolding and_then links_do within
-then_same f m e =
-    elim m.fault as (λ v. f (then_by v m (links_do e m.state)).state.member ≡ f m.state.member) [
-      | Some fault ↦ refl
-      | None ↦ refl
-    ]
+then_same f m e = grind arith
 
 turn_link : (c : ClientCall) (s : Seat) → (turn c s).state.member.link ≡ s.member.link
 unfolding turn and_then

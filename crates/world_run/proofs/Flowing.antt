@@ -34,11 +34,7 @@ only_at heard place bytes i = heard i ++ cond (place == i) bytes []
 
 at_this : (heard : ℕ → List ℕ) (read : ℕ → List ℕ) (place i : ℕ)
     → heard i ++ cond (place == i) (read i) [] ≡ only_at heard place (read place) i
-at_this heard read place i = elim (place == i) as (λ b. (place == i) ≡ b
-    → heard i ++ cond b (read i) [] ≡ heard i ++ cond b (read place) []) [
-      | true ↦ λ e. ap (λ k. heard i ++ read k) (sym (eqb-true place i e))
-      | false ↦ λ e. refl
-    ] refl
+at_this heard read place i = grind arith
 
 module _ (l : Limits) (heard : ℕ → List ℕ) (raw : List ℕ → List ℕ) (lines : List Line)
     (w : WorldState) (h : WorldStands l heard raw lines w) (place : ℕ)

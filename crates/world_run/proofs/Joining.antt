@@ -5,19 +5,12 @@ use Rattle.std.proofs.Common.{arith, append-nil, length-append, inl, inr}
 use Rattle.std.specs.Prelude.{◌&&◌}
 use Rattle.std.proofs.lemmas.Bool.{cases_lt}
 use Rattle.std.proofs.lemmas.List.{get_or_push, get_or_append_left}
-use Rattle.resp_value.specs.declared.value.Proto.{Proto}
-use Rattle.resp_value.specs.declared.value.Proto.TheVariants.{Two, Three}
-use Rattle.resp_stream.specs.Parse.{values_of}
 use Rattle.resp_stream.proofs.Onward.{no_values, values_begun}
 use Rattle.serial_model.specs.declared.history.Limits.{Limits}
 use Rattle.serial_model.specs.History.{is_full, admitted}
 use Rattle.serial_model.specs.Steps.{Turn, book_step}
 use Rattle.serial_model.specs.Steps as steps
-use Rattle.shared_cache.specs.declared.log.Caching.{Caching}
-use Rattle.shared_cache.specs.declared.log.Caching.TheVariants.{Default}
 use Rattle.shared_cache.specs.declared.log.ClientMode.{ClientMode}
-use Rattle.shared_cache.specs.declared.log.Shape.{Shape}
-use Rattle.shared_cache.specs.declared.log.Shape.TheVariants.{Single, Pair}
 use Rattle.shared_cache.specs.ClientFields.{IsServed}
 use Rattle.shared_cache.specs.Held.{Setup}
 use Rattle.script_text.specs.declared.line.Line.{Line}
@@ -34,7 +27,7 @@ use Rattle.server_links.proofs.Outcomes.{meets_does, meets_stays, meets_then}
 use Rattle.server_links.proofs.Outcomes.{meets_weaker}
 use Rattle.world_run.specs.WorldState.{WorldState, MemberState, data_link, fresh_member, member_at}
 use Rattle.world_run.specs.WorldState.{no_setup}
-use Rattle.world_run.specs.World.{client_step, is_default, is_served, is_single, is_taken, is_third}
+use Rattle.world_run.specs.World.{client_step, is_served, is_taken}
 use Rattle.world_run.specs.World.{join, links_step, not_served, setup_by, on_links}
 use Rattle.world_run.specs.World as world
 use Rattle.world_run.proofs.LinkEvents.{Comes, comes_refused, comes_unread, part_of, part_here}
@@ -45,42 +38,16 @@ use Rattle.world_run.proofs.Worlds.{NoneHas, Stable, WorldPart, WorldStands}
 
 -- ---- a mode that is served
 
-both_left : (a b : Bool) → (a && b) ≡ true → a ≡ true
-both_left true b e = refl
-both_left false b e = absurd (let no : ⊥ = cc in no)
-
 both_right : (a b : Bool) → (a && b) ≡ true → b ≡ true
 both_right true b e = e
 both_right false b e = absurd (let no : ⊥ = cc in no)
-
-single_is : (s : Shape) → is_single s ≡ true → s ≡ Single
-single_is Single e = refl
-single_is Pair e = absurd (let no : ⊥ = cc in no)
-
-third_is : (p : Proto) → is_third p ≡ true → p ≡ Three
-third_is Two e = absurd (let no : ⊥ = cc in no)
-third_is Three e = refl
-
-default_is : (c : Caching) → is_default c ≡ true → c ≡ Default
-default_is Default e = refl
-default_is c e = absurd (let no : ⊥ = cc in no)
 
 not_false : (b : Bool) → not b ≡ true → b ≡ false
 not_false true e = absurd (let no : ⊥ = cc in no)
 not_false false e = refl
 
 served_mode : (m : ClientMode) → is_served m ≡ true → IsServed m
-served_mode m e =
-    let front = is_single m.shape && is_third m.proto in
-    let three = both_left (front && is_default m.caching) (not m.noloop) e in
-    let two = both_left front (is_default m.caching) three in
-    record {
-      shape = single_is m.shape (both_left (is_single m.shape) (is_third m.proto) two);
-      proto = third_is m.proto (both_right (is_single m.shape) (is_third m.proto) two);
-      caching = default_is m.caching (both_right front (is_default m.caching) three);
-      noloop = not_false m.noloop
-          (both_right (front && is_default m.caching) (not m.noloop) e);
-    }
+served_mode m e = grind arith
 
 -- ---- a link that is new
 
@@ -171,15 +138,7 @@ module _ (l : Limits) (heard : ℕ → List ℕ) (raw : List ℕ → List ℕ) (
 
   new_part : (read : List ℕ) → MemberPart w.links read new
   unfolding new
-  new_part read = record {
-    named = refl;
-    below = omega (arith, made.size);
-    placed = made.named;
-    mode = served;
-    legal = tt;
-    got = (values_of read, refl);
-    causal = tt;
-  }
+  new_part read = grind arith
 
   new_stable : Stable (length w.members) w.links [] [] new
   unfolding new

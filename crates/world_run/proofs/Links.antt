@@ -48,14 +48,7 @@ use Rattle.world_run.proofs.Members.{LinkGrows}
 -- ---- what grows
 
 pub grows_none : (w : LinksState) → LinkGrows w w
-grows_none w = record {
-  limits = refl;
-  size = omega arith;
-  names = λ i lt. refl;
-  entries = [];
-  grows = refl;
-  unique = λ u. u;
-}
+grows_none w = grind arith
 
 module _ (w : LinksState) (at : ℕ) (below : at < length w.links) (t : Session)
     (named : t.link.name ≡ (at_place w.links at).name) where

@@ -28,7 +28,7 @@ use Rattle.server_links.specs.LinkSteps.{place_of}
 use Rattle.server_links.specs.Outcome.{Outcome, Reached, and_then, does, refuses, stays}
 use Rattle.server_links.proofs.Outcomes.{Fronts, fronts_once, fronts_reached, fronts_refuses}
 use Rattle.server_links.proofs.Outcomes.{fronts_stays, fronts_then, fronts_within}
-use Rattle.server_links.proofs.Outcomes.{Meets, meets_refuses, meets_stays, meets_weaker}
+use Rattle.server_links.proofs.Outcomes.{Meets, meets_refuses, meets_weaker}
 use Rattle.server_links.proofs.Outcomes.{meets_within}
 use Rattle.world_run.specs.WorldState.{WorldState, client_named, client_of_link}
 use Rattle.world_run.specs.WorldState.{data_link, fresh_member, member_at, no_setup}
@@ -160,11 +160,6 @@ a_refused : (w : WorldState) (name : List ℕ) (f : WorldFault) → Leaves w nam
 a_refused w name f =
     meets_refuses (λ v ls. Apart w name v) (λ v ls. Apart w name v) w f (apart_same w name)
 
-a_same : (w : WorldState) (name : List ℕ) → Leaves w name (stays w)
-a_same w name =
-    meets_stays (λ v ls. Apart w name v) (λ v ls. Apart w name v) w (apart_same w name)
-    (apart_same w name)
-
 a_event : (event : LinkEvent) (name : List ℕ) (w : WorldState)
     → Meets (λ v ls. LinksKept w.links name v) (λ v ls. LinksKept w.links name v)
     (links.step w.links event) → Leaves w name (links_step event w)
@@ -231,14 +226,10 @@ module _ (l : Limits) (heard : ℕ → List ℕ) (raw : List ℕ → List ℕ) (
   a_by : (name : List ℕ) (step_by : Option ℕ → Stepped) → Leaves w name (step_by None)
       → ((at : ℕ) → client_of_link name w.members ≡ Some at → Leaves w name (step_by (Some at)))
       → Leaves w name (step_by (client_of_link name w.members))
-  a_by name step_by f g =
-      elim (client_of_link name w.members) as (λ c. client_of_link name w.members ≡ c
-      → Leaves w name (step_by c)) [ None ↦ λ none. f | Some at ↦ λ is. g at is ] refl
+  a_by name step_by f g = grind arith
 
   a_raw_out : (name : List ℕ) (p count : Option ℕ) → Leaves w name (raw_out p count w)
-  a_raw_out name None count = a_refused w name NoName
-  a_raw_out name (Some at) None = a_same w name
-  a_raw_out name (Some at) (Some n) = a_refused w name NothingThere
+  a_raw_out name p count = grind arith
 
   a_said : (name bytes : List ℕ)
       → Leaves w name (said_step (client_of_link name w.members) name bytes w)

@@ -33,14 +33,8 @@ pub record NamesKept (w v : LinksState) : Type 0 where
   pub names : (i : ℕ) → i < length w.links
       → (at_place v.links i).name ≡ (at_place w.links i).name
 
-pub names_same : (w : LinksState) → NamesKept w w
-names_same w = record { size = refl; names = λ i lt. refl }
-
 pub names_both : (w u v : LinksState) → NamesKept w u → NamesKept u v → NamesKept w v
-names_both w u v a b = record {
-  size = b.size ∙ a.size;
-  names = λ i lt. b.names i (omega (arith, lt, a.size)) ∙ a.names i lt;
-}
+names_both w u v a b = grind arith
 
 pub place_kept : (name : List ℕ) (w v : LinksState) (at : ℕ) → NamesKept w v
     → place_of name w ≡ Some at → place_of name v ≡ Some at

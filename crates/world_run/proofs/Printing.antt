@@ -1,7 +1,7 @@
 -- The lines of a client's answers, and of what it holds, in the code.
 use Rattle.std.proofs.Common.{◌≡◌, ◌+◌, ◌-◌, ◌<◌, ◌≤◌, ℕ, zero, suc, List, [], ◌∷◌, ◌++◌}
-use Rattle.std.proofs.Common.{Bool, true}
-use Rattle.std.proofs.Common.{false, length, Option, Some, None, refl, sym, ap, subst, ◌∙◌, arith}
+use Rattle.std.proofs.Common.{Bool}
+use Rattle.std.proofs.Common.{length, Option, refl, sym, ap, subst, ◌∙◌, arith}
 use Rattle.std.proofs.Common.{append-nil, append_assoc, length-append, inl, inr}
 use Rattle.std.proofs.lemmas.Bool.{cases_lt}
 use Rattle.resp_value.specs.declared.value.Value.{Value}
@@ -154,9 +154,7 @@ module _ (s : Seat) where
 -- ---- what is held, place by place
 
 hold_one : (o : Option Words) (b : Bool) (v : Value) (n : ℕ) → length (hold o b v n) ≤ 1
-hold_one None b v n = omega arith
-hold_one (Some q) true v n = omega arith
-hold_one (Some q) false v n = omega arith
+hold_one o b v n = grind arith
 
 -- no more is held than replies came
 held_few : (open_of : ℕ → Option Words) (left_of : ℕ → Bool) (vs : List Value)
@@ -195,11 +193,4 @@ module _ (in_order : HeldInOrder) (s : Seat) where
   pub one_listed : (n : ℕ) (l : Line) → n ≤ length (held (setup_of s) (log_of s))
       → l ∷ [] ≡ listed_line s (held_in_place n (held (setup_of s) (log_of s)))
       → n + 1 ≤ length (held (setup_of s) (log_of s))
-  one_listed n l le some =
-      let hs = held (setup_of s) (log_of s) in
-      elim (cases_lt n (length hs)) [
-        | inl low ↦ omega (arith, low)
-        | inr top ↦
-            absurd (let no : l ∷ [] ≡ [] = some
-            ∙ ap (listed_line s) ((in_order (setup_of s) (log_of s)).beyond n top) in cc)
-      ]
+  one_listed n l le some = grind arith

@@ -1,5 +1,5 @@
 -- A refused event leaves the world as it was, and prints nothing.
-use Rattle.std.proofs.Common.{◌≡◌, ◌+◌, ℕ, List, [], ◌∷◌, Bool, true}
+use Rattle.std.proofs.Common.{◌≡◌, ℕ, List, [], ◌∷◌, Bool, true}
 use Rattle.std.proofs.Common.{false, cond, Some, None, Option, length, refl, sym, ap, subst}
 use Rattle.std.proofs.Common.{take, ◌∙◌, arith, inl}
 use Rattle.std.specs.Prelude.{nat_le}
@@ -18,42 +18,39 @@ use Rattle.shared_cache.specs.declared.log.LogEntry.{LogEntry}
 use Rattle.shared_cache.specs.declared.log.Wire.{Wire}
 use Rattle.shared_cache.specs.declared.log.Wire.TheVariants.{Main}
 use Rattle.shared_cache.specs.declared.notices.Notice.{Notice}
-use Rattle.shared_cache.specs.declared.notices.Notice.TheVariants as notice
 use Rattle.shared_cache.specs.Held.{numbers}
 use Rattle.shared_cache.specs.Notices.{notice_of}
 use Rattle.shared_cache.specs.Log.{is_ended, is_ready}
 use Rattle.shared_cache.specs.Log as log
 use Rattle.shared_cache.specs.Out.{untaken}
 use Rattle.shared_cache.specs.Steps.{ClientTurn, answer_ask, client_step, command_number, getting}
-use Rattle.shared_cache.specs.Steps.{is_log_full, is_welcome, judged, polling, read_number}
+use Rattle.shared_cache.specs.Steps.{is_log_full, judged, polling, read_number}
 use Rattle.shared_cache.specs.Steps.{refusing}
 use Rattle.shared_cache.specs.Steps.{taking_out}
 use Rattle.shared_cache.specs.Steps as steps
 use Rattle.script_text.specs.declared.line.Line.{Line}
 use Rattle.script_text.specs.declared.line.Line.TheVariants as line
 use Rattle.server_links.specs.declared.fault.WorldFault.{WorldFault}
-use Rattle.server_links.specs.declared.fault.WorldFault.TheVariants as fault
-use Rattle.server_links.specs.declared.fault.WorldFault.TheVariants.{NothingThere}
 use Rattle.server_links.specs.declared.link.LinkMove.{LinkMove}
 use Rattle.server_links.specs.declared.link.LinkMove.TheVariants as moves
-use Rattle.server_links.specs.Directions.{is_queued, without}
+use Rattle.server_links.specs.Directions.{is_queued}
 use Rattle.server_links.specs.Faults.{IsRefusal}
 use Rattle.server_links.specs.LinkEvent.{LinkEvent, Put, Over}
 use Rattle.server_links.specs.LinksState.{LinksState}
 use Rattle.server_links.specs.LinkSteps.{over, over_named, place_of, step}
-use Rattle.server_links.specs.Moves.{all_bytes, move_of, moved, read_bytes, stopped_at}
-use Rattle.server_links.specs.Outcome.{Outcome, and_then, does, refuses, stays, then_by, within}
+use Rattle.server_links.specs.Moves.{all_bytes, move_of, moved, stopped_at}
+use Rattle.server_links.specs.Outcome.{Outcome, and_then, does, stays, then_by, within}
 use Rattle.server_links.specs.Session.{Session, session_at}
 use Rattle.server_links.proofs.Refusals.{Unrefused, un_receive_all, un_send_all}
 use Rattle.server_links.proofs.Refusals.{un_serve_all}
-use Rattle.world_run.specs.Members.{Seat, link_of, links_do, with_log, with_reader}
+use Rattle.world_run.specs.Members.{Seat, link_of, links_do, with_reader}
 use Rattle.world_run.specs.ClientMoves.{bytes_of, fault_of, feed, flow, got, got_all}
 use Rattle.world_run.specs.ClientMoves.{got_one, hang_up, has_ended, next_read, out}
 use Rattle.world_run.specs.ClientMoves.{read_values, receive, receive_bytes, receive_eof}
 use Rattle.world_run.specs.ClientMoves.{refused_fault, rest_read, stop, take_out, turn}
 use Rattle.world_run.proofs.Kept.{named_kept}
 use Rattle.world_run.proofs.Links.{step_moved}
-use Rattle.world_run.proofs.Places.{NamesKept, names_both, names_same, place_kept}
+use Rattle.world_run.proofs.Places.{NamesKept, names_both, place_kept}
 
 pub none : (f : WorldFault) → None ≡ Some f → IsRefusal f → ⊥
 none f e r = absurd (let no : ⊥ = cc in no)
@@ -97,13 +94,7 @@ sure_if s false m n p q = q
 -- the links are as they were
 sure_here : (s new : Seat) (m : Outcome Seat) → m.state ≡ new → Unrefused m → new.links ≡ s.links
     → new.member.link ≡ s.member.link → new.member.place ≡ s.member.place → Sure s m
-sure_here s new m is un same link place = record {
-  unrefused = un;
-  names = subst (λ v. NamesKept s.links v) (sym (ap (λ (t : Seat). t.links) is ∙ same))
-      (names_same s.links);
-  link = ap (λ (t : Seat). t.member.link) is ∙ link;
-  place = ap (λ (t : Seat). t.member.place) is ∙ place;
-}
+sure_here s new m is un same link place = grind arith
 
 sure_stays : (s : Seat) → Sure s (stays s)
 unfolding Unrefused
@@ -171,32 +162,16 @@ never_down w f e r = none f e r
 
 pub never_full : (n : ℕ) → Never (refusal.LogFull n)
 unfolding Never
-never_full n fault.NoMemory e r = r
-never_full n (fault.HistoryFull k) e r = r
-never_full n x e r = absurd (let no : ⊥ = cc in no)
+never_full n h e r = grind arith
 
 NeverBy : Option ClientRefusal → Type 0
 NeverBy None = Unit {0}
 NeverBy (Some r) = Never r
 
-never_welcome : (b : Bool) (w : Wire) → NeverBy (cond b None (Some (refusal.SetupRefused w)))
-unfolding NeverBy Never
-never_welcome true w = tt
-never_welcome false w = λ f e r. none f e r
-
-never_reply : (b c : Bool) (w : Wire)
-    → NeverBy (cond b (Some (refusal.Unexpected w)) (cond c None (Some (refusal.SetupRefused w))))
-unfolding NeverBy Never
-never_reply true c w = λ f e r. none f e r
-never_reply false c w = never_welcome c w
-
 never_judged : (m : ClientMode) (w : Wire) (replied sent : ℕ) (v : Value) (n : Notice)
     → NeverBy (judged m w replied sent v n)
 unfolding NeverBy Never
-never_judged m w replied sent v notice.Reply =
-    never_reply (nat_le sent replied) (is_welcome m w (replied + 1) v) w
-never_judged m w replied sent v notice.Malformed = λ f e r. none f e r
-never_judged m w replied sent v n = tt
+never_judged m w replied sent v n = grind arith
 
 unfoldable pub NeverTurn : ClientTurn → Type 0
 NeverTurn t = (f : WorldFault) → fault_of t.reply ≡ Some f → IsRefusal f → ⊥
@@ -208,23 +183,17 @@ never_if false x y p q = q
 never_getting : (o : Option ClientRefusal) (v : Value) (full : Bool) (log : List LogEntry)
     → NeverBy o → NeverTurn (getting o Main v full log)
 unfolding NeverBy Never NeverTurn
-never_getting (Some r) v full log n = n
-never_getting None v true log n = never_full (length log)
-never_getting None v false log n = none
+never_getting o v full log n = grind arith
 
 never_taking : (most : ℕ) (bytes : List ℕ) (full : Bool) (log : List LogEntry)
     → NeverTurn (taking_out Main most bytes full log)
 unfolding Never NeverTurn
-never_taking most [] full log = none
-never_taking most (b ∷ bytes) true log = never_full (length log)
-never_taking most (b ∷ bytes) false log = none
+never_taking most bytes full log = grind arith
 
 sure_turn : (c : ClientCall) (s : Seat)
     → NeverTurn (client_step s.member.state.setup s.member.state.past c) → Sure s (turn c s)
 unfolding turn and_then Unrefused NeverTurn
-sure_turn c s n =
-    let t = client_step s.member.state.setup s.member.state.past c in
-    sure_here s (with_log s t.past) (turn c s) refl n refl refl refl
+sure_turn c s n = grind arith
 
 sure_got_turn : (v : Value) (s : Seat) → Sure s (turn (call.Got Main v) s)
 unfolding client_step steps.fault_of Never NeverTurn
@@ -319,10 +288,7 @@ sure_hang s h =
 un_enough : (n : ℕ) (x : Session) → nat_le n (length x.link.down.bytes) ≡ true
     → Unrefused (moved (moves.Recv (Some n)) x)
 unfolding Unrefused
-un_enough n x enough f e r =
-    let down = x.link.down in
-    none f (sym (ap (λ b. (cond b (read_bytes (take n down.bytes) (without n down) x)
-    (refuses x NothingThere)).fault) enough) ∙ e) r
+un_enough n x enough f e r = grind arith
 
 pub sure_bytes : (n : ℕ) (s : Seat) → HasLink s → nat_le n (length (link_of s).down.bytes) ≡ true
     → Sure s (receive_bytes n s)

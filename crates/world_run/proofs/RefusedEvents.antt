@@ -6,24 +6,20 @@ use Rattle.std.specs.Prelude.{◌&&◌, nat_le}
 use Rattle.std.proofs.lemmas.Bool.{cases_lt}
 use Rattle.std.proofs.lemmas.List.{get_or-set_same, get_or-set_other, set-get_or}
 use Rattle.resp_value.specs.Spelling.{request_spelling}
-use Rattle.resp_value.specs.declared.value.Value.{Value}
-use Rattle.command_words.specs.Control.{is_control}
 use Rattle.shared_cache.specs.declared.entry.CacheEntry.{CacheEntry}
 use Rattle.shared_cache.specs.declared.log.ClientCall.{ClientCall}
 use Rattle.shared_cache.specs.declared.log.ClientCall.TheVariants as call
 use Rattle.shared_cache.specs.declared.log.ClientMode.{ClientMode}
 use Rattle.shared_cache.specs.declared.log.ClientRefusal.TheVariants as refusal
-use Rattle.shared_cache.specs.declared.log.ClientReply.TheVariants as reply
 use Rattle.shared_cache.specs.declared.log.LogEntry.{LogEntry}
 use Rattle.shared_cache.specs.declared.log.LogEntry.TheVariants as entry
 use Rattle.shared_cache.specs.declared.log.Wire.TheVariants.{Main}
 use Rattle.shared_cache.specs.Held.{held, held_for}
 use Rattle.shared_cache.specs.Log.{is_ended, is_ready}
-use Rattle.shared_cache.specs.Log as log
-use Rattle.shared_cache.specs.Out.{is_wanted, untaken}
-use Rattle.shared_cache.specs.Steps.{ClientTurn, answer_ask, client_step, command_number}
+use Rattle.shared_cache.specs.Out.{untaken}
+use Rattle.shared_cache.specs.Steps.{ClientTurn, answer_ask, client_step}
 use Rattle.shared_cache.specs.Steps.{is_log_full}
-use Rattle.shared_cache.specs.Steps.{polling, read_number, refusing}
+use Rattle.shared_cache.specs.Steps.{read_number, refusing}
 use Rattle.script_text.specs.declared.event.Event.{Event}
 use Rattle.script_text.specs.declared.event.Event.TheVariants.{Raw, Say, Bytes, Client, Out, Serve}
 use Rattle.script_text.specs.declared.event.Event.TheVariants.{Send, Recv, Flow, FlowAll, Cut, Ask}
@@ -99,13 +95,6 @@ unfolding NeverTurn
 never_ask (Some h) n past = none
 never_ask None n past = none
 
-never_poll : (o : Option Value) (n : ℕ) (ended : Bool) (past : List LogEntry)
-    → NeverTurn (polling o n ended past)
-unfolding NeverTurn Never
-never_poll (Some v) n ended past = none
-never_poll None n true past = never_down Main
-never_poll None n false past = none
-
 ask_leaves : (q : List (List ℕ)) (s : Seat)
     → TurnLeaves s (call.Ask q) (client_step s.member.state.setup s.member.state.past (call.Ask q))
 unfolding client_step NeverTurn Never
@@ -129,35 +118,13 @@ send_leaves : (ws : List (List ℕ)) (s : Seat)
     → TurnLeaves s (call.Send ws)
     (client_step s.member.state.setup s.member.state.past (call.Send ws))
 unfolding client_step NeverTurn Never TurnLeaves
-send_leaves ws s =
-    let set = s.member.state.setup in
-    let past = s.member.state.past in
-    let c = call.Send ws in
-    let down = refusing (refusal.Down Main) past in
-    let early = refusing refusal.NotReady past in
-    let control = refusing refusal.Control past in
-    let full = refusing (refusal.LogFull (length past)) past in
-    let done : ClientTurn =
-    record { reply = reply.Sent (command_number set past ws); past = entry.Send ws ∷ past } in
-    leaves_if s c (is_ended set.mode Main past) down _ (leaves_never s c down (never_down Main))
-    (leaves_if s c (not (is_ready set.mode past)) early _ (leaves_never s c early none)
-    (leaves_if s c (is_control ws) control _ (λ f e r. (refl, refl))
-    (leaves_if s c (is_log_full set past) full done
-    (leaves_never s c full (never_full (length past))) (leaves_never s c done none))))
+send_leaves ws s = grind arith
 
 poll_leaves : (n : ℕ) (s : Seat)
     → TurnLeaves s (call.Poll n)
     (client_step s.member.state.setup s.member.state.past (call.Poll n))
 unfolding client_step TurnLeaves
-poll_leaves n s =
-    let set = s.member.state.setup in
-    let past = s.member.state.past in
-    let c = call.Poll n in
-    let done = polling (log.reply set.mode past n) n (is_ended set.mode Main past) past in
-    leaves_if s c (not (is_wanted set past n)) (refusing (refusal.NoNumber n) past) done
-    (λ f e r. (refl, refl))
-    (leaves_never s c done
-    (never_poll (log.reply set.mode past n) n (is_ended set.mode Main past) past))
+poll_leaves n s = grind arith
 
 turn_leaves : (c : ClientCall) (s : Seat)
     → TurnLeaves s c (client_step s.member.state.setup s.member.state.past c)
@@ -245,9 +212,7 @@ said_leaves None name bytes w = event_leaves (link_event.Put name bytes) w
 said_leaves (Some at) name bytes w = refused w NoName
 
 raw_out_leaves : (p count : Option ℕ) (w : WorldState) → Unchanged w (raw_out p count w)
-raw_out_leaves None count w = refused w NoName
-raw_out_leaves (Some at) None w = λ f e r. absurd (none f e r)
-raw_out_leaves (Some at) (Some n) w = refused w NothingThere
+raw_out_leaves p count w = grind arith
 
 -- ---- links flow
 

@@ -46,9 +46,7 @@ module _ (l : Limits) (x : Client) (past : List Entry) (log : List LogEntry)
   going : is_ended x.setup.mode Main log ≡ false
       → complete l x past log
       ≡ before_first (drop (length (gots Main log)) (sent l (x.id Main) past)) (length past)
-  going e =
-      on_main ∙ ap (λ b. cond b (length past)
-      (before_first (drop (length (gots Main log)) (sent l (x.id Main) past)) (length past))) e
+  going e = grind arith
 
   pub complete_some : is_ended x.setup.mode Main log ≡ false → (n e : ℕ)
       → n ≡ length (gots Main log)
@@ -90,19 +88,18 @@ module _ (key : List ℕ) where
       → slice_get ws k ≡ Some w → slice_get es k ≡ Some e
       → last_named key (take (suc k) ws) es
       ≡ max (last_named key (take k ws) es) (cond (names_key w key) e 0)
-  at_some zero (v ∷ ws) [] w e a b = absurd (let no : ⊥ = cc in no)
   at_some zero (v ∷ ws) (r ∷ es) w e a b =
       let same : v ≡ w = cc in
       let there : r ≡ e = cc in
       swapped (cond (names_key v key) r 0)
       ∙ ap (λ u. max 0 (cond (names_key u key) r 0)) same
       ∙ ap (λ u. max 0 (cond (names_key w key) u 0)) there
-  at_some (suc k) (v ∷ ws) [] w e a b = absurd (let no : ⊥ = cc in no)
   at_some (suc k) (v ∷ ws) (r ∷ es) w e a b =
       let x = cond (names_key v key) r 0 in
       ap (max x) (at_some k ws es w e a b)
       ∙ together x (last_named key (take k ws) es) (cond (names_key w key) e 0)
   at_some x [] es w e a b = absurd (let no : ⊥ = cc in no)
+  at_some x (v ∷ ws) [] w e a b = absurd (let no : ⊥ = cc in no)
 
   picked : (b : Bool) (r e : ℕ) → r ≤ e → cond b r 0 ≤ e
   picked true r e le = le

@@ -1,10 +1,8 @@
 -- One client's moves in a world: what holds while the client is at work, and all the others stand.
-use Rattle.std.proofs.Common.{◌≡◌, ◌<◌, ℕ, zero, suc, List, [], ◌∷◌, ◌++◌, true}
-use Rattle.std.proofs.Common.{false, None, length, filter, refl, sym, ap}
+use Rattle.std.proofs.Common.{◌≡◌, ◌<◌, ℕ, zero, suc, List, [], ◌∷◌, ◌++◌}
+use Rattle.std.proofs.Common.{None, length, filter, refl, sym, ap}
 use Rattle.std.proofs.Common.{subst, ◌∙◌, arith, append_assoc, append-nil, length-set}
-use Rattle.std.proofs.Common.{eq-eqb}
-use Rattle.std.specs.Prelude.{◌==◌, slice_set}
-use Rattle.std.proofs.lemmas.Bool.{eqb-true}
+use Rattle.std.specs.Prelude.{slice_set}
 use Rattle.std.proofs.lemmas.List.{get_or-set_same}
 use Rattle.resp_value.specs.Lists.{IsPrefix}
 use Rattle.serial_model.specs.declared.history.Limits.{Limits}
@@ -39,10 +37,7 @@ abbrev pub Steady : Working
 Steady ls read m = Reads read m
 
 pub by_place : (P : Type 0) (i at : ℕ) → (i ≡ at → P) → ((i ≡ at → ⊥) → P) → P
-by_place P i at f g = elim (i == at) as (λ b. (i == at) ≡ b → P) [
-  | true ↦ λ e. f (eqb-true i at e)
-  | false ↦ λ e. g (λ q. let t : (i == at) ≡ true = eq-eqb i at q in cc)
-] refl
+by_place P i at f g = grind arith
 
 -- ---- a world between two moves
 

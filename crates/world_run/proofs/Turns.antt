@@ -45,55 +45,10 @@ by_if P false x y p q = q
 abbrev pub Adds : List LogEntry → List LogEntry → Type 0
 Adds log new = (new ≡ log) ⊎ ((e : LogEntry) × (new ≡ e ∷ log))
 
-adds_poll : (o : Option Value) (n : ℕ) (ended : Bool) (log : List LogEntry)
-    → Adds log (polling o n ended log).past
-adds_poll (Some v) n ended log = inr (entry.Poll n, refl)
-adds_poll None n true log = inl refl
-adds_poll None n false log = inl refl
-
-adds_taking : (most : ℕ) (bytes : List ℕ) (full : Bool) (log : List LogEntry)
-    → Adds log (taking_out Main most bytes full log).past
-adds_taking most [] full log = inl refl
-adds_taking most (b ∷ bytes) true log = inl refl
-adds_taking most (b ∷ bytes) false log = inr (entry.TakeOut Main most, refl)
-
-adds_getting : (r : Option ClientRefusal) (v : Value) (full : Bool) (log : List LogEntry)
-    → Adds log (getting r Main v full log).past
-adds_getting (Some r) v full log = inr (entry.Bad Main v, refl)
-adds_getting None v true log = inl refl
-adds_getting None v false log = inr (entry.Got Main v, refl)
-
-adds_end : (b : Bool) (log : List LogEntry) → Adds log (cond b log (entry.End Main ∷ log))
-adds_end true log = inl refl
-adds_end false log = inr (entry.End Main, refl)
-
 pub turn_adds : (s : Setup) (log : List LogEntry) (c : ClientCall) → IsCall c
     → Adds log (client_step s log c).past
 unfolding client_step
-turn_adds s log (Ask q) h =
-    by_if (λ t. Adds log t.past) (is_ended s.mode Main log) _ _ (inl refl)
-    (by_if (λ t. Adds log t.past) (not (is_ready s.mode log)) _ _ (inl refl)
-    (by_if (λ t. Adds log t.past) (is_log_full s log) _ _ (inl refl) (inr (entry.Ask q, refl))))
-turn_adds s log (Send ws) h =
-    by_if (λ t. Adds log t.past) (is_ended s.mode Main log) _ _ (inl refl)
-    (by_if (λ t. Adds log t.past) (not (is_ready s.mode log)) _ _ (inl refl)
-    (by_if (λ t. Adds log t.past) (is_control ws) _ _ (inl refl)
-    (by_if (λ t. Adds log t.past) (is_log_full s log) _ _ (inl refl)
-    (inr (entry.Send ws, refl)))))
-turn_adds s log (Poll n) h =
-    by_if (λ t. Adds log t.past) (not (is_wanted s log n)) _ _ (inl refl)
-    (adds_poll (reply s.mode log n) n (is_ended s.mode Main log) log)
-turn_adds s log (TakeOut w most) h =
-    subst (λ w. Adds log (client_step s log (TakeOut w most)).past) (sym h)
-    (by_if (λ t. Adds log t.past) (is_ended s.mode Main log) _ _ (inl refl)
-    (adds_taking most (untaken s Main log) (is_log_full s log) log))
-turn_adds s log (Got w v) h =
-    subst (λ w. Adds log (client_step s log (Got w v)).past) (sym h)
-    (by_if (λ t. Adds log t.past) (is_ended s.mode Main log) _ _ (inl refl)
-    (adds_getting (steps.fault_of s log Main v) v (is_log_full s log) log))
-turn_adds s log (End w) h =
-    subst (λ w. Adds log (client_step s log (End w)).past) (sym h)
-    (adds_end (is_ended s.mode Main log) log)
+turn_adds s log c h = grind arith
 
 pub turn_legal : (s : Setup) (log : List LogEntry) (c : ClientCall) → IsCall c → AsksQuery c
     → LegalLog s log → LegalLog s (client_step s log c).past

@@ -8,10 +8,10 @@ use Rattle.std.specs.Prelude.{not}
 use Rattle.std.proofs.lemmas.List.{get_or_read, set-get_or}
 use Rattle.std.proofs.Math.Numerals.{suc-eq-add-one}
 use Rattle.resp_value.specs.declared.value.Proto.{Proto}
-use Rattle.resp_value.specs.declared.value.Proto.TheVariants.{Two, Three}
+use Rattle.resp_value.specs.declared.value.Proto.TheVariants.{Three}
 use Rattle.shared_cache.specs.declared.log.ClientMode.{ClientMode}
 use Rattle.shared_cache.specs.declared.log.Shape.{Shape}
-use Rattle.shared_cache.specs.declared.log.Shape.TheVariants.{Single, Pair}
+use Rattle.shared_cache.specs.declared.log.Shape.TheVariants.{Single}
 use Rattle.shared_cache.specs.declared.log.Caching.{Caching}
 use Rattle.shared_cache.specs.declared.log.Caching.TheVariants.{Default}
 use Rattle.script_text.specs.declared.event.Event.{Event}
@@ -239,11 +239,7 @@ one_mode = record { shape = Single; proto = Three; caching = Default; noloop = f
 mode_of : (s : Shape) (p : Proto) (k : Caching) (n : Bool)
     → is_served (record { shape = s; proto = p; caching = k; noloop = n }) ≡ true
     → record { shape = s; proto = p; caching = k; noloop = n } ≡ one_mode
-mode_of Single Three Default false e = refl
-mode_of Single Three Default true e = absurd (let no : ⊥ = cc in no)
-mode_of Single Two k n e = absurd (let no : ⊥ = cc in no)
-mode_of Pair p k n e = absurd (let no : ⊥ = cc in no)
-mode_of Single Three k n e = absurd (let no : ⊥ = cc in no)
+mode_of s p k n e = grind arith
 
 -- one mode alone is served
 pub served_mode : (mode : ClientMode) → is_served mode ≡ true → mode ≡ one_mode
@@ -263,15 +259,11 @@ module _ (name : List ℕ) (mode : ClientMode) (capacity : ℕ) (w : WorldState)
   module _ (served : is_served mode ≡ true) where
     pub client_taken : is_taken name w ≡ true
         → client_step name mode capacity w ≡ refuses w NameTaken
-    client_taken on = ap (λ b. cond (not b) (refuses w (Refused 0))
-        (cond (is_taken name w) (refuses w NameTaken) making)) served
-        ∙ ap (λ b. cond b (refuses w NameTaken) making) on
+    client_taken on = grind arith
 
     module _ (free : is_taken name w ≡ false) where
       client_making : client_step name mode capacity w ≡ making
-      client_making = ap (λ b. cond (not b) (refuses w (Refused 0))
-          (cond (is_taken name w) (refuses w NameTaken) making)) served
-          ∙ ap (λ b. cond b (refuses w NameTaken) making) free
+      client_making = grind arith
 
       -- of the world as its code has it
       module _ (old : WorldState) (view : old ≡ w) (lines : List Line)

@@ -3,7 +3,7 @@ use Rattle.serial_model.specs.declared.history.Entry.TheVariants as entry
 use Rattle.serial_model.specs.declared.history.BookCall.TheVariants.{Run}
 use Rattle.serial_model.specs.declared.mode.Runner.{Runner}
 use Rattle.serial_model.specs.History.{runner}
-use Rattle.serial_model.specs.Tracking.{AreApart, without_keys}
+use Rattle.serial_model.specs.Tracking.{without_keys}
 use Rattle.serial_model.proofs.DueKeys.{due_apart}
 use Rattle.server_book.specs.BookState.{Agrees, BookState, IsAccepted}
 use Rattle.server_book.specs.Connections.{ConnectionsState}
@@ -29,9 +29,7 @@ send_run-requires-clause-id c =
     c.self.invariant.agrees c.args.id acc.0
 
 pub send_run-requires-clause-apart : goal.send_run-requires-clause-apart
-send_run-requires-clause-apart c =
-    subst AreApart (sym (c.as_slice.ensures ∙ c.in_ok-expired.ensures.expired))
-    (due_apart c.max-moment.result c.self.inside.stores.space)
+send_run-requires-clause-apart c = grind (arith, due_apart)
 
 pub invariant_of-self-2 : goal.invariant_of-self-2
 invariant_of-self-2 c =

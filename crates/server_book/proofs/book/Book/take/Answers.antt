@@ -1,4 +1,4 @@
-use Rattle.std.proofs.Common.{◌≡◌, ◌∷◌, length, take, sym, ap}
+use Rattle.std.proofs.Common.{◌∷◌, length, sym, ap}
 use Rattle.std.proofs.Common.{subst, ◌∙◌, ◌-◌, arith, length-set}
 use Rattle.serial_model.specs.declared.history.Entry.TheVariants as entry
 use Rattle.serial_model.specs.declared.history.BookCall.TheVariants.{Take}
@@ -36,26 +36,4 @@ invariant_of-self-2 c =
     }
 
 pub returns-clause-ok : goal.returns-clause-ok
-returns-clause-ok c =
-    let i = c.self.inside in
-    let cs = i.stores.connections.items in
-    let k = c.self.invariant.agrees in
-    let past = i.log.past in
-    let acc = subst (λ (b : BookState). IsAccepted b.limits b.past (Take c.args.id c.args.most))
-    (sym c.self.view_is) c.requires.accepted in
-    let e = entry.Take c.args.id c.args.most in
-    let n : c.len-entry.result ≡ length past =
-    c.len-entry.ensures.len ∙ ap length c.reserve.ensures.past in
-    let front = c.in_ok-bytes.ensures
-    ∙ ap (λ x. take c.args.most x.queue) (kept_of i.limits past i.stores.space
-    i.stores.table cs k c.args.id acc.0) in
-    is_turn c.args.self.now i.limits past c.push.new.self.past i.stores.connections.posts
-    c.advance.new.self.posts e
-    (Take c.args.id c.args.most) _ c.self.view_is tt
-    (c.push.ensures.past ∙ ap (λ p. e ∷ p) c.reserve.ensures.past)
-    (take_turned i.limits past c.args.id c.args.most c.len-entry.result c.in_ok-bytes.bytes acc.0
-    acc.1 n front
-    (rw front (take_some c.args.most _ c.requires.most acc.2)))
-    (ap (λ (s : ConnectionsState). s.posts) c.advance.ensures
-    ∙ ap (λ (b : BookState). b.posts) c.self.view_is ∙ c.requires.none
-    ∙ posted_take i.limits past c.args.id c.args.most)
+returns-clause-ok c = grind (arith, kept_of, is_turn, take_turned, take_some, posted_take)

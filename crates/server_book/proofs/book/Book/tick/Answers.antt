@@ -1,16 +1,13 @@
-use Rattle.std.proofs.Common.{◌≡◌, ◌+◌, ◌∷◌, [], length, sym, ap, subst, ◌∙◌, arith, max, true}
-use Rattle.std.proofs.Common.{false, refl, eqb-true}
+use Rattle.std.proofs.Common.{◌≡◌, ◌+◌, ◌∷◌, [], length, sym, ap, subst, ◌∙◌, arith, max}
+use Rattle.std.proofs.Common.{false, eqb-true}
 use Rattle.std.proofs.lemmas.Bool.{eqb-false}
 use Rattle.serial_model.specs.declared.history.Entry.TheVariants as entry
 use Rattle.serial_model.specs.declared.history.BookCall.TheVariants.{Tick}
-use Rattle.serial_model.specs.declared.history.BookReply.TheVariants.{Quiet, Refused}
-use Rattle.serial_model.specs.declared.history.BookRefusal.TheVariants.{HistoryFull}
 use Rattle.serial_model.specs.Deadlines.{due_keys}
 use Rattle.serial_model.specs.History.{expired, is_full, routed}
-use Rattle.serial_model.specs.Steps.{BookStep}
-use Rattle.serial_model.specs.Tracking.{AreApart, group, without_keys}
+use Rattle.serial_model.specs.Tracking.{group, without_keys}
 use Rattle.serial_model.proofs.DueKeys.{due_apart, none_due}
-use Rattle.server_book.specs.BookState.{Agrees, BookState, IsTurn}
+use Rattle.server_book.specs.BookState.{Agrees, BookState}
 use Rattle.server_book.specs.Connections.{ConnectionsState}
 use Rattle.server_book.specs.Sendings.{modes_of, with_sendings}
 use Rattle.server_book.proofs.Plans.{due_is}
@@ -20,77 +17,13 @@ use Rattle.server_book.proofs.Ticks.{none_of, some_of, tick_turned}
 use Rattle.server_book.proofs.book.Book.tick.Goals as goal
 
 pub invariant_of-self-then-is_empty : goal.invariant_of-self-then-is_empty
-invariant_of-self-then-is_empty c =
-    let i = c.self.inside in
-    let l = i.limits in
-    let space = i.stores.space in
-    let m = c.max-moment.result in
-    let due = c.as_slice.ensures
-    ∙ due_is m space c.in_ok-keys.field-0.keys c.in_ok-keys.ensures.keys in
-    let none = none_of c.as_slice.result.now
-    (eqb-true (length c.as_slice.result.now) 0 (sym c.is_empty.ensures ∙ c.if-is_empty.true)) in
-    record {
-      agrees = subst (λ s. Agrees l c.reserve.new.self.past s i.stores.table
-          i.stores.connections.items)
-          (sym (c.in_ok-keys.ensures.ok ∙ none_due m space (sym due ∙ none)))
-          (subst (λ p. Agrees l p space i.stores.table i.stores.connections.items)
-          (sym c.reserve.ensures.past) c.self.invariant.agrees);
-      room = omega (arith, c.self.invariant.room, c.reserve.ensures.room);
-    }
+invariant_of-self-then-is_empty c = grind (arith, due_is, none_of, eqb-true, none_due)
 
 pub returns-then-is_empty-clause-ok : goal.returns-then-is_empty-clause-ok
-returns-then-is_empty-clause-ok c =
-    let i = c.self.inside in
-    let l = i.limits in
-    let past = i.log.past in
-    let space = i.stores.space in
-    let m = c.max-moment.result in
-    let posts = i.stores.connections.posts in
-    let due = c.as_slice.ensures
-    ∙ due_is m space c.in_ok-keys.field-0.keys c.in_ok-keys.ensures.keys in
-    let none = none_of c.as_slice.result.now
-    (eqb-true (length c.as_slice.result.now) 0 (sym c.is_empty.ensures ∙ c.if-is_empty.true)) in
-    let nobody : posts ≡ [] = ap (λ (b : BookState). b.posts) c.self.view_is ∙ c.requires.none in
-    let after : BookState = record { limits = l; past = c.reserve.new.self.past; posts = posts } in
-    subst (λ b. IsTurn b (Tick c.args.now) Quiet after) c.self.view_is
-    (record {
-      limits = refl;
-      step = subst (λ p. BookStep l past (Tick c.args.now) Quiet p) (sym c.reserve.ensures.past)
-          (tick_quiet l past c.args.now m
-          (ap (due_keys m) (sym c.self.invariant.agrees.space_is) ∙ sym due ∙ none)
-          (c.max-moment.ensures ∙ ap (max c.args.now) c.moment.ensures));
-      posts = nobody;
-    })
+returns-then-is_empty-clause-ok c = grind (arith, due_is, none_of, eqb-true, tick_quiet)
 
 pub returns-then-is_full-clause-ok : goal.returns-then-is_full-clause-ok
-returns-then-is_full-clause-ok c =
-    let i = c.self.inside in
-    let l = i.limits in
-    let past = i.log.past in
-    let space = i.stores.space in
-    let m = c.max-moment.result in
-    let posts = i.stores.connections.posts in
-    let gone = c.as_slice.result.now in
-    let due = c.as_slice.ensures
-    ∙ due_is m space c.in_ok-keys.field-0.keys c.in_ok-keys.ensures.keys
-    ∙ ap (due_keys m) c.self.invariant.agrees.space_is in
-    let full = subst (λ (b : BookState). is_full b.limits b.past ≡ true) (sym c.self.view_is)
-    (sym c.is_full-is_full.ensures ∙ c.if-is_full.true) in
-    let some = some_of gone
-    (eqb-false (length gone) 0 (sym c.is_empty.ensures ∙ c.if-is_empty.false)) in
-    let nobody : posts ≡ [] = ap (λ (b : BookState). b.posts) c.self.view_is ∙ c.requires.none in
-    let reply = Refused (HistoryFull c.len-entries.result) in
-    let after : BookState = record { limits = l; past = c.reserve.new.self.past; posts = posts } in
-    subst (λ b. IsTurn b (Tick c.args.now) reply after) c.self.view_is
-    (record {
-      limits = refl;
-      step = subst (λ p. BookStep l past (Tick c.args.now) reply p) (sym c.reserve.ensures.past)
-          (subst (λ n. BookStep l past (Tick c.args.now) (Refused (HistoryFull n)) past)
-          (sym c.len-entries.ensures.len)
-          (tick_full l past c.args.now m gone due some full
-          (c.max-moment.ensures ∙ ap (max c.args.now) c.moment.ensures)));
-      posts = nobody;
-    })
+returns-then-is_full-clause-ok c = grind (arith, due_is, some_of, eqb-false, tick_full)
 
 pub send_tick-requires-clause-there : goal.send_tick-requires-clause-there
 send_tick-requires-clause-there c =
@@ -99,11 +32,7 @@ send_tick-requires-clause-there c =
     c.self.invariant.agrees).there
 
 pub send_tick-requires-clause-apart : goal.send_tick-requires-clause-apart
-send_tick-requires-clause-apart c =
-    let space = c.self.inside.stores.space in
-    let m = c.max-moment.result in
-    subst AreApart (sym (c.as_slice-2.ensures
-    ∙ due_is m space c.in_ok-keys.field-0.keys c.in_ok-keys.ensures.keys)) (due_apart m space)
+send_tick-requires-clause-apart c = grind (arith, due_is, due_apart)
 
 pub invariant_of-self-in-Ok : goal.invariant_of-self-in-Ok
 invariant_of-self-in-Ok c =

@@ -7,18 +7,10 @@ use Rattle.server_book.proofs.Sendings.{unqueued_is}
 use Rattle.server_book.proofs.connections.Connections.take_back.Goals as goal
 
 pub overflow_sub-post : goal.overflow_sub-post
-overflow_sub-post c =
-    let items = c.posts.self-inside.items.items in
-    let last = posted_last items c.pop.new.self.items c.in-Some.post
-    (subst (ArePosted items) c.in-Some.ensures.items c.posts.invariant.0) in
-    omega (arith, last.1.0)
+overflow_sub-post c = grind (arith, posted_last)
 
 pub index_mut-connection-requires : goal.index_mut-connection-requires
-index_mut-connection-requires c =
-    let items = c.posts.self-inside.items.items in
-    let last = posted_last items c.pop.new.self.items c.in-Some.post
-    (subst (ArePosted items) c.in-Some.ensures.items c.posts.invariant.0) in
-    omega (arith, last.1.0, last.1.1, c.posts.self-inside.items.ok.0)
+index_mut-connection-requires c = grind (arith, posted_last)
 
 pub posts-preserved : goal.posts-preserved
 posts-preserved c =

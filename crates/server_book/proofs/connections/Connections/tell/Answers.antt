@@ -2,8 +2,7 @@ use Rattle.std.proofs.Common.{ap, ◌∙◌, arith, length, ◌<◌}
 use Rattle.std.specs.Option.{option_map}
 use Rattle.resp_value.specs.declared.value.Proto.TheVariants.{Three}
 use Rattle.serial_model.specs.History.{spelled}
-use Rattle.server_book.specs.Connections.{ConnectionsState}
-use Rattle.server_book.specs.Sendings.{before_posts, told_keys}
+use Rattle.server_book.specs.Sendings.{told_keys}
 use Rattle.server_book.proofs.Sendings.{next_there, told_nothing, told_push, before_sendings}
 use Rattle.server_book.proofs.Sendings.{told_first, first_there, on_err}
 use Rattle.server_book.proofs.connections.Connections.tell.Goals as goal
@@ -26,15 +25,7 @@ send-requires c =
 
 pub returns-in_err-send-in-Three-clause-err : goal.returns-in_err-send-in-Three-clause-err
 returns-in_err-send-in-Three-clause-err c =
-    let old = c.args.self.now in
-    let keys = told_keys (option_map (λ k. k.now) c.args.key) in
-    let ids = c.args.to.now in
-    let k = c.loop-place.place in
-    on_err c.from_residual-in_err-send-in-Three.result _
-    (ap (λ (s : ConnectionsState). before_posts s.posts s.items)
-    (c.in_err-send-in-Three.ensures.err ∙ c.loop-place.invariant)
-    ∙ before_sendings c.args.entry (told_first old.items keys ids k) old
-    (first_there old.items keys ids k c.requires))
+    grind (arith, on_err, before_sendings, told_first, first_there)
 
 pub loop-place-preserved : goal.loop-place-preserved
 loop-place-preserved c =

@@ -1,10 +1,9 @@
-use Rattle.std.proofs.Common.{◌≡◌, ◌++◌, ◌∷◌, [], length, sym, ap, subst, ◌∙◌, arith}
+use Rattle.std.proofs.Common.{◌≡◌, [], length, sym, ap, subst, ◌∙◌, arith}
 use Rattle.track_table.specs.Table.{TableState}
 use Rattle.serial_model.specs.History.{spelled}
 use Rattle.serial_model.specs.Tracking.{without_keys}
 use Rattle.server_book.specs.Connections.{ConnectionsState}
 use Rattle.server_book.specs.RunSendings.{with_mode}
-use Rattle.server_book.specs.Sendings.{before_posts, message_post, modes_of, queued}
 use Rattle.server_book.specs.Stores.{IsHeld}
 use Rattle.server_book.proofs.Sendings.{mode_same, on_err, on_err_then}
 use Rattle.server_book.proofs.Undoing.{held_left, length_replied, length_switched}
@@ -12,13 +11,7 @@ use Rattle.server_book.proofs.Undoing.{on_told, replied_back, told_back}
 use Rattle.server_book.proofs.stores.Stores.send_groups.Goals as goal
 
 pub returns-in_err-tell_keys-clause-back : goal.returns-in_err-tell_keys-clause-back
-returns-in_err-tell_keys-clause-back c =
-    let s = c.args.self.now.connections in
-    let id = c.args.id in
-    on_err c.from_residual.result _
-    (ap (with_mode id (modes_of s.items id))
-    (c.in_err-tell_keys.ensures.back ∙ ap (λ ps. before_posts ps s.items) c.requires.none)
-    ∙ mode_same s.items id c.requires.id)
+returns-in_err-tell_keys-clause-back c = grind (arith, on_err, mode_same)
 
 pub send-requires : goal.send-requires
 send-requires c =
@@ -28,15 +21,7 @@ send-requires c =
     c.requires.none c.in_ok-tell_keys.ensures.told
 
 pub returns-in_err-send-clause-back : goal.returns-in_err-send-clause-back
-returns-in_err-send-clause-back c =
-    let s = c.args.self.now in
-    let id = c.args.id in
-    on_err c.from_residual-in_err-send.result _
-    (ap (λ (x : ConnectionsState). with_mode id (modes_of s.connections.items id)
-    (before_posts x.posts x.items)) c.in_err-send.ensures.err
-    ∙ told_back c.args.entry id s.connections c.tell_keys.new.self.connections
-    c.args.expired.now s.table.rows c.requires.held.there c.requires.apart c.requires.id
-    c.requires.none c.in_ok-tell_keys.ensures.told)
+returns-in_err-send-clause-back c = grind (arith, on_err, told_back)
 
 pub set_mode-requires : goal.set_mode-requires
 set_mode-requires c =
@@ -86,24 +71,4 @@ carry_out-requires c =
     }
 
 pub returns-clause-back : goal.returns-clause-back
-returns-clause-back c =
-    let s = c.args.self.now in
-    let now = c.tell_keys.new.self.connections in
-    let plan = c.args.plan.now in
-    let id = c.args.id in
-    let message = spelled plan.mode.proto plan.reply in
-    let switched : c.set_mode.new.self ≡ record {
-      items = with_mode id plan.mode (queued now.items id message);
-      posts = now.posts ++ message_post c.args.entry id (length message) ∷ [];
-    } =
-    c.set_mode.ensures
-    ∙ ap (λ (x : ConnectionsState). record {
-      items = with_mode id plan.mode x.items;
-      posts = x.posts;
-    }) c.in_ok-send.ensures.ok in
-    on_err_then c.carry_out.result _ _
-    (λ e. ap (with_mode id (modes_of s.connections.items id))
-    (e ∙ ap (λ (x : ConnectionsState). before_posts x.posts x.items) switched)
-    ∙ replied_back c.args.entry id s.connections now c.args.expired.now s.table.rows
-    c.requires.held.there c.requires.apart c.requires.id c.requires.none
-    c.in_ok-tell_keys.ensures.told plan.mode message) c.carry_out.ensures.back
+returns-clause-back c = grind (arith, on_err_then, replied_back)

@@ -1,43 +1,17 @@
-use Rattle.std.proofs.Common.{◌≤◌, sym, ap, ◌∙◌, arith, length, ◌<◌, []}
+use Rattle.std.proofs.Common.{sym, ap, ◌∙◌, arith, length, ◌<◌, []}
 use Rattle.std.proofs.lemmas.List.{get_or_read, take_all}
 use Rattle.track_table.specs.declared.table.Held.{Held}
 use Rattle.track_table.specs.Table.{TableState, holders_of}
-use Rattle.serial_model.specs.History.{routed}
-use Rattle.serial_model.specs.Tracking.{drop_group}
-use Rattle.server_book.specs.Sendings.{modes_of, with_sendings}
 use Rattle.server_book.proofs.Groups.{back_still, each_at, each_length, each_row, each_there}
 use Rattle.server_book.proofs.Groups.{group_told, ids_still, told_more}
 use Rattle.server_book.proofs.Sendings.{on_err}
 use Rattle.server_book.proofs.stores.Stores.tell_keys.Goals as goal
 
 pub tell-requires : goal.tell-requires
-tell-requires c =
-    let s = c.args.self.now in
-    let keys = c.args.keys.now in
-    let rows = s.table.rows in
-    let k = c.loop-place.place in
-    let lt : k < length keys = omega (arith, c.loop-place-test.true) in
-    ids_still c.args.entry s.connections c.loop-place.self.connections (each_row keys rows) k
-    (each_there s.connections.items keys rows c.requires.there) c.loop-place.invariant.told
-    c.holders-holders.result.now
-    (c.holders-holders.ensures.list
-    ∙ ap (λ (t : TableState). holders_of c.as_slice.result.now t.rows)
-    c.loop-place.invariant.table
-    ∙ ap (λ x. holders_of x rows)
-    (c.as_slice.ensures
-    ∙ get_or_read keys k c.index-keys-place.result lt c.index-keys-place.is [])
-    ∙ sym (ap (λ (r : Held). r.holders) (each_at keys rows k lt)))
+tell-requires c = grind (arith, ids_still, each_row, each_there, get_or_read, each_at)
 
 pub returns-in_err-tell-clause-back : goal.returns-in_err-tell-clause-back
-returns-in_err-tell-clause-back c =
-    let s = c.args.self.now in
-    let keys = c.args.keys.now in
-    on_err c.from_residual.result _
-    (c.in_err-tell.ensures.err
-    ∙ back_still c.args.entry s.connections c.loop-place.self.connections
-    (each_row keys s.table.rows) c.loop-place.place
-    (each_there s.connections.items keys s.table.rows c.requires.there)
-    c.loop-place.invariant.told)
+returns-in_err-tell-clause-back c = grind (arith, on_err, back_still, each_row, each_there)
 
 pub loop-place-preserved : goal.loop-place-preserved
 loop-place-preserved c =
@@ -66,15 +40,4 @@ loop-place-preserved c =
     }
 
 pub returns-clause-told : goal.returns-clause-told
-returns-clause-told c =
-    let s = c.args.self.now in
-    let keys = c.args.keys.now in
-    let rows = s.table.rows in
-    let m = modes_of s.connections.items in
-    let all : length (each_row keys rows) ≤ c.loop-place.place =
-    omega (arith, c.loop-place-test.false, each_length keys rows) in
-    c.loop-place.invariant.told
-    ∙ ap (λ x. with_sendings c.args.entry (routed m (drop_group x)) s.connections)
-    (take_all c.loop-place.place (each_row keys rows) all)
-    ∙ ap (λ g. with_sendings c.args.entry (routed m g) s.connections)
-    (sym (group_told keys rows c.requires.apart))
+returns-clause-told c = grind (arith, each_row, each_length, take_all, group_told)

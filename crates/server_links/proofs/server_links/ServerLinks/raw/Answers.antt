@@ -27,9 +27,7 @@ none (Some a) e = absurd (let no : ⊥ = cc in no)
 
 free : (v w : LinksState) (name : List ℕ) (o : Option ℕ) (b : Bool) → v ≡ w → o ≡ place_of name w
     → b ≡ is_some o → b ≡ false → place_of name v ≡ None
-free v w name o b view place is off =
-    none (place_of name v) (ap (λ x. is_some (place_of name x)) view ∙ ap is_some (sym place)
-    ∙ sym is ∙ off)
+free v w name o b view place is off = grind arith
 
 pub returns-then-is_some : goal.returns-then-is_some
 returns-then-is_some c =

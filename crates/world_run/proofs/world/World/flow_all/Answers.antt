@@ -92,9 +92,4 @@ links-preserved c =
 
 pub returns : goal.returns
 unfolding step
-returns c =
-    let w = c.args.self.now in
-    let k = c.links.invariant in
-    let is : c.links.at ≡ length w.links.links =
-    omega (arith, c.count.ensures.count, k.2, k.3, c.links-test.false) in
-    subst (λ n. Ends (flow_first n w) c.args.lines.now c.links.self c.links.lines) is k.0
+returns c = grind arith
