@@ -36,7 +36,8 @@ use Rattle.conn_worker.specs.declared.deliver.Front.TheVariants as front
 use Rattle.conn_worker.specs.declared.serve.Heard.{Heard}
 use Rattle.edge_links.proofs.Bytes.{appends_none, appends_more, appends_as, appends_kept}
 use Rattle.edge_links.proofs.Bytes.{consumes_none, consumes_more, consumes_kept}
-use Rattle.conn_worker.proofs.Reading.{ReadsOn, reads_begun, reads_further, no_requests}
+use Rattle.conn_worker.proofs.Reading.{ReadsOn, reads_begun, reads_further}
+use Rattle.resp_stream.proofs.Onward.{no_requests}
 use Rattle.conn_worker.proofs.Turning.{runs_append, gave_append, all_taken, no_runs}
 use Rattle.conn_worker.proofs.Ticking.{Passes, idles_pass, idles_faultless, idles_untaken}
 

@@ -80,20 +80,12 @@ over_gives at move server new links link link' lines r lines' below is g limits 
     let there : link ≡ at_place links at = get_or_read links at link below is (fresh_link 0 []) in
     let same : session server link ≡ session_at at w = ap (session server) there in
     let state : with_session at w (session new link') ≡ world new (slice_set links at link') =
-    ap (λ l. record {
-      limits = l;
-      now = server.clock;
+    (λ i. record {
+      limits = sym limits i;
+      now = sym clock i;
       past = new.book.past;
-      links = slice_set links
-          at link';
-    }) (sym limits)
-    ∙ ap (λ n. record {
-      limits = new.book.limits;
-      now = n;
-      past = new.book.past;
-      links = slice_set
-          links at link';
-    }) (sym clock) in
+      links = slice_set links at link';
+    }) in
     subst (λ x. Gives (over at move w) lines r x lines') state
     (gives_within (with_session at w) (move (session_at at w)) lines r (session new link') lines'
     (subst (λ x. Gives (move x) lines r (session new link') lines') same g))
@@ -176,23 +168,6 @@ module _ (server : ServerState) (links : List Link) (name : List ℕ) (lines : L
 
     module _ (new : ServerState) (x : Line) (lines' : List Line) (limits : new.book.limits
         ≡ server.book.limits) (clock : new.clock ≡ server.clock) where
-      same_world : (ls : List Link) → world new ls
-          ≡ record {
-            limits = server.book.limits;
-            now = server.clock;
-            past = new.book.past;
-            links =
-                ls;
-          }
-      same_world ls =
-          ap (λ l. record { limits = l; now = new.clock; past = new.book.past; links = ls }) limits
-          ∙ ap (λ n. record {
-            limits = server.book.limits;
-            now = n;
-            past = new.book.past;
-            links = ls;
-          }) clock
-
       raw_fault : (fault : WorldFault)
           → TurnGives server.book.limits server.book.past call.Admit x lines (Err fault)
           new.book.past lines' → new.book.past ≡ server.book.past
@@ -227,14 +202,7 @@ module _ (server : ServerState) (links : List Link) (name : List ℕ) (lines : L
           let same = past_same fault g in
           subst (λ v. Stops (raw_step (world server links) name
           (place_of name (world server links))) lines fault v lines')
-          (sym (same_world links
-          ∙ ap (λ p. record {
-            limits = server.book.limits;
-            now = server.clock;
-            past = p;
-            links =
-                links;
-          }) same))
+          (sym (λ i. record { limits = limits i; now = clock i; past = same i; links = links }))
           (subst (λ p. Stops (raw_step (world server links) name p) lines fault (world server links)
           lines') (sym free) (raw_fault fault g same))
 
@@ -272,21 +240,12 @@ module _ (server : ServerState) (links : List Link) (name : List ℕ) (lines : L
             let w = world server links in
             let n = admitted server.book.past + 1 in
             subst (λ v. Ends (raw_step w name (place_of name w)) lines v lines')
-            (sym (same_world (links ++ fresh_link id name ∷ [])
-            ∙ ap (λ p. record {
-              limits = server.book.limits;
-              now = server.clock;
-              past = p;
-              links =
-                  links ++ fresh_link id name ∷ [];
-            }) past_is
-            ∙ ap (λ i. record {
-              limits = server.book.limits;
-              now = server.clock;
-              past = entry.Admit
-                  n ∷ server.book.past;
-              links = links ++ fresh_link i name ∷ [];
-            }) id_is))
+            (sym (λ i. record {
+              limits = limits i;
+              now = clock i;
+              past = past_is i;
+              links = links ++ fresh_link (id_is i) name ∷ [];
+            }))
             (subst (λ p. Ends (raw_step w name p) lines
             (record {
               limits = server.book.limits;

@@ -16,6 +16,8 @@ use Rattle.server_links.proofs.Outcomes.{Ends}
 use Rattle.server_links.proofs.Stepping.{raw_taken, raw_before, raw_stops, raw_fits_still}
 use Rattle.server_links.proofs.Stepping.{made_named, raw_fits, raw_gives}
 use Rattle.server_links.proofs.server_links.ServerLinks.raw.Goals as goal
+use Rattle.server_links.proofs.server_links.ServerLinks.raw.Goals.{After-next_entry}
+use Rattle.server_links.proofs.server_links.ServerLinks.raw.Goals.{After-push_reserved}
 
 some : {A : Type 0} → (o : Option A) → is_some o ≡ true → (a : A) × (o ≡ Some a)
 some None e = absurd (let no : ⊥ = cc in no)
@@ -25,11 +27,28 @@ none : {A : Type 0} → (o : Option A) → is_some o ≡ false → o ≡ None
 none None e = refl
 none (Some a) e = absurd (let no : ⊥ = cc in no)
 
-free : (v w : LinksState) (name : List ℕ) (o : Option ℕ) (b : Bool) → v ≡ w → o ≡ place_of name w
-    → b ≡ is_some o → b ≡ false → place_of name v ≡ None
-free v w name o b view place is off =
-    none (place_of name v) (ap (λ x. is_some (place_of name x)) view ∙ ap is_some (sym place)
-    ∙ sym is ∙ off)
+-- the name is free
+free : (c : After-next_entry)
+    → place_of c.args.name.now (world c.self.inside.server c.self.inside.links.items) ≡ None
+free c =
+    none (place_of c.args.name.now (world c.self.inside.server c.self.inside.links.items))
+    (ap (λ (w : LinksState). is_some (place_of c.args.name.now w)) c.self.view_is
+    ∙ ap is_some (sym c.place_of.ensures) ∙ sym c.is_some.ensures ∙ c.if-is_some.false)
+
+before : (c : After-next_entry) → Stops (step c.args.self.now (Raw c.args.name.now))
+    c.args.lines.now NoMemory c.args.self.now c.args.lines.now
+before c =
+    subst (λ (w : LinksState). Stops (step w (Raw c.args.name.now)) c.args.lines.now NoMemory w
+    c.args.lines.now) c.self.view_is (raw_before c.self.inside.server c.self.inside.links.items
+    c.args.name.now c.args.lines.now (free c))
+
+-- one more link
+more : (c : After-push_reserved) → c.push_reserved.new.self.items ≡ c.self.inside.links.items
+    ++ fresh_link (c.len.result + 1) c.args.name.now ∷ []
+more c =
+    c.push_reserved.ensures.items ∙ ap (λ l. l ++ c.new-link.result ∷ []) c.reserve.ensures.items
+    ∙ ap (λ x. c.self.inside.links.items ++ x ∷ []) (c.new-link.ensures
+    ∙ ap (fresh_link (c.len.result + 1)) c.in_ok-copy-2.ensures)
 
 pub returns-then-is_some : goal.returns-then-is_some
 returns-then-is_some c =
@@ -43,69 +62,45 @@ returns-then-is_some c =
 
 pub returns-in_err-next_entry : goal.returns-in_err-next_entry
 returns-in_err-next_entry c =
-    let i = c.self.inside in
-    let free = free (world i.server i.links.items) c.args.self.now c.args.name.now c.place_of.result
-    c.is_some.result c.self.view_is c.place_of.ensures c.is_some.ensures c.if-is_some.false in
     let p = err_from_is_err_and c.from_residual.result c.from_residual.ensures.1 in
-    rw p.1 (rw p.2
-    (subst (λ (w : LinksState). Stops (step w (Raw c.args.name.now)) c.args.lines.now NoMemory w
-    c.args.lines.now) c.self.view_is (raw_before i.server i.links.items c.args.name.now
-    c.args.lines.now free)))
+    rw p.1 (rw p.2 (before (goal.at.returns-in_err-next_entry c).After-next_entry))
 
 pub returns-in_err-copy : goal.returns-in_err-copy
 returns-in_err-copy c =
-    let i = c.self.inside in
-    let free = free (world i.server i.links.items) c.args.self.now c.args.name.now c.place_of.result
-    c.is_some.result c.self.view_is c.place_of.ensures c.is_some.ensures c.if-is_some.false in
     let p = err_from_is_err_and c.from_residual-in_err-copy.result
     c.from_residual-in_err-copy.ensures.1 in
-    rw p.1 (rw p.2
-    (subst (λ (w : LinksState). Stops (step w (Raw c.args.name.now)) c.args.lines.now NoMemory w
-    c.args.lines.now) c.self.view_is (raw_before i.server i.links.items c.args.name.now
-    c.args.lines.now free)))
+    rw p.1 (rw p.2 (before (goal.at.returns-in_err-copy c).After-next_entry))
 
 pub returns-in_err-copy-2 : goal.returns-in_err-copy-2
 returns-in_err-copy-2 c =
-    let i = c.self.inside in
-    let free = free (world i.server i.links.items) c.args.self.now c.args.name.now c.place_of.result
-    c.is_some.result c.self.view_is c.place_of.ensures c.is_some.ensures c.if-is_some.false in
     let p = err_from_is_err_and c.from_residual-in_err-copy-2.result
     c.from_residual-in_err-copy-2.ensures.1 in
-    rw p.1 (rw p.2
-    (subst (λ (w : LinksState). Stops (step w (Raw c.args.name.now)) c.args.lines.now NoMemory w
-    c.args.lines.now) c.self.view_is (raw_before i.server i.links.items c.args.name.now
-    c.args.lines.now free)))
+    rw p.1 (rw p.2 (before (goal.at.returns-in_err-copy-2 c).After-next_entry))
 
 pub returns-in_err-reserve : goal.returns-in_err-reserve
 returns-in_err-reserve c =
     let i = c.self.inside in
-    let free = free (world i.server i.links.items) c.args.self.now c.args.name.now c.place_of.result
-    c.is_some.result c.self.view_is c.place_of.ensures c.is_some.ensures c.if-is_some.false in
     let p = err_from_is_err_and c.from_residual-in_err-reserve.result
     c.from_residual-in_err-reserve.ensures.1 in
     rw p.1 (rw p.2
-    (subst (λ (w : LinksState). Stops (step w (Raw c.args.name.now)) c.args.lines.now NoMemory
-    (world i.server c.reserve.new.self.items) c.args.lines.now) c.self.view_is
-    (subst (λ l. Stops (step (world i.server i.links.items) (Raw c.args.name.now)) c.args.lines.now
-    NoMemory (world i.server l) c.args.lines.now) (sym c.reserve.ensures.items)
-    (raw_before i.server i.links.items c.args.name.now c.args.lines.now free))))
+    (subst (λ (w : LinksState). Stops (step c.args.self.now (Raw c.args.name.now))
+    c.args.lines.now NoMemory w c.args.lines.now)
+    (sym (ap (world i.server) c.reserve.ensures.items ∙ c.self.view_is))
+    (before (goal.at.returns-in_err-reserve c).After-next_entry)))
 
 pub admit-requires : goal.admit-requires
 admit-requires c =
     let i = c.self.inside in
     ap (λ b. position (λ n. bytes_eq n b) i.names) c.as_slice.ensures
     ∙ name_place i.names (world i.server i.links.items) c.self.invariant.1 c.args.name.now
-    ∙ free (world i.server i.links.items) c.args.self.now c.args.name.now c.place_of.result
-    c.is_some.result c.self.view_is c.place_of.ensures c.is_some.ensures c.if-is_some.false
+    ∙ free (goal.at.admit-requires c).After-next_entry
 
 pub invariant_of-self-in_err-admit : goal.invariant_of-self-in_err-admit
 invariant_of-self-in_err-admit c =
     let i = c.self.inside in (
       subst (λ l. Fits c.admit.new.server.book.past l) (sym c.reserve.ensures.items)
           (raw_fits_still i.server i.links.items c.args.name.now c.args.lines.now
-          (free (world i.server i.links.items) c.args.self.now c.args.name.now c.place_of.result
-          c.is_some.result c.self.view_is c.place_of.ensures c.is_some.ensures
-          c.if-is_some.false)
+          (free (goal.at.invariant_of-self-in_err-admit c).After-next_entry)
           c.admit.new.server (line.Admit c.in_ok-next_entry.field-0 c.in_ok-copy.field-0
           (c.len.result + 1)) c.admit.new.lines c.admit.ensures.limits c.admit.ensures.clock
           c.in_err-admit.field-0.0 c.in_err-admit.ensures.gives c.self.invariant.0),
@@ -125,54 +120,42 @@ returns-in_err-admit c =
     (subst (λ l. Stops (step (world i.server i.links.items) (Raw c.args.name.now)) c.args.lines.now
     fault (world c.admit.new.server l) c.admit.new.lines) (sym c.reserve.ensures.items)
     (raw_stops i.server i.links.items c.args.name.now c.args.lines.now
-    (free (world i.server i.links.items) c.args.self.now c.args.name.now c.place_of.result
-    c.is_some.result c.self.view_is c.place_of.ensures c.is_some.ensures c.if-is_some.false)
+    (free (goal.at.returns-in_err-admit c).After-next_entry)
     c.admit.new.server (line.Admit c.in_ok-next_entry.field-0 c.in_ok-copy.field-0
     (c.len.result + 1)) c.admit.new.lines c.admit.ensures.limits c.admit.ensures.clock fault
     c.in_err-admit.ensures.gives))))
 
 pub invariant_of-self-2 : goal.invariant_of-self-2
 invariant_of-self-2 c =
+    let at = goal.at.invariant_of-self-2 c in
     let i = c.self.inside in
-    let free = free (world i.server i.links.items) c.args.self.now c.args.name.now
-    c.place_of.result c.is_some.result c.self.view_is c.place_of.ensures c.is_some.ensures
-    c.if-is_some.false in
     let id = c.len.result + 1 in
-    let more : c.push_reserved.new.self.items ≡ i.links.items
-    ++ fresh_link id c.args.name.now ∷ [] =
-    c.push_reserved.ensures.items ∙ ap (λ l. l ++ c.new-link.result ∷ []) c.reserve.ensures.items
-    ∙ ap (λ x. i.links.items ++ x ∷ []) (c.new-link.ensures
-    ∙ ap (fresh_link id) c.in_ok-copy-2.ensures) in
     let names : c.admit.new.names ≡ i.names ++ c.args.name.now ∷ [] =
     c.in_ok-admit.ensures.ok ∙ ap (λ b. i.names ++ b ∷ []) c.as_slice.ensures in (
-      subst (λ l. Fits c.admit.new.server.book.past l) (sym more)
-          (raw_fits i.server i.links.items c.args.name.now c.args.lines.now free
-          c.admit.new.server (line.Admit c.in_ok-next_entry.field-0 c.in_ok-copy.field-0 id)
+      subst (λ l. Fits c.admit.new.server.book.past l) (sym (more at.After-push_reserved))
+          (raw_fits i.server i.links.items c.args.name.now c.args.lines.now
+          (free at.After-next_entry) c.admit.new.server
+          (line.Admit c.in_ok-next_entry.field-0 c.in_ok-copy.field-0 id)
           c.admit.new.lines c.admit.ensures.limits c.admit.ensures.clock
           c.in_ok-admit.field-0 c.in_ok-admit.ensures.gives id c.self.invariant.0
           (omega (arith, c.len.ensures)) (cc (c.in_ok-next_entry.ensures, c.in_ok-copy.ensures))),
       subst (λ ns. AreNames ns c.push_reserved.new.self.items) (sym names)
-          (subst (λ l. AreNames (i.names ++ c.args.name.now ∷ []) l) (sym more)
-          (made_named i.server i.links.items c.args.name.now c.args.lines.now free i.names id
-          c.self.invariant.1)),
+          (subst (λ l. AreNames (i.names ++ c.args.name.now ∷ []) l)
+          (sym (more at.After-push_reserved))
+          (made_named i.server i.links.items c.args.name.now c.args.lines.now
+          (free at.After-next_entry) i.names id c.self.invariant.1)),
     )
 
 pub returns : goal.returns
 returns c =
+    let at = goal.at.returns c in
     let i = c.self.inside in
     let id = c.len.result + 1 in
-    let more : c.push_reserved.new.self.items ≡ i.links.items
-    ++ fresh_link id c.args.name.now ∷ [] =
-    c.push_reserved.ensures.items ∙ ap (λ l. l ++ c.new-link.result ∷ []) c.reserve.ensures.items
-    ∙ ap (λ x. i.links.items ++ x ∷ []) (c.new-link.ensures
-    ∙ ap (fresh_link id) c.in_ok-copy-2.ensures) in
     subst (λ (w : LinksState). Ends (step w (Raw c.args.name.now)) c.args.lines.now
     (world c.admit.new.server c.push_reserved.new.self.items) c.admit.new.lines) c.self.view_is
     (subst (λ l. Ends (step (world i.server i.links.items) (Raw c.args.name.now)) c.args.lines.now
-    (world c.admit.new.server l) c.admit.new.lines) (sym more)
-    (raw_gives i.server i.links.items c.args.name.now c.args.lines.now
-    (free (world i.server i.links.items) c.args.self.now c.args.name.now c.place_of.result
-    c.is_some.result c.self.view_is c.place_of.ensures c.is_some.ensures c.if-is_some.false)
+    (world c.admit.new.server l) c.admit.new.lines) (sym (more at.After-push_reserved))
+    (raw_gives i.server i.links.items c.args.name.now c.args.lines.now (free at.After-next_entry)
     c.admit.new.server (line.Admit c.in_ok-next_entry.field-0 c.in_ok-copy.field-0 id)
     c.admit.new.lines c.admit.ensures.limits c.admit.ensures.clock
     c.in_ok-admit.field-0 c.in_ok-admit.ensures.gives id c.self.invariant.0
