@@ -15,8 +15,7 @@ use Rattle.serial_model.specs.History.{is_admitted, stream, taken}
 use Rattle.seat_turns.specs.Own.{past_of, IsWithin, Grows}
 use Rattle.shared_book.specs.Turns.{Place, Turn, limits_in, limits_of}
 use Rattle.seat_turns.proofs.Growing.{grows_none, grows_then, grows_past, grows_stands}
-use Rattle.shared_book.specs.Turns.{Admits, Refuses, Takes}
-use Rattle.shared_book.specs.declared.turns.Refusal.TheVariants as refusal
+use Rattle.shared_book.specs.Turns.{Admits, Takes}
 use Rattle.serial_model.specs.declared.history.Entry.TheVariants.{Admit}
 use Rattle.shared_book.proofs.Histories.{begins_lift, admitted_more, admitted_now}
 use Rattle.edge_links.specs.declared.counts.Counts.{Counts}
