@@ -10,7 +10,7 @@ use Rattle.resp_stream.specs.Stream.{Stream, fed, moved_on, offset_by}
 use Rattle.resp_stream.specs.Value.{value_at}
 use Rattle.resp_stream.proofs.Batches.{fed_rest}
 use Rattle.resp_stream.proofs.Parse.{takes_values}
-use Rattle.client_link.proofs.Values.{values_whole, values_more, values_bad}
+use Rattle.resp_stream.proofs.Values.{values_whole, values_more, values_bad}
 
 stream_as : (n k : ℕ) (q p : List ℕ) (t : Bool) → n ≡ k → q ≡ p
     → ◌≡◌ {A = Stream} (record { before = n; rest = q; failed = t })

@@ -33,7 +33,7 @@ use Rattle.client_link.specs.declared.pump_end.PumpEnd.{PumpEnd}
 use Rattle.client_link.specs.declared.pump_end.PumpEnd.TheVariants as ended
 use Rattle.client_link.specs.Pumps.{IsWork, IsStop, end_by, gots_in, gave}
 use Rattle.client_link.specs.Pumps.{GetsAll, GetsPart, GettingStops}
-use Rattle.client_link.proofs.Values.{values_whole, values_more, values_bad}
+use Rattle.resp_stream.proofs.Values.{values_whole, values_more, values_bad}
 use Rattle.client_link.proofs.Steps.{got_down, got_full}
 
 -- what was got so far, and what is left of the stream

@@ -1,5 +1,4 @@
 pub mod Steps
-pub mod Values
 pub mod Faults
 pub mod Reading
 pub mod Turning

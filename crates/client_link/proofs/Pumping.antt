@@ -32,7 +32,7 @@ use Rattle.client_link.specs.Pumps.{GetsPart}
 use Rattle.client_link.specs.Pumps.{GettingStops, Hears, Idle, Piece, HearsPart, Nothing, Part}
 use Rattle.client_link.specs.Pumps.{IsOfLink, IsWhole, FaultIs, Work, Stops, Runs, IsEnd, IsOver}
 use Rattle.client_link.specs.Pumps.{Finishes, Pumps, is_known, Closes, Kept, Ended, NoTicket}
-use Rattle.client_link.proofs.Values.{no_values}
+use Rattle.resp_stream.proofs.Onward.{no_values}
 use Rattle.client_link.proofs.Reading.{ReadsOn, reads_begun, reads_further}
 use Rattle.client_link.proofs.Steps.{out_begins, taken_begins, full_begins, ended_begins, end_over}
 use Rattle.client_link.proofs.Turning.{gots_append, gave_append, taken_more, all_taken}

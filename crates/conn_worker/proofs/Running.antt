@@ -1,5 +1,5 @@
 -- The requests that a connection has read are read as calls, and run.
-use Rattle.std.proofs.Common.{◌≡◌, ◌≤◌, ◌<◌, ℕ, zero, suc, List, [], ◌∷◌, ◌++◌, length, max}
+use Rattle.std.proofs.Common.{◌≡◌, ◌<◌, ℕ, List, [], ◌∷◌, ◌++◌, length, max}
 use Rattle.std.proofs.Common.{Some, None, refl, sym, ap, subst, ◌∙◌, arith, append_assoc, take}
 use Rattle.std.proofs.Common.{append-nil, drop, Ok}
 use Rattle.std.specs.Prelude.{Option, IfSome}

@@ -15,8 +15,7 @@ use Rattle.serial_model.specs.History.{is_admitted, stream, taken}
 use Rattle.seat_turns.specs.Own.{past_of, IsWithin, Grows}
 use Rattle.shared_book.specs.Turns.{Place, Turn, limits_in, limits_of}
 use Rattle.seat_turns.proofs.Growing.{grows_none, grows_then, grows_past, grows_stands}
-use Rattle.shared_book.specs.Turns.{Admits, Refuses, Takes}
-use Rattle.shared_book.specs.declared.turns.Refusal.TheVariants as refusal
+use Rattle.shared_book.specs.Turns.{Admits, Takes}
 use Rattle.serial_model.specs.declared.history.Entry.TheVariants.{Admit}
 use Rattle.shared_book.proofs.Histories.{begins_lift, admitted_more, admitted_now}
 use Rattle.edge_links.specs.declared.counts.Counts.{Counts}
@@ -36,7 +35,8 @@ use Rattle.conn_worker.specs.declared.deliver.Front.TheVariants as front
 use Rattle.conn_worker.specs.declared.serve.Heard.{Heard}
 use Rattle.edge_links.proofs.Bytes.{appends_none, appends_more, appends_as, appends_kept}
 use Rattle.edge_links.proofs.Bytes.{consumes_none, consumes_more, consumes_kept}
-use Rattle.conn_worker.proofs.Reading.{ReadsOn, reads_begun, reads_further, no_requests}
+use Rattle.conn_worker.proofs.Reading.{ReadsOn, reads_begun, reads_further}
+use Rattle.resp_stream.proofs.Onward.{no_requests}
 use Rattle.conn_worker.proofs.Turning.{runs_append, gave_append, all_taken, no_runs}
 use Rattle.conn_worker.proofs.Ticking.{Passes, idles_pass, idles_faultless, idles_untaken}
 

@@ -12,7 +12,6 @@ use Rattle.resp_stream.specs.Request.{skip_empty}
 use Rattle.resp_stream.specs.Stream.{Stream, fed, moved_on, offset_by, stream_fault}
 use Rattle.resp_stream.specs.Value.{value_in, value_at}
 use Rattle.resp_stream.proofs.Batches.{Takes, fed_rest, batch_whole, batch_more, batch_bad}
-use Rattle.resp_stream.proofs.Batches.{batch_rest}
 use Rattle.resp_stream.proofs.Batches.{batch_unfailed, batch_joined}
 use Rattle.resp_stream.proofs.Capped.{capped_whole, still_whole}
 use Rattle.resp_stream.proofs.Places.{reads_on}
@@ -124,10 +123,6 @@ pub parse_unfailed : (s : Stream) → s.failed ≡ false → (parse s).fault ≡
     → (parse s).stream.failed ≡ false
 unfolding parse
 parse_unfailed s t e = batch_unfailed request_at skipped takes_requests s t e
-
-pub parse_rest : (s t : Stream) → s.rest ≡ t.rest → (parse s).items ≡ (parse t).items
-unfolding parse
-parse_rest s t e = batch_rest request_at skipped takes_requests s t e
 
 pub parse_joined : (s : Stream) (b : List ℕ) → s.failed ≡ false → (parse s).fault ≡ None
     → (parse (fed s b)).items ≡ (parse s).items ++ (parse (fed (parse s).stream b)).items
