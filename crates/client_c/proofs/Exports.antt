@@ -266,8 +266,18 @@ module _ (R : RattleType) {M : Type 1} {𝓤 : Ura M} (𝓛 : Logic 𝓤) (𝓜 
         (alone lent value callee) key closed (λ κs. tt) (λ κs. tt)
         (λ fm κs qs bounds a old are b o.
         let asks : Lent R 𝓛 Ran.C callee (emp 𝓤) ftrue [] (Unit {0}) (λ w. ftrue)
-            (λ r w. Did old r) b o old = record { met = λ α γ. known (((α ∷ [], tt),
-            (full_share, tt), tt, (lent_ref R 𝓛 b o old γ, tt), (vptr b o ∷ [], tt)), tt) } in
+        (λ r w. Did old r) b o old = record {
+          met = λ α γ. known (
+            (
+              (α ∷ [], tt),
+              (full_share, tt),
+              tt,
+              (lent_ref R 𝓛 b o old γ, tt),
+              (vptr b o ∷ [], tt),
+            ),
+            tt,
+          );
+        } in
         qed 𝓛 ((raw (emp 𝓤) ⊛ ‵ (owns (RawPtr ∷ []) (block_ptr b o, tt)
         (rawptr_vals (block_ptr b o), tt))) ∷ ‵ (part_at R full_share old b o) ∷ []) ∵
         enter ! Ran.C Ran.Λ (alone lent value callee) (vptr b o ∷ []) _ $
@@ -338,8 +348,18 @@ module _ (R : RattleType) {M : Type 1} {𝓤 : Ura M} (𝓛 : Logic 𝓤) (𝓜 
         (λ κs n. vint w64 n) (λ κs. uint_Tells w64)
         (λ κs n is. ((uint_Lawful 𝓛 w64).typed n _ is).0) (λ κs n. tt)
         (Goes-dropped 𝓛 0 (plain (λ _. u64)) yes (λ κs x f. refl)) closed
-        (λ κs qs n b o old. record { met = λ α γ. known (((α ∷ [], tt), (full_share, tt), tt,
-        (lent_ref R 𝓛 b o old γ, (n, tt)), (vptr b o ∷ [], (vint w64 n ∷ [], tt))), tt) })
+        (λ κs qs n b o old. record {
+          met = λ α γ. known (
+            (
+              (α ∷ [], tt),
+              (full_share, tt),
+              tt,
+              (lent_ref R 𝓛 b o old γ, (n, tt)),
+              (vptr b o ∷ [], (vint w64 n ∷ [], tt)),
+            ),
+            tt,
+          );
+        })
 
   abbrev bytes : {n : ℕ} (k : ℕ) → AllWithin n (k ∷ []) → Slot n
   bytes k ok = SliceRefOf (k ∷ []) ok (plain (λ _. u8)) (λ _. tt)
@@ -355,5 +375,15 @@ module _ (R : RattleType) {M : Type 1} {𝓤 : Ura M} (𝓛 : Logic 𝓤) (𝓜 
         (λ κs s. slice_val s.ref_ptr (length s.now)) (λ κs. shr_slice_Tells (named 0) κs.0 u8)
         (λ κs s is. (tt, (tt, (record { fits = is.0.1.0 }, tt)))) (λ κs s. tt)
         (Goes-dropped 𝓛 1 (bytes 0 tt) yes (λ κs x f. refl)) closed
-        (λ κs qs s b o old. record { met = λ α γ. known (((α ∷ [], κs), (full_share, qs), tt,
-        (lent_ref R 𝓛 b o old γ, (s, tt)), (vptr b o ∷ [], (shr_slice_vals s, tt))), tt) })
+        (λ κs qs s b o old. record {
+          met = λ α γ. known (
+            (
+              (α ∷ [], κs),
+              (full_share, qs),
+              tt,
+              (lent_ref R 𝓛 b o old γ, (s, tt)),
+              (vptr b o ∷ [], (shr_slice_vals s, tt)),
+            ),
+            tt,
+          );
+        })

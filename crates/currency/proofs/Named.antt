@@ -27,7 +27,7 @@ named_at key (w ∷ runs) (r ∷ entries) h =
     elim (cases_lt (cond (names_key w key) r 0) (last_named key runs entries)) [
       | inl lt ↦
           let m : max (cond (names_key w key) r 0) (last_named key runs entries)
-              ≡ last_named key runs entries = omega (arith, lt) in
+          ≡ last_named key runs entries = omega (arith, lt) in
           let rest = named_at key runs entries (omega (arith, lt)) in record {
             place = suc rest.place;
             words = rest.words;
@@ -36,7 +36,7 @@ named_at key (w ∷ runs) (r ∷ entries) h =
           }
       | inr le ↦
           let m : max (cond (names_key w key) r 0) (last_named key runs entries)
-              ≡ cond (names_key w key) r 0 = omega (arith, le) in
+          ≡ cond (names_key w key) r 0 = omega (arith, le) in
           let pos : 0 < cond (names_key w key) r 0 = omega (arith, m, h) in record {
             place = 0;
             words = w;

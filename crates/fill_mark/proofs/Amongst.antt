@@ -49,22 +49,34 @@ among_either m (x ∷ xs) ys (inr a) = elim (among_either m xs ys a) [
 pub filter_keeps : (p : Mark → Bool) (ms : List Mark) → ((m : Mark) → Among m ms → p m ≡ true)
     → filter p ms ≡ ms
 filter_keeps p [] all = refl
-filter_keeps p (o ∷ os) all = grind (arith, common_steps, all o (inl refl),
-    filter_keeps p os (λ m a. all m (inr a)))
+filter_keeps p (o ∷ os) all = grind (
+  arith,
+  common_steps,
+  all o (inl refl),
+  filter_keeps p os (λ m a. all m (inr a)),
+)
 
 pub filter_alike : (p q : Mark → Bool) (ms : List Mark)
     → ((m : Mark) → Among m ms → p m ≡ q m) → filter p ms ≡ filter q ms
 filter_alike p q [] e = refl
-filter_alike p q (o ∷ os) e = grind (arith, common_steps, e o (inl refl),
-    filter_alike p q os (λ m a. e m (inr a)))
+filter_alike p q (o ∷ os) e = grind (
+  arith,
+  common_steps,
+  e o (inl refl),
+  filter_alike p q os (λ m a. e m (inr a)),
+)
 
 -- what another filter took would not have passed
 pub filter_twice : (p r : Mark → Bool) (ms : List Mark)
     → ((m : Mark) → Among m ms → r m ≡ false → p m ≡ false)
     → filter p (filter r ms) ≡ filter p ms
 filter_twice p r [] h = refl
-filter_twice p r (o ∷ os) h = grind (arith, common_steps, h o (inl refl),
-    filter_twice p r os (λ m a. h m (inr a)))
+filter_twice p r (o ∷ os) h = grind (
+  arith,
+  common_steps,
+  h o (inl refl),
+  filter_twice p r os (λ m a. h m (inr a)),
+)
 
 -- ---- marks by number
 
@@ -131,8 +143,12 @@ found_filter p ms each m a =
 pub none_above : (n : ℕ) (ms : List Mark) → ((m : Mark) → Among m ms → m.number < n)
     → query_marked n ms ≡ None
 none_above n [] below = refl
-none_above n (o ∷ os) below = grind (arith, common_steps, below o (inl refl),
-    none_above n os (λ m a. below m (inr a)))
+none_above n (o ∷ os) below = grind (
+  arith,
+  common_steps,
+  below o (inl refl),
+  none_above n os (λ m a. below m (inr a)),
+)
 
 pub found_more : (n : ℕ) (q : List (List ℕ)) (ms : List Mark) → EachFound ms
     → ((m : Mark) → Among m ms → m.number < n)

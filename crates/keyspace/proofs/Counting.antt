@@ -250,8 +250,16 @@ module _ (all : List (List ℕ)) (fs met : Pairs) (left : List (List ℕ)) (key 
   pub gone_one : is_there key fs ≡ true → (v : List ℕ) (more : Pairs) → more ≡ field_set key v met
       → GoneSoFar all fs more rest_of
   gone_one is v more e =
-      grind (arith, remove_on, remove_there, set_there, remove_length, set_length, distinct,
-      remove_distinct)
+      grind (
+        arith,
+        remove_on,
+        remove_there,
+        set_there,
+        remove_length,
+        set_length,
+        distinct,
+        remove_distinct,
+      )
 
 -- once none are left, those that went are counted
 pub all_gone : (all : List (List ℕ)) (fs met : Pairs) (left : List (List ℕ)) → length left < 1

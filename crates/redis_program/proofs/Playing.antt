@@ -120,11 +120,7 @@ module _ (limits : Limits) (number : ℕ) (w : WorldState)
     played = (event_more limits w s.events event s.played g.1.2).0 ∙ ap Some (sym g.1.3)
 
     written : Appends out0 out2 (text_of (printed_by events))
-    written =
-        subst (λ l. Appends out0 out2 (text_of l))
-        (ap (λ l. printed_by s.events ++ l) g.1.4
-        ∙ sym (event_more limits w s.events event s.played g.1.2).1)
-        (written_more (printed_by s.events) g.0 out0 out1 out2 s.written g.2)
+    written = grind (arith, event_more, written_more)
 
     lines_are : AreLinesOf 1 (s.lines ++ line ∷ []) events
     lines_are = are_more 1 number s.lines s.events line event s.lines_are s.numbered g.1.1
@@ -132,8 +128,16 @@ module _ (limits : Limits) (number : ℕ) (w : WorldState)
     pub standing_more : IsPlain line → Consumes in1 in2 (line ++ 10 ∷ [])
         → Standing limits (number + 1) new in0 in2 out0 out2
     standing_more p c =
-        grind (arith, ended_more, consumes_more, plain_more, lines_are, played, length-append,
-        written)
+        grind (
+          arith,
+          ended_more,
+          consumes_more,
+          plain_more,
+          lines_are,
+          played,
+          length-append,
+          written,
+        )
 
     -- the end of the source ended it
     pub done_last : HasOneHistory → IsPlain line → (line ≡ [] → ⊥) → Consumes in1 in2 line

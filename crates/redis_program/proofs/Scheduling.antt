@@ -44,8 +44,7 @@ events_then n m [] more [] a k =
 events_then n m [] more (d ∷ events) a k = absurd a
 events_then n m (l ∷ lines) more [] a k = absurd a
 events_then n m (l ∷ lines) more (d ∷ events) a k =
-    ap (λ o. option_map_or (λ e. e ∷ events_of (n + 1) (lines ++ more)) o []) a.0
-    ∙ ap (λ es. d ∷ es) (events_then (n + 1) m lines more events a.1 (omega arith))
+    grind (arith, events_then (n + 1) m lines more events a.1 (omega arith))
 
 -- the line is outside the grammar
 pub no_event : (n : ℕ) (line : List ℕ) (more : List (List ℕ)) → event_at n line ≡ None
@@ -93,10 +92,7 @@ transcript_then w m (d ∷ events) ds h =
 
 pub fault_then : (w m : WorldState) (n k : ℕ) (events ds : List Event) → after w events ≡ Some m
     → k ≡ length events + n → first_fault w n (events ++ ds) ≡ first_fault m k ds
-fault_then w m n k [] ds h q =
-    let same : w ≡ m = cc in
-    let number : n ≡ k = omega arith in
-    ap (λ x. first_fault x n ds) same ∙ ap (λ i. first_fault m i ds) number
+fault_then w m n k [] ds h q = grind arith
 fault_then w m n k (d ∷ events) ds h q =
     go (step w d).fault h
     (λ p. fault_then (step w d).state m (n + 1) k events ds p (omega arith))

@@ -38,8 +38,14 @@ line_rest : (t p r : List ℕ) → length p + length t ≤ line_limit → IsPlai
     → scan (line_move false line_limit) p (t ++ 13 ∷ 10 ∷ r) ≡ Whole (p ++ t) r
 line_rest [] p r le h = line_end p r ∙ ap (λ (q : List ℕ). Whole q r) (sym (nothing_behind p))
 line_rest (c ∷ t) p r le h =
-    grind (arith, line_step, ne_eqb, length-append, append_assoc,
-    line_rest t (p ++ c ∷ []) r (omega (arith, length-append p (c ∷ []))) h.2)
+    grind (
+      arith,
+      line_step,
+      ne_eqb,
+      length-append,
+      append_assoc,
+      line_rest t (p ++ c ∷ []) r (omega (arith, length-append p (c ∷ []))) h.2,
+    )
 
 pub text_only : (make : List ℕ → Tree) (t r : List ℕ) → length t ≤ 65536 → IsPlain t
     → text_at make (t ++ 13 ∷ 10 ∷ r) ≡ Whole (make t) r

@@ -227,8 +227,11 @@ module _ (s : Setup) (lines : List ScriptLine) where
       → ThreadsCame s lines thread (all ++ rs ∷ []) (mine ++ ts) log t
   threads_then thread [] ts log t rs mine last e h m = grind (arith, append-nil)
   threads_then thread (bs ∷ all) ts log t rs mine last e h m =
-      grind (arith, append_assoc,
-      threads_then (suc thread) all h.1 log t rs mine last (omega (arith, e)) h.4 m)
+      grind (
+        arith,
+        append_assoc,
+        threads_then (suc thread) all h.1 log t rs mine last (omega (arith, e)) h.4 m,
+      )
 
 pub no_thread : (lines : List ScriptLine) (all : List (List Answer)) (k : Place) → IsWithin k
     → all ≡ [] → PlaysThreads lines 0 all k k

@@ -128,8 +128,17 @@ module _ (l : Limits) where
       → IsLegal l past → runs_on l past id ≡ true
       → AllTo (IsLive past) (behind past id words moment)
   behind_live past id words moment h on =
-      grind (arith, table_live, to_append, signal_group_all, tracking_live, without_keys_all,
-      drop_group_all, dropped_all, grown_live)
+      grind (
+        arith,
+        table_live,
+        to_append,
+        signal_group_all,
+        tracking_live,
+        without_keys_all,
+        drop_group_all,
+        dropped_all,
+        grown_live,
+      )
 
   -- a Run sends nothing to another that none of its groups is for
   run_none : (n c : ℕ) (past : List Entry) (id : ℕ) (words : List (List ℕ)) (moment : ℕ)

@@ -113,8 +113,19 @@ module _ (l : Limits) (past : List Entry) (space : Space) (keys : TableState)
   pub agrees_admit : (id : ℕ) → id ≡ length cs + 1 → is_full l past ≡ false
       → Agrees l (entry.Admit id ∷ past) space keys (cs ++ fresh ∷ [])
   agrees_admit id e room =
-      grind (arith, length-append, cases_eq, slice_index_or, get_or_push, same_parts, unsent_admit,
-      unsent_fresh, ended_fresh, mode_fresh, get_or_append_left)
+      grind (
+        arith,
+        length-append,
+        cases_eq,
+        slice_index_or,
+        get_or_push,
+        same_parts,
+        unsent_admit,
+        unsent_fresh,
+        ended_fresh,
+        mode_fresh,
+        get_or_append_left,
+      )
 
   -- where the connection of an id was written, and the others stay
   each_with : (new : List Entry) (id : ℕ) (c : Connection) → IsId cs id → c ≡ connection_of l new id
@@ -140,8 +151,18 @@ module _ (l : Limits) (past : List Entry) (space : Space) (keys : TableState)
       → (take m (unsent l id past) ≡ [] → ⊥)
       → Agrees l (entry.Take id m ∷ past) space keys (with_connection cs id (took id m))
   agrees_take id m on room some =
-      grind (arith, eq-eqb, kept_of, length-set, each_with, is_id, same_parts, unsent_take_own,
-      not_ended, unsent_take_other)
+      grind (
+        arith,
+        eq-eqb,
+        kept_of,
+        length-set,
+        each_with,
+        is_id,
+        same_parts,
+        unsent_take_own,
+        not_ended,
+        unsent_take_other,
+      )
 
   pub live_at : (id : ℕ) → reads_on l past id ≡ true → (connection_at cs id).ended ≡ false
   live_at id on = ap (λ x. x.ended) (kept_of id on) ∙ not_ended l past id on
@@ -154,8 +175,18 @@ module _ (l : Limits) (past : List Entry) (space : Space) (keys : TableState)
       Agrees l (entry.Close id ∷ past) space (record { limit = l.table_max; rows = rows })
       (with_connection cs id (closed id)))
   agrees_close id on =
-      grind (arith, eq-eqb, length-set, each_with, is_id, same_parts, unsent_close_own, kept_of,
-      unsent_close_other, ended_other)
+      grind (
+        arith,
+        eq-eqb,
+        length-set,
+        each_with,
+        is_id,
+        same_parts,
+        unsent_close_own,
+        kept_of,
+        unsent_close_other,
+        ended_other,
+      )
 
 -- ---- turns as they are played
 

@@ -67,8 +67,14 @@ remembering_table id Forgets rows h = table_without_connection id rows h
 pub table_of_past : (l : Limits) (past : List Entry) → IsTable (table l past)
 table_of_past l [] = record { ordered = tt; held = tt }
 table_of_past l (Run id words moment ∷ past) =
-    grind (arith, table_drop, remembering_table, without_signalled_table, without_keys_table,
-    table_of_past l past)
+    grind (
+      arith,
+      table_drop,
+      remembering_table,
+      without_signalled_table,
+      without_keys_table,
+      table_of_past l past,
+    )
 table_of_past l (Tick moment ∷ past) =
     without_keys_table (expired l past moment) (table l past) (table_of_past l past)
 table_of_past l (Close id ∷ past) =

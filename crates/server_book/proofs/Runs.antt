@@ -130,8 +130,17 @@ module _ (l : Limits) (past : List Entry) (space : Space) (keys : TableState)
       -- the modes are those once the command has run, and nobody has ended since
       mode_then : (i : ℕ) → IsId cs i → (connection_at second.items i).mode ≡ mode l i (run ∷ past)
       mode_then i there =
-          grind (arith, cases_eq, second_own, mode_own, eq-eqb, second_other, first_at, mode_other,
-          ne_eqb)
+          grind (
+            arith,
+            cases_eq,
+            second_own,
+            mode_own,
+            eq-eqb,
+            second_other,
+            first_at,
+            mode_other,
+            ne_eqb,
+          )
 
       ended_then : (i : ℕ) → IsId cs i → (connection_at second.items i).ended ≡ has_ended l i past
       ended_then i there = grind (arith, cases_eq, second_own, first_at, own_there, second_other)
@@ -223,14 +232,36 @@ module _ (l : Limits) (past : List Entry) (space : Space) (keys : TableState)
 
       each_own : connection_at after.items id ≡ connection_of l (run ∷ past) id
       each_own =
-          grind (arith, after_at, own_there, same_parts, second_own, first_at, append_assoc,
-          own_bytes, unsent_after, ended_then, mode_then)
+          grind (
+            arith,
+            after_at,
+            own_there,
+            same_parts,
+            second_own,
+            first_at,
+            append_assoc,
+            own_bytes,
+            unsent_after,
+            ended_then,
+            mode_then,
+          )
 
       each_other : (i : ℕ) → IsId cs i → (id ≡ i → ⊥)
           → connection_at after.items i ≡ connection_of l (run ∷ past) i
       each_other i there ne =
-          grind (arith, after_at, same_parts, second_other, first_at, append_assoc, other_bytes,
-          ne_eqb, unsent_after, ended_then, mode_then)
+          grind (
+            arith,
+            after_at,
+            same_parts,
+            second_other,
+            first_at,
+            append_assoc,
+            other_bytes,
+            ne_eqb,
+            unsent_after,
+            ended_then,
+            mode_then,
+          )
 
       pub agrees_run : (new : Space) → is_full l past ≡ false → latest past ≤ m
           → new ≡ (ran l past id words m).space

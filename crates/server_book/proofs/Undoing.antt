@@ -66,8 +66,15 @@ module _ (n id : ℕ) (old now : ConnectionsState) (keys : List (List ℕ)) (row
 
     posted : ArePosted replied (now.posts ++ post ∷ [])
     posted =
-        grind (arith, posted_longer, length_replied, posted_more, posted_sendings, group_to,
-        on_told)
+        grind (
+          arith,
+          posted_longer,
+          length_replied,
+          posted_more,
+          posted_sendings,
+          group_to,
+          on_told,
+        )
 
     pub replied_back : with_mode id (modes_of old.items id)
         (before_posts (now.posts ++ post ∷ []) (with_mode id mode replied)) ≡ old.items

@@ -1,8 +1,7 @@
 -- What each move over a link does to its account.
-use Rattle.std.proofs.Common.{◌≡◌, ℕ, List, [], ◌∷◌, ◌++◌, Bool, true, false, cond}
-use Rattle.std.proofs.Common.{Some, None, Option, length, take, refl, sym, ap, subst, ◌∙◌, arith}
+use Rattle.std.proofs.Common.{◌≡◌, ℕ, List, [], ◌++◌, Bool, true, false, cond}
+use Rattle.std.proofs.Common.{None, Option, take, refl, sym, ap, ◌∙◌, arith}
 use Rattle.std.proofs.Common.{append_assoc, append-nil}
-use Rattle.std.specs.Prelude.{◌&&◌, nat_le}
 use Rattle.std.proofs.lemmas.Slice.Eq.{bytes_eq-Decides}
 use Rattle.std.proofs.lemmas.List.{take-append-drop}
 use Rattle.resp_stream.specs.Parse.{parse, requests_of}
@@ -13,7 +12,7 @@ use Rattle.serial_model.specs.declared.history.BookCall.TheVariants as call
 use Rattle.serial_model.specs.declared.history.BookReply.{BookReply}
 use Rattle.serial_model.specs.declared.history.BookReply.TheVariants.{Bytes}
 use Rattle.serial_model.specs.History.{reads_on, gives_on, stream, taken}
-use Rattle.serial_model.specs.History.{unsent, runs_of}
+use Rattle.serial_model.specs.History.{runs_of}
 use Rattle.serial_model.specs.Steps.{Turn, book_step, given_by}
 use Rattle.serial_model.proofs.Turning.{step_gave, step_runs}
 use Rattle.server_links.specs.LinkEvent.{LinkEvent, Raw, Put, Over, Now, Tick}
@@ -22,12 +21,11 @@ use Rattle.server_links.specs.declared.link.LinkMove.TheVariants as moves
 use Rattle.server_links.specs.declared.direction.Direction.{Direction}
 use Rattle.server_links.specs.declared.direction.Eof.{Eof}
 use Rattle.server_links.specs.declared.direction.Eof.TheVariants as eof
-use Rattle.server_links.specs.declared.fault.WorldFault.TheVariants.{NothingThere}
 use Rattle.server_links.specs.Directions.{cut, finished, is_open, is_queued, put, put_by, queued}
-use Rattle.server_links.specs.Directions.{without, without_bytes, past_eof}
+use Rattle.server_links.specs.Directions.{without_bytes, past_eof}
 use Rattle.server_links.specs.EntryLines.{reply_lines, reply_fault}
 use Rattle.server_links.specs.OneHistory.{read_on}
-use Rattle.server_links.specs.Outcome.{Outcome, stays, refuses}
+use Rattle.server_links.specs.Outcome.{Outcome, stays}
 use Rattle.server_links.specs.Session.{Session, with_past, with_link, with_up, with_down}
 use Rattle.server_links.specs.Moves.{turned, say}
 use Rattle.server_links.specs.Moves.{serve_all, bytes_of, take_down, all_bytes}
@@ -91,12 +89,7 @@ module _ (heard said : List ℕ) where
   hand_part : (given read : List ℕ) (s : Session) → InHand given heard said read s
       → Part said read s
   unfolding Part gave
-  hand_part given read s h = record {
-    heard = heard;
-    up = record { lost = h.up_lost; all_said = h.all_said };
-    down = record { lost = given; all_taken = h.all_given };
-    runs_front = ([], append-nil (runs_of s.link.id s.past) ∙ h.runs);
-  }
+  hand_part given read s h = grind (arith, append-nil)
 
   take_in_hand : (most : ℕ) (read : List ℕ) (s : Session) → is_open s.link.down.eof ≡ true
       → Account heard said read s →
@@ -121,20 +114,7 @@ module _ (heard said : List ℕ) where
 
   put_in_hand : (given read : List ℕ) (s : Session) → InHand given heard said read s
       → Account heard said read (with_link s (with_down s.link (put given s.link.down)))
-  put_in_hand given read s h = record {
-    bytes = record {
-      up_lost = h.up_lost;
-      all_said = h.all_said;
-      none_up = h.none_up;
-      down_lost = [];
-      all_taken = append-nil (read ++ put_by s.link.down.eof s.link.down.bytes given)
-          ∙ ap (λ l. read ++ l) (put_open given s.link.down.eof s.link.down.bytes h.opened)
-          ∙ sym (append_assoc read s.link.down.bytes given) ∙ h.all_given;
-      none_down = λ e. refl;
-    };
-    runs = h.runs;
-    reading = h.reading;
-  }
+  put_in_hand given read s h = grind (arith, append-nil, put_open, append_assoc)
 
   take_keeps : (most : ℕ) (s : Session) → is_open s.link.down.eof ≡ true
       → Keeps (Account heard said) (Account heard said) (Part said) s (take_down most s)
@@ -183,42 +163,19 @@ module _ (heard said : List ℕ) where
 
   send_keeps : (count : Option ℕ) (s : Session)
       → Keeps (Account heard said) (Account heard said) (Part said) s (send count s)
-  send_keeps None s = send_all_keeps s
-  send_keeps (Some n) s =
-      let can = is_open s.link.down.eof && gives_on s.limits s.past s.link.id && nat_le n
-      (length (unsent s.limits s.link.id s.past)) in
-      elim can as (λ b. can ≡ b
-      → Keeps (Account heard said) (Account heard said) (Part said) s
-      (cond b (take_down n s) (refuses s NothingThere))) [
-        | true ↦ λ t. take_keeps n s (grind (arith, nat_tests))
-        | false ↦ λ t. account_refuses heard said s
-      ] refl
+  send_keeps count s = grind (arith, send_all_keeps, take_keeps, nat_tests, account_refuses)
 
   -- ---- the client's end
 
   read_own : (name bytes : List ℕ) → read_on name (read_lines name bytes) ≡ bytes
-  read_own name [] = refl
-  read_own name (b ∷ bytes) = ap (λ v. cond v (b ∷ bytes) []
-      ++ []) ((bytes_eq-Decides name name).1 refl) ∙ append-nil (b ∷ bytes)
+  read_own name bytes = grind (arith, bytes_eq-Decides, append-nil)
 
   down_account : (bytes read : List ℕ) (down : Direction) (s : Session)
       → bytes ++ down.bytes ≡ s.link.down.bytes
       → (is_open down.eof ≡ true → is_open s.link.down.eof ≡ true)
       → Account heard said read s → Account heard said (read
       ++ bytes) (with_link s (with_down s.link down))
-  down_account bytes read down s split opened a = record {
-    bytes = record {
-      up_lost = a.bytes.up_lost;
-      all_said = a.bytes.all_said;
-      none_up = a.bytes.none_up;
-      down_lost = a.bytes.down_lost;
-      all_taken = ap (λ l. l ++ a.bytes.down_lost) (append_assoc read bytes down.bytes
-          ∙ ap (λ l. read ++ l) split) ∙ a.bytes.all_taken;
-      none_down = λ h. a.bytes.none_down (opened h);
-    };
-    runs = a.runs;
-    reading = a.reading;
-  }
+  down_account bytes read down s split opened a = grind (arith, append_assoc)
 
   read_keeps : (bytes : List ℕ) (down : Direction) (s : Session)
       → bytes ++ down.bytes ≡ s.link.down.bytes
@@ -258,15 +215,8 @@ module _ (heard said : List ℕ) where
 
   receive_keeps : (count : Option ℕ) (s : Session)
       → Keeps (Account heard said) (Account heard said) (Part said) s (receive count s)
-  receive_keeps None s = receive_all_keeps s
-  receive_keeps (Some n) s =
-      elim (nat_le n (length s.link.down.bytes)) as (λ b. Keeps (Account heard said)
-      (Account heard said) (Part said) s (cond b
-      (read_bytes (take n s.link.down.bytes) (without n s.link.down) s) (refuses s NothingThere))) [
-        | true ↦ read_keeps (take n s.link.down.bytes) (without n s.link.down) s
-            (take-append-drop n s.link.down.bytes) (λ h. h)
-        | false ↦ account_refuses heard said s
-      ]
+  receive_keeps count s =
+      grind (arith, receive_all_keeps, read_keeps, take-append-drop, account_refuses)
 
   cut_keeps : (s : Session)
       → Keeps (Account heard said) (Account heard said) (Part said) s (cut_off s)
@@ -405,17 +355,13 @@ module _ (heard said : List ℕ) (s : Session) (m : Outcome Session) where
   pub none_said : (piece : List ℕ)
       → Keeps (Account heard said) (Account (heard ++ piece) said) (Part said) s m
       → Keeps (Account heard said) (Account (heard ++ piece) (said ++ [])) (Part (said ++ [])) s m
-  none_said piece k =
-      subst (λ d. Keeps (Account heard said) (Account (heard ++ piece) d) (Part d) s m)
-      (sym (append-nil said)) k
+  none_said piece k = grind (arith, append-nil)
 
   none_heard : (bytes : List ℕ)
       → Keeps (Account heard said) (Account heard (said ++ bytes)) (Part (said ++ bytes)) s m
       → Keeps (Account heard said) (Account (heard ++ []) (said ++ bytes)) (Part (said ++ bytes)) s
       m
-  none_heard bytes k =
-      subst (λ h. Keeps (Account heard said) (Account h (said ++ bytes)) (Part (said ++ bytes)) s m)
-      (sym (append-nil heard)) k
+  none_heard bytes k = grind (arith, append-nil)
 
   neither : Keeps (Account heard said) (Account heard said) (Part said) s m
       → Keeps (Account heard said) (Account (heard ++ []) (said ++ [])) (Part (said ++ [])) s m
@@ -425,16 +371,19 @@ moved_keeps : (heard said : List ℕ) (move : LinkMove) (s : Session)
     → Keeps (Account heard said) (Account (heard ++ piece_over move s) (said ++ []))
     (Part (said ++ [])) s (moved move s)
 unfolding piece_over
-moved_keeps heard said (moves.Serve count) s =
-    none_said heard said s _ (reads_of count s) (serve_keeps heard said count s)
-moved_keeps heard said (moves.Send count) s =
-    neither heard said s _ (send_keeps heard said count s)
-moved_keeps heard said (moves.Recv count) s =
-    neither heard said s _ (receive_keeps heard said count s)
-moved_keeps heard said moves.Flow s =
-    none_said heard said s _ (reads_of None s) (flow_keeps heard said s)
-moved_keeps heard said moves.HangUp s = neither heard said s _ (hang_keeps heard said s)
-moved_keeps heard said moves.Cut s = neither heard said s _ (cut_keeps heard said s)
+moved_keeps heard said move s =
+    grind (
+      arith,
+      none_said,
+      reads_of,
+      serve_keeps,
+      neither,
+      send_keeps,
+      receive_keeps,
+      flow_keeps,
+      hang_keeps,
+      cut_keeps,
+    )
 
 pub move_keeps : (heard said : List ℕ) (event : LinkEvent) (s : Session)
     → Keeps (Account heard said) (Account (heard ++ piece_of event s) (said ++ bytes_said event))

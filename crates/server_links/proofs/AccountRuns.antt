@@ -300,8 +300,12 @@ module _ (heard said piece : List ℕ) (up : Direction) (eof : Bool) (s : Sessio
       (keeps_quiet (Account heard said) Fed (Part said) s fed_session [] None refl
       (λ read a. let r = fed_running read a in (
         account_part heard said read s a,
-        (λ e. (refl, r, goes_further parse heard piece s.link.reader requests_join
-      (a.reading on))),
+        (λ e. (
+          refl,
+          r,
+          goes_further parse heard piece s.link.reader requests_join
+              (a.reading on),
+        )),
         running_part p.items (heard ++ piece) said read fed_session r,
       )))
       fed_run

@@ -1,7 +1,7 @@
 -- What every move over one link leaves of the rest: the names, the other connections, and a history
 -- whose new entries have their lines.
 use Rattle.std.proofs.Common.{◌≡◌, ◌+◌, ◌-◌, ℕ, List, [], ◌∷◌, ◌++◌, true, false, cond}
-use Rattle.std.proofs.Common.{length, take, drop, filter, min, refl, sym, ap, subst, ◌∙◌, arith}
+use Rattle.std.proofs.Common.{length, take, filter, refl, sym, ap, subst, ◌∙◌, arith}
 use Rattle.std.proofs.Common.{append_assoc, append-nil, eq-eqb, length-take, length-drop}
 use Rattle.std.specs.Prelude.{◌==◌}
 use Rattle.std.specs.Str.{bytes_eq}
@@ -14,7 +14,7 @@ use Rattle.serial_model.specs.declared.history.BookCall.TheVariants as call
 use Rattle.serial_model.specs.declared.history.BookReply.{BookReply}
 use Rattle.serial_model.specs.declared.history.BookReply.TheVariants.{Admitted, Quiet}
 use Rattle.serial_model.specs.declared.history.BookReply.TheVariants.{Bytes}
-use Rattle.serial_model.specs.History.{admitted, gives_on, stream, taken, unsent}
+use Rattle.serial_model.specs.History.{admitted, gives_on, taken, unsent}
 use Rattle.serial_model.specs.History.{IsLegal}
 use Rattle.serial_model.specs.Steps.{Turn, book_step, gone, full, running, taking, closing}
 use Rattle.serial_model.specs.Laws.{Extends}
@@ -95,21 +95,7 @@ pub carries_link : (s : Session) (new : Link) (lines : List Line) → new.id ≡
     → ((name : List ℕ) → bytes_eq s.link.name name ≡ false → read_on name lines ≡ [])
     → filter is_entry_line lines ≡ [] → (s.link.down ≡ spent → new.down ≡ spent)
     → Carries s (with_link s new) lines
-carries_link s new lines id named mute none still = record {
-  limits = refl;
-  now = refl;
-  id = id;
-  named = named;
-  legal = λ h. h;
-  count = refl;
-  entries = [];
-  grows = refl;
-  others = λ c n. extends_none s.limits c s.past;
-  mute = mute;
-  stays_spent = still;
-  printed = λ names n. sym (append-nil (entry_lines s.limits names s.past))
-      ∙ ap (λ l. entry_lines s.limits names s.past ++ l) (sym none);
-}
+carries_link s new lines id named mute none still = grind (arith, extends_none, append-nil)
 
 pub carries_none : (s : Session) → Carries s s []
 carries_none s = carries_link s s.link [] refl refl (λ name n. refl) refl (λ h. h)
@@ -143,11 +129,7 @@ module _ (l : Limits) (past : List Entry) (id most : ℕ) (P : Turn
   pub by_take : (gives_on l past id ≡ true → P (took past id most (take most (unsent l id past))))
       → P (book_step l past (call.Take id most))
   unfolding book_step
-  by_take t = elim (gives_on l past id) as (λ b. gives_on l past id ≡ b
-      → P (cond b (taking l past id most (take most (unsent l id past))) (gone past id))) [
-        | true ↦ λ on. by_taking (take most (unsent l id past)) (t on)
-        | false ↦ λ off. g
-      ] refl
+  by_take t = grind (arith, by_taking)
 
 -- what a turn of the connection adds, and prints
 record Adds (l : Limits) (id : ℕ) (words : List (List ℕ)) (past : List Entry) (t : Turn) : Type 0
@@ -162,13 +144,7 @@ record Adds (l : Limits) (id : ℕ) (words : List (List ℕ)) (past : List Entry
 adds_nothing : (l : Limits) (id : ℕ) (words : List (List ℕ)) (past : List Entry) (reply : BookReply)
     → ((names : List (List ℕ)) → filter is_entry_line (reply_lines (name_of names id) words reply)
     ≡ []) → Adds l id words past (record { reply = reply; past = past })
-adds_nothing l id words past reply none = record {
-  count = refl;
-  entries = [];
-  grows = refl;
-  printed = λ names. sym (append-nil (entry_lines l names past))
-      ∙ ap (λ x. entry_lines l names past ++ x) (sym (none names));
-}
+adds_nothing l id words past reply none = grind (arith, append-nil)
 
 run_adds : (l : Limits) (past : List Entry) (id now : ℕ) (words : List (List ℕ))
     → Adds l id words past (book_step l past (call.Run id words now))
@@ -187,13 +163,7 @@ taken_count : (l : Limits) (past : List Entry) (id most : ℕ) → gives_on l pa
     → length (take most (unsent l id past))
     ≡ taken l id (entry.Take id most ∷ past) - taken l id past
 taken_count l past id most on =
-    ap (λ u. length (take most u)) (unsent_live l past id (not_ended l past id on))
-    ∙ length-take most (drop (taken l id past) (stream l id past))
-    ∙ ap (λ n. min most n) (length-drop (taken l id past) (stream l id past))
-    ∙ sym (ap (λ b. cond b (taken l id past + min most
-    (length (stream l id past) - taken l id past)) (taken l id past) - taken l id past)
-    (eq-eqb id id refl)
-    ∙ omega arith)
+    grind (arith, unsent_live, not_ended, length-take, length-drop, eq-eqb)
 
 take_adds : (l : Limits) (past : List Entry) (id most : ℕ)
     → Adds l id [] past (book_step l past (call.Take id most))
@@ -221,23 +191,7 @@ carries_turn : (s : Session) (c : BookCall) (words : List (List ℕ))
     → Extends s.limits d s.past (book_step s.limits s.past c).past)
     → let t : Turn = book_step s.limits s.past c in
     Carries s (with_past s t.past) (reply_lines s.link.name words t.reply)
-carries_turn s c words a others =
-    let t = book_step s.limits s.past c in
-    record {
-      limits = refl;
-      now = refl;
-      id = refl;
-      named = refl;
-      legal = step_legal s.limits s.past c;
-      count = a.count;
-      entries = a.entries;
-      grows = a.grows;
-      others = others;
-      mute = λ name n. mute_reply name s.link.name words t.reply;
-      stays_spent = λ h. h;
-      printed = λ names n. a.printed names ∙ ap (λ x. entry_lines s.limits names s.past
-          ++ filter is_entry_line (reply_lines x words t.reply)) n;
-    }
+carries_turn s c words a others = grind (arith, step_legal, mute_reply, filter)
 
 pub run_carries : (s : Session) (now : ℕ) (words : List (List ℕ)) →
     let t : Turn = book_step s.limits s.past (call.Run s.link.id words now) in

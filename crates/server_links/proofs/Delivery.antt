@@ -1,5 +1,5 @@
 -- A link that flows has nothing in flight then, and nothing left to send.
-use Rattle.std.proofs.Common.{◌≡◌, ◌+◌, ◌<◌, ◌≤◌, ℕ, List, [], ◌∷◌, Bool, true, false, cond}
+use Rattle.std.proofs.Common.{◌≡◌, ◌<◌, ◌≤◌, ℕ, List, [], ◌∷◌, Bool, true, false, cond}
 use Rattle.std.proofs.Common.{Some, None, Option, length, take, length-take, refl, sym, ap}
 use Rattle.std.proofs.Common.{subst, ◌∙◌, arith, eq-eqb}
 use Rattle.std.specs.Prelude.{◌&&◌, not, nat_lt, nat_le, slice_set}
@@ -8,15 +8,13 @@ use Rattle.resp_stream.specs.declared.fault.FaultPlace.{FaultPlace}
 use Rattle.resp_stream.specs.Parse.{parse}
 use Rattle.serial_model.specs.declared.history.Limits.{Limits}
 use Rattle.serial_model.specs.declared.history.Entry.{Entry}
-use Rattle.serial_model.specs.declared.history.Entry.TheVariants as entry
 use Rattle.serial_model.specs.declared.history.BookCall.TheVariants as call
-use Rattle.serial_model.specs.declared.history.BookReply.TheVariants.{Bytes}
-use Rattle.serial_model.specs.History.{reads_on, gives_on, has_ended, is_admitted, stream, taken}
-use Rattle.serial_model.specs.History.{unsent, is_full}
-use Rattle.serial_model.specs.Steps.{Turn, book_step, taking, gone, full}
+use Rattle.serial_model.specs.History.{reads_on, gives_on, has_ended, is_admitted, stream}
+use Rattle.serial_model.specs.History.{unsent}
+use Rattle.serial_model.specs.Steps.{Turn, book_step, taking, gone}
 use Rattle.serial_model.proofs.Streams.{not_ended, stream_take, unsent_live, unsent_take_own}
 use Rattle.server_links.specs.declared.link.Link.{Link}
-use Rattle.server_links.specs.Directions.{is_open, is_queued, past_eof, without_bytes, finished}
+use Rattle.server_links.specs.Directions.{is_open, is_queued, past_eof, without_bytes}
 use Rattle.server_links.specs.EntryLines.{reply_fault}
 use Rattle.server_links.specs.Moves.{turned, turn, next_read, run_one, run_all, close, stop}
 use Rattle.server_links.specs.Moves.{rest_read, run_requests, run_fed, stopped_at}
@@ -24,7 +22,7 @@ use Rattle.server_links.specs.Moves.{feed, serve_all, take_down, all_bytes, send
 use Rattle.server_links.specs.Moves.{flow, read_bytes, read_eof}
 use Rattle.server_links.specs.OneHistory.{FlowDelivers}
 use Rattle.server_links.specs.Outcome.{Outcome, and_then, does, stays, within}
-use Rattle.server_links.specs.Session.{Session, session_at, with_link, with_down}
+use Rattle.server_links.specs.Session.{Session, session_at}
 use Rattle.server_links.proofs.Moving.{every_serve_all, every_flow}
 use Rattle.server_links.proofs.AccountRuns.{both}
 use Rattle.server_links.specs.LinkSteps.{over}
@@ -94,23 +92,19 @@ taking_given : (l : Limits) (past : List Entry) (id most : ℕ) (bytes : List �
     → gives_on l past id ≡ true → take most (unsent l id past) ≡ bytes →
     let t : Turn = taking l past id most bytes in
     reply_fault t.reply ≡ None → length (stream l id t.past) ≤ most → unsent l id t.past ≡ []
-taking_given l past id most [] more on is = λ e small.
-    let size : length (take most (unsent l id past)) ≡ 0 = ap length is in
-    no_bytes (unsent l id past) (omega (arith, size, length-take most (unsent l id past)))
-taking_given l past id most (b ∷ bytes) more on is =
-    let taken_turn : Turn =
-    record { reply = Bytes (length past + 1) (b ∷ bytes); past = entry.Take id most ∷ past } in
-    elim (is_full l past) as (λ v. let t : Turn = cond v (full past) taken_turn in
-    reply_fault t.reply ≡ None → length (stream l id t.past) ≤ most → unsent l id t.past ≡ []) [
-      | true ↦ λ e small. absurd (let no : ⊥ = cc in no)
-      | false ↦ λ e small.
-          let live = not_ended l past id on in
-          let size = ap length (unsent_live l past id live)
-          ∙ length-drop (taken l id past) (stream l id past) in
-          let same = ap length (stream_take l past id id most) in
-          unsent_take_own l past id id most live (eq-eqb id id refl)
-          ∙ drop_all most (unsent l id past) (omega (arith, size, same, small))
-    ]
+taking_given l past id most bytes more on is =
+    grind (
+      arith,
+      no_bytes,
+      length-take,
+      not_ended,
+      unsent_live,
+      length-drop,
+      stream_take,
+      unsent_take_own,
+      eq-eqb,
+      drop_all,
+    )
 
 some_bytes : 0 < all_bytes
 some_bytes = omega arith
@@ -146,18 +140,7 @@ ended_given l past id on off = grind arith
 
 given_send : (s : Session) → Heard s → is_admitted s.past s.link.id ≡ true → Ends Given (send_all s)
 unfolding Heard Ends Given
-given_send s h on =
-    let ended = with_link s (with_down s.link (finished s.link.down)) in
-    let sent : Outcome Session =
-    cond (gives_on s.limits s.past s.link.id) (take_down all_bytes s) (stays ended) in
-    subst (λ b. (cond b sent (stays s)).fault ≡ None
-    → Given (cond b sent (stays s)).state) (sym h.1)
-    (elim (gives_on s.limits s.past s.link.id) as (λ b. gives_on s.limits s.past s.link.id ≡ b
-    → (cond b (take_down all_bytes s) (stays ended)).fault ≡ None
-    → Given (cond b (take_down all_bytes s) (stays ended)).state) [
-      | true ↦ λ gives. given_take s h.0 gives
-      | false ↦ λ off e. (h.0, λ small. ended_given s.limits s.past s.link.id on off)
-    ] refl)
+given_send s h on = grind (arith, given_take, ended_given)
 
 Delivered : Session → Type 0
 Delivered s = Given s × (s.link.down.bytes ≡ [])

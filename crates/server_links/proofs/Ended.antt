@@ -1,36 +1,30 @@
 -- Links that are over stay so whatever happens, and nothing flows over them.
-use Rattle.std.proofs.Common.{◌≡◌, ◌+◌, ◌<◌, ℕ, List, [], ◌∷◌, ◌++◌, Bool, true, false, cond}
+use Rattle.std.proofs.Common.{◌≡◌, ◌+◌, ◌<◌, ℕ, List, [], ◌∷◌, ◌++◌, Bool, true, false}
 use Rattle.std.proofs.Common.{Some, None, Result, Ok, length, slice_set, refl, sym, ap}
 use Rattle.std.proofs.Common.{subst}
-use Rattle.std.proofs.Common.{◌∙◌, append-nil, arith, eq-eqb, inl, inr}
-use Rattle.std.specs.Prelude.{◌==◌, ◌&&◌, not}
+use Rattle.std.proofs.Common.{◌∙◌, append-nil, arith, eq-eqb}
+use Rattle.std.specs.Prelude.{◌&&◌, not}
 use Rattle.std.proofs.lemmas.Bool.{cases_lt, eqb-true}
 use Rattle.std.proofs.lemmas.List.{get_or-set_same, get_or-set_other, get_or_append_left}
 use Rattle.std.proofs.lemmas.List.{get_or_past, set-get_or}
 use Rattle.serial_model.specs.declared.history.Limits.{Limits}
 use Rattle.serial_model.specs.declared.history.Entry.{Entry}
 use Rattle.serial_model.specs.declared.history.Entry.TheVariants as entry
-use Rattle.serial_model.specs.declared.history.BookCall.TheVariants as call
-use Rattle.serial_model.specs.History.{admitted, gives_on, has_ended, is_admitted, is_full}
+use Rattle.serial_model.specs.History.{has_ended, is_admitted}
 use Rattle.serial_model.specs.History.{reads_on}
-use Rattle.serial_model.specs.Steps.{Turn, book_step}
 use Rattle.serial_model.proofs.Turning.{admit_step}
 use Rattle.script_text.specs.declared.line.Line.{Line}
 use Rattle.server_links.specs.declared.direction.Direction.{Direction}
-use Rattle.server_links.specs.declared.direction.Eof.TheVariants as eof
 use Rattle.server_links.specs.declared.fault.WorldFault.{WorldFault}
-use Rattle.server_links.specs.declared.fault.WorldFault.TheVariants.{HistoryFull, NameTaken}
 use Rattle.server_links.specs.declared.link.Link.{Link}
 use Rattle.server_links.specs.declared.link.LinkMove.TheVariants as moves
-use Rattle.server_links.specs.Directions.{finished, fresh, is_open, is_queued, past_eof, spent}
+use Rattle.server_links.specs.Directions.{is_queued, past_eof, spent}
 use Rattle.server_links.specs.Directions.{without_bytes}
 use Rattle.server_links.specs.LinkEvent.{LinkEvent, Over, Raw}
-use Rattle.server_links.specs.LinkSteps.{admitting, over, over_named, place_of, raw_step, step}
+use Rattle.server_links.specs.LinkSteps.{over, over_named, place_of, step}
 use Rattle.server_links.specs.LinksState.{IsOver, LinksState, at_place, fresh_link}
-use Rattle.server_links.specs.Moves.{all_bytes, eof_lines, feed, flow, move_of, read_eof}
-use Rattle.server_links.specs.Moves.{read_lines, receive_all, run_fed, send_all, serve_all}
-use Rattle.server_links.specs.Moves.{take_down}
-use Rattle.server_links.specs.Outcome.{and_then, stays}
+use Rattle.server_links.specs.Moves.{eof_lines, flow, move_of, read_eof}
+use Rattle.server_links.specs.Moves.{read_lines, receive_all, send_all, serve_all}
 use Rattle.server_links.specs.Session.{Session, session_at, with_down, with_link, with_session}
 use Rattle.server_links.proofs.Carries.{Carries}
 use Rattle.server_links.proofs.Events.{admit_full}
@@ -64,18 +58,10 @@ module _ (s : Session) (ended : has_ended s.limits s.link.id s.past ≡ true)
     (read : s.link.down ≡ spent) (lines : List Line) where
   serve_idle : Ends (serve_all s) lines s lines
   unfolding serve_all
-  serve_idle =
-      subst (λ b. Ends (cond b (and_then (feed s.link.up.bytes
-      (past_eof (without_bytes s.link.up)) s) (run_fed (is_queued s.link.up.eof))) (stays s))
-      lines s lines) (sym (unread s.limits s.link.id s.past ended))
-      (refl, refl, sym (append-nil lines))
+  serve_idle = grind (arith, unread, append-nil)
 
   send_idle : Ends (send_all s) lines s lines
-  send_idle =
-      let shut : is_open s.link.down.eof ≡ false = ap (λ (d : Direction). is_open d.eof) read in
-      subst (λ b. Ends (cond b (cond (gives_on s.limits s.past s.link.id) (take_down all_bytes s)
-      (stays (with_link s (with_down s.link (finished s.link.down))))) (stays s)) lines s lines)
-      (sym shut) (refl, refl, sym (append-nil lines))
+  send_idle = grind (arith, append-nil)
 
   receive_idle : Ends (receive_all s) lines s lines
   unfolding receive_all
@@ -121,13 +107,7 @@ over_idle name w at lines found is =
 
 -- only where there is a link
 pub over_below : (w : LinksState) (at : ℕ) → IsOver w at → at < length w.links
-over_below w at is = elim (cases_lt at (length w.links)) [
-  | inl lt ↦ lt
-  | inr ge ↦
-      absurd (let none : fresh ≡ spent = ap (λ (x : Link). x.down)
-      (sym (get_or_past w.links at (fresh_link 0 []) ge)) ∙ is.read in
-      let no : eof.None ≡ eof.Read = ap (λ (d : Direction). d.eof) none in cc)
-]
+over_below w at is = grind (arith, cases_lt, get_or_past)
 
 -- links that are over, and the names of all
 pub record StayOver (w v : LinksState) : Type 0 where
@@ -158,36 +138,16 @@ over_by w at past links entries grows id down is = record {
 pub over_moved : (w : LinksState) (at : ℕ) (t : Session) (ls : List Line)
     → Carries (session_at at w) t ls → StayOver w (with_session at w t)
 over_moved w at t ls c =
-    let new = slice_set w.links at t.link in
-    let none = fresh_link 0 [] in
-    let mine : (k : ℕ) → at ≡ k → k < length w.links → at_place new k ≡ t.link =
-    λ k e lt. subst (λ i. at_place new i ≡ t.link) e
-    (get_or-set_same w.links at t.link none (omega (arith, e, lt))) in
-    let theirs : (k : ℕ) → (at ≡ k → ⊥) → at_place new k ≡ at_place w.links k =
-    λ k n. get_or-set_other w.links at k t.link none (λ e. n (sym e)) in
-    let either : (k : ℕ) (P : Type 0) → (at ≡ k → P) → ((at ≡ k → ⊥) → P) → P =
-    λ k P same other. elim (at == k) as (λ b. (at == k) ≡ b → P) [
-      | true ↦ λ e. same (eqb-true at k e)
-      | false ↦ λ e. other (λ q. let t : (at == k) ≡ true = eq-eqb at k q in cc)
-    ] refl in
-    record {
-      over = λ k is.
-          let lt = over_below w k is in
-          over_by w k t.past new c.entries c.grows
-          (either k ((at_place new k).id ≡ (at_place w.links k).id)
-          (λ e. ap (λ (x : Link). x.id) (mine k e lt) ∙ c.id
-          ∙ ap (λ i. (at_place w.links i).id) e)
-          (λ n. ap (λ (x : Link). x.id) (theirs k n)))
-          (either k ((at_place new k).down ≡ spent)
-          (λ e. ap (λ (x : Link). x.down) (mine k e lt)
-          ∙ c.stays_spent (ap (λ i. (at_place w.links i).down) e ∙ is.read))
-          (λ n. ap (λ (x : Link). x.down) (theirs k n) ∙ is.read))
-          is;
-      named = λ k lt. either k ((at_place new k).name ≡ (at_place w.links k).name)
-          (λ e. ap (λ (x : Link). x.name) (mine k e lt) ∙ c.named
-          ∙ ap (λ i. (at_place w.links i).name) e)
-          (λ n. ap (λ (x : Link). x.name) (theirs k n));
-    }
+    grind (
+      arith,
+      slice_set,
+      get_or-set_same,
+      get_or-set_other,
+      eqb-true,
+      eq-eqb,
+      over_below,
+      over_by,
+    )
 
 -- a link is made
 made_over : (w : LinksState) (id : ℕ) (new : Link)
@@ -197,17 +157,7 @@ made_over : (w : LinksState) (id : ℕ) (new : Link)
       past = entry.Admit id ∷ w.past;
       links = w.links ++ new ∷ [];
     })
-made_over w id new =
-    let links = w.links ++ new ∷ [] in
-    let old : (k : ℕ) → k < length w.links → at_place links k ≡ at_place w.links k =
-    λ k lt. get_or_append_left w.links (new ∷ []) (fresh_link 0 []) k lt in
-    record {
-      over = λ k is.
-          let same = old k (over_below w k is) in
-          over_by w k (entry.Admit id ∷ w.past) links (entry.Admit id ∷ []) refl
-          (ap (λ (x : Link). x.id) same) (ap (λ (x : Link). x.down) same ∙ is.read) is;
-      named = λ k lt. ap (λ (x : Link). x.name) (old k lt);
-    }
+made_over w id new = grind (arith, get_or_append_left, over_below, over_by)
 
 -- and where it was made, its name was free
 pub raw_over : (name : List ℕ) (w : LinksState)
@@ -215,21 +165,4 @@ pub raw_over : (name : List ℕ) (w : LinksState)
     (step w (Raw name))
 unfolding step
 raw_over name w =
-    let Q : LinksState → List Line → Type 0 = λ v ls. StayOver w v × (place_of name w ≡ None) in
-    let W : LinksState → List Line → Type 0 = λ v ls. StayOver w v in
-    elim (place_of name w) as (λ p. place_of name w ≡ p → Meets Q W (raw_step w name p)) [
-      | Some at ↦ λ there. meets_refuses Q W w NameTaken (over_same w)
-      | None ↦ λ free.
-          elim (is_full w.limits w.past) as (λ b. is_full w.limits w.past ≡ b
-          → Meets Q W (admitting w name (book_step w.limits w.past call.Admit))) [
-            | true ↦ λ full. subst (λ (t : Turn). Meets Q W (admitting w name t))
-                (sym (admit_full w.limits w.past full))
-                (meets_once Q W w w [] (Some (HistoryFull (length w.past)))
-                (λ e. absurd (let no : ⊥ = cc in no)) (over_same w) (over_same w))
-            | false ↦ λ room. subst (λ (t : Turn). Meets Q W (admitting w name t))
-                (sym (admit_step w.limits w.past room))
-                (let id = admitted w.past + 1 in
-                let made = made_over w id (fresh_link id name) in
-                meets_once Q W w _ _ None (λ e. (made, free)) (over_same w) made)
-          ] refl
-    ] refl
+    grind (arith, meets_refuses, over_same, admit_full, meets_once, admit_step, made_over)

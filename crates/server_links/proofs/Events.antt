@@ -11,7 +11,7 @@ use Rattle.serial_model.specs.declared.history.Limits.{Limits}
 use Rattle.serial_model.specs.declared.history.Entry.{Entry}
 use Rattle.serial_model.specs.declared.history.Entry.TheVariants as entry
 use Rattle.serial_model.specs.declared.history.BookCall.TheVariants as call
-use Rattle.serial_model.specs.declared.history.BookReply.TheVariants.{Admitted, Refused}
+use Rattle.serial_model.specs.declared.history.BookReply.TheVariants.{Refused}
 use Rattle.serial_model.specs.declared.history.BookRefusal.TheVariants as refusal
 use Rattle.serial_model.specs.History.{admitted, is_full}
 use Rattle.serial_model.specs.Steps.{Turn, book_step, admitting, full}
@@ -54,12 +54,7 @@ admit_full l past none = ap (λ v. cond v (full past) (admitting past)) none
 pub admit_refused : (l : Limits) (past new : List Entry) (n : ℕ)
     → book_step l past call.Admit ≡ record { reply = Refused (refusal.HistoryFull n); past = new }
     → new ≡ past
-admit_refused l past new n is = elim (is_full l past) as (λ b. is_full l past ≡ b → new ≡ past) [
-  | true ↦ λ none. ap (λ (t : Turn). t.past) (sym is ∙ admit_full l past none)
-  | false ↦ λ room. absurd (let no : ⊥ = (let e : Admitted (length past + 1) (admitted past + 1)
-      ≡ Refused (refusal.HistoryFull n) = ap (λ (t : Turn). t.reply) (sym (admit_step l past room)
-      ∙ is) in cc) in no)
-] refl
+admit_refused l past new n is = grind (arith, admit_full, admit_step)
 
 pub nothing : (b : Bool) → [] ≡ cond {A = List ℕ} b [] []
 nothing true = refl

@@ -2,9 +2,9 @@
 -- memory runs out.
 use Rattle.std.proofs.Common.{◌≡◌, ◌+◌, ◌-◌, ◌<◌, ◌≤◌, ℕ, List, [], ◌∷◌, ◌++◌, Bool, true, false}
 use Rattle.std.proofs.Common.{cond}
-use Rattle.std.proofs.Common.{None, length, take, filter, slice_index_or, refl, sym, ap}
+use Rattle.std.proofs.Common.{None, length, filter, slice_index_or, refl, sym, ap}
 use Rattle.std.proofs.Common.{subst, ◌∙◌}
-use Rattle.std.proofs.Common.{arith, append-nil, length-append, length-set, inl, inr, eq-eqb}
+use Rattle.std.proofs.Common.{arith, append-nil, length-append, length-set, eq-eqb}
 use Rattle.std.proofs.Common.{ne_eqb}
 use Rattle.std.specs.Prelude.{◌==◌, ◌&&◌, not}
 use Rattle.std.specs.Str.{bytes_eq}
@@ -15,8 +15,8 @@ use Rattle.std.proofs.lemmas.List.{get_or-set_same, get_or-set_other, get_or_pus
 use Rattle.std.proofs.lemmas.List.{get_or_append_left, take-append-le}
 use Rattle.serial_model.specs.declared.history.Limits.{Limits}
 use Rattle.serial_model.specs.declared.history.Entry.{Entry}
-use Rattle.serial_model.specs.History.{admitted, is_admitted, is_full, reads_on, stream}
-use Rattle.serial_model.specs.History.{taken, runs_of, IsLegal}
+use Rattle.serial_model.specs.History.{admitted, is_admitted, is_full, reads_on}
+use Rattle.serial_model.specs.History.{taken, IsLegal}
 use Rattle.serial_model.specs.Laws.{Extends}
 use Rattle.serial_model.proofs.Streams.{taken_le}
 use Rattle.script_text.specs.declared.line.Line.{Line}
@@ -26,12 +26,12 @@ use Rattle.resp_stream.proofs.Onward.{no_requests, requests_begun}
 use Rattle.serial_model.specs.declared.history.Entry.TheVariants as entry
 use Rattle.serial_model.proofs.Streams.{connected, stream_admit, stream_fresh, runs_fresh}
 use Rattle.server_links.specs.declared.link.Link.{Link}
-use Rattle.server_links.specs.EntryLines.{entry_lines, is_entry_line, name_of}
+use Rattle.server_links.specs.EntryLines.{entry_lines, name_of}
 use Rattle.server_links.specs.OneHistory.{read_on, History}
 use Rattle.server_links.specs.Outcome.{Outcome}
 use Rattle.server_links.specs.Session.{Session, with_past, session_at, with_session}
 use Rattle.server_links.specs.LinkSteps.{over, place_of}
-use Rattle.server_links.specs.LinksState.{LinksState, at_place, fresh_link, names}
+use Rattle.server_links.specs.LinksState.{LinksState, at_place, fresh_link}
 use Rattle.server_links.proofs.Names.{unplaced}
 use Rattle.server_links.proofs.NameLists.{names_at, names_more, names_set, names_size}
 use Rattle.server_links.proofs.Outcomes.{Meets, meets_within}
@@ -92,9 +92,7 @@ parts_same l said said' lines w d s = grind arith
 gave_other : (l : Limits) (c : ℕ) (past new : List Entry) → Extends l c past new
     → gave l c new ≡ gave l c past
 unfolding gave
-gave_other l c past new e =
-    ap (λ n. take n (stream l c new)) e.taken_is ∙ ap (take (taken l c past)) (sym e.stream_grew.1)
-    ∙ take-append-le (taken l c past) (stream l c past) e.stream_grew.0 (taken_le l past c)
+gave_other l c past new e = grind (arith, take-append-le, taken_le)
 
 live : (a b : Bool) → a ≡ true → (b ≡ true → ⊥) → (a && not b) ≡ true
 live a b h n = grind arith
@@ -106,18 +104,7 @@ reads_before l c past new on e h = grind arith
 pub other_account : (heard said read : List ℕ) (s : Session) (past : List Entry)
     → is_admitted s.past s.link.id ≡ true → Extends s.limits s.link.id s.past past
     → Account heard said read s → Account heard said read (with_past s past)
-other_account heard said read s past on e a = record {
-  bytes = record {
-    up_lost = a.bytes.up_lost;
-    all_said = a.bytes.all_said;
-    none_up = a.bytes.none_up;
-    down_lost = a.bytes.down_lost;
-    all_taken = a.bytes.all_taken ∙ sym (gave_other s.limits s.link.id s.past past e);
-    none_down = a.bytes.none_down;
-  };
-  runs = e.runs_are ∙ a.runs;
-  reading = λ h. a.reading (reads_before s.limits s.link.id s.past past on e h);
-}
+other_account heard said read s past on e a = grind (arith, gave_other, reads_before)
 
 pub not_equal : (a b : List ℕ) → (a ≡ b → ⊥) → bytes_eq a b ≡ false
 not_equal a b n = elim (bytes_eq a b) as (λ v. bytes_eq a b ≡ v
@@ -147,12 +134,7 @@ module _ (l : Limits) (heard : ℕ → List ℕ) (said : List ℕ
 
     mine : session_at at moved ≡ t
     unfolding moved
-    mine =
-        ap (λ (x : Link). record { limits = w.limits; now = w.now; past = t.past; link = x })
-        (get_or-set_same w.links at t.link (fresh_link 0 []) below)
-        ∙ ap (λ (m : Limits). record { limits = m; now = w.now; past = t.past; link = t.link })
-        (sym c.limits)
-        ∙ ap (λ n. record { limits = t.limits; now = n; past = t.past; link = t.link }) (sym c.now)
+    mine = grind (arith, get_or-set_same)
 
     theirs : (i : ℕ) → (at ≡ i → ⊥) → at_place moved.links i ≡ at_place w.links i
     unfolding moved
@@ -165,32 +147,15 @@ module _ (l : Limits) (heard : ℕ → List ℕ) (said : List ℕ
     mine_link = ap (λ (x : Session). x.link) mine
 
     kept_name : (i : ℕ) → (at_place moved.links i).name ≡ (at_place w.links i).name
-    kept_name i = either (λ k. (at_place moved.links k).name
-        ≡ (at_place w.links k).name) i (ap (λ (x : Link). x.name) mine_link
-        ∙ c.named) (λ n. ap (λ (x : Link). x.name) (theirs i n))
+    kept_name i = grind (arith, either, mine_link, theirs)
 
     kept_id : (i : ℕ) → (at_place moved.links i).id ≡ (at_place w.links i).id
-    kept_id i = either (λ k. (at_place moved.links k).id
-        ≡ (at_place w.links k).id) i (ap (λ (x : Link). x.id) mine_link
-        ∙ c.id) (λ n. ap (λ (x : Link). x.id) (theirs i n))
+    kept_id i = grind (arith, either, mine_link, theirs)
 
     moved_history : History l (lines ++ ls) moved
     unfolding moved
-    moved_history = record {
-      limits = s.history.limits;
-      legal = c.legal s.history.legal;
-      links = size ∙ s.history.links ∙ sym c.count;
-      ids = λ i lt. kept_id i ∙ s.history.ids i (omega (arith, lt, size));
-      printed =
-          let ns = names w.links in
-          let named : name_of ns (at_place w.links at).id ≡ (at_place w.links at).name =
-          ap (name_of ns) (s.history.ids at below) ∙ ap (λ i. slice_index_or ns i []) (omega arith)
-          ∙ names_at w.links at below in
-          entries_more lines ls ∙ ap (λ x. x ++ filter is_entry_line ls) s.history.printed
-          ∙ sym (c.printed ns named)
-          ∙ ap (λ n. entry_lines w.limits n t.past)
-          (sym (names_set w.links at t.link c.named));
-    }
+    moved_history =
+        grind (arith, size, kept_id, slice_index_or, names_at, entries_more, filter, names_set)
 
     moved_unread : (name : List ℕ) → ((i : ℕ) → i < length moved.links
         → (at_place moved.links i).name ≡ name → ⊥) → read_on name (lines ++ ls) ≡ []
@@ -242,9 +207,7 @@ module _ (l : Limits) (heard : ℕ → List ℕ) (said : List ℕ
 
     unique_moved : (i j : ℕ) → i < length moved.links → j < length moved.links
         → (at_place moved.links j).name ≡ (at_place moved.links i).name → j ≡ i
-    unique_moved i j li lj e =
-        s.unique i j (omega (arith, li, size)) (omega (arith, lj, size)) (sym (kept_name j) ∙ e
-        ∙ kept_name i)
+    unique_moved i j li lj e = grind (arith, size, kept_name)
 
     stands_moved : Account (heard at ++ piece) (said (at_place w.links at).name
         ++ bytes) (read_on (at_place w.links at).name lines
@@ -338,20 +301,7 @@ fresh_account : (c : ℕ) (name : List ℕ) (l : Limits) (now : ℕ) (past : Lis
     (record { limits = l; now = now; past = entry.Admit c ∷ past; link = fresh_link c name })
 unfolding gave
 fresh_account c name l now past legal above =
-    let none : runs_of c past ≡ [] = runs_fresh l past c legal above in
-    record {
-      bytes = record {
-        up_lost = [];
-        all_said = refl;
-        none_up = λ h. refl;
-        down_lost = [];
-        all_taken = sym (ap (take (taken l c past)) (stream_admit l past c c
-            ∙ stream_fresh l past c legal above) ∙ take-nil (taken l c past));
-        none_down = λ h. refl;
-      };
-      runs = none ∙ sym no_requests;
-      reading = λ on. requests_begun;
-    }
+    grind (arith, runs_fresh, stream_admit, stream_fresh, take-nil, no_requests, requests_begun)
 
 -- names of links that a longer list of names has too
 name_front : (ns : List (List ℕ)) (name : List ℕ) (id : ℕ) → 0 < id → id ≤ length ns
@@ -397,20 +347,7 @@ admitted_account : (heard said read : List ℕ) (s : Session) (id : ℕ)
     → reads_on s.limits (entry.Admit id ∷ s.past) s.link.id ≡ reads_on s.limits s.past s.link.id
     → Account heard said read s → Account heard said read (with_past s (entry.Admit id ∷ s.past))
 unfolding gave
-admitted_account heard said read s id still a = record {
-  bytes = record {
-    up_lost = a.bytes.up_lost;
-    all_said = a.bytes.all_said;
-    none_up = a.bytes.none_up;
-    down_lost = a.bytes.down_lost;
-    all_taken = a.bytes.all_taken
-        ∙ sym (ap (take (taken s.limits s.link.id s.past))
-        (stream_admit s.limits s.past s.link.id id));
-    none_down = a.bytes.none_down;
-  };
-  runs = a.runs;
-  reading = λ on. a.reading (sym still ∙ on);
-}
+admitted_account heard said read s id still a = grind (arith, stream_admit)
 
 module _ (l : Limits) (heard : ℕ → List ℕ) (said : List ℕ
     → List ℕ) (lines : List Line) (w : LinksState) (s : Stands l heard said lines w) (name : List ℕ)
@@ -444,11 +381,7 @@ module _ (l : Limits) (heard : ℕ → List ℕ) (said : List ℕ
 
   which : (P : ℕ → Type 0) (i : ℕ) → i < length made.links → ((k : ℕ) → k < length w.links → P k)
       → ((k : ℕ) → k ≡ length w.links → P k) → P i
-  which P i lt old new = elim (cases_lt i (length w.links)) [
-    | inl below ↦ old i below
-    | inr over ↦
-        new i (omega (arith, over, lt, made_size))
-  ]
+  which P i lt old new = grind (arith, cases_lt, made_size)
 
   same_lines : (n : List ℕ) → read_on n (lines ++ made_lines) ≡ read_on n lines
   same_lines n = read_more n lines made_lines ∙ append-nil (read_on n lines)
@@ -460,26 +393,18 @@ module _ (l : Limits) (heard : ℕ → List ℕ) (said : List ℕ
 
   made_history : History l (lines ++ made_lines) made
   made_history =
-      let id = admitted w.past + 1 in
-      let ns = names w.links in
-      let fits = names_size w.links ∙ s.history.links in
-      let named : name_of (ns ++ name ∷ []) id ≡ name =
-      get_or_push ns name [] (id - 1) (omega (arith, fits)) in
-      record {
-        limits = s.history.limits;
-        legal = (refl, room, s.history.legal);
-        links = made_size ∙ ap (λ n. n + 1) s.history.links;
-        ids = λ i lt. which (λ k. (at_place made.links k).id ≡ k + 1) i lt
-            (λ k lk. ap (λ (x : Link). x.id) (old_there k lk) ∙ s.history.ids k lk)
-            (λ k ek. ap (λ (x : Link). x.id) (new_there k ek) ∙ omega (arith, ek, s.history.links));
-        printed = entries_more lines made_lines ∙ ap (λ x. x ++ made_lines) s.history.printed
-            ∙ sym (ap (λ n. entry_lines w.limits n (entry.Admit id ∷ w.past))
-            (names_more w.links (fresh_link id name))
-            ∙ ap (λ x. entry_lines w.limits (ns ++ name ∷ []) w.past
-            ++ line.Admit (length w.past + 1) x id ∷ []) named
-            ∙ ap (λ x. x ++ made_lines) (names_front w.limits ns name w.past s.history.legal
-            (omega (arith, fits))));
-      }
+      grind (
+        arith,
+        names_size,
+        get_or_push,
+        made_size,
+        which,
+        old_there,
+        new_there,
+        entries_more,
+        names_more,
+        names_front,
+      )
 
   old_account : (i : ℕ) → i < length w.links → Account (heard i
       ++ []) (said (at_place made.links i).name

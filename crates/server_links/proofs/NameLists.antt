@@ -3,7 +3,7 @@ use Rattle.std.proofs.Common.{◌≡◌, ◌+◌, ◌<◌, ℕ, List, [], ◌∷
 use Rattle.std.proofs.Common.{Option, Some, None, Vec, Global, zero, suc, map, length, not, ◌||◌}
 use Rattle.std.proofs.Common.{slice_index_or, slice_set, refl, sym, ap, ◌∙◌, arith, inl, inr}
 use Rattle.std.proofs.Common.{length-append}
-use Rattle.std.specs.Prelude.{◌↔◌, nat_lt, option_to_list, IsSome, position}
+use Rattle.std.specs.Prelude.{◌↔◌, option_to_list, IsSome, position}
 use Rattle.std.specs.List.{list_any, position_or_len}
 use Rattle.std.specs.Str.{bytes_eq}
 use Rattle.std.proofs.lemmas.Bool.{cases_lt}
@@ -28,10 +28,7 @@ module _ {X : Type 0} where
 
   pub position_map : {Y : Type 0} → (f : X → Y) (p : Y → Bool) (xs : List X)
       → position p (map f xs) ≡ position (λ x. p (f x)) xs
-  position_map f p xs =
-      let n = position_or_len (λ x. p (f x)) xs in
-      ap (λ k. cond (nat_lt k (length (map f xs))) (Some k) None) (first_map f p xs)
-      ∙ ap (λ l. cond (nat_lt n l) (Some n) None) (length-map xs f)
+  position_map f p xs = grind (arith, map, first_map, length-map)
 
   pub position_same : (p q : X → Bool) → ((x : X) → p x ≡ q x) → (xs : List X)
       → position p xs ≡ position q xs
@@ -40,14 +37,7 @@ module _ {X : Type 0} where
   -- where none is found, none passes
   pub nowhere : (p : X → Bool) (xs : List X) (d : X) → position p xs ≡ None → (i : ℕ)
       → i < length xs → p (slice_index_or xs i d) ≡ true → ⊥
-  nowhere p xs d none i lt is =
-      let l = position_or_len p xs in
-      let over : nat_lt l (length xs) ≡ false =
-      elim (nat_lt l (length xs)) as (λ b. cond b (Some l) None ≡ None
-      → b ≡ false) [ true ↦ λ e. absurd cc | false ↦ λ e. refl ] none in
-      let passed : not (p (slice_index_or xs i d)) ≡ true =
-      prefix_len_passes (λ x. not (p x)) xs i d (grind (arith, nat_tests)) in
-      absurd (let no : not true ≡ true = ap not (sym is) ∙ passed in cc)
+  nowhere p xs d none i lt is = grind (arith, slice_index_or, prefix_len_passes, nat_tests)
 
   -- nor does one more
   pub none_more : (p : X → Bool) (xs : List X) (x : X) → position p xs ≡ None → p x ≡ false
@@ -79,15 +69,7 @@ module _ {X : Type 0} where
 -- ---- a table of names
 
 pub turned : (a b : List ℕ) → bytes_eq a b ≡ bytes_eq b a
-turned a b =
-    elim (bytes_eq a b) as (λ c. bytes_eq a b ≡ c → c ≡ bytes_eq b a) [
-      | true ↦ λ e. sym ((bytes_eq-Decides b a).1 (sym ((bytes_eq-Decides a b).0 e)))
-      | false ↦ λ e. elim (bytes_eq b a) as (λ d. bytes_eq b a ≡ d → false ≡ d) [
-        | true ↦ λ k. absurd (let same : bytes_eq a b
-            ≡ true = (bytes_eq-Decides a b).1 (sym ((bytes_eq-Decides b a).0 k)) in cc)
-        | false ↦ λ k. refl
-      ] refl
-    ] refl
+turned a b = grind (arith, bytes_eq-Decides)
 
 abbrev Keys : Type 0
 Keys = List (Vec ℕ Global)
@@ -100,10 +82,7 @@ plain keys = map (λ k. k.items) keys
 
 pub find_name : (name : List ℕ) (keys : Keys)
     → position (λ k. bytes_eq name k.items) keys ≡ position (λ n. bytes_eq n name) (plain keys)
-find_name name keys =
-    position_same (λ k. bytes_eq name k.items) (λ k. bytes_eq k.items name)
-    (λ k. turned name k.items) keys
-    ∙ sym (position_map (λ k. k.items) (λ n. bytes_eq n name) keys)
+find_name name keys = grind (arith, position_same, turned, position_map)
 
 -- a name that is not there goes last
 pub name_added : (k : Vec ℕ Global) (keys : Keys)
@@ -118,17 +97,8 @@ name_added k keys none =
 pub name_gone : (before : List (List ℕ)) (name : List ℕ) (old new : Keys)
     (r : Option (Vec ℕ Global)) → plain old ≡ before ++ name ∷ []
     → old ≡ new ++ option_to_list r → (IsSome r ↔ (0 < length old)) → plain new ≡ before
-name_gone before name old new None is items some =
-    absurd (let no : IsSome {T = Vec ℕ Global} None =
-    some.1 (omega (
-      arith,
-      length-map old (λ k. k.items),
-      ap length is,
-      length-append before (name ∷ []),
-    )) in cc)
-name_gone before name old new (Some k) is items some =
-    last_same (plain new) before k.items name
-    (sym (map-append (λ k. k.items) new (k ∷ [])) ∙ ap plain (sym items) ∙ is)
+name_gone before name old new r is items some =
+    grind (arith, length-map, length-append, last_same, map-append)
 
 -- ---- the names of links
 
@@ -156,28 +126,12 @@ names_size links = length-map links (λ (l : Link). l.name)
 apart_more : (ns : List (List ℕ)) (name : List ℕ) → AreApart ns
     → ((i : ℕ) → i < length ns → slice_index_or ns i [] ≡ name → ⊥) → AreApart (ns ++ name ∷ [])
 apart_more ns name apart new i j li lj e =
-    let size = length-append ns (name ∷ []) in
-    let old : (k : ℕ) → k < length ns → slice_index_or (ns ++ name ∷ []) k []
-    ≡ slice_index_or ns k [] = λ k lt. get_or_append_left ns (name ∷ []) [] k lt in
-    let last : (k : ℕ) → k ≡ length ns → slice_index_or (ns ++ name ∷ []) k [] ≡ name =
-    λ k is. get_or_push ns name [] k (sym is) in
-    elim (cases_lt i (length ns)) [
-      | inl bi ↦ elim (cases_lt j (length ns)) [
-        | inl bj ↦ apart i j bi bj (sym (old j bj) ∙ e ∙ old i bi)
-        | inr aj ↦ absurd (new i bi (sym (old i bi) ∙ sym e ∙ last j (omega (arith, aj, lj, size))))
-      ]
-      | inr ai ↦ elim (cases_lt j (length ns)) [
-        | inl bj ↦ absurd (new j bj (sym (old j bj) ∙ e ∙ last i (omega (arith, ai, li, size))))
-        | inr aj ↦ omega (arith, ai, li, aj, lj, size)
-      ]
-    ]
+    grind (arith, length-append, slice_index_or, get_or_append_left, get_or_push, cases_lt)
 
 module _ (ns : List (List ℕ)) (w : LinksState) (are : AreNames ns w.links) where
   -- a link is found among the names
   pub name_place : (name : List ℕ) → position (λ n. bytes_eq n name) ns ≡ place_of name w
-  name_place name =
-      ap (position (λ n. bytes_eq n name)) are.all
-      ∙ position_map (λ (l : Link). l.name) (λ n. bytes_eq n name) w.links
+  name_place name = grind (arith, position_map)
 
   -- at the place where it is
   pub own_place : (at : ℕ) → at < length w.links
@@ -202,17 +156,10 @@ module _ (ns : List (List ℕ)) (links : List Link) (are : AreNames ns links) wh
   -- a link is made
   pub named_more : (new : Link) → position (λ n. bytes_eq n new.name) ns ≡ None
       → AreNames (ns ++ new.name ∷ []) (links ++ new ∷ [])
-  named_more new free = record {
-    all = ap (λ l. l ++ new.name ∷ []) are.all ∙ sym (names_more links new);
-    apart = apart_more ns new.name are.apart
-        (λ i lt e. nowhere (λ n. bytes_eq n new.name) ns [] free i lt
-        ((bytes_eq-Decides (slice_index_or ns i []) new.name).1 e));
-  }
+  named_more new free =
+      grind (arith, names_more, apart_more, nowhere, bytes_eq-Decides, slice_index_or)
 
   -- a link changes, and keeps its name
   pub named_set : (at : ℕ) (new : Link) → new.name ≡ (at_place links at).name
       → AreNames ns (slice_set links at new)
-  named_set at new same = record {
-    all = are.all ∙ sym (names_set links at new same);
-    apart = are.apart;
-  }
+  named_set at new same = grind (arith, names_set)

@@ -2,9 +2,8 @@
 use Rattle.std.proofs.Common.{◌≡◌, ◌+◌, ◌-◌, ◌<◌, ◌≤◌, ℕ, List, [], ◌∷◌, ◌++◌, true, false}
 use Rattle.std.proofs.Common.{cond, Option, None, Some, length, map, slice_index_or, slice_set}
 use Rattle.std.proofs.Common.{refl, sym, ap}
-use Rattle.std.proofs.Common.{subst}
-use Rattle.std.proofs.Common.{◌∙◌, arith, append-nil, append_assoc, length-set, length-append, inl}
-use Rattle.std.proofs.Common.{inr, eq-eqb, max, take}
+use Rattle.std.proofs.Common.{◌∙◌, arith, append-nil, append_assoc, length-set, length-append}
+use Rattle.std.proofs.Common.{eq-eqb, max, take}
 use Rattle.std.specs.Prelude.{◌==◌, ◌↔◌, option_to_list, IsSome}
 use Rattle.std.proofs.lemmas.Bool.{eqb-true, cases_lt}
 use Rattle.std.proofs.lemmas.Bool.Decides.{nat_tests}
@@ -31,7 +30,7 @@ use Rattle.serial_model.proofs.Streams.{sent_fresh, connected}
 use Rattle.serial_model.proofs.Turning.{by_step}
 use Rattle.server_book.specs.BookState.{posts_after}
 use Rattle.server_links.specs.Notes.{AreNotes, NotesState}
-use Rattle.server_links.specs.Notes.{TrailState, IsNoted, changed, has_trail, no_trail, noted_admit}
+use Rattle.server_links.specs.Notes.{TrailState, IsNoted, changed, noted_admit}
 use Rattle.server_links.specs.Notes.{noted_posts, noted_turn, runner_of}
 use Rattle.server_links.specs.Notes.{sent_entries, trail_of, with_run, with_sent}
 
@@ -39,30 +38,13 @@ use Rattle.server_links.specs.Notes.{sent_entries, trail_of, with_run, with_sent
 
 changed_size : (f : TrailState → TrailState) (id : ℕ) (ts : List TrailState)
     → length (changed f id ts) ≡ length ts
-changed_size f id ts = elim (has_trail id ts) as (λ b.
-    length (cond b (slice_set ts (id - 1) (f (trail_of id ts))) ts) ≡ length ts) [
-      | true ↦ length-set ts (id - 1) (f (trail_of id ts))
-      | false ↦ refl
-    ]
+changed_size f id ts = grind (arith, slice_set, length-set)
 
 changed_there : (f : TrailState → TrailState) (id c : ℕ) (ts : List TrailState) → 0 < c
     → c ≤ length ts
     → trail_of c (changed f id ts) ≡ cond (id == c) (f (trail_of c ts)) (trail_of c ts)
-changed_there f id c ts more le = elim (id == c) as (λ b. (id == c) ≡ b
-    → trail_of c (changed f id ts) ≡ cond b (f (trail_of c ts)) (trail_of c ts)) [
-      | true ↦ λ e.
-          let same : id ≡ c = eqb-true id c e in
-          let there : has_trail c ts ≡ true = grind (arith, nat_tests) in
-          subst (λ i. trail_of c (changed f i ts) ≡ f (trail_of c ts)) (sym same)
-          (ap (λ b. trail_of c (cond b (slice_set ts (c - 1) (f (trail_of c ts))) ts)) there
-          ∙ get_or-set_same ts (c - 1) (f (trail_of c ts)) no_trail (omega (arith, more, le)))
-      | false ↦ λ e. elim (has_trail id ts) as (λ b. has_trail id ts ≡ b
-          → trail_of c (cond b (slice_set ts (id - 1) (f (trail_of id ts))) ts) ≡ trail_of c ts) [
-            | true ↦ λ there. get_or-set_other ts (id - 1) (c - 1) (f (trail_of id ts)) no_trail
-                (λ q. let z : (id == c) ≡ true = eq-eqb id c (grind (arith, nat_tests)) in cc)
-            | false ↦ λ off. refl
-          ] refl
-    ] refl
+changed_there f id c ts more le =
+    grind (arith, eqb-true, nat_tests, slice_set, get_or-set_same, get_or-set_other, eq-eqb)
 
 -- ---- posts
 
@@ -133,20 +115,7 @@ module _ (l : Limits) (past : List Entry) (ts : List TrailState) (noted : IsNote
       × ((trail_of c ran).sent ≡ (trail_of c ts).sent))
       → IsNoted l (e ∷ past) (noted_posts (posts_of (length past + 1) (sends l e past)) ran)
   entry_noted e ran size same each =
-      let n = length past + 1 in
-      let posts = posts_of n (sends l e past) in
-      record {
-        count = posts_size posts ran ∙ size ∙ noted.count ∙ sym same;
-        runs = λ c more le.
-            let le' : c ≤ length ts = omega (arith, le, posts_size posts ran, size) in
-            posts_runs c posts ran more (omega (arith, le', size)) ∙ (each c more le').0;
-        sent = λ c more le.
-            let le' : c ≤ length ts = omega (arith, le, posts_size posts ran, size) in
-            posts_sent c posts ran more (omega (arith, le', size))
-            ∙ ap (λ x. x ++ posted_to c posts) ((each c more le').1 ∙ noted.sent c more le')
-            ∙ ap (λ x. sent_entries l c past ++ x) (posted_is n c (sends l e past))
-            ∙ sym (map-append (λ s. s.0) (sent l c past) (sent_to n c (sends l e past)));
-      }
+      grind (arith, posts_size, posts_runs, posts_sent, posted_is, map-append)
 
   run_noted : (id moment : ℕ) (words : List (List ℕ))
       → IsNoted l (entry.Run id words moment ∷ past)
@@ -172,39 +141,22 @@ module _ (l : Limits) (past : List Entry) (ts : List TrailState) (noted : IsNote
   quiet_noted : (e : Entry) → admitted (e ∷ past) ≡ admitted past
       → ((c : ℕ) → run_entries c (e ∷ past) ≡ run_entries c past)
       → IsNoted l (e ∷ past) (noted_posts (posts_of (length past + 1) (sends l e past)) ts)
-  quiet_noted e same none =
-      entry_noted e ts refl same
-      (λ c more le. (noted.runs c more le ∙ sym (none c), refl))
+  quiet_noted e same none = grind (arith, entry_noted)
 
   admit_noted : IsLegal l past
       → IsNoted l (entry.Admit (admitted past + 1) ∷ past) (noted_admit ts)
   admit_noted legal =
-      let size = length-append ts (no_trail ∷ []) in
-      record {
-        count = size ∙ ap (λ n. n + 1) noted.count;
-        runs = λ c more le. elim (cases_lt (length ts) c) [
-          | inl last ↦
-              ap (λ (t : TrailState). t.runs)
-              (get_or_push ts no_trail no_trail (c - 1) (omega (arith, last, le, size)))
-              ∙ sym (runs_none l past c legal (omega (arith, last, noted.count)))
-          | inr old ↦
-              ap (λ (t : TrailState). t.runs)
-              (get_or_append_left ts (no_trail ∷ []) no_trail (c - 1) (omega (arith, more, old)))
-              ∙ noted.runs c more old
-        ];
-        sent = λ c more le. elim (cases_lt (length ts) c) [
-          | inl last ↦
-              ap (λ (t : TrailState). t.sent)
-              (get_or_push ts no_trail no_trail (c - 1) (omega (arith, last, le, size)))
-              ∙ sym (ap (λ s. map (λ s. s.0) (s ++ []))
-              (sent_fresh l past c legal (omega (arith, last, noted.count))))
-          | inr old ↦
-              ap (λ (t : TrailState). t.sent)
-              (get_or_append_left ts (no_trail ∷ []) no_trail (c - 1) (omega (arith, more, old)))
-              ∙ noted.sent c more old
-              ∙ sym (ap (map (λ s. s.0)) (append-nil (sent l c past)))
-        ];
-      }
+      grind (
+        arith,
+        length-append,
+        cases_lt,
+        get_or_push,
+        runs_none,
+        get_or_append_left,
+        map,
+        sent_fresh,
+        append-nil,
+      )
 
 -- ---- a turn
 
@@ -289,24 +241,11 @@ module _ (l : Limits) (past : List Entry) (notes : NotesState) (are : AreNotes l
     (whole : notes.whole ≡ true) (legal : IsLegal l past) where
   pub whole_runs : (at : ℕ)
       → (trail_of (at + 1) notes.trails).runs ≡ run_entries (at + 1) past
-  whole_runs at = elim (cases_lt at (length notes.trails)) [
-    | inl there ↦ (are whole).runs (at + 1) (omega arith) (omega (arith, there))
-    | inr past_all ↦
-        ap (λ (t : TrailState). t.runs)
-        (get_or_past notes.trails (at + 1 - 1) no_trail (omega (arith, past_all)))
-        ∙ sym (runs_none l past (at + 1) legal (omega (arith, past_all, (are whole).count)))
-  ]
+  whole_runs at = grind (arith, cases_lt, get_or_past, runs_none)
 
   pub whole_sent : (at : ℕ)
       → (trail_of (at + 1) notes.trails).sent ≡ sent_entries l (at + 1) past
-  whole_sent at = elim (cases_lt at (length notes.trails)) [
-    | inl there ↦ (are whole).sent (at + 1) (omega arith) (omega (arith, there))
-    | inr past_all ↦
-        ap (λ (t : TrailState). t.sent)
-        (get_or_past notes.trails (at + 1 - 1) no_trail (omega (arith, past_all)))
-        ∙ sym (ap (map (λ s. s.0))
-        (sent_fresh l past (at + 1) legal (omega (arith, past_all, (are whole).count))))
-  ]
+  whole_sent at = grind (arith, cases_lt, get_or_past, map, sent_fresh)
 
 -- ---- a line that is taken back
 

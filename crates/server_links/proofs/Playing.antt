@@ -11,20 +11,20 @@ use Rattle.serial_model.specs.declared.history.BookCall.TheVariants as call
 use Rattle.serial_model.specs.declared.history.BookReply.{BookReply}
 use Rattle.serial_model.specs.declared.history.BookReply.TheVariants.{Quiet}
 use Rattle.serial_model.specs.declared.history.BookReply.TheVariants.{Bytes}
-use Rattle.serial_model.specs.History.{runs_on, reads_on, gives_on, is_full, unsent}
+use Rattle.serial_model.specs.History.{runs_on, reads_on, gives_on, unsent}
 use Rattle.serial_model.specs.Steps.{Turn, book_step, taking}
 use Rattle.serial_model.proofs.Turning.{run_step, run_full, close_step}
 use Rattle.script_text.specs.declared.line.Line.{Line}
 use Rattle.script_text.specs.declared.line.Line.TheVariants as line
 use Rattle.server_links.specs.declared.fault.WorldFault.{WorldFault}
-use Rattle.server_links.specs.declared.fault.WorldFault.TheVariants.{NoMemory, HistoryFull}
+use Rattle.server_links.specs.declared.fault.WorldFault.TheVariants.{NoMemory}
 use Rattle.server_links.specs.declared.link.Link.{Link}
 use Rattle.server_links.specs.ServerState.{ServerState}
 use Rattle.server_links.specs.EntryLines.{reply_fault, reply_lines}
 use Rattle.server_links.specs.declared.direction.Direction.{Direction}
 use Rattle.server_links.specs.declared.direction.Eof.{Eof}
 use Rattle.server_links.specs.declared.direction.Eof.TheVariants as eof
-use Rattle.server_links.specs.Directions.{put, put_by, is_queued, without, without_bytes, past_eof}
+use Rattle.server_links.specs.Directions.{put, is_queued, without, without_bytes, past_eof}
 use Rattle.server_links.specs.Directions.{eof_read}
 use Rattle.server_links.specs.Moves.{turned, turn, bytes_of, take_down, read_lines, eof_lines}
 use Rattle.server_links.specs.Moves.{read_bytes, read_eof, receive_all, stop, close, feed, run_fed}
@@ -53,14 +53,7 @@ module _ (s : Session) (c : BookCall) (words : List (List ℕ)) (past : List Ent
       → TurnGives s.limits s.past c x lines (Err fault) past lines'
       → Stops (turn c words s) lines fault (with_past s past) lines'
   unfolding turn
-  turn_stops NoMemory g = ([], inl (ap (with_past s) g.0, refl), g.1 ∙ sym (append-nil lines))
-  turn_stops (HistoryFull n) g = (
-    ap (λ (t : Turn). reply_fault t.reply) g.0,
-    ap (λ (t : Turn). with_past s t.past) (sym g.0),
-    g.1 ∙ sym (append-nil lines) ∙ ap (λ (t : Turn). lines
-        ++ reply_lines s.link.name words t.reply) (sym g.0),
-  )
-  turn_stops fault g = absurd g
+  turn_stops fault g = grind (arith, append-nil)
 
 -- before a turn
 pub turn_before : (s : Session) (c : BookCall) (words : List (List ℕ)) (lines : List Line)
@@ -73,15 +66,7 @@ module _ (l : Limits) (past new : List Entry) (id : ℕ) (reply : BookReply) (me
   pub run_line : (now : ℕ) (words : List (List ℕ)) (name : List ℕ) → runs_on l past id ≡ true
       → book_step l past (call.Run id words now) ≡ record { reply = reply; past = new }
       → reply_lines name words reply ≡ line.Run (length past + 1) name words ∷ []
-  run_line now words name on is = elim (is_full l past) as (λ b. is_full l past ≡ b
-      → reply_lines name words reply ≡ line.Run (length past + 1) name words ∷ []) [
-        | true ↦ λ none. absurd (let no : Some (HistoryFull (length past))
-            ≡ None = ap (λ (t : Turn). reply_fault t.reply)
-            (sym (run_full l past id now words on none)
-            ∙ is) ∙ met in cc)
-        | false ↦ λ room. ap (λ (t : Turn). reply_lines name words t.reply) (sym is
-            ∙ run_step l past id now words on room)
-      ] refl
+  run_line now words name on is = grind (arith, run_full, run_step)
 
   pub close_line : (name : List ℕ) → reads_on l past id ≡ true
       → book_step l past (call.Close id) ≡ record { reply = reply; past = new }
@@ -92,12 +77,7 @@ module _ (l : Limits) (past new : List Entry) (id : ℕ) (reply : BookReply) (me
 -- ---- the server's end sends
 
 put_none : (d : Direction) → put [] d ≡ d
-put_none d = ap (λ b. record { bytes = b; eof = d.eof }) (by_eof d.eof d.bytes)
-  where
-    by_eof : (e : Eof) (bytes : List ℕ) → put_by e bytes [] ≡ bytes
-    by_eof eof.None bytes = append-nil bytes
-    by_eof eof.Queued bytes = refl
-    by_eof eof.Read bytes = refl
+put_none d = grind (arith, append-nil)
 
 take_is : (s : Session) (most : ℕ) → gives_on s.limits s.past s.link.id ≡ true
     → book_step s.limits s.past (call.Take s.link.id most)
@@ -205,12 +185,7 @@ pub take_given : (s : Session) (most : ℕ) (past : List Entry) (reply : BookRep
     → book_step s.limits s.past (call.Take s.link.id most) ≡ record { reply = reply; past = past }
     → reply_fault reply ≡ None
     → IsGiven (length s.past + 1) (take most (unsent s.limits s.link.id s.past)) reply
-take_given s most past reply on some is met =
-    let same = sym (take_is s most on) ∙ is in
-    subst (λ (t : Turn). IsGiven (length s.past + 1) (take most (unsent s.limits s.link.id s.past))
-    t.reply) same
-    (taking_given s.limits s.past s.link.id most (take most (unsent s.limits s.link.id s.past)) some
-    (ap (λ (t : Turn). reply_fault t.reply) same ∙ met))
+take_given s most past reply on some is met = grind (arith, take_is, taking_given)
 
 pub given_line : (entry count : ℕ) (bytes name : List ℕ) (reply : BookReply)
     → IsGiven entry bytes reply → length bytes ≡ count

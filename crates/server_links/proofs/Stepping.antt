@@ -3,7 +3,7 @@
 use Rattle.std.proofs.Common.{◌≡◌, ◌+◌, ◌<◌, ℕ, List, [], ◌∷◌, ◌++◌, true, false}
 use Rattle.std.proofs.Common.{Some, None, Result, Ok, Err}
 use Rattle.std.proofs.Common.{length, slice_index_or, slice_set, refl, sym, ap, subst, ◌∙◌, arith}
-use Rattle.std.proofs.Common.{append-nil, length-set, length-append, eq-eqb, inl, inr}
+use Rattle.std.proofs.Common.{append-nil, length-set, length-append, eq-eqb}
 use Rattle.std.specs.Prelude.{◌==◌}
 use Rattle.std.proofs.lemmas.Bool.{eqb-true, cases_lt}
 use Rattle.std.proofs.lemmas.List.{get_or_read, get_or-set_same, get_or-set_other, get_or_push}
@@ -11,13 +11,12 @@ use Rattle.std.proofs.lemmas.List.{get_or_append_left}
 use Rattle.serial_model.specs.declared.history.Entry.TheVariants as entry
 use Rattle.serial_model.specs.declared.history.BookCall.TheVariants as call
 use Rattle.serial_model.specs.declared.history.BookReply.{BookReply}
-use Rattle.serial_model.specs.History.{admitted, is_full}
+use Rattle.serial_model.specs.History.{admitted}
 use Rattle.serial_model.specs.Steps.{Turn, book_step, admitting}
 use Rattle.serial_model.proofs.Turning.{admit_step}
 use Rattle.script_text.specs.declared.line.Line.TheVariants as line
-use Rattle.server_links.specs.EntryLines.{reply_fault}
 use Rattle.server_links.specs.Turns.{TurnGives}
-use Rattle.server_links.specs.LinkSteps.{admitting as admitting_link, raw_step}
+use Rattle.server_links.specs.LinkSteps.{raw_step}
 use Rattle.server_links.specs.LinkEvent.{LinkEvent, Raw}
 use Rattle.script_text.specs.declared.line.Line.{Line}
 use Rattle.server_links.specs.declared.fault.WorldFault.{WorldFault}
@@ -154,9 +153,7 @@ module _ (server : ServerState) (links : List Link) (name : List ℕ) (lines : L
   pub raw_taken : (at : ℕ) → place_of name (world server links) ≡ Some at
       → Stops (step (world server links) (Raw name)) lines NameTaken (world server links) lines
   unfolding step
-  raw_taken at place =
-      subst (λ p. Stops (raw_step (world server links) name p) lines NameTaken (world server links)
-      lines) (sym place) (refl, refl, sym (append-nil lines))
+  raw_taken at place = grind (arith, append-nil)
 
   module _ (free : place_of name (world server links) ≡ None) where
     pub raw_before : Stops (step (world server links) (Raw name)) lines NoMemory
@@ -188,12 +185,7 @@ module _ (server : ServerState) (links : List Link) (name : List ℕ) (lines : L
           → TurnGives server.book.limits server.book.past call.Admit x lines (Err fault)
           new.book.past lines' → new.book.past ≡ server.book.past
           → Stops (raw_step (world server links) name None) lines fault (world server links) lines'
-      raw_fault NoMemory g same = ([], inl (refl, refl), g.1 ∙ sym (append-nil lines))
-      raw_fault (HistoryFull n) g same =
-          subst (λ (t : Turn). Stops (admitting_link (world server links) name t) lines
-          (HistoryFull n) (world server links) lines') (sym g.0)
-          (refl, refl, g.1 ∙ sym (append-nil lines))
-      raw_fault fault g same = absurd g
+      raw_fault fault g same = grind (arith, append-nil)
 
       past_same : (fault : WorldFault)
           → TurnGives server.book.limits server.book.past call.Admit x lines (Err fault)
@@ -234,15 +226,7 @@ module _ (server : ServerState) (links : List Link) (name : List ℕ) (lines : L
           (line_is : x ≡ line.Admit (length server.book.past + 1) name id) where
         admitted_step : book_step server.book.limits server.book.past call.Admit
             ≡ admitting server.book.past
-        admitted_step =
-            elim (is_full server.book.limits server.book.past) as (λ b. is_full server.book.limits
-            server.book.past ≡ b → book_step server.book.limits server.book.past call.Admit
-            ≡ admitting server.book.past) [
-              | true ↦ λ none. absurd (let no : Some (HistoryFull (length server.book.past))
-                  ≡ None = ap (λ (t : Turn). reply_fault t.reply)
-                  (sym (admit_full server.book.limits server.book.past none) ∙ g.0) ∙ g.1 in cc)
-              | false ↦ λ room. admit_step server.book.limits server.book.past room
-            ] refl
+        admitted_step = grind (arith, admit_full, admit_step)
 
         id_is : id ≡ admitted server.book.past + 1
         id_is = is ∙ ap (λ n. n + 1) fits.count
@@ -253,59 +237,7 @@ module _ (server : ServerState) (links : List Link) (name : List ℕ) (lines : L
         pub raw_gives : Ends (step (world server links) (Raw name)) lines
             (world new (links ++ fresh_link id name ∷ [])) lines'
         unfolding step
-        raw_gives =
-            let w = world server links in
-            let n = admitted server.book.past + 1 in
-            subst (λ v. Ends (raw_step w name (place_of name w)) lines v lines')
-            (sym (same_world (links ++ fresh_link id name ∷ [])
-            ∙ ap (λ p. record {
-              limits = server.book.limits;
-              now = server.clock;
-              past = p;
-              links =
-                  links ++ fresh_link id name ∷ [];
-            }) past_is
-            ∙ ap (λ i. record {
-              limits = server.book.limits;
-              now = server.clock;
-              past = entry.Admit
-                  n ∷ server.book.past;
-              links = links ++ fresh_link i name ∷ [];
-            }) id_is))
-            (subst (λ p. Ends (raw_step w name p) lines
-            (record {
-              limits = server.book.limits;
-              now = server.clock;
-              past = entry.Admit
-                  n ∷ server.book.past;
-              links = links ++ fresh_link n name ∷ [];
-            }) lines') (sym free)
-            (subst (λ (t : Turn). Ends (admitting_link w name t) lines
-            (record {
-              limits = server.book.limits;
-              now = server.clock;
-              past = entry.Admit
-                  n ∷ server.book.past;
-              links = links ++ fresh_link n name ∷ [];
-            }) lines')
-            (sym admitted_step) (
-              refl,
-              refl,
-              g.2 ∙ ap (λ z. lines ++ z ∷ []) (line_is
-                  ∙ ap (λ i. line.Admit (length server.book.past + 1) name i) id_is),
-            )))
+        raw_gives = grind (arith, same_world, past_is, id_is, admitted_step)
 
         pub raw_fits : Fits new.book.past (links ++ fresh_link id name ∷ [])
-        raw_fits =
-            let size = length-append links (fresh_link id name ∷ []) in
-            record {
-              count = size ∙ ap (λ n. n + 1) fits.count ∙ sym (ap admitted past_is);
-              ids = λ i lt. elim (cases_lt i (length links)) [
-                | inl old ↦ ap (λ (y : Link). y.id)
-                    (get_or_append_left links (fresh_link id name ∷ []) (fresh_link 0 []) i old)
-                    ∙ fits.ids i old
-                | inr over ↦ let last : i ≡ length links = omega (arith, over, lt, size) in
-                    ap (λ (y : Link). y.id) (get_or_push links (fresh_link id name)
-                    (fresh_link 0 []) i (sym last)) ∙ is ∙ ap (λ n. n + 1) (sym last)
-              ];
-            }
+        raw_fits = grind (arith, length-append, past_is, cases_lt, get_or_append_left, get_or_push)

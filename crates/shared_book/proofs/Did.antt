@@ -86,9 +86,12 @@ module _ (l : Limits) (past : List Entry) where
       → At (Tick now) (ticking l past (max now (latest past)) keys)
   ticking_says now [] is = (refl, None, (refl, is), refl)
   ticking_says now (key ∷ keys) is =
-      by_room (Tick now) _ (λ h. (refl, None, (refl, h), refl))
-      (refl, Some (entry.Tick (max now (latest past))),
-      (refl, λ none. absurd (omega (arith, ap length (sym is ∙ none)))), refl)
+      by_room (Tick now) _ (λ h. (refl, None, (refl, h), refl)) (
+        refl,
+        Some (entry.Tick (max now (latest past))),
+        (refl, λ none. absurd (omega (arith, ap length (sym is ∙ none)))),
+        refl,
+      )
 
   taking_says : (id most : ℕ) → gives_on l past id ≡ true → (bytes : List ℕ)
       → bytes ≡ take most (unsent l id past) → At (Take id most) (taking l past id most bytes)

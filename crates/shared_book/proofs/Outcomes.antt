@@ -239,17 +239,17 @@ module _ (before after : Place) where
   closes id reply on p =
       elim (close_says (limits_of before) p.past id reply _ (did_here p)) [
         | inl one ↦ record {
-            close = Some p.past;
-            grows = grows_by p (Some (entry.Close id)) one;
-            over = inl (ap (has_ended (limits_of before) id)
-                (ends_by p (Some (entry.Close id)) one) ∙ ended_now (limits_of before) id p.past);
-          }
+          close = Some p.past;
+          grows = grows_by p (Some (entry.Close id)) one;
+          over = inl (ap (has_ended (limits_of before) id)
+              (ends_by p (Some (entry.Close id)) one) ∙ ended_now (limits_of before) id p.past);
+        }
         | inr same ↦ record {
-            close = None;
-            grows = stays p same.0;
-            over = inl (ap (has_ended (limits_of before) id) (ends_same p same.0)
-                ∙ ended_or (limits_of before) id p.past (now_admitted p id on) same.1);
-          }
+          close = None;
+          grows = stays p same.0;
+          over = inl (ap (has_ended (limits_of before) id) (ends_same p same.0)
+              ∙ ended_or (limits_of before) id p.past (now_admitted p id on) same.1);
+        }
       ]
 
   pub close_worn : (id : ℕ) → Grows before after [] → LAST_TICKET ≤ after.tickets

@@ -99,8 +99,14 @@ but_none k (h ∷ hs) e = grind (arith, common_steps, but_none k hs)
 pub less_key : (k : Key) (hs : List CacheEntry) → has_key k hs ≡ true
     → keys_held (filter (λ h. not (bytes_eq (key_of h.query) k)) hs) + 1 ≡ keys_held hs
 less_key k [] e = cc
-less_key k (h ∷ hs) e = grind (arith, common_steps, less_key k hs, but_none k hs,
-    bytes_same (key_of h.query) k, has_kept (λ j. bytes_eq j k) (key_of h.query) hs)
+less_key k (h ∷ hs) e = grind (
+  arith,
+  common_steps,
+  less_key k hs,
+  but_none k hs,
+  bytes_same (key_of h.query) k,
+  has_kept (λ j. bytes_eq j k) (key_of h.query) hs,
+)
 
 -- ---- how many keys are held where one comes
 
@@ -121,8 +127,15 @@ add_key (h ∷ hs) e = grind (arith, common_steps, add_key hs e, more_has (key_o
 same_keys : (hs : List CacheEntry) (e : CacheEntry) → has_key (key_of e.query) hs ≡ true
     → keys_held (hs ++ e ∷ []) ≤ keys_held hs
 same_keys [] e is = cc
-same_keys (h ∷ hs) e is = grind (arith, common_steps, same_keys hs e, add_key hs e,
-    more_has (key_of h.query) hs e, bytes_same (key_of h.query) (key_of e.query), last_has hs e)
+same_keys (h ∷ hs) e is = grind (
+  arith,
+  common_steps,
+  same_keys hs e,
+  add_key hs e,
+  more_has (key_of h.query) hs e,
+  bytes_same (key_of h.query) (key_of e.query),
+  last_has hs e,
+)
 
 -- ---- a fill
 

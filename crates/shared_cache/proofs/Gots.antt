@@ -115,8 +115,18 @@ module _ (s : Setup) (log : List LogEntry) (f : Fields) (k : Reflects s log f) w
       → get_or (settled s.mode number v f.pending) i Gone ≡ pending_at s.mode (Got Main v ∷ log)
       (i + 3)
   pending_settled v number i e is within lt =
-      grind (arith, cases_lt, lt-ltb, length-set, cases_eq, get_or-set_same, pending_next,
-      get_or-set_other, pending_other, le-ltb)
+      grind (
+        arith,
+        cases_lt,
+        lt-ltb,
+        length-set,
+        cases_eq,
+        get_or-set_same,
+        pending_next,
+        get_or-set_other,
+        pending_other,
+        le-ltb,
+      )
 
   length_settled : (v : Value) (number : ℕ)
       → length (settled s.mode number v f.pending) ≡ length f.pending

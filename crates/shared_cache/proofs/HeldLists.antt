@@ -17,8 +17,11 @@ pub held_filter : (open_of open_new : ℕ → Option Words) (left_of left_new : 
     → held_by open_new left_new vs ≡ filter p (held_by open_of left_of vs)
 held_filter open_of open_new left_of left_new p [] each = refl
 held_filter open_of open_new left_of left_new p (v ∷ vs) each =
-    grind (arith, filter-append,
-    held_filter open_of open_new left_of left_new p vs (λ n u le. each n u (omega arith)))
+    grind (
+      arith,
+      filter-append,
+      held_filter open_of open_new left_of left_new p vs (λ n u le. each n u (omega arith)),
+    )
 
 -- nothing changes
 pub held_same : (open_of open_new : ℕ → Option Words) (left_of left_new : ℕ → Bool)

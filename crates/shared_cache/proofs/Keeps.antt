@@ -48,8 +48,14 @@ pairs_forget : (ks : List Key) (pairs : Pairs) (hs : List CacheEntry) → ArePai
     (filter (λ h. not (list_any (bytes_eq (key_of h.query)) ks)) hs)
 pairs_forget [] pairs hs p = subst (ArePairsOf pairs) (sym (all_stay hs)) p
 pairs_forget (k ∷ ks) pairs hs p =
-    grind (arith, filter_twice, filter_same_test, not_both, pairs_without,
-    pairs_forget ks (remove_entry (bytes_eq k) pairs) (but_key k hs) (pairs_without k pairs hs p))
+    grind (
+      arith,
+      filter_twice,
+      filter_same_test,
+      not_both,
+      pairs_without,
+      pairs_forget ks (remove_entry (bytes_eq k) pairs) (but_key k hs) (pairs_without k pairs hs p),
+    )
 
 by_use_forget : (use_of : Key → ℕ) (ks : List Key) (pairs : Pairs) → IsByUse use_of pairs
     → IsByUse use_of (forget ks pairs)

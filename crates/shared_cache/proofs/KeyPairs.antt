@@ -43,8 +43,13 @@ filters_turn p q (h ∷ hs) = grind (arith, common_steps, filters_turn p q hs)
 of_other : (j k : Key) (hs : List CacheEntry) → bytes_eq j k ≡ false
     → of_key j (but_key k hs) ≡ of_key j hs
 of_other j k [] e = refl
-of_other j k (h ∷ hs) e = grind (arith, common_steps, of_other j k hs e,
-    bytes_same (key_of h.query) k, bytes_turn_not j k e)
+of_other j k (h ∷ hs) e = grind (
+  arith,
+  common_steps,
+  of_other j k hs e,
+  bytes_same (key_of h.query) k,
+  bytes_turn_not j k e,
+)
 
 none_but : (k : Key) (hs : List CacheEntry) → has_key k (but_key k hs) ≡ false
 none_but k [] = refl
@@ -146,8 +151,12 @@ pair_is k (r ∷ pairs) hs p s e = elim (cases_Bool (bytes_eq k r.0)) [
 pub pair_of : (k : Key) (pairs : Pairs) (hs : List CacheEntry) → ArePairsOf pairs hs
     → lookup_entry (bytes_eq k) pairs ≡ None → has_key k hs ≡ false
 pair_of k [] hs s e = ap (has_key k) s
-pair_of k (r ∷ pairs) hs s e = grind (arith, common_steps, has_kept (λ j. bytes_eq j r.0) k hs,
-    pair_of k pairs (but_key r.0 hs) s.2)
+pair_of k (r ∷ pairs) hs s e = grind (
+  arith,
+  common_steps,
+  has_kept (λ j. bytes_eq j r.0) k hs,
+  pair_of k pairs (but_key r.0 hs) s.2,
+)
 
 -- ---- a key is used
 
@@ -275,8 +284,13 @@ every_has : (use_of : Key → ℕ) (n : ℕ) (k : Key) (hs : List CacheEntry)
     → Every (λ (h : CacheEntry). n ≤ use_of (key_of h.query)) hs → has_key k hs ≡ true
     → n ≤ use_of k
 every_has use_of n k [] all h = cc
-every_has use_of n k (g ∷ hs) all h = grind (arith, common_steps, all.0,
-    every_has use_of n k hs all.1, bytes_same (key_of g.query) k)
+every_has use_of n k (g ∷ hs) all h = grind (
+  arith,
+  common_steps,
+  all.0,
+  every_has use_of n k hs all.1,
+  bytes_same (key_of g.query) k,
+)
 
 last_is : (use_of : Key → ℕ) (p : Key × List CacheEntry) (pairs : Pairs) (hs : List CacheEntry)
     (o : Option Key)
@@ -393,8 +407,13 @@ every_front P (suc n) (p ∷ pairs) all = (all.0, every_front P n pairs all.1)
 pub by_use_without : (use_of : Key → ℕ) (t : Key → Bool) (pairs : Pairs) → IsByUse use_of pairs
     → IsByUse use_of (remove_entry t pairs)
 by_use_without use_of t [] u = tt
-by_use_without use_of t (p ∷ pairs) u = grind (arith, common_steps, u,
-    every_without (λ r. use_of r.0 < use_of p.0) t pairs u.0, by_use_without use_of t pairs u.1)
+by_use_without use_of t (p ∷ pairs) u = grind (
+  arith,
+  common_steps,
+  u,
+  every_without (λ r. use_of r.0 < use_of p.0) t pairs u.0,
+  by_use_without use_of t pairs u.1,
+)
 
 by_use_front : (use_of : Key → ℕ) (n : ℕ) (pairs : Pairs) → IsByUse use_of pairs
     → IsByUse use_of (take n pairs)

@@ -36,8 +36,14 @@ use Rattle.shared_cache.proofs.Places.{listed_held}
 sum_parts : (f : CacheEntry → ℕ) (k : Key) (hs : List CacheEntry)
     → sum_by f (of_key k hs) + sum_by f (but_key k hs) ≡ sum_by f hs
 sum_parts f k [] = refl
-sum_parts f k (g ∷ gs) = grind (arith, common_steps, sum_parts f k gs, sum_by-cons f g gs,
-    sum_by-cons f g (of_key k gs), sum_by-cons f g (but_key k gs))
+sum_parts f k (g ∷ gs) = grind (
+  arith,
+  common_steps,
+  sum_parts f k gs,
+  sum_by-cons f g gs,
+  sum_by-cons f g (of_key k gs),
+  sum_by-cons f g (but_key k gs),
+)
 
 sum_listed : (f : CacheEntry → ℕ) (pairs : Pairs) (hs : List CacheEntry) → ArePairsOf pairs hs
     → sum_by f (listed pairs) ≡ sum_by f hs

@@ -19,8 +19,11 @@ pub marks_filter : (open_of open_new : ℕ → Option Words) (p : Mark → Bool)
     → marks_by open_new replied n ≡ filter p (marks_by open_of replied n)
 marks_filter open_of open_new p replied zero each = refl
 marks_filter open_of open_new p replied (suc n) each =
-    grind (arith, filter-append,
-    marks_filter open_of open_new p replied n (λ m le. each m (omega arith)))
+    grind (
+      arith,
+      filter-append,
+      marks_filter open_of open_new p replied n (λ m le. each m (omega arith)),
+    )
 
 pub marks_same : (open_of open_new : ℕ → Option Words) (replied n : ℕ)
     → ((m : ℕ) → m ≤ n → open_new m ≡ open_of m)

@@ -189,8 +189,18 @@ module _ (s : Setup) (log : List LogEntry) (f : Fields) (k : Reflects s log f) w
       → get_or f.pending i Gone ≡ There v
       → Reflects s (Poll n ∷ log) (record f { pending = set f.pending i Gone; owed = f.owed - 1 })
   reflects_poll n i v e lt is =
-      grind (arith, untaken_same, length-set, cases_eq, get_or-set_same, eq-eqb, get_or-set_other,
-      ne_eqb, number_there, owed_gone)
+      grind (
+        arith,
+        untaken_same,
+        length-set,
+        cases_eq,
+        get_or-set_same,
+        eq-eqb,
+        get_or-set_other,
+        ne_eqb,
+        number_there,
+        owed_gone,
+      )
 
   -- a Poll, by what stands for its number
   standing : (n : ℕ) → handshake_length s.mode < n → n ≤ length f.pending + handshake_length s.mode

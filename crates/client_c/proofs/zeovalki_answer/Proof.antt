@@ -43,13 +43,20 @@ zeovalki_answer_spec 𝓤 𝓛 𝓜 𝓡 wired =
     let long : length s.now < 2 ^ 64 = are.0.0.1.0 in
     let args : Fml = owns (MutSlice (named 0) κs.0 u8 ∷ []) (s, tt) (mut_slice_vals s, tt) in
     let asks : Lent the_row 𝓛 C #callee (toks 𝓛 1 κs qs) args (word ∷ []) (List ℕ × Unit {0})
-        (λ w. fsep (left ((MutSlice (named 0) κs.0 u8).exit yes) s w.0) ftrue)
-        (λ r w. Copies old s.now r w.0) b o old = record {
-          met = λ α γ. of_thm.met 𝓤 𝓛 𝓜 𝓡
-          (code.calls-client_library::foreign::ForeignClient::copy_answer 𝓡.env wired)
-          (((α ∷ [], κs), (full_share, qs), tt, (lent_ref the_row 𝓛 b o old γ, (s, tt)),
-          (vptr b o ∷ [], (mut_slice_vals s, tt))), tt);
-        } in
+    (λ w. fsep (left ((MutSlice (named 0) κs.0 u8).exit yes) s w.0) ftrue)
+    (λ r w. Copies old s.now r w.0) b o old = record {
+      met = λ α γ. of_thm.met 𝓤 𝓛 𝓜 𝓡
+          (code.calls-client_library::foreign::ForeignClient::copy_answer 𝓡.env wired) (
+            (
+              (α ∷ [], κs),
+              (full_share, qs),
+              tt,
+              (lent_ref the_row 𝓛 b o old γ, (s, tt)),
+              (vptr b o ∷ [], (mut_slice_vals s, tt)),
+            ),
+            tt,
+          );
+    } in
     qed 𝓛 ((raw (toks 𝓛 1 κs qs) ⊛ ‵ (owns (RawPtr ∷ MutSlice (named 0) κs.0 u8 ∷ [])
     (block_ptr b o, (s, tt)) (rawptr_vals (block_ptr b o), (mut_slice_vals s, tt))))
     ∷ ‵ (part_at the_row full_share old b o) ∷ []) ∵

@@ -19,10 +19,7 @@ returns-then-count-eq0 c =
     take_quiet c.args.most s c.args.lines.now c.requires (no_bytes _ (size ∙ c.if-count-eq0.true))
 
 pub returns-in_err-next_entry : goal.returns-in_err-next_entry
-returns-in_err-next_entry c =
-    let p = err_from_is_err_and c.from_residual.result c.from_residual.ensures.1 in
-    rw p.1 (rw p.2 (take_before c.args.most (session c.args.server.now c.args.self.now)
-    c.args.lines.now))
+returns-in_err-next_entry c = grind (arith, err_from_is_err_and, take_before)
 
 pub returns-in_err-copy : goal.returns-in_err-copy
 returns-in_err-copy c =

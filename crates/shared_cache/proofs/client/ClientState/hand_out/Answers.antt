@@ -33,14 +33,23 @@ returns-else-self-clause-step c =
 pub overflow_sub-self : goal.overflow_sub-self
 overflow_sub-self c =
     let k = c.self.invariant.reflects in
-    omega (arith, owed_gone c.self.inside.pending (c.args.number - 2 - 1) c.in-There.value
-    c.in-There.ensures.0, k.owed_is)
+    omega (
+      arith,
+      owed_gone c.self.inside.pending (c.args.number - 2 - 1) c.in-There.value
+          c.in-There.ensures.0,
+      k.owed_is,
+    )
 
 pub push_reserved-requires : goal.push_reserved-requires
 push_reserved-requires c =
     let k = c.self.invariant.reflects in
-    omega (arith, owed_gone c.self.inside.pending (c.args.number - 2 - 1) c.in-There.value
-    c.in-There.ensures.0, k.owed_is, c.self.invariant.room)
+    omega (
+      arith,
+      owed_gone c.self.inside.pending (c.args.number - 2 - 1) c.in-There.value
+          c.in-There.ensures.0,
+      k.owed_is,
+      c.self.invariant.room,
+    )
 
 pub invariant_of-self-in-There : goal.invariant_of-self-in-There
 invariant_of-self-in-There c =
