@@ -16,7 +16,7 @@ use Rattle.track_table.specs.declared.table.Held.{Held}
 use Rattle.serial_model.specs.History.{admitted, is_admitted, runs_on, has_ended, made}
 use Rattle.serial_model.specs.History.{signals, expired, table, table_then, table_grown, drops}
 use Rattle.serial_model.specs.History.{expiry_group, own_group, routed, modes}
-use Rattle.serial_model.specs.History.{tracking}
+use Rattle.serial_model.specs.History.{is_tracking, tracking, mode}
 use Rattle.serial_model.specs.Tracking.{Invalidation, drop_group}
 use Rattle.serial_model.specs.Tracking.{without_signalled}
 use Rattle.serial_model.specs.History.{sends, sent_to, sent, sent_bytes}
@@ -112,7 +112,12 @@ module _ (l : Limits) where
   tracking_live : (past : List Entry) (id : ℕ) (words : List (List ℕ)) (moment : ℕ)
       → AllIn (IsLive past) (tracking l (Run id words moment ∷ past))
   unfolding IsLive
-  tracking_live past id words moment = grind (arith, ids_all, nat_tests, both_true)
+  tracking_live past id words moment =
+      ids_all (IsLive past) (is_tracking l (Run id words moment ∷ past)) (admitted past)
+      (λ h some le e. (
+        grind (arith, nat_tests),
+        (both_true (mode l h (Run id words moment ∷ past)).tracking (has_ended l h past) e).1,
+      ))
 
   -- the groups of a Run behind its reply
   abbrev pub behind : List Entry → ℕ → List (List ℕ) → ℕ → List Invalidation
