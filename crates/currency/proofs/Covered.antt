@@ -1,8 +1,8 @@
 -- From the run of an open fetch on, its connection is told of its key and the query's answer is
 -- what it was; or a message waits for the client.
-use Rattle.std.proofs.Common.{◌≡◌, ◌+◌, ◌-◌, ◌<◌, ◌≤◌, ℕ, zero, suc, List, [], ◌∷◌, ◌++◌, length}
+use Rattle.std.proofs.Common.{◌≡◌, ◌+◌, ◌-◌, ◌<◌, ◌≤◌, ℕ, suc, List, [], ◌∷◌, ◌++◌, length}
 use Rattle.std.proofs.Common.{true, false, cond, refl, ap, sym, ◌∙◌, arith, Some, subst}
-use Rattle.std.proofs.Common.{◌⊎◌, inl, inr, append_assoc, length-append, Result, Ok, Err}
+use Rattle.std.proofs.Common.{◌⊎◌, inl, inr, append_assoc, length-append, Result}
 use Rattle.std.proofs.Common.{get_or}
 use Rattle.std.specs.Prelude.{slice_get, ◌==◌, ◌&&◌, ◌||◌}
 use Rattle.std.proofs.lemmas.Bool.{both_ways, cases_lt, eqb-true, or_cases, or_from}
@@ -16,12 +16,11 @@ use Rattle.command_words.specs.Control.{is_control, reads_as_control}
 use Rattle.command_words.specs.Queries.{key_of, reads_as_cacheable}
 use Rattle.command_words.specs.Effects.{answer}
 use Rattle.command_words.specs.declared.command.Command.{Command}
-use Rattle.command_words.specs.declared.command.Command.TheVariants.{Hello, ClientTracking}
 use Rattle.command_words.specs.declared.command.WordFault.{WordFault}
 use Rattle.serial_model.specs.declared.mode.Mode.{Mode}
 use Rattle.serial_model.specs.declared.history.Limits.{Limits}
 use Rattle.serial_model.specs.declared.history.Entry.{Entry}
-use Rattle.serial_model.specs.declared.history.Entry.TheVariants.{Admit, Run, Tick, Take, Close}
+use Rattle.serial_model.specs.declared.history.Entry.TheVariants.{Run}
 use Rattle.serial_model.specs.Modes.{own_effect, remembers_read}
 use Rattle.serial_model.specs.Tracking.{push_of}
 use Rattle.serial_model.specs.History.{Sending, Message, End, sent, runs_of, mode, made_of}
@@ -51,10 +50,7 @@ use Rattle.currency.proofs.Voids.{voids}
 
 read_remembers : (read : Result Command WordFault) (m : Mode) → reads_as_control read ≡ false
     → is_forgets (own_effect read m).memory ≡ false
-read_remembers (Ok (Hello word)) m h = absurd (let no : ⊥ = cc in no)
-read_remembers (Ok (ClientTracking options)) m h = absurd (let no : ⊥ = cc in no)
-read_remembers (Ok _) m h = refl
-read_remembers (Err fault) m h = refl
+read_remembers read m h = grind arith
 
 remembers_all : (words : List (List ℕ)) (m : Mode) → is_control words ≡ false
     → is_forgets (made_of words m).memory ≡ false
@@ -64,9 +60,8 @@ remembers_all words m h =
 
 by_two : (n : ℕ) → 2 ≤ n → mode_by n ≡ record { proto = Three; tracking = true }
 unfolding mode_by
-by_two zero le = absurd (let no : ⊥ = omega arith in no)
-by_two (suc zero) le = absurd (let no : ⊥ = omega arith in no)
 by_two (suc (suc n)) le = refl
+by_two n le = absurd (let no : ⊥ = omega arith in no)
 
 prefix_le : {A : Type 0} (xs ys : List A) → IsPrefix xs ys → length xs ≤ length ys
 prefix_le xs ys p = omega (arith, length-append xs p.0, ap length p.1)
@@ -103,13 +98,7 @@ module _ (l : Limits) (x : Client) (past : List Entry) (log : List LogEntry)
     pub by : sending.0 ≤ n
 
   pub later_pending : (n m : ℕ) → n ≤ m → Pending n → Pending m
-  later_pending n m le p = record {
-    place = p.place;
-    sending = p.sending;
-    there = p.there;
-    waits = p.waits;
-    by = omega (arith, p.by, le);
-  }
+  later_pending n m le p = grind arith
 
   -- an end waits
   end_pending : (up : List Entry) → Older up past → has_ended l (x.id Main) up ≡ true
@@ -280,10 +269,6 @@ module _ (l : Limits) (x : Client) (past : List Entry) (log : List LogEntry)
       stays_tracking : (e : Entry) (up : List Entry) → Older (e ∷ up) past
           → 2 ≤ length (runs_of (x.id Main) up)
           → stops_tracking l e up (x.id Main) ≡ false
-      stays_tracking (Admit id) up o two = refl
-      stays_tracking (Tick moment) up o two = refl
-      stays_tracking (Take id max) up o two = refl
-      stays_tracking (Close id) up o two = refl
       stays_tracking (Run id words moment) up o two =
           elim (id == x.id Main) as (λ b. (id == x.id Main) ≡ b
           → (b && is_forgets (made_of words (mode l id up)).memory) ≡ false) [
@@ -292,6 +277,7 @@ module _ (l : Limits) (x : Client) (past : List Entry) (log : List LogEntry)
                 (next_no_control id words moment up o h two)
             | false ↦ λ h. refl
           ] refl
+      stays_tracking e up o two = refl
 
       step : (e : Entry) (up : List Entry) → Older (e ∷ up) past → p ≤ length up → Steady up
           → Steady (e ∷ up) ⊎ Pending (length up + 1)

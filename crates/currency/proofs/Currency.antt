@@ -1,6 +1,6 @@
 -- The theorem on currency, on one link.
 use Rattle.std.proofs.Common.{◌≡◌, ◌+◌, ◌-◌, ◌<◌, ◌≤◌, ℕ, suc, List, [], ◌∷◌, length}
-use Rattle.std.proofs.Common.{true, false, cond, refl, ap, sym, ◌∙◌, arith, Some, subst}
+use Rattle.std.proofs.Common.{true, false, refl, ap, sym, ◌∙◌, arith, Some, subst}
 use Rattle.std.proofs.Common.{inl, inr, drop, take, max, get_or, Result}
 use Rattle.std.specs.Prelude.{slice_get}
 use Rattle.std.specs.List.{filter}
@@ -20,7 +20,7 @@ use Rattle.serial_model.specs.declared.mode.Mode.{Mode}
 use Rattle.serial_model.specs.declared.history.Limits.{Limits}
 use Rattle.serial_model.specs.declared.history.Entry.{Entry}
 use Rattle.serial_model.specs.declared.history.Entry.TheVariants.{Run}
-use Rattle.serial_model.specs.History.{Sending, Message, sent, runs_of, mode, made_of, keyspace}
+use Rattle.serial_model.specs.History.{Sending, Message, sent, runs_of, mode, keyspace}
 use Rattle.serial_model.specs.History.{ran}
 use Rattle.serial_model.specs.History.{IsLegal, served_reading, reply_of, reply_protocol}
 use Rattle.serial_model.specs.History as history
@@ -30,7 +30,7 @@ use Rattle.serial_model.specs.Laws.{ChangeIsSignalled, BeforeTheReply, is_told}
 use Rattle.serial_model.proofs.ReadLaws.{read_replies}
 use Rattle.serial_model.proofs.ServedRows.{served_is}
 use Rattle.shared_cache.specs.declared.log.Wire.{Wire}
-use Rattle.shared_cache.specs.declared.log.Wire.TheVariants.{Main, Side}
+use Rattle.shared_cache.specs.declared.log.Wire.TheVariants.{Main}
 use Rattle.shared_cache.specs.declared.log.LogEntry.{LogEntry}
 use Rattle.shared_cache.specs.declared.entry.CacheEntry.{CacheEntry}
 use Rattle.shared_cache.specs.ClientFields.{IsServed}
@@ -44,7 +44,7 @@ use Rattle.shared_cache.proofs.CommandLaws.{no_later_write}
 use Rattle.shared_cache.proofs.Every.{every_weaker}
 use Rattle.currency.specs.Links.{Client, HasWire, Meet, run_of, IsGot, AreGot}
 use Rattle.serial_model.specs.History.{run_entries}
-use Rattle.currency.specs.Points.{up_to, before_first, complete_on, complete_by, complete, replied}
+use Rattle.currency.specs.Points.{up_to, before_first, complete, replied}
 use Rattle.currency.specs.Current.{IsAnswer, IsCurrent, HasPoint, point, Currency}
 use Rattle.currency.proofs.Lists.{get_dropped, nothing_dropped, get_front}
 use Rattle.currency.proofs.Named.{named_at, get_taken, get_drop, every_at}
@@ -78,10 +78,7 @@ module _ (l : Limits) (x : Client) (past : List Entry) (log : List LogEntry)
 
   complete_is : is_ended x.setup.mode Main log ≡ false → complete l x past log ≡ first_waiting
   unfolding first_waiting
-  complete_is h =
-      ap (λ s. complete_by s (λ w. complete_on l x w past log)) served.shape
-      ∙ ap (λ b. cond b (length past)
-      (before_first (drop (length (gots Main log)) (sent l (x.id Main) past)) (length past))) h
+  complete_is h = grind arith
 
   before_is : (ss : List (ℕ × Sending)) → drop (length (gots Main log)) (sent l (x.id Main) past)
       ≡ ss
@@ -107,11 +104,7 @@ module _ (l : Limits) (x : Client) (past : List Entry) (log : List LogEntry)
 
   complete_le : is_ended x.setup.mode Main log ≡ false → complete l x past log ≤ length past
   unfolding first_waiting
-  complete_le h = omega (
-    arith,
-    complete_is h,
-    before_is (drop (length (gots Main log)) (sent l (x.id Main) past)) refl,
-  )
+  complete_le h = grind (arith, complete_is, before_is)
 
   -- what waits was sent at an entry that is not complete
   none_pending : (n : ℕ) → is_ended x.setup.mode Main log ≡ false → n ≤ complete l x past log
@@ -168,10 +161,7 @@ module _ (l : Limits) (x : Client) (past : List Entry) (log : List LogEntry)
       → i < length (gots Main log) → slice_get (sent l (x.id Main) past) i ≡ Some s
       → s.0 ≤ complete l x past log + 1
   unfolding first_waiting
-  got_complete ended i s lt there =
-      let f = waiting_after i s lt there (drop (length (gots Main log)) (sent l
-      (x.id Main) past)) refl in
-      omega (arith, f, complete_is ended)
+  got_complete ended i s lt there = grind (arith, waiting_after, complete_is)
 
   -- the reply to a command that ran at an entry was got
   pub record ReplyGot (q : ℕ) : Type 0 where
@@ -254,12 +244,7 @@ module _ (l : Limits) (x : Client) (past : List Entry) (log : List LogEntry)
 
     before : mode l (x.id Main) ran_it.up ≡ record { proto = Three; tracking = true }
     unfolding ran_it fetched_by
-    before =
-        settled l x past log served legal legal_log meet h.number at h.query fetch.fetch ran_there
-        ran_it.up
-        (older_tail (Run (x.id Main) ran_it.words ran_it.moment) ran_it.up past own_run)
-        (before_then l x past log served legal legal_log meet h.number at h.query fetch.fetch
-        ran_there)
+    before = grind (arith, settled, at, ran_there, older_tail, own_run, before_then)
 
     no_control : is_control h.query ≡ false
     no_control =
@@ -284,29 +269,16 @@ module _ (l : Limits) (x : Client) (past : List Entry) (log : List LogEntry)
         (subst (IsGot h.value) g.placed.reply g.is)
 
     proto_is : reply_protocol l ran_it.up (x.id Main) ran_it.words ≡ x.setup.mode.proto
-    proto_is =
-        ap (λ w. (made_of w (mode l (x.id Main) ran_it.up)).mode.proto) is_query
-        ∙ ap (λ (m : Mode). m.proto)
-        (made_same h.query (mode l (x.id Main) ran_it.up) no_control ∙ before)
-        ∙ sym served.proto
+    proto_is = grind (arith, is_query, made_same, no_control, before)
 
     reply_is : (ran l ran_it.up (x.id Main) ran_it.words ran_it.moment).reply
         ≡ answer h.query (keyspace l (up_to at past))
     unfolding fetched_by
-    reply_is =
-        read_replies l (x.id Main) ran_it.moment ran_it.words ran_it.up
-        (ap (λ w. reads_as_cacheable (served_reading w)) is_query ∙ serves)
-        ∙ ap (λ w. answer w (keyspace l fetched_by)) is_query
-        ∙ ap (λ u. answer h.query (keyspace l u)) (sym fetched_is)
+    reply_is = grind (arith, read_replies, is_query, fetched_by, fetched_is)
 
     value_at_run : IsAnswer l x past at h
     unfolding Answered fetched_by
-    value_at_run =
-        answered
-        ∙ ap (λ p. carried p (tree_of (ran l ran_it.up (x.id Main) ran_it.words
-        ran_it.moment).reply))
-        proto_is
-        ∙ ap (λ v. carried x.setup.mode.proto (tree_of v)) reply_is
+    value_at_run = grind (arith, answered, proto_is, reply_is)
 
     same_answer : (n : ℕ) → Steady l x past log served legal legal_log meet h.number at h.query
         fetch.fetch ran_there (up_to n past)
@@ -320,21 +292,11 @@ module _ (l : Limits) (x : Client) (past : List Entry) (log : List LogEntry)
         → Steady l x past log served legal legal_log meet h.number at h.query fetch.fetch
         ran_there (up_to n past)
     stands law n le comp =
-        let u = up_to_older n past (omega (arith, complete_le live, comp)) in
-        elim (covered l x past log served legal legal_log meet h.number at h.query fetch.fetch
-        ran_there
-        serves cacheable law (up_to n past) u.0 (omega (arith, u.1, le))) [
-          | inl same ↦ same
-          | inr waits ↦
-              absurd (none_pending (length (up_to n past)) live (omega (arith, u.1, comp)) waits)
-        ]
+        grind (arith, up_to_older, complete_le, live, covered, at, ran_there, none_pending)
 
     steady : (law : ChangeIsSignalled) (n : ℕ) → at ≤ n → n ≤ complete l x past log
         → IsAnswer l x past n h
-    steady law n le comp =
-        value_at_run
-        ∙ ap (λ v. carried x.setup.mode.proto (tree_of v))
-        (sym (same_answer n (stands law n le comp)))
+    steady law n le comp = grind (arith, value_at_run, same_answer, stands)
 
     still_told : (law : ChangeIsSignalled) (n : ℕ) → at ≤ n → n ≤ complete l x past log
         → is_told l (up_to n past) (x.id Main) (key_of h.query) ≡ true
@@ -342,31 +304,14 @@ module _ (l : Limits) (x : Client) (past : List Entry) (log : List LogEntry)
     still_told law n le comp = (stands law n le comp).0
 
     pub current : (law : ChangeIsSignalled) → IsCurrent l x past log h
-    current law p n run le comp =
-        let same : at ≡ p = same_Some at p (sym ran_there ∙ run) in
-        steady law n (omega (arith, same, le)) comp
+    current law p n run le comp = grind (arith, at, same_Some, ran_there, steady)
 
     -- ---- the point of a hit
 
     -- a command that ran after the fetch stands behind it
     behind_fetch : (j q : ℕ) → at < q → slice_get (run_entries (x.id Main) past) j ≡ Some q
         → h.number ≤ j
-    behind_fetch j q lt e =
-        elim (cases_lt j (h.number - 1)) [
-          | inl less ↦
-              let f = in_order (x.id Main) past j (h.number - 1) q at less e ran_there in
-              absurd (let gone : ⊥ = omega (arith, f, lt) in gone)
-          | inr ge ↦
-              elim (cases_lt (h.number - 1) j) [
-                | inl more ↦ let n = g.least in omega (arith, more, n)
-                | inr le ↦
-                    let same : j ≡ h.number - 1 = omega (arith, ge, le) in
-                    let f : q ≡ at =
-                    same_Some q at (sym e ∙ ap (slice_get (run_entries (x.id Main) past)) same
-                    ∙ ran_there) in
-                    absurd (let gone : ⊥ = omega (arith, f, lt) in gone)
-              ]
-        ]
+    behind_fetch j q lt e = grind (arith, cases_lt, in_order, at, ran_there, same_Some)
 
     module _ (law : ChangeIsSignalled) (first : BeforeTheReply) where
       not_written : (j q : ℕ) → at < q → slice_get (run_entries (x.id Main) past) j ≡ Some q
@@ -459,23 +404,13 @@ module _ (l : Limits) (x : Client) (past : List Entry) (log : List LogEntry)
           → invalidates x.setup.mode Main v (key_of h.query) ≡ true
           → slice_get (sent l (x.id Main) past) i ≡ Some s → s.0 < point l x past log h at
       after_main i v s got voided there =
-          elim (cases_lt s.0 at) [
-            | inl lt ↦ omega (arith, lt)
-            | inr ge ↦
-                absurd (both_ways (invalidates x.setup.mode Main v (key_of h.query))
-                (got_since l x past log h.number at h.query
-                (has_main l x past log served legal legal_log meet) meet.causal fetch.fetch
-                ran_there i v
-                s got there ge) voided)
-          ]
+          grind (arith, cases_lt, at, both_ways, got_since, has_main, ran_there)
 
       after_any : (w : Wire) → HasWire x.setup.mode.shape w → (i : ℕ) (v : Value) (s : ℕ × Sending)
           → slice_get (gots w log) i ≡ Some v
           → invalidates x.setup.mode w v (key_of h.query) ≡ true
           → slice_get (sent l (x.id w) past) i ≡ Some s → s.0 < point l x past log h at
-      after_any Main has i v s got voided there = after_main i v s got voided there
-      after_any Side has i v s got voided there =
-          absurd (subst (λ shape. HasWire shape Side) served.shape has)
+      after_any w has i v s got voided there = grind (arith, after_main)
 
       pub has_point : HasPoint l x past log h
       has_point =

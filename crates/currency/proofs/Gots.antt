@@ -1,32 +1,26 @@
 -- What was got of what was sent.
 use Rattle.std.proofs.Common.{◌≡◌, ◌+◌, ◌<◌, ℕ, zero, suc, List, [], ◌∷◌, ◌++◌, length}
 use Rattle.std.proofs.Common.{Bool, true, false, cond, refl, ap, sym, ◌∙◌, arith, Some}
-use Rattle.std.proofs.Common.{codes, subst}
-use Rattle.std.proofs.lemmas.Grind.{common_steps}
+use Rattle.std.proofs.Common.{subst}
 use Rattle.std.specs.Prelude.{slice_get, ◌==◌, Option}
 use Rattle.std.specs.List.{filter}
-use Rattle.std.specs.Str.{bytes_eq}
 use Rattle.resp_value.specs.Tree.{Tree, Trees}
 use Rattle.resp_value.specs.Tree as tree
 use Rattle.resp_value.specs.ValueTree.{tree_of}
 use Rattle.resp_value.specs.Carried.{carried}
 use Rattle.resp_value.specs.declared.value.Value.{Value}
 use Rattle.resp_value.specs.declared.value.Value.TheVariants.{Push, Error, Simple, Blob, Null, Map}
-use Rattle.resp_value.specs.declared.value.Value.TheVariants as value
 use Rattle.resp_value.specs.declared.value.Proto.{Proto}
 use Rattle.resp_value.specs.declared.value.Proto.TheVariants.{Two, Three}
 use Rattle.serial_model.specs.declared.mode.Mode.{Mode}
 use Rattle.serial_model.specs.declared.history.Limits.{Limits}
 use Rattle.serial_model.specs.declared.history.Entry.{Entry}
-use Rattle.serial_model.specs.declared.history.Entry.TheVariants.{Admit, Run, Tick, Take, Close}
+use Rattle.serial_model.specs.declared.history.Entry.TheVariants.{Run, Tick, Close}
 use Rattle.serial_model.specs.Tracking.{Invalidation, push_of, drop_group}
 use Rattle.serial_model.specs.History.{Sending, Message, End, sends, sent_to, sent, modes}
 use Rattle.serial_model.specs.History.{by_proto, route, routed, expiry_group, own_group, drops}
-use Rattle.serial_model.specs.History.{reply_of, ran}
-use Rattle.shared_cache.specs.declared.notices.Notice.{Notice}
-use Rattle.shared_cache.specs.declared.notices.Notice.TheVariants.{Keys, Malformed, Broken, Other}
-use Rattle.shared_cache.specs.Notices.{push, invalidation, payload, kind_of, is_reply}
-use Rattle.shared_cache.specs.Notices.{all_blobs}
+use Rattle.serial_model.specs.History.{reply_of}
+use Rattle.shared_cache.specs.Notices.{push, kind_of, is_reply}
 use Rattle.currency.specs.Links.{IsGot, AreGot}
 use Rattle.currency.proofs.PushReplies.{is_push}
 use Rattle.currency.proofs.Replies.{is_reply_sent, reply_no_push}
@@ -71,43 +65,15 @@ tree_of_push _ = refl
 carried_no_push : (p : Proto) (v : Value) → is_push v ≡ false
     → tree_is_push (carried p (tree_of v)) ≡ false
 unfolding tree_is_push is_push
-carried_no_push Two (Push ts) h = refl
-carried_no_push Three (Push ts) h = absurd (let no : ⊥ = cc in no)
-carried_no_push Two (value.Bool true) h = refl
-carried_no_push Two (value.Bool false) h = refl
-carried_no_push Two _ h = refl
-carried_no_push Three _ h = refl
+carried_no_push p v h = grind arith
 
 carried_push : (keys : Option (List (List ℕ)))
     → tree_is_push (carried Three (tree_of (push_of keys))) ≡ true
 unfolding tree_is_push
 carried_push keys = refl
 
-payload_no_reply : (t : Tree) → is_reply (payload t) ≡ false
-payload_no_reply (tree.array ts) =
-    elim (all_blobs ts) as (λ b. is_reply (cond b Keys Malformed) ≡ false) [
-      | true ↦ refl
-      | false ↦ refl
-    ]
-payload_no_reply _ = refl
-
-invalidation_no_reply : (ts : List Tree) → is_reply (invalidation ts) ≡ false
-invalidation_no_reply [] = refl
-invalidation_no_reply (t ∷ []) = payload_no_reply t
-invalidation_no_reply (t ∷ u ∷ ts) = refl
-
-if_no_reply : (b : Bool) (x y : Notice) → is_reply x ≡ false → is_reply y ≡ false
-    → is_reply (cond b x y) ≡ false
-if_no_reply b x y h g = grind (arith, common_steps)
-
 push_no_reply : (ts : List Tree) → is_reply (push ts) ≡ false
-push_no_reply [] = refl
-push_no_reply (tree.blob name ∷ rest) =
-    if_no_reply (bytes_eq name (codes "invalidate")) (invalidation rest)
-    (cond (bytes_eq name (codes "tracking-redir-broken")) Broken Other)
-    (invalidation_no_reply rest)
-    (if_no_reply (bytes_eq name (codes "tracking-redir-broken")) Broken Other refl refl)
-push_no_reply (_ ∷ rest) = refl
+push_no_reply ts = grind arith
 
 kind_reply : (v : Value) → is_reply (kind_of v) ≡ cond (is_push v) false true
 unfolding is_push
@@ -145,10 +111,7 @@ same_kind u (n, Message p v) form got =
 -- where a value and what it was got of are both kept or both passed over
 kept_both : (b d : Bool) (v : Value) (s : ℕ × Sending) (vs : List Value) (ss : List (ℕ × Sending))
     → b ≡ d → IsGot v s.1 → AreGot vs ss → AreGot (cond b (v ∷ vs) vs) (cond d (s ∷ ss) ss)
-kept_both true true v s vs ss e g a = (g, a)
-kept_both true false v s vs ss e g a = absurd (let no : ⊥ = cc in no)
-kept_both false true v s vs ss e g a = absurd (let no : ⊥ = cc in no)
-kept_both false false v s vs ss e g a = a
+kept_both b d v s vs ss e g a = grind arith
 
 pub got_replies : (vs : List Value) (ss : List (ℕ × Sending)) → AllSent ss → AreGot vs ss
     → AreGot (filter (λ v. is_reply (kind_of v)) vs) (filter is_reply_sent ss)
@@ -253,15 +216,11 @@ routed_form of (i ∷ told) =
 reply_form : (l : Limits) (past : List Entry) (id : ℕ) (words : List (List ℕ)) (m : ℕ)
     → IsSent (reply_of l past id words m).1
 unfolding IsSent
-reply_form l past id words m h =
-    let no : is_push (ran l past id words m).reply ≡ false = reply_no_push l past id words m in
-    absurd (let n : ⊥ = cc in n)
+reply_form l past id words m h = grind (arith, is_push, reply_no_push)
 
 sends_form : (l : Limits) (e : Entry) (past : List Entry) → AllSent (sends l e past)
 unfolding AllSent IsSent
-sends_form l (Admit id) past = tt
 sends_form l (Tick m) past = routed_form (modes l past) (expiry_group l past m)
-sends_form l (Take id max) past = tt
 sends_form l (Close id) past = (tt, tt)
 sends_form l (Run id words m) past =
     let late = own_group l past id words m ++ drop_group (drops l past id words m) in
@@ -270,6 +229,7 @@ sends_form l (Run id words m) past =
     (reply_of l past id words m ∷ (routed of late ++ []))
     (routed_form (modes l past) (expiry_group l past m))
     (reply_form l past id words m, form_append (routed of late) [] (routed_form of late) tt)
+sends_form l e past = tt
 
 pub sent_form : (l : Limits) (c : ℕ) (past : List Entry) → AllSent (sent l c past)
 unfolding AllSent

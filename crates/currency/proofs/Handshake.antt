@@ -7,7 +7,6 @@ use Rattle.std.specs.Prelude.{slice_get, ◌==◌}
 use Rattle.resp_value.specs.Lists.{IsPrefix}
 use Rattle.resp_value.specs.declared.value.Proto.TheVariants.{Three}
 use Rattle.command_words.specs.declared.command.Command.{Command}
-use Rattle.command_words.specs.declared.command.Command.TheVariants.{Hello, ClientTracking}
 use Rattle.command_words.specs.declared.command.WordFault.{WordFault}
 use Rattle.command_words.specs.Words.{reading}
 use Rattle.command_words.specs.StringWords.{string_reading}
@@ -48,10 +47,7 @@ served_no_control (Err fault) h = refl
 -- a command that is no control command leaves its connection's mode
 keeps_mode : (read : Result Command WordFault) (m : Mode) → reads_as_control read ≡ false
     → (own_effect read m).mode ≡ m
-keeps_mode (Ok (Hello word)) m h = absurd (let no : ⊥ = cc in no)
-keeps_mode (Ok (ClientTracking options)) m h = absurd (let no : ⊥ = cc in no)
-keeps_mode (Ok _) m h = refl
-keeps_mode (Err fault) m h = refl
+keeps_mode read m h = grind arith
 
 pub made_same : (words : List (List ℕ)) (m : Mode) → is_control words ≡ false
     → (made_of words m).mode ≡ m

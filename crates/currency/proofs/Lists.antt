@@ -53,11 +53,10 @@ get_dropped (suc n) [] ys y e = absurd (let no : ⊥ = cc in no)
 get_dropped (suc n) (x ∷ xs) ys y e = get_dropped n xs ys y e
 
 pub nothing_dropped : {A : Type 0} (n : ℕ) (xs : List A) → drop n xs ≡ [] → length xs ≤ n
-nothing_dropped zero [] e = omega arith
 nothing_dropped zero (x ∷ xs) e = absurd (let no : ⊥ = cc in no)
-nothing_dropped (suc n) [] e = omega arith
 nothing_dropped (suc n) (x ∷ xs) e =
     let r = nothing_dropped n xs e in omega (arith, r)
+nothing_dropped x [] e = omega arith
 
 -- one that passes a test has a place
 pub record Passes {A : Type 0} (p : A → Bool) (xs : List A) : Type 0 where

@@ -9,7 +9,7 @@ use Rattle.std.proofs.lemmas.Grind.{common_steps}
 use Rattle.resp_value.specs.declared.value.Value.{Value}
 use Rattle.serial_model.specs.declared.history.Limits.{Limits}
 use Rattle.serial_model.specs.declared.history.Entry.{Entry}
-use Rattle.serial_model.specs.declared.history.Entry.TheVariants.{Admit, Run, Tick, Take, Close}
+use Rattle.serial_model.specs.declared.history.Entry.TheVariants.{Run}
 use Rattle.serial_model.specs.History.{Sending, reply_of}
 use Rattle.shared_cache.specs.Log.{reply_in}
 use Rattle.serial_model.specs.History.{run_entries}
@@ -32,11 +32,8 @@ module _ (l : Limits) (c : ℕ) where
   replies_count : (past : List Entry) → length (replies_of l c past) ≡ length (run_entries c past)
   unfolding replies_of
   replies_count [] = refl
-  replies_count (Admit id ∷ past) = replies_count past
-  replies_count (Tick moment ∷ past) = replies_count past
-  replies_count (Take id max ∷ past) = replies_count past
-  replies_count (Close id ∷ past) = replies_count past
   replies_count (Run id words moment ∷ past) = grind (arith, common_steps, replies_count past)
+  replies_count (e ∷ past) = replies_count past
 
   newer_placed : (e : Entry) (past : List Entry) (place : ℕ) (s : ℕ × Sending)
       → ((n : ℕ) → slice_get (run_entries c past) place ≡ Some n
@@ -58,14 +55,6 @@ module _ (l : Limits) (c : ℕ) where
       → slice_get (replies_of l c past) place ≡ Some s → Placed past place s
   unfolding replies_of
   reply_at [] place s e = cc
-  reply_at (Admit id ∷ past) place s e =
-      newer_placed (Admit id) past place s (λ n h. h) (reply_at past place s e)
-  reply_at (Tick moment ∷ past) place s e =
-      newer_placed (Tick moment) past place s (λ n h. h) (reply_at past place s e)
-  reply_at (Take id max ∷ past) place s e =
-      newer_placed (Take id max) past place s (λ n h. h) (reply_at past place s e)
-  reply_at (Close id ∷ past) place s e =
-      newer_placed (Close id) past place s (λ n h. h) (reply_at past place s e)
   reply_at (Run id words moment ∷ past) place s e =
       let x = Run id words moment in
       let y : ℕ × Sending = (length past + 1, (reply_of l past id words moment).1) in
@@ -108,6 +97,7 @@ module _ (l : Limits) (c : ℕ) where
             (run_entries c past)) place) own ∙ h)
             (reply_at past place s e)
       ] refl e
+  reply_at (x ∷ past) place s e = newer_placed x past place s (λ n h. h) (reply_at past place s e)
 
 -- ---- replies by number
 

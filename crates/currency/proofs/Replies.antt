@@ -14,18 +14,17 @@ use Rattle.command_words.specs.declared.command.Command.{Command}
 use Rattle.command_words.specs.declared.command.WordFault.{WordFault}
 use Rattle.command_words.specs.Words.{reading}
 use Rattle.command_words.specs.Space.{Space}
-use Rattle.command_words.specs.Effect.{Effect}
 use Rattle.command_words.specs.Expiry.{without_due}
 use Rattle.serial_model.specs.declared.mode.Mode.{Mode}
 use Rattle.serial_model.specs.declared.mode.Runner.{Runner}
 use Rattle.serial_model.specs.declared.history.Limits.{Limits}
 use Rattle.serial_model.specs.declared.history.Entry.{Entry}
 use Rattle.serial_model.specs.declared.history.Entry.TheVariants.{Admit, Run, Tick, Take, Close}
-use Rattle.serial_model.specs.Modes.{hello, hello_reply}
-use Rattle.serial_model.specs.Tracking.{Invalidation, drop_group}
+use Rattle.serial_model.specs.Modes.{hello_reply}
+use Rattle.serial_model.specs.Tracking.{Invalidation}
 use Rattle.serial_model.specs.History.{Sending, Message, End, sends, sent_to, sent, modes, served}
-use Rattle.serial_model.specs.History.{by_proto, route, routed, expiry_group, own_group, drops}
-use Rattle.serial_model.specs.History.{reply_of, reply_protocol, ran, ran_over, effect_of}
+use Rattle.serial_model.specs.History.{by_proto, route, routed, expiry_group}
+use Rattle.serial_model.specs.History.{reply_of, ran, ran_over, effect_of}
 use Rattle.serial_model.specs.History.{runner, keyspace}
 use Rattle.serial_model.proofs.Tables.{sent_to-append}
 use Rattle.serial_model.proofs.ServedRows.{served_cases, data_effect}
@@ -42,11 +41,7 @@ effect_no_push : (by : Runner) (words : List (List ℕ)) (read : Result Command 
     (space : Space) (m : ℕ) → is_push (effect_of by words (served read) space m).reply ≡ false
 unfolding is_push
 effect_no_push by words read space m =
-    served_cases (λ r. is_push (effect_of by words r space m).reply ≡ false)
-    (λ word. hello_no_push by.id (hello word by.mode.proto)) (λ options. refl)
-    (λ c is. ap (λ (e : Effect). is_push e.reply) (data_effect by words c space m is)
-    ∙ (no_push c space m is).is)
-    (λ fault. refl) read
+    grind (arith, served_cases, is_push, hello_no_push, data_effect, no_push)
 
 pub reply_no_push : (l : Limits) (past : List Entry) (id : ℕ) (words : List (List ℕ)) (m : ℕ)
     → is_push (ran l past id words m).reply ≡ false
@@ -97,32 +92,21 @@ run_reply : (l : Limits) (n c : ℕ) (past : List Entry) (id : ℕ) (words : Lis
     → filter is_reply_sent (sent_to n c (sends l (Run id words m) past))
     ≡ cond (id == c) ((n, (reply_of l past id words m).1) ∷ []) []
 run_reply l n c past id words m =
-    let late = own_group l past id words m ++ drop_group (drops l past id words m) in
-    let of = modes l (Run id words m ∷ past) in
-    let early = sent_to n c (routed (modes l past) (expiry_group l past m)) in
-    let rest = sent_to n c (routed of late ++ []) in
-    let none : filter is_reply_sent rest ≡ [] =
-    ap (λ xs. filter is_reply_sent (sent_to n c xs)) (append-nil (routed of late))
-    ∙ routed_no_reply n c of late in
-    ap (filter is_reply_sent)
-    (sent_to-append n c (routed (modes l past) (expiry_group l past m))
-    (reply_of l past id words m ∷ (routed of late ++ [])))
-    ∙ filter-append is_reply_sent early
-    (cond (id == c) ((n, (reply_of l past id words m).1) ∷ rest) rest)
-    ∙ ap (λ xs. xs ++ filter is_reply_sent
-    (cond (id == c) ((n, (reply_of l past id words m).1) ∷ rest) rest))
-    (routed_no_reply n c (modes l past) (expiry_group l past m))
-    ∙ reply_kept (id == c) n (reply_protocol l past id words) (ran l past id words m).reply rest
-    (reply_no_push l past id words m) none
+    grind (
+      arith,
+      append-nil,
+      routed_no_reply,
+      sent_to-append,
+      filter-append,
+      reply_kept,
+      reply_no_push,
+    )
 
 add_none : (l : Limits) (c : ℕ) (e : Entry) (past : List Entry)
     → filter is_reply_sent (sent_to (length past + 1) c (sends l e past)) ≡ []
     → filter is_reply_sent (sent l c past) ≡ replies_of l c past
     → filter is_reply_sent (sent l c (e ∷ past)) ≡ replies_of l c past
-add_none l c e past none before =
-    filter-append is_reply_sent (sent l c past) (sent_to (length past + 1) c (sends l e past))
-    ∙ ap (λ xs. filter is_reply_sent (sent l c past) ++ xs) none
-    ∙ append-nil (filter is_reply_sent (sent l c past)) ∙ before
+add_none l c e past none before = grind (arith, filter-append, append-nil)
 
 close_none : (n : ℕ) (b : Bool) → filter is_reply_sent (cond b ((n, End) ∷ []) []) ≡ []
 unfolding is_reply_sent
@@ -135,14 +119,10 @@ pub replies_are_of_runs : (l : Limits) (c : ℕ) (past : List Entry)
     → filter is_reply_sent (sent l c past) ≡ replies_of l c past
 unfolding replies_of
 replies_are_of_runs l c [] = refl
-replies_are_of_runs l c (Admit id ∷ past) =
-    add_none l c (Admit id) past refl (replies_are_of_runs l c past)
 replies_are_of_runs l c (Tick m ∷ past) =
     add_none l c (Tick m) past
     (routed_no_reply (length past + 1) c (modes l past) (expiry_group l past m))
     (replies_are_of_runs l c past)
-replies_are_of_runs l c (Take id max ∷ past) =
-    add_none l c (Take id max) past refl (replies_are_of_runs l c past)
 replies_are_of_runs l c (Close id ∷ past) =
     add_none l c (Close id) past (close_none (length past + 1) (id == c))
     (replies_are_of_runs l c past)
@@ -155,3 +135,4 @@ replies_are_of_runs l c (Run id words m ∷ past) =
     (replies_are_of_runs l c past)
     ∙ out_of (id == c) (replies_of l c past)
     ((length past + 1, (reply_of l past id words m).1) ∷ [])
+replies_are_of_runs l c (e ∷ past) = add_none l c e past refl (replies_are_of_runs l c past)

@@ -8,7 +8,7 @@ use Rattle.std.proofs.lemmas.Grind.{common_steps}
 use Rattle.resp_value.specs.Lists.{IsPrefix}
 use Rattle.serial_model.specs.declared.history.Limits.{Limits}
 use Rattle.serial_model.specs.declared.history.Entry.{Entry}
-use Rattle.serial_model.specs.declared.history.Entry.TheVariants.{Admit, Run, Tick, Take, Close}
+use Rattle.serial_model.specs.declared.history.Entry.TheVariants.{Admit, Run, Close}
 use Rattle.serial_model.specs.History.{runs_of, IsLegal}
 use Rattle.serial_model.specs.History.{run_entries}
 use Rattle.currency.specs.Points.{up_to}
@@ -79,24 +79,18 @@ older_up_to up past o =
 pub older_legal : (l : Limits) (newer up : List Entry) → IsLegal l (newer ++ up) → IsLegal l up
 older_legal l [] up h = h
 older_legal l (Admit id ∷ newer) up h = older_legal l newer up h.2
-older_legal l (Run id words moment ∷ newer) up h = older_legal l newer up h.3
-older_legal l (Tick moment ∷ newer) up h = older_legal l newer up h.3
-older_legal l (Take id max ∷ newer) up h = older_legal l newer up h.3
 older_legal l (Close id ∷ newer) up h = older_legal l newer up h.1
+older_legal l (e ∷ newer) up h = older_legal l newer up h.3
 
 module _ (c : ℕ) where
   pub runs_count : (past : List Entry) → length (run_entries c past) ≡ length (runs_of c past)
   runs_count [] = refl
-  runs_count (Admit id ∷ past) = runs_count past
   runs_count (Run id words moment ∷ past) = grind (arith, common_steps, runs_count past)
-  runs_count (Tick moment ∷ past) = runs_count past
-  runs_count (Take id max ∷ past) = runs_count past
-  runs_count (Close id ∷ past) = runs_count past
+  runs_count (e ∷ past) = runs_count past
 
   pub entry_le : (past : List Entry) (place p : ℕ) → slice_get (run_entries c past) place ≡ Some p
       → p ≤ length past
   entry_le [] place p e = cc
-  entry_le (Admit id ∷ past) place p e = let r = entry_le past place p e in omega (arith, r)
   entry_le (Run id words moment ∷ past) place p e =
       let r : p ≤ length past + 1 =
       elim (id == c) as (λ b. slice_get (cond b (run_entries c past ++ (length past + 1) ∷ [])
@@ -109,9 +103,7 @@ module _ (c : ℕ) where
         | false ↦ λ e. let r = entry_le past place p e in omega (arith, r)
       ] e in
       omega (arith, r)
-  entry_le (Tick moment ∷ past) place p e = let r = entry_le past place p e in omega (arith, r)
-  entry_le (Take id max ∷ past) place p e = let r = entry_le past place p e in omega (arith, r)
-  entry_le (Close id ∷ past) place p e = let r = entry_le past place p e in omega (arith, r)
+  entry_le (x ∷ past) place p e = let r = entry_le past place p e in omega (arith, r)
 
   last : (past : List Entry) (i j p q : ℕ) → i < j
       → (slice_get (run_entries c past) i ≡ Some p → slice_get (run_entries c past) j ≡ Some q
@@ -121,24 +113,13 @@ module _ (c : ℕ) where
       → (slice_get (run_entries c past) j ≡ Some q)
       ⊎ Behind (run_entries c past) ((length past + 1) ∷ []) j q
       → p < q
-  last past i j p q lt before (inl h) (inl g) = before h g
-  last past i j p q lt before (inl h) (inr b) =
-      let le = entry_le past i p h in
-      let o = get_one (length past + 1) b.at q b.there in omega (arith, le, o.1)
-  last past i j p q lt before (inr a) (inl g) =
-      let w = slice_get_within (run_entries c past) j q g in
-      absurd (let no : ⊥ = omega (arith, w, a.is) in no)
-  last past i j p q lt before (inr a) (inr b) =
-      let o = get_one (length past + 1) a.at p a.there in
-      let n = get_one (length past + 1) b.at q b.there in
-      absurd (let no : ⊥ = omega (arith, a.is, b.is, o.0, n.0) in no)
+  last past i j p q lt before h is = grind (arith, entry_le, get_one, slice_get_within)
 
   -- places and entries of runs grow together
   pub in_order : (past : List Entry) (i j p q : ℕ) → i < j
       → slice_get (run_entries c past) i ≡ Some p → slice_get (run_entries c past) j ≡ Some q
       → p < q
   in_order [] i j p q lt e f = cc
-  in_order (Admit id ∷ past) i j p q lt e f = in_order past i j p q lt e f
   in_order (Run id words moment ∷ past) i j p q lt e f =
       elim (id == c) as (λ b. slice_get (cond b (run_entries c past ++ (length past + 1) ∷ [])
       (run_entries c past)) i ≡ Some p
@@ -149,17 +130,11 @@ module _ (c : ℕ) where
             (get_parts (run_entries c past) ((length past + 1) ∷ []) j q f)
         | false ↦ λ e f. in_order past i j p q lt e f
       ] e f
-  in_order (Tick moment ∷ past) i j p q lt e f = in_order past i j p q lt e f
-  in_order (Take id max ∷ past) i j p q lt e f = in_order past i j p q lt e f
-  in_order (Close id ∷ past) i j p q lt e f = in_order past i j p q lt e f
+  in_order (x ∷ past) i j p q lt e f = in_order past i j p q lt e f
 
   -- what ran up to an older entry are the first of all that ran
   pub runs_more : (newer up : List Entry) → IsPrefix (runs_of c up) (runs_of c (newer ++ up))
   runs_more [] up = ([], append-nil (runs_of c up))
-  runs_more (Admit id ∷ newer) up = runs_more newer up
-  runs_more (Tick moment ∷ newer) up = runs_more newer up
-  runs_more (Take id max ∷ newer) up = runs_more newer up
-  runs_more (Close id ∷ newer) up = runs_more newer up
   runs_more (Run id words moment ∷ newer) up =
       let r = runs_more newer up in
       elim (id == c) as (λ b. IsPrefix (runs_of c up) (cond b (runs_of c
@@ -171,6 +146,7 @@ module _ (c : ℕ) where
         )
         | false ↦ r
       ]
+  runs_more (e ∷ newer) up = runs_more newer up
 
   pub runs_older : (up past : List Entry) → Older up past → IsPrefix (runs_of c up) (runs_of c past)
   runs_older up past o =
@@ -212,8 +188,6 @@ module _ (c : ℕ) where
   pub ran_at : (past : List Entry) (place p : ℕ) → slice_get (run_entries c past) place ≡ Some p
       → RanAt past place p
   ran_at [] place p e = cc
-  ran_at (Admit id ∷ past) place p e =
-      one_newer (Admit id) past place p (same (runs_of c past)) (ran_at past place p e)
   ran_at (Run id words moment ∷ past) place p e =
       elim (id == c) as (λ b. (id == c) ≡ b
       → slice_get (cond b (run_entries c past ++ (length past + 1) ∷ [])
@@ -250,9 +224,5 @@ module _ (c : ℕ) where
             )
             (ran_at past place p e)
       ] refl e
-  ran_at (Tick moment ∷ past) place p e =
-      one_newer (Tick moment) past place p (same (runs_of c past)) (ran_at past place p e)
-  ran_at (Take id max ∷ past) place p e =
-      one_newer (Take id max) past place p (same (runs_of c past)) (ran_at past place p e)
-  ran_at (Close id ∷ past) place p e =
-      one_newer (Close id) past place p (same (runs_of c past)) (ran_at past place p e)
+  ran_at (x ∷ past) place p e =
+      one_newer x past place p (same (runs_of c past)) (ran_at past place p e)

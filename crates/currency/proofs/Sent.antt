@@ -11,7 +11,7 @@ use Rattle.resp_value.specs.declared.value.Proto.TheVariants.{Three}
 use Rattle.serial_model.specs.declared.mode.Mode.{Mode}
 use Rattle.serial_model.specs.declared.history.Limits.{Limits}
 use Rattle.serial_model.specs.declared.history.Entry.{Entry}
-use Rattle.serial_model.specs.declared.history.Entry.TheVariants.{Admit, Run, Tick, Take, Close}
+use Rattle.serial_model.specs.declared.history.Entry.TheVariants.{Run, Tick}
 use Rattle.serial_model.specs.Tracking.{Invalidation, push_of, names_key, tells, drop_group}
 use Rattle.serial_model.specs.History.{Sending, Message, End, sends, sent_to, sent, mode, modes}
 use Rattle.serial_model.specs.History.{by_proto, route, routed, expiry_group, own_group, drops}
@@ -26,9 +26,7 @@ module _ (c : ℕ) where
   first : (n : ℕ) (x : Sending) (ss : List (ℕ × Sending)) (i : ℕ) (s : ℕ × Sending)
       → ((j : ℕ) → slice_get (sent_to n c ss) j ≡ Some s → s.0 ≡ n)
       → slice_get ((n, x) ∷ sent_to n c ss) i ≡ Some s → s.0 ≡ n
-  first n x ss zero s rest e =
-      let same : (n, x) ≡ s = cc in ap (λ (p : ℕ × Sending). p.0) (sym same)
-  first n x ss (suc i) s rest e = rest i e
+  first n x ss i s rest e = grind arith
 
   number_of : (n : ℕ) (ss : List (ℕ × Sending)) (i : ℕ) (s : ℕ × Sending)
       → slice_get (sent_to n c ss) i ≡ Some s → s.0 ≡ n
@@ -78,18 +76,7 @@ module _ (c : ℕ) where
         ⊎ Behind (sent l c past) (sent_to (length past + 1) c (sends l x past)) i s
         → (slice_get (sent l c past) j ≡ Some t)
         ⊎ Behind (sent l c past) (sent_to (length past + 1) c (sends l x past)) j t → s.0 ≤ t.0
-    by_parts x past i j s t le before (inl h) (inl g) = before h g
-    by_parts x past i j s t le before (inl h) (inr b) =
-        let r = sent_le past i s h in
-        let n = number_of (length past + 1) (sends l x past) b.at t b.there in
-        omega (arith, r, n)
-    by_parts x past i j s t le before (inr a) (inl g) =
-        let w = slice_get_within (sent l c past) j t g in
-        absurd (let no : ⊥ = omega (arith, w, a.is, le) in no)
-    by_parts x past i j s t le before (inr a) (inr b) =
-        let m = number_of (length past + 1) (sends l x past) a.at s a.there in
-        let n = number_of (length past + 1) (sends l x past) b.at t b.there in
-        omega (arith, m, n)
+    by_parts x past i j s t le before h is = grind (arith, sent_le, number_of, slice_get_within)
 
     pub sent_pos : (past : List Entry) (i : ℕ) (s : ℕ × Sending)
         → slice_get (sent l c past) i ≡ Some s → 0 < s.0
@@ -167,7 +154,6 @@ module _ (c : ℕ) where
     pub lands : (x : Entry) (up : List Entry) (key : List ℕ)
         → is_due l x up c key ≡ true → (mode l c up).proto ≡ Three
         → (mode l c (x ∷ up)).proto ≡ Three → Told (x ∷ up) (length up + 1) key
-    lands (Admit id) up key h before after = absurd (let no : ⊥ = cc in no)
     lands (Tick moment) up key h before after =
         let early = expiry_group l up moment in
         let p = one_passes (tells c key) early h in
@@ -176,8 +162,6 @@ module _ (c : ℕ) where
         let r = routed_at (modes l up) early p.at p.one p.there
         (ap (λ d. (mode l d up).proto) (eqb-true p.one.to c own) ∙ before) in
         told_by (Tick moment) up key p.one r.0 r.1 p.passes
-    lands (Take id max) up key h before after = absurd (let no : ⊥ = cc in no)
-    lands (Close id) up key h before after = absurd (let no : ⊥ = cc in no)
     lands (Run id words moment) up key h before after =
         let x = Run id words moment in
         let early = expiry_group l up moment in
@@ -211,6 +195,7 @@ module _ (c : ℕ) where
               ) r.1))
               p.passes
         ]
+    lands x up key h before after = absurd (let no : ⊥ = cc in no)
 
     -- where a connection has ended its end was sent
     pub record Ended (past : List Entry) (n : ℕ) : Type 0 where

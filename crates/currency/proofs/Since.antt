@@ -10,13 +10,11 @@ use Rattle.command_words.specs.Queries.{key_of}
 use Rattle.serial_model.specs.declared.history.Limits.{Limits}
 use Rattle.serial_model.specs.declared.history.Entry.{Entry}
 use Rattle.serial_model.specs.History.{Sending, sent}
-use Rattle.shared_cache.specs.Held as client
-use Rattle.shared_cache.specs.declared.log.Wire.TheVariants.{Main, Side}
+use Rattle.shared_cache.specs.declared.log.Wire.TheVariants.{Main}
 use Rattle.shared_cache.specs.declared.log.LogEntry.{LogEntry}
-use Rattle.shared_cache.specs.declared.log.LogEntry.TheVariants.{Ask, Send, Poll, TakeOut, Got}
-use Rattle.shared_cache.specs.declared.log.LogEntry.TheVariants.{End, Bad}
+use Rattle.shared_cache.specs.declared.log.LogEntry.TheVariants.{Ask, Got}
 use Rattle.shared_cache.specs.Notices.{invalidates}
-use Rattle.shared_cache.specs.Held.{Setup, SentCommand, commands, open_fetch, numbers}
+use Rattle.shared_cache.specs.Held.{Setup, commands, open_fetch, numbers}
 use Rattle.shared_cache.specs.Laws.{gots, Spared, WasSent}
 use Rattle.shared_cache.proofs.FetchLaws.{open_was_sent}
 use Rattle.currency.specs.Links.{Client, HasWire, run_of, IsCausal}
@@ -35,13 +33,6 @@ module _ (l : Limits) (x : Client) (past : List Entry) where
       → slice_get (gots Main (later ++ sooner)) i ≡ Some v
       → (i < length (gots Main sooner)) ⊎ (invalidates x.setup.mode Main v k ≡ false)
   spared_since n k sooner [] s i v e = inl (slice_get_within (gots Main sooner) i v e)
-  spared_since n k sooner (Ask q ∷ later) s i v e = spared_since n k sooner later s.1 i v e
-  spared_since n k sooner (Send ws ∷ later) s i v e = spared_since n k sooner later s.1 i v e
-  spared_since n k sooner (Poll m ∷ later) s i v e = spared_since n k sooner later s.1 i v e
-  spared_since n k sooner (TakeOut w m ∷ later) s i v e = spared_since n k sooner later s.1 i v e
-  spared_since n k sooner (End w ∷ later) s i v e = spared_since n k sooner later s.1 i v e
-  spared_since n k sooner (Bad w u ∷ later) s i v e = spared_since n k sooner later s.1 i v e
-  spared_since n k sooner (Got Side u ∷ later) s i v e = spared_since n k sooner later s.1 i v e
   spared_since n k sooner (Got Main u ∷ later) s i v e =
       elim (get_parts (gots Main (later ++ sooner)) (u ∷ []) i v e) [
         | inl h ↦ spared_since n k sooner later s.1 i v h
@@ -49,13 +40,12 @@ module _ (l : Limits) (x : Client) (past : List Entry) where
             let o = get_one u b.at v b.there in
             inr (ap (λ y. invalidates x.setup.mode Main y k) (sym o.1) ∙ s.0)
       ]
+  spared_since n k sooner (x ∷ later) s i v e = spared_since n k sooner later s.1 i v e
 
   -- the place of the command of an open fetch was still to come
   place_later : (log : List LogEntry) (n : ℕ) (q : List (List ℕ))
       → (w : WasSent x.setup log n q) → length (commands x.setup Main w.sooner) ≤ n - 1
-  place_later log n q w =
-      let count = length-map (client.sent x.setup w.sooner) (λ (c : SentCommand). c.words) in
-      omega (arith, w.number_is, count)
+  place_later log n q w = grind (arith, length-map)
 
   -- a value that was got, and was sent at the entry of the fetch's run or later, voids nothing of
   -- the fetch

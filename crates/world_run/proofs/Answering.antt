@@ -112,9 +112,7 @@ got_past s log v reply new is = grind arith
 pub got_more : (log new : List LogEntry) (v : Value) → GotPast log v Noted new
     → (length (gots Main new) ≡ length (gots Main log) + 1) × (length new ≡ length log + 1)
 unfolding GotPast
-got_more log new v is =
-    let e = ap (λ l. length (gots Main l)) is ∙ length-append (gots Main log) (v ∷ []) in
-    let n = ap length is in (omega (arith, e), omega (arith, n))
+got_more log new v is = grind (arith, length-append)
 
 pub got_same : (log new : List LogEntry) (v : Value) (r : ClientRefusal)
     → GotPast log v (Refused r) new → gots Main new ≡ gots Main log

@@ -13,8 +13,6 @@ use Rattle.serial_model.specs.History.{Sending, run_entries, sends, sent}
 use Rattle.serial_model.specs.History.{sent_to, runs_of}
 use Rattle.shared_cache.specs.declared.log.Wire.{Wire}
 use Rattle.shared_cache.specs.declared.log.LogEntry.{LogEntry}
-use Rattle.shared_cache.specs.declared.log.LogEntry.TheVariants as logged
-use Rattle.shared_cache.specs.Log.{is_wire}
 use Rattle.shared_cache.specs.Held.{commands}
 use Rattle.shared_cache.specs.Laws.{gots}
 use Rattle.currency.specs.Links.{Client, HasWire, AreGot, IsCausal}
@@ -110,13 +108,7 @@ got_count (v ∷ vs) (s ∷ ss) a = let r = got_count vs ss a.1 in omega (arith,
 
 pub gots_longer : (w : Wire) (e : LogEntry) (log : List LogEntry)
     → length (gots w log) ≤ length (gots w (e ∷ log))
-gots_longer w (logged.Got u v) log =
-    elim (is_wire u w) as (λ b. length (gots w log)
-    ≤ length (cond b (gots w log ++ v ∷ []) (gots w log))) [
-      | true ↦ omega (arith, length-append (gots w log) (v ∷ []))
-      | false ↦ omega arith
-    ]
-gots_longer w e log = omega arith
+gots_longer w e log = grind (arith, length-append)
 
 -- ---- causes
 
@@ -152,9 +144,4 @@ RunsWithin x past log =
 
 pub causal_log : (l : Limits) (x : Client) (past : List Entry) (e : LogEntry) (log : List LogEntry)
     → RunsWithin x past log → IsCausal l x past log → IsCausal l x past (e ∷ log)
-causal_log l x past e log within c = (
-  λ w u has other place r i s sooner ran lt there.
-      let under = slice_get_within (run_entries (x.id u) past) place r ran in
-      absurd (let no : ⊥ = omega (arith, under, sooner, within u other) in no),
-  c,
-)
+causal_log l x past e log within c = grind (arith, slice_get_within)

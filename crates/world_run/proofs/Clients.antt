@@ -106,11 +106,7 @@ out_place s =
 
 unheard : (heard : ℕ → List ℕ) (p : Option ℕ) (i : ℕ)
     → heard i ++ cond (is_place p i) [] [] ≡ heard i
-unheard heard p i =
-    ap (λ x. heard i ++ x) (elim (is_place p i) as (λ b. cond {A = List ℕ} b [] [] ≡ []) [
-      | true ↦ refl
-      | false ↦ refl
-    ]) ∙ append-nil (heard i)
+unheard heard p i = grind (arith, append-nil)
 
 module _ (l : Limits) (raw : List ℕ → List ℕ) (at : ℕ) where
   -- an event of the client's link that puts what the client took out, and by which nothing is read
@@ -298,11 +294,7 @@ module _ (l : Limits) (raw : List ℕ → List ℕ) (at : ℕ) where
     one_less : (lines : List Line) (w : WorldState) (m : Outcome Seat)
         → One l raw at (With l heard raw at NoBytes (Quiet (λ ls i. Unit {0}))) lines w m
         → One l raw at (With l heard raw at NoBytes Steady) lines w m
-    one_less lines w m k = record {
-      ends = λ none. works_as l heard raw at (Quiet (λ ls i. Unit {0})) Steady (lines ++ m.lines)
-          (with_seat at w m.state) (k.ends none) (λ d. d.0);
-      all = k.all;
-    }
+    one_less lines w m k = grind (arith, works_as)
 
     -- and then an EOF, where nothing is in flight before it
     eof_stands : (lines : List Line) (w : WorldState)
@@ -436,22 +428,16 @@ module _ (l : Limits) (raw : List ℕ → List ℕ) (at : ℕ) where
     pub ask_stands : (q : List (List ℕ)) → AsksQuery (call.Ask q)
         → One l raw at (With l heard raw at NoBytes Steady) lines w
         (turn (call.Ask q) (seat_at at w))
-    ask_stands q asks =
-        let m = member_at w.members at in
-        asked_stands (call.Ask q) tt asks (ask_keeps m.state.setup m.state.past q)
+    ask_stands q asks = grind (arith, asked_stands, ask_keeps)
 
     pub send_stands : (ws : List (List ℕ)) → 0 < length ws
         → One l raw at (With l heard raw at NoBytes Steady) lines w
         (turn (call.Send ws) (seat_at at w))
-    send_stands ws some =
-        let m = member_at w.members at in
-        asked_stands (call.Send ws) some tt (send_keeps m.state.setup m.state.past ws)
+    send_stands ws some = grind (arith, asked_stands, send_keeps)
 
     pub poll_stands : (n : ℕ) → One l raw at (With l heard raw at NoBytes Steady) lines w
         (turn (call.Poll n) (seat_at at w))
-    poll_stands n =
-        let m = member_at w.members at in
-        asked_stands (call.Poll n) tt tt (poll_keeps m.state.setup m.state.past n)
+    poll_stands n = grind (arith, asked_stands, poll_keeps)
 
   -- ---- what is held
 
@@ -479,10 +465,7 @@ module _ (l : Limits) (raw : List ℕ → List ℕ) (at : ℕ) where
 
   shown_plain : (s : Seat) → AllPlain (shown s)
   unfolding AllPlain Mute
-  shown_plain s =
-      plain_append (held_lines (length (held s.member.state.setup s.member.state.past)) s) _
-      (held_plain (length (held s.member.state.setup s.member.state.past)) s)
-      (record { no_entry = refl; mute = λ n. refl }, tt)
+  shown_plain s = grind (arith, plain_append, held_plain)
 
   print_stands : (heard : ℕ → List ℕ) (ls : List Line) → AllPlain ls → (lines : List Line)
       (w : WorldState) → With l heard raw at NoBytes Steady lines w → at < length w.members

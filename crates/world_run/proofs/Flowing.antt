@@ -1,7 +1,7 @@
 -- Links flow: one, with or without a client at its end, and all of them in turn.
 use Rattle.std.proofs.Common.{◌≡◌, ◌<◌, ◌≤◌, ℕ, zero, suc, List, [], ◌++◌}
-use Rattle.std.proofs.Common.{true, false, cond, Some, None, length, refl, sym, ap, subst}
-use Rattle.std.proofs.Common.{◌∙◌, arith, append_assoc, append-nil, inl, inr}
+use Rattle.std.proofs.Common.{cond, Some, None, length, refl, sym, ap, subst}
+use Rattle.std.proofs.Common.{◌∙◌, arith, append_assoc, append-nil, inl}
 use Rattle.std.specs.Prelude.{◌==◌, nat_lt}
 use Rattle.std.proofs.lemmas.Bool.{eqb-true, cases_lt}
 use Rattle.std.proofs.lemmas.Bool.Decides.{nat_tests}
@@ -113,32 +113,10 @@ module _ (l : Limits) (heard : ℕ → List ℕ) (raw : List ℕ → List ℕ) (
 
   heard_next : (n i : ℕ)
       → only_at (heard_first n) n (flow_heard n (flow_first n w).state) i ≡ heard_first (suc n) i
-  heard_next n i =
-      let read : ℕ → List ℕ = λ k. flow_heard k (flow_first k w).state in
-      elim (n == i) as (λ b. (n == i) ≡ b → (heard i ++ cond (nat_lt i n) (read i) [])
-      ++ cond b (read n) [] ≡ heard i ++ cond (nat_lt i (suc n)) (read i) []) [
-        | true ↦ λ e.
-            let same : n ≡ i = eqb-true n i e in
-            ap (λ b. (heard i ++ cond b (read i) []) ++ read n) (let c : nat_lt i n
-            ≡ false = grind (arith, nat_tests) in c)
-            ∙ ap (λ x. x ++ read n) (append-nil (heard i)) ∙ ap (λ k. heard i ++ read k) same
-            ∙ sym (ap (λ b. heard i ++ cond b (read i) []) (let c : nat_lt i (suc n)
-            ≡ true = grind (arith, nat_tests) in c))
-        | false ↦ λ e.
-            append-nil (heard i ++ cond (nat_lt i n) (read i) [])
-            ∙ ap (λ b. heard i ++ cond b (read i) [])
-            (elim (cases_lt i n) as (λ _. nat_lt i n ≡ nat_lt i (suc n)) [
-              | inl lt ↦ (let c : nat_lt i n ≡ true = grind (arith, nat_tests) in c)
-                  ∙ sym (let c : nat_lt i (suc n) ≡ true = grind (arith, nat_tests) in c)
-              | inr ge ↦ (let c : nat_lt i n ≡ false = grind (arith, nat_tests) in c)
-                  ∙ sym (let c : nat_lt i (suc n) ≡ false = grind (arith, nat_tests) in c)
-            ])
-      ] refl
+  heard_next n i = grind (arith, eqb-true, nat_tests, append-nil, cases_lt)
 
   none_first : (i : ℕ) → heard i ≡ heard_first zero i
-  none_first i =
-      sym (ap (λ b. heard i ++ cond b (flow_heard i (flow_first i w).state) [])
-      (let c : nat_lt i 0 ≡ false = grind (arith, nat_tests) in c) ∙ append-nil (heard i))
+  none_first i = grind (arith, nat_tests, append-nil)
 
   Flowed : ℕ → WorldState → List Line → Type 0
   Flowed n v ls = (length v.links.links ≡ length w.links.links)

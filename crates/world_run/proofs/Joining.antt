@@ -1,7 +1,7 @@
 -- A link is made, and a client at it.
 use Rattle.std.proofs.Common.{◌≡◌, ◌+◌, ◌<◌, ℕ, List, [], ◌∷◌, ◌++◌, Bool, true, false}
 use Rattle.std.proofs.Common.{cond, not, Some, None, length, refl, sym, ap, subst, ◌∙◌}
-use Rattle.std.proofs.Common.{arith, append-nil, length-append, inl, inr}
+use Rattle.std.proofs.Common.{arith, append-nil, length-append}
 use Rattle.std.specs.Prelude.{◌&&◌}
 use Rattle.std.proofs.lemmas.Bool.{cases_lt}
 use Rattle.std.proofs.lemmas.List.{get_or_push, get_or_append_left}
@@ -131,10 +131,7 @@ module _ (l : Limits) (heard : ℕ → List ℕ) (raw : List ℕ → List ℕ) (
 
   which : (P : Type 0) (i : ℕ) → i < length joined → (i < length w.members → P)
       → (i ≡ length w.members → P) → P
-  which P i lt f g = elim (cases_lt i (length w.members)) [
-    | inl below ↦ f below
-    | inr over ↦ g (omega (arith, over, lt, size))
-  ]
+  which P i lt f g = grind (arith, cases_lt, size)
 
   new_part : (read : List ℕ) → MemberPart w.links read new
   unfolding new
@@ -142,11 +139,7 @@ module _ (l : Limits) (heard : ℕ → List ℕ) (raw : List ℕ → List ℕ) (
 
   new_stable : Stable (length w.members) w.links [] [] new
   unfolding new
-  new_stable = (
-    new_part [],
-    refl,
-    λ going. record { gots_are = sym no_values; reading = values_begun },
-  )
+  new_stable = grind (arith, new_part, no_values, values_begun)
 
   pub joins : WorldStands l heard raw lines
       (record {

@@ -1,19 +1,17 @@
 -- What an event of the links leaves of them, wherever it comes to, and what it prints of reading.
 use Rattle.std.proofs.Common.{◌≡◌, ◌+◌, ◌<◌, ℕ, List, [], ◌∷◌, ◌++◌, Bool, true, false, cond}
-use Rattle.std.proofs.Common.{Some, None, Option, length, take, drop, refl, sym, ap, subst, ◌∙◌}
+use Rattle.std.proofs.Common.{Some, None, Option, length, drop, refl, sym, ap, ◌∙◌}
 use Rattle.std.proofs.Common.{arith, append-nil, length-append, length-set, inl, inr, eq-eqb}
-use Rattle.std.specs.Prelude.{◌==◌, ◌&&◌, nat_le, slice_set}
 use Rattle.std.specs.Str.{bytes_eq}
 use Rattle.std.proofs.lemmas.Bool.{eqb-true, cases_lt}
 use Rattle.std.proofs.lemmas.List.{get_or-set_same, get_or-set_other, get_or_push}
 use Rattle.std.proofs.lemmas.List.{get_or_append_left}
 use Rattle.resp_stream.specs.declared.fault.FaultPlace.{FaultPlace}
-use Rattle.resp_stream.specs.Parse.{parse}
 use Rattle.serial_model.specs.declared.history.Entry.{Entry}
 use Rattle.serial_model.specs.declared.history.Entry.TheVariants as entry
 use Rattle.serial_model.specs.declared.history.BookReply.{BookReply}
 use Rattle.serial_model.specs.declared.history.BookReply.TheVariants.{Admitted}
-use Rattle.serial_model.specs.History.{admitted, is_full, reads_on, gives_on, unsent}
+use Rattle.serial_model.specs.History.{admitted, is_full}
 use Rattle.serial_model.specs.Steps.{Turn, book_step, unless_full}
 use Rattle.serial_model.specs.Steps as steps
 use Rattle.script_text.specs.declared.line.Line.{Line}
@@ -22,20 +20,18 @@ use Rattle.server_links.specs.declared.fault.WorldFault.TheVariants.{NoName, Nam
 use Rattle.server_links.specs.declared.fault.WorldFault.TheVariants.{NothingThere}
 use Rattle.server_links.specs.declared.link.Link.{Link}
 use Rattle.server_links.specs.declared.link.LinkMove.TheVariants as moves
-use Rattle.server_links.specs.Directions.{is_open, is_queued, past_eof, without, without_bytes}
-use Rattle.server_links.specs.Directions.{finished}
 use Rattle.server_links.specs.EntryLines.{reply_lines}
 use Rattle.server_links.specs.LinkEvent.{LinkEvent, Raw, Put, Over, Now, Tick}
 use Rattle.server_links.specs.LinksState.{LinksState, at_place, fresh_link}
 use Rattle.server_links.specs.LinkSteps.{Stepped, admitting, over, over_named, place_of, raw_step}
 use Rattle.server_links.specs.LinkSteps.{step}
 use Rattle.server_links.specs.Moves.{turned, turn, run_one, run_all, run_requests, run_fed, close}
-use Rattle.server_links.specs.Moves.{stop, stopped_at, feed, serve_all, serve, take_down, all_bytes}
-use Rattle.server_links.specs.Moves.{send, read_lines, eof_lines, read_bytes}
+use Rattle.server_links.specs.Moves.{stop, serve_all, serve, take_down}
+use Rattle.server_links.specs.Moves.{send, read_lines, eof_lines}
 use Rattle.server_links.specs.Moves.{receive_all, receive, move_of}
 use Rattle.server_links.specs.OneHistory.{read_on}
 use Rattle.server_links.specs.Outcome.{Outcome, and_then, does, refuses, stays, within}
-use Rattle.server_links.specs.Session.{Session, session_at, with_session, with_link, with_down}
+use Rattle.server_links.specs.Session.{Session, session_at, with_session}
 use Rattle.server_links.specs.Transcript.{up_to}
 use Rattle.server_links.proofs.Carries.{read_more}
 use Rattle.server_links.proofs.Names.{names_itself, placed, unplaced}
@@ -54,32 +50,14 @@ module _ (w : LinksState) (at : ℕ) (below : at < length w.links) (t : Session)
     (named : t.link.name ≡ (at_place w.links at).name) where
   over_names : (i : ℕ) → (at_place (with_session at w t).links i).name
       ≡ (at_place w.links i).name
-  over_names i = elim (at == i) as (λ b. (at == i) ≡ b
-      → (at_place (slice_set w.links at t.link) i).name ≡ (at_place w.links i).name) [
-        | true ↦ λ e.
-            subst (λ k. (at_place (slice_set w.links at t.link) k).name
-            ≡ (at_place w.links k).name) (eqb-true at i e)
-            (ap (λ (x : Link). x.name)
-            (get_or-set_same w.links at t.link (fresh_link 0 []) below) ∙ named)
-        | false ↦ λ e. ap (λ (x : Link). x.name)
-            (get_or-set_other w.links at i t.link (fresh_link 0 [])
-            (λ q. let f : (at == i) ≡ true = eq-eqb at i (sym q) in cc))
-      ] refl
+  over_names i = grind (arith, eqb-true, get_or-set_same, get_or-set_other, eq-eqb)
 
   over_size : length (with_session at w t).links ≡ length w.links
   over_size = length-set w.links at t.link
 
   over_grows : (entries : List Entry) → t.past ≡ entries ++ w.past
       → LinkGrows w (with_session at w t)
-  over_grows entries grows = record {
-    limits = refl;
-    size = omega (arith, over_size);
-    names = λ i lt. over_names i;
-    entries = entries;
-    grows = grows;
-    unique = λ u i j li lj e. u i j (omega (arith, li, over_size)) (omega (arith, lj, over_size))
-        (sym (over_names j) ∙ e ∙ over_names i);
-  }
+  over_grows entries grows = grind (arith, over_size, over_names)
 
 -- the links have grown, and nothing was read on another link
 pub record LinkMoved (w : LinksState) (name : List ℕ) (v : LinksState) (ls : List Line) : Type 0
@@ -111,12 +89,7 @@ over_moved at event w name below is =
 
 named_moved : (name : List ℕ) (event : LinkEvent) (w : LinksState)
     → Meets (LinkMoved w name) (LinkMoved w name) (over_named (place_of name w) (move_of event) w)
-named_moved name event w = elim (place_of name w) as (λ p. place_of name w ≡ p
-    → Meets (LinkMoved w name) (LinkMoved w name) (over_named p (move_of event) w)) [
-      | None ↦ λ none. meets_refuses (LinkMoved w name) (LinkMoved w name) w NoName
-          (moved_none w name)
-      | Some at ↦ λ is. (let p = placed name w at is in over_moved at event w name p.0 p.1)
-    ] refl
+named_moved name event w = grind (arith, meets_refuses, moved_none, placed, over_moved)
 
 -- a link more
 made_grows : (w : LinksState) (id : ℕ) (name : List ℕ) → place_of name w ≡ None
@@ -283,60 +256,23 @@ mutes_close s = mutes_turned s [] _
 
 mutes_stop : (place : Option FaultPlace) (eof : Bool) (s : Session) → Mutes (stop place eof s)
 unfolding Mute
-mutes_stop (Some place) eof s =
-    mutes_then _ close (mutes_once s s _ None (λ n. refl)) mutes_close
-mutes_stop None true s = mutes_close s
-mutes_stop None false s = mutes_stays s
+mutes_stop place eof s = grind (arith, mutes_then, mutes_once, mutes_close, mutes_stays)
 
 mutes_run_fed : (eof : Bool) (s : Session) → Mutes (run_fed eof s)
 unfolding run_fed run_requests
-mutes_run_fed eof s =
-    mutes_then (run_requests s) _
-    (mutes_then (run_all (parse s.link.reader).items s) _
-    (mutes_run_all (parse s.link.reader).items s) (λ t. mutes_does t _))
-    (mutes_stop (stopped_at (parse s.link.reader).fault) eof)
+mutes_run_fed eof s = grind (arith, mutes_then, mutes_run_all, mutes_does, mutes_stop)
 
 mutes_serve : (count : Option ℕ) (s : Session) → Mutes (serve count s)
 unfolding serve_all
-mutes_serve None s =
-    elim (reads_on s.limits s.past s.link.id) as (λ b. Mutes
-    (cond b (and_then (feed s.link.up.bytes (past_eof (without_bytes s.link.up)) s)
-    (run_fed (is_queued s.link.up.eof))) (stays s))) [
-      | true ↦ mutes_then _ _ (mutes_does s _) (mutes_run_fed (is_queued s.link.up.eof))
-      | false ↦ mutes_stays s
-    ]
-mutes_serve (Some n) s =
-    elim (reads_on s.limits s.past s.link.id && nat_le n (length s.link.up.bytes)) as (λ b. Mutes
-    (cond b (and_then (feed (take n s.link.up.bytes) (without n s.link.up) s) (run_fed false))
-    (refuses s NothingThere))) [
-      | true ↦ mutes_then _ _ (mutes_does s _) (mutes_run_fed false)
-      | false ↦ mutes_refuses s NothingThere
-    ]
+mutes_serve count s =
+    grind (arith, mutes_then, mutes_does, mutes_run_fed, mutes_stays, mutes_refuses)
 
 mutes_take : (most : ℕ) (s : Session) → Mutes (take_down most s)
 unfolding take_down
 mutes_take most s = mutes_then _ _ (mutes_turned s [] _) (λ t. mutes_does t _)
 
 mutes_send : (count : Option ℕ) (s : Session) → Mutes (send count s)
-mutes_send None s =
-    let ended = with_link s (with_down s.link (finished s.link.down)) in
-    elim (is_open s.link.down.eof) as (λ b. Mutes
-    (cond b (cond (gives_on s.limits s.past s.link.id) (take_down all_bytes s) (stays ended))
-    (stays s))) [
-      | true ↦ elim (gives_on s.limits s.past s.link.id) as (λ b. Mutes
-          (cond b (take_down all_bytes s) (stays ended))) [
-            | true ↦ mutes_take all_bytes s
-            | false ↦ mutes_stays ended
-          ]
-      | false ↦ mutes_stays s
-    ]
-mutes_send (Some n) s =
-    elim (is_open s.link.down.eof && gives_on s.limits s.past s.link.id && nat_le n
-    (length (unsent s.limits s.link.id s.past))) as (λ b. Mutes
-    (cond b (take_down n s) (refuses s NothingThere))) [
-      | true ↦ mutes_take n s
-      | false ↦ mutes_refuses s NothingThere
-    ]
+mutes_send count s = grind (arith, mutes_take, mutes_stays, mutes_refuses)
 
 -- an event by which no client's end reads
 unfoldable pub IsUnread : LinkEvent → Type 0
@@ -353,14 +289,7 @@ IsUnread Tick = Unit {0}
 
 mutes_move : (event : LinkEvent) (s : Session) → IsUnread event → Mutes (move_of event s)
 unfolding IsUnread
-mutes_move (Put name bytes) s h = mutes_does s _
-mutes_move (Over name (moves.Serve count)) s h = mutes_serve count s
-mutes_move (Over name (moves.Send count)) s h = mutes_send count s
-mutes_move (Over name (moves.Recv count)) s h = absurd h
-mutes_move (Over name moves.Flow) s h = absurd h
-mutes_move (Over name moves.HangUp) s h = mutes_stays _
-mutes_move (Over name moves.Cut) s h = mutes_stays _
-mutes_move event s h = mutes_stays s
+mutes_move event s h = grind (arith, mutes_does, mutes_serve, mutes_send, mutes_stays)
 
 mutes_named : (p : Option ℕ) (event : LinkEvent) (w : LinksState) → IsUnread event
     → Mutes (over_named p (move_of event) w)
@@ -385,9 +314,7 @@ step_mutes w Tick h = tick_goes_on w (λ t ls. Mute ls) nothing_read (λ moment 
 -- ---- what is read
 
 read_own : (name bytes : List ℕ) → read_on name (read_lines name bytes) ≡ bytes
-read_own name [] = refl
-read_own name (b ∷ bytes) =
-    ap (λ v. cond v (b ∷ bytes) [] ++ []) (names_itself name name refl) ∙ append-nil (b ∷ bytes)
+read_own name bytes = grind (arith, names_itself, append-nil)
 
 eof_own : (link name : List ℕ) (b : Bool) → read_on name (eof_lines link b) ≡ []
 eof_own link name true = refl
@@ -407,32 +334,7 @@ refused e = cc
 received : (count : Option ℕ) (s : Session)
     → HasRead s.link.name s.link.down.bytes count (receive count s)
 unfolding receive_all and_then
-received None s =
-    let name = s.link.name in
-    let bytes = s.link.down.bytes in
-    record {
-      reads = λ e. read_more name (read_lines name bytes)
-          (eof_lines name (is_queued s.link.down.eof))
-          ∙ ap (λ x. read_on name (read_lines name bytes) ++ x)
-          (eof_own name name (is_queued s.link.down.eof))
-          ∙ append-nil (read_on name (read_lines name bytes))
-          ∙ read_own name bytes;
-      leaves = λ n e none. absurd (not_some n e);
-    }
-received (Some n) s =
-    let name = s.link.name in
-    let bytes = s.link.down.bytes in
-    elim (nat_le n (length bytes)) as (λ b. HasRead name bytes (Some n)
-    (cond b (read_bytes (take n bytes) (without n s.link.down) s) (refuses s NothingThere))) [
-      | true ↦ record {
-        reads = λ e. read_own name (take n bytes);
-        leaves = λ k e none. ap (λ i. drop i bytes) (let same : n ≡ k = cc in same);
-      }
-      | false ↦ record {
-        reads = λ e. absurd (refused e);
-        leaves = λ k e none. absurd (refused none);
-      }
-    ]
+received count s = grind (arith, read_more, eof_own, append-nil, read_own, not_some, refused)
 
 pub record StepReads (w : LinksState) (name : List ℕ) (at : ℕ) (count : Option ℕ) : Type 0 where
   pub reads : (step w (Over name (moves.Recv count))).fault ≡ None

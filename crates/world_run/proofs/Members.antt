@@ -29,10 +29,7 @@ use Rattle.world_run.proofs.Causal.{GotsWithin, RunsWithin, causal_entries, got_
 
 pub prefix_both : {A : Type 0} (xs ys zs : List A) → IsPrefix xs ys → IsPrefix ys zs
     → IsPrefix xs zs
-prefix_both xs ys zs p q = (
-  p.0 ++ q.0,
-  sym (append_assoc xs p.0 q.0) ∙ ap (λ l. l ++ q.0) p.1 ∙ q.1,
-)
+prefix_both xs ys zs p q = grind (arith, append_assoc)
 
 pub prefix_size : {A : Type 0} (xs ys : List A) → IsPrefix xs ys → length xs ≤ length ys
 prefix_size xs ys p = omega (arith, length-append xs p.0, ap length p.1)
@@ -125,12 +122,7 @@ gots_within l x past log m w has = got_count (gots w log) (sent l (x.id w) past)
 
 pub runs_within : (l : Limits) (x : Client) (past : List Entry) (log : List _) → Meet l x past log
     → RunsWithin x past log
-runs_within l x past log m w has =
-    omega (
-      arith,
-      runs_size (x.id w) past,
-      prefix_size (runs_of (x.id w) past) (commands x.setup w log) (m.ran w has),
-    )
+runs_within l x past log m w has = grind (arith, runs_size, prefix_size)
 
 -- a client whose link has grown
 pub member_grown : (w v : LinksState) (read more : List ℕ) (m : MemberState)

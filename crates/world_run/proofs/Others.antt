@@ -1,7 +1,7 @@
 -- The links and the clients that an event does not name are as they were.
 use Rattle.std.proofs.Common.{◌≡◌, ◌≤◌, ℕ, zero, suc, List, [], ◌∷◌, Bool, true}
 use Rattle.std.proofs.Common.{false, cond, Some, None, Option, length, refl, sym, ap, subst, ◌∙◌}
-use Rattle.std.proofs.Common.{arith, inl, inr, not, slice_index_or}
+use Rattle.std.proofs.Common.{arith, inl, inr, slice_index_or}
 use Rattle.std.proofs.lemmas.Bool.{cases_lt}
 use Rattle.std.proofs.lemmas.List.{get_or-set_other}
 use Rattle.resp_value.specs.Lists.{IsPrefix}
@@ -16,8 +16,6 @@ use Rattle.script_text.specs.declared.event.Event.TheVariants.{Do, Poll, Show, N
 use Rattle.script_text.specs.declared.line.Line.{Line}
 use Rattle.server_links.specs.declared.fault.WorldFault.{WorldFault}
 use Rattle.server_links.specs.declared.fault.WorldFault.TheVariants.{NameTaken, NoName}
-use Rattle.server_links.specs.declared.fault.WorldFault.TheVariants.{NothingThere}
-use Rattle.server_links.specs.declared.fault.WorldFault.TheVariants.{Refused}
 use Rattle.server_links.specs.declared.link.LinkMove.{LinkMove}
 use Rattle.server_links.specs.declared.link.LinkMove.TheVariants as moves
 use Rattle.server_links.specs.LinkEvent as link_event
@@ -25,7 +23,7 @@ use Rattle.server_links.specs.LinkEvent.{LinkEvent}
 use Rattle.server_links.specs.LinksState.{at_place, fresh_link}
 use Rattle.server_links.specs.LinkSteps as links
 use Rattle.server_links.specs.LinkSteps.{place_of}
-use Rattle.server_links.specs.Outcome.{Outcome, Reached, and_then, does, refuses, stays}
+use Rattle.server_links.specs.Outcome.{Outcome, Reached, refuses, stays}
 use Rattle.server_links.proofs.Outcomes.{Fronts, fronts_once, fronts_reached, fronts_refuses}
 use Rattle.server_links.proofs.Outcomes.{fronts_stays, fronts_then, fronts_within}
 use Rattle.server_links.proofs.Outcomes.{Meets, meets_refuses, meets_weaker}
@@ -37,8 +35,8 @@ use Rattle.world_run.specs.ClientMoves as client
 use Rattle.world_run.specs.ClientMoves.{show, turn}
 use Rattle.world_run.specs.WorldHistory.{OthersKept, link_named}
 use Rattle.world_run.specs.World.{Stepped, client_does, client_step, flow_at, flow_first, flow_step}
-use Rattle.world_run.specs.World.{is_served, is_taken, join, links_step, named_does, not_served}
-use Rattle.world_run.specs.World.{out_step, raw_out, recv_step, said_step, setup_by, step}
+use Rattle.world_run.specs.World.{is_taken, links_step, named_does}
+use Rattle.world_run.specs.World.{out_step, raw_out, recv_step, said_step, step}
 use Rattle.world_run.specs.World.{on_links}
 use Rattle.server_links.proofs.Events.{step_fronts}
 use Rattle.world_run.proofs.Clients.{place_is}
@@ -79,24 +77,14 @@ f_first (suc n) w =
 f_make : (name : List ℕ) (mode : ClientMode) (capacity : ℕ) (w : WorldState)
     → Fronts (client_step name mode capacity w)
 f_make name mode capacity w =
-    f_if (not (is_served mode)) (refuses w (Refused not_served)) _
-    (fronts_refuses w (Refused not_served))
-    (f_if (is_taken name w) (refuses w NameTaken) _ (fronts_refuses w NameTaken)
-    (fronts_then (does w w [])
-    (λ w. and_then (links_step (link_event.Raw (data_link name)) w)
-    (join name (length w.links.links) (setup_by w mode capacity))) (fronts_once w w [] None)
-    (λ v. fronts_then (links_step (link_event.Raw (data_link name)) v)
-    (join name (length v.links.links) (setup_by v mode capacity))
-    (f_event (link_event.Raw (data_link name)) v) (λ u. fronts_stays _))))
+    grind (arith, f_if, fronts_refuses, fronts_then, fronts_once, f_event, fronts_stays)
 
 f_said : (c : Option ℕ) (name bytes : List ℕ) (w : WorldState) → Fronts (said_step c name bytes w)
 f_said None name bytes w = f_event (link_event.Put name bytes) w
 f_said (Some at) name bytes w = fronts_refuses w NoName
 
 f_raw_out : (p count : Option ℕ) (w : WorldState) → Fronts (raw_out p count w)
-f_raw_out None count w = fronts_refuses w NoName
-f_raw_out (Some at) None w = fronts_stays w
-f_raw_out (Some at) (Some n) w = fronts_refuses w NothingThere
+f_raw_out p count w = grind (arith, fronts_refuses, fronts_stays)
 
 f_out : (c : Option ℕ) (name : List ℕ) (count : Option ℕ) (w : WorldState)
     → Fronts (out_step c name count w)
@@ -164,13 +152,7 @@ a_event : (event : LinkEvent) (name : List ℕ) (w : WorldState)
     → Meets (λ v ls. LinksKept w.links name v) (λ v ls. LinksKept w.links name v)
     (links.step w.links event) → Leaves w name (links_step event w)
 unfolding links_step
-a_event event name w k =
-    meets_within (on_links w) (λ v ls. Apart w name v) (λ v ls. Apart w name v)
-    (links.step w.links event)
-    (meets_weaker (λ v ls. LinksKept w.links name v) (λ v ls. Apart w name (on_links w v))
-    (λ v ls. LinksKept w.links name v) (λ v ls. Apart w name (on_links w v))
-    (links.step w.links event) (λ v ls q. record { links = q; members = λ i n. refl })
-    (λ v ls q. record { links = q; members = λ i n. refl }) k)
+a_event event name w k = grind (arith, meets_within, meets_weaker)
 
 a_over : (name : List ℕ) (move : LinkMove) (w : WorldState)
     → Leaves w name (links_step (link_event.Over name move) w)
@@ -213,15 +195,7 @@ module _ (l : Limits) (heard : ℕ → List ℕ) (raw : List ℕ → List ℕ) (
 
   a_named : (name : List ℕ) (move : Seat → Outcome Seat) → ((s : Seat) → Orderly s (move s))
       → Leaves w (data_link name) (named_does (client_named name w.members) move w)
-  a_named name move o =
-      elim (client_named name w.members) as (λ c. client_named name w.members ≡ c
-      → Leaves w (data_link name) (named_does c move w)) [
-        | None ↦ λ none. a_refused w (data_link name) NoName
-        | Some at ↦ λ is.
-            let there = client_there name w.members at is in
-            a_client at (data_link name) move o w
-            ((h.each at there.0).0.named ∙ ap data_link there.1)
-      ] refl
+  a_named name move o = grind (arith, a_refused, client_there, a_client)
 
   a_by : (name : List ℕ) (step_by : Option ℕ → Stepped) → Leaves w name (step_by None)
       → ((at : ℕ) → client_of_link name w.members ≡ Some at → Leaves w name (step_by (Some at)))
@@ -233,9 +207,7 @@ module _ (l : Limits) (heard : ℕ → List ℕ) (raw : List ℕ → List ℕ) (
 
   a_said : (name bytes : List ℕ)
       → Leaves w name (said_step (client_of_link name w.members) name bytes w)
-  a_said name bytes =
-      a_by name (λ c. said_step c name bytes w) (a_put name bytes w)
-      (λ at is. a_refused w name NoName)
+  a_said name bytes = grind (arith, a_by, a_put, a_refused)
 
   apart_then : (e : Event) (name : List ℕ) → link_named e ≡ Some name → Leaves w name (step w e)
   unfolding step

@@ -1,32 +1,16 @@
 -- A link is found at the same place while the names of the links stay as they are.
-use Rattle.std.proofs.Common.{◌≡◌, ◌<◌, ℕ, List, [], true, false, cond, Some, None}
+use Rattle.std.proofs.Common.{◌≡◌, ◌<◌, ℕ, List, [], Some, None}
 use Rattle.std.proofs.Common.{length, refl, sym, ap, ◌∙◌, arith, inl, inr}
-use Rattle.std.specs.Prelude.{not, nat_lt}
-use Rattle.std.specs.List.{position_or_len}
-use Rattle.std.specs.Str.{bytes_eq}
 use Rattle.std.proofs.lemmas.Bool.{cases_lt}
 use Rattle.std.proofs.lemmas.List.Sums.{prefix_len_passes}
-use Rattle.server_links.specs.declared.link.Link.{Link}
-use Rattle.server_links.specs.LinksState.{LinksState, at_place, fresh_link}
+use Rattle.server_links.specs.LinksState.{LinksState, at_place}
 use Rattle.server_links.specs.LinkSteps.{place_of}
 use Rattle.server_links.proofs.Names.{names_itself, placed, unplaced}
 
 -- no link before the one that is found has the name
 first_place : (name : List ℕ) (w : LinksState) (at : ℕ) → place_of name w ≡ Some at → (i : ℕ)
     → i < at → (at_place w.links i).name ≡ name → ⊥
-first_place name w at found i lt same =
-    let test = λ (l : Link). bytes_eq l.name name in
-    let l = position_or_len test w.links in
-    let is : l ≡ at =
-    elim (nat_lt l (length w.links)) as (λ b. cond b (Some l) None ≡ Some at → l ≡ at) [
-      | true ↦ λ e. cc
-      | false ↦ λ e. absurd cc
-    ] found in
-    let passed : not (test (at_place w.links i)) ≡ true =
-    prefix_len_passes (λ x. not (test x)) w.links i (fresh_link 0 []) (omega (arith, lt, is)) in
-    let there : test (at_place w.links i) ≡ true =
-    names_itself (at_place w.links i).name name same in
-    absurd (let no : not true ≡ true = ap not (sym there) ∙ passed in cc)
+first_place name w at found i lt same = grind (arith, prefix_len_passes, names_itself)
 
 pub record NamesKept (w v : LinksState) : Type 0 where
   pub size : length v.links ≡ length w.links

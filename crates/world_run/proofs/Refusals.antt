@@ -67,10 +67,7 @@ pub record Sure (s : Seat) (m : Outcome Seat) : Type 0 where
   pub place : m.state.member.place ≡ s.member.place
 
 has_then : (s : Seat) (m : Outcome Seat) → Sure s m → HasLink s → HasLink m.state
-has_then s m k h =
-    ap (λ n. place_of n m.state.links) k.link
-    ∙ place_kept s.member.link s.links m.state.links s.member.place k.names h
-    ∙ ap Some (sym k.place)
+has_then s m k h = grind (arith, place_kept)
 
 pub sure_then : (s : Seat) (m : Outcome Seat) (next : Seat → Outcome Seat) → HasLink s → Sure s m
     → ((t : Seat) → HasLink t → Sure t (next t)) → Sure s (and_then m next)

@@ -10,16 +10,10 @@ use Rattle.shared_cache.specs.declared.entry.CacheEntry.{CacheEntry}
 use Rattle.shared_cache.specs.declared.log.ClientCall.{ClientCall}
 use Rattle.shared_cache.specs.declared.log.ClientCall.TheVariants as call
 use Rattle.shared_cache.specs.declared.log.ClientMode.{ClientMode}
-use Rattle.shared_cache.specs.declared.log.ClientRefusal.TheVariants as refusal
 use Rattle.shared_cache.specs.declared.log.LogEntry.{LogEntry}
-use Rattle.shared_cache.specs.declared.log.LogEntry.TheVariants as entry
 use Rattle.shared_cache.specs.declared.log.Wire.TheVariants.{Main}
-use Rattle.shared_cache.specs.Held.{held, held_for}
-use Rattle.shared_cache.specs.Log.{is_ended, is_ready}
 use Rattle.shared_cache.specs.Out.{untaken}
 use Rattle.shared_cache.specs.Steps.{ClientTurn, answer_ask, client_step}
-use Rattle.shared_cache.specs.Steps.{is_log_full}
-use Rattle.shared_cache.specs.Steps.{read_number, refusing}
 use Rattle.script_text.specs.declared.event.Event.{Event}
 use Rattle.script_text.specs.declared.event.Event.TheVariants.{Raw, Say, Bytes, Client, Out, Serve}
 use Rattle.script_text.specs.declared.event.Event.TheVariants.{Send, Recv, Flow, FlowAll, Cut, Ask}
@@ -27,7 +21,7 @@ use Rattle.script_text.specs.declared.event.Event.TheVariants.{Do, Poll, Show, N
 use Rattle.script_text.specs.declared.line.Line.{Line}
 use Rattle.server_links.specs.declared.fault.WorldFault.{WorldFault}
 use Rattle.server_links.specs.declared.fault.WorldFault.TheVariants.{NameTaken, NoName}
-use Rattle.server_links.specs.declared.fault.WorldFault.TheVariants.{NothingThere, Refused}
+use Rattle.server_links.specs.declared.fault.WorldFault.TheVariants.{NothingThere}
 use Rattle.server_links.specs.declared.link.LinkMove.TheVariants as moves
 use Rattle.server_links.specs.Faults.{IsRefusal}
 use Rattle.server_links.specs.LinkEvent as link_event
@@ -42,15 +36,15 @@ use Rattle.server_links.proofs.History as links_refused
 use Rattle.server_links.proofs.Names.{unplaced}
 use Rattle.server_links.proofs.Refusals.{Unrefused, un_flow}
 use Rattle.world_run.specs.WorldState.{WorldState, MemberState, client_named, client_of_link}
-use Rattle.world_run.specs.WorldState.{data_link, fresh_member, member_at, no_setup}
+use Rattle.world_run.specs.WorldState.{fresh_member, member_at, no_setup}
 use Rattle.world_run.specs.Members.{Seat, link_of, seat_at, with_log, with_seat}
 use Rattle.world_run.specs.ClientMoves as client
 use Rattle.world_run.specs.ClientMoves.{fault_of, has_ended, lines_of, print, show, shown, turn}
 use Rattle.world_run.specs.WorldHistory.{HaveLinks}
 use Rattle.world_run.specs.World.{Stepped, client_does, client_step as make_client, flow_at}
-use Rattle.world_run.specs.World.{flow_first, flow_step, is_served, is_taken, join, links_step}
-use Rattle.world_run.specs.World.{named_does, not_served, out_step, raw_out, recv_step, said_step}
-use Rattle.world_run.specs.World.{setup_by, step, on_links}
+use Rattle.world_run.specs.World.{flow_first, flow_step, is_taken, links_step}
+use Rattle.world_run.specs.World.{named_does, out_step, raw_out, recv_step, said_step}
+use Rattle.world_run.specs.World.{step, on_links}
 use Rattle.world_run.proofs.Kept.{named_kept}
 use Rattle.world_run.proofs.Links.{step_moved}
 use Rattle.world_run.proofs.Names.{link_there}
@@ -98,21 +92,7 @@ never_ask None n past = none
 ask_leaves : (q : List (List ℕ)) (s : Seat)
     → TurnLeaves s (call.Ask q) (client_step s.member.state.setup s.member.state.past (call.Ask q))
 unfolding client_step NeverTurn Never
-ask_leaves q s =
-    let set = s.member.state.setup in
-    let past = s.member.state.past in
-    let c = call.Ask q in
-    let down = refusing (refusal.Down Main) past in
-    let early = refusing refusal.NotReady past in
-    let full = refusing (refusal.LogFull (length past)) past in
-    let o = held_for q (held set past) in
-    let n = read_number set past q in
-    let done : ClientTurn = record { reply = answer_ask o n; past = entry.Ask q ∷ past } in
-    leaves_if s c (is_ended set.mode Main past) down _ (leaves_never s c down (never_down Main))
-    (leaves_if s c (not (is_ready set.mode past)) early _ (leaves_never s c early none)
-    (leaves_if s c (is_log_full set past) full done
-    (leaves_never s c full (never_full (length past)))
-    (leaves_never s c done (never_ask o n (entry.Ask q ∷ past)))))
+ask_leaves q s = grind (arith, leaves_if, leaves_never, never_down, none, never_full, never_ask)
 
 send_leaves : (ws : List (List ℕ)) (s : Seat)
     → TurnLeaves s (call.Send ws)
@@ -177,13 +157,7 @@ event_leaves event w f e r =
 client_leaves : (at : ℕ) (move : Seat → Outcome Seat) (w : WorldState)
     → Unchanged (seat_at at w) (move (seat_at at w)) → Unchanged w (client_does at move w)
 unfolding client_does within
-client_leaves at move w n f e r =
-    let k = n f e r in (
-      ap (with_seat at w) k.0
-          ∙ ap (λ ms. record { links = w.links; members = ms })
-          (set-get_or w.members at (fresh_member [] 0 no_setup)),
-      k.1,
-    )
+client_leaves at move w n f e r = grind (arith, set-get_or)
 
 named_leaves : (c : Option ℕ) (move : Seat → Outcome Seat)
     → ((s : Seat) → Unchanged s (move s)) → (w : WorldState) → Unchanged w (named_does c move w)
@@ -193,18 +167,7 @@ named_leaves (Some at) move n w = client_leaves at move w (n (seat_at at w))
 make_leaves : (name : List ℕ) (mode : ClientMode) (capacity : ℕ) (w : WorldState)
     → Unchanged w (make_client name mode capacity w)
 unfolding and_then
-make_leaves name mode capacity w =
-    let m = links_step (link_event.Raw (data_link name)) w in
-    let next = join name (length w.links.links) (setup_by w mode capacity) in
-    un_if w (not (is_served mode)) (refuses w (Refused not_served)) _
-    (refused w (Refused not_served))
-    (un_if w (is_taken name w) (refuses w NameTaken) _ (refused w NameTaken)
-    (λ f. elim m.fault as (λ v. m.fault ≡ v → (then_by v m (next m.state)).fault ≡ Some f
-    → IsRefusal f → ((then_by v m (next m.state)).state ≡ w)
-    × ((then_by v m (next m.state)).lines ≡ [])) [
-      | Some x ↦ λ is e r. event_leaves (link_event.Raw (data_link name)) w f e r
-      | None ↦ λ is e r. absurd (none f e r)
-    ] refl))
+make_leaves name mode capacity w = grind (arith, un_if, refused, event_leaves, none)
 
 said_leaves : (c : Option ℕ) (name bytes : List ℕ) (w : WorldState)
     → Unchanged w (said_step c name bytes w)

@@ -51,16 +51,12 @@ module _ (l : Limits) (x : Client) (past : List Entry) (log : List LogEntry)
   pub complete_some : is_ended x.setup.mode Main log ≡ false → (n e : ℕ)
       → n ≡ length (gots Main log)
       → slice_get (sent_entries l (x.id Main) past) n ≡ Some e → e - 1 ≡ complete l x past log
-  complete_some on n e is h =
-      sym (going on ∙ first_some (length (gots Main log)) (sent l (x.id Main) past) e (length past)
-      (ap (slice_get (sent_entries l (x.id Main) past)) (sym is) ∙ h))
+  complete_some on n e is h = grind (arith, going, first_some)
 
   pub complete_none : is_ended x.setup.mode Main log ≡ false → (n : ℕ)
       → n ≡ length (gots Main log)
       → slice_get (sent_entries l (x.id Main) past) n ≡ None → length past ≡ complete l x past log
-  complete_none on n is h =
-      sym (going on ∙ first_none (length (gots Main log)) (sent l (x.id Main) past) (length past)
-      (ap (slice_get (sent_entries l (x.id Main) past)) (sym is) ∙ h))
+  complete_none on n is h = grind (arith, going, first_none)
 
 -- ---- the last entry that names a key
 
@@ -153,22 +149,16 @@ module _ (id : ℕ) (past : List Entry) where
 
     pub without : slice_get (run_entries id past) k ≡ None
         → named_to id past key m ≡ named_to id past key k
-    without none =
-        ap (named_to id past key) up
-        ∙ at_none key k (runs_of id past) (run_entries id past) none
+    without none = grind (arith, up, at_none)
 
     module _ (e : ℕ) (is : slice_get (run_entries id past) k ≡ Some e) where
       pub at_most : named_to id past key k ≤ e
-      at_most =
-          bound key k (runs_of id past) (run_entries id past) e
-          (λ i p lt g. let less = in_order id past i k p e lt g is in omega (arith, less))
+      at_most = grind (arith, bound, in_order)
 
       pub grown : (ws : List (List ℕ)) → slice_get (runs_of id past) k ≡ Some ws
           → named_to id past key m
           ≡ max (named_to id past key k) (cond (names_key ws key) e 0)
-      grown ws ran =
-          ap (named_to id past key) up
-          ∙ at_some key k (runs_of id past) (run_entries id past) ws e ran is
+      grown ws ran = grind (arith, up, at_some)
 
       pub named_within : named_to id past key m ≤ e
       named_within =

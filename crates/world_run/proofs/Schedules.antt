@@ -1,6 +1,6 @@
 -- What stands of a world after a schedule.
 use Rattle.std.proofs.Common.{◌≡◌, ◌<◌, ℕ, List, [], ◌∷◌, ◌++◌}
-use Rattle.std.proofs.Common.{Some, None, length, refl, sym, ap, subst, ◌∙◌, arith}
+use Rattle.std.proofs.Common.{Some, None, length, refl, sym, subst, ◌∙◌, arith}
 use Rattle.std.proofs.Common.{append_assoc, append-nil}
 use Rattle.serial_model.specs.declared.history.Limits.{Limits}
 use Rattle.shared_cache.specs.Laws.{Every}
@@ -15,11 +15,11 @@ use Rattle.server_links.specs.Transcript.{unless_fault}
 use Rattle.server_links.proofs.Accounts.{Part}
 use Rattle.server_links.proofs.Events.{serves}
 use Rattle.server_links.proofs.Names.{unplaced}
-use Rattle.world_run.specs.WorldState.{WorldState, client_of_link, member_at, start}
+use Rattle.world_run.specs.WorldState.{WorldState, member_at, start}
 use Rattle.world_run.specs.Members.{client_of}
 use Rattle.world_run.specs.WorldHistory.{AllServiced, HoldsCurrent, OneHistory, PartHistory}
 use Rattle.world_run.specs.WorldHistory.{Serviced}
-use Rattle.world_run.specs.WorldHistory.{put_by, put_on, said_by, said_to, taken_bytes}
+use Rattle.world_run.specs.WorldHistory.{put_on, said_by, said_to, taken_bytes}
 use Rattle.world_run.specs.WorldTranscript.{after, heard, heard_at, transcript}
 use Rattle.world_run.specs.World.{step}
 use Rattle.world_run.proofs.Clients.{place_is}
@@ -35,14 +35,7 @@ put_is : (w : WorldState) (events : List Event) (said : List ℕ → List ℕ)
     said m.link ≡ taken_bytes m)
     → ((n : List ℕ) → NoneHas w n → said n ≡ said_to n events)
     → (n : List ℕ) → said n ≡ put_on w n events
-put_is w events said taken rest n =
-    elim (client_of_link n w.members) as (λ c. client_of_link n w.members ≡ c
-    → said n ≡ put_by c w n events) [
-      | None ↦ λ none. rest n (link_nowhere n w.members none)
-      | Some at ↦ λ is.
-          let there = link_there n w.members at is in
-          ap said (sym there.1) ∙ taken at there.0
-    ] refl
+put_is w events said taken rest n = grind (arith, link_nowhere, link_there)
 
 pub serviced : (l : Limits) (raw : List ℕ → List ℕ) (lines : List Line) (w : WorldState)
     → WorldPart l raw lines w → (at : ℕ) → at < length w.members

@@ -48,9 +48,7 @@ module _ (l : Limits) (heard : ℕ → List ℕ) (raw : List ℕ → List ℕ) (
     → Q (step w.links event).state (read_on m.link lines ++ read_on m.link ls) m) where
   differs : (i : ℕ) → i < length w.members → (i ≡ at → ⊥)
       → bytes_eq (name_of_event event) (member_at w.members i).link ≡ false
-  differs i lt n =
-      not_equal (name_of_event event) (member_at w.members i).link
-      (λ e. n (h.distinct at i below lt (sym e ∙ own)))
+  differs i lt n = grind (arith, not_equal, name_of_event)
 
   part : (i : ℕ) → i < length w.members → let m = member_at w.members i in
       MemberPart w.links (read_on m.link lines) m
@@ -61,20 +59,10 @@ module _ (l : Limits) (heard : ℕ → List ℕ) (raw : List ℕ → List ℕ) (
 
   takes : (i : ℕ) → i < length w.members → let m = member_at w.members i in
       h.said m.link ++ said_by m.link event ≡ taken_bytes m
-  takes i lt =
-      let m = member_at w.members i in
-      by_place (h.said m.link ++ said_by m.link event ≡ taken_bytes m) i at
-      (λ e. ap (λ x. h.said m.link ++ x)
-      (ap (λ k. said_by (member_at w.members k).link event) e ∙ puts)
-      ∙ ((h.each i lt).0 e).1)
-      (λ n. ap (λ x. h.said m.link ++ x) (said_other event m.link (differs i lt n))
-      ∙ append-nil (h.said m.link) ∙ ((h.each i lt).1 n).1)
+  takes i lt = grind (arith, by_place, said_other, differs, append-nil)
 
   says : (name : List ℕ) → NoneHas w name → raw name ++ said_by name event ≡ raw name
-  says name none =
-      ap (λ x. raw name ++ x) (said_other event name
-      (not_equal (name_of_event event) name (λ e. none at below (sym own ∙ e))))
-      ∙ append-nil (raw name)
+  says name none = grind (arith, said_other, not_equal, name_of_event, append-nil)
 
   moves : (i : ℕ) → i < length w.members → let m = member_at w.members i in
       let v = (step w.links event).state in
@@ -107,9 +95,7 @@ module _ (l : Limits) (heard : ℕ → List ℕ) (raw : List ℕ → List ℕ) (
 
   same_world : (v : LinksState)
       → world.on_links w v ≡ with_seat at w (members.with_links (seat_at at w) v)
-  same_world v =
-      ap (λ ms. record { links = v; members = ms })
-      (sym (set-get_or w.members at (fresh_member [] 0 no_setup)))
+  same_world v = grind (arith, set-get_or)
 
   pub seat_linked : One l raw at
       (λ ls u. Holds l (λ i. heard i ++ heard_at w.links i event) raw (Seating at [] Q) ls u)
@@ -154,17 +140,11 @@ module _ (l : Limits) (heard : ℕ → List ℕ) (raw : List ℕ → List ℕ) (
   theirs i n = get_or-set_other w.members at i new (fresh_member [] 0 no_setup) n
 
   link_is : (i : ℕ) → (member_at changed.members i).link ≡ (member_at w.members i).link
-  link_is i =
-      by_place ((member_at changed.members i).link ≡ (member_at w.members i).link) i at
-      (λ e. ap (λ (m : MemberState). m.link) (mine i e) ∙ same
-      ∙ ap (λ k. (member_at w.members k).link) (sym e))
-      (λ n. ap (λ (m : MemberState). m.link) (theirs i n))
+  link_is i = grind (arith, by_place, mine, theirs)
 
   apart : (i j : ℕ) → i < length changed.members → j < length changed.members
       → (member_at changed.members j).link ≡ (member_at changed.members i).link → j ≡ i
-  apart i j li lj e =
-      h.distinct i j (omega (arith, li, size)) (omega (arith, lj, size))
-      (sym (link_is j) ∙ e ∙ link_is i)
+  apart i j li lj e = grind (arith, size, link_is)
 
   nowhere : (name : List ℕ) → NoneHas changed name → NoneHas w name
   nowhere name none i lt e = none i (omega (arith, lt, size)) (link_is i ∙ e)

@@ -16,7 +16,7 @@ use Rattle.server_links.proofs.Accounts.{Part, Account}
 use Rattle.server_links.proofs.Carries.{read_more, entries_more}
 use Rattle.server_links.proofs.LinksStand.{Stands, PartStands}
 use Rattle.server_links.proofs.Outcomes.{Meets, meets_then, meets_weaker}
-use Rattle.world_run.specs.WorldState.{WorldState, MemberState, fresh_member, member_at, no_setup}
+use Rattle.world_run.specs.WorldState.{WorldState, MemberState, member_at}
 use Rattle.world_run.specs.Members.{Seat, seat_at, with_seat}
 use Rattle.world_run.specs.WorldHistory.{taken_bytes}
 use Rattle.world_run.proofs.Links.{Mute}
@@ -132,9 +132,7 @@ parts_longer l said said' lines v more s = record {
 
 module _ (at : ℕ) (w : WorldState) (below : at < length w.members) where
   pub seat_back : (s : Seat) → seat_at at (with_seat at w s) ≡ s
-  seat_back s =
-      ap (λ (m : MemberState). record { links = s.links; member = m })
-      (get_or-set_same w.members at s.member (fresh_member [] 0 no_setup) below)
+  seat_back s = grind (arith, get_or-set_same)
 
   pub still_below : (s : Seat) → at < length (with_seat at w s).members
   still_below s = omega (arith, below, length-set w.members at s.member)
@@ -147,9 +145,7 @@ set_twice (z ∷ xs) (suc at) x y = ap (λ l. z ∷ l) (set_twice xs at x y)
 
 pub seat_twice : (at : ℕ) (w : WorldState) (s t : Seat)
     → with_seat at (with_seat at w s) t ≡ with_seat at w t
-seat_twice at w s t =
-    ap (λ ms. record { links = t.links; members = ms })
-    (set_twice w.members at s.member t.member)
+seat_twice at w s t = grind (arith, set_twice)
 
 -- ---- one move after another
 
@@ -164,9 +160,7 @@ module _ (l : Limits) (raw : List ℕ → List ℕ) (at : ℕ) (P Q : List Line 
   again : (R : List Line → WorldState → Type 0) (s t : Seat) (xs ys : List Line)
       → R ((lines ++ xs) ++ ys) (with_seat at (with_seat at w s) t)
       → R (lines ++ (xs ++ ys)) (with_seat at w t)
-  again R s t xs ys r =
-      subst (λ v. R (lines ++ (xs ++ ys)) v) (seat_twice at w s t)
-      (subst (λ k. R k (with_seat at (with_seat at w s) t)) (append_assoc lines xs ys) r)
+  again R s t xs ys r = grind (arith, seat_twice, append_assoc)
 
   pub one_then : (m : Outcome Seat) (next : Seat → Outcome Seat) → One l raw at P lines w m
       → (m.fault ≡ None → P (lines ++ m.lines) (with_seat at w m.state)

@@ -1,7 +1,7 @@
 -- What a turn of a client does to its log: what it got, what it took out, and whether its link has
 -- ended.
 use Rattle.std.proofs.Common.{◌≡◌, ◌-◌, ◌⊎◌, ℕ, List, [], ◌∷◌, ◌++◌, Bool, true}
-use Rattle.std.proofs.Common.{false, cond, not, Some, None, Option, length, take, drop, min, inl}
+use Rattle.std.proofs.Common.{false, cond, Some, None, Option, length, take, drop, min, inl}
 use Rattle.std.proofs.Common.{inr}
 use Rattle.std.proofs.Common.{refl, sym, ap, subst, ◌∙◌, arith, append-nil}
 use Rattle.std.proofs.Math.Seq.{take-add}
@@ -11,7 +11,6 @@ use Rattle.std.proofs.lemmas.Grind.{flat_map-append}
 use Rattle.std.proofs.lemmas.List.{take-append-le, take_all, length-drop}
 use Rattle.resp_value.specs.Spelling.{request_spelling}
 use Rattle.resp_value.specs.declared.value.Value.{Value}
-use Rattle.command_words.specs.Control.{is_control}
 use Rattle.shared_cache.specs.declared.log.Wire.TheVariants.{Main}
 use Rattle.shared_cache.specs.declared.log.LogEntry.{LogEntry}
 use Rattle.shared_cache.specs.declared.log.LogEntry.TheVariants as entry
@@ -19,11 +18,11 @@ use Rattle.shared_cache.specs.declared.log.ClientCall.{ClientCall}
 use Rattle.shared_cache.specs.declared.log.ClientCall.TheVariants.{Ask, Send, Poll, TakeOut, Got}
 use Rattle.shared_cache.specs.declared.log.ClientCall.TheVariants.{End}
 use Rattle.shared_cache.specs.declared.log.ClientRefusal.{ClientRefusal}
-use Rattle.shared_cache.specs.declared.log.ClientRefusal.TheVariants.{Down, LogFull}
-use Rattle.shared_cache.specs.Log.{is_ended, is_ready, reply}
+use Rattle.shared_cache.specs.declared.log.ClientRefusal.TheVariants.{Down}
+use Rattle.shared_cache.specs.Log.{is_ended, reply}
 use Rattle.shared_cache.specs.Held.{Setup, commands}
 use Rattle.shared_cache.specs.Laws.{gots, IsCall, AsksQuery, LegalLog}
-use Rattle.shared_cache.specs.Out.{out, taken, untaken, is_wanted}
+use Rattle.shared_cache.specs.Out.{out, taken, untaken}
 use Rattle.shared_cache.specs.Steps.{ClientTurn, client_step, refusing, is_log_full, polling}
 use Rattle.shared_cache.specs.Steps.{taking_out, getting, read_number, command_number, answer_ask}
 use Rattle.shared_cache.specs.Steps as steps
@@ -52,10 +51,7 @@ turn_adds s log c h = grind arith
 
 pub turn_legal : (s : Setup) (log : List LogEntry) (c : ClientCall) → IsCall c → AsksQuery c
     → LegalLog s log → LegalLog s (client_step s log c).past
-turn_legal s log c h q legal = elim (turn_adds s log c h) [
-  | inl same ↦ subst (LegalLog s) (sym same) legal
-  | inr more ↦ subst (LegalLog s) (sym more.1) (legal, (c, h, q, more.1))
-]
+turn_legal s log c h q legal = grind (arith, turn_adds)
 
 -- ---- what was taken out
 
@@ -72,10 +68,7 @@ taken_more s e log same =
     (taken_within s Main log)
 
 take_min : (m : ℕ) (q : List ℕ) → take (min m (length q)) q ≡ take m q
-take_min m q = elim (cases_lt (length q) m) [
-  | inl h ↦ take_all (min m (length q)) q (omega arith) ∙ sym (take_all m q (omega arith))
-  | inr h ↦ ap (λ k. take k q) (omega arith)
-]
+take_min m q = grind (arith, cases_lt, take_all)
 
 taken_out : (s : Setup) (log : List LogEntry) (most : ℕ)
     → taken_of s (entry.TakeOut Main most ∷ log) ≡ taken_of s log ++ take most (untaken s Main log)
@@ -118,28 +111,17 @@ keeps_polling s None n false log = keeps_none s log
 pub ask_keeps : (s : Setup) (log : List LogEntry) (q : List (List ℕ))
     → TurnKeeps s log (client_step s log (Ask q)).past
 unfolding client_step
-ask_keeps s log q =
-    let P : ClientTurn → Type 0 = λ t. TurnKeeps s log t.past in
-    by_if P (is_ended s.mode Main log) _ _ (keeps_none s log)
-    (by_if P (not (is_ready s.mode log)) _ _ (keeps_none s log)
-    (by_if P (is_log_full s log) _ _ (keeps_none s log) (keeps_ask s log q)))
+ask_keeps s log q = grind (arith, by_if, keeps_none, keeps_ask)
 
 pub send_keeps : (s : Setup) (log : List LogEntry) (ws : List (List ℕ))
     → TurnKeeps s log (client_step s log (Send ws)).past
 unfolding client_step
-send_keeps s log ws =
-    let P : ClientTurn → Type 0 = λ t. TurnKeeps s log t.past in
-    by_if P (is_ended s.mode Main log) _ _ (keeps_none s log)
-    (by_if P (not (is_ready s.mode log)) _ _ (keeps_none s log)
-    (by_if P (is_control ws) _ _ (keeps_none s log)
-    (by_if P (is_log_full s log) _ _ (keeps_none s log) (keeps_send s log ws))))
+send_keeps s log ws = grind (arith, by_if, keeps_none, keeps_send)
 
 pub poll_keeps : (s : Setup) (log : List LogEntry) (n : ℕ)
     → TurnKeeps s log (client_step s log (Poll n)).past
 unfolding client_step
-poll_keeps s log n =
-    by_if (λ t. TurnKeeps s log t.past) (not (is_wanted s log n)) _ _ (keeps_none s log)
-    (keeps_polling s (reply s.mode log n) n (is_ended s.mode Main log) log)
+poll_keeps s log n = grind (arith, by_if, keeps_none, keeps_polling)
 
 -- bytes are taken out
 pub record TurnTakes (s : Setup) (log : List LogEntry) (t : ClientTurn) : Type 0 where
@@ -154,15 +136,7 @@ takes_none s log r =
 
 takes_bytes : (s : Setup) (most : ℕ) (bytes : List ℕ) (full : Bool) (log : List LogEntry)
     → untaken s Main log ≡ bytes → TurnTakes s log (taking_out Main most bytes full log)
-takes_bytes s most [] full log e =
-    record { gots_are = refl; ended_is = refl; taken_is = sym (append-nil (taken_of s log)) }
-takes_bytes s most (b ∷ bytes) true log e = takes_none s log (LogFull (length log))
-takes_bytes s most (b ∷ bytes) false log e =
-    record {
-      gots_are = refl;
-      ended_is = refl;
-      taken_is = taken_out s log most ∙ ap (λ x. taken_of s log ++ take most x) e;
-    }
+takes_bytes s most bytes full log e = grind (arith, append-nil, takes_none, taken_out)
 
 pub take_takes : (s : Setup) (log : List LogEntry) (most : ℕ)
     → TurnTakes s log (client_step s log (TakeOut Main most))

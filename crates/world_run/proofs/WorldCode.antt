@@ -112,10 +112,7 @@ pub named_gives : {A : Type 0} → (name : List ℕ) (move : Seat → Outcome Se
     → Gives (named_does (client_named name members) move (world old members)) lines r
     (world new (slice_set members at m')) lines'
 named_gives name move old new members at m m' lines r lines' found is g =
-    subst (λ c. Gives (named_does c move (world old members)) lines r
-    (world new (slice_set members at m')) lines') (sym found)
-    (client_gives at move old new members m m' lines r lines'
-    (client_there name members at found).0 is g)
+    grind (arith, slice_set, client_gives, client_there)
 
 -- of the world as its code has it
 pub named_turn : {A : Type 0} → (name : List ℕ) (move : Seat → Outcome Seat) (now : WorldState)
@@ -173,10 +170,7 @@ pub unowned : {A : Type 0} → (f : Option ℕ → Stepped) (link : List ℕ) (e
     → world old members ≡ now → client_of_link link now.members ≡ None
     → f None ≡ links_step e now → Gives (links.step old e) lines r new lines'
     → Gives (f (client_of_link link now.members)) lines r (world new members) lines'
-unowned f link e now old new members lines r lines' view none what g =
-    subst (λ (x : Stepped). Gives x lines r (world new members) lines') (sym (ap f none ∙ what))
-    (subst (λ (v : WorldState). Gives (links_step e v) lines r (world new members) lines') view
-    (links_give e old new members lines r lines' g))
+unowned f link e now old new members lines r lines' view none what g = grind (arith, links_give)
 
 -- ---- a raw link is told what to say
 
