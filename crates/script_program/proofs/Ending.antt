@@ -37,8 +37,6 @@ use Rattle.script_program.specs.Written.{EndShows, Reports}
 
 -- ---- who was told that the log is full has seen it so
 
-module _ (log : List LogEntry) (n : ℕ) where
-
 call_full : (s : Setup) (log : List LogEntry) (n : ℕ) (c : ScriptCall)
     → Answered (client_step s log (call_for c)) (refusal.LogFull n) log
     → is_log_full s log ≡ true
