@@ -1,6 +1,5 @@
 -- What a turn of a client comes to in the code.
-use Rattle.std.proofs.Common.{◌≡◌, ◌+◌, ℕ, List, [], ◌∷◌, ◌++◌, Bool, true, false, cond}
-use Rattle.std.proofs.Common.{length}
+use Rattle.std.proofs.Common.{◌≡◌, ◌+◌, ℕ, List, [], ◌∷◌, ◌++◌, Bool, true, false, cond, length}
 use Rattle.std.proofs.Common.{Option, Some, None, Result, Ok, Err, refl, sym, ap, subst, ◌∙◌, arith}
 use Rattle.std.proofs.Common.{◌≤◌, append-nil, length-append, ◌⊎◌, inl, inr}
 use Rattle.resp_value.specs.declared.value.Value.{Value}
@@ -19,9 +18,8 @@ use Rattle.shared_cache.specs.ClientFields.{Client}
 use Rattle.shared_cache.specs.Held.{Setup, Words}
 use Rattle.shared_cache.specs.Laws.{gots}
 use Rattle.shared_cache.specs.Log.{is_ended}
-use Rattle.shared_cache.specs.Steps.{ClientStep, ClientTurn, MayRunOut, client_step}
-use Rattle.shared_cache.specs.Steps.{polling, refusing}
-use Rattle.shared_cache.specs.Steps.{NeedsRoom}
+use Rattle.shared_cache.specs.Steps.{ClientStep, ClientTurn, MayRunOut, client_step, polling}
+use Rattle.shared_cache.specs.Steps.{refusing, NeedsRoom}
 use Rattle.script_text.specs.declared.line.Line.{Line}
 use Rattle.server_links.specs.declared.fault.WorldFault.{WorldFault}
 use Rattle.server_links.specs.declared.fault.WorldFault.TheVariants as fault
@@ -33,6 +31,7 @@ use Rattle.world_run.specs.Members.{Seat, log_of, seat, setup_of, with_log}
 use Rattle.world_run.specs.ClientMoves.{answers, ending_lines, fault_of, lines_of, refused_fault}
 use Rattle.world_run.specs.ClientMoves.{refused_lines, turn}
 use Rattle.world_run.specs.MemberTurns.{IsNoValue, Turned, TurnGives}
+use Rattle.world_run.specs.declared.member.Member.TheInside.{Inside}
 
 -- ---- what a turn answers is the step, where memory did not run out
 
@@ -168,18 +167,22 @@ stops_by m f t lines has e is none = (e, is, sym (ap (λ l. lines ++ l) none ∙
 
 -- ---- a turn and its lines
 
+-- a client by its fields
+abbrev pub seen : Inside → MemberState
+seen i = record {
+  name = i.name;
+  link = i.link;
+  place = i.place;
+  state = i.state;
+  reader = i.reader;
+}
+
 pub turned_is : (s : Seat) (m : MemberState) → Turned s.member m
     → seat s.links m ≡ with_log s m.state.past
 turned_is s m t = grind arith
 
 pub turned_like : (i old : MemberState) (new : Client) → i ≡ old → new.setup ≡ i.state.setup
-    → Turned old (record {
-      name = i.name;
-      link = i.link;
-      place = i.place;
-      state = new;
-      reader = i.reader;
-    })
+    → Turned old (record i { state = new })
 turned_like i old new e setup = grind arith
 
 pub step_like : (i old : MemberState) (c : ClientCall) (reply : ClientReply)

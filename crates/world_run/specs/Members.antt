@@ -19,31 +19,14 @@ abbrev pub seat : LinksState → MemberState → Seat
 seat links member = record { links = links; member = member }
 
 abbrev pub with_links : Seat → LinksState → Seat
-with_links s links = record { links = links; member = s.member }
+with_links s links = record s { links = links }
 
 abbrev pub with_log : Seat → List LogEntry → Seat
-with_log s log = record {
-  links = s.links;
-  member = record {
-    name = s.member.name;
-    link = s.member.link;
-    place = s.member.place;
-    state = record { setup = s.member.state.setup; past = log };
-    reader = s.member.reader;
-  };
-}
+with_log s log =
+    record s { member = record s.member { state = record s.member.state { past = log } } }
 
 abbrev pub with_reader : Seat → Stream → Seat
-with_reader s reader = record {
-  links = s.links;
-  member = record {
-    name = s.member.name;
-    link = s.member.link;
-    place = s.member.place;
-    state = s.member.state;
-    reader = reader;
-  };
-}
+with_reader s reader = record s { member = record s.member { reader = reader } }
 
 abbrev pub setup_of : Seat → Setup
 setup_of s = s.member.state.setup

@@ -7,8 +7,8 @@ use Rattle.shared_cache.specs.Laws.{gots}
 use Rattle.shared_cache.specs.Steps.{ClientTurn}
 use Rattle.world_run.specs.Members.{seat}
 use Rattle.world_run.specs.WorldState.{MemberState}
-use Rattle.world_run.proofs.Answering.{end_fault, ends_always, gots_kept, step_like, turn_ends}
-use Rattle.world_run.proofs.Answering.{turned_like}
+use Rattle.world_run.proofs.Answering.{end_fault, ends_always, gots_kept, seen, step_like}
+use Rattle.world_run.proofs.Answering.{turn_ends, turned_like}
 use Rattle.world_run.proofs.member.Member.end.Goals as goal
 
 pub unreachable-requires : goal.unreachable-requires
@@ -29,13 +29,7 @@ pub returns : goal.returns
 returns c =
     let i = c.self.inside in
     let old = c.args.self.now in
-    let new : MemberState = record {
-      name = i.name;
-      link = i.link;
-      place = i.place;
-      state = c.turn.new.state;
-      reader = i.reader;
-    } in
+    let new : MemberState = record (seen i) { state = c.turn.new.state } in
     let like = turned_like _ old c.turn.new.state c.self.view_is c.turn.ensures.setup in
     let is = step_like _ old (call.End Main) c.in-Ok.field-0 new.state.past c.self.view_is
     c.in-Ok.ensures.step in

@@ -11,6 +11,7 @@ use Rattle.server_links.specs.Outcome.{Gives}
 use Rattle.server_links.proofs.Items.{Reads, ends_bad, ends_more, read_all, reads_none, reads_short}
 use Rattle.world_run.specs.Members.{Seat, seat}
 use Rattle.world_run.specs.WorldState.{MemberState}
+use Rattle.world_run.proofs.Answering.{seen}
 use Rattle.world_run.proofs.Received.{got_reader, reads_less, reads_more, reads_stop, values}
 use Rattle.world_run.proofs.Received.{values_run}
 use Rattle.world_run.proofs.member.Member.got_all.Goals as goal
@@ -33,13 +34,8 @@ values-smaller c =
     let ls = c.args.links.now in
     let g = value_gives_at _ _ _ _ c.in-Ok-Some.ensures.gives c.in-Ok-Some.field-0-is in
     let kept = ap (λ (s : Seat). s.member.reader) c.in_ok-got-in-Ok-Some.ensures.1
-    ∙ got_reader c.in-Ok-Some.value (seat ls (record {
-      name = i.name;
-      link = i.link;
-      place = i.place;
-      state = i.state;
-      reader = c.next_value.new.self;
-    })) in
+    ∙ got_reader c.in-Ok-Some.value
+    (seat ls (record (seen i) { reader = c.next_value.new.self })) in
     let old = ap (λ (m : MemberState). m.reader) c.self.view_is in
     subst (λ (r : Stream). length r.rest < length c.values.self.reader.rest) (sym kept)
     (subst (λ (r : Stream). length c.next_value.new.self.rest < length r.rest) old
@@ -51,13 +47,8 @@ values-preserved c =
     let ls = c.args.links.now in
     let g = value_gives_at _ _ _ _ c.in-Ok-Some.ensures.gives c.in-Ok-Some.field-0-is in
     let kept = ap (λ (s : Seat). s.member.reader) c.in_ok-got-in-Ok-Some.ensures.1
-    ∙ got_reader c.in-Ok-Some.value (seat ls (record {
-      name = i.name;
-      link = i.link;
-      place = i.place;
-      state = i.state;
-      reader = c.next_value.new.self;
-    })) in
+    ∙ got_reader c.in-Ok-Some.value
+    (seat ls (record (seen i) { reader = c.next_value.new.self })) in
     let h = inside _ _ _ _ _ _ c.self.view_is c.values.invariant in
     reads_more _ _ _ _ h c.in-Ok-Some.value c.next_value.new.self g.0 g.1 (seat ls c.got.new.self)
     c.got.new.lines kept c.in_ok-got-in-Ok-Some.ensures
@@ -88,13 +79,7 @@ returns-in-Err-clause-gives c =
     let ls = c.args.links.now in
     let s0 = seat ls c.args.self.now in
     let h = inside _ _ _ _ _ _ c.self.view_is c.values.invariant in
-    let t = seat ls (record {
-      name = i.name;
-      link = i.link;
-      place = i.place;
-      state = i.state;
-      reader = c.next_value.new.self;
-    }) in
+    let t = seat ls (record (seen i) { reader = c.next_value.new.self }) in
     elim c.match-place.branch [
       | in-Some w ↦
           subst (λ r. Gives (read_all values s0) c.args.lines.now r t c.values.lines)

@@ -3,19 +3,14 @@ use Rattle.server_links.specs.LinkEvent.{Over}
 use Rattle.server_links.specs.Outcome.{Gives}
 use Rattle.world_run.specs.Members.{links_do, seat}
 use Rattle.world_run.specs.WorldState.{MemberState}
+use Rattle.world_run.proofs.Answering.{seen}
 use Rattle.world_run.proofs.Linked.{links_give, over_kept}
 use Rattle.world_run.proofs.member.Member.over.Goals as goal
 
 pub returns-clause-gives : goal.returns-clause-gives
 returns-clause-gives c =
     let i = c.self.inside in
-    let m : MemberState = record {
-      name = i.name;
-      link = i.link;
-      place = i.place;
-      state = i.state;
-      reader = i.reader;
-    } in
+    let m = seen i in
     subst (λ (m : MemberState). Gives (links_do (Over m.link c.args.movement)
     (seat c.args.links.now m)) c.args.lines.now
     c.play.result (seat c.play.new.self m) c.play.new.lines)

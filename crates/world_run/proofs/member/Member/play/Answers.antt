@@ -11,7 +11,7 @@ use Rattle.world_run.specs.ClientMoves.{turn}
 use Rattle.world_run.specs.Members.{seat}
 use Rattle.world_run.specs.WorldState.{MemberState}
 use Rattle.world_run.specs.MemberTurns.{Turned}
-use Rattle.world_run.proofs.Answering.{gots_kept, step_like, turn_before, turn_stops}
+use Rattle.world_run.proofs.Answering.{gots_kept, seen, step_like, turn_before, turn_stops}
 use Rattle.world_run.proofs.Answering.{turned_like}
 use Rattle.world_run.proofs.member.Member.play.Goals as goal
 use Rattle.world_run.proofs.member.Member.play.Goals.{In_ok-reply}
@@ -19,13 +19,8 @@ use Rattle.world_run.proofs.member.Member.play.Goals.{In_ok-reply}
 pub returns-in_err-reply : goal.returns-in_err-reply
 returns-in_err-reply c =
     let i = c.self.inside in
-    let same = ap (λ (x : Client). record {
-      name = i.name;
-      link = i.link;
-      place = i.place;
-      state = x;
-      reader = i.reader;
-    }) c.in_err-reply.ensures.err ∙ c.self.view_is in
+    let same = ap (λ (x : Client). record (seen i) { state = x })
+    c.in_err-reply.ensures.err ∙ c.self.view_is in
     let p = err_from_is_err_and c.from_residual.result c.from_residual.ensures.1 in
     rw p.1 (rw p.2 (λ links lines.
     subst (λ (m : MemberState). Stops (turn c.args.call (seat links c.args.self.now)) lines NoMemory
@@ -49,13 +44,7 @@ pub returns-in-Some : goal.returns-in-Some
 returns-in-Some c =
     let i = c.self.inside in
     let old = c.args.self.now in
-    let new : MemberState = record {
-      name = i.name;
-      link = i.link;
-      place = i.place;
-      state = c.turn.new.state;
-      reader = i.reader;
-    } in
+    let new : MemberState = record (seen i) { state = c.turn.new.state } in
     let like : Turned old new =
     turned_like _ old c.turn.new.state c.self.view_is c.turn.ensures.setup in
     let is = step_like _ old c.args.call c.in_ok-reply.reply new.state.past c.self.view_is

@@ -10,6 +10,7 @@ use Rattle.server_links.proofs.Outcomes.{after_stops, gives_then, stops_first, s
 use Rattle.world_run.specs.ClientMoves.{feed, hang_up, read_values, receive_bytes}
 use Rattle.world_run.specs.Members.{Seat, link_of, links_do, seat, with_reader}
 use Rattle.world_run.specs.WorldState.{MemberState}
+use Rattle.world_run.proofs.Answering.{seen}
 use Rattle.world_run.proofs.member.Member.receive_bytes.Goals as goal
 use Rattle.world_run.proofs.member.Member.receive_bytes.Goals.{In_ok-feed}
 
@@ -47,13 +48,8 @@ returns-in_err-feed-clause-gives c =
     let s1 = seat c.over.new.links c.args.self.now in
     let recv = Over s.member.link (moves.Recv (Some c.args.count)) in
     let piece = take c.args.count (link_of s).down.bytes in
-    let same = ap (λ (r : Stream). record {
-      name = i.name;
-      link = i.link;
-      place = i.place;
-      state = i.state;
-      reader = r;
-    }) c.in_err-feed.ensures.err ∙ c.self.view_is in
+    let same = ap (λ (r : Stream). record (seen i) { reader = r })
+    c.in_err-feed.ensures.err ∙ c.self.view_is in
     let p = err_from_is_err_and c.from_residual-in_err-feed.result
     c.from_residual-in_err-feed.ensures.1 in
     rw p.1 (rw p.2

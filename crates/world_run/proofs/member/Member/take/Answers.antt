@@ -15,22 +15,16 @@ use Rattle.world_run.specs.ClientMoves.{turn}
 use Rattle.world_run.specs.Members.{seat}
 use Rattle.world_run.specs.MemberTurns.{TurnGives}
 use Rattle.world_run.specs.WorldState.{MemberState}
-use Rattle.world_run.proofs.Answering.{got_more, got_other, got_past, got_same, gots_within}
-use Rattle.world_run.proofs.Answering.{step_like}
-use Rattle.world_run.proofs.Answering.{turn_before, turn_stops, turned_like}
+use Rattle.world_run.proofs.Answering.{got_more, got_other, got_past, got_same, gots_within, seen}
+use Rattle.world_run.proofs.Answering.{step_like, turn_before, turn_stops, turned_like}
 use Rattle.world_run.proofs.member.Member.take.Goals as goal
 use Rattle.world_run.proofs.member.Member.take.Goals.{in-Some, in-None}
 
 pub returns-in_err-turn : goal.returns-in_err-turn
 returns-in_err-turn c =
     let i = c.self.inside in
-    let same = ap (λ (x : Client). record {
-      name = i.name;
-      link = i.link;
-      place = i.place;
-      state = x;
-      reader = i.reader;
-    }) c.in_err-turn.ensures.err ∙ c.self.view_is in
+    let same = ap (λ (x : Client). record (seen i) { state = x })
+    c.in_err-turn.ensures.err ∙ c.self.view_is in
     let p = err_from_is_err_and c.from_residual.result c.from_residual.ensures.1 in
     rw p.1 (rw p.2 (λ links lines.
     subst (λ (m : MemberState). Stops (turn (call.Got Main c.args.value) (seat links
@@ -66,13 +60,7 @@ pub returns-after-refused_fault : goal.returns-after-refused_fault
 returns-after-refused_fault c =
     let i = c.self.inside in
     let old = c.args.self.now in
-    let new : MemberState = record {
-      name = i.name;
-      link = i.link;
-      place = i.place;
-      state = c.turn.new.state;
-      reader = i.reader;
-    } in
+    let new : MemberState = record (seen i) { state = c.turn.new.state } in
     let v = c.args.value in
     let reply = Refused c.in-Refused.refusal in
     let like = turned_like _ old c.turn.new.state c.self.view_is c.turn.ensures.setup in
