@@ -1,6 +1,4 @@
 pub mod Steps
-pub mod Faults
-pub mod Reading
 pub mod Turning
 pub mod Delivering
 pub mod Getting

@@ -1,8 +1,7 @@
 -- A link is pumped round by round: what is queued is written, the link is read, and the values are
 -- got.
-use Rattle.std.proofs.Common.{◌≡◌, ◌≤◌, ℕ, List, [], ◌∷◌, ◌++◌, length, true, false}
-use Rattle.std.proofs.Common.{refl, sym, ap, subst, ◌∙◌, arith, append_assoc}
-use Rattle.std.proofs.Common.{append-nil, inl, inr}
+use Rattle.std.proofs.Common.{◌≡◌, ◌≤◌, ℕ, List, [], ◌∷◌, ◌++◌, length, true, false, refl, sym, ap}
+use Rattle.std.proofs.Common.{subst, ◌∙◌, arith, append_assoc, append-nil, inl, inr}
 use Rattle.std.specs.Prelude.{Option, ◌⊎◌}
 use Rattle.std.specs.List.{All}
 use Rattle.std.specs.Io.KnownBytes.{Appends, Consumes, Keeps}
@@ -16,6 +15,7 @@ use Rattle.edge_links.proofs.Bytes.{appends_none, appends_more, appends_as, appe
 use Rattle.edge_links.proofs.Bytes.{consumes_none, consumes_more, consumes_kept}
 use Rattle.seat_turns.specs.Own.{past_of, IsWithin, Grows}
 use Rattle.seat_turns.proofs.Growing.{grows_none, grows_then, grows_past, grows_stands}
+use Rattle.seat_turns.proofs.Growing.{order_append}
 use Rattle.shared_cache.specs.declared.log.Wire.TheVariants.{Main}
 use Rattle.shared_cache.specs.declared.log.LogEntry.TheVariants as entry
 use Rattle.shared_cache.specs.declared.log.ClientRefusal.{ClientRefusal}
@@ -26,16 +26,14 @@ use Rattle.shared_cache.specs.Steps.{is_log_full}
 use Rattle.shared_client.specs.Turns.{Place, Turn, setup_in, setup_at, Ends, WornOut}
 use Rattle.client_link.specs.declared.pump_end.PumpEnd.{PumpEnd}
 use Rattle.client_link.specs.declared.pump_end.PumpEnd.TheVariants as ended
-use Rattle.client_link.specs.Pumps.{IsWork, gots_in, gave, EndsByValue, EndCounts}
-use Rattle.client_link.specs.Pumps.{IsStop, Delivers, DeliversPart, GetsAll}
-use Rattle.client_link.specs.Pumps.{GetsPart}
-use Rattle.client_link.specs.Pumps.{GettingStops, Hears, Idle, Piece, HearsPart, Nothing, Part}
-use Rattle.client_link.specs.Pumps.{IsOfLink, IsWhole, FaultIs, Work, Stops, Runs, IsEnd, IsOver}
-use Rattle.client_link.specs.Pumps.{Finishes, Pumps, is_known, Closes, Kept, Ended, NoTicket}
-use Rattle.resp_stream.proofs.Onward.{no_values}
-use Rattle.client_link.proofs.Reading.{ReadsOn, reads_begun, reads_further}
+use Rattle.client_link.specs.Pumps.{IsWork, got_in, gots_in, gave, gave_in, EndsByValue, EndCounts}
+use Rattle.client_link.specs.Pumps.{IsStop, Delivers, DeliversPart, GetsAll, GetsPart, GettingStops}
+use Rattle.client_link.specs.Pumps.{Hears, Idle, Piece, HearsPart, Nothing, Part, IsOfLink, IsWhole}
+use Rattle.client_link.specs.Pumps.{FaultIs, Work, Stops, Runs, IsEnd, IsOver, Finishes, Pumps}
+use Rattle.client_link.specs.Pumps.{is_known, Closes, Kept, Ended, NoTicket}
+use Rattle.resp_stream.proofs.Onward.{GoesOn, goes_further, no_values, values_begun, values_join}
 use Rattle.client_link.proofs.Steps.{out_begins, taken_begins, full_begins, ended_begins, end_over}
-use Rattle.client_link.proofs.Turning.{gots_append, gave_append, taken_more, all_taken}
+use Rattle.client_link.proofs.Turning.{taken_more, all_taken}
 
 -- all that was read was got, and all that was taken out was written
 pub record Pumping (r : Stream) (left0 left1 link0 link1 : Option (List ℕ)) (old new : Place)
@@ -45,7 +43,7 @@ pub record Pumping (r : Stream) (left0 left1 link0 link1 : Option (List ℕ)) (o
   pub work : All IsWork turns
   pub heard : List ℕ
   pub read : Consumes left0 left1 heard
-  pub reading : ReadsOn heard r
+  pub reading : GoesOn parse_values heard r
   pub gots : gots_in turns ≡ values_of heard
   pub wrote : Appends link0 link1 (gave (setup_at old) turns)
 
@@ -57,7 +55,7 @@ pumping_none r left link k new is = record {
   work = All-nil IsWork;
   heard = [];
   read = consumes_none left;
-  reading = subst (ReadsOn []) (sym new) reads_begun;
+  reading = subst (GoesOn parse_values []) (sym new) values_begun;
   gots = sym no_values;
   wrote = appends_none link;
 }
@@ -76,12 +74,12 @@ module _ (r : Stream) (left0 left1 link0 link1 : Option (List ℕ)) (old new : P
   module _ (left2 link2 : Option (List ℕ)) (kept : Keeps left1 left2) (last : Place) where
     module _ (ts : List Turn) (none : gots_in ts ≡ []) where
       same_gots : gots_in (ts ++ p.turns) ≡ values_of p.heard
-      same_gots = gots_append ts p.turns ∙ ap (λ z. gots_in p.turns ++ z) none
+      same_gots = order_append got_in ts p.turns ∙ ap (λ z. gots_in p.turns ++ z) none
           ∙ append-nil (gots_in p.turns) ∙ p.gots
 
       more_gave : gave (setup_at old) (ts ++ p.turns)
           ≡ gave (setup_at old) p.turns ++ gave (setup_at new) ts
-      more_gave = gave_append (setup_at old) ts p.turns
+      more_gave = order_append (gave_in (setup_at old)) ts p.turns
           ∙ ap (λ s. gave (setup_at old) p.turns ++ gave s ts) (sym setup_same)
 
     pub delivered : Delivers link1 link2 new last → Pumping r left0 left2 link0 link2 old last
@@ -177,7 +175,7 @@ module _ (r : Stream) (left0 left1 link0 link1 : Option (List ℕ)) (old new : P
     gave_more : (ts : List Turn) → gave (setup_at new) ts ≡ []
         → gave (setup_at old) (ts ++ p.turns) ≡ gave (setup_at old) p.turns
     gave_more ts none =
-        gave_append (setup_at old) ts p.turns
+        order_append (gave_in (setup_at old)) ts p.turns
         ∙ ap (λ z. gave (setup_at old) p.turns ++ z)
         (ap (λ s. gave s ts) (sym setup_same) ∙ none)
         ∙ append-nil (gave (setup_at old) p.turns)
@@ -190,9 +188,9 @@ module _ (r : Stream) (left0 left1 link0 link1 : Option (List ℕ)) (old new : P
       work = All-append IsWork g.turns p.turns g.work p.work;
       heard = p.heard ++ piece;
       read = consumes_more left0 left1 left2 p.heard piece p.read took;
-      reading = subst (ReadsOn (p.heard ++ piece)) (sym g.reader)
-          (reads_further p.heard piece r p.reading g.fault);
-      gots = gots_append g.turns p.turns
+      reading = subst (GoesOn parse_values (p.heard ++ piece)) (sym g.reader)
+          (goes_further parse_values p.heard piece r values_join p.reading g.fault);
+      gots = order_append got_in g.turns p.turns
           ∙ ap (λ z. z ++ gots_in g.turns) p.gots
           ∙ ap (λ z. values_of p.heard ++ z) g.gots ∙ sym (p.reading.further piece);
       wrote = appends_as link0 link2 _ _ (sym (gave_more g.turns g.gave_none))
@@ -272,7 +270,7 @@ module _ (r : Stream) (left0 left1 link0 link1 : Option (List ℕ)) (old new : P
       part_gots : gots_in (g.ending ++ (g.turns ++ p.turns))
           ≡ values_of p.heard ++ gots_in (g.ending ++ g.turns)
       part_gots = ap gots_in (sym (append_assoc g.ending g.turns p.turns))
-          ∙ gots_append (g.ending ++ g.turns) p.turns
+          ∙ order_append got_in (g.ending ++ g.turns) p.turns
           ∙ ap (λ z. z ++ gots_in (g.ending ++ g.turns)) p.gots
 
       whole_got : (c : PumpEnd) → GettingStops c (fed r piece) g.ending g.turns (setup_at new) last
@@ -339,7 +337,7 @@ module _ (r : Stream) (left0 left1 link0 link1 : Option (List ℕ)) (old new : P
             [],
             append-nil (gave (setup_at old) p.turns) ∙ sym (gave_more g.turns g.gave_none),
           );
-          all_got = λ w. gots_append g.turns p.turns
+          all_got = λ w. order_append got_in g.turns p.turns
               ∙ ap (λ z. z ++ gots_in g.turns) p.gots
               ∙ ap (λ z. values_of p.heard ++ z) (whole_got cause g.stops w)
               ∙ sym (p.reading.further piece);

@@ -1,6 +1,6 @@
--- What the turns of a pump got and gave, one list after another.
-use Rattle.std.proofs.Common.{◌≡◌, ◌≤◌, ℕ, List, [], ◌∷◌, ◌++◌, length, sym, ap}
-use Rattle.std.proofs.Common.{◌∙◌, append_assoc, append-nil, arith}
+-- What was queued, and taken, by the turns of a pump.
+use Rattle.std.proofs.Common.{◌≡◌, ◌≤◌, ℕ, List, [], ◌∷◌, ◌++◌, length, sym, ap, ◌∙◌, append_assoc}
+use Rattle.std.proofs.Common.{append-nil, arith}
 use Rattle.std.specs.List.{All}
 use Rattle.turn_lock.specs.History.{IsPrefix as IsBefore}
 use Rattle.shared_cache.specs.declared.log.Wire.TheVariants.{Main}
@@ -11,18 +11,6 @@ use Rattle.shared_cache.specs.Out.{out}
 use Rattle.shared_client.specs.Turns.{Turn}
 use Rattle.client_link.specs.Pumps.{got_in, gots_in, gave_in, gave, IsTaken}
 use Rattle.client_link.proofs.Steps.{out_begins}
-
-pub gots_append : (xs ys : List Turn) → gots_in (xs ++ ys) ≡ gots_in ys ++ gots_in xs
-gots_append [] ys = sym (append-nil (gots_in ys))
-gots_append (x ∷ xs) ys =
-    ap (λ z. z ++ got_in x) (gots_append xs ys)
-    ∙ append_assoc (gots_in ys) (gots_in xs) (got_in x)
-
-pub gave_append : (s : Setup) (xs ys : List Turn) → gave s (xs ++ ys) ≡ gave s ys ++ gave s xs
-gave_append s [] ys = sym (append-nil (gave s ys))
-gave_append s (x ∷ xs) ys =
-    ap (λ z. z ++ gave_in s x) (gave_append s xs ys)
-    ∙ append_assoc (gave s ys) (gave s xs) (gave_in s x)
 
 module _ (s : Setup) where
   taken_one : (a b : ℕ) (t : Turn) → a ≤ b → IsTaken s a t → IsTaken s b t

@@ -5,6 +5,7 @@ use Rattle.std.specs.List.{All}
 use Rattle.std.specs.Io.KnownBytes.{Appends, Consumes}
 use Rattle.turn_lock.specs.declared.rule.TheConstants.{LAST_TICKET}
 use Rattle.seat_turns.specs.Own.{past_of, Grows}
+use Rattle.seat_turns.specs.Turns.{in_order}
 use Rattle.resp_value.specs.Lists.{IsPrefix}
 use Rattle.resp_value.specs.Tree.{Tree}
 use Rattle.resp_value.specs.ValueTree.{tree_of}
@@ -61,8 +62,7 @@ got_in (entry.End w, past) = []
 
 -- the values got, in order
 abbrev pub gots_in : List Turn → List Tree
-gots_in [] = []
-gots_in (t ∷ ts) = gots_in ts ++ got_in t
+gots_in turns = in_order got_in turns
 
 abbrev pub gave_in : Setup → Turn → List ℕ
 gave_in s (entry.TakeOut w n, past) = take n (untaken s w past)
@@ -75,8 +75,7 @@ gave_in s (entry.End w, past) = []
 
 -- the bytes that the TakeOuts gave, in order
 abbrev pub gave : Setup → List Turn → List ℕ
-gave s [] = []
-gave s (t ∷ ts) = gave s ts ++ gave_in s t
+gave s turns = in_order (gave_in s) turns
 
 -- where the turn is a Got: of all that was queued up to and with it, no byte is behind those that
 -- were taken

@@ -1,9 +1,7 @@
 -- What waits for a connection is taken and written, Take after Take.
 use Rattle.std.proofs.Common.{◌≡◌, ◌≤◌, ◌<◌, ◌+◌, ◌-◌, ℕ, List, [], ◌∷◌, ◌++◌, length, take, drop}
-use Rattle.std.proofs.Common.{append_assoc, min}
-use Rattle.std.proofs.Common.{true, false, cond, refl, sym, ap, subst, ◌∙◌, arith, append-nil, inl}
-use Rattle.std.proofs.Common.{inr}
-use Rattle.std.proofs.Common.{eq-eqb}
+use Rattle.std.proofs.Common.{append_assoc, min, true, false, cond, refl, sym, ap, subst, ◌∙◌}
+use Rattle.std.proofs.Common.{arith, append-nil, inl, inr, eq-eqb}
 use Rattle.std.specs.Prelude.{Option, Some, None, ◌==◌}
 use Rattle.std.specs.List.{All}
 use Rattle.std.specs.Io.KnownBytes.{Appends}
@@ -21,15 +19,14 @@ use Rattle.shared_book.specs.Turns.{Place, Turn, Gives, Rests, Refuses, Takes, l
 use Rattle.shared_book.specs.Turns.{most}
 use Rattle.shared_book.specs.declared.turns.Refusal.{Refusal}
 use Rattle.shared_book.specs.declared.turns.Refusal.TheVariants as refusal
-use Rattle.seat_turns.proofs.Growing.{grows_none, grows_then, grows_past}
+use Rattle.seat_turns.proofs.Growing.{grows_none, grows_then, grows_past, order_append}
 use Rattle.shared_book.proofs.Histories.{begins_lift, admitted_more, stream_begins}
 use Rattle.conn_worker.specs.declared.report.Ended.TheVariants as ended
 use Rattle.conn_worker.specs.declared.report.Ended.{Ended}
 use Rattle.conn_worker.specs.Visits.{IsWork, IsEnd, ended_by, runs_in, gave, Delivers, DeliversPart}
-use Rattle.conn_worker.specs.Visits.{Begins}
+use Rattle.conn_worker.specs.Visits.{Begins, gave_in, run_in}
 use Rattle.conn_worker.specs.declared.deliver.Front.TheVariants.{Taken}
 use Rattle.edge_links.proofs.Bytes.{appends_none, appends_more, appends_as}
-use Rattle.conn_worker.proofs.Turning.{runs_append, gave_append}
 
 -- what was taken and written so far
 pub record Delivering (id : ℕ) (link0 link1 : Option (List ℕ)) (old new : Place) : Type 0 where
@@ -222,12 +219,12 @@ module _ (id : ℕ) (link0 link1 link2 : Option (List ℕ)) (old mid new : Place
   both_gave : (ts : List Turn) → gave (limits_of old) (ts ++ d.turns)
       ≡ gave (limits_of old) d.turns ++ gave (limits_of mid) ts
   both_gave ts =
-      gave_append (limits_of old) ts d.turns
+      order_append (gave_in (limits_of old)) ts d.turns
       ∙ ap (λ l. gave (limits_of old) d.turns ++ gave l ts) (sym mid_limits)
 
   both_run : (ts : List Turn) → runs_in ts ≡ [] → runs_in (ts ++ d.turns) ≡ []
   both_run ts none =
-      runs_append ts d.turns ∙ ap (λ z. runs_in d.turns ++ z) none
+      order_append run_in ts d.turns ∙ ap (λ z. runs_in d.turns ++ z) none
       ∙ append-nil (runs_in d.turns) ∙ d.runs_none
 
   pub delivers_then : Delivers id link1 link2 mid new → Delivers id link0 link2 old new

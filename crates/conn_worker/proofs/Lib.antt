@@ -1,5 +1,3 @@
-mod Faults
-mod Reading
 mod Turning
 mod Running
 mod Ticking

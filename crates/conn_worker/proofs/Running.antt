@@ -1,7 +1,6 @@
 -- The requests that a connection has read are read as calls, and run.
-use Rattle.std.proofs.Common.{◌≡◌, ◌<◌, ℕ, List, [], ◌∷◌, ◌++◌, length, max}
-use Rattle.std.proofs.Common.{Some, None, refl, sym, ap, subst, ◌∙◌, arith, append_assoc, take}
-use Rattle.std.proofs.Common.{append-nil, drop, Ok}
+use Rattle.std.proofs.Common.{◌≡◌, ◌<◌, ℕ, List, [], ◌∷◌, ◌++◌, length, max, Some, None, refl, sym}
+use Rattle.std.proofs.Common.{ap, subst, ◌∙◌, arith, append_assoc, take, append-nil, drop, Ok}
 use Rattle.std.specs.Prelude.{Option, IfSome}
 use Rattle.std.specs.List.{All}
 use Rattle.std.proofs.lemmas.List.{take-append-drop, length-take-le}
@@ -19,8 +18,7 @@ use Rattle.resp_stream.proofs.Parse.{parse_whole, parse_more, parse_bad, shorter
 use Rattle.serial_model.specs.declared.history.Entry.{Entry}
 use Rattle.serial_model.specs.declared.history.Entry.TheVariants as entry
 use Rattle.serial_model.specs.declared.history.BookCall.{BookCall}
-use Rattle.serial_model.specs.declared.history.BookCall.TheVariants.{Admit, Run, Tick, Take}
-use Rattle.serial_model.specs.declared.history.BookCall.TheVariants.{Close}
+use Rattle.serial_model.specs.declared.history.BookCall.TheVariants.{Admit, Run, Tick, Take, Close}
 use Rattle.serial_model.specs.History.{latest}
 use Rattle.seat_turns.specs.Own.{IsWithin, Grows}
 use Rattle.shared_book.specs.Turns.{Place, Turn, IsCause, limits_in, limits_of}
@@ -28,12 +26,11 @@ use Rattle.shared_book.specs.Batches.{IsRunAt, requests_in, RunsEach, RunsAndTak
 use Rattle.resp_value.specs.declared.octets.Octets.{Octets}
 use Rattle.shared_book.specs.declared.turns.Refusal.{Refusal}
 use Rattle.shared_book.specs.declared.turns.Refusal.TheVariants as refusal
-use Rattle.seat_turns.proofs.Growing.{grows_none, grows_then}
+use Rattle.seat_turns.proofs.Growing.{grows_none, grows_then, order_append}
 use Rattle.conn_worker.specs.declared.report.Ended.TheVariants.{NoMemory}
 use Rattle.conn_worker.specs.declared.connection.Connection.{Connection}
 use Rattle.conn_worker.specs.Visits.{IsWork, IsEnd, runs_in, gave, ended_by, ReadsAll, RunsPart}
-use Rattle.conn_worker.specs.Visits.{HearsAll}
-use Rattle.conn_worker.proofs.Turning.{runs_append, gave_append}
+use Rattle.conn_worker.specs.Visits.{HearsAll, gave_in, run_in}
 
 -- what was read so far, and what is left of it
 pub record Reading (before now : Connection) (calls : List BookCall) : Type 0 where
@@ -181,9 +178,9 @@ each_ran clock id now is (w ∷ ws) old new (mid, run, rest) =
       work = All-append (IsWork id clock) r.turns (t ∷ []) r.work
           (All-cons (IsWork id clock) t [] (refl, at_clock clock now run.past is)
           (All-nil (IsWork id clock)));
-      gave_none = gave_append (limits_of old) r.turns (t ∷ [])
+      gave_none = order_append (gave_in (limits_of old)) r.turns (t ∷ [])
           ∙ ap (λ l. gave l r.turns) (sym (ap limits_in run.grows.setup)) ∙ r.gave_none;
-      runs = runs_append r.turns (t ∷ []) ∙ ap (λ z. w ∷ z) r.runs;
+      runs = order_append run_in r.turns (t ∷ []) ∙ ap (λ z. w ∷ z) r.runs;
     }
 
 -- what was read of `before`, as these calls, was run so far

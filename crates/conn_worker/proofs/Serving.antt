@@ -1,9 +1,8 @@
 -- A connection is served round by round: its link is read, its requests run, and what waits for it
 -- is written.
-use Rattle.std.proofs.Common.{◌≡◌, ◌≤◌, ℕ, List, [], ◌∷◌, ◌++◌, length, true}
-use Rattle.std.proofs.Common.{Some, None, refl, sym, ap, subst, ◌∙◌, arith, append_assoc}
-use Rattle.std.proofs.Common.{append-nil}
-use Rattle.std.proofs.Common.{length-append, inl, inr}
+use Rattle.std.proofs.Common.{◌≡◌, ◌≤◌, ℕ, List, [], ◌∷◌, ◌++◌, length, true, Some, None, refl, sym}
+use Rattle.std.proofs.Common.{ap, subst, ◌∙◌, arith, append_assoc, append-nil, length-append, inl}
+use Rattle.std.proofs.Common.{inr}
 use Rattle.std.specs.Prelude.{Option, Err, ◌⊎◌}
 use Rattle.std.specs.List.{All}
 use Rattle.std.specs.Io.KnownBytes.{Appends, Consumes, Keeps}
@@ -13,9 +12,9 @@ use Rattle.resp_stream.specs.Parse.{parse, requests_of}
 use Rattle.resp_stream.specs.Stream.{begun, fed}
 use Rattle.serial_model.specs.History.{is_admitted, stream, taken}
 use Rattle.seat_turns.specs.Own.{past_of, IsWithin, Grows}
-use Rattle.shared_book.specs.Turns.{Place, Turn, limits_in, limits_of}
+use Rattle.shared_book.specs.Turns.{Place, Turn, limits_in, limits_of, Admits, Takes}
 use Rattle.seat_turns.proofs.Growing.{grows_none, grows_then, grows_past, grows_stands}
-use Rattle.shared_book.specs.Turns.{Admits, Takes}
+use Rattle.seat_turns.proofs.Growing.{order_append}
 use Rattle.serial_model.specs.declared.history.Entry.TheVariants.{Admit}
 use Rattle.shared_book.proofs.Histories.{begins_lift, admitted_more, admitted_now}
 use Rattle.edge_links.specs.declared.counts.Counts.{Counts}
@@ -25,9 +24,9 @@ use Rattle.conn_worker.specs.declared.report.Ended.TheVariants as ended
 use Rattle.conn_worker.specs.declared.connection.Connection.{Connection}
 use Rattle.conn_worker.specs.Visits.{IsWork, IsEnd, IsTaken, IsWhole, IsOfLink, IsShown, fault_in}
 use Rattle.conn_worker.specs.Visits.{runs_in, gave, fed_connection, RunsAll, RunsPart, Delivers}
-use Rattle.conn_worker.specs.Visits.{DeliversPart, EndCounts, Hears, HearsPart, Works}
-use Rattle.conn_worker.specs.Visits.{Idle, Piece, Nothing, Worn, Part, fault_of, front_of}
-use Rattle.conn_worker.specs.Visits.{Begins, HearsAll, DeliveryCounts}
+use Rattle.conn_worker.specs.Visits.{DeliversPart, EndCounts, Hears, HearsPart, Works, Idle, Piece}
+use Rattle.conn_worker.specs.Visits.{Nothing, Worn, Part, fault_of, front_of, Begins, HearsAll}
+use Rattle.conn_worker.specs.Visits.{DeliveryCounts, gave_in, run_in}
 use Rattle.resp_value.specs.declared.octets.Octets.{Octets}
 use Rattle.conn_worker.specs.declared.connection.Behind.{Behind}
 use Rattle.conn_worker.specs.declared.deliver.Front.{Front}
@@ -35,9 +34,9 @@ use Rattle.conn_worker.specs.declared.deliver.Front.TheVariants as front
 use Rattle.conn_worker.specs.declared.serve.Heard.{Heard}
 use Rattle.edge_links.proofs.Bytes.{appends_none, appends_more, appends_as, appends_kept}
 use Rattle.edge_links.proofs.Bytes.{consumes_none, consumes_more, consumes_kept}
-use Rattle.conn_worker.proofs.Reading.{ReadsOn, reads_begun, reads_further}
-use Rattle.resp_stream.proofs.Onward.{no_requests}
-use Rattle.conn_worker.proofs.Turning.{runs_append, gave_append, all_taken, no_runs}
+use Rattle.resp_stream.proofs.Onward.{GoesOn, goes_further, no_requests, requests_begun}
+use Rattle.resp_stream.proofs.Onward.{requests_join}
+use Rattle.conn_worker.proofs.Turning.{all_taken, no_runs}
 use Rattle.conn_worker.proofs.Ticking.{Passes, idles_pass, idles_faultless, idles_untaken}
 
 -- all that was read ran, and all that this gave was written
@@ -51,7 +50,7 @@ pub record Serving (clock : Option ℕ) (id : ℕ) (c : Connection)
   pub fits : c.requests ≤ length new.seen
   pub heard : List ℕ
   pub read : Consumes left0 left1 heard
-  pub reading : ReadsOn heard c.reader
+  pub reading : GoesOn parse heard c.reader
   pub runs : runs_in turns ≡ requests_of heard
   pub wrote : Appends link0 link1 (gave (limits_of old) turns)
   pub was_taken : All (IsTaken (limits_of old) id (taken (limits_of old) id (past_of new))) turns
@@ -68,7 +67,7 @@ pub record Waiting (clock : Option ℕ) (id : ℕ) (fault : Option StreamFault) 
   pub fits : c.requests ≤ length new.seen
   pub heard : List ℕ
   pub read : Consumes left0 left1 heard
-  pub reading : fault ≡ None → ReadsOn heard c.reader
+  pub reading : fault ≡ None → GoesOn parse heard c.reader
   pub met : (f : StreamFault) → fault ≡ Some f → fault_in heard ≡ Some f
   pub runs : runs_in turns ≡ requests_of heard
   pub wrote : Appends link0 link1 (gave (limits_of old) turns)
@@ -99,7 +98,8 @@ serving_none clock c left link k new is on =
       fits = omega (arith, requests);
       heard = [];
       read = consumes_none left;
-      reading = subst (ReadsOn []) (sym (ap (λ (x : Connection). x.reader) new)) reads_begun;
+      reading = subst (GoesOn parse []) (sym (ap (λ (x : Connection). x.reader) new))
+          requests_begun;
       runs = sym no_requests;
       wrote = appends_none link;
       was_taken = All-nil (IsTaken (limits_of k) c.id (taken (limits_of k) c.id (past_of k)));
@@ -143,7 +143,7 @@ module _ (clock : Option ℕ) (id : ℕ) (c : Connection) (left0 left1 link0 lin
   gave_more : (ts : List Turn) → gave (limits_of new) ts ≡ []
       → gave (limits_of old) (ts ++ s.turns) ≡ gave (limits_of old) s.turns
   gave_more ts none =
-      gave_append (limits_of old) ts s.turns
+      order_append (gave_in (limits_of old)) ts s.turns
       ∙ ap (λ z. gave (limits_of old) s.turns ++ z)
       (ap (λ l. gave l ts) (sym limits_same) ∙ none)
       ∙ append-nil (gave (limits_of old) s.turns)
@@ -160,7 +160,7 @@ module _ (clock : Option ℕ) (id : ℕ) (c : Connection) (left0 left1 link0 lin
       → Waiting clock id fault after left0 left2 link0 link2 old last
   piece_waits piece fault after last left2 link2 took kept r =
       let p = parse (fed c.reader piece) in
-      let long = ap length (runs_append r.turns s.turns) in
+      let long = ap length (order_append run_in r.turns s.turns) in
       let both = length-append (runs_in s.turns) (runs_in r.turns) in
       let all : requests_of (s.heard ++ piece) ≡ requests_of s.heard ++ p.items
       = s.reading.further piece in
@@ -175,10 +175,11 @@ module _ (clock : Option ℕ) (id : ℕ) (c : Connection) (left0 left1 link0 lin
         heard = s.heard ++ piece;
         read = consumes_more left0 left1 left2 s.heard piece s.read took;
         reading = λ none.
-            subst (ReadsOn (s.heard ++ piece)) (sym (r.reader none))
-            (reads_further s.heard piece c.reader s.reading (sym r.fault_is ∙ none));
+            subst (GoesOn parse (s.heard ++ piece)) (sym (r.reader none))
+            (goes_further parse s.heard piece c.reader requests_join s.reading
+            (sym r.fault_is ∙ none));
         met = λ f is. s.reading.faults piece ∙ (sym r.fault_is ∙ is);
-        runs = runs_append r.turns s.turns
+        runs = order_append run_in r.turns s.turns
             ∙ ap (λ z. z ++ runs_in r.turns) s.runs
             ∙ ap (λ z. requests_of s.heard ++ z) r.runs ∙ sym all;
         wrote = appends_as link0 link2 _ _ (sym (gave_more r.turns r.gave_none))
@@ -192,7 +193,7 @@ module _ (clock : Option ℕ) (id : ℕ) (c : Connection) (left0 left1 link0 lin
       → Waiting clock id fault c left0 left2 link0 link2 old last
   idle_waits fault last left2 link2 none p took kept =
       let runs : runs_in (p.turns ++ s.turns) ≡ runs_in s.turns
-      = runs_append p.turns s.turns ∙ ap (λ z. runs_in s.turns ++ z) p.runs_none
+      = order_append run_in p.turns s.turns ∙ ap (λ z. runs_in s.turns ++ z) p.runs_none
       ∙ append-nil (runs_in s.turns) in
       let long = ap length p.grows.seen.1 in
       let both = length-append p.grows.seen.0 new.seen in
@@ -270,10 +271,10 @@ module _ (clock : Option ℕ) (id : ℕ) (c : Connection) (left0 left1 link0 lin
       → RunsPart clock cause (fed_connection c piece) after new last
       → Works clock cause id after.requests left0 left2 link0 link2 old last
   part_works piece cause after last left2 link2 took kept r =
-      let long = ap length (runs_append r.turns s.turns) in
+      let long = ap length (order_append run_in r.turns s.turns) in
       let both = length-append (runs_in s.turns) (runs_in r.turns) in
       let front : runs_in (r.turns ++ s.turns) ≡ requests_of s.heard ++ runs_in r.turns
-      = runs_append r.turns s.turns ∙ ap (λ z. z ++ runs_in r.turns) s.runs in
+      = order_append run_in r.turns s.turns ∙ ap (λ z. z ++ runs_in r.turns) s.runs in
       let is : IsEnd cause id last = subst (λ n. IsEnd cause n last) s.id_is r.cause_is in
       record {
         turns = r.turns ++ s.turns;
@@ -367,12 +368,12 @@ module _ (clock : Option ℕ) (id : ℕ) (fault : Option StreamFault) (c : Conne
     all_work = All-append (IsWork id clock) ts s.turns (work clock) s.work
 
     all_runs : runs_in (ts ++ s.turns) ≡ runs_in s.turns
-    all_runs = runs_append ts s.turns ∙ ap (λ z. runs_in s.turns ++ z) none
+    all_runs = order_append run_in ts s.turns ∙ ap (λ z. runs_in s.turns ++ z) none
         ∙ append-nil (runs_in s.turns)
 
     all_gave : gave (limits_of old) (ts ++ s.turns)
         ≡ gave (limits_of old) s.turns ++ gave (limits_of new) ts
-    all_gave = gave_append (limits_of old) ts s.turns
+    all_gave = order_append (gave_in (limits_of old)) ts s.turns
         ∙ ap (λ l. gave (limits_of old) s.turns ++ gave l ts) (sym limits_kept)
 
   module _ (d : Delivers id link1 link2 new last) where

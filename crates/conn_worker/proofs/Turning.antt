@@ -1,6 +1,5 @@
--- What the turns of a connection ran and gave, one list after another.
-use Rattle.std.proofs.Common.{◌≡◌, ◌≤◌, ℕ, List, [], ◌∷◌, ◌++◌, length, refl, sym, ap}
-use Rattle.std.proofs.Common.{◌∙◌}
+-- What was sent, and taken, by the turns of a connection.
+use Rattle.std.proofs.Common.{◌≡◌, ◌≤◌, ℕ, List, [], ◌∷◌, ◌++◌, length, refl, sym, ap, ◌∙◌}
 use Rattle.std.proofs.Common.{append_assoc, append-nil, arith, ◌+◌, Some}
 use Rattle.std.specs.Prelude.{Option}
 use Rattle.std.specs.List.{All}
@@ -13,18 +12,6 @@ use Rattle.serial_model.specs.History.{stream}
 use Rattle.shared_book.specs.Turns.{Turn}
 use Rattle.shared_book.proofs.Histories.{stream_begins}
 use Rattle.conn_worker.specs.Visits.{runs_in, run_in, gave, gave_in, IsTaken, IsWork}
-
-pub runs_append : (xs ys : List Turn) → runs_in (xs ++ ys) ≡ runs_in ys ++ runs_in xs
-runs_append [] ys = sym (append-nil (runs_in ys))
-runs_append (x ∷ xs) ys =
-    ap (λ z. z ++ run_in x) (runs_append xs ys)
-    ∙ append_assoc (runs_in ys) (runs_in xs) (run_in x)
-
-pub gave_append : (l : Limits) (xs ys : List Turn) → gave l (xs ++ ys) ≡ gave l ys ++ gave l xs
-gave_append l [] ys = sym (append-nil (gave l ys))
-gave_append l (x ∷ xs) ys =
-    ap (λ z. z ++ gave_in l x) (gave_append l xs ys)
-    ∙ append_assoc (gave l ys) (gave l xs) (gave_in l x)
 
 module _ (l : Limits) (id : ℕ) where
   taken_one : (a b : ℕ) (t : Turn) → a ≤ b → IsTaken l id a t → IsTaken l id b t

@@ -1,7 +1,6 @@
 -- What the service of one connection does to its seat and its link.
-use Rattle.std.specs.Prelude.{◌≡◌, ◌≤◌, ◌+◌, ◌⊎◌, ℕ, List, [], ◌∷◌, ◌++◌, length, max}
-use Rattle.std.specs.Prelude.{take}
-use Rattle.std.specs.Prelude.{Option, Some, None, Result, Ok, Err, IfSome, true, ⊤}
+use Rattle.std.specs.Prelude.{◌≡◌, ◌≤◌, ◌+◌, ◌⊎◌, ℕ, List, [], ◌∷◌, ◌++◌, length, max, take, Option}
+use Rattle.std.specs.Prelude.{Some, None, Result, Ok, Err, IfSome, true, ⊤}
 use Rattle.std.specs.List.{All}
 use Rattle.std.specs.Io.KnownBytes.{Appends, Consumes}
 use Rattle.resp_value.specs.Lists.{IsPrefix}
@@ -18,6 +17,7 @@ use Rattle.shared_book.specs.declared.turns.Refusal.{Refusal}
 use Rattle.shared_book.specs.declared.turns.Refusal.TheVariants as refusal
 use Rattle.serial_model.specs.declared.history.BookCall.{BookCall}
 use Rattle.seat_turns.specs.Own.{past_of, IsWithin, Grows}
+use Rattle.seat_turns.specs.Turns.{in_order}
 use Rattle.shared_book.specs.Batches.{requests_in}
 use Rattle.shared_book.specs.Turns.{Place, Turn, IsCause, limits_of, Admits, Closes, Refuses}
 use Rattle.shared_book.specs.Turns.{IsServerCause, Takes, Ticks}
@@ -68,8 +68,7 @@ run_in (entry.Close n, past) = []
 
 -- the requests that ran, in order
 abbrev pub runs_in : List Turn → List (List (List ℕ))
-runs_in [] = []
-runs_in (t ∷ ts) = runs_in ts ++ run_in t
+runs_in turns = in_order run_in turns
 
 abbrev pub gave_in : Limits → Turn → List ℕ
 gave_in l (entry.Admit n, past) = []
@@ -80,8 +79,7 @@ gave_in l (entry.Close n, past) = []
 
 -- the bytes that the Takes gave, in order
 abbrev pub gave : Limits → List Turn → List ℕ
-gave l [] = []
-gave l (t ∷ ts) = gave l ts ++ gave_in l t
+gave l turns = in_order (gave_in l) turns
 
 -- where the turn is a Run or a Tick: of all that the connection was sent up to and with it, no byte
 -- is behind those that were taken

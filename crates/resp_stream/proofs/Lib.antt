@@ -3,6 +3,7 @@ pub mod Begun
 pub mod Capped
 pub mod Closing
 pub mod Compose
+pub mod FaultPieces
 pub mod Line
 pub mod Onward
 pub mod Opening

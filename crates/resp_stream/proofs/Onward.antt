@@ -1,6 +1,6 @@
 -- What is read of a stream piece by piece is what is read of it at once.
-use Rattle.std.proofs.Common.{◌≡◌, ℕ, List, [], ◌++◌, cond, false, None}
-use Rattle.std.proofs.Common.{refl, sym, ap, ◌∙◌, append_assoc}
+use Rattle.std.proofs.Common.{◌≡◌, ℕ, List, [], ◌++◌, cond, false, None, refl, sym, ap, ◌∙◌}
+use Rattle.std.proofs.Common.{append_assoc, arith}
 use Rattle.resp_value.specs.Tree.{Tree}
 use Rattle.resp_stream.specs.Parse.{Batch, parse, parse_values, requests_of, values_of}
 use Rattle.resp_stream.specs.Readers.{skipped}
@@ -8,7 +8,8 @@ use Rattle.resp_stream.specs.Request.{request_at, request_begun, skip_empty, ski
 use Rattle.resp_stream.specs.Stream.{Stream, begun, fed}
 use Rattle.resp_stream.specs.Value.{value_at, value_in}
 use Rattle.resp_stream.proofs.Batches.{batch_unfailed}
-use Rattle.resp_stream.proofs.Parse.{parse_joined, parse_more, parse_unfailed}
+use Rattle.resp_stream.proofs.FaultPieces.{fault_joined, passes_requests, passes_values}
+use Rattle.resp_stream.proofs.Parse.{parse_joined, parse_more, parse_unfailed, takes_requests}
 use Rattle.resp_stream.proofs.Parse.{takes_values, values_joined}
 use Rattle.resp_stream.proofs.Values.{values_more}
 
@@ -33,14 +34,11 @@ no_values = ap (λ (p : Batch Tree). p.items) none_valued
 
 fed_twice : (s : Stream) (a b : List ℕ) → s.failed ≡ false
     → (fed s (a ++ b)).rest ≡ (fed (fed s a) b).rest
-fed_twice s a b t =
-    ap (λ v. cond v s.rest (s.rest ++ (a ++ b))) t ∙ sym (append_assoc s.rest a b)
-    ∙ sym (ap (λ v. cond v (cond v s.rest (s.rest ++ a)) (cond v s.rest (s.rest ++ a) ++ b)) t)
+fed_twice s a b t = grind (arith, append_assoc)
 
 pub fed_in_two : (s : Stream) (a b : List ℕ) → s.failed ≡ false
     → fed s (a ++ b) ≡ fed (fed s a) b
-fed_in_two s a b t =
-    ap (λ z. record { before = s.before; rest = z; failed = s.failed }) (fed_twice s a b t)
+fed_in_two s a b t = grind (arith, fed_twice)
 
 -- `all` reads the same in two pieces, where the first has no fault
 pub record Joins {A : Type 0} (all : Stream → Batch A) : Type 0 where
@@ -48,15 +46,23 @@ pub record Joins {A : Type 0} (all : Stream → Batch A) : Type 0 where
       → (all s).stream.failed ≡ false
   pub joined : (s : Stream) (b : List ℕ) → s.failed ≡ false → (all s).fault ≡ None
       → (all (fed s b)).items ≡ (all s).items ++ (all (fed (all s).stream b)).items
+  pub faults : (s : Stream) (b : List ℕ) → s.failed ≡ false → (all s).fault ≡ None
+      → (all (fed s b)).fault ≡ (all (fed (all s).stream b)).fault
 
 pub requests_join : Joins parse
-requests_join = record { unfailed = parse_unfailed; joined = parse_joined }
+unfolding parse
+requests_join = record {
+  unfailed = parse_unfailed;
+  joined = parse_joined;
+  faults = fault_joined request_at skipped takes_requests passes_requests;
+}
 
 pub values_join : Joins parse_values
 unfolding parse_values
 values_join = record {
   unfailed = λ s t e. batch_unfailed value_at (λ q. q) takes_values s t e;
   joined = values_joined;
+  faults = fault_joined value_at (λ q. q) takes_values passes_values;
 }
 
 -- what will be read is read on from the reader
@@ -65,33 +71,17 @@ pub record GoesOn {A : Type 0} (all : Stream → Batch A) (heard : List ℕ) (re
     pub unfailed : reader.failed ≡ false
     pub further : (m : List ℕ) → (all (fed begun (heard ++ m))).items
         ≡ (all (fed begun heard)).items ++ (all (fed reader m)).items
+    pub none : (all (fed begun heard)).fault ≡ None
+    pub faults : (m : List ℕ) → (all (fed begun (heard ++ m))).fault ≡ (all (fed reader m)).fault
 
 pub requests_begun : GoesOn parse [] begun
-requests_begun = record {
-  unfailed = refl;
-  further = λ m. ap (λ l. l ++ (parse (fed begun m)).items) (sym no_requests);
-}
+requests_begun = grind (arith, no_requests)
 
 pub values_begun : GoesOn parse_values [] begun
-values_begun = record {
-  unfailed = refl;
-  further = λ m. ap (λ l. l ++ (parse_values (fed begun m)).items) (sym no_values);
-}
+values_begun = grind (arith, no_values)
 
 -- where the piece brought no fault, it is read on from there
 pub goes_further : {A : Type 0} (all : Stream → Batch A) (heard piece : List ℕ) (reader : Stream)
     → Joins all → GoesOn all heard reader → (all (fed reader piece)).fault ≡ None
     → GoesOn all (heard ++ piece) (all (fed reader piece)).stream
-goes_further all heard piece reader j r none =
-    let p = all (fed reader piece) in
-    let read = (all (fed begun heard)).items in
-    record {
-      unfailed = j.unfailed (fed reader piece) r.unfailed none;
-      further = λ m.
-          ap (λ l. (all (fed begun l)).items) (append_assoc heard piece m)
-          ∙ r.further (piece ++ m)
-          ∙ ap (λ l. read ++ l) (ap (λ s. (all s).items) (fed_in_two reader piece m r.unfailed)
-          ∙ j.joined (fed reader piece) m r.unfailed none)
-          ∙ sym (append_assoc read p.items (all (fed p.stream m)).items)
-          ∙ ap (λ l. l ++ (all (fed p.stream m)).items) (sym (r.further piece));
-    }
+goes_further all heard piece reader j r none = grind (arith, append_assoc, fed_in_two)

@@ -1,5 +1,5 @@
--- One turn of a seat, with what it adds.
-use Rattle.std.specs.Prelude.{◌≡◌, List, [], ◌∷◌, Option, Some, None}
+-- One turn of a seat, with what it adds, and what turns have in order.
+use Rattle.std.specs.Prelude.{◌≡◌, List, [], ◌∷◌, ◌++◌, Option, Some, None}
 use Rattle.turn_lock.specs.History.{IsPrefix, past_after}
 use Rattle.turn_lock.specs.Seats.{Known}
 use Rattle.seat_turns.specs.Own.{past_of, Grows}
@@ -8,6 +8,11 @@ use Rattle.seat_turns.specs.Own.{past_of, Grows}
 abbrev pub turns_added : {E : Type 0} → List E → Option E → List (E × List E)
 turns_added past None = []
 turns_added past (Some e) = (e, past) ∷ []
+
+-- what the turns have of this, in order; the newest turn is the list's first
+abbrev pub in_order : {T A : Type 0} → (T → List A) → List T → List A
+in_order part [] = []
+in_order part (t ∷ ts) = in_order part ts ++ part t
 
 -- one turn of the seat with this call and reply, on the entries that it found
 pub record Plays {U E C R : Type 0} (step : U → List E → C → R → Option E → Type 0) (call : C)

@@ -1,0 +1,122 @@
+-- The fault that is met in pieces is the one of the bytes as a whole, for any reader that takes
+-- bytes.
+use Rattle.std.proofs.Common.{◌≡◌, ℕ, zero, suc, ◌+◌, ◌-◌, ◌<◌, ◌≤◌, List, ◌++◌, refl, sym, ap, ◌∙◌}
+use Rattle.std.proofs.Common.{false, length, length-append, arith, Some, None}
+use Rattle.std.specs.Prelude.{Bool, Option}
+use Rattle.resp_stream.specs.declared.fault.StreamFault.{StreamFault}
+use Rattle.resp_stream.specs.Parsed.{Parsed, Whole, More, Bad}
+use Rattle.resp_stream.specs.Parse.{Batch, batch}
+use Rattle.resp_stream.specs.Readers.{skipped}
+use Rattle.resp_stream.specs.Request.{skip_empty}
+use Rattle.resp_stream.specs.Stream.{Stream, fed, moved_on, offset_by, stream_fault}
+use Rattle.resp_stream.proofs.Batches.{Takes, fed_rest, batch_whole, batch_more, batch_bad}
+use Rattle.resp_stream.proofs.Parse.{skip_le, takes_requests}
+
+-- ---- offsets
+
+-- the same bytes are before it, counted in two parts or at once
+place_in_two : (n a l c r : ℕ) → l ≤ a → r ≤ l + c
+    → offset_by n (a + c - r) ≡ offset_by (offset_by n (a - l)) (l + c - r)
+place_in_two n a l c r la rl = omega arith
+
+stream_as : (n k : ℕ) (q p : List ℕ) (t : Bool) → n ≡ k → q ≡ p
+    → ◌≡◌ {A = Stream} (record { before = n; rest = q; failed = t })
+    (record { before = k; rest = p; failed = t })
+stream_as n k q p t e h = grind arith
+
+-- what is whole is as far from the end with more behind it
+moved_fed : (s : Stream) (b r : List ℕ) → s.failed ≡ false → length r ≤ length s.rest
+    → moved_on (fed s b) (r ++ b) ≡ fed (moved_on s r) b
+moved_fed s b r t le = grind (arith, fed_rest, length-append, stream_as)
+
+-- What was passed over before more came need not be looked at again, and moves no byte.
+pub record Passes (past : Stream → Stream) : Type 0 where
+  pub joined : (s : Stream) (b : List ℕ) → s.failed ≡ false → past (fed s b) ≡ past (fed (past s) b)
+  pub moved : (s : Stream) (b r : List ℕ) → s.failed ≡ false
+      → length r < length (fed (past s) b).rest
+      → moved_on (fed s b) r ≡ moved_on (fed (past s) b) r
+
+skipped_joined : (s : Stream) (b : List ℕ) → s.failed ≡ false
+    → skipped (fed s b) ≡ skipped (fed (skipped s) b)
+skipped_joined s b t =
+    let q = (skipped (fed s b)).rest in
+    let p = (skipped (fed (skipped s) b)).rest in
+    let same : q ≡ p = takes_requests.joined s b t in
+    let f = ap length (fed_rest s b t) ∙ length-append s.rest b in
+    let g = ap length (fed_rest (skipped s) b t) ∙ length-append (skip_empty s.rest) b in
+    let le = skip_le s.rest in
+    let lf = skip_le (fed (skipped s) b).rest in
+    let long = ap length same in
+    stream_as _ _ q p s.failed
+    (ap (λ n. offset_by s.before (n - length q)) f
+    ∙ ap (λ n. offset_by s.before (length s.rest + length b - n)) long
+    ∙ place_in_two s.before (length s.rest) (length (skip_empty s.rest)) (length b) (length p) le
+    (omega (arith, lf, g))
+    ∙ ap (λ n. offset_by (skipped s).before (n - length p)) (sym g))
+    same
+
+moved_joined : (s : Stream) (b r : List ℕ) → s.failed ≡ false
+    → length r < length (fed (skipped s) b).rest
+    → moved_on (fed s b) r ≡ moved_on (fed (skipped s) b) r
+moved_joined s b r t lt = grind (arith, fed_rest, length-append, stream_as, place_in_two, skip_le)
+
+pub passes_requests : Passes skipped
+passes_requests = record { joined = skipped_joined; moved = moved_joined }
+
+pub passes_values : Passes (λ s. s)
+passes_values = record { joined = λ s b t. refl; moved = λ s b r t lt. refl }
+
+-- ---- faults
+
+none_is : (f : StreamFault) (o : Option StreamFault) → o ≡ Some f → o ≡ None → ⊥
+none_is f o k z = cc
+
+module _ {A : Type 0} (read : List ℕ → Parsed A) (past : Stream → Stream) (takes : Takes read past)
+    (passes : Passes past) where
+  -- what was passed over is nothing to the fault behind it
+  fault_past_by : (s t : Stream) → past s ≡ past t
+      → ((r : List ℕ) → length r < length s.rest → length r < length t.rest
+      → moved_on s r ≡ moved_on t r)
+      → (a : Parsed A) → read (past s).rest ≡ a
+      → (batch read past s).fault ≡ (batch read past t).fault
+  fault_past_by s t same moved (Whole x r) e =
+      let k = ap (λ (q : Stream). read q.rest) (sym same) ∙ e in
+      ap (λ (p : Batch A). p.fault) (batch_whole read past takes s x r e)
+      ∙ ap (λ (q : Stream). (batch read past q).fault)
+      (moved r (takes.some s x r e) (takes.some t x r k))
+      ∙ ap (λ (p : Batch A). p.fault) (sym (batch_whole read past takes t x r k))
+  fault_past_by s t same moved More e =
+      let k = ap (λ (q : Stream). read q.rest) (sym same) ∙ e in
+      ap (λ (p : Batch A). p.fault) (batch_more read past takes s e)
+      ∙ ap (λ (p : Batch A). p.fault) (sym (batch_more read past takes t k))
+  fault_past_by s t same moved (Bad g r) e =
+      let k = ap (λ (q : Stream). read q.rest) (sym same) ∙ e in
+      ap (λ (p : Batch A). p.fault) (batch_bad read past takes s g r e)
+      ∙ ap (λ (q : Stream). Some (stream_fault g (offset_by q.before (length q.rest - length r))))
+      same
+      ∙ ap (λ (p : Batch A). p.fault) (sym (batch_bad read past takes t g r k))
+
+  joined_by : (s : Stream) (b : List ℕ) → s.failed ≡ false → (batch read past s).fault ≡ None
+      → ((x : A) (r : List ℕ) → read (past s).rest ≡ Whole x r
+      → (batch read past (moved_on s r)).fault ≡ None
+      → (batch read past (fed (moved_on s r) b)).fault
+      ≡ (batch read past (fed (batch read past (moved_on s r)).stream b)).fault)
+      → (a : Parsed A) → read (past s).rest ≡ a
+      → (batch read past (fed s b)).fault
+      ≡ (batch read past (fed (batch read past s).stream b)).fault
+  joined_by s b t none ih (Whole x r) e = grind (arith, batch_whole, moved_fed)
+  joined_by s b t none ih More e = grind (arith, fault_past_by, batch_more)
+  joined_by s b t none ih (Bad g r) e = grind (arith, none_is, batch_bad)
+
+  joined_in : (n : ℕ) (s : Stream) (b : List ℕ) → length s.rest < n → s.failed ≡ false
+      → (batch read past s).fault ≡ None
+      → (batch read past (fed s b)).fault
+      ≡ (batch read past (fed (batch read past s).stream b)).fault
+  joined_in zero s b lt t none = absurd (omega arith)
+  joined_in (suc n) s b lt t none = grind (arith, joined_by)
+
+  pub fault_joined : (s : Stream) (b : List ℕ) → s.failed ≡ false
+      → (batch read past s).fault ≡ None
+      → (batch read past (fed s b)).fault
+      ≡ (batch read past (fed (batch read past s).stream b)).fault
+  fault_joined s b t none = joined_in (length s.rest + 1) s b (omega arith) t none
