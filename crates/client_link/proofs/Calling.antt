@@ -1,6 +1,5 @@
 -- A caller's turns, after turns that added nothing.
-use Rattle.std.proofs.Common.{◌≡◌, ℕ, List, [], ◌∷◌, true, false}
-use Rattle.std.proofs.Common.{ap, subst}
+use Rattle.std.proofs.Common.{◌≡◌, ℕ, List, [], ◌∷◌, true, false, ap, subst, arith}
 use Rattle.seat_turns.specs.Own.{past_of, Grows}
 use Rattle.seat_turns.proofs.Growing.{grows_then, grows_past}
 use Rattle.seat_turns.proofs.Turning.{begins_trans}
@@ -16,9 +15,7 @@ use Rattle.shared_cache.specs.declared.log.ClientRefusal.TheVariants as refusal
 use Rattle.shared_cache.specs.Steps.{client_step, MayRunOut}
 use Rattle.shared_client.specs.Turns.{Place, setup_in, setup_at, Adds, Stays, RunsOut, WornOut}
 use Rattle.shared_client.specs.Turns.{Refuses}
-use Rattle.client_link.specs.Callers.{is_not_ready, Fails, Answers, Fetches}
-use Rattle.client_link.specs.Callers.{Unanswered}
-use Rattle.client_link.specs.Callers.{Sends}
+use Rattle.client_link.specs.Callers.{is_not_ready, Fails, Answers, Fetches, Sends}
 use Rattle.client_link.proofs.Steps.{ask_hit, ask_sent, send_sent, poll_answer}
 
 module _ (old k new : Place) (g : Grows old k []) where
@@ -78,30 +75,13 @@ module _ (old k new : Place) (g : Grows old k []) where
   -- a refusal that is no want of readiness
   pub waited_fails : (c : ClientCall) (r : ClientRefusal) → is_not_ready r ≡ false
       → Refuses c r k new → Fails c r old new
-  waited_fails c refusal.NotReady off h = absurd (let z : ⊥ = cc in z)
-  waited_fails c refusal.NoMemory off h = grows_then old k new [] [] g h.1.grows
-  waited_fails c (refusal.Down w) off h = waited_refuses c (refusal.Down w) h
-  waited_fails c (refusal.Unexpected w) off h = waited_refuses c (refusal.Unexpected w) h
-  waited_fails c (refusal.BadPush w) off h = waited_refuses c (refusal.BadPush w) h
-  waited_fails c (refusal.LogFull n) off h = waited_refuses c (refusal.LogFull n) h
-  waited_fails c (refusal.SetupRefused w) off h = waited_refuses c (refusal.SetupRefused w) h
-  waited_fails c refusal.Control off h = waited_refuses c refusal.Control h
-  waited_fails c (refusal.NoNumber n) off h = waited_refuses c (refusal.NoNumber n) h
-  waited_fails c refusal.Worn off h = waited_refuses c refusal.Worn h
+  waited_fails c r off h = grind (arith, grows_then, waited_refuses)
 
   -- want of readiness, which is waited for
   pub waited_on : (c : ClientCall) (r : ClientRefusal) → is_not_ready r ≡ true
       → Refuses c r k new → Grows old new []
   waited_on c refusal.NotReady is h = grows_then old k new [] [] g h.1.grows
-  waited_on c (refusal.Down w) is h = absurd (let z : ⊥ = cc in z)
-  waited_on c (refusal.Unexpected w) is h = absurd (let z : ⊥ = cc in z)
-  waited_on c (refusal.BadPush w) is h = absurd (let z : ⊥ = cc in z)
-  waited_on c (refusal.LogFull n) is h = absurd (let z : ⊥ = cc in z)
-  waited_on c (refusal.SetupRefused w) is h = absurd (let z : ⊥ = cc in z)
-  waited_on c refusal.Control is h = absurd (let z : ⊥ = cc in z)
-  waited_on c (refusal.NoNumber n) is h = absurd (let z : ⊥ = cc in z)
-  waited_on c refusal.Worn is h = absurd (let z : ⊥ = cc in z)
-  waited_on c refusal.NoMemory is h = absurd (let z : ⊥ = cc in z)
+  waited_on c r is h = absurd (let z : ⊥ = cc in z)
 
 -- the reply that was handed out is that of the number
 pub answers : (n : ℕ) (v : Value) (old new : Place)
@@ -153,7 +133,3 @@ sends ws n v old k new a p = record {
   number_is = send_sent (setup_at old) a.past ws n (entry.Send ws ∷ a.past) a.step;
   answers = answers n v k new p;
 }
-
-pub unanswered : (c : ClientCall) (e : LogEntry) (n : ℕ) (r : ClientRefusal) (old k new : Place)
-    → Adds c (reply.Sent n) e old k → Refuses (call.Poll n) r k new → Unanswered c e r old new
-unanswered c e n r old k new a h = record { number = n; sent = k; sends = a; refuses = h }

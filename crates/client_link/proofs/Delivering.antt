@@ -1,11 +1,10 @@
 -- What is queued is taken out and written, TakeOut after TakeOut.
-use Rattle.std.proofs.Common.{◌≡◌, ◌≤◌, ℕ, List, [], ◌∷◌, ◌++◌, length, take, true}
-use Rattle.std.proofs.Common.{refl, sym, ap, subst, ◌∙◌, append-nil, append_assoc, inl, inr}
-use Rattle.std.proofs.Common.{Some, None}
+use Rattle.std.proofs.Common.{◌≡◌, ◌≤◌, ℕ, List, [], ◌∷◌, ◌++◌, length, take, true, refl, sym, ap}
+use Rattle.std.proofs.Common.{subst, ◌∙◌, append-nil, append_assoc, inl, inr, Some, None, arith}
 use Rattle.std.specs.Prelude.{Option}
 use Rattle.std.specs.List.{All}
 use Rattle.std.specs.Io.KnownBytes.{Appends}
-use Rattle.std.proofs.lemmas.List.Elements.{All-nil, All-cons}
+use Rattle.std.proofs.lemmas.List.Elements.{All-cons}
 use Rattle.resp_value.specs.Lists.{IsPrefix}
 use Rattle.resp_value.specs.declared.octets.Octets.{Octets}
 use Rattle.edge_links.proofs.Bytes.{appends_none, appends_more, appends_as}
@@ -33,13 +32,7 @@ pub record Delivering (link0 link1 : Option (List ℕ)) (old new : Place) : Type
   pub wrote : Appends link0 link1 (gave (setup_at old) turns)
 
 pub delivering_none : (link : Option (List ℕ)) (k : Place) → IsWithin k → Delivering link link k k
-delivering_none link k is = record {
-  turns = [];
-  grows = grows_none k is;
-  work = All-nil IsWork;
-  got_none = refl;
-  wrote = appends_none link;
-}
+delivering_none link k is = grind (arith, grows_none, appends_none)
 
 module _ (link0 link1 : Option (List ℕ)) (old new : Place) (d : Delivering link0 link1 old new)
   where
@@ -126,25 +119,11 @@ module _ (link0 link1 : Option (List ℕ)) (old new : Place) (d : Delivering lin
         (take_full (setup_at new) (past_of last) most n (past_of last) h.1.step)
     stop_is refusal.NoMemory last h = tt
     stop_is refusal.Worn last h = h.1.tickets
-    stop_is (refusal.Unexpected w) last h = absurd h.0
-    stop_is (refusal.BadPush w) last h = absurd h.0
-    stop_is (refusal.SetupRefused w) last h = absurd h.0
-    stop_is refusal.NotReady last h = absurd h.0
-    stop_is refusal.Control last h = absurd h.0
-    stop_is (refusal.NoNumber n) last h = absurd h.0
+    stop_is r last h = absurd h.0
 
     left_grows : (r : ClientRefusal) (last : Place) → Refuses (call.TakeOut Main most) r new last
         → Grows new last []
-    left_grows (refusal.Down w) last h = h.1.grows
-    left_grows (refusal.LogFull n) last h = h.1.grows
-    left_grows refusal.NoMemory last h = h.1.grows
-    left_grows refusal.Worn last h = h.1.grows
-    left_grows (refusal.Unexpected w) last h = h.1.grows
-    left_grows (refusal.BadPush w) last h = h.1.grows
-    left_grows (refusal.SetupRefused w) last h = h.1.grows
-    left_grows refusal.NotReady last h = h.1.grows
-    left_grows refusal.Control last h = h.1.grows
-    left_grows (refusal.NoNumber n) last h = h.1.grows
+    left_grows r last h = grind arith
 
     pub delivers_refused : (r : ClientRefusal) (last : Place)
         → Refuses (call.TakeOut Main most) r new last

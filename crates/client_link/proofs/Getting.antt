@@ -1,14 +1,13 @@
 -- The values that a link gave are got, one after another.
-use Rattle.std.proofs.Common.{◌≡◌, ◌<◌, ℕ, List, [], ◌∷◌, ◌++◌, length, true, Some, Ok}
-use Rattle.std.proofs.Common.{refl, sym, ap, subst, ◌∙◌, append_assoc, append-nil}
+use Rattle.std.proofs.Common.{◌≡◌, ◌<◌, ℕ, List, [], ◌∷◌, ◌++◌, length, true, Some, Ok, refl, sym}
+use Rattle.std.proofs.Common.{ap, subst, ◌∙◌, append_assoc, append-nil, arith}
 use Rattle.std.specs.Prelude.{Option}
 use Rattle.std.specs.List.{All}
-use Rattle.std.proofs.lemmas.List.Elements.{All-nil, All-cons}
+use Rattle.std.proofs.lemmas.List.Elements.{All-cons}
 use Rattle.resp_value.specs.Tree.{Tree}
 use Rattle.resp_value.specs.ValueTree.{tree_of}
 use Rattle.resp_value.specs.declared.value.Value.{Value}
 use Rattle.resp_stream.specs.declared.fault.StreamFault.{StreamFault}
-use Rattle.resp_stream.specs.declared.fault.StreamFault.TheVariants as stream
 use Rattle.resp_stream.specs.declared.fault.FaultPlace.{FaultPlace}
 use Rattle.resp_stream.specs.Parsed.{Whole, More}
 use Rattle.resp_stream.specs.Parse.{Batch, parse_values}
@@ -31,8 +30,8 @@ use Rattle.shared_client.specs.Turns.{Place, Turn, setup_in, setup_at, Gets, Get
 use Rattle.shared_client.specs.Turns.{Refuses}
 use Rattle.client_link.specs.declared.pump_end.PumpEnd.{PumpEnd}
 use Rattle.client_link.specs.declared.pump_end.PumpEnd.TheVariants as ended
-use Rattle.client_link.specs.Pumps.{IsWork, IsStop, end_by, gots_in, gave}
-use Rattle.client_link.specs.Pumps.{GetsAll, GetsPart, GettingStops}
+use Rattle.client_link.specs.Pumps.{IsWork, IsStop, end_by, gots_in, gave, GetsAll, GetsPart}
+use Rattle.client_link.specs.Pumps.{GettingStops}
 use Rattle.resp_stream.proofs.Values.{values_whole, values_more, values_bad}
 use Rattle.client_link.proofs.Steps.{got_down, got_full}
 
@@ -47,15 +46,7 @@ pub record Getting (before now : Stream) (old new : Place) : Type 0 where
   pub fault_is : (parse_values now).fault ≡ (parse_values before).fault
 
 pub getting_none : (s : Stream) (k : Place) → IsWithin k → Getting s s k k
-getting_none s k is = record {
-  turns = [];
-  grows = grows_none k is;
-  work = All-nil IsWork;
-  gave_none = refl;
-  items = refl;
-  stream_is = refl;
-  fault_is = refl;
-}
+getting_none s k is = grind (arith, grows_none)
 
 module _ (before now : Stream) (old new : Place) (r : Getting before now old new) where
   setup_same : setup_at new ≡ setup_at old
@@ -158,66 +149,24 @@ module _ (before now : Stream) (old new : Place) (r : Getting before now old new
     getting_stops (refusal.Unexpected w) last h = ends (refusal.Unexpected w) last h
     getting_stops (refusal.BadPush w) last h = ends (refusal.BadPush w) last h
     getting_stops (refusal.SetupRefused w) last h = ends (refusal.SetupRefused w) last h
-    getting_stops refusal.NotReady last h = absurd h.0
-    getting_stops refusal.Control last h = absurd h.0
-    getting_stops (refusal.NoNumber n) last h = absurd h.0
+    getting_stops c last h = absurd h.0
 
   -- nothing whole is left
   pub gets_all : (s : Stream) → value_at now.rest ≡ More → s ≡ now → GetsAll before s old new
-  gets_all s more is =
-      let last = values_more now more in
-      record {
-        turns = r.turns;
-        grows = r.grows;
-        work = r.work;
-        gave_none = r.gave_none;
-        gots = sym (append-nil (gots_in r.turns))
-            ∙ ap (λ l. gots_in r.turns ++ l)
-            (sym (ap (λ (p : Batch Tree). p.items) last)) ∙ sym r.items;
-        fault = sym r.fault_is ∙ ap (λ (p : Batch Tree). p.fault) last;
-        reader = is ∙ sym (ap (λ (p : Batch Tree). p.stream) last) ∙ r.stream_is;
-      }
+  gets_all s more is = grind (arith, values_more, append-nil)
 
   faulty : (f : StreamFault) → IsFaultOf value_at now f
       → GetsPart (ended.BadStream f) before old new
-  faulty f bad =
-      let last = values_bad now bad.fault bad.left bad.is in
-      let none = ap (λ (p : Batch Tree). p.items) last in
-      record {
-        turns = r.turns;
-        ending = [];
-        grows = r.grows;
-        work = r.work;
-        gave_none = r.gave_none;
-        gots = ((parse_values now).items, sym r.items);
-        stops = (
-          refl,
-          sym (append-nil (gots_in r.turns)) ∙ ap (λ l. gots_in r.turns ++ l) (sym none)
-              ∙ sym r.items,
-          sym r.fault_is ∙ ap (λ (p : Batch Tree). p.fault) last ∙ ap Some (sym bad.place),
-        );
-      }
+  faulty f bad = grind (arith, values_bad, append-nil)
 
   -- the bytes are at fault
   pub gets_bad : (s : Stream) (f : StreamFault) (place : FaultPlace)
       → FaultGives value_at now now s f → Some place ≡ fault_place f
       → GetsPart (ended.BadStream f) before old new
-  gets_bad s stream.NoMemory place g at = absurd (let none : ⊥ = cc in none)
-  gets_bad s (stream.BadByte o) place g at = faulty (stream.BadByte o) g.0
-  gets_bad s (stream.TooLong o n) place g at = faulty (stream.TooLong o n) g.0
-  gets_bad s (stream.TooDeep o) place g at = faulty (stream.TooDeep o) g.0
-  gets_bad s (stream.NotServed o b) place g at = faulty (stream.NotServed o b) g.0
+  gets_bad s f place g at = grind (arith, faulty)
 
   pub gets_part : GetsPart ended.NoMemory before old new
-  gets_part = record {
-    turns = r.turns;
-    ending = [];
-    grows = r.grows;
-    work = r.work;
-    gave_none = r.gave_none;
-    gots = ((parse_values now).items, sym r.items);
-    stops = (refl, tt);
-  }
+  gets_part = grind arith
 
 pub getting_less : (now new : Stream) (value : Value)
     → value_at now.rest ≡ Whole (tree_of value) new.rest → length new.rest < length now.rest

@@ -1,54 +1,32 @@
 -- What a client's step says by its reply, and what stays true of a log whatever is added to it.
-use Rattle.std.proofs.Common.{◌≡◌, ◌≤◌, ◌+◌, ℕ, List, [], ◌∷◌, ◌++◌, length, take, drop, min, Bool}
-use Rattle.std.proofs.Common.{true, false, cond, refl, sym, ap, subst, ◌∙◌, arith, Some, None}
-use Rattle.std.proofs.Common.{length-append}
-use Rattle.std.specs.Prelude.{Option, not, ◌||◌, ◌-◌}
+use Rattle.std.proofs.Common.{◌≡◌, ◌≤◌, ◌+◌, ℕ, List, [], ◌∷◌, ◌++◌, length, take, drop, Bool, true}
+use Rattle.std.proofs.Common.{false, cond, refl, ap, subst, ◌∙◌, arith, Some, None, length-append}
+use Rattle.std.specs.Prelude.{Option, ◌||◌}
 use Rattle.std.specs.List.{flat_map}
 use Rattle.std.proofs.lemmas.Bool.Decides.{nat_tests}
 use Rattle.std.proofs.lemmas.List.{length-drop}
 use Rattle.turn_lock.specs.History.{IsPrefix}
-use Rattle.command_words.specs.Control.{is_control}
 use Rattle.resp_value.specs.Spelling.{request_spelling}
 use Rattle.resp_value.specs.declared.value.Value.{Value}
-use Rattle.resp_value.specs.declared.value.Value.TheVariants as value
 use Rattle.shared_cache.specs.declared.log.Wire.{Wire}
 use Rattle.shared_cache.specs.declared.log.Wire.TheVariants.{Main}
 use Rattle.shared_cache.specs.declared.log.LogEntry.{LogEntry}
 use Rattle.shared_cache.specs.declared.log.LogEntry.TheVariants as entry
 use Rattle.shared_cache.specs.declared.log.ClientCall.TheVariants.{Ask, Send, Poll, TakeOut, Got}
 use Rattle.shared_cache.specs.declared.log.ClientCall.TheVariants.{End}
-use Rattle.shared_cache.specs.declared.log.ClientReply.{ClientReply}
-use Rattle.shared_cache.specs.declared.log.ClientReply.TheVariants.{Hit, Sent, NotYet, Answer}
-use Rattle.shared_cache.specs.declared.log.ClientReply.TheVariants.{Bytes, Quiet, Noted, Refused}
+use Rattle.shared_cache.specs.declared.log.ClientReply.TheVariants.{Hit, Sent, Answer, Bytes, Quiet}
+use Rattle.shared_cache.specs.declared.log.ClientReply.TheVariants.{Noted, Refused}
 use Rattle.shared_cache.specs.declared.log.ClientRefusal.{ClientRefusal}
 use Rattle.shared_cache.specs.declared.log.ClientRefusal.TheVariants.{Down, LogFull, NotReady}
 use Rattle.shared_cache.specs.declared.log.ClientRefusal.TheVariants.{Control, NoNumber}
 use Rattle.shared_cache.specs.declared.entry.CacheEntry.{CacheEntry}
-use Rattle.shared_cache.specs.Log.{is_ended, is_ready, is_wire, reply}
+use Rattle.shared_cache.specs.Log.{is_ended, reply}
 use Rattle.shared_cache.specs.Held.{Setup, held, held_for, commands}
-use Rattle.shared_cache.specs.Out.{out, taken, untaken, is_wanted}
+use Rattle.shared_cache.specs.Out.{out, taken, untaken}
 use Rattle.shared_cache.specs.Steps.{ClientTurn, client_step, refusing, is_log_full, answer_ask}
 use Rattle.shared_cache.specs.Steps.{read_number, command_number, polling, taking_out, getting}
 use Rattle.shared_cache.specs.Steps.{fault_of}
 use Rattle.shared_cache.proofs.CommandLists.{commands_grow}
-
-reply_of : ClientTurn → ClientReply
-reply_of t = t.reply
-
--- what a reply holds
-abbrev bytes_in : ClientReply → List ℕ
-bytes_in (Bytes b) = b
-bytes_in r = []
-
-abbrev number_in : ClientReply → ℕ
-number_in (Hit v n) = n
-number_in (Sent n) = n
-number_in r = 0
-
-abbrev value_in : ClientReply → Value
-value_in (Hit v n) = v
-value_in (Answer v) = v
-value_in r = value.Null
 
 module _ (log new : List LogEntry) where
   -- ---- TakeOut
@@ -56,59 +34,22 @@ module _ (log new : List LogEntry) where
   quiet_in : (n : ℕ) (over : Bool) (bytes : List ℕ) (full : Bool)
       → cond over (refusing (Down Main) log) (taking_out Main n bytes full log)
       ≡ record { reply = Quiet; past = new } → bytes ≡ []
-  quiet_in n true bytes full is =
-      absurd (let e : Refused (Down Main) ≡ Quiet = ap (λ (t : ClientTurn). t.reply) is in
-      let no : ⊥ = cc in no)
-  quiet_in n false [] full is = refl
-  quiet_in n false (b ∷ bytes) true is =
-      absurd (let e : Refused (LogFull (length log)) ≡ Quiet
-      = ap (λ (t : ClientTurn). t.reply) is in let no : ⊥ = cc in no)
-  quiet_in n false (b ∷ bytes) false is =
-      absurd (let e : Bytes (take n (b ∷ bytes)) ≡ Quiet
-      = ap (λ (t : ClientTurn). t.reply) is in let no : ⊥ = cc in no)
+  quiet_in n over bytes full is = grind (arith, nat_tests)
 
   given_in : (n : ℕ) (over : Bool) (bytes : List ℕ) (full : Bool) (given : List ℕ)
       → cond over (refusing (Down Main) log) (taking_out Main n bytes full log)
       ≡ record { reply = Bytes given; past = new } → given ≡ take n bytes
-  given_in n true bytes full given is =
-      absurd (let e : Refused (Down Main) ≡ Bytes given = ap (λ (t : ClientTurn). t.reply) is in
-      let no : ⊥ = cc in no)
-  given_in n false [] full given is =
-      absurd (let e : Quiet ≡ Bytes given = ap (λ (t : ClientTurn). t.reply) is in
-      let no : ⊥ = cc in no)
-  given_in n false (b ∷ bytes) true given is =
-      absurd (let e : Refused (LogFull (length log)) ≡ Bytes given
-      = ap (λ (t : ClientTurn). t.reply) is in let no : ⊥ = cc in no)
-  given_in n false (b ∷ bytes) false given is =
-      sym (ap (λ (t : ClientTurn). bytes_in t.reply) is)
+  given_in n over bytes full given is = grind (arith, nat_tests)
 
   take_down_in : (n : ℕ) (over : Bool) (bytes : List ℕ) (full : Bool) (w : Wire)
       → cond over (refusing (Down Main) log) (taking_out Main n bytes full log)
       ≡ record { reply = Refused (Down w); past = new } → over ≡ true
-  take_down_in n true bytes full w is = refl
-  take_down_in n false [] full w is =
-      absurd (let e : Quiet ≡ Refused (Down w) = ap (λ (t : ClientTurn). t.reply) is in
-      let no : ⊥ = cc in no)
-  take_down_in n false (b ∷ bytes) true w is =
-      absurd (let e : Refused (LogFull (length log)) ≡ Refused (Down w)
-      = ap (λ (t : ClientTurn). t.reply) is in let no : ⊥ = cc in no)
-  take_down_in n false (b ∷ bytes) false w is =
-      absurd (let e : Bytes (take n (b ∷ bytes)) ≡ Refused (Down w)
-      = ap (λ (t : ClientTurn). t.reply) is in let no : ⊥ = cc in no)
+  take_down_in n over bytes full w is = grind (arith, nat_tests)
 
   take_full_in : (n : ℕ) (over : Bool) (bytes : List ℕ) (full : Bool) (k : ℕ)
       → cond over (refusing (Down Main) log) (taking_out Main n bytes full log)
       ≡ record { reply = Refused (LogFull k); past = new } → full ≡ true
-  take_full_in n true bytes full k is =
-      absurd (let e : Refused (Down Main) ≡ Refused (LogFull k)
-      = ap (λ (t : ClientTurn). t.reply) is in let no : ⊥ = cc in no)
-  take_full_in n false [] full k is =
-      absurd (let e : Quiet ≡ Refused (LogFull k) = ap (λ (t : ClientTurn). t.reply) is in
-      let no : ⊥ = cc in no)
-  take_full_in n false (b ∷ bytes) true k is = refl
-  take_full_in n false (b ∷ bytes) false k is =
-      absurd (let e : Bytes (take n (b ∷ bytes)) ≡ Refused (LogFull k)
-      = ap (λ (t : ClientTurn). t.reply) is in let no : ⊥ = cc in no)
+  take_full_in n over bytes full k is = grind (arith, nat_tests)
 
   -- ---- Got, where the log is as before
 
@@ -151,24 +92,7 @@ module _ (log new : List LogEntry) where
       (record { reply = answer_ask o n; past = entry.Ask q ∷ log })))
       ≡ record { reply = Hit v k; past = new }
       → (h : CacheEntry) × (o ≡ Some h) × (v ≡ h.value) × (k ≡ h.number)
-  ask_hit_in true unready full o n q v k is =
-      absurd (let e : Refused (Down Main) ≡ Hit v k = ap (λ (t : ClientTurn). t.reply) is in
-      let no : ⊥ = cc in no)
-  ask_hit_in false true full o n q v k is =
-      absurd (let e : Refused NotReady ≡ Hit v k = ap (λ (t : ClientTurn). t.reply) is in
-      let no : ⊥ = cc in no)
-  ask_hit_in false false true o n q v k is =
-      absurd (let e : Refused (LogFull (length log)) ≡ Hit v k
-      = ap (λ (t : ClientTurn). t.reply) is in let no : ⊥ = cc in no)
-  ask_hit_in false false false None n q v k is =
-      absurd (let e : Sent n ≡ Hit v k = ap (λ (t : ClientTurn). t.reply) is in
-      let no : ⊥ = cc in no)
-  ask_hit_in false false false (Some h) n q v k is = (
-    h,
-    refl,
-    sym (ap (λ (t : ClientTurn). value_in t.reply) is),
-    sym (ap (λ (t : ClientTurn). number_in t.reply) is),
-  )
+  ask_hit_in over unready full o n q v k is = grind (arith, nat_tests)
 
   ask_sent_in : (over unready full : Bool) (o : Option CacheEntry) (n : ℕ) (q : List (List ℕ))
       (k : ℕ)
@@ -176,20 +100,7 @@ module _ (log new : List LogEntry) where
       (cond full (refusing (LogFull (length log)) log)
       (record { reply = answer_ask o n; past = entry.Ask q ∷ log })))
       ≡ record { reply = Sent k; past = new } → (o ≡ None) × (k ≡ n)
-  ask_sent_in true unready full o n q k is =
-      absurd (let e : Refused (Down Main) ≡ Sent k = ap (λ (t : ClientTurn). t.reply) is in
-      let no : ⊥ = cc in no)
-  ask_sent_in false true full o n q k is =
-      absurd (let e : Refused NotReady ≡ Sent k = ap (λ (t : ClientTurn). t.reply) is in
-      let no : ⊥ = cc in no)
-  ask_sent_in false false true o n q k is =
-      absurd (let e : Refused (LogFull (length log)) ≡ Sent k
-      = ap (λ (t : ClientTurn). t.reply) is in let no : ⊥ = cc in no)
-  ask_sent_in false false false None n q k is =
-      (refl, sym (ap (λ (t : ClientTurn). number_in t.reply) is))
-  ask_sent_in false false false (Some h) n q k is =
-      absurd (let e : Hit h.value h.number ≡ Sent k = ap (λ (t : ClientTurn). t.reply) is in
-      let no : ⊥ = cc in no)
+  ask_sent_in over unready full o n q k is = grind (arith, nat_tests)
 
   -- ---- Send and Poll
 
@@ -198,64 +109,37 @@ module _ (log new : List LogEntry) where
       (cond control (refusing Control log) (cond full (refusing (LogFull (length log)) log)
       (record { reply = Sent n; past = entry.Send ws ∷ log }))))
       ≡ record { reply = Sent k; past = new } → k ≡ n
-  send_sent_in true unready control full n ws k is =
-      absurd (let e : Refused (Down Main) ≡ Sent k = ap (λ (t : ClientTurn). t.reply) is in
-      let no : ⊥ = cc in no)
-  send_sent_in false true control full n ws k is =
-      absurd (let e : Refused NotReady ≡ Sent k = ap (λ (t : ClientTurn). t.reply) is in
-      let no : ⊥ = cc in no)
-  send_sent_in false false true full n ws k is =
-      absurd (let e : Refused Control ≡ Sent k = ap (λ (t : ClientTurn). t.reply) is in
-      let no : ⊥ = cc in no)
-  send_sent_in false false false true n ws k is =
-      absurd (let e : Refused (LogFull (length log)) ≡ Sent k
-      = ap (λ (t : ClientTurn). t.reply) is in let no : ⊥ = cc in no)
-  send_sent_in false false false false n ws k is =
-      sym (ap (λ (t : ClientTurn). number_in t.reply) is)
+  send_sent_in over unready control full n ws k is = grind (arith, nat_tests)
 
   poll_answer_in : (unwanted : Bool) (o : Option Value) (n : ℕ) (over : Bool) (v : Value)
       → cond unwanted (refusing (NoNumber n) log) (polling o n over log)
       ≡ record { reply = Answer v; past = new } → o ≡ Some v
-  poll_answer_in true o n over v is =
-      absurd (let e : Refused (NoNumber n) ≡ Answer v = ap (λ (t : ClientTurn). t.reply) is in
-      let no : ⊥ = cc in no)
-  poll_answer_in false (Some u) n over v is =
-      ap (λ (t : ClientTurn). Some (value_in t.reply)) is
-  poll_answer_in false None n true v is =
-      absurd (let e : Refused (Down Main) ≡ Answer v = ap (λ (t : ClientTurn). t.reply) is in
-      let no : ⊥ = cc in no)
-  poll_answer_in false None n false v is =
-      absurd (let e : NotYet ≡ Answer v = ap (λ (t : ClientTurn). t.reply) is in
-      let no : ⊥ = cc in no)
+  poll_answer_in unwanted o n over v is = grind (arith, nat_tests)
 
 module _ (s : Setup) (log : List LogEntry) where
   pub quiet_none : (n : ℕ) (new : List LogEntry)
       → client_step s log (TakeOut Main n) ≡ record { reply = Quiet; past = new }
       → untaken s Main log ≡ []
   unfolding client_step
-  quiet_none n new is = quiet_in log new n (is_ended s.mode Main log) (untaken s Main log)
-      (is_log_full s log) is
+  quiet_none n new is = grind (arith, quiet_in)
 
   pub bytes_given : (n : ℕ) (given : List ℕ) (new : List LogEntry)
       → client_step s log (TakeOut Main n) ≡ record { reply = Bytes given; past = new }
       → given ≡ take n (untaken s Main log)
   unfolding client_step
-  bytes_given n given new is = given_in log new n (is_ended s.mode Main log) (untaken s Main log)
-      (is_log_full s log) given is
+  bytes_given n given new is = grind (arith, given_in)
 
   pub take_down : (n : ℕ) (w : Wire) (new : List LogEntry)
       → client_step s log (TakeOut Main n) ≡ record { reply = Refused (Down w); past = new }
       → is_ended s.mode Main log ≡ true
   unfolding client_step
-  take_down n w new is = take_down_in log new n (is_ended s.mode Main log) (untaken s Main log)
-      (is_log_full s log) w is
+  take_down n w new is = grind (arith, take_down_in)
 
   pub take_full : (n k : ℕ) (new : List LogEntry)
       → client_step s log (TakeOut Main n) ≡ record { reply = Refused (LogFull k); past = new }
       → is_log_full s log ≡ true
   unfolding client_step
-  take_full n k new is = take_full_in log new n (is_ended s.mode Main log) (untaken s Main log)
-      (is_log_full s log) k is
+  take_full n k new is = grind (arith, take_full_in)
 
   pub got_down : (v : Value) (w : Wire)
       → client_step s log (Got Main v) ≡ record { reply = Refused (Down w); past = log }
@@ -275,32 +159,25 @@ module _ (s : Setup) (log : List LogEntry) where
       → client_step s log (Ask q) ≡ record { reply = Hit v k; past = new }
       → (h : CacheEntry) × (held_for q (held s log) ≡ Some h) × (v ≡ h.value) × (k ≡ h.number)
   unfolding client_step
-  ask_hit q v k new is =
-      ask_hit_in log new (is_ended s.mode Main log) (not (is_ready s.mode log))
-      (is_log_full s log) (held_for q (held s log)) (read_number s log q) q v k is
+  ask_hit q v k new is = grind (arith, ask_hit_in, nat_tests)
 
   pub ask_sent : (q : List (List ℕ)) (k : ℕ) (new : List LogEntry)
       → client_step s log (Ask q) ≡ record { reply = Sent k; past = new }
       → (held_for q (held s log) ≡ None) × (k ≡ read_number s log q)
   unfolding client_step
-  ask_sent q k new is =
-      ask_sent_in log new (is_ended s.mode Main log) (not (is_ready s.mode log))
-      (is_log_full s log) (held_for q (held s log)) (read_number s log q) q k is
+  ask_sent q k new is = grind (arith, ask_sent_in, nat_tests)
 
   pub send_sent : (ws : List (List ℕ)) (k : ℕ) (new : List LogEntry)
       → client_step s log (Send ws) ≡ record { reply = Sent k; past = new }
       → k ≡ command_number s log ws
   unfolding client_step
-  send_sent ws k new is =
-      send_sent_in log new (is_ended s.mode Main log) (not (is_ready s.mode log)) (is_control ws)
-      (is_log_full s log) (command_number s log ws) ws k is
+  send_sent ws k new is = grind (arith, send_sent_in, nat_tests)
 
   pub poll_answer : (n : ℕ) (v : Value) (new : List LogEntry)
       → client_step s log (Poll n) ≡ record { reply = Answer v; past = new }
       → reply s.mode log n ≡ Some v
   unfolding client_step
-  poll_answer n v new is = poll_answer_in log new (not (is_wanted s log n)) (reply s.mode log n) n
-      (is_ended s.mode Main log) v is
+  poll_answer n v new is = grind (arith, poll_answer_in)
 
   end_in : (over : Bool) → cond over log (entry.End Main ∷ log) ≡ log → over ≡ true
   end_in true is = refl
@@ -333,10 +210,7 @@ begins_lift P one a b more p = subst P more.1 (by_more more.0)
 flat_longer : (f : List (List ℕ) → List ℕ) (xs ys : List (List (List ℕ)))
     → length (flat_map f xs) ≤ length (flat_map f (xs ++ ys))
 flat_longer f [] ys = omega arith
-flat_longer f (x ∷ xs) ys =
-    let r = flat_longer f xs ys in
-    let a = length-append (f x) (flat_map f xs) in
-    let b = length-append (f x) (flat_map f (xs ++ ys)) in omega (arith, r, a, b)
+flat_longer f (x ∷ xs) ys = grind (arith, length-append, flat_longer f xs ys)
 
 module _ (s : Setup) where
   out_one : (e : LogEntry) (log : List LogEntry)
@@ -355,18 +229,10 @@ module _ (s : Setup) where
       (λ e past h. let o = out_one e past in omega (arith, h, o)) a b more (omega arith)
 
   taken_if : (b : Bool) (n more : ℕ) → n ≤ cond b (n + more) n
-  taken_if true n more = omega arith
-  taken_if false n more = omega arith
+  taken_if b n more = grind (arith, nat_tests)
 
   taken_one : (e : LogEntry) (log : List LogEntry) → taken s Main log ≤ taken s Main (e ∷ log)
-  taken_one (entry.Ask q) log = omega arith
-  taken_one (entry.Send ws) log = omega arith
-  taken_one (entry.Poll n) log = omega arith
-  taken_one (entry.TakeOut w n) log = taken_if (is_wire w Main) (taken s Main log)
-      (min n (length (out s Main log) - taken s Main log))
-  taken_one (entry.Got w v) log = omega arith
-  taken_one (entry.End w) log = omega arith
-  taken_one (entry.Bad w v) log = omega arith
+  taken_one e log = grind (arith, taken_if, nat_tests)
 
   pub taken_begins : (a b : List LogEntry) → IsPrefix a b → taken s Main a ≤ taken s Main b
   taken_begins a b more =
@@ -383,18 +249,11 @@ module _ (s : Setup) where
 
   ended_if : (b : Bool) (log : List LogEntry) → is_ended s.mode Main log ≡ true
       → (b || is_ended s.mode Main log) ≡ true
-  ended_if true log h = refl
-  ended_if false log h = h
+  ended_if b log h = grind (arith, nat_tests)
 
   ended_one : (e : LogEntry) (log : List LogEntry) → is_ended s.mode Main log ≡ true
       → is_ended s.mode Main (e ∷ log) ≡ true
-  ended_one (entry.Ask q) log h = h
-  ended_one (entry.Send ws) log h = h
-  ended_one (entry.Poll n) log h = h
-  ended_one (entry.TakeOut w n) log h = h
-  ended_one (entry.Got w v) log h = h
-  ended_one (entry.End w) log h = ended_if (is_wire w Main) log h
-  ended_one (entry.Bad w v) log h = ended_if (is_wire w Main) log h
+  ended_one e log h = grind (arith, ended_if, nat_tests)
 
   pub ended_begins : (a b : List LogEntry) → IsPrefix a b → is_ended s.mode Main a ≡ true
       → is_ended s.mode Main b ≡ true

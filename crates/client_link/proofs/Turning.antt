@@ -1,6 +1,5 @@
 -- What was queued, and taken, by the turns of a pump.
-use Rattle.std.proofs.Common.{◌≡◌, ◌≤◌, ℕ, List, [], ◌∷◌, ◌++◌, length, sym, ap, ◌∙◌, append_assoc}
-use Rattle.std.proofs.Common.{append-nil, arith}
+use Rattle.std.proofs.Common.{◌≤◌, ℕ, List, ◌∷◌, length, arith}
 use Rattle.std.specs.List.{All}
 use Rattle.turn_lock.specs.History.{IsPrefix as IsBefore}
 use Rattle.shared_cache.specs.declared.log.Wire.TheVariants.{Main}
@@ -9,18 +8,12 @@ use Rattle.shared_cache.specs.declared.log.LogEntry.TheVariants as entry
 use Rattle.shared_cache.specs.Held.{Setup}
 use Rattle.shared_cache.specs.Out.{out}
 use Rattle.shared_client.specs.Turns.{Turn}
-use Rattle.client_link.specs.Pumps.{got_in, gots_in, gave_in, gave, IsTaken}
+use Rattle.client_link.specs.Pumps.{IsTaken}
 use Rattle.client_link.proofs.Steps.{out_begins}
 
 module _ (s : Setup) where
   taken_one : (a b : ℕ) (t : Turn) → a ≤ b → IsTaken s a t → IsTaken s b t
-  taken_one a b (entry.Got w v, past) le h = omega (arith, le, h)
-  taken_one a b (entry.TakeOut w n, past) le h = tt
-  taken_one a b (entry.Ask q, past) le h = tt
-  taken_one a b (entry.Send ws, past) le h = tt
-  taken_one a b (entry.Poll n, past) le h = tt
-  taken_one a b (entry.End w, past) le h = tt
-  taken_one a b (entry.Bad w v, past) le h = tt
+  taken_one a b t le h = grind arith
 
   pub taken_more : (a b : ℕ) → a ≤ b → (ts : List Turn) → All (IsTaken s a) ts
       → All (IsTaken s b) ts
@@ -30,12 +23,7 @@ module _ (s : Setup) where
       → IsBefore (t.0 ∷ t.1) past → IsTaken s n t
   stands_taken past n (entry.Got w v, before) le h =
       let o = out_begins s (entry.Got w v ∷ before) past h in omega (arith, le, o)
-  stands_taken past n (entry.TakeOut w m, before) le h = tt
-  stands_taken past n (entry.Ask q, before) le h = tt
-  stands_taken past n (entry.Send ws, before) le h = tt
-  stands_taken past n (entry.Poll m, before) le h = tt
-  stands_taken past n (entry.End w, before) le h = tt
-  stands_taken past n (entry.Bad w v, before) le h = tt
+  stands_taken past n t le h = tt
 
   -- turns of a log all of whose bytes were taken
   pub all_taken : (past : List LogEntry) (n : ℕ) (ts : List Turn) → length (out s Main past) ≤ n

@@ -1,21 +1,20 @@
 -- From the walk to what a parse answers.
-use Rattle.std.proofs.Common.{◌≡◌, ◌∙◌, ◌⊎◌, inl, inr, append_assoc, append-nil, ◌&&◌, ◌||◌, ℕ}
-use Rattle.std.proofs.Common.{Bool, cond, codes, true, false, not, refl, sym, ap, ap₂, List, []}
-use Rattle.std.proofs.Common.{◌∷◌, ◌++◌, map, Option, Some, None, is_some}
+use Rattle.std.proofs.Common.{◌≡◌, ◌∙◌, ◌⊎◌, inl, append_assoc, append-nil, ◌&&◌, ◌||◌, ℕ, Bool}
+use Rattle.std.proofs.Common.{cond, codes, true, false, not, refl, sym, ap, ap₂, List, [], ◌∷◌}
+use Rattle.std.proofs.Common.{◌++◌, map, Option, Some, None, is_some, arith}
 use Rattle.std.specs.List.{find, fold, list_all, list_any}
 use Rattle.std.specs.Option.{option_map, option_map_or}
 use Rattle.std.specs.Prelude.{option_and_then, slice_get}
 use Rattle.std.specs.Str.{bytes_eq}
 use Rattle.clap.specs.Kinds.{Kinds, or_else}
 use Rattle.clap.specs.Walk.{Held, Row, Rule, Walk, has_row, settled, finished, with_default, walk}
-use Rattle.clap.specs.Walk.{nothing_held, rows_after, first_of}
-use Rattle.clap.specs.Simple.{App, Shape, built, filled_from, is_buildable, is_ready, is_ready_leaf}
+use Rattle.clap.specs.Walk.{nothing_held, rows_after, first_of, reading_by, with_values}
+use Rattle.clap.specs.Simple.{App, built, filled_from, is_buildable, is_ready, is_ready_leaf}
 use Rattle.clap.specs.Simple.{is_simple, matches_of}
 use Rattle.clap.specs.Takes.{is_given}
 use Rattle.clap.specs.Faults.{settle_fault, walk_fault, default_fault, defaults_fault, check_fault}
 use Rattle.clap.specs.Faults.{level_fault, fault_of, is_free_app, is_simple_and_free}
 use Rattle.std.proofs.lemmas.List.{map-append}
-use Rattle.clap.specs.Walk.{reading_by, with_values}
 use Rattle.clap.specs.declared.parser.matches.ValueSource.TheVariants.{DefaultValue}
 use Rattle.clap.proofs.FaultLemmas.{leaf_fault}
 use Rattle.clap.specs.declared.error.kind.ErrorKind.TheVariants as kind
@@ -50,15 +49,13 @@ default_passes rows (valued m r) = go (has_row m rows)
     go : (b : Bool)
         → cond (b || true) []
         (Rattle.clap.specs.Faults.given_default_fault (rule_for (valued m r)) []) ≡ []
-    go true = refl
-    go false = refl
+    go b = grind arith
 default_passes rows (flag m) = go (has_row m rows)
   where
     go : (b : Bool)
         → cond (b || false) []
         (Rattle.clap.specs.Faults.given_default_fault (rule_for (flag m)) (codes "false" ∷ [])) ≡ []
-    go true = refl
-    go false = refl
+    go b = grind arith
 
 no_defaults : (ks : List Known) (rows : List Row) → defaults_fault rows (rules_for ks) ≡ []
 unfolding defaults_fault
@@ -68,8 +65,7 @@ no_defaults (k ∷ ks) rows =
     (default_passes rows k) ∙ no_defaults ks (with_default rows (rule_for k))
 
 or_parts : (a b : Bool) → (a || b) ≡ false → (a ≡ false) × (b ≡ false)
-or_parts true b e = cc
-or_parts false b e = (refl, e)
+or_parts a b e = grind arith
 
 flag_added : (m : Word) (rows : List Row) → has_row m rows ≡ false
     → with_values m (reading_by (rule_for (flag m))) DefaultValue
@@ -80,33 +76,28 @@ flag_added m (o ∷ os) e =
     rw (parts.0) (ap (λ (rs : List Row). o ∷ rs) (flag_added m os parts.1))
 
 wider : (a b c : Bool) → (a || c) ≡ true → (a || (b || c)) ≡ true
-wider true b c e = refl
-wider false true c e = refl
-wider false false c e = e
+wider a b c e = grind arith
 
 in_more : (name m : Word) (fs : List Word) (c : Bool) → (in_names name (fs ++ m ∷ []) || c) ≡ true
     → (in_names name fs || (bytes_eq m name || c)) ≡ true
 in_more name m [] c e = go (bytes_eq m name) e
   where
     go : (b : Bool) → ((b || false) || c) ≡ true → (b || c) ≡ true
-    go true h = h
-    go false h = h
+    go b h = grind arith
 in_more name m (f ∷ fs) c e = go (bytes_eq f name) e (in_more name m fs c)
   where
     go : (b : Bool) → ((b || in_names name (fs ++ m ∷ [])) || c) ≡ true
         → ((in_names name (fs ++ m ∷ []) || c) ≡ true
         → (in_names name fs || (bytes_eq m name || c)) ≡ true)
         → ((b || in_names name fs) || (bytes_eq m name || c)) ≡ true
-    go true h next = refl
-    go false h next = next h
+    go b h next = grind arith
 
 abbrev Ends : Word → List Known → Written → List Word → List Row → Type 0
 Ends name ks seen fs rows = (gs : List Word) × (rows ≡ rows_with seen gs)
     × (in_names name gs ≡ true → (in_names name fs || flag_named name ks) ≡ true)
 
 or_none : (a : Bool) → a ≡ true → (a || false) ≡ true
-or_none true e = refl
-or_none false e = e
+or_none a e = grind arith
 
 ends : (name : Word) (ks : List Known) (seen : Written) (fs : List Word)
     → Ends name ks seen fs (fold with_default (rows_with seen fs) (rules_for ks))
@@ -116,8 +107,7 @@ ends name (valued m r ∷ ks) seen fs = go (has_row m (rows_with seen fs)) (ends
     go : (b : Bool) → Ends name ks seen fs (fold with_default (rows_with seen fs) (rules_for ks))
         → Ends name (valued m r ∷ ks) seen fs
         (fold with_default (cond b (rows_with seen fs) (rows_with seen fs)) (rules_for ks))
-    go true h = h
-    go false h = h
+    go b h = grind arith
 ends name (flag m ∷ ks) seen fs =
     go (has_row m (rows_with seen fs)) refl (ends name ks seen fs)
     (ends name ks seen (fs ++ m ∷ []))
@@ -129,8 +119,7 @@ ends name (flag m ∷ ks) seen fs =
         → Ends name (flag m ∷ ks) seen fs (fold with_default (cond b (rows_with seen fs)
         (with_values m (reading_by (rule_for (flag m))) DefaultValue (codes "false" ∷ [])
         (rows_with seen fs))) (rules_for ks))
-    go true there h next =
-        (h.0, h.1, λ e. wider (in_names name fs) (bytes_eq m name) (flag_named name ks) (h.2 e))
+    go true there h next = grind (arith, wider)
     go false first h next =
         let longer : with_values m (reading_by (rule_for (flag m))) DefaultValue
         (codes "false" ∷ []) (rows_with seen fs) ≡ rows_with seen (fs ++ m ∷ []) =
@@ -153,8 +142,7 @@ none_given name (g ∷ gs) = go (bytes_eq g name) (none_given name gs)
         → option_map_or (λ r. Rattle.clap.specs.Facts.explicit_source r.source)
         (cond b (Some (flag_row g)) (find (λ r. bytes_eq r.id name) (map flag_row gs)))
         false ≡ false
-    go true e = refl
-    go false e = e
+    go b e = grind arith
 
 given_is : (name : Word) (seen : Written) (gs : List Word)
     → is_given name (rows_with seen gs) ≡ has name seen
@@ -165,8 +153,7 @@ given_is name (o ∷ os) gs = go (bytes_eq o.0 name) (given_is name os gs)
         → option_map_or (λ r. Rattle.clap.specs.Facts.explicit_source r.source)
         (cond b (Some (row_for o)) (find (λ r. bytes_eq r.id name) (rows_with os gs)))
         false ≡ (b || has name os)
-    go true e = refl
-    go false e = e
+    go b e = grind arith
 
 missing_is : (ks : List Known) (seen : Written) (gs : List Word)
     → list_any (λ a. a.required && not (is_given a.id (rows_with seen gs))) (rules_for ks) ≡ not
@@ -177,9 +164,7 @@ missing_is (k ∷ ks) seen gs =
     (missing_is ks seen gs) ∙ go (is_required k) (has (name_of k) seen) (has_required ks seen)
   where
     go : (r g m : Bool) → ((r && not g) || not m) ≡ not ((not r || g) && m)
-    go true true m = refl
-    go true false m = refl
-    go false g m = refl
+    go r g m = grind arith
 
 -- ---- the whole level
 
@@ -201,8 +186,7 @@ module _ (name : Word) (known : List Known) where
 
   joined : (a b c d : Kinds) → c ≡ []
       → or_else a (or_else [] (or_else b (or_else c d))) ≡ or_else (or_else a b) d
-  joined [] b c d e = ap (λ (x : Kinds). or_else b (or_else x d)) e
-  joined (x ∷ xs) b c d e = refl
+  joined a b c d e = grind arith
 
   level_is : (words : List Word)
       → level words ≡ or_else (part name known (idle_at nothing_held) words) (checks (last words))
@@ -233,8 +217,7 @@ module _ (name : Word) (known : List Known) where
       (missing_is known seen all.0)
 
   fails_first : (a b : Kinds) → (a ≡ [] → ⊥) → or_else a b ≡ [] → ⊥
-  fails_first [] b h e = h refl
-  fails_first (x ∷ xs) b h e = h e
+  fails_first a b h e = grind arith
 
   level_reads : (words : List Word) → list_any is_stray words ≡ false
       → Comes known (options_of known words) (level words) (rows_after (rules_for known) [] words)
@@ -251,20 +234,12 @@ module _ (name : Word) (known : List Known) where
         where
           is : level words ≡ cond (not (has_required known seen))
               (kind.MissingRequiredArgument ∷ []) []
-          is = level_is words
-              ∙ ap₂ (λ (a b : Kinds). or_else a b) h.0 (checked (last words) seen h.1)
+          is = grind (arith, level_is, ap₂, checked)
 
           there : (b : Bool) → has_required known seen ≡ b
               → Comes known (cond b (Some seen) None) (level words)
               (rows_after (rules_for known) [] words)
-          there true e = (
-            is ∙ ap (λ (b : Bool). cond (not b) (kind.MissingRequiredArgument ∷ []) []) e,
-            λ wanted. last_rows wanted (last words) seen h.1,
-          )
-          there false e = λ none.
-              let clash : (kind.MissingRequiredArgument ∷ []) ≡ []
-              = sym (is ∙ ap (λ (b : Bool). cond (not b) (kind.MissingRequiredArgument ∷ []) []) e)
-              ∙ none in cc
+          there b e = grind (arith, is, last_rows)
 
   -- ---- the command
 
@@ -273,9 +248,7 @@ module _ (name : Word) (known : List Known) where
   filled_is i (k ∷ ks) = ap (λ (rs : List Rule). rule_for k ∷ rs) (filled_is i ks)
 
   pub built_is : built (app_for name known) ≡ record { top = shape_for name known; subs = [] }
-  built_is = ap
-      (λ (rs : List Rule). record { top = record (shape_for name known) { rules = rs }; subs = [] })
-      (filled_is 1 known)
+  built_is = grind (arith, shape_for, filled_is)
 
   all_simple : (ks : List Known) → list_all (λ a. a.is_simple) (map raw_rule ks) ≡ true
   all_simple [] = refl
@@ -317,14 +290,7 @@ module _ (name : Word) (known : List Known) where
   pub clap_reads : (words : List Word) → list_any is_stray words ≡ false
       → Comes known (options_of known words) (fault_of (app_for name known) words)
       (matches_of (app_for name known) words)
-  clap_reads words sound =
-      let faults : fault_of (app_for name known) words ≡ level words =
-      ap (λ (a : App). Rattle.clap.specs.Faults.built_fault a nothing_held words) built_is
-      ∙ leaf_fault (record { top = shape_for name known; subs = [] }) nothing_held words refl in
-      let rows : matches_of (app_for name known) words ≡ rows_after (rules_for known) [] words =
-      ap (λ (a : App). rows_after a.top.rules (Rattle.clap.specs.Simple.names_of a) words) built_is
-      in
-      rw (faults, rows) (level_reads words sound)
+  clap_reads words sound = grind (arith, built_is, leaf_fault, shape_for, rules_for, level_reads)
 
 -- ---- the values
 
@@ -346,8 +312,7 @@ default_found known name (g ∷ gs) h = go (bytes_eq g name) h (default_found kn
         → Found known [] name
         (option_and_then (λ (r : Row). slice_get r.values 0)
         (cond b (Some (flag_row g)) (find (λ r. bytes_eq r.id name) (map flag_row gs))))
-    go true k next = inr (refl, refl, k refl)
-    go false k next = next k
+    go b k next = grind arith
 
 pub first_is : (known : List Known) (name : Word) (seen : Written) (gs : List Word)
     → (in_names name gs ≡ true → flag_named name known ≡ true)
@@ -364,5 +329,4 @@ first_is known name (o ∷ os) gs h = go (bytes_eq o.0 name) (first_is known nam
         (codes "false"))
         × (option_map (λ o'. o'.1) (cond b (Some o) (find (λ o'. bytes_eq o'.0 name) os)) ≡ None)
         × (flag_named name known ≡ true)
-    go true e = inl refl
-    go false e = e
+    go b e = grind arith

@@ -1,12 +1,10 @@
 -- What `rsplit_once` gives at a character of one byte, and HOST:PORT at its last colon.
-use Rattle.std.proofs.Common.{◌≡◌, ◌<◌, ◌≤◌, ◌+◌, ◌-◌, ◌∙◌, ℕ, zero, suc, true, false, arith, refl}
-use Rattle.std.proofs.Common.{List, length, get_or, take, drop, Some, None, Bor, MatchOption}
-use Rattle.std.proofs.Common.{sym, ap, ap₂, Bool, cond, ⊎_elim, eq-eqb, ne_eqb, length-drop}
-use Rattle.std.proofs.Common.{get_or-drop}
+use Rattle.std.proofs.Common.{◌≡◌, ◌<◌, ◌≤◌, ◌+◌, ◌-◌, ◌∙◌, ℕ, zero, suc, arith, refl, List, length}
+use Rattle.std.proofs.Common.{get_or, take, drop, Some, None, Bor, MatchOption, sym, ap, ap₂, Bool}
+use Rattle.std.proofs.Common.{cond, ⊎_elim, eq-eqb, ne_eqb, length-drop, get_or-drop}
 use Rattle.std.specs.declared.option.Option.{Option}
 use Rattle.std.specs.Option.{option_map}
-use Rattle.std.specs.Prelude.{option_and_then}
-use Rattle.std.specs.Prelude.{◌==◌}
+use Rattle.std.specs.Prelude.{option_and_then, ◌==◌}
 use Rattle.std.specs.Path.{rfind_below, rsplit_once}
 use Rattle.std.specs.Str.Pattern.{RFindsChar}
 use Rattle.command_line.specs.Commands.{connection_at, connection_in, port_of}
@@ -18,8 +16,7 @@ none_below : (c : ℕ) (text : List ℕ) (n : ℕ)
     → ((i : ℕ) → i < n → get_or text i 0 ≡ c → ⊥) → rfind_below c text n ≡ None
 none_below c text zero h = refl
 none_below c text (suc n) h =
-    cond-false _ _ _ (ne_eqb _ c (h n (omega arith)))
-    ∙ none_below c text n (λ i l. h i (omega arith))
+    grind (arith, cond-false, ne_eqb, none_below c text n (λ i l. h i (omega arith)))
 
 last_below : (c : ℕ) (text : List ℕ) (k n : ℕ) → k < n → get_or text k 0 ≡ c
     → ((i : ℕ) → k < i → i < n → get_or text i 0 ≡ c → ⊥) → rfind_below c text n ≡ Some k

@@ -1,10 +1,7 @@
 -- From what a parse answers to the settings.
-use Rattle.std.specs.Prelude.{option_and_then}
-use Rattle.std.proofs.Common.{◌≡◌, ◌∙◌, ap₂, subst, inl, inr, true≢false, false, true, refl, sym}
-use Rattle.std.proofs.Common.{ap, cond, Bool, List, [], Option, Some, None}
-use Rattle.std.proofs.Common.{Result}
-use Rattle.std.specs.Prelude.{IfOk}
-use Rattle.std.proofs.lemmas.Result.{IfOk-weaker}
+use Rattle.std.specs.Prelude.{option_and_then, IfOk}
+use Rattle.std.proofs.Common.{◌≡◌, ◌∙◌, ap₂, subst, sym, ap, cond, List, [], Option, Some, None}
+use Rattle.std.proofs.Common.{Result, arith}
 use Rattle.clap.specs.Words.{first_value, found_of}
 use Rattle.clap.specs.Kinds.{Kinds}
 use Rattle.clap.specs.Walk.{Row, rows_of, first_of}
@@ -12,25 +9,18 @@ use Rattle.clap.specs.declared.parser.matches.ArgMatches.{ArgMatches}
 use Rattle.clap.proofs.WalkLemmas.{first_value-rows}
 use Rattle.command_line.specs.Options.{Word, Known, Written, Reading, flag_named, is_true, value_of}
 use Rattle.command_line.specs.Options.{option_value, options_of, settings_by}
-use Rattle.command_line.specs.Clap.{Agrees, Holds, flags_in}
+use Rattle.command_line.specs.Clap.{Holds, flags_in}
 use Rattle.command_line.proofs.Finishing.{Comes, Found, first_is, rows_with}
 
 same_flag : (known : List Known) (seen : Written) (name : Word) (text : Option Word)
     → Found known seen name text → is_true text ≡ is_true (value_of name seen)
-same_flag known seen name text found = elim found [
-  | inl same ↦ ap is_true same
-  | inr other ↦ ap is_true other.0 ∙ sym (ap is_true other.1)
-]
+same_flag known seen name text found = grind arith
 
 same_value : (known : List Known) (seen : Written) (name : Word) (text : Option Word)
     → Found known seen name text
     → cond (flag_named name known) None text ≡ cond (flag_named name known) None
     (value_of name seen)
-same_value known seen name text found = elim found [
-  | inl same ↦ ap (cond (flag_named name known) None) same
-  | inr other ↦ ap (λ b. cond b None text) other.2
-      ∙ sym (ap (λ b. cond b None (value_of name seen)) other.2)
-]
+same_value known seen name text found = grind arith
 
 -- a parse that succeeded
 pub holds_some : (known : List Known) (o : Option Written) (kinds : Kinds) (rows : List Row)
@@ -53,8 +43,7 @@ holds_some known (Some seen) kinds rows m comes none is =
 -- one that did not
 pub holds_none : (known : List Known) (o : Option Written) (kinds : Kinds) (rows : List Row)
     → Comes known o kinds rows → (kinds ≡ [] → ⊥) → Holds known o None
-holds_none known None kinds rows comes some = tt
-holds_none known (Some seen) kinds rows comes some = absurd (some comes.0)
+holds_none known o kinds rows comes some = grind arith
 
 -- what the words settle is what is made of the matches
 pub settles : {S : Type 0} (known : List Known) (reading : Reading S) (words : List Word)
@@ -69,8 +58,7 @@ settles known reading words m h = go (options_of known words) h
         (λ n. is_true (value_of n seen)))
         o
         ≡ reading (option_value known (first_value (found_of m))) (flags_in m)
-    go None h = absurd h
-    go (Some seen) h = sym (ap₂ reading h.values h.flags)
+    go o h = grind (arith, ap₂)
 
 -- the same of settings that a function made of the matches, or wanted memory for
 pub settles_as : {S E : Type 0} (known : List Known) (reading : Reading S) (words : List Word)
@@ -78,11 +66,7 @@ pub settles_as : {S E : Type 0} (known : List Known) (reading : Reading S) (word
     → Holds known (options_of known words) o → o ≡ Some m
     → IfOk result (λ s. s ≡ reading (option_value known (first_value (found_of m))) (flags_in m))
     → IfOk result (λ s. s ≡ settings_by known reading words)
-settles_as known reading words m o result h is made =
-    IfOk-weaker result _ _
-    (λ s e. e ∙ sym
-    (settles known reading words m (subst (Holds known (options_of known words)) is h)))
-    made
+settles_as known reading words m o result h is made = grind (arith, settles)
 
 pub settles_none : {S : Type 0} (known : List Known) (reading : Reading S) (words : List Word)
     (o : Option ArgMatches) → Holds known (options_of known words) o → o ≡ None
@@ -96,5 +80,4 @@ settles_none known reading words o h is =
         (λ n. is_true (value_of n seen)))
         o
         ≡ None
-    go None h = refl
-    go (Some seen) h = absurd h
+    go o h = grind arith

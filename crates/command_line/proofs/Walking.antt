@@ -1,7 +1,7 @@
 -- What a parse of a command with only options makes of its words.
 use Rattle.std.proofs.Common.{◌≡◌, ◌∙◌, ◌&&◌, ◌||◌, ◌==◌, ℕ, Bool, cond, codes, true, false, not}
 use Rattle.std.proofs.Common.{refl, sym, ap, ap₂, subst, List, [], ◌∷◌, ◌++◌, map, Option, Some}
-use Rattle.std.proofs.Common.{None, is_some, true≢false}
+use Rattle.std.proofs.Common.{None, is_some, true≢false, arith}
 use Rattle.std.specs.List.{fold, list_any}
 use Rattle.std.specs.Option.{option_map}
 use Rattle.std.specs.Prelude.{option_and_then}
@@ -64,8 +64,7 @@ by_long (k ∷ ks) name = go (bytes_eq (name_of k) name) (by_long ks name)
     go : (b : Bool) → arg_by_long (rules_for ks) name ≡ option_map rule_for (known_as name ks)
         → cond (b || false) (Some (rule_for k))
         (arg_by_long (rules_for ks) name) ≡ option_map rule_for (cond b (Some k) (known_as name ks))
-    go true e = refl
-    go false e = e
+    go b e = grind arith
 
 pub by_id : (known : List Known) (name : Word)
     → arg_by_id (rules_for known) name ≡ option_map rule_for (known_as name known)
@@ -75,8 +74,7 @@ by_id (k ∷ ks) name = go (bytes_eq (name_of k) name) (by_id ks name)
     go : (b : Bool) → arg_by_id (rules_for ks) name ≡ option_map rule_for (known_as name ks)
         → cond b (Some (rule_for k)) (arg_by_id (rules_for ks) name) ≡ option_map rule_for
         (cond b (Some k) (known_as name ks))
-    go true e = refl
-    go false e = e
+    go b e = grind arith
 
 pub found_name : (known : List Known) (name : Word) (k : Known) → known_as name known ≡ Some k
     → (name_of k) ≡ name
@@ -85,16 +83,11 @@ found_name (x ∷ xs) name k e = go (bytes_eq (name_of x) name) refl e (found_na
   where
     go : (b : Bool) → bytes_eq (name_of x) name ≡ b → cond b (Some x) (known_as name xs) ≡ Some k
         → (known_as name xs ≡ Some k → (name_of k) ≡ name) → (name_of k) ≡ name
-    go true hit h next =
-        let same : x ≡ k = cc in
-        ap (λ (y : Known). name_of y) (sym same) ∙ (bytes_eq-Decides (name_of x) name).0 hit
-    go false miss h next = next h
+    go b hit h next = grind (arith, bytes_eq-Decides)
 
 pub found_id : (known : List Known) (name : Word) (k : Known) → known_as name known ≡ Some k
     → arg_by_id (rules_for known) (name_of k) ≡ Some (rule_for k)
-found_id known name k e = by_id known (name_of k)
-    ∙ ap (λ (n : Word). option_map rule_for (known_as n known)) (found_name known name k e)
-    ∙ ap (option_map rule_for) e
+found_id known name k e = grind (arith, by_id, found_name)
 
 pub found_long : (known : List Known) (name : Word) (k : Known) → known_as name known ≡ Some k
     → arg_by_long (rules_for known) name ≡ Some (rule_for k)
@@ -111,8 +104,7 @@ same_has name [] = refl
 same_has name (o ∷ os) = ap (λ b. bytes_eq o.0 name || b) (same_has name os)
 
 or_parts : (a b : Bool) → (a || b) ≡ false → (a ≡ false) × (b ≡ false)
-or_parts true b e = cc
-or_parts false b e = (refl, e)
+or_parts a b e = grind arith
 
 pub kept : (name : Word) (seen : Written) → has name seen ≡ false
     → without name (rows_for seen) ≡ rows_for seen
@@ -131,9 +123,7 @@ added name value (o ∷ os) e =
 
 pub used_once : (m : Word) (r : Bool) (value : Word) (seen : Written) → has m seen ≡ false
     → used (rule_for (valued m r)) (value ∷ []) (rows_for seen) ≡ rows_for (seen ++ (m, value) ∷ [])
-used_once m r value seen e =
-    ap (with_values m (reading_by (rule_for (valued m r))) CommandLine (value ∷ [])) (kept m seen e)
-    ∙ added m value seen e
+used_once m r value seen e = grind (arith, kept, added)
 
 pub use_passes : (m : Word) (r : Bool) (value : Word) (seen : Written) → has m seen ≡ false
     → use_fault false (rule_for (valued m r)) (value ∷ []) (rows_for seen) ≡ []
@@ -150,9 +140,7 @@ use_empty m r seen = refl
 
 pub flag_used : (m : Word) (seen : Written) → has m seen ≡ false
     → used (rule_for (flag m)) [] (rows_for seen) ≡ rows_for (seen ++ (m, codes "true") ∷ [])
-flag_used m seen e =
-    ap (with_values m (reading_by (rule_for (flag m))) CommandLine (codes "true" ∷ []))
-    (kept m seen e) ∙ added m (codes "true") seen e
+flag_used m seen e = grind (arith, codes, kept, added)
 
 pub flag_passes : (m : Word) (seen : Written) → has m seen ≡ false
     → use_fault false (rule_for (flag m)) [] (rows_for seen) ≡ []
@@ -171,26 +159,21 @@ long_is (b ∷ text) = go (b == 45) refl text
     rest : (t : Word)
         → option_and_then Rattle.clap.specs.Lexer.long_of_rest
         (Some t) ≡ Rattle.command_line.specs.Options.after_dashes t
-    rest [] = refl
-    rest (d ∷ t) = refl
+    rest t = grind arith
 
     second : (c : ℕ) (t : Word) (y : Bool) → (c == 45) ≡ y
         → option_and_then Rattle.clap.specs.Lexer.long_of_rest
         (Rattle.clap.specs.Lexer.strip_byte 45
         (c ∷ t)) ≡ Rattle.command_line.specs.Options.after_dash (c ∷ t)
-    second c t true e = rw e (rest t)
-    second c t false e = rw e refl
+    second c t y e = grind (arith, rest)
 
     go : (x : Bool) → (b == 45) ≡ x → (t : Word) → long_of (b ∷ t) ≡ option_of (b ∷ t)
-    go true e [] = rw e refl
-    go true e (c ∷ t) = rw e (second c t (c == 45) refl)
-    go false e t = rw e refl
+    go x e t = grind (arith, second)
 
 -- a word that does not begin with `-` is no flag
 pub plain_is : (word : Word) → has_dash word ≡ false → (option_of word ≡ None)
     × (short_of word ≡ None) × (bytes_eq word (45 ∷ 45 ∷ []) ≡ false)
-plain_is [] e = (refl, refl, refl)
-plain_is (b ∷ text) e = (rw e refl, rw e refl, rw e refl)
+plain_is word e = grind arith
 
 -- a word of options alone: an option, or one that does not begin with `-`
 pub sound_word : (word : Word) → is_stray word ≡ false → option_of word ≡ None
@@ -200,8 +183,7 @@ sound_word word e none =
     (subst (λ (o : Option (Word × Option Word)). (has_dash word && not (is_some o)) ≡ false) none e)
   where
     go : (x : Bool) → (x && true) ≡ false → x ≡ false
-    go true h = h
-    go false h = h
+    go x h = grind arith
 
 -- `--name` is not `--`
 pub not_dashes : (word : Word) (p : Word × Option Word) → option_of word ≡ Some p
@@ -210,20 +192,15 @@ not_dashes [] p e = refl
 not_dashes (b ∷ []) p e = go (b == 45)
   where
     go : (x : Bool) → (x && false) ≡ false
-    go true = refl
-    go false = refl
+    go x = grind arith
 not_dashes (b ∷ c ∷ []) p e = absurd (go (b == 45) (c == 45) e)
   where
     go : (x y : Bool) → cond x (cond y None None) None ≡ Some p → ⊥
-    go true true h = cc
-    go true false h = cc
-    go false y h = cc
+    go x y h = grind arith
 not_dashes (b ∷ c ∷ d ∷ text) p e = go (b == 45) (c == 45)
   where
     go : (x y : Bool) → (x && (y && false)) ≡ false
-    go true true = refl
-    go true false = refl
-    go false y = refl
+    go x y = grind arith
 
 -- ---- the walk
 
@@ -251,25 +228,18 @@ module _ (name : Word) (known : List Known) where
   -- a word that is no option, where none is expected
   idle_plain : (h : Held) (word : Word) → has_dash word ≡ false
       → turn (idle_at h) word ≡ kind.UnknownArgument ∷ []
-  idle_plain h word plain =
-      let p = plain_is word plain in
-      let l : long_of word ≡ None = long_is word ∙ p.0 in
-      rw (p.2, l, p.1, no_index known) refl
+  idle_plain h word plain = grind (arith, plain_is, long_is, no_index)
 
   -- an option that the command lacks
   idle_unknown : (h : Held) (word n : Word) (v : Option Word) → option_of word ≡ Some (n, v)
       → known_as n known ≡ None
       → turn (idle_at h) word ≡ kind.UnknownArgument ∷ []
-  idle_unknown h word n v e none =
-      let l : long_of word ≡ Some (n, v) = long_is word ∙ e in
-      rw (not_dashes word (n, v) e, l, no_long known n none) refl
+  idle_unknown h word n v e none = grind (arith, long_is, not_dashes, no_long)
 
   waits_unknown : (name' : Word) (h : Held) (word n : Word) (v : Option Word)
       → option_of word ≡ Some (n, v) → known_as n known ≡ None
       → turn (waits_at name' h) word ≡ kind.UnknownArgument ∷ []
-  waits_unknown name' h word n v e none =
-      let l : long_of word ≡ Some (n, v) = long_is word ∙ e in
-      rw (not_dashes word (n, v) e, l, no_long known n none) refl
+  waits_unknown name' h word n v e none = grind (arith, long_is, not_dashes, no_long)
 
   -- `--name=value`
   idle_attached : (h : Held) (word n v : Word) (m : Word) (r : Bool)
@@ -380,10 +350,7 @@ module _ (name : Word) (known : List Known) where
 
   waits_plain : (n : Word) (h : Held) (word : Word) → has_dash word ≡ false
       → turn (waits_at n h) word ≡ []
-  waits_plain n h word plain =
-      let p = plain_is word plain in
-      let l : long_of word ≡ None = long_is word ∙ p.0 in
-      rw (p.2, l, p.1) refl
+  waits_plain n h word plain = grind (arith, plain_is, long_is)
 
   after_plain : (n : Word) (m : Word) (r : Bool) (rows : List Row) (skip : ℕ) (word : Word)
       → has_dash word ≡ false → known_as n known ≡ Some (valued m r)
@@ -504,8 +471,7 @@ module _ (name : Word) (known : List Known) where
     where
       go : (p : Option (Word × Option Word)) → option_of word ≡ p
           → part (idle_at h) (word ∷ words) ≡ [] → ⊥
-      go None e = stuck (idle_at h) word words kind.UnknownArgument []
-          (idle_plain h word (sound_word word (or_parts _ _ sound).0 e))
+      go None e = grind (arith, idle_plain, sound_word, or_parts)
       go (Some p) e = idle_long_stuck h word words p.0 p.1 x xs bad e
 
   abbrev pub IdleReads : List Word → Type 0
@@ -649,8 +615,7 @@ module _ (name : Word) (known : List Known) where
           → Agrees (cond d None (one_more m word seen (options_from known words)))
           (part (waits_at m (holds m [] (rows_for seen) skip)) (word ∷ words))
           (end (waits_at m (holds m [] (rows_for seen) skip)) (word ∷ words)).held
-      go true dash = dashed (option_of word) refl dash
-      go false plain = once plain (has m seen) refl
+      go d dash = grind (arith, dashed, once)
 
   pub reads : (words : List Word) → list_any is_stray words ≡ false → IdleReads words
       × WaitsReads words

@@ -1,6 +1,6 @@
 -- The commands, their options, and what their words ask for.
-use Rattle.std.specs.Prelude.{ℕ, List, [], ◌∷◌, ◌++◌, codes, true, false, Bool, not, ◌&&◌}
-use Rattle.std.specs.Prelude.{if◌then◌else◌, option_and_then, option_map, is_some, length, ◌==◌}
+use Rattle.std.specs.Prelude.{ℕ, List, [], ◌∷◌, codes, true, false, Bool, ◌&&◌, if◌then◌else◌}
+use Rattle.std.specs.Prelude.{option_and_then, option_map, length, ◌==◌}
 use Rattle.std.specs.declared.option.Option.{Option}
 use Rattle.std.specs.declared.option.Option.TheVariants.{None, Some}
 use Rattle.std.specs.Str.{bytes_eq}

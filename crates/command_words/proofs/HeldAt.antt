@@ -1,6 +1,6 @@
 -- What a key holds after a change of the keyspace.
-use Rattle.std.proofs.Common.{◌≡◌, ◌∙◌, refl, sym, ap, ℕ, List, [], ◌∷◌, Bool, true, false, cond}
-use Rattle.std.proofs.Common.{None, Some, not, ◌||◌}
+use Rattle.std.proofs.Common.{◌≡◌, ◌∙◌, refl, sym, ap, ℕ, List, [], ◌∷◌, Bool, cond, None, Some}
+use Rattle.std.proofs.Common.{not, ◌||◌, arith}
 use Rattle.std.specs.Cmp.Lexicographic.{nat_list_cmp_total, texts_ties}
 use Rattle.std.specs.FinMap.{get, insert, remove, get-insert, get-remove, get-retain_keys}
 use Rattle.std.specs.FinMap.{slice_cmp-IsAntisymmetric, nat_cmp-IsAntisymmetric}
@@ -31,9 +31,7 @@ at_remove_each (k ∷ ks) s q =
     ∙ by (bytes_eq q k) (list_any (bytes_eq q) ks)
   where
     by : (a b : Bool) → cond b None (cond a None (get s q)) ≡ cond (a || b) None (get s q)
-    by true true = refl
-    by true false = refl
-    by false b = refl
+    by a b = grind arith
 
 pub at_without_due : (moment : ℕ) (s : Space) (q : List ℕ) →
     held_at q (without_due moment s)

@@ -1,6 +1,6 @@
 -- The keys in order of first occurrence are the keys.
-use Rattle.std.proofs.Common.{◌≡◌, ◌∙◌, refl, sym, ap, ℕ, List, [], ◌∷◌, Bool, true, false, not}
-use Rattle.std.proofs.Common.{map, ◌||◌, ◌&&◌}
+use Rattle.std.proofs.Common.{◌≡◌, ◌∙◌, refl, ap, ℕ, List, [], ◌∷◌, Bool, true, false, not, map}
+use Rattle.std.proofs.Common.{◌||◌, ◌&&◌, arith}
 use Rattle.std.specs.List.{filter, list_any}
 use Rattle.std.specs.Str.{bytes_eq}
 use Rattle.std.proofs.lemmas.Map.Views.{any-filter_same}
@@ -10,44 +10,35 @@ use Rattle.command_words.specs.KeyLists.{each_once}
 -- of keys that a test leaves a key is one where it passes the test and was one
 pub any_left : (p : List ℕ → Bool) (k : List ℕ) (keys : List (List ℕ)) →
     list_any (bytes_eq k) (filter p keys) ≡ (p k && list_any (bytes_eq k) keys)
-any_left p k =
-    any-filter_same (bytes_eq k) p (p k) (λ x same. ap p (sym ((bytes_eq-Decides k x).0 same)))
+any_left p k = grind (arith, any-filter_same, bytes_eq-Decides)
 
 any_apart : (k x : List ℕ) (es : List (List ℕ)) → bytes_eq k x ≡ false →
     list_any (bytes_eq k) (filter (λ e. not (bytes_eq e x)) es) ≡ list_any (bytes_eq k) es
-any_apart k x es apart =
-    any_left (λ e. not (bytes_eq e x)) k es
-    ∙ ap (λ b. not b && list_any (bytes_eq k) es) apart
+any_apart k e es apart = grind (arith, any_left)
 
 either_way : (b : Bool) (c d : Bool) → (b ≡ false → c ≡ d) → (b || c) ≡ (b || d)
-either_way true c d e = refl
-either_way false c d e = e refl
+either_way b c d e = grind arith
 
 -- a key is among them exactly where it is among the keys
 pub any_once : (k : List ℕ) (ks : List (List ℕ)) →
     list_any (bytes_eq k) (each_once ks) ≡ list_any (bytes_eq k) ks
 any_once k [] = refl
-any_once k (x ∷ ks) =
-    either_way (bytes_eq k x) _ _ (λ apart. any_apart k x (each_once ks) apart ∙ any_once k ks)
+any_once k (x ∷ ks) = grind (arith, either_way, any_apart, any_once k ks)
 
 pub is_itself : (k : List ℕ) → bytes_eq k k ≡ true
 is_itself k = (bytes_eq-Decides k k).1 refl
 
 pub or_true : (b c : Bool) → c ≡ true → (b || c) ≡ true
-or_true true c e = refl
-or_true false c e = e
+or_true b c e = grind arith
 
 pub left_false : (b c : Bool) → (b || c) ≡ false → b ≡ false
-left_false true c e = absurd cc
-left_false false c e = refl
+left_false b c e = grind arith
 
 pub right_false : (b c : Bool) → (b || c) ≡ false → c ≡ false
-right_false true c e = absurd cc
-right_false false c e = e
+right_false b c e = grind arith
 
 pub first : (b c : Bool) → b ≡ true → (b || c) ≡ true
-first true c e = refl
-first false c e = cc
+first b c e = grind arith
 
 -- maps that agree at each of the keys
 pub map_alike : {X : Type 0} (f g : List ℕ → X) (ks : List (List ℕ)) →

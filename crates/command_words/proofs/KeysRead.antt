@@ -1,6 +1,6 @@
 -- The reply to a read is that of the contents of the keys that it reads.
-use Rattle.std.proofs.Common.{◌≡◌, ◌∙◌, refl, ap, ℕ, List, [], ◌∷◌, Bool, true}
-use Rattle.std.proofs.Common.{Option, None, Some, cond, length}
+use Rattle.std.proofs.Common.{◌≡◌, ◌∙◌, refl, ap, ℕ, List, [], ◌∷◌, Bool, true, Option, cond}
+use Rattle.std.proofs.Common.{length, arith}
 use Rattle.std.specs.Prelude.{pos, is_some}
 use Rattle.std.specs.FinMap.{contains_key, get}
 use Rattle.std.specs.Option.{option_map}
@@ -26,10 +26,7 @@ at_one key space other same = same key (first (bytes_eq key key) _ (is_itself ke
 there_alike : (a b : Option Held) →
     option_map (λ held. held.content) a ≡ option_map (λ held. held.content) b →
     is_some a ≡ is_some b
-there_alike None None e = refl
-there_alike None (Some b) e = absurd cc
-there_alike (Some a) None e = absurd cc
-there_alike (Some a) (Some b) e = refl
+there_alike a b e = grind arith
 
 -- tests that agree at each of the keys pass the same ones
 passing_alike : (p q : List ℕ → Bool) (keys : List (List ℕ)) →

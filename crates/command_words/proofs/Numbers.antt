@@ -11,6 +11,4 @@ grows n (d ∷ ds) = omega (arith, grows (n * 10 + (d - 48)) ds)
 pub too_large : (n limit : ℕ) (ds : List ℕ) → 0 < length ds → 922337203685477580 < n →
     limit ≤ 9223372036854775808 → nat_le (value_of n ds) limit ≡ false
 too_large n limit [] some past within = absurd (omega arith)
-too_large n limit (d ∷ ds) some past within =
-    let next = n * 10 + (d - 48) in
-    lt-leb (value_of next ds) limit (omega (arith, grows next ds))
+too_large n limit (d ∷ ds) some past within = grind (arith, lt-leb, grows)

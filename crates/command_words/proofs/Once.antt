@@ -1,6 +1,6 @@
 -- Words in order of first occurrence, one word after the other.
-use Rattle.std.proofs.Common.{◌≡◌, ◌∙◌, refl, sym, ap, ℕ, List, [], ◌∷◌, ◌++◌}
-use Rattle.std.proofs.Common.{Bool, true, false, not, cond, ◌||◌}
+use Rattle.std.proofs.Common.{◌≡◌, refl, ap, ℕ, List, [], ◌∷◌, ◌++◌, Bool, true, false, not, cond}
+use Rattle.std.proofs.Common.{◌||◌, arith}
 use Rattle.std.specs.List.{filter, list_any}
 use Rattle.std.specs.Str.{bytes_eq}
 use Rattle.std.proofs.lemmas.Map.Made.{alike_from_same}
@@ -13,9 +13,7 @@ is_fresh met key = not (list_any (bytes_eq key) met)
 
 kept : (p : List ℕ → Bool) (b : Bool) (x : List ℕ) (xs ys : List (List ℕ)) (d : Bool) →
     cond b (p x) false ≡ d → filter p xs ≡ ys → filter p (cond b (x ∷ xs) xs) ≡ cond d (x ∷ ys) ys
-kept p true x xs ys d e f =
-    ap (λ b. cond b (x ∷ filter p xs) (filter p xs)) e ∙ ap (λ l. cond d (x ∷ l) l) f
-kept p false x xs ys d e f = f ∙ ap (λ b. cond b (x ∷ ys) ys) e
+kept p b h xs ys d e f = grind arith
 
 filter_both : (p q r : List ℕ → Bool) → ((x : List ℕ) → cond (q x) (p x) false ≡ r x) →
     (xs : List (List ℕ)) → filter p (filter q xs) ≡ filter r xs
@@ -23,27 +21,19 @@ filter_both p q r e [] = refl
 filter_both p q r e (x ∷ xs) = kept p (q x) x _ _ (r x) (e x) (filter_both p q r e xs)
 
 or_false : (b : Bool) → (b || false) ≡ b
-or_false true = refl
-or_false false = refl
+or_false b = grind arith
 
 any_more : (t : List ℕ → Bool) (xs : List (List ℕ)) (y : List ℕ) →
     list_any t (xs ++ y ∷ []) ≡ (list_any t xs || t y)
 any_more t [] y = or_false (t y)
-any_more t (x ∷ xs) y =
-    elim (t x) as (λ b. (b || list_any t (xs ++ y ∷ [])) ≡ ((b || list_any t xs) || t y))
-    [ true ↦ refl | false ↦ any_more t xs y ]
+any_more t (x ∷ xs) y = grind (arith, any_more t xs y)
 
 both_apart : (a b : Bool) → cond (not b) (not a) false ≡ not (a || b)
-both_apart true true = refl
-both_apart true false = refl
-both_apart false true = refl
-both_apart false false = refl
+both_apart a b = grind arith
 
 fresh_more : (met : List (List ℕ)) (key x : List ℕ) →
     cond (not (bytes_eq x key)) (is_fresh met x) false ≡ is_fresh (met ++ key ∷ []) x
-fresh_more met key x =
-    both_apart (list_any (bytes_eq x) met) (bytes_eq x key)
-    ∙ ap not (sym (any_more (bytes_eq x) met key))
+fresh_more met key e = grind (arith, both_apart, any_more)
 
 joined : (met : List (List ℕ)) (key : List ℕ) (ks : List (List ℕ)) →
     (met ++ key ∷ []) ++ ks ≡ met ++ key ∷ ks
@@ -54,42 +44,26 @@ next_fresh : (met : List (List ℕ)) (key : List ℕ) (ks : List (List ℕ)) →
     is_fresh met key ≡ true →
     (met ++ key ∷ []) ++ filter (is_fresh (met ++ key ∷ [])) (each_once ks)
     ≡ met ++ filter (is_fresh met) (each_once (key ∷ ks))
-next_fresh met key ks fresh =
-    joined met key _
-    ∙ ap (λ l. met ++ key ∷ l) (sym (filter_both _ _ _ (fresh_more met key) (each_once ks)))
-    ∙ ap (λ b. met ++ cond b
-    (key ∷ filter (is_fresh met) (filter (λ k. not (bytes_eq k key)) (each_once ks)))
-    (filter (is_fresh met) (filter (λ k. not (bytes_eq k key)) (each_once ks))))
-    (sym fresh)
+next_fresh met key ks fresh = grind (arith, joined, filter_both, fresh_more)
 
 stays : (b c : Bool) → (b ≡ true → c ≡ false) → cond (not b) c false ≡ c
-stays true c e = sym (e refl)
-stays false c e = refl
+stays b c e = grind arith
 
 met_is_apart : (met : List (List ℕ)) (key x : List ℕ) → is_fresh met key ≡ false →
     cond (not (bytes_eq x key)) (is_fresh met x) false ≡ is_fresh met x
-met_is_apart met key x stale =
-    stays (bytes_eq x key) (is_fresh met x)
-    (λ e. alike_from_same bytes_eq-Decides (is_fresh met) x key e ∙ stale)
+met_is_apart met key e stale = grind (arith, stays, alike_from_same, bytes_eq-Decides)
 
 next_met : (met : List (List ℕ)) (key : List ℕ) (ks : List (List ℕ)) →
     is_fresh met key ≡ false →
     met ++ filter (is_fresh met) (each_once ks)
     ≡ met ++ filter (is_fresh met) (each_once (key ∷ ks))
-next_met met key ks stale =
-    ap (λ l. met ++ l)
-    (sym (filter_both _ _ _ (λ x. met_is_apart met key x stale) (each_once ks)))
-    ∙ ap (λ b. met ++ cond b
-    (key ∷ filter (is_fresh met) (filter (λ k. not (bytes_eq k key)) (each_once ks)))
-    (filter (is_fresh met) (filter (λ k. not (bytes_eq k key)) (each_once ks))))
-    (sym stale)
+next_met met key ks stale = grind (arith, filter_both, met_is_apart)
 
 by_case : (b : Bool) (met : List (List ℕ)) (key : List ℕ) (ks : List (List ℕ)) →
     list_any (bytes_eq key) met ≡ b →
     cond b met (met ++ key ∷ []) ++ filter (is_fresh (cond b met (met ++ key ∷ []))) (each_once ks)
     ≡ met ++ filter (is_fresh met) (each_once (key ∷ ks))
-by_case true met key ks e = next_met met key ks (ap not e)
-by_case false met key ks e = next_fresh met key ks (ap not e)
+by_case b met key ks e = grind (arith, next_met, next_fresh)
 
 pub next_key : (met : List (List ℕ)) (key : List ℕ) (ks : List (List ℕ)) →
     with_key key met ++ filter (is_fresh (with_key key met)) (each_once ks)

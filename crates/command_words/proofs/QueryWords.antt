@@ -1,7 +1,6 @@
 -- The words of a query are those of the same query.
 use Rattle.std.proofs.Common.{◌≡◌, ◌<◌, refl, arith, ℕ, List, [], ◌∷◌, Bool, true, false, Some}
-use Rattle.std.proofs.Common.{None}
-use Rattle.std.proofs.Common.{length, slice_index_or}
+use Rattle.std.proofs.Common.{None, length, slice_index_or}
 use Rattle.std.specs.Prelude.{if◌then◌else◌}
 use Rattle.std.specs.Str.{str_to_ascii_lowercase, str_to_ascii_uppercase}
 use Rattle.std.proofs.lemmas.Str.Ascii.{lowercase-uppercase, uppercase-uppercase}
@@ -22,14 +21,11 @@ upper_of_upper (c ∷ cs) = λ i. uppercase-uppercase c i ∷ upper_of_upper cs 
 pub query_again : (words : List (List ℕ)) → reads_as_cacheable (reading words) ≡ true →
     query_of (with_upper_name words) ≡ Some (with_upper_name words)
 unfolding reading
-query_again [] cacheable = cc
-query_again (name ∷ words) cacheable =
-    rw (lower_of_upper name, cacheable, upper_of_upper name) refl
+query_again words cacheable = grind (arith, lower_of_upper, upper_of_upper)
 
 is_some_of : (b : Bool) (ws vs : List (List ℕ)) → b ≡ false →
     (if b then Some ws else None) ≡ Some vs → ⊥
-is_some_of true ws vs e q = cc
-is_some_of false ws vs e q = cc
+is_some_of b ws vs e q = grind arith
 
 not_a_query : (name : List ℕ) (vs : List (List ℕ)) → query_of (name ∷ []) ≡ Some vs → ⊥
 unfolding reading
@@ -46,6 +42,4 @@ has_key (name ∷ key ∷ words) is_query = omega arith
 pub key_at : (ws : List (List ℕ)) (x : List ℕ) → query_of ws ≡ Some ws →
     slice_index_or ws 1 x ≡ key_of ws
 unfolding reading
-key_at [] x is_query = cc
-key_at (name ∷ []) x is_query = absurd (not_a_query name _ is_query)
-key_at (name ∷ key ∷ words) x is_query = refl
+key_at ws e is_query = grind (arith, not_a_query)

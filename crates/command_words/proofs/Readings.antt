@@ -1,28 +1,24 @@
 -- What a name and the words after it read as: a cacheable query reads the first of these words
 -- alone, and no command on strings, hashes or keys is a control command.
-use Rattle.std.proofs.Common.{◌≡◌, ◌∙◌, sym, ap, subst, refl, ℕ, List, [], ◌∷◌, Bool, true, false}
-use Rattle.std.proofs.Common.{Ok, Err, not, ◌&&◌, ◌||◌}
+use Rattle.std.proofs.Common.{◌≡◌, sym, ap, subst, refl, ℕ, List, [], ◌∷◌, Bool, true, false, Ok}
+use Rattle.std.proofs.Common.{Err, not, ◌&&◌, ◌||◌, arith}
 use Rattle.std.specs.Prelude.{if◌then◌else◌, codes}
-use Rattle.std.specs.Str.{bytes_eq, str_to_ascii_lowercase}
+use Rattle.std.specs.Str.{bytes_eq}
 use Rattle.command_words.specs.declared.command.Command.{Command}
 use Rattle.command_words.specs.declared.command.Command.TheVariants as command
 use Rattle.command_words.specs.declared.command.WordFault.{WordFault}
-use Rattle.command_words.specs.declared.command.WordFault.TheVariants.{Unknown, Arity, Syntax}
-use Rattle.command_words.specs.declared.command.WordFault.TheVariants.{BadNumber, BadExpire}
-use Rattle.command_words.specs.declared.command.WordFault.TheVariants.{NoMemory}
-use Rattle.command_words.specs.ClientWords.{client_words, client_reading, yes_or_no}
-use Rattle.command_words.specs.ConnectionWords.{connection_reading, hello_version, save_mode}
+use Rattle.command_words.specs.declared.command.WordFault.TheVariants.{Unknown}
+use Rattle.command_words.specs.ClientWords.{client_words, client_reading}
+use Rattle.command_words.specs.ConnectionWords.{connection_reading}
 use Rattle.command_words.specs.Control.{is_control_command, reads_as_control}
-use Rattle.command_words.specs.TrackingWords.{tracking}
 use Rattle.command_words.specs.HashWords.{hash_reading, hincrby_reading}
 use Rattle.command_words.specs.KeyWords.{key_reading, flush_mode, one_and_seconds}
 use Rattle.command_words.specs.Queries.{is_cacheable, reads_as_cacheable, read, key_of}
 use Rattle.command_words.specs.Reading.{Read, read_as, read_then}
-use Rattle.command_words.specs.SetOptions.{set_reading, set_options}
+use Rattle.command_words.specs.SetOptions.{set_reading}
 use Rattle.command_words.specs.StringWords.{string_reading, range_reading}
-use Rattle.command_words.specs.WordCounts.{no_word, one, two, at_least_one, at_most_one}
-use Rattle.command_words.specs.WordCounts.{one_and_more, in_pairs, one_and_pairs, number}
-use Rattle.command_words.specs.WordCounts.{one_and_number}
+use Rattle.command_words.specs.WordCounts.{no_word, one, two, at_least_one, one_and_more, in_pairs}
+use Rattle.command_words.specs.WordCounts.{one_and_pairs, one_and_number}
 use Rattle.command_words.proofs.KeysOnce.{left_false, right_false}
 use Rattle.command_words.specs.Words.{or_else, reading_of, reading}
 
@@ -49,95 +45,58 @@ record Reads (may_control : Bool) (words : List (List ℕ)) (r : Read Command) :
 module _ {may : Bool} {ws : List (List ℕ)} where
   either : (b : Bool) {x y : Read Command} → Reads may ws x → Reads may ws y →
       Reads may ws (if b then x else y)
-  either true reads rest = reads
-  either false reads rest = rest
+  either b reads rest = grind arith
 
   fault : {f : WordFault} → Reads may ws (Err f)
   fault = record { first = λ h. absurd (let no : ⊥ = cc in no); control = refl }
 
   both : (x y : Read Command) → Reads may ws x → Reads may ws y → Reads may ws (or_else x y)
-  both (Ok command) y reads rest = reads
-  both (Err Unknown) y reads rest = rest
-  both (Err Arity) y reads rest = fault
-  both (Err Syntax) y reads rest = fault
-  both (Err BadNumber) y reads rest = fault
-  both (Err BadExpire) y reads rest = fault
-  both (Err NoMemory) y reads rest = fault
+  both x y reads rest = grind (arith, fault)
 
   -- no cacheable query is made
   none : {A : Type 0} (f : A → Command) (r : Read A) →
       ((a : A) → (is_cacheable (f a) || (is_control_command (f a) && not may)) ≡ false) →
       Reads may ws (read_as f r)
-  none f (Ok a) other =
-      let not_cacheable = left_false (is_cacheable (f a)) _ (other a) in
-      record {
-        first = λ h. absurd (let no : true ≡ false = sym h ∙ not_cacheable in cc);
-        control = right_false (is_cacheable (f a)) _ (other a);
-      }
-  none f (Err e) other = fault
+  none f r other = grind (arith, left_false, right_false, fault)
 
   then_reads : {A : Type 0} (r : Read A) (f : A → Read Command) →
       ((a : A) → Reads may ws (f a)) → Reads may ws (read_then r f)
-  then_reads (Ok a) f reads = reads a
-  then_reads (Err e) f reads = fault
+  then_reads r f reads = grind (arith, fault)
 
   own : (c : Command) → Own ws c → Reads may ws (Ok c)
   own c h = record { first = λ _. h.0; control = ap (λ b. b && not may) h.1 }
 
   made : {A : Type 0} (f : A → Command) (r : Read A) → ((a : A) → Own ws (f a)) →
       Reads may ws (read_as f r)
-  made f (Ok a) owns = own (f a) (owns a)
-  made f (Err e) owns = fault
+  made f r owns = grind (arith, own, fault)
 
 module _ {may : Bool} where
   of_one : (f : List ℕ → Command) (ws : List (List ℕ)) → ((k : List ℕ) → Own (k ∷ []) (f k)) →
       Reads may ws (read_as f (one ws))
-  of_one f [] owns = fault
-  of_one f (a ∷ []) owns = own (f a) (owns a)
-  of_one f (a ∷ b ∷ ws) owns = fault
+  of_one f ws owns = grind (arith, own, fault)
 
   of_two : (f : List ℕ × List ℕ → Command) (ws : List (List ℕ)) →
       ((p : List ℕ × List ℕ) → Own (p.0 ∷ []) (f p)) → Reads may ws (read_as f (two ws))
-  of_two f [] owns = fault
-  of_two f (a ∷ []) owns = fault
-  of_two f (a ∷ b ∷ []) owns = own (f (a, b)) (owns (a, b))
-  of_two f (a ∷ b ∷ d ∷ ws) owns = fault
+  of_two f ws owns = grind (arith, own, fault)
 
   of_more : (f : List ℕ × List (List ℕ) → Command) (ws : List (List ℕ)) →
       ((p : List ℕ × List (List ℕ)) → Own (p.0 ∷ []) (f p)) →
       Reads may ws (read_as f (one_and_more ws))
-  of_more f [] owns = fault
-  of_more f (a ∷ []) owns = fault
-  of_more f (a ∷ b ∷ ws) owns = own (f (a, b ∷ ws)) (owns (a, b ∷ ws))
+  of_more f ws owns = grind (arith, own, fault)
 
   of_range : (ws : List (List ℕ)) → Reads may ws (range_reading ws)
-  of_range [] = fault
-  of_range (key ∷ []) = fault
-  of_range (key ∷ a ∷ []) = fault
-  of_range (key ∷ a ∷ b ∷ []) =
-      then_reads (number a) _
-      (λ i. made (λ j. command.GetRange key i j) (number b) (λ j. (refl, refl)))
-  of_range (key ∷ a ∷ b ∷ d ∷ ws) = fault
+  of_range ws = grind (arith, then_reads, made, fault)
 
   of_set : (ws : List (List ℕ)) → Reads may ws (set_reading ws)
   unfolding set_reading
-  of_set [] = fault
-  of_set (key ∷ []) = fault
-  of_set (key ∷ value ∷ options) = none _ (set_options _ _ options) (λ o. refl)
+  of_set ws = grind (arith, none, fault)
 
   of_hincrby : (ws : List (List ℕ)) → Reads may ws (hincrby_reading ws)
-  of_hincrby [] = fault
-  of_hincrby (key ∷ []) = fault
-  of_hincrby (key ∷ field ∷ []) = fault
-  of_hincrby (key ∷ field ∷ n ∷ []) = none _ (number n) (λ i. refl)
-  of_hincrby (key ∷ field ∷ n ∷ m ∷ ws) = fault
+  of_hincrby ws = grind (arith, none, fault)
 
   -- EXISTS of one key; of several it is no query
   of_exists : (ws : List (List ℕ)) → Reads may ws (read_as command.Exists (at_least_one ws))
-  of_exists [] = fault
-  of_exists (key ∷ []) = own (command.Exists (key ∷ [])) (refl, refl)
-  of_exists (key ∷ k ∷ ws) =
-      record { first = λ h. absurd (let no : ⊥ = cc in no); control = refl }
+  of_exists ws = grind (arith, fault, own)
 
   of_strings : (name : List ℕ) (ws : List (List ℕ)) → Reads may ws (string_reading name ws)
   unfolding string_reading
@@ -212,40 +171,14 @@ module _ {may : Bool} where
 
 of_client : (name : List ℕ) (vs ws : List (List ℕ)) → Reads true vs (client_reading name ws)
 unfolding client_reading
-of_client name vs ws =
-    either (bytes_eq name (codes "id"))
-    (none (λ _. command.ClientId) (no_word ws) (λ a. refl))
-    (either (bytes_eq name (codes "tracking"))
-    (none command.ClientTracking (tracking ws) (λ a. refl))
-    (either (bytes_eq name (codes "caching"))
-    (none command.ClientCaching (yes_or_no ws) (λ a. refl))
-    (either (bytes_eq name (codes "getredir"))
-    (none (λ _. command.ClientGetRedir) (no_word ws) (λ a. refl))
-    (either (bytes_eq name (codes "trackinginfo"))
-    (none (λ _. command.ClientTrackingInfo) (no_word ws) (λ a. refl))
-    fault))))
+of_client name vs ws = grind (arith, either, none, fault)
 
 of_client_words : (ws : List (List ℕ)) → Reads true ws (client_words ws)
-of_client_words [] = fault
-of_client_words (name ∷ words) = of_client (str_to_ascii_lowercase name) (name ∷ words) words
+of_client_words ws = grind (arith, fault, of_client)
 
 of_connection : (name : List ℕ) (ws : List (List ℕ)) → Reads true ws (connection_reading name ws)
 unfolding connection_reading
-of_connection name ws =
-    either (bytes_eq name (codes "ping")) (none command.Ping (at_most_one ws) (λ a. refl))
-    (either (bytes_eq name (codes "echo")) (none command.Echo (one ws) (λ a. refl))
-    (either (bytes_eq name (codes "hello"))
-    (none command.Hello (hello_version ws) (λ a. refl))
-    (either (bytes_eq name (codes "reset"))
-    (none (λ _. command.Reset) (no_word ws) (λ a. refl))
-    (either (bytes_eq name (codes "quit")) (none (λ _. command.Quit) (no_word ws) (λ a. refl))
-    (either (bytes_eq name (codes "shutdown"))
-    (none command.Shutdown (save_mode ws) (λ a. refl))
-    (either (bytes_eq name (codes "client")) (of_client_words ws)
-    (either (bytes_eq name (codes "subscribe")) (none command.Subscribe (one ws) (λ a. refl))
-    (either (bytes_eq name (codes "unsubscribe"))
-    (none command.Unsubscribe (at_most_one ws) (λ a. refl))
-    fault))))))))
+of_connection name ws = grind (arith, either, none, of_client_words, fault)
 
 of_data : (may : Bool) (name : List ℕ) (ws : List (List ℕ)) →
     Reads may ws (connection_reading name ws) → Reads may ws (reading_of name ws)
@@ -264,21 +197,17 @@ no_control name ws unknown =
     (of_data false name ws (subst (Reads false ws) (sym unknown) fault)).control
   where
     by : (b : Bool) → (b && true) ≡ false → b ≡ false
-    by true e = e
-    by false e = refl
+    by b e = grind arith
 
 -- no cacheable query is read of no words
 pub no_query : (name : List ℕ) → reads_as_cacheable (reading_of name []) ≡ false
 no_query name = by (reads_as_cacheable (reading_of name [])) (of_name name []).first
   where
     by : (b : Bool) → (b ≡ true → ⊥) → b ≡ false
-    by true none = absurd (none refl)
-    by false none = refl
+    by b none = grind (arith, none)
 
 -- a cacheable query reads the key of its words alone
 pub reads_its_key : (words : List (List ℕ)) → reads_as_cacheable (reading words) ≡ true →
     keys_read (reading words) ≡ key_of words ∷ []
 unfolding reading
-reads_its_key [] h = absurd (let no : ⊥ = cc in no)
-reads_its_key (name ∷ []) h = absurd ((of_name (str_to_ascii_lowercase name) []).first h)
-reads_its_key (name ∷ key ∷ words) h = (of_name (str_to_ascii_lowercase name) (key ∷ words)).first h
+reads_its_key words h = grind (arith, of_name)

@@ -1,8 +1,7 @@
 -- What each row signals is among the keys that its command writes.
-use Rattle.std.proofs.Common.{◌≡◌, ◌∙◌, sym, ℕ, List, [], ◌∷◌, Bool, true, false}
-use Rattle.std.proofs.Common.{Option, None, Some, Result, Ok, Err, length, ◌==◌, ℤ}
-use Rattle.std.specs.Prelude.{pos, negsuc, neg_ℤ}
-use Rattle.std.specs.Prelude.{if◌then◌else◌, nat_lt, ◌++◌, ◌&&◌}
+use Rattle.std.proofs.Common.{◌≡◌, ◌∙◌, sym, ℕ, List, [], ◌∷◌, Bool, true, Option, Result, length}
+use Rattle.std.proofs.Common.{◌==◌, ℤ, arith}
+use Rattle.std.specs.Prelude.{pos, negsuc, neg_ℤ, if◌then◌else◌, nat_lt, ◌++◌, ◌&&◌}
 use Rattle.std.specs.FinMap.{contains_key}
 use Rattle.std.specs.List.{filter, list_any}
 use Rattle.std.specs.Option.{is_some}
@@ -14,17 +13,16 @@ use Rattle.command_words.specs.declared.command.Command.TheVariants as command
 use Rattle.command_words.specs.declared.written.Written.{Written}
 use Rattle.command_words.specs.declared.written.Written.TheVariants.{Keys}
 use Rattle.command_words.specs.KeyLists.{each_once}
-use Rattle.command_words.specs.Space.{Content, Text, Fields, Space, content_at, deadline_at}
+use Rattle.command_words.specs.Space.{Content, Space, content_at, deadline_at}
 use Rattle.command_words.specs.Effect.{Effect, replied, wrote, wrong_type}
-use Rattle.command_words.specs.Effect.{not_integer, number_in, sum_in}
 use Rattle.command_words.specs.Effects.{effect, string_effect, hash_effect, key_effect}
-use Rattle.command_words.specs.Hashes.{Pairs, on_fields, hset_row, hdel_row, hincrby_row}
-use Rattle.command_words.specs.Hashes.{set_all, remove_all, field_sum}
+use Rattle.command_words.specs.Hashes.{Pairs, on_fields, hset_row, hdel_row, hincrby_row, set_all}
+use Rattle.command_words.specs.Hashes.{remove_all, field_sum}
 use Rattle.command_words.specs.Keys.{expiry_after, expiry_at, expire_effect}
 use Rattle.command_words.specs.Laws.{signals}
 use Rattle.command_words.specs.Queries.{written, names, keys_in_turn}
-use Rattle.command_words.specs.Strings.{on_text, getdel_row, append_row, incrby_row}
-use Rattle.command_words.specs.Strings.{incrby_effect, is_least, or_empty, sets}
+use Rattle.command_words.specs.Strings.{on_text, getdel_row, append_row, incrby_row, incrby_effect}
+use Rattle.command_words.specs.Strings.{is_least, or_empty, sets}
 use Rattle.command_words.proofs.KeysOnce.{any_left, any_once}
 
 pub record Only (written : Written) (e : Effect) : Type 0 where
@@ -35,21 +33,16 @@ module _ {w : Written} where
   none = record { is = λ k signalled. cc }
 
   either : (b : Bool) {x y : Effect} → Only w x → Only w y → Only w (if b then x else y)
-  either true only rest = only
-  either false only rest = rest
+  either b only rest = grind arith
 
   text : (content : Option Content) (space : Space) (row : Option (List ℕ) → Effect) →
       ((v : Option (List ℕ)) → Only w (row v)) →
       Only w (on_text (replied wrong_type space) row content)
-  text None space row only = only None
-  text (Some (Text v)) space row only = only (Some v)
-  text (Some (Fields fs)) space row only = none
+  text content space row only = grind (arith, none)
 
   fields : (content : Option Content) (space : Space) (row : Pairs → Effect) →
       ((fs : Pairs) → Only w (row fs)) → Only w (on_fields (replied wrong_type space) row content)
-  fields None space row only = only []
-  fields (Some (Text v)) space row only = none
-  fields (Some (Fields fs)) space row only = only fs
+  fields content space row only = grind (arith, none)
 
 own : {keys : List (List ℕ)} {reply : Value} {space : Space} →
     Only (Keys keys) (wrote reply keys space)
@@ -57,13 +50,11 @@ own = record { is = λ k signalled. signalled }
 
 getdel : (key : List ℕ) (v : Option (List ℕ)) (space : Space) →
     Only (Keys (key ∷ [])) (getdel_row key v space)
-getdel key None space = none
-getdel key (Some v) space = own
+getdel key v space = grind (arith, none, own)
 
 incr : (key : List ℕ) (sum : Result ℤ Value) (space : Space) →
     Only (Keys (key ∷ [])) (incrby_row key sum space)
-incr key (Ok n) space = own
-incr key (Err error) space = none
+incr key sum space = grind (arith, own, none)
 
 append : (key value : List ℕ) (space : Space) →
     Only (Keys (key ∷ [])) (append_row key value space)
@@ -71,15 +62,11 @@ append key value space = either (nat_lt 16777216 (length value)) none own
 
 incr_text : (key : List ℕ) (n : ℤ) (space : Space) →
     Only (Keys (key ∷ [])) (incrby_effect key n space)
-incr_text key n space =
-    text (content_at key space) space
-    (λ v. incrby_row key (sum_in not_integer (number_in v) n) space)
-    (λ v. incr key (sum_in not_integer (number_in v) n) space)
+incr_text key n space = grind (arith, text, incr)
 
 hincr : (key field : List ℕ) (sum : Result ℤ Value) (fs : Pairs) (space : Space) →
     Only (Keys (key ∷ [])) (hincrby_row key field sum fs space)
-hincr key field (Ok n) fs space = own
-hincr key field (Err error) fs space = none
+hincr key field sum fs space = grind (arith, own, none)
 
 expire : (key : List ℕ) (expiry : Option ℕ) (space : Space) →
     Only (Keys (key ∷ [])) (expire_effect key expiry space)
@@ -91,8 +78,7 @@ among : (p : List ℕ → Bool) (k : List ℕ) (keys : List (List ℕ)) →
 among p k keys some = by (p k) (list_any (bytes_eq k) keys) (sym (any_left p k keys) ∙ some)
   where
     by : (b c : Bool) → (b && c) ≡ true → c ≡ true
-    by true c e = e
-    by false c e = cc
+    by b c e = grind arith
 
 pub signalled_only : (c : Command) (space : Space) (moment : ℕ) →
     Only (written c) (effect c space moment)

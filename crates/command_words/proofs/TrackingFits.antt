@@ -1,6 +1,6 @@
 -- Which options of CLIENT TRACKING are well formed, by whether a redirection was read before.
 use Rattle.std.proofs.Common.{◌≡◌, ◌∙◌, ap, refl, ℕ, List, [], ◌∷◌, Bool, true, false, ◌&&◌, Option}
-use Rattle.std.proofs.Common.{Some, None, ℤ}
+use Rattle.std.proofs.Common.{Some, ℤ, arith}
 use Rattle.std.specs.Prelude.{if◌then◌else◌, is_ok, is_some, codes, ◌++◌}
 use Rattle.command_words.specs.declared.command.TrackOptions.{TrackOptions}
 use Rattle.command_words.specs.Integers.{integer_of}
@@ -30,26 +30,20 @@ abbrev mutual
 
 either : (b : Bool) (x y : Read TrackOptions) (p q : Bool) → is_ok x ≡ p → is_ok y ≡ q →
     is_ok (if b then x else y) ≡ (if b then p else q)
-either true x y p q e f = e
-either false x y p q e f = f
+either b h y p q e f = grind arith
 
 if_number : (o : Option ℤ) (f : ℤ → Read TrackOptions) (p : Bool) → ((n : ℤ) → is_ok (f n) ≡ p) →
     is_ok (read_then (number_or_fault o) f) ≡ is_some o && p
-if_number None f p e = refl
-if_number (Some n) f p e = e n
+if_number o f p e = grind arith
 
 alike : (b : Bool) (x y o : TrackOptions) → is_some x.redirect ≡ is_some o.redirect →
     is_some y.redirect ≡ is_some o.redirect →
     is_some (if b then x else y).redirect ≡ is_some o.redirect
-alike true x y o e f = e
-alike false x y o e f = f
+alike b h y o e f = grind arith
 
 same_redirect : (w : List ℕ) (o : TrackOptions) →
     is_some (with_flag w o).redirect ≡ is_some o.redirect
-same_redirect w o =
-    alike (is_name (codes "bcast") w) _ _ o refl
-    (alike (is_name (codes "optin") w) _ _ o refl
-    (alike (is_name (codes "optout") w) _ _ o refl refl))
+same_redirect w o = grind (arith, alike)
 
 mutual
   pub fits : (o : TrackOptions) (ws : List (List ℕ)) →

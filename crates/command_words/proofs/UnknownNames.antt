@@ -1,5 +1,5 @@
 -- A name that is none of a family's is unknown to it.
-use Rattle.std.proofs.Common.{◌≡◌, refl, ℕ, List, false, Err}
+use Rattle.std.proofs.Common.{◌≡◌, refl, ℕ, List, false, Err, arith}
 use Rattle.std.specs.Str.{bytes_eq}
 use Rattle.command_words.specs.declared.command.WordFault.TheVariants.{Unknown}
 use Rattle.command_words.specs.declared.string_words.StringName.{StringName}
@@ -114,12 +114,4 @@ no_client_name name words none =
 pub connection_alone : (n : ConnectionName) (ws : List (List ℕ)) →
     reading_of (connection_name_text n) ws ≡ connection_reading (connection_name_text n) ws
 unfolding string_reading hash_reading key_reading
-connection_alone connection.Ping ws = refl
-connection_alone connection.Echo ws = refl
-connection_alone connection.Hello ws = refl
-connection_alone connection.Reset ws = refl
-connection_alone connection.Quit ws = refl
-connection_alone connection.Shutdown ws = refl
-connection_alone connection.Client ws = refl
-connection_alone connection.Subscribe ws = refl
-connection_alone connection.Unsubscribe ws = refl
+connection_alone n ws = grind arith

@@ -1,5 +1,5 @@
 -- Keys whose deadline is past.
-use Rattle.std.specs.Prelude.{ℕ, List, Bool, false, not, nat_lt, Option, Some, None}
+use Rattle.std.specs.Prelude.{ℕ, Bool, false, not, nat_lt, Option, Some, None}
 use Rattle.std.specs.FinMap.{retain_keys}
 use Rattle.command_words.specs.Space.{Space, deadline_at}
 

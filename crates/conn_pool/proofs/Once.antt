@@ -1,13 +1,10 @@
 -- In a legal history each connection is admitted at most once.
-use Rattle.std.proofs.Common.{◌≡◌, ℕ, ◌+◌, ◌<◌, ◌≤◌, cond, List, [], ◌∷◌, sym, refl, ap, ◌∙◌}
-use Rattle.std.proofs.Common.{subst, arith, eq-eqb, ne_eqb, length}
-use Rattle.std.specs.Prelude.{◌==◌}
+use Rattle.std.proofs.Common.{◌≡◌, ℕ, ◌+◌, ◌<◌, ◌≤◌, List, [], ◌∷◌, sym, refl, ap, ◌∙◌, arith}
+use Rattle.std.proofs.Common.{eq-eqb, ne_eqb, length}
 use Rattle.std.specs.List.{sum_by}
 use Rattle.std.specs.List.Sorted.{IsPermutation}
 use Rattle.std.proofs.lemmas.List.Sorted.{sum_by-IsPermutation}
 use Rattle.std.proofs.lemmas.List.Sums.{sum_by-cons}
-use mathlib.Core.Logic.{dite}
-use native.Mathlib.Decide.{ℕ_discrete}
 use Rattle.turn_lock.specs.Counts.{times, total}
 use Rattle.turn_lock.specs.History.{entries, Legal}
 use Rattle.serial_model.specs.declared.history.Limits.{Limits}
@@ -25,37 +22,16 @@ module _ (l : Limits) where
   -- each of its entries is one that a turn of the server adds
   pub legal_of : (h : List (ℕ × Entry)) → Legal TurnStep l h → IsLegal l (entries h)
   legal_of [] t = tt
-  legal_of (e ∷ h) (rest, (call, reply, step)) =
-      let before = legal_of h rest in
-      by_step l (λ r new. IsLegal l new) (entries h) (e.1 ∷ entries h) call reply
-      (step_legal l (entries h) call before) before step
+  legal_of (e ∷ h) (rest, (call, reply, step)) = grind (arith, by_step, step_legal, legal_of h rest)
 
   once : (past : List Entry) → IsLegal l past → (n : ℕ)
       → (total (admits n) past ≤ 1) × (admitted past < n → total (admits n) past ≡ 0)
   once [] legal n = (omega arith, λ lt. omega arith)
-  once (Admit k ∷ past) (is, room, legal) n =
-      let r = once past legal n in
-      dite (ℕ_discrete k n)
-      (λ same.
-      let c : cond {A = ℕ} (k == n) 1 0 ≡ 1 = ap (λ b. cond {A = ℕ} b 1 0) (eq-eqb k n same) in
-      let z = r.1 (omega (arith, is, same)) in
-      (omega (arith, c, z), λ lt. absurd (omega (arith, lt, is, same))))
-      (λ ne.
-      let c : cond {A = ℕ} (k == n) 1 0 ≡ 0 = ap (λ b. cond {A = ℕ} b 1 0) (ne_eqb k n ne) in
-      let m = r.0 in
-      (omega (arith, c, m), λ lt. let z = r.1 (omega (arith, lt)) in omega (arith, c, z)))
-  once (Run k words moment ∷ past) (on, room, later, legal) n =
-      let r = once past legal n in
-      let m = r.0 in (omega (arith, m), λ lt. let z = r.1 lt in omega (arith, z))
-  once (Tick moment ∷ past) (due, room, later, legal) n =
-      let r = once past legal n in
-      let m = r.0 in (omega (arith, m), λ lt. let z = r.1 lt in omega (arith, z))
-  once (Take k most ∷ past) (on, room, some, legal) n =
-      let r = once past legal n in
-      let m = r.0 in (omega (arith, m), λ lt. let z = r.1 lt in omega (arith, z))
-  once (Close k ∷ past) (on, legal) n =
-      let r = once past legal n in
-      let m = r.0 in (omega (arith, m), λ lt. let z = r.1 lt in omega (arith, z))
+  once (Admit k ∷ past) (is, room, legal) n = grind (arith, eq-eqb, ne_eqb, once past legal n)
+  once (Run k words moment ∷ past) (on, room, later, legal) n = grind (arith, once past legal n)
+  once (Tick moment ∷ past) (due, room, later, legal) n = grind (arith, once past legal n)
+  once (Take k most ∷ past) (on, room, some, legal) n = grind (arith, once past legal n)
+  once (Close k ∷ past) (on, legal) n = grind (arith, once past legal n)
 
   -- no two reports name one connection
   pub named_once : (h : List (ℕ × Entry)) (rs : List Report) → Legal TurnStep l h
@@ -72,8 +48,7 @@ total_sums f (r ∷ rs) = ap (λ n. f r + n) (total_sums f rs) ∙ sym (sum_by-c
 -- the order of reports is nothing to their sums
 pub total_moved : (f : Report → ℕ) (rs ss : List Report) → IsPermutation rs ss
     → total f rs ≡ total f ss
-total_moved f rs ss moved =
-    total_sums f rs ∙ (sym (sum_by-IsPermutation f rs ss moved) ∙ sym (total_sums f ss))
+total_moved f rs ss moved = grind (arith, total_sums, sum_by-IsPermutation)
 
 -- all turns of a history are its entries
 all_turns : (f : Entry → ℕ) (h : List (ℕ × Entry))
@@ -85,9 +60,7 @@ module _ (k : Place) (all : (p : ℕ) → p < length k.seen → times p k.own �
   whole : (f : Entry → ℕ)
       → total (λ (t : Turn). f t.0) (turns_of k) ≡ total f (entries k.seen)
   unfolding turns_of
-  whole f =
-      own_all (λ (t : Turn). f t.0) (with_pasts k.seen) k.own
-      (λ p lt. all p (subst (λ n. p < n) (pasts_length k.seen) lt)) ∙ all_turns f k.seen
+  whole f = grind (arith, own_all, pasts_length, all_turns)
 
   pub tied_admits : (rs : List Report) → Tied rs (turns_of k) → (n : ℕ) → 0 < n
       → total (admits n) (entries k.seen) ≡ total (names n) rs

@@ -1,8 +1,7 @@
 -- Reports and a seat's own turns, visit by visit and as workers are joined.
-use Rattle.std.proofs.Common.{◌≡◌, ℕ, ◌+◌, ◌≤◌, Bool, true, false, cond, List}
-use Rattle.std.proofs.Common.{[], ◌∷◌, ◌++◌, length, sym, refl, ap, ◌∙◌, subst, arith}
-use Rattle.std.proofs.Common.{ne_eqb, length-append, append-nil, inl, inr}
-use Rattle.std.specs.Prelude.{Option, Some, None, ◌==◌}
+use Rattle.std.proofs.Common.{◌≡◌, ℕ, ◌+◌, ◌≤◌, Bool, cond, List, [], ◌∷◌, ◌++◌, length, sym, refl}
+use Rattle.std.proofs.Common.{ap, ◌∙◌, subst, arith, ne_eqb, length-append, append-nil, inl, inr}
+use Rattle.std.specs.Prelude.{Option, ◌==◌}
 use Rattle.std.specs.List.{All}
 use Rattle.std.proofs.lemmas.List.Elements.{All-head, All-tail}
 use Rattle.turn_lock.specs.Counts.{times, total}
@@ -18,7 +17,7 @@ use Rattle.conn_worker.specs.declared.report.Report.{Report}
 use Rattle.conn_worker.specs.Visits.{IsWork, runs_in, Visits, Served, NotServed}
 use Rattle.conn_pool.specs.Shown.{AreShown}
 use Rattle.conn_pool.proofs.Showing.{shown_none, shown_same, shown_visit, shown_joined}
-use Rattle.conn_pool.specs.Ties.{admits, runs, names, requests, admitted_in, ran_in, Tied, Tells}
+use Rattle.conn_pool.specs.Ties.{admits, runs, admitted_in, ran_in, Tied, Tells}
 
 work_admits : (id n : ℕ) (clock : Option ℕ) (ts : List Turn) → All (IsWork id clock) ts
     → admitted_in n ts ≡ 0
@@ -46,12 +45,10 @@ work_admits id n clock ((Close m, past) ∷ ts) h =
     absurd (All-head (IsWork id clock) (Close m, past) ts h)
 
 count_none : (b : Bool) → ◌≡◌ {A = ℕ} 0 (cond {A = ℕ} b 0 0)
-count_none true = refl
-count_none false = refl
+count_none b = grind arith
 
 count_more : (b : Bool) (k : ℕ) → cond {A = ℕ} b 1 0 + cond {A = ℕ} b k 0 ≡ cond {A = ℕ} b (k + 1) 0
-count_more true k = omega arith
-count_more false k = omega arith
+count_more b k = grind arith
 
 work_runs : (id n : ℕ) (clock : Option ℕ) (ts : List Turn) → All (IsWork id clock) ts
     → ran_in n ts ≡ cond (id == n) (length (runs_in ts)) 0
@@ -78,12 +75,10 @@ work_runs id n clock ((Close m, past) ∷ ts) h =
     absurd (All-head (IsWork id clock) (Close m, past) ts h)
 
 closed_admits : (id n : ℕ) (c : Option (List Entry)) → admitted_in n (closed_turns id c) ≡ 0
-closed_admits id n None = refl
-closed_admits id n (Some past) = refl
+closed_admits id n c = grind arith
 
 closed_runs : (id n : ℕ) (c : Option (List Entry)) → ran_in n (closed_turns id c) ≡ 0
-closed_runs id n None = refl
-closed_runs id n (Some past) = refl
+closed_runs id n c = grind arith
 
 module _ (clock : Option ℕ) (r : Report) (left0 left1 link0 link1 : Option (List ℕ))
     (old new : Place) where
@@ -118,15 +113,7 @@ module _ (clock : Option ℕ) (r : Report) (left0 left1 link0 link1 : Option (Li
   unserved_tells : NotServed r left0 left1 link0 link1 old new
       → Tells r (turns_of old) (turns_of new)
   unfolding Tells
-  unserved_tells s n pos =
-      let ne : (r.id == n) ≡ false = ne_eqb r.id n (λ is. omega (arith, is, s.id, pos)) in
-      let a : cond {A = ℕ} (r.id == n) 1 0 ≡ 0 = ap (λ b. cond {A = ℕ} b 1 0) ne in
-      let c : cond {A = ℕ} (r.id == n) r.requests 0 ≡ 0
-      = ap (λ b. cond {A = ℕ} b r.requests 0) ne in
-      let own = s.refuses.0.grows.own in
-      let p = ap (total (λ (t : Turn). admits n t.0)) own in
-      let q = ap (total (λ (t : Turn). runs n t.0)) own in
-      (omega (arith, a, p), omega (arith, c, q))
+  unserved_tells s n pos = grind (arith, ne_eqb)
 
   pub visit_tells : Visits clock r left0 left1 link0 link1 old new
       → Tells r (turns_of old) (turns_of new)
@@ -165,19 +152,12 @@ turns_none k is = ap (own_list (with_pasts k.seen)) is
 
 pub tied_none : (k : Place) → k.own ≡ [] → Tied [] (turns_of k)
 unfolding Tied
-tied_none k is n pos =
-    let t = turns_none k is in
-    (ap (total (λ (t : Turn). admits n t.0)) t, ap (total (λ (t : Turn). runs n t.0)) t)
+tied_none k is n pos = grind (arith, turns_none)
 
 tied_more : (rs : List Report) (r : Report) (own new : List Turn) → Tied rs own → Tells r own new
     → Tied (rs ++ r ∷ []) new
 unfolding Tied Tells
-tied_more rs r own new t is n pos =
-    let a = t n pos in
-    let b = is n pos in
-    let c = total-append (names n) rs (r ∷ []) in
-    let d = total-append (requests n) rs (r ∷ []) in
-    (omega (arith, a.0, b.0, c), omega (arith, a.1, b.1, d))
+tied_more rs r own new t is n pos = grind (arith, total-append)
 
 pub tied_visit : (clock : Option ℕ) (rs : List Report) (r : Report)
     (left0 left1 link0 link1 : Option (List ℕ)) (old new : Place) → Tied rs (turns_of old)
@@ -196,25 +176,12 @@ shown_after clock rs r left0 left1 link0 link1 old new s v =
 tied_both : (rs ss : List Report) (a b c : List Turn) → Tied rs a → Tied ss b → c ≡ a ++ b
     → Tied (rs ++ ss) c
 unfolding Tied
-tied_both rs ss a b c x y is n pos =
-    let p = x n pos in
-    let q = y n pos in
-    let f : Turn → ℕ = λ t. admits n t.0 in
-    let g : Turn → ℕ = λ t. runs n t.0 in
-    let u = ap (total f) is ∙ total-append f a b in
-    let v = ap (total g) is ∙ total-append g a b in
-    let s = total-append (names n) rs ss in
-    let t = total-append (requests n) rs ss in
-    (omega (arith, p.0, q.0, u, s), omega (arith, p.1, q.1, v, t))
+tied_both rs ss a b c e y is n pos = grind (arith, total-append)
 
 pub joined_turns : (a b c : Place) → c.own ≡ a.own ++ b.own → IsPrefix a.seen c.seen
     → IsPrefix b.seen c.seen → IsWithin a → IsWithin b → turns_of c ≡ turns_of a ++ turns_of b
 unfolding turns_of IsWithin
-joined_turns a b c own x y wa wb =
-    ap (own_list (with_pasts c.seen)) own
-    ∙ own_joined (with_pasts a.seen) (with_pasts b.seen) (with_pasts c.seen) a.own b.own
-    (pasts_begins a.seen c.seen x) (pasts_begins b.seen c.seen y) (pasts_within a.seen a.own wa)
-    (pasts_within b.seen b.own wb)
+joined_turns a b c own e y wa wb = grind (arith, own_joined, pasts_begins, pasts_within)
 
 pub joined_within : (a b c : Place) → c.own ≡ a.own ++ b.own → IsPrefix a.seen c.seen
     → IsPrefix b.seen c.seen → IsWithin a → IsWithin b → IsWithin c
@@ -226,9 +193,7 @@ joined_within a b c own x y wa wb p le =
 pub tied_joined : (rs ss : List Report) (a b c : Place) → c.own ≡ a.own ++ b.own
     → IsPrefix a.seen c.seen → IsPrefix b.seen c.seen → IsWithin a → IsWithin b
     → Tied rs (turns_of a) → Tied ss (turns_of b) → Tied (rs ++ ss) (turns_of c)
-tied_joined rs ss a b c own x y wa wb t u =
-    tied_both rs ss (turns_of a) (turns_of b) (turns_of c) t u
-    (joined_turns a b c own x y wa wb)
+tied_joined rs ss a b c own e y wa wb t u = grind (arith, tied_both, joined_turns)
 
 pub same_within : (a b : Place) → b.seen ≡ a.seen → b.own ≡ a.own → IsWithin a → IsWithin b
 unfolding IsWithin
@@ -240,8 +205,7 @@ within_none k is p le = ap (times p) is
 
 pub same_turns : (a b : Place) → b.seen ≡ a.seen → b.own ≡ a.own → turns_of b ≡ turns_of a
 unfolding turns_of
-same_turns a b s o = ap (λ z. own_list (with_pasts z) b.own) s
-    ∙ ap (own_list (with_pasts a.seen)) o
+same_turns a b s o = grind arith
 
 pub ruleset beginning = (tied_none, within_none, shown_none)
 

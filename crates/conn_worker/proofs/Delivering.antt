@@ -1,11 +1,11 @@
 -- What waits for a connection is taken and written, Take after Take.
-use Rattle.std.proofs.Common.{◌≡◌, ◌≤◌, ◌<◌, ◌+◌, ◌-◌, ℕ, List, [], ◌∷◌, ◌++◌, length, take, drop}
-use Rattle.std.proofs.Common.{append_assoc, min, true, false, cond, refl, sym, ap, subst, ◌∙◌}
-use Rattle.std.proofs.Common.{arith, append-nil, inl, inr, eq-eqb}
+use Rattle.std.proofs.Common.{◌≡◌, ◌≤◌, ◌<◌, ◌+◌, ℕ, List, [], ◌∷◌, ◌++◌, length, take, drop}
+use Rattle.std.proofs.Common.{append_assoc, true, false, cond, refl, sym, ap, subst, ◌∙◌, arith}
+use Rattle.std.proofs.Common.{append-nil, inr, eq-eqb}
 use Rattle.std.specs.Prelude.{Option, Some, None, ◌==◌}
 use Rattle.std.specs.List.{All}
 use Rattle.std.specs.Io.KnownBytes.{Appends}
-use Rattle.std.proofs.lemmas.List.Elements.{All-nil, All-cons, All-append}
+use Rattle.std.proofs.lemmas.List.Elements.{All-cons, All-append}
 use Rattle.std.proofs.lemmas.List.{length-drop, length-take}
 use Rattle.resp_value.specs.Lists.{IsPrefix}
 use Rattle.serial_model.specs.declared.history.Limits.{Limits}
@@ -18,13 +18,12 @@ use Rattle.resp_value.specs.declared.octets.Octets.{Octets}
 use Rattle.shared_book.specs.Turns.{Place, Turn, Gives, Rests, Refuses, Takes, limits_in, limits_of}
 use Rattle.shared_book.specs.Turns.{most}
 use Rattle.shared_book.specs.declared.turns.Refusal.{Refusal}
-use Rattle.shared_book.specs.declared.turns.Refusal.TheVariants as refusal
 use Rattle.seat_turns.proofs.Growing.{grows_none, grows_then, grows_past, order_append}
 use Rattle.shared_book.proofs.Histories.{begins_lift, admitted_more, stream_begins}
 use Rattle.conn_worker.specs.declared.report.Ended.TheVariants as ended
 use Rattle.conn_worker.specs.declared.report.Ended.{Ended}
 use Rattle.conn_worker.specs.Visits.{IsWork, IsEnd, ended_by, runs_in, gave, Delivers, DeliversPart}
-use Rattle.conn_worker.specs.Visits.{Begins, gave_in, run_in}
+use Rattle.conn_worker.specs.Visits.{Begins}
 use Rattle.conn_worker.specs.declared.deliver.Front.TheVariants.{Taken}
 use Rattle.edge_links.proofs.Bytes.{appends_none, appends_more, appends_as}
 
@@ -39,14 +38,7 @@ pub record Delivering (id : ℕ) (link0 link1 : Option (List ℕ)) (old new : Pl
 
 pub delivering_none : (id : ℕ) (link : Option (List ℕ)) (k : Place) → IsWithin k
     → is_admitted (past_of k) id ≡ true → Delivering id link link k k
-delivering_none id link k is on = record {
-  turns = [];
-  grows = grows_none k is;
-  work = λ clock. All-nil (IsWork id clock);
-  runs_none = refl;
-  wrote = appends_none link;
-  admitted = on;
-}
+delivering_none id link k is on = grind (arith, grows_none, appends_none)
 
 module _ (l : Limits) (id : ℕ) where
   own_take : (n m : ℕ) → cond (id == id) (n + m) n ≡ n + m
@@ -55,8 +47,7 @@ module _ (l : Limits) (id : ℕ) where
   unsent_is : (past : List Entry) → has_ended l id past ≡ false
       → unsent l id past ≡ drop (taken l id past) (stream l id past)
   unfolding unsent
-  unsent_is past live =
-      ap (λ b. cond b [] (drop (taken l id past) (stream l id past))) live
+  unsent_is past live = grind arith
 
   nothing_left : (n : ℕ) (xs : List ℕ) → drop n xs ≡ [] → length xs ≤ n
   nothing_left n xs h = omega (arith, ap length h, length-drop n xs)
@@ -64,23 +55,14 @@ module _ (l : Limits) (id : ℕ) where
   -- nothing waits, so all was taken
   pub rests_taken : (past : List Entry) → has_ended l id past ≡ false → unsent l id past ≡ []
       → length (stream l id past) ≤ taken l id past
-  rests_taken past live none =
-      nothing_left (taken l id past) (stream l id past) (sym (unsent_is past live) ∙ none)
+  rests_taken past live none = grind (arith, nothing_left, unsent_is)
 
   -- a Take that gave less than the most took all
   pub short_taken : (past : List Entry) (most : ℕ) (bytes : List ℕ) → has_ended l id past ≡ false
       → bytes ≡ take most (unsent l id past) → length bytes < most
       → length (stream l id (Take id most ∷ past)) ≤ taken l id (Take id most ∷ past)
   short_taken past most bytes live is short =
-      let all = stream l id past in
-      let n = taken l id past in
-      let t = ap length (is ∙ ap (take most) (unsent_is past live)) in
-      let d = length-drop n all in
-      let s = ap length (stream_take l past id id most) in
-      let own : taken l id (Take id most ∷ past) ≡ n + min most (length all - n) =
-      own_take (taken l id past) (min most (length all - n)) in
-      let cut = length-take most (drop n all) in
-      omega (arith, t, d, s, own, cut, short)
+      grind (arith, unsent_is, length-drop, stream_take, own_take, length-take)
 
 module _ (id : ℕ) (link0 link1 : Option (List ℕ)) (old new : Place)
     (d : Delivering id link0 link1 old new) where
@@ -109,8 +91,7 @@ module _ (id : ℕ) (link0 link1 : Option (List ℕ)) (old new : Place)
 
     gave_is : gave (limits_of old) took ≡ gave (limits_of old) d.turns ++ bytes
     unfolding took turn
-    gave_is = ap (λ z. gave (limits_of old) d.turns ++ z)
-        (ap (λ l. take most (unsent l id g.past)) (sym limits_same) ∙ sym g.given)
+    gave_is = grind (arith, limits_same)
 
     -- the bytes were written, and more may wait
     pub delivering_more : (link2 : Option (List ℕ)) → Appends link1 link2 bytes
@@ -154,20 +135,8 @@ module _ (id : ℕ) (link0 link1 : Option (List ℕ)) (old new : Place)
     pub delivers_failed : (link2 : Option (List ℕ)) (front : List ℕ) → Appends link1 link2 front
         → IsPrefix front bytes → DeliversPart ended.LinkFault id link0 link2 old last
     unfolding took turn
-    delivers_failed link2 front w part = record {
-      turns = took;
-      grows = took_grows;
-      work = took_work;
-      runs_none = append-nil (runs_in d.turns) ∙ d.runs_none;
-      bytes = gave (limits_of old) d.turns ++ front;
-      wrote = appends_more link0 link1 link2 (gave (limits_of old) d.turns) front d.wrote w;
-      front = (
-        part.0,
-        append_assoc (gave (limits_of old) d.turns) front part.0
-            ∙ ap (λ z. gave (limits_of old) d.turns ++ z) part.1 ∙ sym gave_is,
-      );
-      cause_is = inl refl;
-    }
+    delivers_failed link2 front w part =
+        grind (arith, took, took_grows, took_work, append-nil, appends_more, append_assoc, gave_is)
 
   -- nothing waits
   pub delivers_rests : (last : Place) → Rests id new last → Delivers id link0 link1 old last
@@ -201,10 +170,7 @@ module _ (id : ℕ) (link0 link1 : Option (List ℕ)) (old new : Place)
   }
     where
       by_case : (r : Refusal) → Refuses r id new last → IsEnd (ended_by r) id last
-      by_case refusal.Dropped h = h.cause_is
-      by_case refusal.HistoryFull h = h.cause_is
-      by_case refusal.NoMemory h = tt
-      by_case refusal.Worn h = h.cause_is
+      by_case r h = grind arith
 
 pub takes_at : (id : ℕ) (r s : Option Octets) (old new : Place) → Takes id r old new → r ≡ s
     → Takes id s old new
@@ -218,14 +184,10 @@ module _ (id : ℕ) (link0 link1 link2 : Option (List ℕ)) (old mid new : Place
 
   both_gave : (ts : List Turn) → gave (limits_of old) (ts ++ d.turns)
       ≡ gave (limits_of old) d.turns ++ gave (limits_of mid) ts
-  both_gave ts =
-      order_append (gave_in (limits_of old)) ts d.turns
-      ∙ ap (λ l. gave (limits_of old) d.turns ++ gave l ts) (sym mid_limits)
+  both_gave ts = grind (arith, order_append, mid_limits)
 
   both_run : (ts : List Turn) → runs_in ts ≡ [] → runs_in (ts ++ d.turns) ≡ []
-  both_run ts none =
-      order_append run_in ts d.turns ∙ ap (λ z. runs_in d.turns ++ z) none
-      ∙ append-nil (runs_in d.turns) ∙ d.runs_none
+  both_run ts none = grind (arith, order_append, append-nil)
 
   pub delivers_then : Delivers id link1 link2 mid new → Delivers id link0 link2 old new
   delivers_then e =

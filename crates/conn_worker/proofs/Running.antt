@@ -8,7 +8,7 @@ use Rattle.std.proofs.lemmas.List.Elements.{All-nil, All-cons, All-append}
 use Rattle.resp_stream.specs.declared.fault.StreamFault.{StreamFault}
 use Rattle.resp_stream.specs.declared.fault.StreamFault.TheVariants as stream
 use Rattle.resp_stream.specs.Parsed.{Whole, More}
-use Rattle.resp_stream.specs.Parse.{Batch, parse}
+use Rattle.resp_stream.specs.Parse.{parse}
 use Rattle.resp_value.specs.declared.octets.Words.{Words}
 use Rattle.resp_stream.specs.Readers.{skipped, IsFaultOf, FaultGives, RequestGives}
 use Rattle.resp_stream.specs.Request.{request_at, skip_empty}
@@ -25,7 +25,6 @@ use Rattle.shared_book.specs.Turns.{Place, Turn, IsCause, limits_in, limits_of}
 use Rattle.shared_book.specs.Batches.{IsRunAt, requests_in, RunsEach, RunsAndTakes, RunsFirst}
 use Rattle.resp_value.specs.declared.octets.Octets.{Octets}
 use Rattle.shared_book.specs.declared.turns.Refusal.{Refusal}
-use Rattle.shared_book.specs.declared.turns.Refusal.TheVariants as refusal
 use Rattle.seat_turns.proofs.Growing.{grows_none, grows_then, order_append}
 use Rattle.conn_worker.specs.declared.report.Ended.TheVariants.{NoMemory}
 use Rattle.conn_worker.specs.declared.connection.Connection.{Connection}
@@ -41,20 +40,13 @@ pub record Reading (before now : Connection) (calls : List BookCall) : Type 0 wh
   pub fault : (parse now.reader).fault ≡ (parse before.reader).fault
 
 pub reading_none : (c : Connection) (calls : List BookCall) → calls ≡ [] → Reading c c calls
-reading_none c calls none = record {
-  id = refl;
-  requests = refl;
-  items = ap (λ z. requests_in z ++ (parse c.reader).items) (sym none);
-  stream = refl;
-  fault = refl;
-}
+reading_none c calls none = grind arith
 
 requests_append : (calls : List BookCall) (id now : ℕ) (words : List (List ℕ))
     → requests_in (calls ++ Run id words now ∷ []) ≡ requests_in calls ++ words ∷ []
 requests_append [] id now words = refl
 requests_append (Admit ∷ calls) id now words = requests_append calls id now words
-requests_append (Run n w m ∷ calls) id now words =
-    ap (λ z. w ∷ z) (requests_append calls id now words)
+requests_append (Run n w m ∷ calls) id now words = grind (arith, requests_append calls id now words)
 requests_append (Tick m ∷ calls) id now words = requests_append calls id now words
 requests_append (Take n m ∷ calls) id now words = requests_append calls id now words
 requests_append (Close n ∷ calls) id now words = requests_append calls id now words
@@ -67,55 +59,16 @@ module _ (before now : Connection) (calls : List BookCall) (r : Reading before n
       → more ≡ calls ++ Run now.id words moment ∷ []
       → Reading before (record now { reader = s }) more
   reading_more words s moment is moved more same =
-      let whole : parse now.reader
-      ≡ record {
-        items = words ∷ (parse s).items;
-        stream = (parse s).stream;
-        fault = (parse s).fault;
-      }
-      = parse_whole now.reader words s.rest is
-      ∙ ap (λ q. record {
-        items = words ∷ (parse q).items;
-        stream = (parse q).stream;
-        fault = (parse q).fault;
-      }) (sym moved) in
-      record {
-        id = r.id;
-        requests = r.requests;
-        items = r.items
-            ∙ ap (λ (p : Batch (List (List ℕ))). requests_in calls ++ p.items) whole
-            ∙ sym (append_assoc (requests_in calls) (words ∷ []) (parse s).items)
-            ∙ ap (λ z. z ++ (parse s).items)
-            (sym (ap requests_in same ∙ requests_append calls now.id moment words));
-        stream = sym (ap (λ (p : Batch (List (List ℕ))). p.stream) whole) ∙ r.stream;
-        fault = sym (ap (λ (p : Batch (List (List ℕ))). p.fault) whole) ∙ r.fault;
-      }
+      grind (arith, parse_whole, append_assoc, requests_append)
 
   -- nothing whole is left
   pub reading_ends : (s : Stream) → request_at (skipped now.reader).rest ≡ More
       → s ≡ skipped now.reader → ReadsAll None before (record now { reader = s }) calls
-  reading_ends s more is =
-      let last = parse_more now.reader more in
-      record {
-        items = sym (append-nil (requests_in calls))
-            ∙ ap (λ l. requests_in calls ++ l)
-            (sym (ap (λ (p : Batch (List (List ℕ))). p.items) last)) ∙ sym r.items;
-        fault_is = sym (ap (λ (p : Batch (List (List ℕ))). p.fault) last) ∙ r.fault;
-        reader = λ h. is ∙ sym (ap (λ (p : Batch (List (List ℕ))). p.stream) last) ∙ r.stream;
-      }
+  reading_ends s more is = grind (arith, parse_more, append-nil)
 
   faulty : (s : Stream) (f : StreamFault) → IsFaultOf request_at (skipped now.reader) f
       → ReadsAll (Some f) before (record now { reader = s }) calls
-  faulty s f bad =
-      let last = parse_bad now.reader bad.fault bad.left bad.is in
-      record {
-        items = sym (append-nil (requests_in calls))
-            ∙ ap (λ l. requests_in calls ++ l)
-            (sym (ap (λ (p : Batch (List (List ℕ))). p.items) last)) ∙ sym r.items;
-        fault_is = ap Some bad.place ∙ sym (ap (λ (p : Batch (List (List ℕ))). p.fault) last)
-            ∙ r.fault;
-        reader = λ h. absurd (let no : ⊥ = cc in no);
-      }
+  faulty s f bad = grind (arith, parse_bad, append-nil)
 
   -- the bytes are at fault
   pub reading_bad : (s : Stream) (f : StreamFault) (place : FaultPlace)
@@ -156,8 +109,7 @@ record Ran (clock : Option ℕ) (id : ℕ) (ws : List (List (List ℕ))) (old ne
 
 pub at_clock : (clock : Option ℕ) (now : ℕ) (past : List Entry) → IfSome clock (λ m. now ≡ m)
     → IfSome clock (λ m. max now (latest past) ≡ max m (latest past))
-at_clock None now past h = tt
-at_clock (Some m) now past h = ap (λ n. max n (latest past)) h
+at_clock clock now past h = grind arith
 
 each_ran : (clock : Option ℕ) (id now : ℕ) → IfSome clock (λ m. now ≡ m)
     → (ws : List (List (List ℕ))) (old new : Place) → RunsEach id now ws old new
@@ -243,22 +195,10 @@ module _ (clock : Option ℕ) (now : ℕ) (before read : Connection) (calls : Li
       }
     where
       cause_end : (e : Refusal) → IsCause e before.id new → IsEnd (ended_by e) before.id new
-      cause_end refusal.Dropped h = h
-      cause_end refusal.HistoryFull h = h
-      cause_end refusal.NoMemory h = h
-      cause_end refusal.Worn h = h
+      cause_end e h = grind arith
 
 -- memory ran out before anything ran
 pub part_none : (clock : Option ℕ) (before after : Connection) (k : Place) → IsWithin k
     → after.id ≡ before.id → after.requests ≡ before.requests
     → RunsPart clock NoMemory before after k k
-part_none clock before after k is id requests = record {
-  turns = [];
-  grows = grows_none k is;
-  work = All-nil (IsWork before.id clock);
-  gave_none = refl;
-  id = id;
-  requests = omega (arith, requests);
-  runs = ((parse before.reader).items, refl);
-  cause_is = tt;
-}
+part_none clock before after k is id requests = grind (arith, grows_none)

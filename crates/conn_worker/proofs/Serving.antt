@@ -1,12 +1,11 @@
 -- A connection is served round by round: its link is read, its requests run, and what waits for it
 -- is written.
-use Rattle.std.proofs.Common.{◌≡◌, ◌≤◌, ℕ, List, [], ◌∷◌, ◌++◌, length, true, Some, None, refl, sym}
-use Rattle.std.proofs.Common.{ap, subst, ◌∙◌, arith, append_assoc, append-nil, length-append, inl}
-use Rattle.std.proofs.Common.{inr}
+use Rattle.std.proofs.Common.{◌≡◌, ◌≤◌, ℕ, List, [], ◌++◌, length, true, Some, None, refl, sym, ap}
+use Rattle.std.proofs.Common.{subst, ◌∙◌, arith, append_assoc, append-nil, length-append, inr}
 use Rattle.std.specs.Prelude.{Option, Err, ◌⊎◌}
 use Rattle.std.specs.List.{All}
 use Rattle.std.specs.Io.KnownBytes.{Appends, Consumes, Keeps}
-use Rattle.std.proofs.lemmas.List.Elements.{All-nil, All-append}
+use Rattle.std.proofs.lemmas.List.Elements.{All-append}
 use Rattle.resp_stream.specs.declared.fault.StreamFault.{StreamFault}
 use Rattle.resp_stream.specs.Parse.{parse, requests_of}
 use Rattle.resp_stream.specs.Stream.{begun, fed}
@@ -15,10 +14,8 @@ use Rattle.seat_turns.specs.Own.{past_of, IsWithin, Grows}
 use Rattle.shared_book.specs.Turns.{Place, Turn, limits_in, limits_of, Admits, Takes}
 use Rattle.seat_turns.proofs.Growing.{grows_none, grows_then, grows_past, grows_stands}
 use Rattle.seat_turns.proofs.Growing.{order_append}
-use Rattle.serial_model.specs.declared.history.Entry.TheVariants.{Admit}
 use Rattle.shared_book.proofs.Histories.{begins_lift, admitted_more, admitted_now}
 use Rattle.edge_links.specs.declared.counts.Counts.{Counts}
-use Rattle.edge_links.specs.Counts.{Counted}
 use Rattle.conn_worker.specs.declared.report.Ended.{Ended}
 use Rattle.conn_worker.specs.declared.report.Ended.TheVariants as ended
 use Rattle.conn_worker.specs.declared.connection.Connection.{Connection}
@@ -26,7 +23,7 @@ use Rattle.conn_worker.specs.Visits.{IsWork, IsEnd, IsTaken, IsWhole, IsOfLink, 
 use Rattle.conn_worker.specs.Visits.{runs_in, gave, fed_connection, RunsAll, RunsPart, Delivers}
 use Rattle.conn_worker.specs.Visits.{DeliversPart, EndCounts, Hears, HearsPart, Works, Idle, Piece}
 use Rattle.conn_worker.specs.Visits.{Nothing, Worn, Part, fault_of, front_of, Begins, HearsAll}
-use Rattle.conn_worker.specs.Visits.{DeliveryCounts, gave_in, run_in}
+use Rattle.conn_worker.specs.Visits.{DeliveryCounts, run_in}
 use Rattle.resp_value.specs.declared.octets.Octets.{Octets}
 use Rattle.conn_worker.specs.declared.connection.Behind.{Behind}
 use Rattle.conn_worker.specs.declared.deliver.Front.{Front}
@@ -88,23 +85,7 @@ pub serving_none : (clock : Option ℕ) (c : Connection) (left link : Option (Li
     → IsWithin k → is_admitted (past_of k) c.id ≡ true
     → Serving clock c.id c left left link link k k
 serving_none clock c left link k new is on =
-    let requests : c.requests ≡ 0 = ap (λ (x : Connection). x.requests) new in
-    record {
-      turns = [];
-      grows = grows_none k is;
-      work = All-nil (IsWork c.id clock);
-      id_is = refl;
-      counted = requests;
-      fits = omega (arith, requests);
-      heard = [];
-      read = consumes_none left;
-      reading = subst (GoesOn parse []) (sym (ap (λ (x : Connection). x.reader) new))
-          requests_begun;
-      runs = sym no_requests;
-      wrote = appends_none link;
-      was_taken = All-nil (IsTaken (limits_of k) c.id (taken (limits_of k) c.id (past_of k)));
-      admitted = on;
-    }
+    grind (arith, grows_none, consumes_none, requests_begun, no_requests, appends_none)
 
 takes_grows : (id : ℕ) (front : Option Octets) (k l : Place) → Takes id front k l
     → (ts : List Turn) × Grows k l ts
@@ -115,25 +96,11 @@ takes_grows id (Some bytes) k l t = (_, t.0.grows)
 
 no_whole : (cause : Ended) (id : ℕ) (k : Place) → (cause ≡ ended.LinkFault) ⊎ IsEnd cause id k
     → IsWhole cause → ⊥
-no_whole cause id k (inl is) w = subst IsWhole is w
-no_whole ended.PeerEnd id k (inr e) w = e
-no_whole ended.Dropped id k (inr e) w = w
-no_whole (ended.BadRequest f) id k (inr e) w = e
-no_whole ended.LinkFault id k (inr e) w = w
-no_whole ended.HistoryFull id k (inr e) w = w
-no_whole ended.NoMemory id k (inr e) w = w
-no_whole ended.Worn id k (inr e) w = w
+no_whole cause id k e w = grind arith
 
 shown_by : (cause : Ended) (id : ℕ) (heard : List ℕ) (k : Place)
     → (cause ≡ ended.LinkFault) ⊎ IsEnd cause id k → IsShown cause id heard k
-shown_by cause id heard k (inl is) = subst (λ e. IsShown e id heard k) (sym is) tt
-shown_by ended.PeerEnd id heard k (inr e) = absurd e
-shown_by ended.Dropped id heard k (inr e) = e
-shown_by (ended.BadRequest f) id heard k (inr e) = absurd e
-shown_by ended.LinkFault id heard k (inr e) = tt
-shown_by ended.HistoryFull id heard k (inr e) = e
-shown_by ended.NoMemory id heard k (inr e) = tt
-shown_by ended.Worn id heard k (inr e) = e
+shown_by cause id heard k e = grind arith
 
 module _ (clock : Option ℕ) (id : ℕ) (c : Connection) (left0 left1 link0 link1 : Option (List ℕ))
     (old new : Place) (s : Serving clock id c left0 left1 link0 link1 old new) where
@@ -142,11 +109,7 @@ module _ (clock : Option ℕ) (id : ℕ) (c : Connection) (left0 left1 link0 lin
 
   gave_more : (ts : List Turn) → gave (limits_of new) ts ≡ []
       → gave (limits_of old) (ts ++ s.turns) ≡ gave (limits_of old) s.turns
-  gave_more ts none =
-      order_append (gave_in (limits_of old)) ts s.turns
-      ∙ ap (λ z. gave (limits_of old) s.turns ++ z)
-      (ap (λ l. gave l ts) (sym limits_same) ∙ none)
-      ∙ append-nil (gave (limits_of old) s.turns)
+  gave_more ts none = grind (arith, order_append, limits_same, append-nil)
 
   admitted_then : (last : Place) (ts : List Turn) → Grows new last ts
       → is_admitted (past_of last) id ≡ true
@@ -220,14 +183,7 @@ module _ (clock : Option ℕ) (id : ℕ) (c : Connection) (left0 left1 link0 lin
       (left2 link2 : Option (List ℕ))
       → Waiting clock id fault after left0 left2 link0 link2 old last
       → Begun clock id fault front.Untaken after left0 left2 link0 link2 old last
-  untaken_begins fault after last left2 link2 w = record {
-    middle = last;
-    waits = w;
-    begins = refl;
-    lock = w.grows.lock;
-    within = w.grows.within;
-    admitted = w.admitted;
-  }
+  untaken_begins fault after last left2 link2 w = grind arith
 
   -- the first bytes that wait were taken
   taken_begins : (piece : List ℕ) (behind : Behind) (after : Connection) (last : Place)
@@ -326,13 +282,7 @@ module _ (clock : Option ℕ) (id : ℕ) (c : Connection) (left0 left1 link0 lin
   }
 
   shown_link : (cause : Ended) → IsOfLink cause → IsShown cause id s.heard new
-  shown_link ended.PeerEnd o = s.reading.none
-  shown_link ended.Dropped o = absurd o
-  shown_link (ended.BadRequest f) o = absurd o
-  shown_link ended.LinkFault o = tt
-  shown_link ended.HistoryFull o = absurd o
-  shown_link ended.NoMemory o = absurd o
-  shown_link ended.Worn o = absurd o
+  shown_link cause o = grind arith
 
   pub hears_stops : (cause : Ended) (after : Connection) (last : Place)
       (left2 link2 : Option (List ℕ)) → HearsPart clock cause c after left1 left2 new last
@@ -368,13 +318,11 @@ module _ (clock : Option ℕ) (id : ℕ) (fault : Option StreamFault) (c : Conne
     all_work = All-append (IsWork id clock) ts s.turns (work clock) s.work
 
     all_runs : runs_in (ts ++ s.turns) ≡ runs_in s.turns
-    all_runs = order_append run_in ts s.turns ∙ ap (λ z. runs_in s.turns ++ z) none
-        ∙ append-nil (runs_in s.turns)
+    all_runs = grind (arith, order_append, append-nil)
 
     all_gave : gave (limits_of old) (ts ++ s.turns)
         ≡ gave (limits_of old) s.turns ++ gave (limits_of new) ts
-    all_gave = order_append (gave_in (limits_of old)) ts s.turns
-        ∙ ap (λ l. gave (limits_of old) s.turns ++ gave l ts) (sym limits_kept)
+    all_gave = grind (arith, order_append, limits_kept)
 
   module _ (d : Delivers id link1 link2 new last) where
     all_turns : List Turn
@@ -382,14 +330,11 @@ module _ (clock : Option ℕ) (id : ℕ) (fault : Option StreamFault) (c : Conne
 
     all_wrote : Appends link0 link2 (gave (limits_of old) all_turns)
     unfolding all_turns
-    all_wrote = appends_as link0 link2 _ _ (sym (all_gave d.turns d.grows d.work d.runs_none))
-        (appends_more link0 link1 link2 (gave (limits_of old) s.turns)
-        (gave (limits_of new) d.turns) s.wrote d.wrote)
+    all_wrote = grind (arith, appends_as, all_gave, appends_more)
 
     there : length (stream (limits_of old) id (past_of new)) ≤ taken (limits_of old) id (past_of
         last)
-    there = subst (λ l. length (stream l id (past_of new)) ≤ taken l id (past_of last)) limits_kept
-        d.taken_all
+    there = grind (arith, limits_kept)
 
     all_are_taken : All (IsTaken (limits_of old) id (taken (limits_of old) id (past_of last)))
         all_turns
@@ -478,15 +423,7 @@ module _ (clock : Option ℕ) (id : ℕ) (fault : Option StreamFault) (c : Conne
 -- counts over two steps, the first of which left faults and ends as they were
 pub end_counts_from : (cause : Ended) (a b c : Counts) → b.faults ≡ a.faults → b.ends ≡ a.ends
     → EndCounts cause b c → EndCounts cause a c
-end_counts_from ended.PeerEnd a b c f e h =
-    (subst (λ n. Counted n c.ends) e h.0, h.1 ∙ f)
-end_counts_from ended.Dropped a b c f e h = (h.0 ∙ f, h.1 ∙ e)
-end_counts_from (ended.BadRequest x) a b c f e h = (h.0 ∙ f, h.1 ∙ e)
-end_counts_from ended.LinkFault a b c f e h =
-    (subst (λ n. Counted n c.faults) f h.0, h.1 ∙ e)
-end_counts_from ended.HistoryFull a b c f e h = (h.0 ∙ f, h.1 ∙ e)
-end_counts_from ended.NoMemory a b c f e h = (h.0 ∙ f, h.1 ∙ e)
-end_counts_from ended.Worn a b c f e h = (h.0 ∙ f, h.1 ∙ e)
+end_counts_from cause a b c f e h = grind arith
 
 -- an end of a delivery is no end of the link
 pub part_counts : (cause : Ended) (id : ℕ) (link0 link1 : Option (List ℕ)) (old new : Place)
@@ -499,20 +436,11 @@ part_counts cause id link0 link1 old new a b d h = by_case cause d.cause_is h
 
     by_case : (cause : Ended) → (cause ≡ ended.LinkFault) ⊎ IsEnd cause id new
         → DeliveryCounts (Err cause) a b → EndCounts cause a b
-    by_case ended.PeerEnd (inl e) h = absurd (let no : ⊥ = cc in no)
-    by_case ended.PeerEnd (inr e) h = absurd e
-    by_case ended.Dropped e h = same h
-    by_case (ended.BadRequest f) e h = same h
-    by_case ended.LinkFault e h = (h.0, h.2)
-    by_case ended.HistoryFull e h = same h
-    by_case ended.NoMemory e h = same h
-    by_case ended.Worn e h = same h
+    by_case cause e h = grind (arith, same)
 
 pub admits_admitted : (id : ℕ) (old first : Place) → Admits id old first
     → is_admitted (past_of first) id ≡ true
-admits_admitted id old first a =
-    ap (λ past. is_admitted past id) a.ends
-    ∙ ap (λ n. is_admitted (Admit n ∷ a.past) n) a.next ∙ admitted_now a.past
+admits_admitted id old first a = grind (arith, admitted_now)
 
 pub works_admitted : (clock : Option ℕ) (cause : Ended) (id name requests : ℕ)
     (left0 left1 link0 link1 : Option (List ℕ)) (old first last : Place) → Admits id old first

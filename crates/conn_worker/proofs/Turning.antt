@@ -1,39 +1,24 @@
 -- What was sent, and taken, by the turns of a connection.
-use Rattle.std.proofs.Common.{◌≡◌, ◌≤◌, ℕ, List, [], ◌∷◌, ◌++◌, length, refl, sym, ap, ◌∙◌}
-use Rattle.std.proofs.Common.{append_assoc, append-nil, arith, ◌+◌, Some}
+use Rattle.std.proofs.Common.{◌≡◌, ◌≤◌, ℕ, List, [], ◌∷◌, ◌++◌, length, refl, arith, ◌+◌, Some}
 use Rattle.std.specs.Prelude.{Option}
 use Rattle.std.specs.List.{All}
 use Rattle.std.proofs.lemmas.List.Elements.{All-nil, All-cons, All-head, All-tail}
 use Rattle.turn_lock.specs.History.{IsPrefix as IsBefore}
 use Rattle.serial_model.specs.declared.history.Limits.{Limits}
 use Rattle.serial_model.specs.declared.history.Entry.{Entry}
-use Rattle.serial_model.specs.declared.history.Entry.TheVariants.{Admit, Run, Tick, Take, Close}
+use Rattle.serial_model.specs.declared.history.Entry.TheVariants.{Run, Tick}
 use Rattle.serial_model.specs.History.{stream}
 use Rattle.shared_book.specs.Turns.{Turn}
 use Rattle.shared_book.proofs.Histories.{stream_begins}
-use Rattle.conn_worker.specs.Visits.{runs_in, run_in, gave, gave_in, IsTaken, IsWork}
+use Rattle.conn_worker.specs.Visits.{runs_in, run_in, IsTaken, IsWork}
 
 module _ (l : Limits) (id : ℕ) where
   taken_one : (a b : ℕ) (t : Turn) → a ≤ b → IsTaken l id a t → IsTaken l id b t
-  taken_one a b (Admit n, past) le h = tt
-  taken_one a b (Run n words moment, past) le h = omega (arith, le, h)
-  taken_one a b (Tick moment, past) le h = omega (arith, le, h)
-  taken_one a b (Take n most, past) le h = tt
-  taken_one a b (Close n, past) le h = tt
-
-  pub taken_more : (a b : ℕ) → a ≤ b → (ts : List Turn) → All (IsTaken l id a) ts
-      → All (IsTaken l id b) ts
-  taken_more a b le ts h k d lt = taken_one a b _ le (h k d lt)
+  taken_one a b t le h = grind arith
 
   stands_taken : (past : List Entry) (n : ℕ) (t : Turn) → length (stream l id past) ≤ n
       → IsBefore (t.0 ∷ t.1) past → IsTaken l id n t
-  stands_taken past n (Admit m, before) le h = tt
-  stands_taken past n (Run m words moment, before) le h =
-      omega (arith, le, stream_begins l id (Run m words moment ∷ before) past h)
-  stands_taken past n (Tick moment, before) le h =
-      omega (arith, le, stream_begins l id (Tick moment ∷ before) past h)
-  stands_taken past n (Take m most, before) le h = tt
-  stands_taken past n (Close m, before) le h = tt
+  stands_taken past n t le h = grind (arith, stream_begins)
 
   -- turns of a history all of whose stream was taken
   pub all_taken : (past : List Entry) (n : ℕ) (ts : List Turn) → length (stream l id past) ≤ n
@@ -43,12 +28,10 @@ module _ (l : Limits) (id : ℕ) where
   -- no Tick is at the moment of each clock
   none_one : (n : ℕ) (t : Turn) → ((clock : Option ℕ) → IsWork id clock t) → run_in t ≡ []
       → IsTaken l id n t
-  none_one n (Admit m, past) is h = tt
   none_one n (Run m words moment, past) is h = absurd (let no : ⊥ = cc in no)
   none_one n (Tick moment, past) is h =
       absurd (let late = is (Some (moment + 1)) in omega (arith, late))
-  none_one n (Take m most, past) is h = tt
-  none_one n (Close m, past) is h = tt
+  none_one n t is h = tt
 
   back_none : {A : Type 0} (xs ys : List A) → xs ++ ys ≡ [] → ys ≡ []
   back_none [] ys h = h

@@ -1,6 +1,6 @@
 -- What the service of one connection does to its seat and its link.
-use Rattle.std.specs.Prelude.{◌≡◌, ◌≤◌, ◌+◌, ◌⊎◌, ℕ, List, [], ◌∷◌, ◌++◌, length, max, take, Option}
-use Rattle.std.specs.Prelude.{Some, None, Result, Ok, Err, IfSome, true, ⊤}
+use Rattle.std.specs.Prelude.{◌≡◌, ◌≤◌, ◌+◌, ◌⊎◌, ℕ, List, [], ◌∷◌, length, max, take, Option, Some}
+use Rattle.std.specs.Prelude.{None, Result, Ok, Err, IfSome, true, ⊤}
 use Rattle.std.specs.List.{All}
 use Rattle.std.specs.Io.KnownBytes.{Appends, Consumes}
 use Rattle.resp_value.specs.Lists.{IsPrefix}

@@ -1,12 +1,10 @@
 -- From the run of an open fetch on, its connection is told of its key and the query's answer is
 -- what it was; or a message waits for the client.
-use Rattle.std.proofs.Common.{◌≡◌, ◌+◌, ◌-◌, ◌<◌, ◌≤◌, ℕ, suc, List, [], ◌∷◌, ◌++◌, length}
-use Rattle.std.proofs.Common.{true, false, cond, refl, ap, sym, ◌∙◌, arith, Some, subst}
-use Rattle.std.proofs.Common.{◌⊎◌, inl, inr, append_assoc, length-append, Result}
-use Rattle.std.proofs.Common.{get_or}
+use Rattle.std.proofs.Common.{◌≡◌, ◌+◌, ◌-◌, ◌<◌, ◌≤◌, ℕ, suc, List, [], ◌∷◌, ◌++◌, length, true}
+use Rattle.std.proofs.Common.{false, cond, refl, ap, sym, ◌∙◌, arith, Some, subst, ◌⊎◌, inl, inr}
+use Rattle.std.proofs.Common.{append_assoc, length-append, Result, get_or}
 use Rattle.std.specs.Prelude.{slice_get, ◌==◌, ◌&&◌, ◌||◌}
-use Rattle.std.proofs.lemmas.Bool.{both_ways, cases_lt, eqb-true, or_cases, or_from}
-use Rattle.std.proofs.lemmas.Bool.{or_parts}
+use Rattle.std.proofs.lemmas.Bool.{both_ways, cases_lt, eqb-true, or_cases, or_from, or_parts}
 use Rattle.std.proofs.lemmas.Option.{same_Some, slice_get-get_or}
 use Rattle.resp_value.specs.Lists.{IsPrefix}
 use Rattle.resp_value.specs.declared.value.Value.TheVariants.{Null}
@@ -24,8 +22,7 @@ use Rattle.serial_model.specs.declared.history.Entry.TheVariants.{Run}
 use Rattle.serial_model.specs.Modes.{own_effect, remembers_read}
 use Rattle.serial_model.specs.Tracking.{push_of}
 use Rattle.serial_model.specs.History.{Sending, Message, End, sent, runs_of, mode, made_of}
-use Rattle.serial_model.specs.History.{keyspace}
-use Rattle.serial_model.specs.History.{IsLegal, has_ended, served, served_reading}
+use Rattle.serial_model.specs.History.{keyspace, IsLegal, has_ended, served_reading}
 use Rattle.serial_model.specs.Laws.{is_told, is_due, signals_key, drops_key, stops_tracking}
 use Rattle.serial_model.specs.Laws.{is_forgets, ChangeIsSignalled}
 use Rattle.serial_model.proofs.Posts.{end_is_sent}
@@ -40,8 +37,8 @@ use Rattle.shared_cache.proofs.FetchLaws.{open_was_sent, place_is_query}
 use Rattle.currency.specs.Links.{Client, HasWire, Meet, run_of, IsGot}
 use Rattle.currency.specs.Points.{up_to}
 use Rattle.currency.proofs.Lists.{get_front, get_last}
-use Rattle.currency.proofs.Runs.{Older, older_tail, older_up_to}
-use Rattle.currency.proofs.Runs.{older_legal, older_within, runs_older, RanAt, ran_at}
+use Rattle.currency.proofs.Runs.{Older, older_tail, older_up_to, older_legal, older_within}
+use Rattle.currency.proofs.Runs.{runs_older, RanAt, ran_at}
 use Rattle.currency.proofs.Sent.{sent_older, sent_le, lands, Told, end_place}
 use Rattle.currency.proofs.Handshake.{asked, mode_by, is_no_control, served_no_control}
 use Rattle.currency.proofs.Gots.{got_at, got_no_end}
@@ -55,20 +52,17 @@ read_remembers read m h = grind arith
 remembers_all : (words : List (List ℕ)) (m : Mode) → is_control words ≡ false
     → is_forgets (made_of words m).memory ≡ false
 unfolding made_of is_control
-remembers_all words m h =
-    read_remembers (served (reading words)) m (served_no_control (reading words) h)
+remembers_all words m h = grind (arith, read_remembers, served_no_control)
 
 by_two : (n : ℕ) → 2 ≤ n → mode_by n ≡ record { proto = Three; tracking = true }
 unfolding mode_by
-by_two (suc (suc n)) le = refl
-by_two n le = absurd (let no : ⊥ = omega arith in no)
+by_two n le = grind arith
 
 prefix_le : {A : Type 0} (xs ys : List A) → IsPrefix xs ys → length xs ≤ length ys
 prefix_le xs ys p = omega (arith, length-append xs p.0, ap length p.1)
 
 prefix_more : {A : Type 0} (xs ys zs : List A) → IsPrefix xs ys → IsPrefix ys zs → IsPrefix xs zs
-prefix_more xs ys zs p q =
-    (p.0 ++ q.0, sym (append_assoc xs p.0 q.0) ∙ ap (λ l. l ++ q.0) p.1 ∙ q.1)
+prefix_more xs ys zs p q = grind (arith, append_assoc)
 
 length_more : (e : Entry) (up : List Entry) → length (e ∷ up) ≡ length up + 1
 length_more e up = omega arith

@@ -1,7 +1,7 @@
 -- The theorem on currency, on one link.
-use Rattle.std.proofs.Common.{◌≡◌, ◌+◌, ◌-◌, ◌<◌, ◌≤◌, ℕ, suc, List, [], ◌∷◌, length}
-use Rattle.std.proofs.Common.{true, false, refl, ap, sym, ◌∙◌, arith, Some, subst}
-use Rattle.std.proofs.Common.{inl, inr, drop, take, max, get_or, Result}
+use Rattle.std.proofs.Common.{◌≡◌, ◌+◌, ◌-◌, ◌<◌, ◌≤◌, ℕ, suc, List, [], ◌∷◌, length, true, false}
+use Rattle.std.proofs.Common.{refl, ap, sym, ◌∙◌, arith, Some, subst, inl, inr, drop, take, max}
+use Rattle.std.proofs.Common.{get_or, Result}
 use Rattle.std.specs.Prelude.{slice_get}
 use Rattle.std.specs.List.{filter}
 use Rattle.std.proofs.lemmas.Bool.{both_ways, cases_lt}
@@ -20,9 +20,9 @@ use Rattle.serial_model.specs.declared.mode.Mode.{Mode}
 use Rattle.serial_model.specs.declared.history.Limits.{Limits}
 use Rattle.serial_model.specs.declared.history.Entry.{Entry}
 use Rattle.serial_model.specs.declared.history.Entry.TheVariants.{Run}
-use Rattle.serial_model.specs.History.{Sending, Message, sent, runs_of, mode, keyspace}
-use Rattle.serial_model.specs.History.{ran}
+use Rattle.serial_model.specs.History.{Sending, Message, sent, runs_of, mode, keyspace, ran}
 use Rattle.serial_model.specs.History.{IsLegal, served_reading, reply_of, reply_protocol}
+use Rattle.serial_model.specs.History.{run_entries}
 use Rattle.serial_model.specs.History as history
 use Rattle.command_words.specs.declared.command.Command.{Command}
 use Rattle.command_words.specs.declared.command.WordFault.{WordFault}
@@ -43,13 +43,12 @@ use Rattle.shared_cache.proofs.CommandLists.{replies_are_gots}
 use Rattle.shared_cache.proofs.CommandLaws.{no_later_write}
 use Rattle.shared_cache.proofs.Every.{every_weaker}
 use Rattle.currency.specs.Links.{Client, HasWire, Meet, run_of, IsGot, AreGot}
-use Rattle.serial_model.specs.History.{run_entries}
 use Rattle.currency.specs.Points.{up_to, before_first, complete, replied}
 use Rattle.currency.specs.Current.{IsAnswer, IsCurrent, HasPoint, point, Currency}
 use Rattle.currency.proofs.Lists.{get_dropped, nothing_dropped, get_front}
 use Rattle.currency.proofs.Named.{named_at, get_taken, get_drop, every_at}
-use Rattle.currency.proofs.Runs.{Older, older_tail, older_up_to, up_to_older, RanAt}
-use Rattle.currency.proofs.Runs.{ran_at, in_order}
+use Rattle.currency.proofs.Runs.{Older, older_tail, older_up_to, up_to_older, RanAt, ran_at}
+use Rattle.currency.proofs.Runs.{in_order}
 use Rattle.currency.proofs.Sent.{sent_le, sent_order, sent_pos}
 use Rattle.currency.proofs.Handshake.{made_same, is_no_control}
 use Rattle.currency.proofs.Replies.{replies_of, replies_are_of_runs, is_reply_sent}
@@ -58,8 +57,7 @@ use Rattle.currency.proofs.Gots.{sent_form, got_at, got_replies, got_kept}
 use Rattle.currency.proofs.Placed.{Placed, reply_at, reply_place}
 use Rattle.currency.proofs.Since.{got_since}
 use Rattle.currency.proofs.Covered.{has_main, Pending, covered, Steady, settled, words_are}
-use Rattle.currency.proofs.Covered.{before_then, own, r, number_least, ran_by_then}
-use Rattle.currency.proofs.Covered.{not_got}
+use Rattle.currency.proofs.Covered.{before_then, own, r, number_least, ran_by_then, not_got}
 
 -- a value is the reply of the newest entry
 Answered : Limits → List Entry → Value → Type 0
@@ -147,14 +145,8 @@ module _ (l : Limits) (x : Client) (past : List Entry) (log : List LogEntry)
       → slice_get (sent l (x.id Main) past) i ≡ Some s → (ss : List (ℕ × Sending))
       → drop (length (gots Main log)) (sent l (x.id Main) past) ≡ ss
       → s.0 ≤ before_first ss (length past) + 1
-  waiting_after i s lt there [] e =
-      let le = sent_le (x.id Main) l past i s there in omega (arith, le)
-  waiting_after i s lt there (t ∷ ss) e =
-      let at = get_dropped (length (gots Main log)) (sent l (x.id Main) past) ss t e in
-      let le = sent_order (x.id Main) l past i (length (gots Main log)) s t (omega
-      (arith, lt)) there
-      at in
-      let pos = sent_pos (x.id Main) l past (length (gots Main log)) t at in omega (arith, le, pos)
+  waiting_after i s lt there [] e = grind (arith, sent_le)
+  waiting_after i s lt there (t ∷ ss) e = grind (arith, get_dropped, sent_order, sent_pos)
 
   -- what was got is complete, save perhaps the entry that it was sent at
   got_complete : is_ended x.setup.mode Main log ≡ false → (i : ℕ) (s : ℕ × Sending)
@@ -413,8 +405,7 @@ module _ (l : Limits) (x : Client) (past : List Entry) (log : List LogEntry)
       after_any w has i v s got voided there = grind (arith, after_main)
 
       pub has_point : HasPoint l x past log h
-      has_point =
-          record { fetched = at; ran = ran_there; answers = answers; after = after_any }
+      has_point = grind (arith, ran_there, answers, after_any)
 
 -- a query that the server serves is a query
 served_cacheable : (read : Result Command WordFault) → reads_as_cacheable (history.served read)

@@ -1,7 +1,6 @@
 -- What was got of what was sent.
-use Rattle.std.proofs.Common.{◌≡◌, ◌+◌, ◌<◌, ℕ, zero, suc, List, [], ◌∷◌, ◌++◌, length}
-use Rattle.std.proofs.Common.{Bool, true, false, cond, refl, ap, sym, ◌∙◌, arith, Some}
-use Rattle.std.proofs.Common.{subst}
+use Rattle.std.proofs.Common.{◌≡◌, ◌+◌, ◌<◌, ℕ, zero, suc, List, [], ◌∷◌, ◌++◌, length, Bool, true}
+use Rattle.std.proofs.Common.{false, cond, refl, ap, sym, ◌∙◌, arith, Some, subst}
 use Rattle.std.specs.Prelude.{slice_get, ◌==◌, Option}
 use Rattle.std.specs.List.{filter}
 use Rattle.resp_value.specs.Tree.{Tree, Trees}
@@ -9,17 +8,16 @@ use Rattle.resp_value.specs.Tree as tree
 use Rattle.resp_value.specs.ValueTree.{tree_of}
 use Rattle.resp_value.specs.Carried.{carried}
 use Rattle.resp_value.specs.declared.value.Value.{Value}
-use Rattle.resp_value.specs.declared.value.Value.TheVariants.{Push, Error, Simple, Blob, Null, Map}
+use Rattle.resp_value.specs.declared.value.Value.TheVariants.{Push}
 use Rattle.resp_value.specs.declared.value.Proto.{Proto}
-use Rattle.resp_value.specs.declared.value.Proto.TheVariants.{Two, Three}
+use Rattle.resp_value.specs.declared.value.Proto.TheVariants.{Three}
 use Rattle.serial_model.specs.declared.mode.Mode.{Mode}
 use Rattle.serial_model.specs.declared.history.Limits.{Limits}
 use Rattle.serial_model.specs.declared.history.Entry.{Entry}
 use Rattle.serial_model.specs.declared.history.Entry.TheVariants.{Run, Tick, Close}
-use Rattle.serial_model.specs.Tracking.{Invalidation, push_of, drop_group}
-use Rattle.serial_model.specs.History.{Sending, Message, End, sends, sent_to, sent, modes}
-use Rattle.serial_model.specs.History.{by_proto, route, routed, expiry_group, own_group, drops}
-use Rattle.serial_model.specs.History.{reply_of}
+use Rattle.serial_model.specs.Tracking.{Invalidation, push_of}
+use Rattle.serial_model.specs.History.{Sending, Message, End, sends, sent_to, sent, modes, by_proto}
+use Rattle.serial_model.specs.History.{routed, expiry_group, reply_of}
 use Rattle.shared_cache.specs.Notices.{push, kind_of, is_reply}
 use Rattle.currency.specs.Links.{IsGot, AreGot}
 use Rattle.currency.proofs.PushReplies.{is_push}
@@ -47,8 +45,7 @@ pub got_no_end : (vs : List Value) (ss : List (ℕ × Sending)) (i n : ℕ) → 
     → i < length vs → slice_get ss i ≡ Some (n, End) → ⊥
 got_no_end [] ss i n a lt e = omega arith
 got_no_end (x ∷ vs) [] i n a lt e = absurd a
-got_no_end (x ∷ vs) (s ∷ ss) zero n a lt e =
-    let same : s ≡ (n, End) = cc in subst (λ (t : ℕ × Sending). IsGot x t.1) same a.0
+got_no_end (x ∷ vs) (s ∷ ss) zero n a lt e = grind arith
 got_no_end (x ∷ vs) (s ∷ ss) (suc i) n a lt e = got_no_end vs ss i n a.1 (omega arith) e
 
 -- ---- a push is got as a push, and a reply as a reply
@@ -188,8 +185,7 @@ got_kept (v ∷ vs) (s ∷ ss) j u form a e =
 form_if : (b : Bool) (n : ℕ) (s : Sending) (ss : List (ℕ × Sending)) → IsSent s → AllSent ss
     → AllSent (cond b ((n, s) ∷ ss) ss)
 unfolding AllSent
-form_if true n s ss h a = (h, a)
-form_if false n s ss h a = a
+form_if b n s ss h a = grind arith
 
 to_form : (n c : ℕ) (ss : List (ℕ × Sending)) → AllSent ss → AllSent (sent_to n c ss)
 unfolding AllSent
@@ -203,15 +199,12 @@ form_append (x ∷ xs) ys a b = (a.0, form_append xs ys a.1 b)
 
 route_form : (p : Proto) (i : Invalidation) → AllSent (by_proto p i)
 unfolding AllSent IsSent
-route_form Two i = tt
-route_form Three i = ((λ h. (refl, (i.keys, refl))), tt)
+route_form p i = grind arith
 
 routed_form : (of : ℕ → Mode) (told : List Invalidation) → AllSent (routed of told)
 unfolding AllSent
 routed_form of [] = tt
-routed_form of (i ∷ told) =
-    form_append (route (of i.to) i) (routed of told) (route_form (of i.to).proto i)
-    (routed_form of told)
+routed_form of (i ∷ told) = grind (arith, form_append, route_form, routed_form of told)
 
 reply_form : (l : Limits) (past : List Entry) (id : ℕ) (words : List (List ℕ)) (m : ℕ)
     → IsSent (reply_of l past id words m).1
@@ -222,13 +215,7 @@ sends_form : (l : Limits) (e : Entry) (past : List Entry) → AllSent (sends l e
 unfolding AllSent IsSent
 sends_form l (Tick m) past = routed_form (modes l past) (expiry_group l past m)
 sends_form l (Close id) past = (tt, tt)
-sends_form l (Run id words m) past =
-    let late = own_group l past id words m ++ drop_group (drops l past id words m) in
-    let of = modes l (Run id words m ∷ past) in
-    form_append (routed (modes l past) (expiry_group l past m))
-    (reply_of l past id words m ∷ (routed of late ++ []))
-    (routed_form (modes l past) (expiry_group l past m))
-    (reply_form l past id words m, form_append (routed of late) [] (routed_form of late) tt)
+sends_form l (Run id words m) past = grind (arith, form_append, routed_form, reply_form)
 sends_form l e past = tt
 
 pub sent_form : (l : Limits) (c : ℕ) (past : List Entry) → AllSent (sent l c past)

@@ -1,8 +1,7 @@
 -- What the commands of a client make of its connection.
-use Rattle.std.proofs.Common.{◌≡◌, ℕ, zero, suc, List, [], ◌∷◌, ◌++◌, length}
-use Rattle.std.proofs.Common.{true, false, cond, refl, ap, sym, ◌∙◌, arith, Some, map}
-use Rattle.std.proofs.Common.{append_assoc, length-append, codes, Ok, Err, Result}
-use Rattle.std.proofs.lemmas.Grind.{common_steps}
+use Rattle.std.proofs.Common.{◌≡◌, ℕ, zero, suc, List, [], ◌∷◌, ◌++◌, length, true, false, cond}
+use Rattle.std.proofs.Common.{refl, ap, sym, ◌∙◌, arith, Some, map, append_assoc, length-append}
+use Rattle.std.proofs.Common.{codes, Result}
 use Rattle.std.specs.Prelude.{slice_get, ◌==◌}
 use Rattle.resp_value.specs.Lists.{IsPrefix}
 use Rattle.resp_value.specs.declared.value.Proto.TheVariants.{Three}
@@ -24,7 +23,7 @@ use Rattle.serial_model.specs.Modes.{first_mode, own_effect}
 use Rattle.serial_model.specs.History.{mode, made_of, runs_of, served}
 use Rattle.shared_cache.specs.declared.log.Wire.TheVariants.{Main}
 use Rattle.shared_cache.specs.declared.log.LogEntry.{LogEntry}
-use Rattle.shared_cache.specs.Held.{Setup, SentCommand, Caller, sent, commands}
+use Rattle.shared_cache.specs.Held.{Setup, SentCommand, Caller, commands}
 use Rattle.shared_cache.specs.Laws.{Every, LegalLog}
 use Rattle.shared_cache.proofs.CommandLaws.{no_control}
 use Rattle.shared_cache.proofs.StepCases.{sent_callers}
@@ -41,8 +40,7 @@ mode_by (suc (suc n)) = record { proto = Three; tracking = true }
 -- words that read as no control command are served as none
 pub served_no_control : (read : Result Command WordFault) → reads_as_control read ≡ false
     → reads_as_control (served read) ≡ false
-served_no_control (Ok command) h = grind (arith, common_steps)
-served_no_control (Err fault) h = refl
+served_no_control read h = grind arith
 
 -- a command that is no control command leaves its connection's mode
 keeps_mode : (read : Result Command WordFault) (m : Mode) → reads_as_control read ≡ false
@@ -52,8 +50,7 @@ keeps_mode read m h = grind arith
 pub made_same : (words : List (List ℕ)) (m : Mode) → is_control words ≡ false
     → (made_of words m).mode ≡ m
 unfolding made_of is_control
-made_same words m h =
-    keeps_mode (served (reading words)) m (served_no_control (reading words) h)
+made_same words m h = grind (arith, keeps_mode, served_no_control)
 
 hello_made : (made_of (codes "HELLO" ∷ codes "3" ∷ []) first_mode).mode ≡ mode_by 1
 unfolding made_of reading string_reading hash_reading key_reading connection_reading mode_by
@@ -72,15 +69,13 @@ module _ (s : Setup) where
       → slice_get (map (λ (c : SentCommand). c.words) cs) k ≡ Some words
       → is_control words ≡ false
   no_control_at [] k words a b e = cc
-  no_control_at (c ∷ cs) zero words a b e =
-      let same : c.words ≡ words = cc in ap is_control (sym same) ∙ b.0 a.0
+  no_control_at (c ∷ cs) zero words a b e = grind arith
   no_control_at (c ∷ cs) (suc k) words a b e = no_control_at cs k words a.1 b.1 e
 
   -- no command behind the handshake is a control command
   pub is_no_control : (log : List LogEntry) → LegalLog s log → (k : ℕ) (words : List (List ℕ))
       → slice_get (commands s Main log) (suc (suc k)) ≡ Some words → is_control words ≡ false
-  is_no_control log h k words e = no_control_at (sent s log) k words (sent_callers s log)
-      (no_control s log h) e
+  is_no_control log h k words e = grind (arith, no_control_at, sent_callers, no_control)
 
   next_mode : (log : List LogEntry) → LegalLog s log → (n : ℕ) (words : List (List ℕ))
       → slice_get (commands s Main log) n ≡ Some words

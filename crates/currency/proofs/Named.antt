@@ -1,7 +1,6 @@
 -- The last reply to a command that names a key.
-use Rattle.std.proofs.Common.{◌≡◌, ◌+◌, ◌<◌, ℕ, zero, suc, List, [], ◌∷◌}
-use Rattle.std.proofs.Common.{Bool, cond, refl, ap, sym, ◌∙◌, arith, Some, take}
-use Rattle.std.proofs.Common.{inl, inr, max, drop, subst}
+use Rattle.std.proofs.Common.{◌≡◌, ◌+◌, ◌<◌, ℕ, zero, suc, List, [], ◌∷◌, Bool, cond, refl, ap, sym}
+use Rattle.std.proofs.Common.{◌∙◌, arith, Some, take, inl, inr, max, drop, subst}
 use Rattle.std.specs.Prelude.{slice_get}
 use Rattle.std.proofs.lemmas.Bool.{cases_lt}
 use Rattle.std.proofs.lemmas.Grind.{common_steps}
@@ -51,22 +50,21 @@ pub record Taken {A : Type 0} (n : ℕ) (xs : List A) (i : ℕ) (x : A) : Type 0
 
 pub get_taken : {A : Type 0} (n : ℕ) (xs : List A) (i : ℕ) (x : A)
     → slice_get (take n xs) i ≡ Some x → Taken n xs i x
-get_taken zero xs i x e = absurd (let no : ⊥ = cc in no)
-get_taken (suc n) [] i x e = absurd (let no : ⊥ = cc in no)
-get_taken (suc n) (y ∷ xs) zero x e = record { there = e; below = omega arith }
-get_taken (suc n) (y ∷ xs) (suc i) x e =
-    let r = get_taken n xs i x e in record { there = r.there; below = omega (arith, r.below) }
+get_taken zero xs i h e = absurd (let no : ⊥ = cc in no)
+get_taken (suc n) [] i h e = absurd (let no : ⊥ = cc in no)
+get_taken (suc n) (y ∷ xs) zero h e = record { there = e; below = omega arith }
+get_taken (suc n) (y ∷ xs) (suc i) x e = grind (arith, get_taken n xs i x e)
 
 pub get_drop : {A : Type 0} (n : ℕ) (xs : List A) (i : ℕ) (x : A) → slice_get xs (n + i) ≡ Some x
     → slice_get (drop n xs) i ≡ Some x
-get_drop zero xs i x e = ap (slice_get xs) (let n : i ≡ 0 + i = omega arith in n) ∙ e
-get_drop (suc n) [] i x e = absurd (let no : ⊥ = cc in no)
+get_drop zero xs i h e = ap (slice_get xs) (let n : i ≡ 0 + i = omega arith in n) ∙ e
+get_drop (suc n) [] i h e = absurd (let no : ⊥ = cc in no)
 get_drop (suc n) (y ∷ xs) i x e =
     get_drop n xs i x
     (ap (slice_get (y ∷ xs)) (let k : suc (n + i) ≡ suc n + i = omega arith in k) ∙ e)
 
 pub every_at : {A : Type 0} (P : A → Type 0) (xs : List A) (i : ℕ) (x : A) → Every P xs
     → slice_get xs i ≡ Some x → P x
-every_at P [] i x a e = absurd (let no : ⊥ = cc in no)
+every_at P [] i h a e = absurd (let no : ⊥ = cc in no)
 every_at P (y ∷ xs) zero x a e = let same : y ≡ x = cc in subst P same a.0
 every_at P (y ∷ xs) (suc i) x a e = every_at P xs i x a.1 e

@@ -1,20 +1,15 @@
 -- What is no push of what was sent to a connection is the replies to its commands, in order.
-use Rattle.std.proofs.Common.{◌≡◌, ◌+◌, ℕ, List, [], ◌∷◌, ◌++◌, length}
-use Rattle.std.proofs.Common.{Bool, true, false, cond, refl, ap, ◌∙◌}
-use Rattle.std.proofs.Common.{append-nil, Ok, Err, Result}
+use Rattle.std.proofs.Common.{◌≡◌, ◌+◌, ℕ, List, [], ◌∷◌, ◌++◌, length, Bool, true, false, cond}
+use Rattle.std.proofs.Common.{refl, ap, ◌∙◌, append-nil, Result, arith}
 use Rattle.std.specs.Prelude.{◌==◌}
 use Rattle.std.specs.List.{filter}
 use Rattle.std.proofs.lemmas.List.Elements.{filter-append}
-use Rattle.std.proofs.Common.{arith}
 use Rattle.std.proofs.lemmas.Grind.{common_steps}
 use Rattle.resp_value.specs.declared.value.Value.{Value}
 use Rattle.resp_value.specs.declared.value.Proto.{Proto}
-use Rattle.resp_value.specs.declared.value.Proto.TheVariants.{Two, Three}
 use Rattle.command_words.specs.declared.command.Command.{Command}
 use Rattle.command_words.specs.declared.command.WordFault.{WordFault}
-use Rattle.command_words.specs.Words.{reading}
 use Rattle.command_words.specs.Space.{Space}
-use Rattle.command_words.specs.Expiry.{without_due}
 use Rattle.serial_model.specs.declared.mode.Mode.{Mode}
 use Rattle.serial_model.specs.declared.mode.Runner.{Runner}
 use Rattle.serial_model.specs.declared.history.Limits.{Limits}
@@ -23,9 +18,8 @@ use Rattle.serial_model.specs.declared.history.Entry.TheVariants.{Admit, Run, Ti
 use Rattle.serial_model.specs.Modes.{hello_reply}
 use Rattle.serial_model.specs.Tracking.{Invalidation}
 use Rattle.serial_model.specs.History.{Sending, Message, End, sends, sent_to, sent, modes, served}
-use Rattle.serial_model.specs.History.{by_proto, route, routed, expiry_group}
-use Rattle.serial_model.specs.History.{reply_of, ran, ran_over, effect_of}
-use Rattle.serial_model.specs.History.{runner, keyspace}
+use Rattle.serial_model.specs.History.{by_proto, routed, expiry_group, reply_of, ran, ran_over}
+use Rattle.serial_model.specs.History.{effect_of}
 use Rattle.serial_model.proofs.Tables.{sent_to-append}
 use Rattle.serial_model.proofs.ServedRows.{served_cases, data_effect}
 use Rattle.currency.proofs.PushReplies.{is_push, no_push}
@@ -34,8 +28,7 @@ use Rattle.currency.proofs.PushReplies.{is_push, no_push}
 
 hello_no_push : (id : ℕ) (r : Result Proto (List ℕ)) → is_push (hello_reply id r) ≡ false
 unfolding is_push
-hello_no_push id (Ok proto) = refl
-hello_no_push id (Err text) = refl
+hello_no_push id r = grind arith
 
 effect_no_push : (by : Runner) (words : List (List ℕ)) (read : Result Command WordFault)
     (space : Space) (m : ℕ) → is_push (effect_of by words (served read) space m).reply ≡ false
@@ -46,8 +39,7 @@ effect_no_push by words read space m =
 pub reply_no_push : (l : Limits) (past : List Entry) (id : ℕ) (words : List (List ℕ)) (m : ℕ)
     → is_push (ran l past id words m).reply ≡ false
 unfolding ran_over
-reply_no_push l past id words m =
-    effect_no_push (runner l past id) words (reading words) (without_due m (keyspace l past)) m
+reply_no_push l past id words m = grind (arith, effect_no_push)
 
 -- ---- the replies among what was sent
 
@@ -69,18 +61,13 @@ replies_of l c (Close id ∷ past) = replies_of l c past
 route_no_reply : (n c : ℕ) (p : Proto) (i : Invalidation)
     → filter is_reply_sent (sent_to n c (by_proto p i)) ≡ []
 unfolding is_reply_sent is_push
-route_no_reply n c Two i = refl
-route_no_reply n c Three i = grind (arith, common_steps)
+route_no_reply n c p i = grind arith
 
 pub routed_no_reply : (n c : ℕ) (of : ℕ → Mode) (told : List Invalidation)
     → filter is_reply_sent (sent_to n c (routed of told)) ≡ []
 routed_no_reply n c of [] = refl
 routed_no_reply n c of (i ∷ told) =
-    ap (filter is_reply_sent) (sent_to-append n c (route (of i.to) i) (routed of told))
-    ∙ filter-append is_reply_sent (sent_to n c (route (of i.to) i)) (sent_to n c (routed of told))
-    ∙ ap (λ xs. xs ++ filter is_reply_sent (sent_to n c (routed of told)))
-    (route_no_reply n c (of i.to).proto i)
-    ∙ routed_no_reply n c of told
+    grind (arith, sent_to-append, filter-append, route_no_reply, routed_no_reply n c of told)
 
 reply_kept : (b : Bool) (n : ℕ) (p : Proto) (v : Value) (ss : List (ℕ × Sending))
     → is_push v ≡ false → filter is_reply_sent ss ≡ []
@@ -91,16 +78,15 @@ reply_kept b n p v ss h none = grind (arith, common_steps)
 run_reply : (l : Limits) (n c : ℕ) (past : List Entry) (id : ℕ) (words : List (List ℕ)) (m : ℕ)
     → filter is_reply_sent (sent_to n c (sends l (Run id words m) past))
     ≡ cond (id == c) ((n, (reply_of l past id words m).1) ∷ []) []
-run_reply l n c past id words m =
-    grind (
-      arith,
-      append-nil,
-      routed_no_reply,
-      sent_to-append,
-      filter-append,
-      reply_kept,
-      reply_no_push,
-    )
+run_reply l n c past id words m = grind (
+  arith,
+  append-nil,
+  routed_no_reply,
+  sent_to-append,
+  filter-append,
+  reply_kept,
+  reply_no_push,
+)
 
 add_none : (l : Limits) (c : ℕ) (e : Entry) (past : List Entry)
     → filter is_reply_sent (sent_to (length past + 1) c (sends l e past)) ≡ []

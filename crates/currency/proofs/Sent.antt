@@ -1,7 +1,7 @@
 -- What was sent to a connection, by its places and by the numbers of its entries.
-use Rattle.std.proofs.Common.{◌≡◌, ◌+◌, ◌<◌, ◌≤◌, ℕ, zero, suc, List, [], ◌∷◌, ◌++◌, length}
-use Rattle.std.proofs.Common.{true, false, cond, refl, ap, sym, ◌∙◌, arith, Some}
-use Rattle.std.proofs.Common.{◌⊎◌, inl, inr, append_assoc, append-nil}
+use Rattle.std.proofs.Common.{◌≡◌, ◌+◌, ◌<◌, ◌≤◌, ℕ, zero, suc, List, [], ◌∷◌, ◌++◌, length, true}
+use Rattle.std.proofs.Common.{false, cond, refl, ap, sym, ◌∙◌, arith, Some, ◌⊎◌, inl, inr}
+use Rattle.std.proofs.Common.{append_assoc, append-nil}
 use Rattle.std.specs.Prelude.{slice_get, ◌==◌, Option}
 use Rattle.std.specs.List.{list_any}
 use Rattle.std.proofs.lemmas.Option.{slice_get_within}
@@ -26,7 +26,7 @@ module _ (c : ℕ) where
   first : (n : ℕ) (x : Sending) (ss : List (ℕ × Sending)) (i : ℕ) (s : ℕ × Sending)
       → ((j : ℕ) → slice_get (sent_to n c ss) j ≡ Some s → s.0 ≡ n)
       → slice_get ((n, x) ∷ sent_to n c ss) i ≡ Some s → s.0 ≡ n
-  first n x ss i s rest e = grind arith
+  first n h ss i s rest e = grind arith
 
   number_of : (n : ℕ) (ss : List (ℕ × Sending)) (i : ℕ) (s : ℕ × Sending)
       → slice_get (sent_to n c ss) i ≡ Some s → s.0 ≡ n
@@ -41,7 +41,7 @@ module _ (c : ℕ) where
   pub is_sent_to : (n : ℕ) (ss : List (ℕ × Sending)) (k : ℕ) (x : ℕ × Sending)
       → slice_get ss k ≡ Some x → (x.0 == c) ≡ true
       → (j : ℕ) × (slice_get (sent_to n c ss) j ≡ Some (n, x.1))
-  is_sent_to n [] k x e own = cc
+  is_sent_to n [] k h e own = cc
   is_sent_to n (y ∷ ss) zero x e own =
       let same : y ≡ x = cc in (
         0,
@@ -76,7 +76,7 @@ module _ (c : ℕ) where
         ⊎ Behind (sent l c past) (sent_to (length past + 1) c (sends l x past)) i s
         → (slice_get (sent l c past) j ≡ Some t)
         ⊎ Behind (sent l c past) (sent_to (length past + 1) c (sends l x past)) j t → s.0 ≤ t.0
-    by_parts x past i j s t le before h is = grind (arith, sent_le, number_of, slice_get_within)
+    by_parts e past i j s t le before h is = grind (arith, sent_le, number_of, slice_get_within)
 
     pub sent_pos : (past : List Entry) (i : ℕ) (s : ℕ × Sending)
         → slice_get (sent l c past) i ≡ Some s → 0 < s.0
@@ -195,7 +195,7 @@ module _ (c : ℕ) where
               ) r.1))
               p.passes
         ]
-    lands x up key h before after = absurd (let no : ⊥ = cc in no)
+    lands e up key h before after = absurd (let no : ⊥ = cc in no)
 
     -- where a connection has ended its end was sent
     pub record Ended (past : List Entry) (n : ℕ) : Type 0 where

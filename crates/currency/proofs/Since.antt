@@ -1,7 +1,6 @@
 -- What was got after a fetch was sent.
-use Rattle.std.proofs.Common.{◌≡◌, ◌-◌, ◌<◌, ◌≤◌, ℕ, List, [], ◌∷◌, ◌++◌, length}
-use Rattle.std.proofs.Common.{false, ap, sym, ◌∙◌, arith, Some, subst}
-use Rattle.std.proofs.Common.{◌⊎◌, inl, inr}
+use Rattle.std.proofs.Common.{◌≡◌, ◌-◌, ◌<◌, ◌≤◌, ℕ, List, [], ◌∷◌, ◌++◌, length, false, ap, sym}
+use Rattle.std.proofs.Common.{◌∙◌, arith, Some, subst, ◌⊎◌, inl, inr}
 use Rattle.std.proofs.lemmas.List.{length-map}
 use Rattle.std.specs.Prelude.{slice_get}
 use Rattle.std.proofs.lemmas.Option.{slice_get_within}
@@ -14,7 +13,7 @@ use Rattle.shared_cache.specs.declared.log.Wire.TheVariants.{Main}
 use Rattle.shared_cache.specs.declared.log.LogEntry.{LogEntry}
 use Rattle.shared_cache.specs.declared.log.LogEntry.TheVariants.{Ask, Got}
 use Rattle.shared_cache.specs.Notices.{invalidates}
-use Rattle.shared_cache.specs.Held.{Setup, commands, open_fetch, numbers}
+use Rattle.shared_cache.specs.Held.{commands, open_fetch}
 use Rattle.shared_cache.specs.Laws.{gots, Spared, WasSent}
 use Rattle.shared_cache.proofs.FetchLaws.{open_was_sent}
 use Rattle.currency.specs.Links.{Client, HasWire, run_of, IsCausal}

@@ -1,7 +1,7 @@
 -- The keys that are due: one of which an index has one deadline is among them exactly where that
 -- deadline is past.
 use Rattle.std.proofs.Common.{◌≡◌, ◌∙◌, refl, sym, ap, ℕ, List, [], ◌∷◌, Bool, true, false, cond}
-use Rattle.std.proofs.Common.{Option, None, Some, eq-eqb}
+use Rattle.std.proofs.Common.{Option, None, Some, eq-eqb, arith}
 use Rattle.std.specs.Prelude.{◌&&◌, ◌||◌, nat_lt}
 use Rattle.std.specs.Cmp.{both_ways}
 use Rattle.std.specs.List.{list_any}
@@ -13,15 +13,13 @@ use Rattle.expiry.specs.Index.{has, is_same, is_due, due, is_at, keys_of}
 use Rattle.expiry.proofs.Orders.{same_deadline}
 
 pub at_is : (at : ℕ) (o : Option ℕ) → is_at at o ≡ true → o ≡ Some at
-at_is at None e = absurd cc
-at_is at (Some y) e = ap Some (sym (eqb-true at y e))
+at_is at o e = grind (arith, eqb-true)
 
 pub at_itself : (at : ℕ) → is_at at (Some at) ≡ true
 at_itself at = eq-eqb at at refl
 
 pub right_true : (b c : Bool) → c ≡ true → (b || c) ≡ true
-right_true true c e = refl
-right_true false c e = e
+right_true b c e = grind arith
 
 module _ (moment : ℕ) (q : List ℕ) where
   abbrev named : List Deadline → Bool
@@ -79,9 +77,7 @@ module _ (moment : ℕ) (q : List ℕ) where
       both_ways (named index) (is_past own) forth (back own refl)
     where
       forth : named index ≡ true → is_past own ≡ true
-      forth e =
-          let f = found index e in
-          ap is_past (at_is f.0 own (sym (each f.0) ∙ f.1)) ∙ (some f.0 ∙ f.2)
+      forth e = grind (arith, found, at_is)
 
       back : (o : Option ℕ) → own ≡ o → is_past o ≡ true → named index ≡ true
       back None is e = let no : true ≡ false = sym e ∙ none in absurd cc

@@ -1,8 +1,7 @@
 -- The place of a deadline, and the deadlines before a moment, in a list in order.
-use Rattle.std.proofs.Common.{◌≡◌, ◌<◌, ℕ, List, [], ◌∷◌, Bool, true, false, cond}
-use Rattle.std.proofs.Common.{length, take, refl, ap, sym, ◌∙◌, arith}
-use Rattle.std.specs.Prelude.{◌==◌, ◌&&◌, ◌||◌, not, nat_lt, insert, slice_get}
-use Rattle.std.specs.Prelude.{Some, None}
+use Rattle.std.proofs.Common.{◌≡◌, ◌<◌, ℕ, List, [], ◌∷◌, Bool, true, false, cond, length, take}
+use Rattle.std.proofs.Common.{refl, ap, sym, ◌∙◌, arith}
+use Rattle.std.specs.Prelude.{◌==◌, ◌&&◌, ◌||◌, nat_lt, insert, slice_get, Some, None}
 use Rattle.std.specs.Ordering.{is_lt, nat_cmp}
 use Rattle.std.specs.Cmp.Lexicographic.{slice_cmp}
 use Rattle.std.proofs.lemmas.Bool.Decides.{nat_tests}
@@ -19,8 +18,7 @@ module _ (d : Deadline) where
   pub with_same : (ds : List Deadline) (n : ℕ) → IsPlaceFor d ds n → n < length ds
       → is_same d (deadline_at ds n) ≡ true → with d ds ≡ ds
   with_same [] n p lt is = absurd (omega arith)
-  with_same (e ∷ es) zero p lt is =
-      (λ i. chosen (p.2 lt i) (is i) e es)
+  with_same (e ∷ es) zero p lt is = grind arith
   with_same (e ∷ es) (suc n) p lt is =
       ap (λ b. chosen b (is_same d e) e es) (p.1 0 (omega arith))
       ∙ ap (λ l. e ∷ l) (with_same es n (
@@ -33,8 +31,7 @@ module _ (d : Deadline) where
       → (n < length ds → is_same d (deadline_at ds n) ≡ false) → with d ds ≡ insert ds n d
   with_new [] zero p other = refl
   with_new [] (suc n) p other = absurd (omega arith)
-  with_new (e ∷ es) zero p other =
-      (λ i. chosen (p.2 (omega arith) i) (other (omega arith) i) e es)
+  with_new (e ∷ es) zero p other = grind arith
   with_new (e ∷ es) (suc n) p other =
       ap (λ b. chosen b (is_same d e) e es) (p.1 0 (omega arith))
       ∙ ap (λ l. e ∷ l) (with_new es n (
@@ -51,33 +48,25 @@ later moment d e = by (nat_lt d.at e.at) (d.at == e.at) (is_lt (slice_cmp nat_cm
   where
     by : (a b s : Bool) → nat_lt d.at e.at ≡ a → (d.at == e.at) ≡ b → (a || (b && s)) ≡ true
         → nat_lt d.at moment ≡ false → nat_lt e.at moment ≡ false
-    by true b s below at e' still = grind (arith, nat_tests)
-    by false true s below at e' still = grind (arith, nat_tests)
-    by false false s below at e' still = absurd cc
+    by a b s below at e' still = grind (arith, nat_tests)
 
 module _ (moment : ℕ) where
   none_due : (d : Deadline) (ds : List Deadline) → IsBeforeAll d ds → is_due moment d ≡ false
       → due moment ds ≡ []
   none_due d [] h still = refl
-  none_due d (e ∷ es) h still =
-      ap (λ b. cond b (e ∷ due moment es) (due moment es)) (later moment d e h.0 still)
-      ∙ none_due d es h.1 still
+  none_due d (e ∷ es) h still = grind (arith, later, none_due d es h.1 still)
 
   all_left : (d : Deadline) (ds : List Deadline) → IsBeforeAll d ds → is_due moment d ≡ false
       → left moment ds ≡ ds
   all_left d [] h still = refl
-  all_left d (e ∷ es) h still =
-      ap (λ b. cond (not b) (e ∷ left moment es) (left moment es)) (later moment d e h.0 still)
-      ∙ ap (λ l. e ∷ l) (all_left d es h.1 still)
+  all_left d (e ∷ es) h still = grind (arith, later, all_left d es h.1 still)
 
   -- the deadlines before a moment are those at the front
   pub front_due : (ds : List Deadline) (n : ℕ) → IsOrdered ds → IsDueFront moment ds n
       → take n ds ≡ due moment ds
   front_due [] zero h f = refl
   front_due [] (suc n) h f = absurd (omega arith)
-  front_due (d ∷ ds) zero h f =
-      sym (ap (λ b. cond b (d ∷ due moment ds) (due moment ds)) (f.2 (omega arith))
-      ∙ none_due d ds h.0 (f.2 (omega arith)))
+  front_due (d ∷ ds) zero h f = grind (arith, none_due)
   front_due (d ∷ ds) (suc n) h f =
       ap (λ l. d ∷ l) (front_due ds n h.1 (
         omega arith,
@@ -90,16 +79,10 @@ module _ (moment : ℕ) where
   pub none_gone : (ds : List Deadline) → IsOrdered ds → IsDueFront moment ds 0
       → left moment ds ≡ ds
   none_gone [] h f = refl
-  none_gone (d ∷ ds) h f =
-      ap (λ b. cond (not b) (d ∷ left moment ds) (left moment ds)) (f.2 (omega arith))
-      ∙ ap (λ l. d ∷ l) (all_left d ds h.0 (f.2 (omega arith)))
+  none_gone (d ∷ ds) h f = grind (arith, all_left)
 
   -- where the first is not due, none is
   pub first_is_not : (ds : List Deadline) (d : Deadline) → IsOrdered ds
       → slice_get ds 0 ≡ Some d → is_due moment d ≡ false → None ≡ first_of (due moment ds)
   first_is_not [] d h first still = absurd cc
-  first_is_not (e ∷ es) d h first still =
-      let is : e ≡ d = cc in
-      let not_e = ap (is_due moment) is ∙ still in
-      sym (ap first_of (ap (λ b. cond b (e ∷ due moment es) (due moment es)) not_e
-      ∙ none_due e es h.0 not_e))
+  first_is_not (e ∷ es) d h first still = grind (arith, none_due)

@@ -1,6 +1,6 @@
 -- The members of an index after a change, and that they determine it.
-use Rattle.std.proofs.Common.{subst}
-use Rattle.std.proofs.Common.{◌≡◌, List, [], ◌∷◌, Bool, true, false, cond, refl, ap, sym, ◌∙◌}
+use Rattle.std.proofs.Common.{subst, ◌≡◌, List, [], ◌∷◌, Bool, true, false, cond, refl, ap, sym}
+use Rattle.std.proofs.Common.{◌∙◌, arith}
 use Rattle.std.specs.Prelude.{◌||◌, not}
 use Rattle.std.proofs.lemmas.Map.Views.{any-filter_same}
 use Rattle.expiry.specs.declared.index.Deadline.{Deadline}
@@ -11,13 +11,10 @@ use Rattle.expiry.proofs.Orders.{same_deadline, is_itself, same_turned, not_befo
 use Rattle.expiry.proofs.Orders.{before_trans}
 
 swapped : (a b c : Bool) → (a || (b || c)) ≡ (b || (a || c))
-swapped true true c = refl
-swapped true false c = refl
-swapped false b c = refl
+swapped a b c = grind arith
 
 twice : (a b : Bool) → (a || b) ≡ (a || (a || b))
-twice true b = refl
-twice false b = refl
+twice a b = grind arith
 
 pub setting_adds_one : SettingAddsOne
 setting_adds_one d e [] = refl
@@ -61,7 +58,7 @@ here d ds = ap (λ b. b || has d ds) (is_itself d)
 -- a member of what comes after a deadline comes after it
 after_first : (d x : Deadline) (ds : List Deadline) → IsBeforeAll d ds → has x ds ≡ true
     → comes_before d x ≡ true
-after_first d x [] h is = absurd cc
+after_first d e [] h is = absurd cc
 after_first d x (e ∷ es) h among =
     elim (is_same x e) as (λ b. is_same x e ≡ b → (b || has x es) ≡ true
     → comes_before d x ≡ true) [

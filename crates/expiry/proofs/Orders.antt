@@ -1,17 +1,15 @@
 -- The order of deadlines, and that each change leaves an index in order.
 use Rattle.std.proofs.Common.{◌≡◌, ℕ, List, [], ◌∷◌, Bool, true, false, cond, refl, ap, sym, ◌∙◌}
-use Rattle.std.specs.Prelude.{◌==◌, ◌&&◌, ◌||◌, nat_lt, filter}
+use Rattle.std.proofs.Common.{eq-eqb, arith}
+use Rattle.std.specs.Prelude.{◌==◌, ◌&&◌, ◌||◌, filter}
 use Rattle.std.specs.declared.cmp.Ordering.{Ordering}
 use Rattle.std.specs.declared.cmp.Ordering.TheVariants.{Less, Equal, Greater}
-use Rattle.std.specs.Ordering.{is_lt, nat_cmp, ordering_then}
-use Rattle.std.specs.Ordering.{ordering_reverse}
-use Rattle.std.specs.Cmp.{both_ways}
+use Rattle.std.specs.Ordering.{is_lt, nat_cmp, ordering_then, ordering_reverse}
 use Rattle.std.specs.Cmp.Lexicographic.{slice_cmp, nat_list_cmp_total}
 use Rattle.std.specs.FinMap.{slice_cmp-IsAntisymmetric, nat_cmp-IsAntisymmetric}
 use Rattle.std.specs.Str.{bytes_eq}
 use Rattle.std.proofs.lemmas.Slice.Eq.{bytes_eq-Decides}
 use Rattle.std.proofs.lemmas.Bool.Decides.{nat_tests}
-use Rattle.std.proofs.Common.{eq-eqb, arith}
 use Rattle.expiry.specs.declared.index.Deadline.{Deadline}
 use Rattle.expiry.specs.Index.{comes_before, is_same, with}
 use Rattle.expiry.specs.Order.{IsBeforeAll, IsOrdered}
@@ -25,18 +23,13 @@ order d e = slice_cmp nat_cmp (text_of d) (text_of e)
 
 by_order : (a b : Bool) (s : Ordering)
     → (a || (b && is_lt s)) ≡ is_lt (ordering_then (cond a Less (cond b Equal Greater)) s)
-by_order true b s = refl
-by_order false true s = refl
-by_order false false s = refl
+by_order a b s = grind (arith, nat_tests)
 
 pub before_order : (d e : Deadline) → comes_before d e ≡ is_lt (order d e)
-before_order d e =
-    by_order (nat_lt d.at e.at) (d.at == e.at) (slice_cmp nat_cmp d.key e.key)
+before_order d e = grind (arith, by_order)
 
 is_less : (r : Ordering) → is_lt r ≡ true → r ≡ Less
-is_less Less e = refl
-is_less Equal e = absurd cc
-is_less Greater e = absurd cc
+is_less r e = grind (arith, nat_tests)
 
 pub before_trans : (a b c : Deadline) → comes_before a b ≡ true → comes_before b c ≡ true
     → comes_before a c ≡ true
@@ -49,23 +42,16 @@ pub same_deadline : (d e : Deadline) → is_same d e ≡ true → d ≡ e
 same_deadline d e is = by (d.at == e.at) refl is
   where
     by : (b : Bool) → (d.at == e.at) ≡ b → (b && bytes_eq d.key e.key) ≡ true → d ≡ e
-    by true at key =
-        let times : d.at ≡ e.at = grind (arith, nat_tests) in
-        let keys : d.key ≡ e.key = (bytes_eq-Decides d.key e.key).0 key in
-        λ i. record { at = times i; key = keys i }
-    by false at key = absurd cc
+    by b at key = grind (arith, bytes_eq-Decides, nat_tests)
 
 pub is_itself : (d : Deadline) → is_same d d ≡ true
-is_itself d =
-    ap (λ b. b && bytes_eq d.key d.key) (eq-eqb d.at d.at refl)
-    ∙ (bytes_eq-Decides d.key d.key).1 refl
+is_itself d = grind (arith, eq-eqb, bytes_eq-Decides, nat_tests)
 
 of_same : (d e : Deadline) → d ≡ e → is_same d e ≡ true
 of_same d e same = ap (is_same d) (sym same) ∙ is_itself d
 
 pub same_turned : (d e : Deadline) → is_same d e ≡ is_same e d
-same_turned d e = both_ways (is_same d e) (is_same e d)
-    (λ s. of_same e d (sym (same_deadline d e s))) (λ s. of_same d e (sym (same_deadline e d s)))
+same_turned d e = grind (arith, of_same, same_deadline)
 
 is_equal : (d e : Deadline) → order e d ≡ Equal → d ≡ e
 is_equal d e r =
@@ -83,10 +69,7 @@ otherwise_before d e not_before other =
     ∙ by (order e d) refl (sym (before_order e d) ∙ not_before)
   where
     by : (r : Ordering) → order e d ≡ r → is_lt r ≡ false → is_lt (ordering_reverse r) ≡ true
-    by Less is e' = absurd cc
-    by Equal is e' =
-        let same : is_same d e ≡ true = of_same d e (is_equal d e is) in absurd cc
-    by Greater is e' = refl
+    by r is e' = grind (arith, of_same, is_equal, nat_tests)
 
 -- none comes before itself
 pub not_before_itself : (d : Deadline) → comes_before d d ≡ false
@@ -94,9 +77,7 @@ not_before_itself d = before_order d d ∙ by (order d d)
     (nat_list_cmp_total.antisymm (text_of d) (text_of d))
   where
     by : (r : Ordering) → r ≡ ordering_reverse r → is_lt r ≡ false
-    by Less e = absurd cc
-    by Equal e = refl
-    by Greater e = refl
+    by r e = grind (arith, nat_tests)
 
 before_all_trans : (d e : Deadline) (ds : List Deadline) → comes_before d e ≡ true
     → IsBeforeAll e ds → IsBeforeAll d ds
@@ -106,40 +87,20 @@ before_all_trans d e (x ∷ xs) before h =
 
 before_with : (x d : Deadline) (ds : List Deadline) → IsBeforeAll x ds → comes_before x d ≡ true
     → IsBeforeAll x (with d ds)
-before_with x d [] h before = (before, tt)
-before_with x d (e ∷ es) h before =
-    elim (comes_before e d) as (λ b. IsBeforeAll x
-    (cond b (e ∷ with d es) (cond (is_same d e) (e ∷ es) (d ∷ e ∷ es)))) [
-      | true ↦ (h.0, before_with x d es h.1 before)
-      | false ↦ elim (is_same d e) as (λ b. IsBeforeAll x (cond b (e ∷ es) (d ∷ e ∷ es)))
-          [ true ↦ h | false ↦ (before, h) ]
-    ]
+before_with e d [] h before = (before, tt)
+before_with x d (e ∷ es) h before = grind (arith, before_with x d es h.1 before)
 
 pub ordered_with : (d : Deadline) (ds : List Deadline) → IsOrdered ds → IsOrdered (with d ds)
 ordered_with d [] h = (tt, tt)
 ordered_with d (e ∷ es) h =
-    elim (comes_before e d) as (λ b. comes_before e d ≡ b → IsOrdered
-    (cond b (e ∷ with d es) (cond (is_same d e) (e ∷ es) (d ∷ e ∷ es)))) [
-      | true ↦ λ t. (before_with e d es h.0 t, ordered_with d es h.1)
-      | false ↦ λ t. elim (is_same d e) as (λ b. is_same d e ≡ b
-          → IsOrdered (cond b (e ∷ es) (d ∷ e ∷ es))) [
-            | true ↦ λ s. h
-            | false ↦ λ s.
-                let first = otherwise_before d e t s in
-                ((first, before_all_trans d e es first h.0), h)
-          ] refl
-    ] refl
+    grind (arith, before_with, otherwise_before, before_all_trans, ordered_with d es h.1)
 
 module _ (p : Deadline → Bool) where
   before_filter : (d : Deadline) (ds : List Deadline) → IsBeforeAll d ds
       → IsBeforeAll d (filter p ds)
   before_filter d [] h = tt
-  before_filter d (e ∷ es) h =
-      elim (p e) as (λ b. IsBeforeAll d (cond b (e ∷ filter p es) (filter p es)))
-      [ true ↦ (h.0, before_filter d es h.1) | false ↦ before_filter d es h.1 ]
+  before_filter d (e ∷ es) h = grind (arith, before_filter d es h.1)
 
   pub ordered_filter : (ds : List Deadline) → IsOrdered ds → IsOrdered (filter p ds)
   ordered_filter [] h = tt
-  ordered_filter (d ∷ ds) h =
-      elim (p d) as (λ b. IsOrdered (cond b (d ∷ filter p ds) (filter p ds)))
-      [ true ↦ (before_filter d ds h.0, ordered_filter ds h.1) | false ↦ ordered_filter ds h.1 ]
+  ordered_filter (d ∷ ds) h = grind (arith, before_filter, ordered_filter ds h.1)

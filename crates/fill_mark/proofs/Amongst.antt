@@ -1,7 +1,6 @@
 -- Lists of marks, what is among them and what a filter leaves.
 use Rattle.std.proofs.Common.{◌≡◌, ◌==◌, ◌<◌, ◌++◌, ◌⊎◌, ℕ, List, [], ◌∷◌, Bool, true, false, cond}
-use Rattle.std.proofs.Common.{Option, Some, None, sym, ap, ◌∙◌, refl, inl, inr, subst, arith}
-use Rattle.std.proofs.Common.{eq-eqb}
+use Rattle.std.proofs.Common.{Option, Some, None, sym, ◌∙◌, refl, inl, inr, subst, arith, eq-eqb}
 use Rattle.std.specs.List.{filter}
 use Rattle.std.specs.Bool.{OnTrue}
 use Rattle.std.specs.Option.{is_some, option_or}
@@ -12,8 +11,7 @@ use Rattle.fill_mark.specs.Marks.{query_marked}
 use Rattle.fill_mark.specs.Tables.{Among}
 
 or_right : {P Q R : Type 0} → (Q → R) → P ⊎ Q → P ⊎ R
-or_right f (inl x) = inl x
-or_right f (inr y) = inr (f y)
+or_right f e = grind arith
 
 -- ---- what is among a list
 
@@ -32,51 +30,31 @@ passes p m (o ∷ os) a = by (passes p m os) (p o) refl a
   where
     by : (Among m (filter p os) → p m ≡ true) → (b : Bool) → p o ≡ b
         → Among m (cond b (o ∷ filter p os) (filter p os)) → p m ≡ true
-    by rest true e (inl same) = ap p same ∙ e
-    by rest true e (inr x) = rest x
-    by rest false e x = rest x
+    by rest b e h = grind arith
 
 pub among_either : (m : Mark) (xs ys : List Mark) → Among m (xs ++ ys) → Among m xs ⊎ Among m ys
 among_either m [] ys a = inr a
 among_either m (x ∷ xs) ys (inl e) = inl (inl e)
-among_either m (x ∷ xs) ys (inr a) = elim (among_either m xs ys a) [
-  | inl b ↦ inl (inr b)
-  | inr b ↦ inr b
-]
+among_either m (x ∷ xs) ys (inr a) = grind (arith, among_either m xs ys a)
 
 -- ---- filters
 
 pub filter_keeps : (p : Mark → Bool) (ms : List Mark) → ((m : Mark) → Among m ms → p m ≡ true)
     → filter p ms ≡ ms
 filter_keeps p [] all = refl
-filter_keeps p (o ∷ os) all = grind (
-  arith,
-  common_steps,
-  all o (inl refl),
-  filter_keeps p os (λ m a. all m (inr a)),
-)
+filter_keeps p (o ∷ os) all = grind (arith, filter_keeps p os (λ m a. all m (inr a)))
 
 pub filter_alike : (p q : Mark → Bool) (ms : List Mark)
     → ((m : Mark) → Among m ms → p m ≡ q m) → filter p ms ≡ filter q ms
 filter_alike p q [] e = refl
-filter_alike p q (o ∷ os) e = grind (
-  arith,
-  common_steps,
-  e o (inl refl),
-  filter_alike p q os (λ m a. e m (inr a)),
-)
+filter_alike p q (o ∷ os) e = grind (arith, filter_alike p q os (λ m a. e m (inr a)))
 
 -- what another filter took would not have passed
 pub filter_twice : (p r : Mark → Bool) (ms : List Mark)
     → ((m : Mark) → Among m ms → r m ≡ false → p m ≡ false)
     → filter p (filter r ms) ≡ filter p ms
 filter_twice p r [] h = refl
-filter_twice p r (o ∷ os) h = grind (
-  arith,
-  common_steps,
-  h o (inl refl),
-  filter_twice p r os (λ m a. h m (inr a)),
-)
+filter_twice p r (o ∷ os) h = grind (arith, filter_twice p r os (λ m a. h m (inr a)))
 
 -- ---- marks by number
 
@@ -104,9 +82,7 @@ marked_one n (o ∷ os) q e = by (marked_one n os q) (o.number == n) refl e
         → (b : Bool) → (o.number == n) ≡ b
         → cond b (Some o.query) (query_marked n os) ≡ Some q
         → Among (record { number = n; query = q }) (o ∷ os)
-    by rest true t h =
-        let same : o.query ≡ q = cc in inl (mark_is n q o (eqb-true o.number n t) same)
-    by rest false t h = inr (rest h)
+    by rest b t h = grind (arith, mark_is, eqb-true)
 
 pub marked_some : (m : Mark) (ms : List Mark) → Among m ms
     → is_some (query_marked m.number ms) ≡ true
@@ -116,11 +92,7 @@ marked_some m (o ∷ os) a = by (marked_some m os) (o.number == m.number) refl a
     by : (Among m os → is_some (query_marked m.number os) ≡ true) → (b : Bool)
         → (o.number == m.number) ≡ b → Among m (o ∷ os)
         → is_some (cond b (Some o.query) (query_marked m.number os)) ≡ true
-    by rest true t x = refl
-    by rest false t (inl same) =
-        let is = sym (ap (λ (z : Mark). z.number) same) in
-        let no : true ≡ false = sym (eq-eqb o.number m.number is) ∙ t in cc
-    by rest false t (inr x) = rest x
+    by rest b t e = grind (arith, eq-eqb)
 
 -- ---- each mark is found by its number
 
@@ -155,22 +127,12 @@ pub found_more : (n : ℕ) (q : List (List ℕ)) (ms : List Mark) → EachFound 
     → EachFound (ms ++ record { number = n; query = q } ∷ [])
 found_more n q ms each below m a = by (among_either m ms (record { number = n; query = q } ∷ []) a)
   where
-    new : Mark
-    new = record { number = n; query = q }
-
     last : query_marked n (ms ++ record { number = n; query = q } ∷ []) ≡ Some q
-    last =
-        marked_behind n ms (record { number = n; query = q } ∷ []) (none_above n ms below)
-        ∙ ap (λ b. cond b (Some q) None) (eq-eqb n n refl)
+    last = grind (arith, marked_behind, none_above, eq-eqb)
 
     by : Among m ms ⊎ Among m (record { number = n; query = q } ∷ [])
         → query_marked m.number (ms ++ record { number = n; query = q } ∷ []) ≡ Some m.query
-    by (inl x) =
-        marked_append m.number ms (record { number = n; query = q } ∷ []) m.query (each m x)
-    by (inr (inl e)) =
-        ap (λ (z : Mark). query_marked z.number (ms ++ record { number = n; query = q } ∷ [])) e
-        ∙ last ∙ sym (ap (λ (z : Mark). Some z.query) e)
-    by (inr (inr x)) = absurd x
+    by e = grind (arith, marked_append, last)
 
 pub below_as : (n : ℕ) (ms os : List Mark) → ms ≡ os → (b : Bool)
     → OnTrue b ((m : Mark) → Among m ms → m.number < n)

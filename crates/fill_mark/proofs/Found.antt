@@ -1,12 +1,10 @@
 -- Finding a mark by its number, and what stays when it goes.
-use Rattle.std.proofs.Common.{◌≡◌, ◌+◌, ◌<◌, ◌++◌, ℕ, zero, suc, List, [], ◌∷◌, length, take}
-use Rattle.std.proofs.Common.{drop, get_or, Bool, false, cond, Some, None, sym}
-use Rattle.std.proofs.Common.{ap, ◌∙◌, refl, eq-eqb}
-use Rattle.std.proofs.Common.{Bor, Option}
+use Rattle.std.proofs.Common.{◌≡◌, ◌+◌, ◌<◌, ◌++◌, ℕ, zero, suc, List, [], ◌∷◌, length, take, drop}
+use Rattle.std.proofs.Common.{get_or, Bool, false, cond, Some, None, sym, ap, ◌∙◌, refl, eq-eqb}
+use Rattle.std.proofs.Common.{Bor, Option, arith}
 use Rattle.std.specs.List.{filter, slice_get}
 use Rattle.std.specs.Option.{option_copied, IfNone}
 use Rattle.std.proofs.lemmas.List.{at_drop_more}
-use Rattle.std.proofs.Common.{arith}
 use Rattle.std.proofs.lemmas.Grind.{common_steps}
 use Rattle.fill_mark.specs.declared.marks.Mark.{Mark}
 use Rattle.fill_mark.specs.Marks.{query_marked, without_number}
@@ -28,14 +26,12 @@ none_goes n (m ∷ marks) h = grind (arith, common_steps, none_goes n marks)
 
 pub none_found : (n : ℕ) (marks : List Mark) (r : Option (Bor (List (List ℕ))))
     → option_copied r ≡ query_marked n marks → IfNone r (marks ≡ without_number n marks)
-none_found n marks None e = none_goes n marks (sym e)
-none_found n marks (Some q) e = tt
+none_found n marks r e = grind (arith, none_goes)
 
 -- what does not pass a filter may be removed before it
 pub removed : {X : Type 0} → (p : X → Bool) (xs : List X) (i : ℕ) (x : X) → slice_get xs i ≡ Some x
     → p x ≡ false
     → filter p (take i xs ++ drop (suc i) xs) ≡ filter p xs
-removed p [] i x h no_ = cc
-removed p (y ∷ ys) zero x h no_ = let e : y ≡ x = cc in
-    sym (ap (λ b. cond b (y ∷ filter p ys) (filter p ys)) (ap p e ∙ no_))
+removed p [] i e h no_ = cc
+removed p (y ∷ ys) zero e h no_ = grind arith
 removed p (y ∷ ys) (suc i) x h no_ = ap (λ l. cond (p y) (y ∷ l) l) (removed p ys i x h no_)

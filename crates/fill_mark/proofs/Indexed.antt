@@ -1,8 +1,8 @@
 -- Marks that are found by number and by key: what a step leaves of them, and that the rest is
 -- found as before.
 use Rattle.std.proofs.Common.{◌≡◌, ◌==◌, ◌<◌, ◌++◌, ◌⊎◌, ℕ, List, [], ◌∷◌, Bool, true, false, cond}
-use Rattle.std.proofs.Common.{not, Option, Some, None, sym, ap, ◌∙◌, refl, inl, inr, subst, arith}
-use Rattle.std.proofs.Common.{eq-eqb, ne_eqb}
+use Rattle.std.proofs.Common.{not, Option, Some, None, sym, ap, ◌∙◌, refl, inl, inr, arith, eq-eqb}
+use Rattle.std.proofs.Common.{ne_eqb}
 use Rattle.std.specs.List.{filter, list_any}
 use Rattle.std.specs.Option.{is_some}
 use Rattle.std.specs.FinMap.{insert, remove}
@@ -16,11 +16,9 @@ use Rattle.fill_mark.specs.declared.marks.Mark.{Mark}
 use Rattle.fill_mark.specs.Marks.{query_marked, without_number, without_query, without_key}
 use Rattle.fill_mark.specs.Marks.{with_mark}
 use Rattle.fill_mark.specs.Tables.{Among, KeyIndex, numbers_at, is_marked, marked_among, asks}
-use Rattle.fill_mark.specs.Tables.{asks_of, number_of, without_listed, AreIndexed}
-use Rattle.fill_mark.specs.Tables.{without_some}
-use Rattle.fill_mark.proofs.Amongst.{among_filter, passes, among_either, filter_keeps}
-use Rattle.fill_mark.proofs.Amongst.{filter_alike, filter_twice, marked_one, EachFound}
-use Rattle.fill_mark.proofs.Amongst.{found_filter, found_more}
+use Rattle.fill_mark.specs.Tables.{asks_of, number_of, without_listed, AreIndexed, without_some}
+use Rattle.fill_mark.proofs.Amongst.{among_filter, passes, among_either, filter_keeps, filter_alike}
+use Rattle.fill_mark.proofs.Amongst.{filter_twice, marked_one, EachFound, found_filter, found_more}
 use Rattle.fill_mark.proofs.Keyed.{numbers_put, numbers_taken}
 
 abbrev Words : Type 0
@@ -65,13 +63,11 @@ listed_last k [] = grind (arith, common_steps)
 listed_last k (n ∷ ns) = grind (arith, common_steps, listed_last k ns)
 
 other_mark : (m : Mark) (n : ℕ) → not (m.number == n) ≡ true → (n == m.number) ≡ true → ⊥
-other_mark m n p e =
-    clash (m.number == n) (eq-eqb m.number n (sym (eqb-true n m.number e))) (not-true _ p)
+other_mark m n p e = grind (arith, clash, eq-eqb, eqb-true, not-true)
 
 pub indexed_as : (keys now : KeyIndex) (ms os : List Mark) → now ≡ keys → os ≡ ms
     → AreIndexed keys ms → AreIndexed now os
-indexed_as keys now ms os e f are =
-    subst (λ k. AreIndexed k os) (sym e) (subst (AreIndexed keys) (sym f) are)
+indexed_as keys now ms os e f are = grind arith
 
 -- ---- some marks go
 
@@ -87,15 +83,7 @@ indexed_filter p keys ms are = record {
 indexed_taken : (key : List ℕ) (keys : KeyIndex) (ms : List Mark) → AreIndexed keys ms
     → ((m : Mark) → Among m ms → bytes_eq (key_of m.query) key ≡ false)
     → AreIndexed (remove keys key) ms
-indexed_taken key keys ms are other = record {
-  found = are.found;
-  listed = λ m a.
-      ap (list_any (is_at m.number))
-      (numbers_taken keys key (key_of m.query)
-      ∙ ap (λ b. cond b [] (numbers_at (key_of m.query) keys)) (other m a))
-      ∙ are.listed m a;
-  apart = are.apart;
-}
+indexed_taken key keys ms are other = grind (arith, numbers_taken)
 
 pub indexed_void : (key : List ℕ) (keys : KeyIndex) (ms : List Mark) → AreIndexed keys ms
     → AreIndexed (remove keys key) (without_key key ms)
@@ -132,8 +120,7 @@ void_listed key [] ms each all =
     (λ m a. by m a (bytes_eq (key_of m.query) key) refl))
   where
     by : (m : Mark) → Among m ms → (b : Bool) → bytes_eq (key_of m.query) key ≡ b → not b ≡ true
-    by m a false e = refl
-    by m a true e = let no : false ≡ true = all m a e in cc
+    by m a b e = grind arith
 void_listed key (n ∷ ns) ms each all = elim (cases_Bool (asks_of key (query_marked n ms))) [
   | inl t ↦
       ap (λ b. without_listed key ns (cond b (without_number n ms) ms)) t
@@ -160,11 +147,7 @@ void_listed key (n ∷ ns) ms each all = elim (cases_Bool (asks_of key (query_ma
         → asks_of key (query_marked n ms) ≡ false
         → ((n == m.number) ≡ true) ⊎ (list_any (is_at m.number) ns ≡ true)
         → list_any (is_at m.number) ns ≡ true
-    by_number m a e f (inl t) =
-        clash (bytes_eq (key_of m.query) key) e
-        (ap (asks_of key) (sym (each m a))
-        ∙ ap (λ k. asks_of key (query_marked k ms)) (sym (eqb-true n m.number t)) ∙ f)
-    by_number m a e f (inr r) = r
+    by_number m a e f h = grind (arith, clash, eqb-true)
 
 pub void_indexed : (key : List ℕ) (keys : KeyIndex) (ms : List Mark) → AreIndexed keys ms
     → without_listed key (numbers_at key keys) ms ≡ without_key key ms
@@ -189,11 +172,7 @@ none_listed q ms (n ∷ ns) each e m a l =
         → cond b (Some n) (number_of q ms ns) ≡ None
         → ((n == m.number) ≡ true) ⊎ (list_any (is_at m.number) ns ≡ true)
         → same_query m.query q ≡ false
-    by rest true t h s = cc
-    by rest false f h (inr r) = rest h m a r
-    by rest false f h (inl t) =
-        ap (asks q) (sym (each m a))
-        ∙ ap (λ k. asks q (query_marked k ms)) (sym (eqb-true n m.number t)) ∙ f
+    by rest b t h e = grind (arith, eqb-true)
 
 some_asks : (q : Words) (ms : List Mark) (ns : List ℕ) (n : ℕ) → number_of q ms ns ≡ Some n
     → asks q (query_marked n ms) ≡ true
@@ -202,8 +181,7 @@ some_asks q ms (k ∷ ns) n e = grind (arith, common_steps, some_asks q ms ns n)
 
 asked : (q : Words) (o : Option Words) → asks q o ≡ true
     → (p : Words) × (o ≡ Some p) × (same_query p q ≡ true)
-asked q None e = cc
-asked q (Some p) e = (p, refl, e)
+asked q o e = grind arith
 
 module _ (q : Words) (number : ℕ) (keys : KeyIndex) (ms : List Mark) (are : AreIndexed keys ms)
     (below : (m : Mark) → Among m ms → m.number < number) where
@@ -230,10 +208,7 @@ module _ (q : Words) (number : ℕ) (keys : KeyIndex) (ms : List Mark) (are : Ar
       (λ m a. none m a (same_query m.query q) refl)))
     where
       none : (m : Mark) → Among m ms → (b : Bool) → same_query m.query q ≡ b → not b ≡ true
-      none m a false f = refl
-      none m a true t =
-          clash (same_query m.query q) t
-          (none_listed q ms (numbers_at (key_of q) keys) are.found e m a (listed_query m a t))
+      none m a b f = grind (arith, clash, none_listed, listed_query)
   without_it (Some n) e =
       filter-append (λ (m : Mark). not (m.number == n)) ms
       (record { number = number; query = q } ∷ [])
@@ -248,10 +223,7 @@ module _ (q : Words) (number : ℕ) (keys : KeyIndex) (ms : List Mark) (are : Ar
 
       last : filter (λ (m : Mark). not (m.number == n)) (record { number = number; query = q } ∷ [])
           ≡ record { number = number; query = q } ∷ []
-      last =
-          let lt : n < number = below (record { number = n; query = was.0 }) old in
-          ap (λ b. cond (not b) (record { number = number; query = q } ∷ []) [])
-          (ne_eqb number n (λ f. omega (arith, lt, f)))
+      last = grind (arith, old, ne_eqb)
 
       by_query : (m : Mark) → Among m ms → (b : Bool) → (m.number == n) ≡ b → (d : Bool)
           → same_query m.query q ≡ d → b ≡ d
@@ -293,11 +265,7 @@ module _ (q : Words) (number : ℕ) (keys : KeyIndex) (ms : List Mark) (are : Ar
           (ap is_some (are.found m a)))
 
   comes : list_any (is_at number) (numbers_at (key_of q) now) ≡ true
-  comes =
-      ap (list_any (is_at number)) (numbers_put keys (key_of q) (key_of q) _
-      ∙ ap (λ b. cond b (marked_among ms (numbers_at (key_of q) keys) ++ number ∷ [])
-      (numbers_at (key_of q) keys)) (bytes_same (key_of q) (key_of q) refl))
-      ∙ listed_last number (marked_among ms (numbers_at (key_of q) keys))
+  comes = grind (arith, numbers_put, bytes_same, listed_last)
 
   -- where no mark follows, the index is one of the same marks
   pub indexed_before : AreIndexed now ms
@@ -321,28 +289,12 @@ module _ (q : Words) (number : ℕ) (keys : KeyIndex) (ms : List Mark) (are : Ar
     where
       listed_either : (m : Mark) → Among m (without_query q ms) ⊎ Among m one
           → list_any (is_at m.number) (numbers_at (key_of m.query) now) ≡ true
-      listed_either m (inl a) = stays m (among_filter _ m ms a)
-      listed_either m (inr (inl e)) =
-          ap (λ (z : Mark). list_any (is_at z.number) (numbers_at (key_of z.query) now)) e ∙ comes
-      listed_either m (inr (inr a)) = absurd a
+      listed_either m e = grind (arith, stays, among_filter, comes)
 
       apart_either : (m o : Mark) → Among m (without_query q ms) ⊎ Among m one
           → Among o (without_query q ms) ⊎ Among o one → same_query m.query o.query ≡ true
           → m.number ≡ o.number
-      apart_either m o (inl a) (inl b) s =
-          are.apart m o (among_filter _ m ms a) (among_filter _ o ms b) s
-      apart_either m o (inl a) (inr (inl f)) s =
-          clash (same_query m.query q)
-          (ap (λ (z : Mark). same_query m.query z.query) (sym f) ∙ s) (gone m a)
-      apart_either m o (inr (inl e)) (inl b) s =
-          clash (same_query o.query q)
-          (words_same o.query q (sym (same_words m.query o.query s)
-          ∙ ap (λ (z : Mark). z.query) e)) (gone o b)
-      apart_either m o (inr (inl e)) (inr (inl f)) s =
-          ap (λ (z : Mark). z.number) (e ∙ sym f)
-      apart_either m o (inr (inr a)) b s = absurd a
-      apart_either m o (inl a) (inr (inr b)) s = absurd b
-      apart_either m o (inr (inl e)) (inr (inr b)) s = absurd b
+      apart_either m o e h s = grind (arith, among_filter, clash, gone, words_same, same_words)
 
   pub older_goes : (o : Option ℕ) → number_of q ms (numbers_at (key_of q) keys) ≡ o
       → (new_marks : List Mark) → new_marks ≡ without_some o (ms ++ one)

@@ -1,17 +1,16 @@
 -- A hash map of numbers by key, and the finite map that it stands for.
 use Rattle.std.proofs.Common.{◌≡◌, ℕ, Bool, true, false, cond, List, [], ◌∷◌, Option, Some, None}
-use Rattle.std.proofs.Common.{Vec, Global, map, refl, ap, sym, ◌∙◌, unwrap_or}
+use Rattle.std.proofs.Common.{Vec, Global, map, refl, ap, sym, ◌∙◌, unwrap_or, arith}
 use Rattle.std.specs.Option.{option_map}
 use Rattle.std.specs.Map.{lookup, KeepsOthers, IsKeyTest, AreApart}
 use Rattle.std.specs.Str.{bytes_eq}
 use Rattle.std.specs.Ordering.{nat_cmp, eq_by_cmp}
 use Rattle.std.specs.Cmp.Lexicographic.{slice_cmp, nat_list_cmp_total, texts_ties}
 use Rattle.std.specs.HashMap.{UpdatesBy}
-use Rattle.std.specs.FinMap.{find, get, insert, remove, from_entries, get-from_entries}
-use Rattle.std.specs.FinMap.{get-insert, get-remove, same_map}
-use Rattle.std.specs.FinMap.{slice_cmp-IsAntisymmetric, nat_cmp-IsAntisymmetric}
+use Rattle.std.specs.FinMap.{find, get, insert, remove, from_entries, get-from_entries, get-insert}
+use Rattle.std.specs.FinMap.{get-remove, same_map, slice_cmp-IsAntisymmetric}
+use Rattle.std.specs.FinMap.{nat_cmp-IsAntisymmetric}
 use Rattle.std.proofs.lemmas.Slice.Eq.{bytes_eq-Decides}
-use Rattle.std.proofs.Common.{arith}
 use Rattle.std.proofs.lemmas.Grind.{common_steps}
 use Rattle.indexmap.specs.IndexMap.{IndexMap}
 use Rattle.fill_mark.specs.Tables.{KeyIndex, numbers_at}
@@ -58,7 +57,7 @@ module _ {S : Type 0} (bs : List ℕ) (m n : IndexMap (Vec ℕ Global) (Vec ℕ 
 
 picked : (b : Bool) (x : Vec ℕ Global) (r : Option (Vec ℕ Global))
     → cond b (Some x.items) (option_map shown r) ≡ option_map shown (cond b (Some x) r)
-picked b x r = grind (arith, common_steps)
+picked b e r = grind (arith, common_steps)
 
 find_lookup : (q : List ℕ) (es : Entries)
     → find (slice_cmp nat_cmp) q (map seen es) ≡ option_map shown (lookup (is_key q) es)
@@ -75,9 +74,7 @@ get_seen es q = get-from_entries nat_list_cmp_total _ q ∙ find_lookup q es
 pub numbers_seen : (es : Entries) (keys : KeyIndex) → index_of es ≡ keys → (q : List ℕ)
     (r : Option (Vec ℕ Global)) → r ≡ lookup (is_key q) es
     → unwrap_or (option_map shown r) [] ≡ numbers_at q keys
-numbers_seen es keys view q r at =
-    ap (λ o. unwrap_or (option_map shown o) []) at
-    ∙ ap (λ o. unwrap_or o []) (sym (get_seen es q)) ∙ ap (numbers_at q) view
+numbers_seen es keys view q r at = grind (arith, unwrap_or, get_seen)
 
 changed : (b : Bool) (w r : Option (Vec ℕ Global))
     → option_map shown (cond b w r) ≡ cond b (option_map shown w) (option_map shown r)
@@ -116,8 +113,7 @@ numbers_put keys bs q ns =
   where
     by : (b : Bool) (o : Option (List ℕ))
         → unwrap_or (cond b (Some ns) o) [] ≡ cond b ns (unwrap_or o [])
-    by true o = refl
-    by false o = refl
+    by b o = grind arith
 
 pub numbers_taken : (keys : KeyIndex) (bs q : List ℕ)
     → numbers_at q (remove keys bs) ≡ cond (bytes_eq q bs) [] (numbers_at q keys)
@@ -128,5 +124,4 @@ numbers_taken keys bs q =
   where
     by : (b : Bool) (o : Option (List ℕ))
         → unwrap_or (cond b None o) [] ≡ cond b [] (unwrap_or o [])
-    by true o = refl
-    by false o = refl
+    by b o = grind arith

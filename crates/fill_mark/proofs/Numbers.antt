@@ -1,8 +1,7 @@
 -- A tree of queries by number, and the list of marks that it stands for.
-use Rattle.std.proofs.Common.{◌≡◌, ◌==◌, ◌<◌, ◌++◌, ℕ, suc, List, [], ◌∷◌, Bool, true, false}
-use Rattle.std.proofs.Common.{cond, not, Some, sym, ap, ◌∙◌, refl, inl, inr, map, arith}
-use Rattle.std.proofs.Common.{nat_lt, subst}
-use Rattle.std.proofs.Common.{eq-eqb, ne_eqb}
+use Rattle.std.proofs.Common.{◌≡◌, ◌==◌, ◌<◌, ◌++◌, ℕ, suc, List, [], ◌∷◌, Bool, true, false, cond}
+use Rattle.std.proofs.Common.{not, sym, ap, ◌∙◌, refl, inl, inr, map, arith, nat_lt, subst, eq-eqb}
+use Rattle.std.proofs.Common.{ne_eqb}
 use Rattle.std.specs.Bool.{OnTrue}
 use Rattle.std.specs.List.{filter, AllByRecursion, All}
 use Rattle.std.specs.List.Sorted.{IsStrictlySortedBy}
@@ -10,7 +9,7 @@ use Rattle.std.specs.Map.{lookup, remove_entry, keys_of}
 use Rattle.std.specs.BTreeMap.{insert_entry}
 use Rattle.std.specs.Ordering.{nat_cmp, is_eq, is_lt, match_ordering}
 use Rattle.std.specs.Cmp.{nat_cmp_is}
-use Rattle.std.specs.declared.cmp.Ordering.TheVariants.{Less, Equal, Greater}
+use Rattle.std.specs.declared.cmp.Ordering.TheVariants.{Less, Greater}
 use Rattle.std.proofs.lemmas.Bool.{cases_eq, cases_lt, cases_Bool, eqb-true, ltb-true}
 use Rattle.std.proofs.lemmas.Grind.{common_steps}
 use Rattle.command_words.specs.Queries.{same_query}
@@ -27,31 +26,18 @@ at_number n k = is_eq (nat_cmp n k)
 
 -- the test of a look-up is that of the numbers
 tie : (n k : ℕ) → at_number n k ≡ (k == n)
-tie n k = elim (cases_eq n k) [
-  | inl e ↦ ap is_eq (sym (nat_cmp_is n k Equal e)) ∙ sym (eq-eqb k n (sym e))
-  | inr ne ↦ elim (cases_lt n k) [
-    | inl lt ↦ ap is_eq (sym (nat_cmp_is n k Less lt)) ∙ sym (ne_eqb k n (λ e. ne (sym e)))
-    | inr ge ↦
-        ap is_eq (sym (nat_cmp_is n k Greater (let gt : k < n = omega (arith, ge, ne) in gt)))
-        ∙ sym (ne_eqb k n (λ e. ne (sym e)))
-  ]
-]
+tie n k = grind (arith, cases_eq, eq-eqb, cases_lt, ne_eqb)
 
 pub found_entry : (n : ℕ) (es : Entries)
     → lookup (at_number n) es ≡ query_marked n (map mark_of es)
 found_entry n [] = refl
-found_entry n (e ∷ es) =
-    ap (λ b. cond b (Some e.1) (lookup (at_number n) es)) (tie n e.0)
-    ∙ ap (λ o. cond (e.0 == n) (Some e.1) o) (found_entry n es)
+found_entry n (e ∷ es) = grind (arith, tie, found_entry n es)
 
 -- behind a number there are greater ones
 above : (n : ℕ) (es : Entries) → AllByRecursion (λ k. nat_cmp n k ≡ Less) (keys_of es)
     → (m : Mark) → Among m (map mark_of es) → not (m.number == n) ≡ true
 above n [] all m a = absurd a
-above n (e ∷ es) all m (inl same) =
-    ap not
-    (ap (λ (z : Mark). z.number == n) same
-    ∙ sym (tie n e.0) ∙ ap is_eq all.0)
+above n (e ∷ es) all m (inl same) = grind (arith, tie)
 above n (e ∷ es) all m (inr a) = above n es all.1 m a
 
 pub removed_entry : (n : ℕ) (es : Entries) → IsStrictlySortedBy nat_cmp (keys_of es)

@@ -1,6 +1,6 @@
 -- What is read of a link is what was written on it.
-use Rattle.std.proofs.Common.{◌≡◌, ◌+◌, ℕ, List, [], ◌∷◌, ◌++◌, Bool, true, false, cond, refl, ap}
-use Rattle.std.proofs.Common.{sym, ◌∙◌, subst, length, map, append_assoc}
+use Rattle.std.proofs.Common.{◌≡◌, ◌+◌, ℕ, List, [], ◌∷◌, ◌++◌, Bool, false, cond, refl, sym, ◌∙◌}
+use Rattle.std.proofs.Common.{length, map, append_assoc, arith}
 use Rattle.std.specs.Prelude.{◌==◌, ◌||◌}
 use Rattle.std.specs.List.{flat_map}
 use Rattle.resp_value.specs.declared.value.Proto.{Proto}
@@ -14,12 +14,11 @@ use Rattle.resp_stream.specs.Parse.{values_of}
 use Rattle.serial_model.specs.declared.history.Limits.{Limits}
 use Rattle.serial_model.specs.declared.history.Entry.{Entry}
 use Rattle.serial_model.specs.declared.history.Entry.TheVariants.{Admit, Run, Tick, Take, Close}
-use Rattle.serial_model.specs.History.{Sending, Message, End, sent_to, sent, spelled}
-use Rattle.serial_model.specs.History.{sending_bytes, sent_bytes, stream, has_ended, IsLegal}
+use Rattle.serial_model.specs.History.{Sending, Message, End, sent_to, sent, spelled, sending_bytes}
+use Rattle.serial_model.specs.History.{sent_bytes, stream, has_ended, IsLegal}
 use Rattle.serial_model.specs.Laws.{is_end, has_end}
 use Rattle.serial_model.proofs.EntryLaws.{end_is_last}
 use Rattle.serial_model.proofs.Posts.{end_is_sent}
-use Rattle.shared_cache.specs.Held.{commands}
 use Rattle.shared_cache.specs.Out.{out}
 use Rattle.shared_cache.proofs.CommandLaws.{commands_have_words}
 use Rattle.currency.specs.Links.{AreGot}
@@ -31,8 +30,7 @@ use Rattle.link_laws.proofs.SentMessages.{sent_is_well_formed}
 
 pub heard_was_commanded : HeardWasCommanded
 unfolding out
-heard_was_commanded s w log b legal p =
-    requests_in_order (commands s w log) b (commands_have_words s w log legal) p
+heard_was_commanded s w log b legal p = grind (arith, requests_in_order, commands_have_words)
 
 -- ---- the messages of what was sent
 
@@ -53,9 +51,7 @@ says m = carried m.0 m.1
 then_bytes : (x : Sending) (ms : List (Proto × Tree)) (bytes : List ℕ) → flat_map spell ms ≡ bytes
     → flat_map spell (messages_then x ms) ≡ sending_bytes x ++ bytes
 unfolding spelled
-then_bytes (Message proto value) ms bytes e =
-    ap (λ (q : List ℕ). spelling proto (tree_of value) ++ q) e
-then_bytes End ms bytes e = e
+then_bytes x ms bytes e = grind arith
 
 message_bytes : (ss : List (ℕ × Sending)) → flat_map spell (messages ss) ≡ sent_bytes ss
 message_bytes [] = refl
@@ -63,8 +59,7 @@ message_bytes (s ∷ ss) = then_bytes s.1 (messages ss) (sent_bytes ss) (message
 
 then_good : (x : Sending) (ms : List (Proto × Tree)) → IsReadable x
     → Every (λ m. IsWellFormed m.0 m.1) ms → Every (λ m. IsWellFormed m.0 m.1) (messages_then x ms)
-then_good (Message proto value) ms h k = (h, k)
-then_good End ms h k = k
+then_good x ms h k = grind arith
 
 messages_good : (ss : List (ℕ × Sending)) → Every (λ s. IsReadable s.1) ss
     → Every (λ m. IsWellFormed m.0 m.1) (messages ss)
@@ -83,8 +78,7 @@ EndsLast (s ∷ ss) = ends_there s.1 ss (EndsLast ss)
 
 then_last : (x : Sending) (ss : List (ℕ × Sending)) (rest : Bool) (P : Type 0)
     → (is_end x || rest) ≡ false → (rest ≡ false → P) → ends_there x ss P
-then_last (Message proto value) ss rest P e f = f e
-then_last End ss rest P e f = absurd (let none : ⊥ = cc in none)
+then_last x ss rest P e f = grind arith
 
 no_end_last : (ss : List (ℕ × Sending)) → has_end ss ≡ false → EndsLast ss
 no_end_last [] e = tt
@@ -94,8 +88,7 @@ no_end_last (s ∷ ss) e =
 -- an end behind messages
 then_behind : (x : Sending) (ss ys : List (ℕ × Sending)) (rest : Bool) (P : Type 0)
     → (is_end x || rest) ≡ false → (rest ≡ false → P) → ends_there x (ss ++ ys) P
-then_behind (Message proto value) ss ys rest P e f = f e
-then_behind End ss ys rest P e f = absurd (let none : ⊥ = cc in none)
+then_behind x ss ys rest P e f = grind arith
 
 end_behind : (xs ys : List (ℕ × Sending)) → has_end xs ≡ false → EndsLast ys → EndsLast (xs ++ ys)
 end_behind [] ys e h = h
@@ -103,16 +96,11 @@ end_behind (x ∷ xs) ys e h =
     then_behind x.1 xs ys (has_end xs) (EndsLast (xs ++ ys)) e (λ g. end_behind xs ys g h)
 
 one_end : (t : Bool) (n : ℕ) → EndsLast (cond t ((n, End) ∷ []) [])
-one_end true n = refl
-one_end false n = tt
+one_end t n = grind arith
 
 module _ (l : Limits) (c : ℕ) where
   earlier : (entry : Entry) (past : List Entry) → IsLegal l (entry ∷ past) → IsLegal l past
-  earlier (Admit id) past h = h.2
-  earlier (Run id words m) past h = h.3
-  earlier (Tick m) past h = h.3
-  earlier (Take id max) past h = h.3
-  earlier (Close id) past h = h.1
+  earlier entry past h = grind arith
 
   unended : (past : List Entry) → has_ended l c past ≡ false → has_end (sent l c past) ≡ false
   unended past e = sym (end_is_sent l c past) ∙ e
@@ -132,12 +120,7 @@ module _ (l : Limits) (c : ℕ) where
   ends_last : (past : List Entry) → IsLegal l past → EndsLast (sent l c past)
   ends_last [] h = tt
   ends_last (entry ∷ past) h =
-      elim (has_ended l c past) as (λ t. has_ended l c past ≡ t → EndsLast
-      (sent l c (entry ∷ past))) [
-        | true ↦ λ e. subst EndsLast (sym (end_is_last l c entry past h e))
-            (ends_last past (earlier entry past h))
-        | false ↦ λ e. last_by entry past e
-      ] refl
+      grind (arith, end_is_last, earlier, last_by, ends_last past (earlier entry past h))
 
 -- ---- values that are the first messages are what was sent
 
@@ -149,13 +132,7 @@ got_by : (v : Value) (vs : List Value) (n : ℕ) (x : Sending) (ss : List (ℕ �
     → IsPrefix (map tree_of (v ∷ vs)) (map says (messages_then x (messages ss)))
     → (EndsLast ss → IsPrefix (map tree_of vs) (map says (messages ss)) → AreGot vs ss)
     → AreGot (v ∷ vs) ((n, x) ∷ ss)
-got_by v vs n (Message proto value) ss h p f =
-    let same : tree_of v ≡ carried proto (tree_of value) = cc in
-    let behind : map tree_of vs ++ p.0 ≡ map says (messages ss) = cc in
-    (same, f h (p.0, behind))
-got_by v vs n End ss h p f =
-    absurd (none_first (tree_of v) (map tree_of vs) p.0
-    (p.1 ∙ ap (λ q. map says (messages q)) h))
+got_by v vs n x ss h p f = grind (arith, none_first)
 
 are_got : (vs : List Value) (ss : List (ℕ × Sending)) → EndsLast ss
     → IsPrefix (map tree_of vs) (map says (messages ss)) → AreGot vs ss
@@ -166,8 +143,7 @@ are_got (v ∷ vs) (s ∷ ss) h p =
 
 front_of_front : {A : Type 0} (xs ys zs : List A) → IsPrefix xs ys → IsPrefix ys zs
     → IsPrefix xs zs
-front_of_front xs ys zs p q =
-    (p.0 ++ q.0, sym (append_assoc xs p.0 q.0) ∙ ap (λ w. w ++ q.0) p.1 ∙ q.1)
+front_of_front xs ys zs p q = grind (arith, append_assoc)
 
 pub read_was_sent : ReadWasSent IsLegal
 unfolding stream

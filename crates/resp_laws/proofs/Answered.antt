@@ -1,7 +1,6 @@
 -- What a reader answers stands in what it was fed.
 use Rattle.std.proofs.Common.{◌≡◌, ℕ, List, [], ◌∷◌, ◌++◌, refl, sym, ap, subst, ◌∙◌, append_assoc}
-use Rattle.std.proofs.Common.{true, false}
-use Rattle.std.proofs.Common.{cond, Some, None, Ok, Err}
+use Rattle.std.proofs.Common.{true, false, cond, Some, None, Ok, Err, arith}
 use Rattle.resp_value.specs.Lists.{IsPrefix}
 use Rattle.resp_value.specs.ValueTree.{tree_of}
 use Rattle.resp_value.specs.declared.octets.Words.{Words}
@@ -32,7 +31,7 @@ module _ {A X : Type 0} (read : List ℕ → Parsed A) (past : Stream → Stream
   bad_more g r a e h = cc
 
   bad_whole : (g : Fault) (r s : List ℕ) (x : A) (a : Parsed A) → a ≡ Bad g r → a ≡ Whole x s → ⊥
-  bad_whole g r s x a e h = cc
+  bad_whole g r s k a e h = cc
 
   fed_failed : (s : Stream) (b : List ℕ) → s.failed ≡ true → (fed s b).rest ≡ s.rest
   fed_failed s b t = ap (λ c. cond c s.rest (s.rest ++ b)) t
@@ -47,10 +46,8 @@ module _ {A X : Type 0} (read : List ℕ → Parsed A) (past : Stream → Stream
   none_after s g r (Fed piece ∷ calls) t h c =
       none_after (fed s piece) g r calls t
       (ap read (takes.by_rest (fed s piece) s (fed_failed s piece t)) ∙ h) c
-  none_after s g r (Answered (Ok None) ∷ calls) t h c =
-      absurd (bad_more g r (read (past s).rest) h c.1.0)
-  none_after s g r (Answered (Ok (Some x)) ∷ calls) t h c =
-      absurd (bad_whole g r c.0.rest (view x) (read (past s).rest) h c.1.0)
+  none_after s g r (Answered (Ok None) ∷ calls) t h c = grind (arith, bad_more)
+  none_after s g r (Answered (Ok (Some x)) ∷ calls) t h c = grind (arith, bad_whole)
   none_after s g r (Answered (Err NoMemory) ∷ calls) t h c =
       none_after s g r calls t h (subst (λ (q : Stream). Calls q calls) c.1 c.2)
   none_after s g r (e ∷ calls) t h c =

@@ -1,7 +1,7 @@
 -- A length that was written is read, or passes a limit, however great it is.
 use Rattle.std.proofs.Common.{◌≡◌, ℕ, zero, suc, ◌+◌, ◌-◌, ◌*◌, ◌/◌, ◌%◌, ◌<◌, ◌≤◌, ◌^◌, List, []}
-use Rattle.std.proofs.Common.{◌∷◌, ◌++◌, refl, ap, subst, ◌∙◌, ◌⊎◌, inl, inr, Bool}
-use Rattle.std.proofs.Common.{true, false, cond, length, arith, Option, Some}
+use Rattle.std.proofs.Common.{◌∷◌, ◌++◌, refl, ap, subst, ◌∙◌, ◌⊎◌, inl, inr, Bool, true, false}
+use Rattle.std.proofs.Common.{cond, length, arith, Option, Some}
 use Rattle.std.specs.Prelude.{nat_lt, nat_eq}
 use Rattle.std.specs.Fmt.{decimal, digits, digits_onto, digit_glyph}
 use Rattle.std.proofs.lemmas.Fmt.{decimal_by_steps_wide}
@@ -9,8 +9,7 @@ use Rattle.std.proofs.lemmas.Bool.{ne_eqb, lt-ltb, ltb-true, ltb-false}
 use Rattle.resp_stream.specs.declared.fault.Fault.TheVariants.{TooLong}
 use Rattle.resp_stream.specs.declared.tokens.LengthRule.{LengthRule}
 use Rattle.resp_stream.specs.Parsed.{Go, Stop, taken, scan}
-use Rattle.resp_stream.specs.Tokens.{only_byte, ending, digit_move}
-use Rattle.resp_stream.specs.Tokens.{digits_at, length_by, length_at}
+use Rattle.resp_stream.specs.Tokens.{only_byte, ending, digit_move, digits_at, length_by, length_at}
 use Rattle.resp_laws.proofs.Written.{Digits, IsLength, one_digit, next_digit}
 use Rattle.resp_laws.proofs.Only.{Only, only_same, only_taken}
 
@@ -59,8 +58,7 @@ glyph_is : (n : ℕ) → n < 10 → digit_glyph false n ≡ 48 + n
 glyph_is n lt = ap (λ t. cond t (48 + n) (87 + n)) (lt-ltb n 10 lt)
 
 are_if : (t : Bool) (x y : List ℕ) → AreDigits x → AreDigits y → AreDigits (cond t x y)
-are_if true x y h k = h
-are_if false x y h k = k
+are_if t e y h k = grind arith
 
 onto_digits : (k n : ℕ) (acc : List ℕ) → AreDigits acc → AreDigits (digits_onto k 10 false n acc)
 onto_digits zero n acc h = h
@@ -120,7 +118,7 @@ module _ (rule : LengthRule) where
       → (nat_lt rule.limit (n * 10 + (c - 48)) ≡ false
       → Only (scan (digit_move rule) (n * 10 + (c - 48)) bs) x s)
       → Only (scan (digit_move rule) n (c ∷ bs)) x s
-  only_digit n c bs x s a b h = grind arith
+  only_digit n c bs e s a b h = grind arith
 
   end_only : (n : ℕ) (s : List ℕ) → Only (scan (digit_move rule) n (13 ∷ 10 ∷ s)) (Some n) s
   unfolding only_byte
@@ -128,14 +126,13 @@ module _ (rule : LengthRule) where
 
   scan_only : (ds : List ℕ) (m n : ℕ) (s : List ℕ) → Digits m ds n
       → Only (scan (digit_move rule) m (ds ++ 13 ∷ 10 ∷ s)) (Some n) s
-  scan_only [] m n s h =
-      subst (λ k. Only (scan (digit_move rule) m (13 ∷ 10 ∷ s)) (Some k) s) h (end_only m s)
+  scan_only [] m n s h = grind (arith, end_only)
   scan_only (c ∷ ds) m n s h = grind (arith, only_digit, scan_only ds (m * 10 + (c - 48)) n s h.2)
 
   -- a number past the limit is not read
   scan_over : (ds : List ℕ) (m n : ℕ) (x : Option ℕ) (s : List ℕ) → Digits m ds n
       → m ≤ rule.limit → rule.limit < n → Only (scan (digit_move rule) m (ds ++ 13 ∷ 10 ∷ s)) x s
-  scan_over [] m n x s h le lt = absurd (omega (arith, h))
+  scan_over [] m n e s h le lt = absurd (omega (arith, h))
   scan_over (c ∷ ds) m n x s h le lt =
       only_digit m c (ds ++ 13 ∷ 10 ∷ s) x s h.0 h.1
       (λ e. scan_over ds (m * 10 + (c - 48)) n x s h.2
@@ -149,14 +146,13 @@ module _ (rule : LengthRule) where
       → (t ≡ false → Only (scan (digit_move rule) (c - 48) bs) x s)
       → Only (taken (cond t (Stop (TooLong (c - 48))) (Go (digits_at rule (c - 48)))) c bs) x s
   unfolding digits_at
-  lead_taken true c bs x s h = tt
-  lead_taken false c bs x s h = h refl
+  lead_taken t c bs e s h = grind arith
 
   lead_only : (c : ℕ) (bs : List ℕ) (x : Option ℕ) (s : List ℕ) → 49 ≤ c → c ≤ 57
       → (nat_lt rule.limit (c - 48) ≡ false → Only (scan (digit_move rule) (c - 48) bs) x s)
       → Only (length_at rule (c ∷ bs)) x s
   unfolding length_at
-  lead_only c bs x s a b h = grind (arith, only_same, lead_by, lead_taken)
+  lead_only c bs e s a b h = grind (arith, only_same, lead_by, lead_taken)
 
   nought_only : (s : List ℕ) → Only (length_at rule (48 ∷ 13 ∷ 10 ∷ s)) (Some 0) s
   unfolding length_at only_byte
@@ -165,13 +161,13 @@ module _ (rule : LengthRule) where
   no_end : (c : ℕ) (bs : List ℕ) (x : Option ℕ) (s : List ℕ) → 48 ≤ c
       → Only (ending (Some 0) (c ∷ bs)) x s
   unfolding only_byte
-  no_end c bs x s a = grind arith
+  no_end c bs e s a = grind arith
 
   -- nothing follows a first nought
   nought_over : (c : ℕ) (bs : List ℕ) (x : Option ℕ) (s : List ℕ) → 48 ≤ c
       → Only (length_at rule (48 ∷ c ∷ bs)) x s
   unfolding length_at
-  nought_over c bs x s a = grind (arith, only_taken, no_end)
+  nought_over c bs e s a = grind (arith, only_taken, no_end)
 
   length_is : (n : ℕ) (ds s : List ℕ) → IsLength n ds
       → Only (length_at rule (ds ++ 13 ∷ 10 ∷ s)) (Some n) s
@@ -189,19 +185,14 @@ module _ (rule : LengthRule) where
       lead_only c (ds ++ 13 ∷ 10 ∷ s) x s (omega (arith, first)) h.1
       (λ w. scan_over ds (c - 48) (made (c - 48) ds) x s (made_digits ds (c - 48) h.2)
       (ltb-false rule.limit (c - 48) w) (omega (arith, lt, g, one)))
-  length_great c [] x s false e lt h k = absurd (omega arith)
-  length_great c (d ∷ ds) x s false e lt h k = grind (arith, ltb-false, only_same, nought_over)
+  length_great c [] p s false e lt h k = absurd (omega arith)
+  length_great c (d ∷ ds) p s false e lt h k = grind (arith, ltb-false, only_same, nought_over)
 
   length_by_digits : (n : ℕ) (ds s : List ℕ) → rule.limit < 2 ^ 32 → IsGreat n ds
       → Only (length_at rule (ds ++ 13 ∷ 10 ∷ s)) (Some n) s
   length_by_digits n [] s lt g = absurd (omega (arith, g.many))
-  length_by_digits n (c ∷ ds) s lt g =
-      length_great c ds (Some n) s (nat_lt 48 c) refl lt g.are (omega (arith, g.many))
+  length_by_digits n (c ∷ ds) s lt g = grind (arith, length_great)
 
   pub length_written : (n : ℕ) (s : List ℕ) → rule.limit < 2 ^ 32
       → Only (length_at rule (decimal n ++ 13 ∷ 10 ∷ s)) (Some n) s
-  length_written n s lt =
-      elim (is_decimal n) [
-        | inl h ↦ length_is n (decimal n) s h
-        | inr g ↦ length_by_digits n (decimal n) s lt g
-      ]
+  length_written n s lt = grind (arith, is_decimal, length_is, length_by_digits)

@@ -1,8 +1,7 @@
 -- A line, a number or a counted text that was written is read, or passes a limit.
-use Rattle.std.proofs.Common.{◌≡◌, ℕ, ◌+◌, ◌-◌, ◌*◌, ◌<◌, ◌≤◌, ◌^◌, ℤ, pos, negsuc}
-use Rattle.std.proofs.Common.{List, [], ◌∷◌, ◌++◌, refl, ap, inl, inr}
-use Rattle.std.proofs.Common.{append_assoc, Bool, true, false, cond, length, arith, Some}
-use Rattle.std.proofs.Common.{None}
+use Rattle.std.proofs.Common.{◌≡◌, ℕ, ◌+◌, ◌-◌, ◌*◌, ◌<◌, ◌≤◌, ◌^◌, ℤ, pos, negsuc, List, [], ◌∷◌}
+use Rattle.std.proofs.Common.{◌++◌, refl, ap, inl, inr, append_assoc, Bool, true, false, cond}
+use Rattle.std.proofs.Common.{length, arith, Some, None}
 use Rattle.std.specs.Prelude.{nat_lt}
 use Rattle.std.specs.Fmt.{decimal, signed_decimal}
 use Rattle.std.proofs.lemmas.Bool.{ltb-true}
@@ -18,11 +17,9 @@ use Rattle.resp_stream.specs.Value.{verbatim_rule, Digits as Made, number_move, 
 use Rattle.resp_stream.specs.Value.{signed, greatest, signed_at, number_at, sized_blob, blob_at}
 use Rattle.resp_stream.specs.Value.{sized_text, verbatim_at, text_at, whole_number_at}
 use Rattle.resp_laws.specs.Values.{IsPlain}
-use Rattle.resp_laws.proofs.Decimals.{AreDigits, IsDecimal, is_decimal, as_digits}
-use Rattle.resp_laws.proofs.Decimals.{length_written}
+use Rattle.resp_laws.proofs.Decimals.{AreDigits, IsDecimal, is_decimal, as_digits, length_written}
 use Rattle.resp_laws.proofs.Only.{Only, only_is, only_same, only_then}
-use Rattle.resp_laws.proofs.Scalars.{nothing_behind, line_end, unsigned_by, minus}
-use Rattle.resp_laws.proofs.Scalars.{three}
+use Rattle.resp_laws.proofs.Scalars.{nothing_behind, line_end, unsigned_by, minus, three}
 use Rattle.resp_laws.proofs.Written.{Digits, counted_only}
 
 -- ---- lines
@@ -30,8 +27,7 @@ use Rattle.resp_laws.proofs.Written.{Digits, counted_only}
 only_on : {S A : Type 0} (t : Bool) (g : Fault) (u : S) (go : S → Parsed A) (c : ℕ) (bs : List ℕ)
     (x : A) (s : List ℕ) → Only (go u) x s
     → Only (moved (cond t (On u) (Out (Stop g))) go c bs) x s
-only_on true g u go c bs x s h = h
-only_on false g u go c bs x s h = tt
+only_on t g u go c bs e s h = grind arith
 
 line_by : (p : List ℕ) (c : ℕ) → (c ≡ 13 → ⊥) → (c ≡ 10 → ⊥) → line_move false line_limit p c
     ≡ cond (nat_lt (length p) line_limit) (On (p ++ c ∷ [])) (Out (Stop (TooLong (line_limit + 1))))
@@ -59,7 +55,7 @@ module _ (most : ℕ) where
   only_number : (s : Made) (c : ℕ) (bs : List ℕ) (x : ℕ) (r : List ℕ) → 48 ≤ c → c ≤ 57
       → (nat_lt s.count 19 ≡ true → Only (scan (number_move most) (Some (next_made s c)) bs) x r)
       → Only (scan (number_move most) (Some s) (c ∷ bs)) x r
-  only_number s c bs x r a b h = grind arith
+  only_number s c bs e r a b h = grind arith
 
   number_end_only : (s : Made) (r : List ℕ)
       → Only (scan (number_move most) (Some s) (13 ∷ 10 ∷ r)) s.made r
@@ -75,7 +71,7 @@ module _ (most : ℕ) where
   number_long : (ds : List ℕ) (s : Made) (x : ℕ) (r : List ℕ) → AreDigits ds
       → 19 < s.count + length ds → s.count ≤ 19
       → Only (scan (number_move most) (Some s) (ds ++ 13 ∷ 10 ∷ r)) x r
-  number_long [] s x r h k le = absurd (omega arith)
+  number_long [] s e r h k le = absurd (omega arith)
   number_long (c ∷ ds) s x r h k le =
       only_number s c (ds ++ 13 ∷ 10 ∷ r) x r h.0 h.1
       (λ e. number_long ds (next_made s c) x r h.2 (omega (arith, k))
@@ -85,7 +81,7 @@ module _ (most : ℕ) where
       → Only (scan (number_move most) (Some (record { count = 1; made = c - 48 })) bs) x r
       → Only (digits_of_at most None (c ∷ bs)) x r
   unfolding digits_of_at
-  digits_first c bs x r a b h = grind arith
+  digits_first c bs e r a b h = grind arith
 
   digits_written : (n : ℕ) (ds r : List ℕ) → IsDecimal n ds
       → Only (digits_of_at most None (ds ++ 13 ∷ 10 ∷ r)) n r
@@ -116,8 +112,7 @@ signed_written m n r =
 number_as : (i : ℤ) (b r : List ℕ) → Only (number_at b) i r
     → Only (whole_number_at b) (number i) r
 unfolding whole_number_at
-number_as i b r h =
-    only_then (number_at b) (λ i r. Whole (number i) r) i (number i) r r h (refl, refl)
+number_as i b r h = grind (arith, only_then)
 
 pub number_written : (i : ℤ) (r : List ℕ)
     → Only (whole_number_at (signed_decimal i ++ 13 ∷ 10 ∷ r)) (number i) r

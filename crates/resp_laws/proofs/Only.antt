@@ -1,18 +1,15 @@
 -- Readings that give nothing but what was written, whatever the limits.
-use Rattle.std.proofs.Common.{◌≡◌, ℕ, suc, ◌+◌, ◌-◌, List, [], ◌∷◌, refl, sym, subst, Bool}
-use Rattle.std.proofs.Common.{true, false, cond, length, drop}
-use Rattle.std.specs.Prelude.{nat_lt}
+use Rattle.std.proofs.Common.{◌≡◌, ℕ, suc, List, [], ◌∷◌, refl, sym, subst, Bool, true, false, cond}
+use Rattle.std.proofs.Common.{arith}
 use Rattle.resp_stream.specs.declared.fault.Fault.{Fault}
-use Rattle.resp_stream.specs.declared.fault.Fault.TheVariants.{TooLong}
-use Rattle.resp_stream.specs.Parsed.{Parsed, Whole, More, Bad, Go, Stop, taken}
-use Rattle.resp_stream.specs.Parsed.{◌>>=◌}
+use Rattle.resp_stream.specs.Parsed.{Parsed, Whole, More, Bad, Go, Stop, taken, ◌>>=◌}
 use Rattle.resp_stream.specs.Tokens.{capped, many}
 
 -- where something whole was read, it is x, and s is left
 abbrev pub Only : {A : Type 0} → Parsed A → A → List ℕ → Type 0
 Only (Whole y r) x s = (y ≡ x) × (r ≡ s)
-Only More x s = Unit {0}
-Only (Bad g r) x s = Unit {0}
+Only More e s = Unit {0}
+Only (Bad g r) e s = Unit {0}
 
 pub only_is : {A : Type 0} (a : Parsed A) (x : A) (s : List ℕ) → a ≡ Whole x s → Only a x s
 only_is {A} a x s e = subst (λ (q : Parsed A). Only q x s) (sym e) (refl, refl)
@@ -23,34 +20,26 @@ only_same {A} a b x s e h = subst (λ (q : Parsed A). Only q x s) (sym e) h
 
 pub only_if : {A : Type 0} (t : Bool) (u v : Parsed A) (x : A) (s : List ℕ)
     → (t ≡ true → Only u x s) → (t ≡ false → Only v x s) → Only (cond t u v) x s
-only_if true u v x s f g = f refl
-only_if false u v x s f g = g refl
+only_if t u v e s f g = grind arith
 
 pub only_then : {A B : Type 0} (a : Parsed A) (f : A → List ℕ → Parsed B) (x : A) (y : B)
     (s r : List ℕ) → Only a x s → Only (f x s) y r → Only (a >>= f) y r
 only_then {A} (Whole z q) f x y s r h k =
     subst (λ (w : A). Only (f w q) y r) (sym h.0)
     (subst (λ (w : List ℕ). Only (f x w) y r) (sym h.1) k)
-only_then More f x y s r h k = tt
-only_then (Bad g q) f x y s r h k = tt
+only_then More f e y s r h k = tt
+only_then (Bad g q) f e y s r h k = tt
 
 -- a byte that leads on or to a fault
 pub only_taken : {A : Type 0} (t : Bool) (g : Fault) (go : List ℕ → Parsed A) (c : ℕ)
     (bs : List ℕ) (x : A) (s : List ℕ) → Only (go bs) x s
     → Only (taken (cond t (Stop g) (Go go)) c bs) x s
-only_taken true g go c bs x s h = tt
-only_taken false g go c bs x s h = h
+only_taken t g go c bs e s h = grind arith
 
 -- the limit on the whole
 pub only_capped : {A : Type 0} (most : ℕ) (b : List ℕ) (a : Parsed A) (x : A) (s : List ℕ)
     → Only a x s → Only (capped most b a) x s
-only_capped most b (Whole y r) x s h =
-    only_if (nat_lt most (length b - length r)) (Bad (TooLong (most + 1)) (drop most b)) (Whole y r)
-    x s (λ e. tt) (λ e. h)
-only_capped most b More x s h =
-    only_if (nat_lt most (length b)) (Bad (TooLong (most + 1)) (drop most b)) More x s (λ e. tt)
-    (λ e. tt)
-only_capped most b (Bad g r) x s h = tt
+only_capped most b a e s h = grind (arith, only_if)
 
 -- one after the other
 module _ {A : Type 0} (read : List ℕ → Parsed A) where
@@ -61,6 +50,4 @@ module _ {A : Type 0} (read : List ℕ → Parsed A) where
   pub only_next : (n : ℕ) (b c r : List ℕ) (x : A) (xs : List A) → Only (read b) x c
       → Only (many read n c) xs r → Only (many read (suc n) b) (x ∷ xs) r
   unfolding many
-  only_next n b c r x xs e h =
-      only_then (read b) (λ t r. many read n r >>= λ ts s. Whole (t ∷ ts) s) x (x ∷ xs) c r e
-      (only_then (many read n c) (λ ts s. Whole (x ∷ ts) s) xs (x ∷ xs) r r h (refl, refl))
+  only_next n b c r k xs e h = grind (arith, only_then)

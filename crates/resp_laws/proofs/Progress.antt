@@ -1,6 +1,6 @@
 -- A reader of values goes on from where it stands.
 use Rattle.std.proofs.Common.{◌≡◌, ℕ, List, [], ◌∷◌, ◌++◌, refl, sym, ap, ◌∙◌, append_assoc}
-use Rattle.std.proofs.Common.{append-nil, false, None}
+use Rattle.std.proofs.Common.{append-nil, false, None, arith}
 use Rattle.resp_value.specs.Tree.{Tree}
 use Rattle.resp_stream.specs.declared.fault.Fault.{Fault}
 use Rattle.resp_stream.specs.Parsed.{Whole, More, Bad}
@@ -10,8 +10,8 @@ use Rattle.resp_stream.specs.Value.{value_at}
 use Rattle.resp_stream.proofs.Batches.{fed_rest, batch_whole, batch_more, batch_bad, batch_rest}
 use Rattle.resp_stream.proofs.Batches.{batch_unfailed}
 use Rattle.resp_stream.proofs.Parse.{takes_values, values_joined}
-use Rattle.resp_laws.specs.Progress.{BeginsRead, FeedsRead, AnswersRead, EmptiesRead}
-use Rattle.resp_laws.specs.Progress.{WaitsRead, StopsRead, HoldsRead}
+use Rattle.resp_laws.specs.Progress.{BeginsRead, FeedsRead, AnswersRead, EmptiesRead, WaitsRead}
+use Rattle.resp_laws.specs.Progress.{StopsRead, HoldsRead}
 use Rattle.resp_laws.proofs.Steadiness.{steady_values}
 
 pub values_rest : (s t : Stream) → s.rest ≡ t.rest → (parse_values s).items ≡ (parse_values t).items
@@ -41,20 +41,13 @@ values_unfailed s t e = batch_unfailed value_at (λ q. q) takes_values s t e
 
 pub fed_twice : (s : Stream) (a b : List ℕ) → s.failed ≡ false
     → (fed s (a ++ b)).rest ≡ (fed (fed s a) b).rest
-fed_twice s a b t =
-    fed_rest s (a ++ b) t ∙ sym (append_assoc s.rest a b)
-    ∙ ap (λ (q : List ℕ). q ++ b) (sym (fed_rest s a t)) ∙ sym (fed_rest (fed s a) b t)
+fed_twice s a b t = grind (arith, fed_rest, append_assoc)
 
 pub begins_read : BeginsRead
 begins_read = record { untold = refl; further = λ m. refl }
 
 pub feeds_read : FeedsRead
-feeds_read got b piece s h = record {
-  untold = h.untold;
-  further = λ m. ap values_of (append_assoc b piece m) ∙ h.further (piece ++ m)
-      ∙ ap (λ (q : List Tree). got ++ q)
-      (values_rest (fed s (piece ++ m)) (fed (fed s piece) m) (fed_twice s piece m h.untold));
-}
+feeds_read got b piece s h = grind (arith, append_assoc, fed_twice)
 
 next_items : (s : Stream) (x : Tree) (r m : List ℕ) → s.failed ≡ false
     → value_at s.rest ≡ Whole x r
@@ -73,12 +66,7 @@ answers_read got b r s x h e = record {
 }
 
 pub empties_read : EmptiesRead
-empties_read got b s h e = record {
-  untold = values_unfailed s h.untold e;
-  further = λ m. h.further m ∙ ap (λ (q : List Tree). got ++ q) (values_joined s m h.untold e)
-      ∙ sym (append_assoc got (parse_values s).items
-      (parse_values (fed (parse_values s).stream m)).items);
-}
+empties_read got b s h e = grind (arith, values_unfailed, values_joined, append_assoc)
 
 pub holds_read : HoldsRead
 holds_read got b s h =

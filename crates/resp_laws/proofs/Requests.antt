@@ -1,6 +1,6 @@
 -- The first bytes of written requests hold the first of them.
-use Rattle.std.proofs.Common.{◌≡◌, ℕ, suc, ◌<◌, List, [], ◌∷◌, ◌++◌, refl, sym, ap, subst}
-use Rattle.std.proofs.Common.{◌∙◌, append_assoc, length, map, arith, Some}
+use Rattle.std.proofs.Common.{◌≡◌, ℕ, suc, ◌<◌, List, [], ◌∷◌, ◌++◌, refl, sym, ap, subst, ◌∙◌}
+use Rattle.std.proofs.Common.{append_assoc, length, map, arith, Some}
 use Rattle.std.specs.List.{flat_map}
 use Rattle.std.specs.Fmt.{decimal}
 use Rattle.resp_value.specs.Lists.{IsPrefix}
@@ -9,16 +9,16 @@ use Rattle.resp_stream.specs.Parsed.{Parsed, Whole, More, Bad, ◌>>=◌}
 use Rattle.resp_stream.specs.Parse.{Batch, batch, parse}
 use Rattle.resp_stream.specs.Readers.{skipped}
 use Rattle.resp_stream.specs.Tokens.{length_at, many}
-use Rattle.resp_stream.specs.Request.{words_rule, word_rule, sized, word_at, listed}
-use Rattle.resp_stream.specs.Request.{request_begun, request_at}
+use Rattle.resp_stream.specs.Request.{words_rule, word_rule, sized, word_at, listed, request_begun}
+use Rattle.resp_stream.specs.Request.{request_at}
 use Rattle.resp_stream.specs.Stream.{Stream, begun, fed, moved_on}
 use Rattle.resp_stream.proofs.Batches.{Takes, batch_whole, batch_more, batch_bad}
 use Rattle.resp_stream.proofs.Parse.{takes_requests}
 use Rattle.resp_stream.proofs.Skipping.{skip_more, skip_bad, skip_whole}
 use Rattle.resp_laws.specs.Fronts.{Every, RequestsInOrder}
 use Rattle.resp_laws.proofs.Decimals.{length_written}
-use Rattle.resp_laws.proofs.Only.{Only, only_is, only_same, only_then, only_capped}
-use Rattle.resp_laws.proofs.Only.{only_none, only_next}
+use Rattle.resp_laws.proofs.Only.{Only, only_is, only_same, only_then, only_capped, only_none}
+use Rattle.resp_laws.proofs.Only.{only_next}
 use Rattle.resp_laws.proofs.Steadiness.{steady_requests}
 use Rattle.resp_laws.proofs.Written.{head_parts, counted_parts, counted_only, marked, starred}
 
@@ -43,7 +43,7 @@ module _ {A M : Type 0} (read : List ℕ → Parsed A) (past : Stream → Stream
     first_is : (m : M) (ms : List M) (b : List ℕ) (p : IsPrefix b (spell m ++ flat_map spell ms))
         → Good m → (x : A) (r : List ℕ) → read b ≡ Whole x r
         → (x ≡ says m) × (r ++ p.0 ≡ flat_map spell ms)
-    first_is m ms b p g x r e = grind arith
+    first_is m ms b p g h r e = grind arith
 
     none_of : (s : Stream) → (past s).rest ≡ s.rest → (a : Parsed A) → read s.rest ≡ a
         → ((x : A) (r : List ℕ) → a ≡ Whole x r → ⊥) → (batch read past s).items ≡ []
@@ -145,7 +145,7 @@ request_only ws r = grind (arith, only_capped, begun_only)
 -- ---- in turn
 
 pub more_not : {A : Type 0} (x : A) (r : List ℕ) (a : Parsed A) → a ≡ More → a ≡ Whole x r → ⊥
-more_not x r a e h = cc
+more_not k r a e h = cc
 
 no_request : NeedsBytes request_at
 unfolding request_at request_begun

@@ -15,10 +15,9 @@ use Rattle.resp_stream.specs.declared.fault.Fault.TheVariants.{BadByte}
 use Rattle.resp_stream.specs.Parsed.{Whole, Go, Stop, Move, On, Out, moved, scan, ◌>>=◌}
 use Rattle.resp_stream.specs.Tokens.{only_byte, line_feed, counted_at, line_move, line_at}
 use Rattle.resp_stream.specs.Request.{line_limit}
-use Rattle.resp_stream.specs.Value.{blob_rule, blob_error_rule, Digits as Made}
-use Rattle.resp_stream.specs.Value.{number_move, digits_of_at, signed, greatest, signed_at}
-use Rattle.resp_stream.specs.Value.{number_at, blob_at, blob_tree}
-use Rattle.resp_stream.specs.Value.{format_at, formatted_at, verbatim_at, text_at}
+use Rattle.resp_stream.specs.Value.{blob_rule, blob_error_rule, Digits as Made, number_move}
+use Rattle.resp_stream.specs.Value.{digits_of_at, signed, greatest, signed_at, number_at, blob_at}
+use Rattle.resp_stream.specs.Value.{blob_tree, format_at, formatted_at, verbatim_at, text_at}
 use Rattle.resp_stream.specs.Value.{whole_number_at}
 use Rattle.resp_stream.proofs.Line.{line_step}
 use Rattle.resp_laws.specs.Values.{IsPlain, IsShort}
@@ -37,15 +36,14 @@ line_end p r = refl
 line_rest : (t p r : List ℕ) → length p + length t ≤ line_limit → IsPlain t
     → scan (line_move false line_limit) p (t ++ 13 ∷ 10 ∷ r) ≡ Whole (p ++ t) r
 line_rest [] p r le h = line_end p r ∙ ap (λ (q : List ℕ). Whole q r) (sym (nothing_behind p))
-line_rest (c ∷ t) p r le h =
-    grind (
-      arith,
-      line_step,
-      ne_eqb,
-      length-append,
-      append_assoc,
-      line_rest t (p ++ c ∷ []) r (omega (arith, length-append p (c ∷ []))) h.2,
-    )
+line_rest (c ∷ t) p r le h = grind (
+  arith,
+  line_step,
+  ne_eqb,
+  length-append,
+  append_assoc,
+  line_rest t (p ++ c ∷ []) r (omega (arith, length-append p (c ∷ []))) h.2,
+)
 
 pub text_only : (make : List ℕ → Tree) (t r : List ℕ) → length t ≤ 65536 → IsPlain t
     → text_at make (t ++ 13 ∷ 10 ∷ r) ≡ Whole (make t) r
@@ -55,12 +53,11 @@ text_only make t r le h = ap (λ q. q >>= λ t r. Whole (make t) r) (line_rest t
 -- a byte of an error line
 plain_by : (c : ℕ) (x y : Bool) → nat_eq c 13 ≡ x → nat_eq c 10 ≡ y → (cond x 32 (cond y 32 c) ≢ 13)
     × (cond x 32 (cond y 32 c) ≢ 10)
-plain_by c x y e f = grind arith
+plain_by c h y e f = grind arith
 
 pub all_plain : (b : List ℕ) → IsPlain (map plain_byte b)
 all_plain [] = tt
-all_plain (c ∷ b) = let h = plain_by c (nat_eq c 13) (nat_eq c 10) refl refl in
-    (h.0, h.1, all_plain b)
+all_plain (c ∷ b) = grind (arith, plain_by, all_plain b)
 
 -- ---- numbers
 

@@ -2,7 +2,6 @@
 use Rattle.std.proofs.Common.{◌≡◌, ℕ, zero, suc, ◌+◌, ◌*◌, ◌<◌, ◌^◌, pos, List, [], ◌∷◌, ◌++◌, refl}
 use Rattle.std.proofs.Common.{ap, subst, ◌∙◌, append_assoc, add-one, Bool, true, false, cond}
 use Rattle.std.proofs.Common.{length, map, arith, Some}
-use Rattle.std.specs.Prelude.{nat_eq}
 use Rattle.std.specs.Fmt.{decimal}
 use Rattle.resp_value.specs.declared.value.Proto.{Proto}
 use Rattle.resp_value.specs.declared.value.Proto.TheVariants.{Two, Three}
@@ -14,7 +13,6 @@ use Rattle.resp_value.specs.Spelling.{row_spellings}
 use Rattle.resp_value.specs.Carried.{carried, all_carried, rows_in_turn, rows_carried}
 use Rattle.resp_value.proofs.OneToOne.{trees_back}
 use Rattle.resp_stream.specs.declared.fault.Fault.{Fault}
-use Rattle.resp_stream.specs.declared.fault.Fault.TheVariants.{BadByte}
 use Rattle.resp_stream.specs.declared.value.Kind.{Kind}
 use Rattle.resp_stream.specs.declared.value.Kind.TheVariants.{Array, Map, Set, Push}
 use Rattle.resp_stream.specs.declared.value.TypeByte.TheVariants as mark
@@ -23,15 +21,14 @@ use Rattle.resp_stream.specs.Parse.{parse_values}
 use Rattle.resp_stream.specs.Tokens.{length_at, many}
 use Rattle.resp_stream.specs.Stream.{begun, fed}
 use Rattle.resp_stream.specs.Value.{rule_of, blob_at, blob_rule, blob_error_rule, blob_tree}
-use Rattle.resp_stream.specs.Value.{text_at, elements}
-use Rattle.resp_stream.specs.Value.{build, elements_at, aggregate_at, type_byte_of}
-use Rattle.resp_stream.specs.Value.{value_in, value_at}
+use Rattle.resp_stream.specs.Value.{text_at, elements, build, elements_at, aggregate_at}
+use Rattle.resp_stream.specs.Value.{type_byte_of, value_in, value_at}
 use Rattle.resp_stream.proofs.Parse.{takes_values}
 use Rattle.resp_laws.specs.Fronts.{IsWellFormed, AreWellFormed, RowsWellFormed, ValuesInOrder}
 use Rattle.resp_laws.proofs.Decimals.{length_written}
 use Rattle.resp_laws.proofs.Numbers.{text_written, number_written, blob_written, verbatim_written}
-use Rattle.resp_laws.proofs.Only.{Only, only_is, only_same, only_then, only_capped}
-use Rattle.resp_laws.proofs.Only.{only_none, only_next}
+use Rattle.resp_laws.proofs.Only.{Only, only_is, only_same, only_then, only_capped, only_none}
+use Rattle.resp_laws.proofs.Only.{only_next}
 use Rattle.resp_laws.proofs.Requests.{NeedsBytes, more_not, in_order}
 use Rattle.resp_laws.proofs.Scalars.{all_plain}
 use Rattle.resp_laws.proofs.Steadiness.{steady_values}
@@ -47,25 +44,22 @@ use Rattle.resp_laws.proofs.Written.{counted_parts}
 no_room : (c : ℕ) (kind : Kind) (b : List ℕ) (x : Tree) (s : List ℕ)
     → type_byte_of c ≡ mark.Aggregate kind → Only (value_in zero (c ∷ b)) x s
 unfolding value_in
-no_room c kind b x s e = grind arith
+no_room c kind b h s e = grind arith
 
 only_go : {A : Type 0} (t : Bool) (g : Fault) (go : List ℕ → Parsed A) (c : ℕ) (bs : List ℕ)
     (x : A) (s : List ℕ) → Only (go bs) x s → Only (taken (cond t (Go go) (Stop g)) c bs) x s
-only_go true g go c bs x s h = h
-only_go false g go c bs x s h = tt
+only_go t g go c bs e s h = grind arith
 
 -- a push is read at the top alone
 push_only : (d : ℕ) (b : List ℕ) (x : Tree) (s : List ℕ)
     → Only (aggregate_at Push (value_in d) b) x s → Only (value_in (suc d) (62 ∷ b)) x s
 unfolding value_in
-push_only d b x s h =
-    only_go (nat_eq (suc d) 8) BadByte (aggregate_at Push (value_in d)) 62 b x s h
+push_only d b e s h = grind (arith, only_go)
 
 -- ---- aggregates
 
 small_rule : (kind : Kind) → (rule_of kind).limit < 2 ^ 32
-small_rule Array = omega arith
-small_rule kind = omega arith
+small_rule kind = grind arith
 
 aggregate_written : (kind : Kind) (d n : ℕ) (ts : List Tree) (b r : List ℕ)
     → Only (many (value_in d) (elements kind n) b) ts r

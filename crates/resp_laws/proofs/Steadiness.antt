@@ -24,7 +24,7 @@ unfinished f l b e = let c = l.more b e in (c.0, c.1, [], c.2)
 
 never : {A : Type 0} (x : A) (r s : List ℕ) (g : Fault) (a : Parsed A) → a ≡ Whole x r → a ≡ Bad g s
     → ⊥
-never x r s g a e h = cc
+never k r s g a e h = cc
 
 pub first_fault : {A : Type 0} (f : List ℕ → Parsed A) → IsReader f → FirstFault f
 first_fault f l b r g e =
@@ -75,7 +75,7 @@ unfolding over
 limited_over most o g lt = ap (over most o g) (lt-ltb most o lt)
 
 whole_not : {A : Type 0} (x : A) (s : List ℕ) (a : Parsed A) → a ≡ Whole x s → a ≡ More → ⊥
-whole_not x s a e h = cc
+whole_not k s a e h = cc
 
 bad_not : {A : Type 0} (g : Fault) (s : List ℕ) (a : Parsed A) → a ≡ Bad g s → a ≡ More → ⊥
 bad_not g s a e h = cc
@@ -83,7 +83,7 @@ bad_not g s a e h = cc
 module _ {A : Type 0} (most : ℕ) (f : List ℕ → Parsed A) (l : IsReader f) where
   keeps : (b r : List ℕ) (x : A) → capped most b (f b) ≡ Whole x r → (m : List ℕ)
       → capped most (b ++ m) (f (b ++ m)) ≡ Whole x (r ++ m)
-  keeps b r x e m = grind (arith, capped_whole, whole_within, steady, length-append)
+  keeps b r h e m = grind (arith, capped_whole, whole_within, steady, length-append)
 
   -- more bytes than the limit, none of which makes it whole or is at fault: so they are too many
   too_many : (b m : List ℕ) → f b ≡ More → most < length b → (a : Parsed A) → f (b ++ m) ≡ a
@@ -124,7 +124,7 @@ module _ {A : Type 0} (most : ℕ) (f : List ℕ → Parsed A) (l : IsReader f) 
       → nat_lt most (length b - length s) ≡ t → f b ≡ Whole x s
       → cond t (Bad (TooLong (most + 1)) (drop most b)) (Whole x s) ≡ Bad g r
       → capped most (b ++ m) (f (b ++ m)) ≡ Bad g (r ++ m)
-  whole_case b m r s x g false h e k = absurd cc
+  whole_case b m r s p g false h e k = absurd cc
   whole_case b m r s x g true h e k =
       let lt : most < length b - length s = ltb-true most (length b - length s) h in
       whole_over most (b ++ m) (f (b ++ m)) x (s ++ m) (steady f l b s x e m)
@@ -176,7 +176,7 @@ steady_values = let s = steady_capped whole_limit (value_in 8) (reader_value 8) 
 
 same_answer : {A : Type 0} (t u : A) (x y : List ℕ) (a : Parsed A) → a ≡ Whole t x → a ≡ Whole u y
     → (t ≡ u) × (x ≡ y)
-same_answer t u x y a e h = (cc, cc)
+same_answer t u k y a e h = (cc, cc)
 
 pub no_prefix : NoneBeginsAnother
 no_prefix x y t u e h = same_answer t u y [] (value_at (x ++ y)) (steady_values.whole x [] t e y) h

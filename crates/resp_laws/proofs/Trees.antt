@@ -17,10 +17,10 @@ use Rattle.resp_stream.specs.declared.value.Kind.TheVariants.{Array, Map, Set, P
 use Rattle.resp_stream.specs.Parsed.{Whole}
 use Rattle.resp_stream.specs.Tokens.{only_byte, ending, minus_one, length_at, many}
 use Rattle.resp_stream.specs.Request.{whole_limit}
-use Rattle.resp_stream.specs.Value.{rule_of, digits_of_at, signed_at, number_at, blob_at}
-use Rattle.resp_stream.specs.Value.{blob_rule, blob_error_rule, blob_tree, verbatim_at, truth_at}
-use Rattle.resp_stream.specs.Value.{text_at, whole_number_at}
-use Rattle.resp_stream.specs.Value.{elements, build, aggregate_at, value_in, value_at}
+use Rattle.resp_stream.specs.Value.{rule_of, digits_of_at, signed_at, number_at, blob_at, blob_rule}
+use Rattle.resp_stream.specs.Value.{blob_error_rule, blob_tree, verbatim_at, truth_at, text_at}
+use Rattle.resp_stream.specs.Value.{whole_number_at, elements, build, aggregate_at, value_in}
+use Rattle.resp_stream.specs.Value.{value_at}
 use Rattle.resp_stream.proofs.Capped.{whole_within}
 use Rattle.resp_laws.specs.Values.{FitsIn, AllFit, RowsFit, WrittenValues}
 use Rattle.resp_laws.proofs.Written.{is_length, length_only, head_parts, counted_parts}
@@ -31,44 +31,36 @@ use Rattle.resp_laws.proofs.Scalars.{verbatim_only}
 
 pub at_simple : (d : ℕ) (b : List ℕ) → value_in d (43 ∷ b) ≡ text_at simple b
 unfolding value_in
-at_simple zero b = refl
-at_simple (suc d) b = refl
+at_simple d b = grind arith
 
 pub at_error : (d : ℕ) (b : List ℕ) → value_in d (45 ∷ b) ≡ text_at error b
 unfolding value_in
-at_error zero b = refl
-at_error (suc d) b = refl
+at_error d b = grind arith
 
 pub at_number : (d : ℕ) (b : List ℕ) → value_in d (58 ∷ b) ≡ whole_number_at b
 unfolding value_in
-at_number zero b = refl
-at_number (suc d) b = refl
+at_number d b = grind arith
 
 pub at_blob : (d : ℕ) (b : List ℕ) → value_in d (36 ∷ b) ≡ blob_at (blob_tree false) blob_rule b
 unfolding value_in
-at_blob zero b = refl
-at_blob (suc d) b = refl
+at_blob d b = grind arith
 
 pub at_verbatim : (d : ℕ) (b : List ℕ) → value_in d (61 ∷ b) ≡ verbatim_at b
 unfolding value_in
-at_verbatim zero b = refl
-at_verbatim (suc d) b = refl
+at_verbatim d b = grind arith
 
 pub at_blob_error : (d : ℕ) (b : List ℕ)
     → value_in d (33 ∷ b) ≡ blob_at (blob_tree true) blob_error_rule b
 unfolding value_in
-at_blob_error zero b = refl
-at_blob_error (suc d) b = refl
+at_blob_error d b = grind arith
 
 pub at_truth : (d : ℕ) (b : List ℕ) → value_in d (35 ∷ b) ≡ truth_at b
 unfolding value_in
-at_truth zero b = refl
-at_truth (suc d) b = refl
+at_truth d b = grind arith
 
 pub at_null : (d : ℕ) (b : List ℕ) → value_in d (95 ∷ b) ≡ ending null b
 unfolding value_in
-at_null zero b = refl
-at_null (suc d) b = refl
+at_null d b = grind arith
 
 pub at_array : (d : ℕ) (b : List ℕ) → value_in (suc d) (42 ∷ b) ≡ aggregate_at Array (value_in d) b
 unfolding value_in

@@ -1,7 +1,7 @@
 -- What is written of a request is read.
-use Rattle.std.proofs.Common.{◌≡◌, ℕ, zero, suc, ◌+◌, ◌-◌, ◌*◌, ◌/◌, ◌%◌, ◌<◌, ◌≤◌, ◌^◌, List, []}
-use Rattle.std.proofs.Common.{◌∷◌, ◌++◌, refl, ap, ◌∙◌, ◌⊎◌, inl, inr, append_assoc, Bool}
-use Rattle.std.proofs.Common.{cond, length, arith, Option, Some}
+use Rattle.std.proofs.Common.{◌≡◌, ℕ, suc, ◌+◌, ◌-◌, ◌*◌, ◌/◌, ◌%◌, ◌<◌, ◌≤◌, ◌^◌, List, [], ◌∷◌}
+use Rattle.std.proofs.Common.{◌++◌, refl, ap, ◌∙◌, ◌⊎◌, append_assoc, Bool, cond, length, arith}
+use Rattle.std.proofs.Common.{Option, Some}
 use Rattle.std.specs.Prelude.{nat_lt}
 use Rattle.std.specs.Fmt.{decimal}
 use Rattle.std.proofs.lemmas.Fmt.{decimal_by_steps}
@@ -9,10 +9,9 @@ use Rattle.std.proofs.lemmas.List.{length-append}
 use Rattle.resp_value.specs.Spelling.{line, head, counted, blob_spellings, request_spelling}
 use Rattle.resp_stream.specs.declared.fault.Fault.TheVariants.{BadByte, TooLong, NotServed}
 use Rattle.resp_stream.specs.declared.tokens.LengthRule.{LengthRule}
-use Rattle.resp_stream.specs.Parsed.{Whole, Choice, Go, Stop, Move, On, Out, scan}
-use Rattle.resp_stream.specs.Parsed.{◌>>=◌}
-use Rattle.resp_stream.specs.Tokens.{only_byte, ending, length_end, digit_move}
-use Rattle.resp_stream.specs.Tokens.{digits_at, minus_one, length_by, length_at, counted_at, many}
+use Rattle.resp_stream.specs.Parsed.{Whole, Choice, Go, Stop, Move, On, Out, scan, ◌>>=◌}
+use Rattle.resp_stream.specs.Tokens.{only_byte, ending, length_end, digit_move, digits_at}
+use Rattle.resp_stream.specs.Tokens.{minus_one, length_by, length_at, counted_at, many}
 use Rattle.resp_stream.specs.Request.{whole_limit, words_rule, word_rule, sized, word_at, listed}
 use Rattle.resp_stream.specs.Request.{array_at, request_begun, request_at}
 use Rattle.resp_stream.proofs.Readers.{bytes_exact}
@@ -38,8 +37,7 @@ digit_more [] m k d n a b e h = (a, b, ap (λ z. z * 10 + (d - 48)) h ∙ e)
 digit_more (c ∷ ds) m k d n a b e h = (h.0, h.1, digit_more ds (m * 10 + (c - 48)) k d n a b e h.2)
 
 pub one_digit : (n : ℕ) → n < 10 → IsLength n ((48 + n) ∷ [])
-one_digit zero lt = inl (omega arith, refl, refl)
-one_digit (suc n) lt = inr (omega arith, omega arith, omega arith)
+one_digit n lt = grind arith
 
 pub next_digit : (n : ℕ) (ds : List ℕ) → 10 ≤ n → IsLength (n / 10) ds
     → IsLength n (ds ++ ((48 + n % 10) ∷ []))
@@ -134,8 +132,7 @@ word_only w r le = grind (arith, counted_parts, marked, length_only, is_length, 
 many_next : (n : ℕ) (b c r w : List ℕ) (ws : List (List ℕ)) → word_at b ≡ Whole w c
     → many word_at n c ≡ Whole ws r → many word_at (suc n) b ≡ Whole (w ∷ ws) r
 unfolding many
-many_next n b c r w ws e h = ap (λ q. q >>= λ t r. many word_at n r >>= λ ts s. Whole (t ∷ ts) s) e
-    ∙ ap (λ q. q >>= λ ts s. Whole (w ∷ ts) s) h
+many_next n b c r w ws e h = grind arith
 
 many_none : (r : List ℕ) → many word_at 0 r ≡ Whole [] r
 unfolding many

@@ -1,7 +1,6 @@
 -- What stands in a stream, one after another and in pieces, for any reader that takes bytes.
 use Rattle.std.proofs.Common.{◌≡◌, ℕ, zero, suc, ◌+◌, ◌-◌, ◌<◌, List, [], ◌∷◌, ◌++◌, refl, sym, ap}
-use Rattle.std.proofs.Common.{◌∙◌}
-use Rattle.std.proofs.Common.{true, false, cond, length, arith, add-one, Option, Some, None}
+use Rattle.std.proofs.Common.{◌∙◌, true, false, cond, length, arith, add-one, Option, Some, None}
 use Rattle.resp_stream.specs.declared.fault.Fault.{Fault}
 use Rattle.resp_stream.specs.declared.fault.StreamFault.{StreamFault}
 use Rattle.resp_stream.specs.Parsed.{Parsed, Whole, More, Bad}
@@ -73,13 +72,11 @@ module _ {A : Type 0} (read : List ℕ → Parsed A) (past : Stream → Stream) 
               (batch read past (moved_on s r)).stream;
           fault = (batch read past (moved_on s r)).fault;
         }
-    batch_whole s x r e =
-        batch_step s ∙ ap (λ a. batch_by (past s) a (λ q. batch read past (moved_on s q))) e
+    batch_whole s h r e = grind (arith, batch_step)
 
     pub batch_more : (s : Stream) → read (past s).rest ≡ More
         → batch read past s ≡ record { items = []; stream = past s; fault = None }
-    batch_more s e =
-        batch_step s ∙ ap (λ a. batch_by (past s) a (λ q. batch read past (moved_on s q))) e
+    batch_more s e = grind (arith, batch_step)
 
     pub batch_bad : (s : Stream) (g : Fault) (r : List ℕ) → read (past s).rest ≡ Bad g r →
         batch read past s ≡ record {
@@ -88,8 +85,7 @@ module _ {A : Type 0} (read : List ℕ → Parsed A) (past : Stream → Stream) 
           fault =
               Some (stream_fault g (offset_by (past s).before (length (past s).rest - length r)));
         }
-    batch_bad s g r e =
-        batch_step s ∙ ap (λ a. batch_by (past s) a (λ q. batch read past (moved_on s q))) e
+    batch_bad s g r e = grind (arith, batch_step)
 
     -- ---- where no fault was met the stream has not failed
 

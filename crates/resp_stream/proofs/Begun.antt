@@ -77,8 +77,7 @@ module _ (text b : List ℕ) (c : ℕ) (is : text ≡ c ∷ b) (h : c ≡ 42) wh
       (omega arith)
 
   none_before : (a : Parsed (List (List ℕ))) → a ≡ (a >>= λ ws s. Whole ([] ++ ws) s)
-  none_before (Whole ws s) = refl
-  none_before a = refl
+  none_before a = grind arith
 
   array_with : (n : ℕ) (d r : List ℕ) → length_at words_rule d ≡ Whole (Some n) r
       → array_at d ≡ with_more [] n r

@@ -1,6 +1,5 @@
 -- Reading under the limit of the whole.
-use Rattle.std.proofs.Common.{◌≡◌, ℕ, ◌+◌, ◌-◌, ◌<◌, ◌≤◌, List, ◌++◌, ap}
-use Rattle.std.proofs.Common.{length, drop, arith}
+use Rattle.std.proofs.Common.{◌≡◌, ℕ, ◌+◌, ◌-◌, ◌<◌, ◌≤◌, List, ◌++◌, ap, length, drop, arith}
 use Rattle.resp_stream.specs.declared.fault.Fault.{Fault}
 use Rattle.resp_stream.specs.declared.fault.Fault.TheVariants.{TooLong}
 use Rattle.resp_stream.specs.Parsed.{Parsed, Whole, More, Bad}
@@ -12,11 +11,11 @@ use Rattle.resp_stream.proofs.Places.{steady}
 module _ {A : Type 0} (most : ℕ) (b : List ℕ) (a : Parsed A) where
   pub whole_within : (x : A) (r : List ℕ) → a ≡ Whole x r → length b - length r ≤ most
       → capped most b a ≡ Whole x r
-  whole_within x r e le = grind arith
+  whole_within h r e le = grind arith
 
   pub whole_over : (x : A) (r : List ℕ) → a ≡ Whole x r → most < length b - length r
       → capped most b a ≡ Bad (TooLong (most + 1)) (drop most b)
-  whole_over x r e lt = grind arith
+  whole_over h r e lt = grind arith
 
   pub more_within : a ≡ More → length b ≤ most → capped most b a ≡ More
   more_within e le = grind arith

@@ -47,7 +47,6 @@ no_length (x ∷ xs) e = absurd (omega arith)
 
 pub close_all : (whole : ℕ) (text : List ℕ) (at room : ℕ) (xs : List Frame) (t : Tree) → xs ≡ []
     → HasRead whole text at room (reverse xs) t → HasRead whole text at room [] t
-close_all whole text at room xs t e h =
-    subst (λ (fs : List Frame). HasRead whole text at room (reverse fs) t) e h
+close_all whole text at room xs t e h = grind (arith, reverse)
 
 pub ruleset closing = (close_up, close_next)

@@ -1,6 +1,6 @@
 -- Readers put together are readers.
 use Rattle.std.proofs.Common.{◌≡◌, ℕ, List, [], ◌∷◌, ◌++◌, refl, sym, ap, ◌∙◌, append_assoc, ◌⊎◌}
-use Rattle.std.proofs.Common.{inl, inr, Bool, true, false, cond}
+use Rattle.std.proofs.Common.{inl, inr, Bool, cond, arith}
 use Rattle.resp_stream.specs.declared.fault.Fault.{Fault}
 use Rattle.resp_stream.specs.Parsed.{Parsed, Whole, More, Bad, Choice, Go, Stop, Move, On, Out}
 use Rattle.resp_stream.specs.Parsed.{taken, moved, scan, first, ◌>>=◌}
@@ -18,21 +18,16 @@ nothing_left (x ∷ p) r e = absurd cc
 
 pub bind_whole : {A B : Type 0} (a : Parsed A) (f : A → List ℕ → Parsed B) (y : B) (s : List ℕ)
     → (a >>= f) ≡ Whole y s → (x : A) × (r : List ℕ) × (a ≡ Whole x r) × (f x r ≡ Whole y s)
-bind_whole (Whole x r) f y s e = (x, r, refl, e)
-bind_whole a f y s e = absurd cc
+bind_whole a f y s e = grind arith
 
 bind_bad : {A B : Type 0} (a : Parsed A) (f : A → List ℕ → Parsed B) (g : Fault) (s : List ℕ)
     → (a >>= f) ≡ Bad g s → (a ≡ Bad g s)
     ⊎ ((x : A) × (r : List ℕ) × (a ≡ Whole x r) × (f x r ≡ Bad g s))
-bind_bad (Whole x r) f g s e = inr (x, r, refl, e)
-bind_bad More f g s e = absurd cc
-bind_bad (Bad h r) f g s e = inl cc
+bind_bad a f g s e = grind arith
 
 bind_more : {A B : Type 0} (a : Parsed A) (f : A → List ℕ → Parsed B) → (a >>= f) ≡ More
     → (a ≡ More) ⊎ ((x : A) × (r : List ℕ) × (a ≡ Whole x r) × (f x r ≡ More))
-bind_more (Whole x r) f e = inr (x, r, refl, e)
-bind_more More f e = inl refl
-bind_more (Bad h r) f e = absurd cc
+bind_more a f e = grind arith
 
 possible_by : {A : Type 0} (f : List ℕ → Parsed A) → IsReader f → (a : Parsed A) → f [] ≡ a
     → Completes f []
@@ -58,7 +53,7 @@ module _ {A B : Type 0} (a : List ℕ → Parsed A) (f : A → List ℕ → Pars
   -- behind a front that a reads as x, both is f x
   skip_empty : (p : List ℕ) (x : A) → ((s : List ℕ) → a (p ++ s) ≡ Whole x s) → (q : List ℕ)
       → (a (p ++ q) >>= f) ≡ f x q
-  skip_empty p x h q = ap (λ r. r >>= f) (h q)
+  skip_empty p e h q = ap (λ r. r >>= f) (h q)
 
   then_whole : (b s : List ℕ) (y : B) → (a b >>= f) ≡ Whole y s → Took (λ b. a b >>= f) b y s
   then_whole b s y e =
@@ -143,11 +138,7 @@ module _ {A B : Type 0} (a : List ℕ → Parsed A) (f : A → List ℕ → Pars
 -- ---- nothing more to read
 
 pub reader_whole : {A : Type 0} (x : A) → IsReader (λ b. Whole x b)
-reader_whole x = record {
-  whole = λ b r y e. record { front = []; parts = cc; again = λ s. cc };
-  bad = λ b r g e. absurd cc;
-  more = λ b e. absurd cc;
-}
+reader_whole e = grind arith
 
 -- ---- byte by byte
 
@@ -166,12 +157,12 @@ module _ {S A : Type 0} (k : S → ℕ → Move S A) (lk : (s : S) (c : ℕ) →
       → moved m (λ t. scan k t bs) c bs ≡ Whole x r →
       (p : List ℕ) × (bs ≡ p ++ r)
       × ((z : List ℕ) → moved m (λ t. scan k t (p ++ z)) c (p ++ z) ≡ Whole x z)
-  moved_whole (On s) h c bs r x ih e = let t = ih s e in (t.front, t.parts, t.again)
+  moved_whole (On s) h c bs r k ih e = let t = ih s e in (t.front, t.parts, t.again)
   moved_whole (Out (Go g)) h c bs r x ih e = let t = h.whole bs r x e in (t.front, t.parts, t.again)
-  moved_whole (Out (Stop g)) h c bs r x ih e = absurd cc
+  moved_whole (Out (Stop g)) h c bs r k ih e = absurd cc
 
   scan_whole : (b r : List ℕ) (x : A) (s : S) → scan k s b ≡ Whole x r → Took (scan k s) b x r
-  scan_whole [] r x s e = absurd cc
+  scan_whole [] r h s e = absurd cc
   scan_whole (c ∷ bs) r x s e =
       let t = moved_whole (k s c) (lk s c) c bs r x (λ u. scan_whole bs r x u) e in
       record { front = c ∷ t.0; parts = ap (λ (q : List ℕ). c ∷ q) t.1; again = t.2 }
@@ -220,31 +211,21 @@ module _ {S A : Type 0} (k : S → ℕ → Move S A) (lk : (s : S) (c : ℕ) →
       → ((s : S) → scan k s bs ≡ More → Completes (scan k s) bs)
       → moved m (λ t. scan k t bs) c bs ≡ More →
       (z : List ℕ) × (x : A) × (moved m (λ t. scan k t (bs ++ z)) c (bs ++ z) ≡ Whole x [])
-  moved_more (On s) h c bs ih e = ih s e
-  moved_more (Out (Go f)) h c bs ih e = h.more bs e
-  moved_more (Out (Stop f)) h c bs ih e = absurd cc
+  moved_more m h c bs ih e = grind arith
 
   scan_more : (b : List ℕ) (s : S) → scan k s b ≡ More → Completes (scan k s) b
   scan_more [] s e = way s
   scan_more (c ∷ bs) s e = moved_more (k s c) (lk s c) c bs (λ u. scan_more bs u) e
 
   pub reader_scan : (s : S) → IsReader (scan k s)
-  reader_scan s =
-      record {
-        whole = λ b r x. scan_whole b r x s;
-        bad = λ b r g. scan_bad b r g s;
-        more =
-            λ b. scan_more b s;
-      }
+  reader_scan s = grind (arith, scan_whole, scan_bad, scan_more)
 
 pub choice_if : {A : Type 0} (t : Bool) (x y : Choice A) → IsChoice x → IsChoice y
     → IsChoice (cond t x y)
-choice_if true x y p q = p
-choice_if false x y p q = q
+choice_if t e y p q = grind arith
 
 pub move_if : {S A : Type 0} (t : Bool) (x y : Move S A) → IsMove x → IsMove y → IsMove (cond t x y)
-move_if true x y p q = p
-move_if false x y p q = q
+move_if t e y p q = grind arith
 
 -- one byte leads on
 first_way : {A : Type 0} (k : ℕ → Choice A) (c : ℕ) (g : List ℕ → Parsed A) → k c ≡ Go g

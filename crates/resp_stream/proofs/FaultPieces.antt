@@ -58,7 +58,15 @@ skipped_joined s b t =
 moved_joined : (s : Stream) (b r : List ℕ) → s.failed ≡ false
     → length r < length (fed (skipped s) b).rest
     → moved_on (fed s b) r ≡ moved_on (fed (skipped s) b) r
-moved_joined s b r t lt = grind (arith, fed_rest, length-append, stream_as, place_in_two, skip_le)
+moved_joined s b r t lt =
+    let f = ap length (fed_rest s b t) ∙ length-append s.rest b in
+    let g = ap length (fed_rest (skipped s) b t) ∙ length-append (skip_empty s.rest) b in
+    stream_as _ _ r r s.failed
+    (ap (λ n. offset_by s.before (n - length r)) f
+    ∙ place_in_two s.before (length s.rest) (length (skip_empty s.rest)) (length b) (length r)
+    (skip_le s.rest) (omega (arith, lt, g))
+    ∙ ap (λ n. offset_by (skipped s).before (n - length r)) (sym g))
+    refl
 
 pub passes_requests : Passes skipped
 passes_requests = record { joined = skipped_joined; moved = moved_joined }
@@ -104,16 +112,32 @@ module _ {A : Type 0} (read : List ℕ → Parsed A) (past : Stream → Stream) 
       → (a : Parsed A) → read (past s).rest ≡ a
       → (batch read past (fed s b)).fault
       ≡ (batch read past (fed (batch read past s).stream b)).fault
-  joined_by s b t none ih (Whole x r) e = grind (arith, batch_whole, moved_fed)
-  joined_by s b t none ih More e = grind (arith, fault_past_by, batch_more)
-  joined_by s b t none ih (Bad g r) e = grind (arith, none_is, batch_bad)
+  joined_by s b t none ih (Whole x r) e =
+      let p = batch_whole read past takes s x r e in
+      let le = takes.some s x r e in
+      ap (λ (q : Batch A). q.fault)
+      (batch_whole read past takes (fed s b) x (r ++ b) (takes.kept s b x r t e))
+      ∙ ap (λ (q : Stream). (batch read past q).fault) (moved_fed s b r t (omega (arith, le)))
+      ∙ ih x r e (ap (λ (q : Batch A). q.fault) (sym p) ∙ none)
+      ∙ ap (λ (q : Batch A). (batch read past (fed q.stream b)).fault) (sym p)
+  joined_by s b t none ih More e =
+      fault_past_by (fed s b) (fed (past s) b) (passes.joined s b t)
+      (λ r lt le. passes.moved s b r t le) (read (past (fed s b)).rest) refl
+      ∙ ap (λ (q : Batch A). (batch read past (fed q.stream b)).fault)
+      (sym (batch_more read past takes s e))
+  joined_by s b t none ih (Bad g r) e =
+      absurd (none_is _ (batch read past s).fault
+      (ap (λ (q : Batch A). q.fault) (batch_bad read past takes s g r e)) none)
 
   joined_in : (n : ℕ) (s : Stream) (b : List ℕ) → length s.rest < n → s.failed ≡ false
       → (batch read past s).fault ≡ None
       → (batch read past (fed s b)).fault
       ≡ (batch read past (fed (batch read past s).stream b)).fault
   joined_in zero s b lt t none = absurd (omega arith)
-  joined_in (suc n) s b lt t none = grind (arith, joined_by)
+  joined_in (suc n) s b lt t none =
+      joined_by s b t none
+      (λ x r e. joined_in n (moved_on s r) b (omega (arith, lt, takes.some s x r e)) t)
+      (read (past s).rest) refl
 
   pub fault_joined : (s : Stream) (b : List ℕ) → s.failed ≡ false
       → (batch read past s).fault ≡ None

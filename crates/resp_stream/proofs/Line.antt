@@ -1,7 +1,7 @@
 -- A line byte by byte.
-use Rattle.std.proofs.Common.{◌≡◌, ℕ, ◌+◌, ◌<◌, ◌≤◌, ◌≢◌, List, [], ◌∷◌, ◌++◌, refl, sym, ap, subst}
-use Rattle.std.proofs.Common.{◌∙◌, append_assoc, Bool, true, false, cond, length, get_or, take}
-use Rattle.std.proofs.Common.{drop, drop-cons, add-one, arith}
+use Rattle.std.proofs.Common.{◌≡◌, ℕ, ◌+◌, ◌<◌, ◌≤◌, ◌≢◌, List, [], ◌∷◌, ◌++◌, refl, sym, ap, ◌∙◌}
+use Rattle.std.proofs.Common.{append_assoc, Bool, true, false, cond, length, get_or, take, drop}
+use Rattle.std.proofs.Common.{drop-cons, add-one, arith}
 use Rattle.std.specs.Prelude.{nat_eq, nat_lt}
 use Rattle.std.proofs.lemmas.Bool.{ne_eqb, eq-eqb, lt-ltb, le-ltb}
 use Rattle.std.proofs.lemmas.List.{take-append-drop, length-take-le, length-drop, take_all}
@@ -18,8 +18,7 @@ passed_none inline limit b m = refl
 
 pub passed_grows : (inline : Bool) (limit seen : ℕ) (b piece : List ℕ) → seen ≤ length b
     → Passed inline limit (take seen b) → Passed inline limit (take seen (b ++ piece))
-passed_grows inline limit seen b piece le p =
-    subst (λ (q : List ℕ). Passed inline limit q) (sym (take-append-le seen b piece le)) p
+passed_grows inline limit seen b piece le p = grind (arith, take-append-le)
 
 pick : ℕ → List ℕ → ℕ → Bool → Bool → Bool → Bool → Move (List ℕ) (List ℕ)
 pick limit t c x y z w =
@@ -32,7 +31,7 @@ module _ (inline : Bool) (limit : ℕ) where
       → nat_lt (length t) limit ≡ z → refused inline c ≡ w
       → line_move inline limit t c ≡ pick limit t c x y z w
   unfolding pick
-  picked t c x y z w p q r s = λ i. pick limit t c (p i) (q i) (r i) (s i)
+  picked t c e y z w p q r s = λ i. pick limit t c (p i) (q i) (r i) (s i)
 
   -- what stands at the place
   at_byte : (at c : ℕ) (b r : List ℕ) (move : Move (List ℕ) (List ℕ)) → drop at b ≡ c ∷ r
@@ -46,8 +45,7 @@ module _ (inline : Bool) (limit : ℕ) where
   pub line_step : (c : ℕ) (t : List ℕ) → c ≢ 13 → ends_line inline c ≡ false
       → refused inline c ≡ false → length t < limit → line_move inline limit t c ≡ On (t ++ c ∷ [])
   unfolding pick
-  line_step c t e f g lt =
-      picked t c false false true false (ne_eqb c 13 e) f (lt-ltb (length t) limit lt) g
+  line_step c t e f g lt = grind (arith, picked, ne_eqb, lt-ltb)
 
   pub line_ends : (at c : ℕ) (b r : List ℕ) → drop at b ≡ c ∷ r → Passed inline limit (take at b)
       → c ≡ 13 → line_at inline limit b ≡ line_feed (take at b) r

@@ -1,6 +1,5 @@
 -- What is read of a stream piece by piece is what is read of it at once.
-use Rattle.std.proofs.Common.{◌≡◌, ℕ, List, [], ◌++◌, cond, false, None, refl, sym, ap, ◌∙◌}
-use Rattle.std.proofs.Common.{append_assoc, arith}
+use Rattle.std.proofs.Common.{◌≡◌, ℕ, List, [], ◌++◌, false, None, refl, ap, append_assoc, arith}
 use Rattle.resp_value.specs.Tree.{Tree}
 use Rattle.resp_stream.specs.Parse.{Batch, parse, parse_values, requests_of, values_of}
 use Rattle.resp_stream.specs.Readers.{skipped}
@@ -75,10 +74,10 @@ pub record GoesOn {A : Type 0} (all : Stream → Batch A) (heard : List ℕ) (re
     pub faults : (m : List ℕ) → (all (fed begun (heard ++ m))).fault ≡ (all (fed reader m)).fault
 
 pub requests_begun : GoesOn parse [] begun
-requests_begun = grind (arith, no_requests)
+requests_begun = grind (arith, no_requests, none_parsed)
 
 pub values_begun : GoesOn parse_values [] begun
-values_begun = grind (arith, no_values)
+values_begun = grind (arith, no_values, none_valued)
 
 -- where the piece brought no fault, it is read on from there
 pub goes_further : {A : Type 0} (all : Stream → Batch A) (heard piece : List ℕ) (reader : Stream)

@@ -1,11 +1,10 @@
 -- An aggregate by its head.
-use Rattle.std.proofs.Common.{◌≡◌, ◌≢◌, ℕ, zero, suc, ◌-◌, ◌<◌, List, [], ◌∷◌, ◌++◌, refl, sym, ap}
-use Rattle.std.proofs.Common.{subst, ◌∙◌, Bool, true, false, cond, arith, Some, None}
+use Rattle.std.proofs.Common.{◌≡◌, ◌≢◌, ℕ, suc, ◌-◌, ◌<◌, List, [], ◌∷◌, ◌++◌, sym, ap, subst, ◌∙◌}
+use Rattle.std.proofs.Common.{Bool, true, false, cond, arith, Some, None}
 use Rattle.std.specs.Prelude.{nat_eq}
 use Rattle.resp_stream.specs.declared.fault.Fault.{Fault}
 use Rattle.resp_stream.specs.declared.fault.Fault.TheVariants.{BadByte}
 use Rattle.resp_stream.specs.declared.value.Kind.{Kind}
-use Rattle.resp_stream.specs.declared.value.Kind.TheVariants.{Array, Map}
 use Rattle.resp_stream.specs.declared.value.TypeByte.{TypeByte}
 use Rattle.resp_stream.specs.declared.value.TypeByte.TheVariants as mark
 use Rattle.resp_value.specs.Tree.{Tree, null_array}
@@ -23,34 +22,28 @@ use Rattle.resp_stream.proofs.Places.{steady}
 none_by : (d c : ℕ) (b : List ℕ) (m : TypeByte) → opening (suc d) m ≡ None
     → taken (choice_of (deeper (nat_eq (suc d) 8) (value_in d)) m c) c b
     ≡ taken (choice_of too_deep m c) c b
-none_by d c b (mark.Aggregate kind) e = absurd cc
-none_by d c b m e = refl
+none_by d c b m e = grind arith
 
 pub leaf_here : (room c : ℕ) (text b : List ℕ) → text ≡ c ∷ b → opening room (type_byte_of c) ≡ None
     → value_in room text ≡ taken (choice_of too_deep (type_byte_of c) c) c b
 unfolding value_in
-leaf_here zero c text b h e = ap (λ q. value_in 0 q) h
-leaf_here (suc d) c text b h e = ap (λ q. value_in (suc d) q) h ∙ none_by d c b (type_byte_of c) e
+leaf_here room c text b h e = grind (arith, none_by)
 
 opens_by : (d : ℕ) (kind : Kind) (m : TypeByte) → opening (suc d) m ≡ Some kind
     → m ≡ mark.Aggregate kind
-opens_by d kind (mark.Aggregate k) e = cc
-opens_by d kind m e = absurd cc
+opens_by d kind m e = grind arith
 
 pub opens_here : (room : ℕ) (kind : Kind) (m : TypeByte) → opening room m ≡ Some kind
     → (m ≡ mark.Aggregate kind) × (0 < room)
-opens_here zero kind m e = absurd cc
-opens_here (suc d) kind m e = (opens_by d kind m e, omega arith)
+opens_here room kind m e = grind (arith, opens_by)
 
 -- ---- where an aggregate opens
 
 none_of : (kind : Kind) → elements kind 0 ≡ 0
-none_of Array = refl
-none_of kind = refl
+none_of kind = grind arith
 
 some_of : (kind : Kind) (n : ℕ) → 0 < n → 0 < elements kind n
-some_of Map n h = omega arith
-some_of kind n h = h
+some_of kind n h = grind arith
 
 module _ (room c : ℕ) (text b : List ℕ) (kind : Kind) (head : text ≡ c ∷ b)
     (is : type_byte_of c ≡ mark.Aggregate kind) (some : 0 < room) where
@@ -71,8 +64,7 @@ module _ (room c : ℕ) (text b : List ℕ) (kind : Kind) (head : text ≡ c ∷
   at_text : (t : Bool) → may_stand (nat_eq room 8) kind ≡ t
       → value_in room text
       ≡ taken (cond t (Go (aggregate_at kind (value_in (room - 1)))) (Stop BadByte)) c b
-  at_text t e = ap (λ q. value_in room q) head ∙ ap (λ n. value_in n (c ∷ b)) one
-      ∙ leads (room - 1) t b (allowed t e)
+  at_text t e = grind (arith, one, leads, allowed)
 
   pub may_not : may_stand (nat_eq room 8) kind ≡ false → value_in room text ≡ Bad BadByte text
   may_not e = at_text false e ∙ ap (λ q. Bad BadByte q) (sym head)
@@ -109,7 +101,7 @@ module _ (room c : ℕ) (text b : List ℕ) (kind : Kind) (head : text ≡ c ∷
         → aggregate_at kind (value_in d) x
         ≡ (many (value_in d) (elements kind n) s >>= λ ts z. Whole (build kind ts) z)
     unfolding aggregate_at
-    counted d n x s e = ap (λ q. q >>= elements_at kind (value_in d)) e
+    counted d n h s e = ap (λ q. q >>= elements_at kind (value_in d)) e
 
     pub head_some : (n k : ℕ) (r : List ℕ) → length_at (rule_of kind) b ≡ Whole (Some n) r → n ≢ 0
         → k ≡ elements kind n → Opened room text kind k r

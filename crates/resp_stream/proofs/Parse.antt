@@ -1,14 +1,13 @@
 -- The requests and the values of a stream, one at a time and in pieces.
-use Rattle.std.proofs.Common.{◌≡◌, ℕ, zero, suc, ◌-◌, ◌<◌, ◌≤◌, List, [], ◌∷◌, ◌++◌, refl}
-use Rattle.std.proofs.Common.{◌∙◌, true, false, length, arith, Some, None}
+use Rattle.std.proofs.Common.{◌≡◌, ℕ, zero, suc, ◌-◌, ◌<◌, ◌≤◌, List, [], ◌∷◌, ◌++◌, refl, ◌∙◌}
+use Rattle.std.proofs.Common.{true, false, length, arith, Some, None}
 use Rattle.resp_value.specs.Tree.{Tree}
 use Rattle.resp_stream.specs.declared.fault.Fault.{Fault}
 use Rattle.resp_stream.specs.Parsed.{Parsed, Whole, More, Bad}
 use Rattle.resp_stream.specs.Parse.{parse, parse_values}
 use Rattle.resp_stream.specs.Readers.{skipped}
 use Rattle.resp_stream.specs.Request.{whole_limit, request_begun, request_at, skip_by}
-use Rattle.resp_stream.specs.Request.{skip_empty_in}
-use Rattle.resp_stream.specs.Request.{skip_empty}
+use Rattle.resp_stream.specs.Request.{skip_empty_in, skip_empty}
 use Rattle.resp_stream.specs.Stream.{Stream, fed, moved_on, offset_by, stream_fault}
 use Rattle.resp_stream.specs.Value.{value_in, value_at}
 use Rattle.resp_stream.proofs.Batches.{Takes, fed_rest, batch_whole, batch_more, batch_bad}
@@ -23,8 +22,7 @@ use Rattle.resp_stream.proofs.ValueLaws.{reader_value, no_value}
 
 after_le : (b : List ℕ) (f : List ℕ → List ℕ) (a : Parsed (List (List ℕ)))
     → ((r : List ℕ) → a ≡ Whole [] r → length (f r) ≤ length b) → length (skip_by b a f) ≤ length b
-after_le b f (Whole [] r) h = h r refl
-after_le b f a h = omega arith
+after_le b f a h = grind arith
 
 skip_in_le : (n : ℕ) (b : List ℕ) → length (skip_empty_in n b) ≤ length b
 unfolding skip_empty_in
@@ -51,8 +49,7 @@ request_kept b r m words e = still_whole whole_limit request_begun reader_reques
 joined_by : (b m : List ℕ) (f : List ℕ → List ℕ) (a : Parsed (List (List ℕ)))
     → ((r : List ℕ) → a ≡ Whole [] r → skip_empty (b ++ m) ≡ skip_empty (f r ++ m))
     → skip_empty (b ++ m) ≡ skip_empty (skip_by b a f ++ m)
-joined_by b m f (Whole [] r) h = h r refl
-joined_by b m f a h = refl
+joined_by b m f a h = grind arith
 
 joined_in : (n : ℕ) (b m : List ℕ) → skip_empty (b ++ m) ≡ skip_empty (skip_empty_in n b ++ m)
 unfolding skip_empty_in

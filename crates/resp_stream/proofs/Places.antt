@@ -53,7 +53,7 @@ goes text p r at le e h =
     }
 
 more≢whole : {A : Type 0} (x : A) (r : List ℕ) (a : Parsed A) → a ≡ More → a ≡ Whole x r → ⊥
-more≢whole x r a e h = cc
+more≢whole k r a e h = cc
 
 -- what needs a byte takes one
 pub reads_on : {A : Type 0} (f : List ℕ → Parsed A) → IsReader f → f [] ≡ More

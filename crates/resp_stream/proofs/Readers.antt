@@ -13,8 +13,8 @@ use Rattle.resp_stream.specs.Parsed.{Parsed, Whole, More, Bad, Go, Stop, On, Out
 use Rattle.resp_stream.specs.Parsed.{scan, ◌>>=◌}
 use Rattle.resp_stream.specs.ReaderLaws.{Took, Completes, IsReader}
 use Rattle.resp_stream.specs.Tokens.{IsRule, only_byte, line_feed, ending, digit_move, digits_at}
-use Rattle.resp_stream.specs.Tokens.{minus_one, length_by, length_at, line_move}
-use Rattle.resp_stream.specs.Tokens.{line_at, bytes_at, counted_at, many}
+use Rattle.resp_stream.specs.Tokens.{minus_one, length_by, length_at, line_move, line_at, bytes_at}
+use Rattle.resp_stream.specs.Tokens.{counted_at, many}
 use Rattle.resp_stream.proofs.Compose.{reader_then, reader_whole, reader_scan, reader_first, IsMove}
 use Rattle.resp_stream.proofs.Compose.{choice_if, move_if, append_nil}
 
@@ -116,7 +116,7 @@ bytes_exact p s = grind (arith, le-ltb, length-append, take-append_seam, drop-ap
 
 bytes_whole : (n : ℕ) (b r x : List ℕ) (t : Bool) → nat_lt (length b) n ≡ t
     → cond t More (Whole (take n b) (drop n b)) ≡ Whole x r → Took (bytes_at n) b x r
-bytes_whole n b r x true h e = absurd cc
+bytes_whole n b r k true h e = absurd cc
 bytes_whole n b r x false h e =
     let le : n ≤ length b = ltb-false (length b) n h in
     let len : length (take n b) ≡ n = length-take-le n b le in
@@ -131,8 +131,7 @@ bytes_whole n b r x false h e =
 
 bytes_bad : (n : ℕ) (b r : List ℕ) (g : Fault) (t : Bool)
     → cond t More (Whole (take n b) (drop n b)) ≡ Bad g r → ⊥
-bytes_bad n b r g true e = cc
-bytes_bad n b r g false e = cc
+bytes_bad n b r g t e = grind arith
 
 zeros : ℕ → List ℕ
 zeros zero = []

@@ -1,6 +1,6 @@
 -- A fault of a request, as the reader keeps and answers it.
-use Rattle.std.proofs.Common.{◌≡◌, ℕ, ◌-◌, ◌≤◌, List, ◌++◌, sym, ap, subst, ◌∙◌, Bool}
-use Rattle.std.proofs.Common.{cond, length, drop, take, arith, Some}
+use Rattle.std.proofs.Common.{◌≡◌, ℕ, ◌-◌, ◌≤◌, List, ◌++◌, sym, ap, subst, ◌∙◌, Bool, cond, length}
+use Rattle.std.proofs.Common.{drop, arith, Some}
 use Rattle.std.specs.Prelude.{is_some, Result, OnOk, OnErr}
 use Rattle.std.proofs.lemmas.List.{length-append, length-drop}
 use Rattle.resp_value.specs.declared.octets.NoMemory.{NoMemory}

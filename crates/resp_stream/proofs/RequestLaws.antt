@@ -1,6 +1,6 @@
 -- A request is read by a reader.
-use Rattle.std.proofs.Common.{◌≡◌, ℕ, List, [], ◌∷◌, ◌++◌, refl, sym, ◌∙◌, Bool, true, false, cond}
-use Rattle.std.proofs.Common.{Option, Some, None, lit<, lit≤}
+use Rattle.std.proofs.Common.{◌≡◌, ℕ, List, [], ◌∷◌, ◌++◌, refl, sym, ◌∙◌, Bool, true, cond, Option}
+use Rattle.std.proofs.Common.{Some, None, lit<, lit≤, arith}
 use Rattle.std.specs.Prelude.{nat_eq}
 use Rattle.resp_stream.specs.Parsed.{Parsed, Whole, Choice, Go, Stop, Move, On, Out, taken, moved}
 use Rattle.resp_stream.specs.Parsed.{scan, first, ◌>>=◌}
@@ -81,9 +81,7 @@ lead_choice (Out (Stop g)) h = tt
 lead_is : (m : Move (List ℕ) (List ℕ)) (c : ℕ) (b : List ℕ)
     → taken (lead m) c b ≡ (moved m (λ t. scan (line_move true line_limit) t b) c b >>= words_from)
 unfolding lead
-lead_is (On t) c b = refl
-lead_is (Out (Go g)) c b = refl
-lead_is (Out (Stop g)) c b = refl
+lead_is m c b = grind arith
 
 by_first : ℕ → Choice (List (List ℕ))
 by_first c = cond (nat_eq c 42) (Go array_at) (lead (line_move true line_limit [] c))
@@ -92,13 +90,11 @@ by_first_is : (t : Bool) (c : ℕ) (b : List ℕ)
     → taken (cond t (Go array_at) (lead (line_move true line_limit [] c))) c b
     ≡ cond t (array_at b) (inline_at (c ∷ b))
 unfolding inline_at line_at words_from
-by_first_is true c b = refl
-by_first_is false c b = lead_is (line_move true line_limit [] c) c b
+by_first_is t c b = grind (arith, lead_is)
 
 begun_is : (b : List ℕ) → first by_first b ≡ request_begun b
 unfolding request_begun by_first
-begun_is [] = refl
-begun_is (c ∷ b) = by_first_is (nat_eq c 42) c b
+begun_is b = grind (arith, by_first_is)
 
 reader_first_byte : IsReader (first by_first)
 unfolding by_first

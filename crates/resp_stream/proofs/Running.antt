@@ -5,7 +5,6 @@ use Rattle.resp_stream.specs.declared.stack.Frame.{Frame}
 use Rattle.resp_stream.specs.Parsed.{Whole, More, Bad, ◌>>=◌}
 use Rattle.resp_stream.specs.Results.{StopGives}
 use Rattle.resp_stream.specs.declared.fault.ReadStop.{ReadStop}
-use Rattle.resp_stream.specs.declared.fault.ReadStop.TheVariants as stop
 use Rattle.resp_value.specs.declared.value.Value.{Value}
 use Rattle.resp_stream.specs.declared.fault.Fault.{Fault}
 use Rattle.resp_stream.specs.declared.stack.Step.{Step}
@@ -47,8 +46,7 @@ module _ (whole : ℕ) (text : List ℕ) (at room : ℕ) (fs : List Frame)
 
   pub step_counts : (st : Step) (kind : Kind) (n : ℕ) (r : List ℕ) → IsStep room rest st r
       → st ≡ Open kind n → (0 < n) × (0 < room)
-  step_counts st kind n r h e = let k : Opened room rest kind n r =
-      subst (λ (x : Step). IsStep room rest x r) e h in (k.some, omega (arith, k.room_is))
+  step_counts st kind n r h e = grind arith
 
   pub step_open : (st : Step) (kind : Kind) (n : ℕ) (r : List ℕ) (f : Frame) (zs ys : List Frame)
       → IsStep room rest st r → st ≡ Open kind n → fs ≡ reverse ys → zs ≡ ys ++ f ∷ []
@@ -83,5 +81,4 @@ module _ (whole : ℕ) (text : List ℕ) (at room : ℕ) (fs : List Frame)
 
   pub err_gives : (e : ReadStop) → StopGives e (value_in room rest)
       → StopGives e (value_in whole text)
-  err_gives stop.NoMemory h = tt
-  err_gives (stop.Faulty x) h = (h.0, bad_gives x.fault h.0 h.1, h.2)
+  err_gives e h = grind (arith, bad_gives)

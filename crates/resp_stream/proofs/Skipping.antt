@@ -28,8 +28,7 @@ takes b r ws e =
 
 no_bytes : (m : ℕ) → skip_empty_in m [] ≡ []
 unfolding skip_empty_in
-no_bytes zero = refl
-no_bytes (suc m) = ap (λ a. skip_by [] a (λ r. skip_empty_in m r)) at_none
+no_bytes m = grind (arith, at_none)
 
 empty_is : (b : List ℕ) → length b ≤ 0 → b ≡ []
 empty_is [] le = refl
@@ -37,8 +36,7 @@ empty_is (x ∷ b) le = absurd (omega arith)
 
 same_by : (b : List ℕ) (f g : List ℕ → List ℕ) (a : Parsed (List (List ℕ)))
     → ((r : List ℕ) → a ≡ Whole [] r → f r ≡ g r) → skip_by b a f ≡ skip_by b a g
-same_by b f g (Whole [] r) h = h r refl
-same_by b f g a h = refl
+same_by b f g a h = grind arith
 
 -- more steps than bytes change nothing
 steps_enough : (n m : ℕ) (b : List ℕ) → length b ≤ n → length b ≤ m
@@ -69,8 +67,7 @@ skip_on b r e =
 stays : (b : List ℕ) → ((f : List ℕ → List ℕ) → skip_by b (request_at b) f ≡ b) → (n : ℕ)
     → skip_empty_in n b ≡ b
 unfolding skip_empty_in
-stays b h zero = refl
-stays b h (suc n) = h (λ r. skip_empty_in n r)
+stays b h n = grind arith
 
 -- anything else stays
 pub skip_more : (b : List ℕ) → request_at b ≡ More → skip_empty b ≡ b
@@ -84,5 +81,4 @@ skip_bad b r g e = stays b (λ f. ap (λ a. skip_by b a f) e) (length b)
 pub skip_whole : (b r : List ℕ) (ws : List (List ℕ)) → request_at b ≡ Whole ws r → 0 < length ws
     → skip_empty b ≡ b
 unfolding skip_empty
-skip_whole b r [] e lt = absurd (omega arith)
-skip_whole b r (w ∷ ws) e lt = stays b (λ f. ap (λ a. skip_by b a f) e) (length b)
+skip_whole b r ws e lt = grind (arith, stays)

@@ -1,6 +1,6 @@
 -- The steps of a reader with a stack.
 use Rattle.std.proofs.Common.{◌≡◌, ℕ, suc, ◌≤◌, List, [], ◌∷◌, ◌++◌, refl, sym, ap, ◌∙◌}
-use Rattle.std.proofs.Common.{append_assoc, length, drop, false, arith}
+use Rattle.std.proofs.Common.{append_assoc, length, drop, arith}
 use Rattle.std.proofs.lemmas.List.{length-append, drop-append-le}
 use Rattle.resp_value.specs.Tree.{Tree}
 use Rattle.resp_stream.specs.declared.fault.Fault.{Fault}
@@ -8,7 +8,6 @@ use Rattle.resp_stream.specs.declared.stack.Frame.{Frame}
 use Rattle.resp_stream.specs.declared.value.Kind.{Kind}
 use Rattle.resp_stream.specs.Parsed.{Whole, More, Bad, ◌>>=◌}
 use Rattle.resp_stream.specs.Tokens.{many}
-use Rattle.resp_stream.specs.Request.{line_limit}
 use Rattle.resp_stream.specs.Value.{build, value_in}
 use Rattle.resp_stream.specs.ValueSteps.{rest_of, resume, IsStack, HasRead, LineSeen}
 use Rattle.resp_stream.proofs.Compose.{append_nil}
@@ -25,8 +24,7 @@ pub grow : (whole : ℕ) (text piece : List ℕ) (at room : ℕ) (fs : List Fram
 grow whole text piece at room fs s = grind (arith, length-append, append_assoc, drop-append-le)
 
 pub seen_none : (b : List ℕ) → LineSeen b 0
-seen_none [] = refl
-seen_none (c ∷ b) = (omega arith, passed_none false line_limit b)
+seen_none b = grind (arith, passed_none)
 
 seen_more : (b piece : List ℕ) (seen : ℕ) → LineSeen b seen → LineSeen (b ++ piece) seen
 seen_more b piece seen h = grind (arith, seen_none, length-append, passed_grows)

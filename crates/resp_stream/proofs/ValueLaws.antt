@@ -1,27 +1,23 @@
 -- Values are read by readers.
 use Rattle.std.proofs.Common.{◌≡◌, ℕ, zero, suc, ◌+◌, ◌-◌, ◌*◌, List, [], ◌∷◌, refl, Bool, true}
-use Rattle.std.proofs.Common.{false, cond, Option, Some, None, lit<, lit≤}
+use Rattle.std.proofs.Common.{false, cond, Option, Some, None, lit<, lit≤, arith, rules}
 use Rattle.std.specs.Prelude.{nat_lt, nat_eq}
 use Rattle.resp_stream.specs.declared.fault.Fault.TheVariants.{BadByte}
 use Rattle.resp_stream.specs.declared.value.Kind.{Kind}
-use Rattle.resp_stream.specs.declared.value.Kind.TheVariants.{Array}
 use Rattle.resp_stream.specs.declared.value.TypeByte.{TypeByte}
 use Rattle.resp_stream.specs.declared.value.TypeByte.TheVariants as mark
-use Rattle.resp_value.specs.Tree.{Tree, number, verbatim, boolean}
-use Rattle.resp_value.specs.Tree.{null, null_array}
+use Rattle.resp_value.specs.Tree.{Tree, number, verbatim, boolean, null, null_array}
 use Rattle.resp_stream.specs.Parsed.{Parsed, Whole, More, Choice, Go, Stop, scan, first, ◌>>=◌}
 use Rattle.resp_stream.specs.ReaderLaws.{Completes, IsReader}
 use Rattle.resp_stream.specs.declared.tokens.LengthRule.{LengthRule}
-use Rattle.resp_stream.specs.Tokens.{IsRule, only_byte, ending, length_at, counted_at}
-use Rattle.resp_stream.specs.Tokens.{many, line_at}
+use Rattle.resp_stream.specs.Tokens.{IsRule, only_byte, ending, length_at, counted_at, line_at}
 use Rattle.resp_stream.specs.Request.{line_limit}
 use Rattle.resp_stream.specs.Value.{blob_rule, verbatim_rule, blob_error_rule, rule_of, Digits}
 use Rattle.resp_stream.specs.Value.{number_move, digits_of_at, signed, greatest, signed_at}
 use Rattle.resp_stream.specs.Value.{number_by, number_at, sized_blob, blob_at, line_tree, blob_tree}
-use Rattle.resp_stream.specs.Value.{format_at, formatted_at, sized_text, verbatim_at}
-use Rattle.resp_stream.specs.Value.{truth_at, text_at, whole_number_at, elements, build}
-use Rattle.resp_stream.specs.Value.{elements_at, aggregate_at, may_stand, type_byte_of, choice_of}
-use Rattle.resp_stream.specs.Value.{too_deep, deeper, value_in}
+use Rattle.resp_stream.specs.Value.{format_at, formatted_at, sized_text, verbatim_at, truth_at}
+use Rattle.resp_stream.specs.Value.{text_at, whole_number_at, elements_at, aggregate_at, may_stand}
+use Rattle.resp_stream.specs.Value.{type_byte_of, choice_of, too_deep, deeper, value_in}
 use Rattle.resp_stream.proofs.Compose.{reader_then, reader_whole, reader_scan, reader_first}
 use Rattle.resp_stream.proofs.Compose.{IsChoice, IsMove, choice_if, move_if}
 use Rattle.resp_stream.proofs.Readers.{reader_only, reader_feed, reader_ending, reader_line}
@@ -37,8 +33,7 @@ blob_error_ok : IsRule blob_error_rule
 blob_error_ok = record { limit = lit< tt; room = lit≤ tt; least = lit≤ tt }
 
 pub rule_ok : (kind : Kind) → IsRule (rule_of kind)
-rule_ok Array = record { limit = lit< tt; room = lit≤ tt; least = lit≤ tt }
-rule_ok kind = record { limit = lit< tt; room = lit≤ tt; least = lit≤ tt }
+rule_ok kind = grind (arith, lit<, lit≤)
 
 -- ---- numbers
 
@@ -148,9 +143,7 @@ reader_whole_number =
 reader_elements : (kind : Kind) (read : List ℕ → Parsed Tree) → IsReader read → (n : Option ℕ)
     → IsReader (elements_at kind read n)
 reader_elements kind read l None = reader_whole null_array
-reader_elements kind read l (Some n) =
-    reader_then (many read (elements kind n)) (λ ts s. Whole (build kind ts) s)
-    (reader_many read l (elements kind n)) (λ ts. reader_whole (build kind ts))
+reader_elements kind read l (Some n) = search (rules, reader_then, reader_many, reader_whole)
 
 reader_aggregate : (kind : Kind) (read : List ℕ → Parsed Tree) → IsReader read
     → IsReader (aggregate_at kind read)
@@ -189,5 +182,4 @@ reader_value (suc d) =
 
 pub no_value : (d : ℕ) → value_in d [] ≡ More
 unfolding value_in
-no_value zero = refl
-no_value (suc d) = refl
+no_value d = grind arith

@@ -1,8 +1,8 @@
 -- The session as a whole: what its two seats did, joined.
 use Rattle.std.proofs.Common.{◌≡◌, ◌≤◌, ◌<◌, ◌+◌, ◌-◌, ℕ, List, [], ◌∷◌, ◌++◌, true, false, cond}
-use Rattle.std.proofs.Common.{Bool, length, refl, sym, ap, subst, ◌∙◌, arith, append-nil, Some}
-use Rattle.std.proofs.Common.{inl, inr}
-use Rattle.std.specs.Prelude.{Option, max}
+use Rattle.std.proofs.Common.{Bool, length, refl, sym, ap, subst, ◌∙◌, arith, append-nil, Some, inl}
+use Rattle.std.proofs.Common.{inr}
+use Rattle.std.specs.Prelude.{Option}
 use Rattle.std.specs.List.{All}
 use Rattle.std.proofs.Math.Nat.{le-max_left, le-max_right}
 use Rattle.atomic_table.specs.Seated.{TableId}
@@ -32,8 +32,7 @@ use Rattle.client_link.specs.Pumps.{Pumps}
 use Rattle.script_run.specs.declared.answer.Answer.{Answer}
 use Rattle.script_run.specs.Lines.{ThreadsCame}
 use Rattle.script_run.specs.Ends.{Leaves, Ending, Found, Worn, Calls}
-use Rattle.script_run.specs.Session.{turns_in, PumpedBy, ClosedBy, LastEnd, Over}
-use Rattle.script_run.specs.Session.{NoTicket, Session}
+use Rattle.script_run.specs.Session.{turns_in, PumpedBy, ClosedBy, LastEnd, Over, NoTicket, Session}
 use Rattle.script_run.proofs.Threads.{joined, kept_turns, split_none, threads_grow}
 use Rattle.script_run.proofs.Sessions.{every_turn, legal_log, down_ends}
 
@@ -133,12 +132,10 @@ module _ (u : ClientSetup) (lines : List ScriptLine) (answers : List (List Answe
   past_b = entries_begin b.seen j.seen seen_b
 
   tickets_a : a.tickets ≤ j.tickets
-  tickets_a = let e : j.tickets ≡ max a.tickets b.tickets = ap (λ (z : Place). z.tickets) join_is in
-      omega (arith, e, le-max_left a.tickets b.tickets)
+  tickets_a = grind (arith, le-max_left)
 
   tickets_b : b.tickets ≤ j.tickets
-  tickets_b = let e : j.tickets ≡ max a.tickets b.tickets = ap (λ (z : Place). z.tickets) join_is in
-      omega (arith, e, le-max_right a.tickets b.tickets)
+  tickets_b = grind (arith, le-max_right)
 
   seen_played : IsPrefix (past_of calls.played) (past_of j)
   seen_played = begins_trans (past_of calls.played) (past_of b) (past_of j)

@@ -1,6 +1,5 @@
 -- One line of a script: its turns, and how its answer came by them.
-use Rattle.std.proofs.Common.{◌≡◌, ℕ, List, [], ◌∷◌, true, false, Some}
-use Rattle.std.proofs.Common.{refl, sym, ap, subst}
+use Rattle.std.proofs.Common.{◌≡◌, ℕ, List, [], ◌∷◌, true, false, Some, refl, sym, ap, subst, arith}
 use Rattle.turn_lock.specs.History.{IsPrefix}
 use Rattle.seat_turns.specs.Own.{past_of, Grows}
 use Rattle.seat_turns.proofs.Growing.{grows_then, grows_past}
@@ -12,17 +11,15 @@ use Rattle.shared_cache.specs.declared.log.ClientCall.{ClientCall}
 use Rattle.shared_cache.specs.declared.log.ClientCall.TheVariants as call
 use Rattle.shared_cache.specs.declared.log.ClientReply.{ClientReply}
 use Rattle.shared_cache.specs.declared.log.ClientRefusal.{ClientRefusal}
-use Rattle.shared_cache.specs.declared.log.ClientRefusal.TheVariants as refusal
 use Rattle.shared_cache.specs.Log.{reply as reply_of}
 use Rattle.shared_client.specs.Turns.{Place, Turn, setup_at, setup_in, Adds, Refuses}
 use Rattle.script_text.specs.declared.script_line.ScriptCall.{ScriptCall}
 use Rattle.script_text.specs.declared.script_line.ScriptCall.TheVariants.{Ask, Do}
 use Rattle.client_link.specs.declared.callers.Fetched.{Fetched}
-use Rattle.client_link.specs.Callers.{Fails, Hits, Reads, Fetches, Unanswered, FetchFails}
-use Rattle.client_link.specs.Callers.{NotAsked, NoReply, Sends, SendFails, NotSent, Unreplied}
+use Rattle.client_link.specs.Callers.{Fails, Hits, Reads, Fetches, Unanswered, FetchFails, NotAsked}
+use Rattle.client_link.specs.Callers.{NoReply, Sends, SendFails}
 use Rattle.script_run.specs.declared.answer.Answer.TheVariants.{Hit, Read, Reply, Refused}
-use Rattle.script_run.specs.Lines.{call_for, entry_for, Between, RefusedSo, RefusedBy}
-use Rattle.script_run.specs.Lines.{PlaysLine}
+use Rattle.script_run.specs.Lines.{call_for, entry_for, Between, RefusedSo, RefusedBy, PlaysLine}
 use Rattle.script_run.specs.Lines.{Unplayed, NoAnswer}
 
 -- ---- logs that grow
@@ -56,10 +53,7 @@ module _ (c : ClientCall) (e : LogEntry) (old k new : Place) where
   two : {r s : ClientReply} {d : ClientCall} {f : LogEntry} (a : Adds c r e old k)
       (b : Adds d s f k new)
       → Between (past_of old) ((f, b.past) ∷ (e, a.past) ∷ []) (past_of new)
-  two {f = f} a b = (
-    here (f ∷ b.past) (past_of new) b.ends,
-    (subst (λ l. IsPrefix l b.past) a.ends b.begins, a.begins),
-  )
+  two {f = f} a b = grind (arith, here)
 
 -- ---- why a call was refused
 
@@ -69,17 +63,11 @@ record WhyNot (c : ClientCall) (r : ClientRefusal) (old new : Place) : Type 0 wh
 
 why_fails : (c : ClientCall) (r : ClientRefusal) (old new : Place) → Fails c r old new
     → WhyNot c r old new
-why_fails c refusal.NotReady old new h = absurd h
-why_fails c refusal.NoMemory old new h = record { grows = h; why = tt }
-why_fails c refusal.Worn old new h = record { grows = h.1.grows; why = h.1.tickets }
-why_fails c r old new h = record { grows = h.1.grows; why = (h.0, h.1.step) }
+why_fails c r old new h = grind arith
 
 why_poll : (n : ℕ) (r : ClientRefusal) (old new : Place) → Refuses (call.Poll n) r old new
     → WhyNot (call.Poll n) r old new
-why_poll n refusal.Worn old new h = record { grows = h.1.grows; why = h.1.tickets }
-why_poll n (refusal.Down w) old new h = record { grows = h.1.grows; why = (h.0, h.1.step) }
-why_poll n (refusal.NoNumber m) old new h = record { grows = h.1.grows; why = (h.0, h.1.step) }
-why_poll n r old new h = absurd h.0
+why_poll n r old new h = grind arith
 
 -- ---- the answers
 
@@ -89,19 +77,7 @@ setup_kept old new ts g = ap setup_in g.setup
 
 hit_line : (q : List (List ℕ)) (f : Fetched) (old new : Place) → Hits q f old new
     → PlaysLine (Ask q) (Hit f.number f.value) old new
-hit_line q f old new h = record {
-  turns = (entry.Ask q, h.asks.past) ∷ [];
-  grows = h.asks.grows;
-  between = one (call.Ask q) (entry.Ask q) old new new h.asks;
-  came = record {
-    past = h.asks.past;
-    turns_are = refl;
-    entry_held = h.entry_held;
-    is_held = h.is_held;
-    value_is = h.value_is;
-    number_is = h.number_is;
-  };
-}
+hit_line q f old new h = grind (arith, one)
 
 read_line : (q : List (List ℕ)) (f : Fetched) (old new : Place) → Reads q f old new
     → PlaysLine (Ask q) (Read f.number f.value) old new
@@ -203,9 +179,6 @@ fetch_refused q r old new (NoReply h) =
 
 pub send_refused : (ws : List (List ℕ)) (r : ClientRefusal) (old new : Place)
     → SendFails ws r old new → PlaysLine (Do ws) (Refused r) old new
-send_refused ws r old new (NotSent h) =
-    done_refused ws r old new (unplayed (Do ws) r old new h)
-send_refused ws r old new (Unreplied h) =
-    done_refused ws r old new (unanswered (Do ws) r old new h)
+send_refused ws r old new e = grind (arith, done_refused, unplayed, unanswered)
 
 pub ruleset line_outcomes = (fetched_hit, fetched_read, sent_line, fetch_refused, send_refused)

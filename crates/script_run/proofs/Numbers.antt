@@ -1,9 +1,9 @@
 -- No caller is told that there is no such number: each number is issued once in a log, and its
 -- caller alone asks for the reply, once.
-use Rattle.std.proofs.Common.{◌≡◌, ◌≤◌, ◌<◌, ◌+◌, ◌-◌, ◌==◌, ◌&&◌, ℕ, suc, List, []}
-use Rattle.std.proofs.Common.{◌∷◌, ◌++◌, Bool, true, false, not, cond, length, Option, Some, None}
-use Rattle.std.proofs.Common.{refl, sym, ap, subst, ◌∙◌, arith, append-nil, append_assoc}
-use Rattle.std.proofs.Common.{length-append, ne_eqb}
+use Rattle.std.proofs.Common.{◌≡◌, ◌≤◌, ◌<◌, ◌+◌, ◌-◌, ◌==◌, ◌&&◌, ℕ, suc, List, [], ◌∷◌, ◌++◌}
+use Rattle.std.proofs.Common.{Bool, true, false, not, cond, length, Option, Some, None, refl, sym}
+use Rattle.std.proofs.Common.{ap, subst, ◌∙◌, arith, append-nil, append_assoc, length-append}
+use Rattle.std.proofs.Common.{ne_eqb}
 use Rattle.std.specs.Prelude.{nat_lt, nat_le}
 use Rattle.std.specs.List.{All, slice_get}
 use Rattle.std.proofs.lemmas.Bool.Decides.{nat_tests}
@@ -21,12 +21,12 @@ use Rattle.shared_cache.specs.declared.log.ClientReply.TheVariants as reply
 use Rattle.shared_cache.specs.declared.log.ClientRefusal.{ClientRefusal}
 use Rattle.shared_cache.specs.declared.log.ClientRefusal.TheVariants as refusal
 use Rattle.shared_cache.specs.declared.entry.CacheEntry.{CacheEntry}
-use Rattle.shared_cache.specs.Log.{caching_on_for, is_ended, reply as reply_of}
-use Rattle.shared_cache.specs.Held.{Setup, Words, SentCommand, Caller, put_ask, put_command}
-use Rattle.shared_cache.specs.Held.{held, held_for, numbers, sent}
+use Rattle.shared_cache.specs.Log.{caching_on_for}
+use Rattle.shared_cache.specs.Held.{Setup, Words, SentCommand, Caller, put_ask, put_command, held}
+use Rattle.shared_cache.specs.Held.{held_for, numbers, sent}
 use Rattle.shared_cache.specs.Out.{is_polled, is_wanted, was_given, is_callers}
-use Rattle.shared_cache.specs.Steps.{client_step, refusing, answer_ask}
-use Rattle.shared_cache.specs.Steps.{read_number, command_number, polling}
+use Rattle.shared_cache.specs.Steps.{client_step, refusing, answer_ask, read_number, command_number}
+use Rattle.shared_cache.specs.Steps.{polling}
 use Rattle.shared_cache.proofs.HeldSteps.{sent_miss}
 use Rattle.shared_client.specs.Turns.{Place, Turn}
 use Rattle.script_text.specs.declared.script_line.ScriptCall.{ScriptCall}
@@ -129,8 +129,7 @@ module _ (s : Setup) where
   issues_one e past number i = grind (arith, length-append, nat_tests)
 
   within_one : (b : Bool) → cond {A = ℕ} b 1 0 ≤ 1
-  within_one true = omega arith
-  within_one false = omega arith
+  within_one b = grind (arith, nat_tests)
 
   not_late : (a n : ℕ) (b : Bool) → n ≤ a → cond {A = ℕ} (nat_lt a n && b) 1 0 ≡ 0
   not_late a n b le = grind arith
@@ -153,21 +152,7 @@ module _ (s : Setup) where
           × (total (issues n) (turns_in log) ≤ 1) → (b : Bool) → nat_lt (numbers s log) n ≡ b
           → (numbers s (e ∷ log) < n → total (issues n) (turns_in (e ∷ log)) ≡ 0)
           × (total (issues n) (turns_in (e ∷ log)) ≤ 1)
-      by_case r true is =
-          let lt : numbers s log < n = grind (arith, nat_tests, is) in
-          let none = r.0 lt in
-          let one = within_one (nat_lt (numbers s log) n && nat_le n (numbers s (e ∷ log))) in (
-            λ late. let z = not_early (nat_lt (numbers s log) n) (numbers s (e ∷ log)) n late in
-                omega (arith, whole, none, z),
-            omega (arith, whole, none, one),
-          )
-      by_case r false is =
-          let le : n ≤ numbers s log = grind (arith, nat_tests, is) in
-          let z = not_late (numbers s log) n (nat_le n (numbers s (e ∷ log))) le in
-          let one = r.1 in (
-            λ late. let g = numbers_grow e log in absurd (omega (arith, le, late, g)),
-            omega (arith, whole, one, z),
-          )
+      by_case r b is = grind (arith, within_one, not_early, whole, not_late, numbers_grow)
 
   -- who was issued a number was given it from then on
   given : (e : LogEntry) (past seen : List LogEntry) (number : ℕ) → Issues e past number
@@ -250,13 +235,12 @@ module _ (s : Setup) where
   came_fair n (Ask q) (Reply v) ts seen t h = absurd h
   came_fair n (Ask q) (Refused r) ts seen t h =
       let z = refused_fair n (Ask q) r ts seen t h in omega (arith, z)
-  came_fair n (Do ws) (Hit m v) ts seen t h = absurd h
-  came_fair n (Do ws) (Read m v) ts seen t h = absurd h
   came_fair n (Do ws) (Reply v) ts seen t h =
       fair_by n ts _ h.turns_are (fair_pair n h.number (entry.Send ws) h.past h.later
       (send_issues ws h.past h.number h.number_is) refl)
   came_fair n (Do ws) (Refused r) ts seen t h =
       let z = refused_fair n (Do ws) r ts seen t h in omega (arith, z)
+  came_fair n (Do ws) a ts seen t h = absurd h
 
   fair_both : (n : ℕ) (ts mine rest : List Turn) → ts ≡ rest ++ mine → Fair n rest → Fair n mine
       → Fair n ts
@@ -268,8 +252,7 @@ module _ (s : Setup) where
       let z : total (polls n) ts ≡ 0 = ap (total (polls n)) (none_came cs h) in omega (arith, z)
     where
       none_came : (ds : List ScriptCall) → AllCame s ds [] ts log t → ts ≡ []
-      none_came [] g = g
-      none_came (d ∷ ds) g = g
+      none_came ds g = grind (arith, nat_tests)
   all_fair n [] (a ∷ rs) ts log t h = absurd h
   all_fair n (c ∷ cs) (a ∷ rs) ts log t h =
       let i = h.3 in
@@ -279,8 +262,7 @@ module _ (s : Setup) where
   pub threads_fair : (n : ℕ) (lines : List ScriptLine) (thread : ℕ) (all : List (List Answer))
       (ts : List Turn) (log : List LogEntry) (t : ℕ) → ThreadsCame s lines thread all ts log t
       → Fair n ts
-  threads_fair n lines thread [] ts log t h =
-      let z : total (polls n) ts ≡ 0 = ap (total (polls n)) h in omega (arith, z)
+  threads_fair n lines thread [] ts log t h = grind arith
   threads_fair n lines thread (rs ∷ all) ts log t h =
       grind (arith, fair_both, all_fair, threads_fair n lines (suc thread) all h.1 log t h.4)
 
@@ -307,8 +289,7 @@ module _ (s : Setup) where
       ≡ record { reply = reply.Refused (refusal.NoNumber m); past = log }
       → is_wanted s log n ≡ false
   unfolding client_step
-  poll_unwanted log n m is =
-      unwanted_in log n m (is_wanted s log n) (is_ended s.mode Main log) (reply_of s.mode log n) is
+  poll_unwanted log n m is = grind (arith, unwanted_in)
 
   unanswered : (c : ScriptCall) (n m : ℕ) (past : List LogEntry) (ts : List Turn)
       (seen : List LogEntry) → Between [] ts seen → ts ≡ (entry_for c, past) ∷ []
@@ -377,16 +358,4 @@ module _ (s : Setup) where
       → ((n : ℕ) → total (polls n) pumped ≡ 0) → ((n : ℕ) → total (polls n) closing ≡ 0)
       → Missed log called → ⊥
   none_missed log called pumped closing all p c m =
-      let n = m.number in
-      let once = (issued_once n log).1 in
-      let issued = all (issues n) in
-      let polled = all (polls n) in
-      let few = m.fewer in
-      let more : total (polls n) (turns_in m.seen) ≤ total (polls n) (turns_in log) =
-      subst (λ l. total (polls n) (turns_in m.seen) ≤ total (polls n) (turns_in l)) m.begins.1
-      (prefix_total (polls n) m.begins.0 m.seen) in
-      let was = was_polled (was_given s m.seen n) (is_polled m.seen n) m.was m.unwanted in
-      let there = polled_there n m.seen was in
-      let no_pump = p n in
-      let no_end = c n in
-      omega (arith, once, issued, polled, few, more, there, no_pump, no_end)
+      grind (arith, issued_once, prefix_total, was_polled, polled_there, nat_tests)

@@ -1,7 +1,7 @@
 -- The answers of the threads in the order of the lines, and what is printed of them.
-use Rattle.std.proofs.Common.{◌≡◌, ◌<◌, ◌+◌, ◌-◌, ℕ, zero, suc, List, [], ◌∷◌, ◌++◌}
-use Rattle.std.proofs.Common.{cond, length, drop, refl, sym, ap, ◌∙◌, arith}
-use Rattle.std.proofs.Common.{append_assoc, append-nil, length-append, slice_index_or, slice_set}
+use Rattle.std.proofs.Common.{◌≡◌, ◌<◌, ◌+◌, ◌-◌, ℕ, zero, suc, List, [], ◌∷◌, ◌++◌, cond, length}
+use Rattle.std.proofs.Common.{drop, refl, sym, ap, ◌∙◌, arith, append_assoc, append-nil}
+use Rattle.std.proofs.Common.{length-append, slice_index_or, slice_set}
 use Rattle.std.proofs.lemmas.List.{drop_more}
 use Rattle.script_text.specs.declared.script_line.ScriptLine.{ScriptLine}
 use Rattle.script_run.specs.declared.answer.Answer.{Answer}
@@ -23,8 +23,7 @@ pub rest_there : (qs : List (List Answer)) (n : ℕ) (q : List Answer)
     → q ≡ slice_index_or qs n q → n < length qs → slice_set qs n (rest_of q) ≡ rest_at n qs
 rest_there [] n q e lt = absurd (omega (arith, lt))
 rest_there (p ∷ qs) zero q e lt = ap (λ x. rest_of x ∷ qs) e
-rest_there (p ∷ qs) (suc n) q e lt =
-    ap (λ x. p ∷ x) (rest_there qs n q e (omega (arith, lt)))
+rest_there (p ∷ qs) (suc n) q e lt = grind (arith, rest_there qs n q e (omega (arith, lt)))
 
 pub rest_length : (n : ℕ) (qs : List (List Answer)) → length (rest_at n qs) ≡ length qs
 rest_length n [] = refl
@@ -58,13 +57,6 @@ pub record Printed (lines : List ScriptLine) (given : List (List Answer)) (place
   pub tally_is : tally ≡ tally_after no_tally first
   pub text_is : text ≡ before ++ text_after no_tally 1 first
 
-pub all_printed : (lines : List ScriptLine) (given threads : List (List Answer)) (t : Tally)
-    (before text : List ℕ) (n : ℕ) → drop n lines ≡ []
-    → Printed lines given n threads t before text
-    → (text ≡ before ++ text_after no_tally 1 (ends_of lines given))
-    × (t ≡ tally_after no_tally (ends_of lines given))
-all_printed lines given threads t before text n none p = grind (arith, append-nil)
-
 module _ (lines : List ScriptLine) (given : List (List Answer)) (n : ℕ) (line : ScriptLine)
     (qs : List (List Answer)) (is : line ≡ slice_index_or lines n line) (lt : n < length lines)
     (t : Tally) (before text : List ℕ) (p : Printed lines given n qs t before text) where
@@ -76,8 +68,7 @@ module _ (lines : List ScriptLine) (given : List (List Answer)) (n : ℕ) (line 
 
   ends_here : ends_of (drop n lines) qs
       ≡ line_end (first_at (line.thread - 1) qs) ∷ more others
-  ends_here = ap (λ l. ends_of l qs)
-      (drop_more lines n line lt ∙ ap (λ x. x ∷ drop (n + 1) lines) (sym is))
+  ends_here = grind (arith, drop_more)
 
   pub line_printed : (e : LineEnd) (u : Tally) (rs : List (List Answer))
       → e ≡ line_end (first_at (line.thread - 1) qs) → u ≡ note_end t e → rs ≡ others

@@ -1,11 +1,11 @@
 -- All turns of a session are those of its callers, of its pump and the last, and where a caller was
 -- told that the link is down the pump had ended it.
-use Rattle.std.proofs.Common.{◌≡◌, ◌≤◌, ◌<◌, ◌+◌, inl, inr, ℕ, suc, List, [], ◌∷◌, ◌++◌}
-use Rattle.std.proofs.Common.{Bool, true, false, cond, length, refl, ap, subst, ◌∙◌, arith}
+use Rattle.std.proofs.Common.{◌≡◌, ◌≤◌, ◌<◌, ◌+◌, inl, inr, ℕ, suc, List, [], ◌∷◌, ◌++◌, Bool, true}
+use Rattle.std.proofs.Common.{false, cond, length, refl, ap, subst, ◌∙◌, arith}
 use Rattle.std.specs.Prelude.{Option, nat_lt, ◌&&◌, ◌==◌, ◌⊎◌, not}
 use Rattle.std.specs.List.{All}
 use Rattle.std.proofs.lemmas.Bool.Decides.{nat_tests}
-use Rattle.std.proofs.lemmas.List.Elements.{All-cons, All-head, All-nil, All-tail}
+use Rattle.std.proofs.lemmas.List.Elements.{All-head, All-nil, All-tail}
 use Rattle.turn_lock.specs.Counts.{times, total}
 use Rattle.turn_lock.specs.History.{entries, IsPrefix, Legal}
 use Rattle.seat_turns.specs.Own.{with_pasts, past_of, turns_of}
@@ -24,10 +24,8 @@ use Rattle.resp_value.specs.declared.value.Value.{Value}
 use Rattle.command_words.specs.Control.{is_control}
 use Rattle.shared_cache.specs.Held.{Setup}
 use Rattle.shared_cache.specs.Laws.{LegalLog}
-use Rattle.shared_cache.specs.Log.{is_ended, is_wire, reply as reply_of}
-use Rattle.shared_cache.specs.Out.{is_wanted}
-use Rattle.shared_cache.specs.Steps.{ClientTurn, client_step, refusing}
-use Rattle.shared_cache.specs.Steps.{polling}
+use Rattle.shared_cache.specs.Log.{is_ended, is_wire}
+use Rattle.shared_cache.specs.Steps.{ClientTurn, client_step, refusing, polling}
 use Rattle.shared_client.specs.declared.logged.ClientSetup.{ClientSetup}
 use Rattle.shared_client.specs.Setups.{TurnStep, setup_of}
 use Rattle.shared_client.specs.Turns.{Place, Turn, setup_at}
@@ -39,15 +37,14 @@ use Rattle.client_link.specs.declared.pump_end.PumpEnd.{PumpEnd}
 use Rattle.client_link.specs.Pumps.{IsWork, Finishes}
 use Rattle.script_run.specs.declared.answer.Answer.{Answer}
 use Rattle.script_run.specs.declared.answer.Answer.TheVariants.{Refused}
-use Rattle.script_run.specs.Lines.{call_for, Between, RefusedBy, Unplayed, NoAnswer, Came}
-use Rattle.script_run.specs.Lines.{AllCame, ThreadsCame, calls_of}
+use Rattle.script_run.specs.Lines.{call_for, Between, RefusedBy, Unplayed, NoAnswer, Came, AllCame}
+use Rattle.script_run.specs.Lines.{ThreadsCame, calls_of}
 use Rattle.script_run.specs.Session.{turns_in, IsDown, AnyDown, HasDown, EndsLink, PumpedBy}
 use Rattle.script_run.specs.Session.{ClosedBy}
-use Rattle.script_run.proofs.Totals.{prefix_length, prefix_total, two_none}
-use Rattle.script_run.proofs.Totals.{works_none}
-use Rattle.script_run.proofs.Numbers.{polls, pump_polls, closing_polls, all_fair}
-use Rattle.script_run.proofs.Numbers.{came_fair, threads_fair, Missed, refused_missed}
-use Rattle.script_run.proofs.Numbers.{missed_first, missed_last, none_missed}
+use Rattle.script_run.proofs.Totals.{prefix_length, prefix_total, two_none, works_none}
+use Rattle.script_run.proofs.Numbers.{polls, pump_polls, closing_polls, all_fair, came_fair}
+use Rattle.script_run.proofs.Numbers.{threads_fair, Missed, refused_missed, missed_first}
+use Rattle.script_run.proofs.Numbers.{missed_last, none_missed}
 
 -- ---- each turn once
 
@@ -108,11 +105,10 @@ module _ (n : ℕ) where
 
   all_none : (s : Setup) (cs : List ScriptCall) (rs : List Answer) (ts : List Turn)
       (log : List LogEntry) (t : ℕ) → AllCame s cs rs ts log t → total f ts ≡ 0
-  all_none s [] [] ts log t h = ap (total f) h
-  all_none s (c ∷ cs) [] ts log t h = ap (total f) h
   all_none s [] (a ∷ rs) ts log t h = absurd h
   all_none s (c ∷ cs) (a ∷ rs) ts log t h =
       grind (arith, two_none, came_none, all_none s cs rs h.1 log t h.4)
+  all_none s cs [] ts log t h = ap (total f) h
 
   threads_none : (s : Setup) (lines : List ScriptLine) (thread : ℕ) (all : List (List Answer))
       (ts : List Turn) (log : List LogEntry) (t : ℕ) → ThreadsCame s lines thread all ts log t
@@ -123,8 +119,7 @@ module _ (n : ℕ) where
 
   -- nor an earlier one the last
   not_early : (b : Bool) (m : ℕ) → n ≤ m → cond {A = ℕ} (b && nat_lt m n) 1 0 ≡ 0
-  not_early true m le = grind (arith, nat_tests, le)
-  not_early false m le = refl
+  not_early b m le = grind (arith, nat_tests)
 
   closing_none : (s : Setup) (ts : List Turn) (seen log : List LogEntry) (t : ℕ)
       → n ≤ length seen → ClosedBy s ts seen log t → total f ts ≡ 0
@@ -163,8 +158,7 @@ poll_down : (s : Setup) (log : List LogEntry) (w : Wire) (n : ℕ)
     → Answered (client_step s log (call.Poll n)) (refusal.Down w) log
     → is_ended s.mode Main log ≡ true
 unfolding client_step
-poll_down s log w n is =
-    poll_down_in log w (is_wanted s log n) (is_ended s.mode Main log) (reply_of s.mode log n) n is
+poll_down s log w n is = grind (arith, poll_down_in)
 
 refused_down : (s : Setup) (c : ScriptCall) (w : Wire) (ts : List Turn) (seen : List LogEntry)
     (t : ℕ) → RefusedBy s c (refusal.Down w) ts seen t → is_ended s.mode Main seen ≡ true
@@ -233,9 +227,7 @@ valid_calls thread (line ∷ lines) ok =
   where
     by_case : (b : Bool) → All IsValidCall (calls_of thread lines)
         → All IsValidCall (cond b (line.call ∷ calls_of thread lines) (calls_of thread lines))
-    by_case true rest = All-cons IsValidCall line.call (calls_of thread lines)
-        (All-head IsValidLine line lines ok).2 rest
-    by_case false rest = rest
+    by_case b rest = grind (arith, nat_tests)
 
 threads_down : (s : Setup) (lines : List ScriptLine) → All IsValidLine lines → (thread : ℕ)
     (all : List (List Answer)) (ts : List Turn) (log : List LogEntry) (t : ℕ)
@@ -296,7 +288,4 @@ module _ (s : Setup) (lines : List ScriptLine) (answers : List (List Answer)) (e
       (missed_last s seen log called called [] refl begins (λ n. omega arith) m)
 
   pub down_ends : All IsValidLine lines → HasDown answers → EndsLink end
-  down_ends ok d = elim (threads_down s lines ok 1 answers called seen t came d) [
-    | inl saw ↦ saw_ends saw
-    | inr m ↦ absurd (none_missing m)
-  ]
+  down_ends ok d = grind (arith, threads_down, saw_ends, none_missing, nat_tests)

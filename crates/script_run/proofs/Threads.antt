@@ -1,15 +1,14 @@
 -- The lines of a thread one after another, and the threads of a script.
 use Rattle.std.proofs.Common.{◌≡◌, ◌≤◌, ◌+◌, ◌-◌, ◌<◌, ◌==◌, ℕ, suc, List, [], ◌∷◌, ◌++◌, Bool}
-use Rattle.std.proofs.Common.{true, false, cond, length, refl, sym, ap, subst, ◌∙◌, arith}
-use Rattle.std.proofs.Common.{append-nil, append_assoc, length-append, take, drop, slice_index_or}
-use Rattle.std.proofs.Common.{eq-eqb, ne_eqb}
+use Rattle.std.proofs.Common.{cond, length, refl, sym, ap, subst, ◌∙◌, arith, append-nil}
+use Rattle.std.proofs.Common.{append_assoc, length-append, take, drop, slice_index_or, eq-eqb}
+use Rattle.std.proofs.Common.{ne_eqb}
 use Rattle.std.proofs.lemmas.List.{take_more, take-append-drop}
 use Rattle.std.specs.Prelude.{max}
 use Rattle.std.proofs.Math.Nat.{le-max_left, le-max_right}
-use Rattle.turn_lock.specs.Counts.{times}
 use Rattle.turn_lock.specs.History.{IsPrefix}
 use Rattle.turn_lock.specs.Seats.{Known, split_seat, joined_seat}
-use Rattle.seat_turns.specs.Own.{own_list, with_pasts, past_of, turns_of, IsWithin, Within, Grows}
+use Rattle.seat_turns.specs.Own.{own_list, with_pasts, past_of, turns_of, IsWithin, Grows}
 use Rattle.seat_turns.proofs.Growing.{grows_then, grows_past}
 use Rattle.seat_turns.proofs.Owning.{own_joined, pasts_begins, pasts_within, within_append}
 use Rattle.seat_turns.proofs.Owning.{within_begins}
@@ -54,8 +53,7 @@ calls_append thread (x ∷ xs) ys = by_case (x.thread == thread) (calls_append t
     by_case : (b : Bool) → calls_of thread (xs ++ ys) ≡ calls_of thread xs ++ calls_of thread ys
         → cond b (x.call ∷ calls_of thread (xs ++ ys)) (calls_of thread (xs ++ ys))
         ≡ cond b (x.call ∷ calls_of thread xs) (calls_of thread xs) ++ calls_of thread ys
-    by_case true same = ap (λ cs. x.call ∷ cs) same
-    by_case false same = same
+    by_case b same = grind arith
 
 module _ (s : Setup) where
   in_more : (c : ScriptCall) (a : Answer) (ts : List Turn) (log more : List LogEntry) (t u : ℕ)
@@ -72,28 +70,24 @@ module _ (s : Setup) where
   pub all_grow : (cs : List ScriptCall) (rs : List Answer) (ts : List Turn)
       (log more : List LogEntry) (t u : ℕ) → AllCame s cs rs ts log t → IsPrefix log more → t ≤ u
       → AllCame s cs rs ts more u
-  all_grow [] [] ts log more t u h p le = h
-  all_grow (c ∷ cs) [] ts log more t u h p le = h
   all_grow [] (a ∷ rs) ts log more t u h p le = absurd h
   all_grow (c ∷ cs) (a ∷ rs) ts log more t u h p le =
       grind (arith, in_more, all_grow cs rs h.1 log more t u h.4 p le)
+  all_grow cs [] ts log more t u h p le = h
 
   -- calls behind them may be left
   all_left : (cs more : List ScriptCall) (rs : List Answer) (ts : List Turn)
       (log : List LogEntry) (t : ℕ) → AllCame s cs rs ts log t → AllCame s (cs ++ more) rs ts log t
-  all_left [] [] [] ts log t h = h
-  all_left [] (m ∷ more) [] ts log t h = h
   all_left [] more (a ∷ rs) ts log t h = absurd h
   all_left (c ∷ cs) more [] ts log t h = h
-  all_left (c ∷ cs) more (a ∷ rs) ts log t h =
-      (h.0, h.1, h.2, h.3, all_left cs more rs h.1 log t h.4)
+  all_left (c ∷ cs) more (a ∷ rs) ts log t h = grind (arith, all_left cs more rs h.1 log t h.4)
+  all_left [] more [] ts log t h = h
 
   all_then : (cs : List ScriptCall) (rs : List Answer) (ts : List Turn) (log : List LogEntry)
       (t : ℕ) (c : ScriptCall) (a : Answer) (mine : List Turn) → AllCame s cs rs ts log t
       → length rs ≡ length cs → CameIn s c a mine log t
       → AllCame s (cs ++ c ∷ []) (rs ++ a ∷ []) (mine ++ ts) log t
-  all_then [] [] ts log t c a mine h e i =
-      (mine, [], ap (λ z. mine ++ z) h ∙ append-nil mine, i, refl)
+  all_then [] [] ts log t c a mine h e i = grind (arith, append-nil)
   all_then (c' ∷ cs) [] ts log t c a mine h e i = absurd (omega (arith, e))
   all_then [] (a' ∷ rs) ts log t c a mine h e i = absurd h
   all_then (c' ∷ cs) (a' ∷ rs) ts log t c a mine h e i =
@@ -154,8 +148,7 @@ module _ (thread : ℕ) (lines : List ScriptLine) (i : ℕ) (line : ScriptLine)
 
   mine_calls : line.thread ≡ thread
       → calls_of thread (take (i + 1) lines) ≡ so_far ++ line.call ∷ []
-  mine_calls e =
-      next_calls ∙ ap (λ b. so_far ++ cond b (line.call ∷ []) []) (eq-eqb line.thread thread e)
+  mine_calls e = grind (arith, next_calls, eq-eqb)
 
   pub line_passed : (rs : List Answer) (old k : Place) → (line.thread ≡ thread → ⊥)
       → PlaysThread so_far rs old k → length rs ≡ length so_far
@@ -226,12 +219,11 @@ module _ (s : Setup) (lines : List ScriptLine) where
       → ThreadCame s (calls_of last lines) rs mine log t
       → ThreadsCame s lines thread (all ++ rs ∷ []) (mine ++ ts) log t
   threads_then thread [] ts log t rs mine last e h m = grind (arith, append-nil)
-  threads_then thread (bs ∷ all) ts log t rs mine last e h m =
-      grind (
-        arith,
-        append_assoc,
-        threads_then (suc thread) all h.1 log t rs mine last (omega (arith, e)) h.4 m,
-      )
+  threads_then thread (bs ∷ all) ts log t rs mine last e h m = grind (
+    arith,
+    append_assoc,
+    threads_then (suc thread) all h.1 log t rs mine last (omega (arith, e)) h.4 m,
+  )
 
 pub no_thread : (lines : List ScriptLine) (all : List (List Answer)) (k : Place) → IsWithin k
     → all ≡ [] → PlaysThreads lines 0 all k k
@@ -248,14 +240,12 @@ module _ {U E : Type 0} where
   pub split_within : (k other : Known U E) (n parts : ℕ) → other ≡ split_seat k n parts
       → IsWithin other
   unfolding IsWithin
-  split_within k other n parts is p le =
-      ap (λ (z : Known U E). times p z.own) is
+  split_within k other n parts is p le = grind arith
 
   pub kept_within : (k l : Known U E) (parts : ℕ) → l ≡ record k { parts = parts } → IsWithin k
       → IsWithin l
   unfolding IsWithin
-  kept_within k l parts is w =
-      subst (λ (z : Known U E). Within z.seen z.own) (sym is) w
+  kept_within k l parts is w = grind arith
 
   pub kept_turns : (k l : Known U E) (parts : ℕ) → l ≡ record k { parts = parts }
       → turns_of l ≡ turns_of k
@@ -267,7 +257,7 @@ module _ {U E : Type 0} where
       → IsPrefix b.seen j.seen → IsWithin a → IsWithin b
       → (turns_of j ≡ turns_of a ++ turns_of b) × IsWithin j
   unfolding turns_of IsWithin
-  joined a b j is x y u v =
+  joined a b j is e y u v =
       grind (arith, own_joined, pasts_begins, pasts_within, within_append, within_begins)
 
 -- One more thread took its turns beside the others. `k` was split into `ours` and `mine`; these

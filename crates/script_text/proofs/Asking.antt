@@ -1,8 +1,8 @@
 -- The name of a query in another case makes the same query, and a line as long as its line.
-use Rattle.std.proofs.Common.{◌≡◌, ◌<◌, ◌≤◌, ◌+◌, ℕ, List, [], ◌∷◌, ◌++◌, true, false, suc}
-use Rattle.std.proofs.Common.{refl, sym, ap, ◌∙◌, subst, arith, length, map, codes}
+use Rattle.std.proofs.Common.{◌≡◌, ◌<◌, ◌≤◌, ℕ, List, [], ◌∷◌, ◌++◌, true, false, suc, refl, ap}
+use Rattle.std.proofs.Common.{◌∙◌, arith, length, codes}
 use Rattle.std.specs.declared.option.Option.{Option}
-use Rattle.std.specs.declared.option.Option.TheVariants.{None, Some}
+use Rattle.std.specs.declared.option.Option.TheVariants.{Some}
 use Rattle.std.specs.Char.{to_ascii_uppercase}
 use Rattle.std.specs.List.{list_all, join_with_byte}
 use Rattle.std.specs.Option.{option_map_or}
@@ -33,8 +33,7 @@ upper_of_upper (b ∷ name) = λ i. uppercase-uppercase b i ∷ upper_of_upper n
 pub query_again : (words : List (List ℕ)) → reads_as_cacheable (reading words) ≡ true
     → query_of (with_upper_name words) ≡ Some (with_upper_name words)
 unfolding reading
-query_again [] h = cc
-query_again (name ∷ words) h = rw (lower_of_upper name, h, upper_of_upper name) refl
+query_again words h = grind (arith, lower_of_upper, upper_of_upper, nat_tests)
 
 pub named_in_upper : (words query : List (List ℕ)) → query_of words ≡ Some query
     → with_upper_name words ≡ query
@@ -42,9 +41,7 @@ named_in_upper words query h = (cond_some _ _ _ h).1
 
 query_stands : (words query : List (List ℕ)) → query_of words ≡ Some query
     → query_of query ≡ Some query
-query_stands words query h =
-    let read = cond_some _ _ _ h in
-    subst (λ q. query_of q ≡ Some q) read.1 (query_again words read.0)
+query_stands words query h = grind (arith, cond_some, query_again, nat_tests)
 
 same_as_itself : (words : List (List ℕ)) → same_query words words ≡ true
 same_as_itself words = (slice_eq-Decides bytes_eq-Decides words words _ refl).1 refl
@@ -57,9 +54,7 @@ is_query-read words query h =
 
 where_same : (o : Option (List (List ℕ))) (words : List (List ℕ))
     → option_map_or (same_query words) o false ≡ true → o ≡ Some words
-where_same (Some query) words h =
-    ap Some (sym ((slice_eq-Decides bytes_eq-Decides words query _ refl).0 h))
-where_same None words h = cc
+where_same o words h = grind (arith, slice_eq-Decides, bytes_eq-Decides, nat_tests)
 
 pub query_of-is_query : (query : List (List ℕ)) → is_query query ≡ true
     → query_of query ≡ Some query
@@ -79,15 +74,11 @@ upper_bytes (b ∷ name) h =
 
 with_upper-bytes : (words : List (List ℕ)) → list_all are_bytes words ≡ true
     → list_all are_bytes (with_upper_name words) ≡ true
-with_upper-bytes [] h = refl
-with_upper-bytes (name ∷ words) h =
-    both _ _ (upper_bytes name (both_true _ _ h).0) (both_true _ _ h).1
+with_upper-bytes words h = grind (arith, both, upper_bytes, both_true, nat_tests)
 
 pub query_bytes : (words query : List (List ℕ)) → query_of words ≡ Some query
     → list_all are_bytes words ≡ true → list_all are_bytes query ≡ true
-query_bytes words query h b =
-    subst (λ q. list_all are_bytes q ≡ true) (named_in_upper words query h)
-    (with_upper-bytes words b)
+query_bytes words query h b = grind (arith, named_in_upper, with_upper-bytes, nat_tests)
 
 -- ---- as long
 upper_byte-length : (b : ℕ) → length (printed_byte (to_ascii_uppercase b))
@@ -99,16 +90,11 @@ upper_bytes-length : (name : List ℕ) → length (printed_bytes (str_to_ascii_u
 unfolding printed_bytes
 upper_bytes-length [] = refl
 upper_bytes-length (b ∷ name) =
-    length-append (printed_byte (to_ascii_uppercase b))
-    (printed_bytes (str_to_ascii_uppercase name))
-    ∙ ap (λ n. n + length (printed_bytes (str_to_ascii_uppercase name))) (upper_byte-length b)
-    ∙ ap (λ n. length (printed_byte b) + n) (upper_bytes-length name)
-    ∙ sym (length-append (printed_byte b) (printed_bytes name))
+    grind (arith, length-append, upper_byte-length, upper_bytes-length name)
 
 upper-length : (name : List ℕ) → length (printed (str_to_ascii_uppercase name))
     ≡ length (printed name)
-upper-length [] = refl
-upper-length (b ∷ name) = upper_bytes-length (b ∷ name)
+upper-length name = grind (arith, upper_bytes-length, nat_tests)
 
 behind-length : (front more others : List ℕ) → length more ≡ length others
     → length (front ++ more) ≡ length (front ++ others)
@@ -117,28 +103,15 @@ behind-length (b ∷ front) more others h = ap suc (behind-length front more oth
 
 first-length : (part other : List ℕ) (parts : List (List ℕ)) → length part ≡ length other
     → length (join_with_byte 32 (part ∷ parts)) ≡ length (join_with_byte 32 (other ∷ parts))
-first-length part other [] h = h
-first-length part other (next ∷ parts) h =
-    let rest = join_with_byte 32 (next ∷ parts) in
-    length-append part (32 ∷ rest) ∙ ap (λ n. n + length (32 ∷ rest)) h
-    ∙ sym (length-append other (32 ∷ rest))
+first-length part other parts h = grind (arith, length-append, nat_tests)
 
 asking-length : (client : List ℕ) (words : List (List ℕ))
     → length (join_with_byte 32 (asking client (with_upper_name words)))
     ≡ length (join_with_byte 32 (asking client words))
-asking-length client [] = refl
-asking-length client (name ∷ words) =
-    let upper = join_with_byte 32 (printed (str_to_ascii_uppercase name) ∷ map printed words) in
-    let lower = join_with_byte 32 (printed name ∷ map printed words) in
-    let same : length upper ≡ length lower =
-    first-length (printed (str_to_ascii_uppercase name)) (printed name) (map printed words)
-    (upper-length name) in
-    behind-length (codes "ask") (32 ∷ client ++ 32 ∷ upper) (32 ∷ client ++ 32 ∷ lower)
-    (ap suc (behind-length client (32 ∷ upper) (32 ∷ lower) (ap suc same)))
+asking-length client words =
+    grind (arith, first-length, upper-length, behind-length, codes, nat_tests)
 
 pub query-length : (client : List ℕ) (words query : List (List ℕ)) → query_of words ≡ Some query
     → length (join_with_byte 32 (asking client query))
     ≡ length (join_with_byte 32 (asking client words))
-query-length client words query h =
-    ap (λ q. length (join_with_byte 32 (asking client q))) (sym (named_in_upper words query h))
-    ∙ asking-length client words
+query-length client words query h = grind (arith, named_in_upper, asking-length, nat_tests)

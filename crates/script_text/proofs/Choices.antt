@@ -1,12 +1,12 @@
 -- What a word that was read tells: it is the one of the words tried that gives what was read.
-use Rattle.std.proofs.Common.{◌≡◌, ℕ, List, Bool, true, false, cond, refl, sym, subst}
+use Rattle.std.proofs.Common.{◌≡◌, ℕ, List, Bool, true, cond, sym, subst, arith}
 use Rattle.std.specs.declared.option.Option.{Option}
 use Rattle.std.specs.declared.option.Option.TheVariants.{None, Some}
 use Rattle.std.specs.Str.{bytes_eq}
 use Rattle.std.proofs.lemmas.Slice.Eq.{bytes_eq-Decides}
 
 pub none_is_some : {A : Type 0} (R : Type 0) (x : A) → None ≡ Some x → R
-none_is_some R x h = cc
+none_is_some R e h = cc
 
 pub same_text : (text word : List ℕ) → bytes_eq text word ≡ true → word ≡ text
 same_text text word h = sym ((bytes_eq-Decides text word).0 h)
@@ -14,8 +14,7 @@ same_text text word h = sym ((bytes_eq-Decides text word).0 h)
 -- a test decides, or what follows it
 pub by_test : {A : Type 0} (R : Type 0) (x : A) (t : Bool) (o p : Option A)
     → (t ≡ true → o ≡ Some x → R) → (p ≡ Some x → R) → cond t o p ≡ Some x → R
-by_test R x true o p f g h = f refl h
-by_test R x false o p f g h = g h
+by_test R e t o p f g h = grind arith
 
 pub is_that : {A : Type 0} (P : A → Type 0) (x y : A) → Some x ≡ Some y → P x → P y
 is_that P x y h p = let same : x ≡ y = cc in subst P same p
@@ -24,16 +23,12 @@ is_that P x y h p = let same : x ≡ y = cc in subst P same p
 pub by_word : {A : Type 0} (P : A → Type 0) (word text : List ℕ) (x y : A) (other : Option A)
     → (word ≡ text → P x) → (other ≡ Some y → P y) → cond (bytes_eq text word) (Some x) other
     ≡ Some y → P y
-by_word P word text x y other f g h =
-    by_test (P y) y (bytes_eq text word) (Some x) other
-    (λ t e. is_that P x y e (f (same_text text word t))) g h
+by_word P word text e y other f g h = grind (arith, by_test, is_that, same_text)
 
 pub named : {A : Type 0} (t : Bool) (o : Option A) (x : A) → t ≡ true → o ≡ Some x
     → cond t o None ≡ Some x
-named true o x h k = k
-named false o x h k = cc
+named t o e h k = grind arith
 
 pub when : {A : Type 0} (t : Bool) (o : Option A) (x : A) → cond t o None ≡ Some x
     → (t ≡ true) × (o ≡ Some x)
-when true o x h = (refl, h)
-when false o x h = cc
+when t o e h = grind arith

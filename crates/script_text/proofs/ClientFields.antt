@@ -1,9 +1,8 @@
 -- How a client is set up comes back from the parts of its line, and its parts from that.
-use Rattle.std.proofs.Common.{◌≡◌, ℕ, List, [], ◌∷◌, ◌++◌, Bool, true, false, cond, refl}
-use Rattle.std.proofs.Common.{sym, ap, ◌∙◌, subst, codes, arith}
+use Rattle.std.proofs.Common.{◌≡◌, ℕ, List, [], ◌∷◌, ◌++◌, Bool, true, false, cond, refl, sym, ap}
+use Rattle.std.proofs.Common.{◌∙◌, subst, codes, arith}
 use Rattle.std.specs.declared.option.Option.{Option}
 use Rattle.std.specs.declared.option.Option.TheVariants.{None, Some}
-use Rattle.std.specs.Fmt.{decimal}
 use Rattle.std.specs.List.{list_all}
 use Rattle.std.specs.Option.{option_and_then}
 use Rattle.std.specs.Str.{bytes_eq}
@@ -19,9 +18,8 @@ use Rattle.script_text.specs.Words.{word_of, first_and_rest, is_within, number_w
 use Rattle.script_text.specs.Clients.{shape_of, proto_of, may_speak, has_noloop, after_noloop}
 use Rattle.script_text.specs.Clients.{prefixes_of, caching_of, most_keys, mode_of, with_keys}
 use Rattle.script_text.specs.Clients.{client_from, client_of}
-use Rattle.script_text.specs.Grammar.{are_bytes, shape_text, proto_text, caching_text}
-use Rattle.script_text.specs.Grammar.{noloop_parts, prefixes_in, prefix_parts, client_parts}
-use Rattle.script_text.specs.Grammar.{is_mode}
+use Rattle.script_text.specs.Grammar.{are_bytes, shape_text, proto_text, caching_text, noloop_parts}
+use Rattle.script_text.specs.Grammar.{prefixes_in, prefix_parts, client_parts, is_mode}
 use Rattle.script_text.proofs.Numbers.{both_true, both, number_within-decimal}
 use Rattle.script_text.proofs.Numbers.{decimal-number_within, small_within}
 use Rattle.script_text.proofs.Choices.{none_is_some, same_text, by_word, named, when}
@@ -31,20 +29,14 @@ use Rattle.script_text.proofs.Fields.{word-bytes, split_words}
 
 -- ---- from the mode to its parts
 shape_there : (shape : Shape) → shape_of (shape_text shape) ≡ Some shape
-shape_there Single = refl
-shape_there Pair = refl
+shape_there shape = grind arith
 
 proto_there : (proto : Proto) → proto_of (proto_text proto) ≡ Some proto
-proto_there Two = refl
-proto_there Three = refl
+proto_there proto = grind arith
 
 caching_there : (caching : Caching) → caching_of (caching_text caching) (prefixes_in caching)
     ≡ Some caching
-caching_there Default = refl
-caching_there OptIn = refl
-caching_there OptOut = refl
-caching_there (Bcast []) = refl
-caching_there (Bcast (prefix ∷ prefixes)) = refl
+caching_there caching = grind arith
 
 prefixes_there : (prefixes : List (List ℕ)) → list_all are_bytes prefixes ≡ true
     → prefixes_of (prefix_parts prefixes) ≡ Some prefixes
@@ -73,47 +65,29 @@ mode_there mode h = named _ _ mode h refl
 pub client_there : (mode : ClientMode) (keys : ℕ) → is_mode mode ≡ true
     → is_within 1 most_keys keys ≡ true → client_of (client_parts mode keys) ≡ Some (mode, keys)
 unfolding client_from
-client_there mode keys m k =
-    let prefixes = prefixes_in mode.caching in
-    let options = noloop_parts mode.noloop ++ prefix_parts prefixes in
-    let read : prefixes_of (after_noloop options) ≡ Some prefixes =
-    ap prefixes_of (after_there mode.noloop prefixes)
-    ∙ prefixes_there prefixes (both_true _ _ m).1 in
-    let cached : option_and_then (caching_of (caching_text mode.caching))
-    (prefixes_of (after_noloop options)) ≡ Some mode.caching =
-    ap (option_and_then (caching_of (caching_text mode.caching))) read
-    ∙ caching_there mode.caching in
-    let made : mode_of (shape_of (shape_text mode.shape)) (proto_of (proto_text mode.proto))
-    (option_and_then (caching_of (caching_text mode.caching)) (prefixes_of (after_noloop options)))
-    (has_noloop options) ≡ Some mode =
-    ap (λ o. mode_of o (proto_of (proto_text mode.proto))
-    (option_and_then (caching_of (caching_text mode.caching)) (prefixes_of (after_noloop options)))
-    (has_noloop options)) (shape_there mode.shape)
-    ∙ ap (λ o. mode_of (Some mode.shape) o
-    (option_and_then (caching_of (caching_text mode.caching)) (prefixes_of (after_noloop options)))
-    (has_noloop options)) (proto_there mode.proto)
-    ∙ ap (λ o. mode_of (Some mode.shape) (Some mode.proto) o (has_noloop options)) cached
-    ∙ ap (mode_of (Some mode.shape) (Some mode.proto) (Some mode.caching))
-    (noloop_there mode.noloop prefixes)
-    ∙ mode_there mode (both_true _ _ m).0 in
-    ap (λ o. with_keys o (number_within 1 most_keys (decimal keys))) made
-    ∙ ap (with_keys (Some mode)) (number_within-decimal 1 most_keys keys (decimal keys) k
-    (small_within 1 most_keys keys (omega arith) k) refl)
+client_there mode keys m k = grind (
+  arith,
+  after_there,
+  prefixes_there,
+  both_true,
+  caching_there,
+  shape_there,
+  proto_there,
+  noloop_there,
+  mode_there,
+  number_within-decimal,
+  small_within,
+)
 
 -- ---- no part holds a blank
 shape-unbroken : (shape : Shape) → is_unbroken (shape_text shape) ≡ true
-shape-unbroken Single = refl
-shape-unbroken Pair = refl
+shape-unbroken shape = grind arith
 
 proto-unbroken : (proto : Proto) → is_unbroken (proto_text proto) ≡ true
-proto-unbroken Two = refl
-proto-unbroken Three = refl
+proto-unbroken proto = grind arith
 
 caching-unbroken : (caching : Caching) → is_unbroken (caching_text caching) ≡ true
-caching-unbroken Default = refl
-caching-unbroken OptIn = refl
-caching-unbroken OptOut = refl
-caching-unbroken (Bcast prefixes) = refl
+caching-unbroken caching = grind arith
 
 prefixes-unbroken : (prefixes : List (List ℕ))
     → list_all is_unbroken (prefix_parts prefixes) ≡ true
@@ -123,8 +97,7 @@ prefixes-unbroken (prefix ∷ prefixes) =
 
 options-unbroken : (noloop : Bool) (prefixes : List (List ℕ))
     → list_all is_unbroken (noloop_parts noloop ++ prefix_parts prefixes) ≡ true
-options-unbroken true prefixes = prefixes-unbroken prefixes
-options-unbroken false prefixes = prefixes-unbroken prefixes
+options-unbroken noloop prefixes = grind (arith, prefixes-unbroken)
 
 pub client-unbroken : (mode : ClientMode) (keys : ℕ) → is_within 1 most_keys keys ≡ true
     → list_all is_unbroken (client_parts mode keys) ≡ true
@@ -191,25 +164,19 @@ prefixes_back (word ∷ text ∷ texts) prefixes h b =
 
 noloop_kept : (t : Bool) (word : List ℕ) (rest : List (List ℕ)) → (t ≡ true → codes "noloop" ≡ word)
     → noloop_parts t ++ cond t rest (word ∷ rest) ≡ word ∷ rest
-noloop_kept true word rest f = ap (λ w. w ∷ rest) (f refl)
-noloop_kept false word rest f = refl
+noloop_kept t word rest f = grind arith
 
 noloop_back : (options : List (List ℕ)) → noloop_parts (has_noloop options)
     ++ after_noloop options ≡ options
-noloop_back [] = refl
-noloop_back (word ∷ rest) =
-    noloop_kept (bytes_eq word (codes "noloop")) word rest (same_text word (codes "noloop"))
+noloop_back options = grind (arith, noloop_kept, codes, same_text)
 
 either_bytes : (t : Bool) (xs ys : List (List ℕ)) → list_all are_bytes xs ≡ true
     → list_all are_bytes ys ≡ true → list_all are_bytes (cond t xs ys) ≡ true
-either_bytes true xs ys h k = h
-either_bytes false xs ys h k = k
+either_bytes t xs ys h k = grind arith
 
 after_bytes : (options : List (List ℕ)) → list_all are_bytes options ≡ true
     → list_all are_bytes (after_noloop options) ≡ true
-after_bytes [] h = refl
-after_bytes (word ∷ rest) h =
-    either_bytes (bytes_eq word (codes "noloop")) rest (word ∷ rest) (both_true _ _ h).1 h
+after_bytes options h = grind (arith, either_bytes, codes, both_true)
 
 record ModeComesFrom (shape : Option Shape) (proto : Option Proto) (caching : Option Caching)
     (noloop : Bool) (mode : ClientMode) : Type 0 where
@@ -222,34 +189,15 @@ record ModeComesFrom (shape : Option Shape) (proto : Option Proto) (caching : Op
 mode_back : (shape : Option Shape) (proto : Option Proto) (caching : Option Caching) (noloop : Bool)
     (mode : ClientMode) → mode_of shape proto caching noloop ≡ Some mode
     → ModeComesFrom shape proto caching noloop mode
-mode_back (Some shape) (Some proto) (Some caching) noloop mode h =
-    let made : ClientMode =
-    record { shape = shape; proto = proto; caching = caching; noloop = noloop } in
-    let read = when (may_speak shape proto) (Some made) mode h in
-    let same : made ≡ mode = cc in
-    subst (λ m. ModeComesFrom (Some shape) (Some proto) (Some caching) noloop m) same (record {
-      shape_read = refl;
-      proto_read = refl;
-      caching_read = refl;
-      noloop_read = refl;
-      speaks = read.0;
-    })
-mode_back (Some shape) (Some proto) None noloop mode h = cc
-mode_back (Some shape) None caching noloop mode h = cc
-mode_back None proto caching noloop mode h = cc
+mode_back shape proto caching noloop mode h = grind (arith, when)
 
 keys_back : (mode : Option ClientMode) (keys : Option ℕ) (made : ClientMode × ℕ)
     → with_keys mode keys ≡ Some made → (mode ≡ Some made.0) × (keys ≡ Some made.1)
-keys_back (Some mode) (Some keys) made h =
-    let same : ◌≡◌ {A = ClientMode × ℕ} (mode, keys) made = cc in
-    (ap (λ m. Some m.0) same, ap (λ m. Some m.1) same)
-keys_back (Some mode) None made h = cc
-keys_back None keys made h = cc
+keys_back mode keys made h = grind arith
 
 pub there_then : {A B : Type 0} (f : A → Option B) (o : Option A) (y : B)
     → option_and_then f o ≡ Some y → (x : A) × ((o ≡ Some x) × (f x ≡ Some y))
-there_then f (Some x) y h = (x, (refl, h))
-there_then f None y h = cc
+there_then f o y h = grind arith
 
 behind_bytes : (part : List ℕ) (parts : List (List ℕ)) → list_all are_bytes (part ∷ parts) ≡ true
     → list_all are_bytes parts ≡ true

@@ -1,6 +1,6 @@
 -- The words and amounts of a line come back from its parts, and its parts from them.
-use Rattle.std.proofs.Common.{◌≡◌, ◌<◌, ◌==◌, ℕ, List, [], ◌∷◌, ◌++◌, Bool, true, false, cond, refl}
-use Rattle.std.proofs.Common.{ap, ◌∙◌, subst, arith, length, map}
+use Rattle.std.proofs.Common.{◌≡◌, ◌<◌, ◌==◌, ℕ, List, [], ◌∷◌, ◌++◌, Bool, true, cond, refl, ap}
+use Rattle.std.proofs.Common.{◌∙◌, subst, arith, length, map}
 use Rattle.std.specs.declared.option.Option.{Option}
 use Rattle.std.specs.declared.option.Option.TheVariants.{None, Some}
 use Rattle.std.specs.Fmt.{decimal}
@@ -24,8 +24,7 @@ hex_value-small b = grind (arith, nat_tests)
 
 cond-bytes : (t : Bool) (xs ys : List ℕ) → are_bytes xs ≡ true → are_bytes ys ≡ true
     → are_bytes (cond t xs ys) ≡ true
-cond-bytes true xs ys h k = h
-cond-bytes false xs ys h k = k
+cond-bytes t xs ys h k = grind (arith, nat_tests)
 
 joined-bytes : (xs ys : List ℕ) → are_bytes xs ≡ true → are_bytes ys ≡ true
     → are_bytes (xs ++ ys) ≡ true
@@ -34,11 +33,7 @@ joined-bytes (x ∷ xs) ys h k =
     both _ _ (both_true _ _ h).0 (joined-bytes xs ys (both_true _ _ h).1 k)
 
 escaped-bytes : (letter : ℕ) → are_bytes (escaped letter) ≡ true
-escaped-bytes letter =
-    let other = cond-bytes (letter == 92) (92 ∷ []) [] refl refl in
-    let space = cond-bytes (letter == 115) (32 ∷ []) _ refl other in
-    let feed = cond-bytes (letter == 110) (10 ∷ []) _ refl space in
-    cond-bytes (letter == 114) (13 ∷ []) _ refl feed
+escaped-bytes letter = grind (arith, cond-bytes, nat_tests)
 
 mutual
   pub unescaped-bytes : (text : List ℕ) → are_bytes text ≡ true → are_bytes (unescaped text) ≡ true
@@ -85,9 +80,7 @@ pub split_words : (o : Option (List ℕ)) (os : Option (List (List ℕ))) (words
     → first_and_rest o os ≡ Some words
     → (word : List ℕ) × ((rest : List (List ℕ))
     × ((o ≡ Some word) × (os ≡ Some rest) × (word ∷ rest ≡ words)))
-split_words (Some word) (Some rest) words h = (word, (rest, (refl, refl, cc)))
-split_words (Some word) None words h = cc
-split_words None os words h = cc
+split_words o os words h = grind (arith, nat_tests)
 
 pub record WordsComeFrom (texts words : List (List ℕ)) : Type 0 where
   pub printed_as : map printed words ≡ texts
@@ -124,8 +117,7 @@ amount_of-parts (Some count) h =
 
 pub option_map-some : {A B : Type 0} (f : A → B) (o : Option A) (y : B) → option_map f o ≡ Some y
     → (x : A) × ((o ≡ Some x) × (f x ≡ y))
-option_map-some f (Some x) y h = (x, (refl, cc))
-option_map-some f None y h = cc
+option_map-some f o y h = grind (arith, nat_tests)
 
 pub parts-amount_of : (texts : List (List ℕ)) (amount : Option ℕ) → amount_of texts ≡ Some amount
     → (amount_parts amount ≡ texts) × (is_amount amount ≡ true)

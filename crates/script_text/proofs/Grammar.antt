@@ -1,7 +1,6 @@
 -- A line has an event exactly where it is a line of that event, and the event is valid.
-use Rattle.std.proofs.Common.{◌≡◌, ◌<◌, ◌==◌, ℕ, List, [], ◌∷◌, Bool, true, false, cond}
-use Rattle.std.proofs.Common.{nat_le, codes, refl, sym, ap, ◌∙◌, subst, arith, length, map}
-use Rattle.std.proofs.Common.{◌⊎◌, inl, inr}
+use Rattle.std.proofs.Common.{◌≡◌, ◌<◌, ◌==◌, ℕ, List, [], ◌∷◌, Bool, true, false, cond, nat_le}
+use Rattle.std.proofs.Common.{codes, refl, sym, ap, ◌∙◌, subst, arith, length, map, ◌⊎◌, inl, inr}
 use Rattle.std.specs.declared.option.Option.{Option}
 use Rattle.std.specs.declared.option.Option.TheVariants.{None, Some}
 use Rattle.std.specs.Fmt.{decimal}
@@ -23,8 +22,8 @@ use Rattle.script_text.specs.Events.{event_of, event_of_parts, named_event, link
 use Rattle.script_text.specs.Events.{bare, request_of, bytes_of, asked_of, polled_of, amount_of}
 use Rattle.script_text.specs.Events.{longest_line}
 use Rattle.script_text.specs.Grammar.{parts_of, line_of, amount_parts, client_parts, asking}
-use Rattle.script_text.specs.Grammar.{is_amount, is_request, are_bytes, has_fields}
-use Rattle.script_text.specs.Grammar.{is_valid, IsLineOf, LinesComeBack}
+use Rattle.script_text.specs.Grammar.{is_amount, is_request, are_bytes, has_fields, is_valid}
+use Rattle.script_text.specs.Grammar.{IsLineOf, LinesComeBack}
 use Rattle.script_text.proofs.Numbers.{both_true, both, number_within-decimal}
 use Rattle.script_text.proofs.Numbers.{decimal-number_within, small_within}
 use Rattle.script_text.proofs.Choices.{none_is_some, same_text, by_test, named, when}
@@ -32,9 +31,8 @@ use Rattle.script_text.proofs.Spelling.{word_of-printed, printed-word_of}
 use Rattle.script_text.proofs.Parts.{is_unbroken, parted-joined, parted-bytes, name-unbroken}
 use Rattle.script_text.proofs.Parts.{link-unbroken, printed-unbroken, all_printed-unbroken}
 use Rattle.script_text.proofs.Parts.{decimal-unbroken}
-use Rattle.script_text.proofs.Fields.{word-bytes, words_of-printed, printed-words_of}
-use Rattle.script_text.proofs.Fields.{WordsComeFrom, amount_of-parts, parts-amount_of}
-use Rattle.script_text.proofs.Fields.{option_map-some}
+use Rattle.script_text.proofs.Fields.{word-bytes, words_of-printed, printed-words_of, WordsComeFrom}
+use Rattle.script_text.proofs.Fields.{amount_of-parts, parts-amount_of, option_map-some}
 use Rattle.script_text.proofs.ClientFields.{client_there, client_back, ClientComesFrom, there_then}
 use Rattle.script_text.proofs.ClientFields.{client-unbroken}
 use Rattle.script_text.proofs.Asking.{is_query-read, query_of-is_query, query_bytes, query-length}
@@ -50,29 +48,17 @@ of_name : (kind name : List ℕ) (rest : List (List ℕ)) (event : Event)
     → bytes_eq kind (codes "now") ≡ false → is_name name ≡ true
     → named_event kind name rest ≡ Some event → event_of_parts (kind ∷ name ∷ rest) ≡ Some event
 unfolding event_of_parts
-of_name kind name rest event later n e =
-    ap (λ b. cond b (option_map Now (polled_of (name ∷ rest)))
-    (first_there (cond (is_name name) (named_event kind name rest) None)
-    (cond (is_link name) (link_event kind name rest) None))) later
-    ∙ ap (λ o. first_there o (cond (is_link name) (link_event kind name rest) None))
-    (named (is_name name) (named_event kind name rest) event n e)
+of_name kind name rest event later n e = grind (arith, named)
 
 always_none : (t : Bool) (o : Option Event) → o ≡ None → cond t o None ≡ None
-always_none true o h = h
-always_none false o h = refl
+always_none t o h = grind arith
 
 -- an event of a link
 of_link : (kind link : List ℕ) (rest : List (List ℕ)) (event : Event)
     → bytes_eq kind (codes "now") ≡ false → named_event kind link rest ≡ None → is_link link ≡ true
     → link_event kind link rest ≡ Some event → event_of_parts (kind ∷ link ∷ rest) ≡ Some event
 unfolding event_of_parts
-of_link kind link rest event later other n e =
-    ap (λ b. cond b (option_map Now (polled_of (link ∷ rest)))
-    (first_there (cond (is_name link) (named_event kind link rest) None)
-    (cond (is_link link) (link_event kind link rest) None))) later
-    ∙ ap (λ o. first_there o (cond (is_link link) (link_event kind link rest) None))
-    (always_none (is_name link) (named_event kind link rest) other)
-    ∙ named (is_link link) (link_event kind link rest) event n e
+of_link kind link rest event later other n e = grind (arith, always_none, named)
 
 asked_there : (client : List ℕ) (words query : List (List ℕ)) → is_name client ≡ true
     → query_of words ≡ Some query → list_all are_bytes words ≡ true
@@ -350,8 +336,7 @@ all_back kind event k h =
 
 first_or_other : (o p : Option Event) (event : Event) → first_there o p ≡ Some event
     → (o ≡ Some event) ⊎ (p ≡ Some event)
-first_or_other (Some made) p event h = inl h
-first_or_other None p event h = inr h
+first_or_other o p event h = grind arith
 
 parts_back : (parts : List (List ℕ)) (event : Event) → list_all are_bytes parts ≡ true
     → event_of_parts parts ≡ Some event → ComesBack parts event
@@ -376,9 +361,7 @@ parts_back (kind ∷ name ∷ rest) event b h =
 -- ---- no part of an event's line holds a blank
 amount-unbroken : (amount : Option ℕ) → is_amount amount ≡ true
     → list_all is_unbroken (amount_parts amount) ≡ true
-amount-unbroken None h = refl
-amount-unbroken (Some count) h =
-    both _ _ (decimal-unbroken count (small_within 1 greatest count (omega arith) h)) refl
+amount-unbroken amount h = grind (arith, both, decimal-unbroken, small_within)
 
 parts-unbroken : (event : Event) → has_fields event ≡ true
     → list_all is_unbroken (parts_of event) ≡ true
@@ -421,47 +404,13 @@ parted_again [] h l = absurd (omega arith)
 parted_again (part ∷ parts) h l = parted-joined part parts h
 
 some_part : (event : Event) → 0 < length (parts_of event)
-some_part (Raw link) = omega arith
-some_part (Say link words) = omega arith
-some_part (Bytes link bytes) = omega arith
-some_part (Client client mode keys) = omega arith
-some_part (Out link amount) = omega arith
-some_part (Serve link amount) = omega arith
-some_part (Send link amount) = omega arith
-some_part (Recv link amount) = omega arith
-some_part (Flow link) = omega arith
-some_part FlowAll = omega arith
-some_part (Cut link) = omega arith
-some_part (Now moment) = omega arith
-some_part Tick = omega arith
-some_part (Ask client query) = omega arith
-some_part (Do client words) = omega arith
-some_part (Poll client number) = omega arith
-some_part (Show client) = omega arith
+some_part event = grind arith
 
 -- ---- the lines of an event
 -- its one line is one of them
 own_line : (event : Event) (line : List ℕ) → has_fields event ≡ true → line_of event ≡ line
     → IsLineOf event line
-own_line (Raw link) line h e = e
-own_line (Say link words) line h e = e
-own_line (Bytes link bytes) line h e = e
-own_line (Client client mode keys) line h e = e
-own_line (Out link amount) line h e = e
-own_line (Serve link amount) line h e = e
-own_line (Send link amount) line h e = e
-own_line (Recv link amount) line h e = e
-own_line (Flow link) line h e = e
-own_line FlowAll line h e = e
-own_line (Cut link) line h e = e
-own_line (Now moment) line h e = e
-own_line Tick line h e = e
-own_line (Ask client query) line h e =
-    let fields = both_true _ _ (both_true _ _ h).1 in
-    (query, (query_of-is_query query fields.0, fields.1, e))
-own_line (Do client words) line h e = e
-own_line (Poll client number) line h e = e
-own_line (Show client) line h e = e
+own_line event line h e = grind (arith, both_true, query_of-is_query)
 
 -- the others ask for a query
 line_is : (event : Event) (line : List ℕ) → IsLineOf event line
@@ -497,15 +446,11 @@ line_is (Show client) line e = inl e
 
 asked_length : (event : Event) (a : Asked event)
     → length (line_of event) ≡ length (join_with_byte 32 (asking a.client a.words))
-asked_length event a =
-    subst (λ e. length (line_of e) ≡ length (join_with_byte 32 (asking a.client a.words))) a.is_ask
-    (query-length a.client a.words a.query a.is_read)
+asked_length event a = grind (arith, query-length)
 
 asked_line : (event : Event) (a : Asked event)
     → IsLineOf event (join_with_byte 32 (asking a.client a.words))
-asked_line event a =
-    subst (λ e. IsLineOf e (join_with_byte 32 (asking a.client a.words))) a.is_ask
-    (a.words, (a.is_read, a.of_bytes, refl))
+asked_line event a = grind arith
 
 -- ---- the law
 valid_line : (event : Event) (line : List ℕ) → are_bytes line ≡ true → event_of line ≡ Some event
@@ -534,10 +479,7 @@ parted_back : (event : Event) (parts : List (List ℕ)) (line : List ℕ)
     → list_all is_unbroken parts ≡ true → 0 < length parts → event_of_parts parts ≡ Some event
     → event_of line ≡ Some event
 unfolding event_of
-parted_back event parts line short joined u l there =
-    let parted : slice_split (λ b. b == 32) line ≡ parts =
-    ap (slice_split (λ b. b == 32)) (sym joined) ∙ parted_again parts u l in
-    named _ _ event short (ap event_of_parts parted ∙ there)
+parted_back event parts line short joined u l there = grind (arith, parted_again, named)
 
 event_back : (event : Event) (line : List ℕ) → is_valid event ≡ true → IsLineOf event line
     → event_of line ≡ Some event

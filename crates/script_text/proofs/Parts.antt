@@ -1,7 +1,7 @@
 -- Parts that hold no blank are what a line is parted into, and the parts of a line hold its bytes.
 use Rattle.std.proofs.Common.{◌≡◌, ◌<◌, ◌/◌, ◌%◌, ◌==◌, ◌^◌, ℕ, List, [], ◌∷◌, ◌++◌, Bool, true}
-use Rattle.std.proofs.Common.{false, not, cond, refl, sym, ap, ◌∙◌, subst, arith, ◌⊎◌, inl, inr}
-use Rattle.std.proofs.Common.{◌-◌, ◌||◌, length, take, codes, map}
+use Rattle.std.proofs.Common.{false, not, cond, refl, sym, ap, ◌∙◌, subst, arith, ◌⊎◌, ◌-◌, ◌||◌}
+use Rattle.std.proofs.Common.{length, take, codes, map}
 use Rattle.std.specs.Fmt.{decimal}
 use Rattle.std.specs.List.{list_all, slice_split, onto_first, join_with_byte, All, AllPass}
 use Rattle.std.specs.Str.Parse.{AllDigits}
@@ -23,8 +23,7 @@ abbrev pub is_unbroken : List ℕ → Bool
 is_unbroken part = list_all (λ b. not (b == 32)) part
 
 not_true : (t : Bool) → not t ≡ true → t ≡ false
-not_true true h = cc
-not_true false h = refl
+not_true t h = grind (arith, nat_tests)
 
 no_blank : (part : List ℕ) → is_unbroken part ≡ true → All (λ b. (b == 32) ≡ false) part
 no_blank part h = let all : AllPass (λ b. not (b == 32)) part = AllPass-from_list_all _ part h in
@@ -43,14 +42,11 @@ parted-joined part (next ∷ parts) h =
 -- ---- the bytes of the parts are those of the line
 onto_first-bytes : (b : ℕ) (parts : List (List ℕ)) → is_byte b ≡ true
     → list_all are_bytes parts ≡ true → list_all are_bytes (onto_first b parts) ≡ true
-onto_first-bytes b [] h k = both _ _ (both _ _ h refl) refl
-onto_first-bytes b (part ∷ parts) h k =
-    both _ _ (both _ _ h (both_true _ _ k).0) (both_true _ _ k).1
+onto_first-bytes b parts h k = grind (arith, both, both_true, nat_tests)
 
 cond-bytes : (t : Bool) (xs ys : List (List ℕ)) → list_all are_bytes xs ≡ true
     → list_all are_bytes ys ≡ true → list_all are_bytes (cond t xs ys) ≡ true
-cond-bytes true xs ys h k = h
-cond-bytes false xs ys h k = k
+cond-bytes t xs ys h k = grind (arith, nat_tests)
 
 pub parted-bytes : (line : List ℕ) → are_bytes line ≡ true
     → list_all are_bytes (slice_split (λ b. b == 32) line) ≡ true
@@ -69,20 +65,13 @@ list_all_wider p q f (x ∷ xs) h =
     both _ _ (f x (both_true _ _ h).0) (list_all_wider p q f xs (both_true _ _ h).1)
 
 not_false : (t : Bool) → t ≡ false → not t ≡ true
-not_false true h = cc
-not_false false h = refl
+not_false t h = grind (arith, nat_tests)
 
 name_byte-unbroken : (b : ℕ) → is_name_byte b ≡ true → not (b == 32) ≡ true
-name_byte-unbroken b h =
-    elim (either (b == 32)) [
-      | inl e ↦ let bad : is_name_byte 32 ≡ true =
-          subst (λ n. is_name_byte n ≡ true) (eqb-true b 32 e) h in cc
-      | inr e ↦ not_false _ e
-    ]
+name_byte-unbroken b h = grind (arith, either, eqb-true, not_false, nat_tests)
 
 pub name-unbroken : (link : List ℕ) → is_name link ≡ true → is_unbroken link ≡ true
-name-unbroken link h =
-    list_all_wider is_name_byte (λ b. not (b == 32)) name_byte-unbroken link (both_true _ _ h).1
+name-unbroken link h = grind (arith, list_all_wider, name_byte-unbroken, both_true)
 
 list_all_joined : (p : ℕ → Bool) (xs ys : List ℕ) → list_all p xs ≡ true → list_all p ys ≡ true
     → list_all p (xs ++ ys) ≡ true
@@ -102,29 +91,16 @@ name_with-unbroken ending text u h =
     (list_all_joined (λ c. not (c == 32)) front ending (name-unbroken front parts.1) u)
 
 one_of : (a b : Bool) → (a || b) ≡ true → (a ≡ true) ⊎ (b ≡ true)
-one_of true b h = inl refl
-one_of false b h = inr h
+one_of a b h = grind (arith, nat_tests)
 
 pub link-unbroken : (link : List ℕ) → is_link link ≡ true → is_unbroken link ≡ true
-link-unbroken link h =
-    elim (one_of (is_name link || is_name_with (codes ".data") link)
-    (is_name_with (codes ".inv") link) h) [
-      | inl w ↦ elim (one_of (is_name link) (is_name_with (codes ".data") link) w) [
-        | inl n ↦ name-unbroken link n
-        | inr d ↦ name_with-unbroken (codes ".data") link refl d
-      ]
-      | inr i ↦ name_with-unbroken (codes ".inv") link refl i
-    ]
+link-unbroken link h = grind (arith, one_of, codes, name-unbroken, name_with-unbroken, nat_tests)
 
 hex_digit-above : (n : ℕ) → 32 < hex_digit n
 hex_digit-above n = grind (arith, nat_tests)
 
 hex_digit-unbroken : (n : ℕ) → not (hex_digit n == 32) ≡ true
-hex_digit-unbroken n =
-    elim (either (hex_digit n == 32)) [
-      | inl e ↦ absurd (omega (arith, hex_digit-above n, eqb-true (hex_digit n) 32 e))
-      | inr e ↦ not_false _ e
-    ]
+hex_digit-unbroken n = grind (arith, either, hex_digit-above, eqb-true, not_false, nat_tests)
 
 printed_byte-unbroken : (b : ℕ) → is_unbroken (printed_byte b) ≡ true
 printed_byte-unbroken b =
@@ -140,12 +116,10 @@ printed_bytes-unbroken : (word : List ℕ) → is_unbroken (printed_bytes word) 
 unfolding printed_bytes
 printed_bytes-unbroken [] = refl
 printed_bytes-unbroken (b ∷ word) =
-    list_all_joined (λ c. not (c == 32)) (printed_byte b) (printed_bytes word)
-    (printed_byte-unbroken b) (printed_bytes-unbroken word)
+    grind (arith, list_all_joined, printed_byte-unbroken, printed_bytes-unbroken word)
 
 pub printed-unbroken : (word : List ℕ) → is_unbroken (printed word) ≡ true
-printed-unbroken [] = refl
-printed-unbroken (b ∷ word) = printed_bytes-unbroken (b ∷ word)
+printed-unbroken word = grind (arith, printed_bytes-unbroken, nat_tests)
 
 pub all_printed-unbroken : (words : List (List ℕ)) → list_all is_unbroken (map printed words) ≡ true
 all_printed-unbroken [] = refl
@@ -154,11 +128,7 @@ all_printed-unbroken (word ∷ words) = both _ _ (printed-unbroken word) (all_pr
 digits-unbroken : (ds : List ℕ) → AllDigits 10 ds → is_unbroken ds ≡ true
 digits-unbroken [] h = refl
 digits-unbroken (d ∷ ds) h =
-    let range = digit_from_value d h.0 in
-    both _ _ (elim (either (d == 32)) [
-      | inl e ↦ absurd (omega (arith, eqb-true d 32 e, range.0))
-      | inr e ↦ not_false _ e
-    ]) (digits-unbroken ds h.1)
+    grind (arith, digit_from_value, both, either, eqb-true, not_false, digits-unbroken ds h.1)
 
 pub decimal-unbroken : (n : ℕ) → n < 2 ^ 64 → is_unbroken (decimal n) ≡ true
 decimal-unbroken n h = digits-unbroken (decimal n) (decimal_is_IsNumeral n h).0.1

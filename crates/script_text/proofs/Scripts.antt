@@ -32,13 +32,12 @@ use Rattle.script_text.proofs.Fields.{option_map-some}
 use Rattle.script_text.proofs.ClientFields.{there_then}
 use Rattle.script_text.proofs.Asking.{is_query-read, query_bytes}
 use Rattle.script_text.proofs.Grammar.{requested, parted_again}
-use Rattle.script_text.proofs.Valid.{Of, Some_words, of_request, IsQuery, of_asked}
+use Rattle.script_text.proofs.Valid.{Of, of_request, IsQuery, of_asked}
 
 -- ---- from the text to what it asks
 not_control : (t : Bool) (x y : List (List ℕ)) → cond t None (Some x) ≡ Some y
     → (not t ≡ true) × (x ≡ y)
-not_control true x y h = cc
-not_control false x y h = (refl, cc)
+not_control t e y h = grind arith
 
 request_back : (rest words : List (List ℕ)) → list_all are_bytes rest ≡ true
     → request_of rest ≡ Some words → (map printed words ≡ rest) × (is_request words ≡ true)
@@ -113,31 +112,13 @@ record Both (thread : Option ℕ) (call : Option ScriptCall) (line : ScriptLine)
 
 both_there : (thread : Option ℕ) (call : Option ScriptCall) (line : ScriptLine)
     → line_with thread call ≡ Some line → Both thread call line
-both_there (Some thread) (Some call) line h =
-    let same : (record { thread = thread; call = call }) ≡ line = cc in
-    subst (λ l. Both (Some thread) (Some call) l) same
-    (record { thread_is = refl; call_is = refl })
-both_there (Some thread) None line h = cc
-both_there None call line h = cc
+both_there thread call line h = grind arith
 
 -- the text is the line's, where its parts are
 text_is : (call : ScriptCall) (thread : ℕ) (kind : List ℕ) (rest : List (List ℕ)) (text : List ℕ)
     → IsSaid call kind rest → join_with_byte 32 (decimal thread ∷ kind ∷ rest) ≡ text
     → IsTextOf thread call text
-text_is (Ask query) thread kind rest text s j =
-    let is_kind = s.1.2 in
-    let are_words = s.1.3 in (
-      s.0,
-      (
-        s.1.0,
-        s.1.1,
-        ap (λ k. join_with_byte 32 (decimal thread ∷ k ∷ map printed s.0)) is_kind
-            ∙ ap (λ r. join_with_byte 32 (decimal thread ∷ kind ∷ r)) are_words ∙ j,
-      ),
-    )
-text_is (Do words) thread kind rest text s j =
-    ap (λ k. join_with_byte 32 (decimal thread ∷ k ∷ map printed words)) s.0
-    ∙ ap (λ r. join_with_byte 32 (decimal thread ∷ kind ∷ r)) s.1 ∙ j
+text_is call thread kind rest text s j = grind arith
 
 parts_back : (parts : List (List ℕ)) (line : ScriptLine) (text : List ℕ)
     → list_all are_bytes parts ≡ true → join_with_byte 32 parts ≡ text
@@ -180,8 +161,7 @@ asked_there words query q b =
     ap (option_map Ask) (ap (option_and_then query_of) (words_of-printed words b) ∙ q)
 
 allowed : (t : Bool) (x : List (List ℕ)) → not t ≡ true → cond t None (Some x) ≡ Some x
-allowed true x h = cc
-allowed false x h = refl
+allowed t e h = grind arith
 
 sent_there : (words : List (List ℕ)) → is_sent words ≡ true
     → script_call (codes "do") (map printed words) ≡ Some (Do words)
@@ -243,21 +223,13 @@ script_lines_come_back line text b = (
 
 -- ---- each line is valid
 within_threads : (n : ℕ) → is_within 1 most_threads n ≡ true → (1 ≤ n) × (n ≤ most_threads)
-within_threads n h =
-    (leb-true _ _ (both_true _ _ h).0, leb-true _ _ (both_true _ _ h).1)
+within_threads n h = grind (arith, leb-true, both_true)
 
 not_true : (t : Bool) → not t ≡ true → t ≡ false
-not_true true h = cc
-not_true false h = refl
+not_true t h = grind arith
 
 of_sent : (rest words : List (List ℕ)) → sent_of rest ≡ Some words → IsValidCall (Do words)
-of_sent rest words h =
-    let read = there_then unless_control (request_of rest) words h in
-    let kept = not_control (is_control read.0) read.0 words read.1.1 in
-    let asked : request_of rest ≡ Some words = read.1.0 ∙ ap Some kept.1 in (
-      subst (Of Some_words) asked (of_request rest),
-      not_true _ (subst (λ w. not (is_control w) ≡ true) kept.1 kept.0),
-    )
+of_sent rest words h = grind (arith, there_then, not_control, of_request, not_true)
 
 of_call : (kind : List ℕ) (rest : List (List ℕ)) (call : ScriptCall)
     → script_call kind rest ≡ Some call → IsValidCall call
@@ -285,5 +257,4 @@ of_line (thread ∷ kind ∷ rest) line h =
 
 pub script_lines_are_valid : ScriptLinesAreValid
 unfolding script_line_of
-script_lines_are_valid text line h =
-    of_line (slice_split (λ b. b == 32) text) line (when _ _ line h).1
+script_lines_are_valid text line h = grind (arith, of_line, when)

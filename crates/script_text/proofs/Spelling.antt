@@ -15,12 +15,7 @@ hex_value-hex_digit n h = grind (arith, nat_tests)
 
 number_back : (b : ℕ) → b < 256
     → 16 * hex_value (hex_digit (b / 16)) + hex_value (hex_digit (b % 16)) ≡ b
-number_back b small =
-    let high : hex_value (hex_digit (b / 16)) ≡ b / 16 =
-    hex_value-hex_digit (b / 16) (omega arith) in
-    let low : hex_value (hex_digit (b % 16)) ≡ b % 16 =
-    hex_value-hex_digit (b % 16) (omega arith) in
-    omega arith
+number_back b small = grind (arith, hex_value-hex_digit, nat_tests)
 
 -- what a byte has as its printed form
 pub data Printing (b : ℕ) : Type 0 where
@@ -30,8 +25,7 @@ pub data Printing (b : ℕ) : Type 0 where
   numbered : printed_byte b ≡ 92 ∷ 120 ∷ hex_digit (b / 16) ∷ hex_digit (b % 16) ∷ [] → Printing b
 
 pub either : (t : Bool) → (t ≡ true) ⊎ (t ≡ false)
-either true = inl refl
-either false = inr refl
+either t = grind (arith, nat_tests)
 
 pub printing : (b : ℕ) → Printing b
 printing b =
@@ -72,29 +66,22 @@ bytes_back (b ∷ word) h =
     ∙ ap (λ rest. b ∷ rest) (bytes_back word parts.1)
 
 word_back : (word : List ℕ) → list_all is_byte word ≡ true → unescaped (printed word) ≡ word
-word_back [] h = refl
-word_back (b ∷ word) h = bytes_back (b ∷ word) h
+word_back word h = grind (arith, bytes_back, nat_tests)
 
 read_where : (t : Bool) (u w : List ℕ) → t ≡ true → u ≡ w → cond t (Some u) None ≡ Some w
-read_where true u w h e = ap Some e
-read_where false u w h e = cc
+read_where t u w h e = grind (arith, nat_tests)
 
 read_back : (t : Bool) (u w : List ℕ) → cond t (Some u) None ≡ Some w → (t ≡ true) × (u ≡ w)
-read_back true u w h = (refl, cc)
-read_back false u w h = cc
+read_back t u w h = grind (arith, nat_tests)
 
 pub word_of-printed : (word text : List ℕ) → list_all is_byte word ≡ true → printed word ≡ text
     → word_of text ≡ Some word
 unfolding word_of
-word_of-printed word text h e =
-    let back : unescaped text ≡ word = ap unescaped (sym e) ∙ word_back word h in
-    read_where _ _ word ((bytes_eq-Decides _ _).1 (ap printed back ∙ e)) back
+word_of-printed word text h e = grind (arith, word_back, read_where, bytes_eq-Decides, nat_tests)
 
 pub printed-word_of : (word text : List ℕ) → word_of text ≡ Some word → printed word ≡ text
 unfolding word_of
-printed-word_of word text h =
-    let read = read_back _ _ word h in
-    ap printed (sym read.1) ∙ (bytes_eq-Decides _ _).0 read.0
+printed-word_of word text h = grind (arith, read_back, bytes_eq-Decides, nat_tests)
 
 pub unescaped-word_of : (word text : List ℕ) → word_of text ≡ Some word → unescaped text ≡ word
 unfolding word_of

@@ -1,12 +1,14 @@
 -- What a seat adds, turn after turn, and where its turns stand.
-use Rattle.std.proofs.Common.{◌∷◌, ◌++◌, ℕ, List, [], length, Bool, true, false, cond, ◌≡◌, refl}
-use Rattle.std.proofs.Common.{sym, ap, subst, ◌∙◌, arith, append_assoc, append-nil}
+use Rattle.std.proofs.Common.{◌∷◌, ◌++◌, ℕ, List, [], length, Bool, true, false}
+use Rattle.std.proofs.Common.{cond}
+use Rattle.std.proofs.Common.{◌≡◌, refl, sym, ap, subst, ◌∙◌, arith, append_assoc, append-nil}
 use Rattle.std.specs.Prelude.{◌==◌}
 use Rattle.std.specs.List.{All}
 use Rattle.std.proofs.lemmas.List.Elements.{All-nil, All-cons, All-append, All-head, All-tail}
 use Rattle.turn_lock.specs.History.{entries, IsPrefix}
 use Rattle.turn_lock.specs.Seats.{Known}
-use Rattle.seat_turns.specs.Own.{entry_at, own_list, with_pasts, IsWithin, turns_of, past_of, Grows}
+use Rattle.seat_turns.specs.Own.{entry_at, own_list, with_pasts, IsWithin, turns_of, past_of}
+use Rattle.seat_turns.specs.Own.{Grows}
 use Rattle.seat_turns.specs.Turns.{in_order}
 use Rattle.seat_turns.proofs.Turning.{begins_trans, entries_begin}
 

@@ -1,24 +1,18 @@
 -- What a command does not write answers as before, or is told of before the command's reply.
-use Rattle.std.proofs.Common.{◌≡◌, ℕ, List, true, false, cond, ◌⊎◌, inl, inr, Bool}
-use Rattle.std.proofs.Common.{Ok, Err, Result, refl}
+use Rattle.std.proofs.Common.{◌≡◌, ℕ, List, true, false, ◌⊎◌, inl, inr, Bool, Result, arith}
 use Rattle.std.specs.Prelude.{not, ◌||◌}
 use Rattle.std.proofs.lemmas.Bool.{and_parts, both_ways}
 use Rattle.command_words.specs.declared.command.Command.{Command}
-use Rattle.command_words.specs.declared.command.Command.TheVariants.{Hello, ClientTracking}
 use Rattle.command_words.specs.declared.command.WordFault.{WordFault}
-use Rattle.command_words.specs.declared.command.WordFault.TheVariants.{Unknown}
-use Rattle.command_words.specs.Expiry.{without_due}
 use Rattle.command_words.specs.Laws.{RepliesAreOfKeysRead, SignalsAreWritten, signals}
 use Rattle.command_words.specs.Queries.{names, writes, written_as, written_by}
 use Rattle.command_words.specs.Space.{Space}
-use Rattle.command_words.specs.Words.{reading}
 use Rattle.track_table.specs.Table.{holders_of}
 use Rattle.serial_model.specs.declared.mode.Runner.{Runner}
 use Rattle.serial_model.specs.declared.history.Limits.{Limits}
 use Rattle.serial_model.specs.declared.history.Entry.{Entry}
 use Rattle.serial_model.specs.declared.history.Entry.TheVariants.{Run}
-use Rattle.serial_model.specs.History.{effect_of, ran_over, ran, served, is_served, runner}
-use Rattle.serial_model.specs.History.{keyspace, expired, has_ended, table}
+use Rattle.serial_model.specs.History.{effect_of, ran_over, ran, served, expired, has_ended, table}
 use Rattle.serial_model.specs.Laws.{BeforeTheReply, is_among}
 use Rattle.serial_model.proofs.KeyHolders.{holds, group_tells}
 use Rattle.serial_model.proofs.ReadLaws.{change_is_signalled}
@@ -30,47 +24,28 @@ module _ (law : SignalsAreWritten) where
       (space : Space) (m : ℕ) (k : List ℕ)
       → signals (effect_of by words read space m).signalled k ≡ true
       → names (written_as read) k ≡ true
-  read_written by words (Ok (Hello word)) space m k h = absurd (let no : ⊥ = cc in no)
-  read_written by words (Ok (ClientTracking options)) space m k h =
-      absurd (let no : ⊥ = cc in no)
-  read_written by words (Ok command) space m k h = law command space m k h
-  read_written by words (Err fault) space m k h = absurd (let no : ⊥ = cc in no)
+  read_written by words read space m k h = grind arith
 
   effect_written : (by : Runner) (words : List (List ℕ)) (read : Result Command WordFault)
       (space : Space) (m : ℕ) (k : List ℕ)
       → signals (effect_of by words (served read) space m).signalled k ≡ true
       → names (written_as read) k ≡ true
-  effect_written by words (Ok command) space m k h =
-      elim (is_served command) as (λ b.
-      signals (effect_of by words (cond b (Ok command) (Err Unknown)) space m).signalled k ≡ true
-      → names (written_as (Ok command)) k ≡ true) [
-        | true ↦ λ e. read_written by words (Ok command) space m k e
-        | false ↦ λ e. absurd (let no : ⊥ = cc in no)
-      ] h
-  effect_written by words (Err fault) space m k h = absurd (let no : ⊥ = cc in no)
+  effect_written by words read space m k h = grind (arith, read_written)
 
   ran_written : (l : Limits) (past : List Entry) (id : ℕ) (words : List (List ℕ)) (m : ℕ)
       (k : List ℕ)
       → signals (ran l past id words m).signalled k ≡ true → writes words k ≡ true
   unfolding ran_over written_by
-  ran_written l past id words m k h =
-      effect_written (runner l past id) words (reading words) (without_due m (keyspace l past)) m k
-      h
+  ran_written l past id words m k h = grind (arith, effect_written)
 
   -- what it does not write, it does not signal
   pub not_signalled : (l : Limits) (past : List Entry) (id : ℕ) (words : List (List ℕ)) (m : ℕ)
       (k : List ℕ)
       → writes words k ≡ false → signals (ran l past id words m).signalled k ≡ false
-  not_signalled l past id words m k none =
-      elim (signals (ran l past id words m).signalled k) as (λ b.
-      signals (ran l past id words m).signalled k ≡ b → b ≡ false) [
-        | true ↦ λ e. absurd (both_ways (writes words k) none (ran_written l past id words m k e))
-        | false ↦ λ e. refl
-      ] refl
+  not_signalled l past id words m k none = grind (arith, both_ways, ran_written)
 
 either_no : (a b : Bool) → a ≡ false → b ≡ false → (a || b) ≡ false
-either_no true b h g = absurd (let no : ⊥ = cc in no)
-either_no false b h g = g
+either_no a b h g = grind arith
 
 pub before_the_reply : RepliesAreOfKeysRead → SignalsAreWritten → BeforeTheReply
 before_the_reply replies written l id moment words past c key told none =
@@ -84,5 +59,4 @@ before_the_reply replies written l id moment words past c key told none =
     ]
   where
     both : (b : Bool) → (b ≡ true) ⊎ (b ≡ false)
-    both true = inl refl
-    both false = inr refl
+    both b = grind arith

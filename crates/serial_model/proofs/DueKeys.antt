@@ -1,10 +1,10 @@
 -- The keys that are due, by the keyspace: exactly those whose deadline is past, each once.
 use Rattle.std.proofs.Common.{◌≡◌, ◌∙◌, refl, sym, ap, ℕ, List, [], ◌∷◌, Bool, true, false, cond}
-use Rattle.std.proofs.Common.{Option, None, Some, not, is_some, eq-eqb}
+use Rattle.std.proofs.Common.{Option, None, Some, not, is_some, eq-eqb, arith}
 use Rattle.std.specs.Prelude.{◌&&◌, ◌||◌, ◌==◌}
 use Rattle.std.specs.Cmp.Lexicographic.{slice_cmp, nat_list_cmp_total, texts_ties}
-use Rattle.std.specs.FinMap.{keys, contains_key-keys, same_map}
-use Rattle.std.specs.FinMap.{slice_cmp-IsAntisymmetric, nat_cmp-IsAntisymmetric}
+use Rattle.std.specs.FinMap.{keys, contains_key-keys, same_map, slice_cmp-IsAntisymmetric}
+use Rattle.std.specs.FinMap.{nat_cmp-IsAntisymmetric}
 use Rattle.std.specs.List.{list_any}
 use Rattle.std.specs.Option.{option_and_then}
 use Rattle.std.specs.Ordering.{nat_cmp, eq_by_cmp}
@@ -14,7 +14,7 @@ use Rattle.command_words.specs.Expiry.{is_past, without_due}
 use Rattle.command_words.specs.Space.{Held, Space, held_at, deadline_at}
 use Rattle.command_words.proofs.HeldAt.{at_without_due}
 use Rattle.expiry.specs.declared.index.Deadline.{Deadline}
-use Rattle.expiry.specs.Index.{has, is_same, is_at, is_due, due, keys_of}
+use Rattle.expiry.specs.Index.{has, is_same, is_at, due, keys_of}
 use Rattle.expiry.specs.Order.{IsBeforeAll, IsOrdered}
 use Rattle.expiry.proofs.Orders.{ordered_with}
 use Rattle.expiry.proofs.Members.{not_among, setting_adds_one, one_index}
@@ -33,16 +33,10 @@ AreOfSpace index space = (d : Deadline) → has d index ≡ is_at d.at (deadline
 -- ---- the deadlines of a keyspace
 
 skips : (b a x : Bool) → (b ≡ true → x ≡ false) → (a && x) ≡ ((b || a) && x)
-skips true true x f = refl
-skips true false x f = sym (f refl)
-skips false a x f = refl
+skips b a e f = grind arith
 
 adds : (b a x y : Bool) → (b ≡ true → x ≡ y) → ((y && b) || (a && x)) ≡ ((b || a) && x)
-adds true a x true f = sym (f refl)
-adds true true x false f = refl
-adds true false x false f = sym (f refl)
-adds false a x true f = refl
-adds false a x false f = refl
+adds b a e y f = grind arith
 
 ties : (q : List ℕ) (ks : List (List ℕ))
     → list_any (eq_by_cmp (slice_cmp nat_cmp) q) ks ≡ list_any (bytes_eq q) ks
@@ -54,9 +48,7 @@ ties q (k ∷ ks) =
 module _ (space : Space) where
   same_life : (d : Deadline) (k : List ℕ) (o : Option ℕ) → deadline_at k space ≡ o
       → bytes_eq d.key k ≡ true → is_at d.at (deadline_at d.key space) ≡ is_at d.at o
-  same_life d k o e same =
-      ap (λ q. is_at d.at (deadline_at q space)) ((bytes_eq-Decides d.key k).0 same)
-      ∙ ap (is_at d.at) e
+  same_life d k o e same = grind (arith, bytes_eq-Decides)
 
   listed : (d : Deadline) (ks : List (List ℕ))
       → has d (deadlines space ks)
@@ -86,18 +78,12 @@ module _ (space : Space) where
       ∙ by (held_at d.key space)
     where
       by : (h : Option Held) → (is_some h && is_at d.at (life h)) ≡ is_at d.at (life h)
-      by None = refl
-      by (Some h) = refl
+      by h = grind arith
 
   pub deadlines_ordered : (ks : List (List ℕ)) → IsOrdered (deadlines space ks)
   unfolding deadlines
   deadlines_ordered [] = tt
-  deadlines_ordered (k ∷ ks) =
-      elim (deadline_at k space) as (λ o. IsOrdered (with_deadline k o (deadlines space ks))) [
-        | None ↦ deadlines_ordered ks
-        | Some at ↦ ordered_with (record { at = at; key = k }) (deadlines space ks)
-            (deadlines_ordered ks)
-      ]
+  deadlines_ordered (k ∷ ks) = grind (arith, ordered_with, deadlines_ordered ks)
 
 -- ---- those that are due
 
@@ -145,24 +131,16 @@ module _ (moment : ℕ) (space : Space) where
       ] refl
     where
       first : (d : Deadline) → has d (d ∷ ds) ≡ true
-      first d =
-          λ i. (eq-eqb d.at d.at refl i && (bytes_eq-Decides d.key d.key).1 refl i) || has d ds
+      first d = grind (arith, eq-eqb, bytes_eq-Decides)
 
   apart : (ds : List Deadline) → IsOrdered ds → AreCurrent ds → AreApart (keys_of (due moment ds))
   apart [] ordered current = tt
   apart (d ∷ ds) ordered current =
-      let rest = apart ds ordered.1 (λ e h. current e (right_true _ _ h)) in
-      elim (is_due moment d) as (λ b. AreApart (keys_of (cond b (d ∷ due moment ds)
-      (due moment ds)))) [
-        | true ↦ (once d ds ordered.0 current, rest)
-        | false ↦ rest
-      ]
+      grind (arith, right_true, once, apart ds ordered.1 (λ e h. current e (right_true _ _ h)))
 
   pub due_apart : AreApart (due_keys moment space)
   unfolding due_keys
-  due_apart =
-      apart (deadlines space (keys space)) (deadlines_ordered space (keys space))
-      (λ d h. at_is d.at (deadline_at d.key space) (sym (deadlines_are space d) ∙ h))
+  due_apart = grind (arith, apart, deadlines_ordered, at_is, deadlines_are)
 
   -- ---- what they leave
 

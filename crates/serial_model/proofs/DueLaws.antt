@@ -1,17 +1,17 @@
 -- Whom an entry tells on the third protocol is sent a push by it.
-use Rattle.std.proofs.Common.{◌≡◌, ◌+◌, ℕ, List, [], ◌∷◌, ◌++◌, true, cond, length}
-use Rattle.std.proofs.Common.{ap, sym, ◌∙◌, append_assoc, inl, inr}
+use Rattle.std.proofs.Common.{◌≡◌, ◌+◌, ℕ, List, [], ◌∷◌, ◌++◌, true, length, ap, sym, ◌∙◌}
+use Rattle.std.proofs.Common.{append_assoc, inl, inr, arith}
 use Rattle.std.specs.Prelude.{◌==◌}
 use Rattle.std.specs.List.{list_any}
 use Rattle.std.proofs.lemmas.Bool.{eqb-true, and_parts, or_cases}
 use Rattle.std.proofs.lemmas.List.Folds.{list_any-append}
 use Rattle.resp_value.specs.declared.value.Proto.{Proto}
-use Rattle.resp_value.specs.declared.value.Proto.TheVariants.{Two, Three}
+use Rattle.resp_value.specs.declared.value.Proto.TheVariants.{Three}
 use Rattle.serial_model.specs.declared.mode.Mode.{Mode}
-use Rattle.serial_model.specs.declared.history.Entry.TheVariants.{Admit, Run, Tick, Take, Close}
+use Rattle.serial_model.specs.declared.history.Entry.TheVariants.{Run, Tick}
 use Rattle.serial_model.specs.Tracking.{Invalidation, push_of, tells, names_key, drop_group}
-use Rattle.serial_model.specs.History.{Sending, Message, sent_to, by_proto, route, routed}
-use Rattle.serial_model.specs.History.{modes, expiry_group, own_group, drops, reply_of, overgrown}
+use Rattle.serial_model.specs.History.{Sending, Message, sent_to, by_proto, route, routed, modes}
+use Rattle.serial_model.specs.History.{expiry_group, own_group, drops, reply_of, overgrown}
 use Rattle.serial_model.specs.Laws.{PushIsAmong, DueIsSent}
 use Rattle.serial_model.proofs.Tables.{sent_to-append}
 
@@ -30,20 +30,11 @@ module _ (n c : ℕ) (key : List ℕ) where
 
   among_before : (xs ys : List (ℕ × Sending)) → PushIsAmong key n (sent_to n c xs)
       → PushIsAmong key n (sent_to n c (xs ++ ys))
-  among_before xs ys h = record {
-    keys = h.keys;
-    named = h.named;
-    before = h.before;
-    behind = h.behind ++ sent_to n c ys;
-    is = sent_to-append n c xs ys ∙ ap (λ ss. ss ++ sent_to n c ys) h.is
-        ∙ append_assoc h.before ((n, Message Three (push_of h.keys)) ∷ h.behind)
-        (sent_to n c ys);
-  }
+  among_before xs ys h = grind (arith, sent_to-append, append_assoc)
 
   push_first : (proto : Proto) (i : Invalidation) → proto ≡ Three → (i.to == c) ≡ true
       → sent_to n c (by_proto proto i) ≡ (n, Message Three (push_of i.keys)) ∷ []
-  push_first Two i three own = absurd (let no : ⊥ = cc in no)
-  push_first Three i three own = ap (λ b. cond b ((n, Message Three (push_of i.keys)) ∷ []) []) own
+  push_first proto i three own = grind arith
 
   among_routed : (modes : ℕ → Mode) (told : List Invalidation)
       → (modes c).proto ≡ Three → list_any (tells c key) told ≡ true
@@ -66,7 +57,6 @@ module _ (n c : ℕ) (key : List ℕ) where
       ]
 
 pub due_is_sent : DueIsSent
-due_is_sent l (Admit id) past c key before then due = absurd (let no : ⊥ = cc in no)
 due_is_sent l (Run id words m) past c key before then due =
     let n = length past + 1 in
     let first = expiry_group l past m in
@@ -88,5 +78,4 @@ due_is_sent l (Run id words m) past c key before then due =
     ]
 due_is_sent l (Tick m) past c key before then due =
     among_routed (length past + 1) c key (modes l past) (expiry_group l past m) before due
-due_is_sent l (Take id max) past c key before then due = absurd (let no : ⊥ = cc in no)
-due_is_sent l (Close id) past c key before then due = absurd (let no : ⊥ = cc in no)
+due_is_sent l e past c key before then due = absurd (let no : ⊥ = cc in no)

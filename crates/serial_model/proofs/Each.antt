@@ -1,6 +1,6 @@
 -- What holds of each of several things holds of each of some of them, and of others like them.
-use Rattle.std.proofs.Common.{◌<◌, ℕ, zero, suc, List, [], ◌∷◌, ◌++◌, Bool, true, false, cond}
-use Rattle.std.proofs.Common.{arith, length, take, drop, slice_index_or}
+use Rattle.std.proofs.Common.{◌<◌, ℕ, zero, suc, List, [], ◌∷◌, ◌++◌, Bool, cond, arith, length}
+use Rattle.std.proofs.Common.{take, drop, slice_index_or}
 use Rattle.std.specs.Prelude.{filter}
 use Rattle.serial_model.specs.Each.{AllIn}
 
@@ -11,21 +11,15 @@ module _ {A : Type 0} {P Q : A → Type 0} (f : (x : A) → P x → Q x) where
 
 module _ {A : Type 0} (P : A → Type 0) where
   pub in_if : (b : Bool) (xs ys : List A) → AllIn P xs → AllIn P ys → AllIn P (cond b xs ys)
-  in_if true xs ys a b = a
-  in_if false xs ys a b = b
+  in_if e xs ys a b = grind arith
 
   pub in_append : (xs ys : List A) → AllIn P xs → AllIn P ys → AllIn P (xs ++ ys)
   in_append [] ys a b = b
   in_append (x ∷ xs) ys a b = (a.0, in_append xs ys a.1 b)
 
-  pub in_front : (xs ys : List A) → AllIn P (xs ++ ys) → AllIn P xs
-  in_front [] ys a = tt
-  in_front (x ∷ xs) ys a = (a.0, in_front xs ys a.1)
-
   pub in_filter : (p : A → Bool) (xs : List A) → AllIn P xs → AllIn P (filter p xs)
   in_filter p [] a = tt
-  in_filter p (x ∷ xs) a =
-      let rest = in_filter p xs a.1 in in_if (p x) (x ∷ filter p xs) (filter p xs) (a.0, rest) rest
+  in_filter p (x ∷ xs) a = grind (arith, in_if, in_filter p xs a.1)
 
   pub in_take : (n : ℕ) (xs : List A) → AllIn P xs → AllIn P (take n xs)
   in_take zero xs a = tt

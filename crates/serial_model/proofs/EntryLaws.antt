@@ -1,25 +1,20 @@
 -- What each entry does, whatever the past: what it sends and what it changes.
-use Rattle.std.proofs.Common.{◌≡◌, ◌+◌, ℕ, List, [], ◌∷◌, ◌++◌, true, false, cond, length}
-use Rattle.std.proofs.Common.{Result}
-use Rattle.std.proofs.Common.{refl, ap, sym, subst, ◌∙◌, append-nil}
+use Rattle.std.proofs.Common.{◌≡◌, ◌+◌, ℕ, List, [], ◌∷◌, ◌++◌, true, false, cond, length, Result}
+use Rattle.std.proofs.Common.{refl, ap, sym, subst, ◌∙◌, append-nil, arith}
 use Rattle.std.specs.Prelude.{◌==◌}
 use Rattle.command_words.specs.declared.command.Command.{Command}
 use Rattle.command_words.specs.declared.command.WordFault.{WordFault}
 use Rattle.command_words.specs.Effect.{Effect}
 use Rattle.command_words.specs.Laws.{signals}
 use Rattle.command_words.specs.Space.{Space, held_at}
-use Rattle.command_words.specs.Words.{reading}
 use Rattle.serial_model.specs.declared.mode.Runner.{Runner}
 use Rattle.serial_model.specs.declared.history.Limits.{Limits}
 use Rattle.serial_model.specs.declared.history.Entry.{Entry}
 use Rattle.serial_model.specs.declared.history.Entry.TheVariants.{Admit, Run, Tick, Take, Close}
-use Rattle.serial_model.specs.History.{Sending, End, sends, sent_to, sent, has_ended}
-use Rattle.serial_model.specs.History.{IsLegal, served}
-use Rattle.serial_model.specs.History.{effect_of, ran_over, ran, keyspace, is_admitted}
-use Rattle.serial_model.specs.History.{runner}
+use Rattle.serial_model.specs.History.{Sending, End, sends, sent_to, sent, has_ended, IsLegal}
+use Rattle.serial_model.specs.History.{served, effect_of, ran_over, ran, keyspace, is_admitted}
 use Rattle.serial_model.specs.History.{expired}
 use Rattle.serial_model.specs.Laws.{AreOf, is_among}
-use Rattle.command_words.specs.Expiry.{without_due}
 use Rattle.serial_model.proofs.DueKeys.{not_due_stays}
 use Rattle.serial_model.proofs.ServedRows.{served_cases, data_effect, row_of}
 use Rattle.serial_model.proofs.Streams.{IsLive, live, run_sends_none, tick_sends_none}
@@ -29,11 +24,7 @@ use Rattle.std.proofs.lemmas.Bool.{eqb-true}
 
 of_entry : (n c : ℕ) (ss : List (ℕ × Sending)) → AreOf n (sent_to n c ss)
 of_entry n c [] = tt
-of_entry n c (s ∷ ss) =
-    elim (s.0 == c) as (λ b. AreOf n (cond b ((n, s.1) ∷ sent_to n c ss) (sent_to n c ss))) [
-      | true ↦ (refl, of_entry n c ss)
-      | false ↦ of_entry n c ss
-    ]
+of_entry n c (s ∷ ss) = grind (arith, of_entry n c ss)
 
 pub sent_grows : (l : Limits) (c : ℕ) (entry : Entry) (past : List Entry)
     → (new : List (ℕ × Sending)) × (sent l c (entry ∷ past) ≡ sent l c past ++ new)
@@ -53,14 +44,7 @@ adds_none l c entry past none = ap (λ ss. sent l c past ++ ss) none ∙ append-
 live_other : (l : Limits) (past : List Entry) (c h : ℕ) → has_ended l c past ≡ true
     → IsLive l past h → (h == c) ≡ false
 unfolding IsLive
-live_other l past c h ended x =
-    elim (h == c) as (λ b. (h == c) ≡ b → b ≡ false) [
-      | true ↦ λ e.
-          let no : has_ended l c past ≡ false =
-          ap (λ i. has_ended l i past) (sym (eqb-true h c e)) ∙ x.1 in
-          absurd (let n : ⊥ = cc in n)
-      | false ↦ λ e. refl
-    ] refl
+live_other l past c h ended e = grind (arith, eqb-true)
 
 pub end_is_last : (l : Limits) (c : ℕ) (entry : Entry) (past : List Entry)
     → IsLegal l (entry ∷ past)
@@ -107,7 +91,4 @@ pub held_same : (l : Limits) (id moment : ℕ) (words : List (List ℕ)) (key : 
     → signals (ran l past id words moment).signalled key ≡ false
     → held_at key (ran l past id words moment).space ≡ held_at key (keyspace l past)
 unfolding ran_over
-held_same l id moment words key past none h =
-    change_of (runner l past id) words (reading words) (without_due moment (keyspace l past)) moment
-    key h
-    ∙ not_due_stays moment (keyspace l past) key none
+held_same l id moment words key past none h = grind (arith, change_of, not_due_stays)

@@ -1,14 +1,13 @@
 -- What a step of the table leaves of a key's holders, and that these are told of it.
 use Rattle.std.proofs.Common.{◌≡◌, ◌<◌, ◌≤◌, ℕ, List, [], ◌∷◌, ◌++◌, Bool, true, false, cond}
-use Rattle.std.proofs.Common.{length, take, drop}
-use Rattle.std.proofs.Common.{refl, ap, sym, ◌∙◌, arith, inl, inr, None}
+use Rattle.std.proofs.Common.{length, take, drop, refl, ap, sym, ◌∙◌, arith, inl, inr, None}
 use Rattle.std.specs.Prelude.{◌==◌, ◌&&◌, ◌||◌, not, nat_lt}
 use Prim.Native.Nat.{zero, suc}
 use Rattle.std.specs.List.{list_any}
 use Rattle.std.specs.Str.{bytes_eq}
 use Rattle.std.proofs.lemmas.Slice.Eq.{bytes_eq-Decides}
-use Rattle.std.proofs.lemmas.Bool.{eq-eqb, or_parts, or_left, or_right, or_cases}
-use Rattle.std.proofs.lemmas.Bool.{and_from, cases_lt}
+use Rattle.std.proofs.lemmas.Bool.{eq-eqb, or_parts, or_left, or_right, or_cases, and_from}
+use Rattle.std.proofs.lemmas.Bool.{cases_lt}
 use Rattle.std.proofs.lemmas.Bool.Decides.{nat_tests}
 use Rattle.std.proofs.lemmas.List.Folds.{list_any-append}
 use Rattle.std.proofs.lemmas.Map.Views.{any-filter_same}
@@ -17,13 +16,12 @@ use Rattle.command_words.specs.declared.command.Signalled.TheVariants as signall
 use Rattle.command_words.specs.Laws.{signals}
 use Rattle.track_table.specs.declared.table.Held.{Held}
 use Rattle.id_set.specs.Ids.{with_id, without_id}
-use Rattle.track_table.specs.Table.{holders_of, is_held, remembered}
-use Rattle.track_table.specs.Table.{without_key, freed_of, without_connection, with_keys}
+use Rattle.track_table.specs.Table.{holders_of, is_held, remembered, without_key, freed_of}
+use Rattle.track_table.specs.Table.{without_connection, with_keys}
 use Rattle.track_table.proofs.Orders.{holders_remembered}
 use Rattle.serial_model.specs.Modes.{Memory, Remembers, Forgets}
 use Rattle.serial_model.specs.Tracking.{without_keys, without_signalled, remembering, told_of}
-use Rattle.serial_model.specs.Tracking.{group, drop_group, told_to, signal_group, ids_where}
-use Rattle.serial_model.specs.Tracking.{tells}
+use Rattle.serial_model.specs.Tracking.{group, drop_group, told_to, signal_group, ids_where, tells}
 use Rattle.serial_model.specs.Laws.{is_among, is_forgets}
 
 abbrev pub holds : ℕ → List ℕ → Bool
@@ -36,8 +34,7 @@ itself : (a : List ℕ) → bytes_eq a a ≡ true
 itself a = (bytes_eq-Decides a a).1 refl
 
 or_keeps : (a b d : Bool) → (b ≡ true → d ≡ true) → (a || b) ≡ true → (a || d) ≡ true
-or_keeps true b d f h = refl
-or_keeps false b d f h = f h
+or_keeps a b d f h = grind (arith, nat_tests)
 
 module _ (c : ℕ) where
   with_keeps : (id : ℕ) (ids : List ℕ) → holds c ids ≡ true → holds c (with_id id ids) ≡ true
@@ -54,16 +51,7 @@ module _ (c : ℕ) where
 
   with_itself : (ids : List ℕ) → holds c (with_id c ids) ≡ true
   with_itself [] = or_left (c == c) false (eq-eqb c c refl)
-  with_itself (x ∷ xs) =
-      elim (nat_lt x c) as (λ b. holds c (cond b (x ∷ with_id c xs)
-      (cond (x == c) (x ∷ xs) (c ∷ x ∷ xs))) ≡ true) [
-        | true ↦ or_right (x == c) (holds c (with_id c xs)) (with_itself xs)
-        | false ↦ elim (x == c) as (λ b. (x == c) ≡ b
-            → holds c (cond b (x ∷ xs) (c ∷ x ∷ xs)) ≡ true) [
-              | true ↦ λ e. or_left (x == c) (holds c xs) e
-              | false ↦ λ e. or_left (c == c) (holds c (x ∷ xs)) (eq-eqb c c refl)
-            ] refl
-      ]
+  with_itself (x ∷ xs) = grind (arith, or_right, or_left, eq-eqb, with_itself xs)
 
   without_keeps : (id : ℕ) (ids : List ℕ) → (id == c) ≡ false → holds c ids ≡ true
       → holds c (without_id id ids) ≡ true
@@ -100,8 +88,7 @@ module _ (c : ℕ) where
     -- and so do those that a command signals
     pub signalled_apart : (sig : Signalled) (rows : List Held) → signals sig key ≡ false
         → holders_of key (without_signalled sig rows) ≡ holders_of key rows
-    signalled_apart (signalled.Keys keys) rows h = keys_apart keys rows h
-    signalled_apart signalled.All rows h = absurd (let no : ⊥ = cc in no)
+    signalled_apart sig rows h = grind (arith, keys_apart, nat_tests)
 
     remembered_keeps : (id : ℕ) (k : List ℕ) (rows : List Held)
         → holds c (holders_of key rows) ≡ true
@@ -162,8 +149,7 @@ module _ (c : ℕ) where
         without_other id rows (and_true (id == c) other) h
       where
         and_true : (b : Bool) → (b && true) ≡ false → b ≡ false
-        and_true true e = e
-        and_true false e = refl
+        and_true b e = grind (arith, nat_tests)
 
     -- ---- of the keys past the limit, and those within
 
@@ -240,8 +226,7 @@ module _ (c : ℕ) where
         → signals sig key ≡ true → holds c (holders_of key rows) ≡ true
         → (sig ≡ signalled.All → holds c ids ≡ true)
         → list_any (tells c key) (signal_group sig ids rows) ≡ true
-    signal_tells (signalled.Keys keys) ids rows h held among = group_tells keys rows h held
-    signal_tells signalled.All ids rows h held among = flush_tells ids (among refl)
+    signal_tells sig ids rows h held among = grind (arith, group_tells, flush_tells, nat_tests)
 
   holds_append : (xs ys : List ℕ) → holds c (xs ++ ys) ≡ (holds c xs || holds c ys)
   holds_append xs ys = list_any-append (λ h. h == c) xs ys

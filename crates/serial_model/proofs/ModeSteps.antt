@@ -1,5 +1,5 @@
 -- The mode of a connection, entry by entry.
-use Rattle.std.proofs.Common.{◌≡◌, ◌<◌, ℕ, List, [], ◌∷◌, true, false, cond, refl, ap, arith}
+use Rattle.std.proofs.Common.{◌≡◌, ◌<◌, ℕ, List, [], ◌∷◌, true, false, refl, arith}
 use Rattle.std.specs.Prelude.{◌==◌}
 use Rattle.std.proofs.lemmas.Bool.Decides.{nat_tests}
 use Rattle.serial_model.specs.declared.history.Limits.{Limits}
@@ -13,30 +13,22 @@ use Rattle.serial_model.proofs.Streams.{connected}
 module _ (l : Limits) where
   pub mode_other : (c id m : ℕ) (words : List (List ℕ)) (past : List Entry) → (id == c) ≡ false
       → mode l c (Run id words m ∷ past) ≡ mode l c past
-  mode_other c id m words past h =
-      ap (λ b. cond b (made_of words (mode l c past)).mode (mode l c past)) h
+  mode_other c id m words past h = grind arith
 
   pub mode_own : (c id m : ℕ) (words : List (List ℕ)) (past : List Entry) → (id == c) ≡ true
       → mode l c (Run id words m ∷ past) ≡ (made_of words (mode l c past)).mode
-  mode_own c id m words past h =
-      ap (λ b. cond b (made_of words (mode l c past)).mode (mode l c past)) h
+  mode_own c id m words past h = grind arith
 
   pub mode_by_own_runs : (c : ℕ) (entry : Entry) (past : List Entry) → IsNoRun c entry
       → mode l c (entry ∷ past) ≡ mode l c past
-  mode_by_own_runs c (Admit id) past h = refl
-  mode_by_own_runs c (Run id words m) past h = mode_other c id m words past h
-  mode_by_own_runs c (Tick m) past h = refl
-  mode_by_own_runs c (Take id max) past h = refl
-  mode_by_own_runs c (Close id) past h = refl
+  mode_by_own_runs c entry past h = grind (arith, mode_other, nat_tests)
 
   -- a connection that was not admitted has the first mode
   pub mode_fresh : (past : List Entry) (c : ℕ) → IsLegal l past → admitted past < c
       → mode l c past ≡ first_mode
   mode_fresh [] c h lt = refl
   mode_fresh (Admit id ∷ past) c h lt = mode_fresh past c h.2 (omega arith)
-  mode_fresh (Run id words m ∷ past) c h lt =
-      let r = mode_fresh past c h.3 lt in let k = connected l past id h.0 in
-      grind (arith, nat_tests)
+  mode_fresh (Run id words m ∷ past) c h lt = grind (arith, connected, mode_fresh past c h.3 lt)
   mode_fresh (Tick m ∷ past) c h lt = mode_fresh past c h.3 lt
   mode_fresh (Take id max ∷ past) c h lt = mode_fresh past c h.3 lt
   mode_fresh (Close id ∷ past) c h lt = mode_fresh past c h.1 lt

@@ -1,19 +1,14 @@
 -- What a turn of one connection leaves of the others.
-use Rattle.std.proofs.Common.{◌≡◌, ◌+◌, ℕ, List, [], ◌∷◌, ◌++◌, true, false, cond, length}
-use Rattle.std.proofs.Common.{max, refl}
-use Rattle.std.proofs.Common.{sym, ap, ◌∙◌, append-nil, append_assoc, arith}
+use Rattle.std.proofs.Common.{◌≡◌, ◌+◌, ℕ, List, [], ◌∷◌, ◌++◌, true, cond, length, max, refl, sym}
+use Rattle.std.proofs.Common.{ap, ◌∙◌, append-nil, append_assoc, arith}
 use Rattle.std.proofs.lemmas.Bool.Decides.{nat_tests}
 use Rattle.serial_model.specs.declared.history.Limits.{Limits}
 use Rattle.serial_model.specs.declared.history.Entry.{Entry}
 use Rattle.serial_model.specs.declared.history.Entry.TheVariants as entry
 use Rattle.serial_model.specs.declared.history.BookCall.{BookCall}
-use Rattle.serial_model.specs.declared.history.BookCall.TheVariants.{Admit, Run, Tick, Take}
-use Rattle.serial_model.specs.declared.history.BookCall.TheVariants.{Close}
-use Rattle.serial_model.specs.History.{admitted, is_admitted}
-use Rattle.serial_model.specs.History.{has_ended}
-use Rattle.serial_model.specs.History.{latest, taken, runs_of, is_full, sends}
-use Rattle.serial_model.specs.History.{sent_to}
-use Rattle.serial_model.specs.History.{sent_bytes}
+use Rattle.serial_model.specs.declared.history.BookCall.TheVariants.{Admit, Run, Tick, Take, Close}
+use Rattle.serial_model.specs.History.{admitted, is_admitted, has_ended, latest, taken, runs_of}
+use Rattle.serial_model.specs.History.{sends, sent_to, sent_bytes}
 use Rattle.serial_model.specs.Steps.{Turn, book_step, full, unless_full}
 use Rattle.serial_model.specs.Laws.{Extends, IsOther}
 use Rattle.serial_model.proofs.StepCases.{by_admit, by_run, by_tick, by_take, by_close}
@@ -22,8 +17,7 @@ use Rattle.serial_model.proofs.Streams.{stream_more, taken_other, ended_other}
 -- the turn of a limit is the turn or none
 pub by_limit : (l : Limits) (past : List Entry) (turn : Turn) (P : Turn → Type 0) → P (full past)
     → P turn → P (unless_full l past turn)
-by_limit l past turn P none does =
-    elim (is_full l past) as (λ b. P (cond b (full past) turn)) [ true ↦ none | false ↦ does ]
+by_limit l past turn P none does = grind arith
 
 module _ (l : Limits) (c : ℕ) where
   pub extends_none : (past : List Entry) → Extends l c past past

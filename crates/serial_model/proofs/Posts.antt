@@ -1,7 +1,6 @@
 -- The posts of an entry, and the end of a connection, are read off what was sent.
 use Rattle.std.proofs.Common.{◌≡◌, ◌+◌, ◌<◌, ℕ, List, [], ◌∷◌, ◌++◌, Bool, true, false, cond}
-use Rattle.std.proofs.Common.{length, get_or}
-use Rattle.std.proofs.Common.{refl, ap, sym, ◌∙◌, arith, append-nil}
+use Rattle.std.proofs.Common.{length, get_or, refl, ap, sym, ◌∙◌, arith, append-nil}
 use Rattle.std.specs.Prelude.{◌==◌, ◌||◌, filter}
 use Prim.Native.Nat.{zero, suc}
 use Rattle.std.proofs.lemmas.Bool.{eqb-true}
@@ -12,14 +11,12 @@ use Rattle.serial_model.specs.declared.history.Entry.{Entry}
 use Rattle.serial_model.specs.declared.history.Entry.TheVariants.{Admit, Run, Tick, Take, Close}
 use Rattle.serial_model.specs.declared.history.Post.{Post}
 use Rattle.serial_model.specs.History.{Sending, End, sends, sent_to, sent, posts_of, posted}
-use Rattle.serial_model.specs.History.{posted_of}
-use Rattle.resp_value.specs.declared.value.Proto.TheVariants.{Two, Three}
+use Rattle.serial_model.specs.History.{posted_of, has_ended, Message, modes, expiry_group, by_proto}
+use Rattle.serial_model.specs.History.{routed}
 use Rattle.serial_model.specs.declared.mode.Mode.{Mode}
-use Rattle.serial_model.specs.History.{has_ended, Message, modes}
-use Rattle.serial_model.specs.History.{expiry_group, by_proto, route, routed}
-use Rattle.serial_model.specs.Tracking.{Invalidation, push_of}
+use Rattle.serial_model.specs.Tracking.{Invalidation}
 use Rattle.serial_model.proofs.Tables.{sent_to-append}
-use Rattle.serial_model.specs.Laws.{as_posts, has_end, is_end}
+use Rattle.serial_model.specs.Laws.{as_posts, has_end}
 
 abbrev post_of : ℕ → ℕ → Sending → Post
 post_of entry id s = record { entry = entry; id = id; what = posted_of s }
@@ -33,15 +30,7 @@ as_posts-append c (x ∷ xs) ys = ap (λ ps. post_of x.0 c x.1 ∷ ps) (as_posts
 posts_for : (n c : ℕ) (ss : List (ℕ × Sending))
     → as_posts c (sent_to n c ss) ≡ filter (λ p. p.id == c) (posts_of n ss)
 posts_for n c [] = refl
-posts_for n c (s ∷ ss) =
-    elim (s.0 == c) as (λ b. (s.0 == c) ≡ b
-    → as_posts c (cond b ((n, s.1) ∷ sent_to n c ss) (sent_to n c ss))
-    ≡ cond b (post_of n s.0 s.1 ∷ filter (λ p. p.id == c) (posts_of n ss))
-    (filter (λ p. p.id == c) (posts_of n ss))) [
-      | true ↦ λ e. ap (λ i. post_of n i s.1 ∷ as_posts c (sent_to n c ss)) (sym (eqb-true s.0 c e))
-          ∙ ap (λ ps. post_of n s.0 s.1 ∷ ps) (posts_for n c ss)
-      | false ↦ λ e. posts_for n c ss
-    ] refl
+posts_for n c (s ∷ ss) = grind (arith, eqb-true, posts_for n c ss)
 
 pub posted_is_sent : (l : Limits) (c : ℕ) (entry : Entry) (past : List Entry)
     → as_posts c (sent l c (entry ∷ past)) ≡ as_posts c (sent l c past)
@@ -68,42 +57,31 @@ posts_are_numbered l past = grind (arith, numbered)
 
 has_end-append : (xs ys : List (ℕ × Sending)) → has_end (xs ++ ys) ≡ has_end xs || has_end ys
 has_end-append [] ys = refl
-has_end-append (x ∷ xs) ys =
-    elim (is_end x.1) as (λ b. b || has_end (xs ++ ys) ≡ (b || has_end xs) || has_end ys) [
-      | true ↦
-          refl
-      | false ↦ has_end-append xs ys
-    ]
+has_end-append (x ∷ xs) ys = grind (arith, has_end-append xs ys)
 
 or_false : (a : Bool) → a ≡ a || false
-or_false true = refl
-or_false false = refl
+or_false a = grind arith
 
 or_end : (a b : Bool) (n : ℕ) → cond b true a ≡ a || has_end (cond b ((n, End) ∷ []) [])
 or_end a b n = grind arith
 
 no_ends : (xs ys : List (ℕ × Sending)) → has_end xs ≡ false → has_end ys ≡ false
     → has_end (xs ++ ys) ≡ false
-no_ends xs ys h g =
-    has_end-append xs ys ∙ ap (λ b. b || has_end ys) h ∙ g
+no_ends xs ys h g = grind (arith, has_end-append)
 
 message_no_end : (b : Bool) (n : ℕ) (p : Proto) (v : Value) (ss : List (ℕ × Sending))
     → has_end ss ≡ false → has_end (cond b ((n, Message p v) ∷ ss) ss) ≡ false
-message_no_end true n p v ss h = h
-message_no_end false n p v ss h = h
+message_no_end b n p v ss h = grind arith
 
 route_no_end : (n c : ℕ) (p : Proto) (i : Invalidation)
     → has_end (sent_to n c (by_proto p i)) ≡ false
-route_no_end n c Two i = refl
-route_no_end n c Three i = message_no_end (i.to == c) n Three (push_of i.keys) [] refl
+route_no_end n c p i = grind (arith, message_no_end)
 
 routed_no_end : (n c : ℕ) (modes : ℕ → Mode) (told : List Invalidation)
     → has_end (sent_to n c (routed modes told)) ≡ false
 routed_no_end n c modes [] = refl
 routed_no_end n c modes (i ∷ told) =
-    ap has_end (sent_to-append n c (route (modes i.to) i) (routed modes told))
-    ∙ no_ends (sent_to n c (route (modes i.to) i)) (sent_to n c (routed modes told))
-    (route_no_end n c (modes i.to).proto i) (routed_no_end n c modes told)
+    grind (arith, sent_to-append, no_ends, route_no_end, routed_no_end n c modes told)
 
 run_no_end : (l : Limits) (n c id : ℕ) (words : List (List ℕ)) (m : ℕ) (past : List Entry)
     → has_end (sent_to n c (sends l (Run id words m) past)) ≡ false

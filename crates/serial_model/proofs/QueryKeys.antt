@@ -1,6 +1,5 @@
 -- The answer to a query depends on what its key holds alone.
-use Rattle.std.proofs.Common.{◌≡◌, ◌∙◌, sym, ap, refl, ℕ, List, [], ◌∷◌, true, false}
-use Rattle.std.proofs.Common.{Ok, Err, inl, inr}
+use Rattle.std.proofs.Common.{◌≡◌, ◌∙◌, sym, ap, refl, ℕ, List, [], ◌∷◌, true, Ok, Err, arith}
 use Rattle.std.specs.Str.{bytes_eq}
 use Rattle.std.specs.List.{list_any}
 use Rattle.std.specs.Option.{option_map}
@@ -16,10 +15,7 @@ use Rattle.command_words.specs.Laws.{RepliesAreOfKeysRead}
 use Rattle.command_words.proofs.Readings.{keys_read, reads_its_key}
 
 one_of : (key k : List ℕ) → list_any (bytes_eq key) (k ∷ []) ≡ true → key ≡ k
-one_of key k h = elim (or_cases (bytes_eq key k) false h) [
-  | inl e ↦ (bytes_eq-Decides key k).0 e
-  | inr e ↦ absurd (let no : ⊥ = cc in no)
-]
+one_of key k h = grind (arith, or_cases, bytes_eq-Decides)
 
 alike_as : RepliesAreOfKeysRead → (r : Read Command) (k : List ℕ) (s o : Space)
     → keys_read r ≡ k ∷ [] → held_at k s ≡ held_at k o → answer_as r s ≡ answer_as r o

@@ -1,14 +1,12 @@
 -- What changes is signalled, and what is read is what a query of it answers.
-use Rattle.std.proofs.Common.{refl, ap, sym, ◌∙◌}
+use Rattle.std.proofs.Common.{refl, ap, sym, ◌∙◌, arith}
 use Rattle.std.proofs.lemmas.Bool.{or_parts}
-use Rattle.command_words.specs.Effect.{Effect}
 use Rattle.command_words.specs.Space.{held_at}
-use Rattle.command_words.specs.Words.{reading}
 use Rattle.command_words.specs.Expiry.{without_due}
 use Rattle.command_words.specs.Laws.{RepliesAreOfKeysRead, signals}
-use Rattle.command_words.specs.Effects.{answer, answer_as}
+use Rattle.command_words.specs.Effects.{answer}
 use Rattle.serial_model.specs.declared.history.Entry.TheVariants.{Admit, Run, Tick, Take, Close}
-use Rattle.serial_model.specs.History.{served, ran_over, ran, keyspace, runner, expired}
+use Rattle.serial_model.specs.History.{ran_over, ran, keyspace, expired}
 use Rattle.serial_model.specs.Laws.{ChangeIsSignalled, ReadReplies, is_among}
 use Rattle.serial_model.proofs.DueKeys.{not_due_stays}
 use Rattle.serial_model.proofs.ServedRows.{served_is, query_effect}
@@ -40,11 +38,4 @@ change_is_signalled replies l (Close id) past key h = (refl, λ query cacheable 
 
 pub read_replies : ReadReplies
 unfolding ran_over answer
-read_replies l id moment words past h =
-    let s = without_due moment (keyspace l past) in
-    let by = runner l past id in
-    let is = served_is (reading words) h in
-    let does = query_effect by words (served (reading words)) s moment h in
-    ap (λ (e : Effect). e.reply) does
-    ∙ ap (λ r. answer_as r s) is
-    ∙ sym (ap (λ (e : Effect). answer_as (reading words) e.space) does)
+read_replies l id moment words past h = grind (arith, served_is, query_effect)

@@ -1,10 +1,9 @@
 -- What is served, case by case, and what each row that is served does: it signals each key once,
 -- and leaves each key that it does not signal.
-use Rattle.std.proofs.Common.{◌≡◌, ◌∙◌, refl, sym, ap, ℕ, ℤ, List, [], ◌∷◌}
-use Rattle.std.proofs.Common.{Bool, true, false, cond, Option, None, Some, Result, Ok, Err}
-use Rattle.std.proofs.Common.{length, map, inl, inr, ◌⊎◌, is_some}
-use Rattle.std.specs.Prelude.{pos, negsuc, neg_ℤ, nat_lt, not, ◌==◌, ◌++◌, ◌||◌, ◌&&◌}
-use Rattle.std.specs.Prelude.{if◌then◌else◌, codes}
+use Rattle.std.proofs.Common.{◌≡◌, ◌∙◌, refl, sym, ap, ℕ, ℤ, List, [], ◌∷◌, Bool, true, false, cond}
+use Rattle.std.proofs.Common.{Option, None, Some, Result, Ok, Err, length, map, ◌⊎◌, is_some, arith}
+use Rattle.std.specs.Prelude.{pos, negsuc, neg_ℤ, nat_lt, ◌==◌, ◌++◌, ◌||◌, ◌&&◌, if◌then◌else◌}
+use Rattle.std.specs.Prelude.{codes}
 use Rattle.std.specs.FinMap.{get, insert, remove, contains_key, empty}
 use Rattle.std.specs.Fmt.{signed_decimal}
 use Rattle.std.specs.List.{filter, list_any}
@@ -20,20 +19,18 @@ use Rattle.command_words.specs.declared.command.TrackOptions.{TrackOptions}
 use Rattle.command_words.specs.declared.command.Signalled.{Signalled}
 use Rattle.command_words.specs.declared.command.Signalled.TheVariants.{Keys, All}
 use Rattle.command_words.specs.declared.command.WordFault.{WordFault}
-use Rattle.command_words.specs.declared.command.WordFault.TheVariants.{Unknown}
 use Rattle.command_words.specs.KeyLists.{each_once}
 use Rattle.command_words.specs.Laws.{signals}
 use Rattle.command_words.specs.Space.{Content, Text, Fields, Held, Space, content_at, held_at}
-use Rattle.command_words.specs.Space.{deadline_at}
-use Rattle.command_words.specs.Effect.{Effect, replied, wrote, wrong_type}
-use Rattle.command_words.specs.Effect.{not_integer, number_in, sum_in}
+use Rattle.command_words.specs.Space.{deadline_at, changed_at}
+use Rattle.command_words.specs.Effect.{Effect, replied, wrote, wrong_type, not_integer, number_in}
+use Rattle.command_words.specs.Effect.{sum_in}
 use Rattle.command_words.specs.Effects.{effect, string_effect, hash_effect, key_effect, read_reply}
 use Rattle.command_words.specs.Effects.{answer_as, has_row}
 use Rattle.command_words.specs.Hashes.{Pairs, on_fields, put_fields, hset_row, hdel_row}
 use Rattle.command_words.specs.Hashes.{hincrby_row, set_all, remove_all, field_sum, field_set}
 use Rattle.command_words.specs.Keys.{there, remove_each, renamed, expiring, expire_effect}
 use Rattle.command_words.specs.Keys.{expiry_after, expiry_at, rename_effect}
-use Rattle.command_words.specs.Space.{changed_at}
 use Rattle.command_words.specs.Queries.{reads_as_cacheable, read}
 use Rattle.command_words.specs.Strings.{on_text, getdel_row, append_row, incrby_row, put_all}
 use Rattle.command_words.specs.Strings.{incrby_effect, is_least, or_empty, sets, put_text}
@@ -42,9 +39,9 @@ use Rattle.command_words.proofs.HeldAt.{at_insert, at_remove, at_remove_each}
 use Rattle.command_words.proofs.KeysOnce.{any_left, any_once, left_false, right_false}
 use Rattle.serial_model.specs.declared.mode.Mode.{Mode}
 use Rattle.serial_model.specs.declared.mode.Runner.{Runner}
-use Rattle.serial_model.specs.Modes.{Remembers, own_effect, remembers_read, is_served_tracking}
+use Rattle.serial_model.specs.Modes.{Remembers, own_effect, remembers_read}
 use Rattle.serial_model.specs.Tracking.{AreApart}
-use Rattle.serial_model.specs.History.{served, is_served, effect_of}
+use Rattle.serial_model.specs.History.{served, effect_of}
 use Rattle.serial_model.specs.Laws.{is_among}
 
 -- ---- what is served
@@ -56,61 +53,29 @@ module _ (P : Result Command WordFault → Type 0)
     (data_command : (c : Command) → has_row c ≡ true → P (Ok c))
     (fault : (f : WordFault) → P (Err f)) where
   pub served_cases : (r : Result Command WordFault) → P (served r)
-  served_cases (Ok (command.Hello word)) = hello word
-  served_cases (Ok (command.ClientTracking options)) =
-      elim (is_served_tracking options) as (λ b. P (cond b (Ok (command.ClientTracking options))
-      (Err Unknown))) [ true ↦ tracking options | false ↦ fault Unknown ]
-  served_cases (Ok c) =
-      elim (has_row c) as (λ b. has_row c ≡ b → P (cond b (Ok c) (Err Unknown))) [
-        | true ↦ λ e. data_command c e
-        | false ↦ λ e. fault Unknown
-      ] refl
-  served_cases (Err f) = fault f
+  served_cases r = grind arith
 
 -- words that are served as a cacheable query are those that are read
 pub served_is : (r : Result Command WordFault) → reads_as_cacheable (served r) ≡ true
     → served r ≡ r
-served_is (Ok c) h =
-    elim (is_served c) as (λ b. reads_as_cacheable (cond b (Ok c) (Err Unknown)) ≡ true
-    → cond b (Ok c) (Err Unknown) ≡ Ok c) [
-      | true ↦ λ e. refl
-      | false ↦ λ e. absurd (let no : ⊥ = cc in no)
-    ] h
-served_is (Err f) h = refl
+served_is r h = grind arith
 
 module _ (by : Runner) (words : List (List ℕ)) where
   pub data_effect : (c : Command) (s : Space) (moment : ℕ) → has_row c ≡ true
       → effect_of by words (Ok c) s moment ≡ effect c s moment
-  data_effect (command.Hello word) s moment h = absurd (let no : ⊥ = cc in no)
-  data_effect (command.ClientTracking options) s moment h = absurd (let no : ⊥ = cc in no)
-  data_effect _ s moment h = refl
+  data_effect c s moment h = grind arith
 
   -- a cacheable query is answered, and nothing changes
   pub query_effect : (r : Result Command WordFault) (s : Space) (moment : ℕ)
       → reads_as_cacheable r ≡ true → effect_of by words r s moment ≡ replied (answer_as r s) s
   unfolding effect string_effect hash_effect key_effect read_reply
-  query_effect (Ok (command.Get key)) s moment h = refl
-  query_effect (Ok (command.StrLen key)) s moment h = refl
-  query_effect (Ok (command.GetRange key a b)) s moment h = refl
-  query_effect (Ok (command.HGet key field)) s moment h = refl
-  query_effect (Ok (command.HMGet key fields)) s moment h = refl
-  query_effect (Ok (command.HGetAll key)) s moment h = refl
-  query_effect (Ok (command.HLen key)) s moment h = refl
-  query_effect (Ok (command.HExists key field)) s moment h = refl
-  query_effect (Ok (command.HKeys key)) s moment h = refl
-  query_effect (Ok (command.HVals key)) s moment h = refl
-  query_effect (Ok (command.Exists keys)) s moment h = refl
-  query_effect (Ok (command.KeyType key)) s moment h = refl
-  query_effect (Ok _) s moment h = absurd (let no : ⊥ = cc in no)
-  query_effect (Err f) s moment h = absurd (let no : ⊥ = cc in no)
+  query_effect r s moment h = grind arith
 
 -- a data command leaves its connection's mode, which remembers what it reads
 pub data_own : (c : Command) (mode : Mode) → has_row c ≡ true
     → own_effect (Ok c) mode
     ≡ record { mode = mode; memory = Remembers (if remembers_read mode then read c else []) }
-data_own (command.Hello word) mode h = absurd (let no : ⊥ = cc in no)
-data_own (command.ClientTracking options) mode h = absurd (let no : ⊥ = cc in no)
-data_own _ mode h = refl
+data_own c mode h = grind arith
 
 -- ---- what a row does
 
@@ -128,44 +93,30 @@ module _ {s : Space} where
   none = record { apart = tt; others_stay = λ q apart. refl }
 
   either : (b : Bool) {x y : Effect} → Row s x → Row s y → Row s (if b then x else y)
-  either true one other = one
-  either false one other = other
+  either b one other = grind arith
 
   text : (content : Option Content) (rows : Option (List ℕ) → Effect)
       → ((v : Option (List ℕ)) → Row s (rows v))
       → Row s (on_text (replied wrong_type s) rows content)
-  text None rows all = all None
-  text (Some (Text v)) rows all = all (Some v)
-  text (Some (Fields fs)) rows all = none
+  text content rows all = grind (arith, none)
 
   fields : (content : Option Content) (rows : Pairs → Effect)
       → ((fs : Pairs) → Row s (rows fs))
       → Row s (on_fields (replied wrong_type s) rows content)
-  fields None rows all = all []
-  fields (Some (Text v)) rows all = none
-  fields (Some (Fields fs)) rows all = all fs
+  fields content rows all = grind (arith, none)
 
 module _ (s : Space) (k : List ℕ) where
   put_other : (held : Held) (q : List ℕ) → bytes_eq q k ≡ false
       → held_at q (insert s k held) ≡ held_at q s
-  put_other held q apart =
-      at_insert s k held q ∙ ap (λ b. cond b (Some held) (held_at q s)) apart
+  put_other held q apart = grind (arith, at_insert)
 
   -- one key is put
   put : {reply : Value} (held : Held) → Row s (wrote reply (k ∷ []) (insert s k held))
-  put held = record {
-    apart = (refl, tt);
-    others_stay = λ q apart. put_other held q (left_false (bytes_eq q k) false apart);
-  }
+  put held = grind (arith, put_other, left_false)
 
   -- one key goes
   gone : {reply : Value} → Row s (wrote reply (k ∷ []) (remove s k))
-  gone = record {
-    apart = (refl, tt);
-    others_stay = λ q apart.
-        at_remove s k q
-        ∙ ap (λ b. cond b None (held_at q s)) (left_false (bytes_eq q k) false apart);
-  }
+  gone = grind (arith, at_remove, left_false)
 
   -- what one key holds is changed, if it is there
   change : {reply : Value} (f : Held → Held) → Row s (wrote reply (k ∷ []) (changed_at k f s))
@@ -183,8 +134,7 @@ module _ (s : Space) (k : List ℕ) where
 -- a key that passes a test and is none of those that pass it is none of them all
 passed : (p : List ℕ → Bool) (q : List ℕ) (keys : List (List ℕ)) → p q ≡ true
     → is_among (filter p keys) q ≡ false → is_among keys q ≡ false
-passed p q keys is h =
-    sym (ap (λ b. b && is_among keys q) is) ∙ (sym (any_left p q keys) ∙ h)
+passed p q keys is h = grind (arith, any_left)
 
 module _ (q : List ℕ) where
   -- a key that is none of those met first is none of them
@@ -202,27 +152,15 @@ module _ (q : List ℕ) where
 
 -- and each of those met first is there once
 and_false : (b : Bool) → (b && false) ≡ false
-and_false true = refl
-and_false false = refl
+and_false b = grind arith
 
 apart_still : (p : List ℕ → Bool) (keys : List (List ℕ)) → AreApart keys → AreApart (filter p keys)
 apart_still p [] h = tt
-apart_still p (x ∷ keys) h =
-    elim (p x) as (λ b. AreApart (cond b (x ∷ filter p keys) (filter p keys))) [
-      | true ↦ (
-        any_left p x keys ∙ (ap (λ b. p x && b) h.0 ∙ and_false (p x)),
-        apart_still p keys h.1,
-      )
-      | false ↦ apart_still p keys h.1
-    ]
+apart_still p (x ∷ keys) h = grind (arith, any_left, and_false, apart_still p keys h.1)
 
 once_apart : (keys : List (List ℕ)) → AreApart (each_once keys)
 once_apart [] = tt
-once_apart (k ∷ keys) = (
-  any_left (λ x. not (bytes_eq x k)) k (each_once keys)
-      ∙ ap (λ b. not b && is_among (each_once keys) k) ((bytes_eq-Decides k k).1 refl),
-  apart_still (λ x. not (bytes_eq x k)) (each_once keys) (once_apart keys),
-)
+once_apart (k ∷ keys) = grind (arith, any_left, bytes_eq-Decides, apart_still, once_apart keys)
 
 -- keys go
 del : {reply : Value} (keys : List (List ℕ)) (s : Space)
@@ -233,15 +171,11 @@ del keys s = record {
 }
   where
     missing : (b : Bool) (h : Option Held) → h ≡ None → cond b None h ≡ h
-    missing true h e = sym e
-    missing false h e = refl
+    missing b h e = grind arith
 
     others : (q : List ℕ) → is_among (there keys s) q ≡ false → (h : Option Held)
         → held_at q s ≡ h → cond (is_among keys q) None h ≡ h
-    others q apart None e = missing (is_among keys q) None refl
-    others q apart (Some held) e =
-        ap (λ b. cond b None (Some held))
-        (none_of q keys (passed (contains_key s) q (each_once keys) (ap is_some e) apart))
+    others q apart h e = grind (arith, missing, none_of, passed, is_some)
 
 rename : {reply : Value} (a b : List ℕ) (s : Space) → bytes_eq a b ≡ false
     → Row s (wrote reply (a ∷ b ∷ []) (renamed a b s))
@@ -253,10 +187,7 @@ rename {reply} a b s other = record {
   where
     moved : (q : List ℕ) → bytes_eq q a ≡ false → bytes_eq q b ≡ false → (h : Option Held)
         → held_at q (option_map_or (λ held. insert (remove s a) b held) h s) ≡ held_at q s
-    moved q not_a not_b None = refl
-    moved q not_a not_b (Some held) =
-        put_other (remove s a) b held q not_b
-        ∙ at_remove s a q ∙ ap (λ x. cond x None (held_at q s)) not_a
+    moved q not_a not_b h = grind (arith, put_other, at_remove)
 
 renames : (a b : List ℕ) (s : Space) → Row s (rename_effect a b s)
 renames a b s =
@@ -379,19 +310,4 @@ row_of _ s moment h = absurd (let no : ⊥ = cc in no)
 pub reads_or_writes : (c : Command) (s : Space) (moment : ℕ) → has_row c ≡ true
     → ((effect c s moment).signalled ≡ Keys []) ⊎ (read c ≡ [])
 unfolding effect string_effect hash_effect key_effect
-reads_or_writes (command.Get key) s moment h = inl refl
-reads_or_writes (command.StrLen key) s moment h = inl refl
-reads_or_writes (command.GetRange key a b) s moment h = inl refl
-reads_or_writes (command.MGet keys) s moment h = inl refl
-reads_or_writes (command.HGet key field) s moment h = inl refl
-reads_or_writes (command.HMGet key names) s moment h = inl refl
-reads_or_writes (command.HGetAll key) s moment h = inl refl
-reads_or_writes (command.HLen key) s moment h = inl refl
-reads_or_writes (command.HExists key field) s moment h = inl refl
-reads_or_writes (command.HKeys key) s moment h = inl refl
-reads_or_writes (command.HVals key) s moment h = inl refl
-reads_or_writes (command.Exists keys) s moment h = inl refl
-reads_or_writes (command.KeyType key) s moment h = inl refl
-reads_or_writes (command.Ttl key) s moment h = inl refl
-reads_or_writes (command.PTtl key) s moment h = inl refl
-reads_or_writes _ s moment h = inr refl
+reads_or_writes c s moment h = grind arith

@@ -1,7 +1,6 @@
 -- What one more entry does to the stream of a connection, and to what was taken of it.
 use Rattle.std.proofs.Common.{◌≡◌, ◌+◌, ◌-◌, ◌<◌, ◌≤◌, ℕ, List, [], ◌∷◌, ◌++◌, length, drop, min}
-use Rattle.std.proofs.Common.{sym}
-use Rattle.std.proofs.Common.{ap, ◌∙◌, refl, arith, Bool, true, false, cond, append-nil}
+use Rattle.std.proofs.Common.{sym, ap, ◌∙◌, refl, arith, Bool, true, false, cond, append-nil}
 use Rattle.std.proofs.Common.{length-append}
 use Rattle.std.specs.Prelude.{◌==◌, ◌&&◌, not}
 use Rattle.std.proofs.lemmas.Grind.{flat_map-append}
@@ -13,19 +12,16 @@ use Rattle.serial_model.specs.declared.history.Limits.{Limits}
 use Rattle.serial_model.specs.declared.history.Entry.{Entry}
 use Rattle.serial_model.specs.declared.history.Entry.TheVariants.{Admit, Run, Tick, Take, Close}
 use Rattle.track_table.specs.declared.table.Held.{Held}
-use Rattle.serial_model.specs.History.{admitted, is_admitted, runs_on, has_ended, made}
-use Rattle.serial_model.specs.History.{signals, expired, table, table_then, table_grown, drops}
-use Rattle.serial_model.specs.History.{expiry_group, own_group, routed, modes}
-use Rattle.serial_model.specs.History.{is_tracking, tracking, mode}
-use Rattle.serial_model.specs.Tracking.{Invalidation, drop_group}
-use Rattle.serial_model.specs.Tracking.{without_signalled}
-use Rattle.serial_model.specs.History.{sends, sent_to, sent, sent_bytes}
-use Rattle.serial_model.specs.History.{stream, taken, unsent, runs_of, IsLegal}
+use Rattle.serial_model.specs.History.{admitted, is_admitted, runs_on, has_ended, made, signals}
+use Rattle.serial_model.specs.History.{expired, table, table_then, table_grown, drops, expiry_group}
+use Rattle.serial_model.specs.History.{own_group, is_tracking, tracking, mode, sends, sent_to, sent}
+use Rattle.serial_model.specs.History.{sent_bytes, stream, taken, unsent, runs_of, IsLegal}
+use Rattle.serial_model.specs.Tracking.{Invalidation, drop_group, without_signalled}
 use Rattle.serial_model.specs.Each.{AllIn, AllRows, AllTo}
-use Rattle.serial_model.proofs.Tables.{all_rows, all_to, without_keys_all, kept_all}
-use Rattle.serial_model.proofs.Tables.{ids_all, without_signalled_all, signal_group_all}
-use Rattle.serial_model.proofs.Tables.{dropped_all, to_append, group_all, drop_group_all}
-use Rattle.serial_model.proofs.Tables.{remembering_all, freed_all, sent_to-append, routed_none}
+use Rattle.serial_model.proofs.Tables.{all_rows, all_to, without_keys_all, kept_all, ids_all}
+use Rattle.serial_model.proofs.Tables.{without_signalled_all, signal_group_all, dropped_all}
+use Rattle.serial_model.proofs.Tables.{to_append, group_all, drop_group_all, remembering_all}
+use Rattle.serial_model.proofs.Tables.{freed_all, sent_to-append, routed_none}
 
 both_true : (a b : Bool) → (a && not b) ≡ true → (a ≡ true) × (b ≡ false)
 both_true a b h = grind arith
@@ -38,8 +34,7 @@ module _ (l : Limits) where
   -- a connection that runs on, reads on or gives on was admitted, and has not ended
   pub connected : (past : List Entry) (id : ℕ) → runs_on l past id ≡ true
       → (0 < id) × (id ≤ admitted past)
-  connected past id h =
-      admitted_id past id (both_true (is_admitted past id) (has_ended l id past) h).0
+  connected past id h = grind (arith, admitted_id, both_true)
 
   pub not_ended : (past : List Entry) (id : ℕ) → runs_on l past id ≡ true
       → has_ended l id past ≡ false
@@ -72,7 +67,7 @@ module _ (l : Limits) where
   close_live : (past : List Entry) (id h : ℕ) → IsLive past h × ((h == id) ≡ false)
       → IsLive (Close id ∷ past) h
   unfolding IsLive
-  close_live past id h x = grind arith
+  close_live past id h e = grind arith
 
   run_live : (past : List Entry) (id : ℕ) (words : List (List ℕ)) (moment : ℕ) (rows : List Held)
       → AllRows (IsLive past) rows → AllRows (IsLive (Run id words moment ∷ past)) rows
@@ -126,24 +121,22 @@ module _ (l : Limits) where
 
   pub expiry_live : (past : List Entry) (moment : ℕ) → IsLegal l past
       → AllTo (IsLive past) (expiry_group l past moment)
-  expiry_live past moment h =
-      group_all (IsLive past) (expired l past moment) (table l past) (table_live past h)
+  expiry_live past moment h = grind (arith, group_all, table_live)
 
   pub behind_live : (past : List Entry) (id : ℕ) (words : List (List ℕ)) (moment : ℕ)
       → IsLegal l past → runs_on l past id ≡ true
       → AllTo (IsLive past) (behind past id words moment)
-  behind_live past id words moment h on =
-      grind (
-        arith,
-        table_live,
-        to_append,
-        signal_group_all,
-        tracking_live,
-        without_keys_all,
-        drop_group_all,
-        dropped_all,
-        grown_live,
-      )
+  behind_live past id words moment h on = grind (
+    arith,
+    table_live,
+    to_append,
+    signal_group_all,
+    tracking_live,
+    without_keys_all,
+    drop_group_all,
+    dropped_all,
+    grown_live,
+  )
 
   -- a Run sends nothing to another that none of its groups is for
   run_none : (n c : ℕ) (past : List Entry) (id : ℕ) (words : List (List ℕ)) (moment : ℕ)
@@ -151,57 +144,36 @@ module _ (l : Limits) where
       → AllTo (λ h. (h == c) ≡ false) (behind past id words moment)
       → (id == c) ≡ false → sent_to n c (sends l (Run id words moment) past) ≡ []
   run_none n c past id words moment before after other =
-      rw (
-        sent_to-append n c (routed (modes l past) (expiry_group l past moment)),
-        routed_none n c (modes l past) (expiry_group l past moment) before,
-        other,
-      ) (ap (sent_to n c)
-      (append-nil (routed (modes l (Run id words moment ∷ past)) (behind past id words moment)))
-      ∙ routed_none n c (modes l (Run id words moment ∷ past)) (behind past id words moment) after)
+      grind (arith, sent_to-append, routed_none, append-nil, nat_tests)
 
   -- nothing is sent by a Run to one that is not live, but for its own reply
   pub run_sends_none : (n c : ℕ) (past : List Entry) (id : ℕ) (words : List (List ℕ)) (moment : ℕ)
       → IsLegal l past → runs_on l past id ≡ true → ((h : ℕ) → IsLive past h → (h == c) ≡ false)
       → sent_to n c (sends l (Run id words moment) past) ≡ []
   run_sends_none n c past id words moment h on not_c =
-      run_none n c past id words moment
-      (all_to {P = IsLive past} {Q = λ k. (k == c) ≡ false} not_c (expiry_group l past moment)
-      (expiry_live past moment h))
-      (all_to {P = IsLive past} {Q = λ k. (k == c) ≡ false} not_c (behind past id words moment)
-      (behind_live past id words moment h on))
-      (not_c id (live past id on))
+      grind (arith, run_none, all_to, expiry_live, behind_live, live, nat_tests)
 
   pub tick_sends_none : (n c : ℕ) (past : List Entry) (moment : ℕ)
       → IsLegal l past → ((h : ℕ) → IsLive past h → (h == c) ≡ false)
       → sent_to n c (sends l (Tick moment) past) ≡ []
-  tick_sends_none n c past moment h not_c =
-      routed_none n c (modes l past) (expiry_group l past moment)
-      (all_to {P = IsLive past} {Q = λ k. (k == c) ≡ false} not_c (expiry_group l past moment)
-      (expiry_live past moment h))
+  tick_sends_none n c past moment h not_c = grind (arith, routed_none, all_to, expiry_live)
 
   -- ---- a connection that was not admitted
 
   fresh_other : (past : List Entry) (c h : ℕ) → admitted past < c → IsLive past h → (h == c) ≡ false
   unfolding IsLive
-  fresh_other past c h lt x =
-      let k = admitted_id past h x.0 in grind (arith, nat_tests)
+  fresh_other past c h lt e = grind (arith, admitted_id)
 
   pub sent_fresh : (past : List Entry) (c : ℕ) → IsLegal l past → admitted past < c
       → sent l c past ≡ []
   sent_fresh [] c h lt = refl
   sent_fresh (Admit id ∷ past) c h lt = rw (sent_fresh past c h.2 (omega arith)) refl
   sent_fresh (Run id words moment ∷ past) c h lt =
-      ap (λ xs. xs ++ sent_to (length past + 1) c (sends l (Run id words moment) past))
-      (sent_fresh past c h.3 lt)
-      ∙ run_sends_none (length past + 1) c past id words moment h.3 h.0
-      (λ k. fresh_other past c k lt)
+      grind (arith, run_sends_none, fresh_other, sent_fresh past c h.3 lt)
   sent_fresh (Tick moment ∷ past) c h lt =
-      ap (λ xs. xs ++ sent_to (length past + 1) c (sends l (Tick moment) past))
-      (sent_fresh past c h.3 lt)
-      ∙ tick_sends_none (length past + 1) c past moment h.3 (λ k. fresh_other past c k lt)
+      grind (arith, tick_sends_none, fresh_other, sent_fresh past c h.3 lt)
   sent_fresh (Take id max ∷ past) c h lt = rw (sent_fresh past c h.3 lt) refl
-  sent_fresh (Close id ∷ past) c h lt =
-      let r = sent_fresh past c h.1 lt in let k = connected past id h.0 in grind (arith, nat_tests)
+  sent_fresh (Close id ∷ past) c h lt = grind (arith, connected, sent_fresh past c h.1 lt)
 
   pub ended_fresh : (past : List Entry) (c : ℕ) → IsLegal l past → admitted past < c
       → has_ended l c past ≡ false
@@ -210,8 +182,7 @@ module _ (l : Limits) where
   ended_fresh (Run id words moment ∷ past) c h lt = ended_fresh past c h.3 lt
   ended_fresh (Tick moment ∷ past) c h lt = ended_fresh past c h.3 lt
   ended_fresh (Take id max ∷ past) c h lt = ended_fresh past c h.3 lt
-  ended_fresh (Close id ∷ past) c h lt =
-      let r = ended_fresh past c h.1 lt in let k = connected past id h.0 in grind (arith, nat_tests)
+  ended_fresh (Close id ∷ past) c h lt = grind (arith, connected, ended_fresh past c h.1 lt)
 
   pub unsent_live : (past : List Entry) (c : ℕ) → has_ended l c past ≡ false
       → unsent l c past ≡ drop (taken l c past) (stream l c past)
@@ -250,8 +221,7 @@ module _ (l : Limits) where
   stream_same : (past : List Entry) (c : ℕ) (entry : Entry)
       → sent_bytes (sent_to (length past + 1) c (sends l entry past)) ≡ []
       → stream l c (entry ∷ past) ≡ stream l c past
-  stream_same past c entry none =
-      stream_more past c entry ∙ ap (λ x. stream l c past ++ x) none ∙ append-nil (stream l c past)
+  stream_same past c entry none = grind (arith, stream_more, append-nil)
 
   pub stream_admit : (past : List Entry) (c id : ℕ) → stream l c (Admit id ∷ past) ≡ stream l c past
   stream_admit past c id = stream_same past c (Admit id) refl
@@ -367,8 +337,7 @@ module _ (l : Limits) where
 
   pub unsent_take_other : (past : List Entry) (c id m : ℕ) → (id == c) ≡ false
       → unsent l c (Take id m ∷ past) ≡ unsent l c past
-  unsent_take_other past c id m h =
-      unsent_same past c (Take id m) refl (taken_other past c id m h) (stream_take past c id m)
+  unsent_take_other past c id m h = grind (arith, unsent_same, taken_other, stream_take)
 
   pub unsent_close_own : (past : List Entry) (c id : ℕ) → (id == c) ≡ true
       → unsent l c (Close id ∷ past) ≡ []
@@ -377,5 +346,4 @@ module _ (l : Limits) where
 
   pub unsent_close_other : (past : List Entry) (c id : ℕ) → (id == c) ≡ false
       → unsent l c (Close id ∷ past) ≡ unsent l c past
-  unsent_close_other past c id h =
-      unsent_same past c (Close id) (ended_other past c id h) refl (stream_close past c id)
+  unsent_close_other past c id h = grind (arith, unsent_same, ended_other, stream_close)

@@ -1,9 +1,7 @@
 -- The table has at most as many keys as its limit.
-use Rattle.std.proofs.Common.{◌≡◌, ◌≤◌, ◌-◌, ℕ, List, [], ◌∷◌, Bool, true, false, cond, length, map}
-use Rattle.std.proofs.Common.{refl, ap, arith}
-use Rattle.std.specs.Prelude.{not, filter}
+use Rattle.std.proofs.Common.{◌≡◌, ◌≤◌, ℕ, List, [], ◌∷◌, Bool, length, map, refl, ap, arith}
+use Rattle.std.specs.Prelude.{filter}
 use Prim.Native.Nat.{suc}
-use Rattle.std.specs.Str.{bytes_eq}
 use Rattle.std.proofs.lemmas.List.{length-drop}
 use Rattle.track_table.specs.declared.table.Held.{Held}
 use Rattle.track_table.specs.Table.{without_key, freed_of, without_connection, kept}
@@ -11,17 +9,13 @@ use Rattle.serial_model.specs.declared.history.Limits.{Limits}
 use Rattle.serial_model.specs.declared.history.Entry.{Entry}
 use Rattle.serial_model.specs.declared.history.Entry.TheVariants.{Admit, Run, Tick, Take, Close}
 use Rattle.command_words.specs.declared.command.Signalled.{Signalled}
-use Rattle.command_words.specs.declared.command.Signalled.TheVariants as signalled
 use Rattle.serial_model.specs.Tracking.{without_keys, without_signalled}
-use Rattle.serial_model.specs.History.{table, table_then, table_grown, expired}
+use Rattle.serial_model.specs.History.{table, table_then, table_grown}
 
 module _ (p : Held → Bool) where
   filter_within : (rows : List Held) → length (filter p rows) ≤ length rows
   filter_within [] = omega arith
-  filter_within (r ∷ rs) =
-      let rest = filter_within rs in
-      elim (p r) as (λ b. length (cond b (r ∷ filter p rs) (filter p rs)) ≤ length (r ∷ rs))
-      [ true ↦ omega arith | false ↦ omega arith ]
+  filter_within (r ∷ rs) = grind (arith, filter_within rs)
 
 length_freed : (id : ℕ) (rows : List Held) → length (map (freed_of id) rows) ≡ length rows
 length_freed id [] = refl
@@ -35,29 +29,23 @@ pub without_keys_within : (keys : List (List ℕ)) (rows : List Held)
     → length (without_keys keys rows) ≤ length rows
 without_keys_within [] rows = omega arith
 without_keys_within (key ∷ keys) rows =
-    let f = filter_within (λ r. not (bytes_eq key r.key)) rows in
-    let g = without_keys_within keys (without_key key rows) in omega arith
+    grind (arith, filter_within, without_keys_within keys (without_key key rows))
 
 pub without_signalled_within : (sig : Signalled) (rows : List Held)
     → length (without_signalled sig rows) ≤ length rows
-without_signalled_within (signalled.Keys keys) rows = without_keys_within keys rows
-without_signalled_within signalled.All rows = omega arith
+without_signalled_within sig rows = grind (arith, without_keys_within)
 
 module _ (l : Limits) where
   kept_within : (limit : ℕ) (rows : List Held) → length (kept limit rows) ≤ limit
-  kept_within limit rows =
-      let e = length-drop (length rows - limit) rows in omega arith
+  kept_within limit rows = grind (arith, length-drop)
 
   pub table_within : (past : List Entry) → length (table l past) ≤ l.table_max
   table_within [] = omega arith
   table_within (Admit id ∷ past) = table_within past
   table_within (Run id words m ∷ past) = kept_within l.table_max (table_grown l past id words m)
-  table_within (Tick m ∷ past) =
-      let w = table_within past in
-      let f = without_keys_within (expired l past m) (table l past) in omega arith
+  table_within (Tick m ∷ past) = grind (arith, without_keys_within, table_within past)
   table_within (Take id max ∷ past) = table_within past
-  table_within (Close id ∷ past) =
-      let w = table_within past in let f = without_within id (table l past) in omega arith
+  table_within (Close id ∷ past) = grind (arith, without_within, table_within past)
 
   pub table_then_within : (past : List Entry) (m : ℕ)
       → length (table_then l past m) ≤ l.table_max

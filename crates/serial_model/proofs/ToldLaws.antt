@@ -1,12 +1,12 @@
 -- Whom an entry tells of a key, and what it leaves of who is to be told.
-use Rattle.std.proofs.Common.{◌≡◌, ◌≤◌, ◌-◌, ℕ, List, [], ◌∷◌, Bool, true, false, cond}
-use Rattle.std.proofs.Common.{length, take, drop, Result, refl, ap, subst, ◌∙◌, arith}
-use Rattle.std.proofs.Common.{inl, inr, append_assoc}
+use Rattle.std.proofs.Common.{◌≡◌, ◌≤◌, ◌-◌, ℕ, List, [], ◌∷◌, Bool, true, false, cond, length}
+use Rattle.std.proofs.Common.{take, drop, Result, refl, ap, subst, ◌∙◌, arith, inl, inr}
+use Rattle.std.proofs.Common.{append_assoc}
 use Rattle.std.specs.Prelude.{◌==◌, ◌&&◌, ◌||◌, ◌++◌, not}
-use Rattle.std.proofs.lemmas.Bool.{eqb-true, or_parts}
+use Rattle.std.proofs.lemmas.Bool.{eqb-true, or_parts, and_parts, and_from, or_left, or_right}
+use Rattle.std.proofs.lemmas.Bool.{or_cases, both_ways}
 use Rattle.std.specs.List.{list_any}
 use Rattle.std.specs.Str.{bytes_eq}
-use Rattle.std.proofs.lemmas.Bool.{and_parts, and_from, or_left, or_right, or_cases, both_ways}
 use Rattle.std.proofs.lemmas.List.Folds.{list_any-append}
 use Rattle.command_words.specs.declared.command.Command.{Command}
 use Rattle.command_words.specs.declared.command.WordFault.{WordFault}
@@ -15,23 +15,21 @@ use Rattle.command_words.specs.declared.command.Signalled.TheVariants.{All}
 use Rattle.command_words.specs.Words.{reading}
 use Rattle.command_words.specs.Queries.{reads_as_cacheable, key_of}
 use Rattle.track_table.specs.declared.table.Held.{Held}
-use Rattle.track_table.specs.Table.{holders_of, without_connection, dropped}
+use Rattle.track_table.specs.Table.{holders_of, dropped}
 use Rattle.serial_model.specs.declared.mode.Mode.{Mode}
 use Rattle.serial_model.specs.declared.history.Limits.{Limits}
 use Rattle.serial_model.specs.declared.history.Entry.{Entry}
 use Rattle.serial_model.specs.declared.history.Entry.TheVariants.{Admit, Run, Tick, Take, Close}
-use Rattle.serial_model.specs.Modes.{Memory, Remembers, own_effect}
-use Rattle.serial_model.specs.Modes.{remembers_read}
+use Rattle.serial_model.specs.Modes.{Memory, Remembers, own_effect, remembers_read}
 use Rattle.serial_model.specs.Tracking.{without_signalled, remembering, drop_group, tells}
-use Rattle.serial_model.specs.History.{made_of, made, served, is_admitted}
-use Rattle.serial_model.specs.History.{mode, has_ended, table, signals, IsLegal, is_tracking}
-use Rattle.serial_model.specs.History.{tracking, expired, table_then, table_grown, own_group}
-use Rattle.serial_model.specs.History.{expiry_group, drops}
-use Rattle.serial_model.specs.Laws.{is_among, is_told, drops_key}
-use Rattle.serial_model.specs.Laws.{is_forgets, ToldIsDue, ReadIsOwedOrTold, ToldEndsForCause}
+use Rattle.serial_model.specs.History.{made_of, made, served, is_admitted, mode, has_ended, table}
+use Rattle.serial_model.specs.History.{signals, IsLegal, is_tracking, tracking, expired, table_then}
+use Rattle.serial_model.specs.History.{table_grown, own_group, expiry_group, drops}
+use Rattle.serial_model.specs.Laws.{is_among, is_told, drops_key, ToldIsDue, ReadIsOwedOrTold}
+use Rattle.serial_model.specs.Laws.{ToldEndsForCause}
 use Rattle.serial_model.proofs.KeyHolders.{holds, keys_apart, remembering_keeps, remembered_own}
-use Rattle.serial_model.proofs.KeyHolders.{dropped_or_kept, drop_tells, group_tells}
-use Rattle.serial_model.proofs.KeyHolders.{without_other, signalled_apart, signal_tells, among_ids}
+use Rattle.serial_model.proofs.KeyHolders.{dropped_or_kept, drop_tells, group_tells, without_other}
+use Rattle.serial_model.proofs.KeyHolders.{signalled_apart, signal_tells, among_ids}
 use Rattle.serial_model.proofs.TableSize.{without_within, table_then_within}
 use Rattle.serial_model.proofs.TableSize.{without_signalled_within}
 use Rattle.serial_model.specs.Each.{AllIn, AllRows}
@@ -151,8 +149,7 @@ told_is_due l (Tick m) past c key legal told h =
     (just (is_among (expired l past m) key) h) (parts l past c key legal told).1
   where
     just : (b : Bool) → (b || false) ≡ true → b ≡ true
-    just true e = refl
-    just false e = e
+    just b e = grind arith
 told_is_due l (Take id max) past c key legal told h = absurd (let no : ⊥ = cc in no)
 told_is_due l (Close id) past c key legal told h = absurd (let no : ⊥ = cc in no)
 
@@ -200,53 +197,22 @@ cause : (signalled dropped stops ended : Bool)
 cause signalled dropped stops ended none = grind arith
 
 stays_told : (dropped stays : Bool) → dropped ≡ false → (dropped || stays) ≡ true → stays ≡ true
-stays_told true stays e h = absurd (let no : ⊥ = cc in no)
-stays_told false stays e h = h
+stays_told dropped stays e h = grind arith
 
 pub told_ends_for_cause : ToldEndsForCause
-told_ends_for_cause l (Admit id) past c key told gone =
-    absurd (both_ways (is_told l past c key) gone told)
-told_ends_for_cause l (Run id words m) past c key told gone =
-    let parts = and_parts (not (has_ended l c past)) (holds c (holders_of key (table l past)))
-    told in
-    let sig = signals l past id words m in
-    let then = table_then l past m in
-    let rows = without_signalled sig then in
-    let memory = (made l past id words).memory in
-    let grown = table_grown l past id words m in
-    let n = length grown - l.table_max in
-    let left = is_among (expired l past m) key in
-    let signalled = laws.signals sig key in
-    let drops_it = list_any (λ r. bytes_eq key r.key) (drops l past id words m) in
-    cause (left || signalled) drops_it ((id == c) && is_forgets memory) (has_ended l c past)
-    (λ quiet stays goes_on.
-    let q = or_parts left signalled quiet in
-    let held = ap (holds c) (signalled_apart c key sig then q.1
-    ∙ keys_apart c key (expired l past m) (table l past) q.0) ∙ parts.1 in
-    let still = stays_told drops_it (holds c (holders_of key (drop n grown))) stays
-    (dropped_or_kept c key n grown (remembering_keeps c key id memory rows goes_on held)) in
-    both_ways (is_told l (Run id words m ∷ past) c key) gone
-    (and_from (not (has_ended l c past)) (holds c (holders_of key (drop n grown))) parts.0 still))
-told_ends_for_cause l (Tick m) past c key told gone =
-    let parts = and_parts (not (has_ended l c past)) (holds c (holders_of key (table l past)))
-    told in
-    let left = is_among (expired l past m) key in
-    cause left false false (has_ended l c past)
-    (λ quiet stays goes_on.
-    both_ways (is_told l (Tick m ∷ past) c key) gone
-    (and_from (not (has_ended l c past)) (holds c (holders_of key (table_then l past m))) parts.0
-    (ap (holds c) (keys_apart c key (expired l past m) (table l past) quiet) ∙ parts.1)))
-told_ends_for_cause l (Take id max) past c key told gone =
-    absurd (both_ways (is_told l past c key) gone told)
-told_ends_for_cause l (Close id) past c key told gone =
-    let parts = and_parts (not (has_ended l c past)) (holds c (holders_of key (table l past)))
-    told in
-    let stays = holds c (holders_of key (without_connection id (table l past))) in
-    elim (id == c) as (λ b. (id == c) ≡ b
-    → (not (cond b true (has_ended l c past)) && stays) ≡ false
-    → cond b true (has_ended l c past) ≡ true) [
-      | true ↦ λ e f. refl
-      | false ↦ λ e f. absurd (both_ways (not (has_ended l c past) && stays) f
-          (and_from (not (has_ended l c past)) stays parts.0
-          (without_other c key id (table l past) e parts.1)))
-    ] refl gone
+told_ends_for_cause l e past c key told gone = grind (
+  arith,
+  parts,
+  and_parts,
+  holds,
+  cause,
+  or_parts,
+  signalled_apart,
+  keys_apart,
+  stays_told,
+  dropped_or_kept,
+  remembering_keeps,
+  both_ways,
+  and_from,
+  without_other,
+)

@@ -1,13 +1,11 @@
 -- Each connection that remembers a key tracks.
-use Rattle.std.proofs.Common.{◌≡◌, ℕ, List, [], ◌∷◌, true, false, cond, Result}
-use Rattle.std.proofs.Common.{refl, ap, sym, subst, ◌∙◌, arith, eq-eqb}
+use Rattle.std.proofs.Common.{◌≡◌, ℕ, List, [], ◌∷◌, true, false, cond, Result, arith, eq-eqb}
 use Rattle.std.specs.Prelude.{◌==◌}
 use Rattle.std.proofs.lemmas.Bool.{eqb-true}
 use Rattle.std.proofs.lemmas.Bool.Decides.{nat_tests}
 use Rattle.command_words.specs.declared.command.Command.{Command}
 use Rattle.command_words.specs.declared.command.Signalled.TheVariants.{All}
 use Rattle.command_words.specs.declared.command.WordFault.{WordFault}
-use Rattle.command_words.specs.Expiry.{without_due}
 use Rattle.command_words.specs.Queries.{read}
 use Rattle.command_words.specs.Space.{Space}
 use Rattle.command_words.specs.Words.{reading}
@@ -20,9 +18,8 @@ use Rattle.serial_model.specs.declared.history.Entry.{Entry}
 use Rattle.serial_model.specs.declared.history.Entry.TheVariants.{Admit, Run, Tick, Take, Close}
 use Rattle.serial_model.specs.Modes.{Memory, Remembers, Forgets, OwnEffect, own_effect}
 use Rattle.serial_model.specs.Tracking.{remembering, without_signalled}
-use Rattle.serial_model.specs.History.{effect_of, ran_over, made_of, made, served, mode}
-use Rattle.serial_model.specs.History.{table, table_then, table_grown, expired, signals, keyspace}
-use Rattle.serial_model.specs.History.{runner}
+use Rattle.serial_model.specs.History.{effect_of, ran_over, made_of, made, served, mode, table}
+use Rattle.serial_model.specs.History.{table_then, table_grown, expired, signals}
 use Rattle.serial_model.specs.Each.{AllRows}
 use Rattle.serial_model.proofs.Tables.{all_rows, with_keys_all, without_keys_all, kept_all}
 use Rattle.serial_model.proofs.Tables.{without_signalled_all, freed_all}
@@ -41,45 +38,26 @@ Keeps before own = OwnTracks before own.mode own.memory
 reads_track : (m : Mode) (keys : List (List ℕ)) → m.tracking ≡ true
     → OwnTracks m m (Remembers keys)
 unfolding OwnTracks
-reads_track m [] e = λ h. h
-reads_track m (key ∷ keys) e = e
+reads_track m keys e = grind (arith, nat_tests)
 
 data_tracks : (c : Command) (m : Mode) → OwnTracks m m (Remembers (cond m.tracking (read c) []))
 unfolding OwnTracks
-data_tracks c m =
-    elim m.tracking as (λ b. m.tracking ≡ b → OwnTracks m m (Remembers (cond b (read c) []))) [
-      | true ↦ λ e. reads_track m (read c) e
-      | false ↦ λ e h. h
-    ] refl
+data_tracks c m = grind (arith, OwnTracks, reads_track, nat_tests)
 
 own_tracks : (r : Result Command WordFault) (m : Mode) → Keeps m (own_effect (served r) m)
 unfolding OwnTracks
-own_tracks r m =
-    served_cases (λ x. Keeps m (own_effect x m))
-    (λ word h. h)
-    (λ options. elim options.on as (λ b. OwnTracks m (record m { tracking = b })
-    (cond b (Remembers []) Forgets)) [ true ↦ λ h. refl | false ↦ tt ])
-    (λ c is. subst (Keeps m) (sym (data_own c m is)) (data_tracks c m))
-    (λ fault h. h) r
+own_tracks r m = grind (arith, served_cases, OwnTracks, data_own, data_tracks, nat_tests)
 
 module _ (P Q : ℕ → Type 0) (id : ℕ) (f : (h : ℕ) → (h == id) ≡ false → P h → Q h) where
   by_id : (P id → Q id) → (h : ℕ) → P h → Q h
-  by_id own h p =
-      elim (h == id) as (λ b. (h == id) ≡ b → Q h) [
-        | true ↦ λ e.
-            let is = eqb-true h id e in subst Q (sym is) (own (subst P is p))
-        | false ↦ λ e. f h e p
-      ] refl
+  by_id own h p = grind (arith, eqb-true, nat_tests)
 
   some_remember : (keys : List (List ℕ)) (rows : List Held) → AllRows P rows → Q id
       → AllRows Q (with_keys id keys rows)
-  some_remember keys rows a q =
-      with_keys_all Q id keys rows q (all_rows {P = P} {Q = Q} (by_id (λ p. q)) rows a)
+  some_remember keys rows a q = grind (arith, with_keys_all, all_rows, by_id)
 
   all_forget : (rows : List Held) → AllRows P rows → AllRows Q (without_connection id rows)
-  all_forget rows a =
-      all_rows {P = λ h. P h × ((h == id) ≡ false)} {Q = Q} (λ h x. f h x.1 x.0)
-      (without_connection id rows) (freed_all P id rows a)
+  all_forget rows a = grind (arith, all_rows, freed_all, nat_tests)
 
 module _ (l : Limits) where
   unfoldable pub Tracks : List Entry → ℕ → Type 0
@@ -91,14 +69,12 @@ module _ (l : Limits) where
   others_track : (past : List Entry) (id : ℕ) (words : List (List ℕ)) (moment h : ℕ)
       → (h == id) ≡ false → Tracks past h → Tracks (Run id words moment ∷ past) h
   unfolding Tracks
-  others_track past id words moment h other t =
-      ap (λ (m : Mode). m.tracking) (mode_other l h id moment words past (turned h id other)) ∙ t
+  others_track past id words moment h other t = grind (arith, mode_other, turned)
 
   own_is : (past : List Entry) (id : ℕ) (words : List (List ℕ)) (moment : ℕ)
       → (made l past id words).mode.tracking ≡ true → Tracks (Run id words moment ∷ past) id
   unfolding Tracks
-  own_is past id words moment e =
-      ap (λ (m : Mode). m.tracking) (mode_own l id id moment words past (eq-eqb id id refl)) ∙ e
+  own_is past id words moment e = grind (arith, mode_own, eq-eqb)
 
   own_made : (past : List Entry) (id : ℕ) (words : List (List ℕ))
       → Keeps (mode l id past) (made l past id words)
@@ -150,17 +126,9 @@ all_keeps : (by : Runner) (words : List (List ℕ)) (r : Result Command WordFaul
     (moment : ℕ) (m : Mode)
     → (effect_of by words (served r) s moment).signalled ≡ All
     → (own_effect (served r) m).mode ≡ m
-all_keeps by words r s moment m =
-    served_cases (λ x. (effect_of by words x s moment).signalled ≡ All
-    → (own_effect x m).mode ≡ m)
-    (λ word h. absurd (let no : ⊥ = cc in no))
-    (λ options h. absurd (let no : ⊥ = cc in no))
-    (λ c is h. ap (λ (o : OwnEffect). o.mode) (data_own c m is))
-    (λ fault h. absurd (let no : ⊥ = cc in no)) r
+all_keeps by words r s moment m = grind (arith, served_cases, data_own, nat_tests)
 
 pub flush_keeps : (l : Limits) (past : List Entry) (id moment : ℕ) (words : List (List ℕ))
     → signals l past id words moment ≡ All → (made l past id words).mode ≡ mode l id past
 unfolding ran_over made_of
-flush_keeps l past id moment words h =
-    all_keeps (runner l past id) words (reading words) (without_due moment (keyspace l past)) moment
-    (mode l id past) h
+flush_keeps l past id moment words h = grind (arith, all_keeps, nat_tests)

@@ -3,28 +3,21 @@ use Rattle.std.proofs.Common.{◌≡◌, ◌+◌, ◌-◌, ℕ, List, [], ◌∷
 use Rattle.std.proofs.Common.{sym, ap, subst, ◌∙◌, refl, arith, true, false, cond, append-nil}
 use Rattle.std.proofs.Common.{append_assoc}
 use Rattle.std.specs.Prelude.{◌==◌, ◌↔◌, ◌<◌}
-use Prim.Native.Nat.{zero, suc}
-use Rattle.std.proofs.lemmas.List.{take-append-le, length-drop}
+use Rattle.std.proofs.lemmas.List.{take-append-le, length-drop, take_all}
 use Rattle.std.proofs.Math.Seq.{take-add}
-use Rattle.std.proofs.lemmas.List.{take_all}
 use Rattle.std.proofs.lemmas.Bool.{cases_lt, eqb-true}
 use Rattle.serial_model.specs.declared.history.Limits.{Limits}
 use Rattle.serial_model.specs.declared.history.Entry.{Entry}
 use Rattle.serial_model.specs.declared.history.Entry.TheVariants as entry
 use Rattle.serial_model.specs.declared.history.BookCall.{BookCall}
-use Rattle.serial_model.specs.declared.history.BookCall.TheVariants.{Admit, Run, Tick, Take}
-use Rattle.serial_model.specs.declared.history.BookCall.TheVariants.{Close}
+use Rattle.serial_model.specs.declared.history.BookCall.TheVariants.{Admit, Run, Tick, Take, Close}
 use Rattle.serial_model.specs.declared.history.BookReply.{BookReply}
-use Rattle.serial_model.specs.declared.history.BookReply.TheVariants.{Ticked}
-use Rattle.serial_model.specs.declared.history.BookReply.TheVariants.{Bytes, Refused}
+use Rattle.serial_model.specs.declared.history.BookReply.TheVariants.{Ticked, Bytes, Refused}
 use Rattle.serial_model.specs.declared.history.BookRefusal.TheVariants.{NoMemory}
 use Rattle.serial_model.specs.History.{admitted, runs_on, reads_on, gives_on, has_ended, latest}
-use Rattle.serial_model.specs.History.{stream}
-use Rattle.serial_model.specs.History.{taken, unsent, runs_of, is_full, IsLegal}
-use Rattle.serial_model.specs.Steps.{Turn, gone, full, admitting, running}
-use Rattle.serial_model.specs.Steps.{closing}
-use Rattle.serial_model.specs.History.{expired}
-use Rattle.serial_model.specs.Steps.{book_step, BookStep, Turns, given_by, given, ran_by, answered}
+use Rattle.serial_model.specs.History.{stream, taken, unsent, runs_of, is_full, IsLegal, expired}
+use Rattle.serial_model.specs.Steps.{Turn, gone, full, admitting, running, closing, book_step}
+use Rattle.serial_model.specs.Steps.{BookStep, Turns, given_by, given, ran_by, answered}
 use Rattle.serial_model.specs.Laws.{IsAdded}
 use Rattle.serial_model.proofs.Streams.{stream_more, stream_take, taken_le, not_ended, unsent_live}
 use Rattle.serial_model.proofs.StepCases.{by_admit, by_run, by_tick, by_take, by_close}
@@ -244,8 +237,7 @@ module _ (l : Limits) where
   -- ---- a legal history is what steps add
 
   takes_some : (most : ℕ) (bytes : List ℕ) → (take most bytes ≡ [] → ⊥) → 0 < most
-  takes_some zero bytes full = absurd (full refl)
-  takes_some (suc most) bytes full = omega arith
+  takes_some most bytes full = grind arith
 
   take_added : (past : List Entry) (id most : ℕ) (bytes : List ℕ)
       → take most (unsent l id past) ≡ bytes → (bytes ≡ [] → ⊥)
@@ -258,8 +250,7 @@ module _ (l : Limits) where
       → is_full l past ≡ false
       → (book_step l past (Tick now)).past ≡ entry.Tick (max now (latest past)) ∷ past
   tick_added past now [] e some room = absurd (some refl)
-  tick_added past now (key ∷ keys) e some room =
-      ap (λ (t : Turn). t.past) (tick_step past now key keys e room)
+  tick_added past now (key ∷ keys) e some room = grind (arith, tick_step)
 
   added : (past : List Entry) → IsLegal l past → IsAdded l past
   added [] h = tt

@@ -1,12 +1,10 @@
 -- How each turn keeps what a book knows of its history.
-use Rattle.std.proofs.Common.{◌≡◌, ◌+◌, ◌-◌, ◌<◌, ◌≤◌, ℕ, List, [], ◌∷◌, ◌++◌, length, take, drop}
-use Rattle.std.proofs.Common.{max, ap, ◌∙◌, refl, arith, Bool, true, false, cond}
-use Rattle.std.proofs.Common.{length-append, slice_index_or, eq-eqb, ne_eqb}
-use Rattle.std.proofs.Common.{length-set}
+use Rattle.std.proofs.Common.{◌≡◌, ◌+◌, ◌<◌, ◌≤◌, ℕ, List, [], ◌∷◌, ◌++◌, length, take, drop, max}
+use Rattle.std.proofs.Common.{ap, ◌∙◌, refl, arith, Bool, true, false, cond, length-append}
+use Rattle.std.proofs.Common.{slice_index_or, eq-eqb, ne_eqb, length-set}
 use Rattle.std.specs.Prelude.{◌==◌}
 use Rattle.std.specs.List.{count_by}
-use Rattle.std.proofs.lemmas.List.Sums.{sum_by-set, sum_by_push}
-use Rattle.std.proofs.lemmas.List.Sums.{count_by-le-length}
+use Rattle.std.proofs.lemmas.List.Sums.{sum_by-set, sum_by_push, count_by-le-length}
 use Rattle.std.proofs.lemmas.List.{get_or_push, get_or_append_left}
 use Rattle.std.proofs.lemmas.Bool.{cases_eq}
 use Rattle.command_words.specs.Space.{Space}
@@ -16,21 +14,19 @@ use Rattle.serial_model.specs.declared.history.Entry.TheVariants as entry
 use Rattle.serial_model.specs.declared.history.BookCall.{BookCall}
 use Rattle.serial_model.specs.declared.history.BookCall.TheVariants.{Admit, Run, Take, Close}
 use Rattle.serial_model.specs.declared.history.BookReply.{BookReply}
-use Rattle.serial_model.specs.declared.history.BookReply.TheVariants.{Admitted, Ran}
-use Rattle.serial_model.specs.declared.history.BookReply.TheVariants.{Bytes, Closed}
+use Rattle.serial_model.specs.declared.history.BookReply.TheVariants.{Admitted, Ran, Bytes, Closed}
 use Rattle.serial_model.specs.declared.history.Post.{Post}
 use Rattle.serial_model.specs.declared.history.Posted.TheVariants.{End}
-use Rattle.serial_model.specs.History.{admitted, runs_on, gives_on, reads_on, latest}
-use Rattle.serial_model.specs.History.{unsent, posted, is_full}
+use Rattle.serial_model.specs.History.{admitted, runs_on, gives_on, reads_on, latest, unsent}
+use Rattle.serial_model.specs.History.{posted, is_full, table}
 use Rattle.serial_model.specs.Steps.{book_step, AddsEntry}
 use Rattle.serial_model.proofs.ModeSteps.{mode_fresh}
 use Rattle.serial_model.specs.declared.mode.Mode.{Mode}
-use Rattle.serial_model.specs.History.{table}
 use Rattle.serial_model.proofs.Turning.{admit_step, run_step, take_step, close_step}
 use Rattle.serial_model.proofs.Streams.{connected, not_ended, ended_fresh, ended_other}
 use Rattle.serial_model.proofs.Streams.{unsent_close_own, unsent_close_other, unsent_fresh}
-use Rattle.serial_model.proofs.Streams.{unsent_admit}
-use Rattle.serial_model.proofs.Streams.{unsent_take_own, unsent_take_other}
+use Rattle.serial_model.proofs.Streams.{unsent_admit, unsent_take_own, unsent_take_other, IsLive}
+use Rattle.serial_model.proofs.Streams.{table_live}
 use Rattle.server_book.specs.declared.connections.Connection.{Connection}
 use Rattle.server_book.specs.Connections.{IsId, connection_at, with_connection, fresh, is_open}
 use Rattle.server_book.specs.Sendings.{queued, end_post}
@@ -40,9 +36,7 @@ use Rattle.server_book.proofs.Remembered.{table_of_past}
 use Rattle.track_table.specs.Table.{TableState}
 use Rattle.serial_model.proofs.Tables.{all_rows}
 use Rattle.serial_model.proofs.TableSize.{table_within}
-use Rattle.serial_model.proofs.Streams.{IsLive, table_live}
-use Rattle.server_book.specs.BookState.{BookState, IsTurn, Agrees, HasRoom}
-use Rattle.server_book.specs.BookState.{connection_of}
+use Rattle.server_book.specs.BookState.{BookState, IsTurn, Agrees, HasRoom, connection_of}
 
 -- ---- a connection by its id
 
@@ -50,17 +44,14 @@ use Rattle.server_book.specs.BookState.{connection_of}
 pub same_parts : {q r : List ℕ} {a b : Bool} {m n : Mode} → q ≡ r → a ≡ b → m ≡ n
     → (let x : Connection = record { queue = q; ended = a; mode = m } in
     let y : Connection = record { queue = r; ended = b; mode = n } in x ≡ y)
-same_parts {q} {r} {a} {b} {m} {n} e f g =
-    ap (λ z. record { queue = z; ended = a; mode = m }) e
-    ∙ ap (λ z. record { queue = r; ended = z; mode = m }) f
-    ∙ ap (λ z. record { queue = r; ended = b; mode = z }) g
+same_parts {q} {r} {a} {b} {m} {n} e f g = grind arith
 
 -- what is put at an id over what was put there
 put_over : (cs : List Connection) (id : ℕ) (x : Connection) (f : Connection → Connection)
     → IsId cs id
     → (let one = with_connection cs id x in with_connection one id (f (connection_at one id)))
     ≡ with_connection cs id (f x)
-put_over cs id x f on = grind (arith, at_same, put_twice)
+put_over cs id e f on = grind (arith, at_same, put_twice)
 
 -- a connection that was sent a message and then switched
 abbrev pub switched : List Connection → ℕ → List ℕ → Mode → List Connection
@@ -112,20 +103,19 @@ module _ (l : Limits) (past : List Entry) (space : Space) (keys : TableState)
   -- the new connection has nothing
   pub agrees_admit : (id : ℕ) → id ≡ length cs + 1 → is_full l past ≡ false
       → Agrees l (entry.Admit id ∷ past) space keys (cs ++ fresh ∷ [])
-  agrees_admit id e room =
-      grind (
-        arith,
-        length-append,
-        cases_eq,
-        slice_index_or,
-        get_or_push,
-        same_parts,
-        unsent_admit,
-        unsent_fresh,
-        ended_fresh,
-        mode_fresh,
-        get_or_append_left,
-      )
+  agrees_admit id e room = grind (
+    arith,
+    length-append,
+    cases_eq,
+    slice_index_or,
+    get_or_push,
+    same_parts,
+    unsent_admit,
+    unsent_fresh,
+    ended_fresh,
+    mode_fresh,
+    get_or_append_left,
+  )
 
   -- where the connection of an id was written, and the others stay
   each_with : (new : List Entry) (id : ℕ) (c : Connection) → IsId cs id → c ≡ connection_of l new id
@@ -150,19 +140,18 @@ module _ (l : Limits) (past : List Entry) (space : Space) (keys : TableState)
   pub agrees_take : (id m : ℕ) → gives_on l past id ≡ true → is_full l past ≡ false
       → (take m (unsent l id past) ≡ [] → ⊥)
       → Agrees l (entry.Take id m ∷ past) space keys (with_connection cs id (took id m))
-  agrees_take id m on room some =
-      grind (
-        arith,
-        eq-eqb,
-        kept_of,
-        length-set,
-        each_with,
-        is_id,
-        same_parts,
-        unsent_take_own,
-        not_ended,
-        unsent_take_other,
-      )
+  agrees_take id m on room some = grind (
+    arith,
+    eq-eqb,
+    kept_of,
+    length-set,
+    each_with,
+    is_id,
+    same_parts,
+    unsent_take_own,
+    not_ended,
+    unsent_take_other,
+  )
 
   pub live_at : (id : ℕ) → reads_on l past id ≡ true → (connection_at cs id).ended ≡ false
   live_at id on = ap (λ x. x.ended) (kept_of id on) ∙ not_ended l past id on
@@ -174,19 +163,18 @@ module _ (l : Limits) (past : List Entry) (space : Space) (keys : TableState)
       → (let rows = table l (entry.Close id ∷ past) in
       Agrees l (entry.Close id ∷ past) space (record { limit = l.table_max; rows = rows })
       (with_connection cs id (closed id)))
-  agrees_close id on =
-      grind (
-        arith,
-        eq-eqb,
-        length-set,
-        each_with,
-        is_id,
-        same_parts,
-        unsent_close_own,
-        kept_of,
-        unsent_close_other,
-        ended_other,
-      )
+  agrees_close id on = grind (
+    arith,
+    eq-eqb,
+    length-set,
+    each_with,
+    is_id,
+    same_parts,
+    unsent_close_own,
+    kept_of,
+    unsent_close_other,
+    ended_other,
+  )
 
 -- ---- turns as they are played
 

@@ -1,8 +1,6 @@
 -- Telling the holders of one key after another.
-use Rattle.std.proofs.Common.{◌≡◌, ◌+◌, ◌<◌, ℕ, List, [], ◌∷◌, ◌++◌, length, take, refl, ap}
-use Rattle.std.proofs.Common.{sym}
-use Rattle.std.proofs.Common.{subst, ◌∙◌, arith, append-nil, append_assoc, false}
-use Rattle.std.proofs.Common.{slice_index_or, Some}
+use Rattle.std.proofs.Common.{◌≡◌, ◌+◌, ◌<◌, ℕ, List, [], ◌∷◌, ◌++◌, length, take, refl, ap, sym}
+use Rattle.std.proofs.Common.{subst, ◌∙◌, arith, append-nil, append_assoc, false, slice_index_or}
 use Rattle.std.specs.Prelude.{◌||◌}
 use Prim.Native.Nat.{zero, suc}
 use Rattle.std.specs.Str.{bytes_eq}
@@ -23,8 +21,8 @@ use Rattle.server_book.specs.Connections.{ConnectionsState, IsId}
 use Rattle.server_book.specs.Sendings.{AreIds, before_posts, modes_of, with_sendings}
 use Rattle.server_book.specs.Stores.{AreThere}
 use Rattle.server_book.proofs.Remembered.{there_longer}
-use Rattle.server_book.proofs.Sendings.{AreTo, before_sendings, length_sendings}
-use Rattle.server_book.proofs.Sendings.{routed_same, routed_there, sendings_append, sent_at}
+use Rattle.server_book.proofs.Sendings.{AreTo, before_sendings, length_sendings, routed_same}
+use Rattle.server_book.proofs.Sendings.{routed_there, sendings_append, sent_at}
 
 -- the holders of each key, by a table that stays
 abbrev pub each_row : List (List ℕ) → List Held → List Held
@@ -132,9 +130,7 @@ module _ (n : ℕ) (old now : ConnectionsState) (rows : List Held) (k : ℕ)
 
     -- and nothing is lost by taking back
     pub back_still : before_posts now.posts now.items ≡ before_posts old.posts old.items
-    back_still =
-        ap (λ (s : ConnectionsState). before_posts s.posts s.items) told
-        ∙ before_sendings n so_far old so_far_there
+    back_still = grind (arith, before_sendings, so_far_there)
 
     same_modes : (i : ℕ) → IsId now.items i → modes_of now.items i ≡ modes_of old.items i
     same_modes i on = grind (arith, same_length, sent_at, so_far_there)
@@ -146,18 +142,14 @@ module _ (n : ℕ) (old now : ConnectionsState) (rows : List Held) (k : ℕ)
         → next ≡ with_sendings n (routed (modes_of now.items) (told_of key ids)) now
         → next ≡ with_sendings n
         (routed (modes_of old.items) (drop_group (take (k + 1) rows))) old
-    told_more key ids next lt at is sent =
-        let m = modes_of old.items in
-        let row = slice_index_or rows k nobody in
-        let at_row = told_of row.key row.holders in
-        sent
-        ∙ ap (λ x. with_sendings n (routed (modes_of now.items) (told_of x ids)) now) at
-        ∙ ap (λ x. with_sendings n (routed (modes_of now.items) (told_of row.key x)) now) is
-        ∙ ap (λ ss. with_sendings n ss now)
-        (routed_same now.items (modes_of now.items) m at_row same_modes
-        (told_all (IsId now.items) (Some (row.key ∷ [])) row.holders holders_still))
-        ∙ ap (λ s. with_sendings n (routed m at_row) s) told
-        ∙ sym (sendings_append n so_far (routed m at_row) old)
-        ∙ ap (λ ss. with_sendings n ss old)
-        (sym (routed_append m (drop_group (take k rows)) at_row)
-        ∙ ap (routed m) (sym (rows_next rows k lt)))
+    told_more key ids next lt at is sent = grind (
+      arith,
+      slice_index_or,
+      routed_same,
+      same_modes,
+      told_all,
+      holders_still,
+      sendings_append,
+      routed_append,
+      rows_next,
+    )

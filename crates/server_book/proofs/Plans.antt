@@ -1,6 +1,6 @@
 -- The plans of commands, and what a plan does after a past.
-use Rattle.std.proofs.Common.{◌≡◌, ℕ, List, [], ◌∷◌, Result, Ok, Err, refl, ap, sym, subst}
-use Rattle.std.proofs.Common.{Option, ◌∙◌, Bool, true, false, cond, inl, inr}
+use Rattle.std.proofs.Common.{◌≡◌, ℕ, List, [], ◌∷◌, Result, Ok, Err, refl, ap, sym, subst, Option}
+use Rattle.std.proofs.Common.{◌∙◌, Bool, true, false, cond, arith}
 use Rattle.std.specs.Prelude.{IfOk, codes, if◌then◌else◌}
 use Rattle.resp_value.specs.declared.octets.NoMemory as memory
 use Rattle.resp_value.specs.declared.value.Value.TheVariants.{Simple}
@@ -23,10 +23,10 @@ use Rattle.serial_model.specs.declared.history.Limits.{Limits}
 use Rattle.serial_model.specs.declared.mode.Mode.{Mode}
 use Rattle.serial_model.specs.declared.mode.Runner.{Runner}
 use Rattle.serial_model.specs.Deadlines.{due_keys}
-use Rattle.serial_model.specs.Modes.{Memory, Remembers, OwnEffect, own_effect, is_served_tracking}
+use Rattle.serial_model.specs.Modes.{Memory, Remembers, OwnEffect, is_served_tracking}
 use Rattle.serial_model.specs.Tracking.{AreApart}
-use Rattle.serial_model.specs.History.{served, served_reading, effect_of, ran_over, ran, made_of}
-use Rattle.serial_model.specs.History.{runner, keyspace, made, signals, expired}
+use Rattle.serial_model.specs.History.{served, served_reading, ran_over, ran, made_of, runner}
+use Rattle.serial_model.specs.History.{keyspace, made, signals, expired}
 use Rattle.serial_model.proofs.DueKeys.{due_by_index}
 use Rattle.serial_model.proofs.ServedRows.{data_effect, data_own, row_of, signalled_keys}
 use Rattle.serial_model.proofs.ServedRows.{reads_or_writes}
@@ -39,8 +39,7 @@ use Rattle.server_book.specs.Played.{HasPlayed, IsPlayed}
 -- what follows for a plan follows where there is one
 pub if_planned : (r : Result Plan memory.NoMemory) (P Q : Plan → Type 0) → ((p : Plan) → P p → Q p)
     → IfOk r P → IfOk r Q
-if_planned (Ok p) P Q more h = more p h
-if_planned (Err none) P Q more h = h
+if_planned r P Q more h = grind arith
 
 -- the plan of a fault, where the words read so
 pub fault_planned : (r : Result Plan memory.NoMemory) (by : Runner) (words : List (List ℕ))
@@ -71,43 +70,23 @@ tracking_plan mode on =
       mode = record mode { tracking = on };
     }
 
-tracks : (by : Runner) (words : List (List ℕ)) (o : TrackOptions) (on : Bool) (space : Space)
-    (moment : ℕ)
-    → (let options : TrackOptions = record o { on = on } in
-    IsQuiet (tracking_plan by.mode on) by words (Ok (ClientTracking options)) space moment)
-tracks by words o true space moment =
-    record {
-      planned = record { reply = refl; signals = refl; memory = refl; mode = refl; sound = tt };
-      stays = refl;
-    }
-tracks by words o false space moment =
-    record {
-      planned = record { reply = refl; signals = refl; memory = refl; mode = refl; sound = tt };
-      stays = refl;
-    }
-
 pub tracking_unknown : (options : TrackOptions) → is_served_tracking options ≡ false
     → served (Ok (ClientTracking options)) ≡ Err Unknown
 tracking_unknown options h = ap (λ b. cond b (Ok (ClientTracking options)) (Err Unknown)) h
 
 pub row_served : (c : Command) → has_row c ≡ true → served (Ok c) ≡ Ok c
-row_served (Hello word) h = absurd (let no : ⊥ = cc in no)
-row_served (ClientTracking options) h = absurd (let no : ⊥ = cc in no)
-row_served c h = ap (λ b. cond b (Ok c) (Err Unknown)) h
+row_served c h = grind arith
 
 pub other_unknown : (c : Command) → has_row c ≡ false
     → ((word : Option (List ℕ)) → c ≡ Hello word → ⊥)
     → ((options : TrackOptions) → c ≡ ClientTracking options → ⊥) → served (Ok c) ≡ Err Unknown
-other_unknown (Hello word) h no_hello no_tracking = absurd (no_hello word refl)
-other_unknown (ClientTracking options) h no_hello no_tracking = absurd (no_tracking options refl)
-other_unknown c h no_hello no_tracking = ap (λ b. cond b (Ok c) (Err Unknown)) h
+other_unknown c h no_hello no_tracking = grind arith
 
 -- ---- the keys that are due
 
 pub due_is : (moment : ℕ) (space : Space) (keys : List (List ℕ)) → AreDue moment space keys
     → keys ≡ due_keys moment space
-due_is moment space keys h =
-    h.listed ∙ due_by_index moment space h.index h.step.ordered h.step.each
+due_is moment space keys h = grind (arith, due_by_index)
 
 -- ---- the deed of a data command
 
@@ -118,34 +97,18 @@ module _ (tracking : Bool) (c : Command) (space : Space) (moment : ℕ)
   does = effect c space moment
 
   deed_signals : (sig : Signalled) → signals_of (deed_for tracking reads sig) ≡ sig
-  deed_signals (Keys []) =
-      elim tracking as (λ b. signals_of (cond b (Remember reads) Nothing) ≡ Keys [])
-      [ true ↦ refl | false ↦ refl ]
-  deed_signals sig = refl
+  deed_signals sig = grind arith
 
   reads_none : (does.signalled ≡ Keys [] → ⊥) → read c ≡ []
   unfolding does
-  reads_none some = elim (reads_or_writes c space moment data_is) [
-    | inl none ↦ absurd (some none)
-    | inr none ↦ none
-  ]
+  reads_none some = grind (arith, reads_or_writes)
 
   no_reads : read c ≡ [] → ◌≡◌ {A = Memory} (Remembers []) (Remembers (cond tracking (read c) []))
-  no_reads none =
-      elim tracking as (λ b. ◌≡◌ {A = Memory} (Remembers []) (Remembers (cond b (read c) []))) [
-        | true ↦ ap Remembers (sym none)
-        | false ↦ refl
-      ]
+  no_reads none = grind arith
 
   deed_memory : (sig : Signalled) → does.signalled ≡ sig
       → memory_of (deed_for tracking reads sig) ≡ Remembers (cond tracking (read c) [])
-  deed_memory (Keys []) is =
-      elim tracking as (λ b. reads ≡ cond b (read c) []
-      → memory_of (cond b (Remember reads) Nothing) ≡ Remembers (cond b (read c) [])) [
-        | true ↦ λ e. ap Remembers e
-        | false ↦ λ e. refl
-      ] reads_is
-  deed_memory sig is = no_reads (reads_none (λ none. let no : ⊥ = cc in no))
+  deed_memory sig is = grind (arith, no_reads, reads_none)
 
   deed_sound : (sig : Signalled) → does.signalled ≡ sig → IsSound (deed_for tracking reads sig)
   unfolding does
@@ -210,8 +173,7 @@ pub played_as : (r : Result Played memory.NoMemory) (by : Runner) (words : List 
     (read : Result Command WordFault) (c : Command) (moment : ℕ) (old new : Space)
     → ((w : List (List ℕ)) → IsPlayed by w (Ok c) moment r old new) → read ≡ Ok c
     → IsPlayed by words read moment r old new
-played_as r by words read c moment old new h e =
-    subst (λ x. IsPlayed by words x moment r old new) (sym e) (h words)
+played_as r by words read c moment old new h e = grind arith
 
 -- ---- a plan does what the words do after the past
 
@@ -226,17 +188,4 @@ pub plan_runs : (l : Limits) (p : Played) (words : List (List ℕ)) (old new : S
     × (memory_of p.plan.deed ≡ (made l past id words).memory)
     × (p.plan.mode ≡ (made l past id words).mode)
 unfolding ran_over made_of
-plan_runs l p words old new m past id by played who where_is =
-    let read = served_reading words in
-    let plan = played.plan in (
-      played.expired ∙ ap (due_keys m) where_is,
-      plan.reply ∙ ap (λ b. (effect_of b words read (without_due m old) m).reply) who
-          ∙ ap (λ s. (effect_of (runner l past id) words read (without_due m s) m).reply) where_is,
-      played.space ∙ ap (λ b. (effect_of b words read (without_due m old) m).space) who
-          ∙ ap (λ s. (effect_of (runner l past id) words read (without_due m s) m).space) where_is,
-      plan.signals ∙ ap (λ b. (effect_of b words read (without_due m old) m).signalled) who
-          ∙ ap (λ s. (effect_of (runner l past id) words read (without_due m s) m).signalled)
-          where_is,
-      plan.memory ∙ ap (λ (b : Runner). (own_effect read b.mode).memory) who,
-      plan.mode ∙ ap (λ (b : Runner). (own_effect read b.mode).mode) who,
-    )
+plan_runs l p words old new m past id by played who where_is = grind arith

@@ -1,18 +1,15 @@
 -- The answers to calls that add no entry, in their order.
 use Rattle.std.proofs.Common.{◌≡◌, ◌+◌, ◌<◌, ℕ, List, [], ◌∷◌, true, false, cond, Option, Some}
-use Rattle.std.proofs.Common.{length, take}
-use Rattle.std.proofs.Common.{ap, ◌∙◌, refl, arith}
+use Rattle.std.proofs.Common.{length, take, ap, ◌∙◌, refl, arith}
 use Rattle.serial_model.specs.declared.history.Entry.TheVariants as entry
 use Rattle.serial_model.specs.declared.history.BookCall.{BookCall}
-use Rattle.serial_model.specs.declared.history.BookCall.TheVariants.{Admit, Run, Take}
-use Rattle.serial_model.specs.declared.history.BookCall.TheVariants.{Close}
+use Rattle.serial_model.specs.declared.history.BookCall.TheVariants.{Admit, Run, Take, Close}
 use Rattle.serial_model.specs.declared.history.BookReply.{BookReply}
 use Rattle.serial_model.specs.declared.history.BookReply.TheVariants.{Quiet, Bytes, Refused}
 use Rattle.serial_model.specs.declared.history.BookRefusal.TheVariants.{Gone}
 use Rattle.serial_model.specs.History.{runs_on, gives_on, reads_on, unsent, is_full}
-use Rattle.serial_model.specs.Steps.{Turn, unless_full, admitting, taking, closing}
-use Rattle.serial_model.specs.Steps.{gone}
-use Rattle.serial_model.specs.Steps.{book_step, AddsEntry, MayRunOut, IsCallable}
+use Rattle.serial_model.specs.Steps.{Turn, unless_full, admitting, taking, closing, gone, book_step}
+use Rattle.serial_model.specs.Steps.{AddsEntry, MayRunOut, IsCallable}
 use Rattle.server_book.specs.BookState.{BookState, IsAccepted, IsFullAnswer, IsRefusal}
 
 -- a call that would add an entry, once its other questions are answered
@@ -73,8 +70,7 @@ module _ (b : BookState) where
   pub take_quiet : (id most : ℕ) → gives_on b.limits b.past id ≡ true
       → length (unsent b.limits id b.past) ≡ 0
       → IsRefusal b (Take id most) (Some Quiet)
-  take_quiet id most on none =
-      (take_step id most on ∙ ap (taking b.limits b.past id most) (take_none most _ none), refl)
+  take_quiet id most on none = grind (arith, take_step, take_none)
 
   pub run_gone : (id now : ℕ) (words : List (List ℕ)) → runs_on b.limits b.past id ≡ false
       → IsRefusal b (Run id words now) (Some (Refused (Gone id)))

@@ -1,8 +1,7 @@
 -- A Run sends what its entry sends, and leaves what the history says.
-use Rattle.std.proofs.Common.{◌≡◌, ◌+◌, ◌-◌, ◌<◌, ◌≤◌, ℕ, List, [], ◌∷◌, ◌++◌, length, sym, ap}
-use Rattle.std.proofs.Common.{subst, ◌∙◌}
-use Rattle.std.proofs.Common.{refl, arith, true, false, inl, inr, append-nil, length-set}
-use Rattle.std.proofs.Common.{append_assoc, eq-eqb, ne_eqb}
+use Rattle.std.proofs.Common.{◌≡◌, ◌+◌, ◌<◌, ◌≤◌, ℕ, List, [], ◌∷◌, ◌++◌, length, sym, ap, subst}
+use Rattle.std.proofs.Common.{◌∙◌, refl, arith, true, false, append-nil, length-set, append_assoc}
+use Rattle.std.proofs.Common.{eq-eqb, ne_eqb}
 use Rattle.std.specs.Prelude.{◌==◌}
 use Rattle.std.proofs.lemmas.Bool.{cases_eq}
 use Rattle.std.proofs.lemmas.Grind.{flat_map-append}
@@ -11,13 +10,11 @@ use Rattle.track_table.specs.Table.{TableState}
 use Rattle.serial_model.specs.declared.history.Limits.{Limits}
 use Rattle.serial_model.specs.declared.history.Entry.{Entry}
 use Rattle.serial_model.specs.declared.history.Entry.TheVariants as entry
-use Rattle.serial_model.specs.Tracking.{Invalidation, group}
-use Rattle.serial_model.specs.Tracking.{without_keys}
+use Rattle.serial_model.specs.Tracking.{Invalidation, group, without_keys}
 use Rattle.serial_model.specs.History.{runs_on, is_full, latest, has_ended, unsent, posted, mode}
 use Rattle.serial_model.specs.History.{modes, routed, reply_of, sends, sent_to, sent_bytes, spelled}
-use Rattle.serial_model.specs.History.{Sending, Message, posts_of, posted_of, made}
-use Rattle.serial_model.specs.History.{ran, signals, table, table_then, expired}
-use Rattle.serial_model.specs.History.{expiry_group, tracking}
+use Rattle.serial_model.specs.History.{Sending, Message, posts_of, made, ran, signals, table}
+use Rattle.serial_model.specs.History.{table_then, expired, expiry_group, tracking}
 use Rattle.serial_model.proofs.Streams.{behind, behind_live, expiry_live, run_bytes, run_sends_none}
 use Rattle.serial_model.proofs.Streams.{IsLive, unsent_run, unsent_ended}
 use Rattle.serial_model.proofs.Tables.{all_to, sent_to-append}
@@ -27,7 +24,7 @@ use Rattle.server_book.specs.declared.plan.Plan.{Plan}
 use Rattle.server_book.specs.Connections.{ConnectionsState, IsId, connection_at, with_connection}
 use Rattle.server_book.specs.Plans.{signals_of, memory_of, told_by, kept_by}
 use Rattle.server_book.specs.RunSendings.{expiry_told, reply_sent, command_told}
-use Rattle.server_book.specs.Sendings.{modes_of, message_post, tracking_ids}
+use Rattle.server_book.specs.Sendings.{modes_of, tracking_ids}
 use Rattle.server_book.specs.BookState.{Agrees, connection_of}
 use Rattle.server_book.proofs.Sendings.{at_same, at_other, AreToldThere, AreTo, sent_at, more}
 use Rattle.server_book.proofs.Sendings.{length_sendings, posts_sendings, routed_there, routed_same}
@@ -37,8 +34,7 @@ use Rattle.server_book.proofs.BookTurns.{is_id, there_live, switched_is, same_pa
 pub posts_append : (n : ℕ) (xs ys : List (ℕ × Sending))
     → posts_of n (xs ++ ys) ≡ posts_of n xs ++ posts_of n ys
 posts_append n [] ys = refl
-posts_append n (x ∷ xs) ys =
-    ap (λ ps. record { entry = n; id = x.0; what = posted_of x.1 } ∷ ps) (posts_append n xs ys)
+posts_append n (x ∷ xs) ys = grind (arith, posts_append n xs ys)
 
 pub bytes_append : (n c : ℕ) (xs ys : List (ℕ × Sending))
     → sent_bytes (sent_to n c (xs ++ ys))
@@ -129,18 +125,17 @@ module _ (l : Limits) (past : List Entry) (space : Space) (keys : TableState)
 
       -- the modes are those once the command has run, and nobody has ended since
       mode_then : (i : ℕ) → IsId cs i → (connection_at second.items i).mode ≡ mode l i (run ∷ past)
-      mode_then i there =
-          grind (
-            arith,
-            cases_eq,
-            second_own,
-            mode_own,
-            eq-eqb,
-            second_other,
-            first_at,
-            mode_other,
-            ne_eqb,
-          )
+      mode_then i there = grind (
+        arith,
+        cases_eq,
+        second_own,
+        mode_own,
+        eq-eqb,
+        second_other,
+        first_at,
+        mode_other,
+        ne_eqb,
+      )
 
       ended_then : (i : ℕ) → IsId cs i → (connection_at second.items i).ended ≡ has_ended l i past
       ended_then i there = grind (arith, cases_eq, second_own, first_at, own_there, second_other)
@@ -231,71 +226,44 @@ module _ (l : Limits) (past : List Entry) (space : Space) (keys : TableState)
       after_at i there = grind (arith, length_second, sent_at, routed_there, told_there)
 
       each_own : connection_at after.items id ≡ connection_of l (run ∷ past) id
-      each_own =
-          grind (
-            arith,
-            after_at,
-            own_there,
-            same_parts,
-            second_own,
-            first_at,
-            append_assoc,
-            own_bytes,
-            unsent_after,
-            ended_then,
-            mode_then,
-          )
+      each_own = grind (
+        arith,
+        after_at,
+        own_there,
+        same_parts,
+        second_own,
+        first_at,
+        append_assoc,
+        own_bytes,
+        unsent_after,
+        ended_then,
+        mode_then,
+      )
 
       each_other : (i : ℕ) → IsId cs i → (id ≡ i → ⊥)
           → connection_at after.items i ≡ connection_of l (run ∷ past) i
-      each_other i there ne =
-          grind (
-            arith,
-            after_at,
-            same_parts,
-            second_other,
-            first_at,
-            append_assoc,
-            other_bytes,
-            ne_eqb,
-            unsent_after,
-            ended_then,
-            mode_then,
-          )
+      each_other i there ne = grind (
+        arith,
+        after_at,
+        same_parts,
+        second_other,
+        first_at,
+        append_assoc,
+        other_bytes,
+        ne_eqb,
+        unsent_after,
+        ended_then,
+        mode_then,
+      )
 
       pub agrees_run : (new : Space) → is_full l past ≡ false → latest past ≤ m
           → new ≡ (ran l past id words m).space
           → (let rows = kept_by left.limit id plan.deed left.rows in
           Agrees l (run ∷ past) new (record keys { rows = rows }) after.items)
-      agrees_run new room later s = record {
-        legal = (on, room, later, k.legal);
-        space_is = s;
-        table_is =
-            ap (λ (t : TableState). record {
-              limit = t.limit;
-              rows = kept_by left.limit id plan.deed left.rows;
-            }) k.table_is
-            ∙ ap (λ r. record { limit = l.table_max; rows = r }) kept_is;
-        count = length_after ∙ k.count;
-        each = λ i there.
-            let was : IsId cs i = (there.0, let le = there.1 in omega (arith, le, length_after)) in
-            elim (cases_eq id i) [
-              | inl e ↦ subst (λ j. connection_at after.items j
-                  ≡ connection_of l (run ∷ past) j) e each_own
-              | inr ne ↦ each_other i was ne
-            ];
-      }
+      agrees_run new room later s =
+          grind (arith, kept_is, length_after, cases_eq, each_own, each_other)
 
       -- and its posts are those of its entry
       pub posted_run : after.posts ≡ posted l (run ∷ past)
       unfolding posted
-      posted_run =
-          let mine : ℕ × Sending = (id, Message plan.mode.proto plan.reply) in
-          posts_sendings n sent second
-          ∙ ap (λ ps. (ps ++ message_post n id (length message) ∷ []) ++ posts_of n sent)
-          first_posts
-          ∙ append_assoc (posts_of n early) (message_post n id (length message) ∷ [])
-          (posts_of n sent)
-          ∙ sym (posts_append n early (mine ∷ sent))
-          ∙ ap (posts_of n) (sym sends_is)
-          ∙ ap (λ x. posts_of x (sends l run past)) number
+      posted_run = grind (arith, posts_sendings, first_posts, append_assoc, posts_append, sends_is)

@@ -1,9 +1,8 @@
 -- What sendings do to each connection, and that taking them back undoes them.
-use Rattle.std.proofs.Common.{◌≡◌, ◌+◌, ◌-◌, ◌<◌, ◌≤◌, ℕ, List, [], ◌∷◌, ◌++◌, length, take}
-use Rattle.std.proofs.Common.{sym, ap, subst, ◌∙◌, refl, arith, true, false, cond, Bool}
-use Rattle.std.proofs.Common.{length-append, length-set, slice_index_or, slice_set, append_assoc}
-use Rattle.std.proofs.Common.{append-nil, inl, inr, eq-eqb, ne_eqb, Result, Ok, Err, OnErr}
-use Rattle.std.proofs.Common.{OnOk, Option}
+use Rattle.std.proofs.Common.{◌≡◌, ◌+◌, ◌-◌, ◌<◌, ◌≤◌, ℕ, List, [], ◌∷◌, ◌++◌, length, take, sym}
+use Rattle.std.proofs.Common.{ap, subst, ◌∙◌, refl, arith, true, false, Bool, length-append}
+use Rattle.std.proofs.Common.{length-set, slice_index_or, slice_set, append_assoc, append-nil, inl}
+use Rattle.std.proofs.Common.{inr, eq-eqb, ne_eqb, Result, OnErr, OnOk, Option}
 use Rattle.std.specs.Prelude.{◌==◌}
 use Prim.Native.Nat.{zero, suc}
 use Rattle.std.proofs.lemmas.Bool.{cases_eq}
@@ -12,10 +11,9 @@ use Rattle.std.proofs.Math.Seq.{take-append_seam}
 use Rattle.resp_value.specs.declared.value.Proto.TheVariants.{Two, Three}
 use Rattle.serial_model.specs.declared.mode.Mode.{Mode}
 use Rattle.serial_model.specs.declared.history.Post.{Post}
-use Rattle.serial_model.specs.declared.history.Posted.{Posted}
 use Rattle.serial_model.specs.Tracking.{Invalidation, told_to, push_of, ids_where}
-use Rattle.serial_model.specs.History.{Sending, Message, End, sending_bytes, posted_of, spelled}
-use Rattle.serial_model.specs.History.{sent_bytes, sent_to, routed, route, posts_of}
+use Rattle.serial_model.specs.History.{Sending, sending_bytes, posted_of, spelled, sent_bytes}
+use Rattle.serial_model.specs.History.{sent_to, routed, route, posts_of}
 use Rattle.serial_model.specs.Each.{AllIn, AllTo}
 use Rattle.serial_model.proofs.Each.{all_in, in_append, in_at, in_take}
 use Rattle.serial_model.proofs.Tables.{ids_all, told_all}
@@ -28,20 +26,13 @@ use Rattle.server_book.specs.Sendings.{unqueued, before_posts, size_of, message_
 
 -- what holds holds of an error, and of a success
 pub on_err : {A E : Type 0} (r : Result A E) (P : Type 0) → P → OnErr r P
-on_err (Ok value) P h = tt
-on_err (Err error) P h = h
-
-pub on_ok : {A E : Type 0} (r : Result A E) (P : Type 0) → P → OnOk r P
-on_ok (Ok value) P h = h
-on_ok (Err error) P h = tt
+on_err r P h = grind arith
 
 pub on_err_then : {A E : Type 0} (r : Result A E) (P Q : Type 0) → (P → Q) → OnErr r P → OnErr r Q
-on_err_then (Ok value) P Q f h = tt
-on_err_then (Err error) P Q f h = f h
+on_err_then r P Q f h = grind arith
 
 pub on_ok_then : {A E : Type 0} (r : Result A E) (P Q : Type 0) → (P → Q) → OnOk r P → OnOk r Q
-on_ok_then (Ok value) P Q f h = f h
-on_ok_then (Err error) P Q f h = tt
+on_ok_then r P Q f h = grind arith
 
 -- ---- a connection by its id
 
@@ -52,8 +43,7 @@ at_same cs id c h = get_or-set_same cs (id - 1) c fresh (omega arith)
 pub at_other : (cs : List Connection) (id other : ℕ) (c : Connection) → 0 < id → 0 < other
     → (id ≡ other → ⊥)
     → connection_at (with_connection cs id c) other ≡ connection_at cs other
-at_other cs id other c p q ne =
-    get_or-set_other cs (id - 1) (other - 1) c fresh (λ e. ne (omega arith))
+at_other cs id other c p q ne = grind (arith, get_or-set_other)
 
 pub put_twice : (cs : List Connection) (at : ℕ) (a b : Connection)
     → slice_set (slice_set cs at a) at b ≡ slice_set cs at b
@@ -111,8 +101,7 @@ unqueued_queued cs p bytes on size =
     ∙ set-get_or cs (p.id - 1) fresh
 
 size_sent : (s : Sending) → size_of (posted_of s) ≡ length (sending_bytes s)
-size_sent (Message proto value) = refl
-size_sent End = refl
+size_sent s = grind arith
 
 pub before_sending : (n : ℕ) (s : ℕ × Sending) (state : ConnectionsState) → IsId state.items s.0
     → before_posts (with_sending n s state).posts (with_sending n s state).items
@@ -133,8 +122,7 @@ to_longer cs ds ss le h = grind (arith, all_in, id_longer)
 
 pub length_queued : (cs : List Connection) (id : ℕ) (bytes : List ℕ)
     → length (queued cs id bytes) ≡ length cs
-length_queued cs id bytes =
-    let c = connection_at cs id in length-set cs (id - 1) (record c { queue = c.queue ++ bytes })
+length_queued cs id bytes = grind (arith, length-set)
 
 pub length_sendings : (n : ℕ) (ss : List (ℕ × Sending)) (state : ConnectionsState)
     → length (with_sendings n ss state).items ≡ length state.items
@@ -178,19 +166,14 @@ set_swap [] i j a b ne = refl
 set_swap (c ∷ cs) zero zero a b ne = absurd (ne refl)
 set_swap (c ∷ cs) zero (suc j) a b ne = refl
 set_swap (c ∷ cs) (suc i) zero a b ne = refl
-set_swap (c ∷ cs) (suc i) (suc j) a b ne =
-    ap (λ l. c ∷ l) (set_swap cs i j a b (λ e. ne (ap suc e)))
-
-abbrev shorter : Posted → Connection → Connection
-shorter what c = record c { queue = take (length c.queue - size_of what) c.queue }
+set_swap (c ∷ cs) (suc i) (suc j) a b ne = grind (arith, set_swap cs i j a b (λ e. ne (ap suc e)))
 
 unqueue_mode : (cs : List Connection) (p : Post) (id : ℕ) (m : Mode) → IsId cs p.id → IsId cs id
     → unqueued p (with_mode id m cs) ≡ with_mode id m (unqueued p cs)
 unqueue_mode cs p id m on there = grind (arith, cases_eq, at_same, put_twice, at_other, set_swap)
 
 length_unqueued : (cs : List Connection) (p : Post) → length (unqueued p cs) ≡ length cs
-length_unqueued cs p =
-    length-set cs (p.id - 1) (shorter p.what (connection_at cs p.id))
+length_unqueued cs p = grind (arith, length-set)
 
 length_before : (ps : List Post) (cs : List Connection) → length (before_posts ps cs) ≡ length cs
 length_before [] cs = refl
@@ -239,13 +222,11 @@ more_nothing c = ap (λ q. record c { queue = q }) (sym (append-nil c.queue))
 
 sent_more : (n i : ℕ) (s : ℕ × Sending) (ss : List (ℕ × Sending)) → (s.0 == i) ≡ true
     → sent_bytes (sent_to n i (s ∷ ss)) ≡ sending_bytes s.1 ++ sent_bytes (sent_to n i ss)
-sent_more n i s ss h =
-    ap (λ b. sent_bytes (cond b ((n, s.1) ∷ sent_to n i ss) (sent_to n i ss))) h
+sent_more n i s ss h = grind arith
 
 sent_same : (n i : ℕ) (s : ℕ × Sending) (ss : List (ℕ × Sending)) → (s.0 == i) ≡ false
     → sent_bytes (sent_to n i (s ∷ ss)) ≡ sent_bytes (sent_to n i ss)
-sent_same n i s ss h =
-    ap (λ b. sent_bytes (cond b ((n, s.1) ∷ sent_to n i ss) (sent_to n i ss))) h
+sent_same n i s ss h = grind arith
 
 -- each connection has the bytes of its own sendings behind its queue
 pub sent_at : (n i : ℕ) (ss : List (ℕ × Sending)) (state : ConnectionsState)
@@ -311,8 +292,7 @@ pub told_next : (m : ℕ → Mode) (keys : Option (List (List ℕ))) (ids : List
     ≡ routed m (told_to keys (take n ids))
     ++ route (m id) (record { to = id; keys = keys }))
 told_next m keys [] n lt = absurd (omega arith)
-told_next m keys (id ∷ ids) zero lt =
-    append-nil (route (m id) (record { to = id; keys = keys }))
+told_next m keys (id ∷ ids) zero lt = grind (arith, append-nil)
 told_next m keys (id ∷ ids) (suc n) lt =
     grind (arith, slice_index_or, append_assoc, told_next m keys ids n (omega arith))
 

@@ -1,8 +1,6 @@
 -- A Tick sends what its entry sends, and leaves what the history says.
 use Rattle.std.proofs.Common.{◌≡◌, ◌≢◌, ◌+◌, ◌≤◌, ℕ, List, [], ◌∷◌, ◌++◌, length, sym, ap, ◌∙◌}
-use Rattle.std.proofs.Common.{refl, arith, true, false, append-nil, max}
-use Rattle.std.proofs.Common.{ne_eqb}
-use Rattle.std.specs.Prelude.{◌==◌}
+use Rattle.std.proofs.Common.{refl, arith, true, false, append-nil, max, ne_eqb}
 use Rattle.std.proofs.lemmas.Bool.{cases_eq}
 use Rattle.command_words.specs.Expiry.{without_due}
 use Rattle.command_words.specs.Space.{Space}
@@ -13,10 +11,9 @@ use Rattle.serial_model.specs.declared.history.Limits.{Limits}
 use Rattle.serial_model.specs.declared.history.Entry.{Entry}
 use Rattle.serial_model.specs.declared.history.Entry.TheVariants as entry
 use Rattle.serial_model.specs.Tracking.{without_keys}
-use Rattle.serial_model.specs.History.{is_full, latest, has_ended, unsent, posted, modes, routed}
-use Rattle.serial_model.specs.History.{sends, sent_to, sent_bytes, expired, expiry_group}
-use Rattle.serial_model.specs.History.{table}
-use Rattle.serial_model.specs.Steps.{book_step, full, ticking}
+use Rattle.serial_model.specs.History.{is_full, latest, has_ended, unsent, posted, sends, sent_to}
+use Rattle.serial_model.specs.History.{sent_bytes, expired}
+use Rattle.serial_model.specs.Steps.{book_step, full}
 use Rattle.serial_model.proofs.Streams.{IsLive, tick_bytes, tick_sends_none, unsent_tick}
 use Rattle.serial_model.proofs.Streams.{unsent_ended}
 use Rattle.serial_model.proofs.Turning.{tick_step}
@@ -57,19 +54,7 @@ module _ (l : Limits) (past : List Entry) (space : Space) (keys : TableState)
   pub agrees_tick : (new : Space) → (gone ≡ [] → ⊥) → is_full l past ≡ false → latest past ≤ m
       → new ≡ without_due m space
       → Agrees l (entry.Tick m ∷ past) new (record keys { rows = without_keys gone keys.rows }) told
-  agrees_tick new some room later s = record {
-    legal = ((λ none. some (gone_is ∙ none)), room, later, k.legal);
-    space_is = s ∙ ap (without_due m) k.space_is;
-    table_is =
-        ap (λ g. record { limit = keys.limit; rows = without_keys g keys.rows }) gone_is
-        ∙ ap (λ (t : TableState). record {
-          limit = t.limit;
-          rows = without_keys (expired l past m) t.rows;
-        }) k.table_is;
-    count = length_told ∙ k.count;
-    each = λ i there.
-        each i (there.0, let le = there.1 in omega (arith, le, length_told));
-  }
+  agrees_tick new some room later s = grind (arith, length_told, each)
 
   pub posted_tick : (first l past space keys cs k m gone gone_is n).posts
       ≡ posted l (entry.Tick m ∷ past)
@@ -96,8 +81,7 @@ pub tick_quiet : (l : Limits) (past : List Entry) (now m : ℕ) → expired l pa
     → m ≡ max now (latest past)
     → book_step l past (Tick now) ≡ record { reply = Quiet; past = past }
 unfolding book_step
-tick_quiet l past now m none moment =
-    ap (λ x. ticking l past x (expired l past x)) (sym moment) ∙ ap (ticking l past m) none
+tick_quiet l past now m none moment = grind arith
 
 pub tick_full : (l : Limits) (past : List Entry) (now m : ℕ) (gone : List (List ℕ))
     → gone ≡ expired l past m → (gone ≡ [] → ⊥) → is_full l past ≡ true

@@ -1,6 +1,6 @@
 -- A Run that memory broke off is taken back.
-use Rattle.std.proofs.Common.{◌≡◌, ◌≤◌, ℕ, List, [], ◌∷◌, ◌++◌, length, ap, ◌∙◌}
-use Rattle.std.proofs.Common.{◌-◌, refl, arith, length-set}
+use Rattle.std.proofs.Common.{◌≡◌, ◌≤◌, ℕ, List, [], ◌∷◌, ◌++◌, length, ap, ◌∙◌, refl, arith}
+use Rattle.std.proofs.Common.{length-set}
 use Rattle.track_table.specs.declared.table.Held.{Held}
 use Rattle.serial_model.specs.declared.history.Post.{Post}
 use Rattle.serial_model.specs.declared.mode.Mode.{Mode}
@@ -9,7 +9,7 @@ use Rattle.serial_model.specs.Tracking.{AreApart, group, without_keys}
 use Rattle.serial_model.proofs.Tables.{without_keys_all}
 use Rattle.serial_model.proofs.TableSize.{without_keys_within}
 use Rattle.server_book.specs.declared.connections.Connection.{Connection}
-use Rattle.server_book.specs.Connections.{ArePosted, ConnectionsState, IsId, connection_at}
+use Rattle.server_book.specs.Connections.{ArePosted, ConnectionsState, IsId}
 use Rattle.server_book.specs.RunSendings.{with_mode}
 use Rattle.server_book.specs.Sendings.{before_posts, message_post, modes_of, queued, with_sendings}
 use Rattle.server_book.specs.Stores.{AreThere, IsHeld}
@@ -34,8 +34,7 @@ module _ (n id : ℕ) (old now : ConnectionsState) (keys : List (List ℕ)) (row
   sent = routed (modes_of old.items) (group keys rows)
 
   pub length_told : length now.items ≡ length old.items
-  length_told =
-      ap (λ (s : ConnectionsState). length s.items) told ∙ length_sendings n sent old
+  length_told = grind (arith, length_sendings)
 
   pub on_told : IsId now.items id
   on_told = (on.0, let le = on.1 in omega (arith, le, length_told))
@@ -61,8 +60,7 @@ module _ (n id : ℕ) (old now : ConnectionsState) (keys : List (List ℕ)) (row
     length_replied = length_queued now.items id message
 
     pub length_switched : length (with_mode id mode replied) ≡ length old.items
-    length_switched = length-set replied (id - 1)
-        (record (connection_at replied id) { mode = mode }) ∙ length_replied ∙ length_told
+    length_switched = grind (arith, length-set, length_replied, length_told)
 
     posted : ArePosted replied (now.posts ++ post ∷ [])
     posted =

@@ -2,7 +2,7 @@
 use Rattle.std.specs.Prelude.{◌≡◌, ℕ, List, [], ◌∷◌, ◌++◌, length, Option, Some, None}
 use Rattle.track_table.specs.Table.{TableState}
 use Rattle.serial_model.specs.declared.mode.Mode.{Mode}
-use Rattle.serial_model.specs.Tracking.{Invalidation, group, without_keys}
+use Rattle.serial_model.specs.Tracking.{group, without_keys}
 use Rattle.serial_model.specs.History.{routed, spelled}
 use Rattle.server_book.specs.declared.connections.Connection.{Connection}
 use Rattle.server_book.specs.declared.plan.Plan.{Plan}

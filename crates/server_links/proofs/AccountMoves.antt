@@ -1,7 +1,6 @@
 -- What each move over a link does to its account.
-use Rattle.std.proofs.Common.{◌≡◌, ℕ, List, [], ◌++◌, Bool, true, false, cond}
-use Rattle.std.proofs.Common.{None, Option, take, refl, sym, ap, ◌∙◌, arith}
-use Rattle.std.proofs.Common.{append_assoc, append-nil}
+use Rattle.std.proofs.Common.{◌≡◌, ℕ, List, [], ◌++◌, Bool, true, false, cond, None, Option, take}
+use Rattle.std.proofs.Common.{refl, sym, ap, ◌∙◌, arith, append_assoc, append-nil}
 use Rattle.std.proofs.lemmas.Slice.Eq.{bytes_eq-Decides}
 use Rattle.std.proofs.lemmas.List.{take-append-drop}
 use Rattle.resp_stream.specs.Parse.{parse, requests_of}
@@ -10,9 +9,7 @@ use Rattle.serial_model.specs.declared.history.Limits.{Limits}
 use Rattle.serial_model.specs.declared.history.Entry.{Entry}
 use Rattle.serial_model.specs.declared.history.BookCall.TheVariants as call
 use Rattle.serial_model.specs.declared.history.BookReply.{BookReply}
-use Rattle.serial_model.specs.declared.history.BookReply.TheVariants.{Bytes}
-use Rattle.serial_model.specs.History.{reads_on, gives_on, stream, taken}
-use Rattle.serial_model.specs.History.{runs_of}
+use Rattle.serial_model.specs.History.{reads_on, gives_on, stream, taken, runs_of}
 use Rattle.serial_model.specs.Steps.{Turn, book_step, given_by}
 use Rattle.serial_model.proofs.Turning.{step_gave, step_runs}
 use Rattle.server_links.specs.LinkEvent.{LinkEvent, Raw, Put, Over, Now, Tick}
@@ -27,38 +24,25 @@ use Rattle.server_links.specs.EntryLines.{reply_lines, reply_fault}
 use Rattle.server_links.specs.OneHistory.{read_on}
 use Rattle.server_links.specs.Outcome.{Outcome, stays}
 use Rattle.server_links.specs.Session.{Session, with_past, with_link, with_up, with_down}
-use Rattle.server_links.specs.Moves.{turned, say}
-use Rattle.server_links.specs.Moves.{serve_all, bytes_of, take_down, all_bytes}
-use Rattle.server_links.specs.Moves.{send_all}
-use Rattle.server_links.specs.Moves.{send}
+use Rattle.server_links.specs.Moves.{turned, say, serve_all, bytes_of, take_down, all_bytes}
+use Rattle.server_links.specs.Moves.{send_all, send, cut_off, move_of, moved, hang_up, read_lines}
+use Rattle.server_links.specs.Moves.{eof_lines, read_bytes, read_eof, receive_all, receive, flow}
 use Rattle.std.proofs.lemmas.Bool.Decides.{nat_tests}
-use Rattle.server_links.specs.Moves.{cut_off, move_of, moved, hang_up}
-use Rattle.server_links.specs.Moves.{read_lines, eof_lines, read_bytes, read_eof, receive_all}
-use Rattle.server_links.specs.Moves.{receive}
-use Rattle.server_links.specs.Moves.{flow}
-use Rattle.server_links.proofs.Carries.{mute_reply, by_take, took}
-use Rattle.server_links.proofs.Moving.{every_turned}
-use Rattle.server_links.proofs.Moving.{every_read, every_serve_all}
-use Rattle.server_links.proofs.Moving.{every_send_all}
-use Rattle.server_links.proofs.Carries.{take_carries}
-use Rattle.server_links.proofs.Accounts.{gave, Account, Part}
-use Rattle.server_links.proofs.Accounts.{account_part}
-use Rattle.server_links.proofs.Accounts.{Keeps, keeps_then, keeps_stays}
-use Rattle.server_links.proofs.Accounts.{keeps_once, keeps_quiet}
-use Rattle.server_links.proofs.AccountRuns.{account_refuses, account_stays, open_past_eof}
-use Rattle.server_links.proofs.AccountRuns.{reads_of, same_heard, same_id, serve_all_keeps}
-use Rattle.server_links.proofs.AccountRuns.{serve_keeps}
+use Rattle.server_links.proofs.Carries.{mute_reply, by_take, took, take_carries}
+use Rattle.server_links.proofs.Moving.{every_turned, every_read, every_serve_all, every_send_all}
+use Rattle.server_links.proofs.Accounts.{gave, Account, Part, account_part, Keeps, keeps_then}
+use Rattle.server_links.proofs.Accounts.{keeps_stays, keeps_once, keeps_quiet}
+use Rattle.server_links.proofs.AccountRuns.{account_refuses, account_stays, open_past_eof, reads_of}
+use Rattle.server_links.proofs.AccountRuns.{same_heard, same_id, serve_all_keeps, serve_keeps}
 
 -- ---- the server's end sends
 
 put_open : (more : List ℕ) (e : Eof) (bytes : List ℕ) → is_open e ≡ true
     → put_by e bytes more ≡ bytes ++ more
-put_open more eof.None bytes h = refl
-put_open more e bytes h = absurd (let no : ⊥ = cc in no)
+put_open more e bytes h = grind (arith, nat_tests)
 
 given_is : (c most : ℕ) (reply : BookReply) → given_by c (call.Take c most) reply ≡ bytes_of reply
-given_is c most (Bytes e bytes) = ap (λ b. cond b bytes []) (same_id c)
-given_is c most reply = refl
+given_is c most reply = grind (arith, same_id, nat_tests)
 
 gave_take : (l : Limits) (c most : ℕ) (past : List Entry) →
     let t : Turn = book_step l past (call.Take c most) in
@@ -135,8 +119,7 @@ module _ (heard said : List ℕ) where
       (hand_part given read u h, (λ e. a), account_part heard said read _ a)))
 
   not_open : (e : Eof) → is_open (queued e) ≡ true → ⊥
-  not_open eof.None h = cc
-  not_open e h = cc
+  not_open e h = grind (arith, nat_tests)
 
   finished_account : (read : List ℕ) (s : Session) → Account heard said read s
       → Account heard said read (with_link s (with_down s.link (finished s.link.down)))
@@ -189,8 +172,7 @@ module _ (heard said : List ℕ) where
       (account_part heard said read s a, (λ e. n), account_part heard said (read ++ bytes) _ n))
 
   eof_quiet : (name : List ℕ) (b : Bool) → read_on name (eof_lines name b) ≡ []
-  eof_quiet name true = refl
-  eof_quiet name false = refl
+  eof_quiet name b = grind (arith, nat_tests)
 
   read_eof_keeps : (s : Session)
       → Keeps (Account heard said) (Account heard said) (Part said) s (read_eof s)
@@ -389,9 +371,5 @@ pub move_keeps : (heard said : List ℕ) (event : LinkEvent) (s : Session)
     → Keeps (Account heard said) (Account (heard ++ piece_of event s) (said ++ bytes_said event))
     (Part (said ++ bytes_said event)) s (move_of event s)
 unfolding piece_of bytes_said
-move_keeps heard said (Raw name) s = neither heard said s _ (account_stays heard said s)
-move_keeps heard said (Put name bytes) s =
-    none_heard heard said s _ bytes (say_keeps heard said bytes s)
-move_keeps heard said (Over name move) s = moved_keeps heard said move s
-move_keeps heard said (Now moment) s = neither heard said s _ (account_stays heard said s)
-move_keeps heard said Tick s = neither heard said s _ (account_stays heard said s)
+move_keeps heard said event s =
+    grind (arith, none_heard, say_keeps, moved_keeps, neither, account_stays, nat_tests)

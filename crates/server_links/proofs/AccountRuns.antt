@@ -1,7 +1,7 @@
 -- What is heard and runs, in the account of a link.
-use Rattle.std.proofs.Common.{◌≡◌, ℕ, List, [], ◌∷◌, ◌++◌, Bool, true, false, cond}
-use Rattle.std.proofs.Common.{Some, None, Option, length, take, refl, sym, ap, subst, ◌∙◌}
-use Rattle.std.proofs.Common.{append_assoc, append-nil, eq-eqb}
+use Rattle.std.proofs.Common.{◌≡◌, ℕ, List, [], ◌∷◌, ◌++◌, Bool, true, false, cond, Some, None}
+use Rattle.std.proofs.Common.{Option, length, take, refl, sym, ap, subst, ◌∙◌, append_assoc}
+use Rattle.std.proofs.Common.{append-nil, eq-eqb, arith}
 use Rattle.std.specs.Prelude.{◌==◌, ◌&&◌, not, nat_le}
 use Rattle.std.proofs.lemmas.List.{take-append-drop}
 use Rattle.resp_stream.specs.declared.fault.StreamFault.{StreamFault}
@@ -12,36 +12,30 @@ use Rattle.resp_stream.proofs.Onward.{GoesOn, goes_further, requests_join}
 use Rattle.serial_model.specs.declared.history.Limits.{Limits}
 use Rattle.serial_model.specs.declared.history.Entry.{Entry}
 use Rattle.serial_model.specs.declared.history.BookCall.TheVariants as call
-use Rattle.serial_model.specs.History.{is_admitted, has_ended, reads_on, stream, taken}
-use Rattle.serial_model.specs.History.{runs_of, is_full}
-use Rattle.serial_model.specs.Steps.{Turn, book_step, running, closing}
+use Rattle.serial_model.specs.History.{reads_on, stream, taken, runs_of, is_full}
+use Rattle.serial_model.specs.Steps.{Turn, book_step, running}
 use Rattle.serial_model.proofs.Turning.{step_gave, step_runs, run_step, run_full, close_step}
 use Rattle.server_links.specs.declared.direction.Direction.{Direction}
 use Rattle.server_links.specs.declared.direction.Eof.{Eof}
-use Rattle.server_links.specs.declared.direction.Eof.TheVariants as eof
 use Rattle.server_links.specs.declared.fault.WorldFault.TheVariants.{NothingThere}
-use Rattle.server_links.specs.Directions.{is_open, is_queued}
-use Rattle.server_links.specs.Directions.{eof_read, without, without_bytes, past_eof}
+use Rattle.server_links.specs.Directions.{is_open, is_queued, eof_read, without, without_bytes}
+use Rattle.server_links.specs.Directions.{past_eof}
 use Rattle.server_links.specs.EntryLines.{reply_lines, reply_fault}
 use Rattle.server_links.specs.OneHistory.{read_on}
 use Rattle.server_links.specs.Outcome.{Outcome, stays, refuses, and_then}
-use Rattle.server_links.specs.Session.{Session, with_past, with_link, with_up}
-use Rattle.server_links.specs.Session.{with_reader}
+use Rattle.server_links.specs.Session.{Session, with_past, with_link, with_up, with_reader}
 use Rattle.server_links.specs.Moves.{turned, turn, next_read, run_one, run_all, close, stop}
-use Rattle.server_links.specs.Moves.{rest_read, run_requests, run_fed, stopped_at}
-use Rattle.server_links.specs.Moves.{feed, serve_all, serve}
+use Rattle.server_links.specs.Moves.{rest_read, run_requests, run_fed, stopped_at, feed, serve_all}
+use Rattle.server_links.specs.Moves.{serve}
 use Rattle.server_links.proofs.Outcomes.{Meets}
 use Rattle.server_links.proofs.FaultPlaces.{parse_met}
-use Rattle.server_links.proofs.Carries.{mute_reply}
+use Rattle.server_links.proofs.Carries.{mute_reply, carries_link}
 use Rattle.server_links.specs.Transcript.{up_to}
-use Rattle.server_links.proofs.Moving.{every_quiet, every_does, every_run_one}
-use Rattle.server_links.proofs.Moving.{every_run_all}
+use Rattle.server_links.proofs.Moving.{every_quiet, every_does, every_run_one, every_run_all}
 use Rattle.server_links.proofs.Moving.{every_run_requests}
-use Rattle.server_links.proofs.Carries.{carries_link}
 use Rattle.server_links.proofs.Accounts.{gave, InFlight, Account, Running, Halted, Part}
-use Rattle.server_links.proofs.Accounts.{account_part}
-use Rattle.server_links.proofs.Accounts.{running_part, halted_part, Keeps, keeps_then, keeps_stays}
-use Rattle.server_links.proofs.Accounts.{keeps_refuses, keeps_quiet}
+use Rattle.server_links.proofs.Accounts.{account_part, running_part, halted_part, Keeps, keeps_then}
+use Rattle.server_links.proofs.Accounts.{keeps_stays, keeps_refuses, keeps_quiet}
 
 pub same_id : (c : ℕ) → (c == c) ≡ true
 same_id c = eq-eqb c c refl
@@ -49,26 +43,12 @@ same_id c = eq-eqb c c refl
 flight_past : (heard said read : List ℕ) (s : Session) (past : List Entry)
     → gave s.limits s.link.id past ≡ gave s.limits s.link.id s.past
     → InFlight heard said read s → InFlight heard said read (with_past s past)
-flight_past heard said read s past same f = record {
-  up_lost = f.up_lost;
-  all_said = f.all_said;
-  none_up = f.none_up;
-  down_lost = f.down_lost;
-  all_taken = f.all_taken ∙ sym same;
-  none_down = f.none_down;
-}
+flight_past heard said read s past same f = grind arith
 
 flight_reader : (heard said read : List ℕ) (s : Session) (reader : Stream)
     → InFlight heard said read s
     → InFlight heard said read (with_link s (with_reader s.link reader))
-flight_reader heard said read s reader f = record {
-  up_lost = f.up_lost;
-  all_said = f.all_said;
-  none_up = f.none_up;
-  down_lost = f.down_lost;
-  all_taken = f.all_taken;
-  none_down = f.none_down;
-}
+flight_reader heard said read s reader f = grind arith
 
 -- ---- what runs
 
@@ -127,8 +107,7 @@ module _ (heard said : List ℕ) where
   running_reader : (todo : List (List (List ℕ))) (read : List ℕ) (s : Session) (reader : Stream)
       → Running todo heard said read s
       → Running todo heard said read (with_link s (with_reader s.link reader))
-  running_reader todo read s reader r =
-      record { bytes = flight_reader heard said read s reader r.bytes; on = r.on; runs = r.runs }
+  running_reader todo read s reader r = grind (arith, flight_reader)
 
   run_one_keeps : (words : List (List ℕ)) (todo : List (List (List ℕ))) (s : Session)
       → Keeps (Running (words ∷ todo) heard said) (Running todo heard said) (Part said) s
@@ -182,17 +161,11 @@ module _ (heard said : List ℕ) where
   -- ---- what stops the reading
 
   no_more : (a : Bool) → (a && not true) ≡ true → ⊥
-  no_more true h = cc
-  no_more false h = cc
+  no_more a h = grind arith
 
   close_ends : (l : Limits) (c : ℕ) (past : List Entry) → reads_on l past c ≡ true
       → reads_on l (book_step l past (call.Close c)).past c ≡ true → ⊥
-  close_ends l c past on h =
-      let is : reads_on l (closing past c).past c ≡ true =
-      ap (λ (t : Turn). reads_on l t.past c) (sym (close_step l past c on)) ∙ h in
-      no_more (is_admitted past c)
-      (ap (λ b. is_admitted past c && not (cond b true (has_ended l c past))) (sym (same_id c))
-      ∙ is)
+  close_ends l c past on h = grind (arith, close_step, no_more, same_id)
 
   close_keeps : (fault : Option StreamFault) (s : Session)
       → Keeps (Halted fault heard said) (Account heard said) (Part said) s (close s)
@@ -255,25 +228,12 @@ module _ (heard said piece : List ℕ) (up : Direction) (eof : Bool) (s : Sessio
   fed_flight : (read : List ℕ) → InFlight heard said read s
       → InFlight (heard ++ piece) said read fed_session
   unfolding fed_session
-  fed_flight read f = record {
-    up_lost = f.up_lost;
-    all_said = ap (λ l. l ++ f.up_lost) (append_assoc heard piece up.bytes
-        ∙ ap (λ l. heard ++ l) split) ∙ f.all_said;
-    none_up = λ e. f.none_up (open_before e);
-    down_lost = f.down_lost;
-    all_taken = f.all_taken;
-    none_down = f.none_down;
-  }
+  fed_flight read f = grind (arith, append_assoc)
 
   fed_running : (read : List ℕ) → Account heard said read s
       → Running (parse (fed s.link.reader piece)).items (heard ++ piece) said read fed_session
   unfolding fed_session
-  fed_running read a = record {
-    bytes = fed_flight read a.bytes;
-    on = on;
-    runs = ap (λ l. l ++ (parse (fed s.link.reader piece)).items) a.runs
-        ∙ sym ((a.reading on).further piece);
-  }
+  fed_running read a = grind (arith, fed_flight)
 
   Fed : List ℕ → Session → Type 0
   Fed read t = (t ≡ fed_session) × Running (parse (fed s.link.reader piece)).items (heard
@@ -316,13 +276,10 @@ reads_of count s = cond (reads_on s.limits s.past s.link.id) (up_to count s.link
 pub same_heard : (heard said : List ℕ) (s : Session) (m : Outcome Session)
     → Keeps (Account heard said) (Account heard said) (Part said) s m
     → Keeps (Account heard said) (Account (heard ++ []) said) (Part said) s m
-same_heard heard said s m k =
-    subst (λ h. Keeps (Account heard said) (Account h said) (Part said) s m)
-    (sym (append-nil heard)) k
+same_heard heard said s m k = grind (arith, append-nil)
 
 pub open_past_eof : (e : Eof) → is_open (eof_read e) ≡ true → is_open e ≡ true
-open_past_eof eof.None h = refl
-open_past_eof e h = absurd (let no : ⊥ = cc in no)
+open_past_eof e h = grind arith
 
 pub account_stays : (heard said : List ℕ) (s : Session)
     → Keeps (Account heard said) (Account heard said) (Part said) s (stays s)
@@ -351,8 +308,7 @@ serve_all_keeps heard said s =
     ] refl
 
 pub both : (a b : Bool) → (a && b) ≡ true → a ≡ true
-both true b e = refl
-both false b e = absurd (let no : ⊥ = cc in no)
+both a b e = grind arith
 
 pub serve_keeps : (heard said : List ℕ) (count : Option ℕ) (s : Session)
     → Keeps (Account heard said) (Account (heard ++ reads_of count s) said) (Part said) s

@@ -3,8 +3,8 @@
 -- lost, and what its server's end heard ran. Each move keeps it, and wherever memory runs out a
 -- part of
 -- it stands.
-use Rattle.std.proofs.Common.{◌≡◌, ℕ, List, [], ◌∷◌, ◌++◌, true, false}
-use Rattle.std.proofs.Common.{None, Option, take, sym, ap, subst, ◌∙◌, append_assoc, append-nil}
+use Rattle.std.proofs.Common.{◌≡◌, ℕ, List, [], ◌∷◌, ◌++◌, true, None, Option, take, sym, ap, subst}
+use Rattle.std.proofs.Common.{◌∙◌, append_assoc, append-nil, arith}
 use Rattle.resp_value.specs.Lists.{IsPrefix}
 use Rattle.resp_stream.specs.declared.fault.StreamFault.{StreamFault}
 use Rattle.resp_stream.specs.Parse.{parse, requests_of}
@@ -61,12 +61,7 @@ Part said read s = PartServes s.limits said read s.past s.link
 pub part_of : (heard said read : List ℕ) (s : Session) → InFlight heard said read s
     → IsPrefix (runs_of s.link.id s.past) (requests_of heard) → Part said read s
 unfolding Part gave
-part_of heard said read s b front = record {
-  heard = heard;
-  up = record { lost = b.up_lost; all_said = b.all_said };
-  down = record { lost = b.down_lost; all_taken = b.all_taken };
-  runs_front = front;
-}
+part_of heard said read s b front = grind arith
 
 pub account_part : (heard said read : List ℕ) (s : Session) → Account heard said read s
     → Part said read s
@@ -122,20 +117,12 @@ module _ (P Q W : List ℕ → Session → Type 0) (s : Session) where
   pub keeps_stays : (new : Session) → ((read : List ℕ) → P read s → Q read new × W read new)
       → Keeps P Q W s (stays new)
   unfolding Keeps
-  keeps_stays new f read p =
-      let r = f read p in
-      meets_stays (λ t l. Q (read ++ read_on s.link.name l) t)
-      (λ t l. W (read ++ read_on s.link.name l) t) new
-      (subst (λ x. Q x new) (sym (append-nil read)) r.0)
-      (subst (λ x. W x new) (sym (append-nil read)) r.1)
+  keeps_stays new f read p = grind (arith, meets_stays, append-nil)
 
   pub keeps_refuses : ((read : List ℕ) → P read s → W read s)
       → Keeps P Q W s (refuses s NothingThere)
   unfolding Keeps
-  keeps_refuses f read p =
-      meets_refuses (λ t l. Q (read ++ read_on s.link.name l) t)
-      (λ t l. W (read ++ read_on s.link.name l) t) s NothingThere
-      (subst (λ x. W x s) (sym (append-nil read)) (f read p))
+  keeps_refuses f read p = grind (arith, meets_refuses, append-nil)
 
   -- something is done whose lines tell of these bytes
   pub keeps_once : (new : Session) (lines : List Line) (fault : Option _) (bytes : List ℕ)
@@ -144,21 +131,10 @@ module _ (P Q W : List ℕ → Session → Type 0) (s : Session) where
       × W (read ++ bytes) new)
       → Keeps P Q W s (record { state = new; lines = lines; fault = fault; points = (s, []) ∷ [] })
   unfolding Keeps
-  keeps_once new lines fault bytes tells f read p =
-      let r = f read p in
-      meets_once (λ t l. Q (read ++ read_on s.link.name l) t)
-      (λ t l. W (read ++ read_on s.link.name l) t) s new lines fault
-      (λ none. subst (λ b. Q (read ++ b) new) (sym tells) (r.1 none))
-      (subst (λ x. W x s) (sym (append-nil read)) r.0)
-      (subst (λ b. W (read ++ b) new) (sym tells) r.2)
+  keeps_once new lines fault bytes tells f read p = grind (arith, meets_once, append-nil)
 
   pub keeps_quiet : (new : Session) (lines : List Line) (fault : Option _)
       → read_on s.link.name lines ≡ []
       → ((read : List ℕ) → P read s → W read s × (fault ≡ None → Q read new) × W read new)
       → Keeps P Q W s (record { state = new; lines = lines; fault = fault; points = (s, []) ∷ [] })
-  keeps_quiet new lines fault tells f = keeps_once new lines fault [] tells
-      (λ read p. let r = f read p in (
-        r.0,
-        (λ none. subst (λ x. Q x new) (sym (append-nil read)) (r.1 none)),
-        subst (λ x. W x new) (sym (append-nil read)) r.2,
-      ))
+  keeps_quiet new lines fault tells f = grind (arith, keeps_once, append-nil)

@@ -1,8 +1,8 @@
 -- What every move over one link leaves of the rest: the names, the other connections, and a history
 -- whose new entries have their lines.
-use Rattle.std.proofs.Common.{◌≡◌, ◌+◌, ◌-◌, ℕ, List, [], ◌∷◌, ◌++◌, true, false, cond}
-use Rattle.std.proofs.Common.{length, take, filter, refl, sym, ap, subst, ◌∙◌, arith}
-use Rattle.std.proofs.Common.{append_assoc, append-nil, eq-eqb, length-take, length-drop}
+use Rattle.std.proofs.Common.{◌≡◌, ◌+◌, ◌-◌, ℕ, List, [], ◌∷◌, ◌++◌, true, false, length, take}
+use Rattle.std.proofs.Common.{filter, refl, sym, ap, subst, ◌∙◌, arith, append_assoc, append-nil}
+use Rattle.std.proofs.Common.{eq-eqb, length-take, length-drop}
 use Rattle.std.specs.Prelude.{◌==◌}
 use Rattle.std.specs.Str.{bytes_eq}
 use Rattle.std.proofs.lemmas.Grind.{flat_map-append}
@@ -12,10 +12,8 @@ use Rattle.serial_model.specs.declared.history.Entry.TheVariants as entry
 use Rattle.serial_model.specs.declared.history.BookCall.{BookCall}
 use Rattle.serial_model.specs.declared.history.BookCall.TheVariants as call
 use Rattle.serial_model.specs.declared.history.BookReply.{BookReply}
-use Rattle.serial_model.specs.declared.history.BookReply.TheVariants.{Admitted, Quiet}
-use Rattle.serial_model.specs.declared.history.BookReply.TheVariants.{Bytes}
-use Rattle.serial_model.specs.History.{admitted, gives_on, taken, unsent}
-use Rattle.serial_model.specs.History.{IsLegal}
+use Rattle.serial_model.specs.declared.history.BookReply.TheVariants.{Quiet, Bytes}
+use Rattle.serial_model.specs.History.{admitted, gives_on, taken, unsent, IsLegal}
 use Rattle.serial_model.specs.Steps.{Turn, book_step, gone, full, running, taking, closing}
 use Rattle.serial_model.specs.Laws.{Extends}
 use Rattle.serial_model.proofs.Others.{by_limit, extends_none, extends_more, others_extend}
@@ -36,13 +34,7 @@ read_more name xs ys = flat_map-append (read_by name) xs ys
 pub entries_more : (xs ys : List Line) → filter is_entry_line (xs ++ ys)
     ≡ filter is_entry_line xs ++ filter is_entry_line ys
 entries_more [] ys = refl
-entries_more (x ∷ xs) ys =
-    elim (is_entry_line x) as (λ b. cond b (x ∷ filter is_entry_line (xs ++ ys))
-    (filter is_entry_line (xs ++ ys))
-    ≡ cond b (x ∷ filter is_entry_line xs) (filter is_entry_line xs) ++ filter is_entry_line ys) [
-      | true ↦ ap (λ l. x ∷ l) (entries_more xs ys)
-      | false ↦ entries_more xs ys
-    ]
+entries_more (x ∷ xs) ys = grind (arith, filter, entries_more xs ys)
 
 pub record Carries (s t : Session) (lines : List Line) : Type 0 where
   pub limits : t.limits ≡ s.limits
@@ -123,8 +115,7 @@ module _ (l : Limits) (past : List Entry) (id most : ℕ) (P : Turn
     (f : P (full past)) where
   by_taking : (bytes : List ℕ) → P (took past id most bytes) → P (taking l past id most bytes)
   unfolding took
-  by_taking [] t = q
-  by_taking (b ∷ bytes) t = by_limit l past _ P f t
+  by_taking bytes t = grind (arith, by_limit)
 
   pub by_take : (gives_on l past id ≡ true → P (took past id most (take most (unsent l id past))))
       → P (book_step l past (call.Take id most))
@@ -182,8 +173,7 @@ take_adds l past id most = by_take l past id most (Adds l id [] past)
 
 pub mute_reply : (name link : List ℕ) (words : List (List ℕ)) (reply : BookReply)
     → read_on name (reply_lines link words reply) ≡ []
-mute_reply name link words (Admitted e id) = refl
-mute_reply name link words reply = refl
+mute_reply name link words reply = grind arith
 
 carries_turn : (s : Session) (c : BookCall) (words : List (List ℕ))
     → Adds s.limits s.link.id words s.past (book_step s.limits s.past c)

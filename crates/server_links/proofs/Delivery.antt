@@ -1,7 +1,7 @@
 -- A link that flows has nothing in flight then, and nothing left to send.
-use Rattle.std.proofs.Common.{◌≡◌, ◌<◌, ◌≤◌, ℕ, List, [], ◌∷◌, Bool, true, false, cond}
-use Rattle.std.proofs.Common.{Some, None, Option, length, take, length-take, refl, sym, ap}
-use Rattle.std.proofs.Common.{subst, ◌∙◌, arith, eq-eqb}
+use Rattle.std.proofs.Common.{◌≡◌, ◌<◌, ◌≤◌, ℕ, List, [], ◌∷◌, Bool, true, false, cond, Some, None}
+use Rattle.std.proofs.Common.{Option, length, take, length-take, refl, sym, ap, subst, ◌∙◌, arith}
+use Rattle.std.proofs.Common.{eq-eqb}
 use Rattle.std.specs.Prelude.{◌&&◌, not, nat_lt, nat_le, slice_set}
 use Rattle.std.proofs.lemmas.List.{drop_all, length-drop, get_or-set_same}
 use Rattle.resp_stream.specs.declared.fault.FaultPlace.{FaultPlace}
@@ -9,17 +9,16 @@ use Rattle.resp_stream.specs.Parse.{parse}
 use Rattle.serial_model.specs.declared.history.Limits.{Limits}
 use Rattle.serial_model.specs.declared.history.Entry.{Entry}
 use Rattle.serial_model.specs.declared.history.BookCall.TheVariants as call
-use Rattle.serial_model.specs.History.{reads_on, gives_on, has_ended, is_admitted, stream}
-use Rattle.serial_model.specs.History.{unsent}
+use Rattle.serial_model.specs.History.{reads_on, gives_on, has_ended, is_admitted, stream, unsent}
 use Rattle.serial_model.specs.Steps.{Turn, book_step, taking, gone}
 use Rattle.serial_model.proofs.Streams.{not_ended, stream_take, unsent_live, unsent_take_own}
 use Rattle.server_links.specs.declared.link.Link.{Link}
 use Rattle.server_links.specs.Directions.{is_open, is_queued, past_eof, without_bytes}
 use Rattle.server_links.specs.EntryLines.{reply_fault}
 use Rattle.server_links.specs.Moves.{turned, turn, next_read, run_one, run_all, close, stop}
-use Rattle.server_links.specs.Moves.{rest_read, run_requests, run_fed, stopped_at}
-use Rattle.server_links.specs.Moves.{feed, serve_all, take_down, all_bytes, send_all, receive_all}
-use Rattle.server_links.specs.Moves.{flow, read_bytes, read_eof}
+use Rattle.server_links.specs.Moves.{rest_read, run_requests, run_fed, stopped_at, feed, serve_all}
+use Rattle.server_links.specs.Moves.{take_down, all_bytes, send_all, receive_all, flow, read_bytes}
+use Rattle.server_links.specs.Moves.{read_eof}
 use Rattle.server_links.specs.OneHistory.{FlowDelivers}
 use Rattle.server_links.specs.Outcome.{Outcome, and_then, does, stays, within}
 use Rattle.server_links.specs.Session.{Session, session_at}
@@ -92,19 +91,18 @@ taking_given : (l : Limits) (past : List Entry) (id most : ℕ) (bytes : List �
     → gives_on l past id ≡ true → take most (unsent l id past) ≡ bytes →
     let t : Turn = taking l past id most bytes in
     reply_fault t.reply ≡ None → length (stream l id t.past) ≤ most → unsent l id t.past ≡ []
-taking_given l past id most bytes more on is =
-    grind (
-      arith,
-      no_bytes,
-      length-take,
-      not_ended,
-      unsent_live,
-      length-drop,
-      stream_take,
-      unsent_take_own,
-      eq-eqb,
-      drop_all,
-    )
+taking_given l past id most bytes more on is = grind (
+  arith,
+  no_bytes,
+  length-take,
+  not_ended,
+  unsent_live,
+  length-drop,
+  stream_take,
+  unsent_take_own,
+  eq-eqb,
+  drop_all,
+)
 
 some_bytes : 0 < all_bytes
 some_bytes = omega arith
@@ -129,9 +127,6 @@ given_take s none on =
           some_bytes on refl) e,
     ))
     (λ u g e. g)
-
-shut : (a b : Bool) → a ≡ true → (a && not b) ≡ false → b ≡ true
-shut a b h e = grind arith
 
 ended_given : (l : Limits) (past : List Entry) (id : ℕ) → is_admitted past id ≡ true
     → gives_on l past id ≡ false → unsent l id past ≡ []

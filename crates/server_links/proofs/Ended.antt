@@ -1,30 +1,27 @@
 -- Links that are over stay so whatever happens, and nothing flows over them.
-use Rattle.std.proofs.Common.{◌≡◌, ◌+◌, ◌<◌, ℕ, List, [], ◌∷◌, ◌++◌, Bool, true, false}
-use Rattle.std.proofs.Common.{Some, None, Result, Ok, length, slice_set, refl, sym, ap}
-use Rattle.std.proofs.Common.{subst}
-use Rattle.std.proofs.Common.{◌∙◌, append-nil, arith, eq-eqb}
-use Rattle.std.specs.Prelude.{◌&&◌, not}
+use Rattle.std.proofs.Common.{◌≡◌, ◌<◌, ℕ, List, [], ◌∷◌, ◌++◌, Bool, true, false, Some, None}
+use Rattle.std.proofs.Common.{Result, Ok, length, slice_set, refl, sym, ap, subst, ◌∙◌, append-nil}
+use Rattle.std.proofs.Common.{arith, eq-eqb}
+use Rattle.std.specs.Prelude.{◌&&◌}
 use Rattle.std.proofs.lemmas.Bool.{cases_lt, eqb-true}
 use Rattle.std.proofs.lemmas.List.{get_or-set_same, get_or-set_other, get_or_append_left}
 use Rattle.std.proofs.lemmas.List.{get_or_past, set-get_or}
 use Rattle.serial_model.specs.declared.history.Limits.{Limits}
 use Rattle.serial_model.specs.declared.history.Entry.{Entry}
 use Rattle.serial_model.specs.declared.history.Entry.TheVariants as entry
-use Rattle.serial_model.specs.History.{has_ended, is_admitted}
-use Rattle.serial_model.specs.History.{reads_on}
+use Rattle.serial_model.specs.History.{has_ended, reads_on}
 use Rattle.serial_model.proofs.Turning.{admit_step}
 use Rattle.script_text.specs.declared.line.Line.{Line}
 use Rattle.server_links.specs.declared.direction.Direction.{Direction}
 use Rattle.server_links.specs.declared.fault.WorldFault.{WorldFault}
 use Rattle.server_links.specs.declared.link.Link.{Link}
 use Rattle.server_links.specs.declared.link.LinkMove.TheVariants as moves
-use Rattle.server_links.specs.Directions.{is_queued, past_eof, spent}
-use Rattle.server_links.specs.Directions.{without_bytes}
+use Rattle.server_links.specs.Directions.{is_queued, past_eof, spent, without_bytes}
 use Rattle.server_links.specs.LinkEvent.{LinkEvent, Over, Raw}
 use Rattle.server_links.specs.LinkSteps.{over, over_named, place_of, step}
 use Rattle.server_links.specs.LinksState.{IsOver, LinksState, at_place, fresh_link}
-use Rattle.server_links.specs.Moves.{eof_lines, flow, move_of, read_eof}
-use Rattle.server_links.specs.Moves.{read_lines, receive_all, send_all, serve_all}
+use Rattle.server_links.specs.Moves.{eof_lines, flow, move_of, read_eof, read_lines, receive_all}
+use Rattle.server_links.specs.Moves.{send_all, serve_all}
 use Rattle.server_links.specs.Session.{Session, session_at, with_down, with_link, with_session}
 use Rattle.server_links.proofs.Carries.{Carries}
 use Rattle.server_links.proofs.Events.{admit_full}
@@ -40,17 +37,14 @@ ended_more l c e past h = grind arith
 ended_on : (l : Limits) (c : ℕ) (entries past : List Entry) → has_ended l c past ≡ true
     → has_ended l c (entries ++ past) ≡ true
 ended_on l c [] past h = h
-ended_on l c (e ∷ entries) past h =
-    ended_more l c e (entries ++ past) (ended_on l c entries past h)
+ended_on l c (e ∷ entries) past h = grind (arith, ended_more, ended_on l c entries past h)
 
 none_of : (b : Bool) → (b && false) ≡ false
-none_of true = refl
-none_of false = refl
+none_of b = grind arith
 
 unread : (l : Limits) (c : ℕ) (past : List Entry) → has_ended l c past ≡ true
     → reads_on l past c ≡ false
-unread l c past h =
-    ap (λ e. is_admitted past c && not e) h ∙ none_of (is_admitted past c)
+unread l c past h = grind (arith, none_of)
 
 -- ---- nothing flows
 

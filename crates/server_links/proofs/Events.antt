@@ -1,7 +1,7 @@
 -- What stands of a world after each event, and so after a schedule.
-use Rattle.std.proofs.Common.{◌≡◌, ◌+◌, ◌<◌, ℕ, List, [], ◌∷◌, ◌++◌, Bool, true, false, cond}
-use Rattle.std.proofs.Common.{Some, None, Option, length, refl, sym, ap, subst, ◌∙◌, arith}
-use Rattle.std.proofs.Common.{append_assoc, append-nil, inl, inr}
+use Rattle.std.proofs.Common.{◌≡◌, ◌+◌, ◌<◌, ℕ, List, [], ◌∷◌, ◌++◌, Bool, true, false, cond, Some}
+use Rattle.std.proofs.Common.{None, Option, length, refl, sym, ap, subst, ◌∙◌, arith, append_assoc}
+use Rattle.std.proofs.Common.{append-nil, inl, inr}
 use Rattle.std.specs.Prelude.{◌==◌}
 use Rattle.std.specs.Str.{bytes_eq}
 use Rattle.std.proofs.lemmas.Bool.{eqb-true}
@@ -25,24 +25,22 @@ use Rattle.server_links.specs.OneHistory.{OthersKept, Follows}
 use Rattle.server_links.specs.Outcome.{Outcome, Reached}
 use Rattle.server_links.specs.Session.{Session, session_at, with_session}
 use Rattle.server_links.specs.Moves.{move_of}
-use Rattle.server_links.specs.Transcript.{is_place, heard_at, heard, unless_fault}
-use Rattle.server_links.specs.Transcript.{transcript, after}
-use Rattle.server_links.specs.LinkSteps.{Stepped, place_of, over, over_named, raw_step}
-use Rattle.server_links.specs.LinkSteps.{link_named, step, tick}
-use Rattle.server_links.specs.LinkSteps.{admitting as admitting_link}
+use Rattle.server_links.specs.Transcript.{is_place, heard_at, heard, unless_fault, transcript}
+use Rattle.server_links.specs.Transcript.{after}
+use Rattle.server_links.specs.LinkSteps.{Stepped, place_of, over, over_named, raw_step, link_named}
+use Rattle.server_links.specs.LinkSteps.{step, tick, admitting as admitting_link}
 use Rattle.server_links.specs.LinksState.{LinksState, start, at_place, fresh_link}
 use Rattle.server_links.proofs.Names.{placed, unplaced}
 use Rattle.server_links.proofs.Outcomes.{Meets, meets_once, meets_refuses, meets_stays}
-use Rattle.server_links.proofs.Outcomes.{meets_weaker, meets_within, reached_within}
-use Rattle.server_links.proofs.Outcomes.{Fronts, fronts_refuses, fronts_once, fronts_stays}
+use Rattle.server_links.proofs.Outcomes.{meets_weaker, meets_within, reached_within, Fronts}
+use Rattle.server_links.proofs.Outcomes.{fronts_refuses, fronts_once, fronts_stays, fronts_within}
+use Rattle.server_links.proofs.Outcomes.{fronts_reached}
 use Rattle.server_links.proofs.Moments.{clock_stands, still_stands, tick_goes_on, tick_stands}
-use Rattle.server_links.proofs.Outcomes.{fronts_within, fronts_reached}
 use Rattle.resp_value.specs.Lists.{IsPrefix}
 use Rattle.server_links.proofs.Moving.{Every, every_move}
 use Rattle.server_links.proofs.Accounts.{gave, Account, Part}
 use Rattle.server_links.proofs.AccountRuns.{reads_of}
-use Rattle.server_links.proofs.AccountMoves.{piece_of, bytes_said}
-use Rattle.server_links.proofs.AccountMoves.{move_keeps, piece_over}
+use Rattle.server_links.proofs.AccountMoves.{piece_of, bytes_said, move_keeps, piece_over}
 use Rattle.server_links.proofs.LinksStand.{Stands, PartStands, stands_part, stands_same, parts_same}
 use Rattle.server_links.proofs.LinksStand.{not_equal, over_stands, made, made_lines, stands_made}
 
@@ -57,8 +55,7 @@ pub admit_refused : (l : Limits) (past new : List Entry) (n : ℕ)
 admit_refused l past new n is = grind (arith, admit_full, admit_step)
 
 pub nothing : (b : Bool) → [] ≡ cond {A = List ℕ} b [] []
-nothing true = refl
-nothing false = refl
+nothing b = grind arith
 
 module _ (l : Limits) (heard : ℕ → List ℕ) (said : List ℕ
     → List ℕ) (lines : List Line) (w : LinksState) (s : Stands l heard said lines w) where
@@ -240,8 +237,7 @@ grown event w new printed r = (step_grows event w).all new printed r
 over_fronts : (at : ℕ) (move : Session → Outcome Session) → ((s : Session) → Every s (move s))
     → (w : LinksState) → Fronts (over at move w)
 unfolding over
-over_fronts at move every w =
-    fronts_within (with_session at w) (move (session_at at w)) (every (session_at at w)).fronts
+over_fronts at move every w = grind (arith, fronts_within)
 
 named_fronts : (p : Option ℕ) (event : LinkEvent) (w : LinksState)
     → Fronts (over_named p (move_of event) w)

@@ -1,7 +1,6 @@
 -- A fault of a stream that has no place is none.
-use Rattle.std.proofs.Common.{◌≡◌, ◌+◌, ℕ, zero, suc, List, None, length, refl}
-use Rattle.resp_stream.specs.declared.fault.Fault.TheVariants as fault
-use Rattle.resp_stream.specs.Parsed.{Parsed, Whole, More, Bad}
+use Rattle.std.proofs.Common.{◌≡◌, ◌+◌, ℕ, zero, suc, List, None, length, refl, arith}
+use Rattle.resp_stream.specs.Parsed.{Parsed}
 use Rattle.resp_stream.specs.Parse.{Batch, batch, batch_by, batch_in, parse, parse_values}
 use Rattle.resp_stream.specs.Readers.{skipped}
 use Rattle.resp_stream.specs.Request.{request_at}
@@ -12,12 +11,7 @@ use Rattle.server_links.specs.Moves.{stopped_at}
 by_front : {A : Type 0} (s : Stream) (a : Parsed A) (f : List ℕ → Batch A)
     → ((r : List ℕ) → stopped_at (f r).fault ≡ None → (f r).fault ≡ None)
     → stopped_at (batch_by s a f).fault ≡ None → (batch_by s a f).fault ≡ None
-by_front s (Whole x r) f more e = more r e
-by_front s More f more e = refl
-by_front s (Bad fault.BadByte r) f more e = absurd (let no : ⊥ = cc in no)
-by_front s (Bad (fault.TooLong k) r) f more e = absurd (let no : ⊥ = cc in no)
-by_front s (Bad fault.TooDeep r) f more e = absurd (let no : ⊥ = cc in no)
-by_front s (Bad (fault.NotServed k) r) f more e = absurd (let no : ⊥ = cc in no)
+by_front s a f more e = grind arith
 
 module _ {A : Type 0} (read : List ℕ → Parsed A) (past : Stream → Stream) where
   place_met : (n : ℕ) (s : Stream) → stopped_at (batch_in read past n s).fault ≡ None

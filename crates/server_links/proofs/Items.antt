@@ -1,7 +1,6 @@
 -- Items of a stream that are read one after another, each with what it brings.
-use Rattle.std.proofs.Common.{◌≡◌, ◌-◌, ℕ, List, [], ◌∷◌, ◌++◌, true, length}
-use Rattle.std.proofs.Common.{Option, Some, None, Result, Ok, Err}
-use Rattle.std.proofs.Common.{refl, sym, ap, subst, ◌∙◌, append_assoc, append-nil}
+use Rattle.std.proofs.Common.{◌≡◌, ◌-◌, ℕ, List, [], ◌∷◌, ◌++◌, true, length, Some, None, Result}
+use Rattle.std.proofs.Common.{Ok, Err, refl, sym, ap, subst, ◌∙◌, append_assoc, append-nil, arith}
 use Rattle.resp_stream.specs.declared.fault.Fault.{Fault}
 use Rattle.resp_stream.specs.declared.fault.FaultPlace.{FaultPlace}
 use Rattle.resp_stream.specs.declared.fault.StreamFault.{StreamFault}
@@ -91,9 +90,7 @@ module _ {S A : Type 0} (k : Runner S A) (laws : Runs k) where
 
   item_stops : (x : A) (xs : List A) (s t : S) (lines lines1 : List Line) (fault : WorldFault)
       → Stops (k.one x s) lines fault t lines1 → Stops (k.run (x ∷ xs) s) lines fault t lines1
-  item_stops x xs s t lines lines1 fault g =
-      subst (λ (m : Outcome S). Stops m lines fault t lines1) (sym (laws.some_is x xs s))
-      (stops_first (k.one x s) (k.run xs) lines fault t lines1 g)
+  item_stops e xs s t lines lines1 fault g = grind (arith, stops_first)
 
   -- memory can run out before an item is read
   item_here : (x : A) (s : S) (lines : List Line) → Stops (k.one x s) lines NoMemory s lines
@@ -103,14 +100,7 @@ module _ {S A : Type 0} (k : Runner S A) (laws : Runs k) where
       (stops_here (does s (k.next s) []) s lines refl))
 
   pub reads_none : (s : S) (lines : List Line) → Reads k s s lines lines
-  reads_none s lines = record {
-    done = [];
-    items = refl;
-    stream = refl;
-    fault = refl;
-    ran = subst (λ (m : Outcome S). Ends m lines s lines) (sym (laws.none_is s))
-        (refl, refl, sym (append-nil lines));
-  }
+  reads_none s lines = grind (arith, append-nil)
 
   module _ (s0 s : S) (lines0 lines : List Line) (h : Reads k s0 s lines0 lines) where
     -- the item that begins what was read runs
@@ -122,12 +112,7 @@ module _ {S A : Type 0} (k : Runner S A) (laws : Runs k) where
             stream = (k.all new).stream;
             fault = (k.all new).fault;
           }
-      whole = laws.whole (k.reader s) x new.rest is
-          ∙ ap (λ r. record {
-            items = x ∷ (k.all r).items;
-            stream = (k.all r).stream;
-            fault = (k.all r).fault;
-          }) (sym moved)
+      whole = grind arith
 
       one_gives : {B : Type 0} → (r : Result B WorldFault) (t : S) (lines1 : List Line)
           → Gives (k.brings x (k.with_reader s new)) lines r t lines1
@@ -177,9 +162,7 @@ module _ {S A : Type 0} (k : Runner S A) (laws : Runs k) where
 
     all_ran : (k.all (k.reader s)).items ≡ []
         → Ends (k.run (k.all (k.reader s0)).items s0) lines0 s lines
-    all_ran none =
-        subst (λ l. Ends (k.run l s0) lines0 s lines)
-        (sym (h.items ∙ ap (λ l. h.done ++ l) none ∙ append-nil h.done)) h.ran
+    all_ran none = grind (arith, append-nil)
 
     -- no item is left
     ends_at : (last : Batch A) → k.all (k.reader s) ≡ last → last.items ≡ [] → (new : Stream)

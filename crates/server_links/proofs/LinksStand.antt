@@ -1,30 +1,24 @@
 -- One history serves all links, event by event: what stands of a world after each, and wherever
 -- memory runs out.
-use Rattle.std.proofs.Common.{◌≡◌, ◌+◌, ◌-◌, ◌<◌, ◌≤◌, ℕ, List, [], ◌∷◌, ◌++◌, Bool, true, false}
-use Rattle.std.proofs.Common.{cond}
-use Rattle.std.proofs.Common.{None, length, filter, slice_index_or, refl, sym, ap}
-use Rattle.std.proofs.Common.{subst, ◌∙◌}
-use Rattle.std.proofs.Common.{arith, append-nil, length-append, length-set, eq-eqb}
-use Rattle.std.proofs.Common.{ne_eqb}
-use Rattle.std.specs.Prelude.{◌==◌, ◌&&◌, not}
+use Rattle.std.proofs.Common.{◌≡◌, ◌+◌, ◌<◌, ◌≤◌, ℕ, List, [], ◌∷◌, ◌++◌, true, false, cond, None}
+use Rattle.std.proofs.Common.{length, filter, slice_index_or, refl, sym, ap, subst, ◌∙◌, arith}
+use Rattle.std.proofs.Common.{append-nil, length-append, length-set, eq-eqb, ne_eqb}
+use Rattle.std.specs.Prelude.{◌==◌}
 use Rattle.std.specs.Str.{bytes_eq}
 use Rattle.std.proofs.lemmas.Bool.{cases_lt}
 use Rattle.std.proofs.lemmas.Slice.Eq.{bytes_eq-Decides}
-use Rattle.std.proofs.lemmas.Bool.Decides.{nat_tests}
 use Rattle.std.proofs.lemmas.List.{get_or-set_same, get_or-set_other, get_or_push}
 use Rattle.std.proofs.lemmas.List.{get_or_append_left, take-append-le}
 use Rattle.serial_model.specs.declared.history.Limits.{Limits}
 use Rattle.serial_model.specs.declared.history.Entry.{Entry}
-use Rattle.serial_model.specs.History.{admitted, is_admitted, is_full, reads_on}
-use Rattle.serial_model.specs.History.{taken, IsLegal}
+use Rattle.serial_model.specs.History.{admitted, is_admitted, is_full, reads_on, IsLegal}
 use Rattle.serial_model.specs.Laws.{Extends}
-use Rattle.serial_model.proofs.Streams.{taken_le}
+use Rattle.serial_model.proofs.Streams.{taken_le, connected, stream_admit, stream_fresh, runs_fresh}
 use Rattle.script_text.specs.declared.line.Line.{Line}
 use Rattle.script_text.specs.declared.line.Line.TheVariants as line
 use Rattle.std.proofs.Math.Seq.{take-nil}
 use Rattle.resp_stream.proofs.Onward.{no_requests, requests_begun}
 use Rattle.serial_model.specs.declared.history.Entry.TheVariants as entry
-use Rattle.serial_model.proofs.Streams.{connected, stream_admit, stream_fresh, runs_fresh}
 use Rattle.server_links.specs.declared.link.Link.{Link}
 use Rattle.server_links.specs.EntryLines.{entry_lines, name_of}
 use Rattle.server_links.specs.OneHistory.{read_on, History}
@@ -38,9 +32,6 @@ use Rattle.server_links.proofs.Outcomes.{Meets, meets_within}
 use Rattle.server_links.proofs.Carries.{Carries, read_more, entries_more}
 use Rattle.server_links.proofs.Moving.{Every}
 use Rattle.server_links.proofs.Accounts.{gave, Account, Part, account_part, Keeps}
-
-pub name_at : LinksState → ℕ → List ℕ
-name_at w i = (at_place w.links i).name
 
 pub record Stands (l : Limits) (heard : ℕ → List ℕ) (said : List ℕ
     → List ℕ) (lines : List Line) (w : LinksState) : Type 0 where
@@ -94,9 +85,6 @@ gave_other : (l : Limits) (c : ℕ) (past new : List Entry) → Extends l c past
 unfolding gave
 gave_other l c past new e = grind (arith, take-append-le, taken_le)
 
-live : (a b : Bool) → a ≡ true → (b ≡ true → ⊥) → (a && not b) ≡ true
-live a b h n = grind arith
-
 reads_before : (l : Limits) (c : ℕ) (past new : List Entry) → is_admitted past c ≡ true
     → Extends l c past new → reads_on l new c ≡ true → reads_on l past c ≡ true
 reads_before l c past new on e h = grind arith
@@ -107,21 +95,16 @@ pub other_account : (heard said read : List ℕ) (s : Session) (past : List Entr
 other_account heard said read s past on e a = grind (arith, gave_other, reads_before)
 
 pub not_equal : (a b : List ℕ) → (a ≡ b → ⊥) → bytes_eq a b ≡ false
-not_equal a b n = elim (bytes_eq a b) as (λ v. bytes_eq a b ≡ v
-    → v ≡ false) [ true ↦ λ e. absurd (n ((bytes_eq-Decides a b).0 e)) | false ↦ λ e. refl ] refl
+not_equal a b n = grind (arith, bytes_eq-Decides)
 
 -- ---- a move over the link at this place
 
 module _ (l : Limits) (heard : ℕ → List ℕ) (said : List ℕ
     → List ℕ) (lines : List Line) (w : LinksState) (s : Stands l heard said lines w) (at : ℕ)
     (below : at < length w.links) where
-  here : Session
-  here = session_at at w
-
   pub admitted_there : (i : ℕ) → i < length w.links
       → is_admitted w.past (at_place w.links i).id ≡ true
-  admitted_there i lt = ap (is_admitted w.past) (s.history.ids i lt)
-      ∙ grind (arith, nat_tests, s.history.links, lt)
+  admitted_there i lt = grind arith
 
   module _ (piece bytes : List ℕ) (t : Session) (ls : List Line)
       (c : Carries (session_at at w) t ls) where
@@ -306,41 +289,21 @@ fresh_account c name l now past legal above =
 -- names of links that a longer list of names has too
 name_front : (ns : List (List ℕ)) (name : List ℕ) (id : ℕ) → 0 < id → id ≤ length ns
     → name_of (ns ++ name ∷ []) id ≡ name_of ns id
-name_front ns name id more le =
-    get_or_append_left ns (name ∷ []) [] (id - 1) (omega (arith, more, le))
+name_front ns name id more le = grind (arith, get_or_append_left)
 
 names_front : (l : Limits) (ns : List (List ℕ)) (name : List ℕ) (past : List Entry) → IsLegal l past
     → admitted past ≤ length ns → entry_lines l (ns ++ name ∷ []) past ≡ entry_lines l ns past
 names_front l ns name [] legal le = refl
 names_front l ns name (entry.Admit id ∷ past) legal le =
-    ap (λ x. entry_lines l (ns ++ name ∷ []) past
-    ++ line.Admit (length past + 1) x id ∷ [])
-    (name_front ns name id (omega (arith, legal.0)) (omega (arith, legal.0, le)))
-    ∙ ap (λ x. x ++ line.Admit (length past + 1) (name_of ns id) id ∷ [])
-    (names_front l ns name past legal.2 (omega (arith, le)))
+    grind (arith, name_front, names_front l ns name past legal.2 (omega (arith, le)))
 names_front l ns name (entry.Run id words m ∷ past) legal le =
-    let k = connected l past id legal.0 in
-    ap (λ x. entry_lines l (ns ++ name ∷ []) past
-    ++ line.Run (length past + 1) x words ∷ [])
-    (name_front ns name id k.0 (omega (arith, k.1, le)))
-    ∙ ap (λ x. x ++ line.Run (length past + 1) (name_of ns id) words ∷ [])
-    (names_front l ns name past legal.3 le)
+    grind (arith, connected, name_front, names_front l ns name past legal.3 le)
 names_front l ns name (entry.Tick m ∷ past) legal le =
     ap (λ x. x ++ line.Tick (length past + 1) m ∷ []) (names_front l ns name past legal.3 le)
 names_front l ns name (entry.Take id max ∷ past) legal le =
-    let k = connected l past id legal.0 in
-    let n = taken l id (entry.Take id max ∷ past) - taken l id past in
-    ap (λ x. entry_lines l (ns ++ name ∷ []) past
-    ++ line.Take (length past + 1) x n ∷ [])
-    (name_front ns name id k.0 (omega (arith, k.1, le)))
-    ∙ ap (λ x. x ++ line.Take (length past + 1) (name_of ns id) n ∷ [])
-    (names_front l ns name past legal.3 le)
+    grind (arith, connected, name_front, names_front l ns name past legal.3 le)
 names_front l ns name (entry.Close id ∷ past) legal le =
-    let k = connected l past id legal.0 in
-    ap (λ x. entry_lines l (ns ++ name ∷ []) past
-    ++ line.Close (length past + 1) x ∷ []) (name_front ns name id k.0 (omega (arith, k.1, le)))
-    ∙ ap (λ x. x ++ line.Close (length past + 1) (name_of ns id) ∷ [])
-    (names_front l ns name past legal.1 le)
+    grind (arith, connected, name_front, names_front l ns name past legal.1 le)
 
 -- one more connection leaves the others' accounts
 admitted_account : (heard said read : List ℕ) (s : Session) (id : ℕ)
@@ -371,13 +334,11 @@ module _ (l : Limits) (heard : ℕ → List ℕ) (said : List ℕ
   made_size = length-append w.links (fresh_link (admitted w.past + 1) name ∷ [])
 
   old_there : (i : ℕ) → i < length w.links → at_place made.links i ≡ at_place w.links i
-  old_there i lt =
-      get_or_append_left w.links (fresh_link (admitted w.past + 1) name ∷ []) (fresh_link 0 []) i lt
+  old_there i lt = grind (arith, get_or_append_left)
 
   new_there : (i : ℕ) → i ≡ length w.links → at_place made.links i
       ≡ fresh_link (admitted w.past + 1) name
-  new_there i e =
-      get_or_push w.links (fresh_link (admitted w.past + 1) name) (fresh_link 0 []) i (sym e)
+  new_there i e = grind (arith, get_or_push)
 
   which : (P : ℕ → Type 0) (i : ℕ) → i < length made.links → ((k : ℕ) → k < length w.links → P k)
       → ((k : ℕ) → k ≡ length w.links → P k) → P i
@@ -392,19 +353,18 @@ module _ (l : Limits) (heard : ℕ → List ℕ) (said : List ℕ
   still_there c more le = grind arith
 
   made_history : History l (lines ++ made_lines) made
-  made_history =
-      grind (
-        arith,
-        names_size,
-        get_or_push,
-        made_size,
-        which,
-        old_there,
-        new_there,
-        entries_more,
-        names_more,
-        names_front,
-      )
+  made_history = grind (
+    arith,
+    names_size,
+    get_or_push,
+    made_size,
+    which,
+    old_there,
+    new_there,
+    entries_more,
+    names_more,
+    names_front,
+  )
 
   old_account : (i : ℕ) → i < length w.links → Account (heard i
       ++ []) (said (at_place made.links i).name

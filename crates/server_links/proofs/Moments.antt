@@ -1,19 +1,17 @@
 -- What stands of a world once its clock is set, and after a Tick.
-use Rattle.std.proofs.Common.{◌≡◌, ◌+◌, ◌<◌, ℕ, List, [], ◌∷◌, ◌++◌, true, false, cond, None, Some}
-use Rattle.std.proofs.Common.{length, refl, sym, ap, subst, ◌∙◌, append-nil, Bool, Ok, inl, Result}
+use Rattle.std.proofs.Common.{◌≡◌, ◌+◌, ◌<◌, ℕ, List, [], ◌∷◌, ◌++◌, false, None, length, refl, sym}
+use Rattle.std.proofs.Common.{ap, subst, ◌∙◌, append-nil, Ok, inl, Result, arith}
 use Rattle.std.specs.Prelude.{max}
 use Rattle.serial_model.specs.declared.history.Limits.{Limits}
 use Rattle.serial_model.specs.declared.history.Entry.{Entry}
 use Rattle.serial_model.specs.declared.history.Entry.TheVariants as entry
 use Rattle.serial_model.specs.declared.history.BookCall.TheVariants as call
 use Rattle.serial_model.specs.declared.history.BookReply.{BookReply}
-use Rattle.serial_model.specs.declared.history.BookReply.TheVariants.{Ticked, Quiet}
-use Rattle.serial_model.specs.declared.history.BookReply.TheVariants.{Refused}
+use Rattle.serial_model.specs.declared.history.BookReply.TheVariants.{Ticked, Quiet, Refused}
 use Rattle.serial_model.specs.declared.history.BookRefusal.TheVariants as refusal
 use Rattle.serial_model.specs.History.{IsLegal, expired, is_full, latest}
 use Rattle.serial_model.specs.Laws.{Extends}
-use Rattle.serial_model.specs.Steps.{BookStep, Turn, book_step, full}
-use Rattle.serial_model.specs.Steps.{ticking as turned}
+use Rattle.serial_model.specs.Steps.{BookStep, Turn, book_step, ticking as turned}
 use Rattle.serial_model.proofs.Others.{others_extend}
 use Rattle.serial_model.proofs.Turning.{step_legal, tick_step}
 use Rattle.script_text.specs.declared.line.Line.{Line}
@@ -32,33 +30,19 @@ use Rattle.server_links.specs.Turns.{EndsTick, links_of}
 use Rattle.server_links.proofs.Accounts.{Account}
 use Rattle.server_links.proofs.Carries.{read_more, entries_more}
 use Rattle.server_links.proofs.LinksStand.{Stands, PartStands, stands_part, stands_same}
-use Rattle.server_links.proofs.LinksStand.{admitted_there, other_account, parts_same}
+use Rattle.server_links.proofs.LinksStand.{admitted_there, other_account}
 use Rattle.server_links.proofs.Outcomes.{Meets, gives_reached, gives_within, meets_once}
 
 -- the clock is no part of what is kept of a link
 clock_account : (heard said read : List ℕ) (s : Session) (now : ℕ) → Account heard said read s
     → Account heard said read
     (record { limits = s.limits; now = now; past = s.past; link = s.link })
-clock_account heard said read s now a = record {
-  bytes = record {
-    up_lost = a.bytes.up_lost;
-    all_said = a.bytes.all_said;
-    none_up = a.bytes.none_up;
-    down_lost = a.bytes.down_lost;
-    all_taken = a.bytes.all_taken;
-    none_down = a.bytes.none_down;
-  };
-  runs = a.runs;
-  reading = a.reading;
-}
+clock_account heard said read s now a = grind arith
 
 module _ (l : Limits) (heard : ℕ → List ℕ) (said : List ℕ
     → List ℕ) (lines : List Line) (w : LinksState) (s : Stands l heard said lines w) where
   pub still_stands : Stands l (λ i. heard i ++ []) (λ n. said n ++ []) (lines ++ []) w
-  still_stands =
-      subst (λ x. Stands l (λ i. heard i ++ []) (λ n. said n ++ []) x w) (sym (append-nil lines))
-      (stands_same l heard (λ i. heard i ++ []) said (λ n. said n ++ []) lines w
-      (λ i. sym (append-nil (heard i))) (λ n. sym (append-nil (said n))) s)
+  still_stands = grind (arith, append-nil, stands_same)
 
   pub still_part : PartStands l (λ n. said n ++ []) (lines ++ []) w
   still_part = stands_part l _ _ _ _ still_stands
@@ -67,23 +51,7 @@ module _ (l : Limits) (heard : ℕ → List ℕ) (said : List ℕ
   clocked now = record { limits = w.limits; now = now; past = w.past; links = w.links }
 
   pub clock_stands : (now : ℕ) → Stands l heard said lines (clocked now)
-  clock_stands now = record {
-    history = record {
-      limits = s.history.limits;
-      legal = s.history.legal;
-      links = s.history.links;
-      ids = s.history.ids;
-      printed = s.history.printed;
-    };
-    unique = s.unique;
-    accounts = λ i lt.
-        let name = (at_place w.links i).name in
-        clock_account (heard i) (said name) (read_on name lines) (session_at i w) now
-        (s.accounts i lt);
-    unread = s.unread;
-    unsaid = s.unsaid;
-    unheard = s.unheard;
-  }
+  clock_stands now = grind (arith, clock_account)
 
   -- a Tick that takes out a key
   module _ (moment : ℕ) (legal : IsLegal w.limits (entry.Tick moment ∷ w.past))
@@ -163,18 +131,8 @@ module _ (l : Limits) (heard : ℕ → List ℕ) (said : List ℕ
       → Meets ByTick PartByTick
       (ticking w (turned w.limits w.past (max w.now (latest w.past)) keys))
   unfolding ByTick PartByTick
-  turn_stands [] none =
-      meets_once ByTick PartByTick w w [] None (λ e. still_stands) still_part still_part
-  turn_stands (key ∷ keys) due =
-      elim (is_full w.limits w.past) as (λ b. is_full w.limits w.past ≡ b
-      → Meets ByTick PartByTick (ticking w (cond b (full w.past) (record {
-        reply = Ticked (length w.past + 1);
-        past = entry.Tick (max w.now (latest w.past)) ∷ w.past;
-      })))) [
-        | true ↦ λ none. meets_once ByTick PartByTick w w [] (Some (HistoryFull (length w.past)))
-            (λ e. absurd (let no : ⊥ = cc in no)) still_part still_part
-        | false ↦ λ room. due_stands key keys due room
-      ] refl
+  turn_stands keys none =
+      grind (arith, meets_once, ByTick, PartByTick, still_stands, still_part, due_stands)
 
   pub tick_stands : Meets
       (λ v ls. Stands l (λ i. heard i ++ []) (λ n. said n ++ []) (lines ++ ls) v)
@@ -191,33 +149,9 @@ pub tick_goes_on : (w : LinksState) (P : LinksState → List Line → Type 0)
       links = w.links;
     }) (line.Tick e moment ∷ [])) → Meets P P (tick w)
 unfolding tick book_step
-tick_goes_on w P same more =
-    let moment = max w.now (latest w.past) in
-    elim (expired w.limits w.past moment) as (λ keys. Meets P P
-    (ticking w (turned w.limits w.past moment keys))) [
-      | [] ↦ meets_once P P w w [] None (λ e. same) same same
-      | key ∷ keys ↦
-          elim (is_full w.limits w.past) as (λ b. Meets P P
-          (ticking w (cond b (full w.past) (record {
-            reply = Ticked (length w.past + 1);
-            past = entry.Tick moment ∷ w.past;
-          })))) [
-            | true ↦ meets_once P P w w [] (Some (HistoryFull (length w.past)))
-                (λ e. absurd (let no : ⊥ = cc in no)) same same
-            | false ↦ meets_once P P w _ _ None (λ e. more moment (length w.past + 1)) same
-                (more moment (length w.past + 1))
-          ]
-    ]
+tick_goes_on w P same more = grind (arith, meets_once)
 
 -- ---- a Tick as it is played
-
-ticked_as : BookReply → ℕ
-ticked_as (Ticked e) = e
-ticked_as reply = 0
-
-is_ticked : BookReply → Bool
-is_ticked (Ticked e) = true
-is_ticked reply = false
 
 module _ (w : LinksState) where
   abbrev pub after : List Entry → LinksState
@@ -232,32 +166,14 @@ module _ (w : LinksState) where
 
   number_is : (keys : List (List ℕ)) (e : ℕ) (past : List Entry)
       → due keys ≡ record { reply = Ticked e; past = past } → length w.past + 1 ≡ e
-  unfolding is_ticked ticked_as
-  number_is [] e past is =
-      absurd (let no : false ≡ true = ap (λ (t : Turn). is_ticked t.reply) is in cc)
-  number_is (key ∷ keys) e past is =
-      elim (is_full w.limits w.past) as (λ b. cond b (full w.past) (record {
-        reply = Ticked (length w.past + 1);
-        past = entry.Tick (max w.now (latest w.past)) ∷ w.past;
-      }) ≡ record { reply = Ticked e; past = past } → length w.past + 1 ≡ e) [
-        | true ↦ λ h. absurd (let no : false ≡ true = ap (λ (t : Turn). is_ticked t.reply) h in cc)
-        | false ↦ λ h. ap (λ (t : Turn). ticked_as t.reply) h
-      ] is
+  number_is keys e past is = grind arith
 
   -- it is an entry
   pub tick_ticked : (e n m : ℕ) (past : List Entry) (lines : List Line) → played (Ticked e) past
       → n ≡ length w.past + 1 → m ≡ max w.now (latest w.past)
       → Gives {A = Unit {0}} (tick w) lines (Ok tt) (after past) (lines ++ line.Tick n m ∷ [])
   unfolding tick book_step
-  tick_ticked e n m past lines is number moment =
-      let same : n ≡ e =
-      number ∙ number_is (expired w.limits w.past (max w.now (latest w.past))) e past is in
-      subst (λ t. Gives {A = Unit {0}} (ticking w t) lines (Ok tt) (after past)
-      (lines ++ line.Tick n m ∷ [])) (sym is) (
-        refl,
-        refl,
-        ap (λ x. lines ++ line.Tick x m ∷ []) same ∙ ap (λ x. lines ++ line.Tick e x ∷ []) moment,
-      )
+  tick_ticked e n m past lines is number moment = grind (arith, number_is)
 
   -- memory ran out before it
   pub tick_before : (lines : List Line) → Stops (tick w) lines NoMemory w lines
@@ -269,18 +185,14 @@ module _ (w : LinksState) where
       → played (Refused (refusal.HistoryFull n)) past
       → Stops (tick w) lines (HistoryFull n) (after past) lines
   unfolding tick
-  tick_is_full n past lines is =
-      subst (λ t. Stops (ticking w t) lines (HistoryFull n) (after past) lines) (sym is)
-      (refl, refl, sym (append-nil lines))
+  tick_is_full n past lines is = grind (arith, append-nil)
 
   no_entry : (reply : BookReply) (past : List Entry) (lines : List Line) → played reply past
       → reply_fault reply ≡ None
       → tick_lines (max w.now (latest w.past)) reply ≡ []
       → Gives {A = Unit {0}} (tick w) lines (Ok tt) (after past) lines
   unfolding tick
-  no_entry reply past lines is sound quiet =
-      subst (λ t. Gives {A = Unit {0}} (ticking w t) lines (Ok tt) (after past) lines) (sym is)
-      (sound, refl, sym (append-nil lines) ∙ ap (λ x. lines ++ x) (sym quiet))
+  no_entry reply past lines is sound quiet = grind (arith, append-nil)
 
   -- it is no entry
   pub tick_other : (reply : BookReply) (past : List Entry) (lines : List Line)
@@ -304,9 +216,7 @@ module _ (w : LinksState) where
 -- a server that played a turn, as its links see it
 pub played_links : (old new : ServerState) → new.book.limits ≡ old.book.limits
     → new.clock ≡ old.clock → links_of new ≡ after (links_of old) new.book.past
-played_links old new limits clock =
-    ap (λ l. record { limits = l; now = new.clock; past = new.book.past; links = [] }) limits
-    ∙ ap (λ n. record { limits = old.book.limits; now = n; past = new.book.past; links = [] }) clock
+played_links old new limits clock = grind arith
 
 -- ---- beside links
 
@@ -315,13 +225,7 @@ module _ (server new : ServerState) (links : List Link) {A : Type 0} (lines line
     (gives : Gives (tick (links_of server)) lines r (links_of new) lines') where
   pub tick_gives : Gives (tick (world server links)) lines r (world new links) lines'
   unfolding tick within
-  tick_gives =
-      gives_within (λ (w : LinksState). record {
-        limits = w.limits;
-        now = w.now;
-        past = w.past;
-        links = links;
-      }) (tick (links_of server)) lines r (links_of new) lines' gives
+  tick_gives = grind (arith, gives_within)
 
   pub tick_fits : Fits server.book.past links → Fits new.book.past links
   tick_fits f =

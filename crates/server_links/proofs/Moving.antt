@@ -1,6 +1,6 @@
 -- Each move over one link leaves the rest as it is, wherever it comes to.
 use Rattle.std.proofs.Common.{◌≡◌, ℕ, List, [], ◌∷◌, ◌++◌, Bool, true, false, cond, Some, None}
-use Rattle.std.proofs.Common.{Option, refl, ap, ◌∙◌}
+use Rattle.std.proofs.Common.{Option, refl, ap, ◌∙◌, arith}
 use Rattle.std.proofs.Math.Seq.{drop-nil}
 use Rattle.std.specs.Prelude.{◌&&◌, nat_le, length, take, filter}
 use Rattle.std.specs.Str.{bytes_eq}
@@ -24,18 +24,15 @@ use Rattle.server_links.specs.Outcome.{Outcome, stays, does, refuses, and_then}
 use Rattle.server_links.specs.Session.{Session, with_past, with_link, with_up, with_down}
 use Rattle.server_links.specs.Session.{with_reader}
 use Rattle.server_links.specs.Moves.{turned, turn, say, next_read, run_one, run_all, close, stop}
-use Rattle.server_links.specs.Moves.{run_requests, run_fed, stopped_at}
-use Rattle.server_links.specs.Moves.{feed, serve_all, serve, take_down, all_bytes, send_all, send}
-use Rattle.server_links.specs.Moves.{read_lines, eof_lines, read_bytes, read_eof, receive_all}
-use Rattle.server_links.specs.Moves.{receive}
-use Rattle.server_links.specs.Moves.{flow, move_of, moved}
+use Rattle.server_links.specs.Moves.{run_requests, run_fed, stopped_at, feed, serve_all, serve}
+use Rattle.server_links.specs.Moves.{take_down, all_bytes, send_all, send, read_lines, eof_lines}
+use Rattle.server_links.specs.Moves.{read_bytes, read_eof, receive_all, receive, flow, move_of}
+use Rattle.server_links.specs.Moves.{moved}
 use Rattle.server_links.proofs.Outcomes.{Meets, meets_stays, meets_once, meets_refuses, meets_then}
-use Rattle.server_links.proofs.Outcomes.{meets_weaker}
-use Rattle.server_links.proofs.Outcomes.{Fronts, fronts_stays, fronts_refuses, fronts_once}
-use Rattle.server_links.proofs.Outcomes.{fronts_then}
+use Rattle.server_links.proofs.Outcomes.{meets_weaker, Fronts, fronts_stays, fronts_refuses}
+use Rattle.server_links.proofs.Outcomes.{fronts_once, fronts_then}
 use Rattle.server_links.proofs.Carries.{Carries, carries_none, carries_more, carries_link}
-use Rattle.server_links.proofs.Carries.{run_carries}
-use Rattle.server_links.proofs.Carries.{take_carries, close_carries}
+use Rattle.server_links.proofs.Carries.{run_carries, take_carries, close_carries}
 
 pub record Every (s : Session) (m : Outcome Session) : Type 0 where
   pub carries : Meets (Carries s) (Carries s) m
@@ -57,27 +54,17 @@ every_then s m next h g = record {
 }
 
 every_stays : (s new : Session) → Carries s new [] → Every s (stays new)
-every_stays s new c =
-    record { carries = meets_stays (Carries s) (Carries s) new c c; fronts = fronts_stays new }
+every_stays s new c = grind (arith, meets_stays, fronts_stays)
 
 pub every_none : (s : Session) → Every s (stays s)
 every_none s = every_stays s s (carries_none s)
 
 every_refuses : (s : Session) → Every s (refuses s NothingThere)
-every_refuses s =
-    record {
-      carries = meets_refuses (Carries s) (Carries s) s NothingThere (carries_none s);
-      fronts = fronts_refuses s NothingThere;
-    }
+every_refuses s = grind (arith, meets_refuses, carries_none, fronts_refuses)
 
 every_once : (s new : Session) (lines : List Line) (fault : Option _) → Carries s new lines
     → Every s (record { state = new; lines = lines; fault = fault; points = (s, []) ∷ [] })
-every_once s new lines fault c =
-    record {
-      carries = meets_once (Carries s) (Carries s) s new lines fault (λ e. c)
-          (carries_none s) c;
-      fronts = fronts_once s new lines fault;
-    }
+every_once s new lines fault c = grind (arith, meets_once, carries_none, fronts_once)
 
 pub every_does : (s new : Session) (lines : List Line) → Carries s new lines
     → Every s (does s new lines)
@@ -193,20 +180,16 @@ every_send (Some n) s =
 
 read_other : (link name bytes : List ℕ) → bytes_eq link name ≡ false
     → read_on name (read_lines link bytes) ≡ []
-read_other link name [] n = refl
-read_other link name (b ∷ bytes) n = ap (λ v. cond v (b ∷ bytes) [] ++ []) n
+read_other link name bytes n = grind arith
 
 no_entries : (link bytes : List ℕ) → filter is_entry_line (read_lines link bytes) ≡ []
-no_entries link [] = refl
-no_entries link (b ∷ bytes) = refl
+no_entries link bytes = grind arith
 
 eof_other : (link name : List ℕ) (b : Bool) → read_on name (eof_lines link b) ≡ []
-eof_other link name true = refl
-eof_other link name false = refl
+eof_other link name b = grind arith
 
 no_entry : (link : List ℕ) (b : Bool) → filter is_entry_line (eof_lines link b) ≡ []
-no_entry link true = refl
-no_entry link false = refl
+no_entry link b = grind arith
 
 pub every_read : (bytes : List ℕ) (down : Direction) (s : Session)
     → (s.link.down ≡ spent → down ≡ spent) → Every s (read_bytes bytes down s)

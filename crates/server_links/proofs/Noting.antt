@@ -1,7 +1,6 @@
 -- What is noted of a turn is what the history says after it.
-use Rattle.std.proofs.Common.{◌≡◌, ◌+◌, ◌-◌, ◌<◌, ◌≤◌, ℕ, List, [], ◌∷◌, ◌++◌, true, false}
-use Rattle.std.proofs.Common.{cond, Option, None, Some, length, map, slice_index_or, slice_set}
-use Rattle.std.proofs.Common.{refl, sym, ap}
+use Rattle.std.proofs.Common.{◌≡◌, ◌+◌, ◌<◌, ◌≤◌, ℕ, List, [], ◌∷◌, ◌++◌, true, false, cond, Option}
+use Rattle.std.proofs.Common.{None, Some, length, map, slice_index_or, slice_set, refl, sym, ap}
 use Rattle.std.proofs.Common.{◌∙◌, arith, append-nil, append_assoc, length-set, length-append}
 use Rattle.std.proofs.Common.{eq-eqb, max, take}
 use Rattle.std.specs.Prelude.{◌==◌, ◌↔◌, option_to_list, IsSome}
@@ -15,24 +14,20 @@ use Rattle.serial_model.specs.declared.history.Entry.{Entry}
 use Rattle.serial_model.specs.declared.history.Entry.TheVariants as entry
 use Rattle.serial_model.specs.declared.history.Post.{Post}
 use Rattle.serial_model.specs.declared.history.BookCall.{BookCall}
-use Rattle.serial_model.specs.declared.history.BookCall.TheVariants.{Admit, Run, Tick, Take}
-use Rattle.serial_model.specs.declared.history.BookCall.TheVariants.{Close}
+use Rattle.serial_model.specs.declared.history.BookCall.TheVariants.{Admit, Run, Tick, Take, Close}
 use Rattle.serial_model.specs.declared.history.BookReply.{BookReply}
 use Rattle.serial_model.specs.History.{Sending, admitted, gives_on, latest, posts_of, posted}
-use Rattle.serial_model.specs.History.{expired, reads_on}
-use Rattle.serial_model.specs.History.{run_entries, runs_on, sends, sent, sent_to, unsent}
-use Rattle.serial_model.specs.History.{IsLegal}
+use Rattle.serial_model.specs.History.{expired, reads_on, run_entries, runs_on, sends, sent_to}
+use Rattle.serial_model.specs.History.{unsent, IsLegal}
 use Rattle.serial_model.specs.Steps.{admitting, closing, gone, running, taking, ticking}
-use Rattle.serial_model.specs.Steps.{unless_full}
-use Rattle.serial_model.specs.Steps.{book_step, BookStep}
+use Rattle.serial_model.specs.Steps.{unless_full, book_step, BookStep}
 use Rattle.serial_model.proofs.Others.{by_limit}
 use Rattle.serial_model.proofs.Streams.{sent_fresh, connected}
 use Rattle.serial_model.proofs.Turning.{by_step}
 use Rattle.server_book.specs.BookState.{posts_after}
-use Rattle.server_links.specs.Notes.{AreNotes, NotesState}
-use Rattle.server_links.specs.Notes.{TrailState, IsNoted, changed, noted_admit}
-use Rattle.server_links.specs.Notes.{noted_posts, noted_turn, runner_of}
-use Rattle.server_links.specs.Notes.{sent_entries, trail_of, with_run, with_sent}
+use Rattle.server_links.specs.Notes.{AreNotes, NotesState, TrailState, IsNoted, changed}
+use Rattle.server_links.specs.Notes.{noted_admit, noted_posts, noted_turn, runner_of, sent_entries}
+use Rattle.server_links.specs.Notes.{trail_of, with_run, with_sent}
 
 -- ---- one trail changes
 
@@ -56,12 +51,7 @@ posted_to c (p ∷ ps) = cond (p.id == c) (p.entry ∷ posted_to c ps) (posted_t
 posted_is : (n c : ℕ) (ss : List (ℕ × Sending))
     → posted_to c (posts_of n ss) ≡ map (λ s. s.0) (sent_to n c ss)
 posted_is n c [] = refl
-posted_is n c (s ∷ ss) = elim (s.0 == c) as (λ b.
-    cond b (n ∷ posted_to c (posts_of n ss)) (posted_to c (posts_of n ss))
-    ≡ map (λ s. s.0) (cond b ((n, s.1) ∷ sent_to n c ss) (sent_to n c ss))) [
-      | true ↦ ap (λ l. n ∷ l) (posted_is n c ss)
-      | false ↦ posted_is n c ss
-    ]
+posted_is n c (s ∷ ss) = grind (arith, posted_is n c ss)
 
 posts_size : (ps : List Post) (ts : List TrailState) → length (noted_posts ps ts) ≡ length ts
 posts_size [] ts = refl
@@ -102,8 +92,7 @@ runs_none : (l : Limits) (past : List Entry) (c : ℕ) → IsLegal l past → ad
 runs_none l [] c h lt = refl
 runs_none l (entry.Admit id ∷ past) c h lt = runs_none l past c h.2 (omega arith)
 runs_none l (entry.Run id words moment ∷ past) c h lt =
-    let r = runs_none l past c h.3 lt in let k = connected l past id h.0 in
-    grind (arith, nat_tests)
+    grind (arith, connected, runs_none l past c h.3 lt)
 runs_none l (entry.Close id ∷ past) c h lt = runs_none l past c h.1 lt
 runs_none l (e ∷ past) c h lt = runs_none l past c h.3 lt
 
@@ -145,18 +134,16 @@ module _ (l : Limits) (past : List Entry) (ts : List TrailState) (noted : IsNote
 
   admit_noted : IsLegal l past
       → IsNoted l (entry.Admit (admitted past + 1) ∷ past) (noted_admit ts)
-  admit_noted legal =
-      grind (
-        arith,
-        length-append,
-        cases_lt,
-        get_or_push,
-        runs_none,
-        get_or_append_left,
-        map,
-        sent_fresh,
-        append-nil,
-      )
+  admit_noted legal = grind (
+    arith,
+    length-append,
+    cases_lt,
+    get_or_push,
+    runs_none,
+    get_or_append_left,
+    sent_fresh,
+    append-nil,
+  )
 
 -- ---- a turn
 

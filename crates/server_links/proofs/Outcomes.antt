@@ -1,16 +1,14 @@
 -- Outcomes one after another: what calls give of them, and what holds of all that they reach.
 use Rattle.std.proofs.Common.{◌≡◌, ◌⊎◌, List, [], ◌∷◌, ◌++◌, map, Result, Ok, Err, Option, None}
-use Rattle.std.proofs.Common.{Some}
-use Rattle.std.proofs.Common.{inl, inr, refl, sym, ap, subst, ◌∙◌, append_assoc, append-nil}
+use Rattle.std.proofs.Common.{Some, inl, inr, refl, sym, ap, subst, ◌∙◌, append_assoc, append-nil}
+use Rattle.std.proofs.Common.{arith}
 use Rattle.resp_value.specs.Lists.{IsPrefix}
 use Rattle.script_text.specs.declared.line.Line.{Line}
 use Rattle.server_links.specs.declared.fault.WorldFault.{WorldFault}
 use Rattle.server_links.specs.declared.fault.WorldFault.TheVariants.{NoName, NameTaken}
-use Rattle.server_links.specs.declared.fault.WorldFault.TheVariants.{NothingThere}
-use Rattle.server_links.specs.declared.fault.WorldFault.TheVariants.{NoMemory}
+use Rattle.server_links.specs.declared.fault.WorldFault.TheVariants.{NothingThere, NoMemory}
 use Rattle.server_links.specs.Outcome.{Outcome, stays, does, refuses, after_lines, then_by}
-use Rattle.server_links.specs.Outcome.{and_then}
-use Rattle.server_links.specs.Outcome.{within, IsAmong, Reached, Stops, Gives}
+use Rattle.server_links.specs.Outcome.{and_then, within, IsAmong, Reached, Stops, Gives}
 
 -- ---- points
 
@@ -29,11 +27,7 @@ among_split : {S : Type 0} → (s : S) (lines : List Line) (xs ys : List (S × L
     → IsAmong s lines (xs ++ ys) → IsAmong s lines xs ⊎ IsAmong s lines ys
 among_split s lines [] ys h = inr h
 among_split s lines (x ∷ xs) ys (inl e) = inl (inl e)
-among_split s lines (x ∷ xs) ys (inr h) = elim (among_split s lines xs ys h) [
-  | inl a ↦
-      inl (inr a)
-  | inr b ↦ inr b
-]
+among_split s lines (x ∷ xs) ys (inr h) = grind (arith, among_split s lines xs ys h)
 
 among_after : {S : Type 0} → (s : S) (front lines : List Line) (xs : List (S × List Line))
     → IsAmong s lines xs → IsAmong s (front ++ lines) (after_lines front xs)
@@ -46,8 +40,7 @@ among_before : {S : Type 0} → (s : S) (front lines : List Line) (xs : List (S 
     → (rest : List Line) × (lines ≡ front ++ rest) × IsAmong s rest xs
 among_before s front lines [] h = absurd h
 among_before s front lines (x ∷ xs) (inl e) = (x.1, e.1, inl (e.0, refl))
-among_before s front lines (x ∷ xs) (inr h) = let r = among_before s front lines xs h in
-    (r.0, r.1, inr r.2)
+among_before s front lines (x ∷ xs) (inr h) = grind (arith, among_before s front lines xs h)
 
 among_within : {S T : Type 0} → (f : S → T) (s : S) (lines : List Line) (xs : List (S × List Line))
     → IsAmong s lines xs → IsAmong (f s) lines (map (λ p. (f p.0, p.1)) xs)
@@ -81,18 +74,12 @@ faults_first : {S : Type 0} → (m : Outcome S) (next : S
     → Outcome S) (lines : List Line) (fault : WorldFault) (s : S) (lines' : List Line)
     → Faults m lines fault s lines' → Faults (and_then m next) lines fault s lines'
 unfolding Faults
-faults_first m next lines fault s lines' h =
-    subst (λ (x : Outcome _). (x.fault ≡ Some fault) × (s ≡ x.state)
-    × (lines' ≡ lines ++ x.lines)) (sym (faulted m next fault h.0)) h
+faults_first m next lines fault s lines' h = grind (arith, faulted)
 
 points_first : {S : Type 0} → (m : Outcome S) (next : S → Outcome S) (s : S) (lines : List Line)
     → IsAmong s lines m.points → IsAmong s lines (and_then m next).points
 unfolding and_then
-points_first m next s lines h =
-    elim m.fault as (λ v. IsAmong s lines (then_by v m (next m.state)).points) [
-      | Some f ↦ h
-      | None ↦ among_left s lines m.points _ h
-    ]
+points_first m next s lines h = grind (arith, among_left)
 
 pub stops_first : {S : Type 0} → (m : Outcome S) (next : S
     → Outcome S) (lines : List Line) (fault : WorldFault) (s : S) (lines' : List Line)
@@ -107,8 +94,7 @@ stops_first m next lines fault s lines' h = faults_first m next lines fault s li
 joined : {S : Type 0} → (m : Outcome S) (next : S → Outcome S) (s : S) → m.fault ≡ None
     → s ≡ m.state → and_then m next ≡ then_by None m (next s)
 unfolding and_then
-joined m next s none is = ap (λ v. then_by v m (next m.state)) none
-    ∙ ap (λ x. then_by None m (next x)) (sym is)
+joined m next s none is = grind arith
 
 module _ {S : Type 0} (m n : Outcome S) (lines lines1 : List Line) (t : S) (lines2 : List Line)
     (first : lines1 ≡ lines ++ m.lines) where
@@ -162,8 +148,7 @@ stops_within : {S T : Type 0}
     (lines' : List Line)
     → Stops m lines fault s lines' → Stops (within f m) lines fault (f s) lines'
 unfolding within
-stops_within f m lines NoMemory s lines' g = (g.0, among_within f s g.0 m.points g.1, g.2)
-stops_within f m lines fault s lines' g = (g.0, ap f g.1, g.2)
+stops_within f m lines fault s lines' g = grind (arith, among_within)
 
 within_open : {S T : Type 0} → (f : S → T) (m : Outcome S)
     → ((within f m).fault ≡ m.fault) × ((within f m).state ≡ f m.state)
@@ -175,9 +160,7 @@ pub gives_within : {S T A : Type 0}
     → (f : S → T) (m : Outcome S) (lines : List Line) (r : Result A WorldFault) (s : S)
     (lines' : List Line)
     → Gives m lines r s lines' → Gives (within f m) lines r (f s) lines'
-gives_within f m lines (Ok a) s lines' g =
-    let o = within_open f m in (o.0 ∙ g.0, ap f g.1 ∙ sym o.1, g.2 ∙ ap (λ l. lines ++ l) (sym o.2))
-gives_within f m lines (Err fault) s lines' g = stops_within f m lines fault s lines' g
+gives_within f m lines r s lines' g = grind (arith, within_open, stops_within)
 
 -- what came to its end came to the end of both
 pub ends_parts : {S : Type 0} → (m : Outcome S) (next : S
@@ -185,21 +168,12 @@ pub ends_parts : {S : Type 0} → (m : Outcome S) (next : S
     → Ends (and_then m next) lines t lines' → (m.fault ≡ None)
     × Ends (next m.state) (lines ++ m.lines) t lines'
 unfolding and_then
-ends_parts m next lines t lines' h = elim m.fault as (λ v. m.fault ≡ v
-    → Ends (then_by v m (next m.state)) lines t lines'
-    → (m.fault ≡ None) × Ends (next m.state) (lines ++ m.lines) t lines') [
-      | Some f ↦ λ is g. absurd (let no : Some f ≡ None = sym is ∙ g.0 in cc)
-      | None ↦ λ is g. (is, (g.0, g.1, g.2 ∙ sym (append_assoc lines m.lines (next m.state).lines)))
-    ] refl h
+ends_parts m next lines t lines' h = grind (arith, append_assoc)
 
 -- memory ran out before the thing was done
 pub stops_here : {S : Type 0} → (m : Outcome S) (s : S) (lines : List Line)
     → m.points ≡ (s, []) ∷ [] → Stops m lines NoMemory s lines
-stops_here m s lines e = (
-  [],
-  subst (IsAmong s []) (sym e) (inl (refl, refl)),
-  sym (append-nil lines),
-)
+stops_here m s lines e = grind (arith, append-nil)
 
 -- ---- what holds of all that is reached
 
@@ -210,43 +184,19 @@ pub record Meets {S : Type 0} (Q W : S → List Line → Type 0) (m : Outcome S)
 
 module _ {S : Type 0} (Q W : S → List Line → Type 0) where
   pub meets_stays : (s : S) → Q s [] → W s [] → Meets Q W (stays s)
-  meets_stays s q w = record {
-    ends = λ e. q;
-    all = λ t lines r. elim r [
-      | inl e ↦
-          subst (λ l. W t l) (sym e.1) (subst (λ x. W x []) (sym e.0) w)
-      | inr h ↦ absurd h
-    ];
-  }
+  meets_stays s q w = grind arith
 
   pub meets_once : (old new : S) (printed : List Line) (fault : Option WorldFault)
       → (fault ≡ None → Q new printed) → W old [] → W new printed
       → Meets Q W (record { state = new; lines = printed; fault = fault; points = (old, []) ∷ [] })
-  meets_once old new printed fault q w v = record {
-    ends = q;
-    all = λ t lines r. elim r [
-      | inl e ↦ subst (λ l. W t l) (sym e.1) (subst (λ x. W x printed) (sym e.0) v)
-      | inr h ↦ elim h [
-        | inl e ↦
-            subst (λ l. W t l) (sym e.1) (subst (λ x. W x []) (sym e.0) w)
-        | inr none ↦ absurd none
-      ]
-    ];
-  }
+  meets_once old new printed fault q w v = grind arith
 
   pub meets_does : (old new : S) (printed : List Line) → Q new printed → W old [] → W new printed
       → Meets Q W (does old new printed)
   meets_does old new printed q w v = meets_once old new printed None (λ e. q) w v
 
   pub meets_refuses : (s : S) (fault : WorldFault) → W s [] → Meets Q W (refuses s fault)
-  meets_refuses s fault w = record {
-    ends = λ e. absurd (let no : ⊥ = cc in no);
-    all = λ t lines r. elim r [
-      | inl e ↦
-          subst (λ l. W t l) (sym e.1) (subst (λ x. W x []) (sym e.0) w)
-      | inr h ↦ absurd h
-    ];
-  }
+  meets_refuses s fault w = grind arith
 
 pub meets_then : {S : Type 0} → (P Q W : S → List Line → Type 0) (m : Outcome S) (next : S
     → Outcome S) → Meets P W m
@@ -281,34 +231,19 @@ meets_then P Q W m next h g = elim m.fault as (λ v. m.fault ≡ v
 pub meets_within : {S T : Type 0} → (f : S → T) (Q W : T → List Line → Type 0) (m : Outcome S)
     → Meets (λ s lines. Q (f s) lines) (λ s lines. W (f s) lines) m → Meets Q W (within f m)
 unfolding within
-meets_within f Q W m h = record {
-  ends = h.ends;
-  all = λ t lines r. elim r [
-    | inl e ↦ subst (λ l. W t l) (sym e.1) (subst (λ x. W x m.lines) (sym e.0)
-        (h.all m.state m.lines (inl (refl, refl))))
-    | inr a ↦ let b = among_inside f t lines m.points a in
-        subst (λ x. W x lines) (sym b.1) (h.all b.0 lines (inr b.2))
-  ];
-}
+meets_within f Q W m h = grind (arith, among_inside)
 
 -- what follows from these
 pub meets_weaker : {S : Type 0} → (P Q V W : S → List Line → Type 0) (m : Outcome S)
     → ((s : S) (lines : List Line) → P s lines → Q s lines)
     → ((s : S) (lines : List Line) → V s lines → W s lines)
     → Meets P V m → Meets Q W m
-meets_weaker P Q V W m f g h =
-    record {
-      ends = λ e. f m.state m.lines (h.ends e);
-      all = λ s lines r. g s lines
-          (h.all s lines r);
-    }
+meets_weaker P Q V W m f g h = grind arith
 
 pub reached_within : {S T : Type 0} → (f : S → T) (m : Outcome S) (t : T) (lines : List Line)
     → Reached (within f m) t lines → (s : S) × (t ≡ f s) × Reached m s lines
 unfolding within
-reached_within f m t lines (inl e) = (m.state, e.0, inl (refl, e.1))
-reached_within f m t lines (inr a) = let b = among_inside f t lines m.points a in
-    (b.0, b.1, inr b.2)
+reached_within f m t lines e = grind (arith, among_inside)
 
 -- ---- what is printed by then is the front of what is printed
 
@@ -367,12 +302,10 @@ pub stops_reached : {S : Type 0}
     → (m : Outcome S) (lines : List Line) (fault : WorldFault) (s : S) (lines' : List Line)
     → Stops m lines fault s lines' → (printed : List Line) × Reached m s printed
     × (lines' ≡ lines ++ printed)
-stops_reached m lines NoMemory s lines' g = (g.0, inr g.1, g.2)
-stops_reached m lines fault s lines' g = (m.lines, inl (g.1, refl), g.2)
+stops_reached m lines fault s lines' g = grind arith
 
 pub gives_reached : {S A : Type 0}
     → (m : Outcome S) (lines : List Line) (r : Result A WorldFault) (s : S) (lines' : List Line)
     → Gives m lines r s lines' → (printed : List Line) × Reached m s printed
     × (lines' ≡ lines ++ printed)
-gives_reached m lines (Ok a) s lines' g = (m.lines, inl (g.1, refl), g.2)
-gives_reached m lines (Err fault) s lines' g = stops_reached m lines fault s lines' g
+gives_reached m lines r s lines' g = grind (arith, stops_reached)

@@ -1,16 +1,14 @@
 -- What the calls of the code give, as outcomes.
-use Rattle.std.proofs.Common.{◌≡◌, ◌+◌, ◌<◌, ℕ, List, [], ◌∷◌, ◌++◌, Bool, true, false, Some}
-use Rattle.std.proofs.Common.{None, Option}
-use Rattle.std.proofs.Common.{Result, Ok, Err, length, take, min, refl, sym, ap, subst, ◌∙◌, arith}
-use Rattle.std.proofs.Common.{inl, append-nil, length-take}
+use Rattle.std.proofs.Common.{◌≡◌, ◌+◌, ◌<◌, ℕ, List, [], ◌∷◌, ◌++◌, Bool, true, false, Some, None}
+use Rattle.std.proofs.Common.{Option, Result, Ok, Err, length, take, min, refl, sym, ap, subst, ◌∙◌}
+use Rattle.std.proofs.Common.{arith, inl, append-nil, length-take}
 use Rattle.std.specs.Prelude.{nat_le}
 use Rattle.serial_model.specs.declared.history.Limits.{Limits}
 use Rattle.serial_model.specs.declared.history.Entry.{Entry}
 use Rattle.serial_model.specs.declared.history.BookCall.{BookCall}
 use Rattle.serial_model.specs.declared.history.BookCall.TheVariants as call
 use Rattle.serial_model.specs.declared.history.BookReply.{BookReply}
-use Rattle.serial_model.specs.declared.history.BookReply.TheVariants.{Quiet}
-use Rattle.serial_model.specs.declared.history.BookReply.TheVariants.{Bytes}
+use Rattle.serial_model.specs.declared.history.BookReply.TheVariants.{Quiet, Bytes}
 use Rattle.serial_model.specs.History.{runs_on, reads_on, gives_on, unsent}
 use Rattle.serial_model.specs.Steps.{Turn, book_step, taking}
 use Rattle.serial_model.proofs.Turning.{run_step, run_full, close_step}
@@ -23,7 +21,6 @@ use Rattle.server_links.specs.ServerState.{ServerState}
 use Rattle.server_links.specs.EntryLines.{reply_fault, reply_lines}
 use Rattle.server_links.specs.declared.direction.Direction.{Direction}
 use Rattle.server_links.specs.declared.direction.Eof.{Eof}
-use Rattle.server_links.specs.declared.direction.Eof.TheVariants as eof
 use Rattle.server_links.specs.Directions.{put, is_queued, without, without_bytes, past_eof}
 use Rattle.server_links.specs.Directions.{eof_read}
 use Rattle.server_links.specs.Moves.{turned, turn, bytes_of, take_down, read_lines, eof_lines}
@@ -71,8 +68,7 @@ module _ (l : Limits) (past new : List Entry) (id : ℕ) (reply : BookReply) (me
   pub close_line : (name : List ℕ) → reads_on l past id ≡ true
       → book_step l past (call.Close id) ≡ record { reply = reply; past = new }
       → reply_lines name [] reply ≡ line.Close (length past + 1) name ∷ []
-  close_line name on is = ap (λ (t : Turn). reply_lines name [] t.reply) (sym is
-      ∙ close_step l past id on)
+  close_line name on is = grind (arith, close_step)
 
 -- ---- the server's end sends
 
@@ -170,8 +166,7 @@ IsGiven entry bytes reply = ⊥
 
 pub only_given : (entry : ℕ) (bytes : List ℕ) (reply : BookReply) → IsGiven entry bytes reply
     → ((e : ℕ) (given : List ℕ) → reply ≡ Bytes e given → ⊥) → ⊥
-only_given entry bytes (Bytes e given) is gave = gave e given refl
-only_given entry bytes reply is gave = is
+only_given entry bytes reply is gave = grind (arith, given)
 
 -- where something can be taken and the history has room, it is
 taking_given : (l : Limits) (past : List Entry) (id most : ℕ) (bytes : List ℕ) → 0 < length bytes
@@ -229,8 +224,7 @@ receive_before s lines =
     s lines (stops_here (read_bytes s.link.down.bytes (without_bytes s.link.down) s) s lines refl)
 
 pub no_eof : (e : Eof) → is_queued e ≡ false → e ≡ eof_read e
-no_eof eof.Queued h = absurd (let no : ⊥ = cc in no)
-no_eof e h = refl
+no_eof e h = grind arith
 
 -- ---- what stops the reading
 

@@ -1,34 +1,27 @@
 -- A refused event leaves the world as it was, and prints nothing.
-use Rattle.std.proofs.Common.{◌≡◌, ℕ, List, [], ◌∷◌, Bool, true, false, cond}
-use Rattle.std.proofs.Common.{Some, None, Option, length, refl, ap, ◌∙◌}
+use Rattle.std.proofs.Common.{◌≡◌, ℕ, List, [], ◌∷◌, Bool, false, cond, Some, None, Option, length}
+use Rattle.std.proofs.Common.{refl, arith}
 use Rattle.std.specs.Prelude.{◌&&◌, nat_le}
 use Rattle.std.proofs.lemmas.List.{set-get_or}
 use Rattle.resp_stream.specs.declared.fault.FaultPlace.{FaultPlace}
 use Rattle.resp_stream.specs.Parse.{parse}
 use Rattle.serial_model.specs.declared.history.BookReply.{BookReply}
-use Rattle.serial_model.specs.declared.history.BookReply.TheVariants.{Refused}
-use Rattle.serial_model.specs.declared.history.BookRefusal.TheVariants as refusal
 use Rattle.serial_model.specs.History.{reads_on, gives_on, unsent}
 use Rattle.server_links.specs.LinkEvent.{LinkEvent, Raw, Put, Over, Now, Tick}
 use Rattle.server_links.specs.declared.link.LinkMove.{LinkMove}
 use Rattle.server_links.specs.declared.link.LinkMove.TheVariants as moves
 use Rattle.server_links.specs.declared.fault.WorldFault.{WorldFault}
-use Rattle.server_links.specs.declared.fault.WorldFault.TheVariants.{NoName, NameTaken}
 use Rattle.server_links.specs.declared.fault.WorldFault.TheVariants.{NothingThere}
-use Rattle.server_links.specs.declared.fault.WorldFault.TheVariants.{NoMemory, HistoryFull}
-use Rattle.server_links.specs.declared.fault.WorldFault.TheVariants as faults
-use Rattle.server_links.specs.Directions.{finished, is_open, is_queued, past_eof}
-use Rattle.server_links.specs.Directions.{without_bytes}
+use Rattle.server_links.specs.Directions.{is_open}
 use Rattle.server_links.specs.EntryLines.{reply_fault}
 use Rattle.server_links.specs.Faults.{IsRefusal}
 use Rattle.server_links.specs.Moves.{turn, run_one, run_all, close, stop, run_requests, run_fed}
-use Rattle.server_links.specs.Moves.{stopped_at, feed, serve_all, take_down, all_bytes}
-use Rattle.server_links.specs.Moves.{send_all}
-use Rattle.server_links.specs.Moves.{receive_all, flow, move_of, moved}
-use Rattle.server_links.specs.Outcome.{Outcome, stays, refuses, then_by, and_then, within}
-use Rattle.server_links.specs.Session.{Session, session_at, with_session, with_link, with_down}
+use Rattle.server_links.specs.Moves.{stopped_at, serve_all, take_down, send_all, receive_all, flow}
+use Rattle.server_links.specs.Moves.{move_of, moved}
+use Rattle.server_links.specs.Outcome.{Outcome, stays, refuses, and_then, within}
+use Rattle.server_links.specs.Session.{Session}
 use Rattle.server_links.specs.LinkSteps.{over, over_named, place_of, raw_step, step, tick}
-use Rattle.server_links.specs.LinksState.{LinksState, fresh_link}
+use Rattle.server_links.specs.LinksState.{LinksState}
 
 -- ---- what is never refused
 
@@ -39,22 +32,12 @@ none : (f : WorldFault) → None ≡ Some f → IsRefusal f → ⊥
 none f e r = absurd (let no : ⊥ = cc in no)
 
 by_reply : (reply : BookReply) (f : WorldFault) → reply_fault reply ≡ Some f → IsRefusal f → ⊥
-by_reply (Refused (refusal.HistoryFull n)) NoName is r = absurd (let no : ⊥ = cc in no)
-by_reply (Refused (refusal.HistoryFull n)) NameTaken is r = absurd (let no : ⊥ = cc in no)
-by_reply (Refused (refusal.HistoryFull n)) NothingThere is r = absurd (let no : ⊥ = cc in no)
-by_reply (Refused (refusal.HistoryFull n)) NoMemory is r = r
-by_reply (Refused (refusal.HistoryFull n)) (faults.Refused k) is r = absurd (let no : ⊥ = cc in no)
-by_reply (Refused (refusal.HistoryFull n)) (HistoryFull k) is r = r
-by_reply reply f is r = none f is r
+by_reply reply f is r = grind (arith, none)
 
 pub un_then : {S : Type 0} → (m : Outcome S) (next : S → Outcome S) → Unrefused m
     → ((t : S) → Unrefused (next t)) → Unrefused (and_then m next)
 unfolding Unrefused and_then
-un_then m next h g f = elim m.fault as (λ v. m.fault ≡ v
-    → (then_by v m (next m.state)).fault ≡ Some f → IsRefusal f → ⊥) [
-      | Some x ↦ λ is e r. h f e r
-      | None ↦ λ is e r. g m.state f e r
-    ] refl
+un_then m next h g f = grind arith
 
 un_run_all : (requests : List (List (List ℕ))) (s : Session) → Unrefused (run_all requests s)
 unfolding run_all run_one turn Unrefused
@@ -65,9 +48,7 @@ un_run_all (words ∷ requests) s =
 
 un_stop : (place : Option FaultPlace) (eof : Bool) (s : Session) → Unrefused (stop place eof s)
 unfolding close turn Unrefused
-un_stop (Some place) eof s = un_then _ close none (λ t. by_reply _)
-un_stop None true s = by_reply _
-un_stop None false s = none
+un_stop place eof s = grind (arith, un_then, none, by_reply)
 
 un_run_fed : (eof : Bool) (s : Session) → Unrefused (run_fed eof s)
 unfolding run_fed run_requests Unrefused
@@ -79,12 +60,7 @@ un_run_fed eof s =
 
 pub un_serve_all : (s : Session) → Unrefused (serve_all s)
 unfolding serve_all Unrefused
-un_serve_all s f = elim (reads_on s.limits s.past s.link.id) as (λ b.
-    (cond b (and_then (feed s.link.up.bytes (past_eof (without_bytes s.link.up)) s)
-    (run_fed (is_queued s.link.up.eof))) (stays s)).fault ≡ Some f → IsRefusal f → ⊥) [
-      | true ↦ un_then _ _ none (un_run_fed (is_queued s.link.up.eof)) f
-      | false ↦ none f
-    ]
+un_serve_all s f = grind (arith, un_then, none, un_run_fed)
 
 un_take : (most : ℕ) (s : Session) → Unrefused (take_down most s)
 unfolding take_down Unrefused
@@ -92,17 +68,7 @@ un_take most s = un_then _ _ (by_reply _) (λ t. none)
 
 pub un_send_all : (s : Session) → Unrefused (send_all s)
 unfolding Unrefused
-un_send_all s f =
-    let ended = with_link s (with_down s.link (finished s.link.down)) in
-    elim (is_open s.link.down.eof) as (λ b. (cond b (cond (gives_on s.limits s.past s.link.id)
-    (take_down all_bytes s) (stays ended)) (stays s)).fault ≡ Some f → IsRefusal f → ⊥) [
-      | true ↦ elim (gives_on s.limits s.past s.link.id) as (λ b.
-          (cond b (take_down all_bytes s) (stays ended)).fault ≡ Some f → IsRefusal f → ⊥) [
-            | true ↦ un_take all_bytes s f
-            | false ↦ none f
-          ]
-      | false ↦ none f
-    ]
+un_send_all s f = grind (arith, un_take, none)
 
 pub un_receive_all : (s : Session) → Unrefused (receive_all s)
 unfolding receive_all Unrefused
@@ -129,8 +95,7 @@ refused s fault f e r = (refl, refl)
 
 either : (b : Bool) (s : Session) (m : Outcome Session) → Unrefused m
     → Unchanged s (cond b m (refuses s NothingThere))
-either true s m h = accepted s m h
-either false s m h = refused s NothingThere
+either b s m h = grind (arith, accepted, refused)
 
 still : (s t : Session) → Unchanged s (stays t)
 unfolding Unchanged
@@ -153,29 +118,19 @@ unchanged_moved move s = still s _
 
 unchanged_move : (e : LinkEvent) (s : Session) → Unchanged s (move_of e s)
 unfolding Unrefused
-unchanged_move (Put name bytes) s = accepted s _ none
-unchanged_move (Over name move) s = unchanged_moved move s
-unchanged_move e s = still s s
+unchanged_move e s = grind (arith, accepted, none, unchanged_moved, still)
 
 unchanged_over : (at : ℕ) (e : LinkEvent) (w : LinksState) → Unchanged w (over at (move_of e) w)
 unfolding over within Unchanged
-unchanged_over at e w f is r =
-    let h = unchanged_move e (session_at at w) f is r in (
-      ap (with_session at w) h.0
-          ∙ ap (λ l. record { limits = w.limits; now = w.now; past = w.past; links = l })
-          (set-get_or w.links at (fresh_link 0 [])),
-      h.1,
-    )
+unchanged_over at e w f is r = grind (arith, unchanged_move, set-get_or)
 
 unchanged_named : (p : Option ℕ) (e : LinkEvent) (w : LinksState)
     → Unchanged w (over_named p (move_of e) w)
-unchanged_named None e w = refused w NoName
-unchanged_named (Some at) e w = unchanged_over at e w
+unchanged_named p e w = grind (arith, refused, unchanged_over)
 
 unchanged_raw : (name : List ℕ) (p : Option ℕ) (w : LinksState) → Unchanged w (raw_step w name p)
 unfolding Unrefused
-unchanged_raw name (Some at) w = refused w NameTaken
-unchanged_raw name None w = accepted w _ (by_reply _)
+unchanged_raw name p w = grind (arith, refused, accepted, by_reply)
 
 unchanged : (e : LinkEvent) (w : LinksState) → Unchanged w (step w e)
 unfolding step tick Unrefused

@@ -1,5 +1,5 @@
 -- Requests that are read and run one after another.
-use Rattle.std.proofs.Common.{◌≡◌, ◌<◌, ℕ, List, true, length, refl, sym, ap, ◌∙◌}
+use Rattle.std.proofs.Common.{◌≡◌, ◌<◌, ℕ, List, true, length, ap, ◌∙◌, arith}
 use Rattle.resp_stream.specs.Parsed.{Whole}
 use Rattle.resp_stream.specs.Parse.{parse}
 use Rattle.resp_stream.specs.Readers.{skipped}
@@ -10,7 +10,7 @@ use Rattle.serial_model.specs.declared.history.BookCall.TheVariants as call
 use Rattle.serial_model.specs.History.{reads_on}
 use Rattle.serial_model.specs.Steps.{Turn, book_step}
 use Rattle.script_text.specs.declared.line.Line.{Line}
-use Rattle.server_links.specs.Moves.{next_read, past_request, turn, run_one, run_all}
+use Rattle.server_links.specs.Moves.{next_read, turn, run_one, run_all}
 use Rattle.server_links.specs.Session.{Session, with_link, with_reader}
 use Rattle.server_links.proofs.Carries.{by_run}
 use Rattle.server_links.proofs.Items as items
@@ -32,17 +32,7 @@ requests = record {
 
 pub requests_run : Runs requests
 unfolding run_one run_all
-requests_run = record {
-  whole = λ s words r e. parse_whole s words r e;
-  more = λ s e. parse_more s e;
-  bad = λ s g r e. parse_bad s g r e;
-  same = λ s. refl;
-  next_is = λ s words r e.
-      sym (ap (λ a. with_link s (with_reader s.link (past_request s.link.reader a))) e);
-  one_is = λ words s. refl;
-  none_is = λ s. refl;
-  some_is = λ words more s. refl;
-}
+requests_run = grind (arith, parse_whole, parse_more, parse_bad)
 
 run_on : (s : Session) (words : List (List ℕ)) → reads_on s.limits s.past s.link.id ≡ true
     → reads_on s.limits (book_step s.limits s.past (call.Run s.link.id words s.now)).past s.link.id

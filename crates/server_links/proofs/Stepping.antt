@@ -1,9 +1,8 @@
 -- A step of the world in the code: its links stay those of the connections, and flow one after
 -- another.
-use Rattle.std.proofs.Common.{◌≡◌, ◌+◌, ◌<◌, ℕ, List, [], ◌∷◌, ◌++◌, true, false}
-use Rattle.std.proofs.Common.{Some, None, Result, Ok, Err}
-use Rattle.std.proofs.Common.{length, slice_index_or, slice_set, refl, sym, ap, subst, ◌∙◌, arith}
-use Rattle.std.proofs.Common.{append-nil, length-set, length-append, eq-eqb}
+use Rattle.std.proofs.Common.{◌≡◌, ◌+◌, ◌<◌, ℕ, List, [], ◌∷◌, ◌++◌, true, false, Some, None}
+use Rattle.std.proofs.Common.{Result, Ok, Err, length, slice_index_or, slice_set, refl, sym, ap}
+use Rattle.std.proofs.Common.{subst, ◌∙◌, arith, append-nil, length-set, length-append, eq-eqb}
 use Rattle.std.specs.Prelude.{◌==◌}
 use Rattle.std.proofs.lemmas.Bool.{eqb-true, cases_lt}
 use Rattle.std.proofs.lemmas.List.{get_or_read, get_or-set_same, get_or-set_other, get_or_push}
@@ -16,22 +15,20 @@ use Rattle.serial_model.specs.Steps.{Turn, book_step, admitting}
 use Rattle.serial_model.proofs.Turning.{admit_step}
 use Rattle.script_text.specs.declared.line.Line.TheVariants as line
 use Rattle.server_links.specs.Turns.{TurnGives}
-use Rattle.server_links.specs.LinkSteps.{raw_step}
+use Rattle.server_links.specs.LinkSteps.{raw_step, over, over_named, place_of, link_named, step}
+use Rattle.server_links.specs.LinkSteps.{StepGives}
 use Rattle.server_links.specs.LinkEvent.{LinkEvent, Raw}
 use Rattle.script_text.specs.declared.line.Line.{Line}
 use Rattle.server_links.specs.declared.fault.WorldFault.{WorldFault}
-use Rattle.server_links.specs.declared.fault.WorldFault.TheVariants.{NoName, NameTaken}
-use Rattle.server_links.specs.declared.fault.WorldFault.TheVariants.{NoMemory, HistoryFull}
+use Rattle.server_links.specs.declared.fault.WorldFault.TheVariants.{NoName, NameTaken, NoMemory}
+use Rattle.server_links.specs.declared.fault.WorldFault.TheVariants.{HistoryFull}
 use Rattle.server_links.specs.declared.link.Link.{Link}
 use Rattle.server_links.specs.ServerState.{ServerState}
 use Rattle.server_links.specs.Outcome.{Outcome, Stops, Gives}
 use Rattle.server_links.specs.Session.{Session, session, session_at, with_session, world}
 use Rattle.server_links.specs.Moves.{move_of}
-use Rattle.server_links.specs.LinkSteps.{over, over_named, place_of, link_named, step}
-use Rattle.server_links.specs.LinkSteps.{StepGives}
 use Rattle.server_links.specs.LinksState.{AreNames, Fits, LinksState, at_place, fresh_link}
-use Rattle.server_links.proofs.Outcomes.{Ends, stops_here}
-use Rattle.server_links.proofs.Outcomes.{gives_within, gives_reached}
+use Rattle.server_links.proofs.Outcomes.{Ends, stops_here, gives_within, gives_reached}
 use Rattle.server_links.proofs.Carries.{Carries}
 use Rattle.server_links.proofs.Moving.{Every, every_move}
 use Rattle.server_links.proofs.NameLists.{name_place, named_more, named_set}
@@ -159,9 +156,7 @@ module _ (server : ServerState) (links : List Link) (name : List ℕ) (lines : L
     pub raw_before : Stops (step (world server links) (Raw name)) lines NoMemory
         (world server links) lines
     unfolding step
-    raw_before = subst (λ p. Stops (raw_step (world server links) name p) lines NoMemory
-        (world server links) lines) (sym free)
-        (stops_here (raw_step (world server links) name None) (world server links) lines refl)
+    raw_before = grind (arith, stops_here)
 
     pub made_named : (ns : List (List ℕ)) (id : ℕ) → AreNames ns links
         → AreNames (ns ++ name ∷ []) (links ++ fresh_link id name ∷ [])

@@ -1,7 +1,7 @@
 -- Several requests of a connection and the Take behind them, in one batch or a turn each.
-use Rattle.std.proofs.Common.{◌≡◌, ◌≤◌, ◌<◌, ◌+◌, ℕ, suc, List, [], ◌∷◌, ◌++◌, length}
-use Rattle.std.proofs.Common.{take, true, cond, refl, sym, ap, subst, ◌∙◌, arith}
-use Rattle.std.proofs.Common.{Some, None, length-append, append-nil, append_assoc, ne_eqb}
+use Rattle.std.proofs.Common.{◌≡◌, ◌≤◌, ◌<◌, ◌+◌, ℕ, suc, List, [], ◌∷◌, ◌++◌, length, take, true}
+use Rattle.std.proofs.Common.{cond, refl, sym, ap, subst, ◌∙◌, arith, Some, None, length-append}
+use Rattle.std.proofs.Common.{append-nil, append_assoc, ne_eqb}
 use Rattle.std.specs.Prelude.{Option, Ok, IfOk, IfErr, ◌==◌}
 use Rattle.std.specs.List.{All}
 use Rattle.std.proofs.lemmas.List.{take-append-le, take_all}
@@ -15,26 +15,23 @@ use Rattle.turn_lock.specs.declared.lock.Unplayed.TheVariants as unplayed
 use Rattle.turn_lock.proofs.Turns.{drawn_before}
 use Rattle.serial_model.specs.declared.history.Entry.{Entry}
 use Rattle.serial_model.specs.declared.history.BookCall.{BookCall}
-use Rattle.serial_model.specs.declared.history.BookCall.TheVariants.{Admit, Run, Tick, Take}
-use Rattle.serial_model.specs.declared.history.BookCall.TheVariants.{Close}
+use Rattle.serial_model.specs.declared.history.BookCall.TheVariants.{Run, Take}
 use Rattle.serial_model.specs.declared.history.BookReply.{BookReply}
 use Rattle.serial_model.specs.declared.history.BookReply.TheVariants.{Admitted, Ran, Ticked, Quiet}
 use Rattle.serial_model.specs.declared.history.BookReply.TheVariants.{Bytes, Closed, Refused}
 use Rattle.serial_model.specs.declared.history.BookRefusal.{BookRefusal}
 use Rattle.serial_model.specs.declared.history.BookRefusal.TheVariants.{Gone, HistoryFull, NoMemory}
 use Rattle.serial_model.specs.History.{is_admitted, has_ended, is_full}
-use Rattle.seat_turns.specs.Own.{past_of, own_list, with_pasts, turns_of, IsWithin, Within}
-use Rattle.seat_turns.specs.Own.{Grows}
+use Rattle.seat_turns.specs.Own.{past_of, IsWithin, Within, Grows}
 use Rattle.seat_turns.specs.Turns.{Plays}
 use Rattle.resp_value.specs.declared.octets.Octets.{Octets}
-use Rattle.shared_book.specs.Turns.{Place, Turn, TurnStep, Runs, Takes, IsCause, Refuses}
-use Rattle.shared_book.specs.Turns.{limits_in, limits_of, most}
+use Rattle.shared_book.specs.Turns.{Place, TurnStep, Runs, Takes, IsCause, Refuses, limits_in}
+use Rattle.shared_book.specs.Turns.{limits_of, most}
 use Rattle.shared_book.specs.declared.turns.Refusal.{Refusal}
 use Rattle.shared_book.specs.declared.turns.Refusal.TheVariants as refusal
 use Rattle.shared_book.specs.declared.batch.Batch.{Batch}
 use Rattle.shared_book.specs.Batches.{IsRunAt, requests_in, RunsEach, RunsAndTakes, RunsFirst}
-use Rattle.shared_book.specs.Batches.{refusal_by, ran_in, taken_in, IsOfBatch, adds_none}
-use Rattle.shared_book.specs.Batches.{Counts}
+use Rattle.shared_book.specs.Batches.{refusal_by, ran_in, taken_in, IsOfBatch, adds_none, Counts}
 use Rattle.seat_turns.proofs.Owning.{within_begins}
 use Rattle.seat_turns.proofs.Turning.{plays, begins_trans, grows_worn}
 use Rattle.seat_turns.proofs.Growing.{grows_none, grows_then, grows_past}
@@ -98,21 +95,6 @@ module _ (id now : ℕ) where
   unfolding with_tickets
   less_at next after t le = le
 
-  same_grows : (k after : Place) → IsWithin k → k.tickets ≤ after.tickets → IsSameSeat k after
-      → after.seen ≡ k.seen → after.own ≡ k.own → Grows k after []
-  unfolding turns_of IsWithin
-  same_grows k after is le same seen own = record {
-    lock = same.0;
-    setup = same.1;
-    parts = same.4;
-    tickets = le;
-    seen = ([], sym seen);
-    within = subst (λ (z : List (ℕ × Entry) × List ℕ). Within z.0 z.1)
-        (λ i. (sym seen i, sym own i)) is;
-    own = ap (λ (z : List (ℕ × Entry) × List ℕ). own_list (with_pasts z.0) z.1)
-        (λ i. (seen i, own i));
-  }
-
   -- the last turn of a batch
   last_plays : (call : BookCall) (reply : BookReply) (k next after : Place) → IsWithin k
       → k.tickets ≤ after.tickets → IsSameSeat k next → Turned TurnStep call reply k next
@@ -149,23 +131,14 @@ module _ (id now : ℕ) where
   passed : (call : BookCall) (reply : BookReply) (k l : Place) → named call ≡ id
       → (Plays TurnStep call Quiet k l → Grows k l []) → is_admitted (past_of k) id ≡ true
       → Plays TurnStep call reply k l → adds_none reply ≡ true → Grows k l [] × IsOfBatch reply
-  passed call (Admitted n i) k l at quiet on p h = absurd (let no : ⊥ = cc in no)
-  passed call (Ran n) k l at quiet on p h = absurd (let no : ⊥ = cc in no)
-  passed call (Ticked n) k l at quiet on p h = absurd (let no : ⊥ = cc in no)
   passed call Quiet k l at quiet on p h = (quiet p, tt)
-  passed call (Bytes n bytes) k l at quiet on p h = absurd (let no : ⊥ = cc in no)
-  passed call (Closed n) k l at quiet on p h = absurd (let no : ⊥ = cc in no)
   passed call (Refused r) k l at quiet on p h = ((refused call r k l at on p).grows, tt)
+  passed call reply k l at quiet on p h = absurd (let no : ⊥ = cc in no)
 
   -- a call that runs a request here
   pub by_run : (P : BookCall → Type 0) (call : BookCall) → IsRunAt id now call
       → ((words : List (List ℕ)) → P (Run id words now)) → P call
-  by_run P Admit at f = absurd at
-  by_run P (Run n words moment) at f =
-      subst (λ (z : ℕ × ℕ). P (Run z.0 words z.1)) (λ i. (sym at.0 i, sym at.1 i)) (f words)
-  by_run P (Tick moment) at f = absurd at
-  by_run P (Take n many) at f = absurd at
-  by_run P (Close n) at f = absurd at
+  by_run P call at f = grind arith
 
   runs_at : List (List (List ℕ)) → List BookCall
   runs_at [] = []
@@ -225,44 +198,22 @@ module _ (id now : ℕ) where
     pub are : All IsOfBatch replies
     pub counts : (count : ℕ) → count ≤ length k.seen → Counts count replies
 
-  seen_more : (k l : Place) (ts : List Turn) → Grows k l ts → length k.seen ≤ length l.seen
-  seen_more k l ts g =
-      let long = ap length g.seen.1 in
-      let both = length-append g.seen.0 k.seen in omega (arith, long, both)
-
   -- a Run makes the history longer
   seen_longer : (words : List (List ℕ)) (k l : Place) → Runs id words now k l
       → length k.seen < length l.seen
-  seen_longer words k l r =
-      let long = ap length r.ends in
-      let more = ap length r.begins.1 in
-      let both = length-append r.begins.0 (past_of k) in
-      let a = entries_long k.seen in
-      let b = entries_long l.seen in omega (arith, long, more, both, a, b)
+  seen_longer words k l r = grind (arith, length-append, entries_long)
 
   all_more : (words : List (List ℕ)) (requests : List (List (List ℕ))) (count ran : ℕ)
       (front : Option Octets) (k l after : Place) → Runs id words now k l
       → RunsAndTakes id now (suc count) requests (suc count + ran) front l after
       → RunsAndTakes id now count (words ∷ requests) (count + suc ran) front k after
-  all_more words requests count ran front k l after run h = record {
-    middle = h.middle;
-    each = (l, run, h.each);
-    counted = let c = h.counted in omega (arith, c);
-    fits = let f = h.fits in omega (arith, f);
-    takes = h.takes;
-  }
+  all_more words requests count ran front k l after run h = grind arith
 
   first_more : (words : List (List ℕ)) (requests : List (List (List ℕ))) (count ran : ℕ)
       (e : Refusal) (k l after : Place) → Runs id words now k l
       → RunsFirst id now (suc count) requests (suc count + ran) e l after
       → RunsFirst id now count (words ∷ requests) (count + suc ran) e k after
-  first_more words requests count ran e k l after run h = record {
-    number = suc h.number;
-    counted = let c = h.counted in omega (arith, c);
-    within = let w = h.within in omega (arith, w);
-    each = (l, run, h.each);
-    cause_is = h.cause_is;
-  }
+  first_more words requests count ran e k l after run h = grind arith
 
   told_ran : (m : ℕ) (words : List (List ℕ)) (requests : List (List (List ℕ)))
       (replies : List BookReply) (k l after : Place) → m ≡ length l.seen → Runs id words now k l
@@ -329,21 +280,7 @@ module _ (id now : ℕ) where
       → taken_in (reply ∷ []) ≡ Ok front → ran_in (reply ∷ []) ≡ 0 → Takes id front k after
       → IsOfBatch reply → ((count : ℕ) → Counts count (reply ∷ []))
       → Told [] (reply ∷ []) k after
-  told_front front reply k after is taken none takes of counts = record {
-    ok = subst (λ z. IfOk z (λ f. (count : ℕ) → count ≤ length k.seen
-        → RunsAndTakes id now count [] (count + ran_in (reply ∷ [])) f k after)) (sym taken)
-        (λ count le. record {
-          middle = k;
-          each = grows_none k is;
-          counted = omega (arith, none);
-          fits = omega (arith, none, le);
-          takes = takes;
-        });
-    err = subst (λ z. IfErr z (λ e. (count : ℕ)
-        → RunsFirst id now count [] (count + ran_in (reply ∷ [])) e k after)) (sym taken) tt;
-    are = All-cons IsOfBatch reply [] of (All-nil IsOfBatch);
-    counts = λ count le. counts count;
-  }
+  told_front front reply k after is taken none takes of counts = grind (arith, grows_none)
 
   tells_take : (reply : BookReply) (k after : Place) → IsWithin k
       → is_admitted (past_of k) id ≡ true → Plays TurnStep (Take id most) reply k after
@@ -402,21 +339,18 @@ module _ (id now : ℕ) where
       (k after : Place) (b : Batch) → Told requests replies k after → count ≤ length k.seen
       → b.requests ≡ count + ran_in replies → b.front ≡ taken_in replies
       → IfOk b.front (λ front. RunsAndTakes id now count requests b.requests front k after)
-  told_ok count requests replies k after b t le ran front =
-      rw (front, ran) (IfOk-weaker (taken_in replies) _ _ (λ f h. h count le) t.ok)
+  told_ok count requests replies k after b t le ran front = grind arith
 
   pub told_err : (count : ℕ) (requests : List (List (List ℕ))) (replies : List BookReply)
       (k after : Place) (b : Batch) → Told requests replies k after
       → b.requests ≡ count + ran_in replies → b.front ≡ taken_in replies
       → IfErr b.front (λ e. RunsFirst id now count requests b.requests e k after)
-  told_err count requests replies k after b t ran front =
-      rw (front, ran) (IfErr-weaker (taken_in replies) _ _ (λ e h. h count) t.err)
+  told_err count requests replies k after b t ran front = grind arith
 
 -- ---- a turn each
 
 take_front : {A : Type 0} (xs ys : List A) → take (length xs) (xs ++ ys) ≡ xs
-take_front xs ys =
-    take-append-le (length xs) xs ys (omega arith) ∙ take_all (length xs) xs (omega arith)
+take_front xs ys = grind (arith, take-append-le, take_all)
 
 pub last_off : {A : Type 0} (xs ys : List A) (x : A) (last : List A)
     → xs ++ x ∷ [] ≡ ys ++ last → length ys ≡ length xs → ys ≡ xs
@@ -443,29 +377,16 @@ module _ (id now : ℕ) where
   pub all_from : (count : ℕ) (requests : List (List (List ℕ))) (ran : ℕ) (front : Option Octets)
       (a b c : Place) → Grows a b [] → RunsAndTakes id now count requests ran front b c
       → RunsAndTakes id now count requests ran front a c
-  all_from count requests ran front a b c g h = record {
-    middle = h.middle;
-    each = each_from requests a b h.middle g h.each;
-    counted = h.counted;
-    fits = h.fits;
-    takes = h.takes;
-  }
+  all_from count requests ran front a b c g h = grind (arith, each_from)
 
   pub first_from : (count : ℕ) (requests : List (List (List ℕ))) (ran : ℕ) (e : Refusal)
       (a b c : Place) → Grows a b [] → RunsFirst id now count requests ran e b c
       → RunsFirst id now count requests ran e a c
-  first_from count requests ran e a b c g f = record {
-    number = f.number;
-    counted = f.counted;
-    within = f.within;
-    each = each_from (take f.number requests) a b c g f.each;
-    cause_is = f.cause_is;
-  }
+  first_from count requests ran e a b c g f = grind (arith, each_from)
 
   each_more : (ws : List (List (List ℕ))) (words : List (List ℕ)) (a b c : Place)
       → RunsEach id now ws a b → Runs id words now b c → RunsEach id now (ws ++ words ∷ []) a c
-  each_more [] words a b c h run =
-      (c, runs_from words a b c h run, grows_none c run.grows.within)
+  each_more [] words a b c h run = grind (arith, runs_from, grows_none)
   each_more (w ∷ ws) words a b c (mid, one, rest) run =
       (mid, one, each_more ws words mid b c rest run)
 
@@ -484,16 +405,7 @@ module _ (id now : ℕ) where
   pub running_begins : (count : ℕ) (calls rest : List BookCall) (k : Place) → rest ≡ calls
       → All (IsRunAt id now) calls → IsWithin k → is_admitted (past_of k) id ≡ true
       → count ≤ length k.seen → Running count (requests_in calls) count rest k k
-  running_begins count calls rest k same runs is on le = record {
-    done = [];
-    parts = ap requests_in (sym same);
-    counted = omega arith;
-    fits = le;
-    each = grows_none k is;
-    runs = subst (All (IsRunAt id now)) (sym same) runs;
-    within = is;
-    admitted = on;
-  }
+  running_begins count calls rest k same runs is on le = grind (arith, grows_none, runs)
 
   module _ (count : ℕ) (requests : List (List (List ℕ))) (ran : ℕ) (rest : List BookCall)
       (old k : Place) (r : Running count requests ran rest old k) where
@@ -505,16 +417,7 @@ module _ (id now : ℕ) where
         → rest ≡ Run n words moment ∷ left → (e : Refusal) (l : Place) → Refuses e id k l
         → RunsFirst id now count requests ran e old l
     running_refused n moment words left next e l stops =
-        let long = ap length (r.parts ∙ ap (λ z. r.done ++ requests_in z) next) in
-        let both = length-append r.done (words ∷ requests_in left) in
-        record {
-          number = length r.done;
-          counted = r.counted;
-          within = omega (arith, long, both);
-          each = subst (λ z. RunsEach id now z old l) (sym all_done)
-              (each_then id now r.done old k l r.each stops.grows);
-          cause_is = stops.cause_is;
-        }
+        grind (arith, length-append, all_done, each_then)
 
     none_left : rest ≡ [] → requests ≡ r.done
     none_left none = r.parts ∙ (ap (λ z. r.done ++ requests_in z) none ∙ append-nil r.done)
@@ -522,24 +425,11 @@ module _ (id now : ℕ) where
     -- all ran, and what waits behind them was taken
     pub running_takes : rest ≡ [] → (front : Option Octets) (l : Place) → Takes id front k l
         → RunsAndTakes id now count requests ran front old l
-    running_takes none front l takes = record {
-      middle = k;
-      each = subst (λ z. RunsEach id now z old k) (sym (none_left none)) r.each;
-      counted = let long = ap length (none_left none) in omega (arith, r.counted, long);
-      fits = r.fits;
-      takes = takes;
-    }
+    running_takes none front l takes = grind (arith, none_left)
 
     pub running_ends : rest ≡ [] → (e : Refusal) (l : Place) → Refuses e id k l
         → RunsFirst id now count requests ran e old l
-    running_ends none e l stops = record {
-      number = length r.done;
-      counted = r.counted;
-      within = let long = ap length (none_left none) in omega (arith, long);
-      each = subst (λ z. RunsEach id now z old l) (sym all_done)
-          (each_then id now r.done old k l r.each stops.grows);
-      cause_is = stops.cause_is;
-    }
+    running_ends none e l stops = grind (arith, none_left, all_done, each_then)
 
     pub running_more : (n moment : ℕ) (words : List (List ℕ)) (left : List BookCall)
         → rest ≡ Run n words moment ∷ left → (l : Place) → Runs id words now k l
@@ -565,10 +455,7 @@ module _ (id now : ℕ) where
 pub runs_alone : (id now : ℕ) (rest left : List BookCall) (call : BookCall)
     → All (IsRunAt id now) rest → rest ≡ call ∷ left
     → ((n : ℕ) (words : List (List ℕ)) (moment : ℕ) → call ≡ Run n words moment → ⊥) → ⊥
-runs_alone id now rest left call runs is other =
-    by_run id now (λ c. c ≡ call → ⊥) call
-    (All-head (IsRunAt id now) call left (subst (All (IsRunAt id now)) is runs))
-    (λ words same. other id words now (sym same)) refl
+runs_alone id now rest left call runs is other = grind (arith, by_run, runs)
 
 -- the lock played none of them
 pub unplayed_grows : (e : Unplayed) (n : ℕ) (k l : Place) → IsWithin k → k.tickets ≤ l.tickets

@@ -1,21 +1,19 @@
 -- What each reply to a connection's turn says of it.
-use Rattle.std.proofs.Common.{◌≡◌, ◌<◌, ◌+◌, ℕ, List, [], ◌∷◌, length, max, take}
-use Rattle.std.proofs.Common.{Bool, true, false, cond, refl, sym, ap, subst, ◌∙◌, arith, Some}
-use Rattle.std.proofs.Common.{None, inl, inr}
+use Rattle.std.proofs.Common.{◌≡◌, ◌<◌, ◌+◌, ℕ, List, [], ◌∷◌, length, max, take, Bool, true, false}
+use Rattle.std.proofs.Common.{cond, refl, sym, ap, ◌∙◌, arith, Some, None}
 use Rattle.std.specs.Prelude.{Option, ◌⊎◌}
 use Rattle.turn_lock.specs.History.{past_after}
 use Rattle.serial_model.specs.declared.history.Limits.{Limits}
 use Rattle.serial_model.specs.declared.history.Entry.{Entry}
 use Rattle.serial_model.specs.declared.history.Entry.TheVariants as entry
 use Rattle.serial_model.specs.declared.history.BookCall.{BookCall}
-use Rattle.serial_model.specs.declared.history.BookCall.TheVariants.{Admit, Run, Tick, Take}
-use Rattle.serial_model.specs.declared.history.BookCall.TheVariants.{Close}
+use Rattle.serial_model.specs.declared.history.BookCall.TheVariants.{Admit, Run, Tick, Take, Close}
 use Rattle.serial_model.specs.declared.history.BookReply.{BookReply}
 use Rattle.serial_model.specs.declared.history.BookReply.TheVariants.{Admitted, Ran, Ticked, Quiet}
 use Rattle.serial_model.specs.declared.history.BookReply.TheVariants.{Bytes, Closed, Refused}
 use Rattle.serial_model.specs.declared.history.BookRefusal.TheVariants.{Gone, HistoryFull, NoMemory}
-use Rattle.serial_model.specs.History.{admitted, expired, is_full, latest, unsent}
-use Rattle.serial_model.specs.History.{runs_on, reads_on, gives_on}
+use Rattle.serial_model.specs.History.{admitted, expired, is_full, latest, unsent, runs_on}
+use Rattle.serial_model.specs.History.{reads_on, gives_on}
 use Rattle.serial_model.specs.Steps.{Turn as Stepped, book_step, BookStep, gone, full, unless_full}
 use Rattle.serial_model.specs.Steps.{admitting, running, taking, ticking, closing}
 use Rattle.serial_model.proofs.Turning.{by_step}
@@ -24,8 +22,7 @@ use Rattle.shared_book.specs.Turns.{TurnStep}
 -- by the case of a test, which is known in each
 by_test : {X : Type 0} (P : X → Type 0) (b : Bool) (x y : X) → (b ≡ true → P x)
     → (b ≡ false → P y) → P (cond b x y)
-by_test P true x y f g = f refl
-by_test P false x y f g = g refl
+by_test P b e y f g = grind arith
 
 -- the replies that a call may get
 abbrev pub comes : BookCall → BookReply → Bool
@@ -125,11 +122,7 @@ module _ (l : Limits) (past : List Entry) where
   -- a Close takes no memory
   memory_says : (call : BookCall) → BookStep l past call (Refused NoMemory) past
       → Said call (Refused NoMemory) past
-  memory_says Admit h = (refl, None, refl, refl)
-  memory_says (Run id words now) h = (refl, None, refl, refl)
-  memory_says (Tick now) h = (refl, None, refl, refl)
-  memory_says (Take id most) h = (refl, None, refl, refl)
-  memory_says (Close id) h = absurd h.2
+  memory_says call h = grind arith
 
   pub says : (call : BookCall) (reply : BookReply) (new : List Entry)
       → BookStep l past call reply new → Said call reply new
@@ -142,22 +135,14 @@ module _ (l : Limits) (past : List Entry) where
       → BookStep l past (Close id) reply new
       → (new ≡ entry.Close id ∷ past) ⊎ ((new ≡ past) × (reads_on l past id ≡ false))
   unfolding book_step
-  close_says id reply new does =
-      let Ends : List Entry → Type 0 =
-      λ n. (n ≡ entry.Close id ∷ past) ⊎ ((n ≡ past) × (reads_on l past id ≡ false)) in
-      by_step l (λ r n. BookStep l past (Close id) r n → Ends n) past new (Close id) reply
-      (λ h. by_test (λ (t : Stepped). Ends t.past) (reads_on l past id) (closing past id)
-      (gone past id) (λ on. inl refl) (λ off. inr (refl, off))) (λ h. absurd h.2) does does
+  close_says id reply new does = grind (arith, by_step, by_test)
 
   pub entry_added : (call : BookCall) (reply : BookReply) (new : List Entry)
       → BookStep l past call reply new
       → (e : Option Entry) × TurnStep l past call reply e × (new ≡ past_after past e)
-  entry_added call reply new does =
-      let (known, e, s, is) = says call reply new does in
-      (e, subst (λ n. BookStep l past call reply n) is does, is)
+  entry_added call reply new does = grind (arith, says)
 
 pub turned : (l : Limits) (old past new : List Entry) (call : BookCall) (reply : BookReply)
     → BookStep l old call reply new → old ≡ past
     → (e : Option Entry) × TurnStep l past call reply e × (new ≡ past_after past e)
-turned l old past new call reply does same =
-    entry_added l past call reply new (subst (λ p. BookStep l p call reply new) same does)
+turned l old past new call reply does same = grind (arith, entry_added)

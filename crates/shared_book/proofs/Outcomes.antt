@@ -1,7 +1,6 @@
 -- From a turn that was played, what its call's function promises.
-use Rattle.std.proofs.Common.{◌≡◌, ◌≤◌, ◌<◌, ℕ, List, [], ◌∷◌, length, max, take}
-use Rattle.std.proofs.Common.{true, false, refl, sym, ap, subst, ◌∙◌, arith, Some, None}
-use Rattle.std.proofs.Common.{inl, inr, zero, suc}
+use Rattle.std.proofs.Common.{◌≡◌, ◌≤◌, ◌<◌, ℕ, List, [], ◌∷◌, length, max, take, true, false, refl}
+use Rattle.std.proofs.Common.{sym, ap, subst, ◌∙◌, arith, Some, None, inl, inr, suc}
 use Rattle.std.specs.Prelude.{⊤}
 use Rattle.turn_lock.specs.History.{entries, past_after}
 use Rattle.turn_lock.specs.declared.rule.TheConstants.{LAST_TICKET}
@@ -12,18 +11,16 @@ use Rattle.serial_model.specs.declared.history.Limits.{Limits}
 use Rattle.serial_model.specs.declared.history.Entry.{Entry}
 use Rattle.serial_model.specs.declared.history.Entry.TheVariants as entry
 use Rattle.serial_model.specs.declared.history.BookCall.{BookCall}
-use Rattle.serial_model.specs.declared.history.BookCall.TheVariants.{Admit, Run, Tick, Take}
-use Rattle.serial_model.specs.declared.history.BookCall.TheVariants.{Close}
+use Rattle.serial_model.specs.declared.history.BookCall.TheVariants.{Admit, Run, Tick, Take, Close}
 use Rattle.serial_model.specs.declared.history.BookReply.{BookReply}
 use Rattle.serial_model.specs.declared.history.BookReply.TheVariants.{Admitted, Ran, Ticked, Quiet}
 use Rattle.serial_model.specs.declared.history.BookReply.TheVariants.{Bytes, Refused}
 use Rattle.serial_model.specs.declared.history.BookRefusal.{BookRefusal}
 use Rattle.serial_model.specs.declared.history.BookRefusal.TheVariants.{Gone, HistoryFull, NoMemory}
-use Rattle.serial_model.specs.History.{is_admitted, expired, has_ended, is_full, latest}
-use Rattle.serial_model.specs.History.{unsent}
+use Rattle.serial_model.specs.History.{is_admitted, expired, has_ended, is_full, latest, unsent}
 use Rattle.serial_model.specs.Steps.{BookStep}
-use Rattle.shared_book.specs.Turns.{Place, TurnStep, limits_of, limits_in, Refuses}
-use Rattle.shared_book.specs.Turns.{Admits, Runs, Gives, Rests, Ticks, Closes}
+use Rattle.shared_book.specs.Turns.{Place, TurnStep, limits_of, limits_in, Refuses, Admits, Runs}
+use Rattle.shared_book.specs.Turns.{Gives, Rests, Ticks, Closes}
 use Rattle.shared_book.specs.Batches.{refusal_by}
 use Rattle.shared_book.specs.declared.turns.Refusal.{Refusal}
 use Rattle.shared_book.specs.declared.turns.Refusal.TheVariants as refusal
@@ -31,9 +28,7 @@ use Rattle.shared_book.proofs.Histories.{ended_or, live_of, ended_now, begins_li
 use Rattle.shared_book.proofs.Did.{Said, says, close_says, comes, named}
 
 nothing_waits : (n : ℕ) (xs : List ℕ) → 0 < n → take n xs ≡ [] → xs ≡ []
-nothing_waits n [] lt h = refl
-nothing_waits zero (x ∷ xs) lt h = absurd (omega arith)
-nothing_waits (suc n) (x ∷ xs) lt h = absurd (let no : ⊥ = cc in no)
+nothing_waits n xs lt h = grind arith
 
 pub entries_long : {E : Type 0} (h : List (ℕ × E)) → length (entries h) ≡ length h
 entries_long [] = refl
@@ -59,8 +54,7 @@ module _ {before after : Place} {call : BookCall} {reply : BookReply}
     -- what is shown where the turn was played, the seat shows after it
     seen_after : (P : Limits → List Entry → Type 0) → P (limits_of before) p.past
         → P (limits_of after) (past_of after)
-    seen_after P h = subst (λ l. P l (past_of after)) (sym (ap limits_in p.grows.setup))
-        (subst (P (limits_of before)) (sym (ends_by p None none)) h)
+    seen_after P h = grind (arith, ends_by)
 
     ends_same : past_of after ≡ p.past
     ends_same = ends_by p None none

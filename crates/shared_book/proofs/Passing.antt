@@ -1,6 +1,6 @@
 -- A call of a batch that is passed unplayed, behind one that added no entry.
-use Rattle.std.proofs.Common.{◌≡◌, ◌≤◌, ◌<◌, ◌+◌, ℕ, zero, suc, List, [], ◌∷◌, length, take}
-use Rattle.std.proofs.Common.{true, false, refl, sym, ap, subst, ◌∙◌, arith}
+use Rattle.std.proofs.Common.{◌≡◌, ◌≤◌, ◌<◌, ◌+◌, ℕ, zero, suc, List, [], ◌∷◌, length, take, true}
+use Rattle.std.proofs.Common.{false, refl, sym, ap, subst, ◌∙◌, arith}
 use Rattle.std.specs.Prelude.{if◌then◌else◌}
 use Rattle.std.proofs.lemmas.Bool.Decides.{nat_tests}
 use Rattle.serial_model.specs.declared.history.BookCall.TheVariants.{Run, Take}
@@ -8,8 +8,8 @@ use Rattle.serial_model.specs.declared.history.BookReply.TheVariants.{Quiet, Byt
 use Rattle.serial_model.specs.declared.history.Entry.TheVariants as entry
 use Rattle.serial_model.specs.declared.history.BookRefusal.TheVariants.{Gone, HistoryFull, NoMemory}
 use Rattle.serial_model.specs.History.{gives_on, is_full, runs_on, unsent}
-use Rattle.serial_model.specs.Steps.{Turn as Stepped, book_step, AddsEntry, full, gone, running}
-use Rattle.serial_model.specs.Steps.{taking, unless_full}
+use Rattle.serial_model.specs.Steps.{Turn as Stepped, book_step, AddsEntry, full, running, taking}
+use Rattle.serial_model.specs.Steps.{unless_full}
 use Rattle.shared_book.specs.Turns.{Shared}
 use Rattle.shared_book.specs.Batches.{PassesTake, RefusesRun}
 
@@ -18,33 +18,21 @@ use Rattle.shared_book.specs.Batches.{PassesTake, RefusesRun}
 module _ (s : Shared) (id : ℕ) where
   pub refuse_gone : runs_on s.limits s.past id ≡ false → RefusesRun s id (Gone id)
   unfolding book_step
-  refuse_gone off words now =
-      ap (λ b. if b then unless_full s.limits s.past (running s.past id words now)
-      else gone s.past id) off
+  refuse_gone off words now = grind (arith, nat_tests)
 
   on_step : (words : List (List ℕ)) (now : ℕ) → runs_on s.limits s.past id ≡ true
       → book_step s.limits s.past (Run id words now)
       ≡ unless_full s.limits s.past (running s.past id words now)
   unfolding book_step
-  on_step words now on =
-      ap (λ b. if b then unless_full s.limits s.past (running s.past id words now)
-      else gone s.past id) on
+  on_step words now on = grind (arith, nat_tests)
 
   pub refuse_full : (n : ℕ) → runs_on s.limits s.past id ≡ true → n ≡ length s.past
       → s.limits.history_max ≤ n → RefusesRun s id (HistoryFull n)
-  refuse_full n on is le words now =
-      let there : is_full s.limits s.past ≡ true = grind (arith, nat_tests, is, le) in
-      on_step words now on
-      ∙ ap (λ b. if b then full s.past else running s.past id words now) there
-      ∙ ap (λ k. record { reply = Refused (HistoryFull k); past = s.past }) (sym is)
+  refuse_full n on is le words now = grind (arith, on_step, nat_tests)
 
   pub refuse_memory : (n : ℕ) → runs_on s.limits s.past id ≡ true → n ≡ length s.past
       → n < s.limits.history_max → RefusesRun s id NoMemory
-  refuse_memory n on is lt words now =
-      let there : is_full s.limits s.past ≡ false = grind (arith, nat_tests, is, lt) in
-      let runs = on_step words now on
-      ∙ ap (λ b. if b then full s.past else running s.past id words now) there in
-      (refl, subst (λ (t : Stepped). AddsEntry t.reply) (sym runs) tt, tt)
+  refuse_memory n on is lt words now = grind (arith, on_step, nat_tests)
 
 pub ruleset refusing = (refuse_gone, refuse_full, refuse_memory)
 
@@ -57,35 +45,22 @@ take_some (suc n) [] lt some = absurd (omega arith)
 take_some (suc n) (x ∷ xs) lt some = (x, take n xs, refl)
 
 take_nothing : (n : ℕ) (xs : List ℕ) → length xs ≡ 0 → take n xs ≡ []
-take_nothing zero xs none = refl
-take_nothing (suc n) [] none = refl
-take_nothing (suc n) (x ∷ xs) none = absurd (omega arith)
+take_nothing n xs none = grind (arith, nat_tests)
 
 module _ (s : Shared) (id : ℕ) where
   pub pass_gone : gives_on s.limits s.past id ≡ false → PassesTake s id (Refused (Gone id))
   unfolding book_step
-  pass_gone off = (
-    refl,
-    λ most pos. ap (λ b. if b then taking s.limits s.past id most
-        (take most (unsent s.limits id s.past)) else gone s.past id) off,
-  )
+  pass_gone off = grind (arith, nat_tests)
 
   gives_step : (most : ℕ) → gives_on s.limits s.past id ≡ true
       → book_step s.limits s.past (Take id most)
       ≡ taking s.limits s.past id most (take most (unsent s.limits id s.past))
   unfolding book_step
-  gives_step most on =
-      ap (λ b. if b then taking s.limits s.past id most
-      (take most (unsent s.limits id s.past)) else gone s.past id) on
+  gives_step most on = grind (arith, nat_tests)
 
   pub pass_quiet : (n : ℕ) → gives_on s.limits s.past id ≡ true
       → n ≡ length (unsent s.limits id s.past) → n ≡ 0 → PassesTake s id Quiet
-  pass_quiet n on is none = (
-    refl,
-    λ most pos. gives_step most on
-        ∙ ap (taking s.limits s.past id most)
-        (take_nothing most (unsent s.limits id s.past) (sym is ∙ none)),
-  )
+  pass_quiet n on is none = grind (arith, gives_step, take_nothing, nat_tests)
 
   -- there is something to take
   some_step : (most : ℕ) → 0 < most → gives_on s.limits s.past id ≡ true

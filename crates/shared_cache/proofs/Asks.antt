@@ -1,7 +1,7 @@
 -- After an Ask the fields are what the log says.
-use Rattle.std.proofs.Common.{◌≡◌, ◌+◌, ◌++◌, ℕ, suc, List, [], ◌∷◌, length}
-use Rattle.std.proofs.Common.{Bool, true, false, cond, Option, Some, None, sym, ap, ◌∙◌}
-use Rattle.std.proofs.Common.{refl, arith, length-append, inl, inr}
+use Rattle.std.proofs.Common.{◌≡◌, ◌+◌, ◌++◌, ℕ, suc, List, [], ◌∷◌, length, Bool, true, false}
+use Rattle.std.proofs.Common.{cond, Option, Some, None, sym, ap, ◌∙◌, refl, arith, length-append}
+use Rattle.std.proofs.Common.{inl, inr}
 use Rattle.std.specs.Prelude.{is_some}
 use Rattle.std.proofs.lemmas.Bool.{or_cases, lt-ltb, cases_Bool}
 use Rattle.resp_value.specs.Spelling.{request_spelling}
@@ -10,18 +10,16 @@ use Rattle.fill_mark.specs.declared.marks.Mark.{Mark}
 use Rattle.fill_mark.specs.Marks.{with_mark}
 use Rattle.shared_cache.specs.declared.log.ClientMode.{ClientMode}
 use Rattle.shared_cache.specs.declared.log.LogEntry.{LogEntry}
-use Rattle.shared_cache.specs.declared.log.LogEntry.TheVariants.{Ask, Send, Poll, TakeOut, Got, End}
-use Rattle.shared_cache.specs.declared.log.LogEntry.TheVariants.{Bad}
+use Rattle.shared_cache.specs.declared.log.LogEntry.TheVariants.{Ask, Send, Poll, TakeOut, Got}
 use Rattle.shared_cache.specs.declared.entry.CacheEntry.{CacheEntry}
 use Rattle.shared_cache.specs.declared.entry.PendingReply.TheVariants.{Waiting}
 use Rattle.shared_cache.specs.declared.notices.Notice.{Notice}
 use Rattle.shared_cache.specs.Notices.{kind_of, named_keys, invalidates, invalidates_as}
-use Rattle.shared_cache.specs.Log.{first_number, is_ready, is_broken}
-use Rattle.shared_cache.specs.Log.{is_broken_notice, caching_on, caching_on_for}
+use Rattle.shared_cache.specs.Log.{first_number, is_ready, is_broken, is_broken_notice, caching_on}
+use Rattle.shared_cache.specs.Log.{caching_on_for}
 use Rattle.shared_cache.specs.Held.{Setup, Key, Words, Caller, put_read, numbered, numbers}
-use Rattle.shared_cache.specs.Held.{held_for}
-use Rattle.shared_cache.specs.Held.{used_at, unless, asked, sent, open_fetch}
-use Rattle.shared_cache.specs.Held.{last_use, held}
+use Rattle.shared_cache.specs.Held.{held_for, used_at, unless, asked, sent, open_fetch, last_use}
+use Rattle.shared_cache.specs.Held.{held}
 use Rattle.std.specs.Str.{bytes_eq}
 use Rattle.lru.specs.LruCache.{promoted}
 use Rattle.shared_cache.specs.HeldKeys.{with_pairs}
@@ -47,8 +45,7 @@ asked_none : (o : Option CacheEntry) (m : ClientMode) (on : Bool) (before : ℕ)
 asked_none o m on before q n old e f = grind arith
 
 unless_all : (t : Key → Bool) (o : Option Words) → ((k : Key) → t k ≡ true) → unless t o ≡ None
-unless_all t None all = refl
-unless_all t (Some q) all = ap (λ b. cond b None (Some q)) (all (key_of q))
+unless_all t o all = grind arith
 
 breaks_all : (n : Notice) (keys : List Key) (k : Key) → is_broken_notice n ≡ true
     → invalidates_as n keys k ≡ true
@@ -68,8 +65,7 @@ broken_none s (Got w v ∷ log) n e =
           (λ k. breaks_all (kind_of v) (named_keys v) k b)
       | inr b ↦ unless_none (invalidates s.mode w v) (open_fetch s log n) (broken_none s log n b)
     ]
-broken_none s (End w ∷ log) n e = refl
-broken_none s (Bad w v ∷ log) n e = refl
+broken_none s log n e = refl
 
 marks_all_none : (open_of : ℕ → Option Words) (replied n : ℕ) → ((m : ℕ) → open_of m ≡ None)
     → marks_by open_of replied n ≡ []
@@ -77,8 +73,7 @@ marks_all_none open_of replied n all = marks_same (λ m. None) open_of replied n
     ∙ marks_none replied n
 
 some_of : (o : Option CacheEntry) → is_some o ≡ true → (h : CacheEntry) × (o ≡ Some h)
-some_of None e = absurd (let f : false ≡ true = e in cc)
-some_of (Some h) e = (h, refl)
+some_of o e = grind arith
 
 -- ---- a hit
 

@@ -1,7 +1,7 @@
 -- How many keys are held, and which one leaves.
 use Rattle.std.proofs.Common.{◌≡◌, ◌+◌, ◌<◌, ◌≤◌, ◌++◌, ◌||◌, ℕ, List, [], ◌∷◌, length, Bool, true}
-use Rattle.std.proofs.Common.{false, cond}
-use Rattle.std.proofs.Common.{not, Option, Some, None, sym, ap, ◌∙◌, refl, subst, inl, inr, arith}
+use Rattle.std.proofs.Common.{false, cond, not, Option, Some, None, sym, ap, ◌∙◌, refl, subst, inl}
+use Rattle.std.proofs.Common.{inr, arith}
 use Rattle.std.specs.Prelude.{nat_lt}
 use Rattle.std.specs.List.{filter}
 use Rattle.std.specs.Str.{bytes_eq}
@@ -22,12 +22,11 @@ use Rattle.shared_cache.specs.Log.{replies}
 use Rattle.shared_cache.specs.Held.{Setup, Key, Words, held_for, has_key, keys_held, earlier}
 use Rattle.shared_cache.specs.Held.{earliest_from, earliest, key_held, leaving, open_fetch, left}
 use Rattle.shared_cache.specs.Held.{last_use, held}
-use Rattle.shared_cache.proofs.Filled.{is_gone}
+use Rattle.shared_cache.proofs.Filled.{is_gone, filled}
 use Rattle.shared_cache.specs.Laws.{Every, LegalLog, WithinCapacity, EarliestLeaves}
 use Rattle.shared_cache.proofs.KeyTests.{same_bytes, bytes_same}
 use Rattle.shared_cache.proofs.InPlace.{all_stay}
 use Rattle.shared_cache.proofs.HeldLists.{held_none}
-use Rattle.shared_cache.proofs.Filled.{filled}
 use Rattle.shared_cache.proofs.HeldSteps.{held_hit, held_miss, held_send, held_push, held_reply}
 use Rattle.shared_cache.proofs.LegalLogs.{newest, replies_within}
 
@@ -82,14 +81,12 @@ earliest_leaves s log q k e =
 pub has_kept : (t : Key → Bool) (k : Key) (hs : List CacheEntry) → t k ≡ false
     → has_key k (filter (λ h. not (t (key_of h.query))) hs) ≡ has_key k hs
 has_kept t k [] e = refl
-has_kept t k (h ∷ hs) e =
-    grind (arith, common_steps, has_kept t k hs e, bytes_same (key_of h.query) k)
+has_kept t k (h ∷ hs) e = grind (arith, bytes_same, has_kept t k hs e)
 
 pub kept_keys : (t : Key → Bool) (hs : List CacheEntry)
     → keys_held (filter (λ h. not (t (key_of h.query))) hs) ≤ keys_held hs
 kept_keys t [] = omega arith
-kept_keys t (h ∷ hs) =
-    grind (arith, common_steps, kept_keys t hs, has_kept t (key_of h.query) hs)
+kept_keys t (h ∷ hs) = grind (arith, has_kept, kept_keys t hs)
 
 pub but_none : (k : Key) (hs : List CacheEntry) → has_key k hs ≡ false
     → filter (λ h. not (bytes_eq (key_of h.query) k)) hs ≡ hs
@@ -157,8 +154,7 @@ module _ (capacity : ℕ) (use_of : Key → ℕ) (q : Words) (n : ℕ) (v : Valu
   one_goes None some le e = absurd (no_key hs some e)
     where
       no_key : (gs : List CacheEntry) → 0 < keys_held gs → key_held (earliest use_of gs) ≡ None → ⊥
-      no_key [] p f = omega arith
-      no_key (g ∷ gs) p f = cc
+      no_key gs p f = grind arith
   one_goes (Some k) some le e =
       let w = less_key k hs (least use_of hs k same_bytes e).0 in
       let a = add_key (filter (λ h. not (bytes_eq (key_of h.query) k)) hs) new in

@@ -1,8 +1,7 @@
 -- The laws of the commands of a legal log.
-use Rattle.std.proofs.Common.{◌≡◌, ◌+◌, ◌-◌, ◌<◌, ◌≤◌, ◌++◌, ℕ, List}
-use Rattle.std.proofs.Common.{[], ◌∷◌, length, drop, Bool, true, false, cond, Option, Some}
-use Rattle.std.proofs.Common.{None, Ok, Err, Result, sym, ap, ◌∙◌, refl, subst, inl, inr, arith}
-use Rattle.std.proofs.Common.{append-nil, append_assoc, length-append, ne_eqb}
+use Rattle.std.proofs.Common.{◌≡◌, ◌<◌, ◌≤◌, ◌++◌, ℕ, List, [], ◌∷◌, length, drop, Bool, true}
+use Rattle.std.proofs.Common.{false, cond, Option, Some, None, Result, sym, ap, ◌∙◌, refl, subst}
+use Rattle.std.proofs.Common.{inl, inr, arith, append-nil, append_assoc, length-append, ne_eqb}
 use Rattle.std.proofs.lemmas.Bool.{cases_Bool}
 use Rattle.std.proofs.lemmas.List.{drop-append-le, drop_all, map-append, length-map}
 use Rattle.std.proofs.lemmas.Option.{slice_get_within}
@@ -23,16 +22,13 @@ use Rattle.shared_cache.specs.declared.log.LogEntry.TheVariants.{Bad}
 use Rattle.shared_cache.specs.declared.entry.CacheEntry.{CacheEntry}
 use Rattle.shared_cache.specs.declared.notices.Notice.{Notice}
 use Rattle.shared_cache.specs.Notices.{invalidates}
-use Rattle.shared_cache.specs.Log.{handshake, reply_in, with_reply}
-use Rattle.shared_cache.specs.Log.{is_ready, is_accepted, caching_on_for}
+use Rattle.shared_cache.specs.Log.{handshake, reply_in, with_reply, is_ready, is_accepted}
+use Rattle.shared_cache.specs.Log.{caching_on_for}
 use Rattle.shared_cache.specs.Held.{Setup, Key, Words, SentCommand, Caller, put_ask, put_read}
-use Rattle.shared_cache.specs.Held.{put_command, held_for}
-use Rattle.shared_cache.specs.Held.{numbers, sent, open_fetch, held}
+use Rattle.shared_cache.specs.Held.{put_command, held_for, numbers, sent, open_fetch, held}
 use Rattle.shared_cache.specs.Held.{commands}
-use Rattle.shared_cache.specs.Laws.{Every, IsQuery, LegalLog}
-use Rattle.shared_cache.specs.Laws.{CommandsHaveWords}
-use Rattle.shared_cache.specs.Laws.{HandshakeFirst, NoControl}
-use Rattle.shared_cache.specs.Laws.{NoLaterWrite}
+use Rattle.shared_cache.specs.Laws.{Every, IsQuery, LegalLog, CommandsHaveWords, HandshakeFirst}
+use Rattle.shared_cache.specs.Laws.{NoControl, NoLaterWrite}
 use Rattle.shared_cache.proofs.Every.{every_append, every_weaker}
 use Rattle.shared_cache.proofs.LegalLogs.{newest}
 use Rattle.shared_cache.proofs.FetchLaws.{unless_some, asked_some, place_is_query}
@@ -40,8 +36,7 @@ use Rattle.shared_cache.proofs.FetchLaws.{unless_some, asked_some, place_is_quer
 -- ---- commands of a legal log
 
 read_as_cacheable : (b : Bool) (o p : Words) → cond b (Some o) None ≡ Some p → b ≡ true
-read_as_cacheable true o p e = refl
-read_as_cacheable false o p e = cc
+read_as_cacheable b o p e = grind arith
 
 is_cacheable_query : (p : Words) → IsQuery p → reads_as_cacheable (reading p) ≡ true
 is_cacheable_query p e = read_as_cacheable (reads_as_cacheable (reading p)) (with_upper_name p) p e
@@ -58,8 +53,7 @@ cacheable_reads c k e = grind arith
 
 reads_write_none : (r : Result Command WordFault) (k : Key) → reads_as_cacheable r ≡ true
     → names (written_as r) k ≡ false
-reads_write_none (Ok c) k e = (cacheable_reads c k e).0
-reads_write_none (Err fault) k e = cc
+reads_write_none r k e = grind (arith, cacheable_reads)
 
 query_writes_none : (p : Words) (k : Key) → IsQuery p → writes p k ≡ false
 unfolding written_by
@@ -67,8 +61,7 @@ query_writes_none p k e = reads_write_none (reading p) k (is_cacheable_query p e
 
 reads_are_plain : (r : Result Command WordFault) → reads_as_cacheable r ≡ true
     → reads_as_control r ≡ false
-reads_are_plain (Ok c) e = (cacheable_reads c [] e).1
-reads_are_plain (Err fault) e = cc
+reads_are_plain r e = grind (arith, cacheable_reads)
 
 query_is_plain : (p : Words) → IsQuery p → is_control p ≡ false
 unfolding is_control
@@ -76,8 +69,7 @@ query_is_plain p e = reads_are_plain (reading p) (is_cacheable_query p e)
 
 every_put : (P : SentCommand → Type 0) (o : Option CacheEntry) (m : ClientMode) (on : Bool)
     (q : Words) → P (record { words = q; origin = Caller }) → Every P (put_ask o m on q)
-every_put P (Some h) m on q p = tt
-every_put P None m on q p = (p, tt)
+every_put P o m on q p = grind arith
 
 -- what holds of each query and of the words of each Send holds of all that was sent
 every_sent : (P : Words → Type 0) (s : Setup) → ((q : Words) → IsQuery q → P q)
@@ -124,9 +116,8 @@ commands_have_words s Side log l = tt
 -- a client that is ready stays so
 more_accepted : (v : Value) (vs : List Value) → is_accepted (reply_in 2 vs) ≡ true
     → is_accepted (reply_in 2 (v ∷ vs)) ≡ true
-more_accepted v [] e = cc
-more_accepted v (u ∷ []) e = cc
 more_accepted v (u ∷ t ∷ vs) e = grind (arith, ne_eqb)
+more_accepted v vs e = cc
 
 with_accepted : (main : Bool) (k : Notice) (v : Value) (vs : List Value)
     → is_accepted (reply_in 2 vs) ≡ true → is_accepted (reply_in 2 (with_reply main k v vs)) ≡ true
@@ -150,11 +141,7 @@ nothing_sent s (End w ∷ log) l e = nothing_sent s log l.0 e
 nothing_sent s (Bad w v ∷ log) l e = nothing_sent s log l.0 e
 
 pub handshake_first : HandshakeFirst
-handshake_first s log l = (
-  (map (λ (c : SentCommand). c.words) (sent s log), refl),
-  λ e. ap (λ xs. handshake s.mode log ++ map (λ (c : SentCommand). c.words) xs)
-      (nothing_sent s log l e) ∙ append-nil (handshake s.mode log),
-)
+handshake_first s log l = grind (arith, nothing_sent, append-nil)
 
 -- ---- no later command writes the key of an open fetch
 
@@ -179,7 +166,6 @@ every_dropped P s log xs ys n le all p =
     (every_append P (drop n (commands_of s log xs)) (map words ys) all (every_words P ys p)))
 
 pub no_later_write : NoLaterWrite
-no_later_write s [] n q l f = cc
 no_later_write s (Ask p ∷ log) n q l f =
     elim (asked_some (held_for p (held s log)) s.mode (caching_on_for s.mode log (key_of p))
     (numbers s log) p n (open_fetch s log n) q f) [
@@ -218,5 +204,4 @@ no_later_write s (Poll m ∷ log) n q l f = no_later_write s log n q l.0 f
 no_later_write s (TakeOut w m ∷ log) n q l f = no_later_write s log n q l.0 f
 no_later_write s (Got w v ∷ log) n q l f =
     no_later_write s log n q l.0 (unless_some (invalidates s.mode w v) (open_fetch s log n) q f).0
-no_later_write s (End w ∷ log) n q l f = cc
-no_later_write s (Bad w v ∷ log) n q l f = cc
+no_later_write s e n q l f = cc

@@ -1,32 +1,23 @@
 -- The commands, the values got and the replies grow with the log.
-use Rattle.std.proofs.Common.{◌≡◌, ◌++◌, ◌⊎◌, List}
-use Rattle.std.proofs.Common.{[], ◌∷◌, true, false, cond}
-use Rattle.std.proofs.Common.{sym, ap, ◌∙◌, refl, inl, inr}
-use Rattle.std.proofs.Common.{append-nil, append_assoc}
+use Rattle.std.proofs.Common.{◌≡◌, ◌++◌, List, [], ◌∷◌, true, cond, sym, ap, ◌∙◌, refl, append-nil}
+use Rattle.std.proofs.Common.{append_assoc, arith}
 use Rattle.std.proofs.lemmas.List.{map-append, reverse-append}
 use Rattle.std.proofs.lemmas.List.Elements.{filter-append}
 use Rattle.std.specs.List.{filter}
 use Rattle.std.specs.Prelude.{map, reverse}
 use Rattle.resp_value.specs.declared.value.Value.{Value}
-use Rattle.command_words.specs.Queries.{key_of}
 use Rattle.shared_cache.specs.declared.log.Wire.{Wire}
 use Rattle.shared_cache.specs.declared.log.Wire.TheVariants.{Main, Side}
 use Rattle.shared_cache.specs.declared.log.LogEntry.{LogEntry}
 use Rattle.shared_cache.specs.declared.log.LogEntry.TheVariants.{Ask, Send, Poll, TakeOut, Got, End}
 use Rattle.shared_cache.specs.declared.log.LogEntry.TheVariants.{Bad}
 use Rattle.shared_cache.specs.declared.notices.Notice.{Notice}
-use Rattle.shared_cache.specs.declared.notices.Notice.TheVariants.{Reply, Keys, All, Broken, Other}
-use Rattle.shared_cache.specs.declared.notices.Notice.TheVariants.{Malformed}
+use Rattle.shared_cache.specs.declared.notices.Notice.TheVariants.{Reply}
 use Rattle.shared_cache.specs.Notices.{notice_of, is_reply}
-use Rattle.shared_cache.specs.Log.{handshake, replies, with_reply, is_wire}
-use Rattle.shared_cache.specs.Log.{caching_on_for}
-use Rattle.shared_cache.specs.Held.{Setup, Words, SentCommand, put_ask}
-use Rattle.shared_cache.specs.Held.{put_command, held_for}
-use Rattle.shared_cache.specs.Held.{sent, held}
+use Rattle.shared_cache.specs.Log.{handshake, replies, with_reply}
+use Rattle.shared_cache.specs.Held.{Setup, Words, SentCommand, put_command, sent}
 use Rattle.resp_value.specs.Lists.{IsPrefix}
-use Rattle.shared_cache.specs.Laws.{gots}
-use Rattle.shared_cache.specs.Laws.{CommandsGrow, GotsGrow}
-use Rattle.shared_cache.specs.Laws.{RepliesAreGots}
+use Rattle.shared_cache.specs.Laws.{gots, CommandsGrow, GotsGrow, RepliesAreGots}
 
 after : (front : List Words) (xs ys : List SentCommand) → IsPrefix xs ys
     → IsPrefix (front ++ map (λ c. c.words) xs) (front ++ map (λ c. c.words) ys)
@@ -39,14 +30,9 @@ after front xs ys p = (
 
 main_grows : (s : Setup) (e : LogEntry) (log : List LogEntry)
     → IsPrefix (sent s log) (sent s (e ∷ log))
-main_grows s (Ask q) log =
-    (put_ask (held_for q (held s log)) s.mode (caching_on_for s.mode log (key_of q)) q, refl)
+main_grows s (Ask q) log = grind arith
 main_grows s (Send ws) log = (put_command s.mode ws, refl)
-main_grows s (Poll n) log = ([], append-nil (sent s log))
-main_grows s (TakeOut w n) log = ([], append-nil (sent s log))
-main_grows s (Got w v) log = ([], append-nil (sent s log))
-main_grows s (End w) log = ([], append-nil (sent s log))
-main_grows s (Bad w v) log = ([], append-nil (sent s log))
+main_grows s e log = ([], append-nil (sent s log))
 
 pub commands_grow : CommandsGrow
 commands_grow s Main e log =
@@ -54,39 +40,20 @@ commands_grow s Main e log =
 commands_grow s Side e log = ([], refl)
 
 pub gots_grow : GotsGrow
-gots_grow w (Ask q) log = inl refl
-gots_grow w (Send ws) log = inl refl
-gots_grow w (Poll n) log = inl refl
-gots_grow w (TakeOut u n) log = inl refl
-gots_grow w (Got u v) log =
-    elim (is_wire u w) as
-    (λ b. (cond b (gots w log ++ v ∷ []) (gots w log) ≡ gots w log)
-    ⊎ ((x : Value) × (cond b (gots w log ++ v ∷ []) (gots w log) ≡ gots w log ++ x ∷ []))) [
-      | true ↦ inr (v, refl)
-      | false ↦ inl refl
-    ]
-gots_grow w (End u) log = inl refl
-gots_grow w (Bad u v) log = inl refl
+gots_grow w e log = grind arith
 
 -- ---- the replies are the values got that are no push
 
 reply_added : (k : Notice) (v : Value) (vs : List Value)
     → reverse (with_reply true k v vs) ≡ reverse vs ++ cond (is_reply k) (v ∷ []) []
 reply_added Reply v vs = reverse-append (v ∷ []) vs
-reply_added Keys v vs = sym (append-nil (reverse vs))
-reply_added All v vs = sym (append-nil (reverse vs))
-reply_added Broken v vs = sym (append-nil (reverse vs))
-reply_added Other v vs = sym (append-nil (reverse vs))
-reply_added Malformed v vs = sym (append-nil (reverse vs))
+reply_added k v vs = sym (append-nil (reverse vs))
 
 got_here : (s : Setup) (w : Wire) (v : Value) (vs gs : List Value)
     → reverse vs ≡ filter (λ u. is_reply (notice_of s.mode w u)) gs
     → reverse (with_reply true (notice_of s.mode w v) v vs) ≡ filter
     (λ u. is_reply (notice_of s.mode w u)) (gs ++ v ∷ [])
-got_here s w v vs gs e =
-    reply_added (notice_of s.mode w v) v vs
-    ∙ ap (λ l. l ++ cond (is_reply (notice_of s.mode w v)) (v ∷ []) []) e
-    ∙ sym (filter-append (λ u. is_reply (notice_of s.mode w u)) gs (v ∷ []))
+got_here s w v vs gs e = grind (arith, reply_added, filter-append)
 
 pub replies_are_gots : RepliesAreGots
 replies_are_gots s w [] = refl

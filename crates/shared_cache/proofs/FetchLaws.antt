@@ -1,8 +1,7 @@
 -- The laws of open fetches and of what is held, by induction along the log.
 use Rattle.std.proofs.Common.{◌≡◌, ◌+◌, ◌-◌, ◌<◌, ◌≤◌, ◌++◌, zero, suc, ◌&&◌, ◌||◌, ◌⊎◌, ℕ, List}
-use Rattle.std.proofs.Common.{[], ◌∷◌, length, Bool, true, false, not, Option, Some}
-use Rattle.std.proofs.Common.{None, sym, ap, ◌∙◌, refl, subst, inl, inr, arith}
-use Rattle.std.proofs.Common.{ne_eqb}
+use Rattle.std.proofs.Common.{[], ◌∷◌, length, Bool, true, false, not, Option, Some, None, sym, ap}
+use Rattle.std.proofs.Common.{◌∙◌, refl, subst, inl, inr, arith, ne_eqb}
 use Rattle.std.proofs.lemmas.Bool.{and_parts, or_parts, not-true}
 use Rattle.std.specs.List.{slice_get}
 use Rattle.std.specs.Prelude.{map}
@@ -12,22 +11,17 @@ use Rattle.shared_cache.specs.declared.log.Wire.{Wire}
 use Rattle.shared_cache.specs.declared.log.Wire.TheVariants.{Main, Side}
 use Rattle.shared_cache.specs.declared.log.ClientMode.{ClientMode}
 use Rattle.shared_cache.specs.declared.log.LogEntry.{LogEntry}
-use Rattle.shared_cache.specs.declared.log.LogEntry.TheVariants.{Ask, Send, Poll, TakeOut, Got, End}
-use Rattle.shared_cache.specs.declared.log.LogEntry.TheVariants.{Bad}
+use Rattle.shared_cache.specs.declared.log.LogEntry.TheVariants.{Ask, Send, Poll, TakeOut, Got}
 use Rattle.shared_cache.specs.declared.entry.CacheEntry.{CacheEntry}
 use Rattle.shared_cache.specs.Notices.{invalidates}
-use Rattle.shared_cache.specs.Log.{handshake, reply_in, is_ended}
-use Rattle.shared_cache.specs.Log.{is_ready, is_broken, caching_on_for}
+use Rattle.shared_cache.specs.Log.{handshake, reply_in, is_ended, is_ready, is_broken}
+use Rattle.shared_cache.specs.Log.{caching_on_for}
 use Rattle.shared_cache.specs.Held.{Setup, Key, Words, SentCommand, Caller, put_ask, put_read}
-use Rattle.shared_cache.specs.Held.{held_for, unless, asked, hold}
-use Rattle.shared_cache.specs.Held.{held_by, ends, numbers, sent, open_fetch, held}
-use Rattle.shared_cache.specs.Held.{commands}
+use Rattle.shared_cache.specs.Held.{held_for, unless, asked, hold, held_by, ends, numbers, sent}
+use Rattle.shared_cache.specs.Held.{open_fetch, held, commands}
 use Rattle.resp_value.specs.Lists.{IsPrefix}
-use Rattle.shared_cache.specs.Laws.{Every, WasSent}
-use Rattle.shared_cache.specs.Laws.{IsFetch}
-use Rattle.shared_cache.specs.Laws.{OpenWasSent}
-use Rattle.shared_cache.specs.Laws.{PlaceIsQuery, SentReady, OpenWires, HeldIsFetch}
-use Rattle.shared_cache.specs.Laws.{EndedHoldsNothing}
+use Rattle.shared_cache.specs.Laws.{Every, WasSent, IsFetch, OpenWasSent, PlaceIsQuery, SentReady}
+use Rattle.shared_cache.specs.Laws.{OpenWires, HeldIsFetch, EndedHoldsNothing}
 use Rattle.shared_cache.proofs.Every.{every_append, every_weaker}
 use Rattle.shared_cache.proofs.CommandLists.{commands_grow}
 
@@ -62,7 +56,6 @@ one_later s log n q e spares w = record {
 }
 
 pub open_was_sent : OpenWasSent
-open_was_sent s [] n q f = cc
 open_was_sent s (Ask p ∷ log) n q f =
     elim (asked_some (held_for p (held s log)) s.mode (caching_on_for s.mode log (key_of p))
     (numbers s log) p n (open_fetch s log n) q f) [
@@ -85,14 +78,12 @@ open_was_sent s (TakeOut w m ∷ log) n q f =
 open_was_sent s (Got w v ∷ log) n q f = let u =
     unless_some (invalidates s.mode w v) (open_fetch s log n) q f in
     one_later s log n q (Got w v) u.1 (open_was_sent s log n q u.0)
-open_was_sent s (End w ∷ log) n q f = cc
-open_was_sent s (Bad w v ∷ log) n q f = cc
+open_was_sent s e n q f = cc
 
 pub sent_ready : SentReady
 sent_ready s log n q f w = grind arith
 
 pub open_wires : OpenWires
-open_wires s [] n q f = cc
 open_wires s (Ask p ∷ log) n q f =
     elim (asked_some (held_for p (held s log)) s.mode (caching_on_for s.mode log (key_of p))
     (numbers s log) p n (open_fetch s log n) q f) [
@@ -112,8 +103,7 @@ open_wires s (Poll m ∷ log) n q f = open_wires s log n q f
 open_wires s (TakeOut w m ∷ log) n q f = open_wires s log n q f
 open_wires s (Got w v ∷ log) n q f =
     open_wires s log n q (unless_some (invalidates s.mode w v) (open_fetch s log n) q f).0
-open_wires s (End w ∷ log) n q f = cc
-open_wires s (Bad w v ∷ log) n q f = cc
+open_wires s e n q f = cc
 
 -- ---- the command of an open fetch
 
@@ -126,10 +116,9 @@ at_end n (f ∷ front) xs ys c e = grind (arith, at_end (length front + length x
 
 get_grows : (xs ys : List Words) (i : ℕ) (x : Words) → IsPrefix xs ys → slice_get xs i ≡ Some x
     → slice_get ys i ≡ Some x
-get_grows [] ys i x p e = cc
-get_grows (w ∷ xs) ys zero x p e = ap (λ l. slice_get l 0) (sym p.1) ∙ e
-get_grows (w ∷ xs) ys (suc i) x p e = ap (λ l. slice_get l (suc i)) (sym p.1)
-    ∙ get_grows xs (xs ++ p.0) i x (p.0, refl) e
+get_grows [] ys i h p e = cc
+get_grows (w ∷ xs) ys zero h p e = ap (λ l. slice_get l 0) (sym p.1) ∙ e
+get_grows (w ∷ xs) ys (suc i) x p e = grind (arith, get_grows xs (xs ++ p.0) i x (p.0, refl) e)
 
 place_later : (s : Setup) (e : LogEntry) (log : List LogEntry) (n : ℕ) (q : Words)
     → (0 < n) × (slice_get (commands s Main log) (n - 1) ≡ Some q) → (0 < n)
@@ -141,7 +130,6 @@ place_later s e log n q p = (
 )
 
 pub place_is_query : PlaceIsQuery
-place_is_query s [] n q f = cc
 place_is_query s (Ask p ∷ log) n q f =
     elim (asked_some (held_for p (held s log)) s.mode (caching_on_for s.mode log (key_of p))
     (numbers s log) p n (open_fetch s log n) q f) [
@@ -167,8 +155,7 @@ place_is_query s (TakeOut w m ∷ log) n q f =
 place_is_query s (Got w v ∷ log) n q f =
     place_later s (Got w v) log n q
     (place_is_query s log n q (unless_some (invalidates s.mode w v) (open_fetch s log n) q f).0)
-place_is_query s (End w ∷ log) n q f = cc
-place_is_query s (Bad w v ∷ log) n q f = cc
+place_is_query s e n q f = cc
 
 -- ---- what is held
 
@@ -194,8 +181,7 @@ held_is_fetch s log = grind (arith, every_weaker, held_every)
 
 not_open : (s : Setup) (w : Wire) (log : List LogEntry) (n : ℕ) (q : Words)
     → open_fetch s log n ≡ Some q → is_ended s.mode w log ≡ true → ⊥
-not_open s Main log n q f e = let no : true ≡ false = sym e ∙ (open_wires s log n q f).0 in cc
-not_open s Side log n q f e = let no : true ≡ false = sym e ∙ (open_wires s log n q f).1 in cc
+not_open s w log n q f e = grind (arith, open_wires)
 
 none_fetched : (s : Setup) (w : Wire) (log : List LogEntry) (hs : List CacheEntry)
     → Every (IsFetch s log) hs → is_ended s.mode w log ≡ true → hs ≡ []

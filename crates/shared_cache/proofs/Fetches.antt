@@ -1,7 +1,6 @@
 -- What holds of the fetches of any log.
-use Rattle.std.proofs.Common.{◌≡◌, ◌+◌, ◌<◌, ◌≤◌, ◌++◌, ℕ, List, [], ◌∷◌, length, append-nil, Bool}
-use Rattle.std.proofs.Common.{false, Option, None, ap, refl, arith, ne_eqb}
-use Rattle.std.proofs.Common.{length-append}
+use Rattle.std.proofs.Common.{◌≡◌, ◌<◌, ◌≤◌, ◌++◌, ℕ, List, [], ◌∷◌, length, append-nil, Bool}
+use Rattle.std.proofs.Common.{false, Option, None, ap, refl, arith, ne_eqb, length-append}
 use Rattle.std.proofs.lemmas.Bool.{lt-leb, or_from, and_left}
 use Rattle.resp_value.specs.declared.value.Value.{Value}
 use Rattle.command_words.specs.Queries.{writes}
@@ -14,8 +13,8 @@ use Rattle.shared_cache.specs.declared.notices.Notice.{Notice}
 use Rattle.shared_cache.specs.Notices.{notice_of, invalidates}
 use Rattle.shared_cache.specs.Log.{is_wire, replies, with_reply}
 use Rattle.shared_cache.specs.Held.{Setup, Key, Words, SentCommand, numbered, numbers, held_for}
-use Rattle.shared_cache.specs.Held.{held, unless, asked, put_ask}
-use Rattle.shared_cache.specs.Held.{put_command, sent, open_fetch, left}
+use Rattle.shared_cache.specs.Held.{held, unless, asked, put_ask, put_command, sent, open_fetch}
+use Rattle.shared_cache.specs.Held.{left}
 
 pub unless_none : (t : Key → Bool) (o : Option Words) → o ≡ None → unless t o ≡ None
 unless_none t o e = ap (unless t) e
@@ -29,7 +28,6 @@ beyond_asked h on q before s n old lt rest = grind (arith, append-nil, ne_eqb, l
 
 pub beyond : (s : Setup) (log : List LogEntry) (n : ℕ) → numbers s log < n
     → open_fetch s log n ≡ None
-beyond s [] n lt = refl
 beyond s (Ask q ∷ log) n lt =
     beyond_asked (held_for q (held s log)) _ q (sent s log) s n (open_fetch s log n) lt
     (beyond s log n)
@@ -40,8 +38,7 @@ beyond s (Poll m ∷ log) n lt = beyond s log n lt
 beyond s (TakeOut w m ∷ log) n lt = beyond s log n lt
 beyond s (Got w v ∷ log) n lt =
     unless_none (invalidates s.mode w v) (open_fetch s log n) (beyond s log n lt)
-beyond s (End w ∷ log) n lt = refl
-beyond s (Bad w v ∷ log) n lt = refl
+beyond s log n lt = refl
 
 -- replies are added, and none is taken away
 more_replies : (main : Bool) (k : Notice) (v : Value) (vs : List Value)

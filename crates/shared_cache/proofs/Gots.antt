@@ -1,7 +1,6 @@
 -- After a value was read the fields are what the log says.
-use Rattle.std.proofs.Common.{◌≡◌, ◌+◌, ◌-◌, ◌<◌, ◌||◌, ℕ, suc, List, [], ◌∷◌}
-use Rattle.std.proofs.Common.{length, get_or, true, false, cond, not, Option}
-use Rattle.std.proofs.Common.{sym, ap, ◌∙◌, refl, subst, arith, ne_eqb}
+use Rattle.std.proofs.Common.{◌≡◌, ◌+◌, ◌<◌, ◌||◌, ℕ, suc, List, ◌∷◌, length, get_or, true, false}
+use Rattle.std.proofs.Common.{cond, not, Option, sym, ap, ◌∙◌, refl, subst, arith, ne_eqb}
 use Rattle.std.proofs.Common.{length-set}
 use Rattle.std.specs.Prelude.{nat_le}
 use Rattle.std.specs.List.{filter}
@@ -21,8 +20,7 @@ use Rattle.shared_cache.specs.declared.notices.Notice.{Notice}
 use Rattle.shared_cache.specs.declared.notices.Notice.TheVariants.{Reply}
 use Rattle.shared_cache.specs.Notices.{kind_of, named_keys, invalidates, invalidates_as, is_reply}
 use Rattle.shared_cache.specs.Notices.{IsPush}
-use Rattle.shared_cache.specs.Log.{replies, reply_in, is_accepted}
-use Rattle.shared_cache.specs.Log.{is_broken, is_broken_notice}
+use Rattle.shared_cache.specs.Log.{replies, reply_in, is_accepted, is_broken, is_broken_notice}
 use Rattle.shared_cache.specs.Held.{Setup, Key, Words, numbers, used_at, open_fetch, last_use, held}
 use Rattle.shared_cache.specs.Out.{is_polled}
 use Rattle.shared_cache.specs.Steps.{is_welcome}
@@ -114,19 +112,18 @@ module _ (s : Setup) (log : List LogEntry) (f : Fields) (k : Reflects s log f) w
       → f.replied < length f.pending + 2 → i < length (settled s.mode number v f.pending)
       → get_or (settled s.mode number v f.pending) i Gone ≡ pending_at s.mode (Got Main v ∷ log)
       (i + 3)
-  pending_settled v number i e is within lt =
-      grind (
-        arith,
-        cases_lt,
-        lt-ltb,
-        length-set,
-        cases_eq,
-        get_or-set_same,
-        pending_next,
-        get_or-set_other,
-        pending_other,
-        le-ltb,
-      )
+  pending_settled v number i e is within lt = grind (
+    arith,
+    cases_lt,
+    lt-ltb,
+    length-set,
+    cases_eq,
+    get_or-set_same,
+    pending_next,
+    get_or-set_other,
+    pending_other,
+    le-ltb,
+  )
 
   length_settled : (v : Value) (number : ℕ)
       → length (settled s.mode number v f.pending) ≡ length f.pending

@@ -1,6 +1,6 @@
 -- How what is held changes with its fetches.
-use Rattle.std.proofs.Common.{◌≡◌, ◌+◌, ◌≤◌, ◌++◌, ℕ, List, [], ◌∷◌, length, Bool}
-use Rattle.std.proofs.Common.{not, Option, Some, None, ◌∙◌, refl, arith, append-nil}
+use Rattle.std.proofs.Common.{◌≡◌, ◌≤◌, ℕ, List, [], ◌∷◌, length, Bool, not, Option, None, ◌∙◌}
+use Rattle.std.proofs.Common.{refl, arith, append-nil}
 use Rattle.std.specs.List.{filter}
 use Rattle.std.proofs.lemmas.List.Elements.{filter-append}
 use Rattle.std.proofs.lemmas.Grind.{common_steps}
@@ -16,12 +16,11 @@ pub held_filter : (open_of open_new : ℕ → Option Words) (left_of left_new : 
     → hold (open_new n) (left_new n) v n ≡ filter p (hold (open_of n) (left_of n) v n))
     → held_by open_new left_new vs ≡ filter p (held_by open_of left_of vs)
 held_filter open_of open_new left_of left_new p [] each = refl
-held_filter open_of open_new left_of left_new p (v ∷ vs) each =
-    grind (
-      arith,
-      filter-append,
-      held_filter open_of open_new left_of left_new p vs (λ n u le. each n u (omega arith)),
-    )
+held_filter open_of open_new left_of left_new p (v ∷ vs) each = grind (
+  arith,
+  filter-append,
+  held_filter open_of open_new left_of left_new p vs (λ n u le. each n u (omega arith)),
+)
 
 -- nothing changes
 pub held_same : (open_of open_new : ℕ → Option Words) (left_of left_new : ℕ → Bool)
@@ -31,8 +30,7 @@ pub held_same : (open_of open_new : ℕ → Option Words) (left_of left_new : �
     → held_by open_new left_new vs ≡ held_by open_of left_of vs
 held_same open_of open_new left_of left_new [] each = refl
 held_same open_of open_new left_of left_new (v ∷ vs) each =
-    λ i. held_same open_of open_new left_of left_new vs (λ n u le. each n u (omega arith)) i ++ each
-    (length vs + 1) v (omega arith) i
+    grind (arith, held_same open_of open_new left_of left_new vs (λ n u le. each n u (omega arith)))
 
 -- nothing is left
 pub held_none : (left_of : ℕ → Bool) (vs : List Value) → held_by (λ n. None) left_of vs ≡ []
@@ -42,14 +40,12 @@ held_none left_of (v ∷ vs) = append-nil (held_by (λ n. None) left_of vs) ∙ 
 -- what is invalidated by key goes
 pub hold_unless : (t : Key → Bool) (o : Option Words) (gone : Bool) (v : Value) (n : ℕ)
     → hold (unless t o) gone v n ≡ filter (λ h. not (t (key_of h.query))) (hold o gone v n)
-hold_unless t None gone v n = refl
-hold_unless t (Some q) gone v n = grind (arith, common_steps)
+hold_unless t o gone v n = grind arith
 
 -- of another query nothing goes
 pub hold_other : (q : Words) (o : Option Words) (gone : Bool) (v : Value) (n : ℕ)
     → hold (other_than q o) gone v n ≡ filter (λ h. not (same_query h.query q)) (hold o gone v n)
-hold_other q None gone v n = refl
-hold_other q (Some p) gone v n = grind (arith, common_steps)
+hold_other q o gone v n = grind arith
 
 -- what is not held does not go
 pub none_held : (q : Words) (hs : List CacheEntry) → held_for q hs ≡ None

@@ -1,12 +1,9 @@
 -- What each entry of the log does to what is held, to the fetches and to the replies.
-use Rattle.std.proofs.Common.{◌≡◌, ◌+◌, ◌≤◌, ◌++◌, ◌&&◌, ◌||◌, ℕ, suc, List, ◌∷◌, length}
-use Rattle.std.proofs.Common.{Bool, true, false, not, Option, Some, None, ap, ◌∙◌, refl}
-use Rattle.std.proofs.Common.{arith}
-use Rattle.std.proofs.Common.{append-nil}
+use Rattle.std.proofs.Common.{◌≡◌, ◌+◌, ◌≤◌, ◌++◌, ◌&&◌, ◌||◌, ℕ, suc, List, ◌∷◌, length, Bool}
+use Rattle.std.proofs.Common.{true, false, not, Option, Some, None, ap, ◌∙◌, arith, append-nil}
 use Rattle.std.specs.Prelude.{nat_le}
 use Rattle.std.specs.List.{filter}
 use Rattle.std.proofs.lemmas.Bool.{lt-leb}
-use Rattle.std.proofs.lemmas.Grind.{common_steps}
 use Rattle.resp_value.specs.declared.value.Value.{Value}
 use Rattle.command_words.specs.Queries.{key_of, same_query, writes}
 use Rattle.shared_cache.specs.declared.log.Wire.{Wire}
@@ -18,24 +15,20 @@ use Rattle.shared_cache.specs.declared.notices.Notice.{Notice}
 use Rattle.shared_cache.specs.declared.notices.Notice.TheVariants.{Reply}
 use Rattle.shared_cache.specs.Notices.{kind_of, invalidates, is_reply}
 use Rattle.shared_cache.specs.Log.{replies, with_reply, caching_on, caching_on_for}
-use Rattle.shared_cache.specs.Held.{Setup, Key, Words, put_ask, put_read, numbers}
-use Rattle.shared_cache.specs.Held.{held_for, hit_of, used_at, unless, other_than, fetched}
-use Rattle.shared_cache.specs.Held.{hold}
-use Rattle.shared_cache.specs.Held.{held_by, filled_by, leaving, is_key, sent, open_fetch, left}
-use Rattle.shared_cache.specs.Held.{last_use, held}
-use Rattle.shared_cache.proofs.Filled.{is_gone}
+use Rattle.shared_cache.specs.Held.{Setup, Key, Words, put_ask, put_read, numbers, held_for, hit_of}
+use Rattle.shared_cache.specs.Held.{used_at, unless, other_than, fetched, hold, held_by, filled_by}
+use Rattle.shared_cache.specs.Held.{leaving, is_key, sent, open_fetch, left, last_use, held}
+use Rattle.shared_cache.proofs.Filled.{is_gone, filled}
 use Rattle.shared_cache.proofs.Fetches.{stays}
 use Rattle.shared_cache.proofs.HeldLists.{held_filter, held_same, hold_unless, hold_other}
 use Rattle.shared_cache.proofs.HeldLists.{none_held}
-use Rattle.shared_cache.proofs.Filled.{filled}
 
 -- ---- an Ask that is a hit
 
 module _ (s : Setup) (log : List LogEntry) (q : Words) (h : CacheEntry)
     (e : held_for q (held s log) ≡ Some h) where
   pub sent_hit : sent s (Ask q ∷ log) ≡ sent s log
-  sent_hit = ap (λ o. sent s log ++ put_ask o s.mode (caching_on_for s.mode log (key_of q)) q) e
-      ∙ append-nil (sent s log)
+  sent_hit = grind (arith, append-nil)
 
   pub open_hit : (n : ℕ) → open_fetch s (Ask q ∷ log) n ≡ open_fetch s log n
   open_hit n = grind arith
@@ -119,8 +112,7 @@ module _ (s : Setup) (log : List LogEntry) (v : Value) (p : is_reply (kind_of v)
 
   pub push_fills_none : filled_by Main (kind_of v)
       (open_fetch s log (length (replies s.mode Main log) + 1)) ≡ None
-  push_fills_none =
-      fills_none (kind_of v) (open_fetch s log (length (replies s.mode Main log) + 1)) p
+  push_fills_none = grind (arith, fills_none)
 
   pub held_push : held s (Got Main v ∷ log) ≡ filter
       (λ h. not (invalidates s.mode Main v (key_of h.query))) (held s log)
@@ -135,9 +127,7 @@ module _ (s : Setup) (log : List LogEntry) (v : Value) (p : is_reply (kind_of v)
 hold_leaves : (l : Option Key) (o : Option Words) (gone : Bool) (u : Value) (n : ℕ)
     → hold o (gone || is_key l o) u n ≡ filter (λ h. not (is_gone l (key_of h.query)))
     (hold o gone u n)
-hold_leaves l None gone u n = refl
-hold_leaves None (Some p) gone u n = grind (arith, common_steps)
-hold_leaves (Some j) (Some p) gone u n = grind (arith, common_steps)
+hold_leaves l o gone u n = grind arith
 
 module _ (s : Setup) (log : List LogEntry) (v : Value) (e : kind_of v ≡ Reply) where
   pub replies_reply : replies s.mode Main (Got Main v ∷ log) ≡ v ∷ replies s.mode Main log
@@ -185,8 +175,7 @@ module _ (s : Setup) (log : List LogEntry) (v : Value) (e : kind_of v ≡ Reply)
   pub held_reply : (o : Option Words) → open_fetch s log (length (replies s.mode Main log) + 1) ≡ o
       → held s (Got Main v ∷ log) ≡ filled s.capacity (last_use s log) o
       (length (replies s.mode Main log) + 1) v (held s log)
-  held_reply None f = held_unfilled f
-  held_reply (Some q) f = held_filled q f
+  held_reply o f = grind (arith, held_unfilled, held_filled)
 
   pub use_reply : (o : Option Words) → open_fetch s log (length (replies s.mode Main log) + 1) ≡ o
       → (k : Key) → last_use s (Got Main v ∷ log) k ≡ used_at o k (length log + 1)

@@ -1,11 +1,10 @@
 -- Filters, for the code of the cache.
 use Rattle.std.proofs.Common.{◌≡◌, ◌+◌, ◌<◌, ◌++◌, ◌&&◌, ◌||◌, ℕ, List, [], ◌∷◌, length, take}
-use Rattle.std.proofs.Common.{get_or, Bool, true, false, cond, not, sym, ap, ◌∙◌, refl}
+use Rattle.std.proofs.Common.{get_or, Bool, true, false, not, sym, ap, ◌∙◌, refl, arith}
 use Rattle.std.specs.List.{filter, list_any}
 use Rattle.std.specs.Str.{bytes_eq}
 use Rattle.std.proofs.lemmas.List.{take_more}
 use Rattle.std.proofs.lemmas.List.Folds.{list_any-append}
-use Rattle.std.proofs.Common.{arith}
 use Rattle.std.proofs.lemmas.Grind.{common_steps}
 
 pub all_stay : {X : Type 0} → (xs : List X) → filter (λ x. true) xs ≡ xs
@@ -19,8 +18,7 @@ none_stay (x ∷ xs) = none_stay xs
 pub filter_same_test : {X : Type 0} → (p q : X → Bool) (xs : List X) → ((x : X) → p x ≡ q x)
     → filter p xs ≡ filter q xs
 filter_same_test p q [] e = refl
-filter_same_test p q (x ∷ xs) e =
-    λ i. cond (e x i) (x ∷ filter_same_test p q xs e i) (filter_same_test p q xs e i)
+filter_same_test p q (x ∷ xs) e = grind (arith, filter_same_test p q xs e)
 
 -- two filters are one
 pub filter_twice : {X : Type 0} → (p q : X → Bool) (xs : List X)

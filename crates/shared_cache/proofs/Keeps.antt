@@ -1,6 +1,6 @@
 -- The keys stay those of what is held.
-use Rattle.std.proofs.Common.{◌≡◌, ◌<◌, ◌||◌, ◌&&◌, ℕ, List, [], ◌∷◌, Bool, true}
-use Rattle.std.proofs.Common.{false, not, Option, Some, None, sym, refl, subst, arith}
+use Rattle.std.proofs.Common.{◌≡◌, ◌<◌, ◌||◌, ◌&&◌, ℕ, List, [], ◌∷◌, Bool, not, Option, Some, None}
+use Rattle.std.proofs.Common.{sym, refl, subst, arith}
 use Rattle.std.specs.List.{filter, list_any}
 use Rattle.std.specs.Map.{remove_entry}
 use Rattle.std.specs.Str.{bytes_eq}
@@ -40,8 +40,7 @@ keeps_same most use_of use_new hs new k same e i = grind arith
 -- ---- keys go
 
 not_both : (a b : Bool) → (not a && not b) ≡ not (a || b)
-not_both true b = refl
-not_both false b = refl
+not_both a b = grind arith
 
 pairs_forget : (ks : List Key) (pairs : Pairs) (hs : List CacheEntry) → ArePairsOf pairs hs
     → ArePairsOf (forget ks pairs)

@@ -1,12 +1,10 @@
 -- What the calls of the map of keys do, as the definitions of the cache by key say it.
-use Rattle.std.proofs.Common.{◌≡◌, ◌-◌, ℕ, List, [], ◌∷◌, map, take, true, false, cond}
-use Rattle.std.proofs.Common.{Vec}
-use Rattle.std.proofs.Common.{Global, Option, Some, None, option_map, sym, ap, ◌∙◌, refl}
+use Rattle.std.proofs.Common.{◌≡◌, ◌-◌, ℕ, List, [], ◌∷◌, map, take, true, false, cond, Vec, Global}
+use Rattle.std.proofs.Common.{Option, Some, None, option_map, ap, ◌∙◌, refl, arith}
 use Rattle.std.specs.Prelude.{is_some}
 use Rattle.std.specs.Map.{lookup, lookup_entry, remove_entry}
 use Rattle.std.specs.Option.{option_map_or}
 use Rattle.std.specs.Str.{bytes_eq}
-use Rattle.std.proofs.Common.{arith}
 use Rattle.std.proofs.lemmas.Grind.{common_steps}
 use Rattle.command_words.specs.Queries.{key_of}
 use Rattle.shared_cache.specs.declared.entry.CacheEntry.{CacheEntry}
@@ -21,8 +19,7 @@ Kept = List (Vec ℕ Global × List CacheEntry)
 pair_or : (q : Words) (o : Option (Key × List CacheEntry))
     → option_map_or (held_for q) (option_map (λ p. p.1) o) None ≡ option_map_or
     (λ p. held_for q p.1) o None
-pair_or q None = refl
-pair_or q (Some p) = refl
+pair_or q o = grind arith
 
 pub found_plain : (q : Words) (k : Key) (es : Kept) (o : Option (List CacheEntry))
     → k ≡ key_of q → o ≡ lookup (λ y. bytes_eq k y.items) es
@@ -35,8 +32,7 @@ found_plain q k es o e f =
 
 pair_list : (o : Option (Key × List CacheEntry))
     → option_map_or (λ l. l) (option_map (λ p. p.1) o) [] ≡ option_map_or (λ p. p.1) o []
-pair_list None = refl
-pair_list (Some p) = refl
+pair_list o = grind arith
 
 pub entries_plain : (k : Key) (es : Kept) (o : Option (List CacheEntry))
     → o ≡ lookup (λ y. bytes_eq k y.items) es
@@ -46,8 +42,7 @@ entries_plain k es o f =
     ∙ pair_list (lookup_entry (bytes_eq k) (map plain es))
 
 some_pair : (o : Option (Key × List CacheEntry)) → is_some (option_map (λ p. p.1) o) ≡ is_some o
-some_pair None = refl
-some_pair (Some p) = refl
+some_pair o = grind arith
 
 pub some_plain : (k : Key) (es : Kept)
     → is_some (lookup (λ y. bytes_eq k y.items) es) ≡ is_some
@@ -65,9 +60,7 @@ put_cases : (k : Key) (vs : List CacheEntry) (most : ℕ) (ps : Pairs)
     (o : Option (Key × List CacheEntry)) → lookup_entry (bytes_eq k) ps ≡ o
     → option_map_or (λ e. (e.0, vs) ∷ remove_entry (bytes_eq k) ps) o ((k, vs) ∷ take (most - 1) ps)
     ≡ (k, vs) ∷ option_map_or (λ p. remove_entry (bytes_eq k) ps) o (take (most - 1) ps)
-put_cases k vs most ps None e = refl
-put_cases k vs most ps (Some p) e =
-    ap (λ j. (j, vs) ∷ remove_entry (bytes_eq k) ps) (sym (key_is k ps p e))
+put_cases k vs most ps o e = grind (arith, key_is)
 
 pub put_others : (es : Kept) (k : Vec ℕ Global) (v : List CacheEntry) (most : ℕ)
     → map plain (option_map_or (λ e. (e.0, v) ∷ remove_entry (λ y. bytes_eq k.items y.items) es)
@@ -81,10 +74,7 @@ put_others es k v most =
 some_others : (k : Key) (most : ℕ) (ps : Pairs) (o : Option (Key × List CacheEntry))
     → lookup_entry (bytes_eq k) ps ≡ o → is_some o ≡ true
     → others k most ps ≡ remove_entry (bytes_eq k) ps
-some_others k most ps None e s = let no : false ≡ true = s in cc
-some_others k most ps (Some p) e s =
-    ap (λ o. option_map_or (λ (r : Key × List CacheEntry). remove_entry (bytes_eq k) ps) o
-    (take (most - 1) ps)) e
+some_others k most ps o e s = grind arith
 
 pub there_others : (k : Key) (most : ℕ) (ps : Pairs) → is_some (lookup_entry (bytes_eq k) ps) ≡ true
     → others k most ps ≡ remove_entry (bytes_eq k) ps
@@ -93,8 +83,7 @@ there_others k most ps s = some_others k most ps (lookup_entry (bytes_eq k) ps) 
 -- the first pair has the key
 pub first_there : (k : Key) (vs : List CacheEntry) (ps : Pairs)
     → is_some (lookup_entry (bytes_eq k) ((k, vs) ∷ ps)) ≡ true
-first_there k vs ps =
-    ap (λ b. is_some (cond b (Some (k, vs)) (lookup_entry (bytes_eq k) ps))) (same_bytes k)
+first_there k vs ps = grind (arith, same_bytes)
 
 pub without_first : (k : Key) (vs : List CacheEntry) (ps : Pairs)
     → remove_entry (bytes_eq k) ((k, vs) ∷ ps) ≡ ps
@@ -102,8 +91,7 @@ without_first k vs ps = ap (λ b. cond b ps ((k, vs) ∷ remove_entry (bytes_eq 
 
 none_by : (o : Option (Key × List CacheEntry)) → is_some o ≡ false
     → option_map_or (λ p. p.1) o [] ≡ []
-none_by None s = refl
-none_by (Some p) s = let no : true ≡ false = s in cc
+none_by o s = grind arith
 
 -- nothing is held of a key that is not there
 pub none_of : (k : Key) (ps : Pairs) → is_some (lookup_entry (bytes_eq k) ps) ≡ false

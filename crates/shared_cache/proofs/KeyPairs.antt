@@ -1,9 +1,7 @@
 -- The keys of the cache hold what is held.
-use Rattle.std.proofs.Common.{◌≡◌, ◌-◌, ◌<◌, ◌≤◌, ◌++◌, ◌&&◌, ◌⊎◌, ℕ, zero, suc, List}
-use Rattle.std.proofs.Common.{[], ◌∷◌}
-use Rattle.std.proofs.Common.{length, take, Bool, true, false, cond, not, Option, Some, None, sym}
-use Rattle.std.proofs.Common.{ap}
-use Rattle.std.proofs.Common.{◌∙◌, refl, subst, inl, inr, arith, append-nil}
+use Rattle.std.proofs.Common.{◌≡◌, ◌-◌, ◌<◌, ◌≤◌, ◌++◌, ◌⊎◌, ℕ, zero, suc, List, [], ◌∷◌, length}
+use Rattle.std.proofs.Common.{take, Bool, true, false, cond, not, Option, Some, None, sym, ap, ◌∙◌}
+use Rattle.std.proofs.Common.{refl, subst, inl, inr, arith, append-nil}
 use Rattle.std.specs.List.{filter}
 use Rattle.std.specs.Map.{lookup_entry, remove_entry}
 use Rattle.std.specs.Option.{option_map_or}
@@ -18,14 +16,12 @@ use Rattle.lru.specs.LruCache.{promoted}
 use Rattle.command_words.specs.Queries.{key_of, same_query}
 use Rattle.shared_cache.specs.declared.entry.CacheEntry.{CacheEntry}
 use Rattle.shared_cache.specs.Held.{Key, Words, held_for, has_key, keys_held, earliest, key_held}
-use Rattle.shared_cache.specs.Laws.{Every}
 use Rattle.shared_cache.specs.Held.{leaving, used_at}
-use Rattle.shared_cache.proofs.Filled.{filled}
+use Rattle.shared_cache.specs.Laws.{Every}
+use Rattle.shared_cache.proofs.Filled.{filled, is_gone}
 use Rattle.shared_cache.proofs.Every.{every_weaker, every_both}
-use Rattle.shared_cache.proofs.Filled.{is_gone}
 use Rattle.shared_cache.specs.HeldKeys.{Pairs, found_in, entries_of, others, stored, of_key}
-use Rattle.shared_cache.specs.HeldKeys.{but_key}
-use Rattle.shared_cache.specs.HeldKeys.{ArePairsOf, IsByUse}
+use Rattle.shared_cache.specs.HeldKeys.{but_key, ArePairsOf, IsByUse}
 use Rattle.shared_cache.proofs.KeyTests.{same_bytes, bytes_same}
 use Rattle.shared_cache.proofs.Capacity.{has_kept, but_none, less_key, last_has, least, none_goes}
 
@@ -43,13 +39,7 @@ filters_turn p q (h ∷ hs) = grind (arith, common_steps, filters_turn p q hs)
 of_other : (j k : Key) (hs : List CacheEntry) → bytes_eq j k ≡ false
     → of_key j (but_key k hs) ≡ of_key j hs
 of_other j k [] e = refl
-of_other j k (h ∷ hs) e = grind (
-  arith,
-  common_steps,
-  of_other j k hs e,
-  bytes_same (key_of h.query) k,
-  bytes_turn_not j k e,
-)
+of_other j k (h ∷ hs) e = grind (arith, bytes_same, bytes_turn_not, of_other j k hs e)
 
 none_but : (k : Key) (hs : List CacheEntry) → has_key k (but_key k hs) ≡ false
 none_but k [] = refl
@@ -58,16 +48,7 @@ none_but k (h ∷ hs) = grind (arith, common_steps, none_but k hs)
 -- ---- a query
 
 same_key : (p q : Words) → same_query p q ≡ true → bytes_eq (key_of p) (key_of q) ≡ true
-same_key [] [] e = refl
-same_key [] (w ∷ ws) e = cc
-same_key (n ∷ []) [] e = cc
-same_key (n ∷ []) (m ∷ []) e = refl
-same_key (n ∷ []) (m ∷ k ∷ ws) e = grind (arith, common_steps)
-same_key (n ∷ j ∷ us) [] e = cc
-same_key (n ∷ j ∷ us) (m ∷ []) e = grind (arith, common_steps)
-same_key (n ∷ j ∷ us) (m ∷ k ∷ ws) e =
-    (and_parts (bytes_eq j k) (same_query us ws)
-    (and_parts (bytes_eq n m) (bytes_eq j k && same_query us ws) e).1).0
+same_key p q e = grind (arith, and_parts)
 
 held_kept : (t : CacheEntry → Bool) (q : Words) (hs : List CacheEntry)
     → ((h : CacheEntry) → same_query h.query q ≡ true → t h ≡ true)
@@ -197,8 +178,7 @@ kept_has k j (h ∷ hs) e = grind (arith, common_steps, kept_has k j hs)
 last_held : (k : Key) (pairs : Pairs) (hs : List CacheEntry) → has_key k hs ≡ true
     → ArePairsOf pairs (but_key k hs) → has_key (last_key k pairs) hs ≡ true
 last_held k [] hs h s = h
-last_held k (p ∷ pairs) hs h s =
-    kept_has k (last_key p.0 pairs) hs (last_held p.0 pairs (but_key k hs) s.1 s.2)
+last_held k (p ∷ pairs) hs h s = grind (arith, kept_has, last_held p.0 pairs (but_key k hs) s.1 s.2)
 
 -- without its last key
 pub pairs_shorter : (p : Key × List CacheEntry) (pairs : Pairs) (hs : List CacheEntry)
@@ -300,8 +280,7 @@ last_is use_of p pairs hs None s u e = absurd (no_key hs s.1 e)
   where
     no_key : (gs : List CacheEntry) → has_key p.0 gs ≡ true → key_held (earliest use_of gs) ≡ None
         → ⊥
-    no_key [] h f = let no : false ≡ true = h in cc
-    no_key (g ∷ gs) h f = cc
+    no_key gs h f = grind arith
 last_is use_of p pairs hs (Some j) s u e =
     let l = least use_of hs j same_bytes e in
     elim (last_or_later use_of p pairs hs j s u l.0) [
@@ -381,8 +360,7 @@ module _ (most : ℕ) (use_of : Key → ℕ) (q : Words) (n : ℕ) (v : Value) (
   by_pair : (pairs : Pairs) (o : Option (Key × List CacheEntry)) → 0 < most → ArePairsOf pairs hs
       → IsByUse use_of pairs → lookup_entry (bytes_eq (key_of q)) pairs ≡ o → keys_held hs ≤ most
       → ArePairsOf (stored most entry pairs) (filled most use_of (Some q) n v hs)
-  by_pair pairs (Some p) some s u e le = filled_again pairs p s e
-  by_pair pairs None some s u e le = filled_new pairs some s u e le
+  by_pair pairs o some s u e le = grind (arith, filled_again, filled_new)
 
   pub pairs_filled : (pairs : Pairs) → 0 < most → ArePairsOf pairs hs → IsByUse use_of pairs
       → keys_held hs ≤ most
@@ -395,8 +373,7 @@ module _ (most : ℕ) (use_of : Key → ℕ) (q : Words) (n : ℕ) (v : Value) (
 every_without : (P : Key × List CacheEntry → Type 0) (t : Key → Bool) (pairs : Pairs)
     → Every P pairs → Every P (remove_entry t pairs)
 every_without P t [] all = tt
-every_without P t (p ∷ pairs) all =
-    grind (arith, common_steps, all, every_without P t pairs all.1)
+every_without P t (p ∷ pairs) all = grind (arith, every_without P t pairs all.1)
 
 every_front : (P : Key × List CacheEntry → Type 0) (n : ℕ) (pairs : Pairs) → Every P pairs
     → Every P (take n pairs)
@@ -407,13 +384,8 @@ every_front P (suc n) (p ∷ pairs) all = (all.0, every_front P n pairs all.1)
 pub by_use_without : (use_of : Key → ℕ) (t : Key → Bool) (pairs : Pairs) → IsByUse use_of pairs
     → IsByUse use_of (remove_entry t pairs)
 by_use_without use_of t [] u = tt
-by_use_without use_of t (p ∷ pairs) u = grind (
-  arith,
-  common_steps,
-  u,
-  every_without (λ r. use_of r.0 < use_of p.0) t pairs u.0,
-  by_use_without use_of t pairs u.1,
-)
+by_use_without use_of t (p ∷ pairs) u =
+    grind (arith, every_without, by_use_without use_of t pairs u.1)
 
 by_use_front : (use_of : Key → ℕ) (n : ℕ) (pairs : Pairs) → IsByUse use_of pairs
     → IsByUse use_of (take n pairs)

@@ -1,12 +1,11 @@
 -- What is held of each key stays of that key.
 use Rattle.std.proofs.Common.{◌≡◌, ◌-◌, ◌++◌, ℕ, zero, suc, List, [], ◌∷◌, Bool, true, false, cond}
-use Rattle.std.proofs.Common.{Vec, Global, Option, Some, None, map, take, sym, ap}
-use Rattle.std.proofs.Common.{◌∙◌, refl, subst}
+use Rattle.std.proofs.Common.{Vec, Global, Option, Some, map, take, sym, ap, ◌∙◌, refl, subst}
+use Rattle.std.proofs.Common.{arith}
 use Rattle.std.specs.Map.{lookup, lookup_entry, remove_entry}
 use Rattle.std.specs.Option.{option_map_or}
 use Rattle.std.specs.Str.{bytes_eq}
-use Rattle.std.proofs.lemmas.List.Elements.{All-nil, All-cons, All-append}
-use Rattle.std.proofs.Common.{arith}
+use Rattle.std.proofs.lemmas.List.Elements.{All-nil, All-append}
 use Rattle.std.proofs.lemmas.Grind.{common_steps}
 use Rattle.command_words.specs.Queries.{key_of}
 use Rattle.lru.specs.LruCache.{promoted}
@@ -38,8 +37,7 @@ found_of_key t (r ∷ ps) p e a = (elim (t r.0) as (λ b. t r.0 ≡ b → AreOfK
 promoted_by : (t : Key → Bool) (ps : Pairs) (o : Option (Key × List CacheEntry))
     → lookup_entry t ps ≡ o → AreOfKeys ps
     → AreOfKeys (option_map_or (λ e. e ∷ remove_entry t ps) o ps)
-promoted_by t ps None e a = a
-promoted_by t ps (Some p) e a = (found_of_key t ps p e a, of_keys_without t ps a)
+promoted_by t ps o e a = grind (arith, found_of_key, of_keys_without)
 
 pub of_keys_promoted : (t : Key → Bool) (ps : Pairs) → AreOfKeys ps → AreOfKeys (promoted t ps)
 of_keys_promoted t ps a = promoted_by t ps (lookup_entry t ps) refl a
@@ -51,8 +49,7 @@ of_keys_first (suc n) (p ∷ ps) a = (a.0, of_keys_first n ps a.1)
 
 others_by : (k : Key) (most : ℕ) (ps : Pairs) (o : Option (Key × List CacheEntry)) → AreOfKeys ps
     → AreOfKeys (option_map_or (λ p. remove_entry (bytes_eq k) ps) o (take (most - 1) ps))
-others_by k most ps None a = of_keys_first (most - 1) ps a
-others_by k most ps (Some p) a = of_keys_without (bytes_eq k) ps a
+others_by k most ps o a = grind (arith, of_keys_first, of_keys_without)
 
 pub of_keys_others : (k : Key) (most : ℕ) (ps : Pairs) → AreOfKeys ps → AreOfKeys (others k most ps)
 of_keys_others k most ps a = others_by k most ps (lookup_entry (bytes_eq k) ps) a
@@ -62,9 +59,7 @@ of_keys_others k most ps a = others_by k most ps (lookup_entry (bytes_eq k) ps) 
 entries_by : (k : Key) (ps : Pairs) (o : Option (Key × List CacheEntry))
     → lookup_entry (bytes_eq k) ps ≡ o → AreOfKeys ps
     → AreOfKey k (option_map_or (λ p. p.1) o [])
-entries_by k ps None e a = All-nil (λ (h : CacheEntry). key_of h.query ≡ k)
-entries_by k ps (Some p) e a =
-    subst (λ j. AreOfKey j p.1) (sym (key_is k ps p e)) (found_of_key (bytes_eq k) ps p e a)
+entries_by k ps o e a = grind (arith, key_is, found_of_key)
 
 pub entries_of_key : (k : Key) (ps : Pairs) → AreOfKeys ps → AreOfKey k (entries_of k ps)
 entries_of_key k ps a = entries_by k ps (lookup_entry (bytes_eq k) ps) refl a
@@ -75,9 +70,7 @@ found_is_of_key k es vs e a =
     subst (AreOfKey k) (sym (entries_plain k es (Some vs) e)) (entries_of_key k (map plain es) a)
 
 pub one_of_key : (k : Key) (h : CacheEntry) → key_of h.query ≡ k → AreOfKey k (h ∷ [])
-one_of_key k h e =
-    All-cons (λ (o : CacheEntry). key_of o.query ≡ k) h [] e
-    (All-nil (λ (o : CacheEntry). key_of o.query ≡ k))
+one_of_key k h e = grind arith
 
 pub more_of_key : (k : Key) (hs : List CacheEntry) (h : CacheEntry) → AreOfKey k hs
     → key_of h.query ≡ k → AreOfKey k (hs ++ h ∷ [])

@@ -1,7 +1,6 @@
 -- What a turn adds to a legal log, and that it stays legal.
-use Rattle.std.proofs.Common.{◌≡◌, ◌<◌, ◌≤◌, ◌⊎◌, ℕ, List}
-use Rattle.std.proofs.Common.{[], ◌∷◌, length, Bool, true, false, cond, not, Option, Some}
-use Rattle.std.proofs.Common.{None, sym, ap, ◌∙◌, refl, subst, inl, inr, arith}
+use Rattle.std.proofs.Common.{◌≡◌, ◌<◌, ◌≤◌, ◌⊎◌, ℕ, List, [], ◌∷◌, length, Bool, true, false, cond}
+use Rattle.std.proofs.Common.{not, Option, None, sym, ap, ◌∙◌, refl, subst, inl, inr, arith}
 use Rattle.std.proofs.Common.{length-append}
 use Rattle.resp_value.specs.declared.value.Value.{Value}
 use Rattle.command_words.specs.Control.{is_control}
@@ -11,29 +10,21 @@ use Rattle.shared_cache.specs.declared.log.ClientMode.{ClientMode}
 use Rattle.shared_cache.specs.declared.log.ClientCall.{ClientCall}
 use Rattle.shared_cache.specs.declared.log.ClientCall.TheVariants as call
 use Rattle.shared_cache.specs.declared.log.ClientReply.{ClientReply}
-use Rattle.shared_cache.specs.declared.log.ClientReply.TheVariants.{Hit, Sent, NotYet, Answer}
-use Rattle.shared_cache.specs.declared.log.ClientReply.TheVariants.{Bytes, Quiet, Noted, Refused}
+use Rattle.shared_cache.specs.declared.log.ClientReply.TheVariants.{Noted, Refused}
 use Rattle.shared_cache.specs.declared.log.ClientRefusal.{ClientRefusal}
-use Rattle.shared_cache.specs.declared.log.ClientRefusal.TheVariants.{Down, Unexpected, BadPush}
-use Rattle.shared_cache.specs.declared.log.ClientRefusal.TheVariants.{NoMemory, LogFull}
-use Rattle.shared_cache.specs.declared.log.ClientRefusal.TheVariants.{SetupRefused, NotReady}
-use Rattle.shared_cache.specs.declared.log.ClientRefusal.TheVariants.{Control, NoNumber, Worn}
+use Rattle.shared_cache.specs.declared.log.ClientRefusal.TheVariants.{NoMemory}
 use Rattle.shared_cache.specs.declared.log.LogEntry.{LogEntry}
 use Rattle.shared_cache.specs.declared.log.LogEntry.TheVariants.{Ask, Send, Poll, TakeOut, Got, End}
 use Rattle.shared_cache.specs.declared.log.LogEntry.TheVariants.{Bad}
 use Rattle.shared_cache.specs.declared.notices.Notice.{Notice}
 use Rattle.shared_cache.specs.Notices.{notice_of}
-use Rattle.shared_cache.specs.Log.{replies, with_reply, is_wire, is_ended}
-use Rattle.shared_cache.specs.Log.{is_ready, reply}
-use Rattle.shared_cache.specs.Held.{Setup}
-use Rattle.shared_cache.specs.Held.{put_command}
-use Rattle.shared_cache.specs.Held.{numbers, sent}
+use Rattle.shared_cache.specs.Log.{replies, with_reply, is_wire, is_ended, is_ready, reply}
+use Rattle.shared_cache.specs.Held.{Setup, put_command, numbers, sent}
 use Rattle.shared_cache.specs.Out.{untaken, is_wanted}
-use Rattle.shared_cache.specs.Steps.{ClientTurn, refusing, is_log_full, polling, taking_out}
-use Rattle.shared_cache.specs.Steps.{judged, getting, fault_of, client_step}
+use Rattle.shared_cache.specs.Steps.{ClientTurn, refusing, is_log_full, polling, taking_out, judged}
+use Rattle.shared_cache.specs.Steps.{getting, fault_of, client_step}
 use Rattle.std.proofs.lemmas.Bool.{not-false}
-use Rattle.shared_cache.specs.Laws.{IsQuery, IsCall, AsksQuery, LegalLog}
-use Rattle.shared_cache.specs.Laws.{LegalStep}
+use Rattle.shared_cache.specs.Laws.{IsQuery, IsCall, AsksQuery, LegalLog, LegalStep}
 
 -- ---- what a turn adds
 
@@ -60,25 +51,19 @@ Adds s log t = (t.past ≡ log) ⊎ ((e : LogEntry) × (t.past ≡ e ∷ log) ×
 
 unless_refused : (s : Setup) (log : List LogEntry) (b : Bool) (r : ClientRefusal) (t : ClientTurn)
     → (b ≡ false → Adds s log t) → Adds s log (cond b (refusing r log) t)
-unless_refused s log true r t adds = inl refl
-unless_refused s log false r t adds = adds refl
+unless_refused s log b r t adds = grind arith
 
 polling_adds : (s : Setup) (o : Option Value) (n : ℕ) (over : Bool) (log : List LogEntry)
     → Adds s log (polling o n over log)
-polling_adds s (Some v) n over log = inr (Poll n, refl, tt)
-polling_adds s None n over log = unless_refused s log over (Down Main) _ (λ up. inl refl)
+polling_adds s o n over log = grind (arith, unless_refused)
 
 taking_adds : (s : Setup) (w : Wire) (most : ℕ) (bytes : List ℕ) (full : Bool)
     (log : List LogEntry) → Adds s log (taking_out w most bytes full log)
-taking_adds s w most [] full log = inl refl
-taking_adds s w most (b ∷ bytes) full log =
-    unless_refused s log full (LogFull (length log)) _ (λ room. inr (TakeOut w most, refl, tt))
+taking_adds s w most bytes full log = grind (arith, unless_refused)
 
 getting_adds : (s : Setup) (o : Option ClientRefusal) (w : Wire) (v : Value) (full : Bool)
     (log : List LogEntry) → w ≡ Main → fault_of s log w v ≡ o → Adds s log (getting o w v full log)
-getting_adds s (Some r) w v full log is f = inr (Bad w v, refl, tt)
-getting_adds s None w v full log is f =
-    unless_refused s log full (LogFull (length log)) _ (λ room. inr (Got w v, refl, (is, f)))
+getting_adds s o w v full log is f = grind (arith, unless_refused)
 
 step_adds : (s : Setup) (log : List LogEntry) (c : ClientCall) → IsCall c → AsksQuery c
     → Adds s log (client_step s log c)
@@ -161,22 +146,5 @@ legal_after s log new c r l is query e =
     ]
 
 pub legal_step : LegalStep
-legal_step s log new c (Hit v n) l is query e = legal_after s log new c _ l is query e
-legal_step s log new c (Sent n) l is query e = legal_after s log new c _ l is query e
-legal_step s log new c NotYet l is query e = legal_after s log new c _ l is query e
-legal_step s log new c (Answer v) l is query e = legal_after s log new c _ l is query e
-legal_step s log new c (Bytes b) l is query e = legal_after s log new c _ l is query e
-legal_step s log new c Quiet l is query e = legal_after s log new c _ l is query e
-legal_step s log new c Noted l is query e = legal_after s log new c _ l is query e
 legal_step s log new c (Refused NoMemory) l is query e = subst (LegalLog s) (sym e.1) l
-legal_step s log new c (Refused (Down w)) l is query e = legal_after s log new c _ l is query e
-legal_step s log new c (Refused (Unexpected w)) l is query e =
-    legal_after s log new c _ l is query e
-legal_step s log new c (Refused (BadPush w)) l is query e = legal_after s log new c _ l is query e
-legal_step s log new c (Refused (LogFull n)) l is query e = legal_after s log new c _ l is query e
-legal_step s log new c (Refused (SetupRefused w)) l is query e =
-    legal_after s log new c _ l is query e
-legal_step s log new c (Refused NotReady) l is query e = legal_after s log new c _ l is query e
-legal_step s log new c (Refused Control) l is query e = legal_after s log new c _ l is query e
-legal_step s log new c (Refused (NoNumber n)) l is query e = legal_after s log new c _ l is query e
-legal_step s log new c (Refused Worn) l is query e = legal_after s log new c _ l is query e
+legal_step s log new c h l is query e = legal_after s log new c _ l is query e

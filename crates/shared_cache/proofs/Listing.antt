@@ -1,7 +1,7 @@
 -- What is held, sorted: each entry stands at its place.
-use Rattle.std.proofs.Common.{◌≡◌, ◌==◌, ◌+◌, ◌<◌, ◌≤◌, ℕ, zero, suc, List, [], ◌∷◌}
-use Rattle.std.proofs.Common.{length, get_or, true, false, cond, Some, sym}
-use Rattle.std.proofs.Common.{ap, ◌∙◌, refl, inl, inr, subst, arith, eq-eqb, Bool}
+use Rattle.std.proofs.Common.{◌≡◌, ◌==◌, ◌+◌, ◌<◌, ◌≤◌, ℕ, zero, suc, List, [], ◌∷◌, length, get_or}
+use Rattle.std.proofs.Common.{true, false, cond, Some, sym, ap, ◌∙◌, refl, inl, inr, subst, arith}
+use Rattle.std.proofs.Common.{eq-eqb, Bool}
 use denote.Param.Members.{Mut}
 use denote.Ref.{Bor}
 use Rattle.std.specs.declared.cmp.Ordering.{Ordering}
@@ -12,22 +12,19 @@ use Rattle.std.specs.List.Sorted.{IsPermutation, IsSortedBy}
 use Rattle.std.specs.Ordering.{is_lt}
 use Rattle.std.proofs.lemmas.Bool.{cases_eq}
 use Rattle.std.proofs.lemmas.List.Sums.{sum_by-cons, sum_by-append}
-use Rattle.std.proofs.lemmas.List.Sorted.{sum_by-IsPermutation, All-permutation}
-use Rattle.std.proofs.lemmas.List.Sorted.{IsPermutation-map, ranks_by, answers_always, sorted_far}
+use Rattle.std.proofs.lemmas.List.Sorted.{sum_by-IsPermutation, All-permutation, IsPermutation-map}
+use Rattle.std.proofs.lemmas.List.Sorted.{ranks_by, answers_always, sorted_far}
 use Rattle.std.proofs.lemmas.Option.{slice_get_cases}
 use Rattle.std.proofs.lemmas.Grind.{common_steps}
 use Rattle.shared_cache.specs.declared.entry.CacheEntry.{CacheEntry}
 use Rattle.shared_cache.specs.declared.log.LogEntry.{LogEntry}
-use Rattle.shared_cache.specs.declared.log.Wire.TheVariants.{Main}
-use Rattle.shared_cache.specs.Log.{replies}
 use Rattle.shared_cache.specs.Held.{Key, Setup, order, is_before, rank, held_in_place, held}
-use Rattle.shared_cache.specs.Held.{open_fetch, left}
 use Rattle.shared_cache.specs.HeldKeys.{Pairs, ArePairsOf, listed, of_key, but_key, IsSortedAs}
 use Rattle.shared_cache.specs.HeldKeys.{seen}
 use Rattle.shared_cache.specs.Laws.{Every}
-use Rattle.shared_cache.proofs.Order.{Among, Apart, ranked_some, ranked_is, same_ranked}
-use Rattle.shared_cache.proofs.Order.{every_of, before_not, before_self, before_other, rank_more}
-use Rattle.shared_cache.proofs.Order.{rank_same, no_place, order_total, held_apart}
+use Rattle.shared_cache.proofs.Order.{Among, Apart, ranked_some, ranked_is, same_ranked, every_of}
+use Rattle.shared_cache.proofs.Order.{before_not, before_self, before_other, rank_more, rank_same}
+use Rattle.shared_cache.proofs.Order.{no_place, order_total, held_apart}
 use Rattle.shared_cache.proofs.Every.{every_both}
 use Rattle.shared_cache.proofs.Places.{listed_held}
 
@@ -36,14 +33,7 @@ use Rattle.shared_cache.proofs.Places.{listed_held}
 sum_parts : (f : CacheEntry → ℕ) (k : Key) (hs : List CacheEntry)
     → sum_by f (of_key k hs) + sum_by f (but_key k hs) ≡ sum_by f hs
 sum_parts f k [] = refl
-sum_parts f k (g ∷ gs) = grind (
-  arith,
-  common_steps,
-  sum_parts f k gs,
-  sum_by-cons f g gs,
-  sum_by-cons f g (of_key k gs),
-  sum_by-cons f g (but_key k gs),
-)
+sum_parts f k (g ∷ gs) = grind (arith, sum_by-cons, sum_parts f k gs)
 
 sum_listed : (f : CacheEntry → ℕ) (pairs : Pairs) (hs : List CacheEntry) → ArePairsOf pairs hs
     → sum_by f (listed pairs) ≡ sum_by f hs
@@ -190,8 +180,7 @@ module _ (pairs : Pairs) (hs ys : List CacheEntry) (p : ArePairsOf pairs hs) (ap
       sum_by-IsPermutation f (listed pairs) ys sorted.permutes ∙ sum_listed f pairs hs p
 
   up : Up ys
-  up = up_of ys (apart_of ys (λ n. subst (λ m. m ≤ 1) (sym (same_sums (one_of n)))
-      (count_once n hs apart))) sorted.ascends
+  up = grind (arith, up_of, apart_of, same_sums, count_once)
 
   among_hs : (k : ℕ) (d : CacheEntry) → k < length ys → Among (get_or ys k d) hs
   among_hs k d lt =
@@ -222,9 +211,7 @@ module _ (pairs : Pairs) (hs ys : List CacheEntry) (p : ArePairsOf pairs hs) (ap
 pub held_sorted : (s : Setup) (log : List LogEntry) (pairs : Pairs) → ArePairsOf pairs (held s log)
     → (ys : List CacheEntry) → IsSortedAs (listed pairs) ys → (place : ℕ)
     → slice_get ys place ≡ held_in_place place (held s log)
-held_sorted s log pairs p ys sorted =
-    sorted_places pairs (held s log) ys p
-    (held_apart (open_fetch s log) (left s log) (replies s.mode Main log)) sorted
+held_sorted s log pairs p ys sorted = grind (arith, sorted_places, held_apart)
 
 -- ---- a sort of references
 

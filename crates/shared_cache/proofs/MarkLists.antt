@@ -1,7 +1,6 @@
 -- How the marks change with the fetches.
-use Rattle.std.proofs.Common.{◌≡◌, ◌<◌, ◌≤◌, ◌++◌, ℕ, zero, suc, List, [], ◌∷◌, Bool}
-use Rattle.std.proofs.Common.{cond, not, Option, Some, None, sym, ◌∙◌, refl, arith}
-use Rattle.std.proofs.Common.{inl, inr, subst}
+use Rattle.std.proofs.Common.{◌≡◌, ◌<◌, ◌≤◌, ◌++◌, ℕ, zero, suc, List, [], ◌∷◌, Bool, cond, not}
+use Rattle.std.proofs.Common.{Option, Some, None, sym, ◌∙◌, refl, arith, inl, inr, subst}
 use Rattle.std.specs.Prelude.{nat_lt}
 use Rattle.std.specs.List.{filter}
 use Rattle.std.proofs.lemmas.List.Elements.{filter-append}
@@ -18,12 +17,11 @@ pub marks_filter : (open_of open_new : ℕ → Option Words) (p : Mark → Bool)
     → ((m : ℕ) → m ≤ n → fetch_mark m (open_new m) ≡ filter p (fetch_mark m (open_of m)))
     → marks_by open_new replied n ≡ filter p (marks_by open_of replied n)
 marks_filter open_of open_new p replied zero each = refl
-marks_filter open_of open_new p replied (suc n) each =
-    grind (
-      arith,
-      filter-append,
-      marks_filter open_of open_new p replied n (λ m le. each m (omega arith)),
-    )
+marks_filter open_of open_new p replied (suc n) each = grind (
+  arith,
+  filter-append,
+  marks_filter open_of open_new p replied n (λ m le. each m (omega arith)),
+)
 
 pub marks_same : (open_of open_new : ℕ → Option Words) (replied n : ℕ)
     → ((m : ℕ) → m ≤ n → open_new m ≡ open_of m)
@@ -38,20 +36,13 @@ marks_none replied (suc n) = grind (arith, marks_none replied n)
 
 pub mark_unless : (t : Key → Bool) (n : ℕ) (o : Option Words)
     → fetch_mark n (unless t o) ≡ filter (λ m. not (t (key_of m.query))) (fetch_mark n o)
-mark_unless t n None = refl
-mark_unless t n (Some q) = grind (arith, common_steps)
+mark_unless t n o = grind arith
 
 pub mark_other : (q : Words) (n : ℕ) (o : Option Words)
     → fetch_mark n (other_than q o) ≡ without_query q (fetch_mark n o)
-mark_other q n None = refl
-mark_other q n (Some p) = grind (arith, common_steps)
+mark_other q n o = grind arith
 
 -- ---- the mark of the next reply
-
-one_less : (n k : ℕ) (o : Option Words) → (n ≡ k → ⊥)
-    → without_number k (fetch_mark n o) ≡ fetch_mark n o
-one_less n k None ne = refl
-one_less n k (Some q) ne = grind (arith, common_steps)
 
 -- the last part of the marks, where the next number goes
 last_next : (open_of : ℕ → Option Words) (replied n : ℕ)
@@ -82,8 +73,7 @@ not_here : (n k : ℕ) (o : Option Words) (b : Bool) → (k ≡ n → ⊥)
 not_here n k o b ne = grind arith
 
 is_here : (n : ℕ) (o : Option Words) → query_marked n (fetch_mark n o) ≡ o
-is_here n None = refl
-is_here n (Some q) = grind (arith, common_steps)
+is_here n o = grind arith
 
 none_past : (open_of : ℕ → Option Words) (replied n m : ℕ) → n < m
     → query_marked m (marks_by open_of replied n) ≡ None
@@ -92,8 +82,7 @@ none_past open_of replied (suc n) m lt =
     grind (arith, found_in, not_here, none_past open_of replied n m (omega arith))
 
 none_else : (o : Option Words) → or_else o None ≡ o
-none_else None = refl
-none_else (Some q) = refl
+none_else o = grind arith
 
 -- the mark of a number without a reply stands exactly where its fetch is open
 pub marks_find : (open_of : ℕ → Option Words) (replied n m : ℕ) → replied < m → m ≤ n

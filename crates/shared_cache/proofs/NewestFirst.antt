@@ -1,6 +1,6 @@
 -- The log in the order of time, and with the newest entry first.
-use Rattle.std.proofs.Common.{◌≡◌, ◌+◌, ℕ, List, [], ◌∷◌, ◌++◌, reverse, ap, ◌∙◌, ◌≤◌}
-use Rattle.std.proofs.Common.{Bool, true, false, cond, arith, subst}
+use Rattle.std.proofs.Common.{◌≡◌, ◌+◌, ℕ, List, [], ◌∷◌, ◌++◌, reverse, ap, ◌∙◌, ◌≤◌, Bool, false}
+use Rattle.std.proofs.Common.{cond, arith, subst}
 use Rattle.std.proofs.lemmas.List.{reverse-append}
 use Rattle.shared_cache.specs.declared.log.LogEntry.{LogEntry}
 
@@ -13,5 +13,4 @@ pub room_left : (over : Bool) (n cap : ℕ) → n + cond over 0 1 ≤ cap → ov
 room_left over n cap h e = subst (λ b. n + cond b 0 1 ≤ cap) e h
 
 pub at_most_one : (over : Bool) → cond over 0 1 ≤ 1
-at_most_one true = omega arith
-at_most_one false = omega arith
+at_most_one over = grind arith

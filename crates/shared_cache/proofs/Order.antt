@@ -76,11 +76,10 @@ pub before_not : (a b : CacheEntry) → is_before a b ≡ true → is_before b a
 before_not a b ab = ap is_lt (order_total.antisymm b a ∙ ap ordering_reverse (before_less a b ab))
 
 pub before_self : (a : CacheEntry) → is_before a a ≡ false
-before_self a =
-    elim (cases_Bool (is_before a a)) [ inl yes_ ↦ before_not a a yes_ | inr not_ ↦ not_ ]
+before_self a = grind (arith, cases_Bool, before_not)
 
 then_second : (x y : Ordering) → ordering_then x y ≡ Equal → y ≡ Equal
-then_second x y is = grind arith
+then_second e y is = grind arith
 
 not_less : (r : Ordering) → is_lt r ≡ false → (r ≡ Equal) ⊎ (r ≡ Greater)
 not_less r is = grind arith
@@ -125,8 +124,7 @@ rank_less : (a b : CacheEntry) (os : List CacheEntry) → is_before a b ≡ true
     → rank a os < rank b os
 rank_less a b [] ab i = absurd i
 rank_less a b (o ∷ os) ab (inl is) = grind (arith, rank_grows, rank_same, before_self, rank_more)
-rank_less a b (o ∷ os) ab (inr i) =
-    grind (arith, common_steps, rank_less a b os ab i, before_then o a b)
+rank_less a b (o ∷ os) ab (inr i) = grind (arith, before_then, rank_less a b os ab i)
 
 -- each place has one
 pub record Placed (hs : List CacheEntry) (place : ℕ) : Type 0 where
@@ -190,8 +188,7 @@ ranked_some place all (o ∷ os) h a is = elim (cases_eq (rank o all) place) [
 ]
   where
     later : (h ≡ o) ⊎ Among h os → (rank o all ≡ place → ⊥) → Among h os
-    later (inl same) other = absurd (other (ap (λ x. rank x all) (sym same) ∙ is))
-    later (inr b) other = b
+    later e other = grind arith
 
 pub ranked_is : (place : ℕ) (all hs : List CacheEntry) (h : CacheEntry)
     → ranked place all hs ≡ Some h
@@ -214,22 +211,14 @@ same_numbered : (hs : List CacheEntry) (a b : CacheEntry) → Apart hs → Among
     → a.number ≡ b.number → a ≡ b
 same_numbered [] a b apart i j e = absurd i
 same_numbered (o ∷ os) a b apart (inl x) (inl y) e = x ∙ sym y
-same_numbered (o ∷ os) a b apart (inl x) (inr j) e =
-    absurd (every_at _ os b apart.0 j (sym e ∙ ap (λ (h : CacheEntry). h.number) x))
-same_numbered (o ∷ os) a b apart (inr i) (inl y) e =
-    absurd (every_at _ os a apart.0 i (e ∙ ap (λ (h : CacheEntry). h.number) y))
+same_numbered (o ∷ os) a b apart (inl x) (inr j) e = grind (arith, every_at)
+same_numbered (o ∷ os) a b apart (inr i) (inl y) e = grind (arith, every_at)
 same_numbered (o ∷ os) a b apart (inr i) (inr j) e = same_numbered os a b apart.1 i j e
 
 pub same_ranked : (hs : List CacheEntry) (a b : CacheEntry) → Apart hs → Among a hs → Among b hs
     → rank a hs ≡ rank b hs → a ≡ b
-same_ranked hs a b apart i j e = elim (cases_eq a.number b.number) [
-  | inl same ↦ same_numbered hs a b apart i j same
-  | inr other ↦ elim (cases_Bool (is_before a b)) [
-    | inl yes_ ↦ let m = rank_less a b hs yes_ i in absurd (let no : ⊥ = omega (m, e, arith) in no)
-    | inr not_ ↦ let m = rank_less b a hs (before_other a b other not_) j in
-        absurd (let no : ⊥ = omega (m, e, arith) in no)
-  ]
-]
+same_ranked hs a b apart i j e =
+    grind (arith, cases_eq, same_numbered, cases_Bool, rank_less, before_other)
 
 pub no_place : (hs : List CacheEntry) (place : ℕ) → length hs ≤ place
     → held_in_place place hs ≡ None
@@ -296,9 +285,7 @@ held_numbers open_of left_of (v ∷ vs) =
   where
     one : (o : Option Words) (gone : Bool)
         → Every (λ h. h.number ≤ length (v ∷ vs)) (hold o gone v (length vs + 1))
-    one None gone = tt
-    one (Some q) true = tt
-    one (Some q) false = (omega arith, tt)
+    one o gone = grind arith
 
 pub held_apart : (open_of : ℕ → Option Words) (left_of : ℕ → Bool) (vs : List Value)
     → Apart (held_by open_of left_of vs)
@@ -308,11 +295,7 @@ held_apart open_of left_of (v ∷ vs) =
   where
     one : (o : Option Words) (gone : Bool) → Apart (held_by open_of left_of vs)
         → Apart (held_by open_of left_of vs ++ hold o gone v (length vs + 1))
-    one None gone apart = subst Apart (sym (append-nil (held_by open_of left_of vs))) apart
-    one (Some q) true apart = subst Apart (sym (append-nil (held_by open_of left_of vs))) apart
-    one (Some q) false apart = apart_more (held_by open_of left_of vs) _ apart
-        (every_weaker _ _ (held_by open_of left_of vs) (λ h w. omega (w, arith))
-        (held_numbers open_of left_of vs))
+    one o gone apart = grind (arith, append-nil, apart_more, every_weaker, held_numbers)
 
 pub held_in_order : HeldInOrder
 held_in_order s log =

@@ -1,10 +1,7 @@
 -- After a turn that neither asks nor gets, the fields are what the log says.
-use Rattle.std.proofs.Common.{subst}
-use Rattle.std.proofs.Common.{◌≡◌, ◌==◌, ◌+◌, ◌-◌, ◌<◌, ◌≤◌, ◌++◌, ◌||◌, ℕ, suc, List, [], ◌∷◌}
-use Rattle.std.proofs.Common.{length}
-use Rattle.std.proofs.Common.{set, get_or, drop, Bool, true, false, not, Option, Some}
-use Rattle.std.proofs.Common.{None, sym}
-use Rattle.std.proofs.Common.{ap, ◌∙◌, refl, arith, append-nil, length-append, ne_eqb, eq-eqb}
+use Rattle.std.proofs.Common.{subst, ◌≡◌, ◌==◌, ◌+◌, ◌-◌, ◌<◌, ◌≤◌, ◌++◌, ◌||◌, ℕ, suc, List, []}
+use Rattle.std.proofs.Common.{◌∷◌, length, set, get_or, drop, Bool, true, false, not, Option, None}
+use Rattle.std.proofs.Common.{sym, ap, ◌∙◌, refl, arith, append-nil, length-append, ne_eqb, eq-eqb}
 use Rattle.std.proofs.Common.{below_more, length-set}
 use Rattle.std.specs.List.{slice_get, filter, flat_map}
 use Rattle.std.proofs.lemmas.Bool.{cases_eq}
@@ -19,19 +16,17 @@ use Rattle.fill_mark.specs.declared.marks.Mark.{Mark}
 use Rattle.shared_cache.specs.declared.log.Wire.{Wire}
 use Rattle.shared_cache.specs.declared.log.Wire.TheVariants.{Main, Side}
 use Rattle.shared_cache.specs.declared.log.LogEntry.{LogEntry}
-use Rattle.shared_cache.specs.declared.log.LogEntry.TheVariants.{Ask, Send, Poll, TakeOut, Got, End}
-use Rattle.shared_cache.specs.declared.log.LogEntry.TheVariants.{Bad}
+use Rattle.shared_cache.specs.declared.log.LogEntry.TheVariants.{Send, Poll, TakeOut, End, Bad}
 use Rattle.shared_cache.specs.declared.entry.PendingReply.{PendingReply}
 use Rattle.shared_cache.specs.declared.entry.PendingReply.TheVariants.{Waiting, There, Gone}
-use Rattle.shared_cache.specs.Log.{handshake, handshake_length, first_number, replies}
-use Rattle.shared_cache.specs.Log.{is_wire, is_ended}
+use Rattle.shared_cache.specs.Log.{handshake, handshake_length, first_number, replies, is_wire}
+use Rattle.shared_cache.specs.Log.{is_ended}
 use Rattle.shared_cache.specs.Held.{Setup, Words, Caller, put_command, sent, open_fetch, left}
 use Rattle.shared_cache.specs.Held.{last_use, held, held_for, held_in_place, numbers}
-use Rattle.shared_cache.specs.Out.{is_polled}
+use Rattle.shared_cache.specs.Out.{is_polled, untaken}
 use Rattle.shared_cache.specs.HeldKeys.{KeysHeld, found_in, listed, with_pairs, forgotten}
 use Rattle.shared_cache.specs.HeldKeys.{IsSortedAs}
 use Rattle.shared_cache.proofs.Listing.{held_sorted}
-use Rattle.shared_cache.specs.Out.{untaken}
 use Rattle.shared_cache.specs.ClientFields.{Fields, Reflects, IsLast, pending_at, marks_by}
 use Rattle.shared_cache.proofs.Fetches.{beyond, unless_none}
 use Rattle.shared_cache.proofs.HeldLists.{held_none}
@@ -41,10 +36,9 @@ use Rattle.shared_cache.proofs.Places.{pairs_placed}
 use Rattle.shared_cache.proofs.HeldSteps.{held_send}
 use Rattle.shared_cache.proofs.MarkLists.{marks_none, marks_filter, mark_unless}
 use Rattle.shared_cache.proofs.Bytes.{untaken_one, untaken_same, untaken_took, untaken_none}
-use Rattle.shared_cache.proofs.PendingLists.{no_reply, has_reply, owed_push, owed_gone}
-use Rattle.shared_cache.proofs.PendingLists.{gone_is, waits_is, there_is}
+use Rattle.shared_cache.proofs.PendingLists.{no_reply, has_reply, owed_push, owed_gone, gone_is}
+use Rattle.shared_cache.proofs.PendingLists.{waits_is, there_is}
 use Rattle.shared_cache.proofs.StepCases.{poll_unwanted, poll_wanted, handed, high, wanted}
-use Rattle.shared_cache.specs.Log.{reply}
 use Rattle.shared_cache.specs.Steps.{client_step, polling, refusing}
 use Rattle.shared_cache.specs.declared.log.ClientCall.TheVariants as call
 use Rattle.shared_cache.specs.declared.log.ClientReply.TheVariants.{Answer}
@@ -116,29 +110,11 @@ module _ (s : Setup) (log : List LogEntry) (f : Fields) (k : Reflects s log f) w
       → Reflects s (e ∷ log) (record f { marks = []; keys = with_pairs [] f.keys; ended = true })
   reflects_last (End w) e = reflects_end w e
   reflects_last (Bad w v) e = reflects_bad w v e
-  reflects_last (Ask q) e = absurd e
-  reflects_last (Send ws) e = absurd e
-  reflects_last (Poll n) e = absurd e
-  reflects_last (TakeOut w n) e = absurd e
-  reflects_last (Got w v) e = absurd e
+  reflects_last h e = absurd e
 
   pub reflects_take : (most : ℕ)
       → Reflects s (TakeOut Main most ∷ log) (record f { queued = drop most f.queued })
-  reflects_take most = record {
-    queued_is = ap (drop most) k.queued_is ∙ sym (untaken_took s log most);
-    replied_is = k.replied_is;
-    replied_within = k.replied_within;
-    ready_is = k.ready_is;
-    pending_count = k.pending_count;
-    pending_is = k.pending_is;
-    unpolled = k.unpolled;
-    owed_is = k.owed_is;
-    marks_is = k.marks_is;
-    keys_is = k.keys_is;
-    ended_is = k.ended_is;
-    side_is = k.side_is;
-    broken_is = k.broken_is;
-  }
+  reflects_take most = grind (arith, untaken_took)
 
   pub reflects_send : (ws : Words) (w : Written) → w ≡ written_by ws
       → Reflects s (Send ws ∷ log) (record f {
@@ -188,25 +164,23 @@ module _ (s : Setup) (log : List LogEntry) (f : Fields) (k : Reflects s log f) w
   pub reflects_poll : (n i : ℕ) (v : Value) → n ≡ i + first_number s.mode → i < length f.pending
       → get_or f.pending i Gone ≡ There v
       → Reflects s (Poll n ∷ log) (record f { pending = set f.pending i Gone; owed = f.owed - 1 })
-  reflects_poll n i v e lt is =
-      grind (
-        arith,
-        untaken_same,
-        length-set,
-        cases_eq,
-        get_or-set_same,
-        eq-eqb,
-        get_or-set_other,
-        ne_eqb,
-        number_there,
-        owed_gone,
-      )
+  reflects_poll n i v e lt is = grind (
+    arith,
+    untaken_same,
+    length-set,
+    cases_eq,
+    get_or-set_same,
+    eq-eqb,
+    get_or-set_other,
+    ne_eqb,
+    number_there,
+    owed_gone,
+  )
 
   -- a Poll, by what stands for its number
   standing : (n : ℕ) → handshake_length s.mode < n → n ≤ length f.pending + handshake_length s.mode
       → get_or f.pending (n - 2 - 1) Gone ≡ pending_at s.mode log n
-  standing n low within = k.pending_is (n - 2 - 1) (omega arith)
-      ∙ ap (pending_at s.mode log) (let e : n - 2 - 1 + 3 ≡ n = omega arith in e)
+  standing n low within = grind arith
 
   pub poll_past : (n : ℕ) → length f.pending + handshake_length s.mode < n
       → client_step s log (call.Poll n) ≡ refusing (NoNumber n) log
@@ -216,24 +190,15 @@ module _ (s : Setup) (log : List LogEntry) (f : Fields) (k : Reflects s log f) w
       (within : n ≤ length f.pending + handshake_length s.mode) where
     pub poll_gone : get_or f.pending (n - 2 - 1) Gone ≡ Gone
         → client_step s log (call.Poll n) ≡ refusing (NoNumber n) log
-    poll_gone e = poll_unwanted s log n
-        (handed s log n (gone_is _ (reply s.mode log n) (sym (standing n low within) ∙ e)))
+    poll_gone e = grind (arith, poll_unwanted, handed, gone_is, standing)
 
     pub poll_waits : (over : Bool) → get_or f.pending (n - 2 - 1) Gone ≡ Waiting → f.ended ≡ over
         → client_step s log (call.Poll n) ≡ polling None n over log
-    poll_waits over e ended =
-        let says = waits_is (is_polled log n) (reply s.mode log n)
-        (sym (standing n low within) ∙ e) in
-        poll_wanted s log n None over
-        (wanted s log n low (omega (arith, k.pending_count)) says.0) says.1 (sym k.ended_is ∙ ended)
+    poll_waits over e ended = grind (arith, waits_is, standing, poll_wanted, wanted)
 
     pub poll_there : (v : Value) → get_or f.pending (n - 2 - 1) Gone ≡ There v
         → client_step s log (call.Poll n) ≡ record { reply = Answer v; past = Poll n ∷ log }
-    poll_there v e =
-        let says = there_is (is_polled log n) (reply s.mode log n) v
-        (sym (standing n low within) ∙ e) in
-        poll_wanted s log n (Some v) (is_ended s.mode Main log)
-        (wanted s log n low (omega (arith, k.pending_count)) says.0) says.1 refl
+    poll_there v e = grind (arith, there_is, standing, poll_wanted, wanted)
 
   -- what the keys say of what is held
   pub query_found : (q : Words) (keys : KeysHeld) → keys ≡ f.keys

@@ -1,7 +1,7 @@
 -- The replies behind those of the front, which were handed out.
-use Rattle.std.proofs.Common.{◌≡◌, ◌+◌, ◌-◌, ◌<◌, ◌≤◌, ◌++◌, ℕ, List, [], ◌∷◌, length}
-use Rattle.std.proofs.Common.{get_or, set, drop, replicate, Option, Some, None, sym, ap, ◌∙◌, arith}
-use Rattle.std.proofs.Common.{refl, append_assoc, append-nil}
+use Rattle.std.proofs.Common.{◌≡◌, ◌+◌, ◌-◌, ◌<◌, ◌≤◌, ◌++◌, ℕ, List, [], ◌∷◌, length, get_or, set}
+use Rattle.std.proofs.Common.{drop, replicate, Option, Some, None, sym, ap, ◌∙◌, arith, refl}
+use Rattle.std.proofs.Common.{append_assoc, append-nil}
 use Rattle.std.proofs.lemmas.Bool.{cases_lt}
 use Rattle.std.proofs.lemmas.List.{length-append, length-replicate, get_or-replicate, get_or_past}
 use Rattle.std.proofs.lemmas.List.{get_or_append_left, get_or-append_right, set-append_right}
@@ -23,8 +23,7 @@ in_front gone rest i lt =
 
 pub behind : (gone : ℕ) (rest : List PendingReply) (i : ℕ) → gone ≤ i
     → get_or (replicate gone Gone ++ rest) i Gone ≡ get_or rest (i - gone) Gone
-behind gone rest i le =
-    get_or-append_right (replicate gone Gone) rest gone i Gone (length-replicate gone Gone) le
+behind gone rest i le = grind (arith, get_or-append_right, replicate, length-replicate)
 
 -- a number that waits is not of the front
 pub waits_behind : (gone : ℕ) (rest : List PendingReply) (i : ℕ)
@@ -34,8 +33,7 @@ waits_behind gone rest i e = grind (arith, cases_lt, gone_waits, in_front, behin
 
 pub set_behind : (gone : ℕ) (rest : List PendingReply) (i : ℕ) (r : PendingReply) → gone ≤ i
     → replicate gone Gone ++ set rest (i - gone) r ≡ set (replicate gone Gone ++ rest) i r
-set_behind gone rest i r le =
-    sym (set-append_right (replicate gone Gone) rest gone i r (length-replicate gone Gone) le)
+set_behind gone rest i r le = grind (arith, set-append_right, replicate, length-replicate)
 
 pub hands_behind : (gone : ℕ) (old : List PendingReply) (i : ℕ) (h : Handed)
     (new : List PendingReply) → gone ≤ i → HandsOver old (i - gone) h new

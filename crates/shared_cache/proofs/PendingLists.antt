@@ -1,7 +1,6 @@
 -- The replies that wait for their callers, by the log.
-use Rattle.std.proofs.Common.{◌≡◌, ◌+◌, ◌<◌, ◌≤◌, ◌++◌, ℕ, zero, suc, List, [], ◌∷◌, length}
-use Rattle.std.proofs.Common.{set, get_or, Bool, true, false, cond, Option, Some, None, ap}
-use Rattle.std.proofs.Common.{refl, arith}
+use Rattle.std.proofs.Common.{◌≡◌, ◌+◌, ◌<◌, ◌≤◌, ◌++◌, ℕ, zero, suc, List, [], ◌∷◌, length, set}
+use Rattle.std.proofs.Common.{get_or, Bool, true, false, cond, Option, Some, None, ap, refl, arith}
 use Rattle.std.proofs.lemmas.Grind.{common_steps}
 use Rattle.resp_value.specs.declared.value.Value.{Value}
 use Rattle.shared_cache.specs.declared.entry.PendingReply.{PendingReply}
@@ -29,23 +28,21 @@ owed_push (Gone ∷ ds) = owed_push ds
 pub owed_there : (ds : List PendingReply) (i : ℕ) (v : Value) → get_or ds i Gone ≡ Waiting
     → owed_in (set ds i (There v)) ≡ owed_in ds
 owed_there [] i v e = refl
-owed_there (Waiting ∷ ds) zero v e = refl
-owed_there (There u ∷ ds) zero v e = refl
 owed_there (Gone ∷ ds) zero v e = cc
 owed_there (Waiting ∷ ds) (suc i) v e = ap (λ n. n + 1) (owed_there ds i v e)
 owed_there (There u ∷ ds) (suc i) v e = ap (λ n. n + 1) (owed_there ds i v e)
 owed_there (Gone ∷ ds) (suc i) v e = owed_there ds i v e
+owed_there ds zero v e = refl
 
 -- a reply is handed over
 pub owed_gone : (ds : List PendingReply) (i : ℕ) (v : Value) → get_or ds i Gone ≡ There v
     → owed_in ds ≡ owed_in (set ds i Gone) + 1
 owed_gone [] i v e = cc
-owed_gone (Waiting ∷ ds) zero v e = cc
 owed_gone (There u ∷ ds) zero v e = refl
-owed_gone (Gone ∷ ds) zero v e = cc
 owed_gone (Waiting ∷ ds) (suc i) v e = ap (λ n. n + 1) (owed_gone ds i v e)
 owed_gone (There u ∷ ds) (suc i) v e = ap (λ n. n + 1) (owed_gone ds i v e)
 owed_gone (Gone ∷ ds) (suc i) v e = owed_gone ds i v e
+owed_gone ds zero v e = cc
 
 -- what a pending reply says of its number
 pub gone_is : (b : Bool) (o : Option Value) → cond b Gone (there o) ≡ Gone → b ≡ true

@@ -1,16 +1,12 @@
 -- The places of what is held are the same in the order of the keys.
-use Rattle.std.proofs.Common.{◌≡◌, ◌+◌, ◌++◌, ◌⊎◌, ℕ, List, [], ◌∷◌, true, false}
-use Rattle.std.proofs.Common.{Bool, cond, not}
+use Rattle.std.proofs.Common.{◌≡◌, ◌+◌, ◌++◌, ◌⊎◌, ℕ, List, [], ◌∷◌, true, false, Bool, cond, not}
 use Rattle.std.proofs.Common.{Option, Some, None, sym, ap, ◌∙◌, refl, subst, inl, inr, arith}
 use Rattle.std.specs.Str.{bytes_eq}
 use Rattle.std.proofs.lemmas.Grind.{common_steps}
 use Rattle.command_words.specs.Queries.{key_of}
 use Rattle.shared_cache.specs.declared.entry.CacheEntry.{CacheEntry}
-use Rattle.shared_cache.specs.declared.log.Wire.TheVariants.{Main}
 use Rattle.shared_cache.specs.declared.log.LogEntry.{LogEntry}
-use Rattle.shared_cache.specs.Log.{replies}
-use Rattle.shared_cache.specs.Held.{Setup, Key, held, open_fetch, left, is_before, rank, ranked}
-use Rattle.shared_cache.specs.Held.{held_in_place}
+use Rattle.shared_cache.specs.Held.{Setup, Key, held, is_before, rank, ranked, held_in_place}
 use Rattle.shared_cache.specs.HeldKeys.{Pairs, ArePairsOf, listed, of_key, but_key}
 use Rattle.shared_cache.proofs.Order.{Among, Apart, ranked_some, ranked_is, same_ranked, held_apart}
 
@@ -32,8 +28,7 @@ among_either h (x ∷ xs) ys (inl e) = inl (inl e)
 among_either h (x ∷ xs) ys (inr a) = grind (arith, among_either h xs ys a)
 
 or_right : {P Q R : Type 0} → (Q → R) → P ⊎ Q → P ⊎ R
-or_right f (inl x) = inl x
-or_right f (inr y) = inr (f y)
+or_right f e = grind arith
 
 among_of : (k : Key) (h : CacheEntry) (hs : List CacheEntry) → Among h (of_key k hs) → Among h hs
 among_of k h [] a = a
@@ -54,12 +49,10 @@ among_but k h (g ∷ gs) a =
     ] a
 
 first_or : {P Q R S : Type 0} → (Q → R ⊎ S) → P ⊎ Q → (P ⊎ R) ⊎ S
-first_or f (inl x) = inl (inl x)
-first_or f (inr y) = elim (f y) [ inl z ↦ inl (inr z) | inr z ↦ inr z ]
+first_or f e = grind arith
 
 second_or : {P Q R S : Type 0} → (Q → R ⊎ S) → P ⊎ Q → R ⊎ (P ⊎ S)
-second_or f (inl x) = inr (inl x)
-second_or f (inr y) = elim (f y) [ inl z ↦ inl z | inr z ↦ inr (inr z) ]
+second_or f e = grind arith
 
 among_parts : (k : Key) (h : CacheEntry) (hs : List CacheEntry) → Among h hs
     → Among h (of_key k hs) ⊎ Among h (but_key k hs)
@@ -140,15 +133,12 @@ module _ (place : ℕ) (pairs : Pairs) (hs : List CacheEntry) (p : ArePairsOf pa
   by_answer None e None f = refl
 
   placed_alike : held_in_place place (listed pairs) ≡ held_in_place place hs
-  placed_alike =
-      by_answer (held_in_place place hs) refl (held_in_place place (listed pairs)) refl
+  placed_alike = grind (arith, by_answer)
 
 pub pairs_placed : (s : Setup) (log : List LogEntry) (place : ℕ) (pairs : Pairs)
     → ArePairsOf pairs (held s log)
     → held_in_place place (listed pairs) ≡ held_in_place place (held s log)
-pairs_placed s log place pairs p =
-    placed_alike place pairs (held s log) p
-    (held_apart (open_fetch s log) (left s log) (replies s.mode Main log))
+pairs_placed s log place pairs p = grind (arith, placed_alike, held_apart)
 
 -- ---- one key after the other
 

@@ -1,8 +1,6 @@
 -- Look-ups in a list with `Vec<u8>` keys, and in the list of plain pairs that it is to contracts.
-use Rattle.std.proofs.Common.{◌≡◌, ℕ, zero, suc, Bool, List, [], ◌∷◌}
-use Rattle.std.proofs.Common.{Option}
-use Rattle.std.proofs.Common.{Some, None, option_map, take, Vec, Global, map, refl, ap, ◌∙◌}
-use Rattle.std.proofs.Common.{arith}
+use Rattle.std.proofs.Common.{◌≡◌, ℕ, zero, suc, Bool, List, [], ◌∷◌, Option, option_map, take, Vec}
+use Rattle.std.proofs.Common.{Global, map, refl, ap, ◌∙◌, arith}
 use Rattle.std.proofs.lemmas.Grind.{common_steps}
 use Rattle.std.specs.Map.{lookup, lookup_entry, remove_entry}
 use Rattle.std.specs.Option.{option_map_or}
@@ -30,8 +28,7 @@ module _ {X : Type 0} where
       (rest es : List (Vec ℕ Global × X))
       → map plain (option_map_or (λ e. e ∷ rest) o es) ≡ option_map_or (λ e. e ∷ map plain rest)
       (option_map plain o) (map plain es)
-  first_plain (Some e) rest es = refl
-  first_plain None rest es = refl
+  first_plain o rest es = grind arith
 
   pub promoted_plain : (t : List ℕ → Bool) (es : List (Vec ℕ Global × X))
       → map plain (option_map_or (λ e. e ∷ remove_entry (λ k. t k.items) es)
@@ -57,8 +54,7 @@ module _ {X : Type 0} where
       ((k, v) ∷ take n es))
       ≡ option_map_or (λ e. (e.0, v) ∷ remove_entry t (map plain es)) (option_map plain o)
       ((k.items, v) ∷ take n (map plain es))
-  put_by t es k v n None = ap (λ r. (k.items, v) ∷ r) (take_plain n es)
-  put_by t es k v n (Some e) = ap (λ r. (e.0.items, v) ∷ r) (remove_plain t es)
+  put_by t es k v n o = grind (arith, take_plain, remove_plain)
 
   pub put_plain : (t : List ℕ → Bool) (es : List (Vec ℕ Global × X)) (k : Vec ℕ Global)
       (v : X) (n : ℕ)
@@ -66,7 +62,4 @@ module _ {X : Type 0} where
       (lookup_entry (λ y. t y.items) es) ((k, v) ∷ take n es))
       ≡ option_map_or (λ e. (e.0, v) ∷ remove_entry t (map plain es))
       (lookup_entry t (map plain es)) ((k.items, v) ∷ take n (map plain es))
-  put_plain t es k v n =
-      put_by t es k v n (lookup_entry (λ y. t y.items) es)
-      ∙ ap (λ o. option_map_or (λ e. (e.0, v) ∷ remove_entry t (map plain es)) o
-      ((k.items, v) ∷ take n (map plain es))) (entry_plain t es)
+  put_plain t es k v n = grind (arith, put_by, entry_plain)

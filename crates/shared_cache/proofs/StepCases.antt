@@ -1,7 +1,7 @@
 -- What a turn is, by what its checks found.
-use Rattle.std.proofs.Common.{◌≡◌, ◌==◌, ◌+◌, ◌<◌, ◌≤◌, ◌-◌, ℕ, zero, suc, List, []}
-use Rattle.std.proofs.Common.{◌∷◌, length, take, Bool, true, false, cond, not, Option, Some, None}
-use Rattle.std.proofs.Common.{sym, ap, ◌∙◌, refl, subst, arith}
+use Rattle.std.proofs.Common.{◌≡◌, ◌==◌, ◌+◌, ◌<◌, ◌≤◌, ℕ, zero, suc, List, [], ◌∷◌, length, take}
+use Rattle.std.proofs.Common.{Bool, true, false, cond, not, Option, Some, None, sym, ap, ◌∙◌, refl}
+use Rattle.std.proofs.Common.{arith}
 use Rattle.std.specs.Prelude.{nat_le}
 use Rattle.std.proofs.lemmas.Bool.{and_left, and_right, and_from, lt-ltb}
 use Rattle.resp_value.specs.declared.value.Value.{Value}
@@ -24,56 +24,44 @@ use Rattle.shared_cache.specs.declared.notices.Notice.{Notice}
 use Rattle.shared_cache.specs.declared.notices.Notice.TheVariants.{Reply, Keys, All, Broken, Other}
 use Rattle.shared_cache.specs.declared.notices.Notice.TheVariants.{Malformed}
 use Rattle.shared_cache.specs.Notices.{kind_of, IsPush}
-use Rattle.shared_cache.specs.Log.{handshake_length, replies, reply, is_ended}
-use Rattle.shared_cache.specs.Log.{is_ready, caching_on_for}
-use Rattle.shared_cache.specs.Held.{Setup, Words, Caller, SentCommand, sent, put_ask, put_command}
-use Rattle.shared_cache.specs.Held.{held}
+use Rattle.shared_cache.specs.Log.{handshake_length, replies, reply, is_ended, is_ready}
+use Rattle.shared_cache.specs.Held.{Setup, Words, Caller, SentCommand, sent, put_ask, held}
 use Rattle.shared_cache.specs.Held.{held_for, numbers}
 use Rattle.shared_cache.specs.Out.{untaken, is_polled, is_caller, is_callers, was_given, is_wanted}
 use Rattle.shared_cache.specs.Laws.{Every}
 use Rattle.shared_cache.proofs.Every.{every_append}
 use Rattle.std.specs.List.{slice_get}
 use Rattle.std.proofs.lemmas.Option.{slice_get_past}
-use Rattle.command_words.specs.Queries.{key_of}
 use Rattle.shared_cache.specs.declared.log.ClientMode.{ClientMode}
 use Rattle.shared_cache.specs.Steps.{refusing, is_log_full, read_number, command_number, answer_ask}
 use Rattle.shared_cache.specs.Steps.{polling, taking_out, is_welcome, judged, fault_of, getting}
-use Rattle.shared_cache.specs.Steps.{client_step, ClientStep, ClientTurn, MayRunOut, NeedsRoom}
+use Rattle.shared_cache.specs.Steps.{client_step, ClientStep, MayRunOut, NeedsRoom}
 
 -- an answer to an Ask is the step's
 pub stepped : (s : Setup) (log new : List LogEntry) (call : ClientCall) (o : Option CacheEntry)
     (n : ℕ) (r : ClientReply)
     → client_step s log call ≡ record { reply = answer_ask o n; past = new } → r ≡ answer_ask o n
     → ClientStep s log call r new
-stepped s log new call (Some h) n r e f = subst (λ x. ClientStep s log call x new) (sym f) e
-stepped s log new call None n r e f = subst (λ x. ClientStep s log call x new) (sym f) e
+stepped s log new call o n r e f = grind arith
 
 -- memory ran out where the step would have added an entry
 pub ran_out : (s : Setup) (log new : List LogEntry) (call : ClientCall) (e : LogEntry)
     (r : ClientReply) → NeedsRoom e
     → client_step s log call ≡ record { reply = r; past = e ∷ log } → new ≡ log
     → MayRunOut s log call × (new ≡ log)
-ran_out s log new call e r room is same =
-    ((e, room, ap (λ (t : ClientTurn). t.past) is), same)
+ran_out s log new call e r room is same = grind arith
 
 -- ---- each command after the handshake is a caller's
 
 ask_callers : (o : Option CacheEntry) (m : ClientMode) (on : Bool) (q : Words)
     → Every (λ (c : SentCommand). c.origin ≡ Caller) (put_ask o m on q)
-ask_callers (Some h) m on q = tt
-ask_callers None m on q = (refl, tt)
+ask_callers o m on q = grind arith
 
 pub sent_callers : (s : Setup) (log : List LogEntry)
     → Every (λ (c : SentCommand). c.origin ≡ Caller) (sent s log)
 sent_callers s [] = tt
-sent_callers s (entry.Ask q ∷ log) =
-    every_append (λ (c : SentCommand). c.origin ≡ Caller) (sent s log)
-    (put_ask (held_for q (held s log)) s.mode (caching_on_for s.mode log (key_of q)) q)
-    (sent_callers s log)
-    (ask_callers (held_for q (held s log)) s.mode (caching_on_for s.mode log (key_of q)) q)
-sent_callers s (entry.Send ws ∷ log) =
-    every_append (λ (c : SentCommand). c.origin ≡ Caller) (sent s log)
-    (put_command s.mode ws) (sent_callers s log) (refl, tt)
+sent_callers s (entry.Ask q ∷ log) = grind (arith, every_append, ask_callers, sent_callers s log)
+sent_callers s (entry.Send ws ∷ log) = grind (arith, every_append, sent_callers s log)
 sent_callers s (entry.Poll n ∷ log) = sent_callers s log
 sent_callers s (entry.TakeOut w n ∷ log) = sent_callers s log
 sent_callers s (entry.Got w v ∷ log) = sent_callers s log
@@ -165,13 +153,11 @@ module _ (s : Setup) (log : List LogEntry) where
   some_bytes : (most : ℕ) (bytes : List ℕ) → (length bytes == 0) ≡ false
       → taking_out Main most bytes false log ≡ record
       { reply = Bytes (take most bytes); past = entry.TakeOut Main most ∷ log }
-  some_bytes most [] e = cc
-  some_bytes most (b ∷ bytes) e = refl
+  some_bytes most bytes e = grind arith
 
   full_bytes : (most : ℕ) (bytes : List ℕ) → (length bytes == 0) ≡ false
       → taking_out Main most bytes true log ≡ refusing (LogFull (length log)) log
-  full_bytes most [] e = cc
-  full_bytes most (b ∷ bytes) e = refl
+  full_bytes most bytes e = grind arith
 
   taking_is : (most : ℕ) → is_ended s.mode Main log ≡ false
       → client_step s log (TakeOut Main most) ≡ taking_out Main most (untaken s Main log)
@@ -244,12 +230,11 @@ module _ (s : Setup) (log : List LogEntry) where
 
   pub fault_push : (v : Value) (n : Notice) → n ≡ kind_of v → IsPush n
       → fault_of s log Main v ≡ None
-  fault_push v Reply e p = absurd p
-  fault_push v Malformed e p = absurd p
   fault_push v Keys e p = judged_as v Keys (sym e)
   fault_push v All e p = judged_as v All (sym e)
   fault_push v Broken e p = judged_as v Broken (sym e)
   fault_push v Other e p = judged_as v Other (sym e)
+  fault_push v n e p = absurd p
 
   pub fault_unexpected : (v : Value) → kind_of v ≡ Reply
       → nat_le (numbers s log) (length (replies s.mode Main log)) ≡ true

@@ -31,6 +31,7 @@ use Rattle.shared_cache.specs.contracts.client.ClientState as client
 use Rattle.shared_cache.specs.contracts.client.ClientState.TheInside as client_parts
 use Rattle.shared_client.specs.contracts.logged.SharedClient as shared
 use Rattle.shared_client.specs.contracts.logged.SharedClient.TheInside as shared_parts
+use Rattle.std.proofs.Common.{arith}
 
 ruleset vectors = (vec.the_send, vec.the_sync, heap.the_send, heap.the_sync, frees)
 
@@ -68,8 +69,7 @@ list_send : IsSend list.the_row
 list_send = search (sendable, vectors, slot_send) depth 20
 
 slots_inside : IsSend slots_parts.the_row
-slots_inside =
-    declared_send slots_parts.the_type (search (sendable, list_send) depth 10, tt)
+slots_inside = grind (arith, list_send)
 
 slots_send : IsSend slots.the_row
 slots_send = view_send _ _ _ _ _ slots_inside

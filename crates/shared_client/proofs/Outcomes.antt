@@ -1,6 +1,6 @@
 -- From a turn that was played, what its call's function promises.
-use Rattle.std.proofs.Common.{◌≡◌, ◌≤◌, [], ◌∷◌}
-use Rattle.std.proofs.Common.{Bool, true, false, refl, sym, ap, subst, ◌∙◌, Some, None, inl, inr}
+use Rattle.std.proofs.Common.{◌≡◌, ◌≤◌, [], ◌∷◌, Bool, true, false, refl, sym, ap, subst, ◌∙◌, Some}
+use Rattle.std.proofs.Common.{None, inl, inr, arith}
 use Rattle.std.specs.Prelude.{Option}
 use Rattle.turn_lock.specs.History.{past_after}
 use Rattle.turn_lock.specs.declared.rule.TheConstants.{LAST_TICKET}
@@ -12,8 +12,7 @@ use Rattle.shared_cache.specs.declared.log.Wire.TheVariants.{Main}
 use Rattle.shared_cache.specs.declared.log.LogEntry.{LogEntry}
 use Rattle.shared_cache.specs.declared.log.LogEntry.TheVariants as entry
 use Rattle.shared_cache.specs.declared.log.ClientCall.{ClientCall}
-use Rattle.shared_cache.specs.declared.log.ClientCall.TheVariants.{Ask, Send, Poll, TakeOut, Got}
-use Rattle.shared_cache.specs.declared.log.ClientCall.TheVariants.{End}
+use Rattle.shared_cache.specs.declared.log.ClientCall.TheVariants.{Got, End}
 use Rattle.shared_cache.specs.declared.log.ClientReply.{ClientReply}
 use Rattle.shared_cache.specs.declared.log.ClientReply.TheVariants.{Noted, Refused}
 use Rattle.shared_cache.specs.declared.log.ClientRefusal.{ClientRefusal}
@@ -40,10 +39,7 @@ module _ {before after : Place} {call : ClientCall} {reply : ClientReply}
       → is_no_memory reply ≡ false
       → client_step (setup_at before) p.past call
       ≡ record { reply = reply; past = past_after p.past e }
-  did_here e is room =
-      subst (λ s. client_step s p.past call ≡ record { reply = reply; past = past_after p.past e })
-      setup_is (stepped (setup_of p.setup) p.past call reply (past_after p.past p.added) p.did.0
-      room ∙ ap (λ l. record { reply = reply; past = l }) is)
+  did_here e is room = grind (arith, setup_is, stepped)
 
   adds_one : (e : LogEntry) → past_after p.past p.added ≡ e ∷ p.past → is_no_memory reply ≡ false
       → Adds call reply e before after
@@ -70,12 +66,8 @@ is_end call = false
 
 adding_is : (call : ClientCall) (reply : ClientReply) (e : Option LogEntry)
     → Adding call reply e → is_end call ≡ false → e ≡ entry_by call reply
-adding_is (Ask q) reply e is other = is
-adding_is (Send ws) reply e is other = is
-adding_is (Poll n) reply e is other = is
-adding_is (TakeOut w most) reply e is other = is
-adding_is (Got w v) reply e is other = is
 adding_is (End w) reply e is other = absurd (let bad : ⊥ = cc in bad)
+adding_is call reply e is other = is
 
 module _ (before after : Place) (call : ClientCall) where
   module _ (reply : ClientReply) (p : Plays TurnStep call reply before after)

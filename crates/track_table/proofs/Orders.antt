@@ -1,7 +1,7 @@
 -- Each call leaves keys that are there once and are held, and holders that ascend.
-use Rattle.std.proofs.Common.{◌≡◌, ◌<◌, ◌≤◌, ℕ, List, [], ◌∷◌, Bool, true, false, cond, length}
-use Rattle.std.proofs.Common.{◌-◌, ◌++◌, map, take, drop, refl, ap, sym, ◌∙◌, arith}
-use Rattle.std.specs.Prelude.{◌==◌, not, filter}
+use Rattle.std.proofs.Common.{◌≡◌, ◌≤◌, ℕ, List, [], ◌∷◌, Bool, true, false, cond, length, ◌-◌}
+use Rattle.std.proofs.Common.{◌++◌, map, take, drop, refl, ap, sym, ◌∙◌, arith}
+use Rattle.std.specs.Prelude.{filter}
 use Prim.Native.Nat.{zero, suc}
 use Rattle.std.specs.Str.{bytes_eq}
 use Rattle.std.proofs.lemmas.Slice.Eq.{bytes_eq-Decides}
@@ -10,8 +10,8 @@ use Rattle.std.proofs.lemmas.List.{length-drop, take_all, take-append-le}
 use Rattle.id_set.proofs.Orders.{ascend_with, ascend_without, with_some}
 use Rattle.track_table.specs.declared.table.Held.{Held}
 use Rattle.id_set.specs.Ids.{Ascend, with_id}
-use Rattle.track_table.specs.Table.{remembered, without_key}
-use Rattle.track_table.specs.Table.{without_connection, freed_of, is_held, holders_of}
+use Rattle.track_table.specs.Table.{remembered, without_key, without_connection, freed_of, is_held}
+use Rattle.track_table.specs.Table.{holders_of}
 use Rattle.track_table.specs.Order.{HasNo, AreOrdered, AreHeld, IsTable}
 
 same_bytes : (a b : List ℕ) → bytes_eq a b ≡ true → a ≡ b
@@ -31,75 +31,38 @@ has_no_remembered : (q : List ℕ) (id : ℕ) (key : List ℕ) (rs : List Held) 
     → bytes_eq q key ≡ false
     → HasNo q (remembered id key rs)
 has_no_remembered q id key [] h other = (other, tt)
-has_no_remembered q id key (r ∷ rs) h other =
-    elim (bytes_eq key r.key) as (λ b. HasNo q
-    (cond b (record r { holders = with_id id r.holders } ∷ rs) (r ∷ remembered id key rs))) [
-      | true ↦ h
-      | false ↦ (h.0, has_no_remembered q id key rs h.1 other)
-    ]
+has_no_remembered q id key (r ∷ rs) h other = grind (arith, has_no_remembered q id key rs h.1 other)
 
 ordered_remembered : (id : ℕ) (key : List ℕ) (rs : List Held) → AreOrdered rs
     → AreOrdered (remembered id key rs)
 ordered_remembered id key [] h = ((omega arith, tt), tt, tt)
 ordered_remembered id key (r ∷ rs) h =
-    elim (bytes_eq key r.key) as (λ b. bytes_eq key r.key ≡ b
-    → AreOrdered (cond b (record r { holders = with_id id r.holders } ∷ rs)
-    (r ∷ remembered id key rs))) [
-      | true ↦ λ e. (ascend_with id r.holders h.0, h.1, h.2)
-      | false ↦ λ e. (
-        h.0,
-        has_no_remembered r.key id key rs h.1 (apart key r.key e),
-        ordered_remembered id key rs h.2,
-      )
-    ] refl
+    grind (arith, ascend_with, has_no_remembered, apart, ordered_remembered id key rs h.2)
 
 held_remembered : (id : ℕ) (key : List ℕ) (rs : List Held) → AreHeld rs
     → AreHeld (remembered id key rs)
 held_remembered id key [] h = (omega arith, tt)
-held_remembered id key (r ∷ rs) h =
-    elim (bytes_eq key r.key) as (λ b. AreHeld
-    (cond b (record r { holders = with_id id r.holders } ∷ rs) (r ∷ remembered id key rs))) [
-      | true ↦ (with_some id r.holders, h.1)
-      | false ↦ (h.0, held_remembered id key rs h.1)
-    ]
+held_remembered id key (r ∷ rs) h = grind (arith, with_some, held_remembered id key rs h.1)
 
 pub table_remembered : (id : ℕ) (key : List ℕ) (rs : List Held) → IsTable rs
     → IsTable (remembered id key rs)
-table_remembered id key rs h = record {
-  ordered = ordered_remembered id key rs h.ordered;
-  held = held_remembered id key rs h.held;
-}
+table_remembered id key rs h = grind (arith, ordered_remembered, held_remembered, nat_tests)
 
 module _ (p : Held → Bool) where
   has_no_filter : (q : List ℕ) (rs : List Held) → HasNo q rs → HasNo q (filter p rs)
   has_no_filter q [] h = tt
-  has_no_filter q (r ∷ rs) h =
-      elim (p r) as (λ b. HasNo q (cond b (r ∷ filter p rs) (filter p rs))) [
-        | true ↦ (h.0, has_no_filter q rs h.1)
-        | false ↦ has_no_filter q rs h.1
-      ]
+  has_no_filter q (r ∷ rs) h = grind (arith, has_no_filter q rs h.1)
 
   ordered_filter : (rs : List Held) → AreOrdered rs → AreOrdered (filter p rs)
   ordered_filter [] h = tt
-  ordered_filter (r ∷ rs) h =
-      elim (p r) as (λ b. AreOrdered (cond b (r ∷ filter p rs) (filter p rs))) [
-        | true ↦ (h.0, has_no_filter r.key rs h.1, ordered_filter rs h.2)
-        | false ↦ ordered_filter rs h.2
-      ]
+  ordered_filter (r ∷ rs) h = grind (arith, has_no_filter, ordered_filter rs h.2)
 
   held_filter : (rs : List Held) → AreHeld rs → AreHeld (filter p rs)
   held_filter [] h = tt
-  held_filter (r ∷ rs) h =
-      elim (p r) as (λ b. AreHeld (cond b (r ∷ filter p rs) (filter p rs))) [
-        | true ↦ (h.0, held_filter rs h.1)
-        | false ↦ held_filter rs h.1
-      ]
+  held_filter (r ∷ rs) h = grind (arith, held_filter rs h.1)
 
 pub table_without_key : (key : List ℕ) (rs : List Held) → IsTable rs → IsTable (without_key key rs)
-table_without_key key rs h = record {
-  ordered = ordered_filter (λ r. not (bytes_eq key r.key)) rs h.ordered;
-  held = held_filter (λ r. not (bytes_eq key r.key)) rs h.held;
-}
+table_without_key key rs h = grind (arith, ordered_filter, held_filter, nat_tests)
 
 module _ (id : ℕ) where
   has_no_freed : (q : List ℕ) (rs : List Held) → HasNo q rs → HasNo q (map (freed_of id) rs)
@@ -108,25 +71,15 @@ module _ (id : ℕ) where
 
   ordered_freed : (rs : List Held) → AreOrdered rs → AreOrdered (map (freed_of id) rs)
   ordered_freed [] h = tt
-  ordered_freed (r ∷ rs) h =
-      (ascend_without id r.holders h.0, has_no_freed r.key rs h.1, ordered_freed rs h.2)
+  ordered_freed (r ∷ rs) h = grind (arith, ascend_without, has_no_freed, ordered_freed rs h.2)
 
 held_kept : (rs : List Held) → AreHeld (filter is_held rs)
 held_kept [] = tt
-held_kept (r ∷ rs) =
-    elim (length r.holders == 0) as (λ b. (length r.holders == 0) ≡ b
-    → AreHeld (cond (not b) (r ∷ filter is_held rs) (filter is_held rs))) [
-      | true ↦ λ e. held_kept rs
-      | false ↦ λ e. let some : 0 < length r.holders = grind (arith, nat_tests) in
-          (some, held_kept rs)
-    ] refl
+held_kept (r ∷ rs) = grind (arith, held_kept rs)
 
 pub table_without_connection : (id : ℕ) (rs : List Held) → IsTable rs
     → IsTable (without_connection id rs)
-table_without_connection id rs h = record {
-  ordered = ordered_filter is_held (map (freed_of id) rs) (ordered_freed id rs h.ordered);
-  held = held_kept (map (freed_of id) rs);
-}
+table_without_connection id rs h = grind (arith, ordered_filter, ordered_freed, held_kept)
 
 -- the holders of a key ascend
 pub holders_ascend : (key : List ℕ) (rs : List Held) → IsTable rs → Ascend (holders_of key rs)
@@ -134,9 +87,7 @@ holders_ascend key rs h = ascending rs h.ordered
   where
     ascending : (xs : List Held) → AreOrdered xs → Ascend (holders_of key xs)
     ascending [] h = tt
-    ascending (x ∷ xs) h =
-        elim (bytes_eq key x.key) as (λ b. Ascend (cond b x.holders (holders_of key xs)))
-        [ true ↦ h.0 | false ↦ ascending xs h.2 ]
+    ascending (x ∷ xs) h = grind (arith, ascending xs h.2)
 
 -- remembering a key changes its own holders alone
 pub holders_remembered : (q : List ℕ) (id : ℕ) (key : List ℕ) (rs : List Held)
@@ -160,16 +111,11 @@ holders_remembered q id key (r ∷ rs) =
     ] refl
   where
     changed : (a b : Bool) (x y z : List ℕ) → a ≡ b → cond a x z ≡ cond a x (cond b y z)
-    changed true true x y z e = refl
-    changed true false x y z e = refl
-    changed false false x y z e = refl
-    changed false true x y z e = absurd (let no : ⊥ = cc in no)
+    changed a b h y z e = grind (arith, nat_tests)
 
     swapped : (a b : Bool) (x y z : List ℕ) → (a ≡ true → b ≡ true → ⊥)
         → cond a x (cond b y z) ≡ cond b y (cond a x z)
-    swapped true true x y z differ = absurd (differ refl refl)
-    swapped true false x y z differ = refl
-    swapped false b x y z differ = refl
+    swapped a b e y z differ = grind (arith, nat_tests)
 
 -- the rows behind the first
 pub table_drop : (n : ℕ) (rs : List Held) → IsTable rs → IsTable (drop n rs)
@@ -181,6 +127,4 @@ table_drop (suc n) (r ∷ rs) h =
 -- what is left of the rows that were turned until the first stand last
 pub cut : (n : ℕ) (rs : List Held) → n ≤ length rs
     → take (length rs - n) (drop n rs ++ take n rs) ≡ drop n rs
-cut n rs le =
-    take-append-le (length rs - n) (drop n rs) (take n rs) (omega (arith, length-drop n rs))
-    ∙ take_all (length rs - n) (drop n rs) (omega (arith, length-drop n rs))
+cut n rs le = grind (arith, take-append-le, length-drop, take_all, nat_tests)

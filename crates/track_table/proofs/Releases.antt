@@ -10,8 +10,8 @@ use Rattle.std.proofs.lemmas.Bool.{or_parts}
 use Rattle.std.proofs.lemmas.Bool.Decides.{nat_tests}
 use Rattle.track_table.specs.declared.table.Held.{Held}
 use Rattle.id_set.specs.Ids.{AscendFrom, with_id, without_id}
-use Rattle.track_table.specs.Table.{holders_of, remembered, with_keys}
-use Rattle.track_table.specs.Table.{freed_of, is_held, released, all_released}
+use Rattle.track_table.specs.Table.{holders_of, remembered, with_keys, freed_of, is_held, released}
+use Rattle.track_table.specs.Table.{all_released}
 use Rattle.track_table.specs.Places.{nobody, NoneBefore, key_at}
 use Rattle.track_table.specs.Order.{HasNo, AreOrdered, AreHeld, IsTable}
 use Rattle.id_set.proofs.Orders.{ascend_without}
@@ -38,10 +38,8 @@ module _ (id : ℕ) (key : List ℕ) where
       → bytes_eq key (key_at rs n) ≡ true
       → NoneBefore key rs n → is_held (freed_of id (get_or rs n nobody)) ≡ false
       → released id key rs ≡ remove (set rs n x) n
-  released_gone [] n x lt is before held = absurd (omega arith)
-  released_gone (r ∷ rs) zero x lt is before held =
-      ap (λ b. cond b (left r rs) (r ∷ released id key rs)) is
-      ∙ ap (λ b. cond b (freed_of id r ∷ rs) rs) held
+  released_gone [] n e lt is before held = absurd (omega arith)
+  released_gone (r ∷ rs) zero e lt is before held = grind arith
   released_gone (r ∷ rs) (suc n) x lt is before held =
       ap (λ b. cond b (left r rs) (r ∷ released id key rs)) (before 0 (omega arith))
       ∙ ap (λ l. r ∷ l) (released_gone rs n x (omega arith) is
@@ -57,46 +55,20 @@ module _ (id : ℕ) (key : List ℕ) where
 
   has_no_released : (q : List ℕ) (rs : List Held) → HasNo q rs → HasNo q (released id key rs)
   has_no_released q [] h = tt
-  has_no_released q (r ∷ rs) h =
-      elim (bytes_eq key r.key) as (λ b. HasNo q (cond b (left r rs) (r ∷ released id key rs))) [
-        | true ↦ elim (is_held (freed_of id r)) as (λ b. HasNo q (cond b (freed_of id r ∷ rs) rs))
-            [ true ↦ h | false ↦ h.1 ]
-        | false ↦ (h.0, has_no_released q rs h.1)
-      ]
+  has_no_released q (r ∷ rs) h = grind (arith, has_no_released q rs h.1)
 
   ordered_released : (rs : List Held) → AreOrdered rs → AreOrdered (released id key rs)
   ordered_released [] h = tt
   ordered_released (r ∷ rs) h =
-      elim (bytes_eq key r.key) as (λ b. AreOrdered (cond b (left r rs) (r ∷ released id key rs))) [
-        | true ↦ elim (is_held (freed_of id r)) as (λ b. AreOrdered
-            (cond b (freed_of id r ∷ rs) rs)) [
-              | true ↦ (ascend_without id r.holders h.0, h.1, h.2)
-              | false ↦ h.2
-            ]
-        | false ↦ (h.0, has_no_released r.key rs h.1, ordered_released rs h.2)
-      ]
+      grind (arith, ascend_without, has_no_released, ordered_released rs h.2)
 
   held_released : (rs : List Held) → AreHeld rs → AreHeld (released id key rs)
   held_released [] h = tt
-  held_released (r ∷ rs) h =
-      elim (bytes_eq key r.key) as (λ b. AreHeld (cond b (left r rs) (r ∷ released id key rs))) [
-        | true ↦ elim (length (without_id id r.holders) == 0) as
-            (λ b. (length (without_id id r.holders) == 0) ≡ b
-            → AreHeld (cond (not b) (freed_of id r ∷ rs) rs)) [
-              | true ↦ λ e. h.1
-              | false ↦ λ e.
-                  let some : 0 < length (without_id id r.holders) = grind (arith, nat_tests) in
-                  (some, h.1)
-            ] refl
-        | false ↦ (h.0, held_released rs h.1)
-      ]
+  held_released (r ∷ rs) h = grind (arith, held_released rs h.1)
 
 pub table_released : (id : ℕ) (key : List ℕ) (rs : List Held) → IsTable rs
     → IsTable (released id key rs)
-table_released id key rs h = record {
-  ordered = ordered_released id key rs h.ordered;
-  held = held_released id key rs h.held;
-}
+table_released id key rs h = grind (arith, ordered_released, held_released, nat_tests)
 
 -- ---- a key that the connection did not hold
 
@@ -109,8 +81,7 @@ without_same id (h ∷ hs) none =
     ∙ ap (λ l. h ∷ l) (without_same id hs p.1)
 
 own_goes : (id : ℕ) (hs : List ℕ) → without_id id (id ∷ hs) ≡ without_id id hs
-own_goes id hs =
-    ap (λ b. cond (not b) (id ∷ without_id id hs) (without_id id hs)) (eq-eqb id id refl)
+own_goes id hs = grind (arith, eq-eqb)
 
 without_with : (id : ℕ) (hs : List ℕ) → list_any (λ h. h == id) hs ≡ false
     → without_id id (with_id id hs) ≡ hs
@@ -162,9 +133,7 @@ none_above : (id n : ℕ) (hs : List ℕ) → AscendFrom n hs → id < n
     → list_any (λ h. h == id) hs ≡ false
 none_above id n [] a lt = refl
 none_above id n (h ∷ hs) a lt =
-    let other : (h == id) ≡ false = let above = a.0 in grind (arith, nat_tests) in
-    ap (λ b. b || list_any (λ x. x == id) hs) other
-    ∙ none_above id (h + 1) hs a.1 (let above = a.0 in omega arith)
+    grind (arith, none_above id (h + 1) hs a.1 (let above = a.0 in omega arith))
 
 with_held : (id n : ℕ) (hs : List ℕ) → AscendFrom n hs → list_any (λ h. h == id) hs ≡ true
     → with_id id hs ≡ hs

@@ -20,11 +20,10 @@ use Rattle.turn_lock.specs.declared.rule.TheConstants.{ALL_PARTS}
 use Rattle.turn_lock.specs.Counts.{times}
 use Rattle.turn_lock.specs.History.{entries, past_after, history_after, Legal, made_by}
 use Rattle.turn_lock.specs.Seats.{IsSoundView}
-use Rattle.turn_lock.specs.Rule.{HasTicket, tickets_of, next_stage, Live, Seated, newcomer}
-use Rattle.turn_lock.specs.Rule.{kept_of, given_of}
-use Rattle.turn_lock.specs.Rule.{both_of, spent_view, waiting_view, serving_view, view_after}
-use Rattle.turn_lock.specs.Rule.{Roster, Queue, IsOut, AtHome, LockRule, looked_at, drew, entered}
-use Rattle.turn_lock.specs.Rule.{HasPlayed, left_by, begun, learned}
+use Rattle.turn_lock.specs.Rule.{HasTicket, tickets_of, next_stage, Live, Seated, newcomer, kept_of}
+use Rattle.turn_lock.specs.Rule.{given_of, both_of, spent_view, waiting_view, serving_view}
+use Rattle.turn_lock.specs.Rule.{view_after, Roster, Queue, IsOut, AtHome, LockRule, looked_at}
+use Rattle.turn_lock.specs.Rule.{drew, entered, HasPlayed, left_by, begun, learned}
 use Rattle.turn_lock.proofs.Counting.{total_at, total_two, total_alone, made_by-nil, made_by_once}
 use Rattle.turn_lock.proofs.Counting.{legal_begins, legal_after}
 use Rattle.turn_lock.proofs.Rosters.{live_of, set_there, same_at, fits_stage, fits_whole}
@@ -45,20 +44,17 @@ slot_of (x ∷ xs) = x.1
 -- the slot that was held is held again, with another value
 pub held_again : {X V : Type 0} (m m' m'' : V × List (ℕ × X)) (x a b : X) → m.1 ≡ (0, x) ∷ []
     → m' ≡ (m.0, (0, a) ∷ rest m.1) → m'' ≡ (m'.0, (0, b) ∷ rest m'.1) → m'' ≡ (m.0, (0, b) ∷ [])
-held_again m m' m'' x a b held one two = two
-    ∙ (ap (λ z. (z.0, (0, b) ∷ rest z.1)) one ∙ ap (λ z. (m.0, (0, b) ∷ rest z)) held)
+held_again m m' m'' e a b held one two = grind arith
 
 entries-after : {E : Type 0} (n : ℕ) (h : List (ℕ × E)) (e : Option E)
     → past_after (entries h) e ≡ entries (history_after n h e)
-entries-after n h None = refl
-entries-after n h (Some e) = refl
+entries-after n h e = grind arith
 
 seated_at : (s t : Stage) → s ≡ t → Seated t → Seated s
 seated_at s t e h = subst Seated (sym e) h
 
 next_seated : (t more : ℕ) → Seated (next_stage t more)
-next_seated t zero = tt
-next_seated t (suc more) = tt
+next_seated t more = grind arith
 
 module _ {S U E C R : Type 0} (setup : S → U) (stands : S → List E → Type 0)
     (step_of : U → List E → C → R → Option E → Type 0) (about : U) where
@@ -489,8 +485,7 @@ module _ {S U E C R : Type 0} (setup : S → U) (stands : S → List E → Type 
     where
       only : (j : ℕ) (u : View U E) → get_elem? (newcomer {U = U} {E = E} about ∷ []) j ≡ some u
           → newcomer {U = U} {E = E} about ≡ u
-      only zero u e = some-injective _ _ e
-      only (suc j) u e = absurd (some-ne-none u (sym e))
+      only j u e = grind arith
 
   -- where one seat has all shares and no ticket, the state is home and stands for all that the seat
   -- has seen

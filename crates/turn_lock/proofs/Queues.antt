@@ -1,6 +1,6 @@
 -- The steps keep what is true of the tickets.
-use Rattle.std.proofs.Common.{◌≡◌, ◌≢◌, ℕ, zero, suc, ◌+◌, ◌<◌, ◌≤◌, ◌⊎◌, inl, inr, List, [], ◌∷◌}
-use Rattle.std.proofs.Common.{◌++◌, set, sym, refl, ap, ◌∙◌, subst, arith, ⊎_elim}
+use Rattle.std.proofs.Common.{◌≡◌, ◌≢◌, ℕ, ◌+◌, ◌<◌, ◌≤◌, ◌⊎◌, inl, inr, List, [], ◌∷◌, ◌++◌, set}
+use Rattle.std.proofs.Common.{sym, ap, ◌∙◌, subst, arith, ⊎_elim}
 use mathlib.Core.Option.{some}
 use mathlib.Core.Logic.{dite}
 use native.Mathlib.Decide.{ℕ_discrete}
@@ -22,22 +22,15 @@ number_of Spent = 0
 
 has_next : (s more t : ℕ) → HasTicket (next_stage (s + 1) more) (one_less more) t
     → (s + 1 ≤ t) × (t ≤ s + more)
-has_next s zero t h = absurd h
-has_next s (suc more) t h = (h.0, (let high = h.1 in omega arith))
+has_next s more t h = grind arith
 
 count_next : (s more : ℕ) → tickets_of (next_stage s more) (one_less more) ≡ more
-count_next s zero = refl
-count_next s (suc more) = omega arith
+count_next s more = grind arith
 
 next_not_out : (s more t : ℕ) → next_stage s more ≡ Out t → ⊥
-next_not_out s zero t e = absurd cc
-next_not_out s (suc more) t e = absurd cc
+next_not_out s more t e = grind arith
 
 module _ {U E : Type 0} where
-  Apart : List (View U E) → Type 0
-  Apart vs = (i j : ℕ) (v w : View U E) (t : ℕ) → get_elem? vs i ≡ some v → get_elem? vs j ≡ some w
-      → HasTicket v.stage v.more t → HasTicket w.stage w.more t → i ≡ j
-
   -- the ticket of the view that changes is one that it had, or one that no other has
   apart_set : (vs : List (View U E)) (id : ℕ) (v w : View U E) → get_elem? vs id ≡ some v
       → ((i j : ℕ) (v w : View U E) (t : ℕ) → get_elem? vs i ≡ some v → get_elem? vs j ≡ some w
@@ -47,22 +40,7 @@ module _ {U E : Type 0} where
       → (i j : ℕ) (a b : View U E) (t : ℕ) → get_elem? (set vs id w) i ≡ some a
       → get_elem? (set vs id w) j ≡ some b → HasTicket a.stage a.more t
       → HasTicket b.stage b.more t → i ≡ j
-  apart_set vs id v w at old new i j a b t ea eb ha hb =
-      ⊎_elim
-      (λ (p : (i ≡ id) × (w ≡ a)). let hw =
-      subst (λ (u : View U E). HasTicket u.stage u.more t) (sym p.1) ha in ⊎_elim
-      (λ (q : (j ≡ id) × (w ≡ b)). p.0 ∙ sym q.0)
-      (λ (q : (j ≢ id) × (get_elem? vs j ≡ some b)). ⊎_elim
-      (λ hv. p.0 ∙ old id j v b t at q.1 hv hb) (λ no. absurd (no j b q.1 hb)) (new t hw))
-      (at_set vs id j w b eb))
-      (λ (p : (i ≢ id) × (get_elem? vs i ≡ some a)). ⊎_elim
-      (λ (q : (j ≡ id) × (w ≡ b)). let hw =
-      subst (λ (u : View U E). HasTicket u.stage u.more t) (sym q.1) hb in
-      ⊎_elim (λ hv. old i id a v t p.1 at ha hv ∙ sym q.0) (λ no. absurd (no i a p.1 ha))
-      (new t hw))
-      (λ (q : (j ≢ id) × (get_elem? vs j ≡ some b)). old i j a b t p.1 q.1 ha hb)
-      (at_set vs id j w b eb))
-      (at_set vs id i w a ea)
+  apart_set vs id v w at old new i j a b t ea eb ha hb = grind (arith, at_set)
 
   -- one view changes, and keeps its ticket
   pub queue_set : (drawn served : ℕ) (h : List (ℕ × E)) (vs : List (View U E)) (id : ℕ)

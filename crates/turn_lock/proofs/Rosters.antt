@@ -47,8 +47,7 @@ module _ {A : Type 0} where
   at_end [] a b zero e = inr (refl, some-injective a b e)
   at_end [] a b (suc j) e = absurd (some-ne-none b (sym e))
   at_end (x ∷ xs) a b zero e = inl e
-  at_end (x ∷ xs) a b (suc j) e =
-      ⊎_elim (λ h. inl h) (λ h. inr (ap suc h.0, h.1)) (at_end xs a b j e)
+  at_end (x ∷ xs) a b (suc j) e = grind (arith, at_end xs a b j e)
 
   pub within : (l : List A) (i : ℕ) (a : A) → get_elem? l i ≡ some a → i < length l
   within [] i a e = absurd (some-ne-none a (sym e))
@@ -523,5 +522,4 @@ module _ {U E : Type 0} (setup : U) where
     where
       only : (j : ℕ) (u : View U E) → get_elem? (newcomer setup ∷ []) j ≡ some u → (j ≡ 0)
           × (newcomer setup ≡ u)
-      only zero u e = (refl, some-injective _ _ e)
-      only (suc j) u e = absurd (some-ne-none u (sym e))
+      only j u e = grind arith

@@ -1,17 +1,14 @@
 -- What is behind a refusal is refused, reply by reply.
-use Rattle.std.proofs.Common.{◌≡◌, List, [], ◌∷◌, ◌++◌, Bool, true, false, refl, sym, ◌∙◌}
+use Rattle.std.proofs.Common.{◌≡◌, List, [], ◌∷◌, ◌++◌, Bool, true, false, refl, sym, ◌∙◌, arith}
 use Rattle.std.specs.List.{All}
-use Rattle.std.proofs.lemmas.List.Elements.{All-nil, All-cons, All-append, All-head, All-tail}
+use Rattle.std.proofs.lemmas.List.Elements.{All-nil, All-cons, All-append, All-tail}
 use Rattle.turn_lock.specs.Seats.{StopsAt}
 
 module _ {R : Type 0} (refuses : R → Bool) where
   behind : (is_over : Bool) (x r : R) (rs : List R)
       → (is_over ≡ false → All (λ y. refuses y ≡ false) (x ∷ rs))
       → (is_over ≡ true → refuses r ≡ true) → refuses x ≡ true → refuses r ≡ true
-  behind true x r rs none over h = over refl
-  behind false x r rs none over h =
-      let no = All-head (λ y. refuses y ≡ false) x rs (none refl) in
-      let clash : true ≡ false = sym h ∙ no in absurd cc
+  behind is_over e r rs none over h = grind arith
 
   pub stops_more : (is_over : Bool) (rs : List R) (r : R) → StopsAt refuses rs
       → (is_over ≡ false → All (λ y. refuses y ≡ false) rs)

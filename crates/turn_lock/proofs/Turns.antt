@@ -1,6 +1,6 @@
 -- Turns one after another, with tickets that were drawn at once.
-use Rattle.std.proofs.Common.{◌≡◌, ℕ, zero, suc, ◌+◌, ◌≤◌, List, [], ◌∷◌, ◌++◌, length}
-use Rattle.std.proofs.Common.{sym, refl, ap, ◌∙◌, subst, arith, append_assoc}
+use Rattle.std.proofs.Common.{◌≡◌, ℕ, suc, ◌+◌, ◌≤◌, List, [], ◌∷◌, ◌++◌, length, sym, refl, ap}
+use Rattle.std.proofs.Common.{◌∙◌, subst, arith, append_assoc}
 use Rattle.std.specs.Prelude.{Option, Some, IfSome}
 use Rattle.std.specs.List.{All}
 use Rattle.atomic_table.specs.Table.{Me}
@@ -12,9 +12,6 @@ use Rattle.turn_lock.specs.History.{IsPrefix, history_after, own_after}
 use Rattle.turn_lock.specs.Seats.{Known, known, IsSameSeat, IsSoundView, Turned, TurnedAll}
 use Rattle.turn_lock.specs.Rule.{next_stage, one_less, waiting_view, serving_view, view_after}
 use Rattle.turn_lock.specs.Rule.{Enters, TurnEnds, IsReady, IsSameView}
-
-is_some : {A : Type 0} (P : A → Type 0) (o : Option A) → IfSome o P → (a : A) → o ≡ Some a → P a
-is_some P o h a e = subst (λ z. IfSome z P) e h
 
 module _ {U E C R : Type 0} (step : U → List E → C → R → Option E → Type 0) where
   -- after some turns comes one more
@@ -74,13 +71,11 @@ module _ {U E C R : Type 0} (step : U → List E → C → R → Option E → Ty
   pub none_turned : (calls : List C) (replies : List R) (k l : Known U E) → length calls ≡ 0
       → replies ≡ [] → l ≡ k → TurnedAll step calls replies k l
   none_turned [] replies k l none empty is = grind arith
-  none_turned (c ∷ calls) replies k l none empty is =
-      let long : suc (length calls) ≡ 0 = none in absurd (omega arith)
+  none_turned (c ∷ calls) replies k l none empty is = grind arith
 
 ready_next : {U E : Type 0} (v : View U E) (t n : ℕ) → v.stage ≡ next_stage t n
     → v.more ≡ one_less n → IsReady v t n
-ready_next v t zero stage more = stage
-ready_next v t (suc n) stage more = (stage, more)
+ready_next v t n stage more = grind arith
 
 module _ {S U E C R : Type 0} (setup : S → U) (stands : S → List E → Type 0)
     (step : U → List E → C → R → Option E → Type 0) (fits_call : U → C → Type 0)

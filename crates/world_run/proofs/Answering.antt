@@ -1,7 +1,7 @@
 -- What a turn of a client comes to in the code.
 use Rattle.std.proofs.Common.{◌≡◌, ◌+◌, ℕ, List, [], ◌∷◌, ◌++◌, Bool, true, false, cond, length}
-use Rattle.std.proofs.Common.{Option, Some, None, Result, Ok, Err, refl, sym, ap, subst, ◌∙◌, arith}
-use Rattle.std.proofs.Common.{◌≤◌, append-nil, length-append, ◌⊎◌, inl, inr}
+use Rattle.std.proofs.Common.{Some, None, refl, sym, ap, subst, ◌∙◌, arith, ◌≤◌, append-nil}
+use Rattle.std.proofs.Common.{length-append}
 use Rattle.resp_value.specs.declared.value.Value.{Value}
 use Rattle.shared_cache.specs.declared.log.Wire.{Wire}
 use Rattle.shared_cache.specs.declared.log.Wire.TheVariants.{Main}
@@ -13,39 +13,23 @@ use Rattle.shared_cache.specs.declared.log.ClientReply.{ClientReply}
 use Rattle.shared_cache.specs.declared.log.ClientReply.TheVariants.{Hit, Sent, NotYet, Answer}
 use Rattle.shared_cache.specs.declared.log.ClientReply.TheVariants.{Bytes, Quiet, Noted, Refused}
 use Rattle.shared_cache.specs.declared.log.ClientRefusal.{ClientRefusal}
-use Rattle.shared_cache.specs.declared.log.ClientRefusal.TheVariants as refusal
 use Rattle.shared_cache.specs.ClientFields.{Client}
 use Rattle.shared_cache.specs.Held.{Setup, Words}
 use Rattle.shared_cache.specs.Laws.{gots}
 use Rattle.shared_cache.specs.Log.{is_ended}
-use Rattle.shared_cache.specs.Steps.{ClientStep, ClientTurn, MayRunOut, client_step, polling}
-use Rattle.shared_cache.specs.Steps.{refusing, NeedsRoom}
+use Rattle.shared_cache.specs.Steps.{ClientTurn, MayRunOut, client_step, NeedsRoom}
 use Rattle.script_text.specs.declared.line.Line.{Line}
 use Rattle.server_links.specs.declared.fault.WorldFault.{WorldFault}
 use Rattle.server_links.specs.declared.fault.WorldFault.TheVariants as fault
-use Rattle.server_links.specs.LinksState.{LinksState}
 use Rattle.server_links.specs.Outcome.{Outcome, Stops, does}
 use Rattle.server_links.proofs.Outcomes.{Ends, after_ends, after_stops, stops_first, stops_here}
 use Rattle.world_run.specs.WorldState.{MemberState}
 use Rattle.world_run.specs.Members.{Seat, log_of, seat, setup_of, with_log}
-use Rattle.world_run.specs.ClientMoves.{answers, ending_lines, fault_of, lines_of, refused_fault}
-use Rattle.world_run.specs.ClientMoves.{refused_lines, turn}
-use Rattle.world_run.specs.MemberTurns.{IsNoValue, Turned, TurnGives}
+use Rattle.world_run.specs.ClientMoves.{answers, fault_of, lines_of, refused_fault, turn}
+use Rattle.world_run.specs.MemberTurns.{IsNoValue, Turned}
 use Rattle.world_run.specs.declared.member.Member.TheInside.{Inside}
 
--- ---- what a turn answers is the step, where memory did not run out
-
-pub stepped : (s : Setup) (log : List LogEntry) (c : ClientCall) (reply : ClientReply)
-    (new : List LogEntry) → (reply ≡ Refused refusal.NoMemory → ⊥) → ClientStep s log c reply new
-    → client_step s log c ≡ record { reply = reply; past = new }
-stepped s log c (Refused refusal.NoMemory) new has h = absurd (has refl)
-stepped s log c reply new has h = h
-
 -- ---- the log after a step
-
-by_if : (P : ClientTurn → Type 0) (b : Bool) (x y : ClientTurn) → P x → P y → P (cond b x y)
-by_if P true x y p q = p
-by_if P false x y p q = q
 
 module _ (P : List LogEntry → Type 0) (s : Setup) (log : List LogEntry) (same : P log) where
   Q : ClientTurn → Type 0
@@ -59,10 +43,6 @@ module _ (P : List LogEntry → Type 0) (s : Setup) (log : List LogEntry) (same 
   unfolding client_step Q
   send_past ws one = grind arith
 
-  by_reply : (o : Option Value) (n : ℕ) (b : Bool) → P (entry.Poll n ∷ log)
-      → P (polling o n b log).past
-  by_reply o n b one = grind arith
-
   poll_past : (n : ℕ) → P (entry.Poll n ∷ log) → P (client_step s log (call.Poll n)).past
   unfolding client_step Q
   poll_past n one = grind arith
@@ -73,8 +53,7 @@ module _ (P : List LogEntry → Type 0) (s : Setup) (log : List LogEntry) (same 
   take_past w most one = grind arith
 
   by_end : (w : Wire) (b : Bool) → P (entry.End w ∷ log) → P (cond b log (entry.End w ∷ log))
-  by_end w true one = same
-  by_end w false one = one
+  by_end w b one = grind arith
 
   end_past : (w : Wire) → P (entry.End w ∷ log) → P (client_step s log (call.End w)).past
   unfolding client_step
@@ -121,8 +100,7 @@ got_same log new v r is = is
 -- fewer are got than there are entries
 pub gots_within : (log : List LogEntry) → length (gots Main log) ≤ length log
 gots_within [] = omega arith
-gots_within (entry.Got Main v ∷ log) =
-    let r = gots_within log in omega (arith, r, length-append (gots Main log) (v ∷ []))
+gots_within (entry.Got Main v ∷ log) = grind (arith, length-append, gots_within log)
 gots_within (e ∷ log) = let r = gots_within log in omega (arith, r)
 
 -- an end takes no memory
@@ -138,17 +116,10 @@ ends_always s log m =
 -- ---- faults of an answer
 
 not_memory : (r : ClientRefusal) → refused_fault r ≡ Some fault.NoMemory → ⊥
-not_memory (refusal.Down w) e = cc
-not_memory r e = cc
+not_memory r e = grind arith
 
 no_memory : (r : ClientReply) → fault_of r ≡ Some fault.NoMemory → ⊥
-no_memory (Refused r) e = not_memory r e
-no_memory r e = cc
-
--- a refusal that stops its event prints nothing
-silent : (name : List ℕ) (r : ClientRefusal) (f : WorldFault) → refused_fault r ≡ Some f
-    → (refused_lines name r ≡ []) × (ending_lines name r ≡ [])
-silent name r f e = grind arith
+no_memory r e = grind (arith, not_memory)
 
 by_call : (s : Seat) (c : ClientCall) (r : ClientRefusal) (f : WorldFault)
     → refused_fault r ≡ Some f → lines_of s c (Refused r) ≡ []
@@ -156,14 +127,12 @@ by_call s c r f e = grind arith
 
 no_lines : (s : Seat) (c : ClientCall) (reply : ClientReply) (f : WorldFault)
     → fault_of reply ≡ Some f → lines_of s c reply ≡ []
-no_lines s c (Refused r) f e = by_call s c r f e
-no_lines s c reply f e = absurd (let no : ⊥ = cc in no)
+no_lines s c reply f e = grind (arith, by_call)
 
 pub stops_by : {S : Type 0} → (m : Outcome S) (f : WorldFault) (t : S) (lines : List Line)
     → (f ≡ fault.NoMemory → ⊥) → m.fault ≡ Some f → t ≡ m.state → m.lines ≡ []
     → Stops m lines f t lines
-stops_by m fault.NoMemory t lines has e is none = absurd (has refl)
-stops_by m f t lines has e is none = (e, is, sym (ap (λ l. lines ++ l) none ∙ append-nil lines))
+stops_by m f t lines has e is none = grind (arith, append-nil)
 
 -- ---- a turn and its lines
 

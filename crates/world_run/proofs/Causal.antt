@@ -1,16 +1,15 @@
 -- What a client had got when it sent a command stood in the history before that command ran: one
 -- entry more of the history, or of the client's log, keeps it.
-use Rattle.std.proofs.Common.{◌≡◌, ◌+◌, ◌<◌, ◌≤◌, ℕ, zero, suc, List, [], ◌∷◌, ◌++◌, true}
-use Rattle.std.proofs.Common.{false, cond, Some, length, refl, sym, ap, ◌∙◌, arith}
-use Rattle.std.proofs.Common.{◌⊎◌, inl, inr, append_assoc, append-nil, length-append}
+use Rattle.std.proofs.Common.{◌≡◌, ◌+◌, ◌<◌, ◌≤◌, ℕ, zero, suc, List, [], ◌∷◌, ◌++◌, true, false}
+use Rattle.std.proofs.Common.{cond, Some, length, refl, sym, ap, ◌∙◌, arith, ◌⊎◌, inl, inr}
+use Rattle.std.proofs.Common.{append_assoc, append-nil, length-append}
 use Rattle.std.specs.Prelude.{◌==◌, slice_get}
 use Rattle.std.proofs.lemmas.Option.{slice_get_within}
 use Rattle.resp_value.specs.declared.value.Value.{Value}
 use Rattle.serial_model.specs.declared.history.Limits.{Limits}
 use Rattle.serial_model.specs.declared.history.Entry.{Entry}
 use Rattle.serial_model.specs.declared.history.Entry.TheVariants as entry
-use Rattle.serial_model.specs.History.{Sending, run_entries, sends, sent}
-use Rattle.serial_model.specs.History.{sent_to, runs_of}
+use Rattle.serial_model.specs.History.{Sending, run_entries, sends, sent, sent_to, runs_of}
 use Rattle.shared_cache.specs.declared.log.Wire.{Wire}
 use Rattle.shared_cache.specs.declared.log.LogEntry.{LogEntry}
 use Rattle.shared_cache.specs.Held.{commands}
@@ -29,8 +28,7 @@ get_same (x ∷ xs) ys (suc i) lt = get_same xs ys i (omega (arith, lt))
 placed_number : (n c : ℕ) (x : ℕ × Sending) (ss : List (ℕ × Sending)) (s : ℕ × Sending)
     → ((j : ℕ) → slice_get (sent_to n c ss) j ≡ Some s → s.0 ≡ n)
     → (i : ℕ) → slice_get ((n, x.1) ∷ sent_to n c ss) i ≡ Some s → s.0 ≡ n
-placed_number n c x ss s rest zero e = let same : (n, x.1) ≡ s = cc in sym (ap (λ p. p.0) same)
-placed_number n c x ss s rest (suc i) e = rest i e
+placed_number n c h ss s rest i e = grind arith
 
 number_of : (n c : ℕ) (ss : List (ℕ × Sending)) (i : ℕ) (s : ℕ × Sending)
     → slice_get (sent_to n c ss) i ≡ Some s → s.0 ≡ n
@@ -68,16 +66,7 @@ sent_more l c (e ∷ es) past =
 
 pub runs_size : (c : ℕ) (past : List Entry) → length (run_entries c past) ≡ length (runs_of c past)
 runs_size c [] = refl
-runs_size c (entry.Run id words moment ∷ past) =
-    elim (id == c) as (λ b. length (cond b (run_entries c past ++ (length past + 1) ∷ [])
-    (run_entries c past))
-    ≡ length (cond b (runs_of c past ++ words ∷ []) (runs_of c past))) [
-      | true ↦
-          length-append (run_entries c past) ((length past + 1) ∷ [])
-          ∙ ap (λ n. n + 1) (runs_size c past)
-          ∙ sym (length-append (runs_of c past) (words ∷ []))
-      | false ↦ runs_size c past
-    ]
+runs_size c (entry.Run id words moment ∷ past) = grind (arith, length-append, runs_size c past)
 runs_size c (e ∷ past) = runs_size c past
 
 -- what runs later has a number that is greater than all before
@@ -119,7 +108,7 @@ GotsWithin l x past log =
 
 pub causal_entries : (l : Limits) (x : Client) (es past : List Entry) (log : List LogEntry)
     → GotsWithin l x past log → IsCausal l x past log → IsCausal l x (es ++ past) log
-causal_entries l x es past [] within c = tt
+causal_entries l e es past [] within c = tt
 causal_entries l x es past (e ∷ log) within c = (
   λ w u has other place r i s sooner ran lt there.
       let more = sent_more l (x.id w) es past in
@@ -144,4 +133,4 @@ RunsWithin x past log =
 
 pub causal_log : (l : Limits) (x : Client) (past : List Entry) (e : LogEntry) (log : List LogEntry)
     → RunsWithin x past log → IsCausal l x past log → IsCausal l x past (e ∷ log)
-causal_log l x past e log within c = grind (arith, slice_get_within)
+causal_log l h past e log within c = grind (arith, slice_get_within)

@@ -1,7 +1,7 @@
 -- The moves of a client in a world: what it sends, what it reads, what it answers and shows.
-use Rattle.std.proofs.Common.{◌≡◌, ◌<◌, ℕ, zero, suc, List, [], ◌∷◌, ◌++◌, Bool}
-use Rattle.std.proofs.Common.{true, false, cond, not, Some, None, Option, length, map, refl}
-use Rattle.std.proofs.Common.{sym, ap, subst, take, ◌∙◌, arith, append-nil}
+use Rattle.std.proofs.Common.{◌≡◌, ◌<◌, ℕ, zero, suc, List, [], ◌∷◌, ◌++◌, Bool, true, false, cond}
+use Rattle.std.proofs.Common.{not, Some, None, Option, length, map, refl, sym, ap, subst, take, ◌∙◌}
+use Rattle.std.proofs.Common.{arith, append-nil}
 use Rattle.std.specs.Prelude.{◌&&◌, nat_le}
 use Rattle.std.proofs.lemmas.List.{drop_all}
 use Rattle.resp_value.specs.Lists.{IsPrefix}
@@ -13,7 +13,6 @@ use Rattle.shared_cache.specs.declared.log.ClientCall.{ClientCall}
 use Rattle.shared_cache.specs.declared.log.ClientCall.TheVariants as call
 use Rattle.shared_cache.specs.declared.log.Wire.TheVariants.{Main}
 use Rattle.shared_cache.specs.Laws.{AsksQuery, Every, IsCall}
-use Rattle.shared_cache.specs.Held.{held, held_in_place}
 use Rattle.shared_cache.specs.Log.{is_ended}
 use Rattle.shared_cache.specs.Out.{untaken}
 use Rattle.shared_cache.specs.Steps.{client_step}
@@ -31,8 +30,8 @@ use Rattle.server_links.specs.Transcript.{heard_at, is_place}
 use Rattle.server_links.proofs.Names.{names_itself, placed, unplaced}
 use Rattle.world_run.specs.WorldState.{WorldState, MemberState, member_at}
 use Rattle.world_run.specs.Members.{Seat, link_of, links_do, seat_at, with_seat}
-use Rattle.world_run.specs.ClientMoves.{bytes_of, feed, flow, hang_up, has_ended}
-use Rattle.world_run.specs.ClientMoves.{held_lines, listed_line, out, print, read_values, receive}
+use Rattle.world_run.specs.ClientMoves.{bytes_of, feed, flow, hang_up, has_ended, held_lines}
+use Rattle.world_run.specs.ClientMoves.{listed_line, out, print, read_values, receive}
 use Rattle.world_run.specs.ClientMoves.{receive_bytes, receive_eof, show, shown, take_out, turn}
 use Rattle.world_run.proofs.Links.{IsUnread, Mute, Mutes, name_of_event, step_mutes, step_reads}
 use Rattle.world_run.proofs.Reading.{Ahead, Done, Fed, With, end_reads, feed_reads, values_reads}
@@ -70,8 +69,7 @@ NoBytes ls i = (at_place ls.links i).down.bytes ≡ []
 -- what an outcome keeps of its client's seat
 if_same : {X : Type 0} → (f : MemberState → X) (b : Bool) (x y : Outcome Seat) (v : X)
     → f x.state.member ≡ v → f y.state.member ≡ v → f (cond b x y).state.member ≡ v
-if_same f true x y v p q = p
-if_same f false x y v p q = q
+if_same f b e y v p q = grind arith
 
 then_same : {X : Type 0} → (f : MemberState → X) (m : Outcome Seat) (e : LinkEvent)
     → f (and_then m (links_do e)).state.member ≡ f m.state.member
@@ -451,17 +449,12 @@ module _ (l : Limits) (raw : List ℕ → List ℕ) (at : ℕ) where
 
   listed_plain : (s : Seat) (o : Option CacheEntry) → AllPlain (listed_line s o)
   unfolding AllPlain Mute
-  listed_plain s None = tt
-  listed_plain s (Some c) = (record { no_entry = refl; mute = λ n. refl }, tt)
+  listed_plain s o = grind arith
 
   held_plain : (n : ℕ) (s : Seat) → AllPlain (held_lines n s)
   unfolding AllPlain
   held_plain zero s = tt
-  held_plain (suc n) s =
-      plain_append (held_lines n s)
-      (listed_line s (held_in_place n (held s.member.state.setup s.member.state.past)))
-      (held_plain n s)
-      (listed_plain s (held_in_place n (held s.member.state.setup s.member.state.past)))
+  held_plain (suc n) s = grind (arith, plain_append, listed_plain, held_plain n s)
 
   shown_plain : (s : Seat) → AllPlain (shown s)
   unfolding AllPlain Mute

@@ -1,7 +1,6 @@
 -- Links flow: one, with or without a client at its end, and all of them in turn.
-use Rattle.std.proofs.Common.{◌≡◌, ◌<◌, ◌≤◌, ℕ, zero, suc, List, [], ◌++◌}
-use Rattle.std.proofs.Common.{cond, Some, None, length, refl, sym, ap, subst}
-use Rattle.std.proofs.Common.{◌∙◌, arith, append_assoc, append-nil, inl}
+use Rattle.std.proofs.Common.{◌≡◌, ◌<◌, ◌≤◌, ℕ, zero, suc, List, [], ◌++◌, cond, Some, None, length}
+use Rattle.std.proofs.Common.{refl, sym, ap, subst, ◌∙◌, arith, append_assoc, append-nil, inl}
 use Rattle.std.specs.Prelude.{◌==◌, nat_lt}
 use Rattle.std.proofs.lemmas.Bool.{eqb-true, cases_lt}
 use Rattle.std.proofs.lemmas.Bool.Decides.{nat_tests}
@@ -96,12 +95,7 @@ module _ (l : Limits) (heard : ℕ → List ℕ) (raw : List ℕ → List ℕ) (
 
   pub flow_one : Comes l (only_at heard place (flow_heard place w)) raw lines
       (flow_step (client_of_link name w.members) name w)
-  flow_one = elim (client_of_link name w.members) as (λ c. client_of_link name w.members ≡ c
-      → Comes l (only_at heard place (reads_at (flowing c w).links place None)) raw lines
-      (flow_step c name w)) [
-        | None ↦ λ none. flow_apart none
-        | Some at ↦ λ is. flow_client at is
-      ] refl
+  flow_one = grind (arith, flow_apart, flow_client, nat_tests)
 
 -- ---- all links flow
 

@@ -1,47 +1,34 @@
 -- Each answer from a cache that an event prints stands at its point.
-use Rattle.std.proofs.Common.{◌≡◌, ℕ, zero, suc, List, [], ◌∷◌, Bool, true}
-use Rattle.std.proofs.Common.{false, cond, not, Some, None, Option, length, refl, ap, subst}
-use Rattle.std.proofs.Common.{◌∙◌}
+use Rattle.std.proofs.Common.{◌≡◌, ℕ, zero, suc, List, [], ◌∷◌, Bool, true, false, cond, Some, None}
+use Rattle.std.proofs.Common.{Option, length, refl, ap, subst, ◌∙◌, arith}
 use Rattle.resp_value.specs.Spelling.{request_spelling}
-use Rattle.command_words.specs.Queries.{reads_as_cacheable, same_query}
-use Rattle.serial_model.specs.History.{served_reading}
+use Rattle.command_words.specs.Queries.{same_query}
 use Rattle.shared_cache.specs.declared.entry.CacheEntry.{CacheEntry}
 use Rattle.shared_cache.specs.declared.log.ClientCall.TheVariants as call
 use Rattle.shared_cache.specs.declared.log.ClientMode.{ClientMode}
 use Rattle.shared_cache.specs.declared.log.ClientRefusal.{ClientRefusal}
-use Rattle.shared_cache.specs.declared.log.ClientRefusal.TheVariants as refusal
-use Rattle.shared_cache.specs.declared.log.LogEntry.TheVariants as entry
-use Rattle.shared_cache.specs.declared.log.Wire.TheVariants.{Main}
 use Rattle.shared_cache.specs.Held.{held, held_for}
 use Rattle.shared_cache.specs.Laws.{Every}
-use Rattle.shared_cache.specs.Log.{is_ended, is_ready}
-use Rattle.shared_cache.specs.Steps.{ClientTurn, answer_ask, client_step, is_log_full, read_number}
-use Rattle.shared_cache.specs.Steps.{refusing}
-use Rattle.currency.specs.Current.{HasPoint, IsCurrent}
+use Rattle.shared_cache.specs.Steps.{ClientTurn, answer_ask, client_step}
 use Rattle.script_text.specs.declared.event.Event.{Event}
 use Rattle.script_text.specs.declared.event.Event.TheVariants.{Raw, Say, Bytes, Client, Out, Serve}
 use Rattle.script_text.specs.declared.event.Event.TheVariants.{Send, Recv, Flow, FlowAll, Cut, Ask}
 use Rattle.script_text.specs.declared.event.Event.TheVariants.{Do, Poll, Show, Now, Tick}
 use Rattle.script_text.specs.declared.line.Line.{Line}
-use Rattle.script_text.specs.declared.line.Line.TheVariants as line
-use Rattle.server_links.specs.declared.fault.WorldFault.TheVariants.{NameTaken, Refused}
+use Rattle.server_links.specs.declared.fault.WorldFault.TheVariants.{NameTaken}
 use Rattle.server_links.specs.declared.link.LinkMove.TheVariants as moves
 use Rattle.server_links.specs.LinkEvent as link_event
 use Rattle.server_links.specs.LinkEvent.{LinkEvent}
-use Rattle.server_links.specs.LinksState.{at_place}
 use Rattle.server_links.specs.LinkSteps.{place_of}
 use Rattle.server_links.specs.LinkSteps as links
-use Rattle.server_links.specs.Outcome.{Outcome, and_then, does, refuses, within}
-use Rattle.world_run.specs.WorldState.{WorldState, client_named, client_of_link, data_link}
-use Rattle.world_run.specs.WorldState.{member_at}
-use Rattle.world_run.specs.Members.{Seat, client_of, seat_at, with_seat}
-use Rattle.world_run.specs.ClientMoves as client
-use Rattle.world_run.specs.ClientMoves.{ask_lines, point_at, ran_at, refused_lines, show, turn}
+use Rattle.server_links.specs.Outcome.{Outcome, and_then, refuses, within}
+use Rattle.world_run.specs.WorldState.{WorldState, client_named, client_of_link, member_at}
+use Rattle.world_run.specs.Members.{Seat, seat_at, with_seat}
+use Rattle.world_run.specs.ClientMoves.{ask_lines, refused_lines, show, turn}
 use Rattle.world_run.specs.WorldHistory.{AllServiced, HitStands, HoldsCurrent}
-use Rattle.world_run.specs.World.{client_does, client_step as make_client, flow_at, flow_first}
-use Rattle.world_run.specs.World.{flow_step, is_served, is_taken, join, links_step, named_does}
-use Rattle.world_run.specs.World.{not_served, out_step, raw_out, recv_step, said_step}
-use Rattle.world_run.specs.World.{setup_by, step, on_links}
+use Rattle.world_run.specs.World.{client_does, client_step as make_client, flow_first, flow_step}
+use Rattle.world_run.specs.World.{is_taken, links_step, named_does, out_step, raw_out, recv_step}
+use Rattle.world_run.specs.World.{said_step, step, on_links}
 use Rattle.world_run.proofs.Below.{same_words}
 use Rattle.world_run.proofs.HitLines.{Hitless, NoHit, NoHits, h_flows, h_if, h_out, h_received}
 use Rattle.world_run.proofs.HitLines.{h_show, h_step, h_then, h_turn, h_within}
@@ -74,62 +61,22 @@ module _ (w : WorldState) (at : ℕ) (q : List (List ℕ))
       → held_for q (held (member_at w.members at).state.setup (member_at w.members at).state.past)
       ≡ o
       → Every (HitStands w) (ask_lines (seat_at at w) q (answer_ask o n))
-  hit_lines None n e = (tt, tt)
-  hit_lines (Some h) n e =
-      let m = member_at w.members at in
-      let f = held_found
-      (λ h. reads_as_cacheable (served_reading h.query) ≡ true
-      → IsCurrent w.links.limits (client_of m) w.links.past m.state.past h
-      × HasPoint w.links.limits (client_of m) w.links.past m.state.past h)
-      q (held m.state.setup m.state.past) h current e in
-      let answer : CacheEntry = record { query = q; value = h.value; number = h.number } in
-      let same : h ≡ answer =
-      ap (λ p. record { query = p; value = h.value; number = h.number }) f.is in (
-        record {
-          place = at;
-          client = is;
-          held = answer;
-          value = refl;
-          point_is = refl;
-          holds = λ serves.
-              (subst (λ (h : CacheEntry). reads_as_cacheable (served_reading h.query) ≡ true
-              → IsCurrent w.links.limits (client_of m) w.links.past m.state.past h
-              × HasPoint w.links.limits (client_of m) w.links.past m.state.past h) same f.has
-              serves).1;
-        },
-        tt,
-      )
+  hit_lines o n e = grind (arith, held_found)
 
   refused_stand : (name : List ℕ) (r : ClientRefusal) → Every (HitStands w) (refused_lines name r)
-  refused_stand name (refusal.Down x) = (tt, tt)
-  refused_stand name refusal.NotReady = (tt, tt)
-  refused_stand name _ = tt
+  refused_stand name r = grind arith
 
   by_if : (b : Bool) (x y : ClientTurn)
       → Every (HitStands w) (ask_lines (seat_at at w) q x.reply)
       → Every (HitStands w) (ask_lines (seat_at at w) q y.reply)
       → Every (HitStands w) (ask_lines (seat_at at w) q (cond b x y).reply)
-  by_if true x y p r = p
-  by_if false x y p r = r
+  by_if b e y p r = grind arith
 
   asked_stand : let m = member_at w.members at in
       Every (HitStands w) (ask_lines (seat_at at w) q
       (client_step m.state.setup m.state.past (call.Ask q)).reply)
   unfolding client_step
-  asked_stand =
-      let m = member_at w.members at in
-      let s = m.state.setup in
-      let log = m.state.past in
-      let o = held_for q (held s log) in
-      let n = read_number s log q in
-      by_if (is_ended s.mode Main log) (refusing (refusal.Down Main) log) _
-      (refused_stand m.name (refusal.Down Main))
-      (by_if (not (is_ready s.mode log)) (refusing refusal.NotReady log) _
-      (refused_stand m.name refusal.NotReady)
-      (by_if (is_log_full s log) (refusing (refusal.LogFull (length log)) log)
-      (record { reply = answer_ask o n; past = entry.Ask q ∷ log })
-      (refused_stand m.name (refusal.LogFull (length log)))
-      (hit_lines o n refl)))
+  asked_stand = grind (arith, by_if, refused_stand, hit_lines)
 
   pub ask_stand : Every (HitStands w) (client_does at (turn (call.Ask q)) w).lines
   unfolding client_does within turn and_then
@@ -138,8 +85,7 @@ module _ (w : WorldState) (at : ℕ) (q : List (List ℕ))
 -- ---- the other events
 
 none_stands : (w : WorldState) (x : Line) → NoHit x → HitStands w x
-none_stands w (line.Hit name v e at) n = absurd n
-none_stands w _ n = tt
+none_stands w x n = grind arith
 
 none_stand : (w : WorldState) (ls : List Line) → NoHits ls → Every (HitStands w) ls
 none_stand w [] n = tt
@@ -155,53 +101,34 @@ unfolding client_does
 h_client at move w n = h_within (with_seat at w) (move (seat_at at w)) n
 
 h_flow : (c : Option ℕ) (name : List ℕ) (w : WorldState) → Hitless (flow_step c name w)
-h_flow None name w = h_event (link_event.Over name moves.Flow) w
-h_flow (Some at) name w = h_client at client.flow w (h_flows (seat_at at w))
+h_flow c name w = grind (arith, h_event, h_client, h_flows)
 
 h_first : (n : ℕ) (w : WorldState) → Hitless (flow_first n w)
 unfolding flow_first
 h_first zero w = tt
-h_first (suc n) w =
-    h_then (flow_first n w) (flow_at n) (h_first n w)
-    (λ v. let name = (at_place v.links.links n).name in
-    h_flow (client_of_link name v.members) name v)
+h_first (suc n) w = grind (arith, h_then, h_flow, h_first n w)
 
 h_make : (name : List ℕ) (mode : ClientMode) (capacity : ℕ) (w : WorldState)
     → Hitless (make_client name mode capacity w)
-h_make name mode capacity w =
-    h_if (not (is_served mode)) (refuses w (Refused not_served)) _ tt
-    (h_if (is_taken name w) (refuses w NameTaken) _ tt
-    (h_then (does w w [])
-    (λ w. and_then (links_step (link_event.Raw (data_link name)) w)
-    (join name (length w.links.links) (setup_by w mode capacity))) tt
-    (λ v. h_then (links_step (link_event.Raw (data_link name)) v)
-    (join name (length v.links.links) (setup_by v mode capacity))
-    (h_event (link_event.Raw (data_link name)) v) (λ u. tt))))
+h_make name mode capacity w = grind (arith, h_if, h_then, h_event)
 
 h_said : (c : Option ℕ) (name bytes : List ℕ) (w : WorldState) → Hitless (said_step c name bytes w)
-h_said None name bytes w = h_event (link_event.Put name bytes) w
-h_said (Some at) name bytes w = tt
+h_said c name bytes w = grind (arith, h_event)
 
 h_raw_out : (p count : Option ℕ) (w : WorldState) → Hitless (raw_out p count w)
-h_raw_out None count w = tt
-h_raw_out (Some at) None w = tt
-h_raw_out (Some at) (Some n) w = tt
+h_raw_out p count w = grind arith
 
 h_outs : (c : Option ℕ) (name : List ℕ) (count : Option ℕ) (w : WorldState)
     → Hitless (out_step c name count w)
-h_outs None name count w = h_raw_out (place_of name w.links) count w
-h_outs (Some at) name count w = h_client at (client.out count) w (h_out count (seat_at at w))
+h_outs c name count w = grind (arith, h_raw_out, h_client, h_out)
 
 h_recvs : (c : Option ℕ) (name : List ℕ) (count : Option ℕ) (w : WorldState)
     → Hitless (recv_step c name count w)
-h_recvs None name count w = h_event (link_event.Over name (moves.Recv count)) w
-h_recvs (Some at) name count w =
-    h_client at (client.receive count) w (h_received count (seat_at at w))
+h_recvs c name count w = grind (arith, h_event, h_client, h_received)
 
 h_named : (c : Option ℕ) (move : Seat → Outcome Seat) → ((s : Seat) → Hitless (move s))
     → (w : WorldState) → Hitless (named_does c move w)
-h_named None move n w = tt
-h_named (Some at) move n w = h_client at move w (n (seat_at at w))
+h_named c move n w = grind (arith, h_client)
 
 ask_named : (name : List ℕ) (q : List (List ℕ)) (w : WorldState) → AllServiced w
     → Every (HitStands w) (named_does (client_named name w.members) (turn (call.Ask q)) w).lines

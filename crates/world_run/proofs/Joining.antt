@@ -1,8 +1,7 @@
 -- A link is made, and a client at it.
-use Rattle.std.proofs.Common.{◌≡◌, ◌+◌, ◌<◌, ℕ, List, [], ◌∷◌, ◌++◌, Bool, true, false}
-use Rattle.std.proofs.Common.{cond, not, Some, None, length, refl, sym, ap, subst, ◌∙◌}
-use Rattle.std.proofs.Common.{arith, append-nil, length-append}
-use Rattle.std.specs.Prelude.{◌&&◌}
+use Rattle.std.proofs.Common.{◌≡◌, ◌+◌, ◌<◌, ℕ, List, [], ◌∷◌, ◌++◌, Bool, true, false, cond, not}
+use Rattle.std.proofs.Common.{Some, None, length, refl, sym, ap, subst, ◌∙◌, arith, append-nil}
+use Rattle.std.proofs.Common.{length-append}
 use Rattle.std.proofs.lemmas.Bool.{cases_lt}
 use Rattle.std.proofs.lemmas.List.{get_or_push, get_or_append_left}
 use Rattle.resp_stream.proofs.Onward.{no_values, values_begun}
@@ -23,12 +22,11 @@ use Rattle.server_links.specs.OneHistory.{read_on}
 use Rattle.server_links.specs.Outcome.{and_then, does, refuses, within}
 use Rattle.server_links.proofs.Carries.{read_more}
 use Rattle.server_links.proofs.Names.{unplaced}
-use Rattle.server_links.proofs.Outcomes.{meets_does, meets_stays, meets_then}
-use Rattle.server_links.proofs.Outcomes.{meets_weaker}
+use Rattle.server_links.proofs.Outcomes.{meets_does, meets_stays, meets_then, meets_weaker}
 use Rattle.world_run.specs.WorldState.{WorldState, MemberState, data_link, fresh_member, member_at}
 use Rattle.world_run.specs.WorldState.{no_setup}
-use Rattle.world_run.specs.World.{client_step, is_served, is_taken}
-use Rattle.world_run.specs.World.{join, links_step, not_served, setup_by, on_links}
+use Rattle.world_run.specs.World.{client_step, is_served, is_taken, join, links_step, not_served}
+use Rattle.world_run.specs.World.{setup_by, on_links}
 use Rattle.world_run.specs.World as world
 use Rattle.world_run.proofs.LinkEvents.{Comes, comes_refused, comes_unread, part_of, part_here}
 use Rattle.world_run.proofs.LinkEvents.{stands_again}
@@ -37,14 +35,6 @@ use Rattle.world_run.proofs.Members.{MemberPart}
 use Rattle.world_run.proofs.Worlds.{NoneHas, Stable, WorldPart, WorldStands}
 
 -- ---- a mode that is served
-
-both_right : (a b : Bool) → (a && b) ≡ true → b ≡ true
-both_right true b e = e
-both_right false b e = absurd (let no : ⊥ = cc in no)
-
-not_false : (b : Bool) → not b ≡ true → b ≡ false
-not_false true e = absurd (let no : ⊥ = cc in no)
-not_false false e = refl
 
 served_mode : (m : ClientMode) → is_served m ≡ true → IsServed m
 served_mode m e = grind arith
@@ -122,8 +112,7 @@ module _ (l : Limits) (heard : ℕ → List ℕ) (raw : List ℕ → List ℕ) (
 
   old_there : (i : ℕ) → i < length w.members → member_at joined i ≡ member_at w.members i
   unfolding joined
-  old_there i lt =
-      get_or_append_left w.members (new ∷ []) (fresh_member [] 0 no_setup) i lt
+  old_there i lt = grind (arith, get_or_append_left, new)
 
   new_there : (i : ℕ) → i ≡ length w.members → member_at joined i ≡ new
   unfolding joined

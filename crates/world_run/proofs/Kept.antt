@@ -1,8 +1,7 @@
 -- What each move of a client leaves as it was, and that what is printed by then begins what it
 -- prints.
-use Rattle.std.proofs.Common.{◌≡◌, ℕ, List, [], ◌∷◌, ◌++◌, Bool, true}
-use Rattle.std.proofs.Common.{false, cond, not, Some, None, Option, length, refl, sym, ap, subst}
-use Rattle.std.proofs.Common.{◌∙◌, append_assoc, length-set, take}
+use Rattle.std.proofs.Common.{◌≡◌, ℕ, List, [], ◌∷◌, ◌++◌, Bool, cond, not, Some, None, Option}
+use Rattle.std.proofs.Common.{length, refl, sym, ap, ◌∙◌, append_assoc, length-set, take, arith}
 use Rattle.std.specs.Prelude.{◌&&◌, nat_le}
 use Rattle.std.proofs.lemmas.List.{get_or-set_other}
 use Rattle.resp_value.specs.Tree.{Tree}
@@ -19,7 +18,7 @@ use Rattle.shared_cache.specs.Out.{untaken}
 use Rattle.shared_cache.specs.Steps.{client_step}
 use Rattle.script_text.specs.declared.line.Line.{Line}
 use Rattle.server_links.specs.declared.fault.WorldFault.{WorldFault}
-use Rattle.server_links.specs.declared.fault.WorldFault.TheVariants.{NothingThere, NoName}
+use Rattle.server_links.specs.declared.fault.WorldFault.TheVariants.{NothingThere}
 use Rattle.server_links.specs.declared.link.Link.{Link}
 use Rattle.server_links.specs.declared.link.LinkMove.{LinkMove}
 use Rattle.server_links.specs.declared.link.LinkMove.TheVariants as moves
@@ -34,13 +33,12 @@ use Rattle.server_links.proofs.Carries.{Carries}
 use Rattle.server_links.proofs.Ended.{StayOver, over_both, over_moved, over_same}
 use Rattle.server_links.proofs.Names.{placed}
 use Rattle.server_links.proofs.Outcomes.{Fronts, fronts_once, fronts_refuses, fronts_stays}
-use Rattle.server_links.proofs.Outcomes.{fronts_then, fronts_within}
-use Rattle.server_links.proofs.Outcomes.{Meets, meets_once, meets_refuses, meets_stays, meets_then}
-use Rattle.server_links.proofs.Outcomes.{meets_weaker, meets_within}
-use Rattle.world_run.specs.Members.{Seat, link_of, links_do, with_links, with_log, with_reader}
-use Rattle.world_run.specs.ClientMoves.{bytes_of, fault_of, feed, flow, got, got_all}
-use Rattle.world_run.specs.ClientMoves.{got_one, hang_up, has_ended, lines_of, next_read, out}
-use Rattle.world_run.specs.ClientMoves.{print}
+use Rattle.server_links.proofs.Outcomes.{fronts_then, fronts_within, Meets, meets_once}
+use Rattle.server_links.proofs.Outcomes.{meets_refuses, meets_stays, meets_then, meets_weaker}
+use Rattle.server_links.proofs.Outcomes.{meets_within}
+use Rattle.world_run.specs.Members.{Seat, link_of, links_do, with_log, with_reader}
+use Rattle.world_run.specs.ClientMoves.{bytes_of, fault_of, feed, flow, got, got_all, got_one}
+use Rattle.world_run.specs.ClientMoves.{hang_up, has_ended, lines_of, next_read, out, print}
 use Rattle.world_run.specs.ClientMoves.{read_values, receive, receive_bytes, receive_eof, rest_read}
 use Rattle.world_run.specs.ClientMoves.{show, shown, stop, take_out, turn}
 use Rattle.server_links.proofs.Events.{step_fronts}
@@ -58,27 +56,12 @@ pub record LinksKept (w : LinksState) (name : List ℕ) (v : LinksState) : Type 
   pub stay : StayOver w v
 
 pub links_same : (w : LinksState) (name : List ℕ) → LinksKept w name w
-links_same w name = record {
-  size = refl;
-  entries = [];
-  grows = refl;
-  others = λ i n. refl;
-  stay = over_same w;
-}
+links_same w name = grind (arith, over_same)
 
 -- the clock is set, or a Tick takes out keys
 pub clock_kept : (w : LinksState) (now : ℕ) → LinksKept w []
     (record { limits = w.limits; now = now; past = w.past; links = w.links })
-clock_kept w now = record {
-  size = refl;
-  entries = [];
-  grows = refl;
-  others = λ i n. refl;
-  stay = record {
-    over = λ at is. record { ended = is.ended; read = is.read };
-    named = λ at lt. refl;
-  };
-}
+clock_kept w now = grind arith
 
 pub tick_kept : (w : LinksState) (moment : ℕ) → LinksKept w []
     (record { limits = w.limits; now = w.now; past = entry.Tick moment ∷ w.past; links = w.links })
@@ -129,13 +112,7 @@ over_kept at event w name is =
 pub named_kept : (event : LinkEvent) (w : LinksState) (name : List ℕ)
     → Meets (λ v ls. LinksKept w name v) (λ v ls. LinksKept w name v)
     (over_named (place_of name w) (move_of event) w)
-named_kept event w name = elim (place_of name w) as (λ p. place_of name w ≡ p
-    → Meets (λ v ls. LinksKept w name v) (λ v ls. LinksKept w name v)
-    (over_named p (move_of event) w)) [
-      | None ↦ λ none. meets_refuses (λ v ls. LinksKept w name v) (λ v ls. LinksKept w name v) w
-          NoName (links_same w name)
-      | Some at ↦ λ is. over_kept at event w name (placed name w at is).1
-    ] refl
+named_kept event w name = grind (arith, meets_refuses, links_same, over_kept, placed)
 
 -- ---- a client and its link
 
@@ -147,18 +124,10 @@ kept_same : (s : Seat) → Kept s s
 kept_same s = record { links = links_same s.links s.member.link; link = refl }
 
 kept_member : (s t : Seat) → t.links ≡ s.links → t.member.link ≡ s.member.link → Kept s t
-kept_member s t same link = record {
-  links = subst (λ v. LinksKept s.links s.member.link v) (sym same)
-      (links_same s.links s.member.link);
-  link = link;
-}
+kept_member s t same link = grind (arith, links_same)
 
 kept_both : (s t u : Seat) → Kept s t → Kept t u → Kept s u
-kept_both s t u a b = record {
-  links = links_both s.links t.links u.links s.member.link a.links
-      (subst (λ n. LinksKept t.links n u.links) a.link b.links);
-  link = b.link ∙ a.link;
-}
+kept_both s t u a b = grind (arith, links_both)
 
 pub record Orderly (s : Seat) (m : Outcome Seat) : Type 0 where
   pub kept : Meets (λ t ls. Kept s t) (λ t ls. Kept s t) m
@@ -175,23 +144,14 @@ o_then s m next h g = record {
 }
 
 o_stays : (s : Seat) → Orderly s (stays s)
-o_stays s = record {
-  kept = meets_stays (λ t ls. Kept s t) (λ t ls. Kept s t) s (kept_same s) (kept_same s);
-  fronts = fronts_stays s;
-}
+o_stays s = grind (arith, meets_stays, kept_same, fronts_stays)
 
 o_refuses : (s : Seat) (f : WorldFault) → Orderly s (refuses s f)
-o_refuses s f = record {
-  kept = meets_refuses (λ t ls. Kept s t) (λ t ls. Kept s t) s f (kept_same s);
-  fronts = fronts_refuses s f;
-}
+o_refuses s f = grind (arith, meets_refuses, kept_same, fronts_refuses)
 
 o_once : (s new : Seat) (ls : List Line) (f : Option WorldFault) → Kept s new
     → Orderly s (record { state = new; lines = ls; fault = f; points = (s, []) ∷ [] })
-o_once s new ls f k = record {
-  kept = meets_once (λ t ls. Kept s t) (λ t ls. Kept s t) s new ls f (λ e. k) (kept_same s) k;
-  fronts = fronts_once s new ls f;
-}
+o_once s new ls f k = grind (arith, meets_once, kept_same, fronts_once)
 
 -- a change of the client alone
 o_member : (s new : Seat) (ls : List Line) (f : Option WorldFault) → new.links ≡ s.links
@@ -201,26 +161,17 @@ o_member s new ls f same link = o_once s new ls f (kept_member s new same link)
 
 o_if : (s : Seat) (b : Bool) (m n : Outcome Seat) → Orderly s m → Orderly s n
     → Orderly s (cond b m n)
-o_if s true m n a b = a
-o_if s false m n a b = b
+o_if s e m n a b = grind arith
 
 links_fronts : (event : LinkEvent) (s : Seat) → Fronts (links_do event s)
 unfolding links_do
-links_fronts event s =
-    fronts_within (with_links s) (step s.links event) (step_fronts event s.links)
+links_fronts event s = grind (arith, fronts_within, step_fronts)
 
 named_step : (event : LinkEvent) (name : List ℕ) (s : Seat) → s.member.link ≡ name
     → Meets (λ v ls. LinksKept s.links name v) (λ v ls. LinksKept s.links name v)
     (step s.links event) → Orderly s (links_do event s)
 unfolding links_do
-named_step event name s is k = record {
-  kept = meets_within (with_links s) (λ t ls. Kept s t) (λ t ls. Kept s t) (step s.links event)
-      (meets_weaker (λ v ls. LinksKept s.links name v) (λ v ls. Kept s (with_links s v))
-      (λ v ls. LinksKept s.links name v) (λ v ls. Kept s (with_links s v)) (step s.links event)
-      (λ v ls q. record { links = subst (λ n. LinksKept s.links n v) (sym is) q; link = refl })
-      (λ v ls q. record { links = subst (λ n. LinksKept s.links n v) (sym is) q; link = refl }) k);
-  fronts = links_fronts event s;
-}
+named_step event name s is k = grind (arith, meets_within, meets_weaker, links_fronts)
 
 o_put : (bytes : List ℕ) (name : List ℕ) (s : Seat) → s.member.link ≡ name
     → Orderly s (links_do (Put name bytes) s)

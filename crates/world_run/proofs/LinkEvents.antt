@@ -1,13 +1,12 @@
 -- What stands of a world with clients after an event of its links: one that makes a link, one of a
 -- link without a client, and one by which no client's end reads.
-use Rattle.std.proofs.Common.{◌≡◌, ◌<◌, ℕ, List, [], ◌++◌}
-use Rattle.std.proofs.Common.{false, cond, None, length, refl, sym, ap}
-use Rattle.std.proofs.Common.{subst, ◌∙◌, append-nil}
+use Rattle.std.proofs.Common.{◌≡◌, ◌<◌, ℕ, List, [], ◌++◌, false, None, length, sym, ap, subst, ◌∙◌}
+use Rattle.std.proofs.Common.{append-nil, arith}
 use Rattle.std.specs.Str.{bytes_eq}
 use Rattle.serial_model.specs.declared.history.Limits.{Limits}
 use Rattle.script_text.specs.declared.line.Line.{Line}
 use Rattle.server_links.specs.declared.fault.WorldFault.{WorldFault}
-use Rattle.server_links.specs.LinkEvent.{LinkEvent, Put}
+use Rattle.server_links.specs.LinkEvent.{LinkEvent}
 use Rattle.server_links.specs.LinkSteps.{step}
 use Rattle.server_links.specs.OneHistory.{read_on, said_by}
 use Rattle.server_links.specs.Outcome.{Outcome, refuses, stays}
@@ -41,26 +40,12 @@ pub stands_again : (l : Limits) (heard heard' : ℕ → List ℕ) (raw raw' : Li
     (lines : List Line) (w : WorldState) → ((i : ℕ) → heard i ≡ heard' i)
     → ((name : List ℕ) → NoneHas w name → raw name ≡ raw' name)
     → WorldStands l heard raw lines w → WorldStands l heard' raw' lines w
-stands_again l heard heard' raw raw' lines w hears says h = record {
-  said = h.said;
-  links = stands_same l heard heard' h.said h.said lines w.links hears (λ n. refl) h.links;
-  each = h.each;
-  distinct = h.distinct;
-  rest = λ name none. h.rest name none ∙ says name none;
-}
+stands_again l heard heard' raw raw' lines w hears says h = grind (arith, stands_same)
 
 pub part_again : (l : Limits) (raw raw' : List ℕ → List ℕ) (lines : List Line) (w : WorldState)
     → ((name : List ℕ) → NoneHas w name → raw name ≡ raw' name)
     → WorldPart l raw lines w → WorldPart l raw' lines w
-part_again l raw raw' lines w says h = record {
-  said = h.said;
-  links = h.links;
-  unique = h.unique;
-  each = h.each;
-  taken = h.taken;
-  distinct = h.distinct;
-  rest = λ name none. h.rest name none ∙ says name none;
-}
+part_again l raw raw' lines w says h = grind arith
 
 -- wherever a step comes to
 abbrev pub Comes : Limits → (ℕ → List ℕ) → (List ℕ → List ℕ) → List Line → Stepped → Type 0
@@ -82,8 +67,7 @@ comes_as l heard heard' raw raw' lines m hears says h =
 said_else : (event : LinkEvent) (n : List ℕ) → bytes_eq (name_of_event event) n ≡ false
     → said_by n event ≡ []
 unfolding name_of_event
-said_else (Put name bytes) n e = ap (λ b. cond b bytes []) e
-said_else event n e = refl
+said_else event n e = grind arith
 
 module _ (l : Limits) (heard : ℕ → List ℕ) (raw : List ℕ → List ℕ) (lines : List Line)
     (w : WorldState) (h : WorldStands l heard raw lines w) where
@@ -105,11 +89,7 @@ module _ (l : Limits) (heard : ℕ → List ℕ) (raw : List ℕ → List ℕ) (
       → ((i : ℕ) → heard i ≡ heard' i) → ((name : List ℕ) → raw name ≡ raw' name)
       → Comes l heard' raw' lines (stays w)
   comes_same heard' raw' hears says =
-      meets_stays (λ v ls. WorldStands l heard' raw' (lines ++ ls) v)
-      (λ v ls. WorldPart l raw' (lines ++ ls) v) w
-      (subst (λ x. WorldStands l heard' raw' x w) (sym (append-nil lines))
-      (stands_again l heard heard' raw raw' lines w hears (λ n none. says n) h))
-      (part_here raw' (λ n none. says n))
+      grind (arith, meets_stays, append-nil, stands_again, part_here)
 
   -- an event that no client's link takes part in
   pub comes_linked : (raw' : List ℕ → List ℕ) (event : LinkEvent)

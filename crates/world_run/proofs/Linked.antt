@@ -1,13 +1,12 @@
 -- What a client's moves do to the links in the code.
-use Rattle.std.proofs.Common.{◌≡◌, ◌⊎◌, ℕ, List, [], length, Option, Some, None, Result, inl, inr}
-use Rattle.std.proofs.Common.{refl, ap, ◌∙◌, length-set}
+use Rattle.std.proofs.Common.{◌≡◌, ℕ, List, length, Option, Some, None, Result, inl, inr, ap, ◌∙◌}
+use Rattle.std.proofs.Common.{length-set, arith}
 use Rattle.script_text.specs.declared.line.Line.{Line}
 use Rattle.server_links.specs.declared.fault.WorldFault.{WorldFault}
 use Rattle.server_links.specs.declared.link.LinkMove.{LinkMove}
 use Rattle.server_links.specs.LinkEvent.{LinkEvent, Over, Put}
 use Rattle.server_links.specs.LinksState.{LinksState}
-use Rattle.server_links.specs.LinkSteps.{over, over_named, place_of, step}
-use Rattle.server_links.specs.Moves.{move_of}
+use Rattle.server_links.specs.LinkSteps.{over, over_named, step}
 use Rattle.server_links.specs.Outcome.{Gives, Outcome}
 use Rattle.server_links.specs.Session.{Session, session_at, with_session}
 use Rattle.server_links.proofs.Outcomes.{gives_reached, gives_within, reached_within}
@@ -50,12 +49,10 @@ pub put_kept : (name bytes : List ℕ) (w new : LinksState) (lines : List Line)
     (r : Result (Unit {0}) WorldFault) (lines' : List Line)
     → Gives (step w (Put name bytes)) lines r new lines' → Kept w new
 unfolding step
-put_kept name bytes w new lines r lines' g =
-    named_kept (place_of name w) (move_of (Put name bytes)) w new lines r lines' g
+put_kept name bytes w new lines r lines' g = grind (arith, named_kept)
 
 pub over_kept : (name : List ℕ) (move : LinkMove) (w new : LinksState) (lines : List Line)
     (r : Result (Unit {0}) WorldFault) (lines' : List Line)
     → Gives (step w (Over name move)) lines r new lines' → Kept w new
 unfolding step
-over_kept name move w new lines r lines' g =
-    named_kept (place_of name w) (move_of (Over name move)) w new lines r lines' g
+over_kept name move w new lines r lines' g = grind (arith, named_kept)

@@ -1,7 +1,7 @@
 -- What an event of the links leaves of them, wherever it comes to, and what it prints of reading.
-use Rattle.std.proofs.Common.{◌≡◌, ◌+◌, ◌<◌, ℕ, List, [], ◌∷◌, ◌++◌, Bool, true, false, cond}
-use Rattle.std.proofs.Common.{Some, None, Option, length, drop, refl, sym, ap, ◌∙◌}
-use Rattle.std.proofs.Common.{arith, append-nil, length-append, length-set, inl, inr, eq-eqb}
+use Rattle.std.proofs.Common.{◌≡◌, ◌+◌, ◌<◌, ℕ, List, [], ◌∷◌, ◌++◌, Bool, true, false, cond, Some}
+use Rattle.std.proofs.Common.{None, Option, length, drop, refl, sym, ap, ◌∙◌, arith, append-nil}
+use Rattle.std.proofs.Common.{length-append, length-set, inl, inr, eq-eqb}
 use Rattle.std.specs.Str.{bytes_eq}
 use Rattle.std.proofs.lemmas.Bool.{eqb-true, cases_lt}
 use Rattle.std.proofs.lemmas.List.{get_or-set_same, get_or-set_other, get_or_push}
@@ -10,7 +10,6 @@ use Rattle.resp_stream.specs.declared.fault.FaultPlace.{FaultPlace}
 use Rattle.serial_model.specs.declared.history.Entry.{Entry}
 use Rattle.serial_model.specs.declared.history.Entry.TheVariants as entry
 use Rattle.serial_model.specs.declared.history.BookReply.{BookReply}
-use Rattle.serial_model.specs.declared.history.BookReply.TheVariants.{Admitted}
 use Rattle.serial_model.specs.History.{admitted, is_full}
 use Rattle.serial_model.specs.Steps.{Turn, book_step, unless_full}
 use Rattle.serial_model.specs.Steps as steps
@@ -26,8 +25,7 @@ use Rattle.server_links.specs.LinksState.{LinksState, at_place, fresh_link}
 use Rattle.server_links.specs.LinkSteps.{Stepped, admitting, over, over_named, place_of, raw_step}
 use Rattle.server_links.specs.LinkSteps.{step}
 use Rattle.server_links.specs.Moves.{turned, turn, run_one, run_all, run_requests, run_fed, close}
-use Rattle.server_links.specs.Moves.{stop, serve_all, serve, take_down}
-use Rattle.server_links.specs.Moves.{send, read_lines, eof_lines}
+use Rattle.server_links.specs.Moves.{stop, serve_all, serve, take_down, send, read_lines, eof_lines}
 use Rattle.server_links.specs.Moves.{receive_all, receive, move_of}
 use Rattle.server_links.specs.OneHistory.{read_on}
 use Rattle.server_links.specs.Outcome.{Outcome, and_then, does, refuses, stays, within}
@@ -35,8 +33,8 @@ use Rattle.server_links.specs.Session.{Session, session_at, with_session}
 use Rattle.server_links.specs.Transcript.{up_to}
 use Rattle.server_links.proofs.Carries.{read_more}
 use Rattle.server_links.proofs.Names.{names_itself, placed, unplaced}
-use Rattle.server_links.proofs.Outcomes.{Meets, meets_stays, meets_once, meets_refuses}
-use Rattle.server_links.proofs.Outcomes.{meets_then, meets_weaker, meets_within}
+use Rattle.server_links.proofs.Outcomes.{Meets, meets_stays, meets_once, meets_refuses, meets_then}
+use Rattle.server_links.proofs.Outcomes.{meets_weaker, meets_within}
 use Rattle.server_links.proofs.Moments.{tick_goes_on}
 use Rattle.server_links.proofs.Moving.{every_move}
 use Rattle.world_run.proofs.Members.{LinkGrows}
@@ -219,8 +217,7 @@ mutes_once : {S : Type 0} → (old new : S) (lines : List Line) (fault : Option 
     → Mute lines
     → Mutes (record { state = new; lines = lines; fault = fault; points = (old, []) ∷ [] })
 unfolding Mutes
-mutes_once old new lines fault m =
-    meets_once (λ t ls. Mute ls) (λ t ls. Mute ls) old new lines fault (λ e. m) nothing_read m
+mutes_once old new lines fault m = grind (arith, meets_once, nothing_read)
 
 mutes_then : {S : Type 0} → (m : Outcome S) (next : S → Outcome S) → Mutes m
     → ((t : S) → Mutes (next t)) → Mutes (and_then m next)
@@ -234,8 +231,7 @@ mutes_then m next h g =
 mute_reply : (link : List ℕ) (words : List (List ℕ)) (reply : BookReply)
     → Mute (reply_lines link words reply)
 unfolding Mute
-mute_reply link words (Admitted e id) n = refl
-mute_reply link words reply n = refl
+mute_reply link words reply n = grind arith
 
 mutes_turned : (s : Session) (words : List (List ℕ)) (t : Turn) → Mutes (turned s words t)
 mutes_turned s words t = mutes_once s _ _ _ (mute_reply s.link.name words t.reply)
@@ -300,8 +296,7 @@ mutes_named (Some at) event w h =
     (mutes_move event (session_at at w) h)
 
 mutes_raw : (name : List ℕ) (p : Option ℕ) (w : LinksState) → Mutes (raw_step w name p)
-mutes_raw name (Some at) w = mutes_refuses w NameTaken
-mutes_raw name None w = mutes_once w _ _ _ (mute_reply name [] _)
+mutes_raw name p w = grind (arith, mutes_refuses, mutes_once, mute_reply)
 
 pub step_mutes : (w : LinksState) (event : LinkEvent) → IsUnread event → Mutes (step w event)
 unfolding step Mutes Mute
@@ -317,8 +312,7 @@ read_own : (name bytes : List ℕ) → read_on name (read_lines name bytes) ≡ 
 read_own name bytes = grind (arith, names_itself, append-nil)
 
 eof_own : (link name : List ℕ) (b : Bool) → read_on name (eof_lines link b) ≡ []
-eof_own link name true = refl
-eof_own link name false = refl
+eof_own link name b = grind arith
 
 -- what a client's end reads of its link
 pub record HasRead (name bytes : List ℕ) (left : Option ℕ) (m : Outcome Session) : Type 0 where

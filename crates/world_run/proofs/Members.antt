@@ -1,8 +1,7 @@
 -- What holds of each client of a world, wherever memory runs out: it and the history have been kept
 -- together by its link.
-use Rattle.std.proofs.Common.{◌≡◌, ◌+◌, ◌<◌, ◌≤◌, ℕ, List, ◌++◌}
-use Rattle.std.proofs.Common.{length, take, drop, map, sym, ap, subst}
-use Rattle.std.proofs.Common.{◌∙◌, arith, append_assoc, length-append}
+use Rattle.std.proofs.Common.{◌≡◌, ◌+◌, ◌<◌, ◌≤◌, ℕ, List, ◌++◌, length, take, drop, map, sym, ap}
+use Rattle.std.proofs.Common.{subst, ◌∙◌, arith, append_assoc, length-append}
 use Rattle.std.proofs.lemmas.List.{take-append-drop}
 use Rattle.resp_value.specs.Lists.{IsPrefix}
 use Rattle.resp_value.specs.ValueTree.{tree_of}
@@ -11,7 +10,7 @@ use Rattle.serial_model.specs.declared.history.Limits.{Limits}
 use Rattle.serial_model.specs.declared.history.Entry.{Entry}
 use Rattle.serial_model.specs.History.{runs_of, sent, stream, taken, IsLegal}
 use Rattle.shared_cache.specs.declared.log.Wire.{Wire}
-use Rattle.shared_cache.specs.declared.log.Wire.TheVariants.{Main, Side}
+use Rattle.shared_cache.specs.declared.log.Wire.TheVariants.{Main}
 use Rattle.shared_cache.specs.ClientFields.{IsServed}
 use Rattle.shared_cache.specs.Held.{commands}
 use Rattle.shared_cache.specs.Laws.{LegalLog, gots}
@@ -54,8 +53,7 @@ pub record MemberPart (ls : LinksState) (read : List ℕ) (m : MemberState) : Ty
 -- what holds of a client's one wire
 on_main : (P : Wire → Type 0) (m : MemberState) → IsServed m.state.setup.mode → P Main
     → (w : Wire) → HasWire m.state.setup.mode.shape w → P w
-on_main P m served p Main has = p
-on_main P m served p Side has = absurd (subst (λ shape. HasWire shape Side) served.shape has)
+on_main P m served p w has = grind arith
 
 module _ (ls : LinksState) (read said : List ℕ) (m : MemberState)
     (legal : IsLegal ls.limits ls.past)
@@ -122,7 +120,7 @@ gots_within l x past log m w has = got_count (gots w log) (sent l (x.id w) past)
 
 pub runs_within : (l : Limits) (x : Client) (past : List Entry) (log : List _) → Meet l x past log
     → RunsWithin x past log
-runs_within l x past log m w has = grind (arith, runs_size, prefix_size)
+runs_within l e past log m w has = grind (arith, runs_size, prefix_size)
 
 -- a client whose link has grown
 pub member_grown : (w v : LinksState) (read more : List ℕ) (m : MemberState)

@@ -1,44 +1,34 @@
 -- Clients by their names and by those of their links.
-use Rattle.std.proofs.Common.{◌≡◌, ◌<◌, ℕ, List, [], ◌∷◌, ◌++◌, true, false, zero, suc, Some, None}
-use Rattle.std.proofs.Common.{length, map, slice_set, refl, sym, ap, ◌∙◌}
+use Rattle.std.proofs.Common.{◌≡◌, ◌<◌, ℕ, List, [], ◌∷◌, ◌++◌, zero, suc, Some, None, length, map}
+use Rattle.std.proofs.Common.{slice_set, refl, sym, ap, ◌∙◌, arith}
 use Rattle.std.specs.Prelude.{position}
 use Rattle.std.specs.Str.{bytes_eq}
 use Rattle.std.proofs.lemmas.List.Quantifiers.{position-Some}
 use Rattle.server_links.proofs.LinksStand.{not_equal}
 use Rattle.server_links.proofs.NameLists.{none_more, nowhere, position_map}
 use Rattle.server_links.proofs.Names.{names_itself, same_name}
-use Rattle.world_run.specs.WorldState.{MemberState, client_named, client_of_link}
-use Rattle.world_run.specs.WorldState.{fresh_member, member_at, no_setup}
+use Rattle.world_run.specs.WorldState.{MemberState, client_named, client_of_link, member_at}
 
 pub client_there : (name : List ℕ) (ms : List MemberState) (at : ℕ)
     → client_named name ms ≡ Some at
     → (at < length ms) × ((member_at ms at).name ≡ name)
-client_there name ms at h =
-    let found = position-Some (λ (m : MemberState). bytes_eq m.name name) ms at
-    (fresh_member [] 0 no_setup) h in
-    (found.0, same_name _ name found.1)
+client_there name ms at h = grind (arith, position-Some, same_name)
 
 pub link_there : (link : List ℕ) (ms : List MemberState) (at : ℕ)
     → client_of_link link ms ≡ Some at
     → (at < length ms) × ((member_at ms at).link ≡ link)
-link_there link ms at h =
-    let found = position-Some (λ (m : MemberState). bytes_eq m.link link) ms at
-    (fresh_member [] 0 no_setup) h in
-    (found.0, same_name _ link found.1)
+link_there link ms at h = grind (arith, position-Some, same_name)
 
 -- where a link is no client's, no client has it
 pub link_nowhere : (link : List ℕ) (ms : List MemberState) → client_of_link link ms ≡ None → (i : ℕ)
     → i < length ms → (member_at ms i).link ≡ link → ⊥
-link_nowhere link ms none i lt same =
-    nowhere (λ (m : MemberState). bytes_eq m.link link) ms (fresh_member [] 0 no_setup) none i lt
-    (names_itself (member_at ms i).link link same)
+link_nowhere link ms none i lt same = grind (arith, nowhere, names_itself)
 
 -- one more client, of another link
 pub client_more : (link : List ℕ) (ms : List MemberState) (m : MemberState)
     → client_of_link link ms ≡ None → (m.link ≡ link → ⊥)
     → client_of_link link (ms ++ m ∷ []) ≡ None
-client_more link ms m none other =
-    none_more (λ (x : MemberState). bytes_eq x.link link) ms m none (not_equal m.link link other)
+client_more link ms m none other = grind (arith, none_more, not_equal)
 
 links_set : (ms : List MemberState) (at : ℕ) (m : MemberState) → m.link ≡ (member_at ms at).link
     → map (λ (x : MemberState). x.link) (slice_set ms at m)

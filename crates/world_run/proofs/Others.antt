@@ -1,7 +1,6 @@
 -- The links and the clients that an event does not name are as they were.
-use Rattle.std.proofs.Common.{◌≡◌, ◌≤◌, ℕ, zero, suc, List, [], ◌∷◌, Bool, true}
-use Rattle.std.proofs.Common.{false, cond, Some, None, Option, length, refl, sym, ap, subst, ◌∙◌}
-use Rattle.std.proofs.Common.{arith, inl, inr, slice_index_or}
+use Rattle.std.proofs.Common.{◌≡◌, ◌≤◌, ℕ, zero, suc, List, [], ◌∷◌, Bool, cond, Some, None, Option}
+use Rattle.std.proofs.Common.{length, refl, sym, ap, subst, ◌∙◌, arith, inl, inr, slice_index_or}
 use Rattle.std.proofs.lemmas.Bool.{cases_lt}
 use Rattle.std.proofs.lemmas.List.{get_or-set_other}
 use Rattle.resp_value.specs.Lists.{IsPrefix}
@@ -15,29 +14,27 @@ use Rattle.script_text.specs.declared.event.Event.TheVariants.{Send, Recv, Flow,
 use Rattle.script_text.specs.declared.event.Event.TheVariants.{Do, Poll, Show, Now, Tick}
 use Rattle.script_text.specs.declared.line.Line.{Line}
 use Rattle.server_links.specs.declared.fault.WorldFault.{WorldFault}
-use Rattle.server_links.specs.declared.fault.WorldFault.TheVariants.{NameTaken, NoName}
+use Rattle.server_links.specs.declared.fault.WorldFault.TheVariants.{NameTaken}
 use Rattle.server_links.specs.declared.link.LinkMove.{LinkMove}
 use Rattle.server_links.specs.declared.link.LinkMove.TheVariants as moves
 use Rattle.server_links.specs.LinkEvent as link_event
 use Rattle.server_links.specs.LinkEvent.{LinkEvent}
-use Rattle.server_links.specs.LinksState.{at_place, fresh_link}
+use Rattle.server_links.specs.LinksState.{fresh_link}
 use Rattle.server_links.specs.LinkSteps as links
 use Rattle.server_links.specs.LinkSteps.{place_of}
 use Rattle.server_links.specs.Outcome.{Outcome, Reached, refuses, stays}
 use Rattle.server_links.proofs.Outcomes.{Fronts, fronts_once, fronts_reached, fronts_refuses}
-use Rattle.server_links.proofs.Outcomes.{fronts_stays, fronts_then, fronts_within}
-use Rattle.server_links.proofs.Outcomes.{Meets, meets_refuses, meets_weaker}
-use Rattle.server_links.proofs.Outcomes.{meets_within}
-use Rattle.world_run.specs.WorldState.{WorldState, client_named, client_of_link}
-use Rattle.world_run.specs.WorldState.{data_link, fresh_member, member_at, no_setup}
+use Rattle.server_links.proofs.Outcomes.{fronts_stays, fronts_then, fronts_within, Meets}
+use Rattle.server_links.proofs.Outcomes.{meets_refuses, meets_weaker, meets_within}
+use Rattle.world_run.specs.WorldState.{WorldState, client_named, client_of_link, data_link}
+use Rattle.world_run.specs.WorldState.{fresh_member, member_at, no_setup}
 use Rattle.world_run.specs.Members.{Seat, seat_at, with_seat}
 use Rattle.world_run.specs.ClientMoves as client
 use Rattle.world_run.specs.ClientMoves.{show, turn}
 use Rattle.world_run.specs.WorldHistory.{OthersKept, link_named}
-use Rattle.world_run.specs.World.{Stepped, client_does, client_step, flow_at, flow_first, flow_step}
-use Rattle.world_run.specs.World.{is_taken, links_step, named_does}
-use Rattle.world_run.specs.World.{out_step, raw_out, recv_step, said_step, step}
-use Rattle.world_run.specs.World.{on_links}
+use Rattle.world_run.specs.World.{Stepped, client_does, client_step, flow_first, flow_step}
+use Rattle.world_run.specs.World.{is_taken, links_step, named_does, out_step, raw_out, recv_step}
+use Rattle.world_run.specs.World.{said_step, step}
 use Rattle.server_links.proofs.Events.{step_fronts}
 use Rattle.world_run.proofs.Clients.{place_is}
 use Rattle.world_run.proofs.Kept.{LinksKept, Orderly, links_same, named_kept, o_flow, o_out}
@@ -48,19 +45,16 @@ use Rattle.world_run.proofs.Worlds.{WorldStands}
 -- ---- what is printed by then
 
 f_if : {S : Type 0} → (b : Bool) (m n : Outcome S) → Fronts m → Fronts n → Fronts (cond b m n)
-f_if true m n a b = a
-f_if false m n a b = b
+f_if e m n a b = grind arith
 
 f_event : (event : LinkEvent) (w : WorldState) → Fronts (links_step event w)
 unfolding links_step
-f_event event w =
-    fronts_within (on_links w) (links.step w.links event) (step_fronts event w.links)
+f_event event w = grind (arith, fronts_within, step_fronts)
 
 f_client : (at : ℕ) (move : Seat → Outcome Seat) → ((s : Seat) → Orderly s (move s))
     → (w : WorldState) → Fronts (client_does at move w)
 unfolding client_does
-f_client at move o w =
-    fronts_within (with_seat at w) (move (seat_at at w)) (o (seat_at at w)).fronts
+f_client at move o w = grind (arith, fronts_within)
 
 f_flow : (c : Option ℕ) (name : List ℕ) (w : WorldState) → Fronts (flow_step c name w)
 f_flow None name w = f_event (link_event.Over name moves.Flow) w
@@ -69,10 +63,7 @@ f_flow (Some at) name w = f_client at client.flow o_flow w
 f_first : (n : ℕ) (w : WorldState) → Fronts (flow_first n w)
 unfolding flow_first
 f_first zero w = fronts_stays w
-f_first (suc n) w =
-    fronts_then (flow_first n w) (flow_at n) (f_first n w)
-    (λ v. let name = (at_place v.links.links n).name in
-    f_flow (client_of_link name v.members) name v)
+f_first (suc n) w = grind (arith, fronts_then, f_flow, f_first n w)
 
 f_make : (name : List ℕ) (mode : ClientMode) (capacity : ℕ) (w : WorldState)
     → Fronts (client_step name mode capacity w)
@@ -80,8 +71,7 @@ f_make name mode capacity w =
     grind (arith, f_if, fronts_refuses, fronts_then, fronts_once, f_event, fronts_stays)
 
 f_said : (c : Option ℕ) (name bytes : List ℕ) (w : WorldState) → Fronts (said_step c name bytes w)
-f_said None name bytes w = f_event (link_event.Put name bytes) w
-f_said (Some at) name bytes w = fronts_refuses w NoName
+f_said c name bytes w = grind (arith, f_event, fronts_refuses)
 
 f_raw_out : (p count : Option ℕ) (w : WorldState) → Fronts (raw_out p count w)
 f_raw_out p count w = grind (arith, fronts_refuses, fronts_stays)
@@ -98,8 +88,7 @@ f_recv (Some at) name count w = f_client at (client.receive count) (o_receive co
 
 f_named : (c : Option ℕ) (move : Seat → Outcome Seat) → ((s : Seat) → Orderly s (move s))
     → (w : WorldState) → Fronts (named_does c move w)
-f_named None move o w = fronts_refuses w NoName
-f_named (Some at) move o w = f_client at move o w
+f_named c move o w = grind (arith, fronts_refuses, f_client)
 
 event_fronts : (e : Event) (w : WorldState) → Fronts (step w e)
 unfolding step
@@ -145,8 +134,7 @@ abbrev Leaves : WorldState → List ℕ → Stepped → Type 0
 Leaves w name m = Meets (λ v ls. Apart w name v) (λ v ls. Apart w name v) m
 
 a_refused : (w : WorldState) (name : List ℕ) (f : WorldFault) → Leaves w name (refuses w f)
-a_refused w name f =
-    meets_refuses (λ v ls. Apart w name v) (λ v ls. Apart w name v) w f (apart_same w name)
+a_refused w name f = grind (arith, meets_refuses, apart_same)
 
 a_event : (event : LinkEvent) (name : List ℕ) (w : WorldState)
     → Meets (λ v ls. LinksKept w.links name v) (λ v ls. LinksKept w.links name v)
@@ -250,7 +238,7 @@ module _ (l : Limits) (heard : ℕ → List ℕ) (raw : List ℕ → List ℕ) (
   apart_then (Show n) name e =
       subst (λ x. Leaves w x (step w (Show n))) (let i : data_link n ≡ name = cc in i)
       (a_named n show o_show)
-  apart_then x name e = absurd (let no : ⊥ = cc in no)
+  apart_then h name e = absurd (let no : ⊥ = cc in no)
 
   nothing_at : {A : Type 0} (xs : List A) (i : ℕ) (d : A) → length xs ≤ i
       → slice_index_or xs i d ≡ d

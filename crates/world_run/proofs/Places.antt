@@ -1,6 +1,6 @@
 -- A link is found at the same place while the names of the links stay as they are.
-use Rattle.std.proofs.Common.{◌≡◌, ◌<◌, ℕ, List, [], Some, None}
-use Rattle.std.proofs.Common.{length, refl, sym, ap, ◌∙◌, arith, inl, inr}
+use Rattle.std.proofs.Common.{◌≡◌, ◌<◌, ℕ, List, Some, None, length, refl, sym, ap, ◌∙◌, arith, inl}
+use Rattle.std.proofs.Common.{inr}
 use Rattle.std.proofs.lemmas.Bool.{cases_lt}
 use Rattle.std.proofs.lemmas.List.Sums.{prefix_len_passes}
 use Rattle.server_links.specs.LinksState.{LinksState, at_place}

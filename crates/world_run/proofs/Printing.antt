@@ -1,8 +1,7 @@
 -- The lines of a client's answers, and of what it holds, in the code.
-use Rattle.std.proofs.Common.{◌≡◌, ◌+◌, ◌-◌, ◌<◌, ◌≤◌, ℕ, zero, suc, List, [], ◌∷◌, ◌++◌}
-use Rattle.std.proofs.Common.{Bool}
-use Rattle.std.proofs.Common.{length, Option, refl, sym, ap, subst, ◌∙◌, arith}
-use Rattle.std.proofs.Common.{append-nil, append_assoc, length-append, inl, inr}
+use Rattle.std.proofs.Common.{◌≡◌, ◌+◌, ◌≤◌, ℕ, zero, suc, List, [], ◌∷◌, ◌++◌, Bool, length}
+use Rattle.std.proofs.Common.{Option, refl, sym, ap, subst, ◌∙◌, arith, append-nil, append_assoc}
+use Rattle.std.proofs.Common.{length-append, inl, inr}
 use Rattle.std.proofs.lemmas.Bool.{cases_lt}
 use Rattle.resp_value.specs.declared.value.Value.{Value}
 use Rattle.shared_cache.specs.declared.log.Wire.TheVariants.{Main}
@@ -10,8 +9,6 @@ use Rattle.shared_cache.specs.declared.log.LogEntry.{LogEntry}
 use Rattle.shared_cache.specs.declared.log.LogEntry.TheVariants as entry
 use Rattle.shared_cache.specs.declared.log.ClientCall.TheVariants as call
 use Rattle.shared_cache.specs.declared.log.ClientReply.{ClientReply}
-use Rattle.shared_cache.specs.declared.log.ClientReply.TheVariants.{Hit}
-use Rattle.shared_cache.specs.declared.entry.CacheEntry.{CacheEntry}
 use Rattle.shared_cache.specs.Held.{Setup, Words, held, held_by, held_in_place, hold, left}
 use Rattle.shared_cache.specs.Held.{open_fetch}
 use Rattle.shared_cache.specs.Laws.{HeldInOrder}
@@ -34,8 +31,7 @@ use Rattle.world_run.proofs.Answering.{ask_past, turned_is}
 module _ (s : Seat) (q : Words) (reply : ClientReply) where
   over : (reply : ClientReply)
       → ask_lines (with_log s (entry.Ask q ∷ log_of s)) q reply ≡ ask_lines s q reply
-  over (Hit v n) = refl
-  over reply = refl
+  over reply = grind arith
 
   pub asked_before : (m : MemberState) → Turned s.member m
       → client_step (setup_of s) (log_of s) (call.Ask q)
@@ -50,33 +46,27 @@ module _ (s : Seat) (q : Words) (reply : ClientReply) where
 module _ (s : Seat) where
   same_sent : (p : List LogEntry) (reply : ClientReply)
       → send_lines (with_log s p) reply ≡ send_lines s reply
-  same_sent p (Hit v n) = refl
-  same_sent p reply = refl
+  same_sent p reply = grind arith
 
   pub sent_before : (reply : ClientReply) (m : MemberState) → Turned s.member m
       → send_lines (seat s.links m) reply ≡ send_lines s reply
-  sent_before reply m like =
-      ap (λ x. send_lines x reply) (turned_is s m like) ∙ same_sent m.state.past reply
+  sent_before reply m like = grind (arith, turned_is, same_sent)
 
   same_polled : (n : ℕ) (p : List LogEntry) (reply : ClientReply)
       → poll_lines (with_log s p) n reply ≡ poll_lines s n reply
-  same_polled n p (Hit v k) = refl
-  same_polled n p reply = refl
+  same_polled n p reply = grind arith
 
   pub polled_before : (n : ℕ) (reply : ClientReply) (m : MemberState) → Turned s.member m
       → poll_lines (seat s.links m) n reply ≡ poll_lines s n reply
-  polled_before n reply m like =
-      ap (λ x. poll_lines x n reply) (turned_is s m like) ∙ same_polled n m.state.past reply
+  polled_before n reply m like = grind (arith, turned_is, same_polled)
 
   same_got : (p : List LogEntry) (reply : ClientReply)
       → got_lines (with_log s p) reply ≡ got_lines s reply
-  same_got p (Hit v n) = refl
-  same_got p reply = refl
+  same_got p reply = grind arith
 
   pub got_before : (reply : ClientReply) (m : MemberState) → Turned s.member m
       → got_lines (seat s.links m) reply ≡ got_lines s reply
-  got_before reply m like =
-      ap (λ x. got_lines x reply) (turned_is s m like) ∙ same_got m.state.past reply
+  got_before reply m like = grind (arith, turned_is, same_got)
 
 -- ---- lines one after another
 
@@ -161,15 +151,7 @@ held_few : (open_of : ℕ → Option Words) (left_of : ℕ → Bool) (vs : List 
     → length (held_by open_of left_of vs) ≤ length vs
 held_few open_of left_of [] = omega arith
 held_few open_of left_of (v ∷ vs) =
-    let n = length vs + 1 in
-    let r = held_few open_of left_of vs in
-    let o = hold_one (open_of n) (left_of n) v n in
-    omega (
-      arith,
-      r,
-      o,
-      length-append (held_by open_of left_of vs) (hold (open_of n) (left_of n) v n),
-    )
+    grind (arith, hold_one, length-append, held_few open_of left_of vs)
 
 pub held_within : (s : Setup) (log : List LogEntry)
     → length (held s log) ≤ length (replies s.mode Main log)

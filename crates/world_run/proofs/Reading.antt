@@ -1,7 +1,7 @@
 -- A client's end reads: the bytes, the values in them, and an EOF.
-use Rattle.std.proofs.Common.{◌≡◌, ◌<◌, ℕ, List, [], ◌∷◌, ◌++◌, Bool, true, false}
-use Rattle.std.proofs.Common.{cond, Some, None, Option, length, map, refl, sym, ap, subst}
-use Rattle.std.proofs.Common.{◌∙◌, append_assoc, append-nil, inl, inr}
+use Rattle.std.proofs.Common.{◌≡◌, ◌<◌, ℕ, List, [], ◌∷◌, ◌++◌, Bool, true, false, cond, Some, None}
+use Rattle.std.proofs.Common.{Option, length, map, refl, sym, subst, ◌∙◌, append_assoc, append-nil}
+use Rattle.std.proofs.Common.{inl, inr, arith}
 use Rattle.std.proofs.lemmas.List.{map-append}
 use Rattle.resp_value.specs.Lists.{IsPrefix}
 use Rattle.resp_value.specs.Tree.{Tree}
@@ -9,7 +9,7 @@ use Rattle.resp_value.specs.ValueTree.{tree_of, value_of}
 use Rattle.resp_value.proofs.OneToOne.{tree_back}
 use Rattle.resp_stream.specs.declared.fault.FaultPlace.{FaultPlace}
 use Rattle.resp_stream.specs.declared.fault.StreamFault.{StreamFault}
-use Rattle.resp_stream.specs.Parse.{Batch, parse_values, values_of}
+use Rattle.resp_stream.specs.Parse.{parse_values, values_of}
 use Rattle.resp_stream.specs.Stream.{Stream, fed}
 use Rattle.resp_stream.proofs.Onward.{GoesOn, goes_further, values_join}
 use Rattle.serial_model.specs.declared.history.Limits.{Limits}
@@ -86,14 +86,7 @@ module _ (l : Limits) (heard : ℕ → List ℕ) (raw : List ℕ → List ℕ) (
       → let p = parse_values (fed m.reader piece) in
       (map tree_of (gots Main m.state.past) ++ p.items ≡ values_of read)
       × (p.fault ≡ None → GoesOn parse_values read p.stream)
-  fed_reads piece old read m is reads going =
-      let r = reads going in
-      let p : Batch Tree = parse_values (fed m.reader piece) in (
-        ap (λ x. x ++ p.items) r.gots_are ∙ sym (r.reading.further piece)
-            ∙ ap values_of (sym is),
-        λ none. subst (λ x. GoesOn parse_values x p.stream) (sym is)
-            (goes_further parse_values old piece m.reader values_join r.reading none),
-      )
+  fed_reads piece old read m is reads going = grind (arith, goes_further, values_join)
 
   pub feed_reads : (piece : List ℕ) (lines : List Line) (w : WorldState)
       → With (Ahead D piece) lines w → at < length w.members
@@ -111,11 +104,7 @@ module _ (l : Limits) (heard : ℕ → List ℕ) (raw : List ℕ → List ℕ) (
   module _ (next : Stream) (fault : Option StreamFault) where
     got_more : (t : Tree) (todo : List Tree) (xs gs all : List _) → gs ≡ xs ++ value_of t ∷ []
         → map tree_of xs ++ t ∷ todo ≡ all → map tree_of gs ++ todo ≡ all
-    got_more t todo xs gs all is e =
-        ap (λ g. map tree_of g ++ todo) is
-        ∙ ap (λ x. x ++ todo) (map-append tree_of xs (value_of t ∷ []))
-        ∙ ap (λ x. (map tree_of xs ++ x ∷ []) ++ todo) (tree_back t)
-        ∙ append_assoc (map tree_of xs) (t ∷ []) todo ∙ e
+    got_more t todo xs gs all is e = grind (arith, map-append, tree_back, append_assoc)
 
     got_reads : (t : Tree) (todo : List Tree) (lines : List Line) (w : WorldState)
         → With (Getting D (t ∷ todo) next fault) lines w → at < length w.members

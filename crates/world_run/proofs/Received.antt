@@ -1,5 +1,5 @@
 -- Values that a client's end has read, got one after another.
-use Rattle.std.proofs.Common.{◌≡◌, ◌<◌, List, true, false, cond, length, refl, sym, ap, subst}
+use Rattle.std.proofs.Common.{◌≡◌, ◌<◌, List, length, sym, subst, arith}
 use Rattle.resp_value.specs.declared.value.Value.{Value}
 use Rattle.resp_value.specs.Tree.{Tree}
 use Rattle.resp_value.specs.ValueTree.{tree_of, value_of}
@@ -12,15 +12,12 @@ use Rattle.resp_stream.proofs.Parse.{takes_values}
 use Rattle.resp_stream.proofs.Values.{values_bad, values_more, values_whole}
 use Rattle.script_text.specs.declared.line.Line.{Line}
 use Rattle.server_links.specs.declared.fault.WorldFault.{WorldFault}
-use Rattle.shared_cache.specs.declared.log.ClientCall.TheVariants as call
-use Rattle.shared_cache.specs.declared.log.Wire.TheVariants.{Main}
-use Rattle.server_links.specs.Outcome.{Stops, and_then, stays}
+use Rattle.server_links.specs.Outcome.{Stops, and_then}
 use Rattle.server_links.proofs.Items as items
 use Rattle.server_links.proofs.Items.{Reads, Runner, Runs}
 use Rattle.server_links.proofs.Outcomes.{Ends}
 use Rattle.world_run.specs.Members.{Seat, with_reader}
-use Rattle.world_run.specs.ClientMoves.{got, got_all, got_one, has_ended, next_read, past_value}
-use Rattle.world_run.specs.ClientMoves.{turn}
+use Rattle.world_run.specs.ClientMoves.{got, got_all, got_one, next_read, turn}
 
 pub reads_less : (now new : Stream) (t : Tree) → value_at now.rest ≡ Whole t new.rest
     → length new.rest < length now.rest
@@ -29,9 +26,7 @@ reads_less now new t is = takes_values.some now t new.rest is
 -- a value that is got leaves the reader
 pub got_reader : (v : Value) (s : Seat) → (got v s).state.member.reader ≡ s.member.reader
 unfolding turn and_then
-got_reader v s =
-    elim (has_ended s) as (λ b. (cond b (stays s) (turn (call.Got Main v) s)).state.member.reader
-    ≡ s.member.reader) [ true ↦ refl | false ↦ refl ]
+got_reader v s = grind arith
 
 abbrev pub values : Runner Seat Tree
 values = record {
@@ -48,16 +43,7 @@ values = record {
 
 pub values_run : Runs values
 unfolding got_one got_all
-values_run = record {
-  whole = λ s t r e. values_whole s t r e;
-  more = λ s e. values_more s e;
-  bad = λ s g r e. values_bad s g r e;
-  same = λ s. refl;
-  next_is = λ s t r e. sym (ap (λ a. with_reader s (past_value s.member.reader a)) e);
-  one_is = λ t s. refl;
-  none_is = λ s. refl;
-  some_is = λ t more s. refl;
-}
+values_run = grind (arith, values_whole, values_more, values_bad)
 
 -- the value that begins what was read is got
 module _ (s0 s : Seat) (lines0 lines : List Line) (h : Reads values s0 s lines0 lines) (v : Value)

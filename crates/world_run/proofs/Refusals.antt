@@ -1,7 +1,6 @@
 -- A refused event leaves the world as it was, and prints nothing.
-use Rattle.std.proofs.Common.{◌≡◌, ℕ, List, [], ◌∷◌, Bool, true}
-use Rattle.std.proofs.Common.{false, cond, Some, None, Option, length, refl, sym, ap, subst}
-use Rattle.std.proofs.Common.{take, ◌∙◌, arith, inl}
+use Rattle.std.proofs.Common.{◌≡◌, ℕ, List, [], ◌∷◌, Bool, true, cond, Some, None, Option, length}
+use Rattle.std.proofs.Common.{refl, sym, ap, subst, take, ◌∙◌, arith, inl}
 use Rattle.std.specs.Prelude.{nat_le}
 use Rattle.std.proofs.lemmas.Bool.Decides.{nat_tests}
 use Rattle.resp_value.specs.Tree.{Tree}
@@ -24,8 +23,7 @@ use Rattle.shared_cache.specs.Log.{is_ended, is_ready}
 use Rattle.shared_cache.specs.Log as log
 use Rattle.shared_cache.specs.Out.{untaken}
 use Rattle.shared_cache.specs.Steps.{ClientTurn, answer_ask, client_step, command_number, getting}
-use Rattle.shared_cache.specs.Steps.{is_log_full, judged, polling, read_number}
-use Rattle.shared_cache.specs.Steps.{refusing}
+use Rattle.shared_cache.specs.Steps.{is_log_full, judged, polling, read_number, refusing}
 use Rattle.shared_cache.specs.Steps.{taking_out}
 use Rattle.shared_cache.specs.Steps as steps
 use Rattle.script_text.specs.declared.line.Line.{Line}
@@ -41,13 +39,12 @@ use Rattle.server_links.specs.LinkSteps.{over, over_named, place_of, step}
 use Rattle.server_links.specs.Moves.{all_bytes, move_of, moved, stopped_at}
 use Rattle.server_links.specs.Outcome.{Outcome, and_then, does, stays, then_by, within}
 use Rattle.server_links.specs.Session.{Session, session_at}
-use Rattle.server_links.proofs.Refusals.{Unrefused, un_receive_all, un_send_all}
-use Rattle.server_links.proofs.Refusals.{un_serve_all}
+use Rattle.server_links.proofs.Refusals.{Unrefused, un_receive_all, un_send_all, un_serve_all}
 use Rattle.world_run.specs.Members.{Seat, link_of, links_do, with_reader}
-use Rattle.world_run.specs.ClientMoves.{bytes_of, fault_of, feed, flow, got, got_all}
-use Rattle.world_run.specs.ClientMoves.{got_one, hang_up, has_ended, next_read, out}
-use Rattle.world_run.specs.ClientMoves.{read_values, receive, receive_bytes, receive_eof}
-use Rattle.world_run.specs.ClientMoves.{refused_fault, rest_read, stop, take_out, turn}
+use Rattle.world_run.specs.ClientMoves.{bytes_of, fault_of, feed, flow, got, got_all, got_one}
+use Rattle.world_run.specs.ClientMoves.{hang_up, has_ended, next_read, out, read_values, receive}
+use Rattle.world_run.specs.ClientMoves.{receive_bytes, receive_eof, refused_fault, rest_read, stop}
+use Rattle.world_run.specs.ClientMoves.{take_out, turn}
 use Rattle.world_run.proofs.Kept.{named_kept}
 use Rattle.world_run.proofs.Links.{step_moved}
 use Rattle.world_run.proofs.Places.{NamesKept, names_both, place_kept}
@@ -72,21 +69,10 @@ has_then s m k h = grind (arith, place_kept)
 pub sure_then : (s : Seat) (m : Outcome Seat) (next : Seat → Outcome Seat) → HasLink s → Sure s m
     → ((t : Seat) → HasLink t → Sure t (next t)) → Sure s (and_then m next)
 unfolding Unrefused and_then
-sure_then s m next h k g =
-    let n = g m.state (has_then s m k h) in
-    elim m.fault as (λ v. m.fault ≡ v → Sure s (then_by v m (next m.state))) [
-      | Some x ↦ λ is. k
-      | None ↦ λ is. record {
-        unrefused = n.unrefused;
-        names = names_both s.links m.state.links (next m.state).state.links k.names n.names;
-        link = n.link ∙ k.link;
-        place = n.place ∙ k.place;
-      }
-    ] refl
+sure_then s m next h k g = grind (arith, has_then, names_both, nat_tests)
 
 sure_if : (s : Seat) (b : Bool) (m n : Outcome Seat) → Sure s m → Sure s n → Sure s (cond b m n)
-sure_if s true m n p q = p
-sure_if s false m n p q = q
+sure_if s b m n p q = grind (arith, nat_tests)
 
 -- the links are as they were
 sure_here : (s new : Seat) (m : Outcome Seat) → m.state ≡ new → Unrefused m → new.links ≡ s.links
@@ -101,8 +87,7 @@ sure_does : (s new : Seat) (ls : List Line) → new.links ≡ s.links
     → new.member.link ≡ s.member.link → new.member.place ≡ s.member.place
     → Sure s (does s new ls)
 unfolding Unrefused
-sure_does s new ls same link place =
-    sure_here s new (does s new ls) refl none same link place
+sure_does s new ls same link place = grind (arith, sure_here, none)
 
 -- ---- its link
 
@@ -127,8 +112,7 @@ un_over : (event : LinkEvent) (name : List ℕ) (w : LinksState) (at : ℕ)
     → step w event ≡ over_named (place_of name w) (move_of event) w → place_of name w ≡ Some at
     → Unrefused (move_of event (session_at at w)) → Unrefused (step w event)
 unfolding over within Unrefused
-un_over event name w at is found un f e =
-    un f (sym (ap (λ m. m.fault) (is ∙ ap (λ p. over_named p (move_of event) w) found)) ∙ e)
+un_over event name w at is found un f e = grind arith
 
 sure_put : (bytes name : List ℕ) (s : Seat) → s.member.link ≡ name → HasLink s
     → Sure s (links_do (Put name bytes) s)
@@ -174,8 +158,7 @@ unfoldable pub NeverTurn : ClientTurn → Type 0
 NeverTurn t = (f : WorldFault) → fault_of t.reply ≡ Some f → IsRefusal f → ⊥
 
 never_if : (b : Bool) (x y : ClientTurn) → NeverTurn x → NeverTurn y → NeverTurn (cond b x y)
-never_if true x y p q = p
-never_if false x y p q = q
+never_if b e y p q = grind (arith, nat_tests)
 
 never_getting : (o : Option ClientRefusal) (v : Value) (full : Bool) (log : List LogEntry)
     → NeverBy o → NeverTurn (getting o Main v full log)
@@ -285,7 +268,7 @@ sure_hang s h =
 un_enough : (n : ℕ) (x : Session) → nat_le n (length x.link.down.bytes) ≡ true
     → Unrefused (moved (moves.Recv (Some n)) x)
 unfolding Unrefused
-un_enough n x enough f e r = grind arith
+un_enough n h enough f e r = grind arith
 
 pub sure_bytes : (n : ℕ) (s : Seat) → HasLink s → nat_le n (length (link_of s).down.bytes) ≡ true
     → Sure s (receive_bytes n s)

@@ -1,7 +1,7 @@
 -- A refused event leaves the world as it was, and prints nothing: event by event.
-use Rattle.std.proofs.Common.{◌≡◌, ◌<◌, ◌≤◌, ℕ, zero, suc, List, [], ◌∷◌, Bool, true}
-use Rattle.std.proofs.Common.{false, cond, not, Some, None, Option, length, refl, sym, ap, subst}
-use Rattle.std.proofs.Common.{◌∙◌, arith, inl, inr, length-set}
+use Rattle.std.proofs.Common.{◌≡◌, ◌<◌, ◌≤◌, ℕ, zero, suc, List, [], ◌∷◌, Bool, true, false, cond}
+use Rattle.std.proofs.Common.{not, Some, None, Option, length, refl, sym, ap, subst, ◌∙◌, arith}
+use Rattle.std.proofs.Common.{inl, inr, length-set}
 use Rattle.std.specs.Prelude.{◌&&◌, nat_le}
 use Rattle.std.proofs.lemmas.Bool.{cases_lt}
 use Rattle.std.proofs.lemmas.List.{get_or-set_same, get_or-set_other, set-get_or}
@@ -20,8 +20,7 @@ use Rattle.script_text.specs.declared.event.Event.TheVariants.{Send, Recv, Flow,
 use Rattle.script_text.specs.declared.event.Event.TheVariants.{Do, Poll, Show, Now, Tick}
 use Rattle.script_text.specs.declared.line.Line.{Line}
 use Rattle.server_links.specs.declared.fault.WorldFault.{WorldFault}
-use Rattle.server_links.specs.declared.fault.WorldFault.TheVariants.{NameTaken, NoName}
-use Rattle.server_links.specs.declared.fault.WorldFault.TheVariants.{NothingThere}
+use Rattle.server_links.specs.declared.fault.WorldFault.TheVariants.{NameTaken, NothingThere}
 use Rattle.server_links.specs.declared.link.LinkMove.TheVariants as moves
 use Rattle.server_links.specs.Faults.{IsRefusal}
 use Rattle.server_links.specs.LinkEvent as link_event
@@ -42,9 +41,8 @@ use Rattle.world_run.specs.ClientMoves as client
 use Rattle.world_run.specs.ClientMoves.{fault_of, has_ended, lines_of, print, show, shown, turn}
 use Rattle.world_run.specs.WorldHistory.{HaveLinks}
 use Rattle.world_run.specs.World.{Stepped, client_does, client_step as make_client, flow_at}
-use Rattle.world_run.specs.World.{flow_first, flow_step, is_taken, links_step}
-use Rattle.world_run.specs.World.{named_does, out_step, raw_out, recv_step, said_step}
-use Rattle.world_run.specs.World.{step, on_links}
+use Rattle.world_run.specs.World.{flow_first, flow_step, is_taken, links_step, named_does, out_step}
+use Rattle.world_run.specs.World.{raw_out, recv_step, said_step, step, on_links}
 use Rattle.world_run.proofs.Kept.{named_kept}
 use Rattle.world_run.proofs.Links.{step_moved}
 use Rattle.world_run.proofs.Names.{link_there}
@@ -65,8 +63,7 @@ accepted s m n f e r = absurd (n f e r)
 
 un_if : {S : Type 0} → (s : S) (b : Bool) (m n : Outcome S) → Unchanged s m → Unchanged s n
     → Unchanged s (cond b m n)
-un_if s true m n p q = p
-un_if s false m n p q = q
+un_if s b m n p q = grind arith
 
 -- ---- what a client is asked
 
@@ -76,8 +73,7 @@ TurnLeaves s c t = (f : WorldFault) → fault_of t.reply ≡ Some f → IsRefusa
 
 leaves_if : (s : Seat) (c : ClientCall) (b : Bool) (x y : ClientTurn) → TurnLeaves s c x
     → TurnLeaves s c y → TurnLeaves s c (cond b x y)
-leaves_if s c true x y p q = p
-leaves_if s c false x y p q = q
+leaves_if s c b e y p q = grind arith
 
 leaves_never : (s : Seat) (c : ClientCall) (t : ClientTurn) → NeverTurn t → TurnLeaves s c t
 unfolding TurnLeaves NeverTurn
@@ -86,8 +82,7 @@ leaves_never s c t n f e r = absurd (n f e r)
 never_ask : (o : Option CacheEntry) (n : ℕ) (past : List LogEntry)
     → NeverTurn (record { reply = answer_ask o n; past = past })
 unfolding NeverTurn
-never_ask (Some h) n past = none
-never_ask None n past = none
+never_ask o n past = grind (arith, none)
 
 ask_leaves : (q : List (List ℕ)) (s : Seat)
     → TurnLeaves s (call.Ask q) (client_step s.member.state.setup s.member.state.past (call.Ask q))
@@ -132,8 +127,7 @@ out_leaves (Some n) s h =
     (accepted s (client.take_out n s) (sure_take n s h).unrefused) (refused s NothingThere)
 
 both_right : (a b : Bool) → (a && b) ≡ true → b ≡ true
-both_right true b e = e
-both_right false b e = absurd (let no : ⊥ = cc in no)
+both_right a b e = grind arith
 
 receive_leaves : (count : Option ℕ) (s : Seat) → HasLink s → Unchanged s (client.receive count s)
 receive_leaves None s h = accepted s (client.receive None s) (sure_receive s h).unrefused
@@ -161,8 +155,7 @@ client_leaves at move w n f e r = grind (arith, set-get_or)
 
 named_leaves : (c : Option ℕ) (move : Seat → Outcome Seat)
     → ((s : Seat) → Unchanged s (move s)) → (w : WorldState) → Unchanged w (named_does c move w)
-named_leaves None move n w = refused w NoName
-named_leaves (Some at) move n w = client_leaves at move w (n (seat_at at w))
+named_leaves c move n w = grind (arith, refused, client_leaves)
 
 make_leaves : (name : List ℕ) (mode : ClientMode) (capacity : ℕ) (w : WorldState)
     → Unchanged w (make_client name mode capacity w)
@@ -171,8 +164,7 @@ make_leaves name mode capacity w = grind (arith, un_if, refused, event_leaves, n
 
 said_leaves : (c : Option ℕ) (name bytes : List ℕ) (w : WorldState)
     → Unchanged w (said_step c name bytes w)
-said_leaves None name bytes w = event_leaves (link_event.Put name bytes) w
-said_leaves (Some at) name bytes w = refused w NoName
+said_leaves c name bytes w = grind (arith, event_leaves, refused)
 
 raw_out_leaves : (p count : Option ℕ) (w : WorldState) → Unchanged w (raw_out p count w)
 raw_out_leaves p count w = grind arith

@@ -1,9 +1,8 @@
 -- Where in the history a client's answers stand: by the entries of its commands, from the last on.
 use Rattle.std.proofs.Common.{◌≡◌, ◌+◌, ◌-◌, ◌<◌, ◌≤◌, ℕ, zero, suc, List, [], ◌∷◌, ◌++◌, length}
 use Rattle.std.proofs.Common.{Bool, true, false, cond, drop, take, map, max, reverse, refl, sym, ap}
-use Rattle.std.proofs.Common.{◌∙◌, arith, Option, Some, None, inl, inr}
+use Rattle.std.proofs.Common.{◌∙◌, arith, Some, None}
 use Rattle.std.specs.Prelude.{slice_get}
-use Rattle.std.proofs.lemmas.Bool.{cases_lt}
 use Rattle.std.proofs.lemmas.List.{reverse-append, length-reverse}
 use Rattle.serial_model.specs.declared.history.Limits.{Limits}
 use Rattle.serial_model.specs.declared.history.Entry.{Entry}
@@ -15,8 +14,7 @@ use Rattle.shared_cache.specs.declared.log.Wire.TheVariants.{Main}
 use Rattle.shared_cache.specs.Log.{is_ended}
 use Rattle.shared_cache.specs.Laws.{gots}
 use Rattle.currency.specs.Links.{Client}
-use Rattle.currency.specs.Points.{before_first, complete, complete_by, complete_on, last_named}
-use Rattle.currency.specs.Points.{names_key}
+use Rattle.currency.specs.Points.{before_first, complete, last_named, names_key}
 use Rattle.currency.proofs.Lists.{get_front, get_last}
 use Rattle.currency.proofs.Runs.{in_order, ran_at as run_at}
 use Rattle.server_links.specs.Notes.{sent_entries, words_at, words_if}
@@ -28,7 +26,7 @@ first_some : (n : ℕ) (ss : List (ℕ × Sending)) (e all : ℕ)
     → before_first (drop n ss) all ≡ e - 1
 first_some zero (s ∷ ss) e all h = let same : s.0 ≡ e = cc in ap (λ n. n - 1) same
 first_some (suc n) (s ∷ ss) e all h = first_some n ss e all h
-first_some x [] e all h = absurd (let no : ⊥ = cc in no)
+first_some n [] e all h = absurd (let no : ⊥ = cc in no)
 
 first_none : (n : ℕ) (ss : List (ℕ × Sending)) (all : ℕ)
     → slice_get (map (λ (s : ℕ × Sending). s.0) ss) n ≡ None
@@ -40,9 +38,6 @@ first_none (suc n) (s ∷ ss) all h = first_none n ss all h
 
 module _ (l : Limits) (x : Client) (past : List Entry) (log : List LogEntry)
     (single : x.setup.mode.shape ≡ Single) where
-  on_main : complete l x past log ≡ complete_on l x Main past log
-  on_main = ap (λ s. complete_by s (λ w. complete_on l x w past log)) single
-
   going : is_ended x.setup.mode Main log ≡ false
       → complete l x past log
       ≡ before_first (drop (length (gots Main log)) (sent l (x.id Main) past)) (length past)
@@ -61,9 +56,6 @@ module _ (l : Limits) (x : Client) (past : List Entry) (log : List LogEntry)
 -- ---- the last entry that names a key
 
 module _ (key : List ℕ) where
-  named : Bool → ℕ → ℕ
-  named b r = cond b r 0
-
   at_none : (k : ℕ) (ws : List (List (List ℕ))) (es : List ℕ) → slice_get es k ≡ None
       → last_named key (take (suc k) ws) es ≡ last_named key (take k ws) es
   at_none zero [] es e = refl
@@ -71,14 +63,13 @@ module _ (key : List ℕ) where
   at_none zero (w ∷ ws) (r ∷ es) e = absurd (let no : ⊥ = cc in no)
   at_none (suc k) [] es e = refl
   at_none (suc k) (w ∷ ws) [] e = refl
-  at_none (suc k) (w ∷ ws) (r ∷ es) e =
-      ap (max (cond (names_key w key) r 0)) (at_none k ws es e)
+  at_none (suc k) (w ∷ ws) (r ∷ es) e = grind (arith, at_none k ws es e)
 
   swapped : (x : ℕ) → max x 0 ≡ max 0 x
-  swapped x = omega arith
+  swapped e = omega arith
 
   together : (x y z : ℕ) → max x (max y z) ≡ max (max x y) z
-  together x y z = omega arith
+  together e y z = omega arith
 
   at_some : (k : ℕ) (ws : List (List (List ℕ))) (es : List ℕ) (w : List (List ℕ)) (e : ℕ)
       → slice_get ws k ≡ Some w → slice_get es k ≡ Some e
@@ -94,12 +85,11 @@ module _ (key : List ℕ) where
       let x = cond (names_key v key) r 0 in
       ap (max x) (at_some k ws es w e a b)
       ∙ together x (last_named key (take k ws) es) (cond (names_key w key) e 0)
-  at_some x [] es w e a b = absurd (let no : ⊥ = cc in no)
-  at_some x (v ∷ ws) [] w e a b = absurd (let no : ⊥ = cc in no)
+  at_some k [] es w e a b = absurd (let no : ⊥ = cc in no)
+  at_some k (v ∷ ws) [] w e a b = absurd (let no : ⊥ = cc in no)
 
   picked : (b : Bool) (r e : ℕ) → r ≤ e → cond b r 0 ≤ e
-  picked true r e le = le
-  picked false r e le = omega arith
+  picked b r e le = grind arith
 
   bound : (k : ℕ) (ws : List (List (List ℕ))) (es : List ℕ) (e : ℕ)
       → ((i p : ℕ) → i < k → slice_get es i ≡ Some p → p ≤ e)

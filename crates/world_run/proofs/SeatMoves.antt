@@ -1,13 +1,12 @@
 -- A client's moves one by one: an event of its link, a change of what it has read, a turn.
-use Rattle.std.proofs.Common.{◌≡◌, ◌<◌, ℕ, List, [], ◌++◌, false}
-use Rattle.std.proofs.Common.{cond, None, length, refl, sym, ap, subst}
-use Rattle.std.proofs.Common.{◌∙◌, arith, append-nil, length-set}
+use Rattle.std.proofs.Common.{◌≡◌, ◌<◌, ℕ, List, [], ◌++◌, false, cond, None, length, refl, sym, ap}
+use Rattle.std.proofs.Common.{subst, ◌∙◌, arith, append-nil, length-set}
 use Rattle.std.specs.Prelude.{slice_set}
 use Rattle.std.specs.Str.{bytes_eq}
 use Rattle.std.proofs.lemmas.List.{get_or-set_same, get_or-set_other, set-get_or}
 use Rattle.serial_model.specs.declared.history.Limits.{Limits}
 use Rattle.script_text.specs.declared.line.Line.{Line}
-use Rattle.server_links.specs.LinkEvent.{LinkEvent, Put}
+use Rattle.server_links.specs.LinkEvent.{LinkEvent}
 use Rattle.server_links.specs.LinksState.{LinksState}
 use Rattle.server_links.specs.LinkSteps.{step}
 use Rattle.server_links.specs.OneHistory.{read_on, said_by}
@@ -16,8 +15,8 @@ use Rattle.server_links.proofs.LinksStand.{not_equal, stands_part}
 use Rattle.server_links.proofs.Names.{names_itself}
 use Rattle.server_links.proofs.Outcomes.{meets_weaker, meets_within}
 use Rattle.world_run.specs.WorldState.{WorldState, MemberState, fresh_member, member_at, no_setup}
-use Rattle.world_run.specs.Members.{Seat, client_of, links_do, log_of, seat_at, setup_of}
-use Rattle.world_run.specs.Members.{with_log, with_reader, with_seat}
+use Rattle.world_run.specs.Members.{Seat, client_of, links_do, log_of, seat_at, setup_of, with_log}
+use Rattle.world_run.specs.Members.{with_reader, with_seat}
 use Rattle.world_run.specs.Members as members
 use Rattle.world_run.specs.WorldHistory.{taken_bytes}
 use Rattle.world_run.specs.World as world
@@ -25,16 +24,14 @@ use Rattle.world_run.proofs.Links.{name_of_event, step_moved}
 use Rattle.world_run.proofs.Members.{MemberPart}
 use Rattle.world_run.proofs.Seats.{One, Plain, Seating, Working, by_place, parts_longer}
 use Rattle.world_run.proofs.Seats.{stands_lines, unread}
-use Rattle.world_run.proofs.Worlds.{Holds, NoneHas, Reads, Stable, WorldPart}
-use Rattle.world_run.proofs.Worlds.{linked}
+use Rattle.world_run.proofs.Worlds.{Holds, NoneHas, Reads, Stable, WorldPart, linked}
 
 -- ---- an event of the client's link
 
 said_other : (event : LinkEvent) (n : List ℕ) → bytes_eq (name_of_event event) n ≡ false
     → said_by n event ≡ []
 unfolding name_of_event
-said_other (Put name bytes) n e = ap (λ b. cond b bytes []) e
-said_other event n e = refl
+said_other event n e = grind arith
 
 module _ (l : Limits) (heard : ℕ → List ℕ) (raw : List ℕ → List ℕ) (at : ℕ) (pend : List ℕ)
     (R Q : Working) (lines : List Line) (w : WorldState)
@@ -133,8 +130,7 @@ module _ (l : Limits) (heard : ℕ → List ℕ) (raw : List ℕ → List ℕ) (
   size = length-set w.members at new
 
   mine : (i : ℕ) → i ≡ at → member_at changed.members i ≡ new
-  mine i e = ap (member_at (slice_set w.members at new)) e
-      ∙ get_or-set_same w.members at new (fresh_member [] 0 no_setup) below
+  mine i e = grind (arith, get_or-set_same)
 
   theirs : (i : ℕ) → (i ≡ at → ⊥) → member_at changed.members i ≡ member_at w.members i
   theirs i n = get_or-set_other w.members at i new (fresh_member [] 0 no_setup) n

@@ -1,7 +1,6 @@
 -- A turn of a client in a world, and what it reads and prints.
-use Rattle.std.proofs.Common.{◌≡◌, ◌<◌, ℕ, List, [], ◌++◌}
-use Rattle.std.proofs.Common.{None, Option, length, map, refl, sym, ap, subst}
-use Rattle.std.proofs.Common.{◌∙◌, append-nil, inl, inr}
+use Rattle.std.proofs.Common.{◌≡◌, ◌<◌, ℕ, List, [], ◌++◌, None, Option, length, map, refl, sym}
+use Rattle.std.proofs.Common.{subst, append-nil, inl, inr, arith}
 use Rattle.resp_value.specs.Lists.{IsPrefix}
 use Rattle.resp_value.specs.ValueTree.{tree_of}
 use Rattle.resp_stream.specs.Parse.{values_of}
@@ -10,11 +9,7 @@ use Rattle.serial_model.specs.declared.history.Limits.{Limits}
 use Rattle.shared_cache.specs.declared.log.ClientCall.{ClientCall}
 use Rattle.shared_cache.specs.declared.log.ClientCall.TheVariants as call
 use Rattle.shared_cache.specs.declared.log.ClientRefusal.{ClientRefusal}
-use Rattle.shared_cache.specs.declared.log.ClientRefusal.TheVariants.{Down, Unexpected, BadPush}
-use Rattle.shared_cache.specs.declared.log.ClientRefusal.TheVariants.{SetupRefused, NotReady}
 use Rattle.shared_cache.specs.declared.log.ClientReply.{ClientReply}
-use Rattle.shared_cache.specs.declared.log.ClientReply.TheVariants.{Hit, Sent, NotYet, Answer}
-use Rattle.shared_cache.specs.declared.log.ClientReply.TheVariants.{Refused}
 use Rattle.shared_cache.specs.declared.log.Wire.TheVariants.{Main}
 use Rattle.shared_cache.specs.Laws.{gots, AsksQuery, IsCall}
 use Rattle.shared_cache.specs.Steps.{client_step}
@@ -26,10 +21,9 @@ use Rattle.server_links.specs.Outcome.{and_then, does, stays, refuses}
 use Rattle.server_links.proofs.LinksStand.{stands_part}
 use Rattle.server_links.proofs.Outcomes.{Meets, meets_does, meets_refuses, meets_stays}
 use Rattle.world_run.specs.WorldState.{WorldState, MemberState, member_at}
-use Rattle.world_run.specs.Members.{Seat, client_of, seat_at, with_log}
-use Rattle.world_run.specs.Members.{with_reader, with_seat}
-use Rattle.world_run.specs.ClientMoves.{answers, fault_of, lines_of, turn, refused_lines}
-use Rattle.world_run.specs.ClientMoves.{ask_lines, send_lines, poll_lines, got_lines, ending_lines}
+use Rattle.world_run.specs.Members.{Seat, client_of, seat_at, with_log, with_reader, with_seat}
+use Rattle.world_run.specs.ClientMoves.{answers, fault_of, lines_of, turn, refused_lines, ask_lines}
+use Rattle.world_run.specs.ClientMoves.{send_lines, poll_lines, got_lines, ending_lines}
 use Rattle.world_run.specs.WorldHistory.{taken_bytes}
 use Rattle.world_run.proofs.Causal.{causal_log}
 use Rattle.world_run.proofs.Links.{Mute}
@@ -47,41 +41,27 @@ plain_none = record { no_entry = refl; mute = λ n. refl }
 
 plain_refused : (name : List ℕ) (r : ClientRefusal) → Plain (refused_lines name r)
 unfolding Mute
-plain_refused name (Down w) = record { no_entry = refl; mute = λ n. refl }
-plain_refused name NotReady = record { no_entry = refl; mute = λ n. refl }
-plain_refused name _ = record { no_entry = refl; mute = λ n. refl }
+plain_refused name r = grind arith
 
 plain_ask : (s : Seat) (q : List (List ℕ)) (r : ClientReply) → Plain (ask_lines s q r)
 unfolding Mute
-plain_ask s q (Hit v n) = record { no_entry = refl; mute = λ n. refl }
-plain_ask s q (Sent n) = record { no_entry = refl; mute = λ n. refl }
-plain_ask s q (Refused r) = plain_refused s.member.name r
-plain_ask s q _ = record { no_entry = refl; mute = λ n. refl }
+plain_ask s q r = grind (arith, plain_refused)
 
 plain_send : (s : Seat) (r : ClientReply) → Plain (send_lines s r)
 unfolding Mute
-plain_send s (Sent n) = record { no_entry = refl; mute = λ n. refl }
-plain_send s (Refused r) = plain_refused s.member.name r
-plain_send s _ = record { no_entry = refl; mute = λ n. refl }
+plain_send s r = grind (arith, plain_refused)
 
 plain_poll : (s : Seat) (k : ℕ) (r : ClientReply) → Plain (poll_lines s k r)
 unfolding Mute
-plain_poll s k (Answer v) = record { no_entry = refl; mute = λ n. refl }
-plain_poll s k NotYet = record { no_entry = refl; mute = λ n. refl }
-plain_poll s k (Refused r) = plain_refused s.member.name r
-plain_poll s k _ = record { no_entry = refl; mute = λ n. refl }
+plain_poll s k r = grind (arith, plain_refused)
 
 plain_ending : (name : List ℕ) (r : ClientRefusal) → Plain (ending_lines name r)
 unfolding Mute
-plain_ending name (Unexpected w) = record { no_entry = refl; mute = λ n. refl }
-plain_ending name (BadPush w) = record { no_entry = refl; mute = λ n. refl }
-plain_ending name (SetupRefused w) = record { no_entry = refl; mute = λ n. refl }
-plain_ending name _ = record { no_entry = refl; mute = λ n. refl }
+plain_ending name r = grind arith
 
 plain_got : (s : Seat) (r : ClientReply) → Plain (got_lines s r)
 unfolding Mute
-plain_got s (Refused r) = plain_ending s.member.link r
-plain_got s _ = record { no_entry = refl; mute = λ n. refl }
+plain_got s r = grind (arith, plain_ending)
 
 pub plain_lines : (s : Seat) (c : ClientCall) (r : ClientReply) → Plain (lines_of s c r)
 plain_lines s (call.Ask q) r = plain_ask s q r
@@ -96,19 +76,7 @@ answered : (Q W : Seat → List Line → Type 0) (s t : Seat) (ls : List Line) (
     → W s [] → W t [] → W t ls → (f ≡ None → Q t ls)
     → Meets Q W (and_then (does s t []) (answers ls f))
 unfolding and_then
-answered Q W s t ls f ws wt wl q = record {
-  ends = q;
-  all = λ u lines r. elim r [
-    | inl e ↦ subst (λ x. W u x) (sym e.1) (subst (λ x. W x ls) (sym e.0) wl)
-    | inr a ↦ elim a [
-      | inl e ↦ subst (λ x. W u x) (sym e.1) (subst (λ x. W x []) (sym e.0) ws)
-      | inr b ↦ elim b [
-        | inl e ↦ subst (λ x. W u x) (sym e.1) (subst (λ x. W x []) (sym e.0) wt)
-        | inr none ↦ absurd none
-      ]
-    ]
-  ];
-}
+answered Q W s t ls f ws wt wl q = grind arith
 
 module _ (l : Limits) (heard : ℕ → List ℕ) (raw : List ℕ → List ℕ) (at : ℕ) (R : Working)
     (lines : List Line) (w : WorldState)
@@ -215,19 +183,10 @@ module _ (l : Limits) (heard : ℕ → List ℕ) (raw : List ℕ → List ℕ) (
             ]
 
         turned_part : MemberPart w.links (read_on At.link lines) turned
-        turned_part = record {
-          named = old_part.named;
-          below = old_part.below;
-          placed = old_part.placed;
-          mode = old_part.mode;
-          legal = turn_legal At.state.setup At.state.past c is_call asks old_part.legal;
-          got = gets old_part.got old_works;
-          causal = turned_causal;
-        }
+        turned_part = grind (arith, turn_legal, old_works, turned_causal)
 
         turned_taken : h.said At.link ++ pend ≡ taken_bytes turned
-        turned_taken =
-            ap (λ x. x ++ pend) (sym (append-nil (h.said At.link)) ∙ old_taken) ∙ sym takes
+        turned_taken = grind (arith, append-nil, old_taken)
 
         pub one_turn : (Q : Working)
             → (fault_of (client_step At.state.setup At.state.past c).reply ≡ None

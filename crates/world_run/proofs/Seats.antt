@@ -1,7 +1,7 @@
 -- One client's moves in a world: what holds while the client is at work, and all the others stand.
-use Rattle.std.proofs.Common.{◌≡◌, ◌<◌, ℕ, zero, suc, List, [], ◌∷◌, ◌++◌}
-use Rattle.std.proofs.Common.{None, length, filter, refl, sym, ap}
-use Rattle.std.proofs.Common.{subst, ◌∙◌, arith, append_assoc, append-nil, length-set}
+use Rattle.std.proofs.Common.{◌≡◌, ◌<◌, ℕ, zero, suc, List, [], ◌∷◌, ◌++◌, None, length, filter}
+use Rattle.std.proofs.Common.{refl, sym, ap, subst, ◌∙◌, arith, append_assoc, append-nil}
+use Rattle.std.proofs.Common.{length-set}
 use Rattle.std.specs.Prelude.{slice_set}
 use Rattle.std.proofs.lemmas.List.{get_or-set_same}
 use Rattle.resp_value.specs.Lists.{IsPrefix}
@@ -139,8 +139,8 @@ module _ (at : ℕ) (w : WorldState) (below : at < length w.members) where
 
 set_twice : {A : Type 0} (xs : List A) (at : ℕ) (x y : A)
     → slice_set (slice_set xs at x) at y ≡ slice_set xs at y
-set_twice [] at x y = refl
-set_twice (z ∷ xs) zero x y = refl
+set_twice [] at e y = refl
+set_twice (z ∷ xs) zero e y = refl
 set_twice (z ∷ xs) (suc at) x y = ap (λ l. z ∷ l) (set_twice xs at x y)
 
 pub seat_twice : (at : ℕ) (w : WorldState) (s t : Seat)

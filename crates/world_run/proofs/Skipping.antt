@@ -1,7 +1,6 @@
 -- What is kept of the links that are over, and what is told of them.
-use Rattle.std.proofs.Common.{◌≡◌, ◌<◌, ◌≤◌, ℕ, List, [], true, false}
-use Rattle.std.proofs.Common.{Result, Ok, Err}
-use Rattle.std.proofs.Common.{slice_index_or, refl, ap, arith, eq-eqb, inl, inr, max}
+use Rattle.std.proofs.Common.{◌≡◌, ◌<◌, ◌≤◌, ℕ, List, true, false, Result, Ok, Err, slice_index_or}
+use Rattle.std.proofs.Common.{refl, ap, arith, eq-eqb, inl, inr, max}
 use Rattle.std.specs.Prelude.{◌==◌, OnOk, OnErr}
 use Rattle.std.proofs.lemmas.Bool.{cases_lt, eqb-true}
 use Rattle.world_run.specs.WorldState.{AreOver, IsOver, WorldState}

@@ -1,9 +1,8 @@
 -- What a turn of a client does to its log: what it got, what it took out, and whether its link has
 -- ended.
-use Rattle.std.proofs.Common.{◌≡◌, ◌-◌, ◌⊎◌, ℕ, List, [], ◌∷◌, ◌++◌, Bool, true}
-use Rattle.std.proofs.Common.{false, cond, Some, None, Option, length, take, drop, min, inl}
-use Rattle.std.proofs.Common.{inr}
-use Rattle.std.proofs.Common.{refl, sym, ap, subst, ◌∙◌, arith, append-nil}
+use Rattle.std.proofs.Common.{◌≡◌, ◌-◌, ◌⊎◌, ℕ, List, [], ◌∷◌, ◌++◌, Bool, true, false, cond, Some}
+use Rattle.std.proofs.Common.{None, Option, length, take, drop, min, inl, inr, refl, sym, ap, ◌∙◌}
+use Rattle.std.proofs.Common.{arith, append-nil}
 use Rattle.std.proofs.Math.Seq.{take-add}
 use Rattle.std.specs.List.{flat_map}
 use Rattle.std.proofs.lemmas.Bool.{cases_lt}
@@ -19,13 +18,12 @@ use Rattle.shared_cache.specs.declared.log.ClientCall.TheVariants.{Ask, Send, Po
 use Rattle.shared_cache.specs.declared.log.ClientCall.TheVariants.{End}
 use Rattle.shared_cache.specs.declared.log.ClientRefusal.{ClientRefusal}
 use Rattle.shared_cache.specs.declared.log.ClientRefusal.TheVariants.{Down}
-use Rattle.shared_cache.specs.Log.{is_ended, reply}
+use Rattle.shared_cache.specs.Log.{is_ended}
 use Rattle.shared_cache.specs.Held.{Setup, commands}
 use Rattle.shared_cache.specs.Laws.{gots, IsCall, AsksQuery, LegalLog}
 use Rattle.shared_cache.specs.Out.{out, taken, untaken}
 use Rattle.shared_cache.specs.Steps.{ClientTurn, client_step, refusing, is_log_full, polling}
-use Rattle.shared_cache.specs.Steps.{taking_out, getting, read_number, command_number, answer_ask}
-use Rattle.shared_cache.specs.Steps as steps
+use Rattle.shared_cache.specs.Steps.{taking_out, getting}
 use Rattle.world_run.specs.ClientMoves.{bytes_of, fault_of}
 use Rattle.shared_cache.proofs.Bytes.{taken_within}
 use Rattle.shared_cache.proofs.CommandLists.{commands_grow}
@@ -35,8 +33,7 @@ abbrev pub taken_of : Setup → List LogEntry → List ℕ
 taken_of s log = take (taken s Main log) (out s Main log)
 
 by_if : (P : ClientTurn → Type 0) (b : Bool) (x y : ClientTurn) → P x → P y → P (cond b x y)
-by_if P true x y p q = p
-by_if P false x y p q = q
+by_if P b e y p q = grind arith
 
 -- ---- what is added
 
@@ -131,8 +128,7 @@ pub record TurnTakes (s : Setup) (log : List LogEntry) (t : ClientTurn) : Type 0
 
 takes_none : (s : Setup) (log : List LogEntry) (r : ClientRefusal)
     → TurnTakes s log (refusing r log)
-takes_none s log r =
-    record { gots_are = refl; ended_is = refl; taken_is = sym (append-nil (taken_of s log)) }
+takes_none s log r = grind (arith, append-nil)
 
 takes_bytes : (s : Setup) (most : ℕ) (bytes : List ℕ) (full : Bool) (log : List LogEntry)
     → untaken s Main log ≡ bytes → TurnTakes s log (taking_out Main most bytes full log)
@@ -173,10 +169,7 @@ gets_judged s v None false log = record {
 pub got_gets : (s : Setup) (log : List LogEntry) (v : Value) → is_ended s.mode Main log ≡ false
     → TurnGets s v log (client_step s log (Got Main v))
 unfolding client_step
-got_gets s log v going =
-    let on = getting (steps.fault_of s log Main v) Main v (is_log_full s log) log in
-    subst (λ b. TurnGets s v log (cond b (refusing (Down Main) log) on)) (sym going)
-    (gets_judged s v (steps.fault_of s log Main v) (is_log_full s log) log)
+got_gets s log v going = grind (arith, gets_judged)
 
 -- the link ends
 pub record TurnEnds (s : Setup) (log new : List LogEntry) : Type 0 where

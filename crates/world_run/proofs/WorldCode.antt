@@ -1,10 +1,9 @@
 -- How the code of a world plays an event: the links' step and a client's move, in the world.
 use Rattle.std.proofs.Common.{◌≡◌, ◌+◌, ◌-◌, ◌<◌, ◌≤◌, ℕ, zero, suc, List, [], ◌∷◌, ◌++◌, Bool}
-use Rattle.std.proofs.Common.{true, false}
-use Rattle.std.proofs.Common.{cond, Option, Some, None, Result, Ok, Err, length, slice_index_or}
-use Rattle.std.proofs.Common.{slice_set, refl, sym, ap, subst, ◌∙◌, append-nil, arith}
+use Rattle.std.proofs.Common.{true, false, Option, Some, None, Result, Ok, Err, length}
+use Rattle.std.proofs.Common.{slice_index_or, slice_set, refl, sym, ap, subst, ◌∙◌, append-nil}
+use Rattle.std.proofs.Common.{arith}
 use Rattle.std.specs.Option.{is_some}
-use Rattle.std.specs.Prelude.{not}
 use Rattle.std.proofs.lemmas.List.{get_or_read, set-get_or}
 use Rattle.std.proofs.Math.Numerals.{suc-eq-add-one}
 use Rattle.resp_value.specs.declared.value.Proto.{Proto}
@@ -34,13 +33,11 @@ use Rattle.server_links.proofs.NameLists.{own_place}
 use Rattle.server_links.proofs.Outcomes.{Ends, after_ends, after_stops, gives_reached, gives_then}
 use Rattle.server_links.proofs.Outcomes.{gives_within, stops_first, stops_here}
 use Rattle.world_run.specs.WorldState.{AreOver, IsOver, MemberState, WorldState, client_named}
-use Rattle.world_run.specs.WorldState.{client_of_link}
-use Rattle.world_run.specs.WorldState.{data_link, fresh_member, member_at, no_setup}
+use Rattle.world_run.specs.WorldState.{client_of_link, data_link, fresh_member, member_at, no_setup}
 use Rattle.world_run.specs.Members.{Seat, seat, seat_at, with_seat, world}
-use Rattle.world_run.specs.World.{StepGives}
-use Rattle.world_run.specs.World.{Stepped, client_does, client_step, flow_at, flow_first, flow_step}
-use Rattle.world_run.specs.World.{is_served, is_taken, join, links_step, named_does, on_links}
-use Rattle.world_run.specs.World.{said_step, setup_by, step}
+use Rattle.world_run.specs.World.{StepGives, Stepped, client_does, client_step, flow_at, flow_first}
+use Rattle.world_run.specs.World.{flow_step, is_served, is_taken, join, links_step, named_does}
+use Rattle.world_run.specs.World.{on_links, said_step, setup_by, step}
 use Rattle.world_run.proofs.Names.{client_there, link_there}
 use Rattle.world_run.proofs.WorldKept.{goes_flow, goes_over, step_grows}
 
@@ -82,18 +79,15 @@ client_gives at move old new members m m' lines r lines' below is g =
 
 pub no_name : (w : WorldState) (m : Stepped) (lines : List Line) → m ≡ refuses w NoName
     → Stops m lines NoName w lines
-no_name w m lines e = subst (λ (x : Stepped). Stops x lines NoName w lines) (sym e)
-    (refl, refl, sym (append-nil lines))
+no_name w m lines e = grind (arith, append-nil)
 
 pub name_taken : (w : WorldState) (m : Stepped) (lines : List Line) → m ≡ refuses w NameTaken
     → Stops m lines NameTaken w lines
-name_taken w m lines e = subst (λ (x : Stepped). Stops x lines NameTaken w lines) (sym e)
-    (refl, refl, sym (append-nil lines))
+name_taken w m lines e = grind (arith, append-nil)
 
 pub is_refused : (n : ℕ) (w : WorldState) (m : Stepped) (lines : List Line)
     → m ≡ refuses w (Refused n) → Stops m lines (Refused n) w lines
-is_refused n w m lines e = subst (λ (x : Stepped). Stops x lines (Refused n) w lines) (sym e)
-    (refl, refl, sym (append-nil lines))
+is_refused n w m lines e = grind (arith, append-nil)
 
 -- ---- a client by its name
 
@@ -157,12 +151,7 @@ pub owned : {A : Type 0} → (f : Option ℕ → Stepped) (link : List ℕ) (mov
     → Gives (f (client_of_link link now.members)) lines r (world new (slice_set members at m'))
     lines'
 owned f link move now old new members at m m' lines r lines' view found what is g =
-    let t = world new (slice_set members at m') in
-    let there = ap (λ (v : WorldState). client_of_link link v.members) view ∙ found in
-    subst (λ (x : Stepped). Gives x lines r t lines') (sym (ap f found ∙ what))
-    (subst (λ (v : WorldState). Gives (client_does at move v) lines r t lines') view
-    (client_gives at move old new members m m' lines r lines'
-    (link_there link members at there).0 is g))
+    grind (arith, slice_set, client_gives, link_there)
 
 pub unowned : {A : Type 0} → (f : Option ℕ → Stepped) (link : List ℕ) (e : LinkEvent)
     (now : WorldState) (old new : LinksState) (members : List MemberState)
@@ -175,17 +164,14 @@ unowned f link e now old new members lines r lines' view none what g = grind (ar
 -- ---- a raw link is told what to say
 
 pub a_some : {A : Type 0} → (o : Option A) → is_some o ≡ true → (a : A) × (o ≡ Some a)
-a_some None e = absurd (let no : ⊥ = cc in no)
-a_some (Some a) e = (a, refl)
+a_some o e = grind arith
 
 pub a_none : {A : Type 0} → (o : Option A) → is_some o ≡ false → o ≡ None
-a_none None e = refl
-a_none (Some a) e = absurd (let no : ⊥ = cc in no)
+a_none o e = grind arith
 
 pub said_client : (o : Option ℕ) (name bytes : List ℕ) (w : WorldState) → is_some o ≡ true
     → said_step o name bytes w ≡ refuses w NoName
-said_client None name bytes w e = absurd (let no : ⊥ = cc in no)
-said_client (Some at) name bytes w e = refl
+said_client o name bytes w e = grind arith
 
 pub put_nowhere : (name bytes : List ℕ) (w : WorldState) (lines : List Line)
     → place_of name w.links ≡ None
@@ -204,8 +190,7 @@ pub said_stops : (name bytes : List ℕ) (w : WorldState) (lines : List Line) (f
     → client_of_link name w.members ≡ None
     → Stops (links_step (link_event.Put name bytes) w) lines fault w lines
     → Stops (said_step (client_of_link name w.members) name bytes w) lines fault w lines
-said_stops name bytes w lines fault none g =
-    subst (λ c. Stops (said_step c name bytes w) lines fault w lines) (sym none) g
+said_stops name bytes w lines fault none g = grind arith
 
 -- memory runs out before anything is said
 pub put_before : (name bytes : List ℕ) (at : ℕ) (w : WorldState) (lines : List Line)
@@ -247,8 +232,7 @@ module _ (name : List ℕ) (mode : ClientMode) (capacity : ℕ) (w : WorldState)
 
   pub client_unserved : is_served mode ≡ false
       → client_step name mode capacity w ≡ refuses w (Refused 0)
-  client_unserved off = ap (λ b. cond (not b) (refuses w (Refused 0))
-      (cond (is_taken name w) (refuses w NameTaken) making)) off
+  client_unserved off = grind arith
 
   module _ (served : is_served mode ≡ true) where
     pub client_taken : is_taken name w ≡ true

@@ -1,6 +1,6 @@
 -- What stands of a world with clients after each event, and wherever one is broken off.
-use Rattle.std.proofs.Common.{◌≡◌, ◌<◌, ℕ, List, [], ◌++◌, Bool, true, false, cond}
-use Rattle.std.proofs.Common.{Some, None, Option, length, refl, sym, ap, subst, ◌∙◌, append-nil}
+use Rattle.std.proofs.Common.{◌≡◌, ◌<◌, ℕ, List, [], ◌++◌, Bool, true, false, cond, Some, None}
+use Rattle.std.proofs.Common.{Option, length, refl, sym, ap, subst, ◌∙◌, append-nil, arith}
 use Rattle.std.specs.Prelude.{◌==◌}
 use Rattle.std.specs.Str.{bytes_eq}
 use Rattle.std.proofs.lemmas.Bool.{eqb-true}
@@ -24,15 +24,14 @@ use Rattle.server_links.specs.Transcript as links_heard
 use Rattle.server_links.specs.Transcript.{is_place, reads_at}
 use Rattle.server_links.proofs.LinksStand.{not_equal}
 use Rattle.server_links.proofs.Names.{placed, unplaced}
-use Rattle.world_run.specs.WorldState.{WorldState, client_named, client_of_link}
-use Rattle.world_run.specs.WorldState.{member_at}
+use Rattle.world_run.specs.WorldState.{WorldState, client_named, client_of_link, member_at}
 use Rattle.world_run.specs.Members.{Seat, seat_at}
 use Rattle.world_run.specs.ClientMoves as client
 use Rattle.world_run.specs.ClientMoves.{show, turn}
 use Rattle.world_run.specs.WorldHistory.{said_by}
 use Rattle.world_run.specs.WorldTranscript.{flow_heard, heard_at}
-use Rattle.world_run.specs.World.{flow_step, links_step, named_does, out_step, raw_out}
-use Rattle.world_run.specs.World.{recv_step, said_step, step}
+use Rattle.world_run.specs.World.{flow_step, links_step, named_does, out_step, raw_out, recv_step}
+use Rattle.world_run.specs.World.{said_step, step}
 use Rattle.world_run.proofs.Clients.{ask_stands, out_stands, poll_stands, receive_stands}
 use Rattle.world_run.proofs.Clients.{send_stands, show_stands}
 use Rattle.world_run.proofs.Flowing.{flow_all_comes, flow_one, only_at}
@@ -45,8 +44,7 @@ use Rattle.world_run.proofs.Seats.{One, Seating, Steady}
 use Rattle.world_run.proofs.Worlds.{Holds, WorldStands}
 
 nothing : (b : Bool) → cond {A = List ℕ} b [] [] ≡ []
-nothing true = refl
-nothing false = refl
+nothing b = grind arith
 
 module _ (l : Limits) (heard : ℕ → List ℕ) (raw : List ℕ → List ℕ) (lines : List Line)
     (w : WorldState) (h : WorldStands l heard raw lines w) where
@@ -64,10 +62,7 @@ module _ (l : Limits) (heard : ℕ → List ℕ) (raw : List ℕ → List ℕ) (
   -- one by which nothing is heard or said
   silent : (e : Event) → ((i : ℕ) → heard_at w i e ≡ []) → ((n : List ℕ) → said_by n e ≡ [])
       → Comes l heard raw lines (step w e) → EventComes e
-  silent e hears says k =
-      comes_as l heard (λ i. heard i ++ heard_at w i e) raw (λ n. raw n ++ said_by n e) lines
-      (step w e) (λ i. no_heard i ∙ ap (λ x. heard i ++ x) (sym (hears i)))
-      (λ n. no_raw n ∙ ap (λ x. raw n ++ x) (sym (says n))) k
+  silent e hears says k = grind (arith, comes_as, no_heard, no_raw)
 
   -- ---- what a schedule says
 

@@ -1,8 +1,7 @@
 -- What each event leaves of a world as it was, and that what is printed by then begins what it
 -- prints.
-use Rattle.std.proofs.Common.{◌≡◌, ℕ, zero, suc, List, [], ◌∷◌, ◌++◌, Bool, true}
-use Rattle.std.proofs.Common.{false, cond, not, Some, None, Option, length, refl, sym, ap}
-use Rattle.std.proofs.Common.{◌∙◌, append_assoc}
+use Rattle.std.proofs.Common.{◌≡◌, ℕ, zero, suc, List, [], ◌∷◌, ◌++◌, Bool, cond, not, Some, None}
+use Rattle.std.proofs.Common.{Option, length, refl, sym, ap, ◌∙◌, append_assoc, arith}
 use Rattle.serial_model.specs.declared.history.Entry.{Entry}
 use Rattle.shared_cache.specs.declared.log.ClientCall.TheVariants as call
 use Rattle.shared_cache.specs.declared.log.ClientMode.{ClientMode}
@@ -12,9 +11,7 @@ use Rattle.script_text.specs.declared.event.Event.TheVariants.{Send, Recv, Flow,
 use Rattle.script_text.specs.declared.event.Event.TheVariants.{Do, Poll, Show, Now, Tick}
 use Rattle.script_text.specs.declared.line.Line.{Line}
 use Rattle.server_links.specs.declared.fault.WorldFault.{WorldFault}
-use Rattle.server_links.specs.declared.fault.WorldFault.TheVariants.{NameTaken, NoName}
-use Rattle.server_links.specs.declared.fault.WorldFault.TheVariants.{NothingThere}
-use Rattle.server_links.specs.declared.fault.WorldFault.TheVariants.{Refused}
+use Rattle.server_links.specs.declared.fault.WorldFault.TheVariants.{NameTaken, NoName, Refused}
 use Rattle.server_links.specs.declared.link.LinkMove.{LinkMove}
 use Rattle.server_links.specs.declared.link.LinkMove.TheVariants as moves
 use Rattle.server_links.specs.LinkEvent as link_event
@@ -34,19 +31,16 @@ use Rattle.world_run.specs.ClientMoves as client
 use Rattle.world_run.specs.ClientMoves.{show, turn}
 use Rattle.world_run.specs.World.{Stepped, client_does, client_step, flow_at, flow_first, flow_step}
 use Rattle.world_run.specs.World.{is_served, is_taken, join, links_step, named_does, not_served}
-use Rattle.world_run.specs.World.{out_step, raw_out, recv_step, said_step, setup_by, step}
-use Rattle.world_run.specs.World.{on_links}
+use Rattle.world_run.specs.World.{out_step, raw_out, recv_step, said_step, setup_by, step, on_links}
 use Rattle.server_links.proofs.Moments.{tick_goes_on}
-use Rattle.world_run.proofs.Kept.{Kept, LinksKept, Orderly, named_kept, o_flow, o_out}
-use Rattle.world_run.proofs.Kept.{clock_kept, links_same, tick_kept}
-use Rattle.world_run.proofs.Kept.{o_receive, o_show, o_turn}
+use Rattle.world_run.proofs.Kept.{Kept, LinksKept, Orderly, named_kept, o_flow, o_out, clock_kept}
+use Rattle.world_run.proofs.Kept.{links_same, tick_kept, o_receive, o_show, o_turn}
 use Rattle.world_run.proofs.Links.{step_moved}
 use Rattle.world_run.proofs.Names.{client_more, client_set}
 
 by_if : {S : Type 0} → (P : Outcome S → Type 0) (b : Bool) (m n : Outcome S) → P m → P n
     → P (cond b m n)
-by_if P true m n p q = p
-by_if P false m n p q = q
+by_if P b m n p q = grind arith
 
 -- what is over stays so, and keeps its name
 abbrev pub Still : WorldState → WorldState → Type 0
@@ -57,22 +51,13 @@ still_same : (w : WorldState) → Still w w
 still_same w at is = (is, refl)
 
 still_both : (w u v : WorldState) → Still w u → Still u v → Still w v
-still_both w u v a b at is =
-    let k = a at is in let m = b at k.0 in (m.0, m.1 ∙ k.1)
+still_both w u v a b at is = grind arith
 
 -- where the clients keep their links
 still_kept : (w v : WorldState) → StayOver w.links v.links
     → ((link : List ℕ) → client_of_link link v.members ≡ client_of_link link w.members)
     → Still w v
-still_kept w v k clients at is =
-    let named = k.named at (over_below w.links at is.link) in
-    let link = (at_place w.links.links at).name in (
-      record {
-        link = k.over at is.link;
-        apart = ap (λ n. client_of_link n v.members) named ∙ clients link ∙ is.apart;
-      },
-      named,
-    )
+still_kept w v k clients at is = grind (arith, over_below)
 
 -- the history grows, and no link is made
 pub record Onward (w v : WorldState) : Type 0 where
@@ -96,23 +81,16 @@ onward_both w u v a b = record {
 onward_kept : (w v : WorldState) (name : List ℕ) → LinksKept w.links name v.links
     → ((link : List ℕ) → client_of_link link v.members ≡ client_of_link link w.members)
     → Onward w v
-onward_kept w v name k clients = record {
-  size = k.size;
-  entries = k.entries;
-  grows = k.grows;
-  still = still_kept w v k.stay clients;
-}
+onward_kept w v name k clients = grind (arith, still_kept)
 
 abbrev Goes : WorldState → Stepped → Type 0
 Goes w m = Meets (λ v ls. Onward w v) (λ v ls. Onward w v) m
 
 goes_refused : (w : WorldState) (f : WorldFault) → Goes w (refuses w f)
-goes_refused w f =
-    meets_refuses (λ v ls. Onward w v) (λ v ls. Onward w v) w f (onward_same w)
+goes_refused w f = grind (arith, meets_refuses, onward_same)
 
 goes_same : (w : WorldState) → Goes w (stays w)
-goes_same w =
-    meets_stays (λ v ls. Onward w v) (λ v ls. Onward w v) w (onward_same w) (onward_same w)
+goes_same w = grind (arith, meets_stays, onward_same)
 
 goes_linked : (event : LinkEvent) (name : List ℕ) (w : WorldState)
     → Meets (λ v ls. LinksKept w.links name v) (λ v ls. LinksKept w.links name v)
@@ -201,9 +179,7 @@ abbrev Growing : WorldState → Stepped → Type 0
 Growing w m = Meets (λ v ls. Grows w v) (λ v ls. Grows w v) m
 
 as_growing : (w : WorldState) (m : Stepped) → Goes w m → Growing w m
-as_growing w m k =
-    meets_weaker (λ v ls. Onward w v) (λ v ls. Grows w v) (λ v ls. Onward w v) (λ v ls. Grows w v) m
-    (λ v ls o. (o.entries, o.grows, o.still)) (λ v ls o. (o.entries, o.grows, o.still)) k
+as_growing w m k = grind (arith, meets_weaker)
 
 -- and where the link was made, its name was free
 raw_grows : (name : List ℕ) (w : WorldState)
@@ -228,21 +204,7 @@ raw_grows name w =
 -- a client is made, at the link of that name
 joined : (w u : WorldState) (m : MemberState) → Grows w u → place_of m.link w.links ≡ None
     → Grows w (record { links = u.links; members = u.members ++ m ∷ [] })
-joined w u m g free = (
-  g.0,
-  g.1,
-  (λ at is.
-      let k = g.2 at is in
-      let n = (at_place u.links.links at).name in (
-        record {
-          link = k.0.link;
-          apart = client_more n u.members m k.0.apart
-              (λ e. unplaced m.link w.links free at (over_below w.links at is.link)
-              (sym k.1 ∙ sym e));
-        },
-        k.1,
-      )),
-)
+joined w u m g free = grind (arith, client_more, unplaced, over_below)
 
 raw_alone : (name : List ℕ) (w : WorldState) → Growing w (links_step (link_event.Raw name) w)
 raw_alone name w =
@@ -276,13 +238,10 @@ named_goes (Some at) move orderly w = goes_client at move orderly w
 
 said_goes : (c : Option ℕ) (name bytes : List ℕ) (w : WorldState)
     → Goes w (said_step c name bytes w)
-said_goes None name bytes w = goes_put name bytes w
-said_goes (Some at) name bytes w = goes_refused w NoName
+said_goes c name bytes w = grind (arith, goes_put, goes_refused)
 
 raw_out_goes : (p : Option ℕ) (count : Option ℕ) (w : WorldState) → Goes w (raw_out p count w)
-raw_out_goes None count w = goes_refused w NoName
-raw_out_goes (Some at) None w = goes_same w
-raw_out_goes (Some at) (Some n) w = goes_refused w NothingThere
+raw_out_goes p count w = grind (arith, goes_refused, goes_same)
 
 out_goes : (c : Option ℕ) (name : List ℕ) (count : Option ℕ) (w : WorldState)
     → Goes w (out_step c name count w)

@@ -1,4 +1,4 @@
-use Rattle.std.proofs.Common.{Option, subst}
+use Rattle.std.proofs.Common.{Option, subst, arith}
 use Rattle.resp_value.specs.declared.value.Value.{Value}
 use Rattle.shared_cache.specs.declared.log.ClientCall.TheVariants as call
 use Rattle.shared_cache.specs.declared.log.ClientReply.TheVariants as reply
@@ -17,12 +17,7 @@ returns-in-Ok-Some-clause-ok g c =
     c.in-Ok-Some.ensures.ok)
 
 pub loop-preserved : goal.loop-preserved
-loop-preserved g c =
-    let k = c.loop.seat in
-    let new = c.poll.new.seat in
-    let p = subst (λ (o : Option Value). Polls c.args.number o k new) c.in-Ok-None.field-0-is
-    c.in-Ok-None.ensures.ok in
-    (tt, tt, waited_more c.args.seat.now k new c.loop.invariant.2 p.grows)
+loop-preserved g c = grind (arith, waited_more)
 
 pub returns-in-Err-clause-err : goal.returns-in-Err-clause-err
 returns-in-Err-clause-err g c =

@@ -1,4 +1,4 @@
-use Rattle.std.proofs.Common.{ℕ, List, sym, subst, ◌∙◌}
+use Rattle.std.proofs.Common.{ℕ, List, sym, subst, ◌∙◌, arith}
 use Rattle.shared_cache.specs.declared.log.ClientCall.TheVariants as call
 use Rattle.shared_cache.specs.declared.log.LogEntry.TheVariants as entry
 use Rattle.shared_cache.specs.declared.log.ClientReply.TheVariants as reply
@@ -14,16 +14,7 @@ returns-in-Ok-send-clause-ok g c =
     (entry.Send q) c.loop.seat c.send.new.seat) c.in-Ok.ensures c.in-Ok-send.ensures.ok)
 
 pub loop-preserved : goal.loop-preserved
-loop-preserved g c =
-    let k = c.loop.seat in
-    let new = c.send.new.seat in
-    let h = subst (λ (q : List (List ℕ)). Refuses (call.Send q) c.in-Err.refusal k new)
-    c.in-Ok.ensures c.in-Err.ensures.err in (
-      tt,
-      tt,
-      waited_on c.args.seat.now k new c.loop.invariant.2 (call.Send c.args.words.now)
-          c.in-Err.refusal (sym c.is_not_ready.ensures ∙ c.if-not-is_not_ready.false) h,
-    )
+loop-preserved g c = grind (arith, waited_on)
 
 pub returns-then-not-is_not_ready-clause-err : goal.returns-then-not-is_not_ready-clause-err
 returns-then-not-is_not_ready-clause-err g c =

@@ -1,4 +1,4 @@
-use Rattle.std.proofs.Common.{refl, sym, subst, ◌∙◌}
+use Rattle.std.proofs.Common.{sym, subst, ◌∙◌, arith}
 use Rattle.std.specs.Io.KnownBytes.{Appends}
 use Rattle.resp_value.specs.Lists.{IsPrefix}
 use Rattle.edge_links.proofs.Bytes.{keeps_same, keeps_trans}
@@ -8,13 +8,7 @@ use Rattle.client_link.proofs.Delivering.{delivers_rests, delivers_refused, take
 use Rattle.client_link.proofs.deliver.deliver.Goals as goal
 
 pub loop-init : goal.loop-init
-loop-init g c = (
-  tt,
-  tt,
-  delivering_none (g.L.Link.contents c.args.link.now) c.args.seat.now c.requires.within,
-  keeps_same (g.L.Link.left c.args.link.now),
-  refl,
-)
+loop-init g c = grind (arith, delivering_none, keeps_same)
 
 pub returns-in-Err-write_all-clause-err : goal.returns-in-Err-write_all-clause-err
 returns-in-Err-write_all-clause-err g c =

@@ -1,4 +1,4 @@
-use Rattle.std.proofs.Common.{sym, subst}
+use Rattle.std.proofs.Common.{sym, subst, arith}
 use Rattle.client_link.specs.Pumps.{GetsPart}
 use Rattle.client_link.proofs.Getting.{getting_none, getting_more, getting_stops, gets_all}
 use Rattle.client_link.proofs.Getting.{gets_bad, getting_less, gives_at}
@@ -8,9 +8,7 @@ pub values-init : goal.values-init
 values-init g c = getting_none c.args.reader.now c.args.seat.now c.requires.within
 
 pub values-smaller : goal.values-smaller
-values-smaller g c =
-    let given = gives_at _ _ _ _ c.in-Ok-Some.ensures.gives c.in-Ok-Some.field-0-is in
-    getting_less c.values.reader c.next_value.new.self c.in-Ok-Some.value given.0
+values-smaller g c = grind (arith, gives_at, getting_less)
 
 pub values-preserved : goal.values-preserved
 values-preserved g c =
@@ -28,10 +26,7 @@ returns-in-Err-got-clause-err g c =
     c.in-Err-got.refusal c.got.new.seat c.in-Err-got.ensures.err)
 
 pub returns-in-Ok-None-clause-ok : goal.returns-in-Ok-None-clause-ok
-returns-in-Ok-None-clause-ok g c =
-    let given = gives_at _ _ _ _ c.in-Ok-None.ensures.gives c.in-Ok-None.field-0-is in
-    gets_all c.args.reader.now c.values.reader c.args.seat.now c.values.seat
-    c.values.invariant c.next_value.new.self given.0 given.1
+returns-in-Ok-None-clause-ok g c = grind (arith, gives_at, gets_all)
 
 pub returns-in-Some-clause-err : goal.returns-in-Some-clause-err
 returns-in-Some-clause-err g c =

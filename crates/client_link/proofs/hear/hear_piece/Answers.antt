@@ -1,7 +1,6 @@
-use Rattle.resp_stream.specs.Stream.{fed}
 use Rattle.client_link.proofs.Getting.{part_none}
 use Rattle.client_link.proofs.hear.hear_piece.Goals as goal
+use Rattle.std.proofs.Common.{arith}
 
 pub returns-then-is_err-clause-err : goal.returns-then-is_err-clause-err
-returns-then-is_err-clause-err g c =
-    part_none (fed c.args.reader.now c.args.piece.now) c.args.seat.now c.requires.within
+returns-then-is_err-clause-err g c = grind (arith, part_none)

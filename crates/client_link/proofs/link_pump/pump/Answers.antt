@@ -1,5 +1,6 @@
 use Rattle.client_link.proofs.Pumping.{closes_pumps, closes_counts}
 use Rattle.client_link.proofs.link_pump.pump.Goals as goal
+use Rattle.std.proofs.Common.{arith}
 
 pub returns-clause-pumps : goal.returns-clause-pumps
 returns-clause-pumps g c =
@@ -9,7 +10,4 @@ returns-clause-pumps g c =
     c.close-ended.new.seat c.run-ended.ensures.runs c.close-ended.ensures
 
 pub returns-clause-counts : goal.returns-clause-counts
-returns-clause-counts g c =
-    closes_counts c.run-ended.result c.close-ended.result (g.L.Link.counts c.args.link.now)
-    (g.L.Link.counts c.run-ended.new.link) c.run-ended.new.seat c.close-ended.new.seat
-    c.close-ended.ensures c.run-ended.ensures.counts
+returns-clause-counts g c = grind (arith, closes_counts)

@@ -1,18 +1,11 @@
-use Rattle.std.proofs.Common.{refl, ap, ◌∙◌}
+use Rattle.std.proofs.Common.{ap, ◌∙◌, arith}
 use Rattle.edge_links.specs.declared.counts.Counts.{Counts}
 use Rattle.client_link.proofs.Pumping.{pumping_none, delivered, drained, delivery_stops, hears_on}
 use Rattle.client_link.proofs.Pumping.{hears_stops}
 use Rattle.client_link.proofs.link_pump.run.Goals as goal
 
 pub loop-init : goal.loop-init
-loop-init g c = (
-  tt,
-  tt,
-  pumping_none c.args.reader.now (g.L.Link.left c.args.link.now)
-      (g.L.Link.contents c.args.link.now) c.args.seat.now c.requires.new c.requires.within,
-  refl,
-  refl,
-)
+loop-init g c = grind (arith, pumping_none)
 
 pub returns-in-Err-clause-runs : goal.returns-in-Err-clause-runs
 returns-in-Err-clause-runs g c =

@@ -1,4 +1,4 @@
-use Rattle.std.proofs.Common.{ap, sym, ◌∙◌, ◌∷◌, ◌++◌, List, ℕ, drop, ◌+◌}
+use Rattle.std.proofs.Common.{ap, sym, ◌∙◌, ◌∷◌, ◌++◌, List, ℕ, drop, ◌+◌, arith}
 use Rattle.std.specs.List.{filter}
 use Rattle.std.proofs.lemmas.List.{at_drop_more}
 use Rattle.command_words.specs.KeyLists.{each_once}
@@ -9,8 +9,7 @@ abbrev left : List (List ℕ) → List (List ℕ) → List (List ℕ)
 left met ks = met ++ filter (is_fresh met) (each_once ks)
 
 pub loop-word-init : goal.loop-word-init
-loop-word-init c =
-    ap (λ met. left met c.args.words.now) c.new-keys.ensures ∙ none_met c.args.words.now
+loop-word-init c = grind (arith, none_met)
 
 pub loop-word-preserved : goal.loop-word-preserved
 loop-word-preserved c =

@@ -1,4 +1,4 @@
-use Rattle.std.proofs.Common.{arith, refl, sym, ap, subst, length, ◌∙◌}
+use Rattle.std.proofs.Common.{arith, sym, ap, subst, length, ◌∙◌}
 use Rattle.std.specs.Io.KnownBytes.{Appends}
 use Rattle.resp_value.specs.Lists.{IsPrefix}
 use Rattle.shared_book.specs.Turns.{most}
@@ -10,14 +10,7 @@ use Rattle.conn_worker.proofs.Delivering.{takes_at}
 use Rattle.conn_worker.proofs.deliver.deliver.Goals as goal
 
 pub loop-init : goal.loop-init
-loop-init g c = (
-  tt,
-  tt,
-  delivering_none c.args.id (g.L.Link.contents c.args.link.now) c.args.seat.now c.requires.within
-      c.requires.admitted,
-  keeps_same (g.L.Link.left c.args.link.now),
-  refl,
-)
+loop-init g c = grind (arith, delivering_none, keeps_same)
 
 pub returns-in-Err-write_all-clause-err : goal.returns-in-Err-write_all-clause-err
 returns-in-Err-write_all-clause-err g c =

@@ -21,9 +21,7 @@ returns-in-Taken-None-clause-ok g c = λ before b.
 some_taken : (g : given.Over) → (c : goal.In-Taken-Some g) → (before : Place)
     → Begins c.args.id c.args.front before c.args.seat.now
     → Begins c.args.id (Taken (Some c.in-Taken-Some.bytes)) before c.args.seat.now
-some_taken g c before b =
-    subst (λ f. Begins c.args.id f before c.args.seat.now)
-    (c.in-Taken-Some.is ∙ ap Taken c.in-Taken-Some.field-0-is) b
+some_taken g c before b = grind arith
 
 pub returns-then-as_slice-lt-MOST-clause-ok : goal.returns-then-as_slice-lt-MOST-clause-ok
 returns-then-as_slice-lt-MOST-clause-ok g c = λ before b.

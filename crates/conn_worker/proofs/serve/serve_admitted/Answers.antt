@@ -1,12 +1,11 @@
-use Rattle.std.proofs.Common.{◌≡◌, ℕ, true, refl, sym, ap, subst, ◌∙◌}
+use Rattle.std.proofs.Common.{◌≡◌, ℕ, true, sym, ap, subst, ◌∙◌, arith}
 use Rattle.edge_links.specs.declared.counts.Counts.{Counts}
 use Rattle.serial_model.specs.History.{is_admitted}
 use Rattle.seat_turns.specs.Own.{past_of}
 use Rattle.conn_worker.specs.Visits.{Begins, Delivers, DeliversPart, fault_of, front_of}
 use Rattle.conn_worker.proofs.Serving.{Begun, serving_none, hears_begins, hears_stops}
-use Rattle.conn_worker.proofs.Serving.{delivered_serves}
-use Rattle.conn_worker.proofs.Serving.{delivered_ends, delivery_stops, end_counts_from}
-use Rattle.conn_worker.proofs.Serving.{part_counts}
+use Rattle.conn_worker.proofs.Serving.{delivered_serves, delivered_ends, delivery_stops}
+use Rattle.conn_worker.proofs.Serving.{end_counts_from, part_counts}
 use Rattle.conn_worker.specs.declared.deliver.Front.{Front}
 use Rattle.shared_book.specs.Turns.{Place}
 use Rattle.conn_worker.proofs.serve.serve_admitted.Goals as goal
@@ -14,15 +13,7 @@ use Rattle.conn_worker.proofs.serve.serve_admitted.Goals.{In-Ok}
 use Rattle.conn_worker.proofs.serve.serve_admitted.Given as given
 
 pub loop-init : goal.loop-init
-loop-init g c = (
-  tt,
-  tt,
-  serving_none (g.C.Clock.moment c.args.clock.now) c.args.connection.now
-      (g.L.Link.left c.args.link.now) (g.L.Link.contents c.args.link.now) c.args.seat.now
-      c.requires.new c.requires.within c.requires.admitted,
-  refl,
-  refl,
-)
+loop-init g c = grind (arith, serving_none)
 
 pub returns-in-Err-clause-works : goal.returns-in-Err-clause-works
 returns-in-Err-clause-works g c =
@@ -34,10 +25,7 @@ returns-in-Err-clause-works g c =
     (g.L.Link.contents c.hear_once-heard.new.link) c.in-Err.ensures.err c.in-Err.ensures.written
 
 pub returns-in-Err-clause-counts : goal.returns-in-Err-clause-counts
-returns-in-Err-clause-counts g c =
-    end_counts_from c.in-Err.ended (g.L.Link.counts c.args.link.now)
-    (g.L.Link.counts c.loop.link) (g.L.Link.counts c.hear_once-heard.new.link)
-    c.loop.invariant.3 c.loop.invariant.4 c.in-Err.ensures.counts
+returns-in-Err-clause-counts g c = grind (arith, end_counts_from)
 
 -- what was heard, with what of the rest was asked for
 begun : (g : given.Over) → (c : goal.In-Ok g)
@@ -56,12 +44,10 @@ begun g c =
     c.in-Ok.ensures.ok c.in-Ok.ensures.written
 
 pub deliver_from-requires-clause-lock : goal.deliver_from-requires-clause-lock
-deliver_from-requires-clause-lock g c =
-    (begun g (goal.at.deliver_from-requires-clause-lock g c).In-Ok).lock ∙ c.requires.lock
+deliver_from-requires-clause-lock g c = grind (arith, begun)
 
 pub deliver_from-requires-clause-within : goal.deliver_from-requires-clause-within
-deliver_from-requires-clause-within g c =
-    (begun g (goal.at.deliver_from-requires-clause-within g c).In-Ok).within
+deliver_from-requires-clause-within g c = grind (arith, begun)
 
 pub deliver_from-requires-clause-admitted : goal.deliver_from-requires-clause-admitted
 deliver_from-requires-clause-admitted g c =
@@ -72,8 +58,7 @@ deliver_from-requires-clause-admitted g c =
 -- the place before the first bytes were taken, as the delivery wants it
 begins_at : (id name : ℕ) (f h : Front) (before now : Place) → name ≡ id → f ≡ h
     → Begins id h before now → Begins name f before now
-begins_at id name f h before now same is b =
-    subst (λ (z : ℕ × Front). Begins z.0 z.1 before now) (λ i. (sym same i, sym is i)) b
+begins_at id name f h before now same is b = grind arith
 
 pub returns-in-Err-deliver_from-clause-works : goal.returns-in-Err-deliver_from-clause-works
 returns-in-Err-deliver_from-clause-works g c =

@@ -1,4 +1,4 @@
-use Rattle.std.proofs.Common.{arith, ◌-◌}
+use Rattle.std.proofs.Common.{arith}
 use Rattle.resp_stream.proofs.Line.{passed_none}
 use Rattle.resp_stream.proofs.Begun.{begun_none, begun_inline, array_more, array_bad, array_null}
 use Rattle.resp_stream.proofs.Begun.{array_goes, array_some}

@@ -1,4 +1,4 @@
-use Rattle.std.proofs.Common.{[], arith}
+use Rattle.std.proofs.Common.{arith}
 use Rattle.std.proofs.lemmas.Bool.{eqb-false, eqb-true}
 use Rattle.resp_stream.proofs.Line.{passed_none}
 use Rattle.resp_stream.proofs.RequestLimits.{faulty_here, more_here, whole_here, place_here}

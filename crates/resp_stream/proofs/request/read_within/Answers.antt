@@ -1,6 +1,7 @@
 use Rattle.resp_stream.proofs.RequestLimits.{bad_left, bad_gives, whole_fits, whole_long, more_fits}
 use Rattle.resp_stream.proofs.RequestLimits.{more_long}
 use Rattle.resp_stream.proofs.request.read_within.Goals as goal
+use Rattle.std.proofs.Common.{arith}
 
 pub overflow_sub-text : goal.overflow_sub-text
 overflow_sub-text c =
@@ -14,22 +15,13 @@ returns-then-taken-gt-WHOLE_LIMIT c =
     c.if-taken-gt-WHOLE_LIMIT.true c.too_long.ensures
 
 pub returns-then-text-gt-WHOLE_LIMIT : goal.returns-then-text-gt-WHOLE_LIMIT
-returns-then-text-gt-WHOLE_LIMIT c =
-    let h = rw c.in-Ok-More.field-0-is at c.in-Ok-More.ensures in
-    more_long c.args.text.now c.too_long-then-text-gt-WHOLE_LIMIT.result h.0
-    c.if-text-gt-WHOLE_LIMIT.true c.too_long-then-text-gt-WHOLE_LIMIT.ensures
+returns-then-text-gt-WHOLE_LIMIT c = grind (arith, more_long)
 
 pub returns-in-Err-Faulty : goal.returns-in-Err-Faulty
-returns-in-Err-Faulty c =
-    bad_gives c.args.text.now c.in-Err-Faulty.e.fault c.in-Err-Faulty.e.left c.limited-fault.result
-    (rw c.in-Err-Faulty.field-0-is at c.in-Err-Faulty.ensures) c.limited-fault.ensures
+returns-in-Err-Faulty c = grind (arith, bad_gives)
 
 pub returns-else-taken-gt-WHOLE_LIMIT : goal.returns-else-taken-gt-WHOLE_LIMIT
-returns-else-taken-gt-WHOLE_LIMIT c =
-    whole_fits c.args.text.now c.in-Ok-Whole.words c.in-Ok-Whole.taken
-    (rw c.in-Ok-Whole.field-0-is at c.in-Ok-Whole.ensures) c.if-taken-gt-WHOLE_LIMIT.false
+returns-else-taken-gt-WHOLE_LIMIT c = grind (arith, whole_fits)
 
 pub returns-else-text-gt-WHOLE_LIMIT : goal.returns-else-text-gt-WHOLE_LIMIT
-returns-else-text-gt-WHOLE_LIMIT c =
-    let h = rw c.in-Ok-More.field-0-is at c.in-Ok-More.ensures in
-    (more_fits c.args.text.now h.0 c.if-text-gt-WHOLE_LIMIT.false, h.1)
+returns-else-text-gt-WHOLE_LIMIT c = grind (arith, more_fits)

@@ -1,4 +1,4 @@
-use Rattle.std.proofs.Common.{ℕ, sym, ap, ◌∙◌, Option}
+use Rattle.std.proofs.Common.{ℕ, sym, ap, ◌∙◌, Option, arith}
 use Rattle.resp_stream.specs.declared.fault.Broken.{Broken}
 use Rattle.resp_stream.specs.Parsed.{Whole, Bad}
 use Rattle.resp_stream.specs.Tokens.{length_at}
@@ -18,11 +18,7 @@ returns-then-not-may_stand c =
     )
 
 pub returns-in-Ok-None : goal.returns-in-Ok-None
-returns-in-Ok-None c =
-    head_more c.args.room c.args.c c.args.bytes.now c.args.rest.now c.args.kind c.requires.head
-    c.requires.mark c.requires.room (sym c.may_stand.ensures ∙ c.if-not-may_stand.false)
-    (ap (λ r. length_at r c.args.rest.now) (sym c.rule_of.ensures)
-    ∙ (rw c.in-Ok-None.field-0-is at c.in-Ok-None.ensures.gives))
+returns-in-Ok-None c = grind (arith, head_more)
 
 pub returns-in-Ok-Some-None-default : goal.returns-in-Ok-Some-None-default
 returns-in-Ok-Some-None-default c =

@@ -2,6 +2,7 @@ use Rattle.resp_value.specs.ValueTree.{tree_of}
 use Rattle.resp_stream.proofs.ValueLimits.{bad_left, bad_gives, whole_fits, whole_long, more_fits}
 use Rattle.resp_stream.proofs.ValueLimits.{more_long}
 use Rattle.resp_stream.proofs.stack.read_value.Goals as goal
+use Rattle.std.proofs.Common.{arith}
 
 pub overflow_sub-text : goal.overflow_sub-text
 overflow_sub-text c =
@@ -23,9 +24,7 @@ returns-then-text-gt-WHOLE_LIMIT-clause-gives c =
     c.too_long-then-text-gt-WHOLE_LIMIT.ensures
 
 pub returns-in-Err-Faulty-clause-gives : goal.returns-in-Err-Faulty-clause-gives
-returns-in-Err-Faulty-clause-gives c =
-    bad_gives c.args.text.now c.in-Err-Faulty.e.fault c.in-Err-Faulty.e.left c.limited-fault.result
-    (rw c.in-Err-Faulty.field-0-is at c.in-Err-Faulty.ensures.gives) c.limited-fault.ensures
+returns-in-Err-Faulty-clause-gives c = grind (arith, bad_gives)
 
 pub returns-else-taken-gt-WHOLE_LIMIT-clause-gives :
     goal.returns-else-taken-gt-WHOLE_LIMIT-clause-gives

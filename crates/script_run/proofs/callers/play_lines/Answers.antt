@@ -1,4 +1,4 @@
-use Rattle.std.proofs.Common.{refl, sym, ap, subst, ◌∙◌, length, [], ◌∷◌, ◌++◌, ◌+◌}
+use Rattle.std.proofs.Common.{sym, ap, subst, ◌∙◌, [], ◌∷◌, ◌++◌, ◌+◌, arith}
 use Rattle.script_run.specs.Lines.{calls_of, PlaysThread}
 use Rattle.script_run.proofs.Threads.{no_line, first_lines, line_played, line_passed, held}
 use Rattle.script_run.proofs.callers.play_lines.Goals as goal
@@ -6,14 +6,7 @@ use Rattle.script_run.proofs.callers.play_lines.Goals.{then-line-thread+else-is_
 use Rattle.script_run.proofs.callers.play_lines.Goals.{else-line-thread}
 
 pub loop-line-init : goal.loop-line-init
-loop-line-init g c =
-    let none = c.new-items.ensures.items in (
-      subst (λ z. PlaysThread [] z c.args.seat c.args.seat) (sym none)
-          (no_line c.args.seat c.requires.within),
-      ap length none,
-      refl,
-      c.requires.within,
-    )
+loop-line-init g c = grind (arith, no_line)
 
 pub returns-then-is_err-clause-plays : goal.returns-then-is_err-clause-plays
 returns-then-is_err-clause-plays g c =

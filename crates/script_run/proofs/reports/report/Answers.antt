@@ -1,4 +1,4 @@
-use Rattle.std.proofs.Common.{ap, sym, ◌∙◌, ◌+◌, ◌-◌, ◌++◌, [], cond, append-nil, length}
+use Rattle.std.proofs.Common.{ap, sym, ◌∙◌, ◌+◌, ◌-◌, ◌++◌, [], cond, append-nil, length, arith}
 use Rattle.std.proofs.lemmas.Result.{err_from_is_err_and}
 use Rattle.script_run.specs.Reports.{said_text, line_end}
 use Rattle.script_run.proofs.Reporting.{line_printed, rest_length}
@@ -35,7 +35,4 @@ loop-place-preserved c =
     )
 
 pub returns-in_err-put_said-clause-err : goal.returns-in_err-put_said-clause-err
-returns-in_err-put_said-clause-err c =
-    let p = err_from_is_err_and c.from_residual.result c.from_residual.ensures.1 in
-    let inv = c.loop-place.invariant.0 in
-    rw p.1 (inv.first, (_, inv.ends), c.in_err-put_said.ensures.err ∙ inv.text_is)
+returns-in_err-put_said-clause-err c = grind (arith, err_from_is_err_and)

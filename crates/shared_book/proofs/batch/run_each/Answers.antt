@@ -11,12 +11,7 @@ empty_of [] none = refl
 empty_of (x ∷ xs) none = absurd (omega arith)
 
 pub calls-init : goal.calls-init
-calls-init g c = (
-  running_begins c.args.id c.args.now c.args.requests c.args.calls.items
-      (into_iter_items c.into_iter-rest.result) c.args.seat.now c.into_iter-rest.ensures.rest
-      c.requires.runs c.requires.within c.requires.admitted c.requires.counted,
-  refl,
-)
+calls-init g c = grind (arith, running_begins)
 
 pub calls-preserved : goal.calls-preserved
 calls-preserved g c =
@@ -31,11 +26,7 @@ calls-preserved g c =
     )
 
 pub unreachable-requires : goal.unreachable-requires
-unreachable-requires g c =
-    let items : into_iter_items c.calls.rest ≡ c.in-Some.call ∷ into_iter_items c.next.new.self
-    = search rules in
-    runs_alone c.args.id c.args.now (into_iter_items c.calls.rest) (into_iter_items c.next.new.self)
-    c.in-Some.call c.calls.invariant.0.runs items c.in_default-call.not-Run
+unreachable-requires g c = grind (arith, runs_alone)
 
 pub returns-in-Err-clause-err : goal.returns-in-Err-clause-err
 returns-in-Err-clause-err g c =

@@ -1,22 +1,13 @@
-use Rattle.std.proofs.Common.{sym, subst}
-use Rattle.std.specs.List.{All}
-use Rattle.std.proofs.lemmas.List.Elements.{All-nil}
-use Rattle.shared_book.specs.Batches.{IsRunAt}
 use Rattle.conn_worker.proofs.Running.{reading_none, reading_more, reading_ends, reading_bad}
 use Rattle.conn_worker.proofs.Running.{reading_less, runs_more, gives_at}
 use Rattle.conn_worker.proofs.connection.Connection.read_calls.Goals as goal
+use Rattle.std.proofs.Common.{arith}
 
 pub requests-init : goal.requests-init
-requests-init g c = (
-  reading_none c.args.self.now c.args.calls.now.items c.requires,
-  subst (All (IsRunAt c.args.self.now.id c.args.now)) (sym c.requires)
-      (All-nil (IsRunAt c.args.self.now.id c.args.now)),
-)
+requests-init g c = grind (arith, reading_none)
 
 pub requests-smaller : goal.requests-smaller
-requests-smaller g c =
-    let given = gives_at _ _ _ _ c.in-Ok-Some.ensures.gives c.in-Ok-Some.field-0-is in
-    reading_less c.requests.self.reader c.next_request.new.self c.in-Ok-Some.words given.0
+requests-smaller g c = grind (arith, gives_at, reading_less)
 
 pub requests-preserved : goal.requests-preserved
 requests-preserved g c =
@@ -30,13 +21,7 @@ requests-preserved g c =
     )
 
 pub returns-in-Ok-None-clause-ok : goal.returns-in-Ok-None-clause-ok
-returns-in-Ok-None-clause-ok g c =
-    let given = gives_at _ _ _ _ c.in-Ok-None.ensures.gives c.in-Ok-None.field-0-is in
-    reading_ends c.args.self.now c.requests.self c.requests.calls.items c.requests.invariant.0
-    c.next_request.new.self given.0 given.1
+returns-in-Ok-None-clause-ok g c = grind (arith, gives_at, reading_ends)
 
 pub returns-in-Some-clause-ok : goal.returns-in-Some-clause-ok
-returns-in-Some-clause-ok g c =
-    reading_bad c.args.self.now c.requests.self c.requests.calls.items c.requests.invariant.0
-    c.next_request.new.self c.in-Err.fault c.in-Some.field-0 c.in-Err.ensures.gives
-    c.in-Some.ensures
+returns-in-Some-clause-ok g c = grind (arith, reading_bad)

@@ -1,4 +1,4 @@
-use Rattle.std.proofs.Common.{sym, subst}
+use Rattle.std.proofs.Common.{sym, subst, arith}
 use Rattle.std.specs.Prelude.{IfErr, IfOk}
 use Rattle.shared_book.specs.Batches.{RunsAndTakes, RunsFirst, requests_in}
 use Rattle.conn_worker.specs.Visits.{HearsAll, RunsPart}
@@ -6,9 +6,7 @@ use Rattle.conn_worker.proofs.Running.{all_ran, part_ran, part_none}
 use Rattle.conn_worker.proofs.connection.Connection.run_read.Goals as goal
 
 pub returns-in-Err-clause-err : goal.returns-in-Err-clause-err
-returns-in-Err-clause-err g c =
-    part_none (g.C.Clock.moment c.args.clock.now) c.args.self.now c.read_calls.new.self
-    c.args.seat.now c.requires.within c.read_calls.ensures.same.0 c.read_calls.ensures.same.1
+returns-in-Err-clause-err g c = grind (arith, part_none)
 
 pub returns-in-Ok-front-clause-ok : goal.returns-in-Ok-front-clause-ok
 returns-in-Ok-front-clause-ok g c =

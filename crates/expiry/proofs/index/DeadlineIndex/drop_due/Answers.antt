@@ -1,9 +1,8 @@
-use Rattle.std.proofs.Common.{◌≡◌, rules, ap, sym, subst, ◌∙◌, arith}
+use Rattle.std.proofs.Common.{rules, ap, sym, subst, ◌∙◌, arith}
 use Rattle.std.specs.Prelude.{not}
 use Rattle.std.proofs.lemmas.Fn.{filter_same}
 use Rattle.expiry.specs.Index.{is_due, left}
 use Rattle.expiry.specs.Order.{IsOrdered}
-use Rattle.expiry.specs.Places.{IsDueFront}
 use Rattle.expiry.proofs.Fronts.{none_gone}
 use Rattle.expiry.proofs.Orders.{ordered_filter}
 use Rattle.expiry.proofs.index.DeadlineIndex.drop_due.Goals as goal
@@ -20,8 +19,4 @@ returns-then-due_count-gt0 c =
     ∙ ap (left c.args.moment) c.self.view_is
 
 pub returns-else-due_count-gt0 : goal.returns-else-due_count-gt0
-returns-else-due_count-gt0 c =
-    let none : c.due_count.result ≡ 0 = omega arith in
-    sym (none_gone c.args.moment c.args.self.now
-    (subst IsOrdered c.self.view_is c.self.invariant)
-    (subst (IsDueFront c.args.moment c.args.self.now) none c.due_count.ensures))
+returns-else-due_count-gt0 c = grind (arith, none_gone)

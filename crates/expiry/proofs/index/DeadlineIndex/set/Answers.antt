@@ -1,10 +1,9 @@
-use Rattle.std.proofs.Common.{◌≡◌, ◌<◌, List, false, length, get_or, ap, subst, sym, ◌∙◌, arith}
-use Rattle.std.specs.Prelude.{insert}
+use Rattle.std.proofs.Common.{◌≡◌, ◌<◌, List, length, get_or, ap, subst, sym, ◌∙◌, arith}
 use Rattle.std.proofs.lemmas.List.{get_or_read}
 use Rattle.expiry.specs.declared.index.Deadline.{Deadline}
 use Rattle.expiry.specs.Index.{is_same, with}
 use Rattle.expiry.specs.Order.{IsOrdered}
-use Rattle.expiry.specs.Places.{deadline_at, no_deadline}
+use Rattle.expiry.specs.Places.{no_deadline}
 use Rattle.expiry.proofs.Fronts.{with_same, with_new}
 use Rattle.expiry.proofs.Orders.{ordered_with}
 use Rattle.expiry.proofs.index.DeadlineIndex.set.Goals as goal
@@ -24,24 +23,7 @@ returns-then-is_same-clause-ok c =
 
 placed : (c : In_ok-insert) → c.insert.new.self.items
     ≡ with (record { at = c.args.deadline; key = c.args.key.now }) c.args.self.now
-placed c =
-    let ds = c.args.self.now in
-    let n = c.place_for-place.result in
-    let d : Deadline = record { at = c.args.deadline; key = c.args.key.now } in
-    let other : n < length ds → is_same d (deadline_at ds n) ≡ false =
-    elim c.else-place-len.branch [
-      | goal.else-place-len-via-then-place-len+else-is_same w ↦ λ lt.
-          let read = w.index.ensures
-          ∙ ap (λ (l : List Deadline). get_or l n w.index.result.now) c.self.view_is in
-          ap (is_same d) (sym (get_or_read ds n w.index.result.now lt read no_deadline))
-          ∙ (sym w.is_same.ensures ∙ w.if-is_same.false)
-      | goal.else-place-len-via-else-place-len w ↦ λ lt.
-          absurd (omega (arith, ap length c.self.view_is, c.self.inside.list.ok.0))
-    ] in
-    c.in_ok-insert.ensures.items
-    ∙ ((λ i. insert (c.self.view_is i) n
-    (record { at = c.args.deadline; key = c.in_ok-key.ensures i }))
-    ∙ sym (with_new d ds n c.place_for-place.ensures other))
+placed c = grind (arith, get_or_read, with_new)
 
 pub invariant_of-self-2 : goal.invariant_of-self-2
 invariant_of-self-2 c =

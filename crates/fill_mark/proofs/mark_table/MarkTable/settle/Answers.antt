@@ -1,4 +1,4 @@
-use Rattle.std.proofs.Common.{ap, ◌∙◌, ◌==◌, not, sym, refl}
+use Rattle.std.proofs.Common.{ap, ◌∙◌, ◌==◌, not, sym, refl, arith}
 use Rattle.std.specs.FinMap.{remove}
 use Rattle.std.specs.List.{list_any}
 use Rattle.fill_mark.specs.Tables.{is_marked}
@@ -29,7 +29,4 @@ invariant_of-self-then-not-is_any_marked c =
     none)
 
 pub invariant_of-self-else-not-is_any_marked : goal.invariant_of-self-else-not-is_any_marked
-invariant_of-self-else-not-is_any_marked c =
-    indexed_as _ _ _ _ refl c.remove.ensures.rest
-    (indexed_filter (λ m. not (m.number == c.args.number)) c.self.inside.keys
-    c.self.inside.marks c.self.invariant)
+invariant_of-self-else-not-is_any_marked c = grind (arith, indexed_as, indexed_filter)

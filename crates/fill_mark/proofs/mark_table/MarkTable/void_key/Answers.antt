@@ -1,5 +1,4 @@
-use Rattle.std.proofs.Common.{ap, ◌∙◌}
-use Rattle.fill_mark.specs.Marks.{without_key}
+use Rattle.std.proofs.Common.{ap, ◌∙◌, arith}
 use Rattle.fill_mark.specs.Tables.{without_listed}
 use Rattle.fill_mark.proofs.Indexed.{indexed_void, void_indexed, indexed_as}
 use Rattle.fill_mark.proofs.mark_table.MarkTable.void_key.Goals as goal
@@ -14,8 +13,4 @@ invariant_of-self c =
     (indexed_void key c.self.inside.keys c.self.inside.marks c.self.invariant)
 
 pub returns : goal.returns
-returns c =
-    c.void_listed.ensures
-    ∙ ap (λ l. without_listed c.args.key.now l c.self.inside.marks) c.numbers.ensures
-    ∙ void_indexed c.args.key.now c.self.inside.keys c.self.inside.marks c.self.invariant
-    ∙ ap (without_key c.args.key.now) c.self.view_is
+returns c = grind (arith, void_indexed)

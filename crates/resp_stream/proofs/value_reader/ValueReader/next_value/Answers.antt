@@ -1,8 +1,6 @@
-use Rattle.std.proofs.Common.{sym, subst, ◌∙◌, Option}
+use Rattle.std.proofs.Common.{sym, subst, ◌∙◌, Option, arith}
 use Rattle.resp_stream.specs.declared.fault.StreamFault.{StreamFault}
-use Rattle.resp_stream.specs.Stream.{Stream}
-use Rattle.resp_stream.specs.Readers.{FaultGives}
-use Rattle.resp_stream.specs.ReaderStates.{stream_of, Kept}
+use Rattle.resp_stream.specs.ReaderStates.{Kept}
 use Rattle.resp_stream.specs.Value.{value_at}
 use Rattle.resp_stream.proofs.ValueFaults.{fresh, answers, keeps}
 use Rattle.resp_stream.proofs.value_reader.ValueReader.next_value.Goals as goal
@@ -16,10 +14,7 @@ invariant_of-self-in-Ok-Whole c =
     (sym (c.pass.ensures.broken ∙ sym c.fault.ensures.fault ∙ c.in_default.is)) tt)
 
 pub invariant_of-self-in-Err : goal.invariant_of-self-in-Err
-invariant_of-self-in-Err c =
-    let r = c.reset-in-Err.ensures in
-    fresh c.self.inside.input c.reset-in-Err.new.self r.at r.room r.seen r.stack
-    c.self.invariant.kept
+invariant_of-self-in-Err c = grind (arith, fresh)
 
 pub invariant_of-self-in-Ok-Faulty : goal.invariant_of-self-in-Ok-Faulty
 invariant_of-self-in-Ok-Faulty c =
@@ -30,10 +25,4 @@ invariant_of-self-in-Ok-Faulty c =
     c.fail.new.self c.fail.ensures.broken c.reset-in-Ok-Faulty.new.self r.at r.room r.seen r.stack
 
 pub returns-in-Ok-Faulty-clause-gives : goal.returns-in-Ok-Faulty-clause-gives
-returns-in-Ok-Faulty-clause-gives c =
-    subst (λ (s : Stream). FaultGives value_at s s (stream_of c.fail.new.self) c.fail.result)
-    c.self.view_is
-    (answers c.bytes.result.now c.self.inside.input c.in-Ok-Faulty.at c.in-Ok-Faulty.fault
-    c.fail.result c.bytes.ensures
-    (rw c.in-Ok-Faulty.field-0-is at c.in-Ok-Faulty.ensures.gives) c.fail.ensures.fault
-    c.fail.new.self c.fail.ensures.broken)
+returns-in-Ok-Faulty-clause-gives c = grind (arith, answers)

@@ -1,5 +1,4 @@
-use Rattle.std.proofs.Common.{◌∷◌, sym, ap}
-use Rattle.std.proofs.Common.{subst, ◌∙◌}
+use Rattle.std.proofs.Common.{◌∷◌, sym, ap, subst, ◌∙◌, arith}
 use Rattle.track_table.specs.Table.{TableState, without_connection}
 use Rattle.serial_model.specs.declared.history.Entry.TheVariants as entry
 use Rattle.serial_model.specs.declared.history.BookCall.TheVariants.{Close}
@@ -7,11 +6,8 @@ use Rattle.serial_model.specs.History.{table}
 use Rattle.server_book.specs.BookState.{BookState, IsAccepted, Agrees, HasRoom}
 use Rattle.server_book.specs.Connections.{ConnectionsState}
 use Rattle.server_book.proofs.Remembered.{same_table}
-use Rattle.server_book.proofs.BookTurns.{is_id, live_at, is_turn}
-use Rattle.server_book.proofs.BookTurns.{agrees_close}
-use Rattle.server_book.proofs.BookTurns.{room_close}
-use Rattle.server_book.proofs.BookTurns.{close_turned}
-use Rattle.server_book.proofs.BookTurns.{posted_close}
+use Rattle.server_book.proofs.BookTurns.{is_id, live_at, is_turn, agrees_close, room_close}
+use Rattle.server_book.proofs.BookTurns.{close_turned, posted_close}
 use Rattle.server_book.proofs.book.Book.close.Goals as goal
 
 pub invariant_of-self : goal.invariant_of-self
@@ -45,16 +41,4 @@ invariant_of-self c =
     }
 
 pub returns : goal.returns
-returns c =
-    let i = c.self.inside in
-    let past = i.log.past in
-    let id = c.args.id in
-    let on = subst (λ (b : BookState). IsAccepted b.limits b.past (Close id)) (sym c.self.view_is)
-    c.requires.accepted in
-    let n = c.len-entry.ensures.len in
-    is_turn c.args.self.now i.limits past c.push.new.self.past i.stores.connections.posts
-    c.end.new.self.posts (entry.Close id)
-    (Close id) _ c.self.view_is tt c.push.ensures.past
-    (close_turned i.limits past id c.len-entry.result on n)
-    (ap (λ (s : ConnectionsState). s.posts) c.end.ensures
-    ∙ posted_close i.limits past id c.len-entry.result n)
+returns c = grind (arith, is_turn, close_turned, posted_close)

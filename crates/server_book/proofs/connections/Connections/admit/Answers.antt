@@ -1,4 +1,4 @@
-use Rattle.std.proofs.Common.{[], arith, length-append}
+use Rattle.std.proofs.Common.{arith, length-append}
 use Rattle.server_book.proofs.Sendings.{posted_longer}
 use Rattle.server_book.proofs.connections.Connections.admit.Goals as goal
 

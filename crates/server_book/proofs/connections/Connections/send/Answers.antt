@@ -1,4 +1,4 @@
-use Rattle.std.proofs.Common.{◌-◌, arith}
+use Rattle.std.proofs.Common.{arith}
 use Rattle.server_book.proofs.Sendings.{posted_set, posted_more}
 use Rattle.server_book.proofs.connections.Connections.send.Goals as goal
 

@@ -1,4 +1,4 @@
-use Rattle.std.proofs.Common.{arith, append-nil, []}
+use Rattle.std.proofs.Common.{arith, append-nil}
 use Rattle.serial_model.proofs.TableSize.{without_keys_within, without_within}
 use Rattle.server_book.proofs.Sendings.{on_ok_then}
 use Rattle.server_book.proofs.Remembered.{same_table, short_kept, short_dropped}

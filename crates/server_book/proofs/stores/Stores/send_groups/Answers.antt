@@ -1,4 +1,4 @@
-use Rattle.std.proofs.Common.{◌≡◌, [], length, sym, ap, subst, ◌∙◌, arith}
+use Rattle.std.proofs.Common.{◌≡◌, length, sym, ap, subst, ◌∙◌, arith}
 use Rattle.track_table.specs.Table.{TableState}
 use Rattle.serial_model.specs.History.{spelled}
 use Rattle.serial_model.specs.Tracking.{without_keys}
@@ -6,8 +6,8 @@ use Rattle.server_book.specs.Connections.{ConnectionsState}
 use Rattle.server_book.specs.RunSendings.{with_mode}
 use Rattle.server_book.specs.Stores.{IsHeld}
 use Rattle.server_book.proofs.Sendings.{mode_same, on_err, on_err_then}
-use Rattle.server_book.proofs.Undoing.{held_left, length_replied, length_switched}
-use Rattle.server_book.proofs.Undoing.{on_told, replied_back, told_back}
+use Rattle.server_book.proofs.Undoing.{held_left, length_replied, length_switched, on_told}
+use Rattle.server_book.proofs.Undoing.{replied_back, told_back}
 use Rattle.server_book.proofs.stores.Stores.send_groups.Goals as goal
 
 pub returns-in_err-tell_keys-clause-back : goal.returns-in_err-tell_keys-clause-back

@@ -1,4 +1,4 @@
-use Rattle.std.proofs.Common.{[], ◌∙◌}
+use Rattle.std.proofs.Common.{[], ◌∙◌, arith}
 use Rattle.std.proofs.lemmas.Result.{err_from_is_err_and}
 use Rattle.serial_model.specs.declared.history.BookCall.TheVariants as call
 use Rattle.script_text.specs.declared.line.Line.TheVariants as line
@@ -10,18 +10,11 @@ use Rattle.server_links.proofs.link.Link.close.Goals as goal
 
 pub returns-in_err-next_entry : goal.returns-in_err-next_entry
 unfolding close
-returns-in_err-next_entry c =
-    let p = err_from_is_err_and c.from_residual.result c.from_residual.ensures.1 in
-    rw p.1 (rw p.2 (turn_before (session c.args.server.now c.args.self.now)
-    (call.Close c.args.self.now.id) [] c.args.lines.now))
+returns-in_err-next_entry c = grind (arith, err_from_is_err_and, turn_before)
 
 pub returns-in_err-copy : goal.returns-in_err-copy
 unfolding close
-returns-in_err-copy c =
-    let p = err_from_is_err_and c.from_residual-in_err-copy.result
-    c.from_residual-in_err-copy.ensures.1 in
-    rw p.1 (rw p.2 (turn_before (session c.args.server.now c.args.self.now)
-    (call.Close c.args.self.now.id) [] c.args.lines.now))
+returns-in_err-copy c = grind (arith, err_from_is_err_and, turn_before)
 
 pub returns-in_err-turn : goal.returns-in_err-turn
 unfolding close

@@ -3,14 +3,11 @@ use Rattle.server_links.specs.Moves.{flow, receive_all, send_all, serve_all}
 use Rattle.server_links.specs.Session.{session}
 use Rattle.server_links.proofs.Outcomes.{stops_first, after_stops, gives_then}
 use Rattle.server_links.proofs.link.Link.flow.Goals as goal
+use Rattle.std.proofs.Common.{arith}
 
 pub returns-in_err-serve_all : goal.returns-in_err-serve_all
 unfolding flow
-returns-in_err-serve_all c =
-    let s = session c.args.server.now c.args.self.now in
-    let p = err_from_is_err_and c.from_residual.result c.from_residual.ensures.1 in
-    rw p.1 (rw p.2
-    (stops_first (serve_all s) _ c.args.lines.now _ _ _ c.in_err-serve_all.ensures))
+returns-in_err-serve_all c = grind (arith, err_from_is_err_and, stops_first)
 
 pub returns-in_err-send_all : goal.returns-in_err-send_all
 unfolding flow

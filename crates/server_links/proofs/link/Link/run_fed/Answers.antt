@@ -1,4 +1,4 @@
-use Rattle.std.proofs.Common.{subst}
+use Rattle.std.proofs.Common.{subst, arith}
 use Rattle.std.proofs.lemmas.Result.{err_from_is_err_and}
 use Rattle.server_links.specs.Moves.{run_fed, run_requests, stop}
 use Rattle.server_links.specs.Outcome.{Gives}
@@ -8,10 +8,7 @@ use Rattle.server_links.proofs.link.Link.run_fed.Goals as goal
 
 pub returns-in_err-fault : goal.returns-in_err-fault
 unfolding run_fed
-returns-in_err-fault c =
-    let p = err_from_is_err_and c.from_residual.result c.from_residual.ensures.1 in
-    rw p.1 (rw p.2 (stops_first (run_requests (session c.args.server.now c.args.self.now)) _
-    c.args.lines.now _ _ _ c.in_err-fault.ensures.gives))
+returns-in_err-fault c = grind (arith, err_from_is_err_and, stops_first)
 
 pub returns : goal.returns
 unfolding run_fed

@@ -1,4 +1,4 @@
-use Rattle.std.proofs.Common.{◌∙◌, subst}
+use Rattle.std.proofs.Common.{◌∙◌, subst, arith}
 use Rattle.std.proofs.lemmas.Result.{err_from_is_err_and}
 use Rattle.serial_model.specs.declared.history.BookCall.TheVariants as call
 use Rattle.script_text.specs.declared.line.Line.TheVariants as line
@@ -11,27 +11,13 @@ use Rattle.server_links.proofs.Playing.{server_turned}
 use Rattle.server_links.proofs.link.Link.run_one.Goals as goal
 
 pub returns-in_err-next_entry : goal.returns-in_err-next_entry
-returns-in_err-next_entry c =
-    let p = err_from_is_err_and c.from_residual.result c.from_residual.ensures.1 in
-    rw p.1 (rw p.2 (turn_before (session c.args.server.now c.args.self.now)
-    (call.Run c.args.self.now.id c.args.words c.args.server.now.clock) c.args.words
-    c.args.lines.now))
+returns-in_err-next_entry c = grind (arith, err_from_is_err_and, turn_before)
 
 pub returns-in_err-copy : goal.returns-in_err-copy
-returns-in_err-copy c =
-    let p = err_from_is_err_and c.from_residual-in_err-copy.result
-    c.from_residual-in_err-copy.ensures.1 in
-    rw p.1 (rw p.2 (turn_before (session c.args.server.now c.args.self.now)
-    (call.Run c.args.self.now.id c.args.words c.args.server.now.clock) c.args.words
-    c.args.lines.now))
+returns-in_err-copy c = grind (arith, err_from_is_err_and, turn_before)
 
 pub returns-in_err-copy-2 : goal.returns-in_err-copy-2
-returns-in_err-copy-2 c =
-    let p = err_from_is_err_and c.from_residual-in_err-copy-2.result
-    c.from_residual-in_err-copy-2.ensures.1 in
-    rw p.1 (rw p.2 (turn_before (session c.args.server.now c.args.self.now)
-    (call.Run c.args.self.now.id c.args.words c.args.server.now.clock) c.args.words
-    c.args.lines.now))
+returns-in_err-copy-2 c = grind (arith, err_from_is_err_and, turn_before)
 
 pub returns-in_err-turn : goal.returns-in_err-turn
 returns-in_err-turn c =

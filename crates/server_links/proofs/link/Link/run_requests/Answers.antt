@@ -1,12 +1,11 @@
-use Rattle.std.proofs.Common.{◌≡◌, Option, Ok, refl, subst}
+use Rattle.std.proofs.Common.{◌≡◌, Option, Ok, refl, subst, arith}
 use Rattle.std.proofs.lemmas.Result.{err_from_is_err_and}
 use Rattle.resp_stream.specs.Stream.{Stream}
 use Rattle.resp_stream.specs.Readers.{RequestGives}
 use Rattle.server_links.specs.Session.{session}
 use Rattle.server_links.specs.Moves.{run_requests}
 use Rattle.server_links.proofs.Items.{ends_bad, ends_more, reads_short, reads_stop}
-use Rattle.server_links.proofs.Serving.{reads_less, reads_more, reads_none, requests}
-use Rattle.server_links.proofs.Serving.{requests_run}
+use Rattle.server_links.proofs.Serving.{reads_less, reads_more, reads_none, requests, requests_run}
 use Rattle.server_links.proofs.link.Link.run_requests.Goals as goal
 
 gives_at : (old new : Stream) (r s : Option _) → RequestGives old new (Ok r) → r ≡ s
@@ -17,9 +16,7 @@ pub requests-init : goal.requests-init
 requests-init c = reads_none (session c.args.server.now c.args.self.now) c.args.lines.now c.requires
 
 pub requests-smaller : goal.requests-smaller
-requests-smaller c =
-    reads_less c.requests.self.reader c.next_request.new.self c.in-Ok-Some.words
-    (gives_at _ _ _ _ c.in-Ok-Some.ensures.gives c.in-Ok-Some.field-0-is).0
+requests-smaller c = grind (arith, reads_less, gives_at)
 
 pub requests-preserved : goal.requests-preserved
 requests-preserved c =
@@ -45,10 +42,7 @@ returns-in-Ok-None-clause-gives c =
     g.0 g.1).0
 
 pub returns-in-Ok-None-clause-fault : goal.returns-in-Ok-None-clause-fault
-returns-in-Ok-None-clause-fault c =
-    let g = gives_at _ _ _ _ c.in-Ok-None.ensures.gives c.in-Ok-None.field-0-is in
-    (ends_more requests requests_run _ _ _ _ c.requests.invariant.reads c.next_request.new.self
-    g.0 g.1).1
+returns-in-Ok-None-clause-fault c = grind (arith, gives_at, ends_more, requests, requests_run)
 
 pub returns-in-Some-clause-gives : goal.returns-in-Some-clause-gives
 unfolding run_requests
@@ -57,9 +51,7 @@ returns-in-Some-clause-gives c =
     c.in-Err.fault c.in-Some.place c.in-Err.ensures.gives c.in-Some.ensures).0
 
 pub returns-in-Some-clause-fault : goal.returns-in-Some-clause-fault
-returns-in-Some-clause-fault c =
-    (ends_bad requests requests_run _ _ _ _ c.requests.invariant.reads c.next_request.new.self
-    c.in-Err.fault c.in-Some.place c.in-Err.ensures.gives c.in-Some.ensures).1
+returns-in-Some-clause-fault c = grind (arith, ends_bad, requests, requests_run)
 
 pub returns-in-None-clause-gives : goal.returns-in-None-clause-gives
 unfolding run_requests

@@ -1,4 +1,4 @@
-use Rattle.std.proofs.Common.{◌≡◌, ◌∙◌, refl, sym, ap, subst, append-nil}
+use Rattle.std.proofs.Common.{◌≡◌, ◌∙◌, sym, ap, subst, append-nil, arith}
 use Rattle.std.proofs.lemmas.Result.{err_from_is_err_and}
 use Rattle.resp_stream.specs.Stream.{Stream, fed}
 use Rattle.server_links.specs.declared.fault.WorldFault.TheVariants.{NoMemory}
@@ -10,9 +10,7 @@ use Rattle.server_links.proofs.Playing.{serve_off, serve_on, fed_stops, fed_give
 use Rattle.server_links.proofs.link.Link.serve_all.Goals as goal
 
 pub returns-then-not-reads_on : goal.returns-then-not-reads_on
-returns-then-not-reads_on c =
-    rw (serve_off (session c.args.server.now c.args.self.now) (sym c.reads_on.ensures
-    ∙ c.if-not-reads_on.true)) (refl, refl, sym (append-nil c.args.lines.now))
+returns-then-not-reads_on c = grind (arith, serve_off, append-nil)
 
 pub returns-in_err-feed : goal.returns-in_err-feed
 returns-in_err-feed c =

@@ -1,4 +1,4 @@
-use Rattle.std.proofs.Common.{◌≡◌, ap, subst, sym, ◌∙◌, max}
+use Rattle.std.proofs.Common.{◌≡◌, ap, subst, sym, ◌∙◌, max, arith}
 use Rattle.std.proofs.lemmas.Result.{err_from_is_err_and}
 use Rattle.script_text.specs.declared.line.Line.TheVariants.{Tick}
 use Rattle.serial_model.specs.declared.history.BookCall.TheVariants as call
@@ -13,9 +13,7 @@ use Rattle.server_links.proofs.Moments.{after, played_links, tick_before, tick_o
 use Rattle.server_links.proofs.server.Server.tick.Goals as goal
 
 pub returns-in_err-next_entry-clause-gives : goal.returns-in_err-next_entry-clause-gives
-returns-in_err-next_entry-clause-gives c =
-    let p = err_from_is_err_and c.from_residual.result c.from_residual.ensures.1 in
-    rw p.1 (rw p.2 (tick_before (links_of c.args.self.now) c.args.lines.now))
+returns-in_err-next_entry-clause-gives c = grind (arith, err_from_is_err_and, tick_before)
 
 pub returns-in_err-push-clause-gives : goal.returns-in_err-push-clause-gives
 returns-in_err-push-clause-gives c =

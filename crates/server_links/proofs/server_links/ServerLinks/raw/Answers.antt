@@ -1,5 +1,5 @@
 use Rattle.std.proofs.Common.{◌≡◌, ◌+◌, ◌++◌, ◌∷◌, [], arith, Some, None, Option, Bool, List, ℕ}
-use Rattle.std.proofs.Common.{true, false, refl, sym, ap, subst, ◌∙◌}
+use Rattle.std.proofs.Common.{true, false, sym, ap, subst, ◌∙◌}
 use Rattle.std.specs.Option.{is_some}
 use Rattle.std.specs.Prelude.{position}
 use Rattle.std.specs.Str.{bytes_eq}
@@ -18,12 +18,7 @@ use Rattle.server_links.proofs.Stepping.{made_named, raw_fits, raw_gives}
 use Rattle.server_links.proofs.server_links.ServerLinks.raw.Goals as goal
 
 some : {A : Type 0} → (o : Option A) → is_some o ≡ true → (a : A) × (o ≡ Some a)
-some None e = absurd (let no : ⊥ = cc in no)
-some (Some a) e = (a, refl)
-
-none : {A : Type 0} → (o : Option A) → is_some o ≡ false → o ≡ None
-none None e = refl
-none (Some a) e = absurd (let no : ⊥ = cc in no)
+some o e = grind arith
 
 free : (v w : LinksState) (name : List ℕ) (o : Option ℕ) (b : Bool) → v ≡ w → o ≡ place_of name w
     → b ≡ is_some o → b ≡ false → place_of name v ≡ None

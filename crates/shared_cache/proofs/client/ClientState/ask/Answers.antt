@@ -1,43 +1,20 @@
-use Rattle.std.proofs.Common.{ap, sym, ◌∙◌}
-use Rattle.shared_cache.specs.declared.log.ClientRefusal.TheVariants.{LogFull}
-use Rattle.shared_cache.specs.Held.{held, held_for}
+use Rattle.std.proofs.Common.{ap, sym, ◌∙◌, arith}
 use Rattle.shared_cache.specs.declared.log.LogEntry.TheVariants as entry
 use Rattle.shared_cache.specs.ClientFields.{Client}
-use Rattle.shared_cache.specs.Steps.{refusing, answer_ask, read_number}
 use Rattle.shared_cache.proofs.StepCases.{stepped, ask_down, ask_unready, ask_full, ask_ok, ran_out}
 use Rattle.shared_cache.proofs.client.ClientState.ask.Goals as goal
 
 pub returns-then-has_ended-clause-step : goal.returns-then-has_ended-clause-step
-returns-then-has_ended-clause-step c =
-    ask_down _ _ c.args.query (sym c.has_ended.ensures ∙ c.if-has_ended.true)
+returns-then-has_ended-clause-step c = grind (arith, ask_down)
 
 pub returns-then-not-is_ready-clause-step : goal.returns-then-not-is_ready-clause-step
-returns-then-not-is_ready-clause-step c =
-    ask_unready _ _ c.args.query (sym c.has_ended.ensures ∙ c.if-has_ended.false)
-    (sym c.is_ready.ensures ∙ c.if-not-is_ready.true)
+returns-then-not-is_ready-clause-step c = grind (arith, ask_unready)
 
 pub returns-then-is_log_full-clause-step : goal.returns-then-is_log_full-clause-step
-returns-then-is_log_full-clause-step c =
-    ask_full _ _ c.args.query (sym c.has_ended.ensures ∙ c.if-has_ended.false)
-    (sym c.is_ready.ensures ∙ c.if-not-is_ready.false)
-    (sym c.is_log_full.ensures ∙ c.if-is_log_full.true)
-    ∙ ap (λ n. refusing (LogFull n) c.args.self.now.past) (sym c.entries.ensures)
+returns-then-is_log_full-clause-step c = grind (arith, ask_full)
 
 pub returns-in-Ok-clause-step : goal.returns-in-Ok-clause-step
-returns-in-Ok-clause-step c =
-    stepped _ _ _ _ _ _ _
-    (ask_ok _ _ c.args.query (sym c.has_ended.ensures ∙ c.if-has_ended.false)
-    (sym c.is_ready.ensures ∙ c.if-not-is_ready.false)
-    (sym c.is_log_full.ensures ∙ c.if-is_log_full.false)
-    ∙ ap (λ (st : Client).
-    record {
-      reply =
-          answer_ask (held_for c.args.query (held c.args.self.now.setup c.args.self.now.past))
-          (read_number c.args.self.now.setup c.args.self.now.past c.args.query);
-      past = st.past;
-    })
-    (sym c.in-Ok.ensures.ok))
-    c.in-Ok.ensures.reply
+returns-in-Ok-clause-step c = grind (arith, stepped, ask_ok)
 
 pub returns-in-Err-clause-step : goal.returns-in-Err-clause-step
 returns-in-Err-clause-step c =

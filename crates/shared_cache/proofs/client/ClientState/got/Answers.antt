@@ -1,4 +1,4 @@
-use Rattle.std.proofs.Common.{ap, sym, ◌∙◌}
+use Rattle.std.proofs.Common.{ap, sym, ◌∙◌, arith}
 use Rattle.shared_cache.specs.declared.log.ClientReply.TheVariants.{Refused}
 use Rattle.shared_cache.specs.declared.log.ClientRefusal.TheVariants.{BadPush}
 use Rattle.shared_cache.specs.declared.log.Wire.TheVariants.{Main}
@@ -7,8 +7,7 @@ use Rattle.shared_cache.proofs.StepCases.{got_down, got_bad, fault_malformed}
 use Rattle.shared_cache.proofs.client.ClientState.got.Goals as goal
 
 pub returns-then-has_ended-clause-step : goal.returns-then-has_ended-clause-step
-returns-then-has_ended-clause-step c =
-    got_down _ _ c.args.value (sym c.has_ended.ensures ∙ c.if-has_ended.true)
+returns-then-has_ended-clause-step c = grind (arith, got_down)
 
 pub returns-in-Malformed-clause-step : goal.returns-in-Malformed-clause-step
 returns-in-Malformed-clause-step c =

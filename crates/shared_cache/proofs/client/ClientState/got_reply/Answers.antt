@@ -1,12 +1,10 @@
-use Rattle.std.proofs.Common.{ap, sym, ◌∙◌}
+use Rattle.std.proofs.Common.{ap, sym, ◌∙◌, arith}
 use Rattle.std.proofs.lemmas.Bool.{not-true, not-false}
 use Rattle.shared_cache.specs.declared.log.Wire.TheVariants.{Main}
-use Rattle.shared_cache.specs.declared.log.ClientReply.TheVariants.{Noted, Refused}
-use Rattle.shared_cache.specs.declared.log.ClientRefusal.TheVariants.{LogFull, Unexpected}
-use Rattle.shared_cache.specs.declared.log.ClientRefusal.TheVariants.{SetupRefused}
+use Rattle.shared_cache.specs.declared.log.ClientReply.TheVariants.{Refused}
+use Rattle.shared_cache.specs.declared.log.ClientRefusal.TheVariants.{Unexpected, SetupRefused}
 use Rattle.shared_cache.specs.ClientFields.{Client}
 use Rattle.shared_cache.specs.declared.log.LogEntry.TheVariants as entry
-use Rattle.shared_cache.specs.Steps.{refusing}
 use Rattle.shared_cache.proofs.StepCases.{got_bad, got_full, got_ok, fault_unexpected, ran_out}
 use Rattle.shared_cache.proofs.StepCases.{fault_refused, fault_none}
 use Rattle.shared_cache.proofs.client.ClientState.got_reply.Goals as goal
@@ -29,28 +27,13 @@ returns-then-not-welcomes-clause-step c =
     (sym c.finish-then-not-welcomes.ensures)
 
 pub returns-then-is_log_full-clause-step : goal.returns-then-is_log_full-clause-step
-returns-then-is_log_full-clause-step c =
-    got_full _ _ c.args.value c.requires.open
-    (fault_none _ _ c.args.value c.requires.reply
-    (not-true _ (sym c.is_awaiting.ensures ∙ c.if-not-is_awaiting.false))
-    (sym c.welcomes.ensures ∙ c.if-not-welcomes.false))
-    (sym c.is_log_full.ensures ∙ c.if-is_log_full.true)
-    ∙ ap (λ n. refusing (LogFull n) c.args.self.now.past) (sym c.entries.ensures)
+returns-then-is_log_full-clause-step c = grind (arith, got_full, fault_none, not-true)
 
 pub settle-requires-clause-awaited : goal.settle-requires-clause-awaited
-settle-requires-clause-awaited c =
-    fault_none _ _ c.args.value c.requires.reply
-    (not-true _ (sym c.is_awaiting.ensures ∙ c.if-not-is_awaiting.false))
-    (sym c.welcomes.ensures ∙ c.if-not-welcomes.false)
+settle-requires-clause-awaited c = grind (arith, fault_none, not-true)
 
 pub returns-in-Ok-clause-step : goal.returns-in-Ok-clause-step
-returns-in-Ok-clause-step c =
-    got_ok _ _ c.args.value c.requires.open
-    (fault_none _ _ c.args.value c.requires.reply
-    (not-true _ (sym c.is_awaiting.ensures ∙ c.if-not-is_awaiting.false))
-    (sym c.welcomes.ensures ∙ c.if-not-welcomes.false))
-    (sym c.is_log_full.ensures ∙ c.if-is_log_full.false)
-    ∙ ap (λ (st : Client). record { reply = Noted; past = st.past }) (sym c.in-Ok.ensures.ok)
+returns-in-Ok-clause-step c = grind (arith, got_ok, fault_none, not-true)
 
 pub returns-in-Err-clause-step : goal.returns-in-Err-clause-step
 returns-in-Err-clause-step c =

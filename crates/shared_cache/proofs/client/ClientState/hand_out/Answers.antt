@@ -31,25 +31,10 @@ returns-else-self-clause-step c =
     (omega (arith, c.len.ensures)) false c.in-Waiting.ensures.0 c.if-self.false)
 
 pub overflow_sub-self : goal.overflow_sub-self
-overflow_sub-self c =
-    let k = c.self.invariant.reflects in
-    omega (
-      arith,
-      owed_gone c.self.inside.pending (c.args.number - 2 - 1) c.in-There.value
-          c.in-There.ensures.0,
-      k.owed_is,
-    )
+overflow_sub-self c = grind (arith, owed_gone)
 
 pub push_reserved-requires : goal.push_reserved-requires
-push_reserved-requires c =
-    let k = c.self.invariant.reflects in
-    omega (
-      arith,
-      owed_gone c.self.inside.pending (c.args.number - 2 - 1) c.in-There.value
-          c.in-There.ensures.0,
-      k.owed_is,
-      c.self.invariant.room,
-    )
+push_reserved-requires c = grind (arith, owed_gone)
 
 pub invariant_of-self-in-There : goal.invariant_of-self-in-There
 invariant_of-self-in-There c =

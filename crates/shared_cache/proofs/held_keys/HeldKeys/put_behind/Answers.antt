@@ -1,4 +1,4 @@
-use Rattle.std.proofs.Common.{[], arith}
+use Rattle.std.proofs.Common.{arith}
 use Rattle.shared_cache.proofs.KeyCode.{first_there, without_first}
 use Rattle.shared_cache.proofs.KeyReads.{more_of_key}
 use Rattle.shared_cache.proofs.held_keys.HeldKeys.put_behind.Goals as goal

@@ -1,4 +1,4 @@
-use Rattle.std.proofs.Common.{ap, sym, subst, ◌∙◌, ◌∷◌, [], map, None, Some}
+use Rattle.std.proofs.Common.{ap, sym, subst, ◌∙◌, ◌∷◌, [], map, None, Some, arith}
 use Rattle.shared_cache.specs.HeldKeys.{entries_of, others, with_pairs}
 use Rattle.shared_cache.proofs.PlainKeys.{plain}
 use Rattle.shared_cache.proofs.KeyCode.{entries_plain, put_others}
@@ -61,5 +61,4 @@ returns-in-Some-clause-of_key c =
     (sym c.in-Some.is ∙ c.in-Ok.ensures.old) c.self.invariant
 
 pub returns-in-Ok-clause-of_key : goal.returns-in-Ok-clause-of_key
-returns-in-Ok-clause-of_key c =
-    subst (AreOfKey c.args.key.items) (sym c.none-in-None.ensures) (none_of_key c.args.key.items)
+returns-in-Ok-clause-of_key c = grind (arith, none_of_key)

@@ -1,5 +1,4 @@
-use Rattle.std.proofs.Common.{◌≡◌, ◌<◌, length, get_or, set}
-use Rattle.std.proofs.Common.{rules, ap, sym, subst, ◌∙◌, arith}
+use Rattle.std.proofs.Common.{◌≡◌, ◌<◌, length, get_or, set, rules, ap, sym, subst, ◌∙◌, arith}
 use Rattle.std.specs.Prelude.{filter}
 use Rattle.std.proofs.lemmas.Fn.{filter_same}
 use Rattle.std.proofs.lemmas.List.Edits.{map_over_more}
@@ -12,8 +11,7 @@ use Rattle.track_table.proofs.table.TrackTable.forget_connection.Goals as goal
 use Rattle.track_table.proofs.table.TrackTable.forget_connection.Goals.{After-retain}
 
 pub loop-row-init : goal.loop-row-init
-loop-row-init c = c.deref_mut-row-items.ensures.value
-    ∙ ap (λ (t : TableState). t.rows) c.self.view_is
+loop-row-init c = grind arith
 
 pub loop-row-preserved : goal.loop-row-preserved
 loop-row-preserved c =

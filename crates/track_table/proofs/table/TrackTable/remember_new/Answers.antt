@@ -1,6 +1,5 @@
-use Rattle.std.proofs.Common.{◌≡◌, ◌++◌, ◌∷◌, [], ap, sym, subst, ◌∙◌}
-use Rattle.track_table.specs.Table.{TableState, all_released, released}
-use Rattle.track_table.specs.Order.{IsTable}
+use Rattle.std.proofs.Common.{◌≡◌, ◌++◌, ◌∷◌, [], ap, ◌∙◌, arith}
+use Rattle.track_table.specs.Table.{all_released, released}
 use Rattle.track_table.proofs.Releases.{last_released, released_remembered, remembered_held}
 use Rattle.track_table.proofs.table.TrackTable.remember_new.Goals as goal
 use Rattle.track_table.proofs.table.TrackTable.remember_new.Goals.{After-push}
@@ -8,18 +7,10 @@ use Rattle.track_table.proofs.table.TrackTable.remember_new.Goals.{After-push}
 -- what is new is released again
 undone : (c : After-push)
     → released c.args.id c.args.key.now c.remember.new.self.rows ≡ c.args.self.now.rows
-undone c =
-    let rows = c.args.self.now.rows in
-    let table = subst (λ (t : TableState). IsTable t.rows) c.self.view_is c.self.invariant in
-    ap (released c.args.id c.args.key.now) c.in_ok-remember.ensures.ok
-    ∙ released_remembered c.args.id c.args.key.now rows table.held
-    (sym c.holds.ensures ∙ c.if-holds.false)
+undone c = grind (arith, released_remembered)
 
 pub returns-then-holds-clause-ok : goal.returns-then-holds-clause-ok
-returns-then-holds-clause-ok c =
-    let table = subst (λ (t : TableState). IsTable t.rows) c.self.view_is c.self.invariant in
-    sym (remembered_held c.args.id c.args.key.now c.args.self.now.rows table.ordered
-    (sym c.holds.ensures ∙ c.if-holds.true))
+returns-then-holds-clause-ok c = grind (arith, remembered_held)
 
 pub returns-in-Ok-clause-back : goal.returns-in-Ok-clause-back
 returns-in-Ok-clause-back c =

@@ -1,12 +1,10 @@
-use Rattle.std.proofs.Common.{rules}
 use Rattle.turn_lock.proofs.Turns.{none_turned, all_turned}
 use Rattle.turn_lock.proofs.lock.TurnLock.play_all.Goals.{in-Ok-next_tickets, in-Err}
 use Rattle.turn_lock.proofs.lock.TurnLock.play_all.Goals as goal
+use Rattle.std.proofs.Common.{arith}
 
 pub returns-then-is_empty-clause-all : goal.returns-then-is_empty-clause-all
-returns-then-is_empty-clause-all g c =
-    none_turned g.S.Logged.step c.args.calls.items c.in-Ok.replies.items c.args.seat.now _
-    (search rules) (search rules) c.seat.view_is
+returns-then-is_empty-clause-all g c = grind (arith, none_turned)
 
 pub returns-clause-all : goal.returns-clause-all
 returns-clause-all g c = elim c.match-next_tickets.branch [

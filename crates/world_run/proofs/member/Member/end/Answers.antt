@@ -1,10 +1,6 @@
-use Rattle.std.proofs.Common.{◌≡◌, append-nil, length, ap, subst, sym, ◌∙◌}
+use Rattle.std.proofs.Common.{append-nil, sym, arith}
 use Rattle.shared_cache.specs.declared.log.Wire.TheVariants.{Main}
 use Rattle.shared_cache.specs.declared.log.ClientCall.TheVariants as call
-use Rattle.shared_cache.specs.ClientFields.{IsServed}
-use Rattle.shared_cache.specs.Held.{Setup}
-use Rattle.shared_cache.specs.Laws.{gots}
-use Rattle.shared_cache.specs.Steps.{ClientTurn}
 use Rattle.world_run.specs.Members.{seat}
 use Rattle.world_run.specs.WorldState.{MemberState}
 use Rattle.world_run.proofs.Answering.{end_fault, ends_always, gots_kept, seen, step_like}
@@ -16,14 +12,7 @@ unreachable-requires c =
     ends_always c.self.inside.state.setup c.self.inside.state.past c.in-Err.ensures.room
 
 pub invariant_of-self : goal.invariant_of-self
-invariant_of-self c =
-    let i = c.self.inside in (
-      subst (λ (x : Setup). IsServed x.mode) (sym c.turn.ensures.setup) c.self.invariant.0,
-      c.self.invariant.1
-          ∙ ap length
-          (sym (ap (λ (t : ClientTurn). gots Main t.past) (sym c.in-Ok.ensures.step)
-          ∙ gots_kept i.state.setup i.state.past (call.End Main) tt)),
-    )
+invariant_of-self c = grind (arith, gots_kept)
 
 pub returns : goal.returns
 returns c =

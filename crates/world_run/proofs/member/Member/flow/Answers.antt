@@ -6,13 +6,11 @@ use Rattle.server_links.proofs.Outcomes.{after_stops, gives_then, stops_first}
 use Rattle.world_run.specs.ClientMoves.{flow, out, receive}
 use Rattle.world_run.specs.Members.{links_do, seat}
 use Rattle.world_run.proofs.member.Member.flow.Goals as goal
+use Rattle.std.proofs.Common.{arith}
 
 pub returns-in_err-out-clause-gives : goal.returns-in_err-out-clause-gives
 unfolding flow
-returns-in_err-out-clause-gives c =
-    let s = seat c.args.links.now c.args.self.now in
-    let p = err_from_is_err_and c.from_residual.result c.from_residual.ensures.1 in
-    rw p.1 (rw p.2 (stops_first (out None s) _ c.args.lines.now _ _ _ c.in_err-out.ensures.gives))
+returns-in_err-out-clause-gives c = grind (arith, err_from_is_err_and, stops_first)
 
 pub returns-in_err-over-clause-gives : goal.returns-in_err-over-clause-gives
 unfolding flow

@@ -1,14 +1,12 @@
-use Rattle.std.proofs.Common.{◌≡◌, ◌++◌, cond, refl, ap, subst, sym, ◌∙◌}
+use Rattle.std.proofs.Common.{◌≡◌, ◌++◌, refl, ap, subst, ◌∙◌, arith}
 use Rattle.std.proofs.lemmas.Result.{err_from_is_err_and}
 use Rattle.shared_cache.specs.declared.log.ClientCall.TheVariants as call
 use Rattle.shared_cache.specs.declared.log.Wire.TheVariants.{Main}
-use Rattle.shared_cache.specs.Log.{is_ended}
 use Rattle.server_links.specs.declared.fault.WorldFault.TheVariants.{NoMemory}
-use Rattle.server_links.specs.Outcome.{Stops, stays}
+use Rattle.server_links.specs.Outcome.{Stops}
 use Rattle.server_links.proofs.Outcomes.{Ends}
 use Rattle.world_run.specs.ClientMoves.{got, turn}
 use Rattle.world_run.specs.Members.{seat}
-use Rattle.world_run.specs.WorldState.{MemberState}
 use Rattle.world_run.proofs.Answering.{turn_after, turn_ends}
 use Rattle.world_run.proofs.Printing.{got_before}
 use Rattle.world_run.proofs.member.Member.got.Goals as goal
@@ -17,11 +15,7 @@ use Rattle.world_run.proofs.member.Member.got.Goals.{After-take}
 -- its link has not ended
 going : (c : After-take) → let s = seat c.args.links.now c.args.self.now in
     turn (call.Got Main c.args.value) s ≡ got c.args.value s
-going c =
-    let s = seat c.args.links.now c.args.self.now in
-    sym (ap (λ b. cond b (stays s) (turn (call.Got Main c.args.value) s))
-    (ap (λ (m : MemberState). is_ended m.state.setup.mode Main m.state.past) (sym c.self.view_is)
-    ∙ sym c.has_ended.ensures ∙ c.if-has_ended.false))
+going c = grind arith
 
 pub returns-in_err-line : goal.returns-in_err-line
 returns-in_err-line c =

@@ -1,12 +1,10 @@
-use Rattle.std.proofs.Common.{◌≡◌, ◌<◌, List, IfOk, length, ap, subst, sym, ◌∙◌}
+use Rattle.std.proofs.Common.{◌≡◌, ◌<◌, List, length, ap, subst, sym, ◌∙◌, arith}
 use Rattle.std.proofs.lemmas.Result.{err_from_is_err_and}
 use Rattle.resp_stream.specs.Stream.{Stream}
-use Rattle.resp_stream.specs.Parse.{parse_values}
 use Rattle.resp_stream.proofs.Values.{value_gives_at}
 use Rattle.resp_value.specs.ValueTree.{tree_of}
 use Rattle.script_text.specs.declared.line.Line.{Line}
 use Rattle.server_links.specs.LinksState.{LinksState}
-use Rattle.server_links.specs.Moves.{stopped_at}
 use Rattle.server_links.specs.Outcome.{Gives}
 use Rattle.server_links.proofs.Items.{Reads, ends_bad, ends_more, read_all, reads_none, reads_short}
 use Rattle.world_run.specs.Members.{Seat, seat}
@@ -21,12 +19,10 @@ use Rattle.world_run.proofs.member.Member.got_all.Goals.{in-Some, in-None}
 inside : (ls : LinksState) (old now v : MemberState) (lines0 lines : List Line) → v ≡ now
     → Reads values (seat ls old) (seat ls now) lines0 lines
     → Reads values (seat ls old) (seat ls v) lines0 lines
-inside ls old now v lines0 lines is h =
-    subst (λ x. Reads values (seat ls old) (seat ls x) lines0 lines) (sym is) h
+inside ls old now v lines0 lines is h = grind (arith, values)
 
 pub values-init : goal.values-init
-values-init c =
-    reads_none values values_run (seat c.args.links.now c.args.self.now) c.args.lines.now
+values-init c = grind (arith, reads_none, values, values_run)
 
 pub values-smaller : goal.values-smaller
 values-smaller c =
@@ -69,9 +65,7 @@ returns-in-Ok-None-clause-gives c =
 
 pub returns-in-Ok-None-clause-fault : goal.returns-in-Ok-None-clause-fault
 returns-in-Ok-None-clause-fault c =
-    let g = value_gives_at _ _ _ _ c.in-Ok-None.ensures.gives c.in-Ok-None.field-0-is in
-    let h = inside _ _ _ _ _ _ c.self.view_is c.values.invariant in
-    (ends_more values values_run _ _ _ _ h c.next_value.new.self g.0 g.1).1
+    grind (arith, value_gives_at, inside, ends_more, values, values_run)
 
 pub returns-in-Err-clause-gives : goal.returns-in-Err-clause-gives
 returns-in-Err-clause-gives c =
@@ -94,15 +88,4 @@ returns-in-Err-clause-gives c =
     ]
 
 pub returns-in-Err-clause-fault : goal.returns-in-Err-clause-fault
-returns-in-Err-clause-fault c =
-    let h = inside _ _ _ _ _ _ c.self.view_is c.values.invariant in
-    elim c.match-place.branch [
-      | in-Some w ↦
-          subst (λ r. IfOk r (λ f. f ≡ stopped_at (parse_values c.args.self.now.reader).fault))
-          (sym w.result-is)
-          (ends_bad values values_run _ _ _ _ h c.next_value.new.self c.in-Err.fault
-          w.in-Some.place c.in-Err.ensures.gives (sym w.in-Some.is ∙ c.place.ensures)).1
-      | in-None w ↦
-          subst (λ r. IfOk r (λ f. f ≡ stopped_at (parse_values c.args.self.now.reader).fault))
-          (sym w.result-is) tt
-    ]
+returns-in-Err-clause-fault c = grind (arith, inside, ends_bad, values, values_run)

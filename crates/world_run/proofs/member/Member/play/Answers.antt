@@ -1,10 +1,8 @@
-use Rattle.std.proofs.Common.{◌≡◌, length, ap, subst, sym, ◌∙◌}
+use Rattle.std.proofs.Common.{◌≡◌, length, ap, subst, sym, ◌∙◌, arith}
 use Rattle.std.proofs.lemmas.Result.{err_from_is_err_and}
 use Rattle.shared_cache.specs.declared.log.Wire.TheVariants.{Main}
 use Rattle.shared_cache.specs.ClientFields.{Client, IsServed}
-use Rattle.shared_cache.specs.Held.{Setup}
 use Rattle.shared_cache.specs.Laws.{gots}
-use Rattle.shared_cache.specs.Steps.{ClientTurn}
 use Rattle.server_links.specs.declared.fault.WorldFault.TheVariants.{NoMemory}
 use Rattle.server_links.specs.Outcome.{Stops}
 use Rattle.world_run.specs.ClientMoves.{turn}
@@ -28,14 +26,7 @@ returns-in_err-reply c =
 
 kept : (c : In_ok-reply) → IsServed c.turn.new.state.setup.mode
     × (c.self.inside.got ≡ length (gots Main c.turn.new.state.past))
-kept c =
-    let i = c.self.inside in (
-      subst (λ (x : Setup). IsServed x.mode) (sym c.turn.ensures.setup) c.self.invariant.0,
-      c.self.invariant.1
-          ∙ ap length
-          (sym (ap (λ (t : ClientTurn). gots Main t.past) (sym c.in_ok-reply.ensures.step)
-          ∙ gots_kept i.state.setup i.state.past c.args.call c.requires.no_value)),
-    )
+kept c = grind (arith, gots_kept)
 
 pub invariant_of-self-in-Some : goal.invariant_of-self-in-Some
 invariant_of-self-in-Some c = kept (goal.at.invariant_of-self-in-Some c).In_ok-reply

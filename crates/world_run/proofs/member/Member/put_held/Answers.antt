@@ -1,8 +1,5 @@
-use Rattle.std.proofs.Common.{[], arith}
-use Rattle.std.proofs.Common.{append_assoc}
-use Rattle.shared_cache.specs.Held.{held_in_place}
+use Rattle.std.proofs.Common.{arith, append_assoc}
 use Rattle.shared_cache.proofs.Order.{held_in_order}
-use Rattle.world_run.specs.ClientMoves.{listed_line}
 use Rattle.world_run.proofs.Printing.{all_listed, held_within, one_listed}
 use Rattle.world_run.proofs.member.Member.put_held.Goals as goal
 

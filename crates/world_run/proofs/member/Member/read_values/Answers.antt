@@ -1,4 +1,4 @@
-use Rattle.std.proofs.Common.{subst}
+use Rattle.std.proofs.Common.{subst, arith}
 use Rattle.std.proofs.lemmas.Result.{err_from_is_err_and}
 use Rattle.server_links.specs.Outcome.{Gives}
 use Rattle.server_links.proofs.Outcomes.{gives_then, stops_first}
@@ -10,10 +10,7 @@ use Rattle.world_run.proofs.member.Member.read_values.Goals as goal
 
 pub returns-in_err-fault : goal.returns-in_err-fault
 unfolding read_values
-returns-in_err-fault c =
-    let p = err_from_is_err_and c.from_residual.result c.from_residual.ensures.1 in
-    rw p.1 (rw p.2 (stops_first (read_all values (seat c.args.links.now c.args.self.now)) _
-    c.args.lines.now _ _ _ c.in_err-fault.ensures.gives))
+returns-in_err-fault c = grind (arith, err_from_is_err_and, stops_first, read_all, values)
 
 pub returns : goal.returns
 unfolding read_values

@@ -1,9 +1,9 @@
-use Rattle.std.proofs.Common.{◌≡◌, ℕ, Option, None, false, cond, length, ap, subst, sym, ◌∙◌}
+use Rattle.std.proofs.Common.{◌≡◌, ℕ, Option, None, false, length, ap, subst, sym, ◌∙◌, arith}
 use Rattle.std.proofs.lemmas.Result.{err_from_is_err_and}
 use Rattle.shared_cache.specs.declared.log.Wire.TheVariants.{Main}
 use Rattle.shared_cache.specs.Log.{is_ended}
 use Rattle.server_links.specs.LinksState.{at_place}
-use Rattle.server_links.specs.Outcome.{Gives, Stops, and_then, stays}
+use Rattle.server_links.specs.Outcome.{Gives, Stops, and_then}
 use Rattle.server_links.proofs.Outcomes.{gives_then, stops_first}
 use Rattle.world_run.specs.ClientMoves.{has_ended, receive, receive_bytes, receive_eof}
 use Rattle.world_run.specs.Members.{Seat, link_of, seat}
@@ -13,10 +13,7 @@ use Rattle.world_run.proofs.member.Member.receive.Goals as goal
 opened : (count : Option ℕ) (s : Seat) (n : ℕ) → count ≡ None → has_ended s ≡ false
     → n ≡ length (link_of s).down.bytes
     → and_then (receive_bytes n s) receive_eof ≡ receive count s
-opened count s n none on is =
-    ap (λ k. and_then (receive_bytes k s) receive_eof) is
-    ∙ sym (ap (λ x. receive x s) none ∙ ap (λ b. cond b (stays s)
-    (and_then (receive_bytes (length (link_of s).down.bytes) s) receive_eof)) on)
+opened count s n none on is = grind arith
 
 pub returns-in_err-receive_bytes-in-None-2-clause-gives :
     goal.returns-in_err-receive_bytes-in-None-2-clause-gives

@@ -1,10 +1,9 @@
-use Rattle.std.proofs.Common.{◌≡◌, Some, take, append-nil, refl, ap, subst, sym, ◌∙◌}
+use Rattle.std.proofs.Common.{◌≡◌, Some, take, append-nil, refl, ap, subst, sym, ◌∙◌, arith}
 use Rattle.std.proofs.lemmas.Result.{err_from_is_err_and}
 use Rattle.resp_stream.specs.Stream.{Stream, fed}
 use Rattle.server_links.specs.declared.fault.WorldFault.TheVariants.{NoMemory}
 use Rattle.server_links.specs.declared.link.LinkMove.TheVariants as moves
 use Rattle.server_links.specs.LinkEvent.{Over}
-use Rattle.server_links.specs.LinksState.{at_place}
 use Rattle.server_links.specs.Outcome.{Stops}
 use Rattle.server_links.proofs.Outcomes.{after_stops, gives_then, stops_first, stops_here}
 use Rattle.world_run.specs.ClientMoves.{feed, hang_up, read_values, receive_bytes}
@@ -16,13 +15,7 @@ use Rattle.world_run.proofs.member.Member.receive_bytes.Goals.{In_ok-feed}
 
 pub returns-in_err-over-clause-gives : goal.returns-in_err-over-clause-gives
 unfolding receive_bytes
-returns-in_err-over-clause-gives c =
-    let s = seat c.args.links.now c.args.self.now in
-    let recv = Over s.member.link (moves.Recv (Some c.args.count)) in
-    let p = err_from_is_err_and c.from_residual.result
-    c.from_residual.ensures.1 in
-    rw p.1 (rw p.2 (stops_first (links_do recv s) _ c.args.lines.now _ _ _
-    c.in_err-over.ensures.gives))
+returns-in_err-over-clause-gives c = grind (arith, err_from_is_err_and, stops_first)
 
 -- the memory for the copy ran out before the reader was fed
 pub returns-in_err-piece-clause-gives : goal.returns-in_err-piece-clause-gives
@@ -73,24 +66,7 @@ fed_seat c = seat c.over.new.links (record {
 is_fed : (c : In_ok-feed) → fed_seat c
     ≡ with_reader (seat c.over.new.links c.args.self.now) (fed c.args.self.now.reader
     (take c.args.count (link_of (seat c.args.links.now c.args.self.now)).down.bytes))
-is_fed c =
-    let n = c.args.count in
-    let now = c.args.self.now in
-    let view = c.self.view_is in
-    let read : c.feed.new.self
-    ≡ fed now.reader (take n (at_place c.args.links.now.links now.place).down.bytes) =
-    c.in_ok-feed.ensures.ok
-    ∙ ap (fed c.self.inside.reader) (c.as_slice.ensures ∙ c.in_ok-piece.ensures
-    ∙ ap (take n) c.in_flight.ensures)
-    ∙ ap (λ (m : MemberState). fed m.reader
-    (take n (at_place c.args.links.now.links m.place).down.bytes)) view in
-    λ k. seat c.over.new.links (record {
-      name = (view k).name;
-      link = (view k).link;
-      place = (view k).place;
-      state = (view k).state;
-      reader = read k;
-    })
+is_fed c = grind arith
 
 pub returns-in_err-read_values-clause-gives : goal.returns-in_err-read_values-clause-gives
 unfolding receive_bytes

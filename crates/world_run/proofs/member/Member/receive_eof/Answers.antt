@@ -1,4 +1,4 @@
-use Rattle.std.proofs.Common.{◌≡◌, true, false, cond, append-nil, refl, ap, subst, sym, ◌∙◌}
+use Rattle.std.proofs.Common.{◌≡◌, true, false, cond, append-nil, refl, ap, subst, sym, ◌∙◌, arith}
 use Rattle.std.proofs.lemmas.Result.{err_from_is_err_and}
 use Rattle.shared_cache.specs.declared.log.ClientCall.TheVariants as call
 use Rattle.shared_cache.specs.declared.log.Wire.TheVariants.{Main}
@@ -16,12 +16,7 @@ use Rattle.std.specs.declared.option.Option.TheVariants.{None}
 
 pub returns-in_err-over-clause-gives : goal.returns-in_err-over-clause-gives
 unfolding receive_eof
-returns-in_err-over-clause-gives c =
-    let s = seat c.args.links.now c.args.self.now in
-    let p = err_from_is_err_and c.from_residual.result c.from_residual.ensures.1 in
-    rw p.1 (rw p.2
-    (stops_first (links_do (Over c.args.self.now.link (moves.Recv None)) s) _ c.args.lines.now _ _ _
-    c.in_err-over.ensures.gives))
+returns-in_err-over-clause-gives c = grind (arith, err_from_is_err_and, stops_first)
 
 pub returns-then-ends-clause-gives : goal.returns-then-ends-clause-gives
 unfolding receive_eof

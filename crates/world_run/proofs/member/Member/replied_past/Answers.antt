@@ -1,4 +1,4 @@
-use Rattle.std.proofs.Common.{◌-◌, arith}
+use Rattle.std.proofs.Common.{arith}
 use Rattle.world_run.proofs.Replied.{has_words, named_here, named_to, named_within, not_named}
 use Rattle.world_run.proofs.Replied.{without}
 use Rattle.world_run.proofs.member.Member.replied_past.Goals as goal

@@ -1,4 +1,4 @@
-use Rattle.std.proofs.Common.{◌++◌, Ok, refl, ap, subst, ◌∙◌}
+use Rattle.std.proofs.Common.{◌++◌, Ok, refl, ap, subst, ◌∙◌, arith}
 use Rattle.std.proofs.lemmas.Result.{err_from_is_err_and}
 use Rattle.shared_cache.specs.declared.log.ClientCall.TheVariants as call
 use Rattle.world_run.specs.Members.{seat}
@@ -8,10 +8,7 @@ use Rattle.world_run.proofs.Printing.{sent_before}
 use Rattle.world_run.proofs.member.Member.send.Goals as goal
 
 pub returns-in_err-sent : goal.returns-in_err-sent
-returns-in_err-sent c =
-    let s = seat c.args.links.now c.args.self.now in
-    let p = err_from_is_err_and c.from_residual.result c.from_residual.ensures.1 in
-    rw p.1 (rw p.2 (turn_before s (call.Send c.args.words.now) c.args.lines.now))
+returns-in_err-sent c = grind (arith, err_from_is_err_and, turn_before)
 
 pub returns-in_err-line : goal.returns-in_err-line
 returns-in_err-line c =

@@ -1,4 +1,4 @@
-use Rattle.std.proofs.Common.{◌≡◌, ◌≤◌, [], ◌∷◌, ◌++◌, length, arith, ap, subst, sym, ◌∙◌}
+use Rattle.std.proofs.Common.{◌≡◌, [], ◌∷◌, ◌++◌, length, arith, ap, subst, sym, ◌∙◌}
 use Rattle.std.proofs.lemmas.Result.{err_from_is_err_and}
 use Rattle.shared_cache.specs.Held.{held}
 use Rattle.script_text.specs.declared.line.Line.TheVariants as line
@@ -31,16 +31,10 @@ held_shown c =
     (show_stops s (length (held m.state.setup m.state.past)) c.args.lines.now (omega arith))
 
 pub returns-in_err-complete : goal.returns-in_err-complete
-returns-in_err-complete c =
-    let p = err_from_is_err_and c.from_residual-in_err-complete.result
-    c.from_residual-in_err-complete.ensures.1 in
-    rw p.1 (rw p.2 (held_shown (goal.at.returns-in_err-complete c).In_ok-put_held))
+returns-in_err-complete c = grind (arith, err_from_is_err_and, held_shown)
 
 pub returns-in_err-copy : goal.returns-in_err-copy
-returns-in_err-copy c =
-    let p = err_from_is_err_and c.from_residual-in_err-copy.result
-    c.from_residual-in_err-copy.ensures.1 in
-    rw p.1 (rw p.2 (held_shown (goal.at.returns-in_err-copy c).In_ok-put_held))
+returns-in_err-copy c = grind (arith, err_from_is_err_and, held_shown)
 
 pub returns-in_err-push : goal.returns-in_err-push
 returns-in_err-push c =

@@ -1,12 +1,11 @@
-use Rattle.std.proofs.Common.{◌≡◌, List, [], ◌∷◌, ◌++◌, cond, refl, ap, subst, sym, ◌∙◌}
+use Rattle.std.proofs.Common.{◌≡◌, List, [], ◌∷◌, ◌++◌, refl, ap, subst, sym, ◌∙◌, arith}
 use Rattle.std.proofs.lemmas.Result.{err_from_is_err_and}
 use Rattle.shared_cache.specs.declared.log.ClientCall.TheVariants as call
 use Rattle.shared_cache.specs.declared.log.Wire.TheVariants.{Main}
-use Rattle.shared_cache.specs.Log.{is_ended}
 use Rattle.script_text.specs.declared.line.Line.{Line}
 use Rattle.script_text.specs.declared.line.Line.TheVariants as line
 use Rattle.server_links.specs.declared.fault.WorldFault.TheVariants.{NoMemory}
-use Rattle.server_links.specs.Outcome.{Outcome, Stops, and_then, does, stays}
+use Rattle.server_links.specs.Outcome.{Outcome, Stops, and_then, does}
 use Rattle.server_links.proofs.Outcomes.{Ends, after_ends, stops_first, stops_here}
 use Rattle.world_run.specs.ClientMoves.{stop, turn}
 use Rattle.world_run.specs.Members.{Seat, seat}
@@ -22,12 +21,7 @@ bad c =
 
 stopping : (c : After-copy) → and_then (bad c) (turn (call.End Main))
     ≡ stop c.args.fault (seat c.args.links.now c.args.self.now)
-stopping c =
-    let s = seat c.args.links.now c.args.self.now in
-    let on = ap (λ (m : MemberState). is_ended m.state.setup.mode Main m.state.past)
-    (sym c.self.view_is) ∙ sym c.has_ended.ensures ∙ c.if-has_ended.false in
-    sym (ap (λ x. stop x s) c.in-Some.is
-    ∙ ap (λ b. cond b (stays s) (and_then (bad c) (turn (call.End Main)))) on)
+stopping c = grind arith
 
 -- memory ran out before the line
 before : (c : After-copy) (lines : List Line) → lines ≡ c.args.lines.now
@@ -42,17 +36,10 @@ before c lines same =
     (stops_here (bad c) s all refl)))
 
 pub returns-in_err-copy : goal.returns-in_err-copy
-returns-in_err-copy c =
-    let p = err_from_is_err_and c.from_residual.result c.from_residual.ensures.1 in
-    rw p.1 (rw p.2
-    (before (goal.at.returns-in_err-copy c).After-copy c.args.lines.now refl))
+returns-in_err-copy c = grind (arith, err_from_is_err_and, before)
 
 pub returns-in_err-push : goal.returns-in_err-push
-returns-in_err-push c =
-    let p = err_from_is_err_and c.from_residual-in_err-push.result
-    c.from_residual-in_err-push.ensures.1 in
-    rw p.1 (rw p.2
-    (before (goal.at.returns-in_err-push c).After-copy c.push.new.self c.in_err-push.ensures.err))
+returns-in_err-push c = grind (arith, err_from_is_err_and, before)
 
 pub returns : goal.returns
 returns c =

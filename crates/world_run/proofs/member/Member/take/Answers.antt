@@ -1,4 +1,4 @@
-use Rattle.std.proofs.Common.{◌≡◌, ◌+◌, arith, length, ap, subst, sym, ◌∙◌}
+use Rattle.std.proofs.Common.{◌≡◌, arith, length, ap, subst, sym, ◌∙◌}
 use Rattle.std.proofs.lemmas.List.{length-reverse}
 use Rattle.std.proofs.lemmas.Result.{err_from_is_err_and}
 use Rattle.shared_cache.specs.declared.log.ClientCall.TheVariants as call
@@ -7,7 +7,6 @@ use Rattle.shared_cache.specs.declared.log.ClientReply.TheVariants.{Noted, Refus
 use Rattle.shared_cache.specs.declared.log.Wire.TheVariants.{Main}
 use Rattle.shared_cache.specs.ClientFields.{Client, IsServed}
 use Rattle.shared_cache.specs.Held.{Setup}
-use Rattle.shared_cache.specs.Laws.{gots}
 use Rattle.shared_cache.specs.Steps.{client_step}
 use Rattle.server_links.specs.declared.fault.WorldFault.TheVariants.{NoMemory}
 use Rattle.server_links.specs.Outcome.{Stops}

@@ -1,4 +1,4 @@
-use Rattle.std.proofs.Common.{◌≡◌, append-nil, ap, subst, sym, ◌∙◌}
+use Rattle.std.proofs.Common.{append-nil, ap, subst, sym, ◌∙◌, arith}
 use Rattle.std.proofs.lemmas.Result.{err_from_is_err_and}
 use Rattle.shared_cache.specs.declared.log.ClientCall.TheVariants as call
 use Rattle.shared_cache.specs.declared.log.Wire.TheVariants.{Main}
@@ -13,12 +13,7 @@ use Rattle.world_run.proofs.member.Member.take_out.Goals as goal
 
 pub returns-in_err-reply-clause-gives : goal.returns-in_err-reply-clause-gives
 unfolding take_out
-returns-in_err-reply-clause-gives c =
-    let s = seat c.args.links.now c.args.self.now in
-    let p = err_from_is_err_and c.from_residual.result c.from_residual.ensures.1 in
-    rw p.1 (rw p.2
-    (stops_first (turn (call.TakeOut Main c.args.most) s) _ c.args.lines.now _ _ _
-    (c.in_err-reply.ensures c.args.links.now c.args.lines.now)))
+returns-in_err-reply-clause-gives c = grind (arith, err_from_is_err_and, stops_first)
 
 pub returns-clause-gives : goal.returns-clause-gives
 unfolding take_out

@@ -1,11 +1,9 @@
-use Rattle.std.proofs.Common.{true, false}
 use Rattle.std.proofs.Common.{refl, sym, ap, ◌∙◌}
 use Rattle.std.specs.Option.{is_some}
 use Rattle.script_text.specs.declared.event.Event.TheVariants as event
 use Rattle.server_links.specs.LinkEvent.{Put}
 use Rattle.world_run.specs.Members.{world}
-use Rattle.world_run.specs.World.{StepGives}
-use Rattle.world_run.specs.World.{said_step, step}
+use Rattle.world_run.specs.World.{StepGives, said_step, step}
 use Rattle.world_run.specs.WorldState.{client_of_link}
 use Rattle.world_run.proofs.WorldCode as code
 use Rattle.world_run.proofs.world.World.bytes.Goals as goal

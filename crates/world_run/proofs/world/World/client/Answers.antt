@@ -1,4 +1,4 @@
-use Rattle.std.proofs.Common.{◌++◌, [], ◌∷◌, Ok, Err, refl, sym, ap, subst, ◌∙◌}
+use Rattle.std.proofs.Common.{◌++◌, [], ◌∷◌, Ok, Err, refl, sym, ap, subst, ◌∙◌, arith}
 use Rattle.std.proofs.lemmas.Result.{err_from_is_err_and}
 use Rattle.script_text.specs.declared.event.Event.TheVariants as event
 use Rattle.world_run.specs.Members.{world}
@@ -79,10 +79,7 @@ made c =
     c.reserve.ensures.items) (rw (← c.link.ensures) c.in_ok-raw.ensures)
 
 pub returns-in_err-raw : goal.returns-in_err-raw
-returns-in_err-raw c =
-    let p = err_from_is_err_and c.from_residual-in_err-raw.result
-    c.from_residual-in_err-raw.ensures.1 in
-    rw p.1 (rw p.2 (stopped (goal.at.returns-in_err-raw c).In_err-raw))
+returns-in_err-raw c = grind (arith, err_from_is_err_and, stopped)
 
 pub returns : goal.returns
 returns c = made (goal.at.returns c).After-push_reserved

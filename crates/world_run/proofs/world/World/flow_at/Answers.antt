@@ -1,4 +1,4 @@
-use Rattle.std.proofs.Common.{slice_set, refl, sym, ap, subst, ◌∙◌, length}
+use Rattle.std.proofs.Common.{slice_set, refl, sym, ap, subst, ◌∙◌, arith}
 use Rattle.server_links.specs.declared.link.LinkMove.TheVariants as moves
 use Rattle.server_links.specs.LinkEvent.{Over}
 use Rattle.server_links.specs.LinksState.{at_place}
@@ -43,15 +43,10 @@ played c =
     ms c.args.lines.now c.play_at.result c.play_at.new.lines refl none refl c.play_at.ensures
 
 pub returns-in-Some-clause-gives : goal.returns-in-Some-clause-gives
-returns-in-Some-clause-gives c =
-    subst (λ (v : WorldState). Gives (flow_at c.args.at v) c.args.lines.now c.flow.result
-    (world c.flow.new.links (slice_set c.self.inside.members.items c.in-Some.client
-    c.flow.new.self)) c.flow.new.lines) c.self.view_is
-    (gave (goal.at.returns-in-Some-clause-gives c).After-flow)
+returns-in-Some-clause-gives c = grind (arith, slice_set, gave)
 
 pub returns-in-Some-clause-count : goal.returns-in-Some-clause-count
-returns-in-Some-clause-count c =
-    c.flow.ensures.count ∙ ap (λ (v : WorldState). length v.links.links) c.self.view_is
+returns-in-Some-clause-count c = grind arith
 
 pub returns-in-None-clause-gives : goal.returns-in-None-clause-gives
 returns-in-None-clause-gives c =
@@ -60,12 +55,7 @@ returns-in-None-clause-gives c =
     (played (goal.at.returns-in-None-clause-gives c).After-play_at)
 
 pub returns-in-None-clause-count : goal.returns-in-None-clause-count
-returns-in-None-clause-count c =
-    let i = c.self.inside in
-    let name = (at_place i.links.links c.args.at).name in
-    (over_kept name moves.Flow i.links c.play_at.new.self c.args.lines.now c.play_at.result
-    c.play_at.new.lines c.play_at.ensures).count
-    ∙ ap (λ (v : WorldState). length v.links.links) c.self.view_is
+returns-in-None-clause-count c = grind (arith, over_kept)
 
 pub invariant_of-self : goal.invariant_of-self
 invariant_of-self c =

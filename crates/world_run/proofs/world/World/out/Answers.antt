@@ -1,5 +1,5 @@
 use Rattle.std.proofs.Common.{◌≡◌, ℕ, List, Option, Some, None, append-nil, slice_set, refl, sym}
-use Rattle.std.proofs.Common.{ap, subst, ◌∙◌}
+use Rattle.std.proofs.Common.{ap, subst, ◌∙◌, arith}
 use Rattle.std.specs.Prelude.{not}
 use Rattle.script_text.specs.declared.line.Line.{Line}
 use Rattle.server_links.specs.declared.fault.WorldFault.TheVariants.{NoName, NothingThere}
@@ -9,7 +9,7 @@ use Rattle.server_links.proofs.Outcomes.{Ends}
 use Rattle.script_text.specs.declared.event.Event.TheVariants as event
 use Rattle.world_run.specs.ClientMoves as client
 use Rattle.world_run.specs.Members.{world}
-use Rattle.world_run.specs.World.{StepGives, out_step, raw_out, step}
+use Rattle.world_run.specs.World.{StepGives, out_step, step}
 use Rattle.world_run.specs.WorldState.{WorldState, client_of_link}
 use Rattle.world_run.proofs.WorldCode as code
 use Rattle.world_run.proofs.world.World.out.Goals as goal
@@ -37,25 +37,16 @@ module _ (w : WorldState) (name : List ℕ) (lines : List Line)
   nowhere : (count : Option ℕ) → place_of name w.links ≡ None
       → Stops (step w (event.Out name count)) lines NoName w lines
   unfolding step
-  nowhere count none =
-      subst (λ c. Stops (out_step c name count w) lines NoName w lines) (sym free)
-      (subst (λ p. Stops (raw_out p count w) lines NoName w lines) (sym none)
-      (refl, refl, sym (append-nil lines)))
+  nowhere count none = grind (arith, append-nil)
 
   module _ (at : ℕ) (there : place_of name w.links ≡ Some at) where
     nothing : Ends (step w (event.Out name None)) lines w lines
     unfolding step
-    nothing =
-        subst (λ c. Ends (out_step c name None w) lines w lines) (sym free)
-        (subst (λ p. Ends (raw_out p None w) lines w lines) (sym there)
-        (refl, refl, sym (append-nil lines)))
+    nothing = grind (arith, append-nil)
 
     too_many : (n : ℕ) → Stops (step w (event.Out name (Some n))) lines NothingThere w lines
     unfolding step
-    too_many n =
-        subst (λ c. Stops (out_step c name (Some n) w) lines NothingThere w lines) (sym free)
-        (subst (λ p. Stops (raw_out p (Some n) w) lines NothingThere w lines) (sym there)
-        (refl, refl, sym (append-nil lines)))
+    too_many n = grind (arith, append-nil)
 
 pub returns-in-None : goal.returns-in-None
 returns-in-None c =

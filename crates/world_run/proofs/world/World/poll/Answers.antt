@@ -1,4 +1,4 @@
-use Rattle.std.proofs.Common.{slice_set, sym, ◌∙◌}
+use Rattle.std.proofs.Common.{slice_set, sym, ◌∙◌, arith}
 use Rattle.shared_cache.specs.declared.log.ClientCall.TheVariants as call
 use Rattle.script_text.specs.declared.event.Event.TheVariants as event
 use Rattle.world_run.specs.Members.{world}
@@ -10,9 +10,7 @@ use Rattle.world_run.proofs.world.World.poll.Goals.{After-poll}
 
 pub returns-in_default : goal.returns-in_default
 unfolding step
-returns-in_default c =
-    named_none c.args.name.now (turn (call.Poll c.args.number)) c.args.self.now c.args.lines.now
-    (sym c.client_named.ensures ∙ c.in_default.is)
+returns-in_default c = grind (arith, named_none)
 
 gave : (c : After-poll) → StepGives c.args.self.now (event.Poll c.args.name.now c.args.number)
     c.args.lines.now c.poll.result (world c.self.inside.links

@@ -1,12 +1,10 @@
-use Rattle.std.proofs.Common.{true, false, cond}
-use Rattle.std.proofs.Common.{sym, ap, subst, ◌∙◌}
+use Rattle.std.proofs.Common.{cond, sym, ap, subst, ◌∙◌}
 use Rattle.script_text.specs.declared.event.Event.TheVariants as event
 use Rattle.server_links.specs.declared.fault.WorldFault.TheVariants as taken
 use Rattle.server_links.specs.LinkEvent.{Raw}
 use Rattle.server_links.specs.Outcome.{Gives, refuses}
 use Rattle.world_run.specs.Members.{world}
-use Rattle.world_run.specs.World.{StepGives, is_taken, links_step}
-use Rattle.world_run.specs.World.{raw_step, step}
+use Rattle.world_run.specs.World.{StepGives, is_taken, links_step, raw_step, step}
 use Rattle.world_run.specs.WorldState.{WorldState}
 use Rattle.world_run.proofs.WorldCode as code
 use Rattle.world_run.proofs.world.World.raw.Goals as goal

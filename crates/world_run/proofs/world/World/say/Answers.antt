@@ -1,5 +1,4 @@
-use Rattle.std.proofs.Common.{◌≡◌, ◌++◌, true, false, not}
-use Rattle.std.proofs.Common.{refl, sym, ap, subst, ◌∙◌}
+use Rattle.std.proofs.Common.{◌≡◌, ◌++◌, not, refl, sym, ap, subst, ◌∙◌}
 use Rattle.std.specs.Option.{is_some}
 use Rattle.std.proofs.lemmas.Result.{err_from_is_err_and}
 use Rattle.resp_value.specs.Spelling.{request_spelling}
@@ -10,8 +9,7 @@ use Rattle.server_links.specs.LinkSteps.{place_of}
 use Rattle.server_links.specs.LinkSteps as links
 use Rattle.server_links.specs.Outcome.{Gives}
 use Rattle.world_run.specs.Members.{world}
-use Rattle.world_run.specs.World.{StepGives}
-use Rattle.world_run.specs.World.{said_step, step}
+use Rattle.world_run.specs.World.{StepGives, said_step, step}
 use Rattle.world_run.specs.WorldState.{WorldState, client_of_link}
 use Rattle.world_run.proofs.WorldCode as code
 use Rattle.world_run.proofs.world.World.say.Goals as goal

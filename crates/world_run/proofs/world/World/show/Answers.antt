@@ -1,4 +1,4 @@
-use Rattle.std.proofs.Common.{sym, ap, subst, ◌∙◌}
+use Rattle.std.proofs.Common.{sym, ap, subst, ◌∙◌, arith}
 use Rattle.script_text.specs.declared.event.Event.TheVariants as event
 use Rattle.world_run.specs.WorldState.{WorldState, client_named}
 use Rattle.world_run.specs.ClientMoves.{show}
@@ -8,9 +8,7 @@ use Rattle.world_run.proofs.world.World.show.Goals as goal
 
 pub returns-in_default : goal.returns-in_default
 unfolding step
-returns-in_default c =
-    named_none c.args.name.now show c.args.self.now c.args.lines.now
-    (sym c.client_named.ensures ∙ c.in_default.is)
+returns-in_default c = grind (arith, named_none)
 
 pub returns : goal.returns
 unfolding step

@@ -1,4 +1,4 @@
-use Rattle.std.proofs.Common.{Ok, subst, sym}
+use Rattle.std.proofs.Common.{Ok, subst, sym, arith}
 use Rattle.script_text.specs.declared.event.Event.{Event}
 use Rattle.script_text.specs.declared.event.Event.TheVariants.{Now, Tick}
 use Rattle.server_links.specs.LinkEvent as link_event
@@ -10,21 +10,15 @@ use Rattle.world_run.proofs.world.World.step.Goals as goal
 
 pub returns-in-Serve : goal.returns-in-Serve
 unfolding step
-returns-in-Serve c =
-    subst (λ (e : Event). StepGives c.args.self.now e c.args.lines.now c.play.result
-    c.play.new.self c.play.new.lines) (sym c.in-Serve.is) c.play.ensures
+returns-in-Serve c = grind arith
 
 pub returns-in-Send : goal.returns-in-Send
 unfolding step
-returns-in-Send c =
-    subst (λ (e : Event). StepGives c.args.self.now e c.args.lines.now c.play-in-Send.result
-    c.play-in-Send.new.self c.play-in-Send.new.lines) (sym c.in-Send.is) c.play-in-Send.ensures
+returns-in-Send c = grind arith
 
 pub returns-in-Cut : goal.returns-in-Cut
 unfolding step
-returns-in-Cut c =
-    subst (λ (e : Event). StepGives c.args.self.now e c.args.lines.now c.play-in-Cut.result
-    c.play-in-Cut.new.self c.play-in-Cut.new.lines) (sym c.in-Cut.is) c.play-in-Cut.ensures
+returns-in-Cut c = grind arith
 
 pub invariant_of-self : goal.invariant_of-self
 unfolding step
@@ -58,12 +52,4 @@ invariant_of-self-in-Tick c =
 
 pub returns-in-Tick : goal.returns-in-Tick
 unfolding step
-returns-in-Tick c =
-    let i = c.self-in-Tick.inside in
-    let v = world c.tick.new.self i.members.items in
-    subst (λ (e : Event). StepGives c.args.self.now e c.args.lines.now c.tick.result v
-    c.tick.new.lines) (sym c.in-Tick.is)
-    (subst (λ (w : WorldState). StepGives w Tick c.args.lines.now c.tick.result v
-    c.tick.new.lines) c.self-in-Tick.view_is
-    (links_give link_event.Tick i.links c.tick.new.self i.members.items c.args.lines.now
-    c.tick.result c.tick.new.lines c.tick.ensures))
+returns-in-Tick c = grind (arith, links_give)
