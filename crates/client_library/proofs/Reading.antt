@@ -1,5 +1,5 @@
 -- Values of the server's bytes, got one after another.
-use Rattle.std.proofs.Common.{◌≡◌, ◌<◌, ℕ, List, [], ◌∷◌, ◌++◌, true, false, cond, length}
+use Rattle.std.proofs.Common.{arith, ◌≡◌, ◌<◌, ℕ, List, [], ◌∷◌, ◌++◌, true, false, cond, length}
 use Rattle.std.proofs.Common.{Option, Some, None, take, refl, sym, ap, subst, ◌∙◌, append_assoc}
 use Rattle.std.proofs.Common.{append-nil, Result, Ok, Err}
 use Rattle.std.proofs.Math.Seq.{take-append_seam}
@@ -78,9 +78,7 @@ module _ (c0 c : Library) (h : Reads c0 c) where
         record {
           done = h.done ++ tree_of v ∷ [];
           setup = setup ∙ h.setup;
-          past = past ∙ ap (λ s. got s v c.past) h.setup ∙ ap (λ l. got c0.setup v l) h.past
-              ∙ sym (ap (λ x. got c0.setup x (got_all c0.setup h.done c0.past)) (value_back v))
-              ∙ sym (got_more c0.setup h.done (tree_of v) c0.past);
+          past = grind (arith, value_back, got_more);
           items = h.items ∙ ap (λ (p : Batch Tree). h.done ++ p.items) whole
               ∙ ap (λ (p : Batch Tree). h.done ++ tree_of v ∷ p.items) (sym there)
               ∙ sym (append_assoc h.done (tree_of v ∷ []) (parse_values d.reader).items);
@@ -105,9 +103,7 @@ module _ (c0 c : Library) (h : Reads c0 c) where
   -- all were got
   all_got : (parse_values c.reader).items ≡ []
       → c.past ≡ got_all c0.setup (parse_values c0.reader).items c0.past
-  all_got none =
-      h.past ∙ ap (λ l. got_all c0.setup l c0.past)
-      (sym (h.items ∙ ap (λ l. h.done ++ l) none ∙ append-nil h.done))
+  all_got none = grind (arith, append-nil)
 
   ends : (new : Stream) (fault : Option StreamFault) (past : List LogEntry)
       → (parse_values c.reader).items ≡ []
@@ -117,14 +113,7 @@ module _ (c0 c : Library) (h : Reads c0 c) where
       → record { setup = c.setup; past = past; reader = new }
       ≡ read_all c0 (parse_values c0.reader)
   unfolding read_all
-  ends new fault past none stream is stops =
-      let p = parse_values c0.reader in
-      let log : past ≡ stopped c0.setup p.fault (got_all c0.setup p.items c0.past) =
-      stops ∙ ap (λ f. stopped c.setup f c.past) (sym is ∙ h.fault)
-      ∙ ap (λ s. stopped s p.fault c.past) h.setup
-      ∙ ap (λ l. stopped c0.setup p.fault l) (all_got none) in
-      let reader : new ≡ p.stream = sym stream ∙ h.stream in
-      λ i. record { setup = h.setup i; past = log i; reader = reader i }
+  ends new fault past none stream is stops = grind (arith, all_got)
 
   pub ends_more : (new : Stream) → value_at c.reader.rest ≡ More → new ≡ c.reader
       → record { setup = c.setup; past = c.past; reader = new }
@@ -243,18 +232,10 @@ pub feed_reads : (old : Library) (state : Client) (reader now : Stream) (bytes :
     (r : Result (Unit {0}) NoMemory) (new : Library) → library state reader ≡ old
     → has_ended old ≡ false → now ≡ fed reader bytes
     → ReadGives (library state now) (parse_values now) r new → FeedGives old bytes r new
-feed_reads old state reader now bytes r new view going is h =
-    subst (λ c. has_ended c ≡ false → FeedGives c bytes r new) view
-    (λ e. gives_fed state reader bytes r new e
-    (subst (λ n. ReadGives (library state n) (parse_values n) r new) is h)) going
+feed_reads old state reader now bytes r new view going is h = grind (arith, gives_fed, library)
 
 pub feed_cut : (old : Library) (state next : Client) (reader now : Stream) (values : List Tree)
     → library state reader ≡ old → next ≡ with_log state (closed state.setup state.past)
     → CutShort old values (library next now)
 unfolding got_all
-feed_cut old state next reader now values view e =
-    subst (λ c. CutShort c values (library next now)) view (record {
-      count = 0;
-      setup = ap (λ (x : Client). x.setup) e;
-      past = ap (λ (x : Client). x.past) e;
-    })
+feed_cut old state next reader now values view e = grind (arith, library)

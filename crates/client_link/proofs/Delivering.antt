@@ -1,5 +1,5 @@
 -- What is queued is taken out and written, TakeOut after TakeOut.
-use Rattle.std.proofs.Common.{◌≡◌, ◌≤◌, ℕ, List, [], ◌∷◌, ◌++◌, length, take, true, refl, sym, ap}
+use Rattle.std.proofs.Common.{◌≡◌, ℕ, List, [], ◌∷◌, ◌++◌, take, true, refl, sym, ap}
 use Rattle.std.proofs.Common.{subst, ◌∙◌, append-nil, append_assoc, inl, inr, Some, None, arith}
 use Rattle.std.specs.Prelude.{Option}
 use Rattle.std.specs.List.{All}
@@ -16,7 +16,7 @@ use Rattle.shared_cache.specs.declared.log.ClientCall.TheVariants as call
 use Rattle.shared_cache.specs.declared.log.ClientRefusal.{ClientRefusal}
 use Rattle.shared_cache.specs.declared.log.ClientRefusal.TheVariants as refusal
 use Rattle.shared_cache.specs.Log.{is_ended}
-use Rattle.shared_cache.specs.Out.{out, taken, untaken}
+use Rattle.shared_cache.specs.Out.{untaken}
 use Rattle.shared_cache.specs.Steps.{is_log_full}
 use Rattle.shared_client.specs.Turns.{Place, Turn, setup_in, setup_at, most, TakesOut, Refuses}
 use Rattle.client_link.specs.declared.pump_end.PumpEnd.TheVariants as ended
@@ -103,8 +103,7 @@ module _ (link0 link1 : Option (List ℕ)) (old new : Place) (d : Delivering lin
           work = d.work;
           got_none = d.got_none;
           wrote = d.wrote;
-          all_taken = subst (λ s. length (out s Main (past_of last)) ≤ taken s Main (past_of last))
-              setup_same there;
+          all_taken = grind (arith, setup_same);
         }
 
     stop_is : (r : ClientRefusal) (last : Place) → Refuses (call.TakeOut Main most) r new last

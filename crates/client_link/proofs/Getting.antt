@@ -9,7 +9,7 @@ use Rattle.resp_value.specs.ValueTree.{tree_of}
 use Rattle.resp_value.specs.declared.value.Value.{Value}
 use Rattle.resp_stream.specs.declared.fault.StreamFault.{StreamFault}
 use Rattle.resp_stream.specs.declared.fault.FaultPlace.{FaultPlace}
-use Rattle.resp_stream.specs.Parsed.{Whole, More}
+use Rattle.resp_stream.specs.Parsed.{Whole}
 use Rattle.resp_stream.specs.Parse.{Batch, parse_values}
 use Rattle.resp_stream.specs.Readers.{IsFaultOf, FaultGives, ValueGives}
 use Rattle.resp_stream.specs.Stream.{Stream, moved_on, fault_place}
@@ -21,18 +21,16 @@ use Rattle.shared_cache.specs.declared.log.Wire.{Wire}
 use Rattle.shared_cache.specs.declared.log.Wire.TheVariants.{Main}
 use Rattle.shared_cache.specs.declared.log.LogEntry.TheVariants as entry
 use Rattle.shared_cache.specs.declared.log.ClientCall.TheVariants as call
-use Rattle.shared_cache.specs.declared.log.ClientReply.TheVariants as reply
 use Rattle.shared_cache.specs.declared.log.ClientRefusal.{ClientRefusal}
 use Rattle.shared_cache.specs.declared.log.ClientRefusal.TheVariants as refusal
 use Rattle.shared_cache.specs.Log.{is_ended}
-use Rattle.shared_cache.specs.Steps.{client_step, is_log_full}
+use Rattle.shared_cache.specs.Steps.{is_log_full}
 use Rattle.shared_client.specs.Turns.{Place, Turn, setup_in, setup_at, Gets, GetsNot, EndsBy}
 use Rattle.shared_client.specs.Turns.{Refuses}
 use Rattle.client_link.specs.declared.pump_end.PumpEnd.{PumpEnd}
 use Rattle.client_link.specs.declared.pump_end.PumpEnd.TheVariants as ended
-use Rattle.client_link.specs.Pumps.{IsWork, IsStop, end_by, gots_in, gave, GetsAll, GetsPart}
-use Rattle.client_link.specs.Pumps.{GettingStops}
-use Rattle.resp_stream.proofs.Values.{values_whole, values_more, values_bad}
+use Rattle.client_link.specs.Pumps.{IsWork, IsStop, end_by, gots_in, gave, GetsPart, GettingStops}
+use Rattle.resp_stream.proofs.Values.{values_whole, values_bad}
 use Rattle.client_link.proofs.Steps.{got_down, got_full}
 
 -- what was got so far, and what is left of the stream
@@ -60,19 +58,11 @@ module _ (before now : Stream) (old new : Place) (r : Getting before now old new
           (parse_values s).stream;
       fault = (parse_values s).fault;
     }
-    whole = values_whole now (tree_of value) s.rest is
-        ∙ ap (λ q. record {
-          items = tree_of value ∷ (parse_values q).items;
-          stream =
-              (parse_values q).stream;
-          fault = (parse_values q).fault;
-        }) (sym moved)
+    whole = grind (arith, values_whole)
 
     items_then : (parse_values before).items
         ≡ (gots_in r.turns ++ tree_of value ∷ []) ++ (parse_values s).items
-    items_then = r.items
-        ∙ ap (λ (p : Batch Tree). gots_in r.turns ++ p.items) whole
-        ∙ sym (append_assoc (gots_in r.turns) (tree_of value ∷ []) (parse_values s).items)
+    items_then = grind (arith, whole, append_assoc)
 
     -- the value was got
     pub getting_more : (last : Place) → Gets value new last → Getting before s old last
@@ -100,14 +90,7 @@ module _ (before now : Stream) (old new : Place) (r : Getting before now old new
           work = r.work;
           gave_none = r.gave_none;
           gots = ((parse_values s).items, sym items_then);
-          stops = record {
-            value = value;
-            past = g.past;
-            turns_are = refl;
-            step = subst (λ u. client_step u g.past (call.Got Main value)
-                ≡ record { reply = reply.Refused c; past = entry.Bad Main value ∷ g.past })
-                setup_same g.step;
-          };
+          stops = grind (arith, setup_same);
         }
 
     -- the value was not taken
@@ -151,10 +134,6 @@ module _ (before now : Stream) (old new : Place) (r : Getting before now old new
     getting_stops (refusal.SetupRefused w) last h = ends (refusal.SetupRefused w) last h
     getting_stops c last h = absurd h.0
 
-  -- nothing whole is left
-  pub gets_all : (s : Stream) → value_at now.rest ≡ More → s ≡ now → GetsAll before s old new
-  gets_all s more is = grind (arith, values_more, append-nil)
-
   faulty : (f : StreamFault) → IsFaultOf value_at now f
       → GetsPart (ended.BadStream f) before old new
   faulty f bad = grind (arith, values_bad, append-nil)
@@ -165,15 +144,12 @@ module _ (before now : Stream) (old new : Place) (r : Getting before now old new
       → GetsPart (ended.BadStream f) before old new
   gets_bad s f place g at = grind (arith, faulty)
 
-  pub gets_part : GetsPart ended.NoMemory before old new
-  gets_part = grind arith
-
 pub getting_less : (now new : Stream) (value : Value)
     → value_at now.rest ≡ Whole (tree_of value) new.rest → length new.rest < length now.rest
 getting_less now new value is = takes_values.some now (tree_of value) new.rest is
 
 pub part_none : (before : Stream) (k : Place) → IsWithin k → GetsPart ended.NoMemory before k k
-part_none before k is = gets_part before before k k (getting_none before k is)
+part_none before k is = grind (arith, getting_none)
 
 pub gives_at : (old new : Stream) (r s : Option Value) → ValueGives old new (Ok r) → r ≡ s
     → ValueGives old new (Ok s)

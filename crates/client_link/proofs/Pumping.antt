@@ -9,13 +9,11 @@ use Rattle.std.proofs.lemmas.List.Elements.{All-append, All-head}
 use Rattle.turn_lock.specs.History.{IsPrefix as IsBefore}
 use Rattle.resp_value.specs.Lists.{IsPrefix}
 use Rattle.resp_stream.specs.Parse.{parse_values, values_of}
-use Rattle.resp_stream.specs.Stream.{Stream, begun, fed}
-use Rattle.edge_links.specs.declared.counts.Counts.{Counts}
-use Rattle.edge_links.proofs.Bytes.{appends_none, appends_more, appends_as, appends_kept}
-use Rattle.edge_links.proofs.Bytes.{consumes_none, consumes_more, consumes_kept}
-use Rattle.seat_turns.specs.Own.{past_of, IsWithin, Grows}
-use Rattle.seat_turns.proofs.Growing.{grows_none, grows_then, grows_past, grows_stands}
-use Rattle.seat_turns.proofs.Growing.{order_append}
+use Rattle.resp_stream.specs.Stream.{Stream, fed}
+use Rattle.edge_links.proofs.Bytes.{appends_more, appends_as, appends_kept}
+use Rattle.edge_links.proofs.Bytes.{consumes_more, consumes_kept}
+use Rattle.seat_turns.specs.Own.{past_of, Grows}
+use Rattle.seat_turns.proofs.Growing.{grows_then, grows_past, grows_stands, order_append}
 use Rattle.shared_cache.specs.declared.log.Wire.TheVariants.{Main}
 use Rattle.shared_cache.specs.declared.log.LogEntry.TheVariants as entry
 use Rattle.shared_cache.specs.declared.log.ClientRefusal.{ClientRefusal}
@@ -24,12 +22,12 @@ use Rattle.shared_cache.specs.Out.{out, taken}
 use Rattle.shared_client.specs.Turns.{Place, Turn, setup_in, setup_at, Ends, WornOut}
 use Rattle.client_link.specs.declared.pump_end.PumpEnd.{PumpEnd}
 use Rattle.client_link.specs.declared.pump_end.PumpEnd.TheVariants as ended
-use Rattle.client_link.specs.Pumps.{IsWork, got_in, gots_in, gave, EndsByValue, EndCounts, IsStop}
+use Rattle.client_link.specs.Pumps.{IsWork, got_in, gots_in, gave, EndsByValue, IsStop}
 use Rattle.client_link.specs.Pumps.{Delivers, DeliversPart, GetsAll, GetsPart, GettingStops, Hears}
 use Rattle.client_link.specs.Pumps.{Idle, Piece, HearsPart, Nothing, Part, IsOfLink, IsWhole}
 use Rattle.client_link.specs.Pumps.{FaultIs, Work, Stops, Runs, IsEnd, IsOver, Finishes, Pumps}
 use Rattle.client_link.specs.Pumps.{is_known, Closes, Kept, Ended, NoTicket}
-use Rattle.resp_stream.proofs.Onward.{GoesOn, goes_further, no_values, values_begun, values_join}
+use Rattle.resp_stream.proofs.Onward.{GoesOn, goes_further, values_join}
 use Rattle.client_link.proofs.Steps.{out_begins, taken_begins, full_begins, ended_begins, end_over}
 use Rattle.client_link.proofs.Turning.{taken_more, all_taken}
 
@@ -44,11 +42,6 @@ pub record Pumping (r : Stream) (left0 left1 link0 link1 : Option (List ℕ)) (o
   pub reading : GoesOn parse_values heard r
   pub gots : gots_in turns ≡ values_of heard
   pub wrote : Appends link0 link1 (gave (setup_at old) turns)
-
-pub pumping_none : (r : Stream) (left link : Option (List ℕ)) (k : Place) → r ≡ begun
-    → IsWithin k → Pumping r left left link link k k
-pumping_none r left link k new is =
-    grind (arith, grows_none, consumes_none, values_begun, no_values, appends_none)
 
 -- all that is queued was taken out
 abbrev pub Drained : Place → Place → Type 0
@@ -87,10 +80,6 @@ module _ (r : Stream) (left0 left1 link0 link1 : Option (List ℕ)) (old new : P
     pub drained : Delivers link1 link2 new last → Drained old last
     drained d = grind (arith, setup_same)
 
-    no_fault_met : (cause : PumpEnd) → (cause ≡ ended.LinkFault) ⊎ IsStop cause last
-        → FaultIs cause p.heard
-    no_fault_met cause e = grind arith
-
     no_end : (cause : PumpEnd) → (cause ≡ ended.LinkFault) ⊎ IsStop cause last
         → cause ≡ ended.PeerEnd → ⊥
     no_end cause e is = grind arith
@@ -113,17 +102,11 @@ module _ (r : Stream) (left0 left1 link0 link1 : Option (List ℕ)) (old new : P
             heard = p.heard;
             read = consumes_kept left0 left1 left2 p.heard p.read kept;
             bytes = gave (setup_at old) p.turns ++ d.bytes;
-            wrote = appends_more link0 link1 link2 (gave (setup_at old) p.turns) d.bytes p.wrote
-                d.wrote;
+            wrote = grind (arith, appends_more);
             gots = ([], append-nil (gots_in all) ∙ gots);
-            front = (
-              d.front.0,
-              append_assoc (gave (setup_at old) p.turns) d.bytes d.front.0
-                  ∙ ap (λ z. gave (setup_at old) p.turns ++ z) d.front.1
-                  ∙ sym (more_gave d.turns d.got_none),
-            );
+            front = grind (arith, append_assoc, more_gave);
             all_got = λ w. gots;
-            fault_is = no_fault_met cause d.cause_is;
+            fault_is = grind arith;
             all_wrote = λ is. absurd (no_end cause d.cause_is is);
             got_taken = λ is. absurd (no_end cause d.cause_is is);
             start_taken = λ is. absurd (no_end cause d.cause_is is);
@@ -158,14 +141,9 @@ module _ (r : Stream) (left0 left1 link0 link1 : Option (List ℕ)) (old new : P
           (appends_kept link0 link1 link2 _ p.wrote kept);
     }
 
-    idle_read : Consumes left1 left2 [] → Pumping r left0 left2 link0 link2 old new
-    idle_read took = grind (arith, same_read, appends_kept)
-
     pub hears_on : (after : Stream) (last : Place) → Hears r after left1 left2 new last
         → Pumping after left0 left2 link0 link2 old last
-    hears_on after last (Idle same still took) =
-        subst (λ k. Pumping after left0 left2 link0 link2 old k) (sym still)
-        (subst (λ x. Pumping x left0 left2 link0 link2 old new) (sym same) (idle_read took))
+    hears_on after last (Idle same still took) = grind (arith, same_read, appends_kept)
     hears_on after last (Piece piece took g) = piece_read piece after last took g
 
     -- the link gave no bytes
@@ -304,26 +282,15 @@ module _ (cause : PumpEnd) (left0 left1 link0 link1 : Option (List ℕ)) (old ne
     own_gots : IsPrefix (gots_in w.turns) (values_of w.heard)
     own_gots = subst (λ z. IsPrefix (gots_in (z ++ w.turns)) (values_of w.heard)) alone w.gots
 
-    end_gots : IsEnd more → gots_in (more ++ w.turns) ≡ gots_in w.turns
-    end_gots e = grind (arith, append-nil)
-
-    still_taken : taken (setup_at old) Main (past_of new) ≤ taken (setup_at old) Main (past_of last)
-    still_taken = taken_begins (setup_at old) (past_of new) (past_of last)
-        (grows_past new last more g)
-
     -- an End was played, or found the link ended
     news_works : IsEnd more → Work cause more left0 left1 link0 link1 old last
-    news_works is = grind (arith, all_grows, end_gots, own_gots, taken_more, still_taken)
+    news_works is =
+        grind (arith, all_grows, own_gots, taken_more, append-nil, taken_begins, grows_past)
 
   -- no ticket was left for the End
   worn_works : ending ≡ [] → (last : Place) → Grows new last []
       → Work ended.Worn [] left0 left1 link0 link1 old last
   worn_works alone last g = grind (arith, all_grows, own_gots)
-
-  news_finishes : (c : PumpEnd) → is_known c ≡ false → Stops c (setup_at old) ending new
-      → (more : List Turn) (last : Place) → Grows new last more → IsEnd more → IsOver last
-      → Finishes c (setup_at old) more last
-  news_finishes c is st more last g e over = grind (arith, full_begins, grows_past)
 
 pub closes_pumps : (before after : PumpEnd) (left0 left1 link0 link1 : Option (List ℕ))
     (old new last : Place) → Runs before left0 left1 link0 link1 old new
@@ -341,19 +308,11 @@ closes_pumps before after left0 left1 link0 link1 old new last r (Ended news sam
     r.stops in
     subst (λ c. Pumps c left0 left1 link0 link1 old last) (sym same) (record {
       ending = more;
-      works = news_works before left0 left1 link0 link1 old new r.ending r.works alone more last g
-          is;
-      finishes = news_finishes before left0 left1 link0 link1 old new r.ending r.works before news
-          r.stops more last g is over;
+      works = grind (arith, news_works);
+      finishes = grind (arith, full_begins, grows_past);
     })
 closes_pumps before after left0 left1 link0 link1 old new last r (NoTicket news same g tickets) =
-    let alone = news_alone before left0 left1 link0 link1 old new r.ending r.works before news
-    r.stops in
-    subst (λ c. Pumps c left0 left1 link0 link1 old last) (sym same) (record {
-      ending = [];
-      works = worn_works before left0 left1 link0 link1 old new r.ending r.works alone last g;
-      finishes = (refl, tickets);
-    })
+    grind (arith, news_alone, worn_works)
 
 pub closes_kept : (e : PumpEnd) (k : Place) → is_known e ≡ true → Closes e e k k
 closes_kept e k is = Kept is refl refl
@@ -368,8 +327,3 @@ pub closes_worn : (e : PumpEnd) (k last : Place) → is_known e ≡ false → Wo
 closes_worn e k last is w = NoTicket is refl w.grows w.tickets
 
 pub ruleset closing = (closes_kept, closes_ended, closes_worn)
-
--- the counts of a pump's end, where its last turn kept the cause or found no ticket
-pub closes_counts : (before after : PumpEnd) (a b : Counts) (k last : Place)
-    → Closes before after k last → EndCounts before a b → EndCounts after a b
-closes_counts before after a b k last e h = grind arith

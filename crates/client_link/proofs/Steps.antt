@@ -17,40 +17,16 @@ use Rattle.shared_cache.specs.declared.log.ClientCall.TheVariants.{End}
 use Rattle.shared_cache.specs.declared.log.ClientReply.TheVariants.{Hit, Sent, Answer, Bytes, Quiet}
 use Rattle.shared_cache.specs.declared.log.ClientReply.TheVariants.{Noted, Refused}
 use Rattle.shared_cache.specs.declared.log.ClientRefusal.{ClientRefusal}
-use Rattle.shared_cache.specs.declared.log.ClientRefusal.TheVariants.{Down, LogFull, NotReady}
-use Rattle.shared_cache.specs.declared.log.ClientRefusal.TheVariants.{Control, NoNumber}
+use Rattle.shared_cache.specs.declared.log.ClientRefusal.TheVariants.{Down, LogFull}
 use Rattle.shared_cache.specs.declared.entry.CacheEntry.{CacheEntry}
 use Rattle.shared_cache.specs.Log.{is_ended, reply}
 use Rattle.shared_cache.specs.Held.{Setup, held, held_for, commands}
 use Rattle.shared_cache.specs.Out.{out, taken, untaken}
-use Rattle.shared_cache.specs.Steps.{ClientTurn, client_step, refusing, is_log_full, answer_ask}
-use Rattle.shared_cache.specs.Steps.{read_number, command_number, polling, taking_out, getting}
-use Rattle.shared_cache.specs.Steps.{fault_of}
+use Rattle.shared_cache.specs.Steps.{ClientTurn, client_step, refusing, is_log_full}
+use Rattle.shared_cache.specs.Steps.{read_number, command_number, getting}
 use Rattle.shared_cache.proofs.CommandLists.{commands_grow}
 
 module _ (log new : List LogEntry) where
-  -- ---- TakeOut
-
-  quiet_in : (n : ℕ) (over : Bool) (bytes : List ℕ) (full : Bool)
-      → cond over (refusing (Down Main) log) (taking_out Main n bytes full log)
-      ≡ record { reply = Quiet; past = new } → bytes ≡ []
-  quiet_in n over bytes full is = grind (arith, nat_tests)
-
-  given_in : (n : ℕ) (over : Bool) (bytes : List ℕ) (full : Bool) (given : List ℕ)
-      → cond over (refusing (Down Main) log) (taking_out Main n bytes full log)
-      ≡ record { reply = Bytes given; past = new } → given ≡ take n bytes
-  given_in n over bytes full given is = grind (arith, nat_tests)
-
-  take_down_in : (n : ℕ) (over : Bool) (bytes : List ℕ) (full : Bool) (w : Wire)
-      → cond over (refusing (Down Main) log) (taking_out Main n bytes full log)
-      ≡ record { reply = Refused (Down w); past = new } → over ≡ true
-  take_down_in n over bytes full w is = grind (arith, nat_tests)
-
-  take_full_in : (n : ℕ) (over : Bool) (bytes : List ℕ) (full : Bool) (k : ℕ)
-      → cond over (refusing (Down Main) log) (taking_out Main n bytes full log)
-      ≡ record { reply = Refused (LogFull k); past = new } → full ≡ true
-  take_full_in n over bytes full k is = grind (arith, nat_tests)
-
   -- ---- Got, where the log is as before
 
   got_down_in : (v : Value) (over : Bool) (o : Option ClientRefusal) (full : Bool) (w : Wire)
@@ -61,123 +37,80 @@ module _ (log new : List LogEntry) where
   got_down_in v false (Some r) full w same is =
       absurd (let e : entry.Bad Main v ∷ log ≡ log = ap (λ (t : ClientTurn). t.past) is ∙ same in
       omega (arith, ap length e))
-  got_down_in v false None true w same is =
-      absurd (let e : Refused (LogFull (length log)) ≡ Refused (Down w)
-      = ap (λ (t : ClientTurn). t.reply) is in let no : ⊥ = cc in no)
-  got_down_in v false None false w same is =
-      absurd (let e : Noted ≡ Refused (Down w) = ap (λ (t : ClientTurn). t.reply) is in
-      let no : ⊥ = cc in no)
+  got_down_in v false None true w same is = grind arith
+  got_down_in v false None false w same is = grind arith
 
   got_full_in : (v : Value) (over : Bool) (o : Option ClientRefusal) (full : Bool) (k : ℕ)
       → new ≡ log
       → cond over (refusing (Down Main) log) (getting o Main v full log)
       ≡ record { reply = Refused (LogFull k); past = new } → full ≡ true
-  got_full_in v true o full k same is =
-      absurd (let e : Refused (Down Main) ≡ Refused (LogFull k)
-      = ap (λ (t : ClientTurn). t.reply) is in let no : ⊥ = cc in no)
+  got_full_in v true o full k same is = grind arith
   got_full_in v false (Some r) full k same is =
       absurd (let e : entry.Bad Main v ∷ log ≡ log = ap (λ (t : ClientTurn). t.past) is ∙ same in
       omega (arith, ap length e))
   got_full_in v false None true k same is = refl
-  got_full_in v false None false k same is =
-      absurd (let e : Noted ≡ Refused (LogFull k) = ap (λ (t : ClientTurn). t.reply) is in
-      let no : ⊥ = cc in no)
-
-  -- ---- Ask
-
-  ask_hit_in : (over unready full : Bool) (o : Option CacheEntry) (n : ℕ) (q : List (List ℕ))
-      (v : Value) (k : ℕ)
-      → cond over (refusing (Down Main) log) (cond unready (refusing NotReady log)
-      (cond full (refusing (LogFull (length log)) log)
-      (record { reply = answer_ask o n; past = entry.Ask q ∷ log })))
-      ≡ record { reply = Hit v k; past = new }
-      → (h : CacheEntry) × (o ≡ Some h) × (v ≡ h.value) × (k ≡ h.number)
-  ask_hit_in over unready full o n q v k is = grind (arith, nat_tests)
-
-  ask_sent_in : (over unready full : Bool) (o : Option CacheEntry) (n : ℕ) (q : List (List ℕ))
-      (k : ℕ)
-      → cond over (refusing (Down Main) log) (cond unready (refusing NotReady log)
-      (cond full (refusing (LogFull (length log)) log)
-      (record { reply = answer_ask o n; past = entry.Ask q ∷ log })))
-      ≡ record { reply = Sent k; past = new } → (o ≡ None) × (k ≡ n)
-  ask_sent_in over unready full o n q k is = grind (arith, nat_tests)
-
-  -- ---- Send and Poll
-
-  send_sent_in : (over unready control full : Bool) (n : ℕ) (ws : List (List ℕ)) (k : ℕ)
-      → cond over (refusing (Down Main) log) (cond unready (refusing NotReady log)
-      (cond control (refusing Control log) (cond full (refusing (LogFull (length log)) log)
-      (record { reply = Sent n; past = entry.Send ws ∷ log }))))
-      ≡ record { reply = Sent k; past = new } → k ≡ n
-  send_sent_in over unready control full n ws k is = grind (arith, nat_tests)
-
-  poll_answer_in : (unwanted : Bool) (o : Option Value) (n : ℕ) (over : Bool) (v : Value)
-      → cond unwanted (refusing (NoNumber n) log) (polling o n over log)
-      ≡ record { reply = Answer v; past = new } → o ≡ Some v
-  poll_answer_in unwanted o n over v is = grind (arith, nat_tests)
+  got_full_in v false None false k same is = grind arith
 
 module _ (s : Setup) (log : List LogEntry) where
   pub quiet_none : (n : ℕ) (new : List LogEntry)
       → client_step s log (TakeOut Main n) ≡ record { reply = Quiet; past = new }
       → untaken s Main log ≡ []
   unfolding client_step
-  quiet_none n new is = grind (arith, quiet_in)
+  quiet_none n new is = grind (arith, nat_tests)
 
   pub bytes_given : (n : ℕ) (given : List ℕ) (new : List LogEntry)
       → client_step s log (TakeOut Main n) ≡ record { reply = Bytes given; past = new }
       → given ≡ take n (untaken s Main log)
   unfolding client_step
-  bytes_given n given new is = grind (arith, given_in)
+  bytes_given n given new is = grind (arith, nat_tests)
 
   pub take_down : (n : ℕ) (w : Wire) (new : List LogEntry)
       → client_step s log (TakeOut Main n) ≡ record { reply = Refused (Down w); past = new }
       → is_ended s.mode Main log ≡ true
   unfolding client_step
-  take_down n w new is = grind (arith, take_down_in)
+  take_down n w new is = grind (arith, nat_tests)
 
   pub take_full : (n k : ℕ) (new : List LogEntry)
       → client_step s log (TakeOut Main n) ≡ record { reply = Refused (LogFull k); past = new }
       → is_log_full s log ≡ true
   unfolding client_step
-  take_full n k new is = grind (arith, take_full_in)
+  take_full n k new is = grind (arith, nat_tests)
 
   pub got_down : (v : Value) (w : Wire)
       → client_step s log (Got Main v) ≡ record { reply = Refused (Down w); past = log }
       → is_ended s.mode Main log ≡ true
   unfolding client_step
-  got_down v w is = got_down_in log log v (is_ended s.mode Main log) (fault_of s log Main v)
-      (is_log_full s log) w refl is
+  got_down v w is = grind (arith, got_down_in)
 
   pub got_full : (v : Value) (k : ℕ)
       → client_step s log (Got Main v) ≡ record { reply = Refused (LogFull k); past = log }
       → is_log_full s log ≡ true
   unfolding client_step
-  got_full v k is = got_full_in log log v (is_ended s.mode Main log) (fault_of s log Main v)
-      (is_log_full s log) k refl is
+  got_full v k is = grind (arith, got_full_in)
 
   pub ask_hit : (q : List (List ℕ)) (v : Value) (k : ℕ) (new : List LogEntry)
       → client_step s log (Ask q) ≡ record { reply = Hit v k; past = new }
       → (h : CacheEntry) × (held_for q (held s log) ≡ Some h) × (v ≡ h.value) × (k ≡ h.number)
   unfolding client_step
-  ask_hit q v k new is = grind (arith, ask_hit_in, nat_tests)
+  ask_hit q v k new is = grind (arith, nat_tests)
 
   pub ask_sent : (q : List (List ℕ)) (k : ℕ) (new : List LogEntry)
       → client_step s log (Ask q) ≡ record { reply = Sent k; past = new }
       → (held_for q (held s log) ≡ None) × (k ≡ read_number s log q)
   unfolding client_step
-  ask_sent q k new is = grind (arith, ask_sent_in, nat_tests)
+  ask_sent q k new is = grind (arith, nat_tests)
 
   pub send_sent : (ws : List (List ℕ)) (k : ℕ) (new : List LogEntry)
       → client_step s log (Send ws) ≡ record { reply = Sent k; past = new }
       → k ≡ command_number s log ws
   unfolding client_step
-  send_sent ws k new is = grind (arith, send_sent_in, nat_tests)
+  send_sent ws k new is = grind (arith, nat_tests)
 
   pub poll_answer : (n : ℕ) (v : Value) (new : List LogEntry)
       → client_step s log (Poll n) ≡ record { reply = Answer v; past = new }
       → reply s.mode log n ≡ Some v
   unfolding client_step
-  poll_answer n v new is = grind (arith, poll_answer_in)
+  poll_answer n v new is = grind (arith, nat_tests)
 
   end_in : (over : Bool) → cond over log (entry.End Main ∷ log) ≡ log → over ≡ true
   end_in true is = refl

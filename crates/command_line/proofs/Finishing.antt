@@ -9,11 +9,10 @@ use Rattle.std.specs.Str.{bytes_eq}
 use Rattle.clap.specs.Kinds.{Kinds, or_else}
 use Rattle.clap.specs.Walk.{Held, Row, Rule, Walk, has_row, settled, finished, with_default, walk}
 use Rattle.clap.specs.Walk.{nothing_held, rows_after, first_of, reading_by, with_values}
-use Rattle.clap.specs.Simple.{App, built, filled_from, is_buildable, is_ready, is_ready_leaf}
-use Rattle.clap.specs.Simple.{is_simple, matches_of}
+use Rattle.clap.specs.Simple.{filled_from, is_simple, matches_of}
 use Rattle.clap.specs.Takes.{is_given}
-use Rattle.clap.specs.Faults.{settle_fault, walk_fault, default_fault, defaults_fault, check_fault}
-use Rattle.clap.specs.Faults.{level_fault, fault_of, is_free_app, is_simple_and_free}
+use Rattle.clap.specs.Faults.{default_fault, defaults_fault, check_fault}
+use Rattle.clap.specs.Faults.{level_fault, fault_of, is_simple_and_free}
 use Rattle.std.proofs.lemmas.List.{map-append}
 use Rattle.clap.specs.declared.parser.matches.ValueSource.TheVariants.{DefaultValue}
 use Rattle.clap.proofs.FaultLemmas.{leaf_fault}
@@ -44,18 +43,8 @@ abbrev pub rows_with : Written → List Word → List Row
 rows_with seen fs = rows_for seen ++ map flag_row fs
 
 default_passes : (rows : List Row) (k : Known) → default_fault rows (rule_for k) ≡ []
-default_passes rows (valued m r) = go (has_row m rows)
-  where
-    go : (b : Bool)
-        → cond (b || true) []
-        (Rattle.clap.specs.Faults.given_default_fault (rule_for (valued m r)) []) ≡ []
-    go b = grind arith
-default_passes rows (flag m) = go (has_row m rows)
-  where
-    go : (b : Bool)
-        → cond (b || false) []
-        (Rattle.clap.specs.Faults.given_default_fault (rule_for (flag m)) (codes "false" ∷ [])) ≡ []
-    go b = grind arith
+default_passes rows (valued m r) = grind (arith, rule_for)
+default_passes rows (flag m) = grind (arith, rule_for, codes)
 
 no_defaults : (ks : List Known) (rows : List Row) → defaults_fault rows (rules_for ks) ≡ []
 unfolding defaults_fault
@@ -75,15 +64,9 @@ flag_added m (o ∷ os) e =
     let parts : (bytes_eq o.id m ≡ false) × (has_row m os ≡ false) = or_parts _ _ e in
     rw (parts.0) (ap (λ (rs : List Row). o ∷ rs) (flag_added m os parts.1))
 
-wider : (a b c : Bool) → (a || c) ≡ true → (a || (b || c)) ≡ true
-wider a b c e = grind arith
-
 in_more : (name m : Word) (fs : List Word) (c : Bool) → (in_names name (fs ++ m ∷ []) || c) ≡ true
     → (in_names name fs || (bytes_eq m name || c)) ≡ true
-in_more name m [] c e = go (bytes_eq m name) e
-  where
-    go : (b : Bool) → ((b || false) || c) ≡ true → (b || c) ≡ true
-    go b h = grind arith
+in_more name m [] c e = grind arith
 in_more name m (f ∷ fs) c e = go (bytes_eq f name) e (in_more name m fs c)
   where
     go : (b : Bool) → ((b || in_names name (fs ++ m ∷ [])) || c) ≡ true
@@ -96,12 +79,9 @@ abbrev Ends : Word → List Known → Written → List Word → List Row → Typ
 Ends name ks seen fs rows = (gs : List Word) × (rows ≡ rows_with seen gs)
     × (in_names name gs ≡ true → (in_names name fs || flag_named name ks) ≡ true)
 
-or_none : (a : Bool) → a ≡ true → (a || false) ≡ true
-or_none a e = grind arith
-
 ends : (name : Word) (ks : List Known) (seen : Written) (fs : List Word)
     → Ends name ks seen fs (fold with_default (rows_with seen fs) (rules_for ks))
-ends name [] seen fs = (fs, refl, or_none (in_names name fs))
+ends name [] seen fs = (fs, refl, grind arith)
 ends name (valued m r ∷ ks) seen fs = go (has_row m (rows_with seen fs)) (ends name ks seen fs)
   where
     go : (b : Bool) → Ends name ks seen fs (fold with_default (rows_with seen fs) (rules_for ks))
@@ -119,7 +99,7 @@ ends name (flag m ∷ ks) seen fs =
         → Ends name (flag m ∷ ks) seen fs (fold with_default (cond b (rows_with seen fs)
         (with_values m (reading_by (rule_for (flag m))) DefaultValue (codes "false" ∷ [])
         (rows_with seen fs))) (rules_for ks))
-    go true there h next = grind (arith, wider)
+    go true there h next = grind arith
     go false first h next =
         let longer : with_values m (reading_by (rule_for (flag m))) DefaultValue
         (codes "false" ∷ []) (rows_with seen fs) ≡ rows_with seen (fs ++ m ∷ []) =
@@ -190,10 +170,7 @@ module _ (name : Word) (known : List Known) where
 
   level_is : (words : List Word)
       → level words ≡ or_else (part name known (idle_at nothing_held) words) (checks (last words))
-  level_is words =
-      joined (walk_fault (shape_for name known) [] (idle_at nothing_held) words)
-      (settle_fault (rules_for known) false (last words)) _ (checks (last words))
-      (no_defaults known (settled (rules_for known) (last words)).rows)
+  level_is words = grind (arith, joined, shape_for, idle_at, last, checks, no_defaults)
 
   last_rows : (wanted : Word) (h : Held) (seen : Written)
       → (settled (rules_for known) h).rows ≡ rows_for seen
@@ -201,12 +178,7 @@ module _ (name : Word) (known : List Known) where
       × (in_names wanted gs ≡ true → flag_named wanted known ≡ true)
   last_rows wanted h seen e =
       let all = ends wanted known seen [] in
-      let start : rows_for seen ≡ rows_with seen [] = sym (append-nil (rows_for seen)) in (
-        all.0,
-        ap (λ (rs : List Row). fold with_default rs (rules_for known)) (e ∙ start)
-            ∙ all.1,
-        all.2,
-      )
+      grind (arith, append-nil)
 
   checked : (h : Held) (seen : Written) → (settled (rules_for known) h).rows ≡ rows_for seen
       → checks h ≡ cond (not (has_required known seen)) (kind.MissingRequiredArgument ∷ []) []
@@ -247,9 +219,6 @@ module _ (name : Word) (known : List Known) where
   filled_is i [] = refl
   filled_is i (k ∷ ks) = ap (λ (rs : List Rule). rule_for k ∷ rs) (filled_is i ks)
 
-  pub built_is : built (app_for name known) ≡ record { top = shape_for name known; subs = [] }
-  built_is = grind (arith, shape_for, filled_is)
-
   all_simple : (ks : List Known) → list_all (λ a. a.is_simple) (map raw_rule ks) ≡ true
   all_simple [] = refl
   all_simple (k ∷ ks) = all_simple ks
@@ -268,29 +237,15 @@ module _ (name : Word) (known : List Known) where
   in_order n (k ∷ ks) = in_order n ks
 
   pub simple_is : is_simple (app_for name known) ≡ true
-  simple_is =
-      ap (λ (a : App). is_buildable (app_for name known) &&
-      (is_ready a.top && list_all is_ready_leaf a.subs)) built_is ∙ computed
-    where
-      computed : (is_buildable (app_for name known) &&
-          (is_ready (shape_for name known) && true)) ≡ true
-      computed = rw (
-        all_simple known,
-        all_built known,
-        in_order (Rattle.std.specs.Prelude.count_by (λ a. is_some a.index) (rules_for known))
-            known,
-      ) refl
+  simple_is = grind (arith, shape_for, all_simple, all_built, in_order, is_some, filled_is)
 
   pub free_is : is_simple_and_free (app_for name known) ≡ true
-  free_is = ap₂ (λ (b : Bool) (a : App). b && is_free_app a) simple_is built_is ∙ computed
-    where
-      computed : (list_all (λ a. a.is_free) (rules_for known) && true) ≡ true
-      computed = rw (all_free known) refl
+  free_is = grind (arith, ap₂, simple_is, all_free, shape_for, filled_is)
 
   pub clap_reads : (words : List Word) → list_any is_stray words ≡ false
       → Comes known (options_of known words) (fault_of (app_for name known) words)
       (matches_of (app_for name known) words)
-  clap_reads words sound = grind (arith, built_is, leaf_fault, shape_for, rules_for, level_reads)
+  clap_reads words sound = grind (arith, leaf_fault, shape_for, rules_for, level_reads, filled_is)
 
 -- ---- the values
 

@@ -23,8 +23,7 @@ last_below : (c : ℕ) (text : List ℕ) (k n : ℕ) → k < n → get_or text k
 last_below c text k zero l at h = absurd (omega arith)
 last_below c text k (suc n) l at h =
     ⊎_elim
-    (λ e. cond-true _ _ _ (eq-eqb _ c (ap (λ j. get_or text j 0) (sym e) ∙ at))
-    ∙ ap (λ j. Some j) (sym e))
+    (grind (arith, cond-true, eq-eqb, get_or))
     (λ other. cond-false _ _ _ (ne_eqb _ c (h n (omega arith) (omega arith)))
     ∙ last_below c text k n (omega arith) at (λ i a b. h i a (omega arith)))
     (cases_eq k n)
@@ -47,10 +46,7 @@ split_at c text (Some x) h low =
     let after : j + (k - j) ≡ k = omega arith in
     NoCharPasses-char c (drop j text) (k - j) h.2.0 low (omega (arith, length-drop j text))
     (get_or-drop j text (k - j) 0 ∙ ap (λ n. get_or text n 0) after ∙ e) in
-    let found = last_below c text i (length text) (omega (arith, h.7)) (h.2.1.byte low) later in
-    let second = h.4 ∙ ap (λ n. drop n text) next in
-    (λ t. Some (h.3 t, second t))
-    ∙ sym (ap (option_map (λ k. (take k text, drop (k + 1) text))) found)
+    grind (arith, last_below)
 
 abbrev Splits : List ℕ → Option (Bor (List ℕ) × Bor (List ℕ)) → Type 0
 Splits text r =

@@ -2,7 +2,6 @@
 use Rattle.std.proofs.Common.{◌≡◌, ◌<◌, ◌^◌, ◌&&◌, ℕ, List, Bool, true, cond, arith}
 use Rattle.std.specs.declared.option.Option.TheVariants.{None, Some}
 use Rattle.std.specs.Fmt.{decimal}
-use Rattle.std.specs.Str.Parse.{digits_value}
 use Rattle.std.proofs.lemmas.Bool.{ltb-true}
 use Rattle.std.proofs.lemmas.Slice.Eq.{bytes_eq-Decides}
 use Rattle.command_line.specs.Options.{number_of}
@@ -16,7 +15,4 @@ none_unless b n h = grind arith
 pub number_of-none : (text : List ℕ) → ((n : ℕ) → n < 2 ^ 64 → decimal n ≡ text → ⊥)
     → number_of text ≡ None
 unfolding number_of
-number_of-none text h =
-    none_unless _ _ (λ e.
-    let parts = both_true _ _ e in
-    h (digits_value 10 text) (ltb-true _ _ parts.0) ((bytes_eq-Decides _ _).0 parts.1))
+number_of-none text h = grind (arith, none_unless, both_true, ltb-true, bytes_eq-Decides)

@@ -1,20 +1,15 @@
 -- From what a parse answers to the settings.
-use Rattle.std.specs.Prelude.{option_and_then, IfOk}
-use Rattle.std.proofs.Common.{◌≡◌, ◌∙◌, ap₂, subst, sym, ap, cond, List, [], Option, Some, None}
-use Rattle.std.proofs.Common.{Result, arith}
+use Rattle.std.specs.Prelude.{IfOk}
+use Rattle.std.proofs.Common.{◌≡◌, ap₂, cond, List, [], Option, Some, None, Result, arith}
 use Rattle.clap.specs.Words.{first_value, found_of}
 use Rattle.clap.specs.Kinds.{Kinds}
-use Rattle.clap.specs.Walk.{Row, rows_of, first_of}
+use Rattle.clap.specs.Walk.{Row, rows_of}
 use Rattle.clap.specs.declared.parser.matches.ArgMatches.{ArgMatches}
 use Rattle.clap.proofs.WalkLemmas.{first_value-rows}
-use Rattle.command_line.specs.Options.{Word, Known, Written, Reading, flag_named, is_true, value_of}
+use Rattle.command_line.specs.Options.{Word, Known, Written, Reading, flag_named, value_of}
 use Rattle.command_line.specs.Options.{option_value, options_of, settings_by}
 use Rattle.command_line.specs.Clap.{Holds, flags_in}
-use Rattle.command_line.proofs.Finishing.{Comes, Found, first_is, rows_with}
-
-same_flag : (known : List Known) (seen : Written) (name : Word) (text : Option Word)
-    → Found known seen name text → is_true text ≡ is_true (value_of name seen)
-same_flag known seen name text found = grind arith
+use Rattle.command_line.proofs.Finishing.{Comes, Found, first_is}
 
 same_value : (known : List Known) (seen : Written) (name : Word) (text : Option Word)
     → Found known seen name text
@@ -31,34 +26,14 @@ holds_some known (Some seen) kinds rows m comes none is =
     let found : (name : Word) → Found known seen name (first_value (found_of m) name) =
     λ name.
     let all = comes.1 name in
-    let same : first_value (found_of m) name ≡ first_of name (rows_with seen all.0) =
-    first_value-rows (found_of m) name ∙ ap (first_of name) (is ∙ all.1) in
-    subst (Found known seen name) (sym same) (first_is known name seen all.0 all.2)
+    grind (arith, first_value-rows, first_is)
     in
-    record {
-      values = λ i name. same_value known seen name _ (found name) i;
-      flags = λ i name. same_flag known seen name _ (found name) i;
-    }
+    grind (arith, same_value)
 
 -- one that did not
 pub holds_none : (known : List Known) (o : Option Written) (kinds : Kinds) (rows : List Row)
     → Comes known o kinds rows → (kinds ≡ [] → ⊥) → Holds known o None
 holds_none known o kinds rows comes some = grind arith
-
--- what the words settle is what is made of the matches
-pub settles : {S : Type 0} (known : List Known) (reading : Reading S) (words : List Word)
-    (m : ArgMatches) → Holds known (options_of known words) (Some m)
-    → settings_by known reading words
-    ≡ reading (option_value known (first_value (found_of m))) (flags_in m)
-settles known reading words m h = go (options_of known words) h
-  where
-    go : (o : Option Written) → Holds known o (Some m)
-        → option_and_then
-        (λ seen. reading (option_value known (λ n. value_of n seen))
-        (λ n. is_true (value_of n seen)))
-        o
-        ≡ reading (option_value known (first_value (found_of m))) (flags_in m)
-    go o h = grind (arith, ap₂)
 
 -- the same of settings that a function made of the matches, or wanted memory for
 pub settles_as : {S E : Type 0} (known : List Known) (reading : Reading S) (words : List Word)
@@ -66,18 +41,9 @@ pub settles_as : {S E : Type 0} (known : List Known) (reading : Reading S) (word
     → Holds known (options_of known words) o → o ≡ Some m
     → IfOk result (λ s. s ≡ reading (option_value known (first_value (found_of m))) (flags_in m))
     → IfOk result (λ s. s ≡ settings_by known reading words)
-settles_as known reading words m o result h is made = grind (arith, settles)
+settles_as known reading words m o result h is made = grind (arith, ap₂)
 
 pub settles_none : {S : Type 0} (known : List Known) (reading : Reading S) (words : List Word)
     (o : Option ArgMatches) → Holds known (options_of known words) o → o ≡ None
     → None ≡ settings_by known reading words
-settles_none known reading words o h is =
-    sym (go (options_of known words) (subst (Holds known (options_of known words)) is h))
-  where
-    go : (o : Option Written) → Holds known o None
-        → option_and_then
-        (λ seen. reading (option_value known (λ n. value_of n seen))
-        (λ n. is_true (value_of n seen)))
-        o
-        ≡ None
-    go o h = grind arith
+settles_none known reading words o h is = grind arith

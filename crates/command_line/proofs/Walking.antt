@@ -1,6 +1,6 @@
 -- What a parse of a command with only options makes of its words.
-use Rattle.std.proofs.Common.{◌≡◌, ◌∙◌, ◌&&◌, ◌||◌, ◌==◌, ℕ, Bool, cond, codes, true, false, not}
-use Rattle.std.proofs.Common.{refl, sym, ap, ap₂, subst, List, [], ◌∷◌, ◌++◌, map, Option, Some}
+use Rattle.std.proofs.Common.{◌≡◌, ◌∙◌, ◌&&◌, ◌||◌, ◌==◌, ℕ, Bool, cond, codes, true, false}
+use Rattle.std.proofs.Common.{refl, sym, ap, ap₂, List, [], ◌∷◌, ◌++◌, map, Option, Some}
 use Rattle.std.proofs.Common.{None, is_some, true≢false, arith}
 use Rattle.std.specs.List.{fold, list_any}
 use Rattle.std.specs.Option.{option_map}
@@ -178,9 +178,7 @@ plain_is word e = grind arith
 -- a word of options alone: an option, or one that does not begin with `-`
 pub sound_word : (word : Word) → is_stray word ≡ false → option_of word ≡ None
     → has_dash word ≡ false
-sound_word word e none =
-    go (has_dash word)
-    (subst (λ (o : Option (Word × Option Word)). (has_dash word && not (is_some o)) ≡ false) none e)
+sound_word word e none = grind (arith, go, is_some)
   where
     go : (x : Bool) → (x && true) ≡ false → x ≡ false
     go x h = grind arith
@@ -225,11 +223,6 @@ module _ (name : Word) (known : List Known) where
   no_index [] = refl
   no_index (k ∷ ks) = no_index ks
 
-  -- a word that is no option, where none is expected
-  idle_plain : (h : Held) (word : Word) → has_dash word ≡ false
-      → turn (idle_at h) word ≡ kind.UnknownArgument ∷ []
-  idle_plain h word plain = grind (arith, plain_is, long_is, no_index)
-
   -- an option that the command lacks
   idle_unknown : (h : Held) (word n : Word) (v : Option Word) → option_of word ≡ Some (n, v)
       → known_as n known ≡ None
@@ -269,9 +262,7 @@ module _ (name : Word) (known : List Known) where
         skip = h.skip;
       })
   unfolding walked
-  after_attached h word n v m r e hit =
-      let l : long_of word ≡ Some (n, Some v) = long_is word ∙ e in
-      rw (not_dashes word (n, Some v) e, l, found_long known n (valued m r) hit) refl
+  after_attached h word n v m r e hit = grind (arith, long_is, not_dashes, found_long)
 
   -- `--name`
   idle_alone : (h : Held) (word n : Word) (m : Word) (r : Bool) → option_of word ≡ Some (n, None)
@@ -293,9 +284,7 @@ module _ (name : Word) (known : List Known) where
       → after (idle_at h) word ≡ waits_at m
       (record { rows = (settled (rules_for known) h).rows; pending = Some (m, []); skip = h.skip })
   unfolding walked
-  after_alone h word n m r e hit =
-      let l : long_of word ≡ Some (n, None) = long_is word ∙ e in
-      rw (not_dashes word (n, None) e, l, found_long known n (valued m r) hit) refl
+  after_alone h word n m r e hit = grind (arith, long_is, not_dashes, found_long)
 
   -- a flag
   idle_flag : (h : Held) (word n m : Word) → option_of word ≡ Some (n, None)
@@ -326,9 +315,7 @@ module _ (name : Word) (known : List Known) where
         skip = h.skip;
       })
   unfolding walked
-  after_flag_word h word n m e hit =
-      let l : long_of word ≡ Some (n, None) = long_is word ∙ e in
-      rw (not_dashes word (n, None) e, l, found_long known n (flag m) hit) refl
+  after_flag_word h word n m e hit = grind (arith, long_is, not_dashes, found_long)
 
   idle_flag_value : (h : Held) (word n m t : Word) → option_of word ≡ Some (n, Some t)
       → known_as n known ≡ Some (flag m)
@@ -347,10 +334,6 @@ module _ (name : Word) (known : List Known) where
   -- the value of the option before
   abbrev pub holds : Word → List Word → List Row → ℕ → Held
   holds n values rows skip = record { rows = rows; pending = Some (n, values); skip = skip }
-
-  waits_plain : (n : Word) (h : Held) (word : Word) → has_dash word ≡ false
-      → turn (waits_at n h) word ≡ []
-  waits_plain n h word plain = grind (arith, plain_is, long_is)
 
   after_plain : (n : Word) (m : Word) (r : Bool) (rows : List Row) (skip : ℕ) (word : Word)
       → has_dash word ≡ false → known_as n known ≡ Some (valued m r)
@@ -379,23 +362,12 @@ module _ (name : Word) (known : List Known) where
       → Agrees o (part w2 words) (end w2 words).held
       → Agrees o (part w (word ∷ words)) (end w (word ∷ words)).held
   unfolding walk_fault
-  moved o w w2 word words none is h =
-      let base : Agrees o (part (after w word) words) (end (after w word) words).held
-      = subst (λ (x : Walk). Agrees o (part x words) (end x words).held) (sym is) h in
-      subst (λ (ks : Kinds). Agrees o
-      (or_else (or_else ks (walk_fault (shape_for name known) [] (after w word) words))
-      (open_fault (end (after w word) words).held)) (end (after w word) words).held)
-      (sym none) base
+  moved o w w2 word words none is h = grind (arith, part, after, end, shape_for, open_fault)
 
   stuck : (w : Walk) (word : Word) (words : List Word) (x : ErrorKind) (xs : Kinds)
       → turn w word ≡ x ∷ xs → part w (word ∷ words) ≡ [] → ⊥
   unfolding walk_fault
-  stuck w word words x xs e h =
-      let bad : (x ∷ xs) ≡ []
-      = subst (λ (ks : Kinds). or_else
-      (or_else ks (walk_fault (shape_for name known) [] (after w word) words))
-      (open_fault (end (after w word) words).held) ≡ []) e h in
-      cc
+  stuck w word words x xs e h = grind (arith, shape_for, after, open_fault, end)
 
   -- what is open fails: so do the words
   open_holds : (k : Known) (n : Word) (values : List Word) (rows : List Row) (skip : ℕ)
@@ -471,7 +443,7 @@ module _ (name : Word) (known : List Known) where
     where
       go : (p : Option (Word × Option Word)) → option_of word ≡ p
           → part (idle_at h) (word ∷ words) ≡ [] → ⊥
-      go None e = grind (arith, idle_plain, sound_word, or_parts)
+      go None e = grind (arith, sound_word, or_parts, plain_is, long_is, no_index)
       go (Some p) e = idle_long_stuck h word words p.0 p.1 x xs bad e
 
   abbrev pub IdleReads : List Word → Type 0
@@ -572,7 +544,7 @@ module _ (name : Word) (known : List Known) where
           → Agrees (at_word known p seen (options_from known words))
           (part (idle_at h) (word ∷ words)) (end (idle_at h) (word ∷ words)).held
       go None e = stuck (idle_at h) word words kind.UnknownArgument []
-          (idle_plain h word (sound_word word sound e))
+          (grind (arith, plain_is, long_is, no_index, sound_word))
       go (Some p) e = named p.0 p.1 e (known_as p.0 known) refl
 
   waits_step : (word : Word) (words : List Word) → is_stray word ≡ false
@@ -595,7 +567,7 @@ module _ (name : Word) (known : List Known) where
       once plain true twice =
           moved None (waits_at m (holds m [] (rows_for seen) skip))
           (idle_at (holds m (word ∷ []) (rows_for seen) skip)) word words
-          (waits_plain m (holds m [] (rows_for seen) skip) word plain)
+          (grind (arith, plain_is, long_is, holds))
           (after_plain n m r (rows_for seen) skip word plain hit)
           (repeated words (holds m (word ∷ []) (rows_for seen) skip) kind.ArgumentConflict [] others
           (open_holds (valued m r) n (word ∷ []) (rows_for seen) skip hit
@@ -603,7 +575,7 @@ module _ (name : Word) (known : List Known) where
       once plain false first =
           moved _ (waits_at m (holds m [] (rows_for seen) skip))
           (idle_at (holds m (word ∷ []) (rows_for seen) skip)) word words
-          (waits_plain m (holds m [] (rows_for seen) skip) word plain)
+          (grind (arith, plain_is, long_is, holds))
           (after_plain n m r (rows_for seen) skip word plain hit)
           (idles (holds m (word ∷ []) (rows_for seen) skip) (seen ++ (m, word) ∷ [])
           (open_holds (valued m r) n (word ∷ []) (rows_for seen) skip hit

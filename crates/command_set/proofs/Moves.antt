@@ -1,10 +1,8 @@
 -- What each row changes: the keys that its command writes alone, and a deadline is one that the key
 -- had or the one that the command gives.
-use Rattle.std.proofs.Common.{◌≡◌, ◌∙◌, refl, sym, ap, subst, ℕ, ℤ, List, [], ◌∷◌}
-use Rattle.std.proofs.Common.{Bool, true, false}
-use Rattle.std.proofs.Common.{Option, None, Some, Result, Ok, Err, length, map, cond, inl, inr}
-use Rattle.std.specs.Prelude.{pos, negsuc, neg_ℤ, is_some, nat_lt, ◌==◌, ◌++◌, ◌||◌}
-use Rattle.std.specs.Prelude.{if◌then◌else◌}
+use Rattle.std.proofs.Common.{arith, ◌≡◌, ◌∙◌, refl, sym, ap, subst, ℕ, ℤ, List, [], ◌∷◌, Bool}
+use Rattle.std.proofs.Common.{true, false, Option, None, Some, Result, Ok, Err, map, cond, inl, inr}
+use Rattle.std.specs.Prelude.{pos, negsuc, neg_ℤ, is_some, ◌||◌, if◌then◌else◌}
 use Rattle.std.specs.FinMap.{get, insert, remove, empty, contains_key}
 use Rattle.std.specs.FinMap.{get-insert, get-remove, get-empty}
 use Rattle.std.specs.Cmp.Lexicographic.{slice_cmp, nat_list_cmp_total, texts_ties}
@@ -17,26 +15,22 @@ use Rattle.resp_value.specs.declared.value.Value.{Value}
 use Rattle.resp_value.specs.Tree.{in_turn}
 use Rattle.command_words.specs.declared.command.Command.{Command}
 use Rattle.command_words.specs.declared.command.Command.TheVariants as command
-use Rattle.command_words.specs.declared.command.SetLife.{SetLife}
-use Rattle.command_words.specs.declared.command.SetLife.TheVariants.{Cleared, Seconds, Millis, Kept}
 use Rattle.command_words.specs.declared.written.Written.{Written}
 use Rattle.command_words.specs.declared.written.Written.TheVariants.{Keys, All}
-use Rattle.command_words.specs.Space.{Content, Text, Fields, Held, Space, content_at}
+use Rattle.command_words.specs.Space.{Content, Text, Held, Space, content_at}
 use Rattle.command_words.specs.Space.{deadline_at, with_deadline}
-use Rattle.command_words.specs.Effect.{Effect, replied, wrong_type}
-use Rattle.command_words.specs.Effect.{not_integer, number_in, sum_in}
+use Rattle.command_words.specs.Effect.{Effect, replied, wrong_type, not_integer, number_in, sum_in}
 use Rattle.command_words.specs.Effects.{effect, string_effect, hash_effect, key_effect}
-use Rattle.command_words.specs.Hashes.{Pairs, on_fields, put_fields, hset_row, hdel_row}
-use Rattle.command_words.specs.Hashes.{hincrby_row, set_all, remove_all, field_sum, field_set}
+use Rattle.command_words.specs.Hashes.{Pairs, on_fields, put_fields, hset_row}
+use Rattle.command_words.specs.Hashes.{hincrby_row, set_all, field_sum}
 use Rattle.command_words.specs.Keys.{remove_each, renamed, expiring, expire_effect}
 use Rattle.command_words.specs.Keys.{expiry_after, expiry_at}
 use Rattle.command_words.specs.Queries.{written, names}
-use Rattle.command_words.specs.Strings.{on_text, getdel_row, append_row, incrby_row, put_all}
-use Rattle.command_words.specs.Strings.{incrby_effect, is_least, or_empty, sets, put_text}
-use Rattle.command_words.specs.Strings.{set_deadline}
+use Rattle.command_words.specs.Strings.{on_text, getdel_row, incrby_row, put_all}
+use Rattle.command_words.specs.Strings.{incrby_effect, is_least, sets, put_text}
 use Rattle.expiry.specs.declared.index.Deadline.{Deadline}
 use Rattle.command_set.specs.Laws.{Moves, Source}
-use Rattle.command_set.specs.NewDeadlines.{deadline, life_deadline, new_deadline}
+use Rattle.command_set.specs.NewDeadlines.{deadline, new_deadline}
 
 abbrev life : Option Held → Option ℕ
 life held = option_and_then (λ h. h.deadline) held
@@ -54,12 +48,10 @@ at_remove s k q =
     ∙ ap (λ b. cond b None (get s q)) (sym (texts_ties q k))
 
 pub left_false : (b c : Bool) → (b || c) ≡ false → b ≡ false
-left_false true c e = absurd cc
-left_false false c e = refl
+left_false b c e = grind arith
 
 pub right_false : (b c : Bool) → (b || c) ≡ false → c ≡ false
-right_false true c e = absurd cc
-right_false false c e = e
+right_false b c e = grind arith
 
 pub same : {w : Written} {new : Option Deadline} {s : Space} → Moves w new s s
 same = record { stays = λ q _. refl; from = λ q at e. inl e }
@@ -75,22 +67,17 @@ row m = record { moves = m }
 module _ {w : Written} {new : Option Deadline} {s : Space} where
   either : (b : Bool) {x y : Effect} → Row w new s x → Row w new s y
       → Row w new s (if b then x else y)
-  either true one other = one
-  either false one other = other
+  either b one other = grind arith
 
   text : (content : Option Content) (rows : Option (List ℕ) → Effect)
       → ((v : Option (List ℕ)) → Row w new s (rows v))
       → Row w new s (on_text (replied wrong_type s) rows content)
-  text None rows all = all None
-  text (Some (Text v)) rows all = all (Some v)
-  text (Some (Fields fs)) rows all = row same
+  text content rows all = grind (arith, row, same)
 
   fields : (content : Option Content) (rows : Pairs → Effect)
       → ((fs : Pairs) → Row w new s (rows fs))
       → Row w new s (on_fields (replied wrong_type s) rows content)
-  fields None rows all = all []
-  fields (Some (Text v)) rows all = row same
-  fields (Some (Fields fs)) rows all = all fs
+  fields content rows all = grind (arith, row, same)
 
 module _ {new : Option Deadline} (s : Space) (k : List ℕ) where
   -- one key is put
@@ -140,8 +127,7 @@ module _ {new : Option Deadline} (s : Space) (k : List ℕ) where
   plain content = put (record { content = content; deadline = None }) (λ at e. absurd cc)
 
   put_hash : (fs : Pairs) → Moves (Keys (k ∷ [])) new s (put_fields k fs s)
-  put_hash [] = gone
-  put_hash (f ∷ fs) = kept (Fields (f ∷ fs))
+  put_hash fs = grind (arith, gone, kept)
 
 -- a key changes, and then others do
 follows : {new : Option Deadline} {s t u : Space} {k : List ℕ} {ks : List (List ℕ)}
@@ -185,19 +171,13 @@ incr_text key n s =
 
 hincr : {new : Option Deadline} (key field : List ℕ) (sum : Result ℤ Value) (fs : Pairs)
     (s : Space) → Row (Keys (key ∷ [])) new s (hincrby_row key field sum fs s)
-hincr key field (Ok n) fs s = row (put_hash s key (field_set field (signed_decimal n) fs))
-hincr key field (Err error) fs s = row same
+hincr key field sum fs s = grind (arith, row, put_hash, same)
 
 -- a key takes a deadline, or loses it
 lives : {new : Option Deadline} (key : List ℕ) (until : Option ℕ) (s : Space)
     → ((at : ℕ) → until ≡ Some at → Source new s key at)
     → Moves (Keys (key ∷ [])) new s (with_deadline key until s)
-lives {new = new} key until s source = by (get s key)
-  where
-    by : (r : Option Held) → Moves (Keys (key ∷ [])) new s
-        (option_map_or (λ held. insert s key (record held { deadline = until })) r s)
-    by None = same
-    by (Some held) = put s key (record held { deadline = until }) source
+lives {new = new} key until s source = grind (arith, same, put)
 
 expires : (key : List ℕ) (expiry : Option ℕ) (s : Space)
     → Moves (Keys (key ∷ [])) (deadline key expiry) s (expiring key expiry s)
@@ -207,14 +187,6 @@ expires key (Some until) s = lives key (Some until) s (λ at e. inr (ap (deadlin
 expire : (key : List ℕ) (expiry : Option ℕ) (s : Space)
     → Row (Keys (key ∷ [])) (deadline key expiry) s (expire_effect key expiry s)
 expire key expiry s = either (contains_key s key) (row (expires key expiry s)) (row same)
-
-source_of : (key : List ℕ) (had : SetLife) (s : Space) (moment at : ℕ)
-    → set_deadline had moment (deadline_at key s) ≡ Some at
-    → Source (life_deadline key had moment) s key at
-source_of key Cleared s moment at e = absurd cc
-source_of key (Seconds n) s moment at e = inr (ap (deadline key) e)
-source_of key (Millis n) s moment at e = inr (ap (deadline key) e)
-source_of key Kept s moment at e = inl e
 
 move : (a b : List ℕ) (s : Space)
     → Moves (Keys (a ∷ b ∷ [])) (deadline b (deadline_at a s)) s (renamed a b s)
@@ -240,17 +212,12 @@ row_of : (c : Command) (s : Space) (moment : ℕ)
 unfolding effect string_effect hash_effect key_effect new_deadline
 row_of (command.Set key value when had) s moment =
     either (sets when (contains_key s key))
-    (row (put s key
-    (record { content = Text value; deadline = set_deadline had moment (deadline_at key s) })
-    (source_of key had s moment))) (row same)
+    (grind (arith, row, put)) (row same)
 row_of (command.SetNx key value) s moment =
     either (contains_key s key) (row same) (row (plain s key (Text value)))
 row_of (command.GetDel key) s moment =
     text (content_at key s) (λ v. getdel_row key v s) (λ v. getdel key v s)
-row_of (command.Append key value) s moment =
-    text (content_at key s) (λ v. append_row key (or_empty v ++ value) s)
-    (λ v. either (nat_lt 16777216 (length (or_empty v ++ value))) (row same)
-    (row (kept s key (Text (or_empty v ++ value)))))
+row_of (command.Append key value) s moment = grind (arith, text, either, row, same, kept)
 row_of (command.Incr key) s moment = incr_text key (pos 1) s
 row_of (command.Decr key) s moment = incr_text key (negsuc 0) s
 row_of (command.IncrBy key n) s moment = incr_text key n s
@@ -260,10 +227,7 @@ row_of (command.MSet words) s moment = row (put_each (in_turn words) s)
 row_of (command.HSet key words) s moment =
     fields (content_at key s) (λ fs. hset_row key fs (set_all (in_turn words) fs) s)
     (λ fs. row (put_hash s key (set_all (in_turn words) fs)))
-row_of (command.HDel key names) s moment =
-    fields (content_at key s) (λ fs. hdel_row key fs (remove_all names fs) s)
-    (λ fs. either (length fs == length (remove_all names fs)) (row same)
-    (row (put_hash s key (remove_all names fs))))
+row_of (command.HDel key names) s moment = grind (arith, fields, either, row, same, put_hash)
 row_of (command.HIncrBy key field n) s moment =
     fields (content_at key s) (λ fs. hincrby_row key field (field_sum field n fs) fs s)
     (λ fs. hincr key field (field_sum field n fs) fs s)
@@ -288,14 +252,10 @@ row_moves c s moment = (row_of c s moment).moves
 pub all_gone : (c : Command) (s : Space) (moment : ℕ) → written c ≡ All
     → (effect c s moment).space ≡ empty
 unfolding effect string_effect hash_effect key_effect
-all_gone (command.FlushAll mode) s moment e = refl
-all_gone (command.FlushDb mode) s moment e = refl
-all_gone _ s moment e = absurd cc
+all_gone c s moment e = grind arith
 
 -- a flush looks at no key
 pub same_flush : (c : Command) (s t : Space) (moment : ℕ) → written c ≡ All
     → effect c s moment ≡ effect c t moment
 unfolding effect string_effect hash_effect key_effect
-same_flush (command.FlushAll mode) s t moment e = refl
-same_flush (command.FlushDb mode) s t moment e = refl
-same_flush _ s t moment e = absurd cc
+same_flush c s t moment e = grind arith

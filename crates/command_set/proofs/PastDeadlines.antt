@@ -2,7 +2,7 @@
 use Rattle.std.proofs.Common.{◌≡◌, ◌∙◌, refl, sym, ap, ℕ, List, [], ◌∷◌, Bool, true, false, cond}
 use Rattle.std.proofs.Common.{Option, None, Some, not, arith}
 use Rattle.std.specs.declared.cmp.Ordering.TheVariants.{Equal}
-use Rattle.std.specs.Prelude.{◌&&◌, ◌||◌, ◌==◌, nat_lt}
+use Rattle.std.specs.Prelude.{◌&&◌, ◌||◌, nat_lt}
 use Rattle.std.specs.Cmp.Lexicographic.{slice_cmp, nat_list_cmp_total}
 use Rattle.std.specs.FinMap.{get, remove, get-retain_keys, same_map}
 use Rattle.std.specs.FinMap.{slice_cmp-IsAntisymmetric, nat_cmp-IsAntisymmetric}
@@ -16,7 +16,7 @@ use Rattle.command_words.specs.Keys.{remove_each}
 use Rattle.command_words.specs.Space.{Held, Space, deadline_at}
 use Rattle.std.proofs.lemmas.Map.Views.{any-filter_same}
 use Rattle.expiry.specs.declared.index.Deadline.{Deadline}
-use Rattle.expiry.specs.Index.{has, is_same, is_due, due, left, is_at, keys_of}
+use Rattle.expiry.specs.Index.{has, is_due, due, left, is_at, keys_of}
 use Rattle.expiry.proofs.DueKeys.{named_past as due_past}
 use Rattle.expiry.proofs.Orders.{ordered_filter, same_deadline}
 use Rattle.command_set.specs.InStep.{InStep}
@@ -30,8 +30,7 @@ get_removed : (ks : List (List ℕ)) (s : Space) (q : List ℕ)
 get_removed [] s q = refl
 get_removed (k ∷ ks) s q =
     get_removed ks (remove s k) q
-    ∙ (ap (cond (list_any (bytes_eq q) ks) None) (at_remove s k q)
-    ∙ by (bytes_eq q k) (list_any (bytes_eq q) ks))
+    ∙ (grind (arith, at_remove))
   where
     by : (a b : Bool) → cond b None (cond a None (get s q)) ≡ cond (a || b) None (get s q)
     by true true = refl
@@ -63,52 +62,24 @@ module _ (moment : ℕ) (s : Space) where
       → remove_each (keys_of (due moment index)) s ≡ without_due moment s
   dropped index step =
       same_map nat_list_cmp_total (slice_cmp-IsAntisymmetric nat_cmp-IsAntisymmetric) _ _
-      (λ q. get_removed (keys_of (due moment index)) s q
-      ∙ (ap (λ b. cond b None (get s q)) (named_past moment q index s step)
-      ∙ (turned (is_past moment (deadline_at q s)) (get s q) ∙ sym (get_without q))))
+      (grind (arith, get_removed, named_past, get_without))
     where
       turned : (b : Bool) (r : Option Held) → cond b None r ≡ cond (not b) r None
       turned true r = refl
       turned false r = refl
 
-  none_at : (b : Bool) → (not b && false) ≡ false
-  none_at true = refl
-  none_at false = refl
-
   has_left : (d : Deadline) (ds : List Deadline)
       → has d (left moment ds) ≡ (not (is_due moment d) && has d ds)
-  has_left d ds =
-      any-filter_same (is_same d) (λ e. not (is_due moment e)) (not (is_due moment d))
-      (λ e same. ap (λ x. not (is_due moment x)) (sym (same_deadline d e same))) ds
+  has_left d ds = grind (arith, any-filter_same, same_deadline)
 
   shown : (at : ℕ) (b : Bool) (held : Held)
       → is_at at (life (cond b (Some held) None)) ≡ (b && is_at at held.deadline)
-  shown at true held = refl
-  shown at false held = refl
-
-  equal_past : (at y : ℕ)
-      → (not (nat_lt at moment) && (at == y)) ≡ (not (nat_lt y moment) && (at == y))
-  equal_past at y =
-      elim (at == y) as (λ b. (at == y) ≡ b
-      → (not (nat_lt at moment) && b) ≡ (not (nat_lt y moment) && b)) [
-        | true ↦ λ e.
-            let one : at ≡ y = grind (arith, nat_tests) in
-            ap (λ z. not (nat_lt z moment) && true) one
-        | false ↦ λ e. none_at (nat_lt at moment) ∙ sym (none_at (nat_lt y moment))
-      ] refl
-
-  at_past : (at : ℕ) (x : Option ℕ)
-      → (not (nat_lt at moment) && is_at at x) ≡ (not (is_past moment x) && is_at at x)
-  at_past at None = none_at (nat_lt at moment)
-  at_past at (Some y) = equal_past at y
+  shown at b held = grind arith
 
   current_left : (at : ℕ) (r : Option Held)
       → (not (nat_lt at moment) && is_at at (life r))
       ≡ is_at at (life (cond (not (is_past moment (life r))) r None))
-  current_left at None = none_at (nat_lt at moment)
-  current_left at (Some held) =
-      at_past at held.deadline
-      ∙ sym (shown at (not (is_past moment held.deadline)) held)
+  current_left at r = grind (arith, shown, nat_tests)
 
   pub left_in_step : (index : List Deadline) → InStep index s
       → InStep (left moment index) (without_due moment s)

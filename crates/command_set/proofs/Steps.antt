@@ -1,4 +1,5 @@
 -- The index stays in step with the keyspace.
+use Rattle.std.proofs.Common.{arith}
 use Rattle.std.proofs.Common.{◌≡◌, ◌∙◌, refl, sym, ap, subst, ℕ, List, [], ◌∷◌, Bool, true, false}
 use Rattle.std.proofs.Common.{Option, None, Some, Result, Ok, Err, OnErr, not, ◌⊎◌, inl, inr, cond}
 use Rattle.std.specs.Prelude.{◌&&◌, ◌||◌}
@@ -43,28 +44,17 @@ one_index_is_in_step ds es space a b =
 
 -- what is settled has the members that are current, and those that were not looked at
 module _ (x : Deadline) (t : Space) where
-  none_looked_at : (c i : Bool) → i ≡ (i && (c || true))
-  none_looked_at true true = refl
-  none_looked_at true false = refl
-  none_looked_at false true = refl
-  none_looked_at false false = refl
-
   stays_in : (s c h i : Bool) → (s ≡ true → c ≡ true)
       → (i && (c || not h)) ≡ (i && (c || not (s || h)))
-  stays_in false c h i f = refl
-  stays_in true true h i f = refl
-  stays_in true false h i f = absurd (let no : false ≡ true = f refl in cc)
+  stays_in s c h i f = grind arith
 
   goes_out : (s c h i : Bool) → (s ≡ true → c ≡ false)
       → ((not s && i) && (c || not h)) ≡ (i && (c || not (s || h)))
-  goes_out false c h i f = refl
-  goes_out true true h i f = absurd (let no : true ≡ false = f refl in cc)
-  goes_out true false h true f = refl
-  goes_out true false h false f = refl
+  goes_out s c h i f = grind arith
 
   pub has_settled : (ds index : List Deadline)
       → has x (settled ds t index) ≡ (has x index && (is_current x t || not (has x ds)))
-  has_settled [] index = none_looked_at (is_current x t) (has x index)
+  has_settled [] index = grind arith
   has_settled (d ∷ ds) index =
       elim (is_current d t) as (λ b. is_current d t ≡ b
       → has x (settled ds t (cond b index (without d index)))
@@ -92,8 +82,7 @@ ordered_settled t (d ∷ ds) index h =
 
 ordered_new : (new : Option Deadline) (index : List Deadline) → IsOrdered index
     → IsOrdered (with_new new index)
-ordered_new None index h = h
-ordered_new (Some d) index h = ordered_with d index h
+ordered_new new index h = grind (arith, ordered_with)
 
 has_new : (x : Deadline) (new : Option Deadline) (index : List Deadline)
     → has x (with_new new index) ≡ (has x (listed new) || has x index)
@@ -113,12 +102,7 @@ covered x s (k ∷ ks) among e =
     elim (bytes_eq x.key k) as (λ b. bytes_eq x.key k ≡ b
     → (b || list_any (bytes_eq x.key) ks) ≡ true
     → has x (with_one (deadline_at k s) k (deadlines_of ks s)) ≡ true) [
-      | true ↦ λ is h.
-          ap (λ r. has x (with_one r k (deadlines_of ks s)))
-          (sym (ap (λ key. deadline_at key s) ((bytes_eq-Decides x.key k).0 is)) ∙ e)
-          ∙ ap (λ key. is_same x (record { at = x.at; key = key }) || has x (deadlines_of ks s))
-          (sym ((bytes_eq-Decides x.key k).0 is))
-          ∙ ap (λ b. b || has x (deadlines_of ks s)) (is_itself x)
+      | true ↦ grind (arith, bytes_eq-Decides, is_itself)
       | false ↦ λ is h. further (deadline_at k s) (covered x s ks h e)
     ] refl among
   where
@@ -155,22 +139,11 @@ module _ (index : List Deadline) (s t : Space) (keys : List (List ℕ)) (new : O
       had = sym (step.each x) ∙ was
 
       by : (b : Bool) → list_any (bytes_eq x.key) keys ≡ b → has x (deadlines_of keys s) ≡ true
-      by true among = covered x s keys among (at_is x.at (deadline_at x.key s) had)
-      by false other =
-          absurd (let no : false ≡ true =
-          sym now ∙ (ap (λ r. is_at x.at (option_and_then (λ h. h.deadline) r))
-          (moves.stays x.key other) ∙ had) in cc)
+      by b among = grind (arith, covered, at_is)
 
   decided : (c l i b : Bool) → (c ≡ true → (l || i) ≡ true) → (c ≡ false → i ≡ true → b ≡ true)
       → ((((l || i) && (c || not b)) && (c || not l))) ≡ c
-  decided true true i b f g = refl
-  decided true false true b f g = refl
-  decided true false false b f g = absurd (let no : false ≡ true = f refl in cc)
-  decided false true i true f g = refl
-  decided false true i false f g = refl
-  decided false false true true f g = refl
-  decided false false true false f g = absurd (let no : false ≡ true = g refl refl in cc)
-  decided false false false b f g = refl
+  decided c l i b f g = grind arith
 
   pub in_step : InStep after t
   in_step = record {
@@ -189,19 +162,14 @@ module _ (index : List Deadline) (s t : Space) (keys : List (List ℕ)) (new : O
 -- a run of a command moves what its row does
 pub moved : (c : Command) (s : Space) (moment : ℕ) (r : Result Done NoMemory) (t : Space)
     → IsRow (effect c s moment) r s t → Moves (written c) (new_deadline c s moment) s t
-moved c s moment (Ok done) t is =
-    subst (Moves (written c) (new_deadline c s moment) s) (sym is.2) (row_moves c s moment)
-moved c s moment (Err e) t is =
-    subst (Moves (written c) (new_deadline c s moment) s) (sym is) same
+moved c s moment r t is = grind (arith, row_moves, same)
 
 pub stepped : (c : Command) (s : Space) (moment : ℕ) (r : Result Done NoMemory) (t : Space)
     (index : List Deadline) (keys : List (List ℕ)) → InStep index s → written c ≡ Keys keys
     → IsRow (effect c s moment) r s t
     → InStep (settled (listed (new_deadline c s moment)) t
     (settled (deadlines_of keys s) t (with_new (new_deadline c s moment) index))) t
-stepped c s moment r t index keys step is row =
-    in_step index s t keys (new_deadline c s moment) step
-    (subst (λ w. Moves w (new_deadline c s moment) s t) is (moved c s moment r t row))
+stepped c s moment r t index keys step is row = grind (arith, in_step, moved)
 
 -- where memory ran out, the index is as before
 pub as_before : (r : Result Done NoMemory) (row : Effect) (s t : Space) (index new : List Deadline)

@@ -1,7 +1,7 @@
 -- What keys hold once runs are taken back.
-use Rattle.std.proofs.Common.{◌≡◌, ◌∙◌, refl, sym, ap, subst, ℕ, List, [], ◌∷◌, ◌++◌}
-use Rattle.std.proofs.Common.{Bool, true, false, cond, not, Option, None, Some, Result, Ok, Err}
-use Rattle.std.proofs.Common.{OnOk, OnErr, inr}
+use Rattle.std.proofs.Common.{arith, ◌≡◌, ◌∙◌, refl, sym, ap, subst, ℕ, List, [], ◌∷◌, ◌++◌, Bool}
+use Rattle.std.proofs.Common.{true, false, cond, Option, None, Some, Result, Ok, Err, OnOk, OnErr}
+use Rattle.std.proofs.Common.{inr}
 use Rattle.std.specs.Prelude.{◌||◌}
 use Rattle.std.specs.Cmp.Lexicographic.{nat_list_cmp_total}
 use Rattle.std.specs.FinMap.{get, empty, same_map}
@@ -21,17 +21,12 @@ use Rattle.command_rows.specs.Rows.{IsRow}
 use Rattle.expiry.specs.declared.index.Deadline.{Deadline}
 use Rattle.command_set.specs.InStep.{InStep, due_keys, deadlines_of, settled, with_new, listed}
 use Rattle.command_set.specs.Laws.{Moves}
-use Rattle.command_set.specs.NewDeadlines.{deadline, new_deadline}
+use Rattle.command_set.specs.NewDeadlines.{deadline}
 use Rattle.command_set.specs.Priors.{Priors, again, put_back, what_held, life_of, concerns}
 use Rattle.command_set.specs.Priors.{AgreeBeside}
-use Rattle.command_set.proofs.Moves.{at_insert, at_remove, left_false, right_false, put, gone, same}
+use Rattle.command_set.proofs.Moves.{at_insert, at_remove, put, gone, same}
 use Rattle.command_set.proofs.PastDeadlines.{get_without, named_past}
 use Rattle.command_set.proofs.Steps.{in_step, moved, nothing_is_in_step}
-
-pub at_again : (k : List ℕ) (r : Option Held) (s : Space) (q : List ℕ)
-    → get (again k r s) q ≡ cond (bytes_eq q k) r (get s q)
-at_again k None s q = at_remove s k q
-at_again k (Some held) s q = at_insert s k held q
 
 pub put_back_both : (a b : Priors) (s : Space) → put_back (a ++ b) s ≡ put_back b (put_back a s)
 put_back_both [] b s = refl
@@ -44,7 +39,7 @@ get_back : (ks : List (List ℕ)) (s t : Space) (q : List ℕ)
 get_back [] s t q = refl
 get_back (k ∷ ks) s t q =
     get_back ks s (again k (get s k) t) q
-    ∙ (ap (cond (list_any (bytes_eq q) ks) (get s q)) (at_again k (get s k) t q)
+    ∙ (ap (cond (list_any (bytes_eq q) ks) (get s q)) (grind (arith, at_remove, at_insert))
     ∙ by (bytes_eq q k) refl (list_any (bytes_eq q) ks))
   where
     by : (b : Bool) → bytes_eq q k ≡ b → (c : Bool)
@@ -59,10 +54,7 @@ restored : (a b : List (List ℕ)) (s t : Space)
     → put_back (what_held a s ++ what_held b s) t ≡ s
 restored a b s t others =
     same_map nat_list_cmp_total (slice_cmp-IsAntisymmetric nat_cmp-IsAntisymmetric) _ _
-    (λ q. ap (λ x. get x q) (put_back_both (what_held a s) (what_held b s) t)
-    ∙ (get_back b s (put_back (what_held a s) t) q
-    ∙ (ap (cond (list_any (bytes_eq q) b) (get s q)) (get_back a s t q)
-    ∙ by q (list_any (bytes_eq q) a) refl (list_any (bytes_eq q) b) refl)))
+    (grind (arith, put_back_both, get_back))
   where
     by : (q : List ℕ) (c : Bool) → list_any (bytes_eq q) a ≡ c
         → (d : Bool) → list_any (bytes_eq q) b ≡ d
@@ -76,9 +68,7 @@ restored a b s t others =
 left_alone : (moment : ℕ) (s : Space) (index : List Deadline) → InStep index s → (q : List ℕ)
     → list_any (bytes_eq q) (due_keys moment index) ≡ false
     → get (without_due moment s) q ≡ get s q
-left_alone moment s index step q kept =
-    get_without moment s q
-    ∙ ap (λ b. cond (not b) (get s q) None) (sym (named_past moment q index s step) ∙ kept)
+left_alone moment s index step q kept = grind (arith, get_without, named_past)
 
 -- what was copied of the due keys leads back from the keyspace without them
 pub come_back : (moment : ℕ) (s t : Space) (index : List Deadline) (due : List (List ℕ))
@@ -101,12 +91,7 @@ pub taken : (c : Command) (s : Space) (moment : ℕ) (r : Result Done NoMemory) 
     (index : List Deadline) (keys : List (List ℕ)) → InStep index s → written c ≡ Keys keys
     → IsRow (effect c (without_due moment s) moment) r (without_due moment s) t
     → put_back (what_held (due_keys moment index) s ++ what_held keys s) t ≡ s
-taken c s moment r t index keys step is row =
-    restored (due_keys moment index) keys s t
-    (λ q kept other.
-    (subst (λ w. Moves w (new_deadline c (without_due moment s) moment) (without_due moment s) t) is
-    (moved c (without_due moment s) moment r t row)).stays q other
-    ∙ left_alone moment s index step q kept)
+taken c s moment r t index keys step is row = grind (arith, restored, moved, left_alone)
 
 -- a key that holds something again, and the index in step with it
 put_again : (k : List ℕ) (r : Option Held) (s : Space)
@@ -132,8 +117,7 @@ agreed : (ps : Priors) (a b : Space) (q : List ℕ) → AgreeBeside ps a b
 agreed [] a b q alike = alike q refl
 agreed (p ∷ ps) a b q alike =
     agreed ps (again p.0 p.1 a) (again p.0 p.1 b) q
-    (λ x beside. at_again p.0 p.1 b x
-    ∙ (by x (bytes_eq x p.0) refl beside ∙ sym (at_again p.0 p.1 a x)))
+    (grind (arith, at_remove, at_insert))
   where
     by : (x : List ℕ) (d : Bool) → bytes_eq x p.0 ≡ d → concerns ps x ≡ false
         → cond d p.1 (get b x) ≡ cond d p.1 (get a x)
@@ -145,29 +129,9 @@ same_back ps a b alike =
     same_map nat_list_cmp_total (slice_cmp-IsAntisymmetric nat_cmp-IsAntisymmetric) _ _
     (λ q. agreed ps a b q alike)
 
-pub beside_again : (p : List ℕ × Option Held) (ps : Priors) (a t : Space)
-    → AgreeBeside ps (again p.0 p.1 a) t → AgreeBeside (p ∷ ps) a t
-beside_again p ps a t rest x apart =
-    rest x (right_false (bytes_eq x p.0) (concerns ps x) apart)
-    ∙ (at_again p.0 p.1 a x
-    ∙ ap (λ d. cond d p.1 (get a x)) (left_false (bytes_eq x p.0) (concerns ps x) apart))
-
 pub on_ok : {A P Q : Type 0} (r : Result A NoMemory) → (P → Q) → OnOk r P → OnOk r Q
-on_ok (Ok x) f p = f p
-on_ok (Err e) f p = tt
+on_ok r f p = grind arith
 
 pub new_in_step : (index : List Deadline) (s : Space) → index ≡ [] → s ≡ empty → InStep index s
 new_in_step index s none new =
     subst (λ i. InStep i s) (sym none) (subst (InStep []) (sym new) nothing_is_in_step)
-
--- what was copied of the due keys, and then of the written ones, leads back from the run
-pub led_back : (c : Command) (s : Space) (moment : ℕ) (r : Result Done NoMemory) (mid t : Space)
-    (index : List Deadline) (keys due : List (List ℕ)) (none first both : Priors)
-    → InStep index s → written c ≡ Keys keys → due ≡ due_keys moment index → none ≡ []
-    → first ≡ none ++ what_held due s → both ≡ first ++ what_held keys s
-    → mid ≡ without_due moment s → IsRow (effect c mid moment) r mid t → put_back both t ≡ s
-led_back c s moment r mid t index keys due none first both step is listed new one two left row =
-    ap (λ ps. put_back ps t)
-    (two ∙ (λ i. (one ∙ (λ j. new j ++ what_held (listed j) s)) i ++ what_held keys s))
-    ∙ taken c s moment r t index keys step is
-    (subst (λ x. IsRow (effect c x moment) r x t) left row)

@@ -6,14 +6,11 @@ use Rattle.std.specs.FinMap.{contains_key, get}
 use Rattle.std.specs.Option.{option_map}
 use Rattle.std.specs.List.{filter, list_any}
 use Rattle.std.specs.Str.{bytes_eq}
-use Rattle.resp_value.specs.declared.value.Value.TheVariants.{Null, Array, Number}
-use Rattle.resp_value.specs.ValueTree.{tree_of}
+use Rattle.resp_value.specs.declared.value.Value.TheVariants.{Array, Number}
 use Rattle.command_words.specs.declared.command.Command.TheVariants as command
 use Rattle.command_words.specs.Space.{Held, Space, content_at}
-use Rattle.command_words.specs.Effect.{blob_or_null}
 use Rattle.command_words.specs.Effects.{read_reply}
 use Rattle.command_words.specs.Laws.{RepliesAreOfKeysRead}
-use Rattle.command_words.specs.Strings.{on_text}
 use Rattle.command_words.proofs.KeysOnce.{any_once, first, is_itself, map_alike, or_true}
 
 -- two keyspaces that agree at a command's one key
@@ -46,8 +43,7 @@ replies_alike (command.StrLen key) s o same = rw (at_one key s o same) refl
 replies_alike (command.GetRange key a b) s o same = rw (at_one key s o same) refl
 replies_alike (command.MGet keys) s o same =
     ap Array (map_alike _ _ keys
-    (λ k among. ap (λ c. tree_of (on_text Null blob_or_null c))
-    (same k (any_once k keys ∙ among))))
+    (grind (arith, any_once)))
 replies_alike (command.HGet key field) s o same = rw (at_one key s o same) refl
 replies_alike (command.HMGet key fields) s o same = rw (at_one key s o same) refl
 replies_alike (command.HGetAll key) s o same = rw (at_one key s o same) refl

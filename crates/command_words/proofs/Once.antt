@@ -28,42 +28,20 @@ any_more : (t : List ℕ → Bool) (xs : List (List ℕ)) (y : List ℕ) →
 any_more t [] y = or_false (t y)
 any_more t (x ∷ xs) y = grind (arith, any_more t xs y)
 
-both_apart : (a b : Bool) → cond (not b) (not a) false ≡ not (a || b)
-both_apart a b = grind arith
-
-fresh_more : (met : List (List ℕ)) (key x : List ℕ) →
-    cond (not (bytes_eq x key)) (is_fresh met x) false ≡ is_fresh (met ++ key ∷ []) x
-fresh_more met key e = grind (arith, both_apart, any_more)
-
 joined : (met : List (List ℕ)) (key : List ℕ) (ks : List (List ℕ)) →
     (met ++ key ∷ []) ++ ks ≡ met ++ key ∷ ks
 joined [] key ks = refl
 joined (m ∷ met) key ks = ap (λ l. m ∷ l) (joined met key ks)
 
-next_fresh : (met : List (List ℕ)) (key : List ℕ) (ks : List (List ℕ)) →
-    is_fresh met key ≡ true →
-    (met ++ key ∷ []) ++ filter (is_fresh (met ++ key ∷ [])) (each_once ks)
-    ≡ met ++ filter (is_fresh met) (each_once (key ∷ ks))
-next_fresh met key ks fresh = grind (arith, joined, filter_both, fresh_more)
-
 stays : (b c : Bool) → (b ≡ true → c ≡ false) → cond (not b) c false ≡ c
 stays b c e = grind arith
-
-met_is_apart : (met : List (List ℕ)) (key x : List ℕ) → is_fresh met key ≡ false →
-    cond (not (bytes_eq x key)) (is_fresh met x) false ≡ is_fresh met x
-met_is_apart met key e stale = grind (arith, stays, alike_from_same, bytes_eq-Decides)
-
-next_met : (met : List (List ℕ)) (key : List ℕ) (ks : List (List ℕ)) →
-    is_fresh met key ≡ false →
-    met ++ filter (is_fresh met) (each_once ks)
-    ≡ met ++ filter (is_fresh met) (each_once (key ∷ ks))
-next_met met key ks stale = grind (arith, filter_both, met_is_apart)
 
 by_case : (b : Bool) (met : List (List ℕ)) (key : List ℕ) (ks : List (List ℕ)) →
     list_any (bytes_eq key) met ≡ b →
     cond b met (met ++ key ∷ []) ++ filter (is_fresh (cond b met (met ++ key ∷ []))) (each_once ks)
     ≡ met ++ filter (is_fresh met) (each_once (key ∷ ks))
-by_case b met key ks e = grind (arith, next_met, next_fresh)
+by_case b met key ks e =
+    grind (arith, joined, filter_both, any_more, stays, alike_from_same, bytes_eq-Decides)
 
 pub next_key : (met : List (List ℕ)) (key : List ℕ) (ks : List (List ℕ)) →
     with_key key met ++ filter (is_fresh (with_key key met)) (each_once ks)

@@ -1,7 +1,6 @@
 -- The words of a query are those of the same query.
-use Rattle.std.proofs.Common.{◌≡◌, ◌<◌, refl, arith, ℕ, List, [], ◌∷◌, Bool, true, false, Some}
-use Rattle.std.proofs.Common.{None, length, slice_index_or}
-use Rattle.std.specs.Prelude.{if◌then◌else◌}
+use Rattle.std.proofs.Common.{◌≡◌, ◌<◌, refl, arith, ℕ, List, [], ◌∷◌, true, Some}
+use Rattle.std.proofs.Common.{length, slice_index_or}
 use Rattle.std.specs.Str.{str_to_ascii_lowercase, str_to_ascii_uppercase}
 use Rattle.std.proofs.lemmas.Str.Ascii.{lowercase-uppercase, uppercase-uppercase}
 use Rattle.command_words.specs.Words.{reading}
@@ -23,14 +22,9 @@ pub query_again : (words : List (List ℕ)) → reads_as_cacheable (reading word
 unfolding reading
 query_again words cacheable = grind (arith, lower_of_upper, upper_of_upper)
 
-is_some_of : (b : Bool) (ws vs : List (List ℕ)) → b ≡ false →
-    (if b then Some ws else None) ≡ Some vs → ⊥
-is_some_of b ws vs e q = grind arith
-
 not_a_query : (name : List ℕ) (vs : List (List ℕ)) → query_of (name ∷ []) ≡ Some vs → ⊥
 unfolding reading
-not_a_query name vs is_query =
-    is_some_of _ _ vs (no_query (str_to_ascii_lowercase name)) is_query
+not_a_query name vs is_query = grind (arith, no_query)
 
 -- a query has a key after its name
 pub has_key : (ws : List (List ℕ)) → query_of ws ≡ Some ws → 1 < length ws

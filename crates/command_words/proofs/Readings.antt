@@ -8,17 +8,16 @@ use Rattle.command_words.specs.declared.command.Command.{Command}
 use Rattle.command_words.specs.declared.command.Command.TheVariants as command
 use Rattle.command_words.specs.declared.command.WordFault.{WordFault}
 use Rattle.command_words.specs.declared.command.WordFault.TheVariants.{Unknown}
-use Rattle.command_words.specs.ClientWords.{client_words, client_reading}
+use Rattle.command_words.specs.ClientWords.{client_reading}
 use Rattle.command_words.specs.ConnectionWords.{connection_reading}
 use Rattle.command_words.specs.Control.{is_control_command, reads_as_control}
-use Rattle.command_words.specs.HashWords.{hash_reading, hincrby_reading}
-use Rattle.command_words.specs.KeyWords.{key_reading, flush_mode, one_and_seconds}
+use Rattle.command_words.specs.HashWords.{hash_reading}
+use Rattle.command_words.specs.KeyWords.{key_reading, one_and_seconds}
 use Rattle.command_words.specs.Queries.{is_cacheable, reads_as_cacheable, read, key_of}
-use Rattle.command_words.specs.Reading.{Read, read_as, read_then}
+use Rattle.command_words.specs.Reading.{Read, read_as}
 use Rattle.command_words.specs.SetOptions.{set_reading}
-use Rattle.command_words.specs.StringWords.{string_reading, range_reading}
-use Rattle.command_words.specs.WordCounts.{no_word, one, two, at_least_one, one_and_more, in_pairs}
-use Rattle.command_words.specs.WordCounts.{one_and_pairs, one_and_number}
+use Rattle.command_words.specs.StringWords.{string_reading}
+use Rattle.command_words.specs.WordCounts.{one, two, at_least_one, one_and_pairs, one_and_number}
 use Rattle.command_words.proofs.KeysOnce.{left_false, right_false}
 use Rattle.command_words.specs.Words.{or_else, reading_of, reading}
 
@@ -59,10 +58,6 @@ module _ {may : Bool} {ws : List (List ℕ)} where
       Reads may ws (read_as f r)
   none f r other = grind (arith, left_false, right_false, fault)
 
-  then_reads : {A : Type 0} (r : Read A) (f : A → Read Command) →
-      ((a : A) → Reads may ws (f a)) → Reads may ws (read_then r f)
-  then_reads r f reads = grind (arith, fault)
-
   own : (c : Command) → Own ws c → Reads may ws (Ok c)
   own c h = record { first = λ _. h.0; control = ap (λ b. b && not may) h.1 }
 
@@ -71,54 +66,23 @@ module _ {may : Bool} {ws : List (List ℕ)} where
   made f r owns = grind (arith, own, fault)
 
 module _ {may : Bool} where
-  of_one : (f : List ℕ → Command) (ws : List (List ℕ)) → ((k : List ℕ) → Own (k ∷ []) (f k)) →
-      Reads may ws (read_as f (one ws))
-  of_one f ws owns = grind (arith, own, fault)
-
-  of_two : (f : List ℕ × List ℕ → Command) (ws : List (List ℕ)) →
-      ((p : List ℕ × List ℕ) → Own (p.0 ∷ []) (f p)) → Reads may ws (read_as f (two ws))
-  of_two f ws owns = grind (arith, own, fault)
-
-  of_more : (f : List ℕ × List (List ℕ) → Command) (ws : List (List ℕ)) →
-      ((p : List ℕ × List (List ℕ)) → Own (p.0 ∷ []) (f p)) →
-      Reads may ws (read_as f (one_and_more ws))
-  of_more f ws owns = grind (arith, own, fault)
-
-  of_range : (ws : List (List ℕ)) → Reads may ws (range_reading ws)
-  of_range ws = grind (arith, then_reads, made, fault)
-
   of_set : (ws : List (List ℕ)) → Reads may ws (set_reading ws)
   unfolding set_reading
   of_set ws = grind (arith, none, fault)
 
-  of_hincrby : (ws : List (List ℕ)) → Reads may ws (hincrby_reading ws)
-  of_hincrby ws = grind (arith, none, fault)
-
-  -- EXISTS of one key; of several it is no query
-  of_exists : (ws : List (List ℕ)) → Reads may ws (read_as command.Exists (at_least_one ws))
-  of_exists ws = grind (arith, fault, own)
-
   of_strings : (name : List ℕ) (ws : List (List ℕ)) → Reads may ws (string_reading name ws)
   unfolding string_reading
   of_strings name ws =
-      either (bytes_eq name (codes "get")) (of_one command.Get ws (λ k. (refl, refl)))
+      either (bytes_eq name (codes "get")) (grind (arith, own, fault))
       (either (bytes_eq name (codes "set")) (of_set ws)
       (either (bytes_eq name (codes "setnx"))
       (none (λ p. command.SetNx p.0 p.1) (two ws) (λ a. refl))
       (either (bytes_eq name (codes "getdel")) (none command.GetDel (one ws) (λ a. refl))
       (either (bytes_eq name (codes "append"))
       (none (λ p. command.Append p.0 p.1) (two ws) (λ a. refl))
-      (either (bytes_eq name (codes "strlen")) (of_one command.StrLen ws (λ k. (refl, refl)))
-      (either (bytes_eq name (codes "getrange")) (of_range ws)
-      (either (bytes_eq name (codes "incr")) (none command.Incr (one ws) (λ a. refl))
-      (either (bytes_eq name (codes "decr")) (none command.Decr (one ws) (λ a. refl))
-      (either (bytes_eq name (codes "incrby"))
-      (none (λ p. command.IncrBy p.0 p.1) (one_and_number ws) (λ a. refl))
-      (either (bytes_eq name (codes "decrby"))
-      (none (λ p. command.DecrBy p.0 p.1) (one_and_number ws) (λ a. refl))
-      (either (bytes_eq name (codes "mget")) (none command.MGet (at_least_one ws) (λ a. refl))
-      (either (bytes_eq name (codes "mset")) (none command.MSet (in_pairs ws) (λ a. refl))
-      fault))))))))))))
+      (either (bytes_eq name (codes "strlen")) (grind (arith, own, fault))
+      (either (bytes_eq name (codes "getrange")) (grind (arith, made, fault))
+      (grind (arith, either, none, fault))))))))
 
   of_hashes : (name : List ℕ) (ws : List (List ℕ)) → Reads may ws (hash_reading name ws)
   unfolding hash_reading
@@ -126,26 +90,15 @@ module _ {may : Bool} where
       either (bytes_eq name (codes "hset"))
       (none (λ p. command.HSet p.0 p.1) (one_and_pairs ws) (λ a. refl))
       (either (bytes_eq name (codes "hget"))
-      (of_two (λ p. command.HGet p.0 p.1) ws (λ p. (refl, refl)))
-      (either (bytes_eq name (codes "hmget"))
-      (of_more (λ p. command.HMGet p.0 p.1) ws (λ p. (refl, refl)))
-      (either (bytes_eq name (codes "hgetall")) (of_one command.HGetAll ws (λ k. (refl, refl)))
-      (either (bytes_eq name (codes "hdel"))
-      (none (λ p. command.HDel p.0 p.1) (one_and_more ws) (λ a. refl))
-      (either (bytes_eq name (codes "hlen")) (of_one command.HLen ws (λ k. (refl, refl)))
-      (either (bytes_eq name (codes "hexists"))
-      (of_two (λ p. command.HExists p.0 p.1) ws (λ p. (refl, refl)))
-      (either (bytes_eq name (codes "hkeys")) (of_one command.HKeys ws (λ k. (refl, refl)))
-      (either (bytes_eq name (codes "hvals")) (of_one command.HVals ws (λ k. (refl, refl)))
-      (either (bytes_eq name (codes "hincrby")) (of_hincrby ws)
-      fault)))))))))
+      (grind (arith, own, fault))
+      (grind (arith, either, none, fault, own)))
 
   of_keys : (name : List ℕ) (ws : List (List ℕ)) → Reads may ws (key_reading name ws)
   unfolding key_reading
   of_keys name ws =
       either (bytes_eq name (codes "del")) (none command.Del (at_least_one ws) (λ a. refl))
-      (either (bytes_eq name (codes "exists")) (of_exists ws)
-      (either (bytes_eq name (codes "type")) (of_one command.KeyType ws (λ k. (refl, refl)))
+      (either (bytes_eq name (codes "exists")) (grind (arith, fault, own))
+      (either (bytes_eq name (codes "type")) (grind (arith, own, fault))
       (either (bytes_eq name (codes "rename"))
       (none (λ p. command.Rename p.0 p.1) (two ws) (λ a. refl))
       (either (bytes_eq name (codes "expire"))
@@ -156,16 +109,7 @@ module _ {may : Bool} where
       (none (λ p. command.ExpireAt p.0 p.1) (one_and_seconds ws) (λ a. refl))
       (either (bytes_eq name (codes "pexpireat"))
       (none (λ p. command.PExpireAt p.0 p.1) (one_and_number ws) (λ a. refl))
-      (either (bytes_eq name (codes "ttl")) (none command.Ttl (one ws) (λ a. refl))
-      (either (bytes_eq name (codes "pttl")) (none command.PTtl (one ws) (λ a. refl))
-      (either (bytes_eq name (codes "persist")) (none command.Persist (one ws) (λ a. refl))
-      (either (bytes_eq name (codes "dbsize"))
-      (none (λ _. command.DbSize) (no_word ws) (λ a. refl))
-      (either (bytes_eq name (codes "flushall"))
-      (none command.FlushAll (flush_mode ws) (λ a. refl))
-      (either (bytes_eq name (codes "flushdb"))
-      (none command.FlushDb (flush_mode ws) (λ a. refl))
-      fault)))))))))))))
+      (grind (arith, either, none, fault)))))))))
 
 -- ---- of a connection's own commands, some are control commands
 
@@ -173,12 +117,9 @@ of_client : (name : List ℕ) (vs ws : List (List ℕ)) → Reads true vs (clien
 unfolding client_reading
 of_client name vs ws = grind (arith, either, none, fault)
 
-of_client_words : (ws : List (List ℕ)) → Reads true ws (client_words ws)
-of_client_words ws = grind (arith, fault, of_client)
-
 of_connection : (name : List ℕ) (ws : List (List ℕ)) → Reads true ws (connection_reading name ws)
 unfolding connection_reading
-of_connection name ws = grind (arith, either, none, of_client_words, fault)
+of_connection name ws = grind (arith, either, none, fault, of_client)
 
 of_data : (may : Bool) (name : List ℕ) (ws : List (List ℕ)) →
     Reads may ws (connection_reading name ws) → Reads may ws (reading_of name ws)
@@ -201,10 +142,7 @@ no_control name ws unknown =
 
 -- no cacheable query is read of no words
 pub no_query : (name : List ℕ) → reads_as_cacheable (reading_of name []) ≡ false
-no_query name = by (reads_as_cacheable (reading_of name [])) (of_name name []).first
-  where
-    by : (b : Bool) → (b ≡ true → ⊥) → b ≡ false
-    by b none = grind (arith, none)
+no_query name = grind (arith, of_name, none)
 
 -- a cacheable query reads the key of its words alone
 pub reads_its_key : (words : List (List ℕ)) → reads_as_cacheable (reading words) ≡ true →

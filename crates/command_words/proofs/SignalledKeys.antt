@@ -1,28 +1,25 @@
 -- What each row signals is among the keys that its command writes.
 use Rattle.std.proofs.Common.{◌≡◌, ◌∙◌, sym, ℕ, List, [], ◌∷◌, Bool, true, Option, Result, length}
-use Rattle.std.proofs.Common.{◌==◌, ℤ, arith}
-use Rattle.std.specs.Prelude.{pos, negsuc, neg_ℤ, if◌then◌else◌, nat_lt, ◌++◌, ◌&&◌}
+use Rattle.std.proofs.Common.{ℤ, arith}
+use Rattle.std.specs.Prelude.{pos, negsuc, neg_ℤ, if◌then◌else◌, nat_lt}
 use Rattle.std.specs.FinMap.{contains_key}
 use Rattle.std.specs.List.{filter, list_any}
 use Rattle.std.specs.Option.{is_some}
 use Rattle.std.specs.Str.{bytes_eq}
 use Rattle.resp_value.specs.declared.value.Value.{Value}
-use Rattle.resp_value.specs.Tree.{in_turn}
 use Rattle.command_words.specs.declared.command.Command.{Command}
 use Rattle.command_words.specs.declared.command.Command.TheVariants as command
 use Rattle.command_words.specs.declared.written.Written.{Written}
 use Rattle.command_words.specs.declared.written.Written.TheVariants.{Keys}
-use Rattle.command_words.specs.KeyLists.{each_once}
 use Rattle.command_words.specs.Space.{Content, Space, content_at, deadline_at}
 use Rattle.command_words.specs.Effect.{Effect, replied, wrote, wrong_type}
 use Rattle.command_words.specs.Effects.{effect, string_effect, hash_effect, key_effect}
-use Rattle.command_words.specs.Hashes.{Pairs, on_fields, hset_row, hdel_row, hincrby_row, set_all}
-use Rattle.command_words.specs.Hashes.{remove_all, field_sum}
+use Rattle.command_words.specs.Hashes.{Pairs, on_fields, hincrby_row}
 use Rattle.command_words.specs.Keys.{expiry_after, expiry_at, expire_effect}
 use Rattle.command_words.specs.Laws.{signals}
 use Rattle.command_words.specs.Queries.{written, names, keys_in_turn}
 use Rattle.command_words.specs.Strings.{on_text, getdel_row, append_row, incrby_row, incrby_effect}
-use Rattle.command_words.specs.Strings.{is_least, or_empty, sets}
+use Rattle.command_words.specs.Strings.{is_least, sets}
 use Rattle.command_words.proofs.KeysOnce.{any_left, any_once}
 
 pub record Only (written : Written) (e : Effect) : Type 0 where
@@ -75,10 +72,7 @@ expire key expiry space = either (contains_key space key) own none
 -- a key that is among some of the keys is among them
 among : (p : List ℕ → Bool) (k : List ℕ) (keys : List (List ℕ)) →
     list_any (bytes_eq k) (filter p keys) ≡ true → list_any (bytes_eq k) keys ≡ true
-among p k keys some = by (p k) (list_any (bytes_eq k) keys) (sym (any_left p k keys) ∙ some)
-  where
-    by : (b c : Bool) → (b && c) ≡ true → c ≡ true
-    by b c e = grind arith
+among p k keys some = grind (arith, any_left)
 
 pub signalled_only : (c : Command) (space : Space) (moment : ℕ) →
     Only (written c) (effect c space moment)
@@ -88,9 +82,7 @@ signalled_only (command.Set key value when life) space moment =
 signalled_only (command.SetNx key value) space moment = either (contains_key space key) none own
 signalled_only (command.GetDel key) space moment =
     text (content_at key space) space (λ v. getdel_row key v space) (λ v. getdel key v space)
-signalled_only (command.Append key value) space moment =
-    text (content_at key space) space (λ v. append_row key (or_empty v ++ value) space)
-    (λ v. append key (or_empty v ++ value) space)
+signalled_only (command.Append key value) space moment = grind (arith, text)
 signalled_only (command.Incr key) space moment = incr_text key (pos 1) space
 signalled_only (command.Decr key) space moment = incr_text key (negsuc 0) space
 signalled_only (command.IncrBy key n) space moment = incr_text key n space
@@ -98,20 +90,12 @@ signalled_only (command.DecrBy key n) space moment =
     either (is_least n) none (incr_text key (neg_ℤ n) space)
 signalled_only (command.MSet words) space moment =
     record { is = λ k signalled. sym (any_once k (keys_in_turn words)) ∙ signalled }
-signalled_only (command.HSet key words) space moment =
-    fields (content_at key space) space (λ fs. hset_row key fs (set_all (in_turn words) fs) space)
-    (λ fs. own)
-signalled_only (command.HDel key names) space moment =
-    fields (content_at key space) space (λ fs. hdel_row key fs (remove_all names fs) space)
-    (λ fs. either (length fs == length (remove_all names fs)) none own)
-signalled_only (command.HIncrBy key field n) space moment =
-    fields (content_at key space) space
-    (λ fs. hincrby_row key field (field_sum field n fs) fs space)
-    (λ fs. hincr key field (field_sum field n fs) fs space)
+signalled_only (command.HSet key words) space moment = grind (arith, fields, own)
+signalled_only (command.HDel key names) space moment = grind (arith, fields, either, none, own)
+signalled_only (command.HIncrBy key field n) space moment = grind (arith, fields, hincr)
 signalled_only (command.Del keys) space moment =
     record {
-      is = λ k signalled.
-          sym (any_once k keys) ∙ among (contains_key space) k (each_once keys) signalled;
+      is = grind (arith, any_once, among);
     }
 signalled_only (command.Rename a b) space moment =
     either (contains_key space a) (either (bytes_eq a b) none own) none

@@ -60,8 +60,7 @@ database_send : IsSend database.the_row
 database_send = view_send _ _ _ _ _ database_inside
 
 stores_send : IsSend stores.the_row
-stores_send =
-    search (sendable, database_send, table.the_send, connections.the_send) depth 20
+stores_send = search (sendable, database_send, table.the_send, connections.the_send) depth 20
 
 book_inside : IsSend book_parts.the_row
 book_inside = declared_send book_parts.the_type (

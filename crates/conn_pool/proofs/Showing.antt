@@ -1,25 +1,23 @@
 -- What is shown of a report stays shown, whatever the history grows by, and as workers are joined.
 use Rattle.std.proofs.Common.{◌≡◌, ◌≤◌, ℕ, List, [], ◌∷◌, ◌++◌, true, sym, refl, ap, subst, arith}
-use Rattle.std.specs.Prelude.{◌⊎◌, Option, Some}
+use Rattle.std.specs.Prelude.{Option, Some}
 use Rattle.std.specs.List.{All}
 use Rattle.std.specs.List.Sorted.{IsPermutation}
 use Rattle.std.proofs.lemmas.List.Elements.{All-nil, All-append}
 use Rattle.std.proofs.lemmas.List.Sorted.{All-permutation}
 use Rattle.turn_lock.specs.History.{IsPrefix}
-use Rattle.turn_lock.specs.declared.rule.TheConstants.{LAST_TICKET}
 use Rattle.serial_model.specs.declared.history.Limits.{Limits}
 use Rattle.serial_model.specs.declared.history.Entry.{Entry}
 use Rattle.serial_model.specs.History.{has_ended}
 use Rattle.seat_turns.specs.Own.{past_of, Grows}
-use Rattle.shared_book.specs.Turns.{Place, Turn, limits_in, limits_of, IsServerCause, IsCause}
-use Rattle.shared_book.specs.declared.turns.Refusal.{Refusal}
+use Rattle.shared_book.specs.Turns.{Place, Turn, limits_in, limits_of}
 use Rattle.seat_turns.proofs.Growing.{grows_past}
 use Rattle.shared_book.proofs.Histories.{begins_lift, ended_more, full_begins}
 use Rattle.seat_turns.proofs.Turning.{entries_begin}
 use Rattle.conn_worker.specs.declared.report.Report.{Report}
 use Rattle.conn_worker.specs.declared.report.Ended.{Ended}
-use Rattle.conn_worker.specs.Visits.{IsShown, Visits, Served, NotServed, ended_by}
-use Rattle.conn_pool.specs.Shown.{ShowsEnd, IsUnadmitted, Shows, AreShown}
+use Rattle.conn_worker.specs.Visits.{IsShown, Visits}
+use Rattle.conn_pool.specs.Shown.{ShowsEnd, Shows, AreShown}
 
 module _ (l : Limits) (a b : List Entry) (t u : ℕ) (more : IsPrefix a b) (le : t ≤ u) where
   ended_begins : (id : ℕ) → has_ended l id a ≡ true → has_ended l id b ≡ true
@@ -29,12 +27,8 @@ module _ (l : Limits) (a b : List Entry) (t u : ℕ) (more : IsPrefix a b) (le :
   end_more : (e : Ended) (id : ℕ) → ShowsEnd e l a t id → ShowsEnd e l b u id
   end_more e id h = grind (arith, ended_begins, full_begins)
 
-  over_more : (id : ℕ) → (has_ended l id a ≡ true) ⊎ (LAST_TICKET ≤ t)
-      → (has_ended l id b ≡ true) ⊎ (LAST_TICKET ≤ u)
-  over_more id e = grind (arith, ended_begins)
-
   pub shows_more : (r : Report) → Shows l a t r → Shows l b u r
-  shows_more r s = grind (arith, end_more, over_more)
+  shows_more r s = grind (arith, end_more, ended_begins)
 
   pub all_more : (rs : List Report) → All (Shows l a t) rs → All (Shows l b u) rs
   all_more rs s = λ k d lt. shows_more _ (s k d lt)
@@ -46,26 +40,11 @@ end_shown : (e : Ended) (id : ℕ) (heard : List ℕ) (k : Place) → IsShown e 
     → ShowsEnd e (limits_of k) (past_of k) k.tickets id
 end_shown e id heard k h = grind arith
 
-refusal_shown : (e : Refusal) (k : Place) → IsCause e 0 k → IsServerCause e
-    → ShowsEnd (ended_by e) (limits_of k) (past_of k) k.tickets 0
-refusal_shown e k h a = grind arith
-
-refusal_unadmitted : (e : Refusal) → IsServerCause e → IsUnadmitted (ended_by e)
-refusal_unadmitted e a = grind arith
-
 module _ (clock : Option ℕ) (r : Report) (left0 left1 link0 link1 : Option (List ℕ))
     (old new : Place) where
-  unserved_shows : NotServed r left0 left1 link0 link1 old new
-      → Shows (limits_of new) (past_of new) new.tickets r
-  unserved_shows s = grind (arith, refusal_shown, refusal_unadmitted)
-
-  served_shows : Served clock r left0 left1 link0 link1 old new
-      → Shows (limits_of new) (past_of new) new.tickets r
-  served_shows s = grind (arith, end_shown, end_more, grows_past)
-
   visit_shows : Visits clock r left0 left1 link0 link1 old new
       → Shows (limits_of new) (past_of new) new.tickets r
-  visit_shows e = grind (arith, unserved_shows, served_shows)
+  visit_shows e = grind (arith, end_shown, end_more, grows_past)
 
 pub shown_none : (k : Place) → AreShown [] k
 unfolding AreShown

@@ -59,18 +59,13 @@ work_runs id n clock ((Run m words moment, past) ∷ ts) h =
     let t : Turn = (Run m words moment, past) in
     let same : m ≡ id = (All-head (IsWork id clock) t ts h).0 in
     let r = work_runs id n clock ts (All-tail (IsWork id clock) t ts h) in
-    ap (λ k. cond {A = ℕ} (k == n) 1 0 + ran_in n ts) same
-    ∙ (ap (λ k. cond {A = ℕ} (id == n) 1 0 + k) r
-    ∙ (count_more (id == n) (length (runs_in ts))
-    ∙ ap (λ k. cond {A = ℕ} (id == n) k 0) (sym (length-append (runs_in ts) (words ∷ [])))))
+    grind (arith, count_more, length-append)
 work_runs id n clock ((Tick moment, past) ∷ ts) h =
     let r = work_runs id n clock ts (All-tail (IsWork id clock) (Tick moment, past) ts h) in
-    let e = ap (λ z. cond {A = ℕ} (id == n) (length z) 0) (append-nil (runs_in ts)) in
-    omega (arith, r, e)
+    grind (arith, append-nil)
 work_runs id n clock ((Take m most, past) ∷ ts) h =
     let r = work_runs id n clock ts (All-tail (IsWork id clock) (Take m most, past) ts h) in
-    let e = ap (λ z. cond {A = ℕ} (id == n) (length z) 0) (append-nil (runs_in ts)) in
-    omega (arith, r, e)
+    grind (arith, append-nil)
 work_runs id n clock ((Close m, past) ∷ ts) h =
     absurd (All-head (IsWork id clock) (Close m, past) ts h)
 
@@ -126,8 +121,7 @@ module _ (clock : Option ℕ) (r : Report) (left0 left1 link0 link1 : Option (Li
       let a : List Turn = (Admit r.id, s.admits.past) ∷ [] in
       let first = grows_then old s.first s.last a s.works.turns s.admits.grows s.works.grows in (
         closed_turns r.id s.closes.close ++ (s.works.turns ++ a),
-        grows_then old s.last new (s.works.turns ++ a) (closed_turns r.id s.closes.close) first
-            s.closes.grows,
+        grind (arith, grows_then),
       )
 
   visit_grows : Visits clock r left0 left1 link0 link1 old new → (ts : List Turn) × Grows old new ts

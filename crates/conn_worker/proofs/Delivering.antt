@@ -52,11 +52,6 @@ module _ (l : Limits) (id : ℕ) where
   nothing_left : (n : ℕ) (xs : List ℕ) → drop n xs ≡ [] → length xs ≤ n
   nothing_left n xs h = omega (arith, ap length h, length-drop n xs)
 
-  -- nothing waits, so all was taken
-  pub rests_taken : (past : List Entry) → has_ended l id past ≡ false → unsent l id past ≡ []
-      → length (stream l id past) ≤ taken l id past
-  rests_taken past live none = grind (arith, nothing_left, unsent_is)
-
   -- a Take that gave less than the most took all
   pub short_taken : (past : List Entry) (most : ℕ) (bytes : List ℕ) → has_ended l id past ≡ false
       → bytes ≡ take most (unsent l id past) → length bytes < most
@@ -119,17 +114,7 @@ module _ (id : ℕ) (link0 link1 : Option (List ℕ)) (old new : Place)
         let now = short_taken l id g.past most bytes live given short in
         let before = stream_begins l id (past_of old) (past_of last)
         (grows_past old last took took_grows) in
-        let there : length (stream l id (past_of last)) ≤ taken l id (past_of last)
-        = subst (λ past. length (stream l id past) ≤ taken l id past) (sym ends) now in
-        record {
-          turns = took;
-          grows = took_grows;
-          work = took_work;
-          runs_none = append-nil (runs_in d.turns) ∙ d.runs_none;
-          wrote = appends_as link0 link2 _ _ (sym gave_is)
-              (appends_more link0 link1 link2 (gave (limits_of old) d.turns) bytes d.wrote w);
-          taken_all = omega (arith, before, there);
-        }
+        grind (arith, took, took_grows, took_work, append-nil, appends_as, gave_is, appends_more)
 
     -- a front of them was written, and the link failed
     pub delivers_failed : (link2 : Option (List ℕ)) (front : List ℕ) → Appends link1 link2 front
@@ -147,14 +132,7 @@ module _ (id : ℕ) (link0 link1 : Option (List ℕ)) (old new : Place)
       let none = ap (λ l. unsent l id (past_of last)) (sym limits_same) ∙ r.none in
       let before = stream_begins l id (past_of old) (past_of last)
       (grows_past old last d.turns grows) in
-      record {
-        turns = d.turns;
-        grows = grows;
-        work = d.work;
-        runs_none = d.runs_none;
-        wrote = d.wrote;
-        taken_all = omega (arith, before, rests_taken l id (past_of last) live none);
-      }
+      grind (arith, nothing_left, unsent_is)
 
   pub delivers_refused : (r : Refusal) (last : Place) → Refuses r id new last
       → DeliversPart (ended_by r) id link0 link1 old last
@@ -182,29 +160,19 @@ module _ (id : ℕ) (link0 link1 link2 : Option (List ℕ)) (old mid new : Place
   mid_limits : limits_of mid ≡ limits_of old
   mid_limits = ap limits_in d.grows.setup
 
-  both_gave : (ts : List Turn) → gave (limits_of old) (ts ++ d.turns)
-      ≡ gave (limits_of old) d.turns ++ gave (limits_of mid) ts
-  both_gave ts = grind (arith, order_append, mid_limits)
-
-  both_run : (ts : List Turn) → runs_in ts ≡ [] → runs_in (ts ++ d.turns) ≡ []
-  both_run ts none = grind (arith, order_append, append-nil)
-
   pub delivers_then : Delivers id link1 link2 mid new → Delivers id link0 link2 old new
   delivers_then e =
       let l = limits_of old in
       let first = stream_begins l id (past_of old) (past_of mid)
       (grows_past old mid d.turns d.grows) in
       let all : length (stream l id (past_of mid)) ≤ taken l id (past_of new)
-      = subst (λ z. length (stream z id (past_of mid)) ≤ taken z id (past_of new)) mid_limits
-      e.taken_all in
+      = grind (arith, mid_limits) in
       record {
         turns = e.turns ++ d.turns;
         grows = grows_then old mid new d.turns e.turns d.grows e.grows;
         work = λ clock. All-append (IsWork id clock) e.turns d.turns (e.work clock) (d.work clock);
-        runs_none = both_run e.turns e.runs_none;
-        wrote = appends_as link0 link2 _ _ (sym (both_gave e.turns))
-            (appends_more link0 link1 link2 (gave l d.turns) (gave (limits_of mid) e.turns) d.wrote
-            e.wrote);
+        runs_none = grind (arith, order_append, append-nil);
+        wrote = grind (arith, appends_as, appends_more, order_append, mid_limits);
         taken_all = omega (arith, first, all);
       }
 
@@ -216,14 +184,10 @@ module _ (id : ℕ) (link0 link1 link2 : Option (List ℕ)) (old mid new : Place
         turns = e.turns ++ d.turns;
         grows = grows_then old mid new d.turns e.turns d.grows e.grows;
         work = λ clock. All-append (IsWork id clock) e.turns d.turns (e.work clock) (d.work clock);
-        runs_none = both_run e.turns e.runs_none;
+        runs_none = grind (arith, order_append, append-nil);
         bytes = gave l d.turns ++ e.bytes;
         wrote = appends_more link0 link1 link2 (gave l d.turns) e.bytes d.wrote e.wrote;
-        front = (
-          e.front.0,
-          append_assoc (gave l d.turns) e.bytes e.front.0
-              ∙ ap (λ z. gave l d.turns ++ z) e.front.1 ∙ sym (both_gave e.turns),
-        );
+        front = grind (arith, append_assoc, order_append, mid_limits);
         cause_is = e.cause_is;
       }
 

@@ -1,5 +1,5 @@
 -- The requests that a connection has read are read as calls, and run.
-use Rattle.std.proofs.Common.{◌≡◌, ◌<◌, ℕ, List, [], ◌∷◌, ◌++◌, length, max, Some, None, refl, sym}
+use Rattle.std.proofs.Common.{◌≡◌, ◌<◌, ℕ, List, [], ◌∷◌, ◌++◌, length, max, Some, refl, sym}
 use Rattle.std.proofs.Common.{ap, subst, ◌∙◌, arith, append_assoc, take, append-nil, drop, Ok}
 use Rattle.std.specs.Prelude.{Option, IfSome}
 use Rattle.std.specs.List.{All}
@@ -7,21 +7,20 @@ use Rattle.std.proofs.lemmas.List.{take-append-drop, length-take-le}
 use Rattle.std.proofs.lemmas.List.Elements.{All-nil, All-cons, All-append}
 use Rattle.resp_stream.specs.declared.fault.StreamFault.{StreamFault}
 use Rattle.resp_stream.specs.declared.fault.StreamFault.TheVariants as stream
-use Rattle.resp_stream.specs.Parsed.{Whole, More}
+use Rattle.resp_stream.specs.Parsed.{Whole}
 use Rattle.resp_stream.specs.Parse.{parse}
 use Rattle.resp_value.specs.declared.octets.Words.{Words}
 use Rattle.resp_stream.specs.Readers.{skipped, IsFaultOf, FaultGives, RequestGives}
 use Rattle.resp_stream.specs.Request.{request_at, skip_empty}
 use Rattle.resp_stream.specs.Stream.{Stream, moved_on, fault_place}
 use Rattle.resp_stream.specs.declared.fault.FaultPlace.{FaultPlace}
-use Rattle.resp_stream.proofs.Parse.{parse_whole, parse_more, parse_bad, shorter}
-use Rattle.serial_model.specs.declared.history.Entry.{Entry}
+use Rattle.resp_stream.proofs.Parse.{parse_whole, parse_bad, shorter}
 use Rattle.serial_model.specs.declared.history.Entry.TheVariants as entry
 use Rattle.serial_model.specs.declared.history.BookCall.{BookCall}
 use Rattle.serial_model.specs.declared.history.BookCall.TheVariants.{Admit, Run, Tick, Take, Close}
 use Rattle.serial_model.specs.History.{latest}
 use Rattle.seat_turns.specs.Own.{IsWithin, Grows}
-use Rattle.shared_book.specs.Turns.{Place, Turn, IsCause, limits_in, limits_of}
+use Rattle.shared_book.specs.Turns.{Place, Turn, IsCause, limits_of}
 use Rattle.shared_book.specs.Batches.{IsRunAt, requests_in, RunsEach, RunsAndTakes, RunsFirst}
 use Rattle.resp_value.specs.declared.octets.Octets.{Octets}
 use Rattle.shared_book.specs.declared.turns.Refusal.{Refusal}
@@ -29,7 +28,7 @@ use Rattle.seat_turns.proofs.Growing.{grows_none, grows_then, order_append}
 use Rattle.conn_worker.specs.declared.report.Ended.TheVariants.{NoMemory}
 use Rattle.conn_worker.specs.declared.connection.Connection.{Connection}
 use Rattle.conn_worker.specs.Visits.{IsWork, IsEnd, runs_in, gave, ended_by, ReadsAll, RunsPart}
-use Rattle.conn_worker.specs.Visits.{HearsAll, gave_in, run_in}
+use Rattle.conn_worker.specs.Visits.{HearsAll, run_in}
 
 -- what was read so far, and what is left of it
 pub record Reading (before now : Connection) (calls : List BookCall) : Type 0 where
@@ -38,9 +37,6 @@ pub record Reading (before now : Connection) (calls : List BookCall) : Type 0 wh
   pub items : (parse before.reader).items ≡ requests_in calls ++ (parse now.reader).items
   pub stream : (parse now.reader).stream ≡ (parse before.reader).stream
   pub fault : (parse now.reader).fault ≡ (parse before.reader).fault
-
-pub reading_none : (c : Connection) (calls : List BookCall) → calls ≡ [] → Reading c c calls
-reading_none c calls none = grind arith
 
 requests_append : (calls : List BookCall) (id now : ℕ) (words : List (List ℕ))
     → requests_in (calls ++ Run id words now ∷ []) ≡ requests_in calls ++ words ∷ []
@@ -60,11 +56,6 @@ module _ (before now : Connection) (calls : List BookCall) (r : Reading before n
       → Reading before (record now { reader = s }) more
   reading_more words s moment is moved more same =
       grind (arith, parse_whole, append_assoc, requests_append)
-
-  -- nothing whole is left
-  pub reading_ends : (s : Stream) → request_at (skipped now.reader).rest ≡ More
-      → s ≡ skipped now.reader → ReadsAll None before (record now { reader = s }) calls
-  reading_ends s more is = grind (arith, parse_more, append-nil)
 
   faulty : (s : Stream) (f : StreamFault) → IsFaultOf request_at (skipped now.reader) f
       → ReadsAll (Some f) before (record now { reader = s }) calls
@@ -107,10 +98,6 @@ record Ran (clock : Option ℕ) (id : ℕ) (ws : List (List (List ℕ))) (old ne
     pub gave_none : gave (limits_of old) turns ≡ []
     pub runs : runs_in turns ≡ ws
 
-pub at_clock : (clock : Option ℕ) (now : ℕ) (past : List Entry) → IfSome clock (λ m. now ≡ m)
-    → IfSome clock (λ m. max now (latest past) ≡ max m (latest past))
-at_clock clock now past h = grind arith
-
 each_ran : (clock : Option ℕ) (id now : ℕ) → IfSome clock (λ m. now ≡ m)
     → (ws : List (List (List ℕ))) (old new : Place) → RunsEach id now ws old new
     → Ran clock id ws old new
@@ -128,10 +115,8 @@ each_ran clock id now is (w ∷ ws) old new (mid, run, rest) =
       turns = r.turns ++ t ∷ [];
       grows = grows_then old mid new (t ∷ []) r.turns run.grows r.grows;
       work = All-append (IsWork id clock) r.turns (t ∷ []) r.work
-          (All-cons (IsWork id clock) t [] (refl, at_clock clock now run.past is)
-          (All-nil (IsWork id clock)));
-      gave_none = order_append (gave_in (limits_of old)) r.turns (t ∷ [])
-          ∙ ap (λ l. gave l r.turns) (sym (ap limits_in run.grows.setup)) ∙ r.gave_none;
+          (grind arith);
+      gave_none = grind (arith, order_append);
       runs = order_append run_in r.turns (t ∷ []) ∙ ap (λ z. w ∷ z) r.runs;
     }
 
@@ -146,26 +131,8 @@ module _ (clock : Option ℕ) (now : ℕ) (before read : Connection) (calls : Li
       (record read { requests = count }) old new
   all_ran fault front told all =
       let t : RunsAndTakes before.id now before.requests (requests_in calls) count front old new
-      = subst (λ (z : ℕ × ℕ). RunsAndTakes z.0 now z.1 (requests_in calls) count front old new)
-      (λ i. (same.0 i, same.1 i)) told in
-      let ran = each_ran clock before.id now is (requests_in calls) old t.middle t.each in
-      let long = ap length ran.runs in
-      record {
-        middle = t.middle;
-        runs = record {
-          turns = ran.turns;
-          grows = ran.grows;
-          work = ran.work;
-          gave_none = ran.gave_none;
-          id = same.0;
-          requests = omega (arith, t.counted, long);
-          counted = t.fits;
-          runs = ran.runs ∙ all.items;
-          fault_is = all.fault_is;
-          reader = all.reader;
-        };
-        takes = t.takes;
-      }
+      = grind arith in
+      grind (arith, each_ran)
 
   pub part_ran : (fault : Option StreamFault) (e : Refusal)
       → RunsFirst read.id now read.requests (requests_in calls) count e old new
@@ -173,8 +140,7 @@ module _ (clock : Option ℕ) (now : ℕ) (before read : Connection) (calls : Li
       → RunsPart clock (ended_by e) before (record read { requests = count }) old new
   part_ran fault e told all =
       let t : RunsFirst before.id now before.requests (requests_in calls) count e old new
-      = subst (λ (z : ℕ × ℕ). RunsFirst z.0 now z.1 (requests_in calls) count e old new)
-      (λ i. (same.0 i, same.1 i)) told in
+      = grind arith in
       let some = take t.number (requests_in calls) in
       let ran = each_ran clock before.id now is some old new t.each in
       let long = ap length ran.runs in
@@ -188,8 +154,7 @@ module _ (clock : Option ℕ) (now : ℕ) (before read : Connection) (calls : Li
         requests = omega (arith, t.counted, long, front);
         runs = (
           drop t.number (requests_in calls),
-          ap (λ z. z ++ drop t.number (requests_in calls)) ran.runs
-              ∙ (take-append-drop t.number (requests_in calls) ∙ all.items),
+          grind (arith, take-append-drop),
         );
         cause_is = cause_end e t.cause_is;
       }

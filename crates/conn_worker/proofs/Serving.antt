@@ -1,14 +1,14 @@
 -- A connection is served round by round: its link is read, its requests run, and what waits for it
 -- is written.
 use Rattle.std.proofs.Common.{◌≡◌, ◌≤◌, ℕ, List, [], ◌++◌, length, true, Some, None, refl, sym, ap}
-use Rattle.std.proofs.Common.{subst, ◌∙◌, arith, append_assoc, append-nil, length-append, inr}
+use Rattle.std.proofs.Common.{subst, ◌∙◌, arith, append_assoc, append-nil, length-append}
 use Rattle.std.specs.Prelude.{Option, Err, ◌⊎◌}
 use Rattle.std.specs.List.{All}
 use Rattle.std.specs.Io.KnownBytes.{Appends, Consumes, Keeps}
 use Rattle.std.proofs.lemmas.List.Elements.{All-append}
 use Rattle.resp_stream.specs.declared.fault.StreamFault.{StreamFault}
 use Rattle.resp_stream.specs.Parse.{parse, requests_of}
-use Rattle.resp_stream.specs.Stream.{begun, fed}
+use Rattle.resp_stream.specs.Stream.{fed}
 use Rattle.serial_model.specs.History.{is_admitted, stream, taken}
 use Rattle.seat_turns.specs.Own.{past_of, IsWithin, Grows}
 use Rattle.shared_book.specs.Turns.{Place, Turn, limits_in, limits_of, Admits, Takes}
@@ -19,7 +19,7 @@ use Rattle.edge_links.specs.declared.counts.Counts.{Counts}
 use Rattle.conn_worker.specs.declared.report.Ended.{Ended}
 use Rattle.conn_worker.specs.declared.report.Ended.TheVariants as ended
 use Rattle.conn_worker.specs.declared.connection.Connection.{Connection}
-use Rattle.conn_worker.specs.Visits.{IsWork, IsEnd, IsTaken, IsWhole, IsOfLink, IsShown, fault_in}
+use Rattle.conn_worker.specs.Visits.{IsWork, IsEnd, IsTaken, IsWhole, IsShown, fault_in}
 use Rattle.conn_worker.specs.Visits.{runs_in, gave, fed_connection, RunsAll, RunsPart, Delivers}
 use Rattle.conn_worker.specs.Visits.{DeliversPart, EndCounts, Hears, HearsPart, Works, Idle, Piece}
 use Rattle.conn_worker.specs.Visits.{Nothing, Worn, Part, fault_of, front_of, Begins, HearsAll}
@@ -29,12 +29,11 @@ use Rattle.conn_worker.specs.declared.connection.Behind.{Behind}
 use Rattle.conn_worker.specs.declared.deliver.Front.{Front}
 use Rattle.conn_worker.specs.declared.deliver.Front.TheVariants as front
 use Rattle.conn_worker.specs.declared.serve.Heard.{Heard}
-use Rattle.edge_links.proofs.Bytes.{appends_none, appends_more, appends_as, appends_kept}
-use Rattle.edge_links.proofs.Bytes.{consumes_none, consumes_more, consumes_kept}
-use Rattle.resp_stream.proofs.Onward.{GoesOn, goes_further, no_requests, requests_begun}
-use Rattle.resp_stream.proofs.Onward.{requests_join}
+use Rattle.edge_links.proofs.Bytes.{appends_more, appends_as, appends_kept}
+use Rattle.edge_links.proofs.Bytes.{consumes_more, consumes_kept}
+use Rattle.resp_stream.proofs.Onward.{GoesOn, goes_further, requests_join}
 use Rattle.conn_worker.proofs.Turning.{all_taken, no_runs}
-use Rattle.conn_worker.proofs.Ticking.{Passes, idles_pass, idles_faultless, idles_untaken}
+use Rattle.conn_worker.proofs.Ticking.{Passes, idles_pass}
 
 -- all that was read ran, and all that this gave was written
 pub record Serving (clock : Option ℕ) (id : ℕ) (c : Connection)
@@ -80,27 +79,12 @@ pub record Begun (clock : Option ℕ) (id : ℕ) (fault : Option StreamFault) (f
   pub within : IsWithin new
   pub admitted : is_admitted (past_of new) id ≡ true
 
-pub serving_none : (clock : Option ℕ) (c : Connection) (left link : Option (List ℕ)) (k : Place)
-    → c ≡ record { id = c.id; requests = 0; reader = begun }
-    → IsWithin k → is_admitted (past_of k) c.id ≡ true
-    → Serving clock c.id c left left link link k k
-serving_none clock c left link k new is on =
-    grind (arith, grows_none, consumes_none, requests_begun, no_requests, appends_none)
-
 takes_grows : (id : ℕ) (front : Option Octets) (k l : Place) → Takes id front k l
     → (ts : List Turn) × Grows k l ts
 takes_grows id None k l t = ([], t.grows)
 takes_grows id (Some bytes) k l t = (_, t.0.grows)
 
 -- ---- an end by a fault of the link, or as the seat shows it
-
-no_whole : (cause : Ended) (id : ℕ) (k : Place) → (cause ≡ ended.LinkFault) ⊎ IsEnd cause id k
-    → IsWhole cause → ⊥
-no_whole cause id k e w = grind arith
-
-shown_by : (cause : Ended) (id : ℕ) (heard : List ℕ) (k : Place)
-    → (cause ≡ ended.LinkFault) ⊎ IsEnd cause id k → IsShown cause id heard k
-shown_by cause id heard k e = grind arith
 
 module _ (clock : Option ℕ) (id : ℕ) (c : Connection) (left0 left1 link0 link1 : Option (List ℕ))
     (old new : Place) (s : Serving clock id c left0 left1 link0 link1 old new) where
@@ -137,16 +121,10 @@ module _ (clock : Option ℕ) (id : ℕ) (c : Connection) (left0 left1 link0 lin
         fits = r.counted;
         heard = s.heard ++ piece;
         read = consumes_more left0 left1 left2 s.heard piece s.read took;
-        reading = λ none.
-            subst (GoesOn parse (s.heard ++ piece)) (sym (r.reader none))
-            (goes_further parse s.heard piece c.reader requests_join s.reading
-            (sym r.fault_is ∙ none));
+        reading = grind (arith, GoesOn, goes_further, requests_join);
         met = λ f is. s.reading.faults piece ∙ (sym r.fault_is ∙ is);
-        runs = order_append run_in r.turns s.turns
-            ∙ ap (λ z. z ++ runs_in r.turns) s.runs
-            ∙ ap (λ z. requests_of s.heard ++ z) r.runs ∙ sym all;
-        wrote = appends_as link0 link2 _ _ (sym (gave_more r.turns r.gave_none))
-            (appends_kept link0 link1 link2 _ s.wrote kept);
+        runs = grind (arith, order_append);
+        wrote = grind (arith, appends_as, gave_more, appends_kept);
         admitted = admitted_then last r.turns r.grows;
       }
 
@@ -156,8 +134,7 @@ module _ (clock : Option ℕ) (id : ℕ) (c : Connection) (left0 left1 link0 lin
       → Waiting clock id fault c left0 left2 link0 link2 old last
   idle_waits fault last left2 link2 none p took kept =
       let runs : runs_in (p.turns ++ s.turns) ≡ runs_in s.turns
-      = order_append run_in p.turns s.turns ∙ ap (λ z. runs_in s.turns ++ z) p.runs_none
-      ∙ append-nil (runs_in s.turns) in
+      = grind (arith, order_append, append-nil) in
       let long = ap length p.grows.seen.1 in
       let both = length-append p.grows.seen.0 new.seen in
       record {
@@ -168,13 +145,11 @@ module _ (clock : Option ℕ) (id : ℕ) (c : Connection) (left0 left1 link0 lin
         counted = s.counted ∙ ap length (sym runs);
         fits = omega (arith, s.fits, long, both);
         heard = s.heard;
-        read = subst (Consumes left0 left2) (append-nil s.heard)
-            (consumes_more left0 left1 left2 s.heard [] s.read took);
+        read = grind (arith, append-nil, consumes_more);
         reading = λ h. s.reading;
         met = λ f is. absurd (let no : None ≡ Some f = sym none ∙ is in cc);
         runs = runs ∙ s.runs;
-        wrote = appends_as link0 link2 _ _ (sym (gave_more p.turns p.gave_none))
-            (appends_kept link0 link1 link2 _ s.wrote kept);
+        wrote = grind (arith, appends_as, gave_more, appends_kept);
         admitted = admitted_then last p.turns p.grows;
       }
 
@@ -211,16 +186,9 @@ module _ (clock : Option ℕ) (id : ℕ) (c : Connection) (left0 left1 link0 lin
       → Keeps link1 link2
       → Begun clock id (fault_of h) (front_of h) after left0 left2 link0 link2 old last
   hears_begins h after last left2 link2 (Idle idles same took) kept =
-      subst (λ x. Begun clock id (fault_of h) (front_of h) x left0 left2 link0 link2 old last)
-      (sym same)
-      (subst (λ f. Begun clock id (fault_of h) f c left0 left2 link0 link2 old last)
-      (sym (idles_untaken clock id new last h idles))
-      (untaken_begins (fault_of h) c last left2 link2
-      (idle_waits (fault_of h) last left2 link2 (idles_faultless clock id new last h idles)
-      (idles_pass clock id new last h idles) took kept)))
+      grind (arith, untaken_begins, idle_waits, idles_pass)
   hears_begins h after last left2 link2 (Piece behind is piece took r) kept =
-      subst (λ z. Begun clock id (fault_of z) (front_of z) after left0 left2 link0 link2 old last)
-      (sym is) (taken_begins piece behind after last left2 link2 took kept r)
+      grind (arith, taken_begins)
 
   part_works : (piece : List ℕ) (cause : Ended) (after : Connection) (last : Place)
       (left2 link2 : Option (List ℕ)) → Consumes left1 left2 piece → Keeps link1 link2
@@ -241,19 +209,13 @@ module _ (clock : Option ℕ) (id : ℕ) (c : Connection) (left0 left1 link0 lin
         heard = s.heard ++ piece;
         read = consumes_more left0 left1 left2 s.heard piece s.read took;
         bytes = gave (limits_of old) (r.turns ++ s.turns);
-        wrote = appends_as link0 link2 _ _ (sym (gave_more r.turns r.gave_none))
-            (appends_kept link0 link1 link2 _ s.wrote kept);
-        runs = (
-          r.runs.0,
-          ap (λ z. z ++ r.runs.0) front ∙ append_assoc (requests_of s.heard) (runs_in r.turns)
-              r.runs.0
-              ∙ ap (λ z. requests_of s.heard ++ z) r.runs.1 ∙ sym (s.reading.further piece),
-        );
+        wrote = grind (arith, appends_as, gave_more, appends_kept);
+        runs = grind (arith, append_assoc);
         front = ([], append-nil (gave (limits_of old) (r.turns ++ s.turns)));
-        all_ran = λ w. absurd (no_whole cause id last (inr is) w);
+        all_ran = λ w. absurd (grind arith);
         all_wrote = λ w. refl;
-        all_taken = λ w. absurd (no_whole cause id last (inr is) w);
-        shown = shown_by cause id (s.heard ++ piece) last (inr is);
+        all_taken = λ w. absurd (grind arith);
+        shown = grind arith;
       }
 
   -- nothing more was read, and no turn was added
@@ -281,23 +243,14 @@ module _ (clock : Option ℕ) (id : ℕ) (c : Connection) (left0 left1 link0 lin
     shown = shown;
   }
 
-  shown_link : (cause : Ended) → IsOfLink cause → IsShown cause id s.heard new
-  shown_link cause o = grind arith
-
   pub hears_stops : (cause : Ended) (after : Connection) (last : Place)
       (left2 link2 : Option (List ℕ)) → HearsPart clock cause c after left1 left2 new last
       → Keeps link1 link2
       → Works clock cause id after.requests left0 left2 link0 link2 old last
   hears_stops cause after last left2 link2 (Nothing of same still took) kept =
       subst (λ k. Works clock cause id after.requests left0 left2 link0 link2 old k) (sym still)
-      (subst (λ (x : Connection). Works clock cause id x.requests left0 left2 link0 link2 old new)
-      (sym same) (rest_works cause new left2 link2 (grows_none new s.grows.within)
-      (shown_link cause of) (λ w. s.was_taken) took kept))
-  hears_stops cause after last left2 link2 (Worn is r same took) kept =
-      subst (λ e. Works clock e id after.requests left0 left2 link0 link2 old last) (sym is)
-      (subst (λ (x : Connection). Works clock ended.Worn id x.requests left0 left2 link0 link2 old
-      last) (sym same) (rest_works ended.Worn last left2 link2 r.grows r.cause_is (λ w. absurd w)
-      took kept))
+      (grind (arith, rest_works, grows_none))
+  hears_stops cause after last left2 link2 (Worn is r same took) kept = grind (arith, rest_works)
   hears_stops cause after last left2 link2 (Part piece took r) kept =
       part_works piece cause after last left2 link2 took kept r
 
@@ -320,17 +273,13 @@ module _ (clock : Option ℕ) (id : ℕ) (fault : Option StreamFault) (c : Conne
     all_runs : runs_in (ts ++ s.turns) ≡ runs_in s.turns
     all_runs = grind (arith, order_append, append-nil)
 
-    all_gave : gave (limits_of old) (ts ++ s.turns)
-        ≡ gave (limits_of old) s.turns ++ gave (limits_of new) ts
-    all_gave = grind (arith, order_append, limits_kept)
-
   module _ (d : Delivers id link1 link2 new last) where
     all_turns : List Turn
     all_turns = d.turns ++ s.turns
 
     all_wrote : Appends link0 link2 (gave (limits_of old) all_turns)
     unfolding all_turns
-    all_wrote = grind (arith, appends_as, all_gave, appends_more)
+    all_wrote = grind (arith, appends_as, appends_more, order_append, limits_kept)
 
     there : length (stream (limits_of old) id (past_of new)) ≤ taken (limits_of old) id (past_of
         last)
@@ -405,25 +354,14 @@ module _ (clock : Option ℕ) (id : ℕ) (fault : Option StreamFault) (c : Conne
         heard = s.heard;
         read = consumes_kept left0 left1 left2 s.heard s.read kept;
         bytes = gave (limits_of old) s.turns ++ d.bytes;
-        wrote = appends_more link0 link1 link2 (gave (limits_of old) s.turns) d.bytes s.wrote
-            d.wrote;
+        wrote = grind (arith, appends_more);
         runs = ([], append-nil (runs_in all) ∙ (runs ∙ s.runs));
-        front = (
-          d.front.0,
-          append_assoc (gave (limits_of old) s.turns) d.bytes d.front.0
-              ∙ ap (λ z. gave (limits_of old) s.turns ++ z) d.front.1
-              ∙ sym (all_gave d.turns d.grows d.work d.runs_none),
-        );
+        front = grind (arith, append_assoc, order_append, limits_kept);
         all_ran = λ w. runs ∙ s.runs;
-        all_wrote = λ w. absurd (no_whole cause id last d.cause_is w);
-        all_taken = λ w. absurd (no_whole cause id last d.cause_is w);
-        shown = shown_by cause id s.heard last d.cause_is;
+        all_wrote = λ w. absurd (grind arith);
+        all_taken = λ w. absurd (grind arith);
+        shown = grind arith;
       }
-
--- counts over two steps, the first of which left faults and ends as they were
-pub end_counts_from : (cause : Ended) (a b c : Counts) → b.faults ≡ a.faults → b.ends ≡ a.ends
-    → EndCounts cause b c → EndCounts cause a c
-end_counts_from cause a b c f e h = grind arith
 
 -- an end of a delivery is no end of the link
 pub part_counts : (cause : Ended) (id : ℕ) (link0 link1 : Option (List ℕ)) (old new : Place)
@@ -438,14 +376,10 @@ part_counts cause id link0 link1 old new a b d h = by_case cause d.cause_is h
         → DeliveryCounts (Err cause) a b → EndCounts cause a b
     by_case cause e h = grind (arith, same)
 
-pub admits_admitted : (id : ℕ) (old first : Place) → Admits id old first
-    → is_admitted (past_of first) id ≡ true
-admits_admitted id old first a = grind (arith, admitted_now)
-
 pub works_admitted : (clock : Option ℕ) (cause : Ended) (id name requests : ℕ)
     (left0 left1 link0 link1 : Option (List ℕ)) (old first last : Place) → Admits id old first
     → name ≡ id → Works clock cause name requests left0 left1 link0 link1 first last
     → is_admitted (past_of last) id ≡ true
 works_admitted clock cause id name requests left0 left1 link0 link1 old first last a same w =
     begins_lift (λ past. is_admitted past id ≡ true) (admitted_more id) (past_of first)
-    (past_of last) (grows_past first last w.turns w.grows) (admits_admitted id old first a)
+    (past_of last) (grows_past first last w.turns w.grows) (grind (arith, admitted_now))

@@ -65,9 +65,7 @@ module _ (c : ℕ) (l : Limits) (past up : List Entry) (id : ℕ) (words : List 
   reply_behind place s at number reply =
       elim (get_parts (sent l c up) (early ++ late) place s
       (ap (λ ss. slice_get ss place) (sym sent_is) ∙ at)) [
-        | inl h ↦
-            let le = sent_le c l up place s h in
-            absurd (let no : ⊥ = omega (arith, le, number) in no)
+        | inl h ↦ grind (arith, sent_le)
         | inr b ↦
             elim (get_parts early late b.at s b.there) [
               | inl e ↦
@@ -88,13 +86,8 @@ module _ (c : ℕ) (l : Limits) (past up : List Entry) (id : ℕ) (words : List 
             let there : slice_get all place ≡ Some d = slice_get-get_or all place (0, End) lt in
             let same = same_Some d s
             (sym (sent_older c l (Run id words m ∷ up) past o place d there) ∙ at) in
-            reply_behind place d there (ap (λ (y : ℕ × Sending). y.0) same ∙ number)
-            (ap is_reply_sent same ∙ reply)
-        | inr ge ↦
-            let count = ap length sent_is in
-            let a = length-append (sent l c up) (early ++ late) in
-            let b = length-append early late in
-            omega (arith, count, a, b, ge)
+            grind (arith, reply_behind)
+        | inr ge ↦ grind (arith, sent_is, length-append)
       ]
 
   -- whom it tells in its first group has a push of it ahead of each reply of the entry

@@ -1,6 +1,6 @@
 -- From the run of an open fetch on, its connection is told of its key and the query's answer is
 -- what it was; or a message waits for the client.
-use Rattle.std.proofs.Common.{◌≡◌, ◌+◌, ◌-◌, ◌<◌, ◌≤◌, ℕ, suc, List, [], ◌∷◌, ◌++◌, length, true}
+use Rattle.std.proofs.Common.{◌≡◌, ◌+◌, ◌-◌, ◌<◌, ◌≤◌, ℕ, List, [], ◌∷◌, ◌++◌, length, true}
 use Rattle.std.proofs.Common.{false, cond, refl, ap, sym, ◌∙◌, arith, Some, subst, ◌⊎◌, inl, inr}
 use Rattle.std.proofs.Common.{append_assoc, length-append, Result, get_or}
 use Rattle.std.specs.Prelude.{slice_get, ◌==◌, ◌&&◌, ◌||◌}
@@ -91,9 +91,6 @@ module _ (l : Limits) (x : Client) (past : List Entry) (log : List LogEntry)
     pub waits : length (gots Main log) ≤ place
     pub by : sending.0 ≤ n
 
-  pub later_pending : (n m : ℕ) → n ≤ m → Pending n → Pending m
-  later_pending n m le p = grind arith
-
   -- an end waits
   end_pending : (up : List Entry) → Older up past → has_ended l (x.id Main) up ≡ true
       → Pending (length up)
@@ -101,19 +98,7 @@ module _ (l : Limits) (x : Client) (past : List Entry) (log : List LogEntry)
       let e = end_place (x.id Main) l (sent l (x.id Main) up)
       (sym (end_is_sent l (x.id Main) up) ∙ h) in
       let at = sent_older (x.id Main) l up past o e.0 (e.1, End) e.2 in
-      let le = sent_le (x.id Main) l up e.0 (e.1, End) e.2 in
-      elim (cases_lt e.0 (length (gots Main log))) [
-        | inl lt ↦
-            absurd (got_no_end (gots Main log) (sent l (x.id Main) past) e.0 e.1
-            (meet.came Main has_main) lt at)
-        | inr ge ↦ record {
-          place = e.0;
-          sending = (e.1, End);
-          there = at;
-          waits = ge;
-          by = le;
-        }
-      ]
+      grind (arith, sent_le, cases_lt, got_no_end, has_main)
 
   pub ran_older : (up : List Entry) → Older up past
       → IsPrefix (runs_of (x.id Main) up) (commands x.setup Main log)
@@ -147,16 +132,13 @@ module _ (l : Limits) (x : Client) (past : List Entry) (log : List LogEntry)
 
     -- the fetch's own Run, with the connection's id
     pub own : Older (Run (x.id Main) r.words r.moment ∷ r.up) past
-    own =
-        subst (λ i. Older (Run i r.words r.moment ∷ r.up) past) (eqb-true r.id (x.id Main) r.own)
-        r.older
+    own = grind (arith, Older, eqb-true)
 
     pub ran_by_then : (up : List Entry) → Older up past → p ≤ length up
         → 2 ≤ length (runs_of (x.id Main) up)
     ran_by_then up o le =
         let w = older_within (Run r.id r.words r.moment ∷ r.up) up past r.older o
-        (let h : length r.up + 1 ≤ length up = omega (arith, r.at, le) in more_length
-        (Run r.id r.words r.moment) r.up up h) in
+        (grind (arith, more_length)) in
         let m = prefix_le (runs_of (x.id Main) r.up) (runs_of (x.id Main) up)
         (runs_older (x.id Main) r.up up (older_tail (Run r.id r.words r.moment) r.up up w)) in
         omega (arith, m, r.place_is, number_least)
@@ -257,8 +239,7 @@ module _ (l : Limits) (x : Client) (past : List Entry) (log : List LogEntry)
           ∙ get_front (runs_of c (Run id words moment ∷ up)) m.0 k words
           (ap (λ rs. slice_get rs k) runs_are ∙ get_last (runs_of c up) words) in
           is_no_control x.setup log legal_log (k - 2) words
-          (ap (slice_get (commands x.setup Main log))
-          (let n_is : suc (suc (k - 2)) ≡ k = omega (arith, two) in n_is) ∙ at)
+          (grind arith)
 
       stays_tracking : (e : Entry) (up : List Entry) → Older (e ∷ up) past
           → 2 ≤ length (runs_of (x.id Main) up)
@@ -292,27 +273,19 @@ module _ (l : Limits) (x : Client) (past : List Entry) (log : List LogEntry)
                 → Steady (e ∷ up) ⊎ Pending (length up + 1)) [
                   | true ↦ λ h. inr
                       (told_pending (e ∷ up) (length up + 1) o (omega (arith, le))
-                      (lands c l e up k (told_is_due l e up c k
-                      (older_legal l tail.newer up (subst (IsLegal l) (sym tail.is) legal))
-                      steady.0 h) (three_by up tail two)
+                      (lands c l e up k (grind (
+                        arith,
+                        told_is_due,
+                        older_legal,
+                      )) (three_by up tail two)
                       (three_by (e ∷ up) o two_more)))
                   | false ↦ λ h.
                       elim (is_told l (e ∷ up) c k) as (λ b. is_told l (e ∷ up) c k ≡ b
                       → Steady (e ∷ up) ⊎ Pending (length up + 1)) [
-                        | true ↦ λ here. inl (
-                          here,
-                          (law l e up k (or_parts sig dropped h).0).1 q cacheable refl
-                              ∙ steady.1,
-                        )
+                        | true ↦ grind (arith, or_parts)
                         | false ↦ λ gone.
                             let cause = told_ends_for_cause l e up c k steady.0 gone in
-                            absurd (both_ways
-                            (((sig || dropped) || stops_tracking l e up c)
-                            || has_ended l c (e ∷ up))
-                            (or_from ((sig || dropped) || stops_tracking l e up c)
-                            (has_ended l c (e ∷ up))
-                            (or_from (sig || dropped) (stops_tracking l e up c) h
-                            (stays_tracking e up o two)) lives) cause)
+                            grind (arith, both_ways, or_from, stays_tracking)
                       ] refl
                 ] refl
           ] refl
@@ -326,17 +299,13 @@ module _ (l : Limits) (x : Client) (past : List Entry) (log : List LogEntry)
                 let n_is : length (e ∷ up) ≡ p = omega (arith, lt, le) in
                 let same : Run (x.id Main) r.words r.moment ∷ r.up ≡ e ∷ up =
                 sym (older_up_to (Run (x.id Main) r.words r.moment ∷ r.up) past own)
-                ∙ ap (λ k. up_to k past) (run_length (Run (x.id Main) r.words r.moment) r.up p r.at
-                ∙ sym n_is)
+                ∙ ap (λ k. up_to k past) (grind (arith, run_length))
                 ∙ older_up_to (e ∷ up) past o in
-                subst (λ k. Steady (e ∷ up) ⊎ Pending k) (sym n_is)
-                (subst (λ u. Steady u ⊎ Pending p) same start)
+                grind (arith, Steady, start)
             | inr ge ↦
                 elim (covered up (older_tail e up past o) ge) [
-                  | inl steady ↦
-                      subst (λ k. Steady (e ∷ up) ⊎ Pending k) (sym (length_more e up))
-                      (step e up o ge steady)
+                  | inl steady ↦ grind (arith, Steady, length_more, step)
                   | inr waits ↦
-                      inr (later_pending (length up) (length (e ∷ up)) (omega arith) waits)
+                      inr (grind arith)
                 ]
           ]

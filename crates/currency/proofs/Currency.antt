@@ -1,5 +1,5 @@
 -- The theorem on currency, on one link.
-use Rattle.std.proofs.Common.{◌≡◌, ◌+◌, ◌-◌, ◌<◌, ◌≤◌, ℕ, suc, List, [], ◌∷◌, length, true, false}
+use Rattle.std.proofs.Common.{◌≡◌, ◌+◌, ◌-◌, ◌<◌, ◌≤◌, ℕ, List, [], ◌∷◌, length, true, false}
 use Rattle.std.proofs.Common.{refl, ap, sym, ◌∙◌, arith, Some, subst, inl, inr, drop, take, max}
 use Rattle.std.proofs.Common.{get_or, Result}
 use Rattle.std.specs.Prelude.{slice_get}
@@ -29,7 +29,6 @@ use Rattle.command_words.specs.declared.command.WordFault.{WordFault}
 use Rattle.serial_model.specs.Laws.{ChangeIsSignalled, BeforeTheReply, is_told}
 use Rattle.serial_model.proofs.ReadLaws.{read_replies}
 use Rattle.serial_model.proofs.ServedRows.{served_is}
-use Rattle.shared_cache.specs.declared.log.Wire.{Wire}
 use Rattle.shared_cache.specs.declared.log.Wire.TheVariants.{Main}
 use Rattle.shared_cache.specs.declared.log.LogEntry.{LogEntry}
 use Rattle.shared_cache.specs.declared.entry.CacheEntry.{CacheEntry}
@@ -42,7 +41,7 @@ use Rattle.shared_cache.proofs.FetchLaws.{open_wires, held_is_fetch, place_is_qu
 use Rattle.shared_cache.proofs.CommandLists.{replies_are_gots}
 use Rattle.shared_cache.proofs.CommandLaws.{no_later_write}
 use Rattle.shared_cache.proofs.Every.{every_weaker}
-use Rattle.currency.specs.Links.{Client, HasWire, Meet, run_of, IsGot, AreGot}
+use Rattle.currency.specs.Links.{Client, Meet, run_of, IsGot, AreGot}
 use Rattle.currency.specs.Points.{up_to, before_first, complete, replied}
 use Rattle.currency.specs.Current.{IsAnswer, IsCurrent, HasPoint, point, Currency}
 use Rattle.currency.proofs.Lists.{get_dropped, nothing_dropped, get_front}
@@ -82,23 +81,13 @@ module _ (l : Limits) (x : Client) (past : List Entry) (log : List LogEntry)
       ≡ ss
       → before_first ss (length past) ≤ length past
   before_is [] e = omega arith
-  before_is (s ∷ ss) e =
-      let at = get_dropped (length (gots Main log)) (sent l (x.id Main) past) ss s e in
-      let le = sent_le (x.id Main) l past (length (gots Main log)) s at in omega (arith, le)
+  before_is (s ∷ ss) e = grind (arith, get_dropped, sent_le)
 
   pending_after : (n : ℕ) (ss : List (ℕ × Sending))
       → drop (length (gots Main log)) (sent l (x.id Main) past) ≡ ss
       → Pending l x past log served legal legal_log meet n → before_first ss (length past) < n
-  pending_after n [] e p =
-      let none = nothing_dropped (length (gots Main log)) (sent l (x.id Main) past) e in
-      let w = slice_get_within (sent l (x.id Main) past) p.place p.sending p.there in
-      absurd (let no : ⊥ = omega (arith, none, w, p.waits) in no)
-  pending_after n (s ∷ ss) e p =
-      let at = get_dropped (length (gots Main log)) (sent l (x.id Main) past) ss s e in
-      let le = sent_order (x.id Main) l past (length (gots Main log)) p.place s p.sending p.waits at
-      p.there in
-      let pos = sent_pos (x.id Main) l past (length (gots Main log)) s at in
-      omega (arith, le, pos, p.by)
+  pending_after n [] e p = grind (arith, nothing_dropped, slice_get_within)
+  pending_after n (s ∷ ss) e p = grind (arith, get_dropped, sent_order, sent_pos)
 
   complete_le : is_ended x.setup.mode Main log ≡ false → complete l x past log ≤ length past
   unfolding first_waiting
@@ -178,14 +167,7 @@ module _ (l : Limits) (x : Client) (past : List Entry) (log : List LogEntry)
       (slice_get-get_or kept j Null (omega (arith, count, lt))) in
       let p = reply_at l (x.id Main) past j k.sending
       (ap (λ ss. slice_get ss j) (sym (replies_are_of_runs l (x.id Main) past)) ∙ k.replied) in
-      record {
-        place = k.place;
-        sending = k.sending;
-        got = slice_get_within (gots Main log) k.place k.value k.got;
-        there = k.there;
-        number = p.number ∙ same_Some (length p.up + 1) q (sym p.entry ∙ e);
-        is = one_kept is_reply_sent (sent l (x.id Main) past) j k.sending k.replied;
-      }
+      grind (arith, slice_get_within, same_Some, one_kept)
 
   -- the entry of its command's Run is complete, save perhaps its own
   replied_complete : is_ended x.setup.mode Main log ≡ false → (j q : ℕ)
@@ -193,8 +175,7 @@ module _ (l : Limits) (x : Client) (past : List Entry) (log : List LogEntry)
       → slice_get (run_entries (x.id Main) past) j ≡ Some q → q ≤ complete l x past log + 1
   replied_complete ended j q lt e =
       let g = reply_got j q lt e in
-      let le = got_complete ended g.place g.sending g.got g.there in
-      omega (arith, g.number, le)
+      grind (arith, got_complete)
 
   module _ (h : CacheEntry) (fetch : IsFetch x.setup log h)
       (serves : reads_as_cacheable (served_reading h.query) ≡ true)
@@ -225,8 +206,7 @@ module _ (l : Limits) (x : Client) (past : List Entry) (log : List LogEntry)
     fetched_is : up_to at past ≡ fetched_by
     unfolding fetched_by
     fetched_is =
-        ap (λ n. up_to n past) (let n : at ≡ length (Run (x.id Main) ran_it.words ran_it.moment
-        ∷ ran_it.up) = omega (arith, ran_it.at) in n)
+        ap (λ n. up_to n past) (grind arith)
         ∙ older_up_to fetched_by past own_run
 
     is_query : ran_it.words ≡ h.query
@@ -245,8 +225,7 @@ module _ (l : Limits) (x : Client) (past : List Entry) (log : List LogEntry)
         fetch.fetch
         ran_there in
         is_no_control x.setup log legal_log (h.number - 3) h.query
-        (ap (slice_get (commands x.setup Main log))
-        (let e : suc (suc (h.number - 3)) ≡ h.number - 1 = omega (arith, n) in e) ∙ c.1)
+        (grind arith)
 
     -- the value is the reply of the Run
     answered : Answered l fetched_by h.value
@@ -255,13 +234,9 @@ module _ (l : Limits) (x : Client) (past : List Entry) (log : List LogEntry)
         subst (λ u. Answered l u h.value)
         (sym (older_up_to (Run g.placed.id g.placed.words g.placed.moment ∷ g.placed.up) past
         g.placed.older)
-        ∙ ap (λ n. up_to n past) (let e : length (Run g.placed.id g.placed.words g.placed.moment
-        ∷ g.placed.up) ≡ at = omega arith in e)
+        ∙ ap (λ n. up_to n past) (grind arith)
         ∙ fetched_is)
         (subst (IsGot h.value) g.placed.reply g.is)
-
-    proto_is : reply_protocol l ran_it.up (x.id Main) ran_it.words ≡ x.setup.mode.proto
-    proto_is = grind (arith, is_query, made_same, no_control, before)
 
     reply_is : (ran l ran_it.up (x.id Main) ran_it.words ran_it.moment).reply
         ≡ answer h.query (keyspace l (up_to at past))
@@ -270,7 +245,7 @@ module _ (l : Limits) (x : Client) (past : List Entry) (log : List LogEntry)
 
     value_at_run : IsAnswer l x past at h
     unfolding Answered fetched_by
-    value_at_run = grind (arith, answered, proto_is, reply_is)
+    value_at_run = grind (arith, answered, reply_is, is_query, made_same, no_control, before)
 
     same_answer : (n : ℕ) → Steady l x past log served legal legal_log meet h.number at h.query
         fetch.fetch ran_there (up_to n past)
@@ -319,8 +294,7 @@ module _ (l : Limits) (x : Client) (past : List Entry) (log : List LogEntry)
           (drop h.number (commands x.setup Main log)) (j - h.number) words
           (no_later_write x.setup log h.number h.query legal_log fetch.fetch)
           (get_drop h.number (commands x.setup Main log) (j - h.number) words
-          (ap (slice_get (commands x.setup Main log))
-          (let n : h.number + (j - h.number) ≡ j = omega (arith, later) in n) ∙ at_command))
+          (grind arith))
 
       -- a command behind the fetch does not change its answer
       after_command : (j q : ℕ) → at < q → j < length (replies x.setup.mode Main log)
@@ -333,8 +307,7 @@ module _ (l : Limits) (x : Client) (past : List Entry) (log : List LogEntry)
           let run = Run t.id t.words t.moment in
           let tail = older_tail run t.up past t.older in
           let up_is : up_to (complete l x past log) past ≡ t.up =
-          ap (λ n. up_to n past) (let n : complete l x past log ≡ length t.up =
-          omega (arith, t.at, next) in n)
+          ap (λ n. up_to n past) (grind arith)
           ∙ older_up_to t.up past tail in
           let run_is : up_to q past ≡ run ∷ t.up =
           ap (λ n. up_to n past) (let n : q ≡ length (run ∷ t.up) = omega (arith, t.at) in n)
@@ -343,12 +316,7 @@ module _ (l : Limits) (x : Client) (past : List Entry) (log : List LogEntry)
           ∙ still_told law (complete l x past log) (omega (arith, lt, next)) (omega arith) in
           elim (first l t.id t.moment t.words t.up c k told
           (not_written j q lt e t.words t.words_are)) [
-            | inl same ↦
-                steady law (complete l x past log) (omega (arith, lt, next)) (omega arith)
-                ∙ ap (λ v. carried x.setup.mode.proto (tree_of v))
-                (ap (λ u. answer h.query (keyspace l u)) up_is
-                ∙ sym (same h.query cacheable refl)
-                ∙ ap (λ u. answer h.query (keyspace l u)) (sym run_is))
+            | inl same ↦ grind (arith, steady)
             | inr early ↦
                 let g = reply_got j q got e in
                 let two = ran_by_then l x past log served legal legal_log meet h.number at h.query
@@ -398,14 +366,8 @@ module _ (l : Limits) (x : Client) (past : List Entry) (log : List LogEntry)
       after_main i v s got voided there =
           grind (arith, cases_lt, at, both_ways, got_since, has_main, ran_there)
 
-      after_any : (w : Wire) → HasWire x.setup.mode.shape w → (i : ℕ) (v : Value) (s : ℕ × Sending)
-          → slice_get (gots w log) i ≡ Some v
-          → invalidates x.setup.mode w v (key_of h.query) ≡ true
-          → slice_get (sent l (x.id w) past) i ≡ Some s → s.0 < point l x past log h at
-      after_any w has i v s got voided there = grind (arith, after_main)
-
       pub has_point : HasPoint l x past log h
-      has_point = grind (arith, ran_there, answers, after_any)
+      has_point = grind (arith, ran_there, answers, after_main)
 
 -- a query that the server serves is a query
 served_cacheable : (read : Result Command WordFault) → reads_as_cacheable (history.served read)

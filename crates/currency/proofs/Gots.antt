@@ -90,11 +90,7 @@ AllSent (s ∷ ss) = IsSent s.1 × AllSent ss
 both_kinds : (b : Bool) (v u : Value) (p : Proto) → is_push v ≡ b
     → (is_push v ≡ true → (p ≡ Three) × ((keys : Option (List (List ℕ))) × (v ≡ push_of keys)))
     → tree_of u ≡ carried p (tree_of v) → is_push u ≡ b
-both_kinds true v u p e form got =
-    let f = form e in
-    sym (tree_of_push u) ∙ ap tree_is_push got
-    ∙ ap (λ q. tree_is_push (carried q (tree_of v))) f.0
-    ∙ ap (λ w. tree_is_push (carried Three (tree_of w))) f.1.1 ∙ carried_push f.1.0
+both_kinds true v u p e form got = grind (arith, tree_of_push, carried_push)
 both_kinds false v u p e form got =
     sym (tree_of_push u) ∙ ap tree_is_push got ∙ carried_no_push p v e
 
@@ -161,14 +157,8 @@ kept_here true true v s vs ss zero u e h g rest f = record {
       ap (λ b. slice_get (cond b (s ∷ filter is_reply_sent ss) (filter is_reply_sent ss)) 0) h;
   is = g;
 }
-kept_here true true v s vs ss (suc j) u e h g rest f =
-    one_more v s vs ss j (suc j)
-    (ap (λ b. slice_get (cond b (s ∷ filter is_reply_sent ss) (filter is_reply_sent ss)) (suc j))
-    (sym h)) (rest j f)
-kept_here false false v s vs ss j u e h g rest f =
-    one_more v s vs ss j j
-    (ap (λ b. slice_get (cond b (s ∷ filter is_reply_sent ss) (filter is_reply_sent ss)) j) (sym h))
-    (rest j f)
+kept_here true true v s vs ss (suc j) u e h g rest f = grind (arith, one_more)
+kept_here false false v s vs ss j u e h g rest f = grind (arith, one_more)
 
 pub got_kept : (vs : List Value) (ss : List (ℕ × Sending)) (j : ℕ) (u : Value)
     → AllSent ss → AreGot vs ss

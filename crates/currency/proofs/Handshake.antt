@@ -19,7 +19,7 @@ use Rattle.serial_model.specs.declared.mode.Mode.{Mode}
 use Rattle.serial_model.specs.declared.history.Limits.{Limits}
 use Rattle.serial_model.specs.declared.history.Entry.{Entry}
 use Rattle.serial_model.specs.declared.history.Entry.TheVariants.{Admit, Run, Tick, Take, Close}
-use Rattle.serial_model.specs.Modes.{first_mode, own_effect}
+use Rattle.serial_model.specs.Modes.{first_mode}
 use Rattle.serial_model.specs.History.{mode, made_of, runs_of, served}
 use Rattle.shared_cache.specs.declared.log.Wire.TheVariants.{Main}
 use Rattle.shared_cache.specs.declared.log.LogEntry.{LogEntry}
@@ -42,15 +42,10 @@ pub served_no_control : (read : Result Command WordFault) → reads_as_control r
     → reads_as_control (served read) ≡ false
 served_no_control read h = grind arith
 
--- a command that is no control command leaves its connection's mode
-keeps_mode : (read : Result Command WordFault) (m : Mode) → reads_as_control read ≡ false
-    → (own_effect read m).mode ≡ m
-keeps_mode read m h = grind arith
-
 pub made_same : (words : List (List ℕ)) (m : Mode) → is_control words ≡ false
     → (made_of words m).mode ≡ m
 unfolding made_of is_control
-made_same words m h = grind (arith, keeps_mode, served_no_control)
+made_same words m h = grind (arith, served_no_control)
 
 hello_made : (made_of (codes "HELLO" ∷ codes "3" ∷ []) first_mode).mode ≡ mode_by 1
 unfolding made_of reading string_reading hash_reading key_reading connection_reading mode_by
@@ -81,9 +76,7 @@ module _ (s : Setup) where
       → slice_get (commands s Main log) n ≡ Some words
       → (made_of words (mode_by n)).mode ≡ mode_by (suc n)
   unfolding mode_by
-  next_mode log h zero words e =
-      let same : (codes "HELLO" ∷ codes "3" ∷ []) ≡ words = cc in
-      ap (λ w. (made_of w first_mode).mode) (sym same) ∙ hello_made
+  next_mode log h zero words e = grind (arith, codes, hello_made)
   next_mode log h (suc zero) words e =
       let same : (codes "CLIENT" ∷ codes "TRACKING" ∷ codes "ON" ∷ []) ≡ words = cc in
       ap (λ w. (made_of w (mode_by 1)).mode) (sym same) ∙ tracking_made

@@ -1,7 +1,6 @@
 -- The reply of a place, and the Run that it replies to.
-use Rattle.std.proofs.Common.{◌≡◌, ◌+◌, ◌-◌, ◌<◌, ℕ, List, [], ◌∷◌, ◌++◌, length}
-use Rattle.std.proofs.Common.{true, false, cond, refl, ap, sym, ◌∙◌, arith, Some}
-use Rattle.std.proofs.Common.{inl, inr, reverse}
+use Rattle.std.proofs.Common.{◌≡◌, ◌+◌, ◌-◌, ◌<◌, ℕ, List, [], ◌∷◌, ◌++◌, length, true, false, cond}
+use Rattle.std.proofs.Common.{refl, ap, ◌∙◌, arith, Some, inl, inr, reverse}
 use Rattle.std.specs.Prelude.{slice_get, ◌==◌}
 use Rattle.std.proofs.lemmas.Bool.{eqb-true}
 use Rattle.std.proofs.lemmas.List.{reverse-append, length-reverse}
@@ -10,9 +9,8 @@ use Rattle.resp_value.specs.declared.value.Value.{Value}
 use Rattle.serial_model.specs.declared.history.Limits.{Limits}
 use Rattle.serial_model.specs.declared.history.Entry.{Entry}
 use Rattle.serial_model.specs.declared.history.Entry.TheVariants.{Run}
-use Rattle.serial_model.specs.History.{Sending, reply_of}
+use Rattle.serial_model.specs.History.{Sending, reply_of, run_entries}
 use Rattle.shared_cache.specs.Log.{reply_in}
-use Rattle.serial_model.specs.History.{run_entries}
 use Rattle.currency.proofs.Lists.{get_parts, get_one, get_last, get_front}
 use Rattle.currency.proofs.Runs.{Older, older_all}
 use Rattle.currency.proofs.Replies.{replies_of}
@@ -64,37 +62,20 @@ module _ (l : Limits) (c : ℕ) where
         | true ↦ λ own e.
             let grown : (k n : ℕ) → slice_get (run_entries c past ++ (length past + 1) ∷ []) k
             ≡ Some n
-            → slice_get (run_entries c (x ∷ past)) k ≡ Some n =
-            (λ k n h. ap (λ b. slice_get (cond b (run_entries c past ++ (length past + 1) ∷ [])
-            (run_entries c past)) k) own ∙ h) in
+            → slice_get (run_entries c (x ∷ past)) k ≡ Some n = grind arith in
             elim (get_parts (replies_of l c past) (y ∷ []) place s e) [
               | inl h ↦
                   newer_placed x past place s
-                  (λ n g. grown place n (get_front (run_entries c past)
-                  ((length past + 1) ∷ []) place
-                  n g))
+                  (grind (arith, get_front))
                   (reply_at past place s h)
               | inr b ↦
                   let o = get_one y b.at s b.there in
                   let n : length (run_entries c past) ≡ place =
-                  omega (arith, b.is, o.0, replies_count past) in record {
-                    id = id;
-                    words = words;
-                    moment = moment;
-                    up = past;
-                    own = own;
-                    older = older_all (x ∷ past);
-                    number = ap (λ (p : ℕ × Sending). p.0) (sym o.1);
-                    reply = ap (λ (p : ℕ × Sending). p.1) (sym o.1);
-                    entry = grown place (length past + 1)
-                        (ap (slice_get (run_entries c past ++ (length past + 1) ∷ [])) (sym n)
-                        ∙ get_last (run_entries c past) (length past + 1));
-                  }
+                  omega (arith, b.is, o.0, replies_count past) in grind (arith, older_all, get_last)
             ]
         | false ↦ λ own e.
             newer_placed x past place s
-            (λ n h. ap (λ b. slice_get (cond b (run_entries c past ++ (length past + 1) ∷ [])
-            (run_entries c past)) place) own ∙ h)
+            (grind arith)
             (reply_at past place s e)
       ] refl e
   reply_at (x ∷ past) place s e = newer_placed x past place s (λ n h. h) (reply_at past place s e)

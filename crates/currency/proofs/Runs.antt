@@ -9,8 +9,7 @@ use Rattle.resp_value.specs.Lists.{IsPrefix}
 use Rattle.serial_model.specs.declared.history.Limits.{Limits}
 use Rattle.serial_model.specs.declared.history.Entry.{Entry}
 use Rattle.serial_model.specs.declared.history.Entry.TheVariants.{Admit, Run, Close}
-use Rattle.serial_model.specs.History.{runs_of, IsLegal}
-use Rattle.serial_model.specs.History.{run_entries}
+use Rattle.serial_model.specs.History.{runs_of, IsLegal, run_entries}
 use Rattle.currency.specs.Points.{up_to}
 use Rattle.currency.proofs.Lists.{get_front, get_parts, get_one, get_last, Behind}
 
@@ -72,8 +71,7 @@ drop_front (e ∷ newer) up = drop_front newer up
 pub older_up_to : (up past : List Entry) → Older up past → up_to (length up) past ≡ up
 older_up_to up past o =
     ap (λ n. drop n past)
-    (let n : length past - length up ≡ length o.newer =
-    omega (arith, length-append o.newer up, ap length o.is) in n)
+    (grind (arith, length-append))
     ∙ ap (drop (length o.newer)) (sym o.is) ∙ drop_front o.newer up
 
 pub older_legal : (l : Limits) (newer up : List Entry) → IsLegal l (newer ++ up) → IsLegal l up
@@ -210,17 +208,13 @@ module _ (c : ℕ) where
                     older = older_all (Run id words moment ∷ past);
                     at = o.1;
                     place_is = n;
-                    words_are =
-                        ap (λ l. slice_get l place) (sym runs_are)
-                        ∙ ap (slice_get (runs_of c past ++ words ∷ [])) (sym n)
-                        ∙ get_last (runs_of c past) words;
+                    words_are = grind (arith, get_last);
                   }
             ]
         | false ↦ λ own e.
             one_newer (Run id words moment) past place p (
               [],
-              append-nil (runs_of c past)
-                  ∙ ap (λ b. cond b (runs_of c past ++ words ∷ []) (runs_of c past)) (sym own),
+              grind (arith, append-nil),
             )
             (ran_at past place p e)
       ] refl e

@@ -3,7 +3,6 @@ use Rattle.std.proofs.Common.{◌≡◌, ◌+◌, ◌<◌, ◌≤◌, ℕ, zero,
 use Rattle.std.proofs.Common.{false, cond, refl, ap, sym, ◌∙◌, arith, Some, ◌⊎◌, inl, inr}
 use Rattle.std.proofs.Common.{append_assoc, append-nil}
 use Rattle.std.specs.Prelude.{slice_get, ◌==◌, Option}
-use Rattle.std.specs.List.{list_any}
 use Rattle.std.proofs.lemmas.Option.{slice_get_within}
 use Rattle.std.proofs.lemmas.Bool.{and_parts, eqb-true}
 use Rattle.resp_value.specs.Lists.{IsPrefix}
@@ -42,13 +41,7 @@ module _ (c : ℕ) where
       → slice_get ss k ≡ Some x → (x.0 == c) ≡ true
       → (j : ℕ) × (slice_get (sent_to n c ss) j ≡ Some (n, x.1))
   is_sent_to n [] k h e own = cc
-  is_sent_to n (y ∷ ss) zero x e own =
-      let same : y ≡ x = cc in (
-        0,
-        ap (λ (z : ℕ × Sending). slice_get (cond (z.0 == c) ((n, z.1) ∷ sent_to n c ss)
-            (sent_to n c ss)) 0) same
-            ∙ ap (λ b. slice_get (cond b ((n, x.1) ∷ sent_to n c ss) (sent_to n c ss)) 0) own,
-      )
+  is_sent_to n (y ∷ ss) zero x e own = grind arith
   is_sent_to n (y ∷ ss) (suc k) x e own =
       let r = is_sent_to n ss k x e own in
       elim (y.0 == c) as (λ b. (j : ℕ)
@@ -64,9 +57,7 @@ module _ (c : ℕ) where
     sent_le (x ∷ past) i s e =
         elim (get_parts (sent l c past) (sent_to (length past + 1) c (sends l x past)) i s e) [
           | inl h ↦ let r = sent_le past i s h in omega (arith, r)
-          | inr b ↦
-              let r = number_of (length past + 1) (sends l x past) b.at s b.there in omega
-              (arith, r)
+          | inr b ↦ grind (arith, number_of)
         ]
 
     by_parts : (x : Entry) (past : List Entry) (i j : ℕ) (s t : ℕ × Sending) → i ≤ j
@@ -84,9 +75,7 @@ module _ (c : ℕ) where
     sent_pos (x ∷ past) i s e =
         elim (get_parts (sent l c past) (sent_to (length past + 1) c (sends l x past)) i s e) [
           | inl h ↦ sent_pos past i s h
-          | inr b ↦
-              let r = number_of (length past + 1) (sends l x past) b.at s b.there in omega
-              (arith, r)
+          | inr b ↦ grind (arith, number_of)
         ]
 
     -- what was sent later was sent at a later entry, or at the same
@@ -112,8 +101,7 @@ module _ (c : ℕ) where
         → slice_get (sent l c up) i ≡ Some s → slice_get (sent l c past) i ≡ Some s
     sent_older up past o i s e =
         let m = sent_more o.newer up in
-        ap (λ p. slice_get (sent l c p) i) (sym o.is)
-        ∙ ap (λ ss. slice_get ss i) (sym m.1) ∙ get_front (sent l c up) m.0 i s e
+        grind (arith, get_front)
 
     -- what an entry sends to the connection has a place behind all that was sent before
     pub sent_at : (x : Entry) (up : List Entry) (k : ℕ) (y : ℕ × Sending)
@@ -122,8 +110,7 @@ module _ (c : ℕ) where
     sent_at x up k y e own =
         let r = is_sent_to (length up + 1) (sends l x up) k y e own in (
           length (sent l c up) + r.0,
-          get_behind (sent l c up) (sent_to (length up + 1) c (sends l x up)) r.0
-              (length up + 1, y.1) r.1,
+          grind (arith, get_behind),
         )
 
     -- ---- invalidations
@@ -157,8 +144,7 @@ module _ (c : ℕ) where
     lands (Tick moment) up key h before after =
         let early = expiry_group l up moment in
         let p = one_passes (tells c key) early h in
-        let own : (p.one.to == c) ≡ true = (and_parts (p.one.to == c) (names_key p.one.keys key)
-        p.passes).0 in
+        let own : (p.one.to == c) ≡ true = grind (arith, and_parts) in
         let r = routed_at (modes l up) early p.at p.one p.there
         (ap (λ d. (mode l d up).proto) (eqb-true p.one.to c own) ∙ before) in
         told_by (Tick moment) up key p.one r.0 r.1 p.passes
@@ -166,12 +152,9 @@ module _ (c : ℕ) where
         let x = Run id words moment in
         let early = expiry_group l up moment in
         let late = own_group l up id words moment ++ drop_group (drops l up id words moment) in
-        let parted = sym (ap (list_any (tells c key))
-        (append_assoc early (own_group l up id words moment)
-        (drop_group (drops l up id words moment)))) ∙ h in
+        let parted = sym (grind (arith, append_assoc)) ∙ h in
         let p = one_passes (tells c key) (early ++ late) parted in
-        let own : (p.one.to == c) ≡ true = (and_parts (p.one.to == c) (names_key p.one.keys key)
-        p.passes).0 in
+        let own : (p.one.to == c) ≡ true = grind (arith, and_parts) in
         let of = modes l (x ∷ up) in
         let reply = reply_of l up id words moment in
         elim (get_parts early late p.at p.one p.there) [
@@ -179,8 +162,7 @@ module _ (c : ℕ) where
               let r = routed_at (modes l up) early p.at p.one e
               (ap (λ d. (mode l d up).proto) (eqb-true p.one.to c own) ∙ before) in
               told_by x up key p.one r.0
-              (get_front (routed (modes l up) early) (reply ∷ (routed of late ++ [])) r.0
-              (p.one.to, Message Three (push_of p.one.keys)) r.1)
+              (grind (arith, get_front))
               p.passes
           | inr b ↦
               let r = routed_at of late b.at p.one b.there
@@ -188,11 +170,7 @@ module _ (c : ℕ) where
               told_by x up key p.one (length (routed (modes l up) early) + suc r.0)
               (get_behind (routed (modes l up) early) (reply ∷ (routed of late ++ [])) (suc r.0)
               (p.one.to, Message Three (push_of p.one.keys))
-              (get_front (routed of late) [] r.0 (
-                p.one.to,
-                Message Three
-                    (push_of p.one.keys),
-              ) r.1))
+              (grind (arith, get_front)))
               p.passes
         ]
     lands e up key h before after = absurd (let no : ⊥ = cc in no)

@@ -2,7 +2,7 @@
 -- deadline is past.
 use Rattle.std.proofs.Common.{◌≡◌, ◌∙◌, refl, sym, ap, ℕ, List, [], ◌∷◌, Bool, true, false, cond}
 use Rattle.std.proofs.Common.{Option, None, Some, eq-eqb, arith}
-use Rattle.std.specs.Prelude.{◌&&◌, ◌||◌, nat_lt}
+use Rattle.std.specs.Prelude.{◌||◌, nat_lt}
 use Rattle.std.specs.Cmp.{both_ways}
 use Rattle.std.specs.List.{list_any}
 use Rattle.std.specs.Str.{bytes_eq}
@@ -40,12 +40,7 @@ module _ (moment : ℕ) (q : List ℕ) where
       → IsDueAt (d ∷ ds)) [
         | true ↦ λ past h. elim (bytes_eq q d.key) as (λ b. bytes_eq q d.key ≡ b
             → (b || named ds) ≡ true → IsDueAt (d ∷ ds)) [
-              | true ↦ λ is g. (
-                d.at,
-                (λ i. (eq-eqb d.at d.at refl i && is i)
-                    || has (record { at = d.at; key = q }) ds),
-                past,
-              )
+              | true ↦ grind (arith, eq-eqb)
               | false ↦ λ is g. further d ds (found ds g)
             ] refl h
         | false ↦ λ past h. further d ds (found ds h)
@@ -58,14 +53,10 @@ module _ (moment : ℕ) (q : List ℕ) where
       elim (is_same (record { at = at; key = q }) d)
       as (λ b. is_same (record { at = at; key = q }) d ≡ b
       → (b || has (record { at = at; key = q }) ds) ≡ true → named (d ∷ ds) ≡ true) [
-        | true ↦ λ s h.
-            rw (← same_deadline (record { at = at; key = q }) d s, past)
-            (ap (λ b. b || named ds) ((bytes_eq-Decides q q).1 refl))
+        | true ↦ grind (arith, same_deadline, named, bytes_eq-Decides)
         | false ↦ λ s h.
             let rest = among_due at ds h past in
-            elim (is_due moment d) as (λ b.
-            list_any (bytes_eq q) (keys_of (cond b (d ∷ due moment ds) (due moment ds))) ≡ true)
-            [ true ↦ right_true _ _ rest | false ↦ rest ]
+            grind (arith, right_true)
       ] refl e
 
   -- a key is named exactly where its deadline is past

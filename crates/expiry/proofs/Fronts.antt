@@ -1,9 +1,7 @@
 -- The place of a deadline, and the deadlines before a moment, in a list in order.
 use Rattle.std.proofs.Common.{◌≡◌, ◌<◌, ℕ, List, [], ◌∷◌, Bool, true, false, cond, length, take}
 use Rattle.std.proofs.Common.{refl, ap, sym, ◌∙◌, arith}
-use Rattle.std.specs.Prelude.{◌==◌, ◌&&◌, ◌||◌, nat_lt, insert, slice_get, Some, None}
-use Rattle.std.specs.Ordering.{is_lt, nat_cmp}
-use Rattle.std.specs.Cmp.Lexicographic.{slice_cmp}
+use Rattle.std.specs.Prelude.{insert, slice_get, Some, None}
 use Rattle.std.proofs.lemmas.Bool.Decides.{nat_tests}
 use Prim.Native.Nat.{zero, suc}
 use Rattle.expiry.specs.declared.index.Deadline.{Deadline}
@@ -43,12 +41,7 @@ module _ (d : Deadline) where
 -- what comes after a deadline that is not due is not due
 later : (moment : ℕ) (d e : Deadline) → comes_before d e ≡ true → is_due moment d ≡ false
     → is_due moment e ≡ false
-later moment d e = by (nat_lt d.at e.at) (d.at == e.at) (is_lt (slice_cmp nat_cmp d.key e.key))
-    refl refl
-  where
-    by : (a b s : Bool) → nat_lt d.at e.at ≡ a → (d.at == e.at) ≡ b → (a || (b && s)) ≡ true
-        → nat_lt d.at moment ≡ false → nat_lt e.at moment ≡ false
-    by a b s below at e' still = grind (arith, nat_tests)
+later moment d e = grind (arith, nat_tests)
 
 module _ (moment : ℕ) where
   none_due : (d : Deadline) (ds : List Deadline) → IsBeforeAll d ds → is_due moment d ≡ false

@@ -94,20 +94,16 @@ tails d ds es h k same x =
     → has x ds ≡ has x es) [
       | true ↦ λ s e.
           let is = same_deadline x d s in
-          ap (λ y. has y ds) is ∙ not_among d ds h
-          ∙ sym (ap (λ y. has y es) is ∙ not_among d es k)
+          grind (arith, not_among)
       | false ↦ λ s e. e
     ] refl (same x)
 
 pub one_index : OneIndex
 one_index [] [] h k same = refl
-one_index [] (e ∷ es) h k same =
-    absurd (let no : false ≡ true = same e ∙ here e es in cc)
-one_index (d ∷ ds) [] h k same =
-    absurd (let no : true ≡ false = sym (here d ds) ∙ same d in cc)
+one_index [] (e ∷ es) h k same = absurd (let no : false ≡ true = same e ∙ here e es in cc)
+one_index (d ∷ ds) [] h k same = absurd (let no : true ≡ false = sym (here d ds) ∙ same d in cc)
 one_index (d ∷ ds) (e ∷ es) h k same =
     let is = same_deadline d e (first_same d e ds es h k same) in
     let es_after : IsBeforeAll d es = subst (λ x. IsBeforeAll x es) (sym is) k.0 in
-    let rest = one_index ds es h.1 k.1 (tails d ds es h.0 es_after
-    (λ x. same x ∙ ap (λ y. has x (y ∷ es)) (sym is))) in
+    let rest = one_index ds es h.1 k.1 (grind (arith, tails)) in
     λ i. is i ∷ rest i

@@ -1,13 +1,12 @@
 -- The order of deadlines, and that each change leaves an index in order.
-use Rattle.std.proofs.Common.{◌≡◌, ℕ, List, [], ◌∷◌, Bool, true, false, cond, refl, ap, sym, ◌∙◌}
+use Rattle.std.proofs.Common.{◌≡◌, ℕ, List, [], ◌∷◌, Bool, true, false, refl, ap, sym, ◌∙◌}
 use Rattle.std.proofs.Common.{eq-eqb, arith}
-use Rattle.std.specs.Prelude.{◌==◌, ◌&&◌, ◌||◌, filter}
+use Rattle.std.specs.Prelude.{filter}
 use Rattle.std.specs.declared.cmp.Ordering.{Ordering}
-use Rattle.std.specs.declared.cmp.Ordering.TheVariants.{Less, Equal, Greater}
-use Rattle.std.specs.Ordering.{is_lt, nat_cmp, ordering_then, ordering_reverse}
+use Rattle.std.specs.declared.cmp.Ordering.TheVariants.{Less, Equal}
+use Rattle.std.specs.Ordering.{is_lt, nat_cmp, ordering_reverse}
 use Rattle.std.specs.Cmp.Lexicographic.{slice_cmp, nat_list_cmp_total}
 use Rattle.std.specs.FinMap.{slice_cmp-IsAntisymmetric, nat_cmp-IsAntisymmetric}
-use Rattle.std.specs.Str.{bytes_eq}
 use Rattle.std.proofs.lemmas.Slice.Eq.{bytes_eq-Decides}
 use Rattle.std.proofs.lemmas.Bool.Decides.{nat_tests}
 use Rattle.expiry.specs.declared.index.Deadline.{Deadline}
@@ -21,12 +20,8 @@ text_of d = d.at ∷ d.key
 abbrev order : Deadline → Deadline → Ordering
 order d e = slice_cmp nat_cmp (text_of d) (text_of e)
 
-by_order : (a b : Bool) (s : Ordering)
-    → (a || (b && is_lt s)) ≡ is_lt (ordering_then (cond a Less (cond b Equal Greater)) s)
-by_order a b s = grind (arith, nat_tests)
-
 pub before_order : (d e : Deadline) → comes_before d e ≡ is_lt (order d e)
-before_order d e = grind (arith, by_order)
+before_order d e = grind (arith, nat_tests)
 
 is_less : (r : Ordering) → is_lt r ≡ true → r ≡ Less
 is_less r e = grind (arith, nat_tests)
@@ -39,10 +34,7 @@ before_trans a b c e f =
     (is_less _ (sym (before_order a b) ∙ e)) (is_less _ (sym (before_order b c) ∙ f)))
 
 pub same_deadline : (d e : Deadline) → is_same d e ≡ true → d ≡ e
-same_deadline d e is = by (d.at == e.at) refl is
-  where
-    by : (b : Bool) → (d.at == e.at) ≡ b → (b && bytes_eq d.key e.key) ≡ true → d ≡ e
-    by b at key = grind (arith, bytes_eq-Decides, nat_tests)
+same_deadline d e is = grind (arith, bytes_eq-Decides, nat_tests)
 
 pub is_itself : (d : Deadline) → is_same d d ≡ true
 is_itself d = grind (arith, eq-eqb, bytes_eq-Decides, nat_tests)
@@ -57,9 +49,7 @@ is_equal : (d e : Deadline) → order e d ≡ Equal → d ≡ e
 is_equal d e r =
     let texts : text_of e ≡ text_of d =
     slice_cmp-IsAntisymmetric nat_cmp-IsAntisymmetric (text_of e) (text_of d) r in
-    let times : e.at ≡ d.at = cc in
-    let keys : e.key ≡ d.key = cc in
-    λ i. record { at = sym times i; key = sym keys i }
+    grind arith
 
 -- of two deadlines that differ one comes before the other
 pub otherwise_before : (d e : Deadline) → comes_before e d ≡ false → is_same d e ≡ false

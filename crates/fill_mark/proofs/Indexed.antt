@@ -115,9 +115,7 @@ pub void_listed : (key : List ℕ) (ns : List ℕ) (ms : List Mark) → EachFoun
     → ((m : Mark) → Among m ms → bytes_eq (key_of m.query) key ≡ true
     → list_any (is_at m.number) ns ≡ true)
     → without_listed key ns ms ≡ without_key key ms
-void_listed key [] ms each all =
-    sym (filter_keeps (λ m. not (bytes_eq (key_of m.query) key)) ms
-    (λ m a. by m a (bytes_eq (key_of m.query) key) refl))
+void_listed key [] ms each all = grind (arith, filter_keeps)
   where
     by : (m : Mark) → Among m ms → (b : Bool) → bytes_eq (key_of m.query) key ≡ b → not b ≡ true
     by m a b e = grind arith
@@ -209,11 +207,7 @@ module _ (q : Words) (number : ℕ) (keys : KeyIndex) (ms : List Mark) (are : Ar
     where
       none : (m : Mark) → Among m ms → (b : Bool) → same_query m.query q ≡ b → not b ≡ true
       none m a b f = grind (arith, clash, none_listed, listed_query)
-  without_it (Some n) e =
-      filter-append (λ (m : Mark). not (m.number == n)) ms
-      (record { number = number; query = q } ∷ [])
-      ∙ (λ i. filter_alike (λ m. not (m.number == n)) (λ m. not (same_query m.query q)) ms
-      (λ m a. ap not (alike m a)) i ++ last i)
+  without_it (Some n) e = grind (arith, filter-append, filter_alike, alike, last)
     where
       was : (p : Words) × (query_marked n ms ≡ Some p) × (same_query p q ≡ true)
       was = asked q (query_marked n ms) (some_asks q ms (numbers_at (key_of q) keys) n e)
@@ -230,10 +224,7 @@ module _ (q : Words) (number : ℕ) (keys : KeyIndex) (ms : List Mark) (are : Ar
       by_query m a true t true u = refl
       by_query m a false t false u = refl
       by_query m a true t false u =
-          let same : m.query ≡ was.0 =
-          let l : Some m.query ≡ Some was.0 =
-          sym (are.found m a) ∙ ap (λ k. query_marked k ms) (eqb-true m.number n t) ∙ was.1 in
-          cc in
+          let same : m.query ≡ was.0 = grind (arith, eqb-true) in
           clash (same_query m.query q) (ap (λ p. same_query p q) same ∙ was.2) u
       by_query m a false t true u =
           clash (m.number == n)

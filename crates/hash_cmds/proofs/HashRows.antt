@@ -1,12 +1,9 @@
 -- Rows of the commands on hashes, from what a change of the fields under a key gave.
-use Rattle.std.proofs.Common.{◌≡◌, ℕ, ◌+◌, ◌-◌, Bool, true, false, cond, List, [], ◌∷◌, ◌++◌}
-use Rattle.std.proofs.Common.{Option}
-use Rattle.std.proofs.Common.{Some, None, Result, Ok, Err, OnErr, OnOk, refl, ap, sym, subst, ◌∙◌}
+use Rattle.std.proofs.Common.{arith, ◌≡◌, ℕ, ◌+◌, ◌-◌, Bool, true, false, cond, List, [], ◌∷◌, ◌++◌}
+use Rattle.std.proofs.Common.{Option, Some, None, Result, Ok, Err, OnErr, OnOk, refl, ap, sym, ◌∙◌}
 use Rattle.std.proofs.Common.{ℤ, length, map, take, slice_get, zero, suc, add-one}
-use Rattle.std.specs.Prelude.{◌+ℤ◌, if◌then◌else◌}
 use Rattle.std.specs.Option.{option_map}
 use Rattle.std.specs.Ordering.{nat_cmp, eq_by_cmp}
-use Rattle.std.specs.Str.{bytes_eq}
 use Rattle.std.specs.Cmp.Lexicographic.{slice_cmp, nat_list_cmp_total, texts_ties}
 use Rattle.std.specs.FinMap.{get, insert, remove, get-insert, get-remove, same_map}
 use Rattle.std.specs.FinMap.{slice_cmp-IsAntisymmetric, nat_cmp-IsAntisymmetric}
@@ -14,14 +11,13 @@ use Rattle.std.proofs.lemmas.Slice.Eq.{bytes_eq-Decides}
 use Rattle.resp_value.specs.declared.value.Value.{Value}
 use Rattle.resp_value.specs.Tree.{in_turn}
 use Rattle.command_words.specs.Space.{Content, Held, Text, Fields, Space, content_at, deadline_at}
-use Rattle.command_words.specs.Effect.{sum_in, overflow}
-use Rattle.command_words.specs.Integers.{fits_64}
+use Rattle.command_words.specs.Effect.{sum_in}
 use Rattle.command_words.specs.Hashes.{Pairs, field_set, on_fields, put_fields, remove_all, set_all}
 use Rattle.command_rows.specs.declared.integers.Addition.TheVariants.{Sum}
 use Rattle.command_rows.specs.Additions.{IsAddition}
 use Rattle.keyspace.specs.Lending.{with_content}
 use Rattle.keyspace.proofs.Changes.{with_content-insert}
-use Rattle.hash_cmds.specs.Changed.{is_text, is_empty_hash, HasFields, with_hash}
+use Rattle.hash_cmds.specs.Changed.{is_empty_hash, HasFields, with_hash}
 use Rattle.hash_cmds.specs.Changed.{Becomes, FieldsBecome, HashBecomes}
 
 pub on_ok : {A E P Q : Type 0} → (P → Q) → (r : Result A E) → OnOk r P → OnOk r Q
@@ -32,13 +28,6 @@ pub on_err : {A E P Q : Type 0} → (P → Q) → (r : Result A E) → OnErr r P
 on_err f (Ok a) p = p
 on_err f (Err e) p = f p
 
--- a content that is no string has fields
-pub fields_of : (content : Option Content) → is_text content ≡ false
-    → (fs : Pairs) × HasFields content fs
-fields_of None e = ([], refl)
-fields_of (Some (Text value)) e = absurd cc
-fields_of (Some (Fields gs)) e = (gs, refl)
-
 -- the row of a content that has these fields
 pub row_of : {A : Type 0} (wrong : A) (row : Pairs → A) (content : Option Content) (fs : Pairs)
     → HasFields content fs → on_fields wrong row content ≡ row fs
@@ -48,9 +37,7 @@ row_of wrong row (Some (Fields gs)) fs has = ap row (sym has)
 
 pub sum_of : (none : Value) (value : Option ℤ) (n sum : ℤ) → IsAddition value n (Sum sum)
     → sum_in none value n ≡ Ok sum
-sum_of none value n sum is =
-    ap (λ v. sum_in none v n) is.1
-    ∙ (ap (λ b. if b then Ok (is.0 +ℤ n) else Err overflow) is.2 ∙ ap Ok (sym is.3))
+sum_of none value n sum is = grind arith
 
 remove_all-none : (names : List (List ℕ)) → remove_all names [] ≡ []
 remove_all-none [] = refl
@@ -93,20 +80,12 @@ module _ (key : List ℕ) where
   pub dropped : (fs : Pairs) (space now : Space) → now ≡ with_hash key fs space
       → is_empty_hash (content_at key now) ≡ true → remove now key ≡ put_fields key fs space
   dropped [] space now is e = ap (λ s. remove s key) is ∙ remove-insert space _
-  dropped (f ∷ fs) space now is e =
-      let had : content_at key now ≡ Some (Fields (f ∷ fs)) =
-      ap (content_at key) is ∙ content-with_hash (f ∷ fs) space in
-      let no : is_empty_hash (content_at key now) ≡ false = ap is_empty_hash had in
-      absurd cc
+  dropped (f ∷ fs) space now is e = grind (arith, content-with_hash)
 
   -- and another one stays
   pub stays : (fs : Pairs) (space now : Space) → now ≡ with_hash key fs space
       → is_empty_hash (content_at key now) ≡ false → now ≡ put_fields key fs space
-  stays [] space now is e =
-      let had : content_at key now ≡ Some (Fields []) =
-      ap (content_at key) is ∙ content-with_hash [] space in
-      let yes : is_empty_hash (content_at key now) ≡ true = ap is_empty_hash had in
-      absurd cc
+  stays [] space now is e = grind (arith, content-with_hash)
   stays (f ∷ fs) space now is e = is
 
   -- a hash in which a field was set has one
@@ -114,52 +93,28 @@ module _ (key : List ℕ) where
       → with_hash key (field_set field value fs) space
       ≡ put_fields key (field_set field value fs) space
   put-field_set field value [] space = refl
-  put-field_set field value (f ∷ fs) space =
-      elim (bytes_eq field f.0)
-      as (λ b. with_hash key (if b then (f.0, value) ∷ fs else f ∷ field_set field value fs) space
-      ≡ put_fields key (if b then (f.0, value) ∷ fs else f ∷ field_set field value fs) space)
-      [ true ↦ refl | false ↦ refl ]
+  put-field_set field value (f ∷ fs) space = grind arith
 
   module _ (change : Pairs → Pairs) (space : Space) where
     pub changed_there : (old new : Content) → Some old ≡ content_at key space
         → Becomes change old new → FieldsBecome key change space (with_content key new space)
-    changed_there old new is becomes fs at =
-        let same : old ≡ Fields fs = cc in
-        ap (λ c. with_content key c space) (becomes fs same)
-        ∙ with_content-insert key space (Fields fs) (Fields (change fs)) at
-
-    pub changed_hash : (content : Content) (new : Space) → content_at key space ≡ Some content
-        → FieldsBecome key change space new → HashBecomes key change space new
-    changed_hash content new at becomes fs has =
-        by content at (subst (λ c. HasFields c fs) at has)
-      where
-        by : (c : Content) → content_at key space ≡ Some c → HasFields (Some c) fs
-            → new ≡ with_hash key (change fs) space
-        by (Text value) is e = absurd e
-        by (Fields gs) is e = becomes fs (is ∙ ap (λ z. Some (Fields z)) (sym e))
+    changed_there old new is becomes fs at = grind (arith, with_content-insert)
 
 next : {A B : Type 0} (f : A → B) (xs : List A) (i : ℕ) (x : A) → slice_get xs i ≡ Some x
     → map f (take i xs) ++ f x ∷ [] ≡ map f (take (suc i) xs)
 next f [] i x e = absurd cc
-next f (y ∷ ys) zero x e =
-    let same : x ≡ y = cc in
-    ap (λ z. f z ∷ []) same
+next f (y ∷ ys) zero x e = grind arith
 next f (y ∷ ys) (suc i) x e = ap (λ r. f y ∷ r) (next f ys i x e)
 
 -- a list of the first elements, each by a function, takes one more
 pub pushed : {A B : Type 0} (f : A → B) (xs : List A) (i : ℕ) (x : A) (old new : List B) (y : B)
     → new ≡ old ++ y ∷ [] → y ≡ f x → old ≡ map f (take i xs) → slice_get xs i ≡ Some x
     → new ≡ map f (take (i + 1) xs)
-pushed f xs i x old new y is same so_far at =
-    is ∙ ((λ j. so_far j ++ same j ∷ [])
-    ∙ (next f xs i x at ∙ ap (λ n. map f (take n xs)) (sym (add-one i))))
+pushed f xs i x old new y is same so_far at = grind (arith, next, add-one)
 
 -- the hash of a key after its field took a sum
 pub sum_put : (key field value : List ℕ) (words : List (List ℕ)) (fs : Pairs) (space new : Space)
     → words ≡ field ∷ value ∷ [] → HasFields (content_at key space) fs
     → HashBecomes key (set_all (in_turn words)) space new
     → new ≡ put_fields key (field_set field value fs) space
-sum_put key field value words fs space new is has becomes =
-    becomes fs has
-    ∙ (ap (λ ws. with_hash key (set_all (in_turn ws) fs) space) is
-    ∙ put-field_set key field value fs space)
+sum_put key field value words fs space new is has becomes = grind (arith, put-field_set)

@@ -1,7 +1,7 @@
 -- An id more or less leaves ids that ascend.
 use Rattle.std.proofs.Common.{◌≡◌, ◌+◌, ◌<◌, ◌≤◌, ℕ, List, [], ◌∷◌, true, false, cond, length}
 use Rattle.std.proofs.Common.{refl, arith}
-use Rattle.std.specs.Prelude.{◌==◌, not, nat_lt}
+use Rattle.std.specs.Prelude.{◌==◌, nat_lt}
 use Rattle.std.proofs.lemmas.Bool.Decides.{nat_tests}
 use Rattle.id_set.specs.Ids.{AscendFrom, Ascend, with_id, without_id}
 
@@ -17,11 +17,7 @@ ascend_with_from n id (x ∷ xs) le h =
     → AscendFrom n (cond b (x ∷ with_id id xs) (cond (x == id) (x ∷ xs) (id ∷ x ∷ xs)))) [
       | true ↦ λ e. let below : x < id = grind (arith, nat_tests) in
           (h.0, ascend_with_from (x + 1) id xs (omega arith) h.1)
-      | false ↦ λ e. elim (x == id) as (λ b. (x == id) ≡ b
-          → AscendFrom n (cond b (x ∷ xs) (id ∷ x ∷ xs))) [
-            | true ↦ λ f. h
-            | false ↦ λ f. let above : id + 1 ≤ x = grind (arith, nat_tests) in (le, (above, h.1))
-          ] refl
+      | false ↦ grind (arith, nat_tests)
     ] refl
 
 ascend_without_from : (n id : ℕ) (ids : List ℕ) → AscendFrom n ids
@@ -29,11 +25,7 @@ ascend_without_from : (n id : ℕ) (ids : List ℕ) → AscendFrom n ids
 ascend_without_from n id [] h = tt
 ascend_without_from n id (x ∷ xs) h =
     let rest = ascend_without_from (x + 1) id xs h.1 in
-    elim (not (x == id)) as (λ b. AscendFrom n
-    (cond b (x ∷ without_id id xs) (without_id id xs))) [
-      | true ↦ (h.0, rest)
-      | false ↦ lower n (x + 1) (without_id id xs) (omega arith) rest
-    ]
+    grind (arith, lower)
 
 pub ascend_with : (id : ℕ) (ids : List ℕ) → Ascend ids → Ascend (with_id id ids)
 ascend_with id ids h = ascend_with_from 0 id ids (omega arith) h
@@ -44,12 +36,4 @@ ascend_without id ids h = ascend_without_from 0 id ids h
 -- a set with an id in it is not empty
 pub with_some : (id : ℕ) (ids : List ℕ) → 0 < length (with_id id ids)
 with_some id [] = omega arith
-with_some id (x ∷ xs) =
-    elim (nat_lt x id) as (λ b. 0 < length (cond b (x ∷ with_id id xs)
-    (cond (x == id) (x ∷ xs) (id ∷ x ∷ xs)))) [
-      | true ↦ omega arith
-      | false ↦ elim (x == id) as (λ b. 0 < length (cond b (x ∷ xs) (id ∷ x ∷ xs))) [
-        | true ↦ omega arith
-        | false ↦ omega arith
-      ]
-    ]
+with_some id (x ∷ xs) = grind arith

@@ -1,7 +1,6 @@
 -- A keyspace after a change of the content of one key.
-use Rattle.std.proofs.Common.{◌≡◌, ℕ, Bool, true, false, cond, List, Option, Some, None, refl, ap}
-use Rattle.std.proofs.Common.{sym, ◌∙◌}
-use Rattle.std.specs.Option.{option_map, option_map_or, option_and_then}
+use Rattle.std.proofs.Common.{arith, ◌≡◌, ℕ, Bool, true, false, cond, List, Some, refl, ap, sym}
+use Rattle.std.proofs.Common.{◌∙◌}
 use Rattle.std.specs.Ordering.{nat_cmp, eq_by_cmp}
 use Rattle.std.specs.Cmp.Lexicographic.{slice_cmp, nat_list_cmp_total, texts_ties}
 use Rattle.std.specs.FinMap.{get, insert, get-insert, same_map}
@@ -28,23 +27,9 @@ module _ (key : List ℕ) (space : Space) where
   pub with_content-insert : (had content : Content) → content_at key space ≡ Some had
       → with_content key content space
       ≡ insert space key (record { content = content; deadline = deadline_at key space })
-  with_content-insert had content = by (get space key)
-    where
-      by : (r : Option Held) → option_map (λ held. held.content) r ≡ Some had
-          → option_map_or (λ held. insert space key (record held { content = content })) r space
-          ≡ insert space key
-          (record { content = content; deadline = option_and_then (λ held. held.deadline) r })
-      by None e = absurd cc
-      by (Some held) e = refl
+  with_content-insert had content = grind arith
 
   -- a key that takes the content that it has
   pub with_content-same : (had : Content) → content_at key space ≡ Some had
       → with_content key had space ≡ space
-  with_content-same had = by (get space key) refl
-    where
-      by : (r : Option Held) → get space key ≡ r → option_map (λ held. held.content) r ≡ Some had
-          → option_map_or (λ held. insert space key (record held { content = had })) r space ≡ space
-      by None at e = refl
-      by (Some held) at e =
-          let same : held.content ≡ had = cc in
-          ap (λ c. insert space key (record held { content = c })) (sym same) ∙ insert-same held at
+  with_content-same had = grind (arith, insert-same)

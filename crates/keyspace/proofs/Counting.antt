@@ -1,8 +1,7 @@
 -- How many fields a change in turn adds or takes out, by way of a hash of the names that count.
 use Rattle.std.proofs.Common.{◌≡◌, ◌+◌, ◌-◌, ◌<◌, ◌≤◌, ℕ, Bool, true, false, cond, List, [], ◌∷◌}
-use Rattle.std.proofs.Common.{Option, Some, None, Vec, Global, refl, ap, sym, subst, ◌∙◌, length}
-use Rattle.std.proofs.Common.{map}
-use Rattle.std.proofs.Common.{not, ◌||◌, get_or, take, drop, arith, suc}
+use Rattle.std.proofs.Common.{Option, Vec, Global, refl, ap, sym, subst, ◌∙◌, length, map, not}
+use Rattle.std.proofs.Common.{◌||◌, get_or, take, drop, arith, suc}
 use Rattle.std.specs.Prelude.{◌&&◌}
 use Rattle.std.specs.Option.{is_some, option_map}
 use Rattle.std.specs.Map.{keys_of}
@@ -26,16 +25,13 @@ turned a b apart = grind (arith, bytes_eq-Decides, same_bytes)
 
 -- what a look-up lends is there where the field is
 pub shown : {A : Type 0} (f : A → List ℕ) (r : Option A) → is_some (option_map f r) ≡ is_some r
-shown f None = refl
-shown f (Some a) = refl
+shown f r = grind arith
 
 or_true : (b : Bool) → (b || true) ≡ true
-or_true true = refl
-or_true false = refl
+or_true b = grind arith
 
 and_false : (b : Bool) → (b && false) ≡ false
-and_false true = refl
-and_false false = refl
+and_false b = grind arith
 
 -- ---- one field is set
 
@@ -45,8 +41,7 @@ set_there q n v [] = grind arith
 set_there q n v (f ∷ fs) = grind (arith, same_bytes, or_true, set_there q n v fs)
 
 one_more : (b : Bool) (m k : ℕ) → m ≡ cond b k (k + 1) → suc m ≡ cond b (suc k) (suc k + 1)
-one_more true m k e = omega (arith, e)
-one_more false m k e = omega (arith, e)
+one_more b m k e = grind arith
 
 set_length : (n v : List ℕ) (fs : Pairs)
     → length (field_set n v fs) ≡ cond (is_there n fs) (length fs) (length fs + 1)
@@ -111,8 +106,7 @@ pub record SetSoFar (all : List (List ℕ)) (fs met : Pairs) (left : List (List 
   pub count : length now ≡ length fs + length met
 
 or_false : (b : Bool) → b ≡ (b || false)
-or_false true = refl
-or_false false = refl
+or_false b = grind arith
 
 pub nothing_set : (all : List (List ℕ)) (fs met : Pairs) → met ≡ [] → SetSoFar all fs met all
 nothing_set all fs met is =
@@ -130,12 +124,8 @@ two key (a ∷ v ∷ left) some first =
     (v, λ i. (sym first i, v) ∷ in_turn (sym (take_rest (a ∷ v ∷ left) 2) i))
 two key left some first = absurd (let no : ⊥ = omega arith in no)
 
-swap_or : (a b c : Bool) → (a || (b || c)) ≡ (b || (a || c))
-swap_or a b c = grind arith
-
 had : (a b : Bool) → (a ≡ true → b ≡ true) → (a || b) ≡ b
-had true b h = sym (h refl)
-had false b h = refl
+had a b h = grind arith
 
 module _ (all : List (List ℕ)) (fs met : Pairs) (left : List (List ℕ)) (key : List ℕ)
     (some : 2 ≤ length left) (first : key ≡ get_or left 0 key)
@@ -173,11 +163,7 @@ module _ (all : List (List ℕ)) (fs met : Pairs) (left : List (List ℕ)) (key 
       subst (λ m. SetSoFar all fs m others) (sym e) (record {
         now = field_set key left_is.0 so_far.now;
         rest = set_on;
-        there = λ q.
-            set_there q key left_is.0 so_far.now
-            ∙ ap (λ b. bytes_eq q key || b) (so_far.there q)
-            ∙ swap_or (bytes_eq q key) (is_there q fs) (is_there q met)
-            ∙ ap (λ b. is_there q fs || b) (sym (set_there q key v met));
+        there = grind (arith, set_there);
         count =
             let alike : is_there key so_far.now ≡ is_there key met =
             so_far.there key ∙ ap (λ b. b || is_there key met) is in
@@ -200,10 +186,6 @@ pub record GoneSoFar (all : List (List ℕ)) (fs met : Pairs) (left : List (List
   pub there : (q : List ℕ) → is_there q now ≡ (is_there q fs && not (is_there q met))
   pub count : length now + length met ≡ length fs
   pub distinct : AreDistinct now
-
-and_true : (b : Bool) → b ≡ (b && true)
-and_true true = refl
-and_true false = refl
 
 pub nothing_gone : (all : List (List ℕ)) (fs met : Pairs) → AreDistinct fs → met ≡ []
     → GoneSoFar all fs met all
@@ -235,10 +217,7 @@ module _ (all : List (List ℕ)) (fs met : Pairs) (left : List (List ℕ)) (key 
             ∙ left_out (bytes_eq q key) (is_there q so_far.now)
             (λ e. ap (λ k. is_there k so_far.now) (same_bytes q key e) ∙ none)
             ∙ so_far.there q;
-        count =
-            let same = remove_length key so_far.now in
-            let gone = ap (λ b. cond {A = ℕ} b 1 0) none in
-            omega (arith, same, gone, so_far.count);
+        count = grind (arith, remove_length);
         distinct = remove_distinct key so_far.now so_far.distinct;
       }
     where

@@ -52,8 +52,7 @@ module _ {X Y : Type 0} (f : X → Y) where
 
   picked : (b : Bool) (x : X) (r : Option X)
       → cond b (Some (f x)) (option_map f r) ≡ option_map f (cond b (Some x) r)
-  picked true x r = refl
-  picked false x r = refl
+  picked b x r = grind arith
 
   find-lookup : (q : List ℕ) (es : List (Vec ℕ Global × X))
       → find (slice_cmp nat_cmp) q (map seen es) ≡ option_map f (lookup (is_key q) es)
@@ -74,13 +73,11 @@ module _ {X Y : Type 0} (f : X → Y) where
 
   -- what a reference shows, and what it refers to
   pub shown : (r : Option (Bor X)) → option_map (λ h. f h.now) r ≡ option_map f (option_copied r)
-  shown None = refl
-  shown (Some h) = refl
+  shown r = grind arith
 
   changed : (b : Bool) (w r : Option X)
       → option_map f (cond b w r) ≡ cond b (option_map f w) (option_map f r)
-  changed true w r = refl
-  changed false w r = refl
+  changed b w r = grind arith
 
   module _ {S : Type 0} (bs : List ℕ) (m n : IndexMap (Vec ℕ Global) X S) where
     -- a change at one key, as the finite map sees it

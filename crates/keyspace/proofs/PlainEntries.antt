@@ -1,7 +1,7 @@
 -- Look-ups and changes in a map with `Vec<u8>` keys, and in the list of plain pairs that it stands
 -- for.
 use Rattle.std.proofs.Common.{◌≡◌, ℕ, Bool, false, cond, List, [], ◌∷◌, Some}
-use Rattle.std.proofs.Common.{Vec, Global, map, refl, ap, sym, subst, ◌∙◌, ◌++◌, ◌+◌, Option}
+use Rattle.std.proofs.Common.{Vec, Global, map, refl, ap, sym, subst, ◌∙◌, ◌++◌, ◌+◌}
 use Rattle.std.proofs.Common.{drop, slice_get, zero, suc, arith}
 use Rattle.std.proofs.lemmas.List.{append_assoc, append-nil}
 use Rattle.std.proofs.lemmas.Slice.Eq.{bytes_eq-Decides}

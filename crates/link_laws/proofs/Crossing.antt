@@ -1,7 +1,7 @@
 -- What is read of a link is what was written on it.
-use Rattle.std.proofs.Common.{◌≡◌, ◌+◌, ℕ, List, [], ◌∷◌, ◌++◌, Bool, false, cond, refl, sym, ◌∙◌}
-use Rattle.std.proofs.Common.{length, map, append_assoc, arith}
-use Rattle.std.specs.Prelude.{◌==◌, ◌||◌}
+use Rattle.std.proofs.Common.{◌≡◌, ℕ, List, [], ◌∷◌, ◌++◌, Bool, false, cond, refl, sym, ◌∙◌}
+use Rattle.std.proofs.Common.{map, append_assoc, arith}
+use Rattle.std.specs.Prelude.{◌||◌}
 use Rattle.std.specs.List.{flat_map}
 use Rattle.resp_value.specs.declared.value.Proto.{Proto}
 use Rattle.resp_value.specs.declared.value.Value.{Value}
@@ -14,7 +14,7 @@ use Rattle.resp_stream.specs.Parse.{values_of}
 use Rattle.serial_model.specs.declared.history.Limits.{Limits}
 use Rattle.serial_model.specs.declared.history.Entry.{Entry}
 use Rattle.serial_model.specs.declared.history.Entry.TheVariants.{Admit, Run, Tick, Take, Close}
-use Rattle.serial_model.specs.History.{Sending, Message, End, sent_to, sent, spelled, sending_bytes}
+use Rattle.serial_model.specs.History.{Sending, Message, End, sent, spelled, sending_bytes}
 use Rattle.serial_model.specs.History.{sent_bytes, stream, has_ended, IsLegal}
 use Rattle.serial_model.specs.Laws.{is_end, has_end}
 use Rattle.serial_model.proofs.EntryLaws.{end_is_last}
@@ -113,9 +113,7 @@ module _ (l : Limits) (c : ℕ) where
   last_by (Tick m) past e = no_end_last (sent l c (Tick m ∷ past)) (unended (Tick m ∷ past) e)
   last_by (Take id max) past e =
       no_end_last (sent l c (Take id max ∷ past)) (unended (Take id max ∷ past) e)
-  last_by (Close id) past e =
-      end_behind (sent l c past) (sent_to (length past + 1) c ((id, End) ∷ [])) (unended past e)
-      (one_end (id == c) (length past + 1))
+  last_by (Close id) past e = grind (arith, end_behind, unended, one_end)
 
   ends_last : (past : List Entry) → IsLegal l past → EndsLast (sent l c past)
   ends_last [] h = tt
@@ -151,5 +149,4 @@ read_was_sent l c past b values legal p q =
     let ss = sent l c past in
     are_got values ss (ends_last l c past legal)
     (front_of_front (map tree_of values) (values_of b) (map says (messages ss)) q
-    (values_in_order (messages ss) b (messages_good ss (sent_is_well_formed l c past))
-    (p.0, p.1 ∙ sym (message_bytes ss))))
+    (grind (arith, values_in_order, messages_good, sent_is_well_formed, message_bytes)))

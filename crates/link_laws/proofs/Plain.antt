@@ -1,13 +1,12 @@
 -- Texts without an end of line, and the names of commands among them.
-use Rattle.std.proofs.Common.{◌≡◌, ℕ, List, [], ◌∷◌, ◌++◌, Bool, true, false, cond, refl, Err}
-use Rattle.std.proofs.Common.{arith}
-use Rattle.std.specs.Prelude.{◌==◌, ◌&&◌, not, codes}
+use Rattle.std.proofs.Common.{◌≡◌, ℕ, List, [], ◌∷◌, ◌++◌, Bool, true, false, refl, Err, arith}
+use Rattle.std.specs.Prelude.{◌==◌, ◌&&◌, not}
 use Rattle.std.specs.Str.{bytes_eq}
 use Rattle.std.proofs.lemmas.Bool.{eqb-false}
 use Rattle.std.proofs.lemmas.Slice.Eq.{bytes_eq-Decides}
 use Rattle.command_words.specs.declared.command.WordFault.{WordFault}
 use Rattle.command_words.specs.declared.command.WordFault.TheVariants.{Unknown, Arity}
-use Rattle.command_words.specs.Words.{reading, reading_of, lower_name, fault_text}
+use Rattle.command_words.specs.Words.{reading, lower_name, fault_text}
 use Rattle.command_words.specs.StringWords.{string_reading}
 use Rattle.command_words.specs.HashWords.{hash_reading}
 use Rattle.command_words.specs.KeyWords.{key_reading}
@@ -57,23 +56,11 @@ module _ (name : List ℕ) (words : List (List ℕ)) (n : has_no_end name ≡ fa
   unfolding connection_reading
   no_connection = grind (arith, differs)
 
-  no_reading : reading_of name words ≡ Err Unknown
-  no_reading = grind (arith, no_string, no_hash, no_key, no_connection)
-
--- a command that is read has a name without an end of line
-named_by : (t : Bool) (name : List ℕ) (words : List (List ℕ)) → has_no_end name ≡ t
-    → reading_of name words ≡ Err Arity → IsPlain name
-named_by t name words n e = grind (arith, plain_text, no_reading)
-
 named : (words : List (List ℕ)) → reading words ≡ Err Arity → IsPlain (lower_name words)
 unfolding reading
-named words e = grind (arith, named_by)
-
-unknown_text : (t : Bool)
-    → IsPlain (cond t (codes "ERR unknown subcommand") (codes "ERR unknown command"))
-unknown_text t = grind (arith, plain_text)
+named words e = grind (arith, plain_text, no_string, no_hash, no_key, no_connection)
 
 -- the text of a fault has no end of line
 pub fault_plain : (words : List (List ℕ)) (fault : WordFault)
     → (fault ≡ Arity → reading words ≡ Err Arity) → IsPlain (fault_text words fault)
-fault_plain words fault h = grind (arith, unknown_text, plain_both, plain_text, named)
+fault_plain words fault h = grind (arith, plain_both, plain_text, named)

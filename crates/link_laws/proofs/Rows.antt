@@ -12,14 +12,10 @@ use Rattle.command_words.specs.declared.command.Command.TheVariants.{Get, Set, S
 use Rattle.command_words.specs.declared.command.Command.TheVariants.{Append, StrLen, GetRange, Incr}
 use Rattle.command_words.specs.declared.command.Command.TheVariants.{Decr, IncrBy, DecrBy, MGet}
 use Rattle.command_words.specs.declared.command.Command.TheVariants.{MSet}
-use Rattle.command_words.specs.declared.command.SetWhen.{SetWhen}
-use Rattle.command_words.specs.declared.command.SetLife.{SetLife}
 use Rattle.command_words.specs.Space.{Content, Space}
 use Rattle.command_words.specs.Effect.{Effect, blob_or_null, wrong_type, sum_in}
-use Rattle.command_words.specs.Strings.{on_text, text_reply, mget_reply, set_effect, setnx_effect}
-use Rattle.command_words.specs.Strings.{getdel_row, append_row, incrby_effect, decrby_effect}
-use Rattle.command_words.specs.Hashes.{Pairs, on_fields, fields_reply, fields_effect, hdel_row}
-use Rattle.command_words.specs.Keys.{type_name, rename_effect, expire_effect, persist_effect}
+use Rattle.command_words.specs.Strings.{on_text}
+use Rattle.command_words.specs.Hashes.{Pairs, fields_reply, fields_effect, hdel_row}
 use Rattle.command_words.specs.Effects.{effect, string_effect, hash_effect, key_effect}
 use Rattle.resp_laws.specs.Fronts.{IsWellFormed, AreWellFormed, RowsWellFormed}
 use Rattle.link_laws.proofs.Plain.{plain_text}
@@ -57,10 +53,6 @@ on_text_good : {A : Type 0} (P : A → Type 0) (wrong : A) (row : Option (List �
     (o : Option Content) → P wrong → ((v : Option (List ℕ)) → P (row v)) → P (on_text wrong row o)
 on_text_good P wrong row o h k = grind arith
 
-on_fields_good : {A : Type 0} (P : A → Type 0) (wrong : A) (row : Pairs → A) (o : Option Content)
-    → P wrong → ((fs : Pairs) → P (row fs)) → P (on_fields wrong row o)
-on_fields_good P wrong row o h k = grind arith
-
 -- ---- a sum, or the error that there is none
 
 sum_good : {A : Type 0} (P : A → Type 0) (row : Result ℤ Value → A) (none : Value)
@@ -70,48 +62,23 @@ sum_good P row none o n g h k = grind (arith, either, plain_text)
 
 -- ---- strings
 
-append_good : (key value : List ℕ) (space : Space) → Replies (append_row key value space)
-append_good key value space = grind (arith, pos, plain_text)
-
-getdel_good : (key : List ℕ) (v : Option (List ℕ)) (space : Space)
-    → Replies (getdel_row key v space)
-getdel_good key v space p = grind arith
-
-incrby_good : (key : List ℕ) (n : ℤ) (space : Space) → Replies (incrby_effect key n space)
-incrby_good key n space = grind (arith, on_text_good, wrong_good, sum_good, plain_text)
-
-decrby_good : (key : List ℕ) (n : ℤ) (space : Space) → Replies (decrby_effect key n space)
-decrby_good key n space = grind (arith, either, plain_text, incrby_good)
-
-set_good : (key value : List ℕ) (when : SetWhen) (life : SetLife) (space : Space) (moment : ℕ)
-    → Replies (set_effect key value when life space moment)
-set_good key value when life space moment = grind (arith, either, ok_good)
-
-setnx_good : (key value : List ℕ) (space : Space) → Replies (setnx_effect key value space)
-setnx_good key value space = grind (arith, either, pos)
-
-mget_good : (keys : List (List ℕ)) (space : Space) → IsGood (mget_reply keys space)
-mget_good keys space p = grind (arith, are_mapped, on_text_good, blob_good)
-
-text_good : (key : List ℕ) (space : Space) (row : Option (List ℕ) → Value)
-    → ((v : Option (List ℕ)) → IsGood (row v)) → IsGood (text_reply key space row)
-text_good key space row h = grind (arith, on_text_good, wrong_good)
-
 string_good : (command : Command) (space : Space) (moment : ℕ)
     → Replies (string_effect command space moment)
 unfolding string_effect
-string_good (Get key) space m = text_good key space blob_or_null blob_good
-string_good (Set key value when life) space m = set_good key value when life space m
-string_good (SetNx key value) space m = setnx_good key value space
-string_good (GetDel key) space m = grind (arith, on_text_good, wrong_good, getdel_good)
-string_good (Append key value) space m = grind (arith, on_text_good, wrong_good, append_good)
-string_good (StrLen key) space m = grind (arith, text_good, pos)
-string_good (GetRange key a b) space m = grind (arith, text_good)
-string_good (Incr key) space m = incrby_good key (pos 1) space
-string_good (Decr key) space m = incrby_good key (negsuc 0) space
-string_good (IncrBy key n) space m = incrby_good key n space
-string_good (DecrBy key n) space m = decrby_good key n space
-string_good (MGet keys) space m = mget_good keys space
+string_good (Get key) space m = grind (arith, on_text_good, wrong_good, blob_good)
+string_good (Set key value when life) space m = grind (arith, either, ok_good)
+string_good (SetNx key value) space m = grind (arith, either, pos)
+string_good (GetDel key) space m = grind (arith, on_text_good, wrong_good)
+string_good (Append key value) space m = grind (arith, on_text_good, wrong_good, pos, plain_text)
+string_good (StrLen key) space m = grind (arith, pos, on_text_good, wrong_good)
+string_good (GetRange key a b) space m = grind (arith, on_text_good, wrong_good)
+string_good (Incr key) space m = grind (arith, on_text_good, wrong_good, sum_good, plain_text, pos)
+string_good (Decr key) space m =
+    grind (arith, on_text_good, wrong_good, sum_good, plain_text, negsuc)
+string_good (IncrBy key n) space m = grind (arith, on_text_good, wrong_good, sum_good, plain_text)
+string_good (DecrBy key n) space m =
+    grind (arith, either, plain_text, on_text_good, wrong_good, sum_good)
+string_good (MGet keys) space m = grind (arith, are_mapped, on_text_good, blob_good)
 string_good (MSet words) space m = ok_good
 string_good _ space m = λ p. tt
 
@@ -122,11 +89,11 @@ hdel_good key old new space = grind (arith, either, pos)
 
 fields_good : (key : List ℕ) (space : Space) (row : Pairs → Value)
     → ((fs : Pairs) → IsGood (row fs)) → IsGood (fields_reply key space row)
-fields_good key space row h = grind (arith, on_fields_good, wrong_good)
+fields_good key space row h = grind (arith, wrong_good)
 
 changed_good : (key : List ℕ) (space : Space) (row : Pairs → Effect)
     → ((fs : Pairs) → Replies (row fs)) → Replies (fields_effect key space row)
-changed_good key space row h = grind (arith, on_fields_good, wrong_good)
+changed_good key space row h = grind (arith, wrong_good)
 
 hash_good : (command : Command) (space : Space) → Replies (hash_effect command space)
 unfolding hash_effect
@@ -145,23 +112,10 @@ hash_good command space = grind (
 
 -- ---- keys
 
-type_good : (o : Option Content) → IsGood (Simple (type_name o))
-type_good o p = grind (arith, plain_text)
-
-rename_good : (a b : List ℕ) (space : Space) → Replies (rename_effect a b space)
-rename_good a b space = grind (arith, either, ok_good, plain_text)
-
-expire_good : (key : List ℕ) (expiry : Option ℕ) (space : Space)
-    → Replies (expire_effect key expiry space)
-expire_good key expiry space = grind (arith, either, pos)
-
-persist_good : (key : List ℕ) (space : Space) → Replies (persist_effect key space)
-persist_good key space = grind (arith, either, pos)
-
 key_good : (command : Command) (space : Space) (moment : ℕ)
     → Replies (key_effect command space moment)
 unfolding key_effect
-key_good command space m = grind (arith, type_good, rename_good, expire_good, persist_good, ok_good)
+key_good command space m = grind (arith, ok_good, plain_text, either, pos)
 
 pub effect_good : (command : Command) (space : Space) (moment : ℕ)
     → Replies (effect command space moment)

@@ -1,14 +1,10 @@
 -- Each message that is sent is well-formed.
-use Rattle.std.proofs.Common.{◌≡◌, ℕ, List, [], ◌∷◌, ◌++◌, Bool, cond, Option, Result, Ok, Err}
-use Rattle.std.proofs.Common.{arith}
-use Rattle.std.specs.Prelude.{codes}
+use Rattle.std.proofs.Common.{◌≡◌, ℕ, List, [], ◌∷◌, ◌++◌, Result, Ok, Err, arith}
 use Rattle.resp_value.specs.declared.value.Proto.{Proto}
-use Rattle.resp_value.specs.declared.value.Proto.TheVariants.{Two, Three}
-use Rattle.resp_value.specs.declared.value.Value.TheVariants.{Map}
 use Rattle.command_words.specs.declared.command.Command.{Command}
 use Rattle.command_words.specs.declared.command.Command.TheVariants.{Hello, ClientTracking}
 use Rattle.command_words.specs.declared.command.WordFault.{WordFault}
-use Rattle.command_words.specs.declared.command.WordFault.TheVariants.{Arity, Unknown}
+use Rattle.command_words.specs.declared.command.WordFault.TheVariants.{Arity}
 use Rattle.command_words.specs.Space.{Space}
 use Rattle.command_words.specs.Words.{reading}
 use Rattle.serial_model.specs.declared.mode.Mode.{Mode}
@@ -16,42 +12,20 @@ use Rattle.serial_model.specs.declared.mode.Runner.{Runner}
 use Rattle.serial_model.specs.declared.history.Limits.{Limits}
 use Rattle.serial_model.specs.declared.history.Entry.{Entry}
 use Rattle.serial_model.specs.declared.history.Entry.TheVariants.{Run, Tick, Close}
-use Rattle.serial_model.specs.Modes.{greeting, hello, hello_reply}
-use Rattle.serial_model.specs.Tracking.{Invalidation, push_of}
-use Rattle.serial_model.specs.History.{Sending, served, effect_of, ran_over, ran, modes, by_proto}
+use Rattle.serial_model.specs.Tracking.{Invalidation}
+use Rattle.serial_model.specs.History.{Sending, effect_of, ran_over, ran, modes, by_proto}
 use Rattle.serial_model.specs.History.{routed, sends, sent_to}
 use Rattle.resp_laws.specs.Fronts.{Every}
 use Rattle.link_laws.specs.Crossing.{IsReadable, SentIsWellFormed}
 use Rattle.link_laws.proofs.Plain.{plain_text, fault_plain}
-use Rattle.link_laws.proofs.Rows.{IsGood, Replies, are_mapped, effect_good}
+use Rattle.link_laws.proofs.Rows.{Replies, are_mapped, effect_good}
 
 -- ---- the reply to words
-
-greeting_good : (proto : Proto) (id : ℕ) → IsGood (Map (greeting proto id))
-greeting_good proto id p = grind arith
-
-version_by : (x y z : Bool) (word : List ℕ) (id : ℕ)
-    → IsGood (hello_reply id (cond x (Ok Two) (cond y (Ok Three)
-    (cond z (Err (codes "NOPROTO unsupported protocol version"))
-    (Err (codes "ERR Protocol version is not an integer or out of range"))))))
-version_by x y z word id = grind (arith, greeting_good, plain_text)
-
-hello_good : (id : ℕ) (word : Option (List ℕ)) (proto : Proto)
-    → IsGood (hello_reply id (hello word proto))
-hello_good id word proto = grind (arith, greeting_good, version_by)
-
--- a fault of counting words is one of reading them
-no_arity : (command : Command) (t : Bool)
-    → ◌≡◌ {A = Result Command WordFault} (cond t (Ok command) (Err Unknown)) (Err Arity) → ⊥
-no_arity command t e = grind arith
-
-served_arity : (r : Result Command WordFault) → served r ≡ Err Arity → r ≡ Err Arity
-served_arity r e = grind (arith, no_arity)
 
 effect_of_good : (by : Runner) (words : List (List ℕ)) (r : Result Command WordFault)
     (space : Space) (moment : ℕ) → (r ≡ Err Arity → reading words ≡ Err Arity)
     → Replies (effect_of by words r space moment)
-effect_of_good by words (Ok (Hello word)) space m h = hello_good by.id word by.mode.proto
+effect_of_good by words (Ok (Hello word)) space m h = grind (arith, plain_text)
 effect_of_good by words (Ok (ClientTracking options)) space m h = grind (arith, plain_text)
 effect_of_good by words (Ok command) space m h = effect_good command space m
 effect_of_good by words (Err fault) space m h = grind (arith, fault_plain)
@@ -59,12 +33,7 @@ effect_of_good by words (Err fault) space m h = grind (arith, fault_plain)
 pub reply_good : (l : Limits) (past : List Entry) (id moment : ℕ) (words : List (List ℕ))
     → Replies (ran l past id words moment)
 unfolding ran_over
-reply_good l past id moment words = grind (arith, effect_of_good, served_arity)
-
--- ---- invalidations
-
-push_good : (keys : Option (List (List ℕ))) → IsGood (push_of keys)
-push_good keys p = grind (arith, are_mapped)
+reply_good l past id moment words = grind (arith, effect_of_good)
 
 -- ---- lists of what is sent
 
@@ -80,7 +49,7 @@ readable_to n c [] h = tt
 readable_to n c (s ∷ ss) h = grind (arith, readable_to n c ss h.1)
 
 readable_route : (proto : Proto) (i : Invalidation) → Readable (by_proto proto i)
-readable_route proto i = grind (arith, push_good)
+readable_route proto i = grind (arith, are_mapped)
 
 readable_routed : (modes : ℕ → Mode) (told : List Invalidation) → Readable (routed modes told)
 readable_routed modes [] = tt

@@ -1,6 +1,6 @@
 -- The places that a search has found so far.
 use Rattle.std.proofs.Common.{◌≡◌, ◌+◌, ℕ, List, [], ◌∷◌, ◌++◌, Bool, true, false, cond}
-use Rattle.std.proofs.Common.{ap, sym, ◌∙◌, append-nil, append_assoc, add-one, zero-add, arith}
+use Rattle.std.proofs.Common.{ap, ◌∙◌, append-nil, append_assoc, add-one, zero-add, arith}
 use Rattle.std.specs.Prelude.{filter}
 use Rattle.std.specs.List.{range_with_len}
 use Rattle.std.proofs.lemmas.List.Elements.{filter-append}
@@ -23,17 +23,9 @@ module _ (p : ℕ → Bool) where
   -- a place that passes, and one that does not
   pub next_found : (xs ys : List ℕ) (n : ℕ) → ys ≡ xs ++ filter p (range_with_len 0 n) → p n ≡ true
       → ys ++ n ∷ [] ≡ xs ++ filter p (range_with_len 0 (n + 1))
-  next_found xs ys n so_far e =
-      ap (λ l. l ++ n ∷ []) so_far
-      ∙ append_assoc xs (filter p (range_with_len 0 n)) (n ∷ [])
-      ∙ ap (λ l. xs ++ l) (sym (filter_next n
-      ∙ ap (λ b. filter p (range_with_len 0 n) ++ cond b (n ∷ []) []) e))
+  next_found xs ys n so_far e = grind (arith, append_assoc, filter_next)
 
   pub next_passed : (xs ys : List ℕ) (n : ℕ) → ys ≡ xs ++ filter p (range_with_len 0 n)
       → p n ≡ false
       → ys ≡ xs ++ filter p (range_with_len 0 (n + 1))
-  next_passed xs ys n so_far e =
-      so_far
-      ∙ ap (λ l. xs ++ l) (sym (filter_next n
-      ∙ ap (λ b. filter p (range_with_len 0 n) ++ cond b (n ∷ []) []) e
-      ∙ append-nil (filter p (range_with_len 0 n))))
+  next_passed xs ys n so_far e = grind (arith, filter_next, append-nil)

@@ -46,8 +46,7 @@ module _ (id : ℕ) (prefix : List ℕ) where
       (first_of id prefix ∷ r ∷ rs))) [
         | Less ↦ λ e. (before_registered r.prefix rs h.0 e, ordered_registered rs h.1)
         | Equal ↦ λ e. h
-        | Greater ↦ λ e. let first = turned r.prefix prefix e in
-            ((first, before_all prefix r.prefix rs first h.0), h)
+        | Greater ↦ grind (arith, turned, before_all)
       ] refl
 
   held_registered : (rs : List Registration) → AreHeld rs → AreHeld (registered id prefix rs)

@@ -1,8 +1,7 @@
 -- Words ask for a world, a server or a script alone, as the table of what is not built stands, and
 -- their settings are valid.
-use Rattle.std.proofs.Common.{◌≡◌, ◌<◌, ◌≤◌, ◌||◌, ◌∙◌, ℕ, Bool, true, false, cond, codes}
-use Rattle.std.proofs.Common.{refl, inl, inr}
-use Rattle.std.proofs.Common.{List, [], ◌∷◌, None, Some, arith, sym, ap}
+use Rattle.std.proofs.Common.{◌≡◌, ◌<◌, ◌≤◌, ◌||◌, ◌∙◌, ℕ, Bool, cond, codes, inl, inr, List, []}
+use Rattle.std.proofs.Common.{◌∷◌, None, Some, arith, sym, ap}
 use Rattle.std.specs.declared.option.Option.{Option}
 use Rattle.std.specs.Option.{option_map}
 use Rattle.std.specs.Prelude.{option_and_then, ◌⊎◌}
@@ -16,9 +15,8 @@ use Rattle.command_line.specs.declared.settings.Connection.{Connection}
 use Rattle.command_line.specs.declared.settings.LimitSettings.{LimitSettings}
 use Rattle.command_line.specs.declared.settings.ScriptSettings.{ScriptSettings}
 use Rattle.command_line.specs.declared.settings.ServeSettings.{ServeSettings}
-use Rattle.command_line.specs.Options.{Word, is_true, number_in}
-use Rattle.command_line.specs.Options.{option_value, options_of, value_of}
-use Rattle.command_line.specs.Commands.{command_of, limits, limits_from, script}
+use Rattle.command_line.specs.Options.{Word, is_true, number_in, option_value, options_of, value_of}
+use Rattle.command_line.specs.Commands.{command_of, limits, script}
 use Rattle.command_line.specs.Commands.{script_from, script_of, script_options, serve, serve_from}
 use Rattle.command_line.specs.Commands.{serve_of, serve_options, storm_of, world_of}
 use Rattle.redis_program.specs.Headline.{limits_of}
@@ -27,8 +25,7 @@ use Rattle.redis_program.specs.Headline.{limits_of}
 
 module _ (a : Asked) (rest : Bool) where
   some_of : (b : Bool) (o : Option Asked) → cond b None o ≡ Some a → o ≡ Some a
-  some_of true o h = absurd (let no : ⊥ = cc in no)
-  some_of false o h = h
+  some_of b o h = grind arith
 
   by_names : (world storm serve script : Bool) (w x y z : Option Asked)
       → cond (storm || rest) None
@@ -38,18 +35,15 @@ module _ (a : Asked) (rest : Bool) where
 
 is_world : (o : Option LimitSettings) (a : Asked) → option_map World o ≡ Some a
     → (s : LimitSettings) × (a ≡ World s) × (o ≡ Some s)
-is_world None a e = absurd (let no : ⊥ = cc in no)
-is_world (Some s) a e = (s, cc, refl)
+is_world o a e = grind arith
 
 is_serve : (o : Option ServeSettings) (a : Asked) → option_map Serve o ≡ Some a
     → (s : ServeSettings) × (a ≡ Serve s) × (o ≡ Some s)
-is_serve None a e = absurd (let no : ⊥ = cc in no)
-is_serve (Some s) a e = (s, cc, refl)
+is_serve o a e = grind arith
 
 is_script : (o : Option ScriptSettings) (a : Asked) → option_map Script o ≡ Some a
     → (s : ScriptSettings) × (a ≡ Script s) × (o ≡ Some s)
-is_script None a e = absurd (let no : ⊥ = cc in no)
-is_script (Some s) a e = (s, cc, refl)
+is_script o a e = grind arith
 
 -- words that are understood ask for a world, a server or a script
 abbrev AsksWorld : Asked → Type 0
@@ -87,10 +81,6 @@ number_within : (high d m : ℕ) (text : Option Word) → 0 < d → d ≤ high
     → number_in 1 high (Some d) text ≡ Some m → (0 < m) × (m ≤ high)
 number_within high d m text low top e = grind arith
 
-from_valid : (value : Word → Option Word) (s : LimitSettings) → limits_from value ≡ Some s
-    → AreValid (limits_of s)
-from_valid value s e = grind arith
-
 pub world_valid : (words : List Word) (s : LimitSettings) → world_of words ≡ Some s
     → AreValid (limits_of s)
 unfolding world_of
@@ -126,7 +116,7 @@ from_servable : (value : Word → Option Word) (s : ServeSettings) → serve_fro
 from_servable value s e =
     all_servable _ _ _ _ s
     (λ m h. number_within 64 4 m (value (codes "workers")) (omega arith) (omega arith) h)
-    (λ l h. from_valid value l h) e
+    (λ l h. grind arith) e
 
 serve_valid : (words : List Word) (s : ServeSettings) → serve_of words ≡ Some s → IsServable s
 unfolding serve_of

@@ -1,6 +1,6 @@
 -- The last line after what was played, and the status.
-use Rattle.std.proofs.Common.{◌≡◌, ℕ, List, [], ◌++◌, Some, None, IfSome, refl, sym, ap, subst}
-use Rattle.std.proofs.Common.{◌∙◌, append-nil, inl, inr}
+use Rattle.std.proofs.Common.{arith, ◌≡◌, ℕ, List, [], ◌++◌, IfSome, refl, sym, subst, ◌∙◌}
+use Rattle.std.proofs.Common.{append-nil, inl, inr}
 use Rattle.std.specs.declared.option.Option.{Option}
 use Rattle.std.specs.Io.KnownBytes.{Appends}
 use Rattle.edge_links.specs.declared.counts.Counts.{Counts}
@@ -25,18 +25,7 @@ use Rattle.redis_program.proofs.Judging.{ends_as}
 
 body_written : (ending : Ending) (old new : Option (List ℕ)) (body : List ℕ)
     → (ending ≡ WriteFault → ⊥) → WritesBody ending old new body → Appends old new body
-body_written WriteFault old new body n w = absurd (n refl)
-body_written ending old new body n w = w
-
-module _ (Ends : Ending → List ℕ → Type 0) (body : List ℕ) (old new : Option (List ℕ)) where
-  writes_status : (ending : Ending) → (ending ≡ WriteFault → ⊥) → Ends ending body
-      → Appends old new (body ++ last_line ending) → Writes Ends (status_of ending) old new
-  writes_status Done n e a = (Done, body, refl, e, a)
-  writes_status ReadFault n e a = (ReadFault, body, refl, e, a)
-  writes_status WriteFault n e a = absurd (n refl)
-  writes_status HistoryFull n e a = (HistoryFull, body, refl, e, a)
-  writes_status NoMemory n e a = (NoMemory, body, refl, e, a)
-  writes_status ending n e a = (ending, body, refl, e, a)
+body_written ending old new body n w = grind arith
 
 module _ (limits : Limits) (in0 in1 : Option (List ℕ)) where
   -- memory for the last line may be wanting, whatever it is
@@ -72,12 +61,7 @@ module _ (limits : Limits) (in0 in1 : Option (List ℕ)) where
   no_memory_too : (ending : Ending) (body : List ℕ) → (ending ≡ Done → ⊥)
       → (ending ≡ WriteFault → ⊥) → Comes limits in0 in1 ending body
       → Comes limits in0 in1 NoMemory body
-  no_memory_too Done body d n c = absurd (d refl)
-  no_memory_too ReadFault body d n c = then_too ReadFault body n c
-  no_memory_too WriteFault body d n c = absurd (n refl)
-  no_memory_too HistoryFull body d n c = then_too HistoryFull body n c
-  no_memory_too NoMemory body d n c = c
-  no_memory_too ending body d n c = then_too ending body n c
+  no_memory_too ending body d n c = grind (arith, then_too)
 
   pub finishes : (ending : Ending) (result : Status) (out0 out1 out2 : Option (List ℕ))
       (before now : Counts) → (ending ≡ Done → ⊥) → (ending ≡ WriteFault → ⊥)
@@ -88,8 +72,7 @@ module _ (limits : Limits) (in0 in1 : Option (List ℕ)) where
       let poor = no_memory_too ending c.0 d n c.1 in
       let P : Status → Type 0 = λ s. Writes (Comes limits in0 in1) s out0 out2 in
       elim last [
-        | inl h ↦ subst P (sym h.0) (writes_status (Comes limits in0 in1) c.0 out0 out2 ending n c.1
-            (appends_more out0 out1 out2 c.0 (last_line ending) wrote h.1))
+        | inl h ↦ subst P (sym h.0) (grind (arith, appends_more))
         | inr (inl h) ↦ subst P (sym h.0) (
           NoMemory,
           c.0,
@@ -129,52 +112,30 @@ module _ (limits : Limits) (in0 in1 : Option (List ℕ)) where
 writes_too : (P Q : Ending → List ℕ → Type 0) (result : Status) (old new : Option (List ℕ))
     → ((ending : Ending) (body : List ℕ) → P ending body → Q ending body)
     → Writes P result old new → Writes Q result old new
-writes_too P Q status.WriteFault old new f w = (w.0, w.1, f w.0 w.1 w.2, w.3)
-writes_too P Q result old new f w = (w.0, w.1, w.2, f w.0 w.1 w.3, w.4)
+writes_too P Q result old new f w = grind arith
 
 -- the same of the whole input, where it is known
 pub writes_known : (limits : Limits) (in0 in1 out0 out1 : Option (List ℕ)) (result : Status)
     → Writes (Comes limits in0 in1) result out0 out1
     → IfSome in0 (λ text. Writes (EndsAs limits (text_lines text)) result out0 out1)
-writes_known limits None in1 out0 out1 result w = tt
-writes_known limits (Some text) in1 out0 out1 result w =
-    writes_too (Comes limits (Some text) in1) (EndsAs limits (text_lines text)) result out0 out1
-    (ends_as limits text in1) w
+writes_known limits in0 in1 out0 out1 result w = grind (arith, writes_too, ends_as)
 
 module _ (limits : Limits) (lines : List (List ℕ)) where
-  end_verdict : (ending : Ending) (body : List ℕ) (result : Status) → status_of ending ≡ result
-      → (result ≡ status.ReadFault → ⊥) → (result ≡ status.WriteFault → ⊥)
-      → EndsAs limits lines ending body → IsVerdict limits lines result
-  end_verdict ReadFault body result s r w e = absurd (r (sym s))
-  end_verdict WriteFault body result s r w e = absurd (w (sym s))
-  end_verdict NoMemory body result s r w e = inl (sym s)
-  end_verdict ending body result s r w e = inr (sym s ∙ ap status_of e.0)
-
   complete : (result : Status) (old new : Option (List ℕ)) → (result ≡ status.ReadFault → ⊥)
       → (result ≡ status.WriteFault → ⊥) → Writes (EndsAs limits lines) result old new
       → IsVerdict limits lines result
-  complete status.ReadFault old new r w x = absurd (r refl)
-  complete status.WriteFault old new r w x = absurd (w refl)
-  complete status.NoMemory old new r w x = inl refl
-  complete result old new r w x = end_verdict x.0 x.1 result x.2 r w x.3
+  complete result old new r w x = grind arith
 
 -- where neither fault is the answer
 pub complete_known : (limits : Limits) (in0 out0 out1 : Option (List ℕ)) (result : Status)
     → (result ≡ status.ReadFault → ⊥) → (result ≡ status.WriteFault → ⊥)
     → IfSome in0 (λ text. Writes (EndsAs limits (text_lines text)) result out0 out1)
     → IfSome in0 (λ text. IsVerdict limits (text_lines text) result)
-complete_known limits None out0 out1 result r w x = tt
-complete_known limits (Some text) out0 out1 result r w x =
-    complete limits (text_lines text) result out0 out1 r w x
+complete_known limits in0 out0 out1 result r w x = grind (arith, complete)
 
 ending_read : (ending : Ending) (old now : Counts) → status_of ending ≡ status.ReadFault
     → EndingRead ending old now → Counted old.faults now.faults
-ending_read ReadFault old now e r = r.0
-ending_read ending old now e r = absurd (let no : ⊥ = cc in no)
-
-no_write : (ending : Ending) → (ending ≡ WriteFault → ⊥) → status_of ending ≡ status.WriteFault → ⊥
-no_write WriteFault n e = n refl
-no_write ending n e = cc
+ending_read ending old now e r = grind arith
 
 pub last_read : (ending : Ending) (result : Status) (out1 out2 : Option (List ℕ))
     (k1 k2 c0 c1 : Counts) → LastGives ending result out1 out2 k1 k2 → EndingRead ending c0 c1
@@ -190,28 +151,14 @@ last_read ending result out1 out2 k1 k2 c0 c1 last read e = elim last [
       absurd (let no : ⊥ = cc in no)
 ]
 
-counts_same : (ending : Ending) (old now : Counts) → (ending ≡ WriteFault → ⊥)
-    → EndingWrote ending old now → now ≡ old
-counts_same WriteFault old now n w = absurd (n refl)
-counts_same ending old now n w = w
-
 pub last_wrote : (ending : Ending) (result : Status) (out1 out2 : Option (List ℕ))
     (k0 k1 k2 : Counts) → (ending ≡ WriteFault → ⊥) → LastGives ending result out1 out2 k1 k2
     → EndingWrote ending k0 k1
     → result ≡ status.WriteFault → Counted k0.faults k2.faults
-last_wrote ending result out1 out2 k0 k1 k2 n last wrote e =
-    let same = counts_same ending k0 k1 n wrote in
-    elim last [
-      | inl h ↦ absurd (no_write ending n (sym h.0 ∙ e))
-      | inr (inl h) ↦ let clash : status.NoMemory ≡ status.WriteFault = sym h.0 ∙ e in
-          absurd (let no : ⊥ = cc in no)
-      | inr (inr (inl h)) ↦ subst (λ k. Counted k.faults k2.faults) same h.1.0
-      | inr (inr (inr h)) ↦ subst (λ k. Counted k.faults k2.faults) same h.1.0
-    ]
+last_wrote ending result out1 out2 k0 k1 k2 n last wrote e = grind arith
 
 ending_done : (ending : Ending) → (ending ≡ Done → ⊥) → status_of ending ≡ status.Done → ⊥
-ending_done Done n e = n refl
-ending_done ending n e = cc
+ending_done ending n e = grind arith
 
 pub last_not_done : (ending : Ending) (result : Status) (out1 out2 : Option (List ℕ))
     (k1 k2 : Counts) → (ending ≡ Done → ⊥) → LastGives ending result out1 out2 k1 k2
@@ -226,8 +173,7 @@ last_not_done ending result out1 out2 k1 k2 n last e = elim last [
 ]
 
 no_usage : (ending : Ending) → status_of ending ≡ status.Usage → ⊥
-no_usage Done e = cc
-no_usage ending e = cc
+no_usage ending e = grind arith
 
 pub last_not_usage : (ending : Ending) (result : Status) (out1 out2 : Option (List ℕ))
     (k1 k2 : Counts) → LastGives ending result out1 out2 k1 k2 → result ≡ status.Usage → ⊥

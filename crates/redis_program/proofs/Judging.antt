@@ -25,9 +25,8 @@ use Rattle.redis_program.specs.declared.status.Ending.TheVariants.{Done, BadLine
 use Rattle.redis_program.specs.declared.status.Ending.TheVariants.{WriteFault, Refused, HistoryFull}
 use Rattle.redis_program.specs.declared.status.Ending.TheVariants.{NoMemory}
 use Rattle.redis_program.specs.Headline.{Begins, Comes, EndsAs, Next, PlayedThen, Plays, PlaysPart}
-use Rattle.redis_program.specs.Headline.{ReadsBad, ReadsWhole, ending_at, event_at}
-use Rattle.redis_program.specs.Headline.{events_of, faulty_or, first_fault, text_lines}
-use Rattle.redis_program.specs.Headline.{transcript_of, verdict}
+use Rattle.redis_program.specs.Headline.{ReadsBad, ReadsWhole, ending_at, event_at, events_of}
+use Rattle.redis_program.specs.Headline.{faulty_or, first_fault, text_lines, transcript_of, verdict}
 use Rattle.edge_lines.proofs.Splitting.{line_ended, lines_ended, line_alone, line_begun}
 use Rattle.redis_program.proofs.Scheduling.{same_length, events_then, no_event, one_event}
 use Rattle.redis_program.proofs.Scheduling.{transcript_then, transcript_begins, fault_then}
@@ -238,20 +237,4 @@ module _ (limits : Limits) where
   -- the whole input is known
   pub ends_as : (text : List ℕ) (in1 : Option (List ℕ)) (ending : Ending) (body : List ℕ)
       → Comes limits (Some text) in1 ending body → EndsAs limits (text_lines text) ending body
-  ends_as text None Done body c = absurd c.consumed
-  ends_as text (Some rest) Done body c =
-      let all : text ≡ c.bytes =
-      c.consumed ∙ ap (λ l. c.bytes ++ l) c.at_end ∙ append-nil c.bytes in
-      subst (λ t. EndsAs limits (text_lines t) Done body) (sym all)
-      (done_ends (text_lines c.bytes) c.events c.w c.plays body c.prints)
-  ends_as text (Some rest) ReadFault body c =
-      next_ends ReadFault text rest body (λ e. let no : ⊥ = cc in no) c
-  ends_as text (Some rest) WriteFault body c =
-      next_ends WriteFault text rest body (λ e. let no : ⊥ = cc in no) c
-  ends_as text (Some rest) HistoryFull body c =
-      next_ends HistoryFull text rest body (λ e. let no : ⊥ = cc in no) c
-  ends_as text (Some rest) NoMemory body c =
-      next_ends NoMemory text rest body (λ e. let no : ⊥ = cc in no) c
-  ends_as text None ending body c = absurd c.reads.consumed
-  ends_as text (Some rest) ending body c =
-      next_ends ending text rest body (λ e. let no : ⊥ = cc in no) c
+  ends_as text in1 ending body c = grind (arith, append-nil, done_ends, next_ends)

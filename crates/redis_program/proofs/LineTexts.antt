@@ -1,24 +1,17 @@
 -- What a line comes to, once its text was written or the sink failed in it.
-use Rattle.std.proofs.Common.{◌≡◌, ◌++◌, ℕ, List, [], Some, Err, Result, refl, sym, ap}
-use Rattle.std.proofs.Common.{subst}
-use Rattle.std.proofs.Common.{◌∙◌, inl, inr}
+use Rattle.std.proofs.Common.{◌≡◌, ℕ, List, [], Some, Err, Result, refl, sym, ap, subst, ◌∙◌, inl}
+use Rattle.std.proofs.Common.{inr}
 use Rattle.std.specs.declared.option.Option.{Option}
-use Rattle.std.specs.Io.KnownBytes.{Appends}
-use Rattle.edge_links.specs.declared.counts.Counts.{Counts}
-use Rattle.resp_value.specs.Lists.{IsPrefix}
 use Rattle.resp_value.proofs.Prefixes.{prefix_same}
 use Rattle.script_text.specs.declared.event.Event.{Event}
 use Rattle.script_text.specs.declared.line.Line.{Line}
 use Rattle.script_text.specs.Printed.{text_of}
-use Rattle.server_links.specs.declared.fault.WorldFault.{WorldFault}
-use Rattle.server_links.specs.Outcome.{Gives}
-use Rattle.server_links.proofs.Outcomes.{gives_reached}
 use Rattle.world_run.specs.WorldState.{WorldState}
 use Rattle.world_run.specs.World.{step}
 use Rattle.redis_program.specs.declared.status.Ending.{Ending}
 use Rattle.redis_program.specs.declared.status.Ending.TheVariants as ending
 use Rattle.redis_program.specs.Headline.{AppendsFirst, event_at}
-use Rattle.redis_program.specs.Playing.{LineCounted, LineGives, LineText, PartPrinted}
+use Rattle.redis_program.specs.Playing.{LineGives, LineText, PartPrinted}
 use Rattle.redis_program.proofs.Scheduling.{text_none}
 
 -- all lines of an event
@@ -35,13 +28,6 @@ all_printed n w line event lines at is = (
 )
 
 module _ (n : ℕ) (w new : WorldState) (line text : List ℕ) (old out : Option (List ℕ)) where
-  pub line_written : (played : Result (Unit {0}) Ending) → LineText n w line played new text
-      → Appends old out text → LineGives n w line played new old out
-  line_written (Err ending.Done) t a = absurd t.2
-  line_written (Err ending.ReadFault) t a = absurd t.2
-  line_written (Err ending.WriteFault) t a = absurd t.2
-  line_written played t a = (t.0, t.2, subst (λ l. Appends old out l) t.1 a)
-
   empty : (lines : List Line) → text ≡ text_of lines → lines ≡ [] → text ≡ []
   empty lines is none = is ∙ ap text_of none ∙ sym (text_none [] refl)
 
@@ -61,20 +47,3 @@ module _ (n : ℕ) (w new : WorldState) (line text : List ℕ) (old out : Option
   ]
   line_cut last played t a some =
       (t.0, all_printed n w line t.2.0 t.0 t.2.1 t.2.4, subst (λ l. AppendsFirst old out l) t.1 a)
-
-pub line_uncounted : (n : ℕ) (w new : WorldState) (line text : List ℕ) (before now : Counts)
-    (played : Result (Unit {0}) Ending) → LineText n w line played new text → now ≡ before
-    → LineCounted played before now
-line_uncounted n w new line text before now (Err ending.WriteFault) t e = absurd t.2
-line_uncounted n w new line text before now played t e = e
-
--- the first lines of what an event printed until it ended or was broken off
-pub part_printed : (n : ℕ) (w : WorldState) (line : List ℕ) (event : Event) (before : List Line)
-    (result : Result (Unit {0}) WorldFault) (new : WorldState) (lines first : List Line)
-    → event_at n line ≡ Some event → before ≡ []
-    → Gives (step w event) before result new lines → IsPrefix first lines
-    → PartPrinted n w line first
-part_printed n w line event before result new lines first at none gives begins =
-    let k = gives_reached (step w event) before result new lines gives in
-    let all : lines ≡ k.0 = k.2 ∙ ap (λ (l : List Line). l ++ k.0) none in
-    (event, at, new, k.0, k.1, subst (λ (l : List Line). IsPrefix first l) all begins)

@@ -15,14 +15,11 @@ use Rattle.world_run.specs.WorldTranscript.{transcript, after}
 use Rattle.world_run.specs.WorldHistory.{HasOneHistory}
 use Rattle.world_run.proofs.History.{faults_none, have_links}
 use Rattle.redis_program.specs.declared.status.Ending.{Ending}
-use Rattle.redis_program.specs.declared.status.Ending.TheVariants.{Done, BadLine}
-use Rattle.redis_program.specs.declared.status.Ending.TheVariants.{WriteFault, Refused, HistoryFull}
-use Rattle.redis_program.specs.declared.status.Ending.TheVariants.{NoMemory}
+use Rattle.redis_program.specs.declared.status.Ending.TheVariants.{Done, BadLine, WriteFault}
+use Rattle.redis_program.specs.declared.status.Ending.TheVariants.{Refused, HistoryFull, NoMemory}
 use Rattle.redis_program.specs.Headline.{AppendsFirst, AreLinesOf, ArePlain, IsPlain, Next, Plays}
-use Rattle.redis_program.specs.Headline.{PlayedThen, PlaysPart, ReadsWhole, ended}
-use Rattle.redis_program.specs.Headline.{text_lines}
-use Rattle.redis_program.specs.Playing.{ComesTo, EndingRead, EndingWrote, LineCounted, LineGives}
-use Rattle.redis_program.specs.Playing.{PartPrinted}
+use Rattle.redis_program.specs.Headline.{PlayedThen, PlaysPart, ReadsWhole, ended, text_lines}
+use Rattle.redis_program.specs.Playing.{ComesTo, LineGives, PartPrinted}
 use Rattle.edge_links.proofs.Bytes.{appends_none, appends_more, consumes_none, consumes_more}
 use Rattle.edge_lines.proofs.Bytes.{first_then}
 use Rattle.edge_lines.proofs.Splitting.{lines_ended, line_alone, plain_more, ended_more}
@@ -259,18 +256,14 @@ module _ (limits : Limits) (number : ℕ) (w : WorldState)
       → Consumes in1 in2 (items ++ 10 ∷ [])
       → LineGives number w line (Err ending) new out1 out2
       → ComesTo limits in0 in2 ending out0 out2
-  line_brings law ending new items line s e p c g =
-      line_ends law ending new items (items ++ 10 ∷ []) s (p, inl refl) c
-      (subst (λ l. LineGives number w l (Err ending) new out1 out2) e g)
+  line_brings law ending new items line s e p c g = grind (arith, line_ends)
 
   pub last_brings : HasOneHistory → (ending : Ending) (new : WorldState) (items line : List ℕ)
       → Standing limits number w in0 in1 out0 out1 → line ≡ items → IsPlain items
       → (items ≡ [] → ⊥) → Consumes in1 in2 items → IsAtEnd in2
       → LineGives number w line (Err ending) new out1 out2
       → ComesTo limits in0 in2 ending out0 out2
-  last_brings law ending new items line s e p some c end g =
-      line_ends law ending new items items s (p, inr (some, refl, end)) c
-      (subst (λ l. LineGives number w l (Err ending) new out1 out2) e g)
+  last_brings law ending new items line s e p some c end g = grind (arith, line_ends)
 
   pub line_played : (new : WorldState) (items line : List ℕ) (done : Unit {0})
       → Standing limits number w in0 in1 out0 out1 → line ≡ items → IsPlain items
@@ -288,16 +281,6 @@ module _ (limits : Limits) (number : ℕ) (w : WorldState)
   last_played law new items line done s e p some c end g =
       done_last new items done s
       (subst (λ l. LineGives number w l (Ok done) new out1 out2) e g) law p some c end
-
-pub line_reads : (ending : Ending) (number : ℕ) (w new : WorldState) (line : List ℕ)
-    (out1 out2 : Option (List ℕ)) (old now : Counts)
-    → LineGives number w line (Err ending) new out1 out2 → EndingRead ending old now
-line_reads ending number w new line out1 out2 old now g = grind arith
-
-pub line_wrote : (ending : Ending) (old mid now : Counts) → mid ≡ old
-    → LineCounted (Err ending) mid now → EndingWrote ending old now
-line_wrote WriteFault old mid now e c = subst (λ x. FaultCounted x now) e c
-line_wrote ending old mid now e c = c ∙ e
 
 pub end_counted : (old mid now : Counts) → mid ≡ old → EndCounted mid now → EndCounted old now
 end_counted old mid now e r = subst (λ x. EndCounted x now) e r

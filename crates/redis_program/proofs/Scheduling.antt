@@ -1,7 +1,6 @@
 -- Some lines of a schedule, and then more.
 use Rattle.std.proofs.Common.{◌≡◌, ◌+◌, ◌<◌, ◌≤◌, ℕ, List, [], ◌∷◌, ◌++◌, Some, None, length, refl}
-use Rattle.std.proofs.Common.{sym}
-use Rattle.std.proofs.Common.{ap, subst, ◌∙◌, append_assoc, append-nil, arith}
+use Rattle.std.proofs.Common.{sym, ap, subst, ◌∙◌, append_assoc, append-nil, arith}
 use Rattle.std.specs.declared.option.Option.{Option}
 use Rattle.std.specs.Option.{option_map_or}
 use Rattle.std.proofs.lemmas.Grind.{flat_map-append}
@@ -67,8 +66,7 @@ after_then w m (d ∷ events) ds h =
     go : (f : Option WorldFault) → unless_fault f (after next events) None ≡ Some m
         → (after next events ≡ Some m → after next (events ++ ds) ≡ after m ds)
         → unless_fault f (after next (events ++ ds)) None ≡ after m ds
-    go (Some f) q later = absurd (let no : ⊥ = cc in no)
-    go None q later = later q
+    go f q later = grind arith
 
 pub transcript_then : (w m : WorldState) (events ds : List Event) → after w events ≡ Some m
     → transcript w (events ++ ds) ≡ transcript w events ++ transcript m ds
@@ -76,8 +74,7 @@ transcript_then w m [] ds h = let same : w ≡ m = cc in ap (λ x. transcript x 
 transcript_then w m (d ∷ events) ds h =
     ap (λ l. (step w d).lines ++ l)
     (go (step w d).fault h (transcript_then (step w d).state m events ds))
-    ∙ sym (append_assoc (step w d).lines
-    (unless_fault (step w d).fault (transcript (step w d).state events) []) (transcript m ds))
+    ∙ sym (grind (arith, append_assoc))
   where
     next : WorldState
     next = (step w d).state
@@ -87,8 +84,7 @@ transcript_then w m (d ∷ events) ds h =
         → transcript next (events ++ ds) ≡ transcript next events ++ transcript m ds)
         → unless_fault f (transcript next (events ++ ds)) []
         ≡ unless_fault f (transcript next events) [] ++ transcript m ds
-    go (Some f) q later = absurd (let no : ⊥ = cc in no)
-    go None q later = later q
+    go f q later = grind arith
 
 pub fault_then : (w m : WorldState) (n k : ℕ) (events ds : List Event) → after w events ≡ Some m
     → k ≡ length events + n → first_fault w n (events ++ ds) ≡ first_fault m k ds
@@ -104,8 +100,7 @@ fault_then w m n k (d ∷ events) ds h q =
         → (after next events ≡ Some m
         → first_fault next (n + 1) (events ++ ds) ≡ first_fault m k ds)
         → at_fault f n (first_fault next (n + 1) (events ++ ds)) ≡ first_fault m k ds
-    go (Some f) p later = absurd (let no : ⊥ = cc in no)
-    go None p later = later p
+    go f p later = grind arith
 
 -- an event that is played, and one that meets a fault
 pub after_played : (w : WorldState) (e : Event) → (step w e).fault ≡ None

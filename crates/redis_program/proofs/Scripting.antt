@@ -1,11 +1,10 @@
 -- What the status of a script's run rests on.
-use Rattle.std.proofs.Common.{◌≡◌, ℕ, List, [], None, Ok, Err, Result, OnErr, refl}
-use Rattle.std.proofs.Common.{sym, subst, inl, inr}
+use Rattle.std.proofs.Common.{arith, ◌≡◌, ℕ, List, [], None, Ok, Err, Result, refl, sym, subst, inl}
+use Rattle.std.proofs.Common.{inr}
 use Rattle.std.specs.declared.option.Option.{Option}
 use Rattle.edge_links.specs.declared.counts.Counts.{Counts}
 use Rattle.edge_links.specs.Counts.{Counted}
 use Rattle.edge_lines.specs.declared.lines.SinkFailed.{SinkFailed}
-use Rattle.script_run.specs.declared.reports.SessionEnd.TheVariants as ended
 use Rattle.script_program.specs.declared.run.ScriptEnd.{ScriptEnd}
 use Rattle.script_program.specs.declared.run.ScriptEnd.TheVariants as end
 use Rattle.script_program.specs.declared.run.ScriptSession.{ScriptSession}
@@ -15,23 +14,6 @@ use Rattle.redis_program.specs.declared.status.Status.{Status}
 use Rattle.redis_program.specs.declared.status.Status.TheVariants as status
 use Rattle.redis_program.specs.Playing.{LastGives}
 use Rattle.redis_program.specs.Scripting.{ScriptGives, script_status}
-
-pub script_not_usage : (r : Result ScriptEnd SinkFailed) → script_status r ≡ status.Usage → ⊥
-script_not_usage (Ok (end.Played ended.Done)) h = cc
-script_not_usage r h = cc
-
-pub script_cut : (P : Type 0) (r : Result ScriptEnd SinkFailed) → OnErr r P
-    → script_status r ≡ status.WriteFault → P
-script_cut P (Ok (end.Played ended.Done)) p h = absurd (let no : ⊥ = cc in no)
-script_cut P (Ok (end.Played (ended.LinkEnded n))) p h = absurd (let no : ⊥ = cc in no)
-script_cut P (Ok (end.Played ended.HistoryFull)) p h = absurd (let no : ⊥ = cc in no)
-script_cut P (Ok (end.Played ended.NoMemory)) p h = absurd (let no : ⊥ = cc in no)
-script_cut P (Ok (end.Played ended.Worn)) p h = absurd (let no : ⊥ = cc in no)
-script_cut P (Ok (end.BadLine n)) p h = absurd (let no : ⊥ = cc in no)
-script_cut P (Ok end.ReadFault) p h = absurd (let no : ⊥ = cc in no)
-script_cut P (Ok end.NetFault) p h = absurd (let no : ⊥ = cc in no)
-script_cut P (Ok end.NoMemory) p h = absurd (let no : ⊥ = cc in no)
-script_cut P (Err failed) p h = p
 
 module _ {L : Type 0} (left contents : L → Option (List ℕ)) (counts : L → Counts) (capacity : ℕ)
     (input : Option (List ℕ)) (session : Option (ScriptSession L)) (in0 in1 net0 net1 : Counts)
@@ -46,34 +28,15 @@ module _ {L : Type 0} (left contents : L → Option (List ℕ)) (counts : L → 
   -- all of the script was read
   pub script_done : (r : Result ScriptEnd SinkFailed) → script_status r ≡ status.Done → Written r
       → Counted in0.ends in1.ends
-  script_done (Ok (end.Played ended.Done)) h w = (rests_of (end.Played ended.Done) w).0
-  script_done r h w = absurd (let no : ⊥ = cc in no)
+  script_done r h w = grind (arith, rests_of)
 
   pub script_read : (r : Result ScriptEnd SinkFailed) → script_status r ≡ status.ReadFault
       → Written r → Counted in0.faults in1.faults
-  script_read (Ok (end.Played ended.Done)) h w = absurd (let no : ⊥ = cc in no)
-  script_read (Ok (end.Played (ended.LinkEnded n))) h w = absurd (let no : ⊥ = cc in no)
-  script_read (Ok (end.Played ended.HistoryFull)) h w = absurd (let no : ⊥ = cc in no)
-  script_read (Ok (end.Played ended.NoMemory)) h w = absurd (let no : ⊥ = cc in no)
-  script_read (Ok (end.Played ended.Worn)) h w = absurd (let no : ⊥ = cc in no)
-  script_read (Ok (end.BadLine n)) h w = absurd (let no : ⊥ = cc in no)
-  script_read (Ok end.ReadFault) h w = (rests_of end.ReadFault w).0
-  script_read (Ok end.NetFault) h w = absurd (let no : ⊥ = cc in no)
-  script_read (Ok end.NoMemory) h w = absurd (let no : ⊥ = cc in no)
-  script_read (Err failed) h w = absurd (let no : ⊥ = cc in no)
+  script_read r h w = grind (arith, rests_of)
 
   pub script_net : (r : Result ScriptEnd SinkFailed) → script_status r ≡ status.NetFault
       → Written r → Counted net0.faults net1.faults
-  script_net (Ok (end.Played ended.Done)) h w = absurd (let no : ⊥ = cc in no)
-  script_net (Ok (end.Played (ended.LinkEnded n))) h w = absurd (let no : ⊥ = cc in no)
-  script_net (Ok (end.Played ended.HistoryFull)) h w = absurd (let no : ⊥ = cc in no)
-  script_net (Ok (end.Played ended.NoMemory)) h w = absurd (let no : ⊥ = cc in no)
-  script_net (Ok (end.Played ended.Worn)) h w = absurd (let no : ⊥ = cc in no)
-  script_net (Ok (end.BadLine n)) h w = absurd (let no : ⊥ = cc in no)
-  script_net (Ok end.ReadFault) h w = absurd (let no : ⊥ = cc in no)
-  script_net (Ok end.NetFault) h w = (rests_of end.NetFault w).1.0
-  script_net (Ok end.NoMemory) h w = absurd (let no : ⊥ = cc in no)
-  script_net (Err failed) h w = absurd (let no : ⊥ = cc in no)
+  script_net r h w = grind (arith, rests_of)
 
 -- where memory for the words is wanting, what is answered is what a script may come to as well
 pub wordless_script : {L : Type 0} (answer : Status) (old new : Option (List ℕ)) (k0 k1 : Counts)

@@ -1,58 +1,25 @@
 -- What the status of a server's run rests on, and that no other run has it.
-use Rattle.std.proofs.Common.{◌≡◌, ℕ, List, [], None, Ok, Err, Result, OnErr, refl}
-use Rattle.std.proofs.Common.{sym, subst, ◌∙◌, inl, inr}
+use Rattle.std.proofs.Common.{arith, ◌≡◌, ℕ, List, [], None, Ok, Err, refl, sym, ◌∙◌, inl, inr}
 use Rattle.std.specs.declared.option.Option.{Option}
 use Rattle.edge_links.specs.declared.counts.Counts.{Counts}
-use Rattle.edge_lines.specs.declared.lines.SinkFailed.{SinkFailed}
 use Rattle.command_line.specs.declared.settings.ServeSettings.{ServeSettings}
-use Rattle.serve_run.specs.declared.run.ServeEnd.{ServeEnd}
 use Rattle.serve_run.specs.declared.run.ServeEnd.TheVariants as end
 use Rattle.redis_program.specs.declared.status.Ending.{Ending}
 use Rattle.redis_program.specs.declared.status.Ending.TheVariants as ending
 use Rattle.redis_program.specs.declared.status.Status.{Status}
 use Rattle.redis_program.specs.declared.status.Status.TheVariants as status
-use Rattle.redis_program.specs.Headline.{UsageGives, Writes, status_of}
+use Rattle.redis_program.specs.Headline.{Writes, status_of}
 use Rattle.redis_program.specs.Playing.{LastGives}
-use Rattle.redis_program.specs.Serving.{ServeGives, served_status}
-
--- ---- a server's status
-
-pub net_status : (e : Result ServeEnd SinkFailed) → served_status e ≡ status.NetFault
-    → e ≡ Ok end.NetFault
-net_status (Ok end.NetFault) h = refl
-net_status e h = absurd (let no : ⊥ = cc in no)
-
-pub write_status : (P : Type 0) (e : Result ServeEnd SinkFailed) → OnErr e P
-    → served_status e ≡ status.WriteFault → P
-write_status P (Ok end.Done) p h = absurd (let no : ⊥ = cc in no)
-write_status P (Ok end.NetFault) p h = absurd (let no : ⊥ = cc in no)
-write_status P (Ok end.NoMemory) p h = absurd (let no : ⊥ = cc in no)
-write_status P (Err failed) p h = p
-
-pub not_usage : (e : Result ServeEnd SinkFailed) → served_status e ≡ status.Usage → ⊥
-not_usage (Ok end.Done) h = cc
-not_usage e h = cc
-
-pub not_read : (e : Result ServeEnd SinkFailed) → served_status e ≡ status.ReadFault → ⊥
-not_read (Ok end.Done) h = cc
-not_read e h = cc
+use Rattle.redis_program.specs.Serving.{ServeGives}
 
 -- ---- the net's fault is no other's status
 
-pub usage_not_net : (answer : Status) (old new : Option (List ℕ)) → UsageGives answer old new
-    → answer ≡ status.NetFault → ⊥
-usage_not_net status.NetFault old new u e = u
-usage_not_net answer old new u e = cc
-
 ending_not_net : (e : Ending) → status_of e ≡ status.NetFault → ⊥
-ending_not_net ending.Done e = cc
-ending_not_net x e = cc
+ending_not_net x e = grind arith
 
 pub world_not_net : (Ends : Ending → List ℕ → Type 0) (answer : Status) (old new : Option (List ℕ))
     → Writes Ends answer old new → answer ≡ status.NetFault → ⊥
-world_not_net Ends answer old new w e =
-    let is : Writes Ends status.NetFault old new = subst (λ s. Writes Ends s old new) e w in
-    ending_not_net is.0 is.2
+world_not_net Ends answer old new w e = grind (arith, ending_not_net)
 
 -- ---- where memory for the words is wanting
 

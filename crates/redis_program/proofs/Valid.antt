@@ -1,6 +1,5 @@
 -- The events that are played are valid.
-use Rattle.std.proofs.Common.{◌≡◌, ◌+◌, ℕ, List, [], ◌∷◌, Bool, true, false, Option, Some, None}
-use Rattle.std.proofs.Common.{cond}
+use Rattle.std.proofs.Common.{arith, ◌≡◌, ◌+◌, ℕ, List, [], ◌∷◌, Bool, Option, Some, None, cond}
 use Rattle.std.specs.Prelude.{nat_le}
 use Rattle.shared_cache.specs.Laws.{Every}
 use Rattle.script_text.specs.declared.event.Event.{Event}
@@ -10,8 +9,7 @@ use Rattle.script_text.proofs.Valid.{events_are_valid}
 use Rattle.redis_program.specs.Headline.{AreLinesOf, event_at, most_lines}
 
 within : (b : Bool) (o : Option Event) (e : Event) → cond b o None ≡ Some e → o ≡ Some e
-within true o e is = is
-within false o e is = absurd (let no : ⊥ = cc in no)
+within b o e is = grind arith
 
 pub event_valid : (n : ℕ) (line : List ℕ) (e : Event) → event_at n line ≡ Some e → IsValid e
 event_valid n line e is =

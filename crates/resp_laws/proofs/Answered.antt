@@ -8,7 +8,7 @@ use Rattle.resp_stream.specs.declared.fault.Fault.{Fault}
 use Rattle.resp_stream.specs.declared.fault.StreamFault.{StreamFault}
 use Rattle.resp_stream.specs.declared.fault.StreamFault.TheVariants.{BadByte, TooLong, TooDeep}
 use Rattle.resp_stream.specs.declared.fault.StreamFault.TheVariants.{NotServed, NoMemory}
-use Rattle.resp_stream.specs.Parsed.{Parsed, Whole, More, Bad}
+use Rattle.resp_stream.specs.Parsed.{Parsed, Bad}
 use Rattle.resp_stream.specs.Parse.{Batch, batch, parse, parse_values}
 use Rattle.resp_stream.specs.Readers.{IsFaultOf, ReaderGives, skipped}
 use Rattle.resp_stream.specs.Request.{request_at}
@@ -27,12 +27,6 @@ module _ {A X : Type 0} (read : List ℕ → Parsed A) (past : Stream → Stream
 
   -- ---- after a fault
 
-  bad_more : (g : Fault) (r : List ℕ) (a : Parsed A) → a ≡ Bad g r → a ≡ More → ⊥
-  bad_more g r a e h = cc
-
-  bad_whole : (g : Fault) (r s : List ℕ) (x : A) (a : Parsed A) → a ≡ Bad g r → a ≡ Whole x s → ⊥
-  bad_whole g r s k a e h = cc
-
   fed_failed : (s : Stream) (b : List ℕ) → s.failed ≡ true → (fed s b).rest ≡ s.rest
   fed_failed s b t = ap (λ c. cond c s.rest (s.rest ++ b)) t
 
@@ -46,8 +40,8 @@ module _ {A X : Type 0} (read : List ℕ → Parsed A) (past : Stream → Stream
   none_after s g r (Fed piece ∷ calls) t h c =
       none_after (fed s piece) g r calls t
       (ap read (takes.by_rest (fed s piece) s (fed_failed s piece t)) ∙ h) c
-  none_after s g r (Answered (Ok None) ∷ calls) t h c = grind (arith, bad_more)
-  none_after s g r (Answered (Ok (Some x)) ∷ calls) t h c = grind (arith, bad_whole)
+  none_after s g r (Answered (Ok None) ∷ calls) t h c = grind arith
+  none_after s g r (Answered (Ok (Some x)) ∷ calls) t h c = grind arith
   none_after s g r (Answered (Err NoMemory) ∷ calls) t h c =
       none_after s g r calls t h (subst (λ (q : Stream). Calls q calls) c.1 c.2)
   none_after s g r (e ∷ calls) t h c =
@@ -78,19 +72,10 @@ module _ {A X : Type 0} (read : List ℕ → Parsed A) (past : Stream → Stream
       → Front s calls
   fronts s [] t c = ((batch read past (fed s [])).items, refl)
   fronts s (Fed piece ∷ calls) t c =
-      let f = fronts (fed s piece) calls t c in (
-        f.0,
-        f.1 ∙ batch_rest read past takes (fed (fed s piece) (bytes_fed calls))
-            (fed s (piece ++ bytes_fed calls))
-            (fed_rest (fed s piece) (bytes_fed calls) t
-            ∙ ap (λ (q : List ℕ). q ++ bytes_fed calls) (fed_rest s piece t)
-            ∙ append_assoc s.rest piece (bytes_fed calls)
-            ∙ sym (fed_rest s (piece ++ bytes_fed calls) t)),
-      )
+      let f = fronts (fed s piece) calls t c in grind (arith, batch_rest, fed_rest, append_assoc)
   fronts s (Answered (Ok None) ∷ calls) t c =
       moves s (past s) calls
-      (sym (batch_past read past takes (fed s (bytes_fed calls))
-      (fed (past s) (bytes_fed calls)) (takes.joined s (bytes_fed calls) t)))
+      (grind (arith, batch_past))
       (fronts (past s) calls (takes.failed s ∙ t) (subst (λ (q : Stream). Calls q calls) c.1.1 c.2))
   fronts s (Answered (Ok (Some x)) ∷ calls) t c =
       let r = c.0.rest in

@@ -9,9 +9,9 @@ use Rattle.std.proofs.lemmas.Bool.{ne_eqb, lt-ltb, ltb-true, ltb-false}
 use Rattle.resp_stream.specs.declared.fault.Fault.TheVariants.{TooLong}
 use Rattle.resp_stream.specs.declared.tokens.LengthRule.{LengthRule}
 use Rattle.resp_stream.specs.Parsed.{Go, Stop, taken, scan}
-use Rattle.resp_stream.specs.Tokens.{only_byte, ending, digit_move, digits_at, length_by, length_at}
+use Rattle.resp_stream.specs.Tokens.{only_byte, ending, digit_move, digits_at, length_at}
 use Rattle.resp_laws.proofs.Written.{Digits, IsLength, one_digit, next_digit}
-use Rattle.resp_laws.proofs.Only.{Only, only_same, only_taken}
+use Rattle.resp_laws.proofs.Only.{Only, only_same}
 
 -- ---- the digits of a number that is too great to be spelled
 
@@ -138,10 +138,6 @@ module _ (rule : LengthRule) where
       (λ e. scan_over ds (m * 10 + (c - 48)) n x s h.2
       (ltb-false rule.limit (m * 10 + (c - 48)) e) lt)
 
-  lead_by : (c : ℕ) → 49 ≤ c → c ≤ 57 → length_by rule c
-      ≡ cond (nat_lt rule.limit (c - 48)) (Stop (TooLong (c - 48))) (Go (digits_at rule (c - 48)))
-  lead_by c a b = grind arith
-
   lead_taken : (t : Bool) (c : ℕ) (bs : List ℕ) (x : Option ℕ) (s : List ℕ)
       → (t ≡ false → Only (scan (digit_move rule) (c - 48) bs) x s)
       → Only (taken (cond t (Stop (TooLong (c - 48))) (Go (digits_at rule (c - 48)))) c bs) x s
@@ -152,7 +148,7 @@ module _ (rule : LengthRule) where
       → (nat_lt rule.limit (c - 48) ≡ false → Only (scan (digit_move rule) (c - 48) bs) x s)
       → Only (length_at rule (c ∷ bs)) x s
   unfolding length_at
-  lead_only c bs e s a b h = grind (arith, only_same, lead_by, lead_taken)
+  lead_only c bs e s a b h = grind (arith, only_same, lead_taken)
 
   nought_only : (s : List ℕ) → Only (length_at rule (48 ∷ 13 ∷ 10 ∷ s)) (Some 0) s
   unfolding length_at only_byte
@@ -167,11 +163,7 @@ module _ (rule : LengthRule) where
   nought_over : (c : ℕ) (bs : List ℕ) (x : Option ℕ) (s : List ℕ) → 48 ≤ c
       → Only (length_at rule (48 ∷ c ∷ bs)) x s
   unfolding length_at
-  nought_over c bs e s a = grind (arith, only_taken, no_end)
-
-  length_is : (n : ℕ) (ds s : List ℕ) → IsLength n ds
-      → Only (length_at rule (ds ++ 13 ∷ 10 ∷ s)) (Some n) s
-  length_is n ds s h = grind (arith, only_same, nought_only, lead_only, scan_only)
+  nought_over c bs e s a = grind (arith, no_end)
 
   length_great : (c : ℕ) (ds : List ℕ) (x : Option ℕ) (s : List ℕ) (t : Bool) → nat_lt 48 c ≡ t
       → rule.limit < 2 ^ 32 → AreDigits (c ∷ ds) → length ds ≡ 63
@@ -195,4 +187,5 @@ module _ (rule : LengthRule) where
 
   pub length_written : (n : ℕ) (s : List ℕ) → rule.limit < 2 ^ 32
       → Only (length_at rule (decimal n ++ 13 ∷ 10 ∷ s)) (Some n) s
-  length_written n s lt = grind (arith, is_decimal, length_is, length_by_digits)
+  length_written n s lt =
+      grind (arith, is_decimal, length_by_digits, nought_only, lead_only, scan_only)

@@ -1,16 +1,14 @@
 -- A line, a number or a counted text that was written is read, or passes a limit.
 use Rattle.std.proofs.Common.{◌≡◌, ℕ, ◌+◌, ◌-◌, ◌*◌, ◌<◌, ◌≤◌, ◌^◌, ℤ, pos, negsuc, List, [], ◌∷◌}
-use Rattle.std.proofs.Common.{◌++◌, refl, ap, inl, inr, append_assoc, Bool, true, false, cond}
+use Rattle.std.proofs.Common.{◌++◌, refl, inl, inr, append_assoc, Bool, true, false}
 use Rattle.std.proofs.Common.{length, arith, Some, None}
 use Rattle.std.specs.Prelude.{nat_lt}
 use Rattle.std.specs.Fmt.{decimal, signed_decimal}
 use Rattle.std.proofs.lemmas.Bool.{ltb-true}
 use Rattle.std.proofs.lemmas.List.{length-append}
 use Rattle.resp_value.specs.Tree.{Tree, number, verbatim}
-use Rattle.resp_stream.specs.declared.fault.Fault.{Fault}
-use Rattle.resp_stream.specs.declared.fault.Fault.TheVariants.{TooLong}
 use Rattle.resp_stream.specs.declared.tokens.LengthRule.{LengthRule}
-use Rattle.resp_stream.specs.Parsed.{Parsed, Whole, Stop, On, Out, moved, scan, ◌>>=◌}
+use Rattle.resp_stream.specs.Parsed.{Whole, scan}
 use Rattle.resp_stream.specs.Tokens.{only_byte, length_at, line_move, line_at}
 use Rattle.resp_stream.specs.Request.{line_limit}
 use Rattle.resp_stream.specs.Value.{verbatim_rule, Digits as Made, number_move, digits_of_at}
@@ -24,20 +22,10 @@ use Rattle.resp_laws.proofs.Written.{Digits, counted_only}
 
 -- ---- lines
 
-only_on : {S A : Type 0} (t : Bool) (g : Fault) (u : S) (go : S → Parsed A) (c : ℕ) (bs : List ℕ)
-    (x : A) (s : List ℕ) → Only (go u) x s
-    → Only (moved (cond t (On u) (Out (Stop g))) go c bs) x s
-only_on t g u go c bs e s h = grind arith
-
-line_by : (p : List ℕ) (c : ℕ) → (c ≡ 13 → ⊥) → (c ≡ 10 → ⊥) → line_move false line_limit p c
-    ≡ cond (nat_lt (length p) line_limit) (On (p ++ c ∷ [])) (Out (Stop (TooLong (line_limit + 1))))
-line_by p c f g = grind arith
-
 line_only : (t p s : List ℕ) → IsPlain t
     → Only (scan (line_move false line_limit) p (t ++ 13 ∷ 10 ∷ s)) (p ++ t) s
 line_only [] p s h = grind (arith, only_is, line_end, nothing_behind)
-line_only (c ∷ t) p s h =
-    grind (arith, only_same, line_by, only_on, append_assoc, line_only t (p ++ c ∷ []) s h.2)
+line_only (c ∷ t) p s h = grind (arith, only_same, append_assoc, line_only t (p ++ c ∷ []) s h.2)
 
 pub text_written : (make : List ℕ → Tree) (t s : List ℕ) → IsPlain t
     → Only (text_at make (t ++ 13 ∷ 10 ∷ s)) (make t) s
@@ -92,8 +80,7 @@ module _ (most : ℕ) where
             digits_first c (ds ++ 13 ∷ 10 ∷ r) n r d.0 d.1
             (number_scan ds (record { count = 1; made = c - 48 }) n r d.2)
         | inr g ↦ digits_first c (ds ++ 13 ∷ 10 ∷ r) n r g.are.0 g.are.1
-            (number_long ds (record { count = 1; made = c - 48 }) n r g.are.2
-            (omega (arith, g.many)) (omega arith))
+            (grind (arith, number_long))
       ]
 
 unsigned_any : (n : ℕ) (ds r : List ℕ) → IsDecimal n ds
@@ -132,8 +119,7 @@ blob_written make rule t r lt =
     only_then (length_at rule (decimal (length t) ++ 13 ∷ 10 ∷ (t ++ 13 ∷ 10 ∷ r)))
     (sized_blob make) (Some (length t)) (make t) (t ++ 13 ∷ 10 ∷ r) r
     (length_written rule (length t) (t ++ 13 ∷ 10 ∷ r) lt)
-    (only_is (sized_blob make (Some (length t)) (t ++ 13 ∷ 10 ∷ r)) (make t) r
-    (ap (λ q. q >>= λ t s. Whole (make t) s) (counted_only t r)))
+    (grind (arith, only_is, counted_only))
 
 pub verbatim_written : (f t r : List ℕ) → length f ≡ 3
     → Only (verbatim_at
@@ -145,5 +131,4 @@ verbatim_written f t r e =
     only_then (length_at verbatim_rule (decimal n ++ 13 ∷ 10 ∷ (f ++ 58 ∷ (t ++ 13 ∷ 10 ∷ r))))
     sized_text (Some n) (verbatim f t) (f ++ 58 ∷ (t ++ 13 ∷ 10 ∷ r)) r
     (length_written verbatim_rule n (f ++ 58 ∷ (t ++ 13 ∷ 10 ∷ r)) (omega arith))
-    (only_is (sized_text (Some n) (f ++ 58 ∷ (t ++ 13 ∷ 10 ∷ r))) (verbatim f t) r
-    (three f t r n e k))
+    (grind (arith, only_is, three))

@@ -1,8 +1,6 @@
 -- Readings that give nothing but what was written, whatever the limits.
-use Rattle.std.proofs.Common.{◌≡◌, ℕ, suc, List, [], ◌∷◌, refl, sym, subst, Bool, true, false, cond}
-use Rattle.std.proofs.Common.{arith}
-use Rattle.resp_stream.specs.declared.fault.Fault.{Fault}
-use Rattle.resp_stream.specs.Parsed.{Parsed, Whole, More, Bad, Go, Stop, taken, ◌>>=◌}
+use Rattle.std.proofs.Common.{◌≡◌, ℕ, suc, List, [], ◌∷◌, refl, sym, subst, arith}
+use Rattle.resp_stream.specs.Parsed.{Parsed, Whole, More, Bad, ◌>>=◌}
 use Rattle.resp_stream.specs.Tokens.{capped, many}
 
 -- where something whole was read, it is x, and s is left
@@ -18,28 +16,16 @@ pub only_same : {A : Type 0} (a b : Parsed A) (x : A) (s : List ℕ) → a ≡ b
     → Only a x s
 only_same {A} a b x s e h = subst (λ (q : Parsed A). Only q x s) (sym e) h
 
-pub only_if : {A : Type 0} (t : Bool) (u v : Parsed A) (x : A) (s : List ℕ)
-    → (t ≡ true → Only u x s) → (t ≡ false → Only v x s) → Only (cond t u v) x s
-only_if t u v e s f g = grind arith
-
 pub only_then : {A B : Type 0} (a : Parsed A) (f : A → List ℕ → Parsed B) (x : A) (y : B)
     (s r : List ℕ) → Only a x s → Only (f x s) y r → Only (a >>= f) y r
-only_then {A} (Whole z q) f x y s r h k =
-    subst (λ (w : A). Only (f w q) y r) (sym h.0)
-    (subst (λ (w : List ℕ). Only (f x w) y r) (sym h.1) k)
+only_then {A} (Whole z q) f x y s r h k = grind arith
 only_then More f e y s r h k = tt
 only_then (Bad g q) f e y s r h k = tt
-
--- a byte that leads on or to a fault
-pub only_taken : {A : Type 0} (t : Bool) (g : Fault) (go : List ℕ → Parsed A) (c : ℕ)
-    (bs : List ℕ) (x : A) (s : List ℕ) → Only (go bs) x s
-    → Only (taken (cond t (Stop g) (Go go)) c bs) x s
-only_taken t g go c bs e s h = grind arith
 
 -- the limit on the whole
 pub only_capped : {A : Type 0} (most : ℕ) (b : List ℕ) (a : Parsed A) (x : A) (s : List ℕ)
     → Only a x s → Only (capped most b a) x s
-only_capped most b a e s h = grind (arith, only_if)
+only_capped most b a e s h = grind arith
 
 -- one after the other
 module _ {A : Type 0} (read : List ℕ → Parsed A) where

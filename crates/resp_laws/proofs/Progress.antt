@@ -9,9 +9,8 @@ use Rattle.resp_stream.specs.Stream.{Stream, fed, moved_on}
 use Rattle.resp_stream.specs.Value.{value_at}
 use Rattle.resp_stream.proofs.Batches.{fed_rest, batch_whole, batch_more, batch_bad, batch_rest}
 use Rattle.resp_stream.proofs.Batches.{batch_unfailed}
-use Rattle.resp_stream.proofs.Parse.{takes_values, values_joined}
-use Rattle.resp_laws.specs.Progress.{BeginsRead, FeedsRead, AnswersRead, EmptiesRead, WaitsRead}
-use Rattle.resp_laws.specs.Progress.{StopsRead, HoldsRead}
+use Rattle.resp_stream.proofs.Parse.{takes_values}
+use Rattle.resp_laws.specs.Progress.{BeginsRead, AnswersRead, WaitsRead, StopsRead, HoldsRead}
 use Rattle.resp_laws.proofs.Steadiness.{steady_values}
 
 pub values_rest : (s t : Stream) → s.rest ≡ t.rest → (parse_values s).items ≡ (parse_values t).items
@@ -46,17 +45,13 @@ fed_twice s a b t = grind (arith, fed_rest, append_assoc)
 pub begins_read : BeginsRead
 begins_read = record { untold = refl; further = λ m. refl }
 
-pub feeds_read : FeedsRead
-feeds_read got b piece s h = grind (arith, append_assoc, fed_twice)
-
 next_items : (s : Stream) (x : Tree) (r m : List ℕ) → s.failed ≡ false
     → value_at s.rest ≡ Whole x r
     → (parse_values (fed s m)).items ≡ x ∷ (parse_values (fed (moved_on s r) m)).items
 next_items s x r m t e =
     values_whole (fed s m) x (r ++ m) (takes_values.kept s m x r t e)
     ∙ ap (λ (q : List Tree). x ∷ q)
-    (values_rest (moved_on (fed s m) (r ++ m)) (fed (moved_on s r) m)
-    (sym (fed_rest (moved_on s r) m t)))
+    (grind (arith, values_rest, fed_rest))
 
 pub answers_read : AnswersRead
 answers_read got b r s x h e = record {
@@ -64,9 +59,6 @@ answers_read got b r s x h e = record {
   further = λ m. h.further m ∙ ap (λ (q : List Tree). got ++ q) (next_items s x r m h.untold e)
       ∙ sym (append_assoc got (x ∷ []) (parse_values (fed (moved_on s r) m)).items);
 }
-
-pub empties_read : EmptiesRead
-empties_read got b s h e = grind (arith, values_unfailed, values_joined, append_assoc)
 
 pub holds_read : HoldsRead
 holds_read got b s h =

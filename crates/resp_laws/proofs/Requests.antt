@@ -1,10 +1,10 @@
 -- The first bytes of written requests hold the first of them.
-use Rattle.std.proofs.Common.{◌≡◌, ℕ, suc, ◌<◌, List, [], ◌∷◌, ◌++◌, refl, sym, ap, subst, ◌∙◌}
+use Rattle.std.proofs.Common.{◌≡◌, ℕ, suc, ◌<◌, List, [], ◌∷◌, ◌++◌, refl, ap, subst, ◌∙◌}
 use Rattle.std.proofs.Common.{append_assoc, length, map, arith, Some}
 use Rattle.std.specs.List.{flat_map}
 use Rattle.std.specs.Fmt.{decimal}
 use Rattle.resp_value.specs.Lists.{IsPrefix}
-use Rattle.resp_value.specs.Spelling.{head, counted, blob_spellings, request_spelling}
+use Rattle.resp_value.specs.Spelling.{counted, blob_spellings, request_spelling}
 use Rattle.resp_stream.specs.Parsed.{Parsed, Whole, More, Bad, ◌>>=◌}
 use Rattle.resp_stream.specs.Parse.{Batch, batch, parse}
 use Rattle.resp_stream.specs.Readers.{skipped}
@@ -88,16 +88,10 @@ module _ {A M : Type 0} (read : List ℕ → Parsed A) (past : Stream → Stream
         → IsPrefix (batch read past s).items (map says ms)
     in_order [] s g p =
         let none = nothing_before s.rest p.0 p.1 in
-        let never : (x : A) (r : List ℕ) → read s.rest ≡ Whole x r → ⊥ =
-        λ x r e. needs x r (ap read (sym none) ∙ e) in (
-          [],
-          ap (λ (q : List A). q ++ [])
-              (none_of s (stays s (λ x r e. absurd (never x r e))) (read s.rest) refl never),
-        )
+        grind (arith, none_of)
     in_order (m ∷ ms) s g p =
         front_by m ms s p g.0
-        (stays s (λ x r e. subst Answered (sym (first_is m ms s.rest p g.0 x r e).0)
-        (answered m g.0)))
+        (stays s (grind (arith, first_is)))
         (λ r q. in_order ms (moved_on s r) g.1 q) (read s.rest) refl
 
 -- ---- a request
@@ -106,8 +100,7 @@ word_only : (w r : List ℕ) → Only (word_at (counted 36 w ++ r)) w r
 word_only w r =
     only_same (word_at (counted 36 w ++ r))
     (length_at word_rule (decimal (length w) ++ 13 ∷ 10 ∷ (w ++ 13 ∷ 10 ∷ r)) >>= λ n s. sized n s)
-    w r (ap word_at (counted_parts 36 w r)
-    ∙ marked (decimal (length w) ++ 13 ∷ 10 ∷ (w ++ 13 ∷ 10 ∷ r)))
+    w r (grind (arith, counted_parts, marked))
     (only_then (length_at word_rule (decimal (length w) ++ 13 ∷ 10 ∷ (w ++ 13 ∷ 10 ∷ r)))
     (λ n s. sized n s) (Some (length w)) w (w ++ 13 ∷ 10 ∷ r) r
     (length_written word_rule (length w) (w ++ 13 ∷ 10 ∷ r) (omega arith))
@@ -129,9 +122,7 @@ begun_only ws r =
     only_same (request_begun (request_spelling ws ++ r))
     (length_at words_rule (decimal (length ws) ++ 13 ∷ 10 ∷ (blob_spellings ws ++ r)) >>= listed)
     ws r
-    (ap request_begun (append_assoc (head 42 (length ws)) (blob_spellings ws) r
-    ∙ head_parts 42 (length ws) (blob_spellings ws ++ r))
-    ∙ starred (decimal (length ws) ++ 13 ∷ 10 ∷ (blob_spellings ws ++ r)))
+    (grind (arith, append_assoc, head_parts, starred))
     (only_then (length_at words_rule (decimal (length ws) ++ 13 ∷ 10 ∷ (blob_spellings ws ++ r)))
     listed (Some (length ws)) ws (blob_spellings ws ++ r) r
     (length_written words_rule (length ws) (blob_spellings ws ++ r) (omega arith))
@@ -144,12 +135,9 @@ request_only ws r = grind (arith, only_capped, begun_only)
 
 -- ---- in turn
 
-pub more_not : {A : Type 0} (x : A) (r : List ℕ) (a : Parsed A) → a ≡ More → a ≡ Whole x r → ⊥
-more_not k r a e h = cc
-
 no_request : NeedsBytes request_at
 unfolding request_at request_begun
-no_request x r e = more_not x r (request_at []) refl e
+no_request x r e = grind arith
 
 skips_none : (s : Stream) (a : Parsed (List (List ℕ))) → request_at s.rest ≡ a
     → ((x : List (List ℕ)) (r : List ℕ) → a ≡ Whole x r → 0 < length x)

@@ -140,10 +140,6 @@ pub unsigned_by : (c : ℕ) (b : List ℕ) → 48 ≤ c → c ≤ 57
 unfolding number_at signed_at digits_of_at
 unsigned_by c b lo hi = grind arith
 
-unsigned : (n : ℕ) (ds r : List ℕ) → IsLength n ds
-    → number_at (ds ++ 13 ∷ 10 ∷ r) ≡ signed_at false None (ds ++ 13 ∷ 10 ∷ r)
-unsigned n ds r h = grind (arith, unsigned_by)
-
 pub minus : (b : List ℕ) → number_at (45 ∷ b) ≡ signed_at true None b
 unfolding number_at
 minus b = refl
@@ -157,7 +153,7 @@ signed_only m n ds r le k h =
 pub number_only : (i : ℤ) (r : List ℕ) → IsShort i
     → whole_number_at (signed_decimal i ++ 13 ∷ 10 ∷ r) ≡ Whole (number i) r
 unfolding whole_number_at
-number_only (pos n) r h = grind (arith, pos, unsigned, is_length, signed_only, short_enough)
+number_only (pos n) r h = grind (arith, pos, is_length, signed_only, short_enough, unsigned_by)
 number_only (negsuc n) r h = grind (arith, negsuc, minus, signed_only, short_enough, is_length)
 
 -- ---- counted texts

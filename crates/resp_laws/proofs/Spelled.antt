@@ -1,6 +1,6 @@
 -- The first bytes of written values hold the first of them.
-use Rattle.std.proofs.Common.{◌≡◌, ℕ, zero, suc, ◌+◌, ◌*◌, ◌<◌, ◌^◌, pos, List, [], ◌∷◌, ◌++◌, refl}
-use Rattle.std.proofs.Common.{ap, subst, ◌∙◌, append_assoc, add-one, Bool, true, false, cond}
+use Rattle.std.proofs.Common.{◌≡◌, ℕ, zero, suc, ◌+◌, ◌*◌, pos, List, [], ◌∷◌, ◌++◌, refl}
+use Rattle.std.proofs.Common.{ap, subst, ◌∙◌, append_assoc, add-one, true, false}
 use Rattle.std.proofs.Common.{length, map, arith, Some}
 use Rattle.std.specs.Fmt.{decimal}
 use Rattle.resp_value.specs.declared.value.Proto.{Proto}
@@ -12,11 +12,9 @@ use Rattle.resp_value.specs.Spelling.{line, head, counted, plain_byte, spelling,
 use Rattle.resp_value.specs.Spelling.{row_spellings}
 use Rattle.resp_value.specs.Carried.{carried, all_carried, rows_in_turn, rows_carried}
 use Rattle.resp_value.proofs.OneToOne.{trees_back}
-use Rattle.resp_stream.specs.declared.fault.Fault.{Fault}
 use Rattle.resp_stream.specs.declared.value.Kind.{Kind}
 use Rattle.resp_stream.specs.declared.value.Kind.TheVariants.{Array, Map, Set, Push}
 use Rattle.resp_stream.specs.declared.value.TypeByte.TheVariants as mark
-use Rattle.resp_stream.specs.Parsed.{Parsed, Whole, Go, Stop, taken}
 use Rattle.resp_stream.specs.Parse.{parse_values}
 use Rattle.resp_stream.specs.Tokens.{length_at, many}
 use Rattle.resp_stream.specs.Stream.{begun, fed}
@@ -29,7 +27,7 @@ use Rattle.resp_laws.proofs.Decimals.{length_written}
 use Rattle.resp_laws.proofs.Numbers.{text_written, number_written, blob_written, verbatim_written}
 use Rattle.resp_laws.proofs.Only.{Only, only_is, only_same, only_then, only_capped, only_none}
 use Rattle.resp_laws.proofs.Only.{only_next}
-use Rattle.resp_laws.proofs.Requests.{NeedsBytes, more_not, in_order}
+use Rattle.resp_laws.proofs.Requests.{NeedsBytes, in_order}
 use Rattle.resp_laws.proofs.Scalars.{all_plain}
 use Rattle.resp_laws.proofs.Steadiness.{steady_values}
 use Rattle.resp_laws.proofs.Trees.{at_simple, at_error, at_number, at_blob, at_verbatim}
@@ -46,20 +44,13 @@ no_room : (c : ℕ) (kind : Kind) (b : List ℕ) (x : Tree) (s : List ℕ)
 unfolding value_in
 no_room c kind b h s e = grind arith
 
-only_go : {A : Type 0} (t : Bool) (g : Fault) (go : List ℕ → Parsed A) (c : ℕ) (bs : List ℕ)
-    (x : A) (s : List ℕ) → Only (go bs) x s → Only (taken (cond t (Go go) (Stop g)) c bs) x s
-only_go t g go c bs e s h = grind arith
-
 -- a push is read at the top alone
 push_only : (d : ℕ) (b : List ℕ) (x : Tree) (s : List ℕ)
     → Only (aggregate_at Push (value_in d) b) x s → Only (value_in (suc d) (62 ∷ b)) x s
 unfolding value_in
-push_only d b e s h = grind (arith, only_go)
+push_only d b e s h = grind arith
 
 -- ---- aggregates
-
-small_rule : (kind : Kind) → (rule_of kind).limit < 2 ^ 32
-small_rule kind = grind arith
 
 aggregate_written : (kind : Kind) (d n : ℕ) (ts : List Tree) (b r : List ℕ)
     → Only (many (value_in d) (elements kind n) b) ts r
@@ -68,9 +59,8 @@ unfolding aggregate_at
 aggregate_written kind d n ts b r h =
     only_then (length_at (rule_of kind) (decimal n ++ 13 ∷ 10 ∷ b))
     (elements_at kind (value_in d)) (Some n) (build kind ts) b r
-    (length_written (rule_of kind) n b (small_rule kind))
-    (only_then (many (value_in d) (elements kind n) b) (λ ts s. Whole (build kind ts) s) ts
-    (build kind ts) r r h (refl, refl))
+    (length_written (rule_of kind) n b (grind arith))
+    (grind (arith, only_then))
 
 array_written : (d n : ℕ) (ts : List Tree) (us : Trees) (b r : List ℕ)
     → trees_of ts ≡ us → Only (many (value_in d) n b) ts r
@@ -228,8 +218,7 @@ mutual
       only_same (many (value_in d) (count ts + 1) ((spelling p t ++ spellings p ts) ++ r))
       (many (value_in d) (suc (count ts)) (spelling p t ++ (spellings p ts ++ r)))
       (carried p t ∷ list_of (all_carried p ts)) r
-      (λ i. many (value_in d) (add-one (count ts) i)
-      (append_assoc (spelling p t) (spellings p ts) r i))
+      (grind (arith, add-one, append_assoc))
       (only_next (value_in d) (count ts) (spelling p t ++ (spellings p ts ++ r))
       (spellings p ts ++ r) r (carried p t) (list_of (all_carried p ts))
       (value_written p d t (spellings p ts ++ r) h.0) (all_written p d ts r h.1))
@@ -266,7 +255,7 @@ value_only_at p t r h = grind (arith, only_capped, value_written)
 
 no_value : NeedsBytes value_at
 unfolding value_at value_in
-no_value x r e = more_not x r (value_at []) refl e
+no_value x r e = grind arith
 
 pub values_in_order : ValuesInOrder IsWellFormed
 unfolding parse_values

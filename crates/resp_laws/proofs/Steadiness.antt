@@ -28,16 +28,7 @@ never k r s g a e h = cc
 
 pub first_fault : {A : Type 0} (f : List ℕ → Parsed A) → IsReader f → FirstFault f
 first_fault f l b r g e =
-    let m = l.bad b r g e in (
-      m.front,
-      m.byte,
-      m.after,
-      m.parts,
-      m.rest,
-      unfinished f l m.front m.before,
-      λ w. never w.1 w.2 (m.byte ∷ w.0) g (f ((m.front ++ m.byte ∷ []) ++ w.0)) w.3
-          (ap f (append_assoc m.front (m.byte ∷ []) w.0) ∙ m.again w.0),
-    )
+    let m = l.bad b r g e in grind (arith, unfinished, never, append_assoc)
 
 pub steady_begun : {A : Type 0} (f : List ℕ → Parsed A) → IsReader f → Steady f
 steady_begun f l = grind (arith, steady, steady_bad)
@@ -74,12 +65,6 @@ limited_over : (most o : ℕ) (g : Fault) → most < o → limited most o g ≡ 
 unfolding over
 limited_over most o g lt = ap (over most o g) (lt-ltb most o lt)
 
-whole_not : {A : Type 0} (x : A) (s : List ℕ) (a : Parsed A) → a ≡ Whole x s → a ≡ More → ⊥
-whole_not k s a e h = cc
-
-bad_not : {A : Type 0} (g : Fault) (s : List ℕ) (a : Parsed A) → a ≡ Bad g s → a ≡ More → ⊥
-bad_not g s a e h = cc
-
 module _ {A : Type 0} (most : ℕ) (f : List ℕ → Parsed A) (l : IsReader f) where
   keeps : (b r : List ℕ) (x : A) → capped most b (f b) ≡ Whole x r → (m : List ℕ)
       → capped most (b ++ m) (f (b ++ m)) ≡ Whole x (r ++ m)
@@ -92,28 +77,13 @@ module _ {A : Type 0} (most : ℕ) (f : List ℕ → Parsed A) (l : IsReader f) 
       let k = l.whole (b ++ m) s x h in
       let n =
       took_all f b k.front m s e k.parts
-      (λ z w. whole_not x z (f (k.front ++ z)) (k.again z) w) in
-      whole_over most (b ++ m) (f (b ++ m)) x s h
-      (omega (arith, n, ap length k.parts, length-append k.front s))
+      (λ z w. grind arith) in
+      grind (arith, whole_over, length-append)
   too_many b m e lt More h =
       more_over most (b ++ m) (f (b ++ m)) h (omega (arith, length-append b m))
   too_many b m e lt (Bad g s) h =
       let k = l.bad (b ++ m) s g h in
-      let n : length b ≤ length k.front =
-      before b k.front m k.after k.byte k.parts
-      (λ z w. bad_not g (k.byte ∷ z) (f (k.front ++ k.byte ∷ z)) (k.again z)
-      (ap f (sym w) ∙ e)) in
-      let o : most < length (b ++ m) - length s =
-      omega (
-        arith,
-        n,
-        ap length k.parts,
-        ap length k.rest,
-        length-append k.front (k.byte ∷ k.after),
-      ) in
-      bad_limited most (b ++ m) (f (b ++ m)) g s h
-      ∙ (λ i. Bad (limited_over most (length (b ++ m) - length s) g o i).0
-      (drop (limited_over most (length (b ++ m) - length s) g o i).1 (b ++ m)))
+      grind (arith, before, length-append, bad_limited, limited_over)
 
   same_fault : (b m r : List ℕ) (g : Fault)
       → ◌≡◌ {A = Parsed A} (Bad (TooLong (most + 1)) (drop most b)) (Bad g r) → most ≤ length b
@@ -145,14 +115,7 @@ module _ {A : Type 0} (most : ℕ) (f : List ℕ → Parsed A) (l : IsReader f) 
       omega (arith, length-append b m, length-append s m) in
       let le : (limited most (length b - length s) k).1 ≤ length b =
       omega (arith, limited_le most (length b - length s) k) in
-      let x : (limited most (length b - length s) k).0 ≡ g = cc in
-      let y : drop (limited most (length b - length s) k).1 b ≡ r = cc in
-      bad_limited most (b ++ m) (f (b ++ m)) k (s ++ m) (steady_bad f l b s k e m)
-      ∙ (λ i. Bad (limited most (o i) k).0 (drop (limited most (o i) k).1 (b ++ m)))
-      ∙ (λ i.
-      Bad (x i)
-      ((drop-append-le (limited most (length b - length s) k).1 b m le
-      ∙ ap (λ (q : List ℕ). q ++ m) y) i))
+      grind (arith, bad_limited, steady_bad, drop-append-le)
 
   keeps_bad : (b m r : List ℕ) (g : Fault) (a : Parsed A) → f b ≡ a → capped most b a ≡ Bad g r
       → capped most (b ++ m) (f (b ++ m)) ≡ Bad g (r ++ m)

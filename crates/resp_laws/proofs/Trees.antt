@@ -232,8 +232,7 @@ mutual
       → many (value_in d) (count ts) (spellings p ts ++ r) ≡ Whole (list_of (all_carried p ts)) r
   all_only p d end r h = many_end d r
   all_only p d (more t ts) r h =
-      (λ i. many (value_in d) (add-one (count ts) i)
-      (append_assoc (spelling p t) (spellings p ts) r i))
+      (grind (arith, add-one, append_assoc))
       ∙ many_then d (count ts) (spelling p t ++ (spellings p ts ++ r)) (spellings p ts ++ r) r
       (carried p t) (list_of (all_carried p ts)) (value_only p d t (spellings p ts ++ r) h.0)
       (all_only p d ts r h.1)
@@ -243,9 +242,7 @@ mutual
   rows_only p d last n r e h = ap (λ k. many (value_in d) k r) e ∙ many_end d r
   rows_only p d (row k v rs) n r e h =
       let two : n ≡ suc (suc (row_count rs + row_count rs)) = omega arith in
-      (λ i. many (value_in d) (two i)
-      ((append_assoc (spelling p k ++ spelling p v) (row_spellings p rs) r
-      ∙ append_assoc (spelling p k) (spelling p v) (row_spellings p rs ++ r)) i))
+      (grind (arith, append_assoc))
       ∙ many_then d (suc (row_count rs + row_count rs))
       (spelling p k ++ (spelling p v ++ (row_spellings p rs ++ r)))
       (spelling p v ++ (row_spellings p rs ++ r)) r (carried p k) (carried p v ∷ turns p rs)

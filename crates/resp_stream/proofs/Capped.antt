@@ -39,7 +39,4 @@ capped_whole most b a y s e = grind arith
 pub still_whole : {A : Type 0} (most : ℕ) (f : List ℕ → Parsed A) → IsReader f
     → (b r m : List ℕ) (x : A) → capped most b (f b) ≡ Whole x r
     → capped most (b ++ m) (f (b ++ m)) ≡ Whole x (r ++ m)
-still_whole most f l b r m x e =
-    let w = capped_whole most b (f b) x r e in
-    whole_within most (b ++ m) (f (b ++ m)) x (r ++ m) (steady f l b r x w.0 m)
-    (omega (arith, w.1, length-append b m, length-append r m))
+still_whole most f l b r m x e = grind (arith, capped_whole, whole_within, steady, length-append)

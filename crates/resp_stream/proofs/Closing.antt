@@ -21,10 +21,7 @@ close_up whole text at room xs ys f t u ds e k z w h =
     (subst (λ (n : ℕ). HasRead whole text at n (reverse ys) (build f.kind (f.done ++ t ∷ [])))
     (sym (add-one room))
     (has_up whole text at room f.kind f.done (reverse ys) t
-    (subst (λ (n : ℕ).
-    HasRead whole text at room ((record { kind = f.kind; left = n; done = f.done })
-    ∷ reverse ys) t) z
-    (subst (λ (fs : List Frame). HasRead whole text at room fs t) (pushed ys xs f e) h))))
+    (grind (arith, reverse, pushed))))
 
 pub close_next : (whole : ℕ) (text : List ℕ) (at room : ℕ) (xs ys zs : List Frame) (f g : Frame)
     (t : Tree) → xs ≡ ys ++ f ∷ [] → g.kind ≡ f.kind → g.done ≡ f.done ++ t ∷ []
@@ -36,10 +33,7 @@ close_next whole text at room xs ys zs f g t e j k z w h =
     (sym (pushed ys zs g w
     ∙ (λ i. (record { kind = j i; left = g.left; done = k i }) ∷ reverse ys)))
     (has_next whole text at room g.left f.kind f.done (reverse ys) t
-    (subst (λ (n : ℕ).
-    HasRead whole text at room ((record { kind = f.kind; left = n; done = f.done })
-    ∷ reverse ys) t) one
-    (subst (λ (fs : List Frame). HasRead whole text at room fs t) (pushed ys xs f e) h)))
+    (grind (arith, reverse, pushed)))
 
 pub no_length : {A : Type 0} (xs : List A) → length xs ≡ 0 → xs ≡ []
 no_length [] e = refl

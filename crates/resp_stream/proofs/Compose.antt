@@ -20,11 +20,6 @@ pub bind_whole : {A B : Type 0} (a : Parsed A) (f : A → List ℕ → Parsed B)
     → (a >>= f) ≡ Whole y s → (x : A) × (r : List ℕ) × (a ≡ Whole x r) × (f x r ≡ Whole y s)
 bind_whole a f y s e = grind arith
 
-bind_bad : {A B : Type 0} (a : Parsed A) (f : A → List ℕ → Parsed B) (g : Fault) (s : List ℕ)
-    → (a >>= f) ≡ Bad g s → (a ≡ Bad g s)
-    ⊎ ((x : A) × (r : List ℕ) × (a ≡ Whole x r) × (f x r ≡ Bad g s))
-bind_bad a f g s e = grind arith
-
 bind_more : {A B : Type 0} (a : Parsed A) (f : A → List ℕ → Parsed B) → (a >>= f) ≡ More
     → (a ≡ More) ⊎ ((x : A) × (r : List ℕ) × (a ≡ Whole x r) × (f x r ≡ More))
 bind_more a f e = grind arith
@@ -33,8 +28,7 @@ possible_by : {A : Type 0} (f : List ℕ → Parsed A) → IsReader f → (a : P
     → Completes f []
 possible_by f l (Whole x r) e =
     let t = l.whole [] r x e in
-    let none : r ≡ [] = nothing_left t.front r t.parts in
-    ([], x, e ∙ ap (λ q. Whole x q) none)
+    grind (arith, nothing_left)
 possible_by f l More e = l.more [] e
 possible_by f l (Bad g r) e = absurd (nowhere (l.bad [] r g e).front _ _ (l.bad [] r g e).parts)
   where
@@ -62,24 +56,14 @@ module _ {A B : Type 0} (a : List ℕ → Parsed A) (f : A → List ℕ → Pars
       let u = (lf w.0).whole w.1 s y w.3 in
       record {
         front = t.front ++ u.front;
-        parts = t.parts ∙ ap (λ (q : List ℕ). t.front ++ q) u.parts
-            ∙ sym (append_assoc t.front u.front s);
-        again = λ z. ap (λ q. a q >>= f) (append_assoc t.front u.front z)
-            ∙ skip_empty t.front w.0 t.again (u.front ++ z) ∙ u.again z;
+        parts = grind (arith, append_assoc);
+        again = grind (arith, append_assoc, skip_empty);
       }
 
   then_bad_1 : (b s : List ℕ) (g : Fault) → a b ≡ Bad g s → Met (λ b. a b >>= f) b g s
   then_bad_1 b s g e =
       let m = la.bad b s g e in
-      record {
-        front = m.front;
-        byte = m.byte;
-        after = m.after;
-        parts = m.parts;
-        rest = m.rest;
-        before = ap (λ r. r >>= f) m.before;
-        again = λ z. ap (λ r. r >>= f) (m.again z);
-      }
+      grind arith
 
   then_bad_2 : (b s : List ℕ) (g : Fault) (x : A) (r : List ℕ) → a b ≡ Whole x r → f x r ≡ Bad g s
       → Met (λ b. a b >>= f) b g s
@@ -90,20 +74,11 @@ module _ {A B : Type 0} (a : List ℕ → Parsed A) (f : A → List ℕ → Pars
         front = t.front ++ m.front;
         byte = m.byte;
         after = m.after;
-        parts = t.parts ∙ ap (λ (q : List ℕ). t.front ++ q) m.parts
-            ∙ sym (append_assoc t.front m.front (m.byte ∷ m.after));
+        parts = grind (arith, append_assoc);
         rest = m.rest;
         before = skip_empty t.front x t.again m.front ∙ m.before;
-        again = λ z. ap (λ q. a q >>= f) (append_assoc t.front m.front (m.byte ∷ z))
-            ∙ skip_empty t.front x t.again (m.front ++ m.byte ∷ z) ∙ m.again z;
+        again = grind (arith, append_assoc, skip_empty);
       }
-
-  then_bad : (b s : List ℕ) (g : Fault) → (a b >>= f) ≡ Bad g s → Met (λ b. a b >>= f) b g s
-  then_bad b s g e =
-      elim (bind_bad (a b) f g s e) [
-        | inl h ↦ then_bad_1 b s g h
-        | inr h ↦ then_bad_2 b s g h.0 h.1 h.2 h.3
-      ]
 
   then_more_1 : (b : List ℕ) → a b ≡ More → Completes (λ b. a b >>= f) b
   then_more_1 b e =
@@ -113,27 +88,25 @@ module _ {A B : Type 0} (a : List ℕ → Parsed A) (f : A → List ℕ → Pars
       let same : b ++ c.0 ≡ t.front = t.parts ∙ append_nil t.front in (
         c.0 ++ d.0,
         d.1,
-        ap (λ q. a q >>= f) (sym (append_assoc b c.0 d.0) ∙ ap (λ (q : List ℕ). q ++ d.0) same)
-            ∙ skip_empty t.front c.1 t.again d.0 ∙ d.2,
+        grind (arith, append_assoc, skip_empty),
       )
 
   then_more_2 : (b : List ℕ) (x : A) (r : List ℕ) → a b ≡ Whole x r → f x r ≡ More
       → Completes (λ b. a b >>= f) b
   then_more_2 b x r e h =
       let t = la.whole b r x e in
-      let d = (lf x).more r h in (
-        d.0,
-        d.1,
-        ap (λ q. a q >>= f) (ap (λ (q : List ℕ). q ++ d.0) t.parts ∙ append_assoc t.front r d.0)
-            ∙ skip_empty t.front x t.again (r ++ d.0) ∙ d.2,
-      )
+      grind (arith, append_assoc, skip_empty)
 
   then_more : (b : List ℕ) → (a b >>= f) ≡ More → Completes (λ b. a b >>= f) b
   then_more b e =
       elim (bind_more (a b) f e) [ inl h ↦ then_more_1 b h | inr h ↦ then_more_2 b h.0 h.1 h.2 h.3 ]
 
   pub reader_then : IsReader (λ b. a b >>= f)
-  reader_then = record { whole = then_whole; bad = then_bad; more = then_more }
+  reader_then = record {
+    whole = then_whole;
+    bad = grind (arith, then_bad_1, then_bad_2);
+    more = then_more;
+  }
 
 -- ---- nothing more to read
 
@@ -175,8 +148,7 @@ module _ {S A : Type 0} (k : S → ℕ → Move S A) (lk : (s : S) (c : ℕ) →
       ⊎ ((p : List ℕ) × (d : ℕ) × (u : List ℕ) × (bs ≡ p ++ d ∷ u) × (r ≡ d ∷ u)
       × (moved m (λ t. scan k t p) c p ≡ More)
       × ((z : List ℕ) → moved m (λ t. scan k t (p ++ d ∷ z)) c (p ++ d ∷ z) ≡ Bad g (d ∷ z)))
-  moved_bad (On s) h c bs r g ih e = let t =
-      ih s e in inr (t.front, t.byte, t.after, t.parts, t.rest, t.before, t.again)
+  moved_bad (On s) h c bs r g ih e = grind arith
   moved_bad (Out (Go f)) h c bs r g ih e = let t =
       h.bad bs r g e in inr (t.front, t.byte, t.after, t.parts, t.rest, t.before, t.again)
   moved_bad (Out (Stop f)) h c bs r g ih e = inl (cc, λ z. cc)
@@ -191,8 +163,7 @@ module _ {S A : Type 0} (k : S → ℕ → Move S A) (lk : (s : S) (c : ℕ) →
           after = bs;
           parts = refl;
           rest = h.0;
-          before =
-              refl;
+          before = refl;
           again = h.1;
         }
         | inr h ↦ record {

@@ -2,12 +2,11 @@
 -- bytes.
 use Rattle.std.proofs.Common.{◌≡◌, ℕ, zero, suc, ◌+◌, ◌-◌, ◌<◌, ◌≤◌, List, ◌++◌, refl, sym, ap, ◌∙◌}
 use Rattle.std.proofs.Common.{false, length, length-append, arith, Some, None}
-use Rattle.std.specs.Prelude.{Bool, Option}
+use Rattle.std.specs.Prelude.{Option}
 use Rattle.resp_stream.specs.declared.fault.StreamFault.{StreamFault}
 use Rattle.resp_stream.specs.Parsed.{Parsed, Whole, More, Bad}
 use Rattle.resp_stream.specs.Parse.{Batch, batch}
 use Rattle.resp_stream.specs.Readers.{skipped}
-use Rattle.resp_stream.specs.Request.{skip_empty}
 use Rattle.resp_stream.specs.Stream.{Stream, fed, moved_on, offset_by, stream_fault}
 use Rattle.resp_stream.proofs.Batches.{Takes, fed_rest, batch_whole, batch_more, batch_bad}
 use Rattle.resp_stream.proofs.Parse.{skip_le, takes_requests}
@@ -18,16 +17,6 @@ use Rattle.resp_stream.proofs.Parse.{skip_le, takes_requests}
 place_in_two : (n a l c r : ℕ) → l ≤ a → r ≤ l + c
     → offset_by n (a + c - r) ≡ offset_by (offset_by n (a - l)) (l + c - r)
 place_in_two n a l c r la rl = omega arith
-
-stream_as : (n k : ℕ) (q p : List ℕ) (t : Bool) → n ≡ k → q ≡ p
-    → ◌≡◌ {A = Stream} (record { before = n; rest = q; failed = t })
-    (record { before = k; rest = p; failed = t })
-stream_as n k q p t e h = grind arith
-
--- what is whole is as far from the end with more behind it
-moved_fed : (s : Stream) (b r : List ℕ) → s.failed ≡ false → length r ≤ length s.rest
-    → moved_on (fed s b) (r ++ b) ≡ fed (moved_on s r) b
-moved_fed s b r t le = grind (arith, fed_rest, length-append, stream_as)
 
 -- What was passed over before more came need not be looked at again, and moves no byte.
 pub record Passes (past : Stream → Stream) : Type 0 where
@@ -42,34 +31,13 @@ skipped_joined s b t =
     let q = (skipped (fed s b)).rest in
     let p = (skipped (fed (skipped s) b)).rest in
     let same : q ≡ p = takes_requests.joined s b t in
-    let f = ap length (fed_rest s b t) ∙ length-append s.rest b in
-    let g = ap length (fed_rest (skipped s) b t) ∙ length-append (skip_empty s.rest) b in
-    let le = skip_le s.rest in
-    let lf = skip_le (fed (skipped s) b).rest in
-    let long = ap length same in
-    stream_as _ _ q p s.failed
-    (ap (λ n. offset_by s.before (n - length q)) f
-    ∙ ap (λ n. offset_by s.before (length s.rest + length b - n)) long
-    ∙ place_in_two s.before (length s.rest) (length (skip_empty s.rest)) (length b) (length p) le
-    (omega (arith, lf, g))
-    ∙ ap (λ n. offset_by (skipped s).before (n - length p)) (sym g))
-    same
-
-moved_joined : (s : Stream) (b r : List ℕ) → s.failed ≡ false
-    → length r < length (fed (skipped s) b).rest
-    → moved_on (fed s b) r ≡ moved_on (fed (skipped s) b) r
-moved_joined s b r t lt =
-    let f = ap length (fed_rest s b t) ∙ length-append s.rest b in
-    let g = ap length (fed_rest (skipped s) b t) ∙ length-append (skip_empty s.rest) b in
-    stream_as _ _ r r s.failed
-    (ap (λ n. offset_by s.before (n - length r)) f
-    ∙ place_in_two s.before (length s.rest) (length (skip_empty s.rest)) (length b) (length r)
-    (skip_le s.rest) (omega (arith, lt, g))
-    ∙ ap (λ n. offset_by (skipped s).before (n - length r)) (sym g))
-    refl
+    grind (arith, fed_rest, length-append, skip_le, place_in_two)
 
 pub passes_requests : Passes skipped
-passes_requests = record { joined = skipped_joined; moved = moved_joined }
+passes_requests = record {
+  joined = skipped_joined;
+  moved = grind (arith, fed_rest, length-append, place_in_two, skip_le);
+}
 
 pub passes_values : Passes (λ s. s)
 passes_values = record { joined = λ s b t. refl; moved = λ s b r t lt. refl }
@@ -93,10 +61,7 @@ module _ {A : Type 0} (read : List ℕ → Parsed A) (past : Stream → Stream) 
       ∙ ap (λ (q : Stream). (batch read past q).fault)
       (moved r (takes.some s x r e) (takes.some t x r k))
       ∙ ap (λ (p : Batch A). p.fault) (sym (batch_whole read past takes t x r k))
-  fault_past_by s t same moved More e =
-      let k = ap (λ (q : Stream). read q.rest) (sym same) ∙ e in
-      ap (λ (p : Batch A). p.fault) (batch_more read past takes s e)
-      ∙ ap (λ (p : Batch A). p.fault) (sym (batch_more read past takes t k))
+  fault_past_by s t same moved More e = grind (arith, batch_more)
   fault_past_by s t same moved (Bad g r) e =
       let k = ap (λ (q : Stream). read q.rest) (sym same) ∙ e in
       ap (λ (p : Batch A). p.fault) (batch_bad read past takes s g r e)
@@ -117,14 +82,10 @@ module _ {A : Type 0} (read : List ℕ → Parsed A) (past : Stream → Stream) 
       let le = takes.some s x r e in
       ap (λ (q : Batch A). q.fault)
       (batch_whole read past takes (fed s b) x (r ++ b) (takes.kept s b x r t e))
-      ∙ ap (λ (q : Stream). (batch read past q).fault) (moved_fed s b r t (omega (arith, le)))
+      ∙ ap (λ (q : Stream). (batch read past q).fault) (grind (arith, fed_rest, length-append))
       ∙ ih x r e (ap (λ (q : Batch A). q.fault) (sym p) ∙ none)
       ∙ ap (λ (q : Batch A). (batch read past (fed q.stream b)).fault) (sym p)
-  joined_by s b t none ih More e =
-      fault_past_by (fed s b) (fed (past s) b) (passes.joined s b t)
-      (λ r lt le. passes.moved s b r t le) (read (past (fed s b)).rest) refl
-      ∙ ap (λ (q : Batch A). (batch read past (fed q.stream b)).fault)
-      (sym (batch_more read past takes s e))
+  joined_by s b t none ih More e = grind (arith, fault_past_by, batch_more)
   joined_by s b t none ih (Bad g r) e =
       absurd (none_is _ (batch read past s).fault
       (ap (λ (q : Batch A). q.fault) (batch_bad read past takes s g r e)) none)

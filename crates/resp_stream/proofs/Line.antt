@@ -5,7 +5,6 @@ use Rattle.std.proofs.Common.{drop-cons, add-one, arith}
 use Rattle.std.specs.Prelude.{nat_eq, nat_lt}
 use Rattle.std.proofs.lemmas.Bool.{ne_eqb, eq-eqb, lt-ltb, le-ltb}
 use Rattle.std.proofs.lemmas.List.{take-append-drop, length-take-le, length-drop, take_all}
-use Rattle.std.proofs.lemmas.List.{take-append-le}
 use Rattle.std.proofs.Math.Seq.{take-suc}
 use Rattle.resp_stream.specs.declared.fault.Fault.TheVariants.{BadByte, TooLong}
 use Rattle.resp_stream.specs.Parsed.{Whole, More, Bad, Go, Stop, Move, On, Out, moved, scan}
@@ -15,10 +14,6 @@ use Rattle.resp_stream.proofs.Compose.{append_nil}
 pub passed_none : (inline : Bool) (limit : ℕ) (b : List ℕ) → Passed inline limit (take 0 b)
 unfolding line_at
 passed_none inline limit b m = refl
-
-pub passed_grows : (inline : Bool) (limit seen : ℕ) (b piece : List ℕ) → seen ≤ length b
-    → Passed inline limit (take seen b) → Passed inline limit (take seen (b ++ piece))
-passed_grows inline limit seen b piece le p = grind (arith, take-append-le)
 
 pick : ℕ → List ℕ → ℕ → Bool → Bool → Bool → Bool → Move (List ℕ) (List ℕ)
 pick limit t c x y z w =
@@ -72,8 +67,7 @@ module _ (inline : Bool) (limit : ℕ) where
   line_long at c b r h p e f le =
       let len : length (take at b) ≡ at = length-take-le at b (omega (arith, short at c b r h)) in
       at_byte at c b r (Out (Stop (TooLong (limit + 1)))) h p
-      (picked (take at b) c false false false _ (ne_eqb c 13 e) f
-      (le-ltb (length (take at b)) limit (omega arith)) refl)
+      (grind (arith, picked, ne_eqb, le-ltb))
       ∙ ap (λ q. Bad (TooLong (limit + 1)) q) (sym h)
 
   pub line_refused : (at c : ℕ) (b r : List ℕ) → drop at b ≡ c ∷ r → Passed inline limit (take at b)
@@ -83,8 +77,7 @@ module _ (inline : Bool) (limit : ℕ) where
   line_refused at c b r h p e f g lt =
       let len : length (take at b) ≡ at = length-take-le at b (omega (arith, short at c b r h)) in
       at_byte at c b r (Out (Stop BadByte)) h p
-      (picked (take at b) c false false true true (ne_eqb c 13 e) f
-      (lt-ltb (length (take at b)) limit (omega arith)) g)
+      (grind (arith, picked, ne_eqb, lt-ltb))
       ∙ ap (λ q. Bad BadByte q) (sym h)
 
   pub line_on : (at c : ℕ) (b r : List ℕ) → drop at b ≡ c ∷ r → Passed inline limit (take at b)
@@ -97,12 +90,7 @@ module _ (inline : Bool) (limit : ℕ) where
       let one : get_or b at 0 ≡ c = cc in
       let t : take (at + 1) b ≡ take at b ++ c ∷ [] =
       rw (add-one, ← one) (take-suc b at 0 (short at c b r h)) in
-      ap (λ q. line_at inline limit (q ++ m)) t
-      ∙ ap (λ q. line_at inline limit q) (append_assoc (take at b) (c ∷ []) m) ∙ p (c ∷ m)
-      ∙ ap (λ q. moved q (λ t. scan (line_move inline limit) t m) c m)
-      (picked (take at b) c false false true false (ne_eqb c 13 e) f
-      (lt-ltb (length (take at b)) limit (omega arith)) g)
-      ∙ ap (λ q. scan (line_move inline limit) q m) (sym t)
+      grind (arith, append_assoc, picked, ne_eqb, lt-ltb)
 
   pub line_more : (at : ℕ) (b : List ℕ) → length b ≤ at → Passed inline limit (take at b)
       → line_at inline limit b ≡ More

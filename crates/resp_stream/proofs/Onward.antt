@@ -35,10 +35,6 @@ fed_twice : (s : Stream) (a b : List ℕ) → s.failed ≡ false
     → (fed s (a ++ b)).rest ≡ (fed (fed s a) b).rest
 fed_twice s a b t = grind (arith, append_assoc)
 
-pub fed_in_two : (s : Stream) (a b : List ℕ) → s.failed ≡ false
-    → fed s (a ++ b) ≡ fed (fed s a) b
-fed_in_two s a b t = grind (arith, fed_twice)
-
 -- `all` reads the same in two pieces, where the first has no fault
 pub record Joins {A : Type 0} (all : Stream → Batch A) : Type 0 where
   pub unfailed : (s : Stream) → s.failed ≡ false → (all s).fault ≡ None
@@ -83,4 +79,4 @@ values_begun = grind (arith, no_values, none_valued)
 pub goes_further : {A : Type 0} (all : Stream → Batch A) (heard piece : List ℕ) (reader : Stream)
     → Joins all → GoesOn all heard reader → (all (fed reader piece)).fault ≡ None
     → GoesOn all (heard ++ piece) (all (fed reader piece)).stream
-goes_further all heard piece reader j r none = grind (arith, append_assoc, fed_in_two)
+goes_further all heard piece reader j r none = grind (arith, append_assoc, fed_twice)

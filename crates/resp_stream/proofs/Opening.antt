@@ -1,6 +1,6 @@
 -- An aggregate by its head.
-use Rattle.std.proofs.Common.{◌≡◌, ◌≢◌, ℕ, suc, ◌-◌, ◌<◌, List, [], ◌∷◌, ◌++◌, sym, ap, subst, ◌∙◌}
-use Rattle.std.proofs.Common.{Bool, true, false, cond, arith, Some, None}
+use Rattle.std.proofs.Common.{lit<, lit≤, ◌≡◌, ◌≢◌, ℕ, suc, ◌-◌, ◌<◌, List, [], ◌∷◌, ◌++◌, sym, ap}
+use Rattle.std.proofs.Common.{subst, ◌∙◌, Bool, true, false, cond, arith, Some, None}
 use Rattle.std.specs.Prelude.{nat_eq}
 use Rattle.resp_stream.specs.declared.fault.Fault.{Fault}
 use Rattle.resp_stream.specs.declared.fault.Fault.TheVariants.{BadByte}
@@ -14,7 +14,6 @@ use Rattle.resp_stream.specs.Value.{rule_of, elements, build, elements_at, aggre
 use Rattle.resp_stream.specs.Value.{type_byte_of, choice_of, too_deep, deeper, opening, value_in}
 use Rattle.resp_stream.specs.ValueSteps.{Opened}
 use Rattle.resp_stream.proofs.Readers.{reader_length}
-use Rattle.resp_stream.proofs.ValueLaws.{rule_ok}
 use Rattle.resp_stream.proofs.Places.{steady}
 
 -- ---- where nothing opens
@@ -29,13 +28,9 @@ pub leaf_here : (room c : ℕ) (text b : List ℕ) → text ≡ c ∷ b → open
 unfolding value_in
 leaf_here room c text b h e = grind (arith, none_by)
 
-opens_by : (d : ℕ) (kind : Kind) (m : TypeByte) → opening (suc d) m ≡ Some kind
-    → m ≡ mark.Aggregate kind
-opens_by d kind m e = grind arith
-
 pub opens_here : (room : ℕ) (kind : Kind) (m : TypeByte) → opening room m ≡ Some kind
     → (m ≡ mark.Aggregate kind) × (0 < room)
-opens_here room kind m e = grind (arith, opens_by)
+opens_here room kind m e = grind arith
 
 -- ---- where an aggregate opens
 
@@ -106,7 +101,7 @@ module _ (room c : ℕ) (text b : List ℕ) (kind : Kind) (head : text ≡ c ∷
     pub head_some : (n k : ℕ) (r : List ℕ) → length_at (rule_of kind) b ≡ Whole (Some n) r → n ≢ 0
         → k ≡ elements kind n → Opened room text kind k r
     head_some n k r e z w =
-        let l = (reader_length (rule_of kind) (rule_ok kind)).whole b r (Some n) e in
+        let l = (reader_length (rule_of kind) (grind (arith, lit<, lit≤))).whole b r (Some n) e in
         subst (λ (j : ℕ). Opened room text kind j r) (sym w) (record {
           some = some_of kind n (omega arith);
           inner = room - 1;
@@ -118,6 +113,5 @@ module _ (room c : ℕ) (text b : List ℕ) (kind : Kind) (head : text ≡ c ∷
               ∙ ap (λ j. value_in j (c ∷ (b ++ m))) one
               ∙ leads (room - 1) true (b ++ m) (allowed true may)
               ∙ counted (room - 1) n (b ++ m) (r ++ m)
-              (steady (length_at (rule_of kind)) (reader_length (rule_of kind) (rule_ok kind)) b
-              r (Some n) e m);
+              (grind (arith, steady, reader_length, lit<, lit≤));
         })

@@ -83,12 +83,9 @@ pub some_words : (b r : List ℕ) (words : List (List ℕ)) → request_at (skip
 unfolding skip_empty
 some_words b r words e = some_in (length b) b r words (omega arith) e
 
-whole_skipped : (b r m : List ℕ) (words : List (List ℕ)) → request_at (skip_empty b) ≡ Whole words r
-    → request_at (skip_empty (b ++ m)) ≡ Whole words (r ++ m)
-whole_skipped b r m words e = grind (arith, request_kept, skip_joined, skip_whole, some_words)
-
 pub takes_requests : Takes request_at skipped
-takes_requests = grind (arith, shorter, fed_rest, whole_skipped, skip_joined, skip_bad)
+takes_requests =
+    grind (arith, shorter, fed_rest, skip_joined, skip_bad, request_kept, skip_whole, some_words)
 
 pub parse_whole : (s : Stream) (words : List (List ℕ)) (r : List ℕ)
     → request_at (skip_empty s.rest) ≡ Whole words r

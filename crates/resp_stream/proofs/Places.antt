@@ -19,8 +19,7 @@ pub steady_bad : {A : Type 0} (f : List ℕ → Parsed A) → IsReader f → (b 
     → f b ≡ Bad g r → (m : List ℕ) → f (b ++ m) ≡ Bad g (r ++ m)
 steady_bad f l b r g e m =
     let t = l.bad b r g e in
-    ap (λ q. f (q ++ m)) t.parts ∙ ap f (append_assoc t.front (t.byte ∷ t.after) m)
-    ∙ t.again (t.after ++ m) ∙ ap (λ q. Bad g (q ++ m)) (sym t.rest)
+    grind (arith, append_assoc)
 
 -- the rest is the text from a place on
 rest_place : (q r b : List ℕ) → b ≡ q ++ r → drop (length b - length r) b ≡ r
@@ -40,17 +39,10 @@ nonempty (x ∷ p) h = omega arith
 pub goes : (text p r : List ℕ) (at : ℕ) → at ≤ length text → drop at text ≡ p ++ r → 0 < length p
     → Goes text at r
 goes text p r at le e h =
-    let whole : text ≡ (take at text ++ p) ++ r =
-    sym (take-append-drop at text) ∙ ap (λ (z : List ℕ). take at text ++ z) e
-    ∙ sym (append_assoc (take at text) p r) in
+    let whole : text ≡ (take at text ++ p) ++ r = grind (arith, take-append-drop, append_assoc) in
     let n : length text - at ≡ length p + length r =
     sym (length-drop at text) ∙ ap length e ∙ length-append p r in
-    record {
-      place = rest_place (take at text ++ p) r text whole;
-      within = omega arith;
-      on =
-          omega arith;
-    }
+    grind (arith, rest_place)
 
 more≢whole : {A : Type 0} (x : A) (r : List ℕ) (a : Parsed A) → a ≡ More → a ≡ Whole x r → ⊥
 more≢whole k r a e h = cc
@@ -71,9 +63,4 @@ pub bad_within : {A : Type 0} (f : List ℕ → Parsed A) → IsReader f → (te
     × (0 < length r)
 bad_within f l text r g e =
     let m = l.bad text r g e in
-    let parts : text ≡ m.front ++ r = m.parts ∙ ap (λ (q : List ℕ). m.front ++ q) (sym m.rest) in
-    let n = length-append m.front r in (
-      rest_place m.front r text parts,
-      omega (arith, ap length parts),
-      omega (arith, ap length m.rest),
-    )
+    grind (arith, length-append, rest_place)

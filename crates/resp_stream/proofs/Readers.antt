@@ -6,16 +6,14 @@ use Rattle.std.proofs.lemmas.List.{take-append-drop, length-append, length-take-
 use Rattle.std.proofs.Math.Seq.{take-append_seam, drop-append_seam}
 use Rattle.std.proofs.lemmas.Bool.{ltb-false, ltb-true, le-ltb, eq-eqb}
 use Rattle.std.specs.Prelude.{nat_lt, nat_eq}
-use Rattle.resp_stream.specs.declared.fault.Fault.{Fault}
-use Rattle.resp_stream.specs.declared.fault.Fault.TheVariants.{BadByte, TooLong}
+use Rattle.resp_stream.specs.declared.fault.Fault.TheVariants.{BadByte}
 use Rattle.resp_stream.specs.declared.tokens.LengthRule.{LengthRule}
-use Rattle.resp_stream.specs.Parsed.{Parsed, Whole, More, Bad, Go, Stop, On, Out, taken, moved}
-use Rattle.resp_stream.specs.Parsed.{scan, ◌>>=◌}
+use Rattle.resp_stream.specs.Parsed.{Parsed, Whole, More, Go, Stop, taken, scan, ◌>>=◌}
 use Rattle.resp_stream.specs.ReaderLaws.{Took, Completes, IsReader}
 use Rattle.resp_stream.specs.Tokens.{IsRule, only_byte, line_feed, ending, digit_move, digits_at}
 use Rattle.resp_stream.specs.Tokens.{minus_one, length_by, length_at, line_move, line_at, bytes_at}
 use Rattle.resp_stream.specs.Tokens.{counted_at, many}
-use Rattle.resp_stream.proofs.Compose.{reader_then, reader_whole, reader_scan, reader_first, IsMove}
+use Rattle.resp_stream.proofs.Compose.{reader_then, reader_whole, reader_scan, reader_first}
 use Rattle.resp_stream.proofs.Compose.{choice_if, move_if, append_nil}
 
 pub reader_only : (b : ℕ) → IsReader (only_byte b)
@@ -39,14 +37,15 @@ line_way : (inline : Bool) (limit : ℕ) (t : List ℕ) → Completes (scan (lin
 unfolding only_byte
 line_way inline limit t = (13 ∷ 10 ∷ [], t, refl)
 
-pub line_choices : (inline : Bool) (limit : ℕ) (t : List ℕ) (c : ℕ)
-    → IsMove (line_move inline limit t c)
-line_choices inline limit t c = grind (arith, move_if, reader_feed, reader_whole)
-
 pub reader_text : (inline : Bool) (limit : ℕ) (t : List ℕ)
     → IsReader (scan (line_move inline limit) t)
 reader_text inline limit t =
-    reader_scan (line_move inline limit) (line_choices inline limit) (line_way inline limit) t
+    reader_scan (line_move inline limit) (grind (
+      arith,
+      move_if,
+      reader_feed,
+      reader_whole,
+    )) (line_way inline limit) t
 
 pub reader_line : (inline : Bool) (limit : ℕ) → IsReader (line_at inline limit)
 unfolding line_at
@@ -73,20 +72,14 @@ module _ (rule : LengthRule) (ok : IsRule rule) where
       let w = enough (n * 10 + 9) (omega (arith, ok.least)) in (
         57 ∷ w.0,
         w.1,
-        ap (λ t. moved (cond t (Out (Stop (TooLong (n * 10 + 9)))) (On (n * 10 + 9)))
-            (λ k. scan (digit_move rule) k w.0) 57 w.0)
-            (le-ltb rule.limit (n * 10 + 9) (omega (arith, ok.least, ok.room))) ∙ w.2,
+        grind (arith, le-ltb),
       )
 
   pub reader_digits : (n : ℕ) → IsReader (digits_at rule n)
   unfolding digits_at
   reader_digits n =
       reader_scan (digit_move rule)
-      (λ m c.
-      move_if (nat_eq c 13) _ _ (choice_if (nat_lt m rule.least) _ _ tt (reader_feed (Some m)))
-      (move_if (nat_lt c 48) _ _ tt
-      (move_if (nat_lt 57 c) _ _ tt
-      (move_if (nat_lt rule.limit (m * 10 + (c - 48))) _ _ tt tt))))
+      (grind (arith, move_if, choice_if, reader_feed))
       (λ m. digits_way_by m (nat_lt m rule.least) refl) n
 
   pub reader_minus : IsReader minus_one
@@ -98,15 +91,9 @@ module _ (rule : LengthRule) (ok : IsRule rule) where
   unfolding length_at
   reader_length =
       reader_first (length_by rule)
-      (λ c. choice_if (nat_eq c 63) _ _ (choice_if rule.streamed _ _ tt tt)
-      (choice_if (nat_eq c 45) _ _ (choice_if rule.null _ _ reader_minus tt)
-      (choice_if (nat_eq c 48) _ _ (choice_if (nat_lt 0 rule.least) _ _ tt (reader_ending (Some 0)))
-      (choice_if (nat_lt c 49) _ _ tt
-      (choice_if (nat_lt 57 c) _ _ tt
-      (choice_if (nat_lt rule.limit (c - 48)) _ _ tt (reader_digits (c - 48))))))))
+      (grind (arith, choice_if, reader_minus, reader_ending, reader_digits))
       57 (digits_at rule 9)
-      (ap (λ t. cond t (Stop (TooLong 9)) (Go (digits_at rule 9)))
-      (le-ltb rule.limit 9 (omega (arith, ok.room)))) (reader_digits 9)
+      (grind (arith, le-ltb)) (reader_digits 9)
 
 -- ---- n bytes
 
@@ -125,13 +112,8 @@ bytes_whole n b r x false h e =
     record {
       front = take n b;
       parts = sym (take-append-drop n b) ∙ ap (λ (q : List ℕ). take n b ++ q) r_is;
-      again = λ s. ap (λ m. bytes_at m (take n b ++ s)) (sym len) ∙ bytes_exact (take n b) s
-          ∙ ap (λ q. Whole q s) x_is;
+      again = grind (arith, bytes_exact);
     }
-
-bytes_bad : (n : ℕ) (b r : List ℕ) (g : Fault) (t : Bool)
-    → cond t More (Whole (take n b) (drop n b)) ≡ Bad g r → ⊥
-bytes_bad n b r g t e = grind arith
 
 zeros : ℕ → List ℕ
 zeros zero = []
@@ -157,7 +139,7 @@ bytes_more n b true h e =
 
 pub reader_bytes : (n : ℕ) → IsReader (bytes_at n)
 unfolding bytes_at
-reader_bytes n = grind (arith, bytes_whole, bytes_bad, bytes_more)
+reader_bytes n = grind (arith, bytes_whole, bytes_more)
 
 pub reader_counted : (n : ℕ) → IsReader (counted_at n)
 unfolding counted_at

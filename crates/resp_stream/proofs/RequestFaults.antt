@@ -1,8 +1,8 @@
 -- A fault of a request, as the reader keeps and answers it.
-use Rattle.std.proofs.Common.{◌≡◌, ℕ, ◌-◌, ◌≤◌, List, ◌++◌, sym, ap, subst, ◌∙◌, Bool, cond, length}
-use Rattle.std.proofs.Common.{drop, arith, Some}
+use Rattle.std.proofs.lemmas.List.{take-append-le, drop-append-le, length-append, length-drop}
+use Rattle.std.proofs.Common.{append_assoc, ◌≡◌, ℕ, ◌-◌, ◌≤◌, List, ◌++◌, sym, ap, subst, ◌∙◌, Bool}
+use Rattle.std.proofs.Common.{cond, length, drop, arith, Some}
 use Rattle.std.specs.Prelude.{is_some, Result, OnOk, OnErr}
-use Rattle.std.proofs.lemmas.List.{length-append, length-drop}
 use Rattle.resp_value.specs.declared.octets.NoMemory.{NoMemory}
 use Rattle.resp_stream.specs.declared.fault.Fault.{Fault}
 use Rattle.resp_stream.specs.declared.fault.StreamFault.{StreamFault}
@@ -15,10 +15,9 @@ use Rattle.resp_stream.specs.ReaderStates.{stream_of, Kept, RequestState}
 use Rattle.resp_stream.specs.Request.{request_at, skip_empty}
 use Rattle.resp_stream.specs.RequestSteps.{IsPast, IsProgress}
 use Rattle.resp_stream.specs.Stream.{fed, offset_by, stream_fault}
-use Rattle.resp_stream.proofs.Line.{passed_none, passed_grows}
-use Rattle.resp_stream.proofs.ReaderFaults.{none_is, fed_is, fault_by, not_memory}
+use Rattle.resp_stream.proofs.Line.{passed_none}
+use Rattle.resp_stream.proofs.ReaderFaults.{none_is, not_memory}
 use Rattle.resp_stream.proofs.Skipping.{skip_bad}
-use Rattle.resp_stream.proofs.Words.{within_grows}
 
 pub fresh : (input : Input) (p : Progress) → p ≡ Line 0
     → Kept request_at skip_empty input.before input.rest input.broken → RequestState input p
@@ -26,8 +25,9 @@ fresh input p e k = grind (arith, passed_none)
 
 progress_grows : (text piece : List ℕ) (p : Progress) → IsProgress text p
     → IsProgress (text ++ piece) p
-progress_grows text piece (Line seen) h = grind (arith, length-append, passed_grows)
-progress_grows text piece (Words at left words) h = within_grows text piece at left words h
+progress_grows text piece (Line seen) h = grind (arith, length-append, take-append-le)
+progress_grows text piece (Words at left words) h =
+    grind (arith, length-append, append_assoc, drop-append-le)
 
 -- with a piece more, or with none after a fault
 fed_more : (i : Input) (piece : List ℕ) (p : Progress) (t : Bool) → is_some i.broken ≡ t
@@ -37,7 +37,7 @@ fed_more i piece p t e h = grind (arith, progress_grows, none_is)
 pub fed_by : (old new : Input) (piece : List ℕ) (p : Progress)
     (r : Result (Unit {0}) NoMemory) → OnOk r (stream_of new ≡ fed (stream_of old) piece)
     → new.broken ≡ old.broken → OnErr r (new ≡ old) → RequestState old p → RequestState new p
-fed_by old new piece p r e b f h = grind (arith, fed_is, fed_more)
+fed_by old new piece p r e b f h = grind (arith, fed_more)
 
 -- the fault that was answered is answered again
 pub again : (i : Input) (f : StreamFault) → i.before ≤ 18446744073709551615 → i.broken ≡ Some f
@@ -75,7 +75,7 @@ module _ (text : List ℕ) (old past : Input) (passed at : ℕ) (g : Fault) (f :
 
   pub answers : (new : Input) → new ≡ record past { broken = Some f }
       → FaultGives request_at (skipped (stream_of old)) (stream_of old) (stream_of new) f
-  answers new e = grind (arith, count, fault_by, memory, faulty, gone)
+  answers new e = grind (arith, count, memory, faulty, gone)
 
   pub keeps : (new : Input) → new ≡ record past { broken = Some f } → (p : Progress) → p ≡ Line 0
       → RequestState new p

@@ -1,4 +1,8 @@
 -- A request is read by a reader.
+use Rattle.resp_stream.proofs.Compose.{move_if, reader_then, reader_whole, reader_first, IsChoice}
+use Rattle.resp_stream.proofs.Compose.{IsMove, choice_if}
+use Rattle.resp_stream.proofs.Readers.{reader_feed, reader_only, reader_length, reader_counted}
+use Rattle.resp_stream.proofs.Readers.{reader_many, reader_text}
 use Rattle.std.proofs.Common.{◌≡◌, ℕ, List, [], ◌∷◌, ◌++◌, refl, sym, ◌∙◌, Bool, true, cond, Option}
 use Rattle.std.proofs.Common.{Some, None, lit<, lit≤, arith}
 use Rattle.std.specs.Prelude.{nat_eq}
@@ -8,10 +12,6 @@ use Rattle.resp_stream.specs.ReaderLaws.{IsReader}
 use Rattle.resp_stream.specs.Tokens.{IsRule, only_byte, length_at, line_move, line_at}
 use Rattle.resp_stream.specs.Request.{line_limit, words_rule, word_rule, words_after, inline_at}
 use Rattle.resp_stream.specs.Request.{sized, word_at, listed, array_at, request_begun}
-use Rattle.resp_stream.proofs.Compose.{reader_then, reader_whole, reader_first, IsChoice, IsMove}
-use Rattle.resp_stream.proofs.Compose.{choice_if}
-use Rattle.resp_stream.proofs.Readers.{reader_only, reader_length, reader_counted, reader_many}
-use Rattle.resp_stream.proofs.Readers.{reader_text, line_choices}
 
 pub words_ok : IsRule words_rule
 words_ok = record { limit = lit< tt; room = lit≤ tt; least = lit≤ tt }
@@ -102,7 +102,12 @@ reader_first_byte =
     reader_first by_first
     (λ c. choice_if (nat_eq c 42) (Go array_at) (lead (line_move true line_limit [] c))
     reader_array
-    (lead_choice (line_move true line_limit [] c) (line_choices true line_limit [] c))) 42
+    (lead_choice (line_move true line_limit [] c) (grind (
+      arith,
+      move_if,
+      reader_feed,
+      reader_whole,
+    )))) 42
     array_at refl
     reader_array
 

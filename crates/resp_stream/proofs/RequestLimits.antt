@@ -1,14 +1,13 @@
 -- A request under the limit of the whole, and behind empty ones.
 use Rattle.std.proofs.Common.{◌≡◌, ℕ, ◌+◌, ◌-◌, ◌<◌, ◌≤◌, List, [], ◌∷◌, refl, sym, ap, subst, ◌∙◌}
-use Rattle.std.proofs.Common.{Bool, cond, length, drop, arith, Ok}
-use Rattle.std.specs.Prelude.{nat_lt}
+use Rattle.std.proofs.Common.{length, drop, arith, Ok}
 use Rattle.std.proofs.lemmas.List.{length-drop, drop-drop}
 use Rattle.resp_stream.specs.declared.fault.Fault.{Fault}
 use Rattle.resp_stream.specs.declared.fault.Fault.TheVariants.{TooLong}
 use Rattle.resp_stream.specs.declared.request.Reading.{Reading}
 use Rattle.resp_stream.specs.declared.request.Reading.TheVariants as reading
 use Rattle.resp_stream.specs.Parsed.{Whole, More, Bad}
-use Rattle.resp_stream.specs.Tokens.{limited, at_limit}
+use Rattle.resp_stream.specs.Tokens.{limited}
 use Rattle.resp_stream.specs.Request.{whole_limit, request_begun, request_at, skip_empty}
 use Rattle.resp_stream.specs.RequestSteps.{RequestReadingGives, IsPast}
 use Rattle.resp_stream.proofs.RequestLaws.{reader_request}
@@ -16,14 +15,9 @@ use Rattle.resp_stream.proofs.Places.{bad_within}
 use Rattle.resp_stream.proofs.Skipping.{takes, skip_on, skip_more, skip_bad, skip_whole}
 use Rattle.resp_stream.proofs.Capped.{whole_within, whole_over, more_within, more_over}
 
-limited_by : (most o : ℕ) (g : Fault) (s t : Bool) → nat_lt most o ≡ s
-    → (cond {A = Fault × ℕ} s (TooLong (most + 1), most)
-    (cond {A = Fault × ℕ} t (g, o) (at_limit g most, o))).1 ≤ o
-limited_by most o g s t e = grind arith
-
 -- a fault under the limit is no later
 pub limited_le : (most o : ℕ) (g : Fault) → (limited most o g).1 ≤ o
-limited_le most o g = limited_by most o g (nat_lt most o) (nat_lt o most) refl
+limited_le most o g = grind arith
 
 pub bad_left : (text : List ℕ) (g : Fault) (left : ℕ)
     → ((r : List ℕ) × (request_begun text ≡ Bad g r) × (length r ≡ left)) → left ≤ length text
@@ -110,10 +104,7 @@ module _ (text rest : List ℕ) (passed : ℕ) (le : passed ≤ length text)
         omega (arith, h.0, rest_length, takes rest (drop taken rest) ws h.1, length-drop taken rest)
 
     pub empty_here : ws ≡ [] → skip_empty text ≡ skip_empty (drop (passed + taken) text)
-    empty_here none =
-        past ∙ ap skip_empty (sym back)
-        ∙ skip_on rest (drop taken rest)
-        (h.1 ∙ ap (λ (q : List (List ℕ)). Whole q (drop taken rest)) none) ∙ ap skip_empty rest_drop
+    empty_here none = grind (arith, skip_on, rest_drop)
 
 pub no_words : (ws : List (List ℕ)) → length ws ≡ 0 → ws ≡ []
 no_words [] e = refl

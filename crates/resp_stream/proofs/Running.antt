@@ -41,8 +41,7 @@ module _ (whole : ℕ) (text : List ℕ) (at room : ℕ) (fs : List Frame)
       subst (λ (x : Step). IsStep room rest x r) e h in
       let g = leaf_goes (tree_of v) r k in
       has_leaf whole text at (length text - length r) room fs (tree_of v) s (omega arith)
-      (ap (λ q. value_in room q) (sym back) ∙ k
-      ∙ ap (λ (q : List ℕ). Whole (tree_of v) q) (sym g.place))
+      (grind arith)
 
   pub step_counts : (st : Step) (kind : Kind) (n : ℕ) (r : List ℕ) → IsStep room rest st r
       → st ≡ Open kind n → (0 < n) × (0 < room)
@@ -60,17 +59,11 @@ module _ (whole : ℕ) (text : List ℕ) (at room : ℕ) (fs : List Frame)
       let same : (m : List ℕ) → value_in room (drop at text ++ m)
       ≡ (many (value_in o.inner) (suc f.left) (drop (length text - length r) text ++ m)
       >>= λ ts z. Whole (build kind ts) z) =
-      λ m. ap (λ (q : List ℕ). value_in room (q ++ m)) (sym back) ∙ o.same m
-      ∙ (λ i. many (value_in o.inner) (one i) (sym g.place i ++ m)
-      >>= λ ts z. Whole (build kind ts) z) in
+      λ m. grind arith in
       let w =
       opens whole text at (length text - length r) room o.inner f.left kind fs s (omega arith)
       o.room_is same in
-      subst (λ (q : List Frame). IsStack whole text (length text - length r) (room - 1) q)
-      (sym (pushed ys zs f ze))
-      (subst (λ (j : ℕ). IsStack whole text (length text - length r) j (f ∷ reverse ys)) two
-      (subst (λ (q : List Frame). IsStack whole text (length text - length r) o.inner q)
-      (λ i. (record { kind = sym ke i; left = f.left; done = sym de i }) ∷ fe i) w))
+      grind (arith, pushed, reverse)
 
   pub none_gives : value_in room rest ≡ More → value_in whole text ≡ More
   none_gives e = needs_more whole text at room fs s (ap (λ q. value_in room q) (sym back) ∙ e)

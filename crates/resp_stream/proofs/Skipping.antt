@@ -42,8 +42,7 @@ same_by b f g a h = grind arith
 steps_enough : (n m : ℕ) (b : List ℕ) → length b ≤ n → length b ≤ m
     → skip_empty_in n b ≡ skip_empty_in m b
 unfolding skip_empty_in
-steps_enough zero m b p q = ap (λ z. skip_empty_in 0 z) (empty_is b p) ∙ sym (no_bytes m)
-    ∙ ap (λ z. skip_empty_in m z) (sym (empty_is b p))
+steps_enough zero m b p q = grind (arith, empty_is, no_bytes)
 steps_enough (suc n) zero b p q =
     ap (λ z. skip_empty_in (suc n) z) (empty_is b q) ∙ no_bytes (suc n) ∙ sym (empty_is b q)
 steps_enough (suc n) (suc m) b p q =

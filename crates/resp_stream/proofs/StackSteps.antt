@@ -1,7 +1,7 @@
 -- The steps of a reader with a stack.
+use Rattle.std.proofs.lemmas.List.{take-append-le, length-append, drop-append-le}
 use Rattle.std.proofs.Common.{◌≡◌, ℕ, suc, ◌≤◌, List, [], ◌∷◌, ◌++◌, refl, sym, ap, ◌∙◌}
 use Rattle.std.proofs.Common.{append_assoc, length, drop, arith}
-use Rattle.std.proofs.lemmas.List.{length-append, drop-append-le}
 use Rattle.resp_value.specs.Tree.{Tree}
 use Rattle.resp_stream.specs.declared.fault.Fault.{Fault}
 use Rattle.resp_stream.specs.declared.stack.Frame.{Frame}
@@ -11,7 +11,7 @@ use Rattle.resp_stream.specs.Tokens.{many}
 use Rattle.resp_stream.specs.Value.{build, value_in}
 use Rattle.resp_stream.specs.ValueSteps.{rest_of, resume, IsStack, HasRead, LineSeen}
 use Rattle.resp_stream.proofs.Compose.{append_nil}
-use Rattle.resp_stream.proofs.Line.{passed_none, passed_grows}
+use Rattle.resp_stream.proofs.Line.{passed_none}
 use Rattle.resp_stream.proofs.ValueLaws.{reader_value}
 use Rattle.resp_stream.proofs.Places.{steady}
 
@@ -26,12 +26,10 @@ grow whole text piece at room fs s = grind (arith, length-append, append_assoc, 
 pub seen_none : (b : List ℕ) → LineSeen b 0
 seen_none b = grind (arith, passed_none)
 
-seen_more : (b piece : List ℕ) (seen : ℕ) → LineSeen b seen → LineSeen (b ++ piece) seen
-seen_more b piece seen h = grind (arith, seen_none, length-append, passed_grows)
-
 pub seen_grows : (text piece : List ℕ) (at seen : ℕ) → at ≤ length text
     → LineSeen (drop at text) seen → LineSeen (drop at (text ++ piece)) seen
-seen_grows text piece at seen le h = grind (arith, drop-append-le, seen_more)
+seen_grows text piece at seen le h =
+    grind (arith, drop-append-le, seen_none, length-append, take-append-le)
 
 pub has_leaf : (whole : ℕ) (text : List ℕ) (at next room : ℕ) (fs : List Frame) (t : Tree)
     → IsStack whole text at room fs → next ≤ length text

@@ -15,7 +15,7 @@ use Rattle.resp_stream.specs.ReaderStates.{stream_of, Kept, ValueState}
 use Rattle.resp_stream.specs.Value.{value_at}
 use Rattle.resp_stream.specs.ValueSteps.{IsStack, LineSeen}
 use Rattle.resp_stream.specs.Stream.{fed, offset_by, stream_fault}
-use Rattle.resp_stream.proofs.ReaderFaults.{none_is, fed_is, fault_by, not_memory}
+use Rattle.resp_stream.proofs.ReaderFaults.{none_is, not_memory}
 use Rattle.resp_stream.proofs.StackSteps.{begin, grow, seen_none, seen_grows}
 
 pub fresh : (input : Input) (p : ValueProgress) → p.at ≡ 0 → p.room ≡ 8 → p.seen ≡ 0
@@ -52,7 +52,7 @@ pub fed_by : (old new : Input) (piece : List ℕ) (p : ValueProgress)
     (r : Result (Unit {0}) NoMemory) → OnOk r (stream_of new ≡ fed (stream_of old) piece)
     → new.broken ≡ old.broken → OnErr r (new ≡ old) → ValueState old p → ValueState new p
 fed_by old new piece p (Ok u) e b f h =
-    subst (λ (i : Input). ValueState i p) (sym (fed_is old new piece e b))
+    subst (λ (i : Input). ValueState i p) (sym (grind arith))
     (fed_more old piece p (is_some old.broken) refl h)
 fed_by old new piece p (Err u) e b f h = subst (λ (i : Input). ValueState i p) (sym f) h
 
@@ -78,7 +78,7 @@ module _ (text : List ℕ) (i : Input) (at : ℕ) (g : Fault) (f : StreamFault)
 
   pub answers : (new : Input) → new ≡ record i { broken = Some f }
       → FaultGives value_at (stream_of i) (stream_of i) (stream_of new) f
-  answers new e = grind (arith, fault_by, memory, faulty)
+  answers new e = grind (arith, memory, faulty)
 
   pub keeps : (new : Input) → new ≡ record i { broken = Some f } → (p : ValueProgress) → p.at ≡ 0
       → p.room ≡ 8 → p.seen ≡ 0 → p.stack.items ≡ [] → ValueState new p

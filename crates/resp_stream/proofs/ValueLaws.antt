@@ -1,5 +1,5 @@
 -- Values are read by readers.
-use Rattle.std.proofs.Common.{◌≡◌, ℕ, zero, suc, ◌+◌, ◌-◌, ◌*◌, List, [], ◌∷◌, refl, Bool, true}
+use Rattle.std.proofs.Common.{◌≡◌, ℕ, zero, suc, ◌-◌, List, [], ◌∷◌, refl, Bool, true}
 use Rattle.std.proofs.Common.{false, cond, Option, Some, None, lit<, lit≤, arith, rules}
 use Rattle.std.specs.Prelude.{nat_lt, nat_eq}
 use Rattle.resp_stream.specs.declared.fault.Fault.TheVariants.{BadByte}
@@ -32,19 +32,11 @@ verbatim_ok = record { limit = lit< tt; room = lit≤ tt; least = lit≤ tt }
 blob_error_ok : IsRule blob_error_rule
 blob_error_ok = record { limit = lit< tt; room = lit≤ tt; least = lit≤ tt }
 
-pub rule_ok : (kind : Kind) → IsRule (rule_of kind)
-rule_ok kind = grind (arith, lit<, lit≤)
-
 -- ---- numbers
 
 number_moves : (most : ℕ) (s : Option Digits) (c : ℕ) → IsMove (number_move most s c)
 number_moves most None c = move_if (nat_lt c 48) _ _ tt (move_if (nat_lt 57 c) _ _ tt tt)
-number_moves most (Some s) c =
-    move_if (nat_eq c 13) _ _ (reader_feed s.made)
-    (move_if (nat_lt c 48) _ _ tt
-    (move_if (nat_lt 57 c) _ _ tt
-    (move_if (nat_lt s.count 19) _ _ (move_if (nat_lt most (s.made * 10 + (c - 48))) _ _ tt tt)
-    tt)))
+number_moves most (Some s) c = grind (arith, move_if, reader_feed)
 
 number_way : (most : ℕ) (s : Option Digits) → Completes (scan (number_move most) s) []
 unfolding only_byte
@@ -65,11 +57,7 @@ reader_number : IsReader number_at
 unfolding number_at
 reader_number =
     reader_first number_by
-    (λ c. choice_if (nat_eq c 43) _ _ (reader_signed false None)
-    (choice_if (nat_eq c 45) _ _ (reader_signed true None)
-    (choice_if (nat_lt c 48) _ _ tt
-    (choice_if (nat_lt 57 c) _ _ tt
-    (reader_signed false (Some (record { count = 1; made = c - 48 })))))))
+    (grind (arith, choice_if, reader_signed))
     43 (signed_at false None) refl (reader_signed false None)
 
 -- ---- values without elements
@@ -123,8 +111,7 @@ reader_truth =
     reader_first
     (λ c. cond (nat_eq c 116) (Go (ending (boolean true)))
     (cond (nat_eq c 102) (Go (ending (boolean false))) (Stop BadByte)))
-    (λ c. choice_if (nat_eq c 116) _ _ (reader_ending (boolean true))
-    (choice_if (nat_eq c 102) _ _ (reader_ending (boolean false)) tt)) 116
+    (grind (arith, choice_if, reader_ending)) 116
     (ending (boolean true)) refl (reader_ending (boolean true))
 
 pub reader_text : (make : List ℕ → Tree) → IsReader (text_at make)
@@ -150,7 +137,7 @@ reader_aggregate : (kind : Kind) (read : List ℕ → Parsed Tree) → IsReader 
 unfolding aggregate_at
 reader_aggregate kind read l =
     reader_then (length_at (rule_of kind)) (elements_at kind read)
-    (reader_length (rule_of kind) (rule_ok kind)) (reader_elements kind read l)
+    (reader_length (rule_of kind) (grind (arith, lit<, lit≤))) (reader_elements kind read l)
 
 choices : (aggregate : Kind → Choice Tree) → ((kind : Kind) → IsChoice (aggregate kind))
     → (m : TypeByte) (c : ℕ) → IsChoice (choice_of aggregate m c)

@@ -1,9 +1,8 @@
 -- The words of a request, one after the other.
 use Rattle.std.proofs.Common.{◌≡◌, ℕ, suc, ◌-◌, ◌<◌, List, [], ◌∷◌, ◌++◌, refl, sym, ap, ◌∙◌}
 use Rattle.std.proofs.Common.{append_assoc, length, drop, arith}
-use Rattle.std.proofs.lemmas.List.{length-append, drop-append-le}
 use Rattle.resp_stream.specs.declared.fault.Fault.{Fault}
-use Rattle.resp_stream.specs.Parsed.{Parsed, Whole, More, Bad, ◌>>=◌}
+use Rattle.resp_stream.specs.Parsed.{Whole, More, Bad}
 use Rattle.resp_stream.specs.Tokens.{only_byte, many}
 use Rattle.resp_stream.specs.Request.{word_at, request_begun}
 use Rattle.resp_stream.specs.RequestSteps.{with_more, HasWords}
@@ -11,15 +10,10 @@ use Rattle.resp_stream.proofs.Compose.{append_nil}
 use Rattle.resp_stream.proofs.RequestLaws.{reader_word}
 use Rattle.resp_stream.proofs.Places.{steady, Goes, reads_on}
 
-next_by : (ws : List (List ℕ)) (w : List ℕ) (a : Parsed (List (List ℕ)))
-    → ((a >>= λ ts s. Whole (w ∷ ts) s) >>= λ us s. Whole (ws ++ us) s)
-    ≡ (a >>= λ us s. Whole ((ws ++ w ∷ []) ++ us) s)
-next_by ws w a = grind (arith, append_assoc)
-
 next_word : (ws : List (List ℕ)) (k : ℕ) (b r w : List ℕ) → word_at b ≡ Whole w r
     → with_more ws (suc k) b ≡ with_more (ws ++ w ∷ []) k r
 unfolding with_more many
-next_word ws k b r w e = grind (arith, next_by)
+next_word ws k b r w e = grind (arith, append_assoc)
 
 more_words : (ws : List (List ℕ)) (k : ℕ) (b : List ℕ) → word_at b ≡ More
     → with_more ws (suc k) b ≡ More
@@ -43,10 +37,6 @@ no_word : word_at [] ≡ More
 unfolding word_at only_byte
 no_word = refl
 
-pub within_grows : (text piece : List ℕ) (at left : ℕ) (ws : List (List ℕ))
-    → HasWords text at left ws → HasWords (text ++ piece) at left ws
-within_grows text piece at left ws h = grind (arith, length-append, append_assoc, drop-append-le)
-
 module _ (text rest : List ℕ) (at left : ℕ) (ws : List (List ℕ)) (h : HasWords text at left ws)
     (back : rest ≡ drop at text) where
   here : request_begun text ≡ with_more ws left (drop at text)
@@ -62,29 +52,18 @@ module _ (text rest : List ℕ) (at left : ℕ) (ws : List (List ℕ)) (h : HasW
   word_on w r new lt e n =
       let g = word_goes w r e in
       let one : left ≡ suc (left - 1) = omega arith in
-      let f : word_at (drop at text) ≡ Whole w (drop (length text - length r) text) =
-      ap word_at (sym back) ∙ e ∙ ap (λ (q : List ℕ). Whole w q) (sym g.place) in
-      record {
-        within = omega arith;
-        same = λ m. h.same m ∙ ap (λ k. with_more ws k (drop at text ++ m)) one
-            ∙ next_word ws (left - 1) (drop at text ++ m) (drop (length text - length r) text ++ m)
-            w (steady word_at reader_word (drop at text) (drop (length text - length r) text) w
-            f m)
-            ∙ ap (λ q. with_more q (left - 1) (drop (length text - length r) text ++ m)) (sym n);
-      }
+      grind (arith, next_word, steady, reader_word)
 
   pub word_more : 0 < left → word_at rest ≡ More → request_begun text ≡ More
   word_more lt e =
       let one : left ≡ suc (left - 1) = omega arith in
-      here ∙ ap (λ k. with_more ws k (drop at text)) one
-      ∙ more_words ws (left - 1) (drop at text) (ap word_at (sym back) ∙ e)
+      grind (arith, here, more_words)
 
   pub word_bad : (r : List ℕ) (g : Fault) → 0 < left → word_at rest ≡ Bad g r
       → request_begun text ≡ Bad g r
   word_bad r g lt e =
       let one : left ≡ suc (left - 1) = omega arith in
-      here ∙ ap (λ k. with_more ws k (drop at text)) one
-      ∙ bad_word ws (left - 1) (drop at text) r g (ap word_at (sym back) ∙ e)
+      grind (arith, here, bad_word)
 
 pub words_all : (text : List ℕ) (at left : ℕ) (ws : List (List ℕ)) → HasWords text at left ws
     → left ≡ 0 → request_begun text ≡ Whole ws (drop at text)

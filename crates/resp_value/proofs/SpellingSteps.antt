@@ -26,8 +26,7 @@ one_more p (u ∷ ts) t = ap (λ (q : List ℕ). spelling p u ++ q) (one_more p 
 pub one_more_row : (p : Proto) (ps : List (Tree × Tree)) (k v : Tree)
     → row_spellings p (rows_of (ps ++ (k, v) ∷ []))
     ≡ row_spellings p (rows_of ps) ++ (spelling p k ++ spelling p v)
-one_more_row p [] k v = append_assoc (spelling p k) (spelling p v) []
-    ∙ ap (λ (q : List ℕ). spelling p k ++ q) (append_nil (spelling p v))
+one_more_row p [] k v = grind (arith, append_assoc, append_nil)
 one_more_row p (r ∷ ps) k v = simp (one_more_row p ps k v, append_assoc)
 
 pub one_more_blob : (ws : List (List ℕ)) (w : List ℕ)
@@ -43,8 +42,7 @@ snoc_at : {A : Type 0} (l : List A) (i : ℕ) (d : A) → i < length l → d ≡
 snoc_at l i d h e = rw add-one (take-suc l i d h ∙ ap (λ z. take i l ++ z ∷ []) (sym e))
 
 grown : (o m n x y z : List ℕ) → m ≡ o ++ x → n ≡ m ++ y → z ≡ x ++ y → n ≡ o ++ z
-grown o m n x y z e f g = f ∙ ap (λ (q : List ℕ). q ++ y) e ∙ append_assoc o x y
-    ∙ ap (λ (q : List ℕ). o ++ q) (sym g)
+grown o m n x y z e f g = grind (arith, append_assoc)
 
 pub blob_step : (ws : List (List ℕ)) (i : ℕ) (w w' out middle new : List ℕ) → i < length ws
     → w ≡ get_or ws i w → w' ≡ w → middle ≡ out ++ blob_spellings (take i ws)
@@ -95,7 +93,6 @@ pub pair_step : (p : Proto) (vs : List (Value × Value)) (ts : List (Tree × Tre
 pair_step p vs ts i v out middle between new w h e m b n =
     grown out middle new (row_spellings p (rows_of (take i ts)))
     (spelling p (tree_of v.0) ++ spelling p (tree_of v.1)) _ m
-    (n ∙ ap (λ (q : List ℕ). q ++ spelling p (tree_of v.1)) b
-    ∙ append_assoc middle (spelling p (tree_of v.0)) (spelling p (tree_of v.1)))
+    (grind (arith, append_assoc))
     (ap (λ q. row_spellings p (rows_of q)) (image_at trees vs ts i v w h e)
     ∙ one_more_row p (take i ts) (tree_of v.0) (tree_of v.1))

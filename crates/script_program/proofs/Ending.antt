@@ -1,15 +1,14 @@
 -- What the end of a session shows of its log and of its tickets.
 use Rattle.std.proofs.Common.{◌≡◌, ◌≤◌, inl, inr, ℕ, suc, zero, List, [], ◌∷◌, Bool}
 use Rattle.std.proofs.Common.{true, false, cond, refl, sym, subst, arith}
-use Rattle.std.specs.Prelude.{Option, Some, ◌⊎◌, ◌&&◌, ◌||◌, ◌==◌, ◌-◌, not, ⊤}
+use Rattle.std.specs.Prelude.{Option, Some, ◌⊎◌, ◌||◌, ◌==◌, ◌-◌, ⊤}
 use Rattle.turn_lock.specs.History.{IsPrefix}
 use Rattle.turn_lock.specs.declared.rule.TheConstants.{LAST_TICKET}
 use Rattle.shared_cache.specs.declared.log.LogEntry.{LogEntry}
 use Rattle.shared_cache.specs.declared.log.ClientRefusal.{ClientRefusal}
 use Rattle.shared_cache.specs.declared.log.ClientRefusal.TheVariants as refusal
 use Rattle.shared_cache.specs.Held.{Setup}
-use Rattle.shared_cache.specs.Steps.{client_step}
-use Rattle.shared_cache.specs.Steps.{is_log_full}
+use Rattle.shared_cache.specs.Steps.{client_step, is_log_full}
 use Rattle.shared_client.specs.Turns.{Turn}
 use Rattle.client_link.specs.declared.pump_end.PumpEnd.{PumpEnd}
 use Rattle.client_link.specs.declared.pump_end.PumpEnd.TheVariants as pumped
@@ -28,9 +27,8 @@ use Rattle.script_run.specs.declared.reports.SessionEnd.TheVariants as ended
 use Rattle.script_run.specs.declared.reports.Tally.{Tally}
 use Rattle.script_run.specs.Lines.{AllCame, Came, NoAnswer, RefusedBy, ThreadsCame, Unplayed}
 use Rattle.script_run.specs.Lines.{call_for, calls_of}
-use Rattle.script_run.specs.Reports.{ends_of, first_at, first_of, line_end, no_tally}
-use Rattle.script_run.specs.Reports.{note_end, refused_end, rest_at, rest_of}
-use Rattle.script_run.specs.Reports.{tally_after}
+use Rattle.script_run.specs.Reports.{ends_of, first_at, line_end, no_tally, note_end, refused_end}
+use Rattle.script_run.specs.Reports.{rest_at, tally_after}
 use Rattle.script_run.specs.Session.{AnyDown, EndsLink, HasDown, PumpedBy, Session}
 use Rattle.script_run.proofs.Sessions.{Answered}
 use Rattle.script_program.specs.Written.{EndShows, Reports}
@@ -90,9 +88,7 @@ module _ (x : LineEnd) where
   all_show s (c ∷ cs) (a ∷ rs) ts log t h d =
       let i = h.3 in
       elim d [
-        | inl is ↦ shows_more x s i.seen log i.ticket t i.begins i.not_more
-            (subst (λ y. LineShows y s i.seen i.ticket) is
-            (came_shows s c a h.0 i.seen i.ticket i.came))
+        | inl is ↦ grind (arith, shows_more, came_shows)
         | inr is ↦ all_show s cs rs h.1 log t h.4 is
       ]
 
@@ -107,23 +103,15 @@ module _ (x : LineEnd) where
       ]
 
   module _ (some : x ≡ line.NoMemory → ⊥) where
-    first_ends : (rs : List Answer) → line_end (first_of rs) ≡ x → AnyEnds rs
-    first_ends [] h = absurd (some (sym h))
-    first_ends (a ∷ rs) h = inl h
-
     first_has : (place : ℕ) (all : List (List Answer)) → line_end (first_at place all) ≡ x
         → HasEnds all
     first_has place [] h = absurd (some (sym h))
-    first_has zero (rs ∷ all) h = inl (first_ends rs h)
+    first_has zero (rs ∷ all) h = inl (grind arith)
     first_has (suc place) (rs ∷ all) h = inr (first_has place all h)
-
-    rest_ends : (rs : List Answer) → AnyEnds (rest_of rs) → AnyEnds rs
-    rest_ends [] h = h
-    rest_ends (a ∷ rs) h = inr h
 
     rest_has : (place : ℕ) (all : List (List Answer)) → HasEnds (rest_at place all) → HasEnds all
     rest_has place [] h = h
-    rest_has zero (rs ∷ all) h = elim h [ inl i ↦ inl (rest_ends rs i) | inr i ↦ inr i ]
+    rest_has zero (rs ∷ all) h = elim h [ inl i ↦ inl (grind arith) | inr i ↦ inr i ]
     rest_has (suc place) (rs ∷ all) h =
         elim h [ inl i ↦ inl i | inr i ↦ inr (rest_has place all i) ]
 
@@ -167,53 +155,26 @@ has_down (rs ∷ all) h = elim h [ inl is ↦ inl (any_down rs is) | inr is ↦ 
 
 -- ---- why a session ends so
 
--- a line was down, and the pump's end is none of 6 and 7
-link_in : (down some six full seven worn eight : Bool) (n m : ℕ)
-    → cond (not down && (not some && (not full && not worn))) ended.Done
-    (cond (some || six) ended.NoMemory (cond (full || seven) ended.HistoryFull
-    (cond (worn || eight) ended.Worn (ended.LinkEnded n)))) ≡ ended.LinkEnded m
-    → (down ≡ true) × (six ≡ false) × (seven ≡ false) × (n ≡ m)
-link_in down some six full seven worn eight n m h = grind arith
-
-by_link : (end : PumpEnd) → EndsLink end → (end_number end == 6) ≡ false
-    → (end_number end == 7) ≡ false → (1 ≤ end_number end) × (end_number end ≤ 4)
-by_link end e six seven = grind arith
-
 full_in : (all some full by worn : Bool) (n : ℕ)
     → cond all ended.Done (cond some ended.NoMemory (cond (full || by) ended.HistoryFull
     (cond worn ended.Worn (ended.LinkEnded n)))) ≡ ended.HistoryFull
     → (full ≡ true) ⊎ (by ≡ true)
 full_in all some full by worn n h = grind arith
 
-worn_in : (all some full worn by : Bool) (n : ℕ)
-    → cond all ended.Done (cond some ended.NoMemory (cond full ended.HistoryFull
-    (cond (worn || by) ended.Worn (ended.LinkEnded n)))) ≡ ended.Worn
-    → (worn ≡ true) ⊎ (by ≡ true)
-worn_in all some full worn by n h = grind arith
-
-seven_full : (end : PumpEnd) → (end_number end == 7) ≡ true → end ≡ pumped.LogFull
-seven_full end is = grind arith
-
-eight_worn : (end : PumpEnd) → (end_number end == 8) ≡ true → end ≡ pumped.Worn
-eight_worn end is = grind arith
-
 module _ (s : Setup) (left0 left1 link0 link1 : Option (List ℕ)) (turns : List Turn)
     (log : List LogEntry) (tickets : ℕ) where
   abbrev By : PumpEnd → Type 0
   By end = PumpedBy s end left0 left1 link0 link1 turns log tickets
-
-  full_pump : By pumped.LogFull → is_log_full s log ≡ true
-  full_pump k = grind (arith, full_begins)
 
   worn_pump : By pumped.Worn → LAST_TICKET ≤ tickets
   worn_pump k =
       let le = k.not_more in let last = k.pumps.finishes.1 in omega (arith, le, last)
 
   by_full : (end : PumpEnd) → (end_number end == 7) ≡ true → By end → is_log_full s log ≡ true
-  by_full end is k = full_pump (subst By (seven_full end is) k)
+  by_full end is k = grind (arith, full_begins, By)
 
   by_worn : (end : PumpEnd) → (end_number end == 8) ≡ true → By end → LAST_TICKET ≤ tickets
-  by_worn end is k = worn_pump (subst By (eight_worn end is) k)
+  by_worn end is k = worn_pump (subst By (grind arith) k)
 
 module _ (s : Setup) (lines : List ScriptLine) (answers : List (List Answer)) (pump : PumpEnd)
     (left0 left1 link0 link1 : Option (List ℕ)) (log : List LogEntry) (tickets : ℕ)
@@ -248,11 +209,11 @@ module _ (s : Setup) (lines : List ScriptLine) (answers : List (List Answer)) (p
 
   pub end_shows : (e : SessionEnd) (text : List ℕ) → Reports lines answers pump e text
       → EndShows e s log tickets
-  end_shows (ended.LinkEnded n) text h = grind (arith, link_in, by_link, told_down)
+  end_shows (ended.LinkEnded n) text h = grind (arith, told_down)
   end_shows ended.HistoryFull text h =
       elim (full_in _ _ all.log_full (end_number pump == 7) _ _ (sym h.1)) [
         | inl told ↦ told_full told
         | inr by ↦ by_full s left0 left1 link0 link1 k.pumped log tickets pump by k.pumps
       ]
-  end_shows ended.Worn text h = grind (arith, worn_in, told_worn, by_worn)
+  end_shows ended.Worn text h = grind (arith, told_worn, by_worn)
   end_shows e text h = tt

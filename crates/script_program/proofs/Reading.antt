@@ -1,6 +1,6 @@
 -- Some lines of a script that were read, and more.
 use Rattle.std.proofs.Common.{◌≡◌, ◌<◌, ◌≤◌, ◌+◌, ℕ, List, [], ◌∷◌, ◌++◌, Some, None, Ok, Err}
-use Rattle.std.proofs.Common.{refl, sym, ap, subst, ◌∙◌, append_assoc, append-nil, length, arith}
+use Rattle.std.proofs.Common.{sym, ap, subst, ◌∙◌, append_assoc, append-nil, length, arith}
 use Rattle.std.proofs.Common.{length-append, Result}
 use Rattle.std.specs.Prelude.{IfSome, ⊤}
 use Rattle.std.proofs.lemmas.Bool.Decides.{nat_tests}
@@ -33,13 +33,11 @@ all_then calls (Ok more) = Ok (calls ++ more)
 all_then calls (Err bad) = Err bad
 
 all_none : (r : Result (List ScriptLine) ℕ) → all_then [] r ≡ r
-all_none (Ok more) = refl
-all_none (Err bad) = refl
+all_none r = grind arith
 
 all_more : (calls : List ScriptLine) (line : ScriptLine) (n : ℕ) (r : Result (List ScriptLine) ℕ)
     → all_then calls (line_then (Some line) n r) ≡ all_then (calls ++ line ∷ []) r
-all_more calls line n (Ok more) = ap Ok (sym (append_assoc calls (line ∷ []) more))
-all_more calls line n (Err bad) = refl
+all_more calls line n r = grind (arith, append_assoc)
 
 -- these lines were read, each with its LF, and are these calls; the next has this number
 pub record Standing (number : ℕ) (calls : List ScriptLine) (in0 in1 : Option (List ℕ)) : Type 0
@@ -89,8 +87,7 @@ module _ (number : ℕ) (calls : List ScriptLine) (in0 in1 in2 : Option (List �
   pub ends_here : Consumes in1 in2 [] → IsAtEnd in2
       → IfSome in0 (λ text. script_of 1 (text_lines text) ≡ Ok calls)
   ends_here c end = whole_lines [] c (λ ls. script_of 1 ls ≡ Ok calls)
-      (λ rest none. ap (λ r. script_of 1 (s.lines ++ text_lines r)) (none end)
-      ∙ s.then [] ∙ ap Ok (append-nil calls))
+      (grind (arith, append-nil))
 
   pub ends_last : (text items : List ℕ) (line : ScriptLine) (new : List ScriptLine)
       → text ≡ items → IsPlain items → (items ≡ [] → ⊥) → Consumes in1 in2 items → IsAtEnd in2
@@ -98,36 +95,21 @@ module _ (number : ℕ) (calls : List ScriptLine) (in0 in1 in2 : Option (List �
       → IfSome in0 (λ t. script_of 1 (text_lines t) ≡ Ok new)
   ends_last text items line new same p some c end is new_is =
       whole_lines items c (λ ls. script_of 1 ls ≡ Ok new)
-      (λ rest none. ap (λ r. script_of 1 (s.lines ++ text_lines (items ++ r))) (none end)
-      ∙ ap (λ r. script_of 1 (s.lines ++ text_lines r)) (append-nil items)
-      ∙ ap (λ ls. script_of 1 (s.lines ++ ls)) (line_alone items p some)
-      ∙ line_then_more items line [] (subst (λ t. line_at number t ≡ Some line) same is)
-      ∙ ap Ok (append-nil (calls ++ line ∷ [])) ∙ ap Ok (sym new_is))
-
-  -- the next line, and what is behind it, where it is outside the grammar
-  bad_next : (line : List ℕ) (more : List (List ℕ)) → line_at number line ≡ None
-      → script_of 1 (s.lines ++ line ∷ more) ≡ Err number
-  bad_next line more none = grind arith
+      (grind (arith, append-nil, line_alone, line_then_more))
 
   pub bad_line : (text items : List ℕ) → text ≡ items → IsPlain items
       → Consumes in1 in2 (items ++ 10 ∷ []) → line_at number text ≡ None
       → IfSome in0 (λ t. script_of 1 (text_lines t) ≡ Err number)
   bad_line text items same p c none =
       whole_lines (items ++ 10 ∷ []) c (λ ls. script_of 1 ls ≡ Err number)
-      (λ rest end. ap (λ l. script_of 1 (s.lines ++ text_lines l))
-      (append_assoc items (10 ∷ []) rest)
-      ∙ ap (λ ls. script_of 1 (s.lines ++ ls)) (line_ended items rest p)
-      ∙ bad_next items (text_lines rest) (subst (λ t. line_at number t ≡ None) same none))
+      (grind (arith, append_assoc, line_ended))
 
   pub bad_last : (text items : List ℕ) → text ≡ items → IsPlain items → (items ≡ [] → ⊥)
       → Consumes in1 in2 items → IsAtEnd in2 → line_at number text ≡ None
       → IfSome in0 (λ t. script_of 1 (text_lines t) ≡ Err number)
   bad_last text items same p some c end none =
       whole_lines items c (λ ls. script_of 1 ls ≡ Err number)
-      (λ rest at. ap (λ r. script_of 1 (s.lines ++ text_lines (items ++ r))) (at end)
-      ∙ ap (λ r. script_of 1 (s.lines ++ text_lines r)) (append-nil items)
-      ∙ ap (λ ls. script_of 1 (s.lines ++ ls)) (line_alone items p some)
-      ∙ bad_next items [] (subst (λ t. line_at number t ≡ None) same none))
+      (grind (arith, append-nil, line_alone))
 
   pub bad_long : (part : List ℕ) → IsPlain part → longest_line < length part
       → Consumes in1 in2 part → IfSome in0 (λ t. script_of 1 (text_lines t) ≡ Err number)
@@ -136,15 +118,9 @@ module _ (number : ℕ) (calls : List ScriptLine) (in0 in1 in2 : Option (List �
       (λ rest at.
       let some : part ≡ [] → ⊥ = λ e. (let n : length part ≡ 0 = ap length e in omega arith) in
       let k = line_begun part rest p some in
-      ap (λ ls. script_of 1 (s.lines ++ ls)) k.2
-      ∙ bad_next (part ++ k.0) k.1 (too_long number (part ++ k.0)
-      (let n = length-append part k.0 in omega arith)))
+      grind (arith, too_long, length-append))
 
 -- ---- one line
-
-pub line_valid : (n : ℕ) (text : List ℕ) (line : ScriptLine) → line_at n text ≡ Some line
-    → IsValidLine line
-line_valid n text line is = grind (arith, script_lines_are_valid)
 
 -- a line of the grammar is not past the last number
 pub numbered : (n : ℕ) (text : List ℕ) (line : ScriptLine) → line_at n text ≡ Some line
@@ -157,13 +133,12 @@ pub pushed_valid : (n : ℕ) (text : List ℕ) (line : ScriptLine) (calls new : 
 pushed_valid n text line calls new is new_is all =
     subst (All IsValidLine) (sym new_is)
     (All-append IsValidLine calls (line ∷ []) all
-    (All-cons IsValidLine line [] (line_valid n text line is) (All-nil IsValidLine)))
+    (All-cons IsValidLine line [] (grind (arith, script_lines_are_valid)) (All-nil IsValidLine)))
 
 -- ---- a line that was not added
 
 always : (o : Option (List ℕ)) → IfSome o (λ t. ⊤)
-always None = tt
-always (Some x) = tt
+always o = grind arith
 
 module _ (number : ℕ) (calls : List ScriptLine) (in0 in1 in2 : Option (List ℕ))
     (s : Standing number calls in0 in1) where

@@ -1,5 +1,5 @@
 -- What is written of a script's run.
-use Rattle.std.proofs.Common.{◌≡◌, ℕ, List, [], ◌++◌, Some, None, Ok, Result, refl, append-nil}
+use Rattle.std.proofs.Common.{arith, ◌≡◌, ℕ, List, ◌++◌, Ok, Result, refl, append-nil}
 use Rattle.std.specs.Prelude.{IfSome}
 use Rattle.std.specs.declared.option.Option.{Option}
 use Rattle.resp_value.proofs.Prefixes.{prefix_by}
@@ -14,11 +14,9 @@ use Rattle.client_link.specs.Pumps.{end_number}
 use Rattle.script_text.specs.declared.script_line.ScriptLine.{ScriptLine}
 use Rattle.script_run.specs.declared.answer.Answer.{Answer}
 use Rattle.script_run.specs.declared.reports.SessionEnd.{SessionEnd}
-use Rattle.script_run.specs.declared.reports.SessionEnd.TheVariants as ended
 use Rattle.script_run.specs.Reports.{end_text, ends_of, no_tally, session_end, tally_after}
 use Rattle.script_run.specs.Reports.{text_after}
 use Rattle.script_program.specs.declared.run.ScriptEnd.{ScriptEnd}
-use Rattle.script_program.specs.declared.run.ScriptEnd.TheVariants as end
 use Rattle.script_program.specs.declared.run.ScriptSession.{ScriptSession}
 use Rattle.script_program.specs.Scripts.{script_of}
 use Rattle.script_program.specs.Written.{Reports, SessionWrites, WritesScript}
@@ -34,9 +32,7 @@ pub reported : (lines : List ScriptLine) (answers : List (List Answer)) (pump : 
     (e : SessionEnd) (text : List ℕ) → text ≡ text_after no_tally 1 (ends_of lines answers)
     → e ≡ session_end (tally_after no_tally (ends_of lines answers)) (end_number pump)
     → Reports lines answers pump e text
-reported lines answers pump ended.NoMemory text t e =
-    (ends_of lines answers, ([], append-nil (ends_of lines answers)), t)
-reported lines answers pump x text t e = (t, e)
+reported lines answers pump x text t e = grind (arith, append-nil)
 
 pub played_writes : {L : Type 0} (left contents : L → Option (List ℕ)) (counts : L → Counts)
     (capacity : ℕ) (lines : List ScriptLine) (input : Option (List ℕ))
@@ -46,15 +42,5 @@ pub played_writes : {L : Type 0} (left contents : L → Option (List ℕ)) (coun
     → IfSome input (λ bytes. script_of 1 (text_lines bytes) ≡ Ok lines) → EndCounted in0 in1
     → net1 ≡ net0
     → WritesScript left contents counts capacity input session answer in0 in1 net0 net1 out0 out1
-played_writes left contents counts capacity lines input None answer in0 in1 net0 net1 out0 out1 w
-    known counted net =
-    record { end = end.NoMemory; text = []; comes = refl; rests = (counted.1, net); writes = w }
-played_writes left contents counts capacity lines input (Some s) answer in0 in1 net0 net1 out0 out1
-    w known counted net =
-    record {
-      end = end.Played w.0;
-      text = w.1;
-      comes = (lines, w.2, known);
-      rests = (counted.0, net);
-      writes = w.3;
-    }
+played_writes left contents counts capacity lines input session answer in0 in1 net0 net1 out0 out1
+    w known counted net = grind arith

@@ -159,10 +159,7 @@ module _ (u : ClientSetup) (lines : List ScriptLine) (answers : List (List Answe
       subst (λ z. IsPrefix x z) (sym log_is) p in
       let le_p : calls.played.tickets ≤ t = omega (arith, last.grows.tickets, tickets_b, le) in
       let came : ThreadsCame s lines 1 answers calls.plays.turns (past_of calls.played) t =
-      threads_grow s lines 1 answers calls.plays.turns (past_of calls.played)
-      (past_of calls.played) calls.played.tickets t
-      (subst (λ z. ThreadsCame z lines 1 answers calls.plays.turns (past_of calls.played)
-      calls.played.tickets) s_callers calls.plays.came) ([], refl) le_p in
+      grind (arith, threads_grow, s, s_callers) in
       let by : PumpedBy s end left0 left1 link0 link1 pumped log t = record {
         before = ours;
         after = a;

@@ -1,5 +1,5 @@
 -- One line of a script: its turns, and how its answer came by them.
-use Rattle.std.proofs.Common.{◌≡◌, ℕ, List, [], ◌∷◌, true, false, Some, refl, sym, ap, subst, arith}
+use Rattle.std.proofs.Common.{◌≡◌, ℕ, List, [], ◌∷◌, true, false, refl, sym, ap, arith}
 use Rattle.turn_lock.specs.History.{IsPrefix}
 use Rattle.seat_turns.specs.Own.{past_of, Grows}
 use Rattle.seat_turns.proofs.Growing.{grows_then, grows_past}
@@ -11,12 +11,11 @@ use Rattle.shared_cache.specs.declared.log.ClientCall.{ClientCall}
 use Rattle.shared_cache.specs.declared.log.ClientCall.TheVariants as call
 use Rattle.shared_cache.specs.declared.log.ClientReply.{ClientReply}
 use Rattle.shared_cache.specs.declared.log.ClientRefusal.{ClientRefusal}
-use Rattle.shared_cache.specs.Log.{reply as reply_of}
 use Rattle.shared_client.specs.Turns.{Place, Turn, setup_at, setup_in, Adds, Refuses}
 use Rattle.script_text.specs.declared.script_line.ScriptCall.{ScriptCall}
 use Rattle.script_text.specs.declared.script_line.ScriptCall.TheVariants.{Ask, Do}
 use Rattle.client_link.specs.declared.callers.Fetched.{Fetched}
-use Rattle.client_link.specs.Callers.{Fails, Hits, Reads, Fetches, Unanswered, FetchFails, NotAsked}
+use Rattle.client_link.specs.Callers.{Fails, Reads, Fetches, Unanswered, FetchFails, NotAsked}
 use Rattle.client_link.specs.Callers.{NoReply, Sends, SendFails}
 use Rattle.script_run.specs.declared.answer.Answer.TheVariants.{Hit, Read, Reply, Refused}
 use Rattle.script_run.specs.Lines.{call_for, entry_for, Between, RefusedSo, RefusedBy, PlaysLine}
@@ -75,10 +74,6 @@ setup_kept : (old new : Place) (ts : List Turn) → Grows old new ts
     → setup_at new ≡ setup_at old
 setup_kept old new ts g = ap setup_in g.setup
 
-hit_line : (q : List (List ℕ)) (f : Fetched) (old new : Place) → Hits q f old new
-    → PlaysLine (Ask q) (Hit f.number f.value) old new
-hit_line q f old new h = grind (arith, one)
-
 read_line : (q : List (List ℕ)) (f : Fetched) (old new : Place) → Reads q f old new
     → PlaysLine (Ask q) (Read f.number f.value) old new
 read_line q f old new h =
@@ -89,20 +84,12 @@ read_line q f old new h =
       grows = grows_then old h.sent new ((entry.Ask q, h.asks.past) ∷ [])
           ((entry.Poll n, polls.past) ∷ []) h.asks.grows polls.grows;
       between = two (call.Ask q) (entry.Ask q) old h.sent new h.asks polls;
-      came = record {
-        past = h.asks.past;
-        later = polls.past;
-        turns_are = refl;
-        not_held = h.not_held;
-        number_is = h.number_is;
-        reply_is = subst (λ s. reply_of s.mode polls.past n ≡ Some f.value)
-            (setup_kept old h.sent _ h.asks.grows) h.answers.reply_is;
-      };
+      came = grind (arith, setup_kept);
     }
 
 pub fetched_hit : (q : List (List ℕ)) (f : Fetched) (old new : Place) → Fetches q f old new
     → f.from_cache ≡ true → PlaysLine (Ask q) (Hit f.number f.value) old new
-fetched_hit q f old new h is = hit_line q f old new (h.0 is)
+fetched_hit q f old new h is = grind (arith, one)
 
 pub fetched_read : (q : List (List ℕ)) (f : Fetched) (old new : Place) → Fetches q f old new
     → f.from_cache ≡ false → PlaysLine (Ask q) (Read f.number f.value) old new
@@ -118,15 +105,7 @@ sent_line ws v old new h =
       grows = grows_then old h.sent new ((entry.Send ws, h.sends.past) ∷ [])
           ((entry.Poll n, polls.past) ∷ []) h.sends.grows polls.grows;
       between = two (call.Send ws) (entry.Send ws) old h.sent new h.sends polls;
-      came = record {
-        number = n;
-        past = h.sends.past;
-        later = polls.past;
-        turns_are = refl;
-        number_is = h.number_is;
-        reply_is = subst (λ s. reply_of s.mode polls.past n ≡ Some v)
-            (setup_kept old h.sent _ h.sends.grows) h.answers.reply_is;
-      };
+      came = grind (arith, setup_kept);
     }
 
 record RefusedLine (c : ScriptCall) (r : ClientRefusal) (old new : Place) : Type 0 where
@@ -156,8 +135,7 @@ unanswered c r old new h =
       grows = grows_then old h.sent new ((entry_for c, past) ∷ []) [] h.sends.grows w.grows;
       between = one_then (call_for c) (entry_for c) old h.sent new h.sends w.grows;
       how = NoAnswer h.number past refl h.sends.step
-          (subst (λ s. RefusedSo s (call.Poll h.number) r (past_of new) new.tickets)
-          (setup_kept old h.sent _ h.sends.grows) w.why);
+          (grind (arith, setup_kept));
     }
 
 asked_refused : (q : List (List ℕ)) (r : ClientRefusal) (old new : Place)

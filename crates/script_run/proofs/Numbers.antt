@@ -1,45 +1,37 @@
 -- No caller is told that there is no such number: each number is issued once in a log, and its
 -- caller alone asks for the reply, once.
 use Rattle.std.proofs.Common.{◌≡◌, ◌≤◌, ◌<◌, ◌+◌, ◌-◌, ◌==◌, ◌&&◌, ℕ, suc, List, [], ◌∷◌, ◌++◌}
-use Rattle.std.proofs.Common.{Bool, true, false, not, cond, length, Option, Some, None, refl, sym}
-use Rattle.std.proofs.Common.{ap, subst, ◌∙◌, arith, append-nil, append_assoc, length-append}
-use Rattle.std.proofs.Common.{ne_eqb}
+use Rattle.std.proofs.Common.{Bool, true, false, cond, length, Some, None, refl, sym, ap, subst}
+use Rattle.std.proofs.Common.{◌∙◌, arith, append-nil, append_assoc, length-append, ne_eqb}
 use Rattle.std.specs.Prelude.{nat_lt, nat_le}
-use Rattle.std.specs.List.{All, slice_get}
+use Rattle.std.specs.List.{slice_get}
 use Rattle.std.proofs.lemmas.Bool.Decides.{nat_tests}
 use Rattle.turn_lock.specs.Counts.{total}
 use Rattle.turn_lock.specs.History.{IsPrefix}
-use Rattle.seat_turns.proofs.Owning.{total-append}
 use Rattle.seat_turns.proofs.Turning.{begins_trans}
-use Rattle.resp_value.specs.declared.value.Value.{Value}
 use Rattle.command_words.specs.Queries.{key_of}
-use Rattle.shared_cache.specs.declared.log.Wire.TheVariants.{Main}
 use Rattle.shared_cache.specs.declared.log.LogEntry.{LogEntry}
 use Rattle.shared_cache.specs.declared.log.LogEntry.TheVariants as entry
 use Rattle.shared_cache.specs.declared.log.ClientCall.TheVariants as call
 use Rattle.shared_cache.specs.declared.log.ClientReply.TheVariants as reply
 use Rattle.shared_cache.specs.declared.log.ClientRefusal.{ClientRefusal}
 use Rattle.shared_cache.specs.declared.log.ClientRefusal.TheVariants as refusal
-use Rattle.shared_cache.specs.declared.entry.CacheEntry.{CacheEntry}
 use Rattle.shared_cache.specs.Log.{caching_on_for}
 use Rattle.shared_cache.specs.Held.{Setup, Words, SentCommand, Caller, put_ask, put_command, held}
 use Rattle.shared_cache.specs.Held.{held_for, numbers, sent}
-use Rattle.shared_cache.specs.Out.{is_polled, is_wanted, was_given, is_callers}
-use Rattle.shared_cache.specs.Steps.{client_step, refusing, answer_ask, read_number, command_number}
-use Rattle.shared_cache.specs.Steps.{polling}
+use Rattle.shared_cache.specs.Out.{is_polled, is_wanted, was_given}
+use Rattle.shared_cache.specs.Steps.{client_step, read_number, command_number}
 use Rattle.shared_cache.proofs.HeldSteps.{sent_miss}
-use Rattle.shared_client.specs.Turns.{Place, Turn}
+use Rattle.shared_client.specs.Turns.{Turn}
 use Rattle.script_text.specs.declared.script_line.ScriptCall.{ScriptCall}
 use Rattle.script_text.specs.declared.script_line.ScriptCall.TheVariants.{Ask, Do}
 use Rattle.script_text.specs.declared.script_line.ScriptLine.{ScriptLine}
-use Rattle.client_link.specs.declared.pump_end.PumpEnd.{PumpEnd}
-use Rattle.client_link.specs.Pumps.{IsWork, IsEnd, Finishes}
 use Rattle.script_run.specs.declared.answer.Answer.{Answer}
 use Rattle.script_run.specs.declared.answer.Answer.TheVariants.{Hit, Read, Reply, Refused}
 use Rattle.script_run.specs.Lines.{call_for, entry_for, Between, RefusedBy, Unplayed, NoAnswer}
 use Rattle.script_run.specs.Lines.{Came, AllCame, ThreadsCame}
-use Rattle.script_run.specs.Session.{turns_in, ClosedBy}
-use Rattle.script_run.proofs.Totals.{parts_total, prefix_total, works_none}
+use Rattle.script_run.specs.Session.{turns_in}
+use Rattle.script_run.proofs.Totals.{parts_total, prefix_total}
 
 -- ---- how often a number is asked for
 
@@ -68,25 +60,6 @@ module _ (n : ℕ) where
   abbrev f : Turn → ℕ
   f = polls n
 
-  work_polls : (e : LogEntry) (past : List LogEntry) → IsWork (e, past) → f (e, past) ≡ 0
-  work_polls e past h = grind arith
-
-  end_polls : (ending : List Turn) → IsEnd ending → total f ending ≡ 0
-  end_polls ending h = grind arith
-
-  finish_polls : (end : PumpEnd) (s : Setup) (ending : List Turn) (k : Place)
-      → Finishes end s ending k → total f ending ≡ 0
-  finish_polls end s ending k h = grind (arith, end_polls)
-
-  pub pump_polls : (end : PumpEnd) (s : Setup) (ending ts : List Turn) (k : Place)
-      → Finishes end s ending k → All IsWork ts → total f (ending ++ ts) ≡ 0
-  pump_polls end s ending ts k h w =
-      grind (arith, total-append, finish_polls, works_none, work_polls)
-
-  pub closing_polls : (s : Setup) (ts : List Turn) (seen log : List LogEntry) (t : ℕ)
-      → ClosedBy s ts seen log t → total f ts ≡ 0
-  closing_polls s ts seen log t h = grind arith
-
 -- ---- how often a number is issued
 
 get_behind : (xs ys : List SentCommand) (c : SentCommand)
@@ -110,9 +83,6 @@ module _ (s : Setup) where
       let t = sent_step e (more ++ log) in
       (r.0 ++ t.0, t.1 ∙ ap (λ z. z ++ t.0) r.1 ∙ append_assoc (sent s log) r.0 t.0)
 
-  numbers_grow : (e : LogEntry) (log : List LogEntry) → numbers s log ≤ numbers s (e ∷ log)
-  numbers_grow e log = grind (arith, sent_step, length-append)
-
   -- the turn puts one command on the wire, with that number
   record Issues (e : LogEntry) (past : List LogEntry) (number : ℕ) : Type 0 where
     words : Words
@@ -123,16 +93,6 @@ module _ (s : Setup) where
   -- 1 for a turn that issues the number
   abbrev pub issues : ℕ → Turn → ℕ
   issues n t = cond (nat_lt (numbers s t.1) n && nat_le n (numbers s (t.0 ∷ t.1))) 1 0
-
-  issues_one : (e : LogEntry) (past : List LogEntry) (number : ℕ) → Issues e past number
-      → issues number (e, past) ≡ 1
-  issues_one e past number i = grind (arith, length-append, nat_tests)
-
-  within_one : (b : Bool) → cond {A = ℕ} b 1 0 ≤ 1
-  within_one b = grind (arith, nat_tests)
-
-  not_late : (a n : ℕ) (b : Bool) → n ≤ a → cond {A = ℕ} (nat_lt a n && b) 1 0 ≡ 0
-  not_late a n b le = grind arith
 
   not_early : (a : Bool) (b n : ℕ) → b < n → cond {A = ℕ} (a && nat_le n b) 1 0 ≡ 0
   not_early a b n lt = grind arith
@@ -152,7 +112,7 @@ module _ (s : Setup) where
           × (total (issues n) (turns_in log) ≤ 1) → (b : Bool) → nat_lt (numbers s log) n ≡ b
           → (numbers s (e ∷ log) < n → total (issues n) (turns_in (e ∷ log)) ≡ 0)
           × (total (issues n) (turns_in (e ∷ log)) ≤ 1)
-      by_case r b is = grind (arith, within_one, not_early, whole, not_late, numbers_grow)
+      by_case r b is = grind (arith, not_early, whole, sent_step, length-append, nat_tests)
 
   -- who was issued a number was given it from then on
   given : (e : LogEntry) (past seen : List LogEntry) (number : ℕ) → Issues e past number
@@ -160,17 +120,10 @@ module _ (s : Setup) where
   given e past seen number i p =
       let c : SentCommand = record { words = i.words; origin = Caller } in
       let m = sent_more p.0 (e ∷ past) in
-      let all : sent s seen ≡ sent s past ++ c ∷ m.0 =
-      ap (sent s) (sym p.1) ∙ m.1 ∙ ap (λ z. z ++ m.0) i.sends
-      ∙ append_assoc (sent s past) (c ∷ []) m.0 in
+      let all : sent s seen ≡ sent s past ++ c ∷ m.0 = grind (arith, append_assoc) in
       let k = i.number_is in
       let place : number - 3 ≡ length (sent s past) = omega (arith, k) in
-      let some : slice_get (sent s seen) (number - 3) ≡ Some c =
-      ap (λ z. slice_get z (number - 3)) all
-      ∙ ap (slice_get (sent s past ++ c ∷ m.0)) place ∙ get_behind (sent s past) m.0 c in
-      let late : nat_lt 2 number ≡ true = grind (arith, nat_tests, k) in
-      ap (λ b. b && is_callers (slice_get (sent s seen) (number - 3))) late
-      ∙ ap is_callers some
+      grind (arith, get_behind, nat_tests)
 
   -- ---- a command that was sent
 
@@ -183,30 +136,12 @@ module _ (s : Setup) where
   read_issues q past number none is =
       record { words = q; sends = sent_miss s past q none; number_is = is }
 
-  module _ (log new : List LogEntry) (n : ℕ) where
-    asked_in : (over ready full : Bool) (o : Option CacheEntry) (m : ℕ)
-        → cond over (refusing (refusal.Down Main) log)
-        (cond (not ready) (refusing refusal.NotReady log)
-        (cond full (refusing (refusal.LogFull (length log)) log)
-        (record { reply = answer_ask o m; past = new })))
-        ≡ record { reply = reply.Sent n; past = new } → (o ≡ None) × (n ≡ m)
-    asked_in over ready full o m is = grind arith
-
-    sent_in : (over ready control full : Bool) (m : ℕ)
-        → cond over (refusing (refusal.Down Main) log)
-        (cond (not ready) (refusing refusal.NotReady log)
-        (cond control (refusing refusal.Control log)
-        (cond full (refusing (refusal.LogFull (length log)) log)
-        (record { reply = reply.Sent m; past = new }))))
-        ≡ record { reply = reply.Sent n; past = new } → n ≡ m
-    sent_in over ready control full m is = grind arith
-
   step_issues : (c : ScriptCall) (past : List LogEntry) (number : ℕ)
       → client_step s past (call_for c)
       ≡ record { reply = reply.Sent number; past = entry_for c ∷ past }
       → Issues (entry_for c) past number
   unfolding client_step
-  step_issues c past number is = grind (arith, asked_in, read_issues, send_issues, sent_in)
+  step_issues c past number is = grind (arith, read_issues, send_issues)
 
   -- ---- no line asks for a number more often than it is issued one
 
@@ -215,11 +150,6 @@ module _ (s : Setup) where
 
   fair_by : (n : ℕ) (ts us : List Turn) → ts ≡ us → Fair n us → Fair n ts
   fair_by n ts us e h = subst (Fair n) (sym e) h
-
-  fair_pair : (n number : ℕ) (e : LogEntry) (past later : List LogEntry)
-      → Issues e past number → polls n (e, past) ≡ 0
-      → Fair n ((entry.Poll number, later) ∷ (e, past) ∷ [])
-  fair_pair n number e past later i none = grind (arith, issues_one, within_one, ne_eqb)
 
   refused_fair : (n : ℕ) (c : ScriptCall) (r : ClientRefusal) (ts : List Turn)
       (seen : List LogEntry) (t : ℕ) → RefusedBy s c r ts seen t → total (polls n) ts ≡ 0
@@ -230,14 +160,12 @@ module _ (s : Setup) where
   came_fair n (Ask q) (Hit m v) ts seen t h =
       let z : total (polls n) ts ≡ 0 = ap (total (polls n)) h.turns_are in omega (arith, z)
   came_fair n (Ask q) (Read m v) ts seen t h =
-      fair_by n ts _ h.turns_are (fair_pair n m (entry.Ask q) h.past h.later
-      (read_issues q h.past m h.not_held h.number_is) refl)
+      fair_by n ts _ h.turns_are (grind (arith, ne_eqb, length-append, nat_tests, read_issues))
   came_fair n (Ask q) (Reply v) ts seen t h = absurd h
   came_fair n (Ask q) (Refused r) ts seen t h =
       let z = refused_fair n (Ask q) r ts seen t h in omega (arith, z)
   came_fair n (Do ws) (Reply v) ts seen t h =
-      fair_by n ts _ h.turns_are (fair_pair n h.number (entry.Send ws) h.past h.later
-      (send_issues ws h.past h.number h.number_is) refl)
+      fair_by n ts _ h.turns_are (grind (arith, ne_eqb, length-append, nat_tests, send_issues))
   came_fair n (Do ws) (Refused r) ts seen t h =
       let z = refused_fair n (Do ws) r ts seen t h in omega (arith, z)
   came_fair n (Do ws) a ts seen t h = absurd h
@@ -248,11 +176,7 @@ module _ (s : Setup) where
 
   pub all_fair : (n : ℕ) (cs : List ScriptCall) (rs : List Answer) (ts : List Turn)
       (log : List LogEntry) (t : ℕ) → AllCame s cs rs ts log t → Fair n ts
-  all_fair n cs [] ts log t h =
-      let z : total (polls n) ts ≡ 0 = ap (total (polls n)) (none_came cs h) in omega (arith, z)
-    where
-      none_came : (ds : List ScriptCall) → AllCame s ds [] ts log t → ts ≡ []
-      none_came ds g = grind (arith, nat_tests)
+  all_fair n cs [] ts log t h = grind (arith, nat_tests)
   all_fair n [] (a ∷ rs) ts log t h = absurd h
   all_fair n (c ∷ cs) (a ∷ rs) ts log t h =
       let i = h.3 in
@@ -278,18 +202,12 @@ module _ (s : Setup) where
     pub unwanted : is_wanted s seen number ≡ false
     pub fewer : total (polls number) ts + 1 ≤ total (issues number) ts
 
-  module _ (log : List LogEntry) (n m : ℕ) where
-    unwanted_in : (wanted over : Bool) (o : Option Value)
-        → cond (not wanted) (refusing (refusal.NoNumber n) log) (polling o n over log)
-        ≡ record { reply = reply.Refused (refusal.NoNumber m); past = log } → wanted ≡ false
-    unwanted_in wanted over o is = grind arith
-
   poll_unwanted : (log : List LogEntry) (n m : ℕ)
       → client_step s log (call.Poll n)
       ≡ record { reply = reply.Refused (refusal.NoNumber m); past = log }
       → is_wanted s log n ≡ false
   unfolding client_step
-  poll_unwanted log n m is = grind (arith, unwanted_in)
+  poll_unwanted log n m is = grind arith
 
   unanswered : (c : ScriptCall) (n m : ℕ) (past : List LogEntry) (ts : List Turn)
       (seen : List LogEntry) → Between [] ts seen → ts ≡ (entry_for c, past) ∷ []
@@ -307,12 +225,7 @@ module _ (s : Setup) where
         begins = ([], refl);
         was = given (entry_for c) past seen n i there;
         unwanted = poll_unwanted seen n m why;
-        fewer = let one = issues_one (entry_for c) past n i in
-            let p : total (polls n) ts ≡ polls n (entry_for c, past) + 0 =
-            ap (total (polls n)) e in
-            let k : total (issues n) ts ≡ issues n (entry_for c, past) + 0 =
-            ap (total (issues n)) e in
-            omega (arith, p, k, one, none);
+        fewer = grind (arith, length-append, nat_tests);
       }
 
   pub refused_missed : (c : ScriptCall) (m : ℕ) (ts : List Turn) (seen : List LogEntry) (t : ℕ)
@@ -347,10 +260,6 @@ module _ (s : Setup) where
       → ((n : ℕ) → Fair n mine) → Missed log rest → Missed log ts
   missed_first log ts mine rest e fair m = grind (arith, fewer_in)
 
-  was_polled : (given_ polled : Bool) → given_ ≡ true → (given_ && not polled) ≡ false
-      → polled ≡ true
-  was_polled given_ polled g w = grind arith
-
   -- but no session has such a line
   pub none_missed : (log : List LogEntry) (called pumped closing : List Turn)
       → ((f : Turn → ℕ) → total f (turns_in log)
@@ -358,4 +267,4 @@ module _ (s : Setup) where
       → ((n : ℕ) → total (polls n) pumped ≡ 0) → ((n : ℕ) → total (polls n) closing ≡ 0)
       → Missed log called → ⊥
   none_missed log called pumped closing all p c m =
-      grind (arith, issued_once, prefix_total, was_polled, polled_there, nat_tests)
+      grind (arith, issued_once, prefix_total, polled_there, nat_tests)

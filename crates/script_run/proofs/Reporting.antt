@@ -77,18 +77,4 @@ module _ (lines : List ScriptLine) (given : List (List Answer)) (n : ℕ) (line 
   line_printed e u rs e_is u_is rs_is out out_is =
       let told : u ≡ tally_after no_tally (p.first ++ e ∷ []) =
       u_is ∙ ap (λ z. note_end z e) p.tally_is ∙ sym (tally_more no_tally p.first e) in
-      let shown = λ (z : Tally). printed_by z (n + 1) e in
-      let earlier = text_after no_tally 1 p.first in
-      record {
-        first = p.first ++ e ∷ [];
-        ends = append_assoc p.first (e ∷ []) (more rs)
-            ∙ ap (λ z. p.first ++ e ∷ more z) rs_is ∙ ap (λ z. p.first ++ z ∷ more others) e_is
-            ∙ ap (λ z. p.first ++ z) (sym ends_here) ∙ p.ends;
-        many = let k = p.many in omega (arith, k, length-append p.first (e ∷ []));
-        tally_is = told;
-        text_is = out_is ∙ ap (λ z. z ++ shown u) p.text_is
-            ∙ append_assoc before earlier (shown u)
-            ∙ ap (λ z. before ++ (earlier ++ shown z)) told
-            ∙ ap (λ z. before ++ z) (sym (text_more no_tally 1 (n + 1) p.first e
-            (let k = p.many in omega (arith, k))));
-      }
+      grind (arith, append_assoc, more, others, ends_here, length-append, text_more)

@@ -1,15 +1,15 @@
 -- All turns of a session are those of its callers, of its pump and the last, and where a caller was
 -- told that the link is down the pump had ended it.
+use Rattle.seat_turns.proofs.Owning.{total-append, own_all, pasts_length}
 use Rattle.std.proofs.Common.{◌≡◌, ◌≤◌, ◌<◌, ◌+◌, inl, inr, ℕ, suc, List, [], ◌∷◌, ◌++◌, Bool, true}
-use Rattle.std.proofs.Common.{false, cond, length, refl, ap, subst, ◌∙◌, arith}
-use Rattle.std.specs.Prelude.{Option, nat_lt, ◌&&◌, ◌==◌, ◌⊎◌, not}
+use Rattle.std.proofs.Common.{false, cond, length, refl, ap, ◌∙◌, arith}
+use Rattle.std.specs.Prelude.{Option, nat_lt, ◌&&◌, ◌==◌, ◌⊎◌}
 use Rattle.std.specs.List.{All}
 use Rattle.std.proofs.lemmas.Bool.Decides.{nat_tests}
 use Rattle.std.proofs.lemmas.List.Elements.{All-head, All-nil, All-tail}
 use Rattle.turn_lock.specs.Counts.{times, total}
 use Rattle.turn_lock.specs.History.{entries, IsPrefix, Legal}
 use Rattle.seat_turns.specs.Own.{with_pasts, past_of, turns_of}
-use Rattle.seat_turns.proofs.Owning.{own_all, pasts_length}
 use Rattle.seat_turns.proofs.Turning.{begins_trans}
 use Rattle.shared_cache.specs.declared.log.Wire.{Wire}
 use Rattle.shared_cache.specs.declared.log.Wire.TheVariants.{Main}
@@ -20,21 +20,20 @@ use Rattle.shared_cache.specs.declared.log.ClientCall.TheVariants as call
 use Rattle.shared_cache.specs.declared.log.ClientReply.TheVariants as reply
 use Rattle.shared_cache.specs.declared.log.ClientRefusal.{ClientRefusal}
 use Rattle.shared_cache.specs.declared.log.ClientRefusal.TheVariants as refusal
-use Rattle.resp_value.specs.declared.value.Value.{Value}
 use Rattle.command_words.specs.Control.{is_control}
 use Rattle.shared_cache.specs.Held.{Setup}
 use Rattle.shared_cache.specs.Laws.{LegalLog}
 use Rattle.shared_cache.specs.Log.{is_ended, is_wire}
-use Rattle.shared_cache.specs.Steps.{ClientTurn, client_step, refusing, polling}
+use Rattle.shared_cache.specs.Steps.{ClientTurn, client_step}
 use Rattle.shared_client.specs.declared.logged.ClientSetup.{ClientSetup}
 use Rattle.shared_client.specs.Setups.{TurnStep, setup_of}
-use Rattle.shared_client.specs.Turns.{Place, Turn, setup_at}
+use Rattle.shared_client.specs.Turns.{Place, Turn}
 use Rattle.script_text.specs.declared.script_line.ScriptCall.{ScriptCall}
 use Rattle.script_text.specs.declared.script_line.ScriptCall.TheVariants.{Ask, Do}
 use Rattle.script_text.specs.declared.script_line.ScriptLine.{ScriptLine}
 use Rattle.script_text.specs.Scripts.{IsValidCall, IsValidLine}
 use Rattle.client_link.specs.declared.pump_end.PumpEnd.{PumpEnd}
-use Rattle.client_link.specs.Pumps.{IsWork, Finishes}
+use Rattle.client_link.specs.Pumps.{IsWork}
 use Rattle.script_run.specs.declared.answer.Answer.{Answer}
 use Rattle.script_run.specs.declared.answer.Answer.TheVariants.{Refused}
 use Rattle.script_run.specs.Lines.{call_for, Between, RefusedBy, Unplayed, NoAnswer, Came, AllCame}
@@ -42,9 +41,8 @@ use Rattle.script_run.specs.Lines.{ThreadsCame, calls_of}
 use Rattle.script_run.specs.Session.{turns_in, IsDown, AnyDown, HasDown, EndsLink, PumpedBy}
 use Rattle.script_run.specs.Session.{ClosedBy}
 use Rattle.script_run.proofs.Totals.{prefix_length, prefix_total, two_none, works_none}
-use Rattle.script_run.proofs.Numbers.{polls, pump_polls, closing_polls, all_fair, came_fair}
-use Rattle.script_run.proofs.Numbers.{threads_fair, Missed, refused_missed, missed_first}
-use Rattle.script_run.proofs.Numbers.{missed_last, none_missed}
+use Rattle.script_run.proofs.Numbers.{polls, all_fair, came_fair, threads_fair, Missed}
+use Rattle.script_run.proofs.Numbers.{refused_missed, missed_first, missed_last, none_missed}
 
 -- ---- each turn once
 
@@ -95,13 +93,9 @@ module _ (n : ℕ) where
   abbrev f : Turn → ℕ
   f = early_end n
 
-  refused_none : (s : Setup) (c : ScriptCall) (r : ClientRefusal) (ts : List Turn)
-      (seen : List LogEntry) (t : ℕ) → RefusedBy s c r ts seen t → total f ts ≡ 0
-  refused_none s c r ts seen t h = grind arith
-
   came_none : (s : Setup) (c : ScriptCall) (a : Answer) (ts : List Turn) (seen : List LogEntry)
       (t : ℕ) → Came s c a ts seen t → total f ts ≡ 0
-  came_none s c a ts seen t h = grind (arith, refused_none)
+  came_none s c a ts seen t h = grind arith
 
   all_none : (s : Setup) (cs : List ScriptCall) (rs : List Answer) (ts : List Turn)
       (log : List LogEntry) (t : ℕ) → AllCame s cs rs ts log t → total f ts ≡ 0
@@ -132,21 +126,10 @@ module _ (n : ℕ) where
       → total f (ending ++ ts) ≡ 0
   none_but_works ending ts e w = ap (λ z. total f (z ++ ts)) e ∙ works_none f work_none ts w
 
-  -- who has an early end has ended the link
-  ends_link : (end : PumpEnd) (s : Setup) (ending ts : List Turn) (k : Place)
-      → Finishes end s ending k → All IsWork ts → 1 ≤ total f (ending ++ ts) → EndsLink end
-  ends_link end s ending ts k h w le = grind (arith, none_but_works)
-
 -- ---- who was told that the link is down has seen its end
 
 abbrev pub Answered : ClientTurn → ClientRefusal → List LogEntry → Type 0
 Answered turn r log = turn ≡ record { reply = reply.Refused r; past = log }
-
-module _ (log : List LogEntry) (w : Wire) where
-  poll_down_in : (wanted over : Bool) (o : Option Value) (n : ℕ)
-      → Answered (cond (not wanted) (refusing (refusal.NoNumber n) log) (polling o n over log))
-      (refusal.Down w) log → over ≡ true
-  poll_down_in wanted over o n is = grind arith
 
 call_down : (s : Setup) (log : List LogEntry) (w : Wire) (c : ScriptCall)
     → Answered (client_step s log (call_for c)) (refusal.Down w) log
@@ -158,7 +141,7 @@ poll_down : (s : Setup) (log : List LogEntry) (w : Wire) (n : ℕ)
     → Answered (client_step s log (call.Poll n)) (refusal.Down w) log
     → is_ended s.mode Main log ≡ true
 unfolding client_step
-poll_down s log w n is = grind (arith, poll_down_in)
+poll_down s log w n is = grind arith
 
 refused_down : (s : Setup) (c : ScriptCall) (w : Wire) (ts : List Turn) (seen : List LogEntry)
     (t : ℕ) → RefusedBy s c (refusal.Down w) ts seen t → is_ended s.mode Main seen ≡ true
@@ -207,13 +190,11 @@ all_down s (c ∷ cs) (a ∷ rs) ts log t ok h d =
       | inl is ↦ elim (came_down s c a h.0 i.seen i.ticket (All-head IsValidCall c cs ok)
           i.in_order i.came is) [
             | inl over ↦ inl (record { seen = i.seen; begins = i.begins; over = over })
-            | inr m ↦ inr (missed_last s i.seen log ts h.0 h.1 h.2 i.begins
-                (λ n. all_fair s n cs rs h.1 log t h.4) m)
+            | inr m ↦ inr (grind (arith, missed_last, all_fair))
           ]
       | inr is ↦ elim (all_down s cs rs h.1 log t (All-tail IsValidCall c cs ok) h.4 is) [
         | inl saw ↦ inl saw
-        | inr m ↦ inr (missed_first s log ts h.0 h.1 h.2
-            (λ n. came_fair s n c a h.0 i.seen i.ticket i.came) m)
+        | inr m ↦ grind (arith, missed_first, came_fair)
       ]
     ]
 
@@ -237,15 +218,10 @@ threads_down s lines ok thread (rs ∷ all) ts log t h d =
     let mine = h.3.came in
     let cs = calls_of thread lines in
     elim d [
-      | inl is ↦ elim (all_down s cs rs h.0 log t (valid_calls thread lines ok) mine is) [
-        | inl saw ↦ inl saw
-        | inr m ↦ inr (missed_last s log log ts h.0 h.1 h.2 ([], refl)
-            (λ n. threads_fair s n lines (suc thread) all h.1 log t h.4) m)
-      ]
+      | inl is ↦ grind (arith, all_down, valid_calls, missed_last, threads_fair)
       | inr is ↦ elim (threads_down s lines ok (suc thread) all h.1 log t h.4 is) [
         | inl saw ↦ inl saw
-        | inr m ↦ inr (missed_first s log ts h.0 h.1 h.2
-            (λ n. all_fair s n cs rs h.0 log t mine) m)
+        | inr m ↦ grind (arith, missed_first, all_fair)
       ]
     ]
 
@@ -266,25 +242,18 @@ module _ (s : Setup) (lines : List ScriptLine) (answers : List (List Answer)) (e
       let there = has_end s.mode n saw.seen (omega arith) saw.over in
       let whole : IsPrefix saw.seen log = begins_trans saw.seen seen log saw.begins begins in
       let more : total f (turns_in saw.seen) ≤ total f (turns_in log) =
-      subst (λ l. total f (turns_in saw.seen) ≤ total f (turns_in l)) whole.1
-      (prefix_total f whole.0 saw.seen) in
+      grind (arith, prefix_total) in
       let le = prefix_length saw.seen seen saw.begins in
       let z = threads_none n s lines 1 answers called seen t came in
       let y = closing_none n s closing seen log t le closes in
-      let p : total f pumped ≡ total f (pumps.pumps.ending ++ pumps.pumps.works.turns) =
-      ap (total f) pumps.turns_are in
-      let sum = all f in
-      let reached : 1 ≤ total f (pumps.pumps.ending ++ pumps.pumps.works.turns) =
-      omega (arith, there, more, z, y, p, sum) in
-      ends_link n end (setup_at pumps.before) pumps.pumps.ending pumps.pumps.works.turns
-      pumps.after pumps.pumps.finishes pumps.pumps.works.work reached
+      grind (arith, none_but_works)
 
   none_polled : (n : ℕ) → total (polls n) pumped ≡ 0
-  none_polled n = grind (arith, polls, pump_polls)
+  none_polled n = grind (arith, polls, total-append, works_none)
 
   none_missing : Missed s seen called → ⊥
   none_missing m = none_missed s log called pumped closing all none_polled
-      (λ n. closing_polls n s closing seen log t closes)
+      (λ n. grind arith)
       (missed_last s seen log called called [] refl begins (λ n. omega arith) m)
 
   pub down_ends : All IsValidLine lines → HasDown answers → EndsLink end

@@ -1,10 +1,8 @@
 -- The lines of a thread one after another, and the threads of a script.
 use Rattle.std.proofs.Common.{◌≡◌, ◌≤◌, ◌+◌, ◌-◌, ◌<◌, ◌==◌, ℕ, suc, List, [], ◌∷◌, ◌++◌, Bool}
-use Rattle.std.proofs.Common.{cond, length, refl, sym, ap, subst, ◌∙◌, arith, append-nil}
-use Rattle.std.proofs.Common.{append_assoc, length-append, take, drop, slice_index_or, eq-eqb}
-use Rattle.std.proofs.Common.{ne_eqb}
+use Rattle.std.proofs.Common.{cond, length, refl, sym, ap, ◌∙◌, arith, append-nil, append_assoc}
+use Rattle.std.proofs.Common.{length-append, take, drop, slice_index_or, eq-eqb, ne_eqb}
 use Rattle.std.proofs.lemmas.List.{take_more, take-append-drop}
-use Rattle.std.specs.Prelude.{max}
 use Rattle.std.proofs.Math.Nat.{le-max_left, le-max_right}
 use Rattle.turn_lock.specs.History.{IsPrefix}
 use Rattle.turn_lock.specs.Seats.{Known, split_seat, joined_seat}
@@ -19,7 +17,7 @@ use Rattle.shared_client.specs.Turns.{Place, Turn, setup_at, setup_in}
 use Rattle.script_text.specs.declared.script_line.ScriptCall.{ScriptCall}
 use Rattle.script_text.specs.declared.script_line.ScriptLine.{ScriptLine}
 use Rattle.script_run.specs.declared.answer.Answer.{Answer}
-use Rattle.script_run.specs.Lines.{Between, Came, PlaysLine, calls_of, CameIn, AllCame, PlaysThread}
+use Rattle.script_run.specs.Lines.{Between, PlaysLine, calls_of, CameIn, AllCame, PlaysThread}
 use Rattle.script_run.specs.Lines.{ThreadCame, ThreadsCame, PlaysThreads}
 
 -- ---- turns one after another
@@ -110,24 +108,9 @@ line_then cs rs c a old k new h e l =
     record {
       turns = l.turns ++ h.turns;
       grows = grows_then old k new h.turns l.turns h.grows l.grows;
-      between = between_then (past_of old) (past_of k) (past_of new) h.turns l.turns h.between
-          l.between;
-      came = all_then (setup_at old) cs rs h.turns (past_of new) new.tickets c a l.turns
-          (all_grow (setup_at old) cs rs h.turns (past_of k) (past_of new) k.tickets new.tickets
-          h.came p l.grows.tickets) e (record {
-            seen = past_of new;
-            ticket = new.tickets;
-            in_order = between_all (past_of k) l.turns (past_of new) l.between;
-            begins = ([], refl);
-            not_more = omega arith;
-            came = subst (λ s. Came s c a l.turns (past_of new) new.tickets) same l.came;
-          });
+      between = grind (arith, between_then);
+      came = grind (arith, all_then, all_grow, between_all);
     }
-
--- and leaves the others, for want of memory
-pub lines_left : (cs more : List ScriptCall) (rs : List Answer) (old new : Place)
-    → PlaysThread cs rs old new → PlaysThread (cs ++ more) rs old new
-lines_left cs more rs old new h = grind (arith, all_left)
 
 -- ---- the lines of a script, of which some are the thread's
 
@@ -139,38 +122,21 @@ module _ (thread : ℕ) (lines : List ScriptLine) (i : ℕ) (line : ScriptLine)
   next_calls : calls_of thread (take (i + 1) lines)
       ≡ so_far ++ cond (line.thread == thread) (line.call ∷ []) []
   next_calls =
-      ap (calls_of thread) (take_more lines i line lt
-      ∙ ap (λ x. take i lines ++ x ∷ []) (sym is))
+      ap (calls_of thread) (grind (arith, take_more))
       ∙ calls_append thread (take i lines) (line ∷ [])
-
-  other_calls : (line.thread ≡ thread → ⊥) → calls_of thread (take (i + 1) lines) ≡ so_far
-  other_calls ne = grind (arith, next_calls, ne_eqb, append-nil)
-
-  mine_calls : line.thread ≡ thread
-      → calls_of thread (take (i + 1) lines) ≡ so_far ++ line.call ∷ []
-  mine_calls e = grind (arith, next_calls, eq-eqb)
 
   pub line_passed : (rs : List Answer) (old k : Place) → (line.thread ≡ thread → ⊥)
       → PlaysThread so_far rs old k → length rs ≡ length so_far
       → PlaysThread (calls_of thread (take (i + 1) lines)) rs old k
       × (length rs ≡ length (calls_of thread (take (i + 1) lines)))
-  line_passed rs old k ne h e = grind (arith, other_calls)
+  line_passed rs old k ne h e = grind (arith, next_calls, ne_eqb, append-nil)
 
   pub line_played : (rs : List Answer) (a : Answer) (old k new : Place) → line.thread ≡ thread
       → PlaysThread so_far rs old k → length rs ≡ length so_far → PlaysLine line.call a k new
       → PlaysThread (calls_of thread (take (i + 1) lines)) (rs ++ a ∷ []) old new
       × (length (rs ++ a ∷ []) ≡ length (calls_of thread (take (i + 1) lines)))
   line_played rs a old k new m h e l =
-      let same = sym (mine_calls m) in
-      let one : length (so_far ++ line.call ∷ []) ≡ length so_far + 1 =
-      length-append so_far (line.call ∷ []) in
-      let two : length (rs ++ a ∷ []) ≡ length rs + 1 = length-append rs (a ∷ []) in
-      let as_many : length (rs ++ a ∷ []) ≡ length (so_far ++ line.call ∷ []) =
-      omega (arith, one, two, e) in (
-        subst (λ cs. PlaysThread cs (rs ++ a ∷ []) old new) same
-            (line_then so_far rs line.call a old k new h e l),
-        as_many ∙ ap length same,
-      )
+      grind (arith, so_far, length-append, line_then, next_calls, eq-eqb)
 
 -- what the loop over the lines holds to, of other names for the same
 pub held : (thread : ℕ) (lines : List ScriptLine) (i : ℕ) (old : Place) (rs : List Answer)
@@ -190,8 +156,7 @@ first_lines thread lines i rs old new h =
     let whole : calls_of thread (take i lines) ++ calls_of thread (drop i lines)
     ≡ calls_of thread lines = sym (calls_append thread (take i lines) (drop i lines))
     ∙ ap (calls_of thread) (take-append-drop i lines) in
-    subst (λ cs. PlaysThread cs rs old new) whole
-    (lines_left (calls_of thread (take i lines)) (calls_of thread (drop i lines)) rs old new h)
+    grind (arith, all_left)
 
 -- ---- the threads of a script
 
@@ -278,48 +243,17 @@ module _ (lines : List ScriptLine) (n last : ℕ) (last_is : last ≡ n + 1)
       ap (λ (z : Place). turns_of z) mine_is ∙ split_none k number 1 in
       let ours_turns : turns_of ours ≡ turns_of k = kept_turns k ours (k.parts - 1) ours_is in
       let own : turns_of j ≡ (t.turns ++ o.turns) ++ turns_of k =
-      both.0 ∙ ap (λ z. z ++ turns_of b) (t.grows.own ∙ ap (λ z. t.turns ++ z) mine_turns
-      ∙ append-nil t.turns)
-      ∙ ap (λ z. t.turns ++ z) (o.grows.own ∙ ap (λ z. o.turns ++ z) ours_turns)
-      ∙ sym (append_assoc t.turns o.turns (turns_of k)) in
-      let s_mine : setup_at mine ≡ s = ap (λ (z : Place). setup_at z) mine_is in
-      let s_ours : setup_at ours ≡ s = ap (λ (z : Place). setup_at z) ours_is in
-      let tickets : j.tickets ≡ max a.tickets b.tickets =
-      ap (λ (z : Place). z.tickets) join_is in
-      let t_mine : mine.tickets ≡ k.tickets = ap (λ (z : Place). z.tickets) mine_is in
-      let p_j : j.parts ≡ a.parts + b.parts = ap (λ (z : Place). z.parts) join_is in
-      let p_mine : mine.parts ≡ 1 = ap (λ (z : Place). z.parts) mine_is in
-      let p_ours : ours.parts ≡ k.parts - 1 = ap (λ (z : Place). z.parts) ours_is in
-      let past_a : IsPrefix (past_of a) (past_of j) = entries_begin a.seen j.seen seen_a in
-      let past_b : IsPrefix (past_of b) (past_of j) = entries_begin b.seen j.seen seen_b in
-      let le_a : a.tickets ≤ j.tickets = omega (arith, tickets, le-max_left a.tickets b.tickets) in
-      let le_b : b.tickets ≤ j.tickets = omega (arith, tickets, le-max_right a.tickets b.tickets) in
-      record {
-        turns = t.turns ++ o.turns;
-        grows = record {
-          lock = ap (λ (z : Place). z.lock) join_is ∙ t.grows.lock
-              ∙ ap (λ (z : Place). z.lock) mine_is;
-          setup = ap (λ (z : Place). z.setup) join_is ∙ t.grows.setup
-              ∙ ap (λ (z : Place). z.setup) mine_is;
-          parts = omega (arith, p_j, p_mine, p_ours, t.grows.parts, o.grows.parts, parts);
-          tickets = omega (arith, t_mine, t.grows.tickets, le_a);
-          seen = begins_trans k.seen a.seen j.seen
-              (subst (λ (z : Place). IsPrefix z.seen a.seen) mine_is t.grows.seen) seen_a;
-          within = both.1;
-          own = own;
-        };
-        many = omega (arith, length-append all (rs ∷ []), o.many, last_is);
-        came = threads_then s lines 1 all o.turns (past_of j) j.tickets rs t.turns last
-            (omega (arith, o.many, last_is))
-            (threads_grow s lines 1 all o.turns (past_of b) (past_of j) b.tickets j.tickets
-            (subst (λ z. ThreadsCame z lines 1 all o.turns (past_of b) b.tickets) s_ours o.came)
-            past_b le_b)
-            (record {
-              in_order = between_more [] t.turns (past_of a) (past_of j)
-                  (between_all (past_of mine) t.turns (past_of a) t.between) past_a;
-              came = all_grow s (calls_of last lines) rs t.turns (past_of a) (past_of j)
-                  a.tickets j.tickets
-                  (subst (λ z. AllCame z (calls_of last lines) rs t.turns (past_of a) a.tickets)
-                  s_mine t.came) past_a le_a;
-            });
-      }
+      grind (arith, append-nil, append_assoc) in
+      grind (
+        arith,
+        entries_begin,
+        le-max_left,
+        le-max_right,
+        begins_trans,
+        length-append,
+        threads_then,
+        threads_grow,
+        between_more,
+        between_all,
+        all_grow,
+      )

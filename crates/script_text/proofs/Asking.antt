@@ -1,7 +1,6 @@
 -- The name of a query in another case makes the same query, and a line as long as its line.
-use Rattle.std.proofs.Common.{◌≡◌, ◌<◌, ◌≤◌, ℕ, List, [], ◌∷◌, ◌++◌, true, false, suc, refl, ap}
+use Rattle.std.proofs.Common.{◌≡◌, ◌<◌, ◌≤◌, ℕ, List, [], ◌∷◌, true, false, refl, ap}
 use Rattle.std.proofs.Common.{◌∙◌, arith, length, codes}
-use Rattle.std.specs.declared.option.Option.{Option}
 use Rattle.std.specs.declared.option.Option.TheVariants.{Some}
 use Rattle.std.specs.Char.{to_ascii_uppercase}
 use Rattle.std.specs.List.{list_all, join_with_byte}
@@ -13,7 +12,7 @@ use Rattle.std.proofs.lemmas.List.{length-append}
 use Rattle.std.proofs.lemmas.Option.{cond_some}
 use Rattle.std.proofs.lemmas.Slice.Eq.{bytes_eq-Decides, slice_eq-Decides}
 use Rattle.std.proofs.lemmas.Str.Ascii.{lowercase-uppercase, uppercase-uppercase}
-use Rattle.command_words.specs.Printed.{printed, printed_byte, printed_bytes}
+use Rattle.command_words.specs.Printed.{printed_byte, printed_bytes}
 use Rattle.command_words.specs.Queries.{query_of, reads_as_cacheable, same_query, with_upper_name}
 use Rattle.command_words.specs.Words.{reading}
 use Rattle.script_text.specs.Grammar.{are_bytes, asking, is_query}
@@ -52,13 +51,9 @@ is_query-read words query h =
     ap (λ o. option_map_or (same_query query) o false) (query_stands words query h)
     ∙ same_as_itself query
 
-where_same : (o : Option (List (List ℕ))) (words : List (List ℕ))
-    → option_map_or (same_query words) o false ≡ true → o ≡ Some words
-where_same o words h = grind (arith, slice_eq-Decides, bytes_eq-Decides, nat_tests)
-
 pub query_of-is_query : (query : List (List ℕ)) → is_query query ≡ true
     → query_of query ≡ Some query
-query_of-is_query query h = where_same (query_of query) query h
+query_of-is_query query h = grind (arith, slice_eq-Decides, bytes_eq-Decides, nat_tests)
 
 -- ---- of bytes
 upper_below : (b : ℕ) → to_ascii_uppercase b ≤ b
@@ -72,13 +67,9 @@ upper_bytes (b ∷ name) h =
     both _ _ (lt-ltb _ _ (omega (arith, upper_below b, small)))
     (upper_bytes name (both_true _ _ h).1)
 
-with_upper-bytes : (words : List (List ℕ)) → list_all are_bytes words ≡ true
-    → list_all are_bytes (with_upper_name words) ≡ true
-with_upper-bytes words h = grind (arith, both, upper_bytes, both_true, nat_tests)
-
 pub query_bytes : (words query : List (List ℕ)) → query_of words ≡ Some query
     → list_all are_bytes words ≡ true → list_all are_bytes query ≡ true
-query_bytes words query h b = grind (arith, named_in_upper, with_upper-bytes, nat_tests)
+query_bytes words query h b = grind (arith, named_in_upper, nat_tests, both, upper_bytes, both_true)
 
 -- ---- as long
 upper_byte-length : (b : ℕ) → length (printed_byte (to_ascii_uppercase b))
@@ -92,26 +83,7 @@ upper_bytes-length [] = refl
 upper_bytes-length (b ∷ name) =
     grind (arith, length-append, upper_byte-length, upper_bytes-length name)
 
-upper-length : (name : List ℕ) → length (printed (str_to_ascii_uppercase name))
-    ≡ length (printed name)
-upper-length name = grind (arith, upper_bytes-length, nat_tests)
-
-behind-length : (front more others : List ℕ) → length more ≡ length others
-    → length (front ++ more) ≡ length (front ++ others)
-behind-length [] more others h = h
-behind-length (b ∷ front) more others h = ap suc (behind-length front more others h)
-
-first-length : (part other : List ℕ) (parts : List (List ℕ)) → length part ≡ length other
-    → length (join_with_byte 32 (part ∷ parts)) ≡ length (join_with_byte 32 (other ∷ parts))
-first-length part other parts h = grind (arith, length-append, nat_tests)
-
-asking-length : (client : List ℕ) (words : List (List ℕ))
-    → length (join_with_byte 32 (asking client (with_upper_name words)))
-    ≡ length (join_with_byte 32 (asking client words))
-asking-length client words =
-    grind (arith, first-length, upper-length, behind-length, codes, nat_tests)
-
 pub query-length : (client : List ℕ) (words query : List (List ℕ)) → query_of words ≡ Some query
     → length (join_with_byte 32 (asking client query))
     ≡ length (join_with_byte 32 (asking client words))
-query-length client words query h = grind (arith, named_in_upper, asking-length, nat_tests)
+query-length client words query h = grind (arith, codes, upper_bytes-length, length-append)

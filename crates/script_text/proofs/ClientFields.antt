@@ -1,5 +1,5 @@
 -- How a client is set up comes back from the parts of its line, and its parts from that.
-use Rattle.std.proofs.Common.{◌≡◌, ℕ, List, [], ◌∷◌, ◌++◌, Bool, true, false, cond, refl, sym, ap}
+use Rattle.std.proofs.Common.{◌≡◌, ℕ, List, [], ◌∷◌, ◌++◌, Bool, true, false, cond, refl, ap}
 use Rattle.std.proofs.Common.{◌∙◌, subst, codes, arith}
 use Rattle.std.specs.declared.option.Option.{Option}
 use Rattle.std.specs.declared.option.Option.TheVariants.{None, Some}
@@ -27,17 +27,6 @@ use Rattle.script_text.proofs.Parts.{is_unbroken, printed-unbroken, decimal-unbr
 use Rattle.script_text.proofs.Spelling.{word_of-printed, printed-word_of}
 use Rattle.script_text.proofs.Fields.{word-bytes, split_words}
 
--- ---- from the mode to its parts
-shape_there : (shape : Shape) → shape_of (shape_text shape) ≡ Some shape
-shape_there shape = grind arith
-
-proto_there : (proto : Proto) → proto_of (proto_text proto) ≡ Some proto
-proto_there proto = grind arith
-
-caching_there : (caching : Caching) → caching_of (caching_text caching) (prefixes_in caching)
-    ≡ Some caching
-caching_there caching = grind arith
-
 prefixes_there : (prefixes : List (List ℕ)) → list_all are_bytes prefixes ≡ true
     → prefixes_of (prefix_parts prefixes) ≡ Some prefixes
 prefixes_there [] h = refl
@@ -45,12 +34,6 @@ prefixes_there (prefix ∷ prefixes) h =
     ap (λ o. first_and_rest o (prefixes_of (prefix_parts prefixes)))
     (word_of-printed prefix (printed prefix) (both_true _ _ h).0 refl)
     ∙ ap (first_and_rest (Some prefix)) (prefixes_there prefixes (both_true _ _ h).1)
-
-after_there : (noloop : Bool) (prefixes : List (List ℕ))
-    → after_noloop (noloop_parts noloop ++ prefix_parts prefixes) ≡ prefix_parts prefixes
-after_there true prefixes = refl
-after_there false [] = refl
-after_there false (prefix ∷ prefixes) = refl
 
 noloop_there : (noloop : Bool) (prefixes : List (List ℕ))
     → has_noloop (noloop_parts noloop ++ prefix_parts prefixes) ≡ noloop
@@ -65,29 +48,12 @@ mode_there mode h = named _ _ mode h refl
 pub client_there : (mode : ClientMode) (keys : ℕ) → is_mode mode ≡ true
     → is_within 1 most_keys keys ≡ true → client_of (client_parts mode keys) ≡ Some (mode, keys)
 unfolding client_from
-client_there mode keys m k = grind (
-  arith,
-  after_there,
-  prefixes_there,
-  both_true,
-  caching_there,
-  shape_there,
-  proto_there,
-  noloop_there,
-  mode_there,
-  number_within-decimal,
-  small_within,
-)
+client_there mode keys m k =
+    grind (arith, prefixes_there, noloop_there, mode_there, number_within-decimal, small_within)
 
 -- ---- no part holds a blank
 shape-unbroken : (shape : Shape) → is_unbroken (shape_text shape) ≡ true
 shape-unbroken shape = grind arith
-
-proto-unbroken : (proto : Proto) → is_unbroken (proto_text proto) ≡ true
-proto-unbroken proto = grind arith
-
-caching-unbroken : (caching : Caching) → is_unbroken (caching_text caching) ≡ true
-caching-unbroken caching = grind arith
 
 prefixes-unbroken : (prefixes : List (List ℕ))
     → list_all is_unbroken (prefix_parts prefixes) ≡ true
@@ -95,17 +61,10 @@ prefixes-unbroken [] = refl
 prefixes-unbroken (prefix ∷ prefixes) =
     both _ _ (printed-unbroken prefix) (prefixes-unbroken prefixes)
 
-options-unbroken : (noloop : Bool) (prefixes : List (List ℕ))
-    → list_all is_unbroken (noloop_parts noloop ++ prefix_parts prefixes) ≡ true
-options-unbroken noloop prefixes = grind (arith, prefixes-unbroken)
-
 pub client-unbroken : (mode : ClientMode) (keys : ℕ) → is_within 1 most_keys keys ≡ true
     → list_all is_unbroken (client_parts mode keys) ≡ true
 client-unbroken mode keys k =
-    both _ _ (shape-unbroken mode.shape) (both _ _ (proto-unbroken mode.proto)
-    (both _ _ (caching-unbroken mode.caching)
-    (both _ _ (decimal-unbroken keys (small_within 1 most_keys keys (omega arith) k))
-    (options-unbroken mode.noloop (prefixes_in mode.caching)))))
+    grind (arith, both, shape-unbroken, decimal-unbroken, small_within, prefixes-unbroken)
 
 -- ---- from the parts to the mode
 shape_back : (text : List ℕ) (shape : Shape) → shape_of text ≡ Some shape → shape_text shape ≡ text
@@ -141,9 +100,7 @@ pub record PrefixesComeFrom (texts prefixes : List (List ℕ)) : Type 0 where
 
 prefixes_back : (texts prefixes : List (List ℕ)) → prefixes_of texts ≡ Some prefixes
     → list_all are_bytes texts ≡ true → PrefixesComeFrom texts prefixes
-prefixes_back [] prefixes h b =
-    let none : [] ≡ prefixes = cc in
-    subst (λ ps. PrefixesComeFrom [] ps) none (record { parted = refl; of_bytes = refl })
+prefixes_back [] prefixes h b = grind arith
 prefixes_back (word ∷ []) prefixes h b = cc
 prefixes_back (word ∷ text ∷ texts) prefixes h b =
     let test = when (bytes_eq word (codes "prefix"))
@@ -166,17 +123,9 @@ noloop_kept : (t : Bool) (word : List ℕ) (rest : List (List ℕ)) → (t ≡ t
     → noloop_parts t ++ cond t rest (word ∷ rest) ≡ word ∷ rest
 noloop_kept t word rest f = grind arith
 
-noloop_back : (options : List (List ℕ)) → noloop_parts (has_noloop options)
-    ++ after_noloop options ≡ options
-noloop_back options = grind (arith, noloop_kept, codes, same_text)
-
-either_bytes : (t : Bool) (xs ys : List (List ℕ)) → list_all are_bytes xs ≡ true
-    → list_all are_bytes ys ≡ true → list_all are_bytes (cond t xs ys) ≡ true
-either_bytes t xs ys h k = grind arith
-
 after_bytes : (options : List (List ℕ)) → list_all are_bytes options ≡ true
     → list_all are_bytes (after_noloop options) ≡ true
-after_bytes options h = grind (arith, either_bytes, codes, both_true)
+after_bytes options h = grind (arith, codes, both_true)
 
 record ModeComesFrom (shape : Option Shape) (proto : Option Proto) (caching : Option Caching)
     (noloop : Bool) (mode : ClientMode) : Type 0 where
@@ -223,21 +172,8 @@ client_back (shape ∷ proto ∷ caching ∷ keys ∷ options) made h b =
     let cached = there_then (caching_of caching) (prefixes_of (after_noloop options)) made.0.caching
     mode.caching_read in
     let texts = caching_back caching cached.0 made.0.caching cached.1.1 in
-    let bytes = behind_bytes keys options (behind_bytes caching (keys ∷ options)
-    (behind_bytes proto (caching ∷ keys ∷ options)
-    (behind_bytes shape (proto ∷ caching ∷ keys ∷ options) b))) in
+    let bytes = behind_bytes keys options (grind (arith, behind_bytes)) in
     let prefixes : PrefixesComeFrom (after_noloop options) cached.0 =
     prefixes_back (after_noloop options) cached.0 cached.1.0 (after_bytes options bytes) in
     let number = decimal-number_within 1 most_keys made.1 keys found.1 in
-    let rest : noloop_parts made.0.noloop ++ prefix_parts (prefixes_in made.0.caching) ≡ options =
-    ap (λ t. noloop_parts t ++ prefix_parts (prefixes_in made.0.caching)) (sym mode.noloop_read)
-    ∙ ap (λ ps. noloop_parts (has_noloop options) ++ prefix_parts ps) texts.1
-    ∙ ap (λ ps. noloop_parts (has_noloop options) ++ ps) prefixes.parted
-    ∙ noloop_back options in
-    record {
-      parted = λ i. shape_back shape made.0.shape mode.shape_read i
-          ∷ proto_back proto made.0.proto mode.proto_read i ∷ texts.0 i ∷ number.1 i ∷ rest i;
-      mode_fits = both _ _ mode.speaks
-          (ap (list_all are_bytes) texts.1 ∙ prefixes.of_bytes);
-      keys_fit = number.0;
-    }
+    grind (arith, shape_back, proto_back, both, noloop_kept, codes, same_text)

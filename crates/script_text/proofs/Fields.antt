@@ -3,7 +3,6 @@ use Rattle.std.proofs.Common.{◌≡◌, ◌<◌, ◌==◌, ℕ, List, [], ◌�
 use Rattle.std.proofs.Common.{◌∙◌, subst, arith, length, map}
 use Rattle.std.specs.declared.option.Option.{Option}
 use Rattle.std.specs.declared.option.Option.TheVariants.{None, Some}
-use Rattle.std.specs.Fmt.{decimal}
 use Rattle.std.specs.List.{list_all}
 use Rattle.std.specs.Option.{option_map}
 use Rattle.std.proofs.lemmas.Bool.{lt-ltb}
@@ -32,9 +31,6 @@ joined-bytes [] ys h k = k
 joined-bytes (x ∷ xs) ys h k =
     both _ _ (both_true _ _ h).0 (joined-bytes xs ys (both_true _ _ h).1 k)
 
-escaped-bytes : (letter : ℕ) → are_bytes (escaped letter) ≡ true
-escaped-bytes letter = grind (arith, cond-bytes, nat_tests)
-
 mutual
   pub unescaped-bytes : (text : List ℕ) → are_bytes text ≡ true → are_bytes (unescaped text) ≡ true
   unescaped-bytes [] h = refl
@@ -48,7 +44,7 @@ mutual
   after_backslash-bytes [] h = refl
   after_backslash-bytes (b ∷ text) h = cond-bytes (b == 120) (after_x text) (escaped b
       ++ unescaped text) (after_x-bytes text (both_true _ _ h).1)
-      (joined-bytes (escaped b) (unescaped text) (escaped-bytes b)
+      (joined-bytes (escaped b) (unescaped text) (grind (arith, cond-bytes, nat_tests))
       (unescaped-bytes text (both_true _ _ h).1))
 
   after_x-bytes : (text : List ℕ) → are_bytes text ≡ true → are_bytes (after_x text) ≡ true
@@ -89,10 +85,7 @@ pub record WordsComeFrom (texts words : List (List ℕ)) : Type 0 where
 
 pub printed-words_of : (texts words : List (List ℕ)) → words_of texts ≡ Some words
     → list_all are_bytes texts ≡ true → WordsComeFrom texts words
-printed-words_of [] words h k =
-    let none : [] ≡ words = cc in
-    subst (λ ws. WordsComeFrom [] ws) none
-    (record { printed_as = refl; of_bytes = refl; as_many = refl })
+printed-words_of [] words h k = grind arith
 printed-words_of (text ∷ texts) words h k =
     let parts = split_words (word_of text) (words_of texts) words h in
     let word = parts.0 in
@@ -100,20 +93,13 @@ printed-words_of (text ∷ texts) words h k =
     let first = parts.1.1.0 in
     let more : WordsComeFrom texts rest =
     printed-words_of texts rest parts.1.1.1 (both_true _ _ k).1 in
-    subst (λ ws. WordsComeFrom (text ∷ texts) ws) parts.1.1.2 (record {
-      printed_as = ap (λ t. t ∷ map printed rest) (printed-word_of word text first)
-          ∙ ap (λ ts. text ∷ ts) more.printed_as;
-      of_bytes = both _ _ (word-bytes text word first (both_true _ _ k).0) more.of_bytes;
-      as_many = omega (arith, more.as_many);
-    })
+    grind (arith, printed-word_of, both, word-bytes, both_true)
 
 -- ---- amounts
 pub amount_of-parts : (amount : Option ℕ) → is_amount amount ≡ true
     → amount_of (amount_parts amount) ≡ Some amount
 amount_of-parts None h = refl
-amount_of-parts (Some count) h =
-    ap (option_map Some) (number_within-decimal 1 greatest count (decimal count) h
-    (small_within 1 greatest count (omega arith) h) refl)
+amount_of-parts (Some count) h = grind (arith, number_within-decimal, small_within)
 
 pub option_map-some : {A B : Type 0} (f : A → B) (o : Option A) (y : B) → option_map f o ≡ Some y
     → (x : A) × ((o ≡ Some x) × (f x ≡ y))
@@ -121,12 +107,9 @@ option_map-some f o y h = grind (arith, nat_tests)
 
 pub parts-amount_of : (texts : List (List ℕ)) (amount : Option ℕ) → amount_of texts ≡ Some amount
     → (amount_parts amount ≡ texts) × (is_amount amount ≡ true)
-parts-amount_of [] amount h =
-    let none : None ≡ amount = cc in
-    subst (λ a. (amount_parts a ≡ []) × (is_amount a ≡ true)) none (refl, refl)
+parts-amount_of [] amount h = grind arith
 parts-amount_of (text ∷ []) amount h =
     let found = option_map-some Some (number_within 1 greatest text) amount h in
     let back = decimal-number_within 1 greatest found.0 text found.1.0 in
-    subst (λ a. (amount_parts a ≡ text ∷ []) × (is_amount a ≡ true)) found.1.1
-    (ap (λ t. t ∷ []) back.1, back.0)
+    grind arith
 parts-amount_of (text ∷ next ∷ texts) amount h = cc

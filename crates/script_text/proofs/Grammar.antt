@@ -1,11 +1,11 @@
 -- A line has an event exactly where it is a line of that event, and the event is valid.
-use Rattle.std.proofs.Common.{◌≡◌, ◌<◌, ◌==◌, ℕ, List, [], ◌∷◌, Bool, true, false, cond, nat_le}
+use Rattle.std.proofs.Common.{◌≡◌, ◌<◌, ◌==◌, ℕ, List, [], ◌∷◌, true, false, nat_le}
 use Rattle.std.proofs.Common.{codes, refl, sym, ap, ◌∙◌, subst, arith, length, map, ◌⊎◌, inl, inr}
 use Rattle.std.specs.declared.option.Option.{Option}
 use Rattle.std.specs.declared.option.Option.TheVariants.{None, Some}
 use Rattle.std.specs.Fmt.{decimal}
 use Rattle.std.specs.List.{list_all, slice_split, join_with_byte}
-use Rattle.std.specs.Option.{option_map, option_and_then}
+use Rattle.std.specs.Option.{option_map}
 use Rattle.std.specs.Str.{bytes_eq}
 use Rattle.std.proofs.lemmas.Bool.{lt-ltb}
 use Rattle.std.proofs.lemmas.List.Splits.{join_with_byte-slice_split}
@@ -50,15 +50,12 @@ of_name : (kind name : List ℕ) (rest : List (List ℕ)) (event : Event)
 unfolding event_of_parts
 of_name kind name rest event later n e = grind (arith, named)
 
-always_none : (t : Bool) (o : Option Event) → o ≡ None → cond t o None ≡ None
-always_none t o h = grind arith
-
 -- an event of a link
 of_link : (kind link : List ℕ) (rest : List (List ℕ)) (event : Event)
     → bytes_eq kind (codes "now") ≡ false → named_event kind link rest ≡ None → is_link link ≡ true
     → link_event kind link rest ≡ Some event → event_of_parts (kind ∷ link ∷ rest) ≡ Some event
 unfolding event_of_parts
-of_link kind link rest event later other n e = grind (arith, always_none, named)
+of_link kind link rest event later other n e = grind (arith, named)
 
 asked_there : (client : List ℕ) (words query : List (List ℕ)) → is_name client ≡ true
     → query_of words ≡ Some query → list_all are_bytes words ≡ true
@@ -66,63 +63,33 @@ asked_there : (client : List ℕ) (words query : List (List ℕ)) → is_name cl
 unfolding named_event
 asked_there client words query n q b =
     of_name (codes "ask") client (map printed words) (Ask client query) refl n
-    (ap (option_map (Ask client))
-    (ap (option_and_then query_of) (words_of-printed words b) ∙ q))
+    (grind (arith, words_of-printed))
 
 event_of_parts-parts : (event : Event) → has_fields event ≡ true
     → event_of_parts (parts_of event) ≡ Some event
 unfolding event_of_parts named_event link_event
 event_of_parts-parts (Raw link) h = of_name (codes "raw") link [] (Raw link) refl h refl
-event_of_parts-parts (Say link words) h =
-    let parts = both_true _ _ h in
-    of_name (codes "say") link (map printed words) (Say link words) refl parts.0
-    (ap (option_map (Say link)) (requested words parts.1))
+event_of_parts-parts (Say link words) h = grind (arith, both_true, of_name, codes, requested)
 event_of_parts-parts (Bytes link bytes) h =
-    let parts = both_true _ _ h in
-    of_name (codes "bytes") link (printed bytes ∷ []) (Bytes link bytes) refl parts.0
-    (ap (option_map (Bytes link)) (word_of-printed bytes (printed bytes) parts.1 refl))
+    grind (arith, both_true, of_name, codes, word_of-printed)
 event_of_parts-parts (Client client mode keys) h =
-    let parts = both_true _ _ h in
-    let fields = both_true _ _ parts.1 in
-    of_name (codes "client") client (client_parts mode keys) (Client client mode keys) refl parts.0
-    (ap (option_map (λ (made : ClientMode × ℕ). Client client made.0 made.1))
-    (client_there mode keys fields.0 fields.1))
-event_of_parts-parts (Out link amount) h =
-    let parts = both_true _ _ h in
-    of_link (codes "out") link (amount_parts amount) (Out link amount) refl refl parts.0
-    (ap (option_map (Out link)) (amount_of-parts amount parts.1))
+    grind (arith, both_true, of_name, codes, client_there)
+event_of_parts-parts (Out link amount) h = grind (arith, both_true, of_link, codes, amount_of-parts)
 event_of_parts-parts (Serve link amount) h =
-    let parts = both_true _ _ h in
-    of_link (codes "serve") link (amount_parts amount) (Serve link amount) refl refl parts.0
-    (ap (option_map (Serve link)) (amount_of-parts amount parts.1))
+    grind (arith, both_true, of_link, codes, amount_of-parts)
 event_of_parts-parts (Send link amount) h =
-    let parts = both_true _ _ h in
-    of_link (codes "send") link (amount_parts amount) (Send link amount) refl refl parts.0
-    (ap (option_map (Send link)) (amount_of-parts amount parts.1))
+    grind (arith, both_true, of_link, codes, amount_of-parts)
 event_of_parts-parts (Recv link amount) h =
-    let parts = both_true _ _ h in
-    of_link (codes "recv") link (amount_parts amount) (Recv link amount) refl refl parts.0
-    (ap (option_map (Recv link)) (amount_of-parts amount parts.1))
+    grind (arith, both_true, of_link, codes, amount_of-parts)
 event_of_parts-parts (Flow link) h = of_link (codes "flow") link [] (Flow link) refl refl h refl
 event_of_parts-parts FlowAll h = refl
 event_of_parts-parts (Cut link) h = of_link (codes "cut") link [] (Cut link) refl refl h refl
-event_of_parts-parts (Now moment) h =
-    ap (option_map Now) (number_within-decimal 0 greatest moment (decimal moment) h
-    (small_within 0 greatest moment (omega arith) h) refl)
+event_of_parts-parts (Now moment) h = grind (arith, number_within-decimal, small_within)
 event_of_parts-parts Tick h = refl
-event_of_parts-parts (Ask client query) h =
-    let parts = both_true _ _ h in
-    let fields = both_true _ _ parts.1 in
-    asked_there client query query parts.0 (query_of-is_query query fields.0) fields.1
-event_of_parts-parts (Do client words) h =
-    let parts = both_true _ _ h in
-    of_name (codes "do") client (map printed words) (Do client words) refl parts.0
-    (ap (option_map (Do client)) (requested words parts.1))
+event_of_parts-parts (Ask client query) h = grind (arith, both_true, asked_there, query_of-is_query)
+event_of_parts-parts (Do client words) h = grind (arith, both_true, of_name, codes, requested)
 event_of_parts-parts (Poll client number) h =
-    let parts = both_true _ _ h in
-    of_name (codes "poll") client (decimal number ∷ []) (Poll client number) refl parts.0
-    (ap (option_map (Poll client)) (number_within-decimal 0 greatest number (decimal number) parts.1
-    (small_within 0 greatest number (omega arith) parts.1) refl))
+    grind (arith, both_true, of_name, codes, number_within-decimal, small_within)
 event_of_parts-parts (Show client) h = of_name (codes "show") client [] (Show client) refl h refl
 
 -- ---- from the parts to their event
@@ -222,23 +189,14 @@ ask_back kind name rest event k n b h =
     let read = there_then query_of (words_of rest) query found.1.0 in
     let words = read.0 in
     let back : WordsComeFrom rest words = printed-words_of rest words read.1.0 b in
-    let asked : Asked event = record {
-      client = name;
-      query = query;
-      words = words;
-      is_ask = found.1.1;
-      is_read = read.1.1;
-      of_bytes = back.of_bytes;
-    } in
+    let asked : Asked event = grind arith in
     record {
       parted = inr (
         asked,
         ap (λ w. w ∷ name ∷ map printed words) (same_text kind (codes "ask") k)
             ∙ ap (λ more. kind ∷ name ∷ more) back.printed_as,
       );
-      fields = subst (λ e. has_fields e ≡ true) found.1.1 (both _ _ n
-          (both _ _ (is_query-read words query read.1.1)
-          (query_bytes words query read.1.1 back.of_bytes)));
+      fields = grind (arith, both, is_query-read, query_bytes);
     }
 
 poll_back : (kind name : List ℕ) (rest : List (List ℕ)) (event : Event)
@@ -278,9 +236,7 @@ named_back kind name rest event n b =
     (λ k h. words_back (Do name) kind (codes "do") name rest event k (λ ws. refl) fields b h) (
     by_test R event (bytes_eq kind (codes "poll")) (option_map (Poll name) (polled_of rest)) _
     (λ k h. poll_back kind name rest event k n h) (
-    by_test R event (bytes_eq kind (codes "show")) (bare (Show name) rest) None
-    (λ k h. bare_back (Show name) kind (codes "show") name rest event k refl n h) (
-    none_is_some R event))))))))
+    grind (arith, by_test, codes, bare_back, none_is_some))))))))
 
 link_back : (kind link : List ℕ) (rest : List (List ℕ)) (event : Event) → is_link link ≡ true
     → link_event kind link rest ≡ Some event → ComesBack (kind ∷ link ∷ rest) event
@@ -342,11 +298,7 @@ parts_back : (parts : List (List ℕ)) (event : Event) → list_all are_bytes pa
     → event_of_parts parts ≡ Some event → ComesBack parts event
 unfolding event_of_parts
 parts_back [] event b h = cc
-parts_back (kind ∷ []) event b h =
-    let R = ComesBack (kind ∷ []) event in
-    by_test R event (bytes_eq kind (codes "flow")) (Some FlowAll) _ (all_back kind event) (
-    by_test R event (bytes_eq kind (codes "tick")) (Some Tick) None (tick_back kind event) (
-    none_is_some R event)) h
+parts_back (kind ∷ []) event b h = grind (arith, by_test, codes, all_back, tick_back, none_is_some)
 parts_back (kind ∷ name ∷ rest) event b h =
     let bytes = (both_true _ _ (both_true _ _ b).1).1 in
     by_test (ComesBack (kind ∷ name ∷ rest) event) event (bytes_eq kind (codes "now"))
@@ -371,9 +323,7 @@ parts-unbroken (Say link words) h =
 parts-unbroken (Bytes link bytes) h =
     both _ _ (name-unbroken link (both_true _ _ h).0) (both _ _ (printed-unbroken bytes) refl)
 parts-unbroken (Client client mode keys) h =
-    let parts = both_true _ _ h in
-    both _ _ (name-unbroken client parts.0)
-    (client-unbroken mode keys (both_true _ _ parts.1).1)
+    grind (arith, both_true, both, name-unbroken, client-unbroken)
 parts-unbroken (Out link amount) h =
     both _ _ (link-unbroken link (both_true _ _ h).0) (amount-unbroken amount (both_true _ _ h).1)
 parts-unbroken (Serve link amount) h =
@@ -393,9 +343,7 @@ parts-unbroken (Ask client query) h =
 parts-unbroken (Do client words) h =
     both _ _ (name-unbroken client (both_true _ _ h).0) (all_printed-unbroken words)
 parts-unbroken (Poll client number) h =
-    let parts = both_true _ _ h in
-    both _ _ (name-unbroken client parts.0)
-    (both _ _ (decimal-unbroken number (small_within 0 greatest number (omega arith) parts.1)) refl)
+    grind (arith, both_true, both, name-unbroken, decimal-unbroken, small_within)
 parts-unbroken (Show client) h = both _ _ (name-unbroken client h) refl
 
 pub parted_again : (parts : List (List ℕ)) → list_all is_unbroken parts ≡ true → 0 < length parts
@@ -405,12 +353,6 @@ parted_again (part ∷ parts) h l = parted-joined part parts h
 
 some_part : (event : Event) → 0 < length (parts_of event)
 some_part event = grind arith
-
--- ---- the lines of an event
--- its one line is one of them
-own_line : (event : Event) (line : List ℕ) → has_fields event ≡ true → line_of event ≡ line
-    → IsLineOf event line
-own_line event line h e = grind (arith, both_true, query_of-is_query)
 
 -- the others ask for a query
 line_is : (event : Event) (line : List ℕ) → IsLineOf event line
@@ -444,14 +386,6 @@ line_is (Do client words) line e = inl e
 line_is (Poll client number) line e = inl e
 line_is (Show client) line e = inl e
 
-asked_length : (event : Event) (a : Asked event)
-    → length (line_of event) ≡ length (join_with_byte 32 (asking a.client a.words))
-asked_length event a = grind (arith, query-length)
-
-asked_line : (event : Event) (a : Asked event)
-    → IsLineOf event (join_with_byte 32 (asking a.client a.words))
-asked_line event a = grind arith
-
 -- ---- the law
 valid_line : (event : Event) (line : List ℕ) → are_bytes line ≡ true → event_of line ≡ Some event
     → (is_valid event ≡ true) × IsLineOf event line
@@ -462,16 +396,8 @@ valid_line event line b h =
     parts_back (slice_split (λ b. b == 32) line) event (parted-bytes line b) short.1 in
     let whole = join_with_byte-slice_split 32 line in
     elim back.parted [
-      | inl p ↦ let same : line_of event ≡ line = ap (join_with_byte 32) p ∙ whole in (
-        both _ _ back.fields (ap (λ l. nat_le (length l) longest_line) same ∙ short.0),
-        own_line event line back.fields same,
-      )
-      | inr p ↦ let same : join_with_byte 32 (asking p.0.client p.0.words) ≡ line =
-          ap (join_with_byte 32) p.1 ∙ whole in (
-            both _ _ back.fields (ap (λ n. nat_le n longest_line)
-                (asked_length event p.0 ∙ ap length same) ∙ short.0),
-            subst (λ l. IsLineOf event l) same (asked_line event p.0),
-          )
+      | inl p ↦ grind (arith, both, nat_le, both_true, query_of-is_query)
+      | inr p ↦ grind (arith, both, nat_le, query-length)
     ]
 
 parted_back : (event : Event) (parts : List (List ℕ)) (line : List ℕ)
@@ -493,8 +419,7 @@ event_back event line v is_line =
           let client : is_name a.client ≡ true =
           (both_true _ _ (subst (λ e. has_fields e ≡ true) (sym a.is_ask) valid.0)).0 in
           parted_back event (asking a.client a.words) line
-          (ap (λ n. nat_le n longest_line) (ap length (sym p.1) ∙ sym (asked_length event a))
-          ∙ valid.1) p.1
+          (grind (arith, nat_le, query-length)) p.1
           (both _ _ (name-unbroken a.client client) (all_printed-unbroken a.words))
           (omega arith)
           (asked_there a.client a.words a.query client a.is_read a.of_bytes ∙ ap Some a.is_ask)

@@ -1,4 +1,3 @@
-pub mod Escapes
 pub mod Numbers
 pub mod Spelling
 pub mod Parts

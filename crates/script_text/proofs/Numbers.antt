@@ -24,25 +24,18 @@ pub number_within-none : (low high : ℕ) (text : List ℕ)
 unfolding number_within
 number_within-none low high text h = grind (arith, none_unless, both_true, bytes_eq-Decides)
 
-some_where : (b : Bool) (m n : ℕ) → b ≡ true → m ≡ n → cond b (Some m) None ≡ Some n
-some_where b m n h e = grind arith
-
 pub number_within-decimal : (low high n : ℕ) (text : List ℕ) → is_within low high n ≡ true
     → n < 2 ^ 64 → decimal n ≡ text → number_within low high text ≡ Some n
 unfolding number_within
 number_within-decimal low high n text within small e =
     let read : digits_value 10 text ≡ n = ap (digits_value 10) (sym e)
     ∙ (decimal_is_IsNumeral n small).1 in
-    some_where _ _ n (both _ _ (ap (is_within low high) read ∙ within)
-    ((bytes_eq-Decides _ _).1 (ap decimal read ∙ e))) read
-
-some_back : (t : Bool) (m n : ℕ) → cond t (Some m) None ≡ Some n → (t ≡ true) × (m ≡ n)
-some_back t m n h = grind arith
+    grind (arith, both, bytes_eq-Decides)
 
 pub decimal-number_within : (low high n : ℕ) (text : List ℕ) → number_within low high text ≡ Some n
     → (is_within low high n ≡ true) × (decimal n ≡ text)
 unfolding number_within
-decimal-number_within low high n text h = grind (arith, some_back, both_true, bytes_eq-Decides)
+decimal-number_within low high n text h = grind (arith, both_true, bytes_eq-Decides)
 
 -- what is not more than a number of 64 bits is one
 pub small_within : (low high n : ℕ) → high ≤ greatest → is_within low high n ≡ true → n < 2 ^ 64

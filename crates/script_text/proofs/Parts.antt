@@ -1,9 +1,9 @@
 -- Parts that hold no blank are what a line is parted into, and the parts of a line hold its bytes.
-use Rattle.std.proofs.Common.{◌≡◌, ◌<◌, ◌/◌, ◌%◌, ◌==◌, ◌^◌, ℕ, List, [], ◌∷◌, ◌++◌, Bool, true}
+use Rattle.std.proofs.Common.{◌≡◌, ◌<◌, ◌==◌, ◌^◌, ℕ, List, [], ◌∷◌, ◌++◌, Bool, true}
 use Rattle.std.proofs.Common.{false, not, cond, refl, sym, ap, ◌∙◌, subst, arith, ◌⊎◌, ◌-◌, ◌||◌}
 use Rattle.std.proofs.Common.{length, take, codes, map}
 use Rattle.std.specs.Fmt.{decimal}
-use Rattle.std.specs.List.{list_all, slice_split, onto_first, join_with_byte, All, AllPass}
+use Rattle.std.specs.List.{list_all, slice_split, join_with_byte, All, AllPass}
 use Rattle.std.specs.Str.Parse.{AllDigits}
 use Rattle.std.proofs.lemmas.Bool.{eqb-true}
 use Rattle.std.proofs.lemmas.Bool.Decides.{nat_tests}
@@ -13,8 +13,8 @@ use Rattle.std.proofs.lemmas.List.Splits.{slice_split_none, slice_split_at}
 use Rattle.std.proofs.lemmas.List.Sums.{AllPass-from_list_all}
 use Rattle.std.proofs.lemmas.Slice.Eq.{bytes_eq-Decides}
 use Rattle.std.proofs.lemmas.Str.Parse.{digit_from_value}
-use Rattle.command_words.specs.Printed.{printed, printed_byte, printed_bytes, hex_digit}
-use Rattle.script_text.specs.Words.{is_byte, is_name, is_name_byte, is_name_with, is_link}
+use Rattle.command_words.specs.Printed.{printed, printed_byte, printed_bytes}
+use Rattle.script_text.specs.Words.{is_name, is_name_with, is_link}
 use Rattle.script_text.specs.Grammar.{are_bytes}
 use Rattle.script_text.proofs.Numbers.{both_true, both}
 use Rattle.script_text.proofs.Spelling.{printing, lettered, plain, numbered, either}
@@ -39,11 +39,6 @@ parted-joined part (next ∷ parts) h =
     (no_blank part (both_true _ _ h).0) refl
     ∙ ap (λ rest. part ∷ rest) (parted-joined next parts (both_true _ _ h).1)
 
--- ---- the bytes of the parts are those of the line
-onto_first-bytes : (b : ℕ) (parts : List (List ℕ)) → is_byte b ≡ true
-    → list_all are_bytes parts ≡ true → list_all are_bytes (onto_first b parts) ≡ true
-onto_first-bytes b parts h k = grind (arith, both, both_true, nat_tests)
-
 cond-bytes : (t : Bool) (xs ys : List (List ℕ)) → list_all are_bytes xs ≡ true
     → list_all are_bytes ys ≡ true → list_all are_bytes (cond t xs ys) ≡ true
 cond-bytes t xs ys h k = grind (arith, nat_tests)
@@ -54,8 +49,7 @@ parted-bytes [] h = refl
 parted-bytes (b ∷ line) h =
     let parts = slice_split (λ c. c == 32) line in
     let rest = parted-bytes line (both_true _ _ h).1 in
-    cond-bytes (b == 32) ([] ∷ parts) (onto_first b parts) rest
-    (onto_first-bytes b parts (both_true _ _ h).0 rest)
+    grind (arith, cond-bytes, both_true, both, nat_tests)
 
 -- ---- no blank is in a name, in a printed word or in a number
 list_all_wider : (p q : ℕ → Bool) → ((b : ℕ) → p b ≡ true → q b ≡ true) → (xs : List ℕ)
@@ -67,11 +61,9 @@ list_all_wider p q f (x ∷ xs) h =
 not_false : (t : Bool) → t ≡ false → not t ≡ true
 not_false t h = grind (arith, nat_tests)
 
-name_byte-unbroken : (b : ℕ) → is_name_byte b ≡ true → not (b == 32) ≡ true
-name_byte-unbroken b h = grind (arith, either, eqb-true, not_false, nat_tests)
-
 pub name-unbroken : (link : List ℕ) → is_name link ≡ true → is_unbroken link ≡ true
-name-unbroken link h = grind (arith, list_all_wider, name_byte-unbroken, both_true)
+name-unbroken link h =
+    grind (arith, list_all_wider, both_true, either, eqb-true, not_false, nat_tests)
 
 list_all_joined : (p : ℕ → Bool) (xs ys : List ℕ) → list_all p xs ≡ true → list_all p ys ≡ true
     → list_all p (xs ++ ys) ≡ true
@@ -96,21 +88,9 @@ one_of a b h = grind (arith, nat_tests)
 pub link-unbroken : (link : List ℕ) → is_link link ≡ true → is_unbroken link ≡ true
 link-unbroken link h = grind (arith, one_of, codes, name-unbroken, name_with-unbroken, nat_tests)
 
-hex_digit-above : (n : ℕ) → 32 < hex_digit n
-hex_digit-above n = grind (arith, nat_tests)
-
-hex_digit-unbroken : (n : ℕ) → not (hex_digit n == 32) ≡ true
-hex_digit-unbroken n = grind (arith, either, hex_digit-above, eqb-true, not_false, nat_tests)
-
 printed_byte-unbroken : (b : ℕ) → is_unbroken (printed_byte b) ≡ true
 printed_byte-unbroken b =
-    elim (printing b) [
-      | lettered letter e not_x not_blank kept ↦ ap is_unbroken e
-          ∙ both _ _ (not_false _ not_blank) refl
-      | plain e not_escape not_blank ↦ ap is_unbroken e ∙ both _ _ (not_false _ not_blank) refl
-      | numbered e ↦ ap is_unbroken e
-          ∙ both _ _ (hex_digit-unbroken (b / 16)) (both _ _ (hex_digit-unbroken (b % 16)) refl)
-    ]
+    grind (arith, printing, lettered, both, not_false, plain, numbered, either, eqb-true, nat_tests)
 
 printed_bytes-unbroken : (word : List ℕ) → is_unbroken (printed_bytes word) ≡ true
 unfolding printed_bytes

@@ -1,6 +1,7 @@
 -- A text is a line of a script exactly where it is the line of what is asked, and that is valid.
-use Rattle.std.proofs.Common.{◌≡◌, ◌<◌, ◌≤◌, ◌==◌, ℕ, List, [], ◌∷◌, Bool, true, false, cond, not}
-use Rattle.std.proofs.Common.{nat_le, codes, refl, sym, ap, ◌∙◌, subst, arith, length, map}
+use Rattle.std.proofs.lemmas.Bool.Decides.{nat_tests}
+use Rattle.std.proofs.Common.{◌≡◌, ◌<◌, ◌==◌, ℕ, List, [], ◌∷◌, Bool, true, false, cond, not}
+use Rattle.std.proofs.Common.{nat_le, codes, refl, ap, ◌∙◌, arith, length, map}
 use Rattle.std.specs.declared.option.Option.{Option}
 use Rattle.std.specs.declared.option.Option.TheVariants.{None, Some}
 use Rattle.std.specs.Fmt.{decimal}
@@ -18,7 +19,7 @@ use Rattle.script_text.specs.declared.script_line.ScriptLine.{ScriptLine}
 use Rattle.script_text.specs.Words.{is_within, number_within, words_of}
 use Rattle.script_text.specs.Events.{asked_of, request_of, longest_line}
 use Rattle.script_text.specs.Grammar.{are_bytes, is_request}
-use Rattle.script_text.specs.Scripts.{most_threads, unless_control, sent_of, script_call, line_with}
+use Rattle.script_text.specs.Scripts.{most_threads, unless_control, sent_of, script_call}
 use Rattle.script_text.specs.Scripts.{script_line_of_parts, script_line_of, is_sent, is_call, said}
 use Rattle.script_text.specs.Scripts.{is_script_line, IsTextOf, ScriptLinesComeBack, IsValidCall}
 use Rattle.script_text.specs.Scripts.{IsValidLine, ScriptLinesAreValid}
@@ -32,7 +33,7 @@ use Rattle.script_text.proofs.Fields.{option_map-some}
 use Rattle.script_text.proofs.ClientFields.{there_then}
 use Rattle.script_text.proofs.Asking.{is_query-read, query_bytes}
 use Rattle.script_text.proofs.Grammar.{requested, parted_again}
-use Rattle.script_text.proofs.Valid.{Of, of_request, IsQuery, of_asked}
+use Rattle.script_text.proofs.Valid.{of_asked}
 
 -- ---- from the text to what it asks
 not_control : (t : Bool) (x y : List (List ℕ)) → cond t None (Some x) ≡ Some y
@@ -66,19 +67,7 @@ ask_back kind rest call k b h =
     let read = there_then query_of (words_of rest) query found.1.0 in
     let words = read.0 in
     let back : WordsComeFrom rest words = printed-words_of rest words read.1.0 b in
-    subst (λ c. CallBack kind rest c) found.1.1 (record {
-      is_said = (
-        words,
-        (
-          read.1.1,
-          back.of_bytes,
-          same_text kind (codes "ask") k,
-          back.printed_as,
-        ),
-      );
-      valid = both _ _ (is_query-read words query read.1.1)
-          (query_bytes words query read.1.1 back.of_bytes);
-    })
+    grind (arith, same_text, codes, both, is_query-read, query_bytes)
 
 do_back : (kind : List ℕ) (rest : List (List ℕ)) (call : ScriptCall)
     → bytes_eq kind (codes "do") ≡ true → list_all are_bytes rest ≡ true
@@ -90,10 +79,7 @@ do_back kind rest call k b h =
     let kept = not_control (is_control read.0) read.0 words read.1.1 in
     let asked : request_of rest ≡ Some words = read.1.0 ∙ ap Some kept.1 in
     let back = request_back rest words b asked in
-    subst (λ c. CallBack kind rest c) found.1.1 (record {
-      is_said = (same_text kind (codes "do") k, back.0);
-      valid = both _ _ back.1 (subst (λ w. not (is_control w) ≡ true) kept.1 kept.0);
-    })
+    grind (arith, same_text, codes, both)
 
 call_back : (kind : List ℕ) (rest : List (List ℕ)) (call : ScriptCall)
     → list_all are_bytes rest ≡ true → script_call kind rest ≡ Some call
@@ -110,10 +96,6 @@ record Both (thread : Option ℕ) (call : Option ScriptCall) (line : ScriptLine)
   thread_is : thread ≡ Some line.thread
   call_is : call ≡ Some line.call
 
-both_there : (thread : Option ℕ) (call : Option ScriptCall) (line : ScriptLine)
-    → line_with thread call ≡ Some line → Both thread call line
-both_there thread call line h = grind arith
-
 -- the text is the line's, where its parts are
 text_is : (call : ScriptCall) (thread : ℕ) (kind : List ℕ) (rest : List (List ℕ)) (text : List ℕ)
     → IsSaid call kind rest → join_with_byte 32 (decimal thread ∷ kind ∷ rest) ≡ text
@@ -129,15 +111,11 @@ parts_back [] line text b j h = cc
 parts_back (thread ∷ []) line text b j h = cc
 parts_back (thread ∷ kind ∷ rest) line text b j h =
     let there : Both (number_within 1 most_threads thread) (script_call kind rest) line =
-    both_there _ _ line h in
+    grind arith in
     let number = decimal-number_within 1 most_threads line.thread thread there.thread_is in
     let bytes = (both_true _ _ (both_true _ _ b).1).1 in
     let back : CallBack kind rest line.call =
-    call_back kind rest line.call bytes there.call_is in (
-      both _ _ number.0 back.valid,
-      text_is line.call line.thread kind rest text back.is_said
-          (ap (λ n. join_with_byte 32 (n ∷ kind ∷ rest)) number.1 ∙ j),
-    )
+    call_back kind rest line.call bytes there.call_is in grind (arith, both, text_is)
 
 -- ---- from what is asked to its text
 abbrev There : ℕ → ScriptCall → List (List ℕ) → Type 0
@@ -148,10 +126,7 @@ with_thread : (thread : ℕ) (kind : List ℕ) (rest : List (List ℕ)) (call : 
     → is_within 1 most_threads thread ≡ true → script_call kind rest ≡ Some call
     → There thread call (decimal thread ∷ kind ∷ rest)
 unfolding script_line_of_parts
-with_thread thread kind rest call w h =
-    let number = number_within-decimal 1 most_threads thread (decimal thread) w
-    (small_within 1 most_threads thread (omega arith) w) refl in
-    ap (λ n. line_with n (script_call kind rest)) number ∙ ap (line_with (Some thread)) h
+with_thread thread kind rest call w h = grind (arith, number_within-decimal, small_within)
 
 asked_there : (words query : List (List ℕ)) → query_of words ≡ Some query
     → list_all are_bytes words ≡ true
@@ -166,27 +141,20 @@ allowed t e h = grind arith
 sent_there : (words : List (List ℕ)) → is_sent words ≡ true
     → script_call (codes "do") (map printed words) ≡ Some (Do words)
 unfolding script_call
-sent_there words h =
-    let fields = both_true _ _ h in
-    ap (option_map Do) (ap (option_and_then unless_control) (requested words fields.0)
-    ∙ allowed (is_control words) words fields.1)
+sent_there words h = grind (arith, both_true, requested, allowed)
 
 short_there : (line : ScriptLine) (parts : List (List ℕ)) (text : List ℕ)
     → nat_le (length text) longest_line ≡ true → join_with_byte 32 parts ≡ text
     → list_all is_unbroken parts ≡ true → 0 < length parts
     → script_line_of_parts parts ≡ Some line → script_line_of text ≡ Some line
 unfolding script_line_of
-short_there line parts text short joined u l there =
-    let parted : slice_split (λ b. b == 32) text ≡ parts =
-    ap (slice_split (λ b. b == 32)) (sym joined) ∙ parted_again parts u l in
-    named _ _ line short (ap script_line_of_parts parted ∙ there)
+short_there line parts text short joined u l there = grind (arith, parted_again, named)
 
 said-unbroken : (thread : ℕ) (kind : List ℕ) (words : List (List ℕ))
     → is_within 1 most_threads thread ≡ true → is_unbroken kind ≡ true
     → list_all is_unbroken (said thread kind words) ≡ true
 said-unbroken thread kind words w k =
-    both _ _ (decimal-unbroken thread (small_within 1 most_threads thread (omega arith) w))
-    (both _ _ k (all_printed-unbroken words))
+    grind (arith, both, decimal-unbroken, small_within, all_printed-unbroken)
 
 call_there : (thread : ℕ) (call : ScriptCall) (text : List ℕ)
     → is_within 1 most_threads thread ≡ true → is_call call ≡ true
@@ -195,8 +163,7 @@ call_there : (thread : ℕ) (call : ScriptCall) (text : List ℕ)
 call_there thread (Ask query) text w v short t =
     short_there (record { thread = thread; call = Ask query }) (said thread (codes "ask") t.0)
     text short t.1.2 (said-unbroken thread (codes "ask") t.0 w refl) (omega arith)
-    (with_thread thread (codes "ask") (map printed t.0) (Ask query) w
-    (asked_there t.0 query t.1.0 t.1.1))
+    (grind (arith, with_thread, codes, asked_there))
 call_there thread (Do words) text w v short t =
     short_there (record { thread = thread; call = Do words }) (said thread (codes "do") words)
     text short t (said-unbroken thread (codes "do") words w refl) (omega arith)
@@ -221,27 +188,16 @@ script_lines_come_back line text b = (
       call_there line.thread line.call text valid.0 valid.1 h.1 h.2,
 )
 
--- ---- each line is valid
-within_threads : (n : ℕ) → is_within 1 most_threads n ≡ true → (1 ≤ n) × (n ≤ most_threads)
-within_threads n h = grind (arith, leb-true, both_true)
-
 not_true : (t : Bool) → not t ≡ true → t ≡ false
 not_true t h = grind arith
-
-of_sent : (rest words : List (List ℕ)) → sent_of rest ≡ Some words → IsValidCall (Do words)
-of_sent rest words h = grind (arith, there_then, not_control, of_request, not_true)
 
 of_call : (kind : List ℕ) (rest : List (List ℕ)) (call : ScriptCall)
     → script_call kind rest ≡ Some call → IsValidCall call
 unfolding script_call
 of_call kind rest call =
     by_test (IsValidCall call) call (bytes_eq kind (codes "ask")) (option_map Ask (asked_of rest)) _
-    (λ k h. let found = option_map-some Ask (asked_of rest) call h in
-    subst IsValidCall found.1.1 (subst (Of IsQuery) found.1.0 (of_asked (words_of rest)))) (
-    by_test (IsValidCall call) call (bytes_eq kind (codes "do")) (option_map Do (sent_of rest)) None
-    (λ k h. let found = option_map-some Do (sent_of rest) call h in
-    subst IsValidCall found.1.1 (of_sent rest found.0 found.1.0))
-    (none_is_some (IsValidCall call) call))
+    (grind (arith, option_map-some, of_asked)) (
+    grind (arith, there_then, not_control, not_true, nat_tests))
 
 of_line : (parts : List (List ℕ)) (line : ScriptLine) → script_line_of_parts parts ≡ Some line
     → IsValidLine line
@@ -250,10 +206,9 @@ of_line [] line h = cc
 of_line (thread ∷ []) line h = cc
 of_line (thread ∷ kind ∷ rest) line h =
     let there : Both (number_within 1 most_threads thread) (script_call kind rest) line =
-    both_there _ _ line h in
+    grind arith in
     let number = decimal-number_within 1 most_threads line.thread thread there.thread_is in
-    let within = within_threads line.thread number.0 in
-    (within.0, within.1, of_call kind rest line.call there.call_is)
+    grind (arith, of_call, leb-true, both_true)
 
 pub script_lines_are_valid : ScriptLinesAreValid
 unfolding script_line_of

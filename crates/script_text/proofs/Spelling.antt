@@ -1,21 +1,14 @@
 -- What is printed of a word is read as that word.
-use Rattle.std.proofs.Common.{◌≡◌, ◌<◌, ◌+◌, ◌*◌, ◌/◌, ◌%◌, ◌==◌, ℕ, List, [], ◌∷◌, ◌++◌, Bool}
+use Rattle.std.proofs.Common.{◌≡◌, ◌<◌, ◌/◌, ◌%◌, ◌==◌, ℕ, List, [], ◌∷◌, ◌++◌, Bool}
 use Rattle.std.proofs.Common.{true, false, cond, refl, sym, ap, ◌∙◌, subst, arith, ◌⊎◌, inl, inr}
 use Rattle.std.specs.declared.option.Option.TheVariants.{None, Some}
 use Rattle.std.specs.List.{list_all}
 use Rattle.std.proofs.lemmas.Bool.{ltb-true, eqb-true}
 use Rattle.std.proofs.lemmas.Bool.Decides.{nat_tests}
 use Rattle.std.proofs.lemmas.Slice.Eq.{bytes_eq-Decides}
-use Rattle.command_words.specs.Printed.{printed, printed_byte, printed_bytes, hex_digit, is_visible}
-use Rattle.script_text.specs.Words.{unescaped, escaped, hex_value, word_of, is_byte, WordsComeBack}
+use Rattle.command_words.specs.Printed.{printed, printed_byte, printed_bytes, hex_digit}
+use Rattle.script_text.specs.Words.{unescaped, escaped, word_of, is_byte, WordsComeBack}
 use Rattle.script_text.proofs.Numbers.{both_true}
-
-hex_value-hex_digit : (n : ℕ) → n < 16 → hex_value (hex_digit n) ≡ n
-hex_value-hex_digit n h = grind (arith, nat_tests)
-
-number_back : (b : ℕ) → b < 256
-    → 16 * hex_value (hex_digit (b / 16)) + hex_value (hex_digit (b % 16)) ≡ b
-number_back b small = grind (arith, hex_value-hex_digit, nat_tests)
 
 -- what a byte has as its printed form
 pub data Printing (b : ℕ) : Type 0 where
@@ -37,10 +30,7 @@ printing b =
           | inl e ↦ subst Printing (sym (eqb-true b 32 e)) (lettered 115 refl refl refl refl)
           | inr n32 ↦ elim (either (b == 92)) [
             | inl e ↦ subst Printing (sym (eqb-true b 92 e)) (lettered 92 refl refl refl refl)
-            | inr n92 ↦ elim (either (is_visible b)) [
-              | inl v ↦ plain (rw (n13, n10, n32, n92, v) refl) n92 n32
-              | inr v ↦ numbered (rw (n13, n10, n32, n92, v) refl)
-            ]
+            | inr n92 ↦ grind (arith, either)
           ]
         ]
       ]
@@ -48,14 +38,7 @@ printing b =
 
 byte_back : (b : ℕ) (rest : List ℕ) → b < 256 → unescaped (printed_byte b ++ rest)
     ≡ b ∷ unescaped rest
-byte_back b rest small =
-    elim (printing b) [
-      | lettered letter e not_x not_blank kept ↦ ap (λ text. unescaped (text ++ rest)) e
-          ∙ rw (not_x, kept) refl
-      | plain e not_escape not_blank ↦ ap (λ text. unescaped (text ++ rest)) e ∙ rw not_escape refl
-      | numbered e ↦ ap (λ text. unescaped (text ++ rest)) e
-          ∙ ap (λ n. n ∷ unescaped rest) (number_back b small)
-    ]
+byte_back b rest small = grind (arith, printing, nat_tests)
 
 bytes_back : (word : List ℕ) → list_all is_byte word ≡ true → unescaped (printed_bytes word) ≡ word
 unfolding printed_bytes
@@ -65,19 +48,13 @@ bytes_back (b ∷ word) h =
     byte_back b (printed_bytes word) (ltb-true b 256 parts.0)
     ∙ ap (λ rest. b ∷ rest) (bytes_back word parts.1)
 
-word_back : (word : List ℕ) → list_all is_byte word ≡ true → unescaped (printed word) ≡ word
-word_back word h = grind (arith, bytes_back, nat_tests)
-
-read_where : (t : Bool) (u w : List ℕ) → t ≡ true → u ≡ w → cond t (Some u) None ≡ Some w
-read_where t u w h e = grind (arith, nat_tests)
-
 read_back : (t : Bool) (u w : List ℕ) → cond t (Some u) None ≡ Some w → (t ≡ true) × (u ≡ w)
 read_back t u w h = grind (arith, nat_tests)
 
 pub word_of-printed : (word text : List ℕ) → list_all is_byte word ≡ true → printed word ≡ text
     → word_of text ≡ Some word
 unfolding word_of
-word_of-printed word text h e = grind (arith, word_back, read_where, bytes_eq-Decides, nat_tests)
+word_of-printed word text h e = grind (arith, bytes_eq-Decides, nat_tests, bytes_back)
 
 pub printed-word_of : (word text : List ℕ) → word_of text ≡ Some word → printed word ≡ text
 unfolding word_of

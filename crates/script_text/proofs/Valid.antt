@@ -1,15 +1,14 @@
 -- The events that lines are read as are valid.
 use Rattle.std.proofs.Common.{◌≡◌, ◌<◌, ◌≤◌, ℕ, List, [], ◌∷◌, Bool, true, cond, Option, None, Some}
-use Rattle.std.proofs.Common.{length, refl, arith, codes}
-use Rattle.std.specs.Option.{option_map, option_and_then}
+use Rattle.std.proofs.Common.{refl, arith, codes}
+use Rattle.std.specs.Option.{option_and_then}
 use Rattle.std.proofs.lemmas.Bool.Decides.{nat_tests}
 use Rattle.command_words.specs.Queries.{query_of}
 use Rattle.shared_cache.specs.declared.log.ClientMode.{ClientMode}
 use Rattle.script_text.specs.declared.event.Event.{Event}
 use Rattle.script_text.specs.Clients.{client_of, client_from, most_keys, with_keys}
-use Rattle.script_text.specs.Words.{is_within, number_within, first_and_rest}
-use Rattle.script_text.specs.Events.{bare, event_of, event_of_parts, first_there, link_event}
-use Rattle.script_text.specs.Events.{named_event, request_of}
+use Rattle.script_text.specs.Words.{is_within, number_within}
+use Rattle.script_text.specs.Events.{event_of, event_of_parts, first_there, link_event, named_event}
 use Rattle.script_text.specs.Valid.{IsValid}
 use Rattle.script_text.proofs.Asking.{query_again}
 use Rattle.script_text.proofs.Numbers.{decimal-number_within}
@@ -18,38 +17,18 @@ abbrev pub Of : {A : Type 0} → (A → Type 0) → Option A → Type 0
 Of P None = Unit {0}
 Of P (Some a) = P a
 
-of_map : {A : Type 0} → (P : A → Type 0) (f : A → Event) → ((a : A) → P a → IsValid (f a))
-    → (o : Option A) → Of P o → Of IsValid (option_map f o)
-of_map P f g o h = grind (arith, nat_tests)
-
 any : {A : Type 0} → (o : Option A) → Of (λ a. Unit {0}) o
 any o = grind (arith, nat_tests)
-
-of_bare : (e : Event) → IsValid e → (rest : List (List ℕ)) → Of IsValid (bare e rest)
-of_bare e v rest = grind (arith, nat_tests)
 
 choose : (b : Bool) (x y : Option Event) → Of IsValid x → Of IsValid y
     → Of IsValid (cond b x y)
 choose b e y h g = grind (arith, nat_tests)
 
-abbrev pub Some_words : List (List ℕ) → Type 0
-Some_words ws = 0 < length ws
-
-of_words : (o : Option (List ℕ)) (p : Option (List (List ℕ)))
-    → Of Some_words (first_and_rest o p)
-of_words o p = grind (arith, nat_tests)
-
-pub of_request : (rest : List (List ℕ)) → Of Some_words (request_of rest)
-of_request rest = grind (arith, of_words, nat_tests)
-
 abbrev pub IsQuery : List (List ℕ) → Type 0
 IsQuery q = query_of q ≡ Some q
 
-of_query : (words : List (List ℕ)) → Of IsQuery (query_of words)
-of_query words = grind (arith, query_again, nat_tests)
-
 pub of_asked : (o : Option (List (List ℕ))) → Of IsQuery (option_and_then query_of o)
-of_asked o = grind (arith, of_query, nat_tests)
+of_asked o = grind (arith, nat_tests, query_again)
 
 abbrev HasKeys : ClientMode × ℕ → Type 0
 HasKeys made = (0 < made.1) × (made.1 ≤ most_keys)
@@ -79,19 +58,18 @@ of_client (shape ∷ proto ∷ caching ∷ keys ∷ options) = of_keys _ _ (of_n
 
 of_named : (kind name : List ℕ) (rest : List (List ℕ)) → Of IsValid (named_event kind name rest)
 unfolding named_event
-of_named kind name rest =
-    grind (arith, choose, codes, of_bare, of_map, of_request, any, of_client, of_asked, nat_tests)
+of_named kind name rest = grind (arith, choose, codes, any, of_client, of_asked, nat_tests)
 
 of_link : (kind link : List ℕ) (rest : List (List ℕ)) → Of IsValid (link_event kind link rest)
 unfolding link_event
-of_link kind link rest = grind (arith, any, choose, codes, of_map, of_bare, nat_tests)
+of_link kind link rest = grind (arith, any, choose, codes, nat_tests)
 
 of_first : (x y : Option Event) → Of IsValid x → Of IsValid y → Of IsValid (first_there x y)
 of_first x y h g = grind (arith, nat_tests)
 
 of_parts : (parts : List (List ℕ)) → Of IsValid (event_of_parts parts)
 unfolding event_of_parts
-of_parts parts = grind (arith, choose, codes, of_map, any, of_first, of_named, of_link, nat_tests)
+of_parts parts = grind (arith, choose, codes, any, of_first, of_named, of_link, nat_tests)
 
 pub events_are_valid : (line : List ℕ) (e : Event) → event_of line ≡ Some e → IsValid e
 unfolding event_of

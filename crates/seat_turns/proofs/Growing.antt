@@ -1,14 +1,12 @@
 -- What a seat adds, turn after turn, and where its turns stand.
-use Rattle.std.proofs.Common.{◌∷◌, ◌++◌, ℕ, List, [], length, Bool, true, false}
-use Rattle.std.proofs.Common.{cond}
-use Rattle.std.proofs.Common.{◌≡◌, refl, sym, ap, subst, ◌∙◌, arith, append_assoc, append-nil}
+use Rattle.std.proofs.Common.{◌∷◌, ◌++◌, ℕ, List, [], length, Bool, cond, ◌≡◌, refl, sym, ap, subst}
+use Rattle.std.proofs.Common.{◌∙◌, arith, append_assoc, append-nil}
 use Rattle.std.specs.Prelude.{◌==◌}
 use Rattle.std.specs.List.{All}
 use Rattle.std.proofs.lemmas.List.Elements.{All-nil, All-cons, All-append, All-head, All-tail}
 use Rattle.turn_lock.specs.History.{entries, IsPrefix}
 use Rattle.turn_lock.specs.Seats.{Known}
-use Rattle.seat_turns.specs.Own.{entry_at, own_list, with_pasts, IsWithin, turns_of, past_of}
-use Rattle.seat_turns.specs.Own.{Grows}
+use Rattle.seat_turns.specs.Own.{entry_at, own_list, with_pasts, IsWithin, turns_of, past_of, Grows}
 use Rattle.seat_turns.specs.Turns.{in_order}
 use Rattle.seat_turns.proofs.Turning.{begins_trans, entries_begin}
 
@@ -34,9 +32,7 @@ stands_here e h = ([], refl)
 
 stands_by : {E : Type 0} (b : Bool) (e : ℕ × E) (h : List (ℕ × E)) (xs : List (E × List E))
     → All (Stands h) xs → All (Stands (e ∷ h)) (cond b ((e.1, entries h) ∷ []) xs)
-stands_by true e h xs s = All-cons (Stands (e ∷ h)) (e.1, entries h) [] (stands_here e h)
-    (All-nil (Stands (e ∷ h)))
-stands_by false e h xs s = λ k d lt. stands_more e h _ (s k d lt)
+stands_by b e h xs s = grind (arith, stands_here, stands_more)
 
 at_stands : {E : Type 0} (h : List (ℕ × E)) (p : ℕ)
     → All (Stands h) (entry_at (with_pasts h) p)

@@ -7,13 +7,9 @@ use Rattle.std.proofs.lemmas.Bool.Decides.{nat_tests}
 use mathlib.Core.Logic.{dite}
 use native.Mathlib.Decide.{ℕ_discrete}
 use Rattle.turn_lock.specs.Counts.{times, total}
-use Rattle.turn_lock.specs.History.{entries, IsPrefix}
-use Rattle.turn_lock.specs.History.{made_by, Owns}
+use Rattle.turn_lock.specs.History.{entries, IsPrefix, made_by, Owns}
+use Rattle.turn_lock.proofs.Counting.{times-append}
 use Rattle.seat_turns.specs.Own.{entry_at, own_list, with_pasts, Within}
-
-times-append : (n : ℕ) (xs ys : List ℕ) → times n (xs ++ ys) ≡ times n xs + times n ys
-times-append n [] ys = omega arith
-times-append n (x ∷ xs) ys = let h = times-append n xs ys in omega arith
 
 -- how often the place stands there, weighed
 abbrev weight : ℕ → ℕ → List ℕ → ℕ
@@ -23,21 +19,15 @@ weight x q (p ∷ own) = cond (p == q) x 0 + weight x q own
 weight_none : (x q : ℕ) (own : List ℕ) → times q own ≡ 0 → weight x q own ≡ 0
 weight_none x q [] z = refl
 weight_none x q (p ∷ own) z = dite (ℕ_discrete p q)
-    (λ is. let c : cond {A = ℕ} (q == p) 1 0 ≡ 1 = ap (λ b. cond {A =
-    ℕ} b 1 0) (eq-eqb q p (sym is)) in absurd (omega arith))
-    (λ ne. let r = weight_none x q own (omega arith) in let c : cond (p == q) x 0 ≡ 0 =
-    ap (λ b. cond b x 0) (ne_eqb p q ne) in omega arith)
+    (grind (arith, eq-eqb))
+    (λ ne. let r = weight_none x q own (omega arith) in grind (arith, ne_eqb))
 
 weight_once : (x q : ℕ) (own : List ℕ) → times q own ≡ 1 → weight x q own ≡ x
 weight_once x q [] z = absurd (omega arith)
 weight_once x q (p ∷ own) z = dite (ℕ_discrete p q)
-    (λ is.
-    let d : cond {A = ℕ} (q == p) 1 0 ≡ 1 = ap (λ b. cond {A = ℕ} b 1 0) (eq-eqb q p (sym is)) in
-    let r = weight_none x q own (omega arith) in
-    let c : cond (p == q) x 0 ≡ x = ap (λ b. cond b x 0) (eq-eqb p q is) in omega arith)
+    (grind (arith, eq-eqb, weight_none))
     (λ ne.
-    let d : cond {A = ℕ} (q == p) 1 0 ≡ 0 = ap (λ b. cond {A =
-    ℕ} b 1 0) (ne_eqb q p (λ is. ne (sym is))) in
+    let d : cond {A = ℕ} (q == p) 1 0 ≡ 0 = grind (arith, ne_eqb) in
     let r = weight_once x q own (omega arith) in
     let c : cond (p == q) x 0 ≡ 0 = ap (λ b. cond b x 0) (ne_eqb p q ne) in omega arith)
 
@@ -45,8 +35,7 @@ module _ {E : Type 0} where
   made_by_beyond : (ns : List ℕ) (h : List (ℕ × E)) (p : ℕ) → length h ≤ p → made_by ns h p ≡ 0
   made_by_beyond ns [] p le = refl
   made_by_beyond ns (e ∷ h) p le = let r = made_by_beyond ns h p (omega arith) in
-      let c : cond (p == length h) (times e.0 ns) 0 ≡ 0 =
-      ap (λ b. cond b (times e.0 ns) 0) (ne_eqb p (length h) (λ is. omega arith)) in omega arith
+      grind (arith, ne_eqb)
 
   pub within_owns : (ns : List ℕ) (h : List (ℕ × E)) (own : List ℕ) → Owns ns h own → Within h own
   within_owns ns h own is p le = is p ∙ made_by_beyond ns h p le
@@ -81,8 +70,7 @@ module _ {E : Type 0} where
   -- the entries of one's own stay, whatever is added
   pub own_begins : (a b : List (ℕ × E)) (own : List ℕ) → IsPrefix a b → Within a own
       → own_list b own ≡ own_list a own
-  own_begins a b own more is = subst (λ z. own_list z own ≡ own_list a own) more.1 (own_more more.0
-      a own is)
+  own_begins a b own more is = grind (arith, own_more)
 
   pub own_append : (h : List (ℕ × E)) (xs ys : List ℕ) → own_list h (xs ++ ys) ≡ own_list h xs
       ++ own_list h ys
@@ -92,20 +80,16 @@ module _ {E : Type 0} where
 
   pub within_begins : (a b : List (ℕ × E)) (own : List ℕ) → IsPrefix a b → Within a own
       → Within b own
-  within_begins a b own more is p le = is p (let n : length (more.0 ++ a) ≡ length b =
-      ap length more.1 in let m = length-append more.0 a in omega arith)
+  within_begins a b own more is p le = grind (arith, length-append)
 
   pub within_append : (h : List (ℕ × E)) (xs ys : List ℕ) → Within h xs → Within h ys
       → Within h (xs ++ ys)
-  within_append h xs ys x y p le = let a = x p le in let b = y p le in let t =
-      times-append p xs ys in omega arith
+  within_append h xs ys x y p le = grind (arith, times-append)
 
   -- two seats that were joined have the entries of both
   pub own_joined : (a b h : List (ℕ × E)) (xs ys : List ℕ) → IsPrefix a h → IsPrefix b h
       → Within a xs → Within b ys → own_list h (xs ++ ys) ≡ own_list a xs ++ own_list b ys
-  own_joined a b h xs ys ah bh x y =
-      own_append h xs ys ∙ (ap (λ z. z ++ own_list h ys) (own_begins a h xs ah x)
-      ∙ ap (λ z. own_list a xs ++ z) (own_begins b h ys bh y))
+  own_joined a b h xs ys ah bh x y = grind (arith, own_append, own_begins)
 
   -- a turn adds its entry
   pub own_turn : (n : ℕ) (a h : List (ℕ × E)) (own : List ℕ) (e : E) → IsPrefix a h
@@ -128,20 +112,7 @@ module _ {E : Type 0} where
 
     at_total : (e : ℕ × E) (h : List (ℕ × E)) (p : ℕ)
         → total f (entry_at (e ∷ h) p) ≡ cond (p == length h) (f e.1) 0 + total f (entry_at h p)
-    at_total e h p = dite (ℕ_discrete p (length h))
-        (λ is.
-        let z = ap (total f) (at_beyond h p (omega arith)) in
-        let c : cond (p == length h) (f e.1) 0 ≡ f e.1 =
-        ap (λ b. cond b (f e.1) 0) (eq-eqb p (length h) is) in
-        let d : total f (cond (p == length h) (e.1 ∷ []) (entry_at h p)) ≡ f e.1 + 0 =
-        ap (λ b. total f (cond b (e.1 ∷ []) (entry_at h p))) (eq-eqb p (length h) is) in
-        omega arith)
-        (λ ne.
-        let c : cond (p == length h) (f e.1) 0 ≡ 0 =
-        ap (λ b. cond b (f e.1) 0) (ne_eqb p (length h) ne) in
-        let d : total f (cond (p == length h) (e.1 ∷ []) (entry_at h p)) ≡ total f (entry_at h p) =
-        ap (λ b. total f (cond b (e.1 ∷ []) (entry_at h p))) (ne_eqb p (length h) ne) in
-        omega arith)
+    at_total e h p = grind (arith, at_beyond, eq-eqb, ne_eqb)
 
     own_first : (e : ℕ × E) (h : List (ℕ × E)) (own : List ℕ)
         → total f (own_list (e ∷ h) own) ≡ weight (f e.1) (length h) own + total f (own_list h own)

@@ -2,12 +2,12 @@
 use Rattle.std.proofs.Common.{◌≡◌, ◌≤◌, ℕ, List, [], ◌∷◌, ◌++◌, length, Some, None}
 use Rattle.std.proofs.Common.{refl, sym, ap, subst, ◌∙◌, arith}
 use Rattle.std.specs.Prelude.{Option}
-use Rattle.turn_lock.specs.History.{entries, IsPrefix, past_after, history_after, own_after}
+use Rattle.turn_lock.specs.History.{entries, IsPrefix, past_after, history_after}
 use Rattle.atomic_table.specs.Seated.{TableId}
 use Rattle.turn_lock.specs.Counts.{times}
 use Rattle.turn_lock.specs.Seats.{Known, Turned, IsSound, first_seat}
-use Rattle.seat_turns.specs.Own.{own_list, with_pasts, IsWithin, Within, turns_of, past_of}
-use Rattle.seat_turns.specs.Own.{Grows}
+use Rattle.turn_lock.proofs.Counting.{begins_after}
+use Rattle.seat_turns.specs.Own.{IsWithin, turns_of, past_of, Grows}
 use Rattle.seat_turns.specs.Turns.{Plays, turns_added}
 use Rattle.seat_turns.proofs.Owning.{own_begins, own_turn, pasts_begins, pasts_length}
 use Rattle.seat_turns.proofs.Owning.{within_owns, pasts_within}
@@ -23,25 +23,9 @@ module _ {E : Type 0} where
   entries_begin a b more = subst (λ z. IsPrefix (entries a) (entries z)) more.1
       (entries_more more.0 a)
 
-  begins_after : (n : ℕ) (h : List (ℕ × E)) (e : Option E) → IsPrefix h (history_after n h e)
-  begins_after n h None = ([], refl)
-  begins_after n h (Some x) = ((n, x) ∷ [], refl)
-
-  turns_turn : (n : ℕ) (a h : List (ℕ × E)) (own : List ℕ) (e : Option E)
-      → IsPrefix a h → Within a own
-      → own_list (with_pasts (history_after n h e)) (own_after own (length h) e)
-      ≡ turns_added (entries h) e ++ own_list (with_pasts a) own
-  turns_turn n a h own None more is =
-      own_begins (with_pasts a) (with_pasts h) own (pasts_begins a h more) (pasts_within a own is)
-  turns_turn n a h own (Some x) more is =
-      ap (λ p. own_list ((n, (x, entries h)) ∷ with_pasts h) (p ∷ own)) (sym (pasts_length h))
-      ∙ own_turn n (with_pasts a) (with_pasts h) own (x, entries h) (pasts_begins a h more)
-      (pasts_within a own is)
-
   entries_after : (n : ℕ) (h : List (ℕ × E)) (e : Option E)
       → entries (history_after n h e) ≡ past_after (entries h) e
-  entries_after n h None = refl
-  entries_after n h (Some x) = refl
+  entries_after n h e = grind arith
 
   -- the entry that was added is known by the entries with it
   added_is : (past : List E) (a b : Option E) → past_after past a ≡ past_after past b → a ≡ b
@@ -66,16 +50,7 @@ module _ {U E : Type 0} where
   pub grows_worn : (before after : Known U E) (t : ℕ) → IsWithin before → before.tickets ≤ t
       → after ≡ record before { tickets = t } → Grows before after []
   unfolding turns_of IsWithin
-  grows_worn before after t is le same =
-      subst (λ z. Grows before z []) (sym same) (record {
-        lock = refl;
-        setup = refl;
-        parts = refl;
-        tickets = le;
-        seen = ([], refl);
-        within = is;
-        own = refl;
-      })
+  grows_worn before after t is le same = grind arith
 
   -- a seat that has taken no turn
   within_none : (k : Known U E) → k.own ≡ [] → IsWithin k
@@ -113,9 +88,7 @@ module _ {U E C R : Type 0} (step : U → List E → C → R → Option E → Ty
           seen = begins_trans before.seen h after.seen more
               (subst (λ z. IsPrefix h z) (sym seen) (begins_after before.number h e));
           within = within;
-          own = ap (λ z. own_list (with_pasts z) after.own) seen
-              ∙ (ap (own_list (with_pasts (history_after before.number h e))) own
-              ∙ turns_turn before.number before.seen h before.own e more is);
+          own = grind (arith, own_begins, pasts_begins, pasts_within, pasts_length, own_turn);
         };
       }
 
@@ -124,8 +97,7 @@ module _ {U E C R : Type 0} {step : U → List E → C → R → Option E → Ty
     {before after : Known U E} (p : Plays step call reply before after) (e : Option E)
     (is : past_after p.past p.added ≡ past_after p.past e) where
   pub grows_by : Grows before after (turns_added p.past e)
-  grows_by = subst (λ z. Grows before after (turns_added p.past z)) (added_is p.past p.added e is)
-      p.grows
+  grows_by = grind (arith, added_is)
 
   pub ends_by : past_of after ≡ past_after p.past e
   ends_by = p.ends ∙ is

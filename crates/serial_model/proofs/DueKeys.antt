@@ -1,6 +1,6 @@
 -- The keys that are due, by the keyspace: exactly those whose deadline is past, each once.
-use Rattle.std.proofs.Common.{◌≡◌, ◌∙◌, refl, sym, ap, ℕ, List, [], ◌∷◌, Bool, true, false, cond}
-use Rattle.std.proofs.Common.{Option, None, Some, not, is_some, eq-eqb, arith}
+use Rattle.std.proofs.Common.{◌≡◌, ◌∙◌, refl, sym, ap, ℕ, List, [], ◌∷◌, Bool, true, false}
+use Rattle.std.proofs.Common.{Option, None, Some, is_some, eq-eqb, arith}
 use Rattle.std.specs.Prelude.{◌&&◌, ◌||◌, ◌==◌}
 use Rattle.std.specs.Cmp.Lexicographic.{slice_cmp, nat_list_cmp_total, texts_ties}
 use Rattle.std.specs.FinMap.{keys, contains_key-keys, same_map, slice_cmp-IsAntisymmetric}
@@ -46,10 +46,6 @@ ties q (k ∷ ks) =
     ∙ ap (λ b. bytes_eq q k || b) (ties q ks)
 
 module _ (space : Space) where
-  same_life : (d : Deadline) (k : List ℕ) (o : Option ℕ) → deadline_at k space ≡ o
-      → bytes_eq d.key k ≡ true → is_at d.at (deadline_at d.key space) ≡ is_at d.at o
-  same_life d k o e same = grind (arith, bytes_eq-Decides)
-
   listed : (d : Deadline) (ks : List (List ℕ))
       → has d (deadlines space ks)
       ≡ (is_among ks d.key && is_at d.at (deadline_at d.key space))
@@ -62,12 +58,12 @@ module _ (space : Space) where
       ≡ ((bytes_eq d.key k || is_among ks d.key) && x)) [
         | None ↦ λ e.
             listed d ks
-            ∙ skips (bytes_eq d.key k) (is_among ks d.key) x (same_life d k None e)
+            ∙ skips (bytes_eq d.key k) (is_among ks d.key) x (grind (arith, bytes_eq-Decides))
         | Some at ↦ λ e.
             setting_adds_one d (record { at = at; key = k }) (deadlines space ks)
             ∙ ap (λ b. is_same d (record { at = at; key = k }) || b) (listed d ks)
             ∙ adds (bytes_eq d.key k) (is_among ks d.key) x (d.at == at)
-            (same_life d k (Some at) e)
+            (grind (arith, bytes_eq-Decides))
       ] refl
 
   pub deadlines_are : AreOfSpace (deadlines space (keys space)) space
@@ -100,8 +96,7 @@ pub due_by_index : (moment : ℕ) (space : Space) (index : List Deadline) → Is
 unfolding due_keys
 due_by_index moment space index ordered each =
     ap (λ ds. keys_of (due moment ds))
-    (one_index index (deadlines space (keys space)) ordered
-    (deadlines_ordered space (keys space)) (λ d. each d ∙ sym (deadlines_are space d)))
+    (grind (arith, one_index, deadlines_ordered, deadlines_are))
 
 -- ---- each once
 
@@ -109,29 +104,10 @@ module _ (moment : ℕ) (space : Space) where
   abbrev AreCurrent : List Deadline → Type 0
   AreCurrent ds = (d : Deadline) → has d ds ≡ true → deadline_at d.key space ≡ Some d.at
 
-  some_same : (a b : ℕ) → Some a ≡ Some b → a ≡ b
-  some_same a b e = cc
-
   -- a key has one deadline
   once : (d : Deadline) (ds : List Deadline) → IsBeforeAll d ds → AreCurrent (d ∷ ds)
       → is_among (keys_of (due moment ds)) d.key ≡ false
-  once d ds before current =
-      elim (is_among (keys_of (due moment ds)) d.key) as (λ b.
-      is_among (keys_of (due moment ds)) d.key ≡ b → b ≡ false) [
-        | true ↦ λ e.
-            let f = found moment d.key ds e in
-            let other : deadline_at d.key space ≡ Some f.0 =
-            current (record { at = f.0; key = d.key }) (right_true _ _ f.1) in
-            let own : deadline_at d.key space ≡ Some d.at = current d (first d) in
-            let one : f.0 ≡ d.at = some_same f.0 d.at (sym other ∙ own) in
-            let there : has d ds ≡ true =
-            ap (λ at. has (record { at = at; key = d.key }) ds) (sym one) ∙ f.1 in
-            absurd (let clash : true ≡ false = sym there ∙ not_among d ds before in cc)
-        | false ↦ λ e. refl
-      ] refl
-    where
-      first : (d : Deadline) → has d (d ∷ ds) ≡ true
-      first d = grind (arith, eq-eqb, bytes_eq-Decides)
+  once d ds before current = grind (arith, found, right_true, not_among, eq-eqb, bytes_eq-Decides)
 
   apart : (ds : List Deadline) → IsOrdered ds → AreCurrent ds → AreApart (keys_of (due moment ds))
   apart [] ordered current = tt
@@ -145,13 +121,7 @@ module _ (moment : ℕ) (space : Space) where
   -- ---- what they leave
 
   -- a key that is not due holds what it held
-  pub not_due_stays : (q : List ℕ) → is_among (due_keys moment space) q ≡ false
-      → held_at q (without_due moment space) ≡ held_at q space
-  not_due_stays q none =
-      at_without_due moment space q
-      ∙ ap (λ b. cond (not b) (held_at q space) None) (sym (due_is_past moment space q) ∙ none)
-
   pub none_due : due_keys moment space ≡ [] → without_due moment space ≡ space
   none_due none =
       same_map nat_list_cmp_total (slice_cmp-IsAntisymmetric nat_cmp-IsAntisymmetric) _ _
-      (λ q. not_due_stays q (ap (λ ks. is_among ks q) none))
+      (λ q. grind (arith, at_without_due, due_is_past))

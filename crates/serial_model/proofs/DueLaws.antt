@@ -5,12 +5,11 @@ use Rattle.std.specs.Prelude.{◌==◌}
 use Rattle.std.specs.List.{list_any}
 use Rattle.std.proofs.lemmas.Bool.{eqb-true, and_parts, or_cases}
 use Rattle.std.proofs.lemmas.List.Folds.{list_any-append}
-use Rattle.resp_value.specs.declared.value.Proto.{Proto}
 use Rattle.resp_value.specs.declared.value.Proto.TheVariants.{Three}
 use Rattle.serial_model.specs.declared.mode.Mode.{Mode}
 use Rattle.serial_model.specs.declared.history.Entry.TheVariants.{Run, Tick}
 use Rattle.serial_model.specs.Tracking.{Invalidation, push_of, tells, names_key, drop_group}
-use Rattle.serial_model.specs.History.{Sending, Message, sent_to, by_proto, route, routed, modes}
+use Rattle.serial_model.specs.History.{Sending, Message, sent_to, route, routed, modes}
 use Rattle.serial_model.specs.History.{expiry_group, own_group, drops, reply_of, overgrown}
 use Rattle.serial_model.specs.Laws.{PushIsAmong, DueIsSent}
 use Rattle.serial_model.proofs.Tables.{sent_to-append}
@@ -32,10 +31,6 @@ module _ (n c : ℕ) (key : List ℕ) where
       → PushIsAmong key n (sent_to n c (xs ++ ys))
   among_before xs ys h = grind (arith, sent_to-append, append_assoc)
 
-  push_first : (proto : Proto) (i : Invalidation) → proto ≡ Three → (i.to == c) ≡ true
-      → sent_to n c (by_proto proto i) ≡ (n, Message Three (push_of i.keys)) ∷ []
-  push_first proto i three own = grind arith
-
   among_routed : (modes : ℕ → Mode) (told : List Invalidation)
       → (modes c).proto ≡ Three → list_any (tells c key) told ≡ true
       → PushIsAmong key n (sent_to n c (routed modes told))
@@ -49,8 +44,7 @@ module _ (n c : ℕ) (key : List ℕ) where
               named = p.1;
               before = [];
               behind = [];
-              is = push_first (modes i.to).proto i
-                  (ap (λ k. (modes k).proto) (eqb-true i.to c p.0) ∙ three) p.0;
+              is = grind (arith, eqb-true);
             })
         | inr e ↦ among_behind (route (modes i.to) i) (routed modes told)
             (among_routed modes told three e)
@@ -64,17 +58,13 @@ due_is_sent l (Run id words m) past c key before then due =
     let now = modes l (Run id words m ∷ past) in
     let rest = routed now last ++ overgrown l past id words m in
     let parted = sym (list_any-append (tells c key) first last)
-    ∙ sym (ap (list_any (tells c key)) (append_assoc first (own_group l past id words m)
-    (drop_group (drops l past id words m)))) ∙ due in
+    ∙ sym (grind (arith, append_assoc)) ∙ due in
     elim (or_cases (list_any (tells c key) first) (list_any (tells c key) last) parted) [
-      | inl e ↦ among_before n c key (routed (modes l past) first)
-          (reply_of l past id words m ∷ rest)
-          (among_routed n c key (modes l past) first before e)
+      | inl e ↦ grind (arith, among_before, among_routed)
       | inr e ↦ among_behind n c key (routed (modes l past) first)
           (reply_of l past id words m ∷ rest)
           (among_behind n c key (reply_of l past id words m ∷ []) rest
-          (among_before n c key (routed now last) (overgrown l past id words m)
-          (among_routed n c key now last then e)))
+          (grind (arith, among_before, among_routed)))
     ]
 due_is_sent l (Tick m) past c key before then due =
     among_routed (length past + 1) c key (modes l past) (expiry_group l past m) before due

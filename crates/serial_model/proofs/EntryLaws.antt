@@ -1,5 +1,7 @@
 -- What each entry does, whatever the past: what it sends and what it changes.
-use Rattle.std.proofs.Common.{◌≡◌, ◌+◌, ℕ, List, [], ◌∷◌, ◌++◌, true, false, cond, length, Result}
+use Rattle.command_words.proofs.HeldAt.{at_without_due}
+use Rattle.serial_model.proofs.DueKeys.{due_is_past}
+use Rattle.std.proofs.Common.{◌≡◌, ◌+◌, ℕ, List, [], ◌∷◌, ◌++◌, true, false, length, Result}
 use Rattle.std.proofs.Common.{refl, ap, sym, subst, ◌∙◌, append-nil, arith}
 use Rattle.std.specs.Prelude.{◌==◌}
 use Rattle.command_words.specs.declared.command.Command.{Command}
@@ -11,11 +13,9 @@ use Rattle.serial_model.specs.declared.mode.Runner.{Runner}
 use Rattle.serial_model.specs.declared.history.Limits.{Limits}
 use Rattle.serial_model.specs.declared.history.Entry.{Entry}
 use Rattle.serial_model.specs.declared.history.Entry.TheVariants.{Admit, Run, Tick, Take, Close}
-use Rattle.serial_model.specs.History.{Sending, End, sends, sent_to, sent, has_ended, IsLegal}
-use Rattle.serial_model.specs.History.{served, effect_of, ran_over, ran, keyspace, is_admitted}
-use Rattle.serial_model.specs.History.{expired}
+use Rattle.serial_model.specs.History.{Sending, sends, sent_to, sent, has_ended, IsLegal, served}
+use Rattle.serial_model.specs.History.{effect_of, ran_over, ran, keyspace, is_admitted, expired}
 use Rattle.serial_model.specs.Laws.{AreOf, is_among}
-use Rattle.serial_model.proofs.DueKeys.{not_due_stays}
 use Rattle.serial_model.proofs.ServedRows.{served_cases, data_effect, row_of}
 use Rattle.serial_model.proofs.Streams.{IsLive, live, run_sends_none, tick_sends_none}
 use Rattle.std.proofs.lemmas.Bool.{eqb-true}
@@ -52,16 +52,14 @@ pub end_is_last : (l : Limits) (c : ℕ) (entry : Entry) (past : List Entry)
 end_is_last l c (Admit id) past h ended = adds_none l c (Admit id) past refl
 end_is_last l c (Run id words m) past h ended =
     adds_none l c (Run id words m) past
-    (run_sends_none l (length past + 1) c past id words m h.3 h.0
-    (λ k. live_other l past c k ended))
+    (grind (arith, run_sends_none, live_other))
 end_is_last l c (Tick m) past h ended =
     adds_none l c (Tick m) past
     (tick_sends_none l (length past + 1) c past m h.3 (λ k. live_other l past c k ended))
 end_is_last l c (Take id max) past h ended = adds_none l c (Take id max) past refl
 end_is_last l c (Close id) past h ended =
     adds_none l c (Close id) past
-    (ap (λ b. cond b ((length past + 1, End) ∷ []) [])
-    (live_other l past c id ended (live l past id h.0)))
+    (grind (arith, live_other, live))
 
 pub runs_live : (l : Limits) (id moment : ℕ) (words : List (List ℕ)) (past : List Entry)
     → IsLegal l (Run id words moment ∷ past)
@@ -91,4 +89,4 @@ pub held_same : (l : Limits) (id moment : ℕ) (words : List (List ℕ)) (key : 
     → signals (ran l past id words moment).signalled key ≡ false
     → held_at key (ran l past id words moment).space ≡ held_at key (keyspace l past)
 unfolding ran_over
-held_same l id moment words key past none h = grind (arith, change_of, not_due_stays)
+held_same l id moment words key past none h = grind (arith, change_of, at_without_due, due_is_past)

@@ -43,10 +43,7 @@ module _ (c : ℕ) where
       elim (nat_lt x id) as (λ b. holds c (cond b (x ∷ with_id id xs)
       (cond (x == id) (x ∷ xs) (id ∷ x ∷ xs))) ≡ true) [
         | true ↦ or_keeps (x == c) (holds c xs) (holds c (with_id id xs)) (with_keeps id xs) h
-        | false ↦ elim (x == id) as (λ b. holds c (cond b (x ∷ xs) (id ∷ x ∷ xs)) ≡ true) [
-          | true ↦ h
-          | false ↦ or_right (id == c) (holds c (x ∷ xs)) h
-        ]
+        | false ↦ grind (arith, holds, or_right)
       ]
 
   with_itself : (ids : List ℕ) → holds c (with_id c ids) ≡ true
@@ -113,12 +110,6 @@ module _ (c : ℕ) where
     with_keys_keeps id (k ∷ keys) rows h =
         with_keys_keeps id keys (remembered id k rows) (remembered_keeps id k rows h)
 
-    first_stays : (id : ℕ) (r : Held) (rest : List Held) → bytes_eq key r.key ≡ true
-        → holds c (without_id id r.holders) ≡ true
-        → holds c (holders_of key (cond (is_held (freed_of id r)) (freed_of id r ∷ rest) rest))
-        ≡ true
-    first_stays id r rest is h = grind (arith, some_held)
-
     later_stays : (id : ℕ) (r : Held) (rest : List Held) → bytes_eq key r.key ≡ false
         → holds c (holders_of key rest) ≡ true
         → holds c (holders_of key (cond (is_held (freed_of id r)) (freed_of id r ∷ rest) rest))
@@ -134,8 +125,7 @@ module _ (c : ℕ) where
         elim (bytes_eq key r.key) as (λ b. bytes_eq key r.key ≡ b
         → holds c (cond b r.holders (holders_of key rs)) ≡ true
         → holds c (holders_of key (without_connection id (r ∷ rs))) ≡ true) [
-          | true ↦ λ e f. first_stays id r (without_connection id rs) e
-              (without_keeps id r.holders other f)
+          | true ↦ grind (arith, without_keeps, some_held)
           | false ↦ λ e f. later_stays id r (without_connection id rs) e
               (without_other id rs other f)
         ] refl h
@@ -145,11 +135,7 @@ module _ (c : ℕ) where
         → ((id == c) && is_forgets memory) ≡ false → holds c (holders_of key rows) ≡ true
         → holds c (holders_of key (remembering id memory rows)) ≡ true
     remembering_keeps id (Remembers keys) rows other h = with_keys_keeps id keys rows h
-    remembering_keeps id Forgets rows other h =
-        without_other id rows (and_true (id == c) other) h
-      where
-        and_true : (b : Bool) → (b && true) ≡ false → b ≡ false
-        and_true b e = grind (arith, nat_tests)
+    remembering_keeps id Forgets rows other h = grind (arith, without_other, nat_tests)
 
     -- ---- of the keys past the limit, and those within
 

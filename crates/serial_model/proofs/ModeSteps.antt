@@ -1,13 +1,11 @@
 -- The mode of a connection, entry by entry.
 use Rattle.std.proofs.Common.{◌≡◌, ◌<◌, ℕ, List, [], ◌∷◌, true, false, refl, arith}
 use Rattle.std.specs.Prelude.{◌==◌}
-use Rattle.std.proofs.lemmas.Bool.Decides.{nat_tests}
 use Rattle.serial_model.specs.declared.history.Limits.{Limits}
 use Rattle.serial_model.specs.declared.history.Entry.{Entry}
 use Rattle.serial_model.specs.declared.history.Entry.TheVariants.{Admit, Run, Tick, Take, Close}
 use Rattle.serial_model.specs.Modes.{first_mode}
 use Rattle.serial_model.specs.History.{admitted, mode, made_of, IsLegal}
-use Rattle.serial_model.specs.Laws.{IsNoRun}
 use Rattle.serial_model.proofs.Streams.{connected}
 
 module _ (l : Limits) where
@@ -18,10 +16,6 @@ module _ (l : Limits) where
   pub mode_own : (c id m : ℕ) (words : List (List ℕ)) (past : List Entry) → (id == c) ≡ true
       → mode l c (Run id words m ∷ past) ≡ (made_of words (mode l c past)).mode
   mode_own c id m words past h = grind arith
-
-  pub mode_by_own_runs : (c : ℕ) (entry : Entry) (past : List Entry) → IsNoRun c entry
-      → mode l c (entry ∷ past) ≡ mode l c past
-  mode_by_own_runs c entry past h = grind (arith, mode_other, nat_tests)
 
   -- a connection that was not admitted has the first mode
   pub mode_fresh : (past : List Entry) (c : ℕ) → IsLegal l past → admitted past < c

@@ -12,7 +12,7 @@ use Rattle.serial_model.specs.History.{sends, sent_to, sent_bytes}
 use Rattle.serial_model.specs.Steps.{Turn, book_step, full, unless_full}
 use Rattle.serial_model.specs.Laws.{Extends, IsOther}
 use Rattle.serial_model.proofs.StepCases.{by_admit, by_run, by_tick, by_take, by_close}
-use Rattle.serial_model.proofs.Streams.{stream_more, taken_other, ended_other}
+use Rattle.serial_model.proofs.Streams.{stream_more, ended_other}
 
 -- the turn of a limit is the turn or none
 pub by_limit : (l : Limits) (past : List Entry) (turn : Turn) (P : Turn → Type 0) → P (full past)
@@ -42,10 +42,6 @@ module _ (l : Limits) (c : ℕ) where
     stays_ended = ended;
   }
 
-  one_more_admitted : (past : List Entry) (id : ℕ) → is_admitted past c ≡ true
-      → is_admitted (entry.Admit id ∷ past) c ≡ true
-  one_more_admitted past id h = grind (arith, nat_tests)
-
   abbrev Grown : List Entry → Turn → Type 0
   Grown past turn = Extends l c past turn.past
 
@@ -54,7 +50,7 @@ module _ (l : Limits) (c : ℕ) where
   others_extend past Admit other =
       by_admit l past (Grown past) (extends_none past)
       (λ room. extends_entry past (entry.Admit (admitted past + 1))
-      (one_more_admitted past (admitted past + 1)) refl refl (λ h. h))
+      (grind (arith, nat_tests)) refl refl (λ h. h))
   others_extend past (Run id words now) other =
       by_run l past (Grown past) id words now (extends_none past) (extends_none past)
       (λ on room. extends_entry past (entry.Run id words (max now (latest past))) (λ h. h) refl
@@ -66,7 +62,7 @@ module _ (l : Limits) (c : ℕ) where
   others_extend past (Take id most) other =
       by_take l past (Grown past) id most (extends_none past) (extends_none past)
       (extends_none past) (λ on some room. extends_entry past (entry.Take id most) (λ h. h)
-      (taken_other l past c id most other) refl (λ h. h))
+      (grind arith) refl (λ h. h))
   others_extend past (Close id) other =
       by_close l past (Grown past) id (extends_none past)
       (λ on. extends_entry past (entry.Close id) (λ h. h) refl refl

@@ -5,14 +5,12 @@ use Rattle.std.specs.Prelude.{◌==◌, ◌||◌, filter}
 use Prim.Native.Nat.{zero, suc}
 use Rattle.std.proofs.lemmas.Bool.{eqb-true}
 use Rattle.resp_value.specs.declared.value.Proto.{Proto}
-use Rattle.resp_value.specs.declared.value.Value.{Value}
 use Rattle.serial_model.specs.declared.history.Limits.{Limits}
 use Rattle.serial_model.specs.declared.history.Entry.{Entry}
 use Rattle.serial_model.specs.declared.history.Entry.TheVariants.{Admit, Run, Tick, Take, Close}
 use Rattle.serial_model.specs.declared.history.Post.{Post}
 use Rattle.serial_model.specs.History.{Sending, End, sends, sent_to, sent, posts_of, posted}
-use Rattle.serial_model.specs.History.{posted_of, has_ended, Message, modes, expiry_group, by_proto}
-use Rattle.serial_model.specs.History.{routed}
+use Rattle.serial_model.specs.History.{posted_of, has_ended, modes, expiry_group, by_proto, routed}
 use Rattle.serial_model.specs.declared.mode.Mode.{Mode}
 use Rattle.serial_model.specs.Tracking.{Invalidation}
 use Rattle.serial_model.proofs.Tables.{sent_to-append}
@@ -69,24 +67,15 @@ no_ends : (xs ys : List (ℕ × Sending)) → has_end xs ≡ false → has_end y
     → has_end (xs ++ ys) ≡ false
 no_ends xs ys h g = grind (arith, has_end-append)
 
-message_no_end : (b : Bool) (n : ℕ) (p : Proto) (v : Value) (ss : List (ℕ × Sending))
-    → has_end ss ≡ false → has_end (cond b ((n, Message p v) ∷ ss) ss) ≡ false
-message_no_end b n p v ss h = grind arith
-
 route_no_end : (n c : ℕ) (p : Proto) (i : Invalidation)
     → has_end (sent_to n c (by_proto p i)) ≡ false
-route_no_end n c p i = grind (arith, message_no_end)
+route_no_end n c p i = grind arith
 
 routed_no_end : (n c : ℕ) (modes : ℕ → Mode) (told : List Invalidation)
     → has_end (sent_to n c (routed modes told)) ≡ false
 routed_no_end n c modes [] = refl
 routed_no_end n c modes (i ∷ told) =
     grind (arith, sent_to-append, no_ends, route_no_end, routed_no_end n c modes told)
-
-run_no_end : (l : Limits) (n c id : ℕ) (words : List (List ℕ)) (m : ℕ) (past : List Entry)
-    → has_end (sent_to n c (sends l (Run id words m) past)) ≡ false
-run_no_end l n c id words m past =
-    grind (arith, sent_to-append, no_ends, routed_no_end, message_no_end, append-nil)
 
 no_end : (l : Limits) (c : ℕ) (e : Entry) (past : List Entry)
     → has_ended l c (e ∷ past) ≡ has_ended l c past
@@ -101,7 +90,7 @@ end_is_sent l c [] = refl
 end_is_sent l c (Admit id ∷ past) = no_end l c (Admit id) past refl (end_is_sent l c past) refl
 end_is_sent l c (Run id words m ∷ past) =
     no_end l c (Run id words m) past refl (end_is_sent l c past)
-    (run_no_end l (length past + 1) c id words m past)
+    (grind (arith, sent_to-append, no_ends, routed_no_end, append-nil))
 end_is_sent l c (Tick m ∷ past) =
     no_end l c (Tick m) past refl (end_is_sent l c past)
     (routed_no_end (length past + 1) c (modes l past) (expiry_group l past m))

@@ -1,11 +1,10 @@
 -- The answer to a query depends on what its key holds alone.
-use Rattle.std.proofs.Common.{◌≡◌, ◌∙◌, sym, ap, refl, ℕ, List, [], ◌∷◌, true, Ok, Err, arith}
+use Rattle.std.proofs.Common.{◌≡◌, refl, ℕ, List, [], ◌∷◌, true, Ok, Err, arith}
 use Rattle.std.specs.Str.{bytes_eq}
 use Rattle.std.specs.List.{list_any}
-use Rattle.std.specs.Option.{option_map}
 use Rattle.std.proofs.lemmas.Slice.Eq.{bytes_eq-Decides}
 use Rattle.std.proofs.lemmas.Bool.{or_cases}
-use Rattle.command_words.specs.Space.{Space, held_at, content_at}
+use Rattle.command_words.specs.Space.{Space, held_at}
 use Rattle.command_words.specs.Queries.{reads_as_cacheable, key_of}
 use Rattle.command_words.specs.Reading.{Read}
 use Rattle.command_words.specs.declared.command.Command.{Command}
@@ -21,9 +20,7 @@ alike_as : RepliesAreOfKeysRead → (r : Read Command) (k : List ℕ) (s o : Spa
     → keys_read r ≡ k ∷ [] → held_at k s ≡ held_at k o → answer_as r s ≡ answer_as r o
 alike_as replies (Ok command) k s o reads held =
     replies command s o (λ key among.
-    let is : key ≡ k = one_of key k (ap (list_any (bytes_eq key)) (sym reads) ∙ among) in
-    ap (λ i. content_at i s) is ∙ ap (option_map (λ h. h.content)) held
-    ∙ ap (λ i. content_at i o) (sym is))
+    grind (arith, one_of))
 alike_as replies (Err e) k s o reads held = refl
 
 pub answers_alike : RepliesAreOfKeysRead → (words : List (List ℕ)) (s o : Space)

@@ -8,7 +8,7 @@ use Rattle.serial_model.specs.declared.history.BookReply.TheVariants.{Ticked, Qu
 use Rattle.serial_model.specs.History.{runs_on, gives_on, reads_on, latest, unsent, is_full}
 use Rattle.serial_model.specs.History.{expired}
 use Rattle.serial_model.specs.Steps.{Turn, book_step, taking, gone, full, unless_full, admitting}
-use Rattle.serial_model.specs.Steps.{running, closing, ticking}
+use Rattle.serial_model.specs.Steps.{running, closing}
 
 abbrev pub quiet : List Entry → Turn
 quiet past = record { reply = Quiet; past = past }
@@ -37,17 +37,12 @@ module _ (l : Limits) (past : List Entry) (P : Turn → Type 0) where
   unfolding book_step
   by_run id words now ended none does = grind (arith, by_limit)
 
-  by_ticking : (moment : ℕ) (keys : List (List ℕ)) → P (quiet past) → P (full past)
-      → ((keys ≡ [] → ⊥) → is_full l past ≡ false → P (ticked past moment))
-      → P (ticking l past moment keys)
-  by_ticking moment keys still none does = grind (arith, by_limit)
-
   pub by_tick : (now : ℕ) → P (quiet past) → P (full past)
       → ((expired l past (max now (latest past)) ≡ [] → ⊥) → is_full l past ≡ false
       → P (ticked past (max now (latest past))))
       → P (book_step l past (Tick now))
   unfolding book_step
-  by_tick now still none does = grind (arith, by_ticking)
+  by_tick now still none does = grind (arith, by_limit)
 
   by_taking : (id most : ℕ) (bytes : List ℕ) → P (quiet past) → P (full past)
       → ((bytes ≡ [] → ⊥) → is_full l past ≡ false → P (took past id most bytes))

@@ -1,4 +1,7 @@
 -- What one more entry does to the stream of a connection, and to what was taken of it.
+use Rattle.serial_model.proofs.Tables.{with_keys_all, all_rows, all_to, without_keys_all, kept_all}
+use Rattle.serial_model.proofs.Tables.{ids_all, signal_group_all, dropped_all, to_append, group_all}
+use Rattle.serial_model.proofs.Tables.{drop_group_all, freed_all, sent_to-append, routed_none}
 use Rattle.std.proofs.Common.{◌≡◌, ◌+◌, ◌-◌, ◌<◌, ◌≤◌, ℕ, List, [], ◌∷◌, ◌++◌, length, drop, min}
 use Rattle.std.proofs.Common.{sym, ap, ◌∙◌, refl, arith, Bool, true, false, cond, append-nil}
 use Rattle.std.proofs.Common.{length-append}
@@ -12,16 +15,12 @@ use Rattle.serial_model.specs.declared.history.Limits.{Limits}
 use Rattle.serial_model.specs.declared.history.Entry.{Entry}
 use Rattle.serial_model.specs.declared.history.Entry.TheVariants.{Admit, Run, Tick, Take, Close}
 use Rattle.track_table.specs.declared.table.Held.{Held}
-use Rattle.serial_model.specs.History.{admitted, is_admitted, runs_on, has_ended, made, signals}
-use Rattle.serial_model.specs.History.{expired, table, table_then, table_grown, drops, expiry_group}
-use Rattle.serial_model.specs.History.{own_group, is_tracking, tracking, mode, sends, sent_to, sent}
+use Rattle.serial_model.specs.History.{admitted, is_admitted, runs_on, has_ended}
+use Rattle.serial_model.specs.History.{expired, table, table_grown, drops, expiry_group}
+use Rattle.serial_model.specs.History.{own_group, is_tracking, tracking, sends, sent_to, sent}
 use Rattle.serial_model.specs.History.{sent_bytes, stream, taken, unsent, runs_of, IsLegal}
-use Rattle.serial_model.specs.Tracking.{Invalidation, drop_group, without_signalled}
+use Rattle.serial_model.specs.Tracking.{Invalidation, drop_group}
 use Rattle.serial_model.specs.Each.{AllIn, AllRows, AllTo}
-use Rattle.serial_model.proofs.Tables.{all_rows, all_to, without_keys_all, kept_all, ids_all}
-use Rattle.serial_model.proofs.Tables.{without_signalled_all, signal_group_all, dropped_all}
-use Rattle.serial_model.proofs.Tables.{to_append, group_all, drop_group_all, remembering_all}
-use Rattle.serial_model.proofs.Tables.{freed_all, sent_to-append, routed_none}
 
 both_true : (a b : Bool) → (a && not b) ≡ true → (a ≡ true) × (b ≡ false)
 both_true a b h = grind arith
@@ -53,12 +52,7 @@ module _ (l : Limits) where
       → runs_on l past id ≡ true → AllRows (IsLive past) (table l past)
       → AllRows (IsLive past) (table_grown l past id words moment)
   grown_live past id words moment on a =
-      remembering_all (IsLive past) (IsLive past) id (made l past id words).memory
-      (without_signalled (signals l past id words moment) (table_then l past moment))
-      (live past id on)
-      (without_signalled_all (IsLive past) (signals l past id words moment)
-      (table_then l past moment)
-      (without_keys_all (IsLive past) (expired l past moment) (table l past) a))
+      grind (arith, with_keys_all, all_rows, freed_all, live, without_keys_all)
 
   admit_live : (past : List Entry) (id h : ℕ) → IsLive past h → IsLive (Admit id ∷ past) h
   unfolding IsLive
@@ -109,10 +103,7 @@ module _ (l : Limits) where
   unfolding IsLive
   tracking_live past id words moment =
       ids_all (IsLive past) (is_tracking l (Run id words moment ∷ past)) (admitted past)
-      (λ h some le e. (
-        grind (arith, nat_tests),
-        (both_true (mode l h (Run id words moment ∷ past)).tracking (has_ended l h past) e).1,
-      ))
+      (grind (arith, nat_tests, both_true))
 
   -- the groups of a Run behind its reply
   abbrev pub behind : List Entry → ℕ → List (List ℕ) → ℕ → List Invalidation
@@ -139,19 +130,22 @@ module _ (l : Limits) where
   )
 
   -- a Run sends nothing to another that none of its groups is for
-  run_none : (n c : ℕ) (past : List Entry) (id : ℕ) (words : List (List ℕ)) (moment : ℕ)
-      → AllTo (λ h. (h == c) ≡ false) (expiry_group l past moment)
-      → AllTo (λ h. (h == c) ≡ false) (behind past id words moment)
-      → (id == c) ≡ false → sent_to n c (sends l (Run id words moment) past) ≡ []
-  run_none n c past id words moment before after other =
-      grind (arith, sent_to-append, routed_none, append-nil, nat_tests)
-
   -- nothing is sent by a Run to one that is not live, but for its own reply
   pub run_sends_none : (n c : ℕ) (past : List Entry) (id : ℕ) (words : List (List ℕ)) (moment : ℕ)
       → IsLegal l past → runs_on l past id ≡ true → ((h : ℕ) → IsLive past h → (h == c) ≡ false)
       → sent_to n c (sends l (Run id words moment) past) ≡ []
   run_sends_none n c past id words moment h on not_c =
-      grind (arith, run_none, all_to, expiry_live, behind_live, live, nat_tests)
+      grind (
+        arith,
+        all_to,
+        expiry_live,
+        behind_live,
+        live,
+        nat_tests,
+        sent_to-append,
+        routed_none,
+        append-nil,
+      )
 
   pub tick_sends_none : (n c : ℕ) (past : List Entry) (moment : ℕ)
       → IsLegal l past → ((h : ℕ) → IsLive past h → (h == c) ≡ false)
@@ -218,22 +212,14 @@ module _ (l : Limits) where
   stream_more past c entry = grind (arith, flat_map-append)
 
   -- an entry that sends nothing to a connection leaves its stream
-  stream_same : (past : List Entry) (c : ℕ) (entry : Entry)
-      → sent_bytes (sent_to (length past + 1) c (sends l entry past)) ≡ []
-      → stream l c (entry ∷ past) ≡ stream l c past
-  stream_same past c entry none = grind (arith, stream_more, append-nil)
-
   pub stream_admit : (past : List Entry) (c id : ℕ) → stream l c (Admit id ∷ past) ≡ stream l c past
-  stream_admit past c id = stream_same past c (Admit id) refl
+  stream_admit past c id = grind (arith, stream_more, append-nil)
 
   pub stream_take : (past : List Entry) (c id m : ℕ)
       → stream l c (Take id m ∷ past) ≡ stream l c past
-  stream_take past c id m = stream_same past c (Take id m) refl
+  stream_take past c id m = grind (arith, stream_more, append-nil)
 
   -- an end has no bytes
-  pub stream_close : (past : List Entry) (c id : ℕ) → stream l c (Close id ∷ past) ≡ stream l c past
-  stream_close past c id = grind (arith, stream_same)
-
   -- the bytes that a Run sends to a connection
   abbrev pub run_bytes : List Entry → ℕ → List (List ℕ) → ℕ → ℕ → List ℕ
   run_bytes past id words moment c =
@@ -260,26 +246,13 @@ module _ (l : Limits) where
   taken_le (Tick moment ∷ past) c = taken_more past c (Tick moment) (taken_le past c)
   taken_le (Take id max ∷ past) c = let r = taken_le past c in
       rw (stream_take past c id max)
-      (elim (id == c) as (λ b. cond b (taken l c past + min max
-      (length (stream l c past) - taken l c past)) (taken l c past) ≤ length (stream l c past)) [
-        | true ↦ omega arith
-        | false ↦ r
-      ])
+      (grind (arith, min))
   taken_le (Close id ∷ past) c = taken_more past c (Close id) (taken_le past c)
 
   -- ---- what is unsent after an entry
 
   -- where a connection has not ended and takes nothing, what an entry sends comes after what is
   -- unsent
-  unsent_more : (past : List Entry) (c : ℕ) (entry : Entry) (bytes : List ℕ)
-      → has_ended l c past ≡ false
-      → has_ended l c (entry ∷ past) ≡ has_ended l c past
-      → taken l c (entry ∷ past) ≡ taken l c past
-      → stream l c (entry ∷ past) ≡ stream l c past ++ bytes
-      → unsent l c (entry ∷ past) ≡ unsent l c past ++ bytes
-  unsent_more past c entry bytes live ended took grew =
-      grind (arith, live, unsent_live, drop-append-le, taken_le)
-
   -- an entry that leaves a connection's stream, what it took and its end leaves what is unsent
   unsent_same : (past : List Entry) (c : ℕ) (entry : Entry)
       → has_ended l c (entry ∷ past) ≡ has_ended l c past
@@ -295,11 +268,13 @@ module _ (l : Limits) where
       → has_ended l c past ≡ false
       → unsent l c (Run id words moment ∷ past)
       ≡ unsent l c past ++ run_bytes past id words moment c
-  unsent_run past c id moment words live = grind (arith, live, unsent_more, stream_more)
+  unsent_run past c id moment words live =
+      grind (arith, live, stream_more, unsent_live, drop-append-le, taken_le)
 
   pub unsent_tick : (past : List Entry) (c moment : ℕ) → has_ended l c past ≡ false
       → unsent l c (Tick moment ∷ past) ≡ unsent l c past ++ tick_bytes past moment c
-  unsent_tick past c moment live = grind (arith, live, unsent_more, stream_more)
+  unsent_tick past c moment live =
+      grind (arith, live, stream_more, unsent_live, drop-append-le, taken_le)
 
   pub unsent_ended : (past : List Entry) (c : ℕ) → has_ended l c past ≡ true → unsent l c past ≡ []
   unfolding unsent
@@ -326,10 +301,6 @@ module _ (l : Limits) where
   unsent_take_own past c id m live h = grind (arith, live, unsent_live, stream_take, drop_taken)
 
   -- another's Take leaves how much was taken
-  pub taken_other : (past : List Entry) (c id m : ℕ) → (id == c) ≡ false
-      → taken l c (Take id m ∷ past) ≡ taken l c past
-  taken_other past c id m h = grind arith
-
   -- another's Close is no end
   pub ended_other : (past : List Entry) (c id : ℕ) → (id == c) ≡ false
       → has_ended l c (Close id ∷ past) ≡ has_ended l c past
@@ -337,7 +308,7 @@ module _ (l : Limits) where
 
   pub unsent_take_other : (past : List Entry) (c id m : ℕ) → (id == c) ≡ false
       → unsent l c (Take id m ∷ past) ≡ unsent l c past
-  unsent_take_other past c id m h = grind (arith, unsent_same, taken_other, stream_take)
+  unsent_take_other past c id m h = grind (arith, unsent_same, stream_take)
 
   pub unsent_close_own : (past : List Entry) (c id : ℕ) → (id == c) ≡ true
       → unsent l c (Close id ∷ past) ≡ []
@@ -346,4 +317,4 @@ module _ (l : Limits) where
 
   pub unsent_close_other : (past : List Entry) (c id : ℕ) → (id == c) ≡ false
       → unsent l c (Close id ∷ past) ≡ unsent l c past
-  unsent_close_other past c id h = grind (arith, unsent_same, ended_other, stream_close)
+  unsent_close_other past c id h = grind (arith, unsent_same, ended_other, stream_more, append-nil)

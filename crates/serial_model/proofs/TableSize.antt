@@ -8,9 +8,8 @@ use Rattle.track_table.specs.Table.{without_key, freed_of, without_connection, k
 use Rattle.serial_model.specs.declared.history.Limits.{Limits}
 use Rattle.serial_model.specs.declared.history.Entry.{Entry}
 use Rattle.serial_model.specs.declared.history.Entry.TheVariants.{Admit, Run, Tick, Take, Close}
-use Rattle.command_words.specs.declared.command.Signalled.{Signalled}
-use Rattle.serial_model.specs.Tracking.{without_keys, without_signalled}
-use Rattle.serial_model.specs.History.{table, table_then, table_grown}
+use Rattle.serial_model.specs.Tracking.{without_keys}
+use Rattle.serial_model.specs.History.{table, table_grown}
 
 module _ (p : Held → Bool) where
   filter_within : (rows : List Held) → length (filter p rows) ≤ length rows
@@ -31,10 +30,6 @@ without_keys_within [] rows = omega arith
 without_keys_within (key ∷ keys) rows =
     grind (arith, filter_within, without_keys_within keys (without_key key rows))
 
-pub without_signalled_within : (sig : Signalled) (rows : List Held)
-    → length (without_signalled sig rows) ≤ length rows
-without_signalled_within sig rows = grind (arith, without_keys_within)
-
 module _ (l : Limits) where
   kept_within : (limit : ℕ) (rows : List Held) → length (kept limit rows) ≤ limit
   kept_within limit rows = grind (arith, length-drop)
@@ -46,7 +41,3 @@ module _ (l : Limits) where
   table_within (Tick m ∷ past) = grind (arith, without_keys_within, table_within past)
   table_within (Take id max ∷ past) = table_within past
   table_within (Close id ∷ past) = grind (arith, without_within, table_within past)
-
-  pub table_then_within : (past : List Entry) (m : ℕ)
-      → length (table_then l past m) ≤ l.table_max
-  table_then_within past m = grind (arith, table_within, without_keys_within)

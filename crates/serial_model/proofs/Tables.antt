@@ -10,10 +10,8 @@ use Rattle.id_set.specs.Ids.{with_id, without_id}
 use Rattle.track_table.specs.Table.{holders_of, remembered, without_key, freed_of}
 use Rattle.track_table.specs.Table.{without_connection, with_keys, dropped, kept}
 use Rattle.serial_model.specs.declared.mode.Mode.{Mode}
-use Rattle.serial_model.specs.Modes.{Memory}
-use Rattle.serial_model.specs.Tracking.{without_keys, without_signalled, remembering, ids_where}
-use Rattle.serial_model.specs.Tracking.{Invalidation, told_of, group, drop_group, told_to}
-use Rattle.serial_model.specs.Tracking.{signal_group}
+use Rattle.serial_model.specs.Tracking.{without_keys, without_signalled, ids_where, Invalidation}
+use Rattle.serial_model.specs.Tracking.{told_of, group, drop_group, told_to, signal_group}
 use Rattle.serial_model.specs.Each.{AllIn, AllRows, AllTo}
 use Rattle.serial_model.proofs.Each.{all_in, in_if, in_append, in_filter, in_take, in_drop}
 use Rattle.serial_model.specs.History.{Sending, sent_to, by_proto, routed}
@@ -117,11 +115,6 @@ pub freed_all : (P : ℕ → Type 0) (id : ℕ) (rows : List Held) → AllRows P
     → AllRows (λ h. P h × ((h == id) ≡ false)) (without_connection id rows)
 unfolding others
 freed_all P id rows a = grind (arith, in_filter, others, freed_rows)
-
--- what a connection remembers after its command: all others as before
-pub remembering_all : (P Q : ℕ → Type 0) (id : ℕ) (memory : Memory) (rows : List Held)
-    → P id → AllRows P rows → AllRows P (remembering id memory rows)
-remembering_all P Q id memory rows p a = grind (arith, with_keys_all, all_rows, freed_all)
 
 -- ---- what is sent to one
 

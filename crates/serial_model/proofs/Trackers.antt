@@ -7,18 +7,16 @@ use Rattle.command_words.specs.declared.command.Command.{Command}
 use Rattle.command_words.specs.declared.command.Signalled.TheVariants.{All}
 use Rattle.command_words.specs.declared.command.WordFault.{WordFault}
 use Rattle.command_words.specs.Queries.{read}
-use Rattle.command_words.specs.Space.{Space}
 use Rattle.command_words.specs.Words.{reading}
 use Rattle.track_table.specs.declared.table.Held.{Held}
-use Rattle.track_table.specs.Table.{with_keys, without_connection}
+use Rattle.track_table.specs.Table.{with_keys}
 use Rattle.serial_model.specs.declared.mode.Mode.{Mode}
-use Rattle.serial_model.specs.declared.mode.Runner.{Runner}
 use Rattle.serial_model.specs.declared.history.Limits.{Limits}
 use Rattle.serial_model.specs.declared.history.Entry.{Entry}
 use Rattle.serial_model.specs.declared.history.Entry.TheVariants.{Admit, Run, Tick, Take, Close}
 use Rattle.serial_model.specs.Modes.{Memory, Remembers, Forgets, OwnEffect, own_effect}
 use Rattle.serial_model.specs.Tracking.{remembering, without_signalled}
-use Rattle.serial_model.specs.History.{effect_of, ran_over, made_of, made, served, mode, table}
+use Rattle.serial_model.specs.History.{ran_over, made_of, made, served, mode, table}
 use Rattle.serial_model.specs.History.{table_then, table_grown, expired, signals}
 use Rattle.serial_model.specs.Each.{AllRows}
 use Rattle.serial_model.proofs.Tables.{all_rows, with_keys_all, without_keys_all, kept_all}
@@ -56,9 +54,6 @@ module _ (P Q : ℕ → Type 0) (id : ℕ) (f : (h : ℕ) → (h == id) ≡ fals
       → AllRows Q (with_keys id keys rows)
   some_remember keys rows a q = grind (arith, with_keys_all, all_rows, by_id)
 
-  all_forget : (rows : List Held) → AllRows P rows → AllRows Q (without_connection id rows)
-  all_forget rows a = grind (arith, all_rows, freed_all, nat_tests)
-
 module _ (l : Limits) where
   unfoldable pub Tracks : List Entry → ℕ → Type 0
   Tracks past h = (mode l h past).tracking ≡ true
@@ -88,16 +83,12 @@ module _ (l : Limits) where
       → AllRows (Tracks (Run id words moment ∷ past)) (remembering id memory rows)
   unfolding OwnTracks Tracks
   remembering_tracks past id words moment rows (Remembers []) own a =
-      let after = Run id words moment ∷ past in
-      all_rows {P = Tracks past} {Q = Tracks after}
-      (by_id (Tracks past) (Tracks after) id (others_track past id words moment)
-      (λ p. own_is past id words moment (own p))) rows a
+      grind (arith, all_rows, by_id, others_track, own_is)
   remembering_tracks past id words moment rows (Remembers (key ∷ keys)) own a =
       some_remember (Tracks past) (Tracks (Run id words moment ∷ past)) id
       (others_track past id words moment) (key ∷ keys) rows a (own_is past id words moment own)
   remembering_tracks past id words moment rows Forgets own a =
-      all_forget (Tracks past) (Tracks (Run id words moment ∷ past)) id
-      (others_track past id words moment) rows a
+      grind (arith, all_rows, freed_all, nat_tests, others_track)
 
   pub table_tracks : (past : List Entry) → AllRows (Tracks past) (table l past)
   unfolding Tracks
@@ -122,13 +113,7 @@ module _ (l : Limits) where
 
 -- ---- a flush leaves its connection's mode
 
-all_keeps : (by : Runner) (words : List (List ℕ)) (r : Result Command WordFault) (s : Space)
-    (moment : ℕ) (m : Mode)
-    → (effect_of by words (served r) s moment).signalled ≡ All
-    → (own_effect (served r) m).mode ≡ m
-all_keeps by words r s moment m = grind (arith, served_cases, data_own, nat_tests)
-
 pub flush_keeps : (l : Limits) (past : List Entry) (id moment : ℕ) (words : List (List ℕ))
     → signals l past id words moment ≡ All → (made l past id words).mode ≡ mode l id past
 unfolding ran_over made_of
-flush_keeps l past id moment words h = grind (arith, all_keeps, nat_tests)
+flush_keeps l past id moment words h = grind (arith, nat_tests, served_cases, data_own)

@@ -85,8 +85,7 @@ module _ (l : Limits) where
   step_gives c past (Take id most) =
       by_take l past (Gives c past (Take id most)) id most (append-nil (first c past))
       (append-nil (first c past)) (append-nil (first c past))
-      (λ on some room. first_take c id most past (take most (unsent l id past))
-      (not_ended l past id on) refl)
+      (grind (arith, first_take, not_ended))
   step_gives c past (Close id) =
       by_close l past (Gives c past (Close id)) id (append-nil (first c past))
       (λ on. first_same c past (entry.Close id) refl)
@@ -134,9 +133,7 @@ module _ (l : Limits) where
       by_admit l past (Runs c past Admit) (append-nil _) (λ room. append-nil _)
   runs_step c past (Run id words now) =
       by_run l past (Runs c past (Run id words now)) id words now (append-nil _) (append-nil _)
-      (λ on room. elim (id == c) as (λ b. runs_of c past ++ (cond b (words ∷ []) [])
-      ≡ cond b (runs_of c past ++ words ∷ []) (runs_of c past))
-      [ true ↦ refl | false ↦ append-nil _ ])
+      (grind (arith, append-nil))
   runs_step c past (Tick now) =
       by_tick l past (Runs c past (Tick now)) now (append-nil _) (append-nil _)
       (λ some room. append-nil _)
@@ -152,10 +149,6 @@ module _ (l : Limits) where
   unfolding Runs
   step_runs c past call = runs_step c past call
 
-  none_ran : (c : ℕ) (past : List Entry) (call : BookCall)
-      → runs_of c past ++ ran_by c call (Refused NoMemory) ≡ runs_of c past
-  none_ran c past call = grind (arith, append-nil)
-
   turns_run : (c : ℕ) (calls : List BookCall) (replies : List BookReply) (old new : List Entry)
       → Turns l old calls replies new
       → runs_of c old ++ answered c calls replies ≡ runs_of c new
@@ -166,7 +159,7 @@ module _ (l : Limits) where
       sym (append_assoc (runs_of c old) (ran_by c call reply) (answered c calls replies))
       ∙ ap (λ x. x ++ answered c calls replies)
       (by_step (λ r p. runs_of c old ++ ran_by c call r
-      ≡ runs_of c p) old h.0 call reply (step_runs c old call) (none_ran c old call) h.1)
+      ≡ runs_of c p) old h.0 call reply (step_runs c old call) (grind (arith, append-nil)) h.1)
       ∙ turns_run c calls replies h.0 new h.2
 
   pub each_run_once : (c : ℕ) (calls : List BookCall) (replies : List BookReply) (past : List Entry)
@@ -274,8 +267,7 @@ module _ (l : Limits) where
         h.3,
         Tick moment,
         tt,
-        tick_added past moment (expired l past moment) (ap (expired l past) e) h.0 h.1
-            ∙ ap (λ m. entry.Tick m ∷ past) e,
+        grind (arith, tick_added),
       )
   added (entry.Take id most ∷ past) h = (
     h.3,

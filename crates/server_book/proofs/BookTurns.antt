@@ -1,7 +1,7 @@
 -- How each turn keeps what a book knows of its history.
-use Rattle.std.proofs.Common.{◌≡◌, ◌+◌, ◌<◌, ◌≤◌, ℕ, List, [], ◌∷◌, ◌++◌, length, take, drop, max}
+use Rattle.std.proofs.Common.{◌≡◌, ◌+◌, ◌<◌, ◌≤◌, ℕ, List, [], ◌∷◌, ◌++◌, length, take, drop}
 use Rattle.std.proofs.Common.{ap, ◌∙◌, refl, arith, Bool, true, false, cond, length-append}
-use Rattle.std.proofs.Common.{slice_index_or, eq-eqb, ne_eqb, length-set}
+use Rattle.std.proofs.Common.{ne_eqb, length-set}
 use Rattle.std.specs.Prelude.{◌==◌}
 use Rattle.std.specs.List.{count_by}
 use Rattle.std.proofs.lemmas.List.Sums.{sum_by-set, sum_by_push, count_by-le-length}
@@ -12,17 +12,17 @@ use Rattle.serial_model.specs.declared.history.Limits.{Limits}
 use Rattle.serial_model.specs.declared.history.Entry.{Entry}
 use Rattle.serial_model.specs.declared.history.Entry.TheVariants as entry
 use Rattle.serial_model.specs.declared.history.BookCall.{BookCall}
-use Rattle.serial_model.specs.declared.history.BookCall.TheVariants.{Admit, Run, Take, Close}
+use Rattle.serial_model.specs.declared.history.BookCall.TheVariants.{Admit, Take, Close}
 use Rattle.serial_model.specs.declared.history.BookReply.{BookReply}
-use Rattle.serial_model.specs.declared.history.BookReply.TheVariants.{Admitted, Ran, Bytes, Closed}
+use Rattle.serial_model.specs.declared.history.BookReply.TheVariants.{Admitted, Bytes, Closed}
 use Rattle.serial_model.specs.declared.history.Post.{Post}
 use Rattle.serial_model.specs.declared.history.Posted.TheVariants.{End}
-use Rattle.serial_model.specs.History.{admitted, runs_on, gives_on, reads_on, latest, unsent}
+use Rattle.serial_model.specs.History.{admitted, runs_on, gives_on, reads_on, unsent}
 use Rattle.serial_model.specs.History.{posted, is_full, table}
 use Rattle.serial_model.specs.Steps.{book_step, AddsEntry}
 use Rattle.serial_model.proofs.ModeSteps.{mode_fresh}
 use Rattle.serial_model.specs.declared.mode.Mode.{Mode}
-use Rattle.serial_model.proofs.Turning.{admit_step, run_step, take_step, close_step}
+use Rattle.serial_model.proofs.Turning.{admit_step, take_step, close_step}
 use Rattle.serial_model.proofs.Streams.{connected, not_ended, ended_fresh, ended_other}
 use Rattle.serial_model.proofs.Streams.{unsent_close_own, unsent_close_other, unsent_fresh}
 use Rattle.serial_model.proofs.Streams.{unsent_admit, unsent_take_own, unsent_take_other, IsLive}
@@ -106,10 +106,7 @@ module _ (l : Limits) (past : List Entry) (space : Space) (keys : TableState)
   agrees_admit id e room = grind (
     arith,
     length-append,
-    cases_eq,
-    slice_index_or,
     get_or_push,
-    same_parts,
     unsent_admit,
     unsent_fresh,
     ended_fresh,
@@ -140,18 +137,8 @@ module _ (l : Limits) (past : List Entry) (space : Space) (keys : TableState)
   pub agrees_take : (id m : ℕ) → gives_on l past id ≡ true → is_full l past ≡ false
       → (take m (unsent l id past) ≡ [] → ⊥)
       → Agrees l (entry.Take id m ∷ past) space keys (with_connection cs id (took id m))
-  agrees_take id m on room some = grind (
-    arith,
-    eq-eqb,
-    kept_of,
-    length-set,
-    each_with,
-    is_id,
-    same_parts,
-    unsent_take_own,
-    not_ended,
-    unsent_take_other,
-  )
+  agrees_take id m on room some =
+      grind (arith, length-set, each_with, unsent_take_own, not_ended, unsent_take_other)
 
   pub live_at : (id : ℕ) → reads_on l past id ≡ true → (connection_at cs id).ended ≡ false
   live_at id on = ap (λ x. x.ended) (kept_of id on) ∙ not_ended l past id on
@@ -165,10 +152,8 @@ module _ (l : Limits) (past : List Entry) (space : Space) (keys : TableState)
       (with_connection cs id (closed id)))
   agrees_close id on = grind (
     arith,
-    eq-eqb,
     length-set,
     each_with,
-    is_id,
     same_parts,
     unsent_close_own,
     kept_of,
@@ -199,13 +184,6 @@ pub admit_turned : (l : Limits) (past : List Entry) (n id : ℕ) → is_full l p
     → n ≡ length past → id ≡ admitted past + 1
     → book_step l past Admit ≡ record { reply = Admitted (n + 1) id; past = entry.Admit id ∷ past }
 admit_turned l past n id room h i = grind (arith, admit_step)
-
-pub run_turned : (l : Limits) (past : List Entry) (id now m n : ℕ) (words : List (List ℕ))
-    → runs_on l past id ≡ true → is_full l past ≡ false
-    → n ≡ length past → m ≡ max now (latest past)
-    → book_step l past (Run id words now)
-    ≡ record { reply = Ran (n + 1); past = entry.Run id words m ∷ past }
-run_turned l past id now m n words on room h moment = grind (arith, run_step)
 
 pub take_turned : (l : Limits) (past : List Entry) (id most n : ℕ) (bytes : List ℕ)
     → gives_on l past id ≡ true → is_full l past ≡ false

@@ -1,4 +1,7 @@
 -- Telling the holders of one key after another.
+use Rattle.serial_model.proofs.Tables.{all_rows, drop_group_all, holders_all, told_all}
+use Rattle.server_book.proofs.Sendings.{id_longer, AreTo, length_sendings, routed_same}
+use Rattle.server_book.proofs.Sendings.{routed_there, sendings_append, sent_at}
 use Rattle.std.proofs.Common.{◌≡◌, ◌+◌, ◌<◌, ℕ, List, [], ◌∷◌, ◌++◌, length, take, refl, ap, sym}
 use Rattle.std.proofs.Common.{subst, ◌∙◌, arith, append-nil, append_assoc, false, slice_index_or}
 use Rattle.std.specs.Prelude.{◌||◌}
@@ -15,14 +18,10 @@ use Rattle.serial_model.specs.History.{Sending, routed}
 use Rattle.serial_model.specs.Tracking.{AreApart, Invalidation, drop_group, group, told_of}
 use Rattle.serial_model.proofs.KeyHolders.{keys_apart}
 use Rattle.serial_model.proofs.Each.{in_take}
-use Rattle.serial_model.proofs.Tables.{drop_group_all, holders_all, told_all}
 use Rattle.server_book.specs.declared.connections.Connection.{Connection}
 use Rattle.server_book.specs.Connections.{ConnectionsState, IsId}
-use Rattle.server_book.specs.Sendings.{AreIds, before_posts, modes_of, with_sendings}
+use Rattle.server_book.specs.Sendings.{AreIds, modes_of, with_sendings}
 use Rattle.server_book.specs.Stores.{AreThere}
-use Rattle.server_book.proofs.Remembered.{there_longer}
-use Rattle.server_book.proofs.Sendings.{AreTo, before_sendings, length_sendings, routed_same}
-use Rattle.server_book.proofs.Sendings.{routed_there, sendings_append, sent_at}
 
 -- the holders of each key, by a table that stays
 abbrev pub each_row : List (List ℕ) → List Held → List Held
@@ -86,22 +85,6 @@ row_there cs n [] h = tt
 row_there cs zero (r ∷ rows) h = h.0
 row_there cs (suc n) (r ∷ rows) h = row_there cs n rows h.1
 
--- a group is told to those that are there
-pub group_to : (cs : List Connection) (keys : List (List ℕ)) (rows : List Held)
-    → AreThere cs rows → AreApart keys → AreTo cs (routed (modes_of cs) (group keys rows))
-group_to cs keys rows there apart =
-    grind (arith, routed_there, group_told, drop_group_all, each_there)
-
--- what a group was told is taken back
-pub group_back : (n : ℕ) (old now : ConnectionsState) (keys : List (List ℕ)) (rows : List Held)
-    → AreThere old.items rows → AreApart keys
-    → now ≡ with_sendings n (routed (modes_of old.items) (group keys rows)) old
-    → before_posts now.posts now.items ≡ before_posts old.posts old.items
-group_back n old now keys rows there apart told =
-    ap (λ (s : ConnectionsState). before_posts s.posts s.items) told
-    ∙ before_sendings n (routed (modes_of old.items) (group keys rows)) old
-    (group_to old.items keys rows there apart)
-
 routed_append : (m : ℕ → Mode) (xs ys : List Invalidation)
     → routed m (xs ++ ys) ≡ routed m xs ++ routed m ys
 routed_append m [] ys = refl
@@ -122,15 +105,11 @@ module _ (n : ℕ) (old now : ConnectionsState) (rows : List Held) (k : ℕ)
 
     -- the holders are there still
     holders_still : AreIds now.items (slice_index_or rows k nobody).holders
-    holders_still = grind (arith, row_there, there_longer, same_length)
+    holders_still = grind (arith, row_there, same_length, all_rows, id_longer)
 
     pub ids_still : (ids : List ℕ) → ids ≡ (slice_index_or rows k nobody).holders
         → AreIds now.items ids
     ids_still ids is = subst (AreIds now.items) (sym is) holders_still
-
-    -- and nothing is lost by taking back
-    pub back_still : before_posts now.posts now.items ≡ before_posts old.posts old.items
-    back_still = grind (arith, before_sendings, so_far_there)
 
     same_modes : (i : ℕ) → IsId now.items i → modes_of now.items i ≡ modes_of old.items i
     same_modes i on = grind (arith, same_length, sent_at, so_far_there)
@@ -144,7 +123,6 @@ module _ (n : ℕ) (old now : ConnectionsState) (rows : List Held) (k : ℕ)
         (routed (modes_of old.items) (drop_group (take (k + 1) rows))) old
     told_more key ids next lt at is sent = grind (
       arith,
-      slice_index_or,
       routed_same,
       same_modes,
       told_all,

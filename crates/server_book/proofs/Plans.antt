@@ -1,9 +1,8 @@
 -- The plans of commands, and what a plan does after a past.
 use Rattle.std.proofs.Common.{◌≡◌, ℕ, List, [], ◌∷◌, Result, Ok, Err, refl, ap, sym, subst, Option}
 use Rattle.std.proofs.Common.{◌∙◌, Bool, true, false, cond, arith}
-use Rattle.std.specs.Prelude.{IfOk, codes, if◌then◌else◌}
+use Rattle.std.specs.Prelude.{IfOk}
 use Rattle.resp_value.specs.declared.octets.NoMemory as memory
-use Rattle.resp_value.specs.declared.value.Value.TheVariants.{Simple}
 use Rattle.command_words.specs.declared.command.Command.{Command}
 use Rattle.command_words.specs.declared.command.Command.TheVariants.{Hello, ClientTracking}
 use Rattle.command_words.specs.declared.command.Signalled.{Signalled}
@@ -20,7 +19,6 @@ use Rattle.command_words.specs.Space.{Space}
 use Rattle.command_set.specs.Runs.{AreDue, taken_back}
 use Rattle.serial_model.specs.declared.history.Entry.{Entry}
 use Rattle.serial_model.specs.declared.history.Limits.{Limits}
-use Rattle.serial_model.specs.declared.mode.Mode.{Mode}
 use Rattle.serial_model.specs.declared.mode.Runner.{Runner}
 use Rattle.serial_model.specs.Deadlines.{due_keys}
 use Rattle.serial_model.specs.Modes.{Memory, Remembers, OwnEffect, is_served_tracking}
@@ -30,7 +28,7 @@ use Rattle.serial_model.specs.History.{keyspace, made, signals, expired}
 use Rattle.serial_model.proofs.DueKeys.{due_by_index}
 use Rattle.serial_model.proofs.ServedRows.{data_effect, data_own, row_of, signalled_keys}
 use Rattle.serial_model.proofs.ServedRows.{reads_or_writes}
-use Rattle.server_book.specs.declared.deed.Deed.TheVariants.{Nothing, Remember, Forget}
+use Rattle.server_book.specs.declared.deed.Deed.TheVariants.{Nothing, Remember}
 use Rattle.server_book.specs.declared.plan.Plan.{Plan}
 use Rattle.server_book.specs.declared.plan.Played.{Played}
 use Rattle.server_book.specs.Plans.{IsPlan, IsQuiet, IsSound, signals_of, memory_of, deed_for}
@@ -61,26 +59,12 @@ hello_planned r by words word read h e =
     if_planned r _ _ (λ p all s m. subst (λ x. IsQuiet p by words x s m) (sym e)
     (all words s m)) h
 
--- the plan of CLIENT TRACKING
-abbrev pub tracking_plan : Mode → Bool → Plan
-tracking_plan mode on =
-    record {
-      reply = Simple (codes "OK");
-      deed = if on then Nothing else Forget;
-      mode = record mode { tracking = on };
-    }
-
 pub tracking_unknown : (options : TrackOptions) → is_served_tracking options ≡ false
     → served (Ok (ClientTracking options)) ≡ Err Unknown
 tracking_unknown options h = ap (λ b. cond b (Ok (ClientTracking options)) (Err Unknown)) h
 
 pub row_served : (c : Command) → has_row c ≡ true → served (Ok c) ≡ Ok c
 row_served c h = grind arith
-
-pub other_unknown : (c : Command) → has_row c ≡ false
-    → ((word : Option (List ℕ)) → c ≡ Hello word → ⊥)
-    → ((options : TrackOptions) → c ≡ ClientTracking options → ⊥) → served (Ok c) ≡ Err Unknown
-other_unknown c h no_hello no_tracking = grind arith
 
 -- ---- the keys that are due
 

@@ -1,7 +1,7 @@
 -- The remembered keys of a past are a table, within its limit; and their holders stay there.
 use Rattle.std.proofs.Common.{◌≡◌, ◌≤◌, ℕ, List, [], ◌∷◌, length, arith}
 use Rattle.track_table.specs.declared.table.Held.{Held}
-use Rattle.track_table.specs.Table.{remembered, without_key, TableState, with_keys, dropped, kept}
+use Rattle.track_table.specs.Table.{remembered, without_key, TableState, with_keys, dropped}
 use Rattle.track_table.specs.Order.{IsTable}
 use Rattle.track_table.proofs.Orders.{table_remembered, table_without_key, table_drop}
 use Rattle.track_table.proofs.Orders.{table_without_connection}
@@ -12,10 +12,6 @@ use Rattle.command_words.specs.declared.command.Signalled.{Signalled}
 use Rattle.serial_model.specs.Modes.{Memory}
 use Rattle.serial_model.specs.Tracking.{without_keys, without_signalled, remembering}
 use Rattle.serial_model.specs.History.{table}
-use Rattle.serial_model.proofs.Tables.{all_rows}
-use Rattle.server_book.proofs.Sendings.{id_longer}
-use Rattle.server_book.specs.declared.connections.Connection.{Connection}
-use Rattle.server_book.specs.Stores.{AreThere}
 
 -- ---- a table by its parts
 
@@ -24,9 +20,6 @@ pub same_table : (t : TableState) (limit : ℕ) (rows : List Held) → t.limit �
 same_table t limit rows e f = grind arith
 
 -- ---- within the limit nothing is dropped
-
-pub short_kept : (limit : ℕ) (rows : List Held) → length rows ≤ limit → kept limit rows ≡ rows
-short_kept limit rows short = grind arith
 
 pub short_dropped : (limit : ℕ) (rows : List Held) → length rows ≤ limit → dropped limit rows ≡ []
 short_dropped limit rows short = grind arith
@@ -66,7 +59,3 @@ table_of_past l (Run id words moment ∷ past) = grind (
 table_of_past l (Tick moment ∷ past) = grind (arith, without_keys_table, table_of_past l past)
 table_of_past l (Close id ∷ past) = grind (arith, table_without_connection, table_of_past l past)
 table_of_past l (e ∷ past) = table_of_past l past
-
-pub there_longer : (cs ds : List Connection) (rows : List Held) → length cs ≤ length ds
-    → AreThere cs rows → AreThere ds rows
-there_longer cs ds rows le h = grind (arith, all_rows, id_longer)

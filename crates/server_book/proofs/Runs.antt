@@ -1,5 +1,5 @@
 -- A Run sends what its entry sends, and leaves what the history says.
-use Rattle.std.proofs.Common.{◌≡◌, ◌+◌, ◌<◌, ◌≤◌, ℕ, List, [], ◌∷◌, ◌++◌, length, sym, ap, subst}
+use Rattle.std.proofs.Common.{◌≡◌, ◌+◌, ◌<◌, ◌≤◌, ℕ, List, [], ◌∷◌, ◌++◌, length, sym, subst}
 use Rattle.std.proofs.Common.{◌∙◌, refl, arith, true, false, append-nil, length-set, append_assoc}
 use Rattle.std.proofs.Common.{eq-eqb, ne_eqb}
 use Rattle.std.specs.Prelude.{◌==◌}
@@ -76,9 +76,7 @@ module _ (l : Limits) (past : List Entry) (space : Space) (keys : TableState)
     pub first_at : (i : ℕ) → IsId cs i
         → connection_at first.items i
         ≡ more (connection_of l past i) (sent_bytes (sent_to n i early))
-    first_at i there =
-        sent_at n i early old there early_to
-        ∙ ap (λ c. more c (sent_bytes (sent_to n i early))) (k.each i there)
+    first_at i there = grind (arith, sent_at, old, early_to, more)
 
     pub first_posts : first.posts ≡ posts_of n early
     first_posts = posts_sendings n early old
@@ -125,17 +123,8 @@ module _ (l : Limits) (past : List Entry) (space : Space) (keys : TableState)
 
       -- the modes are those once the command has run, and nobody has ended since
       mode_then : (i : ℕ) → IsId cs i → (connection_at second.items i).mode ≡ mode l i (run ∷ past)
-      mode_then i there = grind (
-        arith,
-        cases_eq,
-        second_own,
-        mode_own,
-        eq-eqb,
-        second_other,
-        first_at,
-        mode_other,
-        ne_eqb,
-      )
+      mode_then i there =
+          grind (arith, second_own, mode_own, eq-eqb, second_other, first_at, mode_other, ne_eqb)
 
       ended_then : (i : ℕ) → IsId cs i → (connection_at second.items i).ended ≡ has_ended l i past
       ended_then i there = grind (arith, cases_eq, second_own, first_at, own_there, second_other)
@@ -190,14 +179,10 @@ module _ (l : Limits) (past : List Entry) (space : Space) (keys : TableState)
       reply_is : reply ≡ (id, Message plan.mode.proto plan.reply)
       reply_is = grind arith
 
-      sends_is : sends l run past
-          ≡ early ++ (id, Message plan.mode.proto plan.reply) ∷ sent
-      sends_is = grind (arith, append-nil, early_is, reply_is, sent_is)
-
       run_is : (c : ℕ) → run_bytes l past id words m c
           ≡ sent_bytes (sent_to n c early)
           ++ sent_bytes (sent_to n c ((id, Message plan.mode.proto plan.reply) ∷ sent))
-      run_is c = grind (arith, sends_is, bytes_append)
+      run_is c = grind (arith, bytes_append, append-nil, early_is, reply_is, sent_is)
 
       own_bytes : run_bytes l past id words m id
           ≡ sent_bytes (sent_to n id early) ++ (message ++ sent_bytes (sent_to n id sent))
@@ -266,4 +251,15 @@ module _ (l : Limits) (past : List Entry) (space : Space) (keys : TableState)
       -- and its posts are those of its entry
       pub posted_run : after.posts ≡ posted l (run ∷ past)
       unfolding posted
-      posted_run = grind (arith, posts_sendings, first_posts, append_assoc, posts_append, sends_is)
+      posted_run =
+          grind (
+            arith,
+            posts_sendings,
+            first_posts,
+            append_assoc,
+            posts_append,
+            append-nil,
+            early_is,
+            reply_is,
+            sent_is,
+          )

@@ -1,8 +1,8 @@
 -- What sendings do to each connection, and that taking them back undoes them.
 use Rattle.std.proofs.Common.{◌≡◌, ◌+◌, ◌-◌, ◌<◌, ◌≤◌, ℕ, List, [], ◌∷◌, ◌++◌, length, take, sym}
-use Rattle.std.proofs.Common.{ap, subst, ◌∙◌, refl, arith, true, false, Bool, length-append}
+use Rattle.std.proofs.Common.{ap, ◌∙◌, refl, arith, true, Bool, length-append}
 use Rattle.std.proofs.Common.{length-set, slice_index_or, slice_set, append_assoc, append-nil, inl}
-use Rattle.std.proofs.Common.{inr, eq-eqb, ne_eqb, Result, OnErr, OnOk, Option}
+use Rattle.std.proofs.Common.{inr, eq-eqb, ne_eqb, Result, OnErr, Option}
 use Rattle.std.specs.Prelude.{◌==◌}
 use Prim.Native.Nat.{zero, suc}
 use Rattle.std.proofs.lemmas.Bool.{cases_eq}
@@ -31,9 +31,6 @@ on_err r P h = grind arith
 pub on_err_then : {A E : Type 0} (r : Result A E) (P Q : Type 0) → (P → Q) → OnErr r P → OnErr r Q
 on_err_then r P Q f h = grind arith
 
-pub on_ok_then : {A E : Type 0} (r : Result A E) (P Q : Type 0) → (P → Q) → OnOk r P → OnOk r Q
-on_ok_then r P Q f h = grind arith
-
 -- ---- a connection by its id
 
 pub at_same : (cs : List Connection) (id : ℕ) (c : Connection) → IsId cs id
@@ -58,14 +55,9 @@ pub id_longer : (cs ds : List Connection) → length cs ≤ length ds → (id : 
     → IsId ds id
 id_longer cs ds le id on = (on.0, omega (arith, on.1))
 
-pub posted_longer : (cs ds : List Connection) (ps : List Post) → length cs ≤ length ds
-    → ArePosted cs ps → ArePosted ds ps
-posted_longer cs ds ps le h = grind (arith, all_in, id_longer)
-
 pub posted_set : (cs : List Connection) (at : ℕ) (c : Connection) (ps : List Post)
     → ArePosted cs ps → ArePosted (slice_set cs at c) ps
-posted_set cs at c ps h =
-    posted_longer cs (slice_set cs at c) ps (omega (arith, length-set cs at c)) h
+posted_set cs at c ps h = grind (arith, all_in, id_longer, slice_set, length-set)
 
 pub posted_more : (cs : List Connection) (ps : List Post) (p : Post) → ArePosted cs ps
     → IsId cs p.id → ArePosted cs (ps ++ p ∷ [])
@@ -154,9 +146,7 @@ posted_sendings n (s ∷ ss) state to h =
     let p : Post = record { entry = n; id = s.0; what = posted_of s.1 } in
     let next = with_sending n s state in
     posted_sendings n ss next (to_next n s ss state to.1)
-    (posted_longer state.items next.items (state.posts ++ p ∷ [])
-    (omega (arith, length_queued state.items s.0 (sending_bytes s.1)))
-    (posted_more state.items state.posts p h to.0))
+    (grind (arith, length_queued, posted_more, all_in, id_longer))
 
 -- ---- taking back where a mode was changed
 
@@ -224,10 +214,6 @@ sent_more : (n i : ℕ) (s : ℕ × Sending) (ss : List (ℕ × Sending)) → (s
     → sent_bytes (sent_to n i (s ∷ ss)) ≡ sending_bytes s.1 ++ sent_bytes (sent_to n i ss)
 sent_more n i s ss h = grind arith
 
-sent_same : (n i : ℕ) (s : ℕ × Sending) (ss : List (ℕ × Sending)) → (s.0 == i) ≡ false
-    → sent_bytes (sent_to n i (s ∷ ss)) ≡ sent_bytes (sent_to n i ss)
-sent_same n i s ss h = grind arith
-
 -- each connection has the bytes of its own sendings behind its queue
 pub sent_at : (n i : ℕ) (ss : List (ℕ × Sending)) (state : ConnectionsState)
     → IsId state.items i → AreTo state.items ss
@@ -241,21 +227,8 @@ sent_at n i (s ∷ ss) state on h =
     omega (arith, on.1, length_queued state.items s.0 (sending_bytes s.1)) in
     sent_at n i ss next (on.0, there) (to_next n s ss state h.1)
     ∙ elim (cases_eq s.0 i) [
-      | inl e ↦
-          ap (λ x. more x (sent_bytes (sent_to n i ss)))
-          (subst (λ j. connection_at next.items j
-          ≡ more (connection_at state.items j) (sending_bytes s.1)) e
-          (at_same state.items s.0 (more c (sending_bytes s.1)) h.0))
-          ∙ ap (λ q. record (connection_at state.items i) { queue = q })
-          (append_assoc (connection_at state.items i).queue (sending_bytes s.1)
-          (sent_bytes (sent_to n i ss)))
-          ∙ ap (more (connection_at state.items i))
-          (sym (sent_more n i s ss (eq-eqb s.0 i e)))
-      | inr ne ↦
-          ap (λ x. more x (sent_bytes (sent_to n i ss)))
-          (at_other state.items s.0 i (more c (sending_bytes s.1)) h.0.0 on.0 ne)
-          ∙ ap (more (connection_at state.items i))
-          (sym (sent_same n i s ss (ne_eqb s.0 i ne)))
+      | inl e ↦ grind (arith, more, at_same, append_assoc, sent_more, eq-eqb)
+      | inr ne ↦ grind (arith, more, at_other, ne_eqb)
     ]
 
 -- ---- whom a key's holders' group goes to
@@ -348,12 +321,7 @@ module _ (n : ℕ) (keys : Option (List (List ℕ))) (ids : List ℕ) (k : ℕ)
       let id = slice_index_or ids k 0 in
       let i : Invalidation = record { to = id; keys = keys } in
       told_step next m is
-      (sent
-      ∙ ap (λ b. record {
-        items = queued now.items id b;
-        posts = now.posts ++ message_post n id (length b) ∷ [];
-      }) spelling
-      ∙ ap (λ p. with_sendings n (route (record m { proto = p }) i) now) (sym three))
+      (grind arith)
 
 -- ---- those that track
 

@@ -12,7 +12,7 @@ use Rattle.serial_model.specs.declared.history.Entry.{Entry}
 use Rattle.serial_model.specs.declared.history.Entry.TheVariants as entry
 use Rattle.serial_model.specs.Tracking.{without_keys}
 use Rattle.serial_model.specs.History.{is_full, latest, has_ended, unsent, posted, sends, sent_to}
-use Rattle.serial_model.specs.History.{sent_bytes, expired}
+use Rattle.serial_model.specs.History.{expired}
 use Rattle.serial_model.specs.Steps.{book_step, full}
 use Rattle.serial_model.proofs.Streams.{IsLive, tick_bytes, tick_sends_none, unsent_tick}
 use Rattle.serial_model.proofs.Streams.{unsent_ended}
@@ -20,7 +20,7 @@ use Rattle.serial_model.proofs.Turning.{tick_step}
 use Rattle.server_book.specs.declared.connections.Connection.{Connection}
 use Rattle.server_book.specs.Connections.{IsId, connection_at}
 use Rattle.server_book.specs.BookState.{Agrees, connection_of}
-use Rattle.server_book.proofs.Runs.{early, early_is, first, first_at, first_posts, length_first}
+use Rattle.server_book.proofs.Runs.{early_is, first, first_at, first_posts, length_first}
 use Rattle.server_book.proofs.BookTurns.{same_parts}
 
 module _ (l : Limits) (past : List Entry) (space : Space) (keys : TableState)
@@ -38,15 +38,11 @@ module _ (l : Limits) (past : List Entry) (space : Space) (keys : TableState)
       ≡ unsent l c past ++ tick_bytes l past m c
   unsent_after c = grind (arith, tick_bytes, unsent_ended, ended_none, append-nil, unsent_tick)
 
-  bytes_are : (c : ℕ) → sent_bytes (sent_to n c (early l past space keys cs k m gone gone_is))
-      ≡ tick_bytes l past m c
-  bytes_are c = grind (arith, early_is)
-
   each : (i : ℕ) → IsId cs i → connection_at told i ≡ connection_of l (entry.Tick m ∷ past) i
   each i there =
       first_at l past space keys cs k m gone gone_is n i there
       ∙ same_parts
-      (ap (λ x. unsent l i past ++ x) (bytes_are i) ∙ sym (unsent_after i)) refl refl
+      (ap (λ x. unsent l i past ++ x) (grind (arith, early_is)) ∙ sym (unsent_after i)) refl refl
 
   pub length_told : length told ≡ length cs
   length_told = length_first l past space keys cs k m gone gone_is n

@@ -1,4 +1,10 @@
 -- A Run that memory broke off is taken back.
+use Rattle.server_book.proofs.Sendings.{before_sendings, routed_there, id_longer, before_last}
+use Rattle.server_book.proofs.Sendings.{before_mode, length_queued, length_sendings, mode_back}
+use Rattle.server_book.proofs.Sendings.{mode_same, posted_more, posted_sendings, unqueued_queued}
+use Rattle.serial_model.proofs.Each.{all_in}
+use Rattle.server_book.proofs.Groups.{group_told, each_there}
+use Rattle.serial_model.proofs.Tables.{drop_group_all, all_rows, without_keys_all}
 use Rattle.std.proofs.Common.{◌≡◌, ◌≤◌, ℕ, List, [], ◌∷◌, ◌++◌, length, ap, ◌∙◌, refl, arith}
 use Rattle.std.proofs.Common.{length-set}
 use Rattle.track_table.specs.declared.table.Held.{Held}
@@ -6,24 +12,19 @@ use Rattle.serial_model.specs.declared.history.Post.{Post}
 use Rattle.serial_model.specs.declared.mode.Mode.{Mode}
 use Rattle.serial_model.specs.History.{Sending, routed}
 use Rattle.serial_model.specs.Tracking.{AreApart, group, without_keys}
-use Rattle.serial_model.proofs.Tables.{without_keys_all}
 use Rattle.serial_model.proofs.TableSize.{without_keys_within}
 use Rattle.server_book.specs.declared.connections.Connection.{Connection}
 use Rattle.server_book.specs.Connections.{ArePosted, ConnectionsState, IsId}
 use Rattle.server_book.specs.RunSendings.{with_mode}
 use Rattle.server_book.specs.Sendings.{before_posts, message_post, modes_of, queued, with_sendings}
 use Rattle.server_book.specs.Stores.{AreThere, IsHeld}
-use Rattle.server_book.proofs.Groups.{group_back, group_to}
-use Rattle.server_book.proofs.Remembered.{there_longer, without_keys_table}
-use Rattle.server_book.proofs.Sendings.{before_last, before_mode, length_queued, length_sendings}
-use Rattle.server_book.proofs.Sendings.{mode_back, mode_same, posted_longer, posted_more}
-use Rattle.server_book.proofs.Sendings.{posted_sendings, unqueued_queued}
+use Rattle.server_book.proofs.Remembered.{without_keys_table}
 
 -- the table is one of connections that are there, where keys leave it
 pub held_left : (limit : ℕ) (keys : List (List ℕ)) (rows : List Held) (cs ds : List Connection)
     → length cs ≤ length ds → IsHeld limit rows cs → IsHeld limit (without_keys keys rows) ds
 held_left limit keys rows cs ds le h =
-    grind (arith, without_keys_table, without_keys_within, there_longer, without_keys_all)
+    grind (arith, without_keys_table, without_keys_within, without_keys_all, all_rows, id_longer)
 
 -- the holders of the keys that left were told
 module _ (n id : ℕ) (old now : ConnectionsState) (keys : List (List ℕ)) (rows : List Held)
@@ -40,9 +41,7 @@ module _ (n id : ℕ) (old now : ConnectionsState) (keys : List (List ℕ)) (row
   on_told = (on.0, let le = on.1 in omega (arith, le, length_told))
 
   told_none : before_posts now.posts now.items ≡ old.items
-  told_none =
-      group_back n old now keys rows there apart told
-      ∙ ap (λ ps. before_posts ps old.items) none
+  told_none = grind (arith, before_sendings, routed_there, group_told, drop_group_all, each_there)
 
   pub told_back : with_mode id (modes_of old.items id) (before_posts now.posts now.items)
       ≡ old.items
@@ -66,12 +65,16 @@ module _ (n id : ℕ) (old now : ConnectionsState) (keys : List (List ℕ)) (row
     posted =
         grind (
           arith,
-          posted_longer,
           length_replied,
           posted_more,
           posted_sendings,
-          group_to,
           on_told,
+          routed_there,
+          group_told,
+          drop_group_all,
+          each_there,
+          all_in,
+          id_longer,
         )
 
     pub replied_back : with_mode id (modes_of old.items id)

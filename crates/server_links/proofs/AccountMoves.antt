@@ -1,5 +1,5 @@
 -- What each move over a link does to its account.
-use Rattle.std.proofs.Common.{◌≡◌, ℕ, List, [], ◌++◌, Bool, true, false, cond, None, Option, take}
+use Rattle.std.proofs.Common.{◌≡◌, ℕ, List, [], ◌++◌, true, false, cond, None, Option, take}
 use Rattle.std.proofs.Common.{refl, sym, ap, ◌∙◌, arith, append_assoc, append-nil}
 use Rattle.std.proofs.lemmas.Slice.Eq.{bytes_eq-Decides}
 use Rattle.std.proofs.lemmas.List.{take-append-drop}
@@ -32,14 +32,10 @@ use Rattle.server_links.proofs.Carries.{mute_reply, by_take, took, take_carries}
 use Rattle.server_links.proofs.Moving.{every_turned, every_read, every_serve_all, every_send_all}
 use Rattle.server_links.proofs.Accounts.{gave, Account, Part, account_part, Keeps, keeps_then}
 use Rattle.server_links.proofs.Accounts.{keeps_stays, keeps_once, keeps_quiet}
-use Rattle.server_links.proofs.AccountRuns.{account_refuses, account_stays, open_past_eof, reads_of}
+use Rattle.server_links.proofs.AccountRuns.{account_refuses, account_stays, reads_of}
 use Rattle.server_links.proofs.AccountRuns.{same_heard, same_id, serve_all_keeps, serve_keeps}
 
 -- ---- the server's end sends
-
-put_open : (more : List ℕ) (e : Eof) (bytes : List ℕ) → is_open e ≡ true
-    → put_by e bytes more ≡ bytes ++ more
-put_open more e bytes h = grind (arith, nat_tests)
 
 given_is : (c most : ℕ) (reply : BookReply) → given_by c (call.Take c most) reply ≡ bytes_of reply
 given_is c most reply = grind (arith, same_id, nat_tests)
@@ -86,11 +82,7 @@ module _ (heard said : List ℕ) where
         all_said = a.bytes.all_said;
         none_up = a.bytes.none_up;
         opened = opened;
-        all_given = ap (λ l. l ++ bytes_of t.reply)
-            (sym (append-nil (read ++ s.link.down.bytes))
-            ∙ ap (λ l. (read ++ s.link.down.bytes) ++ l) (sym (a.bytes.none_down opened))
-            ∙ a.bytes.all_taken)
-            ∙ gave_take s.limits s.link.id most s.past;
+        all_given = grind (arith, append-nil, gave_take);
         runs = sym (step_runs s.limits s.link.id s.past (call.Take s.link.id most))
             ∙ append-nil (runs_of s.link.id s.past) ∙ a.runs;
         reading = λ on. a.reading (sym (take_reads s.limits s.link.id most s.past) ∙ on);
@@ -98,7 +90,7 @@ module _ (heard said : List ℕ) where
 
   put_in_hand : (given read : List ℕ) (s : Session) → InHand given heard said read s
       → Account heard said read (with_link s (with_down s.link (put given s.link.down)))
-  put_in_hand given read s h = grind (arith, append-nil, put_open, append_assoc)
+  put_in_hand given read s h = grind (arith, append-nil, append_assoc, nat_tests)
 
   take_keeps : (most : ℕ) (s : Session) → is_open s.link.down.eof ≡ true
       → Keeps (Account heard said) (Account heard said) (Part said) s (take_down most s)
@@ -171,18 +163,15 @@ module _ (heard said : List ℕ) where
       (λ read a. let n = down_account bytes read down s split opened a in
       (account_part heard said read s a, (λ e. n), account_part heard said (read ++ bytes) _ n))
 
-  eof_quiet : (name : List ℕ) (b : Bool) → read_on name (eof_lines name b) ≡ []
-  eof_quiet name b = grind (arith, nat_tests)
-
   read_eof_keeps : (s : Session)
       → Keeps (Account heard said) (Account heard said) (Part said) s (read_eof s)
   read_eof_keeps s =
       let b = is_queued s.link.down.eof in
       keeps_once (Account heard said) (Account heard said) (Part said) s
       (with_link s (with_down s.link (past_eof s.link.down))) (eof_lines s.link.name b) None []
-      (eof_quiet s.link.name b)
+      (grind (arith, nat_tests))
       (λ read a. let n = down_account [] read (past_eof s.link.down) s refl
-      (open_past_eof s.link.down.eof) a in
+      (grind arith) a in
       (account_part heard said read s a, (λ e. n), account_part heard said (read ++ []) _ n))
 
   receive_all_keeps : (s : Session)
@@ -207,12 +196,10 @@ module _ (heard said : List ℕ) where
       (with_up (with_down s.link (cut s.link.down)) (cut s.link.up))) = record {
         bytes = record {
           up_lost = s.link.up.bytes ++ a.bytes.up_lost;
-          all_said = ap (λ l. l ++ (s.link.up.bytes ++ a.bytes.up_lost)) (append-nil heard)
-              ∙ sym (append_assoc heard s.link.up.bytes a.bytes.up_lost) ∙ a.bytes.all_said;
+          all_said = grind (arith, append-nil, append_assoc);
           none_up = λ h. absurd (not_open s.link.up.eof h);
           down_lost = s.link.down.bytes ++ a.bytes.down_lost;
-          all_taken = ap (λ l. l ++ (s.link.down.bytes ++ a.bytes.down_lost)) (append-nil read)
-              ∙ sym (append_assoc read s.link.down.bytes a.bytes.down_lost) ∙ a.bytes.all_taken;
+          all_taken = grind (arith, append-nil, append_assoc);
           none_down = λ h. absurd (not_open s.link.down.eof h);
         };
         runs = a.runs;
@@ -224,18 +211,7 @@ module _ (heard said : List ℕ) where
       → Keeps (Account heard said) (Account heard said) (Part said) s (hang_up s)
   hang_keeps s = keeps_stays (Account heard said) (Account heard said) (Part said) s _ (λ read a.
       let n : Account heard said read (with_link s (with_up s.link (finished s.link.up))) =
-      record {
-        bytes = record {
-          up_lost = a.bytes.up_lost;
-          all_said = a.bytes.all_said;
-          none_up = λ h. absurd (not_open s.link.up.eof h);
-          down_lost = a.bytes.down_lost;
-          all_taken = a.bytes.all_taken;
-          none_down = a.bytes.none_down;
-        };
-        runs = a.runs;
-        reading = a.reading;
-      } in
+      grind (arith, not_open) in
       (n, account_part heard said read _ n))
 
 -- ---- the client's end puts bytes on the way
@@ -267,31 +243,7 @@ say_keeps heard said bytes s =
     (with_link s (with_up s.link (put bytes s.link.up))) [] None refl (λ read a.
     let p = put_said heard said bytes a.bytes.up_lost s.link.up.bytes s.link.up.eof a.bytes.all_said
     a.bytes.none_up in
-    let n : Account heard (said ++ bytes) read
-    (with_link s (with_up s.link (put bytes s.link.up))) = record {
-      bytes = record {
-        up_lost = p.0;
-        all_said = p.1;
-        none_up = p.2;
-        down_lost = a.bytes.down_lost;
-        all_taken = a.bytes.all_taken;
-        none_down = a.bytes.none_down;
-      };
-      runs = a.runs;
-      reading = a.reading;
-    } in
-    let old : Part (said ++ bytes) read s = record {
-      heard = heard;
-      up = record {
-        lost = a.bytes.up_lost
-            ++ bytes;
-        all_said = sym (append_assoc (heard ++ s.link.up.bytes) a.bytes.up_lost bytes)
-            ∙ ap (λ l. l ++ bytes) a.bytes.all_said;
-      };
-      down = record { lost = a.bytes.down_lost; all_taken = a.bytes.all_taken };
-      runs_front = ([], append-nil (runs_of s.link.id s.past) ∙ a.runs);
-    } in
-    (old, (λ e. n), account_part heard (said ++ bytes) read _ n))
+    grind (arith, Account, append_assoc, append-nil, account_part))
 
 -- ---- an event
 
@@ -334,11 +286,6 @@ bytes_said Tick = []
 
 -- nothing was said, or nothing heard
 module _ (heard said : List ℕ) (s : Session) (m : Outcome Session) where
-  pub none_said : (piece : List ℕ)
-      → Keeps (Account heard said) (Account (heard ++ piece) said) (Part said) s m
-      → Keeps (Account heard said) (Account (heard ++ piece) (said ++ [])) (Part (said ++ [])) s m
-  none_said piece k = grind (arith, append-nil)
-
   none_heard : (bytes : List ℕ)
       → Keeps (Account heard said) (Account heard (said ++ bytes)) (Part (said ++ bytes)) s m
       → Keeps (Account heard said) (Account (heard ++ []) (said ++ bytes)) (Part (said ++ bytes)) s
@@ -347,7 +294,7 @@ module _ (heard said : List ℕ) (s : Session) (m : Outcome Session) where
 
   neither : Keeps (Account heard said) (Account heard said) (Part said) s m
       → Keeps (Account heard said) (Account (heard ++ []) (said ++ [])) (Part (said ++ [])) s m
-  neither k = none_said [] (same_heard heard said s m k)
+  neither k = grind (arith, append-nil, same_heard)
 
 moved_keeps : (heard said : List ℕ) (move : LinkMove) (s : Session)
     → Keeps (Account heard said) (Account (heard ++ piece_over move s) (said ++ []))
@@ -356,15 +303,13 @@ unfolding piece_over
 moved_keeps heard said move s =
     grind (
       arith,
-      none_said,
-      reads_of,
       serve_keeps,
-      neither,
       send_keeps,
       receive_keeps,
       flow_keeps,
       hang_keeps,
       cut_keeps,
+      append-nil,
     )
 
 pub move_keeps : (heard said : List ℕ) (event : LinkEvent) (s : Session)

@@ -16,10 +16,8 @@ use Rattle.serial_model.specs.History.{reads_on, stream, taken, runs_of, is_full
 use Rattle.serial_model.specs.Steps.{Turn, book_step, running}
 use Rattle.serial_model.proofs.Turning.{step_gave, step_runs, run_step, run_full, close_step}
 use Rattle.server_links.specs.declared.direction.Direction.{Direction}
-use Rattle.server_links.specs.declared.direction.Eof.{Eof}
 use Rattle.server_links.specs.declared.fault.WorldFault.TheVariants.{NothingThere}
-use Rattle.server_links.specs.Directions.{is_open, is_queued, eof_read, without, without_bytes}
-use Rattle.server_links.specs.Directions.{past_eof}
+use Rattle.server_links.specs.Directions.{is_open, without}
 use Rattle.server_links.specs.EntryLines.{reply_lines, reply_fault}
 use Rattle.server_links.specs.OneHistory.{read_on}
 use Rattle.server_links.specs.Outcome.{Outcome, stays, refuses, and_then}
@@ -44,11 +42,6 @@ flight_past : (heard said read : List ℕ) (s : Session) (past : List Entry)
     → gave s.limits s.link.id past ≡ gave s.limits s.link.id s.past
     → InFlight heard said read s → InFlight heard said read (with_past s past)
 flight_past heard said read s past same f = grind arith
-
-flight_reader : (heard said read : List ℕ) (s : Session) (reader : Stream)
-    → InFlight heard said read s
-    → InFlight heard said read (with_link s (with_reader s.link reader))
-flight_reader heard said read s reader f = grind arith
 
 -- ---- what runs
 
@@ -87,8 +80,7 @@ module _ (heard said : List ℕ) where
                   (ap (λ (t : Turn). gave s.limits c t.past) (sym is)
                   ∙ gave_run s.limits c s.now words s.past) r.bytes;
               on = r.on;
-              runs = ap (λ b. cond b (runs_of c s.past ++ words ∷ []) (runs_of c s.past)
-                  ++ todo) (same_id c) ∙ append_assoc (runs_of c s.past) (words ∷ []) todo ∙ r.runs;
+              runs = grind (arith, same_id, append_assoc);
             } in
             subst P (sym is) ((λ e. new), running_part todo heard said read _ new)
       ] refl
@@ -107,7 +99,7 @@ module _ (heard said : List ℕ) where
   running_reader : (todo : List (List (List ℕ))) (read : List ℕ) (s : Session) (reader : Stream)
       → Running todo heard said read s
       → Running todo heard said read (with_link s (with_reader s.link reader))
-  running_reader todo read s reader r = grind (arith, flight_reader)
+  running_reader todo read s reader r = grind arith
 
   run_one_keeps : (words : List (List ℕ)) (todo : List (List (List ℕ))) (s : Session)
       → Keeps (Running (words ∷ todo) heard said) (Running todo heard said) (Part said) s
@@ -151,7 +143,7 @@ module _ (heard said : List ℕ) where
       (with_link t (with_reader t.link p.stream)) [] None refl
       (λ read r.
       let h : Halted p.fault heard said read (with_link t (with_reader t.link p.stream)) = record {
-        bytes = flight_reader heard said read t p.stream r.bytes;
+        bytes = grind arith;
         on = r.on;
         runs = sym (append-nil (runs_of t.link.id t.past)) ∙ r.runs;
         reading = reading;
@@ -162,10 +154,6 @@ module _ (heard said : List ℕ) where
 
   no_more : (a : Bool) → (a && not true) ≡ true → ⊥
   no_more a h = grind arith
-
-  close_ends : (l : Limits) (c : ℕ) (past : List Entry) → reads_on l past c ≡ true
-      → reads_on l (book_step l past (call.Close c)).past c ≡ true → ⊥
-  close_ends l c past on h = grind (arith, close_step, no_more, same_id)
 
   close_keeps : (fault : Option StreamFault) (s : Session)
       → Keeps (Halted fault heard said) (Account heard said) (Part said) s (close s)
@@ -180,7 +168,7 @@ module _ (heard said : List ℕ) where
         bytes = flight_past heard said read s t.past (gave_close s.limits s.link.id s.past) h.bytes;
         runs = sym (step_runs s.limits s.link.id s.past (call.Close s.link.id))
             ∙ append-nil (runs_of s.link.id s.past) ∙ h.runs;
-        reading = λ on. absurd (close_ends s.limits s.link.id s.past h.on on);
+        reading = λ on. absurd (grind (arith, close_step, no_more, same_id));
       } in
       (halted_part fault heard said read s h, (λ e. a), account_part heard said read _ a))
 
@@ -278,9 +266,6 @@ pub same_heard : (heard said : List ℕ) (s : Session) (m : Outcome Session)
     → Keeps (Account heard said) (Account (heard ++ []) said) (Part said) s m
 same_heard heard said s m k = grind (arith, append-nil)
 
-pub open_past_eof : (e : Eof) → is_open (eof_read e) ≡ true → is_open e ≡ true
-open_past_eof e h = grind arith
-
 pub account_stays : (heard said : List ℕ) (s : Session)
     → Keeps (Account heard said) (Account heard said) (Part said) s (stays s)
 account_stays heard said s =
@@ -298,14 +283,7 @@ pub serve_all_keeps : (heard said : List ℕ) (s : Session)
     (serve_all s)
 unfolding serve_all reads_of
 serve_all_keeps heard said s =
-    elim (reads_on s.limits s.past s.link.id) as (λ b. reads_on s.limits s.past s.link.id ≡ b
-    → Keeps (Account heard said) (Account (heard ++ cond b s.link.up.bytes []) said) (Part said) s
-    (cond b (and_then (feed s.link.up.bytes (past_eof (without_bytes s.link.up)) s)
-    (run_fed (is_queued s.link.up.eof))) (stays s))) [
-      | true ↦ λ on. fed_keeps heard said s.link.up.bytes (past_eof (without_bytes s.link.up))
-          (is_queued s.link.up.eof) s on (append-nil s.link.up.bytes) (open_past_eof s.link.up.eof)
-      | false ↦ λ off. same_heard heard said s (stays s) (account_stays heard said s)
-    ] refl
+    grind (arith, Account, fed_keeps, append-nil, same_heard, account_stays)
 
 pub both : (a b : Bool) → (a && b) ≡ true → a ≡ true
 both a b e = grind arith

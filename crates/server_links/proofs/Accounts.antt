@@ -3,7 +3,7 @@
 -- lost, and what its server's end heard ran. Each move keeps it, and wherever memory runs out a
 -- part of
 -- it stands.
-use Rattle.std.proofs.Common.{◌≡◌, ℕ, List, [], ◌∷◌, ◌++◌, true, None, Option, take, sym, ap, subst}
+use Rattle.std.proofs.Common.{◌≡◌, ℕ, List, [], ◌∷◌, ◌++◌, true, None, Option, take, sym, ap}
 use Rattle.std.proofs.Common.{◌∙◌, append_assoc, append-nil, arith}
 use Rattle.resp_value.specs.Lists.{IsPrefix}
 use Rattle.resp_stream.specs.declared.fault.StreamFault.{StreamFault}
@@ -105,13 +105,7 @@ keeps_then P R Q W s m next e h g read p =
     λ l. (ap (λ n. (read ++ read_on name m.lines) ++ read_on n l) (every_named s m e none)
     ∙ append_assoc read (read_on name m.lines) (read_on name l)
     ∙ ap (λ x. read ++ x) (sym (read_more name m.lines l))) in
-    meets_weaker
-    (λ t l. Q ((read ++ read_on name m.lines) ++ read_on m.state.link.name l) t)
-    (λ t l. Q (read ++ read_on name (m.lines ++ l)) t)
-    (λ t l. W ((read ++ read_on name m.lines) ++ read_on m.state.link.name l) t)
-    (λ t l. W (read ++ read_on name (m.lines ++ l)) t) (next m.state)
-    (λ t l q. subst (λ x. Q x t) (same l) q) (λ t l w. subst (λ x. W x t) (same l) w)
-    (g m.state (read ++ read_on name m.lines) r))
+    grind (arith, meets_weaker))
 
 module _ (P Q W : List ℕ → Session → Type 0) (s : Session) where
   pub keeps_stays : (new : Session) → ((read : List ℕ) → P read s → Q read new × W read new)

@@ -1,6 +1,6 @@
 -- What every move over one link leaves of the rest: the names, the other connections, and a history
 -- whose new entries have their lines.
-use Rattle.std.proofs.Common.{◌≡◌, ◌+◌, ◌-◌, ℕ, List, [], ◌∷◌, ◌++◌, true, false, length, take}
+use Rattle.std.proofs.Common.{◌≡◌, ◌+◌, ℕ, List, [], ◌∷◌, ◌++◌, true, false, length, take}
 use Rattle.std.proofs.Common.{filter, refl, sym, ap, subst, ◌∙◌, arith, append_assoc, append-nil}
 use Rattle.std.proofs.Common.{eq-eqb, length-take, length-drop}
 use Rattle.std.specs.Prelude.{◌==◌}
@@ -13,14 +13,13 @@ use Rattle.serial_model.specs.declared.history.BookCall.{BookCall}
 use Rattle.serial_model.specs.declared.history.BookCall.TheVariants as call
 use Rattle.serial_model.specs.declared.history.BookReply.{BookReply}
 use Rattle.serial_model.specs.declared.history.BookReply.TheVariants.{Quiet, Bytes}
-use Rattle.serial_model.specs.History.{admitted, gives_on, taken, unsent, IsLegal}
+use Rattle.serial_model.specs.History.{admitted, gives_on, unsent, IsLegal}
 use Rattle.serial_model.specs.Steps.{Turn, book_step, gone, full, running, taking, closing}
 use Rattle.serial_model.specs.Laws.{Extends}
 use Rattle.serial_model.proofs.Others.{by_limit, extends_none, extends_more, others_extend}
 use Rattle.serial_model.proofs.Streams.{not_ended, unsent_live}
 use Rattle.serial_model.proofs.Turning.{step_legal}
 use Rattle.script_text.specs.declared.line.Line.{Line}
-use Rattle.script_text.specs.declared.line.Line.TheVariants as line
 use Rattle.server_links.specs.declared.link.Link.{Link}
 use Rattle.server_links.specs.Directions.{spent}
 use Rattle.server_links.specs.EntryLines.{entry_lines, is_entry_line, name_of, reply_lines}
@@ -150,12 +149,6 @@ close_adds l past id =
     by_close l past id (Adds l id [] past) (adds_nothing l id [] past _ (λ names. refl))
     (record { count = refl; entries = _ ∷ []; grows = refl; printed = λ names. refl })
 
-taken_count : (l : Limits) (past : List Entry) (id most : ℕ) → gives_on l past id ≡ true
-    → length (take most (unsent l id past))
-    ≡ taken l id (entry.Take id most ∷ past) - taken l id past
-taken_count l past id most on =
-    grind (arith, unsent_live, not_ended, length-take, length-drop, eq-eqb)
-
 take_adds : (l : Limits) (past : List Entry) (id most : ℕ)
     → Adds l id [] past (book_step l past (call.Take id most))
 unfolding took
@@ -166,9 +159,7 @@ take_adds l past id most = by_take l past id most (Adds l id [] past)
       count = refl;
       entries = _ ∷ [];
       grows = refl;
-      printed = λ names. ap (λ n. entry_lines l names past
-          ++ line.Take (length past + 1) (name_of names id) n ∷ [])
-          (sym (taken_count l past id most on));
+      printed = grind (arith, unsent_live, not_ended, length-take, length-drop, eq-eqb);
     })
 
 pub mute_reply : (name link : List ℕ) (words : List (List ℕ)) (reply : BookReply)

@@ -1,17 +1,16 @@
 -- A link that flows has nothing in flight then, and nothing left to send.
 use Rattle.std.proofs.Common.{◌≡◌, ◌<◌, ◌≤◌, ℕ, List, [], ◌∷◌, Bool, true, false, cond, Some, None}
-use Rattle.std.proofs.Common.{Option, length, take, length-take, refl, sym, ap, subst, ◌∙◌, arith}
-use Rattle.std.proofs.Common.{eq-eqb}
-use Rattle.std.specs.Prelude.{◌&&◌, not, nat_lt, nat_le, slice_set}
+use Rattle.std.proofs.Common.{Option, length, take, refl, sym, ap, subst, ◌∙◌, arith, eq-eqb}
+use Rattle.std.specs.Prelude.{slice_set}
 use Rattle.std.proofs.lemmas.List.{drop_all, length-drop, get_or-set_same}
 use Rattle.resp_stream.specs.declared.fault.FaultPlace.{FaultPlace}
 use Rattle.resp_stream.specs.Parse.{parse}
 use Rattle.serial_model.specs.declared.history.Limits.{Limits}
 use Rattle.serial_model.specs.declared.history.Entry.{Entry}
 use Rattle.serial_model.specs.declared.history.BookCall.TheVariants as call
-use Rattle.serial_model.specs.History.{reads_on, gives_on, has_ended, is_admitted, stream, unsent}
-use Rattle.serial_model.specs.Steps.{Turn, book_step, taking, gone}
-use Rattle.serial_model.proofs.Streams.{not_ended, stream_take, unsent_live, unsent_take_own}
+use Rattle.serial_model.specs.History.{reads_on, gives_on, is_admitted, stream, unsent}
+use Rattle.serial_model.specs.Steps.{Turn, book_step, taking}
+use Rattle.serial_model.proofs.Streams.{stream_take, unsent_live, unsent_take_own}
 use Rattle.server_links.specs.declared.link.Link.{Link}
 use Rattle.server_links.specs.Directions.{is_open, is_queued, past_eof, without_bytes}
 use Rattle.server_links.specs.EntryLines.{reply_fault}
@@ -83,7 +82,7 @@ Given : Session → Type 0
 Given s = (s.link.up.bytes ≡ []) × (length (stream s.limits s.link.id s.past) ≤ all_bytes
     → unsent s.limits s.link.id s.past ≡ [])
 
-no_bytes : (bytes : List ℕ) → length bytes ≡ 0 → bytes ≡ []
+pub no_bytes : (bytes : List ℕ) → length bytes ≡ 0 → bytes ≡ []
 no_bytes [] e = refl
 no_bytes (b ∷ bytes) e = absurd (let no : ⊥ = omega (arith, e) in no)
 
@@ -91,18 +90,8 @@ taking_given : (l : Limits) (past : List Entry) (id most : ℕ) (bytes : List �
     → gives_on l past id ≡ true → take most (unsent l id past) ≡ bytes →
     let t : Turn = taking l past id most bytes in
     reply_fault t.reply ≡ None → length (stream l id t.past) ≤ most → unsent l id t.past ≡ []
-taking_given l past id most bytes more on is = grind (
-  arith,
-  no_bytes,
-  length-take,
-  not_ended,
-  unsent_live,
-  length-drop,
-  stream_take,
-  unsent_take_own,
-  eq-eqb,
-  drop_all,
-)
+taking_given l past id most bytes more on is =
+    grind (arith, unsent_live, length-drop, stream_take, unsent_take_own, eq-eqb, drop_all)
 
 some_bytes : 0 < all_bytes
 some_bytes = omega arith
@@ -114,18 +103,9 @@ given_take s none on =
     let l = s.limits in
     let id = s.link.id in
     let t = book_step l s.past (call.Take id all_bytes) in
-    let is : t ≡ taking l s.past id all_bytes (take all_bytes (unsent l id s.past)) =
-    ap (λ v. cond v (taking l s.past id all_bytes (take all_bytes (unsent l id s.past)))
-    (gone s.past id)) on in
+    let is : t ≡ taking l s.past id all_bytes (take all_bytes (unsent l id s.past)) = grind arith in
     ends_then Given Given (turned s [] t) _
-    (λ e. (
-      none,
-      subst (λ (x : Turn). reply_fault x.reply ≡ None
-          → length (stream l id x.past) ≤ all_bytes
-          → unsent l id x.past
-          ≡ []) (sym is) (taking_given l s.past id all_bytes (take all_bytes (unsent l id s.past))
-          some_bytes on refl) e,
-    ))
+    (grind (arith, taking_given, some_bytes))
     (λ u g e. g)
 
 ended_given : (l : Limits) (past : List Entry) (id : ℕ) → is_admitted past id ≡ true
@@ -151,9 +131,7 @@ still_admitted : (s : Session) → reads_on s.limits s.past s.link.id ≡ true
     ≡ true
 still_admitted s on e =
     let c = (every_serve_all s).carries.ends e in
-    ap (is_admitted (serve_all s).state.past) c.id
-    ∙ ap (λ n. nat_lt 0 s.link.id && nat_le s.link.id n) c.count
-    ∙ (both (is_admitted s.past s.link.id) (not (has_ended s.limits s.link.id s.past)) on)
+    grind (arith, both)
 
 Served : Session → Type 0
 Served s = Heard s × (is_admitted s.past s.link.id ≡ true)

@@ -1,6 +1,6 @@
 -- Links that are over stay so whatever happens, and nothing flows over them.
 use Rattle.std.proofs.Common.{◌≡◌, ◌<◌, ℕ, List, [], ◌∷◌, ◌++◌, Bool, true, false, Some, None}
-use Rattle.std.proofs.Common.{Result, Ok, length, slice_set, refl, sym, ap, subst, ◌∙◌, append-nil}
+use Rattle.std.proofs.Common.{Result, Ok, length, refl, sym, ap, subst, ◌∙◌, append-nil}
 use Rattle.std.proofs.Common.{arith, eq-eqb}
 use Rattle.std.specs.Prelude.{◌&&◌}
 use Rattle.std.proofs.lemmas.Bool.{cases_lt, eqb-true}
@@ -8,7 +8,6 @@ use Rattle.std.proofs.lemmas.List.{get_or-set_same, get_or-set_other, get_or_app
 use Rattle.std.proofs.lemmas.List.{get_or_past, set-get_or}
 use Rattle.serial_model.specs.declared.history.Limits.{Limits}
 use Rattle.serial_model.specs.declared.history.Entry.{Entry}
-use Rattle.serial_model.specs.declared.history.Entry.TheVariants as entry
 use Rattle.serial_model.specs.History.{has_ended, reads_on}
 use Rattle.serial_model.proofs.Turning.{admit_step}
 use Rattle.script_text.specs.declared.line.Line.{Line}
@@ -19,14 +18,13 @@ use Rattle.server_links.specs.declared.link.LinkMove.TheVariants as moves
 use Rattle.server_links.specs.Directions.{is_queued, past_eof, spent, without_bytes}
 use Rattle.server_links.specs.LinkEvent.{LinkEvent, Over, Raw}
 use Rattle.server_links.specs.LinkSteps.{over, over_named, place_of, step}
-use Rattle.server_links.specs.LinksState.{IsOver, LinksState, at_place, fresh_link}
+use Rattle.server_links.specs.LinksState.{IsOver, LinksState, at_place}
 use Rattle.server_links.specs.Moves.{eof_lines, flow, move_of, read_eof, read_lines, receive_all}
 use Rattle.server_links.specs.Moves.{send_all, serve_all}
 use Rattle.server_links.specs.Session.{Session, session_at, with_down, with_link, with_session}
 use Rattle.server_links.proofs.Carries.{Carries}
 use Rattle.server_links.proofs.Events.{admit_full}
 use Rattle.server_links.proofs.Outcomes.{Ends, Meets, after_ends, gives_within, meets_once}
-use Rattle.server_links.proofs.Outcomes.{meets_refuses}
 
 -- ---- a connection that has ended
 
@@ -89,9 +87,7 @@ unfolding step over
 over_idle name w at lines found is =
     let e : LinkEvent = Over name moves.Flow in
     let r : Result (Unit {0}) WorldFault = Ok (tt {0}) in
-    let same : with_session at w (session_at at w) ≡ w =
-    ap (λ l. record { limits = w.limits; now = w.now; past = w.past; links = l })
-    (set-get_or w.links at (fresh_link 0 [])) in
+    let same : with_session at w (session_at at w) ≡ w = grind (arith, set-get_or) in
     subst (λ p. Ends (over_named p (move_of e) w) lines w lines) (sym found)
     (subst (λ x. Ends (over at (move_of e) w) lines x lines) same
     (gives_within (with_session at w) (move_of e (session_at at w)) lines r (session_at at w) lines
@@ -132,26 +128,7 @@ over_by w at past links entries grows id down is = record {
 pub over_moved : (w : LinksState) (at : ℕ) (t : Session) (ls : List Line)
     → Carries (session_at at w) t ls → StayOver w (with_session at w t)
 over_moved w at t ls c =
-    grind (
-      arith,
-      slice_set,
-      get_or-set_same,
-      get_or-set_other,
-      eqb-true,
-      eq-eqb,
-      over_below,
-      over_by,
-    )
-
--- a link is made
-made_over : (w : LinksState) (id : ℕ) (new : Link)
-    → StayOver w (record {
-      limits = w.limits;
-      now = w.now;
-      past = entry.Admit id ∷ w.past;
-      links = w.links ++ new ∷ [];
-    })
-made_over w id new = grind (arith, get_or_append_left, over_below, over_by)
+    grind (arith, get_or-set_same, get_or-set_other, eqb-true, eq-eqb, over_below, over_by)
 
 -- and where it was made, its name was free
 pub raw_over : (name : List ℕ) (w : LinksState)
@@ -159,4 +136,4 @@ pub raw_over : (name : List ℕ) (w : LinksState)
     (step w (Raw name))
 unfolding step
 raw_over name w =
-    grind (arith, meets_refuses, over_same, admit_full, meets_once, admit_step, made_over)
+    grind (arith, admit_full, meets_once, admit_step, get_or_append_left, over_below, over_by)

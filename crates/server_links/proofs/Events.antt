@@ -11,8 +11,6 @@ use Rattle.serial_model.specs.declared.history.Limits.{Limits}
 use Rattle.serial_model.specs.declared.history.Entry.{Entry}
 use Rattle.serial_model.specs.declared.history.Entry.TheVariants as entry
 use Rattle.serial_model.specs.declared.history.BookCall.TheVariants as call
-use Rattle.serial_model.specs.declared.history.BookReply.TheVariants.{Refused}
-use Rattle.serial_model.specs.declared.history.BookRefusal.TheVariants as refusal
 use Rattle.serial_model.specs.History.{admitted, is_full}
 use Rattle.serial_model.specs.Steps.{Turn, book_step, admitting, full}
 use Rattle.serial_model.proofs.Turning.{admit_step}
@@ -29,13 +27,13 @@ use Rattle.server_links.specs.Transcript.{is_place, heard_at, heard, unless_faul
 use Rattle.server_links.specs.Transcript.{after}
 use Rattle.server_links.specs.LinkSteps.{Stepped, place_of, over, over_named, raw_step, link_named}
 use Rattle.server_links.specs.LinkSteps.{step, tick, admitting as admitting_link}
-use Rattle.server_links.specs.LinksState.{LinksState, start, at_place, fresh_link}
+use Rattle.server_links.specs.LinksState.{LinksState, start, at_place}
 use Rattle.server_links.proofs.Names.{placed, unplaced}
 use Rattle.server_links.proofs.Outcomes.{Meets, meets_once, meets_refuses, meets_stays}
 use Rattle.server_links.proofs.Outcomes.{meets_weaker, meets_within, reached_within, Fronts}
 use Rattle.server_links.proofs.Outcomes.{fronts_refuses, fronts_once, fronts_stays, fronts_within}
 use Rattle.server_links.proofs.Outcomes.{fronts_reached}
-use Rattle.server_links.proofs.Moments.{clock_stands, still_stands, tick_goes_on, tick_stands}
+use Rattle.server_links.proofs.Moments.{still_stands, tick_goes_on, tick_stands}
 use Rattle.resp_value.specs.Lists.{IsPrefix}
 use Rattle.server_links.proofs.Moving.{Every, every_move}
 use Rattle.server_links.proofs.Accounts.{gave, Account, Part}
@@ -48,11 +46,6 @@ pub admit_full : (l : Limits) (past : List Entry) → is_full l past ≡ true
     → book_step l past call.Admit ≡ full past
 unfolding book_step
 admit_full l past none = ap (λ v. cond v (full past) (admitting past)) none
-
-pub admit_refused : (l : Limits) (past new : List Entry) (n : ℕ)
-    → book_step l past call.Admit ≡ record { reply = Refused (refusal.HistoryFull n); past = new }
-    → new ≡ past
-admit_refused l past new n is = grind (arith, admit_full, admit_step)
 
 pub nothing : (b : Bool) → [] ≡ cond {A = List ℕ} b [] []
 nothing b = grind arith
@@ -175,7 +168,7 @@ stands_step l heard said lines w s (Over name moves.Cut) =
     named_stands l heard said lines w s name (Over name moves.Cut) (λ i. refl)
     (λ n. nothing (bytes_eq name n))
 stands_step l heard said lines w s (Now moment) =
-    let c = still_stands l heard said lines _ (clock_stands l heard said lines w s moment) in
+    let c = still_stands l heard said lines _ (grind arith) in
     meets_stays (Ends l heard said lines w s (Now moment))
     (Stops l heard said lines w s (Now moment)) _ c (stands_part l _ _ _ _ c)
 stands_step l heard said lines w s Tick = tick_stands l heard said lines w s
@@ -208,9 +201,7 @@ unfolding Grows
 raw_grows name (Some at) w = meets_refuses (Grows w) (Grows w) w NameTaken ([], refl)
 raw_grows name None w = elim (is_full w.limits w.past) as (λ b. is_full w.limits w.past ≡ b
     → Meets (Grows w) (Grows w) (admitting_link w name (book_step w.limits w.past call.Admit))) [
-      | true ↦ λ none. subst (λ (t : Turn). Meets (Grows w) (Grows w) (admitting_link w name t))
-          (sym (admit_full w.limits w.past none)) (meets_once (Grows w) (Grows w) w w [] _
-          (λ e. ([], refl)) ([], refl) ([], refl))
+      | true ↦ grind (arith, admit_full, meets_once)
       | false ↦ λ room. subst (λ (t : Turn). Meets (Grows w) (Grows w) (admitting_link w name t))
           (sym (admit_step w.limits w.past room))
           (meets_once (Grows w) (Grows w) w _ _ None
@@ -270,8 +261,7 @@ named_others None event w new printed (inl e) i n = ap (λ (v : LinksState). at_
 named_others None event w new printed (inr a) i n = absurd a
 named_others (Some at) event w new printed r i n =
     let t = reached_within (with_session at w) (move_of event (session_at at w)) new printed r in
-    ap (λ (v : LinksState). at_place v.links i) t.1
-    ∙ get_or-set_other w.links at i t.0.link (fresh_link 0 []) (λ e. n (ap Some (sym e)))
+    grind (arith, get_or-set_other)
 
 pub step_is : (w : LinksState) (name : List ℕ) (event : LinkEvent) → link_named event ≡ Some name
     → step w event ≡ over_named (place_of name w) (move_of event) w
@@ -297,9 +287,7 @@ unfolding Ends
 stands_after l [] before said lines v w s e =
     subst (λ x. Stands l (λ i. before i ++ []) (λ n. said n ++ []) (lines ++ []) x) (let same : v
     ≡ w = cc in same)
-    (subst (λ x. Stands l (λ i. before i ++ []) (λ n. said n ++ []) x v) (sym (append-nil lines))
-    (stands_same l before (λ i. before i ++ []) said (λ n. said n
-    ++ []) lines v (λ i. sym (append-nil (before i))) (λ n. sym (append-nil (said n))) s))
+    (grind (arith, append-nil, stands_same))
 stands_after l (d ∷ more) before said lines v w s e =
     let t = step v d in
     elim t.fault as (λ f. t.fault ≡ f → unless_fault f (after t.state more) None ≡ Some w
@@ -311,12 +299,7 @@ stands_after l (d ∷ more) before said lines v w s e =
           let k = stands_after l more (λ i. before i ++ heard_at v i d) (λ n. said n
           ++ said_by n d) (lines ++ t.lines) t.state w
           ((stands_step l before said lines v s d).ends is) q in
-          subst (λ x. Stands l (λ i. before i ++ (heard_at v i d ++ heard t.state i more))
-          (λ n. said n ++ said_to n (d ∷ more)) x w)
-          (append_assoc lines t.lines (transcript t.state more))
-          (stands_same l _ _ _ _ ((lines ++ t.lines)
-          ++ transcript t.state more) w (λ i. append_assoc (before i) (heard_at v i d)
-          (heard t.state i more)) (λ n. append_assoc (said n) (said_by n d) (said_to n more)) k)
+          grind (arith, append_assoc, stands_same)
     ] refl e
 
 pub serves : (heard said read : List ℕ) (s : Session) → Account heard said read s

@@ -75,10 +75,7 @@ module _ {S A : Type 0} (k : Runner S A) (laws : Runs k) where
   more_give : {B : Type 0} → (done todo : List A) (s0 s t : S) (lines lines1 lines2 : List Line)
       (r : Result B WorldFault) → Ends (k.run done s0) lines s lines1
       → Gives (k.run todo s) lines1 r t lines2 → Gives (k.run (done ++ todo) s0) lines r t lines2
-  more_give [] todo s0 s t lines lines1 lines2 r h g =
-      let e = subst (λ (m : Outcome S). Ends m lines s lines1) (laws.none_is s0) h in
-      subst (λ x. Gives (k.run todo x) lines r t lines2) e.1
-      (subst (λ l. Gives (k.run todo s) l r t lines2) (e.2 ∙ append-nil lines) g)
+  more_give [] todo s0 s t lines lines1 lines2 r h g = grind (arith, append-nil)
   more_give (d ∷ done) todo s0 s t lines lines1 lines2 r h g =
       let m = k.one d s0 in
       let e = subst (λ (m : Outcome S). Ends m lines s lines1) (laws.some_is d done s0) h in
@@ -133,19 +130,14 @@ module _ {S A : Type 0} (k : Runner S A) (laws : Runs k) where
           let there : k.all (k.reader t) ≡ k.all new = ap k.all same in
           record {
             done = h.done ++ x ∷ [];
-            items = h.items ∙ ap (λ (p : Batch A). h.done ++ p.items) whole
-                ∙ ap (λ (p : Batch A). h.done ++ x ∷ p.items) (sym there)
-                ∙ sym (append_assoc h.done (x ∷ []) (k.all (k.reader t)).items);
-            stream = ap (λ (p : Batch A). p.stream) there
-                ∙ sym (ap (λ (p : Batch A). p.stream) whole) ∙ h.stream;
-            fault = ap (λ (p : Batch A). p.fault) there
-                ∙ sym (ap (λ (p : Batch A). p.fault) whole) ∙ h.fault;
+            items = grind (arith, append_assoc);
+            stream = grind arith;
+            fault = grind arith;
             ran = more_give h.done (x ∷ []) s0 s t lines0 lines lines1 r h.ran
                 (subst (λ (m : Outcome S). Gives m lines r t lines1) (sym (laws.some_is x [] s))
                 (gives_then (k.one x s) (k.run []) lines (tt {0}) t lines1 r t lines1
                 (one_gives r t lines1 g)
-                (subst (λ (m : Outcome S). Gives m lines1 r t lines1) (sym (laws.none_is t))
-                (refl, refl, sym (append-nil lines1)))));
+                (grind (arith, append-nil))));
           }
 
       pub reads_stop : (fault : WorldFault) (t : S) (lines1 : List Line)

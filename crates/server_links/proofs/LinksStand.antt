@@ -1,7 +1,7 @@
 -- One history serves all links, event by event: what stands of a world after each, and wherever
 -- memory runs out.
 use Rattle.std.proofs.Common.{◌≡◌, ◌+◌, ◌<◌, ◌≤◌, ℕ, List, [], ◌∷◌, ◌++◌, true, false, cond, None}
-use Rattle.std.proofs.Common.{length, filter, slice_index_or, refl, sym, ap, subst, ◌∙◌, arith}
+use Rattle.std.proofs.Common.{length, filter, refl, sym, ap, subst, ◌∙◌, arith}
 use Rattle.std.proofs.Common.{append-nil, length-append, length-set, eq-eqb, ne_eqb}
 use Rattle.std.specs.Prelude.{◌==◌}
 use Rattle.std.specs.Str.{bytes_eq}
@@ -85,14 +85,10 @@ gave_other : (l : Limits) (c : ℕ) (past new : List Entry) → Extends l c past
 unfolding gave
 gave_other l c past new e = grind (arith, take-append-le, taken_le)
 
-reads_before : (l : Limits) (c : ℕ) (past new : List Entry) → is_admitted past c ≡ true
-    → Extends l c past new → reads_on l new c ≡ true → reads_on l past c ≡ true
-reads_before l c past new on e h = grind arith
-
 pub other_account : (heard said read : List ℕ) (s : Session) (past : List Entry)
     → is_admitted s.past s.link.id ≡ true → Extends s.limits s.link.id s.past past
     → Account heard said read s → Account heard said read (with_past s past)
-other_account heard said read s past on e a = grind (arith, gave_other, reads_before)
+other_account heard said read s past on e a = grind (arith, gave_other)
 
 pub not_equal : (a b : List ℕ) → (a ≡ b → ⊥) → bytes_eq a b ≡ false
 not_equal a b n = grind (arith, bytes_eq-Decides)
@@ -102,10 +98,6 @@ not_equal a b n = grind (arith, bytes_eq-Decides)
 module _ (l : Limits) (heard : ℕ → List ℕ) (said : List ℕ
     → List ℕ) (lines : List Line) (w : LinksState) (s : Stands l heard said lines w) (at : ℕ)
     (below : at < length w.links) where
-  pub admitted_there : (i : ℕ) → i < length w.links
-      → is_admitted w.past (at_place w.links i).id ≡ true
-  admitted_there i lt = grind arith
-
   module _ (piece bytes : List ℕ) (t : Session) (ls : List Line)
       (c : Carries (session_at at w) t ls) where
     moved : LinksState
@@ -132,13 +124,10 @@ module _ (l : Limits) (heard : ℕ → List ℕ) (said : List ℕ
     kept_name : (i : ℕ) → (at_place moved.links i).name ≡ (at_place w.links i).name
     kept_name i = grind (arith, either, mine_link, theirs)
 
-    kept_id : (i : ℕ) → (at_place moved.links i).id ≡ (at_place w.links i).id
-    kept_id i = grind (arith, either, mine_link, theirs)
-
     moved_history : History l (lines ++ ls) moved
     unfolding moved
     moved_history =
-        grind (arith, size, kept_id, slice_index_or, names_at, entries_more, filter, names_set)
+        grind (arith, size, names_at, entries_more, filter, names_set, either, mine_link, theirs)
 
     moved_unread : (name : List ℕ) → ((i : ℕ) → i < length moved.links
         → (at_place moved.links i).name ≡ name → ⊥) → read_on name (lines ++ ls) ≡ []
@@ -166,11 +155,9 @@ module _ (l : Limits) (heard : ℕ → List ℕ) (said : List ℕ
         let link = at_place w.links i in
         let differ : (at_place w.links at).name ≡ link.name → ⊥ =
         λ e. n (s.unique i at lt below e) in
-        let ids : ((at_place w.links at).id == link.id) ≡ false =
-        ne_eqb (at_place w.links at).id link.id
-        (λ e. n (omega (arith, e, s.history.ids at below, s.history.ids i lt))) in
+        let ids : ((at_place w.links at).id == link.id) ≡ false = grind (arith, ne_eqb) in
         let a = other_account (heard i) (said link.name) (read_on link.name lines) (session_at i w)
-        t.past (admitted_there i lt) (c.others link.id ids) (s.accounts i lt) in
+        t.past (grind arith) (c.others link.id ids) (s.accounts i lt) in
         subst (λ (x : Link). Account (heard i ++ cond (at == i) piece []) (said x.name
         ++ cond (bytes_eq (at_place w.links at).name x.name) bytes [])
         (read_on x.name (lines ++ ls))
@@ -188,10 +175,6 @@ module _ (l : Limits) (heard : ℕ → List ℕ) (said : List ℕ
         ++ r) (c.mute link.name (not_equal (at_place w.links at).name link.name differ))
         ∙ append-nil (read_on link.name lines))) a)))
 
-    unique_moved : (i j : ℕ) → i < length moved.links → j < length moved.links
-        → (at_place moved.links j).name ≡ (at_place moved.links i).name → j ≡ i
-    unique_moved i j li lj e = grind (arith, size, kept_name)
-
     stands_moved : Account (heard at ++ piece) (said (at_place w.links at).name
         ++ bytes) (read_on (at_place w.links at).name lines
         ++ read_on (at_place w.links at).name ls) t
@@ -202,7 +185,7 @@ module _ (l : Limits) (heard : ℕ → List ℕ) (said : List ℕ
         let read = read_on name lines ++ read_on name ls in
         record {
           history = moved_history;
-          unique = unique_moved;
+          unique = grind (arith, size, kept_name);
           accounts = λ i lt. either (λ k. Account (moved_heard k)
               (moved_said (at_place moved.links k).name)
               (read_on (at_place moved.links k).name (lines ++ ls)) (session_at k moved)) i
@@ -352,20 +335,6 @@ module _ (l : Limits) (heard : ℕ → List ℕ) (said : List ℕ
       ≡ reads_on w.limits w.past c
   still_there c more le = grind arith
 
-  made_history : History l (lines ++ made_lines) made
-  made_history = grind (
-    arith,
-    names_size,
-    get_or_push,
-    made_size,
-    which,
-    old_there,
-    new_there,
-    entries_more,
-    names_more,
-    names_front,
-  )
-
   old_account : (i : ℕ) → i < length w.links → Account (heard i
       ++ []) (said (at_place made.links i).name
       ++ []) (read_on (at_place made.links i).name (lines ++ made_lines)) (session_at i made)
@@ -432,7 +401,17 @@ module _ (l : Limits) (heard : ℕ → List ℕ) (said : List ℕ
       → (at_place w.links i).name ≡ n → ⊥ =
       λ n none i lt e. none i (omega (arith, lt, made_size)) (old_name i lt ∙ e) in
       record {
-        history = made_history;
+        history = grind (
+          arith,
+          names_size,
+          get_or_push,
+          made_size,
+          old_there,
+          new_there,
+          entries_more,
+          names_more,
+          names_front,
+        );
         unique = made_unique;
         accounts = λ i lt. which (λ k. Account (heard k ++ []) (said (at_place made.links k).name
             ++ []) (read_on (at_place made.links k).name (lines ++ made_lines)) (session_at k made))

@@ -30,14 +30,8 @@ use Rattle.server_links.specs.Turns.{EndsTick, links_of}
 use Rattle.server_links.proofs.Accounts.{Account}
 use Rattle.server_links.proofs.Carries.{read_more, entries_more}
 use Rattle.server_links.proofs.LinksStand.{Stands, PartStands, stands_part, stands_same}
-use Rattle.server_links.proofs.LinksStand.{admitted_there, other_account}
+use Rattle.server_links.proofs.LinksStand.{other_account}
 use Rattle.server_links.proofs.Outcomes.{Meets, gives_reached, gives_within, meets_once}
-
--- the clock is no part of what is kept of a link
-clock_account : (heard said read : List ℕ) (s : Session) (now : ℕ) → Account heard said read s
-    → Account heard said read
-    (record { limits = s.limits; now = now; past = s.past; link = s.link })
-clock_account heard said read s now a = grind arith
 
 module _ (l : Limits) (heard : ℕ → List ℕ) (said : List ℕ
     → List ℕ) (lines : List Line) (w : LinksState) (s : Stands l heard said lines w) where
@@ -46,12 +40,6 @@ module _ (l : Limits) (heard : ℕ → List ℕ) (said : List ℕ
 
   pub still_part : PartStands l (λ n. said n ++ []) (lines ++ []) w
   still_part = stands_part l _ _ _ _ still_stands
-
-  abbrev pub clocked : ℕ → LinksState
-  clocked now = record { limits = w.limits; now = now; past = w.past; links = w.links }
-
-  pub clock_stands : (now : ℕ) → Stands l heard said lines (clocked now)
-  clock_stands now = grind (arith, clock_account)
 
   -- a Tick that takes out a key
   module _ (moment : ℕ) (legal : IsLegal w.limits (entry.Tick moment ∷ w.past))
@@ -82,7 +70,7 @@ module _ (l : Limits) (heard : ℕ → List ℕ) (said : List ℕ
         (sym (append-nil (said x.name)))
         (subst (λ r. Account (heard i) (said x.name) r t) (sym (same_lines x.name))
         (other_account (heard i) (said x.name) (read_on x.name lines) (session_at i w)
-        (entry.Tick moment ∷ w.past) (admitted_there l heard said lines w s i lt i lt)
+        (entry.Tick moment ∷ w.past) (grind arith)
         (extends x.id) (s.accounts i lt))))
 
     pub ticked_stands : Stands l (λ i. heard i ++ []) (λ n. said n ++ []) (lines ++ tick_line)
@@ -120,8 +108,7 @@ module _ (l : Limits) (heard : ℕ → List ℕ) (said : List ℕ
       let moment = max w.now (latest w.past) in
       let is = tick_step w.limits w.past w.now key keys due room in
       let m = ticked_stands moment
-      (subst (λ (t : Turn). IsLegal w.limits t.past) is
-      (step_legal w.limits w.past (call.Tick w.now) s.history.legal))
+      (grind (arith, step_legal))
       (λ c. subst (λ (t : Turn). Extends w.limits c w.past t.past) is
       (others_extend w.limits c w.past (call.Tick w.now) tt)) in
       meets_once ByTick PartByTick w _ _ None (λ e. m) still_part (stands_part l _ _ _ _ m)
@@ -212,11 +199,6 @@ module _ (w : LinksState) where
   tick_other reply past lines r is a ends =
       subst (λ x. Gives (tick w) lines x (after past) lines) (sym ends)
       (no_entry reply past lines is refl refl)
-
--- a server that played a turn, as its links see it
-pub played_links : (old new : ServerState) → new.book.limits ≡ old.book.limits
-    → new.clock ≡ old.clock → links_of new ≡ after (links_of old) new.book.past
-played_links old new limits clock = grind arith
 
 -- ---- beside links
 

@@ -3,7 +3,6 @@ use Rattle.std.proofs.Common.{◌≡◌, ℕ, List, [], ◌∷◌, ◌++◌, Boo
 use Rattle.std.proofs.Common.{Option, refl, ap, ◌∙◌, arith}
 use Rattle.std.proofs.Math.Seq.{drop-nil}
 use Rattle.std.specs.Prelude.{◌&&◌, nat_le, length, take, filter}
-use Rattle.std.specs.Str.{bytes_eq}
 use Rattle.resp_stream.specs.declared.fault.FaultPlace.{FaultPlace}
 use Rattle.resp_stream.specs.Stream.{Stream}
 use Rattle.resp_stream.specs.Parse.{parse}
@@ -16,18 +15,16 @@ use Rattle.script_text.specs.declared.line.Line.{Line}
 use Rattle.server_links.specs.declared.direction.Direction.{Direction}
 use Rattle.server_links.specs.declared.direction.Eof.TheVariants.{Read}
 use Rattle.server_links.specs.declared.fault.WorldFault.TheVariants.{NothingThere}
-use Rattle.server_links.specs.Directions.{cut, finished, put, is_open, is_queued, without}
+use Rattle.server_links.specs.Directions.{finished, put, is_open, is_queued, without}
 use Rattle.server_links.specs.Directions.{without_bytes, past_eof, spent}
-use Rattle.server_links.specs.EntryLines.{is_entry_line, reply_lines, reply_fault}
-use Rattle.server_links.specs.OneHistory.{read_on}
+use Rattle.server_links.specs.EntryLines.{is_entry_line, reply_lines}
 use Rattle.server_links.specs.Outcome.{Outcome, stays, does, refuses, and_then}
 use Rattle.server_links.specs.Session.{Session, with_past, with_link, with_up, with_down}
 use Rattle.server_links.specs.Session.{with_reader}
 use Rattle.server_links.specs.Moves.{turned, turn, say, next_read, run_one, run_all, close, stop}
 use Rattle.server_links.specs.Moves.{run_requests, run_fed, stopped_at, feed, serve_all, serve}
-use Rattle.server_links.specs.Moves.{take_down, all_bytes, send_all, send, read_lines, eof_lines}
-use Rattle.server_links.specs.Moves.{read_bytes, read_eof, receive_all, receive, flow, move_of}
-use Rattle.server_links.specs.Moves.{moved}
+use Rattle.server_links.specs.Moves.{take_down, all_bytes, send_all, send, eof_lines, read_bytes}
+use Rattle.server_links.specs.Moves.{read_eof, receive_all, receive, flow, move_of, moved}
 use Rattle.server_links.proofs.Outcomes.{Meets, meets_stays, meets_once, meets_refuses, meets_then}
 use Rattle.server_links.proofs.Outcomes.{meets_weaker, Fronts, fronts_stays, fronts_refuses}
 use Rattle.server_links.proofs.Outcomes.{fronts_once, fronts_then}
@@ -53,37 +50,24 @@ every_then s m next h g = record {
   fronts = fronts_then m next h.fronts (λ t. (g t).fronts);
 }
 
-every_stays : (s new : Session) → Carries s new [] → Every s (stays new)
-every_stays s new c = grind (arith, meets_stays, fronts_stays)
-
 pub every_none : (s : Session) → Every s (stays s)
-every_none s = every_stays s s (carries_none s)
-
-every_refuses : (s : Session) → Every s (refuses s NothingThere)
-every_refuses s = grind (arith, meets_refuses, carries_none, fronts_refuses)
-
-every_once : (s new : Session) (lines : List Line) (fault : Option _) → Carries s new lines
-    → Every s (record { state = new; lines = lines; fault = fault; points = (s, []) ∷ [] })
-every_once s new lines fault c = grind (arith, meets_once, carries_none, fronts_once)
+every_none s = grind (arith, meets_stays, fronts_stays, carries_none)
 
 pub every_does : (s new : Session) (lines : List Line) → Carries s new lines
     → Every s (does s new lines)
-every_does s new lines c = every_once s new lines None c
+every_does s new lines c = grind (arith, meets_once, carries_none, fronts_once)
 
 -- a change of what is in flight or was read prints nothing
 pub every_quiet : (s : Session) (up down : Direction) (reader : Stream)
     → (s.link.down ≡ spent → down ≡ spent)
     → Every s (does s (with_link s (with_reader (with_down (with_up s.link up) down) reader)) [])
 every_quiet s up down reader still =
-    every_does s _ [] (carries_link s (with_reader (with_down (with_up s.link up) down) reader) []
-    refl refl (λ name n. refl) refl still)
+    every_does s _ [] (grind (arith, carries_link))
 
 pub every_turned : (s : Session) (words : List (List ℕ)) (t : Turn)
     → Carries s (with_past s t.past) (reply_lines s.link.name words t.reply)
     → Every s (turned s words t)
-every_turned s words t c =
-    every_once s (with_past s t.past) (reply_lines s.link.name words t.reply) (reply_fault t.reply)
-    c
+every_turned s words t c = grind (arith, meets_once, carries_none, fronts_once)
 
 -- ---- the server's end
 
@@ -141,7 +125,7 @@ every_serve (Some n) s =
     (cond b (and_then (feed (take n s.link.up.bytes) (without n s.link.up) s) (run_fed false))
     (refuses s NothingThere))) [
       | true ↦ every_then s _ _ (every_quiet s _ s.link.down _ (λ h. h)) (every_run_fed false)
-      | false ↦ every_refuses s
+      | false ↦ grind (arith, meets_refuses, carries_none, fronts_refuses)
     ]
 
 every_take : (most : ℕ) (s : Session) → Every s (take_down most s)
@@ -159,9 +143,7 @@ every_send_all s =
           (cond b (take_down all_bytes s)
           (stays (with_link s (with_down s.link (finished s.link.down)))))) [
             | true ↦ every_take all_bytes s
-            | false ↦ every_stays s _ (carries_link s (with_down s.link (finished s.link.down)) []
-                refl refl
-                (λ name n. refl) refl (ap finished))
+            | false ↦ grind (arith, meets_stays, fronts_stays, carries_link)
           ]
       | false ↦ every_none s
     ]
@@ -173,20 +155,10 @@ every_send (Some n) s =
     (length (unsent s.limits s.link.id s.past))) as (λ b. Every s
     (cond b (take_down n s) (refuses s NothingThere))) [
       | true ↦ every_take n s
-      | false ↦ every_refuses s
+      | false ↦ grind (arith, meets_refuses, carries_none, fronts_refuses)
     ]
 
 -- ---- the client's end
-
-read_other : (link name bytes : List ℕ) → bytes_eq link name ≡ false
-    → read_on name (read_lines link bytes) ≡ []
-read_other link name bytes n = grind arith
-
-no_entries : (link bytes : List ℕ) → filter is_entry_line (read_lines link bytes) ≡ []
-no_entries link bytes = grind arith
-
-eof_other : (link name : List ℕ) (b : Bool) → read_on name (eof_lines link b) ≡ []
-eof_other link name b = grind arith
 
 no_entry : (link : List ℕ) (b : Bool) → filter is_entry_line (eof_lines link b) ≡ []
 no_entry link b = grind arith
@@ -194,15 +166,12 @@ no_entry link b = grind arith
 pub every_read : (bytes : List ℕ) (down : Direction) (s : Session)
     → (s.link.down ≡ spent → down ≡ spent) → Every s (read_bytes bytes down s)
 every_read bytes down s still =
-    every_does s _ _ (carries_link s (with_down s.link down) (read_lines s.link.name bytes) refl
-    refl (λ name n. read_other s.link.name name bytes n) (no_entries s.link.name bytes) still)
+    every_does s _ _ (grind (arith, carries_link))
 
 every_read_eof : (s : Session) → Every s (read_eof s)
 every_read_eof s =
     let b = is_queued s.link.down.eof in
-    every_does s _ _ (carries_link s (with_down s.link (past_eof s.link.down))
-    (eof_lines s.link.name b) refl refl (λ name n. eof_other s.link.name name b)
-    (no_entry s.link.name b) (ap past_eof))
+    every_does s _ _ (grind (arith, carries_link, no_entry))
 
 pub every_receive_all : (s : Session) → Every s (receive_all s)
 unfolding receive_all
@@ -221,7 +190,7 @@ every_receive (Some n) s =
     (refuses s NothingThere))) [
       | true ↦ every_read (take n s.link.down.bytes) (without n s.link.down) s
           (λ h. ap (without n) h ∙ without_none n)
-      | false ↦ every_refuses s
+      | false ↦ grind (arith, meets_refuses, carries_none, fronts_refuses)
     ]
 
 -- ---- an event
@@ -240,12 +209,8 @@ every_moved (moves.Serve count) s = every_serve count s
 every_moved (moves.Send count) s = every_send count s
 every_moved (moves.Recv count) s = every_receive count s
 every_moved moves.Flow s = every_flow s
-every_moved moves.HangUp s =
-    every_stays s _ (carries_link s (with_up s.link (finished s.link.up)) [] refl refl
-    (λ name n. refl) refl (λ h. h))
-every_moved moves.Cut s =
-    every_stays s _ (carries_link s (with_up (with_down s.link (cut s.link.down)) (cut s.link.up))
-    [] refl refl (λ name n. refl) refl (ap cut))
+every_moved moves.HangUp s = grind (arith, meets_stays, fronts_stays, carries_link)
+every_moved moves.Cut s = grind (arith, meets_stays, fronts_stays, carries_link)
 
 pub every_move : (event : LinkEvent) (s : Session) → Every s (move_of event s)
 every_move (Put name bytes) s = every_say bytes s

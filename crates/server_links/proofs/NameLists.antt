@@ -1,9 +1,8 @@
 -- Lists of names: what a table of names finds, and the names of links in order.
 use Rattle.std.proofs.Common.{◌≡◌, ◌+◌, ◌<◌, ℕ, List, [], ◌∷◌, ◌++◌, Bool, true, false, cond}
-use Rattle.std.proofs.Common.{Option, Some, None, Vec, Global, zero, suc, map, length, not, ◌||◌}
-use Rattle.std.proofs.Common.{slice_index_or, slice_set, refl, sym, ap, ◌∙◌, arith, inl, inr}
-use Rattle.std.proofs.Common.{length-append}
-use Rattle.std.specs.Prelude.{◌↔◌, option_to_list, IsSome, position}
+use Rattle.std.proofs.Common.{Some, None, Vec, Global, zero, suc, map, length, not, ◌||◌}
+use Rattle.std.proofs.Common.{slice_index_or, slice_set, refl, sym, ap, ◌∙◌, arith, length-append}
+use Rattle.std.specs.Prelude.{position}
 use Rattle.std.specs.List.{list_any, position_or_len}
 use Rattle.std.specs.Str.{bytes_eq}
 use Rattle.std.proofs.lemmas.Bool.{cases_lt}
@@ -16,7 +15,6 @@ use Rattle.indexmap.specs.IndexSet.{insert_key}
 use Rattle.server_links.specs.declared.link.Link.{Link}
 use Rattle.server_links.specs.LinkSteps.{place_of}
 use Rattle.server_links.specs.LinksState.{AreApart, AreNames, LinksState, at_place, names}
-use Rattle.server_links.proofs.Noting.{last_same}
 
 -- ---- the first that passes
 
@@ -48,13 +46,7 @@ module _ {X : Type 0} where
         | None ↦ λ e. refl
         | Some k ↦ λ e.
             let found = position-Some p (xs ++ x ∷ []) k x e in
-            elim (cases_lt k (length xs)) [
-              | inl lt ↦ absurd (nowhere p xs x none k lt
-                  (ap p (sym (get_or_append_left xs (x ∷ []) x k lt)) ∙ found.1))
-              | inr ge ↦ absurd (let last : k ≡ length xs = omega (arith, ge, found.0, size) in
-                  let no : true ≡ false = sym found.1 ∙ ap p (get_or_push xs x x k (sym last))
-                  ∙ off in cc)
-            ]
+            grind (arith, cases_lt, nowhere, get_or_append_left, get_or_push)
       ] refl
 
   none_passes : (p : X → Bool) (d : X) (xs : List X)
@@ -92,13 +84,6 @@ name_added k keys none =
     let apart : list_any (same k) keys ≡ false =
     none_passes (same k) k keys (nowhere (same k) keys k (find_name k.items keys ∙ none)) in
     ap (λ b. plain (cond b keys (keys ++ k ∷ []))) apart ∙ map-append (λ k. k.items) keys (k ∷ [])
-
--- the last one is taken out
-pub name_gone : (before : List (List ℕ)) (name : List ℕ) (old new : Keys)
-    (r : Option (Vec ℕ Global)) → plain old ≡ before ++ name ∷ []
-    → old ≡ new ++ option_to_list r → (IsSome r ↔ (0 < length old)) → plain new ≡ before
-name_gone before name old new r is items some =
-    grind (arith, length-map, length-append, last_same, map-append)
 
 -- ---- the names of links
 
@@ -144,12 +129,10 @@ module _ (ns : List (List ℕ)) (w : LinksState) (are : AreNames ns w.links) whe
       ap (λ l. slice_index_or l at []) are.all ∙ names_at w.links at below in
       sym (name_place name)
       ∙ elim (position test ns) as (λ p. position test ns ≡ p → p ≡ Some at) [
-        | None ↦ λ none. absurd (nowhere test ns [] none at (omega (arith, below, size))
-            ((bytes_eq-Decides (slice_index_or ns at []) name).1 here))
+        | None ↦ grind (arith, nowhere, bytes_eq-Decides, slice_index_or)
         | Some k ↦ λ is.
             let found = position-Some test ns k [] is in
-            ap Some (are.apart at k (omega (arith, below, size)) found.0
-            ((bytes_eq-Decides (slice_index_or ns k []) name).0 found.1 ∙ sym here))
+            grind (arith, bytes_eq-Decides, slice_index_or)
       ] refl
 
 module _ (ns : List (List ℕ)) (links : List Link) (are : AreNames ns links) where

@@ -17,16 +17,15 @@ use Rattle.serial_model.specs.declared.history.BookCall.{BookCall}
 use Rattle.serial_model.specs.declared.history.BookCall.TheVariants.{Admit, Run, Tick, Take, Close}
 use Rattle.serial_model.specs.declared.history.BookReply.{BookReply}
 use Rattle.serial_model.specs.History.{Sending, admitted, gives_on, latest, posts_of, posted}
-use Rattle.serial_model.specs.History.{expired, reads_on, run_entries, runs_on, sends, sent_to}
+use Rattle.serial_model.specs.History.{expired, reads_on, run_entries, sends, sent_to}
 use Rattle.serial_model.specs.History.{unsent, IsLegal}
-use Rattle.serial_model.specs.Steps.{admitting, closing, gone, running, taking, ticking}
-use Rattle.serial_model.specs.Steps.{unless_full, book_step, BookStep}
+use Rattle.serial_model.specs.Steps.{closing, gone, taking, ticking, book_step, BookStep}
 use Rattle.serial_model.proofs.Others.{by_limit}
 use Rattle.serial_model.proofs.Streams.{sent_fresh, connected}
 use Rattle.serial_model.proofs.Turning.{by_step}
 use Rattle.server_book.specs.BookState.{posts_after}
 use Rattle.server_links.specs.Notes.{AreNotes, NotesState, TrailState, IsNoted, changed}
-use Rattle.server_links.specs.Notes.{noted_admit, noted_posts, noted_turn, runner_of, sent_entries}
+use Rattle.server_links.specs.Notes.{noted_posts, noted_turn, runner_of}
 use Rattle.server_links.specs.Notes.{trail_of, with_run, with_sent}
 
 -- ---- one trail changes
@@ -65,9 +64,7 @@ posts_runs c (p ∷ ps) ts more le =
     let next = changed (with_sent p.entry) p.id ts in
     posts_runs c ps next more (omega (arith, le, changed_size (with_sent p.entry) p.id ts))
     ∙ ap (λ (t : TrailState). t.runs) (changed_there (with_sent p.entry) p.id c ts more le)
-    ∙ (elim (p.id == c) as (λ b.
-    (cond b (with_sent p.entry (trail_of c ts)) (trail_of c ts)).runs
-    ≡ (trail_of c ts).runs) [ true ↦ refl | false ↦ refl ])
+    ∙ (grind arith)
 
 posts_sent : (c : ℕ) (ps : List Post) (ts : List TrailState) → 0 < c → c ≤ length ts
     → (trail_of c (noted_posts ps ts)).sent ≡ (trail_of c ts).sent ++ posted_to c ps
@@ -77,12 +74,7 @@ posts_sent c (p ∷ ps) ts more le =
     posts_sent c ps next more (omega (arith, le, changed_size (with_sent p.entry) p.id ts))
     ∙ ap (λ (t : TrailState). t.sent ++ posted_to c ps)
     (changed_there (with_sent p.entry) p.id c ts more le)
-    ∙ (elim (p.id == c) as (λ b.
-    (cond b (with_sent p.entry (trail_of c ts)) (trail_of c ts)).sent ++ posted_to c ps
-    ≡ (trail_of c ts).sent ++ cond b (p.entry ∷ posted_to c ps) (posted_to c ps)) [
-      | true ↦ append_assoc (trail_of c ts).sent (p.entry ∷ []) (posted_to c ps)
-      | false ↦ refl
-    ])
+    ∙ (grind (arith, append_assoc))
 
 -- ---- an entry
 
@@ -115,35 +107,12 @@ module _ (l : Limits) (past : List Entry) (ts : List TrailState) (noted : IsNote
       entry_noted (entry.Run id words moment) (changed (with_run n) id ts)
       (changed_size (with_run n) id ts) refl
       (λ c more le.
-      let there = changed_there (with_run n) id c ts more le in (
-        ap (λ (t : TrailState). t.runs) there
-            ∙ (elim (id == c) as (λ b. (cond b (with_run n (trail_of c ts)) (trail_of c ts)).runs
-            ≡ cond b (run_entries c past ++ n ∷ []) (run_entries c past)) [
-              | true ↦ ap (λ x. x ++ n ∷ []) (noted.runs c more le)
-              | false ↦ noted.runs c more le
-            ]),
-        ap (λ (t : TrailState). t.sent) there
-            ∙ (elim (id == c) as (λ b. (cond b (with_run n (trail_of c ts)) (trail_of c ts)).sent
-            ≡ (trail_of c ts).sent) [ true ↦ refl | false ↦ refl ]),
-      ))
+      let there = changed_there (with_run n) id c ts more le in grind arith)
 
   quiet_noted : (e : Entry) → admitted (e ∷ past) ≡ admitted past
       → ((c : ℕ) → run_entries c (e ∷ past) ≡ run_entries c past)
       → IsNoted l (e ∷ past) (noted_posts (posts_of (length past + 1) (sends l e past)) ts)
   quiet_noted e same none = grind (arith, entry_noted)
-
-  admit_noted : IsLegal l past
-      → IsNoted l (entry.Admit (admitted past + 1) ∷ past) (noted_admit ts)
-  admit_noted legal = grind (
-    arith,
-    length-append,
-    cases_lt,
-    get_or_push,
-    runs_none,
-    get_or_append_left,
-    sent_fresh,
-    append-nil,
-  )
 
 -- ---- a turn
 
@@ -173,17 +142,16 @@ module _ (l : Limits) (past : List Entry) (ts : List TrailState) (noted : IsNote
       → Noted call (book_step l past call).reply (book_step l past call).past
   unfolding book_step posted Noted
   step_noted Admit =
-      by_limit l past (admitting past) (λ t. Noted Admit t.reply t.past) noted
-      (admit_noted l past ts noted legal)
-  step_noted (Run id words now) =
-      elim (runs_on l past id) as (λ b.
-      let t = cond b (unless_full l past (running past id words now)) (gone past id) in
-      Noted (Run id words now) t.reply t.past) [
-        | true ↦ by_limit l past (running past id words now)
-            (λ t. Noted (Run id words now) t.reply t.past) noted
-            (run_noted l past ts noted id (max now (latest past)) words)
-        | false ↦ noted
-      ]
+      grind (
+        arith,
+        length-append,
+        get_or_push,
+        runs_none,
+        get_or_append_left,
+        sent_fresh,
+        append-nil,
+      )
+  step_noted (Run id words now) = grind (arith, Noted, by_limit, run_noted, max)
   step_noted (Tick now) =
       let moment = max now (latest past) in ticking_noted now moment (expired l past moment)
   step_noted (Take id most) =
@@ -230,10 +198,6 @@ module _ (l : Limits) (past : List Entry) (notes : NotesState) (are : AreNotes l
       → (trail_of (at + 1) notes.trails).runs ≡ run_entries (at + 1) past
   whole_runs at = grind (arith, cases_lt, get_or_past, runs_none)
 
-  pub whole_sent : (at : ℕ)
-      → (trail_of (at + 1) notes.trails).sent ≡ sent_entries l (at + 1) past
-  whole_sent at = grind (arith, cases_lt, get_or_past, map, sent_fresh)
-
 -- ---- a line that is taken back
 
 pub last_same : {A : Type 0} → (xs ys : List A) (x y : A) → xs ++ x ∷ [] ≡ ys ++ y ∷ [] → xs ≡ ys
@@ -248,7 +212,5 @@ last_same xs ys x y e =
 pub last_gone : {A : Type 0} → (before : List A) (x : A) (old new : List A) (r : Option A)
     → old ≡ before ++ x ∷ [] → old ≡ new ++ option_to_list r → (IsSome r ↔ (0 < length old))
     → new ≡ before
-last_gone {A} before x old new None is items some =
-    absurd (let no : IsSome {T = A} None =
-    some.1 (omega (arith, ap length is, length-append before (x ∷ []))) in cc)
+last_gone {A} before x old new None is items some = grind (arith, length-append)
 last_gone before x old new (Some y) is items some = last_same new before y x (sym items ∙ is)

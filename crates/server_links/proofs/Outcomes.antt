@@ -207,18 +207,13 @@ pub meets_then : {S : Type 0} → (P Q W : S → List Line → Type 0) (m : Outc
 unfolding and_then
 meets_then P Q W m next h g = elim m.fault as (λ v. m.fault ≡ v
     → Meets Q W (then_by v m (next m.state))) [
-      | Some f ↦ λ is. record {
-        ends = λ e. absurd (let no : Some f ≡ None = sym is ∙ e in
-            cc);
-        all = h.all;
-      }
+      | Some f ↦ grind arith
       | None ↦ λ is.
           let k = g is (h.ends is) in
           record {
             ends = k.ends;
             all = λ s lines r. elim r [
-              | inl e ↦ subst (λ l. W s l) (sym e.1)
-                  (k.all s (next m.state).lines (inl (e.0, refl)))
+              | inl e ↦ grind arith
               | inr a ↦ elim (among_split s lines m.points _ a) [
                 | inl b ↦ h.all s lines (inr b)
                 | inr b ↦ let c = among_before s m.lines lines (next m.state).points b in
@@ -274,16 +269,11 @@ fronts_then m next f g s lines =
       | None ↦ λ h. elim (among_split s lines m.points _ h) [
         | inl a ↦ let p = f s lines a in (
           p.0 ++ (next m.state).lines,
-          sym (append_assoc lines p.0 (next m.state).lines)
-              ∙ ap (λ l. l ++ (next m.state).lines) p.1,
+          grind (arith, append_assoc),
         )
         | inr b ↦
             let c = among_before s m.lines lines (next m.state).points b in
-            let p = g m.state s c.0 c.2 in (
-              p.0,
-              ap (λ l. l ++ p.0) c.1 ∙ append_assoc m.lines c.0 p.0
-                  ∙ ap (λ l. m.lines ++ l) p.1,
-            )
+            let p = g m.state s c.0 c.2 in grind (arith, append_assoc)
       ]
     ]
 
@@ -297,15 +287,8 @@ unfolding Fronts
 fronts_reached m f s lines (inl e) = ([], append-nil lines ∙ e.1)
 fronts_reached m f s lines (inr a) = f s lines a
 
--- what a call gives is reached
-pub stops_reached : {S : Type 0}
-    → (m : Outcome S) (lines : List Line) (fault : WorldFault) (s : S) (lines' : List Line)
-    → Stops m lines fault s lines' → (printed : List Line) × Reached m s printed
-    × (lines' ≡ lines ++ printed)
-stops_reached m lines fault s lines' g = grind arith
-
 pub gives_reached : {S A : Type 0}
     → (m : Outcome S) (lines : List Line) (r : Result A WorldFault) (s : S) (lines' : List Line)
     → Gives m lines r s lines' → (printed : List Line) × Reached m s printed
     × (lines' ≡ lines ++ printed)
-gives_reached m lines r s lines' g = grind (arith, stops_reached)
+gives_reached m lines r s lines' g = grind arith

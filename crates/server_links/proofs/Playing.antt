@@ -20,9 +20,7 @@ use Rattle.server_links.specs.declared.link.Link.{Link}
 use Rattle.server_links.specs.ServerState.{ServerState}
 use Rattle.server_links.specs.EntryLines.{reply_fault, reply_lines}
 use Rattle.server_links.specs.declared.direction.Direction.{Direction}
-use Rattle.server_links.specs.declared.direction.Eof.{Eof}
 use Rattle.server_links.specs.Directions.{put, is_queued, without, without_bytes, past_eof}
-use Rattle.server_links.specs.Directions.{eof_read}
 use Rattle.server_links.specs.Moves.{turned, turn, bytes_of, take_down, read_lines, eof_lines}
 use Rattle.server_links.specs.Moves.{read_bytes, read_eof, receive_all, stop, close, feed, run_fed}
 use Rattle.server_links.specs.Moves.{serve, serve_all}
@@ -72,9 +70,6 @@ module _ (l : Limits) (past new : List Entry) (id : ℕ) (reply : BookReply) (me
 
 -- ---- the server's end sends
 
-put_none : (d : Direction) → put [] d ≡ d
-put_none d = grind (arith, append-nil)
-
 take_is : (s : Session) (most : ℕ) → gives_on s.limits s.past s.link.id ≡ true
     → book_step s.limits s.past (call.Take s.link.id most)
     ≡ taking s.limits s.past s.link.id most (take most (unsent s.limits s.link.id s.past))
@@ -94,7 +89,7 @@ module _ (most : ℕ) (s : Session) (lines : List Line) where
       (after_ends (turned s [] (record { reply = Quiet; past = s.past })) _ lines s lines s lines
       (refl, refl, sym (append-nil lines)) (
         refl,
-        ap (λ d. with_link s (with_down s.link d)) (sym (put_none s.link.down)),
+        ap (λ d. with_link s (with_down s.link d)) (sym (grind (arith, append-nil))),
         sym (append-nil lines),
       ))
 
@@ -155,10 +150,6 @@ pub take_size : (bytes : List ℕ) (most waiting count : ℕ) → waiting ≡ le
     → count ≡ min waiting most → length (take most bytes) ≡ count
 take_size bytes most waiting count w n = let l = length-take most bytes in grind (arith, l, w, n)
 
-pub no_bytes : (bytes : List ℕ) → length bytes ≡ 0 → bytes ≡ []
-no_bytes [] none = refl
-no_bytes (b ∷ bytes) none = absurd (let no : ⊥ = omega (arith, none) in no)
-
 -- an answer with bytes, those that were taken
 abbrev pub IsGiven : ℕ → List ℕ → BookReply → Type 0
 IsGiven entry bytes (Bytes e given) = (e ≡ entry) × (given ≡ bytes)
@@ -181,11 +172,6 @@ pub take_given : (s : Session) (most : ℕ) (past : List Entry) (reply : BookRep
     → reply_fault reply ≡ None
     → IsGiven (length s.past + 1) (take most (unsent s.limits s.link.id s.past)) reply
 take_given s most past reply on some is met = grind (arith, take_is, taking_given)
-
-pub given_line : (entry count : ℕ) (bytes name : List ℕ) (reply : BookReply)
-    → IsGiven entry bytes reply → length bytes ≡ count
-    → reply_lines name [] reply ≡ line.Take entry name count ∷ []
-given_line entry count bytes name reply is size = grind arith
 
 -- ---- the client's end reads
 
@@ -222,9 +208,6 @@ unfolding receive_all
 receive_before s lines =
     stops_first (read_bytes s.link.down.bytes (without_bytes s.link.down) s) read_eof lines NoMemory
     s lines (stops_here (read_bytes s.link.down.bytes (without_bytes s.link.down) s) s lines refl)
-
-pub no_eof : (e : Eof) → is_queued e ≡ false → e ≡ eof_read e
-no_eof e h = grind arith
 
 -- ---- what stops the reading
 

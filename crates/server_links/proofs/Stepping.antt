@@ -1,9 +1,8 @@
 -- A step of the world in the code: its links stay those of the connections, and flow one after
 -- another.
-use Rattle.std.proofs.Common.{◌≡◌, ◌+◌, ◌<◌, ℕ, List, [], ◌∷◌, ◌++◌, true, false, Some, None}
+use Rattle.std.proofs.Common.{◌≡◌, ◌+◌, ◌<◌, ℕ, List, [], ◌∷◌, ◌++◌, Some, None}
 use Rattle.std.proofs.Common.{Result, Ok, Err, length, slice_index_or, slice_set, refl, sym, ap}
 use Rattle.std.proofs.Common.{subst, ◌∙◌, arith, append-nil, length-set, length-append, eq-eqb}
-use Rattle.std.specs.Prelude.{◌==◌}
 use Rattle.std.proofs.lemmas.Bool.{eqb-true, cases_lt}
 use Rattle.std.proofs.lemmas.List.{get_or_read, get_or-set_same, get_or-set_other, get_or_push}
 use Rattle.std.proofs.lemmas.List.{get_or_append_left}
@@ -15,8 +14,7 @@ use Rattle.serial_model.specs.Steps.{Turn, book_step, admitting}
 use Rattle.serial_model.proofs.Turning.{admit_step}
 use Rattle.script_text.specs.declared.line.Line.TheVariants as line
 use Rattle.server_links.specs.Turns.{TurnGives}
-use Rattle.server_links.specs.LinkSteps.{raw_step, over, over_named, place_of, link_named, step}
-use Rattle.server_links.specs.LinkSteps.{StepGives}
+use Rattle.server_links.specs.LinkSteps.{over, over_named, place_of, link_named, step, StepGives}
 use Rattle.server_links.specs.LinkEvent.{LinkEvent, Raw}
 use Rattle.script_text.specs.declared.line.Line.{Line}
 use Rattle.server_links.specs.declared.fault.WorldFault.{WorldFault}
@@ -32,7 +30,7 @@ use Rattle.server_links.proofs.Outcomes.{Ends, stops_here, gives_within, gives_r
 use Rattle.server_links.proofs.Carries.{Carries}
 use Rattle.server_links.proofs.Moving.{Every, every_move}
 use Rattle.server_links.proofs.NameLists.{name_place, named_more, named_set}
-use Rattle.server_links.proofs.Events.{step_is, admit_full, admit_refused}
+use Rattle.server_links.proofs.Events.{step_is, admit_full}
 
 -- a move over a link leaves each connection its link
 pub move_fits : {A : Type 0} → (w : LinksState) (at : ℕ) → at < length w.links
@@ -42,22 +40,7 @@ pub move_fits : {A : Type 0} → (w : LinksState) (at : ℕ) → at < length w.l
 move_fits w at below m every lines r t lines' g f =
     let h = gives_reached m lines r t lines' g in
     let c : Carries (session_at at w) t h.0 = every.carries.all t h.0 h.1 in
-    let size = length-set w.links at t.link in
-    record {
-      count = size ∙ f.count ∙ sym c.count;
-      ids = λ i lt. elim (at == i) as (λ b. (at == i) ≡ b
-          → (at_place (slice_set w.links at t.link) i).id ≡ i + 1) [
-            | true ↦ λ e.
-                let same : at ≡ i = eqb-true at i e in
-                subst (λ k. (at_place (slice_set w.links at t.link) k).id ≡ k + 1) same
-                (ap (λ (x : Link). x.id) (get_or-set_same w.links at t.link (fresh_link 0 []) below)
-                ∙ c.id ∙ f.ids at below)
-            | false ↦ λ e.
-                ap (λ (x : Link). x.id) (get_or-set_other w.links at i t.link (fresh_link 0 [])
-                (λ q. let z : (at == i) ≡ true = eq-eqb at i (sym q) in cc))
-                ∙ f.ids i (omega (arith, lt, size))
-          ] refl;
-    }
+    grind (arith, length-set, slice_set, eqb-true, get_or-set_same, get_or-set_other, eq-eqb)
 
 -- the code's links are those of the world's sessions
 pub over_gives : {A : Type 0} → (at : ℕ) (move : Session
@@ -74,20 +57,7 @@ over_gives at move server new links link link' lines r lines' below is g limits 
     let there : link ≡ at_place links at = get_or_read links at link below is (fresh_link 0 []) in
     let same : session server link ≡ session_at at w = ap (session server) there in
     let state : with_session at w (session new link') ≡ world new (slice_set links at link') =
-    ap (λ l. record {
-      limits = l;
-      now = server.clock;
-      past = new.book.past;
-      links = slice_set links
-          at link';
-    }) (sym limits)
-    ∙ ap (λ n. record {
-      limits = new.book.limits;
-      now = n;
-      past = new.book.past;
-      links = slice_set
-          links at link';
-    }) (sym clock) in
+    grind (arith, slice_set) in
     subst (λ x. Gives (over at move w) lines r x lines') state
     (gives_within (with_session at w) (move (session_at at w)) lines r (session new link') lines'
     (subst (λ x. Gives (move x) lines r (session new link') lines') same g))
@@ -176,18 +146,11 @@ module _ (server : ServerState) (links : List Link) (name : List ℕ) (lines : L
           }
       same_world ls = grind arith
 
-      raw_fault : (fault : WorldFault)
-          → TurnGives server.book.limits server.book.past call.Admit x lines (Err fault)
-          new.book.past lines' → new.book.past ≡ server.book.past
-          → Stops (raw_step (world server links) name None) lines fault (world server links) lines'
-      raw_fault fault g same = grind (arith, append-nil)
-
       past_same : (fault : WorldFault)
           → TurnGives server.book.limits server.book.past call.Admit x lines (Err fault)
           new.book.past lines' → new.book.past ≡ server.book.past
       past_same NoMemory g = g.0
-      past_same (HistoryFull n) g =
-          admit_refused server.book.limits server.book.past new.book.past n g.0
+      past_same (HistoryFull n) g = grind (arith, admit_full, admit_step)
       past_same fault g = absurd g
 
       pub raw_stops : (fault : WorldFault)
@@ -195,20 +158,7 @@ module _ (server : ServerState) (links : List Link) (name : List ℕ) (lines : L
           new.book.past lines'
           → Stops (step (world server links) (Raw name)) lines fault (world new links) lines'
       unfolding step
-      raw_stops fault g =
-          let same = past_same fault g in
-          subst (λ v. Stops (raw_step (world server links) name
-          (place_of name (world server links))) lines fault v lines')
-          (sym (same_world links
-          ∙ ap (λ p. record {
-            limits = server.book.limits;
-            now = server.clock;
-            past = p;
-            links =
-                links;
-          }) same))
-          (subst (λ p. Stops (raw_step (world server links) name p) lines fault (world server links)
-          lines') (sym free) (raw_fault fault g same))
+      raw_stops fault g = grind (arith, past_same, same_world, append-nil)
 
       pub raw_fits_still : (fault : WorldFault)
           → TurnGives server.book.limits server.book.past call.Admit x lines (Err fault)

@@ -1,8 +1,8 @@
 -- Several requests of a connection and the Take behind them, in one batch or a turn each.
 use Rattle.std.proofs.Common.{◌≡◌, ◌≤◌, ◌<◌, ◌+◌, ℕ, suc, List, [], ◌∷◌, ◌++◌, length, take, true}
-use Rattle.std.proofs.Common.{cond, refl, sym, ap, subst, ◌∙◌, arith, Some, None, length-append}
+use Rattle.std.proofs.Common.{refl, sym, ap, subst, ◌∙◌, arith, Some, None, length-append}
 use Rattle.std.proofs.Common.{append-nil, append_assoc, ne_eqb}
-use Rattle.std.specs.Prelude.{Option, Ok, IfOk, IfErr, ◌==◌}
+use Rattle.std.specs.Prelude.{Option, Ok, IfOk, IfErr}
 use Rattle.std.specs.List.{All}
 use Rattle.std.proofs.lemmas.List.{take-append-le, take_all}
 use Rattle.std.proofs.lemmas.Result.{IfOk-weaker, IfErr-weaker}
@@ -47,9 +47,7 @@ within_turn : (n : ℕ) (a h : List (ℕ × Entry)) (own : List ℕ) (e : Option
 within_turn n a h own None more is p le = within_begins a h own more is p le
 within_turn n a h own (Some x) more is p le =
     let z = within_begins a h own more is p (omega arith) in
-    let ne : cond {A = ℕ} (p == length h) 1 0 ≡ 0
-    = ap (λ b. cond {A = ℕ} b 1 0) (ne_eqb p (length h) (λ same. omega arith)) in
-    omega (arith, z, ne)
+    grind (arith, ne_eqb)
 
 cause_more : (e : Refusal) (id : ℕ) (k l : Place) → Grows k l [] → IsCause e id k → IsCause e id l
 cause_more refusal.Dropped id k l g h =
@@ -227,8 +225,7 @@ module _ (id now : ℕ) where
         err = IfErr-weaker (taken_in replies) _ _ (λ e h count.
             first_more words requests count (ran_in replies) e k l after run (h (suc count))) t.err;
         are = All-cons IsOfBatch (Ran m) replies tt t.are;
-        counts = λ count le.
-            (omega (arith, le, longer, number), t.counts (suc count) (omega (arith, le, longer)));
+        counts = grind arith;
       }
 
   told_refused : (r : BookRefusal) (requests : List (List (List ℕ))) (replies : List BookReply)
@@ -293,8 +290,7 @@ module _ (id now : ℕ) where
       (λ count. tt)
   tells_take (Refused r) k after is on p =
       let one = refused (Take id most) r k after refl on p in
-      told_refused r [] [] k after after one (grows_none after one.grows.within)
-      (All-nil IsOfBatch)
+      grind (arith, told_refused, grows_none)
   tells_take (Admitted n i) k after is on p =
       absurd (never k after (Take id most) (Admitted n i) p refl)
   tells_take (Ran n) k after is on p = absurd (never k after (Take id most) (Ran n) p refl)
@@ -440,8 +436,7 @@ module _ (id now : ℕ) where
         let long = length-append r.done (words ∷ []) in
         record {
           done = r.done ++ words ∷ [];
-          parts = r.parts ∙ ap (λ z. r.done ++ requests_in z) is
-              ∙ sym (append_assoc r.done (words ∷ []) (requests_in left));
+          parts = grind (arith, append_assoc);
           counted = omega (arith, r.counted, long);
           fits = omega (arith, r.fits, longer);
           each = each_more r.done words old k l r.each run;

@@ -1,7 +1,7 @@
 -- What stays true of a server's history, whatever is added to it.
 use Rattle.std.proofs.Common.{◌≡◌, ◌≤◌, ◌+◌, ℕ, List, [], ◌∷◌, ◌++◌, length, Bool, true, false}
-use Rattle.std.proofs.Common.{cond, refl, sym, ap, subst, ◌∙◌, arith, length-append, eq-eqb}
-use Rattle.std.specs.Prelude.{◌&&◌, not}
+use Rattle.std.proofs.Common.{cond, refl, ap, subst, arith, length-append, eq-eqb}
+use Rattle.std.specs.Prelude.{◌&&◌}
 use Rattle.std.proofs.lemmas.Bool.Decides.{nat_tests}
 use Rattle.turn_lock.specs.History.{IsPrefix}
 use Rattle.serial_model.specs.declared.history.Limits.{Limits}
@@ -51,17 +51,10 @@ module _ (l : Limits) (c : ℕ) where
   -- a connection that was admitted runs on, or has ended
   pub ended_or : (past : List Entry) → is_admitted past c ≡ true → runs_on l past c ≡ false
       → has_ended l c past ≡ true
-  ended_or past on h = by_case (has_ended l c past)
-      (sym (ap (λ b. b && not (has_ended l c past)) on) ∙ h)
-    where
-      by_case : (b : Bool) → not b ≡ false → b ≡ true
-      by_case b e = grind (arith, nat_tests)
+  ended_or past on h = grind (arith, nat_tests)
 
   pub live_of : (past : List Entry) → runs_on l past c ≡ true → has_ended l c past ≡ false
-  live_of past h = by_case (has_ended l c past) (both (is_admitted past c) _ h).1
-    where
-      by_case : (b : Bool) → not b ≡ true → b ≡ false
-      by_case b e = grind (arith, nat_tests)
+  live_of past h = grind (arith, both, nat_tests)
 
   taken_if : (b : Bool) (n more : ℕ) → n ≤ cond b (n + more) n
   taken_if b n more = grind (arith, nat_tests)

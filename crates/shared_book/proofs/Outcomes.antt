@@ -17,7 +17,7 @@ use Rattle.serial_model.specs.declared.history.BookReply.TheVariants.{Admitted, 
 use Rattle.serial_model.specs.declared.history.BookReply.TheVariants.{Bytes, Refused}
 use Rattle.serial_model.specs.declared.history.BookRefusal.{BookRefusal}
 use Rattle.serial_model.specs.declared.history.BookRefusal.TheVariants.{Gone, HistoryFull, NoMemory}
-use Rattle.serial_model.specs.History.{is_admitted, expired, has_ended, is_full, latest, unsent}
+use Rattle.serial_model.specs.History.{is_admitted, expired, has_ended, latest}
 use Rattle.serial_model.specs.Steps.{BookStep}
 use Rattle.shared_book.specs.Turns.{Place, TurnStep, limits_of, limits_in, Refuses, Admits, Runs}
 use Rattle.shared_book.specs.Turns.{Gives, Rests, Ticks, Closes}
@@ -71,8 +71,7 @@ module _ (before after : Place) (call : BookCall) where
       → Plays TurnStep call (Refused r) before after → Refuses (refusal_by r) id before after
   refuses (HistoryFull n) id of p =
       let (known, e, s, is) = said p in
-      let none = is ∙ ap (past_after p.past) s.0 in
-      record { grows = stays p none; cause_is = seen_after p none (λ l x. is_full l x ≡ true) s.1 }
+      grind (arith, stays, seen_after)
   refuses NoMemory id of p =
       let (known, e, s, is) = said p in
       record { grows = stays p (is ∙ ap (past_after p.past) s); cause_is = tt }
@@ -146,34 +145,19 @@ module _ (before after : Place) where
       → Admits id before after
   admits n id p =
       let (known, e, s, is) = said p in
-      let one = is ∙ ap (past_after p.past) s.0 in
-      record {
-        past = p.past;
-        next = s.1;
-        grows = grows_by p (Some (entry.Admit id)) one;
-        ends = ends_by p (Some (entry.Admit id)) one;
-      }
+      grind (arith, grows_by, ends_by)
 
   pub runs : (id : ℕ) (words : List (List ℕ)) (now n : ℕ)
       → Plays TurnStep (Run id words now) (Ran n) before after → Runs id words now before after
   runs id words now n p =
       let (known, e, s, is) = said p in
-      let one = is ∙ ap (past_after p.past) s.0 in
-      let x = entry.Run id words (max now (latest p.past)) in
-      record {
-        past = p.past;
-        begins = p.begins;
-        grows = grows_by p (Some x) one;
-        ends = ends_by p (Some x) one;
-      }
+      grind (arith, max, grows_by, ends_by)
 
   pub run_number : (id : ℕ) (words : List (List ℕ)) (now n : ℕ)
       → Plays TurnStep (Run id words now) (Ran n) before after → n ≡ length after.seen
   run_number id words now n p =
       let (known, e, s, is) = said p in
-      let x = entry.Run id words (max now (latest p.past)) in
-      let long = ap length (ends_by p (Some x) (is ∙ ap (past_after p.past) s.0)) in
-      let same = entries_long after.seen in omega (arith, s.1, long, same)
+      grind (arith, max, ends_by, entries_long)
 
   pub gives : (id most n : ℕ) (bytes : List ℕ)
       → Plays TurnStep (Take id most) (Bytes n bytes) before after
@@ -199,8 +183,7 @@ module _ (before after : Place) where
       let none = is ∙ ap (past_after p.past) s.0 in
       let l = limits_of before in
       record {
-        none = ap (unsent l id) (ends_same p none)
-            ∙ nothing_waits most (unsent l id p.past) pos s.1;
+        none = grind (arith, ends_same, nothing_waits);
         live = ap (has_ended l id) (ends_same p none) ∙ live_of l id p.past s.2;
         grows = stays p none;
       }
@@ -235,8 +218,7 @@ module _ (before after : Place) where
         | inl one ↦ record {
           close = Some p.past;
           grows = grows_by p (Some (entry.Close id)) one;
-          over = inl (ap (has_ended (limits_of before) id)
-              (ends_by p (Some (entry.Close id)) one) ∙ ended_now (limits_of before) id p.past);
+          over = grind (arith, ends_by, ended_now);
         }
         | inr same ↦ record {
           close = None;

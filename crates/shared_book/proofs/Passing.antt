@@ -1,15 +1,12 @@
 -- A call of a batch that is passed unplayed, behind one that added no entry.
-use Rattle.std.proofs.Common.{◌≡◌, ◌≤◌, ◌<◌, ◌+◌, ℕ, zero, suc, List, [], ◌∷◌, length, take, true}
-use Rattle.std.proofs.Common.{false, refl, sym, ap, subst, ◌∙◌, arith}
-use Rattle.std.specs.Prelude.{if◌then◌else◌}
+use Rattle.std.proofs.Common.{◌≡◌, ◌≤◌, ◌<◌, ℕ, zero, suc, List, [], ◌∷◌, length, take, true}
+use Rattle.std.proofs.Common.{false, refl, ap, ◌∙◌, arith}
 use Rattle.std.proofs.lemmas.Bool.Decides.{nat_tests}
 use Rattle.serial_model.specs.declared.history.BookCall.TheVariants.{Run, Take}
-use Rattle.serial_model.specs.declared.history.BookReply.TheVariants.{Quiet, Bytes, Refused}
-use Rattle.serial_model.specs.declared.history.Entry.TheVariants as entry
+use Rattle.serial_model.specs.declared.history.BookReply.TheVariants.{Quiet, Refused}
 use Rattle.serial_model.specs.declared.history.BookRefusal.TheVariants.{Gone, HistoryFull, NoMemory}
 use Rattle.serial_model.specs.History.{gives_on, is_full, runs_on, unsent}
-use Rattle.serial_model.specs.Steps.{Turn as Stepped, book_step, AddsEntry, full, running, taking}
-use Rattle.serial_model.specs.Steps.{unless_full}
+use Rattle.serial_model.specs.Steps.{book_step, running, taking, unless_full}
 use Rattle.shared_book.specs.Turns.{Shared}
 use Rattle.shared_book.specs.Batches.{PassesTake, RefusesRun}
 
@@ -79,12 +76,7 @@ module _ (s : Shared) (id : ℕ) where
         refl,
         λ most pos.
             let (b, bytes, takes) = some_step most pos on (omega (arith, waits, some)) in
-            takes
-            ∙ ap (λ t. if t then full s.past else record {
-              reply = Bytes (length s.past + 1) (b ∷ bytes);
-              past = entry.Take id most ∷ s.past;
-            }) there
-            ∙ ap (λ k. record { reply = Refused (HistoryFull k); past = s.past }) (sym is),
+            grind arith,
       )
 
   pub pass_memory : (n k : ℕ) → gives_on s.limits s.past id ≡ true
@@ -95,12 +87,7 @@ module _ (s : Shared) (id : ℕ) where
         refl,
         λ most pos.
             let (b, bytes, takes) = some_step most pos on (omega (arith, waits, some)) in
-            let played = takes
-            ∙ ap (λ t. if t then full s.past else record {
-              reply = Bytes (length s.past + 1) (b ∷ bytes);
-              past = entry.Take id most ∷ s.past;
-            }) there in
-            (refl, subst (λ (t : Stepped). AddsEntry t.reply) (sym played) tt, tt),
+            grind arith,
       )
 
 pub ruleset passing = (pass_gone, pass_quiet, pass_full, pass_memory)

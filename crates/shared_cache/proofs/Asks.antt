@@ -13,13 +13,11 @@ use Rattle.shared_cache.specs.declared.log.LogEntry.{LogEntry}
 use Rattle.shared_cache.specs.declared.log.LogEntry.TheVariants.{Ask, Send, Poll, TakeOut, Got}
 use Rattle.shared_cache.specs.declared.entry.CacheEntry.{CacheEntry}
 use Rattle.shared_cache.specs.declared.entry.PendingReply.TheVariants.{Waiting}
-use Rattle.shared_cache.specs.declared.notices.Notice.{Notice}
-use Rattle.shared_cache.specs.Notices.{kind_of, named_keys, invalidates, invalidates_as}
+use Rattle.shared_cache.specs.Notices.{kind_of, invalidates}
 use Rattle.shared_cache.specs.Log.{first_number, is_ready, is_broken, is_broken_notice, caching_on}
 use Rattle.shared_cache.specs.Log.{caching_on_for}
-use Rattle.shared_cache.specs.Held.{Setup, Key, Words, Caller, put_read, numbered, numbers}
-use Rattle.shared_cache.specs.Held.{held_for, used_at, unless, asked, sent, open_fetch, last_use}
-use Rattle.shared_cache.specs.Held.{held}
+use Rattle.shared_cache.specs.Held.{Setup, Words, Caller, put_read, numbered, numbers, held_for}
+use Rattle.shared_cache.specs.Held.{used_at, asked, sent, open_fetch, last_use, held}
 use Rattle.std.specs.Str.{bytes_eq}
 use Rattle.lru.specs.LruCache.{promoted}
 use Rattle.shared_cache.specs.HeldKeys.{with_pairs}
@@ -29,7 +27,7 @@ use Rattle.shared_cache.proofs.LastUses.{used_before}
 use Rattle.shared_cache.proofs.Keeps.{keeps_promoted, keeps_same}
 use Rattle.shared_cache.proofs.HeldSteps.{sent_hit, open_hit, held_hit, use_hit, sent_miss}
 use Rattle.shared_cache.proofs.HeldSteps.{open_old, open_new, held_miss, use_miss}
-use Rattle.shared_cache.proofs.MarkLists.{marks_filter, marks_same, marks_none, mark_other}
+use Rattle.shared_cache.proofs.MarkLists.{marks_filter, marks_same, marks_none}
 use Rattle.shared_cache.proofs.Bytes.{untaken_one, untaken_same}
 use Rattle.shared_cache.proofs.PendingLists.{owed_push}
 use Rattle.shared_cache.proofs.OtherTurns.{pending_push}
@@ -44,13 +42,6 @@ asked_none : (o : Option CacheEntry) (m : ClientMode) (on : Bool) (before : ℕ)
     (old : Option Words) → on ≡ false → old ≡ None → asked o m on before q n old ≡ None
 asked_none o m on before q n old e f = grind arith
 
-unless_all : (t : Key → Bool) (o : Option Words) → ((k : Key) → t k ≡ true) → unless t o ≡ None
-unless_all t o all = grind arith
-
-breaks_all : (n : Notice) (keys : List Key) (k : Key) → is_broken_notice n ≡ true
-    → invalidates_as n keys k ≡ true
-breaks_all n keys k e = grind arith
-
 pub broken_none : (s : Setup) (log : List LogEntry) (n : ℕ) → is_broken s.mode log ≡ true
     → open_fetch s log n ≡ None
 broken_none s [] n e = cc
@@ -61,8 +52,7 @@ broken_none s (Poll m ∷ log) n e = broken_none s log n e
 broken_none s (TakeOut w m ∷ log) n e = broken_none s log n e
 broken_none s (Got w v ∷ log) n e =
     elim (or_cases (is_broken_notice (kind_of v)) (is_broken s.mode log) e) [
-      | inl b ↦ unless_all (invalidates s.mode w v) (open_fetch s log n)
-          (λ k. breaks_all (kind_of v) (named_keys v) k b)
+      | inl b ↦ grind arith
       | inr b ↦ unless_none (invalidates s.mode w v) (open_fetch s log n) (broken_none s log n b)
     ]
 broken_none s log n e = refl
@@ -118,7 +108,7 @@ module _ (s : Setup) (log : List LogEntry) (f : Fields) (k : Reflects s log f) w
       → caching_on s.mode log ≡ true
       → with_mark number q (marks_by (open_fetch s log) f.replied (numbers s log)) ≡ marks_by
       (open_fetch s (Ask q ∷ log)) f.replied (suc (numbers s log))
-  marks_on q number e is on = grind (arith, marks_filter, open_old, mark_other, open_new, lt-ltb)
+  marks_on q number e is on = grind (arith, marks_filter, open_old, open_new, lt-ltb)
 
   reflects_miss : (q : Words) (new : List Mark) → held_for q (held s log) ≡ None
       → new ≡ marks_by (open_fetch s (Ask q ∷ log)) f.replied (suc (numbers s log))
@@ -140,17 +130,14 @@ module _ (s : Setup) (log : List LogEntry) (f : Fields) (k : Reflects s log f) w
         replied_is = k.replied_is;
         replied_within = let w = k.replied_within in omega (arith, more, one);
         ready_is = k.ready_is;
-        pending_count = length-append f.pending (Waiting ∷ []) ∙ ap (λ n. n + 1) k.pending_count
-            ∙ sym (more ∙ one);
+        pending_count = grind (arith, length-append);
         pending_is =
             pending_push s log (Ask q) f.pending f.replied k.pending_is
             (λ n. refl) refl k.replied_is
             (let w = k.replied_within in omega (arith, k.pending_count)) k.unpolled;
         unpolled = k.unpolled;
         owed_is = ap (λ n. n + 1) k.owed_is ∙ sym (owed_push f.pending);
-        marks_is = is
-            ∙ ap (marks_by (open_fetch s (Ask q ∷ log)) f.replied)
-            (let g : suc (numbers s log) ≡ numbers s (Ask q ∷ log) = omega (arith, more, one) in g);
+        marks_is = grind arith;
         keys_is = keeps_same s.capacity (last_use s log) (last_use s (Ask q ∷ log)) (held s log)
             (held s (Ask q ∷ log)) f.keys (use_miss s log q e)
             (held_miss s log q e (let w = k.replied_within in omega (arith, k.replied_is)))
@@ -184,10 +171,7 @@ module _ (s : Setup) (log : List LogEntry) (f : Fields) (k : Reflects s log f) w
   reflects_unmarked q e b =
       let off : is_broken s.mode log ≡ true = sym k.broken_is ∙ b in
       reflects_miss q f.marks e
-      (k.marks_is ∙ marks_all_none (open_fetch s log) f.replied (numbers s log)
-      (λ m. broken_none s log m off)
-      ∙ sym (marks_all_none (open_fetch s (Ask q ∷ log)) f.replied (suc (numbers s log))
-      (λ m. broken_none s (Ask q ∷ log) m off)))
+      (grind (arith, marks_all_none, broken_none))
 
   pub reflects_ask : (q : Words) (number : ℕ) (bytes : List ℕ) (new : List Mark)
       → held_for q (held s log) ≡ None → number ≡ length f.pending + first_number s.mode

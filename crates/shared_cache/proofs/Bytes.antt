@@ -1,8 +1,6 @@
 -- The bytes of a link, by the log.
 use Rattle.std.proofs.Common.{◌≡◌, ◌+◌, ◌-◌, ◌≤◌, ◌++◌, ℕ, List, [], ◌∷◌, length, drop, min, map}
-use Rattle.std.proofs.Common.{sym, ap, ◌∙◌, refl}
-use Rattle.std.proofs.Common.{arith}
-use Rattle.std.proofs.Common.{append-nil, append_assoc, length-append}
+use Rattle.std.proofs.Common.{sym, ap, ◌∙◌, refl, arith, append-nil, append_assoc, length-append}
 use Rattle.std.specs.List.{flat_map}
 use Rattle.std.proofs.lemmas.Grind.{flat_map-append}
 use Rattle.std.proofs.lemmas.List.{map-append, drop-drop, drop-append-le, drop_min, length-drop}
@@ -13,8 +11,7 @@ use Rattle.shared_cache.specs.declared.log.LogEntry.{LogEntry}
 use Rattle.shared_cache.specs.declared.log.LogEntry.TheVariants.{Ask, Send, Poll, TakeOut, Got}
 use Rattle.shared_cache.specs.declared.log.LogEntry.TheVariants.{End, Bad}
 use Rattle.shared_cache.specs.Log.{handshake, caching_on_for}
-use Rattle.shared_cache.specs.Held.{Setup, SentCommand, sent, put_ask, put_command}
-use Rattle.shared_cache.specs.Held.{held_for, held}
+use Rattle.shared_cache.specs.Held.{Setup, SentCommand, sent, put_ask, put_command, held_for, held}
 use Rattle.shared_cache.specs.Out.{out, taken, untaken}
 use Rattle.shared_cache.specs.Laws.{TakenWithin}
 
@@ -43,8 +40,7 @@ grown s before after cs n e le =
 
 same_length : (s : Setup) (before after : List LogEntry) (n : ℕ)
     → sent s after ≡ sent s before → n ≤ length (out s Main before) → n ≤ length (out s Main after)
-same_length s before after n e le = let f = ap length (out_same s before after e) in
-    omega (arith, f)
+same_length s before after n e le = grind (arith, out_same)
 
 pub taken_main : (s : Setup) (log : List LogEntry) → taken s Main log ≤ length (out s Main log)
 taken_main s [] = omega arith
@@ -118,8 +114,7 @@ unfolding untaken
 untaken_took s log most =
     ap (drop (taken s Main log + min most (length (out s Main log) - taken s Main log)))
     (out_same s log (TakeOut Main most ∷ log) refl)
-    ∙ sym (drop-drop (min most (length (out s Main log) - taken s Main log)) (taken s Main log)
-    (out s Main log))
+    ∙ sym (grind (arith, drop-drop, min))
     ∙ ap (λ n. drop (min most n) (drop (taken s Main log) (out s Main log)))
     (sym (length-drop (taken s Main log) (out s Main log)))
     ∙ drop_min most (drop (taken s Main log) (out s Main log))

@@ -45,14 +45,10 @@ module _ (use_of : Key → ℕ) where
   least_from b [] = (omega arith, tt)
   least_from b (h ∷ hs) = grind (arith, earlier_least, least_from (earlier use_of h b) hs)
 
-  earlier_has : (t : Bool) (k : Key) (h b : CacheEntry) (hs : List CacheEntry)
-      → has_key k (cond t h b ∷ hs) ≡ true → has_key k (b ∷ h ∷ hs) ≡ true
-  earlier_has t k h b hs e = grind (arith, common_steps)
-
   has_from : (b : CacheEntry) (hs : List CacheEntry) → ((k : Key) → bytes_eq k k ≡ true)
       → has_key (key_of (earliest_from use_of b hs).query) (b ∷ hs) ≡ true
   has_from b [] same = ap (λ t. t || false) (same (key_of b.query))
-  has_from b (h ∷ hs) same = grind (arith, earlier_has, has_from (earlier use_of h b) hs same)
+  has_from b (h ∷ hs) same = grind (arith, has_from (earlier use_of h b) hs same, common_steps)
 
   pub least : (hs : List CacheEntry) (k : Key) → ((j : Key) → bytes_eq j j ≡ true)
       → key_held (earliest use_of hs) ≡ Some k
@@ -72,8 +68,7 @@ leaves a b o k e = grind (arith, common_steps)
 pub earliest_leaves : EarliestLeaves
 earliest_leaves s log q k e =
     let r = least (last_use s log) (held s log) k same_bytes
-    (leaves (has_key (key_of q) (held s log)) (nat_lt (keys_held (held s log)) s.capacity)
-    (key_held (earliest (last_use s log) (held s log))) k e) in
+    (grind (arith, leaves)) in
     record { is_held = r.0; earliest = r.1 }
 
 -- ---- how many keys are held where some go
@@ -151,14 +146,10 @@ module _ (capacity : ℕ) (use_of : Key → ℕ) (q : Words) (n : ℕ) (v : Valu
 
   one_goes : (o : Option Key) → 0 < keys_held hs → keys_held hs ≤ capacity
       → key_held (earliest use_of hs) ≡ o → keys_held (filled_but o) ≤ capacity
-  one_goes None some le e = absurd (no_key hs some e)
-    where
-      no_key : (gs : List CacheEntry) → 0 < keys_held gs → key_held (earliest use_of gs) ≡ None → ⊥
-      no_key gs p f = grind arith
+  one_goes None some le e = grind arith
   one_goes (Some k) some le e =
       let w = less_key k hs (least use_of hs k same_bytes e).0 in
-      let a = add_key (filter (λ h. not (bytes_eq (key_of h.query) k)) hs) new in
-      omega (arith, w, a)
+      grind (arith, add_key, new)
 
   filled_within : 0 < capacity → keys_held hs ≤ capacity
       → keys_held (filled capacity use_of (Some q) n v hs) ≤ capacity

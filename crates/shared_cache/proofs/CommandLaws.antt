@@ -1,29 +1,23 @@
 -- The laws of the commands of a legal log.
 use Rattle.std.proofs.Common.{◌≡◌, ◌<◌, ◌≤◌, ◌++◌, ℕ, List, [], ◌∷◌, length, drop, Bool, true}
-use Rattle.std.proofs.Common.{false, cond, Option, Some, None, Result, sym, ap, ◌∙◌, refl, subst}
+use Rattle.std.proofs.Common.{false, Option, Some, None, sym, ◌∙◌, refl, subst}
 use Rattle.std.proofs.Common.{inl, inr, arith, append-nil, append_assoc, length-append, ne_eqb}
 use Rattle.std.proofs.lemmas.Bool.{cases_Bool}
 use Rattle.std.proofs.lemmas.List.{drop-append-le, drop_all, map-append, length-map}
 use Rattle.std.proofs.lemmas.Option.{slice_get_within}
 use Rattle.std.specs.Prelude.{map}
 use Rattle.resp_value.specs.declared.value.Value.{Value}
-use Rattle.command_words.specs.declared.command.Command.{Command}
-use Rattle.command_words.specs.declared.command.WordFault.{WordFault}
 use Rattle.command_words.specs.Words.{reading}
-use Rattle.command_words.specs.Control.{is_control_command, reads_as_control, is_control}
-use Rattle.command_words.specs.Queries.{is_cacheable, reads_as_cacheable, with_upper_name, key_of}
-use Rattle.command_words.specs.Queries.{written, written_as, written_by, names, writes}
-use Rattle.shared_cache.specs.declared.log.Wire.{Wire}
+use Rattle.command_words.specs.Control.{is_control}
+use Rattle.command_words.specs.Queries.{reads_as_cacheable, key_of, written_by, writes}
 use Rattle.shared_cache.specs.declared.log.Wire.TheVariants.{Main, Side}
 use Rattle.shared_cache.specs.declared.log.ClientMode.{ClientMode}
 use Rattle.shared_cache.specs.declared.log.LogEntry.{LogEntry}
 use Rattle.shared_cache.specs.declared.log.LogEntry.TheVariants.{Ask, Send, Poll, TakeOut, Got, End}
 use Rattle.shared_cache.specs.declared.log.LogEntry.TheVariants.{Bad}
 use Rattle.shared_cache.specs.declared.entry.CacheEntry.{CacheEntry}
-use Rattle.shared_cache.specs.declared.notices.Notice.{Notice}
 use Rattle.shared_cache.specs.Notices.{invalidates}
-use Rattle.shared_cache.specs.Log.{handshake, reply_in, with_reply, is_ready, is_accepted}
-use Rattle.shared_cache.specs.Log.{caching_on_for}
+use Rattle.shared_cache.specs.Log.{handshake, reply_in, is_ready, is_accepted, caching_on_for}
 use Rattle.shared_cache.specs.Held.{Setup, Key, Words, SentCommand, Caller, put_ask, put_read}
 use Rattle.shared_cache.specs.Held.{put_command, held_for, numbers, sent, open_fetch, held}
 use Rattle.shared_cache.specs.Held.{commands}
@@ -35,37 +29,21 @@ use Rattle.shared_cache.proofs.FetchLaws.{unless_some, asked_some, place_is_quer
 
 -- ---- commands of a legal log
 
-read_as_cacheable : (b : Bool) (o p : Words) → cond b (Some o) None ≡ Some p → b ≡ true
-read_as_cacheable b o p e = grind arith
-
 is_cacheable_query : (p : Words) → IsQuery p → reads_as_cacheable (reading p) ≡ true
-is_cacheable_query p e = read_as_cacheable (reads_as_cacheable (reading p)) (with_upper_name p) p e
+is_cacheable_query p e = grind arith
 
 has_words : (p : Words) → IsQuery p → 0 < length p
 unfolding reading
 has_words [] e = absurd (let no : None ≡ Some [] = e in cc)
 has_words (w ∷ ws) e = omega arith
 
--- a cacheable command writes nothing, and changes nothing of the connection
-cacheable_reads : (c : Command) (k : Key) → is_cacheable c ≡ true
-    → (names (written c) k ≡ false) × (is_control_command c ≡ false)
-cacheable_reads c k e = grind arith
-
-reads_write_none : (r : Result Command WordFault) (k : Key) → reads_as_cacheable r ≡ true
-    → names (written_as r) k ≡ false
-reads_write_none r k e = grind (arith, cacheable_reads)
-
 query_writes_none : (p : Words) (k : Key) → IsQuery p → writes p k ≡ false
 unfolding written_by
-query_writes_none p k e = reads_write_none (reading p) k (is_cacheable_query p e)
-
-reads_are_plain : (r : Result Command WordFault) → reads_as_cacheable r ≡ true
-    → reads_as_control r ≡ false
-reads_are_plain r e = grind (arith, cacheable_reads)
+query_writes_none p k e = grind (arith, is_cacheable_query)
 
 query_is_plain : (p : Words) → IsQuery p → is_control p ≡ false
 unfolding is_control
-query_is_plain p e = reads_are_plain (reading p) (is_cacheable_query p e)
+query_is_plain p e = grind (arith, is_cacheable_query)
 
 every_put : (P : SentCommand → Type 0) (o : Option CacheEntry) (m : ClientMode) (on : Bool)
     (q : Words) → P (record { words = q; origin = Caller }) → Every P (put_ask o m on q)
@@ -119,14 +97,6 @@ more_accepted : (v : Value) (vs : List Value) → is_accepted (reply_in 2 vs) �
 more_accepted v (u ∷ t ∷ vs) e = grind (arith, ne_eqb)
 more_accepted v vs e = cc
 
-with_accepted : (main : Bool) (k : Notice) (v : Value) (vs : List Value)
-    → is_accepted (reply_in 2 vs) ≡ true → is_accepted (reply_in 2 (with_reply main k v vs)) ≡ true
-with_accepted main k v vs e = grind (arith, more_accepted)
-
-unready_before : (s : Setup) (w : Wire) (v : Value) (log : List LogEntry)
-    → is_ready s.mode (Got w v ∷ log) ≡ false → is_ready s.mode log ≡ false
-unready_before s w v log e = grind (arith, cases_Bool, with_accepted)
-
 nothing_sent : (s : Setup) (log : List LogEntry) → LegalLog s log → is_ready s.mode log ≡ false
     → sent s log ≡ []
 nothing_sent s [] l e = refl
@@ -136,7 +106,8 @@ nothing_sent s (Send ws ∷ log) l e =
     absurd (let f : true ≡ false = sym (newest s log (Send ws) l).1 ∙ e in cc)
 nothing_sent s (Poll n ∷ log) l e = nothing_sent s log l.0 e
 nothing_sent s (TakeOut w n ∷ log) l e = nothing_sent s log l.0 e
-nothing_sent s (Got w v ∷ log) l e = nothing_sent s log l.0 (unready_before s w v log e)
+nothing_sent s (Got w v ∷ log) l e =
+    nothing_sent s log l.0 (grind (arith, cases_Bool, more_accepted))
 nothing_sent s (End w ∷ log) l e = nothing_sent s log l.0 e
 nothing_sent s (Bad w v ∷ log) l e = nothing_sent s log l.0 e
 
@@ -159,8 +130,7 @@ every_dropped : (P : Words → Type 0) (s : Setup) (log : List LogEntry) (xs ys 
 every_dropped P s log xs ys n le all p =
     let words = λ (c : SentCommand). c.words in
     let parts : commands_of s log xs ++ map words ys ≡ commands_of s log (xs ++ ys) =
-    append_assoc (handshake s.mode log) (map words xs) (map words ys)
-    ∙ ap (λ l. handshake s.mode log ++ l) (sym (map-append words xs ys)) in
+    grind (arith, append_assoc, map-append) in
     subst (λ l. Every P (drop n l)) parts
     (subst (Every P) (sym (drop-append-le n (commands_of s log xs) (map words ys) le))
     (every_append P (drop n (commands_of s log xs)) (map words ys) all (every_words P ys p)))

@@ -17,7 +17,7 @@ use Rattle.shared_cache.specs.Notices.{notice_of, is_reply}
 use Rattle.shared_cache.specs.Log.{handshake, replies, with_reply}
 use Rattle.shared_cache.specs.Held.{Setup, Words, SentCommand, put_command, sent}
 use Rattle.resp_value.specs.Lists.{IsPrefix}
-use Rattle.shared_cache.specs.Laws.{gots, CommandsGrow, GotsGrow, RepliesAreGots}
+use Rattle.shared_cache.specs.Laws.{gots, CommandsGrow, RepliesAreGots}
 
 after : (front : List Words) (xs ys : List SentCommand) → IsPrefix xs ys
     → IsPrefix (front ++ map (λ c. c.words) xs) (front ++ map (λ c. c.words) ys)
@@ -38,9 +38,6 @@ pub commands_grow : CommandsGrow
 commands_grow s Main e log =
     after (handshake s.mode log) (sent s log) (sent s (e ∷ log)) (main_grows s e log)
 commands_grow s Side e log = ([], refl)
-
-pub gots_grow : GotsGrow
-gots_grow w e log = grind arith
 
 -- ---- the replies are the values got that are no push
 

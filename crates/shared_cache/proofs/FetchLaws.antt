@@ -20,7 +20,7 @@ use Rattle.shared_cache.specs.Held.{Setup, Key, Words, SentCommand, Caller, put_
 use Rattle.shared_cache.specs.Held.{held_for, unless, asked, hold, held_by, ends, numbers, sent}
 use Rattle.shared_cache.specs.Held.{open_fetch, held, commands}
 use Rattle.resp_value.specs.Lists.{IsPrefix}
-use Rattle.shared_cache.specs.Laws.{Every, WasSent, IsFetch, OpenWasSent, PlaceIsQuery, SentReady}
+use Rattle.shared_cache.specs.Laws.{Every, WasSent, IsFetch, OpenWasSent, PlaceIsQuery}
 use Rattle.shared_cache.specs.Laws.{OpenWires, HeldIsFetch, EndedHoldsNothing}
 use Rattle.shared_cache.proofs.Every.{every_append, every_weaker}
 use Rattle.shared_cache.proofs.CommandLists.{commands_grow}
@@ -79,9 +79,6 @@ open_was_sent s (Got w v ∷ log) n q f = let u =
     unless_some (invalidates s.mode w v) (open_fetch s log n) q f in
     one_later s log n q (Got w v) u.1 (open_was_sent s log n q u.0)
 open_was_sent s e n q f = cc
-
-pub sent_ready : SentReady
-sent_ready s log n q f w = grind arith
 
 pub open_wires : OpenWires
 open_wires s (Ask p ∷ log) n q f =

@@ -1,20 +1,17 @@
 -- After a value was read the fields are what the log says.
 use Rattle.std.proofs.Common.{◌≡◌, ◌+◌, ◌<◌, ◌||◌, ℕ, suc, List, ◌∷◌, length, get_or, true, false}
-use Rattle.std.proofs.Common.{cond, not, Option, sym, ap, ◌∙◌, refl, subst, arith, ne_eqb}
-use Rattle.std.proofs.Common.{length-set}
+use Rattle.std.proofs.Common.{not, Option, sym, ap, ◌∙◌, refl, subst, arith, ne_eqb, length-set}
 use Rattle.std.specs.Prelude.{nat_le}
 use Rattle.std.specs.List.{filter}
-use Rattle.std.proofs.lemmas.Bool.{cases_eq, cases_lt, le-leb, lt-ltb, le-ltb, leb-false}
+use Rattle.std.proofs.lemmas.Bool.{cases_lt, le-leb, lt-ltb, le-ltb, leb-false}
 use Rattle.std.proofs.lemmas.List.{get_or-set_same, get_or-set_other}
 use Rattle.resp_value.specs.declared.value.Value.{Value}
 use Rattle.command_words.specs.Queries.{key_of, names}
 use Rattle.command_words.specs.declared.written.Written.{Written}
-use Rattle.fill_mark.specs.declared.marks.Mark.{Mark}
 use Rattle.fill_mark.specs.Marks.{query_marked, without_number}
 use Rattle.shared_cache.specs.declared.log.Wire.TheVariants.{Main}
 use Rattle.shared_cache.specs.declared.log.LogEntry.{LogEntry}
 use Rattle.shared_cache.specs.declared.log.LogEntry.TheVariants.{Got}
-use Rattle.shared_cache.specs.declared.entry.CacheEntry.{CacheEntry}
 use Rattle.shared_cache.specs.declared.entry.PendingReply.TheVariants.{Waiting, There, Gone}
 use Rattle.shared_cache.specs.declared.notices.Notice.{Notice}
 use Rattle.shared_cache.specs.declared.notices.Notice.TheVariants.{Reply}
@@ -22,17 +19,15 @@ use Rattle.shared_cache.specs.Notices.{kind_of, named_keys, invalidates, invalid
 use Rattle.shared_cache.specs.Notices.{IsPush}
 use Rattle.shared_cache.specs.Log.{replies, reply_in, is_accepted, is_broken, is_broken_notice}
 use Rattle.shared_cache.specs.Held.{Setup, Key, Words, numbers, used_at, open_fetch, last_use, held}
-use Rattle.shared_cache.specs.Out.{is_polled}
 use Rattle.shared_cache.specs.Steps.{is_welcome}
 use Rattle.shared_cache.specs.HeldKeys.{Keeps, with_pairs, forgotten, refilled}
-use Rattle.shared_cache.specs.ClientFields.{Fields, Reflects, pending_at, there, owed_in, marks_by}
-use Rattle.shared_cache.specs.ClientFields.{settled}
+use Rattle.shared_cache.specs.ClientFields.{Fields, Reflects, pending_at, marks_by, settled}
 use Rattle.shared_cache.proofs.InPlace.{filter_same_test}
 use Rattle.shared_cache.proofs.Filled.{filled}
 use Rattle.shared_cache.proofs.LastUses.{used_before}
 use Rattle.shared_cache.proofs.Keeps.{keeps_forgotten, keeps_filled, keeps_same}
 use Rattle.shared_cache.proofs.HeldSteps.{replies_push, held_push, use_push, replies_reply}
-use Rattle.shared_cache.proofs.HeldSteps.{open_reply, held_reply, use_reply}
+use Rattle.shared_cache.proofs.HeldSteps.{held_reply, use_reply}
 use Rattle.shared_cache.proofs.MarkLists.{marks_filter, marks_same, marks_next, marks_find}
 use Rattle.shared_cache.proofs.MarkLists.{mark_unless}
 use Rattle.shared_cache.proofs.Bytes.{untaken_same}
@@ -64,31 +59,17 @@ module _ (s : Setup) (log : List LogEntry) (f : Fields) (k : Reflects s log f) w
         queued_is = k.queued_is ∙ sym (untaken_same s log (Got Main v ∷ log) refl refl);
         replied_is = k.replied_is ∙ ap length (sym (replies_push s log v pushed));
         replied_within = k.replied_within;
-        ready_is = ap (λ vs. is_accepted (reply_in 2 vs)) (replies_push s log v pushed)
-            ∙ k.ready_is;
+        ready_is = grind (arith, replies_push);
         pending_count = k.pending_count;
-        pending_is = λ i l. k.pending_is i l
-            ∙ ap (λ vs. cond (is_polled log (i + 3)) Gone (there (reply_in (i + 3) vs)))
-            (sym (replies_push s log v pushed));
+        pending_is = grind (arith, replies_push);
         unpolled = k.unpolled;
         owed_is = k.owed_is;
-        marks_is =
-            ap (filter (λ (m : Mark). not (names w (key_of m.query)))) k.marks_is
-            ∙ filter_same_test (λ (m : Mark). not (names w (key_of m.query)))
-            (λ (m : Mark). not (invalidates s.mode Main v (key_of m.query)))
-            (marks_by (open_fetch s log) f.replied (numbers s log)) (λ m. same (key_of m.query))
-            ∙ sym (marks_filter (open_fetch s log) (open_fetch s (Got Main v ∷ log))
-            (λ (m : Mark). not (invalidates s.mode Main v (key_of m.query))) f.replied
-            (numbers s log)
-            (λ m le. mark_unless (invalidates s.mode Main v) m (open_fetch s log m)));
+        marks_is = grind (arith, filter_same_test, marks_filter, mark_unless);
         keys_is =
             keeps_same s.capacity (last_use s log) (last_use s (Got Main v ∷ log))
             (filter (λ h. not (names w (key_of h.query))) (held s log)) (held s (Got Main v ∷ log))
             (with_pairs (forgotten w f.keys.pairs) f.keys) (use_push s log v pushed)
-            (held_push s log v pushed
-            ∙ sym (filter_same_test (λ (h : CacheEntry). not (names w (key_of h.query)))
-            (λ (h : CacheEntry). not (invalidates s.mode Main v (key_of h.query))) (held s log)
-            (λ h. same (key_of h.query))))
+            (grind (arith, held_push, filter_same_test))
             (keeps_forgotten s.capacity (last_use s log) (held s log) f.keys k.keys_is w);
         ended_is = k.ended_is;
         side_is = k.side_is;
@@ -114,10 +95,7 @@ module _ (s : Setup) (log : List LogEntry) (f : Fields) (k : Reflects s log f) w
       (i + 3)
   pending_settled v number i e is within lt = grind (
     arith,
-    cases_lt,
-    lt-ltb,
     length-set,
-    cases_eq,
     get_or-set_same,
     pending_next,
     get_or-set_other,
@@ -128,11 +106,6 @@ module _ (s : Setup) (log : List LogEntry) (f : Fields) (k : Reflects s log f) w
   length_settled : (v : Value) (number : ℕ)
       → length (settled s.mode number v f.pending) ≡ length f.pending
   length_settled v number = grind (arith, length-set)
-
-  owed_settled : (v : Value) (number : ℕ) → number ≡ f.replied + 1
-      → f.replied < length f.pending + 2
-      → owed_in (settled s.mode number v f.pending) ≡ owed_in f.pending
-  owed_settled v number is within = grind (arith, cases_lt, lt-ltb, owed_there, waits, le-ltb)
 
   pub reflects_reply : (v : Value) (number : ℕ) → kind_of v ≡ Reply
       → nat_le (numbers s log) (length (replies s.mode Main log)) ≡ false
@@ -170,14 +143,14 @@ module _ (s : Setup) (log : List LogEntry) (f : Fields) (k : Reflects s log f) w
         pending_count = length_settled v number ∙ k.pending_count;
         pending_is = λ i l. pending_settled v number i e is (omega (arith, k.pending_count)) l;
         unpolled = λ m l. k.unpolled m (omega arith);
-        owed_is = k.owed_is ∙ sym (owed_settled v number is (omega (arith, k.pending_count)));
+        owed_is = k.owed_is ∙ sym (grind (arith, cases_lt, lt-ltb, owed_there, waits, le-ltb));
         marks_is =
             ap (without_number number) k.marks_is
             ∙ ap (λ m. without_number m (marks_by (open_fetch s log) f.replied (numbers s log)))
             next_suc
             ∙ sym (marks_next (open_fetch s log) f.replied (numbers s log))
             ∙ sym (marks_same (open_fetch s log) (open_fetch s (Got Main v ∷ log)) (suc f.replied)
-            (numbers s log) (λ m le. open_reply s log v e m))
+            (numbers s log) (λ m le. grind arith))
             ∙ ap (λ m. marks_by (open_fetch s (Got Main v ∷ log)) m (numbers s log)) (sym next_suc);
         keys_is =
             subst (Keeps s.capacity (last_use s (Got Main v ∷ log)) (held s (Got Main v ∷ log)))

@@ -5,9 +5,9 @@ use Rattle.std.specs.List.{filter}
 use Rattle.std.proofs.lemmas.List.Elements.{filter-append}
 use Rattle.std.proofs.lemmas.Grind.{common_steps}
 use Rattle.resp_value.specs.declared.value.Value.{Value}
-use Rattle.command_words.specs.Queries.{key_of, same_query}
+use Rattle.command_words.specs.Queries.{same_query}
 use Rattle.shared_cache.specs.declared.entry.CacheEntry.{CacheEntry}
-use Rattle.shared_cache.specs.Held.{Key, Words, held_for, unless, other_than, hold, held_by}
+use Rattle.shared_cache.specs.Held.{Words, held_for, hold, held_by}
 
 -- some of what is held stays
 pub held_filter : (open_of open_new : ℕ → Option Words) (left_of left_new : ℕ → Bool)
@@ -36,16 +36,6 @@ held_same open_of open_new left_of left_new (v ∷ vs) each =
 pub held_none : (left_of : ℕ → Bool) (vs : List Value) → held_by (λ n. None) left_of vs ≡ []
 held_none left_of [] = refl
 held_none left_of (v ∷ vs) = append-nil (held_by (λ n. None) left_of vs) ∙ held_none left_of vs
-
--- what is invalidated by key goes
-pub hold_unless : (t : Key → Bool) (o : Option Words) (gone : Bool) (v : Value) (n : ℕ)
-    → hold (unless t o) gone v n ≡ filter (λ h. not (t (key_of h.query))) (hold o gone v n)
-hold_unless t o gone v n = grind arith
-
--- of another query nothing goes
-pub hold_other : (q : Words) (o : Option Words) (gone : Bool) (v : Value) (n : ℕ)
-    → hold (other_than q o) gone v n ≡ filter (λ h. not (same_query h.query q)) (hold o gone v n)
-hold_other q o gone v n = grind arith
 
 -- what is not held does not go
 pub none_held : (q : Words) (hs : List CacheEntry) → held_for q hs ≡ None

@@ -11,17 +11,15 @@ use Rattle.shared_cache.specs.declared.log.Wire.TheVariants.{Main}
 use Rattle.shared_cache.specs.declared.log.LogEntry.{LogEntry}
 use Rattle.shared_cache.specs.declared.log.LogEntry.TheVariants.{Ask, Send, Got}
 use Rattle.shared_cache.specs.declared.entry.CacheEntry.{CacheEntry}
-use Rattle.shared_cache.specs.declared.notices.Notice.{Notice}
 use Rattle.shared_cache.specs.declared.notices.Notice.TheVariants.{Reply}
 use Rattle.shared_cache.specs.Notices.{kind_of, invalidates, is_reply}
 use Rattle.shared_cache.specs.Log.{replies, with_reply, caching_on, caching_on_for}
 use Rattle.shared_cache.specs.Held.{Setup, Key, Words, put_ask, put_read, numbers, held_for, hit_of}
-use Rattle.shared_cache.specs.Held.{used_at, unless, other_than, fetched, hold, held_by, filled_by}
+use Rattle.shared_cache.specs.Held.{used_at, other_than, fetched, hold, held_by, filled_by}
 use Rattle.shared_cache.specs.Held.{leaving, is_key, sent, open_fetch, left, last_use, held}
 use Rattle.shared_cache.proofs.Filled.{is_gone, filled}
 use Rattle.shared_cache.proofs.Fetches.{stays}
-use Rattle.shared_cache.proofs.HeldLists.{held_filter, held_same, hold_unless, hold_other}
-use Rattle.shared_cache.proofs.HeldLists.{none_held}
+use Rattle.shared_cache.proofs.HeldLists.{held_filter, held_same, none_held}
 
 -- ---- an Ask that is a hit
 
@@ -60,8 +58,7 @@ module _ (s : Setup) (log : List LogEntry) (q : Words) (e : held_for q (held s l
   held_miss within =
       held_filter (open_fetch s log) (open_fetch s (Ask q ∷ log)) (left s log) (left s log)
       (λ (h : CacheEntry). not (same_query h.query q)) (replies s.mode Main log)
-      (λ n v le. ap (λ o. hold o (left s log n) v n) (open_old n (omega arith))
-      ∙ hold_other q (open_fetch s log n) (left s log n) v n)
+      (grind arith)
       ∙ none_held q (held s log) e
 
   pub use_miss : (k : Key) → last_use s (Ask q ∷ log) k ≡ last_use s log k
@@ -71,7 +68,7 @@ module _ (s : Setup) (log : List LogEntry) (q : Words) (e : held_for q (held s l
 
 pub held_send : (s : Setup) (log : List LogEntry) (ws : Words)
     → held s (Send ws ∷ log) ≡ filter (λ h. not (writes ws (key_of h.query))) (held s log)
-held_send s log ws = grind (arith, held_filter, hold_unless)
+held_send s log ws = grind (arith, held_filter)
 
 -- ---- a value that fills nothing
 
@@ -93,26 +90,17 @@ module _ (s : Setup) (log : List LogEntry) (w : Wire) (v : Value)
       ∙ held_filter (open_fetch s log) (open_fetch s (Got w v ∷ log)) (left s log)
       (left s (Got w v ∷ log))
       (λ (h : CacheEntry). not (invalidates s.mode w v (key_of h.query))) (replies s.mode Main log)
-      (λ m u le. ap (λ b. hold (unless (invalidates s.mode w v) (open_fetch s log m)) b u m)
-      (left_unfilled m)
-      ∙ hold_unless (invalidates s.mode w v) (open_fetch s log m) (left s log m) u m)
-
-pub with_no_reply : (main : Bool) (n : Notice) (v : Value) (vs : List Value) → is_reply n ≡ false
-    → with_reply main n v vs ≡ vs
-with_no_reply main n v vs p = grind arith
-
-fills_none : (n : Notice) (o : Option Words) → is_reply n ≡ false → filled_by Main n o ≡ None
-fills_none n o p = grind arith
+      (grind arith)
 
 -- ---- a push on Main
 
 module _ (s : Setup) (log : List LogEntry) (v : Value) (p : is_reply (kind_of v) ≡ false) where
   pub replies_push : replies s.mode Main (Got Main v ∷ log) ≡ replies s.mode Main log
-  replies_push = with_no_reply true (kind_of v) v (replies s.mode Main log) p
+  replies_push = grind arith
 
   pub push_fills_none : filled_by Main (kind_of v)
       (open_fetch s log (length (replies s.mode Main log) + 1)) ≡ None
-  push_fills_none = grind (arith, fills_none)
+  push_fills_none = grind arith
 
   pub held_push : held s (Got Main v ∷ log) ≡ filter
       (λ h. not (invalidates s.mode Main v (key_of h.query))) (held s log)
@@ -133,17 +121,13 @@ module _ (s : Setup) (log : List LogEntry) (v : Value) (e : kind_of v ≡ Reply)
   pub replies_reply : replies s.mode Main (Got Main v ∷ log) ≡ v ∷ replies s.mode Main log
   replies_reply = ap (λ m. with_reply true m v (replies s.mode Main log)) e
 
-  pub open_reply : (m : ℕ) → open_fetch s (Got Main v ∷ log) m ≡ open_fetch s log m
-  open_reply m = grind arith
-
   filled_reply : (o : Option Words) → open_fetch s log (length (replies s.mode Main log) + 1) ≡ o
       → filled_by Main (kind_of v) (open_fetch s log (length (replies s.mode Main log) + 1)) ≡ o
   filled_reply o f = (λ i. filled_by Main (e i) (f i))
 
   held_unfilled : open_fetch s log (length (replies s.mode Main log) + 1) ≡ None
       → held s (Got Main v ∷ log) ≡ held s log
-  held_unfilled none =
-      grind (arith, replies_reply, held_same, open_reply, left_unfilled, filled_reply, append-nil)
+  held_unfilled none = grind (arith, replies_reply, held_same, filled_reply, append-nil)
 
   module _ (q : Words)
       (some : open_fetch s log (length (replies s.mode Main log) + 1) ≡ Some q) where
@@ -160,17 +144,14 @@ module _ (s : Setup) (log : List LogEntry) (v : Value) (e : kind_of v ≡ Reply)
         → left s (Got Main v ∷ log) m ≡ (left s log m || is_key gone (open_fetch s log m))
     left_answered m le = grind arith
 
-    left_next : left s (Got Main v ∷ log) (length (replies s.mode Main log) + 1) ≡ false
-    left_next = grind (arith, left_filled, stays, lt-leb)
-
     held_others : held_by (open_fetch s (Got Main v ∷ log)) (left s (Got Main v ∷ log))
         (replies s.mode Main log)
         ≡ filter (λ h. not (is_gone gone (key_of h.query))) (held s log)
-    held_others = grind (arith, held_filter, is_gone, open_reply, left_answered, hold_leaves)
+    held_others = grind (arith, held_filter, is_gone, left_answered, hold_leaves)
 
     held_filled : held s (Got Main v ∷ log) ≡ filled s.capacity (last_use s log) (Some q)
         (length (replies s.mode Main log) + 1) v (held s log)
-    held_filled = grind (arith, replies_reply, held_others, open_reply, left_next)
+    held_filled = grind (arith, replies_reply, held_others, left_filled, stays, lt-leb)
 
   pub held_reply : (o : Option Words) → open_fetch s log (length (replies s.mode Main log) + 1) ≡ o
       → held s (Got Main v ∷ log) ≡ filled s.capacity (last_use s log) o

@@ -1,6 +1,6 @@
 -- Filters, for the code of the cache.
-use Rattle.std.proofs.Common.{◌≡◌, ◌+◌, ◌<◌, ◌++◌, ◌&&◌, ◌||◌, ℕ, List, [], ◌∷◌, length, take}
-use Rattle.std.proofs.Common.{get_or, Bool, true, false, not, sym, ap, ◌∙◌, refl, arith}
+use Rattle.std.proofs.Common.{◌≡◌, ◌+◌, ◌<◌, ◌&&◌, ℕ, List, [], ◌∷◌, length, take}
+use Rattle.std.proofs.Common.{get_or, Bool, true, false, not, ap, ◌∙◌, refl, arith}
 use Rattle.std.specs.List.{filter, list_any}
 use Rattle.std.specs.Str.{bytes_eq}
 use Rattle.std.proofs.lemmas.List.{take_more}
@@ -26,9 +26,6 @@ pub filter_twice : {X : Type 0} → (p q : X → Bool) (xs : List X)
 filter_twice p q [] = refl
 filter_twice p q (x ∷ xs) = grind (arith, common_steps, filter_twice p q xs)
 
-not_or : (a b : Bool) → (not a && not b) ≡ not (a || (b || false))
-not_or a b = grind (arith, common_steps)
-
 -- one key more
 pub without_more : {X : Type 0}
     → (key : X → List ℕ) (keys : List (List ℕ)) (i : ℕ) (k : List ℕ) (xs : List X) → i < length keys
@@ -42,7 +39,4 @@ without_more key keys i k xs lt e =
     ∙ filter_same_test
     (λ x. not (list_any (bytes_eq (key x)) (take i keys)) && not (bytes_eq (key x) k))
     (λ x. not (list_any (bytes_eq (key x)) (take (i + 1) keys))) xs
-    (λ x. not_or (list_any (bytes_eq (key x)) (take i keys)) (bytes_eq (key x) k)
-    ∙ ap not (sym (list_any-append (bytes_eq (key x)) (take i keys) (k ∷ [])))
-    ∙ ap (λ l. not (list_any (bytes_eq (key x)) l))
-    (ap (λ y. take i keys ++ y ∷ []) e ∙ sym (take_more keys i k lt)))
+    (λ x. grind (arith, common_steps, list_any-append, take_more))

@@ -1,5 +1,5 @@
 -- The keys stay those of what is held.
-use Rattle.std.proofs.Common.{◌≡◌, ◌<◌, ◌||◌, ◌&&◌, ℕ, List, [], ◌∷◌, Bool, not, Option, Some, None}
+use Rattle.std.proofs.Common.{◌≡◌, ◌<◌, ℕ, List, [], ◌∷◌, not, Option, Some, None}
 use Rattle.std.proofs.Common.{sym, refl, subst, arith}
 use Rattle.std.specs.List.{filter, list_any}
 use Rattle.std.specs.Map.{remove_entry}
@@ -21,10 +21,6 @@ use Rattle.shared_cache.proofs.KeyPairs.{by_use_without, by_use_promoted, by_use
 
 -- ---- none is held
 
-pub keeps_new : (most : ℕ) (use_of : Key → ℕ) → 0 < most
-    → Keeps most use_of [] (record { pairs = []; most = most })
-keeps_new most use_of some = grind arith
-
 pub keeps_none : (most : ℕ) (use_of : Key → ℕ) (hs : List CacheEntry) (k : KeysHeld)
     → Keeps most use_of hs k → (new : List CacheEntry) → new ≡ []
     → Keeps most use_of new (with_pairs [] k)
@@ -39,9 +35,6 @@ keeps_same most use_of use_new hs new k same e i = grind arith
 
 -- ---- keys go
 
-not_both : (a b : Bool) → (not a && not b) ≡ not (a || b)
-not_both a b = grind arith
-
 pairs_forget : (ks : List Key) (pairs : Pairs) (hs : List CacheEntry) → ArePairsOf pairs hs
     → ArePairsOf (forget ks pairs)
     (filter (λ h. not (list_any (bytes_eq (key_of h.query)) ks)) hs)
@@ -51,7 +44,6 @@ pairs_forget (k ∷ ks) pairs hs p =
       arith,
       filter_twice,
       filter_same_test,
-      not_both,
       pairs_without,
       pairs_forget ks (remove_entry (bytes_eq k) pairs) (but_key k hs) (pairs_without k pairs hs p),
     )

@@ -71,14 +71,9 @@ put_others es k v most =
     ∙ put_cases k.items v most (map plain es)
     (lookup_entry (bytes_eq k.items) (map plain es)) refl
 
-some_others : (k : Key) (most : ℕ) (ps : Pairs) (o : Option (Key × List CacheEntry))
-    → lookup_entry (bytes_eq k) ps ≡ o → is_some o ≡ true
-    → others k most ps ≡ remove_entry (bytes_eq k) ps
-some_others k most ps o e s = grind arith
-
 pub there_others : (k : Key) (most : ℕ) (ps : Pairs) → is_some (lookup_entry (bytes_eq k) ps) ≡ true
     → others k most ps ≡ remove_entry (bytes_eq k) ps
-there_others k most ps s = some_others k most ps (lookup_entry (bytes_eq k) ps) refl s
+there_others k most ps s = grind arith
 
 -- the first pair has the key
 pub first_there : (k : Key) (vs : List CacheEntry) (ps : Pairs)

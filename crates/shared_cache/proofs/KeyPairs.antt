@@ -193,21 +193,10 @@ pairs_shorter p (r ∷ pairs) hs s =
     grind (arith, common_steps, there, bytes_same p.0 l, none_but p.0 hs) in (
       s.0 ∙ sym (of_other p.0 l hs apart),
       has_kept (λ j. bytes_eq j l) p.0 hs apart ∙ s.1,
-      subst (ArePairsOf (take (length pairs) (r ∷ pairs)))
-          (filters_turn (λ h. not (bytes_eq (key_of h.query) l))
-          (λ h. not (bytes_eq (key_of h.query) p.0)) hs)
-          rest,
+      grind (arith, filters_turn),
     )
 
 -- ---- an entry comes
-
-but_new : (k : Key) (hs : List CacheEntry) (h : CacheEntry) → key_of h.query ≡ k
-    → but_key k (hs ++ h ∷ []) ≡ but_key k hs
-but_new k hs h e = grind (arith, filter-append, same_bytes, append-nil)
-
-of_new : (k : Key) (hs : List CacheEntry) (h : CacheEntry) → key_of h.query ≡ k
-    → of_key k (hs ++ h ∷ []) ≡ of_key k hs ++ h ∷ []
-of_new k hs h e = grind (arith, filter-append, same_bytes)
 
 of_none : (k : Key) (hs : List CacheEntry) → has_key k hs ≡ false → of_key k hs ≡ []
 of_none k [] e = refl
@@ -222,19 +211,7 @@ stored_again most h pairs hs p s e =
     let k = key_of h.query in
     let i = pair_is k pairs hs p s e in
     let key_is : p.0 ≡ k = sym (bytes_same k p.0 i.key_is) in
-    rw e (
-      ap (λ l. l ++ h ∷ []) (i.entries_are ∙ ap (λ j. of_key j hs) key_is)
-          ∙ sym (of_new k hs h refl),
-      last_has hs h,
-      subst (ArePairsOf (remove_entry (bytes_eq k) pairs)) (sym (but_new k hs h refl))
-          (pairs_without k pairs hs s),
-    )
-
--- a new key, where these stay
-stored_new : (h : CacheEntry) (kept : Pairs) (hs : List CacheEntry) → ArePairsOf kept hs
-    → has_key (key_of h.query) hs ≡ false
-    → ArePairsOf ((key_of h.query, h ∷ []) ∷ kept) (hs ++ h ∷ [])
-stored_new h kept hs s none = grind (arith, of_none, of_new, last_has, but_new, but_none)
+    grind (arith, last_has, pairs_without, filter-append, same_bytes, append-nil)
 
 -- ---- the last key is the one used earliest
 
@@ -276,11 +253,7 @@ last_is : (use_of : Key → ℕ) (p : Key × List CacheEntry) (pairs : Pairs) (h
     (o : Option Key)
     → ArePairsOf (p ∷ pairs) hs → IsByUse use_of (p ∷ pairs) → key_held (earliest use_of hs) ≡ o
     → o ≡ Some (last_key p.0 pairs)
-last_is use_of p pairs hs None s u e = absurd (no_key hs s.1 e)
-  where
-    no_key : (gs : List CacheEntry) → has_key p.0 gs ≡ true → key_held (earliest use_of gs) ≡ None
-        → ⊥
-    no_key gs h f = grind arith
+last_is use_of p pairs hs None s u e = grind arith
 last_is use_of p pairs hs (Some j) s u e =
     let l = least use_of hs j same_bytes e in
     elim (last_or_later use_of p pairs hs j s u l.0) [
@@ -336,8 +309,17 @@ module _ (most : ℕ) (use_of : Key → ℕ) (q : Words) (n : ℕ) (v : Value) (
       as_new (p ∷ pairs) (filled most use_of (Some q) n v hs) e
       (subst (λ g. ArePairsOf ((key_of q, entry ∷ []) ∷ take (most - 1) (p ∷ pairs))
       (filter (λ h. not (is_gone g (key_of h.query))) hs ++ entry ∷ [])) (sym leaves_)
-      (stored_new entry (take (most - 1) (p ∷ pairs)) (but_key l hs) short
-      (has_fewer (key_of q) l hs none)))
+      (grind (
+        arith,
+        of_none,
+        last_has,
+        but_none,
+        filter-append,
+        same_bytes,
+        append-nil,
+        entry,
+        has_fewer,
+      )))
 
   filled_new : (pairs : Pairs) → 0 < most → ArePairsOf pairs hs → IsByUse use_of pairs
       → lookup_entry (bytes_eq (key_of q)) pairs ≡ None → keys_held hs ≤ most
@@ -353,20 +335,23 @@ module _ (most : ℕ) (use_of : Key → ℕ) (q : Words) (n : ℕ) (v : Value) (
             (as_new pairs (hs ++ entry ∷ []) e
             (subst (λ l. ArePairsOf ((key_of q, entry ∷ []) ∷ l) (hs ++ entry ∷ []))
             (sym (take_all (most - 1) pairs (omega (arith, count, room))))
-            (stored_new entry pairs hs s none)))
+            (grind (
+              arith,
+              of_none,
+              last_has,
+              but_none,
+              filter-append,
+              same_bytes,
+              append-nil,
+              entry,
+            ))))
         | inr is_full ↦ full pairs some count s u e none le is_full
       ]
-
-  by_pair : (pairs : Pairs) (o : Option (Key × List CacheEntry)) → 0 < most → ArePairsOf pairs hs
-      → IsByUse use_of pairs → lookup_entry (bytes_eq (key_of q)) pairs ≡ o → keys_held hs ≤ most
-      → ArePairsOf (stored most entry pairs) (filled most use_of (Some q) n v hs)
-  by_pair pairs o some s u e le = grind (arith, filled_again, filled_new)
 
   pub pairs_filled : (pairs : Pairs) → 0 < most → ArePairsOf pairs hs → IsByUse use_of pairs
       → keys_held hs ≤ most
       → ArePairsOf (stored most entry pairs) (filled most use_of (Some q) n v hs)
-  pairs_filled pairs some s u le =
-      by_pair pairs (lookup_entry (bytes_eq (key_of q)) pairs) some s u refl le
+  pairs_filled pairs some s u le = grind (arith, filled_again, filled_new)
 
 -- ---- the order of use
 

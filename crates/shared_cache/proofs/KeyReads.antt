@@ -47,35 +47,23 @@ of_keys_first zero ps a = tt
 of_keys_first (suc n) [] a = tt
 of_keys_first (suc n) (p ∷ ps) a = (a.0, of_keys_first n ps a.1)
 
-others_by : (k : Key) (most : ℕ) (ps : Pairs) (o : Option (Key × List CacheEntry)) → AreOfKeys ps
-    → AreOfKeys (option_map_or (λ p. remove_entry (bytes_eq k) ps) o (take (most - 1) ps))
-others_by k most ps o a = grind (arith, of_keys_first, of_keys_without)
-
 pub of_keys_others : (k : Key) (most : ℕ) (ps : Pairs) → AreOfKeys ps → AreOfKeys (others k most ps)
-of_keys_others k most ps a = others_by k most ps (lookup_entry (bytes_eq k) ps) a
+of_keys_others k most ps a = grind (arith, of_keys_first, of_keys_without)
 
 -- ---- what is found is of the key
 
-entries_by : (k : Key) (ps : Pairs) (o : Option (Key × List CacheEntry))
-    → lookup_entry (bytes_eq k) ps ≡ o → AreOfKeys ps
-    → AreOfKey k (option_map_or (λ p. p.1) o [])
-entries_by k ps o e a = grind (arith, key_is, found_of_key)
-
 pub entries_of_key : (k : Key) (ps : Pairs) → AreOfKeys ps → AreOfKey k (entries_of k ps)
-entries_of_key k ps a = entries_by k ps (lookup_entry (bytes_eq k) ps) refl a
+entries_of_key k ps a = grind (arith, key_is, found_of_key)
 
 pub found_is_of_key : (k : Key) (es : Kept) (vs : List CacheEntry)
     → Some vs ≡ lookup (λ y. bytes_eq k y.items) es → AreOfKeys (map plain es) → AreOfKey k vs
 found_is_of_key k es vs e a =
     subst (AreOfKey k) (sym (entries_plain k es (Some vs) e)) (entries_of_key k (map plain es) a)
 
-pub one_of_key : (k : Key) (h : CacheEntry) → key_of h.query ≡ k → AreOfKey k (h ∷ [])
-one_of_key k h e = grind arith
-
 pub more_of_key : (k : Key) (hs : List CacheEntry) (h : CacheEntry) → AreOfKey k hs
     → key_of h.query ≡ k → AreOfKey k (hs ++ h ∷ [])
 more_of_key k hs h a e =
-    All-append (λ (o : CacheEntry). key_of o.query ≡ k) hs (h ∷ []) a (one_of_key k h e)
+    All-append (λ (o : CacheEntry). key_of o.query ≡ k) hs (h ∷ []) a (grind arith)
 
 pub none_of_key : (k : Key) → AreOfKey k []
 none_of_key k = All-nil (λ (o : CacheEntry). key_of o.query ≡ k)

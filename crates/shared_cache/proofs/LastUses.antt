@@ -1,11 +1,9 @@
 -- No last use is past the end of the log.
-use Rattle.std.proofs.Common.{◌+◌, ◌<◌, ◌≤◌, ℕ, List, [], ◌∷◌, length, Option}
-use Rattle.std.proofs.Common.{arith}
+use Rattle.std.proofs.Common.{◌+◌, ◌<◌, ◌≤◌, ℕ, List, [], ◌∷◌, length, Option, arith}
 use Rattle.shared_cache.specs.declared.log.LogEntry.{LogEntry}
 use Rattle.shared_cache.specs.declared.log.LogEntry.TheVariants.{Ask, Send, Poll, TakeOut, Got, End}
 use Rattle.shared_cache.specs.declared.log.LogEntry.TheVariants.{Bad}
-use Rattle.shared_cache.specs.Held.{Setup, Key, Words, used_at}
-use Rattle.shared_cache.specs.Held.{last_use}
+use Rattle.shared_cache.specs.Held.{Setup, Key, Words, used_at, last_use}
 
 one_more : (o : Option Words) (k : Key) (n before : ℕ) → before ≤ n
     → used_at o k (n + 1) before ≤ n + 1

@@ -1,16 +1,14 @@
 -- What a turn adds to a legal log, and that it stays legal.
 use Rattle.std.proofs.Common.{◌≡◌, ◌<◌, ◌≤◌, ◌⊎◌, ℕ, List, [], ◌∷◌, length, Bool, true, false, cond}
-use Rattle.std.proofs.Common.{not, Option, None, sym, ap, ◌∙◌, refl, subst, inl, inr, arith}
-use Rattle.std.proofs.Common.{length-append}
+use Rattle.std.proofs.Common.{None, sym, ap, ◌∙◌, subst, inl, inr, arith, length-append}
 use Rattle.resp_value.specs.declared.value.Value.{Value}
 use Rattle.command_words.specs.Control.{is_control}
-use Rattle.shared_cache.specs.declared.log.Wire.{Wire}
 use Rattle.shared_cache.specs.declared.log.Wire.TheVariants.{Main}
 use Rattle.shared_cache.specs.declared.log.ClientMode.{ClientMode}
 use Rattle.shared_cache.specs.declared.log.ClientCall.{ClientCall}
 use Rattle.shared_cache.specs.declared.log.ClientCall.TheVariants as call
 use Rattle.shared_cache.specs.declared.log.ClientReply.{ClientReply}
-use Rattle.shared_cache.specs.declared.log.ClientReply.TheVariants.{Noted, Refused}
+use Rattle.shared_cache.specs.declared.log.ClientReply.TheVariants.{Refused}
 use Rattle.shared_cache.specs.declared.log.ClientRefusal.{ClientRefusal}
 use Rattle.shared_cache.specs.declared.log.ClientRefusal.TheVariants.{NoMemory}
 use Rattle.shared_cache.specs.declared.log.LogEntry.{LogEntry}
@@ -18,11 +16,9 @@ use Rattle.shared_cache.specs.declared.log.LogEntry.TheVariants.{Ask, Send, Poll
 use Rattle.shared_cache.specs.declared.log.LogEntry.TheVariants.{Bad}
 use Rattle.shared_cache.specs.declared.notices.Notice.{Notice}
 use Rattle.shared_cache.specs.Notices.{notice_of}
-use Rattle.shared_cache.specs.Log.{replies, with_reply, is_wire, is_ended, is_ready, reply}
+use Rattle.shared_cache.specs.Log.{replies, with_reply, is_wire, is_ready}
 use Rattle.shared_cache.specs.Held.{Setup, put_command, numbers, sent}
-use Rattle.shared_cache.specs.Out.{untaken, is_wanted}
-use Rattle.shared_cache.specs.Steps.{ClientTurn, refusing, is_log_full, polling, taking_out, judged}
-use Rattle.shared_cache.specs.Steps.{getting, fault_of, client_step}
+use Rattle.shared_cache.specs.Steps.{ClientTurn, refusing, judged, fault_of, client_step}
 use Rattle.std.proofs.lemmas.Bool.{not-false}
 use Rattle.shared_cache.specs.Laws.{IsQuery, IsCall, AsksQuery, LegalLog, LegalStep}
 
@@ -53,45 +49,15 @@ unless_refused : (s : Setup) (log : List LogEntry) (b : Bool) (r : ClientRefusal
     → (b ≡ false → Adds s log t) → Adds s log (cond b (refusing r log) t)
 unless_refused s log b r t adds = grind arith
 
-polling_adds : (s : Setup) (o : Option Value) (n : ℕ) (over : Bool) (log : List LogEntry)
-    → Adds s log (polling o n over log)
-polling_adds s o n over log = grind (arith, unless_refused)
-
-taking_adds : (s : Setup) (w : Wire) (most : ℕ) (bytes : List ℕ) (full : Bool)
-    (log : List LogEntry) → Adds s log (taking_out w most bytes full log)
-taking_adds s w most bytes full log = grind (arith, unless_refused)
-
-getting_adds : (s : Setup) (o : Option ClientRefusal) (w : Wire) (v : Value) (full : Bool)
-    (log : List LogEntry) → w ≡ Main → fault_of s log w v ≡ o → Adds s log (getting o w v full log)
-getting_adds s o w v full log is f = grind (arith, unless_refused)
-
 step_adds : (s : Setup) (log : List LogEntry) (c : ClientCall) → IsCall c → AsksQuery c
     → Adds s log (client_step s log c)
 unfolding client_step
-step_adds s log (call.Ask q) is query =
-    unless_refused s log (is_ended s.mode Main log) _ _ (λ up.
-    unless_refused s log (not (is_ready s.mode log)) _ _ (λ ready.
-    unless_refused s log (is_log_full s log) _ _ (λ room.
-    inr (Ask q, refl, (query, not-false _ ready)))))
-step_adds s log (call.Send ws) is query =
-    unless_refused s log (is_ended s.mode Main log) _ _ (λ up.
-    unless_refused s log (not (is_ready s.mode log)) _ _ (λ ready.
-    unless_refused s log (is_control ws) _ _ (λ plain.
-    unless_refused s log (is_log_full s log) _ _ (λ room.
-    inr (Send ws, refl, (plain, not-false _ ready, is))))))
-step_adds s log (call.Poll n) is query =
-    unless_refused s log (not (is_wanted s log n)) _ _ (λ wanted.
-    polling_adds s (reply s.mode log n) n (is_ended s.mode Main log) log)
-step_adds s log (call.TakeOut w n) is query =
-    unless_refused s log (is_ended s.mode w log) _ _ (λ up.
-    taking_adds s w n (untaken s w log) (is_log_full s log) log)
-step_adds s log (call.Got w v) is query =
-    unless_refused s log (is_ended s.mode w log) _ _ (λ up.
-    getting_adds s (fault_of s log w v) w v (is_log_full s log) log is refl)
-step_adds s log (call.End w) is query =
-    elim (is_ended s.mode w log) as
-    (λ b. Adds s log (record { reply = Noted; past = cond b log (End w ∷ log) }))
-    [ true ↦ inl refl | false ↦ inr (End w, refl, tt) ]
+step_adds s log (call.Ask q) is query = grind (arith, unless_refused, not-false)
+step_adds s log (call.Send ws) is query = grind (arith, unless_refused, not-false)
+step_adds s log (call.Poll n) is query = grind (arith, unless_refused)
+step_adds s log (call.TakeOut w n) is query = grind (arith, unless_refused)
+step_adds s log (call.Got w v) is query = grind (arith, unless_refused)
+step_adds s log (call.End w) is query = grind arith
 
 known : (s : Setup) (log : List LogEntry) (c : ClientCall) (e : LogEntry) → IsCall c → AsksQuery c
     → (client_step s log c).past ≡ e ∷ log → Known s log e
@@ -138,12 +104,7 @@ replies_within s (Bad w v ∷ log) l = replies_within s log l.0
 legal_after : (s : Setup) (log new : List LogEntry) (c : ClientCall) (r : ClientReply)
     → LegalLog s log → IsCall c → AsksQuery c
     → client_step s log c ≡ record { reply = r; past = new } → LegalLog s new
-legal_after s log new c r l is query e =
-    let past_is : (client_step s log c).past ≡ new = ap (λ (t : ClientTurn). t.past) e in
-    elim (step_adds s log c is query) [
-      | inl same ↦ subst (LegalLog s) (sym same ∙ past_is) l
-      | inr x ↦ subst (LegalLog s) (sym x.1 ∙ past_is) (l, (c, is, query, x.1))
-    ]
+legal_after s log new c r l is query e = grind (arith, step_adds)
 
 pub legal_step : LegalStep
 legal_step s log new c (Refused NoMemory) l is query e = subst (LegalLog s) (sym e.1) l

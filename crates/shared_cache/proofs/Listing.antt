@@ -1,4 +1,5 @@
 -- What is held, sorted: each entry stands at its place.
+use Rattle.std.proofs.lemmas.Bool.{cases_Bool, cases_eq}
 use Rattle.std.proofs.Common.{◌≡◌, ◌==◌, ◌+◌, ◌<◌, ◌≤◌, ℕ, zero, suc, List, [], ◌∷◌, length, get_or}
 use Rattle.std.proofs.Common.{true, false, cond, Some, sym, ap, ◌∙◌, refl, inl, inr, subst, arith}
 use Rattle.std.proofs.Common.{eq-eqb, Bool}
@@ -9,22 +10,19 @@ use Rattle.std.specs.Cmp.{IsStrictWeakOrder}
 use Rattle.std.specs.Fn.{Called, ComparesAs}
 use Rattle.std.specs.List.{slice_get, sum_by}
 use Rattle.std.specs.List.Sorted.{IsPermutation, IsSortedBy}
-use Rattle.std.specs.Ordering.{is_lt}
-use Rattle.std.proofs.lemmas.Bool.{cases_eq}
 use Rattle.std.proofs.lemmas.List.Sums.{sum_by-cons, sum_by-append}
 use Rattle.std.proofs.lemmas.List.Sorted.{sum_by-IsPermutation, All-permutation, IsPermutation-map}
 use Rattle.std.proofs.lemmas.List.Sorted.{ranks_by, answers_always, sorted_far}
 use Rattle.std.proofs.lemmas.Option.{slice_get_cases}
 use Rattle.std.proofs.lemmas.Grind.{common_steps}
 use Rattle.shared_cache.specs.declared.entry.CacheEntry.{CacheEntry}
-use Rattle.shared_cache.specs.declared.log.LogEntry.{LogEntry}
-use Rattle.shared_cache.specs.Held.{Key, Setup, order, is_before, rank, held_in_place, held}
+use Rattle.shared_cache.specs.Held.{Key, order, is_before, rank, held_in_place}
 use Rattle.shared_cache.specs.HeldKeys.{Pairs, ArePairsOf, listed, of_key, but_key, IsSortedAs}
 use Rattle.shared_cache.specs.HeldKeys.{seen}
 use Rattle.shared_cache.specs.Laws.{Every}
 use Rattle.shared_cache.proofs.Order.{Among, Apart, ranked_some, ranked_is, same_ranked, every_of}
-use Rattle.shared_cache.proofs.Order.{before_not, before_self, before_other, rank_more, rank_same}
-use Rattle.shared_cache.proofs.Order.{no_place, order_total, held_apart}
+use Rattle.shared_cache.proofs.Order.{before_not, before_other, rank_more, rank_same}
+use Rattle.shared_cache.proofs.Order.{no_place, order_total}
 use Rattle.shared_cache.proofs.Every.{every_both}
 use Rattle.shared_cache.proofs.Places.{listed_held}
 
@@ -49,8 +47,7 @@ one_before h o = cond (is_before o h) 1 0
 
 rank_sum : (h : CacheEntry) (os : List CacheEntry) → rank h os ≡ sum_by (one_before h) os
 rank_sum h [] = refl
-rank_sum h (o ∷ os) =
-    grind (arith, common_steps, rank_sum h os, sum_by-cons (one_before h) o os)
+rank_sum h (o ∷ os) = grind (arith, common_steps, rank_sum h os, sum_by-cons (one_before h) o os)
 
 length_sum : (hs : List CacheEntry) → sum_by (λ o. 1) hs ≡ length hs
 length_sum [] = refl
@@ -68,8 +65,7 @@ count_more : (n : ℕ) (o : CacheEntry) (os : List CacheEntry) → o.number ≡ 
     → count n (o ∷ os) ≡ count n os + 1
 count_more n o os e =
     let c = sum_by-cons (one_of n) o os in
-    let t : one_of n o ≡ 1 = ap (λ b. cond b 1 0) (eq-eqb o.number n e) in
-    omega (arith, c, t)
+    grind (arith, one_of, eq-eqb)
 
 count_same : (n : ℕ) (o : CacheEntry) (os : List CacheEntry) → (o.number ≡ n → ⊥)
     → count n (o ∷ os) ≡ count n os
@@ -157,7 +153,8 @@ rank_first y (z ∷ zs) e = rank_same y z zs (before_not y z e.0) ∙ rank_first
 rank_up : (ys : List CacheEntry) → Up ys → (k : ℕ) (d : CacheEntry) → k < length ys
     → rank (get_or ys k d) ys ≡ k
 rank_up [] up k d lt = absurd (let no : ⊥ = omega (arith, lt) in no)
-rank_up (y ∷ ys) up zero d lt = rank_same y y ys (before_self y) ∙ rank_first y ys up.0
+rank_up (y ∷ ys) up zero d lt =
+    rank_same y y ys (grind (arith, cases_Bool, before_not)) ∙ rank_first y ys up.0
 rank_up (y ∷ ys) up (suc k) d lt =
     let below : k < length ys = omega (arith, lt) in
     let m = rank_more (get_or ys k d) y ys
@@ -208,11 +205,6 @@ module _ (pairs : Pairs) (hs ys : List CacheEntry) (p : ArePairsOf pairs hs) (ap
         past.1 ∙ sym (no_place hs place (let le = past.0 in omega (arith, n, le)))
   ]
 
-pub held_sorted : (s : Setup) (log : List LogEntry) (pairs : Pairs) → ArePairsOf pairs (held s log)
-    → (ys : List CacheEntry) → IsSortedAs (listed pairs) ys → (place : ℕ)
-    → slice_get ys place ≡ held_in_place place (held s log)
-held_sorted s log pairs p ys sorted = grind (arith, sorted_places, held_apart)
-
 -- ---- a sort of references
 
 abbrev Shown : Type 0
@@ -254,9 +246,7 @@ module _ {F : Type 0} {g : Mut F (Bor Shown × (Bor Shown × Unit {0})) Ordering
   sorted_as xs ys hs zs from to permutes sorts answers =
       let weak : IsStrictWeakOrder before =
       ranks_by order_total (λ (b : Shown). b.now) in
-      let compares : ComparesAs g before f =
-      answers_always g (λ a r. is_lt r ≡ before a.0.now a.1.0.now) f
-      (λ h a r k c. ap is_lt (answers h a r k c)) in
+      let compares : ComparesAs g before f = grind (arith, answers_always, before) in
       record {
         permutes =
             subst (λ l. IsPermutation l zs) from

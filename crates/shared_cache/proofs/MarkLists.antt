@@ -1,6 +1,6 @@
 -- How the marks change with the fetches.
 use Rattle.std.proofs.Common.{◌≡◌, ◌<◌, ◌≤◌, ◌++◌, ℕ, zero, suc, List, [], ◌∷◌, Bool, cond, not}
-use Rattle.std.proofs.Common.{Option, Some, None, sym, ◌∙◌, refl, arith, inl, inr, subst}
+use Rattle.std.proofs.Common.{Option, Some, None, sym, ◌∙◌, refl, arith, inl, inr}
 use Rattle.std.specs.Prelude.{nat_lt}
 use Rattle.std.specs.List.{filter}
 use Rattle.std.proofs.lemmas.List.Elements.{filter-append}
@@ -8,8 +8,8 @@ use Rattle.std.proofs.lemmas.Bool.{cases_eq, lt-ltb}
 use Rattle.std.proofs.lemmas.Grind.{common_steps}
 use Rattle.command_words.specs.Queries.{key_of}
 use Rattle.fill_mark.specs.declared.marks.Mark.{Mark}
-use Rattle.fill_mark.specs.Marks.{query_marked, without_number, without_query}
-use Rattle.shared_cache.specs.Held.{Key, Words, unless, other_than}
+use Rattle.fill_mark.specs.Marks.{query_marked, without_number}
+use Rattle.shared_cache.specs.Held.{Key, Words, unless}
 use Rattle.shared_cache.specs.ClientFields.{fetch_mark, marks_by}
 
 -- some marks stay
@@ -37,10 +37,6 @@ marks_none replied (suc n) = grind (arith, marks_none replied n)
 pub mark_unless : (t : Key → Bool) (n : ℕ) (o : Option Words)
     → fetch_mark n (unless t o) ≡ filter (λ m. not (t (key_of m.query))) (fetch_mark n o)
 mark_unless t n o = grind arith
-
-pub mark_other : (q : Words) (n : ℕ) (o : Option Words)
-    → fetch_mark n (other_than q o) ≡ without_query q (fetch_mark n o)
-mark_other q n o = grind arith
 
 -- ---- the mark of the next reply
 
@@ -72,9 +68,6 @@ not_here : (n k : ℕ) (o : Option Words) (b : Bool) → (k ≡ n → ⊥)
     → query_marked n (cond b (fetch_mark k o) []) ≡ None
 not_here n k o b ne = grind arith
 
-is_here : (n : ℕ) (o : Option Words) → query_marked n (fetch_mark n o) ≡ o
-is_here n o = grind arith
-
 none_past : (open_of : ℕ → Option Words) (replied n m : ℕ) → n < m
     → query_marked m (marks_by open_of replied n) ≡ None
 none_past open_of replied zero m lt = refl
@@ -92,13 +85,7 @@ marks_find open_of replied (suc n) m lt le =
     found_in m (marks_by open_of replied n)
     (cond (nat_lt replied (suc n)) (fetch_mark (suc n) (open_of (suc n))) [])
     ∙ elim (cases_eq m (suc n)) [
-      | inl e ↦
-          (λ i. or_else (none_past open_of replied n m (omega arith) i)
-          (query_marked m
-          (cond (lt-ltb replied (suc n) (omega arith) i)
-          (fetch_mark (suc n) (open_of (suc n))) [])))
-          ∙ subst (λ k. query_marked k (fetch_mark (suc n) (open_of (suc n))) ≡ open_of k) (sym e)
-          (is_here (suc n) (open_of (suc n)))
+      | inl e ↦ grind (arith, or_else, none_past, lt-ltb)
       | inr ne ↦
           (λ i. or_else (marks_find open_of replied n m lt (omega arith) i)
           (not_here m (suc n) (open_of (suc n)) (nat_lt replied (suc n)) (λ e. ne (sym e)) i))

@@ -8,7 +8,7 @@ use Rattle.std.specs.declared.cmp.Ordering.TheVariants.{Less, Equal, Greater}
 use Rattle.std.specs.Cmp.{IsTotalOrder}
 use Rattle.std.specs.Cmp.Lexicographic.{slice_cmp}
 use Rattle.std.proofs.lemmas.Bool.{cases_eq, cases_lt, cases_Bool}
-use Rattle.std.proofs.lemmas.Cmp.{nat_cmp_total, nat_list_cmp_total, then_total}
+use Rattle.std.proofs.lemmas.Cmp.{nat_list_cmp_total, then_total}
 use Rattle.std.proofs.lemmas.Map.Lookups.{exact_unsigned}
 use Rattle.std.proofs.lemmas.Option.{same_Some}
 use Rattle.std.proofs.lemmas.Grind.{common_steps}
@@ -55,11 +55,7 @@ order_total =
       congr = λ x y z. nat_list_cmp_total.congr (shown_words x.query) (shown_words y.query)
           (shown_words z.query);
     })
-    (record {
-      antisymm = λ x y. nat_cmp_total.antisymm x.number y.number;
-      trans = λ x y z. nat_cmp_total.trans x.number y.number z.number;
-      congr = λ x y z. nat_cmp_total.congr x.number y.number z.number;
-    })
+    (grind arith)
 
 is_less : (r : Ordering) → is_lt r ≡ true → r ≡ Less
 is_less r is = grind arith
@@ -74,9 +70,6 @@ before_then a b c ab bc =
 
 pub before_not : (a b : CacheEntry) → is_before a b ≡ true → is_before b a ≡ false
 before_not a b ab = ap is_lt (order_total.antisymm b a ∙ ap ordering_reverse (before_less a b ab))
-
-pub before_self : (a : CacheEntry) → is_before a a ≡ false
-before_self a = grind (arith, cases_Bool, before_not)
 
 then_second : (x y : Ordering) → ordering_then x y ≡ Equal → y ≡ Equal
 then_second e y is = grind arith
@@ -110,20 +103,20 @@ rank_within h (o ∷ os) = grind (arith, common_steps, rank_within h os)
 
 rank_below : (h : CacheEntry) (os : List CacheEntry) → Among h os → rank h os < length os
 rank_below h [] a = absurd a
-rank_below h (o ∷ os) (inl is) = grind (arith, rank_same, before_self, rank_within)
+rank_below h (o ∷ os) (inl is) = grind (arith, rank_same, rank_within, cases_Bool, before_not)
 rank_below h (o ∷ os) (inr a) = grind (arith, common_steps, rank_below h os a)
 
 -- what comes before has no more before it
 rank_grows : (a b : CacheEntry) (os : List CacheEntry) → is_before a b ≡ true
     → rank a os ≤ rank b os
 rank_grows a b [] ab = omega arith
-rank_grows a b (o ∷ os) ab =
-    grind (arith, common_steps, rank_grows a b os ab, before_then o a b)
+rank_grows a b (o ∷ os) ab = grind (arith, common_steps, rank_grows a b os ab, before_then o a b)
 
 rank_less : (a b : CacheEntry) (os : List CacheEntry) → is_before a b ≡ true → Among a os
     → rank a os < rank b os
 rank_less a b [] ab i = absurd i
-rank_less a b (o ∷ os) ab (inl is) = grind (arith, rank_grows, rank_same, before_self, rank_more)
+rank_less a b (o ∷ os) ab (inl is) =
+    grind (arith, rank_grows, rank_same, rank_more, cases_Bool, before_not)
 rank_less a b (o ∷ os) ab (inr i) = grind (arith, before_then, rank_less a b os ab i)
 
 -- each place has one
@@ -137,41 +130,16 @@ placed [] apart place below = absurd (let no : ⊥ = omega (arith, below) in no)
 placed (g ∷ gs) apart place below =
     let r = rank g gs in
     let w = rank_within g gs in
-    let g_is = rank_same g g gs (before_self g) in
+    let g_is = rank_same g g gs (grind (arith, cases_Bool, before_not)) in
     elim (cases_eq place r) [
       | inl same ↦ record { one = g; among = inl refl; there = g_is ∙ sym same }
       | inr other ↦ elim (cases_lt place r) [
         | inl less ↦
             let p = placed gs apart.1 place (omega (less, w, arith)) in
-            let h = p.one in
-            let there = p.there in
-            let before : is_before h g ≡ true = elim (cases_Bool (is_before h g)) [
-              | inl yes_ ↦ yes_
-              | inr not_ ↦
-                  let m = rank_grows g h gs
-                  (before_other h g (every_at _ gs h apart.0 p.among) not_) in
-                  absurd (let no : ⊥ = omega (m, there, less, arith) in no)
-            ] in
-            record {
-              one = h;
-              among = inr p.among;
-              there = rank_same h g gs (before_not h g before)
-                  ∙ there;
-            }
+            grind (arith, cases_Bool, rank_grows, before_other, every_at, rank_same, before_not)
         | inr more ↦
             let p = placed gs apart.1 (place - 1) (omega (more, other, below, arith)) in
-            let h = p.one in
-            let there = p.there in
-            let before : is_before g h ≡ true = elim (cases_Bool (is_before g h)) [
-              | inl yes_ ↦ yes_
-              | inr not_ ↦
-                  let m = rank_less h g gs
-                  (before_other g h (λ e. every_at _ gs h apart.0 p.among (sym e)) not_) p.among
-                  in
-                  absurd (let no : ⊥ = omega (m, there, more, other, arith) in no)
-            ] in
-            let e = rank_more h g gs before in
-            record { one = h; among = inr p.among; there = omega (e, there, more, other, arith) }
+            grind (arith, cases_Bool, rank_less, before_other, every_at, rank_more)
       ]
     ]
 
@@ -253,19 +221,7 @@ in_order hs apart = record {
     sorted_at p q g h less g_is h_is =
         let a = ranked_is p hs hs g g_is in
         let b = ranked_is q hs hs h h_is in
-        let x = a.1 in
-        let y = b.1 in
-        elim (cases_Bool (is_before g h)) [
-          | inl yes_ ↦ yes_
-          | inr not_ ↦ elim (cases_eq g.number h.number) [
-            | inl same ↦
-                let e = ap (λ o. rank o hs) (same_numbered hs g h apart a.0 b.0 same) in
-                absurd (let no : ⊥ = omega (e, x, y, less, arith) in no)
-            | inr other ↦
-                let m = rank_less h g hs (before_other g h other not_) b.0 in
-                absurd (let no : ⊥ = omega (m, x, y, less, arith) in no)
-          ]
-        ]
+        grind (arith, cases_Bool, cases_eq, same_numbered, rank_less, before_other)
 
 -- ---- what is held has numbers apart
 

@@ -1,10 +1,9 @@
 -- After a turn that neither asks nor gets, the fields are what the log says.
-use Rattle.std.proofs.Common.{subst, ◌≡◌, ◌==◌, ◌+◌, ◌-◌, ◌<◌, ◌≤◌, ◌++◌, ◌||◌, ℕ, suc, List, []}
-use Rattle.std.proofs.Common.{◌∷◌, length, set, get_or, drop, Bool, true, false, not, Option, None}
+use Rattle.std.proofs.Common.{◌≡◌, ◌==◌, ◌+◌, ◌-◌, ◌<◌, ◌≤◌, ◌++◌, ◌||◌, ℕ, suc, List, []}
+use Rattle.std.proofs.Common.{◌∷◌, length, set, get_or, Bool, true, false, not, Option, None}
 use Rattle.std.proofs.Common.{sym, ap, ◌∙◌, refl, arith, append-nil, length-append, ne_eqb, eq-eqb}
 use Rattle.std.proofs.Common.{below_more, length-set}
-use Rattle.std.specs.List.{slice_get, filter, flat_map}
-use Rattle.std.proofs.lemmas.Bool.{cases_eq}
+use Rattle.std.specs.List.{filter, flat_map}
 use Rattle.std.proofs.lemmas.List.{get_or_push, get_or_append_left, get_or-set_same}
 use Rattle.std.proofs.lemmas.List.{get_or-set_other}
 use Rattle.resp_value.specs.Spelling.{request_spelling}
@@ -16,7 +15,7 @@ use Rattle.fill_mark.specs.declared.marks.Mark.{Mark}
 use Rattle.shared_cache.specs.declared.log.Wire.{Wire}
 use Rattle.shared_cache.specs.declared.log.Wire.TheVariants.{Main, Side}
 use Rattle.shared_cache.specs.declared.log.LogEntry.{LogEntry}
-use Rattle.shared_cache.specs.declared.log.LogEntry.TheVariants.{Send, Poll, TakeOut, End, Bad}
+use Rattle.shared_cache.specs.declared.log.LogEntry.TheVariants.{Send, Poll, End, Bad}
 use Rattle.shared_cache.specs.declared.entry.PendingReply.{PendingReply}
 use Rattle.shared_cache.specs.declared.entry.PendingReply.TheVariants.{Waiting, There, Gone}
 use Rattle.shared_cache.specs.Log.{handshake, handshake_length, first_number, replies, is_wire}
@@ -25,19 +24,16 @@ use Rattle.shared_cache.specs.Held.{Setup, Words, Caller, put_command, sent, ope
 use Rattle.shared_cache.specs.Held.{last_use, held, held_for, held_in_place, numbers}
 use Rattle.shared_cache.specs.Out.{is_polled, untaken}
 use Rattle.shared_cache.specs.HeldKeys.{KeysHeld, found_in, listed, with_pairs, forgotten}
-use Rattle.shared_cache.specs.HeldKeys.{IsSortedAs}
-use Rattle.shared_cache.proofs.Listing.{held_sorted}
 use Rattle.shared_cache.specs.ClientFields.{Fields, Reflects, IsLast, pending_at, marks_by}
 use Rattle.shared_cache.proofs.Fetches.{beyond, unless_none}
 use Rattle.shared_cache.proofs.HeldLists.{held_none}
-use Rattle.shared_cache.proofs.Keeps.{keeps_none, keeps_new, keeps_forgotten, keeps_same}
+use Rattle.shared_cache.proofs.Keeps.{keeps_none, keeps_forgotten, keeps_same}
 use Rattle.shared_cache.proofs.KeyPairs.{pairs_found}
 use Rattle.shared_cache.proofs.Places.{pairs_placed}
 use Rattle.shared_cache.proofs.HeldSteps.{held_send}
 use Rattle.shared_cache.proofs.MarkLists.{marks_none, marks_filter, mark_unless}
-use Rattle.shared_cache.proofs.Bytes.{untaken_one, untaken_same, untaken_took, untaken_none}
+use Rattle.shared_cache.proofs.Bytes.{untaken_one, untaken_same, untaken_none}
 use Rattle.shared_cache.proofs.PendingLists.{no_reply, has_reply, owed_push, owed_gone, gone_is}
-use Rattle.shared_cache.proofs.PendingLists.{waits_is, there_is}
 use Rattle.shared_cache.proofs.StepCases.{poll_unwanted, poll_wanted, handed, high, wanted}
 use Rattle.shared_cache.specs.Steps.{client_step, polling, refusing}
 use Rattle.shared_cache.specs.declared.log.ClientCall.TheVariants as call
@@ -112,10 +108,6 @@ module _ (s : Setup) (log : List LogEntry) (f : Fields) (k : Reflects s log f) w
   reflects_last (Bad w v) e = reflects_bad w v e
   reflects_last h e = absurd e
 
-  pub reflects_take : (most : ℕ)
-      → Reflects s (TakeOut Main most ∷ log) (record f { queued = drop most f.queued })
-  reflects_take most = grind (arith, untaken_took)
-
   pub reflects_send : (ws : Words) (w : Written) → w ≡ written_by ws
       → Reflects s (Send ws ∷ log) (record f {
         queued = f.queued ++ request_spelling ws;
@@ -168,7 +160,6 @@ module _ (s : Setup) (log : List LogEntry) (f : Fields) (k : Reflects s log f) w
     arith,
     untaken_same,
     length-set,
-    cases_eq,
     get_or-set_same,
     eq-eqb,
     get_or-set_other,
@@ -194,29 +185,20 @@ module _ (s : Setup) (log : List LogEntry) (f : Fields) (k : Reflects s log f) w
 
     pub poll_waits : (over : Bool) → get_or f.pending (n - 2 - 1) Gone ≡ Waiting → f.ended ≡ over
         → client_step s log (call.Poll n) ≡ polling None n over log
-    poll_waits over e ended = grind (arith, waits_is, standing, poll_wanted, wanted)
+    poll_waits over e ended = grind (arith, standing, poll_wanted, wanted)
 
     pub poll_there : (v : Value) → get_or f.pending (n - 2 - 1) Gone ≡ There v
         → client_step s log (call.Poll n) ≡ record { reply = Answer v; past = Poll n ∷ log }
-    poll_there v e = grind (arith, there_is, standing, poll_wanted, wanted)
+    poll_there v e = grind (arith, standing, poll_wanted, wanted)
 
   -- what the keys say of what is held
   pub query_found : (q : Words) (keys : KeysHeld) → keys ≡ f.keys
       → found_in q keys.pairs ≡ held_for q (held s log)
-  query_found q keys e = ap (λ x. found_in q x.pairs) e
-      ∙ pairs_found q f.keys.pairs (held s log) k.keys_is.pairs_are
+  query_found q keys e = grind (arith, pairs_found)
 
   pub entry_placed : (place : ℕ) (keys : KeysHeld) → keys ≡ f.keys
       → held_in_place place (listed keys.pairs) ≡ held_in_place place (held s log)
-  entry_placed place keys e = ap (λ x. held_in_place place (listed x.pairs)) e
-      ∙ pairs_placed s log place f.keys.pairs k.keys_is.pairs_are
-
-  pub entries_sorted : (keys : KeysHeld) → keys ≡ f.keys → (ys : List CacheEntry)
-      → IsSortedAs (listed keys.pairs) ys → (place : ℕ)
-      → slice_get ys place ≡ held_in_place place (held s log)
-  entries_sorted keys e ys sorted =
-      held_sorted s log f.keys.pairs k.keys_is.pairs_are ys
-      (subst (λ x. IsSortedAs (listed x.pairs) ys) e sorted)
+  entry_placed place keys e = grind (arith, pairs_placed)
 
   -- none is left where none is queued
   pub drained : (n : ℕ) → n ≡ length f.queued → (n == 0) ≡ (length (untaken s Main log) == 0)
@@ -237,4 +219,4 @@ pub reflects_none : (s : Setup) (queued : List ℕ) → 0 < s.capacity
           false;
       broken = false;
     })
-reflects_none s queued some e = grind (arith, untaken_none, keeps_new)
+reflects_none s queued some e = grind (arith, untaken_none)

@@ -2,7 +2,6 @@
 use Rattle.std.proofs.Common.{◌≡◌, ◌+◌, ◌-◌, ◌<◌, ◌≤◌, ◌++◌, ℕ, List, [], ◌∷◌, length, get_or, set}
 use Rattle.std.proofs.Common.{drop, replicate, Option, Some, None, sym, ap, ◌∙◌, arith, refl}
 use Rattle.std.proofs.Common.{append_assoc, append-nil}
-use Rattle.std.proofs.lemmas.Bool.{cases_lt}
 use Rattle.std.proofs.lemmas.List.{length-append, length-replicate, get_or-replicate, get_or_past}
 use Rattle.std.proofs.lemmas.List.{get_or_append_left, get_or-append_right, set-append_right}
 use Rattle.std.proofs.lemmas.List.{get_or_push, same_from_push, nil_from_length}
@@ -10,16 +9,9 @@ use Rattle.std.proofs.lemmas.Grind.{replicate_next}
 use Rattle.std.specs.Option.{option_to_list}
 use Rattle.shared_cache.specs.declared.entry.PendingReply.{PendingReply}
 use Rattle.shared_cache.specs.declared.entry.PendingReply.TheVariants.{Waiting, Gone}
-use Rattle.shared_cache.specs.declared.pending.Handed.{Handed}
-use Rattle.shared_cache.specs.PendingReplies.{HandsOver}
 
 gone_waits : Gone ≡ Waiting → ⊥
 gone_waits e = cc
-
-pub in_front : (gone : ℕ) (rest : List PendingReply) (i : ℕ) → i < gone
-    → get_or (replicate gone Gone ++ rest) i Gone ≡ Gone
-in_front gone rest i lt =
-    grind (arith, get_or_append_left, replicate, length-replicate, get_or-replicate)
 
 pub behind : (gone : ℕ) (rest : List PendingReply) (i : ℕ) → gone ≤ i
     → get_or (replicate gone Gone ++ rest) i Gone ≡ get_or rest (i - gone) Gone
@@ -29,16 +21,19 @@ behind gone rest i le = grind (arith, get_or-append_right, replicate, length-rep
 pub waits_behind : (gone : ℕ) (rest : List PendingReply) (i : ℕ)
     → get_or (replicate gone Gone ++ rest) i Gone ≡ Waiting
     → (gone ≤ i) × (i - gone < length rest)
-waits_behind gone rest i e = grind (arith, cases_lt, gone_waits, in_front, behind, get_or_past)
+waits_behind gone rest i e = grind (
+  arith,
+  behind,
+  get_or_past,
+  get_or_append_left,
+  replicate,
+  length-replicate,
+  get_or-replicate,
+)
 
 pub set_behind : (gone : ℕ) (rest : List PendingReply) (i : ℕ) (r : PendingReply) → gone ≤ i
     → replicate gone Gone ++ set rest (i - gone) r ≡ set (replicate gone Gone ++ rest) i r
 set_behind gone rest i r le = grind (arith, set-append_right, replicate, length-replicate)
-
-pub hands_behind : (gone : ℕ) (old : List PendingReply) (i : ℕ) (h : Handed)
-    (new : List PendingReply) → gone ≤ i → HandsOver old (i - gone) h new
-    → HandsOver (replicate gone Gone ++ old) i h (replicate gone Gone ++ new)
-hands_behind gone old i h new le p = grind (arith, behind, replicate, set_behind)
 
 -- the last of those of the front does not wait
 none_waits : (gone : ℕ) (front : List PendingReply) → replicate gone Gone ≡ front ++ Waiting ∷ []

@@ -1,6 +1,6 @@
 -- The replies that wait for their callers, by the log.
 use Rattle.std.proofs.Common.{◌≡◌, ◌+◌, ◌<◌, ◌≤◌, ◌++◌, ℕ, zero, suc, List, [], ◌∷◌, length, set}
-use Rattle.std.proofs.Common.{get_or, Bool, true, false, cond, Option, Some, None, ap, refl, arith}
+use Rattle.std.proofs.Common.{get_or, Bool, true, cond, Option, None, ap, refl, arith}
 use Rattle.std.proofs.lemmas.Grind.{common_steps}
 use Rattle.resp_value.specs.declared.value.Value.{Value}
 use Rattle.shared_cache.specs.declared.entry.PendingReply.{PendingReply}
@@ -47,11 +47,3 @@ owed_gone ds zero v e = cc
 -- what a pending reply says of its number
 pub gone_is : (b : Bool) (o : Option Value) → cond b Gone (there o) ≡ Gone → b ≡ true
 gone_is b o e = grind arith
-
-pub waits_is : (b : Bool) (o : Option Value) → cond b Gone (there o) ≡ Waiting → (b ≡ false)
-    × (o ≡ None)
-waits_is b o e = grind arith
-
-pub there_is : (b : Bool) (o : Option Value) (v : Value) → cond b Gone (there o) ≡ There v
-    → (b ≡ false) × (o ≡ Some v)
-there_is b o v e = grind arith

@@ -6,7 +6,7 @@ use Rattle.std.proofs.lemmas.Grind.{common_steps}
 use Rattle.command_words.specs.Queries.{key_of}
 use Rattle.shared_cache.specs.declared.entry.CacheEntry.{CacheEntry}
 use Rattle.shared_cache.specs.declared.log.LogEntry.{LogEntry}
-use Rattle.shared_cache.specs.Held.{Setup, Key, held, is_before, rank, ranked, held_in_place}
+use Rattle.shared_cache.specs.Held.{Setup, Key, held, rank, ranked, held_in_place}
 use Rattle.shared_cache.specs.HeldKeys.{Pairs, ArePairsOf, listed, of_key, but_key}
 use Rattle.shared_cache.proofs.Order.{Among, Apart, ranked_some, ranked_is, same_ranked, held_apart}
 
@@ -90,12 +90,7 @@ rank_parts : (k : Key) (h : CacheEntry) (hs : List CacheEntry)
     → rank h (of_key k hs) + rank h (but_key k hs) ≡ rank h hs
 rank_parts k h [] = refl
 rank_parts k h (g ∷ gs) = let e = rank_parts k h gs in
-    elim (bytes_eq (key_of g.query) k) as
-    (λ b. rank h (cond b (g ∷ of_key k gs) (of_key k gs))
-    + rank h (cond (not b) (g ∷ but_key k gs) (but_key k gs)) ≡ rank h (g ∷ gs)) [
-      | true ↦ one (is_before g h) (rank h (of_key k gs)) (rank h (but_key k gs)) (rank h gs) e
-      | false ↦ two (is_before g h) (rank h (of_key k gs)) (rank h (but_key k gs)) (rank h gs) e
-    ]
+    grind (arith, two)
   where
     one : (b : Bool) (l m n : ℕ) → l + m ≡ n → cond b (l + 1) l + m ≡ cond b (n + 1) n
     one b l m n e = grind (arith, common_steps)
@@ -132,24 +127,19 @@ module _ (place : ℕ) (pairs : Pairs) (hs : List CacheEntry) (p : ArePairsOf pa
       let no : None ≡ Some s.0 = sym e ∙ s.1 in absurd (let not_ : ⊥ = cc in not_)
   by_answer None e None f = refl
 
-  placed_alike : held_in_place place (listed pairs) ≡ held_in_place place hs
-  placed_alike = grind (arith, by_answer)
-
 pub pairs_placed : (s : Setup) (log : List LogEntry) (place : ℕ) (pairs : Pairs)
     → ArePairsOf pairs (held s log)
     → held_in_place place (listed pairs) ≡ held_in_place place (held s log)
-pairs_placed s log place pairs p = grind (arith, placed_alike, held_apart)
+pairs_placed s log place pairs p = grind (arith, held_apart, by_answer)
 
 -- ---- one key after the other
 
 pub ranked_append : (place : ℕ) (all xs ys : List CacheEntry) → ranked place all xs ≡ None
     → ranked place all (xs ++ ys) ≡ ranked place all ys
 ranked_append place all [] ys e = refl
-ranked_append place all (x ∷ xs) ys e =
-    grind (arith, common_steps, ranked_append place all xs ys)
+ranked_append place all (x ∷ xs) ys e = grind (arith, common_steps, ranked_append place all xs ys)
 
 pub ranked_found : (place : ℕ) (all xs ys : List CacheEntry) (h : CacheEntry)
     → ranked place all xs ≡ Some h → ranked place all (xs ++ ys) ≡ Some h
 ranked_found place all [] ys h e = cc
-ranked_found place all (x ∷ xs) ys h e =
-    grind (arith, common_steps, ranked_found place all xs ys h)
+ranked_found place all (x ∷ xs) ys h e = grind (arith, common_steps, ranked_found place all xs ys h)

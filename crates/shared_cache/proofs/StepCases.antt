@@ -155,10 +155,6 @@ module _ (s : Setup) (log : List LogEntry) where
       { reply = Bytes (take most bytes); past = entry.TakeOut Main most ∷ log }
   some_bytes most bytes e = grind arith
 
-  full_bytes : (most : ℕ) (bytes : List ℕ) → (length bytes == 0) ≡ false
-      → taking_out Main most bytes true log ≡ refusing (LogFull (length log)) log
-  full_bytes most bytes e = grind arith
-
   taking_is : (most : ℕ) → is_ended s.mode Main log ≡ false
       → client_step s log (TakeOut Main most) ≡ taking_out Main most (untaken s Main log)
       (is_log_full s log) log
@@ -173,7 +169,7 @@ module _ (s : Setup) (log : List LogEntry) where
   pub take_full : (most : ℕ) → is_ended s.mode Main log ≡ false
       → (length (untaken s Main log) == 0) ≡ false → is_log_full s log ≡ true
       → client_step s log (TakeOut Main most) ≡ refusing (LogFull (length log)) log
-  take_full most e f g = grind (arith, taking_is, full_bytes)
+  take_full most e f g = grind (arith, taking_is)
 
   pub take_ok : (most : ℕ) → is_ended s.mode Main log ≡ false
       → (length (untaken s Main log) == 0) ≡ false → is_log_full s log ≡ false

@@ -5,7 +5,6 @@ use Rattle.std.specs.Prelude.{Option, ◌⊎◌, ⊤}
 use Rattle.turn_lock.specs.History.{past_after}
 use Rattle.resp_value.specs.declared.value.Value.{Value}
 use Rattle.shared_cache.specs.declared.log.Wire.{Wire}
-use Rattle.shared_cache.specs.declared.log.ClientMode.{ClientMode}
 use Rattle.shared_cache.specs.declared.log.LogEntry.{LogEntry}
 use Rattle.shared_cache.specs.declared.log.LogEntry.TheVariants as entry
 use Rattle.shared_cache.specs.declared.log.ClientCall.{ClientCall}
@@ -17,14 +16,11 @@ use Rattle.shared_cache.specs.declared.log.ClientReply.TheVariants.{Bytes, Quiet
 use Rattle.shared_cache.specs.declared.log.ClientRefusal.{ClientRefusal}
 use Rattle.shared_cache.specs.declared.log.ClientRefusal.TheVariants.{Unexpected, BadPush, NoMemory}
 use Rattle.shared_cache.specs.declared.log.ClientRefusal.TheVariants.{SetupRefused, NoNumber, Worn}
-use Rattle.shared_cache.specs.declared.entry.CacheEntry.{CacheEntry}
-use Rattle.shared_cache.specs.declared.notices.Notice.{Notice}
 use Rattle.shared_cache.specs.Log.{is_ended, reply}
 use Rattle.shared_cache.specs.Held.{Setup}
 use Rattle.shared_cache.specs.Laws.{LegalLog}
 use Rattle.shared_cache.specs.Steps.{ClientTurn, client_step, ClientStep, MayRunOut, NeedsRoom}
-use Rattle.shared_cache.specs.Steps.{refusing, answer_ask, polling, taking_out, judged, fault_of}
-use Rattle.shared_cache.specs.Steps.{getting}
+use Rattle.shared_cache.specs.Steps.{refusing, polling, fault_of}
 use Rattle.shared_client.specs.Setups.{made_with, TurnStep}
 use Rattle.shared_client.specs.Turns.{Allows}
 
@@ -94,28 +90,9 @@ IsFault (Some (BadPush w)) = Unit {0}
 IsFault (Some (SetupRefused w)) = Unit {0}
 IsFault (Some r) = ⊥
 
-judged_fault : (m : ClientMode) (w : Wire) (replied sent : ℕ) (v : Value) (n : Notice)
-    → IsFault (judged m w replied sent v n)
-judged_fault m w replied sent v n = grind (arith, by_test)
-
 module _ (s : Setup) (log : List LogEntry) where
   abbrev TurnSays : ClientCall → ClientTurn → Type 0
   TurnSays call t = Says call log t.reply t.past
-
-  ask_says : (q : List (List ℕ)) (o : Option CacheEntry) (n : ℕ)
-      → Says (Ask q) log (answer_ask o n) (entry.Ask q ∷ log)
-  ask_says q o n = grind arith
-
-  poll_says : (n : ℕ) (o : Option Value) (over : Bool) → TurnSays (Poll n) (polling o n over log)
-  poll_says n o over = grind arith
-
-  take_says : (w : Wire) (most : ℕ) (bytes : List ℕ) (full : Bool)
-      → TurnSays (TakeOut w most) (taking_out w most bytes full log)
-  take_says w most bytes full = grind arith
-
-  got_says : (w : Wire) (v : Value) (o : Option ClientRefusal) (full : Bool) → IsFault o
-      → TurnSays (Got w v) (getting o w v full log)
-  got_says w v o full is = grind arith
 
   end_says : (w : Wire) (over : Bool)
       → Says (End w) log Noted (cond over log (entry.End w ∷ log))
@@ -124,15 +101,15 @@ module _ (s : Setup) (log : List LogEntry) where
 
   faults : (w : Wire) (v : Value) → IsFault (fault_of s log w v)
   unfolding fault_of
-  faults w v = grind (arith, judged_fault)
+  faults w v = grind (arith, by_test)
 
   step_says : (call : ClientCall) → TurnSays call (client_step s log call)
   unfolding client_step
-  step_says (Ask q) = grind (arith, by_test, ask_says)
+  step_says (Ask q) = grind (arith, by_test)
   step_says (Send ws) = grind (arith, by_test)
-  step_says (Poll n) = grind (arith, by_test, poll_says)
-  step_says (TakeOut w most) = grind (arith, by_test, take_says)
-  step_says (Got w v) = grind (arith, by_test, got_says, faults)
+  step_says (Poll n) = grind (arith, by_test)
+  step_says (TakeOut w most) = grind (arith, by_test)
+  step_says (Got w v) = grind (arith, by_test, faults)
   step_says (End w) = end_says w (is_ended s.mode w log)
 
   abbrev first : LogEntry → List LogEntry → LogEntry

@@ -1,10 +1,9 @@
 -- The first of the prefixes that one overlaps.
-use Rattle.std.proofs.Common.{◌≡◌, ℕ, List, [], ◌∷◌, ◌++◌, Bool, true, false, cond, Option, Some}
-use Rattle.std.proofs.Common.{None, refl, ap, ◌∙◌, sym, append_assoc, take, drop, get_or, length}
-use Rattle.std.proofs.Common.{◌+◌, ◌<◌, add-one}
+use Rattle.std.proofs.Common.{arith, ◌≡◌, ℕ, List, [], ◌∷◌, ◌++◌, Bool, true, false, cond, Option}
+use Rattle.std.proofs.Common.{Some, None, refl, ap, ◌∙◌, sym, append_assoc, take, drop, get_or}
+use Rattle.std.proofs.Common.{length, ◌+◌, ◌<◌, add-one}
 use Rattle.std.proofs.Math.Seq.{drop-cons, take-suc}
 use Rattle.std.specs.Prelude.{is_some, option_map}
-use Prim.Native.Nat.{suc}
 use Rattle.std.specs.List.{find}
 use Rattle.std.specs.Option.{option_or}
 use Rattle.track_modes.specs.PrefixLists.{do_overlap, overlapped}
@@ -28,18 +27,7 @@ pub overlap_step : (held new : List (List ℕ)) (n : ℕ) (p : List ℕ) → n <
     ≡ option_or (option_or (find (do_overlap p) held) (find (do_overlap p) (take n new)))
     (overlapped (held ++ take (n + 1) new) (drop (n + 1) new))
 overlap_step held new n p lt is =
-    ap (overlapped (held ++ take n new))
-    (drop-cons new n p lt ∙ ap (λ q. q ∷ drop (suc n) new) (sym is))
-    ∙ ap (λ f. option_or f (overlapped ((held ++ take n new) ++ p ∷ []) (drop (suc n) new)))
-    (find-append (do_overlap p) held (take n new))
-    ∙ ap (λ l. option_or
-    (option_or (find (do_overlap p) held) (find (do_overlap p) (take n new)))
-    (overlapped l (drop (suc n) new)))
-    (append_assoc held (take n new) (p ∷ [])
-    ∙ ap (λ l. held ++ l) (ap (λ q. take n new ++ q ∷ []) is ∙ sym (take-suc new n p lt)))
-    ∙ ap (λ k. option_or
-    (option_or (find (do_overlap p) held) (find (do_overlap p) (take n new)))
-    (overlapped (held ++ take k new) (drop k new))) (sym (add-one n))
+    grind (arith, drop-cons, find-append, append_assoc, take-suc, add-one)
 
 -- it is found among those in force, among those before it, or not at all
 module _ {X Y : Type 0} (f : X → Y) where

@@ -1,6 +1,5 @@
 -- Where a prefix goes among prefixes in byte order.
-use Rattle.std.proofs.Common.{◌≡◌, ◌<◌, ℕ, List, [], ◌∷◌, Bool, true, false, cond}
-use Rattle.std.proofs.Common.{length, get_or}
+use Rattle.std.proofs.Common.{◌≡◌, ◌<◌, ℕ, List, [], ◌∷◌, Bool, true, false, cond, length, get_or}
 use Rattle.std.proofs.Common.{refl, ap, ◌∙◌, arith}
 use Rattle.std.specs.Prelude.{insert}
 use Prim.Native.Nat.{zero, suc}
@@ -17,9 +16,7 @@ pub with_same : (p : List ℕ) (qs : List (List ℕ)) (n : ℕ) → IsPlaceFor p
     → is_before p (get_or qs n []) ≡ false
     → with_prefix p qs ≡ qs
 with_same p [] n at lt is = absurd (omega arith)
-with_same p (q ∷ qs) zero at lt is =
-    ap (λ b. cond b (q ∷ with_prefix p qs) (cond (is_before p q) (p ∷ q ∷ qs) (q ∷ qs))) (at.2 lt)
-    ∙ ap (λ b. cond b (p ∷ q ∷ qs) (q ∷ qs)) is
+with_same p (q ∷ qs) zero at lt is = grind arith
 with_same p (q ∷ qs) (suc n) at lt is =
     later p q qs (at.1 0 (omega arith))
     ∙ ap (λ l. q ∷ l) (with_same p qs n (
@@ -34,10 +31,7 @@ pub with_new : (p : List ℕ) (qs : List (List ℕ)) (n : ℕ) → IsPlaceFor p 
     → with_prefix p qs ≡ insert qs n p
 with_new p [] zero at new = refl
 with_new p [] (suc n) at new = absurd (omega arith)
-with_new p (q ∷ qs) zero at new =
-    ap (λ b. cond b (q ∷ with_prefix p qs) (cond (is_before p q) (p ∷ q ∷ qs) (q ∷ qs)))
-    (at.2 (omega arith))
-    ∙ ap (λ b. cond b (p ∷ q ∷ qs) (q ∷ qs)) (new (omega arith))
+with_new p (q ∷ qs) zero at new = grind arith
 with_new p (q ∷ qs) (suc n) at new =
     later p q qs (at.1 0 (omega arith))
     ∙ ap (λ l. q ∷ l) (with_new p qs n (

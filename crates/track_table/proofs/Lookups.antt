@@ -1,6 +1,5 @@
 -- The table at the first row with a key.
-use Rattle.std.proofs.Common.{◌≡◌, ◌<◌, ℕ, List, [], ◌∷◌, ◌++◌, true, cond}
-use Rattle.std.proofs.Common.{length, get_or, set}
+use Rattle.std.proofs.Common.{◌≡◌, ◌<◌, ℕ, List, [], ◌∷◌, ◌++◌, true, cond, length, get_or, set}
 use Rattle.std.proofs.Common.{refl, ap, ◌∙◌, arith}
 use Prim.Native.Nat.{zero, suc}
 use Rattle.std.specs.Str.{bytes_eq}

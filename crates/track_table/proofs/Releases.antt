@@ -26,9 +26,7 @@ module _ (id : ℕ) (key : List ℕ) where
       → NoneBefore key rs n → is_held (freed_of id (get_or rs n nobody)) ≡ true
       → released id key rs ≡ set rs n (freed_of id (get_or rs n nobody))
   released_kept [] n lt is before held = absurd (omega arith)
-  released_kept (r ∷ rs) zero lt is before held =
-      ap (λ b. cond b (left r rs) (r ∷ released id key rs)) is
-      ∙ ap (λ b. cond b (freed_of id r ∷ rs) rs) held
+  released_kept (r ∷ rs) zero lt is before held = grind (arith, left)
   released_kept (r ∷ rs) (suc n) lt is before held =
       ap (λ b. cond b (left r rs) (r ∷ released id key rs)) (before 0 (omega arith))
       ∙ ap (λ l. r ∷ l) (released_kept rs n (omega arith) is
@@ -80,47 +78,31 @@ without_same id (h ∷ hs) none =
     ap (λ b. cond (not b) (h ∷ without_id id hs) (without_id id hs)) p.0
     ∙ ap (λ l. h ∷ l) (without_same id hs p.1)
 
-own_goes : (id : ℕ) (hs : List ℕ) → without_id id (id ∷ hs) ≡ without_id id hs
-own_goes id hs = grind (arith, eq-eqb)
-
 without_with : (id : ℕ) (hs : List ℕ) → list_any (λ h. h == id) hs ≡ false
     → without_id id (with_id id hs) ≡ hs
-without_with id [] none = own_goes id []
+without_with id [] none = grind (arith, eq-eqb)
 without_with id (h ∷ hs) none =
     let p = or_parts (h == id) (list_any (λ x. x == id) hs) none in
     let rest = without_id id (with_id id hs) in
     elim (nat_lt h id) as (λ b. without_id id
     (cond b (h ∷ with_id id hs) (cond (h == id) (h ∷ hs) (id ∷ h ∷ hs))) ≡ h ∷ hs) [
       | true ↦ ap (λ b. cond (not b) (h ∷ rest) rest) p.0 ∙ ap (λ l. h ∷ l) (without_with id hs p.1)
-      | false ↦ ap (λ b. without_id id (cond b (h ∷ hs) (id ∷ h ∷ hs))) p.0
-          ∙ own_goes id (h ∷ hs) ∙ without_same id (h ∷ hs) none
+      | false ↦ grind (arith, without_same, eq-eqb)
     ]
 
 itself : (key : List ℕ) → bytes_eq key key ≡ true
 itself key = (bytes_eq-Decides key key).1 refl
 
-still_held : (r : Held) → 0 < length r.holders → is_held r ≡ true
-still_held r some = grind (arith, nat_tests)
-
 pub released_remembered : (id : ℕ) (key : List ℕ) (rs : List Held) → AreHeld rs
     → list_any (λ h. h == id) (holders_of key rs) ≡ false
     → released id key (remembered id key rs) ≡ rs
-released_remembered id key [] held none =
-    let new : Held = record { key = key; holders = id ∷ [] } in
-    ap (λ b. cond b (left id key new []) (new ∷ [])) (itself key)
-    ∙ ap (λ hs. cond (is_held (record { key = key; holders = hs }))
-    (record { key = key; holders = hs } ∷ []) []) (own_goes id [])
+released_remembered id key [] held none = grind (arith, left, itself, eq-eqb)
 released_remembered id key (r ∷ rs) held none =
     elim (bytes_eq key r.key) as (λ b. bytes_eq key r.key ≡ b
     → list_any (λ h. h == id) (cond b r.holders (holders_of key rs)) ≡ false
     → released id key (cond b (record r { holders = with_id id r.holders } ∷ rs)
     (r ∷ remembered id key rs)) ≡ r ∷ rs) [
-      | true ↦ λ e f.
-          let more : Held = record r { holders = with_id id r.holders } in
-          ap (λ b. cond b (left id key more rs) (more ∷ released id key rs)) e
-          ∙ ap (λ hs. cond (is_held (record r { holders = hs })) (record r { holders = hs } ∷ rs)
-          rs) (without_with id r.holders f)
-          ∙ ap (λ b. cond b (r ∷ rs) rs) (still_held r held.0)
+      | true ↦ grind (arith, left, without_with, nat_tests)
       | false ↦ λ e f.
           let rest = remembered id key rs in
           ap (λ b. cond b (left id key r rest) (r ∷ released id key rest)) e
@@ -145,15 +127,7 @@ with_held id n (h ∷ hs) a some =
           let other : (h == id) ≡ false = grind (arith, nat_tests) in
           ap (λ l. h ∷ l) (with_held id (h + 1) hs a.1
           (sym (ap (λ b. b || list_any (λ x. x == id) hs) other) ∙ some))
-      | false ↦ λ e. elim (h == id) as (λ b. (h == id) ≡ b
-          → cond b (h ∷ hs) (id ∷ h ∷ hs) ≡ h ∷ hs) [
-            | true ↦ λ f. refl
-            | false ↦ λ f.
-                let below : id < h + 1 = grind (arith, nat_tests) in
-                let none : list_any (λ x. x == id) (h ∷ hs) ≡ false =
-                ap (λ b. b || list_any (λ x. x == id) hs) f ∙ none_above id (h + 1) hs a.1 below in
-                absurd (let no : ⊥ = cc in no)
-          ] refl
+      | false ↦ grind (arith, nat_tests, none_above)
     ] refl
 
 pub remembered_held : (id : ℕ) (key : List ℕ) (rs : List Held) → AreOrdered rs

@@ -2,16 +2,15 @@
 use Rattle.std.proofs.Common.{◌≡◌, ◌≢◌, ℕ, zero, suc, ◌+◌, ◌<◌, ◌≤◌, inl, inr, eqb, List, [], ◌∷◌}
 use Rattle.std.proofs.Common.{length, get_or, set, sym, refl, ap, ◌∙◌, subst, arith, ⊎_elim}
 use Rattle.std.proofs.Common.{length-set, get_or-set_same, get_or-set_other}
-use Rattle.std.specs.Prelude.{Option, Some, None}
+use Rattle.std.specs.Prelude.{Option, Some}
 use Rattle.std.proofs.lemmas.Option.{same_Some}
 use mathlib.Core.Option.{some, none, some-injective, some-ne-none}
 use mathlib.Core.Logic.{dite}
 use native.Mathlib.Decide.{ℕ_discrete}
 use lib.ListN.{get_elem?}
 use prog.Atomic.{either}
-use Rattle.atomic_table.specs.Table.{State, Me, step, stepped, keeps, takes, gives, put_back, rest}
-use Rattle.atomic_table.specs.Table.{Valid, Allows, Splits, Joins, Final, Seen, carried_after}
-use Rattle.atomic_table.specs.Table.{opening}
+use Rattle.atomic_table.specs.Table.{State, Me, step, stepped, keeps, takes, gives, Valid}
+use Rattle.atomic_table.specs.Table.{Allows, Splits, Joins, Final, Seen, carried_after, opening}
 use Rattle.atomic_table.proofs.Lists.{set_here, set_else, set_again, exchanged, at_longer}
 use Rattle.turn_lock.specs.declared.rule.View.{View}
 use Rattle.turn_lock.specs.declared.rule.Stage.{Stage}
@@ -20,7 +19,7 @@ use Rattle.turn_lock.specs.declared.rule.TheConstants.{ALL_PARTS}
 use Rattle.turn_lock.specs.Counts.{times}
 use Rattle.turn_lock.specs.History.{entries, past_after, history_after, Legal, made_by}
 use Rattle.turn_lock.specs.Seats.{IsSoundView}
-use Rattle.turn_lock.specs.Rule.{HasTicket, tickets_of, next_stage, Live, Seated, newcomer, kept_of}
+use Rattle.turn_lock.specs.Rule.{HasTicket, tickets_of, Live, Seated, newcomer, kept_of}
 use Rattle.turn_lock.specs.Rule.{given_of, both_of, spent_view, waiting_view, serving_view}
 use Rattle.turn_lock.specs.Rule.{view_after, Roster, Queue, IsOut, AtHome, LockRule, looked_at}
 use Rattle.turn_lock.specs.Rule.{drew, entered, HasPlayed, left_by, begun, learned}
@@ -37,24 +36,8 @@ set_again_or [] i = refl
 set_again_or (x ∷ xs) zero = refl
 set_again_or (x ∷ xs) (suc i) = ap (λ ys. x ∷ ys) (set_again_or xs i)
 
-abbrev pub slot_of : {S : Type 0} → List (ℕ × Option S) → Option S
-slot_of [] = None
-slot_of (x ∷ xs) = x.1
-
--- the slot that was held is held again, with another value
-pub held_again : {X V : Type 0} (m m' m'' : V × List (ℕ × X)) (x a b : X) → m.1 ≡ (0, x) ∷ []
-    → m' ≡ (m.0, (0, a) ∷ rest m.1) → m'' ≡ (m'.0, (0, b) ∷ rest m'.1) → m'' ≡ (m.0, (0, b) ∷ [])
-held_again m m' m'' e a b held one two = grind arith
-
-entries-after : {E : Type 0} (n : ℕ) (h : List (ℕ × E)) (e : Option E)
-    → past_after (entries h) e ≡ entries (history_after n h e)
-entries-after n h e = grind arith
-
 seated_at : (s t : Stage) → s ≡ t → Seated t → Seated s
 seated_at s t e h = subst Seated (sym e) h
-
-next_seated : (t more : ℕ) → Seated (next_stage t more)
-next_seated t more = grind arith
 
 module _ {S U E C R : Type 0} (setup : S → U) (stands : S → List E → Type 0)
     (step_of : U → List E → C → R → Option E → Type 0) (about : U) where
@@ -66,11 +49,7 @@ module _ {S U E C R : Type 0} (setup : S → U) (stands : S → List E → Type 
       → get_elem? s.views id ≡ some v → Seated v.stage → IsSoundView step_of v
   sound_of s k id v at seated =
       let f = k.roster.fits id v at in (
-        (
-          about,
-          f.about (live_of v.stage seated),
-          legal_begins step_of about v.seen k.history f.begins k.legal,
-        ),
+        grind (arith, live_of, legal_begins),
         f.owned,
         (λ n. let t = total_at (λ (u : View U E). times n u.numbers) s.views id v at in
             let o = k.roster.once n in omega arith),
@@ -160,11 +139,7 @@ module _ {S U E C R : Type 0} (setup : S → U) (stands : S → List E → Type 
             (queue_draw n (get_or s.words 1 0) more new k.history s.views id me.0 w k.queue at
             idle refl refl (omega arith))
             (λ t o. let bad : Idle ≡ Out t = sym idle ∙ o in absurd cc),
-        (
-          seen,
-          (λ _ m sum'. ap (λ (z : ℕ). (waiting_view me.0 n z, me.1)) (same_more more m sum sum')),
-          (λ miss. absurd (miss hit)),
-        ),
+        grind arith,
       ))
       (λ miss. (
         record me.0 { tickets = n },
@@ -190,23 +165,7 @@ module _ {S U E C R : Type 0} (setup : S → U) (stands : S → List E → Type 
       let second = get_or-set_other s.words 2 1 n 0 (λ e. omega arith) in
       let same : set s.views id me.0 ≡ s.views = set_again s.views id me.0 at in
       let kept : Rule record { words = set s.words 2 n; homes = s.homes; views = s.views }
-      = record {
-        history = k.history;
-        legal = k.legal;
-        wide = length-set s.words 2 n ∙ k.wide;
-        slot = k.slot;
-        roster = rw first k.roster;
-        queue = rw (first, second) k.queue;
-        place = ⊎_elim (λ home. inl home)
-            (λ o. inr (subst (λ z. IsOut z s.views) (sym second) o)) k.place;
-      } in (
-        me.0,
-        keeps,
-        tt,
-        subst (λ z. Rule record { words = set s.words 2 n; homes = s.homes; views = z })
-            (sym same) kept,
-        refl,
-      )
+      = grind (arith, length-set, ⊎_elim) in grind (arith, Rule, set)
 
   -- the state goes out with the seat whose ticket is served
   goes_out : (s : State (Option S) (View U E)) (k : Rule s) (id : ℕ) (v : View U E)
@@ -256,37 +215,20 @@ module _ {S U E C R : Type 0} (setup : S → U) (stands : S → List E → Type 
         takes 0 (Some home.0),
         home.1,
         goes_out s k id me.0 at (waits ∙ ap Waits (sym hit)),
-        (λ t' is. (
-          (λ e. (
-            home.0,
-            k.history,
-            ap (λ z. (serving_view me.0 z k.history, (0, Some home.0) ∷ me.1)) e,
-            f.begins,
-            f.about (live_of me.0.stage seated) ∙ ap Some (sym home.2),
-            home.3,
-          )),
-          (λ ne. let same : t ≡ t' = ap number_of (sym waits ∙ is) in absurd (ne (hit ∙ same))),
-        )),
+        grind (arith, live_of, number_of),
       ))
       (λ (out : IsOut n s.views). let mine : HasTicket me.0.stage me.0.more n =
       subst (λ z. HasTicket z me.0.more n) (sym waits) ((omega arith), (omega arith)) in
       let its : HasTicket out.1.stage out.1.more n
       = subst (λ z. HasTicket z out.1.more n) (sym out.3) ((omega arith), (omega arith)) in
-      let who = k.queue.apart out.0 id out.1 me.0 n out.2 at its mine in
-      let same : out.1 ≡ me.0 = same_at s.views out.0 id out.1 me.0 who out.2 at in
-      let bad : Out n ≡ Waits t
-      = sym out.3 ∙ (ap (λ (z : View U E). z.stage) same ∙ waits) in absurd cc)
+      grind (arith, same_at))
       k.place)
       (λ miss. (
         me.0,
         keeps,
         tt,
         rests s k 1 id me.0 at,
-        (λ t' is. (
-          (λ e. let same : t ≡ t' = ap number_of (sym waits ∙ is) in
-              absurd (miss (e ∙ sym same))),
-          (λ ne. refl),
-        )),
+        grind (arith, number_of),
       ))
 
   -- the turn ends: the state is home, and the next is served
@@ -313,8 +255,7 @@ module _ {S U E C R : Type 0} (setup : S → U) (stands : S → List E → Type 
       let roster : Roster about drawn v.seen s.views
       = subst (λ h. Roster about drawn h s.views) (sym was.1) k.roster in
       let queue : Queue drawn t v.seen s.views
-      = subst (λ (z : ℕ × List (ℕ × E)). Queue drawn z.0 z.1 s.views)
-      (λ i. (sym was.0 i, sym was.1 i)) k.queue in
+      = grind arith in
       let legal : Legal step_of about v.seen
       = subst (λ h. Legal step_of about h) (sym was.1) k.legal in
       record {
@@ -324,17 +265,12 @@ module _ {S U E C R : Type 0} (setup : S → U) (stands : S → List E → Type 
         slot = length-set s.homes 0 (some (Some y)) ∙ k.slot;
         roster = rw first
             (roster_entry about drawn e v.seen s.views id v w roster at seated refl refl refl refl
-            (next_seated (t + 1) v.more)
+            (grind arith)
             (fits_entry about drawn (t + 1) v.seen e v (roster.fits id v at) seated refl) refl);
         queue = rw (first, second)
             (queue_leave drawn t v.seen
             (history_after v.number v.seen e) s.views id v w queue at out refl refl);
-        place = inl (
-          y,
-          set_here s.homes 0 (some (Some y)) (omega arith),
-          its,
-          subst (stands y) (entries-after v.number v.seen e) st,
-        );
+        place = grind (arith, set_here);
       }
 
   pub leaves : (by : U → List E → Option E → Type 0) (slots id t : ℕ)
@@ -355,16 +291,14 @@ module _ {S U E C R : Type 0} (setup : S → U) (stands : S → List E → Type 
         w,
         gives,
         tt,
-        subst (λ z. Rule record
-            { words = set s.words 1 (t + 1); homes = put_back s.homes z; views = set s.views id w })
-            (sym held) home,
+        grind (arith, Rule, set),
         (
           setup y,
           e,
           has,
           fact,
           refl,
-          sound_of _ home id w (set_there s.views id w me.0 at) (next_seated (t + 1) me.0.more),
+          sound_of _ home id w (set_there s.views id w me.0 at) (grind arith),
         ),
       )
 
@@ -404,8 +338,7 @@ module _ {S U E C R : Type 0} (setup : S → U) (stands : S → List E → Type 
           refl,
           (λ idle. (
             f.less,
-            (let t = total_at (λ (u : View U E). u.shares) s.views id me.0 at in
-                let p = k.roster.shares in omega arith),
+            grind (arith, total_at),
             sound_of s k id me.0 at (seated_at me.0.stage Idle idle tt),
           )),
         ),
@@ -500,16 +433,14 @@ module _ {S U E C R : Type 0} (setup : S → U) (stands : S → List E → Type 
       let f = k.roster.fits id v at in
       let seated = seated_at v.stage Idle idle tt in
       let none_left : (j : ℕ) (u : View U E) → j ≢ id → get_elem? s.views j ≡ some u → u.shares ≡ 0
-      = λ j u ne e. let t = total_two (λ (z : View U E). z.shares) s.views j id u v ne e at in
-      let p = k.roster.shares in omega arith in
+      = grind (arith, total_two) in
       let spent : (j : ℕ) (u : View U E) → get_elem? s.views j ≡ some u → Live u.stage → j ≡ id
       = λ j u e live. dite (ℕ_discrete j id) (λ is. is)
       (λ ne. let z = none_left j u ne e in let one = (k.roster.fits j u e).share live in
       absurd (omega arith)) in
       let w = k.roster.whole in
       let all : v.seen ≡ k.history
-      = ap (λ (z : View U E). z.seen)
-      (same_at s.views id w.0 v w.1 (sym (spent w.0 w.1 w.2 w.3)) at w.2) ∙ w.4 in
+      = grind (arith, same_at) in
       let turns : get_or s.words 0 0 ≡ v.turns
       = sym k.roster.turns
       ∙ total_alone (λ (u : View U E). u.turns) s.views id v at
@@ -528,28 +459,7 @@ module _ {S U E C R : Type 0} (setup : S → U) (stands : S → List E → Type 
       let shared : length v.own ≡ length k.history
       = sym (total_alone (λ (u : View U E). length u.own) s.views id v at
       (λ j u ne e. ap length ((k.roster.fits j u e).gone (none_left j u ne e)).1))
-      ∙ k.roster.owned in (
-        ⊎_elim
-            (λ (home : AtHome setup stands step_of about k.history s.homes). (
-              home.0,
-              same 0 (Some home.0) home.1,
-              f.about (live_of v.stage seated) ∙ ap Some (sym home.2),
-              subst (λ h. stands home.0 (entries h)) (sym all) home.3,
-            ))
-            (λ (out : IsOut (get_or s.words 1 0) s.views).
-            let who = spent out.0 out.1 out.2 (subst Live (sym out.3) tt) in
-            let bad : Out (get_or s.words 1 0) ≡ Idle
-            = sym out.3 ∙ (ap (λ (z : View U E). z.stage)
-            (same_at s.views out.0 id out.1 v who out.2 at) ∙ idle) in absurd cc)
-            k.place,
-        subst (λ (z : List ℕ). (v.tickets ≤ get_or z 0 0) × (get_or z 0 0 ≡ v.turns)) words
-            (f.looked, turns),
-        (
-          subst (λ h. (p : ℕ) → p < length h → times p v.own ≡ 1) (sym all) covered,
-          shared
-              ∙ ap length (sym all),
-        ),
-      )
+      ∙ k.roster.owned in grind (arith, ⊎_elim, live_of, get_or, same_at)
 
 -- what the turn did, said of the seat that has the state
 pub turn_done : {S U E C R : Type 0} (setup : S → U) (stands : S → List E → Type 0)

@@ -1,5 +1,5 @@
 -- The steps keep what is true of the tickets.
-use Rattle.std.proofs.Common.{◌≡◌, ◌≢◌, ℕ, ◌+◌, ◌<◌, ◌≤◌, ◌⊎◌, inl, inr, List, [], ◌∷◌, ◌++◌, set}
+use Rattle.std.proofs.Common.{◌≡◌, ◌≢◌, ℕ, ◌+◌, ◌<◌, ◌≤◌, ◌⊎◌, inl, List, [], ◌∷◌, ◌++◌, set}
 use Rattle.std.proofs.Common.{sym, ap, ◌∙◌, subst, arith, ⊎_elim}
 use mathlib.Core.Option.{some}
 use mathlib.Core.Logic.{dite}
@@ -23,12 +23,6 @@ number_of Spent = 0
 has_next : (s more t : ℕ) → HasTicket (next_stage (s + 1) more) (one_less more) t
     → (s + 1 ≤ t) × (t ≤ s + more)
 has_next s more t h = grind arith
-
-count_next : (s more : ℕ) → tickets_of (next_stage s more) (one_less more) ≡ more
-count_next s more = grind arith
-
-next_not_out : (s more t : ℕ) → next_stage s more ≡ Out t → ⊥
-next_not_out s more t e = grind arith
 
 module _ {U E : Type 0} where
   -- the ticket of the view that changes is one that it had, or one that no other has
@@ -69,22 +63,12 @@ module _ {U E : Type 0} where
       let has : (t : ℕ) → HasTicket w.stage w.more t → (drawn ≤ t) × (t ≤ drawn + more)
       = λ t hw. subst (λ (z : Stage × ℕ). HasTicket z.0 z.1 t) (λ i. (waits i, behind i)) hw in
       record {
-        counted = let s = total_set (λ (u : View U E). tickets_of u.stage u.more) vs id v w at in
-            let c = q.counted in
-            let a : tickets_of w.stage w.more ≡ more + 1
-            = (λ i. tickets_of (waits i) (behind i)) in
-            let b : tickets_of v.stage v.more ≡ 0 = ap (λ z. tickets_of z v.more) idle in
-            omega arith;
+        counted = grind (arith, total_set);
         between = λ j u t e. each_set
             (λ j u. HasTicket u.stage u.more t → (served ≤ t) × (t < drawn')) vs id w
-            (λ hw. let is = has t hw in let low = is.0 in let high = is.1 in
-            let c = q.counted in ((omega arith), (omega arith)))
-            (λ j u ne e hu. let old = q.between j u t e hu in
-            (old.0, (let o = old.1 in omega arith))) j u e;
-        apart = apart_set vs id v w at q.apart
-            (λ t hw. inr
-            (λ j u e hu. let is = (has t hw).0 in let o = (q.between j u t e hu).1 in
-            omega arith));
+            (grind arith)
+            (grind arith) j u e;
+        apart = grind (arith, apart_set);
         outs = λ j u t e. each_set (λ j u. u.stage ≡ Out t → (t ≡ served) × (u.seen ≡ h)) vs id w
             (λ is. let bad : Waits drawn ≡ Out t = sym waits ∙ is in absurd cc)
             (λ j u ne e. q.outs j u t e) j u e;
@@ -101,29 +85,22 @@ module _ {U E : Type 0} where
       let mine : HasTicket v.stage v.more served = has served (omega arith) (omega arith) in
       let left : (t : ℕ) → HasTicket w.stage w.more t
       → (served + 1 ≤ t) × (t ≤ served + v.more)
-      = λ t hw. has_next served v.more t
-      (subst (λ (z : Stage × ℕ). HasTicket z.0 z.1 t) (λ i. (next i, less i)) hw) in
+      = grind (arith, has_next) in
       let old_one : (t : ℕ) → HasTicket w.stage w.more t → HasTicket v.stage v.more t
       = λ t hw. let is = left t hw in let low = is.0 in has t (omega arith) is.1 in
       record {
-        counted = let s = total_set (λ (u : View U E). tickets_of u.stage u.more) vs id v w at in
-            let c = q.counted in
-            let a : tickets_of w.stage w.more ≡ v.more
-            = (λ i. tickets_of (next i) (less i)) ∙ count_next (served + 1) v.more in
-            let b : tickets_of v.stage v.more ≡ v.more + 1
-            = ap (λ z. tickets_of z v.more) out in omega arith;
+        counted = grind (arith, total_set);
         between = λ j u t e. each_set
             (λ j u. HasTicket u.stage u.more t → (served + 1 ≤ t) × (t < drawn)) vs id w
             (λ hw. ((left t hw).0, (q.between id v t at (old_one t hw)).1))
             (λ j u ne e hu. let old = q.between j u t e hu in
             let other : served ≢ t
-            = λ same. ne
-            (q.apart j id u v t e at hu (subst (λ z. HasTicket v.stage v.more z) same mine)) in
+            = grind arith in
             ((let a = old.0 in omega arith), old.1)) j u e;
         apart = apart_set vs id v w at q.apart (λ t hw. inl (old_one t hw));
         outs = λ j u t e. each_set
             (λ j u. u.stage ≡ Out t → (t ≡ served + 1) × (u.seen ≡ h')) vs id w
-            (λ is. absurd (next_not_out (served + 1) v.more t (sym next ∙ is)))
+            (λ is. absurd (grind arith))
             (λ j u ne e is. let old = q.outs j u t e is in let same = old.0 in
             absurd (ne (q.apart j id u v served e at
             (subst (λ z. HasTicket z u.more served) (sym is) ((omega arith), (omega arith)))

@@ -1,6 +1,6 @@
 -- The steps keep what is true of the seats' numbers, shares and turns, and of what they have seen.
-use Rattle.std.proofs.Common.{◌≡◌, ◌≢◌, ℕ, zero, suc, ◌+◌, ◌<◌, ◌≤◌, ◌⊎◌, inl, inr, List, [], ◌∷◌}
-use Rattle.std.proofs.Common.{◌++◌, length, set, sym, refl, ap, ◌∙◌, subst, arith, ⊎_elim}
+use Rattle.std.proofs.Common.{eq-eqb, ◌≡◌, ◌≢◌, ℕ, zero, suc, ◌+◌, ◌<◌, ◌≤◌, ◌⊎◌, inl, inr, List}
+use Rattle.std.proofs.Common.{[], ◌∷◌, ◌++◌, length, set, sym, refl, ap, ◌∙◌, subst, arith, ⊎_elim}
 use Rattle.std.proofs.Common.{length-set, length-append}
 use Rattle.std.specs.Prelude.{Option, Some, None}
 use mathlib.Core.Option.{some, some-injective, some-ne-none}
@@ -19,10 +19,9 @@ use Rattle.turn_lock.specs.Rule.{Live, Seated, newcomer, kept_of, given_of, both
 use Rattle.turn_lock.specs.Rule.{view_after, ViewRule, Unused, Roster}
 use Rattle.turn_lock.proofs.Counting.{total_set, total_snoc, total_at, total_two, total_same}
 use Rattle.turn_lock.proofs.Counting.{total_le, times-append, times_other, times_self, made_by-nil}
-use Rattle.turn_lock.proofs.Counting.{made_by-append, made_by_last, made_by_less, made_by-begins}
-use Rattle.turn_lock.proofs.Counting.{made_by_another, owns_one_more, owns-append, owns_between}
-use Rattle.turn_lock.proofs.Counting.{begins_after, shorter_begins, longer_begins, begin_longer}
-use Rattle.turn_lock.proofs.Counting.{longer_whole, longer_whole_right}
+use Rattle.turn_lock.proofs.Counting.{made_by-append, made_by-begins, made_by_another}
+use Rattle.turn_lock.proofs.Counting.{owns_one_more, owns-append, begins_after, shorter_begins}
+use Rattle.turn_lock.proofs.Counting.{longer_begins, begin_longer, longer_whole, longer_whole_right}
 
 pub live_of : (s : Stage) → Seated s → Live s
 live_of s h = grind arith
@@ -146,28 +145,22 @@ module _ {U E : Type 0} (setup : U) where
       let named : (n : ℕ)
       → total (λ (u : View U E). times n u.numbers) (set vs id w) ≡ total
       (λ (u : View U E). times n u.numbers) vs
-      = λ n. let s = total_set (λ (u : View U E). times n u.numbers) vs id v w at in
-      let same : times n w.numbers ≡ times n v.numbers = ap (times n) numbers in omega arith in
+      = grind (arith, total_set) in
       let unused : (n : ℕ) → Unused n h vs → Unused n h (set vs id w)
       = λ n u. (named n ∙ u.0, u.1) in
       record {
         fits = each_set (λ j u. ViewRule setup drawn' h u) vs id w fw
             (λ j u ne e. fits_later drawn drawn' h u le (r.fits j u e));
-        shares = let s = total_set (λ (u : View U E). u.shares) vs id v w at in let p = r.shares in
-            omega arith;
-        turns = let s = total_set (λ (u : View U E). u.turns) vs id v w at in let t' = r.turns in
-            omega arith;
+        shares = grind (arith, total_set);
+        turns = grind (arith, total_set);
         once = λ n. let o = r.once n in let s = named n in omega arith;
         unused = λ n out. unused n
-            (r.unused n (let l : length (set vs id w) ≡ length vs = length-set vs id w in
-            omega arith));
+            (r.unused n (grind (arith, set, length-set)));
         unnamed = each_set
             (λ j u. u.stage ≡ New → Unused j h (set vs id w) × (times j u.others ≡ 0)
             × (u.numbers ≡ [])) vs id w (λ is. absurd (not_new w.stage seated is))
             (λ j u ne e is. let old = r.unnamed j u e is in (unused j old.0, old.1, old.2));
-        covered = λ p some. subst (λ t. 1 ≤ t)
-            (sym (total_same (λ (u : View U E). made_by u.numbers h p) vs id v w at
-            (ap (λ ns. made_by ns h p) numbers))) (r.covered p some);
+        covered = grind (arith, total_same);
         owned = total_same (λ (u : View U E). length u.own) vs id v w at (ap length own) ∙ r.owned;
         whole = whole_set h vs id v w at (live_of w.stage seated) seen r.whole;
       }
@@ -182,29 +175,18 @@ module _ {U E : Type 0} (setup : U) where
       let f = λ (n : ℕ) (u : View U E). times n u.numbers in
       let one : times v.number v.numbers ≡ 1 = (r.fits id v at).named was in
       let named : (n : ℕ) → total (f n) (set vs id w) ≡ total (f n) vs
-      = λ n. let s = total_set (f n) vs id v w at in
-      let same : times n w.numbers ≡ times n v.numbers = ap (times n) numbers in omega arith in
+      = grind (arith, total_set) in
       let unused : (n : ℕ) → Unused n h vs → Unused n ((v.number, e) ∷ h) (set vs id w)
-      = λ n u.
-      let ne : v.number ≢ n
-      = λ is. (let t = total_at (f n) vs id v at in let z = u.0 in
-      let o : times n v.numbers ≡ 1 = subst (λ m. times m v.numbers ≡ 1) is one in omega arith) in (
-        named n ∙ u.0,
-        (λ p. made_by_another (n ∷ []) v.number e h p (times_other v.number n ne) ∙ u.1 p),
-      ) in
+      = grind (arith, total_at, made_by_another, times_other) in
       record {
         fits = each_set (λ j u. ViewRule setup drawn ((v.number, e) ∷ h) u) vs id w fw
             (λ j u ne at'. fits_grown drawn v.number e h u
-            (let t = total_two (f v.number) vs j id u v ne at' at in let o = r.once v.number in
-            omega arith) (r.fits j u at'));
-        shares = let s = total_set (λ (u : View U E). u.shares) vs id v w at in let p = r.shares in
-            omega arith;
-        turns = let s = total_set (λ (u : View U E). u.turns) vs id v w at in let t' = r.turns in
-            omega arith;
+            (let t = total_two (f v.number) vs j id u v ne at' at in grind arith) (r.fits j u at'));
+        shares = grind (arith, total_set);
+        turns = grind (arith, total_set);
         once = λ n. let o = r.once n in let s = named n in omega arith;
         unused = λ n out. unused n
-            (r.unused n (let l : length (set vs id w) ≡ length vs = length-set vs id w in
-            omega arith));
+            (r.unused n (grind (arith, set, length-set)));
         unnamed = each_set
             (λ j u. u.stage ≡ New → Unused j ((v.number, e) ∷ h) (set vs id w)
             × (times j u.others ≡ 0) × (u.numbers ≡ [])) vs id w
@@ -216,16 +198,10 @@ module _ {U E : Type 0} (setup : U) where
             subst (λ t. 1 ≤ t)
             (sym (total_same g vs id v w at (ap (λ ns. made_by ns more p) numbers)))
             (dite (ℕ_discrete p (length h))
-            (λ is. let last = made_by_last v.numbers v.number e h one in
-            let t = total_at g vs id v at in
-            let here : made_by v.numbers more p ≡ made_by v.numbers more (length h)
-            = ap (made_by v.numbers more) is in omega arith)
+            (grind (arith, total_at, eq-eqb))
             (λ ne. let old = r.covered p (omega arith) in
-            let le = total_le (λ (u : View U E). made_by u.numbers h p) g
-            (λ u. made_by_less u.numbers (v.number, e) h p) vs in omega arith));
-        owned = let s = total_set (λ (u : View U E). length u.own) vs id v w at in
-            let l = r.owned in let o : length w.own ≡ suc (length v.own) = ap length own in
-            omega arith;
+            grind (arith, total_le)));
+        owned = grind (arith, total_set);
         whole = (id, w, set_there vs id w v at, live_of w.stage seated, all);
       }
 
@@ -254,8 +230,7 @@ module _ {U E : Type 0} (setup : U) where
       let none : (p : ℕ) → times p v.own ≡ 0
       = λ p. fv.owns p ∙ (ap (λ ns. made_by ns h p) mine.2 ∙ made_by-nil h p) in
       let s : (n : ℕ) → total (f n) (set vs id w) + 0 ≡ total (f n) vs + times n (id ∷ [])
-      = λ n. subst (λ k. total (f n) (set vs id w) + k ≡ total (f n) vs + times n (id ∷ []))
-      (ap (times n) mine.2) (total_set (f n) vs id v w at) in
+      = grind (arith, set, total_set) in
       let unused : (n : ℕ) → n ≢ id → Unused n h vs → Unused n h (set vs id w)
       = λ n ne u. ((let t = s n in let z = times_other n id ne in let a = u.0 in omega arith), u.1)
       in
@@ -274,25 +249,16 @@ module _ {U E : Type 0} (setup : U) where
               gone = λ z. absurd (let p = fv.share live in omega arith);
             }
             (λ j u ne e. r.fits j u e);
-        shares = let t = total_set (λ (u : View U E). u.shares) vs id v w at in let p = r.shares in
-            omega arith;
-        turns = let t = total_set (λ (u : View U E). u.turns) vs id v w at in let t' = r.turns in
-            omega arith;
-        once = λ n. dite (ℕ_discrete n id)
-            (λ is. let t = s id in let z = mine.0.0 in let o = times_self id in
-            subst (λ m. total (f m) (set vs id w) ≤ 1) (sym is) (omega arith))
-            (λ ne. let t = s n in let z = times_other n id ne in let o = r.once n in omega arith);
+        shares = grind (arith, total_set);
+        turns = grind (arith, total_set);
+        once = grind (arith, times_self, set, times_other);
         unused = λ n out. let l : length (set vs id w) ≡ length vs = length-set vs id w in
             let i = within vs id v at in unused n (λ is. omega arith) (r.unused n (omega arith));
         unnamed = each_set
             (λ j u. u.stage ≡ New → Unused j h (set vs id w) × (times j u.others ≡ 0)
             × (u.numbers ≡ [])) vs id w (λ is. absurd (not_new Idle tt is))
             (λ j u ne e is. let old = r.unnamed j u e is in (unused j ne old.0, old.1, old.2));
-        covered = λ p some. let t =
-            total_set (λ (u : View U E). made_by u.numbers h p) vs id v w at in
-            let old = r.covered p some in
-            let z : made_by v.numbers h p ≡ 0
-            = ap (λ ns. made_by ns h p) mine.2 ∙ made_by-nil h p in omega arith;
+        covered = grind (arith, total_set, made_by-nil);
         owned = total_same (λ (u : View U E). length u.own) vs id v w at refl ∙ r.owned;
         whole = whole_set h vs id v w at tt (λ e. e) r.whole;
       }
@@ -310,8 +276,7 @@ module _ {U E : Type 0} (setup : U) where
       let long : length (set vs id left ++ right ∷ []) ≡ length vs + 1
       = length-append (set vs id left) (right ∷ []) ∙ ap (λ k. k + 1) (length-set vs id left) in
       let named : (m : ℕ) → total (f m) (set vs id left ++ right ∷ []) ≡ total (f m) vs
-      = λ m. let a = total_snoc (f m) (set vs id left) right in
-      let s = total_set (f m) vs id v left at in omega arith in
+      = grind (arith, total_snoc, set, total_set) in
       let unused : (m : ℕ) → Unused m h vs → Unused m h (set vs id left ++ right ∷ [])
       = λ m u. (named m ∙ u.0, u.1) in
       let each : (P : ℕ → View U E → Type 0) → P id left → P (length vs) right
@@ -319,8 +284,7 @@ module _ {U E : Type 0} (setup : U) where
       → get_elem? (set vs id left ++ right ∷ []) j ≡ some u → P j u
       = λ P here last there j u e. ⊎_elim
       (λ old. each_set P vs id left here (λ j' u' ne e'. there j' u' e') j u old)
-      (λ new. subst (λ z. P z u) (sym (new.0 ∙ length-set vs id left))
-      (subst (P (length vs)) new.1 last)) (at_end (set vs id left) right u j e) in
+      (grind (arith, length-set)) (at_end (set vs id left) right u j e) in
       record {
         fits = each (λ j u. ViewRule setup drawn h u)
             record {
@@ -346,30 +310,18 @@ module _ {U E : Type 0} (setup : U) where
               gone = λ _. (refl, refl, refl);
             }
             r.fits;
-        shares = let a = total_snoc (λ (u : View U E). u.shares) (set vs id left) right in
-            let s = total_set (λ (u : View U E). u.shares) vs id v left at in let p = r.shares in
-            omega arith;
-        turns = let a = total_snoc (λ (u : View U E). u.turns) (set vs id left) right in
-            let s = total_set (λ (u : View U E). u.turns) vs id v left at in let t' = r.turns in
-            omega arith;
+        shares = grind (arith, total_snoc, set, total_set);
+        turns = grind (arith, total_snoc, set, total_set);
         once = λ m. let o = r.once m in let s = named m in omega arith;
         unused = λ m out. unused m (r.unused m (omega arith));
         unnamed = each
             (λ j u. u.stage ≡ New → Unused j h (set vs id left ++ right ∷ [])
             × (times j u.others ≡ 0) × (u.numbers ≡ []))
             (λ is. absurd (not_new v.stage seated is))
-            (λ _. let last = r.unused (length vs) (omega arith) in (
-              unused (length vs) last,
-              (let t = total_at (f (length vs)) vs id v at in let z = last.0 in omega arith),
-              refl,
-            ))
+            (grind (arith, total_at))
             (λ j u e is. let old = r.unnamed j u e is in (unused j old.0, old.1, old.2));
-        covered = λ p some. let g = λ (u : View U E). made_by u.numbers h p in
-            let a = total_snoc g (set vs id left) right in let s = total_set g vs id v left at in
-            let old = r.covered p some in omega arith;
-        owned = let g = λ (u : View U E). length u.own in
-            let a = total_snoc g (set vs id left) right in let s = total_set g vs id v left at in
-            let old = r.owned in omega arith;
+        covered = grind (arith, total_snoc, set, total_set);
+        owned = grind (arith, total_snoc, set, total_set);
         whole = let w = whole_set h vs id v left at live (λ e. e) r.whole in
             (w.0, w.1, at_longer (set vs id left) (right ∷ []) w.0 w.1 w.2, w.3, w.4);
       }
@@ -388,14 +340,11 @@ module _ {U E : Type 0} (setup : U) where
         less = shorter_begins v.seen w.seen h fv.begins fw.begins;
         owns = owns-append v.numbers w.numbers h v.own w.own fv.owns fw.owns;
         owned = owns-append v.numbers w.numbers (longer v.seen w.seen) v.own w.own
-            (owns_between v.numbers v.own v.seen
-            (longer v.seen w.seen) h pair.0 long fv.owned fv.owns)
-            (owns_between w.numbers w.own w.seen
-            (longer v.seen w.seen) h pair.1 long fw.owned fw.owns);
+            (grind (arith, made_by-begins))
+            (grind (arith, made_by-begins));
         about = λ _. fv.about live;
         share = λ _. let p = fv.share live in omega arith;
-        named = λ _. let a = times-append v.number v.numbers w.numbers in let o = fv.named seated in
-            omega arith;
+        named = grind (arith, times-append);
         gone = λ z. absurd (let p = fv.share live in omega arith);
       }
     where
@@ -422,8 +371,7 @@ module _ {U E : Type 0} (setup : U) where
       let f = λ (m : ℕ) (u : View U E). times m u.numbers in
       let at_mid : get_elem? mid other ≡ some w = set_else vs id other both apart ∙ at' in
       let moved : (g : View U E → ℕ) → total g all + (g w + g v) ≡ total g vs + (g both + g spent)
-      = λ g. let a = total_set g vs id v both at in let b = total_set g mid other w spent at_mid in
-      omega arith in
+      = grind (arith, total_set) in
       let named : (m : ℕ) → total (f m) all ≡ total (f m) vs
       = λ m. let t = moved (f m) in let a = times-append m v.numbers w.numbers in omega arith in
       let unused : (m : ℕ) → Unused m h vs → Unused m h all = λ m u. (named m ∙ u.0, u.1) in
@@ -444,19 +392,14 @@ module _ {U E : Type 0} (setup : U) where
         turns = let t = moved (λ (u : View U E). u.turns) in let t' = r.turns in omega arith;
         once = λ m. let o = r.once m in let s = named m in omega arith;
         unused = λ m out. unused m
-            (r.unused m (let a = length-set mid other spent in let b = length-set vs id both in
-            omega arith));
+            (r.unused m (grind (arith, length-set)));
         unnamed = each
             (λ j u. u.stage ≡ New → Unused j h all × (times j u.others ≡ 0) × (u.numbers ≡ []))
             (λ is. absurd (not_new v.stage seated is))
             (λ is. let bad : Spent ≡ New = is in absurd cc)
             (λ j u e is. let old = r.unnamed j u e is in (unused j old.0, old.1, old.2));
-        covered = λ p some. let t = moved (λ (u : View U E). made_by u.numbers h p) in
-            let a = made_by-append v.numbers w.numbers h p in let z = made_by-nil h p in
-            let old = r.covered p some in omega arith;
-        owned = let t = moved (λ (u : View U E). length u.own) in
-            let a : length (v.own ++ w.own) ≡ length v.own + length w.own
-            = length-append v.own w.own in let old = r.owned in omega arith;
+        covered = grind (arith, made_by-append, made_by-nil);
+        owned = grind (arith, length-append);
         whole = whole_join r.whole at_id;
       }
     where

@@ -8,7 +8,6 @@ use Rattle.atomic_table.specs.Seated.{TableId}
 use Rattle.turn_lock.specs.declared.rule.View.{View}
 use Rattle.turn_lock.specs.declared.rule.Stage.TheVariants.{Idle}
 use Rattle.turn_lock.specs.declared.rule.TheConstants.{LAST_TICKET}
-use Rattle.turn_lock.specs.History.{IsPrefix, history_after, own_after}
 use Rattle.turn_lock.specs.Seats.{Known, known, IsSameSeat, IsSoundView, Turned, TurnedAll}
 use Rattle.turn_lock.specs.Rule.{next_stage, one_less, waiting_view, serving_view, view_after}
 use Rattle.turn_lock.specs.Rule.{Enters, TurnEnds, IsReady, IsSameView}
@@ -20,27 +19,7 @@ module _ {U E C R : Type 0} (step : U → List E → C → R → Option E → Ty
       → Turned step call reply l after
       → TurnedAll step (calls ++ call ∷ []) (replies ++ reply ∷ []) k after
   turned_more [] [] call reply k l after (same, seen, own) same'
-      (u, h, e, has, begins, by, seen', own') = (
-        after,
-        (
-          same'.0 ∙ same.0,
-          same'.1 ∙ same.1,
-          same'.2 ∙ same.2,
-          same'.3 ∙ same.3,
-          same'.4 ∙ same.4,
-        ),
-        (
-          u,
-          h,
-          e,
-          sym same.1 ∙ has,
-          subst (λ z. IsPrefix z h) seen begins,
-          by,
-          seen' ∙ ap (λ n. history_after n h e) same.2,
-          own' ∙ ap (λ z. own_after z (length h) e) own,
-        ),
-        ((refl, refl, refl, refl, refl), refl, refl),
-      )
+      (u, h, e, has, begins, by, seen', own') = grind arith
   turned_more [] (r ∷ replies) call reply k l after bad same' turn = absurd bad
   turned_more (c ∷ calls) [] call reply k l after bad same' turn = absurd bad
   turned_more (c ∷ calls) (r ∷ replies) call reply k l after (next, same, one, rest) same' turn =
@@ -107,8 +86,7 @@ module _ {S U E C R : Type 0} (setup : S → U) (stands : S → List E → Type 
         let w : View U E = view_after (serving_view m.0 at h) (at + 1) e in
         subst (λ z. Turning start (at + 1) left rest (replies ++ reply ∷ []) z) (sym is') record {
           kept = k.kept;
-          ready = subst (λ z. IsReady w (at + 1) z) k.ready.1
-              (ready_next w (at + 1) m.0.more refl refl);
+          ready = grind (arith, ready_next);
           small = let s = k.small in omega arith;
           none_out = refl;
           sound = subst (λ (z : Me (Option S) (View U E)). IsSoundView step z.0) is' sound;
@@ -116,9 +94,7 @@ module _ {S U E C R : Type 0} (setup : S → U) (stands : S → List E → Type 
           long = let l = k.long in omega arith;
           over = k.over ++ call ∷ [];
           all = append_assoc k.over (call ∷ []) rest ∙ k.all;
-          turns = turned_more step k.over replies call reply (known lock start) (known lock m.0)
-              (known lock w) k.turns (refl, refl, refl, refl, refl)
-              (u, h, e, has, begins, by, refl, refl);
+          turns = grind (arith, turned_more);
         }
 
     pub turning_more : (at left left' : ℕ) (call : C) (rest rest' : List C)
@@ -131,8 +107,7 @@ module _ {S U E C R : Type 0} (setup : S → U) (stands : S → List E → Type 
         wait turn sound =
         let len' : left ≡ suc left' = omega arith in
         let k' : Turning start at (suc left') (call ∷ rest') replies m
-        = subst (λ (z : ℕ × List C). Turning start at z.0 z.1 replies m)
-        (λ i. (len' i, items i)) k in
+        = grind arith in
         subst (λ z. Turning start (at + 1) left' rest' z m'') (sym pushed)
         (turning_one at left' call rest' replies reply m m' m'' k' wait turn sound)
 

@@ -17,7 +17,7 @@ use Rattle.shared_cache.specs.ClientFields.{Client}
 use Rattle.shared_cache.specs.Held.{Setup, Words}
 use Rattle.shared_cache.specs.Laws.{gots}
 use Rattle.shared_cache.specs.Log.{is_ended}
-use Rattle.shared_cache.specs.Steps.{ClientTurn, MayRunOut, client_step, NeedsRoom}
+use Rattle.shared_cache.specs.Steps.{ClientTurn, MayRunOut, client_step}
 use Rattle.script_text.specs.declared.line.Line.{Line}
 use Rattle.server_links.specs.declared.fault.WorldFault.{WorldFault}
 use Rattle.server_links.specs.declared.fault.WorldFault.TheVariants as fault
@@ -109,8 +109,7 @@ unfolding client_step
 ends_always s log m =
     elim (is_ended s.mode Main log) as (λ b. cond b log (entry.End Main ∷ log) ≡ m.0 ∷ log → ⊥) [
       | true ↦ λ e. let n = ap length e in absurd (let no : ⊥ = omega (arith, n) in no)
-      | false ↦ λ e. let same : entry.End Main ≡ m.0 = cc in
-          subst NeedsRoom (sym same) m.1
+      | false ↦ grind arith
     ] m.2
 
 -- ---- faults of an answer
@@ -124,10 +123,6 @@ no_memory r e = grind (arith, not_memory)
 by_call : (s : Seat) (c : ClientCall) (r : ClientRefusal) (f : WorldFault)
     → refused_fault r ≡ Some f → lines_of s c (Refused r) ≡ []
 by_call s c r f e = grind arith
-
-no_lines : (s : Seat) (c : ClientCall) (reply : ClientReply) (f : WorldFault)
-    → fault_of reply ≡ Some f → lines_of s c reply ≡ []
-no_lines s c reply f e = grind (arith, by_call)
 
 pub stops_by : {S : Type 0} → (m : Outcome S) (f : WorldFault) (t : S) (lines : List Line)
     → (f ≡ fault.NoMemory → ⊥) → m.fault ≡ Some f → t ≡ m.state → m.lines ≡ []
@@ -223,7 +218,4 @@ module _ (s : Seat) (c : ClientCall) where
         let next = answers (lines_of s c t.reply) (fault_of t.reply) in
         after_stops (does s (with_log s t.past) []) next lines n lines f n lines
         (refl, there, sym (append-nil lines))
-        (stops_by (next n) f n lines
-        (λ memory. no_memory reply (e ∙ ap Some memory))
-        (ap (λ (t : ClientTurn). fault_of t.reply) is ∙ e) refl
-        (ap (λ (t : ClientTurn). lines_of s c t.reply) is ∙ no_lines s c reply f e))
+        (grind (arith, stops_by, no_memory, by_call))

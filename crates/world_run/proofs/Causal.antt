@@ -47,9 +47,7 @@ sent_number l c [] i s e = absurd (let no : ⊥ = cc in no)
 sent_number l c (x ∷ past) i s e =
     elim (get_parts (sent l c past) (sent_to (length past + 1) c (sends l x past)) i s e) [
       | inl old ↦ let le = sent_number l c past i s old in omega (arith, le)
-      | inr new ↦
-          let same = number_of (length past + 1) c (sends l x past) new.at s new.there in
-          omega (arith, same)
+      | inr new ↦ grind (arith, number_of)
     ]
 
 pub sent_more : (l : Limits) (c : ℕ) (es past : List Entry)
@@ -80,9 +78,7 @@ run_later c (entry.Run id words moment ∷ es) past place r e =
     place ≡ Some r → (slice_get (run_entries c past) place ≡ Some r) ⊎ (length past < r)) [
       | true ↦ λ f. elim (get_parts older ((length (es ++ past) + 1) ∷ []) place r f) [
         | inl old ↦ run_later c es past place r old
-        | inr new ↦
-            let is = (get_one (length (es ++ past) + 1) new.at r new.there).1 in
-            inr (omega (arith, is, length-append es past))
+        | inr new ↦ grind (arith, get_one, length-append)
       ]
       | false ↦ λ f. run_later c es past place r f
     ] e

@@ -33,6 +33,7 @@ use Rattle.world_run.specs.Members.{Seat, link_of, links_do, seat_at, with_seat}
 use Rattle.world_run.specs.ClientMoves.{bytes_of, feed, flow, hang_up, has_ended, held_lines}
 use Rattle.world_run.specs.ClientMoves.{listed_line, out, print, read_values, receive}
 use Rattle.world_run.specs.ClientMoves.{receive_bytes, receive_eof, show, shown, take_out, turn}
+use Rattle.world_run.proofs.Kept.{turn_link}
 use Rattle.world_run.proofs.Links.{IsUnread, Mute, Mutes, name_of_event, step_mutes, step_reads}
 use Rattle.world_run.proofs.Reading.{Ahead, Done, Fed, With, end_reads, feed_reads, values_reads}
 use Rattle.world_run.proofs.SeatMoves.{seat_linked}
@@ -75,10 +76,6 @@ then_same : {X : Type 0} → (f : MemberState → X) (m : Outcome Seat) (e : Lin
     → f (and_then m (links_do e)).state.member ≡ f m.state.member
 unfolding and_then links_do within
 then_same f m e = grind arith
-
-turn_link : (c : ClientCall) (s : Seat) → (turn c s).state.member.link ≡ s.member.link
-unfolding turn and_then
-turn_link c s = refl
 
 turn_place : (c : ClientCall) (s : Seat) → (turn c s).state.member.place ≡ s.member.place
 unfolding turn and_then

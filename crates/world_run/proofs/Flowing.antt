@@ -2,7 +2,7 @@
 use Rattle.std.proofs.Common.{◌≡◌, ◌<◌, ◌≤◌, ℕ, zero, suc, List, [], ◌++◌, cond, Some, None, length}
 use Rattle.std.proofs.Common.{refl, sym, ap, subst, ◌∙◌, arith, append_assoc, append-nil, inl}
 use Rattle.std.specs.Prelude.{◌==◌, nat_lt}
-use Rattle.std.proofs.lemmas.Bool.{eqb-true, cases_lt}
+use Rattle.std.proofs.lemmas.Bool.{cases_lt}
 use Rattle.std.proofs.lemmas.Bool.Decides.{nat_tests}
 use Rattle.serial_model.specs.declared.history.Limits.{Limits}
 use Rattle.script_text.specs.declared.line.Line.{Line}
@@ -105,10 +105,6 @@ module _ (l : Limits) (heard : ℕ → List ℕ) (raw : List ℕ → List ℕ) (
   abbrev pub heard_first : ℕ → ℕ → List ℕ
   heard_first n i = heard i ++ cond (nat_lt i n) (flow_heard i (flow_first i w).state) []
 
-  heard_next : (n i : ℕ)
-      → only_at (heard_first n) n (flow_heard n (flow_first n w).state) i ≡ heard_first (suc n) i
-  heard_next n i = grind (arith, eqb-true, nat_tests, append-nil, cases_lt)
-
   none_first : (i : ℕ) → heard i ≡ heard_first zero i
   none_first i = grind (arith, nat_tests, append-nil)
 
@@ -121,10 +117,7 @@ module _ (l : Limits) (heard : ℕ → List ℕ) (raw : List ℕ → List ℕ) (
   unfolding flow_first Flowed
   flow_stands_first zero le =
       let k = comes_same l heard raw lines w h (heard_first zero) raw none_first (λ n. refl) in
-      record {
-        ends = λ none. (refl, k.ends none);
-        all = k.all;
-      }
+      grind arith
   flow_stands_first (suc n) le =
       let m = flow_first n w in
       meets_then (Flowed n) (Flowed (suc n)) (λ v ls. WorldPart l raw (lines ++ ls) v) m (flow_at n)
@@ -139,7 +132,7 @@ module _ (l : Limits) (heard : ℕ → List ℕ) (raw : List ℕ → List ℕ) (
           subst (λ y. WorldStands l (heard_first (suc n)) raw y u.state)
               (append_assoc lines m.lines u.lines)
               (stands_again l _ (heard_first (suc n)) raw raw ((lines ++ m.lines) ++ u.lines)
-              u.state (heard_next n) (λ k free. refl) (o.ends e)),
+              u.state (grind (arith, append-nil, cases_lt)) (λ k free. refl) (o.ends e)),
         );
         all = λ t ls r.
             subst (λ y. WorldPart l raw y t) (append_assoc lines m.lines ls) (o.all t ls r);

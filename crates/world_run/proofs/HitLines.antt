@@ -17,13 +17,11 @@ use Rattle.shared_cache.specs.declared.log.ClientReply.{ClientReply}
 use Rattle.shared_cache.specs.Laws.{Every}
 use Rattle.script_text.specs.declared.line.Line.{Line}
 use Rattle.script_text.specs.declared.line.Line.TheVariants as line
-use Rattle.server_links.specs.declared.link.LinkMove.{LinkMove}
 use Rattle.server_links.specs.declared.link.LinkMove.TheVariants as moves
 use Rattle.server_links.specs.EntryLines.{reply_lines}
 use Rattle.server_links.specs.LinkEvent.{LinkEvent, Raw, Put, Over, Now, Tick}
 use Rattle.server_links.specs.LinksState.{LinksState}
-use Rattle.server_links.specs.LinkSteps.{over, over_named, place_of, raw_step, step, tick}
-use Rattle.server_links.specs.LinkSteps.{tick_lines}
+use Rattle.server_links.specs.LinkSteps.{over, over_named, place_of, step, tick, tick_lines}
 use Rattle.server_links.specs.Moves.{all_bytes, stopped_at, turned, run_one, run_all, run_requests}
 use Rattle.server_links.specs.Moves.{run_fed, serve_all, serve, take_down, send_all, send}
 use Rattle.server_links.specs.Moves.{eof_lines, read_lines, read_bytes, read_eof, receive_all}
@@ -32,11 +30,10 @@ use Rattle.server_links.specs.Moves as link_moves
 use Rattle.server_links.specs.Outcome.{Outcome, and_then, does, within}
 use Rattle.server_links.specs.Session.{Session}
 use Rattle.world_run.specs.Members.{Seat, link_of, links_do, with_links}
-use Rattle.world_run.specs.ClientMoves.{ending_lines, feed, flow, got, got_all, got_lines, got_one}
-use Rattle.world_run.specs.ClientMoves.{hang_up, held_lines, lines_of, listed_line, next_read, out}
-use Rattle.world_run.specs.ClientMoves.{poll_lines, print, read_values, receive, receive_bytes}
-use Rattle.world_run.specs.ClientMoves.{receive_eof, refused_lines, send_lines, show, stop}
-use Rattle.world_run.specs.ClientMoves.{take_out, turn}
+use Rattle.world_run.specs.ClientMoves.{ending_lines, feed, flow, got, got_all, got_one, hang_up}
+use Rattle.world_run.specs.ClientMoves.{held_lines, lines_of, listed_line, next_read, out, print}
+use Rattle.world_run.specs.ClientMoves.{read_values, receive, receive_bytes, receive_eof}
+use Rattle.world_run.specs.ClientMoves.{refused_lines, show, stop, take_out, turn}
 
 abbrev pub NoHit : Line → Type 0
 NoHit (line.Hit name v entry at) = ⊥
@@ -81,9 +78,7 @@ unfolding run_all run_one
 h_run_all [] s = tt
 h_run_all (words ∷ requests) s =
     h_then (run_one words s) (run_all requests)
-    (h_then (does s (link_moves.next_read s) [])
-    (λ s. link_moves.turn (book.Run s.link.id words s.now) words s) tt
-    (λ t. h_made (book.Run t.link.id words t.now) words t))
+    (grind (arith, h_then, h_made))
     (h_run_all requests)
 
 h_close : (s : Session) → Hitless (link_moves.close s)
@@ -112,46 +107,31 @@ h_take most s = grind (arith, h_then, h_reply)
 h_send_all : (s : Session) → Hitless (send_all s)
 h_send_all s = grind (arith, h_if, h_take)
 
-h_send : (count : Option ℕ) (s : Session) → Hitless (send count s)
-h_send count s = grind (arith, h_send_all, h_if, h_take)
-
 h_read : (name bytes : List ℕ) → NoHits (read_lines name bytes)
 h_read name bytes = grind arith
 
-h_eof : (name : List ℕ) (b : Bool) → NoHits (eof_lines name b)
-h_eof name b = grind arith
-
 h_receive_all : (s : Session) → Hitless (receive_all s)
 unfolding receive_all
-h_receive_all s = grind (arith, h_then, h_read, h_eof)
-
-h_receive : (count : Option ℕ) (s : Session) → Hitless (link_moves.receive count s)
-h_receive count s = grind (arith, h_receive_all, h_if, h_read)
+h_receive_all s = grind (arith, h_then, h_read)
 
 h_flow : (s : Session) → Hitless (link_moves.flow s)
 unfolding link_moves.flow
 h_flow s = grind (arith, h_then, h_serve_all, h_send_all, h_receive_all)
 
-h_moved : (move : LinkMove) (s : Session) → Hitless (moved move s)
-h_moved move s = grind (arith, h_serve, h_send, h_receive, h_flow)
-
 h_move : (event : LinkEvent) (s : Session) → Hitless (move_of event s)
-h_move event s = grind (arith, h_moved)
+h_move event s = grind (arith, h_serve, h_flow, h_send_all, h_if, h_take, h_receive_all, h_read)
 
 h_named : (p : Option ℕ) (event : LinkEvent) (w : LinksState)
     → Hitless (over_named p (move_of event) w)
 unfolding over
 h_named p event w = grind (arith, h_within, h_move)
 
-h_raw : (name : List ℕ) (p : Option ℕ) (w : LinksState) → Hitless (raw_step w name p)
-h_raw name p w = grind (arith, h_reply)
-
 h_ticked : (moment : ℕ) (r : BookReply) → NoHits (tick_lines moment r)
 h_ticked moment r = grind arith
 
 pub h_step : (event : LinkEvent) (w : LinksState) → Hitless (step w event)
 unfolding step tick
-h_step (Raw name) w = h_raw name (place_of name w) w
+h_step (Raw name) w = grind (arith, h_reply)
 h_step (Put name bytes) w = h_named (place_of name w) (Put name bytes) w
 h_step (Over name move) w = h_named (place_of name w) (Over name move) w
 h_step (Now moment) w = tt
@@ -166,17 +146,8 @@ h_links event s = h_within (with_links s) (step s.links event) (h_step event s.l
 h_refused : (name : List ℕ) (r : ClientRefusal) → NoHits (refused_lines name r)
 h_refused name r = grind arith
 
-h_sent : (s : Seat) (r : ClientReply) → NoHits (send_lines s r)
-h_sent s r = grind (arith, h_refused)
-
-h_polled : (s : Seat) (n : ℕ) (r : ClientReply) → NoHits (poll_lines s n r)
-h_polled s n r = grind (arith, h_refused)
-
 h_ending : (name : List ℕ) (r : ClientRefusal) → NoHits (ending_lines name r)
 h_ending name r = grind arith
-
-h_gotten : (s : Seat) (r : ClientReply) → NoHits (got_lines s r)
-h_gotten s r = grind (arith, h_ending)
 
 -- a query is asked
 abbrev pub IsAsk : ClientCall → Type 0
@@ -184,7 +155,7 @@ IsAsk (call.Ask q) = Unit {0}
 IsAsk c = ⊥
 
 h_lines : (s : Seat) (c : ClientCall) (r : ClientReply) → (IsAsk c → ⊥) → NoHits (lines_of s c r)
-h_lines s c r n = grind (arith, h_sent, h_polled, h_gotten)
+h_lines s c r n = grind (arith, h_refused, h_ending)
 
 pub h_turn : (c : ClientCall) (s : Seat) → (IsAsk c → ⊥) → Hitless (turn c s)
 unfolding turn
@@ -215,9 +186,6 @@ h_values : (s : Seat) → Hitless (read_values s)
 unfolding read_values
 h_values s = grind (arith, h_then, h_got_all, h_stopped)
 
-h_hang : (s : Seat) → Hitless (hang_up s)
-h_hang s = grind (arith, h_if, h_links)
-
 h_bytes : (n : ℕ) (s : Seat) → Hitless (receive_bytes n s)
 unfolding receive_bytes
 h_bytes n s =
@@ -225,8 +193,7 @@ h_bytes n s =
     h_then (links_do (Over s.member.link (moves.Recv (Some n))) s)
     (λ t. and_then (feed piece t) (λ t. and_then (read_values t) hang_up))
     (h_links (Over s.member.link (moves.Recv (Some n))) s)
-    (λ t. h_then (feed piece t) (λ t. and_then (read_values t) hang_up) tt
-    (λ u. h_then (read_values u) hang_up (h_values u) h_hang))
+    (grind (arith, h_then, h_values, h_if, h_links))
 
 h_ended : (s : Seat) → Hitless (receive_eof s)
 unfolding receive_eof

@@ -1,12 +1,9 @@
 -- Each answer from a cache that an event prints stands at its point.
 use Rattle.std.proofs.Common.{◌≡◌, ℕ, zero, suc, List, [], ◌∷◌, Bool, true, false, cond, Some, None}
-use Rattle.std.proofs.Common.{Option, length, refl, ap, subst, ◌∙◌, arith}
-use Rattle.resp_value.specs.Spelling.{request_spelling}
+use Rattle.std.proofs.Common.{Option, length, refl, ap, ◌∙◌, arith}
 use Rattle.command_words.specs.Queries.{same_query}
 use Rattle.shared_cache.specs.declared.entry.CacheEntry.{CacheEntry}
 use Rattle.shared_cache.specs.declared.log.ClientCall.TheVariants as call
-use Rattle.shared_cache.specs.declared.log.ClientMode.{ClientMode}
-use Rattle.shared_cache.specs.declared.log.ClientRefusal.{ClientRefusal}
 use Rattle.shared_cache.specs.Held.{held, held_for}
 use Rattle.shared_cache.specs.Laws.{Every}
 use Rattle.shared_cache.specs.Steps.{ClientTurn, answer_ask, client_step}
@@ -15,20 +12,18 @@ use Rattle.script_text.specs.declared.event.Event.TheVariants.{Raw, Say, Bytes, 
 use Rattle.script_text.specs.declared.event.Event.TheVariants.{Send, Recv, Flow, FlowAll, Cut, Ask}
 use Rattle.script_text.specs.declared.event.Event.TheVariants.{Do, Poll, Show, Now, Tick}
 use Rattle.script_text.specs.declared.line.Line.{Line}
-use Rattle.server_links.specs.declared.fault.WorldFault.TheVariants.{NameTaken}
 use Rattle.server_links.specs.declared.link.LinkMove.TheVariants as moves
 use Rattle.server_links.specs.LinkEvent as link_event
 use Rattle.server_links.specs.LinkEvent.{LinkEvent}
 use Rattle.server_links.specs.LinkSteps.{place_of}
 use Rattle.server_links.specs.LinkSteps as links
-use Rattle.server_links.specs.Outcome.{Outcome, and_then, refuses, within}
+use Rattle.server_links.specs.Outcome.{Outcome, and_then, within}
 use Rattle.world_run.specs.WorldState.{WorldState, client_named, client_of_link, member_at}
 use Rattle.world_run.specs.Members.{Seat, seat_at, with_seat}
-use Rattle.world_run.specs.ClientMoves.{ask_lines, refused_lines, show, turn}
+use Rattle.world_run.specs.ClientMoves.{ask_lines, show, turn}
 use Rattle.world_run.specs.WorldHistory.{AllServiced, HitStands, HoldsCurrent}
-use Rattle.world_run.specs.World.{client_does, client_step as make_client, flow_first, flow_step}
-use Rattle.world_run.specs.World.{is_taken, links_step, named_does, out_step, raw_out, recv_step}
-use Rattle.world_run.specs.World.{said_step, step, on_links}
+use Rattle.world_run.specs.World.{client_does, flow_first, flow_step, links_step, named_does}
+use Rattle.world_run.specs.World.{raw_out, step, on_links}
 use Rattle.world_run.proofs.Below.{same_words}
 use Rattle.world_run.proofs.HitLines.{Hitless, NoHit, NoHits, h_flows, h_if, h_out, h_received}
 use Rattle.world_run.proofs.HitLines.{h_show, h_step, h_then, h_turn, h_within}
@@ -46,9 +41,7 @@ held_found P q [] h a e = absurd (let no : ⊥ = cc in no)
 held_found P q (x ∷ hs) h a e =
     elim (same_query x.query q) as (λ b. same_query x.query q ≡ b
     → cond b (Some x) (held_for q hs) ≡ Some h → IsHeld P q h) [
-      | true ↦ λ same f.
-          let is : x ≡ h = cc in
-          subst (IsHeld P q) is (record { is = same_words x.query q same; has = a.0 })
+      | true ↦ grind (arith, same_words)
       | false ↦ λ other f. held_found P q hs h a.1 f
     ] refl e
 
@@ -63,9 +56,6 @@ module _ (w : WorldState) (at : ℕ) (q : List (List ℕ))
       → Every (HitStands w) (ask_lines (seat_at at w) q (answer_ask o n))
   hit_lines o n e = grind (arith, held_found)
 
-  refused_stand : (name : List ℕ) (r : ClientRefusal) → Every (HitStands w) (refused_lines name r)
-  refused_stand name r = grind arith
-
   by_if : (b : Bool) (x y : ClientTurn)
       → Every (HitStands w) (ask_lines (seat_at at w) q x.reply)
       → Every (HitStands w) (ask_lines (seat_at at w) q y.reply)
@@ -76,7 +66,7 @@ module _ (w : WorldState) (at : ℕ) (q : List (List ℕ))
       Every (HitStands w) (ask_lines (seat_at at w) q
       (client_step m.state.setup m.state.past (call.Ask q)).reply)
   unfolding client_step
-  asked_stand = grind (arith, by_if, refused_stand, hit_lines)
+  asked_stand = grind (arith, by_if, hit_lines)
 
   pub ask_stand : Every (HitStands w) (client_does at (turn (call.Ask q)) w).lines
   unfolding client_does within turn and_then
@@ -108,23 +98,8 @@ unfolding flow_first
 h_first zero w = tt
 h_first (suc n) w = grind (arith, h_then, h_flow, h_first n w)
 
-h_make : (name : List ℕ) (mode : ClientMode) (capacity : ℕ) (w : WorldState)
-    → Hitless (make_client name mode capacity w)
-h_make name mode capacity w = grind (arith, h_if, h_then, h_event)
-
-h_said : (c : Option ℕ) (name bytes : List ℕ) (w : WorldState) → Hitless (said_step c name bytes w)
-h_said c name bytes w = grind (arith, h_event)
-
 h_raw_out : (p count : Option ℕ) (w : WorldState) → Hitless (raw_out p count w)
 h_raw_out p count w = grind arith
-
-h_outs : (c : Option ℕ) (name : List ℕ) (count : Option ℕ) (w : WorldState)
-    → Hitless (out_step c name count w)
-h_outs c name count w = grind (arith, h_raw_out, h_client, h_out)
-
-h_recvs : (c : Option ℕ) (name : List ℕ) (count : Option ℕ) (w : WorldState)
-    → Hitless (recv_step c name count w)
-h_recvs c name count w = grind (arith, h_event, h_client, h_received)
 
 h_named : (c : Option ℕ) (move : Seat → Outcome Seat) → ((s : Seat) → Hitless (move s))
     → (w : WorldState) → Hitless (named_does c move w)
@@ -145,22 +120,20 @@ pub hits_stand : (e : Event) (w : WorldState) → AllServiced w
     → Every (HitStands w) (step w e).lines
 unfolding step
 hits_stand (Raw name) w a =
-    none_stand w _ (h_if (is_taken name w) (refuses w NameTaken)
-    (links_step (link_event.Raw name) w)
-    tt (h_event (link_event.Raw name) w))
+    none_stand w _ (grind (arith, h_if, h_event))
 hits_stand (Say name words) w a =
-    none_stand w _ (h_said (client_of_link name w.members) name (request_spelling words) w)
+    none_stand w _ (grind (arith, h_event))
 hits_stand (Bytes name bytes) w a =
-    none_stand w _ (h_said (client_of_link name w.members) name bytes w)
-hits_stand (Client name mode capacity) w a = none_stand w _ (h_make name mode capacity w)
+    none_stand w _ (grind (arith, h_event))
+hits_stand (Client name mode capacity) w a = none_stand w _ (grind (arith, h_if, h_then, h_event))
 hits_stand (Out name count) w a =
-    none_stand w _ (h_outs (client_of_link name w.members) name count w)
+    none_stand w _ (grind (arith, h_raw_out, h_client, h_out))
 hits_stand (Serve name count) w a =
     none_stand w _ (h_event (link_event.Over name (moves.Serve count)) w)
 hits_stand (Send name count) w a =
     none_stand w _ (h_event (link_event.Over name (moves.Send count)) w)
 hits_stand (Recv name count) w a =
-    none_stand w _ (h_recvs (client_of_link name w.members) name count w)
+    none_stand w _ (grind (arith, h_event, h_client, h_received))
 hits_stand (Flow name) w a = none_stand w _ (h_flow (client_of_link name w.members) name w)
 hits_stand FlowAll w a = none_stand w _ (h_first (length w.links.links) w)
 hits_stand (Cut name) w a = none_stand w _ (h_event (link_event.Over name moves.Cut) w)
@@ -168,10 +141,8 @@ hits_stand (Now moment) w a = none_stand w _ (h_event (link_event.Now moment) w)
 hits_stand Tick w a = none_stand w _ (h_event link_event.Tick w)
 hits_stand (Ask name q) w a = ask_named name q w a
 hits_stand (Do name words) w a =
-    none_stand w _ (h_named (client_named name w.members) (turn (call.Send words))
-    (λ s. h_turn (call.Send words) s (λ x. x)) w)
+    none_stand w _ (grind (arith, h_named, h_turn))
 hits_stand (Poll name n) w a =
-    none_stand w _ (h_named (client_named name w.members) (turn (call.Poll n))
-    (λ s. h_turn (call.Poll n) s (λ x. x)) w)
+    none_stand w _ (grind (arith, h_named, h_turn))
 hits_stand (Show name) w a =
     none_stand w _ (h_named (client_named name w.members) show h_show w)

@@ -14,7 +14,6 @@ use Rattle.shared_cache.specs.ClientFields.{IsServed}
 use Rattle.shared_cache.specs.Held.{Setup}
 use Rattle.script_text.specs.declared.line.Line.{Line}
 use Rattle.server_links.specs.declared.fault.WorldFault.TheVariants.{NameTaken, Refused}
-use Rattle.server_links.specs.declared.link.Link.{Link}
 use Rattle.server_links.specs.LinkEvent.{Raw}
 use Rattle.server_links.specs.LinksState.{LinksState, at_place, fresh_link}
 use Rattle.server_links.specs.LinkSteps.{admitting, place_of, raw_step, step}
@@ -56,8 +55,7 @@ made_if name w false free none =
     record {
       free = free;
       size = length-append w.links (new ∷ []);
-      named = ap (λ (x : Link). x.name)
-          (get_or_push w.links new (fresh_link 0 []) (length w.links) refl);
+      named = grind (arith, get_or_push, new);
     }
 
 pub raw_made : (name : List ℕ) (w : LinksState) → (step w (Raw name)).fault ≡ None

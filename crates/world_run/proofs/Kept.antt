@@ -24,7 +24,7 @@ use Rattle.server_links.specs.declared.link.LinkMove.{LinkMove}
 use Rattle.server_links.specs.declared.link.LinkMove.TheVariants as moves
 use Rattle.server_links.specs.Directions.{is_queued}
 use Rattle.server_links.specs.LinkEvent.{LinkEvent, Put, Over}
-use Rattle.server_links.specs.LinksState.{LinksState, at_place, fresh_link}
+use Rattle.server_links.specs.LinksState.{LinksState, at_place}
 use Rattle.server_links.specs.LinkSteps.{over, over_named, place_of, step}
 use Rattle.server_links.specs.Moves.{all_bytes, move_of, stopped_at}
 use Rattle.server_links.specs.Outcome.{Outcome, and_then, does, refuses, stays}
@@ -37,8 +37,8 @@ use Rattle.server_links.proofs.Outcomes.{fronts_then, fronts_within, Meets, meet
 use Rattle.server_links.proofs.Outcomes.{meets_refuses, meets_stays, meets_then, meets_weaker}
 use Rattle.server_links.proofs.Outcomes.{meets_within}
 use Rattle.world_run.specs.Members.{Seat, link_of, links_do, with_log, with_reader}
-use Rattle.world_run.specs.ClientMoves.{bytes_of, fault_of, feed, flow, got, got_all, got_one}
-use Rattle.world_run.specs.ClientMoves.{hang_up, has_ended, lines_of, next_read, out, print}
+use Rattle.world_run.specs.ClientMoves.{bytes_of, feed, flow, got, got_all, got_one}
+use Rattle.world_run.specs.ClientMoves.{hang_up, has_ended, next_read, out, print}
 use Rattle.world_run.specs.ClientMoves.{read_values, receive, receive_bytes, receive_eof, rest_read}
 use Rattle.world_run.specs.ClientMoves.{show, shown, stop, take_out, turn}
 use Rattle.server_links.proofs.Events.{step_fronts}
@@ -99,8 +99,7 @@ over_kept at event w name is =
       size = length-set w.links at t.link;
       entries = d.entries;
       grows = d.grows;
-      others = λ i n. get_or-set_other w.links at i t.link (fresh_link 0 [])
-          (λ e. n (ap (λ k. (at_place w.links k).name) e ∙ is));
+      others = grind (arith, get_or-set_other);
       stay = over_moved w at t ls d;
     } in
     meets_within (with_session at w) (λ v ls. LinksKept w name v) (λ v ls. LinksKept w name v)
@@ -149,15 +148,11 @@ o_stays s = grind (arith, meets_stays, kept_same, fronts_stays)
 o_refuses : (s : Seat) (f : WorldFault) → Orderly s (refuses s f)
 o_refuses s f = grind (arith, meets_refuses, kept_same, fronts_refuses)
 
-o_once : (s new : Seat) (ls : List Line) (f : Option WorldFault) → Kept s new
-    → Orderly s (record { state = new; lines = ls; fault = f; points = (s, []) ∷ [] })
-o_once s new ls f k = grind (arith, meets_once, kept_same, fronts_once)
-
 -- a change of the client alone
 o_member : (s new : Seat) (ls : List Line) (f : Option WorldFault) → new.links ≡ s.links
     → new.member.link ≡ s.member.link
     → Orderly s (record { state = new; lines = ls; fault = f; points = (s, []) ∷ [] })
-o_member s new ls f same link = o_once s new ls f (kept_member s new same link)
+o_member s new ls f same link = grind (arith, meets_once, kept_same, fronts_once, kept_member)
 
 o_if : (s : Seat) (b : Bool) (m n : Outcome Seat) → Orderly s m → Orderly s n
     → Orderly s (cond b m n)
@@ -191,7 +186,7 @@ unfolding turn
 o_turn c s =
     let t = client_step s.member.state.setup s.member.state.past c in
     o_then s _ _ (o_member s (with_log s t.past) [] None refl refl)
-    (λ u. o_once u u (lines_of s c t.reply) (fault_of t.reply) (kept_same u))
+    (λ u. grind (arith, meets_once, kept_same, fronts_once))
 
 -- what follows in a fixed state
 o_after : (s : Seat) (m : Outcome Seat) (next : Seat → Outcome Seat) → Orderly s m
@@ -204,7 +199,7 @@ o_after s m next h g f = record {
   fronts = fronts_then m next h.fronts f;
 }
 
-turn_link : (c : ClientCall) (s : Seat) → (turn c s).state.member.link ≡ s.member.link
+pub turn_link : (c : ClientCall) (s : Seat) → (turn c s).state.member.link ≡ s.member.link
 unfolding turn and_then
 turn_link c s = refl
 

@@ -1,8 +1,7 @@
 -- What stands of a world with clients after an event of its links: one that makes a link, one of a
 -- link without a client, and one by which no client's end reads.
-use Rattle.std.proofs.Common.{◌≡◌, ◌<◌, ℕ, List, [], ◌++◌, false, None, length, sym, ap, subst, ◌∙◌}
+use Rattle.std.proofs.Common.{◌≡◌, ◌<◌, ℕ, List, [], ◌++◌, None, length, sym, ap, subst, ◌∙◌}
 use Rattle.std.proofs.Common.{append-nil, arith}
-use Rattle.std.specs.Str.{bytes_eq}
 use Rattle.serial_model.specs.declared.history.Limits.{Limits}
 use Rattle.script_text.specs.declared.line.Line.{Line}
 use Rattle.server_links.specs.declared.fault.WorldFault.{WorldFault}
@@ -18,6 +17,7 @@ use Rattle.world_run.specs.WorldState.{WorldState, member_at}
 use Rattle.world_run.specs.Members.{Seat, seat_at, with_seat}
 use Rattle.world_run.specs.WorldHistory.{taken_bytes}
 use Rattle.world_run.specs.World.{Stepped, client_does, links_step, on_links}
+use Rattle.world_run.proofs.SeatMoves.{said_other}
 use Rattle.world_run.proofs.Links.{IsUnread, Mute, Mutes, name_of_event, step_moved, step_mutes}
 use Rattle.world_run.proofs.Seats.{One, Seating, Steady, seated, unseated}
 use Rattle.world_run.proofs.Worlds.{Holds, NoneHas, Reads, Stable, WorldPart, WorldStands, linked}
@@ -64,11 +64,6 @@ comes_as l heard heard' raw raw' lines m hears says h =
     (λ v ls s. stands_again l heard heard' raw raw' (lines ++ ls) v hears (λ n none. says n) s)
     (λ v ls p. part_again l raw raw' (lines ++ ls) v (λ n none. says n) p) h
 
-said_else : (event : LinkEvent) (n : List ℕ) → bytes_eq (name_of_event event) n ≡ false
-    → said_by n event ≡ []
-unfolding name_of_event
-said_else event n e = grind arith
-
 module _ (l : Limits) (heard : ℕ → List ℕ) (raw : List ℕ → List ℕ) (lines : List Line)
     (w : WorldState) (h : WorldStands l heard raw lines w) where
   pub part_here : (raw' : List ℕ → List ℕ)
@@ -81,9 +76,7 @@ module _ (l : Limits) (heard : ℕ → List ℕ) (raw : List ℕ → List ℕ) (
   pub comes_refused : (heard' : ℕ → List ℕ) (raw' : List ℕ → List ℕ)
       → ((name : List ℕ) → NoneHas w name → raw name ≡ raw' name) → (f : WorldFault)
       → Comes l heard' raw' lines (refuses w f)
-  comes_refused heard' raw' same f =
-      meets_refuses (λ v ls. WorldStands l heard' raw' (lines ++ ls) v)
-      (λ v ls. WorldPart l raw' (lines ++ ls) v) w f (part_here raw' same)
+  comes_refused heard' raw' same f = grind (arith, meets_refuses, WorldPart, part_here)
 
   pub comes_same : (heard' : ℕ → List ℕ) (raw' : List ℕ → List ℕ)
       → ((i : ℕ) → heard i ≡ heard' i) → ((name : List ℕ) → raw name ≡ raw' name)
@@ -128,7 +121,7 @@ module _ (l : Limits) (heard : ℕ → List ℕ) (raw : List ℕ → List ℕ) (
       (λ i lt.
       let m = member_at w.members i in
       let differ = not_equal (name_of_event event) m.link (λ e. free i lt (sym e)) in (
-        said_else event m.link differ,
+        said_other event m.link differ,
         (λ ok. ((step_moved w.links event).ends ok).mute m.link differ),
       ))
       (λ name none. says name)
@@ -158,8 +151,4 @@ module _ (l : Limits) (heard : ℕ → List ℕ) (raw : List ℕ → List ℕ) (
       let m = move (seat_at at w) in
       let k = f (seated l heard raw at lines w h) in
       meets_within (with_seat at w) (λ v ls. WorldStands l heard' raw (lines ++ ls) v)
-      (λ v ls. WorldPart l raw (lines ++ ls) v) m (record {
-        ends = λ none. unseated l heard' raw at (lines ++ m.lines) (with_seat at w m.state)
-            (k.ends none);
-        all = k.all;
-      })
+      (λ v ls. WorldPart l raw (lines ++ ls) v) m (grind (arith, unseated))

@@ -1,6 +1,5 @@
 -- What a client's moves do to the links in the code.
-use Rattle.std.proofs.Common.{◌≡◌, ℕ, List, length, Option, Some, None, Result, inl, inr, ap, ◌∙◌}
-use Rattle.std.proofs.Common.{length-set, arith}
+use Rattle.std.proofs.Common.{◌≡◌, ℕ, List, length, Option, Some, None, Result, length-set, arith}
 use Rattle.script_text.specs.declared.line.Line.{Line}
 use Rattle.server_links.specs.declared.fault.WorldFault.{WorldFault}
 use Rattle.server_links.specs.declared.link.LinkMove.{LinkMove}
@@ -29,21 +28,11 @@ named_kept : (o : Option ℕ) (move : Session → Outcome Session) (w new : Link
     (lines : List Line) (r : Result (Unit {0}) WorldFault) (lines' : List Line)
     → Gives (over_named o move w) lines r new lines' → Kept w new
 unfolding over
-named_kept None move w new lines r lines' g =
-    elim (gives_reached (over_named None move w) lines r new lines' g).1 [
-      | inl e ↦ record {
-        limits = ap (λ (n : LinksState). n.limits) e.0;
-        count = ap (λ (n : LinksState). length n.links) e.0;
-      }
-      | inr none ↦ absurd none
-    ]
+named_kept None move w new lines r lines' g = grind (arith, gives_reached)
 named_kept (Some at) move w new lines r lines' g =
     let h = gives_reached (over at move w) lines r new lines' g in
     let x = reached_within (with_session at w) (move (session_at at w)) new h.0 h.1 in
-    record {
-      limits = ap (λ (n : LinksState). n.limits) x.1;
-      count = ap (λ (n : LinksState). length n.links) x.1 ∙ length-set w.links at x.0.link;
-    }
+    grind (arith, length-set)
 
 pub put_kept : (name bytes : List ℕ) (w new : LinksState) (lines : List Line)
     (r : Result (Unit {0}) WorldFault) (lines' : List Line)

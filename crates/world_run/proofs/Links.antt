@@ -1,7 +1,7 @@
 -- What an event of the links leaves of them, wherever it comes to, and what it prints of reading.
 use Rattle.std.proofs.Common.{◌≡◌, ◌+◌, ◌<◌, ℕ, List, [], ◌∷◌, ◌++◌, Bool, true, false, cond, Some}
-use Rattle.std.proofs.Common.{None, Option, length, drop, refl, sym, ap, ◌∙◌, arith, append-nil}
-use Rattle.std.proofs.Common.{length-append, length-set, inl, inr, eq-eqb}
+use Rattle.std.proofs.Common.{None, Option, length, drop, refl, ap, ◌∙◌, arith, append-nil}
+use Rattle.std.proofs.Common.{length-append, length-set, eq-eqb}
 use Rattle.std.specs.Str.{bytes_eq}
 use Rattle.std.proofs.lemmas.Bool.{eqb-true, cases_lt}
 use Rattle.std.proofs.lemmas.List.{get_or-set_same, get_or-set_other, get_or_push}
@@ -15,15 +15,13 @@ use Rattle.serial_model.specs.Steps.{Turn, book_step, unless_full}
 use Rattle.serial_model.specs.Steps as steps
 use Rattle.script_text.specs.declared.line.Line.{Line}
 use Rattle.server_links.specs.declared.fault.WorldFault.{WorldFault}
-use Rattle.server_links.specs.declared.fault.WorldFault.TheVariants.{NoName, NameTaken}
-use Rattle.server_links.specs.declared.fault.WorldFault.TheVariants.{NothingThere}
+use Rattle.server_links.specs.declared.fault.WorldFault.TheVariants.{NoName, NothingThere}
 use Rattle.server_links.specs.declared.link.Link.{Link}
 use Rattle.server_links.specs.declared.link.LinkMove.TheVariants as moves
 use Rattle.server_links.specs.EntryLines.{reply_lines}
 use Rattle.server_links.specs.LinkEvent.{LinkEvent, Raw, Put, Over, Now, Tick}
 use Rattle.server_links.specs.LinksState.{LinksState, at_place, fresh_link}
-use Rattle.server_links.specs.LinkSteps.{Stepped, admitting, over, over_named, place_of, raw_step}
-use Rattle.server_links.specs.LinkSteps.{step}
+use Rattle.server_links.specs.LinkSteps.{admitting, over, over_named, place_of, raw_step, step}
 use Rattle.server_links.specs.Moves.{turned, turn, run_one, run_all, run_requests, run_fed, close}
 use Rattle.server_links.specs.Moves.{stop, serve_all, serve, take_down, send, read_lines, eof_lines}
 use Rattle.server_links.specs.Moves.{receive_all, receive, move_of}
@@ -103,27 +101,14 @@ made_grows w id name free =
     let old : (i : ℕ) → i < length w.links → at_place new i ≡ at_place w.links i =
     λ i lt. get_or_append_left w.links (fresh_link id name ∷ []) (fresh_link 0 []) i lt in
     let last : (i : ℕ) → i ≡ length w.links → (at_place new i).name ≡ name =
-    λ i e. ap (λ (x : Link). x.name)
-    (get_or_push w.links (fresh_link id name) (fresh_link 0 []) i (sym e)) in
+    grind (arith, get_or_push) in
     record {
       limits = refl;
       size = omega (arith, size);
       names = λ i lt. ap (λ (x : Link). x.name) (old i lt);
       entries = entry.Admit id ∷ [];
       grows = refl;
-      unique = λ u i j li lj e. elim (cases_lt i (length w.links)) [
-        | inl bi ↦ elim (cases_lt j (length w.links)) [
-          | inl bj ↦ u i j bi bj (sym (ap (λ (x : Link). x.name) (old j bj)) ∙ e
-              ∙ ap (λ (x : Link). x.name) (old i bi))
-          | inr oj ↦ absurd (unplaced name w free i bi (sym (ap (λ (x : Link). x.name) (old i bi))
-              ∙ sym e ∙ last j (omega (arith, oj, lj, size))))
-        ]
-        | inr oi ↦ elim (cases_lt j (length w.links)) [
-          | inl bj ↦ absurd (unplaced name w free j bj (sym (ap (λ (x : Link). x.name) (old j bj))
-              ∙ e ∙ last i (omega (arith, oi, li, size))))
-          | inr oj ↦ omega (arith, oi, oj, li, lj, size)
-        ]
-      ];
+      unique = grind (arith, cases_lt, unplaced);
     }
 
 raw_moved : (name : List ℕ) (w : LinksState)
@@ -131,19 +116,14 @@ raw_moved : (name : List ℕ) (w : LinksState)
 unfolding book_step
 raw_moved name w = elim (place_of name w) as (λ p. place_of name w ≡ p
     → Meets (LinkMoved w name) (LinkMoved w name) (raw_step w name p)) [
-      | Some at ↦ λ is. meets_refuses (LinkMoved w name) (LinkMoved w name) w NameTaken
-          (moved_none w name)
+      | Some at ↦ grind (arith, meets_refuses, moved_none)
       | None ↦ λ free.
           elim (is_full w.limits w.past) as (λ b. Meets (LinkMoved w name) (LinkMoved w name)
           (admitting w name (cond b (steps.full w.past) (steps.admitting w.past)))) [
-            | true ↦ meets_once (LinkMoved w name) (LinkMoved w name) w w [] _
-                (λ e. moved_none w name) (moved_none w name) (moved_none w name)
+            | true ↦ grind (arith, meets_once, moved_none)
             | false ↦
                 let made = made_grows w (admitted w.past + 1) name free in
-                let m : (ls : List Line) → ((n : List ℕ) → read_on n ls ≡ [])
-                → LinkMoved w name _ ls = λ ls q. record { grows = made; mute = λ n e. q n } in
-                meets_once (LinkMoved w name) (LinkMoved w name) w _ _ None
-                (λ e. m _ (λ n. refl)) (moved_none w name) (m _ (λ n. refl))
+                grind (arith, meets_once, moved_none)
           ]
     ] refl
 
@@ -177,11 +157,7 @@ unfolding step name_of_event
 step_moved w (Raw name) = raw_moved name w
 step_moved w (Put name bytes) = named_moved name (Put name bytes) w
 step_moved w (Over name move) = named_moved name (Over name move) w
-step_moved w (Now moment) =
-    let v : LinksState =
-    record { limits = w.limits; now = moment; past = w.past; links = w.links } in
-    let m : LinkMoved w [] v [] = record { grows = same_grows w moment []; mute = λ n e. refl } in
-    meets_stays (LinkMoved w []) (LinkMoved w []) v m m
+step_moved w (Now moment) = grind (arith, same_grows, meets_stays)
 step_moved w Tick =
     tick_goes_on w (LinkMoved w []) (moved_none w [])
     (λ moment e. record {
@@ -224,9 +200,7 @@ mutes_then : {S : Type 0} → (m : Outcome S) (next : S → Outcome S) → Mutes
 unfolding Mutes
 mutes_then m next h g =
     meets_then (λ t ls. Mute ls) (λ t ls. Mute ls) (λ t ls. Mute ls) m next h
-    (λ none q. meets_weaker (λ t ls. Mute ls) (λ t ls. Mute (m.lines ++ ls)) (λ t ls. Mute ls)
-    (λ t ls. Mute (m.lines ++ ls)) (next m.state) (λ t ls n. mute_both m.lines ls q n)
-    (λ t ls n. mute_both m.lines ls q n) (g m.state))
+    (grind (arith, meets_weaker, mute_both))
 
 mute_reply : (link : List ℕ) (words : List (List ℕ)) (reply : BookReply)
     → Mute (reply_lines link words reply)
@@ -319,16 +293,13 @@ pub record HasRead (name bytes : List ℕ) (left : Option ℕ) (m : Outcome Sess
   pub reads : m.fault ≡ None → read_on name m.lines ≡ up_to left bytes
   pub leaves : (n : ℕ) → left ≡ Some n → m.fault ≡ None → m.state.link.down.bytes ≡ drop n bytes
 
-not_some : (n : ℕ) → None ≡ Some n → ⊥
-not_some n e = cc
-
 refused : Some NothingThere ≡ None → ⊥
 refused e = cc
 
 received : (count : Option ℕ) (s : Session)
     → HasRead s.link.name s.link.down.bytes count (receive count s)
 unfolding receive_all and_then
-received count s = grind (arith, read_more, eof_own, append-nil, read_own, not_some, refused)
+received count s = grind (arith, read_more, eof_own, append-nil, read_own, refused)
 
 pub record StepReads (w : LinksState) (name : List ℕ) (at : ℕ) (count : Option ℕ) : Type 0 where
   pub reads : (step w (Over name (moves.Recv count))).fault ≡ None
@@ -345,15 +316,4 @@ unfolding step over within
 step_reads w name at count is =
     let p = placed name w at is in
     let r = received count (session_at at w) in
-    let same : step w (Over name (moves.Recv count)) ≡ over at (receive count) w =
-    ap (λ q. over_named q (receive count) w) is in
-    record {
-      reads = λ e. ap (λ (m : Stepped). read_on name m.lines) same
-          ∙ ap (λ n. read_on n (receive count (session_at at w)).lines) (sym p.1)
-          ∙ r.reads (ap (λ (m : Stepped). m.fault) (sym same) ∙ e);
-      leaves = λ n c e. ap (λ (m : Stepped). (at_place m.state.links at).down.bytes) same
-          ∙ ap (λ (x : Link). x.down.bytes)
-          (get_or-set_same w.links at (receive count (session_at at w)).state.link
-          (fresh_link 0 []) p.0)
-          ∙ r.leaves n c (ap (λ (m : Stepped). m.fault) (sym same) ∙ e);
-    }
+    grind (arith, get_or-set_same)

@@ -15,7 +15,6 @@ use Rattle.shared_cache.specs.ClientFields.{IsServed}
 use Rattle.shared_cache.specs.Held.{commands}
 use Rattle.shared_cache.specs.Laws.{LegalLog, gots}
 use Rattle.shared_cache.specs.Out.{out}
-use Rattle.shared_cache.specs.Out as sending
 use Rattle.currency.specs.Links.{Client, HasWire, Meet, AreGot, IsCausal}
 use Rattle.server_links.specs.LinksState.{LinksState, at_place}
 use Rattle.server_links.specs.OneHistory.{PartServes}
@@ -66,8 +65,7 @@ module _ (ls : LinksState) (read said : List ℕ) (m : MemberState)
       (front_of serves.heard (at_place ls.links m.place).up.bytes serves.up.lost said
       serves.up.all_said)
       (prefix_both said (taken_bytes m) (out m.state.setup Main m.state.past) took
-      (first_front (sending.taken m.state.setup Main m.state.past)
-      (out m.state.setup Main m.state.past)))
+      (grind (arith, first_front)))
 
   ran_main : IsPrefix (runs_of (m.place + 1) ls.past) (commands m.state.setup Main m.state.past)
   ran_main =

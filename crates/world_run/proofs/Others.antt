@@ -1,20 +1,17 @@
 -- The links and the clients that an event does not name are as they were.
 use Rattle.std.proofs.Common.{◌≡◌, ◌≤◌, ℕ, zero, suc, List, [], ◌∷◌, Bool, cond, Some, None, Option}
-use Rattle.std.proofs.Common.{length, refl, sym, ap, subst, ◌∙◌, arith, inl, inr, slice_index_or}
+use Rattle.std.proofs.Common.{length, refl, sym, subst, ◌∙◌, arith, inl, inr, slice_index_or}
 use Rattle.std.proofs.lemmas.Bool.{cases_lt}
 use Rattle.std.proofs.lemmas.List.{get_or-set_other}
 use Rattle.resp_value.specs.Lists.{IsPrefix}
-use Rattle.resp_value.specs.Spelling.{request_spelling}
 use Rattle.serial_model.specs.declared.history.Limits.{Limits}
 use Rattle.shared_cache.specs.declared.log.ClientCall.TheVariants as call
-use Rattle.shared_cache.specs.declared.log.ClientMode.{ClientMode}
 use Rattle.script_text.specs.declared.event.Event.{Event}
 use Rattle.script_text.specs.declared.event.Event.TheVariants.{Raw, Say, Bytes, Client, Out, Serve}
 use Rattle.script_text.specs.declared.event.Event.TheVariants.{Send, Recv, Flow, FlowAll, Cut, Ask}
 use Rattle.script_text.specs.declared.event.Event.TheVariants.{Do, Poll, Show, Now, Tick}
 use Rattle.script_text.specs.declared.line.Line.{Line}
 use Rattle.server_links.specs.declared.fault.WorldFault.{WorldFault}
-use Rattle.server_links.specs.declared.fault.WorldFault.TheVariants.{NameTaken}
 use Rattle.server_links.specs.declared.link.LinkMove.{LinkMove}
 use Rattle.server_links.specs.declared.link.LinkMove.TheVariants as moves
 use Rattle.server_links.specs.LinkEvent as link_event
@@ -27,14 +24,13 @@ use Rattle.server_links.proofs.Outcomes.{Fronts, fronts_once, fronts_reached, fr
 use Rattle.server_links.proofs.Outcomes.{fronts_stays, fronts_then, fronts_within, Meets}
 use Rattle.server_links.proofs.Outcomes.{meets_refuses, meets_weaker, meets_within}
 use Rattle.world_run.specs.WorldState.{WorldState, client_named, client_of_link, data_link}
-use Rattle.world_run.specs.WorldState.{fresh_member, member_at, no_setup}
+use Rattle.world_run.specs.WorldState.{member_at}
 use Rattle.world_run.specs.Members.{Seat, seat_at, with_seat}
 use Rattle.world_run.specs.ClientMoves as client
 use Rattle.world_run.specs.ClientMoves.{show, turn}
 use Rattle.world_run.specs.WorldHistory.{OthersKept, link_named}
-use Rattle.world_run.specs.World.{Stepped, client_does, client_step, flow_first, flow_step}
-use Rattle.world_run.specs.World.{is_taken, links_step, named_does, out_step, raw_out, recv_step}
-use Rattle.world_run.specs.World.{said_step, step}
+use Rattle.world_run.specs.World.{Stepped, client_does, flow_first, flow_step, links_step}
+use Rattle.world_run.specs.World.{named_does, out_step, raw_out, recv_step, step}
 use Rattle.server_links.proofs.Events.{step_fronts}
 use Rattle.world_run.proofs.Clients.{place_is}
 use Rattle.world_run.proofs.Kept.{LinksKept, Orderly, links_same, named_kept, o_flow, o_out}
@@ -65,14 +61,6 @@ unfolding flow_first
 f_first zero w = fronts_stays w
 f_first (suc n) w = grind (arith, fronts_then, f_flow, f_first n w)
 
-f_make : (name : List ℕ) (mode : ClientMode) (capacity : ℕ) (w : WorldState)
-    → Fronts (client_step name mode capacity w)
-f_make name mode capacity w =
-    grind (arith, f_if, fronts_refuses, fronts_then, fronts_once, f_event, fronts_stays)
-
-f_said : (c : Option ℕ) (name bytes : List ℕ) (w : WorldState) → Fronts (said_step c name bytes w)
-f_said c name bytes w = grind (arith, f_event, fronts_refuses)
-
 f_raw_out : (p count : Option ℕ) (w : WorldState) → Fronts (raw_out p count w)
 f_raw_out p count w = grind (arith, fronts_refuses, fronts_stays)
 
@@ -92,13 +80,11 @@ f_named c move o w = grind (arith, fronts_refuses, f_client)
 
 event_fronts : (e : Event) (w : WorldState) → Fronts (step w e)
 unfolding step
-event_fronts (Raw name) w =
-    f_if (is_taken name w) (refuses w NameTaken) (links_step (link_event.Raw name) w)
-    (fronts_refuses w NameTaken) (f_event (link_event.Raw name) w)
-event_fronts (Say name words) w =
-    f_said (client_of_link name w.members) name (request_spelling words) w
-event_fronts (Bytes name bytes) w = f_said (client_of_link name w.members) name bytes w
-event_fronts (Client name mode capacity) w = f_make name mode capacity w
+event_fronts (Raw name) w = grind (arith, f_if, fronts_refuses, f_event)
+event_fronts (Say name words) w = grind (arith, f_event, fronts_refuses)
+event_fronts (Bytes name bytes) w = grind (arith, f_event, fronts_refuses)
+event_fronts (Client name mode capacity) w =
+    grind (arith, f_if, fronts_refuses, fronts_then, fronts_once, f_event, fronts_stays)
 event_fronts (Out name count) w = f_out (client_of_link name w.members) name count w
 event_fronts (Serve name count) w = f_event (link_event.Over name (moves.Serve count)) w
 event_fronts (Send name count) w = f_event (link_event.Over name (moves.Send count)) w
@@ -163,11 +149,7 @@ unfolding client_does
 a_client at name move o w is =
     let s = seat_at at w in
     let apart : (t : Seat) → LinksKept w.links s.member.link t.links
-    → Apart w name (with_seat at w t) = λ t k. record {
-      links = subst (λ n. LinksKept w.links n t.links) is k;
-      members = λ i n. get_or-set_other w.members at i t.member (fresh_member [] 0 no_setup)
-          (λ e. n (ap (λ k. (member_at w.members k).link) e ∙ is));
-    } in
+    → Apart w name (with_seat at w t) = grind (arith, LinksKept, get_or-set_other) in
     meets_within (with_seat at w) (λ v ls. Apart w name v) (λ v ls. Apart w name v) (move s)
     (record {
       ends = λ none. apart (move s).state ((o s).kept.ends none).links;
@@ -193,28 +175,16 @@ module _ (l : Limits) (heard : ℕ → List ℕ) (raw : List ℕ → List ℕ) (
   a_raw_out : (name : List ℕ) (p count : Option ℕ) → Leaves w name (raw_out p count w)
   a_raw_out name p count = grind arith
 
-  a_said : (name bytes : List ℕ)
-      → Leaves w name (said_step (client_of_link name w.members) name bytes w)
-  a_said name bytes = grind (arith, a_by, a_put, a_refused)
-
   apart_then : (e : Event) (name : List ℕ) → link_named e ≡ Some name → Leaves w name (step w e)
   unfolding step
-  apart_then (Say n words) name e =
-      subst (λ x. Leaves w x (step w (Say n words))) (let i : n ≡ name = cc in i)
-      (a_said n (request_spelling words))
-  apart_then (Bytes n bytes) name e =
-      subst (λ x. Leaves w x (step w (Bytes n bytes))) (let i : n ≡ name = cc in i)
-      (a_said n bytes)
+  apart_then (Say n words) name e = grind (arith, a_by, a_put, a_refused)
+  apart_then (Bytes n bytes) name e = grind (arith, a_by, a_put, a_refused)
   apart_then (Out n count) name e =
       subst (λ x. Leaves w x (step w (Out n count))) (let i : n ≡ name = cc in i)
       (a_by n (λ c. out_step c n count w) (a_raw_out n (place_of n w.links) count)
       (λ at is. a_linked n (client.out count) (stays w) (o_out count) at is))
-  apart_then (Serve n count) name e =
-      subst (λ x. Leaves w x (step w (Serve n count))) (let i : n ≡ name = cc in i)
-      (a_over n (moves.Serve count) w)
-  apart_then (Send n count) name e =
-      subst (λ x. Leaves w x (step w (Send n count))) (let i : n ≡ name = cc in i)
-      (a_over n (moves.Send count) w)
+  apart_then (Serve n count) name e = grind (arith, a_over)
+  apart_then (Send n count) name e = grind (arith, a_over)
   apart_then (Recv n count) name e =
       subst (λ x. Leaves w x (step w (Recv n count))) (let i : n ≡ name = cc in i)
       (a_by n (λ c. recv_step c n count w) (a_over n (moves.Recv count) w)
@@ -223,9 +193,7 @@ module _ (l : Limits) (heard : ℕ → List ℕ) (raw : List ℕ → List ℕ) (
       subst (λ x. Leaves w x (step w (Flow n))) (let i : n ≡ name = cc in i)
       (a_by n (λ c. flow_step c n w) (a_over n moves.Flow w)
       (λ at is. a_linked n client.flow (stays w) o_flow at is))
-  apart_then (Cut n) name e =
-      subst (λ x. Leaves w x (step w (Cut n))) (let i : n ≡ name = cc in i)
-      (a_over n moves.Cut w)
+  apart_then (Cut n) name e = grind (arith, a_over)
   apart_then (Ask n q) name e =
       subst (λ x. Leaves w x (step w (Ask n q))) (let i : data_link n ≡ name = cc in i)
       (a_named n (turn (call.Ask q)) (o_turn (call.Ask q)))

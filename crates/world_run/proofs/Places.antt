@@ -1,6 +1,5 @@
 -- A link is found at the same place while the names of the links stay as they are.
-use Rattle.std.proofs.Common.{◌≡◌, ◌<◌, ℕ, List, Some, None, length, refl, sym, ap, ◌∙◌, arith, inl}
-use Rattle.std.proofs.Common.{inr}
+use Rattle.std.proofs.Common.{◌≡◌, ◌<◌, ℕ, List, Some, None, length, refl, arith}
 use Rattle.std.proofs.lemmas.Bool.{cases_lt}
 use Rattle.std.proofs.lemmas.List.Sums.{prefix_len_passes}
 use Rattle.server_links.specs.LinksState.{LinksState, at_place}
@@ -25,18 +24,8 @@ pub place_kept : (name : List ℕ) (w v : LinksState) (at : ℕ) → NamesKept w
 place_kept name w v at k found =
     let p = placed name w at found in
     elim (place_of name v) as (λ q. place_of name v ≡ q → q ≡ Some at) [
-      | None ↦ λ none. absurd (unplaced name v none at (omega (arith, p.0, k.size))
-          (k.names at p.0 ∙ p.1))
+      | None ↦ grind (arith, unplaced)
       | Some j ↦ λ there.
           let q = placed name v j there in
-          let below : j < length w.links = omega (arith, q.0, k.size) in
-          ap Some (elim (cases_lt j at) [
-            | inl lt ↦
-                absurd (first_place name w at found j lt (sym (k.names j below) ∙ q.1))
-            | inr ge ↦ elim (cases_lt at j) [
-              | inl more ↦
-                  absurd (first_place name v j there at more (k.names at p.0 ∙ p.1))
-              | inr le ↦ omega (arith, ge, le)
-            ]
-          ])
+          grind (arith, cases_lt, first_place)
     ] refl

@@ -101,9 +101,7 @@ module _ (s : Seat) where
 
   more_lines : (n k : ℕ) → n ≤ k
       → (more : List Line) × (held_lines k s ≡ held_lines n s ++ more)
-  more_lines n zero le =
-      let same : n ≡ 0 = omega (arith, le) in
-      ([], ap (λ m. held_lines m s) (sym same) ∙ sym (append-nil (held_lines n s)))
+  more_lines n zero le = grind (arith, append-nil)
   more_lines n (suc k) le =
       elim (cases_lt n (suc k)) [
         | inl low ↦
@@ -124,8 +122,7 @@ module _ (s : Seat) where
       let last = line.Complete s.member.name (complete_at s) in
       let r = more_lines n m le in
       subst (λ ls. Stops (print ls s) lines NoMemory s (lines ++ held_lines n s))
-      (sym (ap (λ x. x ++ last ∷ []) r.1
-      ∙ append_assoc (held_lines n s) r.0 (last ∷ [])))
+      (grind (arith, append_assoc))
       (front_stops (held_lines n s) r.0 last lines)
 
   pub show_ends : (lines lines1 : List Line) (c : ℕ) → c ≡ complete_at s
@@ -136,9 +133,7 @@ module _ (s : Seat) where
       let front = held_lines (length (held (setup_of s) (log_of s))) s in
       let last = line.Complete s.member.name (complete_at s) in
       subst (λ ls. Ends (print (shown s) s) lines s ls)
-      (sym (append_assoc lines front (last ∷ []))
-      ∙ ap (λ x. x ++ last ∷ []) (sym e)
-      ∙ ap (λ n. lines1 ++ line.Complete s.member.name n ∷ []) (sym is))
+      (grind (arith, append_assoc))
       (print_ends (shown s) lines)
 
 -- ---- what is held, place by place

@@ -17,11 +17,7 @@ use Rattle.shared_cache.specs.declared.log.LogEntry.{LogEntry}
 use Rattle.shared_cache.specs.declared.log.Wire.{Wire}
 use Rattle.shared_cache.specs.declared.log.Wire.TheVariants.{Main}
 use Rattle.shared_cache.specs.declared.notices.Notice.{Notice}
-use Rattle.shared_cache.specs.Held.{numbers}
-use Rattle.shared_cache.specs.Notices.{notice_of}
-use Rattle.shared_cache.specs.Log.{is_ended, is_ready}
-use Rattle.shared_cache.specs.Log as log
-use Rattle.shared_cache.specs.Out.{untaken}
+use Rattle.shared_cache.specs.Log.{is_ended}
 use Rattle.shared_cache.specs.Steps.{ClientTurn, answer_ask, client_step, command_number, getting}
 use Rattle.shared_cache.specs.Steps.{is_log_full, judged, polling, read_number, refusing}
 use Rattle.shared_cache.specs.Steps.{taking_out}
@@ -185,8 +181,7 @@ sure_got_turn v s =
     (getting (steps.fault_of set past Main v) Main v (is_log_full set past) past)
     (never_down Main)
     (never_getting (steps.fault_of set past Main v) v (is_log_full set past) past
-    (never_judged set.mode Main (length (log.replies set.mode Main past)) (numbers set past) v
-    (notice_of set.mode Main v))))
+    (grind (arith, never_judged))))
 
 sure_end_turn : (s : Seat) → Sure s (turn (call.End Main) s)
 unfolding client_step NeverTurn
@@ -198,9 +193,7 @@ sure_take_turn most s =
     let set = s.member.state.setup in
     let past = s.member.state.past in
     sure_turn (call.TakeOut Main most) s
-    (never_if (is_ended set.mode Main past) (refusing (refusal.Down Main) past)
-    (taking_out Main most (untaken set Main past) (is_log_full set past) past) (never_down Main)
-    (never_taking most (untaken set Main past) (is_log_full set past) past))
+    (grind (arith, never_if, never_down, never_taking))
 
 -- ---- moves
 

@@ -29,7 +29,7 @@ use Rattle.server_links.specs.LinksState.{at_place}
 use Rattle.server_links.specs.LinkSteps as links
 use Rattle.server_links.specs.LinkSteps.{over, over_named, place_of}
 use Rattle.server_links.specs.Moves.{move_of}
-use Rattle.server_links.specs.Outcome.{Outcome, and_then, refuses, then_by, within}
+use Rattle.server_links.specs.Outcome.{Outcome, and_then, refuses, within}
 use Rattle.server_links.specs.Session.{session_at}
 use Rattle.server_links.proofs.History as links_refused
 use Rattle.server_links.proofs.Names.{unplaced}
@@ -42,7 +42,7 @@ use Rattle.world_run.specs.ClientMoves.{fault_of, has_ended, lines_of, print, sh
 use Rattle.world_run.specs.WorldHistory.{HaveLinks}
 use Rattle.world_run.specs.World.{Stepped, client_does, client_step as make_client, flow_at}
 use Rattle.world_run.specs.World.{flow_first, flow_step, is_taken, links_step, named_does, out_step}
-use Rattle.world_run.specs.World.{raw_out, recv_step, said_step, step, on_links}
+use Rattle.world_run.specs.World.{recv_step, said_step, step, on_links}
 use Rattle.world_run.proofs.Kept.{named_kept}
 use Rattle.world_run.proofs.Links.{step_moved}
 use Rattle.world_run.proofs.Names.{link_there}
@@ -166,9 +166,6 @@ said_leaves : (c : Option ℕ) (name bytes : List ℕ) (w : WorldState)
     → Unchanged w (said_step c name bytes w)
 said_leaves c name bytes w = grind (arith, event_leaves, refused)
 
-raw_out_leaves : (p count : Option ℕ) (w : WorldState) → Unchanged w (raw_out p count w)
-raw_out_leaves p count w = grind arith
-
 -- ---- links flow
 
 flow_sure : (at : ℕ) (w : WorldState) → HaveLinks w → at < length w.members
@@ -256,15 +253,7 @@ first_flows zero w h le = record { unrefused = none; have = h; size = refl }
 first_flows (suc n) w h le =
     let m = flow_first n w in
     let k = first_flows n w h (omega (arith, le)) in
-    let next = place_flows n m.state k.have (omega (arith, le, k.size)) in
-    elim m.fault as (λ v. m.fault ≡ v → Flows w (then_by v m (flow_at n m.state))) [
-      | Some x ↦ λ is. k
-      | None ↦ λ is. record {
-        unrefused = next.unrefused;
-        have = next.have;
-        size = next.size ∙ k.size;
-      }
-    ] refl
+    grind (arith, place_flows)
 
 -- ---- an event
 
@@ -284,7 +273,7 @@ outs_leave : (name : List ℕ) (count : Option ℕ) (w : WorldState) → HaveLin
 outs_leave name count w h =
     elim (client_of_link name w.members) as (λ c. client_of_link name w.members ≡ c
     → Unchanged w (out_step c name count w)) [
-      | None ↦ λ free. raw_out_leaves (place_of name w.links) count w
+      | None ↦ λ free. grind arith
       | Some at ↦ λ is. client_leaves at (client.out count) w
           (out_leaves count (seat_at at w) (h at (link_there name w.members at is).0))
     ] refl

@@ -17,7 +17,7 @@ use Rattle.currency.specs.Links.{Client}
 use Rattle.currency.specs.Points.{before_first, complete, last_named, names_key}
 use Rattle.currency.proofs.Lists.{get_front, get_last}
 use Rattle.currency.proofs.Runs.{in_order, ran_at as run_at}
-use Rattle.server_links.specs.Notes.{sent_entries, words_at, words_if}
+use Rattle.server_links.specs.Notes.{sent_entries, words_at}
 
 -- ---- how far a client has processed
 
@@ -78,9 +78,7 @@ module _ (key : List ℕ) where
   at_some zero (v ∷ ws) (r ∷ es) w e a b =
       let same : v ≡ w = cc in
       let there : r ≡ e = cc in
-      swapped (cond (names_key v key) r 0)
-      ∙ ap (λ u. max 0 (cond (names_key u key) r 0)) same
-      ∙ ap (λ u. max 0 (cond (names_key w key) u 0)) there
+      grind (arith, swapped, max, there)
   at_some (suc k) (v ∷ ws) (r ∷ es) w e a b =
       let x = cond (names_key v key) r 0 in
       ap (max x) (at_some k ws es w e a b)
@@ -123,15 +121,7 @@ module _ (id : ℕ) (past : List Entry) where
       ap (λ l. slice_get l (length r.up)) (reverse-append (x ∷ []) r.up)
       ∙ ap (slice_get (reverse r.up ++ x ∷ [])) (sym (length-reverse r.up))
       ∙ get_last (reverse r.up) x in
-      record {
-        words = r.words;
-        ran = r.words_are;
-        read =
-            ap (λ m. words_at m past) n
-            ∙ ap (λ l. words_if (slice_get l (length r.up))) turned
-            ∙ ap words_if (get_front (reverse (x ∷ r.up)) (reverse r.older.newer) (length r.up) x
-            last);
-      }
+      grind (arith, get_front, reverse)
 
   module _ (key : List ℕ) (k m : ℕ) (next : m ≡ k + 1) where
     up : m ≡ suc k
@@ -154,8 +144,7 @@ module _ (id : ℕ) (past : List Entry) where
       named_within =
           let t = there k e is in
           let g = grown t.words t.ran in
-          let p = picked key (names_key t.words key) e e (omega arith) in
-          omega (arith, g, p, at_most)
+          grind (arith, picked, at_most)
 
       pub named_here : (ws : List (List ℕ)) → words_at e past ≡ Some ws → names_key ws key ≡ true
           → named_to id past key m ≡ e

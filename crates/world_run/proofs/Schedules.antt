@@ -1,7 +1,6 @@
 -- What stands of a world after a schedule.
-use Rattle.std.proofs.Common.{◌≡◌, ◌<◌, ℕ, List, [], ◌∷◌, ◌++◌}
-use Rattle.std.proofs.Common.{Some, None, length, refl, sym, subst, ◌∙◌, arith}
-use Rattle.std.proofs.Common.{append_assoc, append-nil}
+use Rattle.std.proofs.Common.{◌≡◌, ◌<◌, ℕ, List, [], ◌∷◌, ◌++◌, Some, None, length, refl, subst}
+use Rattle.std.proofs.Common.{◌∙◌, arith, append_assoc, append-nil}
 use Rattle.serial_model.specs.declared.history.Limits.{Limits}
 use Rattle.shared_cache.specs.Laws.{Every}
 use Rattle.currency.specs.Current.{Currency}
@@ -18,8 +17,7 @@ use Rattle.server_links.proofs.Names.{unplaced}
 use Rattle.world_run.specs.WorldState.{WorldState, member_at, start}
 use Rattle.world_run.specs.Members.{client_of}
 use Rattle.world_run.specs.WorldHistory.{AllServiced, HoldsCurrent, OneHistory, PartHistory}
-use Rattle.world_run.specs.WorldHistory.{Serviced}
-use Rattle.world_run.specs.WorldHistory.{put_on, said_by, said_to, taken_bytes}
+use Rattle.world_run.specs.WorldHistory.{Serviced, put_on, said_by, said_to, taken_bytes}
 use Rattle.world_run.specs.WorldTranscript.{after, heard, heard_at, transcript}
 use Rattle.world_run.specs.World.{step}
 use Rattle.world_run.proofs.Clients.{place_is}
@@ -109,13 +107,7 @@ pub stands_after : (l : Limits) (events : List Event) (before : ℕ → List ℕ
     → WorldStands l before raw lines v → after v events ≡ Some w
     → WorldStands l (λ i. before i ++ heard v i events) (λ n. raw n ++ said_to n events)
     (lines ++ transcript v events) w
-stands_after l [] before raw lines v w valid s e =
-    subst (λ x. WorldStands l (λ i. before i ++ []) (λ n. raw n ++ []) (lines ++ []) x)
-    (let same : v ≡ w = cc in same)
-    (subst (λ x. WorldStands l (λ i. before i ++ []) (λ n. raw n ++ []) x v)
-    (sym (append-nil lines))
-    (stands_again l before (λ i. before i ++ []) raw (λ n. raw n ++ []) lines v
-    (λ i. sym (append-nil (before i))) (λ n none. sym (append-nil (raw n))) s))
+stands_after l [] before raw lines v w valid s e = grind (arith, append-nil, stands_again)
 stands_after l (d ∷ more) before raw lines v w valid s e =
     let t = step v d in
     elim t.fault as (λ f. t.fault ≡ f → unless_fault f (after t.state more) None ≡ Some w
@@ -127,16 +119,7 @@ stands_after l (d ∷ more) before raw lines v w valid s e =
           let k = stands_after l more (λ i. before i ++ heard_at v i d) (λ n. raw n
           ++ said_by n d) (lines ++ t.lines) t.state w valid.1
           ((event_comes l before raw lines v s d valid.0).ends is) q in
-          subst (λ x. WorldStands l
-          (λ i. before i ++ (heard_at v i d ++ heard t.state i more))
-          (λ n. raw n ++ said_to n (d ∷ more)) x w)
-          (append_assoc lines t.lines (transcript t.state more))
-          (stands_again l (λ i. (before i ++ heard_at v i d) ++ heard t.state i more)
-          (λ i. before i ++ (heard_at v i d ++ heard t.state i more))
-          (λ n. (raw n ++ said_by n d) ++ said_to n more) (λ n. raw n ++ said_to n (d ∷ more))
-          ((lines ++ t.lines) ++ transcript t.state more) w
-          (λ i. append_assoc (before i) (heard_at v i d) (heard t.state i more))
-          (λ n none. append_assoc (raw n) (said_by n d) (said_to n more)) k)
+          grind (arith, append_assoc, stands_again)
     ] refl e
 
 pub stands_then : (l : Limits) (events : List Event) (w : WorldState) → Every IsValid events

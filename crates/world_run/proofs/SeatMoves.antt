@@ -28,7 +28,7 @@ use Rattle.world_run.proofs.Worlds.{Holds, NoneHas, Reads, Stable, WorldPart, li
 
 -- ---- an event of the client's link
 
-said_other : (event : LinkEvent) (n : List ℕ) → bytes_eq (name_of_event event) n ≡ false
+pub said_other : (event : LinkEvent) (n : List ℕ) → bytes_eq (name_of_event event) n ≡ false
     → said_by n event ≡ []
 unfolding name_of_event
 said_other event n e = grind arith
@@ -171,18 +171,7 @@ module _ (l : Limits) (heard : ℕ → List ℕ) (raw : List ℕ → List ℕ) (
             (let m = member_at w.members i in
             subst (λ r. MemberPart w.links r m) (sym (unread m.link lines ls plain.mute))
             ((h.each i (omega (arith, lt, size))).1 n).0));
-        taken = λ i lt.
-            by_place (let m = member_at changed.members i in put_later m.link ≡ taken_bytes m) i at
-            (λ e. subst (λ (m : MemberState). put_later m.link ≡ taken_bytes m) (sym (mine i e))
-            (ap (λ b. h.said new.link ++ cond b more []) (names_itself new.link new.link refl)
-            ∙ took))
-            (λ n. subst (λ (m : MemberState). put_later m.link ≡ taken_bytes m)
-            (sym (theirs i n))
-            (let m = member_at w.members i in
-            ap (λ b. h.said m.link ++ cond b more [])
-            (not_equal new.link m.link (λ e. n (h.distinct at i below (omega (arith, lt, size))
-            (sym e ∙ same))))
-            ∙ append-nil (h.said m.link) ∙ ((h.each i (omega (arith, lt, size))).1 n).1));
+        taken = grind (arith, by_place, mine, names_itself, theirs, not_equal, size, append-nil);
         distinct = apart;
         rest = λ name none.
             ap (λ b. h.said name ++ cond b more [])

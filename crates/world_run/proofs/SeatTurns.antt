@@ -174,8 +174,7 @@ module _ (l : Limits) (heard : ℕ → List ℕ) (raw : List ℕ → List ℕ) (
         turned_causal =
             let new = (client_step At.state.setup At.state.past c).past in
             elim (turn_adds At.state.setup At.state.past c is_call) [
-              | inl same ↦ subst (IsCausal w.links.limits (client_of At) w.links.past) (sym same)
-                  old_part.causal
+              | inl same ↦ grind arith
               | inr more ↦ subst (IsCausal w.links.limits (client_of At) w.links.past) (sym more.1)
                   (causal_log w.links.limits (client_of At) w.links.past more.0 At.state.past
                   (runs_within w.links.limits (client_of At) w.links.past At.state.past old_meets)

@@ -1,6 +1,6 @@
 -- What is kept of the links that are over, and what is told of them.
-use Rattle.std.proofs.Common.{◌≡◌, ◌<◌, ◌≤◌, ℕ, List, true, false, Result, Ok, Err, slice_index_or}
-use Rattle.std.proofs.Common.{refl, ap, arith, eq-eqb, inl, inr, max}
+use Rattle.std.proofs.Common.{◌≡◌, ◌<◌, ◌≤◌, ℕ, List, true, false, Result, slice_index_or}
+use Rattle.std.proofs.Common.{refl, arith, eq-eqb, inl, inr, max}
 use Rattle.std.specs.Prelude.{◌==◌, OnOk, OnErr}
 use Rattle.std.proofs.lemmas.Bool.{cases_lt, eqb-true}
 use Rattle.world_run.specs.WorldState.{AreOver, IsOver, WorldState}
@@ -13,21 +13,8 @@ pub noted : {A E : Type 0} → (old new : List ℕ) (over next : ℕ) (r : Resul
     → ((k : ℕ) → over ≤ k → k < next → IsOver w k) → AreOver old w → AreOver new w
 noted old new over next r w ok err others run are from at order below =
     elim (from == over) as (λ b. (from == over) ≡ b → IsOver w at) [
-      | true ↦ λ e.
-          let same = eqb-true from over e in
-          let moved : slice_index_or new from 0 ≡ slice_index_or new over 0 =
-          ap (λ k. slice_index_or new k 0) same in
-          elim r as (λ r. OnOk r (slice_index_or new over 0 ≡ next)
-          → OnErr r (slice_index_or new over 0 ≡ slice_index_or old over 0) → IsOver w at) [
-            | Ok done ↦ λ n o. run at (omega (arith, order, same)) (omega (arith, below, moved, n))
-            | Err e ↦ λ n o. are from at order (let back : slice_index_or old from 0
-                ≡ slice_index_or old over 0 = ap (λ k. slice_index_or old k 0) same in
-                omega (arith, below, moved, o, back))
-          ] ok err
-      | false ↦ λ e. are from at order (let other : slice_index_or new from 0
-          ≡ slice_index_or old from 0 =
-          others from (λ q. let t : (from == over) ≡ true = eq-eqb from over q in cc) in
-          omega (arith, below, other))
+      | true ↦ grind (arith, eqb-true, slice_index_or)
+      | false ↦ λ e. are from at order (grind (arith, slice_index_or, eq-eqb))
     ] refl
 
 -- up to the place that is told

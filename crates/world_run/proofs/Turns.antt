@@ -22,8 +22,7 @@ use Rattle.shared_cache.specs.Log.{is_ended}
 use Rattle.shared_cache.specs.Held.{Setup, commands}
 use Rattle.shared_cache.specs.Laws.{gots, IsCall, AsksQuery, LegalLog}
 use Rattle.shared_cache.specs.Out.{out, taken, untaken}
-use Rattle.shared_cache.specs.Steps.{ClientTurn, client_step, refusing, is_log_full, polling}
-use Rattle.shared_cache.specs.Steps.{taking_out, getting}
+use Rattle.shared_cache.specs.Steps.{ClientTurn, client_step, refusing, polling, getting}
 use Rattle.world_run.specs.ClientMoves.{bytes_of, fault_of}
 use Rattle.shared_cache.proofs.Bytes.{taken_within}
 use Rattle.shared_cache.proofs.CommandLists.{commands_grow}
@@ -60,9 +59,7 @@ taken_more s e log same =
     let more : out s Main (e ∷ log) ≡ out s Main log ++ flat_map request_spelling p.0 =
     ap (flat_map request_spelling) (sym p.1)
     ∙ flat_map-append request_spelling (commands s Main log) p.0 in
-    ap (λ n. take n (out s Main (e ∷ log))) same ∙ ap (take (taken s Main log)) more
-    ∙ take-append-le (taken s Main log) (out s Main log) (flat_map request_spelling p.0)
-    (taken_within s Main log)
+    grind (arith, take-append-le, taken_within)
 
 take_min : (m : ℕ) (q : List ℕ) → take (min m (length q)) q ≡ take m q
 take_min m q = grind (arith, cases_lt, take_all)
@@ -130,16 +127,12 @@ takes_none : (s : Setup) (log : List LogEntry) (r : ClientRefusal)
     → TurnTakes s log (refusing r log)
 takes_none s log r = grind (arith, append-nil)
 
-takes_bytes : (s : Setup) (most : ℕ) (bytes : List ℕ) (full : Bool) (log : List LogEntry)
-    → untaken s Main log ≡ bytes → TurnTakes s log (taking_out Main most bytes full log)
-takes_bytes s most bytes full log e = grind (arith, append-nil, takes_none, taken_out)
-
 pub take_takes : (s : Setup) (log : List LogEntry) (most : ℕ)
     → TurnTakes s log (client_step s log (TakeOut Main most))
 unfolding client_step
 take_takes s log most =
     by_if (TurnTakes s log) (is_ended s.mode Main log) _ _ (takes_none s log (Down Main))
-    (takes_bytes s most (untaken s Main log) (is_log_full s log) log refl)
+    (grind (arith, append-nil, takes_none, taken_out))
 
 -- a value is got
 pub record TurnGets (s : Setup) (v : Value) (log : List LogEntry) (t : ClientTurn) : Type 0 where

@@ -22,10 +22,9 @@ use Rattle.server_links.specs.LinkEvent as link_event
 use Rattle.server_links.specs.LinkEvent.{LinkEvent}
 use Rattle.server_links.specs.declared.link.LinkMove.{LinkMove}
 use Rattle.server_links.specs.declared.link.LinkMove.TheVariants as moves
-use Rattle.server_links.specs.LinksState.{AreApart, LinksState, at_place, fresh_link, names}
+use Rattle.server_links.specs.LinksState.{AreApart, LinksState, at_place, names}
 use Rattle.server_links.specs.LinkSteps as links
 use Rattle.server_links.specs.LinkSteps.{over, over_named, place_of}
-use Rattle.server_links.specs.Moves.{move_of}
 use Rattle.server_links.specs.Outcome.{Outcome, Gives, Stops, and_then, does, refuses, within}
 use Rattle.server_links.specs.Session.{session_at, with_session}
 use Rattle.server_links.proofs.Ended.{over_below, over_idle}
@@ -169,10 +168,6 @@ a_some o e = grind arith
 pub a_none : {A : Type 0} → (o : Option A) → is_some o ≡ false → o ≡ None
 a_none o e = grind arith
 
-pub said_client : (o : Option ℕ) (name bytes : List ℕ) (w : WorldState) → is_some o ≡ true
-    → said_step o name bytes w ≡ refuses w NoName
-said_client o name bytes w e = grind arith
-
 pub put_nowhere : (name bytes : List ℕ) (w : WorldState) (lines : List Line)
     → place_of name w.links ≡ None
     → Stops (links_step (link_event.Put name bytes) w) lines NoName w lines
@@ -181,9 +176,7 @@ put_nowhere name bytes w lines none =
     let e : LinkEvent = link_event.Put name bytes in
     let r : Result (Unit {0}) WorldFault = Err NoName in
     links_give e w.links w.links w.members lines r lines
-    (subst (λ (m : Outcome LinksState). Stops m lines NoName w.links lines)
-    (sym (ap (λ p. over_named p (move_of e) w.links) none))
-    (refl, refl, sym (append-nil lines)))
+    (grind (arith, append-nil))
 
 -- where the link is no client's
 pub said_stops : (name bytes : List ℕ) (w : WorldState) (lines : List Line) (fault : WorldFault)
@@ -201,14 +194,9 @@ put_before name bytes at w lines found =
     let ls = w.links in
     let e : LinkEvent = link_event.Put name bytes in
     let r : Result (Unit {0}) WorldFault = Err NoMemory in
-    let same : with_session at ls (session_at at ls) ≡ ls =
-    ap (λ l. record { limits = ls.limits; now = ls.now; past = ls.past; links = l })
-    (set-get_or ls.links at (fresh_link 0 [])) in
+    let same : with_session at ls (session_at at ls) ≡ ls = grind (arith, set-get_or) in
     links_give e ls ls w.members lines r lines
-    (subst (λ (m : Outcome LinksState). Stops m lines NoMemory ls lines)
-    (sym (ap (λ p. over_named p (move_of e) ls) found))
-    (subst (λ x. Stops (over at (move_of e) ls) lines NoMemory x lines) same
-    (stops_here (over at (move_of e) ls) (with_session at ls (session_at at ls)) lines refl)))
+    (grind (arith, stops_here))
 
 -- ---- a client is made
 
@@ -265,10 +253,7 @@ module _ (name : List ℕ) (mode : ClientMode) (capacity : ℕ) (w : WorldState)
               (world new w.members) lines'
           made r g =
               links_give (link_event.Raw (data_link name)) w.links new w.members lines r lines'
-              (subst (λ (v : WorldState). Gives (links.step v.links
-              (link_event.Raw (data_link name))) lines r new lines') view
-              (subst (λ (x : MemberState). Gives (links.step old.links (link_event.Raw x.link))
-              lines r new lines') is g))
+              (grind arith)
 
           pub client_stops : (fault : WorldFault) → members ≡ old.members
               → Stops (links.step old.links (link_event.Raw m.link)) lines fault new lines'
@@ -316,9 +301,7 @@ pub flow_stops : (n more : ℕ) (w : WorldState) (lines : List Line) (fault : Wo
     (u : WorldState) (lines' : List Line) → Stops (flow_first n w) lines fault u lines'
     → Stops (flow_first (n + more) w) lines fault u lines'
 unfolding flow_first
-flow_stops n zero w lines fault u lines' h =
-    subst (λ k. Stops (flow_first k w) lines fault u lines')
-    (let e : n ≡ n + 0 = omega arith in e) h
+flow_stops n zero w lines fault u lines' h = grind arith
 flow_stops n (suc more) w lines fault u lines' h =
     subst (λ k. Stops (flow_first k w) lines fault u lines')
     (let e : suc (n + more) ≡ n + suc more = omega arith in e)
@@ -332,9 +315,7 @@ flow_over at w lines apart is =
     let ls = w.links in
     let name = (at_place ls.links at).name in
     let r : Result (Unit {0}) WorldFault = Ok (tt {0}) in
-    let found : place_of name ls ≡ Some at =
-    own_place (names ls.links) ls (record { all = refl; apart = apart }) at
-    (over_below ls at is.link) in
+    let found : place_of name ls ≡ Some at = grind (arith, own_place, over_below) in
     subst (λ c. Ends (flow_step c name w) lines w lines) (sym is.apart)
     (links_give (link_event.Over name moves.Flow) ls ls w.members lines r lines
     (over_idle name ls at lines found is.link))
@@ -343,9 +324,7 @@ flow_over at w lines apart is =
 flow_past : (n more : ℕ) (w v : WorldState) (lines lines1 : List Line)
     → AreApart (names v.links.links) → ((k : ℕ) → n ≤ k → k < n + more → IsOver v k)
     → Ends (flow_first n w) lines v lines1 → Ends (flow_first (n + more) w) lines v lines1
-flow_past n zero w v lines lines1 apart over h =
-    subst (λ k. Ends (flow_first k w) lines v lines1)
-    (let e : n ≡ n + 0 = omega arith in e) h
+flow_past n zero w v lines lines1 apart over h = grind arith
 flow_past n (suc more) w v lines lines1 apart over h =
     let r : Result (Unit {0}) WorldFault = Ok (tt {0}) in
     subst (λ k. Ends (flow_first k w) lines v lines1)

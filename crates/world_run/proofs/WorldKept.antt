@@ -19,7 +19,7 @@ use Rattle.server_links.specs.LinkEvent.{LinkEvent}
 use Rattle.server_links.specs.LinksState.{LinksState, at_place}
 use Rattle.server_links.specs.LinkSteps as links
 use Rattle.server_links.specs.LinkSteps.{place_of}
-use Rattle.server_links.specs.Outcome.{Outcome, Reached, and_then, does, refuses, stays}
+use Rattle.server_links.specs.Outcome.{Outcome, Reached, and_then, does, refuses}
 use Rattle.server_links.proofs.Ended.{StayOver, over_below, raw_over}
 use Rattle.server_links.proofs.Names.{unplaced}
 use Rattle.server_links.proofs.Outcomes.{Meets, meets_does, meets_refuses, meets_stays, meets_then}
@@ -31,7 +31,7 @@ use Rattle.world_run.specs.ClientMoves as client
 use Rattle.world_run.specs.ClientMoves.{show, turn}
 use Rattle.world_run.specs.World.{Stepped, client_does, client_step, flow_at, flow_first, flow_step}
 use Rattle.world_run.specs.World.{is_served, is_taken, join, links_step, named_does, not_served}
-use Rattle.world_run.specs.World.{out_step, raw_out, recv_step, said_step, setup_by, step, on_links}
+use Rattle.world_run.specs.World.{out_step, recv_step, setup_by, step, on_links}
 use Rattle.server_links.proofs.Moments.{tick_goes_on}
 use Rattle.world_run.proofs.Kept.{Kept, LinksKept, Orderly, named_kept, o_flow, o_out, clock_kept}
 use Rattle.world_run.proofs.Kept.{links_same, tick_kept, o_receive, o_show, o_turn}
@@ -53,12 +53,6 @@ still_same w at is = (is, refl)
 still_both : (w u v : WorldState) → Still w u → Still u v → Still w v
 still_both w u v a b at is = grind arith
 
--- where the clients keep their links
-still_kept : (w v : WorldState) → StayOver w.links v.links
-    → ((link : List ℕ) → client_of_link link v.members ≡ client_of_link link w.members)
-    → Still w v
-still_kept w v k clients at is = grind (arith, over_below)
-
 -- the history grows, and no link is made
 pub record Onward (w v : WorldState) : Type 0 where
   pub size : length v.links.links ≡ length w.links.links
@@ -78,19 +72,11 @@ onward_both w u v a b = record {
   still = still_both w u v a.still b.still;
 }
 
-onward_kept : (w v : WorldState) (name : List ℕ) → LinksKept w.links name v.links
-    → ((link : List ℕ) → client_of_link link v.members ≡ client_of_link link w.members)
-    → Onward w v
-onward_kept w v name k clients = grind (arith, still_kept)
-
 abbrev Goes : WorldState → Stepped → Type 0
 Goes w m = Meets (λ v ls. Onward w v) (λ v ls. Onward w v) m
 
 goes_refused : (w : WorldState) (f : WorldFault) → Goes w (refuses w f)
 goes_refused w f = grind (arith, meets_refuses, onward_same)
-
-goes_same : (w : WorldState) → Goes w (stays w)
-goes_same w = grind (arith, meets_stays, onward_same)
 
 goes_linked : (event : LinkEvent) (name : List ℕ) (w : WorldState)
     → Meets (λ v ls. LinksKept w.links name v) (λ v ls. LinksKept w.links name v)
@@ -101,8 +87,8 @@ goes_linked event name w k =
     (links.step w.links event)
     (meets_weaker (λ v ls. LinksKept w.links name v) (λ v ls. Onward w (on_links w v))
     (λ v ls. LinksKept w.links name v) (λ v ls. Onward w (on_links w v))
-    (links.step w.links event) (λ v ls q. onward_kept w (on_links w v) name q (λ n. refl))
-    (λ v ls q. onward_kept w (on_links w v) name q (λ n. refl)) k)
+    (links.step w.links event) (λ v ls q. grind (arith, over_below))
+    (λ v ls q. grind (arith, over_below)) k)
 
 pub goes_over : (name : List ℕ) (move : LinkMove) (w : WorldState)
     → Goes w (links_step (link_event.Over name move) w)
@@ -122,8 +108,7 @@ goes_tick : (w : WorldState) → Goes w (links_step link_event.Tick w)
 unfolding links.step
 goes_tick w =
     goes_linked link_event.Tick [] w
-    (tick_goes_on w.links (λ v ls. LinksKept w.links [] v) (links_same w.links [])
-    (λ moment e. tick_kept w.links moment))
+    (grind (arith, tick_goes_on, LinksKept, links_same, tick_kept))
 
 goes_put : (name bytes : List ℕ) (w : WorldState)
     → Goes w (links_step (link_event.Put name bytes) w)
@@ -138,8 +123,7 @@ unfolding client_does
 goes_client at move orderly w =
     let s = seat_at at w in
     let onward : (t : Seat) → Kept s t → Onward w (with_seat at w t) =
-    λ t k. onward_kept w (with_seat at w t) s.member.link k.links
-    (λ n. client_set n w.members at t.member k.link) in
+    λ t k. grind (arith, over_below, client_set) in
     meets_within (with_seat at w) (λ v ls. Onward w v) (λ v ls. Onward w v) (move s)
     (record {
       ends = λ none. onward (move s).state ((orderly s).kept.ends none);
@@ -158,7 +142,7 @@ flow_size n w v ls r =
 
 goes_first : (n : ℕ) (w : WorldState) → Goes w (flow_first n w)
 unfolding flow_first
-goes_first zero w = goes_same w
+goes_first zero w = grind (arith, meets_stays, onward_same)
 goes_first (suc n) w =
     let m = flow_first n w in
     meets_then (λ v ls. Onward w v) (λ v ls. Onward w v) (λ v ls. Onward w v) m (flow_at n)
@@ -191,7 +175,7 @@ raw_grows name w =
     let k = step_moved w.links event in
     let o = raw_over name w.links in
     let still : (v : LinksState) → StayOver w.links v → Still w (on_links w v) =
-    λ v s. still_kept w (on_links w v) s (λ n. refl) in
+    λ v s. grind (arith, over_below) in
     meets_within (on_links w) (λ v ls. Grows w v × (place_of name w.links ≡ None))
     (λ v ls. Grows w v) (links.step w.links event)
     (record {
@@ -236,16 +220,9 @@ named_goes : (c : Option ℕ) (move : Seat → Outcome Seat) → ((s : Seat) →
 named_goes None move orderly w = goes_refused w NoName
 named_goes (Some at) move orderly w = goes_client at move orderly w
 
-said_goes : (c : Option ℕ) (name bytes : List ℕ) (w : WorldState)
-    → Goes w (said_step c name bytes w)
-said_goes c name bytes w = grind (arith, goes_put, goes_refused)
-
-raw_out_goes : (p : Option ℕ) (count : Option ℕ) (w : WorldState) → Goes w (raw_out p count w)
-raw_out_goes p count w = grind (arith, goes_refused, goes_same)
-
 out_goes : (c : Option ℕ) (name : List ℕ) (count : Option ℕ) (w : WorldState)
     → Goes w (out_step c name count w)
-out_goes None name count w = raw_out_goes (place_of name w.links) count w
+out_goes None name count w = grind (arith, goes_refused, meets_stays, onward_same)
 out_goes (Some at) name count w = goes_client at (client.out count) (o_out count) w
 
 recv_goes : (c : Option ℕ) (name : List ℕ) (count : Option ℕ) (w : WorldState)
@@ -256,13 +233,10 @@ recv_goes (Some at) name count w = goes_client at (client.receive count) (o_rece
 pub step_grows : (e : Event) (w : WorldState)
     → Meets (λ v ls. Grows w v) (λ v ls. Grows w v) (step w e)
 unfolding step
-step_grows (Raw name) w =
-    by_if (Growing w) (is_taken name w) (refuses w NameTaken) _
-    (meets_refuses (λ v ls. Grows w v) (λ v ls. Grows w v) w NameTaken ([], refl, still_same w))
-    (raw_alone name w)
-step_grows (Say name words) w = as_growing w _ (said_goes (client_of_link name w.members) name _ w)
+step_grows (Raw name) w = grind (arith, by_if, meets_refuses, still_same, raw_alone)
+step_grows (Say name words) w = as_growing w _ (grind (arith, goes_put, goes_refused))
 step_grows (Bytes name bytes) w =
-    as_growing w _ (said_goes (client_of_link name w.members) name bytes w)
+    as_growing w _ (grind (arith, goes_put, goes_refused))
 step_grows (Client name mode capacity) w = client_grows name mode capacity w
 step_grows (Out name count) w =
     as_growing w _ (out_goes (client_of_link name w.members) name count w)

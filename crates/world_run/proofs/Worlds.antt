@@ -1,7 +1,6 @@
 -- What holds of a world with clients: of its links, and of each client.
-use Rattle.std.proofs.Common.{◌≡◌, ◌<◌, ℕ, List, [], ◌++◌, false}
-use Rattle.std.proofs.Common.{None, length, map, sym, ap, subst, ◌∙◌}
-use Rattle.std.proofs.Common.{append-nil}
+use Rattle.std.proofs.Common.{arith, ◌≡◌, ◌<◌, ℕ, List, [], ◌++◌, false, None, length, map, sym, ap}
+use Rattle.std.proofs.Common.{subst, ◌∙◌, append-nil}
 use Rattle.resp_value.specs.Lists.{IsPrefix}
 use Rattle.resp_value.specs.ValueTree.{tree_of}
 use Rattle.resp_stream.specs.Parse.{parse_values, values_of}
@@ -15,7 +14,7 @@ use Rattle.script_text.specs.declared.line.Line.{Line}
 use Rattle.server_links.specs.LinkEvent.{LinkEvent}
 use Rattle.server_links.specs.LinksState.{LinksState, at_place}
 use Rattle.server_links.specs.LinkSteps.{step}
-use Rattle.server_links.specs.OneHistory.{PartServes, read_on, said_by}
+use Rattle.server_links.specs.OneHistory.{read_on, said_by}
 use Rattle.server_links.specs.Transcript.{heard_at}
 use Rattle.server_links.proofs.Accounts.{Part}
 use Rattle.server_links.proofs.Carries.{read_more}
@@ -86,11 +85,7 @@ pub meet_by : (l : Limits) (said : List ℕ → List ℕ) (lines : List Line) (l
     → MemberPart ls (read_on m.link lines) m → IsPrefix (said m.link) (taken_bytes m)
     → Meet ls.limits (client_of m) ls.past m.state.past
 unfolding Part
-meet_by l said lines ls m s part took =
-    meet_of ls (read_on m.link lines) (said m.link) m s.history.legal
-    (s.history.ids m.place part.below) part took
-    (subst (λ n. PartServes ls.limits (said n) (read_on n lines) ls.past
-    (at_place ls.links m.place)) part.placed (s.parts m.place part.below))
+meet_by l said lines ls m s part took = grind (arith, meet_of)
 
 pub meet_part : (l : Limits) (raw : List ℕ → List ℕ) (lines : List Line) (w : WorldState)
     → WorldPart l raw lines w → (i : ℕ) → i < length w.members

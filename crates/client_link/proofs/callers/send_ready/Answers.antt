@@ -1,26 +1,12 @@
-use Rattle.std.proofs.Common.{ℕ, List, sym, subst, ◌∙◌, arith}
-use Rattle.shared_cache.specs.declared.log.ClientCall.TheVariants as call
-use Rattle.shared_cache.specs.declared.log.LogEntry.TheVariants as entry
-use Rattle.shared_cache.specs.declared.log.ClientReply.TheVariants as reply
-use Rattle.shared_client.specs.Turns.{Adds, Refuses}
+use Rattle.std.proofs.Common.{arith}
 use Rattle.client_link.proofs.Calling.{waited_adds, waited_fails, waited_on}
 use Rattle.client_link.proofs.callers.send_ready.Goals as goal
 
 pub returns-in-Ok-send-clause-ok : goal.returns-in-Ok-send-clause-ok
-returns-in-Ok-send-clause-ok g c =
-    waited_adds c.args.seat.now c.loop.seat c.send.new.seat c.loop.invariant.2
-    (call.Send c.args.words.now) (reply.Sent c.in-Ok-send.number) (entry.Send c.args.words.now)
-    (subst (λ (q : List (List ℕ)). Adds (call.Send q) (reply.Sent c.in-Ok-send.number)
-    (entry.Send q) c.loop.seat c.send.new.seat) c.in-Ok.ensures c.in-Ok-send.ensures.ok)
+returns-in-Ok-send-clause-ok g c = grind (arith, waited_adds)
 
 pub loop-preserved : goal.loop-preserved
 loop-preserved g c = grind (arith, waited_on)
 
 pub returns-then-not-is_not_ready-clause-err : goal.returns-then-not-is_not_ready-clause-err
-returns-then-not-is_not_ready-clause-err g c =
-    let k = c.loop.seat in
-    let new = c.send.new.seat in
-    let h = subst (λ (q : List (List ℕ)). Refuses (call.Send q) c.in-Err.refusal k new)
-    c.in-Ok.ensures c.in-Err.ensures.err in
-    waited_fails c.args.seat.now k new c.loop.invariant.2 (call.Send c.args.words.now)
-    c.in-Err.refusal (sym c.is_not_ready.ensures ∙ c.if-not-is_not_ready.true) h
+returns-then-not-is_not_ready-clause-err g c = grind (arith, waited_fails)

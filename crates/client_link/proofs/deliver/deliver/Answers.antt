@@ -1,5 +1,4 @@
-use Rattle.std.proofs.Common.{sym, subst, ◌∙◌, arith}
-use Rattle.std.specs.Io.KnownBytes.{Appends}
+use Rattle.std.proofs.Common.{sym, subst, arith}
 use Rattle.resp_value.specs.Lists.{IsPrefix}
 use Rattle.edge_links.proofs.Bytes.{keeps_same, keeps_trans}
 use Rattle.client_link.specs.Pumps.{DeliversPart}
@@ -21,26 +20,14 @@ returns-in-Err-write_all-clause-err g c =
     (subst (IsPrefix w.0) c.as_slice.ensures w.2)
 
 pub loop-preserved : goal.loop-preserved
-loop-preserved g c =
-    let gives = takes_at _ _ c.loop.seat c.take_out.new.seat c.in-Ok-Some.ensures.ok
-    c.in-Ok-Some.field-0-is in (
-      tt,
-      tt,
-      delivering_more (g.L.Link.contents c.args.link.now)
-          (g.L.Link.contents c.loop.link) c.args.seat.now c.loop.seat c.loop.invariant.2
-          c.in-Ok-Some.bytes c.take_out.new.seat gives (g.L.Link.contents c.write_all.new.link)
-          (subst (Appends _ _) c.as_slice.ensures c.in-Ok.ensures.bytes),
-      keeps_trans _ _ _ c.loop.invariant.3 c.write_all.ensures.unread,
-      c.in-Ok.ensures.counts ∙ c.loop.invariant.4,
-    )
+loop-preserved g c = grind (arith, takes_at, delivering_more, keeps_trans)
 
 pub returns-in-Ok-None-clause-ok : goal.returns-in-Ok-None-clause-ok
 returns-in-Ok-None-clause-ok g c =
     delivers_rests (g.L.Link.contents c.args.link.now)
     (g.L.Link.contents c.loop.link) c.args.seat.now c.loop.seat c.loop.invariant.2
     c.take_out.new.seat
-    (takes_at _ _ c.loop.seat c.take_out.new.seat c.in-Ok-None.ensures.ok
-    c.in-Ok-None.field-0-is)
+    (grind (arith, takes_at))
 
 pub returns-in-Err-clause-err : goal.returns-in-Err-clause-err
 returns-in-Err-clause-err g c =

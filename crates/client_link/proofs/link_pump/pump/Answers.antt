@@ -1,4 +1,4 @@
-use Rattle.client_link.proofs.Pumping.{closes_pumps, closes_counts}
+use Rattle.client_link.proofs.Pumping.{closes_pumps}
 use Rattle.client_link.proofs.link_pump.pump.Goals as goal
 use Rattle.std.proofs.Common.{arith}
 
@@ -10,4 +10,4 @@ returns-clause-pumps g c =
     c.close-ended.new.seat c.run-ended.ensures.runs c.close-ended.ensures
 
 pub returns-clause-counts : goal.returns-clause-counts
-returns-clause-counts g c = grind (arith, closes_counts)
+returns-clause-counts g c = grind arith

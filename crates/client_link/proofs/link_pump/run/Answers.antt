@@ -1,11 +1,13 @@
+use Rattle.seat_turns.proofs.Growing.{grows_none}
+use Rattle.edge_links.proofs.Bytes.{consumes_none, appends_none}
+use Rattle.resp_stream.proofs.Onward.{values_begun, no_values}
 use Rattle.std.proofs.Common.{ap, ◌∙◌, arith}
 use Rattle.edge_links.specs.declared.counts.Counts.{Counts}
-use Rattle.client_link.proofs.Pumping.{pumping_none, delivered, drained, delivery_stops, hears_on}
-use Rattle.client_link.proofs.Pumping.{hears_stops}
+use Rattle.client_link.proofs.Pumping.{delivered, drained, delivery_stops, hears_on, hears_stops}
 use Rattle.client_link.proofs.link_pump.run.Goals as goal
 
 pub loop-init : goal.loop-init
-loop-init g c = grind (arith, pumping_none)
+loop-init g c = grind (arith, grows_none, consumes_none, values_begun, no_values, appends_none)
 
 pub returns-in-Err-clause-runs : goal.returns-in-Err-clause-runs
 returns-in-Err-clause-runs g c =

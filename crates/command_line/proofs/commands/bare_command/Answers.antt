@@ -1,6 +1,5 @@
-use Rattle.command_line.proofs.Building.{with_flags}
 use Rattle.command_line.proofs.commands.bare_command.Goals as goal
 use Rattle.std.proofs.Common.{arith}
 
 pub returns : goal.returns
-returns c = grind (arith, with_flags)
+returns c = grind arith

@@ -1,7 +1,7 @@
-use Rattle.std.proofs.Common.{◌≡◌, ap, sym, subst, ◌∙◌, ◌∷◌, ◌+◌, drop}
+use Rattle.command_set.proofs.Moves.{right_false, left_false, at_remove, at_insert}
+use Rattle.std.proofs.Common.{arith, ◌≡◌, ap, sym, subst, ◌∙◌, ◌∷◌, ◌+◌, drop}
 use Rattle.std.proofs.lemmas.List.{at_drop_more}
-use Rattle.command_set.specs.Priors.{prior_of, priors_of, put_back, AgreeBeside}
-use Rattle.command_set.proofs.TakenBack.{beside_again}
+use Rattle.command_set.specs.Priors.{priors_of, AgreeBeside}
 use Rattle.command_set.proofs.prior.put_back.Goals as goal
 
 pub loop-prior-preserved : goal.loop-prior-preserved
@@ -16,12 +16,10 @@ loop-prior-preserved c =
     ap (λ p. p ∷ after) c.prior-item.is
     ∙ sym (at_drop_more (λ ps. ps) priors place prior c.loop-prior-test.true) in
     record {
-      put = ap (put_back (priors_of after)) put
-          ∙ (ap (λ ps. put_back (priors_of ps) space) ahead ∙ c.loop-prior.invariant.put);
+      put = grind arith;
       beside = λ t rest.
           c.loop-prior.invariant.beside t
           (subst (λ ps. AgreeBeside (priors_of ps) space t) ahead
-          (beside_again (prior_of prior) (priors_of after) space t
-          (subst (λ s. AgreeBeside (priors_of after) s t) put rest)));
+          (grind (arith, right_false, left_false, at_remove, at_insert)));
       step = c.put_back_one.ensures.step;
     }

@@ -16,8 +16,7 @@ half_send : (g : Over) (κs : Lfts 20) → IsSend (param 0 g.row.L) → IsSend (
     g.L.Opening-dict g.L.Ledger g.L.Ledger-dict g.E.Ledger g.E.Ledger-dict g.A.Acceptor
     g.A.Acceptor-dict g.A.Link.Link g.A.Link.Link-dict g.C.Clock g.C.Clock-dict g.G.Gate
     g.G.Gate-dict g.R.Threads g.R.Threads-dict g.R.Wait g.R.Wait-dict g.A.Link.Destruct-dict κs)
-half_send g κs l e a k c s r =
-    search crossing depth 60 fits 100000
+half_send g κs l e a k c s r = search crossing depth 60 fits 100000
 
 -- and what it leaves
 left_send : (g : Over) (κs : Lfts 20) → IsSend (param 0 g.row.L) → IsSend (param 1 g.row.E)

@@ -52,8 +52,7 @@ returns-in-Ok-None-clause-ok g c =
     delivers_rests c.args.id (g.L.Link.contents c.args.link.now)
     (g.L.Link.contents c.loop.link) c.args.seat.now c.loop.seat c.loop.invariant.2
     c.take.new.seat
-    (takes_at c.args.id _ _ c.loop.seat c.take.new.seat c.in-Ok-None.ensures.ok
-    c.in-Ok-None.field-0-is)
+    (grind (arith, takes_at))
 
 pub returns-in-Err-clause-err : goal.returns-in-Err-clause-err
 returns-in-Err-clause-err g c =

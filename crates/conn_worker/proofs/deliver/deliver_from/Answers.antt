@@ -1,4 +1,4 @@
-use Rattle.std.proofs.Common.{arith, ap, subst, length, ◌∙◌}
+use Rattle.std.proofs.Common.{arith, ap, subst, length}
 use Rattle.std.specs.Prelude.{Some}
 use Rattle.std.proofs.lemmas.Result.{IfErr-weaker, on_ok_weaker}
 use Rattle.std.specs.Io.KnownBytes.{Appends}
@@ -12,10 +12,7 @@ use Rattle.conn_worker.proofs.deliver.deliver_from.Goals.{In-Taken-Some}
 use Rattle.conn_worker.proofs.deliver.deliver_from.Given as given
 
 pub returns-in-Taken-None-clause-ok : goal.returns-in-Taken-None-clause-ok
-returns-in-Taken-None-clause-ok g c = λ before b.
-    begun_none c.args.id (g.L.Link.contents c.args.link.now) before c.args.seat.now
-    (subst (λ f. Begins c.args.id f before c.args.seat.now)
-    (c.in-Taken-None.is ∙ ap Taken c.in-Taken-None.field-0-is) b)
+returns-in-Taken-None-clause-ok g c = grind (arith, begun_none)
 
 -- what was taken are these bytes
 some_taken : (g : given.Over) → (c : goal.In-Taken-Some g) → (before : Place)
@@ -39,11 +36,7 @@ returns-clause-ok g c =
     delivers_then c.args.id (g.L.Link.contents c.args.link.now)
     (g.L.Link.contents c.write_all.new.link) (g.L.Link.contents c.deliver-2.new.link) before
     c.args.seat.now c.deliver-2.new.seat
-    (begun_more c.args.id (g.L.Link.contents c.args.link.now) before c.args.seat.now
-    c.in-Taken-Some.bytes
-    (some_taken g (goal.at.returns-clause-ok g c).In-Taken-Some before b)
-    (g.L.Link.contents c.write_all.new.link)
-    (subst (Appends _ _) c.as_slice.ensures c.in-Ok.ensures.bytes)) d) c.deliver-2.ensures.ok
+    (grind (arith, begun_more, some_taken)) d) c.deliver-2.ensures.ok
 
 pub returns-clause-err : goal.returns-clause-err
 returns-clause-err g c =
@@ -51,8 +44,4 @@ returns-clause-err g c =
     delivers_part_then c.args.id (g.L.Link.contents c.args.link.now)
     (g.L.Link.contents c.write_all.new.link) (g.L.Link.contents c.deliver-2.new.link) before
     c.args.seat.now c.deliver-2.new.seat
-    (begun_more c.args.id (g.L.Link.contents c.args.link.now) before c.args.seat.now
-    c.in-Taken-Some.bytes
-    (some_taken g (goal.at.returns-clause-err g c).In-Taken-Some before b)
-    (g.L.Link.contents c.write_all.new.link)
-    (subst (Appends _ _) c.as_slice.ensures c.in-Ok.ensures.bytes)) e d) c.deliver-2.ensures.err
+    (grind (arith, begun_more, some_taken)) e d) c.deliver-2.ensures.err

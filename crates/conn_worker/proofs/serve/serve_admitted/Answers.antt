@@ -1,19 +1,17 @@
-use Rattle.std.proofs.Common.{◌≡◌, ℕ, true, sym, ap, subst, ◌∙◌, arith}
+use Rattle.seat_turns.proofs.Growing.{grows_none}
+use Rattle.edge_links.proofs.Bytes.{consumes_none, appends_none}
+use Rattle.resp_stream.proofs.Onward.{requests_begun, no_requests}
+use Rattle.std.proofs.Common.{sym, ap, ◌∙◌, arith}
 use Rattle.edge_links.specs.declared.counts.Counts.{Counts}
-use Rattle.serial_model.specs.History.{is_admitted}
-use Rattle.seat_turns.specs.Own.{past_of}
-use Rattle.conn_worker.specs.Visits.{Begins, Delivers, DeliversPart, fault_of, front_of}
-use Rattle.conn_worker.proofs.Serving.{Begun, serving_none, hears_begins, hears_stops}
-use Rattle.conn_worker.proofs.Serving.{delivered_serves, delivered_ends, delivery_stops}
-use Rattle.conn_worker.proofs.Serving.{end_counts_from, part_counts}
-use Rattle.conn_worker.specs.declared.deliver.Front.{Front}
-use Rattle.shared_book.specs.Turns.{Place}
+use Rattle.conn_worker.specs.Visits.{fault_of, front_of}
+use Rattle.conn_worker.proofs.Serving.{Begun, hears_begins, hears_stops, delivered_serves}
+use Rattle.conn_worker.proofs.Serving.{delivered_ends, delivery_stops, part_counts}
 use Rattle.conn_worker.proofs.serve.serve_admitted.Goals as goal
 use Rattle.conn_worker.proofs.serve.serve_admitted.Goals.{In-Ok}
 use Rattle.conn_worker.proofs.serve.serve_admitted.Given as given
 
 pub loop-init : goal.loop-init
-loop-init g c = grind (arith, serving_none)
+loop-init g c = grind (arith, grows_none, consumes_none, requests_begun, no_requests, appends_none)
 
 pub returns-in-Err-clause-works : goal.returns-in-Err-clause-works
 returns-in-Err-clause-works g c =
@@ -25,7 +23,7 @@ returns-in-Err-clause-works g c =
     (g.L.Link.contents c.hear_once-heard.new.link) c.in-Err.ensures.err c.in-Err.ensures.written
 
 pub returns-in-Err-clause-counts : goal.returns-in-Err-clause-counts
-returns-in-Err-clause-counts g c = grind (arith, end_counts_from)
+returns-in-Err-clause-counts g c = grind arith
 
 -- what was heard, with what of the rest was asked for
 begun : (g : given.Over) → (c : goal.In-Ok g)
@@ -52,13 +50,7 @@ deliver_from-requires-clause-within g c = grind (arith, begun)
 pub deliver_from-requires-clause-admitted : goal.deliver_from-requires-clause-admitted
 deliver_from-requires-clause-admitted g c =
     let b = begun g (goal.at.deliver_from-requires-clause-admitted g c).In-Ok in
-    subst (λ n. is_admitted (past_of c.hear_once-heard.new.seat) n ≡ true) (sym b.waits.id_is)
-    b.admitted
-
--- the place before the first bytes were taken, as the delivery wants it
-begins_at : (id name : ℕ) (f h : Front) (before now : Place) → name ≡ id → f ≡ h
-    → Begins id h before now → Begins name f before now
-begins_at id name f h before now same is b = grind arith
+    grind arith
 
 pub returns-in-Err-deliver_from-clause-works : goal.returns-in-Err-deliver_from-clause-works
 returns-in-Err-deliver_from-clause-works g c =
@@ -70,27 +62,12 @@ returns-in-Err-deliver_from-clause-works g c =
     (g.L.Link.contents c.hear_once-heard.new.link) c.args.seat.now b.middle b.waits
     (g.L.Link.left c.deliver_from.new.link) (g.L.Link.contents c.deliver_from.new.link)
     c.in-Err-deliver_from.ensures.unread c.deliver_from.new.seat c.in-Err-deliver_from.ended
-    (subst (λ n. DeliversPart c.in-Err-deliver_from.ended n (g.L.Link.contents
-    c.hear_once-heard.new.link)
-    (g.L.Link.contents c.deliver_from.new.link) b.middle c.deliver_from.new.seat) b.waits.id_is
-    (c.in-Err-deliver_from.ensures.err b.middle
-    (begins_at c.args.connection.now.id c.hear_once-heard.new.connection.id _ _ b.middle
-    c.hear_once-heard.new.seat b.waits.id_is c.behind.ensures.1 b.begins)))
+    (grind arith)
 
 pub returns-in-Err-deliver_from-clause-counts : goal.returns-in-Err-deliver_from-clause-counts
 returns-in-Err-deliver_from-clause-counts g c =
     let b = begun g (goal.at.returns-in-Err-deliver_from-clause-counts g c).In-Ok in
-    end_counts_from c.in-Err-deliver_from.ended (g.L.Link.counts c.args.link.now)
-    (g.L.Link.counts c.hear_once-heard.new.link) (g.L.Link.counts c.deliver_from.new.link)
-    (c.in-Ok.ensures.counts.0 ∙ c.loop.invariant.3) (c.in-Ok.ensures.counts.1 ∙ c.loop.invariant.4)
-    (part_counts c.in-Err-deliver_from.ended c.hear_once-heard.new.connection.id
-    (g.L.Link.contents c.hear_once-heard.new.link) (g.L.Link.contents c.deliver_from.new.link)
-    b.middle c.deliver_from.new.seat (g.L.Link.counts c.hear_once-heard.new.link)
-    (g.L.Link.counts c.deliver_from.new.link)
-    (c.in-Err-deliver_from.ensures.err b.middle
-    (begins_at c.args.connection.now.id c.hear_once-heard.new.connection.id _ _ b.middle
-    c.hear_once-heard.new.seat b.waits.id_is c.behind.ensures.1 b.begins))
-    c.in-Err-deliver_from.ensures.counts)
+    grind (arith, part_counts)
 
 pub returns-in-Some-fault-clause-works : goal.returns-in-Some-fault-clause-works
 returns-in-Some-fault-clause-works g c =
@@ -102,11 +79,7 @@ returns-in-Some-fault-clause-works g c =
     (g.L.Link.contents c.hear_once-heard.new.link) c.args.seat.now b.middle b.waits
     (g.L.Link.left c.deliver_from.new.link) (g.L.Link.contents c.deliver_from.new.link)
     c.in-Ok-deliver_from.ensures.unread c.deliver_from.new.seat
-    (subst (λ n. Delivers n (g.L.Link.contents c.hear_once-heard.new.link)
-    (g.L.Link.contents c.deliver_from.new.link) b.middle c.deliver_from.new.seat) b.waits.id_is
-    (c.in-Ok-deliver_from.ensures.ok b.middle
-    (begins_at c.args.connection.now.id c.hear_once-heard.new.connection.id _ _ b.middle
-    c.hear_once-heard.new.seat b.waits.id_is c.behind.ensures.1 b.begins)))
+    (grind arith)
     c.in-Some-fault.fault (sym c.behind.ensures.0 ∙ c.in-Some-fault.is)
 
 pub loop-preserved : goal.loop-preserved
@@ -122,12 +95,7 @@ loop-preserved g c =
           (g.L.Link.contents c.hear_once-heard.new.link) c.args.seat.now b.middle b.waits
           (g.L.Link.left c.deliver_from.new.link) (g.L.Link.contents c.deliver_from.new.link)
           c.in-Ok-deliver_from.ensures.unread c.deliver_from.new.seat
-          (subst (λ n. Delivers n (g.L.Link.contents c.hear_once-heard.new.link)
-          (g.L.Link.contents c.deliver_from.new.link) b.middle c.deliver_from.new.seat)
-          b.waits.id_is
-          (c.in-Ok-deliver_from.ensures.ok b.middle
-          (begins_at c.args.connection.now.id c.hear_once-heard.new.connection.id _ _ b.middle
-          c.hear_once-heard.new.seat b.waits.id_is c.behind.ensures.1 b.begins)))
+          (grind arith)
           (sym c.behind.ensures.0 ∙ c.in-None-fault.is),
       ap (λ (k : Counts). k.faults) same ∙ (c.in-Ok.ensures.counts.0 ∙ c.loop.invariant.3),
       ap (λ (k : Counts). k.ends) same ∙ (c.in-Ok.ensures.counts.1 ∙ c.loop.invariant.4),

@@ -1,8 +1,5 @@
-use Rattle.std.proofs.Common.{◌≡◌, List, ℕ, ap, sym, subst, ◌∙◌, ◌∷◌, ◌++◌, [], rules}
-use Rattle.std.proofs.Common.{to_z, of_z, w64}
+use Rattle.std.proofs.Common.{arith, ◌≡◌, ap, subst, ◌∙◌, ◌∷◌, ◌++◌, [], rules, to_z, of_z, w64}
 use Rattle.std.specs.Fmt.{signed_decimal}
-use Rattle.resp_value.specs.declared.value.Value.TheVariants.{Number}
-use Rattle.command_words.specs.declared.command.Signalled.TheVariants.{Keys}
 use Rattle.command_words.specs.Space.{content_at}
 use Rattle.command_words.specs.Effect.{hash_not_integer, number_in, replied, wrong_type}
 use Rattle.command_words.specs.Hashes.{field_get, field_sum, hincrby_row}
@@ -27,12 +24,6 @@ returns-in_ok-set_fields-in-Sum c =
     ∙ (λ i. c.new-words.ensures i ++ c.in_ok-from_slice-in-Sum.ensures i ∷ []) in
     let number : to_z w64 (of_z w64 c.in-Sum.sum) ≡ c.in-Sum.sum = search rules in
     let second : c.in_ok-decimal-in-Sum.field-0 ≡ signed_decimal c.in-Sum.sum = search rules in
-    let words = c.as_slice.ensures ∙ (c.in_ok-push-in-Sum-2.ensures.ok
-    ∙ (λ i. one i ++ second i ∷ [])) in
+    let words = c.as_slice.ensures ∙ (grind arith) in
     let put = sum_put key field (signed_decimal c.in-Sum.sum) c.as_slice.result.now fs space
-    c.set_fields.new.space words has c.in_ok-set_fields-in-Sum.ensures.ok in (
-      ap (λ d. d.reply) c.wrote.ensures ∙ (ap Number number ∙ ap (λ r. r.reply) (sym row)),
-      ap (λ d. d.signalled) c.wrote.ensures ∙ (ap Keys c.in_ok-keys-in-Sum.ensures
-          ∙ ap (λ r. r.signalled) (sym row)),
-      put ∙ ap (λ r. r.space) (sym row),
-    )
+    c.set_fields.new.space words has c.in_ok-set_fields-in-Sum.ensures.ok in grind arith

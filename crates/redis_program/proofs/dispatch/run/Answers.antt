@@ -1,19 +1,13 @@
-use Rattle.std.proofs.Common.{◌≡◌, ◌∙◌, Some, ap, inl, inr, map, subst, sym}
+use Rattle.std.proofs.Common.{arith, ◌∙◌, Some, ap, inl, inr, map, subst, sym}
 use Rattle.std.specs.Prelude.{string_bytes}
 use Rattle.serial_model.specs.Steps.{AreValid}
 use Rattle.redis_program.specs.declared.status.Ending.TheVariants.{NoMemory}
-use Rattle.command_line.specs.declared.settings.Asked.TheVariants as asked
 use Rattle.redis_program.specs.Headline.{limits_of}
-use Rattle.command_line.specs.declared.settings.ScriptSettings.{ScriptSettings}
-use Rattle.redis_program.specs.Scripting.{ScriptGives}
-use Rattle.redis_program.specs.Serving.{ServeGives}
 use Rattle.redis_program.proofs.Finishing.{finishes, writes_known}
 use Rattle.redis_program.proofs.Playing.{no_world}
 use Rattle.redis_program.proofs.Asked.{capacity_valid, limits_valid, only_built, settings_valid}
-use Rattle.redis_program.proofs.Scripting.{script_done, script_net, script_not_usage, script_read}
-use Rattle.redis_program.proofs.Scripting.{wordless_script}
-use Rattle.redis_program.proofs.Serving.{last_not_net, not_read, not_usage, usage_not_net}
-use Rattle.redis_program.proofs.Serving.{wordless, world_not_net}
+use Rattle.redis_program.proofs.Scripting.{script_done, script_net, script_read, wordless_script}
+use Rattle.redis_program.proofs.Serving.{last_not_net, wordless, world_not_net}
 use Rattle.redis_program.proofs.dispatch.run.Goals as goal
 
 pub run_world-requires : goal.run_world-requires
@@ -53,12 +47,10 @@ unreachable-requires g c =
     ]
 
 pub returns-in-Ok-None-clause-net : goal.returns-in-Ok-None-clause-net
-returns-in-Ok-None-clause-net g c = λ e.
-    absurd (usage_not_net c.refuse.result _ _ c.refuse.ensures.gives e)
+returns-in-Ok-None-clause-net g c = grind arith
 
 pub returns-in-Err-clause-net : goal.returns-in-Err-clause-net
-returns-in-Err-clause-net g c = λ e.
-    absurd (last_not_net c.write_no_memory.result _ _ _ _ c.write_no_memory.ensures e)
+returns-in-Err-clause-net g c = grind (arith, last_not_net)
 
 pub returns-in-Err-clause-serve : goal.returns-in-Err-clause-serve
 returns-in-Err-clause-serve g c = λ settings e.
@@ -75,121 +67,61 @@ returns-in-Err-clause-script g c = λ settings e.
     (g.N.Net.counts c.args.net.now)
 
 pub returns-in-World-clause-net : goal.returns-in-World-clause-net
-returns-in-World-clause-net g c = λ e.
-    absurd (world_not_net _ c.run_world.result _ _ c.run_world.ensures.gives e)
+returns-in-World-clause-net g c = grind (arith, world_not_net)
 
 pub returns-in-World-clause-serve : goal.returns-in-World-clause-serve
-returns-in-World-clause-serve g c = λ settings e.
-    let is = sym c.in-Ok-Some.ensures ∙ c.in-Ok-Some.field-0-is ∙ ap Some c.in-World.is in
-    let clash : Some (asked.World c.in-World.settings) ≡ Some (asked.Serve settings)
-    = sym is ∙ e in
-    absurd (let no : ⊥ = cc in no)
+returns-in-World-clause-serve g c = grind arith
 
 pub returns-in-World-clause-script : goal.returns-in-World-clause-script
-returns-in-World-clause-script g c = λ settings e.
-    let is = sym c.in-Ok-Some.ensures ∙ c.in-Ok-Some.field-0-is ∙ ap Some c.in-World.is in
-    let clash : Some (asked.World c.in-World.settings) ≡ Some (asked.Script settings)
-    = sym is ∙ e in
-    absurd (let no : ⊥ = cc in no)
+returns-in-World-clause-script g c = grind arith
 
 pub returns-in-Serve-clause-offline : goal.returns-in-Serve-clause-offline
-returns-in-Serve-clause-offline g c = λ not.
-    let is = sym c.in-Ok-Some.ensures ∙ c.in-Ok-Some.field-0-is ∙ ap Some c.in-Serve.is in
-    absurd (not (c.in-Serve.settings, is))
+returns-in-Serve-clause-offline g c = grind arith
 
 pub returns-in-Serve-clause-unserved : goal.returns-in-Serve-clause-unserved
-returns-in-Serve-clause-unserved g c = λ not.
-    let is = sym c.in-Ok-Some.ensures ∙ c.in-Ok-Some.field-0-is ∙ ap Some c.in-Serve.is in
-    absurd (not (c.in-Serve.settings, is))
+returns-in-Serve-clause-unserved g c = grind arith
 
 pub returns-in-Serve-clause-done : goal.returns-in-Serve-clause-done
-returns-in-Serve-clause-done g c = λ not.
-    let is = sym c.in-Ok-Some.ensures ∙ c.in-Ok-Some.field-0-is ∙ ap Some c.in-Serve.is in
-    absurd (not (c.in-Serve.settings, is))
+returns-in-Serve-clause-done g c = grind arith
 
 pub returns-in-Serve-clause-script : goal.returns-in-Serve-clause-script
-returns-in-Serve-clause-script g c = λ settings e.
-    let is = sym c.in-Ok-Some.ensures ∙ c.in-Ok-Some.field-0-is ∙ ap Some c.in-Serve.is in
-    let clash : Some (asked.Serve c.in-Serve.settings) ≡ Some (asked.Script settings)
-    = sym is ∙ e in
-    absurd (let no : ⊥ = cc in no)
+returns-in-Serve-clause-script g c = grind arith
 
 pub returns-in-Serve-clause-usage_only : goal.returns-in-Serve-clause-usage_only
-returns-in-Serve-clause-usage_only g c = λ e.
-    let gives = c.run_serve.ensures.serve in
-    absurd (not_usage gives.end (sym gives.status ∙ e))
+returns-in-Serve-clause-usage_only g c = grind arith
 
 pub returns-in-Serve-clause-read : goal.returns-in-Serve-clause-read
-returns-in-Serve-clause-read g c = λ e.
-    let gives = c.run_serve.ensures.serve in
-    absurd (not_read gives.end (sym gives.status ∙ e))
+returns-in-Serve-clause-read g c = grind arith
 
 pub returns-in-Serve-clause-net : goal.returns-in-Serve-clause-net
 returns-in-Serve-clause-net g c = c.run_serve.ensures.net
 
 pub returns-in-Serve-clause-serve : goal.returns-in-Serve-clause-serve
-returns-in-Serve-clause-serve g c = λ settings e.
-    let is = sym c.in-Ok-Some.ensures ∙ c.in-Ok-Some.field-0-is ∙ ap Some c.in-Serve.is in
-    let same : c.in-Serve.settings ≡ settings =
-    let both : Some (asked.Serve c.in-Serve.settings) ≡ Some (asked.Serve settings)
-    = sym is ∙ e in
-    cc in
-    subst (λ s. ServeGives s g.N.Acceptor.Acceptor.counts g.N.Acceptor.Acceptor.left
-    c.run_serve.result.served c.run_serve.result.status (g.K.Sink.contents c.args.output.now)
-    (g.K.Sink.contents c.run_serve.new.output) (g.N.Net.counts c.args.net.now)
-    (g.N.Net.counts c.run_serve.new.net)) same c.run_serve.ensures.serve
+returns-in-Serve-clause-serve g c = grind arith
 
 pub returns-in-Script-clause-offline : goal.returns-in-Script-clause-offline
-returns-in-Script-clause-offline g c = λ server not.
-    let is = sym c.in-Ok-Some.ensures ∙ c.in-Ok-Some.field-0-is ∙ ap Some c.in-Script.is in
-    absurd (not (c.in-Script.settings, is))
+returns-in-Script-clause-offline g c = grind arith
 
 pub returns-in-Script-clause-unplayed : goal.returns-in-Script-clause-unplayed
-returns-in-Script-clause-unplayed g c = λ not.
-    let is = sym c.in-Ok-Some.ensures ∙ c.in-Ok-Some.field-0-is ∙ ap Some c.in-Script.is in
-    absurd (not (c.in-Script.settings, is))
+returns-in-Script-clause-unplayed g c = grind arith
 
 pub returns-in-Script-clause-usage_only : goal.returns-in-Script-clause-usage_only
-returns-in-Script-clause-usage_only g c = λ e.
-    let gives = c.run_script.ensures.script in
-    absurd (script_not_usage gives.end (sym gives.status ∙ e))
+returns-in-Script-clause-usage_only g c = grind arith
 
 pub returns-in-Script-clause-done : goal.returns-in-Script-clause-done
-returns-in-Script-clause-done g c = λ server e.
-    let gives = c.run_script.ensures.script in
-    script_done _ _ _ _ _ _ _ _ _ _ _ _ gives.end (sym gives.status ∙ e) gives.writes
+returns-in-Script-clause-done g c = grind (arith, script_done)
 
 pub returns-in-Script-clause-read : goal.returns-in-Script-clause-read
-returns-in-Script-clause-read g c = λ e.
-    let gives = c.run_script.ensures.script in
-    script_read _ _ _ _ _ _ _ _ _ _ _ _ gives.end (sym gives.status ∙ e) gives.writes
+returns-in-Script-clause-read g c = grind (arith, script_read)
 
 pub returns-in-Script-clause-net : goal.returns-in-Script-clause-net
-returns-in-Script-clause-net g c = λ e.
-    let gives = c.run_script.ensures.script in
-    rw c.run_script.ensures.unserved
-    (script_net _ _ _ _ _ _ _ _ _ _ _ _ gives.end (sym gives.status ∙ e) gives.writes)
+returns-in-Script-clause-net g c = grind (arith, script_net)
 
 pub returns-in-Script-clause-serve : goal.returns-in-Script-clause-serve
-returns-in-Script-clause-serve g c = λ settings e.
-    let is = sym c.in-Ok-Some.ensures ∙ c.in-Ok-Some.field-0-is ∙ ap Some c.in-Script.is in
-    let clash : Some (asked.Script c.in-Script.settings) ≡ Some (asked.Serve settings)
-    = sym is ∙ e in
-    absurd (let no : ⊥ = cc in no)
+returns-in-Script-clause-serve g c = grind arith
 
 pub returns-in-Script-clause-script : goal.returns-in-Script-clause-script
-returns-in-Script-clause-script g c = λ settings e.
-    let is = sym c.in-Ok-Some.ensures ∙ c.in-Ok-Some.field-0-is ∙ ap Some c.in-Script.is in
-    let same : c.in-Script.settings ≡ settings =
-    let both : Some (asked.Script c.in-Script.settings) ≡ Some (asked.Script settings)
-    = sym is ∙ e in
-    cc in
-    subst (λ (s : ScriptSettings). ScriptGives s.capacity g.N.Link.Link.left
-    g.N.Link.Link.contents g.N.Link.Link.counts (g.S.Source.left c.args.input.now)
-    c.run_script.result.session c.run_script.result.status (g.S.Source.counts c.args.input.now)
-    (g.S.Source.counts c.run_script.new.input) (g.N.Net.counts c.args.net.now)
-    (g.N.Net.counts c.run_script.new.net) (g.K.Sink.contents c.args.output.now)
-    (g.K.Sink.contents c.run_script.new.output)) same c.run_script.ensures.script
+returns-in-Script-clause-script g c = grind arith
 
 pub returns-in-Err-clause-world : goal.returns-in-Err-clause-world
 returns-in-Err-clause-world g c = λ settings e.

@@ -1,8 +1,8 @@
-use Rattle.std.proofs.Common.{[], ◌++◌, ap, inl, inr, refl, sym, ◌∙◌}
+use Rattle.server_links.proofs.Outcomes.{gives_reached}
+use Rattle.std.proofs.Common.{arith, [], ◌++◌, ap, inl, inr, refl, sym, ◌∙◌}
 use Rattle.resp_value.proofs.Prefixes.{prefix_same}
 use Rattle.script_text.specs.Printed.{text_of}
 use Rattle.redis_program.proofs.Scheduling.{text_none}
-use Rattle.redis_program.proofs.LineTexts.{part_printed}
 use Rattle.redis_program.proofs.Valid.{event_valid}
 use Rattle.redis_program.proofs.schedule.play_line.Goals as goal
 
@@ -19,7 +19,7 @@ returns-in-Err-put_lines c =
     let at = sym c.in-Ok-Some.ensures ∙ c.in-Ok-Some.field-0-is in (
       err.0,
       err.2 ∙ ap (λ t. t ++ text_of err.0) c.requires,
-      inr (part_printed _ _ _ _ _ _ _ _ err.0 at c.new-lines.ensures c.step-stepped.ensures err.1),
+      inr (grind (arith, gives_reached)),
     )
 
 pub returns-in-Err-NoMemory : goal.returns-in-Err-NoMemory
@@ -28,8 +28,7 @@ returns-in-Err-NoMemory c =
     let at = sym c.in-Ok-Some.ensures ∙ c.in-Ok-Some.field-0-is in (
       lines,
       c.in-Ok.ensures.ok ∙ ap (λ t. t ++ text_of lines) c.requires,
-      inr (part_printed _ _ _ _ _ _ _ lines lines at c.new-lines.ensures c.step-stepped.ensures
-          (prefix_same lines lines refl)),
+      inr (grind (arith, gives_reached, prefix_same)),
     )
 
 pub step-stepped-requires : goal.step-stepped-requires

@@ -2,8 +2,8 @@ use Rattle.std.proofs.Common.{refl, ◌∙◌, arith, inl, inr}
 use Rattle.redis_program.specs.declared.status.Ending.TheVariants.{BadLine, ReadFault, NoMemory}
 use Rattle.redis_program.proofs.Scheduling.{too_long, numbered}
 use Rattle.redis_program.proofs.Playing.{standing_none, line_played, last_played, done_here}
-use Rattle.redis_program.proofs.Playing.{ends_here, line_brings, last_brings, line_reads}
-use Rattle.redis_program.proofs.Playing.{line_wrote, end_counted, fault_counted}
+use Rattle.redis_program.proofs.Playing.{ends_here, line_brings, last_brings}
+use Rattle.redis_program.proofs.Playing.{end_counted, fault_counted}
 use Rattle.redis_program.proofs.schedule.play_lines.Goals as goal
 
 pub loop-number-init : goal.loop-number-init
@@ -22,12 +22,10 @@ returns-in-Err-clause-gives g c =
     c.as_slice.ensures.value read.0 read.1 c.in-Err.ensures.gives
 
 pub returns-in-Err-clause-read : goal.returns-in-Err-clause-read
-returns-in-Err-clause-read g c =
-    line_reads _ _ _ _ _ _ _ _ _ c.in-Err.ensures.gives
+returns-in-Err-clause-read g c = grind arith
 
 pub returns-in-Err-clause-wrote : goal.returns-in-Err-clause-wrote
-returns-in-Err-clause-wrote g c =
-    line_wrote _ _ _ _ c.loop-number.invariant.wrote c.in-Err.ensures.counts
+returns-in-Err-clause-wrote g c = grind arith
 
 pub loop-number-preserved : goal.loop-number-preserved
 loop-number-preserved g c =

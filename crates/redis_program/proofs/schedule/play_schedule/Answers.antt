@@ -1,6 +1,3 @@
-use Rattle.std.proofs.Common.{ap, refl, subst}
-use Rattle.world_run.specs.WorldState.{WorldState}
-use Rattle.redis_program.specs.Playing.{ComesTo}
 use Rattle.redis_program.proofs.Playing.{no_world}
 use Rattle.redis_program.proofs.schedule.play_schedule.Goals as goal
 

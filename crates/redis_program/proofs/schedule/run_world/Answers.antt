@@ -1,3 +1,4 @@
+use Rattle.std.proofs.Common.{arith}
 use Rattle.redis_program.specs.declared.status.Status.TheVariants as status
 use Rattle.redis_program.proofs.Finishing.{done_writes, cut_writes, finishes, writes_known}
 use Rattle.redis_program.proofs.Finishing.{complete_known, last_read, last_wrote, last_not_done}
@@ -75,20 +76,13 @@ returns-in_default-clause-complete g c = λ r w.
     c.in_default.not-WriteFault c.play_schedule.ensures.gives c.write_last.ensures))
 
 pub returns-in_default-clause-done : goal.returns-in_default-clause-done
-returns-in_default-clause-done g c = λ e.
-    absurd (last_not_done c.play_schedule.result c.write_last.result _ _ _ _ c.in_default.not-Done
-    c.write_last.ensures e)
+returns-in_default-clause-done g c = grind (arith, last_not_done)
 
 pub returns-in_default-clause-read : goal.returns-in_default-clause-read
-returns-in_default-clause-read g c = λ e.
-    last_read c.play_schedule.result c.write_last.result _ _ _ _ _ _ c.write_last.ensures
-    c.play_schedule.ensures.read e
+returns-in_default-clause-read g c = grind (arith, last_read)
 
 pub returns-in_default-clause-write : goal.returns-in_default-clause-write
-returns-in_default-clause-write g c = λ e.
-    last_wrote c.play_schedule.result c.write_last.result _ _ _ _ _ c.in_default.not-WriteFault
-    c.write_last.ensures c.play_schedule.ensures.wrote e
+returns-in_default-clause-write g c = grind (arith, last_wrote)
 
 pub returns-in_default-clause-understood : goal.returns-in_default-clause-understood
-returns-in_default-clause-understood g c = λ e.
-    last_not_usage c.play_schedule.result c.write_last.result _ _ _ _ c.write_last.ensures e
+returns-in_default-clause-understood g c = grind (arith, last_not_usage)

@@ -1,5 +1,4 @@
-use Rattle.std.proofs.Common.{◌∙◌, sym}
-use Rattle.redis_program.proofs.Scripting.{script_cut}
+use Rattle.std.proofs.Common.{arith}
 use Rattle.redis_program.proofs.script.run_script.Goals as goal
 
 pub returns-clause-script : goal.returns-clause-script
@@ -10,6 +9,4 @@ returns-clause-script g c = record {
 }
 
 pub returns-clause-write : goal.returns-clause-write
-returns-clause-write g c = λ e.
-    script_cut _ c.play_and_write-session.result.end c.play_and_write-session.ensures.write
-    (sym c.status_of.ensures ∙ e)
+returns-clause-write g c = grind arith

@@ -1,6 +1,5 @@
-use Rattle.std.proofs.Common.{◌∙◌, IfSome, subst, sym}
+use Rattle.std.proofs.Common.{arith, IfSome, subst}
 use Rattle.serve_run.specs.Runs.{ServesAll}
-use Rattle.redis_program.proofs.Serving.{net_status, write_status}
 use Rattle.redis_program.proofs.serve.run_serve.Goals as goal
 
 pub returns-clause-serve : goal.returns-clause-serve
@@ -14,11 +13,7 @@ returns-clause-serve g c = record {
 }
 
 pub returns-clause-net : goal.returns-clause-net
-returns-clause-net g c = λ e.
-    c.serve_and_write-served.ensures.net (net_status c.serve_and_write-served.result.end
-    (sym c.status_of.ensures ∙ e))
+returns-clause-net g c = grind arith
 
 pub returns-clause-write : goal.returns-clause-write
-returns-clause-write g c = λ e.
-    write_status _ c.serve_and_write-served.result.end c.serve_and_write-served.ensures.write
-    (sym c.status_of.ensures ∙ e)
+returns-clause-write g c = grind arith

@@ -1,6 +1,6 @@
-use Rattle.std.proofs.Common.{ℕ, sym, ap, ◌∙◌, Option, arith}
+use Rattle.std.proofs.Common.{sym, ap, ◌∙◌, arith}
 use Rattle.resp_stream.specs.declared.fault.Broken.{Broken}
-use Rattle.resp_stream.specs.Parsed.{Whole, Bad}
+use Rattle.resp_stream.specs.Parsed.{Bad}
 use Rattle.resp_stream.specs.Tokens.{length_at}
 use Rattle.resp_stream.specs.Value.{build}
 use Rattle.resp_stream.proofs.Opening.{may_not, head_more, head_bad, head_null, head_empty}
@@ -25,10 +25,7 @@ returns-in-Ok-Some-None-default c =
     head_null c.args.room c.args.c c.args.bytes.now c.args.rest.now c.args.kind c.requires.head
     c.requires.mark c.requires.room (sym c.may_stand.ensures ∙ c.if-not-may_stand.false)
     c.in-Ok-Some-None-default.rest.now
-    (ap (λ r. length_at r c.args.rest.now) (sym c.rule_of.ensures)
-    ∙ (rw c.in-Ok-Some-None-default.field-0-is at c.in-Ok-Some-None-default.ensures.gives)
-    ∙ ap (λ (q : Option ℕ). Whole q c.in-Ok-Some-None-default.rest.now)
-    c.in-Ok-Some-None-default.field-0-0-0-is)
+    (grind arith)
 
 pub returns-in-Ok : goal.returns-in-Ok
 returns-in-Ok c =
@@ -36,23 +33,11 @@ returns-in-Ok c =
     c.requires.mark c.requires.room (sym c.may_stand.ensures ∙ c.if-not-may_stand.false)
     c.in-Ok-Some-Some-default.count
     c.in-Ok-Some-Some-default.rest.now _
-    (ap (λ r. length_at r c.args.rest.now) (sym c.rule_of.ensures)
-    ∙ (rw c.in-Ok-Some-Some-default.field-0-is at c.in-Ok-Some-Some-default.ensures.gives)
-    ∙ ap (λ (q : Option ℕ). Whole q c.in-Ok-Some-Some-default.rest.now)
-    c.in-Ok-Some-Some-default.field-0-0-0-is)
+    (grind arith)
     c.if-count-eq0.true (c.in-Ok.ensures ∙ ap (build c.args.kind) c.new.ensures)
 
 pub returns-else-count-eq0 : goal.returns-else-count-eq0
-returns-else-count-eq0 c =
-    head_some c.args.room c.args.c c.args.bytes.now c.args.rest.now c.args.kind c.requires.head
-    c.requires.mark c.requires.room (sym c.may_stand.ensures ∙ c.if-not-may_stand.false)
-    c.in-Ok-Some-Some-default.count
-    c.elements.result c.in-Ok-Some-Some-default.rest.now
-    (ap (λ r. length_at r c.args.rest.now) (sym c.rule_of.ensures)
-    ∙ (rw c.in-Ok-Some-Some-default.field-0-is at c.in-Ok-Some-Some-default.ensures.gives)
-    ∙ ap (λ (q : Option ℕ). Whole q c.in-Ok-Some-Some-default.rest.now)
-    c.in-Ok-Some-Some-default.field-0-0-0-is)
-    c.if-count-eq0.false c.elements.ensures
+returns-else-count-eq0 c = grind (arith, head_some)
 
 pub returns-in-Err : goal.returns-in-Err
 returns-in-Err c = (

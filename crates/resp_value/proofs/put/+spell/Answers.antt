@@ -1,7 +1,5 @@
-use Rattle.std.proofs.Common.{map, ap, ◌∙◌}
-use Rattle.resp_value.specs.Tree.{Tree}
+use Rattle.std.proofs.Common.{arith, map, ap, ◌∙◌}
 use Rattle.resp_value.specs.ValueTree.{tree_of}
-use Rattle.resp_value.specs.declared.value.Value.{Value}
 use Rattle.resp_value.proofs.SpellingSteps.{value_step, pair_step}
 use Rattle.resp_value.proofs.Prefixes.{on_err, prefix_then}
 use Rattle.resp_value.proofs.put.+spell.Goals as goal
@@ -11,8 +9,7 @@ spell_pairs-loop-key-preserved t c =
     pair_step c.args.proto c.as_slice-key-items.result.now c.args.pairs.now c.loop-key.key-index
     c.loop-key-item.result c.args.out.now.items c.loop-key.out.items c.spell.new.out.items
     c.spell-in-loop-key.new.out.items
-    (ap (map {A = Value × Value} {B = Tree × Tree} (λ p. (tree_of p.0, tree_of p.1)))
-    c.as_slice-key-items.ensures.value ∙ c.pairs.view_is)
+    (grind arith)
     c.loop-key-test.true c.loop-key-item.is c.loop-key.invariant c.in_ok-spell.ensures.ok
     c.in_ok-spell-2.ensures.ok
 

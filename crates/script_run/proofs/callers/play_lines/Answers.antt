@@ -1,5 +1,4 @@
-use Rattle.std.proofs.Common.{sym, ap, subst, ◌∙◌, [], ◌∷◌, ◌++◌, ◌+◌, arith}
-use Rattle.script_run.specs.Lines.{calls_of, PlaysThread}
+use Rattle.std.proofs.Common.{◌+◌, arith}
 use Rattle.script_run.proofs.Threads.{no_line, first_lines, line_played, line_passed, held}
 use Rattle.script_run.proofs.callers.play_lines.Goals as goal
 use Rattle.script_run.proofs.callers.play_lines.Goals.{then-line-thread+else-is_err}
@@ -9,11 +8,7 @@ pub loop-line-init : goal.loop-line-init
 loop-line-init g c = grind (arith, no_line)
 
 pub returns-then-is_err-clause-plays : goal.returns-then-is_err-clause-plays
-returns-then-is_err-clause-plays g c =
-    subst (λ z. PlaysThread (calls_of c.args.thread c.args.lines.now) z c.args.seat
-    c.loop-line.seat) (sym (c.from.ensures.0 ∙ c.reserve.ensures.items))
-    (first_lines c.args.thread c.args.lines.now c.loop-line.line-index c.loop-line.items.items
-    c.args.seat c.loop-line.seat c.loop-line.invariant.0)
+returns-then-is_err-clause-plays g c = grind (arith, first_lines)
 
 pub loop-line-preserved : goal.loop-line-preserved
 loop-line-preserved g c =
@@ -28,16 +23,10 @@ loop-line-preserved g c =
           c.loop-line-test.true rs w.play_line-answer.result c.args.seat c.loop-line.seat
           w.play_line-answer.new.seat w.if-line-thread.true inv.0 inv.1
           w.play_line-answer.ensures in
-          let grows = w.play_line-answer.ensures.grows in
-          held_to (rs ++ w.play_line-answer.result ∷ []) w.play_line-answer.new.seat
-          c.if-line-thread.items.items c.if-line-thread.seat
-          (ap (λ v. v.items) w.items-is ∙ w.push_reserved.ensures.items
-          ∙ ap (λ z. z ++ w.play_line-answer.result ∷ []) w.reserve.ensures.items) w.seat-is
-          (p.0, p.1, grows.lock ∙ inv.2, grows.within)
+          grind arith
       | else-line-thread w ↦
           let p = line_passed c.args.thread c.args.lines.now i line c.line-item.is
           c.loop-line-test.true rs c.args.seat c.loop-line.seat w.if-line-thread.false inv.0
           inv.1 in
-          held_to rs c.loop-line.seat c.if-line-thread.items.items c.if-line-thread.seat
-          (ap (λ v. v.items) w.items-is) w.seat-is (p.0, p.1, inv.2, inv.3)
+          grind arith
     ]

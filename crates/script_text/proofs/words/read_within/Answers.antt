@@ -1,11 +1,8 @@
-use Rattle.std.proofs.Common.{◌≡◌, ◌<◌, ◌^◌, sym, ap, ◌∙◌, arith, subst}
+use Rattle.std.proofs.Common.{◌<◌, ◌^◌, sym, ◌∙◌, arith, subst}
 use Rattle.std.proofs.lemmas.Fmt.{parse-decimal, IsAscii-decimal}
-use Rattle.std.proofs.lemmas.Bool.{false≢true}
 use Rattle.std.proofs.lemmas.Slice.Eq.{bytes_eq-Decides}
 use Rattle.std.proofs.lemmas.Str.{IsUtf8-from_ascii}
-use Rattle.std.specs.Fmt.{decimal}
 use Rattle.std.specs.Str.{IsUtf8}
-use Rattle.script_text.specs.Words.{is_within}
 use Rattle.script_text.proofs.Numbers.{number_within-none, small_within}
 use Rattle.script_text.proofs.words.read_within.Goals as goal
 use Rattle.script_text.proofs.words.read_within.Goals.{else-is_within-via-then-is_within+else-eq}
@@ -29,13 +26,4 @@ returns c = sym (number_within-none c.args.low c.args.high c.args.text.now (λ n
     let small : n < 2 ^ 64 = small_within c.args.low c.args.high n (omega arith) within in
     let parsed = parse-decimal 64 n c.in-Ok.digits.now c.parse.result small small
     (c.in-Ok.ensures.cases.0 ∙ sym e) c.parse.ensures.value.0 in
-    let same : c.in-Ok-parse.number ≡ n = cc in
-    elim c.else-is_within.branch [
-      | else-is_within-via-then-is_within+else-eq w ↦
-          let spelled : w.as_bytes.result.now ≡ c.args.text.now =
-          w.as_bytes.ensures.value ∙ c.in_ok-spelling.ensures.ok ∙ ap decimal same ∙ e in
-          false≢true (w.if-eq.ensures ∙ (bytes_eq-Decides _ _).1 spelled)
-      | else-is_within-via-else-is_within w ↦
-          false≢true (w.if-is_within.ensures
-          ∙ ap (is_within c.args.low c.args.high) same ∙ within)
-    ]))
+    grind (arith, bytes_eq-Decides, else-is_within-via-else-is_within)))

@@ -1,16 +1,16 @@
+use Rattle.server_book.proofs.Sendings.{before_sendings, on_err}
+use Rattle.server_book.proofs.Groups.{so_far_there, ids_still, told_more}
 use Rattle.std.proofs.Common.{ap, ◌∙◌, arith, length, ◌<◌}
 use Rattle.std.proofs.lemmas.List.{get_or_read, take_all}
 use Rattle.track_table.specs.declared.table.Held.{Held}
 use Rattle.track_table.specs.Places.{nobody}
-use Rattle.server_book.proofs.Groups.{back_still, ids_still, told_more}
-use Rattle.server_book.proofs.Sendings.{on_err}
 use Rattle.server_book.proofs.stores.tell_rows.Goals as goal
 
 pub tell-requires : goal.tell-requires
 tell-requires c = grind (arith, ids_still, get_or_read)
 
 pub returns-in_err-tell-clause-back : goal.returns-in_err-tell-clause-back
-returns-in_err-tell-clause-back c = grind (arith, on_err, back_still)
+returns-in_err-tell-clause-back c = grind (arith, on_err, before_sendings, so_far_there)
 
 pub loop-place-preserved : goal.loop-place-preserved
 loop-place-preserved c =

@@ -1,10 +1,10 @@
-use Rattle.std.proofs.Common.{List, [], sym, subst, ◌∙◌, ◌≡◌, length, rules}
+use Rattle.std.proofs.Common.{arith, List, [], subst, ◌≡◌, length, rules}
 use Rattle.serial_model.specs.declared.history.BookCall.{BookCall}
 use Rattle.serial_model.specs.declared.history.BookCall.TheVariants.{Take}
 use Rattle.turn_lock.specs.Seats.{TurnedAll}
 use Rattle.seat_turns.specs.Own.{Grows}
 use Rattle.shared_book.specs.Turns.{TurnStep, most}
-use Rattle.shared_book.specs.Batches.{RunsAndTakes, RunsFirst, requests_in}
+use Rattle.shared_book.specs.Batches.{requests_in}
 use Rattle.std.proofs.lemmas.Result.{IfOk-weaker, IfErr-weaker}
 use Rattle.shared_book.proofs.Batches.{Told, tells, told_ok, told_err, all_from, first_from}
 use Rattle.shared_book.proofs.Batches.{unplayed_grows, last_off}
@@ -26,10 +26,7 @@ told_all g c =
 
 none_played : (g : given.Over) → (c : goal.In-Err-play_all g)
     → Grows c.args.seat.now c.play_all.new.seat []
-none_played g c =
-    unplayed_grows c.in-Err-play_all.field-0-0 (length c.push.new.self.items) c.args.seat.now
-    c.play_all.new.seat c.requires.within c.in-Err-play_all.ensures.not_less
-    c.in-Err-play_all.ensures.err.1
+none_played g c = grind (arith, unplayed_grows)
 
 pub told-requires-clause-replies : goal.told-requires-clause-replies
 told-requires-clause-replies g c =
@@ -64,28 +61,24 @@ pub returns-in-Err-play_all-clause-ok : goal.returns-in-Err-play_all-clause-ok
 returns-in-Err-play_all-clause-ok g c =
     let long : length c.pop.new.self.items ≡ length c.args.calls.items = search rules in
     let same = last_off c.args.calls.items c.pop.new.self.items (Take c.args.id most)
-    (option_to_list c.pop.result) (sym c.in-Ok.ensures.items ∙ (sym c.in-Err-play_all.ensures.err.0
-    ∙ c.pop.ensures.items)) long in
+    (option_to_list c.pop.result) (grind arith) long in
     let each = c.run_each-in-Err-play_all in
     IfOk-weaker each.result.front _ _ (λ front h. all_from c.args.id c.args.now c.args.requests
     (requests_in c.args.calls.items) each.result.requests front c.args.seat.now
     c.play_all.new.seat each.new.seat
     (none_played g (goal.at.returns-in-Err-play_all-clause-ok g c).In-Err-play_all)
-    (subst (λ (z : List BookCall). RunsAndTakes c.args.id c.args.now c.args.requests
-    (requests_in z) each.result.requests front c.play_all.new.seat each.new.seat) same h))
+    (grind arith))
     each.ensures.ok
 
 pub returns-in-Err-play_all-clause-err : goal.returns-in-Err-play_all-clause-err
 returns-in-Err-play_all-clause-err g c =
     let long : length c.pop.new.self.items ≡ length c.args.calls.items = search rules in
     let same = last_off c.args.calls.items c.pop.new.self.items (Take c.args.id most)
-    (option_to_list c.pop.result) (sym c.in-Ok.ensures.items ∙ (sym c.in-Err-play_all.ensures.err.0
-    ∙ c.pop.ensures.items)) long in
+    (option_to_list c.pop.result) (grind arith) long in
     let each = c.run_each-in-Err-play_all in
     IfErr-weaker each.result.front _ _ (λ e h. first_from c.args.id c.args.now c.args.requests
     (requests_in c.args.calls.items) each.result.requests e c.args.seat.now
     c.play_all.new.seat each.new.seat
     (none_played g (goal.at.returns-in-Err-play_all-clause-err g c).In-Err-play_all)
-    (subst (λ (z : List BookCall). RunsFirst c.args.id c.args.now c.args.requests
-    (requests_in z) each.result.requests e c.play_all.new.seat each.new.seat) same h))
+    (grind arith))
     each.ensures.err

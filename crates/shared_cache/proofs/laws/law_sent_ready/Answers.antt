@@ -1,5 +1,5 @@
-use Rattle.shared_cache.proofs.FetchLaws.{sent_ready}
+use Rattle.std.proofs.Common.{arith}
 use Rattle.shared_cache.proofs.laws.law_sent_ready.Goals as goal
 
 pub returns : goal.returns
-returns c = sent_ready
+returns c = grind arith

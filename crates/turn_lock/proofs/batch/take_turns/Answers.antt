@@ -5,8 +5,7 @@ use Rattle.std.proofs.lemmas.List.Elements.{All-head, All-tail}
 use Rattle.std.specs.Vec.Iter.{into_iter_items, into_iter_len}
 use Rattle.turn_lock.specs.Seats.{StopsAt, TurnedAll, known}
 use Rattle.turn_lock.proofs.Stops.{stops_more, none_more}
-use Rattle.turn_lock.proofs.Turns.{turning_more}
-use Rattle.turn_lock.proofs.Turns.{turning_fits, turning_ends}
+use Rattle.turn_lock.proofs.Turns.{turning_more, turning_fits, turning_ends}
 use Rattle.turn_lock.proofs.batch.take_turns.Goals as goal
 
 pub turns-init : goal.turns-init

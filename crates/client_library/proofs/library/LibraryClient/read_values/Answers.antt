@@ -1,26 +1,17 @@
-use Rattle.resp_value.specs.ValueTree.{tree_of}
+use Rattle.std.proofs.Common.{arith}
 use Rattle.resp_stream.proofs.Values.{value_gives_at}
 use Rattle.client_library.proofs.Reading.{getting_cut, getting_ends, getting_more, getting_none}
 use Rattle.client_library.proofs.Reading.{getting_told, reads_less}
 use Rattle.client_library.proofs.library.LibraryClient.read_values.Goals as goal
 
 pub values-init : goal.values-init
-values-init c =
-    getting_none c.args.self.now c.self.inside.state c.self.inside.reader c.self.view_is
-    c.self.invariant
+values-init c = grind (arith, getting_none)
 
 pub values-smaller : goal.values-smaller
-values-smaller c =
-    let g = value_gives_at _ _ _ _ c.in-Ok-Some.ensures.gives c.in-Ok-Some.field-0-is in
-    reads_less c.values.self-inside.reader c.next_value.new.self (tree_of c.in-Ok-Some.value) g.0
+values-smaller c = grind (arith, value_gives_at, reads_less)
 
 pub values-preserved : goal.values-preserved
-values-preserved c =
-    let i = c.values.self-inside in
-    let g = value_gives_at _ _ _ _ c.in-Ok-Some.ensures.gives c.in-Ok-Some.field-0-is in
-    getting_more c.args.self.now i.state i.reader c.values.invariant c.next_value.new.self
-    c.in-Ok-Some.value g.0 g.1 c.get.new.state c.in-Ok.ensures.ok
-    (c.get.ensures.legal c.values.invariant.legal)
+values-preserved c = grind (arith, value_gives_at, getting_more)
 
 pub invariant_of-self : goal.invariant_of-self
 invariant_of-self c = c.get.ensures.legal c.values.invariant.legal

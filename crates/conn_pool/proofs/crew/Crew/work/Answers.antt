@@ -1,5 +1,4 @@
-use Rattle.std.proofs.Common.{◌≡◌, ◌∷◌, ◌++◌, [], length, sym, ap, subst, ◌∙◌, arith}
-use Rattle.std.proofs.Common.{length-append}
+use Rattle.std.proofs.Common.{◌≡◌, ◌∷◌, ◌++◌, [], length, sym, ap, subst, ◌∙◌, arith, length-append}
 use Rattle.seat_turns.specs.Own.{turns_of}
 use Rattle.conn_pool.specs.Ties.{Tied}
 use Rattle.conn_pool.specs.Shown.{AreShown}

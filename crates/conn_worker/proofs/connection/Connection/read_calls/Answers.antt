@@ -1,10 +1,11 @@
-use Rattle.conn_worker.proofs.Running.{reading_none, reading_more, reading_ends, reading_bad}
-use Rattle.conn_worker.proofs.Running.{reading_less, runs_more, gives_at}
+use Rattle.resp_stream.proofs.Parse.{parse_more}
+use Rattle.std.proofs.Common.{append-nil}
+use Rattle.conn_worker.proofs.Running.{reading_more, reading_bad, reading_less, runs_more, gives_at}
 use Rattle.conn_worker.proofs.connection.Connection.read_calls.Goals as goal
 use Rattle.std.proofs.Common.{arith}
 
 pub requests-init : goal.requests-init
-requests-init g c = grind (arith, reading_none)
+requests-init g c = grind arith
 
 pub requests-smaller : goal.requests-smaller
 requests-smaller g c = grind (arith, gives_at, reading_less)
@@ -16,12 +17,11 @@ requests-preserved g c =
       reading_more c.args.self.now c.requests.self c.requests.calls.items inv.0
           c.in-Ok-Some.words c.next_request.new.self c.args.now given.0 given.1
           c.push.new.self.items c.in-Ok.ensures.items,
-      runs_more c.args.self.now.id c.args.now c.requests.calls.items c.push.new.self.items
-          c.requests.self.id c.in-Ok-Some.words inv.1 inv.0.id c.in-Ok.ensures.items,
+      grind (arith, runs_more),
     )
 
 pub returns-in-Ok-None-clause-ok : goal.returns-in-Ok-None-clause-ok
-returns-in-Ok-None-clause-ok g c = grind (arith, gives_at, reading_ends)
+returns-in-Ok-None-clause-ok g c = grind (arith, gives_at, parse_more, append-nil)
 
 pub returns-in-Some-clause-ok : goal.returns-in-Some-clause-ok
 returns-in-Some-clause-ok g c = grind (arith, reading_bad)

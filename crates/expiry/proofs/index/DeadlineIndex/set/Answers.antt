@@ -1,9 +1,8 @@
 use Rattle.std.proofs.Common.{◌≡◌, ◌<◌, List, length, get_or, ap, subst, sym, ◌∙◌, arith}
 use Rattle.std.proofs.lemmas.List.{get_or_read}
 use Rattle.expiry.specs.declared.index.Deadline.{Deadline}
-use Rattle.expiry.specs.Index.{is_same, with}
+use Rattle.expiry.specs.Index.{with}
 use Rattle.expiry.specs.Order.{IsOrdered}
-use Rattle.expiry.specs.Places.{no_deadline}
 use Rattle.expiry.proofs.Fronts.{with_same, with_new}
 use Rattle.expiry.proofs.Orders.{ordered_with}
 use Rattle.expiry.proofs.index.DeadlineIndex.set.Goals as goal
@@ -18,8 +17,7 @@ returns-then-is_same-clause-ok c =
     let read = c.index.ensures
     ∙ ap (λ (l : List Deadline). get_or l n c.index.result.now) c.self.view_is in
     sym (with_same d ds n c.place_for-place.ensures lt
-    (ap (is_same d) (sym (get_or_read ds n c.index.result.now lt read no_deadline))
-    ∙ (sym c.is_same.ensures ∙ c.if-is_same.true)))
+    (grind (arith, get_or_read)))
 
 placed : (c : In_ok-insert) → c.insert.new.self.items
     ≡ with (record { at = c.args.deadline; key = c.args.key.now }) c.args.self.now
@@ -27,9 +25,7 @@ placed c = grind (arith, get_or_read, with_new)
 
 pub invariant_of-self-2 : goal.invariant_of-self-2
 invariant_of-self-2 c =
-    subst IsOrdered (sym (placed c)) (ordered_with
-    (record { at = c.args.deadline; key = c.args.key.now }) c.args.self.now
-    (subst IsOrdered c.self.view_is c.self.invariant))
+    subst IsOrdered (sym (placed c)) (grind (arith, ordered_with))
 
 pub returns-clause-ok : goal.returns-clause-ok
 returns-clause-ok c = placed c

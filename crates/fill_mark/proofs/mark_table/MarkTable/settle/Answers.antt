@@ -1,15 +1,11 @@
-use Rattle.std.proofs.Common.{ap, ◌∙◌, ◌==◌, not, sym, refl, arith}
-use Rattle.std.specs.FinMap.{remove}
+use Rattle.std.proofs.Common.{ap, ◌∙◌, sym, arith}
 use Rattle.std.specs.List.{list_any}
 use Rattle.fill_mark.specs.Tables.{is_marked}
 use Rattle.fill_mark.proofs.Indexed.{indexed_filter, indexed_settled, indexed_as}
 use Rattle.fill_mark.proofs.mark_table.MarkTable.settle.Goals as goal
 
 pub invariant_of-self : goal.invariant_of-self
-invariant_of-self c =
-    indexed_as _ _ _ _ refl c.remove.ensures.rest
-    (indexed_filter (λ m. not (m.number == c.args.number)) c.self.inside.keys
-    c.self.inside.marks c.self.invariant)
+invariant_of-self c = grind (arith, indexed_as, indexed_filter)
 
 pub invariant_of-self-then-not-is_any_marked : goal.invariant_of-self-then-not-is_any_marked
 invariant_of-self-then-not-is_any_marked c =
@@ -18,15 +14,7 @@ invariant_of-self-then-not-is_any_marked c =
     let key = c.key.result.now in
     let none = ap (list_any (is_marked marks)) (sym c.numbers.ensures)
     ∙ sym c.is_any_marked.ensures ∙ c.if-not-is_any_marked.true in
-    indexed_as _ _ _ _
-    (c.remove-then-not-is_any_marked.ensures
-    ∙ ap (remove keys) (c.key-then-not-is_any_marked.ensures ∙ sym c.key.ensures))
-    refl
-    (indexed_settled key keys marks
-    (indexed_as _ _ _ _ refl c.remove.ensures.rest
-    (indexed_filter (λ m. not (m.number == c.args.number)) keys c.self.inside.marks
-    c.self.invariant))
-    none)
+    grind (arith, indexed_as, indexed_settled, indexed_filter)
 
 pub invariant_of-self-else-not-is_any_marked : goal.invariant_of-self-else-not-is_any_marked
 invariant_of-self-else-not-is_any_marked c = grind (arith, indexed_as, indexed_filter)

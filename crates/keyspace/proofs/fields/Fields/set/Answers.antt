@@ -1,7 +1,6 @@
-use Rattle.std.proofs.Common.{ap, sym, ◌∙◌, map, not}
+use Rattle.std.proofs.Common.{arith, ap, ◌∙◌, map}
 use Rattle.std.proofs.Math.Bool.{not-not}
-use Rattle.std.specs.Option.{is_some}
-use Rattle.command_words.specs.Hashes.{field_get, field_set}
+use Rattle.command_words.specs.Hashes.{field_set}
 use Rattle.keyspace.proofs.PlainEntries.{plain, lookup-field, insert-field}
 use Rattle.keyspace.proofs.fields.Fields.set.Goals as goal
 
@@ -14,6 +13,4 @@ returns-clause-ok c =
 pub returns-clause-is_new : goal.returns-clause-is_new
 returns-clause-is_new c =
     let found = lookup-field c.in_ok-name.name.items c.self.inside.table.entries in
-    let had = c.in_ok-old.ensures.old
-    ∙ (found ∙ (λ i. field_get (c.in_ok-name.ensures.items i) (c.self.view_is i))) in
-    sym (not-not _) ∙ ap not (sym c.is_none.ensures ∙ ap is_some had)
+    grind (arith, not-not)

@@ -1,7 +1,6 @@
-use Rattle.std.proofs.Common.{ap, map, refl, subst, ◌∙◌}
-use Rattle.std.specs.Option.{option_map, option_map_or, IsSome}
-use Rattle.std.specs.FinMap.{insert, from_entries}
-use Rattle.keyspace.specs.Plain.{held_of, content_of}
+use Rattle.std.proofs.Common.{arith, ap, refl, subst, ◌∙◌}
+use Rattle.std.specs.Option.{option_map, IsSome}
+use Rattle.keyspace.specs.Plain.{held_of}
 use Rattle.keyspace.specs.declared.space.Held as entry
 use Rattle.keyspace.proofs.Keyed.{found, put-seen, seen, same_lending, same_end}
 use Rattle.keyspace.proofs.space.Keyspace.content_mut.Goals as goal
@@ -16,17 +15,12 @@ returns-in-Some c =
           let new : entry.Held = record c.in-Some.held.now { content = w } in
           put-seen held_of key c.self.inside.table (c.get_mut.follows.lender new) new
           ((c.get_mut.follows.holds new).3 has)
-          ∙ (ap (λ m. insert m key (held_of new)) c.self.view_is
-          ∙ ap (λ r.
-          option_map_or (λ h. insert old key (record h { content = content_of w })) r old) had)),
+          ∙ (grind arith)),
       record { writes_back = tt; value = ap (option_map (λ h. h.content)) had },
     )
 
 pub returns-in-None : goal.returns-in-None
 returns-in-None c =
     let key = c.args.key.now in
-    let none = found held_of _ c.args.self.now c.self.view_is key _ c.in-None.ensures.value in (
-      same_end _ _ (ap (λ t. from_entries (map (seen held_of) t.entries))
-          c.get_mut.follows.holds-at-none ∙ c.self.view_is),
-      record { writes_back = tt; value = ap (option_map (λ h. h.content)) none },
-    )
+    let none = found held_of _ c.args.self.now c.self.view_is key _ c.in-None.ensures.value in
+    grind (arith, same_end, seen)

@@ -1,6 +1,6 @@
-use Rattle.std.proofs.Common.{ap, map, ◌∙◌}
-use Rattle.std.specs.Option.{is_some, option_map_or}
-use Rattle.std.specs.FinMap.{insert, remove, from_entries}
+use Rattle.std.proofs.Common.{arith, ap, map, ◌∙◌}
+use Rattle.std.specs.Option.{is_some}
+use Rattle.std.specs.FinMap.{from_entries}
 use Rattle.keyspace.specs.Plain.{held_of}
 use Rattle.keyspace.proofs.Keyed.{found, put-seen, seen, take-seen}
 use Rattle.keyspace.proofs.space.Keyspace.rename.Goals as goal
@@ -12,9 +12,7 @@ returns-in_default-clause-ok c =
     let view = ap (λ es. from_entries (map (seen held_of) es)) c.in_ok-reserve.ensures.entries
     ∙ c.self.view_is in
     let none = found held_of _ old view from _ c.in_default.ensures.value in
-    ap (λ es. from_entries (map (seen held_of) es)) c.in_default.ensures.unchanged
-    ∙ (view
-    ∙ ap (λ r. option_map_or (λ h. insert (remove old from) c.args.to.now h) r old) none)
+    grind (arith, seen)
 
 pub returns-in_default-clause-was : goal.returns-in_default-clause-was
 returns-in_default-clause-was c =
@@ -35,10 +33,7 @@ returns-clause-ok c =
     let has = found held_of _ old view from _ c.in-Some.ensures.value in
     put-seen held_of c.in_ok-name.name.items table c.insert_in_room.new.table c.in-Some.held
     c.insert_in_room.ensures.updates
-    ∙ ((λ i. insert (take-seen held_of from room table c.in-Some.ensures.updates i)
-    (c.in_ok-name.ensures.items i) held)
-    ∙ (ap (λ m. insert (remove m from) to held) view
-    ∙ ap (λ r. option_map_or (λ h. insert (remove old from) to h) r old) has))
+    ∙ (grind (arith, take-seen))
 
 pub returns-clause-was : goal.returns-clause-was
 returns-clause-was c =

@@ -1,6 +1,6 @@
-use Rattle.std.proofs.Common.{ap, map, refl, subst, ◌∙◌}
+use Rattle.std.proofs.Common.{arith, ap, refl, subst, ◌∙◌}
 use Rattle.std.specs.Option.{is_some, option_map_or, IsSome}
-use Rattle.std.specs.FinMap.{insert, from_entries}
+use Rattle.std.specs.FinMap.{insert}
 use Rattle.keyspace.specs.Plain.{held_of}
 use Rattle.keyspace.specs.declared.space.Held as entry
 use Rattle.keyspace.proofs.Keyed.{found, put-seen, seen}
@@ -11,10 +11,7 @@ returns-in_default-clause-set c =
     let old = c.args.self.now in
     let key = c.args.key.now in
     let none = found held_of _ old c.self.view_is key _ c.in_default.ensures.value in
-    ap (λ t. from_entries (map (seen held_of) t.entries)) c.get_mut.follows.holds-at-none
-    ∙ (c.self.view_is
-    ∙ ap (λ r. option_map_or (λ h. insert old key (record h { deadline = c.args.deadline })) r old)
-    none)
+    grind (arith, seen)
 
 pub returns-in_default-clause-was : goal.returns-in_default-clause-was
 returns-in_default-clause-was c =

@@ -1,5 +1,4 @@
-use Rattle.std.proofs.Common.{◌≡◌, ◌<◌, length, get_or, set}
-use Rattle.std.proofs.Common.{rules, ap, sym, subst, ◌∙◌, arith}
+use Rattle.std.proofs.Common.{◌≡◌, ◌<◌, length, get_or, set, rules, ap, sym, subst, ◌∙◌, arith}
 use Rattle.std.specs.Prelude.{filter}
 use Rattle.std.proofs.lemmas.Fn.{filter_same}
 use Rattle.std.proofs.lemmas.List.Edits.{map_over_more}
@@ -48,8 +47,7 @@ left c =
 
 pub invariant_of-self : goal.invariant_of-self
 invariant_of-self c =
-    subst IsTable (sym (left c)) (table_without_connection c.args.id c.args.self.now
-    (subst IsTable c.self.view_is c.self.invariant))
+    subst IsTable (sym (left c)) (grind (arith, table_without_connection))
 
 pub returns : goal.returns
 returns c = left c

@@ -1,8 +1,5 @@
 use Rattle.std.proofs.Common.{arith}
-use Rattle.server_book.proofs.BookTurns.{is_turn}
-use Rattle.server_book.proofs.BookTurns.{agrees_admit}
-use Rattle.server_book.proofs.BookTurns.{room_admit}
-use Rattle.server_book.proofs.BookTurns.{admit_turned}
+use Rattle.server_book.proofs.BookTurns.{is_turn, agrees_admit, room_admit, admit_turned}
 use Rattle.server_book.proofs.BookTurns.{posted_admit}
 use Rattle.server_book.proofs.book.Book.admit.Goals as goal
 

@@ -1,8 +1,7 @@
 use Rattle.std.proofs.Common.{arith}
 use Rattle.std.proofs.lemmas.Bool.Decides.{nat_tests}
 use Rattle.server_book.proofs.Refusals.{admit_refusal, run_refusal, run_gone, take_refusal}
-use Rattle.server_book.proofs.Refusals.{take_quiet}
-use Rattle.server_book.proofs.Refusals.{take_gone, close_gone}
+use Rattle.server_book.proofs.Refusals.{take_quiet, take_gone, close_gone}
 use Rattle.server_book.proofs.book.Book.refusal.Goals as goal
 
 pub returns-in-Admit : goal.returns-in-Admit

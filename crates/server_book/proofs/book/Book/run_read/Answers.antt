@@ -1,3 +1,4 @@
+use Rattle.serial_model.proofs.Turning.{run_step}
 use Rattle.std.proofs.Common.{◌≡◌, ◌+◌, ◌∷◌, [], length, sym, ap, subst, ◌∙◌, arith, max}
 use Rattle.serial_model.specs.declared.history.Entry.TheVariants as entry
 use Rattle.serial_model.specs.declared.history.BookCall.TheVariants.{Run}
@@ -10,7 +11,7 @@ use Rattle.server_book.specs.Connections.{ConnectionsState}
 use Rattle.server_book.specs.Plans.{kept_by}
 use Rattle.server_book.specs.RunSendings.{run_sendings}
 use Rattle.server_book.proofs.Plans.{plan_runs}
-use Rattle.server_book.proofs.BookTurns.{is_held, is_id, is_turn, kept_of, room_more, run_turned}
+use Rattle.server_book.proofs.BookTurns.{is_held, is_id, is_turn, kept_of, room_more}
 use Rattle.server_book.proofs.Runs.{agrees_run, length_after, posted_run}
 use Rattle.server_book.proofs.book.Book.run_read.Goals as goal
 
@@ -120,8 +121,7 @@ returns-clause-ok c =
     let grown = c.push.ensures.past ∙ ap (λ x. e ∷ x) c.reserve.ensures.past in
     is_turn c.args.self.now l past c.push.new.self.past i.stores.connections.posts
     c.send_run.new.self.connections.posts e (Run id words c.args.now) _ c.self.view_is tt grown
-    (run_turned l past id c.args.now m c.len-entry.result words acc.0 acc.1 c.len-entry.ensures.len
-    (c.max-moment.ensures ∙ ap (max c.args.now) c.moment.ensures))
+    (grind (arith, run_step, max))
     (ap (λ (s : ConnectionsState). s.posts) final
     ∙ posted_run l past space keys cs k m gone gone_is n id words acc.0 plan number runs.1 runs.3
     runs.4 runs.5)

@@ -1,13 +1,9 @@
-use Rattle.std.proofs.Common.{◌∷◌, length, sym, ap}
-use Rattle.std.proofs.Common.{subst, ◌∙◌, ◌-◌, arith, length-set}
+use Rattle.std.proofs.Common.{◌∷◌, length, sym, ap, subst, ◌∙◌, ◌-◌, arith, length-set}
 use Rattle.serial_model.specs.declared.history.Entry.TheVariants as entry
 use Rattle.serial_model.specs.declared.history.BookCall.TheVariants.{Take}
 use Rattle.server_book.specs.BookState.{BookState, IsAccepted, Agrees}
 use Rattle.server_book.specs.Connections.{ConnectionsState}
-use Rattle.server_book.proofs.BookTurns.{kept_of, is_turn}
-use Rattle.server_book.proofs.BookTurns.{agrees_take}
-use Rattle.server_book.proofs.BookTurns.{room_more}
-use Rattle.server_book.proofs.BookTurns.{take_turned}
+use Rattle.server_book.proofs.BookTurns.{kept_of, is_turn, agrees_take, room_more, take_turned}
 use Rattle.server_book.proofs.BookTurns.{posted_take}
 use Rattle.server_book.proofs.Refusals.{take_some, takes_some}
 use Rattle.server_book.proofs.book.Book.take.Goals as goal

@@ -31,13 +31,7 @@ set_mode-requires c =
     let on = on_told c.args.entry c.args.id s.connections now
     c.args.expired.now s.table.rows c.requires.held.there c.requires.apart c.requires.id
     c.requires.none c.in_ok-tell_keys.ensures.told in
-    let same : length c.send.new.self.items ≡ length now.items =
-    ap (λ (x : ConnectionsState). length x.items) c.in_ok-send.ensures.ok
-    ∙ length_replied c.args.entry c.args.id s.connections now
-    c.args.expired.now s.table.rows c.requires.held.there c.requires.apart c.requires.id
-    c.requires.none c.in_ok-tell_keys.ensures.told plan.mode
-    (spelled plan.mode.proto plan.reply) in
-    (on.0, let le = on.1 in omega (arith, le, same))
+    grind (arith, length_replied)
 
 pub carry_out-requires : goal.carry_out-requires
 carry_out-requires c =

@@ -1,17 +1,18 @@
+use Rattle.server_book.proofs.Sendings.{before_sendings, on_err}
+use Rattle.server_book.proofs.Groups.{so_far_there, each_at, each_length, each_row, each_there}
+use Rattle.server_book.proofs.Groups.{group_told, ids_still, told_more}
 use Rattle.std.proofs.Common.{sym, ap, ◌∙◌, arith, length, ◌<◌, []}
 use Rattle.std.proofs.lemmas.List.{get_or_read, take_all}
 use Rattle.track_table.specs.declared.table.Held.{Held}
 use Rattle.track_table.specs.Table.{TableState, holders_of}
-use Rattle.server_book.proofs.Groups.{back_still, each_at, each_length, each_row, each_there}
-use Rattle.server_book.proofs.Groups.{group_told, ids_still, told_more}
-use Rattle.server_book.proofs.Sendings.{on_err}
 use Rattle.server_book.proofs.stores.Stores.tell_keys.Goals as goal
 
 pub tell-requires : goal.tell-requires
 tell-requires c = grind (arith, ids_still, each_row, each_there, get_or_read, each_at)
 
 pub returns-in_err-tell-clause-back : goal.returns-in_err-tell-clause-back
-returns-in_err-tell-clause-back c = grind (arith, on_err, back_still, each_row, each_there)
+returns-in_err-tell-clause-back c =
+    grind (arith, on_err, each_row, each_there, before_sendings, so_far_there)
 
 pub loop-place-preserved : goal.loop-place-preserved
 loop-place-preserved c =

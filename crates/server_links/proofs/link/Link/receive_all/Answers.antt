@@ -1,5 +1,5 @@
-use Rattle.server_links.proofs.Playing.{receive_before, receive_short, receive_gives, no_eof}
-use Rattle.std.proofs.Common.{◌≡◌, ◌++◌, ◌∷◌, [], false, ◌∙◌, ap, sym, append-nil}
+use Rattle.std.proofs.Common.{arith, ◌≡◌, ◌++◌, ◌∷◌, [], false, ◌∙◌, ap, sym, append-nil}
+use Rattle.server_links.proofs.Playing.{receive_before, receive_short, receive_gives}
 use Rattle.script_text.specs.declared.line.Line.TheVariants as line
 use Rattle.server_links.specs.Directions.{is_queued}
 use Rattle.server_links.specs.Moves.{read_lines, eof_lines}
@@ -52,6 +52,5 @@ returns-else-is_queued c s =
     let none : is_queued down.eof ≡ false = sym c.is_queued.ensures ∙ c.if-is_queued.false in
     receive_gives (with_link s c.args.self.now) c.args.lines.now c.put_read.new.lines down
     c.pass_all.ensures told down c.put_read.new.lines
-    (ap (λ e. record { bytes = down.bytes; eof = e }) (no_eof down.eof none))
-    (sym (append-nil c.put_read.new.lines) ∙ ap (λ b. c.put_read.new.lines
-    ++ eof_lines c.args.self.now.name b) (sym none))
+    (ap (λ e. record { bytes = down.bytes; eof = e }) (grind arith))
+    (grind (arith, append-nil))

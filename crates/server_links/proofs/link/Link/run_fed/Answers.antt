@@ -1,7 +1,6 @@
-use Rattle.std.proofs.Common.{subst, arith}
+use Rattle.std.proofs.Common.{arith}
 use Rattle.std.proofs.lemmas.Result.{err_from_is_err_and}
-use Rattle.server_links.specs.Moves.{run_fed, run_requests, stop}
-use Rattle.server_links.specs.Outcome.{Gives}
+use Rattle.server_links.specs.Moves.{run_fed, run_requests}
 use Rattle.server_links.specs.Session.{session}
 use Rattle.server_links.proofs.Outcomes.{stops_first, gives_then}
 use Rattle.server_links.proofs.link.Link.run_fed.Goals as goal
@@ -17,6 +16,4 @@ returns c =
     let s1 = session c.run_requests.new.server c.run_requests.new.self in
     gives_then (run_requests s) _ c.args.lines.now c.in_ok-fault.fault s1 c.run_requests.new.lines
     c.stop.result _ c.stop.new.lines c.in_ok-fault.ensures.gives
-    (subst (λ p. Gives (stop p c.args.eof s1) c.run_requests.new.lines c.stop.result
-    (session c.stop.new.server c.run_requests.new.self) c.stop.new.lines)
-    c.in_ok-fault.ensures.fault c.stop.ensures)
+    (grind arith)

@@ -1,4 +1,4 @@
-use Rattle.std.proofs.Common.{◌≡◌, ◌∙◌, sym, ap, subst, true, false, length, take, arith}
+use Rattle.std.proofs.Common.{◌≡◌, ◌∙◌, sym, subst, true, false, length, take, arith}
 use Rattle.std.specs.Prelude.{nat_le}
 use Rattle.std.proofs.lemmas.Bool.Decides.{nat_tests}
 use Rattle.std.proofs.lemmas.Result.{err_from_is_err_and}
@@ -37,12 +37,7 @@ returns c =
     let up = without n link.up in
     let same : s1
     ≡ session c.args.server.now (with_reader (with_up link up)
-    (fed link.reader (take n link.up.bytes))) =
-    ap (λ u. session c.args.server.now (with_reader (with_up link u) c.feed.new.self))
-    c.pass.ensures
-    ∙ ap (λ r. session c.args.server.now (with_reader (with_up link up) r)) (c.in_ok-feed.ensures.ok
-    ∙ ap (λ b. fed link.reader (take n b)) c.as_slice.ensures) in
-    rw (serve_some c.args.count n s c.in-Some.is (sym c.reads_on.ensures
-    ∙ c.if-not-reads_on.false) le)
+    (fed link.reader (take n link.up.bytes))) = grind arith in
+    rw (serve_some c.args.count n s c.in-Some.is (grind arith) le)
     (fed_gives (take n link.up.bytes) up s s1 (run_fed false) c.args.lines.now c.run_fed.result _
     c.run_fed.new.lines same c.run_fed.ensures)

@@ -4,7 +4,7 @@ use Rattle.resp_stream.specs.Stream.{Stream, fed}
 use Rattle.server_links.specs.declared.fault.WorldFault.TheVariants.{NoMemory}
 use Rattle.server_links.specs.Directions.{is_queued, past_eof, without_bytes}
 use Rattle.server_links.specs.Moves.{serve_all, run_fed}
-use Rattle.server_links.specs.Outcome.{Gives, Stops}
+use Rattle.server_links.specs.Outcome.{Stops}
 use Rattle.server_links.specs.Session.{session, with_reader, with_up}
 use Rattle.server_links.proofs.Playing.{serve_off, serve_on, fed_stops, fed_gives}
 use Rattle.server_links.proofs.link.Link.serve_all.Goals as goal
@@ -40,6 +40,4 @@ returns c =
     rw (serve_on s (sym c.reads_on.ensures ∙ c.if-not-reads_on.false))
     (fed_gives link.up.bytes up s s1 (run_fed (is_queued link.up.eof)) c.args.lines.now
     c.run_fed.result _ c.run_fed.new.lines same
-    (subst (λ e. Gives (run_fed e s1) c.args.lines.now c.run_fed.result
-    (session c.run_fed.new.server c.run_fed.new.self) c.run_fed.new.lines)
-    c.is_queued-eof.ensures c.run_fed.ensures))
+    (grind arith))

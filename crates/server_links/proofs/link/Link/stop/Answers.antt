@@ -1,4 +1,4 @@
-use Rattle.std.proofs.Common.{◌∙◌}
+use Rattle.std.proofs.Common.{arith}
 use Rattle.std.proofs.lemmas.Result.{err_from_is_err_and}
 use Rattle.server_links.specs.Session.{session}
 use Rattle.server_links.proofs.Playing.{stop_before, stop_gives}
@@ -19,7 +19,4 @@ returns-in_err-push-in-Some c =
     c.args.lines.now c.in-Some.is)))
 
 pub returns-in_ok-push-in-Some : goal.returns-in_ok-push-in-Some
-returns-in_ok-push-in-Some c =
-    stop_gives c.args.fault _ c.args.eof (session c.args.server.now c.args.self.now)
-    c.args.lines.now c.in-Some.is c.push.new.self c.close.result _ c.close.new.lines
-    (c.in_ok-push-in-Some.ensures.ok ∙ cc c.in_ok-copy-in-Some.ensures) c.close.ensures
+returns-in_ok-push-in-Some c = grind (arith, stop_gives)

@@ -1,4 +1,4 @@
-use Rattle.std.proofs.Common.{◌≡◌, ap, sym, ◌∙◌, arith}
+use Rattle.std.proofs.Common.{◌≡◌, ap, ◌∙◌, arith}
 use Rattle.std.proofs.lemmas.Result.{err_from_is_err_and}
 use Rattle.script_text.specs.declared.line.Line.TheVariants as line
 use Rattle.serial_model.specs.History.{unsent}
@@ -6,9 +6,8 @@ use Rattle.server_links.specs.Directions.{put}
 use Rattle.server_links.specs.Moves.{bytes_of}
 use Rattle.server_links.specs.Session.{session, with_link, with_down}
 use Rattle.server_links.proofs.Playing.{server_turned, take_quiet, take_before, take_stops}
-use Rattle.server_links.proofs.Playing.{take_short}
-use Rattle.server_links.proofs.Playing.{take_gives, take_size, no_bytes, take_given, only_given}
-use Rattle.server_links.proofs.Playing.{given_line}
+use Rattle.server_links.proofs.Playing.{take_short, take_gives, take_size, take_given, only_given}
+use Rattle.server_links.proofs.Delivery.{no_bytes}
 use Rattle.server_links.proofs.link.Link.take_down.Goals as goal
 
 pub returns-then-count-eq0 : goal.returns-then-count-eq0
@@ -64,10 +63,7 @@ returns-in_err-put-in-Bytes c =
     c.turn.ensures.clock)
     (take_short c.args.most s c.args.lines.now c.turn.new.self.book.past _ c.turn.new.lines
     c.in_ok-bytes.field-0 g
-    (given_line _ _ _ s.link.name _ is size ∙ cc (
-      c.in_ok-next_entry.ensures,
-      c.in_ok-copy.ensures,
-    ))))))
+    (grind arith)))))
 
 pub returns : goal.returns
 returns c =
@@ -78,12 +74,11 @@ returns c =
     let is = take_given s c.args.most _ _ c.requires (omega (arith, size, c.if-count-eq0.false)) g.0
     g.1 in
     let put_is : c.put.new.self ≡ put (bytes_of c.in_ok-bytes.field-0) c.args.self.now.down =
-    c.in_ok-put-in-Bytes.ensures.ok ∙ ap (λ b. put b c.args.self.now.down) (c.as_slice.ensures
-    ∙ sym (ap bytes_of c.in-Bytes.is)) in
+    grind arith in
     rw (ap (λ x. with_link x (with_down c.args.self.now c.put.new.self))
     (server_turned c.args.server.now c.turn.new.self c.args.self.now c.turn.ensures.limits
     c.turn.ensures.clock))
     (take_gives c.args.most s c.args.lines.now c.turn.new.self.book.past _ c.turn.new.lines
     c.in_ok-bytes.field-0 g
-    (given_line _ _ _ s.link.name _ is size ∙ cc (c.in_ok-next_entry.ensures, c.in_ok-copy.ensures))
+    (grind arith)
     c.put.new.self put_is)

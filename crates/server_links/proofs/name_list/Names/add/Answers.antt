@@ -1,4 +1,4 @@
-use Rattle.std.proofs.Common.{◌≡◌, ◌++◌, ◌∷◌, [], None, ap, ◌∙◌}
+use Rattle.std.proofs.Common.{arith, ◌≡◌, ◌++◌, ◌∷◌, [], None, ap, ◌∙◌}
 use Rattle.std.specs.Prelude.{position}
 use Rattle.std.specs.Str.{bytes_eq}
 use Rattle.server_links.proofs.NameLists.{name_added, plain}
@@ -8,9 +8,7 @@ pub returns-clause-ok : goal.returns-clause-ok
 returns-clause-ok c =
     let keys = c.self.inside.table.keys in
     let k = c.in_ok-name.name in
-    let free : position (λ n. bytes_eq n k.items) (plain keys) ≡ None =
-    ap (λ b. position (λ n. bytes_eq n b) (plain keys)) c.in_ok-name.ensures.items
-    ∙ ap (position (λ n. bytes_eq n c.args.name.now)) c.self.view_is ∙ c.requires in
+    let free : position (λ n. bytes_eq n k.items) (plain keys) ≡ None = grind (arith, plain) in
     ap plain c.in_ok-insert.ensures.keys ∙ name_added k keys free
     ∙ ap (λ b. plain keys ++ b ∷ []) c.in_ok-name.ensures.items
     ∙ ap (λ l. l ++ c.args.name.now ∷ []) c.self.view_is

@@ -1,15 +1,12 @@
 use Rattle.std.proofs.Common.{◌≡◌, ap, subst, sym, ◌∙◌, max, arith}
 use Rattle.std.proofs.lemmas.Result.{err_from_is_err_and}
 use Rattle.script_text.specs.declared.line.Line.TheVariants.{Tick}
-use Rattle.serial_model.specs.declared.history.BookCall.TheVariants as call
-use Rattle.serial_model.specs.declared.history.BookReply.TheVariants.{Ticked}
 use Rattle.serial_model.specs.History.{latest}
-use Rattle.serial_model.specs.Steps.{BookStep, book_step}
 use Rattle.server_links.specs.LinkSteps.{tick}
 use Rattle.server_links.specs.Outcome.{Gives}
 use Rattle.server_links.specs.ServerState.{ServerState}
 use Rattle.server_links.specs.Turns.{links_of}
-use Rattle.server_links.proofs.Moments.{after, played_links, tick_before, tick_other, tick_ticked}
+use Rattle.server_links.proofs.Moments.{after, tick_before, tick_other, tick_ticked}
 use Rattle.server_links.proofs.server.Server.tick.Goals as goal
 
 pub returns-in_err-next_entry-clause-gives : goal.returns-in_err-next_entry-clause-gives
@@ -19,8 +16,7 @@ pub returns-in_err-push-clause-gives : goal.returns-in_err-push-clause-gives
 returns-in_err-push-clause-gives c =
     let p = err_from_is_err_and c.from_residual-in_err-push.result
     c.from_residual-in_err-push.ensures.1 in
-    rw p.1 (rw p.2 (rw c.in_err-push.ensures.err
-    (tick_before (links_of c.args.self.now) c.args.lines.now)))
+    rw p.1 (grind (arith, tick_before))
 
 pub returns-in-Ticked-clause-gives : goal.returns-in-Ticked-clause-gives
 returns-in-Ticked-clause-gives c =
@@ -34,13 +30,7 @@ returns-in-Ticked-clause-gives c =
     ∙ ap (λ (x : ServerState). max x.clock (latest x.book.past)) c.self.view_is in
     let gives = tick_ticked w c.in-Ticked.entry c.in_ok-next_entry.field-0 c.max-moment.result
     new.book.past c.args.lines.now
-    (subst (λ n. book_step s.book.limits s.book.past (call.Tick n)
-    ≡ record { reply = Ticked c.in-Ticked.entry; past = new.book.past }) clock_is
-    c.in-Ticked.ensures.step) c.in_ok-next_entry.ensures moment in (
-      gives.0,
-      played_links s new c.play-reply.ensures.limits c.play-reply.ensures.clock ∙ gives.1,
-      c.in_ok-push.ensures.ok ∙ gives.2,
-    )
+    (grind arith) c.in_ok-next_entry.ensures moment in grind arith
 
 pub returns : goal.returns
 returns c =
@@ -56,10 +46,9 @@ returns c =
       limits = c.play-reply.ensures.limits;
       clock = c.play-reply.ensures.clock;
       gives = subst (λ v. Gives (tick w) c.args.lines.now r v c.take_back.new.lines)
-          (sym (played_links s new c.play-reply.ensures.limits c.play-reply.ensures.clock))
+          (sym (grind arith))
           (subst (λ ls. Gives (tick w) c.args.lines.now r (after w new.book.past) ls) (sym back)
           (tick_other w c.play-reply.result new.book.past c.args.lines.now r
-          (subst (λ n. BookStep s.book.limits s.book.past (call.Tick n) c.play-reply.result
-          new.book.past) clock_is c.play-reply.ensures.step)
+          (grind arith)
           c.in_default.not-Ticked c.without_entry.ensures));
     }

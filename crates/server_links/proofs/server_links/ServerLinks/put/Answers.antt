@@ -1,4 +1,4 @@
-use Rattle.std.proofs.Common.{◌≡◌, [], Some, slice_set, refl, sym, ap, subst, ◌∙◌}
+use Rattle.std.proofs.Common.{arith, ◌≡◌, [], Some, slice_set, refl, sym, ap, subst, ◌∙◌}
 use Rattle.std.specs.Str.{bytes_eq}
 use Rattle.std.proofs.lemmas.List.Quantifiers.{position-Some}
 use Rattle.server_links.specs.declared.fault.WorldFault.TheVariants.{NoName}
@@ -18,8 +18,7 @@ returns-in_default c =
     subst (λ (w : LinksState). Stops (step w e) c.args.lines.now NoName w c.args.lines.now)
     c.self.view_is
     (no_such_link c.args.name.now e refl (world i.server i.links.items) c.args.lines.now
-    (ap (place_of c.args.name.now) c.self.view_is ∙ sym c.place_of.ensures
-    ∙ c.in_default.is))
+    (grind arith))
 
 pub invariant_of-self : goal.invariant_of-self
 invariant_of-self c =

@@ -6,7 +6,7 @@ use Rattle.std.specs.Str.{bytes_eq}
 use Rattle.std.proofs.lemmas.Result.{err_from_is_err_and}
 use Rattle.server_links.specs.LinkEvent.{Raw}
 use Rattle.script_text.specs.declared.line.Line.TheVariants as line
-use Rattle.server_links.specs.declared.fault.WorldFault.TheVariants.{NameTaken, NoMemory}
+use Rattle.server_links.specs.declared.fault.WorldFault.TheVariants.{NameTaken}
 use Rattle.server_links.specs.Outcome.{Stops}
 use Rattle.server_links.specs.Session.{world}
 use Rattle.server_links.specs.LinkSteps.{place_of, step}
@@ -28,8 +28,7 @@ pub returns-then-is_some : goal.returns-then-is_some
 returns-then-is_some c =
     let i = c.self.inside in
     let is = some (place_of c.args.name.now (world i.server i.links.items))
-    (ap (λ (w : LinksState). is_some (place_of c.args.name.now w)) c.self.view_is
-    ∙ ap is_some (sym c.place_of.ensures) ∙ sym c.is_some.ensures ∙ c.if-is_some.true) in
+    (grind arith) in
     subst (λ (w : LinksState). Stops (step w (Raw c.args.name.now)) c.args.lines.now NameTaken w
     c.args.lines.now) c.self.view_is
     (raw_taken i.server i.links.items c.args.name.now c.args.lines.now is.0 is.1)
@@ -40,10 +39,7 @@ returns-in_err-next_entry c =
     let free = free (world i.server i.links.items) c.args.self.now c.args.name.now c.place_of.result
     c.is_some.result c.self.view_is c.place_of.ensures c.is_some.ensures c.if-is_some.false in
     let p = err_from_is_err_and c.from_residual.result c.from_residual.ensures.1 in
-    rw p.1 (rw p.2
-    (subst (λ (w : LinksState). Stops (step w (Raw c.args.name.now)) c.args.lines.now NoMemory w
-    c.args.lines.now) c.self.view_is (raw_before i.server i.links.items c.args.name.now
-    c.args.lines.now free)))
+    rw p.1 (grind (arith, raw_before, free))
 
 pub returns-in_err-copy : goal.returns-in_err-copy
 returns-in_err-copy c =
@@ -52,10 +48,7 @@ returns-in_err-copy c =
     c.is_some.result c.self.view_is c.place_of.ensures c.is_some.ensures c.if-is_some.false in
     let p = err_from_is_err_and c.from_residual-in_err-copy.result
     c.from_residual-in_err-copy.ensures.1 in
-    rw p.1 (rw p.2
-    (subst (λ (w : LinksState). Stops (step w (Raw c.args.name.now)) c.args.lines.now NoMemory w
-    c.args.lines.now) c.self.view_is (raw_before i.server i.links.items c.args.name.now
-    c.args.lines.now free)))
+    rw p.1 (grind (arith, raw_before, free))
 
 pub returns-in_err-copy-2 : goal.returns-in_err-copy-2
 returns-in_err-copy-2 c =
@@ -64,10 +57,7 @@ returns-in_err-copy-2 c =
     c.is_some.result c.self.view_is c.place_of.ensures c.is_some.ensures c.if-is_some.false in
     let p = err_from_is_err_and c.from_residual-in_err-copy-2.result
     c.from_residual-in_err-copy-2.ensures.1 in
-    rw p.1 (rw p.2
-    (subst (λ (w : LinksState). Stops (step w (Raw c.args.name.now)) c.args.lines.now NoMemory w
-    c.args.lines.now) c.self.view_is (raw_before i.server i.links.items c.args.name.now
-    c.args.lines.now free)))
+    rw p.1 (grind (arith, raw_before, free))
 
 pub returns-in_err-reserve : goal.returns-in_err-reserve
 returns-in_err-reserve c =
@@ -76,12 +66,7 @@ returns-in_err-reserve c =
     c.is_some.result c.self.view_is c.place_of.ensures c.is_some.ensures c.if-is_some.false in
     let p = err_from_is_err_and c.from_residual-in_err-reserve.result
     c.from_residual-in_err-reserve.ensures.1 in
-    rw p.1 (rw p.2
-    (subst (λ (w : LinksState). Stops (step w (Raw c.args.name.now)) c.args.lines.now NoMemory
-    (world i.server c.reserve.new.self.items) c.args.lines.now) c.self.view_is
-    (subst (λ l. Stops (step (world i.server i.links.items) (Raw c.args.name.now)) c.args.lines.now
-    NoMemory (world i.server l) c.args.lines.now) (sym c.reserve.ensures.items)
-    (raw_before i.server i.links.items c.args.name.now c.args.lines.now free))))
+    rw p.1 (grind (arith, raw_before, free))
 
 pub admit-requires : goal.admit-requires
 admit-requires c =
@@ -96,14 +81,11 @@ invariant_of-self-in_err-admit c =
     let i = c.self.inside in (
       subst (λ l. Fits c.admit.new.server.book.past l) (sym c.reserve.ensures.items)
           (raw_fits_still i.server i.links.items c.args.name.now c.args.lines.now
-          (free (world i.server i.links.items) c.args.self.now c.args.name.now c.place_of.result
-          c.is_some.result c.self.view_is c.place_of.ensures c.is_some.ensures
-          c.if-is_some.false)
+          (grind (arith, free))
           c.admit.new.server (line.Admit c.in_ok-next_entry.field-0 c.in_ok-copy.field-0
           (c.len.result + 1)) c.admit.new.lines c.admit.ensures.limits c.admit.ensures.clock
           c.in_err-admit.field-0.0 c.in_err-admit.ensures.gives c.self.invariant.0),
-      subst (λ ns. AreNames ns c.reserve.new.self.items) (sym c.in_err-admit.ensures.err)
-          (subst (λ l. AreNames i.names l) (sym c.reserve.ensures.items) c.self.invariant.1),
+      grind arith,
     )
 
 pub returns-in_err-admit : goal.returns-in_err-admit
@@ -118,8 +100,7 @@ returns-in_err-admit c =
     (subst (λ l. Stops (step (world i.server i.links.items) (Raw c.args.name.now)) c.args.lines.now
     fault (world c.admit.new.server l) c.admit.new.lines) (sym c.reserve.ensures.items)
     (raw_stops i.server i.links.items c.args.name.now c.args.lines.now
-    (free (world i.server i.links.items) c.args.self.now c.args.name.now c.place_of.result
-    c.is_some.result c.self.view_is c.place_of.ensures c.is_some.ensures c.if-is_some.false)
+    (grind (arith, free))
     c.admit.new.server (line.Admit c.in_ok-next_entry.field-0 c.in_ok-copy.field-0
     (c.len.result + 1)) c.admit.new.lines c.admit.ensures.limits c.admit.ensures.clock fault
     c.in_err-admit.ensures.gives))))
@@ -132,10 +113,7 @@ invariant_of-self-2 c =
     c.if-is_some.false in
     let id = c.len.result + 1 in
     let more : c.push_reserved.new.self.items ≡ i.links.items
-    ++ fresh_link id c.args.name.now ∷ [] =
-    c.push_reserved.ensures.items ∙ ap (λ l. l ++ c.new-link.result ∷ []) c.reserve.ensures.items
-    ∙ ap (λ x. i.links.items ++ x ∷ []) (c.new-link.ensures
-    ∙ ap (fresh_link id) c.in_ok-copy-2.ensures) in
+    ++ fresh_link id c.args.name.now ∷ [] = grind arith in
     let names : c.admit.new.names ≡ i.names ++ c.args.name.now ∷ [] =
     c.in_ok-admit.ensures.ok ∙ ap (λ b. i.names ++ b ∷ []) c.as_slice.ensures in (
       subst (λ l. Fits c.admit.new.server.book.past l) (sym more)
@@ -155,17 +133,13 @@ returns c =
     let i = c.self.inside in
     let id = c.len.result + 1 in
     let more : c.push_reserved.new.self.items ≡ i.links.items
-    ++ fresh_link id c.args.name.now ∷ [] =
-    c.push_reserved.ensures.items ∙ ap (λ l. l ++ c.new-link.result ∷ []) c.reserve.ensures.items
-    ∙ ap (λ x. i.links.items ++ x ∷ []) (c.new-link.ensures
-    ∙ ap (fresh_link id) c.in_ok-copy-2.ensures) in
+    ++ fresh_link id c.args.name.now ∷ [] = grind arith in
     subst (λ (w : LinksState). Ends (step w (Raw c.args.name.now)) c.args.lines.now
     (world c.admit.new.server c.push_reserved.new.self.items) c.admit.new.lines) c.self.view_is
     (subst (λ l. Ends (step (world i.server i.links.items) (Raw c.args.name.now)) c.args.lines.now
     (world c.admit.new.server l) c.admit.new.lines) (sym more)
     (raw_gives i.server i.links.items c.args.name.now c.args.lines.now
-    (free (world i.server i.links.items) c.args.self.now c.args.name.now c.place_of.result
-    c.is_some.result c.self.view_is c.place_of.ensures c.is_some.ensures c.if-is_some.false)
+    (grind (arith, free))
     c.admit.new.server (line.Admit c.in_ok-next_entry.field-0 c.in_ok-copy.field-0 id)
     c.admit.new.lines c.admit.ensures.limits c.admit.ensures.clock
     c.in_ok-admit.field-0 c.in_ok-admit.ensures.gives id c.self.invariant.0

@@ -4,12 +4,7 @@ use Rattle.server_links.proofs.server_links.ServerLinks.tick.Goals as goal
 use Rattle.std.proofs.Common.{arith}
 
 pub invariant_of-self : goal.invariant_of-self
-invariant_of-self c =
-    let i = c.self.inside in (
-      tick_fits i.server c.tick.new.self i.links.items c.args.lines.now c.tick.new.lines
-          c.tick.result c.tick.ensures.gives c.self.invariant.0,
-      c.self.invariant.1,
-    )
+invariant_of-self c = grind (arith, tick_fits)
 
 pub returns : goal.returns
 unfolding step

@@ -1,7 +1,4 @@
-use Rattle.std.proofs.Common.{◌≡◌, false, arith, ap, ◌∙◌}
-use Rattle.shared_cache.specs.declared.log.Wire.TheVariants.{Main}
-use Rattle.shared_cache.specs.Log.{is_ended}
-use Rattle.shared_cache.specs.ClientFields.{Client}
+use Rattle.std.proofs.Common.{◌≡◌, false, arith}
 use Rattle.shared_cache.proofs.NewestFirst.{pushed, room_left}
 use Rattle.shared_cache.proofs.OtherTurns.{reflects_last}
 use Rattle.shared_cache.proofs.client.ClientState.finish.Goals as goal
@@ -10,8 +7,7 @@ pub invariant_of-self : goal.invariant_of-self
 invariant_of-self c =
     let k = c.self.invariant.reflects in
     let open_ : c.self.inside.ended ≡ false
-    = k.ended_is ∙ ap (λ (st : Client). is_ended st.setup.mode Main st.past) c.self.view_is
-    ∙ c.requires.open in
+    = grind arith in
     record {
       reflects = rw (
         pushed c.self.inside.log.items _ _ c.push_reserved.ensures.items,

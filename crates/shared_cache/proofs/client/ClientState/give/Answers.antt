@@ -1,8 +1,8 @@
+use Rattle.shared_cache.proofs.Bytes.{untaken_took}
 use Rattle.std.proofs.Common.{◌++◌, ◌∷◌, [], arith, ap, ◌∙◌}
 use Rattle.shared_cache.specs.declared.log.Wire.TheVariants.{Main}
 use Rattle.shared_cache.specs.declared.log.LogEntry.TheVariants as entry
 use Rattle.shared_cache.proofs.NewestFirst.{pushed, at_most_one}
-use Rattle.shared_cache.proofs.OtherTurns.{reflects_take}
 use Rattle.shared_cache.proofs.client.ClientState.give.Goals as goal
 
 pub invariant_of-self-2 : goal.invariant_of-self-2
@@ -15,7 +15,7 @@ invariant_of-self-2 c =
             ∙ ap (λ l. l ++ entry.TakeOut Main c.args.most ∷ []) c.in_ok-reserve.ensures.items),
         c.advance.ensures,
       )
-          (reflects_take _ _ _ c.self.invariant.reflects c.args.most);
+          (grind (arith, untaken_took));
       room = omega (arith, at_most_one i.ended, c.in_ok-reserve.ensures.ok);
     }
 

@@ -12,17 +12,14 @@ use Rattle.shared_cache.proofs.client.ClientState.got_reply.Goals as goal
 pub returns-then-not-is_awaiting-clause-step : goal.returns-then-not-is_awaiting-clause-step
 returns-then-not-is_awaiting-clause-step c =
     got_bad _ _ c.args.value (Unexpected Main) c.requires.open
-    (fault_unexpected _ _ c.args.value c.requires.reply
-    (not-false _ (sym c.is_awaiting.ensures ∙ c.if-not-is_awaiting.true)))
+    (grind (arith, fault_unexpected, not-false))
     ∙ ap (λ (st : Client). record { reply = Refused (Unexpected Main); past = st.past })
     (sym c.finish.ensures)
 
 pub returns-then-not-welcomes-clause-step : goal.returns-then-not-welcomes-clause-step
 returns-then-not-welcomes-clause-step c =
     got_bad _ _ c.args.value (SetupRefused Main) c.requires.open
-    (fault_refused _ _ c.args.value c.requires.reply
-    (not-true _ (sym c.is_awaiting.ensures ∙ c.if-not-is_awaiting.false))
-    (sym c.welcomes.ensures ∙ c.if-not-welcomes.true))
+    (grind (arith, fault_refused, not-true))
     ∙ ap (λ (st : Client). record { reply = Refused (SetupRefused Main); past = st.past })
     (sym c.finish-then-not-welcomes.ensures)
 
@@ -39,8 +36,6 @@ pub returns-in-Err-clause-step : goal.returns-in-Err-clause-step
 returns-in-Err-clause-step c =
     ran_out _ _ _ _ (entry.Got Main c.args.value) _ tt
     (got_ok _ _ c.args.value c.requires.open
-    (fault_none _ _ c.args.value c.requires.reply
-    (not-true _ (sym c.is_awaiting.ensures ∙ c.if-not-is_awaiting.false))
-    (sym c.welcomes.ensures ∙ c.if-not-welcomes.false))
+    (grind (arith, fault_none, not-true))
     (sym c.is_log_full.ensures ∙ c.if-is_log_full.false))
     (ap (λ (st : Client). st.past) c.in-Err.ensures.err)

@@ -2,7 +2,6 @@ use Rattle.std.proofs.Common.{◌≡◌, ◌++◌, ◌∷◌, [], true, reverse,
 use Rattle.std.specs.Prelude.{is_some}
 use Rattle.shared_cache.specs.declared.log.LogEntry.TheVariants as entry
 use Rattle.shared_cache.specs.Held.{held, held_for}
-use Rattle.shared_cache.specs.ClientFields.{Client}
 use Rattle.shared_cache.proofs.NewestFirst.{pushed, at_most_one}
 use Rattle.shared_cache.proofs.Asks.{reflects_hit}
 use Rattle.shared_cache.proofs.client.ClientState.hit.Goals as goal
@@ -14,9 +13,7 @@ invariant_of-self-2 c =
     let held_is : is_some
     (held_for c.args.query
     (held (record { mode = i.mode; capacity = i.capacity; log_max = i.log_max })
-    (reverse i.log.items))) ≡ true =
-    ap (λ (st : Client). is_some (held_for c.args.query (held st.setup st.past))) c.self.view_is
-    ∙ c.requires in
+    (reverse i.log.items))) ≡ true = grind arith in
     record {
       reflects = rw (
         pushed i.log.items _ _

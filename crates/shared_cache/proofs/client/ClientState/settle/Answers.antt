@@ -22,9 +22,7 @@ put_reply-requires c =
     let i = c.self.inside in
     let k = c.self.invariant.reflects in
     let fault : fault_of (record { mode = i.mode; capacity = i.capacity; log_max = i.log_max })
-    (reverse i.log.items) Main c.args.value ≡ None =
-    ap (λ (st : Client). fault_of st.setup st.past Main c.args.value) c.self.view_is
-    ∙ c.requires.awaited in
+    (reverse i.log.items) Main c.args.value ≡ None = grind arith in
     let a = awaits (record { mode = i.mode; capacity = i.capacity; log_max = i.log_max })
     (reverse i.log.items) c.args.value c.requires.reply fault in
     λ big.

@@ -1,10 +1,10 @@
-use Rattle.std.proofs.Common.{ap, sym, subst, ◌∙◌, ◌∷◌, ◌++◌, [], map}
+use Rattle.std.proofs.Common.{arith, ap, sym, subst, ◌∙◌, ◌∷◌, ◌++◌, [], map}
 use Rattle.command_words.specs.Queries.{key_of}
 use Rattle.shared_cache.specs.HeldKeys.{others, with_pairs}
 use Rattle.shared_cache.proofs.PlainKeys.{plain}
 use Rattle.shared_cache.proofs.KeyCode.{put_others, none_of}
-use Rattle.shared_cache.specs.KeyReads.{AreOfKey, AreOfKeys}
-use Rattle.shared_cache.proofs.KeyReads.{put_of_keys, one_of_key}
+use Rattle.shared_cache.specs.KeyReads.{AreOfKeys}
+use Rattle.shared_cache.proofs.KeyReads.{put_of_keys}
 use Rattle.shared_cache.proofs.held_keys.HeldKeys.put_first.Goals as goal
 
 pub returns-in-Ok-clause-ok : goal.returns-in-Ok-clause-ok
@@ -30,6 +30,4 @@ invariant_of-self c =
     let key = c.in_ok-key.key in
     subst (λ z. AreOfKeys (map plain z.entries)) (sym c.in-Ok.ensures.entries)
     (put_of_keys c.self.inside.keys.entries key c.one.result c.self.inside.keys.cap
-    c.self.invariant (subst (AreOfKey key.items)
-    (sym (c.one.ensures ∙ ap (λ s. s ∷ []) c.in_ok-slot.ensures))
-    (one_of_key key.items c.args.entry (sym (c.in_ok-key.ensures.items ∙ c.key.ensures)))))
+    c.self.invariant (grind arith))

@@ -1,4 +1,4 @@
-use Rattle.std.proofs.Common.{ap, sym, subst, ◌∙◌, map}
+use Rattle.std.proofs.Common.{arith, ap, sym, subst, ◌∙◌, map}
 use Rattle.std.specs.Map.{remove_entry}
 use Rattle.std.specs.Str.{bytes_eq}
 use Rattle.shared_cache.specs.HeldKeys.{with_pairs}
@@ -19,5 +19,4 @@ invariant_of-self c =
     subst AreOfKeys
     (sym (ap (λ z. map plain z.entries) c.pop.ensures.entries
     ∙ remove_plain (bytes_eq c.args.key.now) c.self.inside.keys.entries))
-    (of_keys_without (bytes_eq c.args.key.now) (map plain c.self.inside.keys.entries)
-    c.self.invariant)
+    (grind (arith, of_keys_without, plain))

@@ -2,7 +2,7 @@ use Rattle.std.proofs.Common.{ap, sym, subst, ◌∙◌, ◌∷◌, [], map, Non
 use Rattle.shared_cache.specs.HeldKeys.{entries_of, others, with_pairs}
 use Rattle.shared_cache.proofs.PlainKeys.{plain}
 use Rattle.shared_cache.proofs.KeyCode.{entries_plain, put_others}
-use Rattle.shared_cache.specs.KeyReads.{AreOfKey, AreOfKeys}
+use Rattle.shared_cache.specs.KeyReads.{AreOfKeys}
 use Rattle.shared_cache.proofs.KeyReads.{found_is_of_key, put_of_keys, none_of_key}
 use Rattle.shared_cache.proofs.held_keys.HeldKeys.take_entries.Goals as goal
 
@@ -45,15 +45,13 @@ pub invariant_of-self : goal.invariant_of-self
 invariant_of-self c =
     subst (λ z. AreOfKeys (map plain z.entries)) (sym c.in-Ok.ensures.entries)
     (put_of_keys c.self.inside.keys.entries c.args.key c.none.result c.self.inside.keys.cap
-    c.self.invariant (subst (AreOfKey c.args.key.items) (sym c.none.ensures)
-    (none_of_key c.args.key.items)))
+    c.self.invariant (grind (arith, none_of_key)))
 
 pub invariant_of-self-in-Ok : goal.invariant_of-self-in-Ok
 invariant_of-self-in-Ok c =
     subst (λ z. AreOfKeys (map plain z.entries)) (sym c.in-Ok.ensures.entries)
     (put_of_keys c.self.inside.keys.entries c.args.key c.none.result c.self.inside.keys.cap
-    c.self.invariant (subst (AreOfKey c.args.key.items) (sym c.none.ensures)
-    (none_of_key c.args.key.items)))
+    c.self.invariant (grind (arith, none_of_key)))
 
 pub returns-in-Some-clause-of_key : goal.returns-in-Some-clause-of_key
 returns-in-Some-clause-of_key c =

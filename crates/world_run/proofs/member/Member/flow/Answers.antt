@@ -23,8 +23,7 @@ returns-in_err-over-clause-gives c =
     rw p.1 (rw p.2
     (after_stops (out None s) _ c.args.lines.now s1 c.out.new.lines _ _ _
     c.in_ok-out.ensures.gives
-    (stops_first (links_do (Over m.link (moves.Serve None)) s1) _ c.out.new.lines _ _ _
-    c.in_err-over.ensures.gives)))
+    (grind (arith, stops_first))))
 
 pub returns-in_err-over-2-clause-gives : goal.returns-in_err-over-2-clause-gives
 unfolding flow

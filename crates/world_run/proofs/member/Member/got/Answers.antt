@@ -1,4 +1,4 @@
-use Rattle.std.proofs.Common.{◌≡◌, ◌++◌, refl, ap, subst, ◌∙◌, arith}
+use Rattle.std.proofs.Common.{◌≡◌, refl, subst, arith}
 use Rattle.std.proofs.lemmas.Result.{err_from_is_err_and}
 use Rattle.shared_cache.specs.declared.log.ClientCall.TheVariants as call
 use Rattle.shared_cache.specs.declared.log.Wire.TheVariants.{Main}
@@ -52,6 +52,4 @@ returns c =
     (going (goal.at.returns c).After-take)
     (turn_ends s (call.Got Main c.args.value) m c.in_ok-reply.reply g.0 g.1 c.args.lines.now
     c.put_line.new.lines g.2
-    (c.in_ok-put_line.ensures.ok
-    ∙ ap (λ x. c.args.lines.now ++ x)
-    (c.in_ok-line.ensures ∙ got_before s c.in_ok-reply.reply m g.0)))
+    (grind (arith, got_before)))

@@ -1,8 +1,6 @@
-use Rattle.std.proofs.Common.{◌≡◌, ◌<◌, List, length, ap, subst, sym, ◌∙◌, arith}
+use Rattle.std.proofs.Common.{◌≡◌, List, ap, subst, sym, ◌∙◌, arith}
 use Rattle.std.proofs.lemmas.Result.{err_from_is_err_and}
-use Rattle.resp_stream.specs.Stream.{Stream}
 use Rattle.resp_stream.proofs.Values.{value_gives_at}
-use Rattle.resp_value.specs.ValueTree.{tree_of}
 use Rattle.script_text.specs.declared.line.Line.{Line}
 use Rattle.server_links.specs.LinksState.{LinksState}
 use Rattle.server_links.specs.Outcome.{Gives}
@@ -32,10 +30,7 @@ values-smaller c =
     let kept = ap (λ (s : Seat). s.member.reader) c.in_ok-got-in-Ok-Some.ensures.1
     ∙ got_reader c.in-Ok-Some.value
     (seat ls (record (seen i) { reader = c.next_value.new.self })) in
-    let old = ap (λ (m : MemberState). m.reader) c.self.view_is in
-    subst (λ (r : Stream). length r.rest < length c.values.self.reader.rest) (sym kept)
-    (subst (λ (r : Stream). length c.next_value.new.self.rest < length r.rest) old
-    (reads_less i.reader c.next_value.new.self (tree_of c.in-Ok-Some.value) g.0))
+    grind (arith, reads_less)
 
 pub values-preserved : goal.values-preserved
 values-preserved c =

@@ -1,11 +1,8 @@
-use Rattle.std.proofs.Common.{◌≡◌, length, ap, subst, sym, ◌∙◌, arith}
+use Rattle.std.proofs.Common.{◌≡◌, length, ap, sym, ◌∙◌, arith}
 use Rattle.std.proofs.lemmas.Result.{err_from_is_err_and}
 use Rattle.shared_cache.specs.declared.log.Wire.TheVariants.{Main}
 use Rattle.shared_cache.specs.ClientFields.{Client, IsServed}
 use Rattle.shared_cache.specs.Laws.{gots}
-use Rattle.server_links.specs.declared.fault.WorldFault.TheVariants.{NoMemory}
-use Rattle.server_links.specs.Outcome.{Stops}
-use Rattle.world_run.specs.ClientMoves.{turn}
 use Rattle.world_run.specs.Members.{seat}
 use Rattle.world_run.specs.WorldState.{MemberState}
 use Rattle.world_run.specs.MemberTurns.{Turned}
@@ -20,9 +17,7 @@ returns-in_err-reply c =
     let same = ap (λ (x : Client). record (seen i) { state = x })
     c.in_err-reply.ensures.err ∙ c.self.view_is in
     let p = err_from_is_err_and c.from_residual.result c.from_residual.ensures.1 in
-    rw p.1 (rw p.2 (λ links lines.
-    subst (λ (m : MemberState). Stops (turn c.args.call (seat links c.args.self.now)) lines NoMemory
-    (seat links m) lines) (sym same) (turn_before (seat links c.args.self.now) c.args.call lines)))
+    rw p.1 (grind (arith, turn_before))
 
 kept : (c : In_ok-reply) → IsServed c.turn.new.state.setup.mode
     × (c.self.inside.got ≡ length (gots Main c.turn.new.state.past))

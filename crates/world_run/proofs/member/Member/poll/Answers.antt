@@ -1,4 +1,4 @@
-use Rattle.std.proofs.Common.{◌++◌, refl, ap, ◌∙◌}
+use Rattle.std.proofs.Common.{arith, refl}
 use Rattle.std.proofs.lemmas.Result.{err_from_is_err_and}
 use Rattle.shared_cache.specs.declared.log.ClientCall.TheVariants as call
 use Rattle.world_run.specs.Members.{seat}
@@ -32,6 +32,4 @@ returns c =
     let g = c.in_ok-reply.ensures in
     turn_ends s (call.Poll c.args.number) m c.in_ok-reply.reply g.0 g.1 c.args.lines.now
     c.put_line.new.lines g.2
-    (c.in_ok-put_line.ensures.ok
-    ∙ ap (λ x. c.args.lines.now ++ x) (c.in_ok-line.ensures
-    ∙ polled_before s c.args.number c.in_ok-reply.reply m g.0))
+    (grind (arith, polled_before))

@@ -1,8 +1,7 @@
-use Rattle.std.proofs.Common.{subst, arith}
+use Rattle.std.proofs.Common.{arith}
 use Rattle.std.proofs.lemmas.Result.{err_from_is_err_and}
-use Rattle.server_links.specs.Outcome.{Gives}
 use Rattle.server_links.proofs.Outcomes.{gives_then, stops_first}
-use Rattle.world_run.specs.ClientMoves.{read_values, stop}
+use Rattle.world_run.specs.ClientMoves.{read_values}
 use Rattle.world_run.specs.Members.{seat}
 use Rattle.server_links.proofs.Items.{read_all}
 use Rattle.world_run.proofs.Received.{values}
@@ -19,6 +18,4 @@ returns c =
     let s1 = seat c.args.links.now c.got_all.new.self in
     gives_then (read_all values s) _ c.args.lines.now c.in_ok-fault.fault s1 c.got_all.new.lines
     c.stop.result _ c.stop.new.lines c.in_ok-fault.ensures.gives
-    (subst (λ p. Gives (stop p s1) c.got_all.new.lines c.stop.result
-    (seat c.args.links.now c.stop.new.self) c.stop.new.lines)
-    c.in_ok-fault.ensures.fault c.stop.ensures)
+    (grind arith)

@@ -7,7 +7,6 @@ use Rattle.server_links.specs.Outcome.{Stops}
 use Rattle.server_links.proofs.Outcomes.{Ends}
 use Rattle.world_run.specs.ClientMoves.{show}
 use Rattle.world_run.specs.Members.{seat}
-use Rattle.world_run.specs.WorldState.{MemberState}
 use Rattle.world_run.proofs.Printing.{show_ends, show_stops}
 use Rattle.world_run.proofs.member.Member.show.Goals as goal
 use Rattle.world_run.proofs.member.Member.show.Goals.{In_ok-put_held}
@@ -50,8 +49,7 @@ returns c =
     let m = c.args.self.now in
     let s = seat c.args.links.now m in
     let n = c.in_ok-complete.complete in
-    let name : c.in_ok-copy.field-0 ≡ m.name = c.in_ok-copy.ensures
-    ∙ ap (λ (m : MemberState). m.name) c.self.view_is in
+    let name : c.in_ok-copy.field-0 ≡ m.name = grind arith in
     subst (λ l. Ends (show s) c.args.lines.now s l)
     (sym (c.in_ok-push.ensures.ok
     ∙ ap (λ x. c.put_held.new.lines ++ line.Complete x n ∷ []) name))

@@ -1,16 +1,12 @@
-use Rattle.std.proofs.Common.{◌≡◌, arith, length, ap, subst, sym, ◌∙◌}
+use Rattle.std.proofs.Common.{◌≡◌, arith, ap, subst, sym, ◌∙◌}
 use Rattle.std.proofs.lemmas.List.{length-reverse}
 use Rattle.std.proofs.lemmas.Result.{err_from_is_err_and}
 use Rattle.shared_cache.specs.declared.log.ClientCall.TheVariants as call
 use Rattle.shared_cache.specs.declared.log.ClientReply.{ClientReply}
 use Rattle.shared_cache.specs.declared.log.ClientReply.TheVariants.{Noted, Refused}
 use Rattle.shared_cache.specs.declared.log.Wire.TheVariants.{Main}
-use Rattle.shared_cache.specs.ClientFields.{Client, IsServed}
-use Rattle.shared_cache.specs.Held.{Setup}
+use Rattle.shared_cache.specs.ClientFields.{Client}
 use Rattle.shared_cache.specs.Steps.{client_step}
-use Rattle.server_links.specs.declared.fault.WorldFault.TheVariants.{NoMemory}
-use Rattle.server_links.specs.Outcome.{Stops}
-use Rattle.world_run.specs.ClientMoves.{turn}
 use Rattle.world_run.specs.Members.{seat}
 use Rattle.world_run.specs.MemberTurns.{TurnGives}
 use Rattle.world_run.specs.WorldState.{MemberState}
@@ -25,10 +21,7 @@ returns-in_err-turn c =
     let same = ap (λ (x : Client). record (seen i) { state = x })
     c.in_err-turn.ensures.err ∙ c.self.view_is in
     let p = err_from_is_err_and c.from_residual.result c.from_residual.ensures.1 in
-    rw p.1 (rw p.2 (λ links lines.
-    subst (λ (m : MemberState). Stops (turn (call.Got Main c.args.value) (seat links
-    c.args.self.now)) lines NoMemory (seat links m) lines) (sym same)
-    (turn_before (seat links c.args.self.now) (call.Got Main c.args.value) lines)))
+    rw p.1 (grind (arith, turn_before))
 
 pub invariant_of-self-in-Noted : goal.invariant_of-self-in-Noted
 invariant_of-self-in-Noted c =
@@ -37,10 +30,7 @@ invariant_of-self-in-Noted c =
     (call.Got Main c.args.value) ≡ record { reply = r; past = c.turn.new.state.past })
     c.in-Noted.is c.in_ok-turn.ensures.step in
     let g = got_more i.state.past c.turn.new.state.past c.args.value
-    (got_past i.state.setup i.state.past c.args.value Noted c.turn.new.state.past is) in (
-      subst (λ (x : Setup). IsServed x.mode) (sym c.turn.ensures.setup) c.self.invariant.0,
-      omega (arith, g.0, c.self.invariant.1),
-    )
+    (got_past i.state.setup i.state.past c.args.value Noted c.turn.new.state.past is) in grind arith
 
 pub invariant_of-self-in-Refused : goal.invariant_of-self-in-Refused
 invariant_of-self-in-Refused c =
@@ -49,11 +39,7 @@ invariant_of-self-in-Refused c =
     (call.Got Main c.args.value) ≡ record { reply = r; past = c.turn.new.state.past })
     c.in-Refused.is c.in_ok-turn.ensures.step in
     let g = got_same i.state.past c.turn.new.state.past c.args.value c.in-Refused.refusal
-    (got_past i.state.setup i.state.past c.args.value (Refused c.in-Refused.refusal)
-    c.turn.new.state.past is) in (
-      subst (λ (x : Setup). IsServed x.mode) (sym c.turn.ensures.setup) c.self.invariant.0,
-      c.self.invariant.1 ∙ ap length (sym g),
-    )
+    (grind (arith, got_past)) in grind arith
 
 pub returns-after-refused_fault : goal.returns-after-refused_fault
 returns-after-refused_fault c =
@@ -85,14 +71,11 @@ unreachable-requires c =
     c.in-Noted.is c.in_ok-turn.ensures.step in
     let g = got_more i.state.past c.turn.new.state.past c.args.value
     (got_past i.state.setup i.state.past c.args.value Noted c.turn.new.state.past is) in
-    let few = gots_within i.state.past in
-    let all = ap length c.log-entries.ensures ∙ length-reverse c.turn.new.state.past in
-    omega (arith, g.1, few, all, c.self.invariant.1, c.if-self-entries.true)
+    grind (arith, gots_within, length-reverse)
 
 pub unreachable-requires-in_default : goal.unreachable-requires-in_default
 unreachable-requires-in_default c =
     let i = c.self.inside in
     got_other i.state.past c.turn.new.state.past c.args.value c.in_ok-turn.field-0
-    (got_past i.state.setup i.state.past c.args.value c.in_ok-turn.field-0 c.turn.new.state.past
-    c.in_ok-turn.ensures.step)
+    (grind (arith, got_past))
     c.in_default.not-Noted c.in_default.not-Refused

@@ -1,5 +1,4 @@
-use Rattle.std.proofs.Common.{refl, sym, ap, ◌∙◌}
-use Rattle.std.specs.Option.{is_some}
+use Rattle.std.proofs.Common.{arith, refl}
 use Rattle.script_text.specs.declared.event.Event.TheVariants as event
 use Rattle.server_links.specs.LinkEvent.{Put}
 use Rattle.world_run.specs.Members.{world}
@@ -16,8 +15,7 @@ returns-then-is_some c =
     let name = c.args.name.now in
     let o = client_of_link name w.members in
     code.no_name w (said_step o name c.args.bytes.now w) c.args.lines.now
-    (code.said_client o name c.args.bytes.now w
-    (ap is_some (sym c.client_of_link.ensures) ∙ sym c.is_some.ensures ∙ c.if-is_some.true))
+    (grind arith)
 
 gave : (c : After-put) → StepGives c.args.self.now
     (event.Bytes c.args.name.now c.args.bytes.now) c.args.lines.now c.put.result
@@ -30,8 +28,7 @@ gave c =
     code.unowned (λ o. said_step o c.args.name.now bytes w) c.args.name.now
     (Put c.args.name.now bytes) w i.links c.put.new.self i.members.items c.args.lines.now
     c.put.result c.put.new.lines c.self.view_is
-    (sym c.client_of_link.ensures
-    ∙ code.a_none c.client_of_link.result (sym c.is_some.ensures ∙ c.if-is_some.false)) refl
+    (grind arith) refl
     c.put.ensures
 
 pub returns : goal.returns

@@ -1,4 +1,4 @@
-use Rattle.std.proofs.Common.{◌++◌, [], ◌∷◌, Ok, Err, refl, sym, ap, subst, ◌∙◌, arith}
+use Rattle.std.proofs.Common.{Ok, Err, refl, sym, subst, ◌∙◌, arith}
 use Rattle.std.proofs.lemmas.Result.{err_from_is_err_and}
 use Rattle.script_text.specs.declared.event.Event.TheVariants as event
 use Rattle.world_run.specs.Members.{world}
@@ -21,9 +21,7 @@ unfolding step
 returns-then-is_taken c =
     let w = c.args.self.now in
     code.name_taken w (client_step c.args.name.now c.args.mode.now c.args.capacity w)
-    c.args.lines.now (code.client_taken c.args.name.now c.args.mode.now c.args.capacity w
-    (sym c.is_served.ensures ∙ c.if-not-is_served.false)
-    (sym c.is_taken.ensures ∙ c.if-is_taken.true))
+    c.args.lines.now (grind arith)
 
 pub fresh_member-requires-clause-mode : goal.fresh_member-requires-clause-mode
 fresh_member-requires-clause-mode c = sym c.is_served.ensures ∙ c.if-not-is_served.false
@@ -75,8 +73,7 @@ made c =
     (sym c.is_taken.ensures ∙ c.if-is_taken.false) (world i.links i.members.items) c.self.view_is
     c.args.lines.now c.push_reserved.new.self.items c.raw.new.self c.raw.new.lines
     c.in_ok-member.member c.in_ok-member.ensures
-    (c.push_reserved.ensures.items ∙ ap (λ l. l ++ c.in_ok-member.member ∷ [])
-    c.reserve.ensures.items) (rw (← c.link.ensures) c.in_ok-raw.ensures)
+    (grind arith) (rw (← c.link.ensures) c.in_ok-raw.ensures)
 
 pub returns-in_err-raw : goal.returns-in_err-raw
 returns-in_err-raw c = grind (arith, err_from_is_err_and, stopped)

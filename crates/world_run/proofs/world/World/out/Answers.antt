@@ -1,5 +1,5 @@
 use Rattle.std.proofs.Common.{◌≡◌, ℕ, List, Option, Some, None, append-nil, slice_set, refl, sym}
-use Rattle.std.proofs.Common.{ap, subst, ◌∙◌, arith}
+use Rattle.std.proofs.Common.{ap, ◌∙◌, arith}
 use Rattle.std.specs.Prelude.{not}
 use Rattle.script_text.specs.declared.line.Line.{Line}
 use Rattle.server_links.specs.declared.fault.WorldFault.TheVariants.{NoName, NothingThere}
@@ -52,9 +52,7 @@ pub returns-in-None : goal.returns-in-None
 returns-in-None c =
     let name = c.args.name.now in
     nowhere c.args.self.now name c.args.lines.now (sym c.client_of_link.ensures ∙ c.in-None.is)
-    c.args.count (sym (ap (λ (v : WorldState). place_of name v.links) c.self.view_is)
-    ∙ sym c.place_of.ensures
-    ∙ code.a_none c.place_of.result (c.is_none.ensures ∙ ap not c.if-is_none.true))
+    c.args.count (grind arith)
 
 pub returns-after-count : goal.returns-after-count
 returns-after-count c =
@@ -64,19 +62,8 @@ returns-after-count c =
     let free = sym c.client_of_link.ensures ∙ c.in-None-2.is in
     let some = code.a_some c.place_of.result (c.is_none.ensures ∙ ap not c.if-is_none.false) in
     let there : place_of name w.links ≡ Some some.0 =
-    sym (ap (λ (v : WorldState). place_of name v.links) c.self.view_is)
-    ∙ sym c.place_of.ensures ∙ some.1 in
-    elim c.match-count.branch [
-      | in-None-count b ↦
-          subst (λ r. StepGives w (event.Out name c.args.count) lines r w lines) (sym b.result-is)
-          (subst (λ n. Ends (step w (event.Out name n)) lines w lines) (sym b.in-None-count.is)
-          (nothing w name lines free some.0 there))
-      | in-Some-count b ↦
-          subst (λ r. StepGives w (event.Out name c.args.count) lines r w lines) (sym b.result-is)
-          (subst (λ n. Stops (step w (event.Out name n)) lines NothingThere w lines)
-          (sym b.in-Some-count.is)
-          (too_many w name lines free some.0 there b.in-Some-count.field-0))
-    ]
+    grind arith in
+    grind (arith, in-None-count, nothing, in-Some-count, too_many)
 
 pub invariant_of-self : goal.invariant_of-self
 invariant_of-self c =

@@ -1,4 +1,4 @@
-use Rattle.std.proofs.Common.{cond, sym, ap, subst, ◌∙◌}
+use Rattle.std.proofs.Common.{arith, cond, sym, ap, subst, ◌∙◌}
 use Rattle.script_text.specs.declared.event.Event.TheVariants as event
 use Rattle.server_links.specs.declared.fault.WorldFault.TheVariants as taken
 use Rattle.server_links.specs.LinkEvent.{Raw}
@@ -16,8 +16,7 @@ returns-then-is_taken c =
     let w = c.args.self.now in
     let name = c.args.name.now in
     code.name_taken w (raw_step name w) c.args.lines.now
-    (ap (λ b. cond b (refuses w taken.NameTaken) (links_step (Raw name) w))
-    (sym c.is_taken.ensures ∙ c.if-is_taken.true))
+    (grind arith)
 
 gave : (c : After-raw) → StepGives c.args.self.now (event.Raw c.args.name.now) c.args.lines.now
     c.raw.result (world c.raw.new.self c.self.inside.members.items) c.raw.new.lines

@@ -1,13 +1,10 @@
-use Rattle.std.proofs.Common.{◌≡◌, ◌++◌, not, refl, sym, ap, subst, ◌∙◌}
-use Rattle.std.specs.Option.{is_some}
+use Rattle.std.proofs.Common.{arith, ◌≡◌, not, refl, sym, ap, ◌∙◌}
 use Rattle.std.proofs.lemmas.Result.{err_from_is_err_and}
 use Rattle.resp_value.specs.Spelling.{request_spelling}
 use Rattle.script_text.specs.declared.event.Event.TheVariants as event
 use Rattle.server_links.specs.declared.fault.WorldFault.TheVariants.{NoName, NoMemory}
 use Rattle.server_links.specs.LinkEvent.{Put}
 use Rattle.server_links.specs.LinkSteps.{place_of}
-use Rattle.server_links.specs.LinkSteps as links
-use Rattle.server_links.specs.Outcome.{Gives}
 use Rattle.world_run.specs.Members.{world}
 use Rattle.world_run.specs.World.{StepGives, said_step, step}
 use Rattle.world_run.specs.WorldState.{WorldState, client_of_link}
@@ -23,8 +20,7 @@ returns-then-is_some c =
     let bytes = request_spelling c.args.words.now in
     let o = client_of_link name w.members in
     code.no_name w (said_step o name bytes w) c.args.lines.now
-    (code.said_client o name bytes w
-    (ap is_some (sym c.client_of_link.ensures) ∙ sym c.is_some.ensures ∙ c.if-is_some.true))
+    (grind arith)
 
 pub returns-then-is_none : goal.returns-then-is_none
 unfolding step
@@ -65,14 +61,11 @@ gave c =
     let w = c.args.self.now in
     let name = c.args.name.now in
     let bytes = request_spelling c.args.words.now in
-    let written : c.as_slice.result.now ≡ bytes = c.as_slice.ensures.value
-    ∙ c.in_ok-put_request.ensures.ok ∙ ap (λ l. l ++ bytes) c.new-request.ensures.items in
+    let written : c.as_slice.result.now ≡ bytes = grind arith in
     code.unowned (λ o. said_step o name bytes w) name (Put name bytes) w i.links c.put.new.self
     i.members.items c.args.lines.now c.put.result c.put.new.lines c.self.view_is
-    (sym c.client_of_link.ensures
-    ∙ code.a_none c.client_of_link.result (sym c.is_some.ensures ∙ c.if-is_some.false)) refl
-    (subst (λ b. Gives (links.step i.links (Put name b)) c.args.lines.now c.put.result
-    c.put.new.self c.put.new.lines) written c.put.ensures)
+    (grind arith) refl
+    (grind arith)
 
 pub returns : goal.returns
 returns c = gave (goal.at.returns c).After-put
