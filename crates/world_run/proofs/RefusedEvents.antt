@@ -31,7 +31,7 @@ use Rattle.server_links.specs.LinkSteps.{over, over_named, place_of}
 use Rattle.server_links.specs.Moves.{move_of}
 use Rattle.server_links.specs.Outcome.{Outcome, and_then, refuses, within}
 use Rattle.server_links.specs.Session.{session_at}
-use Rattle.server_links.proofs.History as links_refused
+use Rattle.server_links.proofs.Refusals as links_refused
 use Rattle.server_links.proofs.Names.{unplaced}
 use Rattle.server_links.proofs.Refusals.{Unrefused, un_flow}
 use Rattle.world_run.specs.WorldState.{WorldState, MemberState, client_named, client_of_link}
