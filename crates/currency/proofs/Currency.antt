@@ -1,7 +1,7 @@
 -- The theorem on currency, on one link.
 use Rattle.std.proofs.Common.{◌≡◌, ◌+◌, ◌-◌, ◌<◌, ◌≤◌, ℕ, List, [], ◌∷◌, length, true, false}
 use Rattle.std.proofs.Common.{refl, ap, sym, ◌∙◌, arith, Some, subst, inl, inr, drop, take, max}
-use Rattle.std.proofs.Common.{get_or, Result}
+use Rattle.std.proofs.Common.{get_or}
 use Rattle.std.specs.Prelude.{slice_get}
 use Rattle.std.specs.List.{filter}
 use Rattle.std.proofs.lemmas.Bool.{both_ways, cases_lt}
@@ -20,15 +20,11 @@ use Rattle.serial_model.specs.declared.mode.Mode.{Mode}
 use Rattle.serial_model.specs.declared.history.Limits.{Limits}
 use Rattle.serial_model.specs.declared.history.Entry.{Entry}
 use Rattle.serial_model.specs.declared.history.Entry.TheVariants.{Run}
-use Rattle.serial_model.specs.History.{Sending, Message, sent, runs_of, mode, keyspace, ran}
-use Rattle.serial_model.specs.History.{IsLegal, served_reading, reply_of, reply_protocol}
+use Rattle.serial_model.specs.History.{Sending, sent, runs_of, mode, keyspace, ran}
+use Rattle.serial_model.specs.History.{IsLegal, served_reading, reply_protocol}
 use Rattle.serial_model.specs.History.{run_entries}
-use Rattle.serial_model.specs.History as history
-use Rattle.command_words.specs.declared.command.Command.{Command}
-use Rattle.command_words.specs.declared.command.WordFault.{WordFault}
 use Rattle.serial_model.specs.Laws.{ChangeIsSignalled, BeforeTheReply, is_told}
 use Rattle.serial_model.proofs.ReadLaws.{read_replies}
-use Rattle.serial_model.proofs.ServedRows.{served_is}
 use Rattle.shared_cache.specs.declared.log.Wire.TheVariants.{Main}
 use Rattle.shared_cache.specs.declared.log.LogEntry.{LogEntry}
 use Rattle.shared_cache.specs.declared.entry.CacheEntry.{CacheEntry}
@@ -47,10 +43,11 @@ use Rattle.currency.specs.Current.{IsAnswer, IsCurrent, HasPoint, point, Currenc
 use Rattle.currency.proofs.Lists.{get_dropped, nothing_dropped, get_front}
 use Rattle.currency.proofs.Named.{named_at, get_taken, get_drop, every_at}
 use Rattle.currency.proofs.Runs.{Older, older_tail, older_up_to, up_to_older, RanAt, ran_at}
-use Rattle.currency.proofs.Runs.{in_order}
+use Rattle.currency.proofs.Runs.{in_order, entry_le}
 use Rattle.currency.proofs.Sent.{sent_le, sent_order, sent_pos}
 use Rattle.currency.proofs.Handshake.{made_same, is_no_control}
 use Rattle.currency.proofs.Replies.{replies_of, replies_are_of_runs, is_reply_sent}
+use Rattle.currency.proofs.Asked.{asked_query, query_reads, query_served}
 use Rattle.currency.proofs.Ahead.{one_kept, told_ahead}
 use Rattle.currency.proofs.Gots.{sent_form, got_at, got_replies, got_kept}
 use Rattle.currency.proofs.Placed.{Placed, reply_at, reply_place}
@@ -176,6 +173,18 @@ module _ (l : Limits) (x : Client) (past : List Entry) (log : List LogEntry)
   replied_complete ended j q lt e =
       let g = reply_got j q lt e in
       grind (arith, got_complete)
+
+  -- the last reply to a command that names a key is of an entry of the history
+  replied_le : (key : List ℕ) → replied x past log key ≤ length past
+  replied_le key =
+      elim (cases_lt 0 (replied x past log key)) [
+        | inl lt ↦
+            let n = named_at key
+            (take (length (replies x.setup.mode Main log)) (runs_of (x.id Main) past))
+            (run_entries (x.id Main) past) lt in
+            entry_le (x.id Main) past n.place (replied x past log key) n.entry
+        | inr le ↦ omega (arith, le)
+      ]
 
   module _ (h : CacheEntry) (fetch : IsFetch x.setup log h)
       (serves : reads_as_cacheable (served_reading h.query) ≡ true)
@@ -366,23 +375,36 @@ module _ (l : Limits) (x : Client) (past : List Entry) (log : List LogEntry)
       after_main i v s got voided there =
           grind (arith, cases_lt, at, both_ways, got_since, has_main, ran_there)
 
-      pub has_point : HasPoint l x past log h
-      has_point = grind (arith, ran_there, answers, after_main)
+      point_within : point l x past log h at ≤ length past
+      point_within =
+          grind (arith, entry_le, ran_there, complete_le, live, replied_le)
 
--- a query that the server serves is a query
-served_cacheable : (read : Result Command WordFault) → reads_as_cacheable (history.served read)
-    ≡ true
-    → reads_as_cacheable read ≡ true
-served_cacheable read h = sym (ap reads_as_cacheable (served_is read h)) ∙ h
+      fetch_ran : up_to at past ≡ Run (x.id Main) h.query ran_it.moment ∷ ran_it.up
+      unfolding fetched_by
+      fetch_ran =
+          fetched_is ∙ ap (λ ws. Run (x.id Main) ws ran_it.moment ∷ ran_it.up) is_query
+
+      pub has_point : HasPoint l x past log h
+      has_point = record {
+        fetched = at;
+        ran = ran_there;
+        moment = ran_it.moment;
+        sooner = ran_it.up;
+        fetch = fetch_ran;
+        answers = answers;
+        within = point_within;
+        after = grind (arith, after_main);
+      }
 
 pub currency : ChangeIsSignalled → BeforeTheReply → Currency
 currency law first l x past log served legal legal_log meet =
     every_weaker (IsFetch x.setup log)
-    (λ h. reads_as_cacheable (served_reading h.query) ≡ true
-    → IsCurrent l x past log h × HasPoint l x past log h)
+    (λ h. IsCurrent l x past log h × HasPoint l x past log h)
     (held x.setup log)
-    (λ h fetch serves.
-    let cacheable = served_cacheable (reading h.query) serves in (
+    (λ h fetch.
+    let is = asked_query x.setup log h.number h.query legal_log fetch.fetch in
+    let serves = query_served h.query is in
+    let cacheable = query_reads h.query is in (
       current l x past log served legal legal_log meet h fetch serves cacheable law,
       has_point l x past log served legal legal_log meet h fetch serves cacheable law first,
     ))

@@ -6,6 +6,7 @@ pub mod PushReplies
 pub mod Replies
 pub mod Gots
 pub mod Ahead
+pub mod Asked
 pub mod Since
 pub mod Voids
 pub mod Placed

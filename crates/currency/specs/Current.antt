@@ -1,14 +1,15 @@
 -- The theorem on currency: what a client holds is what the server would answer.
-use Rattle.std.specs.Prelude.{◌≡◌, ◌<◌, ◌≤◌, ℕ, List, Some, true, max}
+use Rattle.std.specs.Prelude.{◌≡◌, ◌<◌, ◌≤◌, ℕ, List, ◌∷◌, Some, true, max, length}
 use Rattle.std.specs.Prelude.{slice_get}
 use Rattle.resp_value.specs.declared.value.Value.{Value}
 use Rattle.resp_value.specs.ValueTree.{tree_of}
 use Rattle.resp_value.specs.Carried.{carried}
-use Rattle.command_words.specs.Queries.{key_of, reads_as_cacheable}
+use Rattle.command_words.specs.Queries.{key_of}
 use Rattle.command_words.specs.Effects.{answer}
 use Rattle.serial_model.specs.declared.history.Limits.{Limits}
 use Rattle.serial_model.specs.declared.history.Entry.{Entry}
-use Rattle.serial_model.specs.History.{Sending, sent, keyspace, served_reading, IsLegal}
+use Rattle.serial_model.specs.declared.history.Entry.TheVariants.{Run}
+use Rattle.serial_model.specs.History.{Sending, sent, keyspace, IsLegal}
 use Rattle.shared_cache.specs.declared.log.Wire.{Wire}
 use Rattle.shared_cache.specs.declared.log.Wire.TheVariants.{Main}
 use Rattle.shared_cache.specs.declared.log.LogEntry.{LogEntry}
@@ -39,13 +40,18 @@ abbrev pub point : Limits → Client → List Entry → List LogEntry → CacheE
 point l x past log h p =
     max p (max (complete l x past log) (replied x past log (key_of h.query)))
 
--- a hit would answer what the server answers at its point, which is not before any invalidation of
--- its key that the client has processed
+-- A hit's fetch is the Run of its query at its entry, and the hit answers what the server answers
+-- at its point, which is an entry of the history that is not before any invalidation of its key
+-- that the client has processed.
 pub record HasPoint (l : Limits) (x : Client) (past : List Entry) (log : List LogEntry)
     (h : CacheEntry) : Type 0 where
   pub fetched : ℕ
   pub ran : run_of (x.id Main) past h.number ≡ Some fetched
+  pub moment : ℕ
+  pub sooner : List Entry
+  pub fetch : up_to fetched past ≡ Run (x.id Main) h.query moment ∷ sooner
   pub answers : IsAnswer l x past (point l x past log h fetched) h
+  pub within : point l x past log h fetched ≤ length past
   pub after :
       (w : Wire) → HasWire x.setup.mode.shape w → (i : ℕ) (v : Value) (s : ℕ × Sending)
       → slice_get (gots w log) i ≡ Some v
@@ -53,11 +59,10 @@ pub record HasPoint (l : Limits) (x : Client) (past : List Entry) (log : List Lo
       → slice_get (sent l (x.id w) past) i ≡ Some s
       → s.0 < point l x past log h fetched
 
--- For every legal history and every legal log that meet: each held entry of a query that the server
--- serves is current, and a hit on it has its point.
+-- For every legal history and every legal log that meet: each held entry is current, and a hit on
+-- it has its point. The words of what is held are a query, and each query is served.
 abbrev pub Currency : Type 0
 Currency =
     (l : Limits) (x : Client) (past : List Entry) (log : List LogEntry)
     → IsServed x.setup.mode → IsLegal l past → LegalLog x.setup log → Meet l x past log
-    → Every (λ h. reads_as_cacheable (served_reading h.query) ≡ true
-    → IsCurrent l x past log h × HasPoint l x past log h) (held x.setup log)
+    → Every (λ h. IsCurrent l x past log h × HasPoint l x past log h) (held x.setup log)
