@@ -12,8 +12,8 @@ use Rattle.script_text.specs.Printed.{text_of}
 use Rattle.world_run.specs.WorldState.{WorldState, start}
 use Rattle.world_run.specs.World.{step}
 use Rattle.world_run.specs.WorldTranscript.{transcript, after}
-use Rattle.world_run.specs.WorldHistory.{HasOneHistory}
-use Rattle.world_run.proofs.History.{faults_none, have_links}
+use Rattle.world_run.specs.WorldHistory.{HasOneHistory, HitStands}
+use Rattle.world_run.proofs.History.{every_front, faults_none, have_links}
 use Rattle.redis_program.specs.declared.status.Ending.{Ending}
 use Rattle.redis_program.specs.declared.status.Ending.TheVariants.{Done, BadLine, WriteFault}
 use Rattle.redis_program.specs.declared.status.Ending.TheVariants.{Refused, HistoryFull, NoMemory}
@@ -64,21 +64,24 @@ plays_of law limits lines events w a p =
       played = p;
       one_history = (law limits events w (lines_valid 1 lines events a) p).0;
       hits = (law limits events w (lines_valid 1 lines events a) p).2;
-      flows = (law limits events w (lines_valid 1 lines events a) p).4;
+      flows = (law limits events w (lines_valid 1 lines events a) p).3;
     }
 
 part_of : HasOneHistory → (limits : Limits) (lines : List (List ℕ)) (events : List Event)
     (w : WorldState) (n : ℕ) (line : List ℕ) (printed : List Line) → AreLinesOf 1 lines events
     → after (start limits) events ≡ Some w
     → (part : PartPrinted n w line printed) → PlaysPart limits events w part.0 printed
-part_of law limits lines events w n line printed a p part = record {
-  state = part.2;
-  lines = part.3;
-  reached = part.4;
-  begins = part.5;
-  follows = (law limits events w (lines_valid 1 lines events a) p).1 part.0 part.2 part.3
-      (event_valid n line part.0 part.1) part.4;
-}
+part_of law limits lines events w n line printed a p part =
+    let follows = (law limits events w (lines_valid 1 lines events a) p).1 part.0 part.2 part.3
+    (event_valid n line part.0 part.1) part.4 in
+    record {
+      state = part.2;
+      lines = part.3;
+      reached = part.4;
+      begins = part.5;
+      hits = every_front (HitStands w part.0) printed part.3 part.5 follows.hits;
+      follows = follows;
+    }
 
 -- more lines are printed after those that were written
 written_more : (all lines : List Line) (out0 out1 out2 : Option (List ℕ))

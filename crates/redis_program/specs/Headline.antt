@@ -8,6 +8,7 @@ use Rattle.std.specs.Io.KnownBytes.{Appends, Consumes, IsAtEnd}
 use Rattle.std.specs.Option.{option_map_or}
 use Rattle.resp_value.specs.Lists.{IsPrefix}
 use Rattle.serial_model.specs.declared.history.Limits.{Limits}
+use Rattle.shared_cache.specs.Laws.{Every}
 pub use Rattle.edge_lines.specs.Streams.{AppendsFirst, IsPlain}
 pub use Rattle.edge_lines.specs.TextLines.{ArePlain, Reads, ReadsBad, ReadsWhole, ended, text_lines}
 use Rattle.script_text.specs.declared.event.Event.{Event}
@@ -22,7 +23,8 @@ use Rattle.server_links.specs.Outcome.{Reached}
 use Rattle.world_run.specs.WorldState.{WorldState, start}
 use Rattle.world_run.specs.World.{step}
 use Rattle.world_run.specs.WorldTranscript.{after, transcript}
-use Rattle.world_run.specs.WorldHistory.{AllHitsStand, FlowDelivers, Follows, OneHistory}
+use Rattle.world_run.specs.WorldHistory.{AllHitsStand, FlowDelivers, Follows, HitStands}
+use Rattle.world_run.specs.WorldHistory.{OneHistory}
 use Rattle.redis_program.specs.declared.status.Status.{Status}
 use Rattle.redis_program.specs.declared.status.Status.TheVariants as status
 use Rattle.redis_program.specs.declared.status.Ending.{Ending}
@@ -143,13 +145,15 @@ pub record Plays (limits : Limits) (lines : List (List ℕ)) (events : List Even
   pub flows : (at : ℕ) → at < length w.links.links → FlowDelivers w at
 
 -- After these events one more was played, or broken off on the way by a fault or want of memory.
--- What it printed is the first of the lines that it had printed by then, within the one history.
+-- What it printed is the first of the lines that it had printed by then, within the one history, and
+-- an answer from a cache among them stands at its point.
 pub record PlaysPart (limits : Limits) (events : List Event) (w : WorldState) (event : Event)
     (printed : List Line) : Type 0 where
   pub state : WorldState
   pub lines : List Line
   pub reached : Reached (step w event) state lines
   pub begins : IsPrefix printed lines
+  pub hits : Every (HitStands w event) printed
   pub follows : Follows limits events (transcript (start limits) events) w event lines state
 
 -- the source was read to its end, and all of its lines were played

@@ -1,6 +1,6 @@
 -- What holds of every schedule, as the crates above cite it.
-use Rattle.std.proofs.Common.{◌≡◌, ℕ, List, [], ◌∷◌, ◌++◌, Some, None}
-use Rattle.std.proofs.Common.{refl, sym, ap, ◌∙◌, append-nil}
+use Rattle.std.proofs.Common.{◌≡◌, ℕ, List, [], ◌∷◌, ◌++◌, Some, None, Ok, Err, Result, inl, inr}
+use Rattle.std.proofs.Common.{refl, sym, ap, ◌∙◌, append-nil, subst}
 use Rattle.std.proofs.lemmas.Grind.{flat_map-append}
 use Rattle.resp_value.specs.Lists.{IsPrefix}
 use Rattle.serial_model.specs.declared.history.Limits.{Limits}
@@ -9,13 +9,16 @@ use Rattle.currency.specs.Current.{Currency}
 use Rattle.script_text.specs.declared.event.Event.{Event}
 use Rattle.script_text.specs.declared.line.Line.{Line}
 use Rattle.script_text.specs.Valid.{IsValid}
+use Rattle.server_links.specs.declared.fault.WorldFault.{WorldFault}
+use Rattle.server_links.specs.declared.fault.WorldFault.TheVariants as fault
 use Rattle.server_links.specs.Outcome.{Reached}
 use Rattle.server_links.specs.Transcript.{unless_fault}
 use Rattle.world_run.specs.WorldState.{WorldState, member_at, start}
 use Rattle.world_run.specs.WorldHistory.{AllHitsStand, AllServiced, Follows, HasOneHistory}
-use Rattle.world_run.specs.WorldHistory.{HaveLinks, RefusalsChangeNothing, said_by, said_to}
+use Rattle.world_run.specs.WorldHistory.{HaveLinks, HitStands, RefusalsChangeNothing, said_by}
+use Rattle.world_run.specs.WorldHistory.{StaysInHistory, said_to}
 use Rattle.world_run.specs.WorldTranscript.{after, heard, heard_at, transcript}
-use Rattle.world_run.specs.World.{step}
+use Rattle.world_run.specs.World.{StepGives, step}
 use Rattle.server_links.proofs.Delivery.{flow_delivers}
 use Rattle.world_run.proofs.Clients.{place_is}
 use Rattle.world_run.proofs.Hits.{hits_stand}
@@ -34,6 +37,15 @@ serviced_all : Currency → (l : Limits) (heard : ℕ → List ℕ) (raw : List 
 serviced_all law l heard raw lines w s =
     all_serviced law l raw lines w (part_of l heard raw raw lines w s (λ n none. refl))
 
+every_parted : {A : Type 0} → (P : A → Type 0) (xs ys : List A) → Every P (xs ++ ys) → Every P xs
+every_parted P [] ys a = tt
+every_parted P (x ∷ xs) ys a = (a.0, every_parted P xs ys a.1)
+
+-- what holds of each line holds of each of the first
+pub every_front : {A : Type 0} → (P : A → Type 0) (xs all : List A) → IsPrefix xs all → Every P all
+    → Every P xs
+every_front P xs all front a = every_parted P xs front.0 (subst (Every P) (sym front.1) a)
+
 follows : Currency → (l : Limits) (events : List Event) (w : WorldState) → Every IsValid events
     → after (start l) events ≡ Some w → (event : Event) (new : WorldState) (printed : List Line)
     → IsValid event → Reached (step w event) new printed
@@ -45,14 +57,18 @@ follows law l events w valid e event new printed good r =
     let s = stands_then l events w valid e in
     let p = (event_comes l heard_by raw lines w s event good).all new printed r in
     let g = (step_grows event w).all new printed r in
+    let front = printed_first w event new printed r in
+    let all = serviced_all law l heard_by raw lines w s in
     record {
       part = part_history law l (λ n. raw n ++ said_by n event) (lines ++ printed) new
           (events ++ event ∷ []) p
           (λ n. ap (λ x. raw n ++ x) (sym (append-nil (said_by n event)))
           ∙ sym (flat_map-append (said_by n) events (event ∷ [])));
-      front = printed_first w event new printed r;
+      front = front;
       entries = g.0;
       grows = g.1;
+      hits = every_front (HitStands w event) printed (step w event).lines front
+          (hits_stand event w all);
       others = others_kept l heard_by raw lines w s event new printed r;
     }
 
@@ -75,15 +91,30 @@ all_hits law l (d ∷ more) before raw lines v w valid s e =
 
 pub one_history : Currency → HasOneHistory
 one_history law l events w valid e =
-    let s = stands_then l events w valid e in
-    let all = serviced_all law l (λ i. heard (start l) i events) (λ n. said_to n events)
-    (transcript (start l) events) w s in (
+    (
       whole_history law l events w valid e,
       follows law l events w valid e,
       all_hits law l events (λ i. []) (λ n. []) [] (start l) w valid (stands_start l) e,
-      (λ event good. hits_stand event w all),
       (λ at lt none. flow_delivers w.links at lt),
     )
+
+-- what was done, whole or in part, is reached
+reached : (w : WorldState) (event : Event) (lines : List Line)
+    (result : Result (Unit {0}) WorldFault) (new : WorldState) (lines' : List Line)
+    → StepGives w event lines result new lines'
+    → (printed : List Line) × (lines' ≡ lines ++ printed) × Reached (step w event) new printed
+reached w event lines (Ok done) new lines' g = ((step w event).lines, g.2, inl (g.1, refl))
+reached w event lines (Err fault.NoMemory) new lines' g = (g.0, g.2, inr g.1)
+reached w event lines (Err f) new lines' g = ((step w event).lines, g.2, inl (g.1, refl))
+
+-- an event stays within the history of the schedule that led to its world
+pub stays_in : HasOneHistory → (w : WorldState) (event : Event) (lines : List Line)
+    (result : Result (Unit {0}) WorldFault) (new : WorldState) (lines' : List Line)
+    → IsValid event → StepGives w event lines result new lines'
+    → StaysInHistory w event lines new lines'
+stays_in law w event lines result new lines' good g l events valid e =
+    let r = reached w event lines result new lines' g in
+    (r.0, r.1, (law l events w valid e).1 event new r.0 good r.2)
 
 -- what was printed by then begins what the event prints
 pub step_lines : (w : WorldState) (event : Event) (new : WorldState) (printed : List Line)

@@ -1,12 +1,14 @@
 -- Each answer from a cache that an event prints stands at its point.
 use Rattle.std.proofs.Common.{◌≡◌, ℕ, zero, suc, List, [], ◌∷◌, Bool, true, false, cond, Some, None}
-use Rattle.std.proofs.Common.{Option, length, refl, ap, ◌∙◌, arith}
+use Rattle.std.proofs.Common.{Option, length, refl, sym, subst, arith}
 use Rattle.command_words.specs.Queries.{same_query}
 use Rattle.shared_cache.specs.declared.entry.CacheEntry.{CacheEntry}
 use Rattle.shared_cache.specs.declared.log.ClientCall.TheVariants as call
+use Rattle.shared_cache.specs.declared.log.Wire.TheVariants.{Main}
 use Rattle.shared_cache.specs.Held.{held, held_for}
 use Rattle.shared_cache.specs.Laws.{Every}
 use Rattle.shared_cache.specs.Steps.{ClientTurn, answer_ask, client_step}
+use Rattle.currency.specs.Current.{HasPoint, IsCurrent, point}
 use Rattle.script_text.specs.declared.event.Event.{Event}
 use Rattle.script_text.specs.declared.event.Event.TheVariants.{Raw, Say, Bytes, Client, Out, Serve}
 use Rattle.script_text.specs.declared.event.Event.TheVariants.{Send, Recv, Flow, FlowAll, Cut, Ask}
@@ -18,10 +20,11 @@ use Rattle.server_links.specs.LinkEvent.{LinkEvent}
 use Rattle.server_links.specs.LinkSteps.{place_of}
 use Rattle.server_links.specs.LinkSteps as links
 use Rattle.server_links.specs.Outcome.{Outcome, and_then, within}
-use Rattle.world_run.specs.WorldState.{WorldState, client_named, client_of_link, member_at}
-use Rattle.world_run.specs.Members.{Seat, seat_at, with_seat}
-use Rattle.world_run.specs.ClientMoves.{ask_lines, show, turn}
-use Rattle.world_run.specs.WorldHistory.{AllServiced, HitStands, HoldsCurrent}
+use Rattle.world_run.specs.WorldState.{MemberState, WorldState, client_named, client_of_link}
+use Rattle.world_run.specs.WorldState.{member_at}
+use Rattle.world_run.specs.Members.{Seat, client_of, seat_at, with_seat}
+use Rattle.world_run.specs.ClientMoves.{ask_lines, point_at, ran_at, show, turn}
+use Rattle.world_run.specs.WorldHistory.{AllServiced, HitStands, HoldsCurrent, IsHit}
 use Rattle.world_run.specs.World.{client_does, flow_first, flow_step, links_step, named_does}
 use Rattle.world_run.specs.World.{raw_out, step, on_links}
 use Rattle.world_run.proofs.Below.{same_words}
@@ -47,39 +50,93 @@ held_found P q (x ∷ hs) h a e =
 
 -- ---- the answer to a query that is asked
 
-module _ (w : WorldState) (at : ℕ) (q : List (List ℕ))
-    (is : client_named (member_at w.members at).name w.members ≡ Some at)
+module _ (w : WorldState) (name : List ℕ) (at : ℕ)
+    (is : client_named name w.members ≡ Some at)
     (current : HoldsCurrent w (member_at w.members at)) where
-  hit_lines : (o : Option CacheEntry) (n : ℕ)
-      → held_for q (held (member_at w.members at).state.setup (member_at w.members at).state.past)
-      ≡ o
-      → Every (HitStands w) (ask_lines (seat_at at w) q (answer_ask o n))
-  hit_lines o n e = grind (arith, held_found)
+  m : MemberState
+  m = member_at w.members at
 
-  by_if : (b : Bool) (x y : ClientTurn)
-      → Every (HitStands w) (ask_lines (seat_at at w) q x.reply)
-      → Every (HitStands w) (ask_lines (seat_at at w) q y.reply)
-      → Every (HitStands w) (ask_lines (seat_at at w) q (cond b x y).reply)
-  by_if b e y p r = grind arith
+  Point : CacheEntry → Type 0
+  Point h = HasPoint w.links.limits (client_of m) w.links.past m.state.past h
 
-  asked_stand : let m = member_at w.members at in
-      Every (HitStands w) (ask_lines (seat_at at w) q
-      (client_step m.state.setup m.state.past (call.Ask q)).reply)
-  unfolding client_step
-  asked_stand = grind (arith, by_if, hit_lines)
+  is_hit : (h : CacheEntry) (p : Point h)
+      → held_for h.query (held m.state.setup m.state.past) ≡ Some h
+      → IsHit w name h.query h.value p.fetched
+      (point w.links.limits (client_of m) w.links.past m.state.past h p.fetched)
+  unfolding m Point
+  is_hit h p found = record {
+    place = at;
+    client = is;
+    holds = record { number = h.number; is_held = found; ran = p.ran; point_is = refl };
+    answers = record {
+      moment = p.moment;
+      sooner = p.sooner;
+      fetch = p.fetch;
+      answers = p.answers;
+      order = omega arith;
+      within = p.within;
+      replies = omega arith;
+      invalidations = λ i push s got voids there.
+          p.after Main (grind arith) i push s got voids there;
+    };
+  }
 
-  pub ask_stand : Every (HitStands w) (client_does at (turn (call.Ask q)) w).lines
-  unfolding client_does within turn and_then
-  ask_stand = asked_stand
+  printed_hit : (h : CacheEntry) → Point h
+      → held_for h.query (held m.state.setup m.state.past) ≡ Some h
+      → IsHit w name h.query h.value (ran_at (seat_at at w) h.number) (point_at (seat_at at w) h)
+  unfolding m Point
+  printed_hit h p found =
+      let e : ran_at (seat_at at w) h.number ≡ p.fetched = grind arith in
+      subst (λ n. IsHit w name h.query h.value n
+      (point w.links.limits (client_of m) w.links.past m.state.past h n)) (sym e)
+      (is_hit h p found)
+
+  hit_stands : (q : List (List ℕ)) (h : CacheEntry)
+      → held_for q (held m.state.setup m.state.past) ≡ Some h
+      → IsHit w name q h.value (ran_at (seat_at at w) h.number)
+      (point_at (seat_at at w) (record { query = q; value = h.value; number = h.number }))
+  unfolding m
+  hit_stands q h e =
+      let g = held_found (λ h. IsCurrent w.links.limits (client_of m) w.links.past m.state.past h
+      × Point h) q (held m.state.setup m.state.past) h current e in
+      let found = subst (λ ws. held_for ws (held m.state.setup m.state.past) ≡ Some h)
+      (sym g.is) e in
+      subst (λ ws. IsHit w name ws h.value (ran_at (seat_at at w) h.number)
+      (point_at (seat_at at w) (record { query = ws; value = h.value; number = h.number }))) g.is
+      (printed_hit h g.has.1 found)
+
+  module _ (q : List (List ℕ)) (named : m.name ≡ name) where
+    hit_lines : (o : Option CacheEntry) (n : ℕ)
+        → held_for q (held m.state.setup m.state.past) ≡ o
+        → Every (HitStands w (Ask name q)) (ask_lines (seat_at at w) q (answer_ask o n))
+    unfolding m
+    hit_lines None n e = (tt, tt)
+    hit_lines (Some h) n e = ((named, hit_stands q h e), tt)
+
+    by_if : (b : Bool) (x y : ClientTurn)
+        → Every (HitStands w (Ask name q)) (ask_lines (seat_at at w) q x.reply)
+        → Every (HitStands w (Ask name q)) (ask_lines (seat_at at w) q y.reply)
+        → Every (HitStands w (Ask name q)) (ask_lines (seat_at at w) q (cond b x y).reply)
+    by_if b e y p r = grind arith
+
+    asked_stand : Every (HitStands w (Ask name q)) (ask_lines (seat_at at w) q
+        (client_step m.state.setup m.state.past (call.Ask q)).reply)
+    unfolding client_step m
+    asked_stand = grind (arith, by_if, hit_lines)
+
+    pub ask_stand : Every (HitStands w (Ask name q)) (client_does at (turn (call.Ask q)) w).lines
+    unfolding client_does within turn and_then m
+    ask_stand = asked_stand
 
 -- ---- the other events
 
-none_stands : (w : WorldState) (x : Line) → NoHit x → HitStands w x
-none_stands w x n = grind arith
+none_stands : (w : WorldState) (event : Event) (x : Line) → NoHit x → HitStands w event x
+none_stands w event x n = grind arith
 
-none_stand : (w : WorldState) (ls : List Line) → NoHits ls → Every (HitStands w) ls
-none_stand w [] n = tt
-none_stand w (x ∷ ls) n = (none_stands w x n.0, none_stand w ls n.1)
+none_stand : (w : WorldState) (event : Event) (ls : List Line) → NoHits ls
+    → Every (HitStands w event) ls
+none_stand w event [] n = tt
+none_stand w event (x ∷ ls) n = (none_stands w event x n.0, none_stand w event ls n.1)
 
 h_event : (event : LinkEvent) (w : WorldState) → Hitless (links_step event w)
 unfolding links_step
@@ -106,43 +163,44 @@ h_named : (c : Option ℕ) (move : Seat → Outcome Seat) → ((s : Seat) → Hi
 h_named c move n w = grind (arith, h_client)
 
 ask_named : (name : List ℕ) (q : List (List ℕ)) (w : WorldState) → AllServiced w
-    → Every (HitStands w) (named_does (client_named name w.members) (turn (call.Ask q)) w).lines
+    → Every (HitStands w (Ask name q))
+    (named_does (client_named name w.members) (turn (call.Ask q)) w).lines
 ask_named name q w a =
     elim (client_named name w.members) as (λ c. client_named name w.members ≡ c
-    → Every (HitStands w) (named_does c (turn (call.Ask q)) w).lines) [
+    → Every (HitStands w (Ask name q)) (named_does c (turn (call.Ask q)) w).lines) [
       | None ↦ λ none. tt
       | Some at ↦ λ is.
           let there = client_there name w.members at is in
-          ask_stand w at q (ap (λ n. client_named n w.members) there.1 ∙ is) (a at there.0).1
+          ask_stand w name at is (a at there.0).1 q there.1
     ] refl
 
 pub hits_stand : (e : Event) (w : WorldState) → AllServiced w
-    → Every (HitStands w) (step w e).lines
+    → Every (HitStands w e) (step w e).lines
 unfolding step
-hits_stand (Raw name) w a =
-    none_stand w _ (grind (arith, h_if, h_event))
-hits_stand (Say name words) w a =
-    none_stand w _ (grind (arith, h_event))
-hits_stand (Bytes name bytes) w a =
-    none_stand w _ (grind (arith, h_event))
-hits_stand (Client name mode capacity) w a = none_stand w _ (grind (arith, h_if, h_then, h_event))
-hits_stand (Out name count) w a =
-    none_stand w _ (grind (arith, h_raw_out, h_client, h_out))
-hits_stand (Serve name count) w a =
-    none_stand w _ (h_event (link_event.Over name (moves.Serve count)) w)
-hits_stand (Send name count) w a =
-    none_stand w _ (h_event (link_event.Over name (moves.Send count)) w)
-hits_stand (Recv name count) w a =
-    none_stand w _ (grind (arith, h_event, h_client, h_received))
-hits_stand (Flow name) w a = none_stand w _ (h_flow (client_of_link name w.members) name w)
-hits_stand FlowAll w a = none_stand w _ (h_first (length w.links.links) w)
-hits_stand (Cut name) w a = none_stand w _ (h_event (link_event.Over name moves.Cut) w)
-hits_stand (Now moment) w a = none_stand w _ (h_event (link_event.Now moment) w)
-hits_stand Tick w a = none_stand w _ (h_event link_event.Tick w)
 hits_stand (Ask name q) w a = ask_named name q w a
+hits_stand (Raw name) w a =
+    none_stand w (Raw name) _ (grind (arith, h_if, h_event))
+hits_stand (Say name words) w a =
+    none_stand w (Say name words) _ (grind (arith, h_event))
+hits_stand (Bytes name bytes) w a =
+    none_stand w (Bytes name bytes) _ (grind (arith, h_event))
+hits_stand (Client name mode capacity) w a = none_stand w (Client name mode capacity) _ (grind (arith, h_if, h_then, h_event))
+hits_stand (Out name count) w a =
+    none_stand w (Out name count) _ (grind (arith, h_raw_out, h_client, h_out))
+hits_stand (Serve name count) w a =
+    none_stand w (Serve name count) _ (h_event (link_event.Over name (moves.Serve count)) w)
+hits_stand (Send name count) w a =
+    none_stand w (Send name count) _ (h_event (link_event.Over name (moves.Send count)) w)
+hits_stand (Recv name count) w a =
+    none_stand w (Recv name count) _ (grind (arith, h_event, h_client, h_received))
+hits_stand (Flow name) w a = none_stand w (Flow name) _ (h_flow (client_of_link name w.members) name w)
+hits_stand FlowAll w a = none_stand w FlowAll _ (h_first (length w.links.links) w)
+hits_stand (Cut name) w a = none_stand w (Cut name) _ (h_event (link_event.Over name moves.Cut) w)
+hits_stand (Now moment) w a = none_stand w (Now moment) _ (h_event (link_event.Now moment) w)
+hits_stand Tick w a = none_stand w Tick _ (h_event link_event.Tick w)
 hits_stand (Do name words) w a =
-    none_stand w _ (grind (arith, h_named, h_turn))
+    none_stand w (Do name words) _ (grind (arith, h_named, h_turn))
 hits_stand (Poll name n) w a =
-    none_stand w _ (grind (arith, h_named, h_turn))
+    none_stand w (Poll name n) _ (grind (arith, h_named, h_turn))
 hits_stand (Show name) w a =
-    none_stand w _ (h_named (client_named name w.members) show h_show w)
+    none_stand w (Show name) _ (h_named (client_named name w.members) show h_show w)

@@ -1,26 +1,31 @@
 -- What the headline says of a schedule: one serial history, with each request once, and replies
 -- that are its replies; and what a client holds is what the server would answer.
 use Rattle.std.specs.Prelude.{◌≡◌, ◌<◌, ℕ, List, [], ◌∷◌, ◌++◌, true}
-use Rattle.std.specs.Prelude.{if◌then◌else◌, length, take}
+use Rattle.std.specs.Prelude.{◌≤◌, if◌then◌else◌, length, take, slice_get}
 use Rattle.std.specs.declared.option.Option.{Option}
 use Rattle.std.specs.declared.option.Option.TheVariants.{None, Some}
 use Rattle.std.specs.List.{flat_map}
 use Rattle.std.specs.Str.{bytes_eq}
 use Rattle.resp_value.specs.Lists.{IsPrefix}
 use Rattle.resp_value.specs.Spelling.{request_spelling}
+use Rattle.resp_value.specs.ValueTree.{tree_of}
+use Rattle.resp_value.specs.Carried.{carried}
 use Rattle.resp_value.specs.declared.value.Value.{Value}
-use Rattle.command_words.specs.Queries.{reads_as_cacheable}
+use Rattle.command_words.specs.Queries.{key_of}
+use Rattle.command_words.specs.Effects.{answer}
 use Rattle.serial_model.specs.declared.history.Limits.{Limits}
 use Rattle.serial_model.specs.declared.history.Entry.{Entry}
-use Rattle.serial_model.specs.History.{served_reading}
+use Rattle.serial_model.specs.declared.history.Entry.TheVariants.{Run}
+use Rattle.serial_model.specs.History.{Sending, keyspace, sent}
 use Rattle.shared_cache.specs.declared.log.Wire.TheVariants.{Main}
-use Rattle.shared_cache.specs.declared.entry.CacheEntry.{CacheEntry}
 use Rattle.shared_cache.specs.ClientFields.{IsServed}
-use Rattle.shared_cache.specs.Held.{held}
-use Rattle.shared_cache.specs.Laws.{Every, LegalLog}
+use Rattle.shared_cache.specs.Notices.{invalidates}
+use Rattle.shared_cache.specs.Held.{held, held_for}
+use Rattle.shared_cache.specs.Laws.{Every, LegalLog, gots}
 use Rattle.shared_cache.specs.Out.{out as written, taken as taken_out}
-use Rattle.currency.specs.Links.{Meet}
-use Rattle.currency.specs.Current.{HasPoint, IsCurrent}
+use Rattle.currency.specs.Links.{Meet, run_of}
+use Rattle.currency.specs.Points.{replied, up_to}
+use Rattle.currency.specs.Current.{HasPoint, IsCurrent, point}
 use Rattle.script_text.specs.declared.event.Event.{Event}
 use Rattle.script_text.specs.declared.event.Event.TheVariants.{Raw, Say, Bytes, Client, Out, Serve}
 use Rattle.script_text.specs.declared.event.Event.TheVariants.{Send, Recv, Flow, FlowAll, Cut, Ask}
@@ -37,8 +42,7 @@ use Rattle.server_links.specs.OneHistory.{History, PartServes, Serves, read_on}
 use Rattle.server_links.specs.Outcome.{Reached}
 use Rattle.world_run.specs.WorldState.{WorldState, client_named, client_of_link, data_link}
 use Rattle.world_run.specs.WorldState.{MemberState, member_at, start}
-use Rattle.world_run.specs.Members.{client_of, seat_at}
-use Rattle.world_run.specs.ClientMoves.{point_at}
+use Rattle.world_run.specs.Members.{client_of}
 use Rattle.world_run.specs.WorldTranscript.{after, heard, transcript}
 use Rattle.world_run.specs.World.{step}
 
@@ -94,8 +98,7 @@ pub record Serviced (w : WorldState) (m : MemberState) : Type 0 where
 -- what a client holds is current, and a hit on it has its point in the history
 abbrev pub HoldsCurrent : WorldState → MemberState → Type 0
 HoldsCurrent w m =
-    Every (λ h. reads_as_cacheable (served_reading h.query) ≡ true
-    → IsCurrent w.links.limits (client_of m) w.links.past m.state.past h
+    Every (λ h. IsCurrent w.links.limits (client_of m) w.links.past m.state.past h
     × HasPoint w.links.limits (client_of m) w.links.past m.state.past h)
     (held m.state.setup m.state.past)
 
@@ -157,6 +160,65 @@ pub record OthersKept (w : WorldState) (name : List ℕ) (new : WorldState) : Ty
   pub members : (at : ℕ) → ((member_at w.members at).link ≡ name → ⊥)
       → member_at new.members at ≡ member_at w.members at
 
+-- ---- answers from a cache
+
+-- What the line `x hit V from P at W` of an `ask x Q` says of a client's cache: the client holds an
+-- entry for exactly that query, V is its value, P the entry that ran its fetch, and W its point.
+pub record HitHolds (w : WorldState) (m : MemberState) (q : List (List ℕ)) (v : Value)
+    (entry at : ℕ) : Type 0 where
+  pub number : ℕ
+  pub is_held : held_for q (held m.state.setup m.state.past)
+      ≡ Some (record { query = q; value = v; number = number })
+  pub ran : run_of ((client_of m).id Main) w.links.past number ≡ Some entry
+  pub point_is : at ≡ point w.links.limits (client_of m) w.links.past m.state.past
+      (record { query = q; value = v; number = number }) entry
+
+-- What the same line says of the server and its messages, in which no cache is named: entry P is
+-- the Run of the query by the client's connection; V is the query's answer over the keyspace after
+-- entry W, as the client's protocol carries it; W is an entry of the history, P or later, and not
+-- before the reply to a command that names the key, nor before or at an invalidation of the key, or
+-- of all keys, of those that the client has processed.
+pub record HitAnswers (w : WorldState) (m : MemberState) (q : List (List ℕ)) (v : Value)
+    (entry at : ℕ) : Type 0 where
+  pub moment : ℕ
+  pub sooner : List Entry
+  pub fetch : up_to entry w.links.past ≡ Run ((client_of m).id Main) q moment ∷ sooner
+  pub answers : tree_of v
+      ≡ carried m.state.setup.mode.proto
+      (tree_of (answer q (keyspace w.links.limits (up_to at w.links.past))))
+  pub order : entry ≤ at
+  pub within : at ≤ length w.links.past
+  pub replies : replied (client_of m) w.links.past m.state.past (key_of q) ≤ at
+  pub invalidations : (i : ℕ) (push : Value) (s : ℕ × Sending)
+      → slice_get (gots Main m.state.past) i ≡ Some push
+      → invalidates m.state.setup.mode Main push (key_of q) ≡ true
+      → slice_get (sent w.links.limits ((client_of m).id Main) w.links.past) i ≡ Some s
+      → s.0 < at
+
+-- the client that was asked prints the hit
+pub record IsHit (w : WorldState) (name : List ℕ) (q : List (List ℕ)) (v : Value)
+    (entry at : ℕ) : Type 0 where
+  pub place : ℕ
+  pub client : client_named name w.members ≡ Some place
+  pub holds : HitHolds w (member_at w.members place) q v entry at
+  pub answers : HitAnswers w (member_at w.members place) q v entry at
+
+-- an event that asks a client a query prints hits of that client and query alone, and other events
+-- print none
+abbrev pub HitStands : WorldState → Event → Line → Type 0
+HitStands w (Ask asked q) (line.Hit name v entry at) =
+    (name ≡ asked) × IsHit w asked q v entry at
+HitStands w event (line.Hit name v entry at) = ⊥
+HitStands w event l = Unit {0}
+
+-- each answer from a cache that a schedule prints
+abbrev pub AllHitsStand : WorldState → List Event → Type 0
+AllHitsStand w [] = Unit {0}
+AllHitsStand w (e ∷ events) =
+    Every (HitStands w e) (step w e).lines × AllHitsStand (step w e).state events
+
+-- ---- one more event, with what it prints
+
 pub record Follows (l : Limits) (events : List Event) (lines : List Line) (w : WorldState)
     (event : Event) (printed : List Line) (new : WorldState) : Type 0 where
   pub part : PartHistory l (events ++ event ∷ []) (lines ++ printed) new
@@ -164,32 +226,8 @@ pub record Follows (l : Limits) (events : List Event) (lines : List Line) (w : W
   pub front : IsPrefix printed (step w event).lines
   pub entries : List Entry
   pub grows : new.links.past ≡ entries ++ w.links.past
+  pub hits : Every (HitStands w event) printed
   pub others : (name : List ℕ) → link_named event ≡ Some name → OthersKept w name new
-
--- ---- answers from a cache
-
--- What a client answers from its cache is that query's answer at the printed point of the history,
--- which is not before the last invalidation of the key, nor before the reply to a command that
--- names it, that the client has processed.
-pub record HitHolds (w : WorldState) (name : List ℕ) (v : Value) (entry at : ℕ) : Type 0 where
-  pub place : ℕ
-  pub client : client_named name w.members ≡ Some place
-  pub held : CacheEntry
-  pub value : held.value ≡ v
-  pub point_is : at ≡ point_at (seat_at place w) held
-  pub holds : reads_as_cacheable (served_reading held.query) ≡ true
-      → HasPoint w.links.limits (client_of (member_at w.members place)) w.links.past
-      (member_at w.members place).state.past held
-
-abbrev pub HitStands : WorldState → Line → Type 0
-HitStands w (line.Hit name v entry at) = HitHolds w name v entry at
-HitStands w l = Unit {0}
-
--- each answer from a cache that a schedule prints
-abbrev pub AllHitsStand : WorldState → List Event → Type 0
-AllHitsStand w [] = Unit {0}
-AllHitsStand w (e ∷ events) =
-    Every (HitStands w) (step w e).lines × AllHitsStand (step w e).state events
 
 -- ---- the law
 
@@ -208,8 +246,15 @@ HasOneHistory = (l : Limits) (events : List Event) (w : WorldState) → Every Is
     → Reached (step w event) new printed
     → Follows l events (transcript (start l) events) w event printed new)
     × AllHitsStand (start l) events
-    × ((event : Event) → IsValid event → Every (HitStands w) (step w event).lines)
     × ((at : ℕ) → at < length w.links.links → FlowDelivers w at)
+
+-- What one more event comes to, in a world that a schedule led to: what it printed is behind the
+-- lines before it, and it stays within the one history of that schedule.
+abbrev pub StaysInHistory : WorldState → Event → List Line → WorldState → List Line → Type 0
+StaysInHistory w event lines new lines' =
+    (l : Limits) (events : List Event) → Every IsValid events → after (start l) events ≡ Some w
+    → (printed : List Line) × (lines' ≡ lines ++ printed)
+    × Follows l events (transcript (start l) events) w event printed new
 
 -- each client has its link
 abbrev pub HaveLinks : WorldState → Type 0

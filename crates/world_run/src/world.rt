@@ -8,9 +8,11 @@ ghost use Rattle.server_links.specs.LinksState.{AreApart, names};
 ghost use Rattle.server_links.specs.Outcome.{Gives};
 ghost use Rattle.world_run.specs.World.{StepGives, flow_at, is_served, is_taken};
 ghost use Rattle.world_run.specs.World.{links_step, setup_by};
+ghost use Rattle.world_run.specs.WorldHistory.{StaysInHistory};
 ghost use Rattle.world_run.specs.WorldState.{IsOver, client_named, client_of_link, data_link};
 ghost use Rattle.world_run.specs.WorldState.{fresh_member, start};
 
+use super::laws::law_one_history;
 use super::living::Living;
 use super::member::Member;
 use command_words::Query;
@@ -62,6 +64,15 @@ impl World {
 
     /// Plays an event, and appends its lines.
     pub fn step(&mut self, event: &Event, lines: &mut Lines) -> Result<(), WorldFault>
+        requires { IsValid event.now }
+        ensures gives { StepGives self.old event.now lines.old result self.new lines.new }
+        ensures history { StaysInHistory self.old event.now lines.old self.new lines.new }
+    {
+        law_one_history();
+        self.dispatch(event, lines)
+    }
+
+    fn dispatch(&mut self, event: &Event, lines: &mut Lines) -> Result<(), WorldFault>
         requires { IsValid event.now }
         ensures { StepGives self.old event.now lines.old result self.new lines.new }
     {

@@ -6,7 +6,7 @@ use Rattle.world_run.specs.Members.{world}
 use Rattle.world_run.specs.World.{StepGives, step}
 use Rattle.world_run.specs.WorldState.{WorldState}
 use Rattle.world_run.proofs.WorldCode.{clock_gives, links_give, over_step}
-use Rattle.world_run.proofs.world.World.step.Goals as goal
+use Rattle.world_run.proofs.world.World.dispatch.Goals as goal
 
 pub returns-in-Serve : goal.returns-in-Serve
 unfolding step
