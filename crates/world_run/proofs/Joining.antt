@@ -91,7 +91,7 @@ module _ (l : Limits) (heard : ℕ → List ℕ) (raw : List ℕ → List ℕ) (
 -- ---- a client at a link that is new
 
 module _ (l : Limits) (heard : ℕ → List ℕ) (raw : List ℕ → List ℕ) (lines : List Line)
-    (name : List ℕ) (setup : Setup) (served : IsServed setup.mode)
+    (name : List ℕ) (setup : Setup) (served : IsServed setup.mode) (room : 0 < setup.capacity)
     (old : LinksState) (w : WorldState) (h : WorldStands l heard raw lines w)
     (made : IsMade (data_link name) old w.links)
     (unread : read_on (data_link name) lines ≡ [])
@@ -166,7 +166,7 @@ module _ (l : Limits) (heard : ℕ → List ℕ) (raw : List ℕ → List ℕ) (
 
 module _ (l : Limits) (heard : ℕ → List ℕ) (raw : List ℕ → List ℕ) (lines : List Line)
     (w : WorldState) (h : WorldStands l heard raw lines w) (name : List ℕ) (setup : Setup)
-    (served : IsServed setup.mode) where
+    (served : IsServed setup.mode) (room : 0 < setup.capacity) where
   -- the link, and the client at it
   made_joins : Comes l heard raw lines
       (and_then (links_step (Raw (data_link name)) w) (join name (length w.links.links) setup))
@@ -186,7 +186,7 @@ module _ (l : Limits) (heard : ℕ → List ℕ) (raw : List ℕ → List ℕ) (
       let free : NoneHas w (data_link name) =
       λ i lt e. none (member_at w.members i).place ((h.each i lt).0.below)
       ((h.each i lt).0.placed ∙ e) in
-      let new = joins l (λ i. heard i ++ []) raw (lines ++ m.lines) name setup served w.links
+      let new = joins l (λ i. heard i ++ []) raw (lines ++ m.lines) name setup served room w.links
       m.state s made
       (read_more (data_link name) lines m.lines
       ∙ ap (λ x. read_on (data_link name) lines ++ x)
@@ -207,25 +207,26 @@ module _ (l : Limits) (heard : ℕ → List ℕ) (raw : List ℕ → List ℕ) (
 
 module _ (l : Limits) (heard : ℕ → List ℕ) (raw : List ℕ → List ℕ) (lines : List Line)
     (w : WorldState) (h : WorldStands l heard raw lines w) where
-  made_then : (name : List ℕ) (mode : ClientMode) (capacity : ℕ) → IsServed mode
+  made_then : (name : List ℕ) (mode : ClientMode) (capacity : ℕ) → IsServed mode → 0 < capacity
       → Comes l heard raw lines
       (and_then (does w w []) (λ w. and_then (links_step (Raw (data_link name)) w)
       (join name (length w.links.links) (setup_by w mode capacity))))
-  made_then name mode capacity served =
+  made_then name mode capacity served room =
       meets_then (λ v ls. (v ≡ w) × (ls ≡ [])) (λ v ls. WorldStands l heard raw (lines ++ ls) v)
       (λ v ls. WorldPart l raw (lines ++ ls) v) (does w w [])
       (λ w. and_then (links_step (Raw (data_link name)) w)
       (join name (length w.links.links) (setup_by w mode capacity)))
       (meets_does (λ v ls. (v ≡ w) × (ls ≡ [])) (λ v ls. WorldPart l raw (lines ++ ls) v) w w []
       (refl, refl) here here)
-      (λ ok same. made_joins l heard raw lines w h name (setup_by w mode capacity) served)
+      (λ ok same. made_joins l heard raw lines w h name (setup_by w mode capacity) served
+      room)
     where
       here : WorldPart l raw (lines ++ []) w
       here = part_here l heard raw lines w h raw (λ n free. refl)
 
-  pub client_comes : (name : List ℕ) (mode : ClientMode) (capacity : ℕ)
+  pub client_comes : (name : List ℕ) (mode : ClientMode) (capacity : ℕ) → 0 < capacity
       → Comes l heard raw lines (client_step name mode capacity w)
-  client_comes name mode capacity =
+  client_comes name mode capacity room =
       let make : world.Stepped =
       and_then (does w w []) (λ w. and_then (links_step (Raw (data_link name)) w)
       (join name (length w.links.links) (setup_by w mode capacity))) in
@@ -235,7 +236,7 @@ module _ (l : Limits) (heard : ℕ → List ℕ) (raw : List ℕ → List ℕ) (
         | true ↦ λ is. elim (is_taken name w) as (λ b. Comes l heard raw lines
             (cond b (refuses w NameTaken) make)) [
               | true ↦ comes_refused l heard raw lines w h heard raw (λ n none. refl) NameTaken
-              | false ↦ made_then name mode capacity (served_mode mode is)
+              | false ↦ made_then name mode capacity (served_mode mode is) room
             ]
         | false ↦ λ is.
             comes_refused l heard raw lines w h heard raw (λ n none. refl) (Refused not_served)

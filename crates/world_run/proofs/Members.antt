@@ -44,6 +44,7 @@ pub record MemberPart (ls : LinksState) (read : List ℕ) (m : MemberState) : Ty
   pub below : m.place < length ls.links
   pub placed : (at_place ls.links m.place).name ≡ m.link
   pub mode : IsServed m.state.setup.mode
+  pub room : 0 < m.state.setup.capacity
   pub legal : LegalLog m.state.setup m.state.past
   -- what it got are the first values of what its end read
   pub got : IsPrefix (map tree_of (gots Main m.state.past)) (values_of read)
@@ -129,6 +130,7 @@ member_grown w v read more m g meet p = record {
   below = omega (arith, p.below, g.size);
   placed = g.names m.place p.below ∙ p.placed;
   mode = p.mode;
+  room = p.room;
   legal = p.legal;
   got = prefix_both (map tree_of (gots Main m.state.past)) (values_of read)
       (values_of (read ++ more)) p.got (values_grow read more);

@@ -142,6 +142,7 @@ module _ (l : Limits) (heard : ℕ → List ℕ) (raw : List ℕ → List ℕ) (
       below = old_part.below;
       placed = old_part.placed;
       mode = old_part.mode;
+      room = old_part.room;
       legal = old_part.legal;
       got = old_part.got;
       causal = old_part.causal;

@@ -220,7 +220,7 @@ module _ (l : Limits) (heard : ℕ → List ℕ) (raw : List ℕ → List ℕ) (
   event_comes (Bytes name bytes) valid = said_comes name bytes
   event_comes (Client name mode capacity) valid =
       silent (Client name mode capacity) (λ i. refl) (λ n. refl)
-      (client_comes l heard raw lines w h name mode capacity)
+      (client_comes l heard raw lines w h name mode capacity valid.0)
   event_comes (Out name count) valid =
       silent (Out name count) (λ i. refl) (λ n. refl) (out_comes name count)
   event_comes (Serve name count) valid =
