@@ -13,3 +13,4 @@ pub mod Placed
 pub mod Covered
 pub mod Named
 pub mod Currency
+pub mod CompleteExactly

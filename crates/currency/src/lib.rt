@@ -2,6 +2,7 @@
 //! its link hands over what was sent, in order.
 #![tactic(auto)]
 
+ghost use Rattle.currency.specs.CompleteExactly.{CompletesExactly};
 ghost use Rattle.currency.specs.Current.{Currency};
 
 use serial_model::{law_before_the_reply, law_change_is_signalled};
@@ -14,3 +15,9 @@ pub fn law_currency()
     law_change_is_signalled();
     law_before_the_reply();
 }
+
+/// For every history and every log that meet: a link is complete up to the entry before the first
+/// of which something is not got, or to the end of the history; a client, up to the least of its.
+pub fn law_complete_exactly()
+    ensures { CompletesExactly }
+{}
