@@ -1,0 +1,124 @@
+-- Why a connection remembers a key no more; and each read is owed or told.
+use Rattle.std.proofs.Common.{◌≡◌, ◌∙◌, ◌-◌, ℕ, List, [], ◌∷◌, Bool, true, false, Ok}
+use Rattle.std.proofs.Common.{length, drop, inl, inr, subst, ap, refl, arith, append_assoc}
+use Rattle.std.specs.Prelude.{◌==◌, ◌&&◌, ◌||◌, not}
+use Rattle.std.specs.List.{list_any}
+use Rattle.std.proofs.lemmas.Bool.{or_cases, eqb-true, or_left, or_right}
+use Rattle.std.proofs.lemmas.List.Folds.{list_any-append}
+use Rattle.track_table.specs.declared.table.Held.{Held}
+use Rattle.track_table.specs.Table.{holders_of}
+use Rattle.command_words.specs.declared.command.Command.{Command}
+use Rattle.command_words.specs.Queries.{read}
+use Rattle.std.proofs.lemmas.Bool.Decides.{nat_tests}
+use Rattle.serial_model.specs.Modes.{Remembers, remembers_read}
+use Rattle.tracking_laws.specs.Told.{keys_read}
+use Rattle.serial_model.specs.declared.history.Limits.{Limits}
+use Rattle.serial_model.specs.declared.history.Entry.{Entry}
+use Rattle.serial_model.specs.declared.history.Entry.TheVariants.{Admit, Run, Tick, Take, Close}
+use Rattle.serial_model.specs.Each.{AllIn, AllRows}
+use Rattle.serial_model.specs.Tracking.{without_signalled, remembering, drop_group, tells}
+use Rattle.serial_model.specs.History.{table, table_then, table_grown, signals, mode, made, made_of}
+use Rattle.serial_model.specs.History.{IsLegal, served_reading, drops}
+use Rattle.serial_model.specs.Laws.{is_among, is_forgets, signals_key, drops_key}
+use Rattle.serial_model.proofs.KeyHolders.{holds, keys_apart, signalled_apart, remembering_keeps}
+use Rattle.serial_model.proofs.KeyHolders.{dropped_or_kept, without_other, drop_tells}
+use Rattle.serial_model.proofs.Streams.{IsLive, table_live}
+use Rattle.serial_model.proofs.Trackers.{Tracks, table_tracks}
+use Rattle.serial_model.proofs.ModeSteps.{mode_own}
+use Rattle.tracking_laws.specs.Causes.{RememberedIsTracked, LeavesForCause, EachReadIsOwedOrTold}
+use Rattle.tracking_laws.proofs.Holders.{holds_with_keys}
+use Rattle.tracking_laws.proofs.Remembering.{forgets_all, read_memory}
+
+-- ---- a connection that remembers a key is one that may
+
+module _ (P : ℕ → Type 0) (c : ℕ) where
+  holder_in : (ids : List ℕ) → AllIn P ids → holds c ids ≡ true → P c
+  holder_in [] a h = absurd (let no : ⊥ = cc in no)
+  holder_in (x ∷ xs) a h = elim (or_cases (x == c) (holds c xs) h) [
+    | inl e ↦ subst P (eqb-true x c e) a.0
+    | inr e ↦ holder_in xs a.1 e
+  ]
+
+  holder_of : (key : List ℕ) (rows : List Held) → AllRows P rows
+      → holds c (holders_of key rows) ≡ true → P c
+  holder_of key [] a h = absurd (let no : ⊥ = cc in no)
+  holder_of key (r ∷ rs) a h = grind (arith, holder_in, holder_of key rs a.1)
+
+pub remembered_is_tracked : (l : Limits) (past : List Entry) → IsLegal l past
+    → RememberedIsTracked l past
+unfolding IsLive Tracks
+remembered_is_tracked l past legal c key h =
+    let live = holder_of (IsLive l past) c key (table l past) (table_live l past legal) h in
+    let tracks = holder_of (Tracks l past) c key (table l past) (table_tracks l past) h in
+    grind (arith, live, tracks)
+
+-- ---- it remembers a key no more
+
+-- a connection that forgets tracks no more
+own_stops : (l : Limits) (past : List Entry) (c id : ℕ) (words : List (List ℕ)) (moment : ℕ)
+    → (mode l c (Run id words moment ∷ past)).tracking ≡ true
+    → ((id == c) && is_forgets (made l past id words).memory) ≡ false
+unfolding made_of
+own_stops l past c id words moment h = grind (arith, forgets_all, mode_own, eqb-true)
+
+-- where it does not forget, the key is signalled or dropped
+run_leaves : (l : Limits) (past : List Entry) (c id : ℕ) (words : List (List ℕ)) (moment : ℕ)
+    (key : List ℕ)
+    → holds c (holders_of key (table l past)) ≡ true
+    → holds c (holders_of key (table l (Run id words moment ∷ past))) ≡ false
+    → ((id == c) && is_forgets (made l past id words).memory) ≡ false
+    → (signals_key l (Run id words moment) past key || drops_key l (Run id words moment) past key)
+    ≡ true
+run_leaves l past c id words moment key told gone stays =
+    grind (arith, keys_apart, signalled_apart, dropped_or_kept, remembering_keeps)
+
+by_tracking : (signalled tracks dropped : Bool) → (tracks ≡ true → (signalled || dropped) ≡ true)
+    → (signalled || not tracks || false || dropped) ≡ true
+by_tracking signalled tracks dropped h = grind arith
+
+pub leaves_for_cause : (l : Limits) (entry : Entry) (past : List Entry) → LeavesForCause l entry past
+leaves_for_cause l (Admit id) past c key told gone = absurd (let no : ⊥ = cc in no)
+leaves_for_cause l (Run id words moment) past c key told gone =
+    by_tracking (signals_key l (Run id words moment) past key)
+    (mode l c (Run id words moment ∷ past)).tracking (drops_key l (Run id words moment) past key)
+    (λ tracks. run_leaves l past c id words moment key told gone
+    (own_stops l past c id words moment tracks))
+leaves_for_cause l (Tick moment) past c key told gone = grind (arith, keys_apart)
+leaves_for_cause l (Take id max) past c key told gone = absurd (let no : ⊥ = cc in no)
+leaves_for_cause l (Close id) past c key told gone = grind (arith, without_other)
+
+-- ---- each read is owed or told
+
+read_remembers : (l : Limits) (past : List Entry) (c : ℕ) (words : List (List ℕ))
+    (command : Command) (key : List ℕ)
+    → served_reading words ≡ Ok command → remembers_read (mode l c past) ≡ true
+    → is_among (read command) key ≡ true
+    → (made l past c words).memory ≡ Remembers (read command)
+unfolding made_of
+read_remembers l past c words command key is remembers among =
+    elim (read command) as (λ ks. read command ≡ ks → is_among ks key ≡ true
+    → (made l past c words).memory ≡ Remembers ks) [
+      | [] ↦ λ e none. absurd (let no : ⊥ = cc in no)
+      | k ∷ ks ↦ λ e some. read_memory (served_reading words) (mode l c past) k ks
+          (ap keys_read is ∙ e) remembers
+    ] refl among
+
+own_grown : (c : ℕ) (key : List ℕ) (keys : List (List ℕ)) (rows : List Held)
+    → is_among keys key ≡ true → holds c (holders_of key (remembering c (Remembers keys) rows)) ≡ true
+own_grown c key keys rows among = grind (arith, holds_with_keys, nat_tests)
+
+owed : (ended stays first own last : Bool) → ended ≡ false → (stays || last) ≡ true
+    → (((not ended && stays) || (first || (own || last))) || ended) ≡ true
+owed ended stays first own last live h = grind arith
+
+pub each_read_is_owed_or_told : EachReadIsOwedOrTold
+each_read_is_owed_or_told l c m words past command key legal is remembers among =
+    let sig = signals l past c words m in
+    let rows = without_signalled sig (table_then l past m) in
+    let grown = table_grown l past c words m in
+    let last = list_any (tells c key) (drop_group (drops l past c words m)) in
+    let stays = holds c (holders_of key (drop (length grown - l.table_max) grown)) in
+    let held = ap (λ y. holds c (holders_of key (remembering c y rows)))
+    (read_remembers l past c words command key is remembers among)
+    ∙ own_grown c key (read command) rows among in
+    grind (arith, dropped_or_kept, or_right, drop_tells, or_left, append_assoc, list_any-append)

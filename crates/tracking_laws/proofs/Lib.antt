@@ -1,0 +1,11 @@
+pub mod Kept
+pub mod Holders
+pub mod Counts
+pub mod Remembering
+pub mod Told
+pub mod Owned
+pub mod Flushes
+pub mod Causes
+pub mod Ages
+pub mod Drops
+pub mod Exactly

@@ -1,0 +1,92 @@
+-- What an entry leaves and brings of who remembers a key.
+use Rattle.std.proofs.Common.{◌≡◌, ◌∙◌, ◌-◌, ◌⊎◌, ℕ, List, [], Bool, true, cond, length}
+use Rattle.std.proofs.Common.{ap, sym, arith, refl}
+use Rattle.std.specs.Prelude.{◌==◌, ◌&&◌, ◌||◌, not}
+use Rattle.command_words.specs.declared.command.Signalled.{Signalled}
+use Rattle.command_words.specs.declared.command.Signalled.TheVariants.{Keys, All}
+use Rattle.track_table.specs.declared.table.Held.{Held}
+use Rattle.track_table.specs.Table.{holders_of}
+use Rattle.track_table.specs.Order.{AreOrdered}
+use Rattle.serial_model.specs.declared.history.Limits.{Limits}
+use Rattle.serial_model.specs.declared.history.Entry.{Entry}
+use Rattle.serial_model.specs.declared.history.Entry.TheVariants.{Admit, Run, Tick, Take, Close}
+use Rattle.serial_model.specs.Modes.{Memory, Remembers, Forgets, remembers_read}
+use Rattle.serial_model.specs.Tracking.{remembering, without_signalled}
+use Rattle.serial_model.specs.History.{table, table_then, table_grown, expired, signals, mode}
+use Rattle.serial_model.specs.History.{served_reading, made_of, made}
+use Rattle.serial_model.specs.Laws.{is_among}
+use Rattle.serial_model.proofs.KeyHolders.{holds}
+use Rattle.tracking_laws.specs.Told.{is_signalled, is_flush, keys_read, reads_key, remembers}
+use Rattle.tracking_laws.specs.Causes.{RememberedIsRead}
+use Rattle.tracking_laws.proofs.Kept.{is_table, is_table_then, is_table_grown}
+use Rattle.tracking_laws.proofs.Kept.{table_without_signalled}
+use Rattle.tracking_laws.proofs.Holders.{holds_with_keys, holds_without_keys, holds_freed, held_drop}
+use Rattle.tracking_laws.proofs.Remembering.{own_memory}
+
+module _ (c : ℕ) (key : List ℕ) where
+  -- a command takes what it signals, and a flush all
+  pub holds_signalled : (sig : Signalled) (rows : List Held)
+      → holds c (holders_of key (without_signalled sig rows))
+      ≡ (not (is_flush sig || is_signalled sig key) && holds c (holders_of key rows))
+  holds_signalled (Keys keys) rows = holds_without_keys c key keys rows
+  holds_signalled All rows = refl
+
+  -- what is remembered of these keys is new or was remembered
+  held_remembering : (id : ℕ) (memory : Memory) (keys : List (List ℕ)) (rows : List Held)
+      → AreOrdered rows
+      → (memory ≡ Forgets) ⊎ (memory ≡ Remembers keys)
+      → holds c (holders_of key (remembering id memory rows)) ≡ true
+      → (holds c (holders_of key rows) || ((id == c) && is_among keys key)) ≡ true
+  held_remembering id memory keys rows h by e =
+      grind (arith, holds_with_keys, holds_freed)
+
+module _ (l : Limits) (past : List Entry) (c : ℕ) (key : List ℕ) where
+  among : (b : Bool) (keys : List (List ℕ)) → is_among (cond b keys []) key
+      ≡ (b && is_among keys key)
+  among b keys = grind arith
+
+  pub grown_is : (id : ℕ) (words : List (List ℕ)) (moment : ℕ)
+      → remembers (table_grown l past id words moment) c key ≡ true
+      → (remembers (without_signalled (signals l past id words moment) (table_then l past moment))
+      c key || reads_key l (Run id words moment) past c key) ≡ true
+  unfolding made_of
+  grown_is id words moment e =
+      let then = table_then l past moment in
+      let sig = signals l past id words moment in
+      let m = mode l id past in
+      let own = held_remembering c key id (made l past id words).memory
+      (cond (remembers_read m) (keys_read (served_reading words)) []) (without_signalled sig then)
+      (table_without_signalled sig then (is_table_then l past moment)).ordered
+      (own_memory (served_reading words) m) e in
+      ap (λ b. holds c (holders_of key (without_signalled sig then)) || ((id == c) && b))
+      (sym (among (remembers_read m) (keys_read (served_reading words)))) ∙ own
+
+  -- what stands in the table of a Run where its command signals stood there before
+  pub then_is : (moment : ℕ) → remembers (table_then l past moment) c key
+      ≡ (not (is_among (expired l past moment) key) && remembers (table l past) c key)
+  then_is moment = holds_without_keys c key (expired l past moment) (table l past)
+
+  pub before_read : (id : ℕ) (words : List (List ℕ)) (moment : ℕ)
+      → remembers (without_signalled (signals l past id words moment) (table_then l past moment))
+      c key
+      ≡ (not (is_flush (signals l past id words moment)
+      || is_signalled (signals l past id words moment) key)
+      && (not (is_among (expired l past moment) key) && remembers (table l past) c key))
+  before_read id words moment =
+      let sig = signals l past id words moment in
+      holds_signalled c key sig (table_then l past moment)
+      ∙ ap (λ b. not (is_flush sig || is_signalled sig key) && b) (then_is moment)
+
+-- what a connection comes to remember, it reads
+pub remembered_is_read : (l : Limits) (entry : Entry) (past : List Entry)
+    → RememberedIsRead l entry past
+remembered_is_read l (Admit id) past c key h = grind arith
+remembered_is_read l (Run id words moment) past c key h =
+    let grown = table_grown l past id words moment in
+    let here = held_drop c key (length grown - l.table_max) grown
+    (is_table_grown l past id words moment).ordered h in
+    grind (arith, grown_is l past c key id words moment here, before_read)
+remembered_is_read l (Tick moment) past c key h = grind (arith, then_is l past c key moment)
+remembered_is_read l (Take id max) past c key h = grind arith
+remembered_is_read l (Close id) past c key h =
+    grind (arith, holds_freed c key id (table l past) (is_table l past).ordered)

@@ -1,0 +1,56 @@
+-- Why a connection comes to remember a key, and why it remembers it no more.
+use Rattle.std.specs.Prelude.{◌≡◌, ◌==◌, ◌&&◌, ◌||◌, ℕ, List, ◌∷◌, Bool, true, false, not}
+use Rattle.std.specs.Prelude.{Ok}
+use Rattle.command_words.specs.declared.command.Command.{Command}
+use Rattle.command_words.specs.Queries.{read}
+use Rattle.serial_model.specs.declared.history.Limits.{Limits}
+use Rattle.serial_model.specs.declared.history.Entry.{Entry}
+use Rattle.serial_model.specs.declared.history.Entry.TheVariants.{Run, Close}
+use Rattle.serial_model.specs.Modes.{remembers_read}
+use Rattle.serial_model.specs.History.{IsLegal, served_reading, mode, table, has_ended}
+use Rattle.serial_model.specs.History.{is_admitted, is_tracking}
+use Rattle.serial_model.specs.Laws.{is_among, is_told, is_due, signals_key, drops_key}
+use Rattle.tracking_laws.specs.Told.{remembers, reads_key}
+
+-- the entry is the end of the connection
+abbrev pub ends : Entry → ℕ → Bool
+ends (Close id) c = id == c
+ends _ c = false
+
+-- A connection comes to remember a key only by its own read.
+abbrev pub RememberedIsRead : Limits → Entry → List Entry → Type 0
+RememberedIsRead l entry past =
+    (c : ℕ) (key : List ℕ)
+    → remembers (table l (entry ∷ past)) c key ≡ true
+    → (remembers (table l past) c key || reads_key l entry past c key) ≡ true
+
+-- A connection that remembers a key was admitted, tracks, and has not ended.
+abbrev pub RememberedIsTracked : Limits → List Entry → Type 0
+RememberedIsTracked l past =
+    (c : ℕ) (key : List ℕ)
+    → remembers (table l past) c key ≡ true
+    → (is_admitted past c && is_tracking l past c) ≡ true
+
+-- A connection remembers a key no more only where the entry signals the key, by its deadline, by
+-- its name or with all, where the connection tracks no more or ends, or where the key is dropped.
+abbrev pub LeavesForCause : Limits → Entry → List Entry → Type 0
+LeavesForCause l entry past =
+    (c : ℕ) (key : List ℕ)
+    → remembers (table l past) c key ≡ true
+    → remembers (table l (entry ∷ past)) c key ≡ false
+    → (signals_key l entry past key || not (mode l c (entry ∷ past)).tracking
+    || ends entry c || drops_key l entry past key) ≡ true
+
+-- Each key that a read names is remembered, where its connection remembers what it reads: the
+-- connection is told of it from then on, or has been told of it at this entry, or has ended.
+abbrev pub EachReadIsOwedOrTold : Type 0
+EachReadIsOwedOrTold =
+    (l : Limits) (c moment : ℕ) (words : List (List ℕ)) (past : List Entry) (command : Command)
+    (key : List ℕ)
+    → IsLegal l (Run c words moment ∷ past)
+    → served_reading words ≡ Ok command
+    → remembers_read (mode l c past) ≡ true
+    → is_among (read command) key ≡ true
+    → (is_told l (Run c words moment ∷ past) c key
+    || is_due l (Run c words moment) past c key
+    || has_ended l c (Run c words moment ∷ past)) ≡ true

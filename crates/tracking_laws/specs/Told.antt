@@ -1,0 +1,138 @@
+-- How often an entry tells a connection of a key, and whether the key was remembered there (the
+-- client-side caching reference, "The invalidation table").
+use Rattle.std.specs.Prelude.{◌≡◌, ◌+◌, ◌<◌, ◌≤◌, ◌==◌, ◌&&◌, ◌||◌, ℕ, List, [], ◌∷◌, Bool}
+use Rattle.std.specs.Prelude.{true, false, Option, Some, None, Result, Ok, Err, if◌then◌else◌}
+use Rattle.std.specs.List.{list_any}
+use Rattle.command_words.specs.declared.command.Command.{Command}
+use Rattle.command_words.specs.declared.command.Signalled.{Signalled}
+use Rattle.command_words.specs.declared.command.Signalled.TheVariants as signalled
+use Rattle.command_words.specs.declared.command.WordFault.{WordFault}
+use Rattle.command_words.specs.Queries.{read}
+use Rattle.track_table.specs.declared.table.Held.{Held}
+use Rattle.track_table.specs.Table.{holders_of}
+use Rattle.serial_model.specs.declared.history.Limits.{Limits}
+use Rattle.serial_model.specs.declared.history.Entry.{Entry}
+use Rattle.serial_model.specs.declared.history.Entry.TheVariants.{Run, Tick}
+use Rattle.serial_model.specs.Modes.{remembers_read}
+use Rattle.serial_model.specs.Tracking.{Invalidation}
+use Rattle.serial_model.specs.History.{expired, signals, served_reading, mode, table, table_then}
+use Rattle.serial_model.specs.History.{table_grown, invalidations, is_admitted, is_tracking}
+use Rattle.serial_model.specs.Laws.{is_among, drops_key}
+
+-- ---- counts
+
+abbrev pub once : Bool → ℕ
+once b = if b then 1 else 0
+
+-- the keys name this one; a flush's null names none
+abbrev pub is_named : Option (List (List ℕ)) → List ℕ → Bool
+is_named (Some keys) key = is_among keys key
+is_named None key = false
+
+-- it is a flush's null
+abbrev pub is_null : Option (List (List ℕ)) → Bool
+is_null (Some keys) = false
+is_null None = true
+
+-- how many of these tell the connection of the key by its name
+abbrev pub times_told : ℕ → List ℕ → List Invalidation → ℕ
+times_told c key [] = 0
+times_told c key (i ∷ told) =
+    once ((i.to == c) && is_named i.keys key) + times_told c key told
+
+-- how many of these tell the connection of all keys
+abbrev pub times_flushed : ℕ → List Invalidation → ℕ
+times_flushed c [] = 0
+times_flushed c (i ∷ told) = once ((i.to == c) && is_null i.keys) + times_flushed c told
+
+-- ---- what is remembered, step by step
+
+-- the connection is among those that remember the key
+abbrev pub remembers : List Held → ℕ → List ℕ → Bool
+remembers rows c key = list_any (λ h. h == c) (holders_of key rows)
+
+-- the table where an entry's command signals
+abbrev pub rows_at_signal : Limits → Entry → List Entry → List Held
+rows_at_signal l (Run id words moment) past = table_then l past moment
+rows_at_signal l entry past = table l (entry ∷ past)
+
+-- the table where an entry's keys past the limit are dropped
+abbrev pub rows_at_drop : Limits → Entry → List Entry → List Held
+rows_at_drop l (Run id words moment) past = table_grown l past id words moment
+rows_at_drop l entry past = table l (entry ∷ past)
+
+-- ---- what befalls a key at an entry
+
+-- it leaves at its deadline
+abbrev pub expires_key : Limits → Entry → List Entry → List ℕ → Bool
+expires_key l (Run id words moment) past key = is_among (expired l past moment) key
+expires_key l (Tick moment) past key = is_among (expired l past moment) key
+expires_key l _ past key = false
+
+abbrev pub is_signalled : Signalled → List ℕ → Bool
+is_signalled (signalled.Keys keys) key = is_among keys key
+is_signalled signalled.All key = false
+
+abbrev pub is_flush : Signalled → Bool
+is_flush (signalled.Keys keys) = false
+is_flush signalled.All = true
+
+-- the entry's command signals it by its name
+abbrev pub signals_by_name : Limits → Entry → List Entry → List ℕ → Bool
+signals_by_name l (Run id words moment) past key =
+    is_signalled (signals l past id words moment) key
+signals_by_name l _ past key = false
+
+-- the entry's command signals all keys
+abbrev pub flushes : Limits → Entry → List Entry → Bool
+flushes l (Run id words moment) past = is_flush (signals l past id words moment)
+flushes l _ past = false
+
+-- the keys that a read names; words that are no command name none
+abbrev pub keys_read : Result Command WordFault → List (List ℕ)
+keys_read (Ok command) = read command
+keys_read (Err fault) = []
+
+-- the entry is this connection's own read of the key, which it remembers
+abbrev pub reads_key : Limits → Entry → List Entry → ℕ → List ℕ → Bool
+reads_key l (Run id words moment) past c key =
+    (id == c) && (remembers_read (mode l id past) && is_among (keys_read (served_reading words)) key)
+reads_key l _ past c key = false
+
+-- ---- the laws of one entry
+
+-- An entry tells a connection of a key once at each of its steps where the key leaves the table
+-- while the connection is remembered to hold it, and not else: where the key expires, where the
+-- command signals it, and where it is dropped.
+abbrev pub ToldByName : Limits → Entry → List Entry → Type 0
+ToldByName l entry past =
+    (c : ℕ) (key : List ℕ)
+    → times_told c key (invalidations l entry past)
+    ≡ once (expires_key l entry past key && remembers (table l past) c key)
+    + once (signals_by_name l entry past key && remembers (rows_at_signal l entry past) c key)
+    + once (drops_key l entry past key && remembers (rows_at_drop l entry past) c key)
+
+-- An entry tells a connection of all keys once, where it is a flush and the connection tracks, and
+-- not else.
+abbrev pub ToldOfAll : Limits → Entry → List Entry → Type 0
+ToldOfAll l entry past =
+    (c : ℕ)
+    → times_flushed c (invalidations l entry past)
+    ≡ once (flushes l entry past && (is_admitted past c && is_tracking l (entry ∷ past) c))
+
+-- A connection is told of a key by name only if it remembered the key, before the entry or by the
+-- entry's own read.
+abbrev pub ToldIsRemembered : Limits → Entry → List Entry → Type 0
+ToldIsRemembered l entry past =
+    (c : ℕ) (key : List ℕ)
+    → 0 < times_told c key (invalidations l entry past)
+    → (remembers (table l past) c key || reads_key l entry past c key) ≡ true
+
+-- It is told of it at most once; or twice, where the key expired, the entry's own read remembered it
+-- anew, and it was dropped at once.
+abbrev pub ToldOnce : Limits → Entry → List Entry → Type 0
+ToldOnce l entry past =
+    (c : ℕ) (key : List ℕ)
+    → times_told c key (invalidations l entry past)
+    ≤ 1 + once (expires_key l entry past key
+    && (reads_key l entry past c key && drops_key l entry past key))

@@ -1,0 +1,52 @@
+//! Who is told of which keys and what is remembered, and no more than that: each function is a law,
+//! and does nothing.
+#![tactic(auto)]
+
+ghost use Rattle.tracking_laws.specs.Causes.{EachReadIsOwedOrTold, LeavesForCause};
+ghost use Rattle.tracking_laws.specs.Causes.{RememberedIsRead};
+ghost use Rattle.tracking_laws.specs.Drops.{DropsOldest};
+ghost use Rattle.tracking_laws.specs.Laws.{LegalTellsExactly, OfEachEntry};
+ghost use Rattle.tracking_laws.specs.Told.{ToldByName, ToldIsRemembered, ToldOfAll, ToldOnce};
+
+/// At each entry a connection is told of a key by name exactly where the key leaves the table while
+/// the connection remembers it; of all keys exactly at a flush, if it tracks.
+pub fn law_told_exactly_where_remembered()
+    ensures by_name { OfEachEntry ToldByName }
+    ensures of_all { OfEachEntry ToldOfAll }
+{}
+
+/// A connection is told of a key by name only if it remembered it, before the entry or by the
+/// entry's own read.
+pub fn law_told_is_remembered()
+    ensures { OfEachEntry ToldIsRemembered }
+{}
+
+/// An entry tells a connection of a key once at most; or twice, where the key expired, was read by
+/// the entry's own command, and was dropped at once.
+pub fn law_told_once()
+    ensures { OfEachEntry ToldOnce }
+{}
+
+/// A connection comes to remember a key by its own read alone, and remembers it no more only for a
+/// cause.
+pub fn law_remembered_for_cause()
+    ensures read { OfEachEntry RememberedIsRead }
+    ensures leaves { OfEachEntry LeavesForCause }
+{}
+
+/// Keys are dropped only while more than the limit are remembered, down to the limit, the oldest
+/// first.
+pub fn law_oldest_are_dropped()
+    ensures { OfEachEntry DropsOldest }
+{}
+
+/// Each key that a remembered read names is owed or told: its connection is told of it from then
+/// on, or it has been told already, or it has ended.
+pub fn law_each_read_is_owed_or_told()
+    ensures { EachReadIsOwedOrTold }
+{}
+
+/// All of this holds of each entry of a legal history.
+pub fn law_told_exactly()
+    ensures { LegalTellsExactly }
+{}
