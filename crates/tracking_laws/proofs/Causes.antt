@@ -1,9 +1,9 @@
 -- Why a connection remembers a key no more; and each read is owed or told.
-use Rattle.std.proofs.Common.{◌≡◌, ◌∙◌, ◌-◌, ℕ, List, [], ◌∷◌, Bool, true, false, Ok}
+use Rattle.std.proofs.Common.{◌≡◌, ◌∙◌, ◌-◌, ℕ, List, [], ◌∷◌, Bool, true, false, Ok, Err}
 use Rattle.std.proofs.Common.{length, drop, inl, inr, subst, ap, refl, arith, append_assoc}
 use Rattle.std.specs.Prelude.{◌==◌, ◌&&◌, ◌||◌, not}
 use Rattle.std.specs.List.{list_any}
-use Rattle.std.proofs.lemmas.Bool.{or_cases, eqb-true, or_left, or_right}
+use Rattle.std.proofs.lemmas.Bool.{or_cases, and_parts, eqb-true, or_left, or_right}
 use Rattle.std.proofs.lemmas.List.Folds.{list_any-append}
 use Rattle.track_table.specs.declared.table.Held.{Held}
 use Rattle.track_table.specs.Table.{holders_of}
@@ -11,15 +11,16 @@ use Rattle.command_words.specs.declared.command.Command.{Command}
 use Rattle.command_words.specs.Queries.{read}
 use Rattle.std.proofs.lemmas.Bool.Decides.{nat_tests}
 use Rattle.serial_model.specs.Modes.{Remembers, remembers_read}
-use Rattle.tracking_laws.specs.Told.{keys_read}
+use Rattle.tracking_laws.specs.Told.{keys_read, reads_key}
 use Rattle.serial_model.specs.declared.history.Limits.{Limits}
 use Rattle.serial_model.specs.declared.history.Entry.{Entry}
 use Rattle.serial_model.specs.declared.history.Entry.TheVariants.{Admit, Run, Tick, Take, Close}
 use Rattle.serial_model.specs.Each.{AllIn, AllRows}
 use Rattle.serial_model.specs.Tracking.{without_signalled, remembering, drop_group, tells}
 use Rattle.serial_model.specs.History.{table, table_then, table_grown, signals, mode, made, made_of}
-use Rattle.serial_model.specs.History.{IsLegal, served_reading, drops}
+use Rattle.serial_model.specs.History.{IsLegal, served_reading, drops, has_ended}
 use Rattle.serial_model.specs.Laws.{is_among, is_forgets, signals_key, drops_key}
+use Rattle.serial_model.specs.Laws.{is_told, is_due}
 use Rattle.serial_model.proofs.KeyHolders.{holds, keys_apart, signalled_apart, remembering_keeps}
 use Rattle.serial_model.proofs.KeyHolders.{dropped_or_kept, without_other, drop_tells}
 use Rattle.serial_model.proofs.Streams.{IsLive, table_live}
@@ -76,7 +77,8 @@ by_tracking : (signalled tracks dropped : Bool) → (tracks ≡ true → (signal
     → (signalled || not tracks || false || dropped) ≡ true
 by_tracking signalled tracks dropped h = grind arith
 
-pub leaves_for_cause : (l : Limits) (entry : Entry) (past : List Entry) → LeavesForCause l entry past
+pub leaves_for_cause : (l : Limits) (entry : Entry) (past : List Entry)
+    → LeavesForCause l entry past
 leaves_for_cause l (Admit id) past c key told gone = absurd (let no : ⊥ = cc in no)
 leaves_for_cause l (Run id words moment) past c key told gone =
     by_tracking (signals_key l (Run id words moment) past key)
@@ -104,15 +106,21 @@ read_remembers l past c words command key is remembers among =
     ] refl among
 
 own_grown : (c : ℕ) (key : List ℕ) (keys : List (List ℕ)) (rows : List Held)
-    → is_among keys key ≡ true → holds c (holders_of key (remembering c (Remembers keys) rows)) ≡ true
+    → is_among keys key ≡ true
+    → holds c (holders_of key (remembering c (Remembers keys) rows)) ≡ true
 own_grown c key keys rows among = grind (arith, holds_with_keys, nat_tests)
 
 owed : (ended stays first own last : Bool) → ended ≡ false → (stays || last) ≡ true
     → (((not ended && stays) || (first || (own || last))) || ended) ≡ true
 owed ended stays first own last live h = grind arith
 
-pub each_read_is_owed_or_told : EachReadIsOwedOrTold
-each_read_is_owed_or_told l c m words past command key legal is remembers among =
+command_owed : (l : Limits) (c m : ℕ) (words : List (List ℕ)) (past : List Entry)
+    (command : Command) (key : List ℕ)
+    → IsLegal l (Run c words m ∷ past) → served_reading words ≡ Ok command
+    → remembers_read (mode l c past) ≡ true → is_among (read command) key ≡ true
+    → (is_told l (Run c words m ∷ past) c key || is_due l (Run c words m) past c key
+    || has_ended l c (Run c words m ∷ past)) ≡ true
+command_owed l c m words past command key legal is remembers among =
     let sig = signals l past c words m in
     let rows = without_signalled sig (table_then l past m) in
     let grown = table_grown l past c words m in
@@ -122,3 +130,33 @@ each_read_is_owed_or_told l c m words past command key legal is remembers among 
     (read_remembers l past c words command key is remembers among)
     ∙ own_grown c key (read command) rows among in
     grind (arith, dropped_or_kept, or_right, drop_tells, or_left, append_assoc, list_any-append)
+
+-- a read that its connection remembers is of a command
+command_of : (l : Limits) (past : List Entry) (c id m : ℕ) (words : List (List ℕ)) (key : List ℕ)
+    → reads_key l (Run id words m) past c key ≡ true
+    → (command : Command) × (served_reading words ≡ Ok command) × (id ≡ c)
+    × (remembers_read (mode l id past) ≡ true) × (is_among (read command) key ≡ true)
+command_of l past c id m words key h =
+    let p = and_parts (id == c)
+    (remembers_read (mode l id past) && is_among (keys_read (served_reading words)) key) h in
+    let q = and_parts (remembers_read (mode l id past))
+    (is_among (keys_read (served_reading words)) key) p.1 in
+    elim (served_reading words) as (λ r. served_reading words ≡ r
+    → is_among (keys_read r) key ≡ true
+    → (command : Command) × (served_reading words ≡ Ok command) × (id ≡ c)
+    × (remembers_read (mode l id past) ≡ true) × (is_among (read command) key ≡ true)) [
+      | Ok command ↦ λ e among. (command, e, eqb-true id c p.0, q.0, among)
+      | Err fault ↦ λ e none. absurd (let no : ⊥ = cc in no)
+    ] refl q.1
+
+pub each_read_is_owed_or_told : (l : Limits) (entry : Entry) (past : List Entry)
+    → IsLegal l (entry ∷ past) → EachReadIsOwedOrTold l entry past
+each_read_is_owed_or_told l (Admit id) past legal c key h = absurd (let no : ⊥ = cc in no)
+each_read_is_owed_or_told l (Run id words m) past legal c key h =
+    let p = command_of l past c id m words key h in
+    subst (λ k. (is_told l (Run id words m ∷ past) k key || is_due l (Run id words m) past k key
+    || has_ended l k (Run id words m ∷ past)) ≡ true) p.2
+    (command_owed l id m words past p.0 key legal p.1 p.3 p.4)
+each_read_is_owed_or_told l (Tick m) past legal c key h = absurd (let no : ⊥ = cc in no)
+each_read_is_owed_or_told l (Take id max) past legal c key h = absurd (let no : ⊥ = cc in no)
+each_read_is_owed_or_told l (Close id) past legal c key h = absurd (let no : ⊥ = cc in no)

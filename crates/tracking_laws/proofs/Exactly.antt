@@ -7,9 +7,11 @@ use Rattle.serial_model.specs.History.{IsLegal}
 use Rattle.tracking_laws.specs.Laws.{EntryTellsExactly, ToldExactly}
 use Rattle.tracking_laws.proofs.Told.{told_by_name, told_is_remembered, told_once}
 use Rattle.tracking_laws.proofs.Flushes.{told_of_all}
-use Rattle.tracking_laws.proofs.Owned.{remembered_is_read}
-use Rattle.tracking_laws.proofs.Causes.{leaves_for_cause, remembered_is_tracked}
+use Rattle.tracking_laws.proofs.Owned.{remembered_is_read, gone_is_forgotten}
+use Rattle.tracking_laws.proofs.Causes.{each_read_is_owed_or_told, leaves_for_cause}
+use Rattle.tracking_laws.proofs.Causes.{remembered_is_tracked}
 use Rattle.tracking_laws.proofs.Drops.{drops_oldest}
+use Rattle.tracking_laws.proofs.Sent.{sent_is_told}
 
 module _ (l : Limits) where
   before : (entry : Entry) (past : List Entry) → IsLegal l (entry ∷ past) → IsLegal l past
@@ -26,9 +28,12 @@ module _ (l : Limits) where
     of_all = told_of_all l entry past;
     remembered = told_is_remembered l entry past;
     once = told_once l entry past;
+    sent = sent_is_told l entry past;
     read = remembered_is_read l entry past;
     tracked = remembered_is_tracked l (entry ∷ past) legal;
+    owed = each_read_is_owed_or_told l entry past legal;
     cause = leaves_for_cause l entry past;
+    forgotten = gone_is_forgotten l entry past;
     drops = drops_oldest l entry past;
   }
 

@@ -1,9 +1,9 @@
 -- Who holds a key after a step of the table: exactly those that held it, less those that the step
 -- takes, and with those that it brings.
 use Rattle.std.proofs.Common.{◌≡◌, ◌∙◌, refl, sym, ap, ℕ, zero, suc, List, [], ◌∷◌, Bool, true}
-use Rattle.std.proofs.Common.{false, cond, drop, length, arith}
+use Rattle.std.proofs.Common.{false, cond, drop, take, length, arith}
 use Rattle.std.specs.Prelude.{◌==◌, ◌&&◌, ◌||◌, not}
-use Rattle.std.specs.List.{filter}
+use Rattle.std.specs.List.{filter, list_any}
 use Rattle.std.specs.Str.{bytes_eq}
 use Rattle.std.proofs.lemmas.Slice.Eq.{bytes_eq-Decides}
 use Rattle.std.proofs.lemmas.Bool.Decides.{nat_tests}
@@ -203,3 +203,18 @@ module _ (c : ℕ) where
               absurd (let no : ⊥ = cc in no)
           | false ↦ λ f. held_drop n rs h.2 e
         ] refl
+
+    -- a key of the first rows has no holder behind them
+    pub none_behind : (n : ℕ) (rows : List Held) → AreOrdered rows
+        → list_any (λ r. bytes_eq key r.key) (take n rows) ≡ true
+        → holds c (holders_of key (drop n rows)) ≡ false
+    none_behind zero rows h e = absurd (let no : ⊥ = cc in no)
+    none_behind (suc n) [] h e = absurd (let no : ⊥ = cc in no)
+    none_behind (suc n) (r ∷ rs) h e =
+        elim (bytes_eq key r.key) as (λ b. bytes_eq key r.key ≡ b
+        → (b || list_any (λ r. bytes_eq key r.key) (take n rs)) ≡ true
+        → holds c (holders_of key (drop n rs)) ≡ false) [
+          | true ↦ λ f g. ap (holds c) (none_holds key (drop n rs)
+              (has_no_drop n rs (same_has_no key r.key rs f h.1)))
+          | false ↦ λ f g. none_behind n rs h.2 g
+        ] refl e

@@ -54,7 +54,8 @@ module _ (l : Limits) where
   is_table (Admit id ∷ past) = is_table past
   is_table (Run id words moment ∷ past) =
       let grown = table_grown l past id words moment in
-      table_drop (length grown - l.table_max) grown (grown_from past id words moment (is_table past))
+      table_drop (length grown - l.table_max) grown
+      (grown_from past id words moment (is_table past))
   is_table (Tick moment ∷ past) =
       table_without_keys (expired l past moment) (table l past) (is_table past)
   is_table (Take id max ∷ past) = is_table past

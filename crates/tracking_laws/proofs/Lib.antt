@@ -8,4 +8,5 @@ pub mod Flushes
 pub mod Causes
 pub mod Ages
 pub mod Drops
+pub mod Sent
 pub mod Exactly

@@ -17,10 +17,11 @@ use Rattle.serial_model.specs.History.{served_reading, made_of, made}
 use Rattle.serial_model.specs.Laws.{is_among}
 use Rattle.serial_model.proofs.KeyHolders.{holds}
 use Rattle.tracking_laws.specs.Told.{is_signalled, is_flush, keys_read, reads_key, remembers}
-use Rattle.tracking_laws.specs.Causes.{RememberedIsRead}
+use Rattle.tracking_laws.specs.Causes.{RememberedIsRead, GoneIsForgotten}
 use Rattle.tracking_laws.proofs.Kept.{is_table, is_table_then, is_table_grown}
 use Rattle.tracking_laws.proofs.Kept.{table_without_signalled}
-use Rattle.tracking_laws.proofs.Holders.{holds_with_keys, holds_without_keys, holds_freed, held_drop}
+use Rattle.tracking_laws.proofs.Holders.{holds_with_keys, holds_without_keys, holds_freed}
+use Rattle.tracking_laws.proofs.Holders.{held_drop, none_behind}
 use Rattle.tracking_laws.proofs.Remembering.{own_memory}
 
 module _ (c : ℕ) (key : List ℕ) where
@@ -90,3 +91,24 @@ remembered_is_read l (Tick moment) past c key h = grind (arith, then_is l past c
 remembered_is_read l (Take id max) past c key h = grind arith
 remembered_is_read l (Close id) past c key h =
     grind (arith, holds_freed c key id (table l past) (is_table l past).ordered)
+
+-- ---- what is signalled or dropped is forgotten
+
+pub gone_is_forgotten : (l : Limits) (entry : Entry) (past : List Entry)
+    → GoneIsForgotten l entry past
+gone_is_forgotten l (Admit id) past c key gone h = absurd (let no : ⊥ = cc in no)
+gone_is_forgotten l (Run id words moment) past c key gone h =
+    let grown = table_grown l past id words moment in
+    let n = length grown - l.table_max in
+    let ordered = (is_table_grown l past id words moment).ordered in
+    let here = held_drop c key n grown ordered h in
+    grind (
+      arith,
+      none_behind c key n grown ordered,
+      grown_is l past c key id words moment here,
+      before_read,
+    )
+gone_is_forgotten l (Tick moment) past c key gone h =
+    grind (arith, then_is l past c key moment)
+gone_is_forgotten l (Take id max) past c key gone h = absurd (let no : ⊥ = cc in no)
+gone_is_forgotten l (Close id) past c key gone h = absurd (let no : ⊥ = cc in no)

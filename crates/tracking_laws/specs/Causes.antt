@@ -1,15 +1,11 @@
 -- Why a connection comes to remember a key, and why it remembers it no more.
 use Rattle.std.specs.Prelude.{◌≡◌, ◌==◌, ◌&&◌, ◌||◌, ℕ, List, ◌∷◌, Bool, true, false, not}
-use Rattle.std.specs.Prelude.{Ok}
-use Rattle.command_words.specs.declared.command.Command.{Command}
-use Rattle.command_words.specs.Queries.{read}
 use Rattle.serial_model.specs.declared.history.Limits.{Limits}
 use Rattle.serial_model.specs.declared.history.Entry.{Entry}
-use Rattle.serial_model.specs.declared.history.Entry.TheVariants.{Run, Close}
-use Rattle.serial_model.specs.Modes.{remembers_read}
-use Rattle.serial_model.specs.History.{IsLegal, served_reading, mode, table, has_ended}
+use Rattle.serial_model.specs.declared.history.Entry.TheVariants.{Close}
+use Rattle.serial_model.specs.History.{mode, table, has_ended}
 use Rattle.serial_model.specs.History.{is_admitted, is_tracking}
-use Rattle.serial_model.specs.Laws.{is_among, is_told, is_due, signals_key, drops_key}
+use Rattle.serial_model.specs.Laws.{is_told, is_due, signals_key, drops_key}
 use Rattle.tracking_laws.specs.Told.{remembers, reads_key}
 
 -- the entry is the end of the connection
@@ -41,16 +37,20 @@ LeavesForCause l entry past =
     → (signals_key l entry past key || not (mode l c (entry ∷ past)).tracking
     || ends entry c || drops_key l entry past key) ≡ true
 
+-- A key that an entry signals or drops is forgotten: a connection remembers it behind the entry
+-- only where the entry is its own read, and the key is not dropped.
+abbrev pub GoneIsForgotten : Limits → Entry → List Entry → Type 0
+GoneIsForgotten l entry past =
+    (c : ℕ) (key : List ℕ)
+    → (signals_key l entry past key || drops_key l entry past key) ≡ true
+    → remembers (table l (entry ∷ past)) c key ≡ true
+    → (reads_key l entry past c key && not (drops_key l entry past key)) ≡ true
+
 -- Each key that a read names is remembered, where its connection remembers what it reads: the
 -- connection is told of it from then on, or has been told of it at this entry, or has ended.
-abbrev pub EachReadIsOwedOrTold : Type 0
-EachReadIsOwedOrTold =
-    (l : Limits) (c moment : ℕ) (words : List (List ℕ)) (past : List Entry) (command : Command)
-    (key : List ℕ)
-    → IsLegal l (Run c words moment ∷ past)
-    → served_reading words ≡ Ok command
-    → remembers_read (mode l c past) ≡ true
-    → is_among (read command) key ≡ true
-    → (is_told l (Run c words moment ∷ past) c key
-    || is_due l (Run c words moment) past c key
-    || has_ended l c (Run c words moment ∷ past)) ≡ true
+abbrev pub EachReadIsOwedOrTold : Limits → Entry → List Entry → Type 0
+EachReadIsOwedOrTold l entry past =
+    (c : ℕ) (key : List ℕ)
+    → reads_key l entry past c key ≡ true
+    → (is_told l (entry ∷ past) c key || is_due l entry past c key
+    || has_ended l c (entry ∷ past)) ≡ true

@@ -96,7 +96,8 @@ keys_read (Err fault) = []
 -- the entry is this connection's own read of the key, which it remembers
 abbrev pub reads_key : Limits → Entry → List Entry → ℕ → List ℕ → Bool
 reads_key l (Run id words moment) past c key =
-    (id == c) && (remembers_read (mode l id past) && is_among (keys_read (served_reading words)) key)
+    (id == c)
+    && (remembers_read (mode l id past) && is_among (keys_read (served_reading words)) key)
 reads_key l _ past c key = false
 
 -- ---- the laws of one entry
@@ -128,8 +129,8 @@ ToldIsRemembered l entry past =
     → 0 < times_told c key (invalidations l entry past)
     → (remembers (table l past) c key || reads_key l entry past c key) ≡ true
 
--- It is told of it at most once; or twice, where the key expired, the entry's own read remembered it
--- anew, and it was dropped at once.
+-- It is told of it at most once; or twice, where the key expired, the entry's own read remembered
+-- it anew, and it was dropped at once.
 abbrev pub ToldOnce : Limits → Entry → List Entry → Type 0
 ToldOnce l entry past =
     (c : ℕ) (key : List ℕ)

@@ -3,9 +3,10 @@
 #![tactic(auto)]
 
 ghost use Rattle.tracking_laws.specs.Causes.{EachReadIsOwedOrTold, LeavesForCause};
-ghost use Rattle.tracking_laws.specs.Causes.{RememberedIsRead};
+ghost use Rattle.tracking_laws.specs.Causes.{GoneIsForgotten, RememberedIsRead};
 ghost use Rattle.tracking_laws.specs.Drops.{DropsOldest};
-ghost use Rattle.tracking_laws.specs.Laws.{LegalTellsExactly, OfEachEntry};
+ghost use Rattle.tracking_laws.specs.Laws.{LegalTellsExactly, OfEachEntry, OfEachLegal};
+ghost use Rattle.tracking_laws.specs.Sent.{SentIsTold};
 ghost use Rattle.tracking_laws.specs.Told.{ToldByName, ToldIsRemembered, ToldOfAll, ToldOnce};
 
 /// At each entry a connection is told of a key by name exactly where the key leaves the table while
@@ -28,10 +29,11 @@ pub fn law_told_once()
 {}
 
 /// A connection comes to remember a key by its own read alone, and remembers it no more only for a
-/// cause.
+/// cause. A key that is signalled or dropped is forgotten until it is read again.
 pub fn law_remembered_for_cause()
     ensures read { OfEachEntry RememberedIsRead }
     ensures leaves { OfEachEntry LeavesForCause }
+    ensures forgotten { OfEachEntry GoneIsForgotten }
 {}
 
 /// Keys are dropped only while more than the limit are remembered, down to the limit, the oldest
@@ -43,7 +45,13 @@ pub fn law_oldest_are_dropped()
 /// Each key that a remembered read names is owed or told: its connection is told of it from then
 /// on, or it has been told already, or it has ended.
 pub fn law_each_read_is_owed_or_told()
-    ensures { EachReadIsOwedOrTold }
+    ensures { OfEachLegal EachReadIsOwedOrTold }
+{}
+
+/// An entry sends a connection a message for each time that it tells it, and beside these its reply
+/// and its end alone.
+pub fn law_sent_is_told()
+    ensures { OfEachEntry SentIsTold }
 {}
 
 /// All of this holds of each entry of a legal history.
