@@ -1,0 +1,9 @@
+pub mod Fetching
+pub mod Displaced
+pub mod Changes
+pub mod Uses
+pub mod Once
+pub mod Kept
+pub mod Stays
+pub mod Hits
+pub mod Exactly
