@@ -11,6 +11,9 @@ use Rattle.server_links.specs.LinksState.{at_place}
 use Rattle.server_links.specs.OneHistory.{PartServes, Serves, read_on}
 use Rattle.server_links.specs.Session.{session_at}
 use Rattle.server_links.specs.Transcript.{unless_fault}
+use Rattle.cache_laws.proofs.Exactly.{holds_exactly}
+use Rattle.tracking_laws.proofs.Exactly.{told_exactly}
+use Rattle.currency.proofs.CompleteExactly.{completes_exactly}
 use Rattle.server_links.proofs.Accounts.{Part}
 use Rattle.server_links.proofs.Events.{serves}
 use Rattle.server_links.proofs.Names.{unplaced}
@@ -45,8 +48,12 @@ serviced l raw lines w p at lt =
       named = k.named;
       link = place_is w.links p.unique m.link m.place k.below k.placed;
       mode = k.mode;
+      capacity = k.room;
       legal = k.legal;
       meet = meet_part l raw lines w p at lt;
+      complete = completes_exactly w.links.limits (client_of m) w.links.past m.state.past
+          (meet_part l raw lines w p at lt);
+      holds = holds_exactly m.state.setup m.state.past k.room k.legal;
     }
 
 pub holds_current : Currency → (l : Limits) (raw : List ℕ → List ℕ) (lines : List Line)
@@ -75,6 +82,7 @@ part_history law l raw lines w events p raw_is = record {
       (put_is w events p.said p.taken (λ n none. p.rest n none ∙ raw_is n) link.name)
       (p.links.parts at lt);
   unread = λ name none. p.links.unread name (unplaced name w.links none);
+  told = told_exactly w.links.limits w.links.past p.links.history.legal;
   clients = all_serviced law l raw lines w p;
 }
 
@@ -147,5 +155,6 @@ whole_history law l events w valid e =
           (serves (heard (start l) at events) (s.said link.name) (read_on link.name lines)
           (session_at at w.links) (s.links.accounts at lt));
       unread = λ name none. s.links.unread name (unplaced name w.links none);
+      told = told_exactly w.links.limits w.links.past s.links.history.legal;
       clients = all_serviced law l raw lines w p;
     }

@@ -26,6 +26,9 @@ use Rattle.shared_cache.specs.Out.{out as written, taken as taken_out}
 use Rattle.currency.specs.Links.{Meet, run_of}
 use Rattle.currency.specs.Points.{replied, up_to}
 use Rattle.currency.specs.Current.{HasPoint, IsCurrent, point}
+use Rattle.currency.specs.CompleteExactly.{CompleteExactly}
+use Rattle.cache_laws.specs.HeldExactly.{HeldExactly}
+use Rattle.tracking_laws.specs.Laws.{ToldExactly}
 use Rattle.script_text.specs.declared.event.Event.{Event}
 use Rattle.script_text.specs.declared.event.Event.TheVariants.{Raw, Say, Bytes, Client, Out, Serve}
 use Rattle.script_text.specs.declared.event.Event.TheVariants.{Send, Recv, Flow, FlowAll, Cut, Ask}
@@ -87,13 +90,17 @@ put_on w link events = put_by (client_of_link link w.members) w link events
 -- ---- one client
 
 -- A client has one link, whose connection is its own; its log is a legal one; commands run in
--- order and only those that it sent, and what it got is what it was sent, in order.
+-- order and only those that it sent, and what it got is what it was sent, in order. It holds
+-- exactly what its log says, and is complete exactly to where something waits for it.
 pub record Serviced (w : WorldState) (m : MemberState) : Type 0 where
   pub named : m.link ≡ data_link m.name
   pub link : place_of m.link w.links ≡ Some m.place
   pub mode : IsServed m.state.setup.mode
+  pub capacity : 0 < m.state.setup.capacity
   pub legal : LegalLog m.state.setup m.state.past
   pub meet : Meet w.links.limits (client_of m) w.links.past m.state.past
+  pub complete : CompleteExactly w.links.limits (client_of m) w.links.past m.state.past
+  pub holds : HeldExactly m.state.setup m.state.past
 
 -- what a client holds is current, and a hit on it has its point in the history
 abbrev pub HoldsCurrent : WorldState → MemberState → Type 0
@@ -118,6 +125,8 @@ pub record OneHistory (l : Limits) (events : List Event) (lines : List Line) (w 
       Serves w.links.limits (heard (start l) at events) (put_on w link.name events)
       (read_on link.name lines) w.links.past link
   pub unread : (name : List ℕ) → place_of name w.links ≡ None → read_on name lines ≡ []
+  -- each entry tells those that remembered a key, and drops the oldest keys past the limit alone
+  pub told : ToldExactly w.links.limits w.links.past
   pub clients : AllServiced w
 
 -- where the last event met a fault, or was broken off
@@ -129,6 +138,8 @@ pub record PartHistory (l : Limits) (events : List Event) (lines : List Line)
       PartServes w.links.limits (put_on w link.name events) (read_on link.name lines) w.links.past
       link
   pub unread : (name : List ℕ) → place_of name w.links ≡ None → read_on name lines ≡ []
+  -- each entry tells those that remembered a key, and drops the oldest keys past the limit alone
+  pub told : ToldExactly w.links.limits w.links.past
   pub clients : AllServiced w
 
 -- ---- one more event
