@@ -90,13 +90,12 @@ all_hits law l (d ∷ more) before raw lines v w valid s e =
     ] refl e
 
 pub one_history : Currency → HasOneHistory
-one_history law l events w valid e =
-    (
-      whole_history law l events w valid e,
-      follows law l events w valid e,
-      all_hits law l events (λ i. []) (λ n. []) [] (start l) w valid (stands_start l) e,
-      (λ at lt none. flow_delivers w.links at lt),
-    )
+one_history law l events w valid e = (
+  whole_history law l events w valid e,
+  follows law l events w valid e,
+  all_hits law l events (λ i. []) (λ n. []) [] (start l) w valid (stands_start l) e,
+  (λ at lt none. flow_delivers w.links at lt),
+)
 
 -- what was done, whole or in part, is reached
 reached : (w : WorldState) (event : Event) (lines : List Line)

@@ -53,17 +53,16 @@ held_found P q (x ∷ hs) h a e =
 module _ (w : WorldState) (name : List ℕ) (at : ℕ)
     (is : client_named name w.members ≡ Some at)
     (current : HoldsCurrent w (member_at w.members at)) where
-  m : MemberState
+  abbrev pub m : MemberState
   m = member_at w.members at
 
-  Point : CacheEntry → Type 0
+  abbrev pub Point : CacheEntry → Type 0
   Point h = HasPoint w.links.limits (client_of m) w.links.past m.state.past h
 
   is_hit : (h : CacheEntry) (p : Point h)
       → held_for h.query (held m.state.setup m.state.past) ≡ Some h
       → IsHit w name h.query h.value p.fetched
       (point w.links.limits (client_of m) w.links.past m.state.past h p.fetched)
-  unfolding m Point
   is_hit h p found = record {
     place = at;
     client = is;
@@ -84,7 +83,6 @@ module _ (w : WorldState) (name : List ℕ) (at : ℕ)
   printed_hit : (h : CacheEntry) → Point h
       → held_for h.query (held m.state.setup m.state.past) ≡ Some h
       → IsHit w name h.query h.value (ran_at (seat_at at w) h.number) (point_at (seat_at at w) h)
-  unfolding m Point
   printed_hit h p found =
       let e : ran_at (seat_at at w) h.number ≡ p.fetched = grind arith in
       subst (λ n. IsHit w name h.query h.value n
@@ -95,7 +93,6 @@ module _ (w : WorldState) (name : List ℕ) (at : ℕ)
       → held_for q (held m.state.setup m.state.past) ≡ Some h
       → IsHit w name q h.value (ran_at (seat_at at w) h.number)
       (point_at (seat_at at w) (record { query = q; value = h.value; number = h.number }))
-  unfolding m
   hit_stands q h e =
       let g = held_found (λ h. IsCurrent w.links.limits (client_of m) w.links.past m.state.past h
       × Point h) q (held m.state.setup m.state.past) h current e in
@@ -109,7 +106,6 @@ module _ (w : WorldState) (name : List ℕ) (at : ℕ)
     hit_lines : (o : Option CacheEntry) (n : ℕ)
         → held_for q (held m.state.setup m.state.past) ≡ o
         → Every (HitStands w (Ask name q)) (ask_lines (seat_at at w) q (answer_ask o n))
-    unfolding m
     hit_lines None n e = (tt, tt)
     hit_lines (Some h) n e = ((named, hit_stands q h e), tt)
 
@@ -121,11 +117,11 @@ module _ (w : WorldState) (name : List ℕ) (at : ℕ)
 
     asked_stand : Every (HitStands w (Ask name q)) (ask_lines (seat_at at w) q
         (client_step m.state.setup m.state.past (call.Ask q)).reply)
-    unfolding client_step m
+    unfolding client_step
     asked_stand = grind (arith, by_if, hit_lines)
 
     pub ask_stand : Every (HitStands w (Ask name q)) (client_does at (turn (call.Ask q)) w).lines
-    unfolding client_does within turn and_then m
+    unfolding client_does within turn and_then
     ask_stand = asked_stand
 
 -- ---- the other events
