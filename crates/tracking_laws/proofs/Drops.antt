@@ -10,6 +10,7 @@ use Rattle.serial_model.specs.declared.history.Entry.TheVariants.{Admit, Run, Ti
 use Rattle.serial_model.specs.History.{table_grown}
 use Rattle.serial_model.proofs.TableSize.{table_within}
 use Rattle.tracking_laws.specs.Drops.{DropsOldest, since}
+use Rattle.tracking_laws.proofs.Kept.{is_table, is_table_grown}
 use Rattle.tracking_laws.proofs.Ages.{first_before_rest, grown_in_order}
 
 full_where_dropped : (limit : ℕ) (rows : List Held) → 0 < length (dropped limit rows)
@@ -24,6 +25,7 @@ module _ (l : Limits) where
   drops_oldest (Run id words moment) past =
       let grown = table_grown l past id words moment in
       record {
+        counted = is_table_grown l past id words moment;
         parted = sym (take-append-drop (length grown - l.table_max) grown);
         within = table_within l (Run id words moment ∷ past);
         full = full_where_dropped l.table_max grown;
@@ -31,24 +33,28 @@ module _ (l : Limits) where
             (length grown - l.table_max) grown (grown_in_order l past id words moment);
       }
   drops_oldest (Admit id) past = record {
+    counted = is_table l (Admit id ∷ past);
     parted = refl;
     within = table_within l (Admit id ∷ past);
     full = λ some. absurd (none_dropped (Admit id) past some);
     oldest = tt;
   }
   drops_oldest (Tick moment) past = record {
+    counted = is_table l (Tick moment ∷ past);
     parted = refl;
     within = table_within l (Tick moment ∷ past);
     full = λ some. absurd (none_dropped (Tick moment) past some);
     oldest = tt;
   }
   drops_oldest (Take id max) past = record {
+    counted = is_table l (Take id max ∷ past);
     parted = refl;
     within = table_within l (Take id max ∷ past);
     full = λ some. absurd (none_dropped (Take id max) past some);
     oldest = tt;
   }
   drops_oldest (Close id) past = record {
+    counted = is_table l (Close id ∷ past);
     parted = refl;
     within = table_within l (Close id ∷ past);
     full = λ some. absurd (none_dropped (Close id) past some);

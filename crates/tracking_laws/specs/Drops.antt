@@ -5,6 +5,7 @@ use Rattle.std.specs.Prelude.{if◌then◌else◌}
 use Rattle.std.specs.List.{list_any}
 use Rattle.std.specs.Str.{bytes_eq}
 use Rattle.track_table.specs.declared.table.Held.{Held}
+use Rattle.track_table.specs.Order.{IsTable}
 use Rattle.serial_model.specs.declared.history.Limits.{Limits}
 use Rattle.serial_model.specs.declared.history.Entry.{Entry}
 use Rattle.serial_model.specs.declared.history.Entry.TheVariants.{Run}
@@ -35,8 +36,10 @@ since l (entry ∷ past) key =
     if is_remembered (rows_at_read l entry past) key then since l past key else length past + 1
 
 -- Keys are dropped only while more than table_max are remembered, and then down to that number. No
--- key that stays has been remembered for longer than one that was dropped.
+-- key that stays has been remembered for longer than one that was dropped. Each key counts once,
+-- and only while a connection remembers it.
 pub record DropsOldest (l : Limits) (entry : Entry) (past : List Entry) : Type 0 where
+  pub counted : IsTable (rows_at_drop l entry past)
   pub parted : rows_at_drop l entry past ≡ dropped_at l entry past ++ table l (entry ∷ past)
   pub within : length (table l (entry ∷ past)) ≤ l.table_max
   pub full : 0 < length (dropped_at l entry past)
