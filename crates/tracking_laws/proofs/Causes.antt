@@ -27,6 +27,7 @@ use Rattle.serial_model.proofs.Streams.{IsLive, table_live}
 use Rattle.serial_model.proofs.Trackers.{Tracks, table_tracks}
 use Rattle.serial_model.proofs.ModeSteps.{mode_own}
 use Rattle.tracking_laws.specs.Causes.{RememberedIsTracked, LeavesForCause, EachReadIsOwedOrTold}
+use Rattle.tracking_laws.specs.Causes.{EachReadIsRemembered}
 use Rattle.tracking_laws.proofs.Holders.{holds_with_keys}
 use Rattle.tracking_laws.proofs.Remembering.{forgets_all, read_memory}
 
@@ -110,9 +111,17 @@ own_grown : (c : ℕ) (key : List ℕ) (keys : List (List ℕ)) (rows : List Hel
     → holds c (holders_of key (remembering c (Remembers keys) rows)) ≡ true
 own_grown c key keys rows among = grind (arith, holds_with_keys, nat_tests)
 
-owed : (ended stays first own last : Bool) → ended ≡ false → (stays || last) ≡ true
-    → (((not ended && stays) || (first || (own || last))) || ended) ≡ true
-owed ended stays first own last live h = grind arith
+-- what a read names is remembered where keys are dropped
+run_remembers : (l : Limits) (c m : ℕ) (words : List (List ℕ)) (past : List Entry)
+    (command : Command) (key : List ℕ)
+    → served_reading words ≡ Ok command
+    → remembers_read (mode l c past) ≡ true → is_among (read command) key ≡ true
+    → holds c (holders_of key (table_grown l past c words m)) ≡ true
+run_remembers l c m words past command key is remembers among =
+    let rows = without_signalled (signals l past c words m) (table_then l past m) in
+    ap (λ y. holds c (holders_of key (remembering c y rows)))
+    (read_remembers l past c words command key is remembers among)
+    ∙ own_grown c key (read command) rows among
 
 command_owed : (l : Limits) (c m : ℕ) (words : List (List ℕ)) (past : List Entry)
     (command : Command) (key : List ℕ)
@@ -121,14 +130,10 @@ command_owed : (l : Limits) (c m : ℕ) (words : List (List ℕ)) (past : List E
     → (is_told l (Run c words m ∷ past) c key || is_due l (Run c words m) past c key
     || has_ended l c (Run c words m ∷ past)) ≡ true
 command_owed l c m words past command key legal is remembers among =
-    let sig = signals l past c words m in
-    let rows = without_signalled sig (table_then l past m) in
     let grown = table_grown l past c words m in
     let last = list_any (tells c key) (drop_group (drops l past c words m)) in
     let stays = holds c (holders_of key (drop (length grown - l.table_max) grown)) in
-    let held = ap (λ y. holds c (holders_of key (remembering c y rows)))
-    (read_remembers l past c words command key is remembers among)
-    ∙ own_grown c key (read command) rows among in
+    let held = run_remembers l c m words past command key is remembers among in
     grind (arith, dropped_or_kept, or_right, drop_tells, or_left, append_assoc, list_any-append)
 
 -- a read that its connection remembers is of a command
@@ -160,3 +165,25 @@ each_read_is_owed_or_told l (Run id words m) past legal c key h =
 each_read_is_owed_or_told l (Tick m) past legal c key h = absurd (let no : ⊥ = cc in no)
 each_read_is_owed_or_told l (Take id max) past legal c key h = absurd (let no : ⊥ = cc in no)
 each_read_is_owed_or_told l (Close id) past legal c key h = absurd (let no : ⊥ = cc in no)
+
+-- ---- and remembered
+
+kept_or_dropped : (kept dropped grown : Bool) → grown ≡ true → (dropped || kept) ≡ true
+    → (kept || (dropped && grown)) ≡ true
+kept_or_dropped kept dropped grown held h = grind arith
+
+pub each_read_is_remembered : (l : Limits) (entry : Entry) (past : List Entry)
+    → EachReadIsRemembered l entry past
+each_read_is_remembered l (Admit id) past c key h = absurd (let no : ⊥ = cc in no)
+each_read_is_remembered l (Run id words m) past c key h =
+    let p = command_of l past c id m words key h in
+    let grown = table_grown l past id words m in
+    let n = length grown - l.table_max in
+    let held = subst (λ k. holds k (holders_of key grown) ≡ true) p.2
+    (run_remembers l id m words past p.0 key p.1 p.3 p.4) in
+    kept_or_dropped (holds c (holders_of key (drop n grown)))
+    (drops_key l (Run id words m) past key) (holds c (holders_of key grown)) held
+    (dropped_or_kept c key n grown held)
+each_read_is_remembered l (Tick m) past c key h = absurd (let no : ⊥ = cc in no)
+each_read_is_remembered l (Take id max) past c key h = absurd (let no : ⊥ = cc in no)
+each_read_is_remembered l (Close id) past c key h = absurd (let no : ⊥ = cc in no)

@@ -9,7 +9,7 @@ use Rattle.tracking_laws.proofs.Told.{told_by_name, told_is_remembered, told_onc
 use Rattle.tracking_laws.proofs.Flushes.{told_of_all}
 use Rattle.tracking_laws.proofs.Owned.{remembered_is_read, gone_is_forgotten}
 use Rattle.tracking_laws.proofs.Causes.{each_read_is_owed_or_told, leaves_for_cause}
-use Rattle.tracking_laws.proofs.Causes.{remembered_is_tracked}
+use Rattle.tracking_laws.proofs.Causes.{each_read_is_remembered, remembered_is_tracked}
 use Rattle.tracking_laws.proofs.Drops.{drops_oldest}
 use Rattle.tracking_laws.proofs.Sent.{sent_is_told}
 
@@ -31,6 +31,7 @@ module _ (l : Limits) where
     sent = sent_is_told l entry past;
     read = remembered_is_read l entry past;
     tracked = remembered_is_tracked l (entry ∷ past) legal;
+    own_read = each_read_is_remembered l entry past;
     owed = each_read_is_owed_or_told l entry past legal;
     cause = leaves_for_cause l entry past;
     forgotten = gone_is_forgotten l entry past;

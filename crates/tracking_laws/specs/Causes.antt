@@ -6,7 +6,7 @@ use Rattle.serial_model.specs.declared.history.Entry.TheVariants.{Close}
 use Rattle.serial_model.specs.History.{mode, table, has_ended}
 use Rattle.serial_model.specs.History.{is_admitted, is_tracking}
 use Rattle.serial_model.specs.Laws.{is_told, is_due, signals_key, drops_key}
-use Rattle.tracking_laws.specs.Told.{remembers, reads_key}
+use Rattle.tracking_laws.specs.Told.{remembers, reads_key, rows_at_drop}
 
 -- the entry is the end of the connection
 abbrev pub ends : Entry → ℕ → Bool
@@ -54,3 +54,12 @@ EachReadIsOwedOrTold l entry past =
     → reads_key l entry past c key ≡ true
     → (is_told l (entry ∷ past) c key || is_due l entry past c key
     || has_ended l c (entry ∷ past)) ≡ true
+
+-- And this read itself is remembered, whatever was told before it: the connection remembers the key
+-- behind the entry, or the key is dropped at once, of which the connection is told.
+abbrev pub EachReadIsRemembered : Limits → Entry → List Entry → Type 0
+EachReadIsRemembered l entry past =
+    (c : ℕ) (key : List ℕ)
+    → reads_key l entry past c key ≡ true
+    → (remembers (table l (entry ∷ past)) c key
+    || (drops_key l entry past key && remembers (rows_at_drop l entry past) c key)) ≡ true

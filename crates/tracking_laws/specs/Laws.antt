@@ -5,7 +5,8 @@ use Rattle.serial_model.specs.declared.history.Entry.{Entry}
 use Rattle.serial_model.specs.History.{IsLegal}
 use Rattle.tracking_laws.specs.Told.{ToldByName, ToldOfAll, ToldIsRemembered, ToldOnce}
 use Rattle.tracking_laws.specs.Causes.{RememberedIsRead, RememberedIsTracked, LeavesForCause}
-use Rattle.tracking_laws.specs.Causes.{EachReadIsOwedOrTold, GoneIsForgotten}
+use Rattle.tracking_laws.specs.Causes.{EachReadIsOwedOrTold, EachReadIsRemembered}
+use Rattle.tracking_laws.specs.Causes.{GoneIsForgotten}
 use Rattle.tracking_laws.specs.Drops.{DropsOldest}
 use Rattle.tracking_laws.specs.Sent.{SentIsTold}
 
@@ -27,6 +28,7 @@ pub record EntryTellsExactly (l : Limits) (entry : Entry) (past : List Entry) : 
   pub sent : SentIsTold l entry past
   pub read : RememberedIsRead l entry past
   pub tracked : RememberedIsTracked l (entry ∷ past)
+  pub own_read : EachReadIsRemembered l entry past
   pub owed : EachReadIsOwedOrTold l entry past
   pub cause : LeavesForCause l entry past
   pub forgotten : GoneIsForgotten l entry past

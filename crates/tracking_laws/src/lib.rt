@@ -2,8 +2,8 @@
 //! and does nothing.
 #![tactic(auto)]
 
-ghost use Rattle.tracking_laws.specs.Causes.{EachReadIsOwedOrTold, LeavesForCause};
-ghost use Rattle.tracking_laws.specs.Causes.{GoneIsForgotten, RememberedIsRead};
+ghost use Rattle.tracking_laws.specs.Causes.{EachReadIsOwedOrTold, EachReadIsRemembered};
+ghost use Rattle.tracking_laws.specs.Causes.{GoneIsForgotten, LeavesForCause, RememberedIsRead};
 ghost use Rattle.tracking_laws.specs.Drops.{DropsOldest};
 ghost use Rattle.tracking_laws.specs.Laws.{LegalTellsExactly, OfEachEntry, OfEachLegal};
 ghost use Rattle.tracking_laws.specs.Sent.{SentIsTold};
@@ -43,9 +43,10 @@ pub fn law_oldest_are_dropped()
 {}
 
 /// Each key that a remembered read names is owed or told: its connection is told of it from then
-/// on, or it has been told already, or it has ended.
+/// on, or it has been told already, or it has ended. It is remembered, or dropped at once and told.
 pub fn law_each_read_is_owed_or_told()
-    ensures { OfEachLegal EachReadIsOwedOrTold }
+    ensures owed { OfEachLegal EachReadIsOwedOrTold }
+    ensures remembered { OfEachEntry EachReadIsRemembered }
 {}
 
 /// An entry sends a connection a message for each time that it tells it, and beside these its reply
