@@ -1,0 +1,10 @@
+pub mod Lists
+pub mod Since
+pub mod Replies
+pub mod Fetched
+pub mod Named
+pub mod Covered
+pub mod Complete
+pub mod Currency
+pub mod Opened
+pub mod Handshakes
