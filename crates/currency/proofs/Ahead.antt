@@ -18,7 +18,7 @@ use Rattle.serial_model.proofs.Tables.{sent_to-append}
 use Rattle.currency.proofs.Lists.{get_parts, get_front, get_behind, one_passes}
 use Rattle.currency.proofs.Runs.{Older}
 use Rattle.currency.proofs.Sent.{Told, is_sent_to, routed_at, sent_le, sent_older}
-use Rattle.currency.proofs.Replies.{is_reply_sent, routed_no_reply}
+use Rattle.currency.proofs.Replies.{is_reply_at, routed_no_reply}
 
 -- none of those passes the test
 none_kept : {A : Type 0} (p : A → Bool) (xs : List A) → filter p xs ≡ [] → (i : ℕ) (y : A)
@@ -28,13 +28,6 @@ none_kept p (x ∷ xs) e zero y at = grind (arith, common_steps)
 none_kept p (x ∷ xs) e (suc i) y at = grind (arith, common_steps, none_kept p xs)
 
 -- one of those that pass it
-pub one_kept : {A : Type 0} (p : A → Bool) (xs : List A) (i : ℕ) (y : A)
-    → slice_get (filter p xs) i ≡ Some y → p y ≡ true
-one_kept p [] i y at = cc
-one_kept p (x ∷ xs) zero y at = grind (arith, common_steps, one_kept p xs 0 y)
-one_kept p (x ∷ xs) (suc i) y at =
-    grind (arith, common_steps, one_kept p xs i y, one_kept p xs (suc i) y)
-
 module _ (c : ℕ) (l : Limits) (past up : List Entry) (id : ℕ) (words : List (List ℕ)) (m : ℕ)
     (o : Older (Run id words m ∷ up) past) where
   abbrev n : ℕ
@@ -61,7 +54,7 @@ module _ (c : ℕ) (l : Limits) (past up : List Entry) (id : ℕ) (words : List 
   -- no reply of the entry stands among those
   reply_behind : (place : ℕ) (s : ℕ × Sending)
       → slice_get (sent l c (Run id words m ∷ up)) place ≡ Some s
-      → s.0 ≡ n → is_reply_sent s ≡ true → length (sent l c up) + length early ≤ place
+      → s.0 ≡ n → is_reply_at s ≡ true → length (sent l c up) + length early ≤ place
   reply_behind place s at number reply =
       elim (get_parts (sent l c up) (early ++ late) place s
       (ap (λ ss. slice_get ss place) (sym sent_is) ∙ at)) [
@@ -69,15 +62,15 @@ module _ (c : ℕ) (l : Limits) (past up : List Entry) (id : ℕ) (words : List 
         | inr b ↦
             elim (get_parts early late b.at s b.there) [
               | inl e ↦
-                  absurd (both_ways (is_reply_sent s)
-                  (none_kept is_reply_sent early
+                  absurd (both_ways (is_reply_at s)
+                  (none_kept is_reply_at early
                   (routed_no_reply n c (modes l up) (expiry_group l up m)) b.at s e) reply)
               | inr d ↦ omega (arith, b.is, d.is)
             ]
       ]
 
   reply_is_behind : (place : ℕ) (s : ℕ × Sending) → slice_get (sent l c past) place ≡ Some s
-      → s.0 ≡ n → is_reply_sent s ≡ true → length (sent l c up) + length early ≤ place
+      → s.0 ≡ n → is_reply_at s ≡ true → length (sent l c up) + length early ≤ place
   reply_is_behind place s at number reply =
       let all = sent l c (Run id words m ∷ up) in
       elim (cases_lt place (length all)) [
@@ -93,7 +86,7 @@ module _ (c : ℕ) (l : Limits) (past up : List Entry) (id : ℕ) (words : List 
   -- whom it tells in its first group has a push of it ahead of each reply of the entry
   pub told_ahead : (key : List ℕ) → list_any (tells c key) (expiry_group l up m) ≡ true
       → (mode l c up).proto ≡ Three → (place : ℕ) (s : ℕ × Sending)
-      → slice_get (sent l c past) place ≡ Some s → s.0 ≡ n → is_reply_sent s ≡ true
+      → slice_get (sent l c past) place ≡ Some s → s.0 ≡ n → is_reply_at s ≡ true
       → (t : Told c l (Run id words m ∷ up) n key) × (t.place < place)
   told_ahead key told three place s at number reply =
       let p = one_passes (tells c key) (expiry_group l up m) told in

@@ -1,5 +1,7 @@
 pub mod Lists
+pub mod Wires
 pub mod Runs
+pub mod Numbered
 pub mod Sent
 pub mod Handshake
 pub mod PushReplies
@@ -10,7 +12,8 @@ pub mod Asked
 pub mod Since
 pub mod Voids
 pub mod Placed
-pub mod Covered
-pub mod Named
-pub mod Currency
+pub mod Settled
+pub mod SentLaws
+pub mod EntryLaws
+pub mod OneLink
 pub mod CompleteExactly

@@ -1,5 +1,5 @@
 -- What is no push of what was sent to a connection is the replies to its commands, in order.
-use Rattle.std.proofs.Common.{◌≡◌, ◌+◌, ℕ, List, [], ◌∷◌, ◌++◌, length, Bool, true, false, cond}
+use Rattle.std.proofs.Common.{◌≡◌, ◌+◌, ℕ, List, [], ◌∷◌, ◌++◌, length, Bool, false, cond}
 use Rattle.std.proofs.Common.{refl, ap, ◌∙◌, append-nil, Result, arith}
 use Rattle.std.specs.Prelude.{◌==◌}
 use Rattle.std.specs.List.{filter}
@@ -22,7 +22,8 @@ use Rattle.serial_model.specs.History.{by_proto, routed, expiry_group, reply_of,
 use Rattle.serial_model.specs.History.{effect_of}
 use Rattle.serial_model.proofs.Tables.{sent_to-append}
 use Rattle.serial_model.proofs.ServedRows.{served_cases, data_effect}
-use Rattle.currency.proofs.PushReplies.{is_push, no_push}
+use Rattle.currency.specs.Links.{is_push, is_reply_sent}
+use Rattle.currency.proofs.PushReplies.{no_push}
 
 -- ---- no reply is a push
 
@@ -43,9 +44,8 @@ reply_no_push l past id words m = grind (arith, effect_no_push)
 
 -- ---- the replies among what was sent
 
-unfoldable pub is_reply_sent : ℕ × Sending → Bool
-is_reply_sent (n, Message proto v) = cond (is_push v) false true
-is_reply_sent (n, End) = false
+abbrev pub is_reply_at : ℕ × Sending → Bool
+is_reply_at s = is_reply_sent s.1
 
 -- the replies to a connection's commands, in order
 unfoldable pub replies_of : Limits → ℕ → List Entry → List (ℕ × Sending)
@@ -59,24 +59,24 @@ replies_of l c (Take id max ∷ past) = replies_of l c past
 replies_of l c (Close id ∷ past) = replies_of l c past
 
 route_no_reply : (n c : ℕ) (p : Proto) (i : Invalidation)
-    → filter is_reply_sent (sent_to n c (by_proto p i)) ≡ []
+    → filter is_reply_at (sent_to n c (by_proto p i)) ≡ []
 unfolding is_reply_sent is_push
 route_no_reply n c p i = grind arith
 
 pub routed_no_reply : (n c : ℕ) (of : ℕ → Mode) (told : List Invalidation)
-    → filter is_reply_sent (sent_to n c (routed of told)) ≡ []
+    → filter is_reply_at (sent_to n c (routed of told)) ≡ []
 routed_no_reply n c of [] = refl
 routed_no_reply n c of (i ∷ told) =
     grind (arith, sent_to-append, filter-append, route_no_reply, routed_no_reply n c of told)
 
 reply_kept : (b : Bool) (n : ℕ) (p : Proto) (v : Value) (ss : List (ℕ × Sending))
-    → is_push v ≡ false → filter is_reply_sent ss ≡ []
-    → filter is_reply_sent (cond b ((n, Message p v) ∷ ss) ss) ≡ cond b ((n, Message p v) ∷ []) []
+    → is_push v ≡ false → filter is_reply_at ss ≡ []
+    → filter is_reply_at (cond b ((n, Message p v) ∷ ss) ss) ≡ cond b ((n, Message p v) ∷ []) []
 unfolding is_reply_sent
 reply_kept b n p v ss h none = grind (arith, common_steps)
 
 run_reply : (l : Limits) (n c : ℕ) (past : List Entry) (id : ℕ) (words : List (List ℕ)) (m : ℕ)
-    → filter is_reply_sent (sent_to n c (sends l (Run id words m) past))
+    → filter is_reply_at (sent_to n c (sends l (Run id words m) past))
     ≡ cond (id == c) ((n, (reply_of l past id words m).1) ∷ []) []
 run_reply l n c past id words m = grind (
   arith,
@@ -89,12 +89,12 @@ run_reply l n c past id words m = grind (
 )
 
 add_none : (l : Limits) (c : ℕ) (e : Entry) (past : List Entry)
-    → filter is_reply_sent (sent_to (length past + 1) c (sends l e past)) ≡ []
-    → filter is_reply_sent (sent l c past) ≡ replies_of l c past
-    → filter is_reply_sent (sent l c (e ∷ past)) ≡ replies_of l c past
+    → filter is_reply_at (sent_to (length past + 1) c (sends l e past)) ≡ []
+    → filter is_reply_at (sent l c past) ≡ replies_of l c past
+    → filter is_reply_at (sent l c (e ∷ past)) ≡ replies_of l c past
 add_none l c e past none before = grind (arith, filter-append, append-nil)
 
-close_none : (n : ℕ) (b : Bool) → filter is_reply_sent (cond b ((n, End) ∷ []) []) ≡ []
+close_none : (n : ℕ) (b : Bool) → filter is_reply_at (cond b ((n, End) ∷ []) []) ≡ []
 unfolding is_reply_sent
 close_none n b = grind (arith, common_steps)
 
@@ -102,7 +102,7 @@ out_of : (b : Bool) (xs ys : List (ℕ × Sending)) → xs ++ cond b ys [] ≡ c
 out_of b xs ys = grind (arith, common_steps)
 
 pub replies_are_of_runs : (l : Limits) (c : ℕ) (past : List Entry)
-    → filter is_reply_sent (sent l c past) ≡ replies_of l c past
+    → filter is_reply_at (sent l c past) ≡ replies_of l c past
 unfolding replies_of
 replies_are_of_runs l c [] = refl
 replies_are_of_runs l c (Tick m ∷ past) =
@@ -113,9 +113,9 @@ replies_are_of_runs l c (Close id ∷ past) =
     add_none l c (Close id) past (close_none (length past + 1) (id == c))
     (replies_are_of_runs l c past)
 replies_are_of_runs l c (Run id words m ∷ past) =
-    filter-append is_reply_sent (sent l c past)
+    filter-append is_reply_at (sent l c past)
     (sent_to (length past + 1) c (sends l (Run id words m) past))
-    ∙ ap (λ xs. filter is_reply_sent (sent l c past) ++ xs)
+    ∙ ap (λ xs. filter is_reply_at (sent l c past) ++ xs)
     (run_reply l (length past + 1) c past id words m)
     ∙ ap (λ xs. xs ++ cond (id == c) ((length past + 1, (reply_of l past id words m).1) ∷ []) [])
     (replies_are_of_runs l c past)

@@ -10,7 +10,7 @@ use Rattle.serial_model.specs.declared.history.Limits.{Limits}
 use Rattle.serial_model.specs.declared.history.Entry.{Entry}
 use Rattle.serial_model.specs.declared.history.Entry.TheVariants.{Admit, Run, Close}
 use Rattle.serial_model.specs.History.{runs_of, IsLegal, run_entries}
-use Rattle.currency.specs.Points.{up_to}
+use Rattle.currency.specs.Links.{up_to}
 use Rattle.currency.proofs.Lists.{get_front, get_parts, get_one, get_last, Behind}
 
 -- the older part of a past
