@@ -138,6 +138,13 @@ module _ (l : Limits) (heard : ℕ → List ℕ) (raw : List ℕ → List ℕ) (
             subst (λ y. WorldPart l raw y t) (append_assoc lines m.lines ls) (o.all t ls r);
       })
 
+  -- the world once so many links have flowed
+  pub first_stands : (n : ℕ) → n ≤ length w.links.links → (flow_first n w).fault ≡ None
+      → WorldStands l (heard_first n) raw (lines ++ (flow_first n w).lines)
+      (flow_first n w).state
+  unfolding Flowed
+  first_stands n le none = ((flow_stands_first n le).ends none).1
+
   pub flow_all_comes : Comes l (heard_first (length w.links.links)) raw lines
       (flow_first (length w.links.links) w)
   unfolding Flowed

@@ -22,6 +22,13 @@ mod Kept
 mod WorldKept
 mod Skipping
 mod WorldEvents
+mod ScheduleLogLines
+mod ScheduleLogMoves
+mod ScheduleLogEvents
+mod ReadLogMoves
+mod ReadLogSeats
+mod ReadLogEvents
+mod ScheduleLogs
 mod Schedules
 mod HitLines
 mod Hits

@@ -26,6 +26,7 @@ use Rattle.world_run.specs.World.{step}
 use Rattle.world_run.proofs.Clients.{place_is}
 use Rattle.world_run.proofs.LinkEvents.{part_of, stands_again}
 use Rattle.world_run.proofs.Names.{link_nowhere, link_there}
+use Rattle.world_run.proofs.ScheduleLogs.{logs_stand}
 use Rattle.world_run.proofs.WorldEvents.{event_comes}
 use Rattle.world_run.proofs.Worlds.{NoneHas, WorldPart, WorldStands, meet_part}
 
@@ -157,4 +158,5 @@ whole_history law l events w valid e =
       unread = λ name none. s.links.unread name (unplaced name w.links none);
       told = told_exactly w.links.limits w.links.past s.links.history.legal;
       clients = all_serviced law l raw lines w p;
+      logs = logs_stand l events w valid (stands_start l) e;
     }

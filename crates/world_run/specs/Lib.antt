@@ -4,4 +4,6 @@ pub mod ClientMoves
 pub mod MemberTurns
 pub mod World
 pub mod WorldTranscript
+pub mod ReadLog
+pub mod ScheduleLog
 pub mod WorldHistory

@@ -46,6 +46,7 @@ use Rattle.server_links.specs.Outcome.{Reached}
 use Rattle.world_run.specs.WorldState.{WorldState, client_named, client_of_link, data_link}
 use Rattle.world_run.specs.WorldState.{MemberState, member_at, start}
 use Rattle.world_run.specs.Members.{client_of}
+use Rattle.world_run.specs.ScheduleLog.{LogsStand}
 use Rattle.world_run.specs.WorldTranscript.{after, heard, transcript}
 use Rattle.world_run.specs.World.{step}
 
@@ -128,6 +129,7 @@ pub record OneHistory (l : Limits) (events : List Event) (lines : List Line) (w 
   -- each entry tells those that remembered a key, and drops the oldest keys past the limit alone
   pub told : ToldExactly w.links.limits w.links.past
   pub clients : AllServiced w
+  pub logs : LogsStand (start l) events lines w
 
 -- where the last event met a fault, or was broken off
 pub record PartHistory (l : Limits) (events : List Event) (lines : List Line)

@@ -1,0 +1,239 @@
+-- What a client's log gets of what its end of the link reads.
+use Rattle.std.proofs.Common.{◌≡◌, ℕ, List, [], ◌∷◌, ◌++◌, Bool, true, false, cond, not, Some, None}
+use Rattle.std.proofs.Common.{Option, length, map, take, refl, sym, ap, subst, ◌∙◌, append_assoc}
+use Rattle.std.proofs.Common.{append-nil, arith}
+use Rattle.std.specs.Prelude.{◌||◌}
+use Rattle.std.proofs.lemmas.List.{map-append}
+use Rattle.resp_value.specs.Lists.{IsPrefix}
+use Rattle.resp_value.specs.Tree.{Tree}
+use Rattle.resp_value.specs.ValueTree.{tree_of, value_of}
+use Rattle.resp_value.specs.declared.value.Value.{Value}
+use Rattle.resp_value.proofs.OneToOne.{tree_back}
+use Rattle.resp_stream.specs.declared.fault.FaultPlace.{FaultPlace}
+use Rattle.resp_stream.specs.Parse.{parse_values, values_of}
+use Rattle.resp_stream.specs.Stream.{begun, fed}
+use Rattle.shared_cache.specs.declared.log.ClientCall.{ClientCall}
+use Rattle.shared_cache.specs.declared.log.ClientCall.TheVariants as call
+use Rattle.shared_cache.specs.declared.log.ClientMode.{ClientMode}
+use Rattle.shared_cache.specs.declared.log.ClientRefusal.{ClientRefusal}
+use Rattle.shared_cache.specs.declared.log.ClientRefusal.TheVariants as refusal
+use Rattle.shared_cache.specs.declared.log.LogEntry.{LogEntry}
+use Rattle.shared_cache.specs.declared.log.LogEntry.TheVariants as entry
+use Rattle.shared_cache.specs.declared.log.Wire.{Wire}
+use Rattle.shared_cache.specs.declared.log.Wire.TheVariants.{Main, Side}
+use Rattle.shared_cache.specs.Held.{Setup}
+use Rattle.shared_cache.specs.Laws.{gots}
+use Rattle.shared_cache.specs.Log.{is_ended, is_wire}
+use Rattle.shared_cache.specs.Steps.{ClientTurn, client_step, getting, is_log_full}
+use Rattle.shared_cache.specs.Steps as steps
+use Rattle.script_text.specs.declared.line.Line.{Line}
+use Rattle.server_links.specs.Moves.{stopped_at}
+use Rattle.server_links.specs.Outcome.{Outcome, and_then, does, stays, then_by}
+use Rattle.server_links.proofs.FaultPlaces.{values_met}
+use Rattle.world_run.specs.Members.{Seat, log_of, setup_of, with_log, with_reader}
+use Rattle.world_run.specs.ClientMoves.{fault_of, got, got_all, got_one, has_ended, lines_of}
+use Rattle.world_run.specs.ClientMoves.{next_read, read_values, rest_read, stop, turn}
+use Rattle.world_run.specs.ReadLog.{ByEnd, ByValue, Ending, Going, IsGot, IsWell, ending}
+
+-- ---- outcomes that meet no fault
+
+abbrev pub Done : {S : Type 0} → (S → List Line → Type 0) → Outcome S → Type 0
+Done Q m = m.fault ≡ None → Q m.state m.lines
+
+pub done_then : {S : Type 0} → (P Q : S → List Line → Type 0) (m : Outcome S)
+    (next : S → Outcome S) → Done P m
+    → (P m.state m.lines → Done (λ s ls. Q s (m.lines ++ ls)) (next m.state))
+    → Done Q (and_then m next)
+unfolding and_then
+done_then P Q m next a g = elim m.fault as (λ f. m.fault ≡ f
+    → Done Q (then_by f m (next m.state))) [
+      | Some f ↦ λ is e. absurd (let no : Some f ≡ None = sym is ∙ e in cc)
+      | None ↦ λ is e. g (a is) e
+    ] refl
+
+pub done_if : {S : Type 0} → (Q : S → List Line → Type 0) (b : Bool) (m n : Outcome S)
+    → (b ≡ true → Done Q m) → (b ≡ false → Done Q n) → Done Q (cond b m n)
+done_if Q true m n f g = f refl
+done_if Q false m n f g = g refl
+
+pub done_turn : (Q : Seat → List Line → Type 0) (c : ClientCall) (s : Seat)
+    → (let t = client_step (setup_of s) (log_of s) c in
+    fault_of t.reply ≡ None → Q (with_log s t.past) (lines_of s c t.reply))
+    → Done Q (turn c s)
+unfolding turn and_then
+done_turn Q c s f none = f none
+
+-- ---- whether a link has ended
+
+abbrev pub is_over : Ending → Bool
+is_over Going = false
+is_over (ByValue v) = true
+is_over ByEnd = true
+
+by_wire : (b c : Bool) (e f : Ending) → is_over e ≡ true → c ≡ is_over f
+    → (b || c) ≡ is_over (cond b e f)
+by_wire true c e f over same = sym over
+by_wire false c e f over same = same
+
+pub ended_is : (m : ClientMode) (w : Wire) (log : List LogEntry)
+    → is_ended m w log ≡ is_over (ending w log)
+ended_is m w [] = refl
+ended_is m w (entry.Ask q ∷ log) = ended_is m w log
+ended_is m w (entry.Send words ∷ log) = ended_is m w log
+ended_is m w (entry.Poll n ∷ log) = ended_is m w log
+ended_is m w (entry.TakeOut u most ∷ log) = ended_is m w log
+ended_is m w (entry.Got u v ∷ log) = ended_is m w log
+ended_is m w (entry.End u ∷ log) =
+    by_wire (is_wire u w) (is_ended m w log) ByEnd (ending w log) refl (ended_is m w log)
+ended_is m w (entry.Bad u v ∷ log) =
+    by_wire (is_wire u w) (is_ended m w log) (ByValue v) (ending w log) refl (ended_is m w log)
+
+not_over : (e : Ending) → is_over e ≡ false → e ≡ Going
+not_over Going is = refl
+not_over (ByValue v) is = absurd (let no : true ≡ false = is in cc)
+not_over ByEnd is = absurd (let no : true ≡ false = is in cc)
+
+pub going_is : (m : ClientMode) (log : List LogEntry) → is_ended m Main log ≡ false
+    → ending Main log ≡ Going
+going_is m log e = not_over (ending Main log) (sym (ended_is m Main log) ∙ e)
+
+-- ---- values are got
+
+abbrev pub got_of : List LogEntry → List Tree
+got_of log = map tree_of (gots Main log)
+
+-- these are still to be got of them all
+abbrev pub Toward : List Tree → List Tree → List Tree → Ending → Type 0
+Toward all todo got Going = got ++ todo ≡ all
+Toward all todo got (ByValue v) = IsPrefix (got ++ tree_of v ∷ []) all
+Toward all todo got ByEnd = ⊥
+
+module _ (all : List Tree) where
+  abbrev Goes : List Tree → List LogEntry → Type 0
+  Goes todo log = Toward all todo (got_of log) (ending Main log)
+
+  passed : (x : Tree) (todo got : List Tree) (e : Ending) → is_over e ≡ true
+      → Toward all (x ∷ todo) got e → Toward all todo got e
+  passed x todo got Going over k = absurd (let no : false ≡ true = over in cc)
+  passed x todo got (ByValue v) over k = k
+  passed x todo got ByEnd over k = k
+
+  on_going : (todo : List Tree) (log : List LogEntry) → ending Main log ≡ Going → Goes todo log
+      → got_of log ++ todo ≡ all
+  on_going todo log going k = subst (λ e. Toward all todo (got_of log) e) going k
+
+  one_more : (x : Tree) (todo : List Tree) (gs : List Value)
+      → map tree_of gs ++ x ∷ todo ≡ all → map tree_of (gs ++ value_of x ∷ []) ++ todo ≡ all
+  one_more x todo gs e = grind (arith, map-append, tree_back, append_assoc)
+
+  goes_getting : (x : Tree) (todo : List Tree) (log : List LogEntry) (r : Option ClientRefusal)
+      (full : Bool) → ending Main log ≡ Going → Goes (x ∷ todo) log
+      → let t = getting r Main (value_of x) full log in
+      fault_of t.reply ≡ None → Goes todo t.past
+  goes_getting x todo log (Some r) full going k none =
+      subst (λ y. IsPrefix (got_of log ++ y ∷ []) all) (sym (tree_back x))
+      (todo, append_assoc (got_of log) (x ∷ []) todo ∙ on_going (x ∷ todo) log going k)
+  goes_getting x todo log None true going k none = absurd (let no : ⊥ = cc in no)
+  goes_getting x todo log None false going k none =
+      subst (λ e. Toward all todo (map tree_of (gots Main log ++ value_of x ∷ [])) e) (sym going)
+      (one_more x todo (gots Main log) (on_going (x ∷ todo) log going k))
+
+  goes_turn : (x : Tree) (todo : List Tree) (s : Setup) (log : List LogEntry)
+      → is_ended s.mode Main log ≡ false → Goes (x ∷ todo) log
+      → let t = client_step s log (call.Got Main (value_of x)) in
+      fault_of t.reply ≡ None → Goes todo t.past
+  unfolding client_step
+  goes_turn x todo s log going k =
+      let t : ClientTurn = getting (steps.fault_of s log Main (value_of x)) Main (value_of x)
+      (is_log_full s log) log in
+      subst (λ b. let u : ClientTurn = cond b (steps.refusing (refusal.Down Main) log) t in
+      fault_of u.reply ≡ None → Goes todo u.past) (sym going)
+      (goes_getting x todo log (steps.fault_of s log Main (value_of x)) (is_log_full s log)
+      (going_is s.mode log going) k)
+
+  goes_got : (x : Tree) (todo : List Tree) (s : Seat) → Goes (x ∷ todo) (log_of s)
+      → Done (λ t ls. Goes todo (log_of t)) (got (value_of x) s)
+  goes_got x todo s k =
+      done_if (λ t ls. Goes todo (log_of t)) (has_ended s) (stays s)
+      (turn (call.Got Main (value_of x)) s)
+      (λ over none. passed x todo (got_of (log_of s)) (ending Main (log_of s))
+      (sym (ended_is (setup_of s).mode Main (log_of s)) ∙ over) k)
+      (λ going. done_turn (λ t ls. Goes todo (log_of t)) (call.Got Main (value_of x)) s
+      (goes_turn x todo (setup_of s) (log_of s) going k))
+
+  goes_all : (todo : List Tree) (s : Seat) → Goes todo (log_of s)
+      → Done (λ t ls. Goes [] (log_of t)) (got_all todo s)
+  unfolding got_all got_one
+  goes_all [] s k = λ none. k
+  goes_all (x ∷ todo) s k =
+      done_then (λ t ls. Goes todo (log_of t)) (λ t ls. Goes [] (log_of t)) (got_one x s)
+      (got_all todo)
+      (done_then (λ t ls. Goes (x ∷ todo) (log_of t)) (λ t ls. Goes todo (log_of t))
+      (does s (next_read s) []) (got (value_of x)) (λ none. k)
+      (goes_got x todo (next_read s)))
+      (goes_all todo (got_one x s).state)
+
+-- ---- what stops the reading
+
+module _ (bytes : List ℕ) where
+  abbrev pub Settled : Bool → List LogEntry → Type 0
+  Settled eof log = IsGot bytes eof (got_of log) (ending Main log)
+
+  settled : (got : List Tree) (e : Ending) → (is_over e ≡ false → IsWell bytes)
+      → Toward (values_of bytes) [] got e → IsGot bytes false got e
+  settled got Going well k = (sym (append-nil got) ∙ k, well refl, refl)
+  settled got (ByValue v) well k = k
+  settled got ByEnd well k = absurd k
+
+  -- the link ends at a fault of the stream, or at an EOF
+  pub settled_end : (eof : Bool) (s : Setup) (log : List LogEntry)
+      → is_ended s.mode Main log ≡ false → got_of log ≡ values_of bytes
+      → (IsWell bytes → eof ≡ true) → Settled eof (client_step s log (call.End Main)).past
+  unfolding client_step
+  settled_end eof s log going all why =
+      subst (λ b. Settled eof (cond b log (entry.End Main ∷ log))) (sym going) (all, why)
+
+  module _ (s : Seat) (is : (parse_values (fed begun bytes)).fault
+      ≡ (parse_values s.member.reader).fault)
+      (items : got_of (log_of s) ++ (parse_values s.member.reader).items ≡ values_of bytes)
+      (going : ending Main (log_of s) ≡ Going) where
+    stop_settles : (t : Seat) → Goes (values_of bytes) [] (log_of t)
+        → Done (λ u ls. Settled false (log_of u))
+        (stop (stopped_at (parse_values s.member.reader).fault) t)
+    stop_settles t k =
+        elim (stopped_at (parse_values s.member.reader).fault) as (λ p.
+        stopped_at (parse_values s.member.reader).fault ≡ p
+        → Done (λ u ls. Settled false (log_of u)) (stop p t)) [
+          | None ↦ λ e none.
+              settled (got_of (log_of t)) (ending Main (log_of t))
+              (λ on. is ∙ values_met s.member.reader e) k
+          | Some place ↦ λ e.
+              done_if (λ u ls. Settled false (log_of u)) (has_ended t) (stays t) _
+              (λ over none. settled (got_of (log_of t)) (ending Main (log_of t))
+              (λ on. absurd (let no : true ≡ false =
+              sym over ∙ ended_is (setup_of t).mode Main (log_of t) ∙ on in cc)) k)
+              (λ on. done_then (λ u ls. u ≡ t) (λ u ls. Settled false (log_of u)) (does t t _)
+              (turn (call.End Main)) (λ none. refl)
+              (λ same. done_turn (λ u ls. Settled false (log_of u)) (call.End Main) t
+              (λ none. settled_end false (setup_of t) (log_of t) on
+              (sym (append-nil (got_of (log_of t)))
+              ∙ on_going (values_of bytes) [] (log_of t)
+              (going_is (setup_of t).mode (log_of t) on) k)
+              (λ well. absurd (let no : Some place ≡ None =
+              sym e ∙ ap stopped_at (sym is ∙ well) in cc)))))
+        ] refl
+
+    -- each whole value that was read is got
+    pub values_settle : Done (λ u ls. Settled false (log_of u)) (read_values s)
+    unfolding read_values
+    values_settle =
+        let p = parse_values s.member.reader in
+        let all = values_of bytes in
+        done_then (λ t ls. Goes all [] (log_of t)) (λ u ls. Settled false (log_of u))
+        (and_then (got_all p.items s) (rest_read p.stream)) (stop (stopped_at p.fault))
+        (done_then (λ t ls. Goes all [] (log_of t)) (λ t ls. Goes all [] (log_of t))
+        (got_all p.items s) (rest_read p.stream)
+        (goes_all all p.items s
+        (subst (λ e. Toward all p.items (got_of (log_of s)) e) (sym going) items))
+        (λ k none. k))
+        (stop_settles (and_then (got_all p.items s) (rest_read p.stream)).state)
