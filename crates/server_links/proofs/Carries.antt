@@ -1,6 +1,6 @@
 -- What every move over one link leaves of the rest: the names, the other connections, and a history
 -- whose new entries have their lines.
-use Rattle.std.proofs.Common.{◌≡◌, ◌+◌, ℕ, List, [], ◌∷◌, ◌++◌, true, false, length, take}
+use Rattle.std.proofs.Common.{◌≡◌, ◌+◌, ℕ, List, [], ◌∷◌, ◌++◌, true, false, length, take, max}
 use Rattle.std.proofs.Common.{filter, refl, sym, ap, subst, ◌∙◌, arith, append_assoc, append-nil}
 use Rattle.std.proofs.Common.{eq-eqb, length-take, length-drop}
 use Rattle.std.specs.Prelude.{◌==◌}
@@ -21,10 +21,12 @@ use Rattle.serial_model.proofs.Streams.{not_ended, unsent_live}
 use Rattle.serial_model.proofs.Turning.{step_legal}
 use Rattle.script_text.specs.declared.line.Line.{Line}
 use Rattle.server_links.specs.declared.link.Link.{Link}
+use Rattle.server_links.specs.Clock.{AreTimedBy, moments}
 use Rattle.server_links.specs.Directions.{spent}
 use Rattle.server_links.specs.EntryLines.{entry_lines, is_entry_line, name_of, reply_lines}
 use Rattle.server_links.specs.OneHistory.{read_by, read_on}
 use Rattle.server_links.specs.Session.{Session, with_past, with_link}
+use Rattle.server_links.proofs.Clock.{by_both, latest_is}
 
 pub read_more : (name : List ℕ) (xs ys : List Line)
     → read_on name (xs ++ ys) ≡ read_on name xs ++ read_on name ys
@@ -44,6 +46,7 @@ pub record Carries (s t : Session) (lines : List Line) : Type 0 where
   pub count : admitted t.past ≡ admitted s.past
   pub entries : List Entry
   pub grows : t.past ≡ entries ++ s.past
+  pub timed : IsLegal s.limits s.past → AreTimedBy s.now (moments entries) (moments s.past)
   pub others : (c : ℕ) → (s.link.id == c) ≡ false → Extends s.limits c s.past t.past
   pub mute : (name : List ℕ) → bytes_eq s.link.name name ≡ false → read_on name lines ≡ []
   pub stays_spent : s.link.down ≡ spent → t.link.down ≡ spent
@@ -64,6 +67,11 @@ carries_more s t u a b f g = record {
   entries = g.entries ++ f.entries;
   grows = g.grows ∙ ap (λ p. g.entries ++ p) f.grows
       ∙ sym (append_assoc g.entries f.entries s.past);
+  timed = λ h. by_both s.now g.entries f.entries s.past
+      (subst (λ p. AreTimedBy s.now (moments g.entries) (moments p)) f.grows
+      (subst (λ n. AreTimedBy n (moments g.entries) (moments t.past)) f.now
+      (g.timed (subst (λ l. IsLegal l t.past) (sym f.limits) (f.legal h)))))
+      (f.timed h);
   others = λ c n.
       extends_more s.limits c s.past t.past u.past (f.others c n)
       (subst (λ l. Extends l c t.past u.past) f.limits (g.others c (ap (λ i. i == c) f.id ∙ n)));
@@ -80,13 +88,32 @@ carries_more s t u a b f g = record {
       ∙ ap (λ l. entry_lines s.limits names s.past ++ l) (sym (entries_more a b));
 }
 
+same_entries : (entries ls : List Line) → filter is_entry_line ls ≡ []
+    → entries ≡ entries ++ filter is_entry_line ls
+same_entries entries ls none =
+    sym (ap (λ x. entries ++ x) none ∙ append-nil entries)
+
 -- a change of the link alone
 pub carries_link : (s : Session) (new : Link) (lines : List Line) → new.id ≡ s.link.id
     → new.name ≡ s.link.name
     → ((name : List ℕ) → bytes_eq s.link.name name ≡ false → read_on name lines ≡ [])
     → filter is_entry_line lines ≡ [] → (s.link.down ≡ spent → new.down ≡ spent)
     → Carries s (with_link s new) lines
-carries_link s new lines id named mute none still = grind (arith, extends_none, append-nil)
+carries_link s new lines id named mute none still = record {
+  limits = refl;
+  now = refl;
+  id = id;
+  named = named;
+  legal = λ h. h;
+  count = refl;
+  entries = [];
+  grows = refl;
+  timed = λ h. tt;
+  others = λ c n. extends_none s.limits c s.past;
+  mute = mute;
+  stays_spent = still;
+  printed = λ names n. same_entries (entry_lines s.limits names s.past) lines none;
+}
 
 pub carries_none : (s : Session) → Carries s s []
 carries_none s = carries_link s s.link [] refl refl (λ name n. refl) refl (λ h. h)
@@ -122,43 +149,67 @@ module _ (l : Limits) (past : List Entry) (id most : ℕ) (P : Turn
   by_take t = grind (arith, by_taking)
 
 -- what a turn of the connection adds, and prints
-record Adds (l : Limits) (id : ℕ) (words : List (List ℕ)) (past : List Entry) (t : Turn) : Type 0
-  where
-    count : admitted t.past ≡ admitted past
-    entries : List Entry
-    grows : t.past ≡ entries ++ past
-    printed : (names : List (List ℕ)) → entry_lines l names t.past
-        ≡ entry_lines l names past
-        ++ filter is_entry_line (reply_lines (name_of names id) words t.reply)
+record Adds (l : Limits) (id now : ℕ) (words : List (List ℕ)) (past : List Entry)
+    (t : Turn) : Type 0 where
+  count : admitted t.past ≡ admitted past
+  entries : List Entry
+  grows : t.past ≡ entries ++ past
+  timed : IsLegal l past → AreTimedBy now (moments entries) (moments past)
+  printed : (names : List (List ℕ)) → entry_lines l names t.past
+      ≡ entry_lines l names past
+      ++ filter is_entry_line (reply_lines (name_of names id) words t.reply)
 
-adds_nothing : (l : Limits) (id : ℕ) (words : List (List ℕ)) (past : List Entry) (reply : BookReply)
+adds_nothing : (l : Limits) (id now : ℕ) (words : List (List ℕ)) (past : List Entry)
+    (reply : BookReply)
     → ((names : List (List ℕ)) → filter is_entry_line (reply_lines (name_of names id) words reply)
-    ≡ []) → Adds l id words past (record { reply = reply; past = past })
-adds_nothing l id words past reply none = grind (arith, append-nil)
+    ≡ []) → Adds l id now words past (record { reply = reply; past = past })
+adds_nothing l id now words past reply none = record {
+  count = refl;
+  entries = [];
+  grows = refl;
+  timed = λ legal. tt;
+  printed = λ names. same_entries (entry_lines l names past)
+      (reply_lines (name_of names id) words reply) (none names);
+}
 
 run_adds : (l : Limits) (past : List Entry) (id now : ℕ) (words : List (List ℕ))
-    → Adds l id words past (book_step l past (call.Run id words now))
-run_adds l past id now words = by_run l past id now words (Adds l id words past)
-    (adds_nothing l id words past _ (λ names. refl))
-    (adds_nothing l id words past _ (λ names. refl))
-    (record { count = refl; entries = _ ∷ []; grows = refl; printed = λ names. refl })
+    → Adds l id now words past (book_step l past (call.Run id words now))
+run_adds l past id now words = by_run l past id now words (Adds l id now words past)
+    (adds_nothing l id now words past _ (λ names. refl))
+    (adds_nothing l id now words past _ (λ names. refl))
+    (record {
+      count = refl;
+      entries = _ ∷ [];
+      grows = refl;
+      timed = λ legal. (ap (max now) (sym (latest_is l past legal)), tt);
+      printed = λ names. refl;
+    })
 
-close_adds : (l : Limits) (past : List Entry) (id : ℕ)
-    → Adds l id [] past (book_step l past (call.Close id))
-close_adds l past id =
-    by_close l past id (Adds l id [] past) (adds_nothing l id [] past _ (λ names. refl))
-    (record { count = refl; entries = _ ∷ []; grows = refl; printed = λ names. refl })
+close_adds : (l : Limits) (past : List Entry) (id now : ℕ)
+    → Adds l id now [] past (book_step l past (call.Close id))
+close_adds l past id now =
+    by_close l past id (Adds l id now [] past)
+    (adds_nothing l id now [] past _ (λ names. refl))
+    (record {
+      count = refl;
+      entries = _ ∷ [];
+      grows = refl;
+      timed = λ legal. tt;
+      printed = λ names. refl;
+    })
 
-take_adds : (l : Limits) (past : List Entry) (id most : ℕ)
-    → Adds l id [] past (book_step l past (call.Take id most))
+take_adds : (l : Limits) (past : List Entry) (id now most : ℕ)
+    → Adds l id now [] past (book_step l past (call.Take id most))
 unfolding took
-take_adds l past id most = by_take l past id most (Adds l id [] past)
-    (adds_nothing l id [] past _ (λ names. refl)) (adds_nothing l id [] past _ (λ names. refl))
-    (adds_nothing l id [] past _ (λ names. refl))
+take_adds l past id now most = by_take l past id most (Adds l id now [] past)
+    (adds_nothing l id now [] past _ (λ names. refl))
+    (adds_nothing l id now [] past _ (λ names. refl))
+    (adds_nothing l id now [] past _ (λ names. refl))
     (λ on. record {
       count = refl;
       entries = _ ∷ [];
       grows = refl;
+      timed = λ legal. tt;
       printed = grind (arith, unsent_live, not_ended, length-take, length-drop, eq-eqb);
     })
 
@@ -167,31 +218,31 @@ pub mute_reply : (name link : List ℕ) (words : List (List ℕ)) (reply : BookR
 mute_reply name link words reply = grind arith
 
 carries_turn : (s : Session) (c : BookCall) (words : List (List ℕ))
-    → Adds s.limits s.link.id words s.past (book_step s.limits s.past c)
+    → Adds s.limits s.link.id s.now words s.past (book_step s.limits s.past c)
     → ((d : ℕ) → (s.link.id == d) ≡ false
     → Extends s.limits d s.past (book_step s.limits s.past c).past)
     → let t : Turn = book_step s.limits s.past c in
     Carries s (with_past s t.past) (reply_lines s.link.name words t.reply)
 carries_turn s c words a others = grind (arith, step_legal, mute_reply, filter)
 
-pub run_carries : (s : Session) (now : ℕ) (words : List (List ℕ)) →
-    let t : Turn = book_step s.limits s.past (call.Run s.link.id words now) in
+pub run_carries : (s : Session) (words : List (List ℕ)) →
+    let t : Turn = book_step s.limits s.past (call.Run s.link.id words s.now) in
     Carries s (with_past s t.past) (reply_lines s.link.name words t.reply)
-run_carries s now words =
-    carries_turn s (call.Run s.link.id words now) words
-    (run_adds s.limits s.past s.link.id now words)
-    (λ d n. others_extend s.limits d s.past (call.Run s.link.id words now) n)
+run_carries s words =
+    carries_turn s (call.Run s.link.id words s.now) words
+    (run_adds s.limits s.past s.link.id s.now words)
+    (λ d n. others_extend s.limits d s.past (call.Run s.link.id words s.now) n)
 
 pub take_carries : (s : Session) (most : ℕ) →
     let t : Turn = book_step s.limits s.past (call.Take s.link.id most) in
     Carries s (with_past s t.past) (reply_lines s.link.name [] t.reply)
 take_carries s most =
-    carries_turn s (call.Take s.link.id most) [] (take_adds s.limits s.past s.link.id most)
+    carries_turn s (call.Take s.link.id most) [] (take_adds s.limits s.past s.link.id s.now most)
     (λ d n. others_extend s.limits d s.past (call.Take s.link.id most) n)
 
 pub close_carries : (s : Session) →
     let t : Turn = book_step s.limits s.past (call.Close s.link.id) in
     Carries s (with_past s t.past) (reply_lines s.link.name [] t.reply)
 close_carries s =
-    carries_turn s (call.Close s.link.id) [] (close_adds s.limits s.past s.link.id)
+    carries_turn s (call.Close s.link.id) [] (close_adds s.limits s.past s.link.id s.now)
     (λ d n. others_extend s.limits d s.past (call.Close s.link.id) n)

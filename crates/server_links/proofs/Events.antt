@@ -33,6 +33,7 @@ use Rattle.server_links.proofs.Outcomes.{Meets, meets_once, meets_refuses, meets
 use Rattle.server_links.proofs.Outcomes.{meets_weaker, meets_within, reached_within, Fronts}
 use Rattle.server_links.proofs.Outcomes.{fronts_refuses, fronts_once, fronts_stays, fronts_within}
 use Rattle.server_links.proofs.Outcomes.{fronts_reached}
+use Rattle.server_links.proofs.Timing.{keeps_time}
 use Rattle.server_links.proofs.Moments.{still_stands, tick_goes_on, tick_stands}
 use Rattle.resp_value.specs.Lists.{IsPrefix}
 use Rattle.server_links.proofs.Moving.{Every, every_move}
@@ -325,6 +326,7 @@ whole_history l events w e =
           (said_to (at_place w.links at).name events) (read_on (at_place w.links at).name lines)
           (session_at at w) (s.accounts at lt);
       unread = λ name none. s.unread name (unplaced name w none);
+      clock = keeps_time events (start l) w tt e;
     }
 
 pub follows : (l : Limits) (events : List LinkEvent) (w : LinksState)

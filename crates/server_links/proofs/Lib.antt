@@ -1,4 +1,5 @@
 pub mod Outcomes
+pub mod Clock
 pub mod Carries
 pub mod Moments
 pub mod Moving
@@ -10,6 +11,7 @@ pub mod Names
 pub mod NameLists
 pub mod LinksStand
 pub mod Events
+pub mod Timing
 pub mod Delivery
 pub mod Playing
 pub mod Items

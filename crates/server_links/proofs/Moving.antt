@@ -75,7 +75,7 @@ pub every_run_one : (words : List (List ℕ)) (s : Session) → Every s (run_one
 unfolding run_one turn
 every_run_one words s =
     every_then s _ _ (every_quiet s s.link.up s.link.down (next_read s).link.reader (λ h. h))
-    (λ t. every_turned t words _ (run_carries t t.now words))
+    (λ t. every_turned t words _ (run_carries t words))
 
 pub every_run_all : (requests : List (List (List ℕ))) (s : Session) → Every s (run_all requests s)
 unfolding run_all

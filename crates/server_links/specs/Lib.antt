@@ -11,4 +11,5 @@ pub mod Turns
 pub mod Moves
 pub mod LinkSteps
 pub mod Transcript
+pub mod Clock
 pub mod OneHistory

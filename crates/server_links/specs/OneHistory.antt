@@ -19,6 +19,7 @@ use Rattle.server_links.specs.declared.link.Link.{Link}
 use Rattle.server_links.specs.Faults.{IsRefusal}
 use Rattle.server_links.specs.Directions.{is_open}
 use Rattle.server_links.specs.EntryLines.{entry_lines, is_entry_line}
+use Rattle.server_links.specs.Clock.{KeepsTime}
 use Rattle.server_links.specs.Moves.{all_bytes, flow}
 use Rattle.server_links.specs.Outcome.{Reached}
 use Rattle.server_links.specs.Transcript.{after, heard, transcript}
@@ -126,6 +127,8 @@ pub record OneHistory (l : Limits) (events : List LinkEvent) (lines : List Line)
       Serves w.limits (heard (start l) at events) (said_to link.name events)
       (read_on link.name lines) w.past link
   pub unread : (name : List ℕ) → place_of name w ≡ None → read_on name lines ≡ []
+  -- the clock begins at 0
+  pub clock : KeepsTime 0 (start l) events
 
 -- where the last event met a fault, or was broken off
 pub record PartHistory (l : Limits) (events : List LinkEvent) (lines : List Line)
