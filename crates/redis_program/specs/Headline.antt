@@ -23,8 +23,8 @@ use Rattle.server_links.specs.Outcome.{Reached}
 use Rattle.world_run.specs.WorldState.{WorldState, start}
 use Rattle.world_run.specs.World.{step}
 use Rattle.world_run.specs.WorldTranscript.{after, transcript}
-use Rattle.world_run.specs.WorldHistory.{AllHitsStand, FlowDelivers, Follows, HitStands}
-use Rattle.world_run.specs.WorldHistory.{OneHistory}
+use Rattle.world_run.specs.WorldFlows.{FlowDelivers}
+use Rattle.world_run.specs.WorldHistory.{AllHitsStand, Follows, HitStands, OneHistory}
 use Rattle.redis_program.specs.declared.status.Status.{Status}
 use Rattle.redis_program.specs.declared.status.Status.TheVariants as status
 use Rattle.redis_program.specs.declared.status.Ending.{Ending}
@@ -135,7 +135,7 @@ IsVerdict limits lines answer =
 
 -- The lines are those of the events, these met no fault, and one history serves all links. What a
 -- client holds is what the server would answer, and each answer from a cache stands at its point of
--- the history. A raw link that is not cut would deliver all of its bytes in a flow.
+-- the history. A link that is not cut would deliver all of its bytes in a flow.
 pub record Plays (limits : Limits) (lines : List (List ℕ)) (events : List Event) (w : WorldState)
     : Type 0 where
   pub lines_are : AreLinesOf 1 lines events

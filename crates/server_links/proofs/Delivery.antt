@@ -1,7 +1,8 @@
 -- A link that flows has nothing in flight then, and nothing left to send.
 use Rattle.std.proofs.Common.{◌≡◌, ◌<◌, ◌≤◌, ℕ, List, [], ◌∷◌, Bool, true, false, cond, Some, None}
 use Rattle.std.proofs.Common.{Option, length, take, refl, sym, ap, subst, ◌∙◌, arith, eq-eqb}
-use Rattle.std.specs.Prelude.{slice_set}
+use Rattle.std.specs.Prelude.{position, slice_set}
+use Rattle.std.specs.Str.{bytes_eq}
 use Rattle.std.proofs.lemmas.List.{drop_all, length-drop, get_or-set_same}
 use Rattle.resp_stream.specs.declared.fault.FaultPlace.{FaultPlace}
 use Rattle.resp_stream.specs.Parse.{parse}
@@ -12,31 +13,37 @@ use Rattle.serial_model.specs.History.{reads_on, gives_on, is_admitted, stream, 
 use Rattle.serial_model.specs.Steps.{Turn, book_step, taking}
 use Rattle.serial_model.proofs.Streams.{stream_take, unsent_live, unsent_take_own}
 use Rattle.server_links.specs.declared.link.Link.{Link}
+use Rattle.server_links.specs.declared.link.LinkMove.TheVariants as moves
 use Rattle.server_links.specs.Directions.{is_open, is_queued, past_eof, without_bytes}
 use Rattle.server_links.specs.EntryLines.{reply_fault}
+use Rattle.server_links.specs.LinkEvent.{LinkEvent, Over}
 use Rattle.server_links.specs.Moves.{turned, turn, next_read, run_one, run_all, close, stop}
 use Rattle.server_links.specs.Moves.{rest_read, run_requests, run_fed, stopped_at, feed, serve_all}
 use Rattle.server_links.specs.Moves.{take_down, all_bytes, send_all, receive_all, flow, read_bytes}
-use Rattle.server_links.specs.Moves.{read_eof}
+use Rattle.server_links.specs.Moves.{read_eof, move_of}
 use Rattle.server_links.specs.OneHistory.{FlowDelivers}
 use Rattle.server_links.specs.Outcome.{Outcome, and_then, does, stays, within}
-use Rattle.server_links.specs.Session.{Session, session_at}
-use Rattle.server_links.proofs.Moving.{every_serve_all, every_flow}
+use Rattle.server_links.specs.Session.{Session, session_at, with_session}
+use Rattle.server_links.proofs.Carries.{Carries}
+use Rattle.server_links.proofs.Events.{step_is}
+use Rattle.server_links.proofs.Moving.{every_serve_all, every_move}
+use Rattle.server_links.proofs.Names.{AreUnique, place_is, placed}
+use Rattle.server_links.proofs.NameLists.{names_set, place_by}
 use Rattle.server_links.proofs.AccountRuns.{both}
-use Rattle.server_links.specs.LinkSteps.{over}
-use Rattle.server_links.specs.LinksState.{LinksState, at_place, fresh_link}
+use Rattle.server_links.specs.LinkSteps.{Stepped, link_named, over, over_named, place_of, step}
+use Rattle.server_links.specs.LinksState.{LinksState, at_place, fresh_link, names}
 
 -- where it ends without a fault
-Ends : (Session → Type 0) → Outcome Session → Type 0
+unfoldable pub Ends : {S : Type 0} → (S → Type 0) → Outcome S → Type 0
 Ends Q m = m.fault ≡ None → Q m.state
 
-ends_then : (P Q : Session → Type 0) (m : Outcome Session) (next : Session → Outcome Session)
-    → Ends P m → ((t : Session) → P t → Ends Q (next t)) → Ends Q (and_then m next)
+pub ends_then : {S : Type 0} → (P Q : S → Type 0) (m : Outcome S) (next : S → Outcome S)
+    → Ends P m → ((t : S) → P t → Ends Q (next t)) → Ends Q (and_then m next)
 unfolding and_then Ends
 ends_then P Q m next h g = grind arith
 
 -- nothing is in flight to the server, and the way back is open
-Heard : Session → Type 0
+unfoldable pub Heard : Session → Type 0
 Heard s = (s.link.up.bytes ≡ []) × (is_open s.link.down.eof ≡ true)
 
 heard_run_all : (requests : List (List (List ℕ))) (s : Session) → Heard s
@@ -78,7 +85,7 @@ heard_serve s on opened =
     (heard_run_fed (is_queued s.link.up.eof)))
 
 -- nothing is left to send, unless it is more than one Take can ask for
-Given : Session → Type 0
+unfoldable pub Given : Session → Type 0
 Given s = (s.link.up.bytes ≡ []) × (length (stream s.limits s.link.id s.past) ≤ all_bytes
     → unsent s.limits s.link.id s.past ≡ [])
 
@@ -117,10 +124,10 @@ given_send : (s : Session) → Heard s → is_admitted s.past s.link.id ≡ true
 unfolding Heard Ends Given
 given_send s h on = grind (arith, given_take, ended_given)
 
-Delivered : Session → Type 0
+unfoldable pub Delivered : Session → Type 0
 Delivered s = Given s × (s.link.down.bytes ≡ [])
 
-delivered_read : (s : Session) → Given s → Ends Delivered (receive_all s)
+pub delivered_read : (s : Session) → Given s → Ends Delivered (receive_all s)
 unfolding receive_all Ends Given Delivered
 delivered_read s g =
     ends_then Delivered Delivered (read_bytes s.link.down.bytes (without_bytes s.link.down) s)
@@ -133,31 +140,85 @@ still_admitted s on e =
     let c = (every_serve_all s).carries.ends e in
     grind (arith, both)
 
-Served : Session → Type 0
+-- the server reads on, and the way back is open
+unfoldable pub Flows : Session → Type 0
+Flows s = (reads_on s.limits s.past s.link.id ≡ true) × (is_open s.link.down.eof ≡ true)
+
+unfoldable pub Served : Session → Type 0
 Served s = Heard s × (is_admitted s.past s.link.id ≡ true)
 
-flow_delivered : (s : Session) → reads_on s.limits s.past s.link.id ≡ true
-    → is_open s.link.down.eof ≡ true → Ends Delivered (flow s)
-unfolding flow Ends Delivered Heard Given Served
-flow_delivered s on opened =
-    ends_then Served Delivered (serve_all s) _
-    (λ e. (heard_serve s on opened e, still_admitted s on e))
-    (λ u h. ends_then Given Delivered (send_all u) receive_all (given_send u h.0 h.1)
-    delivered_read)
+pub flow_serves : (s : Session) → Flows s → Ends Served (serve_all s)
+unfolding Ends Served Flows
+flow_serves s f = λ e. (heard_serve s f.0 f.1 e, still_admitted s f.0 e)
 
-pub flow_delivers : (w : LinksState) (at : ℕ) → at < length w.links → FlowDelivers w at
-unfolding over within Ends Delivered Given
-flow_delivers w at below on up_open down_open none =
-    let s = session_at at w in
-    let m = flow s in
-    let d = flow_delivered s on down_open none in
-    let c = (every_flow s).carries.ends none in
-    let there : at_place (slice_set w.links at m.state.link) at ≡ m.state.link =
-    get_or-set_same w.links at m.state.link (fresh_link 0 []) below in (
-      ap (λ (x : Link). x.up.bytes) there ∙ d.0.0,
-      ap (λ (x : Link). x.down.bytes) there ∙ d.1,
-      subst (λ l. length (stream l s.link.id m.state.past) ≤ all_bytes
-          → unsent l s.link.id m.state.past ≡ []) c.limits
-          (subst (λ i. length (stream m.state.limits i m.state.past) ≤ all_bytes
-          → unsent m.state.limits i m.state.past ≡ []) c.id d.0.1),
-    )
+pub flow_sends : (s : Session) → Served s → Ends Given (send_all s)
+unfolding Served
+flow_sends s h = given_send s h.0 h.1
+
+flow_delivered : (s : Session) → Flows s → Ends Delivered (flow s)
+unfolding flow
+flow_delivered s f =
+    ends_then Served Delivered (serve_all s) _ (flow_serves s f)
+    (λ u h. ends_then Given Delivered (send_all u) receive_all (flow_sends u h) delivered_read)
+
+-- ---- an event over a link, as its move
+
+module _ (w : LinksState) (at : ℕ) (event : LinkEvent) (name : List ℕ)
+    (own : link_named event ≡ Some name) (found : place_of name w ≡ Some at) where
+  abbrev m : Outcome Session
+  m = move_of event (session_at at w)
+
+  pub event_is : step w event ≡ over at (move_of event) w
+  event_is = step_is w name event own ∙ ap (λ p. over_named p (move_of event) w) found
+
+  pub fault_is : (step w event).fault ≡ m.fault
+  unfolding over within
+  fault_is = ap (λ (o : Stepped). o.fault) event_is
+
+  state_is : (step w event).state ≡ with_session at w m.state
+  unfolding over within
+  state_is = ap (λ (o : Stepped). o.state) event_is
+
+  carried : m.fault ≡ None → Carries (session_at at w) m.state m.lines
+  carried none = (every_move event (session_at at w)).carries.ends none
+
+  -- the link is as the move left it
+  pub session_is : (step w event).fault ≡ None → session_at at (step w event).state ≡ m.state
+  session_is none =
+      let c = carried (sym fault_is ∙ none) in
+      let there : at_place (slice_set w.links at m.state.link) at ≡ m.state.link =
+      get_or-set_same w.links at m.state.link (fresh_link 0 []) (placed name w at found).0 in
+      ap (session_at at) state_is
+      ∙ ap (λ (x : Link). record { limits = w.limits; now = w.now; past = m.state.past; link = x })
+      there
+      ∙ ap (λ l. record { limits = l; now = w.now; past = m.state.past; link = m.state.link })
+      (sym c.limits)
+      ∙ ap (λ n. record {
+        limits = m.state.limits;
+        now = n;
+        past = m.state.past;
+        link = m.state.link;
+      }) (sym c.now)
+
+  -- and is found as before
+  pub still_found : (step w event).fault ≡ None → place_of name (step w event).state ≡ Some at
+  still_found none =
+      let c = carried (sym fault_is ∙ none) in
+      let same : names (step w event).state.links ≡ names w.links =
+      ap (λ (v : LinksState). names v.links) state_is ∙ names_set w.links at m.state.link c.named in
+      sym (place_by name (step w event).state) ∙ ap (position (λ n. bytes_eq n name)) same
+      ∙ place_by name w ∙ found
+
+pub flow_delivers : (w : LinksState) (at : ℕ) → AreUnique w → at < length w.links
+    → FlowDelivers w at
+unfolding Ends Delivered Given Flows
+flow_delivers w at unique below on up_open down_open none =
+    let name = (at_place w.links at).name in
+    let event = Over name moves.Flow in
+    let found = place_is w unique name at below refl in
+    let v = (step w event).state in
+    let d : Delivered (session_at at v) =
+    subst Delivered (sym (session_is w at event name refl found none))
+    (flow_delivered (session_at at w) (on, down_open)
+    (sym (fault_is w at event name refl found) ∙ none)) in
+    record { up = d.0.0; down = d.1; sent = d.0.1 }

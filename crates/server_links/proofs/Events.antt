@@ -28,7 +28,7 @@ use Rattle.server_links.specs.Transcript.{after}
 use Rattle.server_links.specs.LinkSteps.{Stepped, place_of, over, over_named, raw_step, link_named}
 use Rattle.server_links.specs.LinkSteps.{step, tick, admitting as admitting_link}
 use Rattle.server_links.specs.LinksState.{LinksState, start, at_place}
-use Rattle.server_links.proofs.Names.{placed, unplaced}
+use Rattle.server_links.proofs.Names.{AreUnique, placed, unplaced}
 use Rattle.server_links.proofs.Outcomes.{Meets, meets_once, meets_refuses, meets_stays}
 use Rattle.server_links.proofs.Outcomes.{meets_weaker, meets_within, reached_within, Fronts}
 use Rattle.server_links.proofs.Outcomes.{fronts_refuses, fronts_once, fronts_stays, fronts_within}
@@ -314,6 +314,11 @@ serves heard said read s a = record {
   runs_front = ([], append-nil _ ∙ a.runs);
   runs_all = λ e. a.runs;
 }
+
+pub are_unique : (l : Limits) (events : List LinkEvent) (w : LinksState)
+    → after (start l) events ≡ Some w → AreUnique w
+are_unique l events w e =
+    (stands_after l events (λ i. []) (λ n. []) [] (start l) w (stands_start l) e).unique
 
 pub whole_history : (l : Limits) (events : List LinkEvent) (w : LinksState)
     → after (start l) events ≡ Some w → OneHistory l events (transcript (start l) events) w

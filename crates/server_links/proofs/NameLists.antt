@@ -106,6 +106,11 @@ names_more links new = map-append (λ (l : Link). l.name) links (new ∷ [])
 pub names_size : (links : List Link) → length (names links) ≡ length links
 names_size links = length-map links (λ (l : Link). l.name)
 
+-- a link is found among the names
+pub place_by : (name : List ℕ) (w : LinksState)
+    → position (λ n. bytes_eq n name) (names w.links) ≡ place_of name w
+place_by name w = position_map (λ (l : Link). l.name) (λ n. bytes_eq n name) w.links
+
 -- ---- each name is one link's
 
 apart_more : (ns : List (List ℕ)) (name : List ℕ) → AreApart ns
@@ -114,9 +119,8 @@ apart_more ns name apart new i j li lj e =
     grind (arith, length-append, slice_index_or, get_or_append_left, get_or_push, cases_lt)
 
 module _ (ns : List (List ℕ)) (w : LinksState) (are : AreNames ns w.links) where
-  -- a link is found among the names
   pub name_place : (name : List ℕ) → position (λ n. bytes_eq n name) ns ≡ place_of name w
-  name_place name = grind (arith, position_map)
+  name_place name = ap (position (λ n. bytes_eq n name)) are.all ∙ place_by name w
 
   -- at the place where it is
   pub own_place : (at : ℕ) → at < length w.links

@@ -12,6 +12,7 @@ use Rattle.serial_model.specs.declared.history.Limits.{Limits}
 use Rattle.serial_model.specs.declared.history.Entry.{Entry}
 use Rattle.serial_model.specs.History.{admitted, reads_on, runs_of, stream, taken, unsent, IsLegal}
 use Rattle.server_links.specs.LinkEvent.{LinkEvent, Raw, Put, Over, Now, Tick}
+use Rattle.server_links.specs.declared.link.LinkMove.TheVariants as moves
 use Rattle.script_text.specs.declared.line.Line.{Line}
 use Rattle.script_text.specs.declared.line.Line.TheVariants as line
 use Rattle.server_links.specs.declared.fault.WorldFault.{WorldFault}
@@ -20,10 +21,10 @@ use Rattle.server_links.specs.Faults.{IsRefusal}
 use Rattle.server_links.specs.Directions.{is_open}
 use Rattle.server_links.specs.EntryLines.{entry_lines, is_entry_line}
 use Rattle.server_links.specs.Clock.{KeepsTime}
-use Rattle.server_links.specs.Moves.{all_bytes, flow}
+use Rattle.server_links.specs.Moves.{all_bytes}
 use Rattle.server_links.specs.Outcome.{Reached}
 use Rattle.server_links.specs.Transcript.{after, heard, transcript}
-use Rattle.server_links.specs.LinkSteps.{link_named, over, place_of, step}
+use Rattle.server_links.specs.LinkSteps.{link_named, place_of, step}
 use Rattle.server_links.specs.LinksState.{LinksState, at_place, names, start}
 
 -- ---- what schedules and lines say
@@ -155,19 +156,23 @@ pub record Follows (l : Limits) (events : List LinkEvent) (lines : List Line) (w
   pub grows : new.past ≡ entries ++ w.past
   pub others : (name : List ℕ) → link_named event ≡ Some name → OthersKept w name new
 
--- A link that is not cut, and whose server reads on, flows without a fault: nothing is in flight
--- then,
--- and nothing is left to send, where a Take can ask for all of it.
+-- Nothing is in flight over this link, and nothing is left to send, where a Take can ask for all of
+-- it.
+pub record IsDelivered (w : LinksState) (link : Link) : Type 0 where
+  pub up : link.up.bytes ≡ []
+  pub down : link.down.bytes ≡ []
+  pub sent : length (stream w.limits link.id w.past) ≤ all_bytes
+      → unsent w.limits link.id w.past ≡ []
+
+-- A link that is not cut, and whose server reads on, delivers all that was there once it flows
+-- without a fault.
 abbrev pub FlowDelivers : LinksState → ℕ → Type 0
 FlowDelivers w at =
     let link = at_place w.links at in
-    let new = over at flow w in
-    let link' = at_place new.state.links at in
+    let new = step w (Over link.name moves.Flow) in
     reads_on w.limits w.past link.id ≡ true → is_open link.up.eof ≡ true
     → is_open link.down.eof ≡ true → new.fault ≡ None
-    → (link'.up.bytes ≡ []) × (link'.down.bytes ≡ [])
-    × (length (stream w.limits link.id new.state.past) ≤ all_bytes
-    → unsent w.limits link.id new.state.past ≡ [])
+    → IsDelivered new.state (at_place new.state.links at)
 
 -- So it is after any schedule that meets no fault; and one more event, done or broken off, stays
 -- within it.

@@ -27,7 +27,7 @@ use Rattle.server_links.specs.Moves.{all_bytes}
 use Rattle.server_links.specs.OneHistory.{read_on, said_by}
 use Rattle.server_links.specs.Outcome.{Outcome, and_then, does, refuses, stays, within}
 use Rattle.server_links.specs.Transcript.{heard_at, is_place}
-use Rattle.server_links.proofs.Names.{names_itself, placed, unplaced}
+use Rattle.server_links.proofs.Names.{names_itself, place_is}
 use Rattle.world_run.specs.WorldState.{WorldState, MemberState, member_at}
 use Rattle.world_run.specs.Members.{Seat, link_of, links_do, seat_at, with_seat}
 use Rattle.world_run.specs.ClientMoves.{bytes_of, feed, flow, hang_up, has_ended, held_lines}
@@ -49,19 +49,6 @@ pub one_heard : (l : Limits) (heard heard' : ℕ → List ℕ) (raw : List ℕ �
     → One l raw at (λ ls u. Holds l heard raw M ls u) lines w m
     → One l raw at (λ ls u. Holds l heard' raw M ls u) lines w m
 one_heard l heard heard' raw at M lines w m same h = grind arith
-
--- a link is found by its name
-pub place_is : (ls : LinksState)
-    → ((i j : ℕ) → i < length ls.links → j < length ls.links
-    → (at_place ls.links j).name ≡ (at_place ls.links i).name → j ≡ i)
-    → (name : List ℕ) (at : ℕ) → at < length ls.links → (at_place ls.links at).name ≡ name
-    → place_of name ls ≡ Some at
-place_is ls unique name at below is =
-    elim (place_of name ls) as (λ p. place_of name ls ≡ p → p ≡ Some at) [
-      | None ↦ λ none. absurd (unplaced name ls none at below is)
-      | Some k ↦ λ there. (let p = placed name ls k there in
-          ap Some (unique at k below p.0 (p.1 ∙ sym is)))
-    ] refl
 
 -- nothing is in flight to the client
 abbrev pub NoBytes : LinksState → ℕ → Type 0

@@ -12,13 +12,14 @@ use Rattle.server_links.specs.LinksState.{at_place}
 use Rattle.server_links.specs.LinkSteps.{place_of}
 use Rattle.server_links.specs.Outcome.{within}
 use Rattle.server_links.specs.Transcript.{heard_at, is_place, reads_at}
+use Rattle.server_links.proofs.Names.{place_is}
 use Rattle.server_links.proofs.Outcomes.{Meets, meets_then}
 use Rattle.world_run.specs.WorldState.{WorldState, client_of_link, member_at}
 use Rattle.world_run.specs.Members.{Seat, seat_at, with_seat}
 use Rattle.world_run.specs.ClientMoves as client
 use Rattle.world_run.specs.World.{client_does, flow_at, flow_first, flow_step, links_step}
 use Rattle.world_run.specs.WorldTranscript.{flow_heard, flowing}
-use Rattle.world_run.proofs.Clients.{flow_stands, out_link, out_place, out_stands, place_is}
+use Rattle.world_run.proofs.Clients.{flow_stands, out_link, out_place, out_stands}
 use Rattle.world_run.proofs.LinkEvents.{Comes, comes_apart, comes_as, comes_client, comes_same}
 use Rattle.world_run.proofs.LinkEvents.{stands_again}
 use Rattle.world_run.proofs.Links.{name_of_event}

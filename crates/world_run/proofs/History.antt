@@ -19,8 +19,7 @@ use Rattle.world_run.specs.WorldHistory.{HaveLinks, HitStands, RefusalsChangeNot
 use Rattle.world_run.specs.WorldHistory.{StaysInHistory, said_to}
 use Rattle.world_run.specs.WorldTranscript.{after, heard, heard_at, transcript}
 use Rattle.world_run.specs.World.{StepGives, step}
-use Rattle.server_links.proofs.Delivery.{flow_delivers}
-use Rattle.world_run.proofs.Clients.{place_is}
+use Rattle.server_links.proofs.Names.{place_is}
 use Rattle.world_run.proofs.Hits.{hits_stand}
 use Rattle.world_run.proofs.LinkEvents.{part_of}
 use Rattle.world_run.proofs.Others.{others_kept, printed_first}
@@ -28,6 +27,7 @@ use Rattle.world_run.proofs.RefusedEvents.{unchanged}
 use Rattle.world_run.proofs.Schedules.{all_serviced, part_history, stands_start, stands_then}
 use Rattle.world_run.proofs.Schedules.{whole_history}
 use Rattle.world_run.proofs.WorldEvents.{event_comes}
+use Rattle.world_run.proofs.WorldFlows.{flow_delivers}
 use Rattle.world_run.proofs.WorldKept.{step_grows}
 use Rattle.world_run.proofs.Worlds.{WorldStands}
 
@@ -94,7 +94,8 @@ one_history law l events w valid e = (
   whole_history law l events w valid e,
   follows law l events w valid e,
   all_hits law l events (λ i. []) (λ n. []) [] (start l) w valid (stands_start l) e,
-  (λ at lt none. flow_delivers w.links at lt),
+  flow_delivers l (λ i. heard (start l) i events) (λ n. said_to n events)
+      (transcript (start l) events) w (stands_then l events w valid e),
 )
 
 -- what was done, whole or in part, is reached

@@ -1,7 +1,8 @@
 -- What each move of a client leaves as it was, and that what is printed by then begins what it
 -- prints.
 use Rattle.std.proofs.Common.{◌≡◌, ℕ, List, [], ◌∷◌, ◌++◌, Bool, cond, not, Some, None, Option}
-use Rattle.std.proofs.Common.{length, refl, sym, ap, ◌∙◌, append_assoc, length-set, take, arith}
+use Rattle.std.proofs.Common.{length, refl, sym, ap, subst, ◌∙◌, append_assoc, length-set, take}
+use Rattle.std.proofs.Common.{arith}
 use Rattle.std.specs.Prelude.{◌&&◌, nat_le}
 use Rattle.std.proofs.lemmas.List.{get_or-set_other}
 use Rattle.resp_value.specs.Tree.{Tree}
@@ -32,11 +33,12 @@ use Rattle.server_links.specs.Session.{Session, session_at, with_session}
 use Rattle.server_links.proofs.Carries.{Carries}
 use Rattle.server_links.proofs.Ended.{StayOver, over_both, over_moved, over_same}
 use Rattle.server_links.proofs.Names.{placed}
+use Rattle.server_links.proofs.Timing.{Timely, Times, named_timely, timely_both, timely_same}
 use Rattle.server_links.proofs.Outcomes.{Fronts, fronts_once, fronts_refuses, fronts_stays}
 use Rattle.server_links.proofs.Outcomes.{fronts_then, fronts_within, Meets, meets_once}
 use Rattle.server_links.proofs.Outcomes.{meets_refuses, meets_stays, meets_then, meets_weaker}
 use Rattle.server_links.proofs.Outcomes.{meets_within}
-use Rattle.world_run.specs.Members.{Seat, link_of, links_do, with_log, with_reader}
+use Rattle.world_run.specs.Members.{Seat, link_of, links_do, with_links, with_log, with_reader}
 use Rattle.world_run.specs.ClientMoves.{bytes_of, feed, flow, got, got_all, got_one}
 use Rattle.world_run.specs.ClientMoves.{hang_up, has_ended, next_read, out, print}
 use Rattle.world_run.specs.ClientMoves.{read_values, receive, receive_bytes, receive_eof, rest_read}
@@ -117,16 +119,31 @@ named_kept event w name = grind (arith, meets_refuses, links_same, over_kept, pl
 
 pub record Kept (s t : Seat) : Type 0 where
   pub links : LinksKept s.links s.member.link t.links
+  pub timely : Timely s.links.now s.links t.links
   pub link : t.member.link ≡ s.member.link
 
 kept_same : (s : Seat) → Kept s s
-kept_same s = record { links = links_same s.links s.member.link; link = refl }
+kept_same s = record {
+  links = links_same s.links s.member.link;
+  timely = timely_same s.links;
+  link = refl;
+}
 
 kept_member : (s t : Seat) → t.links ≡ s.links → t.member.link ≡ s.member.link → Kept s t
-kept_member s t same link = grind (arith, links_same)
+kept_member s t same link = record {
+  links = subst (LinksKept s.links s.member.link) (sym same) (links_same s.links s.member.link);
+  timely = subst (Timely s.links.now s.links) (sym same) (timely_same s.links);
+  link = link;
+}
 
 kept_both : (s t u : Seat) → Kept s t → Kept t u → Kept s u
-kept_both s t u a b = grind (arith, links_both)
+kept_both s t u a b = record {
+  links = links_both s.links t.links u.links s.member.link a.links
+      (subst (λ n. LinksKept t.links n u.links) a.link b.links);
+  timely = timely_both s.links.now s.links t.links u.links a.timely
+      (subst (λ n. Timely n t.links u.links) a.timely.now b.timely);
+  link = b.link ∙ a.link;
+}
 
 pub record Orderly (s : Seat) (m : Outcome Seat) : Type 0 where
   pub kept : Meets (λ t ls. Kept s t) (λ t ls. Kept s t) m
@@ -164,20 +181,37 @@ links_fronts event s = grind (arith, fronts_within, step_fronts)
 
 named_step : (event : LinkEvent) (name : List ℕ) (s : Seat) → s.member.link ≡ name
     → Meets (λ v ls. LinksKept s.links name v) (λ v ls. LinksKept s.links name v)
-    (step s.links event) → Orderly s (links_do event s)
+    (step s.links event) → Times s.links.now s.links (step s.links event)
+    → Orderly s (links_do event s)
 unfolding links_do
-named_step event name s is k = grind (arith, meets_within, meets_weaker, links_fronts)
+named_step event name s is k t =
+    let kept : (v : LinksState) → LinksKept s.links name v → Timely s.links.now s.links v
+    → Kept s (with_links s v) = λ v q p. record {
+      links = subst (λ n. LinksKept s.links n v) (sym is) q;
+      timely = p;
+      link = refl;
+    } in
+    record {
+      kept = meets_within (with_links s) (λ u ls. Kept s u) (λ u ls. Kept s u) (step s.links event)
+          (record {
+            ends = λ none. kept _ (k.ends none) (t.ends none);
+            all = λ v ls r. kept v (k.all v ls r) (t.all v ls r);
+          });
+      fronts = links_fronts event s;
+    }
 
 o_put : (bytes : List ℕ) (name : List ℕ) (s : Seat) → s.member.link ≡ name
     → Orderly s (links_do (Put name bytes) s)
 unfolding step
 o_put bytes name s is = named_step (Put name bytes) name s is
     (named_kept (Put name bytes) s.links name)
+    (named_timely (place_of name s.links) (Put name bytes) s.links)
 
 o_over : (move : LinkMove) (s : Seat) → Orderly s (links_do (Over s.member.link move) s)
 unfolding step
 o_over move s = named_step (Over s.member.link move) s.member.link s refl
     (named_kept (Over s.member.link move) s.links s.member.link)
+    (named_timely (place_of s.member.link s.links) (Over s.member.link move) s.links)
 
 -- ---- moves
 

@@ -21,6 +21,8 @@ mod Flowing
 mod Kept
 mod WorldKept
 mod Skipping
+mod WorldClock
+mod WorldFlows
 mod WorldEvents
 mod ScheduleLogLines
 mod ScheduleLogMoves

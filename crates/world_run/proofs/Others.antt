@@ -20,6 +20,7 @@ use Rattle.server_links.specs.LinksState.{fresh_link}
 use Rattle.server_links.specs.LinkSteps as links
 use Rattle.server_links.specs.LinkSteps.{place_of}
 use Rattle.server_links.specs.Outcome.{Outcome, Reached, refuses, stays}
+use Rattle.server_links.proofs.Names.{place_is}
 use Rattle.server_links.proofs.Outcomes.{Fronts, fronts_once, fronts_reached, fronts_refuses}
 use Rattle.server_links.proofs.Outcomes.{fronts_stays, fronts_then, fronts_within, Meets}
 use Rattle.server_links.proofs.Outcomes.{meets_refuses, meets_weaker, meets_within}
@@ -32,7 +33,6 @@ use Rattle.world_run.specs.WorldHistory.{OthersKept, link_named}
 use Rattle.world_run.specs.World.{Stepped, client_does, flow_first, flow_step, links_step}
 use Rattle.world_run.specs.World.{named_does, out_step, raw_out, recv_step, step}
 use Rattle.server_links.proofs.Events.{step_fronts}
-use Rattle.world_run.proofs.Clients.{place_is}
 use Rattle.world_run.proofs.Kept.{LinksKept, Orderly, links_same, named_kept, o_flow, o_out}
 use Rattle.world_run.proofs.Kept.{o_receive, o_show, o_turn}
 use Rattle.world_run.proofs.Names.{client_there, link_there}

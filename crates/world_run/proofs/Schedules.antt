@@ -16,17 +16,17 @@ use Rattle.tracking_laws.proofs.Exactly.{told_exactly}
 use Rattle.currency.proofs.CompleteExactly.{completes_exactly}
 use Rattle.server_links.proofs.Accounts.{Part}
 use Rattle.server_links.proofs.Events.{serves}
-use Rattle.server_links.proofs.Names.{unplaced}
+use Rattle.server_links.proofs.Names.{place_is, unplaced}
 use Rattle.world_run.specs.WorldState.{WorldState, member_at, start}
 use Rattle.world_run.specs.Members.{client_of}
 use Rattle.world_run.specs.WorldHistory.{AllServiced, HoldsCurrent, OneHistory, PartHistory}
 use Rattle.world_run.specs.WorldHistory.{Serviced, put_on, said_by, said_to, taken_bytes}
 use Rattle.world_run.specs.WorldTranscript.{after, heard, heard_at, transcript}
 use Rattle.world_run.specs.World.{step}
-use Rattle.world_run.proofs.Clients.{place_is}
 use Rattle.world_run.proofs.LinkEvents.{part_of, stands_again}
 use Rattle.world_run.proofs.Names.{link_nowhere, link_there}
 use Rattle.world_run.proofs.ScheduleLogs.{logs_stand}
+use Rattle.world_run.proofs.WorldClock.{keeps_time}
 use Rattle.world_run.proofs.WorldEvents.{event_comes}
 use Rattle.world_run.proofs.Worlds.{NoneHas, WorldPart, WorldStands, meet_part}
 
@@ -159,4 +159,5 @@ whole_history law l events w valid e =
       told = told_exactly w.links.limits w.links.past s.links.history.legal;
       clients = all_serviced law l raw lines w p;
       logs = logs_stand l events w valid (stands_start l) e;
+      clock = keeps_time events (start l) w tt e;
     }

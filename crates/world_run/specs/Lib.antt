@@ -6,4 +6,6 @@ pub mod World
 pub mod WorldTranscript
 pub mod ReadLog
 pub mod ScheduleLog
+pub mod WorldClock
+pub mod WorldFlows
 pub mod WorldHistory

@@ -49,6 +49,8 @@ use Rattle.world_run.specs.Members.{client_of}
 use Rattle.world_run.specs.ScheduleLog.{LogsStand}
 use Rattle.world_run.specs.WorldTranscript.{after, heard, transcript}
 use Rattle.world_run.specs.World.{step}
+use Rattle.world_run.specs.WorldClock.{KeepsTime}
+use Rattle.world_run.specs.WorldFlows.{FlowDelivers}
 
 -- ---- what is put on a link
 
@@ -130,6 +132,8 @@ pub record OneHistory (l : Limits) (events : List Event) (lines : List Line) (w 
   pub told : ToldExactly w.links.limits w.links.past
   pub clients : AllServiced w
   pub logs : LogsStand (start l) events lines w
+  -- the clock begins at 0
+  pub clock : KeepsTime 0 (start l) events
 
 -- where the last event met a fault, or was broken off
 pub record PartHistory (l : Limits) (events : List Event) (lines : List Line)
@@ -243,11 +247,6 @@ pub record Follows (l : Limits) (events : List Event) (lines : List Line) (w : W
   pub others : (name : List ℕ) → link_named event ≡ Some name → OthersKept w name new
 
 -- ---- the law
-
--- a raw link that flows, and is not cut, delivers all that was there
-abbrev pub FlowDelivers : WorldState → ℕ → Type 0
-FlowDelivers w at = client_of_link (at_place w.links.links at).name w.members ≡ None
-    → links_kept.FlowDelivers w.links at
 
 -- So it is after any schedule that meets no fault; and one more event, done or broken off, stays
 -- within it.
