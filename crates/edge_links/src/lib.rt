@@ -17,6 +17,7 @@ mod memory_link;
 mod memory_net;
 mod streams;
 mod tcp;
+mod web_guard;
 mod writing;
 
 pub use adapters::{ReaderSource, WriterSink};

@@ -6,6 +6,7 @@ ghost use Rattle.edge_links.specs.Counts.{nought};
 use super::counts::Counts;
 use super::links::{Accepted, Acceptor, Link, LinkRead, Net, NetFailed};
 use super::streams::Wrote;
+use super::web_guard::WebGuard;
 use std::io::{self, ErrorKind, Read, Write};
 use std::net::{self, TcpListener, TcpStream};
 use std::time::{Clock, Duration};
@@ -22,11 +23,16 @@ const WRITE_WAIT: u64 = 10_000;
 /// How long an accept waits before it answers `Idle`, in milliseconds.
 const ACCEPT_WAIT: u64 = 5;
 
-/// A connection over TCP. Small writes leave at once, and a read waits a bounded time.
+/// By which numbers Linux says that a socket doesn't listen: EBADF, EINVAL, ENOTSOCK, EOPNOTSUPP.
+const NO_LISTENER: [i32; 4] = [9, 22, 88, 95];
+
+/// A connection over TCP. Small writes leave at once, and a read waits a bounded time. The reads of
+/// one that was accepted fail from where its first bytes are a web request's.
 #[derive(Drop)]
 pub struct TcpLink {
     stream: TcpStream,
     counts: Counts,
+    guard: WebGuard,
 }
 
 impl TcpLink {
@@ -39,6 +45,7 @@ impl TcpLink {
         Ok(TcpLink {
             stream,
             counts: Counts::new(),
+            guard: WebGuard::new(),
         })
     }
 }
@@ -55,6 +62,10 @@ impl Link for TcpLink {
             Ok(0) => {
                 self.counts.end();
                 LinkRead::End
+            }
+            Ok(n) if self.guard.refuses(&buf[..n]) => {
+                self.counts.fault();
+                LinkRead::Failed
             }
             Ok(n) => LinkRead::Bytes(n),
             Err(error) => match error.kind() {
@@ -81,15 +92,18 @@ impl Link for TcpLink {
     }
 }
 
-/// Accepts connections over TCP. Where none is there it waits a bounded time and answers `Idle`.
+/// Accepts connections over TCP. Where none is there, or none can be had for now, it waits a
+/// bounded time and answers `Idle`; it fails where the socket doesn't listen any more. That
+/// descriptors or memory are wanting it says once on standard error.
 #[derive(Drop)]
 pub struct TcpAcceptor<R> {
     rt: R,
     listener: TcpListener,
     counts: Counts,
+    has_said_want: bool,
 }
 
-impl<R: Clock + Drop> TcpAcceptor<R> {
+impl<R: Clock + Eprint + Drop> TcpAcceptor<R> {
     pub fn new(rt: R, listener: TcpListener) -> io::Result<Self>
         ensures { IfOk result (λ a. ⟦<TcpAcceptor<R> as Acceptor>⟧.counts a ≡ nought) }
     {
@@ -98,11 +112,44 @@ impl<R: Clock + Drop> TcpAcceptor<R> {
             rt,
             listener,
             counts: Counts::new(),
+            has_said_want: false,
         })
+    }
+
+    fn say_want(&mut self, error: &io::Error)
+        ensures { self.new.counts ≡ self.old.counts }
+    {
+        if !self.has_said_want {
+            self.has_said_want = true;
+            let _ = eprintln!(self.rt; "zeovalki: accepting pauses, and is tried again: {error}");
+        }
     }
 }
 
-impl<R: Clock + Drop> Acceptor for TcpAcceptor<R> {
+/// Why no connection was accepted.
+#[derive(Clone, Copy, PartialEq, Eq)]
+enum NotAccepted {
+    /// Nobody came, or who came is gone already.
+    Nobody,
+    /// Descriptors, memory or what else the system needs for a connection is wanting.
+    Want,
+    /// The socket doesn't listen any more.
+    Lost,
+}
+
+fn cause_of(error: &io::Error) -> NotAccepted {
+    match error.kind() {
+        ErrorKind::WouldBlock | ErrorKind::Interrupted | ErrorKind::ConnectionAborted => {
+            NotAccepted::Nobody
+        }
+        _ => match error.raw_os_error() {
+            Some(number) if NO_LISTENER.contains(&number) => NotAccepted::Lost,
+            _ => NotAccepted::Want,
+        },
+    }
+}
+
+impl<R: Clock + Eprint + Drop> Acceptor for TcpAcceptor<R> {
     type Link = TcpLink;
 
     ghost left = { λ _. None };
@@ -116,14 +163,17 @@ impl<R: Clock + Drop> Acceptor for TcpAcceptor<R> {
                 Ok(link) => return Accepted::Came(link),
                 Err(_) => {}
             },
-            Err(error) => match error.kind() {
-                ErrorKind::WouldBlock => self.rt.sleep(Duration::from_millis(ACCEPT_WAIT)),
-                ErrorKind::Interrupted | ErrorKind::ConnectionAborted => {}
-                _ => {
-                    self.counts.fault();
-                    return Accepted::Failed;
+            Err(error) => {
+                match cause_of(&error) {
+                    NotAccepted::Nobody => {}
+                    NotAccepted::Want => self.say_want(&error),
+                    NotAccepted::Lost => {
+                        self.counts.fault();
+                        return Accepted::Failed;
+                    }
                 }
-            },
+                self.rt.sleep(Duration::from_millis(ACCEPT_WAIT));
+            }
         }
         self.counts.idle();
         Accepted::Idle
@@ -137,9 +187,9 @@ pub struct TcpNet<R> {
     counts: Counts,
 }
 
-impl<R: net::Net<Listener = TcpListener, Stream = TcpStream> + Clock + Copy + Send + Drop> TcpNet<
-    R,
-> {
+impl<
+    R: net::Net<Listener = TcpListener, Stream = TcpStream> + Clock + Eprint + Copy + Send + Drop,
+> TcpNet<R> {
     pub fn new(rt: R) -> Self
         ensures { ⟦<TcpNet<R> as Net>⟧.counts result ≡ nought }
     {
@@ -150,7 +200,7 @@ impl<R: net::Net<Listener = TcpListener, Stream = TcpStream> + Clock + Copy + Se
     }
 }
 
-fn bind<R: net::Net<Listener = TcpListener, Stream = TcpStream> + Clock + Drop>(
+fn bind<R: net::Net<Listener = TcpListener, Stream = TcpStream> + Clock + Eprint + Drop>(
     rt: R,
     port: u16,
 ) -> io::Result<TcpAcceptor<R>>
@@ -167,14 +217,16 @@ fn connect<R: net::Net<Listener = TcpListener, Stream = TcpStream>>(
 ) -> io::Result<TcpLink>
     ensures { IfOk result (λ l. ⟦<TcpLink as Link>⟧.counts l ≡ nought) }
 {
-    let link = TcpLink::new(TcpStream::connect(rt, (host, port))?)?;
+    let mut link = TcpLink::new(TcpStream::connect(rt, (host, port))?)?;
+    link.guard = WebGuard::open();
     let wait = Duration::from_millis(DIALLED_READ_WAIT);
     link.stream.set_read_timeout(Some(wait))?;
     Ok(link)
 }
 
-impl<R: net::Net<Listener = TcpListener, Stream = TcpStream> + Clock + Copy + Send + Drop> Net
-    for TcpNet<R> {
+impl<
+    R: net::Net<Listener = TcpListener, Stream = TcpStream> + Clock + Eprint + Copy + Send + Drop,
+> Net for TcpNet<R> {
     type Link = TcpLink;
 
     type Acceptor = TcpAcceptor<R>;

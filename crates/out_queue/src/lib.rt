@@ -11,11 +11,18 @@ use resp_value::{NoMemory, Octets, Proto, Value};
 use std::alloc::Global;
 use std::marker::Model;
 
+/// How many bytes a queue may have held for its room to be kept once it is empty.
+const ROOM_KEPT: u64 = 65_536;
+
 /// The bytes of messages, in the order in which the messages were added. Where one ends is not
-/// kept: a connection takes bytes, not messages.
+/// kept: a connection takes bytes, not messages. The room of a queue that held many bytes is given
+/// back once they were all taken, so that what waits, and not what once waited, takes memory.
 #[derive(Drop)]
 pub struct OutQueue {
+    alloc: Global,
     bytes: ByteQueue,
+    /// Whether it held more than `ROOM_KEPT` bytes since its room was last given back.
+    is_large: bool,
 }
 
 impl Model for OutQueue {
@@ -32,7 +39,9 @@ impl OutQueue {
         ensures { result ≡ [] }
     {
         OutQueue {
+            alloc,
             bytes: ByteQueue::new(alloc),
+            is_large: false,
         }
     }
 
@@ -55,7 +64,9 @@ impl OutQueue {
         ensures ok { OnOk result (self.new ≡ self.old ++ message.now) }
         ensures err { OnErr result (self.new ≡ self.old) }
     {
-        self.bytes.add(message)
+        self.bytes.add(message)?;
+        self.note_size();
+        Ok(())
     }
 
     /// The message goes last: a value, as it is spelled. It answers of how many bytes it is.
@@ -65,7 +76,16 @@ impl OutQueue {
         ensures err { OnErr result (self.new ≡ self.old) }
     {
         let count = self.bytes.add_value(proto, value)?;
+        self.note_size();
         Ok(count as u64)
+    }
+
+    fn note_size(&mut self)
+        ensures { self.new ≡ self.old }
+    {
+        if self.is_over(ROOM_KEPT) {
+            self.is_large = true;
+        }
     }
 
     /// The first bytes, at most so many.
@@ -75,11 +95,15 @@ impl OutQueue {
         self.bytes.front(max)
     }
 
-    /// Drops the first bytes, at most so many. It takes no memory.
+    /// Drops the first bytes, at most so many. It takes no memory, and gives back the room of many
+    /// bytes once none are left.
     pub fn advance(&mut self, max: usize)
         ensures { self.new ≡ drop max self.old }
     {
         self.bytes.advance(max);
+        if self.is_large && self.size() == 0 {
+            self.drop_all();
+        }
     }
 
     /// Takes the first bytes, at most so many.
@@ -101,10 +125,11 @@ impl OutQueue {
         self.bytes.keep(most);
     }
 
-    /// Drops all bytes. It takes no memory.
+    /// Drops all bytes, and gives back their room. It takes no memory.
     pub fn drop_all(&mut self)
         ensures { self.new ≡ [] }
     {
-        self.bytes.drop_all();
+        self.bytes = ByteQueue::new(self.alloc);
+        self.is_large = false;
     }
 }
