@@ -40,17 +40,15 @@ use Rattle.server_links.specs.OneHistory.{read_on}
 use Rattle.server_links.specs.Outcome.{Outcome, and_then, does, refuses, stays, then_by, within}
 use Rattle.server_links.proofs.Carries.{read_more}
 use Rattle.server_links.specs.Session.{Session, session_at}
-use Rattle.server_links.proofs.Names.{names_itself}
+use Rattle.server_links.proofs.Names.{names_itself, place_is}
 use Rattle.world_run.specs.WorldState.{MemberState}
 use Rattle.world_run.specs.Members.{Seat, link_of, links_do, log_of, setup_of, with_reader}
 use Rattle.world_run.specs.ClientMoves.{bytes_of, feed, flow, got, got_all, got_one, hang_up}
 use Rattle.world_run.specs.ClientMoves.{has_ended, next_read, out, print, read_values, receive}
-use Rattle.world_run.specs.ClientMoves.{show}
-use Rattle.world_run.specs.ClientMoves.{shown}
+use Rattle.world_run.specs.ClientMoves.{show, shown}
 use Rattle.world_run.specs.ClientMoves.{receive_bytes, receive_eof, rest_read, stop, take_out, turn}
 use Rattle.world_run.specs.ReadLog.{ByEnd, ByValue, Ending, Going, IsGot, IsWell, ending}
 use Rattle.world_run.specs.ReadLog.{has_eof}
-use Rattle.world_run.proofs.Clients.{place_is}
 use Rattle.world_run.proofs.Links.{IsUnread, name_of_event, step_moved, step_reads}
 use Rattle.world_run.proofs.Members.{LinkGrows}
 use Rattle.world_run.proofs.ReadLogMoves.{Done, Settled, done_if, done_then, done_turn, going_is}
