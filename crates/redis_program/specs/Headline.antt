@@ -145,8 +145,8 @@ pub record Plays (limits : Limits) (lines : List (List ℕ)) (events : List Even
   pub flows : (at : ℕ) → at < length w.links.links → FlowDelivers w at
 
 -- After these events one more was played, or broken off on the way by a fault or want of memory.
--- What it printed is the first of the lines that it had printed by then, within the one history, and
--- an answer from a cache among them stands at its point.
+-- What it printed is the first of the lines that it had printed by then, within the one history,
+-- and an answer from a cache among them stands at its point.
 pub record PlaysPart (limits : Limits) (events : List Event) (w : WorldState) (event : Event)
     (printed : List Line) : Type 0 where
   pub state : WorldState

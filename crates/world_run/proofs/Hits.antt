@@ -180,7 +180,8 @@ hits_stand (Say name words) w a =
     none_stand w (Say name words) _ (grind (arith, h_event))
 hits_stand (Bytes name bytes) w a =
     none_stand w (Bytes name bytes) _ (grind (arith, h_event))
-hits_stand (Client name mode capacity) w a = none_stand w (Client name mode capacity) _ (grind (arith, h_if, h_then, h_event))
+hits_stand (Client name mode capacity) w a =
+    none_stand w (Client name mode capacity) _ (grind (arith, h_if, h_then, h_event))
 hits_stand (Out name count) w a =
     none_stand w (Out name count) _ (grind (arith, h_raw_out, h_client, h_out))
 hits_stand (Serve name count) w a =
@@ -189,7 +190,8 @@ hits_stand (Send name count) w a =
     none_stand w (Send name count) _ (h_event (link_event.Over name (moves.Send count)) w)
 hits_stand (Recv name count) w a =
     none_stand w (Recv name count) _ (grind (arith, h_event, h_client, h_received))
-hits_stand (Flow name) w a = none_stand w (Flow name) _ (h_flow (client_of_link name w.members) name w)
+hits_stand (Flow name) w a =
+    none_stand w (Flow name) _ (h_flow (client_of_link name w.members) name w)
 hits_stand FlowAll w a = none_stand w FlowAll _ (h_first (length w.links.links) w)
 hits_stand (Cut name) w a = none_stand w (Cut name) _ (h_event (link_event.Over name moves.Cut) w)
 hits_stand (Now moment) w a = none_stand w (Now moment) _ (h_event (link_event.Now moment) w)
