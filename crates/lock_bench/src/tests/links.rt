@@ -253,3 +253,88 @@ fn the_loopback_address_carries_a_mebibyte_both_ways(rt: HostRuntime) -> Result<
     assert!(rt; net.dial("127.0.0.1", port).is_err());
     Ok(())
 }
+
+/// What a client sends in pieces, and what is read of it with how that ends: none of the piece in
+/// which a line begins as one of a web request. Behind a line that begins with `*` any may.
+const FIRST_LINES: &str = "POST / HTTP/1.1;;FLUSHALL; = fail
+SET a 1;|post / HTTP/1.1;FLUSHALL; = SET a 1;fail
+PO|ST / HTTP/1.1;;FLUSHALL; = POfail
+PUT /|x = fail
+PATCH / HTTP/1.1; = fail
+DELETE / HTTP/1.1; = fail
+OPTIONS * HTTP/1.1; = fail
+GET / HTTP/1.1;|Accept: a;|host: a;;FLUSHALL; = GET / HTTP/1.1;Accept: a;fail
+HOST 1;|POSTS 1;|POST;|PUTS; OPTIONSX ; = HOST 1;POSTS 1;POST;PUTS; OPTIONSX ;end
+*1;$4;PING;|POST / HTTP/1.1;Host: a; = *1;$4;PING;POST / HTTP/1.1;Host: a;end
+GET a;|*1;$4;PING;POST /; = GET a;*1;$4;PING;POST /;end";
+
+/// A text in which `;` stands for the end of a line.
+fn lines_of(alloc: Global, text: &str) -> Result<Vec<u8>, AllocError> {
+    let mut bytes = Vec::new(alloc);
+    for byte in text.bytes() {
+        match byte {
+            b';' => bytes.extend_from_slice(b"\r\n")?,
+            _ => bytes.push(byte)?,
+        }
+    }
+    Ok(bytes)
+}
+
+/// Reads what the peer sent, until the link ends or nothing comes; and how that ended.
+fn read_all<L: Link>(link: &mut L, got: &mut Vec<u8>) -> Result<&'static str, AllocError> {
+    let mut buf = [0u8; 64];
+    for _ in 0..100u8 {
+        match link.read(&mut buf) {
+            LinkRead::Bytes(n) => got.extend_from_slice(&buf[..n])?,
+            LinkRead::Idle => return Ok("idle"),
+            LinkRead::End => return Ok("end"),
+            LinkRead::Failed => return Ok("fail"),
+        }
+    }
+    Ok("more")
+}
+
+/// What the server's end has read once the client sent its pieces and left, and how that ended.
+fn heard<N: Link + Drop, F: Link>(
+    alloc: Global,
+    mut near: N,
+    far: &mut F,
+    pieces: &str,
+) -> Result<Vec<u8>, AllocError> {
+    let mut got = Vec::new(alloc);
+    let mut end = "idle";
+    for piece in pieces.split('|') {
+        write_whole(&mut near, lines_of(alloc, piece)?.as_slice());
+        end = read_all(far, &mut got)?;
+    }
+    drop(near);
+    if end == "idle" {
+        end = read_all(far, &mut got)?;
+    }
+    got.extend_from_slice(end.as_bytes())?;
+    Ok(got)
+}
+
+#[test]
+fn a_link_that_begins_as_a_web_request_fails(rt: HostRuntime) -> Result<(), Fail> {
+    let alloc = rt.alloc();
+    let mut net = TcpNet::new(rt);
+    let Some((port, mut acceptor)) = listen_from(&mut net, 43_000) else {
+        panic!(rt; "no port is free");
+    };
+    for row in FIRST_LINES.lines() {
+        let Some((pieces, want)) = row.split_once(" = ") else {
+            panic!(rt; "{row}");
+        };
+        let Ok(near) = net.dial("127.0.0.1", port) else {
+            panic!(rt; "nobody listens");
+        };
+        let Some(mut far) = next_link(&mut acceptor) else {
+            panic!(rt; "nobody came");
+        };
+        let got = heard(alloc, near, &mut far, pieces)?;
+        let want = lines_of(alloc, want)?;
+        assert!(rt; got.as_slice() == want.as_slice(), "{row}");
+    }
+    Ok(())
+}
