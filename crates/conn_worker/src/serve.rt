@@ -171,16 +171,19 @@ pub fn serve_link<R: Wait, L: Link, C: Clock, G: Gate>(
     let id = match admit(rt, lock, seat) {
         Ok(id) => id,
         Err(refusal) => {
+            let ended = ended_by(refusal);
+            gate.ended(0, ended);
             return Report {
                 id: 0,
                 requests: 0,
-                ended: ended_by(refusal),
+                ended,
             };
         }
     };
     let mut connection = Connection::new(alloc, id);
     let ended = serve_admitted(rt, alloc, lock, seat, link, clock, gate, &mut connection);
     close(rt, lock, seat, id);
+    gate.ended(id, ended);
     Report {
         id,
         requests: connection.requests,

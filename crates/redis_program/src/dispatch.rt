@@ -47,7 +47,7 @@ pub struct Outcome<N: Net> {
 /// memory do. The body is the same over every source and sink, so over the standard streams it
 /// does the same with the bytes that the system gives and takes; and if the call returns there,
 /// which no proof says of a read that waits, the rest of the promises hold too.
-pub fn run<R: Threads + Wait + Sync, S: Source, K: Sink, N: Net, C: Clock + Sync>(
+pub fn run<R: Threads + Wait + Eprint + Sync, S: Source, K: Sink, N: Net, C: Clock + Sync>(
     rt: &R,
     alloc: Global,
     words: &[String],

@@ -77,9 +77,20 @@ fn refuse_words<K: Sink>(rt: &impl Eprint, error: &io::Error, output: &mut K) ->
 }
 
 fn explain_words(rt: &impl Eprint, words: &[String]) {
-    if let Some(wrong) = find_wrong(words) {
+    if asks_for_pages(words) {
+        let _ = eprintln!(rt;
+            "zeovalki: the launcher has pages of help: ./zeovalki help [world | serve | script]\n\
+             zeovalki: there is no version but the commit that was built"
+        );
+    } else if let Some(wrong) = find_wrong(words) {
         let _ = eprintln!(rt; "zeovalki: {wrong}");
     }
+}
+
+/// Whether a page is asked for. The launcher answers that before the program is run.
+fn asks_for_pages(words: &[String]) -> bool {
+    asks_for(words, "help")
+        || words.iter().any(|word| matches!(word.as_str(), "--help" | "-h" | "--version" | "-V"))
 }
 
 /// Says why the last line that was read is outside the grammar.
@@ -105,7 +116,9 @@ fn end(rt: &impl Eprint, status: Status, is_script: bool) -> ExitCode {
         Status::NetFault if is_script => {
             eprintln!(rt; "zeovalki: the server could not be reached")
         }
-        Status::NetFault => eprintln!(rt; "zeovalki: the port could not be listened at"),
+        Status::NetFault => {
+            eprintln!(rt; "zeovalki: the port could not be listened at, or no longer")
+        }
         Status::LinkEnded => {
             eprintln!(rt; "zeovalki: the link to the server ended before each line was answered")
         }

@@ -19,7 +19,7 @@ use std::thread::Threads;
 
 /// Serves what connects at the port, and then writes a line for each connection. The last line of
 /// what is written says how the run ended, unless no more came or the sink failed.
-pub fn run_serve<R: Threads + Wait + Sync, K: Sink, N: Net, C: Clock + Sync>(
+pub fn run_serve<R: Threads + Wait + Eprint + Sync, K: Sink, N: Net, C: Clock + Sync>(
     rt: &R,
     alloc: Global,
     settings: ServeSettings,

@@ -33,7 +33,7 @@ fn words_of(alloc: Global, line: &str) -> Result<Vec<String>, AllocError> {
     Ok(words)
 }
 
-fn status_of<R: Threads + Wait + Sync>(
+fn status_of<R: Threads + Wait + Eprint + Sync>(
     rt: &R,
     alloc: Global,
     words: &[String],

@@ -1,6 +1,7 @@
 //! A server of connections at a port of the net, the report of each, and what is written of it.
 #![tactic(auto)]
 
+mod notices;
 mod output;
 mod report;
 mod run;

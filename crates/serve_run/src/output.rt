@@ -36,7 +36,7 @@ pub struct WrittenRun<A> {
 }
 
 /// Serves, as `serve` does, and then writes a line for each connection and the last line.
-pub fn serve_and_write<N: Net, C: Clock + Sync, K: Sink, R: Threads + Wait + Sync>(
+pub fn serve_and_write<N: Net, C: Clock + Sync, K: Sink, R: Threads + Wait + Eprint + Sync>(
     rt: &R,
     alloc: Global,
     limits: Limits,

@@ -3,9 +3,9 @@ ghost use Rattle.std.specs.Prelude.{◌≡◌, ◌≤◌, IfSome, Some};
 ghost use Rattle.serial_model.specs.Steps.{AreValid};
 ghost use Rattle.serve_run.specs.Runs.{NetGave, Runs, ServesAll};
 
+use super::notices::Notices;
 use super::report::put_reports;
 use conn_pool::{Served, serve_all};
-use conn_worker::OpenGate;
 use edge_links::{Clock, Net, NetFailed};
 use resp_value::NoMemory;
 use serial_model::Limits;
@@ -32,8 +32,9 @@ pub struct ServeRun<A> {
 }
 
 /// Listens at the port, and serves what connects there by so many workers, until no more connects
-/// or so many connections came; 0 is no limit.
-pub fn serve<N: Net, C: Clock + Sync, R: Threads + Wait + Sync>(
+/// or so many connections came; 0 is no limit. What a person at it should know meanwhile goes to
+/// standard error.
+pub fn serve<N: Net, C: Clock + Sync, R: Threads + Wait + Eprint + Sync>(
     rt: &R,
     alloc: Global,
     limits: Limits,
@@ -61,7 +62,8 @@ pub fn serve<N: Net, C: Clock + Sync, R: Threads + Wait + Sync>(
             };
         }
     };
-    let gate = OpenGate;
+    let gate = Notices::new(rt, limits.history_max);
+    gate.begin(port, workers);
     match serve_all(
         rt,
         alloc,

@@ -186,6 +186,8 @@ fn a_key_that_is_due_leaves_at_an_idle_read(rt: HostRuntime) -> Result<(), Fail>
 struct CountingGate {
     begun: AtomicU64,
     answered: AtomicU64,
+    // By its number, beside the id.
+    ended: AtomicU64,
 }
 
 impl Gate for CountingGate {
@@ -197,16 +199,40 @@ impl Gate for CountingGate {
     fn after(&self, _id: u64, requests: u64) {
         self.answered.store(requests, Ordering::SeqCst);
     }
+
+    fn ended(&self, id: u64, ended: Ended) {
+        let told = id
+            .saturating_mul(100)
+            .saturating_add(u64::from(ended.number()));
+        self.ended.store(told, Ordering::SeqCst);
+    }
+}
+
+fn counting_gate() -> CountingGate {
+    CountingGate {
+        begun: AtomicU64::new(0),
+        answered: AtomicU64::new(0),
+        ended: AtomicU64::new(0),
+    }
+}
+
+#[test]
+fn a_gate_is_told_of_each_end(rt: HostRuntime) -> Result<(), Fail> {
+    let clock = FixedClock { ms: 7 };
+    for (most, told) in [(100, 101), (1, 106)] {
+        let gate = counting_gate();
+        let mut link = link_of(rt.alloc(), "GET_a;", 100)?;
+        said(&rt, rt.alloc(), most, &mut link, &clock, &gate)?;
+        assert_eq!(rt; gate.ended.load(Ordering::SeqCst), told);
+    }
+    Ok(())
 }
 
 #[test]
 fn a_gate_is_told_of_each_request_and_of_those_that_were_answered(
     rt: HostRuntime,
 ) -> Result<(), Fail> {
-    let gate = CountingGate {
-        begun: AtomicU64::new(0),
-        answered: AtomicU64::new(0),
-    };
+    let gate = counting_gate();
     let mut link = link_of(rt.alloc(), "SET_a_v;GET_a;,GET_a;", 100)?;
     said(
         &rt,
