@@ -281,17 +281,15 @@ fn lines_of(alloc: Global, text: &str) -> Result<Vec<u8>, AllocError> {
 }
 
 /// Reads what the peer sent, until the link ends or nothing comes; and how that ended.
-fn read_all<L: Link>(link: &mut L, got: &mut Vec<u8>) -> Result<&'static str, AllocError> {
+fn read_all<L: Link>(link: &mut L, got: &mut Vec<u8>) -> Result<LinkRead, AllocError> {
     let mut buf = [0u8; 64];
     for _ in 0..100u8 {
         match link.read(&mut buf) {
             LinkRead::Bytes(n) => got.extend_from_slice(&buf[..n])?,
-            LinkRead::Idle => return Ok("idle"),
-            LinkRead::End => return Ok("end"),
-            LinkRead::Failed => return Ok("fail"),
+            ended => return Ok(ended),
         }
     }
-    Ok("more")
+    Ok(LinkRead::Idle)
 }
 
 /// What the server's end has read once the client sent its pieces and left, and how that ended.
@@ -302,16 +300,20 @@ fn heard<N: Link + Drop, F: Link>(
     pieces: &str,
 ) -> Result<Vec<u8>, AllocError> {
     let mut got = Vec::new(alloc);
-    let mut end = "idle";
+    let mut ended = LinkRead::Idle;
     for piece in pieces.split('|') {
         write_whole(&mut near, lines_of(alloc, piece)?.as_slice());
-        end = read_all(far, &mut got)?;
+        ended = read_all(far, &mut got)?;
     }
     drop(near);
-    if end == "idle" {
-        end = read_all(far, &mut got)?;
+    if ended == LinkRead::Idle {
+        ended = read_all(far, &mut got)?;
     }
-    got.extend_from_slice(end.as_bytes())?;
+    match ended {
+        LinkRead::End => got.extend_from_slice(b"end")?,
+        LinkRead::Failed => got.extend_from_slice(b"fail")?,
+        LinkRead::Bytes(_) | LinkRead::Idle => {}
+    }
     Ok(got)
 }
 
