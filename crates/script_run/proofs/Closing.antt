@@ -34,7 +34,8 @@ use Rattle.script_run.specs.Lines.{ThreadsCame}
 use Rattle.script_run.specs.Ends.{Leaves, Ending, Found, Worn, Calls}
 use Rattle.script_run.specs.Session.{turns_in, PumpedBy, ClosedBy, LastEnd, Over, NoTicket, Session}
 use Rattle.script_run.proofs.Threads.{joined, kept_turns, split_none, threads_grow}
-use Rattle.script_run.proofs.Sessions.{every_turn, legal_log, down_ends}
+use Rattle.script_run.proofs.Sessions.{every_turn, legal_log, down_ends, none_missing}
+use Rattle.script_run.proofs.Unanswered.{unanswered}
 
 -- ---- the last turn
 
@@ -178,6 +179,7 @@ module _ (u : ClientSetup) (lines : List ScriptLine) (answers : List (List Answe
       ∙ total-append f pumped (last.turns ++ calls.plays.turns)
       ∙ ap (λ z. total f pumped + z) (total-append f last.turns calls.plays.turns) in
       let seen = in_log (past_of calls.played) seen_played in
+      let legal = subst (LegalLog s) (sym log_is) (legal_log u j.seen (legal_j sound)) in
       record {
         called = calls.plays.turns;
         pumped = pumped;
@@ -189,7 +191,11 @@ module _ (u : ClientSetup) (lines : List ScriptLine) (answers : List (List Answe
         pumps = by;
         closes = closes;
         all = all;
-        legal = subst (LegalLog s) (sym log_is) (legal_log u j.seen (legal_j sound));
+        legal = legal;
         down = down_ends s lines answers end left0 left1 link0 link1 calls.plays.turns pumped
             last.turns (past_of calls.played) log t seen came by closes all valid;
+        unanswered = unanswered s lines answers calls.plays.turns (past_of calls.played) log t
+            legal seen came (none_missing s lines answers end left0 left1 link0 link1
+            calls.plays.turns pumped last.turns (past_of calls.played) log t seen came by closes
+            all);
       }

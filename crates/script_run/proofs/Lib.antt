@@ -4,5 +4,6 @@ pub mod Lines
 pub mod Numbers
 pub mod Reporting
 pub mod Sessions
+pub mod Unanswered
 pub mod Threads
 pub mod Totals

@@ -137,7 +137,7 @@ call_down : (s : Setup) (log : List LogEntry) (w : Wire) (c : ScriptCall)
 unfolding client_step
 call_down s log w c is = grind arith
 
-poll_down : (s : Setup) (log : List LogEntry) (w : Wire) (n : ℕ)
+pub poll_down : (s : Setup) (log : List LogEntry) (w : Wire) (n : ℕ)
     → Answered (client_step s log (call.Poll n)) (refusal.Down w) log
     → is_ended s.mode Main log ≡ true
 unfolding client_step
@@ -251,7 +251,7 @@ module _ (s : Setup) (lines : List ScriptLine) (answers : List (List Answer)) (e
   none_polled : (n : ℕ) → total (polls n) pumped ≡ 0
   none_polled n = grind (arith, polls, total-append, works_none)
 
-  none_missing : Missed s seen called → ⊥
+  pub none_missing : Missed s seen called → ⊥
   none_missing m = none_missed s log called pumped closing all none_polled
       (λ n. grind arith)
       (missed_last s seen log called called [] refl begins (λ n. omega arith) m)

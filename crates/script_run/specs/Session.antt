@@ -1,7 +1,7 @@
 -- What a session of a script comes to: one log, of which each entry is a turn of a caller, of the
 -- pump, or the end at the last.
 use Rattle.std.specs.Prelude.{◌≡◌, ◌≤◌, ◌⊎◌, ◌+◌, ℕ, ⊤, List, [], ◌∷◌, ◌++◌, length, Option, true}
-use Rattle.std.specs.Prelude.{Some}
+use Rattle.std.specs.Prelude.{Some, None, suc}
 use Rattle.turn_lock.specs.Counts.{total}
 use Rattle.turn_lock.specs.History.{IsPrefix}
 use Rattle.turn_lock.specs.declared.rule.TheConstants.{LAST_TICKET}
@@ -11,9 +11,12 @@ use Rattle.shared_cache.specs.declared.log.LogEntry.{LogEntry}
 use Rattle.shared_cache.specs.declared.log.LogEntry.TheVariants as entry
 use Rattle.shared_cache.specs.Held.{Setup}
 use Rattle.shared_cache.specs.Laws.{LegalLog}
-use Rattle.shared_cache.specs.Log.{is_ended}
+use Rattle.shared_cache.specs.declared.log.ClientReply.TheVariants as reply
+use Rattle.shared_cache.specs.Log.{is_ended, reply as reply_of}
+use Rattle.shared_cache.specs.Steps.{client_step}
 use Rattle.shared_client.specs.Turns.{Place, Turn, setup_at}
 use Rattle.script_text.specs.declared.answer_line.ScriptAnswer.TheVariants as said
+use Rattle.script_text.specs.declared.script_line.ScriptCall.{ScriptCall}
 use Rattle.script_text.specs.declared.script_line.ScriptLine.{ScriptLine}
 use Rattle.script_text.specs.Scripts.{most_threads}
 use Rattle.client_link.specs.declared.pump_end.PumpEnd.{PumpEnd}
@@ -21,7 +24,7 @@ use Rattle.client_link.specs.declared.pump_end.PumpEnd.TheVariants as ended
 use Rattle.client_link.specs.Pumps.{Pumps}
 use Rattle.script_run.specs.declared.answer.Answer.{Answer}
 use Rattle.script_run.specs.declared.reports.LineEnd.TheVariants as line
-use Rattle.script_run.specs.Lines.{ThreadsCame}
+use Rattle.script_run.specs.Lines.{call_for, entry_for, calls_of, AllCame, ThreadsCame}
 use Rattle.script_run.specs.Reports.{line_end}
 
 -- each entry of a log, with the entries before it
@@ -40,6 +43,33 @@ AnyDown (answer ∷ answers) = IsDown answer ⊎ AnyDown answers
 abbrev pub HasDown : List (List Answer) → Type 0
 HasDown [] = ⊥
 HasDown (answers ∷ others) = AnyDown answers ⊎ HasDown others
+
+-- the line's call was not played; or it was sent, and the log has no reply to it
+abbrev pub NoReply : Setup → ScriptCall → List Turn → List LogEntry → Type 0
+NoReply s c turns log =
+    (turns ≡ []) ⊎ ((number : ℕ) × (past : List LogEntry) × (turns ≡ (entry_for c, past) ∷ [])
+    × (client_step s past (call_for c)
+    ≡ record { reply = reply.Sent number; past = entry_for c ∷ past })
+    × (reply_of s.mode log number ≡ None))
+
+-- no line of a thread that is down has a reply in this log, where its turns are those by which its
+-- answer came
+abbrev pub AllUnanswered : (s : Setup) (calls : List ScriptCall) (answers : List Answer)
+    (turns : List Turn) (seen : List LogEntry) (tickets : ℕ)
+    → AllCame s calls answers turns seen tickets → List LogEntry → Type 0
+AllUnanswered s calls [] turns seen tickets came log = ⊤
+AllUnanswered s [] (answer ∷ answers) turns seen tickets came log = ⊤
+AllUnanswered s (c ∷ calls) (answer ∷ answers) turns seen tickets came log =
+    (IsDown answer → NoReply s c came.0 log)
+    × AllUnanswered s calls answers came.1 seen tickets came.4 log
+
+abbrev pub Unanswered : (s : Setup) (lines : List ScriptLine) (thread : ℕ)
+    (all : List (List Answer)) (turns : List Turn) (seen : List LogEntry) (tickets : ℕ)
+    → ThreadsCame s lines thread all turns seen tickets → List LogEntry → Type 0
+Unanswered s lines thread [] turns seen tickets came log = ⊤
+Unanswered s lines thread (answers ∷ others) turns seen tickets came log =
+    AllUnanswered s (calls_of thread lines) answers came.0 seen tickets came.3.came log
+    × Unanswered s lines (suc thread) others came.1 seen tickets came.4 log
 
 -- the pump ended the link, and neither found it ended nor had no ticket
 abbrev pub EndsLink : PumpEnd → Type 0
@@ -88,3 +118,4 @@ pub record Session (s : Setup) (lines : List ScriptLine) (answers : List (List A
       ≡ total f pumped + (total f closing + total f called)
   pub legal : LegalLog s log
   pub down : HasDown answers → EndsLink end
+  pub unanswered : Unanswered s lines 1 answers called seen tickets came log
