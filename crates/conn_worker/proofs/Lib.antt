@@ -3,3 +3,4 @@ mod Running
 mod Ticking
 mod Delivering
 mod Serving
+mod Rounding

@@ -23,7 +23,7 @@ use Rattle.conn_worker.specs.Visits.{IsWork, IsEnd, IsTaken, IsWhole, IsShown, f
 use Rattle.conn_worker.specs.Visits.{runs_in, gave, fed_connection, RunsAll, RunsPart, Delivers}
 use Rattle.conn_worker.specs.Visits.{DeliversPart, EndCounts, Hears, HearsPart, Works, Idle, Piece}
 use Rattle.conn_worker.specs.Visits.{Nothing, Worn, Part, fault_of, front_of, Begins, HearsAll}
-use Rattle.conn_worker.specs.Visits.{DeliveryCounts, run_in}
+use Rattle.conn_worker.specs.Visits.{DeliveryCounts, run_in, standing}
 use Rattle.resp_value.specs.declared.octets.Octets.{Octets}
 use Rattle.conn_worker.specs.declared.connection.Behind.{Behind}
 use Rattle.conn_worker.specs.declared.deliver.Front.{Front}
@@ -181,13 +181,14 @@ module _ (clock : Option ℕ) (id : ℕ) (c : Connection) (left0 left1 link0 lin
             (past_of h.middle) (past_of last) (grows_past h.middle last ts g) w.admitted;
       }
 
-  pub hears_begins : (h : Heard) (after : Connection) (last : Place)
-      (left2 link2 : Option (List ℕ)) → Hears clock h c after left1 left2 new last
+  pub hears_begins : (most : ℕ) (h : Heard) (after : Connection) (last : Place)
+      (left2 link2 : Option (List ℕ)) (k l : Counts)
+      → Hears clock most h c after (standing left1 link1 k new) (standing left2 link2 l last)
       → Keeps link1 link2
       → Begun clock id (fault_of h) (front_of h) after left0 left2 link0 link2 old last
-  hears_begins h after last left2 link2 (Idle idles same took) kept =
+  hears_begins most h after last left2 link2 k l (Idle idles same took counted) kept =
       grind (arith, untaken_begins, idle_waits, idles_pass)
-  hears_begins h after last left2 link2 (Piece behind is piece took r) kept =
+  hears_begins most h after last left2 link2 k l (Piece behind is piece short took counts r) kept =
       grind (arith, taken_begins)
 
   part_works : (piece : List ℕ) (cause : Ended) (after : Connection) (last : Place)
@@ -243,15 +244,18 @@ module _ (clock : Option ℕ) (id : ℕ) (c : Connection) (left0 left1 link0 lin
     shown = shown;
   }
 
-  pub hears_stops : (cause : Ended) (after : Connection) (last : Place)
-      (left2 link2 : Option (List ℕ)) → HearsPart clock cause c after left1 left2 new last
+  pub hears_stops : (most : ℕ) (cause : Ended) (after : Connection) (last : Place)
+      (left2 link2 : Option (List ℕ)) (k l : Counts)
+      → HearsPart clock most cause c after (standing left1 link1 k new)
+      (standing left2 link2 l last)
       → Keeps link1 link2
       → Works clock cause id after.requests left0 left2 link0 link2 old last
-  hears_stops cause after last left2 link2 (Nothing of same still took) kept =
+  hears_stops most cause after last left2 link2 k l (Nothing ends same still took) kept =
       subst (λ k. Works clock cause id after.requests left0 left2 link0 link2 old k) (sym still)
       (grind (arith, rest_works, grows_none))
-  hears_stops cause after last left2 link2 (Worn is r same took) kept = grind (arith, rest_works)
-  hears_stops cause after last left2 link2 (Part piece took r) kept =
+  hears_stops most cause after last left2 link2 k l (Worn is r same took counted) kept =
+      grind (arith, rest_works)
+  hears_stops most cause after last left2 link2 k l (Part piece short took counts r) kept =
       part_works piece cause after last left2 link2 took kept r
 
 module _ (clock : Option ℕ) (id : ℕ) (fault : Option StreamFault) (c : Connection)

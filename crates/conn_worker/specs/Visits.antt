@@ -8,7 +8,7 @@ use Rattle.resp_stream.specs.Parse.{parse, requests_of}
 use Rattle.resp_stream.specs.Stream.{begun, fed}
 use Rattle.resp_stream.specs.declared.fault.StreamFault.{StreamFault}
 use Rattle.edge_links.specs.declared.counts.Counts.{Counts}
-use Rattle.edge_links.specs.Counts.{Counted, FaultCounted}
+use Rattle.edge_links.specs.Counts.{Counted, EndCounted, FaultCounted, IdleCounted}
 use Rattle.serial_model.specs.declared.history.Limits.{Limits}
 use Rattle.serial_model.specs.declared.history.Entry.{Entry}
 use Rattle.serial_model.specs.declared.history.Entry.TheVariants as entry
@@ -184,15 +184,6 @@ EndCounts ended.HistoryFull old new = (new.faults ≡ old.faults) × (new.ends �
 EndCounts ended.NoMemory old new = (new.faults ≡ old.faults) × (new.ends ≡ old.ends)
 EndCounts ended.Worn old new = (new.faults ≡ old.faults) × (new.ends ≡ old.ends)
 
-abbrev pub IsOfLink : Ended → Type 0
-IsOfLink ended.PeerEnd = ⊤
-IsOfLink ended.Dropped = ⊥
-IsOfLink (ended.BadRequest fault) = ⊥
-IsOfLink ended.LinkFault = ⊤
-IsOfLink ended.HistoryFull = ⊥
-IsOfLink ended.NoMemory = ⊥
-IsOfLink ended.Worn = ⊥
-
 abbrev pub fault_of : Heard → Option StreamFault
 fault_of came.Idle = None
 fault_of (came.Left e) = None
@@ -222,26 +213,50 @@ Idles clock came.Idle old new = TicksAt clock old new
 Idles clock (came.Left e) old new = Refuses e 0 old new × IsLeft e
 Idles clock (came.Piece behind) old new = ⊥
 
--- Nothing came; or a piece was read, and the requests that are whole by then ran.
-pub data Hears (clock : Option ℕ) (heard : Heard) (before after : Connection)
-    (left0 left1 : Option (List ℕ)) (old new : Place) : Type 0 where
-  Idle : Idles clock heard old new → after ≡ before → Consumes left0 left1 []
-      → Hears clock heard before after left0 left1 old new
-  Piece : (behind : Behind) → heard ≡ came.Piece behind → (piece : List ℕ)
-      → Consumes left0 left1 piece
-      → HearsAll clock behind (fed_connection before piece) after old new
-      → Hears clock heard before after left0 left1 old new
+-- a link and a seat, at a moment
+pub record Standing : Type 0 where
+  pub left : Option (List ℕ)
+  pub contents : Option (List ℕ)
+  pub counts : Counts
+  pub place : Place
+
+abbrev pub standing : Option (List ℕ) → Option (List ℕ) → Counts → Place → Standing
+standing left contents counts place =
+    record { left = left; contents = contents; counts = counts; place = place }
+
+-- Nothing came, which the link counted; or a piece of at most so many bytes was read, and the
+-- requests that are whole by then ran.
+pub data Hears (clock : Option ℕ) (most : ℕ) (heard : Heard) (before after : Connection)
+    (old new : Standing) : Type 0 where
+  Idle : Idles clock heard old.place new.place → after ≡ before → Consumes old.left new.left []
+      → IdleCounted old.counts new.counts → Hears clock most heard before after old new
+  Piece : (behind : Behind) → heard ≡ came.Piece behind → (piece : List ℕ) → length piece ≤ most
+      → Consumes old.left new.left piece → new.counts ≡ old.counts
+      → HearsAll clock behind (fed_connection before piece) after old.place new.place
+      → Hears clock most heard before after old new
+
+-- the count of an end that the link gave rose
+abbrev pub LinkEnds : Ended → Counts → Counts → Type 0
+LinkEnds ended.PeerEnd old new = EndCounted old new
+LinkEnds ended.Dropped old new = ⊥
+LinkEnds (ended.BadRequest fault) old new = ⊥
+LinkEnds ended.LinkFault old new = FaultCounted old new
+LinkEnds ended.HistoryFull old new = ⊥
+LinkEnds ended.NoMemory old new = ⊥
+LinkEnds ended.Worn old new = ⊥
 
 -- The link gave no bytes; or a piece was read, and some of the requests in it ran.
-pub data HearsPart (clock : Option ℕ) (cause : Ended) (before after : Connection)
-    (left0 left1 : Option (List ℕ)) (old new : Place) : Type 0 where
-  Nothing : IsOfLink cause → after ≡ before → new ≡ old → Consumes left0 left1 []
-      → HearsPart clock cause before after left0 left1 old new
-  Worn : cause ≡ ended.Worn → Refuses refusal.Worn 0 old new → after ≡ before
-      → Consumes left0 left1 [] → HearsPart clock cause before after left0 left1 old new
-  Part : (piece : List ℕ) → Consumes left0 left1 piece
-      → RunsPart clock cause (fed_connection before piece) after old new
-      → HearsPart clock cause before after left0 left1 old new
+pub data HearsPart (clock : Option ℕ) (most : ℕ) (cause : Ended) (before after : Connection)
+    (old new : Standing) : Type 0 where
+  Nothing : LinkEnds cause old.counts new.counts → after ≡ before → new.place ≡ old.place
+      → Consumes old.left new.left [] → HearsPart clock most cause before after old new
+  Worn : cause ≡ ended.Worn → Refuses refusal.Worn 0 old.place new.place → after ≡ before
+      → Consumes old.left new.left [] → IdleCounted old.counts new.counts
+      → HearsPart clock most cause before after old new
+  Part : (piece : List ℕ) → length piece ≤ most → Consumes old.left new.left piece
+      → new.counts ≡ old.counts
+      → RunsPart clock cause (fed_connection before piece) after old.place new.place
+      → HearsPart clock most cause before after old new
 
 abbrev pub HearingCounts : Result Heard Ended → Counts → Counts → Type 0
 HearingCounts (Ok heard) old new = (new.faults ≡ old.faults) × (new.ends ≡ old.ends)

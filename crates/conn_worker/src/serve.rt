@@ -5,7 +5,8 @@ ghost use Rattle.resp_stream.specs.Stream.{begun};
 ghost use Rattle.serial_model.specs.History.{is_admitted};
 ghost use Rattle.seat_turns.specs.Own.{IsWithin, past_of};
 ghost use Rattle.conn_worker.specs.Visits.{EndCounts, Hears, HearsPart, HearingCounts, Visits};
-ghost use Rattle.conn_worker.specs.Visits.{Works, fault_of, front_of};
+ghost use Rattle.conn_worker.specs.Visits.{Works, fault_of, front_of, standing};
+ghost use Rattle.conn_worker.specs.Rounds.{InRounds, Serves};
 
 use super::connection::{Behind, Connection};
 use super::deliver::{Front, deliver_from};
@@ -64,10 +65,14 @@ fn hear_once<R: Wait, L: Link, C: Clock, G: Gate>(
     requires counted { connection.old.requests ≤ length seat.old.seen }
     requires buffer { 0 < length buffer.old }
     ensures buffer { length buffer.new ≡ length buffer.old }
-    ensures ok { IfOk result (λ heard. Hears (C.moment clock.now) heard connection.old
-        connection.new (L.left link.old) (L.left link.new) seat.old seat.new) }
-    ensures err { IfErr result (λ e. HearsPart (C.moment clock.now) e connection.old
-        connection.new (L.left link.old) (L.left link.new) seat.old seat.new) }
+    ensures ok { IfOk result (λ heard. Hears (C.moment clock.now) (length buffer.old) heard
+        connection.old connection.new
+        (standing (L.left link.old) (L.contents link.old) (L.counts link.old) seat.old)
+        (standing (L.left link.new) (L.contents link.new) (L.counts link.new) seat.new)) }
+    ensures err { IfErr result (λ e. HearsPart (C.moment clock.now) (length buffer.old) e
+        connection.old connection.new
+        (standing (L.left link.old) (L.contents link.old) (L.counts link.old) seat.old)
+        (standing (L.left link.new) (L.contents link.new) (L.counts link.new) seat.new)) }
     ensures written { Keeps (L.contents link.old) (L.contents link.new) }
     ensures counts { HearingCounts result (L.counts link.old) (L.counts link.new) }
 {
@@ -120,6 +125,9 @@ fn serve_admitted<R: Wait, L: Link, C: Clock, G: Gate>(
         (L.left link.old) (L.left link.new) (L.contents link.old) (L.contents link.new)
         seat.old seat.new }
     ensures counts { EndCounts result (L.counts link.old) (L.counts link.new) }
+    ensures rounds { Serves (C.moment clock.now) result connection.old.id
+        (standing (L.left link.old) (L.contents link.old) (L.counts link.old) seat.old)
+        (standing (L.left link.new) (L.contents link.new) (L.counts link.new) seat.new) }
 {
     let mut buffer = [0u8; PIECE];
     for _ in rt.forever() {
@@ -167,6 +175,9 @@ pub fn serve_link<R: Wait, L: Link, C: Clock, G: Gate>(
     ensures visit { Visits (C.moment clock.now) result (L.left link.old) (L.left link.new)
         (L.contents link.old) (L.contents link.new) seat.old seat.new }
     ensures counts { EndCounts result.ended (L.counts link.old) (L.counts link.new) }
+    ensures rounds { InRounds (C.moment clock.now) result
+        (standing (L.left link.old) (L.contents link.old) (L.counts link.old) seat.old)
+        (standing (L.left link.new) (L.contents link.new) (L.counts link.new) seat.new) }
 {
     let id = match admit(rt, lock, seat) {
         Ok(id) => id,

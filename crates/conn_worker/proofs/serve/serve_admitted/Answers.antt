@@ -3,24 +3,36 @@ use Rattle.edge_links.proofs.Bytes.{consumes_none, appends_none}
 use Rattle.resp_stream.proofs.Onward.{requests_begun, no_requests}
 use Rattle.std.proofs.Common.{sym, ap, ◌∙◌, arith}
 use Rattle.edge_links.specs.declared.counts.Counts.{Counts}
-use Rattle.conn_worker.specs.Visits.{fault_of, front_of}
+use Rattle.conn_worker.specs.Visits.{fault_of, front_of, standing}
+use Rattle.conn_worker.specs.Rounds.{Start}
 use Rattle.conn_worker.proofs.Serving.{Begun, hears_begins, hears_stops, delivered_serves}
 use Rattle.conn_worker.proofs.Serving.{delivered_ends, delivery_stops, part_counts}
+use Rattle.conn_worker.proofs.Rounding.{Halfway, hears_halfway, hears_last, delivered_rounds}
+use Rattle.conn_worker.proofs.Rounding.{delivered_last, undelivered_last, begins_here}
 use Rattle.conn_worker.proofs.serve.serve_admitted.Goals as goal
 use Rattle.conn_worker.proofs.serve.serve_admitted.Goals.{In-Ok}
 use Rattle.conn_worker.proofs.serve.serve_admitted.Given as given
 
 pub loop-init : goal.loop-init
-loop-init g c = grind (arith, grows_none, consumes_none, requests_begun, no_requests, appends_none)
+loop-init g c =
+    grind (arith, grows_none, consumes_none, requests_begun, no_requests, appends_none, Start)
 
 pub returns-in-Err-clause-works : goal.returns-in-Err-clause-works
 returns-in-Err-clause-works g c =
     hears_stops (g.C.Clock.moment c.args.clock.now) c.args.connection.now.id c.loop.connection
     (g.L.Link.left c.args.link.now) (g.L.Link.left c.loop.link)
     (g.L.Link.contents c.args.link.now) (g.L.Link.contents c.loop.link)
-    c.args.seat.now c.loop.seat c.loop.invariant.2 c.in-Err.ended c.hear_once-heard.new.connection
+    c.args.seat.now c.loop.seat c.loop.invariant.2 _ c.in-Err.ended
+    c.hear_once-heard.new.connection
     c.hear_once-heard.new.seat (g.L.Link.left c.hear_once-heard.new.link)
-    (g.L.Link.contents c.hear_once-heard.new.link) c.in-Err.ensures.err c.in-Err.ensures.written
+    (g.L.Link.contents c.hear_once-heard.new.link) (g.L.Link.counts c.loop.link)
+    (g.L.Link.counts c.hear_once-heard.new.link) c.in-Err.ensures.err c.in-Err.ensures.written
+
+pub returns-in-Err-clause-rounds : goal.returns-in-Err-clause-rounds
+returns-in-Err-clause-rounds g c =
+    let long = c.loop.invariant.6 in
+    hears_last _ _ _ _ _ c.loop.invariant.5 _ c.in-Err.ended _ _ (omega (arith, long))
+    c.in-Err.ensures.err c.in-Err.ensures.written
 
 pub returns-in-Err-clause-counts : goal.returns-in-Err-clause-counts
 returns-in-Err-clause-counts g c = grind arith
@@ -36,10 +48,25 @@ begun g c =
     c.loop.connection
     (g.L.Link.left c.args.link.now) (g.L.Link.left c.loop.link)
     (g.L.Link.contents c.args.link.now) (g.L.Link.contents c.loop.link)
-    c.args.seat.now c.loop.seat c.loop.invariant.2 c.in-Ok.heard
+    c.args.seat.now c.loop.seat c.loop.invariant.2 _ c.in-Ok.heard
     c.hear_once-heard.new.connection c.hear_once-heard.new.seat
     (g.L.Link.left c.hear_once-heard.new.link) (g.L.Link.contents c.hear_once-heard.new.link)
+    (g.L.Link.counts c.loop.link) (g.L.Link.counts c.hear_once-heard.new.link)
     c.in-Ok.ensures.ok c.in-Ok.ensures.written
+
+-- the same, round by round
+halfway : (g : given.Over) → (c : goal.In-Ok g)
+    → Halfway (g.C.Clock.moment c.args.clock.now) c.args.connection.now.id (fault_of c.in-Ok.heard)
+    (front_of c.in-Ok.heard) c.hear_once-heard.new.connection
+    (standing (g.L.Link.left c.args.link.now) (g.L.Link.contents c.args.link.now)
+    (g.L.Link.counts c.args.link.now) c.args.seat.now)
+    (standing (g.L.Link.left c.hear_once-heard.new.link)
+    (g.L.Link.contents c.hear_once-heard.new.link) (g.L.Link.counts c.hear_once-heard.new.link)
+    c.hear_once-heard.new.seat)
+halfway g c =
+    let long = c.loop.invariant.6 in
+    hears_halfway _ _ _ _ _ c.loop.invariant.5 _ c.in-Ok.heard _ _ c.loop.invariant.2.admitted
+    (omega (arith, long)) c.in-Ok.ensures.ok c.in-Ok.ensures.written
 
 pub deliver_from-requires-clause-lock : goal.deliver_from-requires-clause-lock
 deliver_from-requires-clause-lock g c = grind (arith, begun)
@@ -69,6 +96,14 @@ returns-in-Err-deliver_from-clause-counts g c =
     let b = begun g (goal.at.returns-in-Err-deliver_from-clause-counts g c).In-Ok in
     grind (arith, part_counts)
 
+pub returns-in-Err-deliver_from-clause-rounds : goal.returns-in-Err-deliver_from-clause-rounds
+returns-in-Err-deliver_from-clause-rounds g c =
+    let h = halfway g (goal.at.returns-in-Err-deliver_from-clause-rounds g c).In-Ok in
+    undelivered_last _ _ _ _ _ _ _ h _ c.in-Err-deliver_from.ensures.unread
+    c.in-Err-deliver_from.ended (c.in-Err-deliver_from.ensures.err h.middle
+    (begins_here _ _ _ _ _ _ _ h _ c.behind.ensures.1))
+    c.in-Err-deliver_from.ensures.counts
+
 pub returns-in-Some-fault-clause-works : goal.returns-in-Some-fault-clause-works
 returns-in-Some-fault-clause-works g c =
     let b = begun g (goal.at.returns-in-Some-fault-clause-works g c).In-Ok in
@@ -82,9 +117,18 @@ returns-in-Some-fault-clause-works g c =
     (grind arith)
     c.in-Some-fault.fault (sym c.behind.ensures.0 ∙ c.in-Some-fault.is)
 
+pub returns-in-Some-fault-clause-rounds : goal.returns-in-Some-fault-clause-rounds
+returns-in-Some-fault-clause-rounds g c =
+    let h = halfway g (goal.at.returns-in-Some-fault-clause-rounds g c).In-Ok in
+    delivered_last _ _ _ _ _ _ _ h _ c.in-Ok-deliver_from.ensures.unread c.in-Some-fault.fault
+    (sym c.behind.ensures.0 ∙ c.in-Some-fault.is)
+    (c.in-Ok-deliver_from.ensures.ok h.middle
+    (begins_here _ _ _ _ _ _ _ h _ c.behind.ensures.1)) c.in-Ok-deliver_from.ensures.counts
+
 pub loop-preserved : goal.loop-preserved
 loop-preserved g c =
     let b = begun g (goal.at.loop-preserved g c).In-Ok in
+    let h = halfway g (goal.at.loop-preserved g c).In-Ok in
     let same = c.in-Ok-deliver_from.ensures.counts in (
       tt,
       tt,
@@ -99,4 +143,9 @@ loop-preserved g c =
           (sym c.behind.ensures.0 ∙ c.in-None-fault.is),
       ap (λ (k : Counts). k.faults) same ∙ (c.in-Ok.ensures.counts.0 ∙ c.loop.invariant.3),
       ap (λ (k : Counts). k.ends) same ∙ (c.in-Ok.ensures.counts.1 ∙ c.loop.invariant.4),
+      delivered_rounds _ _ _ _ _ _ _ h _ c.in-Ok-deliver_from.ensures.unread
+          (sym c.behind.ensures.0 ∙ c.in-None-fault.is)
+          (c.in-Ok-deliver_from.ensures.ok h.middle
+          (begins_here _ _ _ _ _ _ _ h _ c.behind.ensures.1)) same,
+      c.hear_once-heard.ensures.buffer ∙ c.loop.invariant.6,
     )

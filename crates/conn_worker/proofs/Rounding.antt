@@ -1,0 +1,260 @@
+-- A connection is served round by round: how each round goes on from those before it.
+use Rattle.std.proofs.Common.{◌≡◌, ◌≤◌, ℕ, List, ◌++◌, length, take, true, Some, None, refl, sym, ap}
+use Rattle.std.proofs.Common.{subst, ◌∙◌, append_assoc, arith, inl, inr}
+use Rattle.std.specs.Prelude.{Option, Err}
+use Rattle.std.specs.List.{All}
+use Rattle.std.specs.Io.KnownBytes.{Keeps}
+use Rattle.std.proofs.lemmas.List.{length-take-le}
+use Rattle.std.proofs.lemmas.Option.{same_Some}
+use Rattle.resp_stream.specs.declared.fault.StreamFault.{StreamFault}
+use Rattle.resp_stream.specs.Parse.{parse, requests_of}
+use Rattle.resp_stream.proofs.Onward.{GoesOn, goes_further, requests_join}
+use Rattle.serial_model.specs.History.{is_admitted}
+use Rattle.seat_turns.specs.Own.{past_of}
+use Rattle.seat_turns.proofs.Growing.{grows_past}
+use Rattle.shared_book.specs.Turns.{Place, Takes}
+use Rattle.shared_book.proofs.Histories.{begins_lift, admitted_more}
+use Rattle.conn_worker.specs.declared.report.Ended.{Ended}
+use Rattle.conn_worker.specs.declared.report.Ended.TheVariants as ended
+use Rattle.conn_worker.specs.declared.connection.Connection.{Connection}
+use Rattle.conn_worker.specs.declared.deliver.Front.{Front}
+use Rattle.conn_worker.specs.declared.serve.Heard.{Heard}
+use Rattle.conn_worker.specs.declared.serve.Heard.TheVariants as came
+use Rattle.conn_worker.specs.Visits.{IsWork, IsEnd, fault_in, fed_connection, runs_in, Standing}
+use Rattle.conn_worker.specs.Visits.{Begins, Delivers, DeliversPart, DeliveryCounts, fault_of}
+use Rattle.conn_worker.specs.Visits.{front_of, Hears, HearsPart, Idle, Piece, Nothing}
+use Rattle.conn_worker.specs.Visits.{Worn, Part, RunsAll, RunsPart, Idles}
+use Rattle.conn_worker.specs.Rounds.{most_read, RunsNew, RunsSome, TicksOrLeaves, Hearing, Waited}
+use Rattle.conn_worker.specs.Rounds.{Came, Round, Rounds, Onward, AtEnd}
+use Rattle.conn_worker.specs.Rounds.{NoTicket, Refused, Unwritten, Faulty, Serves}
+
+-- whole rounds, and the reader reads on behind them
+pub record Rounded (clock : Option ℕ) (id : ℕ) (c : Connection) (start now : Standing) : Type 0
+  where
+    pub heard : List ℕ
+    pub rounds : Rounds clock id start heard now
+    pub reading : GoesOn parse heard c.reader
+    pub id_is : c.id ≡ id
+
+-- and one more whose replies wait
+pub record Halfway (clock : Option ℕ) (id : ℕ) (fault : Option StreamFault) (front : Front)
+    (c : Connection) (start now : Standing) : Type 0 where
+  pub before : List ℕ
+  pub old : Standing
+  pub rounds : Rounds clock id start before old
+  pub sound : fault_in before ≡ None
+  pub after : List ℕ
+  pub middle : Place
+  pub hears : Hearing clock id before after old (record now { place = middle })
+  pub begins : Begins id front middle now.place
+  pub reading : fault ≡ None → GoesOn parse after c.reader
+  pub met : (f : StreamFault) → fault ≡ Some f → fault_in after ≡ Some f
+  pub id_is : c.id ≡ id
+
+idle_ticks : (clock : Option ℕ) (h : Heard) (old new : Place) → Idles clock h old new
+    → TicksOrLeaves clock old new
+idle_ticks clock came.Idle old new t = inl t
+idle_ticks clock (came.Left e) old new t = inr (e, t.1, t.0)
+idle_ticks clock (came.Piece b) old new t = absurd t
+
+idle_fault : (clock : Option ℕ) (h : Heard) (old new : Place) → Idles clock h old new
+    → fault_of h ≡ None
+idle_fault clock came.Idle old new t = refl
+idle_fault clock (came.Left e) old new t = refl
+idle_fault clock (came.Piece b) old new t = absurd t
+
+idle_begins : (clock : Option ℕ) (id : ℕ) (h : Heard) (old new : Place) → Idles clock h old new
+    → Begins id (front_of h) new new
+idle_begins clock id came.Idle old new t = refl
+idle_begins clock id (came.Left e) old new t = refl
+idle_begins clock id (came.Piece b) old new t = absurd t
+
+no_fault : (o : Option StreamFault) (f : StreamFault) → o ≡ None → o ≡ Some f → ⊥
+no_fault o f none is = let no : None ≡ Some f = sym none ∙ is in cc
+
+module _ (clock : Option ℕ) (id : ℕ) (c : Connection) (start now : Standing)
+    (s : Rounded clock id c start now) where
+  -- the requests of a piece, where all of them ran
+  piece_runs : (piece : List ℕ) (fault : Option StreamFault) (after : Connection) (last : Place)
+      → RunsAll clock fault (fed_connection c piece) after now.place last
+      → RunsNew clock id s.heard (s.heard ++ piece) now.place last
+  piece_runs piece fault after last r = record {
+    turns = r.turns;
+    grows = r.grows;
+    work = subst (λ n. All (IsWork n clock) r.turns) s.id_is r.work;
+    gave_none = r.gave_none;
+    runs = s.reading.further piece ∙ ap (λ z. requests_of s.heard ++ z) (sym r.runs);
+  }
+
+  -- and what is read behind it
+  piece_reads : (piece : List ℕ) (fault : Option StreamFault) (after : Connection) (last : Place)
+      → RunsAll clock fault (fed_connection c piece) after now.place last → fault ≡ None
+      → GoesOn parse (s.heard ++ piece) after.reader
+  piece_reads piece fault after last r none =
+      subst (λ z. GoesOn parse (s.heard ++ piece) z) (sym (r.reader none))
+      (goes_further parse s.heard piece c.reader requests_join s.reading (sym r.fault_is ∙ none))
+
+  piece_some : (piece : List ℕ) (cause : Ended) (after : Connection) (last : Place)
+      → RunsPart clock cause (fed_connection c piece) after now.place last
+      → RunsSome clock cause id s.heard (s.heard ++ piece) now.place last
+  piece_some piece cause after last r = record {
+    turns = r.turns;
+    grows = r.grows;
+    work = subst (λ n. All (IsWork n clock) r.turns) s.id_is r.work;
+    gave_none = r.gave_none;
+    runs = (
+      r.runs.0,
+      append_assoc (requests_of s.heard) (runs_in r.turns) r.runs.0
+          ∙ ap (λ z. requests_of s.heard ++ z) r.runs.1 ∙ sym (s.reading.further piece),
+    );
+    cause_is = subst (λ n. IsEnd cause n last) s.id_is r.cause_is;
+  }
+
+  -- the link was read, and what came ran
+  pub hears_halfway : (most : ℕ) (h : Heard) (after : Connection) (next : Standing)
+      → is_admitted (past_of now.place) id ≡ true → most ≤ most_read
+      → Hears clock most h c after now next → Keeps now.contents next.contents
+      → Halfway clock id (fault_of h) (front_of h) after start next
+  hears_halfway most h after next admitted le (Idle idles same took counted) kept =
+      let none = idle_fault clock h now.place next.place idles in
+      record {
+        before = s.heard;
+        old = now;
+        rounds = s.rounds;
+        sound = s.reading.none;
+        after = s.heard;
+        middle = next.place;
+        hears = Waited refl took kept counted (idle_ticks clock h now.place next.place idles);
+        begins = idle_begins clock id h now.place next.place idles;
+        reading = λ e. subst (λ (k : Connection). GoesOn parse s.heard k.reader) (sym same)
+            s.reading;
+        met = λ f is. absurd (no_fault (fault_of h) f none is);
+        id_is = ap (λ (k : Connection). k.id) same ∙ s.id_is;
+      }
+  hears_halfway most h after next admitted le (Piece behind is piece short took counts r) kept =
+      let whole = piece_runs piece behind.fault after r.middle r.runs in
+      let t : Takes id behind.front r.middle next.place
+      = subst (λ n. Takes n behind.front r.middle next.place) s.id_is r.takes in
+      let there = begins_lift (λ past. is_admitted past id ≡ true) (admitted_more id)
+      (past_of now.place) (past_of r.middle)
+      (grows_past now.place r.middle r.runs.turns r.runs.grows) admitted in
+      let half : Halfway clock id behind.fault (front_of (came.Piece behind)) after start next
+      = record {
+        before = s.heard;
+        old = now;
+        rounds = s.rounds;
+        sound = s.reading.none;
+        after = s.heard ++ piece;
+        middle = r.middle;
+        hears = Came piece refl (omega (arith, short, le)) took kept counts whole;
+        begins = (r.runs.grows.within, there, t);
+        reading = piece_reads piece behind.fault after r.middle r.runs;
+        met = λ f e. s.reading.faults piece ∙ (sym r.runs.fault_is ∙ e);
+        id_is = r.runs.id ∙ s.id_is;
+      } in
+      subst (λ z. Halfway clock id (fault_of z) (front_of z) after start next) (sym is) half
+
+  -- the service ended at the read, or as what came ran
+  pub hears_last : (most : ℕ) (cause : Ended) (after : Connection) (next : Standing)
+      → most ≤ most_read → HearsPart clock most cause c after now next
+      → Keeps now.contents next.contents
+      → Serves clock cause id start next
+  hears_last most cause after next le (Nothing ends same still took) kept = record {
+    before = s.heard;
+    middle = now;
+    rounds = s.rounds;
+    sound = s.reading.none;
+    after = s.heard;
+    last = AtEnd ends refl still took kept;
+    told = λ f is. absurd (no_fault (fault_in s.heard) f s.reading.none is);
+  }
+  hears_last most cause after next le (Worn is r same took counted) kept = record {
+    before = s.heard;
+    middle = now;
+    rounds = s.rounds;
+    sound = s.reading.none;
+    after = s.heard;
+    last = NoTicket is counted refl r took kept;
+    told = λ f e. absurd (no_fault (fault_in s.heard) f s.reading.none e);
+  }
+  hears_last most cause after next le (Part piece short took counts r) kept =
+      let some = piece_some piece cause after next.place r in
+      record {
+        before = s.heard;
+        middle = now;
+        rounds = s.rounds;
+        sound = s.reading.none;
+        after = s.heard ++ piece;
+        last = Refused piece refl (omega (arith, short, le)) took kept counts some;
+        told = λ f e. inr (inr some.cause_is);
+      }
+
+module _ (clock : Option ℕ) (id : ℕ) (fault : Option StreamFault) (front : Front)
+    (c : Connection) (start now : Standing) (h : Halfway clock id fault front c start now) where
+  pub begins_here : (f : Front) → f ≡ front → Begins c.id f h.middle now.place
+  begins_here f is =
+      subst (λ n. Begins n f h.middle now.place) (sym h.id_is)
+      (subst (λ z. Begins id z h.middle now.place) (sym is) h.begins)
+
+  module _ (next : Standing) (kept : Keeps now.left next.left) where
+    half_round : Delivers c.id now.contents next.contents h.middle next.place
+        → next.counts ≡ now.counts → Round clock id h.before h.after h.old next
+    half_round d counts = record {
+      middle = record now { place = h.middle };
+      hears = h.hears;
+      writes = record {
+        delivers = subst (λ n. Delivers n now.contents next.contents h.middle next.place) h.id_is
+            d;
+        unread = kept;
+        counts = counts;
+      };
+    }
+
+    pub delivered_rounds : fault ≡ None
+        → Delivers c.id now.contents next.contents h.middle next.place
+        → next.counts ≡ now.counts → Rounded clock id c start next
+    delivered_rounds none d counts = record {
+      heard = h.after;
+      rounds = Onward h.before h.after h.old next h.rounds (half_round d counts);
+      reading = h.reading none;
+      id_is = h.id_is;
+    }
+
+    pub delivered_last : (f : StreamFault) → fault ≡ Some f
+        → Delivers c.id now.contents next.contents h.middle next.place
+        → next.counts ≡ now.counts → Serves clock (ended.BadRequest f) id start next
+    delivered_last f is d counts = record {
+      before = h.before;
+      middle = h.old;
+      rounds = h.rounds;
+      sound = h.sound;
+      after = h.after;
+      last = Faulty f refl (h.met f is) (half_round d counts);
+      told = λ g e. inl (ap (λ z. ended.BadRequest z) (same_Some f g (sym (h.met f is) ∙ e)));
+    }
+
+    pub undelivered_last : (cause : Ended)
+        → DeliversPart cause c.id now.contents next.contents h.middle next.place
+        → DeliveryCounts (Err cause) now.counts next.counts → Serves clock cause id start next
+    undelivered_last cause d counts =
+        let part = subst (λ n. DeliversPart cause n now.contents next.contents h.middle next.place)
+        h.id_is d in
+        record {
+          before = h.before;
+          middle = h.old;
+          rounds = h.rounds;
+          sound = h.sound;
+          after = h.after;
+          last = Unwritten (record now { place = h.middle }) h.hears part counts kept;
+          told = λ f e. inr part.cause_is;
+        }
+
+-- of the same connection
+pub serves_as : (clock : Option ℕ) (cause : Ended) (old new : Standing) (n m : ℕ) → n ≡ m
+    → Serves clock cause n old new → Serves clock cause m old new
+serves_as clock cause old new n m is s = subst (λ k. Serves clock cause k old new) is s
+
+-- a piece is no longer than what it was read into
+pub piece_short : (n : ℕ) (bytes : List ℕ) (most : ℕ) → n ≤ length bytes → length bytes ≡ most
+    → length (take n bytes) ≤ most
+piece_short n bytes most le is = omega (arith, length-take-le n bytes le, le, is)
