@@ -34,21 +34,28 @@ enum {
     ZEOVALKI_QUIET = 6,      /* no bytes are to be sent */
     ZEOVALKI_ENDED = 7,      /* the link has ended; nothing is held any more */
     ZEOVALKI_NOT_READY = 8,  /* the server has not answered the set-up yet: feed, and ask again */
-    ZEOVALKI_CONTROL = 9,    /* the command would change how the server serves this client */
+    ZEOVALKI_CONTROL = 9,    /* the command would change how the server serves this connection */
     ZEOVALKI_NO_NUMBER = 10, /* nobody waits for a reply of this number */
     ZEOVALKI_LOG_FULL = 11,  /* the log has as many entries as it may: make another client */
     ZEOVALKI_NO_MEMORY = 12, /* memory ran out; zeovalki_ended tells whether the link has ended */
     ZEOVALKI_NO_REQUEST = 13, /* the bytes begin with no whole command */
     ZEOVALKI_NO_QUERY = 14,  /* the command is no read that can be held: send it */
-    ZEOVALKI_BAD_LIMIT = 15, /* a limit is 0, or the capacity is above 1,000,000 */
+    ZEOVALKI_BAD_LIMIT = 15, /* the capacity is not 1 to 1,000,000, or the log is below 1,000 */
 };
 
 /* Makes a client that holds at most `capacity` keys, and whose log has at most `log_max` entries.
+ * What was fetched more than `max_age` ago is fetched anew, by the times that zeovalki_time tells,
+ * in any unit; 0 is no bound.
  * DONE, and *client points to a client that has done nothing yet, whose first bytes for the server
- * are its set-up; BAD_LIMIT exactly where a limit is 0 or the capacity is above 1,000,000; or
- * NO_MEMORY. Where it is not DONE, *client is as before. *client has a value at the call (NULL, say),
- * which is written over and not freed. */
-zeovalki_status zeovalki_new(uint64_t capacity, uint64_t log_max, zeovalki_client **client);
+ * are its set-up; BAD_LIMIT exactly where the capacity is 0 or above 1,000,000, or the log_max below
+ * 1,000; or NO_MEMORY. Where it is not DONE, *client is as before. *client has a value at the call
+ * (NULL, say), which is written over and not freed. */
+zeovalki_status zeovalki_new(uint64_t capacity, uint64_t log_max, uint64_t max_age,
+                             zeovalki_client **client);
+
+/* The time of the asks that follow, of a client with a bound: 0 until one is told. A time before the
+ * latest counts as the latest. DONE, or ENDED after zeovalki_close. */
+zeovalki_status zeovalki_time(zeovalki_client *client, uint64_t now);
 
 /* What the server sent next. Each whole value in it is processed: replies, and invalidations. Bytes
  * that are no RESP, a malformed invalidation and a reply to nothing end the link.
@@ -63,7 +70,9 @@ zeovalki_status zeovalki_take_out(zeovalki_client *client, uint64_t most);
  * HIT; SENT; NO_QUERY, NO_REQUEST, NOT_READY, ENDED, LOG_FULL or NO_MEMORY. */
 zeovalki_status zeovalki_ask(zeovalki_client *client, const uint8_t *request, size_t size);
 
-/* Sends any command, written likewise. What it may write is no longer held.
+/* Sends any other command, written likewise. What it may write is no longer held: the keys of a
+ * command that the library knows, and each word of any other. CONTROL where its first word is one of
+ * those that docs/library.md lists (SELECT, MULTI, SUBSCRIBE, AUTH and the like): nothing is sent.
  * SENT; CONTROL, NO_REQUEST, NOT_READY, ENDED, LOG_FULL or NO_MEMORY. */
 zeovalki_status zeovalki_send(zeovalki_client *client, const uint8_t *request, size_t size);
 

@@ -1,5 +1,7 @@
 /* What a hit costs: library_cost prints nanoseconds of the processor for values of 10, 1,000 and
- * 100,000 bytes, beside a copy of the bytes, and how much memory a hit's entry in the log takes. */
+ * 100,000 bytes, beside a copy of the bytes, and how much memory a hit's entry in the log takes; and
+ * what sending a command of ten words costs, of one that the library knows and of one that it does
+ * not know, whose words it lets go. */
 #define _GNU_SOURCE
 #include <stdio.h>
 #include <stdlib.h>
@@ -36,7 +38,7 @@ static void measure(size_t size)
     static char value[MOST + 64];
     static uint8_t answer[MOST + 64], copy[MOST + 64];
     zeovalki_client *client = NULL;
-    if (zeovalki_new(100, 2 * CALLS, &client) != ZEOVALKI_DONE) {
+    if (zeovalki_new(100, 2 * CALLS, 0, &client) != ZEOVALKI_DONE) {
         exit(1);
     }
     feed(client, "%0\r\n+OK\r\n");
@@ -65,10 +67,48 @@ static void measure(size_t size)
     zeovalki_free(client);
 }
 
+static double send_cost(const char *name)
+{
+    enum { ROUNDS = 200, SENDS = 500 };
+    char command[256];
+    static uint8_t out[1 << 20];
+    static char replies[8 * SENDS];
+    zeovalki_client *client = NULL;
+    if (zeovalki_new(100000, 10000000, 0, &client) != ZEOVALKI_DONE) {
+        exit(1);
+    }
+    feed(client, "%0\r\n+OK\r\n");
+    int size = sprintf(command, "%s key:1 key:2 key:3 key:4 key:5 key:6 key:7 key:8 key:9\r\n", name);
+    for (int at = 0; at < SENDS; at++) {
+        memcpy(replies + 5 * at, "+OK\r\n", 6);
+    }
+    double took = 0;
+    for (int round = 0; round < ROUNDS; round++) {
+        double began = seconds();
+        for (int call = 0; call < SENDS; call++) {
+            if (zeovalki_send(client, (const uint8_t *)command, (size_t)size) != ZEOVALKI_SENT) {
+                exit(1);
+            }
+        }
+        took += seconds() - began;
+        uint64_t last = zeovalki_number(client);
+        while (zeovalki_take_out(client, sizeof out) == ZEOVALKI_BYTES) {
+        }
+        feed(client, replies);
+        for (uint64_t number = last + 1 - SENDS; number <= last; number++) {
+            zeovalki_poll(client, number);
+        }
+    }
+    zeovalki_free(client);
+    return 1e9 * took / ROUNDS / SENDS;
+}
+
 int main(void)
 {
     measure(10);
     measure(1000);
     measure(MOST);
+    double known = send_cost("MGET"), unknown = send_cost("LPUSH");
+    printf("a command of ten words: %.0f ns; one that is not known: %.0f ns\n", known, unknown);
     return 0;
 }

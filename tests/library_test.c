@@ -115,6 +115,8 @@ static struct told call(zeovalki_client *client, const char *verb, const char *a
         told.status = zeovalki_poll(client, strtoull(argument, NULL, 10));
     } else if (strcmp(verb, "take") == 0) {
         told.status = zeovalki_take_out(client, strtoull(argument, NULL, 10));
+    } else if (strcmp(verb, "time") == 0) {
+        told.status = zeovalki_time(client, strtoull(argument, NULL, 10));
     } else if (strcmp(verb, "end") == 0) {
         told.status = zeovalki_end(client);
     } else if (strcmp(verb, "ended") == 0) {
@@ -170,6 +172,16 @@ static int play(FILE *dialogue, zeovalki_client *client, size_t piece)
     return failed;
 }
 
+/* The bound of a dialogue, which its first line says by `bound`; 0 where it does not. */
+static uint64_t read_bound(FILE *dialogue)
+{
+    unsigned long long bound = 0;
+    if (fscanf(dialogue, "bound %llu\n", &bound) != 1) {
+        rewind(dialogue);
+    }
+    return bound;
+}
+
 int main(int count, char **words)
 {
     if (count != 3) {
@@ -180,12 +192,12 @@ int main(int count, char **words)
         stop("no such dialogue");
     }
     zeovalki_client *client = NULL;
-    if (zeovalki_new(0, 1, &client) != ZEOVALKI_BAD_LIMIT
-        || zeovalki_new(1000001, 1, &client) != ZEOVALKI_BAD_LIMIT
-        || zeovalki_new(1, 0, &client) != ZEOVALKI_BAD_LIMIT || client != NULL) {
+    if (zeovalki_new(0, 1000, 0, &client) != ZEOVALKI_BAD_LIMIT
+        || zeovalki_new(1000001, 1000, 0, &client) != ZEOVALKI_BAD_LIMIT
+        || zeovalki_new(1, 999, 0, &client) != ZEOVALKI_BAD_LIMIT || client != NULL) {
         stop("a limit that is wrong is taken");
     }
-    if (zeovalki_new(100, 1000, &client) != ZEOVALKI_DONE) {
+    if (zeovalki_new(100, 1000, read_bound(dialogue), &client) != ZEOVALKI_DONE) {
         stop("no client");
     }
     int failed = play(dialogue, client, (size_t)strtoull(words[2], NULL, 10));

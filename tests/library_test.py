@@ -37,18 +37,21 @@ def call(client, verb, argument, piece):
         status = feed(client, read_bytes(argument), piece)
     elif verb in ("ask", "send"):
         status = getattr(client, verb)(read_bytes(argument))
-    elif verb in ("poll", "take"):
-        status = (client.poll if verb == "poll" else client.take_out)(int(argument))
+    elif verb in ("poll", "take", "time"):
+        name = "take_out" if verb == "take" else verb
+        status = getattr(client, name)(int(argument))
     else:
         status = getattr(client, verb)()
     return status, client.number(), client.answer()
 
 
 def main(path, piece):
-    client = Client(100, 1000)
+    lines = Path(path).read_text().splitlines()
+    bound = int(lines[0].split()[1]) if lines[0].startswith("bound ") else 0
+    client = Client(100, 1000, bound)
     failed = 0
-    for number, line in enumerate(Path(path).read_text().splitlines(), 1):
-        if line.startswith("#"):
+    for number, line in enumerate(lines, 1):
+        if line.startswith(("#", "bound ")):
             continue
         verb, argument, *wanted, answer = line.split()
         told = call(client, verb, argument, piece)

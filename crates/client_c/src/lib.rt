@@ -2,11 +2,9 @@
 //! plain words; `docs/library.md` says what a program has to keep.
 #![tactic(auto)]
 
-ghost use Rattle.shared_cache.specs.declared.log.ClientCall.TheVariants as call;
-ghost use Rattle.shared_cache.specs.declared.log.Wire.TheVariants.{Main};
-ghost use Rattle.client_library.specs.Foreign.{Closes, Copies, Ends, OnOpen, TellsEnded};
-ghost use Rattle.client_library.specs.Foreign.{TellsNumber};
-ghost use Rattle.client_library.specs.Handles.{Asks, Called, Feeds, Handle, Sends};
+ghost use Rattle.client_library.specs.Foreign.{Closes, Copies, OnOpen, TellsEnded, TellsNumber};
+ghost use Rattle.client_library.specs.Handles.{Asks, Ends, Feeds, Handle, Polls, Sends, TakesOut};
+ghost use Rattle.client_library.specs.Handles.{TellsTime};
 ghost use Rattle.client_library.specs.contracts.foreign.ForeignClient.{the_row};
 ghost use Rattle.client_c.specs.Made.{Makes};
 ghost use Rattle.std.specs.Prelude.{◌≡◌, Option, Some};
@@ -26,11 +24,12 @@ pub extern "C" fn zeovalki_new(
     alloc: Global,
     capacity: u64,
     log_max: u64,
+    max_age: u64,
     out: &mut ClientPointer,
 ) -> u64
-    ensures { Makes capacity log_max out.old.client result out.new.client }
+    ensures { Makes capacity log_max max_age out.old.client result out.new.client }
 {
-    let Ok(made) = ForeignClient::new(alloc, capacity, log_max) else {
+    let Ok(made) = ForeignClient::new(alloc, capacity, log_max, max_age) else {
         return status::NO_MEMORY;
     };
     let Some(client) = made else {
@@ -61,7 +60,7 @@ pub unsafe extern "C" fn zeovalki_take_out(at: *mut u8, most: u64) -> u64
     ghost old: { Option Handle }
     requires* { sem 𝓛 (lies_at the_row full_share at old) }
     ensures* { ∃ₛ λ new. sem 𝓛 (lies_at the_row full_share at new)
-        ∗ ⌜ OnOpen (Called (call.TakeOut Main most)) old result new ⌝ }
+        ∗ ⌜ OnOpen (TakesOut most) old result new ⌝ }
 {
     let client = &mut *(at as *mut ForeignClient);
     client.take_out(most)
@@ -97,10 +96,22 @@ pub unsafe extern "C" fn zeovalki_poll(at: *mut u8, number: u64) -> u64
     ghost old: { Option Handle }
     requires* { sem 𝓛 (lies_at the_row full_share at old) }
     ensures* { ∃ₛ λ new. sem 𝓛 (lies_at the_row full_share at new)
-        ∗ ⌜ OnOpen (Called (call.Poll number)) old result new ⌝ }
+        ∗ ⌜ OnOpen (Polls number) old result new ⌝ }
 {
     let client = &mut *(at as *mut ForeignClient);
     client.poll(number)
+}
+
+/// The time of the asks that follow.
+#[unsafe(no_mangle)]
+pub unsafe extern "C" fn zeovalki_time(at: *mut u8, now: u64) -> u64
+    ghost old: { Option Handle }
+    requires* { sem 𝓛 (lies_at the_row full_share at old) }
+    ensures* { ∃ₛ λ new. sem 𝓛 (lies_at the_row full_share at new)
+        ∗ ⌜ OnOpen (TellsTime now) old result new ⌝ }
+{
+    let client = &mut *(at as *mut ForeignClient);
+    client.tell_time(now)
 }
 
 /// The connection is lost.

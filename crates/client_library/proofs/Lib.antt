@@ -1,2 +1,3 @@
+pub mod GuardLaws
 pub mod Reading
 pub mod TurnLaws

@@ -1,25 +1,28 @@
 -- A client for a program of another language: a handle, until it is closed.
 use Rattle.std.specs.Prelude.{◌≡◌, ◌==◌, ◌&&◌, ℕ, List, [], Bool, true, false, Option}
-use Rattle.std.specs.Prelude.{Some, None, length, not, nat_le, cond}
-use Rattle.client_library.specs.Library.{ended, fresh, has_ended}
+use Rattle.std.specs.Prelude.{Some, None, length, not, nat_le, cond, if◌then◌else◌}
+use Rattle.client_library.specs.Guarded.{begun_with}
+use Rattle.client_library.specs.Library.{has_ended}
 use Rattle.client_library.specs.Handles.{Handle, copied, silent}
 
--- it is made where the limits are some: at least a key and an entry, and at most 1,000,000 keys
+-- it is made where the limits are served: at least a key and 1,000 entries, at most 1,000,000 keys
 abbrev pub is_limit : ℕ → ℕ → Bool
 is_limit capacity log_max =
-    not (capacity == 0) && (nat_le capacity 1000000 && not (log_max == 0))
+    not (capacity == 0) && (nat_le capacity 1000000 && nat_le 1000 log_max)
 
-abbrev pub made : ℕ → ℕ → Option (Option Handle)
-made capacity log_max =
-    cond (is_limit capacity log_max) (Some (Some (silent (fresh capacity log_max)))) None
+-- 0 is no bound
+abbrev pub bound : ℕ → Option ℕ
+bound max_age = if max_age == 0 then None else Some max_age
+
+abbrev pub made : ℕ → ℕ → ℕ → Option (Option Handle)
+made capacity log_max max_age =
+    cond (is_limit capacity log_max)
+    (Some (Some (silent (begun_with capacity log_max (bound max_age))))) None
 
 -- a call on a handle; where it was closed, it tells that the link has ended
 abbrev pub OnOpen : (Handle → ℕ → Handle → Type 0) → Option Handle → ℕ → Option Handle → Type 0
 OnOpen P None status new = (status ≡ 7) × (new ≡ None)
 OnOpen P (Some h) status new = (k : Handle) × (new ≡ Some k) × P h status k
-
-abbrev pub Ends : Handle → ℕ → Handle → Type 0
-Ends h status k = (status ≡ 0) × (k ≡ silent (ended h.client))
 
 abbrev pub Closes : Option Handle → ℕ → Option Handle → Type 0
 Closes old status new = (status ≡ 0) × (new ≡ None)
@@ -30,7 +33,7 @@ one_if false = 0
 
 abbrev pub ended_in : Option Handle → ℕ
 ended_in None = 1
-ended_in (Some h) = one_if (has_ended h.client)
+ended_in (Some h) = one_if (has_ended h.client.client)
 
 abbrev pub number_in : Option Handle → ℕ
 number_in None = 0

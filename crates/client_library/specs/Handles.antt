@@ -7,25 +7,31 @@ use Rattle.resp_value.specs.ValueTree.{tree_of}
 use Rattle.resp_stream.specs.Parse.{parse_values}
 use Rattle.resp_stream.specs.Stream.{fed}
 use Rattle.command_words.specs.Queries.{query_of}
-use Rattle.shared_cache.specs.declared.log.ClientCall.{ClientCall}
 use Rattle.shared_cache.specs.declared.log.ClientCall.TheVariants as call
+use Rattle.shared_cache.specs.declared.log.Wire.TheVariants.{Main}
 use Rattle.shared_cache.specs.declared.log.ClientReply.{ClientReply}
 use Rattle.shared_cache.specs.declared.log.ClientReply.TheVariants.{Hit, Sent, NotYet, Answer}
 use Rattle.shared_cache.specs.declared.log.ClientReply.TheVariants.{Bytes, Quiet, Noted, Refused}
 use Rattle.shared_cache.specs.declared.log.ClientRefusal.{ClientRefusal}
 use Rattle.shared_cache.specs.declared.log.ClientRefusal.TheVariants as refusal
 use Rattle.shared_cache.specs.Held.{Words}
-use Rattle.client_library.specs.Library.{CutShort, Library, Plays, ended, feed}
+use Rattle.client_library.specs.Library.{CutShort, Library, ended, feed}
+use Rattle.client_library.specs.Guarded.{AsksGuarded, Guarded, SendsGuarded, Turns, at_time}
+use Rattle.client_library.specs.Guarded.{with_client}
 use Rattle.client_library.specs.Requests.{first_request}
 
 -- the client, and the bytes and the number that its last call told
 pub record Handle : Type 0 where
-  pub client : Library
+  pub client : Guarded
   pub answer : List ℕ
   pub number : ℕ
 
-abbrev pub silent : Library → Handle
+abbrev pub silent : Guarded → Handle
 silent c = record { client = c; answer = []; number = 0 }
+
+-- the client at the end of its link
+abbrev pub lost : Guarded → Guarded
+lost c = with_client c (ended c.client)
 
 -- ---- what a call tells
 
@@ -64,17 +70,18 @@ answer_of (Bytes b) = b
 answer_of reply = []
 
 -- what a reply of the client is told by, or memory ran out for its bytes, and the link ended
-abbrev pub Tells : ClientReply → Library → ℕ → Handle → Type 0
+abbrev pub Tells : ClientReply → Guarded → ℕ → Handle → Type 0
 Tells reply c status new =
     ((status ≡ status_of reply)
     × (new ≡ record { client = c; answer = answer_of reply; number = number_of reply }))
-    ⊎ ((status ≡ 12) × (new ≡ silent (ended c)))
+    ⊎ ((status ≡ 12) × (new ≡ silent (lost c)))
 
--- one turn, and what it tells
-pub record Called (c : ClientCall) (old : Handle) (status : ℕ) (new : Handle) : Type 0 where
+-- what is done to the client, and what it tells
+pub record Called (Does : Guarded → ClientReply → Guarded → Type 0) (old : Handle) (status : ℕ)
+    (new : Handle) : Type 0 where
   pub reply : ClientReply
-  pub between : Library
-  pub plays : Plays c old.client reply between
+  pub between : Guarded
+  pub does : Does old.client reply between
   pub tells : Tells reply between status new
 
 -- nothing was done
@@ -85,7 +92,7 @@ Passed wanted old status new = (status ≡ wanted) × (new ≡ silent old.client
 
 abbrev pub AsksQuery : Option Words → Handle → ℕ → Handle → Type 0
 AsksQuery None old status new = Passed 14 old status new
-AsksQuery (Some q) old status new = Called (call.Ask q) old status new
+AsksQuery (Some q) old status new = Called (AsksGuarded q) old status new
 
 abbrev pub AsksWords : Option Words → Handle → ℕ → Handle → Type 0
 AsksWords None old status new = Passed 13 old status new
@@ -98,20 +105,34 @@ Asks request old status new =
 
 abbrev pub SendsWords : Option Words → Handle → ℕ → Handle → Type 0
 SendsWords None old status new = Passed 13 old status new
-SendsWords (Some ws) old status new = Called (call.Send ws) old status new
+SendsWords (Some ws) old status new = Called (SendsGuarded ws) old status new
 
 -- the command that the bytes write is sent, or memory ran out for its words
 abbrev pub Sends : List ℕ → Handle → ℕ → Handle → Type 0
 Sends request old status new =
     SendsWords (first_request request) old status new ⊎ Passed 12 old status new
 
+abbrev pub Polls : ℕ → Handle → ℕ → Handle → Type 0
+Polls number old status new = Called (Turns (call.Poll number)) old status new
+
+abbrev pub TakesOut : ℕ → Handle → ℕ → Handle → Type 0
+TakesOut most old status new = Called (Turns (call.TakeOut Main most)) old status new
+
+-- the time of the asks that follow
+abbrev pub TellsTime : ℕ → Handle → ℕ → Handle → Type 0
+TellsTime now old status new = (status ≡ 0) × (new ≡ silent (at_time now old.client))
+
+abbrev pub Ends : Handle → ℕ → Handle → Type 0
+Ends old status new = (status ≡ 0) × (new ≡ silent (lost old.client))
+
 -- what the server sent is got, or memory ran out and the link ended
 abbrev pub Feeds : List ℕ → Handle → ℕ → Handle → Type 0
 Feeds bytes old status new =
-    ((status ≡ 0) × (new ≡ silent (feed old.client bytes)))
+    ((status ≡ 0) × (new ≡ silent (with_client old.client (feed old.client.client bytes))))
     ⊎ ((status ≡ 12)
-    × ((c : Library) × CutShort old.client (parse_values (fed old.client.reader bytes)).items c
-    × (new ≡ silent c)))
+    × ((c : Library)
+    × CutShort old.client.client (parse_values (fed old.client.client.reader bytes)).items c
+    × (new ≡ silent (with_client old.client c))))
 
 -- the answer is copied where there is room for it; in any case its size is told
 abbrev pub copied : List ℕ → List ℕ → List ℕ

@@ -1,4 +1,7 @@
 pub mod Foreign
+pub mod Guarded
 pub mod Handles
 pub mod Library
+pub mod Refused
 pub mod Requests
+pub mod Unknown

@@ -1,10 +1,9 @@
 //! A client for a program of another language: a handle, until it is closed.
 ghost use Rattle.std.specs.Prelude.{◌≡◌, IfOk};
-ghost use Rattle.shared_cache.specs.declared.log.ClientCall.TheVariants as call;
-ghost use Rattle.shared_cache.specs.declared.log.Wire.TheVariants.{Main};
-ghost use Rattle.client_library.specs.Foreign.{Closes, Copies, Ends, OnOpen, TellsEnded, made};
-ghost use Rattle.client_library.specs.Foreign.{TellsNumber};
-ghost use Rattle.client_library.specs.Handles.{Asks, Called, Feeds, Sends};
+ghost use Rattle.client_library.specs.Foreign.{Closes, Copies, OnOpen, TellsEnded, TellsNumber};
+ghost use Rattle.client_library.specs.Foreign.{bound, made};
+ghost use Rattle.client_library.specs.Handles.{Asks, Ends, Feeds, Polls, Sends, TakesOut};
+ghost use Rattle.client_library.specs.Handles.{TellsTime};
 
 use super::handle::{Handle, status};
 use resp_value::NoMemory;
@@ -30,19 +29,28 @@ impl Model for ForeignClient {
     ghost view = { λ c. c.handle };
 }
 
+/// The bound on the age of hits; 0 stands for none.
+fn bound(max_age: u64) -> Option<u64>
+    ensures { result ≡ bound max_age }
+{
+    if max_age == 0 { None } else { Some(max_age) }
+}
+
 impl ForeignClient {
-    /// As `Handle::new`; nothing where a limit is none.
+    /// As `Handle::new`, where a `max_age` of 0 is no bound; nothing where a limit is none: the log
+    /// has room for the set-up and for some hundreds of commands.
     pub fn new(
         alloc: Global,
         capacity: u64,
         log_max: u64,
+        max_age: u64,
     ) -> Result<Option<ForeignClient>, NoMemory>
-        ensures { IfOk result (λ c. c ≡ made capacity log_max) }
+        ensures { IfOk result (λ c. c ≡ made capacity log_max max_age) }
     {
-        if capacity == 0 || capacity > 1000000 || log_max == 0 {
+        if capacity == 0 || capacity > 1000000 || log_max < 1000 {
             return Ok(None);
         }
-        let handle = Handle::new(alloc, capacity, log_max)?;
+        let handle = Handle::new(alloc, capacity, log_max, bound(max_age))?;
         Ok(Some(ForeignClient {
             handle: Some(handle),
         }))
@@ -76,7 +84,7 @@ impl ForeignClient {
     }
 
     pub fn poll(&mut self, number: u64) -> u64
-        ensures { OnOpen (Called (call.Poll number)) self.old result self.new }
+        ensures { OnOpen (Polls number) self.old result self.new }
     {
         match &mut self.handle {
             Some(handle) => handle.poll(number),
@@ -85,10 +93,19 @@ impl ForeignClient {
     }
 
     pub fn take_out(&mut self, most: u64) -> u64
-        ensures { OnOpen (Called (call.TakeOut Main most)) self.old result self.new }
+        ensures { OnOpen (TakesOut most) self.old result self.new }
     {
         match &mut self.handle {
             Some(handle) => handle.take_out(most),
+            None => status::ENDED,
+        }
+    }
+
+    pub fn tell_time(&mut self, now: u64) -> u64
+        ensures { OnOpen (TellsTime now) self.old result self.new }
+    {
+        match &mut self.handle {
+            Some(handle) => handle.tell_time(now),
             None => status::ENDED,
         }
     }

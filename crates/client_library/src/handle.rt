@@ -1,16 +1,16 @@
 //! The client as a program of another language holds it: each call tells a status, and what it
 //! tells beside stands in the handle until the next call.
 ghost use Rattle.std.specs.Prelude.{◌≡◌, ◌++◌, ◌<◌, ◌≤◌, [], IfOk, OnErr, OnOk, length};
-ghost use Rattle.shared_cache.specs.declared.log.ClientCall.TheVariants as call;
-ghost use Rattle.shared_cache.specs.declared.log.Wire.TheVariants.{Main};
 ghost use Rattle.command_words.specs.Queries.{query_of};
-ghost use Rattle.client_library.specs.Handles.{Asks, AsksQuery, AsksWords, Called, Feeds, Sends};
-ghost use Rattle.client_library.specs.Handles.{SendsWords, Tells, answer_of, copied, number_of};
-ghost use Rattle.client_library.specs.Handles.{refusal_status, silent, status_of};
-ghost use Rattle.client_library.specs.Library.{ended, fresh, has_ended};
+ghost use Rattle.client_library.specs.Guarded.{begun_with};
+ghost use Rattle.client_library.specs.Handles.{Asks, AsksQuery, AsksWords, Ends, Feeds, Polls};
+ghost use Rattle.client_library.specs.Handles.{Sends, SendsWords, TakesOut, Tells, TellsTime};
+ghost use Rattle.client_library.specs.Handles.{answer_of, copied, number_of, refusal_status};
+ghost use Rattle.client_library.specs.Handles.{silent, status_of};
+ghost use Rattle.client_library.specs.Library.{has_ended};
 ghost use Rattle.client_library.specs.Requests.{first_request};
 
-use super::library::LibraryClient;
+use super::guarded::GuardedClient;
 use super::request::read_words;
 use command_words::Query;
 use resp_value::{NoMemory, Proto, Words, put_value};
@@ -50,7 +50,7 @@ pub mod status {
     pub const NO_REQUEST: u64 = 13;
     /// The command is no query that can be held.
     pub const NO_QUERY: u64 = 14;
-    /// A limit is none.
+    /// A limit is none that is served.
     pub const BAD_LIMIT: u64 = 15;
 }
 
@@ -58,7 +58,7 @@ pub mod status {
 #[derive(Drop)]
 pub struct Handle {
     alloc: Global,
-    client: LibraryClient,
+    client: GuardedClient,
     answer: Vec<u8>,
     number: u64,
 }
@@ -134,15 +134,20 @@ fn put_answer(reply: &ClientReply, out: &mut Vec<u8>) -> Result<(), NoMemory>
 }
 
 impl Handle {
-    /// As `LibraryClient::new`.
-    pub fn new(alloc: Global, capacity: u64, log_max: u64) -> Result<Handle, NoMemory>
+    /// As `GuardedClient::new`.
+    pub fn new(
+        alloc: Global,
+        capacity: u64,
+        log_max: u64,
+        max_age: Option<u64>,
+    ) -> Result<Handle, NoMemory>
         requires capacity { (0 < capacity) × (capacity ≤ 1000000) }
         requires log_max { 0 < log_max }
-        ensures { IfOk result (λ h. h ≡ silent (fresh capacity log_max)) }
+        ensures { IfOk result (λ h. h ≡ silent (begun_with capacity log_max max_age)) }
     {
         Ok(Handle {
             alloc,
-            client: LibraryClient::new(alloc, capacity, log_max)?,
+            client: GuardedClient::new(alloc, capacity, log_max, max_age)?,
             answer: Vec::new(alloc),
             number: 0,
         })
@@ -164,7 +169,7 @@ impl Handle {
 
     /// Whether the link has ended.
     pub fn has_ended(&self) -> bool
-        ensures { result ≡ has_ended self.now.client }
+        ensures { result ≡ has_ended self.now.client.client }
     {
         self.client.has_ended()
     }
@@ -258,7 +263,7 @@ impl Handle {
         }
     }
 
-    /// Sends the command that the bytes write, whatever it is.
+    /// Sends the command that the bytes write, unless it would change how the connection is served.
     pub fn send(&mut self, request: &[u8]) -> u64
         ensures { Sends request.now self.old result self.new }
     {
@@ -271,7 +276,7 @@ impl Handle {
 
     /// The reply to the command of that number, which is told once.
     pub fn poll(&mut self, number: u64) -> u64
-        ensures { Called (call.Poll number) self.old result self.new }
+        ensures { Polls number self.old result self.new }
     {
         self.clear();
         let reply = self.client.poll(number);
@@ -280,7 +285,7 @@ impl Handle {
 
     /// The next bytes for the server, at most so many.
     pub fn take_out(&mut self, most: u64) -> u64
-        ensures { Called (call.TakeOut Main most) self.old result self.new }
+        ensures { TakesOut most self.old result self.new }
     {
         self.clear();
         let reply = self.client.take_out(most);
@@ -298,10 +303,18 @@ impl Handle {
         }
     }
 
+    /// The time of the asks that follow, as `GuardedClient::tell_time`.
+    pub fn tell_time(&mut self, now: u64) -> u64
+        ensures { TellsTime now self.old result self.new }
+    {
+        self.clear();
+        self.client.tell_time(now);
+        status::DONE
+    }
+
     /// The connection is lost.
     pub fn end(&mut self) -> u64
-        ensures status { result ≡ 0 }
-        ensures ended { self.new ≡ silent (ended self.old.client) }
+        ensures { Ends self.old result self.new }
     {
         self.clear();
         self.client.end();

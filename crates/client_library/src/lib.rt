@@ -3,12 +3,17 @@
 #![tactic(auto)]
 
 mod foreign;
+mod guarded;
 mod handle;
 mod library;
+mod refused;
 mod request;
 mod turns;
+mod unknown;
 
 pub use foreign::ForeignClient;
+pub use guarded::GuardedClient;
 pub use handle::{Handle, status};
 pub use library::LibraryClient;
+pub use refused::refuses;
 pub use request::read_words;

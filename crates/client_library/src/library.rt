@@ -11,7 +11,7 @@ ghost use Rattle.client_library.specs.Library.{ended, fresh, has_ended};
 use super::turns::{close, get};
 use command_words::Query;
 use resp_stream::{StreamFault, ValueReader};
-use resp_value::{NoMemory, Proto, Words};
+use resp_value::{NoMemory, Proto, Value, Words};
 use shared_cache::{
     Caching, ClientCall, ClientMode, ClientReply, ClientState, LogEntry, Shape, Wire,
 };
@@ -134,6 +134,13 @@ impl LibraryClient {
         ensures { Plays (call.TakeOut Main most) self.old result self.new }
     {
         self.play(ClientCall::TakeOut(Wire::Main, most))
+    }
+
+    /// A value is got as if the server had sent it.
+    pub fn get(&mut self, value: Value) -> ClientReply
+        ensures { Plays (call.Got Main value) self.old result self.new }
+    {
+        self.play(ClientCall::Got(Wire::Main, value))
     }
 
     /// The connection is lost: what was held is let go.

@@ -37,6 +37,7 @@ fn call(client: &mut ForeignClient, name: &str, bytes: &[u8], number: u64, piece
         "feed" => feed(client, bytes, piece),
         "poll" => client.poll(number),
         "take" => client.take_out(number),
+        "time" => client.tell_time(number),
         "end" => client.end(),
         _ => client.close(),
     }
@@ -52,6 +53,7 @@ fn status_of(name: &str) -> u64 {
         "not-yet" => status::NOT_YET,
         "not-ready" => status::NOT_READY,
         "no-number" => status::NO_NUMBER,
+        "control" => status::CONTROL,
         _ => status::ENDED,
     }
 }
@@ -107,11 +109,21 @@ fn play<R: Abort>(
     Ok(())
 }
 
-fn plays<R: Abort>(rt: &R, alloc: Global, piece: usize, table: &str) -> Result<(), Fail> {
-    match ForeignClient::new(alloc, 100, 1000)? {
+fn plays_within<R: Abort>(
+    rt: &R,
+    alloc: Global,
+    max_age: u64,
+    piece: usize,
+    table: &str,
+) -> Result<(), Fail> {
+    match ForeignClient::new(alloc, 100, 1000, max_age)? {
         Some(mut client) => play(rt, alloc, &mut client, piece, table),
         None => Err("no client".into()),
     }
+}
+
+fn plays<R: Abort>(rt: &R, alloc: Global, piece: usize, table: &str) -> Result<(), Fail> {
+    plays_within(rt, alloc, 0, piece, table)
 }
 
 const FETCH: &str = "\
@@ -177,17 +189,184 @@ fn each_end_is_told(rt: HostRuntime) -> Result<(), Fail> {
 }
 
 fn is_refused(alloc: Global, capacity: u64, log_max: u64) -> Result<bool, NoMemory> {
-    let client = ForeignClient::new(alloc, capacity, log_max)?;
+    let client = ForeignClient::new(alloc, capacity, log_max, 0)?;
     Ok(client.is_none())
 }
 
 #[test]
 fn a_limit_that_is_none_is_refused(rt: HostRuntime) -> Result<(), Fail> {
     for capacity in [0, 1000001] {
-        assert!(rt; is_refused(rt.alloc(), capacity, 1)?);
+        assert!(rt; is_refused(rt.alloc(), capacity, 1000)?);
     }
-    assert!(rt; is_refused(rt.alloc(), 1, 0)?);
+    for log_max in [0, 1, 3, 999] {
+        assert!(rt; is_refused(rt.alloc(), 1, log_max)?);
+    }
+    assert!(rt; !is_refused(rt.alloc(), 1, 1000)?);
     Ok(())
+}
+
+/// Whether the line is told so by a client that is set up.
+fn sends<R: Abort>(rt: &R, alloc: Global, line: &str, want: &str) -> Result<(), Fail> {
+    let mut table = String::new(alloc);
+    table.push_str("feed %0~+OK~ | done 0 -\nsend ")?;
+    table.push_str(line)?;
+    table.push_str("~ | ")?;
+    table.push_str(want)?;
+    plays(rt, alloc, 100, &table)
+}
+
+const REFUSED: &str = "\
+AUTH x
+auth x y z
+HELLO
+HELLO 2 SETNAME x
+Reset
+RESET now
+QUIT
+SELECT 1
+select
+SWAPDB 0 1
+MULTI
+multi now
+EXEC
+DISCARD
+WATCH k
+UNWATCH
+SUBSCRIBE a b
+UNSUBSCRIBE
+PSUBSCRIBE a
+PUNSUBSCRIBE
+SSUBSCRIBE a
+SUNSUBSCRIBE a
+MONITOR
+SYNC
+PSYNC ? -1
+REPLCONF ack 1
+ASKING
+READONLY
+READWRITE
+DEBUG SLEEP 1
+SHUTDOWN NOSAVE FORCE
+FAILOVER
+CLIENT
+CLIENT REPLY OFF
+client reply skip
+CLIENT TRACKING OFF
+CLIENT NO-EVICT ON
+CLIENT KILL ID 3
+CLIENT GETREDIR
+SCRIPT DEBUG YES";
+
+#[test]
+fn what_changes_a_connection_is_refused(rt: HostRuntime) -> Result<(), Fail> {
+    for line in REFUSED.lines() {
+        sends(&rt, rt.alloc(), line, "control 0 -")?;
+    }
+    Ok(())
+}
+
+const HARMLESS: &str = "\
+CLIENT ID
+client getname
+CLIENT INFO
+CLIENT LIST TYPE normal
+CLIENT SETINFO lib-name x
+CLIENT SETNAME x
+CLIENT TRACKINGINFO
+SCRIPT LOAD x
+SCRIPT EXISTS x
+SCRIPT FLUSH
+SCRIPT KILL
+AUTHOR
+SELECTED
+CLIENTS REPLY OFF
+PING";
+
+#[test]
+fn what_is_harmless_is_sent(rt: HostRuntime) -> Result<(), Fail> {
+    for line in HARMLESS.lines() {
+        sends(&rt, rt.alloc(), line, "sent 3 -")?;
+    }
+    Ok(())
+}
+
+// Each command of these may write any of its words; the last is known, and writes its second.
+const UNKNOWN: &str = "\
+feed %0~+OK~ | done 0 -
+ask GET a~ | sent 3 -
+ask GET b~ | sent 4 -
+feed $1~1~$1~2~ | done 0 -
+send LPUSH a 1~ | sent 5 -
+ask GET b~ | hit 4 $1~2~
+ask GET a~ | sent 6 -
+feed :1~$1~3~ | done 0 -
+ask GET a~ | hit 6 $1~3~
+send EVAL script 2 a b~ | sent 7 -
+ask GET b~ | sent 8 -
+feed _~$1~4~ | done 0 -
+ask GET b~ | hit 8 $1~4~
+send SET b 5 GET~ | sent 9 -
+ask GET b~ | sent 10 -
+feed $1~4~$1~5~ | done 0 -
+ask GET b~ | hit 10 $1~5~
+send MGET a b~ | sent 11 -
+send PING b~ | sent 12 -
+ask GET b~ | hit 10 $1~5~
+send SELECT b~ | control 0 -
+ask GET b~ | hit 10 $1~5~
+feed *0~+b~ | done 0 -
+ask GET c~ | sent 13 -
+send ZADD z 1 c~ | sent 14 -
+feed $1~6~:1~ | done 0 -
+ask GET c~ | sent 15 -
+feed $1~7~ | done 0 -
+ask GET c~ | hit 15 $1~7~
+ask GET b~ | hit 10 $1~5~";
+
+#[test]
+fn what_an_unknown_command_may_write_goes(rt: HostRuntime) -> Result<(), Fail> {
+    plays(&rt, rt.alloc(), 100, UNKNOWN)
+}
+
+// The bound is 10. A time before the latest counts as the latest.
+const AGES: &str = "\
+feed %0~+OK~ | done 0 -
+time 100 | done 0 -
+ask GET a~ | sent 3 -
+time 103 | done 0 -
+ask GET b~ | sent 4 -
+feed $1~1~$1~2~ | done 0 -
+ask GET a~ | hit 3 $1~1~
+time 110 | done 0 -
+ask GET a~ | hit 3 $1~1~
+time 111 | done 0 -
+ask GET a~ | sent 5 -
+ask GET b~ | hit 4 $1~2~
+feed $1~3~ | done 0 -
+time 50 | done 0 -
+ask GET a~ | hit 5 $1~3~
+time 115 | done 0 -
+ask GET b~ | sent 6 -
+ask STRLEN b~ | sent 7 -
+ask GET a~ | hit 5 $1~3~
+time 18446744073709551615 | done 0 -
+ask GET a~ | sent 8 -";
+
+#[test]
+fn no_hit_is_older_than_its_bound(rt: HostRuntime) -> Result<(), Fail> {
+    plays_within(&rt, rt.alloc(), 10, 100, AGES)
+}
+
+const NO_BOUND: &str = "\
+feed %0~+OK~ | done 0 -
+ask GET a~ | sent 3 -
+feed $1~1~ | done 0 -
+time 18446744073709551615 | done 0 -
+ask GET a~ | hit 3 $1~1~";
+
+#[test]
+fn a_bound_of_0_is_none(rt: HostRuntime) -> Result<(), Fail> {
+    plays(&rt, rt.alloc(), 100, NO_BOUND)
 }
 
 fn is_full_at_a_value<R: Abort>(rt: &R, client: &mut LibraryClient) -> Result<(), Fail> {

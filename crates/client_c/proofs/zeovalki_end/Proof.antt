@@ -1,6 +1,7 @@
 -- `zeovalki_end` meets its contract.
 use Rattle.client_c.proofs.Exports.{alone_exported}
-use Rattle.client_library.specs.Foreign.{Ends, OnOpen}
+use Rattle.client_library.specs.Foreign.{OnOpen}
+use Rattle.client_library.specs.Handles.{Ends}
 use Rattle.client_library.specs.contracts.foreign.ForeignClient.{the_row}
 use Rattle.client_library.proofs.foreign.ForeignClient.end.Met as of_thm
 use Rattle.client_library.proofs.foreign.ForeignClient.end.Symbol.{name as #callee}

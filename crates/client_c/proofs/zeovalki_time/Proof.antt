@@ -1,0 +1,16 @@
+-- `zeovalki_time` meets its contract.
+use Rattle.client_c.proofs.Exports.{number_exported}
+use Rattle.client_library.specs.Foreign.{OnOpen}
+use Rattle.client_library.specs.Handles.{TellsTime}
+use Rattle.client_library.specs.contracts.foreign.ForeignClient.{the_row}
+use Rattle.client_library.proofs.foreign.ForeignClient.tell_time.Met as of_thm
+use Rattle.client_library.proofs.foreign.ForeignClient.tell_time.Symbol.{name as #callee}
+use Rattle.client_c.specs.contracts.zeovalki_time.Key.{name as key}
+use Rattle.client_c.proofs.zeovalki_time.Statement.{statement}
+use Rattle.client_c.proofs.zeovalki_time.Code as code
+
+pub zeovalki_time_spec : {M : Type 1} → statement M
+zeovalki_time_spec 𝓤 𝓛 𝓜 𝓡 wired =
+    number_exported the_row 𝓛 𝓜 𝓡 _ _ key #callee (λ n. OnOpen (TellsTime n))
+    (code.unfolded 𝓤 𝓛.H 𝓜 𝓡 wired)
+    (of_thm.met 𝓤 𝓛 𝓜 𝓡 (code.calls-client_library::foreign::ForeignClient::tell_time 𝓡.env wired))
