@@ -11,11 +11,12 @@ mod rounds;
 mod tests;
 
 use calls::{change_of_all, content, mode, welcome};
+use client_library::{GuardedClient, LibraryClient};
 use command_words::Query;
 use resp_value::{NoMemory, Value};
 use rounds::{
-    StdMaps, asks, changes, contents, copies, copies_far_apart, fills, goes_out, hits, is_noted,
-    notices, queries,
+    StdMaps, asks, changes, contents, copies, copies_far_apart, fills, goes_out, guarded_sends,
+    hits, is_noted, notices, queries, sends,
 };
 use shared_cache::ClientState;
 use std::alloc::Global;
@@ -72,7 +73,59 @@ fn measure<R: Runtime>(rt: &R, alloc: Global, keys: u64, times: u64) -> Result<(
     requires times { 0 < times }
 {
     measure_client(rt, alloc, keys, times, false)?;
-    measure_client(rt, alloc, keys, times, true)
+    measure_client(rt, alloc, keys, times, true)?;
+    measure_plain(rt, alloc, times)?;
+    measure_guarded(rt, alloc, times)
+}
+
+const WELCOME: &[u8] = b"%0\r\n+OK\r\n";
+
+fn measure_plain<R: Runtime>(rt: &R, alloc: Global, times: u64) -> Result<(), Fault>
+    requires { 0 < times }
+{
+    let mut client = LibraryClient::new(alloc, 1000, 4000000000)?;
+    measure_sends(rt, alloc, &mut client, times)
+}
+
+fn measure_sends<R: Runtime>(
+    rt: &R,
+    alloc: Global,
+    client: &mut LibraryClient,
+    times: u64,
+) -> Result<(), Fault>
+    requires { 0 < times }
+{
+    client.feed(WELCOME)?;
+    let began = Instant::now(rt)?;
+    let count = sends(alloc, client, times)?;
+    report(rt, "commands of ten words", count, began, times)
+}
+
+fn measure_guarded<R: Runtime>(rt: &R, alloc: Global, times: u64) -> Result<(), Fault>
+    requires { 0 < times }
+{
+    let mut client = GuardedClient::new(alloc, 1000, 4000000000, None)?;
+    measure_guarded_sends(rt, alloc, &mut client, times)
+}
+
+fn measure_guarded_sends<R: Runtime>(
+    rt: &R,
+    alloc: Global,
+    client: &mut GuardedClient,
+    times: u64,
+) -> Result<(), Fault>
+    requires { 0 < times }
+{
+    client.feed(WELCOME)?;
+    let began = Instant::now(rt)?;
+    let count = guarded_sends(alloc, client, times)?;
+    report(
+        rt,
+        "commands of ten words that are let go",
+        count,
+        began,
+        times,
+    )
 }
 
 /// Rounds of turns on a client with room for so many keys: one that leaves its fetches open, or one

@@ -3,6 +3,7 @@ ghost use Rattle.std.specs.Prelude.{◌<◌, ◌≤◌};
 ghost use Rattle.shared_cache.specs.Laws.{IsCall};
 
 use super::calls::{change, content, key, query};
+use client_library::{GuardedClient, LibraryClient, read_words};
 use command_words::Query;
 use resp_value::{NoMemory, Value};
 use shared_cache::{ClientCall, ClientReply, ClientState, Wire};
@@ -198,6 +199,43 @@ pub fn notices(client: &mut ClientState, values: Vec<Value>) -> u64 {
         }
     }
     count
+}
+
+/// A command of ten words that the client doesn't know.
+const TEN_WORDS: &[u8] = b"LPUSH key:1 key:2 key:3 key:4 key:5 key:6 key:7 key:8 key:9\r\n";
+
+fn is_sent(reply: &ClientReply) -> bool {
+    matches!(reply, ClientReply::Sent { .. })
+}
+
+/// How many of so many commands of ten words a client sends.
+pub fn sends(alloc: Global, client: &mut LibraryClient, times: u64) -> Result<u64, NoMemory> {
+    let mut count = 0u64;
+    for _ in 0..times {
+        if let Some(words) = read_words(alloc, TEN_WORDS)? {
+            if is_sent(&client.send(words)) {
+                count = count.saturating_add(1);
+            }
+        }
+    }
+    Ok(count)
+}
+
+/// And a client that lets the words go first.
+pub fn guarded_sends(
+    alloc: Global,
+    client: &mut GuardedClient,
+    times: u64,
+) -> Result<u64, NoMemory> {
+    let mut count = 0u64;
+    for _ in 0..times {
+        if let Some(words) = read_words(alloc, TEN_WORDS)? {
+            if is_sent(&client.send(words)) {
+                count = count.saturating_add(1);
+            }
+        }
+    }
+    Ok(count)
 }
 
 /// std's maps of the same keys.
