@@ -100,8 +100,8 @@ pub data LastRound (clock : Option ℕ) (cause : Ended) (id : ℕ) (before after
   Faulty : (fault : StreamFault) → cause ≡ ended.BadRequest fault → fault_in after ≡ Some fault
       → Round clock id before after old new → LastRound clock cause id before after old new
 
--- The service of an admitted connection. What was read before the last round has no fault, and where
--- all has one, that fault is the cause, unless a turn was refused before or a write failed.
+-- The service of an admitted connection. What was read before the last round has no fault, and
+-- where all has one, that fault is the cause, unless a turn was refused before or a write failed.
 pub record Serves (clock : Option ℕ) (cause : Ended) (id : ℕ) (old new : Standing) : Type 0 where
   pub before : List ℕ
   pub middle : Standing
