@@ -15,6 +15,7 @@ mod memory;
 mod memory_acceptor;
 mod memory_link;
 mod memory_net;
+mod patience;
 mod streams;
 mod tcp;
 mod web_guard;

@@ -5,6 +5,7 @@ ghost use Rattle.edge_links.specs.Counts.{nought};
 
 use super::counts::Counts;
 use super::links::{Accepted, Acceptor, Link, LinkRead, Net, NetFailed};
+use super::patience::Patience;
 use super::streams::Wrote;
 use super::web_guard::WebGuard;
 use std::io::{self, ErrorKind, Read, Write};
@@ -14,8 +15,11 @@ use std::time::{Clock, Duration};
 /// How long a read waits before it answers `Idle`, in milliseconds.
 const READ_WAIT: u64 = 50;
 
-/// The same on a link that was dialled, where requests leave between two reads.
+/// The same on a link that was dialled and answered, where requests leave between two reads.
 const DIALLED_READ_WAIT: u64 = 1;
+
+/// How many reads of a link that was dialled may bring nothing before its first bytes: ten seconds.
+const UNANSWERED_READS: u64 = 200;
 
 /// How long a write waits for a peer that takes nothing before it fails, in milliseconds.
 const WRITE_WAIT: u64 = 10_000;
@@ -27,12 +31,14 @@ const ACCEPT_WAIT: u64 = 5;
 const NO_LISTENER: [i32; 4] = [9, 22, 88, 95];
 
 /// A connection over TCP. Small writes leave at once, and a read waits a bounded time. The reads of
-/// one that was accepted fail from where its first bytes are a web request's.
+/// one that was accepted fail from where its first bytes are a web request's, and those of one that
+/// was dialled once nothing came in ten seconds.
 #[derive(Drop)]
 pub struct TcpLink {
     stream: TcpStream,
     counts: Counts,
     guard: WebGuard,
+    patience: Patience,
 }
 
 impl TcpLink {
@@ -46,6 +52,7 @@ impl TcpLink {
             stream,
             counts: Counts::new(),
             guard: WebGuard::new(),
+            patience: Patience::endless(),
         })
     }
 }
@@ -67,9 +74,20 @@ impl Link for TcpLink {
                 self.counts.fault();
                 LinkRead::Failed
             }
-            Ok(n) => LinkRead::Bytes(n),
+            Ok(n) => {
+                if self.patience.ends() {
+                    // Where that fails reads wait longer, and bring the same.
+                    let wait = Duration::from_millis(DIALLED_READ_WAIT);
+                    let _ = self.stream.set_read_timeout(Some(wait));
+                }
+                LinkRead::Bytes(n)
+            }
             Err(error) => match error.kind() {
                 ErrorKind::WouldBlock | ErrorKind::TimedOut | ErrorKind::Interrupted => {
+                    if self.patience.is_over() {
+                        self.counts.fault();
+                        return LinkRead::Failed;
+                    }
                     self.counts.idle();
                     LinkRead::Idle
                 }
@@ -219,8 +237,7 @@ fn connect<R: net::Net<Listener = TcpListener, Stream = TcpStream>>(
 {
     let mut link = TcpLink::new(TcpStream::connect(rt, (host, port))?)?;
     link.guard = WebGuard::open();
-    let wait = Duration::from_millis(DIALLED_READ_WAIT);
-    link.stream.set_read_timeout(Some(wait))?;
+    link.patience = Patience::of(UNANSWERED_READS);
     Ok(link)
 }
 
