@@ -115,7 +115,7 @@ fn came_of(
     })
 }
 
-fn play<R: Threads + Wait + Sync>(
+fn play<R: Threads + Wait + Eprint + Sync>(
     rt: &R,
     alloc: Global,
     options: &str,
