@@ -1,11 +1,11 @@
 -- The table at the first row with a key.
-use Rattle.std.proofs.Common.{◌≡◌, ◌<◌, ℕ, List, [], ◌∷◌, ◌++◌, true, cond, length, get_or, set}
-use Rattle.std.proofs.Common.{refl, ap, ◌∙◌, arith}
+use Rattle.std.proofs.Common.{◌≡◌, ◌<◌, ℕ, List, [], ◌∷◌, true, cond, length, get_or, set}
+use Rattle.std.proofs.Common.{ap, ◌∙◌, arith}
 use Prim.Native.Nat.{zero, suc}
 use Rattle.std.specs.Str.{bytes_eq}
 use Rattle.track_table.specs.declared.table.Held.{Held}
-use Rattle.id_set.specs.Ids.{with_id}
 use Rattle.track_table.specs.Table.{holders_of, remembered}
+use Rattle.track_table.specs.Aged.{grown}
 use Rattle.track_table.specs.Places.{nobody, NoneBefore, key_at}
 
 module _ (key : List ℕ) where
@@ -18,15 +18,6 @@ module _ (key : List ℕ) where
       ap (λ b. cond b r.holders (holders_of key rs)) (before 0 (omega arith))
       ∙ holders_at rs n (omega arith) is (λ i k. before (suc i) (omega arith))
 
-  pub holders_none : (rs : List Held) → NoneBefore key rs (length rs) → holders_of key rs ≡ []
-  holders_none [] none = refl
-  holders_none (r ∷ rs) none =
-      ap (λ b. cond b r.holders (holders_of key rs)) (none 0 (omega arith))
-      ∙ holders_none rs (λ i k. none (suc i) (omega arith))
-
-  abbrev grown : ℕ → Held → Held
-  grown id r = record r { holders = with_id id r.holders }
-
   pub remembered_at : (id : ℕ) (rs : List Held) (n : ℕ) → n < length rs
       → bytes_eq key (key_at rs n) ≡ true
       → NoneBefore key rs n → remembered id key rs ≡ set rs n (grown id (get_or rs n nobody))
@@ -37,10 +28,3 @@ module _ (key : List ℕ) where
       ap (λ b. cond b (grown id r ∷ rs) (r ∷ remembered id key rs)) (before 0 (omega arith))
       ∙ ap (λ l. r ∷ l) (remembered_at id rs n (omega arith) is
       (λ i k. before (suc i) (omega arith)))
-
-  pub remembered_new : (id : ℕ) (rs : List Held) → NoneBefore key rs (length rs)
-      → remembered id key rs ≡ rs ++ record { key = key; holders = id ∷ [] } ∷ []
-  remembered_new id [] none = refl
-  remembered_new id (r ∷ rs) none =
-      ap (λ b. cond b (grown id r ∷ rs) (r ∷ remembered id key rs)) (none 0 (omega arith))
-      ∙ ap (λ l. r ∷ l) (remembered_new id rs (λ i k. none (suc i) (omega arith)))

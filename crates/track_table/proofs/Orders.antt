@@ -14,14 +14,14 @@ use Rattle.track_table.specs.Table.{remembered, without_key, without_connection,
 use Rattle.track_table.specs.Table.{holders_of}
 use Rattle.track_table.specs.Order.{HasNo, AreOrdered, AreHeld, IsTable}
 
-same_bytes : (a b : List ℕ) → bytes_eq a b ≡ true → a ≡ b
+pub same_bytes : (a b : List ℕ) → bytes_eq a b ≡ true → a ≡ b
 same_bytes a b e = (bytes_eq-Decides a b).0 e
 
-not_same : (a b : List ℕ) → bytes_eq a b ≡ false → a ≡ b → ⊥
+pub not_same : (a b : List ℕ) → bytes_eq a b ≡ false → a ≡ b → ⊥
 not_same a b e same = let t = (bytes_eq-Decides a b).1 same in let no : ⊥ = cc in no
 
 -- keys that differ one way differ the other
-apart : (a b : List ℕ) → bytes_eq a b ≡ false → bytes_eq b a ≡ false
+pub apart : (a b : List ℕ) → bytes_eq a b ≡ false → bytes_eq b a ≡ false
 apart a b e = elim (bytes_eq b a) as (λ v. bytes_eq b a ≡ v → v ≡ false) [
   | true ↦ λ f. absurd (not_same a b e (sym (same_bytes b a f)))
   | false ↦ λ f. refl

@@ -43,12 +43,6 @@ module _ (id : ℕ) (key : List ℕ) where
       ∙ ap (λ l. r ∷ l) (released_gone rs n x (omega arith) is
       (λ i k. before (suc i) (omega arith)) held)
 
-  pub released_none : (rs : List Held) → NoneBefore key rs (length rs) → released id key rs ≡ rs
-  released_none [] none = refl
-  released_none (r ∷ rs) none =
-      ap (λ b. cond b (left r rs) (r ∷ released id key rs)) (none 0 (omega arith))
-      ∙ ap (λ l. r ∷ l) (released_none rs (λ i k. none (suc i) (omega arith)))
-
   -- ---- what is left is a table
 
   has_no_released : (q : List ℕ) (rs : List Held) → HasNo q rs → HasNo q (released id key rs)
@@ -70,7 +64,7 @@ table_released id key rs h = grind (arith, ordered_released, held_released, nat_
 
 -- ---- a key that the connection did not hold
 
-without_same : (id : ℕ) (hs : List ℕ) → list_any (λ h. h == id) hs ≡ false
+pub without_same : (id : ℕ) (hs : List ℕ) → list_any (λ h. h == id) hs ≡ false
     → without_id id hs ≡ hs
 without_same id [] none = refl
 without_same id (h ∷ hs) none =
@@ -90,7 +84,7 @@ without_with id (h ∷ hs) none =
       | false ↦ grind (arith, without_same, eq-eqb)
     ]
 
-itself : (key : List ℕ) → bytes_eq key key ≡ true
+pub itself : (key : List ℕ) → bytes_eq key key ≡ true
 itself key = (bytes_eq-Decides key key).1 refl
 
 pub released_remembered : (id : ℕ) (key : List ℕ) (rs : List Held) → AreHeld rs

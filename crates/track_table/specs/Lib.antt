@@ -1,3 +1,5 @@
 pub mod Table
 pub mod Places
 pub mod Order
+pub mod Aged
+pub mod Holdings

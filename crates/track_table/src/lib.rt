@@ -1,7 +1,9 @@
 //! Which connections the server owes a message for which keys, and which of these keys is oldest.
 #![tactic(auto)]
 
+mod holdings;
 mod laws;
+mod rows;
 mod table;
 
 pub use laws::law_holders_grow;

@@ -1,27 +1,32 @@
-//! The table of remembered keys, as a list in order of age.
-ghost use Rattle.std.specs.Prelude.{◌≡◌, ◌==◌, ◌-◌, ◌<◌, [], OnOk, OnErr, IfOk, length};
+//! The table of remembered keys.
+ghost use Rattle.std.specs.Prelude.{◌≡◌, ◌==◌, ◌-◌, ◌<◌, ℕ, List, [], true, OnOk, OnErr};
+ghost use Rattle.std.specs.Prelude.{IfOk, length};
 ghost use Rattle.std.specs.List.{list_any};
 ghost use Rattle.track_table.specs.Table.{TableState, all_released, dropped, holders_of, kept};
 ghost use Rattle.track_table.specs.Table.{released, remembered, with_keys, without_connection};
 ghost use Rattle.track_table.specs.Table.{without_key};
 ghost use Rattle.id_set.specs.Ids.{Ascend};
 ghost use Rattle.track_table.specs.Order.{IsTable};
+ghost use Rattle.track_table.specs.Holdings.{Covers, KeepsOthers, has_key};
 ghost use Rattle.track_table.specs.Places.{IsPlace};
 
+use super::holdings::Holdings;
+use super::rows::AgedRows;
 use id_set::IdSet;
 use resp_value::{NoMemory, Octets, Words};
 use std::alloc::Global;
+use std::collections::BTreeSet;
 use std::marker::Model;
 
 /// A remembered key, with the connections that hold it.
 #[derive(Drop)]
 pub struct Held {
-    key: Octets,
-    holders: IdSet,
+    pub(super) key: Octets,
+    pub(super) holders: IdSet,
 }
 
 impl Held {
-    fn copy(&self) -> Result<Held, NoMemory>
+    pub(super) fn copy(&self) -> Result<Held, NoMemory>
         ensures { IfOk result (λ h. h ≡ self.now) }
     {
         let key = self.key.copy()?;
@@ -53,25 +58,99 @@ fn copies(alloc: Global, rows: &[Held]) -> Result<Vec<Held>, NoMemory>
     Ok(out)
 }
 
+// The place of the first row with the key.
+fn place_of(rows: &[Held], key: &[u8]) -> Option<usize>
+    ensures { IsPlace key.now rows.now result }
+{
+    for (place, row) in rows.iter().enumerate() {
+        if row.key.as_slice() == key {
+            return Some(place);
+        }
+    }
+    None
+}
+
+// What the connection held among these rows, all but the rows that nobody holds.
+fn forget_among(rows: &mut Vec<Held>, id: u64)
+    ensures { rows.new.items ≡ without_connection id rows.old.items }
+{
+    for row in rows.iter_mut() {
+        row.holders.remove(id);
+    }
+    rows.retain(|row| !row.holders.as_slice().is_empty());
+}
+
+// The connection holds none of the keys that it may hold.
+fn release_keys(rows: &mut AgedRows, id: u64, keys: BTreeSet<Vec<u8>>)
+    requires table { IsTable rows.old }
+    requires all { (key : List ℕ) → list_any (λ h. h == id) (holders_of key rows.old) ≡ true
+        → has_key key keys.keys ≡ true }
+    ensures { rows.new ≡ without_connection id rows.old }
+{
+    let mut left = keys;
+    'keys: while let Some(key) = left.pop_first() {
+        rows.release(id, key.as_slice());
+    }
+}
+
+// The connection holds the key too, among the rows that are found by their keys.
+fn remember_young(
+    rows: &mut AgedRows,
+    holdings: &mut Holdings,
+    id: u64,
+    key: &[u8],
+) -> Result<(), NoMemory>
+    requires table { IsTable rows.old }
+    requires covered { Covers holdings.old.keys.entries rows.old }
+    ensures ok { OnOk result (rows.new ≡ remembered id key.now rows.old) }
+    ensures err { OnErr result (rows.new ≡ rows.old) }
+    ensures covered { Covers holdings.new.keys.entries rows.new }
+{
+    if rows.holds(id, key) {
+        return Ok(());
+    }
+    holdings.add(id, key)?;
+    match rows.remember(id, key) {
+        Ok(()) => Ok(()),
+        Err(_) => {
+            holdings.remove(id, key);
+            Err(NoMemory)
+        }
+    }
+}
+
+// The key is among those of no connection that holds it.
+fn drop_key(holdings: &mut Holdings, key: &[u8], holders: &[u64])
+    ensures { KeepsOthers key.now holdings.old.keys.entries holdings.new.keys.entries }
+{
+    for id in holders {
+        holdings.remove(*id, key);
+    }
+}
+
 /// Which connections hold which keys. The keys stand in order of age: a key is as old as the time
-/// since which some connection has held it without a break. A look-up goes through the keys.
+/// since which some connection has held it without a break. A key is found in an ordered map, as
+/// the keys are chosen by strangers; the oldest, where there are more than the limit, by a scan.
 #[derive(Drop)]
 pub struct TrackTable {
     alloc: Global,
     limit: u64,
-    rows: Vec<Held>,
+    oldest: Vec<Held>,
+    rows: AgedRows,
+    holdings: Holdings,
 }
 
 impl Model for TrackTable {
+    ghost use Rattle.std.specs.Prelude.{◌++◌};
     ghost use Rattle.track_table.specs.Table.{TableState};
 
     ghost Value = { TableState };
 
-    ghost view = { λ t. record { limit = t.limit; rows = t.rows.items } };
+    ghost view = { λ t. record { limit = t.limit; rows = t.oldest.items ++ t.rows } };
 
-    ghost use Rattle.track_table.specs.Order.{IsTable};
+    ghost use Rattle.track_table.specs.Holdings.{IsWhole};
 
-    ghost invariant = { λ t. IsTable t.rows.items };
+    ghost invariant = { λ t. IsWhole t.limit t.oldest.items t.rows t.holdings.keys.entries };
 }
 
 impl TrackTable {
@@ -83,7 +162,9 @@ impl TrackTable {
         TrackTable {
             alloc,
             limit,
-            rows: Vec::new(alloc),
+            oldest: Vec::new(alloc),
+            rows: AgedRows::new(alloc),
+            holdings: Holdings::new(alloc),
         }
     }
 
@@ -91,11 +172,14 @@ impl TrackTable {
     pub fn copy(&self) -> Result<TrackTable, NoMemory>
         ensures { IfOk result (λ t. t ≡ self.now) }
     {
-        let rows = copies(self.alloc, &self.rows)?;
+        let mut oldest = copies(self.alloc, &self.oldest)?;
+        self.rows.copy_onto(&mut oldest)?;
         Ok(TrackTable {
             alloc: self.alloc,
             limit: self.limit,
-            rows,
+            oldest,
+            rows: AgedRows::new(self.alloc),
+            holdings: Holdings::new(self.alloc),
         })
     }
 
@@ -104,18 +188,7 @@ impl TrackTable {
         ensures count { result ≡ length self.now.rows }
         ensures table { IsTable self.now.rows }
     {
-        self.rows.len() as u64
-    }
-
-    fn place_of(&self, key: &[u8]) -> Option<usize>
-        ensures { IsPlace key.now self.now.rows result }
-    {
-        for (place, row) in self.rows.iter().enumerate() {
-            if row.key.as_slice() == key {
-                return Some(place);
-            }
-        }
-        None
+        self.oldest.len() as u64 + self.rows.len() as u64
     }
 
     /// The holders of a key, in ascending order.
@@ -123,9 +196,9 @@ impl TrackTable {
         ensures list { result.now ≡ holders_of key.now self.now.rows }
         ensures ascending { Ascend result.now }
     {
-        match self.place_of(key) {
-            Some(place) => self.rows[place].holders.as_slice(),
-            None => &[],
+        match place_of(&self.oldest, key) {
+            Some(place) => self.oldest[place].holders.as_slice(),
+            None => self.rows.holders(key),
         }
     }
 
@@ -135,18 +208,21 @@ impl TrackTable {
         ensures ok { OnOk result (self.new.rows ≡ remembered id key.now self.old.rows) }
         ensures err { OnErr result (self.new.rows ≡ self.old.rows) }
     {
-        match self.place_of(key) {
+        match place_of(&self.oldest, key) {
             Some(place) => {
-                let row = &mut self.rows[place];
+                let row = &mut self.oldest[place];
                 row.holders.insert(id)?;
                 Ok(())
             }
             None => {
-                let key = Octets::from_slice(self.alloc, key)?;
-                let mut holders = IdSet::new(self.alloc);
-                holders.insert(id)?;
-                self.rows.reserve(1)?;
-                self.rows.push_reserved(Held { key, holders });
+                self.oldest.reserve(1)?;
+                remember_young(&mut self.rows, &mut self.holdings, id, key)?;
+                if self.rows.len() as u64 > self.limit {
+                    if let Some(row) = self.rows.pop_first() {
+                        drop_key(&mut self.holdings, row.key(), row.holders());
+                        self.oldest.push_reserved(row);
+                    }
+                }
                 Ok(())
             }
         }
@@ -207,11 +283,17 @@ impl TrackTable {
         ensures limit { self.new.limit ≡ self.old.limit }
         ensures rows { self.new.rows ≡ released id key.now self.old.rows }
     {
-        if let Some(place) = self.place_of(key) {
-            let row = &mut self.rows[place];
-            row.holders.remove(id);
-            if row.holders.as_slice().is_empty() {
-                self.rows.remove(place);
+        match place_of(&self.oldest, key) {
+            Some(place) => {
+                let row = &mut self.oldest[place];
+                row.holders.remove(id);
+                if row.holders.as_slice().is_empty() {
+                    self.oldest.remove(place);
+                }
+            }
+            None => {
+                self.rows.release(id, key);
+                self.holdings.remove(id, key);
             }
         }
     }
@@ -233,18 +315,20 @@ impl TrackTable {
         ensures limit { self.new.limit ≡ self.old.limit }
         ensures rows { self.new.rows ≡ without_key key.now self.old.rows }
     {
-        self.rows.retain(|row| row.key.as_slice() != key);
+        self.oldest.retain(|row| row.key.as_slice() != key);
+        drop_key(&mut self.holdings, key, self.rows.holders(key));
+        self.rows.forget_key(key);
     }
 
-    /// The connection holds no key any more. It goes through all keys, and takes no memory.
+    /// The connection holds no key any more. It goes through what it held, and takes no memory.
     pub fn forget_connection(&mut self, id: u64)
         ensures limit { self.new.limit ≡ self.old.limit }
         ensures rows { self.new.rows ≡ without_connection id self.old.rows }
     {
-        for row in self.rows.iter_mut() {
-            row.holders.remove(id);
+        forget_among(&mut self.oldest, id);
+        if let Some(keys) = self.holdings.take(id) {
+            release_keys(&mut self.rows, id, keys);
         }
-        self.rows.retain(|row| !row.holders.as_slice().is_empty());
     }
 
     /// No key is held any more. It takes no memory.
@@ -252,14 +336,16 @@ impl TrackTable {
         ensures limit { self.new.limit ≡ self.old.limit }
         ensures rows { self.new.rows ≡ [] }
     {
+        self.oldest.clear();
         self.rows.clear();
+        self.holdings.clear();
     }
 
     // How many keys there are past the limit.
     fn over(&self) -> usize
         ensures { result ≡ length self.now.rows - self.now.limit }
     {
-        (self.rows.len() as u64).saturating_sub(self.limit) as usize
+        self.len().saturating_sub(self.limit) as usize
     }
 
     /// The keys past the limit, the oldest first.
@@ -267,7 +353,7 @@ impl TrackTable {
         ensures { result.now ≡ dropped self.now.limit self.now.rows }
     {
         let over = self.over();
-        &self.rows[..over]
+        &self.oldest[..over]
     }
 
     /// Drops the keys past the limit. It takes no memory.
@@ -276,8 +362,8 @@ impl TrackTable {
         ensures rows { self.new.rows ≡ kept self.old.limit self.old.rows }
     {
         let over = self.over();
-        let left = self.rows.len() - over;
-        self.rows.rotate_left(over);
-        self.rows.truncate(left);
+        let left = self.oldest.len() - over;
+        self.oldest.rotate_left(over);
+        self.oldest.truncate(left);
     }
 }

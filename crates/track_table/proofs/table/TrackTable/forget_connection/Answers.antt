@@ -1,54 +1,40 @@
-use Rattle.std.proofs.Common.{◌≡◌, ◌<◌, length, get_or, set, rules, ap, sym, subst, ◌∙◌, arith}
-use Rattle.std.specs.Prelude.{filter}
-use Rattle.std.proofs.lemmas.Fn.{filter_same}
-use Rattle.std.proofs.lemmas.List.Edits.{map_over_more}
-use Rattle.id_set.proofs.Rows.{changed_all}
-use Rattle.track_table.specs.declared.table.Held.{Held}
-use Rattle.track_table.specs.Table.{TableState, freed_of, is_held, without_connection}
-use Rattle.track_table.specs.Order.{IsTable}
-use Rattle.track_table.proofs.Orders.{table_without_connection}
+use Rattle.std.proofs.Common.{ap, sym, ◌∙◌, ◌++◌}
+use Rattle.track_table.specs.Table.{without_connection, TableState}
+use Rattle.track_table.proofs.Parts.{none_of, whole_table, whole_without_connection}
+use Rattle.track_table.proofs.Parts.{without_connection_parts}
 use Rattle.track_table.proofs.table.TrackTable.forget_connection.Goals as goal
-use Rattle.track_table.proofs.table.TrackTable.forget_connection.Goals.{After-retain}
 
-pub loop-row-init : goal.loop-row-init
-loop-row-init c = grind arith
-
-pub loop-row-preserved : goal.loop-row-preserved
-loop-row-preserved c =
-    let rows = c.args.self.now.rows in
-    let items = c.loop-row.row-items in
-    let i = c.loop-row.row-index in
-    let x = c.row-item.result in
-    let lt : i < length rows = omega (
-      arith,
-      c.deref_mut-row-items.ensures.len,
-      ap length c.deref_mut-row-items.ensures.value,
-      ap (λ (t : TableState). length t.rows) c.self.view_is,
-    ) in
-    ap (λ hs. set items i (record { key = (get_or items i x).key; holders = hs })) c.remove.ensures
-    ∙ ap (λ (y : Held). set items i (freed_of c.args.id y)) (sym c.row-item.is)
-    ∙ map_over_more (freed_of c.args.id) rows items i x lt c.loop-row.invariant c.row-item.is
-
--- what is left
-left : (c : After-retain) → c.retain.new.self.items
-    ≡ without_connection c.args.id c.args.self.now.rows
-left c =
-    let items = c.loop-row.row-items in
-    let inside = c.self.inside.rows in
-    let at_first = ap length c.deref_mut-row-items.ensures.value in
-    let viewed = ap (λ (t : TableState). length t.rows) c.self.view_is in
-    filter_same _ _ _ (λ x b f' k. search rules) _ _ c.retain.ensures.filtered
-    ∙ ap (filter is_held) (changed_all (freed_of c.args.id) c.args.self.now.rows items inside.items
-    c.loop-row.row-index inside.len
-    (omega (arith, c.deref_mut-row-items.ensures.len))
-    (omega (arith, c.loop-row.auto.row-items))
-    (omega (arith, inside.ok.0, c.loop-row.auto.row-items))
-    c.loop-row.invariant)
+pub release_keys-requires-clause-table : goal.release_keys-requires-clause-table
+release_keys-requires-clause-table c =
+    whole_table c.self.inside.limit c.self.inside.oldest.items c.self.inside.rows
+    c.self.inside.holdings.keys.entries c.self.invariant
 
 pub invariant_of-self : goal.invariant_of-self
 invariant_of-self c =
-    subst IsTable (sym (left c)) (table_without_connection c.args.id c.args.self.now.rows
-    (subst (λ (t : TableState). IsTable t.rows) c.self.view_is c.self.invariant))
+    whole_without_connection c.self.inside.limit c.self.inside.oldest.items c.self.inside.rows
+    c.self.inside.holdings.keys.entries c.self.invariant c.args.id c.forget_among.new.rows.items
+    c.release_keys.new.rows c.take.new.self.keys.entries c.forget_among.ensures
+    c.release_keys.ensures c.take.ensures.others
 
-pub returns-clause-rows : goal.returns-clause-rows
-returns-clause-rows c = left c
+pub invariant_of-self-in_default : goal.invariant_of-self-in_default
+invariant_of-self-in_default c =
+    whole_without_connection c.self.inside.limit c.self.inside.oldest.items c.self.inside.rows
+    c.self.inside.holdings.keys.entries c.self.invariant c.args.id c.forget_among.new.rows.items
+    c.self.inside.rows c.take.new.self.keys.entries c.forget_among.ensures
+    (none_of c.self.inside.limit c.self.inside.oldest.items c.self.inside.rows
+    c.self.inside.holdings.keys.entries c.self.invariant c.args.id c.in_default.ensures.keys)
+    c.take.ensures.others
+
+pub returns-in_default-clause-rows : goal.returns-in_default-clause-rows
+returns-in_default-clause-rows c =
+    let none = none_of c.self.inside.limit c.self.inside.oldest.items c.self.inside.rows
+    c.self.inside.holdings.keys.entries c.self.invariant c.args.id c.in_default.ensures.keys in
+    (λ i. c.forget_among.ensures i ++ none i)
+    ∙ sym (without_connection_parts c.args.id c.self.inside.oldest.items c.self.inside.rows)
+    ∙ ap (λ (t : TableState). without_connection c.args.id t.rows) c.self.view_is
+
+pub returns-in-Some-clause-rows : goal.returns-in-Some-clause-rows
+returns-in-Some-clause-rows c =
+    (λ i. c.forget_among.ensures i ++ c.release_keys.ensures i)
+    ∙ sym (without_connection_parts c.args.id c.self.inside.oldest.items c.self.inside.rows)
+    ∙ ap (λ (t : TableState). without_connection c.args.id t.rows) c.self.view_is
