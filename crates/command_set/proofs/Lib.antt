@@ -1,4 +1,5 @@
 pub mod Moves
+pub mod BlocksDue
 pub mod Steps
 pub mod PastDeadlines
 pub mod TakenBack

@@ -1,22 +1,32 @@
 //! The keys whose deadline is before a moment.
-ghost use Rattle.std.specs.Prelude.{◌≡◌, IfOk, OnOk, OnErr};
+ghost use Rattle.std.specs.Prelude.{◌≡◌, ◌++◌, IfOk, OnOk, OnErr};
 ghost use Rattle.command_words.specs.Expiry.{without_due};
 ghost use Rattle.command_words.specs.Keys.{remove_each};
+ghost use Rattle.expiry.specs.Blocks.{joined};
 ghost use Rattle.expiry.specs.Index.{keys_of, left};
 ghost use Rattle.command_set.specs.InStep.{InStep, due_keys};
 
-use expiry::{Deadline, DeadlineIndex};
+use expiry::{Block, Deadline, DeadlineIndex};
 use keyspace::Keyspace;
 use resp_value::{NoMemory, Words};
 use std::alloc::Global;
+
+fn push_keys(deadlines: &[Deadline], keys: &mut Words) -> Result<(), NoMemory>
+    ensures { OnOk result (keys.new ≡ keys.old ++ keys_of deadlines.now) }
+{
+    for deadline in deadlines {
+        keys.push(deadline.key.copy()?)?;
+    }
+    Ok(())
+}
 
 /// The keys that are due, in order of deadline and key.
 pub fn due_keys(alloc: Global, index: &DeadlineIndex, moment: u64) -> Result<Words, NoMemory>
     ensures { IfOk result (λ keys. keys ≡ due_keys moment index.now) }
 {
     let mut keys = Words::new(alloc);
-    for deadline in index.due(moment) {
-        keys.push(deadline.key.copy()?)?;
+    for block in index.due_blocks(moment) {
+        push_keys(block.due(moment), &mut keys)?;
     }
     Ok(keys)
 }
@@ -30,6 +40,15 @@ fn remove_keys(space: &mut Keyspace, deadlines: &[Deadline])
     }
 }
 
+/// The keys of the deadlines in these blocks go that are due.
+fn remove_due(space: &mut Keyspace, blocks: &[Block], moment: u64)
+    ensures { space.new ≡ remove_each (due_keys moment (joined blocks.now)) space.old }
+{
+    for block in blocks {
+        remove_keys(space, block.due(moment));
+    }
+}
+
 /// The keys that are due go. It takes no memory.
 pub fn drop_due(space: &mut Keyspace, index: &mut DeadlineIndex, moment: u64)
     requires { InStep index.old space.old }
@@ -37,7 +56,7 @@ pub fn drop_due(space: &mut Keyspace, index: &mut DeadlineIndex, moment: u64)
     ensures index { index.new ≡ left moment index.old }
     ensures step { InStep index.new space.new }
 {
-    remove_keys(space, index.due(moment));
+    remove_due(space, index.due_blocks(moment), moment);
     index.drop_due(moment);
 }
 

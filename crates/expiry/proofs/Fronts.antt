@@ -39,17 +39,17 @@ module _ (d : Deadline) where
       ) (λ k. other (omega arith)))
 
 -- what comes after a deadline that is not due is not due
-later : (moment : ℕ) (d e : Deadline) → comes_before d e ≡ true → is_due moment d ≡ false
+pub later : (moment : ℕ) (d e : Deadline) → comes_before d e ≡ true → is_due moment d ≡ false
     → is_due moment e ≡ false
 later moment d e = grind (arith, nat_tests)
 
 module _ (moment : ℕ) where
-  none_due : (d : Deadline) (ds : List Deadline) → IsBeforeAll d ds → is_due moment d ≡ false
+  pub none_due : (d : Deadline) (ds : List Deadline) → IsBeforeAll d ds → is_due moment d ≡ false
       → due moment ds ≡ []
   none_due d [] h still = refl
   none_due d (e ∷ es) h still = grind (arith, later, none_due d es h.1 still)
 
-  all_left : (d : Deadline) (ds : List Deadline) → IsBeforeAll d ds → is_due moment d ≡ false
+  pub all_left : (d : Deadline) (ds : List Deadline) → IsBeforeAll d ds → is_due moment d ≡ false
       → left moment ds ≡ ds
   all_left d [] h still = refl
   all_left d (e ∷ es) h still = grind (arith, later, all_left d es h.1 still)
@@ -79,3 +79,12 @@ module _ (moment : ℕ) where
       → slice_get ds 0 ≡ Some d → is_due moment d ≡ false → None ≡ first_of (due moment ds)
   first_is_not [] d h first still = absurd cc
   first_is_not (e ∷ es) d h first still = grind (arith, none_due)
+
+  pub first_is : (ds : List Deadline) (d : Deadline) → slice_get ds 0 ≡ Some d
+      → is_due moment d ≡ true → Some d ≡ first_of (due moment ds)
+  first_is [] d first past = absurd cc
+  first_is (e ∷ es) d first past = grind arith
+
+  pub none_first : (ds : List Deadline) → slice_get ds 0 ≡ None → None ≡ first_of (due moment ds)
+  none_first [] none = refl
+  none_first (e ∷ es) none = absurd cc

@@ -69,7 +69,7 @@ not_before_itself d = before_order d d ∙ by (order d d)
     by : (r : Ordering) → r ≡ ordering_reverse r → is_lt r ≡ false
     by r e = grind (arith, nat_tests)
 
-before_all_trans : (d e : Deadline) (ds : List Deadline) → comes_before d e ≡ true
+pub before_all_trans : (d e : Deadline) (ds : List Deadline) → comes_before d e ≡ true
     → IsBeforeAll e ds → IsBeforeAll d ds
 before_all_trans d e [] before h = tt
 before_all_trans d e (x ∷ xs) before h =

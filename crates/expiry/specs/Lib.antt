@@ -1,4 +1,5 @@
 pub mod Index
 pub mod Order
 pub mod Places
+pub mod Blocks
 pub mod Laws

@@ -35,8 +35,10 @@ fn put_first(index: &DeadlineIndex, moment: u64, line: &mut Vec<u8>) -> Result<(
 }
 
 fn put_all(index: &DeadlineIndex, line: &mut Vec<u8>) -> Result<(), NoMemory> {
-    for deadline in index.due(9) {
-        put_deadline(deadline.at, deadline.key.as_slice(), line)?;
+    for block in index.due_blocks(9) {
+        for deadline in block.due(9) {
+            put_deadline(deadline.at, deadline.key.as_slice(), line)?;
+        }
     }
     put_first(index, 3, line)?;
     put_first(index, 4, line)
@@ -79,7 +81,7 @@ fn all_are_shown<R: Abort>(rt: &R, alloc: Global, index: &mut DeadlineIndex) -> 
     for row in STEPS.lines() {
         assert!(rt; is_shown(alloc, index, row)?, "{row}");
     }
-    assert_eq!(rt; index.due(u64::MAX).len(), 0);
+    assert_eq!(rt; index.due_blocks(u64::MAX).len(), 0);
     Ok(())
 }
 

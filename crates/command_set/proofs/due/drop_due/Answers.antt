@@ -12,7 +12,7 @@ pub returns-clause-step : goal.returns-clause-step
 returns-clause-step c =
     let s = c.args.space.now in
     let m = c.args.moment in
-    let space : c.remove_keys.new.space ≡ without_due m s = grind (arith, dropped) in
-    subst (λ i. InStep i c.remove_keys.new.space) (sym c.drop_due.ensures)
+    let space : c.remove_due.new.space ≡ without_due m s = grind (arith, dropped) in
+    subst (λ i. InStep i c.remove_due.new.space) (sym c.drop_due.ensures)
     (subst (InStep (left m c.args.index.now)) (sym space)
     (left_in_step m s c.args.index.now c.requires))

@@ -5,13 +5,13 @@ use Rattle.expiry.specs.Index.{is_due, left}
 use Rattle.expiry.specs.Order.{IsOrdered}
 use Rattle.expiry.proofs.Fronts.{none_gone}
 use Rattle.expiry.proofs.Orders.{ordered_filter}
-use Rattle.expiry.proofs.index.DeadlineIndex.drop_due.Goals as goal
+use Rattle.expiry.proofs.block.Block.drop_due.Goals as goal
 
 pub invariant_of-self : goal.invariant_of-self
 invariant_of-self c =
     subst IsOrdered (sym (filter_same _ _ _ (λ x b f' k. search rules) _ _
     c.retain.ensures.filtered))
-    (ordered_filter (λ d. not (is_due c.args.moment d)) c.self.inside.list.items c.self.invariant)
+    (ordered_filter (λ d. not (is_due c.args.moment d)) c.self.inside.deadlines.items c.self.invariant)
 
 pub returns-then-due_count-gt0 : goal.returns-then-due_count-gt0
 returns-then-due_count-gt0 c =
