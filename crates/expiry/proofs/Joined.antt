@@ -185,7 +185,8 @@ module _ (d : Deadline) (bs : Blocks) (n : ℕ) (h : AreBlocks bs) (is_for : IsB
   pub has_block : has d here ≡ has d (joined bs)
   has_block =
       by (has d here)
-      ∙ ap (λ b. b || (has d here || has d (ahead bs n))) (sym (not_behind d (behind bs n) all_behind))
+      ∙ ap (λ b. b || (has d here || has d (ahead bs n)))
+      (sym (not_behind d (behind bs n) all_behind))
       ∙ ap (λ b. has d (behind bs n) || b) (sym (list_any-append (is_same d) here (ahead bs n)))
       ∙ sym (list_any-append (is_same d) (behind bs n) (here ++ ahead bs n))
       ∙ ap (has d) (sym (joined_at bs n is_for.there))

@@ -1,3 +1,4 @@
 pub mod Orders
 pub mod Registering
+pub mod Fronts
 pub mod Matching

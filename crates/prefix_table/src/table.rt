@@ -1,7 +1,10 @@
 //! The table of registered prefixes, as a list in byte order.
 ghost use Rattle.std.specs.Prelude.{◌≡◌, ◌++◌, [], OnOk, OnErr, IfSome, List, ℕ, option_map};
 ghost use Rattle.id_set.specs.Ids.{Ascend};
-ghost use Rattle.prefix_table.specs.Table.{places_of, registered, row_at, without_connection};
+ghost use Rattle.std.specs.Ordering.{is_lt};
+ghost use Rattle.prefix_table.specs.Table.{byte_order, places_of, registered, row_at};
+ghost use Rattle.prefix_table.specs.Table.{without_connection};
+ghost use Rattle.prefix_table.specs.Fronts.{IsFirstFrom, common};
 ghost use Rattle.prefix_table.specs.Order.{IsTable};
 ghost use Rattle.prefix_table.specs.Places.{IsPlace};
 
@@ -18,7 +21,26 @@ pub struct Registration {
     ids: IdSet,
 }
 
-/// The registered prefixes in byte order, each once. A look-up goes through all of them.
+impl Registration {
+    fn comes_before(&self, prefix: &[u8]) -> bool
+        ensures { result ≡ is_lt (byte_order self.now.prefix prefix.now) }
+    {
+        self.prefix.as_slice().cmp(prefix) == Ordering::Less
+    }
+}
+
+// How many bytes at the front of both are the same.
+fn common(a: &[u8], b: &[u8]) -> usize
+    ensures { result ≡ common a.now b.now }
+{
+    let mut count = 0;
+    'bytes: while count < a.len() && count < b.len() && a[count] == b[count] {
+        count += 1;
+    }
+    count
+}
+
+/// The registered prefixes in byte order, each once, found by halving.
 #[derive(Drop)]
 pub struct PrefixTable {
     alloc: Global,
@@ -48,18 +70,35 @@ impl PrefixTable {
         }
     }
 
+    // The first place whose prefix does not come before this one, found by halving.
+    fn first_from(&self, prefix: &[u8]) -> usize
+        ensures { IsFirstFrom prefix.now self.now result }
+    {
+        let mut low = 0;
+        let mut high = self.rows.len();
+        'halves: while low < high {
+            let middle = low + (high - low) / 2;
+            if self.rows[middle].comes_before(prefix) {
+                low = middle + 1;
+            } else {
+                high = middle;
+            }
+        }
+        low
+    }
+
     // The place of a prefix, or else the place where it goes.
     fn place_of(&self, prefix: &[u8]) -> Result<usize, usize>
         ensures { IsPlace prefix.now self.now result }
     {
-        for (place, row) in self.rows.iter().enumerate() {
-            match row.prefix.as_slice().cmp(&prefix) {
-                Ordering::Less => {}
-                Ordering::Equal => return Ok(place),
-                Ordering::Greater => return Err(place),
-            }
+        let place = self.first_from(prefix);
+        match self.rows.get(place) {
+            None => Err(place),
+            Some(row) => match row.prefix.as_slice().cmp(prefix) {
+                Ordering::Equal => Ok(place),
+                _ => Err(place),
+            },
         }
-        Err(self.rows.len())
     }
 
     /// The connection registers the prefix, besides those that registered it already.
@@ -93,15 +132,26 @@ impl PrefixTable {
         self.rows.retain(|row| !row.ids.as_slice().is_empty());
     }
 
-    /// Appends the places of the prefixes that the key starts with, in byte order of prefix.
+    /// Appends the places of the prefixes that the key starts with, in byte order of prefix. Each
+    /// front of the key is looked up once, but for those that the prefix found before rules out.
     pub fn matching(&self, key: &[u8], places: &mut Vec<usize>) -> Result<(), NoMemory>
         ensures ok { OnOk result
             (places.new.items ≡ places.old.items ++ places_of key.now self.now) }
         ensures err { OnErr result (places.new.items ≡ places.old.items) }
     {
         let before = places.len();
-        for (place, row) in self.rows.iter().enumerate() {
-            if key.starts_with(row.prefix.as_slice()) {
+        let mut front = 0;
+        'fronts: while front <= key.len() {
+            let place = self.first_from(&key[..front]);
+            if place >= self.rows.len() {
+                return Ok(());
+            }
+            let prefix = self.rows[place].prefix.as_slice();
+            let common = common(prefix, key);
+            if common < front {
+                return Ok(());
+            }
+            if common == prefix.len() {
                 match places.push(place) {
                     Ok(()) => {}
                     Err(_) => {
@@ -110,6 +160,7 @@ impl PrefixTable {
                     }
                 }
             }
+            front = common + 1;
         }
         Ok(())
     }

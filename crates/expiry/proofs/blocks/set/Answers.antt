@@ -39,7 +39,8 @@ module _ (c : After-blocks-1) where
 
   are_same : c.set.new.self ≡ c.index_mut.result.now → AreBlocks (set bs n c.set.new.self)
   are_same e =
-      subst AreBlocks (sym (ap (set bs n) (e ∙ here) ∙ set-get_or bs n [])) c.make_room.ensures.blocks
+      subst AreBlocks (sym (ap (set bs n) (e ∙ here) ∙ set-get_or bs n []))
+      c.make_room.ensures.blocks
 
 pub returns-clause-ok : goal.returns-clause-ok
 returns-clause-ok c = grind (arith, is_with c)

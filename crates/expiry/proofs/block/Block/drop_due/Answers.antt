@@ -11,7 +11,8 @@ pub invariant_of-self : goal.invariant_of-self
 invariant_of-self c =
     subst IsOrdered (sym (filter_same _ _ _ (λ x b f' k. search rules) _ _
     c.retain.ensures.filtered))
-    (ordered_filter (λ d. not (is_due c.args.moment d)) c.self.inside.deadlines.items c.self.invariant)
+    (ordered_filter (λ d. not (is_due c.args.moment d)) c.self.inside.deadlines.items
+    c.self.invariant)
 
 pub returns-then-due_count-gt0 : goal.returns-then-due_count-gt0
 returns-then-due_count-gt0 c =

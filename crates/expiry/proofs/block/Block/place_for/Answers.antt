@@ -16,6 +16,7 @@ halves-preserved-then-comes_before c =
     ∙ ap (λ (l : List Deadline). get_or l n c.index.result.now) c.self.view_is in (
       omega (arith, c.halves-test.true),
       inv.1,
-      all_up_to _ ds n (subst IsOrdered c.self.view_is c.self.invariant) lt (grind (arith, get_or_read)),
+      all_up_to _ ds n (subst IsOrdered c.self.view_is c.self.invariant) lt
+          (grind (arith, get_or_read)),
       inv.3,
     )

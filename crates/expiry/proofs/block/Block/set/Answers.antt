@@ -13,7 +13,8 @@ returns-then-is_same-clause-ok c =
     let ds = c.args.self.now in
     let n = c.place_for-place.result in
     let d : Deadline = record { at = c.args.deadline; key = c.args.key.now } in
-    let lt : n < length ds = omega (arith, ap length c.self.view_is, c.self.inside.deadlines.ok.0) in
+    let lt : n < length ds =
+    omega (arith, ap length c.self.view_is, c.self.inside.deadlines.ok.0) in
     let read = c.index.ensures
     ∙ ap (λ (l : List Deadline). get_or l n c.index.result.now) c.self.view_is in
     sym (with_same d ds n c.place_for-place.ensures lt

@@ -1,10 +1,9 @@
-use Rattle.std.proofs.Common.{◌≡◌, ◌++◌}
-use Rattle.std.specs.Prelude.{filter}
-use Rattle.std.specs.List.{range_with_len}
-use Rattle.prefix_table.specs.Table.{starts_with_at}
+use Rattle.std.proofs.Common.{◌≡◌, ◌++◌, ◌+◌, ◌-◌, length}
+use Rattle.prefix_table.specs.Fronts.{shorter}
 use Rattle.prefix_table.proofs.table.PrefixTable.matching.Given as goal
 
-abbrev pub invariant-loop-place : goal.invariant-loop-place
-invariant-loop-place l =
-    l.places.items ≡ l.fn.places.items
-    ++ filter (starts_with_at l.key l.self) (range_with_len 0 l.place)
+abbrev pub invariant-fronts : goal.invariant-fronts
+invariant-fronts l = l.places.items ≡ l.fn.places.items ++ shorter l.key l.self l.front
+
+abbrev pub decreases-fronts : goal.decreases-fronts
+decreases-fronts l = length l.key + 1 - l.front
