@@ -1,36 +1,154 @@
 -- What keys hold once runs are taken back.
 use Rattle.std.proofs.Common.{arith, ◌≡◌, ◌∙◌, refl, sym, ap, subst, ℕ, List, [], ◌∷◌, ◌++◌, Bool}
 use Rattle.std.proofs.Common.{true, false, cond, Option, None, Some, Result, Ok, Err, OnOk, OnErr}
-use Rattle.std.proofs.Common.{inr}
+use Rattle.std.proofs.Common.{inl, inr, slice_get, take, length, zero, suc, ◌+◌, ◌-◌}
 use Rattle.std.specs.Prelude.{◌||◌}
 use Rattle.std.specs.Cmp.Lexicographic.{nat_list_cmp_total}
-use Rattle.std.specs.FinMap.{get, empty, same_map}
+use Rattle.std.specs.FinMap.{get, insert, empty, same_map}
 use Rattle.std.specs.FinMap.{slice_cmp-IsAntisymmetric, nat_cmp-IsAntisymmetric}
 use Rattle.std.specs.List.{list_any}
+use Rattle.std.specs.Option.{option_map, option_map_or}
 use Rattle.std.specs.Str.{bytes_eq}
 use Rattle.std.proofs.lemmas.Slice.Eq.{bytes_eq-Decides}
 use Rattle.resp_value.specs.declared.octets.NoMemory.{NoMemory}
-use Rattle.command_words.specs.declared.command.Command.{Command}
-use Rattle.command_words.specs.declared.command.Done.{Done}
 use Rattle.command_words.specs.declared.written.Written.TheVariants.{Keys}
-use Rattle.command_words.specs.Effects.{effect}
 use Rattle.command_words.specs.Expiry.{without_due}
-use Rattle.command_words.specs.Queries.{written}
-use Rattle.command_words.specs.Space.{Held, Space}
-use Rattle.command_rows.specs.Rows.{IsRow}
+use Rattle.command_words.specs.Space.{Held, Space, changed_at, deadline_at, held_at}
 use Rattle.expiry.specs.declared.index.Deadline.{Deadline}
 use Rattle.command_set.specs.InStep.{InStep, due_keys, deadlines_of, settled, with_new, listed}
-use Rattle.command_set.specs.Laws.{Moves}
+use Rattle.command_set.specs.Laws.{Moves, Source}
 use Rattle.command_set.specs.NewDeadlines.{deadline}
-use Rattle.command_set.specs.Priors.{Priors, again, put_back, what_held, life_of, concerns}
-use Rattle.command_set.specs.Priors.{AgreeBeside}
-use Rattle.command_set.proofs.Moves.{at_insert, at_remove, put, gone, same}
+use Rattle.command_set.specs.Priors.{Kept, Whole, Life, Size, Field, Priors}
+use Rattle.command_set.specs.Priors.{again, put_back, what_held, life_of, life_again}
+use Rattle.command_set.specs.Priors.{shortened, with_field, kept_of, prior_of, priors_of}
+use Rattle.command_set.specs.declared.prior.Prior.{Prior}
+use Rattle.command_set.proofs.Moves.{at_insert, at_remove, left_false, same}
 use Rattle.command_set.proofs.PastDeadlines.{get_without, named_past}
-use Rattle.command_set.proofs.Steps.{in_step, moved, nothing_is_in_step}
+use Rattle.command_set.proofs.Steps.{in_step, nothing_is_in_step}
 
-pub put_back_both : (a b : Priors) (s : Space) → put_back (a ++ b) s ≡ put_back b (put_back a s)
-put_back_both [] b s = refl
-put_back_both (p ∷ ps) b s = put_back_both ps b (again p.0 p.1 s)
+-- ---- one key
+
+pub get_changed : (key : List ℕ) (f : Held → Held) (s : Space) (q : List ℕ)
+    → get (changed_at key f s) q ≡ cond (bytes_eq q key) (option_map f (get s key)) (get s q)
+get_changed key f s q = by (get s key) refl
+  where
+    none : get s key ≡ None → (b : Bool) → bytes_eq q key ≡ b → get s q ≡ cond b None (get s q)
+    none is true e = ap (get s) ((bytes_eq-Decides q key).0 e) ∙ is
+    none is false e = refl
+
+    by : (r : Option Held) → get s key ≡ r
+        → get (option_map_or (λ held. insert s key (f held)) r s) q
+        ≡ cond (bytes_eq q key) (option_map f r) (get s q)
+    by None is = none is (bytes_eq q key) refl
+    by (Some h) is = at_insert s key (f h) q
+
+-- what the key holds once this is so again
+abbrev pub held_again : Kept → Option Held → Option Held
+held_again (Whole held) now = held
+held_again (Life at) now = option_map {T = Held} (λ h. record h { deadline = at }) now
+held_again (Size len) now =
+    option_map {T = Held} (λ h. record h { content = shortened len h.content }) now
+held_again (Field field value) now =
+    option_map {T = Held} (λ h. record h { content = with_field field value h.content }) now
+
+pub get_again : (key : List ℕ) (k : Kept) (s : Space) (q : List ℕ)
+    → get (again key k s) q ≡ cond (bytes_eq q key) (held_again k (get s key)) (get s q)
+get_again key (Whole None) s q = at_remove s key q
+get_again key (Whole (Some held)) s q = at_insert s key held q
+get_again key (Life at) s q = get_changed key (λ h. record h { deadline = at }) s q
+get_again key (Size len) s q =
+    get_changed key (λ h. record h { content = shortened len h.content }) s q
+get_again key (Field field value) s q =
+    get_changed key (λ h. record h { content = with_field field value h.content }) s q
+
+life_held : (k : Kept) (r : Option Held) → life_of (held_again k r) ≡ life_again k r
+life_held (Whole held) r = refl
+life_held (Life at) None = refl
+life_held (Life at) (Some h) = refl
+life_held (Size len) None = refl
+life_held (Size len) (Some h) = refl
+life_held (Field field value) None = refl
+life_held (Field field value) (Some h) = refl
+
+-- a key that is as it was, and the index in step with it
+module _ (key : List ℕ) (k : Kept) (s : Space) where
+  abbrev pub life_new : Option Deadline
+  life_new = deadline key (life_again k (held_at key s))
+
+  pub again_moves : Moves (Keys (key ∷ [])) life_new s (again key k s)
+  again_moves = record {
+    stays = λ q other.
+        get_again key k s q
+        ∙ ap (λ b. cond b (held_again k (get s key)) (get s q))
+        (left_false (bytes_eq q key) false other);
+    from = λ q at e. by q at e (bytes_eq q key) refl;
+  }
+    where
+      by : (q : List ℕ) (at : ℕ) → deadline_at q (again key k s) ≡ Some at → (b : Bool)
+          → bytes_eq q key ≡ b → Source life_new s q at
+      by q at e true is =
+          subst (λ z. Source life_new s z at) (sym ((bytes_eq-Decides q key).0 is))
+          (inr (ap (deadline key) (sym (life_held k (get s key))
+          ∙ (sym (ap life_of (get_again key k s q
+          ∙ ap (λ b. cond b (held_again k (get s key)) (get s q)) is)) ∙ e))))
+      by q at e false is =
+          inl (sym (ap life_of (get_again key k s q
+          ∙ ap (λ b. cond b (held_again k (get s key)) (get s q)) is)) ∙ e)
+
+  pub again_in_step : {A : Type 0} (t : Space) (result : Result A NoMemory)
+      (index : List Deadline) → InStep index s
+      → OnOk result (t ≡ again key k s) → OnErr result (t ≡ s)
+      → InStep (settled (listed life_new) t (settled (deadlines_of (key ∷ []) s) t
+      (with_new life_new index))) t
+  again_in_step t (Ok x) index step ok err =
+      in_step index s t (key ∷ []) life_new step
+      (subst (Moves (Keys (key ∷ [])) life_new s) (sym ok) again_moves)
+  again_in_step t (Err e) index step ok err =
+      in_step index s t (key ∷ []) life_new step
+      (subst (Moves (Keys (key ∷ [])) life_new s) (sym err) same)
+
+-- ---- all that was kept
+
+-- what was kept last is so again first
+pub put_back_last : (ps : Priors) (key : List ℕ) (k : Kept) (s : Space)
+    → put_back (ps ++ (key, k) ∷ []) s ≡ put_back ps (again key k s)
+put_back_last [] key k s = refl
+put_back_last (p ∷ ps) key k s = ap (again p.0 p.1) (put_back_last ps key k s)
+
+split_at : {X : Type 0} (xs : List X) (i : ℕ) (x : X) → slice_get xs i ≡ Some x
+    → i + 1 ≡ length xs → xs ≡ take i xs ++ x ∷ []
+split_at [] i x at e = absurd cc
+split_at (y ∷ []) zero x at e = ap (λ z. z ∷ []) (let one : y ≡ x = cc in one)
+split_at (y ∷ z ∷ ys) zero x at e = absurd (let no : ⊥ = omega (arith, e) in no)
+split_at (y ∷ ys) (suc i) x at e =
+    ap (λ r. y ∷ r) (split_at ys i x at (omega (arith, e)))
+
+split_last : {X : Type 0} (xs : List X) (x : X) → slice_get xs (length xs - 1) ≡ Some x
+    → xs ≡ take (length xs - 1) xs ++ x ∷ []
+split_last [] x at = absurd cc
+split_last (y ∷ ys) x at = split_at (y ∷ ys) (length (y ∷ ys) - 1) x at (omega arith)
+
+with_last : (ps : List Prior) (p : Prior)
+    → priors_of (ps ++ p ∷ []) ≡ priors_of ps ++ prior_of p ∷ []
+with_last [] p = refl
+with_last (q ∷ ps) p = ap (λ r. prior_of q ∷ r) (with_last ps p)
+
+-- what was kept last is so again, and goes from the list
+pub popped : (old new : List Prior) (p : Prior) (s t : Space)
+    → slice_get old (length old - 1) ≡ Some p → new ≡ take (length old - 1) old
+    → t ≡ again p.key (kept_of p.kept) s
+    → put_back (priors_of new) t ≡ put_back (priors_of old) s
+popped old new p s t at is so =
+    let front = take (length old - 1) old in
+    ap (λ ps. put_back (priors_of ps) t) is
+    ∙ (ap (put_back (priors_of front)) so
+    ∙ (sym (put_back_last (priors_of front) p.key (kept_of p.kept) s)
+    ∙ (ap (λ ps. put_back ps s) (sym (with_last front p))
+    ∙ ap (λ ps. put_back (priors_of ps) s) (sym (split_last old p at)))))
+
+pub alike : (s t : Space) → ((q : List ℕ) → get s q ≡ get t q) → s ≡ t
+alike s t all =
+    same_map nat_list_cmp_total (slice_cmp-IsAntisymmetric nat_cmp-IsAntisymmetric) s t all
 
 -- keys that hold what they held elsewhere, over any keyspace
 get_back : (ks : List (List ℕ)) (s t : Space) (q : List ℕ)
@@ -38,31 +156,26 @@ get_back : (ks : List (List ℕ)) (s t : Space) (q : List ℕ)
     ≡ cond (list_any (bytes_eq q) ks) (get s q) (get t q)
 get_back [] s t q = refl
 get_back (k ∷ ks) s t q =
-    get_back ks s (again k (get s k) t) q
-    ∙ (ap (cond (list_any (bytes_eq q) ks) (get s q)) (grind (arith, at_remove, at_insert))
+    get_again k (Whole (get s k)) (put_back (what_held ks s) t) q
+    ∙ (ap (cond (bytes_eq q k) (get s k)) (get_back ks s t q)
     ∙ by (bytes_eq q k) refl (list_any (bytes_eq q) ks))
   where
     by : (b : Bool) → bytes_eq q k ≡ b → (c : Bool)
-        → cond c (get s q) (cond b (get s k) (get t q)) ≡ cond (b || c) (get s q) (get t q)
-    by true is true = refl
-    by true is false = ap (get s) (sym ((bytes_eq-Decides q k).0 is))
+        → cond b (get s k) (cond c (get s q) (get t q)) ≡ cond (b || c) (get s q) (get t q)
+    by true is c = ap (get s) (sym ((bytes_eq-Decides q k).0 is))
     by false is c = refl
 
-restored : (a b : List (List ℕ)) (s t : Space)
-    → ((q : List ℕ) → list_any (bytes_eq q) a ≡ false → list_any (bytes_eq q) b ≡ false
-    → get t q ≡ get s q)
-    → put_back (what_held a s ++ what_held b s) t ≡ s
-restored a b s t others =
-    same_map nat_list_cmp_total (slice_cmp-IsAntisymmetric nat_cmp-IsAntisymmetric) _ _
-    (grind (arith, put_back_both, get_back))
+-- where only these keys differ, what they held leads back
+pub wholes_back : (ks : List (List ℕ)) (s t : Space)
+    → ((q : List ℕ) → list_any (bytes_eq q) ks ≡ false → get t q ≡ get s q)
+    → put_back (what_held ks s) t ≡ s
+wholes_back ks s t others =
+    alike _ _ (λ q. get_back ks s t q ∙ by q (list_any (bytes_eq q) ks) refl)
   where
-    by : (q : List ℕ) (c : Bool) → list_any (bytes_eq q) a ≡ c
-        → (d : Bool) → list_any (bytes_eq q) b ≡ d
-        → cond d (get s q) (cond c (get s q) (get t q)) ≡ get s q
-    by q true one true two = refl
-    by q true one false two = refl
-    by q false one true two = refl
-    by q false one false two = others q one two
+    by : (q : List ℕ) (b : Bool) → list_any (bytes_eq q) ks ≡ b
+        → cond b (get s q) (get t q) ≡ get s q
+    by q true is = refl
+    by q false is = others q is
 
 -- a key that is not among those that are due keeps what it holds
 left_alone : (moment : ℕ) (s : Space) (index : List Deadline) → InStep index s → (q : List ℕ)
@@ -70,67 +183,18 @@ left_alone : (moment : ℕ) (s : Space) (index : List Deadline) → InStep index
     → get (without_due moment s) q ≡ get s q
 left_alone moment s index step q kept = grind (arith, get_without, named_past)
 
--- what was copied of the due keys leads back from the keyspace without them
+-- what the due keys held leads back from the keyspace without them
 pub come_back : (moment : ℕ) (s t : Space) (index : List Deadline) (due : List (List ℕ))
     (none both : Priors) → InStep index s → due ≡ due_keys moment index → none ≡ []
     → both ≡ none ++ what_held due s → t ≡ without_due moment s → put_back both t ≡ s
 come_back moment s t index due none both step listed new one left =
     ap (λ ps. put_back ps t) (one ∙ (λ i. new i ++ what_held (listed i) s))
-    ∙ (ap (put_back (what_held (due_keys moment index) s)) left
-    ∙ same_map nat_list_cmp_total (slice_cmp-IsAntisymmetric nat_cmp-IsAntisymmetric) _ _
-    (λ q. get_back (due_keys moment index) s (without_due moment s) q
-    ∙ by q (list_any (bytes_eq q) (due_keys moment index)) refl))
-  where
-    by : (q : List ℕ) (b : Bool) → list_any (bytes_eq q) (due_keys moment index) ≡ b
-        → cond b (get s q) (get (without_due moment s) q) ≡ get s q
-    by q true is = refl
-    by q false is = left_alone moment s index step q is
+    ∙ wholes_back (due_keys moment index) s t
+    (λ q out. ap (λ m. get m q) left ∙ left_alone moment s index step q out)
 
--- what the due keys and the written keys held leads back from a run
-pub taken : (c : Command) (s : Space) (moment : ℕ) (r : Result Done NoMemory) (t : Space)
-    (index : List Deadline) (keys : List (List ℕ)) → InStep index s → written c ≡ Keys keys
-    → IsRow (effect c (without_due moment s) moment) r (without_due moment s) t
-    → put_back (what_held (due_keys moment index) s ++ what_held keys s) t ≡ s
-taken c s moment r t index keys step is row = grind (arith, restored, moved, left_alone)
-
--- a key that holds something again, and the index in step with it
-put_again : (k : List ℕ) (r : Option Held) (s : Space)
-    → Moves (Keys (k ∷ [])) (deadline k (life_of r)) s (again k r s)
-put_again k None s = gone s k
-put_again k (Some held) s = put s k held (λ at e. inr (ap (deadline k) e))
-
-pub again_in_step : {A : Type 0} (k : List ℕ) (r : Option Held) (s t : Space)
-    (result : Result A NoMemory) (index : List Deadline) → InStep index s
-    → OnOk result (t ≡ again k r s) → OnErr result (t ≡ s)
-    → InStep (settled (listed (deadline k (life_of r))) t (settled (deadlines_of (k ∷ []) s) t
-    (with_new (deadline k (life_of r)) index))) t
-again_in_step k r s t (Ok x) index step ok err =
-    in_step index s t (k ∷ []) (deadline k (life_of r)) step
-    (subst (Moves (Keys (k ∷ [])) (deadline k (life_of r)) s) (sym ok) (put_again k r s))
-again_in_step k r s t (Err e) index step ok err =
-    in_step index s t (k ∷ []) (deadline k (life_of r)) step
-    (subst (Moves (Keys (k ∷ [])) (deadline k (life_of r)) s) (sym err) same)
-
--- where keyspaces agree beside some keys, those keys put back make them equal
-agreed : (ps : Priors) (a b : Space) (q : List ℕ) → AgreeBeside ps a b
-    → get (put_back ps b) q ≡ get (put_back ps a) q
-agreed [] a b q alike = alike q refl
-agreed (p ∷ ps) a b q alike =
-    agreed ps (again p.0 p.1 a) (again p.0 p.1 b) q
-    (grind (arith, at_remove, at_insert))
-  where
-    by : (x : List ℕ) (d : Bool) → bytes_eq x p.0 ≡ d → concerns ps x ≡ false
-        → cond d p.1 (get b x) ≡ cond d p.1 (get a x)
-    by x true is beside = refl
-    by x false is beside = alike x (λ i. is i || beside i)
-
-pub same_back : (ps : Priors) (a b : Space) → AgreeBeside ps a b → put_back ps b ≡ put_back ps a
-same_back ps a b alike =
-    same_map nat_list_cmp_total (slice_cmp-IsAntisymmetric nat_cmp-IsAntisymmetric) _ _
-    (λ q. agreed ps a b q alike)
-
-pub on_ok : {A P Q : Type 0} (r : Result A NoMemory) → (P → Q) → OnOk r P → OnOk r Q
-on_ok r f p = grind arith
+pub on_err : {A P Q : Type 0} (r : Result A NoMemory) → (P → Q) → OnErr r P → OnErr r Q
+on_err (Ok a) f p = p
+on_err (Err e) f p = f p
 
 pub new_in_step : (index : List Deadline) (s : Space) → index ≡ [] → s ≡ empty → InStep index s
 new_in_step index s none new =

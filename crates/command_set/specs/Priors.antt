@@ -1,58 +1,99 @@
--- What keys held before a run, and the keyspace in which they hold it again.
-use Rattle.std.specs.Prelude.{◌≡◌, ◌++◌, ℕ, List, [], ◌∷◌, Bool, false, not, map}
+-- What a run keeps of what it changes, and the keyspace in which all is as it was.
+use Rattle.std.specs.Prelude.{ℕ, List, [], ◌∷◌, map, take}
 use Rattle.std.specs.Prelude.{Option, Some, None}
 use Rattle.std.specs.FinMap.{insert, remove}
-use Rattle.std.specs.List.{list_any}
 use Rattle.std.specs.Option.{option_map, option_and_then}
-use Rattle.std.specs.Str.{bytes_eq}
-use Rattle.command_words.specs.Space.{Held, Space, held_at}
+use Rattle.command_words.specs.Hashes.{Pairs, field_set, field_remove}
+use Rattle.command_words.specs.Space.{Content, Text, Fields, Held, Space, held_at}
+use Rattle.command_words.specs.Space.{changed_at, with_deadline}
 use Rattle.keyspace.specs.Plain.{held_of}
 use Rattle.command_set.specs.declared.prior.Prior.{Prior}
+use Rattle.command_set.specs.declared.prior.Kept as code
+use Rattle.command_set.specs.declared.prior.Kept.TheVariants as variants
 use Rattle.command_set.specs.declared.waiting.Parts.{Parts}
 use Rattle.command_set.specs.declared.waiting.Waiting.{Waiting}
 use Rattle.command_set.specs.declared.waiting.Waiting.TheVariants.{Nothing, Run'}
 
--- keys with what they held, if they were there
-abbrev pub Priors : Type 0
-Priors = List (List ℕ × Option Held)
+-- What is kept of a key: all that it held, if it was there; its deadline; the length of its string;
+-- a field of its hash with the value, if the field was there.
+pub data Kept : Type 0 where
+  Whole : Option Held → Kept
+  Life : Option ℕ → Kept
+  Size : ℕ → Kept
+  Field : List ℕ → Option (List ℕ) → Kept
 
-abbrev pub prior_of : Prior → List ℕ × Option Held
-prior_of prior = (prior.key, option_map held_of prior.held)
+-- keys, with what is kept of them
+abbrev pub Priors : Type 0
+Priors = List (List ℕ × Kept)
+
+abbrev pub kept_of : code.Kept → Kept
+kept_of (variants.Whole held) = Whole (option_map held_of held)
+kept_of (variants.Life at) = Life at
+kept_of (variants.Size len) = Size len
+kept_of (variants.Field field value) = Field field value
+
+abbrev pub prior_of : Prior → List ℕ × Kept
+prior_of prior = (prior.key, kept_of prior.kept)
 
 abbrev pub priors_of : List Prior → Priors
 priors_of priors = map prior_of priors
 
--- the key holds this again, or is missing again
-abbrev pub again : List ℕ → Option Held → Space → Space
-again key None space = remove space key
-again key (Some held) space = insert space key held
+-- the first bytes of a string
+abbrev pub shortened : ℕ → Content → Content
+shortened len (Text value) = Text (take len value)
+shortened len (Fields fields) = Fields fields
 
--- from left to right
+-- a field with this value, or without it
+abbrev pub field_back : List ℕ → Option (List ℕ) → Pairs → Pairs
+field_back field None fields = field_remove field fields
+field_back field (Some value) fields = field_set field value fields
+
+abbrev pub with_field : List ℕ → Option (List ℕ) → Content → Content
+with_field field value (Text text) = Text text
+with_field field value (Fields fields) = Fields (field_back field value fields)
+
+abbrev pub with_text_of : List ℕ → ℕ → Space → Space
+with_text_of key len = changed_at key (λ held. record held { content = shortened len held.content })
+
+abbrev pub with_field_of : List ℕ → List ℕ → Option (List ℕ) → Space → Space
+with_field_of key field value =
+    changed_at key (λ held. record held { content = with_field field value held.content })
+
+-- what was kept of the key is so again
+abbrev pub again : List ℕ → Kept → Space → Space
+again key (Whole None) space = remove space key
+again key (Whole (Some held)) space = insert space key held
+again key (Life at) space = with_deadline key at space
+again key (Size len) space = with_text_of key len space
+again key (Field field value) space = with_field_of key field value space
+
+-- from right to left: what was kept last is so again first
 abbrev pub put_back : Priors → Space → Space
 put_back [] space = space
-put_back (p ∷ ps) space = put_back ps (again p.0 p.1 space)
+put_back (p ∷ ps) space = again p.0 p.1 (put_back ps space)
 
 -- the deadline of what a key held
 abbrev pub life_of : Option Held → Option ℕ
 life_of held = option_and_then (λ h. h.deadline) held
 
--- what these keys hold
+-- the deadline that a key has once this is so again
+abbrev pub life_again : Kept → Option Held → Option ℕ
+life_again (Whole held) now = life_of held
+life_again (Life at) None = None
+life_again (Life at) (Some held) = at
+life_again (Size len) now = life_of now
+life_again (Field field value) now = life_of now
+
+-- all that these keys hold
 abbrev pub what_held : List (List ℕ) → Space → Priors
-what_held keys space = map (λ key. (key, held_at key space)) keys
+what_held keys space = map (λ key. (key, Whole (held_at key space))) keys
 
--- all that waits, the runs that were taken back first in front
-abbrev pub all_waiting : Waiting → Priors
-all_waiting Nothing = []
-all_waiting (Run' priors p earlier) = all_waiting earlier ++ priors_of priors.items
-
-abbrev pub concerns : Priors → List ℕ → Bool
-concerns priors key = list_any (λ p. bytes_eq key p.0) priors
-
--- the other keys hold what they held
-abbrev pub AgreeBeside : Priors → Space → Space → Type 0
-AgreeBeside priors old new =
-    (key : List ℕ) → concerns priors key ≡ false → held_at key new ≡ held_at key old
+-- the keyspace once all that waits is put back, the runs that were taken back first in front
+abbrev pub waiting_back : Waiting → Space → Space
+waiting_back Nothing space = space
+waiting_back (Run' kept due p earlier) space =
+    put_back (priors_of due.items) (put_back (priors_of kept.items) (waiting_back earlier space))
 
 -- the keyspace once all that waits is put back
 abbrev pub shown : Parts → Space
-shown parts = put_back (all_waiting parts.waiting) parts.space
+shown parts = waiting_back parts.waiting parts.space

@@ -26,7 +26,8 @@ IsTurn row (Ok turned) old new =
 IsTurn row (Err e) old new = new ≡ old
 
 abbrev changed_back : Change → Space → Space
-changed_back (Keys priors seat) space = put_back (priors_of priors.items) space
+changed_back (Keys kept due seat) space =
+    put_back (priors_of due.items) (put_back (priors_of kept.items) space)
 changed_back (All old) space = old
 
 -- the keyspace once the run is taken back

@@ -41,10 +41,11 @@ impl Model for Database {
     ghost invariant = { λ d. InStep d.parts.index d.parts.space };
 }
 
-/// What a run changed: some keys, with the place for what waits already, or all of them.
+/// What a run changed: some keys, by what its command kept of them and what the keys that were due
+/// held, with the place for what waits already; or all of them.
 #[derive(Drop)]
 pub(crate) enum Change {
-    Keys(Vec<Prior>, Box<Waiting>),
+    Keys(Vec<Prior>, Vec<Prior>, Box<Waiting>),
     All(Database),
 }
 
@@ -134,8 +135,8 @@ impl Database {
         ensures { self.new ≡ taken_back undo self.old }
     {
         match undo.change {
-            Change::Keys(priors, place) => {
-                push_waiting(&mut self.parts.waiting, priors, place);
+            Change::Keys(kept, due, place) => {
+                push_waiting(&mut self.parts.waiting, kept, due, place);
             }
             Change::All(old) => *self = old,
         }

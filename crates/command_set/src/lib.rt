@@ -1,8 +1,10 @@
 //! Every data command by one call, with the index of deadlines in step.
 #![tactic(auto)]
 
+mod content;
 mod database;
 mod due;
+mod kept;
 mod laws;
 mod prior;
 mod run;

@@ -1,42 +1,53 @@
-//! What keys held before a run, and how they come to hold it again.
-ghost use Rattle.std.specs.Prelude.{◌≡◌, ◌++◌, IfOk, OnOk, OnErr, option_map};
-ghost use Rattle.command_words.specs.Space.{held_at};
+//! What is kept of keys before a run, and how it comes to be so again.
+ghost use Rattle.std.specs.Prelude.{◌≡◌, ◌-◌, ◌<◌, ◌++◌, [], ◌∷◌, IfOk, OnOk, OnErr};
+ghost use Rattle.std.specs.Prelude.{length, take};
+ghost use Rattle.command_words.specs.Space.{deadline_at, held_at};
 ghost use Rattle.keyspace.specs.Plain.{held_of};
 ghost use Rattle.command_set.specs.InStep.{InStep};
 ghost use Rattle.command_set.specs.NewDeadlines.{deadline};
-ghost use Rattle.command_set.specs.Priors.{again, prior_of, priors_of, put_back, what_held};
-ghost use Rattle.command_set.specs.Priors.{AgreeBeside, life_of};
+ghost use Rattle.command_set.specs.Priors.{again, kept_of, life_again, prior_of, priors_of};
+ghost use Rattle.command_set.specs.Priors.{put_back, what_held};
 
+use super::content::{put_field_of, shorten_text};
 use super::step::{add_new, settle, settle_new};
-use super::touched::{deadline, deadlines_of};
+use super::touched::{deadline, deadline_of, deadlines_of};
 use expiry::{Deadline, DeadlineIndex};
 use keyspace::{Held, Keyspace};
 use resp_value::{NoMemory, Octets, Words};
 use std::alloc::Global;
 
-/// A key, and what it held before a run, if it was there.
+/// What is kept of a key: all that it held, if it was there; its deadline; the length of its
+/// string; a field of its hash with the value, if the field was there.
+#[derive(Drop)]
+pub enum Kept {
+    Whole(Option<Held>),
+    Life(Option<u64>),
+    Size(usize),
+    Field(Octets, Option<Octets>),
+}
+
+/// A key, and what a run keeps of it.
 #[derive(Drop)]
 pub struct Prior {
     pub key: Octets,
-    pub held: Option<Held>,
+    pub kept: Kept,
 }
 
-/// What the key holds.
-fn prior_at(space: &Keyspace, key: &Octets) -> Result<Prior, NoMemory>
-    ensures { IfOk result (λ prior. prior_of prior ≡ (key.now, held_at key.now space.now)) }
+/// All that the key holds.
+fn whole(space: &Keyspace, key: &Octets) -> Result<Prior, NoMemory>
+    ensures { IfOk result (λ prior. prior_of prior ∷ [] ≡ what_held (key.now ∷ []) space.now) }
 {
     match space.get(key.as_slice()) {
         None => {
             let key = key.copy()?;
-            Ok(Prior { key, held: None })
+            let kept = Kept::Whole(None);
+            Ok(Prior { key, kept })
         }
         Some(held) => {
             let held = held.copy()?;
             let key = key.copy()?;
-            Ok(Prior {
-                key,
-                held: Some(held),
-            })
+            let kept = Kept::Whole(Some(held));
+            Ok(Prior { key, kept })
         }
     }
 }
@@ -51,38 +62,48 @@ pub(crate) fn push_priors(
         ≡ priors_of out.old.items ++ what_held keys.now space.now) }
 {
     for key in keys {
-        out.push(prior_at(space, key)?)?;
+        out.push(whole(space, key)?)?;
     }
     Ok(())
 }
 
-/// The deadline that the key had.
-fn deadline_of(prior: &Prior) -> Result<Option<Deadline>, NoMemory>
-    ensures { IfOk result (λ d. d
-        ≡ deadline prior.now.key (life_of (option_map held_of prior.now.held))) }
+/// The deadline that the key has once what was kept of it is so again.
+fn life_again(space: &Keyspace, prior: &Prior) -> Option<u64>
+    ensures { result ≡ life_again (kept_of prior.now.kept) (held_at prior.now.key space.now) }
 {
-    match &prior.held {
-        None => Ok(None),
-        Some(held) => deadline(&prior.key, held.deadline),
+    match &prior.kept {
+        Kept::Whole(None) => None,
+        Kept::Whole(Some(held)) => held.deadline,
+        Kept::Life(at) => match space.get(prior.key.as_slice()) {
+            None => None,
+            Some(_) => *at,
+        },
+        Kept::Size(_) | Kept::Field(_, _) => deadline_of(space, prior.key.as_slice()),
     }
 }
 
-/// The key holds in the keyspace what it held.
-fn put_one(space: &mut Keyspace, prior: &Prior) -> Result<(), NoMemory>
-    ensures ok { OnOk result (space.new
-        ≡ again prior.now.key (option_map held_of prior.now.held) space.old) }
+/// What was kept of the key is so again in the keyspace.
+fn put_one(alloc: Global, space: &mut Keyspace, prior: &Prior) -> Result<(), NoMemory>
+    ensures ok { OnOk result (space.new ≡ again prior.now.key (kept_of prior.now.kept) space.old) }
     ensures err { OnErr result (space.new ≡ space.old) }
 {
-    match &prior.held {
-        None => {
-            space.take(prior.key.as_slice());
+    let key = prior.key.as_slice();
+    match &prior.kept {
+        Kept::Whole(None) => {
+            space.take(key);
             Ok(())
         }
-        Some(held) => space.put(prior.key.as_slice(), held.copy()?),
+        Kept::Whole(Some(held)) => space.put(key, held.copy()?),
+        Kept::Life(at) => {
+            space.set_deadline(key, *at);
+            Ok(())
+        }
+        Kept::Size(len) => shorten_text(alloc, space, key, *len),
+        Kept::Field(field, value) => put_field_of(space, key, field.as_slice(), value),
     }
 }
 
-/// The key holds again what it held, and the index follows.
+/// What was kept of the key is so again, and the index follows.
 fn put_back_one(
     alloc: Global,
     space: &mut Keyspace,
@@ -90,36 +111,48 @@ fn put_back_one(
     prior: &Prior,
 ) -> Result<(), NoMemory>
     requires { InStep index.old space.old }
-    ensures ok { OnOk result (space.new
-        ≡ again prior.now.key (option_map held_of prior.now.held) space.old) }
+    ensures ok { OnOk result (space.new ≡ again prior.now.key (kept_of prior.now.kept) space.old) }
     ensures err { OnErr result (space.new ≡ space.old) }
     ensures step { InStep index.new space.new }
 {
     let mut keys = Words::new(alloc);
     keys.push(prior.key.copy()?)?;
     let before = deadlines_of(alloc, space, keys.as_slice())?;
-    let new = deadline_of(prior)?;
+    let new = deadline(&prior.key, life_again(space, prior))?;
     add_new(index, &new)?;
-    let put = put_one(space, prior);
+    let put = put_one(alloc, space, prior);
     settle(space, index, before.as_slice());
     settle_new(space, index, &new);
     put
 }
 
-/// The keys hold again what they held, from left to right. Where memory runs out, some of them do.
+/// What was kept last goes from the list.
+fn let_go_last(priors: &mut Vec<Prior>)
+    ensures rest { priors.new.items ≡ take (length priors.old.items - 1) priors.old.items }
+    ensures fewer { 0 < length priors.old.items
+        → length priors.new.items < length priors.old.items }
+{
+    priors.pop();
+}
+
+/// All that was kept is so again, what was kept last first. Where memory runs out, what is left is
+/// still to be put back.
 pub(crate) fn put_back(
     alloc: Global,
     space: &mut Keyspace,
     index: &mut DeadlineIndex,
-    priors: &[Prior],
+    priors: &mut Vec<Prior>,
 ) -> Result<(), NoMemory>
     requires { InStep index.old space.old }
-    ensures ok { OnOk result (space.new ≡ put_back (priors_of priors.now) space.old) }
-    ensures beside { AgreeBeside (priors_of priors.now) space.old space.new }
+    ensures ok { OnOk result (space.new ≡ put_back (priors_of priors.old.items) space.old) }
+    ensures none { OnOk result (priors.new.items ≡ []) }
+    ensures same { put_back (priors_of priors.new.items) space.new
+        ≡ put_back (priors_of priors.old.items) space.old }
     ensures step { InStep index.new space.new }
 {
-    for prior in priors {
+    'priors: while let Some(prior) = priors.last() {
         put_back_one(alloc, space, index, prior)?;
+        let_go_last(priors);
     }
     Ok(())
 }

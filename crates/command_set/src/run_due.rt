@@ -5,23 +5,27 @@ ghost use Rattle.command_words.specs.Effects.{effect, has_row};
 ghost use Rattle.command_words.specs.Expiry.{without_due};
 ghost use Rattle.command_words.specs.Queries.{written};
 ghost use Rattle.command_set.specs.InStep.{InStep};
-ghost use Rattle.command_set.specs.Priors.{all_waiting, shown};
+ghost use Rattle.command_set.specs.Priors.{priors_of, put_back, shown};
+ghost use Rattle.command_set.specs.declared.waiting.Waiting.TheVariants.{Nothing};
 ghost use Rattle.command_set.specs.Runs.{AreDue, IsTurn, taken_back};
 
 use super::database::{Change, Database, Expired, Turned, Undo};
 use super::due::{drop_due, due_keys};
-use super::prior::push_priors;
+use super::kept::kept_by;
+use super::prior::{Prior, push_priors};
 use super::run::{run_data, run_on};
 use super::waiting::{Parts, Waiting, push_waiting};
-use command_words::Command;
+use command_words::{Command, Done};
+use expiry::DeadlineIndex;
+use keyspace::Keyspace;
 use resp_value::{NoMemory, Octets};
 use std::alloc::Global;
 use std::mem;
 
-/// The keys that are due go; what they hold is copied first.
+/// The keys that are due go; what they hold is kept first.
 pub(crate) fn expire(alloc: Global, parts: &mut Parts, moment: u64) -> Result<Expired, NoMemory>
     requires step { InStep parts.old.index parts.old.space }
-    requires settled { all_waiting parts.old.waiting ≡ [] }
+    requires settled { parts.old.waiting ≡ Nothing }
     ensures keys { IfOk result (λ expired. AreDue moment (shown parts.old) expired.keys) }
     ensures ok { OnOk result (shown parts.new ≡ without_due moment (shown parts.old)) }
     ensures err { OnErr result (shown parts.new ≡ shown parts.old) }
@@ -34,7 +38,7 @@ pub(crate) fn expire(alloc: Global, parts: &mut Parts, moment: u64) -> Result<Ex
     push_priors(&parts.space, keys.as_slice(), &mut priors)?;
     let place = Box::new(alloc, Waiting::Nothing)?;
     drop_due(&mut parts.space, &mut parts.index, moment);
-    let change = Change::Keys(priors, place);
+    let change = Change::Keys(Vec::new(alloc), priors, place);
     let undo = Undo { change };
     Ok(Expired { keys, undo })
 }
@@ -55,8 +59,34 @@ pub(crate) fn one_written(command: &Command) -> Option<&Octets>
     }
 }
 
-/// A command that writes these keys. What they and the due keys hold is copied first, so that the
-/// run can be taken back without memory.
+/// A command that writes these keys, with what it keeps of them.
+fn run_kept(
+    alloc: Global,
+    space: &mut Keyspace,
+    index: &mut DeadlineIndex,
+    command: &Command,
+    moment: u64,
+    keys: &[Octets],
+) -> Result<(Done, Vec<Prior>), NoMemory>
+    requires has { has_row command.now ≡ true }
+    requires step { InStep index.old space.old }
+    requires keys { written command.now ≡ Keys keys.now }
+    ensures reply { IfOk result (λ r. r.0.reply
+        ≡ (effect command.now space.old moment).reply) }
+    ensures signals { IfOk result (λ r. r.0.signalled
+        ≡ (effect command.now space.old moment).signalled) }
+    ensures space { OnOk result (space.new ≡ (effect command.now space.old moment).space) }
+    ensures back { IfOk result (λ r. put_back (priors_of r.1.items) space.new ≡ space.old) }
+    ensures err { OnErr result (space.new ≡ space.old) }
+    ensures step { InStep index.new space.new }
+{
+    let kept = kept_by(alloc, space, command, moment, keys)?;
+    let done = run_on(alloc, space, index, command, moment, keys)?;
+    Ok((done, kept))
+}
+
+/// A command that writes these keys. What it changes and what the due keys hold is kept, so that
+/// the run can be taken back without memory.
 pub(crate) fn run_keys(
     alloc: Global,
     parts: &mut Parts,
@@ -66,7 +96,7 @@ pub(crate) fn run_keys(
 ) -> Result<Turned, NoMemory>
     requires has { has_row command.now ≡ true }
     requires step { InStep parts.old.index parts.old.space }
-    requires settled { all_waiting parts.old.waiting ≡ [] }
+    requires settled { parts.old.waiting ≡ Nothing }
     requires keys { written command.now ≡ Keys keys.now }
     ensures turn { IsTurn (effect command.now (without_due moment (shown parts.old)) moment)
         result (shown parts.old) (shown parts.new) }
@@ -76,12 +106,11 @@ pub(crate) fn run_keys(
     ensures step { InStep parts.new.index parts.new.space }
 {
     let expired = due_keys(alloc, &parts.index, moment)?;
-    let mut priors = Vec::new(alloc);
-    push_priors(&parts.space, expired.as_slice(), &mut priors)?;
-    push_priors(&parts.space, keys, &mut priors)?;
+    let mut due = Vec::new(alloc);
+    push_priors(&parts.space, expired.as_slice(), &mut due)?;
     let place = Box::new(alloc, Waiting::Nothing)?;
     drop_due(&mut parts.space, &mut parts.index, moment);
-    match run_on(
+    match run_kept(
         alloc,
         &mut parts.space,
         &mut parts.index,
@@ -89,8 +118,8 @@ pub(crate) fn run_keys(
         moment,
         keys,
     ) {
-        Ok(done) => {
-            let change = Change::Keys(priors, place);
+        Ok((done, kept)) => {
+            let change = Change::Keys(kept, due, place);
             let undo = Undo { change };
             Ok(Turned {
                 expired,
@@ -99,7 +128,7 @@ pub(crate) fn run_keys(
             })
         }
         Err(NoMemory) => {
-            push_waiting(&mut parts.waiting, priors, place);
+            push_waiting(&mut parts.waiting, Vec::new(alloc), due, place);
             Err(NoMemory)
         }
     }
@@ -114,7 +143,7 @@ pub(crate) fn run_flush(
 ) -> Result<Turned, NoMemory>
     requires has { has_row command.now ≡ true }
     requires step { InStep parts.old.index parts.old.space }
-    requires settled { all_waiting parts.old.waiting ≡ [] }
+    requires settled { parts.old.waiting ≡ Nothing }
     requires all { written command.now ≡ All }
     ensures turn { IsTurn (effect command.now (without_due moment (shown parts.old)) moment)
         result (shown parts.old) (shown parts.new) }

@@ -13,7 +13,7 @@ use std::alloc::Global;
 use string_cmds::moment_after;
 
 /// The deadline of the key.
-fn deadline_of(space: &Keyspace, key: &[u8]) -> Option<u64>
+pub(crate) fn deadline_of(space: &Keyspace, key: &[u8]) -> Option<u64>
     ensures { result ≡ deadline_at key.now space.now }
 {
     match space.get(key) {

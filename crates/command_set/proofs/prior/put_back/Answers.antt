@@ -1,25 +1,16 @@
-use Rattle.command_set.proofs.Moves.{right_false, left_false, at_remove, at_insert}
-use Rattle.std.proofs.Common.{arith, ◌≡◌, ap, sym, subst, ◌∙◌, ◌∷◌, ◌+◌, drop}
-use Rattle.std.proofs.lemmas.List.{at_drop_more}
-use Rattle.command_set.specs.Priors.{priors_of, AgreeBeside}
+use Rattle.std.proofs.Common.{◌≡◌, ◌∙◌, ◌-◌, ap, sym, Some, length, slice_get}
+use Rattle.command_set.proofs.TakenBack.{popped}
 use Rattle.command_set.proofs.prior.put_back.Goals as goal
 
-pub loop-prior-preserved : goal.loop-prior-preserved
-loop-prior-preserved c =
-    let priors = c.args.priors.now in
-    let place = c.loop-prior.prior-index in
-    let after = drop (place + 1) priors in
-    let prior = c.prior-item.result in
-    let space = c.loop-prior.space in
-    let put = c.in_ok-put_back_one.ensures.ok in
-    let ahead : prior ∷ after ≡ drop place priors =
-    ap (λ p. p ∷ after) c.prior-item.is
-    ∙ sym (at_drop_more (λ ps. ps) priors place prior c.loop-prior-test.true) in
+pub priors-preserved : goal.priors-preserved
+priors-preserved c =
+    let priors = c.priors.priors.items in
+    let at : slice_get priors (length priors - 1) ≡ Some c.in-Some.prior.now =
+    ap (λ ps. slice_get ps (length ps - 1)) (sym c.deref.ensures.value)
+    ∙ sym c.in-Some.ensures.value in
     record {
-      put = grind arith;
-      beside = λ t rest.
-          c.loop-prior.invariant.beside t
-          (subst (λ ps. AgreeBeside (priors_of ps) space t) ahead
-          (grind (arith, right_false, left_false, at_remove, at_insert)));
+      same = popped priors c.let_go_last.new.priors.items c.in-Some.prior.now c.priors.space
+          c.put_back_one.new.space at c.let_go_last.ensures.rest c.in_ok-put_back_one.ensures.ok
+          ∙ c.priors.invariant.same;
       step = c.put_back_one.ensures.step;
     }

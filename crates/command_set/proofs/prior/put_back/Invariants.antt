@@ -1,14 +1,14 @@
-use Rattle.std.proofs.Common.{◌≡◌, drop}
-use Rattle.command_words.specs.Space.{Space}
+use Rattle.std.proofs.Common.{◌≡◌, length}
 use Rattle.command_set.specs.InStep.{InStep}
-use Rattle.command_set.specs.Priors.{priors_of, put_back, AgreeBeside}
+use Rattle.command_set.specs.Priors.{priors_of, put_back}
 use Rattle.command_set.proofs.prior.put_back.Given as goal
 
-abbrev pub invariant-loop-prior : goal.invariant-loop-prior
-invariant-loop-prior l = record {
-  put : put_back (priors_of (drop l.prior-index l.priors)) l.space
-      ≡ put_back (priors_of l.priors) l.fn.space;
-  beside : (t : Space) → AgreeBeside (priors_of (drop l.prior-index l.priors)) l.space t
-      → AgreeBeside (priors_of l.priors) l.fn.space t;
+abbrev pub invariant-priors : goal.invariant-priors
+invariant-priors l = record {
+  same : put_back (priors_of l.priors.items) l.space
+      ≡ put_back (priors_of l.fn.priors.items) l.fn.space;
   step : InStep l.index l.space;
 }
+
+abbrev pub decreases-priors : goal.decreases-priors
+decreases-priors l = length l.priors.items

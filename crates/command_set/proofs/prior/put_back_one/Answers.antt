@@ -6,8 +6,6 @@ use Rattle.command_set.proofs.prior.put_back_one.Goals as goal
 pub returns-clause-step : goal.returns-clause-step
 returns-clause-step c =
     let s = c.args.space.now in
-    let t = c.put_one-put.new.space in
-    let index = c.args.index.now in
     let prior = c.args.prior.now in
     let one : c.as_slice.result.now ≡ prior.key ∷ [] = grind arith in
     let ds = c.as_slice-2.ensures.value
