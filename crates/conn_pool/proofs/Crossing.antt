@@ -11,6 +11,7 @@ use Rattle.std.proofs.sync.ledger.Share.TheSendSync as share
 use Rattle.conn_worker.proofs.report.Report.TheSendSync as report
 use Rattle.conn_pool.proofs.dispatcher.Dispatcher.TheSendSync as dispatcher
 use Rattle.std.proofs.alloc.Global.TheSendSync as heap
+use Rattle.command_set.proofs.prior.Prior.TheSendSync as prior
 use Rattle.command_set.proofs.waiting.Waiting.TheLaws.TheKnot.{crosses}
 use Rattle.keyspace.proofs.space.Keyspace.TheSendSync as space
 use Rattle.expiry.proofs.index.DeadlineIndex.TheSendSync as index
@@ -46,7 +47,7 @@ parts_send = declared_send parts.the_type (
   search (sendable, space.the_send) depth 10,
   (
     search (sendable, index.the_send, as_row_send) depth 10,
-    (search (std.crosses, crosses, sendable, as_row_send) depth 60 fits 20000, tt),
+    (search (std.crosses, crosses, prior.the_send, sendable, as_row_send) depth 60 fits 20000, tt),
   ),
 )
 
