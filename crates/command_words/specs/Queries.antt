@@ -1,6 +1,6 @@
 -- Which words are a cacheable query, and what a command writes.
 use Rattle.std.specs.Prelude.{ℕ, List, [], ◌∷◌, Bool, true, false, Option, Some, None}
-use Rattle.std.specs.Prelude.{if◌then◌else◌, map, Ok, Err, Result}
+use Rattle.std.specs.Prelude.{◌||◌, if◌then◌else◌, map, Ok, Err, Result}
 use Rattle.std.specs.Cmp.Lexicographic.{pointwise}
 use Rattle.std.specs.Str.{bytes_eq, str_to_ascii_uppercase}
 use Rattle.std.specs.List.{list_any}
@@ -124,3 +124,11 @@ names All key = true
 -- a command of these words can change the key
 abbrev pub writes : List (List ℕ) → List ℕ → Bool
 writes words key = names (written_by words) key
+
+abbrev pub reads_key : Result Command WordFault → List ℕ → Bool
+reads_key (Ok command) key = list_any (bytes_eq key) (read command)
+reads_key (Err fault) key = false
+
+-- a command names a key: it reads it or can change it
+abbrev pub names_key : List (List ℕ) → List ℕ → Bool
+names_key words key = reads_key (reading words) key || names (written_by words) key

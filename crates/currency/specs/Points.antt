@@ -1,11 +1,5 @@
 -- How far a client has processed what was sent to it.
-use Rattle.std.specs.Prelude.{◌||◌, ℕ, List, length, take, Bool, false, Ok, Err, Result}
-use Rattle.std.specs.List.{list_any}
-use Rattle.std.specs.Str.{bytes_eq}
-use Rattle.command_words.specs.declared.command.Command.{Command}
-use Rattle.command_words.specs.declared.command.WordFault.{WordFault}
-use Rattle.command_words.specs.Queries.{read, names, written_by}
-use Rattle.command_words.specs.Words.{reading}
+use Rattle.std.specs.Prelude.{ℕ, List, length, take}
 use Rattle.serial_model.specs.declared.history.Limits.{Limits}
 use Rattle.serial_model.specs.declared.history.Entry.{Entry}
 use Rattle.serial_model.specs.History.{run_entries, runs_of}
@@ -15,6 +9,7 @@ use Rattle.shared_cache.specs.declared.log.LogEntry.{LogEntry}
 use Rattle.shared_cache.specs.Log.{replies}
 use Rattle.wire_currency.specs.Current as wires
 use Rattle.currency.specs.Links.{Client, traffic_of}
+pub use Rattle.command_words.specs.Queries.{names_key, reads_key}
 pub use Rattle.wire_currency.specs.Current.{before_first}
 pub use Rattle.currency.specs.Links.{up_to}
 
@@ -26,14 +21,6 @@ complete_on l x w past log = wires.complete_on (traffic_of l x past) log w
 -- the number of entries all of whose messages to the client are processed
 abbrev pub complete : Limits → Client → List Entry → List LogEntry → ℕ
 complete l x past log = wires.complete (traffic_of l x past) log
-
-abbrev pub reads_key : Result Command WordFault → List ℕ → Bool
-reads_key (Ok command) key = list_any (bytes_eq key) (read command)
-reads_key (Err fault) key = false
-
--- a command names a key: it reads it or can change it
-abbrev pub names_key : List (List ℕ) → List ℕ → Bool
-names_key words key = reads_key (reading words) key || names (written_by words) key
 
 -- the entry of the last of these commands that names a key, or 0
 abbrev pub last_named : List ℕ → List (List (List ℕ)) → List ℕ → ℕ
