@@ -1,15 +1,15 @@
 //! Queries and replies over numbered keys.
 ghost use Rattle.std.specs.Prelude.{◌≡◌, IfOk, length};
-ghost use Rattle.shared_cache.specs.ClientFields.{IsServed};
+ghost use Rattle.shared_cache.specs.ClientFields.{IsOneLink};
 
 use command_words::Query;
 use resp_value::{NoMemory, Octets, Pairs, Proto, Value, Values, Words};
 use shared_cache::{Caching, ClientMode, Shape};
 use std::alloc::Global;
 
-/// The one mode that clients serve.
+/// The mode by default, on one link.
 pub fn mode() -> ClientMode
-    ensures { IsServed result }
+    ensures { IsOneLink result }
 {
     ClientMode {
         shape: Shape::Single,

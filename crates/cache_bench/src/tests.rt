@@ -2,3 +2,4 @@
 mod client;
 mod dialogues;
 mod marks;
+mod modes;

@@ -15,15 +15,17 @@ use Rattle.shared_cache.specs.declared.entry.CacheEntry.{CacheEntry}
 use Rattle.shared_cache.specs.declared.notices.Notice.{Notice}
 use Rattle.shared_cache.specs.declared.notices.Notice.TheVariants.{Reply}
 use Rattle.shared_cache.specs.Notices.{kind_of, notice_of}
-use Rattle.shared_cache.specs.Log.{replies, reply_in, reply}
+use Rattle.shared_cache.specs.Log.{replies, reply_in, reply, caching_on_for}
 use Rattle.shared_cache.specs.Held.{Setup, Key, Words, has_key, keys_held, earliest, key_held}
 use Rattle.shared_cache.specs.Held.{leaving, is_key, filled_by, open_fetch, left, last_use, held}
+use Rattle.shared_cache.specs.Held.{read_lead}
 use Rattle.shared_cache.specs.Steps.{read_number}
 use Rattle.shared_cache.specs.Laws.{LegalLog, Spared}
 use Rattle.shared_cache.proofs.Capacity.{within_capacity, earliest_leaves}
 use Rattle.shared_cache.proofs.Fetches.{stays}
 use Rattle.shared_cache.proofs.HeldSteps.{replies_reply}
 use Rattle.shared_cache.proofs.KeyTests.{bytes_same}
+use Rattle.shared_cache.proofs.Led.{led_some}
 use Rattle.shared_cache.proofs.LegalLogs.{replies_within}
 use Rattle.cache_laws.specs.HeldExactly.{NotAnew, Displaces, NotDisplaced}
 use Rattle.cache_laws.proofs.Fetching.{is_under_way, open_since}
@@ -174,4 +176,5 @@ pub not_left_first : (s : Setup) (log : List LogEntry) (n : ℕ) (q : Words) →
     → n ≡ read_number s log q → left s (Ask q ∷ log) n ≡ false
 not_left_first s log n q legal is =
     let within = replies_within s log legal in
-    stays s log n (omega (arith, within, is))
+    let some = led_some (read_lead s.mode.caching (caching_on_for s.mode log (key_of q))) q in
+    stays s log n (omega (arith, within, is, some))

@@ -33,8 +33,7 @@ newly : (s : Setup) (log : List LogEntry) (n : ℕ) (q : Words) → n ≡ read_n
     → held_for q (held s log) ≡ None → caching_on_for s.mode log (key_of q) ≡ true
     → open_fetch s (Ask q ∷ log) n ≡ Some q
 newly s log n q is missed on =
-    let next : n ≡ suc (numbers s log) = omega (arith, is) in
-    ap (open_fetch s (Ask q ∷ log)) next ∙ open_new s log q missed true on
+    ap (open_fetch s (Ask q ∷ log)) is ∙ open_new s log q missed true on
 
 kept : (b : Bool) (q : Words) → (b && true) ≡ false → cond b None (Some q) ≡ Some q
 kept true q e = absurd (let no : ⊥ = cc in no)
@@ -125,9 +124,10 @@ is_under_way s (Ask p ∷ log) n q f =
           later = [];
           sooner = log;
           log_is = ap (λ x. Ask x ∷ log) new.query_is;
-          number_is = new.number_is;
+          number_is = new.number_is ∙ ap (read_number s log) new.query_is;
           missed = ap (λ x. held_for x (held s log)) (sym new.query_is) ∙ new.missed;
-          on = new.turned_on;
+          on = ap (λ x. caching_on_for s.mode log (key_of x)) (sym new.query_is)
+              ∙ new.turned_on;
           spared = tt;
         };
         last = tt;

@@ -6,7 +6,7 @@ use Rattle.std.specs.List.{filter, Contains}
 use Rattle.std.proofs.lemmas.Bool.{cases_eq, and_parts}
 use Rattle.std.proofs.lemmas.Option.{same_Some}
 use Rattle.resp_value.specs.declared.value.Value.{Value}
-use Rattle.command_words.specs.Queries.{same_query}
+use Rattle.command_words.specs.Queries.{key_of, same_query}
 use Rattle.shared_cache.specs.declared.log.Wire.TheVariants.{Main, Side}
 use Rattle.shared_cache.specs.declared.log.ClientCall.TheVariants as call
 use Rattle.shared_cache.specs.declared.log.ClientReply.TheVariants.{Hit}
@@ -18,7 +18,7 @@ use Rattle.shared_cache.specs.declared.notices.Notice.{Notice}
 use Rattle.shared_cache.specs.declared.notices.Notice.TheVariants.{Reply}
 use Rattle.shared_cache.specs.Notices.{notice_of}
 use Rattle.shared_cache.specs.Log.{handshake_length, replies, with_reply, reply_in, is_wire}
-use Rattle.shared_cache.specs.Log.{is_ended, is_ready, is_accepted, is_broken}
+use Rattle.shared_cache.specs.Log.{is_ended, is_ready, is_accepted, is_broken, caching_on, covers}
 use Rattle.shared_cache.specs.Held.{Setup, Words, held_for, held}
 use Rattle.shared_cache.specs.Steps.{is_log_full, read_number, answer_ask, client_step}
 use Rattle.shared_cache.specs.Laws.{LegalLog}
@@ -84,9 +84,11 @@ hit s log some legal h c room =
     let still = holds s log legal h c in
     let u = still.fetch in
     let found = found_first h.query (held s log) [] h (is_held s log some legal h still) in
+    let caching = (and_parts (caching_on s.mode u.sent.sooner)
+    (covers s.mode.caching (key_of h.query)) u.sent.on).0 in
     let on = and_parts (is_ready s.mode u.sent.sooner)
     (not (is_ended s.mode Main u.sent.sooner || is_ended s.mode Side u.sent.sooner)
-    && not (is_broken s.mode u.sent.sooner)) u.sent.on in
+    && not (is_broken s.mode u.sent.sooner)) caching in
     let ready = ap (is_ready s.mode) u.sent.log_is
     ∙ ready_later s u.sent.later (Ask h.query ∷ u.sent.sooner) on.0 in
     let live = open_wires s log h.number h.query (is_open s log h.number h.query u) in (

@@ -23,8 +23,11 @@ use Rattle.serial_model.specs.Modes.{first_mode}
 use Rattle.serial_model.specs.History.{mode, made_of, runs_of, served}
 use Rattle.shared_cache.specs.declared.log.Wire.TheVariants.{Main}
 use Rattle.shared_cache.specs.declared.log.LogEntry.{LogEntry}
-use Rattle.shared_cache.specs.Held.{Setup, SentCommand, Caller, commands}
+use Rattle.shared_cache.specs.Held.{Setup, SentCommand, Caller, sent, commands}
 use Rattle.shared_cache.specs.Laws.{Every, LegalLog}
+use Rattle.shared_cache.specs.Log.{caching_words, noloop_words}
+use Rattle.shared_cache.specs.Log.{tracking as asks_tracking}
+use Rattle.shared_cache.specs.ClientFields.{IsServed}
 use Rattle.shared_cache.proofs.CommandLaws.{no_control}
 use Rattle.shared_cache.proofs.StepCases.{sent_callers}
 use Rattle.currency.proofs.Lists.{get_front, get_last}
@@ -57,7 +60,7 @@ unfolding made_of reading string_reading hash_reading key_reading connection_rea
     tracking mode_by
 tracking_made = refl
 
-module _ (s : Setup) where
+module _ (s : Setup) (served : IsServed s.mode) where
   no_control_at : (cs : List SentCommand) (k : ℕ) (words : List (List ℕ))
       → Every (λ (c : SentCommand). c.origin ≡ Caller) cs
       → Every (λ (c : SentCommand). c.origin ≡ Caller → is_control c.words ≡ false) cs
@@ -70,7 +73,14 @@ module _ (s : Setup) where
   -- no command behind the handshake is a control command
   pub is_no_control : (log : List LogEntry) → LegalLog s log → (k : ℕ) (words : List (List ℕ))
       → slice_get (commands s Main log) (suc (suc k)) ≡ Some words → is_control words ≡ false
-  is_no_control log h k words e = grind (arith, no_control_at, sent_callers, no_control)
+  is_no_control log h k words e =
+      no_control_at (sent s log) k words (sent_callers s log served.caching) (no_control s log h) e
+
+  -- the tracking command, by default
+  plain_tracking : asks_tracking s.mode ≡ codes "CLIENT" ∷ codes "TRACKING" ∷ codes "ON" ∷ []
+  plain_tracking = λ i.
+      codes "CLIENT" ∷ codes "TRACKING" ∷ codes "ON"
+      ∷ (caching_words (served.caching i) ++ noloop_words (served.noloop i))
 
   next_mode : (log : List LogEntry) → LegalLog s log → (n : ℕ) (words : List (List ℕ))
       → slice_get (commands s Main log) n ≡ Some words
@@ -78,8 +88,8 @@ module _ (s : Setup) where
   unfolding mode_by
   next_mode log h zero words e = grind (arith, codes, hello_made)
   next_mode log h (suc zero) words e =
-      let same : (codes "CLIENT" ∷ codes "TRACKING" ∷ codes "ON" ∷ []) ≡ words = cc in
-      ap (λ w. (made_of w (mode_by 1)).mode) (sym same) ∙ tracking_made
+      let same : asks_tracking s.mode ≡ words = cc in
+      ap (λ w. (made_of w (mode_by 1)).mode) (sym same ∙ plain_tracking) ∙ tracking_made
   next_mode log h (suc (suc k)) words e =
       made_same words (mode_by (suc (suc k))) (is_no_control log h k words e)
 

@@ -13,7 +13,10 @@ use Rattle.serial_model.specs.History.{IsLegal}
 use Rattle.shared_cache.specs.declared.log.Wire.TheVariants.{Main}
 use Rattle.shared_cache.specs.declared.log.LogEntry.{LogEntry}
 use Rattle.shared_cache.specs.ClientFields.{IsServed}
-use Rattle.shared_cache.specs.Held.{commands, open_fetch}
+use Rattle.command_words.specs.Queries.{key_of}
+use Rattle.shared_cache.specs.Log.{caching_on_for}
+use Rattle.shared_cache.specs.Held.{commands, open_fetch, read_lead}
+use Rattle.shared_cache.proofs.Led.{led_some}
 use Rattle.shared_cache.specs.Laws.{LegalLog}
 use Rattle.shared_cache.proofs.FetchLaws.{open_was_sent}
 use Rattle.currency.specs.Links.{Client, Meet, run_of}
@@ -51,13 +54,20 @@ module _ (l : Limits) (x : Client) (past : List Entry) (log : List LogEntry)
     r = ran_at (x.id Main) past (n - 1) p run
 
     pub number_least : 3 ≤ n
-    number_least = let w = open_was_sent x.setup log n q fetch in omega (arith, w.number_is)
+    number_least =
+        let w = open_was_sent x.setup log n q fetch in
+        omega (
+          arith,
+          w.number_is,
+          led_some (read_lead x.setup.mode.caching
+              (caching_on_for x.setup.mode w.sooner (key_of q))) q,
+        )
 
     -- from the run on, and just before it, the connection is on the third protocol and tracks
     pub settled : (up : List Entry) → Older up past → 2 ≤ length (runs_of (x.id Main) up)
         → mode l (x.id Main) up ≡ record { proto = Three; tracking = true }
     settled up o two =
-        asked x.setup l (x.id Main) log legal_log up (ran_older up o)
+        asked x.setup served l (x.id Main) log legal_log up (ran_older up o)
         ∙ by_two (length (runs_of (x.id Main) up)) two
 
     -- the fetch's own Run, with the connection's id

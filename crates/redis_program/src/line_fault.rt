@@ -76,7 +76,7 @@ impl fmt::Display for LineFault<'_> {
                 write!(
                     f,
                     "`{word}` is no kind of line; kinds are raw, say, bytes, client, out, serve, \
-                     send, recv, flow, cut, ask, do, poll and show"
+                     send, recv, flow, cut, ask, do, poll, show, now and tick"
                 )
             }
             LineFault::BadName(word) => {
@@ -155,7 +155,7 @@ pub fn find_line_fault(number: u64, line: &[u8]) -> LineFault<'_> {
     } else {
         is_name(name)
     };
-    if !name.is_empty() && !is_good {
+    if names_something(kind) && !name.is_empty() && !is_good {
         return LineFault::BadName(name);
     }
     let moves_bytes = matches!(kind, b"serve" | b"send" | b"recv" | b"out");
@@ -198,6 +198,11 @@ pub fn find_refusal(digit: u8, line: &[u8]) -> Refusal<'_> {
     }
 }
 
+/// Whether a line of this kind names a link or a client. The others are of the clock.
+fn names_something(kind: &[u8]) -> bool {
+    !matches!(kind, b"now" | b"tick")
+}
+
 /// Whether a line of this kind names a link, which may be a client's.
 fn names_link(kind: &[u8]) -> bool {
     matches!(
@@ -222,6 +227,8 @@ fn form_of(kind: &[u8]) -> Option<&'static str> {
         b"do" => Some("do X WORD.., each word in its printed form"),
         b"poll" => Some("poll X N"),
         b"show" => Some("show X"),
+        b"now" => Some("now N, the clock in milliseconds, with no leading zero"),
+        b"tick" => Some("tick"),
         _ => None,
     }
 }

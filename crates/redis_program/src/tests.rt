@@ -402,7 +402,7 @@ fn a_person_is_told_what_is_wrong_with_a_line(rt: HostRuntime) -> Result<(), Fai
         (
             "sya r",
             "`sya` is no kind of line; kinds are raw, say, bytes, client, out, serve, send, recv, \
-             flow, cut, ask, do, poll and show",
+             flow, cut, ask, do, poll, show, now and tick",
         ),
         (
             "raw rR",
@@ -416,6 +416,15 @@ fn a_person_is_told_what_is_wrong_with_a_line(rt: HostRuntime) -> Result<(), Fai
         ("raw", "its form is `raw R`"),
         ("serve x.data", "its form is `serve L [N]`"),
         ("poll x", "its form is `poll X N`"),
+        (
+            "now 01",
+            "its form is `now N, the clock in milliseconds, with no leading zero`",
+        ),
+        (
+            "now -5",
+            "its form is `now N, the clock in milliseconds, with no leading zero`",
+        ),
+        ("tick 5", "its form is `tick`"),
         (
             "say r",
             "its form is `say R WORD.., each word in its printed form`",

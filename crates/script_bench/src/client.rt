@@ -3,7 +3,7 @@ ghost use Rattle.std.specs.Prelude.{◌≡◌, ◌≤◌, ◌<◌, ◌*◌, ◌-
 ghost use Rattle.std.specs.Thread.{IsSync};
 ghost use Rattle.turn_lock.specs.Seats.{split_seat};
 ghost use Rattle.seat_turns.specs.Own.{IsWithin};
-ghost use Rattle.shared_cache.specs.ClientFields.{IsServed};
+ghost use Rattle.shared_cache.specs.ClientFields.{IsOneLink};
 ghost use Rattle.script_bench.specs.Asks.{key_of, query_for, spread_of, IsKeyQuery, Asks};
 ghost use Rattle.script_bench.specs.Filled.{content_is, client_for, GrowsBy, greeting};
 ghost use Rattle.script_bench.specs.Filled.{answered, fetched, IsReady};
@@ -141,7 +141,7 @@ fn greet<R: Wait>(
 
 fn setup(keys: u64) -> ClientSetup
     ensures setup { result ≡ client_for keys }
-    ensures served { IsServed result.mode }
+    ensures served { IsOneLink result.mode }
 {
     ClientSetup {
         mode: ClientMode {

@@ -1,6 +1,6 @@
 //! A client's pump, and sessions of scripts, over links in memory.
 ghost use Rattle.std.specs.Prelude.{◌≡◌, ◌<◌};
-ghost use Rattle.shared_cache.specs.ClientFields.{IsServed};
+ghost use Rattle.shared_cache.specs.ClientFields.{IsOneLink};
 
 mod pumps;
 mod sessions;
@@ -24,7 +24,7 @@ fn bytes_of(alloc: Global, text: &str) -> Result<Vec<u8>, AllocError> {
 
 /// A client of ten keys, with a log of so many entries.
 fn setup_of(log_max: u64) -> ClientSetup
-    ensures mode { IsServed result.mode }
+    ensures mode { IsOneLink result.mode }
     ensures capacity { result.capacity ≡ 10 }
     ensures log_max { 0 < result.log_max }
 {

@@ -16,12 +16,13 @@ use Rattle.shared_cache.specs.declared.log.ClientCall.TheVariants as call
 use Rattle.shared_cache.specs.declared.log.ClientReply.TheVariants as reply
 use Rattle.shared_cache.specs.declared.log.ClientRefusal.{ClientRefusal}
 use Rattle.shared_cache.specs.declared.log.ClientRefusal.TheVariants as refusal
-use Rattle.shared_cache.specs.Log.{caching_on_for}
-use Rattle.shared_cache.specs.Held.{Setup, Words, SentCommand, Caller, put_ask, put_command, held}
-use Rattle.shared_cache.specs.Held.{held_for, numbers, sent}
+use Rattle.shared_cache.specs.Log.{caching_on, caching_on_for}
+use Rattle.shared_cache.specs.Held.{Setup, Words, SentCommand, read_lead, send_lead, is_read}
+use Rattle.shared_cache.specs.Held.{put_ask, put_command, held, held_for, numbers, sent}
 use Rattle.shared_cache.specs.Out.{is_polled, is_wanted, was_given}
 use Rattle.shared_cache.specs.Steps.{client_step, read_number, command_number}
 use Rattle.shared_cache.proofs.HeldSteps.{sent_miss}
+use Rattle.shared_cache.proofs.Led.{own, led_parts}
 use Rattle.shared_client.specs.Turns.{Turn}
 use Rattle.script_text.specs.declared.script_line.ScriptCall.{ScriptCall}
 use Rattle.script_text.specs.declared.script_line.ScriptCall.TheVariants.{Ask, Do}
@@ -72,7 +73,7 @@ module _ (s : Setup) where
       → (new : List SentCommand) × (sent s (e ∷ log) ≡ sent s log ++ new)
   sent_step (entry.Ask q) log =
       (put_ask (held_for q (held s log)) s.mode (caching_on_for s.mode log (key_of q)) q, refl)
-  sent_step (entry.Send ws) log = (put_command s.mode ws, refl)
+  sent_step (entry.Send ws) log = (put_command s.mode (caching_on s.mode log) ws, refl)
   sent_step e log = ([], sym (append-nil (sent s log)))
 
   sent_more : (more log : List LogEntry)
@@ -83,12 +84,12 @@ module _ (s : Setup) where
       let t = sent_step e (more ++ log) in
       (r.0 ++ t.0, t.1 ∙ ap (λ z. z ++ t.0) r.1 ∙ append_assoc (sent s log) r.0 t.0)
 
-  -- the turn puts one command on the wire, with that number
+  -- the turn puts a caller's command on the wire, the last that it puts there, with that number
   record Issues (e : LogEntry) (past : List LogEntry) (number : ℕ) : Type 0 where
     words : Words
-    sends : sent s (e ∷ past)
-        ≡ sent s past ++ (record { words = words; origin = Caller }) ∷ []
-    number_is : number ≡ numbers s past + 1
+    front : List SentCommand
+    sends : sent s (e ∷ past) ≡ sent s past ++ (front ++ own words ∷ [])
+    number_is : number ≡ numbers s past + length front + 1
 
   -- 1 for a turn that issues the number
   abbrev pub issues : ℕ → Turn → ℕ
@@ -118,23 +119,42 @@ module _ (s : Setup) where
   given : (e : LogEntry) (past seen : List LogEntry) (number : ℕ) → Issues e past number
       → IsPrefix (e ∷ past) seen → was_given s seen number ≡ true
   given e past seen number i p =
-      let c : SentCommand = record { words = i.words; origin = Caller } in
+      let c : SentCommand = own i.words in
       let m = sent_more p.0 (e ∷ past) in
-      let all : sent s seen ≡ sent s past ++ c ∷ m.0 = grind (arith, append_assoc) in
+      let all : sent s seen ≡ (sent s past ++ i.front) ++ c ∷ m.0
+      = ap (sent s) (sym p.1) ∙ m.1
+      ∙ ap (λ z. z ++ m.0) (i.sends ∙ sym (append_assoc (sent s past) i.front (c ∷ [])))
+      ∙ append_assoc (sent s past ++ i.front) (c ∷ []) m.0 in
       let k = i.number_is in
-      let place : number - 3 ≡ length (sent s past) = omega (arith, k) in
+      let place : number - 3 ≡ length (sent s past ++ i.front)
+      = omega (arith, k, length-append (sent s past) i.front) in
       grind (arith, get_behind, nat_tests)
 
   -- ---- a command that was sent
 
   send_issues : (ws : Words) (past : List LogEntry) (number : ℕ)
       → number ≡ command_number s past ws → Issues (entry.Send ws) past number
-  send_issues ws past number is = record { words = ws; sends = refl; number_is = is }
+  send_issues ws past number is =
+      let p = led_parts (send_lead s.mode.caching (caching_on s.mode past) (is_read ws)) ws in
+      record {
+        words = ws;
+        front = p.front;
+        sends = ap (λ cs. sent s past ++ cs) p.parts;
+        number_is =
+            omega (arith, is, ap length p.parts, length-append p.front (own ws ∷ []));
+      }
 
   read_issues : (q : Words) (past : List LogEntry) (number : ℕ) → held_for q (held s past) ≡ None
       → number ≡ read_number s past q → Issues (entry.Ask q) past number
   read_issues q past number none is =
-      record { words = q; sends = sent_miss s past q none; number_is = is }
+      let p = led_parts (read_lead s.mode.caching (caching_on_for s.mode past (key_of q))) q in
+      record {
+        words = q;
+        front = p.front;
+        sends = sent_miss s past q none ∙ ap (λ cs. sent s past ++ cs) p.parts;
+        number_is =
+            omega (arith, is, ap length p.parts, length-append p.front (own q ∷ []));
+      }
 
   step_issues : (c : ScriptCall) (past : List LogEntry) (number : ℕ)
       → client_step s past (call_for c)

@@ -3,7 +3,7 @@ ghost use Rattle.std.specs.Prelude.{◌≡◌, ◌<◌, ◌≤◌, [], IfOk, vec
 ghost use Rattle.std.specs.List.{All};
 ghost use Rattle.std.specs.Thread.{IsSync};
 ghost use Rattle.seat_turns.specs.Own.{IsWithin};
-ghost use Rattle.shared_cache.specs.ClientFields.{IsServed};
+ghost use Rattle.shared_cache.specs.ClientFields.{IsOneLink};
 ghost use Rattle.shared_client.specs.Setups.{setup_of};
 ghost use Rattle.script_text.specs.Scripts.{IsValidLine, most_threads};
 ghost use Rattle.client_link.specs.Pumps.{EndCounts, Pumps};
@@ -152,7 +152,7 @@ pub fn play_script<R: Threads + Wait + Sync, L: Link + Send + Drop>(
     lines: Vec<ScriptLine>,
     link: L,
 ) -> Result<Played<L>, NoMemory>
-    requires mode { IsServed setup.mode }
+    requires mode { IsOneLink setup.mode }
     requires capacity { (0 < setup.capacity) × (setup.capacity ≤ 1000000) }
     requires log_max { 0 < setup.log_max }
     requires lines { All IsValidLine lines.items }

@@ -1,36 +1,39 @@
 -- After an Ask the fields are what the log says.
-use Rattle.std.proofs.Common.{◌≡◌, ◌+◌, ◌++◌, ℕ, suc, List, [], ◌∷◌, length, Bool, true, false}
-use Rattle.std.proofs.Common.{cond, Option, Some, None, sym, ap, ◌∙◌, refl, arith, length-append}
-use Rattle.std.proofs.Common.{inl, inr}
+use Rattle.std.proofs.Common.{◌≡◌, ◌+◌, ◌<◌, ◌++◌, ◌&&◌, ◌⊎◌, ℕ, List, [], ◌∷◌, length, Bool}
+use Rattle.std.proofs.Common.{true, false, cond, Option, Some, None, sym, ap, ◌∙◌, refl, arith}
+use Rattle.std.proofs.Common.{length-append, inl, inr}
 use Rattle.std.specs.Prelude.{is_some}
-use Rattle.std.proofs.lemmas.Bool.{or_cases, lt-ltb, cases_Bool}
-use Rattle.resp_value.specs.Spelling.{request_spelling}
-use Rattle.command_words.specs.Queries.{key_of, writes}
+use Rattle.std.proofs.lemmas.Bool.{or_cases, cases_Bool, cases_eq, and_parts}
+use Rattle.std.proofs.lemmas.Slice.Eq.{bytes_eq-Decides, slice_eq-Decides}
+use Rattle.command_words.specs.Queries.{key_of, same_query, writes}
 use Rattle.fill_mark.specs.declared.marks.Mark.{Mark}
-use Rattle.fill_mark.specs.Marks.{with_mark}
+use Rattle.fill_mark.specs.Marks.{with_mark, without_query}
 use Rattle.shared_cache.specs.declared.log.ClientMode.{ClientMode}
 use Rattle.shared_cache.specs.declared.log.LogEntry.{LogEntry}
 use Rattle.shared_cache.specs.declared.log.LogEntry.TheVariants.{Ask, Send, Poll, TakeOut, Got}
 use Rattle.shared_cache.specs.declared.entry.CacheEntry.{CacheEntry}
-use Rattle.shared_cache.specs.declared.entry.PendingReply.TheVariants.{Waiting}
+use Rattle.shared_cache.specs.declared.entry.PendingReply.{PendingReply}
 use Rattle.shared_cache.specs.Notices.{kind_of, invalidates}
-use Rattle.shared_cache.specs.Log.{first_number, is_ready, is_broken, is_broken_notice, caching_on}
-use Rattle.shared_cache.specs.Log.{caching_on_for}
-use Rattle.shared_cache.specs.Held.{Setup, Words, Caller, put_read, numbered, numbers, held_for}
-use Rattle.shared_cache.specs.Held.{used_at, asked, sent, open_fetch, last_use, held}
+use Rattle.shared_cache.specs.Log.{is_ready, is_broken, is_broken_notice, caching_on}
+use Rattle.shared_cache.specs.Log.{handshake_length, caching_on_for, covers}
+use Rattle.shared_cache.specs.Held.{Setup, Words, led_by, read_lead, put_read, numbered, numbers}
+use Rattle.shared_cache.specs.Held.{held_for, used_at, other_than, asked, sent, open_fetch}
+use Rattle.shared_cache.specs.Held.{last_use, held}
+use Rattle.shared_cache.specs.Steps.{read_number}
 use Rattle.std.specs.Str.{bytes_eq}
 use Rattle.lru.specs.LruCache.{promoted}
 use Rattle.shared_cache.specs.HeldKeys.{with_pairs}
-use Rattle.shared_cache.specs.ClientFields.{Fields, Reflects, marks_by}
-use Rattle.shared_cache.proofs.Fetches.{unless_none}
+use Rattle.shared_cache.specs.ClientFields.{Fields, Reflects, marks_by, fetch_mark, waits_for}
+use Rattle.shared_cache.proofs.Fetches.{beyond, unless_none}
+use Rattle.shared_cache.proofs.FetchLaws.{open_was_sent}
+use Rattle.shared_cache.proofs.Led.{led_some, count_waits, owed_led, marks_led, marks_read}
 use Rattle.shared_cache.proofs.LastUses.{used_before}
 use Rattle.shared_cache.proofs.Keeps.{keeps_promoted, keeps_same}
 use Rattle.shared_cache.proofs.HeldSteps.{sent_hit, open_hit, held_hit, use_hit, sent_miss}
-use Rattle.shared_cache.proofs.HeldSteps.{open_old, open_new, held_miss, use_miss}
-use Rattle.shared_cache.proofs.MarkLists.{marks_filter, marks_same, marks_none}
-use Rattle.shared_cache.proofs.Bytes.{untaken_one, untaken_same}
-use Rattle.shared_cache.proofs.PendingLists.{owed_push}
-use Rattle.shared_cache.proofs.OtherTurns.{pending_push}
+use Rattle.shared_cache.proofs.HeldSteps.{open_other, open_old, open_new, held_miss, use_miss}
+use Rattle.shared_cache.proofs.MarkLists.{marks_filter, marks_same}
+use Rattle.shared_cache.proofs.Bytes.{bytes_of, untaken_more, untaken_same}
+use Rattle.shared_cache.proofs.OtherTurns.{pending_put, pending_same}
 
 -- ---- a broken redirection leaves no fetch open
 
@@ -57,10 +60,22 @@ broken_none s (Got w v ∷ log) n e =
     ]
 broken_none s log n e = refl
 
-marks_all_none : (open_of : ℕ → Option Words) (replied n : ℕ) → ((m : ℕ) → open_of m ≡ None)
-    → marks_by open_of replied n ≡ []
-marks_all_none open_of replied n all = marks_same (λ m. None) open_of replied n (λ m le. all m)
-    ∙ marks_none replied n
+none_or : (o : Option Words) → (o ≡ None) ⊎ ((q : Words) × (o ≡ Some q))
+none_or None = inl refl
+none_or (Some q) = inr (q, refl)
+
+same_words : (p q : Words) → same_query p q ≡ true → p ≡ q
+same_words p q e = (slice_eq-Decides bytes_eq-Decides p q (same_query p q) refl).0 e
+
+other_stays : (q p : Words) (covered : List ℕ → Bool) → covered (key_of p) ≡ true
+    → covered (key_of q) ≡ false → other_than q (Some p) ≡ Some p
+other_stays q p covered is not_ = elim (cases_Bool (same_query p q)) [
+  | inl same ↦
+      let no : true ≡ false
+      = sym is ∙ ap (λ x. covered (key_of x)) (same_words p q same) ∙ not_ in
+      absurd (let none : ⊥ = cc in none)
+  | inr other ↦ ap (λ b. cond b None (Some p)) other
+]
 
 some_of : (o : Option CacheEntry) → is_some o ≡ true → (h : CacheEntry) × (o ≡ Some h)
 some_of o e = grind arith
@@ -78,7 +93,8 @@ module _ (s : Setup) (log : List LogEntry) (f : Fields) (k : Reflects s log f) w
     replied_within = let w = k.replied_within in omega (arith, ap length (sent_hit s log q h e));
     ready_is = k.ready_is;
     pending_count = k.pending_count ∙ ap length (sym (sent_hit s log q h e));
-    pending_is = k.pending_is;
+    pending_is = λ i lt. k.pending_is i lt
+        ∙ sym (pending_same s log (Ask q ∷ log) (sent_hit s log q h e) (λ n. refl) refl (i + 3));
     unpolled = k.unpolled;
     owed_is = k.owed_is;
     marks_is = k.marks_is
@@ -104,40 +120,108 @@ module _ (s : Setup) (log : List LogEntry) (f : Fields) (k : Reflects s log f) w
 
   -- ---- a miss
 
-  marks_on : (q : Words) (number : ℕ) → held_for q (held s log) ≡ None → number ≡ numbers s log + 1
-      → caching_on s.mode log ≡ true
+  read_is : (q : Words) → held_for q (held s log) ≡ None
+      → numbers s (Ask q ∷ log) ≡ read_number s log q
+  read_is q e =
+      let more = ap length (sent_miss s log q e) in
+      omega (
+        arith,
+        more,
+        length-append (sent s log) (put_read s.mode (caching_on_for s.mode log (key_of q)) q),
+      )
+
+  -- between the older numbers and the read's there is none that has a fetch
+  none_between : (q : Words) → held_for q (held s log) ≡ None → (j : ℕ) → numbers s log < j
+      → j < read_number s log q → open_fetch s (Ask q ∷ log) j ≡ None
+  none_between q e j lt lt2 =
+      open_other s log q e j (λ is. omega arith)
+      ∙ ap (other_than q) (beyond s log j lt)
+
+  older_gone : (q : Words) → held_for q (held s log) ≡ None
+      → marks_by (open_fetch s (Ask q ∷ log)) f.replied (numbers s log)
+      ≡ without_query q (marks_by (open_fetch s log) f.replied (numbers s log))
+  older_gone q e = grind (arith, marks_filter, open_old)
+
+  marks_on : (q : Words) (number : ℕ) → held_for q (held s log) ≡ None
+      → number ≡ read_number s log q → caching_on_for s.mode log (key_of q) ≡ true
       → with_mark number q (marks_by (open_fetch s log) f.replied (numbers s log)) ≡ marks_by
-      (open_fetch s (Ask q ∷ log)) f.replied (suc (numbers s log))
-  marks_on q number e is on = grind (arith, marks_filter, open_old, open_new, lt-ltb)
+      (open_fetch s (Ask q ∷ log)) f.replied (numbers s (Ask q ∷ log))
+  marks_on q number e is on =
+      let l = read_lead s.mode.caching (caching_on_for s.mode log (key_of q)) in
+      let w = k.replied_within in
+      sym (ap (marks_by (open_fetch s (Ask q ∷ log)) f.replied) (read_is q e)
+      ∙ marks_read (open_fetch s (Ask q ∷ log)) f.replied (numbers s log) (read_number s log q) l q
+      refl w (none_between q e)
+      ∙ (λ i. older_gone q e i
+      ++ fetch_mark (read_number s log q) (open_new s log q e true on i))
+      ∙ ap (λ n. with_mark n q (marks_by (open_fetch s log) f.replied (numbers s log))) (sym is))
+
+  -- a fetch of a key that is not covered ends no other, since none of its query is open
+  other_same : (q : Words) (n : ℕ) → caching_on_for s.mode log (key_of q) ≡ false
+      → is_ready s.mode log ≡ true → f.ended ≡ false → f.broken ≡ false
+      → other_than q (open_fetch s log n) ≡ open_fetch s log n
+  other_same q n off ready open_ whole =
+      elim (none_or (open_fetch s log n)) [
+        | inl none ↦ ap (other_than q) none ∙ sym none
+        | inr some ↦
+            let w = open_was_sent s log n some.0 some.1 in
+            let on = (and_parts (caching_on s.mode w.sooner) (covers s.mode.caching (key_of some.0))
+            w.on).1 in
+            let caching : caching_on s.mode log ≡ true = grind arith in
+            let uncovered : covers s.mode.caching (key_of q) ≡ false
+            = sym (ap (λ b. b && covers s.mode.caching (key_of q)) caching) ∙ off in
+            ap (other_than q) some.1
+            ∙ other_stays q some.0 (covers s.mode.caching) on uncovered
+            ∙ sym some.1
+      ]
+
+  same_uncovered : (q : Words) (n : ℕ) → held_for q (held s log) ≡ None
+      → caching_on_for s.mode log (key_of q) ≡ false
+      → is_ready s.mode log ≡ true → f.ended ≡ false → f.broken ≡ false
+      → open_fetch s (Ask q ∷ log) n ≡ open_fetch s log n
+  same_uncovered q n e off ready open_ whole =
+      elim (cases_eq n (read_number s log q)) [
+        | inl is ↦
+            let more = led_some (read_lead s.mode.caching
+            (caching_on_for s.mode log (key_of q))) q in
+            ap (open_fetch s (Ask q ∷ log)) is
+            ∙ open_new s log q e false off
+            ∙ sym (beyond s log (read_number s log q) (omega arith))
+            ∙ ap (open_fetch s log) (sym is)
+        | inr ne ↦ open_other s log q e n ne ∙ other_same q n off ready open_ whole
+      ]
 
   reflects_miss : (q : Words) (new : List Mark) → held_for q (held s log) ≡ None
-      → new ≡ marks_by (open_fetch s (Ask q ∷ log)) f.replied (suc (numbers s log))
+      → new ≡ marks_by (open_fetch s (Ask q ∷ log)) f.replied (numbers s (Ask q ∷ log))
       → Reflects s (Ask q ∷ log)
       (record f {
-        queued = f.queued ++ request_spelling q;
-        pending = f.pending ++ Waiting ∷ [];
+        queued = f.queued
+            ++ bytes_of (put_read s.mode (caching_on_for s.mode log (key_of q)) q);
+        pending = f.pending
+            ++ waits_for (read_lead s.mode.caching (caching_on_for s.mode log (key_of q)));
         owed = f.owed + 1;
         marks = new;
       })
   reflects_miss q new e is =
+      let l = read_lead s.mode.caching (caching_on_for s.mode log (key_of q)) in
       let more = ap length (sent_miss s log q e) in
-      let one = length-append (sent s log)
-      (put_read s.mode (caching_on_for s.mode log (key_of q)) q) in
+      let all = length-append (sent s log) (led_by l q) in
       record {
-        queued_is = ap (λ l. l ++ request_spelling q) k.queued_is
-            ∙ sym (untaken_one s log (Ask q ∷ log) (record { words = q; origin = Caller })
-            (sent_miss s log q e) refl);
+        queued_is = ap (λ b. b ++ bytes_of (led_by l q)) k.queued_is
+            ∙ sym (untaken_more s log (Ask q ∷ log) (led_by l q) (sent_miss s log q e) refl);
         replied_is = k.replied_is;
-        replied_within = let w = k.replied_within in omega (arith, more, one);
+        replied_within = let w = k.replied_within in omega (arith, more, all);
         ready_is = k.ready_is;
-        pending_count = grind (arith, length-append);
+        pending_count = length-append f.pending (waits_for l)
+            ∙ (λ i. k.pending_count i + count_waits l q i) ∙ sym all ∙ sym more;
         pending_is =
-            pending_push s log (Ask q) f.pending f.replied k.pending_is
+            pending_put s log (Ask q) f.pending f.replied l q (sent_miss s log q e)
+            k.pending_count k.pending_is
             (λ n. refl) refl k.replied_is
             (let w = k.replied_within in omega (arith, k.pending_count)) k.unpolled;
         unpolled = k.unpolled;
-        owed_is = ap (λ n. n + 1) k.owed_is ∙ sym (owed_push f.pending);
-        marks_is = grind arith;
+        owed_is = ap (λ n. n + 1) k.owed_is ∙ sym (owed_led f.pending l);
+        marks_is = is;
         keys_is = keeps_same s.capacity (last_use s log) (last_use s (Ask q ∷ log)) (held s log)
             (held s (Ask q ∷ log)) f.keys (use_miss s log q e)
             (held_miss s log q e (let w = k.replied_within in omega (arith, k.replied_is)))
@@ -147,48 +231,81 @@ module _ (s : Setup) (log : List LogEntry) (f : Fields) (k : Reflects s log f) w
         broken_is = k.broken_is;
       }
 
-  -- while the redirection is not broken the fetch is open
+  -- what a miss leaves
+  abbrev asks : Words → List Mark → Fields
+  asks q new =
+      record f {
+        queued = f.queued
+            ++ bytes_of (put_read s.mode (caching_on_for s.mode log (key_of q)) q);
+        pending = f.pending
+            ++ waits_for (read_lead s.mode.caching (caching_on_for s.mode log (key_of q)));
+        owed = f.owed + 1;
+        marks = new;
+      }
+
+  -- with caching on the fetch is open
   reflects_fetch : (q : Words) (number : ℕ) → held_for q (held s log) ≡ None
-      → number ≡ length f.pending + first_number s.mode → is_ready s.mode log ≡ true
-      → f.ended ≡ false → f.broken ≡ false
-      → Reflects s (Ask q ∷ log)
-      (record f {
-        queued = f.queued ++ request_spelling q;
-        pending = f.pending ++ Waiting ∷ [];
-        owed = f.owed + 1;
-        marks = with_mark number q f.marks;
-      })
-  reflects_fetch q number e is ready open_ whole = grind (arith, reflects_miss, marks_on)
+      → number ≡ read_number s log q → caching_on_for s.mode log (key_of q) ≡ true
+      → Reflects s (Ask q ∷ log) (asks q (with_mark number q f.marks))
+  reflects_fetch q number e is on =
+      reflects_miss q (with_mark number q f.marks) e
+      (ap (with_mark number q) k.marks_is ∙ marks_on q number e is on)
 
-  reflects_unmarked : (q : Words) → held_for q (held s log) ≡ None → f.broken ≡ true
-      → Reflects s (Ask q ∷ log)
-      (record f {
-        queued = f.queued ++ request_spelling q;
-        pending = f.pending ++ Waiting ∷ [];
-        owed = f.owed + 1;
-        marks = f.marks;
-      })
-  reflects_unmarked q e b =
-      let off : is_broken s.mode log ≡ true = sym k.broken_is ∙ b in
-      reflects_miss q f.marks e
-      (grind (arith, marks_all_none, broken_none))
+  marks_off : (q : Words) → held_for q (held s log) ≡ None
+      → caching_on_for s.mode log (key_of q) ≡ false
+      → ((n : ℕ) → open_fetch s (Ask q ∷ log) n ≡ open_fetch s log n)
+      → f.marks ≡ marks_by (open_fetch s (Ask q ∷ log)) f.replied (numbers s (Ask q ∷ log))
+  marks_off q e off same =
+      k.marks_is
+      ∙ sym (marks_led (open_fetch s log) f.replied (numbers s log) (read_number s log q)
+      (read_lead s.mode.caching (caching_on_for s.mode log (key_of q))) q refl
+      (λ j lt. beyond s log j lt))
+      ∙ sym (marks_same (open_fetch s log) (open_fetch s (Ask q ∷ log)) f.replied
+      (read_number s log q) (λ m le. same m))
+      ∙ ap (marks_by (open_fetch s (Ask q ∷ log)) f.replied) (sym (read_is q e))
 
-  pub reflects_ask : (q : Words) (number : ℕ) (bytes : List ℕ) (new : List Mark)
-      → held_for q (held s log) ≡ None → number ≡ length f.pending + first_number s.mode
+  reflects_unmarked : (q : Words) → held_for q (held s log) ≡ None
+      → caching_on_for s.mode log (key_of q) ≡ false
       → is_ready s.mode log ≡ true → f.ended ≡ false
-      → bytes ≡ f.queued ++ request_spelling q
-      → new ≡ cond f.broken f.marks (with_mark number q f.marks)
-      → Reflects s (Ask q ∷ log)
-      (record f {
-        queued = bytes;
-        pending = f.pending ++ Waiting ∷ [];
-        owed = f.owed + 1;
-        marks =
-            new;
-      })
-  reflects_ask q number bytes new e is ready open_ b m = elim (cases_Bool f.broken) [
-    | inl sure ↦ rw (b, m ∙ ap (λ x. cond x f.marks (with_mark number q f.marks)) sure)
-        (reflects_unmarked q e sure)
-    | inr whole ↦ rw (b, m ∙ ap (λ x. cond x f.marks (with_mark number q f.marks)) whole)
-        (reflects_fetch q number e is ready open_ whole)
+      → Reflects s (Ask q ∷ log) (asks q f.marks)
+  reflects_unmarked q e off ready open_ = elim (cases_Bool f.broken) [
+    | inl sure ↦
+        let b : is_broken s.mode log ≡ true = sym k.broken_is ∙ sure in
+        reflects_miss q f.marks e
+        (marks_off q e off (λ n. broken_none s (Ask q ∷ log) n b ∙ sym (broken_none s log n b)))
+    | inr whole ↦
+        reflects_miss q f.marks e
+        (marks_off q e off (λ n. same_uncovered q n e off ready open_ whole))
   ]
+
+  pub reflects_ask : (q : Words) (number : ℕ) (on : Bool) (bytes : List ℕ)
+      (waits : List PendingReply) (new : List Mark)
+      → held_for q (held s log) ≡ None → number ≡ handshake_length s.mode + length waits
+      → on ≡ caching_on_for s.mode log (key_of q)
+      → is_ready s.mode log ≡ true → f.ended ≡ false
+      → bytes ≡ f.queued ++ bytes_of (put_read s.mode on q)
+      → waits ≡ f.pending ++ waits_for (read_lead s.mode.caching on)
+      → new ≡ cond on (with_mark number q f.marks) f.marks
+      → Reflects s (Ask q ∷ log)
+      (record f { queued = bytes; pending = waits; owed = f.owed + 1; marks = new })
+  reflects_ask q number on bytes waits new e count same ready open_ b p m =
+      let l = read_lead s.mode.caching (caching_on_for s.mode log (key_of q)) in
+      let more : length waits ≡ length f.pending + length (waits_for l)
+      = ap length (p ∙ ap (λ o. f.pending ++ waits_for (read_lead s.mode.caching o)) same)
+      ∙ length-append f.pending (waits_for l) in
+      let is : number ≡ read_number s log q
+      = omega (arith, count, more, count_waits l q, k.pending_count) in
+      elim (cases_Bool on) [
+        | inl sure ↦ rw (
+          b ∙ ap (λ o. f.queued ++ bytes_of (put_read s.mode o q)) same,
+          p ∙ ap (λ o. f.pending ++ waits_for (read_lead s.mode.caching o)) same,
+          m ∙ ap (λ x. cond x (with_mark number q f.marks) f.marks) sure,
+        )
+            (reflects_fetch q number e is (sym same ∙ sure))
+        | inr off ↦ rw (
+          b ∙ ap (λ o. f.queued ++ bytes_of (put_read s.mode o q)) same,
+          p ∙ ap (λ o. f.pending ++ waits_for (read_lead s.mode.caching o)) same,
+          m ∙ ap (λ x. cond x (with_mark number q f.marks) f.marks) off,
+        )
+            (reflects_unmarked q e (sym same ∙ off) ready open_)
+      ]

@@ -10,7 +10,7 @@ use Rattle.shared_cache.specs.declared.log.Wire.TheVariants.{Main, Side}
 use Rattle.shared_cache.specs.declared.log.LogEntry.{LogEntry}
 use Rattle.shared_cache.specs.declared.log.LogEntry.TheVariants.{Ask, Send, Poll, TakeOut, Got}
 use Rattle.shared_cache.specs.declared.log.LogEntry.TheVariants.{End, Bad}
-use Rattle.shared_cache.specs.Log.{handshake, caching_on_for}
+use Rattle.shared_cache.specs.Log.{handshake, caching_on, caching_on_for}
 use Rattle.shared_cache.specs.Held.{Setup, SentCommand, sent, put_ask, put_command, held_for, held}
 use Rattle.shared_cache.specs.Out.{out, taken, untaken}
 use Rattle.shared_cache.specs.Laws.{TakenWithin}
@@ -49,7 +49,8 @@ taken_main s (Ask q ∷ log) =
     (put_ask (held_for q (held s log)) s.mode (caching_on_for s.mode log (key_of q)) q)
     (taken s Main log) refl (taken_main s log)
 taken_main s (Send ws ∷ log) =
-    grown s log (Send ws ∷ log) (put_command s.mode ws) (taken s Main log) refl (taken_main s log)
+    grown s log (Send ws ∷ log) (put_command s.mode (caching_on s.mode log) ws)
+    (taken s Main log) refl (taken_main s log)
 taken_main s (Poll n ∷ log) =
     same_length s log (Poll n ∷ log) (taken s Main log) refl (taken_main s log)
 taken_main s (TakeOut Main n ∷ log) =

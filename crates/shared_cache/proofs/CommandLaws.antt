@@ -8,6 +8,11 @@ use Rattle.std.proofs.lemmas.Option.{slice_get_within}
 use Rattle.std.specs.Prelude.{map}
 use Rattle.resp_value.specs.declared.value.Value.{Value}
 use Rattle.command_words.specs.Words.{reading}
+use Rattle.command_words.specs.StringWords.{string_reading}
+use Rattle.command_words.specs.HashWords.{hash_reading}
+use Rattle.command_words.specs.KeyWords.{key_reading}
+use Rattle.command_words.specs.ConnectionWords.{connection_reading}
+use Rattle.command_words.specs.ClientWords.{client_reading}
 use Rattle.command_words.specs.Control.{is_control}
 use Rattle.command_words.specs.Queries.{reads_as_cacheable, key_of, written_by, writes}
 use Rattle.shared_cache.specs.declared.log.Wire.TheVariants.{Main, Side}
@@ -17,13 +22,18 @@ use Rattle.shared_cache.specs.declared.log.LogEntry.TheVariants.{Ask, Send, Poll
 use Rattle.shared_cache.specs.declared.log.LogEntry.TheVariants.{Bad}
 use Rattle.shared_cache.specs.declared.entry.CacheEntry.{CacheEntry}
 use Rattle.shared_cache.specs.Notices.{invalidates}
-use Rattle.shared_cache.specs.Log.{handshake, reply_in, is_ready, is_accepted, caching_on_for}
-use Rattle.shared_cache.specs.Held.{Setup, Key, Words, SentCommand, Caller, put_ask, put_read}
+use Rattle.shared_cache.specs.declared.lead.CachingWord.{CachingWord}
+use Rattle.shared_cache.specs.declared.lead.CachingWord.TheVariants.{Yes, No}
+use Rattle.shared_cache.specs.Log.{handshake, reply_in, is_ready, is_accepted, caching_on}
+use Rattle.shared_cache.specs.Log.{caching_on_for}
+use Rattle.shared_cache.specs.Held.{Setup, Key, Words, SentCommand, Caller, Library, put_ask}
+use Rattle.shared_cache.specs.Held.{put_read, caching_command, read_lead, send_lead, is_read}
 use Rattle.shared_cache.specs.Held.{put_command, held_for, numbers, sent, open_fetch, held}
 use Rattle.shared_cache.specs.Held.{commands}
 use Rattle.shared_cache.specs.Laws.{Every, IsQuery, LegalLog, CommandsHaveWords, HandshakeFirst}
 use Rattle.shared_cache.specs.Laws.{NoControl, NoLaterWrite}
-use Rattle.shared_cache.proofs.Every.{every_append, every_weaker}
+use Rattle.shared_cache.proofs.Every.{every_append}
+use Rattle.shared_cache.proofs.Led.{own, every_led}
 use Rattle.shared_cache.proofs.LegalLogs.{newest}
 use Rattle.shared_cache.proofs.FetchLaws.{unless_some, asked_some, place_is_query}
 
@@ -41,42 +51,53 @@ query_writes_none : (p : Words) (k : Key) → IsQuery p → writes p k ≡ false
 unfolding written_by
 query_writes_none p k e = grind (arith, is_cacheable_query)
 
+caching_writes_none : (w : CachingWord) (k : Key) → writes (caching_command w).words k ≡ false
+unfolding written_by reading string_reading hash_reading key_reading connection_reading
+    client_reading
+caching_writes_none Yes k = refl
+caching_writes_none No k = refl
+
 query_is_plain : (p : Words) → IsQuery p → is_control p ≡ false
 unfolding is_control
 query_is_plain p e = grind (arith, is_cacheable_query)
 
 every_put : (P : SentCommand → Type 0) (o : Option CacheEntry) (m : ClientMode) (on : Bool)
-    (q : Words) → P (record { words = q; origin = Caller }) → Every P (put_ask o m on q)
-every_put P o m on q p = grind arith
+    (q : Words) → ((w : CachingWord) → P (caching_command w)) → P (own q)
+    → Every P (put_ask o m on q)
+every_put P (Some h) m on q library p = tt
+every_put P None m on q library p = every_led P (read_lead m.caching on) q library p
 
--- what holds of each query and of the words of each Send holds of all that was sent
-every_sent : (P : Words → Type 0) (s : Setup) → ((q : Words) → IsQuery q → P q)
-    → ((ws : Words) → is_control ws ≡ false → 0 < length ws → P ws)
-    → (log : List LogEntry) → LegalLog s log → Every (λ (c : SentCommand). P c.words) (sent s log)
-every_sent P s asks sends [] l = tt
-every_sent P s asks sends (Ask q ∷ log) l =
-    every_append (λ (c : SentCommand). P c.words) (sent s log)
+-- what holds of each query, of the words of each Send and of what goes before them holds of all
+-- that was sent
+every_sent : (P : SentCommand → Type 0) (s : Setup) → ((w : CachingWord) → P (caching_command w))
+    → ((q : Words) → IsQuery q → P (own q))
+    → ((ws : Words) → is_control ws ≡ false → 0 < length ws → P (own ws))
+    → (log : List LogEntry) → LegalLog s log → Every P (sent s log)
+every_sent P s library asks sends [] l = tt
+every_sent P s library asks sends (Ask q ∷ log) l =
+    every_append P (sent s log)
     (put_ask (held_for q (held s log)) s.mode (caching_on_for s.mode log (key_of q)) q)
-    (every_sent P s asks sends log l.0)
-    (every_put (λ (c : SentCommand). P c.words) (held_for q (held s log)) s.mode
-    (caching_on_for s.mode log (key_of q)) q (asks q (newest s log (Ask q) l).0))
-every_sent P s asks sends (Send ws ∷ log) l =
+    (every_sent P s library asks sends log l.0)
+    (every_put P (held_for q (held s log)) s.mode
+    (caching_on_for s.mode log (key_of q)) q library (asks q (newest s log (Ask q) l).0))
+every_sent P s library asks sends (Send ws ∷ log) l =
     let k = newest s log (Send ws) l in
-    every_append (λ (c : SentCommand). P c.words) (sent s log) (put_command s.mode ws)
-    (every_sent P s asks sends log l.0) (sends ws k.0 k.2, tt)
-every_sent P s asks sends (Poll n ∷ log) l = every_sent P s asks sends log l.0
-every_sent P s asks sends (TakeOut w n ∷ log) l = every_sent P s asks sends log l.0
-every_sent P s asks sends (Got w v ∷ log) l = every_sent P s asks sends log l.0
-every_sent P s asks sends (End w ∷ log) l = every_sent P s asks sends log l.0
-every_sent P s asks sends (Bad w v ∷ log) l = every_sent P s asks sends log l.0
+    every_append P (sent s log) (put_command s.mode (caching_on s.mode log) ws)
+    (every_sent P s library asks sends log l.0)
+    (every_led P (send_lead s.mode.caching (caching_on s.mode log) (is_read ws)) ws library
+    (sends ws k.0 k.2))
+every_sent P s library asks sends (Poll n ∷ log) l = every_sent P s library asks sends log l.0
+every_sent P s library asks sends (TakeOut w n ∷ log) l =
+    every_sent P s library asks sends log l.0
+every_sent P s library asks sends (Got w v ∷ log) l = every_sent P s library asks sends log l.0
+every_sent P s library asks sends (End w ∷ log) l = every_sent P s library asks sends log l.0
+every_sent P s library asks sends (Bad w v ∷ log) l = every_sent P s library asks sends log l.0
 
 pub no_control : NoControl
 no_control s log l =
-    every_weaker (λ (c : SentCommand). is_control c.words ≡ false)
-    (λ (c : SentCommand). c.origin ≡ Caller → is_control c.words ≡ false) (sent s log)
-    (λ c p is. p)
-    (every_sent (λ ws. is_control ws ≡ false) s (λ q is. query_is_plain q is)
-    (λ ws plain some. plain) log l)
+    every_sent (λ (c : SentCommand). c.origin ≡ Caller → is_control c.words ≡ false) s
+    (λ w is. absurd (let no : Library ≡ Caller = is in cc))
+    (λ q is caller. query_is_plain q is) (λ ws plain some caller. plain) log l
 
 every_words : (P : Words → Type 0) (cs : List SentCommand)
     → Every (λ (c : SentCommand). P c.words) cs → Every P (map (λ (c : SentCommand). c.words) cs)
@@ -88,7 +109,8 @@ commands_have_words s Main log l =
     every_append (λ ws. 0 < length ws) (handshake s.mode log)
     (map (λ (c : SentCommand). c.words) (sent s log)) (omega arith, (omega arith, tt))
     (every_words (λ ws. 0 < length ws) (sent s log)
-    (every_sent (λ ws. 0 < length ws) s has_words (λ ws plain some. some) log l))
+    (every_sent (λ (c : SentCommand). 0 < length c.words) s (λ w. omega arith) has_words
+    (λ ws plain some. some) log l))
 commands_have_words s Side log l = tt
 
 -- a client that is ready stays so
@@ -145,6 +167,7 @@ no_later_write s (Ask p ∷ log) n q l f =
           (within s log n q old) (no_later_write s log n q l.0 old)
           (every_put (λ (c : SentCommand). writes c.words (key_of q) ≡ false)
           (held_for p (held s log)) s.mode (caching_on_for s.mode log (key_of p)) p
+          (λ w. caching_writes_none w (key_of q))
           (query_writes_none p (key_of q) (newest s log (Ask p) l).0))
       | inr new ↦
           subst (λ o. Every (λ ws. writes ws (key_of q) ≡ false)
@@ -168,8 +191,12 @@ no_later_write s (Ask p ∷ log) n q l f =
     ]
 no_later_write s (Send ws ∷ log) n q l f =
     let u = unless_some (writes ws) (open_fetch s log n) q f in
-    every_dropped (λ x. writes x (key_of q) ≡ false) s log (sent s log) (put_command s.mode ws) n
-    (within s log n q u.0) (no_later_write s log n q l.0 u.0) (u.1, tt)
+    every_dropped (λ x. writes x (key_of q) ≡ false) s log (sent s log)
+    (put_command s.mode (caching_on s.mode log) ws) n
+    (within s log n q u.0) (no_later_write s log n q l.0 u.0)
+    (every_led (λ (c : SentCommand). writes c.words (key_of q) ≡ false)
+    (send_lead s.mode.caching (caching_on s.mode log) (is_read ws)) ws
+    (λ w. caching_writes_none w (key_of q)) u.1)
 no_later_write s (Poll m ∷ log) n q l f = no_later_write s log n q l.0 f
 no_later_write s (TakeOut w m ∷ log) n q l f = no_later_write s log n q l.0 f
 no_later_write s (Got w v ∷ log) n q l f =

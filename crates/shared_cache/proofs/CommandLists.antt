@@ -14,7 +14,7 @@ use Rattle.shared_cache.specs.declared.log.LogEntry.TheVariants.{Bad}
 use Rattle.shared_cache.specs.declared.notices.Notice.{Notice}
 use Rattle.shared_cache.specs.declared.notices.Notice.TheVariants.{Reply}
 use Rattle.shared_cache.specs.Notices.{notice_of, is_reply}
-use Rattle.shared_cache.specs.Log.{handshake, replies, with_reply}
+use Rattle.shared_cache.specs.Log.{handshake, replies, with_reply, caching_on}
 use Rattle.shared_cache.specs.Held.{Setup, Words, SentCommand, put_command, sent}
 use Rattle.resp_value.specs.Lists.{IsPrefix}
 use Rattle.shared_cache.specs.Laws.{gots, CommandsGrow, RepliesAreGots}
@@ -31,7 +31,7 @@ after front xs ys p = (
 main_grows : (s : Setup) (e : LogEntry) (log : List LogEntry)
     → IsPrefix (sent s log) (sent s (e ∷ log))
 main_grows s (Ask q) log = grind arith
-main_grows s (Send ws) log = (put_command s.mode ws, refl)
+main_grows s (Send ws) log = (put_command s.mode (caching_on s.mode log) ws, refl)
 main_grows s e log = ([], append-nil (sent s log))
 
 pub commands_grow : CommandsGrow

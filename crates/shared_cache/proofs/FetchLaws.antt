@@ -1,7 +1,8 @@
 -- The laws of open fetches and of what is held, by induction along the log.
 use Rattle.std.proofs.Common.{◌≡◌, ◌+◌, ◌-◌, ◌<◌, ◌≤◌, ◌++◌, zero, suc, ◌&&◌, ◌||◌, ◌⊎◌, ℕ, List}
 use Rattle.std.proofs.Common.{[], ◌∷◌, length, Bool, true, false, not, Option, Some, None, sym, ap}
-use Rattle.std.proofs.Common.{◌∙◌, refl, subst, inl, inr, arith, ne_eqb}
+use Rattle.std.proofs.Common.{◌∙◌, refl, subst, inl, inr, arith, ne_eqb, append_assoc}
+use Rattle.std.proofs.Common.{length-append}
 use Rattle.std.proofs.lemmas.Bool.{and_parts, or_parts, not-true}
 use Rattle.std.specs.List.{slice_get}
 use Rattle.std.specs.Prelude.{map}
@@ -15,15 +16,21 @@ use Rattle.shared_cache.specs.declared.log.LogEntry.TheVariants.{Ask, Send, Poll
 use Rattle.shared_cache.specs.declared.entry.CacheEntry.{CacheEntry}
 use Rattle.shared_cache.specs.Notices.{invalidates}
 use Rattle.shared_cache.specs.Log.{handshake, reply_in, is_ended, is_ready, is_broken}
-use Rattle.shared_cache.specs.Log.{caching_on_for}
-use Rattle.shared_cache.specs.Held.{Setup, Key, Words, SentCommand, Caller, put_ask, put_read}
+use Rattle.shared_cache.specs.Log.{caching_on, caching_on_for, covers}
+use Rattle.shared_cache.specs.declared.lead.CachingWord.{CachingWord}
+use Rattle.shared_cache.specs.declared.lead.CachingWord.TheVariants.{Yes}
+use Rattle.shared_cache.specs.Held.{Setup, Key, Words, SentCommand, put_ask, put_read}
+use Rattle.shared_cache.specs.Held.{caching_command, led_by, read_lead}
+use Rattle.shared_cache.specs.Steps.{read_number}
 use Rattle.shared_cache.specs.Held.{held_for, unless, asked, hold, held_by, ends, numbers, sent}
 use Rattle.shared_cache.specs.Held.{open_fetch, held, commands}
 use Rattle.resp_value.specs.Lists.{IsPrefix}
 use Rattle.shared_cache.specs.Laws.{Every, WasSent, IsFetch, OpenWasSent, PlaceIsQuery}
+use Rattle.shared_cache.specs.Laws.{MarkBeforeRead}
 use Rattle.shared_cache.specs.Laws.{OpenWires, HeldIsFetch, EndedHoldsNothing}
 use Rattle.shared_cache.proofs.Every.{every_append, every_weaker}
 use Rattle.shared_cache.proofs.CommandLists.{commands_grow}
+use Rattle.shared_cache.proofs.Led.{own, led_some}
 
 -- ---- open fetches
 
@@ -64,9 +71,9 @@ open_was_sent s (Ask p ∷ log) n q f =
         later = [];
         sooner = log;
         log_is = ap (λ x. Ask x ∷ log) new.query_is;
-        number_is = new.number_is;
+        number_is = new.number_is ∙ ap (read_number s log) new.query_is;
         missed = ap (λ x. held_for x (held s log)) (sym new.query_is) ∙ new.missed;
-        on = new.turned_on;
+        on = ap (λ x. caching_on_for s.mode log (key_of x)) (sym new.query_is) ∙ new.turned_on;
         spared = tt;
       }
     ]
@@ -86,9 +93,11 @@ open_wires s (Ask p ∷ log) n q f =
     (numbers s log) p n (open_fetch s log n) q f) [
       | inl old ↦ open_wires s log n q old
       | inr new ↦
+          let on = and_parts (caching_on s.mode log) (covers s.mode.caching (key_of p))
+          new.turned_on in
           let a = and_parts (is_ready s.mode log)
           (not (is_ended s.mode Main log || is_ended s.mode Side log) && not (is_broken s.mode log))
-          new.turned_on in
+          on.0 in
           let b = and_parts (not (is_ended s.mode Main log || is_ended s.mode Side log))
           (not (is_broken s.mode log)) a.1 in
           or_parts (is_ended s.mode Main log) (is_ended s.mode Side log)
@@ -111,6 +120,17 @@ at_end n [] [] ys c e = ap (λ i. slice_get (c.words ∷ map (λ (d : SentComman
 at_end n [] (x ∷ xs) ys c e = grind (arith, at_end (length xs) [] xs ys c (omega arith))
 at_end n (f ∷ front) xs ys c e = grind (arith, at_end (length front + length xs) front xs ys c refl)
 
+-- the last of a led command's is the caller's
+at_led : (n : ℕ) (front : List Words) (xs : List SentCommand) (l : Option CachingWord) (ws : Words)
+    → n ≡ length front + length xs + length (led_by l ws)
+    → slice_get (front ++ map (λ c. c.words) (xs ++ led_by l ws)) (n - 1) ≡ Some ws
+at_led n front xs None ws e = at_end (n - 1) front xs [] (own ws) (omega arith)
+at_led n front xs (Some w) ws e =
+    ap (λ l. slice_get (front ++ map (λ (c : SentCommand). c.words) l) (n - 1))
+    (sym (append_assoc xs (caching_command w ∷ []) (own ws ∷ [])))
+    ∙ at_end (n - 1) front (xs ++ caching_command w ∷ []) [] (own ws)
+    (omega (arith, length-append xs (caching_command w ∷ [])))
+
 get_grows : (xs ys : List Words) (i : ℕ) (x : Words) → IsPrefix xs ys → slice_get xs i ≡ Some x
     → slice_get ys i ≡ Some x
 get_grows [] ys i h p e = cc
@@ -132,13 +152,17 @@ place_is_query s (Ask p ∷ log) n q f =
     (numbers s log) p n (open_fetch s log n) q f) [
       | inl old ↦ place_later s (Ask p) log n q (place_is_query s log n q old)
       | inr new ↦ (
-        omega (arith, new.number_is),
+        omega (
+          arith,
+          new.number_is,
+          led_some (read_lead s.mode.caching (caching_on_for s.mode log (key_of p))) p,
+        ),
         ap (λ o. slice_get
             (handshake s.mode log ++ map (λ (c : SentCommand). c.words)
             (sent s log ++ put_ask o s.mode (caching_on_for s.mode log (key_of p)) p)) (n - 1))
             new.missed
-            ∙ at_end (n - 1) (handshake s.mode log) (sent s log) []
-            (record { words = p; origin = Caller })
+            ∙ at_led n (handshake s.mode log) (sent s log)
+            (read_lead s.mode.caching (caching_on_for s.mode log (key_of p))) p
             (omega (arith, new.number_is))
             ∙ ap Some new.query_is,
       )
@@ -153,6 +177,61 @@ place_is_query s (Got w v ∷ log) n q f =
     place_later s (Got w v) log n q
     (place_is_query s log n q (unless_some (invalidates s.mode w v) (open_fetch s log n) q f).0)
 place_is_query s e n q f = cc
+
+-- what goes before a led command
+at_lead : (n : ℕ) (front : List Words) (xs : List SentCommand) (l : Option CachingWord)
+    (w : CachingWord) (ws : Words) → l ≡ Some w
+    → n ≡ length front + length xs + length (led_by l ws)
+    → (1 < n) × (slice_get (front ++ map (λ c. c.words) (xs ++ led_by l ws)) (n - 2)
+    ≡ Some (caching_command w).words)
+at_lead n front xs None w ws is e = absurd (let no : ⊥ = cc in no)
+at_lead n front xs (Some v) w ws is e =
+    let same : v ≡ w = cc in (
+      omega (arith, e),
+      at_end (n - 2) front xs (own ws ∷ []) (caching_command v) (omega (arith, e))
+          ∙ ap (λ u. Some (caching_command u).words) same,
+    )
+
+marked_later : (s : Setup) (e : LogEntry) (log : List LogEntry) (n : ℕ) (w : Words)
+    → (1 < n) × (slice_get (commands s Main log) (n - 2) ≡ Some w)
+    → (1 < n) × (slice_get (commands s Main (e ∷ log)) (n - 2) ≡ Some w)
+marked_later s e log n w p = (
+  p.0,
+  get_grows (commands s Main log) (commands s Main (e ∷ log)) (n - 2) w
+      (commands_grow s Main e log) p.1,
+)
+
+pub mark_before_read : MarkBeforeRead
+mark_before_read s (Ask p ∷ log) n q by f =
+    let on = caching_on_for s.mode log (key_of p) in
+    elim (asked_some (held_for p (held s log)) s.mode on
+    (numbers s log) p n (open_fetch s log n) q f) [
+      | inl old ↦
+          marked_later s (Ask p) log n (caching_command Yes).words
+          (mark_before_read s log n q by old)
+      | inr new ↦
+          let lead : read_lead s.mode.caching on ≡ Some Yes
+          = λ i. read_lead (by i) (new.turned_on i) in
+          subst (λ o. (1 < n) × (slice_get
+          (handshake s.mode log ++ map (λ (c : SentCommand). c.words)
+          (sent s log ++ put_ask o s.mode on p)) (n - 2) ≡ Some (caching_command Yes).words))
+          (sym new.missed)
+          (at_lead n (handshake s.mode log) (sent s log) (read_lead s.mode.caching on) Yes p lead
+          (omega (arith, new.number_is)))
+    ]
+mark_before_read s (Send ws ∷ log) n q by f =
+    marked_later s (Send ws) log n (caching_command Yes).words
+    (mark_before_read s log n q by (unless_some (writes ws) (open_fetch s log n) q f).0)
+mark_before_read s (Poll m ∷ log) n q by f =
+    marked_later s (Poll m) log n (caching_command Yes).words (mark_before_read s log n q by f)
+mark_before_read s (TakeOut w m ∷ log) n q by f =
+    marked_later s (TakeOut w m) log n (caching_command Yes).words
+    (mark_before_read s log n q by f)
+mark_before_read s (Got w v ∷ log) n q by f =
+    marked_later s (Got w v) log n (caching_command Yes).words
+    (mark_before_read s log n q by
+    (unless_some (invalidates s.mode w v) (open_fetch s log n) q f).0)
+mark_before_read s e n q by f = cc
 
 -- ---- what is held
 

@@ -11,7 +11,7 @@ use Rattle.shared_cache.specs.declared.log.LogEntry.TheVariants.{Bad}
 use Rattle.shared_cache.specs.declared.entry.CacheEntry.{CacheEntry}
 use Rattle.shared_cache.specs.declared.notices.Notice.{Notice}
 use Rattle.shared_cache.specs.Notices.{notice_of, invalidates}
-use Rattle.shared_cache.specs.Log.{is_wire, replies, with_reply}
+use Rattle.shared_cache.specs.Log.{is_wire, replies, with_reply, caching_on}
 use Rattle.shared_cache.specs.Held.{Setup, Key, Words, SentCommand, numbered, numbers, held_for}
 use Rattle.shared_cache.specs.Held.{held, unless, asked, put_ask, put_command, sent, open_fetch}
 use Rattle.shared_cache.specs.Held.{left}
@@ -33,7 +33,10 @@ beyond s (Ask q ∷ log) n lt =
     (beyond s log n)
 beyond s (Send ws ∷ log) n lt =
     unless_none (writes ws) (open_fetch s log n)
-    (beyond s log n (omega (arith, length-append (sent s log) (put_command s.mode ws))))
+    (beyond s log n (omega (
+      arith,
+      length-append (sent s log) (put_command s.mode (caching_on s.mode log) ws),
+    )))
 beyond s (Poll m ∷ log) n lt = beyond s log n lt
 beyond s (TakeOut w m ∷ log) n lt = beyond s log n lt
 beyond s (Got w v ∷ log) n lt =

@@ -1,9 +1,10 @@
 -- After a value was read the fields are what the log says.
-use Rattle.std.proofs.Common.{◌≡◌, ◌+◌, ◌<◌, ◌||◌, ℕ, suc, List, ◌∷◌, length, get_or, true, false}
-use Rattle.std.proofs.Common.{not, Option, sym, ap, ◌∙◌, refl, subst, arith, ne_eqb, length-set}
-use Rattle.std.specs.Prelude.{nat_le}
+use Rattle.std.proofs.Common.{◌≡◌, ◌+◌, ◌-◌, ◌<◌, ◌||◌, ℕ, suc, List, ◌∷◌, length, get_or, set}
+use Rattle.std.proofs.Common.{true, false, cond, not, Option, sym, ap, ◌∙◌, refl, subst, arith}
+use Rattle.std.proofs.Common.{ne_eqb, length-set, inl, inr}
+use Rattle.std.specs.Prelude.{nat_le, nat_lt}
 use Rattle.std.specs.List.{filter}
-use Rattle.std.proofs.lemmas.Bool.{cases_lt, le-leb, lt-ltb, le-ltb, leb-false}
+use Rattle.std.proofs.lemmas.Bool.{cases_Bool, cases_eq, lt-ltb, le-leb, le-ltb, leb-false}
 use Rattle.std.proofs.lemmas.List.{get_or-set_same, get_or-set_other}
 use Rattle.resp_value.specs.declared.value.Value.{Value}
 use Rattle.command_words.specs.Queries.{key_of, names}
@@ -12,7 +13,7 @@ use Rattle.fill_mark.specs.Marks.{query_marked, without_number}
 use Rattle.shared_cache.specs.declared.log.Wire.TheVariants.{Main}
 use Rattle.shared_cache.specs.declared.log.LogEntry.{LogEntry}
 use Rattle.shared_cache.specs.declared.log.LogEntry.TheVariants.{Got}
-use Rattle.shared_cache.specs.declared.entry.PendingReply.TheVariants.{Waiting, There, Gone}
+use Rattle.shared_cache.specs.declared.entry.PendingReply.TheVariants.{Gone}
 use Rattle.shared_cache.specs.declared.notices.Notice.{Notice}
 use Rattle.shared_cache.specs.declared.notices.Notice.TheVariants.{Reply}
 use Rattle.shared_cache.specs.Notices.{kind_of, named_keys, invalidates, invalidates_as, is_reply}
@@ -22,6 +23,7 @@ use Rattle.shared_cache.specs.Held.{Setup, Key, Words, numbers, used_at, open_fe
 use Rattle.shared_cache.specs.Steps.{is_welcome}
 use Rattle.shared_cache.specs.HeldKeys.{Keeps, with_pairs, forgotten, refilled}
 use Rattle.shared_cache.specs.ClientFields.{Fields, Reflects, pending_at, marks_by, settled}
+use Rattle.shared_cache.specs.ClientFields.{answered, owed_in}
 use Rattle.shared_cache.proofs.InPlace.{filter_same_test}
 use Rattle.shared_cache.proofs.Filled.{filled}
 use Rattle.shared_cache.proofs.LastUses.{used_before}
@@ -31,7 +33,7 @@ use Rattle.shared_cache.proofs.HeldSteps.{held_reply, use_reply}
 use Rattle.shared_cache.proofs.MarkLists.{marks_filter, marks_same, marks_next, marks_find}
 use Rattle.shared_cache.proofs.MarkLists.{mark_unless}
 use Rattle.shared_cache.proofs.Bytes.{untaken_same}
-use Rattle.shared_cache.proofs.PendingLists.{no_reply, owed_there}
+use Rattle.shared_cache.proofs.PendingLists.{no_reply, owed_answered}
 
 push_no_reply : (n : Notice) → IsPush n → is_reply n ≡ false
 push_no_reply n p = grind arith
@@ -42,6 +44,9 @@ ready_next : (vs : List Value) (v : Value) (s : Setup)
     → is_accepted (reply_in 2 vs) ≡ nat_le 2 (length vs)
     → is_accepted (reply_in 2 (v ∷ vs)) ≡ nat_le 2 (length vs + 1)
 ready_next vs v s w r = grind (arith, ne_eqb, le-leb)
+
+big_is : (n : ℕ) → nat_lt 2 n ≡ true → 2 < n
+big_is n e = grind (arith, le-ltb)
 
 module _ (s : Setup) (log : List LogEntry) (f : Fields) (k : Reflects s log f) where
   pub reflects_push : (v : Value) (n : Notice) (w : Written) → n ≡ kind_of v → IsPush n
@@ -76,36 +81,52 @@ module _ (s : Setup) (log : List LogEntry) (f : Fields) (k : Reflects s log f) w
         broken_is = λ i. is_broken_notice (e i) || k.broken_is i;
       }
 
-  -- a number without a reply waits
-  pub waits : (i : ℕ) → i < length f.pending → f.replied < i + 3 → get_or f.pending i Gone ≡ Waiting
-  waits i lt late = grind (arith, no_reply)
+  unanswered : (i : ℕ) → i < length f.pending → i + 3 ≡ f.replied + 1 → (v : Value)
+      → kind_of v ≡ Reply
+      → answered v (get_or f.pending i Gone) ≡ pending_at s (Got Main v ∷ log) (i + 3)
+  unanswered i lt is v e = grind (arith, no_reply, replies_reply)
 
   pending_other : (v : Value) (i : ℕ) → kind_of v ≡ Reply → i < length f.pending
       → (i + 3 ≡ f.replied + 1 → ⊥)
-      → get_or f.pending i Gone ≡ pending_at s.mode (Got Main v ∷ log) (i + 3)
-  pending_other v i e lt ne = grind arith
-
-  pending_next : (v : Value) (i : ℕ) → kind_of v ≡ Reply → i + 3 ≡ f.replied + 1
-      → There v ≡ pending_at s.mode (Got Main v ∷ log) (i + 3)
-  pending_next v i e is = grind arith
-
-  pending_settled : (v : Value) (number i : ℕ) → kind_of v ≡ Reply → number ≡ f.replied + 1
-      → f.replied < length f.pending + 2 → i < length (settled s.mode number v f.pending)
-      → get_or (settled s.mode number v f.pending) i Gone ≡ pending_at s.mode (Got Main v ∷ log)
-      (i + 3)
-  pending_settled v number i e is within lt = grind (
-    arith,
-    length-set,
-    get_or-set_same,
-    pending_next,
-    get_or-set_other,
-    pending_other,
-    le-ltb,
-  )
+      → get_or f.pending i Gone ≡ pending_at s (Got Main v ∷ log) (i + 3)
+  pending_other v i e lt ne = grind (arith, replies_reply)
 
   length_settled : (v : Value) (number : ℕ)
       → length (settled s.mode number v f.pending) ≡ length f.pending
   length_settled v number = grind (arith, length-set)
+
+  pending_settled : (v : Value) (number i : ℕ) → kind_of v ≡ Reply → number ≡ f.replied + 1
+      → f.replied < length f.pending + 2 → i < length (settled s.mode number v f.pending)
+      → get_or (settled s.mode number v f.pending) i Gone ≡ pending_at s (Got Main v ∷ log)
+      (i + 3)
+  pending_settled v number i e is within lt =
+      let here : i < length f.pending = omega (arith, length_settled v number) in
+      elim (cases_Bool (nat_lt 2 number)) [
+        | inl big ↦
+            ap (λ b. get_or (cond b (set f.pending (number - 3)
+            (answered v (get_or f.pending (number - 3) Gone))) f.pending) i Gone) big
+            ∙ elim (cases_eq i (number - 3)) [
+              | inl at ↦
+                  ap (λ j. get_or (set f.pending j (answered v (get_or f.pending j Gone))) i Gone)
+                  (sym at)
+                  ∙ get_or-set_same f.pending i (answered v (get_or f.pending i Gone)) Gone here
+                  ∙ unanswered i here
+                  (let low = big_is number big in omega arith) v e
+              | inr ne ↦
+                  get_or-set_other f.pending (number - 3) i
+                  (answered v (get_or f.pending (number - 3) Gone)) Gone ne
+                  ∙ pending_other v i e here (λ same. ne (omega arith))
+            ]
+        | inr small ↦
+            ap (λ b. get_or (cond b (set f.pending (number - 3)
+            (answered v (get_or f.pending (number - 3) Gone))) f.pending) i Gone) small
+            ∙ pending_other v i e here
+            (λ same. let no : true ≡ false = sym (lt-ltb 2 number (omega arith)) ∙ small in cc)
+      ]
+
+  owed_settled : (v : Value) (number : ℕ)
+      → owed_in (settled s.mode number v f.pending) ≡ owed_in f.pending
+  owed_settled v number = grind (arith, owed_answered)
 
   pub reflects_reply : (v : Value) (number : ℕ) → kind_of v ≡ Reply
       → nat_le (numbers s log) (length (replies s.mode Main log)) ≡ false
@@ -143,7 +164,7 @@ module _ (s : Setup) (log : List LogEntry) (f : Fields) (k : Reflects s log f) w
         pending_count = length_settled v number ∙ k.pending_count;
         pending_is = λ i l. pending_settled v number i e is (omega (arith, k.pending_count)) l;
         unpolled = λ m l. k.unpolled m (omega arith);
-        owed_is = k.owed_is ∙ sym (grind (arith, cases_lt, lt-ltb, owed_there, waits, le-ltb));
+        owed_is = k.owed_is ∙ sym (owed_settled v number);
         marks_is =
             ap (without_number number) k.marks_is
             ∙ ap (λ m. without_number m (marks_by (open_fetch s log) f.replied (numbers s log)))

@@ -1,6 +1,7 @@
 -- What each entry of the log does to what is held, to the fetches and to the replies.
-use Rattle.std.proofs.Common.{◌≡◌, ◌+◌, ◌≤◌, ◌++◌, ◌&&◌, ◌||◌, ℕ, suc, List, ◌∷◌, length, Bool}
+use Rattle.std.proofs.Common.{◌≡◌, ◌+◌, ◌≤◌, ◌++◌, ◌&&◌, ◌||◌, ℕ, List, ◌∷◌, length, Bool}
 use Rattle.std.proofs.Common.{true, false, not, Option, Some, None, ap, ◌∙◌, arith, append-nil}
+use Rattle.std.proofs.Common.{ne_eqb}
 use Rattle.std.specs.Prelude.{nat_le}
 use Rattle.std.specs.List.{filter}
 use Rattle.std.proofs.lemmas.Bool.{lt-leb}
@@ -13,10 +14,13 @@ use Rattle.shared_cache.specs.declared.log.LogEntry.TheVariants.{Ask, Send, Got}
 use Rattle.shared_cache.specs.declared.entry.CacheEntry.{CacheEntry}
 use Rattle.shared_cache.specs.declared.notices.Notice.TheVariants.{Reply}
 use Rattle.shared_cache.specs.Notices.{kind_of, invalidates, is_reply}
-use Rattle.shared_cache.specs.Log.{replies, with_reply, caching_on, caching_on_for}
+use Rattle.shared_cache.specs.Log.{replies, with_reply, caching_on_for}
 use Rattle.shared_cache.specs.Held.{Setup, Key, Words, put_ask, put_read, numbers, held_for, hit_of}
 use Rattle.shared_cache.specs.Held.{used_at, other_than, fetched, hold, held_by, filled_by}
 use Rattle.shared_cache.specs.Held.{leaving, is_key, sent, open_fetch, left, last_use, held}
+use Rattle.shared_cache.specs.Held.{read_lead}
+use Rattle.shared_cache.specs.Steps.{read_number}
+use Rattle.shared_cache.proofs.Led.{led_some}
 use Rattle.shared_cache.proofs.Filled.{is_gone, filled}
 use Rattle.shared_cache.proofs.Fetches.{stays}
 use Rattle.shared_cache.proofs.HeldLists.{held_filter, held_same, none_held}
@@ -40,17 +44,29 @@ module _ (s : Setup) (log : List LogEntry) (q : Words) (h : CacheEntry)
 
 -- ---- an Ask that is none
 
+hold_other : (q : Words) (o : Option Words) (gone : Bool) (v : Value) (n : ℕ)
+    → hold (other_than q o) gone v n
+    ≡ filter (λ h. not (same_query h.query q)) (hold o gone v n)
+hold_other q o gone v n = grind arith
+
 module _ (s : Setup) (log : List LogEntry) (q : Words) (e : held_for q (held s log) ≡ None) where
   pub sent_miss : sent s (Ask q ∷ log) ≡ sent s log ++ put_read s.mode
       (caching_on_for s.mode log (key_of q)) q
   sent_miss = ap (λ o. sent s log ++ put_ask o s.mode (caching_on_for s.mode log (key_of q)) q) e
 
+  pub open_other : (n : ℕ) → (n ≡ read_number s log q → ⊥)
+      → open_fetch s (Ask q ∷ log) n ≡ other_than q (open_fetch s log n)
+  open_other n ne = grind (arith, ne_eqb)
+
   pub open_old : (n : ℕ) → n ≤ numbers s log
       → open_fetch s (Ask q ∷ log) n ≡ other_than q (open_fetch s log n)
-  open_old n le = grind arith
+  open_old n le =
+      open_other n
+      (let more = led_some (read_lead s.mode.caching (caching_on_for s.mode log (key_of q))) q in
+      λ e. omega arith)
 
-  pub open_new : (on : Bool) → caching_on s.mode log ≡ on
-      → open_fetch s (Ask q ∷ log) (suc (numbers s log)) ≡ fetched on q
+  pub open_new : (on : Bool) → caching_on_for s.mode log (key_of q) ≡ on
+      → open_fetch s (Ask q ∷ log) (read_number s log q) ≡ fetched on q
   open_new on c = grind arith
 
   pub held_miss : length (replies s.mode Main log) ≤ numbers s log
@@ -58,7 +74,8 @@ module _ (s : Setup) (log : List LogEntry) (q : Words) (e : held_for q (held s l
   held_miss within =
       held_filter (open_fetch s log) (open_fetch s (Ask q ∷ log)) (left s log) (left s log)
       (λ (h : CacheEntry). not (same_query h.query q)) (replies s.mode Main log)
-      (grind arith)
+      (λ n v le. ap (λ o. hold o (left s log n) v n) (open_old n (omega arith))
+      ∙ hold_other q (open_fetch s log n) (left s log n) v n)
       ∙ none_held q (held s log) e
 
   pub use_miss : (k : Key) → last_use s (Ask q ∷ log) k ≡ last_use s log k

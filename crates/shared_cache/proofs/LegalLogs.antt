@@ -16,7 +16,7 @@ use Rattle.shared_cache.specs.declared.log.LogEntry.TheVariants.{Ask, Send, Poll
 use Rattle.shared_cache.specs.declared.log.LogEntry.TheVariants.{Bad}
 use Rattle.shared_cache.specs.declared.notices.Notice.{Notice}
 use Rattle.shared_cache.specs.Notices.{notice_of}
-use Rattle.shared_cache.specs.Log.{replies, with_reply, is_wire, is_ready}
+use Rattle.shared_cache.specs.Log.{replies, with_reply, is_wire, is_ready, caching_on}
 use Rattle.shared_cache.specs.Held.{Setup, put_command, numbers, sent}
 use Rattle.shared_cache.specs.Steps.{ClientTurn, refusing, judged, fault_of, client_step}
 use Rattle.std.proofs.lemmas.Bool.{not-false}
@@ -85,7 +85,7 @@ pub replies_within : (s : Setup) (log : List LogEntry) → LegalLog s log
 replies_within s [] l = omega arith
 replies_within s (Ask q ∷ log) l = grind (arith, length-append, replies_within s log l.0)
 replies_within s (Send ws ∷ log) l = let w = replies_within s log l.0 in
-    omega (arith, length-append (sent s log) (put_command s.mode ws))
+    omega (arith, length-append (sent s log) (put_command s.mode (caching_on s.mode log) ws))
 replies_within s (Poll n ∷ log) l = replies_within s log l.0
 replies_within s (TakeOut w n ∷ log) l = replies_within s log l.0
 replies_within s (Got w v ∷ log) l =

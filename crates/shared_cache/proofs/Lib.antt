@@ -1,5 +1,6 @@
 pub mod KeyTests
 pub mod Every
+pub mod Led
 pub mod Fetches
 pub mod Bytes
 pub mod HeldLists

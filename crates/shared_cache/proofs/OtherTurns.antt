@@ -1,11 +1,12 @@
 -- After a turn that neither asks nor gets, the fields are what the log says.
-use Rattle.std.proofs.Common.{◌≡◌, ◌==◌, ◌+◌, ◌-◌, ◌<◌, ◌≤◌, ◌++◌, ◌||◌, ℕ, suc, List, []}
-use Rattle.std.proofs.Common.{◌∷◌, length, set, get_or, Bool, true, false, not, Option, None}
-use Rattle.std.proofs.Common.{sym, ap, ◌∙◌, refl, arith, append-nil, length-append, ne_eqb, eq-eqb}
-use Rattle.std.proofs.Common.{below_more, length-set}
-use Rattle.std.specs.List.{filter, flat_map}
-use Rattle.std.proofs.lemmas.List.{get_or_push, get_or_append_left, get_or-set_same}
-use Rattle.std.proofs.lemmas.List.{get_or-set_other}
+use Rattle.std.proofs.Common.{◌≡◌, ◌==◌, ◌+◌, ◌-◌, ◌<◌, ◌≤◌, ◌++◌, ◌||◌, ℕ, List, []}
+use Rattle.std.proofs.Common.{◌∷◌, length, set, get_or, Bool, true, false, not, cond, Option}
+use Rattle.std.proofs.Common.{Some, None, sym, ap, ◌∙◌, refl, arith, append_assoc, length-append}
+use Rattle.std.proofs.Common.{ne_eqb, eq-eqb, length-set, inl, inr, ◌&&◌}
+use Rattle.std.specs.List.{filter, flat_map, slice_get}
+use Rattle.std.proofs.lemmas.Bool.{lt-ltb, cases_eq, or_from, or_left}
+use Rattle.std.specs.Prelude.{nat_lt}
+use Rattle.std.proofs.lemmas.List.{get_or-set_same, get_or-set_other}
 use Rattle.resp_value.specs.Spelling.{request_spelling}
 use Rattle.resp_value.specs.declared.value.Value.{Value}
 use Rattle.command_words.specs.Queries.{key_of, names, writes, written_by}
@@ -19,12 +20,16 @@ use Rattle.shared_cache.specs.declared.log.LogEntry.TheVariants.{Send, Poll, End
 use Rattle.shared_cache.specs.declared.entry.PendingReply.{PendingReply}
 use Rattle.shared_cache.specs.declared.entry.PendingReply.TheVariants.{Waiting, There, Gone}
 use Rattle.shared_cache.specs.Log.{handshake, handshake_length, first_number, replies, is_wire}
-use Rattle.shared_cache.specs.Log.{is_ended}
-use Rattle.shared_cache.specs.Held.{Setup, Words, Caller, put_command, sent, open_fetch, left}
-use Rattle.shared_cache.specs.Held.{last_use, held, held_for, held_in_place, numbers}
-use Rattle.shared_cache.specs.Out.{is_polled, untaken}
+use Rattle.shared_cache.specs.Log.{reply, reply_in, is_ended, caching_on}
+use Rattle.shared_cache.specs.declared.lead.CachingWord.{CachingWord}
+use Rattle.shared_cache.specs.Held.{Setup, Words, SentCommand, caching_command, led_by, send_lead}
+use Rattle.shared_cache.specs.Held.{is_read, sent, open_fetch, left, last_use, held, held_for}
+use Rattle.shared_cache.specs.Held.{held_in_place, numbers}
+use Rattle.shared_cache.specs.Out.{is_polled, is_caller, is_callers, was_given, is_wanted}
+use Rattle.shared_cache.specs.Out.{untaken}
 use Rattle.shared_cache.specs.HeldKeys.{KeysHeld, found_in, listed, with_pairs, forgotten}
-use Rattle.shared_cache.specs.ClientFields.{Fields, Reflects, IsLast, pending_at, marks_by}
+use Rattle.shared_cache.specs.ClientFields.{Fields, Reflects, IsLast, there, pending_at}
+use Rattle.shared_cache.specs.ClientFields.{waits_for}
 use Rattle.shared_cache.proofs.Fetches.{beyond, unless_none}
 use Rattle.shared_cache.proofs.HeldLists.{held_none}
 use Rattle.shared_cache.proofs.Keeps.{keeps_none, keeps_forgotten, keeps_same}
@@ -32,34 +37,93 @@ use Rattle.shared_cache.proofs.KeyPairs.{pairs_found}
 use Rattle.shared_cache.proofs.Places.{pairs_placed}
 use Rattle.shared_cache.proofs.HeldSteps.{held_send}
 use Rattle.shared_cache.proofs.MarkLists.{marks_none, marks_filter, mark_unless}
-use Rattle.shared_cache.proofs.Bytes.{untaken_one, untaken_same, untaken_none}
-use Rattle.shared_cache.proofs.PendingLists.{no_reply, has_reply, owed_push, owed_gone, gone_is}
-use Rattle.shared_cache.proofs.StepCases.{poll_unwanted, poll_wanted, handed, high, wanted}
+use Rattle.shared_cache.proofs.Bytes.{bytes_of, untaken_more, untaken_same, untaken_none}
+use Rattle.shared_cache.proofs.PendingLists.{no_reply, has_reply, owed_gone, gone_is, waiting_is}
+use Rattle.shared_cache.proofs.PendingLists.{there_is}
+use Rattle.shared_cache.proofs.Led.{own, get_left, get_behind, count_waits, owed_led, says_led}
+use Rattle.shared_cache.proofs.Led.{marks_led}
+use Rattle.shared_cache.proofs.StepCases.{poll_unwanted, poll_wanted, high, handed}
 use Rattle.shared_cache.specs.Steps.{client_step, polling, refusing}
 use Rattle.shared_cache.specs.declared.log.ClientCall.TheVariants as call
 use Rattle.shared_cache.specs.declared.log.ClientReply.TheVariants.{Answer}
 use Rattle.shared_cache.specs.declared.log.ClientRefusal.TheVariants.{NoNumber}
 
--- marks of one number more, which has no fetch
-pub marks_plus_none : (open_of : ℕ → Option Words) (replied n m : ℕ) → m ≡ suc n
-    → open_of (suc n) ≡ None → marks_by open_of replied m ≡ marks_by open_of replied n
-marks_plus_none open_of replied n m e none = grind (arith, append-nil)
+-- ---- what waits, by the commands that are sent
 
--- the pending replies with one number more
-pub pending_push : (s : Setup) (log : List LogEntry) (e : LogEntry) (pending : List PendingReply)
-    (replied : ℕ)
-    → ((i : ℕ) → i < length pending
-    → get_or pending i Gone ≡ pending_at s.mode log (i + first_number s.mode))
-    → ((n : ℕ) → is_polled (e ∷ log) n ≡ is_polled log n)
-    → replies s.mode Main (e ∷ log) ≡ replies s.mode Main log
-    → replied ≡ length (replies s.mode Main log)
-    → replied ≤ length pending + handshake_length s.mode
-    → ((n : ℕ) → replied < n → is_polled log n ≡ false)
-    → (i : ℕ) → i < length (pending ++ Waiting ∷ [])
-    → get_or (pending ++ Waiting ∷ []) i Gone ≡ pending_at s.mode (e ∷ log)
-    (i + first_number s.mode)
-pending_push s log e pending replied each polled same count within un i lt =
-    grind (arith, below_more, get_or_append_left, get_or_push, no_reply, length-append)
+-- a number that was sent before is wanted as before
+wanted_before : (s : Setup) (log : List LogEntry) (e : LogEntry) (cs : List SentCommand) (i : ℕ)
+    → sent s (e ∷ log) ≡ sent s log ++ cs
+    → is_polled (e ∷ log) (i + 3) ≡ is_polled log (i + 3) → i < length (sent s log)
+    → is_wanted s (e ∷ log) (i + 3) ≡ is_wanted s log (i + 3)
+wanted_before s log e cs i more polled lt = grind (arith, get_left)
+
+wanted_new : (s : Setup) (new : List LogEntry) (c : SentCommand) (i : ℕ)
+    → slice_get (sent s new) i ≡ Some c → is_polled new (i + 3) ≡ false
+    → is_wanted s new (i + 3) ≡ is_caller c.origin
+wanted_new s new c i at polled = grind (arith, lt-ltb)
+
+-- what is pending is as before where nothing is sent, handed out or got
+pub pending_same : (s : Setup) (log new : List LogEntry) → sent s new ≡ sent s log
+    → ((n : ℕ) → is_polled new n ≡ is_polled log n)
+    → replies s.mode Main new ≡ replies s.mode Main log
+    → (n : ℕ) → pending_at s new n ≡ pending_at s log n
+pending_same s log new more polled got n = λ i.
+    cond ((nat_lt (handshake_length s.mode) n
+    && is_callers (slice_get (more i) (n - first_number s.mode))) && not (polled n i))
+    (there (reply_in n (got i))) Gone
+
+waits_at : (b : Bool) (o : Option Value) → o ≡ None → cond b (there o) Gone ≡ cond b Waiting Gone
+waits_at b o e = ap (λ p. cond b (there p) Gone) e
+
+at_length : (xs ys zs : List SentCommand) (c : SentCommand)
+    → slice_get (xs ++ (ys ++ c ∷ zs)) (length xs + length ys) ≡ Some c
+at_length xs ys zs c =
+    ap (λ l. slice_get l (length xs + length ys)) (sym (append_assoc xs ys (c ∷ zs)))
+    ∙ ap (slice_get ((xs ++ ys) ++ c ∷ zs)) (sym (length-append xs ys))
+    ∙ get_behind (xs ++ ys) zs c
+
+-- the pending replies with a caller's command more, and with what goes before it
+module _ (s : Setup) (log : List LogEntry) (e : LogEntry) (pending : List PendingReply)
+    (replied : ℕ) (l : Option CachingWord) (ws : Words)
+    (more : sent s (e ∷ log) ≡ sent s log ++ led_by l ws)
+    (count : length pending ≡ length (sent s log))
+    (each : (i : ℕ) → i < length pending
+    → get_or pending i Gone ≡ pending_at s log (i + first_number s.mode))
+    (polled : (n : ℕ) → is_polled (e ∷ log) n ≡ is_polled log n)
+    (same : replies s.mode Main (e ∷ log) ≡ replies s.mode Main log)
+    (replied_is : replied ≡ length (replies s.mode Main log))
+    (within : replied ≤ length pending + handshake_length s.mode)
+    (un : (n : ℕ) → replied < n → is_polled log n ≡ false) where
+  kept_old : (i : ℕ) → i < length pending
+      → get_or pending i Gone ≡ pending_at s (e ∷ log) (i + first_number s.mode)
+  kept_old i lt =
+      each i lt
+      ∙ (λ j. cond (sym (wanted_before s log e (led_by l ws) i more (polled (i + 3))
+      (omega (arith, count))) j) (there (reply_in (i + 3) (sym same j))) Gone)
+
+  waits_new : (i : ℕ) (c : SentCommand) → length pending ≤ i
+      → slice_get (sent s (e ∷ log)) i ≡ Some c
+      → pending_at s (e ∷ log) (i + first_number s.mode) ≡ cond (is_caller c.origin) Waiting Gone
+  waits_new i c le at =
+      waits_at (is_wanted s (e ∷ log) (i + 3)) (reply_in (i + 3) (replies s.mode Main (e ∷ log)))
+      (ap (reply_in (i + 3)) same
+      ∙ no_reply (i + 3) (replies s.mode Main log) (omega arith))
+      ∙ ap (λ b. cond b Waiting Gone)
+      (wanted_new s (e ∷ log) c i at (polled (i + 3) ∙ un (i + 3) (omega arith)))
+
+  pub pending_put : (i : ℕ) → i < length (pending ++ waits_for l)
+      → get_or (pending ++ waits_for l) i Gone ≡ pending_at s (e ∷ log) (i + first_number s.mode)
+  pending_put =
+      says_led (λ i. pending_at s (e ∷ log) (i + first_number s.mode)) pending l ws kept_old
+      (λ at. waits_new (length pending + length at.front) (own ws) (omega arith)
+      (ap (λ cs. slice_get cs (length pending + length at.front))
+      (more ∙ ap (λ cs. sent s log ++ cs) at.parts)
+      ∙ ap (λ n. slice_get (sent s log ++ (at.front ++ own ws ∷ [])) (n + length at.front)) count
+      ∙ at_length (sent s log) at.front [] (own ws)))
+      (λ w zs at. waits_new (length pending) (caching_command w) (omega arith)
+      (ap (λ cs. slice_get cs (length pending)) (more ∙ ap (λ cs. sent s log ++ cs) at)
+      ∙ ap (λ n. slice_get (sent s log ++ (caching_command w ∷ zs)) n) (count ∙ omega arith)
+      ∙ at_length (sent s log) [] zs (caching_command w)))
 
 module _ (s : Setup) (log : List LogEntry) (f : Fields) (k : Reflects s log f) where
   reflects_end : (w : Wire) → w ≡ Main
@@ -108,69 +172,100 @@ module _ (s : Setup) (log : List LogEntry) (f : Fields) (k : Reflects s log f) w
   reflects_last (Bad w v) e = reflects_bad w v e
   reflects_last h e = absurd e
 
-  pub reflects_send : (ws : Words) (w : Written) → w ≡ written_by ws
+  pub reflects_send : (ws : Words) (w : Written) (l : Option CachingWord) → w ≡ written_by ws
+      → l ≡ send_lead s.mode.caching (caching_on s.mode log) (is_read ws)
       → Reflects s (Send ws ∷ log) (record f {
-        queued = f.queued ++ request_spelling ws;
-        pending = f.pending ++ Waiting ∷ [];
+        queued = f.queued ++ bytes_of (led_by l ws);
+        pending = f.pending ++ waits_for l;
         owed = f.owed + 1;
         marks = filter (λ m. not (writes ws (key_of m.query))) f.marks;
         keys = with_pairs (forgotten w f.keys.pairs) f.keys;
       })
-  reflects_send ws w by = let more = length-append (sent s log) (put_command s.mode ws) in record {
-    queued_is = ap (λ l. l ++ request_spelling ws) k.queued_is
-        ∙ sym (untaken_one s log (Send ws ∷ log)
-        (record { words = ws; origin = Caller }) refl refl);
-    replied_is = k.replied_is;
-    replied_within = let w = k.replied_within in omega (arith, more);
-    ready_is = k.ready_is;
-    pending_count = length-append f.pending (Waiting ∷ []) ∙ ap (λ n. n + 1) k.pending_count
-        ∙ sym more;
-    pending_is =
-        pending_push s log (Send ws) f.pending f.replied k.pending_is (λ n. refl) refl k.replied_is
-        (let w = k.replied_within in omega (arith, k.pending_count)) k.unpolled;
-    unpolled = k.unpolled;
-    owed_is = ap (λ n. n + 1) k.owed_is ∙ sym (owed_push f.pending);
-    marks_is =
-        ap (filter (λ (m : Mark). not (writes ws (key_of m.query)))) k.marks_is
-        ∙ sym (marks_filter (open_fetch s log) (open_fetch s (Send ws ∷ log))
-        (λ (m : Mark). not (writes ws (key_of m.query))) f.replied (numbers s log)
-        (λ n le. mark_unless (writes ws) n (open_fetch s log n)))
-        ∙ sym (marks_plus_none (open_fetch s (Send ws ∷ log)) f.replied (numbers s log)
-        (numbers s (Send ws ∷ log)) (omega (arith, more))
-        (unless_none (writes ws) (open_fetch s log (suc (numbers s log)))
-        (beyond s log (suc (numbers s log)) (omega arith))));
-    keys_is = keeps_same s.capacity (last_use s log) (last_use s log) _ _ _ (λ j. refl)
-        (held_send s log ws ∙ ap (λ x. filter (λ (h : CacheEntry). not (names x (key_of h.query)))
-        (held s log)) (sym by))
-        (keeps_forgotten s.capacity (last_use s log) (held s log) f.keys k.keys_is w);
-    ended_is = k.ended_is;
-    side_is = k.side_is;
-    broken_is = k.broken_is;
-  }
+  reflects_send ws w l by is =
+      let put : sent s (Send ws ∷ log) ≡ sent s log ++ led_by l ws
+      = ap (λ o. sent s log ++ led_by o ws) (sym is) in
+      let more = ap length put in
+      let all = length-append (sent s log) (led_by l ws) in
+      record {
+        queued_is = ap (λ b. b ++ bytes_of (led_by l ws)) k.queued_is
+            ∙ sym (untaken_more s log (Send ws ∷ log) (led_by l ws) put refl);
+        replied_is = k.replied_is;
+        replied_within = let w = k.replied_within in omega (arith, more, all);
+        ready_is = k.ready_is;
+        pending_count = length-append f.pending (waits_for l)
+            ∙ (λ i. k.pending_count i + count_waits l ws i) ∙ sym all ∙ sym more;
+        pending_is =
+            pending_put s log (Send ws) f.pending f.replied l ws put k.pending_count k.pending_is
+            (λ n. refl) refl k.replied_is
+            (let w = k.replied_within in omega (arith, k.pending_count)) k.unpolled;
+        unpolled = k.unpolled;
+        owed_is = ap (λ n. n + 1) k.owed_is ∙ sym (owed_led f.pending l);
+        marks_is =
+            ap (filter (λ (m : Mark). not (writes ws (key_of m.query)))) k.marks_is
+            ∙ sym (marks_filter (open_fetch s log) (open_fetch s (Send ws ∷ log))
+            (λ (m : Mark). not (writes ws (key_of m.query))) f.replied (numbers s log)
+            (λ n le. mark_unless (writes ws) n (open_fetch s log n)))
+            ∙ sym (marks_led (open_fetch s (Send ws ∷ log)) f.replied (numbers s log)
+            (numbers s (Send ws ∷ log)) l ws (omega (arith, more, all))
+            (λ j lt. unless_none (writes ws) (open_fetch s log j) (beyond s log j lt)));
+        keys_is = keeps_same s.capacity (last_use s log) (last_use s log) _ _ _ (λ j. refl)
+            (held_send s log ws
+            ∙ ap (λ x. filter (λ (h : CacheEntry). not (names x (key_of h.query))) (held s log))
+            (sym by))
+            (keeps_forgotten s.capacity (last_use s log) (held s log) f.keys k.keys_is w);
+        ended_is = k.ended_is;
+        side_is = k.side_is;
+        broken_is = k.broken_is;
+      }
 
   -- what a pending reply says of its number
   pub number_there : (i : ℕ) (v : Value) → i < length f.pending → get_or f.pending i Gone ≡ There v
       → i + first_number s.mode ≤ f.replied
   number_there i v lt e = grind (arith, has_reply)
 
+  pending_polled : (n i j : ℕ) → n ≡ i + first_number s.mode → i < length f.pending
+      → j < length f.pending
+      → get_or (set f.pending i Gone) j Gone ≡ pending_at s (Poll n ∷ log) (j + first_number s.mode)
+  pending_polled n i j e lt l = elim (cases_eq j i) [
+    | inl is ↦
+        ap (λ x. get_or (set f.pending i Gone) x Gone) is
+        ∙ get_or-set_same f.pending i Gone Gone lt
+        ∙ sym (ap (λ b. cond b (there (reply_in (j + 3) (replies s.mode Main log))) Gone)
+        (handed s (Poll n ∷ log) (j + 3)
+        (or_left _ _ (eq-eqb _ _ (let g : n ≡ j + 3 = omega arith in g)))))
+    | inr ne ↦
+        get_or-set_other f.pending i j Gone Gone ne
+        ∙ k.pending_is j l
+        ∙ ap (λ b. cond (was_given s log (j + 3) && not (b || is_polled log (j + 3)))
+        (there (reply_in (j + 3) (replies s.mode Main log))) Gone)
+        (sym (ne_eqb n (j + 3) (λ same. ne (omega arith))))
+  ]
+
   pub reflects_poll : (n i : ℕ) (v : Value) → n ≡ i + first_number s.mode → i < length f.pending
       → get_or f.pending i Gone ≡ There v
       → Reflects s (Poll n ∷ log) (record f { pending = set f.pending i Gone; owed = f.owed - 1 })
-  reflects_poll n i v e lt is = grind (
-    arith,
-    untaken_same,
-    length-set,
-    get_or-set_same,
-    eq-eqb,
-    get_or-set_other,
-    ne_eqb,
-    number_there,
-    owed_gone,
-  )
+  reflects_poll n i v e lt is = record {
+    queued_is = k.queued_is ∙ sym (untaken_same s log (Poll n ∷ log) refl refl);
+    replied_is = k.replied_is;
+    replied_within = k.replied_within;
+    ready_is = k.ready_is;
+    pending_count = length-set f.pending i Gone ∙ k.pending_count;
+    pending_is = λ j l. pending_polled n i j e lt
+        (let same = length-set f.pending i Gone in omega arith);
+    unpolled = λ m l.
+        let t = number_there i v lt is in
+        or_from _ _ (ne_eqb _ _ (λ same. omega arith)) (k.unpolled m l);
+    owed_is = let one = owed_gone f.pending i v is in let w = k.owed_is in omega arith;
+    marks_is = k.marks_is;
+    keys_is = k.keys_is;
+    ended_is = k.ended_is;
+    side_is = k.side_is;
+    broken_is = k.broken_is;
+  }
 
   -- a Poll, by what stands for its number
   standing : (n : ℕ) → handshake_length s.mode < n → n ≤ length f.pending + handshake_length s.mode
-      → get_or f.pending (n - 2 - 1) Gone ≡ pending_at s.mode log n
+      → get_or f.pending (n - 2 - 1) Gone ≡ pending_at s log n
   standing n low within = grind arith
 
   pub poll_past : (n : ℕ) → length f.pending + handshake_length s.mode < n
@@ -181,15 +276,23 @@ module _ (s : Setup) (log : List LogEntry) (f : Fields) (k : Reflects s log f) w
       (within : n ≤ length f.pending + handshake_length s.mode) where
     pub poll_gone : get_or f.pending (n - 2 - 1) Gone ≡ Gone
         → client_step s log (call.Poll n) ≡ refusing (NoNumber n) log
-    poll_gone e = grind (arith, poll_unwanted, handed, gone_is, standing)
+    poll_gone e =
+        poll_unwanted s log n
+        (gone_is (is_wanted s log n) (reply s.mode log n) (sym (standing n low within) ∙ e))
 
     pub poll_waits : (over : Bool) → get_or f.pending (n - 2 - 1) Gone ≡ Waiting → f.ended ≡ over
         → client_step s log (call.Poll n) ≡ polling None n over log
-    poll_waits over e ended = grind (arith, standing, poll_wanted, wanted)
+    poll_waits over e ended =
+        let w = waiting_is (is_wanted s log n) (reply s.mode log n)
+        (sym (standing n low within) ∙ e) in
+        poll_wanted s log n None over w.0 w.1 (sym k.ended_is ∙ ended)
 
     pub poll_there : (v : Value) → get_or f.pending (n - 2 - 1) Gone ≡ There v
         → client_step s log (call.Poll n) ≡ record { reply = Answer v; past = Poll n ∷ log }
-    poll_there v e = grind (arith, standing, poll_wanted, wanted)
+    poll_there v e =
+        let w = there_is (is_wanted s log n) (reply s.mode log n) v
+        (sym (standing n low within) ∙ e) in
+        poll_wanted s log n (Some v) (is_ended s.mode Main log) w.0 w.1 refl
 
   -- what the keys say of what is held
   pub query_found : (q : Words) (keys : KeysHeld) → keys ≡ f.keys

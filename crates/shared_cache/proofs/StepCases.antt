@@ -1,9 +1,9 @@
 -- What a turn is, by what its checks found.
-use Rattle.std.proofs.Common.{◌≡◌, ◌==◌, ◌+◌, ◌<◌, ◌≤◌, ℕ, zero, suc, List, [], ◌∷◌, length, take}
+use Rattle.std.proofs.Common.{◌≡◌, ◌==◌, ◌+◌, ◌<◌, ◌≤◌, ℕ, List, [], ◌∷◌, length, take}
 use Rattle.std.proofs.Common.{Bool, true, false, cond, not, Option, Some, None, sym, ap, ◌∙◌, refl}
 use Rattle.std.proofs.Common.{arith}
 use Rattle.std.specs.Prelude.{nat_le}
-use Rattle.std.proofs.lemmas.Bool.{and_left, and_right, and_from, lt-ltb}
+use Rattle.std.proofs.lemmas.Bool.{and_left, and_right}
 use Rattle.resp_value.specs.declared.value.Value.{Value}
 use Rattle.command_words.specs.Control.{is_control}
 use Rattle.shared_cache.specs.declared.log.Wire.TheVariants.{Main}
@@ -26,11 +26,11 @@ use Rattle.shared_cache.specs.declared.notices.Notice.TheVariants.{Malformed}
 use Rattle.shared_cache.specs.Notices.{kind_of, IsPush}
 use Rattle.shared_cache.specs.Log.{handshake_length, replies, reply, is_ended, is_ready}
 use Rattle.shared_cache.specs.Held.{Setup, Words, Caller, SentCommand, sent, put_ask, held}
-use Rattle.shared_cache.specs.Held.{held_for, numbers}
-use Rattle.shared_cache.specs.Out.{untaken, is_polled, is_caller, is_callers, was_given, is_wanted}
+use Rattle.shared_cache.specs.Held.{held_for, numbers, put_command}
+use Rattle.shared_cache.specs.declared.log.Caching.TheVariants.{Default}
+use Rattle.shared_cache.specs.Out.{untaken, is_polled, was_given, is_wanted}
 use Rattle.shared_cache.specs.Laws.{Every}
 use Rattle.shared_cache.proofs.Every.{every_append}
-use Rattle.std.specs.List.{slice_get}
 use Rattle.std.proofs.lemmas.Option.{slice_get_past}
 use Rattle.shared_cache.specs.declared.log.ClientMode.{ClientMode}
 use Rattle.shared_cache.specs.Steps.{refusing, is_log_full, read_number, command_number, answer_ask}
@@ -51,29 +51,28 @@ pub ran_out : (s : Setup) (log new : List LogEntry) (call : ClientCall) (e : Log
     → MayRunOut s log call × (new ≡ log)
 ran_out s log new call e r room is same = grind arith
 
--- ---- each command after the handshake is a caller's
+-- ---- in default mode each command after the handshake is a caller's
 
 ask_callers : (o : Option CacheEntry) (m : ClientMode) (on : Bool) (q : Words)
-    → Every (λ (c : SentCommand). c.origin ≡ Caller) (put_ask o m on q)
-ask_callers o m on q = grind arith
+    → m.caching ≡ Default → Every (λ (c : SentCommand). c.origin ≡ Caller) (put_ask o m on q)
+ask_callers o m on q e = grind arith
 
-pub sent_callers : (s : Setup) (log : List LogEntry)
+send_callers : (m : ClientMode) (on : Bool) (ws : Words)
+    → m.caching ≡ Default → Every (λ (c : SentCommand). c.origin ≡ Caller) (put_command m on ws)
+send_callers m on ws e = grind arith
+
+pub sent_callers : (s : Setup) (log : List LogEntry) → s.mode.caching ≡ Default
     → Every (λ (c : SentCommand). c.origin ≡ Caller) (sent s log)
-sent_callers s [] = tt
-sent_callers s (entry.Ask q ∷ log) = grind (arith, every_append, ask_callers, sent_callers s log)
-sent_callers s (entry.Send ws ∷ log) = grind (arith, every_append, sent_callers s log)
-sent_callers s (entry.Poll n ∷ log) = sent_callers s log
-sent_callers s (entry.TakeOut w n ∷ log) = sent_callers s log
-sent_callers s (entry.Got w v ∷ log) = sent_callers s log
-sent_callers s (entry.End w ∷ log) = sent_callers s log
-sent_callers s (entry.Bad w v ∷ log) = sent_callers s log
-
-callers_at : (cs : List SentCommand) (i : ℕ)
-    → Every (λ (c : SentCommand). c.origin ≡ Caller) cs → i < length cs
-    → is_callers (slice_get cs i) ≡ true
-callers_at [] i all lt = absurd (omega arith)
-callers_at (c ∷ cs) zero all lt = ap is_caller all.0
-callers_at (c ∷ cs) (suc i) all lt = callers_at cs i all.1 (omega arith)
+sent_callers s [] e = tt
+sent_callers s (entry.Ask q ∷ log) e =
+    grind (arith, every_append, ask_callers, sent_callers s log e)
+sent_callers s (entry.Send ws ∷ log) e =
+    grind (arith, every_append, send_callers, sent_callers s log e)
+sent_callers s (entry.Poll n ∷ log) e = sent_callers s log e
+sent_callers s (entry.TakeOut w n ∷ log) e = sent_callers s log e
+sent_callers s (entry.Got w v ∷ log) e = sent_callers s log e
+sent_callers s (entry.End w ∷ log) e = sent_callers s log e
+sent_callers s (entry.Bad w v ∷ log) e = sent_callers s log e
 
 module _ (s : Setup) (log : List LogEntry) where
   pub ask_down : (q : Words) → is_ended s.mode Main log ≡ true
@@ -269,15 +268,11 @@ module _ (s : Setup) (log : List LogEntry) where
   unwanted : (n : ℕ) → was_given s log n ≡ false → is_wanted s log n ≡ false
   unwanted n h = and_left (was_given s log n) (not (is_polled log n)) h
 
+  pub handed : (n : ℕ) → is_polled log n ≡ true → is_wanted s log n ≡ false
+  handed n h = and_right (was_given s log n) (not (is_polled log n)) (ap not h)
+
   pub low : (n : ℕ) → n ≤ handshake_length s.mode → is_wanted s log n ≡ false
   low n h = grind arith
 
   pub high : (n : ℕ) → numbers s log < n → is_wanted s log n ≡ false
   high n h = grind (arith, unwanted, and_right, slice_get_past)
-
-  pub handed : (n : ℕ) → is_polled log n ≡ true → is_wanted s log n ≡ false
-  handed n h = and_right (was_given s log n) (not (is_polled log n)) (ap not h)
-
-  pub wanted : (n : ℕ) → handshake_length s.mode < n → n ≤ numbers s log → is_polled log n ≡ false
-      → is_wanted s log n ≡ true
-  wanted n b w h = grind (arith, and_from, lt-ltb, callers_at, sent_callers)

@@ -11,12 +11,13 @@ use Rattle.shared_cache.specs.declared.log.Caching.TheVariants.{Default}
 use Rattle.shared_cache.specs.declared.log.ClientMode.{ClientMode}
 use Rattle.shared_cache.specs.declared.log.LogEntry.{LogEntry}
 use Rattle.shared_cache.specs.declared.log.LogEntry.TheVariants as entry
+use Rattle.shared_cache.specs.declared.lead.CachingWord.{CachingWord}
 use Rattle.shared_cache.specs.declared.entry.PendingReply.{PendingReply}
 use Rattle.shared_cache.specs.declared.entry.PendingReply.TheVariants.{Waiting, There, Gone}
 use Rattle.shared_cache.specs.Log.{handshake_length, first_number, replies, reply_in, is_ready}
 use Rattle.shared_cache.specs.Log.{is_ended, is_broken}
 use Rattle.shared_cache.specs.Held.{Setup, Words, sent, open_fetch, last_use, held, numbers}
-use Rattle.shared_cache.specs.Out.{untaken, is_polled}
+use Rattle.shared_cache.specs.Out.{untaken, is_polled, is_wanted}
 use Rattle.shared_cache.specs.HeldKeys.{KeysHeld, Keeps}
 
 -- a client: its setup, and its log with the newest entry first
@@ -28,7 +29,12 @@ pub record Client : Type 0 where
 abbrev pub added : LogEntry → Client → Client
 added e c = record { setup = c.setup; past = e ∷ c.past }
 
--- the modes that are served: one link, the third protocol, default caching
+-- the modes of a client of one link, which is of the third protocol
+pub record IsOneLink (m : ClientMode) : Type 0 where
+  pub shape : m.shape ≡ Single
+  pub proto : m.proto ≡ Three
+
+-- the one of them by default: no caching word goes before a command, and every key is covered
 pub record IsServed (m : ClientMode) : Type 0 where
   pub shape : m.shape ≡ Single
   pub proto : m.proto ≡ Three
@@ -47,9 +53,15 @@ abbrev pub there : Option Value → PendingReply
 there None = Waiting
 there (Some v) = There v
 
--- the reply of that number on its way to the caller
-abbrev pub pending_at : ClientMode → List LogEntry → ℕ → PendingReply
-pending_at m log n = if is_polled log n then Gone else there (reply_in n (replies m Main log))
+-- the reply of that number on its way to the caller; nobody waits for one of the client's own
+abbrev pub pending_at : Setup → List LogEntry → ℕ → PendingReply
+pending_at s log n =
+    if is_wanted s log n then there (reply_in n (replies s.mode Main log)) else Gone
+
+-- what waits of a command that is sent, and of the one before it
+abbrev pub waits_for : Option CachingWord → List PendingReply
+waits_for None = Waiting ∷ []
+waits_for (Some w) = Gone ∷ Waiting ∷ []
 
 -- how many numbers are not handed out
 abbrev pub owed_in : List PendingReply → ℕ
@@ -58,10 +70,18 @@ owed_in (Waiting ∷ ps) = owed_in ps + 1
 owed_in (There v ∷ ps) = owed_in ps + 1
 owed_in (Gone ∷ ps) = owed_in ps
 
--- the reply of that number is there; no caller waits for the handshake's
+abbrev pub answered : Value → PendingReply → PendingReply
+answered v Waiting = There v
+answered v (There u) = There u
+answered v Gone = Gone
+
+-- the reply of that number is there, if a caller waits for it; none waits for the handshake's
 abbrev pub settled : ClientMode → ℕ → Value → List PendingReply → List PendingReply
 settled m n v ps =
-    if nat_lt (handshake_length m) n then slice_set ps (n - first_number m) (There v) else ps
+    if nat_lt (handshake_length m) n
+    then slice_set ps (n - first_number m)
+    (answered v (slice_index_or ps (n - first_number m) Gone))
+    else ps
 
 -- ---- marks: the open fetches without a reply
 
@@ -96,7 +116,7 @@ pub record Reflects (s : Setup) (log : List LogEntry) (f : Fields) : Type 0 wher
   pub ready_is : is_ready s.mode log ≡ nat_le (handshake_length s.mode) f.replied
   pub pending_count : length f.pending ≡ length (sent s log)
   pub pending_is : (i : ℕ) → i < length f.pending
-      → slice_index_or f.pending i Gone ≡ pending_at s.mode log (i + first_number s.mode)
+      → slice_index_or f.pending i Gone ≡ pending_at s log (i + first_number s.mode)
   pub unpolled : (n : ℕ) → f.replied < n → is_polled log n ≡ false
   pub owed_is : f.owed ≡ owed_in f.pending
   pub marks_is : f.marks ≡ marks_by (open_fetch s log) f.replied (numbers s log)

@@ -1,7 +1,8 @@
 -- Which fetches may fill the cache, and what the cache holds, as read off the log.
 use Rattle.std.specs.Prelude.{◌==◌, ◌+◌, ◌&&◌, ◌||◌, ◌++◌, ℕ, List, [], ◌∷◌, length, map, Bool}
 use Rattle.std.specs.Prelude.{true}
-use Rattle.std.specs.Prelude.{false, Option, Some, None, if◌then◌else◌, nat_lt, nat_le}
+use Rattle.std.specs.Prelude.{false, Option, Some, None, if◌then◌else◌, nat_lt, nat_le, codes}
+use Rattle.std.specs.Prelude.{Ok, Err, Result}
 use Rattle.std.specs.List.{list_any, flat_map}
 use Rattle.std.specs.Str.{bytes_eq}
 use Rattle.std.specs.declared.cmp.Ordering.{Ordering}
@@ -9,10 +10,17 @@ use Rattle.std.specs.Ordering.{nat_cmp, is_lt, ordering_then}
 use Rattle.std.specs.Cmp.Lexicographic.{slice_cmp}
 use Rattle.resp_value.specs.declared.value.Value.{Value}
 use Rattle.command_words.specs.Printed.{printed}
-use Rattle.command_words.specs.Queries.{key_of, same_query, writes}
+use Rattle.command_words.specs.declared.command.Command.{Command}
+use Rattle.command_words.specs.declared.command.WordFault.{WordFault}
+use Rattle.command_words.specs.Queries.{key_of, same_query, writes, read}
+use Rattle.command_words.specs.Words.{reading}
 use Rattle.shared_cache.specs.declared.log.Wire.{Wire}
 use Rattle.shared_cache.specs.declared.log.Wire.TheVariants.{Main, Side}
+use Rattle.shared_cache.specs.declared.log.Caching.{Caching}
+use Rattle.shared_cache.specs.declared.log.Caching.TheVariants.{Default, OptIn, OptOut, Bcast}
 use Rattle.shared_cache.specs.declared.log.ClientMode.{ClientMode}
+use Rattle.shared_cache.specs.declared.lead.CachingWord.{CachingWord}
+use Rattle.shared_cache.specs.declared.lead.CachingWord.TheVariants.{Yes, No}
 use Rattle.shared_cache.specs.declared.log.LogEntry.{LogEntry}
 use Rattle.shared_cache.specs.declared.log.LogEntry.TheVariants.{Ask, Send, Poll, TakeOut, Got}
 use Rattle.shared_cache.specs.declared.log.LogEntry.TheVariants.{End, Bad}
@@ -20,7 +28,8 @@ use Rattle.shared_cache.specs.declared.entry.CacheEntry.{CacheEntry}
 use Rattle.shared_cache.specs.declared.notices.Notice.{Notice}
 use Rattle.shared_cache.specs.declared.notices.Notice.TheVariants.{Reply}
 use Rattle.shared_cache.specs.Notices.{notice_of, invalidates}
-use Rattle.shared_cache.specs.Log.{handshake, handshake_length, replies, caching_on_for}
+use Rattle.shared_cache.specs.Log.{handshake, handshake_length, replies, caching_on}
+use Rattle.shared_cache.specs.Log.{caching_on_for}
 
 abbrev pub Key : Type 0
 Key = List ℕ
@@ -45,13 +54,56 @@ pub record SentCommand : Type 0 where
   pub words : Words
   pub origin : Origin
 
--- what a Send puts on Main; the last has the number that is answered
-abbrev pub put_command : ClientMode → Words → List SentCommand
-put_command m ws = record { words = ws; origin = Caller } ∷ []
+-- CLIENT CACHING, which says of the command behind it alone whether its keys are remembered
+abbrev pub word_of : CachingWord → List ℕ
+word_of Yes = codes "YES"
+word_of No = codes "NO"
 
--- what an Ask puts on Main where its fetch has caching on or off; the last is the read
+abbrev pub caching_command : CachingWord → SentCommand
+caching_command w =
+    record { words = codes "CLIENT" ∷ codes "CACHING" ∷ word_of w ∷ []; origin = Library }
+
+-- a caller's command, behind CLIENT CACHING or not; the last has the number that is answered
+abbrev pub led_by : Option CachingWord → Words → List SentCommand
+led_by None ws = record { words = ws; origin = Caller } ∷ []
+led_by (Some w) ws = caching_command w ∷ record { words = ws; origin = Caller } ∷ []
+
+-- by opting in, a read whose fetch has caching on
+abbrev pub read_lead : Caching → Bool → Option CachingWord
+read_lead OptIn true = Some Yes
+read_lead OptIn false = None
+read_lead Default on = None
+read_lead OptOut on = None
+read_lead (Bcast ps) on = None
+
+-- by opting out, a read of a Send while caching is on
+abbrev pub send_lead : Caching → Bool → Bool → Option CachingWord
+send_lead OptOut true true = Some No
+send_lead OptOut true false = None
+send_lead OptOut false reads = None
+send_lead Default on reads = None
+send_lead OptIn on reads = None
+send_lead (Bcast ps) on reads = None
+
+abbrev pub is_some_key : Words → Bool
+is_some_key [] = false
+is_some_key (k ∷ ks) = true
+
+abbrev pub reads_some : Result Command WordFault → Bool
+reads_some (Ok command) = is_some_key (read command)
+reads_some (Err fault) = false
+
+-- the words are a read, whose keys are remembered unless the server is told not to
+unfoldable pub is_read : Words → Bool
+is_read ws = reads_some (reading ws)
+
+-- what a Send puts on Main while caching is on or off
+abbrev pub put_command : ClientMode → Bool → Words → List SentCommand
+put_command m on ws = led_by (send_lead m.caching on (is_read ws)) ws
+
+-- what an Ask puts on Main where its fetch has caching on or off
 abbrev pub put_read : ClientMode → Bool → Words → List SentCommand
-put_read m on q = record { words = q; origin = Caller } ∷ []
+put_read m on q = led_by (read_lead m.caching on) q
 
 -- a hit puts nothing
 abbrev pub put_ask : Option CacheEntry → ClientMode → Bool → Words → List SentCommand
@@ -179,7 +231,7 @@ abbrev mutual
       sent s log
       ++ put_ask (held_for q (held_by (open_fetch s log) (left s log) (replies s.mode Main log)))
       s.mode (caching_on_for s.mode log (key_of q)) q
-  sent s (Send ws ∷ log) = sent s log ++ put_command s.mode ws
+  sent s (Send ws ∷ log) = sent s log ++ put_command s.mode (caching_on s.mode log) ws
   sent s (Poll n ∷ log) = sent s log
   sent s (TakeOut w n ∷ log) = sent s log
   sent s (Got w v ∷ log) = sent s log

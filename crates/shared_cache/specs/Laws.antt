@@ -23,7 +23,9 @@ use Rattle.shared_cache.specs.Held.{held}
 use Rattle.shared_cache.specs.Held.{held_for, held_in_place, rank, is_before, ends, open_fetch}
 use Rattle.shared_cache.specs.Held.{last_use}
 use Rattle.shared_cache.specs.Held.{leaving}
-use Rattle.shared_cache.specs.Held.{sent, commands}
+use Rattle.shared_cache.specs.Held.{sent, commands, caching_command}
+use Rattle.shared_cache.specs.declared.log.Caching.TheVariants.{OptIn}
+use Rattle.shared_cache.specs.declared.lead.CachingWord.TheVariants.{Yes}
 use Rattle.shared_cache.specs.Out.{out, taken}
 use Rattle.shared_cache.specs.Steps.{read_number, client_step, ClientStep}
 
@@ -151,6 +153,13 @@ abbrev pub PlaceIsQuery : Type 0
 PlaceIsQuery =
     (s : Setup) (log : List LogEntry) (n : ℕ) (q : Words) → open_fetch s log n ≡ Some q
     → (0 < n) × (slice_get (commands s Main log) (n - 1) ≡ Some q)
+
+-- by opting in, the command before an open fetch's is CLIENT CACHING YES
+abbrev pub MarkBeforeRead : Type 0
+MarkBeforeRead =
+    (s : Setup) (log : List LogEntry) (n : ℕ) (q : Words) → s.mode.caching ≡ OptIn
+    → open_fetch s log n ≡ Some q
+    → (1 < n) × (slice_get (commands s Main log) (n - 2) ≡ Some (caching_command Yes).words)
 
 abbrev pub SentReady : Type 0
 SentReady =

@@ -1,12 +1,15 @@
 -- What a client's log says of its handshake, its replies and its links. A log is a list of
 -- entries, the newest first.
-use Rattle.std.specs.Prelude.{◌==◌, ◌+◌, ◌&&◌, ◌||◌, ℕ, List, [], ◌∷◌, length, Bool, true, false}
-use Rattle.std.specs.Prelude.{not, Option, Some, None, if◌then◌else◌, codes}
+use Rattle.std.specs.Prelude.{◌==◌, ◌+◌, ◌++◌, ◌&&◌, ◌||◌, ℕ, List, [], ◌∷◌, length, Bool, true}
+use Rattle.std.specs.Prelude.{false, not, Option, Some, None, if◌then◌else◌, codes, nat_eq}
+use Rattle.std.specs.List.{flat_map, list_any, starts_with}
 use Rattle.std.specs.Str.{bytes_eq}
 use Rattle.resp_value.specs.declared.value.Value.{Value}
 use Rattle.resp_value.specs.declared.value.Value.TheVariants.{Simple}
 use Rattle.shared_cache.specs.declared.log.Wire.{Wire}
 use Rattle.shared_cache.specs.declared.log.Wire.TheVariants.{Main, Side}
+use Rattle.shared_cache.specs.declared.log.Caching.{Caching}
+use Rattle.shared_cache.specs.declared.log.Caching.TheVariants.{Default, OptIn, OptOut, Bcast}
 use Rattle.shared_cache.specs.declared.log.ClientMode.{ClientMode}
 use Rattle.shared_cache.specs.declared.log.LogEntry.{LogEntry}
 use Rattle.shared_cache.specs.declared.log.LogEntry.TheVariants.{Ask, Send, Poll, TakeOut, Got}
@@ -24,13 +27,30 @@ handshake_length m = 2
 abbrev pub first_number : ClientMode → ℕ
 first_number m = handshake_length m + 1
 
--- the commands of the handshake that may be sent after this log: on one link, in default mode over
--- the
--- third protocol, all from the start (HELLO, CLIENT TRACKING)
+-- ---- the handshake
+
+-- the options that say how the server is to track (the page of CLIENT TRACKING)
+abbrev pub caching_words : Caching → List (List ℕ)
+caching_words Default = []
+caching_words OptIn = codes "OPTIN" ∷ []
+caching_words OptOut = codes "OPTOUT" ∷ []
+caching_words (Bcast prefixes) =
+    codes "BCAST" ∷ flat_map (λ p. codes "PREFIX" ∷ p ∷ []) prefixes
+
+abbrev pub noloop_words : Bool → List (List ℕ)
+noloop_words true = codes "NOLOOP" ∷ []
+noloop_words false = []
+
+-- the tracking command
+abbrev pub tracking : ClientMode → List (List ℕ)
+tracking m =
+    codes "CLIENT" ∷ codes "TRACKING" ∷ codes "ON"
+    ∷ (caching_words m.caching ++ noloop_words m.noloop)
+
+-- the commands of the handshake that may be sent after this log: on one link over the third
+-- protocol, all from the start
 abbrev pub handshake : ClientMode → List LogEntry → List (List (List ℕ))
-handshake m log =
-    (codes "HELLO" ∷ codes "3" ∷ [])
-    ∷ (codes "CLIENT" ∷ codes "TRACKING" ∷ codes "ON" ∷ []) ∷ []
+handshake m log = (codes "HELLO" ∷ codes "3" ∷ []) ∷ tracking m ∷ []
 
 abbrev pub is_wire : Wire → Wire → Bool
 is_wire Main Main = true
@@ -110,6 +130,15 @@ abbrev pub caching_on : ClientMode → List LogEntry → Bool
 caching_on m log =
     is_ready m log && (not (is_ended m Main log || is_ended m Side log) && not (is_broken m log))
 
+-- the server tells of the key: by prefixes, of those that start with one of them, or of every key
+-- where there is none
+abbrev pub covers : Caching → List ℕ → Bool
+covers (Bcast []) key = true
+covers (Bcast (p ∷ ps)) key = list_any (starts_with nat_eq key) (p ∷ ps)
+covers Default key = true
+covers OptIn key = true
+covers OptOut key = true
+
 -- and what is read of this key
 abbrev pub caching_on_for : ClientMode → List LogEntry → List ℕ → Bool
-caching_on_for m log key = caching_on m log
+caching_on_for m log key = caching_on m log && covers m.caching key

@@ -30,7 +30,7 @@ use Rattle.shared_cache.specs.declared.notices.Notice.TheVariants.{Reply, Keys, 
 use Rattle.shared_cache.specs.declared.notices.Notice.TheVariants.{Malformed}
 use Rattle.shared_cache.specs.Notices.{notice_of}
 use Rattle.shared_cache.specs.Log.{handshake_length, replies, reply, is_ok_text, is_ready, is_ended}
-use Rattle.shared_cache.specs.Log.{caching_on_for}
+use Rattle.shared_cache.specs.Log.{caching_on, caching_on_for}
 use Rattle.shared_cache.specs.Held.{Setup, Words, put_command, put_read, held_for, held, numbers}
 use Rattle.shared_cache.specs.Out.{untaken, is_wanted}
 
@@ -52,7 +52,8 @@ read_number s log q =
 
 -- the number of the command of a Send
 abbrev pub command_number : Setup → List LogEntry → Words → ℕ
-command_number s log ws = numbers s log + length (put_command s.mode ws)
+command_number s log ws =
+    numbers s log + length (put_command s.mode (caching_on s.mode log) ws)
 
 -- a hit, or the number of the read that is sent
 abbrev pub answer_ask : Option CacheEntry → ℕ → ClientReply

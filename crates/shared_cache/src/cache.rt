@@ -65,15 +65,15 @@ pub fn refill(
     Ok(())
 }
 
-/// A mark for the fetch of that number, unless the redirection is broken.
-pub fn mark(marks: &mut Marks, broken: bool, number: u64, query: Query) -> Result<(), NoMemory>
+/// A mark for the fetch of that number where it has caching on.
+pub fn mark(marks: &mut Marks, on: bool, number: u64, query: Query) -> Result<(), NoMemory>
     ensures ok { OnOk result
-        (marks.new ≡ (if broken then marks.old else with_mark number query marks.old)) }
+        (marks.new ≡ (if on then with_mark number query marks.old else marks.old)) }
     ensures err { OnErr result (marks.new ≡ marks.old) }
 {
-    if broken {
-        Ok(())
-    } else {
+    if on {
         marks.begin(number, query)
+    } else {
+        Ok(())
     }
 }

@@ -6,6 +6,7 @@ use super::cache::{forget_all, invalidate, mark, refill};
 use super::entry::CacheEntry;
 use super::handshake::{HANDSHAKE, enqueue, greeting, is_welcome};
 use super::held_keys::HeldKeys;
+use super::lead::{CachingWord, covers, read_lead, send_lead};
 use super::log::{ClientCall, ClientMode, ClientRefusal, ClientReply, LogEntry, Wire};
 use super::notices::{Notice, invalidated, is_broken_by, kind_of};
 use super::pending::{Handed, PendingReplies, put_reply};
@@ -79,14 +80,16 @@ impl ClientState {
     ghost use Rattle.shared_cache.specs.declared.log.ClientCall.TheVariants as call;
     ghost use Rattle.shared_cache.specs.declared.log.Wire.TheVariants.{Main};
     ghost use Rattle.shared_cache.specs.Notices.{kind_of, IsPush};
-    ghost use Rattle.shared_cache.specs.Log.{is_ready, is_ended, replies};
+    ghost use Rattle.shared_cache.specs.Log.{is_ready, is_ended, replies, caching_on};
+    ghost use Rattle.shared_cache.specs.Log.{caching_on_for};
     ghost use Rattle.shared_cache.specs.Held.{numbers, held, held_for, held_in_place, as_listed};
+    ghost use Rattle.shared_cache.specs.Held.{send_lead, is_read};
     ghost use Rattle.std.specs.List.{slice_get};
     ghost use Rattle.shared_cache.specs.HeldKeys.{seen};
     ghost use Rattle.shared_cache.specs.Out.{untaken};
     ghost use Rattle.shared_cache.specs.Steps.{ClientStep, answer_ask, read_number, command_number};
     ghost use Rattle.shared_cache.specs.Steps.{is_log_full, is_welcome, fault_of};
-    ghost use Rattle.shared_cache.specs.ClientFields.{IsLast, IsServed, added};
+    ghost use Rattle.shared_cache.specs.ClientFields.{IsLast, IsOneLink, added};
     ghost use Rattle.shared_cache.specs.Laws.{IsCall, LegalLog};
 
     /// A client with an empty log, whose handshake is queued.
@@ -96,7 +99,7 @@ impl ClientState {
         capacity: u64,
         log_max: u64,
     ) -> Result<ClientState, NoMemory>
-        requires mode { IsServed mode }
+        requires mode { IsOneLink mode }
         requires capacity { (0 < capacity) × (capacity ≤ 1000000) }
         requires log_max { 0 < log_max }
         ensures { IfOk result (λ c. c ≡ record {
@@ -173,6 +176,19 @@ impl ClientState {
         ensures { result ≡ is_ready self.now.setup.mode self.now.past }
     {
         self.replied >= HANDSHAKE
+    }
+
+    // What is read is cached, unless the key is not covered.
+    fn is_caching(&self) -> bool
+        ensures { result ≡ caching_on self.now.setup.mode self.now.past }
+    {
+        self.is_ready() && !self.ended && !self.broken
+    }
+
+    fn is_caching_for(&self, key: &[u8]) -> bool
+        ensures { result ≡ caching_on_for self.now.setup.mode self.now.past key.now }
+    {
+        self.is_caching() && covers(&self.mode.caching, key)
     }
 
     fn entries(&self) -> u64
@@ -280,6 +296,13 @@ impl ClientState {
         }
     }
 
+    fn lead_for(&self, words: &Words) -> Result<Option<CachingWord>, NoMemory>
+        ensures { IfOk result (λ l. l ≡ send_lead self.now.setup.mode.caching
+            (caching_on self.now.setup.mode self.now.past) (is_read words.now)) }
+    {
+        send_lead(self.alloc, &self.mode.caching, self.is_caching(), words)
+    }
+
     // The words go out, and what they write is no longer held.
     fn pass_on(&mut self, words: Words) -> Result<u64, NoMemory>
         requires { is_ended self.old.setup.mode Main self.old.past ≡ false }
@@ -288,8 +311,15 @@ impl ClientState {
         ensures err { OnErr result (self.new ≡ self.old) }
     {
         let written = written_by(self.alloc, &words)?;
+        let lead = self.lead_for(&words)?;
         self.log.reserve(self.owed + 3)?;
-        enqueue(self.alloc, &words, &mut self.queued, &mut self.pending)?;
+        enqueue(
+            self.alloc,
+            lead,
+            &words,
+            &mut self.queued,
+            &mut self.pending,
+        )?;
         invalidate(&mut self.marks, &mut self.keys, &written);
         self.owed += 1;
         self.log.push_reserved(LogEntry::Send(words));
@@ -343,20 +373,23 @@ impl ClientState {
         ensures err { OnErr result (self.new ≡ self.old) }
     {
         let marked = query.copy()?;
-        let number = HANDSHAKE + self.pending.len() as u64 + 1;
+        let on = self.is_caching_for(query.key());
         let before = self.queued.len();
+        let awaited = self.pending.len();
         self.log.reserve(self.owed + 3)?;
         enqueue(
             self.alloc,
+            read_lead(&self.mode.caching, on),
             query.words(),
             &mut self.queued,
             &mut self.pending,
         )?;
-        match mark(&mut self.marks, self.broken, number, marked) {
+        let number = HANDSHAKE + self.pending.len() as u64;
+        match mark(&mut self.marks, on, number, marked) {
             Ok(()) => {}
             Err(_) => {
                 self.queued.keep(before);
-                self.pending.take_back();
+                self.pending.keep(awaited);
                 return Err(NoMemory);
             }
         }

@@ -2,6 +2,7 @@
 ghost use Rattle.shared_cache.specs.Laws.{LegalStep, CommandsGrow, CommandsHaveWords, GotsGrow};
 ghost use Rattle.shared_cache.specs.Laws.{RepliesAreGots, TakenWithin, HandshakeFirst, NoControl};
 ghost use Rattle.shared_cache.specs.Laws.{OpenWasSent, PlaceIsQuery, SentReady, OpenWires};
+ghost use Rattle.shared_cache.specs.Laws.{MarkBeforeRead};
 ghost use Rattle.shared_cache.specs.Laws.{NoLaterWrite, HeldIsFetch, EndedHoldsNothing};
 ghost use Rattle.shared_cache.specs.Laws.{WithinCapacity, EarliestLeaves, HeldInOrder};
 
@@ -54,6 +55,11 @@ pub fn law_open_was_sent()
 /// The command with the number of an open fetch is its query.
 pub fn law_place_is_query()
     ensures { PlaceIsQuery }
+{}
+
+/// By opting in, the command before an open fetch's says that its keys are remembered.
+pub fn law_mark_before_read()
+    ensures { MarkBeforeRead }
 {}
 
 /// An open fetch was sent by a client that was ready.

@@ -7,6 +7,7 @@ mod entry;
 mod handshake;
 mod held_keys;
 pub mod laws;
+mod lead;
 mod log;
 mod notices;
 mod pending;
@@ -15,5 +16,6 @@ mod slots;
 
 pub use client::ClientState;
 pub use entry::{CacheEntry, PendingReply};
+pub use lead::CachingWord;
 pub use log::{Caching, ClientCall, ClientMode, ClientRefusal, ClientReply, LogEntry, Shape, Wire};
 pub use notices::Notice;

@@ -1,14 +1,15 @@
 //! Replies that wait for their callers, by number.
 ghost use Rattle.std.specs.Prelude.{◌≡◌, ◌+◌, ◌-◌, ◌<◌, ◌++◌, ◌∷◌, [], List, OnOk, OnErr};
-ghost use Rattle.std.specs.Prelude.{◌≤◌, ◌^◌, length, slice_index_or, slice_set};
+ghost use Rattle.std.specs.Prelude.{◌≤◌, ◌^◌, length, slice_index_or, slice_set, take};
 ghost use Rattle.shared_cache.specs.declared.entry.PendingReply.{PendingReply};
 ghost use Rattle.shared_cache.specs.declared.entry.PendingReply.TheVariants as reply;
 ghost use Rattle.shared_cache.specs.PendingReplies.{HandsOver};
-ghost use Rattle.shared_cache.specs.ClientFields.{settled};
+ghost use Rattle.shared_cache.specs.ClientFields.{settled, waits_for, answered};
 ghost use Rattle.shared_cache.specs.Log.{handshake_length, first_number};
 
 use super::entry::PendingReply;
 use super::handshake::HANDSHAKE;
+use super::lead::CachingWord;
 use super::log::ClientMode;
 use resp_value::{NoMemory, Value};
 use std::alloc::Global;
@@ -69,26 +70,45 @@ impl PendingReplies {
         self.gone + self.rest.len()
     }
 
-    /// The next number waits.
-    pub fn add(&mut self) -> Result<(), NoMemory>
-        ensures ok { OnOk result (self.new ≡ self.old ++ reply.Waiting ∷ []) }
+    fn push(&mut self, reply: PendingReply) -> Result<(), NoMemory>
+        ensures ok { OnOk result (self.new ≡ self.old ++ reply ∷ []) }
         ensures err { OnErr result (self.new ≡ self.old) }
     {
         if self.len() >= MOST {
             return Err(NoMemory);
         }
-        match self.rest.push_back(PendingReply::Waiting) {
+        match self.rest.push_back(reply) {
             Ok(()) => Ok(()),
             Err(_) => Err(NoMemory),
         }
     }
 
-    /// The last number goes, which waits.
-    pub fn take_back(&mut self)
-        ensures { (front : List PendingReply)
-            → self.old ≡ front ++ reply.Waiting ∷ [] → self.new ≡ front }
+    /// The next number waits; the one of what goes before it is nobody's.
+    pub fn add(&mut self, lead: Option<CachingWord>) -> Result<(), NoMemory>
+        ensures ok { OnOk result (self.new ≡ self.old ++ waits_for lead) }
+        ensures err { OnErr result (self.new ≡ self.old) }
     {
-        let _ = self.rest.pop_back();
+        let before = self.len();
+        match lead {
+            Some(_) => self.push(PendingReply::Gone)?,
+            None => {}
+        }
+        match self.push(PendingReply::Waiting) {
+            Ok(()) => Ok(()),
+            Err(_) => {
+                self.keep(before);
+                Err(NoMemory)
+            }
+        }
+    }
+
+    /// The first numbers stay.
+    pub fn keep(&mut self, most: usize)
+        ensures { self.new ≡ take most self.old }
+    {
+        let gone = most.min(self.gone);
+        self.gone = gone;
+        self.rest.truncate(most - gone);
     }
 
     /// Hands a reply over, where it is there.
@@ -114,12 +134,16 @@ impl PendingReplies {
         }
     }
 
-    // The reply of a number that waits is there.
+    // The reply of a number is there, where it is waited for.
     fn put(&mut self, place: usize, value: Value)
-        requires { slice_index_or self.old place reply.Gone ≡ reply.Waiting }
-        ensures { self.new ≡ slice_set self.old place (reply.There value) }
+        requires { place < length self.old }
+        ensures { self.new ≡ slice_set self.old place
+            (answered value (slice_index_or self.old place reply.Gone)) }
     {
-        self.rest[place - self.gone] = PendingReply::There(value);
+        if place < self.gone {
+            return;
+        }
+        put(&mut self.rest, place - self.gone, value);
     }
 }
 
@@ -138,11 +162,22 @@ fn hand_over(replies: &mut VecDeque<PendingReply>, place: usize) -> Handed
     }
 }
 
-/// Keeps the reply of that number, which waits, for its caller; the handshake's have none.
+fn put(replies: &mut VecDeque<PendingReply>, place: usize, value: Value)
+    requires { place < length replies.old.items }
+    ensures { replies.new.items ≡ slice_set replies.old.items place
+        (answered value (slice_index_or replies.old.items place reply.Gone)) }
+{
+    match &replies[place] {
+        PendingReply::Waiting => {}
+        _ => return,
+    }
+    replies[place] = PendingReply::There(value);
+}
+
+/// Keeps the reply of that number for its caller, if it has one; the handshake's have none.
 pub fn put_reply(mode: &ClientMode, pending: &mut PendingReplies, number: u64, value: Value)
     requires { handshake_length mode.now < number
-        → slice_index_or pending.old (number - first_number mode.now) reply.Gone
-        ≡ reply.Waiting }
+        → number - first_number mode.now < length pending.old }
     ensures { pending.new ≡ settled mode.now number value pending.old }
 {
     if number > HANDSHAKE {

@@ -87,8 +87,8 @@ fn number_of(text: &str) -> u64 {
     text.parse::<u64>().unwrap_or(0)
 }
 
-// The call that a table names: `get` asks, `set` sends, `poll` and `take` have a number, and any
-// other is a value that was read.
+// The call that a table names: `get` asks, `set` and `read` send, `poll` and `take` have a number,
+// and any other is a value that was read.
 fn call_of(alloc: Global, text: &str) -> Result<ClientCall, Fail>
     ensures { IfOk result (λ c. IsCall c) }
 {
@@ -96,6 +96,7 @@ fn call_of(alloc: Global, text: &str) -> Result<ClientCall, Fail>
     match name {
         "get" => Ok(ClientCall::Ask(query(alloc, rest)?)),
         "set" => Ok(ClientCall::Send(set(alloc, rest)?)),
+        "read" => Ok(ClientCall::Send(command(alloc, b"TTL", rest.as_bytes())?)),
         "reset" => Ok(ClientCall::Send(reset(alloc)?)),
         "poll" => Ok(ClientCall::Poll(number_of(rest))),
         "take" => Ok(ClientCall::TakeOut(Wire::Main, number_of(rest))),
@@ -290,7 +291,8 @@ fn play_line<R: Abort>(
     Ok(())
 }
 
-fn play<R: Abort>(
+/// Plays a table on a client.
+pub fn play<R: Abort>(
     rt: &R,
     alloc: Global,
     client: &mut ClientState,
@@ -396,7 +398,8 @@ fn the_bytes_of_the_commands_are_taken_in_order(rt: HostRuntime) -> Result<(), F
     plays(&rt, rt.alloc(), BYTES_TAKEN_OUT)
 }
 
-fn is_held<R: Abort>(
+/// What is held at a place: its query's key, and the number of its fetch.
+pub fn is_held<R: Abort>(
     rt: &R,
     client: &ClientState,
     place: usize,

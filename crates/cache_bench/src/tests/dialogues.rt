@@ -15,7 +15,7 @@ fn feed(client: &mut ForeignClient, bytes: &[u8], piece: usize) -> u64 {
 }
 
 /// The bytes of a part of a line, where `~` is the end of a line and `-` alone is no byte.
-fn bytes_of(alloc: Global, text: &str) -> Result<Vec<u8>, AllocError> {
+pub fn bytes_of(alloc: Global, text: &str) -> Result<Vec<u8>, AllocError> {
     let mut bytes = Vec::new(alloc);
     if text == "-" {
         return Ok(bytes);

@@ -1,10 +1,12 @@
 use Rattle.std.proofs.Common.{◌≡◌, ◌+◌, ◌++◌, ◌∷◌, [], true, false, reverse, arith, ap, ◌∙◌, None}
 use Rattle.shared_cache.specs.declared.log.LogEntry.TheVariants as entry
-use Rattle.shared_cache.specs.Log.{is_ready}
+use Rattle.command_words.specs.Queries.{key_of}
+use Rattle.shared_cache.specs.Log.{is_ready, caching_on_for}
 use Rattle.shared_cache.specs.Held.{held, held_for}
 use Rattle.shared_cache.specs.ClientFields.{Client}
 use Rattle.shared_cache.proofs.NewestFirst.{pushed, at_most_one}
 use Rattle.shared_cache.proofs.Asks.{reflects_ask}
+use Rattle.shared_cache.proofs.Led.{back_again}
 use Rattle.shared_cache.proofs.client.ClientState.fetch.Goals as goal
 
 pub invariant_of-self-2 : goal.invariant_of-self-2
@@ -18,17 +20,45 @@ invariant_of-self-2 c =
     = ap (λ (st : Client). is_ready st.setup.mode st.past) c.self.view_is ∙ c.requires.ready in
     let open_ : i.ended ≡ false
     = grind arith in
+    let on : c.is_caching_for-on.result ≡ caching_on_for i.mode (reverse i.log.items)
+    (key_of c.args.query) = grind arith in
+    let number = 2 + c.len.result in
     record {
-      reflects = rw (
-        pushed i.log.items _ _
-            (c.push_reserved.ensures.items
-            ∙ ap (λ l. l ++ entry.Ask c.args.query ∷ []) c.in_ok-reserve.ensures.items),
-        c.in_ok-enqueue.ensures.pending,
-      )
+      reflects = rw (pushed i.log.items _ _
+          (c.push_reserved.ensures.items
+          ∙ ap (λ l. l ++ entry.Ask c.args.query ∷ []) c.in_ok-reserve.ensures.items))
           (reflects_ask _ _ _ k c.args.query
-          (2 + c.len.result + 1) c.enqueue.new.queued c.mark.new.marks miss
-          (omega (arith, c.len.ensures)) ready open_
+          number c.is_caching_for-on.result c.enqueue.new.queued c.enqueue.new.pending
+          c.mark.new.marks miss
+          (omega (arith, c.len.ensures)) on ready open_
+          (grind arith)
           (grind arith)
           (grind arith));
       room = omega (arith, at_most_one i.ended, c.in_ok-reserve.ensures.ok);
+    }
+
+pub invariant_of-self-in_err-enqueue : goal.invariant_of-self-in_err-enqueue
+invariant_of-self-in_err-enqueue c = record {
+  reflects = rw (
+    ap reverse c.in_ok-reserve.ensures.items,
+    c.in_err-enqueue.ensures.err_queued,
+    c.in_err-enqueue.ensures.err_pending,
+  ) c.self.invariant.reflects;
+  room = omega (arith, c.in_ok-reserve.ensures.ok, c.self.invariant.room);
+}
+
+pub invariant_of-self-in-Err : goal.invariant_of-self-in-Err
+invariant_of-self-in-Err c =
+    let i = c.self.inside in
+    record {
+      reflects = rw (
+        ap reverse c.in_ok-reserve.ensures.items,
+        back_again _ i.queued _ _ _ c.len-before.ensures c.in_ok-enqueue.ensures.queued
+            c.keep.ensures,
+        back_again _ i.pending _ _ _ c.len-awaited.ensures.count
+            c.in_ok-enqueue.ensures.pending c.keep-in-Err.ensures,
+        c.in-Err.ensures.err,
+      )
+          c.self.invariant.reflects;
+      room = omega (arith, c.in_ok-reserve.ensures.ok, c.self.invariant.room);
     }

@@ -1,9 +1,12 @@
-use Rattle.std.proofs.Common.{◌++◌, ◌∷◌, [], not, arith, ap, ◌∙◌}
+use Rattle.std.proofs.Common.{◌++◌, ◌∷◌, [], not, arith, ap, ◌∙◌, sym}
 use Rattle.shared_cache.specs.declared.log.LogEntry.TheVariants as entry
 use Rattle.shared_cache.proofs.NewestFirst.{pushed, at_most_one}
 use Rattle.std.specs.List.{filter}
 use Rattle.command_words.specs.Queries.{key_of, names}
 use Rattle.fill_mark.specs.declared.marks.Mark.{Mark}
+use Rattle.shared_cache.specs.Log.{caching_on}
+use Rattle.shared_cache.specs.Held.{send_lead, is_read}
+use Rattle.shared_cache.specs.ClientFields.{Client}
 use Rattle.shared_cache.proofs.OtherTurns.{reflects_send}
 use Rattle.shared_cache.proofs.client.ClientState.pass_on.Goals as goal
 
@@ -23,6 +26,10 @@ invariant_of-self-2 c =
             c.in_ok-written.ensures,
         c.invalidate.ensures.keys,
       )
-          (reflects_send _ _ _ k c.args.words c.in_ok-written.written c.in_ok-written.ensures);
+          (reflects_send _ _ _ k c.args.words c.in_ok-written.written c.in_ok-lead.lead
+          c.in_ok-written.ensures
+          (c.in_ok-lead.ensures
+          ∙ ap (λ (st : Client). send_lead st.setup.mode.caching
+          (caching_on st.setup.mode st.past) (is_read c.args.words)) (sym c.self.view_is)));
       room = omega (arith, at_most_one i.ended, c.in_ok-reserve.ensures.ok);
     }

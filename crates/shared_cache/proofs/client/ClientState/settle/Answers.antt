@@ -1,4 +1,4 @@
-use Rattle.std.proofs.Common.{◌≡◌, ◌+◌, ◌-◌, ◌++◌, ◌∷◌, [], length, reverse, arith, ap, ◌∙◌, refl}
+use Rattle.std.proofs.Common.{◌≡◌, ◌+◌, ◌++◌, ◌∷◌, [], length, reverse, arith, ap, ◌∙◌, refl}
 use Rattle.std.proofs.Common.{None}
 use Rattle.shared_cache.specs.declared.log.Wire.TheVariants.{Main}
 use Rattle.shared_cache.specs.declared.log.LogEntry.TheVariants as entry
@@ -11,7 +11,7 @@ use Rattle.shared_cache.proofs.StepCases.{awaits}
 use Rattle.std.proofs.lemmas.Bool.{leb-false}
 use Rattle.fill_mark.specs.Marks.{query_marked}
 use Rattle.shared_cache.specs.HeldKeys.{refilled}
-use Rattle.shared_cache.proofs.Gots.{reflects_reply, waits}
+use Rattle.shared_cache.proofs.Gots.{reflects_reply}
 use Rattle.shared_cache.proofs.client.ClientState.settle.Goals as goal
 
 pub overflow_add-number : goal.overflow_add-number
@@ -26,16 +26,14 @@ put_reply-requires c =
     let a = awaits (record { mode = i.mode; capacity = i.capacity; log_max = i.log_max })
     (reverse i.log.items) c.args.value c.requires.reply fault in
     λ big.
-    waits _ _ _ k (i.replied + 1 - 3)
-    (omega (
+    omega (
       arith,
       big,
       leb-false (numbers (record { mode = i.mode; capacity = i.capacity; log_max = i.log_max })
           (reverse i.log.items)) (length (replies i.mode Main (reverse i.log.items))) a.0,
       k.replied_is,
       k.pending_count,
-    ))
-    (omega (arith, big))
+    )
 
 pub invariant_of-self-2 : goal.invariant_of-self-2
 invariant_of-self-2 c =
