@@ -39,15 +39,16 @@ limits (Some table) (Some out) (Some history) =
     Some (record { table_max = table; out_max = out; history_max = history })
 limits _ _ _ = None
 
-abbrev pub limits_from : (Word → Option Word) → Option LimitSettings
-limits_from value =
+-- with this many entries of the history kept, unless it is said
+abbrev pub limits_from : ℕ → (Word → Option Word) → Option LimitSettings
+limits_from most value =
     limits
     (number_in 1 4000000000 (Some 1000000) (value (codes "table-max")))
     (number_in 1 4000000000 (Some 8388608) (value (codes "out-max")))
-    (number_in 1 4000000000 (Some 4000000) (value (codes "history-max")))
+    (number_in 1 4000000000 (Some most) (value (codes "history-max")))
 
 unfoldable pub world_of : List Word → Option LimitSettings
-world_of words = settings_by world_options (λ value is_set. limits_from value) words
+world_of words = settings_by world_options (λ value is_set. limits_from 4000000 value) words
 
 -- ---- storm
 
@@ -88,7 +89,7 @@ serve_from value =
     (port_of (value (codes "port")))
     (number_in 1 64 (Some 4) (value (codes "workers")))
     (number_in 0 1000000 (Some 0) (value (codes "connections")))
-    (limits_from value)
+    (limits_from 1 value)
 
 unfoldable pub serve_of : List Word → Option ServeSettings
 serve_of words = settings_by serve_options (λ value is_set. serve_from value) words

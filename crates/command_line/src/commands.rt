@@ -132,7 +132,7 @@ fn read_world(alloc: Global, words: &[String]) -> Result<Option<LimitSettings>, 
     ensures { IfOk result (λ o. o ≡ world_of (map string_bytes words.now)) }
 {
     match read_options(world_command(alloc)?, words)? {
-        Some(matches) => limit_settings(alloc, &matches),
+        Some(matches) => limit_settings(alloc, &matches, 4_000_000),
         None => Ok(None),
     }
 }
@@ -167,11 +167,13 @@ fn read_script(alloc: Global, words: &[String]) -> Result<Option<ScriptSettings>
 /// The greatest limit of a server's state.
 const LIMIT_MAX: u64 = 4_000_000_000;
 
+// Of the history this many entries are kept, unless it is said.
 fn limit_settings(
     alloc: Global,
     matches: &ArgMatches<'_>,
+    kept: u64,
 ) -> Result<Option<LimitSettings>, NoMemory>
-    ensures { IfOk result (λ o. o ≡ limits_from (first_value (found_of matches.now))) }
+    ensures { IfOk result (λ o. o ≡ limits_from kept (first_value (found_of matches.now))) }
 {
     let table = matches.get_str("table-max");
     let Some(table_max) = read_number_in(alloc, table, 1, LIMIT_MAX, Some(1_000_000))? else {
@@ -182,7 +184,7 @@ fn limit_settings(
         return Ok(None);
     };
     let history = matches.get_str("history-max");
-    let Some(history_max) = read_number_in(alloc, history, 1, LIMIT_MAX, Some(4_000_000))? else {
+    let Some(history_max) = read_number_in(alloc, history, 1, LIMIT_MAX, Some(kept))? else {
         return Ok(None);
     };
     Ok(Some(LimitSettings {
@@ -223,7 +225,7 @@ fn serve_settings(
     let Some(connections) = read_number_in(alloc, connections, 0, 1_000_000, Some(0))? else {
         return Ok(None);
     };
-    let Some(limits) = limit_settings(alloc, matches)? else {
+    let Some(limits) = limit_settings(alloc, matches, 1)? else {
         return Ok(None);
     };
     Ok(Some(ServeSettings {

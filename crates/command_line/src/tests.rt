@@ -323,7 +323,7 @@ fn values_are_those_of_the_words_or_the_defaults(rt: HostRuntime) -> Result<(), 
             "serve",
             "--port 7000",
             "Serve(ServeSettings { port: 7000, workers: 4, connections: 0, limits: \
-             LimitSettings { table_max: 1000000, out_max: 8388608, history_max: 4000000 } })",
+             LimitSettings { table_max: 1000000, out_max: 8388608, history_max: 1 } })",
         ),
         (
             "script",

@@ -12,7 +12,7 @@ use Rattle.serial_model.specs.History.{has_ended}
 use Rattle.seat_turns.specs.Own.{past_of, Grows}
 use Rattle.shared_book.specs.Turns.{Place, Turn, limits_in, limits_of}
 use Rattle.seat_turns.proofs.Growing.{grows_past}
-use Rattle.shared_book.proofs.Histories.{begins_lift, ended_more, full_begins}
+use Rattle.shared_book.proofs.Histories.{begins_lift, ended_more}
 use Rattle.seat_turns.proofs.Turning.{entries_begin}
 use Rattle.conn_worker.specs.declared.report.Report.{Report}
 use Rattle.conn_worker.specs.declared.report.Ended.{Ended}
@@ -25,7 +25,7 @@ module _ (l : Limits) (a b : List Entry) (t u : ℕ) (more : IsPrefix a b) (le :
       begins_lift (λ past. has_ended l id past ≡ true) (ended_more l id) a b more h
 
   end_more : (e : Ended) (id : ℕ) → ShowsEnd e l a t id → ShowsEnd e l b u id
-  end_more e id h = grind (arith, ended_begins, full_begins)
+  end_more e id h = grind (arith, ended_begins)
 
   pub shows_more : (r : Report) → Shows l a t r → Shows l b u r
   shows_more r s = grind (arith, end_more, ended_begins)

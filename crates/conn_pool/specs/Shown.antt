@@ -4,7 +4,7 @@ use Rattle.std.specs.List.{All}
 use Rattle.turn_lock.specs.declared.rule.TheConstants.{LAST_TICKET}
 use Rattle.serial_model.specs.declared.history.Limits.{Limits}
 use Rattle.serial_model.specs.declared.history.Entry.{Entry}
-use Rattle.serial_model.specs.History.{has_ended, is_full}
+use Rattle.serial_model.specs.History.{has_ended}
 use Rattle.seat_turns.specs.Own.{past_of}
 use Rattle.shared_book.specs.Turns.{Place, limits_of}
 use Rattle.conn_worker.specs.declared.report.Report.{Report}
@@ -18,7 +18,6 @@ ShowsEnd ended.PeerEnd l past tickets id = ⊤
 ShowsEnd ended.Dropped l past tickets id = has_ended l id past ≡ true
 ShowsEnd (ended.BadRequest fault) l past tickets id = ⊤
 ShowsEnd ended.LinkFault l past tickets id = ⊤
-ShowsEnd ended.HistoryFull l past tickets id = is_full l past ≡ true
 ShowsEnd ended.NoMemory l past tickets id = ⊤
 ShowsEnd ended.Worn l past tickets id = LAST_TICKET ≤ tickets
 
@@ -28,7 +27,6 @@ IsUnadmitted ended.PeerEnd = ⊥
 IsUnadmitted ended.Dropped = ⊥
 IsUnadmitted (ended.BadRequest fault) = ⊥
 IsUnadmitted ended.LinkFault = ⊥
-IsUnadmitted ended.HistoryFull = ⊤
 IsUnadmitted ended.NoMemory = ⊤
 IsUnadmitted ended.Worn = ⊤
 

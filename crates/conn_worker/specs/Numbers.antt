@@ -1,5 +1,5 @@
 -- The number of each end. 2 is kept for a connection that asked to end, and 9 for a server that was
--- shut down: no command that is served does either.
+-- shut down: no command that is served does either. 6 was a full history's, and is given no more.
 use Rattle.std.specs.Prelude.{ℕ}
 use Rattle.conn_worker.specs.declared.report.Ended.{Ended}
 use Rattle.conn_worker.specs.declared.report.Ended.TheVariants as ended
@@ -9,6 +9,5 @@ end_number ended.PeerEnd = 1
 end_number ended.Dropped = 3
 end_number (ended.BadRequest fault) = 4
 end_number ended.LinkFault = 5
-end_number ended.HistoryFull = 6
 end_number ended.NoMemory = 7
 end_number ended.Worn = 8

@@ -33,7 +33,6 @@ use Rattle.conn_worker.specs.declared.serve.Heard.TheVariants as came
 
 abbrev pub ended_by : Refusal → Ended
 ended_by refusal.Dropped = ended.Dropped
-ended_by refusal.HistoryFull = ended.HistoryFull
 ended_by refusal.NoMemory = ended.NoMemory
 ended_by refusal.Worn = ended.Worn
 
@@ -43,7 +42,6 @@ IsEnd ended.PeerEnd id k = ⊥
 IsEnd ended.Dropped id k = IsCause refusal.Dropped id k
 IsEnd (ended.BadRequest fault) id k = ⊥
 IsEnd ended.LinkFault id k = ⊥
-IsEnd ended.HistoryFull id k = IsCause refusal.HistoryFull id k
 IsEnd ended.NoMemory id k = ⊤
 IsEnd ended.Worn id k = IsCause refusal.Worn id k
 
@@ -180,7 +178,6 @@ EndCounts ended.PeerEnd old new = Counted old.ends new.ends × (new.faults ≡ o
 EndCounts ended.Dropped old new = (new.faults ≡ old.faults) × (new.ends ≡ old.ends)
 EndCounts (ended.BadRequest fault) old new = (new.faults ≡ old.faults) × (new.ends ≡ old.ends)
 EndCounts ended.LinkFault old new = Counted old.faults new.faults × (new.ends ≡ old.ends)
-EndCounts ended.HistoryFull old new = (new.faults ≡ old.faults) × (new.ends ≡ old.ends)
 EndCounts ended.NoMemory old new = (new.faults ≡ old.faults) × (new.ends ≡ old.ends)
 EndCounts ended.Worn old new = (new.faults ≡ old.faults) × (new.ends ≡ old.ends)
 
@@ -203,7 +200,6 @@ pub record TicksAt (clock : Option ℕ) (old new : Place) : Type 0 where
 -- a Tick that is refused so is left to the next read that brings nothing
 abbrev pub IsLeft : Refusal → Type 0
 IsLeft refusal.Dropped = ⊥
-IsLeft refusal.HistoryFull = ⊤
 IsLeft refusal.NoMemory = ⊤
 IsLeft refusal.Worn = ⊥
 
@@ -241,7 +237,6 @@ LinkEnds ended.PeerEnd old new = EndCounted old new
 LinkEnds ended.Dropped old new = ⊥
 LinkEnds (ended.BadRequest fault) old new = ⊥
 LinkEnds ended.LinkFault old new = FaultCounted old new
-LinkEnds ended.HistoryFull old new = ⊥
 LinkEnds ended.NoMemory old new = ⊥
 LinkEnds ended.Worn old new = ⊥
 
@@ -270,7 +265,6 @@ IsWhole ended.PeerEnd = ⊤
 IsWhole ended.Dropped = ⊥
 IsWhole (ended.BadRequest fault) = ⊤
 IsWhole ended.LinkFault = ⊥
-IsWhole ended.HistoryFull = ⊥
 IsWhole ended.NoMemory = ⊥
 IsWhole ended.Worn = ⊥
 
@@ -284,7 +278,6 @@ IsShown ended.PeerEnd id heard k = fault_in heard ≡ None
 IsShown ended.Dropped id heard k = IsEnd ended.Dropped id k
 IsShown (ended.BadRequest fault) id heard k = fault_in heard ≡ Some fault
 IsShown ended.LinkFault id heard k = ⊤
-IsShown ended.HistoryFull id heard k = IsEnd ended.HistoryFull id k
 IsShown ended.NoMemory id heard k = ⊤
 IsShown ended.Worn id heard k = IsEnd ended.Worn id k
 

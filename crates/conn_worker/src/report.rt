@@ -17,8 +17,6 @@ pub enum Ended {
     BadRequest(StreamFault),
     /// The link failed.
     LinkFault,
-    /// The history was full.
-    HistoryFull,
     NoMemory,
     /// No ticket of the lock was left.
     Worn,
@@ -34,7 +32,6 @@ impl Ended {
             Ended::Dropped => 3,
             Ended::BadRequest(_) => 4,
             Ended::LinkFault => 5,
-            Ended::HistoryFull => 6,
             Ended::NoMemory => 7,
             Ended::Worn => 8,
         }
@@ -56,7 +53,6 @@ pub fn ended_by(refusal: Refusal) -> Ended
 {
     match refusal {
         Refusal::Dropped => Ended::Dropped,
-        Refusal::HistoryFull => Ended::HistoryFull,
         Refusal::NoMemory => Ended::NoMemory,
         Refusal::Worn => Ended::Worn,
     }

@@ -91,7 +91,6 @@ fn hear_once<R: Wait, L: Link, C: Clock, G: Gate>(
         },
         LinkRead::Idle => match tick(rt, lock, seat, clock.now_ms()) {
             Ok(()) => Ok(Heard::Idle),
-            Err(Refusal::HistoryFull) => Ok(Heard::Left(Refusal::HistoryFull)),
             Err(Refusal::NoMemory) => Ok(Heard::Left(Refusal::NoMemory)),
             Err(Refusal::Worn) => Err(Ended::Worn),
             Err(Refusal::Dropped) => unreachable!(),

@@ -76,9 +76,9 @@ older_up_to up past o =
 
 pub older_legal : (l : Limits) (newer up : List Entry) → IsLegal l (newer ++ up) → IsLegal l up
 older_legal l [] up h = h
-older_legal l (Admit id ∷ newer) up h = older_legal l newer up h.2
+older_legal l (Admit id ∷ newer) up h = older_legal l newer up h.1
 older_legal l (Close id ∷ newer) up h = older_legal l newer up h.1
-older_legal l (e ∷ newer) up h = older_legal l newer up h.3
+older_legal l (e ∷ newer) up h = older_legal l newer up h.2
 
 module _ (c : ℕ) where
   pub runs_count : (past : List Entry) → length (run_entries c past) ≡ length (runs_of c past)

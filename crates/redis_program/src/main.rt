@@ -126,7 +126,7 @@ fn end(rt: &impl Eprint, status: Status, is_script: bool) -> ExitCode {
             eprintln!(rt; "zeovalki: the client's log has as many entries as it may have")
         }
         Status::HistoryFull => {
-            eprintln!(rt; "zeovalki: the history has as many entries as --history-max allows")
+            eprintln!(rt; "zeovalki: a client's log has as many entries as --history-max allows")
         }
         Status::NoMemory => eprintln!(rt; "zeovalki: memory ran out"),
         Status::Worn => eprintln!(rt; "zeovalki: no ticket of the client's lock is left"),

@@ -23,7 +23,7 @@ pub enum Status {
     Refused,
     /// A client's link ended, and a line of the script has no answer.
     LinkEnded,
-    /// The history, or a client's log, has as many entries as it may.
+    /// A client's log has as many entries as it may.
     HistoryFull,
     NoMemory,
     /// No ticket of the client's lock was left.

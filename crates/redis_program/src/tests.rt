@@ -115,14 +115,18 @@ fn a_run_writes_the_transcript_and_the_last_line_of_its_status(
         (
             "world --history-max 2",
             "raw r\nraw s\nraw t\n",
-            Status::HistoryFull,
-            "#1 admit r 1\n#2 admit s 2\nhistory-full\n",
+            Status::Done,
+            "#1 admit r 1\n#2 admit s 2\n#3 admit t 3\n",
         ),
         (
-            "world --history-max=3",
-            "raw r\nsay r GET a\nsay r GET b\nsay r GET c\nflow r\nraw s\n",
+            "world --history-max=2",
+            "client x single 3 default 10\nflow x.data\n",
             Status::HistoryFull,
-            "#1 admit r 1\n#2 run r GET a\n#3 run r GET b\nhistory-full\n",
+            "#1 admit x.data 1\n#2 run x.data HELLO 3\n#3 run x.data CLIENT TRACKING ON\n#4 \
+             take x.data 149\nx.data < %7\\r\\n$6\\r\\nserver\\r\\n$5\\r\\nredis\\r\\n$7\\r\
+             \\nversion\\r\\n$5\\r\\n7.0.0\\r\\n$5\\r\\nproto\\r\\n:3\\r\\n$2\\r\\nid\\r\\n\
+             :1\\r\\n$4\\r\\nmode\\r\\n$10\\r\\nstandalone\\r\\n$4\\r\\nrole\\r\\n$6\\r\\nm\
+             aster\\r\\n$7\\r\\nmodules\\r\\n*0\\r\\n+OK\\r\\n\nhistory-full\n",
         ),
         (
             "world",

@@ -55,7 +55,7 @@ end_is_last l c (Run id words m) past h ended =
     (grind (arith, run_sends_none, live_other))
 end_is_last l c (Tick m) past h ended =
     adds_none l c (Tick m) past
-    (tick_sends_none l (length past + 1) c past m h.3 (λ k. live_other l past c k ended))
+    (tick_sends_none l (length past + 1) c past m h.2 (λ k. live_other l past c k ended))
 end_is_last l c (Take id max) past h ended = adds_none l c (Take id max) past refl
 end_is_last l c (Close id) past h ended =
     adds_none l c (Close id) past

@@ -21,8 +21,8 @@ module _ (l : Limits) where
   pub mode_fresh : (past : List Entry) (c : ℕ) → IsLegal l past → admitted past < c
       → mode l c past ≡ first_mode
   mode_fresh [] c h lt = refl
-  mode_fresh (Admit id ∷ past) c h lt = mode_fresh past c h.2 (omega arith)
-  mode_fresh (Run id words m ∷ past) c h lt = grind (arith, connected, mode_fresh past c h.3 lt)
-  mode_fresh (Tick m ∷ past) c h lt = mode_fresh past c h.3 lt
-  mode_fresh (Take id max ∷ past) c h lt = mode_fresh past c h.3 lt
+  mode_fresh (Admit id ∷ past) c h lt = mode_fresh past c h.1 (omega arith)
+  mode_fresh (Run id words m ∷ past) c h lt = grind (arith, connected, mode_fresh past c h.2 lt)
+  mode_fresh (Tick m ∷ past) c h lt = mode_fresh past c h.2 lt
+  mode_fresh (Take id max ∷ past) c h lt = mode_fresh past c h.2 lt
   mode_fresh (Close id ∷ past) c h lt = mode_fresh past c h.1 lt

@@ -9,15 +9,10 @@ use Rattle.serial_model.specs.declared.history.BookCall.{BookCall}
 use Rattle.serial_model.specs.declared.history.BookCall.TheVariants.{Admit, Run, Tick, Take, Close}
 use Rattle.serial_model.specs.History.{admitted, is_admitted, has_ended, latest, taken, runs_of}
 use Rattle.serial_model.specs.History.{sends, sent_to, sent_bytes}
-use Rattle.serial_model.specs.Steps.{Turn, book_step, full, unless_full}
+use Rattle.serial_model.specs.Steps.{Turn, book_step}
 use Rattle.serial_model.specs.Laws.{Extends, IsOther}
 use Rattle.serial_model.proofs.StepCases.{by_admit, by_run, by_tick, by_take, by_close}
 use Rattle.serial_model.proofs.Streams.{stream_more, ended_other}
-
--- the turn of a limit is the turn or none
-pub by_limit : (l : Limits) (past : List Entry) (turn : Turn) (P : Turn → Type 0) → P (full past)
-    → P turn → P (unless_full l past turn)
-by_limit l past turn P none does = grind arith
 
 module _ (l : Limits) (c : ℕ) where
   pub extends_none : (past : List Entry) → Extends l c past past
@@ -48,20 +43,19 @@ module _ (l : Limits) (c : ℕ) where
   pub others_extend : (past : List Entry) (call : BookCall) → IsOther c call
       → Extends l c past (book_step l past call).past
   others_extend past Admit other =
-      by_admit l past (Grown past) (extends_none past)
-      (λ room. extends_entry past (entry.Admit (admitted past + 1))
+      by_admit l past (Grown past) (extends_entry past (entry.Admit (admitted past + 1))
       (grind (arith, nat_tests)) refl refl (λ h. h))
   others_extend past (Run id words now) other =
-      by_run l past (Grown past) id words now (extends_none past) (extends_none past)
-      (λ on room. extends_entry past (entry.Run id words (max now (latest past))) (λ h. h) refl
+      by_run l past (Grown past) id words now (extends_none past)
+      (λ on. extends_entry past (entry.Run id words (max now (latest past))) (λ h. h) refl
       (ap (λ b. cond b (runs_of c past ++ words ∷ []) (runs_of c past)) other) (λ h. h))
   others_extend past (Tick now) other =
-      by_tick l past (Grown past) now (extends_none past) (extends_none past)
-      (λ some room. extends_entry past (entry.Tick (max now (latest past))) (λ h. h) refl refl
+      by_tick l past (Grown past) now (extends_none past)
+      (λ some. extends_entry past (entry.Tick (max now (latest past))) (λ h. h) refl refl
       (λ h. h))
   others_extend past (Take id most) other =
       by_take l past (Grown past) id most (extends_none past) (extends_none past)
-      (extends_none past) (λ on some room. extends_entry past (entry.Take id most) (λ h. h)
+      (λ on some. extends_entry past (entry.Take id most) (λ h. h)
       (grind arith) refl (λ h. h))
   others_extend past (Close id) other =
       by_close l past (Grown past) id (extends_none past)

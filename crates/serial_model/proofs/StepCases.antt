@@ -1,13 +1,13 @@
 -- What holds of each answer that a step may give holds of the step.
-use Rattle.std.proofs.Common.{◌≡◌, ◌+◌, ℕ, List, [], ◌∷◌, true, false, length, take, max, arith}
+use Rattle.std.proofs.Common.{◌≡◌, ◌+◌, ℕ, List, [], ◌∷◌, true, length, take, max, arith}
 use Rattle.serial_model.specs.declared.history.Limits.{Limits}
 use Rattle.serial_model.specs.declared.history.Entry.{Entry}
 use Rattle.serial_model.specs.declared.history.Entry.TheVariants as entry
 use Rattle.serial_model.specs.declared.history.BookCall.TheVariants.{Admit, Run, Tick, Take, Close}
 use Rattle.serial_model.specs.declared.history.BookReply.TheVariants.{Ticked, Quiet, Bytes}
-use Rattle.serial_model.specs.History.{runs_on, gives_on, reads_on, latest, unsent, is_full}
+use Rattle.serial_model.specs.History.{runs_on, gives_on, reads_on, latest, unsent}
 use Rattle.serial_model.specs.History.{expired}
-use Rattle.serial_model.specs.Steps.{Turn, book_step, taking, gone, full, unless_full, admitting}
+use Rattle.serial_model.specs.Steps.{Turn, book_step, taking, gone, admitting}
 use Rattle.serial_model.specs.Steps.{running, closing}
 
 abbrev pub quiet : List Entry → Turn
@@ -22,39 +22,33 @@ took past id most bytes =
     record { reply = Bytes (length past + 1) bytes; past = entry.Take id most ∷ past }
 
 module _ (l : Limits) (past : List Entry) (P : Turn → Type 0) where
-  by_limit : (turn : Turn) → P (full past) → (is_full l past ≡ false → P turn)
-      → P (unless_full l past turn)
-  by_limit turn none does = grind arith
-
-  pub by_admit : P (full past) → (is_full l past ≡ false → P (admitting past))
-      → P (book_step l past Admit)
+  pub by_admit : P (admitting past) → P (book_step l past Admit)
   unfolding book_step
-  by_admit none does = by_limit (admitting past) none does
+  by_admit does = does
 
-  pub by_run : (id : ℕ) (words : List (List ℕ)) (now : ℕ) → P (gone past id) → P (full past)
-      → (runs_on l past id ≡ true → is_full l past ≡ false → P (running past id words now))
+  pub by_run : (id : ℕ) (words : List (List ℕ)) (now : ℕ) → P (gone past id)
+      → (runs_on l past id ≡ true → P (running past id words now))
       → P (book_step l past (Run id words now))
   unfolding book_step
-  by_run id words now ended none does = grind (arith, by_limit)
+  by_run id words now ended does = grind arith
 
-  pub by_tick : (now : ℕ) → P (quiet past) → P (full past)
-      → ((expired l past (max now (latest past)) ≡ [] → ⊥) → is_full l past ≡ false
+  pub by_tick : (now : ℕ) → P (quiet past)
+      → ((expired l past (max now (latest past)) ≡ [] → ⊥)
       → P (ticked past (max now (latest past))))
       → P (book_step l past (Tick now))
   unfolding book_step
-  by_tick now still none does = grind (arith, by_limit)
+  by_tick now still does = grind arith
 
-  by_taking : (id most : ℕ) (bytes : List ℕ) → P (quiet past) → P (full past)
-      → ((bytes ≡ [] → ⊥) → is_full l past ≡ false → P (took past id most bytes))
-      → P (taking l past id most bytes)
-  by_taking id most bytes still none does = grind (arith, by_limit)
+  by_taking : (id most : ℕ) (bytes : List ℕ) → P (quiet past)
+      → ((bytes ≡ [] → ⊥) → P (took past id most bytes)) → P (taking past id most bytes)
+  by_taking id most bytes still does = grind arith
 
-  pub by_take : (id most : ℕ) → P (gone past id) → P (quiet past) → P (full past)
+  pub by_take : (id most : ℕ) → P (gone past id) → P (quiet past)
       → (gives_on l past id ≡ true → (take most (unsent l id past) ≡ [] → ⊥)
-      → is_full l past ≡ false → P (took past id most (take most (unsent l id past))))
+      → P (took past id most (take most (unsent l id past))))
       → P (book_step l past (Take id most))
   unfolding book_step
-  by_take id most ended still none does = grind (arith, by_taking)
+  by_take id most ended still does = grind (arith, by_taking)
 
   pub by_close : (id : ℕ) → P (gone past id) → (reads_on l past id ≡ true → P (closing past id))
       → P (book_step l past (Close id))

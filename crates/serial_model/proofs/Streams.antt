@@ -82,16 +82,16 @@ module _ (l : Limits) where
   table_live [] h = tt
   table_live (Admit id ∷ past) h =
       all_rows {P = IsLive past} {Q = IsLive (Admit id ∷ past)} (admit_live past id) (table l past)
-      (table_live past h.2)
+      (table_live past h.1)
   table_live (Run id words moment ∷ past) h =
       run_live past id words moment (table l (Run id words moment ∷ past))
       (kept_all (IsLive past) l.table_max (table_grown l past id words moment)
-      (grown_live past id words moment h.0 (table_live past h.3)))
+      (grown_live past id words moment h.0 (table_live past h.2)))
   table_live (Tick moment ∷ past) h =
       tick_live past moment (table l (Tick moment ∷ past))
       (without_keys_all (IsLive past) (expired l past moment) (table l past)
-      (table_live past h.3))
-  table_live (Take id max ∷ past) h = take_live past id max (table l past) (table_live past h.3)
+      (table_live past h.2))
+  table_live (Take id max ∷ past) h = take_live past id max (table l past) (table_live past h.2)
   table_live (Close id ∷ past) h =
       all_rows {P = λ k. IsLive past k × ((k == id) ≡ false)} {Q = IsLive (Close id ∷ past)}
       (close_live past id) (table l (Close id ∷ past))
@@ -161,21 +161,21 @@ module _ (l : Limits) where
   pub sent_fresh : (past : List Entry) (c : ℕ) → IsLegal l past → admitted past < c
       → sent l c past ≡ []
   sent_fresh [] c h lt = refl
-  sent_fresh (Admit id ∷ past) c h lt = rw (sent_fresh past c h.2 (omega arith)) refl
+  sent_fresh (Admit id ∷ past) c h lt = rw (sent_fresh past c h.1 (omega arith)) refl
   sent_fresh (Run id words moment ∷ past) c h lt =
-      grind (arith, run_sends_none, fresh_other, sent_fresh past c h.3 lt)
+      grind (arith, run_sends_none, fresh_other, sent_fresh past c h.2 lt)
   sent_fresh (Tick moment ∷ past) c h lt =
-      grind (arith, tick_sends_none, fresh_other, sent_fresh past c h.3 lt)
-  sent_fresh (Take id max ∷ past) c h lt = rw (sent_fresh past c h.3 lt) refl
+      grind (arith, tick_sends_none, fresh_other, sent_fresh past c h.2 lt)
+  sent_fresh (Take id max ∷ past) c h lt = rw (sent_fresh past c h.2 lt) refl
   sent_fresh (Close id ∷ past) c h lt = grind (arith, connected, sent_fresh past c h.1 lt)
 
   pub ended_fresh : (past : List Entry) (c : ℕ) → IsLegal l past → admitted past < c
       → has_ended l c past ≡ false
   ended_fresh [] c h lt = refl
-  ended_fresh (Admit id ∷ past) c h lt = ended_fresh past c h.2 (omega arith)
-  ended_fresh (Run id words moment ∷ past) c h lt = ended_fresh past c h.3 lt
-  ended_fresh (Tick moment ∷ past) c h lt = ended_fresh past c h.3 lt
-  ended_fresh (Take id max ∷ past) c h lt = ended_fresh past c h.3 lt
+  ended_fresh (Admit id ∷ past) c h lt = ended_fresh past c h.1 (omega arith)
+  ended_fresh (Run id words moment ∷ past) c h lt = ended_fresh past c h.2 lt
+  ended_fresh (Tick moment ∷ past) c h lt = ended_fresh past c h.2 lt
+  ended_fresh (Take id max ∷ past) c h lt = ended_fresh past c h.2 lt
   ended_fresh (Close id ∷ past) c h lt = grind (arith, connected, ended_fresh past c h.1 lt)
 
   pub unsent_live : (past : List Entry) (c : ℕ) → has_ended l c past ≡ false
@@ -195,11 +195,11 @@ module _ (l : Limits) where
   pub runs_fresh : (past : List Entry) (c : ℕ) → IsLegal l past → admitted past < c
       → runs_of c past ≡ []
   runs_fresh [] c h lt = refl
-  runs_fresh (Admit id ∷ past) c h lt = runs_fresh past c h.2 (omega arith)
+  runs_fresh (Admit id ∷ past) c h lt = runs_fresh past c h.1 (omega arith)
   runs_fresh (Run id words moment ∷ past) c h lt =
-      let r = runs_fresh past c h.3 lt in let k = connected past id h.0 in grind (arith, nat_tests)
-  runs_fresh (Tick moment ∷ past) c h lt = runs_fresh past c h.3 lt
-  runs_fresh (Take id max ∷ past) c h lt = runs_fresh past c h.3 lt
+      let r = runs_fresh past c h.2 lt in let k = connected past id h.0 in grind (arith, nat_tests)
+  runs_fresh (Tick moment ∷ past) c h lt = runs_fresh past c h.2 lt
+  runs_fresh (Take id max ∷ past) c h lt = runs_fresh past c h.2 lt
   runs_fresh (Close id ∷ past) c h lt = runs_fresh past c h.1 lt
 
   -- ---- what an entry adds to a stream

@@ -15,8 +15,8 @@ use Rattle.serial_model.specs.declared.history.BookReply.{BookReply}
 use Rattle.serial_model.specs.declared.history.BookReply.TheVariants.{Ticked, Bytes, Refused}
 use Rattle.serial_model.specs.declared.history.BookRefusal.TheVariants.{NoMemory}
 use Rattle.serial_model.specs.History.{admitted, runs_on, reads_on, gives_on, has_ended, latest}
-use Rattle.serial_model.specs.History.{stream, taken, unsent, runs_of, is_full, IsLegal, expired}
-use Rattle.serial_model.specs.Steps.{Turn, gone, full, admitting, running, closing, book_step}
+use Rattle.serial_model.specs.History.{stream, taken, unsent, runs_of, IsLegal, expired}
+use Rattle.serial_model.specs.Steps.{Turn, gone, admitting, running, closing, book_step}
 use Rattle.serial_model.specs.Steps.{BookStep, Turns, given_by, given, ran_by, answered}
 use Rattle.serial_model.specs.Laws.{IsAdded}
 use Rattle.serial_model.proofs.Streams.{stream_more, stream_take, taken_le, not_ended, unsent_live}
@@ -72,19 +72,17 @@ module _ (l : Limits) where
       → Gives c past call (book_step l past call)
   unfolding Gives
   step_gives c past Admit =
-      by_admit l past (Gives c past Admit) (append-nil (first c past))
-      (λ room. first_same c past (entry.Admit (admitted past + 1)) refl)
+      by_admit l past (Gives c past Admit)
+      (first_same c past (entry.Admit (admitted past + 1)) refl)
   step_gives c past (Run id words now) =
       by_run l past (Gives c past (Run id words now)) id words now (append-nil (first c past))
-      (append-nil (first c past))
-      (λ on room. first_same c past (entry.Run id words (max now (latest past))) refl)
+      (λ on. first_same c past (entry.Run id words (max now (latest past))) refl)
   step_gives c past (Tick now) =
       by_tick l past (Gives c past (Tick now)) now (append-nil (first c past))
-      (append-nil (first c past))
-      (λ some room. first_same c past (entry.Tick (max now (latest past))) refl)
+      (λ some. first_same c past (entry.Tick (max now (latest past))) refl)
   step_gives c past (Take id most) =
       by_take l past (Gives c past (Take id most)) id most (append-nil (first c past))
-      (append-nil (first c past)) (append-nil (first c past))
+      (append-nil (first c past))
       (grind (arith, first_take, not_ended))
   step_gives c past (Close id) =
       by_close l past (Gives c past (Close id)) id (append-nil (first c past))
@@ -130,16 +128,15 @@ module _ (l : Limits) where
       → Runs c past call (book_step l past call)
   unfolding Runs
   runs_step c past Admit =
-      by_admit l past (Runs c past Admit) (append-nil _) (λ room. append-nil _)
+      by_admit l past (Runs c past Admit) (append-nil _)
   runs_step c past (Run id words now) =
-      by_run l past (Runs c past (Run id words now)) id words now (append-nil _) (append-nil _)
+      by_run l past (Runs c past (Run id words now)) id words now (append-nil _)
       (grind (arith, append-nil))
   runs_step c past (Tick now) =
-      by_tick l past (Runs c past (Tick now)) now (append-nil _) (append-nil _)
-      (λ some room. append-nil _)
+      by_tick l past (Runs c past (Tick now)) now (append-nil _) (λ some. append-nil _)
   runs_step c past (Take id most) =
       by_take l past (Runs c past (Take id most)) id most (append-nil _) (append-nil _)
-      (append-nil _) (λ on some room. append-nil _)
+      (λ on some. append-nil _)
   runs_step c past (Close id) =
       by_close l past (Runs c past (Close id)) id (append-nil _) (λ on. append-nil _)
 
@@ -173,54 +170,45 @@ module _ (l : Limits) where
   pub step_legal : (past : List Entry) (call : BookCall) → IsLegal l past
       → IsLegal l (book_step l past call).past
   step_legal past Admit h =
-      by_admit l past (λ t. IsLegal l t.past) h (λ room. (refl, room, h))
+      by_admit l past (λ t. IsLegal l t.past) (refl, h)
   step_legal past (Run id words now) h =
-      by_run l past (λ t. IsLegal l t.past) id words now h h
-      (λ on room. (on, room, omega arith, h))
+      by_run l past (λ t. IsLegal l t.past) id words now h
+      (λ on. (on, omega arith, h))
   step_legal past (Tick now) h =
-      by_tick l past (λ t. IsLegal l t.past) now h h
-      (λ some room. (some, room, omega arith, h))
+      by_tick l past (λ t. IsLegal l t.past) now h
+      (λ some. (some, omega arith, h))
   step_legal past (Take id most) h =
-      by_take l past (λ t. IsLegal l t.past) id most h h h (λ on some room. (on, room, some, h))
+      by_take l past (λ t. IsLegal l t.past) id most h h (λ on some. (on, some, h))
   step_legal past (Close id) h =
       by_close l past (λ t. IsLegal l t.past) id h (λ on. (on, h))
 
   -- ---- the step, where its questions are answered
 
-  pub admit_step : (past : List Entry) → is_full l past ≡ false
-      → book_step l past Admit ≡ admitting past
+  pub admit_step : (past : List Entry) → book_step l past Admit ≡ admitting past
   unfolding book_step
-  admit_step past room = ap (λ v. cond v (full past) (admitting past)) room
+  admit_step past = refl
 
   pub run_step : (past : List Entry) (id now : ℕ) (words : List (List ℕ)) → runs_on l past id ≡ true
-      → is_full l past ≡ false
       → book_step l past (Run id words now) ≡ running past id words now
   unfolding book_step
-  run_step past id now words on room = grind arith
-
-  pub run_full : (past : List Entry) (id now : ℕ) (words : List (List ℕ)) → runs_on l past id ≡ true
-      → is_full l past ≡ true
-      → book_step l past (Run id words now) ≡ full past
-  unfolding book_step
-  run_full past id now words on none = grind arith
+  run_step past id now words on = grind arith
 
   pub tick_step : (past : List Entry) (now : ℕ) (key : List ℕ) (keys : List (List ℕ))
-      → expired l past (max now (latest past)) ≡ key ∷ keys → is_full l past ≡ false
+      → expired l past (max now (latest past)) ≡ key ∷ keys
       → book_step l past (Tick now)
       ≡ record {
         reply = Ticked (length past + 1);
         past = entry.Tick (max now (latest past)) ∷ past;
       }
   unfolding book_step
-  tick_step past now key keys e room = grind arith
+  tick_step past now key keys e = grind arith
 
   pub take_step : (past : List Entry) (id most b : ℕ) (bytes : List ℕ) → gives_on l past id ≡ true
-      → is_full l past ≡ false
       → take most (unsent l id past) ≡ b ∷ bytes
       → book_step l past (Take id most)
       ≡ record { reply = Bytes (length past + 1) (b ∷ bytes); past = entry.Take id most ∷ past }
   unfolding book_step
-  take_step past id most b bytes on room e = grind arith
+  take_step past id most b bytes on e = grind arith
 
   pub close_step : (past : List Entry) (id : ℕ) → reads_on l past id ≡ true
       → book_step l past (Close id) ≡ closing past id
@@ -234,46 +222,45 @@ module _ (l : Limits) where
 
   take_added : (past : List Entry) (id most : ℕ) (bytes : List ℕ)
       → take most (unsent l id past) ≡ bytes → (bytes ≡ [] → ⊥)
-      → gives_on l past id ≡ true → is_full l past ≡ false
+      → gives_on l past id ≡ true
       → (book_step l past (Take id most)).past ≡ entry.Take id most ∷ past
-  take_added past id most bytes e some on room = grind (arith, take_step)
+  take_added past id most bytes e some on = grind (arith, take_step)
 
   tick_added : (past : List Entry) (now : ℕ) (keys : List (List ℕ))
       → expired l past (max now (latest past)) ≡ keys → (keys ≡ [] → ⊥)
-      → is_full l past ≡ false
       → (book_step l past (Tick now)).past ≡ entry.Tick (max now (latest past)) ∷ past
-  tick_added past now [] e some room = absurd (some refl)
-  tick_added past now (key ∷ keys) e some room = grind (arith, tick_step)
+  tick_added past now [] e some = absurd (some refl)
+  tick_added past now (key ∷ keys) e some = grind (arith, tick_step)
 
   added : (past : List Entry) → IsLegal l past → IsAdded l past
   added [] h = tt
   added (entry.Admit id ∷ past) h = (
-    h.2,
+    h.1,
     Admit,
     tt,
-    ap (λ (t : Turn). t.past) (admit_step past h.1)
+    ap (λ (t : Turn). t.past) (admit_step past)
         ∙ ap (λ i. entry.Admit i ∷ past) (sym h.0),
   )
   added (entry.Run id words moment ∷ past) h = (
-    h.3,
+    h.2,
     Run id words moment,
     tt,
-    ap (λ (t : Turn). t.past) (run_step past id moment words h.0 h.1)
+    ap (λ (t : Turn). t.past) (run_step past id moment words h.0)
         ∙ ap (λ m. entry.Run id words m ∷ past) (let e : max moment (latest past)
         ≡ moment = omega arith in e),
   )
   added (entry.Tick moment ∷ past) h =
-      let e : max moment (latest past) ≡ moment = let le = h.2 in omega (arith, le) in (
-        h.3,
+      let e : max moment (latest past) ≡ moment = let le = h.1 in omega (arith, le) in (
+        h.2,
         Tick moment,
         tt,
         grind (arith, tick_added),
       )
   added (entry.Take id most ∷ past) h = (
-    h.3,
+    h.2,
     Take id most,
-    takes_some most (unsent l id past) h.2,
-    take_added past id most (take most (unsent l id past)) refl h.2 h.0 h.1,
+    takes_some most (unsent l id past) h.1,
+    take_added past id most (take most (unsent l id past)) refl h.1 h.0,
   )
   added (entry.Close id ∷ past) h = (
     h.1,

@@ -351,23 +351,17 @@ run_entries c (Close id ∷ past) = run_entries c past
 
 -- ---- which pasts there are
 
--- the history has no room for an entry other than a Close
-abbrev pub is_full : Limits → List Entry → Bool
-is_full l past = nat_le l.history_max (length past)
-
 -- each entry is one that a turn adds there: an Admit has the next id; a Run, a Take and a Close are
 -- of a connection that may do so; moments never fall; a Tick takes out a key, and a Take takes
--- something; and the limit is kept
+-- something
 abbrev pub IsLegal : Limits → List Entry → Type 0
 IsLegal l [] = Unit {0}
 IsLegal l (Admit id ∷ past) =
-    (id ≡ admitted past + 1) × (is_full l past ≡ false) × IsLegal l past
+    (id ≡ admitted past + 1) × IsLegal l past
 IsLegal l (Run id words moment ∷ past) =
-    (runs_on l past id ≡ true) × (is_full l past ≡ false) × (latest past ≤ moment) × IsLegal l past
+    (runs_on l past id ≡ true) × (latest past ≤ moment) × IsLegal l past
 IsLegal l (Tick moment ∷ past) =
-    (expired l past moment ≡ [] → ⊥) × (is_full l past ≡ false) × (latest past ≤ moment)
-    × IsLegal l past
+    (expired l past moment ≡ [] → ⊥) × (latest past ≤ moment) × IsLegal l past
 IsLegal l (Take id max ∷ past) =
-    (gives_on l past id ≡ true) × (is_full l past ≡ false)
-    × (take max (unsent l id past) ≡ [] → ⊥) × IsLegal l past
+    (gives_on l past id ≡ true) × (take max (unsent l id past) ≡ [] → ⊥) × IsLegal l past
 IsLegal l (Close id ∷ past) = (reads_on l past id ≡ true) × IsLegal l past

@@ -10,9 +10,9 @@ use Rattle.serial_model.specs.declared.history.BookCall.TheVariants.{Close}
 use Rattle.serial_model.specs.declared.history.BookReply.{BookReply}
 use Rattle.serial_model.specs.declared.history.BookReply.TheVariants.{Admitted, Ran, Ticked, Quiet}
 use Rattle.serial_model.specs.declared.history.BookReply.TheVariants.{Bytes, Closed, Refused}
-use Rattle.serial_model.specs.declared.history.BookRefusal.TheVariants.{Gone, HistoryFull, NoMemory}
+use Rattle.serial_model.specs.declared.history.BookRefusal.TheVariants.{Gone, NoMemory}
 use Rattle.serial_model.specs.History.{admitted, runs_on, reads_on, gives_on, latest, unsent}
-use Rattle.serial_model.specs.History.{is_full, expired}
+use Rattle.serial_model.specs.History.{expired}
 
 -- each limit is at least 1
 pub record AreValid (l : Limits) : Type 0 where
@@ -26,13 +26,6 @@ pub record Turn : Type 0 where
 
 abbrev pub gone : List Entry → ℕ → Turn
 gone past id = record { reply = Refused (Gone id); past = past }
-
-abbrev pub full : List Entry → Turn
-full past = record { reply = Refused (HistoryFull (length past)); past = past }
-
--- a turn that adds an entry, where the history has room for it
-abbrev pub unless_full : Limits → List Entry → Turn → Turn
-unless_full l past turn = if is_full l past then full past else turn
 
 abbrev pub admitting : List Entry → Turn
 admitting past =
@@ -49,33 +42,31 @@ running past id words now =
     }
 
 -- a Tick at a moment at which these keys are due; where none is, it is Quiet and adds no entry
-abbrev pub ticking : Limits → List Entry → ℕ → List (List ℕ) → Turn
-ticking l past moment [] = record { reply = Quiet; past = past }
-ticking l past moment (key ∷ keys) =
-    unless_full l past
-    (record { reply = Ticked (length past + 1); past = entry.Tick moment ∷ past })
+abbrev pub ticking : List Entry → ℕ → List (List ℕ) → Turn
+ticking past moment [] = record { reply = Quiet; past = past }
+ticking past moment (key ∷ keys) =
+    record { reply = Ticked (length past + 1); past = entry.Tick moment ∷ past }
 
 abbrev pub tick_at : Limits → List Entry → ℕ → Turn
-tick_at l past moment = ticking l past moment (expired l past moment)
+tick_at l past moment = ticking past moment (expired l past moment)
 
 -- nothing to take is Quiet, and adds no entry
-abbrev pub taking : Limits → List Entry → ℕ → ℕ → List ℕ → Turn
-taking l past id most [] = record { reply = Quiet; past = past }
-taking l past id most (b ∷ bytes) =
-    unless_full l past
-    (record { reply = Bytes (length past + 1) (b ∷ bytes); past = entry.Take id most ∷ past })
+abbrev pub taking : List Entry → ℕ → ℕ → List ℕ → Turn
+taking past id most [] = record { reply = Quiet; past = past }
+taking past id most (b ∷ bytes) =
+    record { reply = Bytes (length past + 1) (b ∷ bytes); past = entry.Take id most ∷ past }
 
 abbrev pub closing : List Entry → ℕ → Turn
 closing past id = record { reply = Closed (length past + 1); past = entry.Close id ∷ past }
 
--- the refusals come in the order Gone, Quiet, HistoryFull; a Close is never refused for the limit
+-- the refusals come in the order Gone, Quiet
 unfoldable pub book_step : Limits → List Entry → BookCall → Turn
-book_step l past Admit = unless_full l past (admitting past)
+book_step l past Admit = admitting past
 book_step l past (Run id words now) =
-    if runs_on l past id then unless_full l past (running past id words now) else gone past id
+    if runs_on l past id then running past id words now else gone past id
 book_step l past (Tick now) = tick_at l past (max now (latest past))
 book_step l past (Take id most) =
-    if gives_on l past id then taking l past id most (take most (unsent l id past))
+    if gives_on l past id then taking past id most (take most (unsent l id past))
     else gone past id
 book_step l past (Close id) = if reads_on l past id then closing past id else gone past id
 
@@ -97,8 +88,8 @@ TakesMemory (Tick now) = Unit {0}
 TakesMemory (Take id most) = Unit {0}
 TakesMemory (Close id) = ⊥
 
--- memory runs out only where the step would have added an entry; at a Tick also before it is known
--- whether a key is due
+-- memory, or the entries' numbers, run out only where the step would have added an entry; at a Tick
+-- also before it is known whether a key is due
 abbrev pub MayRunOut : BookCall → BookReply → Type 0
 MayRunOut (Tick now) reply = Unit {0}
 MayRunOut call reply = AddsEntry reply

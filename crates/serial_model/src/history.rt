@@ -8,7 +8,7 @@ pub struct Limits {
     pub table_max: u64,
     /// How many bytes a connection may leave untaken.
     pub out_max: u64,
-    /// How many entries a history may have.
+    /// At how many entries since the last fold the book folds: it then lets all of them go.
     pub history_max: u64,
 }
 
@@ -46,8 +46,6 @@ pub enum BookCall {
 pub enum BookRefusal {
     /// No connection of this id was admitted, or it has ended.
     Gone { id: u64 },
-    /// The history has as many entries as its limit allows.
-    HistoryFull { entries: u64 },
     NoMemory,
 }
 

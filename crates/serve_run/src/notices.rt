@@ -1,27 +1,19 @@
 //! What a person at a server is told of its run, on standard error.
-use conn_worker::{Ended, Gate};
+use conn_worker::Gate;
 use resp_value::Words;
-use std::sync::atomic::{AtomicU64, Ordering};
 use std::sync::{Mutex, Wait};
 use std::thread::{self, Threads};
 
-/// Says what a person should know of a run, each thing once. It has no part in what is served, and
-/// what can't be written is left out.
+/// Says what a person should know of a run. It has no part in what is served, and what can't be
+/// written is left out.
 #[derive(Drop)]
 pub struct Notices<'a, R> {
     rt: &'a R,
-    history_max: u64,
-    // Not 0 once it was said that the history is full.
-    said_full: AtomicU64,
 }
 
 impl<'a, R: Eprint> Notices<'a, R> {
-    pub fn new(rt: &'a R, history_max: u64) -> Self {
-        Notices {
-            rt,
-            history_max,
-            said_full: AtomicU64::new(0),
-        }
+    pub fn new(rt: &'a R) -> Self {
+        Notices { rt }
     }
 
     /// The net listens at the port, and workers are about to start.
@@ -47,16 +39,6 @@ impl<'a, R: Eprint> Gate for Notices<'a, R> {
     fn before(&self, _id: u64, _words: &Words) {}
 
     fn after(&self, _id: u64, _requests: u64) {}
-
-    fn ended(&self, _id: u64, ended: Ended) {
-        if ended == Ended::HistoryFull && self.said_full.swap(1, Ordering::SeqCst) == 0 {
-            let most = self.history_max;
-            let _ = eprintln!(self.rt;
-                "zeovalki: the history is full, with the {most} entries of --history-max: \
-                 from now on each connection ends at its next request"
-            );
-        }
-    }
 }
 
 /// How many threads, of so many, can be made beside this one at once.

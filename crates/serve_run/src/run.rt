@@ -62,7 +62,7 @@ pub fn serve<N: Net, C: Clock + Sync, R: Threads + Wait + Eprint + Sync>(
             };
         }
     };
-    let gate = Notices::new(rt, limits.history_max);
+    let gate = Notices::new(rt);
     gate.begin(port, workers);
     match serve_all(
         rt,

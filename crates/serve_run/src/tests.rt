@@ -1,5 +1,4 @@
 //! Servers at the ports of a net in memory, and workers side by side.
-use crate::notices::Notices;
 use crate::{ServeEnd, serve};
 use conn_pool::serve_all;
 use conn_worker::{Ended, Gate};
@@ -9,9 +8,7 @@ use edge_links::{
 use resp_value::Words;
 use serial_model::Limits;
 use std::alloc::{AllocError, Global};
-use std::fmt::Display;
 use std::hint::spin_loop;
-use std::io;
 use std::sync::atomic::{AtomicU64, Ordering};
 use std::test::Fail;
 
@@ -179,37 +176,5 @@ fn a_request_waits_for_one_that_another_worker_answers(rt: HostRuntime) -> Resul
     }
     assert_eq!(rt; served.reports.len(), 2);
     assert_eq!(rt; requests, 3);
-    Ok(())
-}
-
-/// Counts the lines of standard error.
-#[derive(Drop)]
-struct CountedLines {
-    lines: AtomicU64,
-}
-
-impl Eprint for CountedLines {
-    fn eprint<D: Display + Drop>(&self, _value: D) -> io::Result<()> {
-        Ok(())
-    }
-
-    fn eprintln<D: Display + Drop>(&self, _value: D) -> io::Result<()> {
-        self.lines.fetch_add(1, Ordering::SeqCst);
-        Ok(())
-    }
-}
-
-#[test]
-fn a_full_history_is_said_once(rt: HostRuntime) -> Result<(), Fail> {
-    let lines = CountedLines {
-        lines: AtomicU64::new(0),
-    };
-    let notices = Notices::new(&lines, 9);
-    notices.ended(1, Ended::PeerEnd);
-    assert_eq!(rt; lines.lines.load(Ordering::SeqCst), 0);
-    for id in 0..3u64 {
-        notices.ended(id, Ended::HistoryFull);
-    }
-    assert_eq!(rt; lines.lines.load(Ordering::SeqCst), 1);
     Ok(())
 }

@@ -1,10 +1,12 @@
 -- How each turn keeps what a book knows of its history.
-use Rattle.std.proofs.Common.{◌≡◌, ◌+◌, ◌<◌, ◌≤◌, ℕ, List, [], ◌∷◌, ◌++◌, length, take, drop}
+use Rattle.std.proofs.Common.{◌≡◌, ◌+◌, ◌-◌, ◌<◌, ◌≤◌, ℕ, List, [], ◌∷◌, ◌++◌, length, take, drop}
 use Rattle.std.proofs.Common.{ap, ◌∙◌, refl, arith, Bool, true, false, cond, length-append}
-use Rattle.std.proofs.Common.{ne_eqb, length-set}
+use Prim.Native.Nat.{suc}
+use Rattle.std.proofs.Common.{ne_eqb, length-set, slice_index_or}
 use Rattle.std.specs.Prelude.{◌==◌}
 use Rattle.std.specs.List.{count_by}
-use Rattle.std.proofs.lemmas.List.Sums.{sum_by-set, sum_by_push, count_by-le-length}
+use Rattle.std.proofs.lemmas.List.Sums.{sum_by-cons, sum_by-set, sum_by_push}
+use Rattle.std.proofs.lemmas.List.Sums.{get_or-le-sum_by}
 use Rattle.std.proofs.lemmas.List.{get_or_push, get_or_append_left}
 use Rattle.std.proofs.lemmas.Bool.{cases_eq}
 use Rattle.command_words.specs.Space.{Space}
@@ -18,7 +20,7 @@ use Rattle.serial_model.specs.declared.history.BookReply.TheVariants.{Admitted, 
 use Rattle.serial_model.specs.declared.history.Post.{Post}
 use Rattle.serial_model.specs.declared.history.Posted.TheVariants.{End}
 use Rattle.serial_model.specs.History.{admitted, runs_on, gives_on, reads_on, unsent}
-use Rattle.serial_model.specs.History.{posted, is_full, table}
+use Rattle.serial_model.specs.History.{has_ended, posted, table}
 use Rattle.serial_model.specs.Steps.{book_step, AddsEntry}
 use Rattle.serial_model.proofs.ModeSteps.{mode_fresh}
 use Rattle.serial_model.specs.declared.mode.Mode.{Mode}
@@ -73,22 +75,36 @@ switched_is cs id message left on =
 abbrev pub one_open : Connection → ℕ
 one_open c = cond (is_open c) 1 0
 
-open_le : (cs : List Connection) → count_by is_open cs ≤ length cs
-open_le cs = count_by-le-length is_open cs
+one_within : (c d : Connection) → (is_open d ≡ true → is_open c ≡ true) → one_open d ≤ one_open c
+one_within c d h = grind arith
 
-pub room_more : (left : ℕ) (old cs : List Connection) → length cs ≡ length old
-    → length old ≤ left → HasRoom left cs
-room_more left old cs same h = omega (arith, open_le cs)
+-- where those that are open were open, they are no more than before
+open_within : (old new : List Connection) → length new ≡ length old
+    → ((i : ℕ) → i < length old → is_open (slice_index_or new i fresh) ≡ true
+    → is_open (slice_index_or old i fresh) ≡ true)
+    → count_by is_open new ≤ count_by is_open old
+open_within [] [] same h = omega arith
+open_within [] (d ∷ ds) same h = absurd (omega arith)
+open_within (c ∷ cs) [] same h = absurd (omega arith)
+open_within (c ∷ cs) (d ∷ ds) same h =
+    let rest = open_within cs ds (omega arith) (λ i lt. h (suc i) (omega (arith, lt))) in
+    let old = sum_by-cons one_open c cs in
+    let new = sum_by-cons one_open d ds in
+    omega (arith, rest, old, new, one_within c d (h 0 (omega arith)))
 
-pub room_admit : (left : ℕ) (cs : List Connection) → length cs + 1 ≤ left
-    → HasRoom left (cs ++ fresh ∷ [])
-room_admit left cs h = omega (arith, open_le cs, sum_by_push one_open cs fresh)
+pub room_admit : (closable : ℕ) (cs : List Connection) → HasRoom closable cs
+    → HasRoom (closable + 1) (cs ++ fresh ∷ [])
+room_admit closable cs h = omega (arith, h, sum_by_push one_open cs fresh)
 
 pub room_close : (room left id : ℕ) (cs : List Connection) → HasRoom room cs → IsId cs id
-    → (connection_at cs id).ended ≡ false → left + 1 ≡ room
+    → (connection_at cs id).ended ≡ false → left ≡ room - 1
     → (let c = connection_at cs id in
     HasRoom left (with_connection cs id (record c { queue = []; ended = true })))
 room_close room left id cs h on live e = grind (arith, sum_by-set)
+
+pub some_open : (room id : ℕ) (cs : List Connection) → HasRoom room cs → IsId cs id
+    → (connection_at cs id).ended ≡ false → 0 < room
+some_open room id cs h on live = grind (arith, get_or-le-sum_by)
 
 module _ (l : Limits) (past : List Entry) (space : Space) (keys : TableState)
     (cs : List Connection) (k : Agrees l past space keys cs) where
@@ -96,14 +112,21 @@ module _ (l : Limits) (past : List Entry) (space : Space) (keys : TableState)
   pub is_id : (id : ℕ) → runs_on l past id ≡ true → IsId cs id
   is_id id on = let both = connected l past id on in (both.0, omega (arith, both.1, k.count))
 
+  -- whether it has ended
+  pub ended_at : (i : ℕ) → i < length cs
+      → (slice_index_or cs i fresh).ended ≡ has_ended l (i + 1) past
+  ended_at i lt =
+      ap (λ n. (slice_index_or cs n fresh).ended) (let e : i ≡ i + 1 - 1 = omega arith in e)
+      ∙ ap (λ c. c.ended) (k.each (i + 1) (omega arith, omega (arith, lt)))
+
   -- what is kept of it
   pub kept_of : (id : ℕ) → runs_on l past id ≡ true → connection_at cs id ≡ connection_of l past id
   kept_of id on = k.each id (is_id id on)
 
   -- the new connection has nothing
-  pub agrees_admit : (id : ℕ) → id ≡ length cs + 1 → is_full l past ≡ false
+  pub agrees_admit : (id : ℕ) → id ≡ length cs + 1
       → Agrees l (entry.Admit id ∷ past) space keys (cs ++ fresh ∷ [])
-  agrees_admit id e room = grind (
+  agrees_admit id e = grind (
     arith,
     length-append,
     get_or_push,
@@ -134,10 +157,10 @@ module _ (l : Limits) (past : List Entry) (space : Space) (keys : TableState)
   abbrev pub took : ℕ → ℕ → Connection
   took id m = let c = connection_at cs id in record c { queue = drop m c.queue }
 
-  pub agrees_take : (id m : ℕ) → gives_on l past id ≡ true → is_full l past ≡ false
+  pub agrees_take : (id m : ℕ) → gives_on l past id ≡ true
       → (take m (unsent l id past) ≡ [] → ⊥)
       → Agrees l (entry.Take id m ∷ past) space keys (with_connection cs id (took id m))
-  agrees_take id m on room some =
+  agrees_take id m on some =
       grind (arith, length-set, each_with, unsent_take_own, not_ended, unsent_take_other)
 
   pub live_at : (id : ℕ) → reads_on l past id ≡ true → (connection_at cs id).ended ≡ false
@@ -161,6 +184,20 @@ module _ (l : Limits) (past : List Entry) (space : Space) (keys : TableState)
     ended_other,
   )
 
+-- an entry after which nobody is open that was not
+pub room_kept : (l : Limits) (past : List Entry) (e : Entry) (closable : ℕ) (space : Space)
+    (keys : TableState) (cs : List Connection) → Agrees l past space keys cs
+    → (then : Space) (left : TableState) (ds : List Connection)
+    → Agrees l (e ∷ past) then left ds → length ds ≡ length cs
+    → ((i : ℕ) → has_ended l i past ≡ true → has_ended l i (e ∷ past) ≡ true)
+    → HasRoom closable cs → HasRoom closable ds
+room_kept l past e closable space keys cs k then left ds a same ends h =
+    let within = open_within cs ds same (λ i lt on.
+    let old = ended_at l past space keys cs k i lt in
+    let new = ended_at l (e ∷ past) then left ds a i (omega (arith, lt, same)) in
+    let over = ends (i + 1) in grind arith) in
+    omega (arith, h, within)
+
 -- ---- turns as they are played
 
 added : (l : Limits) (past : List Entry) (posts sent : List Post) (e : Entry) (call : BookCall)
@@ -180,28 +217,28 @@ pub is_turn : (old : BookState) (l : Limits) (past new : List Entry) (posts sent
 is_turn old l past new posts sent e call reply view adds grown step posted_is = grind arith
 
 -- the newest entry is that of the step
-pub admit_turned : (l : Limits) (past : List Entry) (n id : ℕ) → is_full l past ≡ false
-    → n ≡ length past → id ≡ admitted past + 1
-    → book_step l past Admit ≡ record { reply = Admitted (n + 1) id; past = entry.Admit id ∷ past }
-admit_turned l past n id room h i = grind (arith, admit_step)
+pub admit_turned : (l : Limits) (past : List Entry) (n id : ℕ)
+    → n ≡ length past + 1 → id ≡ admitted past + 1
+    → book_step l past Admit ≡ record { reply = Admitted n id; past = entry.Admit id ∷ past }
+admit_turned l past n id h i = grind (arith, admit_step)
 
 pub take_turned : (l : Limits) (past : List Entry) (id most n : ℕ) (bytes : List ℕ)
-    → gives_on l past id ≡ true → is_full l past ≡ false
-    → n ≡ length past → bytes ≡ take most (unsent l id past) → 0 < length bytes
+    → gives_on l past id ≡ true
+    → n ≡ length past + 1 → bytes ≡ take most (unsent l id past) → 0 < length bytes
     → book_step l past (Take id most)
-    ≡ record { reply = Bytes (n + 1) bytes; past = entry.Take id most ∷ past }
-take_turned l past id most n bytes on room h e some = grind (arith, take_step)
+    ≡ record { reply = Bytes n bytes; past = entry.Take id most ∷ past }
+take_turned l past id most n bytes on h e some = grind (arith, take_step)
 
 pub close_turned : (l : Limits) (past : List Entry) (id n : ℕ) → reads_on l past id ≡ true
-    → n ≡ length past
-    → book_step l past (Close id) ≡ record { reply = Closed (n + 1); past = entry.Close id ∷ past }
+    → n ≡ length past + 1
+    → book_step l past (Close id) ≡ record { reply = Closed n; past = entry.Close id ∷ past }
 close_turned l past id n on h = grind (arith, close_step)
 
 -- what each entry sends
-pub posted_close : (l : Limits) (past : List Entry) (id n : ℕ) → n ≡ length past
-    → end_post (n + 1) id ∷ [] ≡ posted l (entry.Close id ∷ past)
+pub posted_close : (l : Limits) (past : List Entry) (id n : ℕ) → n ≡ length past + 1
+    → end_post n id ∷ [] ≡ posted l (entry.Close id ∷ past)
 unfolding posted
-posted_close l past id n h = ap (λ x. record { entry = x + 1; id = id; what = End } ∷ []) h
+posted_close l past id n h = ap (λ x. record { entry = x; id = id; what = End } ∷ []) h
 
 pub posted_admit : (l : Limits) (past : List Entry) (id : ℕ) → [] ≡ posted l (entry.Admit id ∷ past)
 unfolding posted

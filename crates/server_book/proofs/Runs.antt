@@ -11,7 +11,7 @@ use Rattle.serial_model.specs.declared.history.Limits.{Limits}
 use Rattle.serial_model.specs.declared.history.Entry.{Entry}
 use Rattle.serial_model.specs.declared.history.Entry.TheVariants as entry
 use Rattle.serial_model.specs.Tracking.{Invalidation, group, without_keys}
-use Rattle.serial_model.specs.History.{runs_on, is_full, latest, has_ended, unsent, posted, mode}
+use Rattle.serial_model.specs.History.{runs_on, latest, has_ended, unsent, posted, mode}
 use Rattle.serial_model.specs.History.{modes, routed, reply_of, sends, sent_to, sent_bytes, spelled}
 use Rattle.serial_model.specs.History.{Sending, Message, posts_of, made, ran, signals, table}
 use Rattle.serial_model.specs.History.{table_then, expired, expiry_group, tracking}
@@ -241,11 +241,11 @@ module _ (l : Limits) (past : List Entry) (space : Space) (keys : TableState)
         mode_then,
       )
 
-      pub agrees_run : (new : Space) → is_full l past ≡ false → latest past ≤ m
+      pub agrees_run : (new : Space) → latest past ≤ m
           → new ≡ (ran l past id words m).space
           → (let rows = kept_by left.limit id plan.deed left.rows in
           Agrees l (run ∷ past) new (record keys { rows = rows }) after.items)
-      agrees_run new room later s =
+      agrees_run new later s =
           grind (arith, kept_is, length_after, cases_eq, each_own, each_other)
 
       -- and its posts are those of its entry

@@ -1,6 +1,6 @@
 -- A Tick sends what its entry sends, and leaves what the history says.
 use Rattle.std.proofs.Common.{◌≡◌, ◌≢◌, ◌+◌, ◌≤◌, ℕ, List, [], ◌∷◌, ◌++◌, length, sym, ap, ◌∙◌}
-use Rattle.std.proofs.Common.{refl, arith, true, false, append-nil, max, ne_eqb}
+use Rattle.std.proofs.Common.{refl, arith, true, append-nil, max, ne_eqb}
 use Rattle.std.proofs.lemmas.Bool.{cases_eq}
 use Rattle.command_words.specs.Expiry.{without_due}
 use Rattle.command_words.specs.Space.{Space}
@@ -11,9 +11,9 @@ use Rattle.serial_model.specs.declared.history.Limits.{Limits}
 use Rattle.serial_model.specs.declared.history.Entry.{Entry}
 use Rattle.serial_model.specs.declared.history.Entry.TheVariants as entry
 use Rattle.serial_model.specs.Tracking.{without_keys}
-use Rattle.serial_model.specs.History.{is_full, latest, has_ended, unsent, posted, sends, sent_to}
+use Rattle.serial_model.specs.History.{latest, has_ended, unsent, posted, sends, sent_to}
 use Rattle.serial_model.specs.History.{expired}
-use Rattle.serial_model.specs.Steps.{book_step, full}
+use Rattle.serial_model.specs.Steps.{book_step}
 use Rattle.serial_model.proofs.Streams.{IsLive, tick_bytes, tick_sends_none, unsent_tick}
 use Rattle.serial_model.proofs.Streams.{unsent_ended}
 use Rattle.serial_model.proofs.Turning.{tick_step}
@@ -47,10 +47,10 @@ module _ (l : Limits) (past : List Entry) (space : Space) (keys : TableState)
   pub length_told : length told ≡ length cs
   length_told = length_first l past space keys cs k m gone gone_is n
 
-  pub agrees_tick : (new : Space) → (gone ≡ [] → ⊥) → is_full l past ≡ false → latest past ≤ m
+  pub agrees_tick : (new : Space) → (gone ≡ [] → ⊥) → latest past ≤ m
       → new ≡ without_due m space
       → Agrees l (entry.Tick m ∷ past) new (record keys { rows = without_keys gone keys.rows }) told
-  agrees_tick new some room later s = grind (arith, length_told, each)
+  agrees_tick new some later s = grind (arith, length_told, each)
 
   pub posted_tick : (first l past space keys cs k m gone gone_is n).posts
       ≡ posted l (entry.Tick m ∷ past)
@@ -67,21 +67,14 @@ some_of keys ne none = ne (ap length none)
 
 -- the answers of a Tick
 pub tick_turned : (l : Limits) (past : List Entry) (now m n : ℕ) (gone : List (List ℕ))
-    → gone ≡ expired l past m → (gone ≡ [] → ⊥) → is_full l past ≡ false
-    → n ≡ length past → m ≡ max now (latest past)
-    → book_step l past (Tick now) ≡ record { reply = Ticked (n + 1); past = entry.Tick m ∷ past }
-tick_turned l past now m n [] is some room h moment = absurd (some refl)
-tick_turned l past now m n (key ∷ gone) is some room h moment = grind (arith, tick_step)
+    → gone ≡ expired l past m → (gone ≡ [] → ⊥)
+    → n ≡ length past + 1 → m ≡ max now (latest past)
+    → book_step l past (Tick now) ≡ record { reply = Ticked n; past = entry.Tick m ∷ past }
+tick_turned l past now m n [] is some h moment = absurd (some refl)
+tick_turned l past now m n (key ∷ gone) is some h moment = grind (arith, tick_step)
 
 pub tick_quiet : (l : Limits) (past : List Entry) (now m : ℕ) → expired l past m ≡ []
     → m ≡ max now (latest past)
     → book_step l past (Tick now) ≡ record { reply = Quiet; past = past }
 unfolding book_step
 tick_quiet l past now m none moment = grind arith
-
-pub tick_full : (l : Limits) (past : List Entry) (now m : ℕ) (gone : List (List ℕ))
-    → gone ≡ expired l past m → (gone ≡ [] → ⊥) → is_full l past ≡ true
-    → m ≡ max now (latest past)
-    → book_step l past (Tick now) ≡ full past
-unfolding book_step
-tick_full l past now m gone is some none moment = grind arith

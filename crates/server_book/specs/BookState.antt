@@ -1,5 +1,5 @@
 -- What contracts see of a book, and how its parts follow from its history.
-use Rattle.std.specs.Prelude.{◌≡◌, ◌<◌, ◌≤◌, ℕ, List, [], true, false, length, Option, Some, None}
+use Rattle.std.specs.Prelude.{◌≡◌, ◌<◌, ◌≤◌, ℕ, List, [], true, length, Option, Some, None}
 use Rattle.std.specs.List.{count_by}
 use Rattle.command_words.specs.Space.{Space}
 use Rattle.serial_model.specs.declared.history.Limits.{Limits}
@@ -13,11 +13,11 @@ use Rattle.serial_model.specs.declared.history.BookReply.TheVariants.{Admitted, 
 use Rattle.serial_model.specs.declared.history.BookReply.TheVariants.{Bytes, Closed, Refused}
 use Rattle.serial_model.specs.History.{admitted, has_ended, keyspace, unsent, posted, IsLegal}
 use Rattle.serial_model.specs.History.{runs_on}
-use Rattle.serial_model.specs.History.{gives_on, reads_on, is_full, mode}
+use Rattle.serial_model.specs.History.{gives_on, reads_on, mode}
 use Rattle.serial_model.specs.History.{table as table_of}
 use Rattle.track_table.specs.Table.{TableState}
 use Rattle.server_book.specs.declared.stores.Stores.{Stores}
-use Rattle.serial_model.specs.Steps.{BookStep, full}
+use Rattle.serial_model.specs.Steps.{BookStep}
 use Rattle.server_book.specs.declared.connections.Connection.{Connection}
 use Rattle.server_book.specs.Connections.{IsId, connection_at, is_open}
 use Rattle.server_book.specs.Log.{LogState}
@@ -58,21 +58,17 @@ HasRoom room connections = count_by is_open connections ≤ room
 
 pub record IsBook (l : Limits) (log : LogState) (stores : Stores) : Type 0 where
   pub agrees : Agrees l log.past stores.space stores.table stores.connections.items
-  pub room : HasRoom log.room stores.connections.items
+  pub most_is : log.most ≡ l.history_max
+  pub room : HasRoom log.closable stores.connections.items
 
 -- the call is one that adds an entry; of a Tick it is not known yet whether a key is due
 abbrev pub IsAccepted : Limits → List Entry → BookCall → Type 0
-IsAccepted l past Admit = is_full l past ≡ false
-IsAccepted l past (Run id words now) = (runs_on l past id ≡ true) × (is_full l past ≡ false)
+IsAccepted l past Admit = Unit {0}
+IsAccepted l past (Run id words now) = runs_on l past id ≡ true
 IsAccepted l past (Tick now) = Unit {0}
 IsAccepted l past (Take id most) =
-    (gives_on l past id ≡ true) × (is_full l past ≡ false) × (0 < length (unsent l id past))
+    (gives_on l past id ≡ true) × (0 < length (unsent l id past))
 IsAccepted l past (Close id) = reads_on l past id ≡ true
-
--- the history is full, and the answer says so; or there is none
-abbrev pub IsFullAnswer : BookState → Option BookReply → Type 0
-IsFullAnswer b None = is_full b.limits b.past ≡ false
-IsFullAnswer b (Some reply) = (is_full b.limits b.past ≡ true) × (reply ≡ (full b.past).reply)
 
 -- the call adds no entry, and the answer is the step's; or there is none, and the call is accepted
 abbrev pub IsRefusal : BookState → BookCall → Option BookReply → Type 0

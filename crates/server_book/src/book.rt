@@ -1,15 +1,16 @@
 //! The server's state. A turn answers and adds what the definition of a step gives on the history.
 ghost use Rattle.std.specs.Prelude.{◌≡◌, ◌<◌, [], true, IfOk, OnErr, length};
-ghost use Rattle.std.specs.Prelude.{reverse};
+ghost use Rattle.std.specs.Prelude.{reverse, take};
 ghost use Rattle.command_words.specs.Reading.{IsReading};
 ghost use Rattle.command_words.specs.Words.{reading};
 ghost use Rattle.serial_model.specs.declared.history.BookCall.TheVariants as call;
-ghost use Rattle.serial_model.specs.History.{IsLegal, gives_on, is_full, latest, reads_on};
+ghost use Rattle.serial_model.specs.History.{IsLegal, gives_on, latest, reads_on};
 ghost use Rattle.serial_model.specs.History.{runs_on};
 ghost use Rattle.serial_model.specs.History.{unsent};
 ghost use Rattle.serial_model.specs.Steps.{AreValid, BookStep, IsCallable};
-ghost use Rattle.server_book.specs.BookState.{IsAccepted, IsFullAnswer, IsRefusal, IsTurn};
+ghost use Rattle.server_book.specs.BookState.{IsAccepted, IsRefusal, IsTurn};
 ghost use Rattle.server_book.specs.BookState.{posts_after};
+ghost use Rattle.server_book.specs.Log.{base, kept, runs};
 
 use super::log::Log;
 use super::plan::{Played, play};
@@ -52,12 +53,12 @@ impl Book {
     {
         Ok(Book {
             limits,
-            log: Log::new(alloc),
+            log: Log::new(alloc, limits.history_max),
             stores: Stores::new(alloc, limits.table_max)?,
         })
     }
 
-    /// How many entries the history has.
+    /// How many entries the history has, those that were let go too.
     pub fn entries(&self) -> u64
         ensures { result ≡ length self.now.past }
     {
@@ -71,9 +72,24 @@ impl Book {
         self.log.moment()
     }
 
-    /// The history, the first entry first.
+    /// How many entries were let go. All are, as soon as there are as many as the limit.
+    pub fn base(&self) -> u64
+        ensures { result ≡ base self.now.limits.history_max self.now.past }
+    {
+        self.log.base()
+    }
+
+    /// How many Runs of a connection the history has. There is none where it was not admitted.
+    pub fn runs(&self, id: u64) -> Option<u64>
+        ensures { result ≡ runs self.now.past id }
+    {
+        self.log.runs(id)
+    }
+
+    /// The newest entries of the history, those since the base, the first of them first.
     pub fn history(&self) -> &[Entry]
-        ensures list { reverse result.now ≡ self.now.past }
+        ensures newest { let past = self.now.past in
+            reverse result.now ≡ take (kept self.now.limits.history_max past) past }
         ensures legal { IsLegal self.now.limits self.now.past }
     {
         self.log.entries()
@@ -115,34 +131,16 @@ impl Book {
         self.stores.connections.waiting(id) as u64
     }
 
-    fn is_full(&self) -> bool
-        ensures { result ≡ is_full self.now.limits self.now.past }
-    {
-        self.log.len() >= self.limits.history_max
-    }
-
-    // The answer to a call that would add an entry, where the history is full.
-    fn full(&self) -> Option<BookReply>
-        ensures { IsFullAnswer self.now result }
-    {
-        if self.is_full() {
-            let entries = self.log.len();
-            Some(BookReply::Refused(BookRefusal::HistoryFull { entries }))
-        } else {
-            None
-        }
-    }
-
     // The answer to a call that adds no entry, by the order of refusals.
     fn refusal(&self, call: &BookCall) -> Option<BookReply>
         requires { IsCallable call.now }
         ensures { IsRefusal self.now call.now result }
     {
         match call {
-            BookCall::Admit => self.full(),
+            BookCall::Admit => None,
             BookCall::Run { id, .. } => {
                 if self.runs_on(*id) {
-                    self.full()
+                    None
                 } else {
                     Some(BookReply::Refused(BookRefusal::Gone { id: *id }))
                 }
@@ -152,7 +150,7 @@ impl Book {
             BookCall::Take { id, .. } => {
                 if self.gives_on(*id) {
                     if self.waiting(*id) > 0 {
-                        self.full()
+                        None
                     } else {
                         Some(BookReply::Quiet)
                     }
@@ -177,9 +175,9 @@ impl Book {
         ensures err { OnErr result (self.new ≡ self.old) }
     {
         let id = self.stores.connections.count() as u64 + 1;
-        let entry = self.log.len() + 1;
-        // Room for this entry, and for the Close of each connection with the new one.
-        self.log.reserve(self.stores.connections.count() + 2)?;
+        // Room for this entry, and for the Close of the new connection.
+        self.log.reserve(2)?;
+        let entry = self.log.next();
         self.stores.connections.admit(self.stores.alloc)?;
         self.log.push(Entry::Admit { id });
         Ok(BookReply::Admitted { entry, id })
@@ -199,11 +197,13 @@ impl Book {
         ensures ok { IfOk result (λ reply. IsTurn self.old (call.Run id words now) reply self.new) }
         ensures err { OnErr result (self.new ≡ self.old) }
     {
-        let entry = self.log.len() + 1;
         let moment = now.max(self.log.moment());
         let mode = self.stores.connections.mode(id);
         let by = Runner { id, mode };
-        self.log.reserve(self.stores.connections.count() + 1)?;
+        self.log.reserve(1)?;
+        let entry = self.log.next();
+        // no id is past the number of connections
+        let _connections = self.stores.connections.count();
         let Played {
             expired,
             plan,
@@ -243,19 +243,13 @@ impl Book {
         ensures ok { IfOk result (λ reply. IsTurn self.old (call.Tick now) reply self.new) }
         ensures err { OnErr result (self.new ≡ self.old) }
     {
-        let is_full = self.is_full();
-        let entries = self.log.len();
         let moment = now.max(self.log.moment());
-        self.log.reserve(self.stores.connections.count() + 1)?;
+        self.log.reserve(1)?;
+        let entry = self.log.next();
         let Expired { keys, undo } = self.stores.space.expire_due(moment)?;
         if keys.as_slice().is_empty() {
             return Ok(BookReply::Quiet);
         }
-        if is_full {
-            self.stores.space.undo_due(undo);
-            return Ok(BookReply::Refused(BookRefusal::HistoryFull { entries }));
-        }
-        let entry = entries + 1;
         match self.stores.send_tick(entry, keys.as_slice()) {
             Ok(()) => {
                 self.log.push(Entry::Tick { moment });
@@ -276,8 +270,8 @@ impl Book {
         ensures err { OnErr result (self.new ≡ self.old) }
     {
         let bytes = self.stores.connections.front(id, most as usize)?;
-        self.log.reserve(self.stores.connections.count() + 1)?;
-        let entry = self.log.len() + 1;
+        self.log.reserve(1)?;
+        let entry = self.log.next();
         self.log.push(Entry::Take { id, max: most });
         self.stores.connections.advance(id, most as usize);
         Ok(BookReply::Bytes { entry, bytes })
@@ -289,7 +283,7 @@ impl Book {
         requires none { self.old.posts ≡ [] }
         ensures { IsTurn self.old (call.Close id) result self.new }
     {
-        let entry = self.log.len() + 1;
+        let entry = self.log.next();
         self.log.push(Entry::Close { id });
         self.stores.connections.end(entry, id);
         self.stores.table.forget_connection(id);

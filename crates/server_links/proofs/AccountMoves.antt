@@ -20,7 +20,7 @@ use Rattle.server_links.specs.declared.direction.Eof.{Eof}
 use Rattle.server_links.specs.declared.direction.Eof.TheVariants as eof
 use Rattle.server_links.specs.Directions.{cut, finished, is_open, is_queued, put, put_by, queued}
 use Rattle.server_links.specs.Directions.{without_bytes, past_eof}
-use Rattle.server_links.specs.EntryLines.{reply_lines, reply_fault}
+use Rattle.server_links.specs.EntryLines.{reply_lines}
 use Rattle.server_links.specs.OneHistory.{read_on}
 use Rattle.server_links.specs.Outcome.{Outcome, stays}
 use Rattle.server_links.specs.Session.{Session, with_past, with_link, with_up, with_down}
@@ -53,7 +53,7 @@ take_reads : (l : Limits) (c most : ℕ) (past : List Entry)
     → reads_on l (book_step l past (call.Take c most)).past c ≡ reads_on l past c
 unfolding took
 take_reads l c most past = by_take l past c most (λ t. reads_on l t.past c
-    ≡ reads_on l past c) refl refl refl (λ on. refl)
+    ≡ reads_on l past c) refl refl (λ on. refl)
 
 -- a Take was played, and what it gave is still to be put on the way
 record InHand (given heard said read : List ℕ) (s : Session) : Type 0 where
@@ -101,7 +101,7 @@ module _ (heard said : List ℕ) where
       keeps_then (Account heard said) (InHand given heard said) (Account heard said) (Part said) s
       (turned s [] t) _ (every_turned s [] t (take_carries s most))
       (keeps_quiet (Account heard said) (InHand given heard said) (Part said) s (with_past s t.past)
-      (reply_lines s.link.name [] t.reply) (reply_fault t.reply)
+      (reply_lines s.link.name [] t.reply) None
       (mute_reply s.link.name s.link.name [] t.reply)
       (λ read a. let h = take_in_hand most read s opened a in
       (account_part heard said read s a, (λ e. h), hand_part given read _ h)))

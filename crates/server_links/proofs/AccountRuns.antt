@@ -12,13 +12,13 @@ use Rattle.resp_stream.proofs.Onward.{GoesOn, goes_further, requests_join}
 use Rattle.serial_model.specs.declared.history.Limits.{Limits}
 use Rattle.serial_model.specs.declared.history.Entry.{Entry}
 use Rattle.serial_model.specs.declared.history.BookCall.TheVariants as call
-use Rattle.serial_model.specs.History.{reads_on, stream, taken, runs_of, is_full}
+use Rattle.serial_model.specs.History.{reads_on, stream, taken, runs_of}
 use Rattle.serial_model.specs.Steps.{Turn, book_step, running}
-use Rattle.serial_model.proofs.Turning.{step_gave, step_runs, run_step, run_full, close_step}
+use Rattle.serial_model.proofs.Turning.{step_gave, step_runs, run_step, close_step}
 use Rattle.server_links.specs.declared.direction.Direction.{Direction}
 use Rattle.server_links.specs.declared.fault.WorldFault.TheVariants.{NothingThere}
 use Rattle.server_links.specs.Directions.{is_open, without}
-use Rattle.server_links.specs.EntryLines.{reply_lines, reply_fault}
+use Rattle.server_links.specs.EntryLines.{reply_lines}
 use Rattle.server_links.specs.OneHistory.{read_on}
 use Rattle.server_links.specs.Outcome.{Outcome, stays, refuses, and_then}
 use Rattle.server_links.specs.Session.{Session, with_past, with_link, with_up, with_reader}
@@ -61,29 +61,19 @@ module _ (heard said : List ℕ) where
   run_done : (words : List (List ℕ)) (todo : List (List (List ℕ))) (read : List ℕ) (s : Session)
       → Running (words ∷ todo) heard said read s →
       let t : Turn = book_step s.limits s.past (call.Run s.link.id words s.now) in
-      (reply_fault t.reply ≡ None → Running todo heard said read (with_past s t.past))
-      × Part said read (with_past s t.past)
+      Running todo heard said read (with_past s t.past)
   run_done words todo read s r =
       let c = s.link.id in
-      let P : Turn → Type 0 = λ t. (reply_fault t.reply ≡ None
-      → Running todo heard said read (with_past s t.past))
-      × Part said read (with_past s t.past) in
-      elim (is_full s.limits s.past) as (λ b. is_full s.limits s.past ≡ b
-      → P (book_step s.limits s.past (call.Run c words s.now))) [
-        | true ↦ λ none. subst P (sym (run_full s.limits s.past c s.now words r.on none))
-            ((λ e. absurd (let no : ⊥ = cc in no)), running_part (words ∷ todo) heard said read s r)
-        | false ↦ λ room.
-            let is = run_step s.limits s.past c s.now words r.on room in
-            let new : Running todo heard said read
-            (with_past s (running s.past c words s.now).past) = record {
-              bytes = flight_past heard said read s (running s.past c words s.now).past
-                  (ap (λ (t : Turn). gave s.limits c t.past) (sym is)
-                  ∙ gave_run s.limits c s.now words s.past) r.bytes;
-              on = r.on;
-              runs = grind (arith, same_id, append_assoc);
-            } in
-            subst P (sym is) ((λ e. new), running_part todo heard said read _ new)
-      ] refl
+      let is = run_step s.limits s.past c s.now words r.on in
+      let new : Running todo heard said read
+      (with_past s (running s.past c words s.now).past) = record {
+        bytes = flight_past heard said read s (running s.past c words s.now).past
+            (ap (λ (t : Turn). gave s.limits c t.past) (sym is)
+            ∙ gave_run s.limits c s.now words s.past) r.bytes;
+        on = r.on;
+        runs = grind (arith, same_id, append_assoc);
+      } in
+      subst (λ (t : Turn). Running todo heard said read (with_past s t.past)) (sym is) new
 
   run_turn_keeps : (words : List (List ℕ)) (todo : List (List (List ℕ))) (s : Session)
       → Keeps (Running (words ∷ todo) heard said) (Running todo heard said) (Part said) s
@@ -91,10 +81,14 @@ module _ (heard said : List ℕ) where
   run_turn_keeps words todo s =
       let t = book_step s.limits s.past (call.Run s.link.id words s.now) in
       keeps_quiet (Running (words ∷ todo) heard said) (Running todo heard said) (Part said) s
-      (with_past s t.past) (reply_lines s.link.name words t.reply) (reply_fault t.reply)
+      (with_past s t.past) (reply_lines s.link.name words t.reply) None
       (mute_reply s.link.name s.link.name words t.reply)
-      (λ read r. let d = run_done words todo read s r in
-      (running_part (words ∷ todo) heard said read s r, d.0, d.1))
+      (λ read r. let d = run_done words todo read s r in (
+        running_part (words ∷ todo) heard said read s r,
+        (λ e. d),
+        running_part todo heard said read
+            _ d,
+      ))
 
   running_reader : (todo : List (List (List ℕ))) (read : List ℕ) (s : Session) (reader : Stream)
       → Running todo heard said read s
@@ -161,7 +155,7 @@ module _ (heard said : List ℕ) where
   close_keeps fault s =
       let t = book_step s.limits s.past (call.Close s.link.id) in
       keeps_quiet (Halted fault heard said) (Account heard said) (Part said) s (with_past s t.past)
-      (reply_lines s.link.name [] t.reply) (reply_fault t.reply)
+      (reply_lines s.link.name [] t.reply) None
       (mute_reply s.link.name s.link.name [] t.reply)
       (λ read h.
       let a : Account heard said read (with_past s t.past) = record {

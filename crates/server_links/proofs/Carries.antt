@@ -14,9 +14,9 @@ use Rattle.serial_model.specs.declared.history.BookCall.TheVariants as call
 use Rattle.serial_model.specs.declared.history.BookReply.{BookReply}
 use Rattle.serial_model.specs.declared.history.BookReply.TheVariants.{Quiet, Bytes}
 use Rattle.serial_model.specs.History.{admitted, gives_on, unsent, IsLegal}
-use Rattle.serial_model.specs.Steps.{Turn, book_step, gone, full, running, taking, closing}
+use Rattle.serial_model.specs.Steps.{Turn, book_step, gone, running, taking, closing}
 use Rattle.serial_model.specs.Laws.{Extends}
-use Rattle.serial_model.proofs.Others.{by_limit, extends_none, extends_more, others_extend}
+use Rattle.serial_model.proofs.Others.{extends_none, extends_more, others_extend}
 use Rattle.serial_model.proofs.Streams.{not_ended, unsent_live}
 use Rattle.serial_model.proofs.Turning.{step_legal}
 use Rattle.script_text.specs.declared.line.Line.{Line}
@@ -122,10 +122,10 @@ carries_none s = carries_link s s.link [] refl refl (λ name n. refl) refl (λ h
 
 pub by_run : (l : Limits) (past : List Entry) (id now : ℕ) (words : List (List ℕ)) (P : Turn
     → Type 0)
-    → P (gone past id) → P (full past) → P (running past id words now)
+    → P (gone past id) → P (running past id words now)
     → P (book_step l past (call.Run id words now))
 unfolding book_step
-by_run l past id now words P g f r = grind arith
+by_run l past id now words P g r = grind arith
 
 pub by_close : (l : Limits) (past : List Entry) (id : ℕ) (P : Turn → Type 0) → P (gone past id)
     → P (closing past id) → P (book_step l past (call.Close id))
@@ -137,11 +137,10 @@ took past id most bytes =
     record { reply = Bytes (length past + 1) bytes; past = entry.Take id most ∷ past }
 
 module _ (l : Limits) (past : List Entry) (id most : ℕ) (P : Turn
-    → Type 0) (g : P (gone past id)) (q : P (record { reply = Quiet; past = past }))
-    (f : P (full past)) where
-  by_taking : (bytes : List ℕ) → P (took past id most bytes) → P (taking l past id most bytes)
+    → Type 0) (g : P (gone past id)) (q : P (record { reply = Quiet; past = past })) where
+  by_taking : (bytes : List ℕ) → P (took past id most bytes) → P (taking past id most bytes)
   unfolding took
-  by_taking bytes t = grind (arith, by_limit)
+  by_taking bytes t = grind arith
 
   pub by_take : (gives_on l past id ≡ true → P (took past id most (take most (unsent l id past))))
       → P (book_step l past (call.Take id most))
@@ -176,7 +175,6 @@ run_adds : (l : Limits) (past : List Entry) (id now : ℕ) (words : List (List �
     → Adds l id now words past (book_step l past (call.Run id words now))
 run_adds l past id now words = by_run l past id now words (Adds l id now words past)
     (adds_nothing l id now words past _ (λ names. refl))
-    (adds_nothing l id now words past _ (λ names. refl))
     (record {
       count = refl;
       entries = _ ∷ [];
@@ -202,7 +200,6 @@ take_adds : (l : Limits) (past : List Entry) (id now most : ℕ)
     → Adds l id now [] past (book_step l past (call.Take id most))
 unfolding took
 take_adds l past id now most = by_take l past id most (Adds l id now [] past)
-    (adds_nothing l id now [] past _ (λ names. refl))
     (adds_nothing l id now [] past _ (λ names. refl))
     (adds_nothing l id now [] past _ (λ names. refl))
     (λ on. record {

@@ -15,7 +15,6 @@ use Rattle.serial_model.proofs.Streams.{stream_take, unsent_live, unsent_take_ow
 use Rattle.server_links.specs.declared.link.Link.{Link}
 use Rattle.server_links.specs.declared.link.LinkMove.TheVariants as moves
 use Rattle.server_links.specs.Directions.{is_open, is_queued, past_eof, without_bytes}
-use Rattle.server_links.specs.EntryLines.{reply_fault}
 use Rattle.server_links.specs.LinkEvent.{LinkEvent, Over}
 use Rattle.server_links.specs.Moves.{turned, turn, next_read, run_one, run_all, close, stop}
 use Rattle.server_links.specs.Moves.{rest_read, run_requests, run_fed, stopped_at, feed, serve_all}
@@ -95,8 +94,8 @@ no_bytes (b ∷ bytes) e = absurd (let no : ⊥ = omega (arith, e) in no)
 
 taking_given : (l : Limits) (past : List Entry) (id most : ℕ) (bytes : List ℕ) → 0 < most
     → gives_on l past id ≡ true → take most (unsent l id past) ≡ bytes →
-    let t : Turn = taking l past id most bytes in
-    reply_fault t.reply ≡ None → length (stream l id t.past) ≤ most → unsent l id t.past ≡ []
+    let t : Turn = taking past id most bytes in
+    length (stream l id t.past) ≤ most → unsent l id t.past ≡ []
 taking_given l past id most bytes more on is =
     grind (arith, unsent_live, length-drop, stream_take, unsent_take_own, eq-eqb, drop_all)
 
@@ -110,7 +109,7 @@ given_take s none on =
     let l = s.limits in
     let id = s.link.id in
     let t = book_step l s.past (call.Take id all_bytes) in
-    let is : t ≡ taking l s.past id all_bytes (take all_bytes (unsent l id s.past)) = grind arith in
+    let is : t ≡ taking s.past id all_bytes (take all_bytes (unsent l id s.past)) = grind arith in
     ends_then Given Given (turned s [] t) _
     (grind (arith, taking_given, some_bytes))
     (λ u g e. g)

@@ -23,7 +23,6 @@ use Rattle.server_links.specs.Moves.{eof_lines, flow, move_of, read_eof, read_li
 use Rattle.server_links.specs.Moves.{send_all, serve_all}
 use Rattle.server_links.specs.Session.{Session, session_at, with_down, with_link, with_session}
 use Rattle.server_links.proofs.Carries.{Carries}
-use Rattle.server_links.proofs.Events.{admit_full}
 use Rattle.server_links.proofs.Outcomes.{Ends, Meets, after_ends, gives_within, meets_once}
 
 -- ---- a connection that has ended
@@ -136,4 +135,4 @@ pub raw_over : (name : List ℕ) (w : LinksState)
     (step w (Raw name))
 unfolding step
 raw_over name w =
-    grind (arith, admit_full, meets_once, admit_step, get_or_append_left, over_below, over_by)
+    grind (arith, meets_once, admit_step, get_or_append_left, over_below, over_by)

@@ -11,13 +11,13 @@ use Rattle.serial_model.specs.declared.history.Limits.{Limits}
 use Rattle.serial_model.specs.declared.history.Entry.{Entry}
 use Rattle.serial_model.specs.declared.history.Entry.TheVariants as entry
 use Rattle.serial_model.specs.declared.history.BookCall.TheVariants as call
-use Rattle.serial_model.specs.History.{admitted, is_full}
-use Rattle.serial_model.specs.Steps.{Turn, book_step, admitting, full}
+use Rattle.serial_model.specs.History.{admitted}
+use Rattle.serial_model.specs.Steps.{Turn, book_step}
 use Rattle.serial_model.proofs.Turning.{admit_step}
 use Rattle.server_links.specs.LinkEvent.{LinkEvent, Raw, Put, Over, Now, Tick}
 use Rattle.server_links.specs.declared.link.LinkMove.TheVariants as moves
 use Rattle.script_text.specs.declared.line.Line.{Line}
-use Rattle.server_links.specs.declared.fault.WorldFault.TheVariants.{NoName, NameTaken, HistoryFull}
+use Rattle.server_links.specs.declared.fault.WorldFault.TheVariants.{NoName, NameTaken}
 use Rattle.server_links.specs.OneHistory.{read_on, said_by, said_to, Serves, PartServes, OneHistory}
 use Rattle.server_links.specs.OneHistory.{OthersKept, Follows}
 use Rattle.server_links.specs.Outcome.{Outcome, Reached}
@@ -42,11 +42,6 @@ use Rattle.server_links.proofs.AccountRuns.{reads_of}
 use Rattle.server_links.proofs.AccountMoves.{piece_of, bytes_said, move_keeps, piece_over}
 use Rattle.server_links.proofs.LinksStand.{Stands, PartStands, stands_part, stands_same, parts_same}
 use Rattle.server_links.proofs.LinksStand.{not_equal, over_stands, made, made_lines, stands_made}
-
-pub admit_full : (l : Limits) (past : List Entry) → is_full l past ≡ true
-    → book_step l past call.Admit ≡ full past
-unfolding book_step
-admit_full l past none = ap (λ v. cond v (full past) (admitting past)) none
 
 pub nothing : (b : Bool) → [] ≡ cond {A = List ℕ} b [] []
 nothing b = grind arith
@@ -122,23 +117,12 @@ module _ (l : Limits) (heard : ℕ → List ℕ) (said : List ℕ
       → Meets (Ends (Raw name)) (Stops (Raw name)) (raw_step w name p)) [
         | Some at ↦ λ place. meets_refuses (Ends (Raw name)) (Stops (Raw name)) w NameTaken
             part_quiet
-        | None ↦ λ free. elim (is_full w.limits w.past) as (λ b. is_full w.limits w.past ≡ b
-            → Meets (Ends (Raw name)) (Stops (Raw name))
-            (admitting_link w name (book_step w.limits w.past call.Admit))) [
-              | true ↦ λ none. subst (λ (t : Turn). Meets (Ends (Raw name)) (Stops (Raw name))
-                  (admitting_link w name t)) (sym (admit_full w.limits w.past none))
-                  (meets_once (Ends (Raw name)) (Stops (Raw name)) w w []
-                  (Some (HistoryFull (length w.past))) (λ e. absurd (let no : ⊥ = cc in no))
-                  part_quiet
-                  part_quiet)
-              | false ↦ λ room. subst (λ (t : Turn). Meets (Ends (Raw name)) (Stops (Raw name))
-                  (admitting_link w name t)) (sym (admit_step w.limits w.past room))
-                  (let m = stands_made l heard said lines w s name free room in
-                  meets_once (Ends (Raw name)) (Stops (Raw name)) w
-                  (made l heard said lines w s name free room)
-                  (made_lines l heard said lines w s name free room) None (λ e. m) part_quiet
-                  (stands_part l _ _ _ _ m))
-            ] refl
+        | None ↦ λ free. subst (λ (t : Turn). Meets (Ends (Raw name)) (Stops (Raw name))
+            (admitting_link w name t)) (sym (admit_step w.limits w.past))
+            (let m = stands_made l heard said lines w s name free in
+            meets_once (Ends (Raw name)) (Stops (Raw name)) w
+            (made l heard said lines w s name free) (made_lines l heard said lines w s name free)
+            None (λ e. m) part_quiet (stands_part l _ _ _ _ m))
       ] refl
 
 pub stands_step : (l : Limits) (heard : ℕ → List ℕ) (said : List ℕ
@@ -200,17 +184,12 @@ raw_grows : (name : List ℕ) (p : Option ℕ) (w : LinksState)
     → Meets (Grows w) (Grows w) (raw_step w name p)
 unfolding Grows
 raw_grows name (Some at) w = meets_refuses (Grows w) (Grows w) w NameTaken ([], refl)
-raw_grows name None w = elim (is_full w.limits w.past) as (λ b. is_full w.limits w.past ≡ b
-    → Meets (Grows w) (Grows w) (admitting_link w name (book_step w.limits w.past call.Admit))) [
-      | true ↦ grind (arith, admit_full, meets_once)
-      | false ↦ λ room. subst (λ (t : Turn). Meets (Grows w) (Grows w) (admitting_link w name t))
-          (sym (admit_step w.limits w.past room))
-          (meets_once (Grows w) (Grows w) w _ _ None
-          (λ e. (entry.Admit (admitted w.past + 1) ∷ [], refl)) (
-            [],
-            refl,
-          ) (entry.Admit (admitted w.past + 1) ∷ [], refl))
-    ] refl
+raw_grows name None w =
+    subst (λ (t : Turn). Meets (Grows w) (Grows w) (admitting_link w name t))
+    (sym (admit_step w.limits w.past))
+    (meets_once (Grows w) (Grows w) w _ _ None
+    (λ e. (entry.Admit (admitted w.past + 1) ∷ [], refl)) ([], refl)
+    (entry.Admit (admitted w.past + 1) ∷ [], refl))
 
 step_grows : (event : LinkEvent) (w : LinksState) → Meets (Grows w) (Grows w) (step w event)
 unfolding step Grows

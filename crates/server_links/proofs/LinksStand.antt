@@ -11,7 +11,7 @@ use Rattle.std.proofs.lemmas.List.{get_or-set_same, get_or-set_other, get_or_pus
 use Rattle.std.proofs.lemmas.List.{get_or_append_left, take-append-le}
 use Rattle.serial_model.specs.declared.history.Limits.{Limits}
 use Rattle.serial_model.specs.declared.history.Entry.{Entry}
-use Rattle.serial_model.specs.History.{admitted, is_admitted, is_full, reads_on, IsLegal}
+use Rattle.serial_model.specs.History.{admitted, is_admitted, reads_on, IsLegal}
 use Rattle.serial_model.specs.Laws.{Extends}
 use Rattle.serial_model.proofs.Streams.{taken_le, connected, stream_admit, stream_fresh, runs_fresh}
 use Rattle.script_text.specs.declared.line.Line.{Line}
@@ -278,13 +278,13 @@ names_front : (l : Limits) (ns : List (List ℕ)) (name : List ℕ) (past : List
     → admitted past ≤ length ns → entry_lines l (ns ++ name ∷ []) past ≡ entry_lines l ns past
 names_front l ns name [] legal le = refl
 names_front l ns name (entry.Admit id ∷ past) legal le =
-    grind (arith, name_front, names_front l ns name past legal.2 (omega (arith, le)))
+    grind (arith, name_front, names_front l ns name past legal.1 (omega (arith, le)))
 names_front l ns name (entry.Run id words m ∷ past) legal le =
-    grind (arith, connected, name_front, names_front l ns name past legal.3 le)
+    grind (arith, connected, name_front, names_front l ns name past legal.2 le)
 names_front l ns name (entry.Tick m ∷ past) legal le =
-    ap (λ x. x ++ line.Tick (length past + 1) m ∷ []) (names_front l ns name past legal.3 le)
+    ap (λ x. x ++ line.Tick (length past + 1) m ∷ []) (names_front l ns name past legal.2 le)
 names_front l ns name (entry.Take id max ∷ past) legal le =
-    grind (arith, connected, name_front, names_front l ns name past legal.3 le)
+    grind (arith, connected, name_front, names_front l ns name past legal.2 le)
 names_front l ns name (entry.Close id ∷ past) legal le =
     grind (arith, connected, name_front, names_front l ns name past legal.1 le)
 
@@ -297,8 +297,7 @@ admitted_account heard said read s id still a = grind (arith, stream_admit)
 
 module _ (l : Limits) (heard : ℕ → List ℕ) (said : List ℕ
     → List ℕ) (lines : List Line) (w : LinksState) (s : Stands l heard said lines w) (name : List ℕ)
-    (free : place_of name w ≡ None)
-    (room : is_full w.limits w.past ≡ false) where
+    (free : place_of name w ≡ None) where
   abbrev pub made : LinksState
   made = record {
     limits = w.limits;

@@ -9,7 +9,7 @@ use Rattle.serial_model.specs.declared.history.BookCall.TheVariants as call
 use Rattle.serial_model.specs.declared.history.BookReply.{BookReply}
 use Rattle.serial_model.specs.declared.history.BookReply.TheVariants.{Ticked, Quiet, Refused}
 use Rattle.serial_model.specs.declared.history.BookRefusal.TheVariants as refusal
-use Rattle.serial_model.specs.History.{IsLegal, expired, is_full, latest}
+use Rattle.serial_model.specs.History.{IsLegal, expired, latest}
 use Rattle.serial_model.specs.Laws.{Extends}
 use Rattle.serial_model.specs.Steps.{BookStep, Turn, book_step, ticking as turned}
 use Rattle.serial_model.proofs.Others.{others_extend}
@@ -17,8 +17,7 @@ use Rattle.serial_model.proofs.Turning.{step_legal, tick_step}
 use Rattle.script_text.specs.declared.line.Line.{Line}
 use Rattle.script_text.specs.declared.line.Line.TheVariants as line
 use Rattle.server_links.specs.declared.fault.WorldFault.{WorldFault}
-use Rattle.server_links.specs.declared.fault.WorldFault.TheVariants.{HistoryFull, NoMemory}
-use Rattle.server_links.specs.EntryLines.{reply_fault}
+use Rattle.server_links.specs.declared.fault.WorldFault.TheVariants.{NoMemory}
 use Rattle.server_links.specs.LinkSteps.{tick, tick_lines, ticking}
 use Rattle.server_links.specs.declared.link.Link.{Link}
 use Rattle.server_links.specs.LinksState.{Fits, LinksState, at_place}
@@ -98,15 +97,14 @@ module _ (l : Limits) (heard : ℕ → List ℕ) (said : List ℕ
 
   due_stands : (key : List ℕ) (keys : List (List ℕ))
       → expired w.limits w.past (max w.now (latest w.past)) ≡ key ∷ keys
-      → is_full w.limits w.past ≡ false
       → Meets ByTick PartByTick (ticking w (record {
         reply = Ticked (length w.past + 1);
         past = entry.Tick (max w.now (latest w.past)) ∷ w.past;
       }))
   unfolding ByTick PartByTick
-  due_stands key keys due room =
+  due_stands key keys due =
       let moment = max w.now (latest w.past) in
-      let is = tick_step w.limits w.past w.now key keys due room in
+      let is = tick_step w.limits w.past w.now key keys due in
       let m = ticked_stands moment
       (grind (arith, step_legal))
       (λ c. subst (λ (t : Turn). Extends w.limits c w.past t.past) is
@@ -116,7 +114,7 @@ module _ (l : Limits) (heard : ℕ → List ℕ) (said : List ℕ
   turn_stands : (keys : List (List ℕ))
       → expired w.limits w.past (max w.now (latest w.past)) ≡ keys
       → Meets ByTick PartByTick
-      (ticking w (turned w.limits w.past (max w.now (latest w.past)) keys))
+      (ticking w (turned w.past (max w.now (latest w.past)) keys))
   unfolding ByTick PartByTick
   turn_stands keys none =
       grind (arith, meets_once, ByTick, PartByTick, still_stands, still_part, due_stands)
@@ -145,7 +143,7 @@ module _ (w : LinksState) where
   after past = record { limits = w.limits; now = w.now; past = past; links = w.links }
 
   abbrev due : List (List ℕ) → Turn
-  due keys = turned w.limits w.past (max w.now (latest w.past)) keys
+  due keys = turned w.past (max w.now (latest w.past)) keys
 
   abbrev pub played : BookReply → List Entry → Type 0
   played reply past =
@@ -167,19 +165,11 @@ module _ (w : LinksState) where
   unfolding tick
   tick_before lines = ([], inl (refl, refl), sym (append-nil lines))
 
-  -- the history is full
-  pub tick_is_full : (n : ℕ) (past : List Entry) (lines : List Line)
-      → played (Refused (refusal.HistoryFull n)) past
-      → Stops (tick w) lines (HistoryFull n) (after past) lines
-  unfolding tick
-  tick_is_full n past lines is = grind (arith, append-nil)
-
   no_entry : (reply : BookReply) (past : List Entry) (lines : List Line) → played reply past
-      → reply_fault reply ≡ None
       → tick_lines (max w.now (latest w.past)) reply ≡ []
       → Gives {A = Unit {0}} (tick w) lines (Ok tt) (after past) lines
   unfolding tick
-  no_entry reply past lines is sound quiet = grind (arith, append-nil)
+  no_entry reply past lines is quiet = grind (arith, append-nil)
 
   -- it is no entry
   pub tick_other : (reply : BookReply) (past : List Entry) (lines : List Line)
@@ -189,16 +179,13 @@ module _ (w : LinksState) where
   tick_other (Ticked e) past lines r is a ends = absurd (a e refl)
   tick_other Quiet past lines r is a ends =
       subst (λ x. Gives (tick w) lines x (after past) lines) (sym ends)
-      (no_entry Quiet past lines is refl refl)
-  tick_other (Refused (refusal.HistoryFull n)) past lines r is a ends =
-      subst (λ x. Gives (tick w) lines x (after past) lines) (sym ends)
-      (tick_is_full n past lines is)
+      (no_entry Quiet past lines is refl)
   tick_other (Refused refusal.NoMemory) past lines r is a ends =
       subst (λ x. Gives (tick w) lines x (after past) lines) (sym ends)
       (subst (λ p. Stops (tick w) lines NoMemory (after p) lines) (sym is.0) (tick_before lines))
   tick_other reply past lines r is a ends =
       subst (λ x. Gives (tick w) lines x (after past) lines) (sym ends)
-      (no_entry reply past lines is refl refl)
+      (no_entry reply past lines is refl)
 
 -- ---- beside links
 

@@ -11,14 +11,14 @@ use Rattle.serial_model.specs.declared.history.BookReply.{BookReply}
 use Rattle.serial_model.specs.declared.history.BookReply.TheVariants.{Quiet, Bytes}
 use Rattle.serial_model.specs.History.{runs_on, reads_on, gives_on, unsent}
 use Rattle.serial_model.specs.Steps.{Turn, book_step, taking}
-use Rattle.serial_model.proofs.Turning.{run_step, run_full, close_step}
+use Rattle.serial_model.proofs.Turning.{run_step, close_step}
 use Rattle.script_text.specs.declared.line.Line.{Line}
 use Rattle.script_text.specs.declared.line.Line.TheVariants as line
 use Rattle.server_links.specs.declared.fault.WorldFault.{WorldFault}
 use Rattle.server_links.specs.declared.fault.WorldFault.TheVariants.{NoMemory}
 use Rattle.server_links.specs.declared.link.Link.{Link}
 use Rattle.server_links.specs.ServerState.{ServerState}
-use Rattle.server_links.specs.EntryLines.{reply_fault, reply_lines}
+use Rattle.server_links.specs.EntryLines.{reply_lines}
 use Rattle.server_links.specs.declared.direction.Direction.{Direction}
 use Rattle.server_links.specs.Directions.{put, is_queued, without, without_bytes, past_eof}
 use Rattle.server_links.specs.Moves.{turned, turn, bytes_of, take_down, read_lines, eof_lines}
@@ -56,12 +56,11 @@ pub turn_before : (s : Session) (c : BookCall) (words : List (List ℕ)) (lines 
 unfolding turn
 turn_before s c words lines = ([], inl (refl, refl), sym (append-nil lines))
 
-module _ (l : Limits) (past new : List Entry) (id : ℕ) (reply : BookReply) (met : reply_fault reply
-    ≡ None) where
+module _ (l : Limits) (past new : List Entry) (id : ℕ) (reply : BookReply) where
   pub run_line : (now : ℕ) (words : List (List ℕ)) (name : List ℕ) → runs_on l past id ≡ true
       → book_step l past (call.Run id words now) ≡ record { reply = reply; past = new }
       → reply_lines name words reply ≡ line.Run (length past + 1) name words ∷ []
-  run_line now words name on is = grind (arith, run_full, run_step)
+  run_line now words name on is = grind (arith, run_step)
 
   pub close_line : (name : List ℕ) → reads_on l past id ≡ true
       → book_step l past (call.Close id) ≡ record { reply = reply; past = new }
@@ -72,7 +71,7 @@ module _ (l : Limits) (past new : List Entry) (id : ℕ) (reply : BookReply) (me
 
 take_is : (s : Session) (most : ℕ) → gives_on s.limits s.past s.link.id ≡ true
     → book_step s.limits s.past (call.Take s.link.id most)
-    ≡ taking s.limits s.past s.link.id most (take most (unsent s.limits s.link.id s.past))
+    ≡ taking s.past s.link.id most (take most (unsent s.limits s.link.id s.past))
 unfolding book_step
 take_is s most on = grind arith
 
@@ -82,7 +81,7 @@ module _ (most : ℕ) (s : Session) (lines : List Line) where
       → take most (unsent s.limits s.link.id s.past) ≡ [] → Ends (take_down most s) lines s lines
   unfolding take_down
   take_quiet on none =
-      let is = take_is s most on ∙ ap (taking s.limits s.past s.link.id most) none in
+      let is = take_is s most on ∙ ap (taking s.past s.link.id most) none in
       subst (λ (t : Turn). Ends (and_then (turned s [] t)
       (λ u. does u (with_link u (with_down u.link (put (bytes_of t.reply) u.link.down))) []))
       lines s lines) (sym is)
@@ -159,19 +158,17 @@ pub only_given : (entry : ℕ) (bytes : List ℕ) (reply : BookReply) → IsGive
     → ((e : ℕ) (given : List ℕ) → reply ≡ Bytes e given → ⊥) → ⊥
 only_given entry bytes reply is gave = grind (arith, given)
 
--- where something can be taken and the history has room, it is
-taking_given : (l : Limits) (past : List Entry) (id most : ℕ) (bytes : List ℕ) → 0 < length bytes
-    → reply_fault (taking l past id most bytes).reply ≡ None
-    → IsGiven (length past + 1) bytes (taking l past id most bytes).reply
-taking_given l past id most bytes some = grind arith
+-- where something can be taken, it is
+taking_given : (past : List Entry) (id most : ℕ) (bytes : List ℕ) → 0 < length bytes
+    → IsGiven (length past + 1) bytes (taking past id most bytes).reply
+taking_given past id most bytes some = grind arith
 
 pub take_given : (s : Session) (most : ℕ) (past : List Entry) (reply : BookReply)
     → gives_on s.limits s.past s.link.id ≡ true
     → 0 < length (take most (unsent s.limits s.link.id s.past))
     → book_step s.limits s.past (call.Take s.link.id most) ≡ record { reply = reply; past = past }
-    → reply_fault reply ≡ None
     → IsGiven (length s.past + 1) (take most (unsent s.limits s.link.id s.past)) reply
-take_given s most past reply on some is met = grind (arith, take_is, taking_given)
+take_given s most past reply on some is = grind (arith, take_is, taking_given)
 
 -- ---- the client's end reads
 

@@ -13,7 +13,6 @@ use Rattle.server_links.specs.declared.link.LinkMove.TheVariants as moves
 use Rattle.server_links.specs.declared.fault.WorldFault.{WorldFault}
 use Rattle.server_links.specs.declared.fault.WorldFault.TheVariants.{NothingThere}
 use Rattle.server_links.specs.Directions.{is_open}
-use Rattle.server_links.specs.EntryLines.{reply_fault}
 use Rattle.server_links.specs.Faults.{IsRefusal}
 use Rattle.server_links.specs.Moves.{turn, run_one, run_all, close, stop, run_requests, run_fed}
 use Rattle.server_links.specs.Moves.{stopped_at, serve_all, take_down, send_all, receive_all, flow}
@@ -31,9 +30,6 @@ Unrefused m = (f : WorldFault) → m.fault ≡ Some f → IsRefusal f → ⊥
 none : (f : WorldFault) → None ≡ Some f → IsRefusal f → ⊥
 none f e r = absurd (let no : ⊥ = cc in no)
 
-by_reply : (reply : BookReply) (f : WorldFault) → reply_fault reply ≡ Some f → IsRefusal f → ⊥
-by_reply reply f is r = grind (arith, none)
-
 pub un_then : {S : Type 0} → (m : Outcome S) (next : S → Outcome S) → Unrefused m
     → ((t : S) → Unrefused (next t)) → Unrefused (and_then m next)
 unfolding Unrefused and_then
@@ -43,12 +39,12 @@ un_run_all : (requests : List (List (List ℕ))) (s : Session) → Unrefused (ru
 unfolding run_all run_one turn Unrefused
 un_run_all [] s = none
 un_run_all (words ∷ requests) s =
-    un_then (run_one words s) (run_all requests) (un_then _ _ none (λ t. by_reply _))
+    un_then (run_one words s) (run_all requests) (un_then _ _ none (λ t. none))
     (un_run_all requests)
 
 un_stop : (place : Option FaultPlace) (eof : Bool) (s : Session) → Unrefused (stop place eof s)
 unfolding close turn Unrefused
-un_stop place eof s = grind (arith, un_then, none, by_reply)
+un_stop place eof s = grind (arith, un_then, none)
 
 un_run_fed : (eof : Bool) (s : Session) → Unrefused (run_fed eof s)
 unfolding run_fed run_requests Unrefused
@@ -64,7 +60,7 @@ un_serve_all s f = grind (arith, un_then, none, un_run_fed)
 
 un_take : (most : ℕ) (s : Session) → Unrefused (take_down most s)
 unfolding take_down Unrefused
-un_take most s = un_then _ _ (by_reply _) (λ t. none)
+un_take most s = un_then _ _ none (λ t. none)
 
 pub un_send_all : (s : Session) → Unrefused (send_all s)
 unfolding Unrefused
@@ -130,7 +126,7 @@ unchanged_named p e w = grind (arith, refused, unchanged_over)
 
 unchanged_raw : (name : List ℕ) (p : Option ℕ) (w : LinksState) → Unchanged w (raw_step w name p)
 unfolding Unrefused
-unchanged_raw name p w = grind (arith, refused, accepted, by_reply)
+unchanged_raw name p w = grind (arith, refused, accepted, none)
 
 unchanged : (e : LinkEvent) (w : LinksState) → Unchanged w (step w e)
 unfolding step tick Unrefused
@@ -138,7 +134,7 @@ unchanged (Raw name) w = unchanged_raw name (place_of name w) w
 unchanged (Put name bytes) w = unchanged_named (place_of name w) (Put name bytes) w
 unchanged (Over name move) w = unchanged_named (place_of name w) (Over name move) w
 unchanged (Now moment) w = accepted w _ none
-unchanged Tick w = accepted w _ (by_reply _)
+unchanged Tick w = accepted w _ none
 
 pub faults_none : (w : LinksState) (e : LinkEvent) (fault : WorldFault)
     → (step w e).fault ≡ Some fault

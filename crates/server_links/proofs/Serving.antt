@@ -39,7 +39,7 @@ run_on : (s : Session) (words : List (List ℕ)) → reads_on s.limits s.past s.
     ≡ true
 run_on s words on =
     by_run s.limits s.past s.link.id s.now words (λ (t : Turn). reads_on s.limits t.past s.link.id
-    ≡ true) on on on
+    ≡ true) on on
 
 -- what was read and run so far, while the connection is read
 pub record Reads (s0 s : Session) (lines0 lines : List Line) : Type 0 where

@@ -19,7 +19,6 @@ use Rattle.server_links.specs.LinkEvent.{LinkEvent, Raw}
 use Rattle.script_text.specs.declared.line.Line.{Line}
 use Rattle.server_links.specs.declared.fault.WorldFault.{WorldFault}
 use Rattle.server_links.specs.declared.fault.WorldFault.TheVariants.{NoName, NameTaken, NoMemory}
-use Rattle.server_links.specs.declared.fault.WorldFault.TheVariants.{HistoryFull}
 use Rattle.server_links.specs.declared.link.Link.{Link}
 use Rattle.server_links.specs.ServerState.{ServerState}
 use Rattle.server_links.specs.Outcome.{Outcome, Stops, Gives}
@@ -30,7 +29,7 @@ use Rattle.server_links.proofs.Outcomes.{Ends, stops_here, gives_within, gives_r
 use Rattle.server_links.proofs.Carries.{Carries}
 use Rattle.server_links.proofs.Moving.{Every, every_move}
 use Rattle.server_links.proofs.NameLists.{name_place, named_more, named_set}
-use Rattle.server_links.proofs.Events.{step_is, admit_full}
+use Rattle.server_links.proofs.Events.{step_is}
 
 -- a move over a link leaves each connection its link
 pub move_fits : {A : Type 0} → (w : LinksState) (at : ℕ) → at < length w.links
@@ -150,7 +149,6 @@ module _ (server : ServerState) (links : List Link) (name : List ℕ) (lines : L
           → TurnGives server.book.limits server.book.past call.Admit x lines (Err fault)
           new.book.past lines' → new.book.past ≡ server.book.past
       past_same NoMemory g = g.0
-      past_same (HistoryFull n) g = grind (arith, admit_full, admit_step)
       past_same fault g = absurd g
 
       pub raw_stops : (fault : WorldFault)
@@ -171,7 +169,7 @@ module _ (server : ServerState) (links : List Link) (name : List ℕ) (lines : L
           (line_is : x ≡ line.Admit (length server.book.past + 1) name id) where
         admitted_step : book_step server.book.limits server.book.past call.Admit
             ≡ admitting server.book.past
-        admitted_step = grind (arith, admit_full, admit_step)
+        admitted_step = grind (arith, admit_step)
 
         id_is : id ≡ admitted server.book.past + 1
         id_is = is ∙ ap (λ n. n + 1) fits.count

@@ -1,22 +1,17 @@
 -- The lines of turns, and those of a whole history.
 use Rattle.std.specs.Prelude.{◌+◌, ◌-◌, ℕ, List, [], ◌∷◌, ◌++◌, Bool, true, false, length}
 use Rattle.std.specs.Prelude.{slice_index_or}
-use Rattle.std.specs.declared.option.Option.{Option}
-use Rattle.std.specs.declared.option.Option.TheVariants.{None, Some}
 use Rattle.serial_model.specs.declared.history.Limits.{Limits}
 use Rattle.serial_model.specs.declared.history.Entry.{Entry}
 use Rattle.serial_model.specs.declared.history.Entry.TheVariants as entry
 use Rattle.serial_model.specs.declared.history.BookReply.{BookReply}
 use Rattle.serial_model.specs.declared.history.BookReply.TheVariants.{Admitted, Ran, Ticked, Quiet}
 use Rattle.serial_model.specs.declared.history.BookReply.TheVariants.{Bytes, Closed, Refused}
-use Rattle.serial_model.specs.declared.history.BookRefusal.TheVariants as refusal
 use Rattle.serial_model.specs.History.{taken}
 use Rattle.script_text.specs.declared.line.Line.{Line}
 use Rattle.script_text.specs.declared.line.Line.TheVariants.{Admit, Run, Bad, Close, Take, Read}
 use Rattle.script_text.specs.declared.line.Line.TheVariants.{End}
 use Rattle.script_text.specs.declared.line.Line.TheVariants as line
-use Rattle.server_links.specs.declared.fault.WorldFault.{WorldFault}
-use Rattle.server_links.specs.declared.fault.WorldFault.TheVariants.{HistoryFull}
 
 -- what a turn of a link prints, of this name
 abbrev pub reply_lines : List ℕ → List (List ℕ) → BookReply → List Line
@@ -27,18 +22,6 @@ reply_lines link words Quiet = []
 reply_lines link words (Bytes e bytes) = Take e link (length bytes) ∷ []
 reply_lines link words (Closed e) = Close e link ∷ []
 reply_lines link words (Refused r) = []
-
--- a full history is the one refusal that stops an event
-abbrev pub reply_fault : BookReply → Option WorldFault
-reply_fault (Admitted e id) = None
-reply_fault (Ran e) = None
-reply_fault (Ticked e) = None
-reply_fault Quiet = None
-reply_fault (Bytes e bytes) = None
-reply_fault (Closed e) = None
-reply_fault (Refused (refusal.Gone id)) = None
-reply_fault (Refused (refusal.HistoryFull entries)) = Some (HistoryFull entries)
-reply_fault (Refused refusal.NoMemory) = None
 
 -- a line that begins with `#`
 abbrev pub is_entry_line : Line → Bool

@@ -16,7 +16,7 @@ use Rattle.server_links.specs.declared.fault.WorldFault.{WorldFault}
 use Rattle.server_links.specs.declared.fault.WorldFault.TheVariants.{NoName, NameTaken}
 use Rattle.server_links.specs.declared.link.Link.{Link}
 use Rattle.server_links.specs.LinksState.{LinksState, fresh_link}
-use Rattle.server_links.specs.EntryLines.{reply_fault, reply_lines}
+use Rattle.server_links.specs.EntryLines.{reply_lines}
 use Rattle.server_links.specs.Moves.{move_of}
 use Rattle.server_links.specs.Outcome.{Outcome, Gives, refuses, stays, within}
 use Rattle.server_links.specs.Session.{Session, session_at, with_session}
@@ -52,7 +52,7 @@ abbrev pub admitting : LinksState → List ℕ → Turn → Stepped
 admitting w name t = record {
   state = with_admitted w name t.reply t.past;
   lines = reply_lines name [] t.reply;
-  fault = reply_fault t.reply;
+  fault = None;
   points = (w, []) ∷ [];
 }
 
@@ -69,7 +69,7 @@ abbrev pub ticking : LinksState → Turn → Stepped
 ticking w t = record {
   state = record { limits = w.limits; now = w.now; past = t.past; links = w.links };
   lines = tick_lines (max w.now (latest w.past)) t.reply;
-  fault = reply_fault t.reply;
+  fault = None;
   points = (w, []) ∷ [];
 }
 

@@ -25,7 +25,7 @@ use Rattle.server_links.specs.declared.fault.WorldFault.TheVariants.{NothingTher
 use Rattle.server_links.specs.declared.direction.Direction.{Direction}
 use Rattle.server_links.specs.Directions.{cut, finished, is_open, is_queued, past_eof, put, without}
 use Rattle.server_links.specs.Directions.{without_bytes}
-use Rattle.server_links.specs.EntryLines.{reply_fault, reply_lines}
+use Rattle.server_links.specs.EntryLines.{reply_lines}
 use Rattle.server_links.specs.Outcome.{Outcome, and_then, does, refuses, stays}
 use Rattle.server_links.specs.Session.{Session, with_down, with_link, with_past, with_reader}
 use Rattle.server_links.specs.Session.{with_up}
@@ -36,7 +36,7 @@ abbrev pub turned : Session → List (List ℕ) → Turn → Outcome Session
 turned s words t = record {
   state = with_past s t.past;
   lines = reply_lines s.link.name words t.reply;
-  fault = reply_fault t.reply;
+  fault = None;
   points = (s, []) ∷ [];
 }
 

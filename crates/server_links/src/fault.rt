@@ -18,7 +18,7 @@ pub enum WorldFault {
     NoMemory,
     /// A client of the world refused what it was asked, by the refusal of this number.
     Refused { number: u64 },
-    /// The history has as many entries as it may have, and the event needs one more.
+    /// A client's log has as many entries as it may have, and the event needs one more.
     HistoryFull { entries: u64 },
 }
 

@@ -1,11 +1,11 @@
 //! The server of a world, and its turns.
 ghost use Rattle.std.specs.Prelude.{◌≡◌, ◌+◌, ◌++◌, ◌∷◌, [], true, length, slice_get, IfOk, List};
-ghost use Rattle.std.specs.Prelude.{option_map};
+ghost use Rattle.std.specs.Prelude.{option_map, ℕ};
 ghost use Rattle.script_text.specs.declared.line.Line.{Line};
 ghost use Rattle.serial_model.specs.declared.history.BookCall.TheVariants as call;
-ghost use Rattle.serial_model.specs.History.{gives_on, reads_on, run_entries, unsent};
+ghost use Rattle.serial_model.specs.History.{gives_on, reads_on, run_entries, runs_of, unsent};
 ghost use Rattle.serial_model.specs.Steps.{AreValid, BookStep, IsCallable};
-ghost use Rattle.server_links.specs.Notes.{noted_turn, runner_of, sent_entries, words_at};
+ghost use Rattle.server_links.specs.Notes.{IsCopy, noted_turn, runner_of, sent_entries, words_of};
 ghost use Rattle.server_links.specs.LinkSteps.{tick};
 ghost use Rattle.server_links.specs.Outcome.{Gives};
 ghost use Rattle.server_links.specs.Turns.{EndsTick, TurnGives, links_of};
@@ -14,7 +14,7 @@ use super::fault::WorldFault;
 use super::notes::Notes;
 use resp_value::{NoMemory, Words};
 use script_text::{Line, Lines};
-use serial_model::{Entry, Post};
+use serial_model::Post;
 use server_book::{Book, BookCall, BookRefusal, BookReply, Limits};
 use std::alloc::Global;
 use std::marker::Model;
@@ -56,13 +56,21 @@ fn runner_of(call: &BookCall) -> Option<u64>
 }
 
 // what a turn of that call is noted as
-fn note(alloc: Global, notes: &mut Notes, runner: Option<u64>, reply: &BookReply, posts: &[Post])
+fn note(
+    alloc: Global,
+    notes: &mut Notes,
+    runner: Option<u64>,
+    words: Option<Words>,
+    reply: &BookReply,
+    posts: &[Post],
+)
     ensures { notes.new.whole ≡ true → (notes.old.whole ≡ true)
-        × (notes.new.trails ≡ noted_turn runner reply.now posts.now notes.old.trails) }
+        × ((ws : List (List ℕ)) → IsCopy words ws
+        → notes.new.trails ≡ noted_turn runner ws reply.now posts.now notes.old.trails) }
 {
     match (reply, runner) {
         (BookReply::Admitted { .. }, _) => notes.admit(alloc),
-        (BookReply::Ran { entry }, Some(id)) => notes.run(id, *entry),
+        (BookReply::Ran { entry }, Some(id)) => notes.run(id, *entry, words),
         _ => {}
     }
     notes.posts(posts);
@@ -168,15 +176,37 @@ impl Server {
         Ok(self.notes.sent_entry(at, number))
     }
 
-    /// The words of the command that ran at an entry.
-    pub fn words_at(&self, entry: u64) -> Option<&Words>
-        ensures { option_map (λ w. w.now) result ≡ words_at entry self.now.book.past }
+    /// From now on the words of the commands of the connection of the id `at` + 1 are kept, which
+    /// none has run so far.
+    pub fn keep_words(&mut self, at: usize)
+        ensures { self.new ≡ self.old }
     {
-        let place = entry.checked_sub(1)? as usize;
-        match self.book.history().get(place)? {
-            Entry::Run { words, .. } => Some(words),
-            Entry::Admit { .. } | Entry::Tick { .. } => None,
-            Entry::Take { .. } | Entry::Close { .. } => None,
+        let Some(id) = (at as u64).checked_add(1) else {
+            return;
+        };
+        self.notes.keep_words(id);
+    }
+
+    /// The words of the command of this number, counted from 0, of the connection of the id
+    /// `at` + 1, where they are kept.
+    pub fn run_words(&self, at: usize, number: usize) -> Result<Option<&Words>, NoMemory>
+        ensures { IfOk result (λ w. option_map (λ x. x.now) w
+            ≡ slice_get (runs_of (at + 1) self.now.book.past) number) }
+    {
+        let id = (at as u64).checked_add(1).ok_or(NoMemory)?;
+        if !self.notes.is_whole() || !self.notes.keeps_words(id) {
+            return Err(NoMemory);
+        }
+        Ok(self.notes.run_words(at, number))
+    }
+
+    // A copy of the words of a command that is to run, where they are kept.
+    fn copy_words(&self, call: &BookCall) -> Option<Words>
+        ensures { IsCopy result (words_of call.now) }
+    {
+        match call {
+            BookCall::Run { id, words, .. } if self.notes.keeps_words(*id) => words.copy().ok(),
+            _ => None,
         }
     }
 
@@ -189,6 +219,7 @@ impl Server {
             self.new.book.past }
     {
         let runner = runner_of(&call);
+        let words = self.copy_words(&call);
         // the history so far is a legal one
         let _history = self.book.history();
         let reply = self.book.turn(call);
@@ -196,6 +227,7 @@ impl Server {
             self.alloc,
             &mut self.notes,
             runner,
+            words,
             &reply,
             self.book.last_posts(),
         );
@@ -221,10 +253,6 @@ impl Server {
             BookReply::Refused(BookRefusal::NoMemory) => {
                 take_back(lines);
                 Err(WorldFault::NoMemory)
-            }
-            BookReply::Refused(BookRefusal::HistoryFull { entries }) => {
-                take_back(lines);
-                Err(WorldFault::HistoryFull { entries })
             }
             reply => Ok(reply),
         }
@@ -257,9 +285,6 @@ fn without_entry(reply: &BookReply) -> Result<(), WorldFault>
 {
     match reply {
         BookReply::Refused(BookRefusal::NoMemory) => Err(WorldFault::NoMemory),
-        BookReply::Refused(BookRefusal::HistoryFull { entries }) => {
-            Err(WorldFault::HistoryFull { entries: *entries })
-        }
         _ => Ok(()),
     }
 }

@@ -4,13 +4,13 @@ ghost use Rattle.std.specs.Prelude.{option_map, position, slice_get, true};
 ghost use Rattle.std.specs.declared.option.Option.TheVariants.{None};
 ghost use Rattle.std.specs.Str.{bytes_eq};
 ghost use Rattle.serial_model.specs.declared.history.BookCall.TheVariants as call;
-ghost use Rattle.serial_model.specs.History.{run_entries};
+ghost use Rattle.serial_model.specs.History.{run_entries, runs_of};
 ghost use Rattle.serial_model.specs.Steps.{AreValid};
 ghost use Rattle.server_links.specs.Directions.{is_queued};
 ghost use Rattle.server_links.specs.LinkEvent.{Over, Put, Raw, Tick};
 ghost use Rattle.server_links.specs.LinkSteps.{StepGives, place_of};
 ghost use Rattle.server_links.specs.LinksState.{AreApart, IsOver, at_place, names, start};
-ghost use Rattle.server_links.specs.Notes.{sent_entries, words_at};
+ghost use Rattle.server_links.specs.Notes.{sent_entries};
 ghost use Rattle.server_links.specs.Turns.{TurnGives};
 
 use super::fault::WorldFault;
@@ -226,11 +226,21 @@ impl ServerLinks {
         self.server.sent_entry(at, number)
     }
 
-    /// The words of the command that ran at an entry.
-    pub fn words_at(&self, entry: u64) -> Option<&Words>
-        ensures { option_map (λ w. w.now) result ≡ words_at entry self.now.past }
+    /// From now on the words of the commands of the link at this place are kept, which has run none
+    /// so far.
+    pub fn keep_words(&mut self, at: usize)
+        ensures { self.new ≡ self.old }
     {
-        self.server.words_at(entry)
+        self.server.keep_words(at);
+    }
+
+    /// The words of the command of this number, counted from 0, of the link at this place, where
+    /// they are kept. Want of memory may have lost it.
+    pub fn run_words(&self, at: usize, number: usize) -> Result<Option<&Words>, NoMemory>
+        ensures { IfOk result (λ w. option_map (λ x. x.now) w
+            ≡ slice_get (runs_of (at + 1) self.now.past) number) }
+    {
+        self.server.run_words(at, number)
     }
 }
 

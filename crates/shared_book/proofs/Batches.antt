@@ -20,8 +20,8 @@ use Rattle.serial_model.specs.declared.history.BookReply.{BookReply}
 use Rattle.serial_model.specs.declared.history.BookReply.TheVariants.{Admitted, Ran, Ticked, Quiet}
 use Rattle.serial_model.specs.declared.history.BookReply.TheVariants.{Bytes, Closed, Refused}
 use Rattle.serial_model.specs.declared.history.BookRefusal.{BookRefusal}
-use Rattle.serial_model.specs.declared.history.BookRefusal.TheVariants.{Gone, HistoryFull, NoMemory}
-use Rattle.serial_model.specs.History.{is_admitted, has_ended, is_full}
+use Rattle.serial_model.specs.declared.history.BookRefusal.TheVariants.{Gone, NoMemory}
+use Rattle.serial_model.specs.History.{is_admitted, has_ended}
 use Rattle.seat_turns.specs.Own.{past_of, IsWithin, Within, Grows}
 use Rattle.seat_turns.specs.Turns.{Plays}
 use Rattle.resp_value.specs.declared.octets.Octets.{Octets}
@@ -35,7 +35,7 @@ use Rattle.shared_book.specs.Batches.{refusal_by, ran_in, taken_in, IsOfBatch, a
 use Rattle.seat_turns.proofs.Owning.{within_begins}
 use Rattle.seat_turns.proofs.Turning.{plays, begins_trans, grows_worn}
 use Rattle.seat_turns.proofs.Growing.{grows_none, grows_then, grows_past}
-use Rattle.shared_book.proofs.Histories.{begins_lift, admitted_more, ended_more, full_begins}
+use Rattle.shared_book.proofs.Histories.{begins_lift, admitted_more, ended_more}
 use Rattle.shared_book.proofs.Did.{named}
 use Rattle.shared_book.proofs.Outcomes.{entries_long, refuses, never, runs, run_number, gives}
 use Rattle.shared_book.proofs.Outcomes.{rests}
@@ -54,9 +54,6 @@ cause_more refusal.Dropped id k l g h =
     subst (λ z. has_ended z id (past_of l) ≡ true) (sym (ap limits_in g.setup))
     (begins_lift (λ past. has_ended (limits_of k) id past ≡ true) (ended_more (limits_of k) id)
     (past_of k) (past_of l) (grows_past k l [] g) h)
-cause_more refusal.HistoryFull id k l g h =
-    subst (λ z. is_full z (past_of l) ≡ true) (sym (ap limits_in g.setup))
-    (full_begins (limits_of k) (past_of k) (past_of l) (grows_past k l [] g) h)
 cause_more refusal.NoMemory id k l g h = h
 cause_more refusal.Worn id k l g h = omega (arith, h, g.tickets)
 
@@ -122,7 +119,6 @@ module _ (id now : ℕ) where
       → is_admitted (past_of k) id ≡ true → Plays TurnStep call (Refused r) k l
       → Refuses (refusal_by r) id k l
   refused call (Gone n) k l at on p = refuses k l call (Gone n) id (at, on) p
-  refused call (HistoryFull n) k l at on p = refuses k l call (HistoryFull n) id tt p
   refused call NoMemory k l at on p = refuses k l call NoMemory id tt p
 
   -- what was taken of a Quiet adds none, and no Run is Quiet

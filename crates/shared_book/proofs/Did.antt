@@ -11,11 +11,11 @@ use Rattle.serial_model.specs.declared.history.BookCall.TheVariants.{Admit, Run,
 use Rattle.serial_model.specs.declared.history.BookReply.{BookReply}
 use Rattle.serial_model.specs.declared.history.BookReply.TheVariants.{Admitted, Ran, Ticked, Quiet}
 use Rattle.serial_model.specs.declared.history.BookReply.TheVariants.{Bytes, Closed, Refused}
-use Rattle.serial_model.specs.declared.history.BookRefusal.TheVariants.{Gone, HistoryFull, NoMemory}
-use Rattle.serial_model.specs.History.{admitted, expired, is_full, latest, unsent, runs_on}
+use Rattle.serial_model.specs.declared.history.BookRefusal.TheVariants.{Gone, NoMemory}
+use Rattle.serial_model.specs.History.{admitted, expired, latest, unsent, runs_on}
 use Rattle.serial_model.specs.History.{reads_on, gives_on}
-use Rattle.serial_model.specs.Steps.{Turn as Stepped, book_step, BookStep, gone, full, unless_full}
-use Rattle.serial_model.specs.Steps.{admitting, running, taking, ticking, closing}
+use Rattle.serial_model.specs.Steps.{Turn as Stepped, book_step, BookStep, gone}
+use Rattle.serial_model.specs.Steps.{running, taking, ticking, closing}
 use Rattle.serial_model.proofs.Turning.{by_step}
 use Rattle.shared_book.specs.Turns.{TurnStep}
 
@@ -63,7 +63,6 @@ module _ (l : Limits) (past : List Entry) where
       × (gives_on l past id ≡ true) × (0 < length bytes)
   Says (Closed n) (Close id) e = e ≡ Some (entry.Close id)
   Says (Refused (Gone i)) call e = (e ≡ None) × (runs_on l past (named call) ≡ false)
-  Says (Refused (HistoryFull n)) call e = (e ≡ None) × (is_full l past ≡ true)
   Says (Refused NoMemory) call e = e ≡ None
   Says reply call e = ⊥
 
@@ -75,44 +74,34 @@ module _ (l : Limits) (past : List Entry) where
   abbrev At : BookCall → Stepped → Type 0
   At call t = Said call t.reply t.past
 
-  by_room : (call : BookCall) (t : Stepped) → (is_full l past ≡ true → At call (full past))
-      → At call t → At call (unless_full l past t)
-  by_room call t f p = by_test (At call) (is_full l past) (full past) t f (λ h. p)
-
   ticking_says : (now : ℕ) (keys : List (List ℕ)) → expired l past (max now (latest past)) ≡ keys
-      → At (Tick now) (ticking l past (max now (latest past)) keys)
+      → At (Tick now) (ticking past (max now (latest past)) keys)
   ticking_says now [] is = (refl, None, (refl, is), refl)
-  ticking_says now (key ∷ keys) is =
-      by_room (Tick now) _ (λ h. (refl, None, (refl, h), refl)) (
-        refl,
-        Some (entry.Tick (max now (latest past))),
-        (refl, λ none. absurd (omega (arith, ap length (sym is ∙ none)))),
-        refl,
-      )
+  ticking_says now (key ∷ keys) is = (
+    refl,
+    Some (entry.Tick (max now (latest past))),
+    (refl, λ none. absurd (omega (arith, ap length (sym is ∙ none)))),
+    refl,
+  )
 
   taking_says : (id most : ℕ) → gives_on l past id ≡ true → (bytes : List ℕ)
-      → bytes ≡ take most (unsent l id past) → At (Take id most) (taking l past id most bytes)
+      → bytes ≡ take most (unsent l id past) → At (Take id most) (taking past id most bytes)
   taking_says id most on [] is = (refl, None, (refl, sym is, on), refl)
   taking_says id most on (b ∷ bytes) is =
-      by_room (Take id most) _ (λ h. (refl, None, (refl, h), refl))
       (refl, Some (entry.Take id most), (refl, is, on, omega arith), refl)
 
   step_says : (call : BookCall) → At call (book_step l past call)
   unfolding book_step
-  step_says Admit =
-      by_room Admit (admitting past) (λ h. (refl, None, (refl, h), refl))
-      (refl, Some (entry.Admit (admitted past + 1)), (refl, refl), refl)
+  step_says Admit = (refl, Some (entry.Admit (admitted past + 1)), (refl, refl), refl)
   step_says (Run id words now) =
       by_test (At (Run id words now)) (runs_on l past id)
-      (unless_full l past (running past id words now)) (gone past id)
-      (λ on. by_room (Run id words now) (running past id words now)
-      (λ h. (refl, None, (refl, h), refl))
-      (refl, Some (entry.Run id words (max now (latest past))), (refl, refl), refl))
+      (running past id words now) (gone past id)
+      (λ on. (refl, Some (entry.Run id words (max now (latest past))), (refl, refl), refl))
       (λ off. (refl, None, (refl, off), refl))
   step_says (Tick now) = ticking_says now (expired l past (max now (latest past))) refl
   step_says (Take id most) =
       by_test (At (Take id most)) (gives_on l past id)
-      (taking l past id most (take most (unsent l id past))) (gone past id)
+      (taking past id most (take most (unsent l id past))) (gone past id)
       (λ on. taking_says id most on (take most (unsent l id past)) refl)
       (λ off. (refl, None, (refl, off), refl))
   step_says (Close id) =

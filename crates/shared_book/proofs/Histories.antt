@@ -7,7 +7,7 @@ use Rattle.turn_lock.specs.History.{IsPrefix}
 use Rattle.serial_model.specs.declared.history.Limits.{Limits}
 use Rattle.serial_model.specs.declared.history.Entry.{Entry}
 use Rattle.serial_model.specs.declared.history.Entry.TheVariants.{Admit, Close}
-use Rattle.serial_model.specs.History.{admitted, is_admitted, has_ended, is_full, runs_on, stream}
+use Rattle.serial_model.specs.History.{admitted, is_admitted, has_ended, runs_on, stream}
 use Rattle.serial_model.specs.History.{taken}
 use Rattle.serial_model.proofs.Streams.{stream_more}
 
@@ -71,10 +71,3 @@ module _ (l : Limits) (c : ℕ) where
   stream_begins a b more =
       begins_lift (λ past. length (stream l c a) ≤ length (stream l c past))
       (λ e past h. omega (arith, h, stream_one e past)) a b more (omega arith)
-
-pub full_begins : (l : Limits) (a b : List Entry) → IsPrefix a b → is_full l a ≡ true
-    → is_full l b ≡ true
-full_begins l a b more = begins_lift (λ past. is_full l past ≡ true) one a b more
-  where
-    one : (e : Entry) (past : List Entry) → is_full l past ≡ true → is_full l (e ∷ past) ≡ true
-    one e past h = grind (arith, nat_tests, h)

@@ -16,7 +16,7 @@ use Rattle.serial_model.specs.declared.history.BookReply.{BookReply}
 use Rattle.serial_model.specs.declared.history.BookReply.TheVariants.{Admitted, Ran, Ticked, Quiet}
 use Rattle.serial_model.specs.declared.history.BookReply.TheVariants.{Bytes, Refused}
 use Rattle.serial_model.specs.declared.history.BookRefusal.{BookRefusal}
-use Rattle.serial_model.specs.declared.history.BookRefusal.TheVariants.{Gone, HistoryFull, NoMemory}
+use Rattle.serial_model.specs.declared.history.BookRefusal.TheVariants.{Gone, NoMemory}
 use Rattle.serial_model.specs.History.{is_admitted, expired, has_ended, latest}
 use Rattle.serial_model.specs.Steps.{BookStep}
 use Rattle.shared_book.specs.Turns.{Place, TurnStep, limits_of, limits_in, Refuses, Admits, Runs}
@@ -69,9 +69,6 @@ module _ (before after : Place) (call : BookCall) where
 
   pub refuses : (r : BookRefusal) (id : ℕ) → IsOf (refusal_by r) id
       → Plays TurnStep call (Refused r) before after → Refuses (refusal_by r) id before after
-  refuses (HistoryFull n) id of p =
-      let (known, e, s, is) = said p in
-      grind (arith, stays, seen_after)
   refuses NoMemory id of p =
       let (known, e, s, is) = said p in
       record { grows = stays p (is ∙ ap (past_after p.past) s); cause_is = tt }
@@ -94,17 +91,9 @@ module _ (before after : Place) (call : BookCall) where
   never reply p not = let known = (said p).0 in cc
 
 module _ (before after : Place) where
-  pub admit_full : (n : ℕ) → Plays TurnStep Admit (Refused (HistoryFull n)) before after
-      → Refuses refusal.HistoryFull 0 before after
-  admit_full n p = refuses before after Admit (HistoryFull n) 0 tt p
-
   pub admit_memory : Plays TurnStep Admit (Refused NoMemory) before after
       → Refuses refusal.NoMemory 0 before after
   admit_memory p = refuses before after Admit NoMemory 0 tt p
-
-  pub tick_full : (now n : ℕ) → Plays TurnStep (Tick now) (Refused (HistoryFull n)) before after
-      → Refuses refusal.HistoryFull 0 before after
-  tick_full now n p = refuses before after (Tick now) (HistoryFull n) 0 tt p
 
   pub tick_memory : (now : ℕ) → Plays TurnStep (Tick now) (Refused NoMemory) before after
       → Refuses refusal.NoMemory 0 before after
@@ -116,11 +105,6 @@ module _ (before after : Place) where
       → Refuses refusal.Dropped id before after
   run_gone id words now n on p = refuses before after (Run id words now) (Gone n) id (refl, on) p
 
-  pub run_full : (id : ℕ) (words : List (List ℕ)) (now n : ℕ)
-      → Plays TurnStep (Run id words now) (Refused (HistoryFull n)) before after
-      → Refuses refusal.HistoryFull id before after
-  run_full id words now n p = refuses before after (Run id words now) (HistoryFull n) id tt p
-
   pub run_memory : (id : ℕ) (words : List (List ℕ)) (now : ℕ)
       → Plays TurnStep (Run id words now) (Refused NoMemory) before after
       → Refuses refusal.NoMemory id before after
@@ -130,11 +114,6 @@ module _ (before after : Place) where
       → Plays TurnStep (Take id most) (Refused (Gone n)) before after
       → Refuses refusal.Dropped id before after
   take_gone id most n on p = refuses before after (Take id most) (Gone n) id (refl, on) p
-
-  pub take_full : (id most n : ℕ)
-      → Plays TurnStep (Take id most) (Refused (HistoryFull n)) before after
-      → Refuses refusal.HistoryFull id before after
-  take_full id most n p = refuses before after (Take id most) (HistoryFull n) id tt p
 
   pub take_memory : (id most : ℕ)
       → Plays TurnStep (Take id most) (Refused NoMemory) before after
@@ -232,12 +211,12 @@ module _ (before after : Place) where
       → Closes id before after
   close_worn id g worn = record { close = None; grows = g; over = inr worn }
 
-pub ruleset admitting = (admits, admit_full, admit_memory, refused_worn, never)
+pub ruleset admitting = (admits, admit_memory, refused_worn, never)
 
-pub ruleset running = (runs, run_number, run_gone, run_full, run_memory, refused_worn, never)
+pub ruleset running = (runs, run_number, run_gone, run_memory, refused_worn, never)
 
-pub ruleset taking = (take_gone, take_full, take_memory, refused_worn, never)
+pub ruleset taking = (take_gone, take_memory, refused_worn, never)
 
-pub ruleset ticking = (ticks, ticks_not, tick_full, tick_memory, refused_worn, never)
+pub ruleset ticking = (ticks, ticks_not, tick_memory, refused_worn, never)
 
 pub ruleset closing = (closes, close_worn)

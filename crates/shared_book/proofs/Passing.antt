@@ -1,12 +1,12 @@
 -- A call of a batch that is passed unplayed, behind one that added no entry.
-use Rattle.std.proofs.Common.{◌≡◌, ◌≤◌, ◌<◌, ℕ, zero, suc, List, [], ◌∷◌, length, take, true}
+use Rattle.std.proofs.Common.{◌≡◌, ◌<◌, ℕ, zero, suc, List, [], ◌∷◌, length, take, true}
 use Rattle.std.proofs.Common.{false, refl, ap, ◌∙◌, arith}
 use Rattle.std.proofs.lemmas.Bool.Decides.{nat_tests}
 use Rattle.serial_model.specs.declared.history.BookCall.TheVariants.{Run, Take}
 use Rattle.serial_model.specs.declared.history.BookReply.TheVariants.{Quiet, Refused}
-use Rattle.serial_model.specs.declared.history.BookRefusal.TheVariants.{Gone, HistoryFull, NoMemory}
-use Rattle.serial_model.specs.History.{gives_on, is_full, runs_on, unsent}
-use Rattle.serial_model.specs.Steps.{book_step, running, taking, unless_full}
+use Rattle.serial_model.specs.declared.history.BookRefusal.TheVariants.{Gone, NoMemory}
+use Rattle.serial_model.specs.History.{gives_on, runs_on, unsent}
+use Rattle.serial_model.specs.Steps.{book_step, running, taking}
 use Rattle.shared_book.specs.Turns.{Shared}
 use Rattle.shared_book.specs.Batches.{PassesTake, RefusesRun}
 
@@ -19,19 +19,14 @@ module _ (s : Shared) (id : ℕ) where
 
   on_step : (words : List (List ℕ)) (now : ℕ) → runs_on s.limits s.past id ≡ true
       → book_step s.limits s.past (Run id words now)
-      ≡ unless_full s.limits s.past (running s.past id words now)
+      ≡ running s.past id words now
   unfolding book_step
   on_step words now on = grind (arith, nat_tests)
 
-  pub refuse_full : (n : ℕ) → runs_on s.limits s.past id ≡ true → n ≡ length s.past
-      → s.limits.history_max ≤ n → RefusesRun s id (HistoryFull n)
-  refuse_full n on is le words now = grind (arith, on_step, nat_tests)
+  pub refuse_memory : runs_on s.limits s.past id ≡ true → RefusesRun s id NoMemory
+  refuse_memory on words now = grind (arith, on_step, nat_tests)
 
-  pub refuse_memory : (n : ℕ) → runs_on s.limits s.past id ≡ true → n ≡ length s.past
-      → n < s.limits.history_max → RefusesRun s id NoMemory
-  refuse_memory n on is lt words now = grind (arith, on_step, nat_tests)
-
-pub ruleset refusing = (refuse_gone, refuse_full, refuse_memory)
+pub ruleset refusing = (refuse_gone, refuse_memory)
 
 -- ---- a Take
 
@@ -51,7 +46,7 @@ module _ (s : Shared) (id : ℕ) where
 
   gives_step : (most : ℕ) → gives_on s.limits s.past id ≡ true
       → book_step s.limits s.past (Take id most)
-      ≡ taking s.limits s.past id most (take most (unsent s.limits id s.past))
+      ≡ taking s.past id most (take most (unsent s.limits id s.past))
   unfolding book_step
   gives_step most on = grind (arith, nat_tests)
 
@@ -63,31 +58,17 @@ module _ (s : Shared) (id : ℕ) where
   some_step : (most : ℕ) → 0 < most → gives_on s.limits s.past id ≡ true
       → 0 < length (unsent s.limits id s.past)
       → (b : ℕ) × (bytes : List ℕ) × (book_step s.limits s.past (Take id most)
-      ≡ taking s.limits s.past id most (b ∷ bytes))
+      ≡ taking s.past id most (b ∷ bytes))
   some_step most pos on some =
       let (b, bytes, is) = take_some most (unsent s.limits id s.past) pos some in
-      (b, bytes, gives_step most on ∙ ap (taking s.limits s.past id most) is)
+      (b, bytes, gives_step most on ∙ ap (taking s.past id most) is)
 
-  pub pass_full : (n k : ℕ) → gives_on s.limits s.past id ≡ true
-      → k ≡ length (unsent s.limits id s.past) → (k ≡ 0 → ⊥) → n ≡ length s.past
-      → s.limits.history_max ≤ n → PassesTake s id (Refused (HistoryFull n))
-  pass_full n k on waits some is le =
-      let there : is_full s.limits s.past ≡ true = grind (arith, nat_tests, is, le) in (
-        refl,
-        λ most pos.
-            let (b, bytes, takes) = some_step most pos on (omega (arith, waits, some)) in
-            grind arith,
-      )
+  pub pass_memory : (n : ℕ) → gives_on s.limits s.past id ≡ true
+      → n ≡ length (unsent s.limits id s.past) → (n ≡ 0 → ⊥) → PassesTake s id (Refused NoMemory)
+  pass_memory n on waits some = (
+    refl,
+    λ most pos.
+        let (b, bytes, takes) = some_step most pos on (omega (arith, waits, some)) in grind arith,
+  )
 
-  pub pass_memory : (n k : ℕ) → gives_on s.limits s.past id ≡ true
-      → k ≡ length (unsent s.limits id s.past) → (k ≡ 0 → ⊥) → n ≡ length s.past
-      → n < s.limits.history_max → PassesTake s id (Refused NoMemory)
-  pass_memory n k on waits some is lt =
-      let there : is_full s.limits s.past ≡ false = grind (arith, nat_tests, is, lt) in (
-        refl,
-        λ most pos.
-            let (b, bytes, takes) = some_step most pos on (omega (arith, waits, some)) in
-            grind arith,
-      )
-
-pub ruleset passing = (pass_gone, pass_quiet, pass_full, pass_memory)
+pub ruleset passing = (pass_gone, pass_quiet, pass_memory)

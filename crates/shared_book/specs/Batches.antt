@@ -87,7 +87,6 @@ pub record RunsFirst (id now count : ℕ) (requests : List (List (List ℕ))) (r
 
 abbrev pub refusal_by : BookRefusal → Refusal
 refusal_by (because.Gone id) = refusal.Dropped
-refusal_by (because.HistoryFull n) = refusal.HistoryFull
 refusal_by because.NoMemory = refusal.NoMemory
 
 -- how many Runs the replies tell of, up to the first that is none

@@ -10,7 +10,7 @@ use Rattle.serial_model.specs.declared.history.Entry.{Entry}
 use Rattle.serial_model.specs.declared.history.Entry.TheVariants as entry
 use Rattle.serial_model.specs.declared.history.BookCall.{BookCall}
 use Rattle.serial_model.specs.declared.history.BookReply.{BookReply}
-use Rattle.serial_model.specs.History.{admitted, expired, has_ended, is_full, latest, unsent}
+use Rattle.serial_model.specs.History.{admitted, expired, has_ended, latest, unsent}
 use Rattle.serial_model.specs.Steps.{BookStep}
 use Rattle.seat_turns.specs.Own.{past_of, Grows}
 use Rattle.shared_book.specs.declared.turns.Refusal.{Refusal}
@@ -44,7 +44,6 @@ limits_of k = limits_in k.setup
 -- why a connection's turn was not taken, as the seat shows it
 abbrev pub IsCause : Refusal → ℕ → Place → Type 0
 IsCause refusal.Dropped id k = has_ended (limits_of k) id (past_of k) ≡ true
-IsCause refusal.HistoryFull id k = is_full (limits_of k) (past_of k) ≡ true
 IsCause refusal.NoMemory id k = ⊤
 IsCause refusal.Worn id k = LAST_TICKET ≤ k.tickets
 
@@ -56,7 +55,6 @@ pub record Refuses (cause : Refusal) (id : ℕ) (before after : Place) : Type 0 
 -- a turn that is of no connection that was admitted is not refused for one
 abbrev pub IsServerCause : Refusal → Type 0
 IsServerCause refusal.Dropped = ⊥
-IsServerCause refusal.HistoryFull = ⊤
 IsServerCause refusal.NoMemory = ⊤
 IsServerCause refusal.Worn = ⊤
 

@@ -29,7 +29,6 @@ fn refusal_by(refusal: BookRefusal) -> Refusal
 {
     match refusal {
         BookRefusal::Gone { .. } => Refusal::Dropped,
-        BookRefusal::HistoryFull { .. } => Refusal::HistoryFull,
         BookRefusal::NoMemory => Refusal::NoMemory,
     }
 }

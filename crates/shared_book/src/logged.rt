@@ -57,10 +57,6 @@ impl SharedBook {
         if !self.book.runs_on(id) {
             return BookRefusal::Gone { id };
         }
-        let entries = self.book.entries();
-        if entries >= self.limits.history_max {
-            return BookRefusal::HistoryFull { entries };
-        }
         BookRefusal::NoMemory
     }
 
@@ -74,10 +70,6 @@ impl SharedBook {
         }
         if self.book.waiting(id) == 0 {
             return BookReply::Quiet;
-        }
-        let entries = self.book.entries();
-        if entries >= self.limits.history_max {
-            return BookReply::Refused(BookRefusal::HistoryFull { entries });
         }
         BookReply::Refused(BookRefusal::NoMemory)
     }

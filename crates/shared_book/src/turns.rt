@@ -20,8 +20,6 @@ use turn_lock::{Seat, TurnLock};
 pub enum Refusal {
     /// The connection has ended.
     Dropped,
-    /// The history is full.
-    HistoryFull,
     NoMemory,
     /// No ticket of the lock is left.
     Worn,
@@ -44,7 +42,6 @@ pub fn admit<R: Wait>(
 {
     match play(rt, lock, seat, BookCall::Admit) {
         Ok(BookReply::Admitted { id, .. }) => Ok(id),
-        Ok(BookReply::Refused(BookRefusal::HistoryFull { .. })) => Err(Refusal::HistoryFull),
         Ok(BookReply::Refused(BookRefusal::NoMemory)) => Err(Refusal::NoMemory),
         Ok(BookReply::Ran { .. }) => unreachable!(),
         Ok(BookReply::Quiet) => unreachable!(),
@@ -76,7 +73,6 @@ pub fn run<R: Wait>(
     match play(rt, lock, seat, BookCall::Run { id, words, now }) {
         Ok(BookReply::Ran { entry }) => Ok(entry),
         Ok(BookReply::Refused(BookRefusal::Gone { .. })) => Err(Refusal::Dropped),
-        Ok(BookReply::Refused(BookRefusal::HistoryFull { .. })) => Err(Refusal::HistoryFull),
         Ok(BookReply::Refused(BookRefusal::NoMemory)) => Err(Refusal::NoMemory),
         Ok(BookReply::Admitted { .. }) => unreachable!(),
         Ok(BookReply::Quiet) => unreachable!(),
@@ -105,7 +101,6 @@ pub fn take<R: Wait>(
         Ok(BookReply::Bytes { bytes, .. }) => Ok(Some(bytes)),
         Ok(BookReply::Quiet) => Ok(None),
         Ok(BookReply::Refused(BookRefusal::Gone { .. })) => Err(Refusal::Dropped),
-        Ok(BookReply::Refused(BookRefusal::HistoryFull { .. })) => Err(Refusal::HistoryFull),
         Ok(BookReply::Refused(BookRefusal::NoMemory)) => Err(Refusal::NoMemory),
         Ok(BookReply::Admitted { .. }) => unreachable!(),
         Ok(BookReply::Ran { .. }) => unreachable!(),
@@ -132,7 +127,6 @@ pub fn tick<R: Wait>(
     match play(rt, lock, seat, BookCall::Tick { now }) {
         Ok(BookReply::Ticked { .. }) => Ok(()),
         Ok(BookReply::Quiet) => Ok(()),
-        Ok(BookReply::Refused(BookRefusal::HistoryFull { .. })) => Err(Refusal::HistoryFull),
         Ok(BookReply::Refused(BookRefusal::NoMemory)) => Err(Refusal::NoMemory),
         Ok(BookReply::Admitted { .. }) => unreachable!(),
         Ok(BookReply::Ran { .. }) => unreachable!(),

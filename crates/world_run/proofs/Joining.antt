@@ -6,7 +6,7 @@ use Rattle.std.proofs.lemmas.Bool.{cases_lt}
 use Rattle.std.proofs.lemmas.List.{get_or_push, get_or_append_left}
 use Rattle.resp_stream.proofs.Onward.{no_values, values_begun}
 use Rattle.serial_model.specs.declared.history.Limits.{Limits}
-use Rattle.serial_model.specs.History.{is_full, admitted}
+use Rattle.serial_model.specs.History.{admitted}
 use Rattle.serial_model.specs.Steps.{Turn, book_step}
 use Rattle.serial_model.specs.Steps as steps
 use Rattle.shared_cache.specs.declared.log.ClientMode.{ClientMode}
@@ -46,11 +46,9 @@ pub record IsMade (name : List ℕ) (w v : LinksState) : Type 0 where
   pub size : length v.links ≡ length w.links + 1
   pub named : (at_place v.links (length w.links)).name ≡ name
 
-made_if : (name : List ℕ) (w : LinksState) (b : Bool) → place_of name w ≡ None
-    → let m = admitting w name (cond b (steps.full w.past) (steps.admitting w.past)) in
-    m.fault ≡ None → IsMade name w m.state
-made_if name w true free none = absurd (let no : ⊥ = cc in no)
-made_if name w false free none =
+made_now : (name : List ℕ) (w : LinksState) → place_of name w ≡ None
+    → IsMade name w (admitting w name (steps.admitting w.past)).state
+made_now name w free =
     let new = fresh_link (admitted w.past + 1) name in
     record {
       free = free;
@@ -64,7 +62,7 @@ unfolding step book_step
 raw_made name w none = elim (place_of name w) as (λ p. place_of name w ≡ p
     → (raw_step w name p).fault ≡ None → IsMade name w (raw_step w name p).state) [
       | Some at ↦ λ is e. absurd (let no : Some NameTaken ≡ None = e in cc)
-      | None ↦ λ free e. made_if name w (is_full w.limits w.past) free e
+      | None ↦ λ free e. made_now name w free
     ] refl none
 
 module _ (l : Limits) (heard : ℕ → List ℕ) (raw : List ℕ → List ℕ) (lines : List Line)
@@ -129,10 +127,7 @@ module _ (l : Limits) (heard : ℕ → List ℕ) (raw : List ℕ → List ℕ) (
   new_stable = grind (arith, new_part, no_values, values_begun)
 
   pub joins : WorldStands l heard raw lines
-      (record {
-        links = w.links;
-        members = w.members ++ fresh_member name (length old.links) setup ∷ [];
-      })
+      (record w { members = w.members ++ fresh_member name (length old.links) setup ∷ [] })
   unfolding joined new
   joins = record {
     said = h.said;

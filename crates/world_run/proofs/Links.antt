@@ -10,8 +10,8 @@ use Rattle.resp_stream.specs.declared.fault.FaultPlace.{FaultPlace}
 use Rattle.serial_model.specs.declared.history.Entry.{Entry}
 use Rattle.serial_model.specs.declared.history.Entry.TheVariants as entry
 use Rattle.serial_model.specs.declared.history.BookReply.{BookReply}
-use Rattle.serial_model.specs.History.{admitted, is_full}
-use Rattle.serial_model.specs.Steps.{Turn, book_step, unless_full}
+use Rattle.serial_model.specs.History.{admitted}
+use Rattle.serial_model.specs.Steps.{Turn, book_step}
 use Rattle.serial_model.specs.Steps as steps
 use Rattle.script_text.specs.declared.line.Line.{Line}
 use Rattle.server_links.specs.declared.fault.WorldFault.{WorldFault}
@@ -118,13 +118,8 @@ raw_moved name w = elim (place_of name w) as (λ p. place_of name w ≡ p
     → Meets (LinkMoved w name) (LinkMoved w name) (raw_step w name p)) [
       | Some at ↦ grind (arith, meets_refuses, moved_none)
       | None ↦ λ free.
-          elim (is_full w.limits w.past) as (λ b. Meets (LinkMoved w name) (LinkMoved w name)
-          (admitting w name (cond b (steps.full w.past) (steps.admitting w.past)))) [
-            | true ↦ grind (arith, meets_once, moved_none)
-            | false ↦
-                let made = made_grows w (admitted w.past + 1) name free in
-                grind (arith, meets_once, moved_none)
-          ]
+          let made = made_grows w (admitted w.past + 1) name free in
+          grind (arith, meets_once, moved_none)
     ] refl
 
 -- the links are the same ones

@@ -17,7 +17,7 @@ use Rattle.currency.specs.Links.{Client}
 use Rattle.currency.specs.Points.{before_first, complete, last_named, names_key}
 use Rattle.currency.proofs.Lists.{get_front, get_last}
 use Rattle.currency.proofs.Runs.{in_order, ran_at as run_at}
-use Rattle.server_links.specs.Notes.{sent_entries, words_at}
+use Rattle.server_links.specs.Notes.{sent_entries}
 
 -- ---- how far a client has processed
 
@@ -105,23 +105,10 @@ abbrev pub named_to : ℕ → List Entry → List ℕ → ℕ → ℕ
 named_to id past key n = last_named key (take n (runs_of id past)) (run_entries id past)
 
 module _ (id : ℕ) (past : List Entry) where
-  pub record There (place p : ℕ) : Type 0 where
-    pub words : List (List ℕ)
-    pub ran : slice_get (runs_of id past) place ≡ Some words
-    pub read : words_at p past ≡ Some words
-
-  pub there : (place p : ℕ) → slice_get (run_entries id past) place ≡ Some p → There place p
-  there place p e =
-      let r = run_at id past place p e in
-      let x : Entry = Run r.id r.words r.moment in
-      let n : p ≡ suc (length r.up) = omega (arith, r.at) in
-      let turned : reverse past ≡ reverse (x ∷ r.up) ++ reverse r.older.newer =
-      ap reverse (sym r.older.is) ∙ reverse-append r.older.newer (x ∷ r.up) in
-      let last : slice_get (reverse (x ∷ r.up)) (length r.up) ≡ Some x =
-      ap (λ l. slice_get l (length r.up)) (reverse-append (x ∷ []) r.up)
-      ∙ ap (slice_get (reverse r.up ++ x ∷ [])) (sym (length-reverse r.up))
-      ∙ get_last (reverse r.up) x in
-      grind (arith, get_front, reverse)
+  -- the command that ran there
+  pub there : (place p : ℕ) → slice_get (run_entries id past) place ≡ Some p
+      → (words : List (List ℕ)) × (slice_get (runs_of id past) place ≡ Some words)
+  there place p e = let r = run_at id past place p e in (r.words, r.words_are)
 
   module _ (key : List ℕ) (k m : ℕ) (next : m ≡ k + 1) where
     up : m ≡ suc k
@@ -143,29 +130,20 @@ module _ (id : ℕ) (past : List Entry) where
       pub named_within : named_to id past key m ≤ e
       named_within =
           let t = there k e is in
-          let g = grown t.words t.ran in
+          let g = grown t.0 t.1 in
           grind (arith, picked, at_most)
 
-      pub named_here : (ws : List (List ℕ)) → words_at e past ≡ Some ws → names_key ws key ≡ true
-          → named_to id past key m ≡ e
-      named_here ws read names =
-          let t = there k e is in
-          let same : t.words ≡ ws = let q : Some t.words ≡ Some ws = sym t.read ∙ read in cc in
-          let g = grown t.words t.ran
-          ∙ ap (λ w. max (named_to id past key k) (cond (names_key w key) e 0)) same
-          ∙ ap (λ b. max (named_to id past key k) (cond b e 0)) names in
+      pub named_here : (ws : List (List ℕ)) → slice_get (runs_of id past) k ≡ Some ws
+          → names_key ws key ≡ true → named_to id past key m ≡ e
+      named_here ws ran names =
+          let g = grown ws ran ∙ ap (λ b. max (named_to id past key k) (cond b e 0)) names in
           omega (arith, g, at_most)
 
-      pub not_named : (ws : List (List ℕ)) → words_at e past ≡ Some ws → names_key ws key ≡ false
-          → named_to id past key m ≡ named_to id past key k
-      not_named ws read names =
-          let t = there k e is in
-          let same : t.words ≡ ws = let q : Some t.words ≡ Some ws = sym t.read ∙ read in cc in
-          let g = grown t.words t.ran
-          ∙ ap (λ w. max (named_to id past key k) (cond (names_key w key) e 0)) same
-          ∙ ap (λ b. max (named_to id past key k) (cond b e 0)) names in
+      pub not_named : (ws : List (List ℕ)) → slice_get (runs_of id past) k ≡ Some ws
+          → names_key ws key ≡ false → named_to id past key m ≡ named_to id past key k
+      not_named ws ran names =
+          let g = grown ws ran ∙ ap (λ b. max (named_to id past key k) (cond b e 0)) names in
           omega (arith, g)
 
-      pub has_words : words_at e past ≡ None → ⊥
-      has_words none = let t = there k e is in
-          let q : Some t.words ≡ None = sym t.read ∙ none in cc
+      pub has_words : slice_get (runs_of id past) k ≡ None → ⊥
+      has_words none = let t = there k e is in let q : Some t.0 ≡ None = sym t.1 ∙ none in cc

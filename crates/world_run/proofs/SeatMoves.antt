@@ -124,7 +124,7 @@ module _ (l : Limits) (heard : ℕ → List ℕ) (raw : List ℕ → List ℕ) (
     (took : h.said new.link ++ more ≡ taken_bytes new)
     (ls : List Line) (plain : Plain ls) where
   abbrev pub changed : WorldState
-  changed = record { links = w.links; members = slice_set w.members at new }
+  changed = record w { members = slice_set w.members at new }
 
   size : length changed.members ≡ length w.members
   size = length-set w.members at new

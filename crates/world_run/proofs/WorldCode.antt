@@ -40,35 +40,38 @@ use Rattle.world_run.specs.World.{on_links, said_step, setup_by, step}
 use Rattle.world_run.proofs.Names.{client_there, link_there}
 use Rattle.world_run.proofs.WorldKept.{goes_flow, goes_over, step_grows}
 
-pub links_give : {A : Type 0} → (e : LinkEvent) (old new : LinksState) (members : List MemberState)
+pub links_give : {A : Type 0} {most : ℕ} → (e : LinkEvent) (old new : LinksState) (members : List
+    MemberState)
     (lines : List Line) (r : Result A WorldFault) (lines' : List Line)
     → Gives (links.step old e) lines r new lines'
-    → Gives (links_step e (world old members)) lines r (world new members) lines'
+    → Gives (links_step e (world most old members)) lines r (world most new members) lines'
 unfolding links_step
-links_give e old new members lines r lines' g =
-    gives_within (on_links (world old members)) (links.step old e) lines r new lines' g
+links_give {A} {most} e old new members lines r lines' g =
+    gives_within (on_links (world most old members)) (links.step old e) lines r new lines' g
 
 -- the clock is set
-pub clock_gives : (old new : LinksState) (members : List MemberState) (lines : List Line)
+pub clock_gives : {most : ℕ} → (old new : LinksState) (members : List MemberState) (lines : List
+    Line)
     (moment : ℕ)
     → new ≡ record { limits = old.limits; now = moment; past = old.past; links = old.links }
-    → Gives {A = Unit {0}} (links_step (link_event.Now moment) (world old members)) lines
-    (Ok (tt {0})) (world new members) lines
+    → Gives {A = Unit {0}} (links_step (link_event.Now moment) (world most old members)) lines
+    (Ok (tt {0})) (world most new members) lines
 unfolding links.step
 clock_gives old new members lines moment is =
     links_give (link_event.Now moment) old new members lines (Ok (tt {0})) lines
     (refl, is, sym (append-nil lines))
 
-pub client_gives : {A : Type 0} → (at : ℕ) (move : Seat → Outcome Seat) (old new : LinksState)
+pub client_gives : {A : Type 0} {most : ℕ} → (at : ℕ) (move : Seat → Outcome Seat) (old new :
+    LinksState)
     (members : List MemberState) (m m' : MemberState) (lines : List Line)
     (r : Result A WorldFault) (lines' : List Line) → at < length members
     → m ≡ slice_index_or members at m
     → Gives (move (seat old m)) lines r (seat new m') lines'
-    → Gives (client_does at move (world old members)) lines r
-    (world new (slice_set members at m')) lines'
+    → Gives (client_does at move (world most old members)) lines r
+    (world most new (slice_set members at m')) lines'
 unfolding client_does
-client_gives at move old new members m m' lines r lines' below is g =
-    let w = world old members in
+client_gives {A} {most} at move old new members m m' lines r lines' below is g =
+    let w = world most old members in
     let there : m ≡ member_at members at =
     get_or_read members at m below is (fresh_member [] 0 no_setup) in
     gives_within (with_seat at w) (move (seat_at at w)) lines r (seat new m') lines'
@@ -97,67 +100,71 @@ named_none name move w lines none =
     no_name w (named_does (client_named name w.members) move w) lines
     (ap (λ c. named_does c move w) none)
 
-pub named_gives : {A : Type 0} → (name : List ℕ) (move : Seat → Outcome Seat)
+pub named_gives : {A : Type 0} {most : ℕ} → (name : List ℕ) (move : Seat → Outcome Seat)
     (old new : LinksState) (members : List MemberState) (at : ℕ) (m m' : MemberState)
     (lines : List Line) (r : Result A WorldFault) (lines' : List Line)
     → client_named name members ≡ Some at → m ≡ slice_index_or members at m
     → Gives (move (seat old m)) lines r (seat new m') lines'
-    → Gives (named_does (client_named name members) move (world old members)) lines r
-    (world new (slice_set members at m')) lines'
+    → Gives (named_does (client_named name members) move (world most old members)) lines r
+    (world most new (slice_set members at m')) lines'
 named_gives name move old new members at m m' lines r lines' found is g =
     grind (arith, slice_set, client_gives, client_there)
 
 -- of the world as its code has it
-pub named_turn : {A : Type 0} → (name : List ℕ) (move : Seat → Outcome Seat) (now : WorldState)
+pub named_turn : {A : Type 0} {most : ℕ} → (name : List ℕ) (move : Seat → Outcome Seat) (now :
+    WorldState)
     (old new : LinksState) (members : List MemberState) (at : ℕ) (m m' : MemberState)
-    (lines : List Line) (r : Result A WorldFault) (lines' : List Line) → world old members ≡ now
+    (lines : List Line) (r : Result A WorldFault) (lines' : List Line) → world most old members ≡
+    now
     → client_named name now.members ≡ Some at → m ≡ slice_index_or members at m
     → Gives (move (seat old m)) lines r (seat new m') lines'
     → Gives (named_does (client_named name now.members) move now) lines r
-    (world new (slice_set members at m')) lines'
-named_turn name move now old new members at m m' lines r lines' view found is g =
+    (world most new (slice_set members at m')) lines'
+named_turn {A} {most} name move now old new members at m m' lines r lines' view found is g =
     subst (λ (v : WorldState). client_named name v.members ≡ Some at
     → Gives (named_does (client_named name v.members) move v) lines r
-    (world new (slice_set members at m')) lines') view
+    (world most new (slice_set members at m')) lines') view
     (λ there. named_gives name move old new members at m m' lines r lines' there is g) found
 
 -- a client that stays as it is
-pub named_shows : {A : Type 0} → (name : List ℕ) (move : Seat → Outcome Seat)
+pub named_shows : {A : Type 0} {most : ℕ} → (name : List ℕ) (move : Seat → Outcome Seat)
     (links : LinksState) (members : List MemberState) (at : ℕ) (m : MemberState)
     (lines : List Line) (r : Result A WorldFault) (lines' : List Line)
     → client_named name members ≡ Some at → m ≡ slice_index_or members at m
     → Gives (move (seat links m)) lines r (seat links m) lines'
-    → Gives (named_does (client_named name members) move (world links members)) lines r
-    (world links members) lines'
-named_shows name move links members at m lines r lines' found is g =
+    → Gives (named_does (client_named name members) move (world most links members)) lines r
+    (world most links members) lines'
+named_shows {A} {most} name move links members at m lines r lines' found is g =
     let none = fresh_member [] 0 no_setup in
     let there : m ≡ member_at members at =
     get_or_read members at m (client_there name members at found).0 is none in
     let same : slice_set members at m ≡ members =
     ap (slice_set members at) there ∙ set-get_or members at none in
-    subst (λ ms. Gives (named_does (client_named name members) move (world links members)) lines r
-    (world links ms) lines') same
+    subst (λ ms. Gives (named_does (client_named name members) move (world most links members))
+    lines r
+    (world most links ms) lines') same
     (named_gives name move links links members at m m lines r lines' found is g)
 
 -- ---- a link is named
 
-pub owned : {A : Type 0} → (f : Option ℕ → Stepped) (link : List ℕ) (move : Seat → Outcome Seat)
+pub owned : {A : Type 0} {most : ℕ} → (f : Option ℕ → Stepped) (link : List ℕ) (move : Seat →
+    Outcome Seat)
     (now : WorldState) (old new : LinksState) (members : List MemberState) (at : ℕ)
     (m m' : MemberState) (lines : List Line) (r : Result A WorldFault) (lines' : List Line)
-    → world old members ≡ now → client_of_link link now.members ≡ Some at
+    → world most old members ≡ now → client_of_link link now.members ≡ Some at
     → f (Some at) ≡ client_does at move now → m ≡ slice_index_or members at m
     → Gives (move (seat old m)) lines r (seat new m') lines'
-    → Gives (f (client_of_link link now.members)) lines r (world new (slice_set members at m'))
+    → Gives (f (client_of_link link now.members)) lines r (world most new (slice_set members at m'))
     lines'
 owned f link move now old new members at m m' lines r lines' view found what is g =
     grind (arith, slice_set, client_gives, link_there)
 
-pub unowned : {A : Type 0} → (f : Option ℕ → Stepped) (link : List ℕ) (e : LinkEvent)
+pub unowned : {A : Type 0} {most : ℕ} → (f : Option ℕ → Stepped) (link : List ℕ) (e : LinkEvent)
     (now : WorldState) (old new : LinksState) (members : List MemberState)
     (lines : List Line) (r : Result A WorldFault) (lines' : List Line)
-    → world old members ≡ now → client_of_link link now.members ≡ None
+    → world most old members ≡ now → client_of_link link now.members ≡ None
     → f None ≡ links_step e now → Gives (links.step old e) lines r new lines'
-    → Gives (f (client_of_link link now.members)) lines r (world new members) lines'
+    → Gives (f (client_of_link link now.members)) lines r (world most new members) lines'
 unowned f link e now old new members lines r lines' view none what g = grind (arith, links_give)
 
 -- ---- a raw link is told what to say
@@ -234,13 +241,17 @@ module _ (name : List ℕ) (mode : ClientMode) (capacity : ℕ) (w : WorldState)
       -- of the world as its code has it
       module _ (old : WorldState) (view : old ≡ w) (lines : List Line)
           (members : List MemberState) where
+        limit_is : old.log_max ≡ w.log_max
+        limit_is = ap (λ (v : WorldState). v.log_max) view
+
         -- memory runs out before its link is made
         pub client_before : members ≡ old.members
-            → Stops (client_step name mode capacity w) lines NoMemory (world old.links members)
+            → Stops (client_step name mode capacity w) lines NoMemory (world old.log_max old.links
+            members)
             lines
         client_before same =
             subst (λ v. Stops (client_step name mode capacity w) lines NoMemory v lines)
-            (sym (ap (world old.links) same ∙ view))
+            (sym (ap (world old.log_max old.links) same ∙ view))
             (subst (λ (x : Stepped). Stops x lines NoMemory w lines) (sym client_making)
             (stops_first (does w w []) _ lines NoMemory w lines
             (stops_here (does w w []) w lines refl)))
@@ -250,39 +261,46 @@ module _ (name : List ℕ) (mode : ClientMode) (capacity : ℕ) (w : WorldState)
           made : {A : Type 0} → (r : Result A WorldFault)
               → Gives (links.step old.links (link_event.Raw m.link)) lines r new lines'
               → Gives (links_step (link_event.Raw (data_link name)) w) lines r
-              (world new w.members) lines'
+              (world w.log_max new w.members) lines'
           made r g =
               links_give (link_event.Raw (data_link name)) w.links new w.members lines r lines'
               (grind arith)
 
           pub client_stops : (fault : WorldFault) → members ≡ old.members
               → Stops (links.step old.links (link_event.Raw m.link)) lines fault new lines'
-              → Stops (client_step name mode capacity w) lines fault (world new members) lines'
+              → Stops (client_step name mode capacity w) lines fault (world old.log_max new members)
+              lines'
           client_stops fault same g =
               let r : Result (Unit {0}) WorldFault = Err fault in
               let raw = link_event.Raw (data_link name) in
-              let t = world new w.members in
-              subst (λ ms. Stops (client_step name mode capacity w) lines fault (world new ms)
-              lines') (sym (same ∙ ap (λ (v : WorldState). v.members) view))
+              let t = world w.log_max new w.members in
+              subst (λ k. Stops (client_step name mode capacity w) lines fault (world k new members)
+              lines') (sym limit_is)
+              (subst (λ ms. Stops (client_step name mode capacity w) lines fault
+              (world w.log_max new ms) lines')
+              (sym (same ∙ ap (λ (v : WorldState). v.members) view))
               (subst (λ (x : Stepped). Stops x lines fault t lines') (sym client_making)
               (after_stops (does w w []) _ lines w lines fault t lines'
               (refl, refl, sym (append-nil lines))
-              (stops_first (links_step raw w) _ lines fault t lines' (made r g))))
+              (stops_first (links_step raw w) _ lines fault t lines' (made r g)))))
 
           pub client_ends : members ≡ old.members ++ m ∷ []
               → Ends (links.step old.links (link_event.Raw m.link)) lines new lines'
-              → Ends (client_step name mode capacity w) lines (world new members) lines'
+              → Ends (client_step name mode capacity w) lines (world old.log_max new members)
+              lines'
           client_ends more g =
               let r : Result (Unit {0}) WorldFault = Ok (tt {0}) in
               let raw = link_event.Raw (data_link name) in
-              let t = world new members in
+              let t = world w.log_max new members in
               let all = more ∙ ap (λ (v : WorldState). v.members ++ m ∷ []) view
               ∙ ap (λ x. w.members ++ x ∷ []) is in
-              subst (λ (x : Stepped). Ends x lines t lines') (sym client_making)
+              subst (λ k. Ends (client_step name mode capacity w) lines (world k new members)
+              lines') (sym limit_is)
+              (subst (λ (x : Stepped). Ends x lines t lines') (sym client_making)
               (after_ends (does w w []) _ lines w lines t lines'
               (refl, refl, sym (append-nil lines))
-              (after_ends (links_step raw w) _ lines (world new w.members) lines' t lines'
-              (made r g) (refl, ap (world new) all, sym (append-nil lines'))))
+              (after_ends (links_step raw w) _ lines (world w.log_max new w.members) lines' t lines'
+              (made r g) (refl, ap (world w.log_max new) all, sym (append-nil lines')))))
 
 -- ---- all links flow
 

@@ -187,7 +187,7 @@ raw_grows name w =
 
 -- a client is made, at the link of that name
 joined : (w u : WorldState) (m : MemberState) → Grows w u → place_of m.link w.links ≡ None
-    → Grows w (record { links = u.links; members = u.members ++ m ∷ [] })
+    → Grows w (record u { members = u.members ++ m ∷ [] })
 joined w u m g free = grind (arith, client_more, unplaced, over_below)
 
 raw_alone : (name : List ℕ) (w : WorldState) → Growing w (links_step (link_event.Raw name) w)

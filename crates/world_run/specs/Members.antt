@@ -48,10 +48,12 @@ abbrev pub seat_at : ℕ → WorldState → Seat
 seat_at at w = record { links = w.links; member = member_at w.members at }
 
 abbrev pub with_seat : ℕ → WorldState → Seat → WorldState
-with_seat at w s = record { links = s.links; members = slice_set w.members at s.member }
+with_seat at w s =
+    record w { links = s.links; members = slice_set w.members at s.member }
 
-abbrev pub world : LinksState → List MemberState → WorldState
-world links members = record { links = links; members = members }
+abbrev pub world : ℕ → LinksState → List MemberState → WorldState
+world log_max links members =
+    record { links = links; members = members; log_max = log_max }
 
 -- something happens to the links
 unfoldable pub links_do : LinkEvent → Seat → Outcome Seat

@@ -38,7 +38,7 @@ abbrev pub Stepped : Type 0
 Stepped = Outcome WorldState
 
 abbrev pub on_links : WorldState → LinksState → WorldState
-on_links w ls = record { links = ls; members = w.members }
+on_links w ls = record w { links = ls }
 
 -- something happens to the links
 unfoldable pub links_step : LinkEvent → WorldState → Stepped
@@ -64,15 +64,15 @@ abbrev pub raw_step : List ℕ → WorldState → Stepped
 raw_step name w =
     if is_taken name w then refuses w NameTaken else links_step (link_event.Raw name) w
 
--- what a client is set up with: its log may have as many entries as the history
+-- what a client is set up with
 abbrev pub setup_by : WorldState → ClientMode → ℕ → Setup
 setup_by w mode capacity =
-    record { mode = mode; capacity = capacity; log_max = w.links.limits.history_max }
+    record { mode = mode; capacity = capacity; log_max = w.log_max }
 
 -- the client at the link of this place
 abbrev pub join : List ℕ → ℕ → Setup → WorldState → Stepped
 join name place setup w =
-    stays (record { links = w.links; members = w.members ++ fresh_member name place setup ∷ [] })
+    stays (record w { members = w.members ++ fresh_member name place setup ∷ [] })
 
 abbrev pub is_single : Shape → Bool
 is_single Single = true

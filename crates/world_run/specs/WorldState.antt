@@ -24,13 +24,20 @@ pub record MemberState : Type 0 where
   pub state : Client
   pub reader : Stream
 
--- the server with its links, and the clients in the order in which they were made
+-- the server with its links, the clients in the order in which they were made, and how many entries
+-- the log of each may have
 pub record WorldState : Type 0 where
   pub links : LinksState
   pub members : List MemberState
+  pub log_max : ℕ
 
+abbrev pub start_with : Limits → ℕ → WorldState
+start_with limits log_max =
+    record { links = links.start limits; members = []; log_max = log_max }
+
+-- a client's log may have as many entries as the server keeps
 abbrev pub start : Limits → WorldState
-start limits = record { links = links.start limits; members = [] }
+start limits = start_with limits limits.history_max
 
 -- the name of the link of a client
 abbrev pub data_link : List ℕ → List ℕ

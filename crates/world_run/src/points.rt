@@ -76,7 +76,7 @@ impl Member {
             if entry <= least {
                 return Ok(least);
             }
-            let Some(words) = links.words_at(entry) else {
+            let Some(words) = links.run_words(self.place, left)? else {
                 continue;
             };
             if names_key(self.alloc, words, key)? {

@@ -10,7 +10,7 @@ ghost use Rattle.world_run.specs.World.{StepGives, flow_at, is_served, is_taken}
 ghost use Rattle.world_run.specs.World.{links_step, setup_by};
 ghost use Rattle.world_run.specs.WorldHistory.{StaysInHistory};
 ghost use Rattle.world_run.specs.WorldState.{IsOver, client_named, client_of_link, data_link};
-ghost use Rattle.world_run.specs.WorldState.{fresh_member, start};
+ghost use Rattle.world_run.specs.WorldState.{fresh_member, start, start_with};
 
 use super::laws::law_one_history;
 use super::living::Living;
@@ -31,9 +31,12 @@ pub struct World {
     links: ServerLinks,
     members: Vec<Member>,
     living: Living,
+    /// How many entries the log of each client may have.
+    log_max: u64,
 }
 
 impl Model for World {
+    ghost use Rattle.std.specs.Prelude.{◌<◌};
     ghost use Rattle.std.specs.Coded.{codes};
     ghost use Rattle.resp_value.specs.TreeCoding.{tree_code};
     ghost use Rattle.world_run.specs.Members.{world};
@@ -43,9 +46,14 @@ impl Model for World {
 
     ghost coded = { Prim.hlevel (codes, tree_code) };
 
-    ghost view = { λ w. record { links = w.links; members = w.members.items } };
+    ghost view = { λ w. record {
+      links = w.links;
+      members = w.members.items;
+      log_max = w.log_max;
+    } };
 
-    ghost invariant = { λ w. AreOver w.living (world w.links w.members.items) };
+    ghost invariant = { λ w. AreOver w.living (world w.log_max w.links w.members.items)
+        × (0 < w.log_max) };
 }
 
 impl World {
@@ -54,11 +62,21 @@ impl World {
         requires { AreValid limits }
         ensures { IfOk result (λ w. w ≡ start limits) }
     {
+        World::with_log_limit(alloc, limits, limits.history_max)
+    }
+
+    /// The same, where the log of each client may have this many entries.
+    pub fn with_log_limit(alloc: Global, limits: Limits, log_max: u64) -> Result<World, NoMemory>
+        requires limits { AreValid limits }
+        requires log { 0 < log_max }
+        ensures { IfOk result (λ w. w ≡ start_with limits log_max) }
+    {
         Ok(World {
             alloc,
             links: ServerLinks::new(alloc, limits)?,
             members: Vec::new(alloc),
             living: Living::new(alloc),
+            log_max,
         })
     }
 
@@ -198,7 +216,9 @@ impl World {
         // the client comes last: each way out lets go of all that is there
         let member = self.fresh_member(name, mode, capacity)?;
         self.members.reserve(1)?;
+        let at = self.links.count();
         self.links.raw(member.link(), lines)?;
+        self.links.keep_words(at);
         self.members.push_reserved(member);
         Ok(())
     }
@@ -223,7 +243,7 @@ impl World {
             caching: Caching::Default,
             noloop: false,
         };
-        let state = ClientState::new(self.alloc, mode, capacity, self.links.limits().history_max)?;
+        let state = ClientState::new(self.alloc, mode, capacity, self.log_max)?;
         let place = self.links.count();
         let member = Member::new(self.alloc, called, link, place, state);
         Ok(member)

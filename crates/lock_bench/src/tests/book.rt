@@ -61,7 +61,6 @@ fn parts_of(reply: &BookReply) -> (u64, &[u8]) {
         BookReply::Closed { entry } => (*entry, b""),
         BookReply::Quiet => (0, b"quiet"),
         BookReply::Refused(BookRefusal::Gone { .. }) => (0, b"gone"),
-        BookReply::Refused(BookRefusal::HistoryFull { entries }) => (*entries, b"full"),
         BookReply::Refused(BookRefusal::NoMemory) => (0, b"no memory"),
     }
 }
@@ -179,34 +178,40 @@ fn moments(alloc: Global, book: &Book) -> Result<Vec<u64>, AllocError> {
 #[test]
 fn a_book_answers_its_turns_and_keeps_their_entries(rt: HostRuntime) -> Result<(), Fail> {
     let alloc = rt.alloc();
-    let mut book = Book::new(alloc, limits_of(10))?;
+    let mut book = Book::new(alloc, limits_of(11))?;
     assert_eq!(rt; wrong_row(alloc, &mut book, TURNS)?, None);
     assert_eq!(rt; book.entries(), 10);
     assert_eq!(rt; moments(alloc, &book)?.as_slice(), [7, 7, 7, 8].as_slice());
     Ok(())
 }
 
-const FULL: &str = "\
+const FOLDED: &str = "\
 0 9 admit: 1 \\e -
 0 9 admit: 2 \\e -
 1 9 GET foo: 3 \\e 1:5
-0 9 admit: 3 full -
-1 9 GET foo: 3 full -
+1 9 SET foo bar: 4 \\e 1:5
 3 9 GET foo: 0 gone -
 2 9 take: 0 quiet -
-1 9 take: 3 full -
-1 9 close: 4 \\e 1:end
+1 9 take: 5 $-1\\r\\n+OK\\r -
+1 9 close: 6 \\e 1:end
 1 9 take: 0 gone -
-1 9 close: 0 gone -
-2 9 close: 5 \\e 2:end";
+2 9 GET foo: 7 \\e 2:9";
 
+// The turns are answered as over a history that is kept whole.
 #[test]
-fn a_full_history_refuses_all_but_what_adds_no_entry_and_a_close(
-    rt: HostRuntime,
-) -> Result<(), Fail> {
+fn a_book_lets_its_entries_go_at_the_limit(rt: HostRuntime) -> Result<(), Fail> {
     let alloc = rt.alloc();
-    let mut book = Book::new(alloc, limits_of(3))?;
-    assert_eq!(rt; wrong_row(alloc, &mut book, FULL)?, None);
+    for (history_max, base, left) in [(1, 7, 0), (2, 6, 1), (3, 6, 1), (4, 4, 3), (8, 0, 7)] {
+        let mut book = Book::new(alloc, limits_of(history_max))?;
+        assert_eq!(rt; wrong_row(alloc, &mut book, FOLDED)?, None);
+        assert_eq!(rt; book.entries(), 7);
+        assert_eq!(rt; book.base(), base);
+        assert_eq!(rt; book.history().len(), left);
+        assert_eq!(rt;
+            [book.runs(1), book.runs(2), book.runs(3)],
+            [Some(2), Some(1), None]
+        );
+    }
     Ok(())
 }
 

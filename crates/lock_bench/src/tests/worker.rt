@@ -99,9 +99,8 @@ GET_a;GET_a;GE,T_a;GET_a; = 100 = 100 = PeerEnd 4 in 2 = $-1;$-1;$-1;$-1;
 GET_a;*1;$007 = 100 = 100 = BadRequest(BadByte { offset: 13 }) 1 in 1 = $-1;
 SET_a_v;GET_a;*1;$007 = 100 = 100 = BadRequest(BadByte { offset: 22 }) 2 in 1 = +OK;$1;v;
 GET_a;GET_a; = 100 = 3 = LinkFault 2 in 2 = $-1
-GET_a; = 1 = 100 = HistoryFull 0 in 0 = 
-GET_a; = 2 = 100 = HistoryFull 1 in 0 = 
-GET_a;GET_a;GET_a;GET_a; = 3 = 100 = HistoryFull 2 in 0 = ";
+GET_a; = 1 = 100 = PeerEnd 1 in 1 = $-1;
+SET_a_v;GET_a;,GET_a; = 2 = 100 = PeerEnd 3 in 2 = +OK;$1;v;$1;v;";
 
 fn link_of(alloc: Global, steps: &str, room: usize) -> Result<CountedLink, AllocError> {
     let Ok(link) = MemoryLink::new(alloc, room, steps_of(alloc, steps)?) else {
@@ -157,8 +156,8 @@ HELLO_3;CLIENT_TRACKING_ON;SET_a_v_PX_4;GET_a;,idle,idle = 100 = PeerEnd 4 in 2 
     $1;v;>2;$10;invalidate;*1;$1;a;
 HELLO_3;CLIENT_TRACKING_ON;SET_a_v_PX_4;GET_a;,idle,idle,idle,EXISTS_a; = 100 = PeerEnd 5 in 3 = \
     $1;v;>2;$10;invalidate;*1;$1;a;:0;
-HELLO_3;CLIENT_TRACKING_ON;SET_a_v_PX_4;GET_a;,idle,idle = 6 = PeerEnd 4 in 1 = $1;v;
-HELLO_3;CLIENT_TRACKING_ON;SET_a_v_PX_4;GET_a;,idle,idle = 7 = HistoryFull 4 in 1 = $1;v;";
+HELLO_3;CLIENT_TRACKING_ON;SET_a_v_PX_4;GET_a;,idle,idle = 1 = PeerEnd 4 in 2 = \
+    $1;v;>2;$10;invalidate;*1;$1;a;";
 
 fn ticks_so<R: Wait>(rt: &R, alloc: Global, row: &str) -> Result<bool, Fail> {
     let mut parts = row.split(" = ");
@@ -219,10 +218,14 @@ fn counting_gate() -> CountingGate {
 #[test]
 fn a_gate_is_told_of_each_end(rt: HostRuntime) -> Result<(), Fail> {
     let clock = FixedClock { ms: 7 };
-    for (most, told) in [(100, 101), (1, 106)] {
+    for (steps, room, told) in [
+        ("GET_a;", 100, 101),
+        ("*1;$007", 100, 104),
+        ("GET_a;", 3, 105),
+    ] {
         let gate = counting_gate();
-        let mut link = link_of(rt.alloc(), "GET_a;", 100)?;
-        said(&rt, rt.alloc(), most, &mut link, &clock, &gate)?;
+        let mut link = link_of(rt.alloc(), steps, room)?;
+        said(&rt, rt.alloc(), 100, &mut link, &clock, &gate)?;
         assert_eq!(rt; gate.ended.load(Ordering::SeqCst), told);
     }
     Ok(())

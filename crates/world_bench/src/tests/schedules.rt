@@ -67,11 +67,15 @@ fn play_line(
 }
 
 // Puts what a world prints for a schedule, and answers the number of the fault that it ends by, 0
-// for none.
+// for none. Its server keeps no more than two entries, which no line shows.
 fn play(alloc: Global, limits: Limits, schedule: &str, text: &mut Vec<u8>) -> Result<u64, NoMemory>
     requires { AreValid limits }
 {
-    let mut world = World::new(alloc, limits)?;
+    let folding = Limits {
+        history_max: limits.history_max.min(3),
+        ..limits
+    };
+    let mut world = World::with_log_limit(alloc, folding, limits.history_max)?;
     play_lines(alloc, &mut world, schedule, text)
 }
 
@@ -592,20 +596,19 @@ fn a_request_cut_anywhere_runs_once(rt: HostRuntime) -> Result<(), Fail> {
     Ok(())
 }
 
-// Blocks behind the number of entries that the history may have. The log of a client may have as
-// many.
-const FULL: &str = "\
-2 6 raw r;raw s;raw t
+// Blocks behind the number of entries that are kept. The log of a client may have as many.
+const FOLDED: &str = "\
+2 0 raw r;raw s;raw t
 #1 admit r 1
 #2 admit s 2
+#3 admit t 3
 
-2 6 raw r;say r GET a;say r GET b;flow r
+1 0 raw r;say r GET a;say r GET b;flow r
 #1 admit r 1
 #2 run r GET a
-
-2 6 raw r;say r GET a;flow r
-#1 admit r 1
-#2 run r GET a
+#3 run r GET b
+#4 take r 10
+r < $-1\\r\\n$-1\\r\\n
 
 2 0 raw r;say r GET a;serve r;cut r;serve r
 #1 admit r 1
@@ -615,21 +618,23 @@ const FULL: &str = "\
 1 0 raw r;flow r
 #1 admit r 1
 
-2 6 raw r;say r SET a 1 PX 5;serve r;now 6;tick
+1 0 raw r;say r SET a 1 PX 5;serve r;now 6;tick
 #1 admit r 1
 #2 run r SET a 1 PX 5
+#3 tick 6
 
-2 0 raw r;say r SET a 1 PX 5;serve r;now 5;tick
-#1 admit r 1
-#2 run r SET a 1 PX 5
-
-3 6 client x single 3 default 1;flow x.data
+2 6 client x single 3 default 10;flow x.data
 #1 admit x.data 1
 #2 run x.data HELLO 3
-#3 run x.data CLIENT TRACKING ON";
+#3 run x.data CLIENT TRACKING ON
+#4 take x.data 149
+x.data < %7\\r\\n$6\\r\\nserver\\r\\n$5\\r\\nredis\\r\\n$7\\r\\nversion\\r\\n\
+    $5\\r\\n7.0.0\\r\\n$5\\r\\nproto\\r\\n:3\\r\\n$2\\r\\nid\\r\\n:1\\r\\n$4\\r\\nmode\\r\\n\
+    $10\\r\\nstandalone\\r\\n$4\\r\\nrole\\r\\n$6\\r\\nmaster\\r\\n\
+    $7\\r\\nmodules\\r\\n*0\\r\\n+OK\\r\\n";
 
-/// Whether a schedule prints what its block says where the history has room for so many entries.
-fn is_printed_within(alloc: Global, block: &str) -> Result<bool, NoMemory> {
+/// Whether a schedule prints what its block says where so many entries are kept.
+fn is_printed_folded(alloc: Global, block: &str) -> Result<bool, NoMemory> {
     let Some((entries, block)) = block.split_once(' ') else {
         return Ok(false);
     };
@@ -641,9 +646,9 @@ fn is_printed_within(alloc: Global, block: &str) -> Result<bool, NoMemory> {
 }
 
 #[test]
-fn a_full_history_ends_a_schedule_and_what_was_played_stands(rt: HostRuntime) -> Result<(), Fail> {
-    for block in FULL.split("\n\n") {
-        assert!(rt; is_printed_within(rt.alloc(), block)?, "{block}");
+fn a_history_goes_on_and_a_full_log_ends_a_schedule(rt: HostRuntime) -> Result<(), Fail> {
+    for block in FOLDED.split("\n\n") {
+        assert!(rt; is_printed_folded(rt.alloc(), block)?, "{block}");
     }
     Ok(())
 }

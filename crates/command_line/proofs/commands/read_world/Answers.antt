@@ -7,7 +7,8 @@ use Rattle.command_line.proofs.commands.read_world.Goals as goal
 pub returns-in-Some : goal.returns-in-Some
 unfolding world_of
 returns-in-Some c =
-    settles_as world_options (λ value is_set. limits_from value) (map string_bytes c.args.words.now)
+    settles_as world_options (λ value is_set. limits_from 4000000 value) (map string_bytes
+    c.args.words.now)
     c.in-Some.matches c.in_ok-matches.field-0 c.limit_settings.result
     (c.in_ok-matches.ensures _ _ c.in_ok-world_command.ensures) c.in-Some.is
     c.limit_settings.ensures
@@ -15,6 +16,6 @@ returns-in-Some c =
 pub returns-in-None : goal.returns-in-None
 unfolding world_of
 returns-in-None c =
-    settles_none world_options (λ value is_set. limits_from value)
+    settles_none world_options (λ value is_set. limits_from 4000000 value)
     (map string_bytes c.args.words.now)
     c.in_ok-matches.field-0 (c.in_ok-matches.ensures _ _ c.in_ok-world_command.ensures) c.in-None.is

@@ -33,11 +33,12 @@ invariant_of-self c =
           (subst (λ (s : ConnectionsState). Agrees i.limits (entry.Close id ∷ past) i.stores.space
           (record { limit = i.limits.table_max; rows = rows }) s.items) (sym c.end.ensures)
           (agrees_close i.limits past i.stores.space keys cs k id on)));
-      room = subst (λ (s : ConnectionsState). HasRoom c.push.new.self.room s.items)
+      most_is = c.push.ensures.most ∙ c.self.invariant.most_is;
+      room = subst (λ (s : ConnectionsState). HasRoom c.push.new.self.closable s.items)
           (sym c.end.ensures)
-          (room_close i.log.room c.push.new.self.room id cs c.self.invariant.room
+          (room_close i.log.closable c.push.new.self.closable id cs c.self.invariant.room
           (is_id i.limits past i.stores.space keys cs k id on)
-          (live_at i.limits past i.stores.space keys cs k id on) c.push.ensures.room);
+          (live_at i.limits past i.stores.space keys cs k id on) c.push.ensures.closable);
     }
 
 pub returns : goal.returns

@@ -1,18 +1,18 @@
 use Rattle.std.proofs.Common.{◌≡◌, ◌+◌, ◌∷◌, [], length, sym, ap, subst, ◌∙◌, arith, max}
-use Rattle.std.proofs.Common.{false, eqb-true}
+use Rattle.std.proofs.Common.{eqb-true}
 use Rattle.std.proofs.lemmas.Bool.{eqb-false}
 use Rattle.serial_model.specs.declared.history.Entry.TheVariants as entry
 use Rattle.serial_model.specs.declared.history.BookCall.TheVariants.{Tick}
 use Rattle.serial_model.specs.Deadlines.{due_keys}
-use Rattle.serial_model.specs.History.{expired, is_full, routed}
+use Rattle.serial_model.specs.History.{expired, routed}
 use Rattle.serial_model.specs.Tracking.{group, without_keys}
 use Rattle.serial_model.proofs.DueKeys.{due_apart, none_due}
-use Rattle.server_book.specs.BookState.{Agrees, BookState}
+use Rattle.server_book.specs.BookState.{Agrees, BookState, HasRoom}
 use Rattle.server_book.specs.Connections.{ConnectionsState}
 use Rattle.server_book.specs.Sendings.{modes_of, with_sendings}
 use Rattle.server_book.proofs.Plans.{due_is}
-use Rattle.server_book.proofs.BookTurns.{is_held, is_turn, room_more}
-use Rattle.server_book.proofs.Ticks.{agrees_tick, length_told, posted_tick, tick_full, tick_quiet}
+use Rattle.server_book.proofs.BookTurns.{is_held, is_turn, room_kept}
+use Rattle.server_book.proofs.Ticks.{agrees_tick, length_told, posted_tick, tick_quiet}
 use Rattle.server_book.proofs.Ticks.{none_of, some_of, tick_turned}
 use Rattle.server_book.proofs.book.Book.tick.Goals as goal
 
@@ -21,9 +21,6 @@ invariant_of-self-then-is_empty c = grind (arith, due_is, none_of, eqb-true, non
 
 pub returns-then-is_empty-clause-ok : goal.returns-then-is_empty-clause-ok
 returns-then-is_empty-clause-ok c = grind (arith, due_is, none_of, eqb-true, tick_quiet)
-
-pub returns-then-is_full-clause-ok : goal.returns-then-is_full-clause-ok
-returns-then-is_full-clause-ok c = grind (arith, due_is, some_of, eqb-false, tick_full)
 
 pub send_tick-requires-clause-there : goal.send_tick-requires-clause-there
 send_tick-requires-clause-there c =
@@ -44,9 +41,10 @@ invariant_of-self-in-Ok c =
     let cs = i.stores.connections.items in
     let k = c.self.invariant.agrees in
     let m = c.max-moment.result in
-    let n = c.len-entries.result + 1 in
+    let n = c.next-entry.result in
     let e = entry.Tick m in
-    let number : n ≡ length past + 1 = omega (arith, c.len-entries.ensures.len) in
+    let number : n ≡ length past + 1 =
+    c.next-entry.ensures ∙ ap (λ p. length p + 1) c.reserve.ensures.past in
     let gone = c.as_slice-2.result.now in
     let due : gone ≡ expired l past m = c.as_slice-2.ensures
     ∙ due_is m space c.in_ok-keys.field-0.keys c.in_ok-keys.ensures.keys
@@ -55,33 +53,30 @@ invariant_of-self-in-Ok c =
     let some : gone ≡ [] → ⊥ = λ none. some_of first
     (eqb-false (length first) 0 (sym c.is_empty.ensures ∙ c.if-is_empty.false))
     (c.as_slice.ensures ∙ sym c.as_slice-2.ensures ∙ none) in
-    let room = subst (λ (b : BookState). is_full b.limits b.past ≡ false) (sym c.self.view_is)
-    (sym c.is_full-is_full.ensures ∙ c.if-is_full.false) in
     let nobody : i.stores.connections.posts ≡ [] =
     ap (λ (b : BookState). b.posts) c.self.view_is ∙ c.requires.none in
     let final = c.in-Ok.ensures.sent
     ∙ ap (λ ps. with_sendings n (routed (modes_of cs) (group gone keys.rows))
     (record { items = cs; posts = ps })) nobody in
     let grown = c.push.ensures.past ∙ ap (λ x. e ∷ x) c.reserve.ensures.past in
+    let agreed = subst (λ t. Agrees l (e ∷ past) c.send_tick.new.self.space t
+    c.send_tick.new.self.connections.items) (sym c.in-Ok.ensures.table)
+    (subst (λ (s : ConnectionsState). Agrees l (e ∷ past) c.send_tick.new.self.space
+    (record keys { rows = without_keys gone keys.rows }) s.items) (sym final)
+    (agrees_tick l past space keys cs k m n gone due number c.send_tick.new.self.space some
+    (omega (arith, c.max-moment.ensures, c.moment.ensures))
+    (c.in-Ok.ensures.space ∙ c.in_ok-keys.ensures.ok))) in
     record {
       agrees = subst (λ x. Agrees l x c.send_tick.new.self.space c.send_tick.new.self.table
-          c.send_tick.new.self.connections.items) (sym grown)
-          (subst (λ t. Agrees l (e ∷ past) c.send_tick.new.self.space t
-          c.send_tick.new.self.connections.items) (sym c.in-Ok.ensures.table)
-          (subst (λ (s : ConnectionsState). Agrees l (e ∷ past) c.send_tick.new.self.space
-          (record keys { rows = without_keys gone keys.rows }) s.items) (sym final)
-          (agrees_tick l past space keys cs k m n gone due number c.send_tick.new.self.space some
-          room (omega (arith, c.max-moment.ensures, c.moment.ensures))
-          (c.in-Ok.ensures.space ∙ c.in_ok-keys.ensures.ok))));
-      room = room_more c.push.new.self.room cs c.send_tick.new.self.connections.items
+          c.send_tick.new.self.connections.items) (sym grown) agreed;
+      most_is = c.push.ensures.most ∙ c.reserve.ensures.most ∙ c.self.invariant.most_is;
+      room = subst (λ n. HasRoom n c.send_tick.new.self.connections.items)
+          (sym (c.push.ensures.closable ∙ c.reserve.ensures.closable))
+          (room_kept l past e i.log.closable space keys cs k c.send_tick.new.self.space
+          c.send_tick.new.self.table c.send_tick.new.self.connections.items agreed
           (ap (λ (s : ConnectionsState). length s.items) final
-          ∙ length_told l past space keys cs k m n gone due number)
-          (omega (
-            arith,
-            c.in_ok-reserve.ensures.ok,
-            c.push.ensures.room,
-            c.count.ensures.count,
-          ));
+          ∙ length_told l past space keys cs k m n gone due number) (λ id h. h)
+          c.self.invariant.room);
     }
 
 pub returns-in-Ok-clause-ok : goal.returns-in-Ok-clause-ok
@@ -94,9 +89,10 @@ returns-in-Ok-clause-ok c =
     let cs = i.stores.connections.items in
     let k = c.self.invariant.agrees in
     let m = c.max-moment.result in
-    let n = c.len-entries.result + 1 in
+    let n = c.next-entry.result in
     let e = entry.Tick m in
-    let number : n ≡ length past + 1 = omega (arith, c.len-entries.ensures.len) in
+    let number : n ≡ length past + 1 =
+    c.next-entry.ensures ∙ ap (λ p. length p + 1) c.reserve.ensures.past in
     let gone = c.as_slice-2.result.now in
     let due : gone ≡ expired l past m = c.as_slice-2.ensures
     ∙ due_is m space c.in_ok-keys.field-0.keys c.in_ok-keys.ensures.keys
@@ -105,8 +101,6 @@ returns-in-Ok-clause-ok c =
     let some : gone ≡ [] → ⊥ = λ none. some_of first
     (eqb-false (length first) 0 (sym c.is_empty.ensures ∙ c.if-is_empty.false))
     (c.as_slice.ensures ∙ sym c.as_slice-2.ensures ∙ none) in
-    let room = subst (λ (b : BookState). is_full b.limits b.past ≡ false) (sym c.self.view_is)
-    (sym c.is_full-is_full.ensures ∙ c.if-is_full.false) in
     let nobody : i.stores.connections.posts ≡ [] =
     ap (λ (b : BookState). b.posts) c.self.view_is ∙ c.requires.none in
     let final = c.in-Ok.ensures.sent
@@ -115,7 +109,7 @@ returns-in-Ok-clause-ok c =
     let grown = c.push.ensures.past ∙ ap (λ x. e ∷ x) c.reserve.ensures.past in
     is_turn c.args.self.now l past c.push.new.self.past i.stores.connections.posts
     c.send_tick.new.self.connections.posts e (Tick c.args.now) _ c.self.view_is tt grown
-    (tick_turned l past c.args.now m c.len-entries.result gone due some room
-    c.len-entries.ensures.len (c.max-moment.ensures ∙ ap (max c.args.now) c.moment.ensures))
+    (tick_turned l past c.args.now m n gone due some number
+    (c.max-moment.ensures ∙ ap (max c.args.now) c.moment.ensures))
     (ap (λ (s : ConnectionsState). s.posts) final
     ∙ posted_tick l past space keys cs k m n gone due number)

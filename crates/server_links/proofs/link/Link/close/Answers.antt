@@ -34,7 +34,7 @@ unfolding close
 returns c =
     let s = session c.args.server.now c.args.self.now in
     let g = c.in_ok-turn.ensures.gives in
-    let is = close_line s.limits s.past c.turn.new.self.book.past s.link.id c.in_ok-turn.field-0 g.1
+    let is = close_line s.limits s.past c.turn.new.self.book.past s.link.id c.in_ok-turn.field-0
     s.link.name c.requires g.0 in
     rw (server_turned c.args.server.now c.turn.new.self c.args.self.now c.turn.ensures.limits
     c.turn.ensures.clock)

@@ -42,7 +42,7 @@ returns c =
     let g = c.in_ok-turn.ensures.gives in
     let words = c.args.words in
     let id = c.args.self.now.id in
-    let is = run_line s.limits s.past c.turn.new.self.book.past s.link.id c.in_ok-turn.field-0 g.1
+    let is = run_line s.limits s.past c.turn.new.self.book.past s.link.id c.in_ok-turn.field-0
     c.clock-now.result words s.link.name c.requires g.0 in
     rw (server_turned c.args.server.now c.turn.new.self c.args.self.now c.turn.ensures.limits
     c.turn.ensures.clock)

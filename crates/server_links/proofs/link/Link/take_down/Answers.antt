@@ -46,7 +46,7 @@ unreachable-requires c =
     let size = take_size (unsent s.limits s.link.id s.past) c.args.most c.waiting.result
     c.min-count.result c.waiting.ensures c.min-count.ensures in
     only_given _ _ _ (take_given s c.args.most _ _ c.requires
-    (omega (arith, size, c.if-count-eq0.false)) g.0 g.1) c.in_default.not-Bytes
+    (omega (arith, size, c.if-count-eq0.false)) g.0) c.in_default.not-Bytes
 
 pub returns-in_err-put-in-Bytes : goal.returns-in_err-put-in-Bytes
 returns-in_err-put-in-Bytes c =
@@ -54,8 +54,8 @@ returns-in_err-put-in-Bytes c =
     let g = c.in_ok-bytes.ensures.gives in
     let size = take_size (unsent s.limits s.link.id s.past) c.args.most c.waiting.result
     c.min-count.result c.waiting.ensures c.min-count.ensures in
-    let is = take_given s c.args.most _ _ c.requires (omega (arith, size, c.if-count-eq0.false)) g.0
-    g.1 in
+    let is = take_given s c.args.most _ _ c.requires (omega (arith, size, c.if-count-eq0.false))
+    g.0 in
     let p = err_from_is_err_and c.from_residual-in_err-put-in-Bytes.result
     c.from_residual-in_err-put-in-Bytes.ensures.1 in
     rw p.1 (rw p.2 (rw c.in_err-put-in-Bytes.ensures.err
@@ -71,8 +71,8 @@ returns c =
     let g = c.in_ok-bytes.ensures.gives in
     let size = take_size (unsent s.limits s.link.id s.past) c.args.most c.waiting.result
     c.min-count.result c.waiting.ensures c.min-count.ensures in
-    let is = take_given s c.args.most _ _ c.requires (omega (arith, size, c.if-count-eq0.false)) g.0
-    g.1 in
+    let is = take_given s c.args.most _ _ c.requires (omega (arith, size, c.if-count-eq0.false))
+    g.0 in
     let put_is : c.put.new.self ≡ put (bytes_of c.in_ok-bytes.field-0) c.args.self.now.down =
     grind arith in
     rw (ap (λ x. with_link x (with_down c.args.self.now c.put.new.self))

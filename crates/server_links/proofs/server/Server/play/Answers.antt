@@ -1,7 +1,7 @@
 use Rattle.std.proofs.Common.{◌≡◌, ap, sym, subst, ◌∙◌}
 use Rattle.serial_model.specs.declared.history.Limits.{Limits}
 use Rattle.server_book.specs.BookState.{posts_after}
-use Rattle.server_links.specs.Notes.{IsNoted, noted_turn, runner_of}
+use Rattle.server_links.specs.Notes.{IsNoted, noted_turn, runner_of, words_of}
 use Rattle.server_links.proofs.Noting.{turn_noted}
 use Rattle.server_links.proofs.server.Server.play.Goals as goal
 
@@ -19,10 +19,11 @@ invariant_of-self c = (
       subst (λ (l : Limits). IsNoted l new.past c.note.new.notes.trails)
       (sym c.turn-reply.ensures.limits)
       (subst (IsNoted i.book.limits new.past)
-      (sym (n.1
-      ∙ ap (λ r. noted_turn r reply c.last_posts.result.now i.notes.trails)
+      (sym (n.1 (words_of c.args.call) c.copy_words-words.ensures
+      ∙ ap (λ r. noted_turn r (words_of c.args.call) reply c.last_posts.result.now i.notes.trails)
       c.runner_of-runner.ensures
-      ∙ ap (λ ps. noted_turn (runner_of c.args.call) reply ps i.notes.trails) posts)) noted),
+      ∙ ap (λ ps. noted_turn (runner_of c.args.call) (words_of c.args.call) reply ps
+      i.notes.trails) posts)) noted),
   c.self.invariant.1 ∙ sym c.turn-reply.ensures.limits,
   c.self.invariant.2,
 )

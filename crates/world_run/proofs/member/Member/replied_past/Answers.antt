@@ -9,8 +9,8 @@ replies-preserved-in_default c = grind (arith, without)
 pub returns-then-entry-least : goal.returns-then-entry-least
 returns-then-entry-least c = grind (arith, named_within, named_to)
 
-pub replies-preserved-in_default-words_at : goal.replies-preserved-in_default-words_at
-replies-preserved-in_default-words_at c = grind (arith, has_words)
+pub replies-preserved-in_default-words : goal.replies-preserved-in_default-words
+replies-preserved-in_default-words c = grind (arith, has_words)
 
 pub returns-then-branch : goal.returns-then-branch
 returns-then-branch c = grind (arith, named_here, named_to)

@@ -19,7 +19,7 @@ returns-then-is_some c =
 
 gave : (c : After-put) → StepGives c.args.self.now
     (event.Bytes c.args.name.now c.args.bytes.now) c.args.lines.now c.put.result
-    (world c.put.new.self c.self.inside.members.items) c.put.new.lines
+    (world c.self.inside.log_max c.put.new.self c.self.inside.members.items) c.put.new.lines
 unfolding step
 gave c =
     let i = c.self.inside in
@@ -36,5 +36,5 @@ returns c = gave (goal.at.returns c).After-put
 
 pub invariant_of-self : goal.invariant_of-self
 invariant_of-self c =
-    code.still_over _ _ _ _ _ _ _ _ c.self.view_is
-    (gave (goal.at.invariant_of-self c).After-put) c.self.invariant
+    ((code.still_over _ _ _ _ _ _ _ _ c.self.view_is
+    (gave (goal.at.invariant_of-self c).After-put) c.self.invariant.0), c.self.invariant.1)

@@ -1,6 +1,7 @@
 use Rattle.std.proofs.Common.{Ok, Err, refl, sym, subst, ◌∙◌, arith}
 use Rattle.std.proofs.lemmas.Result.{err_from_is_err_and}
 use Rattle.script_text.specs.declared.event.Event.TheVariants as event
+use Rattle.server_links.specs.LinksState.{LinksState}
 use Rattle.world_run.specs.Members.{world}
 use Rattle.world_run.specs.World.{StepGives, client_step, step}
 use Rattle.world_run.specs.WorldState.{AreOver}
@@ -45,35 +46,44 @@ returns-in_err-reserve c =
     rw p.1 (rw p.2
     (code.client_before c.args.name.now c.args.mode.now c.args.capacity c.args.self.now
     (sym c.is_served.ensures ∙ c.if-not-is_served.false)
-    (sym c.is_taken.ensures ∙ c.if-is_taken.false) (world i.links i.members.items) c.self.view_is
+    (sym c.is_taken.ensures ∙ c.if-is_taken.false) (world i.log_max i.links i.members.items)
+    c.self.view_is
     c.args.lines.now c.reserve.new.self.items c.reserve.ensures.items))
 
 -- its link was not made, or made
 stopped : (c : In_err-raw) → StepGives c.args.self.now
     (event.Client c.args.name.now c.args.mode.now c.args.capacity) c.args.lines.now
-    (Err c.in_err-raw.field-0.0) (world c.raw.new.self c.reserve.new.self.items) c.raw.new.lines
+    (Err c.in_err-raw.field-0.0) (world c.self.inside.log_max c.raw.new.self
+    c.reserve.new.self.items) c.raw.new.lines
 unfolding step
 stopped c =
     let i = c.self.inside in
     code.client_stops c.args.name.now c.args.mode.now c.args.capacity c.args.self.now
     (sym c.is_served.ensures ∙ c.if-not-is_served.false)
-    (sym c.is_taken.ensures ∙ c.if-is_taken.false) (world i.links i.members.items) c.self.view_is
+    (sym c.is_taken.ensures ∙ c.if-is_taken.false) (world i.log_max i.links i.members.items)
+    c.self.view_is
     c.args.lines.now c.reserve.new.self.items c.raw.new.self c.raw.new.lines c.in_ok-member.member
     c.in_ok-member.ensures c.in_err-raw.field-0.0 c.reserve.ensures.items
     (rw (← c.link.ensures) c.in_err-raw.ensures)
 
 made : (c : After-push_reserved) → StepGives c.args.self.now
     (event.Client c.args.name.now c.args.mode.now c.args.capacity) c.args.lines.now
-    (Ok (tt {0})) (world c.raw.new.self c.push_reserved.new.self.items) c.raw.new.lines
+    (Ok (tt {0})) (world c.self.inside.log_max c.keep_words.new.self
+    c.push_reserved.new.self.items) c.raw.new.lines
 unfolding step
 made c =
     let i = c.self.inside in
-    code.client_ends c.args.name.now c.args.mode.now c.args.capacity c.args.self.now
+    subst (λ (ls : LinksState). StepGives c.args.self.now
+    (event.Client c.args.name.now c.args.mode.now c.args.capacity) c.args.lines.now (Ok (tt {0}))
+    (world c.self.inside.log_max ls c.push_reserved.new.self.items) c.raw.new.lines) (sym
+    c.keep_words.ensures)
+    (code.client_ends c.args.name.now c.args.mode.now c.args.capacity c.args.self.now
     (sym c.is_served.ensures ∙ c.if-not-is_served.false)
-    (sym c.is_taken.ensures ∙ c.if-is_taken.false) (world i.links i.members.items) c.self.view_is
+    (sym c.is_taken.ensures ∙ c.if-is_taken.false) (world i.log_max i.links i.members.items)
+    c.self.view_is
     c.args.lines.now c.push_reserved.new.self.items c.raw.new.self c.raw.new.lines
     c.in_ok-member.member c.in_ok-member.ensures
-    (grind arith) (rw (← c.link.ensures) c.in_ok-raw.ensures)
+    (grind arith) (rw (← c.link.ensures) c.in_ok-raw.ensures))
 
 pub returns-in_err-raw : goal.returns-in_err-raw
 returns-in_err-raw c = grind (arith, err_from_is_err_and, stopped)
@@ -83,18 +93,20 @@ returns c = made (goal.at.returns c).After-push_reserved
 
 pub invariant_of-self : goal.invariant_of-self
 invariant_of-self c =
-    let i = c.self.inside in
-    subst (λ ms. AreOver i.living (world i.links ms)) (sym c.reserve.ensures.items)
-    c.self.invariant
+    ((let i = c.self.inside in
+    subst (λ ms. AreOver i.living (world i.log_max i.links ms)) (sym c.reserve.ensures.items)
+    c.self.invariant.0), c.self.invariant.1)
 
 pub invariant_of-self-in_err-raw : goal.invariant_of-self-in_err-raw
 invariant_of-self-in_err-raw c =
-    code.still_over _ (event.Client c.args.name.now c.args.mode.now c.args.capacity) _ _ _
+    ((code.still_over _ (event.Client c.args.name.now c.args.mode.now c.args.capacity) _ _ _
     c.args.lines.now (Err c.in_err-raw.field-0.0) c.raw.new.lines c.self.view_is
-    (stopped (goal.at.invariant_of-self-in_err-raw c).In_err-raw) c.self.invariant
+    (stopped (goal.at.invariant_of-self-in_err-raw c).In_err-raw) c.self.invariant.0),
+    c.self.invariant.1)
 
 pub invariant_of-self-2 : goal.invariant_of-self-2
 invariant_of-self-2 c =
-    code.still_over _ (event.Client c.args.name.now c.args.mode.now c.args.capacity) _ _ _
+    ((code.still_over _ (event.Client c.args.name.now c.args.mode.now c.args.capacity) _ _ _
     c.args.lines.now (Ok (tt {0})) c.raw.new.lines c.self.view_is
-    (made (goal.at.invariant_of-self-2 c).After-push_reserved) c.self.invariant
+    (made (goal.at.invariant_of-self-2 c).After-push_reserved) c.self.invariant.0),
+    c.self.invariant.1)

@@ -23,17 +23,18 @@ returns-in-Cut c = grind arith
 pub invariant_of-self : goal.invariant_of-self
 unfolding step
 invariant_of-self c =
-    let i = c.self.inside in
-    over_step i.living (Now c.in-Now.moment) (world i.links i.members.items)
-    (world c.set_clock.new.self i.members.items) c.args.lines.now (Ok (tt {0})) c.args.lines.now
+    ((let i = c.self.inside in
+    over_step i.living (Now c.in-Now.moment) (world i.log_max i.links i.members.items)
+    (world i.log_max c.set_clock.new.self i.members.items) c.args.lines.now (Ok (tt {0}))
+    c.args.lines.now
     (clock_gives i.links c.set_clock.new.self i.members.items c.args.lines.now c.in-Now.moment
-    c.set_clock.ensures) c.self.invariant
+    c.set_clock.ensures) c.self.invariant.0), c.self.invariant.1)
 
 pub returns-in-Now : goal.returns-in-Now
 unfolding step
 returns-in-Now c =
     let i = c.self.inside in
-    let v = world c.set_clock.new.self i.members.items in
+    let v = world i.log_max c.set_clock.new.self i.members.items in
     subst (λ (e : Event). StepGives c.args.self.now e c.args.lines.now (Ok (tt {0})) v
     c.args.lines.now) (sym c.in-Now.is)
     (subst (λ (w : WorldState). StepGives w (Now c.in-Now.moment) c.args.lines.now (Ok (tt {0})) v
@@ -44,11 +45,13 @@ returns-in-Now c =
 pub invariant_of-self-in-Tick : goal.invariant_of-self-in-Tick
 unfolding step
 invariant_of-self-in-Tick c =
-    let i = c.self-in-Tick.inside in
-    over_step i.living Tick (world i.links i.members.items)
-    (world c.tick.new.self i.members.items) c.args.lines.now c.tick.result c.tick.new.lines
+    ((let i = c.self-in-Tick.inside in
+    over_step i.living Tick (world i.log_max i.links i.members.items)
+    (world i.log_max c.tick.new.self i.members.items) c.args.lines.now c.tick.result
+    c.tick.new.lines
     (links_give link_event.Tick i.links c.tick.new.self i.members.items c.args.lines.now
-    c.tick.result c.tick.new.lines c.tick.ensures) c.self-in-Tick.invariant
+    c.tick.result c.tick.new.lines c.tick.ensures) c.self-in-Tick.invariant.0),
+    c.self-in-Tick.invariant.1)
 
 pub returns-in-Tick : goal.returns-in-Tick
 unfolding step

@@ -10,7 +10,7 @@ use Rattle.world_run.proofs.world.World.flow.Goals as goal
 use Rattle.world_run.proofs.world.World.flow.Goals.{After-flow, After-play}
 
 gave : (c : After-flow) → StepGives c.args.self.now (event.Flow c.args.name.now)
-    c.args.lines.now c.flow.result (world c.flow.new.links
+    c.args.lines.now c.flow.result (world c.self.inside.log_max c.flow.new.links
     (slice_set c.self.inside.members.items c.in-Some.at c.flow.new.self)) c.flow.new.lines
 unfolding step
 gave c =
@@ -23,7 +23,8 @@ gave c =
     c.flow.ensures.gives
 
 played : (c : After-play) → StepGives c.args.self.now (event.Flow c.args.name.now)
-    c.args.lines.now c.play.result (world c.play.new.self c.self.inside.members.items)
+    c.args.lines.now c.play.result (world c.self.inside.log_max c.play.new.self
+    c.self.inside.members.items)
     c.play.new.lines
 unfolding step
 played c =
@@ -42,10 +43,11 @@ returns-in-None c = played (goal.at.returns-in-None c).After-play
 
 pub invariant_of-self : goal.invariant_of-self
 invariant_of-self c =
-    code.still_over _ _ _ _ _ _ _ _ c.self.view_is
-    (gave (goal.at.invariant_of-self c).After-flow) c.self.invariant
+    ((code.still_over _ _ _ _ _ _ _ _ c.self.view_is
+    (gave (goal.at.invariant_of-self c).After-flow) c.self.invariant.0), c.self.invariant.1)
 
 pub invariant_of-self-in-None : goal.invariant_of-self-in-None
 invariant_of-self-in-None c =
-    code.still_over _ _ _ _ _ _ _ _ c.self.view_is
-    (played (goal.at.invariant_of-self-in-None c).After-play) c.self.invariant
+    ((code.still_over _ _ _ _ _ _ _ _ c.self.view_is
+    (played (goal.at.invariant_of-self-in-None c).After-play) c.self.invariant.0),
+    c.self.invariant.1)

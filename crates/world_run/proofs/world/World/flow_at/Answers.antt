@@ -13,13 +13,14 @@ use Rattle.world_run.proofs.world.World.flow_at.Goals as goal
 use Rattle.world_run.proofs.world.World.flow_at.Goals.{After-flow, After-play_at}
 
 gave : (c : After-flow) → let i = c.self.inside in
-    Gives (flow_at c.args.at (world i.links i.members.items)) c.args.lines.now c.flow.result
-    (world c.flow.new.links (slice_set i.members.items c.in-Some.client c.flow.new.self))
+    Gives (flow_at c.args.at (world i.log_max i.links i.members.items)) c.args.lines.now
+    c.flow.result
+    (world i.log_max c.flow.new.links (slice_set i.members.items c.in-Some.client c.flow.new.self))
     c.flow.new.lines
 gave c =
     let i = c.self.inside in
     let ms = i.members.items in
-    let w = world i.links ms in
+    let w = world i.log_max i.links ms in
     let name = (at_place i.links.links c.args.at).name in
     let owner = ap (λ n. client_of_link n ms) (sym c.name_at.ensures)
     ∙ ap (λ (v : WorldState). client_of_link c.name_at.result.now v.members) c.self.view_is
@@ -29,12 +30,13 @@ gave c =
     c.flow.new.lines refl owner refl c.index_mut.ensures.value c.flow.ensures.gives
 
 played : (c : After-play_at) → let i = c.self.inside in
-    Gives (flow_at c.args.at (world i.links i.members.items)) c.args.lines.now c.play_at.result
-    (world c.play_at.new.self i.members.items) c.play_at.new.lines
+    Gives (flow_at c.args.at (world i.log_max i.links i.members.items)) c.args.lines.now
+    c.play_at.result
+    (world i.log_max c.play_at.new.self i.members.items) c.play_at.new.lines
 played c =
     let i = c.self.inside in
     let ms = i.members.items in
-    let w = world i.links ms in
+    let w = world i.log_max i.links ms in
     let name = (at_place i.links.links c.args.at).name in
     let none = ap (λ n. client_of_link n ms) (sym c.name_at.ensures)
     ∙ ap (λ (v : WorldState). client_of_link c.name_at.result.now v.members) c.self.view_is
@@ -51,7 +53,8 @@ returns-in-Some-clause-count c = grind arith
 pub returns-in-None-clause-gives : goal.returns-in-None-clause-gives
 returns-in-None-clause-gives c =
     subst (λ (v : WorldState). Gives (flow_at c.args.at v) c.args.lines.now c.play_at.result
-    (world c.play_at.new.self c.self.inside.members.items) c.play_at.new.lines) c.self.view_is
+    (world c.self.inside.log_max c.play_at.new.self c.self.inside.members.items)
+    c.play_at.new.lines) c.self.view_is
     (played (goal.at.returns-in-None-clause-gives c).After-play_at)
 
 pub returns-in-None-clause-count : goal.returns-in-None-clause-count
@@ -59,9 +62,10 @@ returns-in-None-clause-count c = grind (arith, over_kept)
 
 pub invariant_of-self : goal.invariant_of-self
 invariant_of-self c =
-    code.over_flow _ _ _ _ _ _ _ (gave (goal.at.invariant_of-self c).After-flow) c.self.invariant
+    ((code.over_flow _ _ _ _ _ _ _ (gave (goal.at.invariant_of-self c).After-flow)
+    c.self.invariant.0), c.self.invariant.1)
 
 pub invariant_of-self-in-None : goal.invariant_of-self-in-None
 invariant_of-self-in-None c =
-    code.over_flow _ _ _ _ _ _ _ (played (goal.at.invariant_of-self-in-None c).After-play_at)
-    c.self.invariant
+    ((code.over_flow _ _ _ _ _ _ _ (played (goal.at.invariant_of-self-in-None c).After-play_at)
+    c.self.invariant.0), c.self.invariant.1)

@@ -16,7 +16,7 @@ use Rattle.world_run.proofs.world.World.out.Goals as goal
 use Rattle.world_run.proofs.world.World.out.Goals.{After-out, in-None-count, in-Some-count}
 
 gave : (c : After-out) → StepGives c.args.self.now (event.Out c.args.name.now c.args.count)
-    c.args.lines.now c.out.result (world c.out.new.links
+    c.args.lines.now c.out.result (world c.self.inside.log_max c.out.new.links
     (slice_set c.self.inside.members.items c.in-Some.at c.out.new.self)) c.out.new.lines
 unfolding step
 gave c =
@@ -67,5 +67,5 @@ returns-after-count c =
 
 pub invariant_of-self : goal.invariant_of-self
 invariant_of-self c =
-    code.still_over _ _ _ _ _ _ _ _ c.self.view_is
-    (gave (goal.at.invariant_of-self c).After-out) c.self.invariant
+    ((code.still_over _ _ _ _ _ _ _ _ c.self.view_is
+    (gave (goal.at.invariant_of-self c).After-out) c.self.invariant.0), c.self.invariant.1)

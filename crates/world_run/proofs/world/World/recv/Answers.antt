@@ -10,7 +10,7 @@ use Rattle.world_run.proofs.world.World.recv.Goals as goal
 use Rattle.world_run.proofs.world.World.recv.Goals.{After-receive, After-play}
 
 gave : (c : After-receive) → StepGives c.args.self.now (event.Recv c.args.name.now c.args.count)
-    c.args.lines.now c.receive.result (world c.receive.new.links
+    c.args.lines.now c.receive.result (world c.self.inside.log_max c.receive.new.links
     (slice_set c.self.inside.members.items c.in-Some.at c.receive.new.self)) c.receive.new.lines
 unfolding step
 gave c =
@@ -24,7 +24,8 @@ gave c =
     c.receive.ensures.gives
 
 played : (c : After-play) → StepGives c.args.self.now (event.Recv c.args.name.now c.args.count)
-    c.args.lines.now c.play.result (world c.play.new.self c.self.inside.members.items)
+    c.args.lines.now c.play.result (world c.self.inside.log_max c.play.new.self
+    c.self.inside.members.items)
     c.play.new.lines
 unfolding step
 played c =
@@ -43,10 +44,11 @@ returns-in-None c = played (goal.at.returns-in-None c).After-play
 
 pub invariant_of-self : goal.invariant_of-self
 invariant_of-self c =
-    code.still_over _ _ _ _ _ _ _ _ c.self.view_is
-    (gave (goal.at.invariant_of-self c).After-receive) c.self.invariant
+    ((code.still_over _ _ _ _ _ _ _ _ c.self.view_is
+    (gave (goal.at.invariant_of-self c).After-receive) c.self.invariant.0), c.self.invariant.1)
 
 pub invariant_of-self-in-None : goal.invariant_of-self-in-None
 invariant_of-self-in-None c =
-    code.still_over _ _ _ _ _ _ _ _ c.self.view_is
-    (played (goal.at.invariant_of-self-in-None c).After-play) c.self.invariant
+    ((code.still_over _ _ _ _ _ _ _ _ c.self.view_is
+    (played (goal.at.invariant_of-self-in-None c).After-play) c.self.invariant.0),
+    c.self.invariant.1)

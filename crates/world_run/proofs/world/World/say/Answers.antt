@@ -54,7 +54,7 @@ returns-in_err-put_request c =
 
 gave : (c : After-put) → StepGives c.args.self.now
     (event.Say c.args.name.now c.args.words.now) c.args.lines.now c.put.result
-    (world c.put.new.self c.self.inside.members.items) c.put.new.lines
+    (world c.self.inside.log_max c.put.new.self c.self.inside.members.items) c.put.new.lines
 unfolding step
 gave c =
     let i = c.self.inside in
@@ -72,5 +72,5 @@ returns c = gave (goal.at.returns c).After-put
 
 pub invariant_of-self : goal.invariant_of-self
 invariant_of-self c =
-    code.still_over _ _ _ _ _ _ _ _ c.self.view_is
-    (gave (goal.at.invariant_of-self c).After-put) c.self.invariant
+    ((code.still_over _ _ _ _ _ _ _ _ c.self.view_is
+    (gave (goal.at.invariant_of-self c).After-put) c.self.invariant.0), c.self.invariant.1)

@@ -13,7 +13,7 @@ unfolding step
 returns-in_default c = grind (arith, named_none)
 
 gave : (c : After-send) → StepGives c.args.self.now (event.Do c.args.name.now c.args.words.now)
-    c.args.lines.now c.send.result (world c.self.inside.links
+    c.args.lines.now c.send.result (world c.self.inside.log_max c.self.inside.links
     (slice_set c.self.inside.members.items c.in-Some.at c.send.new.self)) c.send.new.lines
 unfolding step
 gave c =
@@ -28,5 +28,5 @@ returns c = gave (goal.at.returns c).After-send
 
 pub invariant_of-self : goal.invariant_of-self
 invariant_of-self c =
-    still_over _ _ _ _ _ _ _ _ c.self.view_is (gave (goal.at.invariant_of-self c).After-send)
-    c.self.invariant
+    ((still_over _ _ _ _ _ _ _ _ c.self.view_is (gave (goal.at.invariant_of-self c).After-send)
+    c.self.invariant.0), c.self.invariant.1)
