@@ -4,7 +4,7 @@ use Rattle.std.proofs.Common.{length, take, drop, set, refl, ap, sym, subst, ◌
 use Rattle.std.proofs.Common.{append-nil, Some, None}
 use Rattle.std.specs.Prelude.{slice_get, not}
 use Rattle.std.proofs.lemmas.Bool.{cases_lt}
-use Rattle.std.proofs.lemmas.List.{drop_more, drop_all, length-drop}
+use Rattle.std.proofs.lemmas.List.{drop_more, drop_all, get_or-take, length-drop, length-take}
 use Rattle.std.proofs.lemmas.List.Elements.{filter-append}
 use Prim.Native.Nat.{zero, suc}
 use Rattle.expiry.specs.declared.index.Deadline.{Deadline}
@@ -80,6 +80,13 @@ module _ (moment : ℕ) where
       ∙ ap (λ l. l ++ left moment (joined (take n bs)))
       (is_none (left moment b) (past 0 (omega arith)))
       ∙ all_gone bs n (omega arith) (λ i lt. past (suc i) (omega arith))
+
+  -- each block at the front begins with a deadline that is due
+  pub front_begun : (bs : Blocks) (n : ℕ) → IsBegun moment bs n → (i : ℕ) → i < length (take n bs)
+      → begins_due moment (block_at (take n bs) i) ≡ true
+  front_begun bs n begun i lt =
+      let low : i < n = omega (arith, lt, length-take n bs) in
+      ap (begins_due moment) (get_or-take n bs i [] low) ∙ begun.before i low
 
   -- the deadlines that are due stand in the blocks that begin with one
   pub due_begun : (bs : Blocks) (n : ℕ) → AreBlocks bs → IsBegun moment bs n

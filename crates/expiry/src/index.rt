@@ -1,8 +1,8 @@
 //! The index of deadlines, in order of moment and key.
-ghost use Rattle.std.specs.Prelude.{◌≡◌, [], OnOk, OnErr, option_map};
+ghost use Rattle.std.specs.Prelude.{◌≡◌, ◌<◌, ℕ, true, [], length, OnOk, OnErr, option_map};
 ghost use Rattle.expiry.specs.Index.{comes_before, is_same, has, with, without, is_due};
 ghost use Rattle.expiry.specs.Index.{due, left, first_of};
-ghost use Rattle.expiry.specs.Blocks.{joined};
+ghost use Rattle.expiry.specs.Blocks.{begins_due, block_at, joined};
 ghost use Rattle.expiry.specs.Order.{IsOrdered};
 
 use super::block::Block;
@@ -107,6 +107,8 @@ impl DeadlineIndex {
     /// The blocks at the front that hold the deadlines before the moment, in order.
     pub fn due_blocks(&self, moment: u64) -> &[Block]
         ensures due { due moment (joined result.now) ≡ due moment self.now }
+        ensures begun { (i : ℕ) → i < length result.now →
+            begins_due moment (block_at result.now i) ≡ true }
         ensures ordered { IsOrdered self.now }
     {
         &self.blocks[..blocks::begun(&self.blocks, moment)]

@@ -38,7 +38,20 @@ new_spec 𝓤 𝓛 𝓜 𝓡 wired T L =
     sets ! (agg ! (and_then ! (get ! refl) (no_more !))) refl (tt, (tt, tt)) $
     returns ! (look_at ! 0 refl) $ free_all ! refl $
     suffices ! _ (ends_at 𝓛 En hs c y v [] tt tt) $ says ! refl $
-    pure_i ! (R.own_val [] (v ∷ [])) (λ x. (((λ vss. (tt, ((λ uss. (tt, tt)), tt))), tt), tt))
-    ((record { of = record {}; entries = [] }, (refl, tt)), ((((vstruct vnil ∷ [], tt), (refl,
-    ((tt, (refl, tt)), tt))), tt), tt)) $
+    pure_i ! (R.own_val [] (v ∷ [])) (λ x. (((λ vss. (tt, ((λ uss. (tt, tt)), tt))), tt), tt)) (
+      (record { of = record {}; entries = [] }, (refl, tt)),
+      (
+        (
+          (
+            (vstruct vnil ∷ [], tt),
+            (
+              refl,
+              ((tt, (refl, tt)), tt),
+            ),
+          ),
+          tt,
+        ),
+        tt,
+      ),
+    ) $
     move ! (1 ∷ 2 ∷ 0 ∷ []) $ done !))

@@ -33,15 +33,34 @@ with_spec 𝓤 𝓛 𝓜 𝓡 wired T L =
     let inst = layouts (a_type ∷ []) (T, tt) in
     let c = f.clauses T 𝓛 𝓜.mem 𝓡.returns in
     let v = vstruct (vcons (vstruct vnil) vnil) in
-    proved 𝓛 En hs c 𝓜 𝓡
-    (Goes-none_ref 𝓛 3 (0 ∷ []) tt (plain (λ _. R)) yes, (Goes-none_ref 𝓛 3 (1 ∷
-    []) tt (plain (λ _. E)) yes, tt))
+    proved 𝓛 En hs c 𝓜 𝓡 (
+      Goes-none_ref 𝓛 3 (0 ∷ []) tt (plain (λ _. R)) yes,
+      (
+        Goes-none_ref 𝓛 3 (1 ∷
+            []) tt (plain (λ _. E)) yes,
+        tt,
+      ),
+    )
     (f.Key.name inst) (inst_fn inst code.function) (code.unfolded 𝓤 𝓛.H 𝓜 𝓡 wired (T, tt))
     (λ κs. (shr_vals, (shr_vals, tt)))
     (λ κs. (shr_Tells (named 0) κs.0 R, (shr_Tells (named 1) κs.1.0 E, tt)))
     (λ κs qs bounds a n are.
-    let y : (walk_of 𝓛 En hs c).Ghost = ((κs, qs, bounds, a, (shr_vals a.0, (shr_vals a.1.0,
-    tt))), n) in
+    let y : (walk_of 𝓛 En hs c).Ghost = (
+      (
+        κs,
+        qs,
+        bounds,
+        a,
+        (
+          shr_vals a.0,
+          (
+            shr_vals a.1.0,
+            tt,
+          ),
+        ),
+      ),
+      n,
+    ) in
     let after = a.1.0.now ∷ a.0.now in
     qed 𝓛 ((raw (alive 𝓛 En.signature κs qs) ⊛ ‵ (owns (types_at En.signature.params κs) a y.0.4))
     ∷ raw ((c κs a).requires n) ∷ []) ∵
@@ -51,7 +70,20 @@ with_spec 𝓤 𝓛 𝓜 𝓡 wired T L =
     sets ! (agg ! (and_then ! (get ! refl) (no_more !))) refl (tt, (tt, tt)) $
     returns ! (look_at ! 0 refl) $ free_all ! refl $
     suffices ! _ (ends_at 𝓛 En hs c y v after (tt, (tt, tt)) (tt, (tt, tt))) $ says ! refl $
-    pure_i ! (R.own_val after (v ∷ [])) (λ x. (((λ vss. (tt, ((λ uss. (tt, tt)), tt))), tt), tt))
-    ((record { of = record {}; entries = after }, (refl, tt)), ((((vstruct vnil ∷ [], tt), (refl,
-    ((tt, (refl, tt)), tt))), tt), tt)) $
+    pure_i ! (R.own_val after (v ∷ [])) (λ x. (((λ vss. (tt, ((λ uss. (tt, tt)), tt))), tt), tt)) (
+      (record { of = record {}; entries = after }, (refl, tt)),
+      (
+        (
+          (
+            (vstruct vnil ∷ [], tt),
+            (
+              refl,
+              ((tt, (refl, tt)), tt),
+            ),
+          ),
+          tt,
+        ),
+        tt,
+      ),
+    ) $
     move ! (1 ∷ 2 ∷ 0 ∷ []) $ done !))

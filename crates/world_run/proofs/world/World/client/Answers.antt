@@ -92,21 +92,25 @@ pub returns : goal.returns
 returns c = made (goal.at.returns c).After-push_reserved
 
 pub invariant_of-self : goal.invariant_of-self
-invariant_of-self c =
-    ((let i = c.self.inside in
-    subst (λ ms. AreOver i.living (world i.log_max i.links ms)) (sym c.reserve.ensures.items)
-    c.self.invariant.0), c.self.invariant.1)
+invariant_of-self c = (
+  (let i = c.self.inside in
+      subst (λ ms. AreOver i.living (world i.log_max i.links ms)) (sym c.reserve.ensures.items)
+      c.self.invariant.0),
+  c.self.invariant.1,
+)
 
 pub invariant_of-self-in_err-raw : goal.invariant_of-self-in_err-raw
-invariant_of-self-in_err-raw c =
-    ((code.still_over _ (event.Client c.args.name.now c.args.mode.now c.args.capacity) _ _ _
-    c.args.lines.now (Err c.in_err-raw.field-0.0) c.raw.new.lines c.self.view_is
-    (stopped (goal.at.invariant_of-self-in_err-raw c).In_err-raw) c.self.invariant.0),
-    c.self.invariant.1)
+invariant_of-self-in_err-raw c = (
+  (code.still_over _ (event.Client c.args.name.now c.args.mode.now c.args.capacity) _ _ _
+      c.args.lines.now (Err c.in_err-raw.field-0.0) c.raw.new.lines c.self.view_is
+      (stopped (goal.at.invariant_of-self-in_err-raw c).In_err-raw) c.self.invariant.0),
+  c.self.invariant.1,
+)
 
 pub invariant_of-self-2 : goal.invariant_of-self-2
-invariant_of-self-2 c =
-    ((code.still_over _ (event.Client c.args.name.now c.args.mode.now c.args.capacity) _ _ _
-    c.args.lines.now (Ok (tt {0})) c.raw.new.lines c.self.view_is
-    (made (goal.at.invariant_of-self-2 c).After-push_reserved) c.self.invariant.0),
-    c.self.invariant.1)
+invariant_of-self-2 c = (
+  (code.still_over _ (event.Client c.args.name.now c.args.mode.now c.args.capacity) _ _ _
+      c.args.lines.now (Ok (tt {0})) c.raw.new.lines c.self.view_is
+      (made (goal.at.invariant_of-self-2 c).After-push_reserved) c.self.invariant.0),
+  c.self.invariant.1,
+)

@@ -22,13 +22,15 @@ returns-in-Cut c = grind arith
 
 pub invariant_of-self : goal.invariant_of-self
 unfolding step
-invariant_of-self c =
-    ((let i = c.self.inside in
-    over_step i.living (Now c.in-Now.moment) (world i.log_max i.links i.members.items)
-    (world i.log_max c.set_clock.new.self i.members.items) c.args.lines.now (Ok (tt {0}))
-    c.args.lines.now
-    (clock_gives i.links c.set_clock.new.self i.members.items c.args.lines.now c.in-Now.moment
-    c.set_clock.ensures) c.self.invariant.0), c.self.invariant.1)
+invariant_of-self c = (
+  (let i = c.self.inside in
+      over_step i.living (Now c.in-Now.moment) (world i.log_max i.links i.members.items)
+      (world i.log_max c.set_clock.new.self i.members.items) c.args.lines.now (Ok (tt {0}))
+      c.args.lines.now
+      (clock_gives i.links c.set_clock.new.self i.members.items c.args.lines.now c.in-Now.moment
+      c.set_clock.ensures) c.self.invariant.0),
+  c.self.invariant.1,
+)
 
 pub returns-in-Now : goal.returns-in-Now
 unfolding step
@@ -44,14 +46,15 @@ returns-in-Now c =
 
 pub invariant_of-self-in-Tick : goal.invariant_of-self-in-Tick
 unfolding step
-invariant_of-self-in-Tick c =
-    ((let i = c.self-in-Tick.inside in
-    over_step i.living Tick (world i.log_max i.links i.members.items)
-    (world i.log_max c.tick.new.self i.members.items) c.args.lines.now c.tick.result
-    c.tick.new.lines
-    (links_give link_event.Tick i.links c.tick.new.self i.members.items c.args.lines.now
-    c.tick.result c.tick.new.lines c.tick.ensures) c.self-in-Tick.invariant.0),
-    c.self-in-Tick.invariant.1)
+invariant_of-self-in-Tick c = (
+  (let i = c.self-in-Tick.inside in
+      over_step i.living Tick (world i.log_max i.links i.members.items)
+      (world i.log_max c.tick.new.self i.members.items) c.args.lines.now c.tick.result
+      c.tick.new.lines
+      (links_give link_event.Tick i.links c.tick.new.self i.members.items c.args.lines.now
+      c.tick.result c.tick.new.lines c.tick.ensures) c.self-in-Tick.invariant.0),
+  c.self-in-Tick.invariant.1,
+)
 
 pub returns-in-Tick : goal.returns-in-Tick
 unfolding step

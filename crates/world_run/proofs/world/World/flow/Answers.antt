@@ -42,12 +42,15 @@ pub returns-in-None : goal.returns-in-None
 returns-in-None c = played (goal.at.returns-in-None c).After-play
 
 pub invariant_of-self : goal.invariant_of-self
-invariant_of-self c =
-    ((code.still_over _ _ _ _ _ _ _ _ c.self.view_is
-    (gave (goal.at.invariant_of-self c).After-flow) c.self.invariant.0), c.self.invariant.1)
+invariant_of-self c = (
+  (code.still_over _ _ _ _ _ _ _ _ c.self.view_is
+      (gave (goal.at.invariant_of-self c).After-flow) c.self.invariant.0),
+  c.self.invariant.1,
+)
 
 pub invariant_of-self-in-None : goal.invariant_of-self-in-None
-invariant_of-self-in-None c =
-    ((code.still_over _ _ _ _ _ _ _ _ c.self.view_is
-    (played (goal.at.invariant_of-self-in-None c).After-play) c.self.invariant.0),
-    c.self.invariant.1)
+invariant_of-self-in-None c = (
+  (code.still_over _ _ _ _ _ _ _ _ c.self.view_is
+      (played (goal.at.invariant_of-self-in-None c).After-play) c.self.invariant.0),
+  c.self.invariant.1,
+)

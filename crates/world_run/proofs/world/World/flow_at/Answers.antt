@@ -61,11 +61,15 @@ pub returns-in-None-clause-count : goal.returns-in-None-clause-count
 returns-in-None-clause-count c = grind (arith, over_kept)
 
 pub invariant_of-self : goal.invariant_of-self
-invariant_of-self c =
-    ((code.over_flow _ _ _ _ _ _ _ (gave (goal.at.invariant_of-self c).After-flow)
-    c.self.invariant.0), c.self.invariant.1)
+invariant_of-self c = (
+  (code.over_flow _ _ _ _ _ _ _ (gave (goal.at.invariant_of-self c).After-flow)
+      c.self.invariant.0),
+  c.self.invariant.1,
+)
 
 pub invariant_of-self-in-None : goal.invariant_of-self-in-None
-invariant_of-self-in-None c =
-    ((code.over_flow _ _ _ _ _ _ _ (played (goal.at.invariant_of-self-in-None c).After-play_at)
-    c.self.invariant.0), c.self.invariant.1)
+invariant_of-self-in-None c = (
+  (code.over_flow _ _ _ _ _ _ _ (played (goal.at.invariant_of-self-in-None c).After-play_at)
+      c.self.invariant.0),
+  c.self.invariant.1,
+)

@@ -66,6 +66,8 @@ returns-after-count c =
     grind (arith, in-None-count, nothing, in-Some-count, too_many)
 
 pub invariant_of-self : goal.invariant_of-self
-invariant_of-self c =
-    ((code.still_over _ _ _ _ _ _ _ _ c.self.view_is
-    (gave (goal.at.invariant_of-self c).After-out) c.self.invariant.0), c.self.invariant.1)
+invariant_of-self c = (
+  (code.still_over _ _ _ _ _ _ _ _ c.self.view_is
+      (gave (goal.at.invariant_of-self c).After-out) c.self.invariant.0),
+  c.self.invariant.1,
+)

@@ -41,6 +41,8 @@ pub returns : goal.returns
 returns c = gave (goal.at.returns c).After-raw
 
 pub invariant_of-self : goal.invariant_of-self
-invariant_of-self c =
-    ((code.still_over _ _ _ _ _ _ _ _ c.self.view_is
-    (gave (goal.at.invariant_of-self c).After-raw) c.self.invariant.0), c.self.invariant.1)
+invariant_of-self c = (
+  (code.still_over _ _ _ _ _ _ _ _ c.self.view_is
+      (gave (goal.at.invariant_of-self c).After-raw) c.self.invariant.0),
+  c.self.invariant.1,
+)

@@ -27,6 +27,8 @@ pub returns : goal.returns
 returns c = gave (goal.at.returns c).After-send
 
 pub invariant_of-self : goal.invariant_of-self
-invariant_of-self c =
-    ((still_over _ _ _ _ _ _ _ _ c.self.view_is (gave (goal.at.invariant_of-self c).After-send)
-    c.self.invariant.0), c.self.invariant.1)
+invariant_of-self c = (
+  (still_over _ _ _ _ _ _ _ _ c.self.view_is (gave (goal.at.invariant_of-self c).After-send)
+      c.self.invariant.0),
+  c.self.invariant.1,
+)
