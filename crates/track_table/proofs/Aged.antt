@@ -27,7 +27,7 @@ use Rattle.track_table.proofs.Orders.{same_bytes, not_same, apart, table_remembe
 use Rattle.track_table.proofs.Orders.{table_without_key}
 use Rattle.track_table.proofs.Releases.{table_released}
 
-abbrev Entries : Type 0
+abbrev pub Entries : Type 0
 Entries = List (ℕ × Held)
 
 abbrev pub at_age : ℕ → ℕ → Bool
@@ -37,15 +37,15 @@ at_age n k = is_eq (nat_cmp n k)
 pub tie : (n k : ℕ) → at_age n k ≡ (k == n)
 tie n k = grind (arith, cases_eq, eq-eqb, cases_lt, ne_eqb)
 
-abbrev Above : ℕ → Entries → Type 0
+abbrev pub Above : ℕ → Entries → Type 0
 Above a es = AllByRecursion (λ k. nat_cmp a k ≡ Less) (keys_of es)
 
-not_less : (a : ℕ) → nat_cmp a a ≡ Less → ⊥
+pub not_less : (a : ℕ) → nat_cmp a a ≡ Less → ⊥
 not_less a e = let s : nat_cmp a a ≡ Equal = sym (nat_cmp_is a a Equal refl) in let no : ⊥ = cc
     in no
 
 -- an age among those above another is not that one
-not_among : (key : List ℕ) (a b : ℕ) (es : Entries) → Above a es → age_of key es ≡ Some b
+pub not_among : (key : List ℕ) (a b : ℕ) (es : Entries) → Above a es → age_of key es ≡ Some b
     → at_age b a ≡ false
 not_among key a b [] all e = absurd (let no : ⊥ = cc in no)
 not_among key a b (e ∷ es) all is =
@@ -72,10 +72,10 @@ pub record RowAt (key : List ℕ) (a : ℕ) (es : Entries) : Type 0 where
   pub holders : holders_of key (rows_of es) ≡ row.holders
   pub first : first_row key (rows_of es) ≡ Some row
 
-here : (a : ℕ) → at_age a a ≡ true
+pub here : (a : ℕ) → at_age a a ≡ true
 here a = tie a a ∙ eq-eqb a a refl
 
-some_same : (a b : ℕ) → Some a ≡ Some b → a ≡ b
+pub some_same : (a b : ℕ) → Some a ≡ Some b → a ≡ b
 some_same a b e = grind arith
 
 pub row_at : (key : List ℕ) (a : ℕ) (es : Entries) → IsStrictlySortedBy nat_cmp (keys_of es)
@@ -219,7 +219,7 @@ module _ (key : List ℕ) (id : ℕ) (r : Held) where
         | false ↦ λ f. ap (λ l. x ∷ l) (gone_row rs f held)
       ] at
 
-keeps_all : (key : List ℕ) (rs : List Held) → HasNo key rs → without_key key rs ≡ rs
+pub keeps_all : (key : List ℕ) (rs : List Held) → HasNo key rs → without_key key rs ≡ rs
 keeps_all key [] h = refl
 keeps_all key (r ∷ rs) h =
     ap (λ b. cond (not b) (r ∷ without_key key rs) (without_key key rs)) h.0

@@ -4,3 +4,4 @@ pub mod Releases
 pub mod Aged
 pub mod Sets
 pub mod Parts
+pub mod Asides

@@ -3,3 +3,4 @@ pub mod Places
 pub mod Order
 pub mod Aged
 pub mod Holdings
+pub mod Aside

@@ -1,22 +1,28 @@
 //! Rows in order of age, of which each is found by its key.
 ghost use Rattle.std.specs.Prelude.{◌≡◌, ◌++◌, ◌∷◌, [], OnOk, OnErr, IfSome, IfNone};
-ghost use Rattle.std.specs.Prelude.{◌<◌, ◌==◌, ◌^◌, length, option_to_list};
+ghost use Rattle.std.specs.Prelude.{◌<◌, ◌≤◌, ◌+◌, ◌==◌, ◌^◌, IfOk, length, option_to_list};
+ghost use Rattle.std.specs.Prelude.{vec_capacity, vec_len};
 ghost use Rattle.std.specs.List.{list_any};
 ghost use Rattle.std.specs.BTreeMap.{IsOrdered, is_at};
 ghost use Rattle.std.specs.Map.{remove_entry};
 ghost use Rattle.std.specs.Ordering.{nat_cmp};
-ghost use Rattle.track_table.specs.Aged.{AllBelow, HasAge, IsHeldAt, IsWritten, grown};
+ghost use Rattle.std.specs.declared.ops.Bound.TheVariants.{Excluded, Unbounded};
+ghost use Rattle.std.specs.BTreeMap.Range.{entries_between};
+ghost use Rattle.track_table.specs.Aged.{AllBelow, HasAge, IsHeldAt, IsWritten, grown, rows_of};
+ghost use Rattle.track_table.specs.Aside.{first_key, parted_of};
 ghost use Rattle.track_table.specs.Table.{freed_of};
 ghost use Rattle.id_set.specs.Ids.{Ascend};
 ghost use Rattle.track_table.specs.Order.{IsTable};
 ghost use Rattle.track_table.specs.Table.{holders_of, released, remembered, without_key};
 
+use super::aside::Parted;
 use super::table::Held;
 use id_set::IdSet;
 use resp_value::{NoMemory, Octets};
 use std::alloc::Global;
 use std::collections::BTreeMap;
 use std::marker::Model;
+use std::ops::Bound;
 
 /// Rows by age, with the age of each key.
 #[derive(Drop)]
@@ -99,6 +105,17 @@ fn take_holder(rows: &mut BTreeMap<u64, Held>, age: u64, id: u64) -> bool
     }
 }
 
+// A copy of the key of the row that is next in age.
+fn key_behind(rows: &BTreeMap<u64, Held>, age: u64) -> Result<Option<Octets>, NoMemory>
+    ensures { IfOk result (λ key. key
+        ≡ first_key (rows_of (entries_between nat_cmp (Excluded age) Unbounded rows.now.entries))) }
+{
+    match rows.range((Bound::Excluded(age), Bound::Unbounded)).next() {
+        Some((_, row)) => Ok(Some(row.key.copy()?)),
+        None => Ok(None),
+    }
+}
+
 impl AgedRows {
     /// No rows. It takes no memory.
     pub fn new(alloc: Global) -> AgedRows
@@ -140,14 +157,14 @@ impl AgedRows {
         self.holders(key).contains(&id)
     }
 
-    /// Copies of the rows go last.
-    pub fn copy_onto(&self, out: &mut Vec<Held>) -> Result<(), NoMemory>
-        ensures ok { OnOk result (out.new.items ≡ out.old.items ++ self.now) }
+    /// A copy of the key of the oldest row.
+    pub fn first_key(&self) -> Result<Option<Octets>, NoMemory>
+        ensures { IfOk result (λ key. key ≡ first_key self.now) }
     {
-        for row in self.rows.values() {
-            out.push(row.copy()?)?;
+        match self.rows.first_key_value() {
+            Some((_, row)) => Ok(Some(row.key.copy()?)),
+            None => Ok(None),
         }
-        Ok(())
     }
 
     /// The row goes last.
@@ -204,6 +221,36 @@ impl AgedRows {
     {
         if let Some(age) = self.ages.remove(key) {
             take_out(&mut self.rows, age);
+        }
+    }
+
+    /// The row with the key, which goes, and the key of the row behind it.
+    pub fn part(&mut self, key: &[u8]) -> Result<Option<Parted>, NoMemory>
+        ensures parted { IfOk result (λ parted. parted ≡ parted_of key.now self.old) }
+        ensures rows { OnOk result (self.new ≡ without_key key.now self.old) }
+        ensures err { OnErr result (self.new ≡ self.old) }
+    {
+        let Some(age) = self.ages.get(key) else {
+            return Ok(None);
+        };
+        let age = *age;
+        let next = key_behind(&self.rows, age)?;
+        let Some(row) = self.rows.remove(&age) else {
+            return Ok(None);
+        };
+        let _ = self.ages.remove(key);
+        Ok(Some(Parted { row, next }))
+    }
+
+    /// The rows go last among others, where there is room for them. It takes no memory.
+    pub fn move_onto(&mut self, out: &mut Vec<Held>)
+        requires { vec_len out.old + length self.old ≤ vec_capacity out.old }
+        ensures rows { out.new.items ≡ out.old.items ++ self.old }
+        ensures room { vec_capacity out.old ≤ vec_capacity out.new }
+        ensures none { self.new ≡ [] }
+    {
+        'rows: while let Some(row) = self.pop_first() {
+            out.push_reserved(row);
         }
     }
 

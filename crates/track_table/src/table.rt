@@ -1,6 +1,6 @@
 //! The table of remembered keys.
 ghost use Rattle.std.specs.Prelude.{◌≡◌, ◌==◌, ◌-◌, ◌<◌, ℕ, List, [], true, OnOk, OnErr};
-ghost use Rattle.std.specs.Prelude.{IfOk, length};
+ghost use Rattle.std.specs.Prelude.{◌+◌, ◌++◌, IfOk, drop, length};
 ghost use Rattle.std.specs.List.{list_any};
 ghost use Rattle.track_table.specs.Table.{TableState, all_released, dropped, holders_of, kept};
 ghost use Rattle.track_table.specs.Table.{released, remembered, with_keys, without_connection};
@@ -9,7 +9,9 @@ ghost use Rattle.id_set.specs.Ids.{Ascend};
 ghost use Rattle.track_table.specs.Order.{IsTable};
 ghost use Rattle.track_table.specs.Holdings.{Covers, KeepsOthers, has_key};
 ghost use Rattle.track_table.specs.Places.{IsPlace};
+ghost use Rattle.track_table.specs.Aside.{HasRoom, all_put, first_key, without_all};
 
+use super::aside::{Aside, Parted, put_all_back};
 use super::holdings::Holdings;
 use super::rows::AgedRows;
 use id_set::IdSet;
@@ -26,14 +28,6 @@ pub struct Held {
 }
 
 impl Held {
-    pub(super) fn copy(&self) -> Result<Held, NoMemory>
-        ensures { IfOk result (λ h. h ≡ self.now) }
-    {
-        let key = self.key.copy()?;
-        let holders = self.holders.copy()?;
-        Ok(Held { key, holders })
-    }
-
     pub fn key(&self) -> &[u8]
         ensures { result.now ≡ self.now.key }
     {
@@ -48,18 +42,8 @@ impl Held {
     }
 }
 
-fn copies(alloc: Global, rows: &[Held]) -> Result<Vec<Held>, NoMemory>
-    ensures { IfOk result (λ v. v.items ≡ rows.now) }
-{
-    let mut out = Vec::new(alloc);
-    for row in rows {
-        out.push(row.copy()?)?;
-    }
-    Ok(out)
-}
-
 // The place of the first row with the key.
-fn place_of(rows: &[Held], key: &[u8]) -> Option<usize>
+pub(super) fn place_of(rows: &[Held], key: &[u8]) -> Option<usize>
     ensures { IsPlace key.now rows.now result }
 {
     for (place, row) in rows.iter().enumerate() {
@@ -68,6 +52,17 @@ fn place_of(rows: &[Held], key: &[u8]) -> Option<usize>
         }
     }
     None
+}
+
+// A copy of the key of the row behind this place.
+fn key_behind(oldest: &[Held], young: &AgedRows, place: usize) -> Result<Option<Octets>, NoMemory>
+    requires { place < length oldest.now }
+    ensures { IfOk result (λ key. key ≡ first_key (drop (place + 1) (oldest.now ++ young.now))) }
+{
+    match oldest.get(place + 1) {
+        Some(row) => Ok(Some(row.key.copy()?)),
+        None => young.first_key(),
+    }
 }
 
 // What the connection held among these rows, all but the rows that nobody holds.
@@ -166,21 +161,6 @@ impl TrackTable {
             rows: AgedRows::new(alloc),
             holdings: Holdings::new(alloc),
         }
-    }
-
-    /// An equal table.
-    pub fn copy(&self) -> Result<TrackTable, NoMemory>
-        ensures { IfOk result (λ t. t ≡ self.now) }
-    {
-        let mut oldest = copies(self.alloc, &self.oldest)?;
-        self.rows.copy_onto(&mut oldest)?;
-        Ok(TrackTable {
-            alloc: self.alloc,
-            limit: self.limit,
-            oldest,
-            rows: AgedRows::new(self.alloc),
-            holdings: Holdings::new(self.alloc),
-        })
     }
 
     /// How many keys have a holder.
@@ -318,6 +298,70 @@ impl TrackTable {
         self.oldest.retain(|row| row.key.as_slice() != key);
         drop_key(&mut self.holdings, key, self.rows.holders(key));
         self.rows.forget_key(key);
+    }
+
+    // The row with the key goes, and is the last of those that went.
+    fn part(&mut self, key: &[u8], parted: &mut Vec<Parted>) -> Result<(), NoMemory>
+        ensures limit { self.new.limit ≡ self.old.limit }
+        ensures rows { OnOk result (self.new.rows ≡ without_key key.now self.old.rows) }
+        ensures back { OnOk result (all_put parted.new.items self.new.rows
+            ≡ all_put parted.old.items self.old.rows) }
+        ensures err { OnErr result ((self.new.rows ≡ self.old.rows)
+            × (parted.new.items ≡ parted.old.items)) }
+    {
+        parted.reserve(1)?;
+        match place_of(&self.oldest, key) {
+            Some(place) => {
+                let next = key_behind(&self.oldest, &self.rows, place)?;
+                let row = self.oldest.remove(place);
+                parted.push_reserved(Parted { row, next });
+            }
+            None => {
+                if let Some(row) = self.rows.part(key)? {
+                    drop_key(&mut self.holdings, key, row.row.holders());
+                    parted.push_reserved(row);
+                }
+            }
+        }
+        Ok(())
+    }
+
+    /// No connection holds these keys any more. They can be put back, which takes no memory.
+    pub fn set_aside(&mut self, keys: &[Octets]) -> Result<Aside, NoMemory>
+        ensures limit { self.new.limit ≡ self.old.limit }
+        ensures rows { OnOk result (self.new.rows ≡ without_all keys.now self.old.rows) }
+        ensures back { IfOk result (λ aside. all_put aside.parted self.new.rows ≡ self.old.rows) }
+        ensures room { IfOk result (λ aside. HasRoom aside self.new.rows) }
+        ensures err { OnErr result (self.new.rows ≡ self.old.rows) }
+    {
+        let mut parted = Vec::new(self.alloc);
+        let spare = Vec::with_capacity(self.alloc, self.len() as usize)?;
+        for (place, key) in keys.iter().enumerate() {
+            match self.part(key.as_slice(), &mut parted) {
+                Ok(()) => {}
+                Err(_) => {
+                    self.put_back(Aside { parted, spare });
+                    return Err(NoMemory);
+                }
+            }
+        }
+        Ok(Aside { parted, spare })
+    }
+
+    /// The keys are held as before they were set aside. It takes no memory.
+    pub fn put_back(&mut self, aside: Aside)
+        requires table { IsTable (all_put aside.parted self.old.rows) }
+        requires room { HasRoom aside self.old.rows }
+        ensures limit { self.new.limit ≡ self.old.limit }
+        ensures rows { self.new.rows ≡ all_put aside.parted self.old.rows }
+    {
+        let Aside { parted, spare } = aside;
+        let mut rows = spare;
+        let _ = rows.append(&mut self.oldest);
+        self.rows.move_onto(&mut rows);
+        put_all_back(&mut rows, parted);
+        self.oldest = rows;
+        self.holdings.clear();
     }
 
     /// The connection holds no key any more. It goes through what it held, and takes no memory.

@@ -1,0 +1,36 @@
+use Rattle.std.proofs.Common.{◌<◌, [], ap, sym, ◌∙◌, arith, length, take}
+use Rattle.std.proofs.lemmas.List.{get_or_read, take_more}
+use Rattle.track_table.specs.Table.{without_key}
+use Rattle.track_table.specs.Aside.{all_put, without_all}
+use Rattle.track_table.proofs.Asides.{last_without, room_for}
+use Rattle.track_table.proofs.table.TrackTable.set_aside.Goals as goal
+
+pub put_back-requires-clause-room : goal.put_back-requires-clause-room
+put_back-requires-clause-room c =
+    let same = c.in-Err.ensures.err in
+    room_for c.part.new.parted.items c.part.new.self.rows c.args.self.now.rows _
+    ((λ i. all_put (same.1 i) (same.0 i)) ∙ c.loop-place.invariant.back)
+    (omega (arith, c.in_ok-spare.ensures.capacity, c.len.ensures.count))
+
+pub loop-place-preserved : goal.loop-place-preserved
+loop-place-preserved c =
+    let rows = c.args.self.now.rows in
+    let keys = c.args.keys.now in
+    let k = c.loop-place.place in
+    let lt : k < length keys = omega (arith, c.loop-place-test.true) in
+    let key = c.as_slice.ensures
+    ∙ get_or_read keys k c.index-keys-place.result lt c.index-keys-place.is [] in record {
+      limit = c.in-Ok.ensures.limit ∙ c.loop-place.invariant.limit;
+      rows =
+          c.in-Ok.ensures.rows
+          ∙ (λ i. without_key (key i) (c.loop-place.invariant.rows i))
+          ∙ sym (last_without (take k keys) _ rows)
+          ∙ ap (λ l. without_all l rows) (sym (take_more keys k [] lt));
+      back = c.in-Ok.ensures.back ∙ c.loop-place.invariant.back;
+    }
+
+pub returns-clause-room : goal.returns-clause-room
+returns-clause-room c =
+    room_for c.loop-place.parted.items c.loop-place.self.rows c.args.self.now.rows _
+    c.loop-place.invariant.back
+    (omega (arith, c.in_ok-spare.ensures.capacity, c.len.ensures.count))
