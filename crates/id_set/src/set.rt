@@ -1,5 +1,5 @@
 //! A set of ids, as a list in ascending order.
-ghost use Rattle.std.specs.Prelude.{◌≡◌, [], IfOk, OnOk, OnErr};
+ghost use Rattle.std.specs.Prelude.{◌≡◌, [], OnOk, OnErr};
 ghost use Rattle.id_set.specs.Ids.{Ascend, IsPlaceFor, with_id, without_id};
 
 use resp_value::NoMemory;
@@ -31,14 +31,6 @@ impl IdSet {
         IdSet {
             ids: Vec::new(alloc),
         }
-    }
-
-    /// An equal set.
-    pub fn copy(&self) -> Result<IdSet, NoMemory>
-        ensures { IfOk result (λ s. s ≡ self.now) }
-    {
-        let ids = self.ids.clone()?;
-        Ok(IdSet { ids })
     }
 
     /// The ids, in ascending order.

@@ -1,7 +1,8 @@
 -- The remembered keys of a past are a table, within its limit; and their holders stay there.
-use Rattle.std.proofs.Common.{◌≡◌, ◌≤◌, ℕ, List, [], ◌∷◌, length, arith}
+use Rattle.std.proofs.Common.{◌≡◌, ◌≤◌, ℕ, List, [], ◌∷◌, length, arith, refl}
 use Rattle.track_table.specs.declared.table.Held.{Held}
 use Rattle.track_table.specs.Table.{remembered, without_key, TableState, with_keys, dropped}
+use Rattle.track_table.specs.Aside.{without_all}
 use Rattle.track_table.specs.Order.{IsTable}
 use Rattle.track_table.proofs.Orders.{table_remembered, table_without_key, table_drop}
 use Rattle.track_table.proofs.Orders.{table_without_connection}
@@ -18,6 +19,11 @@ use Rattle.serial_model.specs.History.{table}
 pub same_table : (t : TableState) (limit : ℕ) (rows : List Held) → t.limit ≡ limit → t.rows ≡ rows
     → t ≡ record { limit = limit; rows = rows }
 same_table t limit rows e f = grind arith
+
+pub all_without : (keys : List (List ℕ)) (rows : List Held)
+    → without_all keys rows ≡ without_keys keys rows
+all_without [] rows = refl
+all_without (key ∷ keys) rows = all_without keys (without_key key rows)
 
 -- ---- within the limit nothing is dropped
 

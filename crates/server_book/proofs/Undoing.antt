@@ -26,6 +26,11 @@ pub held_left : (limit : ℕ) (keys : List (List ℕ)) (rows : List Held) (cs ds
 held_left limit keys rows cs ds le h =
     grind (arith, without_keys_table, without_keys_within, without_keys_all, all_rows, id_longer)
 
+-- a reply leaves as many connections
+pub length_sent : (id : ℕ) (cs : List Connection) (mode : Mode) (message : List ℕ)
+    → length (with_mode id mode (queued cs id message)) ≡ length cs
+length_sent id cs mode message = grind (arith, length-set, length_queued)
+
 -- the holders of the keys that left were told
 module _ (n id : ℕ) (old now : ConnectionsState) (keys : List (List ℕ)) (rows : List Held)
     (there : AreThere old.items rows) (apart : AreApart keys) (on : IsId old.items id)

@@ -1,5 +1,5 @@
 -- What a Run does to the connections, and how that is undone.
-use Rattle.std.specs.Prelude.{◌≡◌, ℕ, List, [], ◌∷◌, ◌++◌, length, Option, Some, None}
+use Rattle.std.specs.Prelude.{◌≡◌, ◌⊎◌, ℕ, List, [], ◌∷◌, ◌++◌, length}
 use Rattle.track_table.specs.Table.{TableState}
 use Rattle.serial_model.specs.declared.mode.Mode.{Mode}
 use Rattle.serial_model.specs.Tracking.{group, without_keys}
@@ -47,7 +47,9 @@ run_sendings entry id expired plan table state =
 abbrev pub before_run : ℕ → Mode → ConnectionsState → List Connection
 before_run id mode state = with_mode id mode (before_posts state.posts state.items)
 
--- the table is kept aside where keys leave it
-abbrev pub IsAside : List (List ℕ) → TableState → Option TableState → Type 0
-IsAside expired table None = expired ≡ []
-IsAside expired table (Some aside) = aside ≡ table
+-- what was sent can be taken back: as far as before the reply, or with the reply
+abbrev pub GoesBack : ℕ → ℕ → Plan → ConnectionsState → ConnectionsState → Type 0
+GoesBack entry id plan old new =
+    let replied = reply_sent entry id plan old in
+    (before_posts new.posts new.items ≡ before_posts old.posts old.items)
+    ⊎ (before_posts new.posts new.items ≡ before_posts replied.posts replied.items)

@@ -1,12 +1,13 @@
 //! What the server keeps beside its history, all of which follows from it.
-ghost use Rattle.std.specs.Prelude.{◌≡◌, ◌<◌, ◌⊎◌, [], OnOk, OnErr, IfOk, None};
+ghost use Rattle.std.specs.Prelude.{◌≡◌, ◌<◌, [], OnOk, OnErr, IfOk, None};
 ghost use Rattle.std.specs.FinMap.{empty};
 ghost use Rattle.track_table.specs.Table.{dropped, kept, with_keys};
 ghost use Rattle.serial_model.specs.History.{routed};
 ghost use Rattle.serial_model.specs.Tracking.{AreApart, drop_group, group, told_to, without_keys};
 ghost use Rattle.server_book.specs.Connections.{IsId};
 ghost use Rattle.server_book.specs.Plans.{IsSound, kept_by, told_by};
-ghost use Rattle.server_book.specs.RunSendings.{IsAside, before_run, run_sendings};
+ghost use Rattle.server_book.specs.RunSendings.{GoesBack, before_run, command_told, reply_sent};
+ghost use Rattle.server_book.specs.RunSendings.{run_sendings};
 ghost use Rattle.server_book.specs.Sendings.{before_posts, modes_of, tracking_ids, with_sendings};
 ghost use Rattle.server_book.specs.Stores.{AreThere, IsHeld};
 
@@ -207,19 +208,30 @@ impl Stores {
         }
     }
 
-    // A copy of the table as it is, where keys leave it before the rest of a Run can fail.
-    fn set_aside(&self, expired: &[Octets]) -> Result<Option<TrackTable>, NoMemory>
-        ensures { IfOk result (IsAside expired.now self.now.table) }
+    // What a Run sends once the keys that are due are gone: its reply, then whom it tells itself.
+    fn send_own(&mut self, entry: u64, id: u64, plan: &Plan) -> Result<(), NoMemory>
+        requires held { IsHeld self.old.table.limit self.old.table.rows self.old.connections.items }
+        requires id { IsId self.old.connections.items id }
+        requires sound { IsSound plan.now.deed }
+        ensures space { self.new.space ≡ self.old.space }
+        ensures table { OnOk result
+            (let rows = kept_by self.old.table.limit id plan.now.deed self.old.table.rows in
+            self.new.table ≡ record self.old.table { rows = rows }) }
+        ensures sent { OnOk result (self.new.connections
+            ≡ command_told entry id plan.now self.old.table
+            (reply_sent entry id plan.now self.old.connections)) }
+        ensures err { OnErr result (self.new.table ≡ self.old.table) }
+        ensures back { OnErr result
+            (GoesBack entry id plan.now self.old.connections self.new.connections) }
     {
-        if expired.is_empty() {
-            Ok(None)
-        } else {
-            Ok(Some(self.table.copy()?))
-        }
+        self.connections
+            .send(entry, id, plan.mode.proto, &plan.reply)?;
+        self.connections.set_mode(id, plan.mode);
+        self.carry_out(entry, id, &plan.deed)
     }
 
-    // What a Run sends, in order: the holders of the keys that left are told, then comes its reply,
-    // then whom it tells itself.
+    // What a Run sends, in order: the holders of the keys that are due are told, then comes its
+    // reply, then whom it tells itself.
     fn send_groups(
         &mut self,
         entry: u64,
@@ -239,19 +251,20 @@ impl Stores {
             self.new.table ≡ record self.old.table { rows = rows }) }
         ensures sent { OnOk result (self.new.connections
             ≡ run_sendings entry id expired.now plan.now self.old.table self.old.connections) }
-        ensures err { OnErr result (self.new.table
-            ≡ record self.old.table { rows = without_keys expired.now self.old.table.rows }
-            ⊎ self.new.table ≡ self.old.table) }
+        ensures err { OnErr result (self.new.table ≡ self.old.table) }
         ensures back { OnErr result
             (before_run id (modes_of self.old.connections.items id) self.new.connections
             ≡ self.old.connections.items) }
     {
         self.tell_keys(entry, expired)?;
-        forget_keys(&mut self.table, expired);
-        self.connections
-            .send(entry, id, plan.mode.proto, &plan.reply)?;
-        self.connections.set_mode(id, plan.mode);
-        self.carry_out(entry, id, &plan.deed)
+        let aside = self.table.set_aside(expired)?;
+        match self.send_own(entry, id, plan) {
+            Ok(()) => Ok(()),
+            Err(_) => {
+                self.table.put_back(aside);
+                Err(NoMemory)
+            }
+        }
     }
 
     /// Sends what a Run sends, and remembers what it remembers. Where memory runs out all is as
@@ -279,15 +292,11 @@ impl Stores {
         ensures err_connections { OnErr result (self.new.connections ≡ self.old.connections) }
     {
         let before = self.connections.mode(id);
-        let aside = self.set_aside(expired)?;
         match self.send_groups(entry, id, expired, plan) {
             Ok(()) => Ok(()),
             Err(_) => {
                 self.connections.take_back();
                 self.connections.set_mode(id, before);
-                if let Some(table) = aside {
-                    self.table = table;
-                }
                 Err(NoMemory)
             }
         }

@@ -5,7 +5,7 @@ use Rattle.std.proofs.Common.{refl, ap, sym, ◌∙◌, arith, subst}
 use Rattle.std.specs.Prelude.{option_to_list}
 use Prim.Native.Nat.{zero, suc}
 use Rattle.std.specs.Str.{bytes_eq}
-use Rattle.std.proofs.Common.{◌&&◌, ◌≤◌}
+use Rattle.std.proofs.Common.{◌&&◌, ◌≤◌, ◌==◌, ne_eqb}
 use Rattle.std.specs.Ordering.{nat_cmp, is_lt}
 use Rattle.std.specs.Cmp.{nat_cmp_is, ranked}
 use Rattle.std.specs.declared.cmp.Ordering.TheVariants.{Less, Greater, Equal}
@@ -17,8 +17,8 @@ use Rattle.std.specs.Map.{keys_of, lookup}
 use Rattle.std.specs.List.Sorted.{IsStrictlySortedBy}
 use Rattle.track_table.specs.declared.table.Held.{Held}
 use Rattle.track_table.specs.declared.aside.Parted.{Parted}
-use Rattle.track_table.specs.Table.{without_key}
-use Rattle.track_table.specs.Order.{HasNo, AreOrdered, IsTable}
+use Rattle.track_table.specs.Table.{holders_of, without_key}
+use Rattle.track_table.specs.Order.{AreHeld, AreOrdered, HasNo, IsTable}
 use Rattle.track_table.specs.Places.{nobody, IsPlace, NoneBefore, key_at}
 use Rattle.track_table.specs.Holdings.{IsWhole, KeepsOthers, Sets}
 use Rattle.track_table.specs.Aside.{without_all, first_key, parted_of, is_next, put_in, all_put}
@@ -316,3 +316,26 @@ room_for ps rows old room back le =
     let all = put_more ps rows in
     let same = ap length back in
     omega (arith, all, same, le)
+
+-- ---- keys that nobody remembers
+
+pub none_held : (key : List ℕ) (rs : List Held) → AreHeld rs → holders_of key rs ≡ []
+    → without_key key rs ≡ rs
+none_held key [] held none = refl
+none_held key (r ∷ rs) held none =
+    elim (bytes_eq key r.key) as (λ t. cond t r.holders (holders_of key rs) ≡ []
+    → cond (not t) (r ∷ without_key key rs) (without_key key rs) ≡ r ∷ rs) [
+      | true ↦ λ f.
+          let empty = ap length f in
+          let some = held.0 in
+          absurd (omega (arith, empty, some))
+      | false ↦ λ f. ap (λ l. r ∷ l) (none_held key rs held.1 f)
+    ] none
+
+pub nobody_left : (hs : List ℕ) (empty : Bool) → empty ≡ (length hs == 0) → empty ≡ true
+    → hs ≡ []
+nobody_left [] empty is none = refl
+nobody_left (h ∷ hs) empty is none =
+    let other = ne_eqb (length (h ∷ hs)) 0 (λ z. omega (arith, z)) in
+    let no : true ≡ false = sym none ∙ is ∙ other in
+    absurd (let no : ⊥ = cc in no)

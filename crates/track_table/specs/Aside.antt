@@ -1,5 +1,5 @@
 -- Rows that were taken out of a table, and the table once they are in their places again.
-use Rattle.std.specs.Prelude.{◌≤◌, ◌+◌, ℕ, List, [], ◌∷◌, Bool, false, Option, Some, None, length}
+use Rattle.std.specs.Prelude.{◌<◌, ◌≤◌, ◌+◌, ℕ, List, [], ◌∷◌, Bool, false, Option, Some, None, length}
 use Rattle.std.specs.Prelude.{if◌then◌else◌}
 use Rattle.std.specs.Str.{bytes_eq}
 use Rattle.track_table.specs.declared.table.Held.{Held}
@@ -44,6 +44,7 @@ pub record AsideState : Type 0 where
   pub parted : List Parted
   pub room : ℕ
 
--- there is room for these rows and for those that went
+-- where any row went there is room for these rows and for those that went
 abbrev pub HasRoom : AsideState → List Held → Type 0
-HasRoom aside rows = length rows + length aside.parted ≤ aside.room
+HasRoom aside rows =
+    0 < length aside.parted → length rows + length aside.parted ≤ aside.room

@@ -1,6 +1,6 @@
 //! The table of remembered keys.
 ghost use Rattle.std.specs.Prelude.{◌≡◌, ◌==◌, ◌-◌, ◌<◌, ℕ, List, [], true, OnOk, OnErr};
-ghost use Rattle.std.specs.Prelude.{◌+◌, ◌++◌, IfOk, drop, length};
+ghost use Rattle.std.specs.Prelude.{◌+◌, ◌++◌, IfOk, drop, false, length};
 ghost use Rattle.std.specs.List.{list_any};
 ghost use Rattle.track_table.specs.Table.{TableState, all_released, dropped, holders_of, kept};
 ghost use Rattle.track_table.specs.Table.{released, remembered, with_keys, without_connection};
@@ -326,6 +326,19 @@ impl TrackTable {
         Ok(())
     }
 
+    // Whether any of these keys has a holder.
+    fn remembers_any(&self, keys: &[Octets]) -> bool
+        requires { IsTable self.now.rows }
+        ensures { result ≡ false → without_all keys.now self.now.rows ≡ self.now.rows }
+    {
+        for (place, key) in keys.iter().enumerate() {
+            if !self.holders(key.as_slice()).is_empty() {
+                return true;
+            }
+        }
+        false
+    }
+
     /// No connection holds these keys any more. They can be put back, which takes no memory.
     pub fn set_aside(&mut self, keys: &[Octets]) -> Result<Aside, NoMemory>
         ensures limit { self.new.limit ≡ self.old.limit }
@@ -334,8 +347,13 @@ impl TrackTable {
         ensures room { IfOk result (λ aside. HasRoom aside self.new.rows) }
         ensures err { OnErr result (self.new.rows ≡ self.old.rows) }
     {
+        let count = self.len() as usize;
         let mut parted = Vec::new(self.alloc);
-        let spare = Vec::with_capacity(self.alloc, self.len() as usize)?;
+        if !self.remembers_any(keys) {
+            let spare = Vec::new(self.alloc);
+            return Ok(Aside { parted, spare });
+        }
+        let spare = Vec::with_capacity(self.alloc, count)?;
         for (place, key) in keys.iter().enumerate() {
             match self.part(key.as_slice(), &mut parted) {
                 Ok(()) => {}
@@ -356,6 +374,9 @@ impl TrackTable {
         ensures rows { self.new.rows ≡ all_put aside.parted self.old.rows }
     {
         let Aside { parted, spare } = aside;
+        if parted.is_empty() {
+            return;
+        }
         let mut rows = spare;
         let _ = rows.append(&mut self.oldest);
         self.rows.move_onto(&mut rows);

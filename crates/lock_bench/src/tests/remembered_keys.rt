@@ -26,6 +26,15 @@ all 9 b a c c d: 3 4 a9 b49 c9 d9 /ab
 drop 0 -: 0 2 c9 d9 /
 all 1 d c: 2 2 c19 d19 /";
 
+// Keys that are set aside, and what the table then shows.
+const ASIDE: &str = "\
+a: 0 3 b19 c7 d79 /b
+c: 0 3 a9 b19 d79 /a
+d b: 0 2 a9 c7 /
+c d: 0 2 a9 b19 /
+b e c a d: 0 0 /
+e: 0 4 a9 b19 c7 d79 /ab";
+
 fn keys_of(alloc: Global, words: &str) -> Result<Words, NoMemory> {
     let mut keys = Words::new(alloc);
     for word in words.split(' ') {
@@ -120,6 +129,43 @@ fn a_key_is_as_old_as_it_is_held_without_a_break(rt: HostRuntime) -> Result<(), 
     let mut table = TrackTable::new(rt.alloc(), 2);
     for row in STEPS.lines() {
         assert!(rt; is_shown(rt.alloc(), &mut table, row)?, "{row}");
+    }
+    Ok(())
+}
+
+/// A table of four keys, two of which are past its limit.
+fn four_keys(alloc: Global) -> Result<TrackTable, NoMemory> {
+    let mut table = TrackTable::new(alloc, 2);
+    for (id, key) in [(9, "a"), (1, "b"), (9, "b"), (7, "c"), (9, "d"), (7, "d")] {
+        table.remember(id, key.as_bytes())?;
+    }
+    Ok(table)
+}
+
+/// Whether the table shows what it should without these keys, and once they are put back.
+fn goes_back(alloc: Global, row: &str) -> Result<bool, NoMemory> {
+    let Some((keys, wanted)) = row.split_once(": ") else {
+        return Ok(false);
+    };
+    let mut table = four_keys(alloc)?;
+    let before = table.len();
+    let aside = table.set_aside(keys_of(alloc, keys)?.as_slice())?;
+    let without = shown(alloc, &table, 0)?;
+    table.put_back(aside);
+    let whole = table.len() == before;
+    table.remember(9, b"e")?;
+    let back = shown(alloc, &table, 0)?;
+    Ok(
+        whole
+            && without.as_slice() == wanted.as_bytes()
+            && back.as_slice() == b"0 5 a9 b19 c7 d79 /abc",
+    )
+}
+
+#[test]
+fn keys_that_were_set_aside_go_back_to_their_places(rt: HostRuntime) -> Result<(), Fail> {
+    for row in ASIDE.lines() {
+        assert!(rt; goes_back(rt.alloc(), row)?, "{row}");
     }
     Ok(())
 }

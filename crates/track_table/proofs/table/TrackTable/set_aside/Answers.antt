@@ -7,10 +7,10 @@ use Rattle.track_table.proofs.table.TrackTable.set_aside.Goals as goal
 
 pub put_back-requires-clause-room : goal.put_back-requires-clause-room
 put_back-requires-clause-room c =
-    let same = c.in-Err.ensures.err in
+    let same = c.in-Err.ensures.err in λ some.
     room_for c.part.new.parted.items c.part.new.self.rows c.args.self.now.rows _
     ((λ i. all_put (same.1 i) (same.0 i)) ∙ c.loop-place.invariant.back)
-    (omega (arith, c.in_ok-spare.ensures.capacity, c.len.ensures.count))
+    (omega (arith, c.in_ok-spare.ensures.capacity, c.len-count.ensures.count))
 
 pub loop-place-preserved : goal.loop-place-preserved
 loop-place-preserved c =
@@ -30,7 +30,7 @@ loop-place-preserved c =
     }
 
 pub returns-clause-room : goal.returns-clause-room
-returns-clause-room c =
+returns-clause-room c = λ some.
     room_for c.loop-place.parted.items c.loop-place.self.rows c.args.self.now.rows _
     c.loop-place.invariant.back
-    (omega (arith, c.in_ok-spare.ensures.capacity, c.len.ensures.count))
+    (omega (arith, c.in_ok-spare.ensures.capacity, c.len-count.ensures.count))
