@@ -29,8 +29,8 @@ use Rattle.serial_model.proofs.Streams.{connected, not_ended, ended_fresh, ended
 use Rattle.serial_model.proofs.Streams.{unsent_close_own, unsent_close_other, unsent_fresh}
 use Rattle.serial_model.proofs.Streams.{unsent_admit, unsent_take_own, unsent_take_other, IsLive}
 use Rattle.serial_model.proofs.Streams.{table_live}
-use Rattle.server_book.specs.declared.connections.Connection.{Connection}
-use Rattle.server_book.specs.Connections.{IsId, connection_at, with_connection, fresh, is_open}
+use Rattle.server_book.specs.Places.{Connection, fresh}
+use Rattle.server_book.specs.Connections.{IsId, connection_at, with_connection, is_open}
 use Rattle.server_book.specs.Sendings.{queued, end_post}
 use Rattle.server_book.specs.Stores.{IsHeld}
 use Rattle.server_book.proofs.Sendings.{at_same, at_other, put_twice}

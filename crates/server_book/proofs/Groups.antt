@@ -18,7 +18,7 @@ use Rattle.serial_model.specs.History.{Sending, routed}
 use Rattle.serial_model.specs.Tracking.{AreApart, Invalidation, drop_group, group, told_of}
 use Rattle.serial_model.proofs.KeyHolders.{keys_apart}
 use Rattle.serial_model.proofs.Each.{in_take}
-use Rattle.server_book.specs.declared.connections.Connection.{Connection}
+use Rattle.server_book.specs.Places.{Connection}
 use Rattle.server_book.specs.Connections.{ConnectionsState, IsId}
 use Rattle.server_book.specs.Sendings.{AreIds, modes_of, with_sendings}
 use Rattle.server_book.specs.Stores.{AreThere}

@@ -19,7 +19,7 @@ use Rattle.serial_model.proofs.Streams.{behind, behind_live, expiry_live, run_by
 use Rattle.serial_model.proofs.Streams.{IsLive, unsent_run, unsent_ended}
 use Rattle.serial_model.proofs.Tables.{all_to, sent_to-append}
 use Rattle.serial_model.proofs.ModeSteps.{mode_own, mode_other}
-use Rattle.server_book.specs.declared.connections.Connection.{Connection}
+use Rattle.server_book.specs.Places.{Connection}
 use Rattle.server_book.specs.declared.plan.Plan.{Plan}
 use Rattle.server_book.specs.Connections.{ConnectionsState, IsId, connection_at, with_connection}
 use Rattle.server_book.specs.Plans.{signals_of, memory_of, told_by, kept_by}

@@ -17,9 +17,9 @@ use Rattle.serial_model.specs.History.{sent_to, routed, route, posts_of}
 use Rattle.serial_model.specs.Each.{AllIn, AllTo}
 use Rattle.serial_model.proofs.Each.{all_in, in_append, in_at, in_take}
 use Rattle.serial_model.proofs.Tables.{ids_all, told_all}
-use Rattle.server_book.specs.declared.connections.Connection.{Connection}
+use Rattle.server_book.specs.Places.{Connection, fresh}
 use Rattle.server_book.specs.Connections.{ConnectionsState, IsId, connection_at, with_connection}
-use Rattle.server_book.specs.Connections.{fresh, ArePosted}
+use Rattle.server_book.specs.Connections.{ArePosted}
 use Rattle.server_book.specs.RunSendings.{with_mode}
 use Rattle.server_book.specs.Sendings.{AreIds, modes_of, queued, with_sending, with_sendings}
 use Rattle.server_book.specs.Sendings.{unqueued, before_posts, size_of, message_post}
@@ -338,8 +338,8 @@ ids_there cs test n le =
 
 -- ---- the last post
 
-pub unqueued_is : (cs : List Connection) (p : Post) (c : Connection) (queue : List ℕ) (left : ℕ)
+pub unqueued_is : (cs : List Connection) (p : Post) (c new : Connection) (left : ℕ)
     → c ≡ connection_at cs p.id → left ≡ length c.queue - size_of p.what
-    → queue ≡ take left c.queue
-    → slice_set cs (p.id - 1) (record c { queue = queue }) ≡ unqueued p cs
-unqueued_is cs p c queue left there size kept = grind arith
+    → new ≡ record c { queue = take left c.queue }
+    → slice_set cs (p.id - 1) new ≡ unqueued p cs
+unqueued_is cs p c new left there size kept = grind arith

@@ -17,7 +17,7 @@ use Rattle.serial_model.specs.Steps.{book_step}
 use Rattle.serial_model.proofs.Streams.{IsLive, tick_bytes, tick_sends_none, unsent_tick}
 use Rattle.serial_model.proofs.Streams.{unsent_ended}
 use Rattle.serial_model.proofs.Turning.{tick_step}
-use Rattle.server_book.specs.declared.connections.Connection.{Connection}
+use Rattle.server_book.specs.Places.{Connection}
 use Rattle.server_book.specs.Connections.{IsId, connection_at}
 use Rattle.server_book.specs.BookState.{Agrees, connection_of}
 use Rattle.server_book.proofs.Runs.{early_is, first, first_at, first_posts, length_first}

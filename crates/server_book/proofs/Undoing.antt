@@ -13,7 +13,7 @@ use Rattle.serial_model.specs.declared.mode.Mode.{Mode}
 use Rattle.serial_model.specs.History.{Sending, routed}
 use Rattle.serial_model.specs.Tracking.{AreApart, group, without_keys}
 use Rattle.serial_model.proofs.TableSize.{without_keys_within}
-use Rattle.server_book.specs.declared.connections.Connection.{Connection}
+use Rattle.server_book.specs.Places.{Connection}
 use Rattle.server_book.specs.Connections.{ArePosted, ConnectionsState, IsId}
 use Rattle.server_book.specs.RunSendings.{with_mode}
 use Rattle.server_book.specs.Sendings.{before_posts, message_post, modes_of, queued, with_sendings}

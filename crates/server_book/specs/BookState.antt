@@ -18,7 +18,7 @@ use Rattle.serial_model.specs.History.{table as table_of}
 use Rattle.track_table.specs.Table.{TableState}
 use Rattle.server_book.specs.declared.stores.Stores.{Stores}
 use Rattle.serial_model.specs.Steps.{BookStep}
-use Rattle.server_book.specs.declared.connections.Connection.{Connection}
+use Rattle.server_book.specs.Places.{Connection}
 use Rattle.server_book.specs.Connections.{IsId, connection_at, is_open}
 use Rattle.server_book.specs.Log.{LogState}
 

@@ -3,18 +3,13 @@ use Rattle.std.specs.Prelude.{◌-◌, ◌<◌, ◌≤◌, ◌&&◌, ℕ, List, 
 use Rattle.std.specs.Prelude.{length, nat_le}
 use Rattle.std.specs.Prelude.{slice_index_or, slice_set}
 use Rattle.serial_model.specs.Each.{AllIn}
-use Rattle.serial_model.specs.Modes.{first_mode}
 use Rattle.serial_model.specs.declared.history.Post.{Post}
-use Rattle.server_book.specs.declared.connections.Connection.{Connection}
+use Rattle.server_book.specs.Places.{Connection, fresh}
 
 -- the connections, and what the last turn sent
 pub record ConnectionsState : Type 0 where
   pub items : List Connection
   pub posts : List Post
-
--- a connection that was sent nothing
-abbrev pub fresh : Connection
-fresh = record { queue = []; ended = false; mode = first_mode }
 
 abbrev pub IsId : List Connection → ℕ → Type 0
 IsId connections id = (0 < id) × (id ≤ length connections)

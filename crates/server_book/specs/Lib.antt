@@ -2,6 +2,7 @@ pub mod Plans
 pub mod Played
 pub mod RunSendings
 pub mod Log
+pub mod Places
 pub mod Connections
 pub mod Sendings
 pub mod Stores

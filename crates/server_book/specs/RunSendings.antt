@@ -4,7 +4,7 @@ use Rattle.track_table.specs.Table.{TableState}
 use Rattle.serial_model.specs.declared.mode.Mode.{Mode}
 use Rattle.serial_model.specs.Tracking.{group, without_keys}
 use Rattle.serial_model.specs.History.{routed, spelled}
-use Rattle.server_book.specs.declared.connections.Connection.{Connection}
+use Rattle.server_book.specs.Places.{Connection}
 use Rattle.server_book.specs.declared.plan.Plan.{Plan}
 use Rattle.server_book.specs.Connections.{ConnectionsState, connection_at, with_connection}
 use Rattle.server_book.specs.Plans.{told_by}

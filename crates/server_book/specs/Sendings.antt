@@ -8,7 +8,7 @@ use Rattle.serial_model.specs.declared.history.Posted.TheVariants.{Message, End}
 use Rattle.serial_model.specs.Each.{AllIn}
 use Rattle.serial_model.specs.Tracking.{ids_where}
 use Rattle.serial_model.specs.History.{Sending, sending_bytes, posted_of}
-use Rattle.server_book.specs.declared.connections.Connection.{Connection}
+use Rattle.server_book.specs.Places.{Connection}
 use Rattle.server_book.specs.Connections.{ConnectionsState, IsId, connection_at, with_connection}
 
 abbrev pub modes_of : List Connection → ℕ → Mode

@@ -3,7 +3,7 @@ use Rattle.std.specs.Prelude.{◌≤◌, ℕ, List, length}
 use Rattle.track_table.specs.declared.table.Held.{Held}
 use Rattle.track_table.specs.Order.{IsTable}
 use Rattle.serial_model.specs.Each.{AllRows}
-use Rattle.server_book.specs.declared.connections.Connection.{Connection}
+use Rattle.server_book.specs.Places.{Connection}
 use Rattle.server_book.specs.Connections.{IsId}
 
 -- each holder is a connection that is there

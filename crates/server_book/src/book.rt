@@ -178,7 +178,7 @@ impl Book {
         // Room for this entry, and for the Close of the new connection.
         self.log.reserve(2)?;
         let entry = self.log.next();
-        self.stores.connections.admit(self.stores.alloc)?;
+        self.stores.connections.admit()?;
         self.log.push(Entry::Admit { id });
         Ok(BookReply::Admitted { entry, id })
     }

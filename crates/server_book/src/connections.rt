@@ -3,33 +3,25 @@ ghost use Rattle.std.specs.Prelude.{◌≡◌, ◌++◌, ◌∷◌, [], ◌+◌,
 ghost use Rattle.std.specs.Prelude.{OnErr, IfOk, length, take, drop, option_map};
 ghost use Rattle.serial_model.specs.History.{routed, spelled};
 ghost use Rattle.serial_model.specs.Tracking.{told_to};
-ghost use Rattle.server_book.specs.Connections.{IsId, ConnectionsState, connection_at, fresh};
+ghost use Rattle.server_book.specs.Connections.{IsId, ConnectionsState, connection_at};
 ghost use Rattle.server_book.specs.Connections.{is_live, with_connection};
+ghost use Rattle.server_book.specs.Places.{fresh};
 ghost use Rattle.server_book.specs.Sendings.{AreIds, before_posts, modes_of, queued, size_of};
 ghost use Rattle.server_book.specs.Sendings.{told_keys, tracking_ids};
 ghost use Rattle.server_book.specs.Sendings.{message_post, end_post, with_sendings};
 
+use super::connection::Connection;
 use super::messages::push_of;
-use out_queue::OutQueue;
 use resp_value::{NoMemory, Octets, Proto, Value};
 use serial_model::{Mode, Post, Posted};
 use std::alloc::Global;
 use std::marker::Model;
 
-/// What the server keeps of one connection.
-#[derive(Drop)]
-pub struct Connection {
-    /// The bytes that it was sent and has not taken.
-    pub queue: OutQueue,
-    pub ended: bool,
-    /// What its own runs made of it.
-    pub mode: Mode,
-}
-
 /// All connections that were admitted, and what the last turn sent them. Their ids are 1 to their
 /// number.
 #[derive(Drop)]
 pub struct Connections {
+    alloc: Global,
     items: Vec<Connection>,
     posts: Vec<Post>,
 }
@@ -59,6 +51,7 @@ impl Connections {
         ensures { IfOk result (λ c. c ≡ record { items = []; posts = [] }) }
     {
         Ok(Connections {
+            alloc,
             items: Vec::new(alloc),
             posts: Vec::with_capacity(alloc, 1)?,
         })
@@ -92,23 +85,16 @@ impl Connections {
         if id == 0 || id > self.items.len() as u64 {
             return false;
         }
-        !self.items[(id - 1) as usize].ended
+        !self.items[(id - 1) as usize].has_ended()
     }
 
     /// One more connection, with nothing to take.
-    pub fn admit(&mut self, alloc: Global) -> Result<(), NoMemory>
+    pub fn admit(&mut self) -> Result<(), NoMemory>
         ensures ok { OnOk result
             (self.new ≡ record self.old { items = self.old.items ++ fresh ∷ [] }) }
         ensures err { OnErr result (self.new ≡ self.old) }
     {
-        self.items.push(Connection {
-            queue: OutQueue::new(alloc),
-            ended: false,
-            mode: Mode {
-                proto: Proto::Two,
-                tracking: false,
-            },
-        })?;
+        self.items.push(Connection::fresh())?;
         Ok(())
     }
 
@@ -116,7 +102,7 @@ impl Connections {
         requires { IsId self.now.items id }
         ensures { result ≡ (connection_at self.now.items id).mode }
     {
-        self.items[(id - 1) as usize].mode
+        self.items[(id - 1) as usize].mode()
     }
 
     pub fn set_mode(&mut self, id: u64, mode: Mode)
@@ -126,7 +112,7 @@ impl Connections {
             self.new ≡ record self.old { items = items } }
     {
         let connection = &mut self.items[(id - 1) as usize];
-        connection.mode = mode;
+        connection.set_mode(mode);
     }
 
     /// How many bytes the connection has not taken.
@@ -134,7 +120,7 @@ impl Connections {
         requires { IsId self.now.items id }
         ensures { result ≡ length (connection_at self.now.items id).queue }
     {
-        self.items[(id - 1) as usize].queue.size() as usize
+        self.items[(id - 1) as usize].size()
     }
 
     /// The first bytes that the connection has not taken, at most so many.
@@ -142,7 +128,7 @@ impl Connections {
         requires { IsId self.now.items id }
         ensures { IfOk result (λ o. o ≡ take most (connection_at self.now.items id).queue) }
     {
-        self.items[(id - 1) as usize].queue.front(most)
+        self.items[(id - 1) as usize].front(self.alloc, most)
     }
 
     /// Drops the first bytes that the connection has not taken, at most so many.
@@ -154,7 +140,7 @@ impl Connections {
             self.new ≡ record self.old { items = items } }
     {
         let connection = &mut self.items[(id - 1) as usize];
-        connection.queue.advance(most);
+        connection.advance(most);
     }
 
     /// Sends a value: its spelling goes behind the bytes that the connection has not taken.
@@ -170,7 +156,7 @@ impl Connections {
     {
         self.posts.reserve(1)?;
         let connection = &mut self.items[(to - 1) as usize];
-        let length = connection.queue.add_value(proto, value)?;
+        let length = connection.add_value(self.alloc, proto, value)?;
         self.posts.push_reserved(Post {
             entry,
             id: to,
@@ -185,7 +171,7 @@ impl Connections {
     {
         let mut ids = Vec::new(alloc);
         for (place, connection) in self.items.iter().enumerate() {
-            if connection.mode.tracking && !connection.ended {
+            if connection.mode().tracking && !connection.has_ended() {
                 ids.push(place as u64 + 1)?;
             }
         }
@@ -232,9 +218,9 @@ impl Connections {
         'posts: while let Some(post) = self.posts.pop() {
             let connection = &mut self.items[(post.id - 1) as usize];
             let size = size_of(post.what) as usize;
-            let held = connection.queue.size() as usize;
+            let held = connection.size();
             let left = held.saturating_sub(size);
-            connection.queue.keep(left);
+            connection.keep(left);
         }
     }
 
@@ -250,8 +236,7 @@ impl Connections {
             } }
     {
         let connection = &mut self.items[(id - 1) as usize];
-        connection.queue.drop_all();
-        connection.ended = true;
+        connection.end();
         self.posts.push_reserved(Post {
             entry,
             id,

@@ -2,6 +2,7 @@
 #![tactic(auto)]
 
 mod book;
+mod connection;
 mod connections;
 mod deed;
 mod hello;

@@ -1,6 +1,7 @@
 use Rattle.std.proofs.Common.{◌<◌, ◌-◌, length, arith, sym, ap, subst, ◌∙◌}
 use Rattle.std.proofs.lemmas.List.{get_or_read}
-use Rattle.server_book.specs.Connections.{ArePosted, fresh}
+use Rattle.server_book.specs.Connections.{ArePosted}
+use Rattle.server_book.specs.Places.{fresh}
 use Rattle.server_book.specs.Sendings.{before_posts}
 use Rattle.server_book.proofs.Sendings.{posted_last, posted_set, before_last, unqueued_is}
 use Rattle.server_book.proofs.connections.Connections.take_back.Goals as goal
