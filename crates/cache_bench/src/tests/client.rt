@@ -32,6 +32,14 @@ fn set(alloc: Global, key: &str) -> Result<Words, NoMemory>
     Ok(words)
 }
 
+fn exists(alloc: Global, key: &str) -> Result<Words, NoMemory>
+    ensures { IfOk result (λ w. length w ≡ 3) }
+{
+    let mut words = command(alloc, b"EXISTS".as_slice(), key.as_bytes())?;
+    words.push(Octets::from_slice(alloc, b"b".as_slice())?)?;
+    Ok(words)
+}
+
 fn reset(alloc: Global) -> Result<Words, NoMemory>
     ensures { IfOk result (λ w. length w ≡ 1) }
 {
@@ -87,8 +95,8 @@ fn number_of(text: &str) -> u64 {
     text.parse::<u64>().unwrap_or(0)
 }
 
-// The call that a table names: `get` asks, `set` and `read` send, `poll` and `take` have a number,
-// and any other is a value that was read.
+// The call that a table names: `get` asks, `set`, `read`, `reset` and those named by their command
+// send, `poll` and `take` have a number, and any other is a value that was read.
 fn call_of(alloc: Global, text: &str) -> Result<ClientCall, Fail>
     ensures { IfOk result (λ c. IsCall c) }
 {
@@ -97,6 +105,10 @@ fn call_of(alloc: Global, text: &str) -> Result<ClientCall, Fail>
         "get" => Ok(ClientCall::Ask(query(alloc, rest)?)),
         "set" => Ok(ClientCall::Send(set(alloc, rest)?)),
         "read" => Ok(ClientCall::Send(command(alloc, b"TTL", rest.as_bytes())?)),
+        "pttl" => Ok(ClientCall::Send(command(alloc, b"PTTL", rest.as_bytes())?)),
+        "mget" => Ok(ClientCall::Send(command(alloc, b"MGET", rest.as_bytes())?)),
+        "strlen" => Ok(ClientCall::Send(command(alloc, b"STRLEN", rest.as_bytes())?)),
+        "exists" => Ok(ClientCall::Send(exists(alloc, rest)?)),
         "reset" => Ok(ClientCall::Send(reset(alloc)?)),
         "poll" => Ok(ClientCall::Poll(number_of(rest))),
         "take" => Ok(ClientCall::TakeOut(Wire::Main, number_of(rest))),
@@ -138,7 +150,7 @@ const SET_UP: &str = "\
 map: noted
 simple OK: noted";
 
-const HELD_UNTIL_INVALIDATED: &str = "\
+pub const HELD_UNTIL_INVALIDATED: &str = "\
 get a: sent 3
 blob 1: noted
 get a: hit 3
@@ -149,7 +161,7 @@ invalidate a: noted
 get a: sent 4";
 
 // What comes between a fetch and its reply, and the next fetch.
-const BETWEEN: &str = "\
+pub const BETWEEN: &str = "\
 get a: sent 3
 invalidate a: noted
 blob 1: noted
@@ -175,14 +187,14 @@ set a: sent 4
 blob 1: noted
 get a: sent 5";
 
-const LATER_FETCH: &str = "\
+pub const LATER_FETCH: &str = "\
 get a: sent 3
 get a: sent 4
 blob old: noted
 blob new: noted
 get a: hit 4";
 
-const FLUSH_OF_ALL: &str = "\
+pub const FLUSH_OF_ALL: &str = "\
 get a: sent 3
 error: noted
 get a: hit 3
@@ -193,7 +205,7 @@ flush-array: noted
 get a: sent 5
 get b: sent 6";
 
-const LEAST_RECENT: &str = "\
+pub const LEAST_RECENT: &str = "\
 get a: sent 3
 get b: sent 4
 blob 1: noted
@@ -205,7 +217,7 @@ get a: hit 3
 get c: hit 5
 get b: sent 6";
 
-const HANDED_OUT_ONCE: &str = "\
+pub const HANDED_OUT_ONCE: &str = "\
 get a: sent 3
 poll 3: not-yet
 poll 2: no-number 2
@@ -226,7 +238,7 @@ poll 4: no-number 4
 poll 5: no-number 5
 poll 6: down";
 
-const REFUSALS: &str = "\
+pub const REFUSALS: &str = "\
 get a: not-ready
 reset: not-ready
 map: noted
@@ -243,6 +255,34 @@ reset: down
 take 9: down
 null: down
 end: noted";
+
+// The log has room for one entry.
+pub const REFUSALS_BEFORE_READY: &str = "\
+map: noted
+get a: not-ready
+reset: not-ready
+take 9: full 1
+poll 2: no-number 2
+other: full 1
+error: setup-refused
+get a: down
+reset: down
+poll 2: no-number 2
+take 9: down
+error: down
+malformed: down
+end: noted";
+
+// And here for three.
+const REFUSALS_WHERE_ALL_IS_TAKEN: &str = "\
+take 1000: bytes 60
+map: noted
+simple OK: noted
+take 1000: quiet
+get a: full 3
+null: unexpected
+take 1000: down
+null: down";
 
 const FIRST_ANSWER_IS_AN_ERROR: &str = "\
 error: setup-refused
@@ -276,7 +316,8 @@ fn told(client: &mut ClientState, call: ClientCall) -> (&'static str, u64)
     parts_of(&reply)
 }
 
-fn play_line<R: Abort>(
+/// Plays a line of a table on a client.
+pub fn play_line<R: Abort>(
     rt: &R,
     alloc: Global,
     client: &mut ClientState,
@@ -382,7 +423,10 @@ fn a_reply_is_handed_out_once_in_any_order(rt: HostRuntime) -> Result<(), Fail> 
 
 #[test]
 fn each_refusal_comes_in_its_order(rt: HostRuntime) -> Result<(), Fail> {
-    plays_from_the_start(&rt, rt.alloc(), 2, REFUSALS)
+    let a = rt.alloc();
+    plays_from_the_start(&rt, a, 2, REFUSALS)?;
+    plays_from_the_start(&rt, a, 1, REFUSALS_BEFORE_READY)?;
+    plays_from_the_start(&rt, a, 3, REFUSALS_WHERE_ALL_IS_TAKEN)
 }
 
 #[test]

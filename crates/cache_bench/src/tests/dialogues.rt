@@ -188,6 +188,31 @@ fn each_end_is_told(rt: HostRuntime) -> Result<(), Fail> {
     Ok(())
 }
 
+// Each null that the protocols have.
+const FLUSHES: &str = "\
+feed %0~+OK~ | done 0 -
+ask GET a~ | sent 3 -
+feed $1~1~ | done 0 -
+ask GET a~ | hit 3 $1~1~
+feed >2~$10~invalidate~_~ | done 0 -
+ask GET a~ | sent 4 -
+feed $1~2~ | done 0 -
+ask GET a~ | hit 4 $1~2~
+feed >2~$10~invalidate~$-1~ | done 0 -
+ask GET a~ | sent 5 -
+feed $1~3~ | done 0 -
+ask GET a~ | hit 5 $1~3~
+feed >2~$10~invalidate~*-1~ | done 0 -
+ask GET a~ | sent 6 -";
+
+#[test]
+fn a_flush_by_any_null_empties(rt: HostRuntime) -> Result<(), Fail> {
+    for piece in [1, 7, 100] {
+        plays(&rt, rt.alloc(), piece, FLUSHES)?;
+    }
+    Ok(())
+}
+
 fn is_refused(alloc: Global, capacity: u64, log_max: u64) -> Result<bool, NoMemory> {
     let client = ForeignClient::new(alloc, capacity, log_max, 0)?;
     Ok(client.is_none())
