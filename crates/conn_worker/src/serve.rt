@@ -27,7 +27,7 @@ const PIECE: usize = 16_384;
 pub(crate) enum Heard {
     /// Nothing. The keys that were due left.
     Idle,
-    /// Nothing. The keys that were due stayed, since the history is full or memory ran out.
+    /// Nothing. The keys that were due stayed, since memory ran out.
     Left(Refusal),
     /// A piece, and what is behind its requests.
     Piece(Behind),

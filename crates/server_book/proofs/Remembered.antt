@@ -1,5 +1,5 @@
 -- The remembered keys of a past are a table, within its limit; and their holders stay there.
-use Rattle.std.proofs.Common.{◌≡◌, ◌≤◌, ℕ, List, [], ◌∷◌, length, arith, refl}
+use Rattle.std.proofs.Common.{◌≡◌, ◌≤◌, ℕ, List, [], ◌∷◌, length, arith, refl, ◌∙◌}
 use Rattle.track_table.specs.declared.table.Held.{Held}
 use Rattle.track_table.specs.Table.{remembered, without_key, TableState, with_keys, dropped}
 use Rattle.track_table.specs.Aside.{without_all}
@@ -24,6 +24,11 @@ pub all_without : (keys : List (List ℕ)) (rows : List Held)
     → without_all keys rows ≡ without_keys keys rows
 all_without [] rows = refl
 all_without (key ∷ keys) rows = all_without keys (without_key key rows)
+
+-- a table without keys
+pub table_left : (t u : TableState) (keys : List (List ℕ)) → u.limit ≡ t.limit
+    → u.rows ≡ without_all keys t.rows → u ≡ record t { rows = without_keys keys t.rows }
+table_left t u keys limit rows = same_table u t.limit _ limit (rows ∙ all_without keys t.rows)
 
 -- ---- within the limit nothing is dropped
 

@@ -6,16 +6,17 @@ use Rattle.serial_model.proofs.Each.{all_in}
 use Rattle.server_book.proofs.Groups.{group_told, each_there}
 use Rattle.serial_model.proofs.Tables.{drop_group_all, all_rows, without_keys_all}
 use Rattle.std.proofs.Common.{◌≡◌, ◌≤◌, ℕ, List, [], ◌∷◌, ◌++◌, length, ap, ◌∙◌, refl, arith}
-use Rattle.std.proofs.Common.{length-set}
+use Rattle.std.proofs.Common.{inl, inr, length-set}
 use Rattle.track_table.specs.declared.table.Held.{Held}
 use Rattle.serial_model.specs.declared.history.Post.{Post}
 use Rattle.serial_model.specs.declared.mode.Mode.{Mode}
-use Rattle.serial_model.specs.History.{Sending, routed}
+use Rattle.serial_model.specs.History.{Sending, routed, spelled}
 use Rattle.serial_model.specs.Tracking.{AreApart, group, without_keys}
 use Rattle.serial_model.proofs.TableSize.{without_keys_within}
 use Rattle.server_book.specs.Places.{Connection}
 use Rattle.server_book.specs.Connections.{ArePosted, ConnectionsState, IsId}
-use Rattle.server_book.specs.RunSendings.{with_mode}
+use Rattle.server_book.specs.declared.plan.Plan.{Plan}
+use Rattle.server_book.specs.RunSendings.{GoesBack, before_run, with_mode}
 use Rattle.server_book.specs.Sendings.{before_posts, message_post, modes_of, queued, with_sendings}
 use Rattle.server_book.specs.Stores.{AreThere, IsHeld}
 use Rattle.server_book.proofs.Remembered.{without_keys_table}
@@ -25,11 +26,6 @@ pub held_left : (limit : ℕ) (keys : List (List ℕ)) (rows : List Held) (cs ds
     → length cs ≤ length ds → IsHeld limit rows cs → IsHeld limit (without_keys keys rows) ds
 held_left limit keys rows cs ds le h =
     grind (arith, without_keys_table, without_keys_within, without_keys_all, all_rows, id_longer)
-
--- a reply leaves as many connections
-pub length_sent : (id : ℕ) (cs : List Connection) (mode : Mode) (message : List ℕ)
-    → length (with_mode id mode (queued cs id message)) ≡ length cs
-length_sent id cs mode message = grind (arith, length-set, length_queued)
 
 -- the holders of the keys that left were told
 module _ (n id : ℕ) (old now : ConnectionsState) (keys : List (List ℕ)) (rows : List Held)
@@ -92,3 +88,12 @@ module _ (n id : ℕ) (old now : ConnectionsState) (keys : List (List ℕ)) (row
         ∙ ap (before_posts now.posts) (unqueued_queued now.items post message on_told refl)
         ∙ told_none))
         ∙ mode_back old.items id mode on
+
+  -- so all that a Run sent goes back
+  pub run_back : (plan : Plan) (new : ConnectionsState) → GoesBack n id plan now new
+      → before_run id (modes_of old.items id) new ≡ old.items
+  run_back plan new goes = elim goes [
+    | inl e ↦ ap (with_mode id (modes_of old.items id)) e ∙ told_back
+    | inr e ↦ ap (with_mode id (modes_of old.items id)) e
+        ∙ replied_back plan.mode (spelled plan.mode.proto plan.reply)
+  ]

@@ -40,37 +40,34 @@ use Rattle.world_run.specs.World.{on_links, said_step, setup_by, step}
 use Rattle.world_run.proofs.Names.{client_there, link_there}
 use Rattle.world_run.proofs.WorldKept.{goes_flow, goes_over, step_grows}
 
-pub links_give : {A : Type 0} {most : ℕ} → (e : LinkEvent) (old new : LinksState) (members : List
-    MemberState)
-    (lines : List Line) (r : Result A WorldFault) (lines' : List Line)
+pub links_give : {A : Type 0} → (most : ℕ) (e : LinkEvent) (old new : LinksState)
+    (members : List MemberState) (lines : List Line) (r : Result A WorldFault) (lines' : List Line)
     → Gives (links.step old e) lines r new lines'
     → Gives (links_step e (world most old members)) lines r (world most new members) lines'
 unfolding links_step
-links_give {A} {most} e old new members lines r lines' g =
+links_give most e old new members lines r lines' g =
     gives_within (on_links (world most old members)) (links.step old e) lines r new lines' g
 
 -- the clock is set
-pub clock_gives : {most : ℕ} → (old new : LinksState) (members : List MemberState) (lines : List
-    Line)
-    (moment : ℕ)
+pub clock_gives : (most : ℕ) (old new : LinksState) (members : List MemberState)
+    (lines : List Line) (moment : ℕ)
     → new ≡ record { limits = old.limits; now = moment; past = old.past; links = old.links }
     → Gives {A = Unit {0}} (links_step (link_event.Now moment) (world most old members)) lines
     (Ok (tt {0})) (world most new members) lines
 unfolding links.step
-clock_gives old new members lines moment is =
-    links_give (link_event.Now moment) old new members lines (Ok (tt {0})) lines
+clock_gives most old new members lines moment is =
+    links_give most (link_event.Now moment) old new members lines (Ok (tt {0})) lines
     (refl, is, sym (append-nil lines))
 
-pub client_gives : {A : Type 0} {most : ℕ} → (at : ℕ) (move : Seat → Outcome Seat) (old new :
-    LinksState)
-    (members : List MemberState) (m m' : MemberState) (lines : List Line)
+pub client_gives : {A : Type 0} → (most at : ℕ) (move : Seat → Outcome Seat)
+    (old new : LinksState) (members : List MemberState) (m m' : MemberState) (lines : List Line)
     (r : Result A WorldFault) (lines' : List Line) → at < length members
     → m ≡ slice_index_or members at m
     → Gives (move (seat old m)) lines r (seat new m') lines'
     → Gives (client_does at move (world most old members)) lines r
     (world most new (slice_set members at m')) lines'
 unfolding client_does
-client_gives {A} {most} at move old new members m m' lines r lines' below is g =
+client_gives most at move old new members m m' lines r lines' below is g =
     let w = world most old members in
     let there : m ≡ member_at members at =
     get_or_read members at m below is (fresh_member [] 0 no_setup) in
@@ -100,41 +97,39 @@ named_none name move w lines none =
     no_name w (named_does (client_named name w.members) move w) lines
     (ap (λ c. named_does c move w) none)
 
-pub named_gives : {A : Type 0} {most : ℕ} → (name : List ℕ) (move : Seat → Outcome Seat)
+pub named_gives : {A : Type 0} → (most : ℕ) (name : List ℕ) (move : Seat → Outcome Seat)
     (old new : LinksState) (members : List MemberState) (at : ℕ) (m m' : MemberState)
     (lines : List Line) (r : Result A WorldFault) (lines' : List Line)
     → client_named name members ≡ Some at → m ≡ slice_index_or members at m
     → Gives (move (seat old m)) lines r (seat new m') lines'
     → Gives (named_does (client_named name members) move (world most old members)) lines r
     (world most new (slice_set members at m')) lines'
-named_gives name move old new members at m m' lines r lines' found is g =
+named_gives most name move old new members at m m' lines r lines' found is g =
     grind (arith, slice_set, client_gives, client_there)
 
 -- of the world as its code has it
-pub named_turn : {A : Type 0} {most : ℕ} → (name : List ℕ) (move : Seat → Outcome Seat) (now :
-    WorldState)
-    (old new : LinksState) (members : List MemberState) (at : ℕ) (m m' : MemberState)
-    (lines : List Line) (r : Result A WorldFault) (lines' : List Line) → world most old members ≡
-    now
+pub named_turn : {A : Type 0} → (most : ℕ) (name : List ℕ) (move : Seat → Outcome Seat)
+    (now : WorldState) (old new : LinksState) (members : List MemberState) (at : ℕ) (m m' : MemberState)
+    (lines : List Line) (r : Result A WorldFault) (lines' : List Line) → world most old members ≡ now
     → client_named name now.members ≡ Some at → m ≡ slice_index_or members at m
     → Gives (move (seat old m)) lines r (seat new m') lines'
     → Gives (named_does (client_named name now.members) move now) lines r
     (world most new (slice_set members at m')) lines'
-named_turn {A} {most} name move now old new members at m m' lines r lines' view found is g =
+named_turn most name move now old new members at m m' lines r lines' view found is g =
     subst (λ (v : WorldState). client_named name v.members ≡ Some at
     → Gives (named_does (client_named name v.members) move v) lines r
     (world most new (slice_set members at m')) lines') view
-    (λ there. named_gives name move old new members at m m' lines r lines' there is g) found
+    (λ there. named_gives most name move old new members at m m' lines r lines' there is g) found
 
 -- a client that stays as it is
-pub named_shows : {A : Type 0} {most : ℕ} → (name : List ℕ) (move : Seat → Outcome Seat)
+pub named_shows : {A : Type 0} → (most : ℕ) (name : List ℕ) (move : Seat → Outcome Seat)
     (links : LinksState) (members : List MemberState) (at : ℕ) (m : MemberState)
     (lines : List Line) (r : Result A WorldFault) (lines' : List Line)
     → client_named name members ≡ Some at → m ≡ slice_index_or members at m
     → Gives (move (seat links m)) lines r (seat links m) lines'
     → Gives (named_does (client_named name members) move (world most links members)) lines r
     (world most links members) lines'
-named_shows {A} {most} name move links members at m lines r lines' found is g =
+named_shows most name move links members at m lines r lines' found is g =
     let none = fresh_member [] 0 no_setup in
     let there : m ≡ member_at members at =
     get_or_read members at m (client_there name members at found).0 is none in
@@ -143,29 +138,28 @@ named_shows {A} {most} name move links members at m lines r lines' found is g =
     subst (λ ms. Gives (named_does (client_named name members) move (world most links members))
     lines r
     (world most links ms) lines') same
-    (named_gives name move links links members at m m lines r lines' found is g)
+    (named_gives most name move links links members at m m lines r lines' found is g)
 
 -- ---- a link is named
 
-pub owned : {A : Type 0} {most : ℕ} → (f : Option ℕ → Stepped) (link : List ℕ) (move : Seat →
-    Outcome Seat)
-    (now : WorldState) (old new : LinksState) (members : List MemberState) (at : ℕ)
+pub owned : {A : Type 0} → (most : ℕ) (f : Option ℕ → Stepped) (link : List ℕ)
+    (move : Seat → Outcome Seat) (now : WorldState) (old new : LinksState) (members : List MemberState) (at : ℕ)
     (m m' : MemberState) (lines : List Line) (r : Result A WorldFault) (lines' : List Line)
     → world most old members ≡ now → client_of_link link now.members ≡ Some at
     → f (Some at) ≡ client_does at move now → m ≡ slice_index_or members at m
     → Gives (move (seat old m)) lines r (seat new m') lines'
     → Gives (f (client_of_link link now.members)) lines r (world most new (slice_set members at m'))
     lines'
-owned f link move now old new members at m m' lines r lines' view found what is g =
+owned most f link move now old new members at m m' lines r lines' view found what is g =
     grind (arith, slice_set, client_gives, link_there)
 
-pub unowned : {A : Type 0} {most : ℕ} → (f : Option ℕ → Stepped) (link : List ℕ) (e : LinkEvent)
+pub unowned : {A : Type 0} → (most : ℕ) (f : Option ℕ → Stepped) (link : List ℕ) (e : LinkEvent)
     (now : WorldState) (old new : LinksState) (members : List MemberState)
     (lines : List Line) (r : Result A WorldFault) (lines' : List Line)
     → world most old members ≡ now → client_of_link link now.members ≡ None
     → f None ≡ links_step e now → Gives (links.step old e) lines r new lines'
     → Gives (f (client_of_link link now.members)) lines r (world most new members) lines'
-unowned f link e now old new members lines r lines' view none what g = grind (arith, links_give)
+unowned most f link e now old new members lines r lines' view none what g = grind (arith, links_give)
 
 -- ---- a raw link is told what to say
 
@@ -182,7 +176,7 @@ unfolding links.step
 put_nowhere name bytes w lines none =
     let e : LinkEvent = link_event.Put name bytes in
     let r : Result (Unit {0}) WorldFault = Err NoName in
-    links_give e w.links w.links w.members lines r lines
+    links_give w.log_max e w.links w.links w.members lines r lines
     (grind (arith, append-nil))
 
 -- where the link is no client's
@@ -202,7 +196,7 @@ put_before name bytes at w lines found =
     let e : LinkEvent = link_event.Put name bytes in
     let r : Result (Unit {0}) WorldFault = Err NoMemory in
     let same : with_session at ls (session_at at ls) ≡ ls = grind (arith, set-get_or) in
-    links_give e ls ls w.members lines r lines
+    links_give w.log_max e ls ls w.members lines r lines
     (grind (arith, stops_here))
 
 -- ---- a client is made
@@ -263,7 +257,7 @@ module _ (name : List ℕ) (mode : ClientMode) (capacity : ℕ) (w : WorldState)
               → Gives (links_step (link_event.Raw (data_link name)) w) lines r
               (world w.log_max new w.members) lines'
           made r g =
-              links_give (link_event.Raw (data_link name)) w.links new w.members lines r lines'
+              links_give w.log_max (link_event.Raw (data_link name)) w.links new w.members lines r lines'
               (grind arith)
 
           pub client_stops : (fault : WorldFault) → members ≡ old.members
@@ -335,7 +329,7 @@ flow_over at w lines apart is =
     let r : Result (Unit {0}) WorldFault = Ok (tt {0}) in
     let found : place_of name ls ≡ Some at = grind (arith, own_place, over_below) in
     subst (λ c. Ends (flow_step c name w) lines w lines) (sym is.apart)
-    (links_give (link_event.Over name moves.Flow) ls ls w.members lines r lines
+    (links_give w.log_max (link_event.Over name moves.Flow) ls ls w.members lines r lines
     (over_idle name ls at lines found is.link))
 
 -- nor do so many

@@ -25,7 +25,7 @@ gave c =
     let i = c.self.inside in
     let w = c.args.self.now in
     let bytes = c.args.bytes.now in
-    code.unowned (λ o. said_step o c.args.name.now bytes w) c.args.name.now
+    code.unowned i.log_max (λ o. said_step o c.args.name.now bytes w) c.args.name.now
     (Put c.args.name.now bytes) w i.links c.put.new.self i.members.items c.args.lines.now
     c.put.result c.put.new.lines c.self.view_is
     (grind arith) refl

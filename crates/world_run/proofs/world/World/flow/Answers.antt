@@ -16,7 +16,7 @@ unfolding step
 gave c =
     let i = c.self.inside in
     let w = c.args.self.now in
-    code.owned (λ o. flow_step o c.args.name.now w) c.args.name.now client.flow w
+    code.owned i.log_max (λ o. flow_step o c.args.name.now w) c.args.name.now client.flow w
     i.links c.flow.new.links i.members.items c.in-Some.at c.index_mut.result.now c.flow.new.self
     c.args.lines.now c.flow.result c.flow.new.lines c.self.view_is
     (sym c.client_of_link.ensures ∙ c.in-Some.is) refl c.index_mut.ensures.value
@@ -30,7 +30,7 @@ unfolding step
 played c =
     let i = c.self.inside in
     let w = c.args.self.now in
-    code.unowned (λ o. flow_step o c.args.name.now w) c.args.name.now
+    code.unowned i.log_max (λ o. flow_step o c.args.name.now w) c.args.name.now
     (Over c.args.name.now moves.Flow) w i.links c.play.new.self i.members.items c.args.lines.now
     c.play.result c.play.new.lines c.self.view_is (sym c.client_of_link.ensures ∙ c.in-None.is) refl
     c.play.ensures

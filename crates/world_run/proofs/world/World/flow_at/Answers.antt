@@ -25,7 +25,7 @@ gave c =
     let owner = ap (λ n. client_of_link n ms) (sym c.name_at.ensures)
     ∙ ap (λ (v : WorldState). client_of_link c.name_at.result.now v.members) c.self.view_is
     ∙ sym c.client_of_link.ensures ∙ c.in-Some.is in
-    code.owned (λ o. flow_step o name w) name client.flow w i.links c.flow.new.links ms
+    code.owned i.log_max (λ o. flow_step o name w) name client.flow w i.links c.flow.new.links ms
     c.in-Some.client c.index_mut.result.now c.flow.new.self c.args.lines.now c.flow.result
     c.flow.new.lines refl owner refl c.index_mut.ensures.value c.flow.ensures.gives
 
@@ -41,7 +41,7 @@ played c =
     let none = ap (λ n. client_of_link n ms) (sym c.name_at.ensures)
     ∙ ap (λ (v : WorldState). client_of_link c.name_at.result.now v.members) c.self.view_is
     ∙ sym c.client_of_link.ensures ∙ c.in-None.is in
-    code.unowned (λ o. flow_step o name w) name (Over name moves.Flow) w i.links c.play_at.new.self
+    code.unowned i.log_max (λ o. flow_step o name w) name (Over name moves.Flow) w i.links c.play_at.new.self
     ms c.args.lines.now c.play_at.result c.play_at.new.lines refl none refl c.play_at.ensures
 
 pub returns-in-Some-clause-gives : goal.returns-in-Some-clause-gives

@@ -22,7 +22,7 @@ unfolding step
 gave c =
     let i = c.self.inside in
     let w = c.args.self.now in
-    code.owned (λ o. out_step o c.args.name.now c.args.count w) c.args.name.now
+    code.owned i.log_max (λ o. out_step o c.args.name.now c.args.count w) c.args.name.now
     (client.out c.args.count) w i.links c.out.new.links i.members.items c.in-Some.at
     c.index_mut.result.now c.out.new.self
     c.args.lines.now c.out.result c.out.new.lines c.self.view_is

@@ -18,7 +18,7 @@ gave : (c : After-poll) → StepGives c.args.self.now (event.Poll c.args.name.no
 unfolding step
 gave c =
     let i = c.self.inside in
-    named_turn c.args.name.now (turn (call.Poll c.args.number)) c.args.self.now i.links
+    named_turn i.log_max c.args.name.now (turn (call.Poll c.args.number)) c.args.self.now i.links
     i.links i.members.items c.in-Some.at c.index_mut.result.now c.poll.new.self c.args.lines.now
     c.poll.result c.poll.new.lines c.self.view_is (sym c.client_named.ensures ∙ c.in-Some.is)
     c.index_mut.ensures.value c.poll.ensures

@@ -16,7 +16,7 @@ unfolding step
 gave c =
     let i = c.self.inside in
     let w = c.args.self.now in
-    code.owned (λ o. recv_step o c.args.name.now c.args.count w) c.args.name.now
+    code.owned i.log_max (λ o. recv_step o c.args.name.now c.args.count w) c.args.name.now
     (client.receive c.args.count) w i.links c.receive.new.links i.members.items c.in-Some.at
     c.index_mut.result.now c.receive.new.self
     c.args.lines.now c.receive.result c.receive.new.lines c.self.view_is
@@ -31,7 +31,7 @@ unfolding step
 played c =
     let i = c.self.inside in
     let w = c.args.self.now in
-    code.unowned (λ o. recv_step o c.args.name.now c.args.count w) c.args.name.now
+    code.unowned i.log_max (λ o. recv_step o c.args.name.now c.args.count w) c.args.name.now
     (Over c.args.name.now (moves.Recv c.args.count)) w i.links c.play.new.self i.members.items
     c.args.lines.now c.play.result c.play.new.lines c.self.view_is
     (sym c.client_of_link.ensures ∙ c.in-None.is) refl c.play.ensures

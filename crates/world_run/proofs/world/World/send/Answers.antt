@@ -18,7 +18,7 @@ gave : (c : After-send) → StepGives c.args.self.now (event.Do c.args.name.now 
 unfolding step
 gave c =
     let i = c.self.inside in
-    named_turn c.args.name.now (turn (call.Send c.args.words.now)) c.args.self.now i.links
+    named_turn i.log_max c.args.name.now (turn (call.Send c.args.words.now)) c.args.self.now i.links
     i.links i.members.items c.in-Some.at c.index_mut.result.now c.send.new.self c.args.lines.now
     c.send.result c.send.new.lines c.self.view_is (sym c.client_named.ensures ∙ c.in-Some.is)
     c.index_mut.ensures.value c.send.ensures

@@ -17,7 +17,7 @@ returns c =
     subst (λ (w : WorldState). StepGives w (event.Show c.args.name.now) c.args.lines.now
     c.show.result w
     c.show.new.lines) c.self.view_is
-    (named_shows c.args.name.now show
+    (named_shows i.log_max c.args.name.now show
     i.links i.members.items c.in-Some.at c.index.result.now c.args.lines.now c.show.result
     c.show.new.lines
     (ap (λ (w : WorldState). client_named c.args.name.now w.members) c.self.view_is
