@@ -211,7 +211,8 @@ module _ (limits : Limits) where
       part_ends lines events w p x.0 more rest x.1 printed body x.2 x.3 x.4 b
   by_ending (Refused number f) lines events w more printed body rest d p x b =
       let k = whole_first x.3 more rest (Some rest) x.5 (λ e. e) in
-      let links = have_links limits events w (lines_valid 1 lines events p.lines_are) p.played in
+      let links = have_links limits limits.history_max events w
+      (lines_valid 1 lines events p.lines_are) p.played in
       let none = (faults_none w x.4 f links x.7 x.2).1 in
       let ends = fault_ends lines events w p k.0 x.3 x.4 f printed body x.6 x.7
       (x.1 ∙ sym none) b in

@@ -59,12 +59,13 @@ plays_of : HasOneHistory → (limits : Limits) (lines : List (List ℕ)) (events
     (w : WorldState) → AreLinesOf 1 lines events → after (start limits) events ≡ Some w
     → Plays limits lines events w
 plays_of law limits lines events w a p =
+    let all = law limits limits.history_max events w (lines_valid 1 lines events a) p in
     record {
       lines_are = a;
       played = p;
-      one_history = (law limits events w (lines_valid 1 lines events a) p).0;
-      hits = (law limits events w (lines_valid 1 lines events a) p).2;
-      flows = (law limits events w (lines_valid 1 lines events a) p).3;
+      one_history = all.0;
+      hits = all.2;
+      flows = all.3;
     }
 
 part_of : HasOneHistory → (limits : Limits) (lines : List (List ℕ)) (events : List Event)
@@ -72,8 +73,8 @@ part_of : HasOneHistory → (limits : Limits) (lines : List (List ℕ)) (events 
     → after (start limits) events ≡ Some w
     → (part : PartPrinted n w line printed) → PlaysPart limits events w part.0 printed
 part_of law limits lines events w n line printed a p part =
-    let follows = (law limits events w (lines_valid 1 lines events a) p).1 part.0 part.2 part.3
-    (event_valid n line part.0 part.1) part.4 in
+    let all = law limits limits.history_max events w (lines_valid 1 lines events a) p in
+    let follows = all.1 part.0 part.2 part.3 (event_valid n line part.0 part.1) part.4 in
     record {
       state = part.2;
       lines = part.3;
@@ -233,8 +234,8 @@ module _ (limits : Limits) (number : ℕ) (w : WorldState)
             g.2),
       )
   line_ends law (Refused k f) new line more s r c g =
-      let links = have_links limits s.events w (lines_valid 1 s.lines s.events s.lines_are)
-      s.played in
+      let links = have_links limits limits.history_max s.events w
+      (lines_valid 1 s.lines s.events s.lines_are) s.played in
       let none = (faults_none w g.1.2 f links g.1.4 g.1.1).1 in
       ends_with law (Refused k f) more g.0 s c
       (g.1.0, g.1.5 ∙ none, g.1.1, line, g.1.2, r, g.1.3, g.1.4) g.2

@@ -140,7 +140,7 @@ pub record Plays (limits : Limits) (lines : List (List ℕ)) (events : List Even
     : Type 0 where
   pub lines_are : AreLinesOf 1 lines events
   pub played : after (start limits) events ≡ Some w
-  pub one_history : OneHistory limits events (transcript (start limits) events) w
+  pub one_history : OneHistory (start limits) events (transcript (start limits) events) w
   pub hits : AllHitsStand (start limits) events
   pub flows : (at : ℕ) → at < length w.links.links → FlowDelivers w at
 

@@ -13,7 +13,7 @@ use Rattle.server_links.specs.declared.fault.WorldFault.{WorldFault}
 use Rattle.server_links.specs.declared.fault.WorldFault.TheVariants as fault
 use Rattle.server_links.specs.Outcome.{Reached}
 use Rattle.server_links.specs.Transcript.{unless_fault}
-use Rattle.world_run.specs.WorldState.{WorldState, member_at, start}
+use Rattle.world_run.specs.WorldState.{WorldState, member_at, start_with}
 use Rattle.world_run.specs.WorldHistory.{AllHitsStand, AllServiced, Follows, HasOneHistory}
 use Rattle.world_run.specs.WorldHistory.{HaveLinks, HitStands, RefusalsChangeNothing, said_by}
 use Rattle.world_run.specs.WorldHistory.{StaysInHistory, said_to}
@@ -46,15 +46,17 @@ pub every_front : {A : Type 0} → (P : A → Type 0) (xs all : List A) → IsPr
     → Every P xs
 every_front P xs all front a = every_parted P xs front.0 (subst (Every P) (sym front.1) a)
 
-follows : Currency → (l : Limits) (events : List Event) (w : WorldState) → Every IsValid events
-    → after (start l) events ≡ Some w → (event : Event) (new : WorldState) (printed : List Line)
+follows : Currency → (l : Limits) (log_max : ℕ) (events : List Event) (w : WorldState)
+    → Every IsValid events → let first = start_with l log_max in after first events ≡ Some w
+    → (event : Event) (new : WorldState) (printed : List Line)
     → IsValid event → Reached (step w event) new printed
-    → Follows l events (transcript (start l) events) w event printed new
-follows law l events w valid e event new printed good r =
-    let lines = transcript (start l) events in
-    let heard_by : ℕ → List ℕ = λ i. heard (start l) i events in
+    → Follows l events (transcript first events) w event printed new
+follows law l log_max events w valid e event new printed good r =
+    let first = start_with l log_max in
+    let lines = transcript first events in
+    let heard_by : ℕ → List ℕ = λ i. heard first i events in
     let raw : List ℕ → List ℕ = λ n. said_to n events in
-    let s = stands_then l events w valid e in
+    let s = stands_then l log_max events w valid e in
     let p = (event_comes l heard_by raw lines w s event good).all new printed r in
     let g = (step_grows event w).all new printed r in
     let front = printed_first w event new printed r in
@@ -90,12 +92,12 @@ all_hits law l (d ∷ more) before raw lines v w valid s e =
     ] refl e
 
 pub one_history : Currency → HasOneHistory
-one_history law l events w valid e = (
-  whole_history law l events w valid e,
-  follows law l events w valid e,
-  all_hits law l events (λ i. []) (λ n. []) [] (start l) w valid (stands_start l) e,
-  flow_delivers l (λ i. heard (start l) i events) (λ n. said_to n events)
-      (transcript (start l) events) w (stands_then l events w valid e),
+one_history law l log_max events w valid e = let first = start_with l log_max in (
+  whole_history law l log_max events w valid e,
+  follows law l log_max events w valid e,
+  all_hits law l events (λ i. []) (λ n. []) [] first w valid (stands_start l log_max) e,
+  flow_delivers l (λ i. heard first i events) (λ n. said_to n events) (transcript first events) w
+      (stands_then l log_max events w valid e),
 )
 
 -- what was done, whole or in part, is reached
@@ -112,9 +114,9 @@ pub stays_in : HasOneHistory → (w : WorldState) (event : Event) (lines : List 
     (result : Result (Unit {0}) WorldFault) (new : WorldState) (lines' : List Line)
     → IsValid event → StepGives w event lines result new lines'
     → StaysInHistory w event lines new lines'
-stays_in law w event lines result new lines' good g l events valid e =
+stays_in law w event lines result new lines' good g l log_max events valid e =
     let r = reached w event lines result new lines' g in
-    (r.0, r.1, (law l events w valid e).1 event new r.0 good r.2)
+    (r.0, r.1, (law l log_max events w valid e).1 event new r.0 good r.2)
 
 -- what was printed by then begins what the event prints
 pub step_lines : (w : WorldState) (event : Event) (new : WorldState) (printed : List Line)
@@ -122,10 +124,10 @@ pub step_lines : (w : WorldState) (event : Event) (new : WorldState) (printed : 
 step_lines w event new printed r = printed_first w event new printed r
 
 -- after a schedule each client has its link
-pub have_links : (l : Limits) (events : List Event) (w : WorldState) → Every IsValid events
-    → after (start l) events ≡ Some w → HaveLinks w
-have_links l events w valid e at lt =
-    let s = stands_then l events w valid e in
+pub have_links : (l : Limits) (log_max : ℕ) (events : List Event) (w : WorldState)
+    → Every IsValid events → after (start_with l log_max) events ≡ Some w → HaveLinks w
+have_links l log_max events w valid e at lt =
+    let s = stands_then l log_max events w valid e in
     let k = (s.each at lt).0 in
     let m = member_at w.members at in
     place_is w.links s.links.unique m.link m.place k.below k.placed

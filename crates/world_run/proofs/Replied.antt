@@ -144,6 +144,3 @@ module _ (id : ℕ) (past : List Entry) where
       not_named ws ran names =
           let g = grown ws ran ∙ ap (λ b. max (named_to id past key k) (cond b e 0)) names in
           omega (arith, g)
-
-      pub has_words : slice_get (runs_of id past) k ≡ None → ⊥
-      has_words none = let t = there k e is in let q : Some t.0 ≡ None = sym t.1 ∙ none in cc

@@ -16,7 +16,8 @@ use Rattle.script_text.specs.declared.event.Event.{Event}
 use Rattle.script_text.specs.declared.line.Line.{Line}
 use Rattle.script_text.specs.Valid.{IsValid}
 use Rattle.server_links.specs.Transcript.{unless_fault}
-use Rattle.world_run.specs.WorldState.{MemberState, WorldState, data_link, member_at, start}
+use Rattle.world_run.specs.WorldState.{MemberState, WorldState, data_link, member_at}
+use Rattle.world_run.specs.WorldState.{start_with}
 use Rattle.world_run.specs.ScheduleLog.{AllNoted, IsNoted, LogsStand, Notes, all_noted, answer_by}
 use Rattle.world_run.specs.ScheduleLog.{answerer, answers_of, call_of, calls_in, calls_of, noted}
 use Rattle.world_run.specs.WorldTranscript.{after, heard_at, transcript}
@@ -148,14 +149,14 @@ told_more events lines w e told k =
           none name (λ i lt e. free i (omega (arith, lt, k.grows)) (k.named i lt ∙ e));
     }
 
-told_start : (l : Limits) → Told [] [] (start l)
-told_start l = record {
+told_start : (l : Limits) (log_max : ℕ) → Told [] [] (start_with l log_max)
+told_start l log_max = record {
   clients = λ at lt. absurd (omega (arith, lt));
   others = λ name free. (refl, refl);
 }
 
-got_start : (l : Limits) → Accounts [] (start l)
-got_start l = record {
+got_start : (l : Limits) (log_max : ℕ) → Accounts [] (start_with l log_max)
+got_start l log_max = record {
   each = λ at lt. absurd (omega (arith, lt));
   apart = λ name free. refl;
 }
@@ -206,10 +207,11 @@ logs_after l sooner (d ∷ more) before raw lines v w valid s told got e =
           )
     ] refl e
 
-pub logs_stand : (l : Limits) (events : List Event) (w : WorldState) → Every IsValid events
-    → WorldStands l (λ i. []) (λ n. []) [] (start l) → after (start l) events ≡ Some w
-    → LogsStand (start l) events (transcript (start l) events) w
-logs_stand l events w valid s e =
-    let k = logs_after l [] events (λ i. []) (λ n. []) [] (start l) w valid s (told_start l)
-    (got_start l) e in
+pub logs_stand : (l : Limits) (log_max : ℕ) (events : List Event) (w : WorldState)
+    → Every IsValid events → let first = start_with l log_max in
+    WorldStands l (λ i. []) (λ n. []) [] first → after first events ≡ Some w
+    → LogsStand first events (transcript first events) w
+logs_stand l log_max events w valid s e =
+    let k = logs_after l [] events (λ i. []) (λ n. []) [] (start_with l log_max) w valid s
+    (told_start l log_max) (got_start l log_max) e in
     record { clients = k.0.clients; notes = k.1; got = k.2.each }

@@ -17,7 +17,7 @@ use Rattle.currency.proofs.CompleteExactly.{completes_exactly}
 use Rattle.server_links.proofs.Accounts.{Part}
 use Rattle.server_links.proofs.Events.{serves}
 use Rattle.server_links.proofs.Names.{place_is, unplaced}
-use Rattle.world_run.specs.WorldState.{WorldState, member_at, start}
+use Rattle.world_run.specs.WorldState.{WorldState, member_at, start_with}
 use Rattle.world_run.specs.Members.{client_of}
 use Rattle.world_run.specs.WorldHistory.{AllServiced, HoldsCurrent, OneHistory, PartHistory}
 use Rattle.world_run.specs.WorldHistory.{Serviced, put_on, said_by, said_to, taken_bytes}
@@ -89,8 +89,9 @@ part_history law l raw lines w events p raw_is = record {
 
 -- ---- after a schedule
 
-pub stands_start : (l : Limits) → WorldStands l (λ i. []) (λ n. []) [] (start l)
-stands_start l = record {
+pub stands_start : (l : Limits) (log_max : ℕ)
+    → WorldStands l (λ i. []) (λ n. []) [] (start_with l log_max)
+stands_start l log_max = record {
   said = λ n. [];
   links = record {
     history = record {
@@ -131,33 +132,34 @@ stands_after l (d ∷ more) before raw lines v w valid s e =
           grind (arith, append_assoc, stands_again)
     ] refl e
 
-pub stands_then : (l : Limits) (events : List Event) (w : WorldState) → Every IsValid events
-    → after (start l) events ≡ Some w
-    → WorldStands l (λ i. heard (start l) i events) (λ n. said_to n events)
-    (transcript (start l) events) w
-stands_then l events w valid e =
-    stands_after l events (λ i. []) (λ n. []) [] (start l) w valid (stands_start l) e
+pub stands_then : (l : Limits) (log_max : ℕ) (events : List Event) (w : WorldState)
+    → Every IsValid events → let first = start_with l log_max in after first events ≡ Some w
+    → WorldStands l (λ i. heard first i events) (λ n. said_to n events) (transcript first events) w
+stands_then l log_max events w valid e =
+    stands_after l events (λ i. []) (λ n. []) [] (start_with l log_max) w valid
+    (stands_start l log_max) e
 
-pub whole_history : Currency → (l : Limits) (events : List Event) (w : WorldState)
-    → Every IsValid events → after (start l) events ≡ Some w
-    → OneHistory l events (transcript (start l) events) w
-whole_history law l events w valid e =
-    let lines = transcript (start l) events in
+pub whole_history : Currency → (l : Limits) (log_max : ℕ) (events : List Event) (w : WorldState)
+    → Every IsValid events → let first = start_with l log_max in after first events ≡ Some w
+    → OneHistory first events (transcript first events) w
+whole_history law l log_max events w valid e =
+    let first = start_with l log_max in
+    let lines = transcript first events in
     let raw : List ℕ → List ℕ = λ n. said_to n events in
-    let s = stands_then l events w valid e in
-    let p = part_of l (λ i. heard (start l) i events) raw raw lines w s (λ n none. refl) in
+    let s = stands_then l log_max events w valid e in
+    let p = part_of l (λ i. heard first i events) raw raw lines w s (λ n none. refl) in
     record {
       history = s.links.history;
       serves = λ at lt.
           let link = at_place w.links.links at in
-          subst (λ d. Serves w.links.limits (heard (start l) at events) d
+          subst (λ d. Serves w.links.limits (heard first at events) d
           (read_on link.name lines) w.links.past link)
           (put_is w events s.said (λ i lt. (s.each i lt).1) s.rest link.name)
-          (serves (heard (start l) at events) (s.said link.name) (read_on link.name lines)
+          (serves (heard first at events) (s.said link.name) (read_on link.name lines)
           (session_at at w.links) (s.links.accounts at lt));
       unread = λ name none. s.links.unread name (unplaced name w.links none);
       told = told_exactly w.links.limits w.links.past s.links.history.legal;
       clients = all_serviced law l raw lines w p;
-      logs = logs_stand l events w valid (stands_start l) e;
-      clock = keeps_time events (start l) w tt e;
+      logs = logs_stand l log_max events w valid (stands_start l log_max) e;
+      clock = keeps_time events first w tt e;
     }

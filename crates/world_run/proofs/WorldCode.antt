@@ -109,8 +109,9 @@ named_gives most name move old new members at m m' lines r lines' found is g =
 
 -- of the world as its code has it
 pub named_turn : {A : Type 0} → (most : ℕ) (name : List ℕ) (move : Seat → Outcome Seat)
-    (now : WorldState) (old new : LinksState) (members : List MemberState) (at : ℕ) (m m' : MemberState)
-    (lines : List Line) (r : Result A WorldFault) (lines' : List Line) → world most old members ≡ now
+    (now : WorldState) (old new : LinksState) (members : List MemberState) (at : ℕ)
+    (m m' : MemberState) (lines : List Line) (r : Result A WorldFault) (lines' : List Line)
+    → world most old members ≡ now
     → client_named name now.members ≡ Some at → m ≡ slice_index_or members at m
     → Gives (move (seat old m)) lines r (seat new m') lines'
     → Gives (named_does (client_named name now.members) move now) lines r
@@ -143,7 +144,8 @@ named_shows most name move links members at m lines r lines' found is g =
 -- ---- a link is named
 
 pub owned : {A : Type 0} → (most : ℕ) (f : Option ℕ → Stepped) (link : List ℕ)
-    (move : Seat → Outcome Seat) (now : WorldState) (old new : LinksState) (members : List MemberState) (at : ℕ)
+    (move : Seat → Outcome Seat) (now : WorldState) (old new : LinksState)
+    (members : List MemberState) (at : ℕ)
     (m m' : MemberState) (lines : List Line) (r : Result A WorldFault) (lines' : List Line)
     → world most old members ≡ now → client_of_link link now.members ≡ Some at
     → f (Some at) ≡ client_does at move now → m ≡ slice_index_or members at m
@@ -159,7 +161,8 @@ pub unowned : {A : Type 0} → (most : ℕ) (f : Option ℕ → Stepped) (link :
     → world most old members ≡ now → client_of_link link now.members ≡ None
     → f None ≡ links_step e now → Gives (links.step old e) lines r new lines'
     → Gives (f (client_of_link link now.members)) lines r (world most new members) lines'
-unowned most f link e now old new members lines r lines' view none what g = grind (arith, links_give)
+unowned most f link e now old new members lines r lines' view none what g =
+    grind (arith, links_give)
 
 -- ---- a raw link is told what to say
 
@@ -257,7 +260,8 @@ module _ (name : List ℕ) (mode : ClientMode) (capacity : ℕ) (w : WorldState)
               → Gives (links_step (link_event.Raw (data_link name)) w) lines r
               (world w.log_max new w.members) lines'
           made r g =
-              links_give w.log_max (link_event.Raw (data_link name)) w.links new w.members lines r lines'
+              links_give w.log_max (link_event.Raw (data_link name)) w.links new w.members lines r
+              lines'
               (grind arith)
 
           pub client_stops : (fault : WorldFault) → members ≡ old.members

@@ -44,7 +44,7 @@ use Rattle.server_links.specs.OneHistory as links_kept
 use Rattle.server_links.specs.OneHistory.{History, PartServes, Serves, read_on}
 use Rattle.server_links.specs.Outcome.{Reached}
 use Rattle.world_run.specs.WorldState.{WorldState, client_named, client_of_link, data_link}
-use Rattle.world_run.specs.WorldState.{MemberState, member_at, start}
+use Rattle.world_run.specs.WorldState.{MemberState, member_at, start_with}
 use Rattle.world_run.specs.Members.{client_of}
 use Rattle.world_run.specs.ScheduleLog.{LogsStand}
 use Rattle.world_run.specs.WorldTranscript.{after, heard, transcript}
@@ -119,21 +119,21 @@ AllServiced w =
 
 -- ---- a schedule
 
--- after a schedule that met no fault
-pub record OneHistory (l : Limits) (events : List Event) (lines : List Line) (w : WorldState) : Type
-    0 where
-  pub history : History l lines w.links
+-- after a schedule that met no fault, from the world where it began
+pub record OneHistory (first : WorldState) (events : List Event) (lines : List Line)
+    (w : WorldState) : Type 0 where
+  pub history : History first.links.limits lines w.links
   pub serves : (at : ℕ) → at < length w.links.links →
       let link = at_place w.links.links at in
-      Serves w.links.limits (heard (start l) at events) (put_on w link.name events)
+      Serves w.links.limits (heard first at events) (put_on w link.name events)
       (read_on link.name lines) w.links.past link
   pub unread : (name : List ℕ) → place_of name w.links ≡ None → read_on name lines ≡ []
   -- each entry tells those that remembered a key, and drops the oldest keys past the limit alone
   pub told : ToldExactly w.links.limits w.links.past
   pub clients : AllServiced w
-  pub logs : LogsStand (start l) events lines w
+  pub logs : LogsStand first events lines w
   -- the clock begins at 0
-  pub clock : KeepsTime 0 (start l) events
+  pub clock : KeepsTime 0 first events
 
 -- where the last event met a fault, or was broken off
 pub record PartHistory (l : Limits) (events : List Event) (lines : List Line)
@@ -248,25 +248,26 @@ pub record Follows (l : Limits) (events : List Event) (lines : List Line) (w : W
 
 -- ---- the law
 
--- So it is after any schedule that meets no fault; and one more event, done or broken off, stays
--- within it.
+-- So it is after any schedule that meets no fault, whatever the limits of the server and of the
+-- clients' logs; and one more event, done or broken off, stays within it.
 abbrev pub HasOneHistory : Type 0
-HasOneHistory = (l : Limits) (events : List Event) (w : WorldState) → Every IsValid events
-    → after (start l) events ≡ Some w →
-    OneHistory l events (transcript (start l) events) w
+HasOneHistory = (l : Limits) (log_max : ℕ) (events : List Event) (w : WorldState)
+    → Every IsValid events → let first = start_with l log_max in after first events ≡ Some w →
+    OneHistory first events (transcript first events) w
     × ((event : Event) (new : WorldState) (printed : List Line) → IsValid event
     → Reached (step w event) new printed
-    → Follows l events (transcript (start l) events) w event printed new)
-    × AllHitsStand (start l) events
+    → Follows l events (transcript first events) w event printed new)
+    × AllHitsStand first events
     × ((at : ℕ) → at < length w.links.links → FlowDelivers w at)
 
 -- What one more event comes to, in a world that a schedule led to: what it printed is behind the
 -- lines before it, and it stays within the one history of that schedule.
 abbrev pub StaysInHistory : WorldState → Event → List Line → WorldState → List Line → Type 0
 StaysInHistory w event lines new lines' =
-    (l : Limits) (events : List Event) → Every IsValid events → after (start l) events ≡ Some w
+    (l : Limits) (log_max : ℕ) (events : List Event) → Every IsValid events
+    → let first = start_with l log_max in after first events ≡ Some w
     → (printed : List Line) × (lines' ≡ lines ++ printed)
-    × Follows l events (transcript (start l) events) w event printed new
+    × Follows l events (transcript first events) w event printed new
 
 -- each client has its link
 abbrev pub HaveLinks : WorldState → Type 0

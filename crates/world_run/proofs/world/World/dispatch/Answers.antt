@@ -27,8 +27,8 @@ invariant_of-self c = (
       over_step i.living (Now c.in-Now.moment) (world i.log_max i.links i.members.items)
       (world i.log_max c.set_clock.new.self i.members.items) c.args.lines.now (Ok (tt {0}))
       c.args.lines.now
-      (clock_gives i.log_max i.links c.set_clock.new.self i.members.items c.args.lines.now c.in-Now.moment
-      c.set_clock.ensures) c.self.invariant.0),
+      (clock_gives i.log_max i.links c.set_clock.new.self i.members.items c.args.lines.now
+      c.in-Now.moment c.set_clock.ensures) c.self.invariant.0),
   c.self.invariant.1,
 )
 
@@ -41,8 +41,8 @@ returns-in-Now c =
     c.args.lines.now) (sym c.in-Now.is)
     (subst (λ (w : WorldState). StepGives w (Now c.in-Now.moment) c.args.lines.now (Ok (tt {0})) v
     c.args.lines.now) c.self.view_is
-    (clock_gives i.log_max i.links c.set_clock.new.self i.members.items c.args.lines.now c.in-Now.moment
-    c.set_clock.ensures))
+    (clock_gives i.log_max i.links c.set_clock.new.self i.members.items c.args.lines.now
+    c.in-Now.moment c.set_clock.ensures))
 
 pub invariant_of-self-in-Tick : goal.invariant_of-self-in-Tick
 unfolding step

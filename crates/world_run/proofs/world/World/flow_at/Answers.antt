@@ -41,8 +41,9 @@ played c =
     let none = ap (λ n. client_of_link n ms) (sym c.name_at.ensures)
     ∙ ap (λ (v : WorldState). client_of_link c.name_at.result.now v.members) c.self.view_is
     ∙ sym c.client_of_link.ensures ∙ c.in-None.is in
-    code.unowned i.log_max (λ o. flow_step o name w) name (Over name moves.Flow) w i.links c.play_at.new.self
-    ms c.args.lines.now c.play_at.result c.play_at.new.lines refl none refl c.play_at.ensures
+    code.unowned i.log_max (λ o. flow_step o name w) name (Over name moves.Flow) w i.links
+    c.play_at.new.self ms c.args.lines.now c.play_at.result c.play_at.new.lines refl none refl
+    c.play_at.ensures
 
 pub returns-in-Some-clause-gives : goal.returns-in-Some-clause-gives
 returns-in-Some-clause-gives c = grind (arith, slice_set, gave)

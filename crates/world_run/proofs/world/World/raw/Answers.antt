@@ -34,8 +34,8 @@ gave c =
     c.raw.new.lines)
     (sym (ap (is_taken c.args.name.now) c.self.view_is ∙ sym c.is_taken.ensures
     ∙ c.if-is_taken.false))
-    (code.links_give i.log_max e i.links c.raw.new.self i.members.items c.args.lines.now c.raw.result
-    c.raw.new.lines c.raw.ensures))
+    (code.links_give i.log_max e i.links c.raw.new.self i.members.items c.args.lines.now
+    c.raw.result c.raw.new.lines c.raw.ensures))
 
 pub returns : goal.returns
 returns c = gave (goal.at.returns c).After-raw

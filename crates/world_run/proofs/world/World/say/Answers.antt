@@ -62,8 +62,8 @@ gave c =
     let name = c.args.name.now in
     let bytes = request_spelling c.args.words.now in
     let written : c.as_slice.result.now ≡ bytes = grind arith in
-    code.unowned i.log_max (λ o. said_step o name bytes w) name (Put name bytes) w i.links c.put.new.self
-    i.members.items c.args.lines.now c.put.result c.put.new.lines c.self.view_is
+    code.unowned i.log_max (λ o. said_step o name bytes w) name (Put name bytes) w i.links
+    c.put.new.self i.members.items c.args.lines.now c.put.result c.put.new.lines c.self.view_is
     (grind arith) refl
     (grind arith)
 
