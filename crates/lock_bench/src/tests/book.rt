@@ -8,7 +8,7 @@ use server_book::{Book, BookCall, BookRefusal, BookReply, Entry, Limits, Post, P
 use std::alloc::{AllocError, Global};
 use std::test::Fail;
 
-fn words_of(alloc: Global, text: &str) -> Result<Words, NoMemory> {
+pub(super) fn words_of(alloc: Global, text: &str) -> Result<Words, NoMemory> {
     let mut words = Words::new(alloc);
     for part in text.split(' ') {
         words.push(Octets::from_slice(alloc, part.as_bytes())?)?;

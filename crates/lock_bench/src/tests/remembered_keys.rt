@@ -35,6 +35,9 @@ c d: 0 2 a9 b19 /
 b e c a d: 0 0 /
 e: 0 4 a9 b19 c7 d79 /ab";
 
+// What it shows once they are back, and one key more is remembered.
+const BACK: &str = "0 5 a9 b19 c7 d79 /abc";
+
 fn keys_of(alloc: Global, words: &str) -> Result<Words, NoMemory> {
     let mut keys = Words::new(alloc);
     for word in words.split(' ') {
@@ -155,11 +158,7 @@ fn goes_back(alloc: Global, row: &str) -> Result<bool, NoMemory> {
     let whole = table.len() == before;
     table.remember(9, b"e")?;
     let back = shown(alloc, &table, 0)?;
-    Ok(
-        whole
-            && without.as_slice() == wanted.as_bytes()
-            && back.as_slice() == b"0 5 a9 b19 c7 d79 /abc",
-    )
+    Ok(whole && without.as_slice() == wanted.as_bytes() && back.as_slice() == BACK.as_bytes())
 }
 
 #[test]
