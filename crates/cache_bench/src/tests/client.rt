@@ -1,5 +1,5 @@
 //! A client over tables: each line is a call and its answer.
-ghost use Rattle.std.specs.Prelude.{◌≡◌, ◌<◌, IfOk, length};
+ghost use Rattle.std.specs.Prelude.{◌≡◌, ◌<◌, IfOk, IfSome, length};
 ghost use Rattle.shared_cache.specs.Laws.{IsCall};
 
 use super::super::calls::mode;
@@ -95,21 +95,43 @@ fn number_of(text: &str) -> u64 {
     text.parse::<u64>().unwrap_or(0)
 }
 
-// The call that a table names: `get` asks, `set`, `read`, `reset` and those named by their command
-// send, `poll` and `take` have a number, and any other is a value that was read.
+// The read of one key that a table names: `read` is its rest of life, others are as commands are.
+fn read_named(name: &str) -> Option<&'static [u8]> {
+    match name {
+        "read" => Some(b"TTL".as_slice()),
+        "pttl" => Some(b"PTTL".as_slice()),
+        "mget" => Some(b"MGET".as_slice()),
+        "strlen" => Some(b"STRLEN".as_slice()),
+        _ => None,
+    }
+}
+
+// The command that a table sends by this name.
+fn words_named(alloc: Global, name: &str, key: &str) -> Result<Option<Words>, NoMemory>
+    ensures { IfOk result (λ words. IfSome words (λ w. 0 < length w)) }
+{
+    if let Some(read) = read_named(name) {
+        return Ok(Some(command(alloc, read, key.as_bytes())?));
+    }
+    match name {
+        "set" => Ok(Some(set(alloc, key)?)),
+        "exists" => Ok(Some(exists(alloc, key)?)),
+        "reset" => Ok(Some(reset(alloc)?)),
+        _ => Ok(None),
+    }
+}
+
+// The call that a table names: `get` asks, a command's name sends it, `poll` and `take` have a
+// number, and any other is a value that was read.
 fn call_of(alloc: Global, text: &str) -> Result<ClientCall, Fail>
     ensures { IfOk result (λ c. IsCall c) }
 {
     let (name, rest) = text.split_once(" ").unwrap_or((text, ""));
+    if let Some(words) = words_named(alloc, name, rest)? {
+        return Ok(ClientCall::Send(words));
+    }
     match name {
         "get" => Ok(ClientCall::Ask(query(alloc, rest)?)),
-        "set" => Ok(ClientCall::Send(set(alloc, rest)?)),
-        "read" => Ok(ClientCall::Send(command(alloc, b"TTL", rest.as_bytes())?)),
-        "pttl" => Ok(ClientCall::Send(command(alloc, b"PTTL", rest.as_bytes())?)),
-        "mget" => Ok(ClientCall::Send(command(alloc, b"MGET", rest.as_bytes())?)),
-        "strlen" => Ok(ClientCall::Send(command(alloc, b"STRLEN", rest.as_bytes())?)),
-        "exists" => Ok(ClientCall::Send(exists(alloc, rest)?)),
-        "reset" => Ok(ClientCall::Send(reset(alloc)?)),
         "poll" => Ok(ClientCall::Poll(number_of(rest))),
         "take" => Ok(ClientCall::TakeOut(Wire::Main, number_of(rest))),
         "end" => Ok(ClientCall::End(Wire::Main)),
