@@ -24,7 +24,7 @@ pub fn read_lead(caching: &Caching, on: bool) -> Option<CachingWord>
     ensures { result ≡ read_lead caching.now on }
 {
     match caching {
-        Caching::OptIn => { if on { Some(CachingWord::Yes) } else { None } }
+        Caching::OptIn if on => Some(CachingWord::Yes),
         _ => None,
     }
 }
@@ -33,16 +33,7 @@ fn reads_some(alloc: Global, command: &Command) -> Result<bool, NoMemory>
     ensures { IfOk result (λ b. b ≡ is_some_key (read command.now)) }
 {
     let keys = keys_read(alloc, command)?;
-    Ok(is_some_key(keys.as_slice()))
-}
-
-fn is_some_key(keys: &[Octets]) -> bool
-    ensures { result ≡ is_some_key keys.now }
-{
-    match keys {
-        [] => false,
-        _ => true,
-    }
+    Ok(!keys.as_slice().is_empty())
 }
 
 #[tactic(auto, unfolding(crate::specs::Held::is_read))]
@@ -66,13 +57,9 @@ pub fn send_lead(
     ensures { IfOk result (λ l. l ≡ send_lead caching.now on (is_read words.now)) }
 {
     match caching {
-        Caching::OptOut => {
-            if on {
-                if is_read(alloc, words)? {
-                    Ok(Some(CachingWord::No))
-                } else {
-                    Ok(None)
-                }
+        Caching::OptOut if on => {
+            if is_read(alloc, words)? {
+                Ok(Some(CachingWord::No))
             } else {
                 Ok(None)
             }
