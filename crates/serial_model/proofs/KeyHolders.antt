@@ -17,10 +17,10 @@ use Rattle.command_words.specs.Laws.{signals}
 use Rattle.track_table.specs.declared.table.Held.{Held}
 use Rattle.id_set.specs.Ids.{with_id, without_id}
 use Rattle.track_table.specs.Table.{holders_of, is_held, remembered, without_key, freed_of}
-use Rattle.track_table.specs.Table.{without_connection, with_keys}
+use Rattle.track_table.specs.Table.{without_connection, with_keys, without_keys}
 use Rattle.track_table.proofs.Orders.{holders_remembered}
 use Rattle.serial_model.specs.Modes.{Memory, Remembers, Forgets}
-use Rattle.serial_model.specs.Tracking.{without_keys, without_signalled, remembering, told_of}
+use Rattle.serial_model.specs.Tracking.{without_signalled, remembering, told_of}
 use Rattle.serial_model.specs.Tracking.{group, drop_group, told_to, signal_group, ids_where, tells}
 use Rattle.serial_model.specs.Laws.{is_among, is_forgets}
 

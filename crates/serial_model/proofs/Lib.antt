@@ -1,5 +1,6 @@
 pub mod Each
 pub mod Tables
+pub mod KeptTables
 pub mod TableSize
 pub mod DueKeys
 pub mod Streams

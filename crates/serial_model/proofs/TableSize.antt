@@ -4,11 +4,10 @@ use Rattle.std.specs.Prelude.{filter}
 use Prim.Native.Nat.{suc}
 use Rattle.std.proofs.lemmas.List.{length-drop}
 use Rattle.track_table.specs.declared.table.Held.{Held}
-use Rattle.track_table.specs.Table.{without_key, freed_of, without_connection, kept}
+use Rattle.track_table.specs.Table.{without_key, freed_of, without_connection, kept, without_keys}
 use Rattle.serial_model.specs.declared.history.Limits.{Limits}
 use Rattle.serial_model.specs.declared.history.Entry.{Entry}
 use Rattle.serial_model.specs.declared.history.Entry.TheVariants.{Admit, Run, Tick, Take, Close}
-use Rattle.serial_model.specs.Tracking.{without_keys}
 use Rattle.serial_model.specs.History.{table, table_grown}
 
 module _ (p : Held → Bool) where

@@ -8,9 +8,9 @@ use Rattle.command_words.specs.declared.command.Signalled.{Signalled}
 use Rattle.track_table.specs.declared.table.Held.{Held}
 use Rattle.id_set.specs.Ids.{with_id, without_id}
 use Rattle.track_table.specs.Table.{holders_of, remembered, without_key, freed_of}
-use Rattle.track_table.specs.Table.{without_connection, with_keys, dropped, kept}
+use Rattle.track_table.specs.Table.{without_connection, with_keys, dropped, kept, without_keys}
 use Rattle.serial_model.specs.declared.mode.Mode.{Mode}
-use Rattle.serial_model.specs.Tracking.{without_keys, without_signalled, ids_where, Invalidation}
+use Rattle.serial_model.specs.Tracking.{without_signalled, ids_where, Invalidation}
 use Rattle.serial_model.specs.Tracking.{told_of, group, drop_group, told_to, signal_group}
 use Rattle.serial_model.specs.Each.{AllIn, AllRows, AllTo}
 use Rattle.serial_model.proofs.Each.{all_in, in_if, in_append, in_filter, in_take, in_drop}

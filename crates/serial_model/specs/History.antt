@@ -25,11 +25,11 @@ use Rattle.command_words.specs.Expiry.{without_due}
 use Rattle.serial_model.specs.declared.mode.Mode.{Mode}
 use Rattle.serial_model.specs.declared.mode.Runner.{Runner}
 use Rattle.track_table.specs.declared.table.Held.{Held}
-use Rattle.track_table.specs.Table.{without_connection, dropped, kept}
+use Rattle.track_table.specs.Table.{without_connection, dropped, kept, without_keys}
 use Rattle.serial_model.specs.Modes.{first_mode, hello, hello_reply, is_served_tracking}
 use Rattle.serial_model.specs.Modes.{OwnEffect, own_effect, Memory}
 use Rattle.serial_model.specs.Deadlines.{due_keys}
-use Rattle.serial_model.specs.Tracking.{Invalidation, group, drop_group, push_of, without_keys}
+use Rattle.serial_model.specs.Tracking.{Invalidation, group, drop_group, push_of}
 use Rattle.serial_model.specs.Tracking.{without_signalled, remembering, ids_where, signal_group}
 use Rattle.serial_model.specs.declared.history.Limits.{Limits}
 use Rattle.serial_model.specs.declared.history.Entry.{Entry}

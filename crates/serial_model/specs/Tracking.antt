@@ -10,14 +10,11 @@ use Rattle.resp_value.specs.Tree.{Tree, blob, array, null, trees_of}
 use Rattle.command_words.specs.declared.command.Signalled.{Signalled}
 use Rattle.command_words.specs.declared.command.Signalled.TheVariants.{Keys, All}
 use Rattle.track_table.specs.declared.table.Held.{Held}
-use Rattle.track_table.specs.Table.{holders_of, with_keys, without_key, without_connection}
+use Rattle.track_table.specs.Table.{holders_of, with_keys, without_key, without_keys}
+use Rattle.track_table.specs.Table.{without_connection}
 use Rattle.serial_model.specs.Modes.{Memory, Remembers, Forgets}
 
 -- ---- what is remembered: keys in order of age, each with its holders
-
-abbrev pub without_keys : List (List ℕ) → List Held → List Held
-without_keys [] rows = rows
-without_keys (key ∷ keys) rows = without_keys keys (without_key key rows)
 
 -- the remembered keys once those that a command signals are forgotten
 abbrev pub without_signalled : Signalled → List Held → List Held

@@ -34,7 +34,7 @@ use Rattle.server_book.specs.Connections.{IsId, connection_at, with_connection, 
 use Rattle.server_book.specs.Sendings.{queued, end_post}
 use Rattle.server_book.specs.Stores.{IsHeld}
 use Rattle.server_book.proofs.Sendings.{at_same, at_other, put_twice}
-use Rattle.server_book.proofs.Remembered.{table_of_past}
+use Rattle.serial_model.proofs.KeptTables.{is_table}
 use Rattle.track_table.specs.Table.{TableState}
 use Rattle.serial_model.proofs.Tables.{all_rows}
 use Rattle.serial_model.proofs.TableSize.{table_within}
@@ -152,7 +152,7 @@ module _ (l : Limits) (past : List Entry) (space : Space) (keys : TableState)
   there_live h live = grind arith
 
   pub is_held : IsHeld keys.limit keys.rows cs
-  is_held = grind (arith, table_of_past, table_within, all_rows, there_live, table_live)
+  is_held = grind (arith, is_table, table_within, all_rows, there_live, table_live)
 
   abbrev pub took : ℕ → ℕ → Connection
   took id m = let c = connection_at cs id in record c { queue = drop m c.queue }

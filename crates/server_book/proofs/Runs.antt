@@ -6,11 +6,11 @@ use Rattle.std.specs.Prelude.{◌==◌}
 use Rattle.std.proofs.lemmas.Bool.{cases_eq}
 use Rattle.std.proofs.lemmas.Grind.{flat_map-append}
 use Rattle.command_words.specs.Space.{Space}
-use Rattle.track_table.specs.Table.{TableState}
+use Rattle.track_table.specs.Table.{TableState, without_keys}
 use Rattle.serial_model.specs.declared.history.Limits.{Limits}
 use Rattle.serial_model.specs.declared.history.Entry.{Entry}
 use Rattle.serial_model.specs.declared.history.Entry.TheVariants as entry
-use Rattle.serial_model.specs.Tracking.{Invalidation, group, without_keys}
+use Rattle.serial_model.specs.Tracking.{Invalidation, group}
 use Rattle.serial_model.specs.History.{runs_on, latest, has_ended, unsent, posted, mode}
 use Rattle.serial_model.specs.History.{modes, routed, reply_of, sends, sent_to, sent_bytes, spelled}
 use Rattle.serial_model.specs.History.{Sending, Message, posts_of, made, ran, signals, table}

@@ -4,13 +4,12 @@ use Rattle.std.proofs.Common.{refl, arith, true, append-nil, max, ne_eqb}
 use Rattle.std.proofs.lemmas.Bool.{cases_eq}
 use Rattle.command_words.specs.Expiry.{without_due}
 use Rattle.command_words.specs.Space.{Space}
-use Rattle.track_table.specs.Table.{TableState}
+use Rattle.track_table.specs.Table.{TableState, without_keys}
 use Rattle.serial_model.specs.declared.history.BookCall.TheVariants.{Tick}
 use Rattle.serial_model.specs.declared.history.BookReply.TheVariants.{Ticked, Quiet}
 use Rattle.serial_model.specs.declared.history.Limits.{Limits}
 use Rattle.serial_model.specs.declared.history.Entry.{Entry}
 use Rattle.serial_model.specs.declared.history.Entry.TheVariants as entry
-use Rattle.serial_model.specs.Tracking.{without_keys}
 use Rattle.serial_model.specs.History.{latest, has_ended, unsent, posted, sends, sent_to}
 use Rattle.serial_model.specs.History.{expired}
 use Rattle.serial_model.specs.Steps.{book_step}

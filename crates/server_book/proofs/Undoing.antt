@@ -11,7 +11,8 @@ use Rattle.track_table.specs.declared.table.Held.{Held}
 use Rattle.serial_model.specs.declared.history.Post.{Post}
 use Rattle.serial_model.specs.declared.mode.Mode.{Mode}
 use Rattle.serial_model.specs.History.{Sending, routed, spelled}
-use Rattle.serial_model.specs.Tracking.{AreApart, group, without_keys}
+use Rattle.serial_model.specs.Tracking.{AreApart, group}
+use Rattle.track_table.specs.Table.{without_keys}
 use Rattle.serial_model.proofs.TableSize.{without_keys_within}
 use Rattle.server_book.specs.Places.{Connection}
 use Rattle.server_book.specs.Connections.{ArePosted, ConnectionsState, IsId}
@@ -19,13 +20,13 @@ use Rattle.server_book.specs.declared.plan.Plan.{Plan}
 use Rattle.server_book.specs.RunSendings.{GoesBack, before_run, with_mode}
 use Rattle.server_book.specs.Sendings.{before_posts, message_post, modes_of, queued, with_sendings}
 use Rattle.server_book.specs.Stores.{AreThere, IsHeld}
-use Rattle.server_book.proofs.Remembered.{without_keys_table}
+use Rattle.serial_model.proofs.KeptTables.{table_without_keys}
 
 -- the table is one of connections that are there, where keys leave it
 pub held_left : (limit : ℕ) (keys : List (List ℕ)) (rows : List Held) (cs ds : List Connection)
     → length cs ≤ length ds → IsHeld limit rows cs → IsHeld limit (without_keys keys rows) ds
 held_left limit keys rows cs ds le h =
-    grind (arith, without_keys_table, without_keys_within, without_keys_all, all_rows, id_longer)
+    grind (arith, table_without_keys, without_keys_within, without_keys_all, all_rows, id_longer)
 
 -- the holders of the keys that left were told
 module _ (n id : ℕ) (old now : ConnectionsState) (keys : List (List ℕ)) (rows : List Held)

@@ -1,8 +1,8 @@
 -- What a Run does to the connections, and how that is undone.
 use Rattle.std.specs.Prelude.{◌≡◌, ◌⊎◌, ℕ, List, [], ◌∷◌, ◌++◌, length}
-use Rattle.track_table.specs.Table.{TableState}
+use Rattle.track_table.specs.Table.{TableState, without_keys}
 use Rattle.serial_model.specs.declared.mode.Mode.{Mode}
-use Rattle.serial_model.specs.Tracking.{group, without_keys}
+use Rattle.serial_model.specs.Tracking.{group}
 use Rattle.serial_model.specs.History.{routed, spelled}
 use Rattle.server_book.specs.Places.{Connection}
 use Rattle.server_book.specs.declared.plan.Plan.{Plan}

@@ -1,9 +1,9 @@
 //! What the server keeps beside its history, all of which follows from it.
 ghost use Rattle.std.specs.Prelude.{◌≡◌, ◌<◌, [], OnOk, OnErr, IfOk, None};
 ghost use Rattle.std.specs.FinMap.{empty};
-ghost use Rattle.track_table.specs.Table.{dropped, kept, with_keys};
+ghost use Rattle.track_table.specs.Table.{dropped, kept, with_keys, without_keys};
 ghost use Rattle.serial_model.specs.History.{routed};
-ghost use Rattle.serial_model.specs.Tracking.{AreApart, drop_group, group, told_to, without_keys};
+ghost use Rattle.serial_model.specs.Tracking.{AreApart, drop_group, group, told_to};
 ghost use Rattle.server_book.specs.Connections.{IsId};
 ghost use Rattle.server_book.specs.Plans.{IsSound, kept_by, told_by};
 ghost use Rattle.server_book.specs.RunSendings.{GoesBack, before_run, command_told, reply_sent};

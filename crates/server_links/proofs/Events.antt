@@ -12,7 +12,7 @@ use Rattle.serial_model.specs.declared.history.Entry.{Entry}
 use Rattle.serial_model.specs.declared.history.Entry.TheVariants as entry
 use Rattle.serial_model.specs.declared.history.BookCall.TheVariants as call
 use Rattle.serial_model.specs.History.{admitted}
-use Rattle.serial_model.specs.Steps.{Turn, book_step}
+use Rattle.serial_model.specs.Steps.{Turn}
 use Rattle.serial_model.proofs.Turning.{admit_step}
 use Rattle.server_links.specs.LinkEvent.{LinkEvent, Raw, Put, Over, Now, Tick}
 use Rattle.server_links.specs.declared.link.LinkMove.TheVariants as moves

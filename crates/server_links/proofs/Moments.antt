@@ -1,5 +1,5 @@
 -- What stands of a world once its clock is set, and after a Tick.
-use Rattle.std.proofs.Common.{◌≡◌, ◌+◌, ◌<◌, ℕ, List, [], ◌∷◌, ◌++◌, false, None, length, refl, sym}
+use Rattle.std.proofs.Common.{◌≡◌, ◌+◌, ◌<◌, ℕ, List, [], ◌∷◌, ◌++◌, None, length, refl, sym}
 use Rattle.std.proofs.Common.{ap, subst, ◌∙◌, append-nil, Ok, inl, Result, arith}
 use Rattle.std.specs.Prelude.{max}
 use Rattle.serial_model.specs.declared.history.Limits.{Limits}

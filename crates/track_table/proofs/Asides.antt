@@ -17,11 +17,11 @@ use Rattle.std.specs.Map.{keys_of, lookup}
 use Rattle.std.specs.List.Sorted.{IsStrictlySortedBy}
 use Rattle.track_table.specs.declared.table.Held.{Held}
 use Rattle.track_table.specs.declared.aside.Parted.{Parted}
-use Rattle.track_table.specs.Table.{holders_of, without_key}
+use Rattle.track_table.specs.Table.{holders_of, without_key, without_keys}
 use Rattle.track_table.specs.Order.{AreHeld, AreOrdered, HasNo, IsTable}
 use Rattle.track_table.specs.Places.{nobody, IsPlace, NoneBefore, key_at}
 use Rattle.track_table.specs.Holdings.{IsWhole, KeepsOthers, Sets}
-use Rattle.track_table.specs.Aside.{without_all, first_key, parted_of, is_next, put_in, all_put}
+use Rattle.track_table.specs.Aside.{first_key, parted_of, is_next, put_in, all_put}
 use Rattle.track_table.proofs.Orders.{apart, same_bytes, table_without_key}
 use Rattle.track_table.proofs.Parts.{whole_front, whole_without_key, without_key_parts}
 use Rattle.track_table.proofs.Releases.{itself}
@@ -104,7 +104,7 @@ put_more [] rows = omega arith
 put_more (p ∷ ps) rows = omega (arith, put_one p (all_put ps rows), put_more ps rows)
 
 pub last_without : (keys : List (List ℕ)) (key : List ℕ) (rows : List Held)
-    → without_all (keys ++ key ∷ []) rows ≡ without_key key (without_all keys rows)
+    → without_keys (keys ++ key ∷ []) rows ≡ without_key key (without_keys keys rows)
 last_without [] key rows = refl
 last_without (k ∷ keys) key rows = last_without keys key (without_key k rows)
 

@@ -4,12 +4,6 @@ use Rattle.std.specs.Prelude.{Option, Some, None, if◌then◌else◌}
 use Rattle.std.specs.Str.{bytes_eq}
 use Rattle.track_table.specs.declared.table.Held.{Held}
 use Rattle.track_table.specs.declared.aside.Parted.{Parted}
-use Rattle.track_table.specs.Table.{without_key}
-
--- none of these keys has a row any more
-abbrev pub without_all : List (List ℕ) → List Held → List Held
-without_all [] rows = rows
-without_all (key ∷ keys) rows = without_all keys (without_key key rows)
 
 -- ---- a row that goes
 

@@ -33,6 +33,11 @@ with_keys id (key ∷ keys) rows = with_keys id keys (remembered id key rows)
 abbrev pub without_key : List ℕ → List Held → List Held
 without_key key rs = filter (λ r. not (bytes_eq key r.key)) rs
 
+-- none of these keys is remembered any more
+abbrev pub without_keys : List (List ℕ) → List Held → List Held
+without_keys [] rows = rows
+without_keys (key ∷ keys) rows = without_keys keys (without_key key rows)
+
 abbrev pub freed_of : ℕ → Held → Held
 freed_of id r = record r { holders = without_id id r.holders }
 

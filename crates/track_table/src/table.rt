@@ -4,12 +4,12 @@ ghost use Rattle.std.specs.Prelude.{◌+◌, ◌++◌, IfOk, drop, false, length
 ghost use Rattle.std.specs.List.{list_any};
 ghost use Rattle.track_table.specs.Table.{TableState, all_released, dropped, holders_of, kept};
 ghost use Rattle.track_table.specs.Table.{released, remembered, with_keys, without_connection};
-ghost use Rattle.track_table.specs.Table.{without_key};
+ghost use Rattle.track_table.specs.Table.{without_key, without_keys};
 ghost use Rattle.id_set.specs.Ids.{Ascend};
 ghost use Rattle.track_table.specs.Order.{IsTable};
 ghost use Rattle.track_table.specs.Holdings.{Covers, KeepsOthers, has_key};
 ghost use Rattle.track_table.specs.Places.{IsPlace};
-ghost use Rattle.track_table.specs.Aside.{HasRoom, all_put, first_key, without_all};
+ghost use Rattle.track_table.specs.Aside.{HasRoom, all_put, first_key};
 
 use super::aside::{Aside, Parted, put_all_back};
 use super::holdings::Holdings;
@@ -329,7 +329,7 @@ impl TrackTable {
     // Whether any of these keys has a holder.
     fn remembers_any(&self, keys: &[Octets]) -> bool
         requires { IsTable self.now.rows }
-        ensures { result ≡ false → without_all keys.now self.now.rows ≡ self.now.rows }
+        ensures { result ≡ false → without_keys keys.now self.now.rows ≡ self.now.rows }
     {
         for (place, key) in keys.iter().enumerate() {
             if !self.holders(key.as_slice()).is_empty() {
@@ -342,7 +342,7 @@ impl TrackTable {
     /// No connection holds these keys any more. They can be put back, which takes no memory.
     pub fn set_aside(&mut self, keys: &[Octets]) -> Result<Aside, NoMemory>
         ensures limit { self.new.limit ≡ self.old.limit }
-        ensures rows { OnOk result (self.new.rows ≡ without_all keys.now self.old.rows) }
+        ensures rows { OnOk result (self.new.rows ≡ without_keys keys.now self.old.rows) }
         ensures back { IfOk result (λ aside. all_put aside.parted self.new.rows ≡ self.old.rows) }
         ensures room { IfOk result (λ aside. HasRoom aside self.new.rows) }
         ensures err { OnErr result (self.new.rows ≡ self.old.rows) }

@@ -9,13 +9,13 @@ use Rattle.command_words.specs.declared.command.Signalled.{Signalled}
 use Rattle.command_words.specs.declared.command.Signalled.TheVariants.{Keys, All}
 use Rattle.track_table.specs.declared.table.Held.{Held}
 use Rattle.track_table.specs.Table.{remembered, without_key, freed_of, is_held}
-use Rattle.track_table.specs.Table.{without_connection, with_keys}
+use Rattle.track_table.specs.Table.{without_connection, with_keys, without_keys}
 use Rattle.serial_model.specs.declared.history.Limits.{Limits}
 use Rattle.serial_model.specs.declared.history.Entry.{Entry}
 use Rattle.serial_model.specs.declared.history.Entry.TheVariants.{Admit, Run, Tick, Take, Close}
 use Rattle.serial_model.specs.Each.{AllIn}
 use Rattle.serial_model.specs.Modes.{Memory, Remembers, Forgets}
-use Rattle.serial_model.specs.Tracking.{without_keys, without_signalled, remembering}
+use Rattle.serial_model.specs.Tracking.{without_signalled, remembering}
 use Rattle.serial_model.specs.History.{table, table_then, table_grown, expired, signals, made}
 use Rattle.serial_model.proofs.Each.{all_in, in_filter, in_drop}
 use Rattle.tracking_laws.specs.Drops.{is_remembered, rows_at_read, since}

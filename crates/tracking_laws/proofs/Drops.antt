@@ -10,7 +10,7 @@ use Rattle.serial_model.specs.declared.history.Entry.TheVariants.{Admit, Run, Ti
 use Rattle.serial_model.specs.History.{table_grown}
 use Rattle.serial_model.proofs.TableSize.{table_within}
 use Rattle.tracking_laws.specs.Drops.{DropsOldest, since}
-use Rattle.tracking_laws.proofs.Kept.{is_table, is_table_grown}
+use Rattle.serial_model.proofs.KeptTables.{is_table, is_table_grown}
 use Rattle.tracking_laws.proofs.Ages.{first_before_rest, grown_in_order}
 
 full_where_dropped : (limit : ℕ) (rows : List Held) → 0 < length (dropped limit rows)

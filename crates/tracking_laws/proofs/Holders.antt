@@ -10,10 +10,9 @@ use Rattle.std.proofs.lemmas.Bool.Decides.{nat_tests}
 use Rattle.id_set.specs.Ids.{with_id, without_id}
 use Rattle.track_table.specs.declared.table.Held.{Held}
 use Rattle.track_table.specs.Table.{holders_of, is_held, remembered, without_key, freed_of}
-use Rattle.track_table.specs.Table.{without_connection, with_keys}
+use Rattle.track_table.specs.Table.{without_connection, with_keys, without_keys}
 use Rattle.track_table.specs.Order.{HasNo, AreOrdered}
 use Rattle.track_table.proofs.Orders.{holders_remembered}
-use Rattle.serial_model.specs.Tracking.{without_keys}
 use Rattle.serial_model.specs.Laws.{is_among}
 use Rattle.serial_model.proofs.KeyHolders.{holds, keys_apart}
 

@@ -1,4 +1,3 @@
-pub mod Kept
 pub mod Holders
 pub mod Counts
 pub mod Remembering

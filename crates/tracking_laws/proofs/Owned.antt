@@ -18,8 +18,8 @@ use Rattle.serial_model.specs.Laws.{is_among}
 use Rattle.serial_model.proofs.KeyHolders.{holds}
 use Rattle.tracking_laws.specs.Told.{is_signalled, is_flush, keys_read, reads_key, remembers}
 use Rattle.tracking_laws.specs.Causes.{RememberedIsRead, GoneIsForgotten}
-use Rattle.tracking_laws.proofs.Kept.{is_table, is_table_then, is_table_grown}
-use Rattle.tracking_laws.proofs.Kept.{table_without_signalled}
+use Rattle.serial_model.proofs.KeptTables.{is_table, is_table_then, is_table_grown}
+use Rattle.serial_model.proofs.KeptTables.{table_without_signalled}
 use Rattle.tracking_laws.proofs.Holders.{holds_with_keys, holds_without_keys, holds_freed}
 use Rattle.tracking_laws.proofs.Holders.{held_drop, none_behind}
 use Rattle.tracking_laws.proofs.Remembering.{own_memory}

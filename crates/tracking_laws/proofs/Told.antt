@@ -21,7 +21,7 @@ use Rattle.tracking_laws.specs.Told.{once, times_told, is_signalled, ToldByName}
 use Rattle.tracking_laws.specs.Told.{ToldIsRemembered, ToldOnce, is_flush, reads_key, remembers}
 use Rattle.tracking_laws.proofs.Remembering.{signals_or_reads}
 use Rattle.tracking_laws.proofs.Owned.{grown_is, before_read, then_is}
-use Rattle.tracking_laws.proofs.Kept.{is_table, is_table_then, is_table_grown}
+use Rattle.serial_model.proofs.KeptTables.{is_table, is_table_then, is_table_grown}
 use Rattle.tracking_laws.proofs.Counts.{told_append, group_once, drop_once, flush_names_none}
 
 module _ (c : ℕ) (key : List ℕ) where

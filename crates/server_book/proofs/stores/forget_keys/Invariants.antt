@@ -1,5 +1,5 @@
 use Rattle.std.proofs.Common.{◌≡◌, length}
-use Rattle.serial_model.specs.Tracking.{without_keys}
+use Rattle.track_table.specs.Table.{without_keys}
 use Rattle.server_book.proofs.stores.forget_keys.Given as goal
 
 abbrev pub invariant-keys : goal.invariant-keys

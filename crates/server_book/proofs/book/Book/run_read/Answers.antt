@@ -4,7 +4,7 @@ use Rattle.serial_model.specs.declared.history.Entry.TheVariants as entry
 use Rattle.serial_model.specs.declared.history.BookCall.TheVariants.{Run}
 use Rattle.serial_model.specs.declared.mode.Runner.{Runner}
 use Rattle.serial_model.specs.History.{runner}
-use Rattle.serial_model.specs.Tracking.{without_keys}
+use Rattle.track_table.specs.Table.{without_keys}
 use Rattle.serial_model.proofs.DueKeys.{due_apart}
 use Rattle.server_book.specs.BookState.{Agrees, BookState, HasRoom, IsAccepted}
 use Rattle.server_book.specs.Connections.{ConnectionsState}

@@ -5,7 +5,8 @@ use Rattle.serial_model.specs.declared.history.Entry.TheVariants as entry
 use Rattle.serial_model.specs.declared.history.BookCall.TheVariants.{Tick}
 use Rattle.serial_model.specs.Deadlines.{due_keys}
 use Rattle.serial_model.specs.History.{expired, routed}
-use Rattle.serial_model.specs.Tracking.{group, without_keys}
+use Rattle.serial_model.specs.Tracking.{group}
+use Rattle.track_table.specs.Table.{without_keys}
 use Rattle.serial_model.proofs.DueKeys.{due_apart, none_due}
 use Rattle.server_book.specs.BookState.{Agrees, BookState, HasRoom}
 use Rattle.server_book.specs.Connections.{ConnectionsState}

@@ -1,6 +1,5 @@
 use Rattle.std.proofs.Common.{◌≡◌, sym, ap, subst, ◌∙◌, arith}
-use Rattle.track_table.specs.Table.{TableState}
-use Rattle.serial_model.specs.Tracking.{without_keys}
+use Rattle.track_table.specs.Table.{TableState, without_keys}
 use Rattle.server_book.specs.Stores.{IsHeld}
 use Rattle.server_book.proofs.Remembered.{table_left}
 use Rattle.server_book.proofs.Sendings.{mode_same, on_err}

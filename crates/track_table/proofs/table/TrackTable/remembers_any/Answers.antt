@@ -1,7 +1,6 @@
 use Rattle.std.proofs.Common.{◌<◌, [], ap, sym, ◌∙◌, arith, length, take}
 use Rattle.std.proofs.lemmas.List.{get_or_read, take_more}
-use Rattle.track_table.specs.Table.{holders_of, without_key}
-use Rattle.track_table.specs.Aside.{without_all}
+use Rattle.track_table.specs.Table.{holders_of, without_key, without_keys}
 use Rattle.track_table.proofs.Asides.{last_without, nobody_left, none_held}
 use Rattle.track_table.proofs.table.TrackTable.remembers_any.Goals as goal
 
@@ -13,7 +12,7 @@ loop-place-preserved c =
     let lt : k < length keys = omega (arith, c.loop-place-test.true) in
     let key = c.as_slice.ensures
     ∙ get_or_read keys k c.index-keys-place.result lt c.index-keys-place.is [] in
-    ap (λ l. without_all l rows) (take_more keys k [] lt)
+    ap (λ l. without_keys l rows) (take_more keys k [] lt)
     ∙ last_without (take k keys) _ rows
     ∙ (λ i. without_key (sym key i) (c.loop-place.invariant i))
     ∙ none_held c.as_slice.result.now rows c.requires.held

@@ -1,7 +1,7 @@
 use Rattle.std.proofs.Common.{◌<◌, [], ap, sym, ◌∙◌, arith, length, take}
 use Rattle.std.proofs.lemmas.List.{get_or_read, take_more}
-use Rattle.track_table.specs.Table.{without_key}
-use Rattle.track_table.specs.Aside.{all_put, without_all}
+use Rattle.track_table.specs.Table.{without_key, without_keys}
+use Rattle.track_table.specs.Aside.{all_put}
 use Rattle.track_table.proofs.Asides.{last_without, room_for}
 use Rattle.track_table.proofs.table.TrackTable.set_aside.Goals as goal
 
@@ -25,7 +25,7 @@ loop-place-preserved c =
           c.in-Ok.ensures.rows
           ∙ (λ i. without_key (key i) (c.loop-place.invariant.rows i))
           ∙ sym (last_without (take k keys) _ rows)
-          ∙ ap (λ l. without_all l rows) (sym (take_more keys k [] lt));
+          ∙ ap (λ l. without_keys l rows) (sym (take_more keys k [] lt));
       back = c.in-Ok.ensures.back ∙ c.loop-place.invariant.back;
     }
 

@@ -3,7 +3,7 @@ use Rattle.std.proofs.Common.{◌-◌, ℕ, List, [], ◌∷◌, length}
 use Rattle.command_words.specs.declared.command.Signalled.{Signalled}
 use Rattle.command_words.specs.declared.command.Signalled.TheVariants.{Keys, All}
 use Rattle.track_table.specs.declared.table.Held.{Held}
-use Rattle.track_table.specs.Table.{with_keys, without_key, remembered}
+use Rattle.track_table.specs.Table.{with_keys, without_key, remembered, without_keys}
 use Rattle.track_table.specs.Order.{IsTable}
 use Rattle.track_table.proofs.Orders.{table_remembered, table_without_key, table_drop}
 use Rattle.track_table.proofs.Orders.{table_without_connection}
@@ -11,7 +11,7 @@ use Rattle.serial_model.specs.declared.history.Limits.{Limits}
 use Rattle.serial_model.specs.declared.history.Entry.{Entry}
 use Rattle.serial_model.specs.declared.history.Entry.TheVariants.{Admit, Run, Tick, Take, Close}
 use Rattle.serial_model.specs.Modes.{Memory, Remembers, Forgets}
-use Rattle.serial_model.specs.Tracking.{without_keys, without_signalled, remembering}
+use Rattle.serial_model.specs.Tracking.{without_signalled, remembering}
 use Rattle.serial_model.specs.History.{table, table_then, table_grown, expired, signals, made}
 
 none : IsTable []
