@@ -52,7 +52,7 @@ own_first n f fs rest false is (Some v) at =
     ap (λ b. cond b ((f.0, v) ∷ fs) (f ∷ field_set n v fs)) is
     ∙ ap (λ r. f ∷ r) (ap (λ o. field_back n o fs) (sym at) ∙ rest)
 
-same_set : (n : List ℕ) (fs : Pairs) → field_back n (field_get n fs) fs ≡ fs
+pub same_set : (n : List ℕ) (fs : Pairs) → field_back n (field_get n fs) fs ≡ fs
 same_set n [] = refl
 same_set n (f ∷ fs) =
     own_first n f fs (same_set n fs) (bytes_eq n f.0) refl (field_get n fs) refl

@@ -2,32 +2,38 @@
 use Rattle.std.proofs.Common.{◌≡◌, ◌∙◌, refl, sym, ap, ℕ, ℤ, List, [], ◌∷◌, ◌++◌, Bool}
 use Rattle.std.proofs.Common.{true, false, cond, map, take, length}
 use Rattle.std.proofs.Common.{Option, None, Some, Result, Ok, Err}
-use Rattle.std.specs.Prelude.{◌||◌, is_some, nat_lt}
+use Rattle.std.specs.Prelude.{◌||◌, ◌&&◌, is_some, nat_lt, not, pos, codes}
 use Rattle.std.specs.FinMap.{get, insert, contains_key}
 use Rattle.std.specs.Fmt.{signed_decimal}
 use Rattle.std.specs.Option.{option_map, option_and_then}
 use Rattle.std.specs.Str.{bytes_eq}
 use Rattle.std.proofs.lemmas.Slice.Eq.{bytes_eq-Decides}
 use Rattle.resp_value.specs.declared.value.Value.{Value}
+use Rattle.resp_value.specs.declared.value.Value.TheVariants.{Number, Null, Simple}
 use Rattle.resp_value.specs.Tree.{in_turn}
 use Rattle.command_words.specs.declared.command.Command.{Command}
 use Rattle.command_words.specs.declared.command.Command.TheVariants as command
+use Rattle.command_words.specs.declared.command.SetWhen.TheVariants.{Always, Nx, Xx}
 use Rattle.command_words.specs.declared.written.Written.TheVariants.{Keys}
-use Rattle.command_words.specs.Effect.{Effect, replied, wrong_type}
+use Rattle.command_words.specs.Effect.{Effect, replied, wrote, wrong_type, no_such_key}
 use Rattle.command_words.specs.Effects.{effect, string_effect, hash_effect, key_effect}
-use Rattle.command_words.specs.Hashes.{Pairs, field_get, field_set, on_fields, put_fields}
-use Rattle.command_words.specs.Hashes.{hset_row, hincrby_row, field_sum, set_all}
+use Rattle.command_words.specs.Hashes.{Pairs, field_get, field_set, on_fields}
+use Rattle.command_words.specs.Hashes.{put_fields, hset_row, hincrby_row, field_sum}
+use Rattle.command_words.specs.Hashes.{set_all}
 use Rattle.command_words.specs.Keys.{expire_effect, expiry_after, expiry_at, persist_effect}
 use Rattle.command_words.specs.Queries.{written, names}
 use Rattle.command_words.specs.Space.{Content, Text, Fields, Held, Space, content_at, deadline_at}
 use Rattle.command_words.specs.Space.{with_deadline}
-use Rattle.command_words.specs.Strings.{on_text, append_row, or_empty}
-use Rattle.command_set.specs.Kept.{kept, hash_kept, named_kept, text_kept, expiry_kept, life_kept}
+use Rattle.command_words.specs.Strings.{on_text, append_row, or_empty, put_text}
+use Rattle.command_set.specs.Aside.{writes_over}
+use Rattle.command_set.specs.Kept.{kept, new_kept, hash_kept, named_kept, text_kept, expiry_kept}
+use Rattle.command_set.specs.Kept.{life_kept}
 use Rattle.command_set.specs.Priors.{Kept, Whole, Life, Size, Field, again, field_back}
 use Rattle.command_set.specs.Priors.{put_back, what_held}
 use Rattle.command_set.proofs.FieldsBack.{named_back, fields_back, back_same}
 use Rattle.command_set.proofs.Moves.{at_insert, row_moves}
 use Rattle.command_set.proofs.TakenBack.{alike, get_again, get_changed, held_again, wholes_back}
+use Rattle.command_set.proofs.TakenBack.{IsOwn}
 
 its_own : (key : List ℕ) → bytes_eq key key ≡ true
 its_own key = (bytes_eq-Decides key key).1 refl
@@ -35,10 +41,10 @@ its_own key = (bytes_eq-Decides key key).1 refl
 -- from a keyspace where one key alone is other than it was
 module _ (key : List ℕ) (s t : Space)
     (others : (q : List ℕ) → bytes_eq q key ≡ false → get t q ≡ get s q) where
-  pub one_back : (k : Kept) → held_again k (get t key) ≡ get s key
+  pub one_back : (k : Kept) → IsOwn k → held_again k (get t key) ≡ get s key
       → put_back ((key, k) ∷ []) t ≡ s
-  one_back k is =
-      alike _ _ (λ q. get_again key k t q
+  one_back k own is =
+      alike _ _ (λ q. get_again key k own t q
       ∙ (ap (λ r. cond (bytes_eq q key) r (get t q)) is ∙ by q (bytes_eq q key) refl))
     where
       by : (q : List ℕ) (b : Bool) → bytes_eq q key ≡ b → cond b (get s key) (get t q) ≡ get s q
@@ -46,7 +52,7 @@ module _ (key : List ℕ) (s t : Space)
       by q false e = others q e
 
   pub whole_back : put_back (what_held (key ∷ []) s) t ≡ s
-  whole_back = one_back (Whole (get s key)) refl
+  whole_back = one_back (Whole (get s key)) tt refl
 
 -- one of two rows
 choose : (x y : Effect) (key : List ℕ) (k : Kept) (r : Option Held) (b : Bool)
@@ -84,7 +90,7 @@ one_name : (key n : List ℕ) (o : Option (List ℕ)) (gs : Pairs) (d : Option �
     → (q : List ℕ) → get (again key (Field n o) rest) q
     ≡ cond (bytes_eq q key) (Some (hash (field_back n o gs) d)) (get t q)
 one_name key n o gs d t rest all q =
-    get_again key (Field n o) rest q
+    get_again key (Field n o) tt rest q
     ∙ (ap (λ r. cond (bytes_eq q key) (held_again (Field n o) r) (get rest q)) own
     ∙ (ap (cond (bytes_eq q key) (Some (hash (field_back n o gs) d))) (all q)
     ∙ once (bytes_eq q key) _ _ (get t q)))
@@ -239,7 +245,7 @@ expiry_back : (key : List ℕ) (expiry : Option ℕ) (s : Space)
     → put_back (expiry_kept key expiry s) ((expire_effect key expiry s).space) ≡ s
 expiry_back key None s others = whole_back key s _ others
 expiry_back key (Some until) s others =
-    one_back key s _ others (Life (deadline_at key s))
+    one_back key s _ others (Life (deadline_at key s)) tt
     (choose _ _ key (Life (deadline_at key s)) (get s key) (contains_key s key)
     (life_back key s (with_deadline key (Some until) s) (Some until) (given key (Some until) s))
     (life_same key s))
@@ -248,7 +254,7 @@ persist_back : (key : List ℕ) (s : Space)
     → ((q : List ℕ) → bytes_eq q key ≡ false → get ((persist_effect key s).space) q ≡ get s q)
     → put_back (life_kept key s) ((persist_effect key s).space) ≡ s
 persist_back key s others =
-    one_back key s _ others (Life (deadline_at key s))
+    one_back key s _ others (Life (deadline_at key s)) tt
     (choose _ _ key (Life (deadline_at key s)) (get s key) (is_some (deadline_at key s))
     (life_back key s (with_deadline key None s) None (given key None s))
     (life_same key s))
@@ -264,7 +270,7 @@ append_back : (key value : List ℕ) (s : Space) (content : Option Content)
 append_back key value s None at others = whole_back key s _ others
 append_back key value s (Some (Fields fs)) at others = refl
 append_back key value s (Some (Text v)) at others =
-    one_back key s _ others (Size (length v))
+    one_back key s _ others (Size (length v)) tt
     (choose _ _ key (Size (length v)) (get s key) (nat_lt 16777216 (length (v ++ value))) long more)
   where
     text : List ℕ → Held
@@ -284,6 +290,23 @@ append_back key value s (Some (Text v)) at others =
         ∙ ap (λ b. cond b (Some (text (v ++ value))) (get s key)) (its_own key))
         ∙ (ap (λ w. Some (text w)) (take_front v value) ∙ sym had)
 
+-- ---- a key that is written only where it is missing
+
+new_back : (key : List ℕ) (s t : Space) (r : Option Held) → get s key ≡ r
+    → ((q : List ℕ) → bytes_eq q key ≡ false → get t q ≡ get s q)
+    → (is_some (get s key) ≡ true → t ≡ s)
+    → put_back (new_kept key r s) t ≡ s
+new_back key s t None at others stays = whole_back key s t others
+new_back key s t (Some h) at others stays = stays (ap is_some at)
+
+-- where a key is not moved, all stays
+stays_put : (has same : Bool) (s : Space) (moves : Effect) → (not same && has) ≡ false
+    → (cond has (cond same (replied (Simple (codes "OK")) s) moves) (replied no_such_key s)).space
+    ≡ s
+stays_put true true s moves beside = refl
+stays_put true false s moves beside = absurd cc
+stays_put false same s moves beside = refl
+
 -- ---- each command
 
 apart : (b : Bool) → b ≡ false → (b || false) ≡ false
@@ -291,31 +314,45 @@ apart b e = ap (λ b. b || false) e
 
 -- what a command kept of the keys that it writes leads back from its row
 pub kept_back : (c : Command) (keys : List (List ℕ)) (s : Space) (m : ℕ) → written c ≡ Keys keys
-    → put_back (kept c keys s m) ((effect c s m).space) ≡ s
-unfolding kept effect string_effect hash_effect key_effect
-kept_back (command.HSet key words) keys s m is =
+    → writes_over c s m ≡ false → put_back (kept c keys s m) ((effect c s m).space) ≡ s
+unfolding kept effect string_effect hash_effect key_effect writes_over
+kept_back (command.Set key value Always life) keys s m is beside = absurd cc
+kept_back (command.Set key value Xx life) keys s m is beside = absurd cc
+kept_back (command.Set key value Nx life) keys s m is beside =
+    new_back key s _ (get s key) refl
+    (λ q e. (row_moves (command.Set key value Nx life) s m).stays q (apart (bytes_eq q key) e))
+    (λ there. ap (λ b. (cond (not b) (effect (command.Set key value Always life) s m)
+    (replied Null s)).space) there)
+kept_back (command.SetNx key value) keys s m is beside =
+    new_back key s _ (get s key) refl
+    (λ q e. (row_moves (command.SetNx key value) s m).stays q (apart (bytes_eq q key) e))
+    (λ there. ap (λ b. (cond b (replied (Number (pos 0)) s)
+    (wrote (Number (pos 1)) (key ∷ []) (put_text key value None s))).space) there)
+kept_back (command.Rename a b) keys s m is beside =
+    stays_put (contains_key s a) (bytes_eq a b) s _ beside
+kept_back (command.HSet key words) keys s m is beside =
     hset_back key (in_turn words) s (content_at key s) refl
     (λ q e. (row_moves (command.HSet key words) s m).stays q (apart (bytes_eq q key) e))
-kept_back (command.HIncrBy key field n) keys s m is =
+kept_back (command.HIncrBy key field n) keys s m is beside =
     hincr_back key field s (content_at key s) (λ fs. field_sum field n fs) refl
     (λ q e. (row_moves (command.HIncrBy key field n) s m).stays q (apart (bytes_eq q key) e))
-kept_back (command.Append key value) keys s m is =
+kept_back (command.Append key value) keys s m is beside =
     append_back key value s (content_at key s) refl
     (λ q e. (row_moves (command.Append key value) s m).stays q (apart (bytes_eq q key) e))
-kept_back (command.Persist key) keys s m is =
+kept_back (command.Persist key) keys s m is beside =
     persist_back key s
     (λ q e. (row_moves (command.Persist key) s m).stays q (apart (bytes_eq q key) e))
-kept_back (command.Expire key n) keys s m is =
+kept_back (command.Expire key n) keys s m is beside =
     expiry_back key (expiry_after m 1000 n) s
     (λ q e. (row_moves (command.Expire key n) s m).stays q (apart (bytes_eq q key) e))
-kept_back (command.PExpire key n) keys s m is =
+kept_back (command.PExpire key n) keys s m is beside =
     expiry_back key (expiry_after m 1 n) s
     (λ q e. (row_moves (command.PExpire key n) s m).stays q (apart (bytes_eq q key) e))
-kept_back (command.ExpireAt key n) keys s m is =
+kept_back (command.ExpireAt key n) keys s m is beside =
     expiry_back key (expiry_at m 1000 n) s
     (λ q e. (row_moves (command.ExpireAt key n) s m).stays q (apart (bytes_eq q key) e))
-kept_back (command.PExpireAt key n) keys s m is =
+kept_back (command.PExpireAt key n) keys s m is beside =
     expiry_back key (expiry_at m 1 n) s
     (λ q e. (row_moves (command.PExpireAt key n) s m).stays q (apart (bytes_eq q key) e))
-kept_back c keys s m is =
+kept_back c keys s m is beside =
     wholes_back keys s _ (λ q out. (row_moves c s m).stays q (ap (λ w. names w q) is ∙ out))

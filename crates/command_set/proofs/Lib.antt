@@ -4,4 +4,6 @@ pub mod Steps
 pub mod PastDeadlines
 pub mod FieldsBack
 pub mod TakenBack
+pub mod MovedAside
 pub mod KeptBack
+pub mod TakenOut

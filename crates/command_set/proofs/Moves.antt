@@ -188,7 +188,7 @@ expire : (key : List ℕ) (expiry : Option ℕ) (s : Space)
     → Row (Keys (key ∷ [])) (deadline key expiry) s (expire_effect key expiry s)
 expire key expiry s = either (contains_key s key) (row (expires key expiry s)) (row same)
 
-move : (a b : List ℕ) (s : Space)
+pub move : (a b : List ℕ) (s : Space)
     → Moves (Keys (a ∷ b ∷ [])) (deadline b (deadline_at a s)) s (renamed a b s)
 move a b s = by (get s a) refl
   where

@@ -2,13 +2,15 @@
 use Rattle.std.specs.Prelude.{ℕ, List, [], ◌∷◌, length, map}
 use Rattle.std.specs.Prelude.{Option, Some, None}
 use Rattle.command_words.specs.declared.command.Command.{Command}
-use Rattle.command_words.specs.declared.command.Command.TheVariants.{HSet, HIncrBy, Append, Persist}
+use Rattle.command_words.specs.declared.command.Command.TheVariants.{Set, SetNx, HSet, HIncrBy}
+use Rattle.command_words.specs.declared.command.Command.TheVariants.{Append, Persist, Rename}
 use Rattle.command_words.specs.declared.command.Command.TheVariants.{Expire, PExpire, ExpireAt}
 use Rattle.command_words.specs.declared.command.Command.TheVariants.{PExpireAt}
 use Rattle.command_words.specs.Hashes.{Pairs, field_get}
 use Rattle.command_words.specs.Keys.{expiry_after, expiry_at}
 use Rattle.command_words.specs.Queries.{keys_in_turn}
-use Rattle.command_words.specs.Space.{Content, Text, Fields, Space, content_at, deadline_at}
+use Rattle.command_words.specs.Space.{Content, Text, Fields, Held, Space}
+use Rattle.command_words.specs.Space.{content_at, deadline_at, held_at}
 use Rattle.command_set.specs.Priors.{Priors, Life, Size, Field, what_held}
 
 -- the fields of these names
@@ -36,8 +38,17 @@ abbrev pub expiry_kept : List ℕ → Option ℕ → Space → Priors
 expiry_kept key None space = what_held (key ∷ []) space
 expiry_kept key (Some until) space = life_kept key space
 
--- what a command that writes these keys keeps of them
+-- of a key that is missing that it is; nothing of one that is there, which stays
+abbrev pub new_kept : List ℕ → Option Held → Space → Priors
+new_kept key None space = what_held (key ∷ []) space
+new_kept key (Some held) space = []
+
+-- what a command that writes these keys keeps of them, where it doesn't write over all that they
+-- hold; of SET only that with NX doesn't, and RENAME changes nothing then
 unfoldable pub kept : Command → List (List ℕ) → Space → ℕ → Priors
+kept (Set key value when life) keys space moment = new_kept key (held_at key space) space
+kept (SetNx key value) keys space moment = new_kept key (held_at key space) space
+kept (Rename a b) keys space moment = []
 kept (HSet key words) keys space moment =
     hash_kept key (keys_in_turn words) (content_at key space) space
 kept (HIncrBy key field n) keys space moment =

@@ -2,5 +2,8 @@ pub mod InStep
 pub mod NewDeadlines
 pub mod Laws
 pub mod Priors
+pub mod Aside
 pub mod Kept
 pub mod Runs
+pub mod Moving
+pub mod Rows

@@ -5,7 +5,9 @@ use Rattle.std.specs.FinMap.{insert, remove}
 use Rattle.std.specs.Option.{option_map, option_and_then}
 use Rattle.command_words.specs.Hashes.{Pairs, field_set, field_remove}
 use Rattle.command_words.specs.Space.{Content, Text, Fields, Held, Space, held_at}
-use Rattle.command_words.specs.Space.{changed_at, with_deadline}
+use Rattle.command_words.specs.Space.{changed_at, deadline_at, with_deadline}
+use Rattle.command_words.specs.Keys.{renamed}
+use Rattle.keyspace.specs.Places.{Placed, all_placed, with_placed_of}
 use Rattle.keyspace.specs.Plain.{held_of}
 use Rattle.command_set.specs.declared.prior.Prior.{Prior}
 use Rattle.command_set.specs.declared.prior.Kept as code
@@ -14,13 +16,16 @@ use Rattle.command_set.specs.declared.waiting.Parts.{Parts}
 use Rattle.command_set.specs.declared.waiting.Waiting.{Waiting}
 use Rattle.command_set.specs.declared.waiting.Waiting.TheVariants.{Nothing, Run'}
 
--- What is kept of a key: all that it held, if it was there; its deadline; the length of its string;
--- a field of its hash with the value, if the field was there.
+-- What is kept of a key: all that it held, if it was there; that another key holds it now; its
+-- deadline; the length of its string; a field of its hash with the value, if the field was there;
+-- fields that were taken out of its hash.
 pub data Kept : Type 0 where
   Whole : Option Held → Kept
+  Moved : List ℕ → Kept
   Life : Option ℕ → Kept
   Size : ℕ → Kept
   Field : List ℕ → Option (List ℕ) → Kept
+  Taken : List Placed → Kept
 
 -- keys, with what is kept of them
 abbrev pub Priors : Type 0
@@ -28,9 +33,11 @@ Priors = List (List ℕ × Kept)
 
 abbrev pub kept_of : code.Kept → Kept
 kept_of (variants.Whole held) = Whole (option_map held_of held)
+kept_of (variants.Moved other) = Moved other
 kept_of (variants.Life at) = Life at
 kept_of (variants.Size len) = Size len
 kept_of (variants.Field field value) = Field field value
+kept_of (variants.Taken fields) = Taken (all_placed fields.items)
 
 abbrev pub prior_of : Prior → List ℕ × Kept
 prior_of prior = (prior.key, kept_of prior.kept)
@@ -63,9 +70,11 @@ with_field_of key field value =
 abbrev pub again : List ℕ → Kept → Space → Space
 again key (Whole None) space = remove space key
 again key (Whole (Some held)) space = insert space key held
+again key (Moved other) space = renamed other key space
 again key (Life at) space = with_deadline key at space
 again key (Size len) space = with_text_of key len space
 again key (Field field value) space = with_field_of key field value space
+again key (Taken fields) space = with_placed_of key fields space
 
 -- from right to left: what was kept last is so again first
 abbrev pub put_back : Priors → Space → Space
@@ -76,13 +85,28 @@ put_back (p ∷ ps) space = again p.0 p.1 (put_back ps space)
 abbrev pub life_of : Option Held → Option ℕ
 life_of held = option_and_then (λ h. h.deadline) held
 
+-- a deadline, where the key is there
+abbrev pub if_held : Option ℕ → Option Held → Option ℕ
+if_held at None = None
+if_held at (Some held) = at
+
 -- the deadline that a key has once this is so again
-abbrev pub life_again : Kept → Option Held → Option ℕ
-life_again (Whole held) now = life_of held
-life_again (Life at) None = None
-life_again (Life at) (Some held) = at
-life_again (Size len) now = life_of now
-life_again (Field field value) now = life_of now
+abbrev pub life_again : List ℕ → Kept → Space → Option ℕ
+life_again key (Whole held) space = life_of held
+life_again key (Moved other) space = deadline_at other space
+life_again key (Life at) space = if_held at (held_at key space)
+life_again key (Size len) space = deadline_at key space
+life_again key (Field field value) space = deadline_at key space
+life_again key (Taken fields) space = deadline_at key space
+
+-- the keys that change once this is so again
+abbrev pub touched : List ℕ → Kept → List (List ℕ)
+touched key (Whole held) = key ∷ []
+touched key (Moved other) = other ∷ key ∷ []
+touched key (Life at) = key ∷ []
+touched key (Size len) = key ∷ []
+touched key (Field field value) = key ∷ []
+touched key (Taken fields) = key ∷ []
 
 -- all that these keys hold
 abbrev pub what_held : List (List ℕ) → Space → Priors

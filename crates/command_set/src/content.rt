@@ -1,9 +1,10 @@
 //! How a part of what a key holds comes to be as it was.
 ghost use Rattle.std.specs.Prelude.{◌≡◌, IfOk, OnOk, OnErr, take};
+ghost use Rattle.keyspace.specs.Places.{all_placed, with_placed, with_placed_of};
 ghost use Rattle.keyspace.specs.Plain.{content_of};
 ghost use Rattle.command_set.specs.Priors.{shortened, with_field, with_text_of, with_field_of};
 
-use keyspace::{Content, Keyspace};
+use keyspace::{Content, Keyspace, Placed};
 use resp_value::{NoMemory, Octets};
 use std::alloc::Global;
 
@@ -82,6 +83,34 @@ pub(crate) fn put_field_of(
 {
     match space.content_mut(key) {
         Some(content) => put_field(content, field, value),
+        None => Ok(()),
+    }
+}
+
+/// Fields that were taken out of a hash go to their places again; a string stays.
+fn put_taken(content: &mut Content, taken: &[Placed]) -> Result<(), NoMemory>
+    ensures ok { OnOk result (content_of content.new
+        ≡ with_placed (all_placed taken.now) (content_of content.old)) }
+    ensures err { OnErr result (content.new ≡ content.old) }
+{
+    match content {
+        Content::Text(_) => Ok(()),
+        Content::Fields(fields) => fields.put_back(taken),
+    }
+}
+
+/// Fields that were taken out of the key's hash go to their places again.
+pub(crate) fn put_taken_of(
+    space: &mut Keyspace,
+    key: &[u8],
+    taken: &[Placed],
+) -> Result<(), NoMemory>
+    ensures ok { OnOk result
+        (space.new ≡ with_placed_of key.now (all_placed taken.now) space.old) }
+    ensures err { OnErr result (space.new ≡ space.old) }
+{
+    match space.content_mut(key) {
+        Some(content) => put_taken(content, taken),
         None => Ok(()),
     }
 }

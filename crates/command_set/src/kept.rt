@@ -1,9 +1,9 @@
 //! What a command keeps of the keys that it writes, so that its run can be taken back.
 ghost use Rattle.std.specs.Prelude.{◌≡◌, ◌++◌, [], ◌∷◌, IfOk, OnOk};
-ghost use Rattle.command_words.specs.Space.{content_at};
+ghost use Rattle.command_words.specs.Space.{content_at, held_at};
 ghost use Rattle.command_words.specs.Queries.{keys_in_turn};
 ghost use Rattle.command_set.specs.Kept.{expiry_kept, hash_kept, kept, life_kept, named_kept};
-ghost use Rattle.command_set.specs.Kept.{text_kept};
+ghost use Rattle.command_set.specs.Kept.{new_kept, text_kept};
 ghost use Rattle.command_set.specs.Priors.{priors_of, what_held};
 
 use super::prior::{Kept, Prior, push_priors};
@@ -72,6 +72,17 @@ fn named_in_turn(
         left = others;
     }
     Ok(out)
+}
+
+/// What a command keeps that writes only where the key is missing.
+fn kept_by_new(alloc: Global, space: &Keyspace, key: &Octets) -> Result<Vec<Prior>, NoMemory>
+    ensures { IfOk result (λ v. priors_of v.items
+        ≡ new_kept key.now (held_at key.now space.now) space.now) }
+{
+    match space.get(key.as_slice()) {
+        None => wholes(alloc, space, slice::from_ref(key)),
+        Some(_) => Ok(Vec::new(alloc)),
+    }
 }
 
 fn kept_by_hset(
@@ -157,7 +168,8 @@ fn kept_by_expiry(
     }
 }
 
-/// What a command that writes these keys keeps of them.
+/// What a command that writes these keys keeps of them, where it doesn't write over all that they
+/// hold.
 #[tactic(auto, unfolding(crate::specs::Kept::kept))]
 pub(crate) fn kept_by(
     alloc: Global,
@@ -170,6 +182,8 @@ pub(crate) fn kept_by(
         ≡ kept command.now keys.now space.now moment) }
 {
     match command {
+        Command::Set(key, _, _, _) | Command::SetNx(key, _) => kept_by_new(alloc, space, key),
+        Command::Rename(_, _) => Ok(Vec::new(alloc)),
         Command::HSet(key, words) => kept_by_hset(alloc, space, key, words.as_slice()),
         Command::HIncrBy(key, field, _) => kept_by_hincrby(alloc, space, key, field),
         Command::Append(key, _) => kept_by_append(alloc, space, key),

@@ -1,15 +1,19 @@
 //! Every data command by one call, with the index of deadlines in step.
 #![tactic(auto)]
 
+mod aside;
 mod content;
 mod database;
 mod due;
+mod keeping;
 mod kept;
 mod laws;
+mod moving;
 mod prior;
 mod run;
 mod run_due;
 mod step;
+mod take_due;
 mod touched;
 mod waiting;
 

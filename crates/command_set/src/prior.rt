@@ -6,24 +6,27 @@ ghost use Rattle.keyspace.specs.Plain.{held_of};
 ghost use Rattle.command_set.specs.InStep.{InStep};
 ghost use Rattle.command_set.specs.NewDeadlines.{deadline};
 ghost use Rattle.command_set.specs.Priors.{again, kept_of, life_again, prior_of, priors_of};
-ghost use Rattle.command_set.specs.Priors.{put_back, what_held};
+ghost use Rattle.command_set.specs.Priors.{put_back, touched, what_held};
 
-use super::content::{put_field_of, shorten_text};
+use super::content::{put_field_of, put_taken_of, shorten_text};
 use super::step::{add_new, settle, settle_new};
 use super::touched::{deadline, deadline_of, deadlines_of};
 use expiry::{Deadline, DeadlineIndex};
-use keyspace::{Held, Keyspace};
+use keyspace::{Held, Keyspace, Placed};
 use resp_value::{NoMemory, Octets, Words};
 use std::alloc::Global;
 
-/// What is kept of a key: all that it held, if it was there; its deadline; the length of its
-/// string; a field of its hash with the value, if the field was there.
+/// What is kept of a key: all that it held, if it was there; that another key holds it now; its
+/// deadline; the length of its string; a field of its hash with the value, if the field was there;
+/// fields that were taken out of its hash.
 #[derive(Drop)]
 pub enum Kept {
     Whole(Option<Held>),
+    Moved(Octets),
     Life(Option<u64>),
     Size(usize),
     Field(Octets, Option<Octets>),
+    Taken(Vec<Placed>),
 }
 
 /// A key, and what a run keeps of it.
@@ -69,16 +72,19 @@ pub(crate) fn push_priors(
 
 /// The deadline that the key has once what was kept of it is so again.
 fn life_again(space: &Keyspace, prior: &Prior) -> Option<u64>
-    ensures { result ≡ life_again (kept_of prior.now.kept) (held_at prior.now.key space.now) }
+    ensures { result ≡ life_again prior.now.key (kept_of prior.now.kept) space.now }
 {
     match &prior.kept {
         Kept::Whole(None) => None,
         Kept::Whole(Some(held)) => held.deadline,
+        Kept::Moved(other) => deadline_of(space, other.as_slice()),
         Kept::Life(at) => match space.get(prior.key.as_slice()) {
             None => None,
             Some(_) => *at,
         },
-        Kept::Size(_) | Kept::Field(_, _) => deadline_of(space, prior.key.as_slice()),
+        Kept::Size(_) | Kept::Field(_, _) | Kept::Taken(_) => {
+            deadline_of(space, prior.key.as_slice())
+        }
     }
 }
 
@@ -94,13 +100,30 @@ fn put_one(alloc: Global, space: &mut Keyspace, prior: &Prior) -> Result<(), NoM
             Ok(())
         }
         Kept::Whole(Some(held)) => space.put(key, held.copy()?),
+        Kept::Moved(other) => {
+            space.rename(other.as_slice(), key)?;
+            Ok(())
+        }
         Kept::Life(at) => {
             space.set_deadline(key, *at);
             Ok(())
         }
         Kept::Size(len) => shorten_text(alloc, space, key, *len),
         Kept::Field(field, value) => put_field_of(space, key, field.as_slice(), value),
+        Kept::Taken(fields) => put_taken_of(space, key, fields.as_slice()),
     }
+}
+
+/// The keys that change once what was kept is so again.
+fn touched(alloc: Global, prior: &Prior) -> Result<Words, NoMemory>
+    ensures { IfOk result (λ keys. keys ≡ touched prior.now.key (kept_of prior.now.kept)) }
+{
+    let mut keys = Words::new(alloc);
+    if let Kept::Moved(other) = &prior.kept {
+        keys.push(other.copy()?)?;
+    }
+    keys.push(prior.key.copy()?)?;
+    Ok(keys)
 }
 
 /// What was kept of the key is so again, and the index follows.
@@ -115,8 +138,7 @@ fn put_back_one(
     ensures err { OnErr result (space.new ≡ space.old) }
     ensures step { InStep index.new space.new }
 {
-    let mut keys = Words::new(alloc);
-    keys.push(prior.key.copy()?)?;
+    let keys = touched(alloc, prior)?;
     let before = deadlines_of(alloc, space, keys.as_slice())?;
     let new = deadline(&prior.key, life_again(space, prior))?;
     add_new(index, &new)?;

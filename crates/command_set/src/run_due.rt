@@ -5,24 +5,22 @@ ghost use Rattle.command_words.specs.Effects.{effect, has_row};
 ghost use Rattle.command_words.specs.Expiry.{without_due};
 ghost use Rattle.command_words.specs.Queries.{written};
 ghost use Rattle.command_set.specs.InStep.{InStep};
-ghost use Rattle.command_set.specs.Priors.{priors_of, put_back, shown};
+ghost use Rattle.command_set.specs.Priors.{shown};
 ghost use Rattle.command_set.specs.declared.waiting.Waiting.TheVariants.{Nothing};
 ghost use Rattle.command_set.specs.Runs.{AreDue, IsTurn, taken_back};
 
 use super::database::{Change, Database, Expired, Turned, Undo};
-use super::due::{drop_due, due_keys};
-use super::kept::kept_by;
-use super::prior::{Prior, push_priors};
-use super::run::{run_data, run_on};
+use super::due::due_keys;
+use super::keeping::run_kept;
+use super::run::run_data;
+use super::take_due::take_due;
 use super::waiting::{Parts, Waiting, push_waiting};
-use command_words::{Command, Done};
-use expiry::DeadlineIndex;
-use keyspace::Keyspace;
+use command_words::Command;
 use resp_value::{NoMemory, Octets};
 use std::alloc::Global;
 use std::mem;
 
-/// The keys that are due go; what they hold is kept first.
+/// The keys that are due go, and what they held is kept.
 pub(crate) fn expire(alloc: Global, parts: &mut Parts, moment: u64) -> Result<Expired, NoMemory>
     requires step { InStep parts.old.index parts.old.space }
     requires settled { parts.old.waiting ≡ Nothing }
@@ -34,11 +32,15 @@ pub(crate) fn expire(alloc: Global, parts: &mut Parts, moment: u64) -> Result<Ex
     ensures step { InStep parts.new.index parts.new.space }
 {
     let keys = due_keys(alloc, &parts.index, moment)?;
-    let mut priors = Vec::new(alloc);
-    push_priors(&parts.space, keys.as_slice(), &mut priors)?;
     let place = Box::new(alloc, Waiting::Nothing)?;
-    drop_due(&mut parts.space, &mut parts.index, moment);
-    let change = Change::Keys(Vec::new(alloc), priors, place);
+    let due = take_due(
+        alloc,
+        &mut parts.space,
+        &mut parts.index,
+        moment,
+        keys.as_slice(),
+    )?;
+    let change = Change::Keys(Vec::new(alloc), due, place);
     let undo = Undo { change };
     Ok(Expired { keys, undo })
 }
@@ -57,32 +59,6 @@ pub(crate) fn one_written(command: &Command) -> Option<&Octets>
         Command::ExpireAt(key, _) | Command::PExpireAt(key, _) => Some(key),
         _ => None,
     }
-}
-
-/// A command that writes these keys, with what it keeps of them.
-fn run_kept(
-    alloc: Global,
-    space: &mut Keyspace,
-    index: &mut DeadlineIndex,
-    command: &Command,
-    moment: u64,
-    keys: &[Octets],
-) -> Result<(Done, Vec<Prior>), NoMemory>
-    requires has { has_row command.now ≡ true }
-    requires step { InStep index.old space.old }
-    requires keys { written command.now ≡ Keys keys.now }
-    ensures reply { IfOk result (λ r. r.0.reply
-        ≡ (effect command.now space.old moment).reply) }
-    ensures signals { IfOk result (λ r. r.0.signalled
-        ≡ (effect command.now space.old moment).signalled) }
-    ensures space { OnOk result (space.new ≡ (effect command.now space.old moment).space) }
-    ensures back { IfOk result (λ r. put_back (priors_of r.1.items) space.new ≡ space.old) }
-    ensures err { OnErr result (space.new ≡ space.old) }
-    ensures step { InStep index.new space.new }
-{
-    let kept = kept_by(alloc, space, command, moment, keys)?;
-    let done = run_on(alloc, space, index, command, moment, keys)?;
-    Ok((done, kept))
 }
 
 /// A command that writes these keys. What it changes and what the due keys hold is kept, so that
@@ -106,10 +82,14 @@ pub(crate) fn run_keys(
     ensures step { InStep parts.new.index parts.new.space }
 {
     let expired = due_keys(alloc, &parts.index, moment)?;
-    let mut due = Vec::new(alloc);
-    push_priors(&parts.space, expired.as_slice(), &mut due)?;
     let place = Box::new(alloc, Waiting::Nothing)?;
-    drop_due(&mut parts.space, &mut parts.index, moment);
+    let due = take_due(
+        alloc,
+        &mut parts.space,
+        &mut parts.index,
+        moment,
+        expired.as_slice(),
+    )?;
     match run_kept(
         alloc,
         &mut parts.space,

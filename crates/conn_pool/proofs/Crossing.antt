@@ -16,6 +16,12 @@ use Rattle.command_set.proofs.waiting.Waiting.TheLaws.TheKnot.{crosses}
 use Rattle.keyspace.proofs.space.Keyspace.TheSendSync as space
 use Rattle.expiry.proofs.index.DeadlineIndex.TheSendSync as index
 use Rattle.track_table.proofs.table.TrackTable.TheSendSync as table
+use Rattle.resp_value.proofs.octets.Octets.TheSendSync as octets
+use Rattle.resp_value.proofs.octets.Words.TheSendSync as words
+use Rattle.command_words.proofs.command.Command.TheSendSync as command
+use Rattle.command_words.proofs.command.Signalled.TheSendSync as signalled
+use Rattle.serial_model.proofs.effect.EntryKind.TheSendSync as kind
+use Rattle.resp_value.proofs.value.Pairs.TheLaws.TheKnot as value
 use Rattle.server_book.proofs.connections.Connections.TheSendSync as connections
 use Rattle.server_book.proofs.log.Log.TheSendSync as log
 use Rattle.command_set.specs.contracts.waiting.Parts as parts
@@ -34,6 +40,7 @@ use Rattle.conn_pool.specs.declared.dispatcher.Opening as opening
 use Rattle.edge_links.specs.declared.links.Acceptor as acceptor
 use Rattle.edge_links.specs.declared.links.Link as link
 use Rattle.turn_lock.specs.contracts.lock.TurnLock as lock_row
+use Rattle.serial_model.specs.contracts.effect.Effect as effect
 use Rattle.serial_model.specs.contracts.history.Limits as limits
 use Rattle.serial_model.specs.contracts.history.Entry as entry
 use Rattle.serial_model.specs.contracts.history.BookCall as call
@@ -63,12 +70,47 @@ database_send = view_send _ _ _ _ _ database_inside
 stores_send : IsSend stores.the_row
 stores_send = search (sendable, database_send, table.the_send, connections.the_send) depth 20
 
+ruleset values = (
+  sendable,
+  value.crosses,
+  std.frees,
+  vec.the_send,
+  vec.the_sync,
+  heap.the_send,
+  heap.the_sync,
+  octets.the_send,
+)
+
+effect_send : IsSend effect.the_row
+effect_send = declared_send effect.the_type (
+  search sendable depth 10,
+  (
+    search sendable depth 10,
+    (
+      search (sendable, command.the_send, as_row_send) depth 20,
+      (
+        search (sendable, words.the_send) depth 10,
+        (
+          search values depth 20 fits 100000,
+          (
+            search (sendable, signalled.the_send) depth 20,
+            (search (sendable, kind.the_send) depth 20, tt),
+          ),
+        ),
+      ),
+    ),
+  ),
+)
+
 book_inside : IsSend book_parts.the_row
 book_inside = declared_send book_parts.the_type (
   search sendable depth 10,
   (
     search (sendable, log.the_send) depth 10,
-    (search (sendable, stores_send) depth 10, tt),
+    (
+      search (sendable, stores_send) depth 10,
+      (search (sendable, effect_send, as_row_send) depth 20, tt),
+    ),
   ),
 )
 

@@ -12,7 +12,7 @@ use Rattle.serial_model.specs.declared.history.Limits.{Limits}
 use Rattle.serial_model.specs.declared.history.Entry.{Entry}
 use Rattle.serial_model.specs.declared.history.Entry.TheVariants.{Take}
 use Rattle.serial_model.specs.History.{has_ended, is_admitted, stream, taken, unsent}
-use Rattle.serial_model.proofs.Streams.{stream_take}
+use Rattle.serial_model.proofs.Streams.{stream_take, unsent_live}
 use Rattle.seat_turns.specs.Own.{past_of, IsWithin, Grows}
 use Rattle.resp_value.specs.declared.octets.Octets.{Octets}
 use Rattle.shared_book.specs.Turns.{Place, Turn, Gives, Rests, Refuses, Takes, limits_in, limits_of}
@@ -44,11 +44,6 @@ module _ (l : Limits) (id : ℕ) where
   own_take : (n m : ℕ) → cond (id == id) (n + m) n ≡ n + m
   own_take n m = ap (λ b. cond b (n + m) n) (eq-eqb id id refl)
 
-  unsent_is : (past : List Entry) → has_ended l id past ≡ false
-      → unsent l id past ≡ drop (taken l id past) (stream l id past)
-  unfolding unsent
-  unsent_is past live = grind arith
-
   nothing_left : (n : ℕ) (xs : List ℕ) → drop n xs ≡ [] → length xs ≤ n
   nothing_left n xs h = omega (arith, ap length h, length-drop n xs)
 
@@ -57,7 +52,7 @@ module _ (l : Limits) (id : ℕ) where
       → bytes ≡ take most (unsent l id past) → length bytes < most
       → length (stream l id (Take id most ∷ past)) ≤ taken l id (Take id most ∷ past)
   short_taken past most bytes live is short =
-      grind (arith, unsent_is, length-drop, stream_take, own_take, length-take)
+      grind (arith, unsent_live, length-drop, stream_take, own_take, length-take)
 
 module _ (id : ℕ) (link0 link1 : Option (List ℕ)) (old new : Place)
     (d : Delivering id link0 link1 old new) where
@@ -132,7 +127,7 @@ module _ (id : ℕ) (link0 link1 : Option (List ℕ)) (old new : Place)
       let none = ap (λ l. unsent l id (past_of last)) (sym limits_same) ∙ r.none in
       let before = stream_begins l id (past_of old) (past_of last)
       (grows_past old last d.turns grows) in
-      grind (arith, nothing_left, unsent_is)
+      grind (arith, nothing_left, unsent_live)
 
   pub delivers_refused : (r : Refusal) (last : Place) → Refuses r id new last
       → DeliversPart (ended_by r) id link0 link1 old last

@@ -1,8 +1,8 @@
 -- What a Run tells of before its reply stands ahead of the reply.
 use Rattle.std.proofs.Common.{◌≡◌, ◌+◌, ◌<◌, ◌≤◌, ℕ, zero, suc, List, [], ◌∷◌, ◌++◌, length}
 use Rattle.std.proofs.Common.{Bool, true, false, ap, sym, ◌∙◌, arith, Some}
-use Rattle.std.proofs.Common.{inl, inr, get_or, length-append}
-use Rattle.std.specs.Prelude.{slice_get, ◌==◌}
+use Rattle.std.proofs.Common.{inl, inr, get_or, length-append, append_assoc}
+use Rattle.std.specs.Prelude.{slice_get, ◌==◌, ◌&&◌}
 use Rattle.std.specs.List.{filter, list_any}
 use Rattle.std.proofs.lemmas.Bool.{and_parts, both_ways, cases_lt, eqb-true}
 use Rattle.std.proofs.lemmas.Option.{same_Some, slice_get_within, slice_get-get_or}
@@ -11,14 +11,23 @@ use Rattle.resp_value.specs.declared.value.Proto.TheVariants.{Three}
 use Rattle.serial_model.specs.declared.history.Limits.{Limits}
 use Rattle.serial_model.specs.declared.history.Entry.{Entry}
 use Rattle.serial_model.specs.declared.history.Entry.TheVariants.{Run}
-use Rattle.serial_model.specs.Tracking.{push_of, names_key, tells, drop_group}
-use Rattle.serial_model.specs.History.{Sending, Message, End, sent_to, sent, mode, modes, routed}
-use Rattle.serial_model.specs.History.{expiry_group, own_group, drops, reply_of}
+use Rattle.track_modes.specs.ModeState as track
+use Rattle.track_modes.specs.ModeState.{ModeState}
+use Rattle.serial_model.specs.Deadlines.{due_keys}
+use Rattle.serial_model.specs.Tracking.{Invalidation, group, push_of, names_key, tells}
+use Rattle.serial_model.specs.State.{State, is_on}
+use Rattle.serial_model.specs.Actions.{Sending, Message, End}
+use Rattle.serial_model.specs.Plain.{is_three, pushes, tests_before}
+use Rattle.serial_model.specs.History.{expiry_group, mode, runs_on, sent_to, sent, state}
+use Rattle.serial_model.specs.History.{tick_action}
+use Rattle.serial_model.proofs.Counts.{on_is}
+use Rattle.serial_model.proofs.PlainActions.{expiry_is, states_are_plain, tick_plain}
 use Rattle.serial_model.proofs.Tables.{sent_to-append}
 use Rattle.currency.proofs.Lists.{get_parts, get_front, get_behind, one_passes}
 use Rattle.currency.proofs.Runs.{Older}
-use Rattle.currency.proofs.Sent.{Told, is_sent_to, routed_at, sent_le, sent_older}
-use Rattle.currency.proofs.Replies.{is_reply_at, routed_no_reply}
+use Rattle.currency.proofs.Sent.{Told, is_sent_to, pushes_at, sent_le, sent_older}
+use Rattle.currency.proofs.Replies as replies
+use Rattle.currency.proofs.Replies.{is_reply_at, pushes_no_reply, reply_to, run_sends_are}
 
 -- none of those passes the test
 none_kept : {A : Type 0} (p : A → Bool) (xs : List A) → filter p xs ≡ [] → (i : ℕ) (y : A)
@@ -27,20 +36,34 @@ none_kept p [] e i y at = cc
 none_kept p (x ∷ xs) e zero y at = grind (arith, common_steps)
 none_kept p (x ∷ xs) e (suc i) y at = grind (arith, common_steps, none_kept p xs)
 
--- one of those that pass it
+-- a connection that tracks on the third protocol and has not ended takes pushes
+takes_is : (m : ModeState) (on : Bool) → track.is_on m.tracking ≡ true → on ≡ true
+    → m.proto ≡ Three → ((track.is_on m.tracking && on) && is_three m.proto) ≡ true
+takes_is m on tracks live three = grind arith
+
+-- a Run of a connection that has not ended
 module _ (c : ℕ) (l : Limits) (past up : List Entry) (id : ℕ) (words : List (List ℕ)) (m : ℕ)
-    (o : Older (Run id words m ∷ up) past) where
+    (o : Older (Run id words m ∷ up) past) (on : runs_on l up id ≡ true) where
   abbrev n : ℕ
   n = length up + 1
 
+  abbrev now : State
+  now = state l up
+
+  -- whom the entry tells of the keys that leave before its command
+  abbrev told : List Invalidation
+  told = group (due_keys m now.space) now.table
+
+  told_is : expiry_group l up m ≡ told
+  told_is =
+      expiry_is l (tick_action m now) now (states_are_plain l up)
+      (tick_plain m now (states_are_plain l up))
+
   abbrev before : List (ℕ × Sending)
-  before = routed (modes l up) (expiry_group l up m)
+  before = pushes (tests_before now) told
 
   abbrev behind : List (ℕ × Sending)
-  behind =
-      reply_of l up id words m
-      ∷ (routed (modes l (Run id words m ∷ up))
-      (own_group l up id words m ++ drop_group (drops l up id words m)) ++ [])
+  behind = (id, reply_to l up id words m) ∷ replies.late l up id words m
 
   abbrev early : List (ℕ × Sending)
   early = sent_to n c before
@@ -49,7 +72,12 @@ module _ (c : ℕ) (l : Limits) (past up : List Entry) (id : ℕ) (words : List 
   late = sent_to n c behind
 
   sent_is : sent l c (Run id words m ∷ up) ≡ sent l c up ++ (early ++ late)
-  sent_is = ap (λ ss. sent l c up ++ ss) (sent_to-append n c before behind)
+  sent_is =
+      ap (λ ss. sent l c up ++ sent_to n c ss)
+      (run_sends_are l up id words m on
+      ∙ append_assoc before ((id, reply_to l up id words m) ∷ [])
+      (replies.late l up id words m))
+      ∙ ap (λ ss. sent l c up ++ ss) (sent_to-append n c before behind)
 
   -- no reply of the entry stands among those
   reply_behind : (place : ℕ) (s : ℕ × Sending)
@@ -64,7 +92,7 @@ module _ (c : ℕ) (l : Limits) (past up : List Entry) (id : ℕ) (words : List 
               | inl e ↦
                   absurd (both_ways (is_reply_at s)
                   (none_kept is_reply_at early
-                  (routed_no_reply n c (modes l up) (expiry_group l up m)) b.at s e) reply)
+                  (pushes_no_reply n c (tests_before now) told) b.at s e) reply)
               | inr d ↦ omega (arith, b.is, d.is)
             ]
       ]
@@ -83,16 +111,29 @@ module _ (c : ℕ) (l : Limits) (past up : List Entry) (id : ℕ) (words : List 
         | inr ge ↦ grind (arith, sent_is, length-append)
       ]
 
+  takes : (d : ℕ) → d ≡ c → runs_on l up c ≡ true → track.is_on (mode l c up).tracking ≡ true
+      → (mode l c up).proto ≡ Three → tests_before now d ≡ true
+  takes d same live tracks three =
+      ap (tests_before now) same
+      ∙ takes_is (mode l c up) (is_on now c) tracks (on_is l up c ∙ live) three
+
+  early_at : (i : ℕ) (y : ℕ × Sending) → slice_get early i ≡ Some y
+      → slice_get (sent l c (Run id words m ∷ up)) (length (sent l c up) + i) ≡ Some y
+  early_at i y at =
+      ap (λ ss. slice_get ss (length (sent l c up) + i)) sent_is
+      ∙ get_behind (sent l c up) (early ++ late) i y (get_front early late i y at)
+
   -- whom it tells in its first group has a push of it ahead of each reply of the entry
   pub told_ahead : (key : List ℕ) → list_any (tells c key) (expiry_group l up m) ≡ true
+      → runs_on l up c ≡ true → track.is_on (mode l c up).tracking ≡ true
       → (mode l c up).proto ≡ Three → (place : ℕ) (s : ℕ × Sending)
       → slice_get (sent l c past) place ≡ Some s → s.0 ≡ n → is_reply_at s ≡ true
       → (t : Told c l (Run id words m ∷ up) n key) × (t.place < place)
-  told_ahead key told three place s at number reply =
-      let p = one_passes (tells c key) (expiry_group l up m) told in
+  told_ahead key due live tracks three place s at number reply =
+      let p = one_passes (tells c key) told (ap (list_any (tells c key)) (sym told_is) ∙ due) in
       let h = and_parts (p.one.to == c) (names_key p.one.keys key) p.passes in
-      let r = routed_at c l (modes l up) (expiry_group l up m) p.at p.one p.there
-      (ap (λ d. (mode l d up).proto) (eqb-true p.one.to c h.0) ∙ three) in
+      let r = pushes_at c l (tests_before now) told p.at p.one p.there
+      (takes p.one.to (eqb-true p.one.to c h.0) live tracks three) in
       let push : Sending = Message Three (push_of p.one.keys) in
       let e = is_sent_to c n before r.0 (p.one.to, push) r.1 h.0 in
       let within = slice_get_within early e.0 (n, push) e.1 in
@@ -100,9 +141,7 @@ module _ (c : ℕ) (l : Limits) (past up : List Entry) (id : ℕ) (words : List 
         record {
           place = length (sent l c up) + e.0;
           keys = p.one.keys;
-          there = ap (λ ss. slice_get ss (length (sent l c up) + e.0)) sent_is
-              ∙ get_behind (sent l c up) (early ++ late) e.0 (n, push)
-              (get_front early late e.0 (n, push) e.1);
+          there = early_at e.0 (n, push) e.1;
           names = h.1;
         },
         omega (arith, within, le),

@@ -2,10 +2,11 @@
 -- beside the history's laws is what the client asks of its connections' modes, and that what is due
 -- to the fetch's connection lands on a watched link.
 use Rattle.std.proofs.Common.{◌≡◌, ◌+◌, ◌-◌, ◌<◌, ◌≤◌, ◌⊎◌, ℕ, suc, List, ◌∷◌, length}
-use Rattle.std.proofs.Common.{true, false, cond, refl, ap, sym, ◌∙◌, arith, Some, subst, inl, inr}
+use Rattle.std.proofs.Common.{Bool, true, false, Result, refl, ap, sym, ◌∙◌, arith, Some, subst}
+use Rattle.std.proofs.Common.{inl, inr}
 use Rattle.std.specs.Prelude.{slice_get, ◌&&◌, ◌==◌, ◌||◌}
 use Rattle.std.specs.List.{filter}
-use Rattle.std.proofs.lemmas.Bool.{both_ways, eqb-true, or_cases, or_from, or_parts}
+use Rattle.std.proofs.lemmas.Bool.{and_parts, both_ways, eqb-true, or_cases, or_from, or_parts}
 use Rattle.std.proofs.lemmas.Option.{same_Some}
 use Rattle.resp_value.specs.declared.value.Value.{Value}
 use Rattle.resp_value.specs.Carried.{carried}
@@ -14,17 +15,34 @@ use Rattle.resp_value.specs.ValueTree.{tree_of}
 use Rattle.command_words.specs.Effects.{answer}
 use Rattle.command_words.specs.Queries.{key_of, reads_as_cacheable, writes}
 use Rattle.command_words.specs.Words.{reading}
-use Rattle.serial_model.specs.declared.mode.Mode.{Mode}
+use Rattle.command_words.specs.Laws.{signals}
+use Rattle.command_words.specs.declared.command.Command.{Command}
+use Rattle.command_words.specs.declared.command.Signalled.{Signalled}
+use Rattle.command_words.specs.declared.command.Signalled.TheVariants as signalled
+use Rattle.command_words.specs.declared.command.WordFault.{WordFault}
+use Rattle.track_modes.specs.Commands.{fault_at}
+use Rattle.track_modes.specs.ModeState as track
+use Rattle.track_modes.specs.ModeState.{ModeState, remembers_read}
 use Rattle.serial_model.specs.declared.history.Limits.{Limits}
 use Rattle.serial_model.specs.declared.history.Entry.{Entry}
-use Rattle.serial_model.specs.declared.history.Entry.TheVariants.{Run}
-use Rattle.serial_model.specs.History.{IsLegal, Sending, has_ended, keyspace, made_of, mode}
-use Rattle.serial_model.specs.History.{ran as ran_of, run_entries, runs_of, sent, served_reading}
-use Rattle.serial_model.specs.Laws.{ChangeIsSignalled, drops_key, is_due, is_forgets}
-use Rattle.serial_model.specs.Laws.{is_told, signals_key, stops_tracking}
-use Rattle.serial_model.specs.Modes.{remembers_read}
+use Rattle.serial_model.specs.declared.history.Entry.TheVariants.{Run, Tick}
+use Rattle.serial_model.specs.History.{IsLegal, Sending, expired, has_ended, keyspace, made}
+use Rattle.serial_model.specs.History.{made_of}
+use Rattle.serial_model.specs.History.{mode, ran as ran_of, run_entries, runner, runs_of, runs_on}
+use Rattle.serial_model.specs.History.{sent, served, served_reading, state, table}
+use Rattle.serial_model.specs.Laws.{ChangeIsSignalled, drops_key, has_prefix_of, is_among, is_due}
+use Rattle.serial_model.specs.Laws.{is_forgets, is_told, remembers, signals_key, signals_key_to}
+use Rattle.serial_model.specs.Laws.{signals_to, stops_tracking}
+use Rattle.serial_model.specs.Modes.{Runner, own_effect}
+use Rattle.serial_model.specs.Plain.{IsPlainMode, plain_tracking}
+use Rattle.serial_model.specs.State.{State, is_on}
+use Rattle.serial_model.proofs.Counts.{on_is}
+use Rattle.serial_model.proofs.ModeSteps.{mode_own}
+use Rattle.serial_model.proofs.OwedLaws.{read_is_owed_or_told, told_ends_for_cause}
+use Rattle.serial_model.proofs.PlainActions.{plain_cases, states_are_plain}
 use Rattle.serial_model.proofs.ReadLaws.{read_replies}
-use Rattle.serial_model.proofs.ToldLaws.{read_is_owed_or_told, told_ends_for_cause, told_is_due}
+use Rattle.serial_model.proofs.ServedRows.{data_own}
+use Rattle.serial_model.proofs.ToldLaws.{told_is_due}
 use Rattle.shared_cache.specs.declared.entry.CacheEntry.{CacheEntry}
 use Rattle.shared_cache.specs.declared.log.LogEntry.{LogEntry}
 use Rattle.shared_cache.specs.declared.log.Wire.{Wire}
@@ -34,36 +52,107 @@ use Rattle.currency.specs.Links.{Client, IsGot, is_reply_sent, is_single, traffi
 use Rattle.currency.specs.Current.{fetch_on}
 use Rattle.currency.proofs.Numbered.{next}
 use Rattle.currency.proofs.Placed.{reply_at}
-use Rattle.currency.proofs.Replies.{replies_are_of_runs}
-use Rattle.currency.proofs.Runs.{Older, RanAt, older_legal, older_tail, older_up_to}
+use Rattle.currency.proofs.Replies.{replies_are_of_runs, reply_some}
+use Rattle.currency.proofs.Runs.{Older, RanAt, older_legal, older_up_to}
 
 -- ---- modes
 
 -- what stops tracking leaves a mode that does not track
-stops_leaves : (words : List (List ℕ)) (m : Mode) → is_forgets (made_of words m).memory ≡ true
-    → (made_of words m).mode.tracking ≡ false
+stops_leaves : (by : Runner) (r : Result Command WordFault)
+    → is_forgets (own_effect (served r) by).memory ≡ true
+    → track.is_on (own_effect (served r) by).mode.tracking ≡ false
+unfolding fault_at
+stops_leaves by =
+    plain_cases (λ r. is_forgets (own_effect r by).memory ≡ true
+    → track.is_on (own_effect r by).mode.tracking ≡ false)
+    (λ word. grind arith) (λ o is. grind arith) (λ c row. grind (arith, data_own))
+    (λ f. grind arith)
+
+made_leaves : (words : List (List ℕ)) (by : Runner) → is_forgets (made_of words by).memory ≡ true
+    → track.is_on (made_of words by).mode.tracking ≡ false
 unfolding made_of
-stops_leaves words m h = grind arith
+made_leaves words by h = stops_leaves by (reading words) h
 
 keeps_tracking : (l : Limits) (e : Entry) (up : List Entry) (c : ℕ)
-    → (mode l c (e ∷ up)).tracking ≡ true → stops_tracking l e up c ≡ false
+    → track.is_on (mode l c (e ∷ up)).tracking ≡ true → stops_tracking l e up c ≡ false
 keeps_tracking l (Run id words moment) up c tracks =
     elim (id == c) as (λ b. (id == c) ≡ b
-    → (cond b (made_of words (mode l c up)).mode (mode l c up)).tracking ≡ true
-    → (b && is_forgets (made_of words (mode l id up)).memory) ≡ false) [
-      | true ↦ λ own tracks.
-          let is : id ≡ c = eqb-true id c own in
-          elim (is_forgets (made_of words (mode l id up)).memory) as (λ b.
-          is_forgets (made_of words (mode l id up)).memory ≡ b → b ≡ false) [
+    → (b && is_forgets (made l up id words).memory) ≡ false) [
+      | true ↦ λ own.
+          elim (is_forgets (made l up id words).memory) as (λ b.
+          is_forgets (made l up id words).memory ≡ b → b ≡ false) [
             | true ↦ λ forgets.
-                let gone = stops_leaves words (mode l c up)
-                (ap (λ d. is_forgets (made_of words (mode l d up)).memory) (sym is) ∙ forgets) in
-                absurd (both_ways (made_of words (mode l c up)).mode.tracking gone tracks)
+                let gone = ap (λ (m : ModeState). track.is_on m.tracking)
+                (mode_own l c id moment words up own)
+                ∙ made_leaves words (runner l up id words) forgets in
+                absurd (both_ways (track.is_on (mode l c (Run id words moment ∷ up)).tracking) gone
+                tracks)
             | false ↦ λ keeps. refl
           ] refl
-      | false ↦ λ own tracks. refl
-    ] refl tracks
+      | false ↦ λ own. refl
+    ] refl
 keeps_tracking l e up c tracks = refl
+
+-- ---- while no option of tracking is served, what an entry signals or drops is due to all that are
+-- told of it
+
+none_loops : (tracks : Bool) → track.is_noloop (plain_tracking tracks) ≡ false
+none_loops true = refl
+none_loops false = refl
+
+and_false : (b : Bool) → (b && false) ≡ false
+and_false true = refl
+and_false false = refl
+
+passes_none : (b : Bool) (m : ModeState) → IsPlainMode m
+    → (b && track.is_noloop m.tracking) ≡ false
+passes_none b m plain =
+    ap (λ t. b && track.is_noloop t) plain.tracking
+    ∙ ap (λ x. b && x) (none_loops (track.is_on m.tracking)) ∙ and_false b
+
+same_signal : (sig : Signalled) (passed : Bool) (key : List ℕ) → passed ≡ false
+    → signals_to sig passed key ≡ signals sig key
+same_signal (signalled.Keys keys) passed key none = grind arith
+same_signal signalled.All passed key none = refl
+
+left_of : (a : Bool) → (a || false) ≡ true → a ≡ true
+left_of a h = grind arith
+
+due_of : (x y r d : Bool) → y ≡ x → r ≡ true → (x || d) ≡ true → (y || (r && d)) ≡ true
+due_of x y r d same held h = grind arith
+
+module _ (l : Limits) (up : List Entry) (c : ℕ) (key : List ℕ) where
+  abbrev s : State
+  s = state l up
+
+  signals_same : (e : Entry) → signals_key_to l e up c key ≡ signals_key l e up key
+  signals_same (Run id words moment) =
+      ap (λ b. is_among (expired l up moment) key || b)
+      (same_signal (ran_of l up id words moment).signalled
+      ((id == c) && track.is_noloop (s.modes c).tracking) key
+      (passes_none (id == c) (s.modes c) ((states_are_plain l up).each c)))
+  signals_same (Tick moment) = refl
+  signals_same e = refl
+
+  plain_due : (e : Entry) → is_told l up c key ≡ true
+      → (signals_key l e up key || drops_key l e up key) ≡ true
+      → (signals_key_to l e up c key
+      || (remembers (table l up) c key && drops_key l e up key)) ≡ true
+  plain_due e told h =
+      let either = (and_parts (is_on s c) (remembers s.table c key
+      || has_prefix_of s.prefixes c key) told).1 in
+      let held : remembers (table l up) c key ≡ true =
+      left_of (remembers s.table c key)
+      (sym (ap (λ ps. remembers s.table c key || has_prefix_of ps c key)
+      (states_are_plain l up).none) ∙ either) in
+      due_of (signals_key l e up key) (signals_key_to l e up c key)
+      (remembers (table l up) c key) (drops_key l e up key) (signals_same e) held h
+
+  -- one that is told has not ended
+  pub told_runs : is_told l up c key ≡ true → runs_on l up c ≡ true
+  told_runs told =
+      sym (on_is l up c)
+      ∙ (and_parts (is_on s c) (remembers s.table c key || has_prefix_of s.prefixes c key) told).0
 
 -- ---- a fetch's Run, with the modes that it met
 
@@ -87,10 +176,12 @@ module _ (l : Limits) (x : Client) (past : List Entry) (home : Wire) (watched : 
   legal_older up o = older_legal l o.newer up (subst (IsLegal l) (sym o.is) legal)
 
   module _ (AsAsked : List Entry → Type 0)
-      (tracks : (up : List Entry) → AsAsked up → (mode l (x.id home) up).tracking ≡ true)
+      (tracks : (up : List Entry) → AsAsked up
+      → track.is_on (mode l (x.id home) up).tracking ≡ true)
       (protocols : (up : List Entry) → AsAsked up
       → (mode l (x.id home) up).proto ≡ x.setup.mode.proto)
       (landed : (e : Entry) (up : List Entry) → Older (e ∷ up) past
+      → runs_on l up (x.id home) ≡ true
       → is_due l e up (x.id home) (key_of h.query) ≡ true → AsAsked up → AsAsked (e ∷ up)
       → ((w : Wire) → In w watched → has_ended l (x.id w) (e ∷ up) ≡ false)
       → Lands IsGot T F (length up + 1))
@@ -121,7 +212,7 @@ module _ (l : Limits) (x : Client) (past : List Entry) (home : Wire) (watched : 
         let c = x.id home in
         let p = reply_at l c past (h.number - 1) s
         (ap (λ ss. slice_get ss (h.number - 1))
-        (sym (replies_are_of_runs l c past)) ∙ e) in
+        (sym (replies_are_of_runs l c past legal)) ∙ e) in
         let run = Run p.id p.words p.moment in
         let number : length p.up + 1 ≡ at =
         same_Some (length p.up + 1) at (sym p.entry ∙ ran) in
@@ -132,16 +223,17 @@ module _ (l : Limits) (x : Client) (past : List Entry) (home : Wire) (watched : 
         sym all ∙ run_is at t in
         let words : p.words ≡ h.query =
         (let same : p.words ≡ t.run.words = cc in same) ∙ words_are at t there in
-        let fits : (made_of p.words (mode l p.id p.up)).mode.proto ≡ x.setup.mode.proto =
-        ap (λ d. (made_of p.words (mode l d p.up)).mode.proto) (eqb-true p.id c p.own)
-        ∙ ap (λ b. (cond b (made_of p.words (mode l c p.up)).mode (mode l c p.up)).proto)
-        (sym p.own)
+        let fits : (made l p.up p.id p.words).mode.proto ≡ x.setup.mode.proto =
+        ap (λ (m : ModeState). m.proto) (sym (mode_own l c p.id p.moment p.words p.up p.own))
         ∙ ap (λ u. (mode l c u).proto) (sym all) ∙ protocols (up_to at past) good in
+        let reads = sym (reply_some l p.up p.id p.words p.moment)
+        ∙ read_replies l p.id p.moment p.words p.up
+        (ap (λ ws. reads_as_cacheable (served_reading ws)) words ∙ serves) in
         subst (IsGot v) p.reply got
         ∙ ap (λ o. carried o (tree_of (ran_of l p.up p.id p.words p.moment).reply)) fits
         ∙ ap (λ a. carried x.setup.mode.proto (tree_of a))
-        (read_replies l p.id p.moment p.words p.up
-        (ap (λ ws. reads_as_cacheable (served_reading ws)) words ∙ serves)
+        (same_Some (ran_of l p.up p.id p.words p.moment).reply
+        (answer p.words (keyspace l (run ∷ p.up))) reads
         ∙ ap (λ ws. answer ws (keyspace l (run ∷ p.up))) words
         ∙ ap (λ u. answer h.query (keyspace l u)) (sym all))
 
@@ -173,7 +265,8 @@ module _ (l : Limits) (x : Client) (past : List Entry) (home : Wire) (watched : 
                 | inl here ↦ inl (ap (λ u. is_told l u c k) all ∙ here)
                 | inr due ↦
                     inr (subst (Lands IsGot T F) t.run.at
-                    (landed e up older due t.before (subst AsAsked all good) live))
+                    (landed e up older (legal_older (e ∷ up) older).0 due t.before
+                    (subst AsAsked all good) live))
               ]
           | inr ended ↦
               absurd (both_ways (has_ended l c (e ∷ up)) (live home home_watched) ended)
@@ -205,8 +298,8 @@ module _ (l : Limits) (x : Client) (past : List Entry) (home : Wire) (watched : 
           | true ↦ λ due.
               let is : length up + 1 ≡ suc r = omega (arith, number) in
               inr (inl (subst (Lands IsGot T F) is
-              (landed e up n.older
-              (told_is_due l e up c k (legal_older up (older_tail e up past n.older)) told_up due)
+              (landed e up n.older (told_runs l up c k told_up)
+              (told_is_due l e up c k told_up (plain_due l up c k e told_up due))
               (subst AsAsked n.before good) after live)))
           | false ↦ λ quiet.
               elim (is_told l (e ∷ up) c k) as (λ b. is_told l (e ∷ up) c k ≡ b

@@ -1,8 +1,8 @@
 -- What was got of what was sent.
 use Rattle.std.proofs.Common.{◌≡◌, ◌+◌, ℕ, List, [], ◌∷◌, ◌++◌, length, Bool, true}
-use Rattle.std.proofs.Common.{false, cond, refl, ap, sym, ◌∙◌, arith}
+use Rattle.std.proofs.Common.{false, cond, refl, ap, sym, subst, ◌∙◌, arith}
 use Rattle.std.specs.Prelude.{◌==◌, Option, not}
-use Rattle.resp_value.specs.Tree.{Tree, Trees}
+use Rattle.resp_value.specs.Tree.{Tree}
 use Rattle.resp_value.specs.Tree as tree
 use Rattle.resp_value.specs.ValueTree.{tree_of}
 use Rattle.resp_value.specs.Carried.{carried}
@@ -10,16 +10,19 @@ use Rattle.resp_value.specs.declared.value.Value.{Value}
 use Rattle.resp_value.specs.declared.value.Value.TheVariants.{Push}
 use Rattle.resp_value.specs.declared.value.Proto.{Proto}
 use Rattle.resp_value.specs.declared.value.Proto.TheVariants.{Three}
-use Rattle.serial_model.specs.declared.mode.Mode.{Mode}
 use Rattle.serial_model.specs.declared.history.Limits.{Limits}
 use Rattle.serial_model.specs.declared.history.Entry.{Entry}
-use Rattle.serial_model.specs.declared.history.Entry.TheVariants.{Run, Tick, Close}
-use Rattle.serial_model.specs.Tracking.{Invalidation, push_of}
-use Rattle.serial_model.specs.History.{Sending, Message, End, sends, sent_to, sent, modes, by_proto}
-use Rattle.serial_model.specs.History.{routed, expiry_group, reply_of}
+use Rattle.serial_model.specs.declared.history.Entry.TheVariants.{Admit, Run, Tick, Take, Close}
+use Rattle.serial_model.specs.Tracking.{Invalidation, group, push_of}
+use Rattle.serial_model.specs.State.{is_live}
+use Rattle.serial_model.specs.Actions.{Sending, Message, End}
+use Rattle.serial_model.specs.Plain.{pushed, pushes, tests_before, tests_then, told_then}
+use Rattle.serial_model.specs.History.{IsLegal, run_action, sends, sent_to, sent, state}
+use Rattle.serial_model.specs.History.{tick_action}
+use Rattle.serial_model.proofs.PlainActions.{tick_sends}
 use Rattle.shared_cache.specs.Notices.{push, kind_of, is_reply}
 use Rattle.currency.specs.Links.{IsGot, is_push, is_reply_sent}
-use Rattle.currency.proofs.Replies.{reply_no_push}
+use Rattle.currency.proofs.Replies.{early, late, reply_no_push, reply_to, run_sends_are}
 
 -- ---- a push is got as a push, and a reply as a reply
 
@@ -91,30 +94,71 @@ unfolding AllSent
 form_append [] ys a b = b
 form_append (x ∷ xs) ys a b = (a.0, form_append xs ys a.1 b)
 
-route_form : (p : Proto) (i : Invalidation) → AllSent (by_proto p i)
+pushed_form : (test : ℕ → Bool) (i : Invalidation) → AllSent (pushed test i)
 unfolding AllSent IsSent
-route_form p i = grind arith
+pushed_form test i = grind arith
 
-routed_form : (of : ℕ → Mode) (told : List Invalidation) → AllSent (routed of told)
+pushes_form : (test : ℕ → Bool) (told : List Invalidation) → AllSent (pushes test told)
 unfolding AllSent
-routed_form of [] = tt
-routed_form of (i ∷ told) = grind (arith, form_append, route_form, routed_form of told)
+pushes_form test [] = tt
+pushes_form test (i ∷ told) =
+    form_append (pushed test i) (pushes test told) (pushed_form test i) (pushes_form test told)
 
 reply_form : (l : Limits) (past : List Entry) (id : ℕ) (words : List (List ℕ)) (m : ℕ)
-    → IsSent (reply_of l past id words m).1
+    → IsSent (reply_to l past id words m)
 unfolding IsSent
 reply_form l past id words m h = grind (arith, is_push, reply_no_push)
 
-sends_form : (l : Limits) (e : Entry) (past : List Entry) → AllSent (sends l e past)
-unfolding AllSent IsSent
-sends_form l (Tick m) past = routed_form (modes l past) (expiry_group l past m)
-sends_form l (Close id) past = (tt, tt)
-sends_form l (Run id words m) past = grind (arith, form_append, routed_form, reply_form)
-sends_form l e past = tt
-
-pub sent_form : (l : Limits) (c : ℕ) (past : List Entry) → AllSent (sent l c past)
+one_form : (id : ℕ) (s : Sending) → IsSent s → AllSent ((id, s) ∷ [])
 unfolding AllSent
-sent_form l c [] = tt
-sent_form l c (e ∷ past) =
-    form_append (sent l c past) (sent_to (length past + 1) c (sends l e past)) (sent_form l c past)
-    (to_form (length past + 1) c (sends l e past) (sends_form l e past))
+one_form id s h = (h, tt)
+
+end_form : (live : Bool) (id : ℕ) → AllSent (cond live ((id, End) ∷ []) [])
+unfolding AllSent IsSent
+end_form true id = (tt, tt)
+end_form false id = tt
+
+none_form : AllSent []
+unfolding AllSent
+none_form = tt
+
+sends_form : (l : Limits) (e : Entry) (past : List Entry) → IsLegal l (e ∷ past)
+    → AllSent (sends l e (state l past))
+sends_form l (Tick m) past h =
+    let s = state l past in
+    let t = tick_action m s in
+    subst AllSent (sym (tick_sends l past m))
+    (form_append (pushes (tests_before s) (group t.expired s.table) ++ [])
+    (pushes (tests_then t s) (told_then l t s))
+    (form_append (pushes (tests_before s) (group t.expired s.table)) []
+    (pushes_form (tests_before s) (group t.expired s.table)) none_form)
+    (pushes_form (tests_then t s) (told_then l t s)))
+sends_form l (Close id) past h = end_form (is_live ((state l past).standing id)) id
+sends_form l (Run id words m) past h =
+    let s = state l past in
+    let t = run_action id words m s in
+    subst AllSent (sym (run_sends_are l past id words m h.0))
+    (form_append (early l past id words m ++ (id, reply_to l past id words m) ∷ [])
+    (late l past id words m)
+    (form_append (early l past id words m) ((id, reply_to l past id words m) ∷ [])
+    (pushes_form (tests_before s) (group t.expired s.table))
+    (one_form id (reply_to l past id words m) (reply_form l past id words m)))
+    (pushes_form (tests_then t s) (told_then l t s)))
+sends_form l (Admit id) past h = none_form
+sends_form l (Take id max) past h = none_form
+
+before_entry : (l : Limits) (e : Entry) (past : List Entry) → IsLegal l (e ∷ past)
+    → IsLegal l past
+before_entry l (Admit id) past h = h.1
+before_entry l (Run id words m) past h = h.2
+before_entry l (Tick m) past h = h.2
+before_entry l (Take id max) past h = h.2
+before_entry l (Close id) past h = h.1
+
+pub sent_form : (l : Limits) (c : ℕ) (past : List Entry) → IsLegal l past
+    → AllSent (sent l c past)
+sent_form l c [] h = none_form
+sent_form l c (e ∷ past) h =
+    form_append (sent l c past) (sent_to (length past + 1) c (sends l e (state l past)))
+    (sent_form l c past (before_entry l e past h))
+    (to_form (length past + 1) c (sends l e (state l past)) (sends_form l e past h))

@@ -14,14 +14,14 @@ use Rattle.resp_value.specs.declared.value.Value.{Value}
 use Rattle.command_words.specs.Effects.{answer}
 use Rattle.command_words.specs.Queries.{key_of, reads_as_cacheable, writes}
 use Rattle.command_words.specs.Words.{reading}
-use Rattle.serial_model.specs.declared.mode.Mode.{Mode}
+use Rattle.track_modes.specs.ModeState as track
+use Rattle.track_modes.specs.ModeState.{ModeState, remembers_read}
 use Rattle.serial_model.specs.declared.history.Limits.{Limits}
 use Rattle.serial_model.specs.declared.history.Entry.{Entry}
 use Rattle.serial_model.specs.declared.history.Entry.TheVariants.{Run}
 use Rattle.serial_model.specs.History.{IsLegal, Message, Sending, keyspace, mode, run_entries}
-use Rattle.serial_model.specs.History.{runs_of, sent, served_reading}
+use Rattle.serial_model.specs.History.{runs_of, runs_on, sent, served_reading}
 use Rattle.serial_model.specs.Laws.{BeforeTheReply, ChangeIsSignalled, is_due, is_told}
-use Rattle.serial_model.specs.Modes.{remembers_read}
 use Rattle.serial_model.specs.Tracking.{push_of}
 use Rattle.shared_cache.specs.ClientFields.{IsServed}
 use Rattle.shared_cache.specs.Held.{commands, held}
@@ -47,13 +47,14 @@ use Rattle.currency.specs.Links.{traffic_of, up_to, wires_of}
 use Rattle.currency.specs.Current.{Currency, HasPoint, IsCurrent, fetch_of}
 use Rattle.currency.proofs.Ahead.{told_ahead}
 use Rattle.currency.proofs.Asked.{asked_query, query_reads, query_served}
-use Rattle.currency.proofs.EntryLaws.{Read, entry_laws_of}
+use Rattle.currency.proofs.EntryLaws.{Read, entry_laws_of, told_runs}
 use Rattle.currency.proofs.Lists.{every_at, get_drop}
 use Rattle.currency.proofs.Placed.{reply_place}
-use Rattle.currency.proofs.Runs.{Older, older_tail, older_up_to, ran_at, up_to_older}
+use Rattle.currency.proofs.Runs.{Older, older_legal, older_tail, older_up_to, ran_at}
+use Rattle.currency.proofs.Runs.{up_to_older}
 use Rattle.currency.proofs.Sent.{Told, lands, sent_older}
 use Rattle.currency.proofs.SentLaws.{sent_laws_of}
-use Rattle.currency.proofs.Settled.{before_then, r, ran_by_then, settled}
+use Rattle.currency.proofs.Settled.{asked_mode, before_then, r, ran_by_then, settled}
 use Rattle.currency.proofs.Since.{place_later, spared_since}
 use Rattle.currency.proofs.Voids.{voids}
 use Rattle.currency.proofs.Wires.{has_main, only_main}
@@ -137,14 +138,11 @@ module _ (l : Limits) (x : Client) (past : List Entry) (log : List LogEntry)
 
 -- ---- the history
 
-abbrev asked_mode : Mode
-asked_mode = record { proto = Three; tracking = true }
-
 abbrev pub AsAsked : Limits → Client → List Entry → Type 0
 AsAsked l x up = mode l (x.id Main) up ≡ asked_mode
 
 module _ (l : Limits) (x : Client) (past : List Entry) (h : CacheEntry)
-    (cacheable : reads_as_cacheable (reading h.query) ≡ true) where
+    (cacheable : reads_as_cacheable (reading h.query) ≡ true) (legal : IsLegal l past) where
   -- a push of the key is got as one
   told_on : (r : ℕ) (up : List Entry) → Older up past
       → (t : Told (x.id Main) l up r (key_of h.query))
@@ -158,15 +156,16 @@ module _ (l : Limits) (x : Client) (past : List Entry) (h : CacheEntry)
   }
 
   due_lands : (e : Entry) (up : List Entry) → Older (e ∷ up) past
+      → runs_on l up (x.id Main) ≡ true
       → is_due l e up (x.id Main) (key_of h.query) ≡ true → AsAsked l x up → AsAsked l x (e ∷ up)
       → Lands IsGot (traffic_of l x past) (fetch_of l x past h) (length up + 1)
-  due_lands e up o due before after = record {
+  due_lands e up o on due before after = record {
     wire = Main;
     watched = has_main x.setup.mode.shape;
     told =
         told_on (length up + 1) (e ∷ up) o
-        (lands (x.id Main) l e up (key_of h.query) due (ap (λ (m : Mode). m.proto) before)
-        (ap (λ (m : Mode). m.proto) after));
+        (lands (x.id Main) l e up (key_of h.query) on due
+        (ap (λ (m : ModeState). m.proto) before) (ap (λ (m : ModeState). m.proto) after));
   }
 
   ahead_or_same : (first : BeforeTheReply) → (r j i : ℕ) (ws : List (List ℕ)) (s : ℕ × Sending)
@@ -203,8 +202,13 @@ module _ (l : Limits) (x : Client) (past : List Entry) (h : CacheEntry)
             (ap (λ u. answer h.query (keyspace l u)) all_is ∙ same h.query cacheable refl
             ∙ ap (λ u. answer h.query (keyspace l u)) (sym up_is)))
         | inr early ↦
-            let a = told_ahead c l past t.up t.id t.words t.moment t.older k early
-            (ap (λ u. (mode l c u).proto) (sym up_is) ∙ ap (λ (m : Mode). m.proto) good) i s
+            let run_legal = older_legal l t.older.newer (run ∷ t.up)
+            (subst (IsLegal l) (sym t.older.is) legal) in
+            let a = told_ahead c l past t.up t.id t.words t.moment t.older run_legal.0 k early
+            (told_runs l t.up c k (ap (λ u. is_told l u c k) (sym up_is) ∙ told))
+            (ap (λ u. track.is_on (mode l c u).tracking) (sym up_is)
+            ∙ ap (λ (m : ModeState). track.is_on m.tracking) good)
+            (ap (λ u. (mode l c u).proto) (sym up_is) ∙ ap (λ (m : ModeState). m.proto) good) i s
             sent_there (number ∙ sym n) is_reply in
             inr (subst (λ m. (t : ToldOn IsGot (traffic_of l x past) (fetch_of l x past h) Main m)
             × (t.place < i)) n (told_on (length t.up + 1) (run ∷ t.up) t.older a.0, a.1))
@@ -249,16 +253,17 @@ module _ (l : Limits) (x : Client) (past : List Entry) (log : List LogEntry)
   both law first =
       theorem.currency IsGot (λ n. AsAsked l x (up_to n past)) (Read l x past Main h (AsAsked l x))
       (traffic_of l x past) (fetch_of l x past h) log meet
-      (log_laws l x past log served legal_log h is) (sent_laws_of l x past)
+      (log_laws l x past log served legal_log h is) (sent_laws_of l x past legal)
       (λ at ran. (
         entry_laws_of l x past Main (wires_of x.setup.mode.shape) (has_main x.setup.mode.shape)
-            legal h serves cacheable (AsAsked l x) (λ up good. ap (λ (m : Mode). m.tracking) good)
-            (λ up good. ap (λ (m : Mode). m.proto) good ∙ sym served.proto)
-            (λ e up o due before after lives.
-            due_lands l x past h cacheable e up o due before after) law at
+            legal h serves cacheable (AsAsked l x)
+            (λ up good. ap (λ (m : ModeState). track.is_on m.tracking) good)
+            (λ up good. ap (λ (m : ModeState). m.proto) good ∙ sym served.proto)
+            (λ e up o on due before after lives.
+            due_lands l x past h cacheable legal e up o on due before after) law at
             (λ alone r j i ws s le lt good told e there unwrote at_place number is_reply.
-            ahead_or_same l x past h cacheable first r j i ws s good told e there unwrote at_place
-            number is_reply),
+            ahead_or_same l x past h cacheable legal first r j i ws s good told e there unwrote
+            at_place number is_reply),
         handshake at ran,
       ))
       h.value replied_at
@@ -272,8 +277,9 @@ module _ (l : Limits) (x : Client) (past : List Entry) (log : List LogEntry)
       let run = Run t.id t.words t.moment in
       let n = t.at in
       let number : at ≡ length (run ∷ t.up) = omega (arith, n) in
-      let asked = run_is_command IsGot (traffic_of l x past) log meet (sent_laws_of l x past) Main
-      (has_main x.setup.mode.shape) (h.number - 1) t.words t.words_are in
+      let asked = run_is_command IsGot (traffic_of l x past) log meet
+      (sent_laws_of l x past legal) Main (has_main x.setup.mode.shape) (h.number - 1) t.words
+      t.words_are in
       let words : t.words ≡ h.query =
       same_Some t.words h.query
       (sym asked ∙ (place_is_query x.setup log h.number h.query is.fetch).1) in (

@@ -9,11 +9,11 @@ use Rattle.resp_value.specs.declared.value.Value.{Value}
 use Rattle.serial_model.specs.declared.history.Limits.{Limits}
 use Rattle.serial_model.specs.declared.history.Entry.{Entry}
 use Rattle.serial_model.specs.declared.history.Entry.TheVariants.{Run}
-use Rattle.serial_model.specs.History.{Sending, reply_of, run_entries}
+use Rattle.serial_model.specs.History.{Sending, run_entries}
 use Rattle.shared_cache.specs.Log.{reply_in}
 use Rattle.currency.proofs.Lists.{get_parts, get_one, get_last, get_front}
 use Rattle.currency.proofs.Runs.{Older, older_all}
-use Rattle.currency.proofs.Replies.{replies_of}
+use Rattle.currency.proofs.Replies.{replies_of, reply_to}
 
 module _ (l : Limits) (c : ℕ) where
   pub record Placed (past : List Entry) (place : ℕ) (s : ℕ × Sending) : Type 0 where
@@ -24,7 +24,7 @@ module _ (l : Limits) (c : ℕ) where
     pub own : (id == c) ≡ true
     pub older : Older (Run id words moment ∷ up) past
     pub number : s.0 ≡ length up + 1
-    pub reply : s.1 ≡ (reply_of l up id words moment).1
+    pub reply : s.1 ≡ reply_to l up id words moment
     pub entry : slice_get (run_entries c past) place ≡ Some (length up + 1)
 
   replies_count : (past : List Entry) → length (replies_of l c past) ≡ length (run_entries c past)
@@ -55,7 +55,7 @@ module _ (l : Limits) (c : ℕ) where
   reply_at [] place s e = cc
   reply_at (Run id words moment ∷ past) place s e =
       let x = Run id words moment in
-      let y : ℕ × Sending = (length past + 1, (reply_of l past id words moment).1) in
+      let y : ℕ × Sending = (length past + 1, reply_to l past id words moment) in
       elim (id == c) as (λ b. (id == c) ≡ b
       → slice_get (cond b (replies_of l c past ++ y ∷ []) (replies_of l c past)) place ≡ Some s
       → Placed (x ∷ past) place s) [

@@ -1,22 +1,21 @@
 -- What was sent to a connection, by its places and by the numbers of its entries.
 use Rattle.std.proofs.Common.{◌≡◌, ◌+◌, ◌<◌, ◌≤◌, ℕ, zero, suc, List, [], ◌∷◌, ◌++◌, length, true}
 use Rattle.std.proofs.Common.{false, cond, refl, ap, sym, ◌∙◌, arith, Some, ◌⊎◌, inl, inr}
-use Rattle.std.proofs.Common.{append_assoc, append-nil}
+use Rattle.std.proofs.Common.{append_assoc, append-nil, Bool}
 use Rattle.std.specs.Prelude.{slice_get, ◌==◌, Option}
 use Rattle.std.proofs.lemmas.Option.{slice_get_within}
-use Rattle.std.proofs.lemmas.Bool.{and_parts, eqb-true}
 use Rattle.resp_value.specs.Lists.{IsPrefix}
 use Rattle.resp_value.specs.declared.value.Proto.TheVariants.{Three}
-use Rattle.serial_model.specs.declared.mode.Mode.{Mode}
 use Rattle.serial_model.specs.declared.history.Limits.{Limits}
 use Rattle.serial_model.specs.declared.history.Entry.{Entry}
-use Rattle.serial_model.specs.declared.history.Entry.TheVariants.{Run, Tick}
-use Rattle.serial_model.specs.Tracking.{Invalidation, push_of, names_key, tells, drop_group}
-use Rattle.serial_model.specs.History.{Sending, Message, End, sends, sent_to, sent, mode, modes}
-use Rattle.serial_model.specs.History.{by_proto, route, routed, expiry_group, own_group, drops}
-use Rattle.serial_model.specs.History.{reply_of}
+use Rattle.serial_model.specs.Tracking.{Invalidation, push_of, names_key}
+use Rattle.serial_model.specs.Actions.{Sending, Message, End}
+use Rattle.serial_model.specs.Plain.{pushed, pushes}
+use Rattle.serial_model.specs.History.{sends, sent_to, sent, mode, runs_on, state}
 use Rattle.serial_model.specs.Laws.{is_due, has_end}
-use Rattle.currency.proofs.Lists.{get_front, get_behind, get_parts, Behind, one_passes, get_given}
+use Rattle.serial_model.proofs.DueLaws.{due_is_pushed}
+use Rattle.currency.proofs.Lists.{get_front, get_behind, get_middle, get_parts, Behind}
+use Rattle.currency.proofs.Lists.{get_given}
 use Rattle.currency.proofs.Runs.{Older}
 
 module _ (c : ℕ) where
@@ -55,7 +54,8 @@ module _ (c : ℕ) where
         → slice_get (sent l c past) i ≡ Some s → s.0 ≤ length past
     sent_le [] i s e = cc
     sent_le (x ∷ past) i s e =
-        elim (get_parts (sent l c past) (sent_to (length past + 1) c (sends l x past)) i s e) [
+        elim (get_parts (sent l c past)
+        (sent_to (length past + 1) c (sends l x (state l past))) i s e) [
           | inl h ↦ let r = sent_le past i s h in omega (arith, r)
           | inr b ↦ grind (arith, number_of)
         ]
@@ -64,16 +64,18 @@ module _ (c : ℕ) where
         → (slice_get (sent l c past) i ≡ Some s → slice_get (sent l c past) j ≡ Some t
         → s.0 ≤ t.0)
         → (slice_get (sent l c past) i ≡ Some s)
-        ⊎ Behind (sent l c past) (sent_to (length past + 1) c (sends l x past)) i s
+        ⊎ Behind (sent l c past) (sent_to (length past + 1) c (sends l x (state l past))) i s
         → (slice_get (sent l c past) j ≡ Some t)
-        ⊎ Behind (sent l c past) (sent_to (length past + 1) c (sends l x past)) j t → s.0 ≤ t.0
+        ⊎ Behind (sent l c past) (sent_to (length past + 1) c (sends l x (state l past))) j t
+        → s.0 ≤ t.0
     by_parts e past i j s t le before h is = grind (arith, sent_le, number_of, slice_get_within)
 
     pub sent_pos : (past : List Entry) (i : ℕ) (s : ℕ × Sending)
         → slice_get (sent l c past) i ≡ Some s → 0 < s.0
     sent_pos [] i s e = cc
     sent_pos (x ∷ past) i s e =
-        elim (get_parts (sent l c past) (sent_to (length past + 1) c (sends l x past)) i s e) [
+        elim (get_parts (sent l c past)
+        (sent_to (length past + 1) c (sends l x (state l past))) i s e) [
           | inl h ↦ sent_pos past i s h
           | inr b ↦ grind (arith, number_of)
         ]
@@ -84,14 +86,14 @@ module _ (c : ℕ) where
     sent_order [] i j s t le e f = cc
     sent_order (x ∷ past) i j s t le e f =
         by_parts x past i j s t le (λ h g. sent_order past i j s t le h g)
-        (get_parts (sent l c past) (sent_to (length past + 1) c (sends l x past)) i s e)
-        (get_parts (sent l c past) (sent_to (length past + 1) c (sends l x past)) j t f)
+        (get_parts (sent l c past) (sent_to (length past + 1) c (sends l x (state l past))) i s e)
+        (get_parts (sent l c past) (sent_to (length past + 1) c (sends l x (state l past))) j t f)
 
     pub sent_more : (newer up : List Entry) → IsPrefix (sent l c up) (sent l c (newer ++ up))
     sent_more [] up = ([], append-nil (sent l c up))
     sent_more (x ∷ newer) up =
         let r = sent_more newer up in
-        let new = sent_to (length (newer ++ up) + 1) c (sends l x (newer ++ up)) in (
+        let new = sent_to (length (newer ++ up) + 1) c (sends l x (state l (newer ++ up))) in (
           r.0 ++ new,
           sym (append_assoc (sent l c up) r.0 new) ∙ ap (λ ss. ss ++ new) r.1,
         )
@@ -105,10 +107,10 @@ module _ (c : ℕ) where
 
     -- what an entry sends to the connection has a place behind all that was sent before
     pub sent_at : (x : Entry) (up : List Entry) (k : ℕ) (y : ℕ × Sending)
-        → slice_get (sends l x up) k ≡ Some y → (y.0 == c) ≡ true
+        → slice_get (sends l x (state l up)) k ≡ Some y → (y.0 == c) ≡ true
         → (j : ℕ) × (slice_get (sent l c (x ∷ up)) j ≡ Some (length up + 1, y.1))
     sent_at x up k y e own =
-        let r = is_sent_to (length up + 1) (sends l x up) k y e own in (
+        let r = is_sent_to (length up + 1) (sends l x (state l up)) k y e own in (
           length (sent l c up) + r.0,
           grind (arith, get_behind),
         )
@@ -122,58 +124,31 @@ module _ (c : ℕ) where
       pub there : slice_get (sent l c past) place ≡ Some (n, Message Three (push_of keys))
       pub names : names_key keys key ≡ true
 
-    pub routed_at : (of : ℕ → Mode) (told : List Invalidation) (k : ℕ) (i : Invalidation)
-        → slice_get told k ≡ Some i → (of i.to).proto ≡ Three
-        → (n : ℕ) × (slice_get (routed of told) n ≡ Some (i.to, Message Three (push_of i.keys)))
-    routed_at of told k i e three =
-        get_given (λ j. route (of j.to) j) told k i (i.to, Message Three (push_of i.keys)) 0 e
-        (ap (λ p. slice_get (by_proto p i) 0) three)
-
-    pub told_by : (x : Entry) (up : List Entry) (key : List ℕ) (i : Invalidation) (k : ℕ)
-        → slice_get (sends l x up) k ≡ Some (i.to, Message Three (push_of i.keys))
-        → tells c key i ≡ true → Told (x ∷ up) (length up + 1) key
-    told_by x up key i k e t =
-        let h = and_parts (i.to == c) (names_key i.keys key) t in
-        let r = sent_at x up k (i.to, Message Three (push_of i.keys)) e h.0 in
-        record { place = r.0; keys = i.keys; there = r.1; names = h.1 }
+    -- whom a list of pushes tells is sent one
+    pub pushes_at : (test : ℕ → Bool) (told : List Invalidation) (k : ℕ) (i : Invalidation)
+        → slice_get told k ≡ Some i → test i.to ≡ true
+        → (n : ℕ) × (slice_get (pushes test told) n ≡ Some (i.to, Message Three (push_of i.keys)))
+    pushes_at test told k i e takes =
+        get_given (pushed test) told k i (i.to, Message Three (push_of i.keys)) 0 e
+        (ap (λ b. slice_get (cond b ((i.to, Message Three (push_of i.keys)) ∷ []) []) 0) takes)
 
     -- a connection of the third protocol that an entry tells of a key is sent it there
-    pub lands : (x : Entry) (up : List Entry) (key : List ℕ)
+    pub lands : (x : Entry) (up : List Entry) (key : List ℕ) → runs_on l up c ≡ true
         → is_due l x up c key ≡ true → (mode l c up).proto ≡ Three
         → (mode l c (x ∷ up)).proto ≡ Three → Told (x ∷ up) (length up + 1) key
-    lands (Tick moment) up key h before after =
-        let early = expiry_group l up moment in
-        let p = one_passes (tells c key) early h in
-        let own : (p.one.to == c) ≡ true = grind (arith, and_parts) in
-        let r = routed_at (modes l up) early p.at p.one p.there
-        (ap (λ d. (mode l d up).proto) (eqb-true p.one.to c own) ∙ before) in
-        told_by (Tick moment) up key p.one r.0 r.1 p.passes
-    lands (Run id words moment) up key h before after =
-        let x = Run id words moment in
-        let early = expiry_group l up moment in
-        let late = own_group l up id words moment ++ drop_group (drops l up id words moment) in
-        let parted = sym (grind (arith, append_assoc)) ∙ h in
-        let p = one_passes (tells c key) (early ++ late) parted in
-        let own : (p.one.to == c) ≡ true = grind (arith, and_parts) in
-        let of = modes l (x ∷ up) in
-        let reply = reply_of l up id words moment in
-        elim (get_parts early late p.at p.one p.there) [
-          | inl e ↦
-              let r = routed_at (modes l up) early p.at p.one e
-              (ap (λ d. (mode l d up).proto) (eqb-true p.one.to c own) ∙ before) in
-              told_by x up key p.one r.0
-              (grind (arith, get_front))
-              p.passes
-          | inr b ↦
-              let r = routed_at of late b.at p.one b.there
-              (ap (λ d. (mode l d (x ∷ up)).proto) (eqb-true p.one.to c own) ∙ after) in
-              told_by x up key p.one (length (routed (modes l up) early) + suc r.0)
-              (get_behind (routed (modes l up) early) (reply ∷ (routed of late ++ [])) (suc r.0)
-              (p.one.to, Message Three (push_of p.one.keys))
-              (grind (arith, get_front)))
-              p.passes
-        ]
-    lands e up key h before after = absurd (let no : ⊥ = cc in no)
+    lands x up key on due before after =
+        let n = length up + 1 in
+        let h = due_is_pushed l x up c key on before after due in
+        let push : ℕ × Sending = (n, Message Three (push_of h.keys)) in
+        record {
+          place = length (sent l c up) + length h.before;
+          keys = h.keys;
+          there =
+              get_behind (sent l c up) (sent_to n c (sends l x (state l up))) (length h.before) push
+              (ap (λ ss. slice_get ss (length h.before)) h.is
+              ∙ get_middle h.before push h.behind);
+          names = h.named;
+        }
 
     -- where a connection has ended its end was sent
     pub record Ended (past : List Entry) (n : ℕ) : Type 0 where

@@ -4,10 +4,10 @@ use Rattle.std.proofs.Common.{arith, Some, subst}
 use Rattle.std.specs.Prelude.{slice_get}
 use Rattle.serial_model.specs.declared.history.Limits.{Limits}
 use Rattle.serial_model.specs.declared.history.Entry.{Entry}
-use Rattle.serial_model.specs.History.{End, Sending, has_ended, sent}
-use Rattle.serial_model.proofs.Posts.{end_is_sent}
+use Rattle.serial_model.specs.History.{End, IsLegal, Sending, has_ended, sent}
+use Rattle.serial_model.proofs.Ends.{end_is_sent}
 use Rattle.shared_cache.specs.declared.log.Wire.{Wire}
-use Rattle.wire_currency.specs.Traffic.{EndSent, SentLaws}
+use Rattle.wire_currency.specs.Traffic.{EndSent, SentInOrder, SentLaws}
 use Rattle.currency.specs.Links.{Client, IsGot, traffic_of, up_to}
 use Rattle.currency.proofs.Gots.{AllSent, IsSent, same_kind, sent_form}
 use Rattle.currency.proofs.Placed.{reply_at}
@@ -39,20 +39,25 @@ module _ (l : Limits) (x : Client) (past : List Entry) where
         never = λ v got. got;
       }
 
-  pub sent_laws_of : SentLaws IsGot (traffic_of l x past)
-  sent_laws_of = record {
+  pub sent_in_order : SentInOrder IsGot (traffic_of l x past)
+  sent_in_order = record {
     sent_within =
         λ w i j s e. let pos = sent_pos (x.id w) l past j s e in
         let le = sent_le (x.id w) l past j s e in (pos, le);
     sent_order = λ w i. sent_order (x.id w) l past;
+  }
+
+  pub sent_laws_of : IsLegal l past → SentLaws IsGot (traffic_of l x past)
+  sent_laws_of legal = record {
+    in_order = sent_in_order;
     runs_order = λ w i. in_order (x.id w) past;
     runs_count = λ w i. runs_count (x.id w) past;
     replies_of_runs =
         λ w i j s e. let p = reply_at l (x.id w) past j s
-        (ap (λ ss. slice_get ss j) (sym (replies_are_of_runs l (x.id w) past)) ∙ e) in
+        (ap (λ ss. slice_get ss j) (sym (replies_are_of_runs l (x.id w) past legal)) ∙ e) in
         p.entry ∙ ap Some (sym p.number);
     reply_kind =
         λ w i j s v e got. same_kind v s.1 (form_at (sent l (x.id w) past) j s
-        (sent_form l (x.id w) past) e) got;
+        (sent_form l (x.id w) past legal) e) got;
     end_sent = λ w i. wire_end w;
   }

@@ -5,11 +5,13 @@ use Rattle.std.proofs.Common.{append_assoc, length-append}
 use Rattle.std.proofs.lemmas.Bool.{eqb-true}
 use Rattle.resp_value.specs.Lists.{IsPrefix}
 use Rattle.resp_value.specs.declared.value.Proto.TheVariants.{Three}
+use Rattle.track_modes.specs.ModeState.{ModeState, new_mode}
 use Rattle.serial_model.specs.declared.history.Limits.{Limits}
 use Rattle.serial_model.specs.declared.history.Entry.{Entry}
 use Rattle.serial_model.specs.declared.history.Entry.TheVariants.{Run}
 use Rattle.serial_model.specs.History.{runs_of, mode}
 use Rattle.serial_model.specs.History.{IsLegal}
+use Rattle.serial_model.specs.Plain.{plain_tracking}
 use Rattle.shared_cache.specs.declared.log.Wire.TheVariants.{Main}
 use Rattle.shared_cache.specs.declared.log.LogEntry.{LogEntry}
 use Rattle.shared_cache.specs.ClientFields.{IsServed}
@@ -25,7 +27,11 @@ use Rattle.currency.proofs.Runs.{Older, older_tail, older_within}
 use Rattle.currency.proofs.Runs.{runs_older, RanAt, ran_at}
 use Rattle.currency.proofs.Handshake.{asked, mode_by}
 
-by_two : (n : ℕ) → 2 ≤ n → mode_by n ≡ record { proto = Three; tracking = true }
+-- on the third protocol, tracking without options
+abbrev pub asked_mode : ModeState
+asked_mode = record new_mode { proto = Three; tracking = plain_tracking true }
+
+by_two : (n : ℕ) → 2 ≤ n → mode_by n ≡ asked_mode
 unfolding mode_by
 by_two n le = grind arith
 
@@ -65,7 +71,7 @@ module _ (l : Limits) (x : Client) (past : List Entry) (log : List LogEntry)
 
     -- from the run on, and just before it, the connection is on the third protocol and tracks
     pub settled : (up : List Entry) → Older up past → 2 ≤ length (runs_of (x.id Main) up)
-        → mode l (x.id Main) up ≡ record { proto = Three; tracking = true }
+        → mode l (x.id Main) up ≡ asked_mode
     settled up o two =
         asked x.setup served l (x.id Main) log legal_log up (ran_older up o)
         ∙ by_two (length (runs_of (x.id Main) up)) two

@@ -44,12 +44,17 @@ remove_all-none [] = refl
 remove_all-none (name ∷ names) = remove_all-none names
 
 -- a key that is missing loses no field
-pub none_lost : (names : List (List ℕ)) (fs : Pairs) → fs ≡ []
+none_lost : (names : List (List ℕ)) (fs : Pairs) → fs ≡ []
     → ◌≡◌ {A = ℕ} 0 (length fs - length (remove_all names fs))
     × (◌≡◌ {A = ℕ} 0 0 → remove_all names fs ≡ fs)
 none_lost names [] e =
     (ap (λ r. 0 - length r) (sym (remove_all-none names)), λ zero. remove_all-none names)
 none_lost names (f ∷ fs) e = absurd cc
+
+pub none_lost_by : (names : List (List ℕ)) (fs : Pairs) (n : ℕ) → n ≡ 0 → fs ≡ []
+    → (n ≡ length fs - length (remove_all names fs)) × (n ≡ 0 → remove_all names fs ≡ fs)
+none_lost_by names fs n none_went is =
+    let none = none_lost names fs is in (none_went ∙ none.0, λ _. none.1 refl)
 
 module _ (key : List ℕ) where
   its_own : eq_by_cmp (slice_cmp nat_cmp) key key ≡ true

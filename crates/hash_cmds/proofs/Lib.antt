@@ -1,1 +1,2 @@
 mod HashRows
+mod TakenFields

@@ -2,7 +2,8 @@
 use Rattle.std.specs.Prelude.{◌≡◌, ◌-◌, ℕ, ℤ, List, [], ◌∷◌, Bool, true, false, Option, Some, None}
 use Rattle.std.specs.Prelude.{length}
 use Rattle.std.specs.FinMap.{insert}
-use Rattle.command_words.specs.Space.{Content, Text, Fields, Space, content_at, deadline_at}
+use Rattle.command_words.specs.Space.{Content, Text, Fields, Held, Space}
+use Rattle.command_words.specs.Space.{content_at, deadline_at}
 use Rattle.command_words.specs.Effect.{number_in}
 use Rattle.command_words.specs.Hashes.{Pairs, field_get, put_fields}
 use Rattle.command_rows.specs.declared.integers.Addition.{Addition}
@@ -63,6 +64,11 @@ FieldsBecome key change old new =
 abbrev pub IsDropped : List ℕ → Space → Space → Type 0
 IsDropped key old new =
     (space : Space) (fs : Pairs) → old ≡ with_hash key fs space → new ≡ put_fields key fs space
+
+-- a key holds again what was taken out
+abbrev pub held_back : List ℕ → Option Held → Space → Space
+held_back key None space = space
+held_back key (Some held) space = insert space key held
 
 -- the number was added to the field of the key
 abbrev pub IsAdditionIn : List ℕ → List ℕ → ℤ → Addition → Space → Type 0

@@ -1,15 +1,17 @@
 //! Changes of the fields under a key. All that may fail comes first.
 ghost use Rattle.std.specs.Prelude.{◌≡◌, ◌<◌, ◌^◌, [], OnOk, OnErr, IfOk, Some, None, length};
+ghost use Rattle.std.specs.Prelude.{option_map};
 ghost use Rattle.resp_value.specs.Tree.{in_turn};
 ghost use Rattle.command_words.specs.Space.{content_at};
 ghost use Rattle.command_words.specs.Hashes.{remove_all, set_all};
-ghost use Rattle.keyspace.specs.Plain.{content_of};
+ghost use Rattle.keyspace.specs.Places.{all_placed, with_placed, with_placed_of};
+ghost use Rattle.keyspace.specs.Plain.{content_of, held_of};
 ghost use Rattle.hash_cmds.specs.Changed.{is_text, is_empty_hash, IsDropped};
 ghost use Rattle.hash_cmds.specs.Changed.{Becomes, Adds, AddsThere, Loses};
 ghost use Rattle.hash_cmds.specs.Changed.{HashBecomes, FieldsBecome};
-ghost use Rattle.hash_cmds.specs.Changed.{with_hash};
+ghost use Rattle.hash_cmds.specs.Changed.{held_back, with_hash};
 
-use keyspace::{Content, Fields, Held, Keyspace};
+use keyspace::{Content, Fields, Held, Keyspace, Placed};
 use resp_value::{NoMemory, Octets};
 use std::alloc::Global;
 
@@ -39,12 +41,15 @@ fn holds_empty(space: &Keyspace, key: &[u8]) -> bool
     }
 }
 
-/// A hash without fields goes.
-pub(crate) fn drop_empty(space: &mut Keyspace, key: &[u8])
-    ensures { IsDropped key.now space.old space.new }
+/// A hash without fields goes, and is the answer.
+pub(crate) fn take_empty(space: &mut Keyspace, key: &[u8]) -> Option<Held>
+    ensures dropped { IsDropped key.now space.old space.new }
+    ensures back { held_back key.now (option_map held_of result) space.new ≡ space.old }
 {
     if holds_empty(space, key) {
-        space.take(key);
+        space.take(key)
+    } else {
+        None
     }
 }
 
@@ -63,17 +68,20 @@ fn set_in(content: &mut Content, words: &[Octets]) -> Result<u64, NoMemory>
     }
 }
 
-/// Takes fields out of a hash; a string stays.
-fn remove_in(content: &mut Content, names: &[Octets]) -> u64
-    ensures gone { Becomes (remove_all names.now)
-        (content_of content.old) (content_of content.new) }
-    ensures went { Loses (remove_all names.now) (Some (content_of content.old)) result }
-    ensures kept { result ≡ 0 → content.new ≡ content.old }
-    ensures small { result < 2 ^ 63 }
+/// Takes fields out of a hash, each with its place; a string stays.
+fn take_in(alloc: Global, content: &mut Content, names: &[Octets]) -> Result<Vec<Placed>, NoMemory>
+    ensures gone { OnOk result (Becomes (remove_all names.now)
+        (content_of content.old) (content_of content.new)) }
+    ensures went { IfOk result (λ v.
+        Loses (remove_all names.now) (Some (content_of content.old)) (length v.items)) }
+    ensures kept { IfOk result (λ v. length v.items ≡ 0 → content.new ≡ content.old) }
+    ensures back { IfOk result (λ v.
+        with_placed (all_placed v.items) (content_of content.new) ≡ content_of content.old) }
+    ensures err { OnErr result (content.new ≡ content.old) }
 {
     match content {
-        Content::Fields(fields) => fields.remove_all(names),
-        Content::Text(_) => 0,
+        Content::Fields(fields) => fields.take_all(names),
+        Content::Text(_) => Ok(Vec::new(alloc)),
     }
 }
 
@@ -136,15 +144,24 @@ pub(crate) fn set_fields(
     }
 }
 
-/// Takes fields out under a key; the answer is how many were there.
-pub(crate) fn remove_fields(space: &mut Keyspace, key: &[u8], names: &[Octets]) -> u64
-    ensures gone { FieldsBecome key.now (remove_all names.now) space.old space.new }
-    ensures went { Loses (remove_all names.now) (content_at key.now space.old) result }
-    ensures kept { result ≡ 0 → space.new ≡ space.old }
-    ensures small { result < 2 ^ 63 }
+/// Takes fields out under a key, each with its place.
+pub(crate) fn take_under(
+    alloc: Global,
+    space: &mut Keyspace,
+    key: &[u8],
+    names: &[Octets],
+) -> Result<Vec<Placed>, NoMemory>
+    ensures gone { OnOk result
+        (FieldsBecome key.now (remove_all names.now) space.old space.new) }
+    ensures went { IfOk result (λ v.
+        Loses (remove_all names.now) (content_at key.now space.old) (length v.items)) }
+    ensures kept { IfOk result (λ v. length v.items ≡ 0 → space.new ≡ space.old) }
+    ensures back { IfOk result (λ v.
+        with_placed_of key.now (all_placed v.items) space.new ≡ space.old) }
+    ensures err { OnErr result (space.new ≡ space.old) }
 {
     match space.content_mut(key) {
-        Some(content) => remove_in(content, names),
-        None => 0,
+        Some(content) => take_in(alloc, content, names),
+        None => Ok(Vec::new(alloc)),
     }
 }

@@ -2,10 +2,9 @@
 #![tactic(auto)]
 
 mod change;
-mod foresee;
 mod reads;
 mod run;
 mod writes;
 
-pub use foresee::foresee_hash;
 pub use run::{is_hash, run_hash};
+pub use writes::take_fields;

@@ -1,4 +1,5 @@
 pub mod PlainEntries
 pub mod Keyed
 pub mod Changes
-pub mod Counting
+pub mod Distinct
+pub mod Placing

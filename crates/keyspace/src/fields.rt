@@ -1,12 +1,15 @@
 //! The fields of a hash, in order of first insertion.
 ghost use Rattle.std.specs.Prelude.{◌≡◌, ◌+◌, ◌-◌, ◌<◌, ◌^◌, [], IfOk, OnOk, OnErr, is_some, not};
 ghost use Rattle.std.specs.Prelude.{false, if◌then◌else◌};
-ghost use Rattle.std.specs.Prelude.{option_map, slice_get, length};
+ghost use Rattle.std.specs.Prelude.{option_map, option_to_list, slice_get, length, vec_len};
+ghost use Rattle.std.specs.Prelude.{vec_capacity, ◌≤◌};
 ghost use Rattle.resp_value.specs.Tree.{in_turn};
 ghost use Rattle.command_words.specs.Hashes.{field_get, field_set, field_remove, set_all};
 ghost use Rattle.command_words.specs.Hashes.{remove_all};
+ghost use Rattle.keyspace.specs.Places.{all_placed, placed_back};
 
 use super::copies::{copies_in_turn, insert_in_room};
+use super::placed::{Placed, copies_of, put_in_room};
 use indexmap::IndexMap;
 use resp_value::{NoMemory, Octets};
 use std::alloc::Global;
@@ -105,46 +108,6 @@ impl Fields {
         Ok((self.table.len() - before) as u64)
     }
 
-    /// How many fields more there would be, were these set from left to right, given in turn with
-    /// their values. Nothing changes.
-    pub fn count_new(&self, words: &[Octets]) -> Result<u64, NoMemory>
-        ensures count { IfOk result
-            (λ n. n ≡ length (set_all (in_turn words.now) self.now) - length self.now) }
-        ensures small { IfOk result (λ n. n < 2 ^ 63) }
-    {
-        let alloc = *self.table.allocator();
-        let mut met = Fields::new(alloc);
-        let mut left = words;
-        'pairs: while let [field, _, others @ ..] = left {
-            if self.get(field.as_slice()).is_none() {
-                met.set(field.as_slice(), Octets::from_slice(alloc, b"")?)?;
-            }
-            left = others;
-        }
-        Ok(met.len())
-    }
-
-    /// How many of these fields are there, each counted once. Nothing changes.
-    pub fn count_there(&self, names: &[Octets]) -> Result<u64, NoMemory>
-        ensures count { IfOk result
-            (λ n. n + length (remove_all names.now self.now) ≡ length self.now) }
-        ensures small { IfOk result (λ n. n < 2 ^ 63) }
-    {
-        if self.table.len() == 0 {
-            return Ok(0);
-        }
-        let alloc = *self.table.allocator();
-        let mut met = Fields::new(alloc);
-        let mut left = names;
-        'names: while let [name, others @ ..] = left {
-            if self.get(name.as_slice()).is_some() {
-                met.set(name.as_slice(), Octets::from_slice(alloc, b"")?)?;
-            }
-            left = others;
-        }
-        Ok(met.len())
-    }
-
     /// Takes the field out, if it is there; the others keep their order. It moves the fields after
     /// that one.
     pub fn remove(&mut self, field: &[u8]) -> bool
@@ -156,20 +119,68 @@ impl Fields {
         self.table.shift_remove(field).is_some()
     }
 
-    /// Takes these fields out; the answer is how many of them were there. Each moves the fields
-    /// after it.
-    pub fn remove_all(&mut self, names: &[Octets]) -> u64
-        ensures gone { self.new ≡ remove_all names.now self.old }
-        ensures went { result ≡ length self.old - length self.new }
-        ensures kept { result ≡ 0 → self.new ≡ self.old }
-        ensures small { result < 2 ^ 63 }
+    /// Takes the field out with its place, if it is there. It moves the fields after that one.
+    fn take(&mut self, field: &[u8]) -> Option<Placed>
+        ensures gone { self.new ≡ field_remove field.now self.old }
+        ensures len { length self.new + (if is_some result then 1 else 0) ≡ length self.old }
+        ensures back { placed_back (all_placed (option_to_list result)) self.new ≡ self.old }
     {
-        let before = self.len();
+        // `len` is called for its clause that the names differ, which the proof cites.
+        let _len = self.table.len();
+        let (place, field, value) = self.table.shift_remove_full(field)?;
+        Some(Placed {
+            place,
+            field,
+            value,
+        })
+    }
+
+    /// Takes the field out, if it is there; what went goes last. There is room for it.
+    fn take_into(&mut self, field: &[u8], taken: &mut Vec<Placed>)
+        requires { vec_len taken.old < vec_capacity taken.old }
+        ensures gone { self.new ≡ field_remove field.now self.old }
+        ensures went { length taken.new.items + length self.new
+            ≡ length taken.old.items + length self.old }
+        ensures back { placed_back (all_placed taken.new.items) self.new
+            ≡ placed_back (all_placed taken.old.items) self.old }
+        ensures len { vec_len taken.new ≤ vec_len taken.old + 1 }
+        ensures capacity { vec_capacity taken.new ≡ vec_capacity taken.old }
+    {
+        if let Some(placed) = self.take(field) {
+            taken.push_reserved(placed);
+        }
+    }
+
+    /// Takes these fields out, each with the place that it had then; the others keep their order.
+    /// Each moves the fields after it, and none is copied.
+    pub fn take_all(&mut self, names: &[Octets]) -> Result<Vec<Placed>, NoMemory>
+        ensures gone { OnOk result (self.new ≡ remove_all names.now self.old) }
+        ensures went { IfOk result (λ v. length v.items ≡ length self.old - length self.new) }
+        ensures kept { IfOk result (λ v. length v.items ≡ 0 → self.new ≡ self.old) }
+        ensures back { IfOk result (λ v. placed_back (all_placed v.items) self.new ≡ self.old) }
+        ensures err { OnErr result (self.new ≡ self.old) }
+    {
+        let mut taken = Vec::new(*self.table.allocator());
+        taken.reserve(names.len())?;
         let mut left = names;
         'names: while let [name, others @ ..] = left {
-            self.remove(name.as_slice());
+            self.take_into(name.as_slice(), &mut taken);
             left = others;
         }
-        before - self.len()
+        Ok(taken)
+    }
+
+    /// Fields that were taken out go to their places again, the last one first; one that is there
+    /// stays as it is. Each moves the fields after it.
+    pub fn put_back(&mut self, taken: &[Placed]) -> Result<(), NoMemory>
+        ensures ok { OnOk result (self.new ≡ placed_back (all_placed taken.now) self.old) }
+        ensures err { OnErr result (self.new ≡ self.old) }
+    {
+        let mut left = copies_of(*self.table.allocator(), taken)?;
+        self.table.reserve(left.len())?;
+        'taken: while let Some(placed) = left.pop() {
+            put_in_room(&mut self.table, placed);
+        }
+        Ok(())
     }
 }

@@ -3,7 +3,9 @@
 
 mod copies;
 mod fields;
+mod placed;
 mod space;
 
 pub use fields::Fields;
+pub use placed::Placed;
 pub use space::{Content, Held, Keyspace};

@@ -1,22 +1,27 @@
 //! Measures commands on a keyspace of so many keys and on one hash of so many fields:
 //! `keyspace_bench 1000000 100000 10000` runs each command 10,000 times over 1,000,000 keys and
-//! 100,000 fields. How many replied no error goes to the output, what one took to standard error.
+//! 100,000 fields. `keyspace_bench 100000 'HSET hash f0 2'` runs each line once on a database of
+//! one hash of 100,000 fields and one string of as many bytes, with what is kept of the run. How
+//! many replied no error goes to the output, what one took to standard error.
 #![tactic(auto)]
 
 ghost use Rattle.std.specs.Prelude.{◌≡◌, ◌<◌};
 
+mod changes;
 mod rounds;
 #[cfg(test)]
 mod tests;
 
+use changes::measure_changes;
 use command_words::Command;
 use keyspace::Keyspace;
 use resp_value::NoMemory;
 use rounds::{Walk, commands, served};
 use std::alloc::Global;
+use std::env::{self, Env};
+use std::io;
 use std::rt::Runtime;
 use std::time::Instant;
-use std::{env, io};
 
 #[derive(Drop)]
 enum Fault {
@@ -237,21 +242,33 @@ fn measure_removals<R: Runtime>(
     measure(rt, alloc, space, "HDEL fields f#", ten("end", last, fields))
 }
 
-fn number(word: Option<String>) -> Option<u64> {
+fn number(word: Option<&String>) -> Option<u64> {
     word?.as_str().parse::<u64>().ok()
 }
 
-fn main(rt: HostRuntime) -> io::Result<()> {
-    let mut words = env::args(&rt)?;
-    words.next();
-    let keys = number(words.next()).unwrap_or(0);
-    let fields = number(words.next()).unwrap_or(0);
-    let times = number(words.next()).unwrap_or(0);
+/// Three numbers, or one number and then lines.
+fn run_words<R: Runtime>(rt: &R, alloc: Global, words: &[String]) -> Result<(), Fault> {
+    let keys = number(words.first()).unwrap_or(0);
+    let fields = number(words.get(1)).unwrap_or(0);
+    let times = number(words.get(2)).unwrap_or(0);
+    if keys > 0 && words.len() > 1 && number(words.get(1)).is_none() {
+        return measure_changes(rt, alloc, keys, &words[1..]);
+    }
     if keys == 0 || fields == 0 || times == 0 {
-        println!(rt; "usage: keyspace_bench KEYS FIELDS TIMES")?;
+        println!(rt; "usage: keyspace_bench KEYS FIELDS TIMES, keyspace_bench SIZE LINE..")?;
         return Ok(());
     }
-    match run(&rt, rt.alloc(), keys, fields, times) {
+    run(rt, alloc, keys, fields, times)
+}
+
+/// The words behind the program's name.
+fn words_of<R: Env + AllocGlobal>(rt: &R) -> io::Result<Vec<String>> {
+    Ok(env::args(rt)?.skip(1).collect(rt.alloc())?)
+}
+
+fn main(rt: HostRuntime) -> io::Result<()> {
+    let words = words_of(&rt)?;
+    match run_words(&rt, rt.alloc(), words.as_slice()) {
         Ok(()) => Ok(()),
         Err(Fault::System(error)) => Err(error),
         Err(Fault::Memory) => println!(rt; "memory ran out"),

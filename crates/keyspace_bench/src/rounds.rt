@@ -34,14 +34,14 @@ fn numbered(alloc: Global, front: &str, number: u64) -> Result<Vec<u8>, NoMemory
 }
 
 /// The word, with the number in place of a `#` at its end.
-fn word_of(alloc: Global, word: &str, number: u64) -> Result<Octets, NoMemory> {
+pub fn word_of(alloc: Global, word: &str, number: u64) -> Result<Octets, NoMemory> {
     match word.strip_suffix('#') {
         Some(front) => Ok(Octets::from_vec(numbered(alloc, front, number)?)),
         None => Octets::from_slice(alloc, word.as_bytes()),
     }
 }
 
-fn words_of(alloc: Global, line: &str, number: u64) -> Result<Words, NoMemory> {
+pub fn words_of(alloc: Global, line: &str, number: u64) -> Result<Words, NoMemory> {
     let mut words = Words::new(alloc);
     for word in line.split(' ') {
         words.push(word_of(alloc, word, number)?)?;

@@ -1,6 +1,6 @@
 -- What is read of a link is what was written on it.
-use Rattle.std.proofs.Common.{◌≡◌, ℕ, List, [], ◌∷◌, ◌++◌, Bool, false, cond, refl, sym, ◌∙◌}
-use Rattle.std.proofs.Common.{map, append_assoc, arith}
+use Rattle.std.proofs.Common.{◌≡◌, ◌+◌, ℕ, List, [], ◌∷◌, ◌++◌, Bool, true, false, length, refl}
+use Rattle.std.proofs.Common.{sym, subst, ◌∙◌, map, append_assoc, arith}
 use Rattle.std.specs.Prelude.{◌||◌}
 use Rattle.std.specs.List.{flat_map}
 use Rattle.resp_value.specs.declared.value.Proto.{Proto}
@@ -13,12 +13,10 @@ use Rattle.resp_value.specs.Carried.{carried}
 use Rattle.resp_stream.specs.Parse.{values_of}
 use Rattle.serial_model.specs.declared.history.Limits.{Limits}
 use Rattle.serial_model.specs.declared.history.Entry.{Entry}
-use Rattle.serial_model.specs.declared.history.Entry.TheVariants.{Admit, Run, Tick, Take, Close}
-use Rattle.serial_model.specs.History.{Sending, Message, End, sent, spelled, sending_bytes}
-use Rattle.serial_model.specs.History.{sent_bytes, stream, has_ended, IsLegal}
+use Rattle.serial_model.specs.Actions.{Sending, Message, End, spelled, sending_bytes}
+use Rattle.serial_model.specs.History.{sent, sent_bytes, stream, has_ended, IsLegal}
 use Rattle.serial_model.specs.Laws.{is_end, has_end}
-use Rattle.serial_model.proofs.EntryLaws.{end_is_last}
-use Rattle.serial_model.proofs.Posts.{end_is_sent}
+use Rattle.serial_model.proofs.Ends.{end_is_at_its_entry, end_is_last, end_is_sent}
 use Rattle.shared_cache.specs.Out.{out}
 use Rattle.shared_cache.proofs.CommandLaws.{commands_have_words}
 use Rattle.currency.specs.Links.{AreGot}
@@ -95,30 +93,28 @@ end_behind [] ys e h = h
 end_behind (x ∷ xs) ys e h =
     then_behind x.1 xs ys (has_end xs) (EndsLast (xs ++ ys)) e (λ g. end_behind xs ys g h)
 
-one_end : (t : Bool) (n : ℕ) → EndsLast (cond t ((n, End) ∷ []) [])
-one_end t n = grind arith
-
 module _ (l : Limits) (c : ℕ) where
-  earlier : (entry : Entry) (past : List Entry) → IsLegal l (entry ∷ past) → IsLegal l past
-  earlier entry past h = grind arith
-
   unended : (past : List Entry) → has_ended l c past ≡ false → has_end (sent l c past) ≡ false
   unended past e = sym (end_is_sent l c past) ∙ e
 
-  last_by : (entry : Entry) (past : List Entry) → has_ended l c past ≡ false
-      → EndsLast (sent l c (entry ∷ past))
-  last_by (Admit id) past e = no_end_last (sent l c (Admit id ∷ past)) (unended (Admit id ∷ past) e)
-  last_by (Run id words m) past e =
-      no_end_last (sent l c (Run id words m ∷ past)) (unended (Run id words m ∷ past) e)
-  last_by (Tick m) past e = no_end_last (sent l c (Tick m ∷ past)) (unended (Tick m ∷ past) e)
-  last_by (Take id max) past e =
-      no_end_last (sent l c (Take id max ∷ past)) (unended (Take id max ∷ past) e)
-  last_by (Close id) past e = grind (arith, end_behind, unended, one_end)
-
-  ends_last : (past : List Entry) → IsLegal l past → EndsLast (sent l c past)
-  ends_last [] h = tt
-  ends_last (entry ∷ past) h =
-      grind (arith, end_is_last, earlier, last_by, ends_last past (earlier entry past h))
+  ends_last : (past : List Entry) → EndsLast (sent l c past)
+  ends_last [] = tt
+  ends_last (entry ∷ past) =
+      elim (has_ended l c past) as (λ b. has_ended l c past ≡ b
+      → EndsLast (sent l c (entry ∷ past))) [
+        | true ↦ λ ended.
+            subst EndsLast (sym (end_is_last l c entry past ended)) (ends_last past)
+        | false ↦ λ live.
+            elim (has_ended l c (entry ∷ past)) as (λ b. has_ended l c (entry ∷ past) ≡ b
+            → EndsLast (sent l c (entry ∷ past))) [
+              | true ↦ λ over.
+                  let w = end_is_at_its_entry l c entry past live over in
+                  subst EndsLast (sym w.2)
+                  (end_behind w.0 ((length past + 1, End) ∷ []) w.1 refl)
+              | false ↦ λ still.
+                  no_end_last (sent l c (entry ∷ past)) (unended (entry ∷ past) still)
+            ] refl
+      ] refl
 
 -- ---- values that are the first messages are what was sent
 
@@ -147,6 +143,6 @@ pub read_was_sent : ReadWasSent IsLegal
 unfolding stream
 read_was_sent l c past b values legal p q =
     let ss = sent l c past in
-    are_got values ss (ends_last l c past legal)
+    are_got values ss (ends_last l c past)
     (front_of_front (map tree_of values) (values_of b) (map says (messages ss)) q
     (grind (arith, values_in_order, messages_good, sent_is_well_formed, message_bytes)))

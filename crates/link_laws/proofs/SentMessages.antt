@@ -1,32 +1,66 @@
 -- Each message that is sent is well-formed.
-use Rattle.std.proofs.Common.{◌≡◌, ℕ, List, [], ◌∷◌, ◌++◌, Result, Ok, Err, arith}
+use Rattle.std.proofs.Common.{◌≡◌, ℕ, List, [], ◌∷◌, ◌++◌, Bool, true, false, cond, Result, Ok, Err}
+use Rattle.std.proofs.Common.{None, Some, refl, sym, ap, subst, ◌∙◌, map, arith}
 use Rattle.resp_value.specs.declared.value.Proto.{Proto}
+use Rattle.resp_value.specs.declared.value.Value.{Value}
 use Rattle.command_words.specs.declared.command.Command.{Command}
 use Rattle.command_words.specs.declared.command.Command.TheVariants.{Hello, ClientTracking}
 use Rattle.command_words.specs.declared.command.WordFault.{WordFault}
 use Rattle.command_words.specs.declared.command.WordFault.TheVariants.{Arity}
 use Rattle.command_words.specs.Space.{Space}
 use Rattle.command_words.specs.Words.{reading}
-use Rattle.serial_model.specs.declared.mode.Mode.{Mode}
-use Rattle.serial_model.specs.declared.mode.Runner.{Runner}
+use Rattle.track_modes.specs.declared.fault.ModeFault.{ModeFault}
+use Rattle.track_modes.specs.declared.fault.ModeFault.TheVariants.{NoTarget, PrefixNeedsBcast}
+use Rattle.track_modes.specs.declared.fault.ModeFault.TheVariants.{SwitchBcast, BothOpts}
+use Rattle.track_modes.specs.declared.fault.ModeFault.TheVariants.{OptWithBcast, SwitchOpt}
+use Rattle.track_modes.specs.declared.fault.ModeFault.TheVariants.{Overlap, NotOpt, YesNeedsOptin}
+use Rattle.track_modes.specs.declared.fault.ModeFault.TheVariants.{NoNeedsOptout, NoMemory}
+use Rattle.track_modes.specs.Texts.{mode_fault_text}
 use Rattle.serial_model.specs.declared.history.Limits.{Limits}
 use Rattle.serial_model.specs.declared.history.Entry.{Entry}
-use Rattle.serial_model.specs.declared.history.Entry.TheVariants.{Run, Tick, Close}
+use Rattle.serial_model.specs.declared.history.Entry.TheVariants.{Admit, Run, Tick, Take, Close}
+use Rattle.serial_model.specs.Modes.{Runner, is_stopping}
 use Rattle.serial_model.specs.Tracking.{Invalidation}
-use Rattle.serial_model.specs.History.{Sending, effect_of, ran_over, ran, modes, by_proto}
-use Rattle.serial_model.specs.History.{routed, sends, sent_to}
+use Rattle.serial_model.specs.State.{State, is_live, is_on}
+use Rattle.serial_model.specs.Actions.{Action, Sending, End, action_sends, ends, heard}
+use Rattle.serial_model.specs.Actions.{is_overgrown}
+use Rattle.serial_model.specs.Actions.{messages, replies, to_one}
+use Rattle.serial_model.specs.Plain.{IsPlainAction, pushed, pushes, tests_before, tests_then}
+use Rattle.serial_model.specs.Plain.{told_then}
+use Rattle.serial_model.specs.Tracking.{group}
+use Rattle.serial_model.specs.History.{effect_of, ran_over, ran, run_action, sends, sent_to, state}
+use Rattle.serial_model.specs.History.{tick_action}
+use Rattle.serial_model.proofs.PlainActions.{first, first_is, rest, rest_is, run_plain}
+use Rattle.serial_model.proofs.PlainActions.{states_are_plain, tick_plain}
+use Rattle.serial_model.proofs.Sendings.{heard-append}
 use Rattle.resp_laws.specs.Fronts.{Every}
+use Rattle.resp_laws.specs.Values.{IsPlain}
 use Rattle.link_laws.specs.Crossing.{IsReadable, SentIsWellFormed}
 use Rattle.link_laws.proofs.Plain.{plain_text, fault_plain}
-use Rattle.link_laws.proofs.Rows.{Replies, are_mapped, effect_good}
+use Rattle.link_laws.proofs.Rows.{IsGood, Replies, are_mapped, effect_good}
 
 -- ---- the reply to words
+
+-- the text of a fault of a mode has no end of line
+mode_fault_plain : (fault : ModeFault) → IsPlain (mode_fault_text fault)
+mode_fault_plain NoTarget = plain_text (mode_fault_text NoTarget) refl
+mode_fault_plain PrefixNeedsBcast = plain_text (mode_fault_text PrefixNeedsBcast) refl
+mode_fault_plain SwitchBcast = plain_text (mode_fault_text SwitchBcast) refl
+mode_fault_plain BothOpts = plain_text (mode_fault_text BothOpts) refl
+mode_fault_plain OptWithBcast = plain_text (mode_fault_text OptWithBcast) refl
+mode_fault_plain SwitchOpt = plain_text (mode_fault_text SwitchOpt) refl
+mode_fault_plain (Overlap old) = plain_text (mode_fault_text (Overlap old)) refl
+mode_fault_plain NotOpt = plain_text (mode_fault_text NotOpt) refl
+mode_fault_plain YesNeedsOptin = plain_text (mode_fault_text YesNeedsOptin) refl
+mode_fault_plain NoNeedsOptout = plain_text (mode_fault_text NoNeedsOptout) refl
+mode_fault_plain NoMemory = tt
 
 effect_of_good : (by : Runner) (words : List (List ℕ)) (r : Result Command WordFault)
     (space : Space) (moment : ℕ) → (r ≡ Err Arity → reading words ≡ Err Arity)
     → Replies (effect_of by words r space moment)
 effect_of_good by words (Ok (Hello word)) space m h = grind (arith, plain_text)
-effect_of_good by words (Ok (ClientTracking options)) space m h = grind (arith, plain_text)
+effect_of_good by words (Ok (ClientTracking options)) space m h =
+    grind (arith, plain_text, mode_fault_plain)
 effect_of_good by words (Ok command) space m h = effect_good command space m
 effect_of_good by words (Err fault) space m h = grind (arith, fault_plain)
 
@@ -48,19 +82,83 @@ readable_to : (n c : ℕ) (ss : List (ℕ × Sending)) → Readable ss → Reada
 readable_to n c [] h = tt
 readable_to n c (s ∷ ss) h = grind (arith, readable_to n c ss h.1)
 
-readable_route : (proto : Proto) (i : Invalidation) → Readable (by_proto proto i)
-readable_route proto i = grind (arith, are_mapped)
+readable_kept : (b : Bool) (x : ℕ × Sending) (ss : List (ℕ × Sending)) → IsReadable x.1
+    → Readable ss → Readable (cond b (x ∷ ss) ss)
+readable_kept true x ss h k = (h, k)
+readable_kept false x ss h k = k
 
-readable_routed : (modes : ℕ → Mode) (told : List Invalidation) → Readable (routed modes told)
-readable_routed modes [] = tt
-readable_routed modes (i ∷ told) =
-    grind (arith, readable_both, readable_route, readable_routed modes told)
+readable_heard : (s : State) (ss : List (ℕ × Sending)) → Readable ss → Readable (heard s ss)
+readable_heard s [] h = tt
+readable_heard s (x ∷ ss) h =
+    readable_kept (is_on s x.0) x (heard s ss) h.0 (readable_heard s ss h.1)
 
-readable_sends : (l : Limits) (entry : Entry) (past : List Entry) → Readable (sends l entry past)
-readable_sends l (Run id words m) past = grind (arith, readable_both, readable_routed, reply_good)
-readable_sends l (Tick m) past = grind (arith, readable_routed)
-readable_sends l (Close id) past = (tt, tt)
-readable_sends l entry past = tt
+readable_pushed : (test : ℕ → Bool) (i : Invalidation) → Readable (pushed test i)
+readable_pushed test i = grind (arith, are_mapped)
+
+readable_pushes : (test : ℕ → Bool) (told : List Invalidation) → Readable (pushes test told)
+readable_pushes test [] = tt
+readable_pushes test (i ∷ told) =
+    readable_both (pushed test i) (pushes test told) (readable_pushed test i)
+    (readable_pushes test told)
+
+readable_ends : (ids : List ℕ) → Readable (map (λ c. (c, End)) ids)
+readable_ends [] = tt
+readable_ends (id ∷ ids) = (tt, readable_ends ids)
+
+readable_reply : (stops : Bool) (id : ℕ) (proto : Proto) (v : Value) → IsGood v
+    → Readable (to_one id proto (cond stops None (Some v)))
+readable_reply true id proto v h = tt
+readable_reply false id proto v h = (h proto, tt)
+
+-- ---- an entry
+
+module _ (l : Limits) (past : List Entry) (t : Action) (p : IsPlainAction t)
+    (replied : Readable (replies t)) where
+  abbrev s : State
+  s = state l past
+
+  abbrev told : List (ℕ × Sending)
+  told = first l t s (states_are_plain l past) p
+
+  abbrev later : List (ℕ × Sending)
+  later = rest l t s (states_are_plain l past) p
+
+  readable_messages : Readable (messages l t s)
+  readable_messages =
+      let h = states_are_plain l past in
+      subst Readable
+      (sym (heard-append s (told ++ replies t) later
+      ∙ ap (λ x. x ++ heard s later) (heard-append s told (replies t))))
+      (readable_both (heard s told ++ heard s (replies t)) (heard s later)
+      (readable_both (heard s told) (heard s (replies t))
+      (subst Readable (sym (first_is l t s h p))
+      (readable_pushes (tests_before s) (group t.expired s.table)))
+      (readable_heard s (replies t) replied))
+      (subst Readable (sym (rest_is l t s h p))
+      (readable_pushes (tests_then t s) (told_then l t s))))
+
+  readable_action : Readable (action_sends (is_overgrown l t s) l t s)
+  readable_action =
+      readable_both (messages l t s) (map (λ c. (c, End)) (ends (is_overgrown l t s) t s))
+      readable_messages (readable_ends (ends (is_overgrown l t s) t s))
+
+readable_close : (b : Bool) (id : ℕ) → Readable (cond b ((id, End) ∷ []) [])
+readable_close true id = (tt, tt)
+readable_close false id = tt
+
+readable_sends : (l : Limits) (entry : Entry) (past : List Entry)
+    → Readable (sends l entry (state l past))
+readable_sends l (Run id words m) past =
+    let t = run_action id words m (state l past) in
+    readable_action l past t (run_plain id words m (state l past) (states_are_plain l past))
+    (readable_reply (is_stopping t.effect.ending) id t.effect.mode.proto
+    (ran l past id words m).reply (reply_good l past id m words))
+readable_sends l (Tick m) past =
+    readable_action l past (tick_action m (state l past))
+    (tick_plain m (state l past) (states_are_plain l past)) tt
+readable_sends l (Close id) past = readable_close (is_live ((state l past).standing id)) id
+readable_sends l (Admit id) past = tt
+readable_sends l (Take id max) past = tt
 
 pub sent_is_well_formed : SentIsWellFormed
 sent_is_well_formed l c [] = tt

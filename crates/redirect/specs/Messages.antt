@@ -14,12 +14,16 @@ keys_of (Some keys) = value.Array (map blob keys)
 keys_of None = value.Null
 
 -- on RESP3 a push; on RESP2 a message of the channel that the connection is subscribed to
+abbrev pub push_of : Option (List (List ℕ)) → Value
+push_of keys = value.Push (blob (codes "invalidate") ∷ tree_of (keys_of keys) ∷ [])
+
+abbrev pub message_of : Option (List (List ℕ)) → Value
+message_of keys =
+    value.Array (blob (codes "message") ∷ blob channel ∷ tree_of (keys_of keys) ∷ [])
+
 abbrev pub invalidation_of : Route → Option (List (List ℕ)) → Option Value
-invalidation_of (Push to) keys =
-    Some (value.Push (blob (codes "invalidate") ∷ tree_of (keys_of keys) ∷ []))
-invalidation_of (Message to) keys =
-    Some (value.Array (blob (codes "message") ∷ blob channel
-    ∷ tree_of (keys_of keys) ∷ []))
+invalidation_of (Push to) keys = Some (push_of keys)
+invalidation_of (Message to) keys = Some (message_of keys)
 invalidation_of (BrokenNotice to) keys = None
 invalidation_of Nowhere keys = None
 

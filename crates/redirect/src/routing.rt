@@ -58,8 +58,8 @@ pub fn route(mode: &Mode, own: u64, target: Option<Peer>) -> Route
     }
 }
 
-/// Whether an invalidation that is due finds the connection that the mode redirects to ended.
-/// `Mode::break_redirection` is then called, whatever the route.
+/// Whether an invalidation that is due finds the connection that the mode redirects to ended. The
+/// redirection is then broken, whatever the route.
 pub fn is_broken(mode: &Mode, target: Option<Peer>) -> bool
     ensures { result ≡ is_broken target mode.now }
 {

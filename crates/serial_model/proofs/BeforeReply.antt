@@ -1,16 +1,15 @@
 -- What a command does not write answers as before, or is told of before the command's reply.
 use Rattle.std.proofs.Common.{◌≡◌, ℕ, List, true, false, ◌⊎◌, inl, inr, Bool, arith}
-use Rattle.std.specs.Prelude.{not}
 use Rattle.std.proofs.lemmas.Bool.{and_parts, both_ways}
 use Rattle.command_words.specs.Laws.{RepliesAreOfKeysRead, SignalsAreWritten, signals}
 use Rattle.command_words.specs.Queries.{writes, written_by}
-use Rattle.track_table.specs.Table.{holders_of}
 use Rattle.serial_model.specs.declared.history.Limits.{Limits}
 use Rattle.serial_model.specs.declared.history.Entry.{Entry}
 use Rattle.serial_model.specs.declared.history.Entry.TheVariants.{Run}
-use Rattle.serial_model.specs.History.{ran_over, ran, expired, has_ended, table}
+use Rattle.serial_model.specs.State.{is_on}
+use Rattle.serial_model.specs.History.{state, ran_over, ran, expired}
 use Rattle.serial_model.specs.Laws.{BeforeTheReply, is_among}
-use Rattle.serial_model.proofs.KeyHolders.{holds, group_tells}
+use Rattle.serial_model.proofs.KeyHolders.{whole_tells}
 use Rattle.serial_model.proofs.ReadLaws.{change_is_signalled}
 
 -- ---- what a command signals, it writes
@@ -24,10 +23,11 @@ module _ (law : SignalsAreWritten) where
 
 pub before_the_reply : RepliesAreOfKeysRead → SignalsAreWritten → BeforeTheReply
 before_the_reply replies written l id moment words past c key told none =
+    let s = state l past in
     let left = is_among (expired l past moment) key in
-    let p = and_parts (not (has_ended l c past)) (holds c (holders_of key (table l past))) told in
+    let p = and_parts (is_on s c) _ told in
     elim (both left) [
-      | inl e ↦ inr (group_tells c key (expired l past moment) (table l past) e p.1)
+      | inl e ↦ inr (whole_tells c key (expired l past moment) s.table s.prefixes e p.1)
       | inr e ↦ inl ((change_is_signalled replies l (Run id words moment) past key
           (grind (arith, both_ways, ran_written))).1)
     ]

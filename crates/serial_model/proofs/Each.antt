@@ -1,6 +1,6 @@
 -- What holds of each of several things holds of each of some of them, and of others like them.
-use Rattle.std.proofs.Common.{◌<◌, ℕ, zero, suc, List, [], ◌∷◌, ◌++◌, Bool, cond, arith, length}
-use Rattle.std.proofs.Common.{take, drop, slice_index_or}
+use Rattle.std.proofs.Common.{◌≡◌, ◌<◌, ℕ, zero, suc, List, [], ◌∷◌, ◌++◌, Bool, true, cond, arith}
+use Rattle.std.proofs.Common.{ap, ◌∙◌, refl, length, take, drop, slice_index_or}
 use Rattle.std.specs.Prelude.{filter}
 use Rattle.serial_model.specs.Each.{AllIn}
 
@@ -36,3 +36,9 @@ module _ {A : Type 0} (P : A → Type 0) where
   in_at [] n d a lt = absurd (omega arith)
   in_at (x ∷ xs) zero d a lt = a.0
   in_at (x ∷ xs) (suc n) d a lt = in_at xs n d a.1 (omega arith)
+
+pub all_kept : {A : Type 0} (p : A → Bool) (xs : List A) → AllIn (λ x. p x ≡ true) xs
+    → filter p xs ≡ xs
+all_kept p [] a = refl
+all_kept p (x ∷ xs) a =
+    ap (λ b. cond b (x ∷ filter p xs) (filter p xs)) a.0 ∙ ap (λ ys. x ∷ ys) (all_kept p xs a.1)

@@ -1,24 +1,23 @@
 -- What each entry does, whatever the past: what it sends and what it changes.
 use Rattle.command_words.proofs.HeldAt.{at_without_due}
-use Rattle.serial_model.proofs.DueKeys.{due_is_past}
 use Rattle.std.proofs.Common.{◌≡◌, ◌+◌, ℕ, List, [], ◌∷◌, ◌++◌, true, false, length, Result}
-use Rattle.std.proofs.Common.{refl, ap, sym, subst, ◌∙◌, append-nil, arith}
-use Rattle.std.specs.Prelude.{◌==◌}
-use Rattle.command_words.specs.declared.command.Command.{Command}
+use Rattle.std.proofs.Common.{refl, sym, subst, arith}
 use Rattle.command_words.specs.declared.command.WordFault.{WordFault}
+use Rattle.command_words.specs.declared.command.Command.{Command}
 use Rattle.command_words.specs.Effect.{Effect}
 use Rattle.command_words.specs.Laws.{signals}
 use Rattle.command_words.specs.Space.{Space, held_at}
-use Rattle.serial_model.specs.declared.mode.Runner.{Runner}
 use Rattle.serial_model.specs.declared.history.Limits.{Limits}
 use Rattle.serial_model.specs.declared.history.Entry.{Entry}
-use Rattle.serial_model.specs.declared.history.Entry.TheVariants.{Admit, Run, Tick, Take, Close}
-use Rattle.serial_model.specs.History.{Sending, sends, sent_to, sent, has_ended, IsLegal, served}
+use Rattle.serial_model.specs.declared.history.Entry.TheVariants.{Run}
+use Rattle.serial_model.specs.Modes.{Runner}
+use Rattle.serial_model.specs.Actions.{Sending}
+use Rattle.serial_model.specs.History.{state, sends, sent_to, sent, has_ended, IsLegal, served}
 use Rattle.serial_model.specs.History.{effect_of, ran_over, ran, keyspace, is_admitted, expired}
 use Rattle.serial_model.specs.Laws.{AreOf, is_among}
+use Rattle.serial_model.proofs.DueKeys.{due_is_past}
 use Rattle.serial_model.proofs.ServedRows.{served_cases, data_effect, row_of}
-use Rattle.serial_model.proofs.Streams.{IsLive, live, run_sends_none, tick_sends_none}
-use Rattle.std.proofs.lemmas.Bool.{eqb-true}
+use Rattle.serial_model.proofs.Streams.{IsLive, live}
 
 -- ---- what is sent
 
@@ -30,36 +29,10 @@ pub sent_grows : (l : Limits) (c : ℕ) (entry : Entry) (past : List Entry)
     → (new : List (ℕ × Sending)) × (sent l c (entry ∷ past) ≡ sent l c past ++ new)
     × AreOf (length past + 1) new
 sent_grows l c entry past = (
-  sent_to (length past + 1) c (sends l entry past),
+  sent_to (length past + 1) c (sends l entry (state l past)),
   refl,
-  of_entry (length past + 1) c (sends l entry past),
+  of_entry (length past + 1) c (sends l entry (state l past)),
 )
-
-adds_none : (l : Limits) (c : ℕ) (entry : Entry) (past : List Entry)
-    → sent_to (length past + 1) c (sends l entry past) ≡ []
-    → sent l c (entry ∷ past) ≡ sent l c past
-adds_none l c entry past none = ap (λ ss. sent l c past ++ ss) none ∙ append-nil (sent l c past)
-
--- one that has not ended is not one that has
-live_other : (l : Limits) (past : List Entry) (c h : ℕ) → has_ended l c past ≡ true
-    → IsLive l past h → (h == c) ≡ false
-unfolding IsLive
-live_other l past c h ended e = grind (arith, eqb-true)
-
-pub end_is_last : (l : Limits) (c : ℕ) (entry : Entry) (past : List Entry)
-    → IsLegal l (entry ∷ past)
-    → has_ended l c past ≡ true → sent l c (entry ∷ past) ≡ sent l c past
-end_is_last l c (Admit id) past h ended = adds_none l c (Admit id) past refl
-end_is_last l c (Run id words m) past h ended =
-    adds_none l c (Run id words m) past
-    (grind (arith, run_sends_none, live_other))
-end_is_last l c (Tick m) past h ended =
-    adds_none l c (Tick m) past
-    (tick_sends_none l (length past + 1) c past m h.2 (λ k. live_other l past c k ended))
-end_is_last l c (Take id max) past h ended = adds_none l c (Take id max) past refl
-end_is_last l c (Close id) past h ended =
-    adds_none l c (Close id) past
-    (grind (arith, live_other, live))
 
 pub runs_live : (l : Limits) (id moment : ℕ) (words : List (List ℕ)) (past : List Entry)
     → IsLegal l (Run id words moment ∷ past)

@@ -1,5 +1,5 @@
 -- In the table of every history each key is there once and is held, and holders ascend.
-use Rattle.std.proofs.Common.{◌-◌, ℕ, List, [], ◌∷◌, length}
+use Rattle.std.proofs.Common.{◌-◌, ℕ, List, [], ◌∷◌, length, subst, sym}
 use Rattle.command_words.specs.declared.command.Signalled.{Signalled}
 use Rattle.command_words.specs.declared.command.Signalled.TheVariants.{Keys, All}
 use Rattle.track_table.specs.declared.table.Held.{Held}
@@ -10,9 +10,11 @@ use Rattle.track_table.proofs.Orders.{table_without_connection}
 use Rattle.serial_model.specs.declared.history.Limits.{Limits}
 use Rattle.serial_model.specs.declared.history.Entry.{Entry}
 use Rattle.serial_model.specs.declared.history.Entry.TheVariants.{Admit, Run, Tick, Take, Close}
-use Rattle.serial_model.specs.Modes.{Memory, Remembers, Forgets}
+use Rattle.serial_model.specs.Modes.{Memory, Remembers, Registers, Forgets}
 use Rattle.serial_model.specs.Tracking.{without_signalled, remembering}
-use Rattle.serial_model.specs.History.{table, table_then, table_grown, expired, signals, made}
+use Rattle.serial_model.specs.History.{state, table, table_then, table_grown, expired, signals}
+use Rattle.serial_model.specs.History.{made}
+use Rattle.serial_model.proofs.StateSteps.{run_table, tick_table}
 
 none : IsTable []
 none = record { ordered = tt; held = tt }
@@ -37,6 +39,7 @@ table_with_keys id (key ∷ keys) rows h =
 table_remembering : (id : ℕ) (memory : Memory) (rows : List Held) → IsTable rows
     → IsTable (remembering id memory rows)
 table_remembering id (Remembers keys) rows h = table_with_keys id keys rows h
+table_remembering id (Registers ps) rows h = h
 table_remembering id Forgets rows h = table_without_connection id rows h
 
 module _ (l : Limits) where
@@ -50,14 +53,17 @@ module _ (l : Limits) where
       (table_without_keys (expired l past moment) (table l past) h))
 
   pub is_table : (past : List Entry) → IsTable (table l past)
+  unfolding state
   is_table [] = none
   is_table (Admit id ∷ past) = is_table past
   is_table (Run id words moment ∷ past) =
       let grown = table_grown l past id words moment in
-      table_drop (length grown - l.table_max) grown
-      (grown_from past id words moment (is_table past))
+      subst IsTable (sym (run_table l past id moment words))
+      (table_drop (length grown - l.table_max) grown
+      (grown_from past id words moment (is_table past)))
   is_table (Tick moment ∷ past) =
-      table_without_keys (expired l past moment) (table l past) (is_table past)
+      subst IsTable (sym (tick_table l past moment))
+      (table_without_keys (expired l past moment) (table l past) (is_table past))
   is_table (Take id max ∷ past) = is_table past
   is_table (Close id ∷ past) = table_without_connection id (table l past) (is_table past)
 

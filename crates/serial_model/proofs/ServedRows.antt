@@ -37,9 +37,9 @@ use Rattle.command_words.specs.Strings.{incrby_effect, is_least, or_empty, sets,
 use Rattle.command_words.specs.Strings.{set_deadline}
 use Rattle.command_words.proofs.HeldAt.{at_insert, at_remove, at_remove_each}
 use Rattle.command_words.proofs.KeysOnce.{any_left, any_once, left_false, right_false}
-use Rattle.serial_model.specs.declared.mode.Mode.{Mode}
-use Rattle.serial_model.specs.declared.mode.Runner.{Runner}
-use Rattle.serial_model.specs.Modes.{Remembers, own_effect, remembers_read}
+use Rattle.track_modes.specs.ModeState.{remembers_read}
+use Rattle.track_modes.specs.Commands.{fault_at, spent_mode}
+use Rattle.serial_model.specs.Modes.{Runner, Remembers, Stays, own_effect, ending_of}
 use Rattle.serial_model.specs.Tracking.{AreApart}
 use Rattle.serial_model.specs.History.{served, effect_of}
 use Rattle.serial_model.specs.Laws.{is_among}
@@ -71,11 +71,19 @@ module _ (by : Runner) (words : List (List ℕ)) where
   unfolding effect string_effect hash_effect key_effect read_reply
   query_effect r s moment h = grind arith
 
--- a data command leaves its connection's mode, which remembers what it reads
-pub data_own : (c : Command) (mode : Mode) → has_row c ≡ true
-    → own_effect (Ok c) mode
-    ≡ record { mode = mode; memory = Remembers (if remembers_read mode then read c else []) }
-data_own c mode h = grind arith
+-- a data command ends what CLIENT CACHING said, and its connection remembers what it read
+pub data_own : (c : Command) (by : Runner) → has_row c ≡ true
+    → own_effect (Ok c) by
+    ≡ record {
+      mode = spent_mode by.mode;
+      memory = Remembers (if remembers_read by.mode then read c else []);
+    }
+unfolding fault_at
+data_own c by h = grind arith
+
+-- nothing that is served ends a connection
+pub none_ends : (r : Result Command WordFault) → ending_of (served r) ≡ Stays
+none_ends r = grind arith
 
 -- ---- what a row does
 

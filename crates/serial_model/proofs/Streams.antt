@@ -1,7 +1,5 @@
--- What one more entry does to the stream of a connection, and to what was taken of it.
-use Rattle.serial_model.proofs.Tables.{with_keys_all, all_rows, all_to, without_keys_all, kept_all}
-use Rattle.serial_model.proofs.Tables.{ids_all, signal_group_all, dropped_all, to_append, group_all}
-use Rattle.serial_model.proofs.Tables.{drop_group_all, freed_all, sent_to-append, routed_none}
+-- What one more entry does to the stream of a connection, to what was taken of it, and to what
+-- waits.
 use Rattle.std.proofs.Common.{◌≡◌, ◌+◌, ◌-◌, ◌<◌, ◌≤◌, ℕ, List, [], ◌∷◌, ◌++◌, length, drop, min}
 use Rattle.std.proofs.Common.{sym, ap, ◌∙◌, refl, arith, Bool, true, false, cond, append-nil}
 use Rattle.std.proofs.Common.{length-append}
@@ -9,18 +7,28 @@ use Rattle.std.specs.Prelude.{◌==◌, ◌&&◌, not}
 use Rattle.std.proofs.lemmas.Grind.{flat_map-append}
 use Rattle.std.proofs.lemmas.List.{drop-drop, drop-append-le, drop_all, length-drop}
 use Rattle.std.proofs.Math.Seq.{drop-nil}
-use Rattle.std.proofs.lemmas.Bool.{cases_lt}
+use Rattle.std.proofs.lemmas.Bool.{cases_lt, and_parts, both_ways, true_from_ne_false, eqb-true}
+use Rattle.std.proofs.lemmas.Bool.{eq-eqb}
 use Rattle.std.proofs.lemmas.Bool.Decides.{nat_tests}
 use Rattle.serial_model.specs.declared.history.Limits.{Limits}
 use Rattle.serial_model.specs.declared.history.Entry.{Entry}
 use Rattle.serial_model.specs.declared.history.Entry.TheVariants.{Admit, Run, Tick, Take, Close}
-use Rattle.track_table.specs.declared.table.Held.{Held}
-use Rattle.serial_model.specs.History.{admitted, is_admitted, runs_on, has_ended}
-use Rattle.serial_model.specs.History.{expired, table, table_grown, drops, expiry_group}
-use Rattle.serial_model.specs.History.{own_group, is_tracking, tracking, sends, sent_to, sent}
-use Rattle.serial_model.specs.History.{sent_bytes, stream, taken, unsent, runs_of, IsLegal}
-use Rattle.serial_model.specs.Tracking.{Invalidation, drop_group}
-use Rattle.serial_model.specs.Each.{AllIn, AllRows, AllTo}
+use Rattle.serial_model.specs.declared.standing.Standing.{Standing}
+use Rattle.serial_model.specs.declared.standing.Standing.TheVariants.{Live, Quit, QuitClosed, Gone}
+use Rattle.serial_model.specs.Tracking.{has_id}
+use Rattle.serial_model.specs.State.{State, is_live, keeps_bytes, may_take, closed}
+use Rattle.serial_model.specs.Actions.{Action, action_sends, action_leaves, ends, bytes_to}
+use Rattle.serial_model.specs.Actions.{standing_after}
+use Rattle.serial_model.specs.Actions.{quits, is_overgrown}
+use Rattle.serial_model.specs.History.{admitted, is_admitted, runs_on, reads_on, gives_on}
+use Rattle.serial_model.specs.History.{has_ended}
+use Rattle.serial_model.specs.History.{state, sends, next, sent_to, sent_bytes, stream, taken}
+use Rattle.serial_model.specs.History.{unsent, runs_of, run_action, tick_action, IsLegal}
+use Rattle.serial_model.specs.Laws.{CloseGivesUp, WaitingIsUnsent}
+use Rattle.serial_model.proofs.Sendings.{bytes_are}
+use Rattle.serial_model.proofs.Ends.{not_ending}
+use Rattle.serial_model.proofs.Fresh.{sent_fresh, fresh_is_first}
+use Rattle.serial_model.proofs.StateSteps.{run_stands, tick_stands}
 
 both_true : (a b : Bool) → (a && not b) ≡ true → (a ≡ true) × (b ≡ false)
 both_true a b h = grind arith
@@ -29,8 +37,60 @@ pub admitted_id : (past : List Entry) (id : ℕ) → is_admitted past id ≡ tru
     → (0 < id) × (id ≤ admitted past)
 admitted_id past id h = (grind (arith, nat_tests), grind (arith, nat_tests))
 
+live_keeps : (x : Standing) → not (is_live x) ≡ false → keeps_bytes x ≡ true
+live_keeps x e = grind arith
+
+-- ---- nothing quits
+
+is_settled : Standing → Bool
+is_settled Live = true
+is_settled Gone = true
+is_settled Quit = false
+is_settled QuitClosed = false
+
+settles : (b : Bool) (x y : Standing) → is_settled x ≡ true → is_settled y ≡ true
+    → is_settled (cond b (closed x) y) ≡ true
+unfolding is_settled
+settles b x y e f = grind arith
+
+settled_keeps : (x : Standing) → is_settled x ≡ true → keeps_bytes x ≡ is_live x
+unfolding is_settled
+settled_keeps x e = grind arith
+
+settled_takes : (x : Standing) → is_settled x ≡ true → may_take x ≡ is_live x
+unfolding is_settled
+settled_takes x e = grind arith
+
+twice : (a b : Bool) → (a && b) ≡ (a && not (not b))
+twice a b = grind arith
+
 module _ (l : Limits) where
-  -- a connection that runs on, reads on or gives on was admitted, and has not ended
+  settled : (past : List Entry) (c : ℕ) → is_settled ((state l past).standing c) ≡ true
+  unfolding state is_settled
+  settled [] c = refl
+  settled (Admit id ∷ past) c = settled past c
+  settled (Run id words moment ∷ past) c =
+      ap is_settled (run_stands l past c id moment words) ∙ settled past c
+  settled (Tick moment ∷ past) c = ap is_settled (tick_stands l past c moment) ∙ settled past c
+  settled (Take id max ∷ past) c = settled past c
+  settled (Close id ∷ past) c =
+      settles (id == c) ((state l past).standing id) ((state l past).standing c) (settled past id)
+      (settled past c)
+
+  -- one that may not run may not be closed or take either
+  pub reads_is_runs : (past : List Entry) (c : ℕ) → reads_on l past c ≡ runs_on l past c
+  reads_is_runs past c =
+      ap (λ b. is_admitted past c && b)
+      (settled_keeps ((state l past).standing c) (settled past c))
+      ∙ twice (is_admitted past c) (is_live ((state l past).standing c))
+
+  pub gives_is_runs : (past : List Entry) (c : ℕ) → gives_on l past c ≡ runs_on l past c
+  gives_is_runs past c =
+      ap (λ b. is_admitted past c && b)
+      (settled_takes ((state l past).standing c) (settled past c))
+      ∙ twice (is_admitted past c) (is_live ((state l past).standing c))
+
+  -- a connection that runs on was admitted, and has not ended
   pub connected : (past : List Entry) (id : ℕ) → runs_on l past id ≡ true
       → (0 < id) × (id ≤ admitted past)
   connected past id h = grind (arith, admitted_id, both_true)
@@ -39,8 +99,6 @@ module _ (l : Limits) where
       → has_ended l id past ≡ false
   not_ended past id h = (both_true (is_admitted past id) (has_ended l id past) h).1
 
-  -- ---- holders are admitted, and have not ended
-
   unfoldable pub IsLive : List Entry → ℕ → Type 0
   IsLive past h = (is_admitted past h ≡ true) × (has_ended l h past ≡ false)
 
@@ -48,156 +106,29 @@ module _ (l : Limits) where
   unfolding IsLive
   live past id h = both_true (is_admitted past id) (has_ended l id past) h
 
-  grown_live : (past : List Entry) (id : ℕ) (words : List (List ℕ)) (moment : ℕ)
-      → runs_on l past id ≡ true → AllRows (IsLive past) (table l past)
-      → AllRows (IsLive past) (table_grown l past id words moment)
-  grown_live past id words moment on a =
-      grind (arith, with_keys_all, all_rows, freed_all, live, without_keys_all)
-
-  admit_live : (past : List Entry) (id h : ℕ) → IsLive past h → IsLive (Admit id ∷ past) h
-  unfolding IsLive
-  admit_live past id h x = (grind (arith, nat_tests), x.1)
-
-  close_live : (past : List Entry) (id h : ℕ) → IsLive past h × ((h == id) ≡ false)
-      → IsLive (Close id ∷ past) h
-  unfolding IsLive
-  close_live past id h e = grind arith
-
-  run_live : (past : List Entry) (id : ℕ) (words : List (List ℕ)) (moment : ℕ) (rows : List Held)
-      → AllRows (IsLive past) rows → AllRows (IsLive (Run id words moment ∷ past)) rows
-  unfolding IsLive
-  run_live past id words moment rows a = a
-
-  tick_live : (past : List Entry) (moment : ℕ) (rows : List Held)
-      → AllRows (IsLive past) rows → AllRows (IsLive (Tick moment ∷ past)) rows
-  unfolding IsLive
-  tick_live past moment rows a = a
-
-  take_live : (past : List Entry) (id max : ℕ) (rows : List Held)
-      → AllRows (IsLive past) rows → AllRows (IsLive (Take id max ∷ past)) rows
-  unfolding IsLive
-  take_live past id max rows a = a
-
-  pub table_live : (past : List Entry) → IsLegal l past → AllRows (IsLive past) (table l past)
-  table_live [] h = tt
-  table_live (Admit id ∷ past) h =
-      all_rows {P = IsLive past} {Q = IsLive (Admit id ∷ past)} (admit_live past id) (table l past)
-      (table_live past h.1)
-  table_live (Run id words moment ∷ past) h =
-      run_live past id words moment (table l (Run id words moment ∷ past))
-      (kept_all (IsLive past) l.table_max (table_grown l past id words moment)
-      (grown_live past id words moment h.0 (table_live past h.2)))
-  table_live (Tick moment ∷ past) h =
-      tick_live past moment (table l (Tick moment ∷ past))
-      (without_keys_all (IsLive past) (expired l past moment) (table l past)
-      (table_live past h.2))
-  table_live (Take id max ∷ past) h = take_live past id max (table l past) (table_live past h.2)
-  table_live (Close id ∷ past) h =
-      all_rows {P = λ k. IsLive past k × ((k == id) ≡ false)} {Q = IsLive (Close id ∷ past)}
-      (close_live past id) (table l (Close id ∷ past))
-      (freed_all (IsLive past) id (table l past) (table_live past h.1))
-
-  -- those that track have not ended
-  tracking_live : (past : List Entry) (id : ℕ) (words : List (List ℕ)) (moment : ℕ)
-      → AllIn (IsLive past) (tracking l (Run id words moment ∷ past))
-  unfolding IsLive
-  tracking_live past id words moment =
-      ids_all (IsLive past) (is_tracking l (Run id words moment ∷ past)) (admitted past)
-      (grind (arith, nat_tests, both_true))
-
-  -- the groups of a Run behind its reply
-  abbrev pub behind : List Entry → ℕ → List (List ℕ) → ℕ → List Invalidation
-  behind past id words moment =
-      own_group l past id words moment ++ drop_group (drops l past id words moment)
-
-  pub expiry_live : (past : List Entry) (moment : ℕ) → IsLegal l past
-      → AllTo (IsLive past) (expiry_group l past moment)
-  expiry_live past moment h = grind (arith, group_all, table_live)
-
-  pub behind_live : (past : List Entry) (id : ℕ) (words : List (List ℕ)) (moment : ℕ)
-      → IsLegal l past → runs_on l past id ≡ true
-      → AllTo (IsLive past) (behind past id words moment)
-  behind_live past id words moment h on = grind (
-    arith,
-    table_live,
-    to_append,
-    signal_group_all,
-    tracking_live,
-    without_keys_all,
-    drop_group_all,
-    dropped_all,
-    grown_live,
-  )
-
-  -- a Run sends nothing to another that none of its groups is for
-  -- nothing is sent by a Run to one that is not live, but for its own reply
-  pub run_sends_none : (n c : ℕ) (past : List Entry) (id : ℕ) (words : List (List ℕ)) (moment : ℕ)
-      → IsLegal l past → runs_on l past id ≡ true → ((h : ℕ) → IsLive past h → (h == c) ≡ false)
-      → sent_to n c (sends l (Run id words moment) past) ≡ []
-  run_sends_none n c past id words moment h on not_c =
-      grind (
-        arith,
-        all_to,
-        expiry_live,
-        behind_live,
-        live,
-        nat_tests,
-        sent_to-append,
-        routed_none,
-        append-nil,
-      )
-
-  pub tick_sends_none : (n c : ℕ) (past : List Entry) (moment : ℕ)
-      → IsLegal l past → ((h : ℕ) → IsLive past h → (h == c) ≡ false)
-      → sent_to n c (sends l (Tick moment) past) ≡ []
-  tick_sends_none n c past moment h not_c = grind (arith, routed_none, all_to, expiry_live)
-
   -- ---- a connection that was not admitted
-
-  fresh_other : (past : List Entry) (c h : ℕ) → admitted past < c → IsLive past h → (h == c) ≡ false
-  unfolding IsLive
-  fresh_other past c h lt e = grind (arith, admitted_id)
-
-  pub sent_fresh : (past : List Entry) (c : ℕ) → IsLegal l past → admitted past < c
-      → sent l c past ≡ []
-  sent_fresh [] c h lt = refl
-  sent_fresh (Admit id ∷ past) c h lt = rw (sent_fresh past c h.1 (omega arith)) refl
-  sent_fresh (Run id words moment ∷ past) c h lt =
-      grind (arith, run_sends_none, fresh_other, sent_fresh past c h.2 lt)
-  sent_fresh (Tick moment ∷ past) c h lt =
-      grind (arith, tick_sends_none, fresh_other, sent_fresh past c h.2 lt)
-  sent_fresh (Take id max ∷ past) c h lt = rw (sent_fresh past c h.2 lt) refl
-  sent_fresh (Close id ∷ past) c h lt = grind (arith, connected, sent_fresh past c h.1 lt)
 
   pub ended_fresh : (past : List Entry) (c : ℕ) → IsLegal l past → admitted past < c
       → has_ended l c past ≡ false
-  ended_fresh [] c h lt = refl
-  ended_fresh (Admit id ∷ past) c h lt = ended_fresh past c h.1 (omega arith)
-  ended_fresh (Run id words moment ∷ past) c h lt = ended_fresh past c h.2 lt
-  ended_fresh (Tick moment ∷ past) c h lt = ended_fresh past c h.2 lt
-  ended_fresh (Take id max ∷ past) c h lt = ended_fresh past c h.2 lt
-  ended_fresh (Close id ∷ past) c h lt = grind (arith, connected, ended_fresh past c h.1 lt)
-
-  pub unsent_live : (past : List Entry) (c : ℕ) → has_ended l c past ≡ false
-      → unsent l c past ≡ drop (taken l c past) (stream l c past)
-  unfolding unsent
-  unsent_live past c h = ap (λ b. cond b [] (drop (taken l c past) (stream l c past))) h
+  ended_fresh past c h lt = ap (λ x. not (is_live x)) (fresh_is_first l c past h lt).standing
 
   pub stream_fresh : (past : List Entry) (c : ℕ) → IsLegal l past → admitted past < c
       → stream l c past ≡ []
   unfolding stream
-  stream_fresh past c h lt = ap sent_bytes (sent_fresh past c h lt)
+  stream_fresh past c h lt = ap sent_bytes (sent_fresh l c past h lt)
 
-  pub unsent_fresh : (past : List Entry) (c : ℕ) → IsLegal l past → admitted past < c
-      → unsent l c past ≡ []
-  unsent_fresh past c h lt = grind (arith, unsent_live, ended_fresh, stream_fresh, drop-nil)
+  other_id : (past : List Entry) (id c : ℕ) → is_admitted past id ≡ true → admitted past < c
+      → (id == c) ≡ false
+  other_id past id c on lt = grind (arith, nat_tests)
 
   pub runs_fresh : (past : List Entry) (c : ℕ) → IsLegal l past → admitted past < c
       → runs_of c past ≡ []
   runs_fresh [] c h lt = refl
   runs_fresh (Admit id ∷ past) c h lt = runs_fresh past c h.1 (omega arith)
   runs_fresh (Run id words moment ∷ past) c h lt =
-      let r = runs_fresh past c h.2 lt in let k = connected past id h.0 in grind (arith, nat_tests)
+      ap (λ b. cond b (runs_of c past ++ words ∷ []) (runs_of c past))
+      (other_id past id c (and_parts (is_admitted past id) _ h.0).0 lt)
+      ∙ runs_fresh past c h.2 lt
   runs_fresh (Tick moment ∷ past) c h lt = runs_fresh past c h.2 lt
   runs_fresh (Take id max ∷ past) c h lt = runs_fresh past c h.2 lt
   runs_fresh (Close id ∷ past) c h lt = runs_fresh past c h.1 lt
@@ -207,7 +138,7 @@ module _ (l : Limits) where
   -- what an entry sends comes after what was sent before
   pub stream_more : (past : List Entry) (c : ℕ) (entry : Entry)
       → stream l c (entry ∷ past) ≡ stream l c past
-      ++ sent_bytes (sent_to (length past + 1) c (sends l entry past))
+      ++ sent_bytes (sent_to (length past + 1) c (sends l entry (state l past)))
   unfolding stream
   stream_more past c entry = grind (arith, flat_map-append)
 
@@ -219,15 +150,22 @@ module _ (l : Limits) where
       → stream l c (Take id m ∷ past) ≡ stream l c past
   stream_take past c id m = grind (arith, stream_more, append-nil)
 
+  close_bytes : (n c id : ℕ) (s : State) → sent_bytes (sent_to n c (sends l (Close id) s)) ≡ []
+  close_bytes n c id s = grind arith
+
   -- an end has no bytes
+  pub stream_close : (past : List Entry) (c id : ℕ) → stream l c (Close id ∷ past) ≡ stream l c past
+  stream_close past c id = grind (arith, stream_more, append-nil, close_bytes)
+
   -- the bytes that a Run sends to a connection
   abbrev pub run_bytes : List Entry → ℕ → List (List ℕ) → ℕ → ℕ → List ℕ
   run_bytes past id words moment c =
-      sent_bytes (sent_to (length past + 1) c (sends l (Run id words moment) past))
+      sent_bytes (sent_to (length past + 1) c (sends l (Run id words moment) (state l past)))
 
   -- the bytes that a Tick sends to a connection
   abbrev pub tick_bytes : List Entry → ℕ → ℕ → List ℕ
-  tick_bytes past moment c = sent_bytes (sent_to (length past + 1) c (sends l (Tick moment) past))
+  tick_bytes past moment c =
+      sent_bytes (sent_to (length past + 1) c (sends l (Tick moment) (state l past)))
 
   -- ---- what was taken
 
@@ -251,34 +189,70 @@ module _ (l : Limits) where
 
   -- ---- what is unsent after an entry
 
-  -- where a connection has not ended and takes nothing, what an entry sends comes after what is
-  -- unsent
+  keeps : List Entry → ℕ → Bool
+  keeps past c = keeps_bytes ((state l past).standing c)
+
+  unsent_if : (past : List Entry) (c : ℕ)
+      → unsent l c past ≡ cond (keeps past c) (drop (taken l c past) (stream l c past)) []
+  unfolding unsent keeps
+  unsent_if past c = refl
+
+  pub unsent_live : (past : List Entry) (c : ℕ) → has_ended l c past ≡ false
+      → unsent l c past ≡ drop (taken l c past) (stream l c past)
+  unfolding keeps
+  unsent_live past c h =
+      unsent_if past c
+      ∙ ap (λ b. cond b (drop (taken l c past) (stream l c past)) [])
+      (live_keeps ((state l past).standing c) h)
+
+  pub unsent_ended : (past : List Entry) (c : ℕ) → has_ended l c past ≡ true → unsent l c past ≡ []
+  unfolding keeps
+  unsent_ended past c h =
+      unsent_if past c
+      ∙ ap (λ b. cond b (drop (taken l c past) (stream l c past)) [])
+      (settled_keeps ((state l past).standing c) (settled past c)
+      ∙ off ((state l past).standing c) h)
+    where
+      off : (x : Standing) → not (is_live x) ≡ true → is_live x ≡ false
+      off x e = grind arith
+
+  pub unsent_fresh : (past : List Entry) (c : ℕ) → IsLegal l past → admitted past < c
+      → unsent l c past ≡ []
+  unsent_fresh past c h lt =
+      unsent_live past c (ended_fresh past c h lt)
+      ∙ ap (drop (taken l c past)) (stream_fresh past c h lt) ∙ drop-nil (taken l c past)
+
   -- an entry that leaves a connection's stream, what it took and its end leaves what is unsent
   unsent_same : (past : List Entry) (c : ℕ) (entry : Entry)
-      → has_ended l c (entry ∷ past) ≡ has_ended l c past
+      → keeps (entry ∷ past) c ≡ keeps past c
       → taken l c (entry ∷ past) ≡ taken l c past → stream l c (entry ∷ past) ≡ stream l c past
       → unsent l c (entry ∷ past) ≡ unsent l c past
-  unfolding unsent
-  unsent_same past c entry ended took same = grind arith
+  unsent_same past c entry stays took same = grind (arith, unsent_if)
 
   pub unsent_admit : (past : List Entry) (c id : ℕ) → unsent l c (Admit id ∷ past) ≡ unsent l c past
+  unfolding state keeps
   unsent_admit past c id = unsent_same past c (Admit id) refl refl (stream_admit past c id)
 
+  -- where a connection has not ended, what an action sends comes after what is unsent
   pub unsent_run : (past : List Entry) (c id moment : ℕ) (words : List (List ℕ))
       → has_ended l c past ≡ false
       → unsent l c (Run id words moment ∷ past)
       ≡ unsent l c past ++ run_bytes past id words moment c
-  unsent_run past c id moment words live =
-      grind (arith, live, stream_more, unsent_live, drop-append-le, taken_le)
+  unsent_run past c id moment words h =
+      unsent_live (Run id words moment ∷ past) c
+      (ap (λ x. not (is_live x)) (run_stands l past c id moment words) ∙ h)
+      ∙ ap (drop (taken l c past)) (stream_more past c (Run id words moment))
+      ∙ drop-append-le (taken l c past) (stream l c past) _ (taken_le past c)
+      ∙ ap (λ x. x ++ run_bytes past id words moment c) (sym (unsent_live past c h))
 
   pub unsent_tick : (past : List Entry) (c moment : ℕ) → has_ended l c past ≡ false
       → unsent l c (Tick moment ∷ past) ≡ unsent l c past ++ tick_bytes past moment c
-  unsent_tick past c moment live =
-      grind (arith, live, stream_more, unsent_live, drop-append-le, taken_le)
-
-  pub unsent_ended : (past : List Entry) (c : ℕ) → has_ended l c past ≡ true → unsent l c past ≡ []
-  unfolding unsent
-  unsent_ended past c h = ap (λ b. cond b [] (drop (taken l c past) (stream l c past))) h
+  unsent_tick past c moment h =
+      unsent_live (Tick moment ∷ past) c
+      (ap (λ x. not (is_live x)) (tick_stands l past c moment) ∙ h)
+      ∙ ap (drop (taken l c past)) (stream_more past c (Tick moment))
+      ∙ drop-append-le (taken l c past) (stream l c past) _ (taken_le past c)
+      ∙ ap (λ x. x ++ tick_bytes past moment c) (sym (unsent_live past c h))
 
   drop_min : (m : ℕ) (q : List ℕ) → drop (min m (length q)) q ≡ drop m q
   drop_min m q = grind (arith, cases_lt, drop_all)
@@ -298,23 +272,142 @@ module _ (l : Limits) where
   pub unsent_take_own : (past : List Entry) (c id m : ℕ) → has_ended l c past ≡ false
       → (id == c) ≡ true
       → unsent l c (Take id m ∷ past) ≡ drop m (unsent l c past)
-  unsent_take_own past c id m live h = grind (arith, live, unsent_live, stream_take, drop_taken)
+  unfolding state
+  unsent_take_own past c id m h same =
+      unsent_live (Take id m ∷ past) c h
+      ∙ ap (drop (taken l c (Take id m ∷ past))) (stream_take past c id m)
+      ∙ drop_taken past c id m same
+      ∙ ap (drop m) (sym (unsent_live past c h))
 
-  -- another's Take leaves how much was taken
   -- another's Close is no end
   pub ended_other : (past : List Entry) (c id : ℕ) → (id == c) ≡ false
       → has_ended l c (Close id ∷ past) ≡ has_ended l c past
-  ended_other past c id h = ap (λ b. cond b true (has_ended l c past)) h
+  unfolding state
+  ended_other past c id h =
+      ap (λ b. not (is_live (cond b (closed ((state l past).standing id))
+      ((state l past).standing c)))) h
+
+  pub ended_close : (past : List Entry) (c id : ℕ) → (id == c) ≡ true
+      → has_ended l c (Close id ∷ past) ≡ true
+  unfolding state
+  ended_close past c id h =
+      ap (λ b. not (is_live (cond b (closed ((state l past).standing id))
+      ((state l past).standing c)))) h ∙ is_closed ((state l past).standing id)
+    where
+      is_closed : (x : Standing) → not (is_live (closed x)) ≡ true
+      is_closed x = grind arith
+
+  took_other : (past : List Entry) (c id m : ℕ) → (id == c) ≡ false
+      → taken l c (Take id m ∷ past) ≡ taken l c past
+  took_other past c id m h =
+      ap (λ b. cond b (taken l c past + min m (length (stream l c past) - taken l c past))
+      (taken l c past)) h
 
   pub unsent_take_other : (past : List Entry) (c id m : ℕ) → (id == c) ≡ false
       → unsent l c (Take id m ∷ past) ≡ unsent l c past
-  unsent_take_other past c id m h = grind (arith, unsent_same, stream_take)
+  unfolding state keeps
+  unsent_take_other past c id m h =
+      unsent_same past c (Take id m) refl (took_other past c id m h) (stream_take past c id m)
 
   pub unsent_close_own : (past : List Entry) (c id : ℕ) → (id == c) ≡ true
       → unsent l c (Close id ∷ past) ≡ []
-  unfolding unsent
-  unsent_close_own past c id h = grind arith
+  unsent_close_own past c id h = unsent_ended (Close id ∷ past) c (ended_close past c id h)
 
   pub unsent_close_other : (past : List Entry) (c id : ℕ) → (id == c) ≡ false
       → unsent l c (Close id ∷ past) ≡ unsent l c past
-  unsent_close_other past c id h = grind (arith, unsent_same, ended_other, stream_more, append-nil)
+  unfolding state keeps
+  unsent_close_other past c id h =
+      unsent_same past c (Close id)
+      (ap (λ b. keeps_bytes (cond b (closed ((state l past).standing id))
+      ((state l past).standing c))) h)
+      refl (stream_close past c id)
+
+-- ---- what waits is what is unsent
+
+left_is : (k : Bool) (took : ℕ) (xs : List ℕ)
+    → length (cond k (drop took xs) []) ≡ cond k (length xs - took) 0
+left_is k took xs = grind (arith, length-drop)
+
+keeps_before : (h q : Bool) (x : Standing) → (h ≡ true → is_live x ≡ true)
+    → keeps_bytes (cond h (cond q Quit Gone) x) ≡ true → keeps_bytes x ≡ true
+keeps_before h q x f e = grind arith
+
+more : (k' k : Bool) (w t : ℕ) (x y : List ℕ) → (k' ≡ true → k ≡ true) → t ≤ length x
+    → w ≡ cond k (length x - t) 0 → cond k' (w + length y) 0 ≡ cond k' (length (x ++ y) - t) 0
+more k' k w t x y f le e = rw length-append (grind arith)
+
+ending_live : (o : ℕ → Bool) (t : Action) (s : State) (c : ℕ) → has_id c (ends o t s) ≡ true
+    → is_live (s.standing c) ≡ true
+ending_live o t s c h = true_from_ne_false _ (λ e. both_ways _ (not_ending o t s c e) h)
+
+abbrev Waits : State → ℕ → ℕ → List ℕ → Type 0
+Waits s c took xs = s.waiting c ≡ cond (keeps_bytes (s.standing c)) (length xs - took) 0
+
+action_waits : (o : ℕ → Bool) (l : Limits) (t : Action) (s : State) (c took : ℕ) (xs : List ℕ)
+    → took ≤ length xs → Waits s c took xs
+    → Waits (action_leaves o l t s) c took (xs ++ bytes_to c (action_sends o l t s))
+action_waits o l t s c took xs le w =
+    more (keeps_bytes (standing_after o t s c)) (keeps_bytes (s.standing c)) (s.waiting c) took xs
+    (bytes_to c (action_sends o l t s))
+    (keeps_before (has_id c (ends o t s)) (quits t c) (s.standing c) (ending_live o t s c))
+    le w
+
+take_waits : (l : Limits) (id max : ℕ) (s : State) (c took : ℕ) (xs : List ℕ) → took ≤ length xs
+    → Waits s c took xs
+    → Waits (next l (Take id max) s) c
+    (cond (id == c) (took + min max (length xs - took)) took) xs
+take_waits l id max s c took xs le w = grind (arith, min, eqb-true)
+
+close_waits : (l : Limits) (id : ℕ) (s : State) (c took : ℕ) (xs : List ℕ)
+    → Waits s c took xs → Waits (next l (Close id) s) c took xs
+close_waits l id s c took xs w = grind (arith, eqb-true)
+
+module _ (l : Limits) (c : ℕ) where
+  more_bytes : (e : Entry) (past : List Entry)
+      → stream l c (e ∷ past) ≡ stream l c past ++ bytes_to c (sends l e (state l past))
+  more_bytes e past =
+      stream_more l past c e
+      ∙ ap (λ x. stream l c past ++ x) (bytes_are (length past + 1) c (sends l e (state l past)))
+
+  waits : (past : List Entry) → Waits (state l past) c (taken l c past) (stream l c past)
+  unfolding state stream
+  waits [] = refl
+  waits (Admit id ∷ past) = rw (more_bytes (Admit id) past, append-nil) (waits past)
+  waits (Run id words moment ∷ past) =
+      let s = state l past in
+      let t = run_action id words moment s in
+      rw (more_bytes (Run id words moment) past)
+      (action_waits (is_overgrown l t s) l t s c (taken l c past) (stream l c past)
+      (taken_le l past c) (waits past))
+  waits (Tick moment ∷ past) =
+      let s = state l past in
+      let t = tick_action moment s in
+      rw (more_bytes (Tick moment) past)
+      (action_waits (is_overgrown l t s) l t s c (taken l c past) (stream l c past)
+      (taken_le l past c) (waits past))
+  waits (Take id max ∷ past) =
+      rw (stream_take l past c id max)
+      (take_waits l id max (state l past) c (taken l c past) (stream l c past) (taken_le l past c)
+      (waits past))
+  waits (Close id ∷ past) =
+      rw (stream_close l past c id)
+      (close_waits l id (state l past) c (taken l c past) (stream l c past) (waits past))
+
+pub waiting_is_unsent : WaitingIsUnsent
+unfolding unsent
+waiting_is_unsent l c past =
+    waits l c past
+    ∙ sym (left_is (keeps_bytes ((state l past).standing c)) (taken l c past) (stream l c past))
+
+-- ---- a Close gives up what was not taken
+
+closed_keeps : (x : Standing) → keeps_bytes (closed x) ≡ false
+closed_keeps x = grind arith
+
+pub close_gives_up : CloseGivesUp
+unfolding state unsent
+close_gives_up l c past =
+    let rest = drop (taken l c (Close c ∷ past)) (stream l c (Close c ∷ past)) in
+    let x = (state l past).standing c in
+    ap (λ b. cond (keeps_bytes (cond b (closed x) x)) rest []) (eq-eqb c c refl)
+    ∙ ap (λ b. cond b rest []) (closed_keeps x)

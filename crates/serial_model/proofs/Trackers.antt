@@ -1,119 +1,189 @@
--- Each connection that remembers a key tracks.
-use Rattle.std.proofs.Common.{◌≡◌, ℕ, List, [], ◌∷◌, true, false, cond, Result, arith, eq-eqb}
+-- Who remembers keys or has registered prefixes tracks.
+use Rattle.std.proofs.Common.{◌≡◌, ◌<◌, ℕ, List, [], ◌∷◌, Bool, true, false, cond, refl, sym}
+use Rattle.std.proofs.Common.{◌∙◌, arith, subst, Option, Some, None, Result, Ok, Err, length}
 use Rattle.std.specs.Prelude.{◌==◌}
-use Rattle.std.proofs.lemmas.Bool.{eqb-true}
-use Rattle.std.proofs.lemmas.Bool.Decides.{nat_tests}
+use Rattle.std.proofs.lemmas.Bool.{eqb-true, eqb-false}
 use Rattle.command_words.specs.declared.command.Command.{Command}
-use Rattle.command_words.specs.declared.command.Signalled.TheVariants.{All}
+use Rattle.command_words.specs.declared.command.Command.TheVariants.{Hello, ClientTracking}
+use Rattle.command_words.specs.declared.command.TrackOptions.{TrackOptions}
 use Rattle.command_words.specs.declared.command.WordFault.{WordFault}
+use Rattle.command_words.specs.Effects.{has_row}
 use Rattle.command_words.specs.Queries.{read}
 use Rattle.command_words.specs.Words.{reading}
 use Rattle.track_table.specs.declared.table.Held.{Held}
-use Rattle.track_table.specs.Table.{with_keys}
-use Rattle.serial_model.specs.declared.mode.Mode.{Mode}
+use Rattle.track_table.specs.Table.{without_connection, kept}
+use Rattle.prefix_table.specs.declared.table.Registration.{Registration}
+use Rattle.prefix_table.specs.Table as registrations
+use Rattle.track_modes.specs.declared.fault.ModeFault.{ModeFault}
+use Rattle.track_modes.specs.ModeState.{ModeState, is_on, remembers_read}
+use Rattle.track_modes.specs.Commands.{fault_at}
 use Rattle.serial_model.specs.declared.history.Limits.{Limits}
 use Rattle.serial_model.specs.declared.history.Entry.{Entry}
 use Rattle.serial_model.specs.declared.history.Entry.TheVariants.{Admit, Run, Tick, Take, Close}
-use Rattle.serial_model.specs.Modes.{Memory, Remembers, Forgets, OwnEffect, own_effect}
-use Rattle.serial_model.specs.Tracking.{remembering, without_signalled}
-use Rattle.serial_model.specs.History.{ran_over, made_of, made, served, mode, table}
-use Rattle.serial_model.specs.History.{table_then, table_grown, expired, signals}
-use Rattle.serial_model.specs.Each.{AllRows}
-use Rattle.serial_model.proofs.Tables.{all_rows, with_keys_all, without_keys_all, kept_all}
-use Rattle.serial_model.proofs.Tables.{without_signalled_all, freed_all}
+use Rattle.serial_model.specs.Modes.{Memory, Remembers, Registers, Forgets, OwnEffect, Runner}
+use Rattle.serial_model.specs.Modes.{own_effect, unless_refused}
+use Rattle.serial_model.specs.State.{State, at}
+use Rattle.serial_model.specs.Tracking.{remembering, registering, without_signalled}
+use Rattle.serial_model.specs.Actions.{Action, action_leaves, modes_then, rows_then, rows_grown}
+use Rattle.serial_model.specs.Actions.{ends}
+use Rattle.serial_model.specs.Actions.{is_overgrown}
+use Rattle.serial_model.specs.Each.{AllRows, AllRegistered}
+use Rattle.serial_model.specs.History.{state, made_of, runner_in, run_action, tick_action, served}
+use Rattle.serial_model.proofs.Tables.{all_rows, all_registered, with_keys_all, with_prefixes_all}
+use Rattle.serial_model.proofs.Tables.{without_keys_all, without_signalled_all, kept_all, freed_all}
+use Rattle.serial_model.proofs.Tables.{unregistered_all, each_left_all, each_unregistered_all}
+use Rattle.serial_model.proofs.Tables.{left_all, still_registered}
 use Rattle.serial_model.proofs.ServedRows.{served_cases, data_own}
-use Rattle.serial_model.proofs.ModeSteps.{mode_other, mode_own}
 
--- one that comes to remember a key tracks, and one that stops tracking forgets
-OwnTracks : Mode → Mode → Memory → Type 0
-OwnTracks before after (Remembers []) = before.tracking ≡ true → after.tracking ≡ true
-OwnTracks before after (Remembers (key ∷ keys)) = after.tracking ≡ true
-OwnTracks before after Forgets = Unit {0}
+abbrev pub tracks_in : ModeState → Bool
+tracks_in m = is_on m.tracking
 
-abbrev Keeps : Mode → OwnEffect → Type 0
-Keeps before own = OwnTracks before own.mode own.memory
+-- who is kept for tracks behind the command
+abbrev pub Own : Memory → ModeState → ModeState → Type 0
+Own (Remembers keys) old new =
+    (tracks_in new ≡ tracks_in old) × (0 < length keys → tracks_in old ≡ true)
+Own (Registers prefixes) old new = tracks_in new ≡ true
+Own Forgets old new = Unit {0}
 
-reads_track : (m : Mode) (keys : List (List ℕ)) → m.tracking ≡ true
-    → OwnTracks m m (Remembers keys)
-unfolding OwnTracks
-reads_track m keys e = grind (arith, nat_tests)
+abbrev OwnOf : OwnEffect → ModeState → Type 0
+OwnOf e old = Own e.memory old e.mode
 
-data_tracks : (c : Command) (m : Mode) → OwnTracks m m (Remembers (cond m.tracking (read c) []))
-unfolding OwnTracks
-data_tracks c m = grind (arith, OwnTracks, reads_track, nat_tests)
+reads_track : (m : ModeState) (keys : List (List ℕ)) → 0 < length (cond (remembers_read m) keys [])
+    → tracks_in m ≡ true
+reads_track m keys lt = grind arith
 
-own_tracks : (r : Result Command WordFault) (m : Mode) → Keeps m (own_effect (served r) m)
-unfolding OwnTracks
-own_tracks r m = grind (arith, served_cases, OwnTracks, data_own, data_tracks, nat_tests)
+hello_own : (word : Option (List ℕ)) (by : Runner) → OwnOf (own_effect (Ok (Hello word)) by) by.mode
+unfolding fault_at
+hello_own None by = (refl, reads_track by.mode [])
+hello_own (Some word) by = (refl, reads_track by.mode [])
 
-module _ (P Q : ℕ → Type 0) (id : ℕ) (f : (h : ℕ) → (h == id) ≡ false → P h → Q h) where
-  by_id : (P id → Q id) → (h : ℕ) → P h → Q h
-  by_id own h p = grind (arith, eqb-true, nat_tests)
+tracking_own : (options : TrackOptions) (fault : Option ModeFault) (m : ModeState)
+    → OwnOf (unless_refused fault (ClientTracking options) m) m
+tracking_own options fault m = grind arith
 
-  some_remember : (keys : List (List ℕ)) (rows : List Held) → AllRows P rows → Q id
-      → AllRows Q (with_keys id keys rows)
-  some_remember keys rows a q = grind (arith, with_keys_all, all_rows, by_id)
+data_tracks : (c : Command) (by : Runner) → has_row c ≡ true → OwnOf (own_effect (Ok c) by) by.mode
+data_tracks c by h =
+    subst (λ (e : OwnEffect). OwnOf e by.mode) (sym (data_own c by h))
+    (refl, reads_track by.mode (read c))
 
-module _ (l : Limits) where
-  unfoldable pub Tracks : List Entry → ℕ → Type 0
-  Tracks past h = (mode l h past).tracking ≡ true
+refused_own : (fault : WordFault) (by : Runner) → OwnOf (own_effect (Err fault) by) by.mode
+refused_own fault by = (refl, grind arith)
 
-  turned : (a b : ℕ) → (a == b) ≡ false → (b == a) ≡ false
-  turned a b e = grind (arith, nat_tests)
+own_tracks : (r : Result Command WordFault) (by : Runner)
+    → OwnOf (own_effect (served r) by) by.mode
+own_tracks r by =
+    served_cases (λ r. OwnOf (own_effect r by) by.mode) (λ word. hello_own word by)
+    (λ options. tracking_own options (fault_at (ClientTracking options) by.target_exists by.mode)
+    by.mode)
+    (λ c h. data_tracks c by h) (λ fault. refused_own fault by) r
 
-  others_track : (past : List Entry) (id : ℕ) (words : List (List ℕ)) (moment h : ℕ)
-      → (h == id) ≡ false → Tracks past h → Tracks (Run id words moment ∷ past) h
-  unfolding Tracks
-  others_track past id words moment h other t = grind (arith, mode_other, turned)
+pub made_tracks : (words : List (List ℕ)) (by : Runner) → OwnOf (made_of words by) by.mode
+unfolding made_of
+made_tracks words by = own_tracks (reading words) by
 
-  own_is : (past : List Entry) (id : ℕ) (words : List (List ℕ)) (moment : ℕ)
-      → (made l past id words).mode.tracking ≡ true → Tracks (Run id words moment ∷ past) id
-  unfolding Tracks
-  own_is past id words moment e = grind (arith, mode_own, eq-eqb)
+abbrev pub Tracks : (ℕ → ModeState) → ℕ → Type 0
+Tracks modes h = tracks_in (modes h) ≡ true
 
-  own_made : (past : List Entry) (id : ℕ) (words : List (List ℕ))
-      → Keeps (mode l id past) (made l past id words)
-  unfolding made_of
-  own_made past id words = own_tracks (reading words) (mode l id past)
+-- where its own part keeps a test, a change at one connection keeps it of all
+at_keeps : (id : ℕ) (m : ModeState) (modes : ℕ → ModeState) (h : ℕ)
+    → (tracks_in (modes id) ≡ true → tracks_in m ≡ true) → Tracks modes h
+    → Tracks (at id m modes) h
+at_keeps id m modes h f e = grind (arith, eqb-true)
 
-  remembering_tracks : (past : List Entry) (id : ℕ) (words : List (List ℕ)) (moment : ℕ)
-      (rows : List Held) (memory : Memory)
-      → OwnTracks (mode l id past) (made l past id words).mode memory
-      → AllRows (Tracks past) rows
-      → AllRows (Tracks (Run id words moment ∷ past)) (remembering id memory rows)
-  unfolding OwnTracks Tracks
-  remembering_tracks past id words moment rows (Remembers []) own a =
-      grind (arith, all_rows, by_id, others_track, own_is)
-  remembering_tracks past id words moment rows (Remembers (key ∷ keys)) own a =
-      some_remember (Tracks past) (Tracks (Run id words moment ∷ past)) id
-      (others_track past id words moment) (key ∷ keys) rows a (own_is past id words moment own)
-  remembering_tracks past id words moment rows Forgets own a =
-      grind (arith, all_rows, freed_all, nat_tests, others_track)
+at_other : (id : ℕ) (m : ModeState) (modes : ℕ → ModeState) (h : ℕ)
+    → Tracks modes h × ((h == id) ≡ false) → Tracks (at id m modes) h
+at_other id m modes h e = grind (arith, eqb-true, eqb-false)
 
-  pub table_tracks : (past : List Entry) → AllRows (Tracks past) (table l past)
-  unfolding Tracks
-  table_tracks [] = tt
-  table_tracks (Admit id ∷ past) = table_tracks past
-  table_tracks (Run id words moment ∷ past) =
-      let then = table_then l past moment in
-      let sig = signals l past id words moment in
-      kept_all (Tracks (Run id words moment ∷ past)) l.table_max
-      (table_grown l past id words moment)
-      (remembering_tracks past id words moment (without_signalled sig then)
-      (made l past id words).memory (own_made past id words)
-      (without_signalled_all (Tracks past) sig then
-      (without_keys_all (Tracks past) (expired l past moment) (table l past)
-      (table_tracks past))))
-  table_tracks (Tick moment ∷ past) =
-      without_keys_all (Tracks past) (expired l past moment) (table l past) (table_tracks past)
-  table_tracks (Take id max ∷ past) = table_tracks past
-  table_tracks (Close id ∷ past) =
-      all_rows {P = λ h. Tracks past h × ((h == id) ≡ false)} {Q = Tracks past} (λ h x. x.0)
-      (table l (Close id ∷ past)) (freed_all (Tracks past) id (table l past) (table_tracks past))
+at_own : (id : ℕ) (m : ModeState) (modes : ℕ → ModeState) → tracks_in m ≡ true
+    → Tracks (at id m modes) id
+at_own id m modes e = grind (arith, eqb-true)
 
--- ---- a flush leaves its connection's mode
+module _ (id : ℕ) (m : ModeState) (modes : ℕ → ModeState) where
+  remembering_tracks : (memory : Memory) (rows : List Held) → Own memory (modes id) m
+      → AllRows (Tracks modes) rows → AllRows (Tracks (at id m modes)) (remembering id memory rows)
+  remembering_tracks (Remembers []) rows own a =
+      all_rows {P = Tracks modes} {Q = Tracks (at id m modes)}
+      (λ h e. at_keeps id m modes h (λ x. own.0 ∙ x) e) rows a
+  remembering_tracks (Remembers (key ∷ keys)) rows own a =
+      with_keys_all (Tracks (at id m modes)) id (key ∷ keys) rows
+      (at_own id m modes (own.0 ∙ own.1 (omega arith)))
+      (all_rows {P = Tracks modes} {Q = Tracks (at id m modes)}
+      (λ h e. at_keeps id m modes h (λ x. own.0 ∙ x) e) rows a)
+  remembering_tracks (Registers ps) rows own a =
+      all_rows {P = Tracks modes} {Q = Tracks (at id m modes)}
+      (λ h e. at_keeps id m modes h (λ x. own) e) rows a
+  remembering_tracks Forgets rows own a =
+      all_rows {P = λ h. Tracks modes h × ((h == id) ≡ false)} {Q = Tracks (at id m modes)}
+      (at_other id m modes) (without_connection id rows) (freed_all (Tracks modes) id rows a)
 
-pub flush_keeps : (l : Limits) (past : List Entry) (id moment : ℕ) (words : List (List ℕ))
-    → signals l past id words moment ≡ All → (made l past id words).mode ≡ mode l id past
-unfolding ran_over made_of
-flush_keeps l past id moment words h = grind (arith, nat_tests, served_cases, data_own)
+  registering_tracks : (memory : Memory) (rows : List Registration) → Own memory (modes id) m
+      → AllRegistered (Tracks modes) rows
+      → AllRegistered (Tracks (at id m modes)) (registering id memory rows)
+  registering_tracks (Remembers keys) rows own a =
+      all_registered {P = Tracks modes} {Q = Tracks (at id m modes)}
+      (λ h e. at_keeps id m modes h (λ x. own.0 ∙ x) e) rows a
+  registering_tracks (Registers ps) rows own a =
+      with_prefixes_all (Tracks (at id m modes)) id ps rows (at_own id m modes own)
+      (all_registered {P = Tracks modes} {Q = Tracks (at id m modes)}
+      (λ h e. at_keeps id m modes h (λ x. own) e) rows a)
+  registering_tracks Forgets rows own a =
+      all_registered {P = λ h. Tracks modes h × ((h == id) ≡ false)} {Q = Tracks (at id m modes)}
+      (at_other id m modes) (registrations.without_connection id rows)
+      (unregistered_all (Tracks modes) id rows a)
+
+-- holders and those that registered prefixes track
+pub record Track (modes : ℕ → ModeState) (rows : List Held) (prefixes : List Registration) : Type 0
+  where
+    pub of_keys : AllRows (Tracks modes) rows
+    pub of_prefixes : AllRegistered (Tracks modes) prefixes
+
+abbrev pub AllTrack : State → Type 0
+AllTrack s = Track s.modes s.table s.prefixes
+
+pub grown_tracks : (t : Action) (s : State) → Own t.effect.memory (s.modes t.by) t.effect.mode
+    → AllTrack s → AllRows (Tracks (modes_then t s)) (rows_grown t s)
+grown_tracks t s own a =
+    remembering_tracks t.by t.effect.mode s.modes t.effect.memory
+    (without_signalled t.effect.signalled (rows_then t s)) own
+    (without_signalled_all (Tracks s.modes) t.effect.signalled (rows_then t s)
+    (without_keys_all (Tracks s.modes) t.expired s.table a.of_keys))
+
+action_tracks : (o : ℕ → Bool) (l : Limits) (t : Action) (s : State)
+    → Own t.effect.memory (s.modes t.by) t.effect.mode → AllTrack s
+    → AllTrack (action_leaves o l t s)
+action_tracks o l t s own a =
+    record {
+      of_keys = each_left_all (Tracks (modes_then t s)) (ends o t s)
+          (kept l.table_max (rows_grown t s))
+          (kept_all (Tracks (modes_then t s)) l.table_max (rows_grown t s)
+          (grown_tracks t s own a));
+      of_prefixes = each_unregistered_all (Tracks (modes_then t s)) (ends o t s)
+          (registering t.by t.effect.memory s.prefixes)
+          (registering_tracks t.by t.effect.mode s.modes t.effect.memory s.prefixes own
+          a.of_prefixes);
+    }
+
+pub all_track : (l : Limits) (past : List Entry) → AllTrack (state l past)
+unfolding state
+all_track l [] = record { of_keys = tt; of_prefixes = tt }
+all_track l (Admit id ∷ past) = all_track l past
+all_track l (Run id words moment ∷ past) =
+    let s = state l past in
+    let t = run_action id words moment s in
+    action_tracks (is_overgrown l t s) l t s (made_tracks words (runner_in s id words))
+    (all_track l past)
+all_track l (Tick moment ∷ past) =
+    let s = state l past in
+    let t = tick_action moment s in
+    action_tracks (is_overgrown l t s) l t s (refl, no_keys) (all_track l past)
+  where
+    no_keys : {A : Type 0} → 0 < 0 → A
+    no_keys lt = absurd (omega (arith, lt))
+all_track l (Take id max ∷ past) = all_track l past
+all_track l (Close id ∷ past) =
+    let s = state l past in
+    let a = all_track l past in
+    record {
+      of_keys = left_all (Tracks s.modes) id s.table a.of_keys;
+      of_prefixes = still_registered (Tracks s.modes) id s.prefixes a.of_prefixes;
+    }

@@ -20,6 +20,7 @@ use Rattle.serial_model.specs.Steps.{Turn, gone, admitting, running, closing, bo
 use Rattle.serial_model.specs.Steps.{BookStep, Turns, given_by, given, ran_by, answered}
 use Rattle.serial_model.specs.Laws.{IsAdded}
 use Rattle.serial_model.proofs.Streams.{stream_more, stream_take, taken_le, not_ended, unsent_live}
+use Rattle.serial_model.proofs.Streams.{gives_is_runs}
 use Rattle.serial_model.proofs.StepCases.{by_admit, by_run, by_tick, by_take, by_close}
 
 module _ (l : Limits) where
@@ -83,7 +84,8 @@ module _ (l : Limits) where
   step_gives c past (Take id most) =
       by_take l past (Gives c past (Take id most)) id most (append-nil (first c past))
       (append-nil (first c past))
-      (grind (arith, first_take, not_ended))
+      (λ on some. first_take c id most past (take most (unsent l id past))
+      (not_ended l past id (sym (gives_is_runs l past id) ∙ on)) refl)
   step_gives c past (Close id) =
       by_close l past (Gives c past (Close id)) id (append-nil (first c past))
       (λ on. first_same c past (entry.Close id) refl)

@@ -1,36 +1,40 @@
 -- What a history says. A past is a list of entries, the newest first; entries, connections and the
 -- runs of words are numbered from 1, and 0 is no number.
 use Rattle.std.specs.Prelude.{◌≡◌, ◌+◌, ◌-◌, ◌≤◌, ◌&&◌, ◌==◌, ℕ, List, [], ◌∷◌, ◌++◌, Bool}
-use Rattle.std.specs.Prelude.{true, false, not, if◌then◌else◌, nat_lt, nat_le, length, min, take}
-use Rattle.std.specs.Prelude.{drop}
-use Rattle.std.specs.Prelude.{Ok, Err, Result, codes}
+use Rattle.std.specs.Prelude.{true, not, if◌then◌else◌, nat_lt, nat_le, length, min, take}
+use Rattle.std.specs.Prelude.{drop, Option, Some, None}
+use Rattle.std.specs.Prelude.{Ok, Err, Result}
 use Rattle.std.specs.List.{flat_map}
-use Rattle.std.specs.FinMap.{empty}
-use Rattle.resp_value.specs.declared.value.Value.{Value}
-use Rattle.resp_value.specs.declared.value.Value.TheVariants.{Error, Simple}
+use Rattle.resp_value.specs.declared.value.Value.TheVariants.{Error}
 use Rattle.resp_value.specs.declared.value.Proto.{Proto}
-use Rattle.resp_value.specs.declared.value.Proto.TheVariants.{Two, Three}
-use Rattle.resp_value.specs.ValueTree.{tree_of}
-use Rattle.resp_value.specs.Spelling.{spelling}
 use Rattle.command_words.specs.declared.command.Command.{Command}
 use Rattle.command_words.specs.declared.command.Command.TheVariants.{Hello, ClientTracking}
 use Rattle.command_words.specs.declared.command.Signalled.{Signalled}
+use Rattle.command_words.specs.declared.command.Signalled.TheVariants.{Keys}
 use Rattle.command_words.specs.declared.command.WordFault.{WordFault}
 use Rattle.command_words.specs.declared.command.WordFault.TheVariants.{Unknown}
 use Rattle.command_words.specs.Words.{reading, fault_text}
 use Rattle.command_words.specs.Space.{Space}
-use Rattle.command_words.specs.Effect.{Effect, replied}
+use Rattle.command_words.specs.Effect as words
+use Rattle.command_words.specs.Effect.{replied}
 use Rattle.command_words.specs.Effects.{effect, has_row}
 use Rattle.command_words.specs.Expiry.{without_due}
-use Rattle.serial_model.specs.declared.mode.Mode.{Mode}
-use Rattle.serial_model.specs.declared.mode.Runner.{Runner}
 use Rattle.track_table.specs.declared.table.Held.{Held}
-use Rattle.track_table.specs.Table.{without_connection, dropped, kept, without_keys}
-use Rattle.serial_model.specs.Modes.{first_mode, hello, hello_reply, is_served_tracking}
-use Rattle.serial_model.specs.Modes.{OwnEffect, own_effect, Memory}
+use Rattle.track_table.specs.Table.{without_connection, without_keys, dropped}
+use Rattle.prefix_table.specs.Table as registrations
+use Rattle.track_modes.specs.ModeState.{ModeState}
+use Rattle.track_modes.specs.Commands.{fault_at}
+use Rattle.serial_model.specs.Modes.{hello, hello_reply, is_served_tracking, accepted, target_of}
+use Rattle.serial_model.specs.Modes.{Runner, OwnEffect, own_effect, Remembers, ending_of}
+use Rattle.serial_model.specs.Modes.{Stays, is_stopping}
 use Rattle.serial_model.specs.Deadlines.{due_keys}
-use Rattle.serial_model.specs.Tracking.{Invalidation, group, drop_group, push_of}
-use Rattle.serial_model.specs.Tracking.{without_signalled, remembering, ids_where, signal_group}
+use Rattle.serial_model.specs.Tracking.{Invalidation}
+use Rattle.serial_model.specs.State.{State, start, is_on, is_live, keeps_bytes, may_take}
+use Rattle.serial_model.specs.State.{closed, at}
+pub use Rattle.serial_model.specs.Actions.{Sending, Message, End, spelled, sending_bytes, routed}
+use Rattle.serial_model.specs.Actions.{Action, ActionEffect, replies, action_sends, action_leaves}
+use Rattle.serial_model.specs.Actions.{is_overgrown, expiry_told}
+use Rattle.serial_model.specs.Actions.{own_told, later_told, rows_grown, tracks}
 use Rattle.serial_model.specs.declared.history.Limits.{Limits}
 use Rattle.serial_model.specs.declared.history.Entry.{Entry}
 use Rattle.serial_model.specs.declared.history.Entry.TheVariants.{Admit, Run, Tick, Take, Close}
@@ -76,62 +80,149 @@ served (Err fault) = Err fault
 abbrev pub served_reading : List (List ℕ) → Result Command WordFault
 served_reading words = served (reading words)
 
-abbrev pub effect_of : Runner → List (List ℕ) → Result Command WordFault → Space → ℕ → Effect
+-- what a command does to keys, and what it answers
+abbrev pub effect_of : Runner → List (List ℕ) → Result Command WordFault → Space → ℕ → words.Effect
 effect_of by words (Ok (Hello word)) space moment =
     replied (hello_reply by.id (hello word by.mode.proto)) space
-effect_of by words (Ok (ClientTracking options)) space moment = replied (Simple (codes "OK")) space
+effect_of by words (Ok (ClientTracking options)) space moment =
+    replied (accepted (fault_at (ClientTracking options) by.target_exists by.mode)) space
 effect_of by words (Ok command) space moment = effect command space moment
 effect_of by words (Err fault) space moment = replied (Error (fault_text words fault)) space
 
 -- what a connection's words do to a keyspace at a moment, a command or not
-unfoldable pub ran_over : Space → Runner → List (List ℕ) → ℕ → Effect
+unfoldable pub ran_over : Space → Runner → List (List ℕ) → ℕ → words.Effect
 ran_over space by words moment = effect_of by words (served_reading words) space moment
 
 -- what words make of their connection, a command or not
-unfoldable pub made_of : List (List ℕ) → Mode → OwnEffect
-made_of words mode = own_effect (served_reading words) mode
+unfoldable pub made_of : List (List ℕ) → Runner → OwnEffect
+made_of words by = own_effect (served_reading words) by
+
+-- the target of a redirection is a connection that was admitted and has not ended
+abbrev pub is_target : State → Option ℕ → Bool
+is_target s None = true
+is_target s (Some r) = is_on s r
+
+abbrev pub runner_in : State → ℕ → List (List ℕ) → Runner
+runner_in s id words =
+    record {
+      id = id;
+      mode = s.modes id;
+      target_exists = is_target s (target_of (served_reading words));
+    }
+
+-- SHUTDOWN is not answered
+abbrev pub effect_in : State → ℕ → List (List ℕ) → ℕ → ActionEffect
+effect_in s id words moment =
+    let by = runner_in s id words in
+    let ran = ran_over (without_due moment s.space) by words moment in
+    let made = made_of words by in
+    let ending = ending_of (served_reading words) in
+    record {
+      reply = if is_stopping ending then None else Some ran.reply;
+      signalled = ran.signalled;
+      mode = made.mode;
+      memory = made.memory;
+      ending = ending;
+      space = ran.space;
+    }
+
+-- ---- the history, entry by entry
+
+abbrev pub run_action : ℕ → List (List ℕ) → ℕ → State → Action
+run_action id words moment s =
+    record {
+      by = id;
+      moment = moment;
+      expired = due_keys moment s.space;
+      effect = effect_in s id words moment;
+    }
+
+-- a Tick is of no connection, and nothing is answered
+abbrev pub tick_action : ℕ → State → Action
+tick_action moment s =
+    record {
+      by = 0;
+      moment = moment;
+      expired = due_keys moment s.space;
+      effect = record {
+        reply = None;
+        signalled = Keys [];
+        mode = s.modes 0;
+        memory = Remembers [];
+        ending = Stays;
+        space = without_due moment s.space;
+      };
+    }
+
+-- what one entry sends, and to whom, in order: the only place that says so
+abbrev pub sends : Limits → Entry → State → List (ℕ × Sending)
+sends l (Admit id) s = []
+sends l (Run id words moment) s =
+    let t = run_action id words moment s in action_sends (is_overgrown l t s) l t s
+sends l (Tick moment) s =
+    let t = tick_action moment s in action_sends (is_overgrown l t s) l t s
+sends l (Take id max) s = []
+sends l (Close id) s = if is_live (s.standing id) then (id, End) ∷ [] else []
+
+-- what it leaves: a Close gives up what was not taken, and all that is kept for its connection
+abbrev pub next : Limits → Entry → State → State
+next l (Admit id) s = record s { admitted = s.admitted + 1 }
+next l (Run id words moment) s =
+    let t = run_action id words moment s in action_leaves (is_overgrown l t s) l t s
+next l (Tick moment) s =
+    let t = tick_action moment s in action_leaves (is_overgrown l t s) l t s
+next l (Take id max) s = record s { waiting = at id (s.waiting id - max) s.waiting }
+next l (Close id) s =
+    record s {
+      standing = at id (closed (s.standing id)) s.standing;
+      waiting = at id 0 s.waiting;
+      table = without_connection id s.table;
+      prefixes = registrations.without_connection id s.prefixes;
+    }
+
+unfoldable pub state : Limits → List Entry → State
+state l [] = start
+state l (entry ∷ past) = next l entry (state l past)
+
+-- ---- what the state says
+
+abbrev pub keyspace : Limits → List Entry → Space
+keyspace l past = (state l past).space
+
+-- the remembered keys after all entries, in order of age
+abbrev pub table : Limits → List Entry → List Held
+table l past = (state l past).table
 
 -- the mode of a connection: its own Runs alone change it
-abbrev pub mode : Limits → ℕ → List Entry → Mode
-mode l c [] = first_mode
-mode l c (Admit id ∷ past) = mode l c past
-mode l c (Run id words moment ∷ past) =
-    if id == c then (made_of words (mode l c past)).mode else mode l c past
-mode l c (Tick moment ∷ past) = mode l c past
-mode l c (Take id max ∷ past) = mode l c past
-mode l c (Close id ∷ past) = mode l c past
+abbrev pub mode : Limits → ℕ → List Entry → ModeState
+mode l c past = (state l past).modes c
 
--- the protocol of a connection
+abbrev pub modes : Limits → List Entry → ℕ → ModeState
+modes l past = (state l past).modes
+
 abbrev pub protocol : Limits → ℕ → List Entry → Proto
 protocol l c past = (mode l c past).proto
 
--- what its words make of a connection that has this past
-abbrev pub made : Limits → List Entry → ℕ → List (List ℕ) → OwnEffect
-made l past id words = made_of words (mode l id past)
+abbrev pub has_ended : Limits → ℕ → List Entry → Bool
+has_ended l c past = not (is_live ((state l past).standing c))
 
-abbrev pub runner : Limits → List Entry → ℕ → Runner
-runner l past id = record { id = id; mode = mode l id past }
+-- a connection that tracks and has not ended
+abbrev pub is_tracking : Limits → List Entry → ℕ → Bool
+is_tracking l past c = tracks (state l past) c
 
--- the keyspace after all entries: a Run and a Tick first take out the keys that are due
-abbrev pub keyspace : Limits → List Entry → Space
-keyspace l [] = empty
-keyspace l (Admit id ∷ past) = keyspace l past
-keyspace l (Run id words moment ∷ past) =
-    (ran_over (without_due moment (keyspace l past)) (runner l past id) words moment).space
-keyspace l (Tick moment ∷ past) = without_due moment (keyspace l past)
-keyspace l (Take id max ∷ past) = keyspace l past
-keyspace l (Close id ∷ past) = keyspace l past
+-- ---- what it says of an entry
+
+abbrev pub runner : Limits → List Entry → ℕ → List (List ℕ) → Runner
+runner l past id words = runner_in (state l past) id words
 
 -- what a connection's words do after a past, at a moment
-abbrev pub ran : Limits → List Entry → ℕ → List (List ℕ) → ℕ → Effect
+abbrev pub ran : Limits → List Entry → ℕ → List (List ℕ) → ℕ → words.Effect
 ran l past id words moment =
-    ran_over (without_due moment (keyspace l past)) (runner l past id) words moment
+    ran_over (without_due moment (keyspace l past)) (runner l past id words) words moment
 
--- ---- what is remembered and told, step by step. A Run goes in this order: keys that are past
--- their deadline leave, its command runs, keys that it signals are told and forgotten, its
--- connection remembers what it read, keys past the table's limit are dropped, and connections with
--- too much untaken output end. A Tick has the first of these steps: it remembers no key, so none is
--- past the table's limit.
+-- what its words make of a connection that has this past
+abbrev pub made : Limits → List Entry → ℕ → List (List ℕ) → OwnEffect
+made l past id words = made_of words (runner l past id words)
 
 -- the keys that are past their deadline, in order
 abbrev pub expired : Limits → List Entry → ℕ → List (List ℕ)
@@ -141,122 +232,38 @@ expired l past moment = due_keys moment (keyspace l past)
 abbrev pub signals : Limits → List Entry → ℕ → List (List ℕ) → ℕ → Signalled
 signals l past id words moment = (ran l past id words moment).signalled
 
--- the remembered keys once those that left are forgotten
-abbrev pub after_expiry : List (List ℕ) → List Held → List Held
-after_expiry keys rows = without_keys keys rows
-
--- the remembered keys once those of a command are forgotten, and it remembers what it read
-abbrev pub after_run : ℕ → Memory → Signalled → List Held → List Held
-after_run id memory signalled rows = remembering id memory (without_signalled signalled rows)
-
--- the remembered keys after all entries, in order of age
-abbrev pub table : Limits → List Entry → List Held
-table l [] = []
-table l (Admit id ∷ past) = table l past
-table l (Run id words moment ∷ past) =
-    kept l.table_max
-    (after_run id (made l past id words).memory (signals l past id words moment)
-    (after_expiry (expired l past moment) (table l past)))
-table l (Tick moment ∷ past) = after_expiry (expired l past moment) (table l past)
-table l (Take id max ∷ past) = table l past
-table l (Close id ∷ past) = without_connection id (table l past)
-
 -- the table of a Run, where its command has run, and where it has remembered
 abbrev pub table_then : Limits → List Entry → ℕ → List Held
-table_then l past moment = after_expiry (expired l past moment) (table l past)
+table_then l past moment = without_keys (expired l past moment) (table l past)
 
 abbrev pub table_grown : Limits → List Entry → ℕ → List (List ℕ) → ℕ → List Held
 table_grown l past id words moment =
-    after_run id (made l past id words).memory (signals l past id words moment)
-    (table_then l past moment)
-
--- ---- who is told
-
--- the end of a connection
-abbrev pub has_ended : Limits → ℕ → List Entry → Bool
-has_ended l c [] = false
-has_ended l c (Admit id ∷ past) = has_ended l c past
-has_ended l c (Run id words moment ∷ past) = has_ended l c past
-has_ended l c (Tick moment ∷ past) = has_ended l c past
-has_ended l c (Take id max ∷ past) = has_ended l c past
-has_ended l c (Close id ∷ past) = if id == c then true else has_ended l c past
-
--- a connection that tracks and has not ended
-abbrev pub is_tracking : Limits → List Entry → ℕ → Bool
-is_tracking l past c = (mode l c past).tracking && not (has_ended l c past)
-
--- the connections that track, in order of their ids
-abbrev pub tracking : Limits → List Entry → List ℕ
-tracking l past = ids_where (is_tracking l past) (admitted past)
-
--- ---- what is sent
-
--- what a connection is sent: a message in the protocol that it has at that moment, or its end
-pub data Sending : Type 0 where
-  Message : Proto → Value → Sending
-  End : Sending
-
--- the route of an invalidation, by the mode of its receiver: on the second protocol it goes nowhere
-abbrev pub by_proto : Proto → Invalidation → List (ℕ × Sending)
-by_proto Two i = []
-by_proto Three i = (i.to, Message Three (push_of i.keys)) ∷ []
-
-abbrev pub route : Mode → Invalidation → List (ℕ × Sending)
-route mode i = by_proto mode.proto i
-
-abbrev pub routed : (ℕ → Mode) → List Invalidation → List (ℕ × Sending)
-routed modes told = flat_map (λ i. route (modes i.to) i) told
-
--- the three groups of a Run
-abbrev pub expiry_group : Limits → List Entry → ℕ → List Invalidation
-expiry_group l past moment = group (expired l past moment) (table l past)
-
-abbrev pub own_group : Limits → List Entry → ℕ → List (List ℕ) → ℕ → List Invalidation
-own_group l past id words moment =
-    signal_group (signals l past id words moment) (tracking l (Run id words moment ∷ past))
-    (table_then l past moment)
+    let s = state l past in rows_grown (run_action id words moment s) s
 
 abbrev pub drops : Limits → List Entry → ℕ → List (List ℕ) → ℕ → List Held
 drops l past id words moment = dropped l.table_max (table_grown l past id words moment)
 
--- connections with more untaken output than the limit end: not yet
-abbrev pub overgrown : Limits → List Entry → ℕ → List (List ℕ) → ℕ → List (ℕ × Sending)
-overgrown l past id words moment = []
+-- the groups of a Run, of which a Tick has the first alone
+abbrev pub expiry_group : Limits → List Entry → ℕ → List Invalidation
+expiry_group l past moment = let s = state l past in expiry_told (tick_action moment s) s
 
--- the reply, spelled in the protocol that is in force after its command
-abbrev pub reply_protocol : Limits → List Entry → ℕ → List (List ℕ) → Proto
-reply_protocol l past id words = (made l past id words).mode.proto
+abbrev pub own_group : Limits → List Entry → ℕ → List (List ℕ) → ℕ → List Invalidation
+own_group l past id words moment =
+    let s = state l past in own_told (run_action id words moment s) s
 
-abbrev pub reply_of : Limits → List Entry → ℕ → List (List ℕ) → ℕ → ℕ × Sending
-reply_of l past id words moment =
-    (id, Message (reply_protocol l past id words) (ran l past id words moment).reply)
-
--- the modes before a Run, and those once its command has run
-abbrev pub modes : Limits → List Entry → ℕ → Mode
-modes l past c = mode l c past
-
--- what one entry on a past sends, and to whom, in order: the only place that says so
-abbrev pub sends : Limits → Entry → List Entry → List (ℕ × Sending)
-sends l (Admit id) past = []
-sends l (Run id words moment) past =
-    routed (modes l past) (expiry_group l past moment)
-    ++ reply_of l past id words moment
-    ∷ (routed (modes l (Run id words moment ∷ past))
-    (own_group l past id words moment ++ drop_group (drops l past id words moment))
-    ++ overgrown l past id words moment)
-sends l (Tick moment) past = routed (modes l past) (expiry_group l past moment)
-sends l (Take id max) past = []
-sends l (Close id) past = (id, End) ∷ []
+abbrev pub reply_of : Limits → List Entry → ℕ → List (List ℕ) → ℕ → List (ℕ × Sending)
+reply_of l past id words moment = replies (run_action id words moment (state l past))
 
 -- whom an entry tells of which keys, in order, whatever the route
+abbrev pub action_told : Limits → Action → State → List Invalidation
+action_told l t s = expiry_told t s ++ later_told l t s
+
 abbrev pub invalidations : Limits → Entry → List Entry → List Invalidation
-invalidations l (Admit id) past = []
 invalidations l (Run id words moment) past =
-    expiry_group l past moment
-    ++ own_group l past id words moment ++ drop_group (drops l past id words moment)
-invalidations l (Tick moment) past = expiry_group l past moment
-invalidations l (Take id max) past = []
-invalidations l (Close id) past = []
+    let s = state l past in action_told l (run_action id words moment s) s
+invalidations l (Tick moment) past =
+    let s = state l past in action_told l (tick_action moment s) s
+invalidations l _ past = []
 
 -- those of an entry's sendings that are for one connection, with the number of the entry
 abbrev pub sent_to : ℕ → ℕ → List (ℕ × Sending) → List (ℕ × Sending)
@@ -267,16 +274,8 @@ sent_to entry c (s ∷ ss) =
 -- all that was sent to a connection, in order, each with the number of its entry
 abbrev pub sent : Limits → ℕ → List Entry → List (ℕ × Sending)
 sent l c [] = []
-sent l c (entry ∷ past) = sent l c past ++ sent_to (length past + 1) c (sends l entry past)
-
--- the bytes of a message in a protocol
-unfoldable pub spelled : Proto → Value → List ℕ
-spelled proto value = spelling proto (tree_of value)
-
--- an end has no bytes
-abbrev pub sending_bytes : Sending → List ℕ
-sending_bytes (Message proto value) = spelled proto value
-sending_bytes End = []
+sent l c (entry ∷ past) =
+    sent l c past ++ sent_to (length past + 1) c (sends l entry (state l past))
 
 abbrev pub sent_bytes : List (ℕ × Sending) → List ℕ
 sent_bytes ss = flat_map (λ s. sending_bytes s.1) ss
@@ -298,7 +297,7 @@ posts_of entry (s ∷ ss) =
 
 unfoldable pub posted : Limits → List Entry → List Post
 posted l [] = []
-posted l (entry ∷ past) = posts_of (length past + 1) (sends l entry past)
+posted l (entry ∷ past) = posts_of (length past + 1) (sends l entry (state l past))
 
 -- ---- what a connection may still do
 
@@ -306,13 +305,13 @@ posted l (entry ∷ past) = posts_of (length past + 1) (sends l entry past)
 abbrev pub runs_on : Limits → List Entry → ℕ → Bool
 runs_on l past c = is_admitted past c && not (has_ended l c past)
 
--- the server reads from the connection's link, and a Close of it is accepted
+-- a Close of it is accepted, also after its QUIT
 abbrev pub reads_on : Limits → List Entry → ℕ → Bool
-reads_on l past c = is_admitted past c && not (has_ended l c past)
+reads_on l past c = is_admitted past c && keeps_bytes ((state l past).standing c)
 
 -- a Take of the connection is accepted
 abbrev pub gives_on : Limits → List Entry → ℕ → Bool
-gives_on l past c = is_admitted past c && not (has_ended l c past)
+gives_on l past c = is_admitted past c && may_take ((state l past).standing c)
 
 -- how many bytes of its stream a connection took
 abbrev pub taken : Limits → ℕ → List Entry → ℕ
@@ -325,9 +324,10 @@ taken l c (Take id max ∷ past) =
     else taken l c past
 taken l c (Close id ∷ past) = taken l c past
 
--- those that it did not take and still can: a Close gives up what was not taken
+-- those that it did not take and still can: a Close gives up what was not taken, a QUIT does not
 unfoldable pub unsent : Limits → ℕ → List Entry → List ℕ
-unsent l c past = if has_ended l c past then [] else drop (taken l c past) (stream l c past)
+unsent l c past =
+    if keeps_bytes ((state l past).standing c) then drop (taken l c past) (stream l c past) else []
 
 -- the requests of a connection that ran, in order
 abbrev pub runs_of : ℕ → List Entry → List (List (List ℕ))

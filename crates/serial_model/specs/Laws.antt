@@ -1,13 +1,26 @@
 -- What holds of every history that turns make, read off the definitions alone.
-use Rattle.std.specs.Prelude.{◌≡◌, ◌==◌, ◌↔◌, ◌⊎◌, ℕ, List, [], ◌∷◌, ◌++◌, Bool, true, false}
-use Rattle.std.specs.Prelude.{filter, ◌||◌, ◌&&◌, not}
-use Rattle.std.specs.Prelude.{take, length, All, ◌+◌, Option}
-use Rattle.std.specs.List.{list_any}
+use Rattle.std.specs.Prelude.{◌≡◌, ◌==◌, ◌↔◌, ◌⊎◌, ◌<◌, ◌≤◌, ◌+◌, ◌||◌, ◌&&◌, not, ℕ, List, []}
+use Rattle.std.specs.Prelude.{◌∷◌, ◌++◌, Bool, true, false, filter, take, length, All, nat_eq}
+use Rattle.std.specs.Prelude.{Option, Some, None}
+use Rattle.std.specs.List.{list_any, starts_with}
 use Rattle.std.specs.Str.{bytes_eq}
 use Rattle.resp_value.specs.Lists.{IsPrefix}
-use Rattle.resp_value.specs.declared.value.Proto.TheVariants.{Three}
+use Rattle.resp_value.specs.declared.value.Proto.{Proto}
+use Rattle.resp_value.specs.declared.value.Proto.TheVariants.{Two, Three}
+use Rattle.command_words.specs.declared.command.Signalled.{Signalled}
+use Rattle.command_words.specs.declared.command.Signalled.TheVariants as signalled
 use Rattle.command_words.specs.Laws.{signals}
 use Rattle.command_words.specs.Space.{held_at}
+use Rattle.command_words.specs.Queries.{key_of, reads_as_cacheable, writes}
+use Rattle.command_words.specs.Words.{reading}
+use Rattle.command_words.specs.Effects.{answer}
+use Rattle.track_table.specs.declared.table.Held.{Held}
+use Rattle.track_table.specs.Table.{holders_of}
+use Rattle.prefix_table.specs.declared.table.Registration.{Registration}
+use Rattle.track_modes.specs.ModeState.{new_mode, remembers_read}
+use Rattle.redirect.specs.declared.routes.Route.{Route}
+use Rattle.redirect.specs.declared.routes.Route.TheVariants as route
+use Rattle.redirect.specs.Messages.{push_of, message_of}
 use Rattle.serial_model.specs.declared.history.Limits.{Limits}
 use Rattle.serial_model.specs.declared.history.Entry.{Entry}
 use Rattle.serial_model.specs.declared.history.Entry.TheVariants as entry
@@ -16,17 +29,20 @@ use Rattle.serial_model.specs.declared.history.BookCall.{BookCall}
 use Rattle.serial_model.specs.declared.history.BookCall.TheVariants.{Admit, Run, Tick, Take}
 use Rattle.serial_model.specs.declared.history.BookCall.TheVariants.{Close}
 use Rattle.serial_model.specs.declared.history.BookReply.{BookReply}
-use Rattle.serial_model.specs.History.{is_admitted, has_ended, sent, Sending, Message, End}
-use Rattle.serial_model.specs.History.{stream, taken, runs_of, posted, posted_of, IsLegal, mode}
-use Rattle.serial_model.specs.History.{sends, reply_of, ran, keyspace, routed, modes, expired}
-use Rattle.serial_model.specs.History.{expiry_group, drops, table, invalidations, made}
-use Rattle.serial_model.specs.History.{served_reading, protocol, sent_to}
-use Rattle.serial_model.specs.Modes.{Memory, Remembers, Forgets, remembers_read}
-use Rattle.serial_model.specs.Tracking.{tells, names_key, push_of}
-use Rattle.track_table.specs.Table.{holders_of}
-use Rattle.command_words.specs.Queries.{key_of, reads_as_cacheable, writes}
-use Rattle.command_words.specs.Words.{reading}
-use Rattle.command_words.specs.Effects.{answer}
+use Rattle.serial_model.specs.Modes.{Memory, Remembers, Registers, Forgets}
+use Rattle.serial_model.specs.Tracking.{tells, names_key, has_id}
+use Rattle.serial_model.specs.State.{State, Live, is_on}
+use Rattle.serial_model.specs.Actions.{Action, Sending, Message, End, routed, heard, messages}
+use Rattle.serial_model.specs.Actions.{modes_then}
+use Rattle.serial_model.specs.Actions.{all_messages, route_at, is_passed, passes_limit}
+use Rattle.serial_model.specs.Actions.{action_leaves}
+use Rattle.serial_model.specs.History.{admitted, is_admitted, has_ended, runs_on, sends, sent}
+use Rattle.serial_model.specs.History.{state}
+use Rattle.serial_model.specs.History.{stream, taken, unsent, runs_of, posted, posted_of, IsLegal}
+use Rattle.serial_model.specs.History.{mode, modes, protocol, reply_of, ran, effect_in}
+use Rattle.serial_model.specs.History.{keyspace, expired}
+use Rattle.serial_model.specs.History.{expiry_group, drops, invalidations, made, served_reading}
+use Rattle.serial_model.specs.History.{sent_to, run_action, tick_action, table}
 use Rattle.serial_model.specs.Steps.{book_step, IsCallable, Turns, given, answered}
 
 -- The bytes that a connection was given are the first bytes of what was sent to it.
@@ -112,8 +128,7 @@ PostsAreNumbered =
     (l : Limits) (past : List Entry) → All (λ p. p.entry ≡ length past) (posted l past)
 
 abbrev pub has_end : List (ℕ × Sending) → Bool
-has_end [] = false
-has_end (s ∷ ss) = is_end s.1 || has_end ss
+has_end ss = list_any (λ s. is_end s.1) ss
 
 -- A connection has ended exactly where its end was sent.
 abbrev pub EndIsSent : Type 0
@@ -135,16 +150,74 @@ SentGrows =
 abbrev pub EndIsLast : Type 0
 EndIsLast =
     (l : Limits) (c : ℕ) (entry : Entry) (past : List Entry)
-    → IsLegal l (entry ∷ past) → has_ended l c past ≡ true → sent l c (entry ∷ past) ≡ sent l c past
+    → has_ended l c past ≡ true → sent l c (entry ∷ past) ≡ sent l c past
+
+-- The entry at which a connection ends sends its end, behind all else that it sends to it.
+abbrev pub EndIsAtItsEntry : Type 0
+EndIsAtItsEntry =
+    (l : Limits) (c : ℕ) (entry : Entry) (past : List Entry)
+    → has_ended l c past ≡ false → has_ended l c (entry ∷ past) ≡ true
+    → (before : List (ℕ × Sending)) × (has_end before ≡ false)
+    × (sent l c (entry ∷ past) ≡ before ++ (length past + 1, End) ∷ [])
+
+-- How many bytes wait for a connection is how many it did not take and still can.
+abbrev pub WaitingIsUnsent : Type 0
+WaitingIsUnsent =
+    (l : Limits) (c : ℕ) (past : List Entry)
+    → (state l past).waiting c ≡ length (unsent l c past)
+
+-- A Close gives up what its connection had not taken.
+abbrev pub CloseGivesUp : Type 0
+CloseGivesUp =
+    (l : Limits) (c : ℕ) (past : List Entry) → unsent l c (entry.Close c ∷ past) ≡ []
+
+-- Where connections for which more bytes wait than the limit end, no more wait for one that has not
+-- ended.
+abbrev pub LimitIsKept : Type 0
+LimitIsKept =
+    (l : Limits) (t : Action) (s : State) (c : ℕ)
+    → is_on (action_leaves (passes_limit l t s) l t s) c ≡ true
+    → (action_leaves (passes_limit l t s) l t s).waiting c ≤ l.out_max
+
+-- A connection has what it has as it is admitted.
+pub record IsFirst (s : State) (c : ℕ) : Type 0 where
+  pub mode : s.modes c ≡ new_mode
+  pub standing : s.standing c ≡ Live
+  pub broken : s.broken c ≡ false
+  pub waiting : s.waiting c ≡ 0
+
+-- One that was not admitted has that, and was sent nothing.
+abbrev pub FreshIsFirst : Type 0
+FreshIsFirst =
+    (l : Limits) (c : ℕ) (past : List Entry)
+    → IsLegal l past → admitted past < c → IsFirst (state l past) c
+
+abbrev pub FreshIsSentNothing : Type 0
+FreshIsSentNothing =
+    (l : Limits) (c : ℕ) (past : List Entry)
+    → IsLegal l past → admitted past < c → sent l c past ≡ []
+
+-- the action of an entry
+abbrev pub OnAction : (Action → State → Type 0) → Entry → State → Type 0
+OnAction P (entry.Run id words moment) s = P (run_action id words moment s) s
+OnAction P (entry.Tick moment) s = P (tick_action moment s) s
+OnAction P _ s = Unit {0}
+
+-- In a legal history no message is for a connection that has ended.
+abbrev pub MessagesAreLive : Type 0
+MessagesAreLive =
+    (l : Limits) (entry : Entry) (past : List Entry) → IsLegal l (entry ∷ past)
+    → OnAction (λ t s. messages l t s ≡ all_messages l t s) entry (state l past)
 
 -- The reply to a Run stands behind what tells of keys that left before it, and before the rest.
 abbrev pub ReplyBehindExpiry : Type 0
 ReplyBehindExpiry =
     (l : Limits) (id moment : ℕ) (words : List (List ℕ)) (past : List Entry)
     → (rest : List (ℕ × Sending))
-    × (sends l (entry.Run id words moment) past
-    ≡ routed (modes l past) (expiry_group l past moment)
-    ++ reply_of l past id words moment ∷ rest)
+    × (sends l (entry.Run id words moment) (state l past)
+    ≡ heard (state l past)
+    (routed (modes l past) (is_on (state l past)) (expiry_group l past moment))
+    ++ heard (state l past) (reply_of l past id words moment) ++ rest)
 
 -- A Run in a legal history is of a connection that has not ended.
 abbrev pub RunsLive : Type 0
@@ -171,10 +244,37 @@ drops_key l (entry.Run id words moment) past key =
     list_any (λ r. bytes_eq key r.key) (drops l past id words moment)
 drops_key l _ past key = false
 
--- a connection that has not ended remembers a key
+-- the connection is among those that remember the key
+abbrev pub remembers : List Held → ℕ → List ℕ → Bool
+remembers rows c key = has_id c (holders_of key rows)
+
+-- it is among those that registered a prefix of the key
+abbrev pub has_prefix_of : List Registration → ℕ → List ℕ → Bool
+has_prefix_of rows c key =
+    list_any (λ r. starts_with nat_eq key r.prefix && has_id c r.ids) rows
+
+-- a connection that has not ended is told of a key
+abbrev pub is_told_in : State → ℕ → List ℕ → Bool
+is_told_in s c key = is_on s c && (remembers s.table c key || has_prefix_of s.prefixes c key)
+
 abbrev pub is_told : Limits → List Entry → ℕ → List ℕ → Bool
-is_told l past c key =
-    not (has_ended l c past) && list_any (λ h. h == c) (holders_of key (table l past))
+is_told l past c key = is_told_in (state l past) c key
+
+-- an action signals a key to a connection: the key leaves at its deadline; or the command signals
+-- it, and the connection did not run it under NOLOOP; or the command signals all
+abbrev pub signals_to : Signalled → Bool → List ℕ → Bool
+signals_to (signalled.Keys keys) passed key = is_among keys key && not passed
+signals_to signalled.All passed key = true
+
+abbrev pub action_signals_to : Action → State → ℕ → List ℕ → Bool
+action_signals_to t s c key =
+    is_among t.expired key || signals_to t.effect.signalled (is_passed t s c) key
+
+abbrev pub signals_key_to : Limits → Entry → List Entry → ℕ → List ℕ → Bool
+signals_key_to l (entry.Run id words moment) past c key =
+    let s = state l past in action_signals_to (run_action id words moment s) s c key
+signals_key_to l (entry.Tick moment) past c key = is_among (expired l past moment) key
+signals_key_to l _ past c key = false
 
 -- an entry tells a connection of a key, by the route that it has then
 abbrev pub is_due : Limits → Entry → List Entry → ℕ → List ℕ → Bool
@@ -182,6 +282,7 @@ is_due l entry past c key = list_any (tells c key) (invalidations l entry past)
 
 abbrev pub is_forgets : Memory → Bool
 is_forgets (Remembers keys) = false
+is_forgets (Registers prefixes) = false
 is_forgets Forgets = true
 
 -- an entry is a Run by which a connection stops tracking
@@ -204,15 +305,17 @@ abbrev pub ReadReplies : Type 0
 ReadReplies =
     (l : Limits) (id moment : ℕ) (words : List (List ℕ)) (past : List Entry)
     → reads_as_cacheable (served_reading words) ≡ true
-    → (ran l past id words moment).reply
-    ≡ answer words (keyspace l (entry.Run id words moment ∷ past))
+    → (effect_in (state l past) id words moment).reply
+    ≡ Some (answer words (keyspace l (entry.Run id words moment ∷ past)))
 
--- A connection that is told of a key gets its message where the key is signalled or dropped.
+-- A connection that is told of a key gets its message where the key is signalled to it, or dropped
+-- while it remembers it.
 abbrev pub ToldIsDue : Type 0
 ToldIsDue =
     (l : Limits) (entry : Entry) (past : List Entry) (c : ℕ) (key : List ℕ)
-    → IsLegal l past → is_told l past c key ≡ true
-    → (signals_key l entry past key || drops_key l entry past key) ≡ true
+    → is_told l past c key ≡ true
+    → (signals_key_to l entry past c key
+    || (remembers (table l past) c key && drops_key l entry past key)) ≡ true
     → is_due l entry past c key ≡ true
 
 -- Where a Run's command does not write a key, each query on the key answers as before; or the key
@@ -227,21 +330,63 @@ BeforeTheReply =
     ≡ answer query (keyspace l past))
     ⊎ (list_any (tells c key) (expiry_group l past moment) ≡ true)
 
--- A push that names the key is among these sendings of an entry.
-pub record PushIsAmong (key : List ℕ) (entry : ℕ) (ss : List (ℕ × Sending)) : Type 0 where
-  pub keys : Option (List (List ℕ))
-  pub named : names_key keys key ≡ true
-  pub before : List (ℕ × Sending)
-  pub behind : List (ℕ × Sending)
-  pub is : ss ≡ before ++ (entry, Message Three (push_of keys)) ∷ behind
+-- ---- what is sent of that, by the routes
 
--- On the third protocol a connection is sent a push of each key that an entry tells it of.
+-- the receiver of a route, and the protocol in which it is told
+abbrev pub receiver : Route → Option (ℕ × Proto)
+receiver (route.Push r) = Some (r, Three)
+receiver (route.Message r) = Some (r, Two)
+receiver (route.BrokenNotice c) = None
+receiver route.Nowhere = None
+
+-- on the third protocol by a push, on the second by a message of the channel of invalidations
+abbrev pub telling : Proto → Option (List (List ℕ)) → Sending
+telling Three keys = Message Three (push_of keys)
+telling Two keys = Message Two (message_of keys)
+
+-- A message that names the key is among these sendings of an entry.
+pub record IsToldAmong (proto : Proto) (key : List ℕ) (entry : ℕ) (ss : List (ℕ × Sending)) : Type 0
+  where
+    pub keys : Option (List (List ℕ))
+    pub named : names_key keys key ≡ true
+    pub before : List (ℕ × Sending)
+    pub behind : List (ℕ × Sending)
+    pub is : ss ≡ before ++ (entry, telling proto keys) ∷ behind
+
+-- What a connection is told goes to this receiver, before the action's command and behind it.
+abbrev pub ReceivedBy : Action → State → ℕ → ℕ → Proto → Type 0
+ReceivedBy t s c r proto =
+    (receiver (route_at s.modes (is_on s) c) ≡ Some (r, proto))
+    × (receiver (route_at (modes_then t s) (is_on s) c) ≡ Some (r, proto))
+
+-- The receiver is sent a message of each key that an entry tells the connection of.
 abbrev pub DueIsSent : Type 0
 DueIsSent =
+    (l : Limits) (entry : Entry) (past : List Entry) (c r : ℕ) (proto : Proto) (key : List ℕ)
+    → runs_on l past c ≡ true → OnAction (λ t s. ReceivedBy t s c r proto) entry (state l past)
+    → is_due l entry past c key ≡ true
+    → IsToldAmong proto key (length past + 1)
+    (sent_to (length past + 1) r (sends l entry (state l past)))
+
+-- On the third protocol a connection is sent a push of each key that an entry tells it of, while no
+-- option of tracking is served.
+abbrev pub DueIsPushed : Type 0
+DueIsPushed =
     (l : Limits) (entry : Entry) (past : List Entry) (c : ℕ) (key : List ℕ)
+    → runs_on l past c ≡ true
     → protocol l c past ≡ Three → protocol l c (entry ∷ past) ≡ Three
     → is_due l entry past c key ≡ true
-    → PushIsAmong key (length past + 1) (sent_to (length past + 1) c (sends l entry past))
+    → IsToldAmong Three key (length past + 1)
+    (sent_to (length past + 1) c (sends l entry (state l past)))
+
+-- So it is sent one of each key that is signalled to a connection that is told of it.
+abbrev pub ToldIsSent : Type 0
+ToldIsSent =
+    (l : Limits) (entry : Entry) (past : List Entry) (c r : ℕ) (proto : Proto) (key : List ℕ)
+    → is_told l past c key ≡ true → signals_key_to l entry past c key ≡ true
+    → OnAction (λ t s. ReceivedBy t s c r proto) entry (state l past)
+    → IsToldAmong proto key (length past + 1)
+    (sent_to (length past + 1) r (sends l entry (state l past)))
 
 -- A remembered read is owed or told: its connection is told of the key from then on, or it has been
 -- told already, or it has ended.

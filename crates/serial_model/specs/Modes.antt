@@ -1,25 +1,27 @@
--- What a connection's own commands make of it (the pages of HELLO, CLIENT TRACKING and of the RESP
--- protocols).
+-- What a connection's own commands make of it, and of what is kept for it (the pages
+-- of HELLO, CLIENT TRACKING, QUIT and SHUTDOWN).
 use Rattle.std.specs.Prelude.{ℕ, List, [], ◌∷◌, Option, Some, None, Result, Ok, Err, pos, codes}
-use Rattle.std.specs.Prelude.{is_some, if◌then◌else◌, Bool, false, not, ◌&&◌, ◌||◌, length}
+use Rattle.std.specs.Prelude.{is_some, if◌then◌else◌, Bool, true, false, not, ◌&&◌, ◌||◌, length}
 use Rattle.std.specs.Prelude.{◌==◌}
 use Rattle.std.specs.Str.{bytes_eq}
 use Rattle.resp_value.specs.declared.value.Value.{Value}
-use Rattle.resp_value.specs.declared.value.Value.TheVariants.{Error, Map}
+use Rattle.resp_value.specs.declared.value.Value.TheVariants.{Error, Map, Simple}
 use Rattle.resp_value.specs.declared.value.Proto.{Proto}
 use Rattle.resp_value.specs.declared.value.Proto.TheVariants.{Two, Three}
 use Rattle.resp_value.specs.Tree.{Tree, blob, number, array, end}
 use Rattle.command_words.specs.declared.command.Command.{Command}
-use Rattle.command_words.specs.declared.command.Command.TheVariants.{Hello, ClientTracking}
+use Rattle.command_words.specs.declared.command.Command.TheVariants.{ClientTracking, Reset}
+use Rattle.command_words.specs.declared.command.Command.TheVariants as command
 use Rattle.command_words.specs.declared.command.TrackOptions.{TrackOptions}
 use Rattle.command_words.specs.declared.command.WordFault.{WordFault}
 use Rattle.command_words.specs.Integers.{integer_of}
 use Rattle.command_words.specs.Queries.{read}
-use Rattle.serial_model.specs.declared.mode.Mode.{Mode}
-
--- a connection as it is admitted
-abbrev pub first_mode : Mode
-first_mode = record { proto = Two; tracking = false }
+use Rattle.track_modes.specs.declared.fault.ModeFault.{ModeFault}
+use Rattle.track_modes.specs.declared.tracking.Tracking.{Tracking}
+use Rattle.track_modes.specs.ModeState.{ModeState, prefixes_of, remembers_read}
+use Rattle.track_modes.specs.Commands.{after_refusal, changed, ended, fault_at, spent_mode}
+use Rattle.track_modes.specs.Texts.{mode_fault_text}
+use Rattle.track_modes.specs.Tracked.{tracked}
 
 -- the protocol of a version's word, or the error
 abbrev pub version_of : List ℕ → Result Proto (List ℕ)
@@ -54,10 +56,6 @@ abbrev pub hello_reply : ℕ → Result Proto (List ℕ) → Value
 hello_reply id (Ok proto) = Map (greeting proto id)
 hello_reply id (Err text) = Error text
 
-abbrev pub proto_then : Result Proto (List ℕ) → Proto → Proto
-proto_then (Ok new) proto = new
-proto_then (Err text) proto = proto
-
 -- ---- tracking
 
 -- no option stands in the words of CLIENT TRACKING
@@ -70,34 +68,81 @@ has_no_options o =
 abbrev pub is_served_tracking : TrackOptions → Bool
 is_served_tracking o = not o.on || has_no_options o
 
--- a connection that tracks remembers each key that it reads
-abbrev pub remembers_read : Mode → Bool
-remembers_read mode = mode.tracking
+-- the connection that a command names as the target of a redirection
+abbrev pub target_in : TrackOptions → Option ℕ
+target_in o = if o.on then o.redirect else None
 
--- what a command does to what its connection remembers: it remembers these keys too, or none at all
+abbrev pub target_of : Result Command WordFault → Option ℕ
+target_of (Ok (ClientTracking o)) = target_in o
+target_of _ = None
+
+-- what is answered to a command that changes its connection's mode alone
+abbrev pub accepted : Option ModeFault → Value
+accepted None = Simple (codes "OK")
+accepted (Some fault) = Error (mode_fault_text fault)
+
+-- ---- what a command makes of its connection
+
+-- who runs a command: a connection in its mode; the target that the command names has not ended
+pub record Runner : Type 0 where
+  pub id : ℕ
+  pub mode : ModeState
+  pub target_exists : Bool
+
+-- what a command does to what is kept for its connection: it remembers these keys too; these
+-- prefixes are registered; or nothing is kept. The last two mend a broken redirection.
 pub data Memory : Type 0 where
   Remembers : List (List ℕ) → Memory
+  Registers : List (List ℕ) → Memory
   Forgets : Memory
+
+abbrev pub mends : Memory → Bool
+mends (Remembers keys) = false
+mends (Registers prefixes) = true
+mends Forgets = true
+
+-- CLIENT TRACKING ON registers the prefixes in force, which are none without BCAST
+abbrev pub tracking_memory : TrackOptions → Tracking → Memory
+tracking_memory o t = if o.on then Registers (prefixes_of (tracked o t)) else Forgets
+
+-- where tracking is on and the mode says so, a read is remembered
+abbrev pub memory_of : Command → ModeState → Memory
+memory_of (ClientTracking o) m = tracking_memory o m.tracking
+memory_of Reset m = Forgets
+memory_of command m = Remembers (if remembers_read m then read command else [])
 
 -- what a command makes of its connection
 pub record OwnEffect : Type 0 where
-  pub mode : Mode
+  pub mode : ModeState
   pub memory : Memory
 
-abbrev pub own_effect : Result Command WordFault → Mode → OwnEffect
-own_effect (Ok (Hello word)) mode =
-    record {
-      mode = record mode { proto = proto_then (hello word mode.proto) mode.proto };
-      memory = Remembers [];
-    }
-own_effect (Ok (ClientTracking options)) mode =
-    record {
-      mode = record mode { tracking = options.on };
-      memory = if options.on then Remembers [] else Forgets;
-    }
-own_effect (Ok command) mode =
-    record {
-      mode = mode;
-      memory = Remembers (if remembers_read mode then read command else []);
-    }
-own_effect (Err fault) mode = record { mode = mode; memory = Remembers [] }
+abbrev pub unless_refused : Option ModeFault → Command → ModeState → OwnEffect
+unless_refused None command m =
+    record { mode = ended command (changed command m); memory = memory_of command m }
+unless_refused (Some fault) command m =
+    record { mode = after_refusal fault m; memory = Remembers [] }
+
+-- each mode that comes about allows each command that is served
+abbrev pub own_effect : Result Command WordFault → Runner → OwnEffect
+own_effect (Ok command) by =
+    unless_refused (fault_at command by.target_exists by.mode) command by.mode
+own_effect (Err fault) by = record { mode = spent_mode by.mode; memory = Remembers [] }
+
+-- whether its connection quits by a command, or all end by it
+pub data Ending : Type 0 where
+  Stays : Ending
+  Quits : Ending
+  Stops : Ending
+
+abbrev pub ending_of : Result Command WordFault → Ending
+ending_of (Ok command.Quit) = Quits
+ending_of (Ok (command.Shutdown mode)) = Stops
+ending_of _ = Stays
+
+abbrev pub is_quitting : Ending → Bool
+is_quitting Quits = true
+is_quitting _ = false
+
+abbrev pub is_stopping : Ending → Bool
+is_stopping Stops = true
+is_stopping _ = false

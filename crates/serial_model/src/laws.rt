@@ -1,10 +1,14 @@
 //! What follows for any list of turns. Each function's contract is the law; none has work to do.
-ghost use Rattle.serial_model.specs.Laws.{BeforeTheReply, ChangeIsSignalled, DueIsSent, EndIsLast};
-ghost use Rattle.serial_model.specs.Laws.{ReplyBehindExpiry, RunsLive, SentGrows};
-ghost use Rattle.serial_model.specs.Laws.{EachRunOnce, EndIsSent, GivenIsStream, LegalIsAdded};
+ghost use Rattle.serial_model.specs.Laws.{BeforeTheReply, ChangeIsSignalled, CloseGivesUp};
+ghost use Rattle.serial_model.specs.Laws.{DueIsPushed, DueIsSent};
+ghost use Rattle.serial_model.specs.Laws.{EachRunOnce, EndIsAtItsEntry, EndIsLast, EndIsSent};
+ghost use Rattle.serial_model.specs.Laws.{FreshIsFirst, FreshIsSentNothing, GivenIsStream};
+ghost use Rattle.serial_model.specs.Laws.{LegalIsAdded, LimitIsKept, MessagesAreLive};
 ghost use Rattle.serial_model.specs.Laws.{ModeByOwnRuns, OthersExtend, PostedIsSent};
 ghost use Rattle.serial_model.specs.Laws.{PostsAreNumbered, ReadIsOwedOrTold, ReadReplies};
-ghost use Rattle.serial_model.specs.Laws.{ToldEndsForCause, ToldIsDue};
+ghost use Rattle.serial_model.specs.Laws.{ReplyBehindExpiry, RunsLive, SentGrows};
+ghost use Rattle.serial_model.specs.Laws.{ToldEndsForCause, ToldIsDue, ToldIsSent};
+ghost use Rattle.serial_model.specs.Laws.{WaitingIsUnsent};
 
 use command_words::{law_replies_are_of_keys_read, law_signals_are_written};
 
@@ -60,6 +64,42 @@ pub fn law_end_is_last()
     ensures { EndIsLast }
 {}
 
+/// The entry at which a connection ends sends its end, behind all else that it sends to it.
+pub fn law_end_is_at_its_entry()
+    ensures { EndIsAtItsEntry }
+{}
+
+/// How many bytes wait for a connection is how many it did not take and still can.
+pub fn law_waiting_is_unsent()
+    ensures { WaitingIsUnsent }
+{}
+
+/// A Close gives up what its connection had not taken.
+pub fn law_close_gives_up()
+    ensures { CloseGivesUp }
+{}
+
+/// Where connections for which more bytes wait than the limit end, no more wait for one that has
+/// not ended.
+pub fn law_limit_is_kept()
+    ensures { LimitIsKept }
+{}
+
+/// A connection that was not admitted has what it is admitted with.
+pub fn law_fresh_is_first()
+    ensures { FreshIsFirst }
+{}
+
+/// A connection that was not admitted was sent nothing.
+pub fn law_fresh_is_sent_nothing()
+    ensures { FreshIsSentNothing }
+{}
+
+/// In a legal history no message is for a connection that has ended.
+pub fn law_messages_are_live()
+    ensures { MessagesAreLive }
+{}
+
 /// The reply to a Run stands behind what tells of keys that left before it, and before the rest.
 pub fn law_reply_behind_expiry()
     ensures { ReplyBehindExpiry }
@@ -82,7 +122,8 @@ pub fn law_read_replies()
     ensures { ReadReplies }
 {}
 
-/// A connection that is told of a key gets its message where the key is signalled or dropped.
+/// A connection that is told of a key gets its message where the key is signalled to it, or dropped
+/// while it remembers it.
 pub fn law_told_is_due()
     ensures { ToldIsDue }
 {}
@@ -96,9 +137,21 @@ pub fn law_before_the_reply()
     law_signals_are_written();
 }
 
-/// On the third protocol a connection is sent a push of each key that an entry tells it of.
+/// The receiver of what a connection is told is sent a message of each key that an entry tells the
+/// connection of.
 pub fn law_due_is_sent()
     ensures { DueIsSent }
+{}
+
+/// On the third protocol a connection is sent a push of each key that an entry tells it of, while
+/// no option of tracking is served.
+pub fn law_due_is_pushed()
+    ensures { DueIsPushed }
+{}
+
+/// So it is sent one of each key that is signalled to a connection that is told of it.
+pub fn law_told_is_sent()
+    ensures { ToldIsSent }
 {}
 
 /// A remembered read is owed or told: its connection is told of the key from then on, or it has

@@ -1,74 +1,126 @@
 -- How each turn keeps what a book knows of its history.
 use Rattle.std.proofs.Common.{◌≡◌, ◌+◌, ◌-◌, ◌<◌, ◌≤◌, ℕ, List, [], ◌∷◌, ◌++◌, length, take, drop}
-use Rattle.std.proofs.Common.{ap, ◌∙◌, refl, arith, Bool, true, false, cond, length-append}
+use Rattle.std.proofs.Common.{sym, subst}
+use Rattle.std.proofs.Common.{ap, ◌∙◌, refl, arith, true, false, cond, length-append}
+use Rattle.std.proofs.Common.{ne_eqb, eq-eqb, length-set, Option, Some, Result, Err, max}
+use Rattle.std.proofs.Common.{slice_index_or, inl, inr}
 use Prim.Native.Nat.{suc}
-use Rattle.std.proofs.Common.{ne_eqb, length-set, slice_index_or}
 use Rattle.std.specs.Prelude.{◌==◌}
+use Rattle.std.specs.FinMap.{empty}
 use Rattle.std.specs.List.{count_by}
 use Rattle.std.proofs.lemmas.List.Sums.{sum_by-cons, sum_by-set, sum_by_push}
 use Rattle.std.proofs.lemmas.List.Sums.{get_or-le-sum_by}
 use Rattle.std.proofs.lemmas.List.{get_or_push, get_or_append_left}
-use Rattle.std.proofs.lemmas.Bool.{cases_eq}
+use Rattle.std.proofs.lemmas.Bool.{cases_eq, cases_lt, and_parts}
+use Rattle.track_modes.specs.ModeState.{ModeState, new_mode}
+use Rattle.command_words.specs.declared.command.Command.{Command}
+use Rattle.command_words.specs.declared.command.WordFault.{WordFault}
+use Rattle.command_words.specs.declared.command.WordFault.TheVariants.{NoMemory}
+use Rattle.command_words.specs.Reading.{IsReading}
 use Rattle.command_words.specs.Space.{Space}
 use Rattle.serial_model.specs.declared.history.Limits.{Limits}
 use Rattle.serial_model.specs.declared.history.Entry.{Entry}
 use Rattle.serial_model.specs.declared.history.Entry.TheVariants as entry
 use Rattle.serial_model.specs.declared.history.BookCall.{BookCall}
-use Rattle.serial_model.specs.declared.history.BookCall.TheVariants.{Admit, Take, Close}
+use Rattle.serial_model.specs.declared.history.BookCall.TheVariants.{Admit, Run, Take, Close}
 use Rattle.serial_model.specs.declared.history.BookReply.{BookReply}
 use Rattle.serial_model.specs.declared.history.BookReply.TheVariants.{Admitted, Bytes, Closed}
+use Rattle.serial_model.specs.declared.history.BookReply.TheVariants.{Ran}
 use Rattle.serial_model.specs.declared.history.Post.{Post}
-use Rattle.serial_model.specs.declared.history.Posted.TheVariants.{End}
-use Rattle.serial_model.specs.History.{admitted, runs_on, gives_on, reads_on, unsent}
-use Rattle.serial_model.specs.History.{has_ended, posted, table}
-use Rattle.serial_model.specs.Steps.{book_step, AddsEntry}
-use Rattle.serial_model.proofs.ModeSteps.{mode_fresh}
-use Rattle.serial_model.specs.declared.mode.Mode.{Mode}
-use Rattle.serial_model.proofs.Turning.{admit_step, take_step, close_step}
-use Rattle.serial_model.proofs.Streams.{connected, not_ended, ended_fresh, ended_other}
-use Rattle.serial_model.proofs.Streams.{unsent_close_own, unsent_close_other, unsent_fresh}
-use Rattle.serial_model.proofs.Streams.{unsent_admit, unsent_take_own, unsent_take_other, IsLive}
-use Rattle.serial_model.proofs.Streams.{table_live}
-use Rattle.server_book.specs.Places.{Connection, fresh}
-use Rattle.server_book.specs.Connections.{IsId, connection_at, with_connection, is_open}
-use Rattle.server_book.specs.Sendings.{queued, end_post}
-use Rattle.server_book.specs.Stores.{IsHeld}
-use Rattle.server_book.proofs.Sendings.{at_same, at_other, put_twice}
+use Rattle.serial_model.specs.declared.effect.Effect.{Effect}
+use Rattle.serial_model.specs.declared.effect.EntryKind.TheVariants as kind
+use Rattle.serial_model.specs.declared.standing.Standing.{Standing}
+use Rattle.serial_model.specs.EntryEffects.{bare_effect, command_of, last_effect}
+use Rattle.serial_model.specs.Actions.{Action}
+use Rattle.serial_model.specs.History.{is_admitted}
+use Rattle.serial_model.specs.History.{admitted, runs_on, gives_on, reads_on, unsent, state}
+use Rattle.serial_model.specs.History.{IsLegal}
+use Rattle.serial_model.specs.History.{posted, table, latest, run_action, served_reading}
+use Rattle.server_book.specs.declared.book.RunDone.{RunDone}
+use Rattle.serial_model.specs.State.{keeps_bytes, closed as closed_of}
+use Rattle.serial_model.specs.Steps.{book_step, AddsEntry, BookStep}
+use Rattle.serial_model.proofs.Fresh.{fresh_is_first}
 use Rattle.serial_model.proofs.KeptTables.{is_table}
-use Rattle.track_table.specs.Table.{TableState}
-use Rattle.serial_model.proofs.Tables.{all_rows}
+use Rattle.serial_model.proofs.PlainActions.{none_dropped}
+use Rattle.serial_model.proofs.Turning.{admit_step, run_step, take_step, close_step}
+use Rattle.serial_model.proofs.Streams.{connected, not_ended, gives_is_runs, reads_is_runs}
+use Rattle.serial_model.proofs.Streams.{unsent_close_own, unsent_close_other, unsent_fresh}
+use Rattle.serial_model.proofs.Streams.{unsent_admit, unsent_take_own, unsent_take_other}
+use Rattle.server_book.specs.Places.{Connection, fresh, gone, kept_mode}
+use Rattle.server_book.specs.Connections.{IsId, IsOpen, connection_at, with_connection, is_open}
+use Rattle.server_book.specs.Sendings.{end_posts}
+use Rattle.server_book.specs.Stores.{IsHeld}
+use Rattle.server_book.proofs.Sendings.{at_same, at_other}
+use Rattle.track_table.specs.Table.{TableState, without_connection}
 use Rattle.serial_model.proofs.TableSize.{table_within}
-use Rattle.server_book.specs.BookState.{BookState, IsTurn, Agrees, HasRoom, connection_of}
+use Rattle.server_book.specs.BookState.{BookState, IsTurn, Agrees, HasRoom, HasRun, connection_of}
+use Rattle.server_book.specs.BookState.{IsBook}
+use Rattle.server_book.specs.declared.stores.Stores.{Stores}
+use Rattle.server_book.specs.Log.{LogState}
 
 -- ---- a connection by its id
 
 -- connections of equal parts
-pub same_parts : {q r : List ℕ} {a b : Bool} {m n : Mode} → q ≡ r → a ≡ b → m ≡ n
-    → (let x : Connection = record { queue = q; ended = a; mode = m } in
-    let y : Connection = record { queue = r; ended = b; mode = n } in x ≡ y)
+pub same_parts : {q r : List ℕ} {a b : Standing} {m n : ModeState} → q ≡ r → a ≡ b → m ≡ n
+    → (let x : Connection = record { queue = q; standing = a; mode = m } in
+    let y : Connection = record { queue = r; standing = b; mode = n } in x ≡ y)
 same_parts {q} {r} {a} {b} {m} {n} e f g = grind arith
 
--- what is put at an id over what was put there
-put_over : (cs : List Connection) (id : ℕ) (x : Connection) (f : Connection → Connection)
-    → IsId cs id
-    → (let one = with_connection cs id x in with_connection one id (f (connection_at one id)))
-    ≡ with_connection cs id (f x)
-put_over cs id e f on = grind (arith, at_same, put_twice)
+pub same_kept : {a b : Standing} {m n : ModeState} → a ≡ b → m ≡ n → kept_mode a m ≡ kept_mode b n
+same_kept {a} {b} {m} {n} e f = grind arith
 
--- a connection that was sent a message and then switched
-abbrev pub switched : List Connection → ℕ → List ℕ → Mode → List Connection
-switched cs id message left =
-    let one = queued cs id message in
-    with_connection one id (record (connection_at one id) { mode = left })
+pub live_mode : (x : Standing) (m : ModeState) → keeps_bytes x ≡ true → kept_mode x m ≡ m
+live_mode x m on = grind arith
 
-pub switched_is : (cs : List Connection) (id : ℕ) (message : List ℕ) (left : Mode) → IsId cs id
-    → (let c = connection_at cs id in
-    switched cs id message left
-    ≡ with_connection cs id (record c { queue = c.queue ++ message; mode = left }))
-switched_is cs id message left on =
-    let c = connection_at cs id in
-    put_over cs id (record c { queue = c.queue ++ message })
-    (λ x. record x { mode = left }) on
+gone_mode : (x : Standing) (m : ModeState) → kept_mode (closed_of x) m ≡ new_mode
+gone_mode x m = grind arith
+
+-- ---- what is kept of a connection, entry by entry
+
+module _ (l : Limits) (past : List Entry) (c : ℕ) where
+  pub kept_admit : (id : ℕ) → connection_of l (entry.Admit id ∷ past) c ≡ connection_of l past c
+  unfolding state
+  kept_admit id = same_parts (unsent_admit l past c id) refl refl
+
+  pub kept_fresh : IsLegal l past → admitted past < c → connection_of l past c ≡ fresh
+  kept_fresh h lt =
+      let first = fresh_is_first l c past h lt in
+      same_parts (unsent_fresh l past c h lt) first.standing
+      (same_kept first.standing first.mode)
+
+  pub kept_take_other : (id m : ℕ) → (id == c) ≡ false
+      → connection_of l (entry.Take id m ∷ past) c ≡ connection_of l past c
+  unfolding state
+  kept_take_other id m other = same_parts (unsent_take_other l past c id m other) refl refl
+
+  pub kept_close_other : (id : ℕ) → (id == c) ≡ false
+      → connection_of l (entry.Close id ∷ past) c ≡ connection_of l past c
+  unfolding state
+  kept_close_other id other =
+      let s = state l past in
+      let stays = ap (λ b. cond b (closed_of (s.standing id)) (s.standing c)) other in
+      same_parts (unsent_close_other l past c id other) stays (same_kept stays refl)
+
+module _ (l : Limits) (past : List Entry) (id : ℕ) where
+  same_id : (id == id) ≡ true
+  same_id = eq-eqb id id refl
+
+  pub kept_take : (m : ℕ) → runs_on l past id ≡ true
+      → (let c = connection_of l past id in
+      connection_of l (entry.Take id m ∷ past) id ≡ record c { queue = drop m c.queue })
+  unfolding state
+  kept_take m on =
+      same_parts (unsent_take_own l past id id m (not_ended l past id on) same_id) refl refl
+
+  pub kept_close : (let c = connection_of l past id in
+      connection_of l (entry.Close id ∷ past) id
+      ≡ gone c)
+  unfolding state
+  kept_close =
+      let s = state l past in
+      let ends = ap (λ b. cond b (closed_of (s.standing id)) (s.standing id)) same_id in
+      same_parts (unsent_close_own l past id id same_id) ends
+      (same_kept ends refl ∙ gone_mode (s.standing id) (s.modes id))
 
 -- ---- room for closes
 
@@ -96,15 +148,18 @@ pub room_admit : (closable : ℕ) (cs : List Connection) → HasRoom closable cs
     → HasRoom (closable + 1) (cs ++ fresh ∷ [])
 room_admit closable cs h = omega (arith, h, sum_by_push one_open cs fresh)
 
+closed_keeps : (x : Standing) → keeps_bytes (closed_of x) ≡ false
+closed_keeps x = grind arith
+
 pub room_close : (room left id : ℕ) (cs : List Connection) → HasRoom room cs → IsId cs id
-    → (connection_at cs id).ended ≡ false → left ≡ room - 1
+    → keeps_bytes (connection_at cs id).standing ≡ true → left ≡ room - 1
     → (let c = connection_at cs id in
-    HasRoom left (with_connection cs id (record c { queue = []; ended = true })))
-room_close room left id cs h on live e = grind (arith, sum_by-set)
+    HasRoom left (with_connection cs id (gone c)))
+room_close room left id cs h on keeps e = grind (arith, sum_by-set, closed_keeps)
 
 pub some_open : (room id : ℕ) (cs : List Connection) → HasRoom room cs → IsId cs id
-    → (connection_at cs id).ended ≡ false → 0 < room
-some_open room id cs h on live = grind (arith, get_or-le-sum_by)
+    → keeps_bytes (connection_at cs id).standing ≡ true → 0 < room
+some_open room id cs h on keeps = grind (arith, get_or-le-sum_by)
 
 module _ (l : Limits) (past : List Entry) (space : Space) (keys : TableState)
     (cs : List Connection) (k : Agrees l past space keys cs) where
@@ -112,30 +167,45 @@ module _ (l : Limits) (past : List Entry) (space : Space) (keys : TableState)
   pub is_id : (id : ℕ) → runs_on l past id ≡ true → IsId cs id
   is_id id on = let both = connected l past id on in (both.0, omega (arith, both.1, k.count))
 
-  -- whether it has ended
-  pub ended_at : (i : ℕ) → i < length cs
-      → (slice_index_or cs i fresh).ended ≡ has_ended l (i + 1) past
-  ended_at i lt =
-      ap (λ n. (slice_index_or cs n fresh).ended) (let e : i ≡ i + 1 - 1 = omega arith in e)
-      ∙ ap (λ c. c.ended) (k.each (i + 1) (omega arith, omega (arith, lt)))
+  -- how far it has ended
+  pub stands_at : (i : ℕ) → i < length cs
+      → (slice_index_or cs i fresh).standing ≡ (state l past).standing (i + 1)
+  stands_at i lt =
+      ap (λ n. (slice_index_or cs n fresh).standing) (let e : i ≡ i + 1 - 1 = omega arith in e)
+      ∙ ap (λ (c : Connection). c.standing) (k.each (i + 1) (omega arith, omega (arith, lt)))
 
   -- what is kept of it
   pub kept_of : (id : ℕ) → runs_on l past id ≡ true → connection_at cs id ≡ connection_of l past id
   kept_of id on = k.each id (is_id id on)
 
   -- the new connection has nothing
+  with_one : (id i : ℕ) → IsId (cs ++ fresh ∷ []) i
+      → connection_at (cs ++ fresh ∷ []) i ≡ connection_of l (entry.Admit id ∷ past) i
+  with_one id i h =
+      let pos = h.0 in
+      let le = h.1 in
+      let size = length-append cs (fresh ∷ []) in
+      let count = k.count in
+      elim (cases_lt (i - 1) (length cs)) [
+        | inl lt ↦
+            get_or_append_left cs (fresh ∷ []) fresh (i - 1) lt
+            ∙ k.each i (pos, omega (arith, lt, pos)) ∙ sym (kept_admit l past i id)
+        | inr ge ↦
+            get_or_push cs fresh fresh (i - 1) (omega (arith, ge, pos, le, size))
+            ∙ sym (kept_admit l past i id
+            ∙ kept_fresh l past i k.legal (omega (arith, ge, pos, count)))
+      ]
+
   pub agrees_admit : (id : ℕ) → id ≡ length cs + 1
       → Agrees l (entry.Admit id ∷ past) space keys (cs ++ fresh ∷ [])
-  agrees_admit id e = grind (
-    arith,
-    length-append,
-    get_or_push,
-    unsent_admit,
-    unsent_fresh,
-    ended_fresh,
-    mode_fresh,
-    get_or_append_left,
-  )
+  unfolding state
+  agrees_admit id e = record {
+    legal = (e ∙ ap (λ n. n + 1) k.count, k.legal);
+    space_is = k.space_is;
+    table_is = k.table_is;
+    count = length-append cs (fresh ∷ []) ∙ ap (λ n. n + 1) k.count;
+    each = with_one id;
+  }
 
   -- where the connection of an id was written, and the others stay
   each_with : (new : List Entry) (id : ℕ) (c : Connection) → IsId cs id → c ≡ connection_of l new id
@@ -146,75 +216,138 @@ module _ (l : Limits) (past : List Entry) (space : Space) (keys : TableState)
   each_with new id c on own others i h =
       grind (arith, cases_eq, at_same, length-set, at_other, ne_eqb)
 
-  -- one that is admitted and has not ended is there
-  pub there_live : (h : ℕ) → IsLive l past h → IsId cs h
-  unfolding IsLive
-  there_live h live = grind arith
-
-  pub is_held : IsHeld keys.limit keys.rows cs
-  is_held = grind (arith, is_table, table_within, all_rows, there_live, table_live)
+  pub is_held : IsHeld keys.limit keys.rows
+  is_held = grind (arith, is_table, table_within)
 
   abbrev pub took : ℕ → ℕ → Connection
   took id m = let c = connection_at cs id in record c { queue = drop m c.queue }
 
+  pub runs_gives : (id : ℕ) → gives_on l past id ≡ true → runs_on l past id ≡ true
+  runs_gives id on = sym (gives_is_runs l past id) ∙ on
+
+  pub runs_reads : (id : ℕ) → reads_on l past id ≡ true → runs_on l past id ≡ true
+  runs_reads id on = sym (reads_is_runs l past id) ∙ on
+
   pub agrees_take : (id m : ℕ) → gives_on l past id ≡ true
       → (take m (unsent l id past) ≡ [] → ⊥)
       → Agrees l (entry.Take id m ∷ past) space keys (with_connection cs id (took id m))
-  agrees_take id m on some =
-      grind (arith, length-set, each_with, unsent_take_own, not_ended, unsent_take_other)
+  unfolding state
+  agrees_take id m on some = record {
+    legal = (on, some, k.legal);
+    space_is = k.space_is;
+    table_is = k.table_is;
+    count = length-set cs (id - 1) (took id m) ∙ k.count;
+    each = each_with (entry.Take id m ∷ past) id (took id m) (is_id id (runs_gives id on))
+        (ap (λ (c : Connection). record c { queue = drop m c.queue })
+        (kept_of id (runs_gives id on)) ∙ sym (kept_take l past id m (runs_gives id on)))
+        (λ other ne. kept_take_other l past other id m ne);
+  }
 
-  pub live_at : (id : ℕ) → reads_on l past id ≡ true → (connection_at cs id).ended ≡ false
-  live_at id on = ap (λ x. x.ended) (kept_of id on) ∙ not_ended l past id on
+  pub open_at : (id : ℕ) → reads_on l past id ≡ true
+      → keeps_bytes (connection_at cs id).standing ≡ true
+  open_at id on =
+      ap (λ (c : Connection). keeps_bytes c.standing) (kept_of id (runs_reads id on))
+      ∙ (and_parts (is_admitted past id) _ on).1
+
+  -- one that runs is open, and its mode is kept
+  pub opened : (id : ℕ) → runs_on l past id ≡ true → IsOpen cs id
+  opened id on = (is_id id on, open_at id (reads_is_runs l past id ∙ on))
+
+  pub mode_of : (id : ℕ) → runs_on l past id ≡ true
+      → (connection_at cs id).mode ≡ (state l past).modes id
+  mode_of id on =
+      let c = kept_of id on in
+      ap (λ (c : Connection). c.mode) c
+      ∙ live_mode ((state l past).standing id) ((state l past).modes id)
+      (sym (ap (λ (c : Connection). keeps_bytes c.standing) c)
+      ∙ open_at id (reads_is_runs l past id ∙ on))
 
   abbrev pub closed : ℕ → Connection
-  closed id = let c = connection_at cs id in record c { queue = []; ended = true }
+  closed id = gone (connection_at cs id)
 
   pub agrees_close : (id : ℕ) → reads_on l past id ≡ true
       → (let rows = table l (entry.Close id ∷ past) in
       Agrees l (entry.Close id ∷ past) space (record { limit = l.table_max; rows = rows })
       (with_connection cs id (closed id)))
-  agrees_close id on = grind (
-    arith,
-    length-set,
-    each_with,
-    same_parts,
-    unsent_close_own,
-    kept_of,
-    unsent_close_other,
-    ended_other,
-  )
+  unfolding state
+  agrees_close id on = record {
+    legal = (on, k.legal);
+    space_is = k.space_is;
+    table_is = refl;
+    count = length-set cs (id - 1) (closed id) ∙ k.count;
+    each = each_with (entry.Close id ∷ past) id (closed id) (is_id id (runs_reads id on))
+        (ap gone (kept_of id (runs_reads id on)) ∙ sym (kept_close l past id))
+        (λ other ne. kept_close_other l past other id ne);
+  }
 
--- an entry after which nobody is open that was not
+-- a book before its first turn
+fresh_agrees : (l : Limits)
+    → Agrees l [] empty (record { limit = l.table_max; rows = [] }) []
+unfolding state
+fresh_agrees l = record {
+  legal = tt;
+  space_is = refl;
+  table_is = refl;
+  count = refl;
+  each = λ id on. absurd (omega (arith, on.0, on.1));
+}
+
+pub begins : (l : Limits) (log : LogState) (stores : Stores) → log.past ≡ []
+    → log.most ≡ l.history_max → stores.space ≡ empty
+    → stores.table ≡ record { limit = l.table_max; rows = [] } → stores.connections.items ≡ []
+    → IsBook l log stores
+begins l log stores none most space rows nobody = record {
+  agrees = subst (λ p. Agrees l p stores.space stores.table stores.connections.items) (sym none)
+      (subst (λ s. Agrees l [] s stores.table stores.connections.items) (sym space)
+      (subst (λ t. Agrees l [] empty t stores.connections.items) (sym rows)
+      (subst (Agrees l [] empty (record { limit = l.table_max; rows = [] })) (sym nobody)
+      (fresh_agrees l))));
+  most_is = most;
+  room = subst (HasRoom log.closable) (sym nobody) (omega arith);
+}
+
+pub table_close : (l : Limits) (past : List Entry) (id : ℕ)
+    → table l (entry.Close id ∷ past) ≡ without_connection id (table l past)
+unfolding state
+table_close l past id = refl
+
+-- an entry after which each connection has ended as far as before
 pub room_kept : (l : Limits) (past : List Entry) (e : Entry) (closable : ℕ) (space : Space)
     (keys : TableState) (cs : List Connection) → Agrees l past space keys cs
     → (then : Space) (left : TableState) (ds : List Connection)
     → Agrees l (e ∷ past) then left ds → length ds ≡ length cs
-    → ((i : ℕ) → has_ended l i past ≡ true → has_ended l i (e ∷ past) ≡ true)
+    → ((i : ℕ) → (state l (e ∷ past)).standing i ≡ (state l past).standing i)
     → HasRoom closable cs → HasRoom closable ds
-room_kept l past e closable space keys cs k then left ds a same ends h =
+room_kept l past e closable space keys cs k then left ds a same stand h =
     let within = open_within cs ds same (λ i lt on.
-    let old = ended_at l past space keys cs k i lt in
-    let new = ended_at l (e ∷ past) then left ds a i (omega (arith, lt, same)) in
-    let over = ends (i + 1) in grind arith) in
+    ap keeps_bytes (stands_at l past space keys cs k i lt ∙ sym (stand (i + 1))
+    ∙ sym (stands_at l (e ∷ past) then left ds a i (omega (arith, lt, same)))) ∙ on) in
     omega (arith, h, within)
+
+pub take_stands : (l : Limits) (past : List Entry) (id m i : ℕ)
+    → (state l (entry.Take id m ∷ past)).standing i ≡ (state l past).standing i
+unfolding state
+take_stands l past id m i = refl
 
 -- ---- turns as they are played
 
-added : (l : Limits) (past : List Entry) (posts sent : List Post) (e : Entry) (call : BookCall)
-    (reply : BookReply) → AddsEntry reply
-    → book_step l past call ≡ record { reply = reply; past = e ∷ past } → sent ≡ posted l (e ∷ past)
-    → IsTurn (record { limits = l; past = past; posts = posts }) call reply
-    (record { limits = l; past = e ∷ past; posts = sent })
-added l past posts sent e call reply adds step is = grind arith
-
--- a turn is the step, where it added the step's entry and sent its posts
+-- a turn is the step, where it added the step's entry, sent its posts and says what its effect is
 pub is_turn : (old : BookState) (l : Limits) (past new : List Entry) (posts sent : List Post)
-    (e : Entry) (call : BookCall) (reply : BookReply)
-    → (let b : BookState = record { limits = l; past = past; posts = posts } in b ≡ old)
+    (was effect : Option Effect) (e : Entry) (call : BookCall) (reply : BookReply)
+    → (let b : BookState = record {
+      limits = l;
+      past = past;
+      posts = posts;
+      drops = [];
+      effect = was;
+    } in b ≡ old)
     → AddsEntry reply → new ≡ e ∷ past
     → book_step l past call ≡ record { reply = reply; past = e ∷ past } → sent ≡ posted l (e ∷ past)
-    → IsTurn old call reply (record { limits = l; past = new; posts = sent })
-is_turn old l past new posts sent e call reply view adds grown step posted_is = grind arith
+    → effect ≡ last_effect l (e ∷ past)
+    → IsTurn old call reply
+    (record { limits = l; past = new; posts = sent; drops = []; effect = effect })
+is_turn old l past new posts sent was effect e call reply view adds grown step posted_is told =
+    grind (arith, none_dropped)
 
 -- the newest entry is that of the step
 pub admit_turned : (l : Limits) (past : List Entry) (n id : ℕ)
@@ -236,9 +369,9 @@ close_turned l past id n on h = grind (arith, close_step)
 
 -- what each entry sends
 pub posted_close : (l : Limits) (past : List Entry) (id n : ℕ) → n ≡ length past + 1
-    → end_post n id ∷ [] ≡ posted l (entry.Close id ∷ past)
+    → end_posts n id ((state l past).standing id) ≡ posted l (entry.Close id ∷ past)
 unfolding posted
-posted_close l past id n h = ap (λ x. record { entry = x; id = id; what = End } ∷ []) h
+posted_close l past id n h = grind arith
 
 pub posted_admit : (l : Limits) (past : List Entry) (id : ℕ) → [] ≡ posted l (entry.Admit id ∷ past)
 unfolding posted
@@ -248,3 +381,117 @@ pub posted_take : (l : Limits) (past : List Entry) (id m : ℕ)
     → [] ≡ posted l (entry.Take id m ∷ past)
 unfolding posted
 posted_take l past id m = refl
+
+-- and what its effect is
+pub effect_admit : (l : Limits) (past : List Entry) (id n : ℕ) → n ≡ length past + 1
+    → Some (bare_effect n id kind.Admit) ≡ last_effect l (entry.Admit id ∷ past)
+unfolding last_effect
+effect_admit l past id n h = ap (λ x. Some (bare_effect x id kind.Admit)) h
+
+pub effect_take : (l : Limits) (past : List Entry) (id m n size : ℕ) → n ≡ length past + 1
+    → size ≡ length (take m (unsent l id past))
+    → Some (bare_effect n id (kind.Take size)) ≡ last_effect l (entry.Take id m ∷ past)
+unfolding last_effect
+effect_take l past id m n size h e =
+    ap (λ x. Some (bare_effect x id (kind.Take size))) h
+    ∙ ap (λ x. Some (bare_effect (length past + 1) id (kind.Take x))) e
+
+pub effect_close : (l : Limits) (past : List Entry) (id n : ℕ) → n ≡ length past + 1
+    → Some (bare_effect n id kind.Close) ≡ last_effect l (entry.Close id ∷ past)
+unfolding last_effect
+effect_close l past id n h = ap (λ x. Some (bare_effect x id kind.Close)) h
+
+module _ (l : Limits) (past : List Entry) (id now : ℕ) (words : List (List ℕ)) where
+  abbrev moment : ℕ
+  moment = max now (latest past)
+
+  abbrev t : Action
+  t = run_action id words moment (state l past)
+
+  pub effect_run : (n : ℕ) (command : Option Command) (done : RunDone) → n ≡ length past + 1
+      → command ≡ command_of (served_reading words) → done.expired ≡ t.expired
+      → Some done.reply ≡ t.effect.reply → done.signalled ≡ t.effect.signalled
+      → (let e : Effect = record {
+        entry = n;
+        id = id;
+        command = command;
+        expired = done.expired;
+        reply = Some done.reply;
+        signalled = done.signalled;
+        kind = kind.Run;
+      } in Some e ≡ last_effect l (entry.Run id words moment ∷ past))
+  unfolding last_effect
+  effect_run n command done number ran expired reply signalled = grind arith
+
+-- what a Run has done, and that its turn is the step
+module _ (l : Limits) (past new : List Entry) (posts sent : List Post) (was : Option Effect)
+    (id now : ℕ) (words : List (List ℕ)) (done : RunDone) where
+  abbrev before : BookState
+  before = record { limits = l; past = past; posts = posts; drops = []; effect = was }
+
+  abbrev behind : BookState
+  behind = record { limits = l; past = new; posts = sent; drops = []; effect = was }
+
+  has_run_at : (m : ℕ) → m ≡ max now (latest past) → new ≡ entry.Run id words m ∷ past
+      → runs_on l past id ≡ true
+      → sent ≡ posted l (entry.Run id words m ∷ past)
+      → done.entry ≡ length past + 1
+      → done.expired ≡ (run_action id words m (state l past)).expired
+      → Some done.reply ≡ (run_action id words m (state l past)).effect.reply
+      → done.signalled ≡ (run_action id words m (state l past)).effect.signalled
+      → HasRun before id words now done behind
+  has_run_at m mo grown on posted_is number expired reply signalled =
+      let s = state l past in
+      let e = entry.Run id words (max now (latest past)) in
+      let is : new ≡ e ∷ past = grown ∙ ap (λ x. entry.Run id words x ∷ past) mo in record {
+        turn = is_turn before l past new posts sent was (last_effect l new) e (Run id words now)
+            (Ran (length past + 1)) refl tt is (run_step l past id now words on)
+            (posted_is ∙ ap (λ x. posted l (entry.Run id words x ∷ past)) mo)
+            (ap (last_effect l) is);
+        entry = number;
+        past = is;
+        expired = expired ∙ ap (λ x. (run_action id words x s).expired) mo;
+        reply = reply ∙ ap (λ x. (run_action id words x s).effect.reply) mo;
+        signalled = signalled ∙ ap (λ x. (run_action id words x s).effect.signalled) mo;
+      }
+
+  pub has_run : (old : BookState) → before ≡ old → (m : ℕ) → m ≡ max now (latest past)
+      → new ≡ entry.Run id words m ∷ past → runs_on l past id ≡ true
+      → sent ≡ posted l (entry.Run id words m ∷ past)
+      → done.entry ≡ length past + 1
+      → done.expired ≡ (run_action id words m (state l past)).expired
+      → Some done.reply ≡ (run_action id words m (state l past)).effect.reply
+      → done.signalled ≡ (run_action id words m (state l past)).effect.signalled
+      → HasRun old id words now done behind
+  has_run old view m mo grown on posted_is number expired reply signalled =
+      subst (λ o. HasRun o id words now done behind) view
+      (has_run_at m mo grown on posted_is number expired reply signalled)
+
+-- and once its effect is told
+pub run_told : (old mid : BookState) (id now : ℕ) (words : List (List ℕ)) (done : RunDone)
+    (command : Option Command) → HasRun old id words now done mid
+    → command ≡ command_of (served_reading words)
+    → (let e : Effect = record {
+      entry = done.entry;
+      id = id;
+      command = command;
+      expired = done.expired;
+      reply = Some done.reply;
+      signalled = done.signalled;
+      kind = kind.Run;
+    } in IsTurn old (Run id words now) (Ran done.entry) (record mid { effect = Some e }))
+run_told old mid id now words done command h ran =
+    let told = effect_run old.limits old.past id now words done.entry command done h.entry ran
+    h.expired h.reply h.signalled in record {
+      limits = h.turn.limits;
+      step = subst (λ x. BookStep old.limits old.past (Run id words now) (Ran x) mid.past)
+          (sym h.entry) h.turn.step;
+      posts = h.turn.posts;
+      drops = h.turn.drops;
+      effect = told ∙ ap (last_effect old.limits) (sym h.past);
+    }
+
+-- words that were read within memory
+pub read_is : (read wanted : Result Command WordFault) → IsReading read wanted
+    → (read ≡ Err NoMemory → ⊥) → read ≡ wanted
+read_is read wanted h some = grind arith

@@ -1,9 +1,6 @@
 -- Telling the holders of one key after another.
-use Rattle.serial_model.proofs.Tables.{all_rows, drop_group_all, holders_all, told_all}
-use Rattle.server_book.proofs.Sendings.{id_longer, AreTo, length_sendings, routed_same}
-use Rattle.server_book.proofs.Sendings.{routed_there, sendings_append, sent_at}
 use Rattle.std.proofs.Common.{◌≡◌, ◌+◌, ◌<◌, ℕ, List, [], ◌∷◌, ◌++◌, length, take, refl, ap, sym}
-use Rattle.std.proofs.Common.{subst, ◌∙◌, arith, append-nil, append_assoc, false, slice_index_or}
+use Rattle.std.proofs.Common.{◌∙◌, arith, append-nil, append_assoc, Bool, false, slice_index_or}
 use Rattle.std.specs.Prelude.{◌||◌}
 use Prim.Native.Nat.{zero, suc}
 use Rattle.std.specs.Str.{bytes_eq}
@@ -12,16 +9,15 @@ use Rattle.std.proofs.lemmas.Bool.{or_parts}
 use Rattle.track_table.specs.declared.table.Held.{Held}
 use Rattle.track_table.specs.Places.{nobody}
 use Rattle.track_table.specs.Table.{holders_of, without_key}
-use Rattle.serial_model.specs.declared.mode.Mode.{Mode}
 use Rattle.serial_model.specs.Laws.{is_among}
-use Rattle.serial_model.specs.History.{Sending, routed}
+use Rattle.serial_model.specs.History.{Sending}
+use Rattle.serial_model.specs.Plain.{pushes}
 use Rattle.serial_model.specs.Tracking.{AreApart, Invalidation, drop_group, group, told_of}
 use Rattle.serial_model.proofs.KeyHolders.{keys_apart}
-use Rattle.serial_model.proofs.Each.{in_take}
-use Rattle.server_book.specs.Places.{Connection}
-use Rattle.server_book.specs.Connections.{ConnectionsState, IsId}
-use Rattle.server_book.specs.Sendings.{AreIds, modes_of, with_sendings}
-use Rattle.server_book.specs.Stores.{AreThere}
+use Rattle.server_book.specs.Connections.{ConnectionsState}
+use Rattle.server_book.specs.Sendings.{is_pushed, with_sendings}
+use Rattle.server_book.proofs.Sendings.{AreTo, pushed_same, pushes_same, pushes_there}
+use Rattle.server_book.proofs.Sendings.{sendings_append}
 
 -- the holders of each key, by a table that stays
 abbrev pub each_row : List (List ℕ) → List Held → List Held
@@ -74,60 +70,38 @@ rows_next (r ∷ rows) zero lt = append-nil (told_of r.key r.holders)
 rows_next (r ∷ rows) (suc n) lt =
     grind (arith, slice_index_or, append_assoc, rows_next rows n (omega arith))
 
-pub each_there : (cs : List Connection) (keys : List (List ℕ)) (rows : List Held)
-    → AreThere cs rows → AreThere cs (each_row keys rows)
-each_there cs [] rows h = tt
-each_there cs (k ∷ keys) rows h = (holders_all (IsId cs) k rows h, each_there cs keys rows h)
-
-row_there : (cs : List Connection) (n : ℕ) (rows : List Held) → AreThere cs rows
-    → AreIds cs (slice_index_or rows n nobody).holders
-row_there cs n [] h = tt
-row_there cs zero (r ∷ rows) h = h.0
-row_there cs (suc n) (r ∷ rows) h = row_there cs n rows h.1
-
-routed_append : (m : ℕ → Mode) (xs ys : List Invalidation)
-    → routed m (xs ++ ys) ≡ routed m xs ++ routed m ys
-routed_append m [] ys = refl
-routed_append m (x ∷ xs) ys = grind (arith, append_assoc, routed_append m xs ys)
+pushes_append : (test : ℕ → Bool) (xs ys : List Invalidation)
+    → pushes test (xs ++ ys) ≡ pushes test xs ++ pushes test ys
+pushes_append test [] ys = refl
+pushes_append test (x ∷ xs) ys = grind (arith, append_assoc, pushes_append test xs ys)
 
 -- the holders of row after row are told
-module _ (n : ℕ) (old now : ConnectionsState) (rows : List Held) (k : ℕ)
-    (there : AreThere old.items rows) where
+module _ (n : ℕ) (old now : ConnectionsState) (rows : List Held) (k : ℕ) where
   abbrev pub so_far : List (ℕ × Sending)
-  so_far = routed (modes_of old.items) (drop_group (take k rows))
+  so_far = pushes (is_pushed old.items) (drop_group (take k rows))
 
   pub so_far_there : AreTo old.items so_far
-  so_far_there = grind (arith, routed_there, drop_group_all, in_take)
+  so_far_there = pushes_there old.items (drop_group (take k rows))
 
-  module _ (told : now ≡ with_sendings n so_far old) where
-    same_length : length now.items ≡ length old.items
-    same_length = ap (λ (s : ConnectionsState). length s.items) told ∙ length_sendings n so_far old
-
-    -- the holders are there still
-    holders_still : AreIds now.items (slice_index_or rows k nobody).holders
-    holders_still = grind (arith, row_there, same_length, all_rows, id_longer)
-
-    pub ids_still : (ids : List ℕ) → ids ≡ (slice_index_or rows k nobody).holders
-        → AreIds now.items ids
-    ids_still ids is = subst (AreIds now.items) (sym is) holders_still
-
-    same_modes : (i : ℕ) → IsId now.items i → modes_of now.items i ≡ modes_of old.items i
-    same_modes i on = grind (arith, same_length, sent_at, so_far_there)
-
-    -- one row more
-    pub told_more : (key ids : List ℕ) (next : ConnectionsState) → k < length rows
-        → key ≡ (slice_index_or rows k nobody).key
-        → ids ≡ (slice_index_or rows k nobody).holders
-        → next ≡ with_sendings n (routed (modes_of now.items) (told_of key ids)) now
-        → next ≡ with_sendings n
-        (routed (modes_of old.items) (drop_group (take (k + 1) rows))) old
-    told_more key ids next lt at is sent = grind (
-      arith,
-      routed_same,
-      same_modes,
-      told_all,
-      holders_still,
-      sendings_append,
-      routed_append,
-      rows_next,
-    )
+  -- one row more
+  pub told_more : (key ids : List ℕ) (next : ConnectionsState) → now ≡ with_sendings n so_far old
+      → k < length rows
+      → key ≡ (slice_index_or rows k nobody).key
+      → ids ≡ (slice_index_or rows k nobody).holders
+      → next ≡ with_sendings n (pushes (is_pushed now.items) (told_of key ids)) now
+      → next ≡ with_sendings n
+      (pushes (is_pushed old.items) (drop_group (take (k + 1) rows))) old
+  told_more key ids next told lt at is sent =
+      let test = is_pushed old.items in
+      sent
+      ∙ ap (λ (s : ConnectionsState). with_sendings n (pushes (is_pushed s.items)
+      (told_of key ids)) s) told
+      ∙ ap (λ x. with_sendings n x (with_sendings n so_far old))
+      (pushes_same (is_pushed (with_sendings n so_far old).items) test (told_of key ids)
+      (pushed_same n so_far old so_far_there))
+      ∙ sym (sendings_append n so_far (pushes test (told_of key ids)) old)
+      ∙ ap (λ x. with_sendings n x old)
+      (sym (pushes_append test (drop_group (take k rows)) (told_of key ids))
+      ∙ ap (pushes test) (ap (λ x. drop_group (take k rows) ++ told_of x ids) at
+      ∙ ap (λ x. drop_group (take k rows) ++ told_of (slice_index_or rows k nobody).key x) is
+      ∙ sym (rows_next rows k lt)))

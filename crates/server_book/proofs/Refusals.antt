@@ -46,7 +46,7 @@ module _ (b : BookState) where
   pub close_gone : (id : ℕ) → reads_on b.limits b.past id ≡ false
       → IsRefusal b (Close id) (Some (Refused (Gone id)))
   unfolding book_step
-  close_gone id off = (ap (λ v. cond v (closing b.past id) (gone b.past id)) off, refl)
+  close_gone id off = (ap (λ v. cond v (closing b.past id) (gone b.past id)) off, refl, refl, refl)
 
   adds_taken : (id most : ℕ) (bytes : List ℕ) → 0 < length bytes
       → AddsEntry (taking b.past id most bytes).reply

@@ -1,27 +1,31 @@
 -- What sendings do to each connection, and that taking them back undoes them.
 use Rattle.std.proofs.Common.{◌≡◌, ◌+◌, ◌-◌, ◌<◌, ◌≤◌, ℕ, List, [], ◌∷◌, ◌++◌, length, take, sym}
-use Rattle.std.proofs.Common.{ap, ◌∙◌, refl, arith, true, Bool, length-append}
+use Rattle.std.proofs.Common.{ap, ◌∙◌, refl, arith, true, false, cond, Bool, length-append}
 use Rattle.std.proofs.Common.{length-set, slice_index_or, slice_set, append_assoc, append-nil, inl}
 use Rattle.std.proofs.Common.{inr, eq-eqb, ne_eqb, Result, OnErr, Option}
-use Rattle.std.specs.Prelude.{◌==◌}
+use Rattle.std.specs.Prelude.{◌==◌, ◌&&◌, nat_lt, nat_le}
 use Prim.Native.Nat.{zero, suc}
 use Rattle.std.proofs.lemmas.Bool.{cases_eq}
+use Rattle.std.proofs.lemmas.Bool.Decides.{nat_tests}
 use Rattle.std.proofs.lemmas.List.{get_or-set_same, get_or-set_other, set-get_or}
 use Rattle.std.proofs.Math.Seq.{take-append_seam}
-use Rattle.resp_value.specs.declared.value.Proto.TheVariants.{Two, Three}
-use Rattle.serial_model.specs.declared.mode.Mode.{Mode}
+use Rattle.resp_value.specs.declared.value.Proto.TheVariants.{Three}
+use Rattle.track_modes.specs.ModeState as track
+use Rattle.track_modes.specs.ModeState.{ModeState}
+use Rattle.redirect.specs.Messages.{push_of}
 use Rattle.serial_model.specs.declared.history.Post.{Post}
-use Rattle.serial_model.specs.Tracking.{Invalidation, told_to, push_of, ids_where}
-use Rattle.serial_model.specs.History.{Sending, sending_bytes, posted_of, spelled, sent_bytes}
-use Rattle.serial_model.specs.History.{sent_to, routed, route, posts_of}
-use Rattle.serial_model.specs.Each.{AllIn, AllTo}
-use Rattle.serial_model.proofs.Each.{all_in, in_append, in_at, in_take}
-use Rattle.serial_model.proofs.Tables.{ids_all, told_all}
-use Rattle.server_book.specs.Places.{Connection, fresh}
+use Rattle.serial_model.specs.declared.standing.Standing.{Standing}
+use Rattle.serial_model.specs.Tracking.{Invalidation, told_to, ids_where}
+use Rattle.serial_model.specs.Actions.{Sending, Message, sending_bytes, spelled}
+use Rattle.serial_model.specs.History.{posted_of, sent_bytes, sent_to, posts_of}
+use Rattle.serial_model.specs.Plain.{is_three, pushed, pushes}
+use Rattle.serial_model.specs.State.{is_live}
+use Rattle.serial_model.specs.Each.{AllIn}
+use Rattle.serial_model.proofs.Each.{all_in, in_append}
+use Rattle.server_book.specs.Places.{Connection, fresh, kept_mode}
 use Rattle.server_book.specs.Connections.{ConnectionsState, IsId, connection_at, with_connection}
-use Rattle.server_book.specs.Connections.{ArePosted}
-use Rattle.server_book.specs.RunSendings.{with_mode}
-use Rattle.server_book.specs.Sendings.{AreIds, modes_of, queued, with_sending, with_sendings}
+use Rattle.server_book.specs.Connections.{is_there, ArePosted, IsOpen}
+use Rattle.server_book.specs.Sendings.{is_pushed, queued, with_sending, with_sendings}
 use Rattle.server_book.specs.Sendings.{unqueued, before_posts, size_of, message_post}
 
 -- what holds holds of an error, and of a success
@@ -32,6 +36,10 @@ pub on_err_then : {A E : Type 0} (r : Result A E) (P Q : Type 0) → (P → Q) �
 on_err_then r P Q f h = grind arith
 
 -- ---- a connection by its id
+
+-- one that is open is there
+pub open_there : (cs : List Connection) (id : ℕ) → IsOpen cs id → IsId cs id
+open_there cs id on = on.0
 
 pub at_same : (cs : List Connection) (id : ℕ) (c : Connection) → IsId cs id
     → connection_at (with_connection cs id c) id ≡ c
@@ -148,48 +156,6 @@ posted_sendings n (s ∷ ss) state to h =
     posted_sendings n ss next (to_next n s ss state to.1)
     (grind (arith, length_queued, posted_more, all_in, id_longer))
 
--- ---- taking back where a mode was changed
-
-set_swap : (cs : List Connection) (i j : ℕ) (a b : Connection) → (i ≡ j → ⊥)
-    → slice_set (slice_set cs i a) j b ≡ slice_set (slice_set cs j b) i a
-set_swap [] i j a b ne = refl
-set_swap (c ∷ cs) zero zero a b ne = absurd (ne refl)
-set_swap (c ∷ cs) zero (suc j) a b ne = refl
-set_swap (c ∷ cs) (suc i) zero a b ne = refl
-set_swap (c ∷ cs) (suc i) (suc j) a b ne = grind (arith, set_swap cs i j a b (λ e. ne (ap suc e)))
-
-unqueue_mode : (cs : List Connection) (p : Post) (id : ℕ) (m : Mode) → IsId cs p.id → IsId cs id
-    → unqueued p (with_mode id m cs) ≡ with_mode id m (unqueued p cs)
-unqueue_mode cs p id m on there = grind (arith, cases_eq, at_same, put_twice, at_other, set_swap)
-
-length_unqueued : (cs : List Connection) (p : Post) → length (unqueued p cs) ≡ length cs
-length_unqueued cs p = grind (arith, length-set)
-
-length_before : (ps : List Post) (cs : List Connection) → length (before_posts ps cs) ≡ length cs
-length_before [] cs = refl
-length_before (p ∷ ps) cs = length_unqueued (before_posts ps cs) p ∙ length_before ps cs
-
--- where a mode was changed is taken back as if it was not
-pub before_mode : (ps : List Post) (cs : List Connection) (id : ℕ) (m : Mode) → ArePosted cs ps
-    → IsId cs id → before_posts ps (with_mode id m cs) ≡ with_mode id m (before_posts ps cs)
-before_mode [] cs id m posted there = refl
-before_mode (p ∷ ps) cs id m posted there =
-    grind (arith, length_before, unqueue_mode, before_mode ps cs id m posted.1 there)
-
--- a mode is changed, and changed back
-pub mode_back : (cs : List Connection) (id : ℕ) (m : Mode) → IsId cs id
-    → with_mode id (connection_at cs id).mode (with_mode id m cs) ≡ cs
-mode_back cs id m there =
-    let c = connection_at cs id in
-    ap (λ (x : Connection). with_connection (with_mode id m cs) id (record x { mode = c.mode }))
-    (at_same cs id (record c { mode = m }) there)
-    ∙ put_twice cs (id - 1) (record c { mode = m }) c
-    ∙ set-get_or cs (id - 1) fresh
-
-pub mode_same : (cs : List Connection) (id : ℕ) → IsId cs id
-    → with_mode id (connection_at cs id).mode cs ≡ cs
-mode_same cs id there = set-get_or cs (id - 1) fresh
-
 -- ---- what sendings do
 
 pub sendings_append : (n : ℕ) (xs ys : List (ℕ × Sending)) (state : ConnectionsState)
@@ -231,97 +197,128 @@ sent_at n i (s ∷ ss) state on h =
       | inr ne ↦ grind (arith, more, at_other, ne_eqb)
     ]
 
--- ---- whom a key's holders' group goes to
+-- ---- who is sent a push
 
-abbrev pub AreToldThere : List Connection → List Invalidation → Type 0
-AreToldThere cs is = AllTo (IsId cs) is
+-- whether a connection of this mode and standing is sent one
+abbrev test_of : Bool → ModeState → Standing → Bool
+test_of there m x = (track.is_on m.tracking && (there && is_live x)) && is_three m.proto
 
-pub told_longer : (cs ds : List Connection) (is : List Invalidation) → length cs ≤ length ds
-    → AreToldThere cs is → AreToldThere ds is
-told_longer cs ds is le h = grind (arith, all_in, id_longer)
+pub test_same : (a b : Bool) (m n : ModeState) (x y : Standing) → a ≡ b
+    → (a ≡ true → (m ≡ n) × (x ≡ y)) → test_of a m x ≡ test_of b n y
+test_same true b m n x y e f =
+    let p = f refl in
+    ap (λ z. test_of z m x) e ∙ ap (λ z. test_of b z x) p.0 ∙ ap (test_of b n) p.1
+test_same false b m n x y e f = grind arith
 
-route_there : (cs : List Connection) (m : Mode) (i : Invalidation) → IsId cs i.to
-    → AreTo cs (route m i)
-route_there cs m i on = grind arith
+-- no mode is asked of one that has ended
+pub test_kept : (a : Bool) (m : ModeState) (x : Standing)
+    → test_of a (kept_mode x m) x ≡ test_of a m x
+test_kept a m x = grind arith
 
-pub routed_there : (cs : List Connection) (m : ℕ → Mode) (is : List Invalidation)
-    → AreToldThere cs is → AreTo cs (routed m is)
-routed_there cs m [] h = tt
-routed_there cs m (i ∷ is) h = grind (arith, in_append, route_there, routed_there cs m is h.1)
+pub is_there_id : (cs : List Connection) (id : ℕ) → is_there cs id ≡ true → IsId cs id
+is_there_id cs id h = grind (arith, nat_tests)
 
--- routes by modes that agree on those that are there
-pub routed_same : (cs : List Connection) (m n : ℕ → Mode) (is : List Invalidation)
-    → ((id : ℕ) → IsId cs id → m id ≡ n id) → AreToldThere cs is
-    → routed m is ≡ routed n is
-routed_same cs m n [] same h = refl
-routed_same cs m n (i ∷ is) same h = grind (arith, routed_same cs m n is same h.1)
+pub pushed_id : (cs : List Connection) (id : ℕ) → is_pushed cs id ≡ true → IsId cs id
+pushed_id cs id h = grind (arith, nat_tests)
+
+one_there : (cs : List Connection) (i : Invalidation) → AreTo cs (pushed (is_pushed cs) i)
+one_there cs i = elim (is_pushed cs i.to) as (λ b. is_pushed cs i.to ≡ b
+    → AreTo cs (cond b ((i.to, Message Three (push_of i.keys)) ∷ []) [])) [
+      | true ↦ λ e. (pushed_id cs i.to e, tt)
+      | false ↦ λ e. tt
+    ] refl
+
+pub pushes_there : (cs : List Connection) (is : List Invalidation)
+    → AreTo cs (pushes (is_pushed cs) is)
+pushes_there cs [] = tt
+pushes_there cs (i ∷ is) =
+    in_append (λ (s : ℕ × Sending). IsId cs s.0) (pushed (is_pushed cs) i)
+    (pushes (is_pushed cs) is) (one_there cs i) (pushes_there cs is)
+
+-- tests that agree
+pub pushes_same : (f g : ℕ → Bool) (is : List Invalidation) → ((id : ℕ) → f id ≡ g id)
+    → pushes f is ≡ pushes g is
+pushes_same f g [] same = refl
+pushes_same f g (i ∷ is) same = grind (arith, pushes_same f g is same)
+
+-- sendings leave who is sent a push
+module _ (n : ℕ) (ss : List (ℕ × Sending)) (old : ConnectionsState) (to : AreTo old.items ss) where
+  abbrev ds : List Connection
+  ds = (with_sendings n ss old).items
+
+  pub pushed_same : (id : ℕ) → is_pushed ds id ≡ is_pushed old.items id
+  pushed_same id =
+      sym (test_same (is_there old.items id) (is_there ds id) (connection_at old.items id).mode
+      (connection_at ds id).mode (connection_at old.items id).standing
+      (connection_at ds id).standing
+      (ap (λ k. nat_lt 0 id && nat_le id k) (sym (length_sendings n ss old)))
+      (λ on. let at = sent_at n id ss old (is_there_id old.items id on) to in (
+        sym (ap (λ (c : Connection). c.mode) at),
+        sym (ap (λ (c : Connection). c.standing) at),
+      )))
 
 -- ---- telling one holder after another
 
-pub told_next : (m : ℕ → Mode) (keys : Option (List (List ℕ))) (ids : List ℕ) (n : ℕ)
+pub told_next : (test : ℕ → Bool) (keys : Option (List (List ℕ))) (ids : List ℕ) (n : ℕ)
     → n < length ids
     → (let id = slice_index_or ids n 0 in
-    routed m (told_to keys (take (n + 1) ids))
-    ≡ routed m (told_to keys (take n ids))
-    ++ route (m id) (record { to = id; keys = keys }))
-told_next m keys [] n lt = absurd (omega arith)
-told_next m keys (id ∷ ids) zero lt = grind (arith, append-nil)
-told_next m keys (id ∷ ids) (suc n) lt =
-    grind (arith, slice_index_or, append_assoc, told_next m keys ids n (omega arith))
+    pushes test (told_to keys (take (n + 1) ids))
+    ≡ pushes test (told_to keys (take n ids)) ++ pushed test (record { to = id; keys = keys }))
+told_next test keys [] n lt = absurd (omega arith)
+told_next test keys (id ∷ ids) zero lt = grind (arith, append-nil)
+told_next test keys (id ∷ ids) (suc n) lt =
+    grind (arith, slice_index_or, append_assoc, told_next test keys ids n (omega arith))
 
 -- what the first holders of a key are sent
 abbrev pub told_first : List Connection → Option (List (List ℕ)) → List ℕ → ℕ → List (ℕ × Sending)
-told_first cs keys ids k = routed (modes_of cs) (told_to keys (take k ids))
+told_first cs keys ids k = pushes (is_pushed cs) (told_to keys (take k ids))
 
 pub first_there : (cs : List Connection) (keys : Option (List (List ℕ))) (ids : List ℕ) (k : ℕ)
-    → AreIds cs ids
     → AreTo cs (told_first cs keys ids k)
-first_there cs keys ids k h = grind (arith, routed_there, told_all, in_take)
+first_there cs keys ids k = pushes_there cs (told_to keys (take k ids))
 
 module _ (n : ℕ) (keys : Option (List (List ℕ))) (ids : List ℕ) (k : ℕ)
     (old now : ConnectionsState) (lt : k < length ids)
-    (there : AreIds old.items ids)
     (so_far : now ≡ with_sendings n (told_first old.items keys ids k) old) where
-  -- the next holder is there, and its mode is as before
-  pub next_there : IsId now.items (slice_index_or ids k 0)
-  next_there = grind (arith, in_at, length_sendings)
+  abbrev id : ℕ
+  id = slice_index_or ids k 0
 
-  mode_then : (connection_at now.items (slice_index_or ids k 0)).mode
-      ≡ modes_of old.items (slice_index_or ids k 0)
-  mode_then = grind (arith, slice_index_or, sent_at, in_at, first_there)
+  test_is : is_pushed now.items id ≡ is_pushed old.items id
+  test_is =
+      ap (λ (s : ConnectionsState). is_pushed s.items id) so_far
+      ∙ pushed_same n (told_first old.items keys ids k) old (first_there old.items keys ids k) id
 
-  told_step : (next : ConnectionsState) (m : Mode)
-      → m ≡ (connection_at now.items (slice_index_or ids k 0)).mode
-      → (let i : Invalidation = record {
-        to = slice_index_or ids k 0;
-        keys = keys;
-      } in next ≡ with_sendings n (route m i) now)
+  abbrev one : Bool → List (ℕ × Sending)
+  one b = cond b ((id, Message Three (push_of keys)) ∷ []) []
+
+  told_step : (next : ConnectionsState) → next ≡ with_sendings n (one (is_pushed now.items id)) now
       → next ≡ with_sendings n (told_first old.items keys ids (k + 1)) old
-  told_step next m is sent = grind (arith, slice_index_or, mode_then, sendings_append, told_next)
+  told_step next sent =
+      sent ∙ ap (λ b. with_sendings n (one b) now) test_is
+      ∙ ap (λ s. with_sendings n (one (is_pushed old.items id)) s) so_far
+      ∙ sym (sendings_append n (told_first old.items keys ids k) (one (is_pushed old.items id)) old)
+      ∙ ap (λ ss. with_sendings n ss old) (sym (told_next (is_pushed old.items) keys ids k lt))
 
-  -- it is on the second protocol
-  pub told_nothing : (next : ConnectionsState) (m : Mode)
-      → m ≡ (connection_at now.items (slice_index_or ids k 0)).mode → m.proto ≡ Two → next ≡ now
+  -- it takes no push
+  pub told_nothing : (next : ConnectionsState) → is_pushed now.items id ≡ false → next ≡ now
       → next ≡ with_sendings n (told_first old.items keys ids (k + 1)) old
-  told_nothing next m is two same =
-      let i : Invalidation = record { to = slice_index_or ids k 0; keys = keys } in
-      told_step next m is
-      (same ∙ ap (λ p. with_sendings n (route (record m { proto = p }) i) now) (sym two))
+  told_nothing next off same =
+      told_step next (same ∙ ap (λ b. with_sendings n (one b) now) (sym off))
 
-  -- it is on the third
-  pub told_push : (next : ConnectionsState) (m : Mode) (push : List ℕ)
-      → m ≡ (connection_at now.items (slice_index_or ids k 0)).mode → m.proto ≡ Three
+  -- it takes one
+  pub told_push : (next : ConnectionsState) (push : List ℕ) → is_pushed now.items id ≡ true
       → push ≡ spelled Three (push_of keys)
-      → (let id = slice_index_or ids k 0 in next ≡ record {
+      → next ≡ record {
         items = queued now.items id push;
         posts = now.posts ++ message_post n id (length push) ∷ [];
-      })
+      }
       → next ≡ with_sendings n (told_first old.items keys ids (k + 1)) old
-  told_push next m push is three spelling sent =
-      let id = slice_index_or ids k 0 in
-      let i : Invalidation = record { to = id; keys = keys } in
-      told_step next m is
-      (grind arith)
+  told_push next push on spelling sent =
+      told_step next
+      (sent ∙ ap (λ p. record {
+        items = queued now.items id p;
+        posts = now.posts ++ message_post n id (length p) ∷ [];
+      }) spelling ∙ ap (λ b. with_sendings n (one b) now) (sym on))
 
 -- ---- those that track
 
@@ -330,11 +327,6 @@ pub ids_same : (f g : ℕ → Bool) (n : ℕ) → ((i : ℕ) → 0 < i → i ≤
 ids_same f g zero same = refl
 ids_same f g (suc n) same =
     grind (arith, ids_same f g n (λ i some le. same i some (omega (arith, le))))
-
-pub ids_there : (cs : List Connection) (test : ℕ → Bool) (n : ℕ) → n ≤ length cs
-    → AreIds cs (ids_where test n)
-ids_there cs test n le =
-    ids_all (IsId cs) test n (λ id some most _. (some, omega (arith, le, most)))
 
 -- ---- the last post
 

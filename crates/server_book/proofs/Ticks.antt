@@ -1,60 +1,121 @@
 -- A Tick sends what its entry sends, and leaves what the history says.
 use Rattle.std.proofs.Common.{◌≡◌, ◌≢◌, ◌+◌, ◌≤◌, ℕ, List, [], ◌∷◌, ◌++◌, length, sym, ap, ◌∙◌}
-use Rattle.std.proofs.Common.{refl, arith, true, append-nil, max, ne_eqb}
-use Rattle.std.proofs.lemmas.Bool.{cases_eq}
+use Rattle.std.proofs.Common.{refl, arith, true, false, append-nil, max, Some}
 use Rattle.command_words.specs.Expiry.{without_due}
 use Rattle.command_words.specs.Space.{Space}
 use Rattle.track_table.specs.Table.{TableState, without_keys}
+use Rattle.serial_model.specs.declared.effect.EntryKind.TheVariants as kind
 use Rattle.serial_model.specs.declared.history.BookCall.TheVariants.{Tick}
 use Rattle.serial_model.specs.declared.history.BookReply.TheVariants.{Ticked, Quiet}
 use Rattle.serial_model.specs.declared.history.Limits.{Limits}
 use Rattle.serial_model.specs.declared.history.Entry.{Entry}
 use Rattle.serial_model.specs.declared.history.Entry.TheVariants as entry
+use Rattle.serial_model.specs.EntryEffects.{bare_effect, last_effect}
+use Rattle.serial_model.specs.Plain.{pushes, tests_before, tests_then, told_then}
+use Rattle.serial_model.specs.State.{State, is_on}
+use Rattle.serial_model.specs.Actions.{Action, Sending, is_overgrown}
+use Rattle.serial_model.specs.Tracking.{group}
 use Rattle.serial_model.specs.History.{latest, has_ended, unsent, posted, sends, sent_to}
-use Rattle.serial_model.specs.History.{expired}
+use Rattle.serial_model.specs.History.{expired, state, tick_action, keyspace, posts_of, sent_bytes}
+use Rattle.serial_model.specs.History.{table}
 use Rattle.serial_model.specs.Steps.{book_step}
-use Rattle.serial_model.proofs.Streams.{IsLive, tick_bytes, tick_sends_none, unsent_tick}
-use Rattle.serial_model.proofs.Streams.{unsent_ended}
+use Rattle.serial_model.proofs.Counts.{on_is}
+use Rattle.serial_model.proofs.Fresh.{action_sends_off}
+use Rattle.serial_model.proofs.ModeSteps.{mode_tick}
+use Rattle.serial_model.proofs.PlainActions.{tick_sends}
+use Rattle.serial_model.proofs.StateSteps.{tick_stands, tick_table, tick_ended}
+use Rattle.serial_model.proofs.Streams.{tick_bytes, unsent_tick, unsent_ended}
+use Rattle.serial_model.proofs.TableSize.{table_within, without_keys_within}
 use Rattle.serial_model.proofs.Turning.{tick_step}
 use Rattle.server_book.specs.Places.{Connection}
 use Rattle.server_book.specs.Connections.{IsId, connection_at}
 use Rattle.server_book.specs.BookState.{Agrees, connection_of}
-use Rattle.server_book.proofs.Runs.{early_is, first, first_at, first_posts, length_first}
-use Rattle.server_book.proofs.BookTurns.{same_parts}
+use Rattle.server_book.proofs.Remembered.{short_dropped}
+use Rattle.server_book.proofs.Runs.{early, early_is, first, first_at, first_posts, length_first}
+use Rattle.server_book.proofs.BookTurns.{same_kept, same_parts}
 
 module _ (l : Limits) (past : List Entry) (space : Space) (keys : TableState)
     (cs : List Connection) (k : Agrees l past space keys cs) (m n : ℕ) (gone : List (List ℕ))
     (gone_is : gone ≡ expired l past m) (number : n ≡ length past + 1) where
+  abbrev now : State
+  now = state l past
+
+  abbrev t : Action
+  t = tick_action m now
+
+  abbrev tick : Entry
+  tick = entry.Tick m
+
+  abbrev sent : List (ℕ × Sending)
+  sent = early l past space keys cs k m gone gone_is
+
   abbrev told : List Connection
   told = (first l past space keys cs k m gone gone_is n).items
 
-  ended_none : (c : ℕ) → has_ended l c past ≡ true
-      → sent_to (length past + 1) c (sends l (entry.Tick m) past) ≡ []
-  unfolding IsLive
-  ended_none c over = grind (arith, tick_sends_none, cases_eq, ne_eqb)
+  -- no key is remembered, so none is past the table's limit
+  none_dropped : told_then l t now ≡ []
+  none_dropped = grind (arith, short_dropped, without_keys_within, table_within)
 
-  unsent_after : (c : ℕ) → unsent l c (entry.Tick m ∷ past)
-      ≡ unsent l c past ++ tick_bytes l past m c
-  unsent_after c = grind (arith, tick_bytes, unsent_ended, ended_none, append-nil, unsent_tick)
+  sends_are : sends l tick now ≡ sent
+  sends_are =
+      tick_sends l past m
+      ∙ ap (λ x. (pushes (tests_before now) (group t.expired now.table) ++ [])
+      ++ pushes (tests_then t now) x) none_dropped
+      ∙ append-nil (pushes (tests_before now) (group t.expired now.table) ++ [])
+      ∙ append-nil (pushes (tests_before now) (group t.expired now.table))
+      ∙ sym (early_is l past space keys cs k m gone gone_is)
 
-  each : (i : ℕ) → IsId cs i → connection_at told i ≡ connection_of l (entry.Tick m ∷ past) i
+  bytes_are : (c : ℕ) → tick_bytes l past m c ≡ sent_bytes (sent_to n c sent)
+  bytes_are c =
+      ap (λ x. sent_bytes (sent_to x c (sends l tick now))) (sym number)
+      ∙ ap (λ ss. sent_bytes (sent_to n c ss)) sends_are
+
+  off : (c : ℕ) → has_ended l c past ≡ true → is_on now c ≡ false
+  off c h = grind (arith, on_is)
+
+  unsent_after : (c : ℕ) → unsent l c (tick ∷ past) ≡ unsent l c past ++ tick_bytes l past m c
+  unsent_after c = elim (has_ended l c past) as (λ b. has_ended l c past ≡ b
+      → unsent l c (tick ∷ past) ≡ unsent l c past ++ tick_bytes l past m c) [
+        | false ↦ λ h. unsent_tick l past c m h
+        | true ↦ λ h. unsent_ended l (tick ∷ past) c (tick_ended l past c m ∙ h)
+            ∙ sym (ap (λ x. x ++ tick_bytes l past m c) (unsent_ended l past c h)
+            ∙ ap sent_bytes
+            (action_sends_off (is_overgrown l t now) l t now (length past + 1) c (off c h)))
+      ] refl
+
+  each : (i : ℕ) → IsId cs i → connection_at told i ≡ connection_of l (tick ∷ past) i
   each i there =
       first_at l past space keys cs k m gone gone_is n i there
-      ∙ same_parts
-      (ap (λ x. unsent l i past ++ x) (grind (arith, early_is)) ∙ sym (unsent_after i)) refl refl
+      ∙ same_parts (ap (λ x. unsent l i past ++ x) (sym (bytes_are i)) ∙ sym (unsent_after i))
+      (sym (tick_stands l past i m))
+      (same_kept (sym (tick_stands l past i m)) (sym (mode_tick l i m past)))
 
   pub length_told : length told ≡ length cs
   length_told = length_first l past space keys cs k m gone gone_is n
 
+  tick_space : keyspace l (tick ∷ past) ≡ without_due m (keyspace l past)
+  unfolding state
+  tick_space = refl
+
   pub agrees_tick : (new : Space) → (gone ≡ [] → ⊥) → latest past ≤ m
       → new ≡ without_due m space
-      → Agrees l (entry.Tick m ∷ past) new (record keys { rows = without_keys gone keys.rows }) told
-  agrees_tick new some later s = grind (arith, length_told, each)
+      → Agrees l (tick ∷ past) new (record keys { rows = without_keys gone keys.rows }) told
+  agrees_tick new some later s = record {
+    legal = ((λ none. some (gone_is ∙ none)), later, k.legal);
+    space_is = s ∙ ap (without_due m) k.space_is ∙ sym tick_space;
+    table_is =
+        ap (λ (t : TableState). record t { rows = without_keys gone t.rows }) k.table_is
+        ∙ ap (λ rows. record { limit = l.table_max; rows = rows })
+        (ap (λ g. without_keys g (table l past)) gone_is ∙ sym (tick_table l past m));
+    count = length_told ∙ k.count;
+    each = λ i there. each i (there.0, let le = there.1 in omega (arith, le, length_told));
+  }
 
-  pub posted_tick : (first l past space keys cs k m gone gone_is n).posts
-      ≡ posted l (entry.Tick m ∷ past)
+  pub posted_tick : (first l past space keys cs k m gone gone_is n).posts ≡ posted l (tick ∷ past)
   unfolding posted
-  posted_tick = grind (arith, first_posts, early_is)
+  posted_tick =
+      first_posts l past space keys cs k m gone gone_is n
+      ∙ ap (λ x. posts_of x sent) number ∙ ap (posts_of (length past + 1)) (sym sends_are)
 
 -- whether keys are due, by their number
 pub none_of : (keys : List (List ℕ)) → length keys ≡ 0 → keys ≡ []
@@ -77,3 +138,13 @@ pub tick_quiet : (l : Limits) (past : List Entry) (now m : ℕ) → expired l pa
     → book_step l past (Tick now) ≡ record { reply = Quiet; past = past }
 unfolding book_step
 tick_quiet l past now m none moment = grind arith
+
+-- what its effect is
+pub effect_tick : (l : Limits) (past : List Entry) (m n : ℕ) (gone : List (List ℕ))
+    → n ≡ length past + 1 → gone ≡ expired l past m
+    → Some (record (bare_effect n 0 kind.Tick) { expired = gone })
+    ≡ last_effect l (entry.Tick m ∷ past)
+unfolding last_effect
+effect_tick l past m n gone h e =
+    ap (λ x. Some (record (bare_effect x 0 kind.Tick) { expired = gone })) h
+    ∙ ap (λ x. Some (record (bare_effect (length past + 1) 0 kind.Tick) { expired = x })) e

@@ -1,8 +1,10 @@
 -- Connections by their ids, which begin at 1.
-use Rattle.std.specs.Prelude.{◌-◌, ◌<◌, ◌≤◌, ◌&&◌, ℕ, List, [], Bool, false, not, nat_lt}
+use Rattle.std.specs.Prelude.{◌≡◌, ◌-◌, ◌<◌, ◌≤◌, ◌&&◌, ℕ, List, Bool, true, nat_lt}
 use Rattle.std.specs.Prelude.{length, nat_le}
 use Rattle.std.specs.Prelude.{slice_index_or, slice_set}
 use Rattle.serial_model.specs.Each.{AllIn}
+use Rattle.serial_model.specs.State as state
+use Rattle.serial_model.specs.State.{keeps_bytes, may_take}
 use Rattle.serial_model.specs.declared.history.Post.{Post}
 use Rattle.server_book.specs.Places.{Connection, fresh}
 
@@ -20,13 +22,28 @@ connection_at connections id = slice_index_or connections (id - 1) fresh
 abbrev pub with_connection : List Connection → ℕ → Connection → List Connection
 with_connection connections id connection = slice_set connections (id - 1) connection
 
+abbrev pub is_there : List Connection → ℕ → Bool
+is_there connections id = nat_lt 0 id && nat_le id (length connections)
+
+-- it has not ended; it can still be closed; it can still take
 abbrev pub is_live : List Connection → ℕ → Bool
 is_live connections id =
-    (nat_lt 0 id && nat_le id (length connections)) && not (connection_at connections id).ended
+    is_there connections id && state.is_live (connection_at connections id).standing
+
+abbrev pub reads : List Connection → ℕ → Bool
+reads connections id =
+    is_there connections id && keeps_bytes (connection_at connections id).standing
+
+abbrev pub gives : List Connection → ℕ → Bool
+gives connections id = is_there connections id && may_take (connection_at connections id).standing
 
 -- a connection that can still be closed
 abbrev pub is_open : Connection → Bool
-is_open connection = not connection.ended
+is_open connection = keeps_bytes connection.standing
+
+abbrev pub IsOpen : List Connection → ℕ → Type 0
+IsOpen connections id =
+    IsId connections id × (is_open (connection_at connections id) ≡ true)
 
 -- each post is of a connection that is there
 abbrev pub ArePosted : List Connection → List Post → Type 0

@@ -6,7 +6,7 @@ use Rattle.command_words.specs.declared.command.WordFault.{WordFault}
 use Rattle.command_words.specs.Expiry.{without_due}
 use Rattle.command_words.specs.Space.{Space}
 use Rattle.command_set.specs.Runs.{taken_back}
-use Rattle.serial_model.specs.declared.mode.Runner.{Runner}
+use Rattle.serial_model.specs.Modes.{Runner}
 use Rattle.serial_model.specs.Deadlines.{due_keys}
 use Rattle.serial_model.specs.History.{effect_of}
 use Rattle.server_book.specs.declared.plan.Played.{Played}

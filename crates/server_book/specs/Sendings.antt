@@ -1,18 +1,18 @@
 -- What sendings do to the connections, and what taking them back does.
-use Rattle.std.specs.Prelude.{◌-◌, ◌&&◌, ℕ, List, [], ◌∷◌, ◌++◌, Bool, not, length, take}
-use Rattle.std.specs.Prelude.{Option, Some, None}
-use Rattle.serial_model.specs.declared.mode.Mode.{Mode}
+use Rattle.std.specs.Prelude.{◌-◌, ◌&&◌, ℕ, List, [], ◌∷◌, ◌++◌, Bool, length, take}
+use Rattle.std.specs.Prelude.{Option, Some, None, if◌then◌else◌}
 use Rattle.serial_model.specs.declared.history.Post.{Post}
 use Rattle.serial_model.specs.declared.history.Posted.{Posted}
 use Rattle.serial_model.specs.declared.history.Posted.TheVariants.{Message, End}
-use Rattle.serial_model.specs.Each.{AllIn}
+use Rattle.serial_model.specs.Plain.{takes_pushes}
+use Rattle.serial_model.specs.State as state
+use Rattle.serial_model.specs.declared.standing.Standing.{Standing}
 use Rattle.serial_model.specs.Tracking.{ids_where}
 use Rattle.serial_model.specs.History.{Sending, sending_bytes, posted_of}
 use Rattle.server_book.specs.Places.{Connection}
-use Rattle.server_book.specs.Connections.{ConnectionsState, IsId, connection_at, with_connection}
-
-abbrev pub modes_of : List Connection → ℕ → Mode
-modes_of connections id = (connection_at connections id).mode
+use Rattle.server_book.specs.Connections.{ConnectionsState, connection_at, with_connection}
+use Rattle.server_book.specs.Connections.{is_live}
+use Rattle.track_modes.specs.ModeState as track
 
 -- the one key that is told of, or none for all
 abbrev pub told_keys : Option (List ℕ) → Option (List (List ℕ))
@@ -22,14 +22,17 @@ told_keys (Some key) = Some (key ∷ [])
 -- a connection that tracks and has not ended
 abbrev pub tracks : List Connection → ℕ → Bool
 tracks connections id =
-    let c = connection_at connections id in c.mode.tracking && not c.ended
+    let c = connection_at connections id in
+    track.is_on c.mode.tracking && state.is_live c.standing
 
 -- those that do, in order of their ids
 abbrev pub tracking_ids : List Connection → List ℕ
 tracking_ids connections = ids_where (tracks connections) (length connections)
 
-abbrev pub AreIds : List Connection → List ℕ → Type 0
-AreIds connections ids = AllIn (IsId connections) ids
+-- a connection that is sent a push of what it is told
+abbrev pub is_pushed : List Connection → ℕ → Bool
+is_pushed connections id =
+    takes_pushes (is_live connections) (connection_at connections id).mode id
 
 -- bytes behind those that a connection has not taken
 abbrev pub queued : List Connection → ℕ → List ℕ → List Connection
@@ -42,6 +45,10 @@ message_post entry id size = record { entry = entry; id = id; what = Message siz
 
 abbrev pub end_post : ℕ → ℕ → Post
 end_post entry id = record { entry = entry; id = id; what = End }
+
+-- the end of a connection that had not ended
+abbrev pub end_posts : ℕ → ℕ → Standing → List Post
+end_posts entry id standing = if state.is_live standing then end_post entry id ∷ [] else []
 
 -- the connections and the posts after one more sending of an entry, and after several
 abbrev pub with_sending : ℕ → (ℕ × Sending) → ConnectionsState → ConnectionsState

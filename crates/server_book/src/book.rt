@@ -1,60 +1,122 @@
 //! The server's state. A turn answers and adds what the definition of a step gives on the history.
-ghost use Rattle.std.specs.Prelude.{◌≡◌, ◌<◌, [], true, IfOk, OnErr, length};
+ghost use Rattle.std.specs.Prelude.{◌≡◌, ◌<◌, true, IfOk, OnErr, length, option_map};
 ghost use Rattle.std.specs.Prelude.{reverse, take};
 ghost use Rattle.command_words.specs.Reading.{IsReading};
 ghost use Rattle.command_words.specs.Words.{reading};
 ghost use Rattle.serial_model.specs.declared.history.BookCall.TheVariants as call;
+ghost use Rattle.serial_model.specs.declared.effect.EntryKind.TheVariants as kind;
+ghost use Rattle.serial_model.specs.EntryEffects.{bare_effect};
 ghost use Rattle.serial_model.specs.History.{IsLegal, gives_on, latest, reads_on};
 ghost use Rattle.serial_model.specs.History.{runs_on};
 ghost use Rattle.serial_model.specs.History.{unsent};
 ghost use Rattle.serial_model.specs.Steps.{AreValid, BookStep, IsCallable};
-ghost use Rattle.server_book.specs.BookState.{IsAccepted, IsRefusal, IsTurn};
-ghost use Rattle.server_book.specs.BookState.{posts_after};
+ghost use Rattle.server_book.specs.BookState.{HasRun, IsAccepted, IsClear, IsRefusal, IsTurn};
+ghost use Rattle.server_book.specs.BookState.{drops_after, effect_after, empty_book, posts_after};
 ghost use Rattle.server_book.specs.Log.{base, kept, runs};
 
 use super::log::Log;
-use super::plan::{Played, play};
+use super::plan::{Caller, Plan, Played, command_of, play};
 use super::stores::Stores;
 use command_set::Expired;
-use command_words::{Command, WordFault, read_command};
-use resp_value::{NoMemory, Words};
-use serial_model::{BookCall, BookRefusal, BookReply, Entry, Limits, Post, Runner};
+use command_words::{Command, Signalled, WordFault, read_command};
+use resp_value::{NoMemory, Value, Words};
+use serial_model::{BookCall, BookRefusal, BookReply, Effect, Entry, EntryKind, Limits, Post};
 use std::alloc::Global;
 use std::marker::Model;
 
 /// The server's state: its history, its keys and its connections. Contracts see its limits, its
-/// history and what the last turn sent.
+/// history, what the last turn sent, whom it dropped, and the effect of the entry that it added.
 #[derive(Drop)]
 pub struct Book {
     limits: Limits,
     log: Log,
     stores: Stores,
+    effect: Option<Effect>,
+}
+
+/// What a Run has done, beside its command. `entry` is the number of its entry.
+#[derive(Drop)]
+pub struct RunDone {
+    pub entry: u64,
+    pub expired: Words,
+    pub reply: Value,
+    pub signalled: Signalled,
 }
 
 impl Model for Book {
+    ghost use Rattle.std.specs.Coded.{codes};
+    ghost use Rattle.std.specs.Prelude.{[]};
+    ghost use Rattle.resp_value.specs.TreeCoding.{tree_code};
     ghost use Rattle.server_book.specs.BookState.{IsBook, BookState};
 
     ghost Value = { BookState };
+
+    ghost coded = { Prim.hlevel (codes, tree_code) };
 
     ghost view = { λ b. record {
       limits = b.limits;
       past = b.log.past;
       posts = b.stores.connections.posts;
+      drops = [];
+      effect = b.effect;
     } };
 
     ghost invariant = { λ b. IsBook b.limits b.log b.stores };
+}
+
+// The command that words are, or what is wrong with them.
+#[tactic(auto, using(crate::proofs::BookTurns::read_is))]
+fn read_within(alloc: Global, words: &Words) -> Result<Result<Command, WordFault>, NoMemory>
+    ensures { IfOk result (λ read. read ≡ reading words.now) }
+{
+    let read = read_command(alloc, words);
+    if let Err(WordFault::NoMemory) = read {
+        return Err(NoMemory);
+    }
+    Ok(read)
+}
+
+// The effect of an entry at which no command runs.
+fn bare_effect(alloc: Global, entry: u64, id: u64, kind: EntryKind) -> Effect
+    ensures { result ≡ bare_effect entry id kind }
+{
+    Effect {
+        entry,
+        id,
+        command: None,
+        expired: Words::new(alloc),
+        reply: None,
+        signalled: Signalled::Keys(Words::new(alloc)),
+        kind,
+    }
+}
+
+// The effect of a Tick, by which these keys left.
+fn tick_effect(alloc: Global, entry: u64, expired: Words) -> Effect
+    ensures { result ≡ record (bare_effect entry 0 kind.Tick) { expired = expired } }
+{
+    Effect {
+        entry,
+        id: 0,
+        command: None,
+        expired,
+        reply: None,
+        signalled: Signalled::Keys(Words::new(alloc)),
+        kind: EntryKind::Tick,
+    }
 }
 
 impl Book {
     /// The server before its first turn.
     pub fn new(alloc: Global, limits: Limits) -> Result<Book, NoMemory>
         requires { AreValid limits }
-        ensures { IfOk result (λ b. b ≡ record { limits = limits; past = []; posts = [] }) }
+        ensures { IfOk result (λ b. b ≡ empty_book limits) }
     {
         Ok(Book {
             limits,
             log: Log::new(alloc, limits.history_max),
             stores: Stores::new(alloc, limits.table_max)?,
+            effect: None,
         })
     }
 
@@ -102,6 +164,23 @@ impl Book {
         self.stores.connections.posts()
     }
 
+    /// The connections that the last turn ended though they did not ask for it, in order of their
+    /// ids.
+    pub fn last_drops(&self) -> &[u64]
+        ensures { result.now ≡ self.now.drops }
+    {
+        // no limit of what waits for a connection is in force yet
+        let _limits = &self.limits;
+        &[]
+    }
+
+    /// The effect of the entry that the last turn added, if it added one.
+    pub fn last_effect(&self) -> Option<&Effect>
+        ensures { option_map (λ e. e.now) result ≡ self.now.effect }
+    {
+        self.effect.as_ref()
+    }
+
     /// Whether a Run of this connection is accepted.
     pub fn runs_on(&self, id: u64) -> bool
         ensures { result ≡ runs_on self.now.limits self.now.past id }
@@ -113,14 +192,14 @@ impl Book {
     pub fn reads_on(&self, id: u64) -> bool
         ensures { result ≡ reads_on self.now.limits self.now.past id }
     {
-        self.stores.connections.is_live(id)
+        self.stores.connections.reads(id)
     }
 
     /// Whether a Take of this connection is accepted.
     pub fn gives_on(&self, id: u64) -> bool
         ensures { result ≡ gives_on self.now.limits self.now.past id }
     {
-        self.stores.connections.is_live(id)
+        self.stores.connections.gives(id)
     }
 
     /// How many bytes a connection can take now.
@@ -170,7 +249,7 @@ impl Book {
 
     fn admit(&mut self) -> Result<BookReply, NoMemory>
         requires accepted { IsAccepted self.old.limits self.old.past call.Admit }
-        requires none { self.old.posts ≡ [] }
+        requires none { IsClear self.old }
         ensures ok { IfOk result (λ reply. IsTurn self.old call.Admit reply self.new) }
         ensures err { OnErr result (self.new ≡ self.old) }
     {
@@ -180,6 +259,7 @@ impl Book {
         let entry = self.log.next();
         self.stores.connections.admit()?;
         self.log.push(Entry::Admit { id });
+        self.effect = Some(bare_effect(self.stores.alloc, entry, id, EntryKind::Admit));
         Ok(BookReply::Admitted { entry, id })
     }
 
@@ -190,16 +270,18 @@ impl Book {
         words: Words,
         read: &Result<Command, WordFault>,
         now: u64,
-    ) -> Result<BookReply, NoMemory>
+    ) -> Result<RunDone, NoMemory>
         requires accepted { IsAccepted self.old.limits self.old.past (call.Run id words now) }
-        requires none { self.old.posts ≡ [] }
+        requires none { IsClear self.old }
         requires reading { IsReading read.now (reading words) }
-        ensures ok { IfOk result (λ reply. IsTurn self.old (call.Run id words now) reply self.new) }
+        ensures ok { IfOk result (λ done. HasRun self.old id words now done self.new) }
         ensures err { OnErr result (self.new ≡ self.old) }
     {
         let moment = now.max(self.log.moment());
-        let mode = self.stores.connections.mode(id);
-        let by = Runner { id, mode };
+        let by = Caller {
+            alloc: self.stores.alloc,
+            id,
+        };
         self.log.reserve(1)?;
         let entry = self.log.next();
         // no id is past the number of connections
@@ -209,9 +291,9 @@ impl Book {
             plan,
             undo,
         } = play(
-            self.stores.alloc,
             &mut self.stores.space,
             by,
+            self.stores.connections.mode(id),
             &words,
             read,
             moment,
@@ -223,23 +305,45 @@ impl Book {
                 return Err(NoMemory);
             }
         }
+        let Plan { reply, deed, .. } = plan;
+        let signalled = self.stores.settle(id, deed);
         self.log.push(Entry::Run { id, words, moment });
-        Ok(BookReply::Ran { entry })
+        Ok(RunDone {
+            entry,
+            expired,
+            reply,
+            signalled,
+        })
     }
 
     fn run(&mut self, id: u64, words: Words, now: u64) -> Result<BookReply, NoMemory>
         requires accepted { IsAccepted self.old.limits self.old.past (call.Run id words now) }
-        requires none { self.old.posts ≡ [] }
+        requires none { IsClear self.old }
         ensures ok { IfOk result (λ reply. IsTurn self.old (call.Run id words now) reply self.new) }
         ensures err { OnErr result (self.new ≡ self.old) }
     {
-        let read = read_command(self.stores.alloc, &words);
-        self.run_read(id, words, &read, now)
+        let read = read_within(self.stores.alloc, &words)?;
+        let RunDone {
+            entry,
+            expired,
+            reply,
+            signalled,
+        } = self.run_read(id, words, &read, now)?;
+        self.effect = Some(Effect {
+            entry,
+            id,
+            command: command_of(read),
+            expired,
+            reply: Some(reply),
+            signalled,
+            kind: EntryKind::Run,
+        });
+        Ok(BookReply::Ran { entry })
     }
 
     // Where no key is due, nothing was taken out.
     fn tick(&mut self, now: u64) -> Result<BookReply, NoMemory>
-        requires none { self.old.posts ≡ [] }
+        requires none { IsClear self.old }
         ensures ok { IfOk result (λ reply. IsTurn self.old (call.Tick now) reply self.new) }
         ensures err { OnErr result (self.new ≡ self.old) }
     {
@@ -251,21 +355,21 @@ impl Book {
             return Ok(BookReply::Quiet);
         }
         match self.stores.send_tick(entry, keys.as_slice()) {
-            Ok(()) => {
-                self.log.push(Entry::Tick { moment });
-                Ok(BookReply::Ticked { entry })
-            }
+            Ok(()) => {}
             Err(_) => {
                 self.stores.space.undo_due(undo);
-                Err(NoMemory)
+                return Err(NoMemory);
             }
         }
+        self.log.push(Entry::Tick { moment });
+        self.effect = Some(tick_effect(self.stores.alloc, entry, keys));
+        Ok(BookReply::Ticked { entry })
     }
 
     fn take(&mut self, id: u64, most: u64) -> Result<BookReply, NoMemory>
         requires most { 0 < most }
         requires accepted { IsAccepted self.old.limits self.old.past (call.Take id most) }
-        requires none { self.old.posts ≡ [] }
+        requires none { IsClear self.old }
         ensures ok { IfOk result (λ reply. IsTurn self.old (call.Take id most) reply self.new) }
         ensures err { OnErr result (self.new ≡ self.old) }
     {
@@ -274,19 +378,23 @@ impl Book {
         let entry = self.log.next();
         self.log.push(Entry::Take { id, max: most });
         self.stores.connections.advance(id, most as usize);
+        let given = bytes.as_slice().len() as u64;
+        let kind = EntryKind::Take(given);
+        self.effect = Some(bare_effect(self.stores.alloc, entry, id, kind));
         Ok(BookReply::Bytes { entry, bytes })
     }
 
     // The room for the entry and for its post was kept. What the connection remembers goes.
     fn close(&mut self, id: u64) -> BookReply
         requires accepted { IsAccepted self.old.limits self.old.past (call.Close id) }
-        requires none { self.old.posts ≡ [] }
+        requires none { IsClear self.old }
         ensures { IsTurn self.old (call.Close id) result self.new }
     {
         let entry = self.log.next();
         self.log.push(Entry::Close { id });
-        self.stores.connections.end(entry, id);
+        self.stores.connections.close(entry, id);
         self.stores.table.forget_connection(id);
+        self.effect = Some(bare_effect(self.stores.alloc, entry, id, EntryKind::Close));
         BookReply::Closed { entry }
     }
 
@@ -296,8 +404,11 @@ impl Book {
         ensures limits { self.new.limits ≡ self.old.limits }
         ensures step { BookStep self.old.limits self.old.past call result self.new.past }
         ensures posts { self.new.posts ≡ posts_after self.old.limits result self.new.past }
+        ensures drops { self.new.drops ≡ drops_after self.old.limits result self.new.past }
+        ensures effect { self.new.effect ≡ effect_after self.old.limits result self.new.past }
     {
         self.stores.connections.clear_posts();
+        self.effect = None;
         if let Some(reply) = self.refusal(&call) {
             return reply;
         }

@@ -1,82 +1,175 @@
 //! What the server keeps of one connection.
-ghost use Rattle.std.specs.Prelude.{◌≡◌, ◌++◌, true, OnOk, OnErr, IfOk, length, take, drop, []};
-ghost use Rattle.serial_model.specs.History.{spelled};
-ghost use Rattle.server_book.specs.Places.{fresh};
+ghost use Rattle.std.specs.Prelude.{◌≡◌, ◌&&◌, ◌++◌, true, OnOk, OnErr, IfOk, length, take, drop};
+ghost use Rattle.serial_model.specs.Actions.{spelled};
+ghost use Rattle.serial_model.specs.Plain.{is_three};
+ghost use Rattle.serial_model.specs.State as state;
+ghost use Rattle.serial_model.specs.State.{closed, keeps_bytes, may_take};
+ghost use Rattle.server_book.specs.Places.{bytes_in, fresh, gone};
+ghost use Rattle.track_modes.specs.ModeState as track;
 
 use out_queue::OutQueue;
 use resp_value::{NoMemory, Octets, Proto, Value};
-use serial_model::Mode;
+use serial_model::Standing;
 use std::alloc::Global;
 use std::marker::Model;
+use track_modes::{Mode, Tracking};
 
-/// Whether a connection has ended, what its own runs made of it, and its queue. One that has ended
-/// is bare, so that no more than these 16 bytes stay of it.
+/// What a connection was sent and has not taken. One that was sent nothing has no queue.
 #[derive(Drop)]
-enum Place {
-    Bare {
-        ended: bool,
-        mode: Mode,
-    },
-    Queued {
-        ended: bool,
-        mode: Mode,
-        queue: Box<OutQueue>,
-    },
+enum Queue {
+    Nothing,
+    Bytes(OutQueue),
 }
 
-/// A connection: the bytes that it was sent and has not taken, whether it has ended, and what its
-/// own runs made of it.
+/// What is kept of a connection until it is closed.
+#[derive(Drop)]
+struct Open {
+    mode: Mode,
+    queue: Queue,
+}
+
+/// A connection: how far it has ended and, until it is closed, what its own runs made of it and
+/// the bytes that it was sent and has not taken. Of one that is closed these 16 bytes stay.
 #[derive(Drop)]
 pub struct Connection {
-    place: Place,
+    standing: Standing,
+    kept: Option<Box<Open>>,
 }
 
 impl Model for Connection {
-    ghost use Rattle.server_book.specs.Places.{Connection, shown};
+    ghost use Rattle.server_book.specs.Places.{Connection, IsKept, shown};
 
     ghost Value = { Connection };
 
-    ghost view = { λ c. shown c.place };
+    ghost view = { λ c. shown c.standing c.kept };
+
+    ghost invariant = { λ c. IsKept c.standing c.kept };
+}
+
+fn is_live(standing: Standing) -> bool
+    ensures { result ≡ state.is_live standing }
+{
+    matches!(standing, Standing::Live)
+}
+
+fn closed(standing: Standing) -> Standing
+    ensures { result ≡ closed standing }
+{
+    match standing {
+        Standing::Live | Standing::Gone => Standing::Gone,
+        Standing::Quit | Standing::QuitClosed => Standing::QuitClosed,
+    }
+}
+
+fn is_tracking(mode: &Mode) -> bool
+    ensures { result ≡ track.is_on mode.now.tracking }
+{
+    matches!(mode.tracking(), Tracking::On(_))
+}
+
+impl Open {
+    fn size(&self) -> usize
+        ensures { result ≡ length (bytes_in self.now.queue) }
+    {
+        match &self.queue {
+            Queue::Nothing => 0,
+            Queue::Bytes(queue) => queue.size() as usize,
+        }
+    }
+
+    #[tactic(auto, unfolding(serial_model::specs::Actions::spelled))]
+    fn add_value(&mut self, alloc: Global, proto: Proto, value: &Value) -> Result<u64, NoMemory>
+        ensures mode { self.new.mode ≡ self.old.mode }
+        ensures ok { OnOk result (bytes_in self.new.queue
+            ≡ bytes_in self.old.queue ++ spelled proto value.now) }
+        ensures count { IfOk result (λ n. n ≡ length (spelled proto value.now)) }
+        ensures err { OnErr result (bytes_in self.new.queue ≡ bytes_in self.old.queue) }
+    {
+        match &mut self.queue {
+            Queue::Nothing => {
+                let mut queue = OutQueue::new(alloc);
+                let count = queue.add_value(proto, value)?;
+                self.queue = Queue::Bytes(queue);
+                Ok(count)
+            }
+            Queue::Bytes(queue) => queue.add_value(proto, value),
+        }
+    }
 }
 
 impl Connection {
-    /// One that was sent nothing. It takes no memory.
-    pub fn fresh() -> Connection
-        ensures { result ≡ fresh }
+    /// One that was sent nothing.
+    pub fn fresh(alloc: Global) -> Result<Connection, NoMemory>
+        ensures { IfOk result (λ c. c ≡ fresh) }
     {
-        Connection {
-            place: Place::Bare {
-                ended: false,
-                mode: Mode {
-                    proto: Proto::Two,
-                    tracking: false,
-                },
-            },
+        let open = Open {
+            mode: Mode::new(alloc),
+            queue: Queue::Nothing,
+        };
+        Ok(Connection {
+            standing: Standing::Live,
+            kept: Some(Box::new(alloc, open)?),
+        })
+    }
+
+    /// Whether it has not ended.
+    pub fn is_live(&self) -> bool
+        ensures { result ≡ state.is_live self.now.standing }
+    {
+        is_live(self.standing)
+    }
+
+    /// Whether it can still be closed.
+    pub fn reads(&self) -> bool
+        ensures { result ≡ keeps_bytes self.now.standing }
+    {
+        matches!(self.standing, Standing::Live | Standing::Quit)
+    }
+
+    /// Whether it can still take.
+    pub fn gives(&self) -> bool
+        ensures { result ≡ may_take self.now.standing }
+    {
+        !matches!(self.standing, Standing::Gone)
+    }
+
+    /// Whether it tracks and has not ended.
+    pub fn tracks(&self) -> bool
+        ensures { result ≡ (track.is_on self.now.mode.tracking && state.is_live self.now.standing) }
+    {
+        match &self.kept {
+            Some(open) => is_tracking(&open.mode) && is_live(self.standing),
+            None => false,
         }
     }
 
-    pub fn has_ended(&self) -> bool
-        ensures { result ≡ self.now.ended }
+    /// Whether it is on the third protocol.
+    pub fn is_three(&self) -> bool
+        ensures { result ≡ is_three self.now.mode.proto }
     {
-        match &self.place {
-            Place::Bare { ended, .. } | Place::Queued { ended, .. } => *ended,
+        match &self.kept {
+            Some(open) => open.mode.peer().proto == Proto::Three,
+            None => false,
         }
     }
 
-    pub fn mode(&self) -> Mode
-        ensures { result ≡ self.now.mode }
+    pub fn mode(&self) -> &Mode
+        requires { keeps_bytes self.now.standing ≡ true }
+        ensures { result.now ≡ self.now.mode }
     {
-        match &self.place {
-            Place::Bare { mode, .. } | Place::Queued { mode, .. } => *mode,
+        match &self.kept {
+            Some(open) => &open.mode,
+            None => unreachable!(),
         }
     }
 
-    pub fn set_mode(&mut self, new: Mode)
-        ensures { self.new ≡ record self.old { mode = new } }
+    pub fn set_mode(&mut self, mode: Mode)
+        requires { keeps_bytes self.old.standing ≡ true }
+        ensures { self.new ≡ record self.old { mode = mode } }
     {
-        match &mut self.place {
-            Place::Bare { mode, .. } => *mode = new,
-            Place::Queued { mode, .. } => *mode = new,
+        match &mut self.kept {
+            Some(open) => open.mode = mode,
+            None => unreachable!(),
         }
     }
 
@@ -84,9 +177,9 @@ impl Connection {
     pub fn size(&self) -> usize
         ensures { result ≡ length self.now.queue }
     {
-        match &self.place {
-            Place::Bare { .. } => 0,
-            Place::Queued { queue, .. } => queue.size() as usize,
+        match &self.kept {
+            Some(open) => open.size(),
+            None => 0,
         }
     }
 
@@ -94,19 +187,22 @@ impl Connection {
     pub fn front(&self, alloc: Global, most: usize) -> Result<Octets, NoMemory>
         ensures { IfOk result (λ o. o ≡ take most self.now.queue) }
     {
-        match &self.place {
-            Place::Bare { .. } => Octets::from_slice(alloc, b""),
-            Place::Queued { queue, .. } => queue.front(most),
+        if let Some(open) = &self.kept {
+            if let Queue::Bytes(queue) = &open.queue {
+                return queue.front(most);
+            }
         }
+        Octets::from_slice(alloc, b"")
     }
 
     /// Drops the first bytes that it has not taken, at most so many. It takes no memory.
     pub fn advance(&mut self, most: usize)
         ensures { self.new ≡ record self.old { queue = drop most self.old.queue } }
     {
-        match &mut self.place {
-            Place::Bare { .. } => {}
-            Place::Queued { queue, .. } => queue.advance(most),
+        if let Some(open) = &mut self.kept {
+            if let Queue::Bytes(queue) = &mut open.queue {
+                queue.advance(most);
+            }
         }
     }
 
@@ -114,43 +210,33 @@ impl Connection {
     pub fn keep(&mut self, most: usize)
         ensures { self.new ≡ record self.old { queue = take most self.old.queue } }
     {
-        match &mut self.place {
-            Place::Bare { .. } => {}
-            Place::Queued { queue, .. } => queue.keep(most),
+        if let Some(open) = &mut self.kept {
+            if let Queue::Bytes(queue) = &mut open.queue {
+                queue.keep(most);
+            }
         }
     }
 
     /// A value goes behind the bytes that it has not taken, as it is spelled. It answers of how
     /// many bytes it is.
-    #[tactic(auto, unfolding(serial_model::specs::History::spelled))]
     pub fn add_value(&mut self, alloc: Global, proto: Proto, value: &Value) -> Result<u64, NoMemory>
+        requires { keeps_bytes self.old.standing ≡ true }
         ensures ok { OnOk result (let message = spelled proto value.now in
             self.new ≡ record self.old { queue = self.old.queue ++ message }) }
         ensures count { IfOk result (λ n. n ≡ length (spelled proto value.now)) }
         ensures err { OnErr result (self.new ≡ self.old) }
     {
-        match &mut self.place {
-            Place::Bare { ended, mode } => {
-                let mut queue = Box::new(alloc, OutQueue::new(alloc))?;
-                let count = queue.add_value(proto, value)?;
-                self.place = Place::Queued {
-                    ended: *ended,
-                    mode: *mode,
-                    queue,
-                };
-                Ok(count)
-            }
-            Place::Queued { queue, .. } => queue.add_value(proto, value),
+        match &mut self.kept {
+            Some(open) => open.add_value(alloc, proto, value),
+            None => unreachable!(),
         }
     }
 
-    /// It ends, and gives up what it has not taken. It takes no memory.
-    pub fn end(&mut self)
-        ensures { self.new ≡ record self.old { queue = []; ended = true } }
+    /// It is closed, and gives up what it has not taken. It takes no memory.
+    pub fn close(&mut self)
+        ensures { self.new ≡ gone self.old }
     {
-        self.place = Place::Bare {
-            ended: true,
-            mode: self.mode(),
-        };
+        self.kept = None;
+        self.standing = closed(self.standing);
     }
 }

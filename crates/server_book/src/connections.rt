@@ -1,21 +1,23 @@
 //! What the server keeps of its connections, by their ids, and what it sends them.
 ghost use Rattle.std.specs.Prelude.{◌≡◌, ◌++◌, ◌∷◌, [], ◌+◌, ◌^◌, ◌<◌, ◌≤◌, true, false, OnOk};
 ghost use Rattle.std.specs.Prelude.{OnErr, IfOk, length, take, drop, option_map};
-ghost use Rattle.serial_model.specs.History.{routed, spelled};
+ghost use Rattle.serial_model.specs.Actions.{spelled};
+ghost use Rattle.serial_model.specs.Plain.{pushes};
 ghost use Rattle.serial_model.specs.Tracking.{told_to};
-ghost use Rattle.server_book.specs.Connections.{IsId, ConnectionsState, connection_at};
-ghost use Rattle.server_book.specs.Connections.{is_live, with_connection};
-ghost use Rattle.server_book.specs.Places.{fresh};
-ghost use Rattle.server_book.specs.Sendings.{AreIds, before_posts, modes_of, queued, size_of};
+ghost use Rattle.server_book.specs.Connections.{IsId, IsOpen, ConnectionsState, connection_at};
+ghost use Rattle.server_book.specs.Connections.{gives, is_there, is_live, reads, with_connection};
+ghost use Rattle.server_book.specs.Places.{fresh, gone};
+ghost use Rattle.server_book.specs.Sendings.{before_posts, is_pushed, queued, size_of};
 ghost use Rattle.server_book.specs.Sendings.{told_keys, tracking_ids};
-ghost use Rattle.server_book.specs.Sendings.{message_post, end_post, with_sendings};
+ghost use Rattle.server_book.specs.Sendings.{message_post, end_posts, with_sendings};
 
 use super::connection::Connection;
 use super::messages::push_of;
 use resp_value::{NoMemory, Octets, Proto, Value};
-use serial_model::{Mode, Post, Posted};
+use serial_model::{Post, Posted};
 use std::alloc::Global;
 use std::marker::Model;
+use track_modes::Mode;
 
 /// All connections that were admitted, and what the last turn sent them. Their ids are 1 to their
 /// number.
@@ -78,14 +80,41 @@ impl Connections {
         self.posts.clear();
     }
 
+    // Whether a connection of this id was admitted.
+    fn is_there(&self, id: u64) -> bool
+        ensures { result ≡ is_there self.now.items id }
+    {
+        0 < id && id <= self.items.len() as u64
+    }
+
     /// Whether a connection of this id was admitted and has not ended.
     pub fn is_live(&self, id: u64) -> bool
         ensures { result ≡ is_live self.now.items id }
     {
-        if id == 0 || id > self.items.len() as u64 {
+        if !self.is_there(id) {
             return false;
         }
-        !self.items[(id - 1) as usize].has_ended()
+        self.items[(id - 1) as usize].is_live()
+    }
+
+    /// Whether it can still be closed.
+    pub fn reads(&self, id: u64) -> bool
+        ensures { result ≡ reads self.now.items id }
+    {
+        if !self.is_there(id) {
+            return false;
+        }
+        self.items[(id - 1) as usize].reads()
+    }
+
+    /// Whether it can still take.
+    pub fn gives(&self, id: u64) -> bool
+        ensures { result ≡ gives self.now.items id }
+    {
+        if !self.is_there(id) {
+            return false;
+        }
+        self.items[(id - 1) as usize].gives()
     }
 
     /// One more connection, with nothing to take.
@@ -94,19 +123,19 @@ impl Connections {
             (self.new ≡ record self.old { items = self.old.items ++ fresh ∷ [] }) }
         ensures err { OnErr result (self.new ≡ self.old) }
     {
-        self.items.push(Connection::fresh())?;
+        self.items.push(Connection::fresh(self.alloc)?)?;
         Ok(())
     }
 
-    pub fn mode(&self, id: u64) -> Mode
-        requires { IsId self.now.items id }
-        ensures { result ≡ (connection_at self.now.items id).mode }
+    pub fn mode(&self, id: u64) -> &Mode
+        requires { IsOpen self.now.items id }
+        ensures { result.now ≡ (connection_at self.now.items id).mode }
     {
         self.items[(id - 1) as usize].mode()
     }
 
     pub fn set_mode(&mut self, id: u64, mode: Mode)
-        requires { IsId self.old.items id }
+        requires { IsOpen self.old.items id }
         ensures { let c = connection_at self.old.items id in
             let items = with_connection self.old.items id (record c { mode = mode }) in
             self.new ≡ record self.old { items = items } }
@@ -144,9 +173,9 @@ impl Connections {
     }
 
     /// Sends a value: its spelling goes behind the bytes that the connection has not taken.
-    #[tactic(auto, unfolding(serial_model::specs::History::spelled))]
+    #[tactic(auto, unfolding(serial_model::specs::Actions::spelled))]
     pub fn send(&mut self, entry: u64, to: u64, proto: Proto, value: &Value) -> Result<(), NoMemory>
-        requires { IsId self.old.items to }
+        requires { IsOpen self.old.items to }
         ensures ok { OnOk result (let message = spelled proto value.now in
             self.new ≡ record {
               items = queued self.old.items to message;
@@ -171,15 +200,26 @@ impl Connections {
     {
         let mut ids = Vec::new(alloc);
         for (place, connection) in self.items.iter().enumerate() {
-            if connection.mode().tracking && !connection.has_ended() {
+            if connection.tracks() {
                 ids.push(place as u64 + 1)?;
             }
         }
         Ok(ids)
     }
 
-    /// Tells connections that a key is not what it was, or that no key is: those on the third
-    /// protocol are sent a push, those on the second nothing. Where memory runs out, some of them
+    // Whether the connection is sent a push of what it is told.
+    fn is_pushed(&self, id: u64) -> bool
+        ensures { result ≡ is_pushed self.now.items id }
+    {
+        if !self.is_there(id) {
+            return false;
+        }
+        let connection = &self.items[(id - 1) as usize];
+        connection.tracks() && connection.is_three()
+    }
+
+    /// Tells connections that a key is not what it was, or that no key is: those that track on the
+    /// third protocol are sent a push, the others nothing. Where memory runs out, some of them
     /// were sent theirs.
     pub fn tell(
         &mut self,
@@ -188,10 +228,9 @@ impl Connections {
         key: Option<&[u8]>,
         to: &[u64],
     ) -> Result<(), NoMemory>
-        requires { AreIds self.old.items to.now }
         ensures ok { OnOk result (let keys = told_keys (option_map (λ k. k.now) key.entry) in
             self.new ≡ with_sendings entry
-            (routed (modes_of self.old.items) (told_to keys to.now)) self.old) }
+            (pushes (is_pushed self.old.items) (told_to keys to.now)) self.old) }
         ensures err { OnErr result
             (before_posts self.new.posts self.new.items
             ≡ before_posts self.old.posts self.old.items) }
@@ -202,9 +241,8 @@ impl Connections {
         let push = push_of(alloc, key)?;
         let message = &push;
         for (place, id) in to.iter().enumerate() {
-            match self.mode(*id).proto {
-                Proto::Two => {}
-                Proto::Three => self.send(entry, *id, Proto::Three, message)?,
+            if self.is_pushed(*id) {
+                self.send(entry, *id, Proto::Three, message)?;
             }
         }
         Ok(())
@@ -224,23 +262,26 @@ impl Connections {
         }
     }
 
-    /// Ends the connection, and gives up what it has not taken. It takes no memory.
-    pub fn end(&mut self, entry: u64, id: u64)
+    /// Closes the connection, and gives up what it has not taken. Its end is sent where it had not
+    /// ended. It takes no memory.
+    pub fn close(&mut self, entry: u64, id: u64)
         requires there { IsId self.old.items id }
         requires none { self.old.posts ≡ [] }
         ensures { let c = connection_at self.old.items id in
-            let gone = record c { queue = []; ended = true } in
             self.new ≡ record {
-              items = with_connection self.old.items id gone;
-              posts = end_post entry id ∷ [];
+              items = with_connection self.old.items id (gone c);
+              posts = end_posts entry id c.standing;
             } }
     {
         let connection = &mut self.items[(id - 1) as usize];
-        connection.end();
-        self.posts.push_reserved(Post {
-            entry,
-            id,
-            what: Posted::End,
-        });
+        let was_live = connection.is_live();
+        connection.close();
+        if was_live {
+            self.posts.push_reserved(Post {
+                entry,
+                id,
+                what: Posted::End,
+            });
+        }
     }
 }

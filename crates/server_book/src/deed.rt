@@ -1,7 +1,14 @@
 //! What a request does besides its reply.
-use resp_value::Words;
+ghost use Rattle.std.specs.Prelude.{◌≡◌};
+ghost use Rattle.server_book.specs.Plans.{signals_of};
 
-/// Whom a request tells, and what its connection remembers by it.
+use command_words::Signalled;
+use resp_value::Words;
+use std::alloc::Global;
+use track_modes::Mode;
+
+/// Whom a request tells, what its connection remembers by it, and what it makes of its connection.
+/// One that tells somebody leaves its connection's mode.
 #[derive(Drop)]
 pub enum Deed {
     Nothing,
@@ -11,6 +18,10 @@ pub enum Deed {
     TellAll,
     /// The connection remembers these keys.
     Remember(Words),
-    /// The connection forgets all keys.
-    Forget,
+    /// The connection has this mode from now on.
+    Become(Mode),
+    /// And it tracks.
+    Track(Mode),
+    /// And it forgets all keys.
+    Forget(Mode),
 }

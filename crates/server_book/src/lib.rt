@@ -12,4 +12,6 @@ mod plan;
 mod stores;
 
 pub use book::Book;
-pub use serial_model::{BookCall, BookRefusal, BookReply, Entry, Limits, Post, Posted};
+pub use serial_model::{
+    BookCall, BookRefusal, BookReply, Effect, Entry, EntryKind, Limits, Post, Posted,
+};

@@ -1,16 +1,14 @@
 //! What connections are sent beside replies.
 ghost use Rattle.std.specs.Prelude.{◌≡◌, IfOk, option_map};
-ghost use Rattle.resp_value.specs.ValueTree.{tree_of};
-ghost use Rattle.serial_model.specs.Tracking.{named, push_of};
+ghost use Rattle.redirect.specs.Messages.{keys_of, push_of};
 ghost use Rattle.server_book.specs.Sendings.{told_keys};
 
 use resp_value::{NoMemory, Octets, Value, Values};
 use std::alloc::Global;
 
 // The key alone, or null for all.
-fn named(alloc: Global, key: Option<&[u8]>) -> Result<Value, NoMemory>
-    ensures { IfOk result (λ v.
-        tree_of v ≡ named (told_keys (option_map (λ k. k.now) key.entry))) }
+fn keys_of(alloc: Global, key: Option<&[u8]>) -> Result<Value, NoMemory>
+    ensures { IfOk result (λ v. v ≡ keys_of (told_keys (option_map (λ k. k.now) key.entry))) }
 {
     match key {
         Some(key) => {
@@ -28,6 +26,6 @@ pub fn push_of(alloc: Global, key: Option<&[u8]>) -> Result<Value, NoMemory>
 {
     let mut parts = Values::new(alloc);
     parts.push(Value::Blob(Octets::from_slice(alloc, b"invalidate")?))?;
-    parts.push(named(alloc, key)?)?;
+    parts.push(keys_of(alloc, key)?)?;
     Ok(Value::Push(parts))
 }

@@ -1,9 +1,9 @@
 //! What a request does: to the keyspace, and what is planned of its reply, whom it tells and what
 //! it makes of its connection.
 ghost use Rattle.std.specs.Prelude.{◌≡◌, ◌<◌, ◌^◌, IfOk, OnOk, OnErr, Result, Ok, Err, List, []};
-ghost use Rattle.std.specs.Prelude.{ℕ, true, false, codes, if◌then◌else◌};
-ghost use Rattle.resp_value.specs.declared.value.Value.TheVariants.{Simple};
-ghost use Rattle.command_words.specs.declared.command.Command.TheVariants.{Hello};
+ghost use Rattle.std.specs.Prelude.{None};
+ghost use Rattle.std.specs.Prelude.{ℕ, true, false, if◌then◌else◌};
+ghost use Rattle.command_words.specs.declared.command.Command.TheVariants.{Hello, ClientTracking};
 ghost use Rattle.command_words.specs.declared.command.WordFault.{WordFault};
 ghost use Rattle.command_words.specs.Effects.{has_row};
 ghost use Rattle.command_words.specs.Expiry.{without_due};
@@ -14,26 +14,36 @@ ghost use Rattle.command_words.specs.Words.{reading};
 ghost use Rattle.command_words.specs.declared.command.Command.{Command};
 ghost use Rattle.command_set.specs.Runs.{taken_back};
 ghost use Rattle.serial_model.specs.Deadlines.{due_keys};
+ghost use Rattle.serial_model.specs.EntryEffects.{command_of};
 ghost use Rattle.serial_model.specs.Modes.{is_served_tracking};
-ghost use Rattle.serial_model.specs.History.{served, served_reading};
-ghost use Rattle.server_book.specs.declared.deed.Deed.TheVariants.{Nothing, Forget};
-ghost use Rattle.server_book.specs.Plans.{IsQuiet, deed_for};
+ghost use Rattle.serial_model.specs.History.{is_served, served, served_reading};
+ghost use Rattle.serial_model.specs.Plain.{IsPlainMode};
+ghost use Rattle.server_book.specs.Plans.{IsQuiet, deed_for, runner};
 ghost use Rattle.server_book.specs.Played.{IsPlayed};
+ghost use Rattle.track_modes.specs.Commands.{after_command, command_fault};
+ghost use Rattle.track_modes.specs.ModeState.{remembers_read};
 
 use super::deed::Deed;
 use super::hello::{greeting, hello};
 use command_set::{Database, Expired, Turned, Undo, has_row};
 use command_words::{Command, Signalled, TrackOptions, WordFault, fault_text, keys_read};
-use resp_value::{NoMemory, Octets, Value, Words};
-use serial_model::{Mode, Runner};
+use resp_value::{NoMemory, Octets, Proto, Value, Words};
 use std::alloc::Global;
+use track_modes::{Mode, ModeFault};
 
 #[derive(Drop)]
 pub struct Plan {
     pub reply: Value,
+    /// The protocol that the reply is spelled in.
+    pub proto: Proto,
     pub deed: Deed,
-    /// The mode of the connection after it.
-    pub mode: Mode,
+}
+
+/// The connection that runs a request.
+#[derive(Clone, Copy)]
+pub struct Caller {
+    pub alloc: Global,
+    pub id: u64,
 }
 
 /// What was played of a request: the keys that were due and left, the plan of the rest, and how the
@@ -48,28 +58,30 @@ pub struct Played {
 /// Plays a request on a keyspace at a moment: the keys that are due leave, and then its command
 /// runs. Where memory runs out the keyspace is as before.
 pub fn play(
-    alloc: Global,
     space: &mut Database,
-    by: Runner,
+    by: Caller,
+    mode: &Mode,
     words: &Words,
     read: &Result<Command, WordFault>,
     moment: u64,
 ) -> Result<Played, NoMemory>
     requires id { by.id < 2 ^ 63 }
+    requires plain { IsPlainMode mode.now }
     requires reading { IsReading read.now (reading words.now) }
-    ensures { IsPlayed by words.now (served_reading words.now) moment result space.old space.new }
+    ensures { IsPlayed (runner by.id mode.now) words.now (served_reading words.now) moment result
+        space.old space.new }
 {
     match read {
         Ok(command) => {
             if has_row(command) {
-                play_data(alloc, space, by, command, moment)
+                play_data(space, by, mode, command, moment)
             } else {
-                let plan = plan_command(alloc, by, words, command)?;
+                let plan = plan_command(by, mode, words, command)?;
                 play_expiry(space, plan, moment)
             }
         }
         Err(fault) => {
-            let plan = plan_fault(alloc, by, words, *fault)?;
+            let plan = plan_fault(by, mode, words, *fault)?;
             play_expiry(space, plan, moment)
         }
     }
@@ -104,11 +116,38 @@ fn is_served_tracking(options: &TrackOptions) -> bool
     !options.on || none
 }
 
-// The keys that a command's connection remembers by it, where it signals none.
-fn reads_of(alloc: Global, mode: Mode, command: &Command) -> Result<Words, NoMemory>
-    ensures { IfOk result (λ w. w ≡ if mode.tracking then read command.now else []) }
+/// Whether the command is served.
+pub fn is_served(command: &Command) -> bool
+    ensures { result ≡ is_served command.now }
 {
-    if mode.tracking {
+    match command {
+        Command::Hello(_) => true,
+        Command::ClientTracking(options) => is_served_tracking(options),
+        _ => has_row(command),
+    }
+}
+
+/// The command that ran, of words that read so.
+pub fn command_of(read: Result<Command, WordFault>) -> Option<Command>
+    ensures { result ≡ command_of (served read) }
+{
+    match read {
+        Ok(command) => {
+            if is_served(&command) {
+                Some(command)
+            } else {
+                None
+            }
+        }
+        Err(_) => None,
+    }
+}
+
+// The keys that a command's connection remembers by it, where it signals none.
+fn reads_of(alloc: Global, mode: &Mode, command: &Command) -> Result<Words, NoMemory>
+    ensures { IfOk result (λ w. w ≡ if remembers_read mode.now then read command.now else []) }
+{
+    if mode.remembers_read() {
         keys_read(alloc, command)
     } else {
         Ok(Words::new(alloc))
@@ -116,14 +155,14 @@ fn reads_of(alloc: Global, mode: Mode, command: &Command) -> Result<Words, NoMem
 }
 
 // What a command does that signals this, and reads these keys.
-fn deed_of(mode: Mode, reads: Words, signalled: Signalled) -> Deed
-    ensures { result ≡ deed_for mode.tracking reads signalled }
+fn deed_of(mode: &Mode, reads: Words, signalled: Signalled) -> Deed
+    ensures { result ≡ deed_for (remembers_read mode.now) reads signalled }
 {
     match signalled {
         Signalled::Keys(keys) => {
             if !keys.as_slice().is_empty() {
                 Deed::Tell(keys)
-            } else if mode.tracking {
+            } else if mode.remembers_read() {
                 Deed::Remember(reads)
             } else {
                 Deed::Nothing
@@ -135,27 +174,29 @@ fn deed_of(mode: Mode, reads: Words, signalled: Signalled) -> Deed
 
 // A data command runs, once the keys that are due have left.
 fn play_data(
-    alloc: Global,
     space: &mut Database,
-    by: Runner,
+    by: Caller,
+    mode: &Mode,
     command: &Command,
     moment: u64,
 ) -> Result<Played, NoMemory>
-    requires { has_row command.now ≡ true }
+    requires row { has_row command.now ≡ true }
+    requires plain { IsPlainMode mode.now }
     ensures { (words : List (List ℕ))
-        → IsPlayed by words (Ok command.now) moment result space.old space.new }
+        → IsPlayed (runner by.id mode.now) words (Ok command.now) moment result space.old
+        space.new }
 {
-    let reads = reads_of(alloc, by.mode, command)?;
+    let reads = reads_of(by.alloc, mode, command)?;
     let Turned {
         expired,
         done,
         undo,
     } = space.run_due(command, moment)?;
-    let deed = deed_of(by.mode, reads, done.signalled);
+    let deed = deed_of(mode, reads, done.signalled);
     let plan = Plan {
         reply: done.reply,
+        proto: mode.peer().proto,
         deed,
-        mode: by.mode,
     };
     Ok(Played {
         expired,
@@ -165,89 +206,118 @@ fn play_data(
 }
 
 // The plan of CLIENT TRACKING that is served.
-fn plan_tracking(alloc: Global, mode: Mode, on: bool) -> Result<Plan, NoMemory>
-    ensures { IfOk result (λ p. p ≡ record {
-      reply = Simple (codes "OK");
-      deed = if on then Nothing else Forget;
-      mode = record mode { tracking = on };
-    }) }
+#[tactic(auto, unfolding(track_modes::specs::Commands::fault_at))]
+fn plan_tracking(by: Caller, mode: &Mode, options: &TrackOptions) -> Result<Plan, NoMemory>
+    ensures { IfOk result (λ p.
+        (words : List (List ℕ)) (space : Space) (moment : ℕ)
+        → IsQuiet p (runner by.id mode.now) words (Ok (ClientTracking options.now)) space moment) }
 {
-    Ok(Plan {
-        reply: Value::Simple(Octets::from_slice(alloc, b"OK")?),
-        deed: if on { Deed::Nothing } else { Deed::Forget },
-        mode: Mode {
-            tracking: on,
-            ..mode
-        },
-    })
+    let mut next = mode.copy()?;
+    match next.apply_tracking(options, true) {
+        Ok(()) => {
+            let reply = Value::Simple(Octets::from_slice(by.alloc, b"OK")?);
+            next.spend();
+            Ok(Plan {
+                reply,
+                proto: next.peer().proto,
+                deed: if options.on {
+                    Deed::Track(next)
+                } else {
+                    Deed::Forget(next)
+                },
+            })
+        }
+        Err(ModeFault::NoMemory) => Err(NoMemory),
+        Err(fault) => {
+            let reply = Value::Error(Octets::from_slice(by.alloc, fault.text())?);
+            next.spend();
+            Ok(Plan {
+                reply,
+                proto: next.peer().proto,
+                deed: Deed::Become(next),
+            })
+        }
+    }
 }
 
 // The plan of words that read as a command that is none on data.
-fn plan_command(
-    alloc: Global,
-    by: Runner,
-    words: &Words,
-    command: &Command,
-) -> Result<Plan, NoMemory>
+fn plan_command(by: Caller, mode: &Mode, words: &Words, command: &Command) -> Result<Plan, NoMemory>
     requires id { by.id < 2 ^ 63 }
+    requires plain { IsPlainMode mode.now }
     requires other { has_row command.now ≡ false }
     ensures { IfOk result (λ p. (space : Space) (moment : ℕ)
-        → IsQuiet p by words.now (served (Ok command.now)) space moment) }
+        → IsQuiet p (runner by.id mode.now) words.now (served (Ok command.now)) space moment) }
 {
     match command {
-        Command::Hello(word) => plan_hello(alloc, by, word),
+        Command::Hello(word) => plan_hello(by, mode, command, word),
         Command::ClientTracking(options) => {
             if is_served_tracking(options) {
-                plan_tracking(alloc, by.mode, options.on)
+                plan_tracking(by, mode, options)
             } else {
-                plan_fault(alloc, by, words, WordFault::Unknown)
+                plan_fault(by, mode, words, WordFault::Unknown)
             }
         }
-        _ => plan_fault(alloc, by, words, WordFault::Unknown),
+        _ => plan_fault(by, mode, words, WordFault::Unknown),
+    }
+}
+
+// HELLO with this word, which a mode that is served never refuses.
+#[tactic(auto, unfolding(track_modes::specs::Commands::fault_at))]
+fn apply_hello(mode: &mut Mode, command: &Command, word: &Option<Octets>)
+    requires plain { IsPlainMode mode.old }
+    requires is { command.now ≡ Hello word.now }
+    ensures mode { mode.new ≡ after_command command.now mode.old }
+    ensures accepted { command_fault command.now true mode.old ≡ None }
+{
+    if mode.apply(command, true).is_err() {
+        unreachable!()
     }
 }
 
 // The plan of HELLO.
-fn plan_hello(alloc: Global, by: Runner, word: &Option<Octets>) -> Result<Plan, NoMemory>
-    requires { by.id < 2 ^ 63 }
+#[tactic(auto, unfolding(track_modes::specs::Commands::after_command))]
+fn plan_hello(
+    by: Caller,
+    mode: &Mode,
+    command: &Command,
+    word: &Option<Octets>,
+) -> Result<Plan, NoMemory>
+    requires id { by.id < 2 ^ 63 }
+    requires plain { IsPlainMode mode.now }
+    requires is { command.now ≡ Hello word.now }
     ensures { IfOk result (λ p.
         (words : List (List ℕ)) (space : Space) (moment : ℕ)
-        → IsQuiet p by words (Ok (Hello word.now)) space moment) }
+        → IsQuiet p (runner by.id mode.now) words (Ok command.now) space moment) }
 {
-    match hello(word, by.mode.proto) {
-        Ok(proto) => {
-            let reply = greeting(alloc, proto, by.id)?;
-            Ok(Plan {
-                reply,
-                deed: Deed::Nothing,
-                mode: Mode { proto, ..by.mode },
-            })
-        }
-        Err(text) => {
-            let reply = Value::Error(Octets::from_slice(alloc, text)?);
-            Ok(Plan {
-                reply,
-                deed: Deed::Nothing,
-                mode: by.mode,
-            })
-        }
-    }
+    let reply = match hello(word, mode.peer().proto) {
+        Ok(proto) => greeting(by.alloc, proto, by.id)?,
+        Err(text) => Value::Error(Octets::from_slice(by.alloc, text)?),
+    };
+    let mut next = mode.copy()?;
+    apply_hello(&mut next, command, word);
+    Ok(Plan {
+        reply,
+        proto: next.peer().proto,
+        deed: Deed::Become(next),
+    })
 }
 
 // The plan of words that are no command that is served.
-fn plan_fault(alloc: Global, by: Runner, words: &Words, fault: WordFault) -> Result<Plan, NoMemory>
+fn plan_fault(by: Caller, mode: &Mode, words: &Words, fault: WordFault) -> Result<Plan, NoMemory>
+    requires { IsPlainMode mode.now }
     ensures { IfOk result (λ p.
         (read : Result Command WordFault) (space : Space) (moment : ℕ)
-        → IsReading (Err fault) read → IsQuiet p by words.now read space moment) }
+        → IsReading (Err fault) read
+        → IsQuiet p (runner by.id mode.now) words.now read space moment) }
 {
     match fault {
         WordFault::NoMemory => Err(NoMemory),
         _ => {
-            let reply = Value::Error(fault_text(alloc, words, fault)?);
+            let reply = Value::Error(fault_text(by.alloc, words, fault)?);
             Ok(Plan {
                 reply,
+                proto: mode.peer().proto,
                 deed: Deed::Nothing,
-                mode: by.mode,
             })
         }
     }

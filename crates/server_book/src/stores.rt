@@ -2,20 +2,20 @@
 ghost use Rattle.std.specs.Prelude.{◌≡◌, ◌<◌, [], OnOk, OnErr, IfOk, None};
 ghost use Rattle.std.specs.FinMap.{empty};
 ghost use Rattle.track_table.specs.Table.{dropped, kept, with_keys, without_keys};
-ghost use Rattle.serial_model.specs.History.{routed};
+ghost use Rattle.serial_model.specs.Plain.{pushes};
 ghost use Rattle.serial_model.specs.Tracking.{AreApart, drop_group, group, told_to};
-ghost use Rattle.server_book.specs.Connections.{IsId};
-ghost use Rattle.server_book.specs.Plans.{IsSound, kept_by, told_by};
-ghost use Rattle.server_book.specs.RunSendings.{GoesBack, before_run, command_told, reply_sent};
-ghost use Rattle.server_book.specs.RunSendings.{run_sendings};
-ghost use Rattle.server_book.specs.Sendings.{before_posts, modes_of, tracking_ids, with_sendings};
-ghost use Rattle.server_book.specs.Stores.{AreThere, IsHeld};
+ghost use Rattle.server_book.specs.Connections.{IsId, IsOpen};
+ghost use Rattle.server_book.specs.Plans.{IsSound, kept_by, signals_of, told_by};
+ghost use Rattle.server_book.specs.RunSendings.{command_told, reply_sent, run_sendings, settled};
+ghost use Rattle.server_book.specs.Sendings.{before_posts, is_pushed, tracking_ids, with_sendings};
+ghost use Rattle.server_book.specs.Stores.{IsHeld};
 
 use super::connections::Connections;
 use super::deed::Deed;
 use super::plan::Plan;
 use command_set::Database;
-use resp_value::{NoMemory, Octets};
+use command_words::Signalled;
+use resp_value::{NoMemory, Octets, Words};
 use std::alloc::Global;
 use track_table::{Held, TrackTable};
 
@@ -46,9 +46,8 @@ fn tell_rows(
     entry: u64,
     rows: &[Held],
 ) -> Result<(), NoMemory>
-    requires { AreThere connections.old.items rows.now }
     ensures told { OnOk result (connections.new
-        ≡ with_sendings entry (routed (modes_of connections.old.items) (drop_group rows.now))
+        ≡ with_sendings entry (pushes (is_pushed connections.old.items) (drop_group rows.now))
         connections.old) }
     ensures back { OnErr result
         (before_posts connections.new.posts connections.new.items
@@ -78,7 +77,6 @@ impl Stores {
 
     // Keys that are new may push out the oldest ones.
     fn remember(&mut self, entry: u64, id: u64, keys: &[Octets]) -> Result<(), NoMemory>
-        requires there { AreThere self.old.connections.items self.old.table.rows }
         requires id { IsId self.old.connections.items id }
         ensures space { self.new.space ≡ self.old.space }
         ensures table { OnOk result
@@ -88,7 +86,7 @@ impl Stores {
             (let rows = with_keys id keys.now self.old.table.rows in
             let group = drop_group (dropped self.old.table.limit rows) in
             self.new.connections
-            ≡ with_sendings entry (routed (modes_of self.old.connections.items) group)
+            ≡ with_sendings entry (pushes (is_pushed self.old.connections.items) group)
             self.old.connections) }
         ensures err { OnErr result (self.new.table ≡ self.old.table) }
         ensures back { OnErr result
@@ -111,14 +109,13 @@ impl Stores {
 
     /// Tells the holders of these keys, key by key; they hold them still.
     pub fn tell_keys(&mut self, entry: u64, keys: &[Octets]) -> Result<(), NoMemory>
-        requires there { AreThere self.old.connections.items self.old.table.rows }
         requires apart { AreApart keys.now }
         ensures space { self.new.space ≡ self.old.space }
         ensures table { self.new.table ≡ self.old.table }
         ensures told { OnOk result
             (let group = group keys.now self.old.table.rows in
             self.new.connections
-            ≡ with_sendings entry (routed (modes_of self.old.connections.items) group)
+            ≡ with_sendings entry (pushes (is_pushed self.old.connections.items) group)
             self.old.connections) }
         ensures back { OnErr result
             (before_posts self.new.connections.posts self.new.connections.items
@@ -134,7 +131,6 @@ impl Stores {
 
     // Tells the holders of these keys, which hold them no more.
     fn tell_and_forget(&mut self, entry: u64, keys: &[Octets]) -> Result<(), NoMemory>
-        requires there { AreThere self.old.connections.items self.old.table.rows }
         requires apart { AreApart keys.now }
         ensures space { self.new.space ≡ self.old.space }
         ensures table { OnOk result (self.new.table
@@ -142,7 +138,7 @@ impl Stores {
         ensures told { OnOk result
             (let group = group keys.now self.old.table.rows in
             self.new.connections
-            ≡ with_sendings entry (routed (modes_of self.old.connections.items) group)
+            ≡ with_sendings entry (pushes (is_pushed self.old.connections.items) group)
             self.old.connections) }
         ensures err { OnErr result (self.new.table ≡ self.old.table) }
         ensures back { OnErr result
@@ -161,7 +157,7 @@ impl Stores {
         ensures told { OnOk result
             (let group = told_to None (tracking_ids self.old.connections.items) in
             self.new.connections
-            ≡ with_sendings entry (routed (modes_of self.old.connections.items) group)
+            ≡ with_sendings entry (pushes (is_pushed self.old.connections.items) group)
             self.old.connections) }
         ensures err { OnErr result (self.new.table ≡ self.old.table) }
         ensures back { OnErr result
@@ -178,7 +174,7 @@ impl Stores {
     // Tells those whom a request concerns, and remembers what it remembers. Where memory runs out
     // all is as before, but for what was sent.
     fn carry_out(&mut self, entry: u64, id: u64, deed: &Deed) -> Result<(), NoMemory>
-        requires held { IsHeld self.old.table.limit self.old.table.rows self.old.connections.items }
+        requires held { IsHeld self.old.table.limit self.old.table.rows }
         requires id { IsId self.old.connections.items id }
         requires sound { IsSound deed.now }
         ensures space { self.new.space ≡ self.old.space }
@@ -189,7 +185,7 @@ impl Stores {
             (let tracking = tracking_ids self.old.connections.items in
             let group = told_by self.old.table.limit id deed.now tracking self.old.table.rows in
             self.new.connections
-            ≡ with_sendings entry (routed (modes_of self.old.connections.items) group)
+            ≡ with_sendings entry (pushes (is_pushed self.old.connections.items) group)
             self.old.connections) }
         ensures err { OnErr result (self.new.table ≡ self.old.table) }
         ensures back { OnErr result
@@ -197,11 +193,11 @@ impl Stores {
             ≡ before_posts self.old.connections.posts self.old.connections.items) }
     {
         match deed {
-            Deed::Nothing => Ok(()),
+            Deed::Nothing | Deed::Become(_) | Deed::Track(_) => Ok(()),
             Deed::Tell(keys) => self.tell_and_forget(entry, keys.as_slice()),
             Deed::TellAll => self.tell_flush(entry),
             Deed::Remember(keys) => self.remember(entry, id, keys.as_slice()),
-            Deed::Forget => {
+            Deed::Forget(_) => {
                 self.table.forget_connection(id);
                 Ok(())
             }
@@ -210,8 +206,8 @@ impl Stores {
 
     // What a Run sends once the keys that are due are gone: its reply, then whom it tells itself.
     fn send_own(&mut self, entry: u64, id: u64, plan: &Plan) -> Result<(), NoMemory>
-        requires held { IsHeld self.old.table.limit self.old.table.rows self.old.connections.items }
-        requires id { IsId self.old.connections.items id }
+        requires held { IsHeld self.old.table.limit self.old.table.rows }
+        requires id { IsOpen self.old.connections.items id }
         requires sound { IsSound plan.now.deed }
         ensures space { self.new.space ≡ self.old.space }
         ensures table { OnOk result
@@ -222,11 +218,10 @@ impl Stores {
             (reply_sent entry id plan.now self.old.connections)) }
         ensures err { OnErr result (self.new.table ≡ self.old.table) }
         ensures back { OnErr result
-            (GoesBack entry id plan.now self.old.connections self.new.connections) }
+            (before_posts self.new.connections.posts self.new.connections.items
+            ≡ before_posts self.old.connections.posts self.old.connections.items) }
     {
-        self.connections
-            .send(entry, id, plan.mode.proto, &plan.reply)?;
-        self.connections.set_mode(id, plan.mode);
+        self.connections.send(entry, id, plan.proto, &plan.reply)?;
         self.carry_out(entry, id, &plan.deed)
     }
 
@@ -239,8 +234,8 @@ impl Stores {
         expired: &[Octets],
         plan: &Plan,
     ) -> Result<(), NoMemory>
-        requires held { IsHeld self.old.table.limit self.old.table.rows self.old.connections.items }
-        requires id { IsId self.old.connections.items id }
+        requires held { IsHeld self.old.table.limit self.old.table.rows }
+        requires id { IsOpen self.old.connections.items id }
         requires none { self.old.connections.posts ≡ [] }
         requires apart { AreApart expired.now }
         requires sound { IsSound plan.now.deed }
@@ -253,7 +248,7 @@ impl Stores {
             ≡ run_sendings entry id expired.now plan.now self.old.table self.old.connections) }
         ensures err { OnErr result (self.new.table ≡ self.old.table) }
         ensures back { OnErr result
-            (before_run id (modes_of self.old.connections.items id) self.new.connections
+            (before_posts self.new.connections.posts self.new.connections.items
             ≡ self.old.connections.items) }
     {
         self.tell_keys(entry, expired)?;
@@ -276,8 +271,8 @@ impl Stores {
         expired: &[Octets],
         plan: &Plan,
     ) -> Result<(), NoMemory>
-        requires held { IsHeld self.old.table.limit self.old.table.rows self.old.connections.items }
-        requires id { IsId self.old.connections.items id }
+        requires held { IsHeld self.old.table.limit self.old.table.rows }
+        requires id { IsOpen self.old.connections.items id }
         requires none { self.old.connections.posts ≡ [] }
         requires apart { AreApart expired.now }
         requires sound { IsSound plan.now.deed }
@@ -291,21 +286,40 @@ impl Stores {
         ensures err_table { OnErr result (self.new.table ≡ self.old.table) }
         ensures err_connections { OnErr result (self.new.connections ≡ self.old.connections) }
     {
-        let before = self.connections.mode(id);
         match self.send_groups(entry, id, expired, plan) {
             Ok(()) => Ok(()),
             Err(_) => {
                 self.connections.take_back();
-                self.connections.set_mode(id, before);
                 Err(NoMemory)
             }
         }
     }
 
+    /// What a request makes of its connection comes last, since it can't fail. Answers what the
+    /// request signals. It takes no memory.
+    pub fn settle(&mut self, id: u64, deed: Deed) -> Signalled
+        requires { IsOpen self.old.connections.items id }
+        ensures signalled { result ≡ signals_of deed }
+        ensures space { self.new.space ≡ self.old.space }
+        ensures table { self.new.table ≡ self.old.table }
+        ensures connections { self.new.connections ≡ settled id deed self.old.connections }
+    {
+        let none = Words::new(self.alloc);
+        match deed {
+            Deed::Nothing => {}
+            Deed::Tell(keys) => return Signalled::Keys(keys),
+            Deed::TellAll => return Signalled::All,
+            Deed::Remember(_keys) => {}
+            Deed::Become(mode) => self.connections.set_mode(id, mode),
+            Deed::Track(mode) => self.connections.set_mode(id, mode),
+            Deed::Forget(mode) => self.connections.set_mode(id, mode),
+        }
+        Signalled::Keys(none)
+    }
+
     /// Sends what a Tick sends: the holders of the keys that left are told, and hold them no more.
     /// Where memory runs out all is as before.
     pub fn send_tick(&mut self, entry: u64, expired: &[Octets]) -> Result<(), NoMemory>
-        requires there { AreThere self.old.connections.items self.old.table.rows }
         requires none { self.old.connections.posts ≡ [] }
         requires apart { AreApart expired.now }
         ensures space { self.new.space ≡ self.old.space }
@@ -314,7 +328,7 @@ impl Stores {
         ensures sent { OnOk result
             (let group = group expired.now self.old.table.rows in
             self.new.connections
-            ≡ with_sendings entry (routed (modes_of self.old.connections.items) group)
+            ≡ with_sendings entry (pushes (is_pushed self.old.connections.items) group)
             self.old.connections) }
         ensures err_table { OnErr result (self.new.table ≡ self.old.table) }
         ensures err_connections { OnErr result (self.new.connections ≡ self.old.connections) }

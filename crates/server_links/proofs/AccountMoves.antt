@@ -9,8 +9,10 @@ use Rattle.serial_model.specs.declared.history.Limits.{Limits}
 use Rattle.serial_model.specs.declared.history.Entry.{Entry}
 use Rattle.serial_model.specs.declared.history.BookCall.TheVariants as call
 use Rattle.serial_model.specs.declared.history.BookReply.{BookReply}
+use Rattle.serial_model.specs.declared.history.Entry.TheVariants as entry
 use Rattle.serial_model.specs.History.{reads_on, gives_on, stream, taken, runs_of}
 use Rattle.serial_model.specs.Steps.{Turn, book_step, given_by}
+use Rattle.serial_model.proofs.Standings.{ended_take, reads_same}
 use Rattle.serial_model.proofs.Turning.{step_gave, step_runs}
 use Rattle.server_links.specs.LinkEvent.{LinkEvent, Raw, Put, Over, Now, Tick}
 use Rattle.server_links.specs.declared.link.LinkMove.{LinkMove}
@@ -53,7 +55,8 @@ take_reads : (l : Limits) (c most : ℕ) (past : List Entry)
     → reads_on l (book_step l past (call.Take c most)).past c ≡ reads_on l past c
 unfolding took
 take_reads l c most past = by_take l past c most (λ t. reads_on l t.past c
-    ≡ reads_on l past c) refl refl (λ on. refl)
+    ≡ reads_on l past c) refl refl
+    (λ on. reads_same l past c (entry.Take c most) refl (ended_take l past c c most))
 
 -- a Take was played, and what it gave is still to be put on the way
 record InHand (given heard said read : List ℕ) (s : Session) : Type 0 where

@@ -1,8 +1,9 @@
 -- What is heard and runs, in the account of a link.
-use Rattle.std.proofs.Common.{◌≡◌, ℕ, List, [], ◌∷◌, ◌++◌, Bool, true, false, cond, Some, None}
+use Rattle.std.proofs.Common.{◌≡◌, ℕ, List, [], ◌∷◌, ◌++◌, Bool, true, false, cond, max, Some, None}
 use Rattle.std.proofs.Common.{Option, length, take, refl, sym, ap, subst, ◌∙◌, append_assoc}
 use Rattle.std.proofs.Common.{append-nil, eq-eqb, arith}
-use Rattle.std.specs.Prelude.{◌==◌, ◌&&◌, not, nat_le}
+use Rattle.std.specs.Prelude.{◌==◌, ◌&&◌, nat_le}
+use Rattle.std.proofs.lemmas.Bool.{both_ways}
 use Rattle.std.proofs.lemmas.List.{take-append-drop}
 use Rattle.resp_stream.specs.declared.fault.StreamFault.{StreamFault}
 use Rattle.resp_stream.specs.declared.fault.FaultPlace.{FaultPlace}
@@ -11,9 +12,12 @@ use Rattle.resp_stream.specs.Parse.{parse}
 use Rattle.resp_stream.proofs.Onward.{GoesOn, goes_further, requests_join}
 use Rattle.serial_model.specs.declared.history.Limits.{Limits}
 use Rattle.serial_model.specs.declared.history.Entry.{Entry}
+use Rattle.serial_model.specs.declared.history.Entry.TheVariants as entry
 use Rattle.serial_model.specs.declared.history.BookCall.TheVariants as call
-use Rattle.serial_model.specs.History.{reads_on, stream, taken, runs_of}
+use Rattle.serial_model.specs.History.{latest, reads_on, stream, taken, runs_of}
 use Rattle.serial_model.specs.Steps.{Turn, book_step, running}
+use Rattle.serial_model.proofs.Standings.{ended_run, reads_same, unread}
+use Rattle.serial_model.proofs.Streams.{ended_close, reads_is_runs}
 use Rattle.serial_model.proofs.Turning.{step_gave, step_runs, run_step, close_step}
 use Rattle.server_links.specs.declared.direction.Direction.{Direction}
 use Rattle.server_links.specs.declared.fault.WorldFault.TheVariants.{NothingThere}
@@ -57,6 +61,13 @@ unfolding gave
 gave_close l c past = sym (step_gave l c past (call.Close c))
     ∙ append-nil (take (taken l c past) (stream l c past))
 
+-- a connection that was closed is read no more
+unread_then : (l : Limits) (c : ℕ) (past : List Entry) → reads_on l past c ≡ true
+    → reads_on l (book_step l past (call.Close c)).past c ≡ false
+unread_then l c past on =
+    ap (λ (t : Turn). reads_on l t.past c) (close_step l past c on)
+    ∙ unread l (entry.Close c ∷ past) c (ended_close l past c c (same_id c))
+
 module _ (heard said : List ℕ) where
   run_done : (words : List (List ℕ)) (todo : List (List (List ℕ))) (read : List ℕ) (s : Session)
       → Running (words ∷ todo) heard said read s →
@@ -64,13 +75,16 @@ module _ (heard said : List ℕ) where
       Running todo heard said read (with_past s t.past)
   run_done words todo read s r =
       let c = s.link.id in
-      let is = run_step s.limits s.past c s.now words r.on in
+      let is = run_step s.limits s.past c s.now words
+      (sym (reads_is_runs s.limits s.past c) ∙ r.on) in
+      let at = max s.now (latest s.past) in
       let new : Running todo heard said read
       (with_past s (running s.past c words s.now).past) = record {
         bytes = flight_past heard said read s (running s.past c words s.now).past
             (ap (λ (t : Turn). gave s.limits c t.past) (sym is)
             ∙ gave_run s.limits c s.now words s.past) r.bytes;
-        on = r.on;
+        on = reads_same s.limits s.past c (entry.Run c words at) refl
+            (ended_run s.limits s.past c c at words) ∙ r.on;
         runs = grind (arith, same_id, append_assoc);
       } in
       subst (λ (t : Turn). Running todo heard said read (with_past s t.past)) (sym is) new
@@ -146,9 +160,6 @@ module _ (heard said : List ℕ) where
 
   -- ---- what stops the reading
 
-  no_more : (a : Bool) → (a && not true) ≡ true → ⊥
-  no_more a h = grind arith
-
   close_keeps : (fault : Option StreamFault) (s : Session)
       → Keeps (Halted fault heard said) (Account heard said) (Part said) s (close s)
   unfolding close turn
@@ -162,7 +173,7 @@ module _ (heard said : List ℕ) where
         bytes = flight_past heard said read s t.past (gave_close s.limits s.link.id s.past) h.bytes;
         runs = sym (step_runs s.limits s.link.id s.past (call.Close s.link.id))
             ∙ append-nil (runs_of s.link.id s.past) ∙ h.runs;
-        reading = λ on. absurd (grind (arith, close_step, no_more, same_id));
+        reading = λ on. absurd (both_ways _ (unread_then s.limits s.link.id s.past h.on) on);
       } in
       (halted_part fault heard said read s h, (λ e. a), account_part heard said read _ a))
 

@@ -17,7 +17,8 @@ use Rattle.serial_model.specs.History.{admitted, gives_on, unsent, IsLegal}
 use Rattle.serial_model.specs.Steps.{Turn, book_step, gone, running, taking, closing}
 use Rattle.serial_model.specs.Laws.{Extends}
 use Rattle.serial_model.proofs.Others.{extends_none, extends_more, others_extend}
-use Rattle.serial_model.proofs.Streams.{not_ended, unsent_live}
+use Rattle.serial_model.proofs.Standings.{gives_live}
+use Rattle.serial_model.proofs.Streams.{unsent_live}
 use Rattle.serial_model.proofs.Turning.{step_legal}
 use Rattle.script_text.specs.declared.line.Line.{Line}
 use Rattle.server_links.specs.declared.link.Link.{Link}
@@ -207,7 +208,7 @@ take_adds l past id now most = by_take l past id most (Adds l id now [] past)
       entries = _ ∷ [];
       grows = refl;
       timed = λ legal. tt;
-      printed = grind (arith, unsent_live, not_ended, length-take, length-drop, eq-eqb);
+      printed = grind (arith, unsent_live, gives_live, length-take, length-drop, eq-eqb);
     })
 
 pub mute_reply : (name link : List ℕ) (words : List (List ℕ)) (reply : BookReply)

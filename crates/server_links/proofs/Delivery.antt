@@ -11,7 +11,8 @@ use Rattle.serial_model.specs.declared.history.Entry.{Entry}
 use Rattle.serial_model.specs.declared.history.BookCall.TheVariants as call
 use Rattle.serial_model.specs.History.{reads_on, gives_on, is_admitted, stream, unsent}
 use Rattle.serial_model.specs.Steps.{Turn, book_step, taking}
-use Rattle.serial_model.proofs.Streams.{stream_take, unsent_live, unsent_take_own}
+use Rattle.serial_model.proofs.Standings.{ended_take, gives_live, gives_over}
+use Rattle.serial_model.proofs.Streams.{stream_take, unsent_ended, unsent_live, unsent_take_own}
 use Rattle.server_links.specs.declared.link.Link.{Link}
 use Rattle.server_links.specs.declared.link.LinkMove.TheVariants as moves
 use Rattle.server_links.specs.Directions.{is_open, is_queued, past_eof, without_bytes}
@@ -97,7 +98,17 @@ taking_given : (l : Limits) (past : List Entry) (id most : ℕ) (bytes : List �
     let t : Turn = taking past id most bytes in
     length (stream l id t.past) ≤ most → unsent l id t.past ≡ []
 taking_given l past id most bytes more on is =
-    grind (arith, unsent_live, length-drop, stream_take, unsent_take_own, eq-eqb, drop_all)
+    grind (
+      arith,
+      gives_live,
+      ended_take,
+      unsent_live,
+      length-drop,
+      stream_take,
+      unsent_take_own,
+      eq-eqb,
+      drop_all,
+    )
 
 some_bytes : 0 < all_bytes
 some_bytes = omega arith
@@ -116,8 +127,7 @@ given_take s none on =
 
 ended_given : (l : Limits) (past : List Entry) (id : ℕ) → is_admitted past id ≡ true
     → gives_on l past id ≡ false → unsent l id past ≡ []
-unfolding unsent
-ended_given l past id on off = grind arith
+ended_given l past id on off = unsent_ended l past id (gives_over l past id on off)
 
 given_send : (s : Session) → Heard s → is_admitted s.past s.link.id ≡ true → Ends Given (send_all s)
 unfolding Heard Ends Given

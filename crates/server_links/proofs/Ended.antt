@@ -1,14 +1,14 @@
 -- Links that are over stay so whatever happens, and nothing flows over them.
-use Rattle.std.proofs.Common.{◌≡◌, ◌<◌, ℕ, List, [], ◌∷◌, ◌++◌, Bool, true, false, Some, None}
+use Rattle.std.proofs.Common.{◌≡◌, ◌<◌, ℕ, List, [], ◌∷◌, ◌++◌, true, Some, None}
 use Rattle.std.proofs.Common.{Result, Ok, length, refl, sym, ap, subst, ◌∙◌, append-nil}
 use Rattle.std.proofs.Common.{arith, eq-eqb}
-use Rattle.std.specs.Prelude.{◌&&◌}
-use Rattle.std.proofs.lemmas.Bool.{cases_lt, eqb-true}
+use Rattle.std.proofs.lemmas.Bool.{both_ways, cases_lt, eqb-true}
 use Rattle.std.proofs.lemmas.List.{get_or-set_same, get_or-set_other, get_or_append_left}
 use Rattle.std.proofs.lemmas.List.{get_or_past, set-get_or}
 use Rattle.serial_model.specs.declared.history.Limits.{Limits}
 use Rattle.serial_model.specs.declared.history.Entry.{Entry}
 use Rattle.serial_model.specs.History.{has_ended, reads_on}
+use Rattle.serial_model.proofs.Standings.{ended_admit, ended_more, reads_live, unread}
 use Rattle.serial_model.proofs.Turning.{admit_step}
 use Rattle.script_text.specs.declared.line.Line.{Line}
 use Rattle.server_links.specs.declared.direction.Direction.{Direction}
@@ -27,21 +27,17 @@ use Rattle.server_links.proofs.Outcomes.{Ends, Meets, after_ends, gives_within, 
 
 -- ---- a connection that has ended
 
-ended_more : (l : Limits) (c : ℕ) (e : Entry) (past : List Entry) → has_ended l c past ≡ true
-    → has_ended l c (e ∷ past) ≡ true
-ended_more l c e past h = grind arith
-
 ended_on : (l : Limits) (c : ℕ) (entries past : List Entry) → has_ended l c past ≡ true
     → has_ended l c (entries ++ past) ≡ true
 ended_on l c [] past h = h
-ended_on l c (e ∷ entries) past h = grind (arith, ended_more, ended_on l c entries past h)
+ended_on l c (e ∷ entries) past h =
+    ended_more l (entries ++ past) c e (ended_on l c entries past h)
 
-none_of : (b : Bool) → (b && false) ≡ false
-none_of b = grind arith
-
-unread : (l : Limits) (c : ℕ) (past : List Entry) → has_ended l c past ≡ true
-    → reads_on l past c ≡ false
-unread l c past h = grind (arith, none_of)
+-- a link whose connection is read on is not over
+pub not_over : (w : LinksState) (at : ℕ)
+    → reads_on w.limits w.past (at_place w.links at).id ≡ true → IsOver w at → ⊥
+not_over w at on over =
+    both_ways _ (reads_live w.limits w.past (at_place w.links at).id on) over.ended
 
 -- ---- nothing flows
 
@@ -135,4 +131,12 @@ pub raw_over : (name : List ℕ) (w : LinksState)
     (step w (Raw name))
 unfolding step
 raw_over name w =
-    grind (arith, meets_once, admit_step, get_or_append_left, over_below, over_by)
+    grind (
+      arith,
+      meets_once,
+      admit_step,
+      ended_admit,
+      get_or_append_left,
+      over_below,
+      over_by,
+    )

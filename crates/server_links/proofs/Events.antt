@@ -10,7 +10,6 @@ use Rattle.std.proofs.lemmas.List.{get_or-set_other}
 use Rattle.serial_model.specs.declared.history.Limits.{Limits}
 use Rattle.serial_model.specs.declared.history.Entry.{Entry}
 use Rattle.serial_model.specs.declared.history.Entry.TheVariants as entry
-use Rattle.serial_model.specs.declared.history.BookCall.TheVariants as call
 use Rattle.serial_model.specs.History.{admitted}
 use Rattle.serial_model.specs.Steps.{Turn}
 use Rattle.serial_model.proofs.Turning.{admit_step}

@@ -5,14 +5,16 @@ use Rattle.std.proofs.Common.{length, filter, refl, sym, ap, subst, ◌∙◌, a
 use Rattle.std.proofs.Common.{append-nil, length-append, length-set, eq-eqb, ne_eqb}
 use Rattle.std.specs.Prelude.{◌==◌}
 use Rattle.std.specs.Str.{bytes_eq}
-use Rattle.std.proofs.lemmas.Bool.{cases_lt}
+use Rattle.std.proofs.lemmas.Bool.{both_ways, cases_lt, true_from_ne_false}
 use Rattle.std.proofs.lemmas.Slice.Eq.{bytes_eq-Decides}
 use Rattle.std.proofs.lemmas.List.{get_or-set_same, get_or-set_other, get_or_push}
 use Rattle.std.proofs.lemmas.List.{get_or_append_left, take-append-le}
+use Rattle.std.proofs.lemmas.Bool.Decides.{nat_tests}
 use Rattle.serial_model.specs.declared.history.Limits.{Limits}
 use Rattle.serial_model.specs.declared.history.Entry.{Entry}
 use Rattle.serial_model.specs.History.{admitted, is_admitted, reads_on, IsLegal}
 use Rattle.serial_model.specs.Laws.{Extends}
+use Rattle.serial_model.proofs.Standings.{ended_admit, reads_live, reads_over, reads_same}
 use Rattle.serial_model.proofs.Streams.{taken_le, connected, stream_admit, stream_fresh, runs_fresh}
 use Rattle.script_text.specs.declared.line.Line.{Line}
 use Rattle.script_text.specs.declared.line.Line.TheVariants as line
@@ -85,10 +87,21 @@ gave_other : (l : Limits) (c : ℕ) (past new : List Entry) → Extends l c past
 unfolding gave
 gave_other l c past new e = grind (arith, take-append-le, taken_le)
 
+-- one that is read on was so before
+read_before : (l : Limits) (c : ℕ) (past new : List Entry) → is_admitted past c ≡ true
+    → Extends l c past new → reads_on l new c ≡ true → reads_on l past c ≡ true
+read_before l c past new on e read =
+    true_from_ne_false _ (λ off. both_ways _ (reads_live l new c read)
+    (e.stays_ended (reads_over l past c on off)))
+
 pub other_account : (heard said read : List ℕ) (s : Session) (past : List Entry)
     → is_admitted s.past s.link.id ≡ true → Extends s.limits s.link.id s.past past
     → Account heard said read s → Account heard said read (with_past s past)
-other_account heard said read s past on e a = grind (arith, gave_other)
+other_account heard said read s past on e a = record {
+  bytes = grind (arith, gave_other);
+  runs = e.runs_are ∙ a.runs;
+  reading = λ read. a.reading (read_before s.limits s.link.id s.past past on e read);
+}
 
 pub not_equal : (a b : List ℕ) → (a ≡ b → ⊥) → bytes_eq a b ≡ false
 not_equal a b n = grind (arith, bytes_eq-Decides)
@@ -332,7 +345,9 @@ module _ (l : Limits) (heard : ℕ → List ℕ) (said : List ℕ
   still_there : (c : ℕ) → 0 < c → c ≤ admitted w.past
       → reads_on w.limits (entry.Admit (admitted w.past + 1) ∷ w.past) c
       ≡ reads_on w.limits w.past c
-  still_there c more le = grind arith
+  still_there c more le =
+      reads_same w.limits w.past c (entry.Admit (admitted w.past + 1)) (grind (arith, nat_tests))
+      (ended_admit w.limits w.past c (admitted w.past + 1))
 
   old_account : (i : ℕ) → i < length w.links → Account (heard i
       ++ []) (said (at_place made.links i).name

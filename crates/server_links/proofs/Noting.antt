@@ -18,9 +18,10 @@ use Rattle.serial_model.specs.declared.history.BookCall.TheVariants.{Admit, Run,
 use Rattle.serial_model.specs.declared.history.BookReply.{BookReply}
 use Rattle.serial_model.specs.History.{Sending, admitted, gives_on, latest, posts_of, posted}
 use Rattle.serial_model.specs.History.{expired, reads_on, run_entries, runs_of, sends, sent_to}
-use Rattle.serial_model.specs.History.{unsent, IsLegal}
+use Rattle.serial_model.specs.History.{state, unsent, IsLegal}
 use Rattle.serial_model.specs.Steps.{closing, gone, taking, ticking, book_step, BookStep}
-use Rattle.serial_model.proofs.Streams.{sent_fresh, runs_fresh, connected}
+use Rattle.serial_model.proofs.Fresh.{sent_fresh}
+use Rattle.serial_model.proofs.Streams.{runs_fresh, connected}
 use Rattle.serial_model.proofs.Turning.{by_step}
 use Rattle.server_book.specs.BookState.{posts_after}
 use Rattle.server_links.specs.Notes.{AreNotes, NotesState, TrailState, IsNoted, changed}
@@ -107,13 +108,15 @@ module _ (l : Limits) (past : List Entry) (ts : List TrailState) (noted : IsNote
       → ((c : ℕ) → 0 < c → c ≤ length ts → ((trail_of c ran).runs ≡ run_entries c (e ∷ past))
       × ((trail_of c ran).sent ≡ (trail_of c ts).sent)
       × ((trail_of c ran).keeps_words ≡ true → (trail_of c ran).words ≡ runs_of c (e ∷ past)))
-      → IsNoted l (e ∷ past) (noted_posts (posts_of (length past + 1) (sends l e past)) ran)
+      → IsNoted l (e ∷ past)
+      (noted_posts (posts_of (length past + 1) (sends l e (state l past))) ran)
   entry_noted e ran size same each =
       grind (arith, posts_size, posts_runs, posts_words, posts_sent, posted_is, map-append)
 
   run_noted : (id moment : ℕ) (words : List (List ℕ))
       → IsNoted l (entry.Run id words moment ∷ past)
-      (noted_posts (posts_of (length past + 1) (sends l (entry.Run id words moment) past))
+      (noted_posts
+      (posts_of (length past + 1) (sends l (entry.Run id words moment) (state l past)))
       (changed (with_run (length past + 1) words) id ts))
   run_noted id moment words =
       let n = length past + 1 in
@@ -125,7 +128,8 @@ module _ (l : Limits) (past : List Entry) (ts : List TrailState) (noted : IsNote
   quiet_noted : (e : Entry) → admitted (e ∷ past) ≡ admitted past
       → ((c : ℕ) → run_entries c (e ∷ past) ≡ run_entries c past)
       → ((c : ℕ) → runs_of c (e ∷ past) ≡ runs_of c past)
-      → IsNoted l (e ∷ past) (noted_posts (posts_of (length past + 1) (sends l e past)) ts)
+      → IsNoted l (e ∷ past)
+      (noted_posts (posts_of (length past + 1) (sends l e (state l past))) ts)
   quiet_noted e same none ran = grind (arith, entry_noted)
 
 -- ---- a turn

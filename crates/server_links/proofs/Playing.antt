@@ -11,6 +11,7 @@ use Rattle.serial_model.specs.declared.history.BookReply.{BookReply}
 use Rattle.serial_model.specs.declared.history.BookReply.TheVariants.{Quiet, Bytes}
 use Rattle.serial_model.specs.History.{runs_on, reads_on, gives_on, unsent}
 use Rattle.serial_model.specs.Steps.{Turn, book_step, taking}
+use Rattle.serial_model.proofs.Streams.{reads_is_runs}
 use Rattle.serial_model.proofs.Turning.{run_step, close_step}
 use Rattle.script_text.specs.declared.line.Line.{Line}
 use Rattle.script_text.specs.declared.line.Line.TheVariants as line
@@ -57,10 +58,12 @@ unfolding turn
 turn_before s c words lines = ([], inl (refl, refl), sym (append-nil lines))
 
 module _ (l : Limits) (past new : List Entry) (id : ℕ) (reply : BookReply) where
-  pub run_line : (now : ℕ) (words : List (List ℕ)) (name : List ℕ) → runs_on l past id ≡ true
+  pub run_line : (now : ℕ) (words : List (List ℕ)) (name : List ℕ) → reads_on l past id ≡ true
       → book_step l past (call.Run id words now) ≡ record { reply = reply; past = new }
       → reply_lines name words reply ≡ line.Run (length past + 1) name words ∷ []
-  run_line now words name on is = grind (arith, run_step)
+  run_line now words name on is =
+      let runs : runs_on l past id ≡ true = sym (reads_is_runs l past id) ∙ on in
+      grind (arith, run_step)
 
   pub close_line : (name : List ℕ) → reads_on l past id ≡ true
       → book_step l past (call.Close id) ≡ record { reply = reply; past = new }

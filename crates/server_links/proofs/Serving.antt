@@ -1,5 +1,5 @@
 -- Requests that are read and run one after another.
-use Rattle.std.proofs.Common.{◌≡◌, ◌<◌, ℕ, List, true, length, ap, ◌∙◌, arith}
+use Rattle.std.proofs.Common.{◌≡◌, ◌<◌, ℕ, List, true, length, max, refl, ap, ◌∙◌, arith}
 use Rattle.resp_stream.specs.Parsed.{Whole}
 use Rattle.resp_stream.specs.Parse.{parse}
 use Rattle.resp_stream.specs.Readers.{skipped}
@@ -7,7 +7,9 @@ use Rattle.resp_stream.specs.Request.{request_at, skip_empty}
 use Rattle.resp_stream.specs.Stream.{Stream, moved_on}
 use Rattle.resp_stream.proofs.Parse.{parse_whole, parse_more, parse_bad, shorter}
 use Rattle.serial_model.specs.declared.history.BookCall.TheVariants as call
-use Rattle.serial_model.specs.History.{reads_on}
+use Rattle.serial_model.specs.declared.history.Entry.TheVariants as entry
+use Rattle.serial_model.specs.History.{latest, reads_on}
+use Rattle.serial_model.proofs.Standings.{ended_run, reads_same}
 use Rattle.serial_model.specs.Steps.{Turn, book_step}
 use Rattle.script_text.specs.declared.line.Line.{Line}
 use Rattle.server_links.specs.Moves.{next_read, turn, run_one, run_all}
@@ -38,8 +40,11 @@ run_on : (s : Session) (words : List (List ℕ)) → reads_on s.limits s.past s.
     → reads_on s.limits (book_step s.limits s.past (call.Run s.link.id words s.now)).past s.link.id
     ≡ true
 run_on s words on =
+    let e = entry.Run s.link.id words (max s.now (latest s.past)) in
     by_run s.limits s.past s.link.id s.now words (λ (t : Turn). reads_on s.limits t.past s.link.id
-    ≡ true) on on
+    ≡ true) on
+    (reads_same s.limits s.past s.link.id e refl
+    (ended_run s.limits s.past s.link.id s.link.id (max s.now (latest s.past)) words) ∙ on)
 
 -- what was read and run so far, while the connection is read
 pub record Reads (s0 s : Session) (lines0 lines : List Line) : Type 0 where

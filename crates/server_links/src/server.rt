@@ -5,6 +5,7 @@ ghost use Rattle.script_text.specs.declared.line.Line.{Line};
 ghost use Rattle.serial_model.specs.declared.history.BookCall.TheVariants as call;
 ghost use Rattle.serial_model.specs.History.{gives_on, reads_on, run_entries, runs_of, unsent};
 ghost use Rattle.serial_model.specs.Steps.{AreValid, BookStep, IsCallable};
+ghost use Rattle.server_book.specs.BookState.{empty_book};
 ghost use Rattle.server_links.specs.Notes.{IsCopy, noted_turn, runner_of, sent_entries, words_of};
 ghost use Rattle.server_links.specs.LinkSteps.{tick};
 ghost use Rattle.server_links.specs.Outcome.{Gives};
@@ -31,12 +32,16 @@ pub struct Server {
 }
 
 impl Model for Server {
+    ghost use Rattle.std.specs.Coded.{codes};
     ghost use Rattle.std.specs.Prelude.{◌≡◌};
+    ghost use Rattle.resp_value.specs.TreeCoding.{tree_code};
     ghost use Rattle.serial_model.specs.Steps.{AreValid};
     ghost use Rattle.server_links.specs.Notes.{AreNotes};
     ghost use Rattle.server_links.specs.ServerState.{ServerState};
 
     ghost Value = { ServerState };
+
+    ghost coded = { Prim.hlevel (codes, tree_code) };
 
     ghost view = { λ s. record { book = s.book; clock = s.clock } };
 
@@ -80,10 +85,7 @@ impl Server {
     /// A server before its first turn, at moment 0.
     pub fn new(alloc: Global, limits: Limits) -> Result<Server, NoMemory>
         requires { AreValid limits }
-        ensures { IfOk result (λ s. s ≡ record {
-          book = record { limits = limits; past = []; posts = [] };
-          clock = 0;
-        }) }
+        ensures { IfOk result (λ s. s ≡ record { book = empty_book limits; clock = 0 }) }
     {
         Ok(Server {
             alloc,

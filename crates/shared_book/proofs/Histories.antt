@@ -1,6 +1,6 @@
 -- What stays true of a server's history, whatever is added to it.
 use Rattle.std.proofs.Common.{◌≡◌, ◌≤◌, ◌+◌, ℕ, List, [], ◌∷◌, ◌++◌, length, Bool, true, false}
-use Rattle.std.proofs.Common.{cond, refl, ap, subst, arith, length-append, eq-eqb}
+use Rattle.std.proofs.Common.{cond, refl, ap, ◌∙◌, subst, arith, length-append, eq-eqb}
 use Rattle.std.specs.Prelude.{◌&&◌}
 use Rattle.std.proofs.lemmas.Bool.Decides.{nat_tests}
 use Rattle.turn_lock.specs.History.{IsPrefix}
@@ -9,6 +9,7 @@ use Rattle.serial_model.specs.declared.history.Entry.{Entry}
 use Rattle.serial_model.specs.declared.history.Entry.TheVariants.{Admit, Close}
 use Rattle.serial_model.specs.History.{admitted, is_admitted, has_ended, runs_on, stream}
 use Rattle.serial_model.specs.History.{taken}
+use Rattle.serial_model.proofs.Standings as standings
 use Rattle.serial_model.proofs.Streams.{stream_more}
 
 -- what an entry leaves true, any entries do
@@ -37,24 +38,19 @@ pub admitted_now : (past : List Entry) → is_admitted (Admit (admitted past + 1
 admitted_now past = grind (arith, nat_tests)
 
 module _ (l : Limits) (c : ℕ) where
-  ended_if : (b : Bool) (past : List Entry) → has_ended l c past ≡ true
-      → cond b true (has_ended l c past) ≡ true
-  ended_if b past h = grind (arith, nat_tests)
-
   pub ended_more : (e : Entry) (past : List Entry) → has_ended l c past ≡ true
       → has_ended l c (e ∷ past) ≡ true
-  ended_more e past h = grind (arith, ended_if, nat_tests)
+  ended_more e past h = standings.ended_more l past c e h
 
   pub ended_now : (past : List Entry) → has_ended l c (Close c ∷ past) ≡ true
-  ended_now past = ap (λ b. cond b true (has_ended l c past)) (eq-eqb c c refl)
+  ended_now past =
+      standings.ended_close l past c c
+      ∙ ap (λ b. cond b true (has_ended l c past)) (eq-eqb c c refl)
 
   -- a connection that was admitted runs on, or has ended
   pub ended_or : (past : List Entry) → is_admitted past c ≡ true → runs_on l past c ≡ false
       → has_ended l c past ≡ true
   ended_or past on h = grind (arith, nat_tests)
-
-  pub live_of : (past : List Entry) → runs_on l past c ≡ true → has_ended l c past ≡ false
-  live_of past h = grind (arith, both, nat_tests)
 
   taken_if : (b : Bool) (n more : ℕ) → n ≤ cond b (n + more) n
   taken_if b n more = grind (arith, nat_tests)

@@ -19,12 +19,13 @@ use Rattle.serial_model.specs.declared.history.BookRefusal.{BookRefusal}
 use Rattle.serial_model.specs.declared.history.BookRefusal.TheVariants.{Gone, NoMemory}
 use Rattle.serial_model.specs.History.{is_admitted, expired, has_ended, latest}
 use Rattle.serial_model.specs.Steps.{BookStep}
+use Rattle.serial_model.proofs.Standings.{gives_live, reads_over}
 use Rattle.shared_book.specs.Turns.{Place, TurnStep, limits_of, limits_in, Refuses, Admits, Runs}
 use Rattle.shared_book.specs.Turns.{Gives, Rests, Ticks, Closes}
 use Rattle.shared_book.specs.Batches.{refusal_by}
 use Rattle.shared_book.specs.declared.turns.Refusal.{Refusal}
 use Rattle.shared_book.specs.declared.turns.Refusal.TheVariants as refusal
-use Rattle.shared_book.proofs.Histories.{ended_or, live_of, ended_now, begins_lift, admitted_more}
+use Rattle.shared_book.proofs.Histories.{ended_or, ended_now, begins_lift, admitted_more}
 use Rattle.shared_book.proofs.Did.{Said, says, close_says, comes, named}
 
 nothing_waits : (n : ℕ) (xs : List ℕ) → 0 < n → take n xs ≡ [] → xs ≡ []
@@ -148,7 +149,7 @@ module _ (before after : Place) where
           past = p.past;
           begins = p.begins;
           given = s.1;
-          live = live_of (limits_of before) id p.past s.2;
+          live = gives_live (limits_of before) p.past id s.2;
           grows = grows_by p (Some (entry.Take id most)) one;
           ends = ends_by p (Some (entry.Take id most)) one;
         },
@@ -163,7 +164,7 @@ module _ (before after : Place) where
       let l = limits_of before in
       record {
         none = grind (arith, ends_same, nothing_waits);
-        live = ap (has_ended l id) (ends_same p none) ∙ live_of l id p.past s.2;
+        live = ap (has_ended l id) (ends_same p none) ∙ gives_live l p.past id s.2;
         grows = stays p none;
       }
 
@@ -203,7 +204,7 @@ module _ (before after : Place) where
           close = None;
           grows = stays p same.0;
           over = inl (ap (has_ended (limits_of before) id) (ends_same p same.0)
-              ∙ ended_or (limits_of before) id p.past (now_admitted p id on) same.1);
+              ∙ reads_over (limits_of before) p.past id (now_admitted p id on) same.1);
         }
       ]
 

@@ -1,3 +1,4 @@
 pub mod Extended
 pub mod Counted
 pub mod Rows
+pub mod Taken

@@ -1,13 +1,11 @@
 //! The commands on strings, a function each.
 #![tactic(auto)]
 
-mod foresee;
 mod keys;
 mod numbers;
 mod reads;
 mod run;
 mod writes;
 
-pub use foresee::foresee_string;
 pub use run::{is_string, run_string};
-pub use writes::moment_after;
+pub use writes::{moment_after, take_text};

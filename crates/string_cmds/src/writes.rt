@@ -1,14 +1,15 @@
 //! The commands that write strings: SET, SETNX, GETDEL, APPEND and MSET.
 //!
 //! All that may fail comes before the keyspace changes.
-ghost use Rattle.std.specs.Prelude.{◌≡◌, OnOk, OnErr, None};
+ghost use Rattle.std.specs.Prelude.{◌≡◌, IfOk, OnOk, OnErr, None, option_map};
 ghost use Rattle.std.specs.FinMap.{contains_key};
 ghost use Rattle.command_words.specs.Space.{content_at, deadline_at};
 ghost use Rattle.command_words.specs.Strings.{moment_after, set_deadline, set_effect, sets};
 ghost use Rattle.command_words.specs.Strings.{setnx_effect, getdel_effect, append_effect};
 ghost use Rattle.command_words.specs.Strings.{mset_effect, put_text};
 ghost use Rattle.string_cmds.specs.Extended.{HasText, IsLonger, IsExtended};
-ghost use Rattle.keyspace.specs.Plain.{content_of};
+ghost use Rattle.string_cmds.specs.Taken.{IsTaken};
+ghost use Rattle.keyspace.specs.Plain.{content_of, held_of};
 ghost use Rattle.command_rows.specs.Rows.{IsRow};
 
 use super::keys::each_key_once;
@@ -20,10 +21,10 @@ use resp_value::{NoMemory, Octets, Value};
 use std::alloc::Global;
 
 /// The most bytes of a string.
-pub(crate) const MOST_BYTES: usize = 16_777_216;
+const MOST_BYTES: usize = 16_777_216;
 
 /// Whether SET with this option sets the key, which is looked up only where that decides it.
-pub(crate) fn is_set(space: &Keyspace, key: &[u8], when: SetWhen) -> bool
+fn is_set(space: &Keyspace, key: &[u8], when: SetWhen) -> bool
     ensures { result ≡ sets when (contains_key space.now key.now) }
 {
     match when {
@@ -119,16 +120,34 @@ pub(crate) fn setnx(
     Ok(wrote(Value::Number(1), keys))
 }
 
-pub(crate) fn getdel(alloc: Global, space: &mut Keyspace, key: &[u8]) -> Result<Done, NoMemory>
-    ensures { IsRow (getdel_effect key.now space.old) result space.old space.new }
+/// GETDEL, with what the key held, where it went. The reply is a copy of the string.
+pub fn take_text(
+    alloc: Global,
+    space: &mut Keyspace,
+    key: &[u8],
+) -> Result<(Done, Option<Held>), NoMemory>
+    ensures reply { IfOk result (λ r. r.0.reply ≡ (getdel_effect key.now space.old).reply) }
+    ensures signals { IfOk result (λ r.
+        r.0.signalled ≡ (getdel_effect key.now space.old).signalled) }
+    ensures space { OnOk result (space.new ≡ (getdel_effect key.now space.old).space) }
+    ensures taken { IfOk result (λ r.
+        IsTaken key.now (option_map held_of r.1) space.old space.new) }
+    ensures err { OnErr result (space.new ≡ space.old) }
 {
     let reply = get(alloc, space, key)?;
     if let Value::Blob(_) = &reply {
         let keys = only(alloc, key)?;
-        space.take(key);
-        return Ok(wrote(reply, keys));
+        let held = space.take(key);
+        return Ok((wrote(reply, keys), held));
     }
-    Ok(replied(alloc, reply))
+    Ok((replied(alloc, reply), None))
+}
+
+pub(crate) fn getdel(alloc: Global, space: &mut Keyspace, key: &[u8]) -> Result<Done, NoMemory>
+    ensures { IsRow (getdel_effect key.now space.old) result space.old space.new }
+{
+    let (done, _held) = take_text(alloc, space, key)?;
+    Ok(done)
 }
 
 /// The bytes go after those of the string.

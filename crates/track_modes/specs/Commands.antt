@@ -11,8 +11,8 @@ use Rattle.command_words.specs.declared.command.Command.TheVariants.{Subscribe, 
 use Rattle.command_words.specs.declared.command.Command.TheVariants.{ClientTracking, ClientCaching}
 use Rattle.track_modes.specs.declared.fault.ModeFault.{ModeFault}
 use Rattle.track_modes.specs.declared.fault.ModeFault.TheVariants.{NoMemory}
-use Rattle.track_modes.specs.ModeState.{ModeState, new_mode, spent}
-use Rattle.track_modes.specs.Tracked.{tracked, tracking_fault, cached, caching_fault}
+use Rattle.track_modes.specs.ModeState.{ModeState, new_mode}
+use Rattle.track_modes.specs.Tracked.{tracked, tracking_fault, caching_fault}
 
 -- the channel of invalidations, which alone is served
 abbrev pub channel : List ℕ
@@ -51,7 +51,7 @@ abbrev pub changed : Command → ModeState → ModeState
 changed (Hello (Some version)) m = record m { proto = proto_after version m.proto }
 changed Reset m = new_mode
 changed (ClientTracking o) m = record m { tracking = tracked o m.tracking }
-changed (ClientCaching is_yes) m = record m { tracking = cached m.tracking }
+changed (ClientCaching is_yes) m = record m { caching = true }
 changed (Subscribe c) m = record m { subscribed = bytes_eq c channel || m.subscribed }
 changed (Unsubscribe None) m = record m { subscribed = false }
 changed (Unsubscribe (Some c)) m =
@@ -59,7 +59,7 @@ changed (Unsubscribe (Some c)) m =
 changed _ m = m
 
 abbrev pub spent_mode : ModeState → ModeState
-spent_mode m = record m { tracking = spent m.tracking }
+spent_mode m = record m { caching = false }
 
 abbrev pub is_caching_command : Command → Bool
 is_caching_command (ClientCaching is_yes) = true

@@ -2,10 +2,10 @@
 use Rattle.std.specs.Prelude.{◌≡◌, false}
 use Rattle.command_words.specs.declared.command.Command.{Command}
 use Rattle.track_modes.specs.Commands.{after_command, is_caching_command}
-use Rattle.track_modes.specs.ModeState.{ModeState, caching_of}
+use Rattle.track_modes.specs.ModeState.{ModeState}
 
 -- only right after CLIENT CACHING does what it said hold
 abbrev pub CachingIsForOneCommand : Type 0
 CachingIsForOneCommand =
     (command : Command) (m : ModeState) → is_caching_command command ≡ false
-    → caching_of (after_command command m).tracking ≡ false
+    → (after_command command m).caching ≡ false

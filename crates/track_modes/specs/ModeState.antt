@@ -9,14 +9,16 @@ use Rattle.track_modes.specs.declared.tracking.TrackMode.TheVariants.{Default, O
 use Rattle.track_modes.specs.declared.tracking.Tracking.{Tracking}
 use Rattle.track_modes.specs.declared.tracking.Tracking.TheVariants.{Off, On}
 
+-- beside how it tracks, whether the command before was CLIENT CACHING, accepted
 pub record ModeState : Type 0 where
   pub proto : Proto
   pub subscribed : Bool
   pub tracking : Tracking
+  pub caching : Bool
 
 -- a connection as it is admitted, and after RESET
 abbrev pub new_mode : ModeState
-new_mode = record { proto = Two; subscribed = false; tracking = Off }
+new_mode = record { proto = Two; subscribed = false; tracking = Off; caching = false }
 
 abbrev pub peer_of : ModeState → Peer
 peer_of m = record { proto = m.proto; subscribed = m.subscribed }
@@ -25,21 +27,10 @@ abbrev pub mode_of : Tracking → Option TrackMode
 mode_of Off = None
 mode_of (On s) = Some s.mode
 
--- the opt-in and opt-out modes: whether the command before was CLIENT CACHING, accepted
-abbrev pub caching_in : TrackMode → Bool
-caching_in Default = false
-caching_in (OptIn caching) = caching
-caching_in (OptOut caching) = caching
-caching_in (Bcast prefixes) = false
-
-abbrev pub caching_of : Tracking → Bool
-caching_of Off = false
-caching_of (On s) = caching_in s.mode
-
 abbrev pub prefixes_in : TrackMode → List (List ℕ)
 prefixes_in Default = []
-prefixes_in (OptIn caching) = []
-prefixes_in (OptOut caching) = []
+prefixes_in OptIn = []
+prefixes_in OptOut = []
 prefixes_in (Bcast prefixes) = prefixes
 
 abbrev pub prefixes_of : Tracking → List (List ℕ)
@@ -47,44 +38,49 @@ prefixes_of Off = []
 prefixes_of (On s) = prefixes_in s.mode
 
 -- a read is remembered always, only after CLIENT CACHING YES, not after CLIENT CACHING NO, never
-abbrev pub remembers_in : TrackMode → Bool
-remembers_in Default = true
-remembers_in (OptIn caching) = caching
-remembers_in (OptOut caching) = not caching
-remembers_in (Bcast prefixes) = false
+abbrev pub remembers_in : Bool → TrackMode → Bool
+remembers_in caching Default = true
+remembers_in caching OptIn = caching
+remembers_in caching OptOut = not caching
+remembers_in caching (Bcast prefixes) = false
 
-abbrev pub remembers_read : Tracking → Bool
-remembers_read Off = false
-remembers_read (On s) = remembers_in s.mode
+abbrev pub remembers_by : Bool → Tracking → Bool
+remembers_by caching Off = false
+remembers_by caching (On s) = remembers_in caching s.mode
 
--- CLIENT CACHING is for one command
-abbrev pub spent_in : TrackMode → TrackMode
-spent_in Default = Default
-spent_in (OptIn caching) = OptIn false
-spent_in (OptOut caching) = OptOut false
-spent_in (Bcast prefixes) = Bcast prefixes
+abbrev pub remembers_read : ModeState → Bool
+remembers_read m = remembers_by m.caching m.tracking
 
-abbrev pub spent : Tracking → Tracking
-spent Off = Off
-spent (On s) = On (record s { mode = spent_in s.mode })
+abbrev pub is_on : Tracking → Bool
+is_on Off = false
+is_on (On s) = true
 
--- a message was due, and the connection that messages are redirected to had ended
-abbrev pub broken : Tracking → Tracking
-broken Off = Off
-broken (On s) = On (record s { broken = true })
+-- it is sent no message of a key that it changes itself
+abbrev pub is_noloop : Tracking → Bool
+is_noloop Off = false
+is_noloop (On s) = s.noloop
+
+-- the connection that its messages are sent to in place of it
+abbrev pub redirect_of : Tracking → Option ℕ
+redirect_of Off = None
+redirect_of (On s) = s.redirect
 
 abbrev pub flag : Bool → List ℕ → List (List ℕ)
 flag b word = if b then word ∷ [] else []
 
-abbrev pub mode_flags : TrackMode → List (List ℕ)
-mode_flags Default = []
-mode_flags (OptIn caching) = codes "optin" ∷ flag caching (codes "caching-yes")
-mode_flags (OptOut caching) = codes "optout" ∷ flag caching (codes "caching-no")
-mode_flags (Bcast prefixes) = codes "bcast" ∷ []
+abbrev pub mode_flags : Bool → TrackMode → List (List ℕ)
+mode_flags caching Default = []
+mode_flags caching OptIn = codes "optin" ∷ flag caching (codes "caching-yes")
+mode_flags caching OptOut = codes "optout" ∷ flag caching (codes "caching-no")
+mode_flags caching (Bcast prefixes) = codes "bcast" ∷ []
 
--- the flags that CLIENT TRACKINGINFO tells (its page), in order
-abbrev pub flags : Tracking → List (List ℕ)
-flags Off = codes "off" ∷ []
-flags (On s) =
-    codes "on" ∷ mode_flags s.mode
-    ++ flag s.noloop (codes "noloop") ++ flag s.broken (codes "broken_redirect")
+abbrev pub tracking_flags : Bool → Bool → Tracking → List (List ℕ)
+tracking_flags caching is_broken Off = codes "off" ∷ []
+tracking_flags caching is_broken (On s) =
+    codes "on" ∷ mode_flags caching s.mode
+    ++ flag s.noloop (codes "noloop") ++ flag is_broken (codes "broken_redirect")
+
+-- the flags that CLIENT TRACKINGINFO tells (its page), in order; a redirection is broken where a
+-- message was due and the connection that it was to be sent to had ended
+abbrev pub flags : Bool → ModeState → List (List ℕ)
+flags is_broken m = tracking_flags m.caching is_broken m.tracking

@@ -13,13 +13,13 @@ use Rattle.track_modes.specs.declared.tracking.TrackMode.TheVariants.{Default, O
 use Rattle.track_modes.specs.declared.tracking.Settings.{Settings}
 use Rattle.track_modes.specs.declared.tracking.Tracking.{Tracking}
 use Rattle.track_modes.specs.declared.tracking.Tracking.TheVariants.{Off, On}
-use Rattle.track_modes.specs.ModeState.{caching_of, prefixes_of}
+use Rattle.track_modes.specs.ModeState.{prefixes_of}
 use Rattle.track_modes.specs.PrefixLists.{overlapped, registered}
 
 abbrev pub is_bcast : TrackMode → Bool
 is_bcast Default = false
-is_bcast (OptIn caching) = false
-is_bcast (OptOut caching) = false
+is_bcast OptIn = false
+is_bcast OptOut = false
 is_bcast (Bcast prefixes) = true
 
 -- tracking is on with BCAST and the command is without it, or the reverse
@@ -30,8 +30,8 @@ switches_bcast o (On s) = if is_bcast s.mode then not o.bcast else o.bcast
 -- OPTIN while OPTOUT is in force, or the reverse
 abbrev pub switches_opt_in : TrackOptions → TrackMode → Bool
 switches_opt_in o Default = false
-switches_opt_in o (OptIn caching) = o.optout
-switches_opt_in o (OptOut caching) = o.optin
+switches_opt_in o OptIn = o.optout
+switches_opt_in o OptOut = o.optin
 switches_opt_in o (Bcast prefixes) = false
 
 abbrev pub switches_opt : TrackOptions → Tracking → Bool
@@ -57,16 +57,14 @@ on_fault o target_exists t =
 abbrev pub tracking_fault : TrackOptions → Bool → Tracking → Option ModeFault
 tracking_fault o target_exists t = if o.on then on_fault o target_exists t else None
 
--- CLIENT CACHING stays for the command that runs; prefixes are added to those in force
+-- prefixes are added to those in force
 abbrev pub track_mode : TrackOptions → Tracking → TrackMode
 track_mode o t =
     if o.bcast then Bcast (registered o.prefixes (prefixes_of t)) else
-    if o.optin then OptIn (caching_of t) else
-    if o.optout then OptOut (caching_of t) else Default
+    if o.optin then OptIn else if o.optout then OptOut else Default
 
 abbrev pub settings : TrackOptions → Tracking → Settings
-settings o t =
-    record { mode = track_mode o t; redirect = o.redirect; noloop = o.noloop; broken = false }
+settings o t = record { mode = track_mode o t; redirect = o.redirect; noloop = o.noloop }
 
 -- what an accepted CLIENT TRACKING leaves
 abbrev pub tracked : TrackOptions → Tracking → Tracking
@@ -75,24 +73,13 @@ tracked o t = if o.on then On (settings o t) else Off
 -- why CLIENT CACHING is refused, if it is
 abbrev pub caching_fault_in : Bool → TrackMode → Option ModeFault
 caching_fault_in is_yes Default = Some NotOpt
-caching_fault_in is_yes (OptIn caching) = if is_yes then None else Some NoNeedsOptout
-caching_fault_in is_yes (OptOut caching) = if is_yes then Some YesNeedsOptin else None
+caching_fault_in is_yes OptIn = if is_yes then None else Some NoNeedsOptout
+caching_fault_in is_yes OptOut = if is_yes then Some YesNeedsOptin else None
 caching_fault_in is_yes (Bcast prefixes) = Some NotOpt
 
 abbrev pub caching_fault : Bool → Tracking → Option ModeFault
 caching_fault is_yes Off = Some NotOpt
 caching_fault is_yes (On s) = caching_fault_in is_yes s.mode
-
--- what an accepted CLIENT CACHING leaves
-abbrev pub cached_in : TrackMode → TrackMode
-cached_in Default = Default
-cached_in (OptIn caching) = OptIn true
-cached_in (OptOut caching) = OptOut true
-cached_in (Bcast prefixes) = Bcast prefixes
-
-abbrev pub cached : Tracking → Tracking
-cached Off = Off
-cached (On s) = On (record s { mode = cached_in s.mode })
 
 -- Only prefixes take memory: those that are registered, and the one that a refusal names.
 abbrev pub MayRunOut : Bool → Option ModeFault → Type 0

@@ -59,8 +59,8 @@ fn switches_opt(options: &TrackOptions, tracking: &Tracking) -> bool
     match tracking {
         Tracking::Off => false,
         Tracking::On(settings) => match settings.mode {
-            TrackMode::OptIn { .. } => options.optout,
-            TrackMode::OptOut { .. } => options.optin,
+            TrackMode::OptIn => options.optout,
+            TrackMode::OptOut => options.optin,
             _ => false,
         },
     }

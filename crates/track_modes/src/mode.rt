@@ -1,12 +1,12 @@
 //! A connection's mode.
-ghost use Rattle.std.specs.Prelude.{◌≡◌, ◌&&◌, OnOk, OnErr, IfErr, IfOk, None, Some};
+ghost use Rattle.std.specs.Prelude.{◌≡◌, ◌&&◌, OnOk, OnErr, IfErr, IfOk, None, Some, true, false};
 ghost use Rattle.std.specs.Str.{bytes_eq};
 ghost use Rattle.track_modes.specs.Commands.{after_command, after_refusal, allows, changed};
 ghost use Rattle.track_modes.specs.Commands.{command_fault, fault_at, is_caching_command};
 ghost use Rattle.track_modes.specs.Commands.{is_for_subscribers, may_register, proto_after};
 ghost use Rattle.track_modes.specs.Commands.{registers, spent_mode};
-ghost use Rattle.track_modes.specs.ModeState.{broken, flags, new_mode, peer_of, remembers_read};
-ghost use Rattle.track_modes.specs.Tracked.{IsRefusal, cached, caching_fault, tracked};
+ghost use Rattle.track_modes.specs.ModeState.{flags, new_mode, peer_of, remembers_read};
+ghost use Rattle.track_modes.specs.Tracked.{IsRefusal, caching_fault, tracked};
 ghost use Rattle.track_modes.specs.Tracked.{tracking_fault};
 
 use super::check::check;
@@ -21,14 +21,15 @@ use std::marker::Model;
 /// The channel of invalidations, which alone is served.
 pub const INVALIDATION_CHANNEL: &[u8] = b"__redis__:invalidate";
 
-/// What a connection's own commands make of it: its protocol, whether it is subscribed, and
-/// whether and how it tracks.
+/// What a connection's own commands make of it: its protocol, whether it is subscribed, whether
+/// and how it tracks, and whether the command before was CLIENT CACHING, accepted.
 #[derive(Debug, Drop)]
 pub struct Mode {
     alloc: Global,
     proto: Proto,
     subscribed: bool,
     tracking: Tracking,
+    caching: bool,
 }
 
 impl Model for Mode {
@@ -37,7 +38,12 @@ impl Model for Mode {
     ghost Value = { ModeState };
 
     ghost view = { λ m.
-        record { proto = m.proto; subscribed = m.subscribed; tracking = m.tracking } };
+        record {
+          proto = m.proto;
+          subscribed = m.subscribed;
+          tracking = m.tracking;
+          caching = m.caching;
+        } };
 }
 
 impl Mode {
@@ -50,7 +56,21 @@ impl Mode {
             proto: Proto::Two,
             subscribed: false,
             tracking: Tracking::Off,
+            caching: false,
         }
+    }
+
+    /// An equal mode. Only prefixes take memory.
+    pub fn copy(&self) -> Result<Mode, NoMemory>
+        ensures { IfOk result (λ m. m ≡ self.now) }
+    {
+        Ok(Mode {
+            alloc: self.alloc,
+            proto: self.proto,
+            subscribed: self.subscribed,
+            tracking: self.tracking.copy()?,
+            caching: self.caching,
+        })
     }
 
     /// What the sender of a message to this connection must know of it.
@@ -72,9 +92,9 @@ impl Mode {
 
     /// Whether a read that runs now is remembered.
     pub fn remembers_read(&self) -> bool
-        ensures { result ≡ remembers_read self.now.tracking }
+        ensures { result ≡ remembers_read self.now }
     {
-        self.tracking.remembers_read()
+        self.tracking.remembers_read(self.caching)
     }
 
     /// CLIENT TRACKING with these options; `target_exists` says whether the connection that its
@@ -100,12 +120,14 @@ impl Mode {
     /// CLIENT CACHING YES or NO. It takes no memory.
     pub fn apply_caching(&mut self, yes: bool) -> Result<(), ModeFault>
         ensures ok { OnOk result
-            (self.new ≡ record self.old { tracking = cached self.old.tracking }) }
+            (self.new ≡ record self.old { caching = true }) }
         ensures accepted { OnOk result (caching_fault yes self.old.tracking ≡ None) }
         ensures refused { IfErr result (λ f. caching_fault yes self.old.tracking ≡ Some f) }
         ensures err { OnErr result (self.new ≡ self.old) }
     {
-        self.tracking.apply_caching(yes)
+        self.tracking.check_caching(yes)?;
+        self.caching = true;
+        Ok(())
     }
 
     /// The end of a command ends what CLIENT CACHING said, unless it was that command. It takes
@@ -113,22 +135,15 @@ impl Mode {
     pub fn spend(&mut self)
         ensures { self.new ≡ spent_mode self.old }
     {
-        self.tracking.spend();
+        self.caching = false;
     }
 
-    /// A message was due, and the connection that messages are redirected to had ended. It takes
-    /// no memory.
-    pub fn break_redirection(&mut self)
-        ensures { self.new ≡ record self.old { tracking = broken self.old.tracking } }
+    /// The flags that CLIENT TRACKINGINFO tells, in their order. `is_broken` says that a message
+    /// was due after the connection that messages are redirected to had ended.
+    pub fn flags(&self, is_broken: bool) -> Result<Words, NoMemory>
+        ensures { IfOk result (λ w. w ≡ flags is_broken self.now) }
     {
-        self.tracking.break_redirection();
-    }
-
-    /// The flags that CLIENT TRACKINGINFO tells, in their order.
-    pub fn flags(&self) -> Result<Words, NoMemory>
-        ensures { IfOk result (λ w. w ≡ flags self.now.tracking) }
-    {
-        self.tracking.flags(self.alloc)
+        self.tracking.flags(self.alloc, self.caching, is_broken)
     }
 
     /// Whether the connection may run the command: on RESP2 and subscribed, it runs SUBSCRIBE,

@@ -1,11 +1,10 @@
 //! How a connection tracks (the page of CLIENT TRACKING). What may not stand together has no value.
 ghost use Rattle.std.specs.Prelude.{◌≡◌, ◌++◌, ◌∷◌, ◌&&◌, true, None, Some, IfErr, IfOk, OnOk};
 ghost use Rattle.std.specs.Prelude.{OnErr};
-ghost use Rattle.track_modes.specs.ModeState.{caching_of, flag, flags, mode_flags, prefixes_of};
-ghost use Rattle.track_modes.specs.ModeState.{broken, remembers_in, remembers_read, spent};
-ghost use Rattle.track_modes.specs.ModeState.{spent_in};
+ghost use Rattle.track_modes.specs.ModeState.{flag, mode_flags, prefixes_of, tracking_flags};
+ghost use Rattle.track_modes.specs.ModeState.{remembers_by, remembers_in};
 ghost use Rattle.track_modes.specs.PrefixLists.{AreInOrder, registered};
-ghost use Rattle.track_modes.specs.Tracked.{cached, cached_in, caching_fault, caching_fault_in};
+ghost use Rattle.track_modes.specs.Tracked.{caching_fault, caching_fault_in};
 ghost use Rattle.track_modes.specs.Tracked.{track_mode, tracked};
 
 use super::fault::ModeFault;
@@ -14,17 +13,15 @@ use command_words::TrackOptions;
 use resp_value::{NoMemory, Octets, Words};
 use std::alloc::Global;
 
-/// Which keys a connection that tracks is sent invalidations of. In the opt-in and opt-out modes,
-/// `caching` says that the command before this one was CLIENT CACHING, accepted: YES in the one
-/// and NO in the other.
+/// Which keys a connection that tracks is sent invalidations of.
 #[derive(Debug, Drop)]
 pub enum TrackMode {
     /// Those that it reads.
     Default,
     /// Those that it reads right after CLIENT CACHING YES.
-    OptIn { caching: bool },
+    OptIn,
     /// Those that it reads, but not right after CLIENT CACHING NO.
-    OptOut { caching: bool },
+    OptOut,
     /// Those that start with one of these prefixes, whether it reads them or not.
     Bcast(Prefixes),
 }
@@ -37,8 +34,6 @@ pub struct Settings {
     pub redirect: Option<u64>,
     /// No messages for keys that the connection itself changes.
     pub noloop: bool,
-    /// A message was due after the connection that messages are redirected to had ended.
-    pub broken: bool,
 }
 
 /// Whether a connection tracks, and how.
@@ -71,77 +66,76 @@ fn put_opt(
 }
 
 impl TrackMode {
-    fn put_flags(&self, words: &mut Words, alloc: Global) -> Result<(), NoMemory>
-        ensures { OnOk result (words.new ≡ words.old ++ mode_flags self.now) }
+    fn copy(&self) -> Result<TrackMode, NoMemory>
+        ensures { IfOk result (λ m. m ≡ self.now) }
+    {
+        Ok(match self {
+            TrackMode::Default => TrackMode::Default,
+            TrackMode::OptIn => TrackMode::OptIn,
+            TrackMode::OptOut => TrackMode::OptOut,
+            TrackMode::Bcast(prefixes) => TrackMode::Bcast(prefixes.copy()?),
+        })
+    }
+
+    fn put_flags(&self, words: &mut Words, alloc: Global, caching: bool) -> Result<(), NoMemory>
+        ensures { OnOk result (words.new ≡ words.old ++ mode_flags caching self.now) }
     {
         match self {
             TrackMode::Default => Ok(()),
-            TrackMode::OptIn { caching } => put_opt(
-                words,
-                alloc,
-                b"optin",
-                *caching,
-                b"caching-yes",
-            ),
-            TrackMode::OptOut { caching } => put_opt(
-                words,
-                alloc,
-                b"optout",
-                *caching,
-                b"caching-no",
-            ),
+            TrackMode::OptIn => put_opt(words, alloc, b"optin", caching, b"caching-yes"),
+            TrackMode::OptOut => put_opt(words, alloc, b"optout", caching, b"caching-no"),
             TrackMode::Bcast(_) => put_flag(words, alloc, true, b"bcast"),
         }
     }
 
-    fn remembers_read(&self) -> bool
-        ensures { result ≡ remembers_in self.now }
+    fn remembers_read(&self, caching: bool) -> bool
+        ensures { result ≡ remembers_in caching self.now }
     {
         match self {
             TrackMode::Default => true,
-            TrackMode::OptIn { caching } => *caching,
-            TrackMode::OptOut { caching } => !*caching,
+            TrackMode::OptIn => caching,
+            TrackMode::OptOut => !caching,
             TrackMode::Bcast(_) => false,
         }
     }
 
-    fn spend(&mut self)
-        ensures { self.new ≡ spent_in self.old }
+    fn check_caching(&self, is_yes: bool) -> Result<(), ModeFault>
+        ensures accepted { OnOk result (caching_fault_in is_yes self.now ≡ None) }
+        ensures refused { IfErr result (λ f. caching_fault_in is_yes self.now ≡ Some f) }
     {
         match self {
-            TrackMode::OptIn { caching } => *caching = false,
-            TrackMode::OptOut { caching } => *caching = false,
-            _ => {}
-        }
-    }
-
-    fn apply_caching(&mut self, is_yes: bool) -> Result<(), ModeFault>
-        ensures ok { OnOk result (self.new ≡ cached_in self.old) }
-        ensures accepted { OnOk result (caching_fault_in is_yes self.old ≡ None) }
-        ensures refused { IfErr result (λ f. caching_fault_in is_yes self.old ≡ Some f) }
-        ensures err { OnErr result (self.new ≡ self.old) }
-    {
-        match self {
-            TrackMode::OptIn { caching } => {
-                if !is_yes {
-                    return Err(ModeFault::NoNeedsOptout);
-                }
-                *caching = true;
-                Ok(())
-            }
-            TrackMode::OptOut { caching } => {
-                if is_yes {
-                    return Err(ModeFault::YesNeedsOptin);
-                }
-                *caching = true;
-                Ok(())
-            }
+            TrackMode::OptIn if is_yes => Ok(()),
+            TrackMode::OptIn => Err(ModeFault::NoNeedsOptout),
+            TrackMode::OptOut if is_yes => Err(ModeFault::YesNeedsOptin),
+            TrackMode::OptOut => Ok(()),
             _ => Err(ModeFault::NotOpt),
         }
     }
 }
 
+impl Settings {
+    fn copy(&self) -> Result<Settings, NoMemory>
+        ensures { IfOk result (λ s. s ≡ self.now) }
+    {
+        Ok(Settings {
+            mode: self.mode.copy()?,
+            redirect: self.redirect,
+            noloop: self.noloop,
+        })
+    }
+}
+
 impl Tracking {
+    // An equal value. Only prefixes take memory.
+    pub(crate) fn copy(&self) -> Result<Tracking, NoMemory>
+        ensures { IfOk result (λ t. t ≡ self.now) }
+    {
+        match self {
+            Tracking::Off => Ok(Tracking::Off),
+            Tracking::On(settings) => Ok(Tracking::On(settings.copy()?)),
+        }
+    }
+
     /// The prefixes in force, in byte order.
     pub fn prefixes(&self) -> &[Octets]
         ensures list { result.now ≡ prefixes_of self.now }
@@ -159,52 +153,35 @@ impl Tracking {
     }
 
     // Whether a read that runs now is remembered.
-    pub(crate) fn remembers_read(&self) -> bool
-        ensures { result ≡ remembers_read self.now }
+    pub(crate) fn remembers_read(&self, caching: bool) -> bool
+        ensures { result ≡ remembers_by caching self.now }
     {
         match self {
             Tracking::Off => false,
-            Tracking::On(settings) => settings.mode.remembers_read(),
+            Tracking::On(settings) => settings.mode.remembers_read(caching),
         }
     }
 
     // The flags that CLIENT TRACKINGINFO tells, in their order.
-    pub(crate) fn flags(&self, alloc: Global) -> Result<Words, NoMemory>
-        ensures { IfOk result (λ w. w ≡ flags self.now) }
+    pub(crate) fn flags(
+        &self,
+        alloc: Global,
+        caching: bool,
+        is_broken: bool,
+    ) -> Result<Words, NoMemory>
+        ensures { IfOk result (λ w. w ≡ tracking_flags caching is_broken self.now) }
     {
         let mut words = Words::new(alloc);
         match self {
             Tracking::Off => put_flag(&mut words, alloc, true, b"off")?,
             Tracking::On(settings) => {
                 put_flag(&mut words, alloc, true, b"on")?;
-                settings.mode.put_flags(&mut words, alloc)?;
+                settings.mode.put_flags(&mut words, alloc, caching)?;
                 put_flag(&mut words, alloc, settings.noloop, b"noloop")?;
-                put_flag(&mut words, alloc, settings.broken, b"broken_redirect")?;
+                put_flag(&mut words, alloc, is_broken, b"broken_redirect")?;
             }
         }
         Ok(words)
-    }
-
-    pub(crate) fn is_caching(&self) -> bool
-        ensures { result ≡ caching_of self.now }
-    {
-        match self {
-            Tracking::Off => false,
-            Tracking::On(settings) => match &settings.mode {
-                TrackMode::OptIn { caching } | TrackMode::OptOut { caching } => *caching,
-                _ => false,
-            },
-        }
-    }
-
-    // What CLIENT CACHING said is over.
-    pub(crate) fn spend(&mut self)
-        ensures { self.new ≡ spent self.old }
-    {
-        match self {
-            Tracking::Off => {}
-            Tracking::On(settings) => settings.mode.spend(),
-        }
     }
 
     // A list of its own of the prefixes in force.
@@ -243,11 +220,10 @@ impl Tracking {
             let prefixes = self.registered(alloc, options.prefixes.as_slice())?;
             return Ok(TrackMode::Bcast(prefixes));
         }
-        let caching = self.is_caching();
         if options.optin {
-            Ok(TrackMode::OptIn { caching })
+            Ok(TrackMode::OptIn)
         } else if options.optout {
-            Ok(TrackMode::OptOut { caching })
+            Ok(TrackMode::OptOut)
         } else {
             Ok(TrackMode::Default)
         }
@@ -269,27 +245,17 @@ impl Tracking {
             mode: self.track_mode(alloc, options)?,
             redirect: options.redirect,
             noloop: options.noloop,
-            broken: false,
         }))
     }
 
-    pub(crate) fn break_redirection(&mut self)
-        ensures { self.new ≡ broken self.old }
-    {
-        if let Tracking::On(settings) = self {
-            settings.broken = true;
-        }
-    }
-
-    pub(crate) fn apply_caching(&mut self, is_yes: bool) -> Result<(), ModeFault>
-        ensures ok { OnOk result (self.new ≡ cached self.old) }
-        ensures accepted { OnOk result (caching_fault is_yes self.old ≡ None) }
-        ensures refused { IfErr result (λ f. caching_fault is_yes self.old ≡ Some f) }
-        ensures err { OnErr result (self.new ≡ self.old) }
+    // Whether CLIENT CACHING is accepted.
+    pub(crate) fn check_caching(&self, is_yes: bool) -> Result<(), ModeFault>
+        ensures accepted { OnOk result (caching_fault is_yes self.now ≡ None) }
+        ensures refused { IfErr result (λ f. caching_fault is_yes self.now ≡ Some f) }
     {
         match self {
             Tracking::Off => Err(ModeFault::NotOpt),
-            Tracking::On(settings) => settings.mode.apply_caching(is_yes),
+            Tracking::On(settings) => settings.mode.check_caching(is_yes),
         }
     }
 }

@@ -1,31 +1,23 @@
 -- Rows by their ages: what a change at an age is to the rows, and to the index of the ages.
 use Rattle.std.proofs.Common.{◌≡◌, ◌==◌, ◌<◌, ◌++◌, ℕ, suc, List, [], ◌∷◌, Bool, true, false, cond}
 use Rattle.std.proofs.Common.{not, sym, ap, ◌∙◌, refl, inl, inr, arith, subst, eq-eqb, Option}
-use Rattle.std.proofs.Common.{ne_eqb, Some, None, SomeIff, IfSome, ◌+◌, Result, Ok}
-use Rattle.std.proofs.Common.{Err, OnOk, OnErr}
-use Rattle.std.specs.Global.{Vec}
+use Rattle.std.proofs.Common.{ne_eqb, Some, None, SomeIff, IfSome, ◌+◌}
 use Rattle.std.specs.Str.{bytes_eq}
 use Rattle.std.specs.List.{AllByRecursion, All}
 use Rattle.std.specs.List.Sorted.{IsStrictlySortedBy}
-use Rattle.std.specs.Map.{lookup, remove_entry, set_value, keys_of, KeepsOthers, IsKeyTest}
-use Rattle.std.specs.Map.{AreApart}
-use Rattle.std.specs.BTreeMap.{BTreeMap, insert_entry, UpdatesBy}
-use Rattle.std.specs.Ordering.{nat_cmp, is_eq, is_lt, match_ordering, eq_by_cmp}
+use Rattle.std.specs.Map.{lookup, remove_entry, set_value, keys_of}
+use Rattle.std.specs.BTreeMap.{insert_entry}
+use Rattle.std.specs.Ordering.{nat_cmp, is_eq, is_lt, match_ordering}
 use Rattle.std.specs.Cmp.{nat_cmp_is}
-use Rattle.std.specs.Cmp.Lexicographic.{slice_cmp, texts_ties}
-use Rattle.std.specs.declared.cmp.Ordering.{Ordering}
 use Rattle.std.specs.declared.cmp.Ordering.TheVariants.{Less, Greater, Equal}
 use Rattle.std.proofs.lemmas.Bool.{cases_eq, cases_lt, cases_Bool, eqb-true}
 use Rattle.std.proofs.lemmas.Bool.Decides.{nat_tests}
 use Rattle.track_table.specs.declared.table.Held.{Held}
 use Rattle.track_table.specs.Table.{holders_of, remembered, released, freed_of, is_held}
 use Rattle.track_table.specs.Table.{without_key}
-use Rattle.track_table.specs.Order.{HasNo, AreOrdered, IsTable}
-use Rattle.track_table.specs.Aged.{IsIndexed, rows_of, age_of, age_at, grown, AllBelow, HasAge}
-use Rattle.track_table.specs.Aged.{IsWritten, IsHeldAt}
-use Rattle.track_table.proofs.Orders.{same_bytes, not_same, apart, table_remembered}
-use Rattle.track_table.proofs.Orders.{table_without_key}
-use Rattle.track_table.proofs.Releases.{table_released}
+use Rattle.track_table.specs.Order.{HasNo, AreOrdered}
+use Rattle.track_table.specs.Aged.{rows_of, age_of, grown, AllBelow}
+use Rattle.track_table.proofs.Orders.{same_bytes, not_same, apart}
 
 abbrev pub Entries : Type 0
 Entries = List (ℕ × Held)
@@ -407,202 +399,3 @@ pub rows_pushed : (n : ℕ) (r : Held) (es : Entries)
     → rows_of (es ++ (n, r) ∷ []) ≡ rows_of es ++ r ∷ []
 rows_pushed n r [] = refl
 rows_pushed n r (e ∷ es) = ap (λ l. e.1 ∷ l) (rows_pushed n r es)
-
--- ---- the index
-
-abbrev pub key_cmp : Vec ℕ → Vec ℕ → Ordering
-key_cmp a b = slice_cmp nat_cmp a.items b.items
-
-abbrev pub is_key : List ℕ → Vec ℕ → Bool
-is_key q v = is_eq (slice_cmp nat_cmp q v.items)
-
-key_test : (q : List ℕ) → IsKeyTest (eq_by_cmp key_cmp) (is_key q)
-key_test q x y e =
-    ap (λ z. is_eq (slice_cmp nat_cmp z y.items)) (same_bytes q x.items (texts_ties q x.items ∙ e))
-
-keys_apart : (bs q : List ℕ) → bytes_eq q bs ≡ false → AreApart (is_key bs) (is_key q)
-keys_apart bs q other k e =
-    sym (texts_ties q k.items)
-    ∙ ap (bytes_eq q) (sym (same_bytes bs k.items (texts_ties bs k.items ∙ e))) ∙ other
-
-module _ (bs : List ℕ) (m n : BTreeMap (Vec ℕ) ℕ) (w : Option ℕ) where
-  -- what a key has in the index after one was given an age, or lost it
-  pub age_after : UpdatesBy key_cmp (λ v. slice_cmp nat_cmp bs v.items) m n w → (q : List ℕ)
-      → age_at q n.entries ≡ cond (bytes_eq q bs) w (age_at q m.entries)
-  unfolding KeepsOthers
-  age_after after q = by (bytes_eq q bs) refl
-    where
-      by : (b : Bool) → bytes_eq q bs ≡ b
-          → age_at q n.entries ≡ cond b w (age_at q m.entries)
-      by true e = ap (λ z. age_at z n.entries) (same_bytes q bs e) ∙ after.1
-      by false e = after.3 (is_key q) (key_test q) (keys_apart bs q e)
-
-module _ (key : List ℕ) (es : Entries) (ages : List (Vec ℕ × ℕ)) (is : IsIndexed es ages) where
-  pub row_found : (a : ℕ) → Some a ≡ age_at key ages → RowAt key a es
-  row_found a at = row_at key a es is.ordered (sym (is.found key) ∙ sym at)
-
-  pub age_found : (a : ℕ) → Some a ≡ age_at key ages → age_of key es ≡ Some a
-  age_found a at = sym (is.found key) ∙ sym at
-
-  pub none_found : None ≡ age_at key ages → age_of key es ≡ None
-  none_found at = sym (is.found key) ∙ sym at
-
-pub row_same : (r s : Held) (o : Option Held) → Some r ≡ o → o ≡ Some s → r ≡ s
-row_same r s o e f = let g = e ∙ f in grind arith
-
-pub row_none : {A : Type 0} (s : Held) (o : Option Held) → None ≡ o → o ≡ Some s → A
-row_none s o e f = let g : None ≡ Some s = e ∙ f in absurd (let no : ⊥ = cc in no)
-
--- ---- the rows and their index, after each change
-
-module _ (key : List ℕ) (a : ℕ) (es es2 : Entries) (ages ages2 : BTreeMap (Vec ℕ) ℕ)
-    (is : IsIndexed es ages.entries) (up : IsStrictlySortedBy nat_cmp (keys_of es2)) where
-  -- a row was taken out, and its key of the index
-  pub out_rows : Some a ≡ age_at key ages.entries → es2 ≡ remove_entry (at_age a) es
-      → rows_of es2 ≡ without_key key (rows_of es)
-  out_rows at new =
-      ap rows_of new
-      ∙ rows_removed key a es is.ordered (age_found key es ages.entries is a at)
-      ∙ sym (forgotten_row key (rows_of es) is.table.ordered)
-
-  pub out_indexed : Some a ≡ age_at key ages.entries → es2 ≡ remove_entry (at_age a) es
-      → UpdatesBy key_cmp (λ v. slice_cmp nat_cmp key v.items) ages ages2 None
-      → IsIndexed es2 ages2.entries
-  out_indexed at new after = record {
-    ordered = up;
-    table = subst IsTable (sym (out_rows at new)) (table_without_key key (rows_of es) is.table);
-    found = λ q.
-        age_after key ages ages2 None after q
-        ∙ ap (λ o. cond (bytes_eq q key) None o) (is.found q)
-        ∙ sym (ap (age_of q) new ∙ ages_removed q key a es is.ordered is.table.ordered
-        (age_found key es ages.entries is a at));
-  }
-
-  -- a row was put last, and its key into the index
-  pub put_indexed : (row : Held) → IsTable (rows_of es ++ row ∷ [])
-      → es2 ≡ es ++ (a, row) ∷ [] → key ≡ row.key
-      → HasAge key a ages.entries ages2.entries
-      → IsIndexed es2 ages2.entries
-  put_indexed row table new same after = record {
-    ordered = up;
-    table = subst IsTable (sym (ap rows_of new ∙ rows_pushed a row es)) table;
-    found = λ q.
-        after q
-        ∙ ap (λ k. cond (bytes_eq q k) (Some a) (age_at q ages.entries)) same
-        ∙ ap (λ o. cond (bytes_eq q row.key) (Some a) o) (is.found q)
-        ∙ sym (ap (age_of q) new ∙ ages_pushed q a row es (last_apart row es table.ordered));
-  }
-
-module _ (key : List ℕ) (a : ℕ) (es es2 : Entries) (ages : List (Vec ℕ × ℕ))
-    (is : IsIndexed es ages) (up : IsStrictlySortedBy nat_cmp (keys_of es2))
-    (at : Some a ≡ age_at key ages) where
-  -- a row was changed in its place
-  written : (change : Held → Held) → ((r : Held) → (change r).key ≡ r.key)
-      → IsTable (rows_of es2) → IsWritten a change es es2 → IsIndexed es2 ages
-  written change same table new =
-      let r = row_found key es ages is a at in record {
-        ordered = up;
-        table = table;
-        found = λ q. is.found q ∙ sym (ap (age_of q) (new r.row r.there)
-            ∙ ages_set q a r.row (change r.row) es r.there (same r.row));
-      }
-
-  pub grown_rows : (id : ℕ) → IsWritten a (grown id) es es2
-      → rows_of es2 ≡ remembered id key (rows_of es)
-  grown_rows id new =
-      let r = row_found key es ages is a at in
-      ap rows_of (new r.row r.there)
-      ∙ rows_set key a (grown id r.row) es is.ordered (age_found key es ages is a at)
-      ∙ sym (grown_row key id r.row (rows_of es) r.first)
-
-  pub grown_indexed : (id : ℕ) → IsWritten a (grown id) es es2 → IsIndexed es2 ages
-  grown_indexed id new =
-      written (grown id) (λ r. refl) (subst IsTable (sym (grown_rows id new))
-      (table_remembered id key (rows_of es) is.table)) new
-
-  set_there : (w : Held) (fs : Entries) (r : Held) → lookup (at_age a) fs ≡ Some r
-      → lookup (at_age a) (set_value (at_age a) fs w) ≡ Some w
-  set_there w [] r there = absurd (let no : ⊥ = cc in no)
-  set_there w (e ∷ fs) r there =
-      elim (at_age a e.0) as (λ t. at_age a e.0 ≡ t
-      → cond t (Some e.1) (lookup (at_age a) fs) ≡ Some r
-      → lookup (at_age a) (cond t ((e.0, w) ∷ fs) (e ∷ set_value (at_age a) fs w)) ≡ Some w) [
-        | true ↦ λ t f. ap (λ b. cond b (Some w) (lookup (at_age a) fs)) t
-        | false ↦ λ t f.
-            ap (λ b. cond b (Some e.1) (lookup (at_age a) (set_value (at_age a) fs w))) t
-            ∙ set_there w fs r f
-      ] refl there
-
-  -- whether the row that a connection left is held still
-  still : (id : ℕ) (b : Bool) → IsWritten a (freed_of id) es es2 → IsHeldAt a b es2
-      → (r : Held) → lookup (at_age a) es ≡ Some r → b ≡ is_held (freed_of id r)
-  still id b new held r there =
-      held (freed_of id r) (ap (lookup (at_age a)) (new r there)
-      ∙ set_there (freed_of id r) es r there)
-
-  pub freed_rows : (id : ℕ) → IsWritten a (freed_of id) es es2 → IsHeldAt a true es2
-      → rows_of es2 ≡ released id key (rows_of es)
-  freed_rows id new held =
-      let r = row_found key es ages is a at in
-      ap rows_of (new r.row r.there)
-      ∙ rows_set key a (freed_of id r.row) es is.ordered (age_found key es ages is a at)
-      ∙ sym (freed_row key id r.row (rows_of es) r.first
-      (sym (still id true new held r.row r.there)))
-
-  pub freed_indexed : (id : ℕ) → IsWritten a (freed_of id) es es2 → IsHeldAt a true es2
-      → IsIndexed es2 ages
-  freed_indexed id new held =
-      written (freed_of id) (λ r. refl) (subst IsTable (sym (freed_rows id new held))
-      (table_released id key (rows_of es) is.table)) new
-
-  pub gone_entries : (id : ℕ) (es3 : Entries) → IsWritten a (freed_of id) es es2
-      → es3 ≡ remove_entry (at_age a) es2 → es3 ≡ remove_entry (at_age a) es
-  gone_entries id es3 new out =
-      let r = row_found key es ages is a at in
-      out ∙ ap (remove_entry (at_age a)) (new r.row r.there)
-      ∙ removed_set a (freed_of id r.row) es
-
-  pub gone_rows : (id : ℕ) → IsWritten a (freed_of id) es es2 → IsHeldAt a false es2
-      → released id key (rows_of es) ≡ without_key key (rows_of es)
-  gone_rows id new held =
-      let r = row_found key es ages is a at in
-      gone_row key id r.row (rows_of es) r.first (sym (still id false new held r.row r.there))
-      ∙ sym (forgotten_row key (rows_of es) is.table.ordered)
-
--- the index of rows that stay
-pub indexed_same : (es es2 : Entries) (ages ages2 : List (Vec ℕ × ℕ)) → IsIndexed es ages
-    → IsStrictlySortedBy nat_cmp (keys_of es2) → es2 ≡ es → ages2 ≡ ages → IsIndexed es2 ages2
-indexed_same es es2 ages ages2 is up same index = record {
-  ordered = up;
-  table = subst (λ l. IsTable (rows_of l)) (sym same) is.table;
-  found = λ q. ap (age_at q) index ∙ is.found q ∙ sym (ap (age_of q) same);
-}
-
-pub first_indexed : (e : ℕ × Held) (key : List ℕ) (es es2 : Entries)
-    (ages ages2 : BTreeMap (Vec ℕ) ℕ)
-    → e.1.key ≡ key → IsIndexed es ages.entries → es ≡ e ∷ es2
-    → IsStrictlySortedBy nat_cmp (keys_of es2)
-    → UpdatesBy key_cmp (λ v. slice_cmp nat_cmp key v.items) ages ages2 None
-    → IsIndexed es2 ages2.entries
-first_indexed e key es es2 ages ages2 same is split up after =
-    let table = subst (λ l. IsTable (rows_of l)) split is.table in record {
-      ordered = up;
-      table = record { ordered = table.ordered.2; held = table.held.1 };
-      found = λ q.
-          age_after key ages ages2 None after q
-          ∙ ap (λ k. cond (bytes_eq q k) None (age_at q ages.entries)) (sym same)
-          ∙ ap (λ o. cond (bytes_eq q e.1.key) None o) (is.found q ∙ ap (age_of q) split)
-          ∙ sym (ages_first q e es2 table.ordered);
-    }
-
--- ---- by what a call answered
-
-pub on_result : {A B : Type 0} {P Q R : Type 0} (r : Result A B) → OnOk r P → OnErr r Q
-    → (P → R) → (Q → R) → R
-on_result (Ok x) p q f g = f p
-on_result (Err x) p q f g = g q
-
-module _ {A B : Type 0} {P R : Type 0} where
-  pub on_ok : (r : Result A B) → OnOk r P → (P → R) → OnOk r R
-  on_ok (Ok x) p f = f p
-  on_ok (Err x) p f = tt

@@ -18,15 +18,14 @@ use Rattle.std.specs.List.Sorted.{IsStrictlySortedBy}
 use Rattle.track_table.specs.declared.table.Held.{Held}
 use Rattle.track_table.specs.declared.aside.Parted.{Parted}
 use Rattle.track_table.specs.Table.{holders_of, without_key, without_keys}
-use Rattle.track_table.specs.Order.{AreHeld, AreOrdered, HasNo, IsTable}
+use Rattle.track_table.specs.Order.{AreHeld, AreOrdered, HasNo, IsTable, IsWhole}
 use Rattle.track_table.specs.Places.{nobody, IsPlace, NoneBefore, key_at}
-use Rattle.track_table.specs.Holdings.{IsWhole, KeepsOthers, Sets}
 use Rattle.track_table.specs.Aside.{first_key, parted_of, is_next, put_in, all_put}
 use Rattle.track_table.proofs.Orders.{apart, same_bytes, table_without_key}
 use Rattle.track_table.proofs.Parts.{whole_front, whole_without_key, without_key_parts}
 use Rattle.track_table.proofs.Releases.{itself}
 use Rattle.track_table.proofs.Aged.{forgotten_row, keeps_all, without_first, Above, Entries, at_age}
-use Rattle.track_table.proofs.Aged.{here, not_among, not_less, some_same}
+use Rattle.track_table.proofs.Aged.{here, not_among, some_same}
 
 -- ---- a row that comes back stands where it stood
 
@@ -270,14 +269,14 @@ first_of e (x ∷ es) is = grind arith
 
 -- ---- the whole table, without the row that goes
 
-module _ (limit : ℕ) (xs ys : List Held) (sets : Sets) (is : IsWhole limit xs ys sets)
+module _ (limit : ℕ) (xs ys : List Held) (is : IsWhole limit xs ys)
     (key : List ℕ) where
   module _ (n : ℕ) (at : IsPlace key xs (Some n)) where
     pub front_rows : remove xs n ++ ys ≡ without_key key (xs ++ ys)
     front_rows = removed_at key ys xs n is.table.ordered at.0 at.1 at.2
 
-    pub whole_parted : IsWhole limit (remove xs n) ys sets
-    whole_parted = whole_front limit xs ys sets is (remove xs n)
+    pub whole_parted : IsWhole limit (remove xs n) ys
+    whole_parted = whole_front limit xs ys is (remove xs n)
         (subst IsTable (sym front_rows) (table_without_key key (xs ++ ys) is.table))
 
     pub front_back : (row : Held) (next : Option (List ℕ)) (ps ps2 : List Parted)
@@ -299,9 +298,8 @@ module _ (limit : ℕ) (xs ys : List Held) (sets : Sets) (is : IsWhole limit xs 
     pub behind_rows : xs ++ ys2 ≡ without_key key (xs ++ ys)
     behind_rows = (λ i. none_at key xs none i ++ new i) ∙ sym (without_key_parts key xs ys)
 
-    pub whole_behind : (sets2 : Sets) → KeepsOthers key sets sets2 → IsWhole limit xs ys2 sets2
-    whole_behind sets2 kept =
-        whole_without_key limit xs ys sets is key xs ys2 sets2 (none_at key xs none) new kept
+    pub whole_behind : IsWhole limit xs ys2
+    whole_behind = whole_without_key limit xs ys is key xs ys2 (none_at key xs none) new
 
     pub behind_back : (ps ps2 : List Parted) → ps2 ≡ ps ++ option_to_list (parted_of key ys)
         → all_put ps2 (xs ++ ys2) ≡ all_put ps (xs ++ ys)

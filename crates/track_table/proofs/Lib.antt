@@ -2,6 +2,8 @@ pub mod Lookups
 pub mod Orders
 pub mod Releases
 pub mod Aged
-pub mod Sets
+pub mod Marked
+pub mod Indexes
 pub mod Parts
+pub mod Coverings
 pub mod Asides

@@ -1,6 +1,7 @@
 -- The table at the first row with a key.
 use Rattle.std.proofs.Common.{◌≡◌, ◌<◌, ℕ, List, [], ◌∷◌, true, cond, length, get_or, set}
-use Rattle.std.proofs.Common.{ap, ◌∙◌, arith}
+use Rattle.std.proofs.Common.{ap, sym, ◌∙◌, ◌++◌, ◌+◌, arith, take}
+use Rattle.std.proofs.lemmas.List.{get_or_read, take_more}
 use Prim.Native.Nat.{zero, suc}
 use Rattle.std.specs.Str.{bytes_eq}
 use Rattle.track_table.specs.declared.table.Held.{Held}
@@ -28,3 +29,10 @@ module _ (key : List ℕ) where
       ap (λ b. cond b (grown id r ∷ rs) (r ∷ remembered id key rs)) (before 0 (omega arith))
       ∙ ap (λ l. r ∷ l) (remembered_at id rs n (omega arith) is
       (λ i k. before (suc i) (omega arith)))
+
+-- the keys up to one and the one that was read there
+pub one_more : (keys : List (List ℕ)) (k : ℕ) (x y : List ℕ) → y ≡ x → k < length keys
+    → x ≡ get_or keys k x → take (k + 1) keys ≡ take k keys ++ y ∷ []
+one_more keys k x y same lt is =
+    take_more keys k [] lt
+    ∙ ap (λ z. take k keys ++ z ∷ []) (sym (same ∙ get_or_read keys k x lt is []))

@@ -1,4 +1,4 @@
--- A table in two parts, and the keys of a connection in one of them.
+-- A table in two parts.
 use Rattle.std.proofs.Common.{◌≡◌, ◌==◌, ◌<◌, ◌≤◌, ◌+◌, ◌-◌, ℕ, List, [], ◌∷◌, ◌++◌, Bool, true}
 use Rattle.std.proofs.Common.{false}
 use Rattle.std.proofs.Common.{cond, ◌||◌, ap, sym, ◌∙◌, refl, arith, subst, eq-eqb, inl, inr, not}
@@ -15,14 +15,10 @@ use Rattle.track_table.specs.Table.{holders_of, remembered, released, without_ke
 use Rattle.track_table.specs.Table.{is_held}
 use Rattle.track_table.specs.Table.{without_connection}
 use Rattle.track_table.specs.Places.{NoneBefore, key_at}
-use Rattle.track_table.specs.Order.{HasNo, AreOrdered, IsTable}
-use Rattle.std.specs.Global.{Vec}
-use Rattle.std.specs.Cmp.Lexicographic.{texts_ties}
-use Rattle.track_table.specs.Holdings.{Sets, Covers, Keeps, KeepsBut, KeepsOthers, IsWhole, has}
-use Rattle.track_table.specs.Holdings.{has_key}
+use Rattle.track_table.specs.Order.{HasNo, AreOrdered, IsTable, IsWhole}
 use Rattle.track_table.proofs.Orders.{table_without_key, table_without_connection, table_remembered}
 use Rattle.track_table.proofs.Releases.{table_released}
-use Rattle.track_table.proofs.Orders.{same_bytes, not_same, apart, holders_remembered}
+use Rattle.track_table.proofs.Orders.{same_bytes, not_same, apart}
 use Rattle.track_table.proofs.Releases.{itself, without_same}
 
 module _ (key : List ℕ) where
@@ -98,15 +94,15 @@ no_holders key (r ∷ rs) h =
 abbrev pub held_by : ℕ → List ℕ → Bool
 held_by i hs = list_any (λ h. h == i) hs
 
-left_any : (i id : ℕ) (hs : List ℕ) → held_by i (without_id id hs) ≡ true → held_by i hs ≡ true
+pub left_any : (i id : ℕ) (hs : List ℕ) → held_by i (without_id id hs) ≡ true → held_by i hs ≡ true
 left_any i id [] is = is
 left_any i id (h ∷ hs) is = grind (arith, common_steps, left_any i id hs)
 
-left_none : (id : ℕ) (hs : List ℕ) → held_by id (without_id id hs) ≡ false
+pub left_none : (id : ℕ) (hs : List ℕ) → held_by id (without_id id hs) ≡ false
 left_none id [] = refl
 left_none id (h ∷ hs) = grind (arith, common_steps, left_none id hs)
 
-with_any : (i id : ℕ) (hs : List ℕ) → (i == id) ≡ false → held_by i (with_id id hs) ≡ true
+pub with_any : (i id : ℕ) (hs : List ℕ) → (i == id) ≡ false → held_by i (with_id id hs) ≡ true
     → held_by i hs ≡ true
 with_any i id [] other is = grind (arith, common_steps, eq-eqb, eqb-true, ne_eqb)
 with_any i id (h ∷ hs) other is =
@@ -230,74 +226,6 @@ without_connection_holders q id (r ∷ rs) h =
         (sym (same_bytes q r.key t)) h.1)) ∙ sym e
     gone false t e = refl
 
--- ---- the keys of a connection cover what it holds
-
-module _ (sets sets2 : Sets) (rows : List Held) (covered : Covers sets rows) where
-  pub covers_remembered : (id : ℕ) (key : List ℕ) → Keeps sets sets2 → has id key sets2 ≡ true
-      → Covers sets2 (remembered id key rows)
-  covers_remembered id key kept new i q is =
-      by (bytes_eq q key) refl (sym (ap (held_by i) (holders_remembered q id key rows)) ∙ is)
-    where
-      by : (b : Bool) → bytes_eq q key ≡ b
-          → held_by i (cond b (with_id id (holders_of key rows)) (holders_of q rows)) ≡ true
-          → has i q sets2 ≡ true
-      by true t f = elim (cases_Bool (i == id)) [
-        | inl same ↦ ap (λ n. has n q sets2) (eqb-true i id same)
-            ∙ ap (λ k. has id k sets2) (same_bytes q key t) ∙ new
-        | inr other ↦ ap (λ k. has i k sets2) (same_bytes q key t)
-            ∙ kept i key (covered i key (with_any i id (holders_of key rows) other f))
-      ]
-      by false t f = kept i q (covered i q f)
-
-  pub covers_released : (id : ℕ) (key : List ℕ) → AreOrdered rows → KeepsBut id key sets sets2
-      → Covers sets2 (released id key rows)
-  covers_released id key ordered kept i q is = by (bytes_eq q key) refl
-    where
-      by : (b : Bool) → bytes_eq q key ≡ b → has i q sets2 ≡ true
-      by true t =
-          let own = released_own i id key rows ordered
-          (ap (λ k. held_by i (holders_of k (released id key rows))) (sym (same_bytes q key t))
-          ∙ is) in
-          kept i q (λ same k. let y = eq-eqb i id same in let x = own.0 in
-          let no : ⊥ = cc in no)
-          (covered i q (ap (λ k. held_by i (holders_of k rows)) (same_bytes q key t) ∙ own.1))
-      by false t =
-          kept i q (λ same k. let no : ⊥ = cc in no)
-          (covered i q (sym (ap (held_by i) (released_other q key id rows t)) ∙ is))
-
-  pub covers_without_key : (key : List ℕ) → KeepsOthers key sets sets2
-      → Covers sets2 (without_key key rows)
-  covers_without_key key kept i q is =
-      by (bytes_eq q key) refl (sym (ap (held_by i) (without_key_holders q key rows)) ∙ is)
-    where
-      by : (b : Bool) → bytes_eq q key ≡ b
-          → held_by i (cond b [] (holders_of q rows)) ≡ true → has i q sets2 ≡ true
-      by true t f = absurd (let no : ⊥ = cc in no)
-      by false t f = kept i q t (covered i q f)
-
-  pub covers_without_connection : (id : ℕ) → AreOrdered rows
-      → ((i : ℕ) (k : List ℕ) → (i ≡ id → ⊥) → has i k sets ≡ true → has i k sets2 ≡ true)
-      → Covers sets2 (without_connection id rows)
-  covers_without_connection id ordered kept i q is =
-      let left : held_by i (without_id id (holders_of q rows)) ≡ true =
-      sym (ap (held_by i) (without_connection_holders q id rows ordered)) ∙ is in
-      kept i q (λ same.
-      let n = left_none id (holders_of q rows) in
-      let m : held_by id (without_id id (holders_of q rows)) ≡ true =
-      ap (λ x. held_by x (without_id id (holders_of q rows))) (sym same) ∙ left in
-      let no : ⊥ = cc in no)
-      (covered i q (left_any i id (holders_of q rows) left))
-
-pub covers_first : (sets sets2 : Sets) (r : Held) (rows : List Held) → Covers sets (r ∷ rows)
-    → AreOrdered (r ∷ rows) → KeepsOthers r.key sets sets2 → Covers sets2 rows
-covers_first sets sets2 r rows covered ordered kept i q is = by (bytes_eq q r.key) refl
-  where
-    by : (b : Bool) → bytes_eq q r.key ≡ b → has i q sets2 ≡ true
-    by true t = none_held i (holders_of q rows) (no_holders q rows
-        (subst (λ k. HasNo k rows) (sym (same_bytes q r.key t)) ordered.1)) is
-    by false t = kept i q t (covered i q
-        (ap (λ b. held_by i (cond b r.holders (holders_of q rows))) t ∙ is))
-
 -- ---- all keys of a connection are released
 
 twice : (id : ℕ) (hs : List ℕ) → without_id id (without_id id hs) ≡ without_id id hs
@@ -346,35 +274,6 @@ all_left id (r ∷ rs) is none =
     by q false t =
         sym (ap (λ b. held_by id (cond b r.holders (holders_of q rs))) t) ∙ none q
 
-pub still_there : (id : ℕ) (v : Vec ℕ) (ks : List (Vec ℕ)) (rows : List Held) → AreOrdered rows
-    → (q : List ℕ) → (held_by id (holders_of q rows) ≡ true → has_key q (v ∷ ks) ≡ true)
-    → held_by id (holders_of q (released id v.items rows)) ≡ true → has_key q ks ≡ true
-still_there id v ks rows ordered q all is = by (bytes_eq q v.items) refl
-  where
-    by : (b : Bool) → bytes_eq q v.items ≡ b → has_key q ks ≡ true
-    by true t =
-        let own = (released_own id id v.items rows ordered
-        (ap (λ k. held_by id (holders_of k (released id v.items rows)))
-        (sym (same_bytes q v.items t)) ∙ is)).0 in
-        let same = eq-eqb id id refl in
-        absurd (let no : ⊥ = cc in no)
-    by false t =
-        sym (ap (λ b. b || has_key q ks) (sym (texts_ties q v.items) ∙ t))
-        ∙ all (sym (ap (held_by id) (released_other q v.items id rows t)) ∙ is)
-
-pub no_keys : (ks : List (Vec ℕ)) → (0 < length ks → false ≡ true) → ks ≡ []
-no_keys [] none = refl
-no_keys (k ∷ ks) none = let f : false ≡ true = none (omega arith) in absurd (let no : ⊥ = cc in no)
-
-pub none_more : (id : ℕ) (ks : List (Vec ℕ)) (rows : List Held) → ks ≡ []
-    → ((q : List ℕ) → held_by id (holders_of q rows) ≡ true → has_key q ks ≡ true)
-    → (q : List ℕ) → held_by id (holders_of q rows) ≡ false
-none_more id ks rows empty all q = elim (cases_Bool (held_by id (holders_of q rows))) [
-  | inl t ↦ let f : false ≡ true = sym (ap (has_key q) empty) ∙ all q t in
-      absurd (let no : ⊥ = cc in no)
-  | inr f ↦ f
-]
-
 -- ---- how many rows are left
 
 pub length_parts : (xs ys : List Held) → length (xs ++ ys) ≡ length xs + length ys
@@ -402,7 +301,7 @@ connection_fewer id (r ∷ rs) = grind (arith, common_steps, connection_fewer id
 
 -- ---- the whole table after each change
 
-module _ (limit : ℕ) (xs ys : List Held) (sets : Sets) (is : IsWhole limit xs ys sets) where
+module _ (limit : ℕ) (xs ys : List Held) (is : IsWhole limit xs ys) where
   pub whole_table : IsTable ys
   whole_table = table_back xs ys is.table
 
@@ -432,74 +331,56 @@ module _ (limit : ℕ) (xs ys : List Held) (sets : Sets) (is : IsWhole limit xs 
       sym (remembered_parts key id xs ys ∙ ap (λ b. cond b (remembered id key xs ++ ys)
       (xs ++ remembered id key ys)) (in_none key xs none))
 
-  pub whole_front : (xs2 : List Held) → IsTable (xs2 ++ ys) → IsWhole limit xs2 ys sets
-  whole_front xs2 table = record { table = table; most = is.most; covered = is.covered }
+  pub whole_front : (xs2 : List Held) → IsTable (xs2 ++ ys) → IsWhole limit xs2 ys
+  whole_front xs2 table = record { table = table; most = is.most }
 
-  pub whole_released : (id : ℕ) (key : List ℕ) (ys2 : List Held) (sets2 : Sets)
-      → NoneBefore key xs (length xs) → ys2 ≡ released id key ys → KeepsBut id key sets sets2
-      → IsWhole limit xs ys2 sets2
-  whole_released id key ys2 sets2 none new kept = record {
+  pub whole_released : (id : ℕ) (key : List ℕ) (ys2 : List Held)
+      → NoneBefore key xs (length xs) → ys2 ≡ released id key ys
+      → IsWhole limit xs ys2
+  whole_released id key ys2 none new = record {
     table = subst IsTable (sym (ap (λ l. xs ++ l) new ∙ released_behind id key none))
         (table_released id key (xs ++ ys) is.table);
     most =
         let fewer = released_fewer id key ys in
         let same = ap length new in
         omega (arith, is.most, fewer, same);
-    covered = subst (Covers sets2) (sym new)
-        (covers_released sets sets2 ys is.covered id key whole_table.ordered kept);
   }
 
-  pub whole_without_key : (key : List ℕ) (xs2 ys2 : List Held) (sets2 : Sets)
-      → xs2 ≡ without_key key xs → ys2 ≡ without_key key ys → KeepsOthers key sets sets2
-      → IsWhole limit xs2 ys2 sets2
-  whole_without_key key xs2 ys2 sets2 front new kept = record {
+  pub whole_without_key : (key : List ℕ) (xs2 ys2 : List Held)
+      → xs2 ≡ without_key key xs → ys2 ≡ without_key key ys
+      → IsWhole limit xs2 ys2
+  whole_without_key key xs2 ys2 front new = record {
     table = subst IsTable (sym ((λ i. front i ++ new i) ∙ sym (without_key_parts key xs ys)))
         (table_without_key key (xs ++ ys) is.table);
     most =
         let fewer = key_fewer key ys in
         let same = ap length new in
         omega (arith, is.most, fewer, same);
-    covered = subst (Covers sets2) (sym new)
-        (covers_without_key sets sets2 ys is.covered key kept);
   }
 
-  pub whole_without_connection : (id : ℕ) (xs2 ys2 : List Held) (sets2 : Sets)
+  pub whole_without_connection : (id : ℕ) (xs2 ys2 : List Held)
       → xs2 ≡ without_connection id xs → ys2 ≡ without_connection id ys
-      → ((i : ℕ) (k : List ℕ) → (i ≡ id → ⊥) → has i k sets ≡ true → has i k sets2 ≡ true)
-      → IsWhole limit xs2 ys2 sets2
-  whole_without_connection id xs2 ys2 sets2 front new kept = record {
+      → IsWhole limit xs2 ys2
+  whole_without_connection id xs2 ys2 front new = record {
     table = subst IsTable (sym ((λ i. front i ++ new i) ∙ sym (without_connection_parts id xs ys)))
         (table_without_connection id (xs ++ ys) is.table);
     most =
         let fewer = connection_fewer id ys in
         let same = ap length new in
         omega (arith, is.most, fewer, same);
-    covered = subst (Covers sets2) (sym new)
-        (covers_without_connection sets sets2 ys is.covered id whole_table.ordered kept);
   }
-
-  -- a connection that has no keys holds none of the rows
-  pub none_of : (id : ℕ) → ((k : List ℕ) → has id k sets ≡ false) → ys ≡ without_connection id ys
-  none_of id none = sym (all_left id ys whole_table left)
-    where
-      left : (q : List ℕ) → held_by id (holders_of q ys) ≡ false
-      left q = elim (cases_Bool (held_by id (holders_of q ys))) [
-        | inl t ↦ let a = is.covered id q t in let b = none q in absurd (let no : ⊥ = cc in no)
-        | inr f ↦ f
-      ]
 
   pub over_front : (n : ℕ) → n ≡ length (xs ++ ys) - limit → n ≤ length xs
   over_front n e = let all = length_parts xs ys in omega (arith, e, all, is.most)
 
   -- the connection holds the key too, in a table of no more keys than the limit
-  pub whole_remembered : (id : ℕ) (key : List ℕ) (xs2 ys2 : List Held) (sets2 : Sets)
+  pub whole_remembered : (id : ℕ) (key : List ℕ) (xs2 ys2 : List Held)
       → NoneBefore key xs (length xs) → xs2 ≡ xs → ys2 ≡ remembered id key ys
-      → Covers sets2 ys2 → length ys2 ≤ limit → IsWhole limit xs2 ys2 sets2
-  whole_remembered id key xs2 ys2 sets2 none front new covered most = record {
+      → length ys2 ≤ limit → IsWhole limit xs2 ys2
+  whole_remembered id key xs2 ys2 none front new most = record {
     table = subst IsTable (sym ((λ i. front i ++ new i) ∙ remembered_behind id key none))
         (table_remembered id key (xs ++ ys) is.table);
     most = most;
-    covered = covered;
   }
 
   module _ (id : ℕ) (key : List ℕ) (r : Held) (xs3 ys2 ys3 : List Held)
@@ -515,17 +396,11 @@ module _ (limit : ℕ) (xs ys : List Held) (sets : Sets) (is : IsWhole limit xs 
         over (z ∷ zs) = ap (λ l. z ∷ l) (over zs)
 
     -- and the oldest of the keys that are found went to those that stand by themselves
-    pub whole_retired : (sets2 sets3 : Sets) → Covers sets2 ys2 → KeepsOthers r.key sets2 sets3
-        → IsWhole limit xs3 ys3 sets3
-    whole_retired sets2 sets3 covered kept =
-        let table = subst IsTable (sym retired_rows) (table_remembered id key (xs ++ ys) is.table)
-        in
-        let split = subst AreOrdered (sym new ∙ first)
-        (table_remembered id key ys whole_table).ordered in record {
-          table = table;
-          most =
-              let one = remembered_one id key ys in
-              let same = ap length (sym first ∙ new) in
-              omega (arith, is.most, one, same);
-          covered = covers_first sets2 sets3 r ys3 (subst (Covers sets2) first covered) split kept;
-        }
+    pub whole_retired : IsWhole limit xs3 ys3
+    whole_retired = record {
+      table = subst IsTable (sym retired_rows) (table_remembered id key (xs ++ ys) is.table);
+      most =
+          let one = remembered_one id key ys in
+          let same = ap length (sym first ∙ new) in
+          omega (arith, is.most, one, same);
+    }

@@ -1,15 +1,15 @@
--- Rows by their ages, the oldest first, and an index of the keys' ages that agrees with them.
+-- Rows by their ages, the oldest first, and the ages of keys, which agree with them.
 use Rattle.std.specs.Prelude.{◌≡◌, ◌<◌, Bool, ℕ, List, [], ◌∷◌, Option, Some, None, map}
 use Rattle.std.specs.Prelude.{if◌then◌else◌}
 use Rattle.std.specs.Global.{Vec}
 use Rattle.std.specs.Str.{bytes_eq}
 use Rattle.std.specs.Ordering.{nat_cmp}
-use Rattle.std.specs.Cmp.Lexicographic.{slice_cmp}
 use Rattle.std.specs.List.Sorted.{IsStrictlySortedBy}
 use Rattle.std.specs.Map.{keys_of, lookup, set_value}
 use Rattle.std.specs.BTreeMap.{is_at}
 use Rattle.track_table.specs.declared.table.Held.{Held}
 use Rattle.id_set.specs.Ids.{with_id}
+use Rattle.track_table.specs.Marks.{age_at}
 use Rattle.track_table.specs.Order.{IsTable}
 use Rattle.track_table.specs.Table.{is_held}
 
@@ -21,19 +21,11 @@ abbrev pub age_of : List ℕ → List (ℕ × Held) → Option ℕ
 age_of key [] = None
 age_of key (e ∷ es) = if bytes_eq key e.1.key then Some e.0 else age_of key es
 
--- what the index says of a key
-abbrev pub age_at : List ℕ → List (Vec ℕ × ℕ) → Option ℕ
-age_at key ages = lookup (is_at (λ v. slice_cmp nat_cmp key v.items)) ages
-
--- the key has this age, and each other key what it had
-abbrev pub HasAge : List ℕ → ℕ → List (Vec ℕ × ℕ) → List (Vec ℕ × ℕ) → Type 0
-HasAge key age old new =
-    (q : List ℕ) → age_at q new ≡ (if bytes_eq q key then Some age else age_at q old)
-
-pub record IsIndexed (es : List (ℕ × Held)) (ages : List (Vec ℕ × ℕ)) : Type 0 where
+pub record IsIndexed (es : List (ℕ × Held)) (marks : List (ℕ × ℕ)) (others : List (Vec ℕ × ℕ))
+    : Type 0 where
   pub ordered : IsStrictlySortedBy nat_cmp (keys_of es)
   pub table : IsTable (rows_of es)
-  pub found : (key : List ℕ) → age_at key ages ≡ age_of key es
+  pub found : (key : List ℕ) → age_at key es marks others ≡ age_of key es
 
 abbrev pub AllBelow : ℕ → List (ℕ × Held) → Type 0
 AllBelow n [] = Unit {0}

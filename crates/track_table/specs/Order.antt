@@ -1,5 +1,5 @@
 -- What holds of every table: each key is there once and is held, and holders ascend.
-use Rattle.std.specs.Prelude.{◌≡◌, ◌<◌, ℕ, List, [], ◌∷◌, false, length}
+use Rattle.std.specs.Prelude.{◌≡◌, ◌<◌, ◌≤◌, ◌++◌, ℕ, List, [], ◌∷◌, false, length}
 use Rattle.std.specs.Prelude.{if◌then◌else◌}
 use Rattle.std.specs.Str.{bytes_eq}
 use Rattle.id_set.specs.Ids.{Ascend, with_id}
@@ -21,6 +21,11 @@ AreHeld (r ∷ rs) = (0 < length r.holders) × AreHeld rs
 pub record IsTable (rows : List Held) : Type 0 where
   pub ordered : AreOrdered rows
   pub held : AreHeld rows
+
+-- The oldest rows stand by themselves, and those past the limit are among them.
+pub record IsWhole (limit : ℕ) (oldest young : List Held) : Type 0 where
+  pub table : IsTable (oldest ++ young)
+  pub most : length young ≤ limit
 
 -- Remembering a key changes its own holders alone: the connection is among them, in its place.
 abbrev pub HoldersGrow : Type 0

@@ -1,36 +1,37 @@
-//! The keys of each connection.
-ghost use Rattle.std.specs.Prelude.{◌≡◌, ℕ, List, true, false, OnOk};
+//! The ages of the rows that each connection holds.
+ghost use Rattle.std.specs.Prelude.{◌≡◌, ◌<◌, ℕ, true, false, length, slice_index_or, OnOk};
 ghost use Rattle.std.specs.Option.{option_map_or};
-ghost use Rattle.std.specs.Str.{bytes_eq};
-ghost use Rattle.track_table.specs.Holdings.{Keeps, KeepsBut, has, has_key};
+ghost use Rattle.track_table.specs.Holdings.{Keeps, KeepsBut, KeepsOthers, has, has_age};
 
 use resp_value::NoMemory;
 use std::alloc::Global;
 use std::collections::{BTreeMap, BTreeSet};
 
-/// The keys of each connection that has any.
+/// The ages of each connection that has any.
 #[derive(Drop)]
 pub struct Holdings {
     alloc: Global,
-    keys: BTreeMap<u64, BTreeSet<Vec<u8>>>,
+    ages: BTreeMap<u64, BTreeSet<u64>>,
 }
 
-fn add_key(keys: &mut BTreeSet<Vec<u8>>, key: Vec<u8>) -> Result<(), NoMemory>
-    ensures ok { OnOk result (has_key key.items keys.new.keys ≡ true) }
-    ensures kept { (k : List ℕ) → has_key k keys.old.keys ≡ true → has_key k keys.new.keys ≡ true }
+fn add_age(ages: &mut BTreeSet<u64>, age: u64) -> Result<(), NoMemory>
+    ensures ok { OnOk result (has_age age ages.new.keys ≡ true) }
+    ensures kept { (a : ℕ) → has_age a ages.old.keys ≡ true → has_age a ages.new.keys ≡ true }
 {
-    keys.insert(key)?;
+    ages.insert(age)?;
     Ok(())
 }
 
-// Whether any key is left.
-fn remove_key(keys: &mut BTreeSet<Vec<u8>>, key: &[u8]) -> bool
-    ensures kept { (k : List ℕ) → bytes_eq k key.now ≡ false → has_key k keys.old.keys ≡ true
-        → has_key k keys.new.keys ≡ true }
-    ensures none { result ≡ false → (k : List ℕ) → has_key k keys.new.keys ≡ false }
+// Whether any age is left.
+fn remove_age(ages: &mut BTreeSet<u64>, age: u64) -> bool
+    ensures kept { (a : ℕ) → (a ≡ age → ⊥) → has_age a ages.old.keys ≡ true
+        → has_age a ages.new.keys ≡ true }
+    ensures gone { has_age age ages.new.keys ≡ false }
+    ensures less { (a : ℕ) → has_age a ages.old.keys ≡ false → has_age a ages.new.keys ≡ false }
+    ensures none { result ≡ false → (a : ℕ) → has_age a ages.new.keys ≡ false }
 {
-    let _ = keys.remove(key);
-    !keys.is_empty()
+    let _ = ages.remove(&age);
+    !ages.is_empty()
 }
 
 impl Holdings {
@@ -38,50 +39,63 @@ impl Holdings {
     pub fn new(alloc: Global) -> Holdings {
         Holdings {
             alloc,
-            keys: BTreeMap::new(alloc),
+            ages: BTreeMap::new(alloc),
         }
     }
 
-    /// The key is among those of the connection.
-    pub fn add(&mut self, id: u64, key: &[u8]) -> Result<(), NoMemory>
-        ensures ok { OnOk result (has id key.now self.new.keys.entries ≡ true) }
-        ensures kept { Keeps self.old.keys.entries self.new.keys.entries }
+    /// The age is among those of the connection.
+    pub fn add(&mut self, id: u64, age: u64) -> Result<(), NoMemory>
+        ensures ok { OnOk result (has id age self.new.ages.entries ≡ true) }
+        ensures kept { Keeps self.old.ages.entries self.new.ages.entries }
     {
-        let key = Vec::from_slice(self.alloc, key)?;
-        match self.keys.get_mut(&id) {
-            Some(keys) => add_key(keys, key),
+        match self.ages.get_mut(&id) {
+            Some(ages) => add_age(ages, age),
             None => {
-                let mut keys = BTreeSet::new(self.alloc);
-                add_key(&mut keys, key)?;
-                self.keys.insert(id, keys)?;
+                let mut ages = BTreeSet::new(self.alloc);
+                add_age(&mut ages, age)?;
+                self.ages.insert(id, ages)?;
                 Ok(())
             }
         }
     }
 
-    /// The key is no more among those of the connection. It takes no memory.
-    pub fn remove(&mut self, id: u64, key: &[u8])
-        ensures { KeepsBut id key.now self.old.keys.entries self.new.keys.entries }
+    /// The age is no more among those of the connection. It takes no memory.
+    pub fn remove(&mut self, id: u64, age: u64)
+        ensures kept { KeepsBut id age self.old.ages.entries self.new.ages.entries }
+        ensures gone { has id age self.new.ages.entries ≡ false }
+        ensures less { (i a : ℕ) → has i a self.old.ages.entries ≡ false
+            → has i a self.new.ages.entries ≡ false }
     {
-        if let Some(keys) = self.keys.get_mut(&id) {
-            if !remove_key(keys, key) {
-                let _ = self.keys.remove(&id);
+        if let Some(ages) = self.ages.get_mut(&id) {
+            if !remove_age(ages, age) {
+                let _ = self.ages.remove(&id);
             }
         }
     }
 
-    /// The keys of a connection, which has none any more. It takes no memory.
-    pub fn take(&mut self, id: u64) -> Option<BTreeSet<Vec<u8>>>
-        ensures keys { (k : List ℕ) → has id k self.old.keys.entries
-            ≡ option_map_or (λ s. has_key k s.keys) result false }
-        ensures others { (i : ℕ) (k : List ℕ) → (i ≡ id → ⊥)
-            → has i k self.old.keys.entries ≡ true → has i k self.new.keys.entries ≡ true }
+    /// The age is among those of no connection that holds its row. It takes no memory.
+    pub fn remove_all(&mut self, holders: &[u64], age: u64)
+        ensures kept { KeepsOthers age self.old.ages.entries self.new.ages.entries }
+        ensures gone { (n : ℕ) → n < length holders.now
+            → has (slice_index_or holders.now n 0) age self.new.ages.entries ≡ false }
     {
-        self.keys.remove(&id)
+        for (place, id) in holders.iter().enumerate() {
+            self.remove(*id, age);
+        }
+    }
+
+    /// The ages of a connection, which has none any more. It takes no memory.
+    pub fn take(&mut self, id: u64) -> Option<BTreeSet<u64>>
+        ensures ages { (a : ℕ) → has id a self.old.ages.entries
+            ≡ option_map_or (λ s. has_age a s.keys) result false }
+        ensures others { (i a : ℕ) → (i ≡ id → ⊥)
+            → has i a self.old.ages.entries ≡ true → has i a self.new.ages.entries ≡ true }
+    {
+        self.ages.remove(&id)
     }
 
     /// It takes no memory.
     pub fn clear(&mut self) {
-        self.keys.clear();
+        self.ages.clear();
     }
 }

@@ -4,6 +4,7 @@
 mod aside;
 mod holdings;
 mod laws;
+mod marks;
 mod rows;
 mod table;
 

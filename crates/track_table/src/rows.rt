@@ -1,47 +1,56 @@
 //! Rows in order of age, of which each is found by its key.
 ghost use Rattle.std.specs.Prelude.{◌≡◌, ◌++◌, ◌∷◌, [], OnOk, OnErr, IfSome, IfNone};
 ghost use Rattle.std.specs.Prelude.{◌<◌, ◌≤◌, ◌+◌, ◌==◌, ◌^◌, IfOk, length, option_to_list};
-ghost use Rattle.std.specs.Prelude.{vec_capacity, vec_len};
+ghost use Rattle.std.specs.Prelude.{vec_capacity, vec_len, ℕ, true, false};
 ghost use Rattle.std.specs.List.{list_any};
 ghost use Rattle.std.specs.BTreeMap.{IsOrdered, is_at};
 ghost use Rattle.std.specs.Map.{remove_entry};
 ghost use Rattle.std.specs.Ordering.{nat_cmp};
 ghost use Rattle.std.specs.declared.ops.Bound.TheVariants.{Excluded, Unbounded};
 ghost use Rattle.std.specs.BTreeMap.Range.{entries_between};
-ghost use Rattle.track_table.specs.Aged.{AllBelow, HasAge, IsHeldAt, IsWritten, grown, rows_of};
+ghost use Rattle.track_table.specs.Aged.{AllBelow, IsHeldAt, IsIndexed, IsWritten, grown, rows_of};
+ghost use Rattle.track_table.specs.Marks.{IsIn, IsOut, IsPut};
+ghost use Rattle.track_table.specs.Holdings.{HoldsLess, KeepsOthers, has_age, holds_at};
 ghost use Rattle.track_table.specs.Aside.{first_key, parted_of};
 ghost use Rattle.track_table.specs.Table.{freed_of};
 ghost use Rattle.id_set.specs.Ids.{Ascend};
 ghost use Rattle.track_table.specs.Order.{IsTable};
-ghost use Rattle.track_table.specs.Table.{holders_of, released, remembered, without_key};
+ghost use Rattle.track_table.specs.Table.{holders_of, released, remembered, without_connection};
+ghost use Rattle.track_table.specs.Table.{without_key};
 
 use super::aside::Parted;
+use super::holdings::Holdings;
+use super::marks::{age_of, drop_age, put_age};
 use super::table::Held;
 use id_set::IdSet;
 use resp_value::{NoMemory, Octets};
 use std::alloc::Global;
-use std::collections::BTreeMap;
+use std::collections::{BTreeMap, BTreeSet};
 use std::marker::Model;
 use std::ops::Bound;
 
-/// Rows by age, with the age of each key.
+/// Rows by age, with what the age of each key is found by, and the ages of each connection.
 #[derive(Drop)]
 pub struct AgedRows {
     alloc: Global,
     rows: BTreeMap<u64, Held>,
-    ages: BTreeMap<Vec<u8>, u64>,
+    marks: BTreeMap<u64, u64>,
+    others: BTreeMap<Vec<u8>, u64>,
+    held: Holdings,
 }
 
 impl Model for AgedRows {
     ghost use Rattle.std.specs.Prelude.{List};
     ghost use Rattle.track_table.specs.declared.table.Held.{Held};
-    ghost use Rattle.track_table.specs.Aged.{IsIndexed, rows_of};
+    ghost use Rattle.track_table.specs.Aged.{rows_of};
+    ghost use Rattle.track_table.specs.Holdings.{IsKept};
 
     ghost Value = { List Held };
 
     ghost view = { λ a. rows_of a.rows.entries };
 
-    ghost invariant = { λ a. IsIndexed a.rows.entries a.ages.entries };
+    ghost invariant = { λ a.
+        IsKept a.rows.entries a.marks.entries a.others.entries a.held.ages.entries };
 }
 
 // An age above those of all rows.
@@ -57,6 +66,7 @@ fn next_age(rows: &BTreeMap<u64, Held>) -> Option<u64>
 fn put_last(rows: &mut BTreeMap<u64, Held>, age: u64, row: Held) -> Result<(), NoMemory>
     requires { AllBelow age rows.old.entries }
     ensures ok { OnOk result (rows.new.entries ≡ rows.old.entries ++ (age, row) ∷ []) }
+    ensures found { OnOk result (IsIn age row rows.old.entries rows.new.entries) }
     ensures err { OnErr result (rows.new.entries ≡ rows.old.entries) }
     ensures order { IsOrdered nat_cmp rows.new }
 {
@@ -64,16 +74,38 @@ fn put_last(rows: &mut BTreeMap<u64, Held>, age: u64, row: Held) -> Result<(), N
     Ok(())
 }
 
-fn put_age(ages: &mut BTreeMap<Vec<u8>, u64>, key: Vec<u8>, age: u64) -> Result<(), NoMemory>
-    ensures ok { OnOk result (HasAge key.items age ages.old.entries ages.new.entries) }
-    ensures err { OnErr result (ages.new.entries ≡ ages.old.entries) }
+// The row of the key goes last, in its age.
+fn put_row(
+    alloc: Global,
+    rows: &mut BTreeMap<u64, Held>,
+    marks: &mut BTreeMap<u64, u64>,
+    others: &mut BTreeMap<Vec<u8>, u64>,
+    row: Held,
+    key: &[u8],
+    age: u64,
+) -> Result<(), NoMemory>
+    requires { AllBelow age rows.old.entries }
+    ensures ok { OnOk result (rows.new.entries ≡ rows.old.entries ++ (age, row) ∷ []) }
+    ensures found { OnOk result (IsIn age row rows.old.entries rows.new.entries) }
+    ensures put { OnOk result (IsPut key.now age marks.old.entries marks.new.entries
+        others.old.entries others.new.entries) }
+    ensures err { OnErr result ((rows.new.entries ≡ rows.old.entries)
+        × (marks.new.entries ≡ marks.old.entries) × (others.new.entries ≡ others.old.entries)) }
+    ensures order { IsOrdered nat_cmp rows.new }
 {
-    ages.insert(key, age)?;
-    Ok(())
+    put_last(rows, age, row)?;
+    match put_age(alloc, marks, others, key, age) {
+        Ok(()) => Ok(()),
+        Err(_) => {
+            take_out(rows, age);
+            Err(NoMemory)
+        }
+    }
 }
 
 fn take_out(rows: &mut BTreeMap<u64, Held>, age: u64)
     ensures entries { rows.new.entries ≡ remove_entry (is_at (nat_cmp age)) rows.old.entries }
+    ensures found { IsOut age rows.old.entries rows.new.entries }
     ensures order { IsOrdered nat_cmp rows.new }
 {
     let _ = rows.remove(&age);
@@ -105,6 +137,63 @@ fn take_holder(rows: &mut BTreeMap<u64, Held>, age: u64, id: u64) -> bool
     }
 }
 
+// The connection holds the row of this age no more.
+fn release_at(
+    rows: &mut BTreeMap<u64, Held>,
+    marks: &mut BTreeMap<u64, u64>,
+    others: &mut BTreeMap<Vec<u8>, u64>,
+    id: u64,
+    age: u64,
+)
+    requires { IsIndexed rows.old.entries marks.old.entries others.old.entries }
+    ensures indexed { IsIndexed rows.new.entries marks.new.entries others.new.entries }
+    ensures rows { without_connection id (rows_of rows.new.entries)
+        ≡ without_connection id (rows_of rows.old.entries) }
+    ensures less { HoldsLess rows.old.entries rows.new.entries }
+    ensures gone { holds_at id age rows.new.entries ≡ false }
+{
+    let Some(_) = rows.get(&age) else {
+        return;
+    };
+    if take_holder(rows, age, id) {
+        return;
+    }
+    if let Some(row) = rows.remove(&age) {
+        drop_age(marks, others, row.key(), age);
+    }
+}
+
+// The connection holds none of the rows, of which it may hold those of these ages.
+fn release_ages(
+    rows: &mut BTreeMap<u64, Held>,
+    marks: &mut BTreeMap<u64, u64>,
+    others: &mut BTreeMap<Vec<u8>, u64>,
+    id: u64,
+    ages: BTreeSet<u64>,
+)
+    requires indexed { IsIndexed rows.old.entries marks.old.entries others.old.entries }
+    requires all { (a : ℕ) → holds_at id a rows.old.entries ≡ true → has_age a ages.keys ≡ true }
+    ensures indexed { IsIndexed rows.new.entries marks.new.entries others.new.entries }
+    ensures rows { rows_of rows.new.entries ≡ without_connection id (rows_of rows.old.entries) }
+    ensures less { HoldsLess rows.old.entries rows.new.entries }
+    ensures gone { (a : ℕ) → holds_at id a rows.new.entries ≡ false }
+{
+    let mut left = ages;
+    'ages: while let Some(age) = left.pop_first() {
+        release_at(rows, marks, others, id, age);
+    }
+}
+
+// The age is among those of nobody that holds its row.
+fn drop_held(rows: &BTreeMap<u64, Held>, held: &mut Holdings, age: u64)
+    ensures { KeepsOthers age held.old.ages.entries held.new.ages.entries }
+{
+    match rows.get(&age) {
+        Some(row) => held.remove_all(row.holders(), age),
+        None => {}
+    }
+}
+
 // A copy of the key of the row that is next in age.
 fn key_behind(rows: &BTreeMap<u64, Held>, age: u64) -> Result<Option<Octets>, NoMemory>
     ensures { IfOk result (λ key. key
@@ -124,7 +213,9 @@ impl AgedRows {
         AgedRows {
             alloc,
             rows: BTreeMap::new(alloc),
-            ages: BTreeMap::new(alloc),
+            marks: BTreeMap::new(alloc),
+            others: BTreeMap::new(alloc),
+            held: Holdings::new(alloc),
         }
     }
 
@@ -142,8 +233,8 @@ impl AgedRows {
         ensures list { result.now ≡ holders_of key.now self.now }
         ensures ascending { Ascend result.now }
     {
-        match self.ages.get(key) {
-            Some(age) => match self.rows.get(age) {
+        match age_of(&self.rows, &self.marks, &self.others, key) {
+            Some(age) => match self.rows.get(&age) {
                 Some(row) => row.holders(),
                 None => &[],
             },
@@ -167,21 +258,31 @@ impl AgedRows {
         }
     }
 
-    /// The row goes last.
-    pub fn push(&mut self, row: Held) -> Result<(), NoMemory>
-        requires { IsTable (self.old ++ row ∷ []) }
+    // The connection holds a key that nobody held.
+    fn push(&mut self, id: u64, row: Held, key: &[u8]) -> Result<(), NoMemory>
+        requires key { key.now ≡ row.key }
+        requires holders { row.holders ≡ id ∷ [] }
+        requires table { IsTable (self.old ++ row ∷ []) }
         ensures ok { OnOk result (self.new ≡ self.old ++ row ∷ []) }
         ensures err { OnErr result (self.new ≡ self.old) }
     {
-        let key = Vec::from_slice(self.alloc, row.key())?;
         let Some(age) = next_age(&self.rows) else {
             return Err(NoMemory);
         };
-        put_last(&mut self.rows, age, row)?;
-        match put_age(&mut self.ages, key, age) {
+        self.held.add(id, age)?;
+        let rows = &mut self.rows;
+        match put_row(
+            self.alloc,
+            rows,
+            &mut self.marks,
+            &mut self.others,
+            row,
+            key,
+            age,
+        ) {
             Ok(()) => Ok(()),
             Err(_) => {
-                take_out(&mut self.rows, age);
+                self.held.remove(id, age);
                 Err(NoMemory)
             }
         }
@@ -192,13 +293,25 @@ impl AgedRows {
         ensures ok { OnOk result (self.new ≡ remembered id key.now self.old) }
         ensures err { OnErr result (self.new ≡ self.old) }
     {
-        match self.ages.get(key) {
-            Some(age) => add_holder(&mut self.rows, *age, id),
+        if self.holds(id, key) {
+            return Ok(());
+        }
+        match age_of(&self.rows, &self.marks, &self.others, key) {
+            Some(age) => {
+                self.held.add(id, age)?;
+                match add_holder(&mut self.rows, age, id) {
+                    Ok(()) => Ok(()),
+                    Err(_) => {
+                        self.held.remove(id, age);
+                        Err(NoMemory)
+                    }
+                }
+            }
             None => {
-                let key = Octets::from_slice(self.alloc, key)?;
+                let text = Octets::from_slice(self.alloc, key)?;
                 let mut holders = IdSet::new(self.alloc);
                 holders.insert(id)?;
-                self.push(Held { key, holders })
+                self.push(id, Held { key: text, holders }, key)
             }
         }
     }
@@ -207,10 +320,11 @@ impl AgedRows {
     pub fn release(&mut self, id: u64, key: &[u8])
         ensures { self.new ≡ released id key.now self.old }
     {
-        if let Some(age) = self.ages.get(key) {
-            if !take_holder(&mut self.rows, *age, id) {
-                take_out(&mut self.rows, *age);
-                let _ = self.ages.remove(key);
+        if let Some(age) = age_of(&self.rows, &self.marks, &self.others, key) {
+            self.held.remove(id, age);
+            if !take_holder(&mut self.rows, age, id) {
+                take_out(&mut self.rows, age);
+                drop_age(&mut self.marks, &mut self.others, key, age);
             }
         }
     }
@@ -219,8 +333,10 @@ impl AgedRows {
     pub fn forget_key(&mut self, key: &[u8])
         ensures { self.new ≡ without_key key.now self.old }
     {
-        if let Some(age) = self.ages.remove(key) {
+        if let Some(age) = age_of(&self.rows, &self.marks, &self.others, key) {
+            drop_held(&self.rows, &mut self.held, age);
             take_out(&mut self.rows, age);
+            drop_age(&mut self.marks, &mut self.others, key, age);
         }
     }
 
@@ -230,15 +346,15 @@ impl AgedRows {
         ensures rows { OnOk result (self.new ≡ without_key key.now self.old) }
         ensures err { OnErr result (self.new ≡ self.old) }
     {
-        let Some(age) = self.ages.get(key) else {
+        let Some(age) = age_of(&self.rows, &self.marks, &self.others, key) else {
             return Ok(None);
         };
-        let age = *age;
         let next = key_behind(&self.rows, age)?;
+        drop_held(&self.rows, &mut self.held, age);
         let Some(row) = self.rows.remove(&age) else {
             return Ok(None);
         };
-        let _ = self.ages.remove(key);
+        drop_age(&mut self.marks, &mut self.others, key, age);
         Ok(Some(Parted { row, next }))
     }
 
@@ -259,9 +375,19 @@ impl AgedRows {
         ensures rows { self.old ≡ option_to_list result ++ self.new }
         ensures none { IfNone result (self.old ≡ []) }
     {
-        let (_, row) = self.rows.pop_first()?;
-        let _ = self.ages.remove(row.key());
+        let (age, row) = self.rows.pop_first()?;
+        self.held.remove_all(row.holders(), age);
+        drop_age(&mut self.marks, &mut self.others, row.key(), age);
         Some(row)
+    }
+
+    /// The connection holds no key any more. It goes through what it held, and takes no memory.
+    pub fn forget_connection(&mut self, id: u64)
+        ensures { self.new ≡ without_connection id self.old }
+    {
+        if let Some(ages) = self.held.take(id) {
+            release_ages(&mut self.rows, &mut self.marks, &mut self.others, id, ages);
+        }
     }
 
     /// No rows are left. It takes no memory.
@@ -269,6 +395,8 @@ impl AgedRows {
         ensures { self.new ≡ [] }
     {
         self.rows.clear();
-        self.ages.clear();
+        self.marks.clear();
+        self.others.clear();
+        self.held.clear();
     }
 }

@@ -7,17 +7,14 @@ ghost use Rattle.track_table.specs.Table.{released, remembered, with_keys, witho
 ghost use Rattle.track_table.specs.Table.{without_key, without_keys};
 ghost use Rattle.id_set.specs.Ids.{Ascend};
 ghost use Rattle.track_table.specs.Order.{IsTable};
-ghost use Rattle.track_table.specs.Holdings.{Covers, KeepsOthers, has_key};
 ghost use Rattle.track_table.specs.Places.{IsPlace};
 ghost use Rattle.track_table.specs.Aside.{HasRoom, all_put, first_key};
 
 use super::aside::{Aside, Parted, put_all_back};
-use super::holdings::Holdings;
 use super::rows::AgedRows;
 use id_set::IdSet;
 use resp_value::{NoMemory, Octets, Words};
 use std::alloc::Global;
-use std::collections::BTreeSet;
 use std::marker::Model;
 
 /// A remembered key, with the connections that hold it.
@@ -75,64 +72,15 @@ fn forget_among(rows: &mut Vec<Held>, id: u64)
     rows.retain(|row| !row.holders.as_slice().is_empty());
 }
 
-// The connection holds none of the keys that it may hold.
-fn release_keys(rows: &mut AgedRows, id: u64, keys: BTreeSet<Vec<u8>>)
-    requires table { IsTable rows.old }
-    requires all { (key : List ℕ) → list_any (λ h. h == id) (holders_of key rows.old) ≡ true
-        → has_key key keys.keys ≡ true }
-    ensures { rows.new ≡ without_connection id rows.old }
-{
-    let mut left = keys;
-    'keys: while let Some(key) = left.pop_first() {
-        rows.release(id, key.as_slice());
-    }
-}
-
-// The connection holds the key too, among the rows that are found by their keys.
-fn remember_young(
-    rows: &mut AgedRows,
-    holdings: &mut Holdings,
-    id: u64,
-    key: &[u8],
-) -> Result<(), NoMemory>
-    requires table { IsTable rows.old }
-    requires covered { Covers holdings.old.keys.entries rows.old }
-    ensures ok { OnOk result (rows.new ≡ remembered id key.now rows.old) }
-    ensures err { OnErr result (rows.new ≡ rows.old) }
-    ensures covered { Covers holdings.new.keys.entries rows.new }
-{
-    if rows.holds(id, key) {
-        return Ok(());
-    }
-    holdings.add(id, key)?;
-    match rows.remember(id, key) {
-        Ok(()) => Ok(()),
-        Err(_) => {
-            holdings.remove(id, key);
-            Err(NoMemory)
-        }
-    }
-}
-
-// The key is among those of no connection that holds it.
-fn drop_key(holdings: &mut Holdings, key: &[u8], holders: &[u64])
-    ensures { KeepsOthers key.now holdings.old.keys.entries holdings.new.keys.entries }
-{
-    for id in holders {
-        holdings.remove(*id, key);
-    }
-}
-
 /// Which connections hold which keys. The keys stand in order of age: a key is as old as the time
-/// since which some connection has held it without a break. A key is found in an ordered map, as
-/// the keys are chosen by strangers; the oldest, where there are more than the limit, by a scan.
+/// since which some connection has held it without a break. A key is found by a mark of its text;
+/// the oldest, where there are more than the limit, by a scan.
 #[derive(Drop)]
 pub struct TrackTable {
     alloc: Global,
     limit: u64,
     oldest: Vec<Held>,
     rows: AgedRows,
-    holdings: Holdings,
 }
 
 impl Model for TrackTable {
@@ -143,9 +91,9 @@ impl Model for TrackTable {
 
     ghost view = { λ t. record { limit = t.limit; rows = t.oldest.items ++ t.rows } };
 
-    ghost use Rattle.track_table.specs.Holdings.{IsWhole};
+    ghost use Rattle.track_table.specs.Order.{IsWhole};
 
-    ghost invariant = { λ t. IsWhole t.limit t.oldest.items t.rows t.holdings.keys.entries };
+    ghost invariant = { λ t. IsWhole t.limit t.oldest.items t.rows };
 }
 
 impl TrackTable {
@@ -159,7 +107,6 @@ impl TrackTable {
             limit,
             oldest: Vec::new(alloc),
             rows: AgedRows::new(alloc),
-            holdings: Holdings::new(alloc),
         }
     }
 
@@ -196,10 +143,9 @@ impl TrackTable {
             }
             None => {
                 self.oldest.reserve(1)?;
-                remember_young(&mut self.rows, &mut self.holdings, id, key)?;
+                self.rows.remember(id, key)?;
                 if self.rows.len() as u64 > self.limit {
                     if let Some(row) = self.rows.pop_first() {
-                        drop_key(&mut self.holdings, row.key(), row.holders());
                         self.oldest.push_reserved(row);
                     }
                 }
@@ -268,13 +214,10 @@ impl TrackTable {
                 let row = &mut self.oldest[place];
                 row.holders.remove(id);
                 if row.holders.as_slice().is_empty() {
-                    self.oldest.remove(place);
+                    drop(self.oldest.remove(place));
                 }
             }
-            None => {
-                self.rows.release(id, key);
-                self.holdings.remove(id, key);
-            }
+            None => self.rows.release(id, key),
         }
     }
 
@@ -296,7 +239,6 @@ impl TrackTable {
         ensures rows { self.new.rows ≡ without_key key.now self.old.rows }
     {
         self.oldest.retain(|row| row.key.as_slice() != key);
-        drop_key(&mut self.holdings, key, self.rows.holders(key));
         self.rows.forget_key(key);
     }
 
@@ -318,7 +260,6 @@ impl TrackTable {
             }
             None => {
                 if let Some(row) = self.rows.part(key)? {
-                    drop_key(&mut self.holdings, key, row.row.holders());
                     parted.push_reserved(row);
                 }
             }
@@ -382,7 +323,6 @@ impl TrackTable {
         self.rows.move_onto(&mut rows);
         put_all_back(&mut rows, parted);
         self.oldest = rows;
-        self.holdings.clear();
     }
 
     /// The connection holds no key any more. It goes through what it held, and takes no memory.
@@ -391,9 +331,7 @@ impl TrackTable {
         ensures rows { self.new.rows ≡ without_connection id self.old.rows }
     {
         forget_among(&mut self.oldest, id);
-        if let Some(keys) = self.holdings.take(id) {
-            release_keys(&mut self.rows, id, keys);
-        }
+        self.rows.forget_connection(id);
     }
 
     /// No key is held any more. It takes no memory.
@@ -403,7 +341,6 @@ impl TrackTable {
     {
         self.oldest.clear();
         self.rows.clear();
-        self.holdings.clear();
     }
 
     // How many keys there are past the limit.

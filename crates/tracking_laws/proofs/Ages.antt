@@ -1,6 +1,6 @@
 -- The rows of every table stand in the order in which their keys came to be remembered.
 use Rattle.std.proofs.Common.{◌≡◌, ◌+◌, ◌-◌, ◌≤◌, ℕ, zero, suc, List, [], ◌∷◌, Bool, true, false}
-use Rattle.std.proofs.Common.{length, map, take, drop, refl, arith}
+use Rattle.std.proofs.Common.{length, map, take, drop, refl, arith, subst, sym}
 use Rattle.std.specs.Prelude.{filter, not}
 use Rattle.std.specs.Str.{bytes_eq}
 use Rattle.std.proofs.lemmas.Bool.{or_left, or_right, or_from}
@@ -14,9 +14,11 @@ use Rattle.serial_model.specs.declared.history.Limits.{Limits}
 use Rattle.serial_model.specs.declared.history.Entry.{Entry}
 use Rattle.serial_model.specs.declared.history.Entry.TheVariants.{Admit, Run, Tick, Take, Close}
 use Rattle.serial_model.specs.Each.{AllIn}
-use Rattle.serial_model.specs.Modes.{Memory, Remembers, Forgets}
+use Rattle.serial_model.specs.Modes.{Memory, Remembers, Registers, Forgets}
 use Rattle.serial_model.specs.Tracking.{without_signalled, remembering}
-use Rattle.serial_model.specs.History.{table, table_then, table_grown, expired, signals, made}
+use Rattle.serial_model.specs.History.{state, table, table_then, table_grown, expired, signals}
+use Rattle.serial_model.specs.History.{made}
+use Rattle.serial_model.proofs.StateSteps.{run_table, tick_table}
 use Rattle.serial_model.proofs.Each.{all_in, in_filter, in_drop}
 use Rattle.tracking_laws.specs.Drops.{is_remembered, rows_at_read, since}
 
@@ -113,6 +115,7 @@ module _ (at : List ℕ → ℕ) where
         → ((q : List ℕ) → is_remembered rows q ≡ false → at q ≡ newest)
         → AreInOrder (remembering id memory rows)
     order_remembering id (Remembers keys) rows h new = order_with_keys id keys rows h new
+    order_remembering id (Registers ps) rows h new = h
     order_remembering id Forgets rows h new = order_without id rows h
 
 -- numbers that agree on the keys of some rows
@@ -174,15 +177,19 @@ module _ (l : Limits) where
       (new_key entry past)
 
   pub in_order : (past : List Entry) → AreInOrder (since l past) (table l past)
+  unfolding state
   in_order [] = tt
   in_order (Admit id ∷ past) = renewed (Admit id) past (in_order past)
   in_order (Run id words moment ∷ past) =
       let grown = table_grown l past id words moment in
-      order_drop (since l (Run id words moment ∷ past)) (length grown - l.table_max) grown
-      (grown_from past id words moment (in_order past))
+      subst (AreInOrder (since l (Run id words moment ∷ past)))
+      (sym (run_table l past id moment words))
+      (order_drop (since l (Run id words moment ∷ past)) (length grown - l.table_max) grown
+      (grown_from past id words moment (in_order past)))
   in_order (Tick moment ∷ past) =
       renewed (Tick moment) past
-      (order_without_keys (since l past) (expired l past moment) (table l past) (in_order past))
+      (subst (AreInOrder (since l past)) (sym (tick_table l past moment))
+      (order_without_keys (since l past) (expired l past moment) (table l past) (in_order past)))
   in_order (Take id max ∷ past) = renewed (Take id max) past (in_order past)
   in_order (Close id ∷ past) =
       renewed (Close id) past (order_without (since l past) id (table l past) (in_order past))

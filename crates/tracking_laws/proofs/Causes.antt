@@ -1,31 +1,38 @@
 -- Why a connection remembers a key no more; and each read is owed or told.
 use Rattle.std.proofs.Common.{◌≡◌, ◌∙◌, ◌-◌, ℕ, List, [], ◌∷◌, Bool, true, false, Ok, Err}
-use Rattle.std.proofs.Common.{length, drop, inl, inr, subst, ap, refl, arith, append_assoc}
+use Rattle.std.proofs.Common.{length, drop, inl, inr, subst, sym, ap, refl, arith}
 use Rattle.std.specs.Prelude.{◌==◌, ◌&&◌, ◌||◌, not}
-use Rattle.std.specs.List.{list_any}
-use Rattle.std.proofs.lemmas.Bool.{or_cases, and_parts, eqb-true, or_left, or_right}
-use Rattle.std.proofs.lemmas.List.Folds.{list_any-append}
-use Rattle.track_table.specs.declared.table.Held.{Held}
-use Rattle.track_table.specs.Table.{holders_of}
+use Rattle.std.proofs.lemmas.Bool.{and_parts, and_from, both_ways, cases_Bool, eqb-true}
+use Rattle.std.proofs.lemmas.Bool.{or_parts}
+use Rattle.std.proofs.lemmas.Bool.Decides.{nat_tests}
 use Rattle.command_words.specs.declared.command.Command.{Command}
 use Rattle.command_words.specs.Queries.{read}
-use Rattle.std.proofs.lemmas.Bool.Decides.{nat_tests}
-use Rattle.serial_model.specs.Modes.{Remembers, remembers_read}
-use Rattle.tracking_laws.specs.Told.{keys_read, reads_key}
+use Rattle.command_words.specs.Words.{reading}
+use Rattle.command_words.specs.Laws.{signals}
+use Rattle.track_table.specs.declared.table.Held.{Held}
+use Rattle.track_table.specs.Table as track
+use Rattle.track_table.specs.Table.{holders_of}
+use Rattle.track_modes.specs.ModeState.{ModeState, is_on, remembers_read}
 use Rattle.serial_model.specs.declared.history.Limits.{Limits}
 use Rattle.serial_model.specs.declared.history.Entry.{Entry}
 use Rattle.serial_model.specs.declared.history.Entry.TheVariants.{Admit, Run, Tick, Take, Close}
-use Rattle.serial_model.specs.Each.{AllIn, AllRows}
-use Rattle.serial_model.specs.Tracking.{without_signalled, remembering, drop_group, tells}
-use Rattle.serial_model.specs.History.{table, table_then, table_grown, signals, mode, made, made_of}
-use Rattle.serial_model.specs.History.{IsLegal, served_reading, drops, has_ended}
-use Rattle.serial_model.specs.Laws.{is_among, is_forgets, signals_key, drops_key}
+use Rattle.serial_model.specs.Modes.{Memory, Remembers, Forgets}
+use Rattle.serial_model.specs.Tracking.{has_id, without_signalled, remembering}
+use Rattle.serial_model.specs.History.{state, table, table_then, table_grown, mode, made, made_of}
+use Rattle.serial_model.specs.History.{IsLegal, served_reading, has_ended, runner, expired}
+use Rattle.serial_model.specs.History as history
+use Rattle.serial_model.specs.Laws.{is_among, is_forgets, remembers, signals_key, drops_key}
 use Rattle.serial_model.specs.Laws.{is_told, is_due}
-use Rattle.serial_model.proofs.KeyHolders.{holds, keys_apart, signalled_apart, remembering_keeps}
-use Rattle.serial_model.proofs.KeyHolders.{dropped_or_kept, without_other, drop_tells}
-use Rattle.serial_model.proofs.Streams.{IsLive, table_live}
-use Rattle.serial_model.proofs.Trackers.{Tracks, table_tracks}
+use Rattle.serial_model.proofs.KeyHolders.{keys_apart, signalled_apart, remembering_keeps}
+use Rattle.serial_model.proofs.KeyHolders.{dropped_or_kept, without_other}
+use Rattle.serial_model.proofs.Lives.{table_live, all_live, Is, is_then_on}
+use Rattle.serial_model.proofs.Streams.{IsLive}
+use Rattle.serial_model.proofs.Trackers.{Tracks, all_track}
+use Rattle.serial_model.proofs.ToldLaws.{holder_of}
+use Rattle.serial_model.proofs.OwedLaws.{grown_is_owed}
 use Rattle.serial_model.proofs.ModeSteps.{mode_own}
+use Rattle.serial_model.proofs.StateSteps.{run_table, tick_table}
+use Rattle.tracking_laws.specs.Told.{keys_read, reads_key}
 use Rattle.tracking_laws.specs.Causes.{RememberedIsTracked, LeavesForCause, EachReadIsOwedOrTold}
 use Rattle.tracking_laws.specs.Causes.{EachReadIsRemembered}
 use Rattle.tracking_laws.proofs.Holders.{holds_with_keys}
@@ -33,62 +40,122 @@ use Rattle.tracking_laws.proofs.Remembering.{forgets_all, read_memory}
 
 -- ---- a connection that remembers a key is one that may
 
-module _ (P : ℕ → Type 0) (c : ℕ) where
-  holder_in : (ids : List ℕ) → AllIn P ids → holds c ids ≡ true → P c
-  holder_in [] a h = absurd (let no : ⊥ = cc in no)
-  holder_in (x ∷ xs) a h = elim (or_cases (x == c) (holds c xs) h) [
-    | inl e ↦ subst P (eqb-true x c e) a.0
-    | inr e ↦ holder_in xs a.1 e
-  ]
-
-  holder_of : (key : List ℕ) (rows : List Held) → AllRows P rows
-      → holds c (holders_of key rows) ≡ true → P c
-  holder_of key [] a h = absurd (let no : ⊥ = cc in no)
-  holder_of key (r ∷ rs) a h = grind (arith, holder_in, holder_of key rs a.1)
+admitted_live : (l : Limits) (past : List Entry) (c : ℕ) → IsLive l past c
+    → history.is_admitted past c ≡ true
+unfolding IsLive
+admitted_live l past c h = h.0
 
 pub remembered_is_tracked : (l : Limits) (past : List Entry) → IsLegal l past
     → RememberedIsTracked l past
-unfolding IsLive Tracks
 remembered_is_tracked l past legal c key h =
-    let live = holder_of (IsLive l past) c key (table l past) (table_live l past legal) h in
-    let tracks = holder_of (Tracks l past) c key (table l past) (table_tracks l past) h in
-    grind (arith, live, tracks)
+    let s = state l past in
+    and_from _ _
+    (admitted_live l past c
+    (holder_of (IsLive l past) c key (table l past) (table_live l past legal) h))
+    (and_from _ _
+    (holder_of (Tracks s.modes) c key s.table (all_track l past).of_keys h)
+    (is_then_on s c
+    (holder_of (Is s.standing s.admitted) c key s.table (all_live l past legal).of_keys h)))
 
 -- ---- it remembers a key no more
 
+forgets_is : (memory : Memory) → is_forgets memory ≡ true → memory ≡ Forgets
+forgets_is memory h = grind arith
+
 -- a connection that forgets tracks no more
 own_stops : (l : Limits) (past : List Entry) (c id : ℕ) (words : List (List ℕ)) (moment : ℕ)
-    → (mode l c (Run id words moment ∷ past)).tracking ≡ true
+    → is_on (mode l c (Run id words moment ∷ past)).tracking ≡ true
     → ((id == c) && is_forgets (made l past id words).memory) ≡ false
 unfolding made_of
-own_stops l past c id words moment h = grind (arith, forgets_all, mode_own, eqb-true)
+own_stops l past c id words moment h =
+    elim (cases_Bool ((id == c) && is_forgets (made l past id words).memory)) [
+      | inl e ↦
+          let p = and_parts (id == c) (is_forgets (made l past id words).memory) e in
+          absurd (both_ways _ (forgets_all (reading words) (runner l past id words)
+          (forgets_is (made l past id words).memory p.1))
+          (ap (λ (m : ModeState). is_on m.tracking) (sym (mode_own l c id moment words past p.0))
+          ∙ h))
+      | inr e ↦ e
+    ]
+
+right : (x y : Bool) → (x || y) ≡ true → x ≡ false → y ≡ true
+right x y e f = grind arith
 
 -- where it does not forget, the key is signalled or dropped
 run_leaves : (l : Limits) (past : List Entry) (c id : ℕ) (words : List (List ℕ)) (moment : ℕ)
     (key : List ℕ)
-    → holds c (holders_of key (table l past)) ≡ true
-    → holds c (holders_of key (table l (Run id words moment ∷ past))) ≡ false
+    → has_id c (holders_of key (table l past)) ≡ true
+    → has_id c (holders_of key (table l (Run id words moment ∷ past))) ≡ false
     → ((id == c) && is_forgets (made l past id words).memory) ≡ false
     → (signals_key l (Run id words moment) past key || drops_key l (Run id words moment) past key)
     ≡ true
 run_leaves l past c id words moment key told gone stays =
-    grind (arith, keys_apart, signalled_apart, dropped_or_kept, remembering_keeps)
+    let signalled = signals_key l (Run id words moment) past key in
+    let dropped = drops_key l (Run id words moment) past key in
+    let grown = table_grown l past id words moment in
+    let sig = history.signals l past id words moment in
+    elim (cases_Bool (signalled || dropped)) [
+      | inl e ↦ e
+      | inr e ↦
+          let p = or_parts signalled dropped e in
+          let q = or_parts (is_among (expired l past moment) key) (signals sig key) p.0 in
+          absurd (both_ways _
+          (ap (λ rows. has_id c (holders_of key rows)) (sym (run_table l past id moment words))
+          ∙ gone)
+          (right _ _ (dropped_or_kept c key (length grown - l.table_max) grown
+          (remembering_keeps c key id (made l past id words).memory _ stays
+          (ap (has_id c) (signalled_apart c key sig (table_then l past moment) q.1
+          ∙ keys_apart c key (expired l past moment) (table l past) q.0) ∙ told))) p.1))
+    ]
 
 by_tracking : (signalled tracks dropped : Bool) → (tracks ≡ true → (signalled || dropped) ≡ true)
     → (signalled || not tracks || false || dropped) ≡ true
 by_tracking signalled tracks dropped h = grind arith
 
+tick_leaves : (l : Limits) (past : List Entry) (c moment : ℕ) (key : List ℕ)
+    → has_id c (holders_of key (table l past)) ≡ true
+    → has_id c (holders_of key (table l (Tick moment ∷ past))) ≡ false
+    → is_among (expired l past moment) key ≡ true
+tick_leaves l past c moment key told gone =
+    elim (cases_Bool (is_among (expired l past moment) key)) [
+      | inl e ↦ e
+      | inr e ↦ absurd (both_ways _
+          (ap (λ rows. has_id c (holders_of key rows)) (sym (tick_table l past moment)) ∙ gone)
+          (ap (has_id c) (keys_apart c key (expired l past moment) (table l past) e) ∙ told))
+    ]
+
+close_leaves : (c id : ℕ) (key : List ℕ) (rows : List Held)
+    → has_id c (holders_of key rows) ≡ true
+    → has_id c (holders_of key (track.without_connection id rows)) ≡ false → (id == c) ≡ true
+close_leaves c id key rows told gone = elim (cases_Bool (id == c)) [
+  | inl e ↦ e
+  | inr e ↦ absurd (both_ways _ gone (without_other c key id rows e told))
+]
+
+first_of : (a b d : Bool) → a ≡ true → (((a || b) || d) || false) ≡ true
+first_of a b d e = grind arith
+
+third_of : (a b d : Bool) → d ≡ true → (((a || b) || d) || false) ≡ true
+third_of a b d e = grind arith
+
 pub leaves_for_cause : (l : Limits) (entry : Entry) (past : List Entry)
     → LeavesForCause l entry past
-leaves_for_cause l (Admit id) past c key told gone = absurd (let no : ⊥ = cc in no)
+unfolding state
+leaves_for_cause l (Admit id) past c key told gone = absurd (both_ways _ gone told)
 leaves_for_cause l (Run id words moment) past c key told gone =
     by_tracking (signals_key l (Run id words moment) past key)
-    (mode l c (Run id words moment ∷ past)).tracking (drops_key l (Run id words moment) past key)
+    (is_on (mode l c (Run id words moment ∷ past)).tracking)
+    (drops_key l (Run id words moment) past key)
     (λ tracks. run_leaves l past c id words moment key told gone
     (own_stops l past c id words moment tracks))
-leaves_for_cause l (Tick moment) past c key told gone = grind (arith, keys_apart)
-leaves_for_cause l (Take id max) past c key told gone = absurd (let no : ⊥ = cc in no)
-leaves_for_cause l (Close id) past c key told gone = grind (arith, without_other)
+leaves_for_cause l (Tick moment) past c key told gone =
+    first_of (is_among (expired l past moment) key)
+    (not (is_on (mode l c (Tick moment ∷ past)).tracking)) false
+    (tick_leaves l past c moment key told gone)
+leaves_for_cause l (Take id max) past c key told gone = absurd (both_ways _ gone told)
+leaves_for_cause l (Close id) past c key told gone =
+    third_of false (not (is_on (mode l c (Close id ∷ past)).tracking)) (id == c)
+    (close_leaves c id key (table l past) told gone)
 
 -- ---- each read is owed or told
 
@@ -102,13 +169,13 @@ read_remembers l past c words command key is remembers among =
     elim (read command) as (λ ks. read command ≡ ks → is_among ks key ≡ true
     → (made l past c words).memory ≡ Remembers ks) [
       | [] ↦ λ e none. absurd (let no : ⊥ = cc in no)
-      | k ∷ ks ↦ λ e some. read_memory (served_reading words) (mode l c past) k ks
-          (ap keys_read is ∙ e) remembers
+      | k ∷ ks ↦ λ e some. read_memory (reading words) (runner l past c words) k ks remembers
+          (ap keys_read is ∙ e)
     ] refl among
 
 own_grown : (c : ℕ) (key : List ℕ) (keys : List (List ℕ)) (rows : List Held)
     → is_among keys key ≡ true
-    → holds c (holders_of key (remembering c (Remembers keys) rows)) ≡ true
+    → has_id c (holders_of key (remembering c (Remembers keys) rows)) ≡ true
 own_grown c key keys rows among = grind (arith, holds_with_keys, nat_tests)
 
 -- what a read names is remembered where keys are dropped
@@ -116,25 +183,12 @@ run_remembers : (l : Limits) (c m : ℕ) (words : List (List ℕ)) (past : List 
     (command : Command) (key : List ℕ)
     → served_reading words ≡ Ok command
     → remembers_read (mode l c past) ≡ true → is_among (read command) key ≡ true
-    → holds c (holders_of key (table_grown l past c words m)) ≡ true
+    → has_id c (holders_of key (table_grown l past c words m)) ≡ true
 run_remembers l c m words past command key is remembers among =
-    let rows = without_signalled (signals l past c words m) (table_then l past m) in
-    ap (λ y. holds c (holders_of key (remembering c y rows)))
+    let rows = without_signalled (history.signals l past c words m) (table_then l past m) in
+    ap (λ y. has_id c (holders_of key (remembering c y rows)))
     (read_remembers l past c words command key is remembers among)
     ∙ own_grown c key (read command) rows among
-
-command_owed : (l : Limits) (c m : ℕ) (words : List (List ℕ)) (past : List Entry)
-    (command : Command) (key : List ℕ)
-    → IsLegal l (Run c words m ∷ past) → served_reading words ≡ Ok command
-    → remembers_read (mode l c past) ≡ true → is_among (read command) key ≡ true
-    → (is_told l (Run c words m ∷ past) c key || is_due l (Run c words m) past c key
-    || has_ended l c (Run c words m ∷ past)) ≡ true
-command_owed l c m words past command key legal is remembers among =
-    let grown = table_grown l past c words m in
-    let last = list_any (tells c key) (drop_group (drops l past c words m)) in
-    let stays = holds c (holders_of key (drop (length grown - l.table_max) grown)) in
-    let held = run_remembers l c m words past command key is remembers among in
-    grind (arith, dropped_or_kept, or_right, drop_tells, or_left, append_assoc, list_any-append)
 
 -- a read that its connection remembers is of a command
 command_of : (l : Limits) (past : List Entry) (c id m : ℕ) (words : List (List ℕ)) (key : List ℕ)
@@ -161,7 +215,8 @@ each_read_is_owed_or_told l (Run id words m) past legal c key h =
     let p = command_of l past c id m words key h in
     subst (λ k. (is_told l (Run id words m ∷ past) k key || is_due l (Run id words m) past k key
     || has_ended l k (Run id words m ∷ past)) ≡ true) p.2
-    (command_owed l id m words past p.0 key legal p.1 p.3 p.4)
+    (grown_is_owed l id m words past key legal
+    (run_remembers l id m words past p.0 key p.1 p.3 p.4))
 each_read_is_owed_or_told l (Tick m) past legal c key h = absurd (let no : ⊥ = cc in no)
 each_read_is_owed_or_told l (Take id max) past legal c key h = absurd (let no : ⊥ = cc in no)
 each_read_is_owed_or_told l (Close id) past legal c key h = absurd (let no : ⊥ = cc in no)
@@ -179,11 +234,14 @@ each_read_is_remembered l (Run id words m) past c key h =
     let p = command_of l past c id m words key h in
     let grown = table_grown l past id words m in
     let n = length grown - l.table_max in
-    let held = subst (λ k. holds k (holders_of key grown) ≡ true) p.2
+    let held = subst (λ k. has_id k (holders_of key grown) ≡ true) p.2
     (run_remembers l id m words past p.0 key p.1 p.3 p.4) in
-    kept_or_dropped (holds c (holders_of key (drop n grown)))
-    (drops_key l (Run id words m) past key) (holds c (holders_of key grown)) held
-    (dropped_or_kept c key n grown held)
+    subst (λ rows. (remembers rows c key
+    || (drops_key l (Run id words m) past key && remembers grown c key)) ≡ true)
+    (sym (run_table l past id m words))
+    (kept_or_dropped (has_id c (holders_of key (drop n grown)))
+    (drops_key l (Run id words m) past key) (has_id c (holders_of key grown)) held
+    (dropped_or_kept c key n grown held))
 each_read_is_remembered l (Tick m) past c key h = absurd (let no : ⊥ = cc in no)
 each_read_is_remembered l (Take id max) past c key h = absurd (let no : ⊥ = cc in no)
 each_read_is_remembered l (Close id) past c key h = absurd (let no : ⊥ = cc in no)

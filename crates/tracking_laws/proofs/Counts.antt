@@ -13,12 +13,12 @@ use Rattle.track_table.proofs.Orders.{holders_ascend, table_without_key}
 use Rattle.serial_model.specs.Tracking.{Invalidation, told_to, told_of, group, drop_group}
 use Rattle.serial_model.specs.Tracking.{ids_where}
 use Rattle.serial_model.specs.Laws.{is_among}
-use Rattle.serial_model.proofs.KeyHolders.{holds}
+use Rattle.serial_model.specs.Tracking.{has_id}
 use Rattle.tracking_laws.specs.Told.{once, times_told, times_flushed, is_named}
 use Rattle.tracking_laws.proofs.Holders.{gone, same_holders, same_has_no, key_apart}
 
 -- ascending ids from above this one do not have it
-not_above : (c n : ℕ) (ids : List ℕ) → c + 1 ≤ n → AscendFrom n ids → holds c ids ≡ false
+not_above : (c n : ℕ) (ids : List ℕ) → c + 1 ≤ n → AscendFrom n ids → has_id c ids ≡ false
 not_above c n [] le h = refl
 not_above c n (x ∷ xs) le h = grind (arith, nat_tests, not_above c (x + 1) xs (omega arith) h.1)
 
@@ -30,20 +30,20 @@ module _ (c : ℕ) (key : List ℕ) where
 
   -- each of these connections is told once
   told_to_once : (keys : Option (List (List ℕ))) (n : ℕ) (ids : List ℕ) → AscendFrom n ids
-      → times_told c key (told_to keys ids) ≡ once (is_named keys key && holds c ids)
+      → times_told c key (told_to keys ids) ≡ once (is_named keys key && has_id c ids)
   told_to_once keys n [] h = grind arith
   told_to_once keys n (x ∷ xs) h =
       grind (arith, nat_tests, told_to_once keys (x + 1) xs h.1, not_above)
 
   -- a connection is told once of a key that it holds, by its row
   pub told_of_once : (k : List ℕ) (ids : List ℕ) → Ascend ids
-      → times_told c key (told_of k ids) ≡ once (bytes_eq key k && holds c ids)
+      → times_told c key (told_of k ids) ≡ once (bytes_eq key k && has_id c ids)
   told_of_once k ids h = grind (arith, told_to_once (Some (k ∷ [])) 0 ids h)
 
   -- each key of a group is told to its holders, once
   pub group_once : (keys : List (List ℕ)) (rows : List Held) → IsTable rows
       → times_told c key (group keys rows)
-      ≡ once (is_among keys key && holds c (holders_of key rows))
+      ≡ once (is_among keys key && has_id c (holders_of key rows))
   group_once [] rows h = refl
   group_once (k ∷ keys) rows h =
       told_append (told_of k (holders_of k rows)) (group keys (without_key k rows))
@@ -54,13 +54,13 @@ module _ (c : ℕ) (key : List ℕ) where
         step,
       )
     where
-      step : once (bytes_eq key k && holds c (holders_of k rows))
-          + once (is_among keys key && holds c (holders_of key (without_key k rows)))
-          ≡ once ((bytes_eq key k || is_among keys key) && holds c (holders_of key rows))
+      step : once (bytes_eq key k && has_id c (holders_of k rows))
+          + once (is_among keys key && has_id c (holders_of key (without_key k rows)))
+          ≡ once ((bytes_eq key k || is_among keys key) && has_id c (holders_of key rows))
       step = elim (bytes_eq key k) as (λ b. bytes_eq key k ≡ b
-          → once (b && holds c (holders_of k rows))
-          + once (is_among keys key && holds c (holders_of key (without_key k rows)))
-          ≡ once ((b || is_among keys key) && holds c (holders_of key rows))) [
+          → once (b && has_id c (holders_of k rows))
+          + once (is_among keys key && has_id c (holders_of key (without_key k rows)))
+          ≡ once ((b || is_among keys key) && has_id c (holders_of key rows))) [
             | true ↦ λ e. grind (arith, gone, same_holders)
             | false ↦ λ e. grind (arith, key_apart)
           ] refl
@@ -82,7 +82,7 @@ module _ (c : ℕ) (key : List ℕ) where
 
   pub drop_once : (n : ℕ) (rows : List Held) → AreOrdered rows
       → times_told c key (drop_group (take n rows))
-      ≡ once (list_any (λ r. bytes_eq key r.key) (take n rows) && holds c (holders_of key rows))
+      ≡ once (list_any (λ r. bytes_eq key r.key) (take n rows) && has_id c (holders_of key rows))
   drop_once zero rows h = refl
   drop_once (suc n) [] h = refl
   drop_once (suc n) (r ∷ rs) h =
@@ -91,8 +91,8 @@ module _ (c : ℕ) (key : List ℕ) where
       told_append (told_of r.key r.holders) (drop_group (take n rs))
       ∙ ap (λ t. t + rest) (told_of_once r.key r.holders h.0)
       ∙ elim (bytes_eq key r.key) as (λ b. bytes_eq key r.key ≡ b
-      → once (b && holds c r.holders) + rest
-      ≡ once ((b || others) && holds c (cond b r.holders (holders_of key rs)))) [
+      → once (b && has_id c r.holders) + rest
+      ≡ once ((b || others) && has_id c (cond b r.holders (holders_of key rs)))) [
         | true ↦ λ e. grind (arith, none_dropped n rs (same_has_no key r.key rs e h.1))
         | false ↦ λ e. grind (arith, drop_once n rs h.2)
       ] refl

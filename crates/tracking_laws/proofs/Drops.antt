@@ -1,5 +1,6 @@
 -- The keys that an entry drops are the oldest, and no more than those past the limit.
-use Rattle.std.proofs.Common.{◌≡◌, ◌-◌, ◌<◌, ℕ, List, [], ◌∷◌, length, refl, sym, arith}
+use Rattle.std.proofs.Common.{◌≡◌, ◌∙◌, ◌-◌, ◌<◌, ◌≤◌, ◌++◌, ℕ, List, [], ◌∷◌, length, refl, sym}
+use Rattle.std.proofs.Common.{ap, subst, arith}
 use Rattle.std.proofs.Common.{take-append-drop}
 use Rattle.std.proofs.lemmas.List.{length-drop, length-take}
 use Rattle.track_table.specs.declared.table.Held.{Held}
@@ -7,7 +8,9 @@ use Rattle.track_table.specs.Table.{dropped, kept}
 use Rattle.serial_model.specs.declared.history.Limits.{Limits}
 use Rattle.serial_model.specs.declared.history.Entry.{Entry}
 use Rattle.serial_model.specs.declared.history.Entry.TheVariants.{Admit, Run, Tick, Take, Close}
+use Rattle.serial_model.specs.Each.{AllIn}
 use Rattle.serial_model.specs.History.{table_grown}
+use Rattle.serial_model.proofs.StateSteps.{run_table}
 use Rattle.serial_model.proofs.TableSize.{table_within}
 use Rattle.tracking_laws.specs.Drops.{DropsOldest, since}
 use Rattle.serial_model.proofs.KeptTables.{is_table, is_table_grown}
@@ -24,13 +27,20 @@ module _ (l : Limits) where
   pub drops_oldest : (entry : Entry) (past : List Entry) → DropsOldest l entry past
   drops_oldest (Run id words moment) past =
       let grown = table_grown l past id words moment in
+      let same = sym (run_table l past id moment words) in
       record {
         counted = is_table_grown l past id words moment;
-        parted = sym (take-append-drop (length grown - l.table_max) grown);
+        parted = sym (take-append-drop (length grown - l.table_max) grown)
+            ∙ ap (λ rows. dropped l.table_max grown ++ rows) same;
         within = table_within l (Run id words moment ∷ past);
-        full = full_where_dropped l.table_max grown;
-        oldest = first_before_rest (since l (Run id words moment ∷ past))
-            (length grown - l.table_max) grown (grown_in_order l past id words moment);
+        full = λ some. sym (ap (λ (rows : List Held). length rows) same)
+            ∙ full_where_dropped l.table_max grown some;
+        oldest = subst (λ rows. AllIn (λ (gone : Held). AllIn (λ (stays : Held).
+            since l (Run id words moment ∷ past) gone.key
+            ≤ since l (Run id words moment ∷ past) stays.key) rows)
+            (dropped l.table_max grown)) same
+            (first_before_rest (since l (Run id words moment ∷ past))
+            (length grown - l.table_max) grown (grown_in_order l past id words moment));
       }
   drops_oldest (Admit id) past = record {
     counted = is_table l (Admit id ∷ past);

@@ -14,7 +14,8 @@ use Rattle.track_table.specs.Table.{without_connection, with_keys, without_keys}
 use Rattle.track_table.specs.Order.{HasNo, AreOrdered}
 use Rattle.track_table.proofs.Orders.{holders_remembered}
 use Rattle.serial_model.specs.Laws.{is_among}
-use Rattle.serial_model.proofs.KeyHolders.{holds, keys_apart}
+use Rattle.serial_model.specs.Tracking.{has_id}
+use Rattle.serial_model.proofs.KeyHolders.{keys_apart}
 
 pub same_bytes : (a b : List ℕ) → bytes_eq a b ≡ true → a ≡ b
 same_bytes a b e = (bytes_eq-Decides a b).0 e
@@ -78,12 +79,12 @@ module _ (key : List ℕ) where
 module _ (c : ℕ) where
   -- ---- ids
 
-  pub holds_with : (id : ℕ) (ids : List ℕ) → holds c (with_id id ids) ≡ ((id == c) || holds c ids)
+  pub holds_with : (id : ℕ) (ids : List ℕ) → has_id c (with_id id ids) ≡ ((id == c) || has_id c ids)
   holds_with id [] = refl
   holds_with id (x ∷ xs) = grind (arith, holds_with id xs, nat_tests)
 
   pub holds_without : (id : ℕ) (ids : List ℕ)
-      → holds c (without_id id ids) ≡ (not (id == c) && holds c ids)
+      → has_id c (without_id id ids) ≡ (not (id == c) && has_id c ids)
   holds_without id [] = grind arith
   holds_without id (x ∷ xs) = grind (arith, holds_without id xs, nat_tests)
 
@@ -91,17 +92,17 @@ module _ (c : ℕ) where
     -- ---- keys
 
     pub holds_remembered : (id : ℕ) (k : List ℕ) (rows : List Held)
-        → holds c (holders_of key (remembered id k rows))
-        ≡ (((id == c) && bytes_eq key k) || holds c (holders_of key rows))
+        → has_id c (holders_of key (remembered id k rows))
+        ≡ (((id == c) && bytes_eq key k) || has_id c (holders_of key rows))
     holds_remembered id k rows =
-        ap (holds c) (holders_remembered key id k rows)
+        ap (has_id c) (holders_remembered key id k rows)
         ∙ elim (bytes_eq key k) as (λ b. bytes_eq key k ≡ b
-        → holds c (cond b (with_id id (holders_of k rows)) (holders_of key rows))
-        ≡ (((id == c) && b) || holds c (holders_of key rows))) [
+        → has_id c (cond b (with_id id (holders_of k rows)) (holders_of key rows))
+        ≡ (((id == c) && b) || has_id c (holders_of key rows))) [
           | true ↦ λ e. holds_with id (holders_of k rows)
-              ∙ ap (λ q. (id == c) || holds c (holders_of q rows)) (sym (same_bytes key k e))
-              ∙ by (id == c) (holds c (holders_of key rows))
-          | false ↦ λ e. by_false (id == c) (holds c (holders_of key rows))
+              ∙ ap (λ q. (id == c) || has_id c (holders_of q rows)) (sym (same_bytes key k e))
+              ∙ by (id == c) (has_id c (holders_of key rows))
+          | false ↦ λ e. by_false (id == c) (has_id c (holders_of key rows))
         ] refl
       where
         by : (a b : Bool) → (a || b) ≡ ((a && true) || b)
@@ -111,31 +112,31 @@ module _ (c : ℕ) where
         by_false a b = grind arith
 
     pub holds_with_keys : (id : ℕ) (keys : List (List ℕ)) (rows : List Held)
-        → holds c (holders_of key (with_keys id keys rows))
-        ≡ (((id == c) && is_among keys key) || holds c (holders_of key rows))
-    holds_with_keys id [] rows = by_false (id == c) (holds c (holders_of key rows))
+        → has_id c (holders_of key (with_keys id keys rows))
+        ≡ (((id == c) && is_among keys key) || has_id c (holders_of key rows))
+    holds_with_keys id [] rows = by_false (id == c) (has_id c (holders_of key rows))
       where
         by_false : (a b : Bool) → b ≡ ((a && false) || b)
         by_false a b = grind arith
     holds_with_keys id (k ∷ keys) rows =
         holds_with_keys id keys (remembered id k rows)
         ∙ ap (λ b. ((id == c) && is_among keys key) || b) (holds_remembered id k rows)
-        ∙ by (id == c) (is_among keys key) (bytes_eq key k) (holds c (holders_of key rows))
+        ∙ by (id == c) (is_among keys key) (bytes_eq key k) (has_id c (holders_of key rows))
       where
         by : (a b d e : Bool) → ((a && b) || ((a && d) || e)) ≡ ((a && (d || b)) || e)
         by a b d e = grind arith
 
     -- a group of keys takes its own keys alone
     pub holds_without_keys : (keys : List (List ℕ)) (rows : List Held)
-        → holds c (holders_of key (without_keys keys rows))
-        ≡ (not (is_among keys key) && holds c (holders_of key rows))
+        → has_id c (holders_of key (without_keys keys rows))
+        ≡ (not (is_among keys key) && has_id c (holders_of key rows))
     holds_without_keys keys rows =
         elim (is_among keys key) as (λ b. is_among keys key ≡ b
-        → holds c (holders_of key (without_keys keys rows))
-        ≡ (not b && holds c (holders_of key rows))) [
-          | true ↦ λ e. ap (holds c) (none_holds key (without_keys keys rows)
+        → has_id c (holders_of key (without_keys keys rows))
+        ≡ (not b && has_id c (holders_of key rows))) [
+          | true ↦ λ e. ap (has_id c) (none_holds key (without_keys keys rows)
               (has_no_among key keys rows e))
-          | false ↦ λ e. ap (holds c) (keys_apart 0 key keys rows e)
+          | false ↦ λ e. ap (has_id c) (keys_apart 0 key keys rows e)
         ] refl
 
     has_no_freed : (id : ℕ) (rows : List Held) → HasNo key rows
@@ -143,20 +144,21 @@ module _ (c : ℕ) where
     has_no_freed id [] h = tt
     has_no_freed id (r ∷ rs) h = grind (arith, has_no_freed id rs h.1)
 
-    none_held : (ids : List ℕ) → not (length ids == 0) ≡ false → holds c ids ≡ false
+    none_held : (ids : List ℕ) → not (length ids == 0) ≡ false → has_id c ids ≡ false
     none_held [] h = refl
     none_held (x ∷ xs) h = grind (arith, nat_tests)
 
     own_row : (id : ℕ) (r : Held) (rest : List Held) → bytes_eq key r.key ≡ true → HasNo key rest
-        → holds c (holders_of key (cond (is_held (freed_of id r)) (freed_of id r ∷ rest) rest))
-        ≡ (not (id == c) && holds c r.holders)
+        → has_id c (holders_of key (cond (is_held (freed_of id r)) (freed_of id r ∷ rest) rest))
+        ≡ (not (id == c) && has_id c r.holders)
     own_row id r rest e h =
         elim (is_held (freed_of id r)) as (λ b. is_held (freed_of id r) ≡ b
-        → holds c (holders_of key (cond b (freed_of id r ∷ rest) rest))
-        ≡ (not (id == c) && holds c r.holders)) [
-          | true ↦ λ f. ap (λ b. holds c (cond b (without_id id r.holders) (holders_of key rest))) e
+        → has_id c (holders_of key (cond b (freed_of id r ∷ rest) rest))
+        ≡ (not (id == c) && has_id c r.holders)) [
+          | true ↦ λ f.
+              ap (λ b. has_id c (cond b (without_id id r.holders) (holders_of key rest))) e
               ∙ holds_without id r.holders
-          | false ↦ λ f. ap (holds c) (none_holds key rest h)
+          | false ↦ λ f. ap (has_id c) (none_holds key rest h)
               ∙ sym (none_held (without_id id r.holders) f)
               ∙ holds_without id r.holders
         ] refl
@@ -168,16 +170,16 @@ module _ (c : ℕ) where
 
     -- a connection that is freed holds no key, and the others hold what they held
     pub holds_freed : (id : ℕ) (rows : List Held) → AreOrdered rows
-        → holds c (holders_of key (without_connection id rows))
-        ≡ (not (id == c) && holds c (holders_of key rows))
+        → has_id c (holders_of key (without_connection id rows))
+        ≡ (not (id == c) && has_id c (holders_of key rows))
     holds_freed id [] h = grind arith
     holds_freed id (r ∷ rs) h =
         elim (bytes_eq key r.key) as (λ b. bytes_eq key r.key ≡ b
-        → holds c (holders_of key (without_connection id (r ∷ rs)))
-        ≡ (not (id == c) && holds c (cond b r.holders (holders_of key rs)))) [
+        → has_id c (holders_of key (without_connection id (r ∷ rs)))
+        ≡ (not (id == c) && has_id c (cond b r.holders (holders_of key rs)))) [
           | true ↦ λ e. own_row id r (without_connection id rs) e
               (has_no_freed id rs (same_has_no key r.key rs e h.1))
-          | false ↦ λ e. ap (holds c) (other_row id r (without_connection id rs) e)
+          | false ↦ λ e. ap (has_id c) (other_row id r (without_connection id rs) e)
               ∙ holds_freed id rs h.2
         ] refl
 
@@ -190,14 +192,14 @@ module _ (c : ℕ) where
 
     -- a key that holds behind the first rows holds among all
     pub held_drop : (n : ℕ) (rows : List Held) → AreOrdered rows
-        → holds c (holders_of key (drop n rows)) ≡ true → holds c (holders_of key rows) ≡ true
+        → has_id c (holders_of key (drop n rows)) ≡ true → has_id c (holders_of key rows) ≡ true
     held_drop zero rows h e = e
     held_drop (suc n) [] h e = e
     held_drop (suc n) (r ∷ rs) h e =
         elim (bytes_eq key r.key) as (λ b. bytes_eq key r.key ≡ b
-        → holds c (cond b r.holders (holders_of key rs)) ≡ true) [
-          | true ↦ λ f. let none : holds c (holders_of key (drop n rs)) ≡ false =
-              ap (holds c) (none_holds key (drop n rs)
+        → has_id c (cond b r.holders (holders_of key rs)) ≡ true) [
+          | true ↦ λ f. let none : has_id c (holders_of key (drop n rs)) ≡ false =
+              ap (has_id c) (none_holds key (drop n rs)
               (has_no_drop n rs (same_has_no key r.key rs f h.1))) in
               absurd (let no : ⊥ = cc in no)
           | false ↦ λ f. held_drop n rs h.2 e
@@ -206,14 +208,14 @@ module _ (c : ℕ) where
     -- a key of the first rows has no holder behind them
     pub none_behind : (n : ℕ) (rows : List Held) → AreOrdered rows
         → list_any (λ r. bytes_eq key r.key) (take n rows) ≡ true
-        → holds c (holders_of key (drop n rows)) ≡ false
+        → has_id c (holders_of key (drop n rows)) ≡ false
     none_behind zero rows h e = absurd (let no : ⊥ = cc in no)
     none_behind (suc n) [] h e = absurd (let no : ⊥ = cc in no)
     none_behind (suc n) (r ∷ rs) h e =
         elim (bytes_eq key r.key) as (λ b. bytes_eq key r.key ≡ b
         → (b || list_any (λ r. bytes_eq key r.key) (take n rs)) ≡ true
-        → holds c (holders_of key (drop n rs)) ≡ false) [
-          | true ↦ λ f g. ap (holds c) (none_holds key (drop n rs)
+        → has_id c (holders_of key (drop n rs)) ≡ false) [
+          | true ↦ λ f g. ap (has_id c) (none_holds key (drop n rs)
               (has_no_drop n rs (same_has_no key r.key rs f h.1)))
           | false ↦ λ f g. none_behind n rs h.2 g
         ] refl e

@@ -1,5 +1,6 @@
 pub mod Holders
 pub mod Counts
+pub mod Invalidations
 pub mod Remembering
 pub mod Told
 pub mod Owned

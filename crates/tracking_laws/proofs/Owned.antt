@@ -1,5 +1,5 @@
 -- What an entry leaves and brings of who remembers a key.
-use Rattle.std.proofs.Common.{◌≡◌, ◌∙◌, ◌-◌, ◌⊎◌, ℕ, List, [], Bool, true, cond, length}
+use Rattle.std.proofs.Common.{◌≡◌, ◌∙◌, ◌-◌, ℕ, List, [], Bool, true, false, cond, length}
 use Rattle.std.proofs.Common.{ap, sym, arith, refl}
 use Rattle.std.specs.Prelude.{◌==◌, ◌&&◌, ◌||◌, not}
 use Rattle.command_words.specs.declared.command.Signalled.{Signalled}
@@ -10,36 +10,49 @@ use Rattle.track_table.specs.Order.{AreOrdered}
 use Rattle.serial_model.specs.declared.history.Limits.{Limits}
 use Rattle.serial_model.specs.declared.history.Entry.{Entry}
 use Rattle.serial_model.specs.declared.history.Entry.TheVariants.{Admit, Run, Tick, Take, Close}
-use Rattle.serial_model.specs.Modes.{Memory, Remembers, Forgets, remembers_read}
+use Rattle.command_words.specs.Words.{reading}
+use Rattle.track_modes.specs.ModeState.{remembers_read}
+use Rattle.serial_model.specs.Modes.{Memory, Remembers, Registers, Forgets}
 use Rattle.serial_model.specs.Tracking.{remembering, without_signalled}
 use Rattle.serial_model.specs.History.{table, table_then, table_grown, expired, signals, mode}
-use Rattle.serial_model.specs.History.{served_reading, made_of, made}
-use Rattle.serial_model.specs.Laws.{is_among}
-use Rattle.serial_model.proofs.KeyHolders.{holds}
-use Rattle.tracking_laws.specs.Told.{is_signalled, is_flush, keys_read, reads_key, remembers}
+use Rattle.serial_model.specs.History.{state, served_reading, made_of, made, runner}
+use Rattle.serial_model.proofs.StateSteps.{run_table, tick_table}
+use Rattle.command_words.specs.Laws as cause
+use Rattle.serial_model.specs.Laws.{is_among, remembers, drops_key}
+use Rattle.serial_model.specs.Tracking.{has_id}
+use Rattle.tracking_laws.specs.Told.{is_signalled, is_flush, keys_read, reads_key}
 use Rattle.tracking_laws.specs.Causes.{RememberedIsRead, GoneIsForgotten}
 use Rattle.serial_model.proofs.KeptTables.{is_table, is_table_then, is_table_grown}
 use Rattle.serial_model.proofs.KeptTables.{table_without_signalled}
 use Rattle.tracking_laws.proofs.Holders.{holds_with_keys, holds_without_keys, holds_freed}
 use Rattle.tracking_laws.proofs.Holders.{held_drop, none_behind}
-use Rattle.tracking_laws.proofs.Remembering.{own_memory}
+use Rattle.tracking_laws.proofs.Remembering.{own_memory, Brings}
+use Rattle.std.proofs.lemmas.Bool.{or_left, and_parts, both_ways, false_from_ne_true}
 
 module _ (c : ℕ) (key : List ℕ) where
   -- a command takes what it signals, and a flush all
   pub holds_signalled : (sig : Signalled) (rows : List Held)
-      → holds c (holders_of key (without_signalled sig rows))
-      ≡ (not (is_flush sig || is_signalled sig key) && holds c (holders_of key rows))
+      → has_id c (holders_of key (without_signalled sig rows))
+      ≡ (not (is_flush sig || is_signalled sig key) && has_id c (holders_of key rows))
   holds_signalled (Keys keys) rows = holds_without_keys c key keys rows
   holds_signalled All rows = refl
 
-  -- what is remembered of these keys is new or was remembered
+  -- what is remembered is of these keys or was remembered
   held_remembering : (id : ℕ) (memory : Memory) (keys : List (List ℕ)) (rows : List Held)
-      → AreOrdered rows
-      → (memory ≡ Forgets) ⊎ (memory ≡ Remembers keys)
-      → holds c (holders_of key (remembering id memory rows)) ≡ true
-      → (holds c (holders_of key rows) || ((id == c) && is_among keys key)) ≡ true
-  held_remembering id memory keys rows h by e =
-      grind (arith, holds_with_keys, holds_freed)
+      → AreOrdered rows → Brings keys memory
+      → has_id c (holders_of key (remembering id memory rows)) ≡ true
+      → (has_id c (holders_of key rows) || ((id == c) && is_among keys key)) ≡ true
+  held_remembering id (Remembers ks) keys rows h by e =
+      brought (id == c) (is_among ks key) (is_among keys key) (has_id c (holders_of key rows))
+      (by key) (sym (holds_with_keys c key id ks rows) ∙ e)
+    where
+      brought : (a b d x : Bool) → (b ≡ true → d ≡ true) → ((a && b) || x) ≡ true
+          → (x || (a && d)) ≡ true
+      brought a b d x f g = grind arith
+  held_remembering id (Registers ps) keys rows h by e = or_left _ _ e
+  held_remembering id Forgets keys rows h by e =
+      or_left _ _ (and_parts (not (id == c)) (has_id c (holders_of key rows))
+      (sym (holds_freed c key id rows h) ∙ e)).1
 
 module _ (l : Limits) (past : List Entry) (c : ℕ) (key : List ℕ) where
   among : (b : Bool) (keys : List (List ℕ)) → is_among (cond b keys []) key
@@ -58,8 +71,8 @@ module _ (l : Limits) (past : List Entry) (c : ℕ) (key : List ℕ) where
       let own = held_remembering c key id (made l past id words).memory
       (cond (remembers_read m) (keys_read (served_reading words)) []) (without_signalled sig then)
       (table_without_signalled sig then (is_table_then l past moment)).ordered
-      (own_memory (served_reading words) m) e in
-      ap (λ b. holds c (holders_of key (without_signalled sig then)) || ((id == c) && b))
+      (own_memory (reading words) (runner l past id words)) e in
+      ap (λ b. has_id c (holders_of key (without_signalled sig then)) || ((id == c) && b))
       (sym (among (remembers_read m) (keys_read (served_reading words)))) ∙ own
 
   -- what stands in the table of a Run where its command signals stood there before
@@ -78,21 +91,41 @@ module _ (l : Limits) (past : List Entry) (c : ℕ) (key : List ℕ) where
       holds_signalled c key sig (table_then l past moment)
       ∙ ap (λ b. not (is_flush sig || is_signalled sig key) && b) (then_is moment)
 
+known : (x own a b r : Bool) → x ≡ (a && (b && r)) → (x || own) ≡ true → (r || own) ≡ true
+known x own a b r e h = grind arith
+
 -- what a connection comes to remember, it reads
 pub remembered_is_read : (l : Limits) (entry : Entry) (past : List Entry)
     → RememberedIsRead l entry past
-remembered_is_read l (Admit id) past c key h = grind arith
+unfolding state
+remembered_is_read l (Admit id) past c key h = or_left _ _ h
 remembered_is_read l (Run id words moment) past c key h =
     let grown = table_grown l past id words moment in
     let here = held_drop c key (length grown - l.table_max) grown
-    (is_table_grown l past id words moment).ordered h in
-    grind (arith, grown_is l past c key id words moment here, before_read)
-remembered_is_read l (Tick moment) past c key h = grind (arith, then_is l past c key moment)
-remembered_is_read l (Take id max) past c key h = grind arith
+    (is_table_grown l past id words moment).ordered
+    (ap (λ rows. remembers rows c key) (sym (run_table l past id moment words)) ∙ h) in
+    known _ _ _ _ _ (before_read l past c key id words moment)
+    (grown_is l past c key id words moment here)
+remembered_is_read l (Tick moment) past c key h =
+    or_left _ _ (and_parts (not (is_among (expired l past moment) key))
+    (remembers (table l past) c key)
+    (sym (ap (λ rows. remembers rows c key) (tick_table l past moment)
+    ∙ then_is l past c key moment) ∙ h)).1
+remembered_is_read l (Take id max) past c key h = or_left _ _ h
 remembered_is_read l (Close id) past c key h =
-    grind (arith, holds_freed c key id (table l past) (is_table l past).ordered)
+    or_left _ _ (and_parts (not (id == c)) (remembers (table l past) c key)
+    (sym (holds_freed c key id (table l past) (is_table l past).ordered) ∙ h)).1
 
 -- ---- what is signalled or dropped is forgotten
+
+signals_as : (sig : Signalled) (key : List ℕ)
+    → cause.signals sig key ≡ (is_flush sig || is_signalled sig key)
+signals_as sig key = grind arith
+
+forgotten : (dropped x own left signalled held : Bool) → dropped ≡ false
+    → ((left || signalled) || dropped) ≡ true → x ≡ (not signalled && (not left && held))
+    → (x || own) ≡ true → (own && not dropped) ≡ true
+forgotten dropped x own left signalled held none gone e h = grind arith
 
 pub gone_is_forgotten : (l : Limits) (entry : Entry) (past : List Entry)
     → GoneIsForgotten l entry past
@@ -101,14 +134,18 @@ gone_is_forgotten l (Run id words moment) past c key gone h =
     let grown = table_grown l past id words moment in
     let n = length grown - l.table_max in
     let ordered = (is_table_grown l past id words moment).ordered in
-    let here = held_drop c key n grown ordered h in
-    grind (
-      arith,
-      none_behind c key n grown ordered,
-      grown_is l past c key id words moment here,
-      before_read,
-    )
+    let stays = ap (λ rows. remembers rows c key) (sym (run_table l past id moment words)) ∙ h in
+    let here = held_drop c key n grown ordered stays in
+    let sig = signals l past id words moment in
+    forgotten (drops_key l (Run id words moment) past key) _
+    (reads_key l (Run id words moment) past c key) (is_among (expired l past moment) key)
+    (is_flush sig || is_signalled sig key) (remembers (table l past) c key)
+    (false_from_ne_true _ (λ e. both_ways _ (none_behind c key n grown ordered e) stays))
+    (sym (ap (λ b. (is_among (expired l past moment) key || b)
+    || drops_key l (Run id words moment) past key) (signals_as sig key)) ∙ gone)
+    (before_read l past c key id words moment) (grown_is l past c key id words moment here)
 gone_is_forgotten l (Tick moment) past c key gone h =
-    grind (arith, then_is l past c key moment)
+    let stays = ap (λ rows. remembers rows c key) (sym (tick_table l past moment)) ∙ h in
+    grind (arith, then_is l past c key moment, stays)
 gone_is_forgotten l (Take id max) past c key gone h = absurd (let no : ⊥ = cc in no)
 gone_is_forgotten l (Close id) past c key gone h = absurd (let no : ⊥ = cc in no)

@@ -1,6 +1,6 @@
 -- How often an entry tells a connection of a key.
-use Rattle.std.proofs.Common.{◌≡◌, ◌∙◌, ◌⊎◌, ◌+◌, ◌-◌, ◌<◌, ◌≤◌, ℕ, List, ◌∷◌, Bool, true}
-use Rattle.std.proofs.Common.{false, length, ap, sym, subst, arith}
+use Rattle.std.proofs.Common.{◌≡◌, ◌∙◌, ◌⊎◌, ◌+◌, ◌-◌, ◌<◌, ◌≤◌, ℕ, List, Bool, true}
+use Rattle.std.proofs.Common.{false, length, ap, sym, subst, arith, refl, ◌++◌}
 use Rattle.std.specs.Prelude.{◌&&◌, ◌||◌, not}
 use Rattle.command_words.specs.Expiry.{without_due}
 use Rattle.command_words.specs.Words.{reading}
@@ -12,13 +12,16 @@ use Rattle.track_table.specs.Order.{IsTable}
 use Rattle.serial_model.specs.declared.history.Limits.{Limits}
 use Rattle.serial_model.specs.declared.history.Entry.{Entry}
 use Rattle.serial_model.specs.declared.history.Entry.TheVariants.{Admit, Run, Tick, Take, Close}
-use Rattle.serial_model.specs.Tracking.{signal_group}
-use Rattle.serial_model.specs.History.{table, table_then, table_grown, expired, signals, tracking}
+use Rattle.serial_model.specs.Tracking.{Invalidation, drop_group, group, has_id, ids_where}
+use Rattle.serial_model.specs.Actions.{tracks}
+use Rattle.serial_model.specs.Plain.{signalled_group}
+use Rattle.tracking_laws.proofs.Invalidations.{run_told, tick_told}
+use Rattle.serial_model.specs.History.{state, table, table_then, table_grown, expired, signals}
+use Rattle.serial_model.specs.History.{drops}
 use Rattle.serial_model.specs.History.{invalidations, keyspace, runner, ran_over}
-use Rattle.serial_model.specs.Laws.{is_among, drops_key}
-use Rattle.serial_model.proofs.KeyHolders.{holds}
+use Rattle.serial_model.specs.Laws.{is_among, remembers, drops_key}
 use Rattle.tracking_laws.specs.Told.{once, times_told, is_signalled, ToldByName}
-use Rattle.tracking_laws.specs.Told.{ToldIsRemembered, ToldOnce, is_flush, reads_key, remembers}
+use Rattle.tracking_laws.specs.Told.{ToldIsRemembered, ToldOnce, is_flush, reads_key}
 use Rattle.tracking_laws.proofs.Remembering.{signals_or_reads}
 use Rattle.tracking_laws.proofs.Owned.{grown_is, before_read, then_is}
 use Rattle.serial_model.proofs.KeptTables.{is_table, is_table_then, is_table_grown}
@@ -27,26 +30,44 @@ use Rattle.tracking_laws.proofs.Counts.{told_append, group_once, drop_once, flus
 module _ (c : ℕ) (key : List ℕ) where
   -- a command tells of what it signals by name
   signal_once : (sig : Signalled) (ids : List ℕ) (rows : List Held) → IsTable rows
-      → times_told c key (signal_group sig ids rows)
-      ≡ once (is_signalled sig key && holds c (holders_of key rows))
+      → times_told c key (signalled_group sig ids rows)
+      ≡ once (is_signalled sig key && has_id c (holders_of key rows))
   signal_once (Keys keys) ids rows h = group_once c key keys rows h
   signal_once All ids rows h = flush_names_none c key ids
 
+  three : (a b d : List Invalidation)
+      → times_told c key (a ++ (b ++ d))
+      ≡ times_told c key a + times_told c key b + times_told c key d
+  three a b d = grind (arith, told_append)
+
 pub told_by_name : (l : Limits) (entry : Entry) (past : List Entry) → ToldByName l entry past
-told_by_name l (Admit id) past c key = grind arith
+told_by_name l (Admit id) past c key = refl
 told_by_name l (Run id words moment) past c key =
-    let first = group_once c key (expired l past moment) (table l past) (is_table l past) in
-    let own = signal_once c key (signals l past id words moment)
-    (tracking l (Run id words moment ∷ past)) (table_then l past moment)
-    (is_table_then l past moment) in
+    let sig = signals l past id words moment in
     let grown = table_grown l past id words moment in
-    let last = drop_once c key (length grown - l.table_max) grown
-    (is_table_grown l past id words moment).ordered in
-    grind (arith, told_append, first, own, last)
+    ap (times_told c key) (run_told l past id words moment)
+    ∙ three c key (group (expired l past moment) (table l past)) (signalled_group sig _
+    (table_then l past moment)) (drop_group (drops l past id words moment))
+    ∙ ap (λ n. n + times_told c key (signalled_group sig
+    (ids_where (tracks (state l past)) (state l past).admitted) (table_then l past moment))
+    + times_told c key (drop_group (drops l past id words moment)))
+    (group_once c key (expired l past moment) (table l past) (is_table l past))
+    ∙ ap (λ n. once (is_among (expired l past moment) key && remembers (table l past) c key) + n
+    + times_told c key (drop_group (drops l past id words moment)))
+    (signal_once c key sig _ (table_then l past moment) (is_table_then l past moment))
+    ∙ ap (λ n. once (is_among (expired l past moment) key && remembers (table l past) c key)
+    + once (is_signalled sig key && remembers (table_then l past moment) c key) + n)
+    (drop_once c key (length grown - l.table_max) grown
+    (is_table_grown l past id words moment).ordered)
 told_by_name l (Tick moment) past c key =
-    grind (arith, group_once c key (expired l past moment) (table l past) (is_table l past))
-told_by_name l (Take id max) past c key = grind arith
-told_by_name l (Close id) past c key = grind arith
+    ap (times_told c key) (tick_told l past moment)
+    ∙ group_once c key (expired l past moment) (table l past) (is_table l past)
+    ∙ none_more _
+  where
+    none_more : (n : ℕ) → n ≡ n + 0 + 0
+    none_more n = omega arith
+told_by_name l (Take id max) past c key = refl
+told_by_name l (Close id) past c key = refl
 
 -- ---- what that says of whether the key was remembered
 
@@ -108,7 +129,7 @@ module _ (l : Limits) (past : List Entry) (c : ℕ) (key : List ℕ) (id : ℕ)
   run_apart =
       grind (
         arith,
-        signals_or_reads (runner l past id) words (reading words)
+        signals_or_reads (runner l past id words) words (reading words)
             (without_due moment (keyspace l past)) moment,
       )
 

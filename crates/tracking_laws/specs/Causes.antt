@@ -5,8 +5,9 @@ use Rattle.serial_model.specs.declared.history.Entry.{Entry}
 use Rattle.serial_model.specs.declared.history.Entry.TheVariants.{Close}
 use Rattle.serial_model.specs.History.{mode, table, has_ended}
 use Rattle.serial_model.specs.History.{is_admitted, is_tracking}
-use Rattle.serial_model.specs.Laws.{is_told, is_due, signals_key, drops_key}
-use Rattle.tracking_laws.specs.Told.{remembers, reads_key, rows_at_drop}
+use Rattle.serial_model.specs.Laws.{is_told, is_due, remembers, signals_key, drops_key}
+use Rattle.track_modes.specs.ModeState.{is_on}
+use Rattle.tracking_laws.specs.Told.{reads_key, rows_at_drop}
 
 -- the entry is the end of the connection
 abbrev pub ends : Entry → ℕ → Bool
@@ -34,7 +35,7 @@ LeavesForCause l entry past =
     (c : ℕ) (key : List ℕ)
     → remembers (table l past) c key ≡ true
     → remembers (table l (entry ∷ past)) c key ≡ false
-    → (signals_key l entry past key || not (mode l c (entry ∷ past)).tracking
+    → (signals_key l entry past key || not (is_on (mode l c (entry ∷ past)).tracking)
     || ends entry c || drops_key l entry past key) ≡ true
 
 -- A key that an entry signals or drops is forgotten: a connection remembers it behind the entry

@@ -2,22 +2,20 @@
 -- client-side caching reference, "The invalidation table").
 use Rattle.std.specs.Prelude.{◌≡◌, ◌+◌, ◌<◌, ◌≤◌, ◌==◌, ◌&&◌, ◌||◌, ℕ, List, [], ◌∷◌, Bool}
 use Rattle.std.specs.Prelude.{true, false, Option, Some, None, Result, Ok, Err, if◌then◌else◌}
-use Rattle.std.specs.List.{list_any}
 use Rattle.command_words.specs.declared.command.Command.{Command}
 use Rattle.command_words.specs.declared.command.Signalled.{Signalled}
 use Rattle.command_words.specs.declared.command.Signalled.TheVariants as signalled
 use Rattle.command_words.specs.declared.command.WordFault.{WordFault}
 use Rattle.command_words.specs.Queries.{read}
 use Rattle.track_table.specs.declared.table.Held.{Held}
-use Rattle.track_table.specs.Table.{holders_of}
 use Rattle.serial_model.specs.declared.history.Limits.{Limits}
 use Rattle.serial_model.specs.declared.history.Entry.{Entry}
 use Rattle.serial_model.specs.declared.history.Entry.TheVariants.{Run, Tick}
-use Rattle.serial_model.specs.Modes.{remembers_read}
+use Rattle.track_modes.specs.ModeState.{remembers_read}
 use Rattle.serial_model.specs.Tracking.{Invalidation}
 use Rattle.serial_model.specs.History.{expired, signals, served_reading, mode, table, table_then}
 use Rattle.serial_model.specs.History.{table_grown, invalidations, is_admitted, is_tracking}
-use Rattle.serial_model.specs.Laws.{is_among, drops_key}
+use Rattle.serial_model.specs.Laws.{is_among, remembers, drops_key}
 
 -- ---- counts
 
@@ -46,10 +44,6 @@ times_flushed c [] = 0
 times_flushed c (i ∷ told) = once ((i.to == c) && is_null i.keys) + times_flushed c told
 
 -- ---- what is remembered, step by step
-
--- the connection is among those that remember the key
-abbrev pub remembers : List Held → ℕ → List ℕ → Bool
-remembers rows c key = list_any (λ h. h == c) (holders_of key rows)
 
 -- the table where an entry's command signals
 abbrev pub rows_at_signal : Limits → Entry → List Entry → List Held
@@ -119,7 +113,7 @@ abbrev pub ToldOfAll : Limits → Entry → List Entry → Type 0
 ToldOfAll l entry past =
     (c : ℕ)
     → times_flushed c (invalidations l entry past)
-    ≡ once (flushes l entry past && (is_admitted past c && is_tracking l (entry ∷ past) c))
+    ≡ once (flushes l entry past && (is_admitted past c && is_tracking l past c))
 
 -- A connection is told of a key by name only if it remembered the key, before the entry or by the
 -- entry's own read.

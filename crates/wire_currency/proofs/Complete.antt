@@ -4,7 +4,7 @@ use Rattle.std.proofs.Common.{true, false, cond, refl, ap, sym, ◌∙◌, arith
 use Rattle.std.specs.Prelude.{slice_get}
 use Rattle.std.proofs.lemmas.Bool.{cases_lt}
 use Rattle.std.proofs.lemmas.Option.{slice_get_within}
-use Rattle.wire_currency.specs.Traffic.{In, Traffic, AreGot, Meets, SentLaws}
+use Rattle.wire_currency.specs.Traffic.{In, Traffic, AreGot, Meets, SentInOrder}
 use Rattle.wire_currency.specs.Current.{before_first, complete_on, complete}
 use Rattle.wire_currency.specs.Complete.{AllGot, WaitsFrom, CompleteOn, CompletesExactly}
 use Rattle.wire_currency.proofs.Lists.{get_dropped, nothing_dropped}
@@ -46,7 +46,7 @@ module _ {Wire Log Words Value Message : Type 0} (x : Traffic Wire Log Words Val
       ap (λ b. cond b x.last (before_first (drop (length (x.gots w log)) (x.sent w)) x.last)) h
 
 module _ {Wire Log Words Value Message : Type 0} (IsGot : Value → Message → Type 0)
-    (x : Traffic Wire Log Words Value Message) (log : List Log) (order : SentLaws IsGot x) where
+    (x : Traffic Wire Log Words Value Message) (log : List Log) (order : SentInOrder IsGot x) where
   pub waits_after : (w : Wire) → In w x.wires → (n place : ℕ) (s : ℕ × Message)
       → slice_get (x.sent w) place ≡ Some s → length (x.gots w log) ≤ place → s.0 ≤ n
       → (ss : List (ℕ × Message)) → drop (length (x.gots w log)) (x.sent w) ≡ ss

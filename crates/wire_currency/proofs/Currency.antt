@@ -24,8 +24,8 @@ module _ {Wire Log Words Value Message Answer : Type 0} (IsGot : Value → Messa
       → i < length (x.gots f.home log) → slice_get (x.sent f.home) i ≡ Some s
       → s.0 ≤ complete x log + 1
   got_complete alone i s lt there =
-      let le = (order.sent_within f.home laws.home_is i s there).1 in
-      let by = got_by IsGot x log order f.home laws.home_is i s lt there
+      let le = (order.in_order.sent_within f.home laws.home_is i s there).1 in
+      let by = got_by IsGot x log order.in_order f.home laws.home_is i s lt there
       (drop (length (x.gots f.home log)) (x.sent f.home)) refl in
       let home = open_is x log f.home (laws.open_wires f.home (laws.home_watched alone)) in
       let all = least_from (complete_on x log) x.last (s.0 - 1) x.wires (omega (arith, le))
@@ -40,7 +40,7 @@ module _ {Wire Log Words Value Message Answer : Type 0} (IsGot : Value → Messa
       let k = reply_now IsGot x log meets order f.home laws.home_is f.place v e in (
         k.sending.0,
         k.entry,
-        (order.sent_within f.home laws.home_is k.place k.sending k.there).1,
+        (order.in_order.sent_within f.home laws.home_is k.place k.sending k.there).1,
       )
 
   module _ (AsAsked Remembered : ℕ → Type 0) (at : ℕ) (within : at ≤ x.last)
@@ -53,7 +53,8 @@ module _ {Wire Log Words Value Message Answer : Type 0} (IsGot : Value → Messa
         → Pending IsGot x f AsAsked Remembered at log meets laws order entry handshake run n → ⊥
     none_pending n le p =
         let has = laws.watched_in p.wire p.watched in
-        let after = waits_after IsGot x log order p.wire has n p.place p.sending p.there p.waits
+        let after = waits_after IsGot x log order.in_order p.wire has n p.place p.sending p.there
+        p.waits
         p.by (drop (length (x.gots p.wire log)) (x.sent p.wire)) refl in
         let is = open_is x log p.wire (laws.open_wires p.wire p.watched) in
         let below = least_below (complete_on x log) x.last x.wires p.wire has in
@@ -63,7 +64,7 @@ module _ {Wire Log Words Value Message Answer : Type 0} (IsGot : Value → Messa
         → Steady IsGot x f AsAsked Remembered at log meets laws order entry handshake run r
     stands r from le =
         elim (covered IsGot x f AsAsked Remembered at log meets laws order entry handshake run r
-        from (omega (arith, le, complete_le IsGot x log order))) [
+        from (omega (arith, le, complete_le IsGot x log order.in_order))) [
           | inl steady ↦ steady
           | inr waits ↦ absurd (none_pending r le waits)
         ]
@@ -104,13 +105,13 @@ module _ {Wire Log Words Value Message Answer : Type 0} (IsGot : Value → Messa
         let number : g.sending.0 ≡ r = same_Some g.sending.0 r (sym g.entry ∙ e) in
         let next : r ≡ suc c = omega (arith, by, above, number) in
         let from : at ≤ c = omega (arith, next, lt) in
-        let full = (order.sent_within f.home laws.home_is g.place g.sending g.there).1 in
+        let full = (order.in_order.sent_within f.home laws.home_is g.place g.sending g.there).1 in
         let short : c < x.last = omega (arith, next, full, number) in
         let unwritten = laws.no_later_write q.place q.words
         (behind_fetch IsGot x f log meets laws order at run q.place r lt e)
         (run_is_command IsGot x log meets order f.home laws.home_is q.place q.words ran) in
         elim (entry.before_the_reply alone c q.place g.place q.words g.sending from short
-        (handshake.as_asked c from (complete_le IsGot x log order))
+        (handshake.as_asked c from (complete_le IsGot x log order.in_order))
         ((stands c from (omega arith)).0) (e ∙ ap Some next) ran unwritten g.there
         (number ∙ next) g.is_reply) [
           | inl same ↦ steady c from (omega arith) ∙ sym same ∙ ap f.answer (sym next)
@@ -154,7 +155,7 @@ module _ {Wire Log Words Value Message Answer : Type 0} (IsGot : Value → Messa
       answers = answers;
       within =
           let last = named_le IsGot x f log meets laws order in
-          let c = complete_le IsGot x log order in
+          let c = complete_le IsGot x log order.in_order in
           omega (arith, within, last, c);
       after = λ w has i u s got voided there.
           let b = voided_before IsGot x f log meets laws order at run w has i u s got voided

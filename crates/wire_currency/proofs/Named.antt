@@ -52,7 +52,7 @@ module _ {Wire Log Words Value Message Answer : Type 0} (IsGot : Value → Messa
             let has = laws.data_in q.wire q.is_data in
             let u = at_place (replies x q.wire log) q.place q.got in
             let g = reply_now IsGot x log meets order q.wire has q.place u.0 u.1 in
-            let within = (order.sent_within q.wire has g.place g.sending g.there).1 in
+            let within = (order.in_order.sent_within q.wire has g.place g.sending g.there).1 in
             let same : g.sending.0 ≡ named x log f.names =
             same_Some g.sending.0 (named x log f.names) (sym g.entry ∙ q.ran_at) in
             omega (arith, within, same)

@@ -1,7 +1,7 @@
 -- How far a client has processed what was sent to it, told by what it got: exactly.
 use Rattle.std.specs.Prelude.{◌≡◌, ◌+◌, ◌<◌, ◌≤◌, ◌⊎◌, ℕ, List, length, true, false, Some}
 use Rattle.std.specs.Prelude.{slice_get}
-use Rattle.wire_currency.specs.Traffic.{In, Traffic, Meets, SentLaws}
+use Rattle.wire_currency.specs.Traffic.{In, Traffic, Meets, SentInOrder}
 use Rattle.wire_currency.specs.Current.{complete, complete_on}
 
 module _ {Wire Log Words Value Message : Type 0} (x : Traffic Wire Log Words Value Message)
@@ -36,4 +36,4 @@ abbrev pub CompletesExactly : (Wire Log Words Value Message : Type 0)
     → (Value → Message → Type 0) → Type 0
 CompletesExactly Wire Log Words Value Message IsGot =
     (x : Traffic Wire Log Words Value Message) (log : List Log)
-    → (w : Wire) → In w x.wires → Meets IsGot x log → SentLaws IsGot x → CompleteExactly x log
+    → (w : Wire) → In w x.wires → Meets IsGot x log → SentInOrder IsGot x → CompleteExactly x log

@@ -80,16 +80,20 @@ module _ {Wire Log Words Value Message : Type 0} (IsGot : Value → Message → 
     pub number : sending.0 ≤ r
     pub never : (v : Value) → IsGot v sending.1 → ⊥
 
-  -- Of a legal history alone: what was sent is in the order of its entries, of which the first has
-  -- number 1; so is what ran; the replies are those of the commands that ran, one for one; a value
-  -- is a reply exactly where what it was got of is one; and an end is sent.
-  pub record SentLaws : Type 0 where
+  -- Of any history: what was sent is in the order of its entries, of which the first has number 1.
+  pub record SentInOrder : Type 0 where
     pub sent_within :
         (w : Wire) → In w x.wires → (i : ℕ) (s : ℕ × Message) → slice_get (x.sent w) i ≡ Some s
         → (0 < s.0) × (s.0 ≤ x.last)
     pub sent_order :
         (w : Wire) → In w x.wires → (i j : ℕ) (s t : ℕ × Message) → i ≤ j
         → slice_get (x.sent w) i ≡ Some s → slice_get (x.sent w) j ≡ Some t → s.0 ≤ t.0
+
+  -- Of a legal history alone: what ran is in that order too; the replies are those of the commands
+  -- that ran, one for one; a value is a reply exactly where what it was got of is one; and an end
+  -- is sent.
+  pub record SentLaws : Type 0 where
+    pub in_order : SentInOrder
     pub runs_order :
         (w : Wire) → In w x.wires → (i j p q : ℕ) → i < j → slice_get (x.entries w) i ≡ Some p
         → slice_get (x.entries w) j ≡ Some q → p < q

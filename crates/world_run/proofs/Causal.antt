@@ -9,7 +9,7 @@ use Rattle.resp_value.specs.declared.value.Value.{Value}
 use Rattle.serial_model.specs.declared.history.Limits.{Limits}
 use Rattle.serial_model.specs.declared.history.Entry.{Entry}
 use Rattle.serial_model.specs.declared.history.Entry.TheVariants as entry
-use Rattle.serial_model.specs.History.{Sending, run_entries, sends, sent, sent_to, runs_of}
+use Rattle.serial_model.specs.History.{Sending, run_entries, sends, sent, sent_to, state, runs_of}
 use Rattle.shared_cache.specs.declared.log.Wire.{Wire}
 use Rattle.shared_cache.specs.declared.log.LogEntry.{LogEntry}
 use Rattle.shared_cache.specs.Held.{commands}
@@ -45,7 +45,8 @@ pub sent_number : (l : Limits) (c : ℕ) (past : List Entry) (i : ℕ) (s : ℕ 
     → slice_get (sent l c past) i ≡ Some s → s.0 ≤ length past
 sent_number l c [] i s e = absurd (let no : ⊥ = cc in no)
 sent_number l c (x ∷ past) i s e =
-    elim (get_parts (sent l c past) (sent_to (length past + 1) c (sends l x past)) i s e) [
+    elim (get_parts (sent l c past)
+    (sent_to (length past + 1) c (sends l x (state l past))) i s e) [
       | inl old ↦ let le = sent_number l c past i s old in omega (arith, le)
       | inr new ↦ grind (arith, number_of)
     ]
@@ -55,7 +56,7 @@ pub sent_more : (l : Limits) (c : ℕ) (es past : List Entry)
 sent_more l c [] past = ([], sym (append-nil (sent l c past)))
 sent_more l c (e ∷ es) past =
     let r = sent_more l c es past in
-    let last = sent_to (length (es ++ past) + 1) c (sends l e (es ++ past)) in (
+    let last = sent_to (length (es ++ past) + 1) c (sends l e (state l (es ++ past))) in (
       r.0 ++ last,
       ap (λ ss. ss ++ last) r.1 ∙ append_assoc (sent l c past) r.0 last,
     )

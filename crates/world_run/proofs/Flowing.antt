@@ -100,6 +100,12 @@ module _ (l : Limits) (heard : ℕ → List ℕ) (raw : List ℕ → List ℕ) (
 
 -- ---- all links flow
 
+-- the next link has flowed too
+one_more : (n i : ℕ) (xs : List ℕ) (read : ℕ → List ℕ)
+    → (xs ++ cond (nat_lt i n) (read i) []) ++ cond (n == i) (read n) []
+    ≡ xs ++ cond (nat_lt i (suc n)) (read i) []
+one_more n i xs read = grind (arith, append-nil, cases_lt)
+
 module _ (l : Limits) (heard : ℕ → List ℕ) (raw : List ℕ → List ℕ) (lines : List Line)
     (w : WorldState) (h : WorldStands l heard raw lines w) where
   -- what was heard once so many links have flowed
@@ -133,7 +139,8 @@ module _ (l : Limits) (heard : ℕ → List ℕ) (raw : List ℕ → List ℕ) (
           subst (λ y. WorldStands l (heard_first (suc n)) raw y u.state)
               (append_assoc lines m.lines u.lines)
               (stands_again l _ (heard_first (suc n)) raw raw ((lines ++ m.lines) ++ u.lines)
-              u.state (grind (arith, append-nil, cases_lt)) (λ k free. refl) (o.ends e)),
+              u.state (λ i. one_more n i (heard i) (λ j. flow_heard j (flow_first j w).state))
+              (λ k free. refl) (o.ends e)),
         );
         all = λ t ls r.
             subst (λ y. WorldPart l raw y t) (append_assoc lines m.lines ls) (o.all t ls r);

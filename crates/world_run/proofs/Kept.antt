@@ -12,6 +12,7 @@ use Rattle.resp_stream.specs.declared.fault.FaultPlace.{FaultPlace}
 use Rattle.resp_stream.specs.Parse.{parse_values}
 use Rattle.serial_model.specs.declared.history.Entry.{Entry}
 use Rattle.serial_model.specs.declared.history.Entry.TheVariants as entry
+use Rattle.serial_model.proofs.Standings.{ended_tick}
 use Rattle.shared_cache.specs.declared.log.ClientCall.{ClientCall}
 use Rattle.shared_cache.specs.declared.log.ClientCall.TheVariants as call
 use Rattle.shared_cache.specs.declared.log.Wire.TheVariants.{Main}
@@ -73,7 +74,10 @@ tick_kept w moment = record {
   grows = refl;
   others = λ i n. refl;
   stay = record {
-    over = λ at is. record { ended = is.ended; read = is.read };
+    over = λ at is. record {
+      ended = ended_tick w.limits w.past (at_place w.links at).id moment ∙ is.ended;
+      read = is.read;
+    };
     named = λ at lt. refl;
   };
 }

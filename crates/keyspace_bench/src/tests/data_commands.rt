@@ -286,15 +286,29 @@ const TAKEN_BACK: &str = "\
 GET t
 SET t new
 SET u new PX 5
+SET t new NX
+SET t new XX KEEPTTL
+SETNX t new
+SETNX u new
+GETDEL t
+GETDEL h
 APPEND t x
 INCR n
 MSET t 1 v 2 s 3
+MSET t 1 t 2
 HSET h b 5 d 6
 HDEL h a b
 HDEL h a b c
+HDEL h b
+HDEL h b a b
+HDEL h d
 HINCRBY i n 5
 DEL s t h
+DEL t u t
 RENAME h i
+RENAME t u
+RENAME u t
+RENAME t t
 PERSIST h
 EXPIRE t 0
 FLUSHALL

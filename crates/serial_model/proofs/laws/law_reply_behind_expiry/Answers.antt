@@ -1,12 +1,18 @@
-use Rattle.std.proofs.Common.{refl, [], ◌∷◌, ◌++◌}
+use Rattle.std.proofs.Common.{map, ◌++◌}
 use Rattle.serial_model.proofs.laws.law_reply_behind_expiry.Goals as goal
-use Rattle.serial_model.specs.declared.history.Entry.TheVariants.{Run}
-use Rattle.serial_model.specs.History.{routed, modes, own_group, drops}
-use Rattle.serial_model.specs.Tracking.{drop_group}
+use Rattle.serial_model.specs.State.{is_on}
+use Rattle.serial_model.specs.Actions.{End, ends, heard, is_overgrown, later_told, modes_then}
+use Rattle.serial_model.specs.Actions.{replies}
+use Rattle.serial_model.specs.Actions.{routed, expiry_told}
+use Rattle.serial_model.specs.History.{run_action, state}
+use Rattle.serial_model.proofs.Sendings.{parted}
 
 pub returns : goal.returns
-returns c = λ l id moment words past. (
-  routed (modes l (Run id words moment ∷ past))
-      (own_group l past id words moment ++ drop_group (drops l past id words moment)) ++ [],
-  refl,
-)
+returns c = λ l id moment words past.
+    let s = state l past in
+    let t = run_action id words moment s in
+    let last = routed (modes_then t s) (is_on s) (later_told l t s) in
+    let ended = map (λ c. (c, End)) (ends (is_overgrown l t s) t s) in (
+      heard s last ++ ended,
+      parted s (routed s.modes (is_on s) (expiry_told t s)) (replies t) last ended,
+    )

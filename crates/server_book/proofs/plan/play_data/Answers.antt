@@ -1,4 +1,6 @@
-use Rattle.std.proofs.Common.{refl}
+use Rattle.std.proofs.Common.{ap}
+use Rattle.track_modes.specs.declared.peer.Peer.{Peer}
+use Rattle.server_book.specs.Plans.{runner}
 use Rattle.server_book.proofs.Plans.{data_played}
 use Rattle.server_book.proofs.plan.play_data.Goals as goal
 
@@ -6,7 +8,7 @@ pub returns : goal.returns
 returns c =
     let turned = c.in_ok-expired.field-0 in
     let ran = c.in_ok-expired.ensures in
-    λ words. data_played _ c.args.by words c.args.command.now c.args.space.now
-    c.run_due.new.self c.args.moment turned.done.signalled c.in_ok-reads.reads c.requires
-    c.in_ok-reads.ensures ran.expired ran.turn.0 ran.turn.1 ran.turn.2 c.deed_of-deed.ensures refl
-    ran.undo
+    λ words. data_played _ (runner c.args.by.id c.args.mode.now) words c.args.command.now
+    c.args.space.now c.run_due.new.self c.args.moment turned.done.signalled c.in_ok-reads.reads
+    c.requires.row c.requires.plain c.in_ok-reads.ensures ran.expired ran.turn.0 ran.turn.1
+    ran.turn.2 c.deed_of-deed.ensures (ap (λ (p : Peer). p.proto) c.peer.ensures) ran.undo

@@ -1,13 +1,10 @@
 use Rattle.server_book.proofs.Sendings.{before_sendings, on_err}
-use Rattle.server_book.proofs.Groups.{so_far_there, ids_still, told_more}
+use Rattle.server_book.proofs.Groups.{so_far_there, told_more}
 use Rattle.std.proofs.Common.{ap, ◌∙◌, arith, length, ◌<◌}
 use Rattle.std.proofs.lemmas.List.{get_or_read, take_all}
 use Rattle.track_table.specs.declared.table.Held.{Held}
 use Rattle.track_table.specs.Places.{nobody}
 use Rattle.server_book.proofs.stores.tell_rows.Goals as goal
-
-pub tell-requires : goal.tell-requires
-tell-requires c = grind (arith, ids_still, get_or_read)
 
 pub returns-in_err-tell-clause-back : goal.returns-in_err-tell-clause-back
 returns-in_err-tell-clause-back c = grind (arith, on_err, before_sendings, so_far_there)
@@ -18,8 +15,8 @@ loop-place-preserved c =
     let k = c.loop-place.place in
     let lt : k < length rows = omega (arith, c.loop-place-test.true) in
     let row = get_or_read rows k c.index-rows-place.result lt c.index-rows-place.is nobody in
-    told_more c.args.entry c.args.connections.now c.loop-place.connections rows k c.requires
-    c.loop-place.invariant c.key.result.now c.holders.result.now c.tell.new.self lt
+    told_more c.args.entry c.args.connections.now c.loop-place.connections rows k
+    c.key.result.now c.holders.result.now c.tell.new.self c.loop-place.invariant lt
     (c.key.ensures ∙ ap (λ (r : Held). r.key) row)
     (c.holders.ensures ∙ ap (λ (r : Held). r.holders) row)
     c.in_ok-tell.ensures.ok

@@ -1,6 +1,4 @@
-use Rattle.std.proofs.Common.{◌≡◌, List, ℕ, Option, ap, sym, subst, Some, ◌∙◌}
-use Rattle.track_table.specs.declared.aside.Parted.{Parted}
-use Rattle.track_table.specs.Places.{IsPlace}
+use Rattle.std.proofs.Common.{List, ℕ, Option, ap, sym, Some, ◌∙◌}
 use Rattle.track_table.specs.Aside.{put_in}
 use Rattle.track_table.proofs.Asides.{put_at, put_behind, put_last}
 use Rattle.track_table.proofs.aside.place_before.Goals as goal

@@ -1,10 +1,13 @@
-use Rattle.std.proofs.Common.{◌∷◌, length, sym, ap, subst, ◌∙◌, ◌-◌, arith, length-set}
+use Rattle.std.proofs.Common.{◌≡◌, ◌+◌, ◌-◌, ◌<◌, ◌∷◌, [], ℕ, List, length, take, sym, ap, subst}
+use Rattle.std.proofs.Common.{◌∙◌, arith, length-set, Some}
 use Rattle.serial_model.specs.declared.history.Entry.TheVariants as entry
 use Rattle.serial_model.specs.declared.history.BookCall.TheVariants.{Take}
+use Rattle.serial_model.specs.History.{unsent}
 use Rattle.server_book.specs.BookState.{BookState, HasRoom, IsAccepted, Agrees}
 use Rattle.server_book.specs.Connections.{ConnectionsState}
+use Rattle.server_book.specs.Places.{Connection}
 use Rattle.server_book.proofs.BookTurns.{kept_of, is_turn, agrees_take, room_kept, take_turned}
-use Rattle.server_book.proofs.BookTurns.{posted_take}
+use Rattle.server_book.proofs.BookTurns.{effect_take, posted_take, runs_gives, take_stands}
 use Rattle.server_book.proofs.Refusals.{take_some, takes_some}
 use Rattle.server_book.proofs.book.Book.take.Goals as goal
 
@@ -31,8 +34,38 @@ invariant_of-self-2 c =
           (room_kept i.limits past e i.log.closable i.stores.space i.stores.table cs k
           i.stores.space i.stores.table c.advance.new.self.items agreed
           (ap (λ (s : ConnectionsState). length s.items) c.advance.ensures
-          ∙ length-set cs (c.args.id - 1) _) (λ id h. h) c.self.invariant.room);
+          ∙ length-set cs (c.args.id - 1) _) (take_stands i.limits past c.args.id c.args.most)
+          c.self.invariant.room);
     }
 
 pub returns-clause-ok : goal.returns-clause-ok
-returns-clause-ok c = grind (arith, kept_of, is_turn, take_turned, take_some, posted_take)
+returns-clause-ok c =
+    let i = c.self.inside in
+    let l = i.limits in
+    let past = i.log.past in
+    let k = c.self.invariant.agrees in
+    let cs = i.stores.connections.items in
+    let id = c.args.id in
+    let most = c.args.most in
+    let n = c.next-entry.result in
+    let e = entry.Take id most in
+    let number : n ≡ length past + 1 =
+    c.next-entry.ensures ∙ ap (λ p. length p + 1) c.reserve.ensures.past in
+    let acc = subst (λ (b : BookState). IsAccepted b.limits b.past (Take id most))
+    (sym c.self.view_is) c.requires.accepted in
+    let kept = kept_of l past i.stores.space i.stores.table cs k id
+    (runs_gives l past i.stores.space i.stores.table cs k id acc.0) in
+    let given : c.in_ok-bytes.bytes ≡ take most (unsent l id past) = c.in_ok-bytes.ensures
+    ∙ ap (λ (x : Connection). take most x.queue) kept in
+    let grown = c.push.ensures.past ∙ ap (λ p. e ∷ p) c.reserve.ensures.past in
+    let none : i.stores.connections.posts ≡ [] = ap (λ (b : BookState). b.posts) c.self.view_is
+    ∙ c.requires.none.posts in
+    is_turn c.args.self.now l past c.push.new.self.past i.stores.connections.posts
+    c.advance.new.self.posts i.effect _ e (Take id most) _ c.self.view_is tt grown
+    (take_turned l past id most n c.in_ok-bytes.bytes acc.0 number given
+    (subst (λ (bytes : List ℕ). 0 < length bytes) (sym given)
+    (take_some most (unsent l id past) c.requires.most acc.1)))
+    (ap (λ (s : ConnectionsState). s.posts) c.advance.ensures ∙ none
+    ∙ posted_take l past id most)
+    (ap Some c.bare_effect.ensures
+    ∙ effect_take l past id most n _ number (grind (arith, given)))

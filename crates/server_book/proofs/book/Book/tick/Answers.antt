@@ -1,20 +1,22 @@
 use Rattle.std.proofs.Common.{◌≡◌, ◌+◌, ◌∷◌, [], length, sym, ap, subst, ◌∙◌, arith, max}
-use Rattle.std.proofs.Common.{eqb-true}
+use Rattle.std.proofs.Common.{eqb-true, Some}
 use Rattle.std.proofs.lemmas.Bool.{eqb-false}
 use Rattle.serial_model.specs.declared.history.Entry.TheVariants as entry
 use Rattle.serial_model.specs.declared.history.BookCall.TheVariants.{Tick}
 use Rattle.serial_model.specs.Deadlines.{due_keys}
-use Rattle.serial_model.specs.History.{expired, routed}
-use Rattle.serial_model.specs.Tracking.{group}
 use Rattle.track_table.specs.Table.{without_keys}
+use Rattle.serial_model.specs.History.{expired}
+use Rattle.serial_model.specs.Plain.{pushes}
+use Rattle.serial_model.specs.Tracking.{group}
+use Rattle.serial_model.proofs.StateSteps.{tick_stands}
 use Rattle.serial_model.proofs.DueKeys.{due_apart, none_due}
 use Rattle.server_book.specs.BookState.{Agrees, BookState, HasRoom}
 use Rattle.server_book.specs.Connections.{ConnectionsState}
-use Rattle.server_book.specs.Sendings.{modes_of, with_sendings}
+use Rattle.server_book.specs.Sendings.{is_pushed, with_sendings}
 use Rattle.server_book.proofs.Plans.{due_is}
-use Rattle.server_book.proofs.BookTurns.{is_held, is_turn, room_kept}
+use Rattle.server_book.proofs.BookTurns.{is_turn, room_kept}
 use Rattle.server_book.proofs.Ticks.{agrees_tick, length_told, posted_tick, tick_quiet}
-use Rattle.server_book.proofs.Ticks.{none_of, some_of, tick_turned}
+use Rattle.server_book.proofs.Ticks.{effect_tick, none_of, some_of, tick_turned}
 use Rattle.server_book.proofs.book.Book.tick.Goals as goal
 
 pub invariant_of-self-then-is_empty : goal.invariant_of-self-then-is_empty
@@ -23,17 +25,11 @@ invariant_of-self-then-is_empty c = grind (arith, due_is, none_of, eqb-true, non
 pub returns-then-is_empty-clause-ok : goal.returns-then-is_empty-clause-ok
 returns-then-is_empty-clause-ok c = grind (arith, due_is, none_of, eqb-true, tick_quiet)
 
-pub send_tick-requires-clause-there : goal.send_tick-requires-clause-there
-send_tick-requires-clause-there c =
-    let i = c.self.inside in
-    (is_held i.limits i.log.past i.stores.space i.stores.table i.stores.connections.items
-    c.self.invariant.agrees).there
-
 pub send_tick-requires-clause-apart : goal.send_tick-requires-clause-apart
 send_tick-requires-clause-apart c = grind (arith, due_is, due_apart)
 
-pub invariant_of-self-in-Ok : goal.invariant_of-self-in-Ok
-invariant_of-self-in-Ok c =
+pub invariant_of-self-2 : goal.invariant_of-self-2
+invariant_of-self-2 c =
     let i = c.self.inside in
     let l = i.limits in
     let past = i.log.past in
@@ -55,9 +51,9 @@ invariant_of-self-in-Ok c =
     (eqb-false (length first) 0 (sym c.is_empty.ensures ∙ c.if-is_empty.false))
     (c.as_slice.ensures ∙ sym c.as_slice-2.ensures ∙ none) in
     let nobody : i.stores.connections.posts ≡ [] =
-    ap (λ (b : BookState). b.posts) c.self.view_is ∙ c.requires.none in
+    ap (λ (b : BookState). b.posts) c.self.view_is ∙ c.requires.none.posts in
     let final = c.in-Ok.ensures.sent
-    ∙ ap (λ ps. with_sendings n (routed (modes_of cs) (group gone keys.rows))
+    ∙ ap (λ ps. with_sendings n (pushes (is_pushed cs) (group gone keys.rows))
     (record { items = cs; posts = ps })) nobody in
     let grown = c.push.ensures.past ∙ ap (λ x. e ∷ x) c.reserve.ensures.past in
     let agreed = subst (λ t. Agrees l (e ∷ past) c.send_tick.new.self.space t
@@ -76,12 +72,12 @@ invariant_of-self-in-Ok c =
           (room_kept l past e i.log.closable space keys cs k c.send_tick.new.self.space
           c.send_tick.new.self.table c.send_tick.new.self.connections.items agreed
           (ap (λ (s : ConnectionsState). length s.items) final
-          ∙ length_told l past space keys cs k m n gone due number) (λ id h. h)
+          ∙ length_told l past space keys cs k m n gone due number) (λ id. tick_stands l past id m)
           c.self.invariant.room);
     }
 
-pub returns-in-Ok-clause-ok : goal.returns-in-Ok-clause-ok
-returns-in-Ok-clause-ok c =
+pub returns-clause-ok : goal.returns-clause-ok
+returns-clause-ok c =
     let i = c.self.inside in
     let l = i.limits in
     let past = i.log.past in
@@ -103,14 +99,18 @@ returns-in-Ok-clause-ok c =
     (eqb-false (length first) 0 (sym c.is_empty.ensures ∙ c.if-is_empty.false))
     (c.as_slice.ensures ∙ sym c.as_slice-2.ensures ∙ none) in
     let nobody : i.stores.connections.posts ≡ [] =
-    ap (λ (b : BookState). b.posts) c.self.view_is ∙ c.requires.none in
+    ap (λ (b : BookState). b.posts) c.self.view_is ∙ c.requires.none.posts in
     let final = c.in-Ok.ensures.sent
-    ∙ ap (λ ps. with_sendings n (routed (modes_of cs) (group gone keys.rows))
+    ∙ ap (λ ps. with_sendings n (pushes (is_pushed cs) (group gone keys.rows))
     (record { items = cs; posts = ps })) nobody in
     let grown = c.push.ensures.past ∙ ap (λ x. e ∷ x) c.reserve.ensures.past in
     is_turn c.args.self.now l past c.push.new.self.past i.stores.connections.posts
-    c.send_tick.new.self.connections.posts e (Tick c.args.now) _ c.self.view_is tt grown
+    c.send_tick.new.self.connections.posts i.effect _ e (Tick c.args.now) _ c.self.view_is tt grown
     (tick_turned l past c.args.now m n gone due some number
     (c.max-moment.ensures ∙ ap (max c.args.now) c.moment.ensures))
     (ap (λ (s : ConnectionsState). s.posts) final
     ∙ posted_tick l past space keys cs k m n gone due number)
+    (ap Some c.tick_effect.ensures
+    ∙ effect_tick l past m n c.in_ok-keys.field-0.keys number
+    (due_is m space c.in_ok-keys.field-0.keys c.in_ok-keys.ensures.keys
+    ∙ ap (due_keys m) k.space_is))

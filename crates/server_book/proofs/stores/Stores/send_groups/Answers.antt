@@ -1,25 +1,20 @@
-use Rattle.std.proofs.Common.{◌≡◌, sym, ap, subst, ◌∙◌, arith}
+use Rattle.std.proofs.Common.{sym, ap, subst, ◌∙◌}
 use Rattle.track_table.specs.Table.{TableState, without_keys}
 use Rattle.server_book.specs.Stores.{IsHeld}
 use Rattle.server_book.proofs.Remembered.{table_left}
-use Rattle.server_book.proofs.Sendings.{mode_same, on_err}
-use Rattle.server_book.proofs.Undoing.{held_left, length_told, on_told, run_back, told_back}
+use Rattle.server_book.proofs.Sendings.{on_err}
+use Rattle.server_book.proofs.Undoing.{held_left, on_told, told_none}
 use Rattle.server_book.proofs.stores.Stores.send_groups.Goals as goal
-
-pub returns-in_err-tell_keys-clause-back : goal.returns-in_err-tell_keys-clause-back
-returns-in_err-tell_keys-clause-back c = grind (arith, on_err, mode_same)
 
 pub returns-in_err-aside-clause-back : goal.returns-in_err-aside-clause-back
 returns-in_err-aside-clause-back c =
     let s = c.args.self.now in
-    on_err _ _ (told_back c.args.entry c.args.id s.connections c.tell_keys.new.self.connections
-    c.args.expired.now s.table.rows c.requires.held.there c.requires.apart c.requires.id
-    c.requires.none c.in_ok-tell_keys.ensures.told)
+    on_err _ _ (told_none c.args.entry c.args.id s.connections c.tell_keys.new.self.connections
+    c.args.expired.now s.table.rows c.requires.id c.requires.none c.in_ok-tell_keys.ensures.told)
 
 pub send_own-requires-clause-held : goal.send_own-requires-clause-held
 send_own-requires-clause-held c =
     let s = c.args.self.now in
-    let now = c.tell_keys.new.self.connections in
     let keys = c.args.expired.now in
     let left = table_left c.tell_keys.new.self.table c.set_aside.new.self keys
     c.in_ok-aside.ensures.limit c.in_ok-aside.ensures.rows
@@ -27,24 +22,20 @@ send_own-requires-clause-held c =
       limit = t.limit;
       rows = without_keys keys t.rows;
     }) c.in_ok-tell_keys.ensures.table in
-    let same = length_told c.args.entry c.args.id s.connections now keys s.table.rows
-    c.requires.held.there c.requires.apart c.requires.id c.requires.none
-    c.in_ok-tell_keys.ensures.told in
-    subst (λ (t : TableState). IsHeld t.limit t.rows now.items) (sym left)
-    (held_left s.table.limit keys s.table.rows s.connections.items now.items (omega (arith, same))
-    c.requires.held)
+    subst (λ (t : TableState). IsHeld t.limit t.rows) (sym left)
+    (held_left s.table.limit keys s.table.rows c.requires.held)
 
 pub send_own-requires-clause-id : goal.send_own-requires-clause-id
 send_own-requires-clause-id c =
     let s = c.args.self.now in
     on_told c.args.entry c.args.id s.connections c.tell_keys.new.self.connections
-    c.args.expired.now s.table.rows c.requires.held.there c.requires.apart c.requires.id
-    c.requires.none c.in_ok-tell_keys.ensures.told
+    c.args.expired.now s.table.rows c.requires.id c.requires.none
+    c.in_ok-tell_keys.ensures.told
 
 pub returns-in-Err-clause-back : goal.returns-in-Err-clause-back
 returns-in-Err-clause-back c =
     let s = c.args.self.now in
-    run_back c.args.entry c.args.id s.connections c.tell_keys.new.self.connections
-    c.args.expired.now s.table.rows c.requires.held.there c.requires.apart c.requires.id
-    c.requires.none c.in_ok-tell_keys.ensures.told c.args.plan.now c.send_own.new.self.connections
     c.in-Err.ensures.back
+    ∙ told_none c.args.entry c.args.id s.connections c.tell_keys.new.self.connections
+    c.args.expired.now s.table.rows c.requires.id c.requires.none
+    c.in_ok-tell_keys.ensures.told

@@ -1,18 +1,15 @@
 use Rattle.server_book.proofs.Sendings.{before_sendings, on_err}
-use Rattle.server_book.proofs.Groups.{so_far_there, each_at, each_length, each_row, each_there}
-use Rattle.server_book.proofs.Groups.{group_told, ids_still, told_more}
+use Rattle.server_book.proofs.Groups.{so_far_there, each_at, each_length, each_row}
+use Rattle.server_book.proofs.Groups.{group_told, told_more}
 use Rattle.std.proofs.Common.{sym, ap, ◌∙◌, arith, length, ◌<◌, []}
 use Rattle.std.proofs.lemmas.List.{get_or_read, take_all}
 use Rattle.track_table.specs.declared.table.Held.{Held}
 use Rattle.track_table.specs.Table.{TableState, holders_of}
 use Rattle.server_book.proofs.stores.Stores.tell_keys.Goals as goal
 
-pub tell-requires : goal.tell-requires
-tell-requires c = grind (arith, ids_still, each_row, each_there, get_or_read, each_at)
-
 pub returns-in_err-tell-clause-back : goal.returns-in_err-tell-clause-back
 returns-in_err-tell-clause-back c =
-    grind (arith, on_err, each_row, each_there, before_sendings, so_far_there)
+    grind (arith, on_err, each_row, before_sendings, so_far_there)
 
 pub loop-place-preserved : goal.loop-place-preserved
 loop-place-preserved c =
@@ -28,9 +25,8 @@ loop-place-preserved c =
       table = c.loop-place.invariant.table;
       space = c.loop-place.invariant.space;
       told = told_more c.args.entry s.connections c.loop-place.self.connections (each_row keys rows)
-          k (each_there s.connections.items keys rows c.requires.there)
-          c.loop-place.invariant.told key c.holders-holders.result.now
-          c.tell.new.self (omega (arith, lt, each_length keys rows))
+          k key c.holders-holders.result.now c.tell.new.self c.loop-place.invariant.told
+          (omega (arith, lt, each_length keys rows))
           (is ∙ sym (ap (λ (r : Held). r.key) row))
           (c.holders-holders.ensures.list
           ∙ ap (λ (t : TableState). holders_of c.as_slice.result.now t.rows)

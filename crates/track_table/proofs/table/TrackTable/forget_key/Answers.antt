@@ -12,9 +12,9 @@ front c = filter_same _ _ _ (λ x b f' k. search rules) _ _ c.retain.ensures.fil
 pub invariant_of-self : goal.invariant_of-self
 invariant_of-self c =
     whole_without_key c.self.inside.limit c.self.inside.oldest.items c.self.inside.rows
-    c.self.inside.holdings.keys.entries c.self.invariant c.args.key.now c.retain.new.self.items
-    c.forget_key.new.self c.drop_key.new.holdings.keys.entries
-    (front (goal.at.invariant_of-self c).After-retain) c.forget_key.ensures c.drop_key.ensures
+    c.self.invariant c.args.key.now c.retain.new.self.items
+    c.forget_key.new.self
+    (front (goal.at.invariant_of-self c).After-retain) c.forget_key.ensures
 
 pub returns-clause-rows : goal.returns-clause-rows
 returns-clause-rows c =

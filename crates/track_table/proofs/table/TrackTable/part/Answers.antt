@@ -1,12 +1,11 @@
-use Rattle.std.proofs.Common.{◌≡◌, ◌++◌, ◌∷◌, [], ◌<◌, ap, sym, subst, ◌∙◌, length, arith, Some}
+use Rattle.std.proofs.Common.{◌≡◌, ◌++◌, ◌∷◌, [], ap, sym, subst, ◌∙◌, length, Some}
 use Rattle.std.proofs.Common.{append-nil, drop, ◌+◌, List}
 use Rattle.std.specs.Prelude.{option_to_list}
 use Rattle.std.proofs.lemmas.List.{get_or_read}
-use Rattle.track_table.specs.declared.table.Held.{Held}
 use Rattle.track_table.specs.declared.aside.Parted.{Parted}
 use Rattle.track_table.specs.Table.{TableState, without_key}
-use Rattle.track_table.specs.Aside.{all_put, first_key, parted_of}
-use Rattle.track_table.specs.Holdings.{IsWhole}
+use Rattle.track_table.specs.Aside.{all_put, first_key}
+use Rattle.track_table.specs.Order.{IsWhole}
 use Rattle.track_table.specs.Places.{IsPlace, NoneBefore, nobody}
 use Rattle.track_table.proofs.Asides.{behind_back, behind_rows, front_back, front_rows}
 use Rattle.track_table.proofs.Asides.{whole_behind, whole_parted}
@@ -23,17 +22,16 @@ at c = subst (λ l. IsPlace c.args.key.now l (Some c.in-Some.place)) c.deref.ens
 pub invariant_of-self : goal.invariant_of-self
 invariant_of-self c =
     let g = (goal.at.invariant_of-self c).In_ok-next-in-Some in
-    subst (λ l. IsWhole c.self.inside.limit l c.self.inside.rows
-    c.self.inside.holdings.keys.entries) (sym c.remove-row.ensures.items)
+    subst (λ l. IsWhole c.self.inside.limit l c.self.inside.rows) (sym c.remove-row.ensures.items)
     (whole_parted c.self.inside.limit c.self.inside.oldest.items c.self.inside.rows
-    c.self.inside.holdings.keys.entries c.self.invariant c.args.key.now c.in-Some.place (at g))
+    c.self.invariant c.args.key.now c.in-Some.place (at g))
 
 pub returns-in_ok-next-in-Some-clause-rows : goal.returns-in_ok-next-in-Some-clause-rows
 returns-in_ok-next-in-Some-clause-rows c =
     let g = (goal.at.returns-in_ok-next-in-Some-clause-rows c).In_ok-next-in-Some in
     ap (λ l. l ++ c.self.inside.rows) c.remove-row.ensures.items
     ∙ front_rows c.self.inside.limit c.self.inside.oldest.items c.self.inside.rows
-    c.self.inside.holdings.keys.entries c.self.invariant c.args.key.now c.in-Some.place (at g)
+    c.self.invariant c.args.key.now c.in-Some.place (at g)
     ∙ ap (λ (t : TableState). without_key c.args.key.now t.rows) c.self.view_is
 
 pub returns-in_ok-next-in-Some-clause-back : goal.returns-in_ok-next-in-Some-clause-back
@@ -44,7 +42,7 @@ returns-in_ok-next-in-Some-clause-back c =
     let row = c.remove-row.result in
     let next = c.in_ok-next-in-Some.next in
     ap (λ l. all_put c.push_reserved.new.self.items (l ++ ys)) c.remove-row.ensures.items
-    ∙ front_back c.self.inside.limit xs ys c.self.inside.holdings.keys.entries c.self.invariant
+    ∙ front_back c.self.inside.limit xs ys c.self.invariant
     c.args.key.now c.in-Some.place (at g) row next c.args.parted.now.items
     c.push_reserved.new.self.items
     (get_or_read xs c.in-Some.place row (at g).0 c.remove-row.ensures.value nobody)
@@ -65,21 +63,21 @@ pub invariant_of-self-in-Some-2 : goal.invariant_of-self-in-Some-2
 invariant_of-self-in-Some-2 c =
     let g = (goal.at.invariant_of-self-in-Some-2 c).In_ok-row-in-None in
     whole_behind c.self.inside.limit c.self.inside.oldest.items c.self.inside.rows
-    c.self.inside.holdings.keys.entries c.self.invariant c.args.key.now (none g) c.part.new.self
-    c.in_ok-row-in-None.ensures.rows c.drop_key.new.holdings.keys.entries c.drop_key.ensures
+    c.self.invariant c.args.key.now (none g) c.part.new.self
+    c.in_ok-row-in-None.ensures.rows
 
 pub invariant_of-self-in_default : goal.invariant_of-self-in_default
 invariant_of-self-in_default c =
     let g = (goal.at.invariant_of-self-in_default c).In_ok-row-in-None in
     whole_behind c.self.inside.limit c.self.inside.oldest.items c.self.inside.rows
-    c.self.inside.holdings.keys.entries c.self.invariant c.args.key.now (none g) c.part.new.self
-    c.in_ok-row-in-None.ensures.rows c.self.inside.holdings.keys.entries (λ i k other has. has)
+    c.self.invariant c.args.key.now (none g) c.part.new.self
+    c.in_ok-row-in-None.ensures.rows
 
 rows : (c : In_ok-row-in-None) → c.self.inside.oldest.items ++ c.part.new.self
     ≡ without_key c.args.key.now c.args.self.now.rows
 rows c =
     behind_rows c.self.inside.limit c.self.inside.oldest.items c.self.inside.rows
-    c.self.inside.holdings.keys.entries c.self.invariant c.args.key.now (none c) c.part.new.self
+    c.self.invariant c.args.key.now (none c) c.part.new.self
     c.in_ok-row-in-None.ensures.rows
     ∙ ap (λ (t : TableState). without_key c.args.key.now t.rows) c.self.view_is
 
@@ -89,7 +87,7 @@ back : (c : In_ok-row-in-None) (parted : List Parted)
     ≡ all_put c.args.parted.now.items c.args.self.now.rows
 back c parted went =
     behind_back c.self.inside.limit c.self.inside.oldest.items c.self.inside.rows
-    c.self.inside.holdings.keys.entries c.self.invariant c.args.key.now (none c) c.part.new.self
+    c.self.invariant c.args.key.now (none c) c.part.new.self
     c.in_ok-row-in-None.ensures.rows c.args.parted.now.items parted
     (went ∙ ap (λ o. c.args.parted.now.items ++ option_to_list o)
     c.in_ok-row-in-None.ensures.parted)

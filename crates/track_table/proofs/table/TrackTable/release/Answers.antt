@@ -48,7 +48,7 @@ all c items new =
     c.in-Some.ensures in
     ap (λ l. l ++ c.self.inside.rows) new
     ∙ released_in c.self.inside.limit c.self.inside.oldest.items c.self.inside.rows
-    c.self.inside.holdings.keys.entries c.self.invariant c.args.id c.in-Some.place c.args.key.now
+    c.self.invariant c.args.id c.in-Some.place c.args.key.now
     at.0 at.1
 
 whole : (c : After-is_empty) → (items : List Held)
@@ -63,23 +63,22 @@ invariant_of-self c =
     let at = (goal.at.invariant_of-self c).After-is_empty in
     let items = c.remove-then-is_empty.new.self.items in
     whole_front c.self.inside.limit c.self.inside.oldest.items c.self.inside.rows
-    c.self.inside.holdings.keys.entries c.self.invariant items
+    c.self.invariant items
     (whole at items (gone at c.if-is_empty.true items c.remove-then-is_empty.ensures.items))
 
 pub invariant_of-self-else-is_empty : goal.invariant_of-self-else-is_empty
 invariant_of-self-else-is_empty c =
     let at = (goal.at.invariant_of-self-else-is_empty c).After-is_empty in
     whole_front c.self.inside.limit c.self.inside.oldest.items c.self.inside.rows
-    c.self.inside.holdings.keys.entries c.self.invariant _ (whole at _ (left at
+    c.self.invariant _ (whole at _ (left at
     c.if-is_empty.false))
 
 pub invariant_of-self-in-None : goal.invariant_of-self-in-None
 invariant_of-self-in-None c =
     whole_released c.self.inside.limit c.self.inside.oldest.items c.self.inside.rows
-    c.self.inside.holdings.keys.entries c.self.invariant c.args.id c.args.key.now c.release.new.self
-    c.remove-in-None.new.self.keys.entries
+    c.self.invariant c.args.id c.args.key.now c.release.new.self
     (subst (λ l. NoneBefore c.args.key.now l (length l)) c.deref.ensures.value c.in-None.ensures)
-    c.release.ensures c.remove-in-None.ensures
+    c.release.ensures
 
 pub returns-then-is_empty-clause-rows : goal.returns-then-is_empty-clause-rows
 returns-then-is_empty-clause-rows c =
@@ -98,6 +97,6 @@ pub returns-in-None-clause-rows : goal.returns-in-None-clause-rows
 returns-in-None-clause-rows c =
     ap (λ l. c.self.inside.oldest.items ++ l) c.release.ensures
     ∙ released_behind c.self.inside.limit c.self.inside.oldest.items c.self.inside.rows
-    c.self.inside.holdings.keys.entries c.self.invariant c.args.id c.args.key.now
+    c.self.invariant c.args.id c.args.key.now
     (subst (λ l. NoneBefore c.args.key.now l (length l)) c.deref.ensures.value c.in-None.ensures)
     ∙ ap (λ (t : TableState). released c.args.id c.args.key.now t.rows) c.self.view_is

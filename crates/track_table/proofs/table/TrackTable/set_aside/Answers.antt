@@ -1,8 +1,8 @@
-use Rattle.std.proofs.Common.{◌<◌, [], ap, sym, ◌∙◌, arith, length, take}
-use Rattle.std.proofs.lemmas.List.{get_or_read, take_more}
+use Rattle.std.proofs.Common.{◌<◌, ap, sym, ◌∙◌, arith, length, take}
 use Rattle.track_table.specs.Table.{without_key, without_keys}
 use Rattle.track_table.specs.Aside.{all_put}
 use Rattle.track_table.proofs.Asides.{last_without, room_for}
+use Rattle.track_table.proofs.Lookups.{one_more}
 use Rattle.track_table.proofs.table.TrackTable.set_aside.Goals as goal
 
 pub put_back-requires-clause-room : goal.put_back-requires-clause-room
@@ -18,14 +18,14 @@ loop-place-preserved c =
     let keys = c.args.keys.now in
     let k = c.loop-place.place in
     let lt : k < length keys = omega (arith, c.loop-place-test.true) in
-    let key = c.as_slice.ensures
-    ∙ get_or_read keys k c.index-keys-place.result lt c.index-keys-place.is [] in record {
+    let more = one_more keys k c.index-keys-place.result c.as_slice.result.now c.as_slice.ensures lt
+    c.index-keys-place.is in record {
       limit = c.in-Ok.ensures.limit ∙ c.loop-place.invariant.limit;
       rows =
           c.in-Ok.ensures.rows
-          ∙ (λ i. without_key (key i) (c.loop-place.invariant.rows i))
+          ∙ ap (without_key c.as_slice.result.now) c.loop-place.invariant.rows
           ∙ sym (last_without (take k keys) _ rows)
-          ∙ ap (λ l. without_keys l rows) (sym (take_more keys k [] lt));
+          ∙ ap (λ l. without_keys l rows) (sym more);
       back = c.in-Ok.ensures.back ∙ c.loop-place.invariant.back;
     }
 

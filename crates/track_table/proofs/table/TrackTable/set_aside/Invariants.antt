@@ -1,5 +1,4 @@
-use Rattle.std.proofs.Common.{◌≡◌, ◌≤◌, [], length, take}
-use Rattle.std.specs.Vec.{vec_capacity}
+use Rattle.std.proofs.Common.{◌≡◌, take}
 use Rattle.track_table.specs.Aside.{all_put}
 use Rattle.track_table.specs.Table.{without_keys}
 use Rattle.track_table.proofs.table.TrackTable.set_aside.Given as goal

@@ -1,0 +1,159 @@
+//! A command that takes out what its key holds: what goes is moved into what is kept of the run.
+ghost use Rattle.std.specs.Prelude.{◌≡◌, ◌<◌, [], true, IfOk, OnOk, OnErr, option_map};
+ghost use Rattle.std.specs.Prelude.{vec_len, vec_capacity};
+ghost use Rattle.command_words.specs.declared.command.Command.TheVariants.{GetDel, HDel};
+ghost use Rattle.command_words.specs.declared.written.Written.TheVariants.{Keys};
+ghost use Rattle.command_words.specs.Effects.{effect};
+ghost use Rattle.command_words.specs.Queries.{written};
+ghost use Rattle.command_set.specs.InStep.{InStep};
+ghost use Rattle.keyspace.specs.Plain.{held_of};
+ghost use Rattle.command_set.specs.Moving.{takes_out, went};
+ghost use Rattle.command_set.specs.Priors.{priors_of, put_back};
+
+use super::prior::{Kept, Prior};
+use super::step::settle;
+use super::touched::deadlines_of;
+use command_words::{Command, Done};
+use expiry::DeadlineIndex;
+use hash_cmds::take_fields;
+use keyspace::{Held, Keyspace};
+use resp_value::{NoMemory, Octets, Words};
+use std::alloc::Global;
+use string_cmds::take_text;
+
+/// Whether the command takes out what its key holds, or a part of it.
+#[tactic(auto, unfolding(crate::specs::Moving::takes_out))]
+pub(crate) fn takes_out(command: &Command) -> bool
+    ensures { result ≡ takes_out command.now }
+{
+    matches!(command, Command::GetDel(_) | Command::HDel(_, _))
+}
+
+/// What a key held is kept, if it went. There is room for it.
+fn keep_held(kept: Vec<Prior>, key: Octets, held: Option<Held>) -> Vec<Prior>
+    requires none { kept.items ≡ [] }
+    requires room { vec_len kept < vec_capacity kept }
+    ensures { priors_of result.items ≡ went key (option_map held_of held) }
+{
+    let mut kept = kept;
+    if let Some(held) = held {
+        kept.push_reserved(Prior {
+            key,
+            kept: Kept::Whole(Some(held)),
+        });
+    }
+    kept
+}
+
+/// GETDEL; what the key held is kept, where it went.
+#[tactic(auto, unfolding(crate::specs::Rows::effect, crate::specs::Rows::string_effect))]
+fn move_text(
+    alloc: Global,
+    space: &mut Keyspace,
+    key: &Octets,
+    moment: u64,
+) -> Result<(Done, Vec<Prior>), NoMemory>
+    ensures reply { IfOk result (λ r. r.0.reply
+        ≡ (effect (GetDel key.now) space.old moment).reply) }
+    ensures signals { IfOk result (λ r. r.0.signalled
+        ≡ (effect (GetDel key.now) space.old moment).signalled) }
+    ensures space { OnOk result
+        (space.new ≡ (effect (GetDel key.now) space.old moment).space) }
+    ensures back { IfOk result (λ r. put_back (priors_of r.1.items) space.new ≡ space.old) }
+    ensures err { OnErr result (space.new ≡ space.old) }
+{
+    let mut kept = Vec::new(alloc);
+    kept.reserve(1)?;
+    let name = key.copy()?;
+    let (done, held) = take_text(alloc, space, key.as_slice())?;
+    Ok((done, keep_held(kept, name, held)))
+}
+
+/// HDEL; the fields that went are kept with the places that they had, and then the hash without
+/// fields, where it went too.
+#[tactic(auto, unfolding(crate::specs::Rows::effect, crate::specs::Rows::hash_effect))]
+fn move_fields(
+    alloc: Global,
+    space: &mut Keyspace,
+    key: &Octets,
+    names: &Words,
+    moment: u64,
+) -> Result<(Done, Vec<Prior>), NoMemory>
+    ensures reply { IfOk result (λ r. r.0.reply
+        ≡ (effect (HDel key.now names.now) space.old moment).reply) }
+    ensures signals { IfOk result (λ r. r.0.signalled
+        ≡ (effect (HDel key.now names.now) space.old moment).signalled) }
+    ensures space { OnOk result
+        (space.new ≡ (effect (HDel key.now names.now) space.old moment).space) }
+    ensures back { IfOk result (λ r. put_back (priors_of r.1.items) space.new ≡ space.old) }
+    ensures err { OnErr result (space.new ≡ space.old) }
+{
+    let mut kept = Vec::new(alloc);
+    kept.reserve(2)?;
+    let of_fields = key.copy()?;
+    let of_hash = key.copy()?;
+    let (done, fields, held) = take_fields(alloc, space, key.as_slice(), names.as_slice())?;
+    kept.push_reserved(Prior {
+        key: of_fields,
+        kept: Kept::Taken(fields),
+    });
+    if let Some(held) = held {
+        kept.push_reserved(Prior {
+            key: of_hash,
+            kept: Kept::Whole(Some(held)),
+        });
+    }
+    Ok((done, kept))
+}
+
+/// The command on the keyspace alone, with what went.
+#[tactic(auto, unfolding(crate::specs::Moving::takes_out))]
+fn move_row(
+    alloc: Global,
+    space: &mut Keyspace,
+    command: &Command,
+    moment: u64,
+) -> Result<(Done, Vec<Prior>), NoMemory>
+    requires { takes_out command.now ≡ true }
+    ensures reply { IfOk result (λ r. r.0.reply
+        ≡ (effect command.now space.old moment).reply) }
+    ensures signals { IfOk result (λ r. r.0.signalled
+        ≡ (effect command.now space.old moment).signalled) }
+    ensures space { OnOk result (space.new ≡ (effect command.now space.old moment).space) }
+    ensures back { IfOk result (λ r. put_back (priors_of r.1.items) space.new ≡ space.old) }
+    ensures err { OnErr result (space.new ≡ space.old) }
+{
+    match command {
+        Command::GetDel(key) => move_text(alloc, space, key, moment),
+        Command::HDel(key, names) => move_fields(alloc, space, key, names, moment),
+        _ => unreachable!(),
+    }
+}
+
+/// A command that takes out what these keys hold, with what went. The deadlines of keys that are
+/// gone leave the index last, which takes no memory.
+pub(crate) fn run_moving(
+    alloc: Global,
+    space: &mut Keyspace,
+    index: &mut DeadlineIndex,
+    command: &Command,
+    moment: u64,
+    keys: &[Octets],
+) -> Result<(Done, Vec<Prior>), NoMemory>
+    requires step { InStep index.old space.old }
+    requires keys { written command.now ≡ Keys keys.now }
+    requires moves { takes_out command.now ≡ true }
+    ensures reply { IfOk result (λ r. r.0.reply
+        ≡ (effect command.now space.old moment).reply) }
+    ensures signals { IfOk result (λ r. r.0.signalled
+        ≡ (effect command.now space.old moment).signalled) }
+    ensures space { OnOk result (space.new ≡ (effect command.now space.old moment).space) }
+    ensures back { IfOk result (λ r. put_back (priors_of r.1.items) space.new ≡ space.old) }
+    ensures err { OnErr result (space.new ≡ space.old) }
+    ensures step { InStep index.new space.new }
+{
+    let before = deadlines_of(alloc, space, keys)?;
+    let moved = move_row(alloc, space, command, moment);
+    settle(space, index, before.as_slice());
+    moved
+}
