@@ -33,12 +33,13 @@ fn words_of(alloc: Global, line: &str) -> Result<Vec<String>, AllocError> {
     Ok(words)
 }
 
-fn status_of<R: Threads + Wait + Eprint + Sync>(
+/// The status of a run over no net, once the rest of its outcome is let go of.
+fn status_of<R: Threads + Wait + Eprint + Sync, S: Source, K: Sink>(
     rt: &R,
     alloc: Global,
     words: &[String],
-    source: &mut MemorySource,
-    sink: &mut MemorySink,
+    source: &mut S,
+    sink: &mut K,
 ) -> Status {
     let clock = FixedClock { ms: 0 };
     let net = &mut MemoryNet::new();
@@ -370,18 +371,8 @@ fn what_a_line_prints_is_written_before_the_next_is_read(rt: HostRuntime) -> Res
         written: &written,
     };
     let words = words_of(alloc, "world")?;
-    let clock = FixedClock { ms: 0 };
-    let net = &mut MemoryNet::new();
-    let outcome = run(
-        &rt,
-        alloc,
-        words.as_slice(),
-        &mut source,
-        &mut sink,
-        net,
-        &clock,
-    );
-    assert!(rt; outcome.status == Status::Done);
+    let reached = status_of(&rt, alloc, words.as_slice(), &mut source, &mut sink);
+    assert!(rt; reached == Status::Done);
     // Each line has 6 bytes, which are read one by one, and prints 13. The last read meets the end.
     assert_eq!(rt; source.notes.len(), 19);
     for (read, note) in source.notes.iter().enumerate() {
@@ -498,18 +489,31 @@ fn net_with(alloc: Global, requests: &str) -> Result<ListedNet, AllocError> {
     Ok(ListedNet::new(listens, Vec::new(alloc)))
 }
 
+/// The status of a run over this net, and whether it served, once what it served is let go of.
+fn serves<R: Threads + Wait + Eprint + Sync>(
+    rt: &R,
+    alloc: Global,
+    words: &[String],
+    source: &mut MemorySource,
+    sink: &mut MemorySink,
+    net: &mut ListedNet,
+) -> (Status, bool) {
+    let clock = FixedClock { ms: 0 };
+    let outcome = run(rt, alloc, words, source, sink, net, &clock);
+    (outcome.status, outcome.served.is_some())
+}
+
 #[test]
 fn a_server_listens_at_its_port_and_writes_its_reports(rt: HostRuntime) -> Result<(), Fail> {
     let alloc = rt.alloc();
-    let clock = FixedClock { ms: 0 };
     let words = words_of(alloc, "serve --port 7000 --workers 1")?;
     let mut net = net_with(alloc, "SET a 1\r\nGET a\r\n")?;
     let mut source = MemorySource::new(text_bytes(alloc, "raw r\n")?, Vec::new(alloc));
     let mut sink = MemorySink::new(alloc, 1000, Vec::new(alloc))?;
     let words = words.as_slice();
-    let outcome = run(&rt, alloc, words, &mut source, &mut sink, &mut net, &clock);
-    assert!(rt; outcome.status == Status::Done);
-    assert!(rt; outcome.served.is_some());
+    let (status, has_served) = serves(&rt, alloc, words, &mut source, &mut sink, &mut net);
+    assert!(rt; status == Status::Done);
+    assert!(rt; has_served);
     let written = "connection 1 ended 1 requests 2\n";
     assert_eq!(rt; sink.bytes(), written.as_bytes());
     Ok(())

@@ -1,16 +1,21 @@
 //! Servers at the ports of a net in memory, and workers side by side.
+ghost use Rattle.std.specs.Prelude.{◌≤◌};
+
 use crate::{ServeEnd, serve};
-use conn_pool::serve_all;
+use conn_pool::{Served, serve_all};
 use conn_worker::{Ended, Gate};
 use edge_links::{
     AcceptStep, FixedClock, LinkStep, ListedNet, Listening, MemoryAcceptor, MemoryLink, MemoryNet,
+    Net,
 };
-use resp_value::Words;
+use resp_value::{NoMemory, Words};
 use serial_model::Limits;
 use std::alloc::{AllocError, Global};
 use std::hint::spin_loop;
+use std::sync::Wait;
 use std::sync::atomic::{AtomicU64, Ordering};
 use std::test::Fail;
+use std::thread::Threads;
 
 const LIMITS: Limits = Limits {
     table_max: 100,
@@ -65,6 +70,22 @@ fn net_with(alloc: Global, acceptor: MemoryAcceptor) -> Result<ListedNet, AllocE
     Ok(ListedNet::new(listens, Vec::new(alloc)))
 }
 
+/// How a server at this net ended, whether it served, and what it printed, once what it served is
+/// let go of.
+fn serves<N: Net, R: Threads + Wait + Eprint + Sync>(
+    rt: &R,
+    alloc: Global,
+    workers: u64,
+    most: u64,
+    net: &mut N,
+) -> (ServeEnd, bool, Vec<u8>)
+    requires { (1 ≤ workers) × (workers ≤ 64) }
+{
+    let clock = FixedClock { ms: 0 };
+    let run = serve(rt, alloc, LIMITS, 7000, workers, most, net, &clock);
+    (run.end, run.served.is_some(), run.text)
+}
+
 /// The connections, the workers, the most connections; how it ended, and what it printed.
 const ROWS: &str = " = 1 = 0 = Done = 
 GET a;,GET a;GET b;,idle,*1;$007 = 1 = 0 = Done = \
@@ -86,34 +107,22 @@ fn each_connection_has_a_line_in_order_of_ids(rt: HostRuntime) -> Result<(), Fai
         let want = parts.next().unwrap_or("");
         let printed = bytes_of(rt.alloc(), parts.next().unwrap_or(""), b"\n")?;
         let mut net = net_with(rt.alloc(), acceptor)?;
-        let clock = FixedClock { ms: 0 };
         let workers = workers.clamp(1, 64);
-        let run = serve(
-            &rt,
-            rt.alloc(),
-            LIMITS,
-            7000,
-            workers,
-            most,
-            &mut net,
-            &clock,
-        );
-        let end = format!(in rt.alloc(); "{:?}", run.end)?;
+        let (end, has_served, text) = serves(&rt, rt.alloc(), workers, most, &mut net);
+        let end = format!(in rt.alloc(); "{end:?}")?;
         assert!(rt; end.as_str() == want, "{row}: {end}");
-        assert!(rt; run.served.is_some(), "{row}");
-        assert!(rt; run.text.as_slice() == printed.as_slice(), "{row}");
+        assert!(rt; has_served, "{row}");
+        assert!(rt; text.as_slice() == printed.as_slice(), "{row}");
     }
     Ok(())
 }
 
 #[test]
 fn a_net_that_does_not_listen_is_a_fault(rt: HostRuntime) -> Result<(), Fail> {
-    let clock = FixedClock { ms: 0 };
-    let net = &mut MemoryNet::new();
-    let run = serve(&rt, rt.alloc(), LIMITS, 7000, 4, 0, net, &clock);
-    assert!(rt; run.end == ServeEnd::NetFault);
-    assert!(rt; run.served.is_none());
-    assert!(rt; run.text.is_empty());
+    let (end, has_served, text) = serves(&rt, rt.alloc(), 4, 0, &mut MemoryNet::new());
+    assert!(rt; end == ServeEnd::NetFault);
+    assert!(rt; !has_served);
+    assert!(rt; text.is_empty());
     Ok(())
 }
 
@@ -157,6 +166,35 @@ impl Gate for Turnstile {
     }
 }
 
+/// How many connections and requests were served, where no accept failed and each connection ended
+/// as its peer did.
+fn counts_of<A>(served: &Served<A>) -> Option<(usize, u64)> {
+    let mut requests = 0u64;
+    for report in served.reports.as_slice() {
+        if report.ended != Ended::PeerEnd {
+            return None;
+        }
+        requests = requests.saturating_add(report.requests);
+    }
+    let counts = (served.reports.len(), requests);
+    if served.accept_failed {
+        None
+    } else {
+        Some(counts)
+    }
+}
+
+fn served_by_two<R: Threads + Wait + Sync>(
+    rt: &R,
+    alloc: Global,
+    acceptor: MemoryAcceptor,
+    gate: &Turnstile,
+) -> Result<Option<(usize, u64)>, NoMemory> {
+    let clock = FixedClock { ms: 0 };
+    let served = serve_all(rt, alloc, LIMITS, acceptor, &clock, gate, 2, 0)?;
+    Ok(counts_of(&served))
+}
+
 #[test]
 fn a_request_waits_for_one_that_another_worker_answers(rt: HostRuntime) -> Result<(), Fail> {
     let acceptor = acceptor_of(rt.alloc(), "SET a 1;GET b;,SET b 2;")?;
@@ -165,16 +203,8 @@ fn a_request_waits_for_one_that_another_worker_answers(rt: HostRuntime) -> Resul
         answered: AtomicU64::new(0),
         gave_up: AtomicU64::new(0),
     };
-    let clock = FixedClock { ms: 0 };
-    let served = serve_all(&rt, rt.alloc(), LIMITS, acceptor, &clock, &gate, 2, 0)?;
+    let counts = served_by_two(&rt, rt.alloc(), acceptor, &gate)?;
     assert_eq!(rt; gate.gave_up.load(Ordering::SeqCst), 0);
-    assert!(rt; !served.accept_failed);
-    let mut requests = 0u64;
-    for report in served.reports.as_slice() {
-        assert!(rt; report.ended == Ended::PeerEnd);
-        requests = requests.saturating_add(report.requests);
-    }
-    assert_eq!(rt; served.reports.len(), 2);
-    assert_eq!(rt; requests, 3);
+    assert_eq!(rt; counts, Some((2, 3)));
     Ok(())
 }

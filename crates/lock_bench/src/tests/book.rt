@@ -146,6 +146,18 @@ fn wrong_row<'a>(
     Ok(None)
 }
 
+// The first row that a new book plays otherwise than it says.
+fn first_wrong<'a>(
+    alloc: Global,
+    history_max: u64,
+    table: &'a str,
+) -> Result<Option<&'a str>, NoMemory>
+    requires { 0 < history_max }
+{
+    let mut book = Book::new(alloc, limits_of(history_max))?;
+    wrong_row(alloc, &mut book, table)
+}
+
 const TURNS: &str = "\
 1 9 take: 0 gone -
 1 0 GET foo: 0 gone -
@@ -175,13 +187,21 @@ fn moments(alloc: Global, book: &Book) -> Result<Vec<u64>, AllocError> {
     Ok(moments)
 }
 
+fn are_kept(alloc: Global, book: &mut Book) -> Result<bool, NoMemory> {
+    let wrong = wrong_row(alloc, book, TURNS)?;
+    let are_moments = moments(alloc, book)?.as_slice() == [7, 7, 7, 8].as_slice();
+    Ok(wrong.is_none() && book.entries() == 10 && are_moments)
+}
+
+fn keeps_entries(alloc: Global) -> Result<bool, NoMemory> {
+    let mut book = Book::new(alloc, limits_of(11))?;
+    are_kept(alloc, &mut book)
+}
+
 #[test]
 fn a_book_answers_its_turns_and_keeps_their_entries(rt: HostRuntime) -> Result<(), Fail> {
-    let alloc = rt.alloc();
-    let mut book = Book::new(alloc, limits_of(11))?;
-    assert_eq!(rt; wrong_row(alloc, &mut book, TURNS)?, None);
-    assert_eq!(rt; book.entries(), 10);
-    assert_eq!(rt; moments(alloc, &book)?.as_slice(), [7, 7, 7, 8].as_slice());
+    assert_eq!(rt; first_wrong(rt.alloc(), 11, TURNS)?, None);
+    assert!(rt; keeps_entries(rt.alloc())?);
     Ok(())
 }
 
@@ -197,16 +217,20 @@ const FOLDED: &str = "\
 1 9 take: 0 gone -
 2 9 GET foo: 7 \\e 2:9";
 
+fn is_folded_so(alloc: Global, book: &mut Book, base: u64, left: usize) -> Result<bool, NoMemory> {
+    let wrong = wrong_row(alloc, book, FOLDED)?;
+    let parts = (book.entries(), book.base(), book.history().len());
+    let runs = (book.runs(1), book.runs(2), book.runs(3));
+    Ok(wrong.is_none() && parts == (7, base, left) && runs == (Some(2), Some(1), None))
+}
+
 // Whether the turns are answered as over a history that is kept whole, where so many entries were
 // let go and so many are left.
 fn folds_so(alloc: Global, history_max: u64, base: u64, left: usize) -> Result<bool, NoMemory>
     requires { 0 < history_max }
 {
     let mut book = Book::new(alloc, limits_of(history_max))?;
-    let wrong = wrong_row(alloc, &mut book, FOLDED)?;
-    let parts = (book.entries(), book.base(), book.history().len());
-    let runs = (book.runs(1), book.runs(2), book.runs(3));
-    Ok(wrong.is_none() && parts == (7, base, left) && runs == (Some(2), Some(1), None))
+    is_folded_so(alloc, &mut book, base, left)
 }
 
 #[test]
@@ -252,9 +276,7 @@ const PROTOCOLS: &str = "\
 
 #[test]
 fn hello_switches_the_protocol_of_its_own_connection(rt: HostRuntime) -> Result<(), Fail> {
-    let alloc = rt.alloc();
-    let mut book = Book::new(alloc, limits_of(100))?;
-    assert_eq!(rt; wrong_row(alloc, &mut book, PROTOCOLS)?, None);
+    assert_eq!(rt; first_wrong(rt.alloc(), 100, PROTOCOLS)?, None);
     Ok(())
 }
 
@@ -283,15 +305,24 @@ const TRACKING: &str = "\
 1 0 SET d v: 21 \\e 1:5
 3 0 SET c v: 22 \\e 3:5,2:32";
 
-#[test]
-fn those_who_remember_a_key_are_told_behind_the_reply(rt: HostRuntime) -> Result<(), Fail> {
-    let alloc = rt.alloc();
-    let mut book = Book::new(alloc, limits_of(100))?;
-    assert_eq!(rt; wrong_row(alloc, &mut book, TRACKING)?, None);
+// Whether the last that the second connection was sent is that the key c changed.
+fn is_told_last(alloc: Global, book: &mut Book) -> Result<bool, NoMemory> {
+    let wrong = wrong_row(alloc, book, TRACKING)?;
     let reply = book.turn(call_of(alloc, "take", 2, 9999)?);
     let (_, gave) = parts_of(&reply);
     let push = b">2\r\n$10\r\ninvalidate\r\n*1\r\n$1\r\nc\r\n";
-    assert_eq!(rt; gave.ends_with(push), true);
+    Ok(wrong.is_none() && gave.ends_with(push))
+}
+
+fn tells_holders(alloc: Global) -> Result<bool, NoMemory> {
+    let mut book = Book::new(alloc, limits_of(100))?;
+    is_told_last(alloc, &mut book)
+}
+
+#[test]
+fn those_who_remember_a_key_are_told_behind_the_reply(rt: HostRuntime) -> Result<(), Fail> {
+    assert_eq!(rt; first_wrong(rt.alloc(), 100, TRACKING)?, None);
+    assert!(rt; tells_holders(rt.alloc())?);
     Ok(())
 }
 
@@ -332,9 +363,7 @@ const STRINGS_AND_HASHES: &str = "\
 
 #[test]
 fn strings_and_hashes_are_served_and_told(rt: HostRuntime) -> Result<(), Fail> {
-    let alloc = rt.alloc();
-    let mut book = Book::new(alloc, limits_of(100))?;
-    assert_eq!(rt; wrong_row(alloc, &mut book, STRINGS_AND_HASHES)?, None);
+    assert_eq!(rt; first_wrong(rt.alloc(), 100, STRINGS_AND_HASHES)?, None);
     Ok(())
 }
 
@@ -362,9 +391,7 @@ const SEVERAL_KEYS: &str = "\
 
 #[test]
 fn a_read_of_several_keys_remembers_each(rt: HostRuntime) -> Result<(), Fail> {
-    let alloc = rt.alloc();
-    let mut book = Book::new(alloc, limits_of(100))?;
-    assert_eq!(rt; wrong_row(alloc, &mut book, SEVERAL_KEYS)?, None);
+    assert_eq!(rt; first_wrong(rt.alloc(), 100, SEVERAL_KEYS)?, None);
     Ok(())
 }
 
@@ -387,8 +414,6 @@ const TICKS: &str = "\
 
 #[test]
 fn a_book_tells_of_keys_that_leave_and_of_a_flush(rt: HostRuntime) -> Result<(), Fail> {
-    let alloc = rt.alloc();
-    let mut book = Book::new(alloc, limits_of(20))?;
-    assert_eq!(rt; wrong_row(alloc, &mut book, TICKS)?, None);
+    assert_eq!(rt; first_wrong(rt.alloc(), 20, TICKS)?, None);
     Ok(())
 }

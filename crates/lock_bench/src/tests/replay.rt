@@ -137,11 +137,14 @@ fn limits() -> Limits
     }
 }
 
-// Plays the history on a new book, and holds each turn's posts against those of slow tables. It
+// Plays the history on a book, and holds each turn's posts against those of slow tables. It
 // answers how many pushes there were.
-fn replay<R: Abort>(rt: &R, alloc: Global, history: &[Entry]) -> Result<u64, Fail> {
-    let mut book = Book::new(alloc, limits())?;
-    let mut slow = SlowServer::new(alloc, TABLE_MAX as usize);
+fn replay_on<R: Abort>(
+    rt: &R,
+    book: &mut Book,
+    slow: &mut SlowServer,
+    history: &[Entry],
+) -> Result<u64, Fail> {
     let mut pushes = 0u64;
     for (place, entry) in history.iter().enumerate() {
         let _ = book.turn(call_of(entry)?);
@@ -152,11 +155,27 @@ fn replay<R: Abort>(rt: &R, alloc: Global, history: &[Entry]) -> Result<u64, Fai
     Ok(pushes)
 }
 
+fn replay<R: Abort>(rt: &R, alloc: Global, history: &[Entry]) -> Result<u64, Fail> {
+    let mut slow = SlowServer::new(alloc, TABLE_MAX as usize);
+    let mut book = Book::new(alloc, limits())?;
+    replay_on(rt, &mut book, &mut slow, history)
+}
+
+// Whether a history that the book comes to, a long one, is played again with many pushes.
+fn posts_again<R: Abort>(rt: &R, alloc: Global, book: &mut Book) -> Result<bool, Fail> {
+    play(alloc, book)?;
+    let history = book.history();
+    let pushes = replay(rt, alloc, history)?;
+    Ok(history.len() > 5_000 && pushes > LEAST_PUSHES)
+}
+
+fn plays_again<R: Abort>(rt: &R, alloc: Global) -> Result<bool, Fail> {
+    let mut book = Book::new(alloc, limits())?;
+    posts_again(rt, alloc, &mut book)
+}
+
 #[test]
 fn a_history_played_again_posts_what_slow_tables_tell(rt: HostRuntime) -> Result<(), Fail> {
-    let mut book = Book::new(rt.alloc(), limits())?;
-    play(rt.alloc(), &mut book)?;
-    assert!(rt; book.history().len() > 5_000);
-    assert!(rt; replay(&rt, rt.alloc(), book.history())? > LEAST_PUSHES);
+    assert!(rt; plays_again(&rt, rt.alloc())?);
     Ok(())
 }

@@ -98,21 +98,28 @@ fn told(alloc: Global, bytes: &[u8]) -> Result<String, AllocError> {
     Ok(text)
 }
 
-fn came_of(
-    alloc: Global,
-    outcome: &Outcome<ListedNet>,
-    printed: &[u8],
-) -> Result<Came, AllocError> {
+/// What a run wrote to its link behind the handshake.
+fn sent_of(alloc: Global, outcome: &Outcome<ListedNet>) -> Result<String, AllocError> {
     let sent = match &outcome.session {
         Some(session) => session.link.bytes().get(HANDSHAKE..).unwrap_or(b""),
         None => b"none",
     };
-    let sent = if sent.is_empty() { b"nothing" } else { sent };
-    Ok(Came {
-        status: outcome.status.number(),
-        printed: told(alloc, printed)?,
-        sent: told(alloc, sent)?,
-    })
+    told(alloc, if sent.is_empty() { b"nothing" } else { sent })
+}
+
+/// The number of the status of a run and what it sent, once the rest is let go of.
+fn reached_by<R: Threads + Wait + Eprint + Sync>(
+    rt: &R,
+    alloc: Global,
+    words: &[String],
+    source: &mut MemorySource,
+    sink: &mut MemorySink,
+    net: &mut ListedNet,
+) -> (u8, Result<String, AllocError>) {
+    let clock = FixedClock { ms: 0 };
+    let outcome = run(rt, alloc, words, source, sink, net, &clock);
+    let sent = sent_of(alloc, &outcome);
+    (outcome.status.number(), sent)
 }
 
 fn play<R: Threads + Wait + Eprint + Sync>(
@@ -124,12 +131,14 @@ fn play<R: Threads + Wait + Eprint + Sync>(
 ) -> Result<Came, Fail> {
     let line = format!(in alloc; "script {options}")?;
     let words = words_of(alloc, line.as_str())?;
-    let words = words.as_slice();
-    let clock = FixedClock { ms: 0 };
     let mut source = source_of(alloc, script)?;
     let mut sink = MemorySink::new(alloc, 1000, Vec::new(alloc))?;
-    let outcome = run(rt, alloc, words, &mut source, &mut sink, net, &clock);
-    Ok(came_of(alloc, &outcome, sink.bytes())?)
+    let (status, sent) = reached_by(rt, alloc, words.as_slice(), &mut source, &mut sink, net);
+    Ok(Came {
+        status,
+        printed: told(alloc, sink.bytes())?,
+        sent: sent?,
+    })
 }
 
 /// Options, a script, the steps of its link, the status, what is printed, and what is sent behind
