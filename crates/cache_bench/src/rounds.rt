@@ -23,7 +23,7 @@ pub enum Told {
 
 /// Plays a turn.
 pub fn play(client: &mut ClientState, call: ClientCall) -> Told
-    requires { IsCall call }
+    requires { IsCall client.old.setup.mode call }
 {
     match client.turn(call) {
         ClientReply::Hit { .. } => Told::Hit,

@@ -115,7 +115,7 @@ module _ (s : Setup) (log : List LogEntry) where
       let l = some_filled s.capacity (last_use s log) o (held s log) k e in
       let f = filled_some w (notice_of s.mode w v) (open_fetch s log (count + 1)) l.0 l.1 in
       subst (λ u. Displaces s log (Got u v) k) (sym f.0)
-      (displaces_main v k some legal f.1 l.0 f.2
+      (displaces_main v k some legal (subst (λ u. notice_of s.mode u v ≡ Reply) f.0 f.1) l.0 f.2
       (ap (λ p. leaving s.capacity (last_use s log) p (held s log)) (sym l.1) ∙ e))
 
 -- ---- a fetch that stays

@@ -1,5 +1,6 @@
 -- A fetch is open exactly while it is under way.
-use Rattle.std.proofs.Common.{◌≡◌, ◌≤◌, ◌++◌, suc, ◌&&◌, ◌⊎◌, ℕ, List, [], ◌∷◌, Bool, true, false}
+use Rattle.std.proofs.Common.{◌≡◌, ◌≤◌, ◌++◌, ◌&&◌, ◌⊎◌, ℕ, List, [], ◌∷◌, length, Bool, true}
+use Rattle.std.proofs.Common.{false}
 use Rattle.std.proofs.Common.{cond, Option, Some, None, sym, ap, ◌∙◌, refl, subst, inl, inr, arith}
 use Rattle.std.specs.Prelude.{is_none}
 use Rattle.std.proofs.lemmas.Bool.{cases_lt}
@@ -9,10 +10,10 @@ use Rattle.shared_cache.specs.declared.log.ClientMode.{ClientMode}
 use Rattle.shared_cache.specs.declared.log.LogEntry.{LogEntry}
 use Rattle.shared_cache.specs.declared.log.LogEntry.TheVariants.{Ask, Send, Poll, TakeOut, Got}
 use Rattle.shared_cache.specs.declared.entry.CacheEntry.{CacheEntry}
-use Rattle.shared_cache.specs.Notices.{invalidates}
-use Rattle.shared_cache.specs.Log.{caching_on_for}
+use Rattle.shared_cache.specs.declared.log.Wire.TheVariants.{Main}
+use Rattle.shared_cache.specs.Log.{caching_on_for, replies}
 use Rattle.shared_cache.specs.Held.{Setup, Words, held_for, unless, asked, other_than, ends}
-use Rattle.shared_cache.specs.Held.{numbers, open_fetch, held}
+use Rattle.shared_cache.specs.Held.{numbers, open_fetch, held, sent, got_ends}
 use Rattle.shared_cache.specs.Steps.{read_number}
 use Rattle.shared_cache.specs.Laws.{Spared}
 use Rattle.shared_cache.proofs.Fetches.{beyond}
@@ -57,7 +58,8 @@ open_one s log n q (Send ws) f spares anew =
 open_one s log n q (Poll m) f spares anew = f
 open_one s log n q (TakeOut w m) f spares anew = f
 open_one s log n q (Got w v) f spares anew =
-    ap (unless (invalidates s.mode w v)) f ∙ ap (λ b. cond b None (Some q)) spares
+    ap (unless (got_ends s (sent s log) (length (replies s.mode Main log)) w v n)) f
+    ∙ ap (λ b. cond b None (Some q)) spares
 open_one s log n q e f spares anew = absurd (let no : ⊥ = cc in no)
 
 pub open_since : (s : Setup) (later sooner : List LogEntry) (n : ℕ) (q : Words)
@@ -141,7 +143,8 @@ is_under_way s (Poll m ∷ log) n q f =
 is_under_way s (TakeOut w m ∷ log) n q f =
     one_later s log n q (TakeOut w m) refl refl (is_under_way s log n q f)
 is_under_way s (Got w v ∷ log) n q f =
-    let u = unless_some (invalidates s.mode w v) (open_fetch s log n) q f in
+    let u = unless_some (got_ends s (sent s log) (length (replies s.mode Main log)) w v n)
+    (open_fetch s log n) q f in
     one_later s log n q (Got w v) u.1 refl (is_under_way s log n q u.0)
 is_under_way s log n q f = absurd (let no : ⊥ = cc in no)
 
@@ -183,6 +186,8 @@ one_open s (Send ws ∷ log) n m q f g =
 one_open s (Poll k ∷ log) n m q f g = one_open s log n m q f g
 one_open s (TakeOut w k ∷ log) n m q f g = one_open s log n m q f g
 one_open s (Got w v ∷ log) n m q f g =
-    one_open s log n m q (unless_some (invalidates s.mode w v) (open_fetch s log n) q f).0
-    (unless_some (invalidates s.mode w v) (open_fetch s log m) q g).0
+    let count = length (replies s.mode Main log) in
+    one_open s log n m q
+    (unless_some (got_ends s (sent s log) count w v n) (open_fetch s log n) q f).0
+    (unless_some (got_ends s (sent s log) count w v m) (open_fetch s log m) q g).0
 one_open s log n m q f g = absurd (let no : ⊥ = cc in no)

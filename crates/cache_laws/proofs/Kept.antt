@@ -136,6 +136,19 @@ every_contained P (g ∷ hs) h all (zero, lt, is) = subst P is all.0
 every_contained P (g ∷ hs) h all (suc k, lt, is) =
     every_contained P hs h all.1 (k, omega (arith, lt), is)
 
+-- what is held has its reply
+pub held_within : (s : Setup) (log : List LogEntry) (h : CacheEntry) → Contains (held s log) h
+    → h.number ≤ length (replies s.mode Main log)
+held_within s log h c =
+    let i = every_contained (IsFetch s log) (held s log) h (held_is_fetch s log) c in
+    elim (cases_lt (length (replies s.mode Main log)) h.number) [
+      | inl past ↦
+          let no : None ≡ Some h.value
+          = sym (none_yet h.number (replies s.mode Main log) past) ∙ i.reply_is in
+          absurd (let none : ⊥ = cc in none)
+      | inr le ↦ le
+    ]
+
 pub holds : (s : Setup) (log : List LogEntry) → LegalLog s log → (h : CacheEntry)
     → Contains (held s log) h → StillHolds s log h
 holds s log legal h c =

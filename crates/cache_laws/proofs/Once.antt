@@ -7,14 +7,15 @@ use Rattle.std.proofs.lemmas.Bool.{cases_eq}
 use Rattle.std.proofs.lemmas.List.Elements.{filter-append}
 use Rattle.std.proofs.lemmas.Option.{same_Some}
 use Rattle.resp_value.specs.declared.value.Value.{Value}
-use Rattle.command_words.specs.Queries.{same_query}
+use Rattle.command_words.specs.Queries.{key_of, same_query}
 use Rattle.shared_cache.specs.declared.log.Wire.TheVariants.{Main}
 use Rattle.shared_cache.specs.declared.log.LogEntry.{LogEntry}
 use Rattle.shared_cache.specs.declared.log.LogEntry.TheVariants.{Ask}
 use Rattle.shared_cache.specs.declared.entry.CacheEntry.{CacheEntry}
-use Rattle.shared_cache.specs.Log.{replies, reply_in}
-use Rattle.shared_cache.specs.Held.{Setup, Words, hold, held_by, open_fetch, left}
+use Rattle.shared_cache.specs.Log.{replies, reply_in, caching_on_for}
+use Rattle.shared_cache.specs.Held.{Setup, Words, hold, held_by, read_lead, open_fetch, left}
 use Rattle.shared_cache.specs.Laws.{LegalLog}
+use Rattle.shared_cache.proofs.Led.{led_some}
 use Rattle.cache_laws.specs.HeldExactly.{StillHolds, IsHeld}
 use Rattle.cache_laws.proofs.Fetching.{is_open, open_first, one_open, words_same, same_words}
 use Rattle.cache_laws.proofs.Displaced.{legal_sooner, not_left, not_left_first}
@@ -70,8 +71,11 @@ still_left s log some legal h holds =
     let all = subst (LegalLog s) u.sent.log_is legal in
     let first = legal_sooner s u.sent.later sooner all in
     let is = u.sent.number_is in
+    let on = caching_on_for s.mode u.sent.sooner (key_of h.query) in
+    let some_put = led_some (read_lead s.mode.caching on) h.query in
     ap (λ l. left s l h.number) u.sent.log_is
-    ∙ not_left s u.sent.later sooner h.number h.query some all (omega (arith, is))
+    ∙ not_left s u.sent.later sooner h.number h.query some all
+    (omega (arith, is, some_put))
     (open_first s log h.number h.query u)
     (not_left_first s u.sent.sooner h.number h.query first.0 is) u.sent.spared u.last holds.kept
 

@@ -109,11 +109,13 @@ filled_used s log e k rest f has =
       value = f.value;
       number = length (replies s.mode Main log) + 1;
     } in
-    elim (has_parts k (filter (λ h. not (is_gone gone (key_of h.query))) (held s log)) new
+    let rest_held = filter (λ (h : CacheEntry). not (f.test (key_of h.query))) (held s log) in
+    elim (has_parts k (filter (λ h. not (is_gone gone (key_of h.query))) rest_held) new
     (ap (has_key k) (sym f.held_is) ∙ has)) [
       | inl older ↦
           used_more s log e k
-          (rest (has_fewer (λ h. not (is_gone gone (key_of h.query))) k (held s log) older))
+          (rest (has_fewer (λ h. not (f.test (key_of h.query))) k (held s log)
+          (has_fewer (λ h. not (is_gone gone (key_of h.query))) k rest_held older)))
       | inr newer ↦
           let u = fill_uses s log e f in
           subst (λ j. 0 < last_use s (e ∷ log) j) (bytes_same (key_of f.query) k newer)

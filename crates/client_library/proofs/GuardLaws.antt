@@ -1,14 +1,13 @@
 -- What an invalidation of keys leaves of them, and what a hit is then.
-use Rattle.std.proofs.Common.{◌≡◌, ℕ, List, [], ◌∷◌, ◌∙◌, true, false, refl, sym, ap, arith}
-use Rattle.std.proofs.Common.{Some, if◌then◌else◌, inl, subst}
-use Rattle.std.proofs.lemmas.Bool.{and_parts}
+use Rattle.std.proofs.Common.{◌≡◌, ℕ, List, [], ◌∷◌, ◌∙◌, length, true, false, refl, sym, ap}
+use Rattle.std.proofs.Common.{Some, if◌then◌else◌, inl, subst, arith}
+use Rattle.std.proofs.lemmas.Bool.{and_parts, or_parts}
 use Rattle.std.specs.List.{list_any}
 use Rattle.std.specs.Str.{bytes_eq}
 use Rattle.resp_value.specs.Tree.{trees_of}
 use Rattle.resp_value.specs.declared.value.Value.{Value}
 use Rattle.command_words.specs.Queries.{key_of, same_query}
 use Rattle.shared_cache.specs.declared.entry.CacheEntry.{CacheEntry}
-use Rattle.shared_cache.specs.declared.log.Wire.{Wire}
 use Rattle.shared_cache.specs.declared.log.Wire.TheVariants.{Main}
 use Rattle.shared_cache.specs.declared.log.ClientMode.{ClientMode}
 use Rattle.shared_cache.specs.declared.log.LogEntry.{LogEntry}
@@ -19,7 +18,9 @@ use Rattle.shared_cache.specs.declared.log.ClientReply.TheVariants.{Hit, Sent, N
 use Rattle.shared_cache.specs.declared.log.ClientReply.TheVariants.{Bytes, Quiet, Noted, Refused}
 use Rattle.shared_cache.specs.declared.notices.Notice.{Notice}
 use Rattle.shared_cache.specs.declared.notices.Notice.TheVariants.{Keys, Malformed}
-use Rattle.shared_cache.specs.Held.{Key, Setup, Words, ends, held, held_for, open_fetch}
+use Rattle.shared_cache.specs.Log.{replies}
+use Rattle.shared_cache.specs.Held.{Key, Setup, Words, ends, held, held_for, open_fetch, outdates}
+use Rattle.shared_cache.specs.Held.{sent}
 use Rattle.shared_cache.specs.Laws.{Every, IsFetch}
 use Rattle.shared_cache.specs.Notices.{all_blobs, blobs_in, invalidates, invalidates_as, kind_of}
 use Rattle.shared_cache.specs.Notices.{named_keys}
@@ -44,9 +45,9 @@ blobs_back (key ∷ keys) = ap (λ l. key ∷ l) (blobs_back keys)
 is_of_keys : (keys : Words) → kind_of (invalidation keys) ≡ Keys
 is_of_keys keys = ap (λ b. if b then Keys else Malformed) (are_blobs keys)
 
-names_keys : (m : ClientMode) (w : Wire) (keys : Words) (k : Key)
-    → invalidates m w (invalidation keys) k ≡ list_any (bytes_eq k) keys
-names_keys m w keys k =
+names_keys : (m : ClientMode) (keys : Words) (k : Key)
+    → invalidates m Main (invalidation keys) k ≡ list_any (bytes_eq k) keys
+names_keys m keys k =
     ap (λ (n : Notice). invalidates_as n (named_keys (invalidation keys)) k) (is_of_keys keys)
     ∙ ap (λ l. list_any (bytes_eq k) l) (blobs_back keys)
 
@@ -87,8 +88,11 @@ gone_by : (s : Setup) (log : List LogEntry) (keys : Words) (n : ℕ) (q : Words)
     → open_fetch s (entry.Got Main (invalidation keys) ∷ log) n ≡ Some q
     → list_any (bytes_eq (key_of q)) keys ≡ false
 gone_by s log keys n q f =
-    sym (names_keys s.mode Main keys (key_of q))
-    ∙ (unless_some (ends s log n (entry.Got Main (invalidation keys))) (open_fetch s log n) q f).1
+    let v = invalidation keys in
+    let spared = (unless_some (ends s log n (entry.Got Main v)) (open_fetch s log n) q f).1 in
+    sym (names_keys s.mode keys (key_of q))
+    ∙ (or_parts (outdates s (sent s log) (length (replies s.mode Main log)) Main v n (key_of q))
+    (invalidates s.mode Main v (key_of q)) spared).1
 
 -- what is open after a turn is so in the log with its entry
 moved : (old new : Library) (e : LogEntry) → new.setup ≡ old.setup → new.past ≡ e ∷ old.past

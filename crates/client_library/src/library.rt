@@ -99,7 +99,7 @@ impl LibraryClient {
     }
 
     fn play(&mut self, call: ClientCall) -> ClientReply
-        requires { IsCall call }
+        requires { IsCall self.old.setup.mode call }
         ensures { Plays call self.old result self.new }
     {
         self.state.turn(call)

@@ -9,7 +9,7 @@ use shared_cache::{ClientCall, ClientRefusal, ClientReply, ClientState, Wire};
 
 /// A turn: the step of its log, or memory ran out and the log is as before.
 fn turn(state: &mut ClientState, call: ClientCall) -> Result<ClientReply, NoMemory>
-    requires { IsCall call }
+    requires { IsCall state.old.setup.mode call }
     ensures setup { state.new.setup ≡ state.old.setup }
     ensures step { IfOk result (λ r. client_step state.old.setup state.old.past call
         ≡ record { reply = r; past = state.new.past }) }

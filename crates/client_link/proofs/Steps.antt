@@ -1,11 +1,14 @@
 -- What a client's step says by its reply, and what stays true of a log whatever is added to it.
 use Rattle.std.proofs.Common.{◌≡◌, ◌≤◌, ◌+◌, ℕ, List, [], ◌∷◌, ◌++◌, length, take, drop, Bool, true}
 use Rattle.std.proofs.Common.{false, cond, refl, ap, subst, ◌∙◌, arith, Some, None, length-append}
+use Rattle.std.proofs.Common.{map}
 use Rattle.std.specs.Prelude.{Option, ◌||◌}
 use Rattle.std.specs.List.{flat_map}
 use Rattle.std.proofs.lemmas.Bool.Decides.{nat_tests}
+use Rattle.std.proofs.lemmas.Grind.{flat_map-append}
 use Rattle.std.proofs.lemmas.List.{length-drop}
 use Rattle.turn_lock.specs.History.{IsPrefix}
+use Rattle.resp_value.specs.Lists.{IsPrefix as IsFront}
 use Rattle.resp_value.specs.Spelling.{request_spelling}
 use Rattle.resp_value.specs.declared.value.Value.{Value}
 use Rattle.shared_cache.specs.declared.log.Wire.{Wire}
@@ -19,12 +22,13 @@ use Rattle.shared_cache.specs.declared.log.ClientReply.TheVariants.{Noted, Refus
 use Rattle.shared_cache.specs.declared.log.ClientRefusal.{ClientRefusal}
 use Rattle.shared_cache.specs.declared.log.ClientRefusal.TheVariants.{Down, LogFull}
 use Rattle.shared_cache.specs.declared.entry.CacheEntry.{CacheEntry}
-use Rattle.shared_cache.specs.Log.{is_ended, reply}
-use Rattle.shared_cache.specs.Held.{Setup, held, held_for, commands}
+use Rattle.shared_cache.specs.Log.{handshake, is_ended, reply}
+use Rattle.shared_cache.specs.Held.{Setup, SentCommand, held, held_for, sent}
 use Rattle.shared_cache.specs.Out.{out, taken, untaken}
 use Rattle.shared_cache.specs.Steps.{ClientTurn, client_step, refusing, is_log_full}
 use Rattle.shared_cache.specs.Steps.{read_number, command_number, getting}
-use Rattle.shared_cache.proofs.CommandLists.{commands_grow}
+use Rattle.shared_cache.proofs.CommandLists.{after, main_grows}
+use Rattle.shared_cache.proofs.Handshakes.{handshake_grows}
 
 module _ (log new : List LogEntry) where
   -- ---- Got, where the log is as before
@@ -145,15 +149,34 @@ flat_longer : (f : List (List ℕ) → List ℕ) (xs ys : List (List (List ℕ))
 flat_longer f [] ys = omega arith
 flat_longer f (x ∷ xs) ys = grind (arith, length-append, flat_longer f xs ys)
 
+-- both parts are longer, so the whole is
+both_longer : (f : List (List ℕ) → List ℕ) (xs more ys others : List (List (List ℕ)))
+    → IsFront xs more → IsFront ys others
+    → length (flat_map f (xs ++ ys)) ≤ length (flat_map f (more ++ others))
+both_longer f xs more ys others p q =
+    let a : length (flat_map f xs) ≤ length (flat_map f more) =
+    subst (λ z. length (flat_map f xs) ≤ length (flat_map f z)) p.1 (flat_longer f xs p.0) in
+    let b : length (flat_map f ys) ≤ length (flat_map f others) =
+    subst (λ z. length (flat_map f ys) ≤ length (flat_map f z)) q.1 (flat_longer f ys q.0) in
+    omega (
+      arith,
+      a,
+      b,
+      ap length (flat_map-append f xs ys),
+      length-append (flat_map f xs) (flat_map f ys),
+      ap length (flat_map-append f more others),
+      length-append (flat_map f more) (flat_map f others),
+    )
+
 module _ (s : Setup) where
   out_one : (e : LogEntry) (log : List LogEntry)
       → length (out s Main log) ≤ length (out s Main (e ∷ log))
   unfolding out
   out_one e log =
-      let g = commands_grow s Main e log in
-      subst (λ z. length (flat_map request_spelling (commands s Main log))
-      ≤ length (flat_map request_spelling z)) g.1
-      (flat_longer request_spelling (commands s Main log) g.0)
+      both_longer request_spelling (handshake s.mode Main log) (handshake s.mode Main (e ∷ log))
+      (map (λ (c : SentCommand). c.words) (sent s log))
+      (map (λ (c : SentCommand). c.words) (sent s (e ∷ log))) (handshake_grows s.mode e log)
+      (after [] (sent s log) (sent s (e ∷ log)) (main_grows s e log))
 
   pub out_begins : (a b : List LogEntry) → IsPrefix a b
       → length (out s Main a) ≤ length (out s Main b)

@@ -32,7 +32,9 @@ use Rattle.shared_cache.specs.declared.log.Wire.TheVariants.{Main}
 use Rattle.shared_cache.specs.declared.log.LogEntry.{LogEntry}
 use Rattle.shared_cache.specs.Held.{Setup, SentCommand, Caller, sent, commands}
 use Rattle.shared_cache.specs.Laws.{Every, LegalLog}
-use Rattle.shared_cache.specs.Log.{caching_words, noloop_words}
+use Rattle.std.specs.List.{flat_map}
+use Rattle.shared_cache.specs.Log.{caching_words, noloop_words, steps_of, is_told, told_id}
+use Rattle.shared_cache.specs.Log.{put_tracking, put_step}
 use Rattle.shared_cache.specs.Log.{tracking as asks_tracking}
 use Rattle.shared_cache.specs.ClientFields.{IsServed}
 use Rattle.shared_cache.proofs.CommandLaws.{no_control}
@@ -102,14 +104,28 @@ module _ (s : Setup) (served : IsServed s.mode) where
   no_control_at (c ∷ cs) zero words a b e = grind arith
   no_control_at (c ∷ cs) (suc k) words a b e = no_control_at cs k words a.1 b.1 e
 
+  -- on one link the handshake is HELLO 3 and the tracking command
+  plain_commands : (log : List LogEntry)
+      → commands s Main log
+      ≡ (codes "HELLO" ∷ codes "3" ∷ []) ∷ asks_tracking s.mode []
+      ∷ map (λ (c : SentCommand). c.words) (sent s log)
+  plain_commands log =
+      ap (λ p. flat_map (put_step s.mode (is_told s.mode log) (told_id s.mode log))
+      (steps_of Main s.mode.shape p) ++ map (λ (c : SentCommand). c.words) (sent s log))
+      served.proto
+      ∙ ap (λ h. (codes "HELLO" ∷ codes "3" ∷ [])
+      ∷ ((put_tracking h s.mode (is_told s.mode log) (told_id s.mode log) ++ [])
+      ++ map (λ (c : SentCommand). c.words) (sent s log))) served.shape
+
   -- no command behind the handshake is a control command
   pub is_no_control : (log : List LogEntry) → LegalLog s log → (k : ℕ) (words : List (List ℕ))
       → slice_get (commands s Main log) (suc (suc k)) ≡ Some words → is_control words ≡ false
   is_no_control log h k words e =
-      no_control_at (sent s log) k words (sent_callers s log served.caching) (no_control s log h) e
+      no_control_at (sent s log) k words (sent_callers s log served.caching) (no_control s log h)
+      (sym (ap (λ l. slice_get l (suc (suc k))) (plain_commands log)) ∙ e)
 
   -- the tracking command, by default
-  asks_plainly : asks_tracking s.mode ≡ codes "CLIENT" ∷ codes "TRACKING" ∷ codes "ON" ∷ []
+  asks_plainly : asks_tracking s.mode [] ≡ codes "CLIENT" ∷ codes "TRACKING" ∷ codes "ON" ∷ []
   asks_plainly = λ i.
       codes "CLIENT" ∷ codes "TRACKING" ∷ codes "ON"
       ∷ (caching_words (served.caching i) ++ noloop_words (served.noloop i))
@@ -118,9 +134,14 @@ module _ (s : Setup) (served : IsServed s.mode) where
       (words : List (List ℕ)) → slice_get (commands s Main log) n ≡ Some words
       → (made_of words (run_by id exists (mode_by n))).mode ≡ mode_by (suc n)
   unfolding mode_by
-  next_mode log h id exists zero words e = grind (arith, codes, hello_made)
+  next_mode log h id exists zero words e =
+      let first : Some (codes "HELLO" ∷ codes "3" ∷ []) ≡ Some words
+      = sym (ap (λ l. slice_get l 0) (plain_commands log)) ∙ e in
+      grind (arith, codes, hello_made)
   next_mode log h id exists (suc zero) words e =
-      let same : asks_tracking s.mode ≡ words = cc in
+      let second : Some (asks_tracking s.mode []) ≡ Some words
+      = sym (ap (λ l. slice_get l 1) (plain_commands log)) ∙ e in
+      let same : asks_tracking s.mode [] ≡ words = cc in
       ap (λ w. (made_of w (run_by id exists (mode_by 1))).mode) (sym same ∙ asks_plainly)
       ∙ tracking_made id exists
   next_mode log h id exists (suc (suc k)) words e =

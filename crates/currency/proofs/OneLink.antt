@@ -119,7 +119,8 @@ module _ (l : Limits) (x : Client) (past : List Entry) (log : List LogEntry)
         later = w.later;
         log_is = w.log_is;
         not_yet_sent = place_later l x past log h.number h.query w;
-        place_is_query = (place_is_query x.setup log h.number h.query is.fetch).1;
+        place_is_query =
+            (place_is_query x.setup log h.number h.query (inr legal_log) is.fetch).1;
         gots_grow =
             λ u i. subst (λ u. IsPrefix (gots u asking) (gots u log)) (only u i)
             (subst (λ g. IsPrefix (gots Main asking) (gots Main g)) (sym w.log_is)
@@ -282,7 +283,8 @@ module _ (l : Limits) (x : Client) (past : List Entry) (log : List LogEntry)
       t.words_are in
       let words : t.words ≡ h.query =
       same_Some t.words h.query
-      (sym asked ∙ (place_is_query x.setup log h.number h.query is.fetch).1) in (
+      (sym asked
+      ∙ (place_is_query x.setup log h.number h.query (inr legal_log) is.fetch).1) in (
         t.moment,
         (
           t.up,

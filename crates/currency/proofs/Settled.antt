@@ -16,7 +16,7 @@ use Rattle.shared_cache.specs.declared.log.Wire.TheVariants.{Main}
 use Rattle.shared_cache.specs.declared.log.LogEntry.{LogEntry}
 use Rattle.shared_cache.specs.ClientFields.{IsServed}
 use Rattle.command_words.specs.Queries.{key_of}
-use Rattle.shared_cache.specs.Log.{caching_on_for}
+use Rattle.shared_cache.specs.Log.{steps_of, handshake_length, caching_on_for}
 use Rattle.shared_cache.specs.Held.{commands, open_fetch, read_lead}
 use Rattle.shared_cache.proofs.Led.{led_some}
 use Rattle.shared_cache.specs.Laws.{LegalLog}
@@ -62,8 +62,11 @@ module _ (l : Limits) (x : Client) (past : List Entry) (log : List LogEntry)
     pub number_least : 3 ≤ n
     number_least =
         let w = open_was_sent x.setup log n q fetch in
+        let two : handshake_length x.setup.mode ≡ 2
+        = ap (λ p. length (steps_of Main x.setup.mode.shape p)) served.proto in
         omega (
           arith,
+          two,
           w.number_is,
           led_some (read_lead x.setup.mode.caching
               (caching_on_for x.setup.mode w.sooner (key_of q))) q,

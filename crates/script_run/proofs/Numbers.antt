@@ -3,7 +3,7 @@
 use Rattle.std.proofs.Common.{◌≡◌, ◌≤◌, ◌<◌, ◌+◌, ◌-◌, ◌==◌, ◌&&◌, ℕ, suc, List, [], ◌∷◌, ◌++◌}
 use Rattle.std.proofs.Common.{Bool, true, false, cond, length, Some, None, refl, sym, ap, subst}
 use Rattle.std.proofs.Common.{◌∙◌, arith, append-nil, append_assoc, length-append, ne_eqb}
-use Rattle.std.specs.Prelude.{nat_lt, nat_le}
+use Rattle.std.specs.Prelude.{Option, nat_lt, nat_le}
 use Rattle.std.specs.List.{slice_get}
 use Rattle.std.proofs.lemmas.Bool.Decides.{nat_tests}
 use Rattle.turn_lock.specs.Counts.{total}
@@ -16,10 +16,10 @@ use Rattle.shared_cache.specs.declared.log.ClientCall.TheVariants as call
 use Rattle.shared_cache.specs.declared.log.ClientReply.TheVariants as reply
 use Rattle.shared_cache.specs.declared.log.ClientRefusal.{ClientRefusal}
 use Rattle.shared_cache.specs.declared.log.ClientRefusal.TheVariants as refusal
-use Rattle.shared_cache.specs.Log.{caching_on, caching_on_for}
+use Rattle.shared_cache.specs.Log.{caching_on, caching_on_for, first_number, handshake_length}
 use Rattle.shared_cache.specs.Held.{Setup, Words, SentCommand, read_lead, send_lead, is_read}
 use Rattle.shared_cache.specs.Held.{put_ask, put_command, held, held_for, numbers, sent}
-use Rattle.shared_cache.specs.Out.{is_polled, is_wanted, was_given}
+use Rattle.shared_cache.specs.Out.{is_callers, is_polled, is_wanted, was_given}
 use Rattle.shared_cache.specs.Steps.{client_step, read_number, command_number}
 use Rattle.shared_cache.proofs.HeldSteps.{sent_miss}
 use Rattle.shared_cache.proofs.Led.{own, led_parts}
@@ -67,6 +67,10 @@ get_behind : (xs ys : List SentCommand) (c : SentCommand)
     → slice_get (xs ++ c ∷ ys) (length xs) ≡ Some c
 get_behind [] ys c = refl
 get_behind (x ∷ xs) ys c = get_behind xs ys c
+
+given_at : (handshake number : ℕ) (o : Option SentCommand) (words : Words) → handshake < number
+    → o ≡ Some (own words) → (nat_lt handshake number && is_callers o) ≡ true
+given_at handshake number o words lt is = grind (arith, nat_tests)
 
 module _ (s : Setup) where
   sent_step : (e : LogEntry) (log : List LogEntry)
@@ -125,10 +129,14 @@ module _ (s : Setup) where
       = ap (sent s) (sym p.1) ∙ m.1
       ∙ ap (λ z. z ++ m.0) (i.sends ∙ sym (append_assoc (sent s past) i.front (c ∷ [])))
       ∙ append_assoc (sent s past ++ i.front) (c ∷ []) m.0 in
-      let k = i.number_is in
-      let place : number - 3 ≡ length (sent s past ++ i.front)
-      = omega (arith, k, length-append (sent s past) i.front) in
-      grind (arith, get_behind, nat_tests)
+      let place : number - first_number s.mode ≡ length (sent s past ++ i.front)
+      = omega (arith, i.number_is, length-append (sent s past) i.front) in
+      given_at (handshake_length s.mode) number
+      (slice_get (sent s seen) (number - first_number s.mode)) i.words
+      (omega (arith, i.number_is))
+      (ap (slice_get (sent s seen)) place
+      ∙ ap (λ cs. slice_get cs (length (sent s past ++ i.front))) all
+      ∙ get_behind (sent s past ++ i.front) m.0 c)
 
   -- ---- a command that was sent
 

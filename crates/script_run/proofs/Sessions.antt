@@ -23,7 +23,7 @@ use Rattle.shared_cache.specs.declared.log.ClientRefusal.TheVariants as refusal
 use Rattle.command_words.specs.Control.{is_control}
 use Rattle.shared_cache.specs.Held.{Setup}
 use Rattle.shared_cache.specs.Laws.{LegalLog}
-use Rattle.shared_cache.specs.Log.{is_ended, is_wire}
+use Rattle.shared_cache.specs.Log.{is_ended}
 use Rattle.shared_cache.specs.Steps.{ClientTurn, client_step}
 use Rattle.shared_client.specs.declared.logged.ClientSetup.{ClientSetup}
 use Rattle.shared_client.specs.Setups.{TurnStep, setup_of}
@@ -63,23 +63,30 @@ legal_log u (e ∷ h) l = l.1.2.1 (legal_log u h l.0)
 
 -- ---- the ends in a log
 
-abbrev ends_main : Turn → Bool
-ends_main (entry.Ask q, past) = false
-ends_main (entry.Send ws, past) = false
-ends_main (entry.Poll n, past) = false
-ends_main (entry.TakeOut w n, past) = false
-ends_main (entry.Got w v, past) = false
-ends_main (entry.End w, past) = is_wire w Main
-ends_main (entry.Bad w v, past) = is_wire w Main
+-- of either link: one of Side can end Main
+abbrev is_end : Turn → Bool
+is_end (entry.Ask q, past) = false
+is_end (entry.Send ws, past) = false
+is_end (entry.Poll n, past) = false
+is_end (entry.TakeOut w n, past) = false
+is_end (entry.Got w v, past) = false
+is_end (entry.End w, past) = true
+is_end (entry.Bad w v, past) = true
 
 -- 1 for an end that has fewer entries before it
 abbrev early_end : ℕ → Turn → ℕ
-early_end n t = cond (ends_main t && nat_lt (length t.1) n) 1 0
+early_end n t = cond (is_end t && nat_lt (length t.1) n) 1 0
 
 end_step : (m : ClientMode) (n : ℕ) (e : LogEntry) (k : List LogEntry) → length k < n
     → (is_ended m Main k ≡ true → 1 ≤ total (early_end n) (turns_in k))
     → is_ended m Main (e ∷ k) ≡ true → 1 ≤ total (early_end n) (turns_in (e ∷ k))
-end_step m n e k lt r is = grind (arith, nat_tests)
+end_step m n (entry.Ask q) k lt r is = omega (arith, r is)
+end_step m n (entry.Send ws) k lt r is = omega (arith, r is)
+end_step m n (entry.Poll i) k lt r is = omega (arith, r is)
+end_step m n (entry.TakeOut w i) k lt r is = omega (arith, r is)
+end_step m n (entry.Got w v) k lt r is = omega (arith, r is)
+end_step m n (entry.End w) k lt r is = grind (arith, nat_tests)
+end_step m n (entry.Bad w v) k lt r is = grind (arith, nat_tests)
 
 -- a log that is ended has an end
 has_end : (m : ClientMode) (n : ℕ) (k : List LogEntry) → length k ≤ n

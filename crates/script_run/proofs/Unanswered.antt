@@ -1,24 +1,22 @@
 -- A line that is down has no reply in the session's log: behind the link's end nothing is got.
-use Rattle.std.proofs.Common.{◌≡◌, ◌+◌, inl, inr, ℕ, suc, List, [], ◌∷◌, ◌++◌, true, false, length}
+use Rattle.std.proofs.Common.{◌≡◌, ◌+◌, inl, inr, ℕ, suc, List, [], ◌∷◌, ◌++◌, true, false}
 use Rattle.std.proofs.Common.{None, refl, sym, ap, subst, ◌∙◌, arith}
 use Rattle.std.specs.Prelude.{◌⊎◌, ◌||◌, Bool}
-use Rattle.std.proofs.lemmas.Bool.Decides.{nat_tests}
 use Rattle.turn_lock.specs.History.{IsPrefix}
 use Rattle.seat_turns.proofs.Turning.{begins_trans}
-use Rattle.resp_value.specs.declared.value.Value.{Value}
 use Rattle.shared_cache.specs.declared.log.Wire.{Wire}
-use Rattle.shared_cache.specs.declared.log.Wire.TheVariants.{Main}
+use Rattle.shared_cache.specs.declared.log.Wire.TheVariants.{Main, Side}
 use Rattle.shared_cache.specs.declared.log.LogEntry.{LogEntry}
 use Rattle.shared_cache.specs.declared.log.LogEntry.TheVariants as entry
-use Rattle.shared_cache.specs.declared.log.ClientCall.{ClientCall}
 use Rattle.shared_cache.specs.declared.log.ClientCall.TheVariants as call
 use Rattle.shared_cache.specs.declared.log.ClientRefusal.{ClientRefusal}
 use Rattle.shared_cache.specs.declared.log.ClientRefusal.TheVariants as refusal
 use Rattle.shared_cache.specs.Held.{Setup}
-use Rattle.shared_cache.specs.Laws.{IsCall, LegalLog}
-use Rattle.shared_cache.specs.Log.{is_ended, is_wire, replies, reply_in, reply as reply_of}
-use Rattle.shared_cache.specs.Steps.{ClientTurn, client_step}
-use Rattle.shared_cache.proofs.StepCases.{ask_down, send_down, take_down, got_down, end_over}
+use Rattle.shared_cache.specs.Laws.{LegalLog}
+use Rattle.shared_cache.specs.Log.{ends_wire, is_ended, is_ready, replies, reply_in}
+use Rattle.shared_cache.specs.Log.{reply as reply_of}
+use Rattle.shared_cache.specs.Steps.{client_step}
+use Rattle.shared_cache.proofs.LegalLogs.{newest}
 use Rattle.shared_client.specs.Turns.{Turn}
 use Rattle.script_text.specs.declared.script_line.ScriptCall.{ScriptCall}
 use Rattle.script_text.specs.declared.script_line.ScriptCall.TheVariants.{Ask, Do}
@@ -34,51 +32,26 @@ use Rattle.script_run.proofs.Sessions.{Answered, poll_down}
 
 -- ---- behind the end of the link
 
+or_true : (a b : Bool) → b ≡ true → (a || b) ≡ true
+or_true true b is = refl
+or_true false b is = is
+
 module _ (s : Setup) where
-  longer : (e : LogEntry) (log : List LogEntry) → log ≡ e ∷ log → ⊥
-  longer e log is = omega (arith, ap length is)
-
-  kept_log : (e : LogEntry) (log : List LogEntry) (t u : ClientTurn) → t ≡ u → u.past ≡ log
-      → t.past ≡ e ∷ log → ⊥
-  kept_log e log t u same kept step =
-      longer e log (sym kept ∙ ap (λ (z : ClientTurn). z.past) (sym same) ∙ step)
-
-  -- no value is got
-  no_got : (u : Wire) (v : Value) (log : List LogEntry) (c : ClientCall)
-      → is_ended s.mode Main log ≡ true → IsCall c
-      → (client_step s log c).past ≡ entry.Got u v ∷ log → ⊥
-  unfolding client_step
-  no_got u v log (call.Poll n) over is step = grind (arith, longer, nat_tests)
-  no_got u v log (call.Ask q) over is step =
-      kept_log (entry.Got u v) log _ _ (ask_down s log q over) refl step
-  no_got u v log (call.Send ws) over is step =
-      kept_log (entry.Got u v) log _ _ (send_down s log ws over) refl step
-  no_got u v log (call.TakeOut w most) over is step =
-      kept_log (entry.Got u v) log _ _ (take_down s log most over) refl
-      (subst (λ x. (client_step s log (call.TakeOut x most)).past ≡ entry.Got u v ∷ log) is step)
-  no_got u v log (call.Got w x) over is step =
-      kept_log (entry.Got u v) log _ _ (got_down s log x over) refl
-      (subst (λ y. (client_step s log (call.Got y x)).past ≡ entry.Got u v ∷ log) is step)
-  no_got u v log (call.End w) over is step =
-      kept_log (entry.Got u v) log _ _ (end_over s log over) refl
-      (subst (λ x. (client_step s log (call.End x)).past ≡ entry.Got u v ∷ log) is step)
-
-  or_true : (a b : Bool) → b ≡ true → (a || b) ≡ true
-  or_true true b is = refl
-  or_true false b is = is
-
-  kept_one : (e : LogEntry) (log : List LogEntry) (c : ClientCall)
-      → is_ended s.mode Main log ≡ true → IsCall c → (client_step s log c).past ≡ e ∷ log
+  -- no value is got on a link behind its end, so the replies are those of before
+  kept_one : (e : LogEntry) (log : List LogEntry) → is_ended s.mode Main log ≡ true
+      → LegalLog s (e ∷ log)
       → (replies s.mode Main (e ∷ log) ≡ replies s.mode Main log)
       × (is_ended s.mode Main (e ∷ log) ≡ true)
-  kept_one (entry.Got u v) log c over is step = absurd (no_got u v log c over is step)
-  kept_one (entry.End w) log c over is step =
-      (refl, or_true (is_wire w Main) (is_ended s.mode Main log) over)
-  kept_one (entry.Bad w v) log c over is step =
-      (refl, or_true (is_wire w Main) (is_ended s.mode Main log) over)
-  kept_one e log c over is step = (refl, over)
+  kept_one (entry.Got Main v) log over legal =
+      absurd (let no : true ≡ false =
+      sym over ∙ (newest s log (entry.Got Main v) legal).2 in cc)
+  kept_one (entry.Got Side v) log over legal = (refl, over)
+  kept_one (entry.End w) log over legal =
+      (refl, or_true (ends_wire s.mode.shape w Main (is_ready s.mode log)) _ over)
+  kept_one (entry.Bad w v) log over legal =
+      (refl, or_true (ends_wire s.mode.shape w Main (is_ready s.mode log)) _ over)
+  kept_one e log over legal = (refl, over)
 
-  -- so the replies are those of before
   kept_more : (more past : List LogEntry) → is_ended s.mode Main past ≡ true
       → LegalLog s (more ++ past)
       → (replies s.mode Main (more ++ past) ≡ replies s.mode Main past)
@@ -86,7 +59,7 @@ module _ (s : Setup) where
   kept_more [] past over legal = (refl, over)
   kept_more (e ∷ more) past over legal =
       let r = kept_more more past over legal.0 in
-      let k = kept_one e (more ++ past) legal.1.0 r.1 legal.1.1 legal.1.3 in (k.0 ∙ r.0, k.1)
+      let k = kept_one e (more ++ past) r.1 legal in (k.0 ∙ r.0, k.1)
 
   reply_kept : (past log : List LogEntry) (n : ℕ) → is_ended s.mode Main past ≡ true
       → LegalLog s log → IsPrefix past log → reply_of s.mode past n ≡ None

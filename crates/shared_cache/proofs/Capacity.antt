@@ -1,7 +1,8 @@
 -- How many keys are held, and which one leaves.
 use Rattle.std.proofs.Common.{◌≡◌, ◌+◌, ◌<◌, ◌≤◌, ◌++◌, ◌||◌, ℕ, List, [], ◌∷◌, length, Bool, true}
 use Rattle.std.proofs.Common.{false, cond, not, Option, Some, None, sym, ap, ◌∙◌, refl, subst, inl}
-use Rattle.std.proofs.Common.{inr, arith}
+use Rattle.std.proofs.Common.{inr, arith, append-nil, ◌&&◌}
+use Rattle.std.proofs.lemmas.List.Elements.{filter-append}
 use Rattle.std.specs.Prelude.{nat_lt}
 use Rattle.std.specs.List.{filter}
 use Rattle.std.specs.Str.{bytes_eq}
@@ -10,25 +11,27 @@ use Rattle.std.proofs.lemmas.Option.{same_Some}
 use Rattle.std.proofs.lemmas.Grind.{common_steps}
 use Rattle.resp_value.specs.declared.value.Value.{Value}
 use Rattle.command_words.specs.Queries.{key_of, writes}
-use Rattle.shared_cache.specs.declared.log.Wire.TheVariants.{Main}
+use Rattle.shared_cache.specs.declared.log.Wire.{Wire}
+use Rattle.shared_cache.specs.declared.log.Wire.TheVariants.{Main, Side}
 use Rattle.shared_cache.specs.declared.log.LogEntry.{LogEntry}
 use Rattle.shared_cache.specs.declared.log.LogEntry.TheVariants.{Ask, Send, Poll, TakeOut, Got, End}
 use Rattle.shared_cache.specs.declared.log.LogEntry.TheVariants.{Bad}
 use Rattle.shared_cache.specs.declared.entry.CacheEntry.{CacheEntry}
 use Rattle.shared_cache.specs.declared.notices.Notice.{Notice}
 use Rattle.shared_cache.specs.declared.notices.Notice.TheVariants.{Reply}
-use Rattle.shared_cache.specs.Notices.{kind_of, invalidates, is_reply}
+use Rattle.shared_cache.specs.Notices.{notice_of, invalidates, is_reply}
 use Rattle.shared_cache.specs.Log.{replies}
 use Rattle.shared_cache.specs.Held.{Setup, Key, Words, held_for, has_key, keys_held, earlier}
 use Rattle.shared_cache.specs.Held.{earliest_from, earliest, key_held, leaving, open_fetch, left}
 use Rattle.shared_cache.specs.Held.{last_use, held}
-use Rattle.shared_cache.proofs.Filled.{is_gone, filled}
+use Rattle.shared_cache.proofs.Filled.{is_gone, filled, replied_to}
 use Rattle.shared_cache.specs.Laws.{Every, LegalLog, WithinCapacity, EarliestLeaves}
 use Rattle.shared_cache.proofs.KeyTests.{same_bytes, bytes_same}
-use Rattle.shared_cache.proofs.InPlace.{all_stay}
+use Rattle.shared_cache.proofs.InPlace.{all_stay, filter_twice, filter_same_test, filters_turn}
 use Rattle.shared_cache.proofs.HeldLists.{held_none}
-use Rattle.shared_cache.proofs.HeldSteps.{held_hit, held_miss, held_send, held_push, held_reply}
-use Rattle.shared_cache.proofs.LegalLogs.{newest, replies_within}
+use Rattle.shared_cache.proofs.HeldSteps.{held_hit, held_miss, held_send, held_push, held_side}
+use Rattle.shared_cache.proofs.HeldSteps.{held_reply, overtaken, replied_none}
+use Rattle.shared_cache.proofs.LegalLogs.{replies_within}
 
 -- ---- the key with the least last use
 
@@ -180,6 +183,67 @@ pub any_filled : (capacity : ℕ) (use_of : Key → ℕ) (o : Option Words) (n :
 any_filled capacity use_of None n v hs some le = le
 any_filled capacity use_of (Some q) n v hs some le = filled_within capacity use_of q n v hs some le
 
+-- ---- where keys go before it
+
+-- some keys go from among those that another comes behind
+pub kept_and_one : (t : Key → Bool) (hs : List CacheEntry) (e : CacheEntry)
+    → keys_held (filter (λ h. not (t (key_of h.query))) hs ++ e ∷ []) ≤ keys_held (hs ++ e ∷ [])
+kept_and_one t hs e = elim (cases_Bool (t (key_of e.query))) [
+  | inl goes ↦
+      let k = key_of e.query in
+      let less = less_key k (hs ++ e ∷ []) (last_has hs e) in
+      let but : filter (λ h. not (bytes_eq (key_of h.query) k)) (hs ++ e ∷ [])
+      ≡ filter (λ h. not (bytes_eq (key_of h.query) k)) hs =
+      filter-append (λ (h : CacheEntry). not (bytes_eq (key_of h.query) k)) hs (e ∷ [])
+      ∙ ap (λ b. filter (λ (h : CacheEntry). not (bytes_eq (key_of h.query) k)) hs
+      ++ cond (not b) (e ∷ []) []) (same_bytes k)
+      ∙ append-nil (filter (λ (h : CacheEntry). not (bytes_eq (key_of h.query) k)) hs) in
+      let among : filter (λ h. not (t (key_of h.query))) hs
+      ≡ filter (λ h. not (t (key_of h.query)))
+      (filter (λ h. not (bytes_eq (key_of h.query) k)) hs) =
+      sym (filter_twice (λ (h : CacheEntry). not (bytes_eq (key_of h.query) k))
+      (λ h. not (t (key_of h.query))) hs
+      ∙ filter_same_test (λ (h : CacheEntry). not (bytes_eq (key_of h.query) k)
+      && not (t (key_of h.query))) (λ h. not (t (key_of h.query))) hs
+      (λ h. gone_too (key_of h.query) k goes)) in
+      omega (
+        arith,
+        less,
+        ap keys_held but,
+        ap keys_held among,
+        kept_keys t (filter (λ h. not (bytes_eq (key_of h.query) k)) hs),
+        add_key (filter (λ h. not (t (key_of h.query))) hs) e,
+      )
+  | inr stays_ ↦
+      let all : filter (λ h. not (t (key_of h.query))) (hs ++ e ∷ [])
+      ≡ filter (λ h. not (t (key_of h.query))) hs ++ e ∷ [] =
+      filter-append (λ (h : CacheEntry). not (t (key_of h.query))) hs (e ∷ [])
+      ∙ ap (λ b. filter (λ (h : CacheEntry). not (t (key_of h.query))) hs
+      ++ cond (not b) (e ∷ []) []) stays_ in
+      omega (arith, ap keys_held all, kept_keys t (hs ++ e ∷ []))
+]
+  where
+    gone_too : (j k : Key) → t k ≡ true → (not (bytes_eq j k) && not (t j)) ≡ not (t j)
+    gone_too j k goes = grind (arith, bytes_same j k)
+
+pub any_replied : (capacity : ℕ) (use_of : Key → ℕ) (o : Option Words) (n : ℕ) (v : Value)
+    (t : Key → Bool) (hs : List CacheEntry)
+    → 0 < capacity → keys_held hs ≤ capacity
+    → keys_held (replied_to capacity use_of o n v t hs) ≤ capacity
+any_replied capacity use_of None n v t hs some le =
+    omega (arith, ap keys_held (replied_none capacity use_of n v t hs), kept_keys t hs, le)
+any_replied capacity use_of (Some q) n v t hs some le =
+    let gone = leaving capacity use_of (Some q) hs in
+    let new : CacheEntry = record { query = q; value = v; number = n } in
+    omega (
+      arith,
+      ap (λ l. keys_held (l ++ new ∷ []))
+          (filters_turn (λ (h : CacheEntry). not (is_gone gone (key_of h.query)))
+          (λ h. not (t (key_of h.query))) hs),
+      kept_and_one t (filter (λ h. not (is_gone gone (key_of h.query))) hs) new,
+      any_filled capacity use_of (Some q) n v hs some le,
+    )
+
 reply_is : (k : Notice) → is_reply k ≡ true → k ≡ Reply
 reply_is k e = grind arith
 
@@ -190,20 +254,21 @@ asked_within : (s : Setup) (log : List LogEntry) (q : Words) → LegalLog s log
     → (o : Option CacheEntry) → held_for q (held s log) ≡ o → Within s log → Within s (Ask q ∷ log)
 asked_within s log q l o e w = grind (arith, held_hit, held_miss, replies_within)
 
-got_within : (s : Setup) (log : List LogEntry) (v : Value) → 0 < s.capacity → Within s log
-    → Within s (Got Main v ∷ log)
-got_within s log v some w = elim (cases_Bool (is_reply (kind_of v))) [
-  | inl reply_ ↦
-      subst (λ hs. keys_held hs ≤ s.capacity)
-      (sym (held_reply s log v (reply_is (kind_of v) reply_)
-      (open_fetch s log (length (replies s.mode Main log) + 1)) refl))
-      (any_filled s.capacity (last_use s log)
-      (open_fetch s log (length (replies s.mode Main log) + 1))
-      (length (replies s.mode Main log) + 1) v (held s log) some w)
-  | inr push_ ↦
-      subst (λ hs. keys_held hs ≤ s.capacity) (sym (held_push s log v push_))
-      (let k = kept_keys (invalidates s.mode Main v) (held s log) in omega (arith, k, w))
-]
+got_within : (s : Setup) (log : List LogEntry) (u : Wire) (v : Value) → 0 < s.capacity
+    → Within s log → (k : Bool) → is_reply (notice_of s.mode u v) ≡ k → Within s (Got u v ∷ log)
+got_within s log Main v some w true e =
+    subst (λ hs. keys_held hs ≤ s.capacity)
+    (sym (held_reply s log v (reply_is (notice_of s.mode Main v) e)
+    (open_fetch s log (length (replies s.mode Main log) + 1)) refl))
+    (any_replied s.capacity (last_use s log)
+    (open_fetch s log (length (replies s.mode Main log) + 1))
+    (length (replies s.mode Main log) + 1) v (overtaken s log) (held s log) some w)
+got_within s log Side v some w true e =
+    subst (λ hs. keys_held hs ≤ s.capacity)
+    (sym (held_side s log v (reply_is (notice_of s.mode Side v) e))) w
+got_within s log u v some w false e =
+    subst (λ hs. keys_held hs ≤ s.capacity) (sym (held_push s log u v e))
+    (let k = kept_keys (invalidates s.mode u v) (held s log) in omega (arith, k, w))
 
 pub within_capacity : WithinCapacity
 within_capacity s [] some l = omega arith
@@ -216,8 +281,8 @@ within_capacity s (Send ws ∷ log) some l =
 within_capacity s (Poll n ∷ log) some l = within_capacity s log some l.0
 within_capacity s (TakeOut w n ∷ log) some l = within_capacity s log some l.0
 within_capacity s (Got w v ∷ log) some l =
-    subst (λ u. Within s (Got u v ∷ log)) (sym (newest s log (Got w v) l).0)
-    (got_within s log v some (within_capacity s log some l.0))
+    got_within s log w v some (within_capacity s log some l.0) (is_reply (notice_of s.mode w v))
+    refl
 within_capacity s (End w ∷ log) some l =
     subst (λ hs. keys_held hs ≤ s.capacity) (sym (held_none (left s log) (replies s.mode Main log)))
     (omega arith)

@@ -1,11 +1,12 @@
 -- The laws of the commands of a legal log.
 use Rattle.std.proofs.Common.{◌≡◌, ◌<◌, ◌≤◌, ◌++◌, ℕ, List, [], ◌∷◌, length, drop, Bool, true}
-use Rattle.std.proofs.Common.{false, Option, Some, None, sym, ◌∙◌, refl, subst}
-use Rattle.std.proofs.Common.{inl, inr, arith, append-nil, append_assoc, length-append, ne_eqb}
+use Rattle.std.proofs.Common.{false, Option, Some, None, sym, ap, ◌∙◌, refl, subst}
+use Rattle.std.proofs.Common.{inl, inr, arith, append-nil, append_assoc, length-append}
 use Rattle.std.proofs.lemmas.Bool.{cases_Bool}
 use Rattle.std.proofs.lemmas.List.{drop-append-le, drop_all, map-append, length-map}
 use Rattle.std.proofs.lemmas.Option.{slice_get_within}
-use Rattle.std.specs.Prelude.{map}
+use Rattle.std.specs.Prelude.{◌-◌, map}
+use Rattle.std.specs.List.{flat_map}
 use Rattle.resp_value.specs.declared.value.Value.{Value}
 use Rattle.command_words.specs.Words.{reading}
 use Rattle.command_words.specs.StringWords.{string_reading}
@@ -21,20 +22,29 @@ use Rattle.shared_cache.specs.declared.log.LogEntry.{LogEntry}
 use Rattle.shared_cache.specs.declared.log.LogEntry.TheVariants.{Ask, Send, Poll, TakeOut, Got, End}
 use Rattle.shared_cache.specs.declared.log.LogEntry.TheVariants.{Bad}
 use Rattle.shared_cache.specs.declared.entry.CacheEntry.{CacheEntry}
-use Rattle.shared_cache.specs.Notices.{invalidates}
+use Rattle.resp_value.specs.declared.value.Proto.{Proto}
+use Rattle.resp_value.specs.declared.value.Proto.TheVariants.{Two, Three}
+use Rattle.shared_cache.specs.declared.log.Wire.{Wire}
+use Rattle.shared_cache.specs.declared.log.Shape.{Shape}
+use Rattle.shared_cache.specs.declared.log.Shape.TheVariants.{Single, Pair}
+use Rattle.shared_cache.specs.declared.notices.Notice.{Notice}
+use Rattle.shared_cache.specs.declared.notices.Notice.TheVariants.{Reply}
+use Rattle.shared_cache.specs.Notices.{notice_of}
 use Rattle.shared_cache.specs.declared.lead.CachingWord.{CachingWord}
 use Rattle.shared_cache.specs.declared.lead.CachingWord.TheVariants.{Yes, No}
-use Rattle.shared_cache.specs.Log.{handshake, reply_in, is_ready, is_accepted, caching_on}
-use Rattle.shared_cache.specs.Log.{caching_on_for}
+use Rattle.shared_cache.specs.Log.{steps_of, put_tracking, put_step, handshake, handshake_length}
+use Rattle.shared_cache.specs.Log.{is_wire, with_reply, replies, reply_in, is_ready, is_accepted}
+use Rattle.shared_cache.specs.Log.{is_told, told_id, caching_on, caching_on_for}
 use Rattle.shared_cache.specs.Held.{Setup, Key, Words, SentCommand, Caller, Library, put_ask}
 use Rattle.shared_cache.specs.Held.{put_read, caching_command, read_lead, send_lead, is_read}
 use Rattle.shared_cache.specs.Held.{put_command, held_for, numbers, sent, open_fetch, held}
-use Rattle.shared_cache.specs.Held.{commands}
+use Rattle.shared_cache.specs.Held.{commands, got_ends}
 use Rattle.shared_cache.specs.Laws.{Every, IsQuery, LegalLog, CommandsHaveWords, HandshakeFirst}
 use Rattle.shared_cache.specs.Laws.{NoControl, NoLaterWrite}
 use Rattle.shared_cache.proofs.Every.{every_append}
 use Rattle.shared_cache.proofs.Led.{own, every_led}
-use Rattle.shared_cache.proofs.LegalLogs.{newest}
+use Rattle.shared_cache.proofs.LegalLogs.{newest, accepted_there, told_when_ready}
+use Rattle.shared_cache.proofs.Handshakes.{whole, kept_reply, told_later, handshake_same}
 use Rattle.shared_cache.proofs.FetchLaws.{unless_some, asked_some, place_is_query}
 
 -- ---- commands of a legal log
@@ -104,20 +114,54 @@ every_words : (P : Words → Type 0) (cs : List SentCommand)
 every_words P [] all = tt
 every_words P (c ∷ cs) all = (all.0, every_words P cs all.1)
 
+put_words : (shape : Shape) (m : ClientMode) (told : Bool) (id : List ℕ)
+    → Every (λ ws. 0 < length ws) (put_tracking shape m told id)
+put_words Single m told id = (omega arith, tt)
+put_words Pair m true id = (omega arith, tt)
+put_words Pair m false id = tt
+
+step_words : (w : Wire) (shape : Shape) (p : Proto) (m : ClientMode) (told : Bool) (id : List ℕ)
+    → Every (λ ws. 0 < length ws) (flat_map (put_step m told id) (steps_of w shape p))
+step_words Main shape Two m told id =
+    every_append (λ ws. 0 < length ws) (put_tracking m.shape m told id) []
+    (put_words m.shape m told id) tt
+step_words Main shape Three m told id = (
+  omega arith,
+  every_append (λ ws. 0 < length ws) (put_tracking m.shape m told id) []
+      (put_words m.shape m told id) tt,
+)
+step_words Side Single p m told id = tt
+step_words Side Pair Two m told id = (omega arith, (omega arith, tt))
+step_words Side Pair Three m told id = (omega arith, (omega arith, tt))
+
 pub commands_have_words : CommandsHaveWords
 commands_have_words s Main log l =
-    every_append (λ ws. 0 < length ws) (handshake s.mode log)
-    (map (λ (c : SentCommand). c.words) (sent s log)) (omega arith, (omega arith, tt))
+    every_append (λ ws. 0 < length ws) (handshake s.mode Main log)
+    (map (λ (c : SentCommand). c.words) (sent s log))
+    (step_words Main s.mode.shape s.mode.proto s.mode (is_told s.mode log) (told_id s.mode log))
     (every_words (λ ws. 0 < length ws) (sent s log)
     (every_sent (λ (c : SentCommand). 0 < length c.words) s (λ w. omega arith) has_words
     (λ ws plain some. some) log l))
-commands_have_words s Side log l = tt
+commands_have_words s Side log l =
+    every_append (λ ws. 0 < length ws) (handshake s.mode Side log) []
+    (step_words Side s.mode.shape s.mode.proto s.mode (is_told s.mode log) (told_id s.mode log)) tt
 
 -- a client that is ready stays so
-more_accepted : (v : Value) (vs : List Value) → is_accepted (reply_in 2 vs) ≡ true
-    → is_accepted (reply_in 2 (v ∷ vs)) ≡ true
-more_accepted v (u ∷ t ∷ vs) e = grind (arith, ne_eqb)
-more_accepted v vs e = cc
+more_accepted : (n : ℕ) (v : Value) (vs : List Value) → is_accepted (reply_in n vs) ≡ true
+    → is_accepted (reply_in n (v ∷ vs)) ≡ true
+more_accepted n v vs e =
+    ap is_accepted (kept_reply n v vs (accepted_there n vs e)) ∙ e
+
+got_accepted : (here : Bool) (k : Notice) (n : ℕ) (v : Value) (vs : List Value)
+    → is_accepted (reply_in n (with_reply here k v vs)) ≡ false
+    → is_accepted (reply_in n vs) ≡ false
+got_accepted true Reply n v vs e =
+    elim (cases_Bool (is_accepted (reply_in n vs))) [
+      | inl there ↦ absurd (let no : true ≡ false = sym (more_accepted n v vs there) ∙ e in cc)
+      | inr not_ ↦ not_
+    ]
+got_accepted true k n v vs e = e
+got_accepted false k n v vs e = e
 
 nothing_sent : (s : Setup) (log : List LogEntry) → LegalLog s log → is_ready s.mode log ≡ false
     → sent s log ≡ []
@@ -129,21 +173,50 @@ nothing_sent s (Send ws ∷ log) l e =
 nothing_sent s (Poll n ∷ log) l e = nothing_sent s log l.0 e
 nothing_sent s (TakeOut w n ∷ log) l e = nothing_sent s log l.0 e
 nothing_sent s (Got w v ∷ log) l e =
-    nothing_sent s log l.0 (grind (arith, cases_Bool, more_accepted))
+    nothing_sent s log l.0
+    (got_accepted (is_wire w Main) (notice_of s.mode w v) (handshake_length s.mode) v
+    (replies s.mode Main log) e)
 nothing_sent s (End w ∷ log) l e = nothing_sent s log l.0 e
 nothing_sent s (Bad w v ∷ log) l e = nothing_sent s log l.0 e
 
 pub handshake_first : HandshakeFirst
-handshake_first s log l = grind (arith, nothing_sent, append-nil)
+handshake_first s log l = (
+  (map (λ (c : SentCommand). c.words) (sent s log), refl),
+  λ e. ap (λ cs. handshake s.mode Main log ++ map (λ (c : SentCommand). c.words) cs)
+      (nothing_sent s log l e) ∙ append-nil (handshake s.mode Main log),
+)
 
 -- ---- no later command writes the key of an open fetch
 
-abbrev commands_of : Setup → List LogEntry → List SentCommand → List Words
-commands_of s log cs = handshake s.mode log ++ map (λ (c : SentCommand). c.words) cs
+told_by_ask : (s : Setup) (p : Words) (log : List LogEntry) → LegalLog s (Ask p ∷ log)
+    → is_told s.mode log ≡ true
+told_by_ask s p log l = told_when_ready s log l.0 (newest s log (Ask p) l).1
 
-within : (s : Setup) (log : List LogEntry) (n : ℕ) (q : Words) → open_fetch s log n ≡ Some q
-    → n ≤ length (commands s Main log)
-within s log n q f = grind (arith, place_is_query, slice_get_within)
+-- it was sent, so Side was told
+pub told_by_open : (s : Setup) (log : List LogEntry) (n : ℕ) (q : Words) → LegalLog s log
+    → open_fetch s log n ≡ Some q → is_told s.mode log ≡ true
+told_by_open s (Ask p ∷ log) n q l f =
+    told_later s.mode (Ask p) log (told_by_ask s p log l)
+told_by_open s (Send ws ∷ log) n q l f =
+    told_later s.mode (Send ws) log (told_when_ready s log l.0 (newest s log (Send ws) l).1)
+told_by_open s (Poll m ∷ log) n q l f = told_by_open s log n q l.0 f
+told_by_open s (TakeOut w m ∷ log) n q l f = told_by_open s log n q l.0 f
+told_by_open s (Got w v ∷ log) n q l f =
+    told_later s.mode (Got w v) log
+    (told_by_open s log n q l.0
+    (unless_some (got_ends s (sent s log) (length (replies s.mode Main log)) w v n)
+    (open_fetch s log n) q f).0)
+told_by_open s e n q l f = cc
+
+abbrev commands_of : Setup → List LogEntry → List SentCommand → List Words
+commands_of s log cs = handshake s.mode Main log ++ map (λ (c : SentCommand). c.words) cs
+
+within : (s : Setup) (log : List LogEntry) (n : ℕ) (q : Words) → LegalLog s log
+    → open_fetch s log n ≡ Some q → n ≤ length (commands s Main log)
+within s log n q l f =
+    let p = place_is_query s log n q (inr l) f in
+    let w = slice_get_within (commands s Main log) (n - 1) q p.1 in
+    omega (arith, p.0)
 
 every_dropped : (P : Words → Type 0) (s : Setup) (log : List LogEntry) (xs ys : List SentCommand)
     (n : ℕ)
@@ -164,7 +237,7 @@ no_later_write s (Ask p ∷ log) n q l f =
       | inl old ↦
           every_dropped (λ ws. writes ws (key_of q) ≡ false) s log (sent s log)
           (put_ask (held_for p (held s log)) s.mode (caching_on_for s.mode log (key_of p)) p) n
-          (within s log n q old) (no_later_write s log n q l.0 old)
+          (within s log n q l.0 old) (no_later_write s log n q l.0 old)
           (every_put (λ (c : SentCommand). writes c.words (key_of q) ≡ false)
           (held_for p (held s log)) s.mode (caching_on_for s.mode log (key_of p)) p
           (λ w. caching_writes_none w (key_of q))
@@ -181,7 +254,8 @@ no_later_write s (Ask p ∷ log) n q l f =
           (omega (
             arith,
             new.number_is,
-            length-append (handshake s.mode log)
+            whole s.mode log (told_by_ask s p log l),
+            length-append (handshake s.mode Main log)
                 (map (λ (c : SentCommand). c.words)
                 (sent s log ++ put_read s.mode (caching_on_for s.mode log (key_of p)) p)),
             length-map (sent s log ++ put_read s.mode (caching_on_for s.mode log (key_of p)) p)
@@ -193,12 +267,17 @@ no_later_write s (Send ws ∷ log) n q l f =
     let u = unless_some (writes ws) (open_fetch s log n) q f in
     every_dropped (λ x. writes x (key_of q) ≡ false) s log (sent s log)
     (put_command s.mode (caching_on s.mode log) ws) n
-    (within s log n q u.0) (no_later_write s log n q l.0 u.0)
+    (within s log n q l.0 u.0) (no_later_write s log n q l.0 u.0)
     (every_led (λ (c : SentCommand). writes c.words (key_of q) ≡ false)
     (send_lead s.mode.caching (caching_on s.mode log) (is_read ws)) ws
     (λ w. caching_writes_none w (key_of q)) u.1)
 no_later_write s (Poll m ∷ log) n q l f = no_later_write s log n q l.0 f
 no_later_write s (TakeOut w m ∷ log) n q l f = no_later_write s log n q l.0 f
 no_later_write s (Got w v ∷ log) n q l f =
-    no_later_write s log n q l.0 (unless_some (invalidates s.mode w v) (open_fetch s log n) q f).0
+    let old = (unless_some (got_ends s (sent s log) (length (replies s.mode Main log)) w v n)
+    (open_fetch s log n) q f).0 in
+    subst (λ h. Every (λ ws. writes ws (key_of q) ≡ false)
+    (drop n (h ++ map (λ (c : SentCommand). c.words) (sent s log))))
+    (sym (handshake_same s.mode (Got w v) log (told_by_open s log n q l.0 old)))
+    (no_later_write s log n q l.0 old)
 no_later_write s e n q l f = cc

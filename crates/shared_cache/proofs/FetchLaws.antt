@@ -14,8 +14,8 @@ use Rattle.shared_cache.specs.declared.log.ClientMode.{ClientMode}
 use Rattle.shared_cache.specs.declared.log.LogEntry.{LogEntry}
 use Rattle.shared_cache.specs.declared.log.LogEntry.TheVariants.{Ask, Send, Poll, TakeOut, Got}
 use Rattle.shared_cache.specs.declared.entry.CacheEntry.{CacheEntry}
-use Rattle.shared_cache.specs.Notices.{invalidates}
-use Rattle.shared_cache.specs.Log.{handshake, reply_in, is_ended, is_ready, is_broken}
+use Rattle.shared_cache.specs.Log.{handshake, handshake_length, replies, reply_in, is_ended}
+use Rattle.shared_cache.specs.Log.{is_ready, is_broken}
 use Rattle.shared_cache.specs.Log.{caching_on, caching_on_for, covers}
 use Rattle.shared_cache.specs.declared.lead.CachingWord.{CachingWord}
 use Rattle.shared_cache.specs.declared.lead.CachingWord.TheVariants.{Yes}
@@ -23,13 +23,15 @@ use Rattle.shared_cache.specs.Held.{Setup, Key, Words, SentCommand, put_ask, put
 use Rattle.shared_cache.specs.Held.{caching_command, led_by, read_lead}
 use Rattle.shared_cache.specs.Steps.{read_number}
 use Rattle.shared_cache.specs.Held.{held_for, unless, asked, hold, held_by, ends, numbers, sent}
-use Rattle.shared_cache.specs.Held.{open_fetch, held, commands}
+use Rattle.shared_cache.specs.Held.{open_fetch, held, commands, got_ends}
 use Rattle.resp_value.specs.Lists.{IsPrefix}
 use Rattle.shared_cache.specs.Laws.{Every, WasSent, IsFetch, OpenWasSent, PlaceIsQuery}
-use Rattle.shared_cache.specs.Laws.{MarkBeforeRead}
+use Rattle.shared_cache.specs.Laws.{InTurn, MarkBeforeRead}
 use Rattle.shared_cache.specs.Laws.{OpenWires, HeldIsFetch, EndedHoldsNothing}
 use Rattle.shared_cache.proofs.Every.{every_append, every_weaker}
-use Rattle.shared_cache.proofs.CommandLists.{commands_grow}
+use Rattle.shared_cache.proofs.CommandLists.{before_turn, commands_grow}
+use Rattle.shared_cache.proofs.LegalLogs.{newest, told_when_ready}
+use Rattle.shared_cache.proofs.Handshakes.{whole, told_of_one}
 use Rattle.shared_cache.proofs.Led.{own, led_some}
 
 -- ---- open fetches
@@ -83,7 +85,8 @@ open_was_sent s (Poll m ∷ log) n q f = one_later s log n q (Poll m) refl (open
 open_was_sent s (TakeOut w m ∷ log) n q f =
     one_later s log n q (TakeOut w m) refl (open_was_sent s log n q f)
 open_was_sent s (Got w v ∷ log) n q f = let u =
-    unless_some (invalidates s.mode w v) (open_fetch s log n) q f in
+    unless_some (got_ends s (sent s log) (length (replies s.mode Main log)) w v n)
+    (open_fetch s log n) q f in
     one_later s log n q (Got w v) u.1 (open_was_sent s log n q u.0)
 open_was_sent s e n q f = cc
 
@@ -108,7 +111,9 @@ open_wires s (Send ws ∷ log) n q f =
 open_wires s (Poll m ∷ log) n q f = open_wires s log n q f
 open_wires s (TakeOut w m ∷ log) n q f = open_wires s log n q f
 open_wires s (Got w v ∷ log) n q f =
-    open_wires s log n q (unless_some (invalidates s.mode w v) (open_fetch s log n) q f).0
+    open_wires s log n q
+    (unless_some (got_ends s (sent s log) (length (replies s.mode Main log)) w v n)
+    (open_fetch s log n) q f).0
 open_wires s e n q f = cc
 
 -- ---- the command of an open fetch
@@ -138,19 +143,28 @@ get_grows (w ∷ xs) ys zero h p e = ap (λ l. slice_get l 0) (sym p.1) ∙ e
 get_grows (w ∷ xs) ys (suc i) x p e = grind (arith, get_grows xs (xs ++ p.0) i x (p.0, refl) e)
 
 place_later : (s : Setup) (e : LogEntry) (log : List LogEntry) (n : ℕ) (q : Words)
-    → (0 < n) × (slice_get (commands s Main log) (n - 1) ≡ Some q) → (0 < n)
+    → InTurn s (e ∷ log) → (0 < n) × (slice_get (commands s Main log) (n - 1) ≡ Some q) → (0 < n)
     × (slice_get (commands s Main (e ∷ log)) (n - 1) ≡ Some q)
-place_later s e log n q p = (
+place_later s e log n q turn p = (
   p.0,
   get_grows (commands s Main log) (commands s Main (e ∷ log)) (n - 1) q
-      (commands_grow s Main e log) p.1,
+      (commands_grow s Main e log turn) p.1,
 )
 
+-- an Ask comes behind the handshake
+asked_whole : (s : Setup) (p : Words) (log : List LogEntry) → InTurn s (Ask p ∷ log)
+    → length (handshake s.mode Main log) ≡ handshake_length s.mode
+asked_whole s p log (inl one) = whole s.mode log (told_of_one s.mode log one)
+asked_whole s p log (inr l) =
+    whole s.mode log (told_when_ready s log l.0 (newest s log (Ask p) l).1)
+
 pub place_is_query : PlaceIsQuery
-place_is_query s (Ask p ∷ log) n q f =
+place_is_query s (Ask p ∷ log) n q turn f =
     elim (asked_some (held_for p (held s log)) s.mode (caching_on_for s.mode log (key_of p))
     (numbers s log) p n (open_fetch s log n) q f) [
-      | inl old ↦ place_later s (Ask p) log n q (place_is_query s log n q old)
+      | inl old ↦
+          place_later s (Ask p) log n q turn
+          (place_is_query s log n q (before_turn s (Ask p) log turn) old)
       | inr new ↦ (
         omega (
           arith,
@@ -158,25 +172,29 @@ place_is_query s (Ask p ∷ log) n q f =
           led_some (read_lead s.mode.caching (caching_on_for s.mode log (key_of p))) p,
         ),
         ap (λ o. slice_get
-            (handshake s.mode log ++ map (λ (c : SentCommand). c.words)
+            (handshake s.mode Main log ++ map (λ (c : SentCommand). c.words)
             (sent s log ++ put_ask o s.mode (caching_on_for s.mode log (key_of p)) p)) (n - 1))
             new.missed
-            ∙ at_led n (handshake s.mode log) (sent s log)
+            ∙ at_led n (handshake s.mode Main log) (sent s log)
             (read_lead s.mode.caching (caching_on_for s.mode log (key_of p))) p
-            (omega (arith, new.number_is))
+            (omega (arith, new.number_is, asked_whole s p log turn))
             ∙ ap Some new.query_is,
       )
     ]
-place_is_query s (Send ws ∷ log) n q f =
-    place_later s (Send ws) log n q
-    (place_is_query s log n q (unless_some (writes ws) (open_fetch s log n) q f).0)
-place_is_query s (Poll m ∷ log) n q f = place_later s (Poll m) log n q (place_is_query s log n q f)
-place_is_query s (TakeOut w m ∷ log) n q f =
-    place_later s (TakeOut w m) log n q (place_is_query s log n q f)
-place_is_query s (Got w v ∷ log) n q f =
-    place_later s (Got w v) log n q
-    (place_is_query s log n q (unless_some (invalidates s.mode w v) (open_fetch s log n) q f).0)
-place_is_query s e n q f = cc
+place_is_query s (Send ws ∷ log) n q turn f =
+    place_later s (Send ws) log n q turn
+    (place_is_query s log n q (before_turn s (Send ws) log turn)
+    (unless_some (writes ws) (open_fetch s log n) q f).0)
+place_is_query s (Poll m ∷ log) n q turn f =
+    place_is_query s log n q (before_turn s (Poll m) log turn) f
+place_is_query s (TakeOut w m ∷ log) n q turn f =
+    place_is_query s log n q (before_turn s (TakeOut w m) log turn) f
+place_is_query s (Got w v ∷ log) n q turn f =
+    place_later s (Got w v) log n q turn
+    (place_is_query s log n q (before_turn s (Got w v) log turn)
+    (unless_some (got_ends s (sent s log) (length (replies s.mode Main log)) w v n)
+    (open_fetch s log n) q f).0)
+place_is_query s e n q turn f = cc
 
 -- what goes before a led command
 at_lead : (n : ℕ) (front : List Words) (xs : List SentCommand) (l : Option CachingWord)
@@ -193,45 +211,47 @@ at_lead n front xs (Some v) w ws is e =
     )
 
 marked_later : (s : Setup) (e : LogEntry) (log : List LogEntry) (n : ℕ) (w : Words)
+    → InTurn s (e ∷ log)
     → (1 < n) × (slice_get (commands s Main log) (n - 2) ≡ Some w)
     → (1 < n) × (slice_get (commands s Main (e ∷ log)) (n - 2) ≡ Some w)
-marked_later s e log n w p = (
+marked_later s e log n w turn p = (
   p.0,
   get_grows (commands s Main log) (commands s Main (e ∷ log)) (n - 2) w
-      (commands_grow s Main e log) p.1,
+      (commands_grow s Main e log turn) p.1,
 )
 
 pub mark_before_read : MarkBeforeRead
-mark_before_read s (Ask p ∷ log) n q by f =
+mark_before_read s (Ask p ∷ log) n q by turn f =
     let on = caching_on_for s.mode log (key_of p) in
     elim (asked_some (held_for p (held s log)) s.mode on
     (numbers s log) p n (open_fetch s log n) q f) [
       | inl old ↦
-          marked_later s (Ask p) log n (caching_command Yes).words
-          (mark_before_read s log n q by old)
+          marked_later s (Ask p) log n (caching_command Yes).words turn
+          (mark_before_read s log n q by (before_turn s (Ask p) log turn) old)
       | inr new ↦
           let lead : read_lead s.mode.caching on ≡ Some Yes
           = λ i. read_lead (by i) (new.turned_on i) in
           subst (λ o. (1 < n) × (slice_get
-          (handshake s.mode log ++ map (λ (c : SentCommand). c.words)
+          (handshake s.mode Main log ++ map (λ (c : SentCommand). c.words)
           (sent s log ++ put_ask o s.mode on p)) (n - 2) ≡ Some (caching_command Yes).words))
           (sym new.missed)
-          (at_lead n (handshake s.mode log) (sent s log) (read_lead s.mode.caching on) Yes p lead
-          (omega (arith, new.number_is)))
+          (at_lead n (handshake s.mode Main log) (sent s log) (read_lead s.mode.caching on) Yes p
+          lead (omega (arith, new.number_is, asked_whole s p log turn)))
     ]
-mark_before_read s (Send ws ∷ log) n q by f =
-    marked_later s (Send ws) log n (caching_command Yes).words
-    (mark_before_read s log n q by (unless_some (writes ws) (open_fetch s log n) q f).0)
-mark_before_read s (Poll m ∷ log) n q by f =
-    marked_later s (Poll m) log n (caching_command Yes).words (mark_before_read s log n q by f)
-mark_before_read s (TakeOut w m ∷ log) n q by f =
-    marked_later s (TakeOut w m) log n (caching_command Yes).words
-    (mark_before_read s log n q by f)
-mark_before_read s (Got w v ∷ log) n q by f =
-    marked_later s (Got w v) log n (caching_command Yes).words
-    (mark_before_read s log n q by
-    (unless_some (invalidates s.mode w v) (open_fetch s log n) q f).0)
-mark_before_read s e n q by f = cc
+mark_before_read s (Send ws ∷ log) n q by turn f =
+    marked_later s (Send ws) log n (caching_command Yes).words turn
+    (mark_before_read s log n q by (before_turn s (Send ws) log turn)
+    (unless_some (writes ws) (open_fetch s log n) q f).0)
+mark_before_read s (Poll m ∷ log) n q by turn f =
+    mark_before_read s log n q by (before_turn s (Poll m) log turn) f
+mark_before_read s (TakeOut w m ∷ log) n q by turn f =
+    mark_before_read s log n q by (before_turn s (TakeOut w m) log turn) f
+mark_before_read s (Got w v ∷ log) n q by turn f =
+    marked_later s (Got w v) log n (caching_command Yes).words turn
+    (mark_before_read s log n q by (before_turn s (Got w v) log turn)
+    (unless_some (got_ends s (sent s log) (length (replies s.mode Main log)) w v n)
+    (open_fetch s log n) q f).0)
+mark_before_read s e n q by turn f = cc
 
 -- ---- what is held
 
@@ -255,7 +275,7 @@ held_is_fetch s log = grind (arith, every_weaker, held_every)
 
 -- ---- nothing is held after an end
 
-not_open : (s : Setup) (w : Wire) (log : List LogEntry) (n : ℕ) (q : Words)
+pub not_open : (s : Setup) (w : Wire) (log : List LogEntry) (n : ℕ) (q : Words)
     → open_fetch s log n ≡ Some q → is_ended s.mode w log ≡ true → ⊥
 not_open s w log n q f e = grind (arith, open_wires)
 

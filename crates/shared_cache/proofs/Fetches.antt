@@ -1,20 +1,18 @@
 -- What holds of the fetches of any log.
-use Rattle.std.proofs.Common.{◌≡◌, ◌<◌, ◌≤◌, ◌++◌, ℕ, List, [], ◌∷◌, length, append-nil, Bool}
+use Rattle.std.proofs.Common.{◌≡◌, ◌<◌, ◌++◌, ℕ, List, [], ◌∷◌, length, append-nil, Bool}
 use Rattle.std.proofs.Common.{false, Option, None, ap, refl, arith, ne_eqb, length-append}
 use Rattle.std.proofs.lemmas.Bool.{lt-leb, or_from, and_left}
-use Rattle.resp_value.specs.declared.value.Value.{Value}
 use Rattle.command_words.specs.Queries.{writes}
 use Rattle.shared_cache.specs.declared.log.Wire.TheVariants.{Main}
 use Rattle.shared_cache.specs.declared.log.LogEntry.{LogEntry}
 use Rattle.shared_cache.specs.declared.log.LogEntry.TheVariants.{Ask, Send, Poll, TakeOut, Got, End}
 use Rattle.shared_cache.specs.declared.log.LogEntry.TheVariants.{Bad}
 use Rattle.shared_cache.specs.declared.entry.CacheEntry.{CacheEntry}
-use Rattle.shared_cache.specs.declared.notices.Notice.{Notice}
-use Rattle.shared_cache.specs.Notices.{notice_of, invalidates}
-use Rattle.shared_cache.specs.Log.{is_wire, replies, with_reply, caching_on}
+use Rattle.shared_cache.specs.Log.{replies, caching_on}
 use Rattle.shared_cache.specs.Held.{Setup, Key, Words, SentCommand, numbered, numbers, held_for}
 use Rattle.shared_cache.specs.Held.{held, unless, asked, put_ask, put_command, sent, open_fetch}
-use Rattle.shared_cache.specs.Held.{left}
+use Rattle.shared_cache.specs.Held.{got_ends, left}
+use Rattle.shared_cache.proofs.Handshakes.{replies_grow}
 
 pub unless_none : (t : Key → Bool) (o : Option Words) → o ≡ None → unless t o ≡ None
 unless_none t o e = ap (unless t) e
@@ -40,13 +38,9 @@ beyond s (Send ws ∷ log) n lt =
 beyond s (Poll m ∷ log) n lt = beyond s log n lt
 beyond s (TakeOut w m ∷ log) n lt = beyond s log n lt
 beyond s (Got w v ∷ log) n lt =
-    unless_none (invalidates s.mode w v) (open_fetch s log n) (beyond s log n lt)
+    unless_none (got_ends s (sent s log) (length (replies s.mode Main log)) w v n)
+    (open_fetch s log n) (beyond s log n lt)
 beyond s log n lt = refl
-
--- replies are added, and none is taken away
-more_replies : (main : Bool) (k : Notice) (v : Value) (vs : List Value)
-    → length vs ≤ length (with_reply main k v vs)
-more_replies main k v vs = grind arith
 
 -- a fetch without a reply has not left
 pub stays : (s : Setup) (log : List LogEntry) (n : ℕ) → length (replies s.mode Main log) < n
@@ -58,10 +52,7 @@ stays s (Poll m ∷ log) n lt = stays s log n lt
 stays s (TakeOut w m ∷ log) n lt = stays s log n lt
 stays s (Got w v ∷ log) n lt =
     let less : length (replies s.mode Main log) < n
-    = omega (
-      arith,
-      more_replies (is_wire w Main) (notice_of s.mode w v) v (replies s.mode Main log),
-    ) in
+    = omega (arith, replies_grow s.mode Main (Got w v) log) in
     or_from _ _ (stays s log n less)
     (and_left _ _ (lt-leb n (length (replies s.mode Main log)) less))
 stays s (End w ∷ log) n lt = stays s log n lt

@@ -26,6 +26,11 @@ pub filter_twice : {X : Type 0} → (p q : X → Bool) (xs : List X)
 filter_twice p q [] = refl
 filter_twice p q (x ∷ xs) = grind (arith, common_steps, filter_twice p q xs)
 
+pub filters_turn : {X : Type 0} → (p q : X → Bool) (xs : List X)
+    → filter p (filter q xs) ≡ filter q (filter p xs)
+filters_turn p q [] = refl
+filters_turn p q (x ∷ xs) = grind (arith, common_steps, filters_turn p q xs)
+
 -- one key more
 pub without_more : {X : Type 0}
     → (key : X → List ℕ) (keys : List (List ℕ)) (i : ℕ) (k : List ℕ) (xs : List X) → i < length keys

@@ -1,6 +1,6 @@
 -- The keys stay those of what is held.
 use Rattle.std.proofs.Common.{◌≡◌, ◌<◌, ℕ, List, [], ◌∷◌, not, Option, Some, None}
-use Rattle.std.proofs.Common.{sym, refl, subst, arith}
+use Rattle.std.proofs.Common.{◌++◌, Bool, true, false, sym, ap, ◌∙◌, refl, subst, arith}
 use Rattle.std.specs.List.{filter, list_any}
 use Rattle.std.specs.Map.{remove_entry}
 use Rattle.std.specs.Str.{bytes_eq}
@@ -10,14 +10,22 @@ use Rattle.command_words.specs.declared.written.Written.{Written}
 use Rattle.command_words.specs.declared.written.Written.TheVariants as written
 use Rattle.lru.specs.LruCache.{promoted}
 use Rattle.shared_cache.specs.declared.entry.CacheEntry.{CacheEntry}
-use Rattle.shared_cache.specs.Held.{Key, Words, used_at}
+use Rattle.shared_cache.specs.Held.{Key, Words, leaving, used_at}
 use Rattle.shared_cache.specs.HeldKeys.{Pairs, KeysHeld, Keeps, ArePairsOf, IsByUse, but_key}
-use Rattle.shared_cache.specs.HeldKeys.{with_pairs, forget, forgotten, refilled}
-use Rattle.shared_cache.proofs.Filled.{filled}
+use Rattle.shared_cache.specs.HeldKeys.{with_pairs, forget, forgotten, stored, stored_alone}
+use Rattle.shared_cache.specs.HeldKeys.{answered_keys}
+use Rattle.shared_cache.proofs.Filled.{is_gone, filled, replied_to}
 use Rattle.shared_cache.proofs.InPlace.{all_stay, none_stay, filter_twice, filter_same_test}
-use Rattle.shared_cache.proofs.Capacity.{kept_keys, any_filled}
-use Rattle.shared_cache.proofs.KeyPairs.{pairs_without, pairs_promoted, pairs_filled}
+use Rattle.shared_cache.proofs.Capacity.{kept_keys, any_filled, any_replied}
+use Rattle.shared_cache.proofs.HeldSteps.{replied_none}
+use Rattle.shared_cache.proofs.KeyPairs.{pairs_without, pairs_promoted, pairs_filled, pairs_alone}
 use Rattle.shared_cache.proofs.KeyPairs.{by_use_without, by_use_promoted, by_use_stored}
+use Rattle.shared_cache.proofs.KeyPairs.{by_use_alone}
+
+-- the keys that go at a reply are those that are named
+abbrev pub NamedAs : Option Written → (Key → Bool) → Type 0
+NamedAs None t = (j : Key) → t j ≡ false
+NamedAs (Some w) t = (j : Key) → t j ≡ names w j
 
 -- ---- none is held
 
@@ -86,7 +94,7 @@ module _ (most : ℕ) (use_of : Key → ℕ) (hs : List CacheEntry) (k : KeysHel
 
     pub keeps_filled : (o : Option Words) (n : ℕ) (v : Value)
         → Keeps most (λ j. used_at o j now (use_of j)) (filled most use_of o n v hs)
-        (refilled o n v k)
+        (answered_keys None o n v k)
     keeps_filled None n v = i
     keeps_filled (Some q) n v =
         let entry : CacheEntry = record { query = q; value = v; number = n } in
@@ -94,9 +102,75 @@ module _ (most : ℕ) (use_of : Key → ℕ) (hs : List CacheEntry) (k : KeysHel
           most_is = i.most_is;
           some = i.some;
           within = any_filled most use_of (Some q) n v hs i.some i.within;
-          pairs_are = subst (λ m. ArePairsOf
-              (refilled (Some q) n v (record { pairs = k.pairs; most = m })).pairs
+          pairs_are = subst (λ m. ArePairsOf (stored m entry k.pairs)
               (filled most use_of (Some q) n v hs)) (sym i.most_is)
               (pairs_filled most use_of q n v hs k.pairs i.some i.pairs_are i.by_use i.within);
           by_use = by_use_stored use_of q now bound k.most entry k.pairs refl i.by_use;
         }
+
+    -- ---- a reply
+
+    replied_plain : (o : Option Words) (n : ℕ) (v : Value) (t : Key → Bool)
+        → ((k : Key) → t k ≡ false)
+        → replied_to most use_of o n v t hs ≡ filled most use_of o n v hs
+    replied_plain None n v t none =
+        replied_none most use_of n v t hs
+        ∙ filter_same_test (λ (h : CacheEntry). not (t (key_of h.query))) (λ h. true) hs
+        (λ h. ap not (none (key_of h.query)))
+        ∙ all_stay hs
+    replied_plain (Some q) n v t none =
+        ap (λ l. filter (λ (h : CacheEntry). not (is_gone (leaving most use_of (Some q) hs)
+        (key_of h.query))) l ++ record { query = q; value = v; number = n } ∷ [])
+        (filter_same_test (λ (h : CacheEntry). not (t (key_of h.query))) (λ h. true) hs
+        (λ h. ap not (none (key_of h.query)))
+        ∙ all_stay hs)
+
+    keeps_alone : (q : Words) (n : ℕ) (v : Value) (t : Key → Bool)
+        → ((j : Key) → t j ≡ bytes_eq j (key_of q))
+        → Keeps most (λ j. used_at (Some q) j now (use_of j))
+        (replied_to most use_of (Some q) n v t hs)
+        (with_pairs (stored_alone k.most (record { query = q; value = v; number = n }) k.pairs) k)
+    keeps_alone q n v t own =
+        let entry : CacheEntry = record { query = q; value = v; number = n } in
+        subst (λ l. Keeps most (λ j. used_at (Some q) j now (use_of j))
+        (filter (λ (h : CacheEntry). not (is_gone (leaving most use_of (Some q) hs)
+        (key_of h.query))) l ++ entry ∷ [])
+        (with_pairs (stored_alone k.most entry k.pairs) k))
+        (filter_same_test (λ (h : CacheEntry). not (bytes_eq (key_of h.query) (key_of q)))
+        (λ (h : CacheEntry). not (t (key_of h.query))) hs
+        (λ h. ap not (sym (own (key_of h.query)))))
+        (record {
+          most_is = i.most_is;
+          some = i.some;
+          within = any_replied most use_of (Some q) n v (λ j. bytes_eq j (key_of q)) hs i.some
+              i.within;
+          pairs_are = subst (λ m. ArePairsOf (stored_alone m entry k.pairs)
+              (replied_to most use_of (Some q) n v (λ j. bytes_eq j (key_of q)) hs))
+              (sym i.most_is)
+              (pairs_alone most use_of q n v hs k.pairs i.some i.pairs_are i.by_use i.within);
+          by_use = by_use_alone use_of q now bound k.most entry k.pairs refl i.by_use;
+        })
+
+    pub keeps_replied : (named : Option Written) (o : Option Words) (n : ℕ) (v : Value)
+        (t : Key → Bool) → NamedAs named t
+        → ((q : Words) → o ≡ Some q → (w : Written) → named ≡ Some w → (j : Key)
+        → t j ≡ bytes_eq j (key_of q))
+        → Keeps most (λ j. used_at o j now (use_of j)) (replied_to most use_of o n v t hs)
+        (answered_keys named o n v k)
+    keeps_replied None None n v t is exact =
+        subst (λ l. Keeps most use_of l k) (sym (replied_plain None n v t is))
+        (keeps_filled None n v)
+    keeps_replied None (Some q) n v t is exact =
+        subst (λ l. Keeps most (λ j. used_at (Some q) j now (use_of j)) l
+        (with_pairs (stored k.most (record { query = q; value = v; number = n }) k.pairs) k))
+        (sym (replied_plain (Some q) n v t is))
+        (keeps_filled (Some q) n v)
+    keeps_replied (Some w) None n v t is exact =
+        subst (λ l. Keeps most use_of l (with_pairs (forgotten w k.pairs) k))
+        (filter_same_test (λ (h : CacheEntry). not (names w (key_of h.query)))
+        (λ (h : CacheEntry). not (t (key_of h.query))) hs
+        (λ h. ap not (sym (is (key_of h.query))))
+        ∙ sym (replied_none most use_of n v t hs))
+        (keeps_forgotten w)
+    keeps_replied (Some w) (Some q) n v t is exact =
+        keeps_alone q n v t (λ j. exact q refl w refl j)

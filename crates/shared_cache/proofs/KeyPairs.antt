@@ -18,9 +18,11 @@ use Rattle.shared_cache.specs.declared.entry.CacheEntry.{CacheEntry}
 use Rattle.shared_cache.specs.Held.{Key, Words, held_for, has_key, keys_held, earliest, key_held}
 use Rattle.shared_cache.specs.Held.{leaving, used_at}
 use Rattle.shared_cache.specs.Laws.{Every}
-use Rattle.shared_cache.proofs.Filled.{filled, is_gone}
+use Rattle.shared_cache.proofs.Filled.{filled, is_gone, replied_to}
+use Rattle.shared_cache.proofs.InPlace.{all_stay, filters_turn}
 use Rattle.shared_cache.proofs.Every.{every_weaker, every_both}
-use Rattle.shared_cache.specs.HeldKeys.{Pairs, found_in, entries_of, others, stored, of_key}
+use Rattle.shared_cache.specs.HeldKeys.{Pairs, found_in, entries_of, others, stored, stored_alone}
+use Rattle.shared_cache.specs.HeldKeys.{of_key}
 use Rattle.shared_cache.specs.HeldKeys.{but_key, ArePairsOf, IsByUse}
 use Rattle.shared_cache.proofs.KeyTests.{same_bytes, bytes_same}
 use Rattle.shared_cache.proofs.Capacity.{has_kept, but_none, less_key, last_has, least, none_goes}
@@ -29,11 +31,6 @@ use Rattle.shared_cache.proofs.Capacity.{has_kept, but_none, less_key, last_has,
 
 bytes_turn_not : (j k : Key) → bytes_eq j k ≡ false → bytes_eq k j ≡ false
 bytes_turn_not j k e = grind (arith, common_steps, bytes_same k j, same_bytes k)
-
-filters_turn : (p q : CacheEntry → Bool) (hs : List CacheEntry)
-    → filter p (filter q hs) ≡ filter q (filter p hs)
-filters_turn p q [] = refl
-filters_turn p q (h ∷ hs) = grind (arith, common_steps, filters_turn p q hs)
 
 -- what is of one key is not of another
 of_other : (j k : Key) (hs : List CacheEntry) → bytes_eq j k ≡ false
@@ -353,6 +350,71 @@ module _ (most : ℕ) (use_of : Key → ℕ) (q : Words) (n : ℕ) (v : Value) (
       → ArePairsOf (stored most entry pairs) (filled most use_of (Some q) n v hs)
   pairs_filled pairs some s u le = grind (arith, filled_again, filled_new)
 
+  -- ---- a fill that is all that is held of its key
+
+  -- the key of which nothing else is held
+  alone : (rest : Pairs) (gs : List CacheEntry) → has_key (key_of q) gs ≡ false
+      → ArePairsOf rest gs → ArePairsOf ((key_of q, entry ∷ []) ∷ rest) (gs ++ entry ∷ [])
+  alone rest gs none s =
+      grind (arith, of_none, last_has, but_none, filter-append, same_bytes, append-nil, entry)
+
+  not_there : (pairs : Pairs) (o : Option (Key × List CacheEntry)) → ArePairsOf pairs hs
+      → has_key (key_of q) hs ≡ false → lookup_entry (bytes_eq (key_of q)) pairs ≡ o → o ≡ None
+  not_there pairs None s none e = refl
+  not_there pairs (Some p) s none e =
+      let i = pair_is (key_of q) pairs hs p s e in
+      let there : has_key (key_of q) hs ≡ true
+      = ap (λ k. has_key k hs) (bytes_same (key_of q) p.0 i.key_is) ∙ i.is_held in
+      absurd (let no : true ≡ false = sym there ∙ none in cc)
+
+  is_there : (pairs : Pairs) (o : Option (Key × List CacheEntry)) → ArePairsOf pairs hs
+      → has_key (key_of q) hs ≡ true → lookup_entry (bytes_eq (key_of q)) pairs ≡ o
+      → option_map_or (λ (p : Key × List CacheEntry). remove_entry (bytes_eq (key_of q)) pairs) o
+      (take (most - 1) pairs) ≡ remove_entry (bytes_eq (key_of q)) pairs
+  is_there pairs (Some p) s some e = refl
+  is_there pairs None s some e =
+      absurd (let no : true ≡ false = sym some ∙ pair_of (key_of q) pairs hs s e in cc)
+
+  alone_again : (pairs : Pairs) → ArePairsOf pairs hs → has_key (key_of q) hs ≡ true
+      → ArePairsOf (stored_alone most entry pairs) (but_key (key_of q) hs ++ entry ∷ [])
+  alone_again pairs s there =
+      subst (λ l. ArePairsOf ((key_of q, entry ∷ []) ∷ l) (but_key (key_of q) hs ++ entry ∷ []))
+      (sym (is_there pairs (lookup_entry (bytes_eq (key_of q)) pairs) s there refl))
+      (alone (remove_entry (bytes_eq (key_of q)) pairs) (but_key (key_of q) hs)
+      (none_but (key_of q) hs) (pairs_without (key_of q) pairs hs s))
+
+  alone_new : (pairs : Pairs) → 0 < most → ArePairsOf pairs hs → IsByUse use_of pairs
+      → keys_held hs ≤ most → has_key (key_of q) hs ≡ false
+      → ArePairsOf (stored_alone most entry pairs) (filled most use_of (Some q) n v hs)
+  alone_new pairs some s u le none =
+      let e = not_there pairs (lookup_entry (bytes_eq (key_of q)) pairs) s none refl in
+      subst (λ l. ArePairsOf l (filled most use_of (Some q) n v hs))
+      (ap (λ o. (key_of q, option_map_or (λ (p : Key × List CacheEntry). p.1) o [] ++ entry ∷ [])
+      ∷ others (key_of q) most pairs) e)
+      (pairs_filled pairs some s u le)
+
+  -- the keys of that one alone are as they are to be after the reply
+  pub pairs_alone : (pairs : Pairs) → 0 < most → ArePairsOf pairs hs → IsByUse use_of pairs
+      → keys_held hs ≤ most
+      → ArePairsOf (stored_alone most entry pairs)
+      (replied_to most use_of (Some q) n v (λ k. bytes_eq k (key_of q)) hs)
+  pairs_alone pairs some s u le = elim (cases_Bool (has_key (key_of q) hs)) [
+    | inl there ↦
+        subst (ArePairsOf (stored_alone most entry pairs))
+        (ap (λ l. l ++ entry ∷ []) (sym (all_stay (but_key (key_of q) hs)))
+        ∙ ap (λ g. filter (λ (h : CacheEntry). not (is_gone g (key_of h.query)))
+        (but_key (key_of q) hs) ++ entry ∷ [])
+        (sym (ap (λ b. cond b None
+        (cond (nat_lt (keys_held hs) most) None (key_held (earliest use_of hs)))) there)))
+        (alone_again pairs s there)
+    | inr none ↦
+        subst (λ l. ArePairsOf (stored_alone most entry pairs)
+        (filter (λ (h : CacheEntry). not (is_gone (leaving most use_of (Some q) hs)
+        (key_of h.query))) l ++ entry ∷ []))
+        (sym (but_none (key_of q) hs none))
+        (alone_new pairs some s u le none)
+  ]
+
 -- ---- the order of use
 
 every_without : (P : Key × List CacheEntry → Type 0) (t : Key → Bool) (pairs : Pairs)
@@ -454,6 +516,12 @@ module _ (use_of : Key → ℕ) (q : Words) (now : ℕ) (bound : (k : Key) → u
       first_later (key_of q, es) (remove_entry (bytes_eq (key_of q)) pairs) refl
       (apart_without use_of (key_of q) pairs u)
       (by_use_without use_of (bytes_eq (key_of q)) pairs u)
+
+  pub by_use_alone : (most : ℕ) (h : CacheEntry) (pairs : Pairs) → h.query ≡ q
+      → IsByUse use_of pairs → IsByUse later (stored_alone most h pairs)
+  by_use_alone most h pairs e u =
+      subst (λ k. IsByUse later ((k, h ∷ []) ∷ others k most pairs)) (ap key_of (sym e))
+      (stored_by most h pairs (lookup_entry (bytes_eq (key_of q)) pairs) (h ∷ []) u refl)
 
   pub by_use_stored : (most : ℕ) (h : CacheEntry) (pairs : Pairs) → h.query ≡ q
       → IsByUse use_of pairs → IsByUse later (stored most h pairs)

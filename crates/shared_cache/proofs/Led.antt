@@ -37,6 +37,13 @@ pub get_behind : (xs zs : List SentCommand) (c : SentCommand)
 get_behind [] zs c = refl
 get_behind (x ∷ xs) zs c = get_behind xs zs c
 
+pub at_length : (xs ys zs : List SentCommand) (c : SentCommand)
+    → slice_get (xs ++ (ys ++ c ∷ zs)) (length xs + length ys) ≡ Some c
+at_length xs ys zs c =
+    ap (λ l. slice_get l (length xs + length ys)) (sym (append_assoc xs ys (c ∷ zs)))
+    ∙ ap (slice_get ((xs ++ ys) ++ c ∷ zs)) (sym (length-append xs ys))
+    ∙ get_behind (xs ++ ys) zs c
+
 -- what was put behind is taken back
 pub back_again : {A : Type 0} (n : ℕ) (xs ys all new : List A) → n ≡ length xs → all ≡ xs ++ ys
     → new ≡ take n all → new ≡ xs

@@ -1,4 +1,5 @@
 pub mod KeyTests
+pub mod Handshakes
 pub mod Every
 pub mod Led
 pub mod Fetches
@@ -19,6 +20,8 @@ pub mod LegalLogs
 pub mod CommandLists
 pub mod FetchLaws
 pub mod CommandLaws
+pub mod LaterReplies
+pub mod SideFirstLaw
 pub mod Capacity
 pub mod Order
 pub mod PlainKeys
@@ -26,6 +29,8 @@ pub mod KeyPairs
 pub mod KeyCode
 pub mod LastUses
 pub mod Keeps
+pub mod NamedWords
+pub mod Named
 pub mod Places
 pub mod Listing
 pub mod KeyReads

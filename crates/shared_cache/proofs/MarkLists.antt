@@ -1,10 +1,10 @@
 -- How the marks change with the fetches.
 use Rattle.std.proofs.Common.{◌≡◌, ◌<◌, ◌≤◌, ◌++◌, ℕ, zero, suc, List, [], ◌∷◌, Bool, cond, not}
-use Rattle.std.proofs.Common.{Option, Some, None, sym, ◌∙◌, refl, arith, inl, inr}
+use Rattle.std.proofs.Common.{Option, Some, None, sym, ap, ◌∙◌, refl, arith, inl, inr}
 use Rattle.std.specs.Prelude.{nat_lt}
 use Rattle.std.specs.List.{filter}
 use Rattle.std.proofs.lemmas.List.Elements.{filter-append}
-use Rattle.std.proofs.lemmas.Bool.{cases_eq, lt-ltb}
+use Rattle.std.proofs.lemmas.Bool.{cases_eq, cases_lt, lt-ltb, le-ltb}
 use Rattle.std.proofs.lemmas.Grind.{common_steps}
 use Rattle.command_words.specs.Queries.{key_of}
 use Rattle.fill_mark.specs.declared.marks.Mark.{Mark}
@@ -29,6 +29,25 @@ pub marks_same : (open_of open_new : ℕ → Option Words) (replied n : ℕ)
 marks_same open_of open_new replied zero each = refl
 marks_same open_of open_new replied (suc n) each =
     grind (arith, marks_same open_of open_new replied n (λ m le. each m (omega arith)))
+
+-- the marks are those of the numbers above one
+pub marks_above : (open_of open_new : ℕ → Option Words) (replied n : ℕ)
+    → ((m : ℕ) → replied < m → open_new m ≡ open_of m)
+    → marks_by open_new replied n ≡ marks_by open_of replied n
+marks_above open_of open_new replied zero each = refl
+marks_above open_of open_new replied (suc n) each =
+    (λ i. marks_above open_of open_new replied n each i ++ above i)
+  where
+    above : cond (nat_lt replied (suc n)) (fetch_mark (suc n) (open_new (suc n))) []
+        ≡ cond (nat_lt replied (suc n)) (fetch_mark (suc n) (open_of (suc n))) []
+    above = elim (cases_lt replied (suc n)) [
+      | inl lt ↦
+          ap (λ o. cond (nat_lt replied (suc n)) (fetch_mark (suc n) o) []) (each (suc n) lt)
+      | inr ge ↦
+          ap (λ b. cond b (fetch_mark (suc n) (open_new (suc n))) []) (le-ltb replied (suc n) ge)
+          ∙ sym (ap (λ b. cond b (fetch_mark (suc n) (open_of (suc n))) [])
+          (le-ltb replied (suc n) ge))
+    ]
 
 pub marks_none : (replied n : ℕ) → marks_by (λ m. None) replied n ≡ []
 marks_none replied zero = refl

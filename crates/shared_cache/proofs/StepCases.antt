@@ -2,10 +2,12 @@
 use Rattle.std.proofs.Common.{◌≡◌, ◌==◌, ◌+◌, ◌<◌, ◌≤◌, ℕ, List, [], ◌∷◌, length, take}
 use Rattle.std.proofs.Common.{Bool, true, false, cond, not, Option, Some, None, sym, ap, ◌∙◌, refl}
 use Rattle.std.proofs.Common.{arith}
-use Rattle.std.specs.Prelude.{nat_le}
-use Rattle.std.proofs.lemmas.Bool.{and_left, and_right}
+use Rattle.std.specs.Prelude.{◌-◌, nat_le, nat_lt}
+use Rattle.std.specs.List.{slice_get}
+use Rattle.std.proofs.lemmas.Bool.{and_left, and_right, le-ltb}
 use Rattle.resp_value.specs.declared.value.Value.{Value}
 use Rattle.command_words.specs.Control.{is_control}
+use Rattle.shared_cache.specs.declared.log.Wire.{Wire}
 use Rattle.shared_cache.specs.declared.log.Wire.TheVariants.{Main}
 use Rattle.shared_cache.specs.declared.log.LogEntry.{LogEntry}
 use Rattle.shared_cache.specs.declared.log.LogEntry.TheVariants as entry
@@ -23,12 +25,13 @@ use Rattle.shared_cache.specs.declared.entry.CacheEntry.{CacheEntry}
 use Rattle.shared_cache.specs.declared.notices.Notice.{Notice}
 use Rattle.shared_cache.specs.declared.notices.Notice.TheVariants.{Reply, Keys, All, Broken, Other}
 use Rattle.shared_cache.specs.declared.notices.Notice.TheVariants.{Malformed}
-use Rattle.shared_cache.specs.Notices.{kind_of, IsPush}
-use Rattle.shared_cache.specs.Log.{handshake_length, replies, reply, is_ended, is_ready}
+use Rattle.shared_cache.specs.Notices.{notice_of, IsPush}
+use Rattle.shared_cache.specs.Log.{handshake_length, first_number, replies, reply, is_ended}
+use Rattle.shared_cache.specs.Log.{is_ready}
 use Rattle.shared_cache.specs.Held.{Setup, Words, Caller, SentCommand, sent, put_ask, held}
-use Rattle.shared_cache.specs.Held.{held_for, numbers, put_command}
+use Rattle.shared_cache.specs.Held.{held_for, numbers, put_command, commands}
 use Rattle.shared_cache.specs.declared.log.Caching.TheVariants.{Default}
-use Rattle.shared_cache.specs.Out.{untaken, is_polled, was_given, is_wanted}
+use Rattle.shared_cache.specs.Out.{untaken, is_polled, is_callers, was_given, is_wanted}
 use Rattle.shared_cache.specs.Laws.{Every}
 use Rattle.shared_cache.proofs.Every.{every_append}
 use Rattle.std.proofs.lemmas.Option.{slice_get_past}
@@ -140,128 +143,130 @@ module _ (s : Setup) (log : List LogEntry) where
   unfolding client_step
   poll_wanted n o over e f g = grind arith
 
-  pub take_down : (most : ℕ) → is_ended s.mode Main log ≡ true
-      → client_step s log (TakeOut Main most) ≡ refusing (Down Main) log
+  pub take_down : (w : Wire) (most : ℕ) → is_ended s.mode w log ≡ true
+      → client_step s log (TakeOut w most) ≡ refusing (Down w) log
   unfolding client_step
-  take_down most e = rw e refl
+  take_down w most e = rw e refl
 
-  no_bytes : (most : ℕ) (bytes : List ℕ) (full : Bool) → (length bytes == 0) ≡ true
-      → taking_out Main most bytes full log ≡ record { reply = Quiet; past = log }
-  no_bytes most bytes full e = grind arith
+  no_bytes : (w : Wire) (most : ℕ) (bytes : List ℕ) (full : Bool) → (length bytes == 0) ≡ true
+      → taking_out w most bytes full log ≡ record { reply = Quiet; past = log }
+  no_bytes w most bytes full e = grind arith
 
-  some_bytes : (most : ℕ) (bytes : List ℕ) → (length bytes == 0) ≡ false
-      → taking_out Main most bytes false log ≡ record
-      { reply = Bytes (take most bytes); past = entry.TakeOut Main most ∷ log }
-  some_bytes most bytes e = grind arith
+  some_bytes : (w : Wire) (most : ℕ) (bytes : List ℕ) → (length bytes == 0) ≡ false
+      → taking_out w most bytes false log ≡ record
+      { reply = Bytes (take most bytes); past = entry.TakeOut w most ∷ log }
+  some_bytes w most bytes e = grind arith
 
-  taking_is : (most : ℕ) → is_ended s.mode Main log ≡ false
-      → client_step s log (TakeOut Main most) ≡ taking_out Main most (untaken s Main log)
+  taking_is : (w : Wire) (most : ℕ) → is_ended s.mode w log ≡ false
+      → client_step s log (TakeOut w most) ≡ taking_out w most (untaken s w log)
       (is_log_full s log) log
   unfolding client_step
-  taking_is most e = rw e refl
+  taking_is w most e = rw e refl
 
-  pub take_quiet : (most : ℕ) → is_ended s.mode Main log ≡ false
-      → (length (untaken s Main log) == 0) ≡ true
-      → client_step s log (TakeOut Main most) ≡ record { reply = Quiet; past = log }
-  take_quiet most e f = taking_is most e ∙ no_bytes most (untaken s Main log) (is_log_full s log) f
+  pub take_quiet : (w : Wire) (most : ℕ) → is_ended s.mode w log ≡ false
+      → (length (untaken s w log) == 0) ≡ true
+      → client_step s log (TakeOut w most) ≡ record { reply = Quiet; past = log }
+  take_quiet w most e f =
+      taking_is w most e ∙ no_bytes w most (untaken s w log) (is_log_full s log) f
 
-  pub take_full : (most : ℕ) → is_ended s.mode Main log ≡ false
-      → (length (untaken s Main log) == 0) ≡ false → is_log_full s log ≡ true
-      → client_step s log (TakeOut Main most) ≡ refusing (LogFull (length log)) log
-  take_full most e f g = grind (arith, taking_is)
+  pub take_full : (w : Wire) (most : ℕ) → is_ended s.mode w log ≡ false
+      → (length (untaken s w log) == 0) ≡ false → is_log_full s log ≡ true
+      → client_step s log (TakeOut w most) ≡ refusing (LogFull (length log)) log
+  take_full w most e f g = grind (arith, taking_is)
 
-  pub take_ok : (most : ℕ) → is_ended s.mode Main log ≡ false
-      → (length (untaken s Main log) == 0) ≡ false → is_log_full s log ≡ false
+  pub take_ok : (w : Wire) (most : ℕ) → is_ended s.mode w log ≡ false
+      → (length (untaken s w log) == 0) ≡ false → is_log_full s log ≡ false
       → client_step s log
-      (TakeOut Main most) ≡ record
-      { reply = Bytes (take most (untaken s Main log)); past = entry.TakeOut Main most ∷ log }
-  take_ok most e f g = grind (arith, taking_is, some_bytes)
+      (TakeOut w most) ≡ record
+      { reply = Bytes (take most (untaken s w log)); past = entry.TakeOut w most ∷ log }
+  take_ok w most e f g = grind (arith, taking_is, some_bytes)
 
-  pub end_over : is_ended s.mode Main log ≡ true
-      → client_step s log (End Main) ≡ record { reply = Noted; past = log }
+  pub end_over : (w : Wire) → is_ended s.mode w log ≡ true
+      → client_step s log (End w) ≡ record { reply = Noted; past = log }
   unfolding client_step
-  end_over e = rw e refl
+  end_over w e = rw e refl
 
-  pub end_ok : is_ended s.mode Main log ≡ false
-      → client_step s log (End Main) ≡ record { reply = Noted; past = entry.End Main ∷ log }
+  pub end_ok : (w : Wire) → is_ended s.mode w log ≡ false
+      → client_step s log (End w) ≡ record { reply = Noted; past = entry.End w ∷ log }
   unfolding client_step
-  end_ok e = rw e refl
+  end_ok w e = rw e refl
 
-  pub got_down : (v : Value) → is_ended s.mode Main log ≡ true
-      → client_step s log (Got Main v) ≡ refusing (Down Main) log
+  pub got_down : (w : Wire) (v : Value) → is_ended s.mode w log ≡ true
+      → client_step s log (Got w v) ≡ refusing (Down w) log
   unfolding client_step
-  got_down v e = rw e refl
+  got_down w v e = rw e refl
 
-  getting_is : (v : Value) (f : Option ClientRefusal) → is_ended s.mode Main log ≡ false
-      → fault_of s log Main v ≡ f
-      → client_step s log (Got Main v) ≡ getting f Main v (is_log_full s log) log
+  getting_is : (w : Wire) (v : Value) (f : Option ClientRefusal) → is_ended s.mode w log ≡ false
+      → fault_of s log w v ≡ f
+      → client_step s log (Got w v) ≡ getting f w v (is_log_full s log) log
   unfolding client_step
-  getting_is v f e g = rw (e, g) refl
+  getting_is w v f e g = rw (e, g) refl
 
-  pub got_bad : (v : Value) (r : ClientRefusal) → is_ended s.mode Main log ≡ false
-      → fault_of s log Main v ≡ Some r
-      → client_step s log (Got Main v) ≡ record { reply = Refused r; past = entry.Bad Main v ∷ log }
-  got_bad v r e f = getting_is v (Some r) e f
+  pub got_bad : (w : Wire) (v : Value) (r : ClientRefusal) → is_ended s.mode w log ≡ false
+      → fault_of s log w v ≡ Some r
+      → client_step s log (Got w v) ≡ record { reply = Refused r; past = entry.Bad w v ∷ log }
+  got_bad w v r e f = getting_is w v (Some r) e f
 
-  pub got_full : (v : Value) → is_ended s.mode Main log ≡ false → fault_of s log Main v ≡ None
-      → is_log_full s log ≡ true
-      → client_step s log (Got Main v) ≡ refusing (LogFull (length log)) log
-  got_full v e f g = getting_is v None e f ∙ ap (λ b. getting None Main v b log) g
+  pub got_full : (w : Wire) (v : Value) → is_ended s.mode w log ≡ false
+      → fault_of s log w v ≡ None → is_log_full s log ≡ true
+      → client_step s log (Got w v) ≡ refusing (LogFull (length log)) log
+  got_full w v e f g = getting_is w v None e f ∙ ap (λ b. getting None w v b log) g
 
-  pub got_ok : (v : Value) → is_ended s.mode Main log ≡ false → fault_of s log Main v ≡ None
-      → is_log_full s log ≡ false
-      → client_step s log (Got Main v) ≡ record { reply = Noted; past = entry.Got Main v ∷ log }
-  got_ok v e f g = getting_is v None e f ∙ ap (λ b. getting None Main v b log) g
+  pub got_ok : (w : Wire) (v : Value) → is_ended s.mode w log ≡ false
+      → fault_of s log w v ≡ None → is_log_full s log ≡ false
+      → client_step s log (Got w v) ≡ record { reply = Noted; past = entry.Got w v ∷ log }
+  got_ok w v e f g = getting_is w v None e f ∙ ap (λ b. getting None w v b log) g
 
-  judged_as : (v : Value) (n : Notice) → kind_of v ≡ n
-      → fault_of s log Main v ≡ judged s.mode Main (length (replies s.mode Main log))
-      (numbers s log) v n
+  judged_as : (w : Wire) (v : Value) (n : Notice) → notice_of s.mode w v ≡ n
+      → fault_of s log w v ≡ judged s.mode w (length (replies s.mode w log))
+      (length (commands s w log)) v n
   unfolding fault_of
-  judged_as v n e = ap (judged s.mode Main (length (replies s.mode Main log)) (numbers s log) v) e
+  judged_as w v n e =
+      ap (judged s.mode w (length (replies s.mode w log)) (length (commands s w log)) v) e
 
-  pub fault_malformed : (v : Value) → kind_of v ≡ Malformed
-      → fault_of s log Main v ≡ Some (BadPush Main)
-  fault_malformed v e = judged_as v Malformed e
+  pub fault_malformed : (w : Wire) (v : Value) → notice_of s.mode w v ≡ Malformed
+      → fault_of s log w v ≡ Some (BadPush w)
+  fault_malformed w v e = judged_as w v Malformed e
 
-  pub fault_push : (v : Value) (n : Notice) → n ≡ kind_of v → IsPush n
-      → fault_of s log Main v ≡ None
-  fault_push v Keys e p = judged_as v Keys (sym e)
-  fault_push v All e p = judged_as v All (sym e)
-  fault_push v Broken e p = judged_as v Broken (sym e)
-  fault_push v Other e p = judged_as v Other (sym e)
-  fault_push v n e p = absurd p
+  pub fault_push : (w : Wire) (v : Value) (n : Notice) → n ≡ notice_of s.mode w v → IsPush n
+      → fault_of s log w v ≡ None
+  fault_push w v Keys e p = judged_as w v Keys (sym e)
+  fault_push w v All e p = judged_as w v All (sym e)
+  fault_push w v Broken e p = judged_as w v Broken (sym e)
+  fault_push w v Other e p = judged_as w v Other (sym e)
+  fault_push w v n e p = absurd p
 
-  pub fault_unexpected : (v : Value) → kind_of v ≡ Reply
-      → nat_le (numbers s log) (length (replies s.mode Main log)) ≡ true
-      → fault_of s log Main v ≡ Some (Unexpected Main)
-  fault_unexpected v e l = judged_as v Reply e ∙ rw l refl
+  pub fault_unexpected : (w : Wire) (v : Value) → notice_of s.mode w v ≡ Reply
+      → nat_le (length (commands s w log)) (length (replies s.mode w log)) ≡ true
+      → fault_of s log w v ≡ Some (Unexpected w)
+  fault_unexpected w v e l = judged_as w v Reply e ∙ rw l refl
 
-  pub fault_refused : (v : Value) → kind_of v ≡ Reply
-      → nat_le (numbers s log) (length (replies s.mode Main log)) ≡ false
-      → is_welcome s.mode Main (length (replies s.mode Main log) + 1) v ≡ false
-      → fault_of s log Main v ≡ Some (SetupRefused Main)
-  fault_refused v e l w = judged_as v Reply e
-      ∙ rw l (ap (λ b. cond b None (Some (SetupRefused Main))) w)
+  pub fault_refused : (w : Wire) (v : Value) → notice_of s.mode w v ≡ Reply
+      → nat_le (length (commands s w log)) (length (replies s.mode w log)) ≡ false
+      → is_welcome s.mode w (length (replies s.mode w log) + 1) v ≡ false
+      → fault_of s log w v ≡ Some (SetupRefused w)
+  fault_refused w v e l h = judged_as w v Reply e
+      ∙ rw l (ap (λ b. cond b None (Some (SetupRefused w))) h)
 
-  pub fault_none : (v : Value) → kind_of v ≡ Reply
-      → nat_le (numbers s log) (length (replies s.mode Main log)) ≡ false
-      → is_welcome s.mode Main (length (replies s.mode Main log) + 1) v ≡ true
-      → fault_of s log Main v ≡ None
-  fault_none v e l w = judged_as v Reply e
-      ∙ rw l (ap (λ b. cond b None (Some (SetupRefused Main))) w)
+  pub fault_none : (w : Wire) (v : Value) → notice_of s.mode w v ≡ Reply
+      → nat_le (length (commands s w log)) (length (replies s.mode w log)) ≡ false
+      → is_welcome s.mode w (length (replies s.mode w log) + 1) v ≡ true
+      → fault_of s log w v ≡ None
+  fault_none w v e l h = judged_as w v Reply e
+      ∙ rw l (ap (λ b. cond b None (Some (SetupRefused w))) h)
 
-  cases_none : (a b : Bool)
-      → cond a (Some (Unexpected Main)) (cond b None (Some (SetupRefused Main))) ≡ None
+  cases_none : (w : Wire) (a b : Bool)
+      → cond a (Some (Unexpected w)) (cond b None (Some (SetupRefused w))) ≡ None
       → (a ≡ false) × (b ≡ true)
-  cases_none a b e = grind arith
+  cases_none w a b e = grind arith
 
-  pub awaits : (v : Value) → kind_of v ≡ Reply → fault_of s log Main v ≡ None
-      → (nat_le (numbers s log) (length (replies s.mode Main log)) ≡ false)
-      × (is_welcome s.mode Main (length (replies s.mode Main log) + 1) v ≡ true)
-  awaits v e f =
-      cases_none (nat_le (numbers s log) (length (replies s.mode Main log)))
-      (is_welcome s.mode Main (length (replies s.mode Main log) + 1) v)
-      (sym (judged_as v Reply e) ∙ f)
+  pub awaits : (w : Wire) (v : Value) → notice_of s.mode w v ≡ Reply → fault_of s log w v ≡ None
+      → (nat_le (length (commands s w log)) (length (replies s.mode w log)) ≡ false)
+      × (is_welcome s.mode w (length (replies s.mode w log) + 1) v ≡ true)
+  awaits w v e f =
+      cases_none w (nat_le (length (commands s w log)) (length (replies s.mode w log)))
+      (is_welcome s.mode w (length (replies s.mode w log) + 1) v)
+      (sym (judged_as w v Reply e) ∙ f)
 
   -- ---- which numbers are wanted
 
@@ -272,7 +277,13 @@ module _ (s : Setup) (log : List LogEntry) where
   handed n h = and_right (was_given s log n) (not (is_polled log n)) (ap not h)
 
   pub low : (n : ℕ) → n ≤ handshake_length s.mode → is_wanted s log n ≡ false
-  low n h = grind arith
+  low n h =
+      unwanted n (and_left (nat_lt (handshake_length s.mode) n)
+      (is_callers (slice_get (sent s log) (n - first_number s.mode)))
+      (le-ltb (handshake_length s.mode) n h))
 
   pub high : (n : ℕ) → numbers s log < n → is_wanted s log n ≡ false
-  high n h = grind (arith, unwanted, and_right, slice_get_past)
+  high n h =
+      unwanted n (and_right (nat_lt (handshake_length s.mode) n)
+      (is_callers (slice_get (sent s log) (n - first_number s.mode)))
+      (ap is_callers (slice_get_past (sent s log) (n - first_number s.mode) (omega arith))))

@@ -1,9 +1,10 @@
 -- Which fetches may fill the cache, and what the cache holds, as read off the log.
-use Rattle.std.specs.Prelude.{◌==◌, ◌+◌, ◌&&◌, ◌||◌, ◌++◌, ℕ, List, [], ◌∷◌, length, map, Bool}
+use Rattle.std.specs.Prelude.{◌==◌, ◌+◌, ◌-◌, ◌&&◌, ◌||◌, ◌++◌, ℕ, List, [], ◌∷◌, length, map}
+use Rattle.std.specs.Prelude.{Bool}
 use Rattle.std.specs.Prelude.{true}
 use Rattle.std.specs.Prelude.{false, Option, Some, None, if◌then◌else◌, nat_lt, nat_le, codes}
 use Rattle.std.specs.Prelude.{Ok, Err, Result}
-use Rattle.std.specs.List.{list_any, flat_map}
+use Rattle.std.specs.List.{list_any, flat_map, slice_get}
 use Rattle.std.specs.Str.{bytes_eq}
 use Rattle.std.specs.declared.cmp.Ordering.{Ordering}
 use Rattle.std.specs.Ordering.{nat_cmp, is_lt, ordering_then}
@@ -12,10 +13,12 @@ use Rattle.resp_value.specs.declared.value.Value.{Value}
 use Rattle.command_words.specs.Printed.{printed}
 use Rattle.command_words.specs.declared.command.Command.{Command}
 use Rattle.command_words.specs.declared.command.WordFault.{WordFault}
-use Rattle.command_words.specs.Queries.{key_of, same_query, writes, read}
+use Rattle.command_words.specs.Queries.{key_of, same_query, writes, names_key, read}
 use Rattle.command_words.specs.Words.{reading}
 use Rattle.shared_cache.specs.declared.log.Wire.{Wire}
 use Rattle.shared_cache.specs.declared.log.Wire.TheVariants.{Main, Side}
+use Rattle.shared_cache.specs.declared.log.Shape.{Shape}
+use Rattle.shared_cache.specs.declared.log.Shape.TheVariants.{Single, Pair}
 use Rattle.shared_cache.specs.declared.log.Caching.{Caching}
 use Rattle.shared_cache.specs.declared.log.Caching.TheVariants.{Default, OptIn, OptOut, Bcast}
 use Rattle.shared_cache.specs.declared.log.ClientMode.{ClientMode}
@@ -28,7 +31,7 @@ use Rattle.shared_cache.specs.declared.entry.CacheEntry.{CacheEntry}
 use Rattle.shared_cache.specs.declared.notices.Notice.{Notice}
 use Rattle.shared_cache.specs.declared.notices.Notice.TheVariants.{Reply}
 use Rattle.shared_cache.specs.Notices.{notice_of, invalidates}
-use Rattle.shared_cache.specs.Log.{handshake, handshake_length, replies, caching_on}
+use Rattle.shared_cache.specs.Log.{handshake, handshake_length, first_number, replies, caching_on}
 use Rattle.shared_cache.specs.Log.{caching_on_for}
 
 abbrev pub Key : Type 0
@@ -166,16 +169,31 @@ is_key (Some k) (Some q) = bytes_eq (key_of q) k
 
 -- ---- one fetch
 
--- an entry ends what a fetch of the key with that number may fill, after the log before it: an own
--- write, an invalidation, an end
-abbrev pub ends : Setup → List LogEntry → ℕ → LogEntry → Key → Bool
-ends s log n (Ask q) k = false
-ends s log n (Send ws) k = writes ws k
-ends s log n (Poll m) k = false
-ends s log n (TakeOut w m) k = false
-ends s log n (Got w v) k = invalidates s.mode w v k
-ends s log n (End w) k = true
-ends s log n (Bad w v) k = true
+-- the command of that number, of those that were sent after the handshake
+abbrev pub command_in : Setup → List SentCommand → ℕ → Option SentCommand
+command_in s cs n =
+    if nat_lt (handshake_length s.mode) n then slice_get cs (n - first_number s.mode) else None
+
+abbrev pub is_named : Option SentCommand → Key → Bool
+is_named None k = false
+is_named (Some c) k = names_key c.words k
+
+-- on two links a reply may overtake an invalidation that was sent before it
+abbrev pub may_overtake : Notice → Wire → Shape → Bool
+may_overtake Reply Main Pair = true
+may_overtake Reply Main Single = false
+may_overtake Reply Side shape = false
+may_overtake n w shape = false
+
+-- so one to a later command that names the key, which may have seen what is invalidated, ends what
+-- a fetch of that number may fill; here so many commands had replies before
+abbrev pub outdates : Setup → List SentCommand → ℕ → Wire → Value → ℕ → Key → Bool
+outdates s cs replied w v n k =
+    may_overtake (notice_of s.mode w v) w s.mode.shape
+    && (nat_lt n (replied + 1) && is_named (command_in s cs (replied + 1)) k)
+
+abbrev pub got_ends : Setup → List SentCommand → ℕ → Wire → Value → ℕ → Key → Bool
+got_ends s cs replied w v n k = outdates s cs replied w v n k || invalidates s.mode w v k
 
 abbrev pub unless : (Key → Bool) → Option Words → Option Words
 unless test None = None
@@ -246,10 +264,12 @@ abbrev mutual
       asked (held_for q (held_by (open_fetch s log) (left s log) (replies s.mode Main log)))
       s.mode (caching_on_for s.mode log (key_of q)) (numbered s (sent s log)) q n
       (open_fetch s log n)
-  open_fetch s (Send ws ∷ log) n = unless (ends s log n (Send ws)) (open_fetch s log n)
+  open_fetch s (Send ws ∷ log) n = unless (writes ws) (open_fetch s log n)
   open_fetch s (Poll m ∷ log) n = open_fetch s log n
   open_fetch s (TakeOut w m ∷ log) n = open_fetch s log n
-  open_fetch s (Got w v ∷ log) n = unless (ends s log n (Got w v)) (open_fetch s log n)
+  open_fetch s (Got w v ∷ log) n =
+      unless (got_ends s (sent s log) (length (replies s.mode Main log)) w v n)
+      (open_fetch s log n)
   open_fetch s (End w ∷ log) n = None
   open_fetch s (Bad w v ∷ log) n = None
 
@@ -289,6 +309,17 @@ abbrev mutual
   last_use s (End w ∷ log) k = last_use s log k
   last_use s (Bad w v ∷ log) k = last_use s log k
 
+-- an entry ends what a fetch of the key with that number may fill, after the log before it: an own
+-- write, an invalidation, an end, and of two links a reply to a later command that names the key
+abbrev pub ends : Setup → List LogEntry → ℕ → LogEntry → Key → Bool
+ends s log n (Ask q) k = false
+ends s log n (Send ws) k = writes ws k
+ends s log n (Poll m) k = false
+ends s log n (TakeOut w m) k = false
+ends s log n (Got w v) k = got_ends s (sent s log) (length (replies s.mode Main log)) w v n k
+ends s log n (End w) k = true
+ends s log n (Bad w v) k = true
+
 -- what the cache holds, in order of the fetches
 abbrev pub held : Setup → List LogEntry → List CacheEntry
 held s log = held_by (open_fetch s log) (left s log) (replies s.mode Main log)
@@ -297,10 +328,13 @@ held s log = held_by (open_fetch s log) (left s log) (replies s.mode Main log)
 abbrev pub numbers : Setup → List LogEntry → ℕ
 numbers s log = numbered s (sent s log)
 
+abbrev pub sent_on : Setup → Wire → List LogEntry → List SentCommand
+sent_on s Main log = sent s log
+sent_on s Side log = []
+
 -- the commands on a link, in order of time
 abbrev pub commands : Setup → Wire → List LogEntry → List Words
-commands s Main log = handshake s.mode log ++ map (λ c. c.words) (sent s log)
-commands s Side log = []
+commands s w log = handshake s.mode w log ++ map (λ c. c.words) (sent_on s w log)
 
 -- ---- what is held, in byte order of the printed words
 

@@ -54,6 +54,11 @@ stored most h pairs =
     (key_of h.query, entries_of (key_of h.query) pairs ++ h ∷ [])
     ∷ others (key_of h.query) most pairs
 
+-- or is all that its key has
+abbrev pub stored_alone : ℕ → CacheEntry → Pairs → Pairs
+stored_alone most h pairs =
+    (key_of h.query, h ∷ []) ∷ others (key_of h.query) most pairs
+
 -- the keys go, one after the other
 abbrev pub forget : List Key → Pairs → Pairs
 forget [] pairs = pairs
@@ -88,11 +93,20 @@ pub record KeysHeld : Type 0 where
 abbrev pub with_pairs : Pairs → KeysHeld → KeysHeld
 with_pairs pairs k = record { pairs = pairs; most = k.most }
 
--- the keys after a reply to that number, which fills the query of its fetch where it is open
-abbrev pub refilled : Option Words → ℕ → Value → KeysHeld → KeysHeld
-refilled None n v k = k
-refilled (Some q) n v k =
-    with_pairs (stored k.most (record { query = q; value = v; number = n }) k.pairs) k
+abbrev pub without_named : Option Written → KeysHeld → KeysHeld
+without_named None k = k
+without_named (Some w) k = with_pairs (forgotten w k.pairs) k
+
+abbrev pub put_beside : Option Written → CacheEntry → KeysHeld → KeysHeld
+put_beside None h k = with_pairs (stored k.most h k.pairs) k
+put_beside (Some w) h k = with_pairs (stored_alone k.most h k.pairs) k
+
+-- the keys after a reply to that number, which fills the query of its fetch where it is open. Where
+-- the keys that its command names are given, they go, and a fill is all that is held of its key.
+abbrev pub answered_keys : Option Written → Option Words → ℕ → Value → KeysHeld → KeysHeld
+answered_keys named None n v k = without_named named k
+answered_keys named (Some q) n v k =
+    put_beside named (record { query = q; value = v; number = n }) k
 
 -- the keys are those of what is held, each used later than those after it, and no more than may be
 pub record Keeps (most : ℕ) (use_of : Key → ℕ) (hs : List CacheEntry) (k : KeysHeld) : Type 0 where

@@ -1,11 +1,13 @@
 -- What holds of every legal log: the laws of a client's log.
 use Rattle.std.specs.Prelude.{◌≡◌, ◌-◌, ◌<◌, ◌≤◌, ◌++◌, ◌⊎◌, ℕ, List, [], ◌∷◌, length, drop}
-use Rattle.std.specs.Prelude.{reverse, true, false, if◌then◌else◌, Some, None}
+use Rattle.std.specs.Prelude.{reverse, true, false, if◌then◌else◌, Some, None, pos}
+use Rattle.std.specs.Fmt.{decimal}
 use Rattle.std.specs.List.{filter, slice_get}
 use Rattle.resp_value.specs.Lists.{IsPrefix}
 use Rattle.resp_value.specs.declared.value.Value.{Value}
+use Rattle.resp_value.specs.declared.value.Value.TheVariants.{Number}
 use Rattle.command_words.specs.Control.{is_control}
-use Rattle.command_words.specs.Queries.{query_of, key_of, writes}
+use Rattle.command_words.specs.Queries.{query_of, key_of, writes, names_key}
 use Rattle.shared_cache.specs.declared.log.Wire.{Wire}
 use Rattle.shared_cache.specs.declared.log.Wire.TheVariants.{Main, Side}
 use Rattle.shared_cache.specs.declared.log.ClientCall.{ClientCall}
@@ -16,8 +18,11 @@ use Rattle.shared_cache.specs.declared.log.LogEntry.TheVariants.{Ask, Send, Poll
 use Rattle.shared_cache.specs.declared.log.LogEntry.TheVariants.{End, Bad}
 use Rattle.shared_cache.specs.declared.entry.CacheEntry.{CacheEntry}
 use Rattle.shared_cache.specs.Notices.{notice_of, is_reply}
+use Rattle.shared_cache.specs.declared.log.Shape.TheVariants.{Single, Pair}
+use Rattle.shared_cache.specs.declared.log.ClientMode.{ClientMode}
 use Rattle.shared_cache.specs.Log.{handshake, is_wire, is_ended, is_ready, caching_on_for, replies}
-use Rattle.shared_cache.specs.Log.{reply}
+use Rattle.shared_cache.specs.Log.{HasWire, steps, handshake_length, is_told, id_number}
+use Rattle.shared_cache.specs.Log.{reply, reply_in, tracking, redirect_words}
 use Rattle.shared_cache.specs.Held.{Setup, Key, Words, SentCommand, Caller, has_key, keys_held}
 use Rattle.shared_cache.specs.Held.{held}
 use Rattle.shared_cache.specs.Held.{held_for, held_in_place, rank, is_before, ends, open_fetch}
@@ -35,14 +40,14 @@ Every P (x ∷ xs) = P x × Every P xs
 
 -- ---- legal logs
 
--- a call speaks of the one link, and a command has at least one word
-abbrev pub IsCall : ClientCall → Type 0
-IsCall (call.Ask q) = Unit {0}
-IsCall (call.Send ws) = 0 < length ws
-IsCall (call.Poll n) = Unit {0}
-IsCall (call.TakeOut w most) = w ≡ Main
-IsCall (call.Got w v) = w ≡ Main
-IsCall (call.End w) = w ≡ Main
+-- a call speaks of a link that the client has, and a command has at least one word
+abbrev pub IsCall : ClientMode → ClientCall → Type 0
+IsCall m (call.Ask q) = Unit {0}
+IsCall m (call.Send ws) = 0 < length ws
+IsCall m (call.Poll n) = Unit {0}
+IsCall m (call.TakeOut w most) = HasWire m.shape w
+IsCall m (call.Got w v) = HasWire m.shape w
+IsCall m (call.End w) = HasWire m.shape w
 
 -- a query's words read as the query, as those of each `Query` do
 abbrev pub IsQuery : Words → Type 0
@@ -61,13 +66,18 @@ abbrev pub LegalLog : Setup → List LogEntry → Type 0
 LegalLog s [] = Unit {0}
 LegalLog s (e ∷ log) =
     LegalLog s log
-    × ((c : ClientCall) × IsCall c × AsksQuery c × ((client_step s log c).past ≡ e ∷ log))
+    × ((c : ClientCall) × IsCall s.mode c × AsksQuery c × ((client_step s log c).past ≡ e ∷ log))
+
+-- the handshake's commands come before all others: of one link always, of two in a legal log
+abbrev pub InTurn : Setup → List LogEntry → Type 0
+InTurn s log = (s.mode.shape ≡ Single) ⊎ LegalLog s log
 
 -- a turn leaves a legal log legal
 abbrev pub LegalStep : Type 0
 LegalStep =
     (s : Setup) (log new : List LogEntry) (c : ClientCall) (r : ClientReply)
-    → LegalLog s log → IsCall c → AsksQuery c → ClientStep s log c r new → LegalLog s new
+    → LegalLog s log → IsCall s.mode c → AsksQuery c → ClientStep s log c r new
+    → LegalLog s new
 
 -- ---- what was got
 
@@ -97,7 +107,7 @@ RepliesAreGots =
 
 abbrev pub CommandsGrow : Type 0
 CommandsGrow =
-    (s : Setup) (w : Wire) (e : LogEntry) (log : List LogEntry)
+    (s : Setup) (w : Wire) (e : LogEntry) (log : List LogEntry) → InTurn s (e ∷ log)
     → IsPrefix (commands s w log) (commands s w (e ∷ log))
 
 -- each command has a word
@@ -114,8 +124,44 @@ TakenWithin = (s : Setup) (w : Wire) (log : List LogEntry) → taken s w log ≤
 abbrev pub HandshakeFirst : Type 0
 HandshakeFirst =
     (s : Setup) (log : List LogEntry) → LegalLog s log
-    → IsPrefix (handshake s.mode log) (commands s Main log)
-    × (is_ready s.mode log ≡ false → commands s Main log ≡ handshake s.mode log)
+    → IsPrefix (handshake s.mode Main log) (commands s Main log)
+    × (is_ready s.mode log ≡ false → commands s Main log ≡ handshake s.mode Main log)
+
+-- the tracking command, the last of the handshake, is among Main's
+abbrev pub HasTracking : Setup → List LogEntry → Type 0
+HasTracking s log = handshake_length s.mode ≤ length (commands s Main log)
+
+-- what let it go: the last reply of Side's handshake, before any command of a caller
+pub record WasTold (s : Setup) (log : List LogEntry) : Type 0 where
+  pub later : List LogEntry
+  pub sooner : List LogEntry
+  pub value : Value
+  pub log_is : log ≡ later ++ Got Side value ∷ sooner
+  pub untold : is_told s.mode sooner ≡ false
+  pub not_yet : length (commands s Main sooner) < handshake_length s.mode
+  pub told : is_told s.mode (Got Side value ∷ sooner) ≡ true
+  pub replied : length (replies s.mode Side (Got Side value ∷ sooner)) ≡ length (steps s.mode Side)
+  pub none_sent : sent s (Got Side value ∷ sooner) ≡ []
+
+abbrev pub SideFirst : Type 0
+SideFirst =
+    (s : Setup) (log : List LogEntry) → s.mode.shape ≡ Pair → LegalLog s log → HasTracking s log
+    → WasTold s log
+
+-- the id that it names is the one that Side's reply to CLIENT ID told; a later log keeps that reply
+pub record NamesId (s : Setup) (log : List LogEntry) : Type 0 where
+  pub id : ℕ
+  pub some : 0 < id
+  pub told : (later : List LogEntry)
+      → reply_in (id_number s.mode.proto) (replies s.mode Side (later ++ log))
+      ≡ Some (Number (pos id))
+  pub command_is : slice_get (commands s Main log) (handshake_length s.mode - 1)
+      ≡ Some (tracking s.mode (redirect_words (decimal id)))
+
+abbrev pub TrackNamesId : Type 0
+TrackNamesId =
+    (s : Setup) (log : List LogEntry) → s.mode.shape ≡ Pair → LegalLog s log → HasTracking s log
+    → NamesId s log
 
 -- no command of a caller is a control command
 abbrev pub NoControl : Type 0
@@ -151,14 +197,15 @@ OpenWasSent =
 -- the command of an open fetch's number is its query
 abbrev pub PlaceIsQuery : Type 0
 PlaceIsQuery =
-    (s : Setup) (log : List LogEntry) (n : ℕ) (q : Words) → open_fetch s log n ≡ Some q
+    (s : Setup) (log : List LogEntry) (n : ℕ) (q : Words) → InTurn s log
+    → open_fetch s log n ≡ Some q
     → (0 < n) × (slice_get (commands s Main log) (n - 1) ≡ Some q)
 
 -- by opting in, the command before an open fetch's is CLIENT CACHING YES
 abbrev pub MarkBeforeRead : Type 0
 MarkBeforeRead =
     (s : Setup) (log : List LogEntry) (n : ℕ) (q : Words) → s.mode.caching ≡ OptIn
-    → open_fetch s log n ≡ Some q
+    → InTurn s log → open_fetch s log n ≡ Some q
     → (1 < n) × (slice_get (commands s Main log) (n - 2) ≡ Some (caching_command Yes).words)
 
 abbrev pub SentReady : Type 0
@@ -177,6 +224,14 @@ NoLaterWrite =
     (s : Setup) (log : List LogEntry) (n : ℕ) (q : Words)
     → LegalLog s log → open_fetch s log n ≡ Some q
     → Every (λ ws. writes ws (key_of q) ≡ false) (drop n (commands s Main log))
+
+-- of two links no reply has come to a command after an open fetch that names its key
+abbrev pub NoLaterReply : Type 0
+NoLaterReply =
+    (s : Setup) (log : List LogEntry) (n : ℕ) (q : Words) → s.mode.shape ≡ Pair
+    → LegalLog s log → open_fetch s log n ≡ Some q
+    → (j : ℕ) (ws : Words) → n ≤ j → j < length (replies s.mode Main log)
+    → slice_get (commands s Main log) j ≡ Some ws → names_key ws (key_of q) ≡ false
 
 -- ---- what is held
 

@@ -5,8 +5,11 @@ use Rattle.std.specs.List.{list_any}
 use Rattle.std.specs.Str.{bytes_eq}
 use Rattle.resp_value.specs.Tree.{Tree, Trees, blob, null, null_array, array, end, more}
 use Rattle.resp_value.specs.declared.value.Value.{Value}
-use Rattle.resp_value.specs.declared.value.Value.TheVariants.{Push}
+use Rattle.resp_value.specs.declared.value.Value.TheVariants.{Array, Push}
+use Rattle.resp_value.specs.declared.value.Proto.{Proto}
+use Rattle.resp_value.specs.declared.value.Proto.TheVariants.{Two, Three}
 use Rattle.shared_cache.specs.declared.log.Wire.{Wire}
+use Rattle.shared_cache.specs.declared.log.Wire.TheVariants.{Main, Side}
 use Rattle.shared_cache.specs.declared.log.ClientMode.{ClientMode}
 use Rattle.shared_cache.specs.declared.notices.Notice.{Notice}
 use Rattle.shared_cache.specs.declared.notices.Notice.TheVariants.{Reply, Keys, All, Broken, Other}
@@ -41,9 +44,34 @@ abbrev pub kind_of : Value → Notice
 kind_of (Push ts) = push ts
 kind_of v = Reply
 
+-- the channel that carries invalidations to a connection of the second protocol
+abbrev pub channel : List ℕ
+channel = codes "__redis__:invalidate"
+
+abbrev pub on_channel : List Tree → Notice
+on_channel (blob name ∷ t ∷ []) = if bytes_eq name channel then payload t else Malformed
+on_channel _ = Malformed
+
+abbrev pub named_message : List ℕ → List Tree → Notice
+named_message name rest = if bytes_eq name (codes "message") then on_channel rest else Reply
+
+abbrev pub message : List Tree → Notice
+message (blob name ∷ rest) = named_message name rest
+message _ = Reply
+
+-- on an invalidation link of the second protocol, where a message is an array
+abbrev pub listened_kind : Value → Notice
+listened_kind (Array ts) = message ts
+listened_kind v = kind_of v
+
+abbrev pub side_kind : Proto → Value → Notice
+side_kind Two v = listened_kind v
+side_kind Three v = kind_of v
+
 -- what a value is, on this link of a client of this mode
 abbrev pub notice_of : ClientMode → Wire → Value → Notice
-notice_of m w v = kind_of v
+notice_of m Main v = kind_of v
+notice_of m Side v = side_kind m.proto v
 
 abbrev pub is_reply : Notice → Bool
 is_reply Reply = true
@@ -62,9 +90,14 @@ abbrev pub keys_in : List Tree → List (List ℕ)
 keys_in (name ∷ array ts ∷ []) = blobs_in ts
 keys_in _ = []
 
+abbrev pub keys_on_channel : List Tree → List (List ℕ)
+keys_on_channel (name ∷ on ∷ array ts ∷ []) = blobs_in ts
+keys_on_channel _ = []
+
 -- the keys that an invalidation names
 abbrev pub named_keys : Value → List (List ℕ)
 named_keys (Push ts) = keys_in ts
+named_keys (Array ts) = keys_on_channel ts
 named_keys v = []
 
 abbrev pub invalidates_as : Notice → List (List ℕ) → List ℕ → Bool

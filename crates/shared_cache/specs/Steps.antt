@@ -1,9 +1,12 @@
 -- What a turn of a client answers, and the entry that it adds to the log.
-use Rattle.std.specs.Prelude.{◌≡◌, ◌==◌, ◌+◌, ℕ, List, [], ◌∷◌, length, take, Bool, true, false}
-use Rattle.std.specs.Prelude.{not}
-use Rattle.std.specs.Prelude.{Option, Some, None, if◌then◌else◌, nat_le}
+use Rattle.std.specs.Prelude.{◌≡◌, ◌==◌, ◌+◌, ◌-◌, ◌&&◌, ℕ, List, [], ◌∷◌, length, take, Bool}
+use Rattle.std.specs.Prelude.{true, false, not, pos, codes}
+use Rattle.std.specs.Prelude.{Option, Some, None, if◌then◌else◌, nat_le, nat_lt}
+use Rattle.std.specs.List.{slice_get}
+use Rattle.std.specs.Str.{bytes_eq}
+use Rattle.resp_value.specs.Tree.{blob, number}
 use Rattle.resp_value.specs.declared.value.Value.{Value}
-use Rattle.resp_value.specs.declared.value.Value.TheVariants.{Map}
+use Rattle.resp_value.specs.declared.value.Value.TheVariants.{Map, Number, Array}
 use Rattle.command_words.specs.Control.{is_control}
 use Rattle.command_words.specs.Queries.{key_of}
 use Rattle.shared_cache.specs.declared.log.Wire.{Wire}
@@ -28,10 +31,14 @@ use Rattle.shared_cache.specs.declared.entry.CacheEntry.{CacheEntry}
 use Rattle.shared_cache.specs.declared.notices.Notice.{Notice}
 use Rattle.shared_cache.specs.declared.notices.Notice.TheVariants.{Reply, Keys, All, Broken, Other}
 use Rattle.shared_cache.specs.declared.notices.Notice.TheVariants.{Malformed}
-use Rattle.shared_cache.specs.Notices.{notice_of}
-use Rattle.shared_cache.specs.Log.{handshake_length, replies, reply, is_ok_text, is_ready, is_ended}
+use Rattle.shared_cache.specs.declared.handshake.HandshakeStep.{HandshakeStep}
+use Rattle.shared_cache.specs.declared.handshake.HandshakeStep.TheVariants.{Hello, ClientId}
+use Rattle.shared_cache.specs.declared.handshake.HandshakeStep.TheVariants.{Subscribe, Track}
+use Rattle.shared_cache.specs.Notices.{channel, notice_of}
+use Rattle.shared_cache.specs.Log.{steps, replies, reply, is_ok_text, is_ready, is_ended}
 use Rattle.shared_cache.specs.Log.{caching_on, caching_on_for}
 use Rattle.shared_cache.specs.Held.{Setup, Words, put_command, put_read, held_for, held, numbers}
+use Rattle.shared_cache.specs.Held.{commands}
 use Rattle.shared_cache.specs.Out.{untaken, is_wanted}
 
 -- an answer, and the log after it
@@ -75,11 +82,31 @@ abbrev pub is_map : Value → Bool
 is_map (Map ps) = true
 is_map v = false
 
--- the value answers the handshake's command of that number on that wire as it is to be answered:
--- HELLO by a map, the tracking command by OK
+abbrev pub is_id : Value → Bool
+is_id (Number (pos n)) = nat_lt 0 n
+is_id v = false
+
+abbrev pub is_listening : Value → Bool
+is_listening (Array (blob kind ∷ blob name ∷ number (pos n) ∷ [])) =
+    bytes_eq kind (codes "subscribe") && (bytes_eq name channel && n == 1)
+is_listening v = false
+
+-- a step of the handshake is to be answered so: HELLO by a map, CLIENT ID by an id, SUBSCRIBE by
+-- its channel's first subscription, the tracking command by OK
+abbrev pub welcomes : HandshakeStep → Value → Bool
+welcomes Hello v = is_map v
+welcomes ClientId v = is_id v
+welcomes Subscribe v = is_listening v
+welcomes Track v = is_ok_text v
+
+abbrev pub welcomed : Option HandshakeStep → Value → Bool
+welcomed None v = true
+welcomed (Some step) v = welcomes step v
+
+-- the value answers the command of that number on that wire as it is to be answered, if it is one
+-- of the handshake
 abbrev pub is_welcome : ClientMode → Wire → ℕ → Value → Bool
-is_welcome m w n v =
-    if n == 1 then is_map v else if n == handshake_length m then is_ok_text v else true
+is_welcome m w n v = welcomed (slice_get (steps m w) (n - 1)) v
 
 -- a reply to nothing, or one that refuses the handshake
 abbrev pub judged_reply : ClientMode → Wire → ℕ → ℕ → Value → Option ClientRefusal
@@ -98,7 +125,8 @@ judged m w replied sent v Malformed = Some (BadPush w)
 -- why a value ends its link, if it does
 unfoldable pub fault_of : Setup → List LogEntry → Wire → Value → Option ClientRefusal
 fault_of s log w v =
-    judged s.mode w (length (replies s.mode w log)) (numbers s log) v (notice_of s.mode w v)
+    judged s.mode w (length (replies s.mode w log)) (length (commands s w log)) v
+    (notice_of s.mode w v)
 
 abbrev pub getting : Option ClientRefusal → Wire → Value → Bool → List LogEntry → ClientTurn
 getting (Some r) w v full log = record { reply = Refused r; past = entry.Bad w v ∷ log }

@@ -3,7 +3,9 @@ ghost use Rattle.std.specs.Prelude.{◌≡◌, [], List, ℕ, OnOk, OnErr, if◌
 ghost use Rattle.std.specs.List.{filter};
 ghost use Rattle.command_words.specs.Queries.{key_of, names};
 ghost use Rattle.fill_mark.specs.Marks.{with_mark, query_marked, without_number};
-ghost use Rattle.shared_cache.specs.HeldKeys.{with_pairs, forgotten, refilled};
+ghost use Rattle.std.specs.Prelude.{option_copied};
+ghost use Rattle.shared_cache.specs.HeldKeys.{with_pairs, forgotten, without_named, put_beside};
+ghost use Rattle.shared_cache.specs.HeldKeys.{answered_keys};
 
 use super::entry::CacheEntry;
 use super::held_keys::HeldKeys;
@@ -37,22 +39,53 @@ pub fn invalidate(marks: &mut Marks, keys: &mut HeldKeys, written: &Written)
     }
 }
 
-/// Where the fetch of that number has its mark, the reply to it is held.
+// What is held of these keys goes.
+fn forget_named(keys: &mut HeldKeys, named: Option<&Written>)
+    ensures { keys.new ≡ without_named (option_copied named.entry) keys.old }
+{
+    match named {
+        Some(named) => keys.invalidate(named),
+        None => {}
+    }
+}
+
+fn put(
+    alloc: Global,
+    entry: CacheEntry,
+    named: Option<&Written>,
+    keys: &mut HeldKeys,
+) -> Result<(), NoMemory>
+    ensures ok { OnOk result (keys.new ≡ put_beside (option_copied named.entry) entry keys.old) }
+    ensures err { OnErr result (keys.new ≡ keys.old) }
+{
+    match named {
+        Some(_) => keys.put_alone(alloc, entry),
+        None => keys.put(alloc, entry),
+    }
+}
+
+/// Where the fetch of that number has its mark, the reply to it is held. Of two links, where the
+/// keys that its command names are given, it is all that is held of its key; and where it has no
+/// mark, what is held of these keys goes.
 pub fn refill(
     alloc: Global,
     number: u64,
     value: &Value,
+    named: Option<&Written>,
     marks: &mut Marks,
     keys: &mut HeldKeys,
 ) -> Result<(), NoMemory>
     ensures marks { OnOk result (marks.new ≡ without_number number marks.old) }
-    ensures keys { OnOk result
-        (keys.new ≡ refilled (query_marked number marks.old) number value.now keys.old) }
+    ensures keys { OnOk result (keys.new ≡ answered_keys (option_copied named.entry)
+        (query_marked number marks.old) number value.now keys.old) }
     ensures err { OnErr result ((marks.new ≡ marks.old) × (keys.new ≡ keys.old)) }
 {
     let query = match marks.query_of(number) {
         Some(query) => query.copy()?,
-        None => return Ok(()),
+        None => {
+            forget_named(keys, named);
+            return Ok(());
+        }
     };
     let value = value.copy()?;
     let entry = CacheEntry {
@@ -60,7 +93,7 @@ pub fn refill(
         value,
         number,
     };
-    keys.put(alloc, entry)?;
+    put(alloc, entry, named, keys)?;
     let _ = marks.settle(number);
     Ok(())
 }

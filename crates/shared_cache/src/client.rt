@@ -4,12 +4,16 @@ ghost use Rattle.std.specs.Prelude.{length};
 
 use super::cache::{forget_all, invalidate, mark, refill};
 use super::entry::CacheEntry;
-use super::handshake::{HANDSHAKE, enqueue, greeting, is_welcome};
+use super::handshake::{
+    greeting, handshake_length, id_after, is_welcome, side_length, tracking_behind,
+};
 use super::held_keys::HeldKeys;
 use super::lead::{CachingWord, covers, read_lead, send_lead};
 use super::log::{ClientCall, ClientMode, ClientRefusal, ClientReply, LogEntry, Wire};
-use super::notices::{Notice, invalidated, is_broken_by, kind_of};
+use super::notices::{Notice, invalidated, is_broken_by, notice_of};
+use super::outgoing::{NamedKeys, enqueue};
 use super::pending::{Handed, PendingReplies, put_reply};
+use super::side::{SideLink, has_ended_by};
 use byte_queue::ByteQueue;
 use command_words::{Query, is_control, written_by};
 use fill_mark::Marks;
@@ -19,19 +23,22 @@ use std::marker::Model;
 
 const DOWN: ClientRefusal = ClientRefusal::Down { wire: Wire::Main };
 
-/// A client of one link: its log, the bytes for its link, the replies for its callers, the marks
-/// of its fetches and its cache.
+/// A client: its log, the bytes for its links, the replies for its callers, the marks of its
+/// fetches and its cache.
 #[derive(Drop)]
 pub struct ClientState {
     alloc: Global,
     mode: ClientMode,
     capacity: u64,
     log_max: u64,
-    // it has room for an end, and for a Poll of each number that is owed
+    // it has room for an end of each link, and for a Poll of each number that is owed
     log: Vec<LogEntry>,
-    // the bytes for the link that were not taken
+    // the bytes for Main that were not taken
     queued: ByteQueue,
     replied: u64,
+    side: SideLink,
+    // of two links, for each number without a reply, after the handshake's
+    named: NamedKeys,
     // by number, after the handshake's
     pending: PendingReplies,
     owed: usize,
@@ -62,6 +69,8 @@ impl Model for ClientState {
           (record {
             queued = c.queued;
             replied = c.replied;
+            side = c.side;
+            named = c.named;
             pending = c.pending;
             owed = c.owed;
             marks = c.marks;
@@ -69,7 +78,8 @@ impl Model for ClientState {
             ended = c.ended;
             broken = c.broken;
           });
-      room : vec_len c.log + c.owed + cond c.ended 0 1 ≤ vec_capacity c.log;
+      room : vec_len c.log + c.owed + cond c.ended 0 1 + cond c.side.ended 0 1
+          ≤ vec_capacity c.log;
     } };
 }
 
@@ -78,18 +88,19 @@ impl ClientState {
     ghost use Rattle.shared_cache.specs.declared.log.LogEntry.TheVariants as entry;
     ghost use Rattle.shared_cache.specs.declared.notices.Notice.TheVariants.{Reply};
     ghost use Rattle.shared_cache.specs.declared.log.ClientCall.TheVariants as call;
-    ghost use Rattle.shared_cache.specs.declared.log.Wire.TheVariants.{Main};
-    ghost use Rattle.shared_cache.specs.Notices.{kind_of, IsPush};
-    ghost use Rattle.shared_cache.specs.Log.{is_ready, is_ended, replies, caching_on};
+    ghost use Rattle.shared_cache.specs.declared.log.Wire.TheVariants.{Main, Side};
+    ghost use Rattle.shared_cache.specs.Notices.{notice_of, IsPush};
+    ghost use Rattle.shared_cache.specs.Log.{is_ready, is_ended, replies, caching_on, handshake};
     ghost use Rattle.shared_cache.specs.Log.{caching_on_for};
-    ghost use Rattle.shared_cache.specs.Held.{numbers, held, held_for, held_in_place, as_listed};
+    ghost use Rattle.shared_cache.specs.Held.{commands, held, held_for, held_in_place, as_listed};
     ghost use Rattle.shared_cache.specs.Held.{send_lead, is_read};
     ghost use Rattle.std.specs.List.{slice_get};
     ghost use Rattle.shared_cache.specs.HeldKeys.{seen};
     ghost use Rattle.shared_cache.specs.Out.{untaken};
     ghost use Rattle.shared_cache.specs.Steps.{ClientStep, answer_ask, read_number, command_number};
     ghost use Rattle.shared_cache.specs.Steps.{is_log_full, is_welcome, fault_of};
-    ghost use Rattle.shared_cache.specs.ClientFields.{IsLast, IsOneLink, added};
+    ghost use Rattle.shared_cache.specs.Log.{is_told};
+    ghost use Rattle.shared_cache.specs.ClientFields.{IsLast, IsClientMode, added};
     ghost use Rattle.shared_cache.specs.Laws.{IsCall, LegalLog};
 
     /// A client with an empty log, whose handshake is queued.
@@ -99,7 +110,7 @@ impl ClientState {
         capacity: u64,
         log_max: u64,
     ) -> Result<ClientState, NoMemory>
-        requires mode { IsOneLink mode }
+        requires mode { IsClientMode mode }
         requires capacity { (0 < capacity) × (capacity ≤ 1000000) }
         requires log_max { 0 < log_max }
         ensures { IfOk result (λ c. c ≡ record {
@@ -108,15 +119,18 @@ impl ClientState {
         }) }
     {
         let keys = HeldKeys::new(alloc, capacity)?;
-        let queued = greeting(alloc, &mode)?;
+        let queued = greeting(alloc, &mode, Wire::Main)?;
+        let side = SideLink::new(alloc, &mode)?;
         Ok(ClientState {
             alloc,
             mode,
             capacity,
             log_max,
-            log: Vec::with_capacity(alloc, 1)?,
+            log: Vec::with_capacity(alloc, 2)?,
             queued,
             replied: 0,
+            side,
+            named: NamedKeys::new(alloc),
             pending: PendingReplies::new(alloc),
             owed: 0,
             marks: Marks::new(alloc),
@@ -151,14 +165,23 @@ impl ClientState {
         self.keys.in_order(self.alloc)
     }
 
-    /// Whether its link has ended.
+    /// Whether Main has ended.
     pub fn has_ended(&self) -> bool
         ensures { result ≡ is_ended self.now.setup.mode Main self.now.past }
     {
         self.ended
     }
 
-    /// How many bytes are to be taken out for its link.
+    fn has_ended_on(&self, wire: Wire) -> bool
+        ensures { result ≡ is_ended self.now.setup.mode wire self.now.past }
+    {
+        match wire {
+            Wire::Main => self.ended,
+            Wire::Side => self.side.ended,
+        }
+    }
+
+    /// How many bytes are to be taken out for Main.
     pub fn waiting(&self) -> usize
         ensures { result ≡ length (untaken self.now.setup Main self.now.past) }
     {
@@ -175,14 +198,14 @@ impl ClientState {
     fn is_ready(&self) -> bool
         ensures { result ≡ is_ready self.now.setup.mode self.now.past }
     {
-        self.replied >= HANDSHAKE
+        self.replied >= handshake_length(&self.mode)
     }
 
     // What is read is cached, unless the key is not covered.
     fn is_caching(&self) -> bool
         ensures { result ≡ caching_on self.now.setup.mode self.now.past }
     {
-        self.is_ready() && !self.ended && !self.broken
+        self.is_ready() && !(self.ended || self.side.ended) && !self.broken
     }
 
     fn is_caching_for(&self, key: &[u8]) -> bool
@@ -204,25 +227,29 @@ impl ClientState {
     }
 
     // The link ends by this entry.
-    fn finish(&mut self, entry: LogEntry)
-        requires open { is_ended self.old.setup.mode Main self.old.past ≡ false }
-        requires last { IsLast entry }
+    fn finish(&mut self, wire: Wire, entry: LogEntry)
+        requires open { is_ended self.old.setup.mode wire self.old.past ≡ false }
+        requires last { IsLast wire entry }
         ensures { self.new ≡ added entry self.old }
     {
+        let ready = self.is_ready();
         forget_all(&mut self.marks, &mut self.keys);
-        self.ended = true;
+        let main = has_ended_by(self.mode.shape, wire, Wire::Main, ready, self.ended);
+        let side = has_ended_by(self.mode.shape, wire, Wire::Side, ready, self.side.ended);
+        self.ended = main;
+        self.side.ended = side;
         self.log.push_reserved(entry);
     }
 
-    fn end(&mut self) -> ClientReply
+    fn end(&mut self, wire: Wire) -> ClientReply
         ensures setup { self.new.setup ≡ self.old.setup }
-        ensures step { ClientStep self.old.setup self.old.past (call.End Main) result
+        ensures step { ClientStep self.old.setup self.old.past (call.End wire) result
             self.new.past }
     {
-        if self.has_ended() {
+        if self.has_ended_on(wire) {
             return ClientReply::Noted;
         }
-        self.finish(LogEntry::End(Wire::Main));
+        self.finish(wire, LogEntry::End(wire));
         ClientReply::Noted
     }
 
@@ -231,13 +258,14 @@ impl ClientState {
         ensures step { ClientStep self.old.setup self.old.past (call.Poll number) result
             self.new.past }
     {
-        if number <= HANDSHAKE {
+        let before = handshake_length(&self.mode);
+        if number <= before {
             return ClientReply::Refused(ClientRefusal::NoNumber { number });
         }
-        if number - HANDSHAKE > self.pending.len() as u64 {
+        if number - before > self.pending.len() as u64 {
             return ClientReply::Refused(ClientRefusal::NoNumber { number });
         }
-        let place = (number - HANDSHAKE - 1) as usize;
+        let place = (number - before - 1) as usize;
         match self.pending.hand_over(place) {
             Handed::Gone => ClientReply::Refused(ClientRefusal::NoNumber { number }),
             Handed::Waiting => {
@@ -254,13 +282,16 @@ impl ClientState {
         }
     }
 
-    fn is_drained(&self) -> bool
-        ensures { result ≡ (length (untaken self.now.setup Main self.now.past) == 0) }
+    fn is_drained(&self, wire: Wire) -> bool
+        ensures { result ≡ (length (untaken self.now.setup wire self.now.past) == 0) }
     {
-        self.queued.len() == 0
+        match wire {
+            Wire::Main => self.queued.len() == 0,
+            Wire::Side => self.side.queued.len() == 0,
+        }
     }
 
-    fn give(&mut self, most: u64) -> Result<Octets, NoMemory>
+    fn give_main(&mut self, most: u64) -> Result<Octets, NoMemory>
         requires { is_ended self.old.setup.mode Main self.old.past ≡ false }
         ensures bytes { IfOk result
             (λ b. b ≡ take most (untaken self.old.setup Main self.old.past)) }
@@ -268,21 +299,48 @@ impl ClientState {
         ensures err { OnErr result (self.new ≡ self.old) }
     {
         let bytes = self.queued.front(most as usize)?;
-        self.log.reserve(self.owed + 2)?;
+        self.log.reserve(self.owed + 3)?;
         self.queued.advance(most as usize);
         self.log.push_reserved(LogEntry::TakeOut(Wire::Main, most));
         Ok(bytes)
     }
 
-    fn take_out(&mut self, most: u64) -> ClientReply
+    fn give_side(&mut self, most: u64) -> Result<Octets, NoMemory>
+        requires { is_ended self.old.setup.mode Side self.old.past ≡ false }
+        ensures bytes { IfOk result
+            (λ b. b ≡ take most (untaken self.old.setup Side self.old.past)) }
+        ensures ok { OnOk result (self.new ≡ added (entry.TakeOut Side most) self.old) }
+        ensures err { OnErr result (self.new ≡ self.old) }
+    {
+        let bytes = self.side.queued.front(most as usize)?;
+        self.log.reserve(self.owed + 3)?;
+        self.side.queued.advance(most as usize);
+        self.log.push_reserved(LogEntry::TakeOut(Wire::Side, most));
+        Ok(bytes)
+    }
+
+    fn give(&mut self, wire: Wire, most: u64) -> Result<Octets, NoMemory>
+        requires { is_ended self.old.setup.mode wire self.old.past ≡ false }
+        ensures bytes { IfOk result
+            (λ b. b ≡ take most (untaken self.old.setup wire self.old.past)) }
+        ensures ok { OnOk result (self.new ≡ added (entry.TakeOut wire most) self.old) }
+        ensures err { OnErr result (self.new ≡ self.old) }
+    {
+        match wire {
+            Wire::Main => self.give_main(most),
+            Wire::Side => self.give_side(most),
+        }
+    }
+
+    fn take_out(&mut self, wire: Wire, most: u64) -> ClientReply
         ensures setup { self.new.setup ≡ self.old.setup }
-        ensures step { ClientStep self.old.setup self.old.past (call.TakeOut Main most) result
+        ensures step { ClientStep self.old.setup self.old.past (call.TakeOut wire most) result
             self.new.past }
     {
-        if self.has_ended() {
-            return ClientReply::Refused(DOWN);
+        if self.has_ended_on(wire) {
+            return ClientReply::Refused(ClientRefusal::Down { wire });
         }
-        if self.is_drained() {
+        if self.is_drained(wire) {
             return ClientReply::Quiet;
         }
         if self.is_log_full() {
@@ -290,7 +348,7 @@ impl ClientState {
                 entries: self.entries(),
             });
         }
-        match self.give(most) {
+        match self.give(wire, most) {
             Ok(bytes) => ClientReply::Bytes(bytes),
             Err(_) => ClientReply::Refused(ClientRefusal::NoMemory),
         }
@@ -305,25 +363,27 @@ impl ClientState {
 
     // The words go out, and what they write is no longer held.
     fn pass_on(&mut self, words: Words) -> Result<u64, NoMemory>
-        requires { is_ended self.old.setup.mode Main self.old.past ≡ false }
+        requires open { is_ended self.old.setup.mode Main self.old.past ≡ false }
+        requires ready { is_ready self.old.setup.mode self.old.past ≡ true }
         ensures number { IfOk result (λ n. n ≡ command_number self.old.setup self.old.past words) }
         ensures ok { OnOk result (self.new ≡ added (entry.Send words) self.old) }
         ensures err { OnErr result (self.new ≡ self.old) }
     {
         let written = written_by(self.alloc, &words)?;
         let lead = self.lead_for(&words)?;
-        self.log.reserve(self.owed + 3)?;
+        self.log.reserve(self.owed + 4)?;
         enqueue(
-            self.alloc,
+            self.mode.shape,
             lead,
             &words,
             &mut self.queued,
             &mut self.pending,
+            &mut self.named,
         )?;
         invalidate(&mut self.marks, &mut self.keys, &written);
         self.owed += 1;
         self.log.push_reserved(LogEntry::Send(words));
-        Ok(HANDSHAKE + self.pending.len() as u64)
+        Ok(handshake_length(&self.mode) + self.pending.len() as u64)
     }
 
     fn send(&mut self, words: Words) -> ClientReply
@@ -357,7 +417,7 @@ impl ClientState {
         ensures ok { OnOk result (self.new ≡ added (entry.Ask query) self.old) }
         ensures err { OnErr result (self.new ≡ self.old) }
     {
-        self.log.reserve(self.owed + 2)?;
+        self.log.reserve(self.owed + 3)?;
         self.keys.promote(query.key());
         self.log.push_reserved(LogEntry::Ask(query));
         Ok(())
@@ -376,20 +436,25 @@ impl ClientState {
         let on = self.is_caching_for(query.key());
         let before = self.queued.len();
         let awaited = self.pending.len();
-        self.log.reserve(self.owed + 3)?;
+        let named = self.named.len();
+        self.log.reserve(self.owed + 4)?;
+        // its words read as a query, which names its key alone
+        let words = query.words();
         enqueue(
-            self.alloc,
+            self.mode.shape,
             read_lead(&self.mode.caching, on),
-            query.words(),
+            words,
             &mut self.queued,
             &mut self.pending,
+            &mut self.named,
         )?;
-        let number = HANDSHAKE + self.pending.len() as u64;
+        let number = handshake_length(&self.mode) + self.pending.len() as u64;
         match mark(&mut self.marks, on, number, marked) {
             Ok(()) => {}
             Err(_) => {
                 self.queued.keep(before);
                 self.pending.keep(awaited);
+                self.named.shorten(named);
                 return Err(NoMemory);
             }
         }
@@ -442,80 +507,152 @@ impl ClientState {
         }
     }
 
-    // A push that does not end the link.
-    fn on_push(&mut self, notice: Notice, value: Value) -> Result<(), NoMemory>
-        requires open { is_ended self.old.setup.mode Main self.old.past ≡ false }
-        requires notice { notice ≡ kind_of value }
+    // A push or a message that does not end the link.
+    fn on_push(&mut self, wire: Wire, notice: Notice, value: Value) -> Result<(), NoMemory>
+        requires open { is_ended self.old.setup.mode wire self.old.past ≡ false }
+        requires notice { notice ≡ notice_of self.old.setup.mode wire value }
         requires push { IsPush notice }
-        ensures ok { OnOk result (self.new ≡ added (entry.Got Main value) self.old) }
+        ensures ok { OnOk result (self.new ≡ added (entry.Got wire value) self.old) }
         ensures err { OnErr result (self.new ≡ self.old) }
     {
         let written = invalidated(self.alloc, notice, &value)?;
-        self.log.reserve(self.owed + 2)?;
+        self.log.reserve(self.owed + 3)?;
         invalidate(&mut self.marks, &mut self.keys, &written);
         self.broken = is_broken_by(notice, self.broken);
-        self.log.push_reserved(LogEntry::Got(Wire::Main, value));
+        self.log.push_reserved(LogEntry::Got(wire, value));
         Ok(())
     }
 
     // The reply to the oldest number without one.
     fn settle(&mut self, value: Value) -> Result<(), NoMemory>
         requires open { is_ended self.old.setup.mode Main self.old.past ≡ false }
-        requires reply { kind_of value ≡ Reply }
+        requires reply { notice_of self.old.setup.mode Main value ≡ Reply }
         requires awaited { fault_of self.old.setup self.old.past Main value ≡ None }
         ensures ok { OnOk result (self.new ≡ added (entry.Got Main value) self.old) }
         ensures err { OnErr result (self.new ≡ self.old) }
     {
         // so few numbers are awaited that the next is a number too
         let _ = self.pending.len();
+        let before = handshake_length(&self.mode);
         let number = self.replied + 1;
         let logged = value.copy()?;
-        self.log.reserve(self.owed + 2)?;
-        refill(self.alloc, number, &logged, &mut self.marks, &mut self.keys)?;
+        self.log.reserve(self.owed + 3)?;
+        refill(
+            self.alloc,
+            number,
+            &logged,
+            self.named.for_number(number, before),
+            &mut self.marks,
+            &mut self.keys,
+        )?;
+        self.named.drop_number(number, before);
         put_reply(&self.mode, &mut self.pending, number, value);
         self.replied = number;
         self.log.push_reserved(LogEntry::Got(Wire::Main, logged));
         Ok(())
     }
 
-    fn is_awaiting(&self) -> bool
-        ensures { result ≡ not (nat_le (numbers self.now.setup self.now.past)
-            (length (replies self.now.setup.mode Main self.now.past))) }
+    // The next reply on Side.
+    fn settle_side(&mut self, value: Value) -> Result<(), NoMemory>
+        requires open { is_ended self.old.setup.mode Side self.old.past ≡ false }
+        requires reply { notice_of self.old.setup.mode Side value ≡ Reply }
+        requires awaited { fault_of self.old.setup self.old.past Side value ≡ None }
+        ensures ok { OnOk result (self.new ≡ added (entry.Got Side value) self.old) }
+        ensures err { OnErr result (self.new ≡ self.old) }
     {
-        self.replied < HANDSHAKE + self.pending.len() as u64
+        let number = self.side.replied + 1;
+        let id = id_after(self.alloc, &self.mode, number, &value, &self.side.id)?;
+        let bytes = tracking_behind(self.alloc, &self.mode, number, &id)?;
+        self.log.reserve(self.owed + 3)?;
+        self.queued.add(&bytes)?;
+        self.side.replied = number;
+        self.side.id = id;
+        self.log.push_reserved(LogEntry::Got(Wire::Side, value));
+        Ok(())
     }
 
-    fn welcomes(&self, value: &Value) -> bool
-        ensures { result ≡ is_welcome self.now.setup.mode Main
-            (length (replies self.now.setup.mode Main self.now.past) + 1) value.now }
+    // How many commands went out on the link.
+    fn has_put(&self, wire: Wire) -> u64
+        ensures { result ≡ length (commands self.now.setup wire self.now.past) }
     {
-        self.replied >= HANDSHAKE || is_welcome(&self.mode, self.replied + 1, value)
+        match wire {
+            Wire::Main => self.greeted() + self.pending.len() as u64,
+            Wire::Side => side_length(&self.mode),
+        }
     }
 
-    fn got(&mut self, value: Value) -> ClientReply
+    // All of the handshake on Side was answered.
+    fn is_told(&self) -> bool
+        ensures { result ≡ is_told self.now.setup.mode self.now.past }
+    {
+        self.side.replied >= side_length(&self.mode)
+    }
+
+    // How many commands of the handshake went out on Main.
+    fn greeted(&self) -> u64
+        ensures length { result ≡ length (handshake self.now.setup.mode Main self.now.past) }
+        ensures within { result ≤ 2 }
+    {
+        let all = handshake_length(&self.mode);
+        if self.is_told() { all } else { all - 1 }
+    }
+
+    fn answered(&self, wire: Wire) -> u64
+        ensures { result ≡ length (replies self.now.setup.mode wire self.now.past) }
+    {
+        match wire {
+            Wire::Main => self.replied,
+            Wire::Side => self.side.replied,
+        }
+    }
+
+    fn is_awaiting(&self, wire: Wire) -> bool
+        ensures { result ≡ not (nat_le (length (commands self.now.setup wire self.now.past))
+            (length (replies self.now.setup.mode wire self.now.past))) }
+    {
+        self.answered(wire) < self.has_put(wire)
+    }
+
+    fn welcomes(&self, wire: Wire, value: &Value) -> bool
+        requires { length (replies self.now.setup.mode wire self.now.past)
+            < length (commands self.now.setup wire self.now.past) }
+        ensures { result ≡ is_welcome self.now.setup.mode wire
+            (length (replies self.now.setup.mode wire self.now.past) + 1) value.now }
+    {
+        let _ = self.has_put(wire);
+        is_welcome(&self.mode, wire, self.answered(wire) + 1, value)
+    }
+
+    fn notice(&self, wire: Wire, value: &Value) -> Notice
+        ensures { result ≡ notice_of self.now.setup.mode wire value.now }
+    {
+        notice_of(&self.mode, wire, value)
+    }
+
+    fn got(&mut self, wire: Wire, value: Value) -> ClientReply
         ensures setup { self.new.setup ≡ self.old.setup }
-        ensures step { ClientStep self.old.setup self.old.past (call.Got Main value) result
+        ensures step { ClientStep self.old.setup self.old.past (call.Got wire value) result
             self.new.past }
     {
-        if self.has_ended() {
-            return ClientReply::Refused(DOWN);
+        if self.has_ended_on(wire) {
+            return ClientReply::Refused(ClientRefusal::Down { wire });
         }
-        match kind_of(&value) {
-            Notice::Reply => self.got_reply(value),
+        match self.notice(wire, &value) {
+            Notice::Reply => self.got_reply(wire, value),
             Notice::Malformed => {
-                self.finish(LogEntry::Bad(Wire::Main, value));
-                ClientReply::Refused(ClientRefusal::BadPush { wire: Wire::Main })
+                self.finish(wire, LogEntry::Bad(wire, value));
+                ClientReply::Refused(ClientRefusal::BadPush { wire })
             }
-            notice => self.got_push(notice, value),
+            notice => self.got_push(wire, notice, value),
         }
     }
 
-    fn got_push(&mut self, notice: Notice, value: Value) -> ClientReply
-        requires open { is_ended self.old.setup.mode Main self.old.past ≡ false }
-        requires notice { notice ≡ kind_of value }
+    fn got_push(&mut self, wire: Wire, notice: Notice, value: Value) -> ClientReply
+        requires open { is_ended self.old.setup.mode wire self.old.past ≡ false }
+        requires notice { notice ≡ notice_of self.old.setup.mode wire value }
         requires push { IsPush notice }
         ensures setup { self.new.setup ≡ self.old.setup }
-        ensures step { ClientStep self.old.setup self.old.past (call.Got Main value) result
+        ensures step { ClientStep self.old.setup self.old.past (call.Got wire value) result
             self.new.past }
     {
         if self.is_log_full() {
@@ -523,33 +660,46 @@ impl ClientState {
                 entries: self.entries(),
             });
         }
-        match self.on_push(notice, value) {
+        match self.on_push(wire, notice, value) {
             Ok(()) => ClientReply::Noted,
             Err(_) => ClientReply::Refused(ClientRefusal::NoMemory),
         }
     }
 
-    fn got_reply(&mut self, value: Value) -> ClientReply
-        requires open { is_ended self.old.setup.mode Main self.old.past ≡ false }
-        requires reply { kind_of value ≡ Reply }
+    fn settle_on(&mut self, wire: Wire, value: Value) -> Result<(), NoMemory>
+        requires open { is_ended self.old.setup.mode wire self.old.past ≡ false }
+        requires reply { notice_of self.old.setup.mode wire value ≡ Reply }
+        requires awaited { fault_of self.old.setup self.old.past wire value ≡ None }
+        ensures ok { OnOk result (self.new ≡ added (entry.Got wire value) self.old) }
+        ensures err { OnErr result (self.new ≡ self.old) }
+    {
+        match wire {
+            Wire::Main => self.settle(value),
+            Wire::Side => self.settle_side(value),
+        }
+    }
+
+    fn got_reply(&mut self, wire: Wire, value: Value) -> ClientReply
+        requires open { is_ended self.old.setup.mode wire self.old.past ≡ false }
+        requires reply { notice_of self.old.setup.mode wire value ≡ Reply }
         ensures setup { self.new.setup ≡ self.old.setup }
-        ensures step { ClientStep self.old.setup self.old.past (call.Got Main value) result
+        ensures step { ClientStep self.old.setup self.old.past (call.Got wire value) result
             self.new.past }
     {
-        if !self.is_awaiting() {
-            self.finish(LogEntry::Bad(Wire::Main, value));
-            return ClientReply::Refused(ClientRefusal::Unexpected { wire: Wire::Main });
+        if !self.is_awaiting(wire) {
+            self.finish(wire, LogEntry::Bad(wire, value));
+            return ClientReply::Refused(ClientRefusal::Unexpected { wire });
         }
-        if !self.welcomes(&value) {
-            self.finish(LogEntry::Bad(Wire::Main, value));
-            return ClientReply::Refused(ClientRefusal::SetupRefused { wire: Wire::Main });
+        if !self.welcomes(wire, &value) {
+            self.finish(wire, LogEntry::Bad(wire, value));
+            return ClientReply::Refused(ClientRefusal::SetupRefused { wire });
         }
         if self.is_log_full() {
             return ClientReply::Refused(ClientRefusal::LogFull {
                 entries: self.entries(),
             });
         }
-        match self.settle(value) {
+        match self.settle_on(wire, value) {
             Ok(()) => ClientReply::Noted,
             Err(_) => ClientReply::Refused(ClientRefusal::NoMemory),
         }
@@ -557,7 +707,7 @@ impl ClientState {
 
     /// One turn: its answer, and one more entry in the log, or none, are those of the definition.
     pub fn turn(&mut self, call: ClientCall) -> ClientReply
-        requires { IsCall call }
+        requires { IsCall self.old.setup.mode call }
         ensures setup { self.new.setup ≡ self.old.setup }
         ensures step { ClientStep self.old.setup self.old.past call result self.new.past }
         ensures legal { LegalLog self.old.setup self.old.past
@@ -571,9 +721,9 @@ impl ClientState {
             }
             ClientCall::Send(words) => self.send(words),
             ClientCall::Poll(number) => self.hand_out(number),
-            ClientCall::TakeOut(_, most) => self.take_out(most),
-            ClientCall::Got(_, value) => self.got(value),
-            ClientCall::End(_) => self.end(),
+            ClientCall::TakeOut(wire, most) => self.take_out(wire, most),
+            ClientCall::Got(wire, value) => self.got(wire, value),
+            ClientCall::End(wire) => self.end(wire),
         }
     }
 }

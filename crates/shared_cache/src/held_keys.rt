@@ -9,7 +9,7 @@ ghost use Rattle.std.specs.Str.{bytes_eq};
 ghost use Rattle.lru.specs.LruCache.{promoted};
 ghost use Rattle.shared_cache.specs.Held.{held_for, rank, ranked, held_in_place};
 ghost use Rattle.shared_cache.specs.HeldKeys.{found_in, entries_of, others, stored, with_pairs};
-ghost use Rattle.shared_cache.specs.HeldKeys.{forgotten, listed, seen, IsSortedAs};
+ghost use Rattle.shared_cache.specs.HeldKeys.{forgotten, listed, seen, stored_alone, IsSortedAs};
 ghost use Rattle.shared_cache.specs.KeyReads.{AreOfKey};
 
 use super::entry::CacheEntry;
@@ -275,6 +275,19 @@ impl HeldKeys {
         requires { is_some (lookup_entry (bytes_eq (key_of entry.query)) self.old.pairs) ≡ false }
         ensures ok { OnOk result
             (self.new ≡ with_pairs (stored self.old.most entry self.old.pairs) self.old) }
+        ensures err { OnErr result (self.new ≡ self.old) }
+    {
+        match self.put_alone(alloc, entry) {
+            Ok(()) => Ok(()),
+            Err(_) => Err(NoMemory),
+        }
+    }
+
+    /// The entry is all that is held of its key, which is the one used last. Where as many keys are
+    /// held as may be, and this is none of them, the one used earliest leaves.
+    pub fn put_alone(&mut self, alloc: Global, entry: CacheEntry) -> Result<(), NoMemory>
+        ensures ok { OnOk result
+            (self.new ≡ with_pairs (stored_alone self.old.most entry self.old.pairs) self.old) }
         ensures err { OnErr result (self.new ≡ self.old) }
     {
         let key = Vec::from_slice(alloc, entry.query.key())?;

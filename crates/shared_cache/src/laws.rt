@@ -3,7 +3,9 @@ ghost use Rattle.shared_cache.specs.Laws.{LegalStep, CommandsGrow, CommandsHaveW
 ghost use Rattle.shared_cache.specs.Laws.{RepliesAreGots, TakenWithin, HandshakeFirst, NoControl};
 ghost use Rattle.shared_cache.specs.Laws.{OpenWasSent, PlaceIsQuery, SentReady, OpenWires};
 ghost use Rattle.shared_cache.specs.Laws.{MarkBeforeRead};
-ghost use Rattle.shared_cache.specs.Laws.{NoLaterWrite, HeldIsFetch, EndedHoldsNothing};
+ghost use Rattle.shared_cache.specs.Laws.{NoLaterWrite, NoLaterReply, HeldIsFetch};
+ghost use Rattle.shared_cache.specs.Laws.{EndedHoldsNothing};
+ghost use Rattle.shared_cache.specs.Laws.{SideFirst, TrackNamesId};
 ghost use Rattle.shared_cache.specs.Laws.{WithinCapacity, EarliestLeaves, HeldInOrder};
 
 /// A turn leaves a legal log legal.
@@ -41,6 +43,17 @@ pub fn law_handshake_first()
     ensures { HandshakeFirst }
 {}
 
+/// Of two links the tracking command goes once all of Side's handshake is answered, and before any
+/// command of a caller.
+pub fn law_side_first()
+    ensures { SideFirst }
+{}
+
+/// Of two links the tracking command names the id that Side was told, and Side is told no other.
+pub fn law_track_names_id()
+    ensures { TrackNamesId }
+{}
+
 /// No command of a caller is one that changes how the server serves the client.
 pub fn law_no_control()
     ensures { NoControl }
@@ -75,6 +88,11 @@ pub fn law_open_wires()
 /// No command after an open fetch writes its key.
 pub fn law_no_later_write()
     ensures { NoLaterWrite }
+{}
+
+/// Of two links no reply has come to a command after an open fetch that names its key.
+pub fn law_no_later_reply()
+    ensures { NoLaterReply }
 {}
 
 /// What is held is the reply to an open fetch.

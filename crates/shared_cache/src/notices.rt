@@ -3,13 +3,15 @@ ghost use Rattle.std.specs.Prelude.{◌≡◌, ◌||◌, ◌∷◌, List, ℕ, I
 ghost use Rattle.resp_value.specs.ValueTree.{tree_of};
 ghost use Rattle.resp_value.specs.Tree.{trees_of};
 ghost use Rattle.shared_cache.specs.Notices.{all_blobs, payload, named_push, push, kind_of};
-ghost use Rattle.shared_cache.specs.Notices.{blobs_in};
+ghost use Rattle.shared_cache.specs.Notices.{blobs_in, on_channel, message, listened_kind};
+ghost use Rattle.shared_cache.specs.Notices.{notice_of};
 ghost use Rattle.shared_cache.specs.Notices.{named_keys, invalidates_as};
 ghost use Rattle.shared_cache.specs.Log.{is_broken_notice};
 ghost use Rattle.command_words.specs.Queries.{names};
 
+use super::log::{ClientMode, Wire};
 use command_words::Written;
-use resp_value::{NoMemory, Value, Words};
+use resp_value::{NoMemory, Proto, Value, Words};
 use std::alloc::Global;
 
 /// What a value on a client's link is.
@@ -82,13 +84,65 @@ fn push(values: &[Value]) -> Notice
     }
 }
 
-/// What a value is to a client that is served on one link.
-pub fn kind_of(value: &Value) -> Notice
+// The kind of a push; whatever else is no push is a reply.
+fn kind_of(value: &Value) -> Notice
     ensures { result ≡ kind_of value.now }
 {
     match value {
         Value::Push(values) => push(values.as_slice()),
         _ => Notice::Reply,
+    }
+}
+
+fn on_channel(rest: &[Value]) -> Notice
+    ensures { result ≡ on_channel (map tree_of rest.now) }
+{
+    match rest {
+        [Value::Blob(name), value] => {
+            if name.as_slice() == b"__redis__:invalidate".as_slice() {
+                payload(value)
+            } else {
+                Notice::Malformed
+            }
+        }
+        _ => Notice::Malformed,
+    }
+}
+
+fn message(values: &[Value]) -> Notice
+    ensures { result ≡ message (map tree_of values.now) }
+{
+    match values {
+        [Value::Blob(name), rest @ ..] => {
+            if name.as_slice() == b"message".as_slice() {
+                on_channel(rest)
+            } else {
+                Notice::Reply
+            }
+        }
+        _ => Notice::Reply,
+    }
+}
+
+fn listened_kind(value: &Value) -> Notice
+    ensures { result ≡ listened_kind value.now }
+{
+    match value {
+        Value::Array(values) => message(values.as_slice()),
+        _ => kind_of(value),
+    }
+}
+
+/// What a value is on this link of a client of this mode.
+pub fn notice_of(mode: &ClientMode, wire: Wire, value: &Value) -> Notice
+    ensures { result ≡ notice_of mode.now wire value.now }
+{
+    match wire {
+        Wire::Main => kind_of(value),
+        Wire::Side => match mode.proto {
+            Proto::Two => listened_kind(value),
+            Proto::Three => kind_of(value),
+        },
     }
 }
 
@@ -112,6 +166,10 @@ fn named_keys(alloc: Global, value: &Value) -> Result<Words, NoMemory>
     match value {
         Value::Push(values) => match values.as_slice() {
             [_, Value::Array(keys)] => blobs(alloc, keys.as_slice()),
+            _ => Ok(Words::new(alloc)),
+        },
+        Value::Array(values) => match values.as_slice() {
+            [_, _, Value::Array(keys)] => blobs(alloc, keys.as_slice()),
             _ => Ok(Words::new(alloc)),
         },
         _ => Ok(Words::new(alloc)),

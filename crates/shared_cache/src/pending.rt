@@ -8,7 +8,7 @@ ghost use Rattle.shared_cache.specs.ClientFields.{settled, waits_for, answered};
 ghost use Rattle.shared_cache.specs.Log.{handshake_length, first_number};
 
 use super::entry::PendingReply;
-use super::handshake::HANDSHAKE;
+use super::handshake::handshake_length;
 use super::lead::CachingWord;
 use super::log::ClientMode;
 use resp_value::{NoMemory, Value};
@@ -180,7 +180,8 @@ pub fn put_reply(mode: &ClientMode, pending: &mut PendingReplies, number: u64, v
         → number - first_number mode.now < length pending.old }
     ensures { pending.new ≡ settled mode.now number value pending.old }
 {
-    if number > HANDSHAKE {
-        pending.put((number - HANDSHAKE - 1) as usize, value);
+    let before = handshake_length(mode);
+    if number > before {
+        pending.put((number - before - 1) as usize, value);
     }
 }

@@ -27,6 +27,10 @@ use Rattle.shared_cache.specs.contracts.slots.Slots.TheInside as slots_parts
 use Rattle.shared_cache.specs.contracts.held_keys.HeldKeys as keys
 use Rattle.shared_cache.specs.contracts.pending.PendingReplies as replies
 use Rattle.shared_cache.specs.contracts.pending.PendingReplies.TheInside as replies_parts
+use Rattle.command_words.specs.contracts.written.Written as written
+use Rattle.shared_cache.specs.contracts.outgoing.NamedKeys as named
+use Rattle.shared_cache.specs.contracts.outgoing.NamedKeys.TheInside as named_parts
+use Rattle.shared_cache.specs.contracts.side.SideLink as side
 use Rattle.shared_cache.specs.contracts.client.ClientState as client
 use Rattle.shared_cache.specs.contracts.client.ClientState.TheInside as client_parts
 use Rattle.shared_client.specs.contracts.logged.SharedClient as shared
@@ -89,11 +93,27 @@ replies_inside = declared_send replies_parts.the_type (
 replies_send : IsSend replies.the_row
 replies_send = view_send _ _ _ _ _ replies_inside
 
+written_send : IsSend written.the_row
+written_send = search parts depth 20
+
+ruleset of_named = (sendable, deque.the_send, heap.the_send, frees, written_send, as_row_send)
+
+named_inside : IsSend named_parts.the_row
+named_inside = declared_send named_parts.the_type (search of_named depth 10, tt)
+
+named_send : IsSend named.the_row
+named_send = view_send _ _ _ _ _ named_inside
+
+side_send : IsSend side.the_row
+side_send = search (sendable, vectors, octets.the_send, queue.the_send) depth 20
+
 ruleset fields = (
   sendable,
   vectors,
   keys_send,
   replies_send,
+  named_send,
+  side_send,
   log_send,
   queue.the_send,
   marks.the_send,
@@ -129,7 +149,13 @@ client_inside =
                             search fields depth 10,
                             (
                               search fields depth 10,
-                              tt,
+                              (
+                                search fields depth 10,
+                                (
+                                  search fields depth 10,
+                                  tt,
+                                ),
+                              ),
                             ),
                           ),
                         ),

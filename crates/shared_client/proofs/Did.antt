@@ -1,7 +1,7 @@
 -- What each reply to a client's turn says of its entry.
-use Rattle.std.proofs.Common.{◌≡◌, ℕ, List, [], ◌∷◌, length, Bool, true, false, cond, refl, sym, ap}
-use Rattle.std.proofs.Common.{subst, arith, Some, None, inl, inr}
-use Rattle.std.specs.Prelude.{Option, ◌⊎◌, ⊤}
+use Rattle.std.proofs.Common.{◌≡◌, ◌+◌, ℕ, List, [], ◌∷◌, length, Bool, true, false, cond, refl}
+use Rattle.std.proofs.Common.{sym, ap, subst, arith, Some, None, inl, inr}
+use Rattle.std.specs.Prelude.{Option, ◌⊎◌, ⊤, nat_le}
 use Rattle.turn_lock.specs.History.{past_after}
 use Rattle.resp_value.specs.declared.value.Value.{Value}
 use Rattle.shared_cache.specs.declared.log.Wire.{Wire}
@@ -16,11 +16,16 @@ use Rattle.shared_cache.specs.declared.log.ClientReply.TheVariants.{Bytes, Quiet
 use Rattle.shared_cache.specs.declared.log.ClientRefusal.{ClientRefusal}
 use Rattle.shared_cache.specs.declared.log.ClientRefusal.TheVariants.{Unexpected, BadPush, NoMemory}
 use Rattle.shared_cache.specs.declared.log.ClientRefusal.TheVariants.{SetupRefused, NoNumber, Worn}
-use Rattle.shared_cache.specs.Log.{is_ended, reply}
-use Rattle.shared_cache.specs.Held.{Setup}
+use Rattle.shared_cache.specs.declared.log.ClientMode.{ClientMode}
+use Rattle.shared_cache.specs.declared.notices.Notice.{Notice}
+use Rattle.shared_cache.specs.declared.notices.Notice.TheVariants.{Reply, Keys, All, Broken, Other}
+use Rattle.shared_cache.specs.declared.notices.Notice.TheVariants.{Malformed}
+use Rattle.shared_cache.specs.Notices.{notice_of}
+use Rattle.shared_cache.specs.Log.{is_ended, replies, reply}
+use Rattle.shared_cache.specs.Held.{Setup, commands}
 use Rattle.shared_cache.specs.Laws.{LegalLog}
 use Rattle.shared_cache.specs.Steps.{ClientTurn, client_step, ClientStep, MayRunOut, NeedsRoom}
-use Rattle.shared_cache.specs.Steps.{refusing, polling, fault_of}
+use Rattle.shared_cache.specs.Steps.{refusing, polling, is_welcome, judged, fault_of}
 use Rattle.shared_client.specs.Setups.{made_with, TurnStep}
 use Rattle.shared_client.specs.Turns.{Allows}
 
@@ -90,6 +95,19 @@ IsFault (Some (BadPush w)) = Unit {0}
 IsFault (Some (SetupRefused w)) = Unit {0}
 IsFault (Some r) = ⊥
 
+judged_faults : (m : ClientMode) (w : Wire) (replied sent : ℕ) (v : Value) (n : Notice)
+    → IsFault (judged m w replied sent v n)
+judged_faults m w replied sent v Reply =
+    by_test IsFault (nat_le sent replied) (Some (Unexpected w))
+    (cond (is_welcome m w (replied + 1) v) None (Some (SetupRefused w))) (λ e. tt)
+    (λ e. by_test IsFault (is_welcome m w (replied + 1) v) None (Some (SetupRefused w)) (λ e. tt)
+    (λ e. tt))
+judged_faults m w replied sent v Keys = tt
+judged_faults m w replied sent v All = tt
+judged_faults m w replied sent v Broken = tt
+judged_faults m w replied sent v Other = tt
+judged_faults m w replied sent v Malformed = tt
+
 module _ (s : Setup) (log : List LogEntry) where
   abbrev TurnSays : ClientCall → ClientTurn → Type 0
   TurnSays call t = Says call log t.reply t.past
@@ -101,7 +119,9 @@ module _ (s : Setup) (log : List LogEntry) where
 
   faults : (w : Wire) (v : Value) → IsFault (fault_of s log w v)
   unfolding fault_of
-  faults w v = grind (arith, by_test)
+  faults w v =
+      judged_faults s.mode w (length (replies s.mode w log)) (length (commands s w log)) v
+      (notice_of s.mode w v)
 
   step_says : (call : ClientCall) → TurnSays call (client_step s log call)
   unfolding client_step

@@ -80,7 +80,7 @@ impl Logged for SharedClient {
 
     ghost stands = { λ s past. s.past ≡ past };
 
-    ghost fits = { λ _ call. IsCall call };
+    ghost fits = { λ setup call. IsCall setup.mode call };
 
     ghost step = { TurnStep };
 

@@ -11,6 +11,7 @@ use Rattle.serial_model.specs.declared.history.Limits.{Limits}
 use Rattle.shared_cache.specs.declared.entry.CacheEntry.{CacheEntry}
 use Rattle.shared_cache.specs.declared.log.ClientCall.{ClientCall}
 use Rattle.shared_cache.specs.declared.log.ClientCall.TheVariants as call
+use Rattle.shared_cache.specs.declared.log.Shape.TheVariants.{Single}
 use Rattle.shared_cache.specs.declared.log.Wire.TheVariants.{Main}
 use Rattle.shared_cache.specs.Laws.{AsksQuery, Every, IsCall}
 use Rattle.shared_cache.specs.Log.{is_ended}
@@ -119,7 +120,7 @@ module _ (l : Limits) (raw : List ℕ → List ℕ) (at : ℕ) where
     taken_turn most lines w h below =
         let m = member_at w.members at in
         let k = take_takes m.state.setup m.state.past most in
-        one_turn l heard raw at Steady lines w h below (call.TakeOut Main most) refl tt
+        one_turn l heard raw at Steady lines w h below (call.TakeOut Main most) tt tt
         (bytes_of (client_step m.state.setup m.state.past (call.TakeOut Main most)).reply)
         k.taken_is
         (λ got r. subst (λ x. IsPrefix (map tree_of x) (values_of (read_on m.link lines)))
@@ -392,7 +393,11 @@ module _ (l : Limits) (raw : List ℕ → List ℕ) (at : ℕ) where
 
   module _ (heard : ℕ → List ℕ) (lines : List Line) (w : WorldState)
       (h : With l heard raw at NoBytes Steady lines w) (below : at < length w.members) where
-    asked_stands : (c : ClientCall) → IsCall c → AsksQuery c
+    one_link : (member_at w.members at).state.setup.mode.shape ≡ Single
+    one_link = (old_part l heard raw at Steady lines w h below).mode.shape
+
+    asked_stands : (c : ClientCall) → IsCall (member_at w.members at).state.setup.mode c
+        → AsksQuery c
         → (let m = member_at w.members at in
         TurnKeeps m.state.setup m.state.past (client_step m.state.setup m.state.past c).past)
         → One l raw at (With l heard raw at NoBytes Steady) lines w (turn c (seat_at at w))
@@ -410,16 +415,22 @@ module _ (l : Limits) (raw : List ℕ → List ℕ) (at : ℕ) where
     pub ask_stands : (q : List (List ℕ)) → AsksQuery (call.Ask q)
         → One l raw at (With l heard raw at NoBytes Steady) lines w
         (turn (call.Ask q) (seat_at at w))
-    ask_stands q asks = grind (arith, asked_stands, ask_keeps)
+    ask_stands q asks =
+        let m = member_at w.members at in
+        asked_stands (call.Ask q) tt asks (ask_keeps m.state.setup one_link m.state.past q)
 
     pub send_stands : (ws : List (List ℕ)) → 0 < length ws
         → One l raw at (With l heard raw at NoBytes Steady) lines w
         (turn (call.Send ws) (seat_at at w))
-    send_stands ws some = grind (arith, asked_stands, send_keeps)
+    send_stands ws some =
+        let m = member_at w.members at in
+        asked_stands (call.Send ws) some tt (send_keeps m.state.setup one_link m.state.past ws)
 
     pub poll_stands : (n : ℕ) → One l raw at (With l heard raw at NoBytes Steady) lines w
         (turn (call.Poll n) (seat_at at w))
-    poll_stands n = grind (arith, asked_stands, poll_keeps)
+    poll_stands n =
+        let m = member_at w.members at in
+        asked_stands (call.Poll n) tt tt (poll_keeps m.state.setup one_link m.state.past n)
 
   -- ---- what is held
 

@@ -19,11 +19,13 @@ use Rattle.shared_cache.specs.declared.log.ClientRefusal.{ClientRefusal}
 use Rattle.shared_cache.specs.declared.log.ClientRefusal.TheVariants as refusal
 use Rattle.shared_cache.specs.declared.log.LogEntry.{LogEntry}
 use Rattle.shared_cache.specs.declared.log.LogEntry.TheVariants as entry
+use Rattle.shared_cache.specs.declared.log.Shape.{Shape}
+use Rattle.shared_cache.specs.declared.log.Shape.TheVariants.{Single, Pair}
 use Rattle.shared_cache.specs.declared.log.Wire.{Wire}
 use Rattle.shared_cache.specs.declared.log.Wire.TheVariants.{Main, Side}
 use Rattle.shared_cache.specs.Held.{Setup}
 use Rattle.shared_cache.specs.Laws.{gots}
-use Rattle.shared_cache.specs.Log.{is_ended, is_wire}
+use Rattle.shared_cache.specs.Log.{ends_wire, is_ended, is_ready, is_wire}
 use Rattle.shared_cache.specs.Steps.{ClientTurn, client_step, getting, is_log_full}
 use Rattle.shared_cache.specs.Steps as steps
 use Rattle.script_text.specs.declared.line.Line.{Line}
@@ -75,27 +77,43 @@ by_wire : (b c : Bool) (e f : Ending) → is_over e ≡ true → c ≡ is_over f
 by_wire true c e f over same = sym over
 by_wire false c e f over same = same
 
-pub ended_is : (m : ClientMode) (w : Wire) (log : List LogEntry)
+-- of one link an end is of its own link alone
+ends_own : (shape : Shape) (u w : Wire) (ready : Bool) → shape ≡ Single
+    → ends_wire shape u w ready ≡ is_wire u w
+ends_own Single Main Main ready one = refl
+ends_own Single Main Side ready one = refl
+ends_own Single Side Main ready one = refl
+ends_own Single Side Side ready one = refl
+ends_own Pair u w ready one = absurd (let no : Pair ≡ Single = one in cc)
+
+-- the client has one link
+abbrev pub Lone : Seat → Type 0
+Lone s = (setup_of s).mode.shape ≡ Single
+
+pub ended_is : (m : ClientMode) → m.shape ≡ Single → (w : Wire) (log : List LogEntry)
     → is_ended m w log ≡ is_over (ending w log)
-ended_is m w [] = refl
-ended_is m w (entry.Ask q ∷ log) = ended_is m w log
-ended_is m w (entry.Send words ∷ log) = ended_is m w log
-ended_is m w (entry.Poll n ∷ log) = ended_is m w log
-ended_is m w (entry.TakeOut u most ∷ log) = ended_is m w log
-ended_is m w (entry.Got u v ∷ log) = ended_is m w log
-ended_is m w (entry.End u ∷ log) =
-    by_wire (is_wire u w) (is_ended m w log) ByEnd (ending w log) refl (ended_is m w log)
-ended_is m w (entry.Bad u v ∷ log) =
-    by_wire (is_wire u w) (is_ended m w log) (ByValue v) (ending w log) refl (ended_is m w log)
+ended_is m one w [] = refl
+ended_is m one w (entry.Ask q ∷ log) = ended_is m one w log
+ended_is m one w (entry.Send words ∷ log) = ended_is m one w log
+ended_is m one w (entry.Poll n ∷ log) = ended_is m one w log
+ended_is m one w (entry.TakeOut u most ∷ log) = ended_is m one w log
+ended_is m one w (entry.Got u v ∷ log) = ended_is m one w log
+ended_is m one w (entry.End u ∷ log) =
+    ap (λ b. b || is_ended m w log) (ends_own m.shape u w (is_ready m log) one)
+    ∙ by_wire (is_wire u w) (is_ended m w log) ByEnd (ending w log) refl (ended_is m one w log)
+ended_is m one w (entry.Bad u v ∷ log) =
+    ap (λ b. b || is_ended m w log) (ends_own m.shape u w (is_ready m log) one)
+    ∙ by_wire (is_wire u w) (is_ended m w log) (ByValue v) (ending w log) refl
+    (ended_is m one w log)
 
 not_over : (e : Ending) → is_over e ≡ false → e ≡ Going
 not_over Going is = refl
 not_over (ByValue v) is = absurd (let no : true ≡ false = is in cc)
 not_over ByEnd is = absurd (let no : true ≡ false = is in cc)
 
-pub going_is : (m : ClientMode) (log : List LogEntry) → is_ended m Main log ≡ false
-    → ending Main log ≡ Going
-going_is m log e = not_over (ending Main log) (sym (ended_is m Main log) ∙ e)
+pub going_is : (m : ClientMode) → m.shape ≡ Single → (log : List LogEntry)
+    → is_ended m Main log ≡ false → ending Main log ≡ Going
+going_is m one log e = not_over (ending Main log) (sym (ended_is m one Main log) ∙ e)
 
 -- ---- values are got
 
@@ -138,40 +156,43 @@ module _ (all : List Tree) where
       subst (λ e. Toward all todo (map tree_of (gots Main log ++ value_of x ∷ [])) e) (sym going)
       (one_more x todo (gots Main log) (on_going (x ∷ todo) log going k))
 
-  goes_turn : (x : Tree) (todo : List Tree) (s : Setup) (log : List LogEntry)
-      → is_ended s.mode Main log ≡ false → Goes (x ∷ todo) log
+  goes_turn : (x : Tree) (todo : List Tree) (s : Setup) → s.mode.shape ≡ Single
+      → (log : List LogEntry) → is_ended s.mode Main log ≡ false → Goes (x ∷ todo) log
       → let t = client_step s log (call.Got Main (value_of x)) in
       fault_of t.reply ≡ None → Goes todo t.past
   unfolding client_step
-  goes_turn x todo s log going k =
+  goes_turn x todo s one log going k =
       let t : ClientTurn = getting (steps.fault_of s log Main (value_of x)) Main (value_of x)
       (is_log_full s log) log in
       subst (λ b. let u : ClientTurn = cond b (steps.refusing (refusal.Down Main) log) t in
       fault_of u.reply ≡ None → Goes todo u.past) (sym going)
       (goes_getting x todo log (steps.fault_of s log Main (value_of x)) (is_log_full s log)
-      (going_is s.mode log going) k)
+      (going_is s.mode one log going) k)
 
-  goes_got : (x : Tree) (todo : List Tree) (s : Seat) → Goes (x ∷ todo) (log_of s)
-      → Done (λ t ls. Goes todo (log_of t)) (got (value_of x) s)
-  goes_got x todo s k =
-      done_if (λ t ls. Goes todo (log_of t)) (has_ended s) (stays s)
-      (turn (call.Got Main (value_of x)) s)
-      (λ over none. passed x todo (got_of (log_of s)) (ending Main (log_of s))
-      (sym (ended_is (setup_of s).mode Main (log_of s)) ∙ over) k)
-      (λ going. done_turn (λ t ls. Goes todo (log_of t)) (call.Got Main (value_of x)) s
-      (goes_turn x todo (setup_of s) (log_of s) going k))
+  abbrev Moves : List Tree → Seat → List Line → Type 0
+  Moves todo t ls = Lone t × Goes todo (log_of t)
 
-  goes_all : (todo : List Tree) (s : Seat) → Goes todo (log_of s)
-      → Done (λ t ls. Goes [] (log_of t)) (got_all todo s)
+  goes_got : (x : Tree) (todo : List Tree) (s : Seat) → Lone s → Goes (x ∷ todo) (log_of s)
+      → Done (Moves todo) (got (value_of x) s)
+  goes_got x todo s one k =
+      done_if (Moves todo) (has_ended s) (stays s) (turn (call.Got Main (value_of x)) s)
+      (λ over none. (
+        one,
+        passed x todo (got_of (log_of s)) (ending Main (log_of s))
+            (sym (ended_is (setup_of s).mode one Main (log_of s)) ∙ over) k,
+      ))
+      (λ going. done_turn (Moves todo) (call.Got Main (value_of x)) s
+      (λ none. (one, goes_turn x todo (setup_of s) one (log_of s) going k none)))
+
+  goes_all : (todo : List Tree) (s : Seat) → Lone s → Goes todo (log_of s)
+      → Done (Moves []) (got_all todo s)
   unfolding got_all got_one
-  goes_all [] s k = λ none. k
-  goes_all (x ∷ todo) s k =
-      done_then (λ t ls. Goes todo (log_of t)) (λ t ls. Goes [] (log_of t)) (got_one x s)
-      (got_all todo)
-      (done_then (λ t ls. Goes (x ∷ todo) (log_of t)) (λ t ls. Goes todo (log_of t))
-      (does s (next_read s) []) (got (value_of x)) (λ none. k)
-      (goes_got x todo (next_read s)))
-      (goes_all todo (got_one x s).state)
+  goes_all [] s one k = λ none. (one, k)
+  goes_all (x ∷ todo) s one k =
+      done_then (Moves todo) (Moves []) (got_one x s) (got_all todo)
+      (done_then (Moves (x ∷ todo)) (Moves todo) (does s (next_read s) []) (got (value_of x))
+      (λ none. (one, k)) (λ h. goes_got x todo (next_read s) h.0 h.1))
+      (λ h. goes_all todo (got_one x s).state h.0 h.1)
 
 -- ---- what stops the reading
 
@@ -193,14 +214,14 @@ module _ (bytes : List ℕ) where
   settled_end eof s log going all why =
       subst (λ b. Settled eof (cond b log (entry.End Main ∷ log))) (sym going) (all, why)
 
-  module _ (s : Seat) (is : (parse_values (fed begun bytes)).fault
+  module _ (s : Seat) (one : Lone s) (is : (parse_values (fed begun bytes)).fault
       ≡ (parse_values s.member.reader).fault)
       (items : got_of (log_of s) ++ (parse_values s.member.reader).items ≡ values_of bytes)
       (going : ending Main (log_of s) ≡ Going) where
-    stop_settles : (t : Seat) → Goes (values_of bytes) [] (log_of t)
+    stop_settles : (t : Seat) → Lone t → Goes (values_of bytes) [] (log_of t)
         → Done (λ u ls. Settled false (log_of u))
         (stop (stopped_at (parse_values s.member.reader).fault) t)
-    stop_settles t k =
+    stop_settles t lone k =
         elim (stopped_at (parse_values s.member.reader).fault) as (λ p.
         stopped_at (parse_values s.member.reader).fault ≡ p
         → Done (λ u ls. Settled false (log_of u)) (stop p t)) [
@@ -211,14 +232,14 @@ module _ (bytes : List ℕ) where
               done_if (λ u ls. Settled false (log_of u)) (has_ended t) (stays t) _
               (λ over none. settled (got_of (log_of t)) (ending Main (log_of t))
               (λ on. absurd (let no : true ≡ false =
-              sym over ∙ ended_is (setup_of t).mode Main (log_of t) ∙ on in cc)) k)
+              sym over ∙ ended_is (setup_of t).mode lone Main (log_of t) ∙ on in cc)) k)
               (λ on. done_then (λ u ls. u ≡ t) (λ u ls. Settled false (log_of u)) (does t t _)
               (turn (call.End Main)) (λ none. refl)
               (λ same. done_turn (λ u ls. Settled false (log_of u)) (call.End Main) t
               (λ none. settled_end false (setup_of t) (log_of t) on
               (sym (append-nil (got_of (log_of t)))
               ∙ on_going (values_of bytes) [] (log_of t)
-              (going_is (setup_of t).mode (log_of t) on) k)
+              (going_is (setup_of t).mode lone (log_of t) on) k)
               (λ well. absurd (let no : Some place ≡ None =
               sym e ∙ ap stopped_at (sym is ∙ well) in cc)))))
         ] refl
@@ -229,11 +250,10 @@ module _ (bytes : List ℕ) where
     values_settle =
         let p = parse_values s.member.reader in
         let all = values_of bytes in
-        done_then (λ t ls. Goes all [] (log_of t)) (λ u ls. Settled false (log_of u))
+        done_then (Moves all []) (λ u ls. Settled false (log_of u))
         (and_then (got_all p.items s) (rest_read p.stream)) (stop (stopped_at p.fault))
-        (done_then (λ t ls. Goes all [] (log_of t)) (λ t ls. Goes all [] (log_of t))
-        (got_all p.items s) (rest_read p.stream)
-        (goes_all all p.items s
+        (done_then (Moves all []) (Moves all []) (got_all p.items s) (rest_read p.stream)
+        (goes_all all p.items s one
         (subst (λ e. Toward all p.items (got_of (log_of s)) e) (sym going) items))
         (λ k none. k))
-        (stop_settles (and_then (got_all p.items s) (rest_read p.stream)).state)
+        (λ h. stop_settles (and_then (got_all p.items s) (rest_read p.stream)).state h.0 h.1)

@@ -18,6 +18,7 @@ use Rattle.shared_cache.specs.declared.log.ClientRefusal.TheVariants as refusal
 use Rattle.shared_cache.specs.declared.log.ClientReply.TheVariants.{Bytes}
 use Rattle.shared_cache.specs.declared.log.LogEntry.{LogEntry}
 use Rattle.shared_cache.specs.declared.log.LogEntry.TheVariants as entry
+use Rattle.shared_cache.specs.declared.log.Shape.TheVariants.{Single}
 use Rattle.shared_cache.specs.declared.log.Wire.TheVariants.{Main}
 use Rattle.shared_cache.specs.Held.{Setup}
 use Rattle.shared_cache.specs.Laws.{gots}
@@ -52,10 +53,10 @@ use Rattle.world_run.specs.ReadLog.{has_eof}
 use Rattle.world_run.proofs.Links.{IsUnread, name_of_event, step_moved, step_reads}
 use Rattle.world_run.proofs.Members.{LinkGrows}
 use Rattle.world_run.proofs.ReadLogMoves.{Done, Settled, done_if, done_then, done_turn, going_is}
-use Rattle.world_run.proofs.ReadLogMoves.{ended_is, got_of, is_over, values_settle}
+use Rattle.world_run.proofs.ReadLogMoves.{Lone, ended_is, got_of, is_over, values_settle}
 use Rattle.world_run.proofs.ScheduleLogLines.{AllQuiet, Quiets, no_eof, no_read, q_hang, q_links}
 use Rattle.world_run.proofs.ScheduleLogLines.{q_next, q_out, q_values}
-use Rattle.world_run.proofs.ScheduleLogMoves.{c_values}
+use Rattle.world_run.proofs.ScheduleLogMoves.{c_bytes, c_values}
 
 -- ---- lines
 
@@ -119,6 +120,7 @@ link_grows event w =
 pub record Ready (link : List ℕ) (lines : List Line) (s : Seat) : Type 0 where
   pub linked : s.member.link ≡ link
   pub place : Placed s.links link s.member.place
+  pub lone : Lone s
   pub due : By link lines (log_of s)
   pub reading : has_ended s ≡ false → GoesOn parse_values (read_on link lines) s.member.reader
 
@@ -253,6 +255,7 @@ ready_same link lines ls s t same none r = record {
   linked = same.linked ∙ r.linked;
   place = subst (Placed t.links link) (sym same.place_is)
       (same.placed link s.member.place r.place);
+  lone = ap (λ (x : Setup). x.mode.shape) same.setup ∙ r.lone;
   due = subst (λ g. IsGot (read_on link (lines ++ ls)) (has_eof link (lines ++ ls))
       (map tree_of g) (ending Main (log_of t))) (sym same.gots_are)
       (subst (IsGot (read_on link (lines ++ ls)) (has_eof link (lines ++ ls)) (got_of (log_of s)))
@@ -262,13 +265,14 @@ ready_same link lines ls s t same none r = record {
       (sym (read_more link lines ls ∙ ap (λ x. read_on link lines ++ x) none.read
       ∙ append-nil (read_on link lines)))
       (subst (GoesOn parse_values (read_on link lines)) (sym same.reader)
-      (r.reading (sym (still_going s t same) ∙ going)));
+      (r.reading (sym (still_going s t r.lone same) ∙ going)));
 }
   where
-    still_going : (s t : Seat) → Same s t → has_ended t ≡ has_ended s
-    still_going s t same =
-        ended_is (setup_of t).mode Main (log_of t) ∙ ap is_over same.ending_is
-        ∙ sym (ended_is (setup_of s).mode Main (log_of s))
+    still_going : (s t : Seat) → Lone s → Same s t → has_ended t ≡ has_ended s
+    still_going s t one same =
+        let lone = ap (λ (x : Setup). x.mode.shape) same.setup ∙ one in
+        ended_is (setup_of t).mode lone Main (log_of t) ∙ ap is_over same.ending_is
+        ∙ sym (ended_is (setup_of s).mode one Main (log_of s))
 
 -- ---- bytes come in
 
@@ -433,7 +437,7 @@ module _ (link : List ℕ) (lines : List Line) (n : ℕ) (s : Seat) (r : Ready l
   recv = links_do (Over s.member.link (moves.Recv (Some n))) s
 
   over_is : ending Main (log_of s) ≡ Going
-  over_is = going_is (setup_of s).mode (log_of s) going
+  over_is = going_is (setup_of s).mode r.lone (log_of s) going
 
   got_all_of : (got_of (log_of s) ≡ values_of read) × IsWell read × (has_eof link lines ≡ false)
   got_all_of = subst (IsGot read (has_eof link lines) (got_of (log_of s))) over_is r.due
@@ -490,11 +494,12 @@ module _ (link : List ℕ) (lines : List Line) (n : ℕ) (s : Seat) (r : Ready l
       let reader : u.member.reader ≡ fed s.member.reader piece =
       ap (λ (m : MemberState). fed m.reader piece) same in
       let log : log_of u ≡ log_of s = ap (λ (m : MemberState). m.state.past) same in
+      let lone : Lone u = ap (λ (m : MemberState). m.state.setup.mode.shape) same ∙ r.lone in
       done_then (λ v ls. v ≡ u) (λ v ls. Settled (read ++ piece) false (log_of v))
       (feed piece t) (λ t. and_then (read_values t) hang_up) (λ none. refl)
       (λ is. done_then (λ v ls. Settled (read ++ piece) false (log_of v))
       (λ v ls. Settled (read ++ piece) false (log_of v)) (read_values u) hang_up
-      (values_settle (read ++ piece) u
+      (values_settle (read ++ piece) u lone
       (further.faults piece ∙ ap (λ x. (parse_values x).fault) (sym reader))
       (ap (λ l. got_of l ++ (parse_values u.member.reader).items) log
       ∙ ap (λ g. g ++ (parse_values u.member.reader).items) got_all_of.0
@@ -555,18 +560,18 @@ over_stays bytes eof got Going over k = absurd (let no : false ≡ true = over i
 over_stays bytes eof got (ByValue v) over k = k
 over_stays bytes eof got ByEnd over k = (k.0, λ well. refl)
 
-ends_by_eof : (bytes : List ℕ) (eof : Bool) (s : Setup) (log : List LogEntry)
-    → IsGot bytes eof (got_of log) (ending Main log)
+ends_by_eof : (bytes : List ℕ) (eof : Bool) (s : Setup) → s.mode.shape ≡ Single
+    → (log : List LogEntry) → IsGot bytes eof (got_of log) (ending Main log)
     → Settled bytes true (client_step s log (call.End Main)).past
 unfolding client_step
-ends_by_eof bytes eof s log k =
+ends_by_eof bytes eof s one log k =
     elim (is_ended s.mode Main log) as (λ b. is_ended s.mode Main log ≡ b
     → Settled bytes true (cond b log (entry.End Main ∷ log))) [
       | true ↦ λ e.
           over_stays bytes eof (got_of log) (ending Main log)
-          (sym (ended_is s.mode Main log) ∙ e) k
+          (sym (ended_is s.mode one Main log) ∙ e) k
       | false ↦ λ e.
-          let going = going_is s.mode log e in
+          let going = going_is s.mode one log e in
           ((subst (IsGot bytes eof (got_of log)) going k).0, λ well. refl)
     ] refl
 
@@ -574,7 +579,7 @@ or_true : (b : Bool) → (b || true) ≡ true
 or_true true = refl
 or_true false = refl
 
-module _ (link : List ℕ) (place : ℕ) (lines : List Line) (s : Seat)
+module _ (link : List ℕ) (place : ℕ) (lines : List Line) (s : Seat) (one : Lone s)
     (k : By link lines (log_of s)) (left : Left link place [] s) where
   abbrev last : Outcome Seat
   last = links_do (Over s.member.link (moves.Recv None)) s
@@ -612,6 +617,7 @@ module _ (link : List ℕ) (place : ℕ) (lines : List Line) (s : Seat)
       (λ p.
       let t = last.state in
       let log : log_of t ≡ log_of s = ap (λ (m : MemberState). m.state.past) p.2 in
+      let lone : Lone t = ap (λ (m : MemberState). m.state.setup.mode.shape) p.2 ∙ one in
       let more : List Line = last.lines ++ [] in
       let reads : read_on link (lines ++ more) ≡ read_on link lines =
       read_more link lines more ∙ ap (λ x. read_on link lines ++ read_on link x)
@@ -631,7 +637,7 @@ module _ (link : List ℕ) (place : ℕ) (lines : List Line) (s : Seat)
             (subst (λ b. IsGot (read_on link lines) b (got_of new) (ending Main new))
             (sym (eofs ∙ ap (λ b. has_eof link lines || b) e
             ∙ or_true (has_eof link lines)))
-            (ends_by_eof (read_on link lines) (has_eof link lines) (setup_of t) (log_of t)
+            (ends_by_eof (read_on link lines) (has_eof link lines) (setup_of t) lone (log_of t)
             (subst (By link lines) (sym log) k))))
         | false ↦ λ e none.
             subst (λ x. IsGot x (has_eof link (lines ++ more)) (got_of (log_of t))
@@ -675,7 +681,8 @@ module _ (link : List ℕ) where
       (λ going. done_then (λ u ls. By link (lines ++ ls) (log_of u)
       × Left link place (drop n bytes) u) Q m receive_eof (bytes_settle link lines n s r going)
       (λ k. again lines m.lines (receive_eof m.state)
-      (eof_settles link place (lines ++ m.lines) m.state k.0
+      (eof_settles link place (lines ++ m.lines) m.state
+      (ap (λ (x : Setup). x.mode.shape) (c_bytes n s).setup ∙ r.lone) k.0
       (subst (λ b. Left link place b m.state) (drop_all n bytes (omega arith)) k.1))))
   receive_settles (Some n) lines s r =
       let Q : Seat → List Line → Type 0 = λ u ls. By link (lines ++ ls) (log_of u) in

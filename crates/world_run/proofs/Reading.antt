@@ -30,7 +30,8 @@ use Rattle.world_run.specs.ClientMoves.{feed, got, got_all, got_one, has_ended, 
 use Rattle.world_run.specs.ClientMoves.{read_values, rest_read, stop, turn}
 use Rattle.world_run.proofs.Links.{Mute}
 use Rattle.world_run.proofs.Seats.{One, Seating, Working, one_then}
-use Rattle.world_run.proofs.SeatTurns.{one_prints, one_reader, one_stays, one_turn, works_as}
+use Rattle.world_run.proofs.SeatTurns.{old_part, one_prints, one_reader, one_stays, one_turn}
+use Rattle.world_run.proofs.SeatTurns.{works_as}
 use Rattle.world_run.proofs.Turns.{end_ends, got_gets}
 use Rattle.world_run.proofs.Worlds.{Holds, Reads}
 
@@ -121,8 +122,9 @@ module _ (l : Limits) (heard : ℕ → List ℕ) (raw : List ℕ → List ℕ) (
           | true ↦ λ ended. one_stays l heard raw at G lines w h below (Getting D todo next fault)
               (λ g. ((λ going. absurd (closed (has_ended s) ended going)), g.1))
           | false ↦ λ going.
-              let k = got_gets m.state.setup m.state.past v going in
-              one_turn l heard raw at G lines w h below (call.Got Main v) refl tt []
+              let one = (old_part l heard raw at G lines w h below).mode.shape in
+              let k = got_gets m.state.setup one m.state.past v going in
+              one_turn l heard raw at G lines w h below (call.Got Main v) tt tt []
               (k.taken_is ∙ sym (append-nil _))
               (λ got g. elim k.gots_front [
                 | inl same ↦
@@ -192,8 +194,9 @@ module _ (l : Limits) (heard : ℕ → List ℕ) (raw : List ℕ → List ℕ) (
         → One l raw at (With (Done D)) lines w (turn (call.End Main) (seat_at at w))
     end_reads R lines w h below keeps =
         let m = member_at w.members at in
-        let k = end_ends m.state.setup m.state.past in
-        one_turn l heard raw at R lines w h below (call.End Main) refl tt []
+        let one = (old_part l heard raw at R lines w h below).mode.shape in
+        let k = end_ends m.state.setup one m.state.past in
+        one_turn l heard raw at R lines w h below (call.End Main) tt tt []
         (k.taken_is ∙ sym (append-nil _))
         (λ got r. subst (λ x. IsPrefix (map tree_of x) (values_of (read_on m.link lines)))
         (sym k.gots_are) got)

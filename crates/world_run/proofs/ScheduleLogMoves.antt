@@ -219,7 +219,7 @@ c_values s =
 c_hang : (s : Seat) → Calms s (hang_up s)
 c_hang s = c_if s (has_ended s) _ _ (c_links _ s) (calm_same s.member)
 
-c_bytes : (n : ℕ) (s : Seat) → Calms s (receive_bytes n s)
+pub c_bytes : (n : ℕ) (s : Seat) → Calms s (receive_bytes n s)
 unfolding receive_bytes
 c_bytes n s =
     let piece = take n (link_of s).down.bytes in

@@ -161,7 +161,8 @@ module _ (l : Limits) (heard : ℕ → List ℕ) (raw : List ℕ → List ℕ) (
         [] plain_none)
 
   -- a turn
-  module _ (c : ClientCall) (is_call : IsCall c) (asks : AsksQuery c) (pend : List ℕ) where
+  module _ (c : ClientCall) (is_call : IsCall At.state.setup.mode c) (asks : AsksQuery c)
+      (pend : List ℕ) where
     abbrev pub turned : MemberState
     turned =
         (with_log (seat_at at w) (client_step At.state.setup At.state.past c).past).member

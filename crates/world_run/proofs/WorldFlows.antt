@@ -60,7 +60,7 @@ taken_all : (s : Setup) (log : List LogEntry) (most : ℕ) (bytes : List ℕ) (f
 taken_all s log most [] full is le none = is
 taken_all s log most (b ∷ bytes) true is le none = absurd (let no : ⊥ = cc in no)
 taken_all s log most (b ∷ bytes) false is le none =
-    untaken_took s log most ∙ ap (λ x. drop most x) is ∙ drop_all most (b ∷ bytes) le
+    untaken_took s log Main most ∙ ap (λ x. drop most x) is ∙ drop_all most (b ∷ bytes) le
 
 takes_all : (s : Setup) (log : List LogEntry) (most : ℕ) → is_ended s.mode Main log ≡ false →
     let t : ClientTurn = client_step s log (call.TakeOut Main most) in
@@ -80,9 +80,9 @@ still_going s log most on = grind arith
 
 got_same : (s : Setup) (log : List LogEntry) (v : Value) (r : Option ClientRefusal) (full : Bool)
     → untaken s Main (getting r Main v full log).past ≡ untaken s Main log
-got_same s log v (Some r) full = untaken_same s log (entry.Bad Main v ∷ log) refl refl
+got_same s log v (Some r) full = untaken_same s log (entry.Bad Main v ∷ log) refl refl refl
 got_same s log v None true = refl
-got_same s log v None false = untaken_same s log (entry.Got Main v ∷ log) refl refl
+got_same s log v None false = untaken_same s log (entry.Got Main v ∷ log) refl refl refl
 
 gets_none : (s : Setup) (log : List LogEntry) (v : Value)
     → untaken s Main (client_step s log (call.Got Main v)).past ≡ untaken s Main log
@@ -103,7 +103,7 @@ ends_none s log =
     elim (is_ended s.mode Main log) as (λ b.
     untaken s Main (cond b log (entry.End Main ∷ log)) ≡ untaken s Main log) [
       | true ↦ refl
-      | false ↦ untaken_same s log (entry.End Main ∷ log) refl refl
+      | false ↦ untaken_same s log (entry.End Main ∷ log) refl refl refl
     ]
 
 -- ---- a client at its link

@@ -1,6 +1,7 @@
 //! A turn of a client, and what stops its event.
 ghost use Rattle.std.specs.Prelude.{◌≡◌, IfOk, OnErr};
 ghost use Rattle.shared_cache.specs.Laws.{IsCall};
+ghost use Rattle.shared_cache.specs.declared.log.ClientMode.{ClientMode};
 ghost use Rattle.shared_cache.specs.Steps.{MayRunOut, client_step};
 ghost use Rattle.world_run.specs.ClientMoves.{fault_of, refused_fault};
 ghost use Rattle.world_run.specs.MemberTurns.{IsNoValue, TurnGives};
@@ -12,7 +13,7 @@ use shared_cache::{ClientCall, ClientRefusal, ClientReply, ClientState};
 
 /// A turn: the step of its log, or memory ran out and the log is as before.
 pub fn turn(state: &mut ClientState, call: ClientCall) -> Result<ClientReply, NoMemory>
-    requires { IsCall call }
+    requires { IsCall state.old.setup.mode call }
     ensures setup { state.new.setup ≡ state.old.setup }
     ensures step { IfOk result (λ r. client_step state.old.setup state.old.past call
         ≡ record { reply = r; past = state.new.past }) }
@@ -53,7 +54,7 @@ pub fn fault_of(reply: &ClientReply) -> Option<WorldFault>
 impl Member {
     /// A turn in which no value is got.
     pub fn play(&mut self, call: ClientCall) -> Result<ClientReply, WorldFault>
-        requires call { IsCall call }
+        requires call { (m : ClientMode) → IsCall m call }
         requires no_value { IsNoValue call }
         ensures { TurnGives call self.old result self.new }
     {

@@ -22,19 +22,25 @@ invariant_of-self-2 c =
     = grind arith in
     let on : c.is_caching_for-on.result ≡ caching_on_for i.mode (reverse i.log.items)
     (key_of c.args.query) = grind arith in
-    let number = 2 + c.len.result in
+    let number = c.handshake_length.result + c.len.result in
     record {
       reflects = rw (pushed i.log.items _ _
           (c.push_reserved.ensures.items
           ∙ ap (λ l. l ++ entry.Ask c.args.query ∷ []) c.in_ok-reserve.ensures.items))
           (reflects_ask _ _ _ k c.args.query
           number c.is_caching_for-on.result c.enqueue.new.queued c.enqueue.new.pending
-          c.mark.new.marks miss
-          (omega (arith, c.len.ensures)) on ready open_
+          c.enqueue.new.named c.mark.new.marks c.words-words.ensures.query miss
+          (omega (arith, c.len.ensures, c.handshake_length.ensures.length)) on ready open_
+          (grind arith)
           (grind arith)
           (grind arith)
           (grind arith));
-      room = omega (arith, at_most_one i.ended, c.in_ok-reserve.ensures.ok);
+      room = omega (
+        arith,
+        at_most_one i.ended,
+        at_most_one i.side.ended,
+        c.in_ok-reserve.ensures.ok,
+      );
     }
 
 pub invariant_of-self-in_err-enqueue : goal.invariant_of-self-in_err-enqueue
@@ -43,6 +49,7 @@ invariant_of-self-in_err-enqueue c = record {
     ap reverse c.in_ok-reserve.ensures.items,
     c.in_err-enqueue.ensures.err_queued,
     c.in_err-enqueue.ensures.err_pending,
+    c.in_err-enqueue.ensures.err_named,
   ) c.self.invariant.reflects;
   room = omega (arith, c.in_ok-reserve.ensures.ok, c.self.invariant.room);
 }
@@ -57,6 +64,8 @@ invariant_of-self-in-Err c =
             c.keep.ensures,
         back_again _ i.pending _ _ _ c.len-awaited.ensures.count
             c.in_ok-enqueue.ensures.pending c.keep-in-Err.ensures,
+        back_again _ i.named _ _ _ c.len-named.ensures c.in_ok-enqueue.ensures.named
+            c.shorten.ensures,
         c.in-Err.ensures.err,
       )
           c.self.invariant.reflects;

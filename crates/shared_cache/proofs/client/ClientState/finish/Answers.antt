@@ -1,19 +1,44 @@
-use Rattle.std.proofs.Common.{◌≡◌, false, arith}
-use Rattle.shared_cache.proofs.NewestFirst.{pushed, room_left}
-use Rattle.shared_cache.proofs.OtherTurns.{reflects_last}
+use Rattle.std.proofs.Common.{◌||◌, ap, sym, ◌∙◌, arith}
+use Rattle.shared_cache.specs.declared.log.Wire.TheVariants.{Main, Side}
+use Rattle.shared_cache.specs.Log.{ends_wire, is_ended, is_ready}
+use Rattle.shared_cache.specs.ClientFields.{Client}
+use Rattle.shared_cache.proofs.NewestFirst.{pushed, room_less}
+use Rattle.shared_cache.proofs.OtherTurns.{reflects_last, stands_on}
 use Rattle.shared_cache.proofs.client.ClientState.finish.Goals as goal
+
+pub push_reserved-requires : goal.push_reserved-requires
+push_reserved-requires c =
+    let i = c.self.inside in
+    let k = c.self.invariant.reflects in
+    let open_ = ap (λ (st : Client). is_ended st.setup.mode c.args.wire st.past) c.self.view_is
+    ∙ c.requires.open in
+    let less = room_less i.mode.shape c.args.wire c.is_ready-ready.result i.ended i.side.ended
+    (stands_on _ _ _ k c.args.wire open_) in
+    let r = c.self.invariant.room in
+    omega arith
 
 pub invariant_of-self : goal.invariant_of-self
 invariant_of-self c =
+    let i = c.self.inside in
     let k = c.self.invariant.reflects in
-    let open_ : c.self.inside.ended ≡ false
-    = grind arith in
+    let open_ = ap (λ (st : Client). is_ended st.setup.mode c.args.wire st.past) c.self.view_is
+    ∙ c.requires.open in
+    let ready = c.is_ready-ready.ensures
+    ∙ sym (ap (λ (st : Client). is_ready st.setup.mode st.past) c.self.view_is) in
     record {
       reflects = rw (
-        pushed c.self.inside.log.items _ _ c.push_reserved.ensures.items,
+        pushed i.log.items _ _ c.push_reserved.ensures.items,
         c.forget_all.ensures.marks,
         c.forget_all.ensures.keys,
+        c.has_ended_by-main.ensures
+            ∙ ap (λ b. ends_wire i.mode.shape c.args.wire Main b || i.ended) ready,
+        c.has_ended_by-side.ensures
+            ∙ ap (λ b. ends_wire i.mode.shape c.args.wire Side b || i.side.ended) ready,
       )
-          (reflects_last _ _ _ k c.args.entry c.requires.last);
-      room = let r = room_left _ _ _ c.self.invariant.room open_ in omega arith;
+          (reflects_last _ _ _ k c.args.wire c.args.entry c.requires.last);
+      room =
+          let less = room_less i.mode.shape c.args.wire c.is_ready-ready.result i.ended i.side.ended
+          (stands_on _ _ _ k c.args.wire open_) in
+          let r = c.self.invariant.room in
+          rw (c.has_ended_by-main.ensures, c.has_ended_by-side.ensures) (omega arith);
     }

@@ -23,5 +23,10 @@ invariant_of-self-2 c =
         c.key.ensures,
       )
           (reflects_hit _ _ _ k c.args.query held_is);
-      room = omega (arith, at_most_one i.ended, c.in_ok-reserve.ensures.ok);
+      room = omega (
+        arith,
+        at_most_one i.ended,
+        at_most_one i.side.ended,
+        c.in_ok-reserve.ensures.ok,
+      );
     }

@@ -11,6 +11,9 @@ use Rattle.world_run.proofs.Answering.{turned_like}
 use Rattle.world_run.proofs.member.Member.play.Goals as goal
 use Rattle.world_run.proofs.member.Member.play.Goals.{In_ok-reply}
 
+pub turn-requires : goal.turn-requires
+turn-requires c = c.requires.call c.self.inside.state.setup.mode
+
 pub returns-in_err-reply : goal.returns-in_err-reply
 returns-in_err-reply c =
     let i = c.self.inside in
