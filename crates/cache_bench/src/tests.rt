@@ -3,3 +3,6 @@ mod client;
 mod dialogues;
 mod marks;
 mod modes;
+mod pair;
+mod pair_cache;
+mod pair_handshake;

@@ -19,7 +19,7 @@ fn command(alloc: Global, name: &[u8], key: &[u8]) -> Result<Words, NoMemory>
     Ok(words)
 }
 
-fn query(alloc: Global, key: &str) -> Result<Query, Fail> {
+pub fn query(alloc: Global, key: &str) -> Result<Query, Fail> {
     let words = command(alloc, b"get".as_slice(), key.as_bytes())?;
     Ok(Query::read(alloc, &words)?.ok_or("no query")?)
 }
@@ -65,17 +65,11 @@ fn keys(alloc: Global, key: &[u8]) -> Result<Value, NoMemory> {
     Ok(Value::Array(values))
 }
 
-fn got(value: Value) -> ClientCall
-    ensures { IsCall result }
-{
-    ClientCall::Got(Wire::Main, value)
-}
-
 fn simple(alloc: Global, text: &str) -> Result<Value, NoMemory> {
     Ok(Value::Simple(Octets::from_slice(alloc, text.as_bytes())?))
 }
 
-fn value_of(alloc: Global, name: &str, text: &str) -> Result<Value, NoMemory> {
+pub fn value_of(alloc: Global, name: &str, text: &str) -> Result<Value, NoMemory> {
     match name {
         "map" => Ok(Value::Map(Pairs::new(alloc))),
         "simple" => simple(alloc, text),
@@ -91,7 +85,7 @@ fn value_of(alloc: Global, name: &str, text: &str) -> Result<Value, NoMemory> {
     }
 }
 
-fn number_of(text: &str) -> u64 {
+pub fn number_of(text: &str) -> u64 {
     text.parse::<u64>().unwrap_or(0)
 }
 
@@ -121,10 +115,10 @@ fn words_named(alloc: Global, name: &str, key: &str) -> Result<Option<Words>, No
     }
 }
 
-// The call that a table names: `get` asks, a command's name sends it, `poll` and `take` have a
-// number, and any other is a value that was read.
-fn call_of(alloc: Global, text: &str) -> Result<ClientCall, Fail>
-    ensures { IfOk result (λ c. IsCall c) }
+// The call on a client that a table names: `get` asks, a command's name sends it, `poll` and `take`
+// have a number, and any other is a value that was read.
+fn call_of(alloc: Global, client: &ClientState, text: &str) -> Result<ClientCall, Fail>
+    ensures { IfOk result (λ c. IsCall client.now.setup.mode c) }
 {
     let (name, rest) = text.split_once(" ").unwrap_or((text, ""));
     if let Some(words) = words_named(alloc, name, rest)? {
@@ -135,7 +129,7 @@ fn call_of(alloc: Global, text: &str) -> Result<ClientCall, Fail>
         "poll" => Ok(ClientCall::Poll(number_of(rest))),
         "take" => Ok(ClientCall::TakeOut(Wire::Main, number_of(rest))),
         "end" => Ok(ClientCall::End(Wire::Main)),
-        _ => Ok(got(value_of(alloc, name, rest)?)),
+        _ => Ok(ClientCall::Got(Wire::Main, value_of(alloc, name, rest)?)),
     }
 }
 
@@ -155,7 +149,7 @@ fn refusal_parts(refusal: &ClientRefusal) -> (&'static str, u64) {
 }
 
 // An answer as a table has it: a name, and a number where it has one.
-fn parts_of(reply: &ClientReply) -> (&'static str, u64) {
+pub fn parts_of(reply: &ClientReply) -> (&'static str, u64) {
     match reply {
         ClientReply::Hit { number, .. } => ("hit", *number),
         ClientReply::Sent { number } => ("sent", *number),
@@ -226,6 +220,19 @@ get b: hit 4
 flush-array: noted
 get a: sent 5
 get b: sent 6";
+
+// On one link a reply to a later command ends nothing.
+pub const LATER_REPLIES: &str = "\
+get a: sent 3
+strlen a: sent 4
+blob 1: noted
+null: noted
+get a: hit 3
+mget a: sent 5
+read a: sent 6
+error: noted
+null: noted
+get a: hit 3";
 
 pub const LEAST_RECENT: &str = "\
 get a: sent 3
@@ -332,7 +339,7 @@ blob 1: noted
 blob 2: noted";
 
 fn told(client: &mut ClientState, call: ClientCall) -> (&'static str, u64)
-    requires { IsCall call }
+    requires { IsCall client.old.setup.mode call }
 {
     let reply = client.turn(call);
     parts_of(&reply)
@@ -347,7 +354,7 @@ pub fn play_line<R: Abort>(
 ) -> Result<(), Fail> {
     let (call, wanted) = line.split_once(": ").ok_or("a line without an answer")?;
     let (name, number) = wanted.split_once(" ").unwrap_or((wanted, "0"));
-    let call = call_of(alloc, call)?;
+    let call = call_of(alloc, client, call)?;
     let (is, of) = told(client, call);
     assert_eq!(rt; is, name, "{line}");
     assert_eq!(rt; of, number_of(number), "{line}");
@@ -426,6 +433,11 @@ fn what_comes_between_a_fetch_and_its_reply_leaves_nothing_held(
 #[test]
 fn a_later_fetch_of_the_query_ends_the_older(rt: HostRuntime) -> Result<(), Fail> {
     plays(&rt, rt.alloc(), LATER_FETCH)
+}
+
+#[test]
+fn a_later_reply_on_one_link_ends_nothing(rt: HostRuntime) -> Result<(), Fail> {
+    plays(&rt, rt.alloc(), LATER_REPLIES)
 }
 
 #[test]

@@ -23,7 +23,7 @@ fn prefixes_of(alloc: Global, text: &str) -> Result<Words, NoMemory> {
     Ok(prefixes)
 }
 
-fn caching_of(alloc: Global, text: &str) -> Result<Caching, NoMemory> {
+pub fn caching_of(alloc: Global, text: &str) -> Result<Caching, NoMemory> {
     let (name, rest) = text.split_once(" ").unwrap_or((text, ""));
     match name {
         "optin" => Ok(Caching::OptIn),
